@@ -1,0 +1,30 @@
+-- What the codes promise: a code is read back as its number, whatever follows it.
+use Rattle.std.specs.Prelude.{◌≡◌, ℕ, ◌^◌, ◌<◌, ℤ, Bool, List, ◌++◌, ◌⊎◌, length}
+use Rattle.vx_bits.specs.Codes.{number, fixed, code_number, BeginsWithCode, EndsWithinCode, BeginsTooLong}
+
+-- bits that begin with a code tell its number and what follows it; so no code is a proper prefix of another
+abbrev pub TellsApart : {A : Type 0} → (A → Type 0) → (A → List Bool) → Type 0
+TellsApart {A} valid code =
+    (v w : A) (r s : List Bool) → valid v → valid w → code v ++ r ≡ code w ++ s → (v ≡ w) × (r ≡ s)
+
+-- n bits are the code u(n) of one number, that of which they are the binary representation
+abbrev pub IsBinary : Type 0
+IsBinary =
+    ((n v : ℕ) → v < 2 ^ n → (length (fixed n v) ≡ n) × (number (fixed n v) ≡ v))
+    × ((bits : List Bool) → (number bits < 2 ^ length bits) × (fixed (length bits) (number bits) ≡ bits))
+
+-- bits begin with a code, end within one, or begin with 32 zeros
+abbrev pub BeginsInThreeWays : Type 0
+BeginsInThreeWays = (bits : List Bool) → BeginsWithCode bits ⊎ (EndsWithinCode bits ⊎ BeginsTooLong bits)
+
+-- and they do only one of these
+abbrev pub BeginsInOneWay : Type 0
+BeginsInOneWay =
+    (bits : List Bool)
+    → (BeginsWithCode bits → EndsWithinCode bits → ⊥)
+    × (BeginsWithCode bits → BeginsTooLong bits → ⊥)
+    × (EndsWithinCode bits → BeginsTooLong bits → ⊥)
+
+-- each number of a code is that of one signed number
+abbrev pub SignsOnce : Type 0
+SignsOnce = (v w : ℤ) → code_number v ≡ code_number w → v ≡ w

@@ -1,0 +1,4 @@
+pub mod Codes
+pub mod Fields
+pub mod Laws
+pub mod Place

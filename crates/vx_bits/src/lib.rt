@@ -1,0 +1,19 @@
+//!
+//! A [`BitReader`] takes codes from the front of bytes.
+//! It is exact: a call answers a number exactly where the bits begin with its code.
+//! [`Fields`] is the value of a syntax structure, [`Copied`] and [`Listed`] carry all list types,
+//! and [`Refusal`] names each rule that a stream can break.
+#![tactic(auto)]
+
+mod laws;
+mod list;
+mod reader;
+mod refusal;
+
+pub use laws::{
+    bits_begin_in_one_way, exp_golomb_tells_apart, fixed_is_binary, fixed_tells_apart,
+    signed_exp_golomb_tells_apart,
+};
+pub use list::{BodyList, ByteLists, Bytes, Copied, Fields, IdList, Item, Kept, Listed};
+pub use reader::BitReader;
+pub use refusal::{BitCause, ReadError, Refusal};

@@ -1,0 +1,276 @@
+//! Reading: codes are taken from the front of bytes.
+ghost use Rattle.std.specs.Prelude.{◌≡◌, ◌≢◌, ◌↔◌, ◌⊎◌, ℕ, ◌+◌, ◌-◌, ◌*◌, ◌/◌, ◌%◌, ◌^◌, ◌<◌, ◌≤◌, Bool, true, List, [], ◌++◌, length, take, drop, min, Contains, MatchOption, IfOk, IfErr, OnOk, OnErr, IsErrOf};
+ghost use Rattle.vx_bits.specs.Codes.{number, fixed, exp_golomb, signed_exp_golomb, code_number, bits_of, to_boundary, zeros_from, one_from, IsCodeNumber, BeginsWith, EndsWithinCode, BeginsTooLong, zeros_in_front};
+ghost use Rattle.vx_bits.specs.Place.{Place, Takes, taken};
+
+use crate::refusal::BitCause;
+use std::marker::Model;
+
+/// The number of which the bits of up to eight bytes are the binary representation.
+fn gather(bytes: &[u8]) -> u64
+    requires { length bytes.now ≤ 8 }
+    ensures { result ≡ number (bits_of bytes.now) }
+{
+    let mut word = 0;
+    for byte in bytes {
+        word = word * 256 + u64::from(*byte);
+    }
+    word
+}
+
+/// The number of which `count` bits from `at` on are the binary representation.
+fn bits_at(bytes: &[u8], at: u32, count: u32) -> u64
+    requires length { length bytes.now ≤ 2 ^ 23 }
+    requires within { at + count ≤ 8 * length bytes.now }
+    requires count { count ≤ 32 }
+    ensures { result ≡ number (take count (drop at (bits_of bytes.now))) }
+{
+    let first = at / 8;
+    let last = (at + count + 7) / 8;
+    let word = gather(&bytes[first as usize..last as usize]);
+    let behind = 8 * last - at - count;
+    (word >> behind) % (1 << count)
+}
+
+/// Bits that are taken from the front of bytes, the highest of each byte first.
+///
+/// It is seen as the number of all its bits and those that are left.
+/// No call takes memory, and a refused call leaves it unchanged.
+#[derive(Drop)]
+pub struct BitReader<'a> {
+    bytes: &'a [u8],
+    at: u32,
+}
+
+impl<'a> Model for BitReader<'a> {
+    ghost Value = { Place };
+
+    ghost view = { λ r. record { total = 8 * length r.bytes.now; left = drop r.at (bits_of r.bytes.now) } };
+
+    ghost invariant = { λ r. (length r.bytes.now ≤ 2 ^ 23) × (r.at ≤ 8 * length r.bytes.now) };
+}
+
+impl<'a> BitReader<'a> {
+    /// A reader of all bits of these bytes, of which there are at most 2^23.
+    pub fn new(bytes: &'a [u8]) -> BitReader<'a>
+        requires { length bytes.now ≤ 2 ^ 23 }
+        ensures total { result.total ≡ 8 * length bytes.now }
+        ensures left { result.left ≡ bits_of bytes.now }
+    {
+        BitReader { bytes, at: 0 }
+    }
+
+    /// The number of bits taken.
+    #[tactic(auto, using(crate::proofs::Bits::left_length))]
+    pub fn at(&self) -> u32
+        ensures taken { result ≡ taken self.now }
+        ensures within { result + length self.now.left ≡ self.now.total }
+    {
+        self.at
+    }
+
+    /// The number of bits left.
+    #[tactic(auto, using(crate::proofs::Bits::left_length))]
+    fn left(&self) -> u32
+        ensures { result ≡ length self.now.left }
+    {
+        8 * self.bytes.len() as u32 - self.at
+    }
+
+    /// The number of which the next `count` bits are the binary representation.
+    #[tactic(auto, using(crate::proofs::Bits::left_length))]
+    fn peek(&self, count: u32) -> u64
+        requires count { count ≤ 32 }
+        requires within { count ≤ length self.now.left }
+        ensures { result ≡ number (take count self.now.left) }
+    {
+        bits_at(self.bytes, self.at, count)
+    }
+
+    /// Goes on behind the next `count` bits.
+    #[tactic(auto, using(crate::proofs::Bits::left_length))]
+    fn skip(&mut self, count: u32)
+        requires { count ≤ length self.old.left }
+        ensures left { self.new.left ≡ drop count self.old.left }
+        ensures total { self.new.total ≡ self.old.total }
+    {
+        self.at += count;
+    }
+
+    /// Takes u(n), the next n bits, of which there are at most 32.
+    ///
+    /// # Errors
+    ///
+    /// `Short` where fewer bits are left.
+    pub fn u(&mut self, n: u32) -> Result<u64, BitCause>
+        requires { n ≤ 32 }
+        ensures value { IfOk result (λ v. (v < 2 ^ n) × Takes (fixed n v) self.old self.new) }
+        ensures short { IsErrOf result BitCause.Short ↔ (length self.old.left < n) }
+        ensures cause { IfErr result (λ cause. cause ≡ BitCause.Short) }
+        ensures unchanged { OnErr result (self.new ≡ self.old) }
+    {
+        if self.left() < n {
+            return Err(BitCause::Short);
+        }
+        let value = self.peek(n);
+        self.skip(n);
+        Ok(value)
+    }
+
+    /// The number of zeros that come next, of which at most 32 are counted.
+    fn zeros(&self) -> u32
+        ensures { result ≡ zeros_in_front (take 32 self.now.left) }
+    {
+        let window = self.left().min(32);
+        self.peek(window).leading_zeros() - (64 - window)
+    }
+
+    /// Takes ue(v), H.266 clause 9.2.
+    ///
+    /// # Errors
+    ///
+    /// `LongCode` where 32 zeros come next; `Short` where the bits end within a code.
+    pub fn ue(&mut self) -> Result<u32, BitCause>
+        ensures value { IfOk result (λ v. IsCodeNumber v × Takes (exp_golomb v) self.old self.new) }
+        ensures short { IsErrOf result BitCause.Short ↔ EndsWithinCode self.old.left }
+        ensures long { IsErrOf result BitCause.LongCode ↔ BeginsTooLong self.old.left }
+        ensures cause { IfErr result (λ cause. (cause ≡ BitCause.Short) ⊎ (cause ≡ BitCause.LongCode)) }
+        ensures unchanged { OnErr result (self.new ≡ self.old) }
+    {
+        let zeros = self.zeros();
+        if zeros == 32 {
+            return Err(BitCause::LongCode);
+        }
+        if self.left() < 2 * zeros + 1 {
+            return Err(BitCause::Short);
+        }
+        self.skip(zeros);
+        let code = self.peek(zeros + 1);
+        self.skip(zeros + 1);
+        Ok((code - 1) as u32)
+    }
+
+    /// Takes se(v), H.266 clause 9.2.
+    ///
+    /// # Errors
+    ///
+    /// As [`BitReader::ue`].
+    pub fn se(&mut self) -> Result<i32, BitCause>
+        ensures value { IfOk result (λ v. IsCodeNumber (code_number v) × Takes (signed_exp_golomb v) self.old self.new) }
+        ensures short { IsErrOf result BitCause.Short ↔ EndsWithinCode self.old.left }
+        ensures long { IsErrOf result BitCause.LongCode ↔ BeginsTooLong self.old.left }
+        ensures cause { IfErr result (λ cause. (cause ≡ BitCause.Short) ⊎ (cause ≡ BitCause.LongCode)) }
+        ensures unchanged { OnErr result (self.new ≡ self.old) }
+    {
+        let code = self.ue()?;
+        Ok(signed(code))
+    }
+
+    /// The number of bits up to the byte boundary.
+    fn to_next_byte(&self) -> u32
+        ensures value { result ≡ to_boundary (taken self.now) }
+        ensures within { result ≤ length self.now.left }
+        ensures few { result < 8 }
+    {
+        (8 - self.at % 8) % 8
+    }
+
+    /// Takes zeros up to the byte boundary.
+    ///
+    /// # Errors
+    ///
+    /// `BadAlignment` where one of the bits up to the boundary is 1.
+    pub fn align(&mut self) -> Result<(), BitCause>
+        ensures value { OnOk result (Takes (zeros_from (taken self.old)) self.old self.new) }
+        ensures bad { IsErrOf result BitCause.BadAlignment ↔ Contains (take (to_boundary (taken self.old)) self.old.left) true }
+        ensures others { OnErr result (¬ BeginsWith self.old.left (zeros_from (taken self.old))) }
+        ensures cause { IfErr result (λ cause. cause ≡ BitCause.BadAlignment) }
+        ensures unchanged { OnErr result (self.new ≡ self.old) }
+    {
+        let count = self.to_next_byte();
+        if self.peek(count) != 0 {
+            return Err(BitCause::BadAlignment);
+        }
+        self.skip(count);
+        Ok(())
+    }
+
+    /// The length of a one and zeros up to the byte boundary.
+    fn past_next_one(&self) -> u32
+        ensures value { result ≡ length (one_from (taken self.now)) }
+        ensures within { self.now.left ≢ [] → result ≤ length self.now.left }
+        ensures few { (0 < result) × (result ≤ 8) }
+    {
+        8 - self.at % 8
+    }
+
+    /// The length of a one and zeros up to the byte boundary, where these come next.
+    fn stop_length(&self) -> Option<u32>
+        requires { self.now.left ≢ [] }
+        ensures { MatchOption result (¬ BeginsWith self.now.left (one_from (taken self.now))) (λ n. (n ≡ length (one_from (taken self.now))) × BeginsWith self.now.left (one_from (taken self.now))) }
+    {
+        let count = self.past_next_one();
+        if self.peek(count) == 1 << (count - 1) {
+            Some(count)
+        } else {
+            None
+        }
+    }
+
+    /// Takes a one, and zeros up to the byte boundary.
+    ///
+    /// # Errors
+    ///
+    /// `Short` where no bit is left; `BadAlignment` otherwise where the bits are others.
+    pub fn align_after_one(&mut self) -> Result<(), BitCause>
+        ensures value { OnOk result (Takes (one_from (taken self.old)) self.old self.new) }
+        ensures short { IsErrOf result BitCause.Short ↔ (self.old.left ≡ []) }
+        ensures bad { IsErrOf result BitCause.BadAlignment ↔ ((self.old.left ≢ []) × ¬ BeginsWith self.old.left (one_from (taken self.old))) }
+        ensures cause { IfErr result (λ cause. (cause ≡ BitCause.Short) ⊎ (cause ≡ BitCause.BadAlignment)) }
+        ensures unchanged { OnErr result (self.new ≡ self.old) }
+    {
+        if self.left() == 0 {
+            return Err(BitCause::Short);
+        }
+        let Some(count) = self.stop_length() else {
+            return Err(BitCause::BadAlignment);
+        };
+        self.skip(count);
+        Ok(())
+    }
+
+    /// Takes a one, and zeros up to the byte boundary, with which the bytes end.
+    ///
+    /// # Errors
+    ///
+    /// `Short` where no bit is left; `BadTrailing` otherwise where the bits are others or more bytes follow.
+    pub fn trailing(&mut self) -> Result<(), BitCause>
+        ensures value { OnOk result (Takes (one_from (taken self.old)) self.old self.new) }
+        ensures last { OnOk result (self.new.left ≡ []) }
+        ensures short { IsErrOf result BitCause.Short ↔ (self.old.left ≡ []) }
+        ensures bad { IsErrOf result BitCause.BadTrailing ↔ ((self.old.left ≢ []) × (self.old.left ≢ one_from (taken self.old))) }
+        ensures cause { IfErr result (λ cause. (cause ≡ BitCause.Short) ⊎ (cause ≡ BitCause.BadTrailing)) }
+        ensures unchanged { OnErr result (self.new ≡ self.old) }
+    {
+        if self.left() == 0 {
+            return Err(BitCause::Short);
+        }
+        let Some(count) = self.stop_length() else {
+            return Err(BitCause::BadTrailing);
+        };
+        if self.left() != count {
+            return Err(BitCause::BadTrailing);
+        }
+        self.skip(count);
+        Ok(())
+    }
+}
+
+/// The number for which se(v) has the code of ue(code), H.266 clause 9.2.3.
+fn signed(code: u32) -> i32
+    requires { IsCodeNumber code }
+    ensures { code_number result ≡ code }
+{
+    let half = (code / 2) as i32;
+    if code % 2 == 1 { half + 1 } else { -half }
+}
