@@ -1,0 +1,57 @@
+-- Lemmas on what a sink gained of a piece.
+use Rattle.std.proofs.Common.{◌≡◌, ℕ, ◌-◌, List, [], ◌++◌, Option, refl, sym, ap, ◌∙◌, length, take, drop, append_assoc, append-nil, subst, take-append-drop}
+use Rattle.std.proofs.lemmas.List.{take_rest}
+use Rattle.std.proofs.Math.Seq.{take-append_seam}
+use Rattle.std.specs.Io.{StartsWith}
+use Rattle.std.specs.Io.KnownBytes.{Appends, Keeps}
+use Rattle.std.proofs.KnownBytes.{Appends-nil, Appends-trans, Appends-kept, starts_with_rest}
+use Rattle.vx_io.specs.Written.{AppendsFront}
+
+-- a piece starts with each front of it
+pub StartsWith-of_split : (piece front rest : List ℕ) → piece ≡ front ++ rest → StartsWith piece front
+StartsWith-of_split piece front rest e = ap (take (length front)) e ∙ take-append_seam front rest
+
+-- a piece wholly written, and more to write
+pub AppendsFront-whole : (a b : Option (List ℕ)) (xs ys : List ℕ) → Appends a b xs → AppendsFront a b (xs ++ ys)
+AppendsFront-whole a b xs ys p = record { front = xs; of_piece = take-append_seam xs ys; gained = p }
+
+-- a front of the first piece is one of both
+pub AppendsFront-append : (a b : Option (List ℕ)) (xs ys : List ℕ) → AppendsFront a b xs → AppendsFront a b (xs ++ ys)
+AppendsFront-append a b xs ys p = record {
+  front = p.front;
+  of_piece = StartsWith-of_split (xs ++ ys) p.front (drop (length p.front) xs ++ ys) (ap (λ l. l ++ ys) (starts_with_rest xs p.front p.of_piece) ∙ append_assoc p.front (drop (length p.front) xs) ys);
+  gained = p.gained;
+}
+
+-- a piece wholly written, and then a front of the next one
+pub AppendsFront-after : (a b c : Option (List ℕ)) (xs ys : List ℕ) → Appends a b xs → AppendsFront b c ys → AppendsFront a c (xs ++ ys)
+AppendsFront-after a b c xs ys p q = record {
+  front = xs ++ q.front;
+  of_piece = StartsWith-of_split (xs ++ ys) (xs ++ q.front) (drop (length q.front) ys) (ap (λ l. xs ++ l) (starts_with_rest ys q.front q.of_piece) ∙ sym (append_assoc xs q.front (drop (length q.front) ys)));
+  gained = Appends-trans a b c xs q.front p q.gained;
+}
+
+-- nothing of a piece
+pub AppendsFront-none : (a b : Option (List ℕ)) (xs : List ℕ) → Keeps a b → AppendsFront a b xs
+AppendsFront-none a b xs p = record {
+  front = [];
+  of_piece = refl;
+  gained = Appends-kept a a b [] (Appends-nil a) p;
+}
+
+-- a write under way: what the sink gained of the piece, and what is left to write
+pub record Underway (old new : Option (List ℕ)) (faults_old faults_new : ℕ) (piece rest : List ℕ) : Type 0 where
+  pub front : List ℕ
+  pub split : piece ≡ front ++ rest
+  pub gained : Appends old new front
+  pub faults : faults_new ≡ faults_old
+
+-- the sink took n bytes more
+pub Underway-more : (a b c : Option (List ℕ)) (k l m : ℕ) (piece rest : List ℕ) (n : ℕ) → Underway a b k l piece rest → Appends b c (take n rest) → m ≡ l
+    → Underway a c k m piece (take (length rest - n) (drop n rest))
+Underway-more a b c k l m piece rest n p q e = record {
+  front = p.front ++ take n rest;
+  split = p.split ∙ ap (λ z. p.front ++ z) (sym (take-append-drop n rest) ∙ ap (λ z. take n rest ++ z) (sym (take_rest rest n))) ∙ sym (append_assoc p.front (take n rest) (take (length rest - n) (drop n rest)));
+  gained = Appends-trans a b c p.front (take n rest) p.gained q;
+  faults = e ∙ p.faults;
+}

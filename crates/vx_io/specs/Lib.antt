@@ -1,0 +1,6 @@
+-- What the contracts of this crate cite.
+pub mod Faults
+pub mod Listed
+pub mod Memory
+pub mod Writer
+pub mod Written

@@ -1,0 +1,17 @@
+//! Where bytes come from and where they go: sources and sinks, each with a count of its faults.
+#![tactic(auto)]
+
+mod list;
+mod memory;
+mod outside;
+mod read;
+mod write;
+
+pub use list::{read_at, read_box};
+pub use memory::{MemorySink, MemorySource};
+pub use outside::{ClosedSource, FileSource, WriterSink};
+pub use read::{Source, SourceFailed};
+pub use write::{Sink, SinkFailed, write_all};
+
+#[cfg(test)]
+mod tests;

@@ -1,0 +1,56 @@
+//! A sink over a writer of the system.
+ghost use Rattle.std.specs.Prelude.{◌≡◌, ◌<◌, ℕ, None, length, IfOk};
+ghost use Rattle.std.specs.Io.{WritesAtMost};
+ghost use Rattle.std.specs.Io.KnownBytes.{WriteAppends};
+ghost use Rattle.vx_io.specs.Faults.{CountsFault, CountsOne};
+
+use crate::write::{Sink, SinkFailed};
+use std::io::Write;
+
+/// A sink over a writer of the system. It doesn't tell its bytes.
+#[derive(Drop)]
+pub struct WriterSink<W: Write + Drop> {
+    to: W,
+    faults: u64,
+}
+
+impl<W: Write + Drop> WriterSink<W> {
+    ghost use Rattle.vx_io.specs.Writer.{writer_of, fault_count_of};
+
+    pub fn new(to: W) -> WriterSink<W>
+        ensures writer { writer_of result ≡ to }
+        ensures faults { fault_count_of result ≡ 0 }
+    {
+        WriterSink { to, faults: 0 }
+    }
+}
+
+impl<W: Write + Drop> Sink for WriterSink<W> {
+    ghost use Rattle.vx_io.specs.Writer.{writer_of, fault_count_of};
+
+    ghost bytes_taken = { λ _. None };
+
+    ghost write_faults = { λ s. s.faults };
+
+    /// A write fails where the writer's does, and where the writer takes none of the bytes that it
+    /// is given. Each failure adds one to the count.
+    fn write(&mut self, piece: &[u8]) -> Result<usize, SinkFailed>
+        ensures bound { WritesAtMost result piece.now }
+        ensures bytes { WriteAppends None None result piece.now }
+        ensures some { IfOk result (λ n. 0 < length piece.now → 0 < n) }
+        ensures faults { CountsFault (fault_count_of self.old) (fault_count_of self.new) result }
+        ensures one { CountsOne (fault_count_of self.old) (fault_count_of self.new) result }
+
+        // The writer behind it takes just these bytes, where it tells them.
+        ensures writer { WriteAppends (W.contents (writer_of self.old)) (W.contents (writer_of self.new))
+            result piece.now }
+    {
+        match self.to.write(piece) {
+            Ok(count) if count > 0 || piece.is_empty() => Ok(count),
+            _ => {
+                self.faults = self.faults.saturating_add(1);
+                Err(SinkFailed)
+            }
+        }
+    }
+}

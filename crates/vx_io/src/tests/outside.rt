@@ -1,0 +1,53 @@
+//! Real files: what no clause can say.
+use crate::{
+    ClosedSource, FileSource, Sink, SinkFailed, Source, SourceFailed, WriterSink, write_all,
+};
+use std::fs::File;
+use std::test::Fail;
+use std::{env, fs, process};
+
+#[test]
+fn files(rt: HostRuntime) -> Result<(), Fail> {
+    let name = format!(in rt.alloc(); "vx_io-test-{}", process::id(rt.process()))?;
+    let path = env::temp_dir(&rt)?.join(rt.alloc(), name.as_str())?;
+
+    let mut sink = WriterSink::new(File::create(&rt, path.as_path())?);
+    assert_eq!(rt; write_all(&mut sink, b"abc"), Ok(()));
+    assert_eq!(rt; write_all(&mut sink, b"defg"), Ok(()));
+    drop(sink);
+
+    let mut source = FileSource::new(File::open(&rt, path.as_path())?);
+    let mut buffer = [0; 5];
+    for want in ["abcde", "fg", "", ""] {
+        let read = source.read(&mut buffer);
+        let given = read.ok().map(|count| &buffer[..count]);
+        assert_eq!(rt; given, Some(want.as_bytes()));
+    }
+
+    // A file that was opened to read can't be written, nor one that was opened to write be read.
+    let mut sink = WriterSink::new(File::open(&rt, path.as_path())?);
+    assert_eq!(rt; sink.write(b"abc"), Err(SinkFailed));
+    let mut source = FileSource::new(File::create(&rt, path.as_path())?);
+    assert_eq!(rt; source.read(&mut buffer), Err(SourceFailed));
+    fs::remove_file(&rt, path.as_path())?;
+    Ok(())
+}
+
+#[test]
+fn a_full_writer_fails(rt: HostRuntime) {
+    let mut room = [0; 4];
+    let mut sink = WriterSink::new(room.as_mut_slice());
+    assert_eq!(rt; sink.write(b"abc"), Ok(3));
+    assert_eq!(rt; sink.write(b"def"), Ok(1));
+    assert_eq!(rt; sink.write(b"ef"), Err(SinkFailed));
+    assert_eq!(rt; sink.write(b""), Ok(0));
+}
+
+#[test]
+fn a_closed_source_fails(rt: HostRuntime) {
+    let mut source = ClosedSource::new();
+    let mut buffer = [0; 5];
+    for _ in 0..3u8 {
+        assert_eq!(rt; source.read(&mut buffer), Err(SourceFailed));
+    }
+}

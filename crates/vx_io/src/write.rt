@@ -1,0 +1,55 @@
+//! What a sink is, and how a whole piece is written to one.
+ghost use Rattle.std.specs.Prelude.{◌<◌, ℕ, List, Option, Some, codes, length, IfOk, OnOk, OnErr};
+ghost use Rattle.std.specs.Io.{WritesAtMost};
+ghost use Rattle.std.specs.Io.KnownBytes.{Appends, WriteAppends};
+ghost use Rattle.vx_io.specs.Faults.{CountsFault};
+ghost use Rattle.vx_io.specs.Written.{AppendsFront};
+
+use std::error::Error;
+use std::fmt;
+
+/// A write failed. The sink's count of faults tells of it.
+#[derive(Clone, Copy, PartialEq, Eq, Debug)]
+pub struct SinkFailed;
+
+impl fmt::Display for SinkFailed {
+    ghost output = { λ _. Some (codes "a write failed") };
+
+    fn fmt<W: fmt::Write>(&self, f: &mut fmt::Formatter<W>) -> fmt::Result {
+        f.write_str("a write failed")
+    }
+}
+
+impl Error for SinkFailed {}
+
+/// What takes bytes.
+pub trait Sink {
+    // The bytes that the sink has taken, where it tells them.
+    ghost bytes_taken: { Self → Option (List ℕ) };
+
+    // How many of its writes have failed. The count stops at 2^64 - 1.
+    ghost write_faults: { Self → ℕ };
+
+    /// Takes some bytes from the front of `piece`, and answers how many they are: at least one,
+    /// unless `piece` is empty. A failed write takes nothing.
+    fn write(&mut self, piece: &[u8]) -> Result<usize, SinkFailed>
+        ensures bound { WritesAtMost result piece.now }
+        ensures bytes { WriteAppends (bytes_taken self.old) (bytes_taken self.new) result piece.now }
+        ensures some { IfOk result (λ n. 0 < length piece.now → 0 < n) }
+        ensures faults { CountsFault (write_faults self.old) (write_faults self.new) result };
+}
+
+/// Writes all of `piece`. It takes no memory.
+pub fn write_all<K: Sink>(out: &mut K, piece: &[u8]) -> Result<(), SinkFailed>
+    ensures ok { OnOk result (Appends (K.bytes_taken out.old) (K.bytes_taken out.new) piece.now) }
+    // A failed write leaves the front of the piece written.
+    ensures err { OnErr result (AppendsFront (K.bytes_taken out.old) (K.bytes_taken out.new) piece.now) }
+    ensures faults { CountsFault (K.write_faults out.old) (K.write_faults out.new) result }
+{
+    let mut rest = piece;
+    while !rest.is_empty() {
+        let taken = out.write(rest)?;
+        rest = &rest[taken..];
+    }
+    Ok(())
+}
