@@ -1,0 +1,5 @@
+pub mod Options
+pub mod Places
+pub mod Steps
+pub mod Unique
+pub mod Exists

@@ -1,0 +1,195 @@
+-- How each step of a splitter carries on what ties it to the bytes that it was fed.
+use Rattle.std.proofs.Common.{◌≡◌, ℕ, ◌+◌, ◌-◌, ◌<◌, ◌≤◌, ◌⊎◌, inl, inr, Bool, true, false, IsTrue, List, [], ◌∷◌, ◌++◌, Option, Some, None, length, drop, take, slice_index, slice_range, sym, ap, subst, ◌∙◌, arith, get_or-drop, length-append, length-drop, ⊎_elim, refl, unwrap_or}
+use Rattle.std.proofs.lemmas.List.{append-nil}
+use Rattle.vx_bits.specs.declared.refusal.Refusal.{Refusal}
+use Rattle.vx_annexb.specs.ByteStream.{AreZeros, IsMark, IsFirstFrom, StartsAt, CanEnd, UnitPlace, unit_bytes, IsUnit, SeesNoMore, IsStray, IsSound, RefusesUnit, Refuses, FollowsFrom, end_of, EndsWith, IsStream}
+use Rattle.vx_annexb.specs.Held.{Held, fed, HasSought, Stands, IsStarted, IsInOrder, place_of}
+use Rattle.vx_annexb.specs.declared.span.Span.{Span}
+use Rattle.vx_bits.specs.declared.refusal.Refusal.TheVariants.{Framing}
+use Rattle.std.proofs.lemmas.List.{drop-append-le, drop-drop}
+use Rattle.std.proofs.lemmas.Bool.{cases_lt, false≢true}
+use Rattle.vx_annexb.proofs.Places.{index_kept, zeros_stream, zeros_kept, mark_stream, mark_kept, zeros_join, zeros_mark, slice_kept, follows_more, end_of_more, zeros_on, mark_before, starts_on, follows_on, refuses_on}
+
+-- the bytes are all there are
+finish_follows : (g : List ℕ) (all : Bool) (p : ℕ) (us : List UnitPlace) → FollowsFrom g all p us → FollowsFrom g true p us
+finish_follows g true p us f = f
+finish_follows g false p us f = let e = follows_on g [] true p us f in rw append-nil at e
+
+finish_refuses : (g : List ℕ) (all : Bool) (p : ℕ) (r : Refusal) → Refuses g all p r → Refuses g true p r
+finish_refuses g true p r f = f
+finish_refuses g false p r f = let e = refuses_on g [] true p r f in rw append-nil at e
+
+finish_sought : (h : Held) (g : List ℕ) (start : Option ℕ) (refused : Option Refusal) → HasSought h g start refused → HasSought (record h { all = true }) g start refused
+finish_sought h g start (Some r) s = finish_refuses g h.all h.from r s
+finish_sought h g None None s = s
+finish_sought h g (Some p) None s = s
+
+pub Stands-finish : (h : Held) (g : List ℕ) (units : List UnitPlace) → Stands h g units → Stands (record h { all = true }) g units
+Stands-finish h g units s = record {
+  taken = s.taken;
+  kept = s.kept;
+  given = finish_follows g h.all 0 units s.given;
+  behind = s.behind;
+  sought = finish_sought h g h.start h.refused s.sought;
+}
+
+-- further bytes, and the first ones dropped
+feed_sought : (h : Held) (g piece : List ℕ) (kept : List ℕ) (base : ℕ) (start : Option ℕ) (refused : Option Refusal) → h.all ≡ false → length g ≡ fed h → IsStarted h start → HasSought h g start refused → HasSought (record h { kept = kept; base = base }) (g ++ piece) start refused
+feed_sought h g piece kept base start (Some r) going len begun s = rw going (refuses_on g piece false h.from r (rw going at s))
+feed_sought h g piece kept base None None going len begun s = zeros_on g piece h.from h.sought s
+feed_sought h g piece kept base (Some p) None going len begun s =
+    (starts_on g piece h.from p s.0, λ k le lt m. s.1 k le lt (mark_before g piece 1 k (omega (arith, begun.3)) m))
+
+pub Stands-feed : (h : Held) (g piece : List ℕ) (units : List UnitPlace) (kept : List ℕ) (base : ℕ) → IsInOrder h → h.all ≡ false → h.base ≤ base → base ≤ fed h → kept ≡ drop (base - h.base) h.kept ++ piece → Stands h g units → Stands (record h { kept = kept; base = base }) (g ++ piece) units
+Stands-feed h g piece units kept base order going low high is s =
+    let there : base ≤ length g = omega (arith, s.taken) in
+    let e : h.base + (base - h.base) ≡ base = omega arith in
+    let same : kept ≡ drop base (g ++ piece) = is ∙ ap (λ xs. drop (base - h.base) xs ++ piece) s.kept ∙ ap (λ xs. xs ++ piece) (drop-drop (base - h.base) h.base g ∙ ap (λ n. drop n g) e) ∙ sym (drop-append-le base g piece there) in
+    record {
+      taken = length-append g piece ∙ (let n = ap length is ∙ length-append (drop (base - h.base) h.kept) piece in omega (arith, n, length-drop (base - h.base) h.kept, s.taken));
+      kept = same;
+      given = rw going (follows_on g piece false 0 units (rw going at s.given));
+      behind = s.behind;
+      sought = feed_sought h g piece kept base h.start h.refused going s.taken order.start s.sought;
+    }
+
+-- the bytes are kept from the unit that has begun on, or from what is yet to be sought
+pub begin_order : (h : Held) (start : Option ℕ) → IsStarted h start → h.base ≤ h.sought → h.sought ≤ fed h → (h.base ≤ unwrap_or start h.sought) × (unwrap_or start h.sought ≤ fed h)
+begin_order h None begun low high = (low, high)
+begin_order h (Some p) begun low high = (begun.0, omega (arith, begun.2))
+
+-- the next start code, behind zeros
+module _ (h : Held) (g : List ℕ) (units : List UnitPlace) (order : IsInOrder h) (unbegun : h.start ≡ None) (open_ : h.refused ≡ None) (place : ℕ) (zeros : AreZeros h.kept (h.sought - h.base) place) (s : Stands h g units) where
+  zeros_from : AreZeros g h.from (h.base + place)
+  zeros_from =
+      let before : AreZeros g h.from h.sought = rw (unbegun, open_) at s.sought in
+      let e : h.base + (h.sought - h.base) ≡ h.sought = omega (arith, order.base) in
+      let behind = zeros_stream g h.kept h.base s.kept s.taken (h.sought - h.base) place zeros in
+      zeros_join g h.from h.sought (h.base + place) before (rw e at behind)
+
+  pub Stands-zeros : place ≡ length h.kept → Stands (record h { sought = h.base + place }) g units × IsStream g h.all units None
+  Stands-zeros at_end =
+      let e : h.base + place ≡ length g = omega (arith, s.taken) in (
+        record { taken = s.taken; kept = s.kept; given = s.given; behind = s.behind; sought = rw (unbegun, open_) zeros_from },
+        record { follow = s.given; behind = inl (rw (← s.behind) (rw e at zeros_from)) },
+      )
+
+  pub Stands-stray : place < length h.kept → (slice_index h.kept place ≡ 0 → ⊥) → (slice_index h.kept place ≡ 1 → h.base + place < h.from + 2) → Stands (record h { sought = h.base + place; refused = Some (Framing 1 (h.base + place)) }) g units × IsStream g h.all units (Some (Framing 1 (h.base + place)))
+  Stands-stray within nonzero no_code =
+      let same = index_kept g h.kept h.base s.kept place in
+      let stray : IsStray g h.from (h.base + place) = record {
+        zeros = zeros_from;
+        within = omega (arith, s.taken);
+        nonzero = λ e. nonzero (same ∙ e);
+        no_code = λ e. no_code (same ∙ e);
+      } in
+      let refuses : Refuses g h.all h.from (Framing 1 (h.base + place)) = inl (h.base + place, stray, refl) in (
+        record { taken = s.taken; kept = s.kept; given = s.given; behind = s.behind; sought = refuses },
+        record { follow = s.given; behind = rw (← s.behind) refuses },
+      )
+
+  pub Stands-code : place < length h.kept → slice_index h.kept place ≡ 1 → h.from + 2 ≤ h.base + place → Stands (record h { start = Some (h.base + place + 1); sought = h.base + place + 1 }) g units
+  Stands-code within one code =
+      let e : h.base + place + 1 - 1 ≡ h.base + place = omega arith in
+      let starts : StartsAt g h.from (h.base + place + 1) = record {
+        prefix = omega arith;
+        within = omega (arith, s.taken);
+        zeros = rw e zeros_from;
+        one = rw e (sym (index_kept g h.kept h.base s.kept place) ∙ one);
+      } in
+      record { taken = s.taken; kept = s.kept; given = s.given; behind = s.behind; sought = rw open_ (starts, λ k le lt. absurd (omega arith)) }
+
+-- no end of the unit that has begun is seen
+pub Stands-no_more : (h : Held) (g : List ℕ) (units : List UnitPlace) (start : ℕ) → h.start ≡ Some start → h.refused ≡ None → Stands h g units → ((k : ℕ) → start ≤ k → ¬ CanEnd g h.all k) → IsStream g h.all units None
+Stands-no_more h g units start begun open_ s none =
+    let sought : HasSought h g (Some start) None = rw (begun, open_) at s.sought in
+    record { follow = s.given; behind = inr (rw (← s.behind) (start, sought.0, none)) }
+
+-- the end of the unit that has begun
+module _ (h : Held) (g : List ℕ) (units : List UnitPlace) (order : IsInOrder h) (start : ℕ) (begun : h.start ≡ Some start) (open_ : h.refused ≡ None) (s : Stands h g units) where
+  pub sought_start : StartsAt g h.from start × ((k : ℕ) → start ≤ k → k < h.sought → ¬ IsMark 1 g k)
+  sought_start = rw (begun, open_) at s.sought
+
+  in_order : IsStarted h (Some start)
+  in_order = rw begun at order.start
+
+  -- nothing in what is kept ends the unit
+  no_mark : ((k : ℕ) → h.sought - h.base ≤ k → ¬ IsMark 1 h.kept k) → (k : ℕ) → start ≤ k → ¬ IsMark 1 g k
+  no_mark none k le m = ⊎_elim
+      (λ below. sought_start.1 k le below m)
+      (λ above. none (k - h.base) (omega arith) (mark_kept g h.kept h.base s.kept s.taken 1 k (omega (arith, order.base)) m))
+      (cases_lt k h.sought)
+
+  pub Stands-no_end : h.all ≡ false → ((k : ℕ) → h.sought - h.base ≤ k → ¬ IsMark 1 h.kept k) → (sought : ℕ) → Stands (record h { sought = sought }) g units × ((k : ℕ) → start ≤ k → ¬ CanEnd g h.all k)
+  Stands-no_end more none sought = (
+    record {
+      taken = s.taken;
+      kept = s.kept;
+      given = s.given;
+      behind = s.behind;
+      sought = rw (begun, open_) (sought_start.0, λ k le _. no_mark none k le);
+    },
+    λ k le. ⊎_elim (no_mark none k le) (λ z. false≢true (sym more ∙ z.0)),
+  )
+
+  pub ends_at_mark : (end : ℕ) → IsFirstFrom (IsMark 1 h.kept) (h.sought - h.base) end → IsFirstFrom (CanEnd g h.all) start (h.base + end)
+  ends_at_mark end first =
+      let mark = mark_stream g h.kept h.base s.kept s.taken 1 end first.here in
+      let no : (k : ℕ) → start ≤ k → k < h.base + end → ¬ IsMark 1 g k = λ k le lt m. ⊎_elim
+      (λ below. sought_start.1 k le below m)
+      (λ above. first.before (k - h.base) (omega arith) (omega (arith, order.base)) (mark_kept g h.kept h.base s.kept s.taken 1 k (omega (arith, order.base)) m))
+      (cases_lt k h.sought) in
+      record {
+        order = omega (arith, first.order, in_order.2, order.base);
+        here = inl mark;
+        before = λ k le lt. ⊎_elim (no k le lt) (λ z. no k le lt (zeros_mark g k (length g) z.1 (omega (arith, mark.within))));
+      }
+
+  pub ends_at_zeros : (end : ℕ) → h.all ≡ true → ((k : ℕ) → h.sought - h.base ≤ k → ¬ IsMark 1 h.kept k) → IsFirstFrom (λ k. AreZeros h.kept k (length h.kept)) (h.sought - h.base) end → IsFirstFrom (CanEnd g h.all) start (h.base + end)
+  ends_at_zeros end done none first =
+      let zeros = zeros_stream g h.kept h.base s.kept s.taken end (length h.kept) first.here in
+      let e : h.base + length h.kept ≡ length g = sym s.taken in
+      let n : length g - h.base ≡ length h.kept = omega (arith, s.taken) in
+      record {
+        order = omega (arith, first.order, in_order.2, order.base);
+        here = inr (done, rw e at zeros);
+        before = λ k le lt. ⊎_elim (no_mark none k le) (λ z. ⊎_elim
+            (λ below. sought_start.1 k le below (zeros_mark g k (length g) z.1 (omega (arith, in_order.3, s.taken))))
+            (λ above. first.before (k - h.base) (omega arith) (omega (arith, order.base)) (rw n at (zeros_kept g h.kept h.base s.kept s.taken k (length g) (omega (arith, order.base)) z.1)))
+            (cases_lt k h.sought));
+      }
+
+  module _ (end : ℕ) (first : IsFirstFrom (CanEnd g h.all) start end) where
+    unit_is : IsUnit g h.all h.from (record { start = start; end = end })
+    unit_is = record { starts = sought_start.0; ends = first }
+
+    within : end ≤ length g
+    within = ⊎_elim (λ m. omega (arith, m.within)) (λ z. z.1.order) first.here
+
+    same_bytes : slice_range h.kept (start - h.base) (end - h.base) ≡ slice_range g start end
+    same_bytes = slice_kept g h.kept h.base start end s.kept in_order.0
+
+    pub Stands-refused : (r : Refusal) → RefusesUnit (slice_range h.kept (start - h.base) (end - h.base)) start r → Stands (record h { refused = Some r }) g units × IsStream g h.all units (Some r)
+    Stands-refused r why =
+        let refuses : Refuses g h.all h.from r = inr (record { start = start; end = end }, unit_is, rw same_bytes at why) in (
+          record { taken = s.taken; kept = s.kept; given = s.given; behind = s.behind; sought = refuses },
+          record { follow = s.given; behind = rw (← s.behind) refuses },
+        )
+
+    pub Stands-given : IsSound (slice_range h.kept (start - h.base) (end - h.base)) → (span : Span) → span.start ≡ start - h.base → span.end ≡ end - h.base → span.offset ≡ start → Stands (record h { from = end; start = None; sought = end }) g (units ++ place_of span ∷ []) × (unit_bytes g (place_of span) ≡ slice_range h.kept (start - h.base) (end - h.base))
+    Stands-given sound span a b c =
+        let n : span.offset + (span.end - span.start) ≡ end = omega (arith, in_order.0, first.order) in
+        let u : UnitPlace = record { start = start; end = end } in
+        let place : place_of span ≡ u = rw (n, c) refl in
+        let next : IsUnit g h.all (end_of 0 units) u = rw s.behind at unit_is in
+        let P : UnitPlace → Type 0 = λ v. Stands (record h { from = end; start = None; sought = end }) g (units ++ v ∷ []) × (unit_bytes g v ≡ slice_range h.kept (start - h.base) (end - h.base)) in
+        subst P (sym place) (
+          record {
+            taken = s.taken;
+            kept = s.kept;
+            given = follows_more g h.all 0 units u s.given next (rw same_bytes at sound);
+            behind = sym (end_of_more 0 units u);
+            sought = rw open_ (record { order = omega arith; within = within; each = λ k le lt. absurd (omega arith) });
+          },
+          sym same_bytes,
+        )

@@ -1,0 +1,97 @@
+-- The byte stream of H.266 Annex B, by places in a list of bytes.
+-- `all` says that the bytes are all there are. With it the definitions are those of B.2;
+-- without it a unit counts once its end is seen, however the bytes go on.
+use Rattle.std.specs.Prelude.{◌≡◌, ◌≢◌, ℕ, ◌+◌, ◌-◌, ◌<◌, ◌≤◌, ◌⊎◌, Bool, IsTrue, List, [], ◌∷◌, Option, Some, None, length, slice_index, slice_range}
+use Rattle.vx_bits.specs.declared.refusal.Refusal.{Refusal}
+use Rattle.vx_bits.specs.declared.refusal.Refusal.TheVariants.{Framing}
+use Rattle.vx_annexb.specs.NalUnit.{HasHeader}
+
+-- zeros stand from place i up to place j
+pub record AreZeros (b : List ℕ) (i j : ℕ) : Type 0 where
+  pub order : i ≤ j
+  pub within : j ≤ length b
+  pub each : (k : ℕ) → i ≤ k → k < j → slice_index b k ≡ 0
+
+-- 00 00 and a byte of at most `most` stand at place i
+pub record IsMark (most : ℕ) (b : List ℕ) (i : ℕ) : Type 0 where
+  pub within : i + 2 < length b
+  pub first : slice_index b i ≡ 0
+  pub second : slice_index b (i + 1) ≡ 0
+  pub third : slice_index b (i + 2) ≤ most
+
+-- e is the first place from s on where P holds
+pub record IsFirstFrom (P : ℕ → Type 0) (s e : ℕ) : Type 0 where
+  pub order : s ≤ e
+  pub here : P e
+  pub before : (k : ℕ) → s ≤ k → k < e → ¬ P k
+
+-- the start code prefix 00 00 01, behind zeros from place p on, ends just before place s (B.2.1)
+pub record StartsAt (b : List ℕ) (p s : ℕ) : Type 0 where
+  pub prefix : p + 3 ≤ s
+  pub within : s ≤ length b
+  pub zeros : AreZeros b p (s - 1)
+  pub one : slice_index b (s - 1) ≡ 1
+
+-- a unit can't go on at place e: 00 00 00 or 00 00 01 stands there, or the last bytes are zeros from there on
+abbrev pub CanEnd : List ℕ → Bool → ℕ → Type 0
+CanEnd b all e = IsMark 1 b e ⊎ (IsTrue all × AreZeros b e (length b))
+
+-- where a unit begins, and the place behind its last byte
+pub record UnitPlace : Type 0 where
+  pub start : ℕ
+  pub end : ℕ
+
+-- the unit's bytes
+abbrev pub unit_bytes : List ℕ → UnitPlace → List ℕ
+unit_bytes b u = slice_range b u.start u.end
+
+-- the next NAL unit behind place p (B.2.2, B.3)
+pub record IsUnit (b : List ℕ) (all : Bool) (p : ℕ) (u : UnitPlace) : Type 0 where
+  pub starts : StartsAt b p u.start
+  pub ends : IsFirstFrom (CanEnd b all) u.start u.end
+
+-- no unit's end and no stray byte is seen behind place p
+abbrev pub SeesNoMore : List ℕ → Bool → ℕ → Type 0
+SeesNoMore b all p = AreZeros b p (length b) ⊎ ((s : ℕ) × StartsAt b p s × ((k : ℕ) → s ≤ k → ¬ CanEnd b all k))
+
+-- behind place p the first byte that is no zero stands at place q, and is not the 01 of a start code
+pub record IsStray (b : List ℕ) (p q : ℕ) : Type 0 where
+  pub zeros : AreZeros b p q
+  pub within : q < length b
+  pub nonzero : slice_index b q ≢ 0
+  pub no_code : slice_index b q ≡ 1 → q < p + 2
+
+-- a unit that no rule refuses
+pub record IsSound (unit : List ℕ) : Type 0 where
+  pub header : HasHeader unit
+
+-- r refuses a unit whose first byte stands at this place: its header can't be read (F3)
+pub record RefusesUnit (unit : List ℕ) (place : ℕ) (r : Refusal) : Type 0 where
+  pub header : ¬ HasHeader unit
+  pub is : r ≡ Framing 3 place
+
+-- r refuses what comes next behind place p: a byte that is no start code (F1), or a unit
+abbrev pub Refuses : List ℕ → Bool → ℕ → Refusal → Type 0
+Refuses b all p r =
+    ((q : ℕ) × IsStray b p q × (r ≡ Framing 1 q))
+    ⊎ ((u : UnitPlace) × IsUnit b all p u × RefusesUnit (unit_bytes b u) u.start r)
+
+-- these units follow one another from place p on, and no rule refuses them
+abbrev pub FollowsFrom : List ℕ → Bool → ℕ → List UnitPlace → Type 0
+FollowsFrom b all p [] = Unit {0}
+FollowsFrom b all p (u ∷ us) = IsUnit b all p u × IsSound (unit_bytes b u) × FollowsFrom b all u.end us
+
+-- the place behind the last of these units
+abbrev pub end_of : ℕ → List UnitPlace → ℕ
+end_of p [] = p
+end_of p (u ∷ us) = end_of u.end us
+
+-- how the bytes end behind their units: nothing more is seen, or a refusal
+abbrev pub EndsWith : List ℕ → Bool → ℕ → Option Refusal → Type 0
+EndsWith b all p None = SeesNoMore b all p
+EndsWith b all p (Some r) = Refuses b all p r
+
+-- the units of the bytes before the first refusal, and the ending behind them
+pub record IsStream (b : List ℕ) (all : Bool) (units : List UnitPlace) (ending : Option Refusal) : Type 0 where
+  pub follow : FollowsFrom b all 0 units
+  pub behind : EndsWith b all (end_of 0 units) ending

@@ -1,0 +1,88 @@
+-- What a splitter keeps of the bytes that it was fed, and how that is tied to them.
+use Rattle.std.specs.Prelude.{◌≡◌, ℕ, ◌+◌, ◌*◌, ◌-◌, ◌^◌, ◌<◌, ◌≤◌, Bool, List, [], ◌∷◌, ◌++◌, Option, Some, None, Result, Ok, Err, length, drop, max, slice_range}
+use Rattle.vx_bits.specs.declared.refusal.Refusal.{Refusal}
+use Rattle.vx_annexb.specs.declared.span.Span.{Span}
+use Rattle.vx_annexb.specs.NalUnit.{HasHeader}
+use Rattle.vx_annexb.specs.ByteStream.{AreZeros, IsMark, StartsAt, UnitPlace, unit_bytes, IsSound, Refuses, FollowsFrom, end_of, EndsWith, IsStream}
+
+pub record Held : Type 0 where
+  -- the bytes that are kept, and the place of the first of them
+  pub kept : List ℕ
+  pub base : ℕ
+  -- the place behind the last unit given, 0 before the first
+  pub from : ℕ
+  -- where the next unit begins, once its start code was found
+  pub start : Option ℕ
+  -- the place up to which the next unit has been sought
+  pub sought : ℕ
+  -- whether the bytes fed are all there are
+  pub all : Bool
+  pub refused : Option Refusal
+
+-- how many bytes were fed
+abbrev pub fed : Held → ℕ
+fed h = h.base + length h.kept
+
+abbrev pub steps_left : ℕ → Option ℕ → ℕ
+steps_left n None = 2 * n
+steps_left n (Some _) = 2 * n + 1
+
+-- what is left to seek: two steps a byte, and one to end a unit that has begun
+abbrev pub left_to_seek : Held → ℕ
+left_to_seek h = steps_left (fed h - h.sought) h.start
+
+-- what has been sought of what comes next
+abbrev pub HasSought : Held → List ℕ → Option ℕ → Option Refusal → Type 0
+HasSought h g start (Some r) = Refuses g h.all h.from r
+HasSought h g None None = AreZeros g h.from h.sought
+HasSought h g (Some s) None = StartsAt g h.from s × ((k : ℕ) → s ≤ k → k < h.sought → ¬ IsMark 1 g k)
+
+-- h is what a splitter keeps of the bytes g once it has given these units
+pub record Stands (h : Held) (g : List ℕ) (units : List UnitPlace) : Type 0 where
+  pub taken : length g ≡ fed h
+  pub kept : h.kept ≡ drop h.base g
+  pub given : FollowsFrom g h.all 0 units
+  pub behind : h.from ≡ end_of 0 units
+  pub sought : HasSought h g h.start h.refused
+
+-- a unit that has begun lies behind the last one, in what is kept
+abbrev pub IsStarted : Held → Option ℕ → Type 0
+IsStarted h None = Unit {0}
+IsStarted h (Some s) = (h.base ≤ s) × (h.from ≤ s) × (s ≤ h.sought) × (h.sought + 2 ≤ max (s + 2) (fed h))
+
+-- what is kept and sought lies in order
+pub record IsInOrder (h : Held) : Type 0 where
+  pub fits : fed h < 2 ^ 64
+  pub base : h.base ≤ h.sought
+  pub from : h.from ≤ h.sought
+  pub sought : h.sought ≤ fed h
+  pub start : IsStarted h h.start
+
+-- the place of the unit of a span
+abbrev pub place_of : Span → UnitPlace
+place_of span = record { start = span.offset; end = span.offset + (span.end - span.start) }
+
+-- a span that can be read: its unit lies in what is kept, begins at its offset, and has a header
+pub record IsReadable (h : Held) (span : Span) : Type 0 where
+  pub order : span.start ≤ span.end
+  pub within : span.end ≤ length h.kept
+  pub offset : span.offset ≡ h.base + span.start
+  pub sound : IsSound (slice_range h.kept span.start span.end)
+
+-- what a splitter keeps of the bytes, and how many there were, stay as they are
+pub record KeepsBytes (old new : Held) : Type 0 where
+  pub kept : new.kept ≡ old.kept
+  pub base : new.base ≡ old.base
+  pub all : new.all ≡ old.all
+
+-- the answer of a search for the next unit's first byte
+abbrev pub HasStarted : List ℕ → List UnitPlace → Held → Result (Option ℕ) Refusal → Type 0
+HasStarted g units h (Ok (Some s)) = Stands h g units
+HasStarted g units h (Ok None) = Stands h g units × IsStream g h.all units None
+HasStarted g units h (Err r) = Stands h g units × IsStream g h.all units (Some r)
+
+-- the answer of a call that seeks the next unit, for bytes g of which these units were given
+abbrev pub Answers : List ℕ → List UnitPlace → Held → Result (Option Span) Refusal → Type 0
+Answers g units h (Ok (Some span)) = Stands h g (units ++ place_of span ∷ []) × (unit_bytes g (place_of span) ≡ slice_range h.kept span.start span.end)
+Answers g units h (Ok None) = Stands h g units × IsStream g h.all units None
+Answers g units h (Err r) = Stands h g units × IsStream g h.all units (Some r)

@@ -1,0 +1,41 @@
+-- What the definition of a byte stream comes to, apart from any program.
+use Rattle.std.specs.Prelude.{◌≡◌, ◌≢◌, ℕ, ◌+◌, Bool, true, false, List, [], ◌∷◌, ◌++◌, Option, Some, None, map, flat_map, length, replicate, slice_index, All}
+use Rattle.vx_bits.specs.declared.refusal.Refusal.{Refusal}
+use Rattle.vx_annexb.specs.ByteStream.{IsMark, UnitPlace, unit_bytes, IsSound, IsStream}
+
+-- the bytes determine the units and the ending
+abbrev pub StreamIsUnique : Type 0
+StreamIsUnique = (b : List ℕ) (all : Bool) (us vs : List UnitPlace) (r t : Option Refusal) → IsStream b all us r → IsStream b all vs t → (us ≡ vs) × (r ≡ t)
+
+-- every list of bytes has units and an ending
+abbrev pub StreamExists : Type 0
+StreamExists = (b : List ℕ) (all : Bool) → (us : List UnitPlace) × (r : Option Refusal) × IsStream b all us r
+
+-- units that are seen stay, however the bytes go on, and so does a refusal
+abbrev pub StreamGoesOn : Type 0
+StreamGoesOn =
+    (b more : List ℕ) (all : Bool) (us vs : List UnitPlace) (r t : Option Refusal) → IsStream b false us r → IsStream (b ++ more) all vs t
+    → ((later : List UnitPlace) × (vs ≡ us ++ later)) × ((refusal : Refusal) → r ≡ Some refusal → (vs ≡ us) × (t ≡ Some refusal))
+
+-- a NAL unit and the zeros behind it
+pub record Part : Type 0 where
+  pub unit : List ℕ
+  pub zeros : ℕ
+
+-- start_code_prefix_one_3bytes, the unit, and zeros (B.2.1)
+abbrev pub part_bytes : Part → List ℕ
+part_bytes p = 0 ∷ 0 ∷ 1 ∷ p.unit ++ replicate p.zeros 0
+
+-- a byte stream: zeros, then the parts
+abbrev pub annex_b : ℕ → List Part → List ℕ
+annex_b zeros parts = replicate zeros 0 ++ flat_map part_bytes parts
+
+-- where the units of parts stand, the first part being at place p
+abbrev pub places_from : ℕ → List Part → List UnitPlace
+places_from p [] = []
+places_from p (q ∷ qs) = record { start = p + 3; end = p + 3 + length q.unit } ∷ places_from (p + 3 + length q.unit + q.zeros) qs
+
+-- a unit holds no 00 00 00 and no 00 00 01, and doesn't end in 00 (7.4.2.1)
+pub record HoldsNoCode (unit : List ℕ) : Type 0 where
+  pub no_mark : (k : ℕ) → ¬ IsMark 1 unit k
+  pub last : (k : ℕ) → length unit ≡ k + 1 → slice_index unit k ≢ 0

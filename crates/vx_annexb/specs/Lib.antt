@@ -1,0 +1,4 @@
+pub mod NalUnit
+pub mod ByteStream
+pub mod Held
+pub mod Laws
