@@ -169,8 +169,8 @@ bits_in_word bytes at count first last word from to within is =
       place,
     ) refl
 
-pub shifted_one : (count : ℕ) → count ≤ 32 → 1 * 2 ^ count % 2 ^ 64 ≡ 2 ^ count
-shifted_one count h = omega (arith, pow_le count 32 h)
+pub shifted_one : (count : ℕ) → count < 64 → 1 * 2 ^ count % 2 ^ 64 ≡ 2 ^ count
+shifted_one count h = omega (arith, pow_le count 63 (omega arith))
 
 -- ---- taking
 
@@ -181,3 +181,8 @@ takes_fixed n v old new within is behind total =
     let below : v < 2 ^ n = rw is fits in
     let code : fixed n v ≡ take n old.left = rw is (fixed_of n (take n old.left) size) in
     (below, record { left = rw (code, behind) (sym (take-append-drop n old.left)); total = total })
+
+-- ---- appending
+
+pub fixed_none : (v : ℕ) → fixed 0 v ≡ []
+fixed_none v = unfold fixed in refl

@@ -1,3 +1,4 @@
 pub mod Alignment
+pub mod Appending
 pub mod Bits
 pub mod Golomb

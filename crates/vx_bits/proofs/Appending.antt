@@ -1,0 +1,151 @@
+-- Lemmas on appending codes to bits.
+use Rattle.std.proofs.Common.{◌≡◌, ℕ, ◌+◌, ◌-◌, ◌*◌, ◌/◌, ◌%◌, ◌^◌, ◌<◌, ◌≤◌, suc, Bool, true, false, List, [], ◌∷◌, ◌++◌, length, refl, sym, ◌∙◌, ap, arith, add-one}
+use Rattle.std.specs.Prelude.{replicate}
+use Rattle.std.proofs.lemmas.List.{append-nil, append_assoc, length-append, length-replicate}
+use Rattle.std.proofs.lemmas.Nat.{pow-add, pow_pos, div_below, mod_below, div-add-mod', leading_top}
+use lib.Count.{count_leading_zeros}
+use Rattle.vx_bits.specs.Codes.{number, fixed, bits_of, to_boundary, zeros_from, one_from, exp_golomb}
+use Rattle.vx_bits.proofs.Bits.{two_pow, pow_le, number-below, number-append, length-fixed, number-fixed, fixed_of, fixed-one, bits_of-append, length-bits_of, fixed_none}
+use Rattle.vx_bits.proofs.Alignment.{number-zeros, number-stop}
+use Rattle.vx_bits.proofs.Golomb.{exp_golomb_is}
+
+-- a number behind another
+pub fixed_join : (n m v w : ℕ) → v < 2 ^ n → w < 2 ^ m → fixed n v ++ fixed m w ≡ fixed (n + m) (v * 2 ^ m + w)
+fixed_join n m v w high low =
+    let whole : number (fixed n v ++ fixed m w) ≡ v * 2 ^ m + w
+    = rw (number-append (fixed n v) (fixed m w), length-fixed m w, number-fixed n v high, number-fixed m w low) refl in
+    let size : length (fixed n v ++ fixed m w) ≡ n + m
+    = rw (length-append (fixed n v) (fixed m w), length-fixed n v, length-fixed m w) refl in
+    sym (fixed_of (n + m) (fixed n v ++ fixed m w) size) ∙ ap (fixed (n + m)) whole
+
+pub join_below : (n m v w : ℕ) → v < 2 ^ n → w < 2 ^ m → v * 2 ^ m + w < 2 ^ (n + m)
+join_below n m v w high low =
+    let whole : number (fixed n v ++ fixed m w) ≡ v * 2 ^ m + w
+    = rw (number-append (fixed n v) (fixed m w), length-fixed m w, number-fixed n v high, number-fixed m w low) refl in
+    let size : length (fixed n v ++ fixed m w) ≡ n + m
+    = rw (length-append (fixed n v) (fixed m w), length-fixed n v, length-fixed m w) refl in
+    rw (← whole, ← size) (number-below (fixed n v ++ fixed m w))
+
+-- the bits of a number in two parts
+pub fixed_split : (n m v : ℕ) → v < 2 ^ (n + m) → fixed (n + m) v ≡ fixed n (v / 2 ^ m) ++ fixed m (v % 2 ^ m)
+fixed_split n m v below =
+    let high : v / 2 ^ m < 2 ^ n = div_below v (2 ^ m) (2 ^ n) (pow_pos m) (rw (← pow-add 2 n m) below) in
+    let low : v % 2 ^ m < 2 ^ m = mod_below v (2 ^ m) (pow_pos m) in
+    sym (fixed_join n m (v / 2 ^ m) (v % 2 ^ m) high low ∙ ap (fixed (n + m)) (div-add-mod' v (2 ^ m)))
+
+pub high_byte : (left rest : ℕ) → 8 ≤ left → rest < 2 ^ left → rest / 2 ^ (left - 8) < 256
+high_byte left rest enough below =
+    let size : 8 + (left - 8) ≡ left = omega arith in
+    div_below rest (2 ^ (left - 8)) (2 ^ 8) (pow_pos (left - 8)) (rw (← pow-add 2 8 (left - 8), size) below)
+
+-- the first byte of a word goes to the bytes
+pub byte_moves : (bytes items : List ℕ) (left rest : ℕ) → 8 ≤ left → rest < 2 ^ left → items ≡ bytes ++ rest / 2 ^ (left - 8) ∷ []
+    → bits_of items ++ fixed (left - 8) (rest % 2 ^ (left - 8)) ≡ bits_of bytes ++ fixed left rest
+byte_moves bytes items left rest enough below pushed =
+    let size : 8 + (left - 8) ≡ left = omega arith in
+    let parts : fixed left rest ≡ fixed 8 (rest / 2 ^ (left - 8)) ++ fixed (left - 8) (rest % 2 ^ (left - 8))
+    = ap (λ k. fixed k rest) (sym size) ∙ fixed_split 8 (left - 8) rest (rw size below) in
+    rw (pushed, parts, bits_of-append bytes (rest / 2 ^ (left - 8) ∷ []), append-nil (fixed 8 (rest / 2 ^ (left - 8))))
+    (append_assoc (bits_of bytes) (fixed 8 (rest / 2 ^ (left - 8))) (fixed (left - 8) (rest % 2 ^ (left - 8))))
+
+-- ---- zeros, and then a number
+
+pub zeros_fixed : (n : ℕ) → fixed n 0 ≡ replicate n false
+zeros_fixed n = ap (fixed n) (sym (number-zeros n)) ∙ fixed_of n (replicate n false) (length-replicate n false)
+
+-- a shift that loses nothing
+pub shift_fits : (used m v : ℕ) → v < 2 ^ used → used + m < 64 → (v * 2 ^ m % 2 ^ 64 ≡ v * 2 ^ m) × (v * 2 ^ m < 2 ^ (used + m))
+shift_fits used m v below few =
+    let fits : v * 2 ^ m + 0 < 2 ^ (used + m) = join_below used m v 0 below (pow_pos m) in
+    let room : 2 ^ (used + m) ≤ 2 ^ 63 = pow_le (used + m) 63 (omega arith) in
+    (omega arith, omega arith)
+
+pub zeros_join : (used m v : ℕ) → v < 2 ^ used → fixed (used + m) (v * 2 ^ m) ≡ fixed used v ++ replicate m false
+zeros_join used m v below =
+    let whole : v * 2 ^ m ≡ v * 2 ^ m + 0 = omega arith in
+    ap (fixed (used + m)) whole ∙ sym (fixed_join used m v 0 below (pow_pos m)) ∙ ap (λ ys. fixed used v ++ ys) (zeros_fixed m)
+
+-- the word of the second step
+pub word_below : (used n v value : ℕ) → v < 2 ^ used → value < 2 ^ n → used + n < 64 → v * 2 ^ n % 2 ^ 64 + value < 2 ^ (used + n)
+word_below used n v value below range few =
+    rw (shift_fits used n v below few).0 (join_below used n v value below range)
+
+pub put_is : (bits0 bits1 bits2 : List Bool) (used zeros n begun value mid : ℕ) → used < 8 → zeros ≤ 32 → n ≤ 32 → begun < 2 ^ used → value < 2 ^ n
+    → mid < 2 ^ ((used + zeros) % 8)
+    → bits1 ++ fixed ((used + zeros) % 8) mid ≡ bits0 ++ fixed (used + zeros) (begun * 2 ^ zeros % 2 ^ 64)
+    → bits2 ≡ bits1 ++ fixed ((used + zeros) % 8 + n) (mid * 2 ^ n % 2 ^ 64 + value)
+    → bits2 ≡ (bits0 ++ fixed used begun) ++ (replicate zeros false ++ fixed n value)
+put_is bits0 bits1 bits2 used zeros n begun value mid few many width below range between first second =
+    let k : ℕ = (used + zeros) % 8 in
+    let low : k < 8 = omega arith in
+    let shift : mid * 2 ^ n % 2 ^ 64 ≡ mid * 2 ^ n = (shift_fits k n mid between (omega arith)).0 in
+    let word : fixed (k + n) (mid * 2 ^ n % 2 ^ 64 + value) ≡ fixed k mid ++ fixed n value
+    = ap (λ m. fixed (k + n) (m + value)) shift ∙ sym (fixed_join k n mid value between range) in
+    let shift' : begun * 2 ^ zeros % 2 ^ 64 ≡ begun * 2 ^ zeros = (shift_fits used zeros begun below (omega arith)).0 in
+    let front : fixed (used + zeros) (begun * 2 ^ zeros % 2 ^ 64) ≡ fixed used begun ++ replicate zeros false
+    = ap (fixed (used + zeros)) shift' ∙ zeros_join used zeros begun below in
+    second
+    ∙ ap (λ ys. bits1 ++ ys) word
+    ∙ sym (append_assoc bits1 (fixed k mid) (fixed n value))
+    ∙ ap (λ ys. ys ++ fixed n value) (first ∙ ap (λ ys. bits0 ++ ys) front)
+    ∙ simp append_assoc
+
+-- ---- ue(v)
+
+-- a number of 32 bits and the zeros before it
+pub code_size : (code : ℕ) → 0 < code → code < 2 ^ 32 → (2 ^ (31 - count_leading_zeros 32 code) ≤ code) × (code < 2 ^ (31 - count_leading_zeros 32 code + 1)) × (31 - count_leading_zeros 32 code < 32)
+code_size code some fits =
+    let top = leading_top 32 code some fits in
+    let is : 31 - count_leading_zeros 32 code ≡ top.0 = omega (arith, top.1) in
+    rw (is, add-one top.0) (top.2, top.3, omega (arith, top.1))
+
+pub code_is : (zeros v : ℕ) → zeros < 32 → 2 ^ zeros ≤ v + 1 → v + 1 < 2 ^ (zeros + 1) → replicate zeros false ++ fixed (zeros + 1) (v + 1) ≡ exp_golomb v
+code_is zeros v few low high =
+    rw (exp_golomb_is zeros v few low (rw (← add-one zeros) high), add-one zeros, fixed-one zeros (v + 1) low) refl
+
+-- ---- the end
+
+pub boundary_of : (bytes : List ℕ) (used begun : ℕ) → used < 8 → (8 - used) % 8 ≡ to_boundary (length (bits_of bytes ++ fixed used begun))
+boundary_of bytes used begun few =
+    let size : length (bits_of bytes ++ fixed used begun) ≡ 8 * length bytes + used
+    = rw (length-append (bits_of bytes) (fixed used begun), length-bits_of bytes, length-fixed used begun) refl in
+    rw size (omega arith)
+
+pub stop_of : (bytes : List ℕ) (used begun : ℕ) → used < 8 → 7 - used ≡ to_boundary (length (bits_of bytes ++ fixed used begun) + 1)
+stop_of bytes used begun few =
+    let size : length (bits_of bytes ++ fixed used begun) ≡ 8 * length bytes + used
+    = rw (length-append (bits_of bytes) (fixed used begun), length-bits_of bytes, length-fixed used begun) refl in
+    rw size (omega arith)
+
+-- the last byte
+pub last_byte : (used begun : ℕ) → used < 8 → begun < 2 ^ used → fixed 8 ((begun * 2 + 1) * 2 ^ (7 - used)) ≡ fixed used begun ++ true ∷ replicate (7 - used) false
+last_byte used begun few below =
+    let size : used + suc (7 - used) ≡ 8 = omega arith in
+    let stop : true ∷ replicate (7 - used) false ≡ fixed (suc (7 - used)) (2 ^ (7 - used))
+    = sym (fixed_of (suc (7 - used)) (true ∷ replicate (7 - used) false) (ap suc (length-replicate (7 - used) false))) ∙ ap (fixed (suc (7 - used))) (number-stop (7 - used)) in
+    let low : 2 ^ (7 - used) < 2 ^ suc (7 - used) = omega (arith, two_pow (7 - used), pow_pos (7 - used)) in
+    let word : begun * 2 ^ suc (7 - used) + 2 ^ (7 - used) ≡ (begun * 2 + 1) * 2 ^ (7 - used)
+    = rw (two_pow (7 - used)) (omega arith) in
+    sym (ap (λ ys. fixed used begun ++ ys) stop ∙ fixed_join used (suc (7 - used)) begun (2 ^ (7 - used)) below low ∙ ap (λ k. fixed k (begun * 2 ^ suc (7 - used) + 2 ^ (7 - used))) size ∙ ap (fixed 8) word)
+
+pub last_fits : (used begun : ℕ) → used < 8 → begun < 2 ^ used → (begun * 2 + 1) * 2 ^ (7 - used) < 256
+last_fits used begun few below =
+    let size : used + suc (7 - used) ≡ 8 = omega arith in
+    let low : 2 ^ (7 - used) < 2 ^ suc (7 - used) = omega (arith, two_pow (7 - used), pow_pos (7 - used)) in
+    let word : begun * 2 ^ suc (7 - used) + 2 ^ (7 - used) ≡ (begun * 2 + 1) * 2 ^ (7 - used)
+    = rw (two_pow (7 - used)) (omega arith) in
+    let all : begun * 2 ^ suc (7 - used) + 2 ^ (7 - used) < 2 ^ (used + suc (7 - used)) = join_below used (suc (7 - used)) begun (2 ^ (7 - used)) below low in
+    let end : 2 ^ (used + suc (7 - used)) ≡ 256 = rw size refl in
+    omega arith
+
+pub align_is : (zeros : ℕ) (old : List Bool) → zeros ≡ to_boundary (length old) → replicate zeros false ++ fixed 0 0 ≡ zeros_from (length old)
+align_is zeros old is = rw (fixed_none 0, append-nil (replicate zeros false), is) refl
+
+pub close_is : (bytes items : List ℕ) (used begun : ℕ) → used < 8 → begun < 2 ^ used → items ≡ bytes ++ ((begun * 2 + 1) * 2 ^ (7 - used) % 256) ∷ []
+    → bits_of items ≡ (bits_of bytes ++ fixed used begun) ++ one_from (length (bits_of bytes ++ fixed used begun))
+close_is bytes items used begun few below pushed =
+    let fits : (begun * 2 + 1) * 2 ^ (7 - used) % 256 ≡ (begun * 2 + 1) * 2 ^ (7 - used) = omega (arith, last_fits used begun few below) in
+    let end : true ∷ replicate (7 - used) false ≡ one_from (length (bits_of bytes ++ fixed used begun))
+    = ap (λ n. true ∷ replicate n false) (stop_of bytes used begun few) in
+    rw (pushed, fits, bits_of-append bytes (((begun * 2 + 1) * 2 ^ (7 - used)) ∷ []), append-nil (fixed 8 ((begun * 2 + 1) * 2 ^ (7 - used))), last_byte used begun few below)
+    (sym (append_assoc (bits_of bytes) (fixed used begun) (true ∷ replicate (7 - used) false)) ∙ ap (λ ys. (bits_of bytes ++ fixed used begun) ++ ys) end)

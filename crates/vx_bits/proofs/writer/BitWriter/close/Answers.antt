@@ -1,0 +1,6 @@
+use Rattle.vx_bits.proofs.Appending.{close_is}
+use Rattle.vx_bits.proofs.writer.BitWriter.close.Goals as goal
+
+pub returns : goal.returns
+returns c =
+    rw (← c.self.view_is) (close_is c.self.inside.bytes.items c.push.new.self.items c.self.inside.used c.self.inside.begun c.self.invariant.0 c.self.invariant.1 c.in_ok-push.ensures.items)

@@ -1,0 +1,161 @@
+//! Writing: codes are appended to bits.
+ghost use Rattle.std.specs.Prelude.{◌≡◌, ℕ, ◌+◌, ◌*◌, ◌/◌, ◌%◌, ◌^◌, ◌<◌, ◌≤◌, Bool, false, List, [], ◌++◌, length, replicate, IfOk, OnOk, OnErr, vec_len, vec_capacity};
+ghost use Rattle.vx_bits.specs.Codes.{fixed, exp_golomb, signed_exp_golomb, code_number, bits_of, zeros_from, one_from, IsCodeNumber};
+
+use std::alloc::{AllocError, Global};
+use std::marker::Model;
+
+/// Appends the whole bytes of a word of so many bits, for which there is room, and gives the number of the bits behind them.
+fn append(bytes: &mut Vec<u8>, word: u64, bits: u32) -> u8
+    requires bits { bits ≤ 64 }
+    requires range { word < 2 ^ bits }
+    requires room { vec_len bytes.old + bits / 8 ≤ vec_capacity bytes.old }
+    ensures value { bits_of bytes.new.items ++ fixed (bits % 8) result ≡ bits_of bytes.old.items ++ fixed bits word }
+    ensures range { result < 2 ^ (bits % 8) }
+    ensures len { vec_len bytes.new ≡ vec_len bytes.old + bits / 8 }
+    ensures capacity { vec_capacity bytes.old ≤ vec_capacity bytes.new }
+{
+    let mut rest = word;
+    let mut left = bits;
+    while left >= 8 {
+        left -= 8;
+        bytes.push((rest >> left) as u8).unwrap();
+        rest %= 1 << left;
+    }
+    rest as u8
+}
+
+/// Bits to which codes are appended.
+///
+/// It is seen as the list of its bits.
+/// A refused call, other than `close`, leaves the bits as they were.
+#[derive(Drop)]
+pub struct BitWriter {
+    bytes: Vec<u8>,
+    begun: u8,
+    used: u32,
+}
+
+impl Model for BitWriter {
+    ghost Value = { List Bool };
+
+    ghost view = { λ w. bits_of w.bytes.items ++ fixed w.used w.begun };
+
+    ghost invariant = { λ w. (w.used < 8) × (w.begun < 2 ^ w.used) };
+}
+
+impl BitWriter {
+    /// No bits. Takes no memory yet.
+    #[tactic(auto, using(crate::proofs::Bits::fixed_none))]
+    pub fn new(alloc: Global) -> BitWriter
+        ensures { result ≡ [] }
+    {
+        BitWriter {
+            bytes: Vec::new(alloc),
+            begun: 0,
+            used: 0,
+        }
+    }
+
+    /// Appends zeros, and then the `n` bits of the value.
+    fn put(&mut self, zeros: u32, n: u32, value: u64) -> Result<(), AllocError>
+        requires zeros { zeros ≤ 32 }
+        requires width { n ≤ 32 }
+        requires range { value < 2 ^ n }
+        ensures ok { OnOk result (self.new ≡ self.old ++ (replicate zeros false ++ fixed n value)) }
+        ensures err { OnErr result (self.new ≡ self.old) }
+    {
+        self.bytes.reserve(8)?;
+        let first = self.used + zeros;
+        let begun = append(&mut self.bytes, u64::from(self.begun) << zeros, first);
+        let last = first % 8 + n;
+        self.begun = append(&mut self.bytes, (u64::from(begun) << n) + value, last);
+        self.used = last % 8;
+        Ok(())
+    }
+
+    /// Appends u(n), the n bits of the value, of which there are at most 32.
+    ///
+    /// # Errors
+    ///
+    /// Where memory runs out.
+    pub fn u(&mut self, n: u32, value: u64) -> Result<(), AllocError>
+        requires width { n ≤ 32 }
+        requires range { value < 2 ^ n }
+        ensures ok { OnOk result (self.new ≡ self.old ++ fixed n value) }
+        ensures err { OnErr result (self.new ≡ self.old) }
+    {
+        self.put(0, n, value)
+    }
+
+    /// Appends ue(v), H.266 clause 9.2, for a value below 2^32 - 1.
+    ///
+    /// # Errors
+    ///
+    /// Where memory runs out.
+    pub fn ue(&mut self, value: u32) -> Result<(), AllocError>
+        requires { IsCodeNumber value }
+        ensures ok { OnOk result (self.new ≡ self.old ++ exp_golomb value) }
+        ensures err { OnErr result (self.new ≡ self.old) }
+    {
+        let code = value + 1;
+        let zeros = 31 - code.leading_zeros();
+        self.put(zeros, zeros + 1, u64::from(code))
+    }
+
+    /// Appends se(v), H.266 clause 9.2, for a value above -2^31.
+    ///
+    /// # Errors
+    ///
+    /// Where memory runs out.
+    pub fn se(&mut self, value: i32) -> Result<(), AllocError>
+        requires { IsCodeNumber (code_number value) }
+        ensures ok { OnOk result (self.new ≡ self.old ++ signed_exp_golomb value) }
+        ensures err { OnErr result (self.new ≡ self.old) }
+    {
+        self.ue(unsigned(value))
+    }
+
+    /// Appends zeros up to the byte boundary.
+    ///
+    /// # Errors
+    ///
+    /// Where memory runs out.
+    pub fn align(&mut self) -> Result<(), AllocError>
+        ensures ok { OnOk result (self.new ≡ self.old ++ zeros_from (length self.old)) }
+        ensures err { OnErr result (self.new ≡ self.old) }
+    {
+        let zeros = (8 - self.used) % 8;
+        self.put(zeros, 0, 0)
+    }
+
+    /// Appends a one, and zeros up to the byte boundary, and gives the bytes.
+    ///
+    /// # Errors
+    ///
+    /// Where memory runs out; the bits are then given up.
+    pub fn close(self) -> Result<Vec<u8>, AllocError>
+        ensures { IfOk result (λ bytes. bits_of bytes.items ≡ self ++ one_from (length self)) }
+    {
+        let BitWriter {
+            mut bytes,
+            begun,
+            used,
+        } = self;
+        let behind = 7 - used;
+        bytes.push((begun * 2 + 1) << behind)?;
+        Ok(bytes)
+    }
+}
+
+/// The number for which ue(v) has the code of se(value), H.266 clause 9.2.3.
+fn unsigned(value: i32) -> u32
+    requires { IsCodeNumber (code_number value) }
+    ensures { result ≡ code_number value }
+{
+    if value > 0 {
+        2 * (value as u32) - 1
+    } else {
+        2 * (-value) as u32
+    }
+}
