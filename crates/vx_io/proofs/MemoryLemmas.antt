@@ -1,5 +1,5 @@
 -- Lemmas on the calls of memory sources and sinks.
-use Rattle.std.proofs.Common.{◌≡◌, ℕ, ◌+◌, ◌-◌, ◌%◌, ◌<◌, ◌≤◌, min, max, List, [], ◌∷◌, ◌++◌, length, take, drop, slice_index, sym, ap, ◌∙◌, arith, length-append, length-take, length-drop, length-take-le, take-append-drop, drop-drop, subst}
+use Rattle.std.proofs.Common.{◌≡◌, ℕ, ◌+◌, ◌-◌, ◌<◌, ◌≤◌, min, List, [], ◌∷◌, ◌++◌, length, take, drop, sym, ap, ◌∙◌, arith, length-append, length-take, length-drop, length-take-le, take-append-drop, drop-drop, subst}
 use Rattle.std.proofs.lemmas.List.{take_rest, take_at, nil_from_length}
 use Rattle.vx_io.specs.Memory.{moved_len}
 

@@ -1,5 +1,5 @@
 -- Lemmas on what a sink gained of a piece.
-use Rattle.std.proofs.Common.{◌≡◌, ℕ, ◌-◌, List, [], ◌++◌, Option, refl, sym, ap, ◌∙◌, length, take, drop, append_assoc, append-nil, subst, take-append-drop}
+use Rattle.std.proofs.Common.{◌≡◌, ℕ, ◌-◌, List, [], ◌++◌, Option, refl, sym, ap, ◌∙◌, length, take, drop, append_assoc, take-append-drop}
 use Rattle.std.proofs.lemmas.List.{take_rest}
 use Rattle.std.proofs.Math.Seq.{take-append_seam}
 use Rattle.std.specs.Io.{StartsWith}
@@ -47,9 +47,9 @@ pub record Underway (old new : Option (List ℕ)) (faults_old faults_new : ℕ) 
   pub faults : faults_new ≡ faults_old
 
 -- the sink took n bytes more
-pub Underway-more : (a b c : Option (List ℕ)) (k l m : ℕ) (piece rest : List ℕ) (n : ℕ) → Underway a b k l piece rest → Appends b c (take n rest) → m ≡ l
+pub underway_more : (a b c : Option (List ℕ)) (k l m : ℕ) (piece rest : List ℕ) (n : ℕ) → Underway a b k l piece rest → Appends b c (take n rest) → m ≡ l
     → Underway a c k m piece (take (length rest - n) (drop n rest))
-Underway-more a b c k l m piece rest n p q e = record {
+underway_more a b c k l m piece rest n p q e = record {
   front = p.front ++ take n rest;
   split = p.split ∙ ap (λ z. p.front ++ z) (sym (take-append-drop n rest) ∙ ap (λ z. take n rest ++ z) (sym (take_rest rest n))) ∙ sym (append_assoc p.front (take n rest) (take (length rest - n) (drop n rest)));
   gained = Appends-trans a b c p.front (take n rest) p.gained q;
