@@ -3,3 +3,4 @@ pub mod Places
 pub mod Steps
 pub mod Unique
 pub mod Exists
+pub mod AnnexB

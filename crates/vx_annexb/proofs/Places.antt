@@ -1,10 +1,9 @@
 -- Zeros, marks and units at places of a list, as the list goes on and as its front is dropped.
-use Rattle.std.proofs.Common.{◌≡◌, ℕ, ◌+◌, ◌-◌, ◌<◌, ◌≤◌, ◌⊎◌, inl, inr, Bool, true, false, IsTrue, List, [], ◌∷◌, ◌++◌, Option, Some, None, length, drop, take, slice_index, slice_range, sym, ap, subst, ◌∙◌, arith, get_or-drop, length-append, length-drop, ⊎_elim, refl}
+use Rattle.std.proofs.Common.{◌≡◌, ℕ, ◌+◌, ◌-◌, ◌<◌, ◌≤◌, inl, inr, Bool, false, List, [], ◌∷◌, ◌++◌, length, drop, slice_index, slice_range, sym, ap, ◌∙◌, arith, get_or-drop, length-append, length-drop, ⊎_elim, refl}
 use Rattle.std.proofs.lemmas.Bool.{cases_lt, false≢true}
 use Rattle.std.proofs.lemmas.List.{get_or_append_left, take-append-le, drop-append-le, drop-drop}
 use Rattle.vx_bits.specs.declared.refusal.Refusal.{Refusal}
-use Rattle.vx_annexb.specs.NalUnit.{HasHeader}
-use Rattle.vx_annexb.specs.ByteStream.{AreZeros, IsMark, IsFirstFrom, StartsAt, CanEnd, UnitPlace, unit_bytes, IsUnit, SeesNoMore, IsStray, IsSound, RefusesUnit, Refuses, FollowsFrom, end_of, EndsWith, IsStream}
+use Rattle.vx_annexb.specs.ByteStream.{AreZeros, IsMark, IsFirstFrom, StartsAt, CanEnd, UnitPlace, unit_bytes, IsUnit, IsStray, IsSound, Refuses, FollowsFrom, end_of}
 
 -- Bytes from place `base` on, and what stands there.
 module _ (g kept : List ℕ) (base : ℕ) (is : kept ≡ drop base g) where

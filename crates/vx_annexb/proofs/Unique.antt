@@ -1,10 +1,11 @@
 -- The bytes determine their units and the ending behind them.
-use Rattle.std.proofs.Common.{◌≡◌, ℕ, ◌+◌, ◌-◌, ◌<◌, ◌≤◌, ◌⊎◌, inl, inr, Bool, true, false, List, [], ◌∷◌, ◌++◌, Option, Some, None, length, slice_index, sym, ap, ap₂, subst, ◌∙◌, arith, refl, ⊎_elim}
+use Rattle.std.proofs.Common.{◌≡◌, ℕ, ◌-◌, inl, inr, Bool, false, List, [], ◌∷◌, ◌++◌, Option, Some, None, length, slice_index, sym, ap, ap₂, subst, ◌∙◌, arith, refl, ⊎_elim}
 use Rattle.std.proofs.lemmas.Bool.{cases_order}
 use Rattle.vx_bits.specs.declared.refusal.Refusal.{Refusal}
 use Rattle.vx_bits.specs.declared.refusal.Refusal.TheVariants.{Framing}
-use Rattle.vx_annexb.specs.ByteStream.{AreZeros, IsMark, IsFirstFrom, StartsAt, CanEnd, UnitPlace, unit_bytes, IsUnit, SeesNoMore, IsStray, IsSound, RefusesUnit, Refuses, FollowsFrom, end_of, EndsWith, IsStream}
-use Rattle.vx_annexb.specs.Laws.{StreamIsUnique}
+use Rattle.vx_annexb.specs.ByteStream.{AreZeros, IsFirstFrom, StartsAt, CanEnd, UnitPlace, unit_bytes, IsUnit, SeesNoMore, IsStray, IsSound, RefusesUnit, Refuses, FollowsFrom, end_of, EndsWith}
+use Rattle.vx_annexb.specs.Laws.{StreamIsUnique, StreamGoesOn}
+use Rattle.vx_annexb.proofs.Places.{follows_on, refuses_on}
 
 first_unique : (P : ℕ → Type 0) (s e f : ℕ) → IsFirstFrom P s e → IsFirstFrom P s f → e ≡ f
 first_unique P s e f a b = ⊎_elim (λ is. is) (λ o. ⊎_elim (λ lt. absurd (b.before e a.order lt a.here)) (λ gt. absurd (a.before f b.order gt b.here)) o) (cases_order e f)
@@ -99,3 +100,25 @@ follow_unique b all p (u ∷ us) (v ∷ vs) r t f e g d =
 
 pub stream_unique : StreamIsUnique
 stream_unique b all us vs r t f g = follow_unique b all 0 us vs r t f.follow f.behind g.follow g.behind
+
+-- units that follow one another are the first of all
+begins_with : (b : List ℕ) (all : Bool) (p : ℕ) (us vs : List UnitPlace) (t : Option Refusal) → FollowsFrom b all p us → FollowsFrom b all p vs → EndsWith b all (end_of p vs) t → (later : List UnitPlace) × (vs ≡ us ++ later)
+begins_with b all p [] vs t f g d = (vs, refl)
+begins_with b all p (u ∷ us) [] t f g d = absurd (ending_or_unit b all p t u d f.0 f.1)
+begins_with b all p (u ∷ us) (v ∷ vs) t f g d =
+    let same = unit_unique b all p u v f.0 g.0 in
+    let P : UnitPlace → Type 0 = λ w. FollowsFrom b all w.end vs × EndsWith b all (end_of w.end vs) t in
+    let others = subst P (sym same) (g.2, d) in
+    let later = begins_with b all u.end us vs t f.2 others.0 others.1 in
+    (later.0, ap₂ (λ (x : UnitPlace) (xs : List UnitPlace). x ∷ xs) (sym same) later.1)
+
+pub stream_goes_on : StreamGoesOn
+stream_goes_on b more all us vs r t f g =
+    let follow = follows_on b more all 0 us f.follow in (
+      begins_with (b ++ more) all 0 us vs t follow g.follow g.behind,
+      λ refusal is.
+          let P : Option Refusal → Type 0 = λ e. EndsWith b false (end_of 0 us) e in
+          let behind = refuses_on b more all (end_of 0 us) refusal (subst P is f.behind) in
+          let same = follow_unique (b ++ more) all 0 us vs (Some refusal) t follow behind g.follow g.behind in
+          (sym same.0, sym same.1),
+    )

@@ -1,7 +1,7 @@
 -- What the definition of a byte stream comes to, apart from any program.
-use Rattle.std.specs.Prelude.{◌≡◌, ◌≢◌, ℕ, ◌+◌, Bool, true, false, List, [], ◌∷◌, ◌++◌, Option, Some, None, map, flat_map, length, replicate, slice_index, All}
+use Rattle.std.specs.Prelude.{◌≡◌, ◌≢◌, ℕ, ◌+◌, Bool, true, false, List, [], ◌∷◌, ◌++◌, Option, Some, None, flat_map, length, replicate, slice_index}
 use Rattle.vx_bits.specs.declared.refusal.Refusal.{Refusal}
-use Rattle.vx_annexb.specs.ByteStream.{IsMark, UnitPlace, unit_bytes, IsSound, IsStream}
+use Rattle.vx_annexb.specs.ByteStream.{IsMark, UnitPlace, IsSound, IsStream}
 
 -- the bytes determine the units and the ending
 abbrev pub StreamIsUnique : Type 0
@@ -24,7 +24,7 @@ pub record Part : Type 0 where
 
 -- start_code_prefix_one_3bytes, the unit, and zeros (B.2.1)
 abbrev pub part_bytes : Part → List ℕ
-part_bytes p = 0 ∷ 0 ∷ 1 ∷ p.unit ++ replicate p.zeros 0
+part_bytes p = 0 ∷ 0 ∷ 1 ∷ (p.unit ++ replicate p.zeros 0)
 
 -- a byte stream: zeros, then the parts
 abbrev pub annex_b : ℕ → List Part → List ℕ
@@ -39,3 +39,18 @@ places_from p (q ∷ qs) = record { start = p + 3; end = p + 3 + length q.unit }
 pub record HoldsNoCode (unit : List ℕ) : Type 0 where
   pub no_mark : (k : ℕ) → ¬ IsMark 1 unit k
   pub last : (k : ℕ) → length unit ≡ k + 1 → slice_index unit k ≢ 0
+
+-- the parts hold units that no rule refuses
+abbrev pub AreSound : List Part → Type 0
+AreSound [] = Unit {0}
+AreSound (q ∷ qs) = HoldsNoCode q.unit × IsSound q.unit × AreSound qs
+
+-- bytes that no rule refuses are the byte stream of their units
+abbrev pub StreamIsAnnexB : Type 0
+StreamIsAnnexB =
+    (b : List ℕ) (us : List UnitPlace) → IsStream b true us None
+    → (zeros : ℕ) × (parts : List Part) × (b ≡ annex_b zeros parts) × (us ≡ places_from zeros parts) × AreSound parts
+
+-- the byte stream of units that no rule refuses has them, and no refusal
+abbrev pub AnnexBIsStream : Type 0
+AnnexBIsStream = (zeros : ℕ) (parts : List Part) → AreSound parts → IsStream (annex_b zeros parts) true (places_from zeros parts) None

@@ -1,5 +1,5 @@
 -- A NAL unit and its header (H.266 7.3.1.2, 7.4.2.2). A unit is the list of its bytes.
-use Rattle.std.specs.Prelude.{◌≡◌, ℕ, ◌+◌, ◌-◌, ◌*◌, ◌/◌, ◌%◌, ◌<◌, ◌≤◌, ◌==◌, List, length, slice_index}
+use Rattle.std.specs.Prelude.{◌≡◌, ℕ, ◌-◌, ◌/◌, ◌%◌, ◌≤◌, ◌==◌, List, length, slice_index}
 use Rattle.vx_annexb.specs.declared.header.NalHeader.{NalHeader}
 
 -- The first byte is forbidden_zero_bit f(1), nuh_reserved_zero_bit u(1), nuh_layer_id u(6);

@@ -1,4 +1,4 @@
-use Rattle.std.proofs.Common.{◌≡◌, ℕ, ◌<◌, ◌≤◌, length, ◌-◌}
+use Rattle.std.proofs.Common.{ℕ, ◌<◌, ◌≤◌, length, ◌-◌}
 use Rattle.vx_annexb.specs.ByteStream.{IsMark}
 use Rattle.vx_annexb.proofs.search.find_mark.Given as goal
 

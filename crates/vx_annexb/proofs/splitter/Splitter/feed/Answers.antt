@@ -1,4 +1,4 @@
-use Rattle.std.proofs.Common.{arith, ℕ, List, ◌≡◌, ◌-◌, ◌++◌, drop, ap, sym, ◌∙◌, refl}
+use Rattle.std.proofs.Common.{arith, ℕ, List, ◌≡◌, ◌-◌, ◌++◌, drop, ap, ◌∙◌, refl}
 use Rattle.vx_annexb.specs.contracts.splitter.Splitter.{the_view}
 use Rattle.vx_annexb.proofs.Steps.{Stands-feed, begin_order}
 use Rattle.vx_annexb.proofs.splitter.Splitter.feed.Goals as goal

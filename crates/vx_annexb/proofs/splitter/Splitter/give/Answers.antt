@@ -1,4 +1,4 @@
-use Rattle.std.proofs.Common.{arith, ◌≡◌, ◌+◌, ◌-◌, ◌<◌, ⊎_elim, sym, ◌∙◌, refl}
+use Rattle.std.proofs.Common.{refl}
 use Rattle.vx_annexb.proofs.Steps.{Stands-refused, Stands-given}
 use Rattle.vx_annexb.proofs.splitter.Splitter.give.Goals as goal
 

@@ -1,4 +1,3 @@
-use Rattle.std.proofs.Common.{arith, ◌≡◌, ◌+◌, ◌-◌, ◌<◌, ⊎_elim, sym, ◌∙◌, refl}
 use Rattle.vx_annexb.specs.Held.{Stands}
 use Rattle.vx_annexb.proofs.Steps.{Stands-no_more}
 use Rattle.vx_annexb.proofs.splitter.Splitter.next.Goals as goal

@@ -1,4 +1,4 @@
-use Rattle.std.proofs.Common.{arith, ◌≡◌, ◌+◌, ◌-◌, ◌<◌, ⊎_elim, sym, ◌∙◌}
+use Rattle.std.proofs.Common.{◌+◌}
 use Rattle.vx_annexb.proofs.Steps.{Stands-no_end, ends_at_mark, ends_at_zeros}
 use Rattle.vx_annexb.proofs.splitter.Splitter.seek_end.Goals as goal
 use Rattle.vx_annexb.proofs.splitter.Splitter.seek_end.Goals.{in-Some, in-None}

@@ -1,6 +1,5 @@
-use Rattle.std.proofs.Common.{arith, ◌≡◌, ◌+◌, ◌-◌, ◌<◌, ⊎_elim, sym, ◌∙◌, None, length, slice_index, rules}
+use Rattle.std.proofs.Common.{arith, ◌≡◌, ◌<◌, sym, ◌∙◌, None, length, rules}
 use Rattle.std.proofs.lemmas.List.{get_or_read}
-use Rattle.vx_annexb.specs.ByteStream.{AreZeros}
 use Rattle.vx_annexb.proofs.Options.{none_is}
 use Rattle.vx_annexb.proofs.Steps.{Stands-zeros, Stands-stray, Stands-code}
 use Rattle.vx_annexb.proofs.splitter.Splitter.seek_start.Goals as goal
