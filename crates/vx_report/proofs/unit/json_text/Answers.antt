@@ -1,0 +1,8 @@
+use Rattle.std.proofs.Common.{rules}
+use Rattle.std.proofs.lemmas.Grind.{common_steps}
+use Rattle.serde_json.proofs.OnLiterals.{serde_json_on_literals}
+use Rattle.vx_report.proofs.unit.json_text.Goals as goal
+
+pub returns : goal.returns
+unfolding serde_json_on_literals
+returns c = search rules
