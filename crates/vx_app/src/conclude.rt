@@ -1,0 +1,68 @@
+//! How a command that is not done ends: its status, and the line that tells why.
+
+ghost use Rattle.std.specs.Prelude.{◌≡◌, IfOk, OnErr};
+ghost use Rattle.vx_app.specs.Conclusion.{Concludes, IsTold, Tells, line_of};
+ghost use Rattle.vx_app.specs.declared.stop.Stop.TheVariants.{ReadFault, NoMemory};
+
+use crate::stop::Stop;
+use std::alloc::{AllocError, Global};
+use vx_io::{Sink, write_all};
+use vx_report::refusal_line;
+
+/// Tells on `err` why a command stopped, and answers its status. A failed
+/// write to `err` changes nothing else.
+pub fn conclude<E: Sink>(alloc: Global, stop: Stop, err: &mut E) -> u8
+    requires { IsTold stop }
+    ensures { Concludes stop result
+        (E.bytes_taken err.old) (E.bytes_taken err.new) (E.write_faults err.old) (E.write_faults err.new) }
+{
+    match stop {
+        Stop::NotUnderstood => {
+            tell(err, b"words not understood\n");
+            2
+        }
+        Stop::Refused { refusal, place } => end(err, refusal_line(alloc, refusal, place), 1),
+        Stop::ReadFault { source } => end(err, read_fault_line(alloc, source), 3),
+        Stop::WriteFault => {
+            tell(err, b"write fault\n");
+            3
+        }
+        Stop::NoMemory => {
+            tell(err, b"no memory\n");
+            4
+        }
+    }
+}
+
+// Tells a line that was made, and answers the status that goes with it.
+fn end<E: Sink>(err: &mut E, line: Result<Vec<u8>, AllocError>, status: u8) -> u8
+    ensures made { IfOk line (λ made. (result ≡ status)
+        × Tells (E.bytes_taken err.old) (E.bytes_taken err.new) (E.write_faults err.old) (E.write_faults err.new) made.items) }
+    ensures memory { OnErr line ((result ≡ 4)
+        × Tells (E.bytes_taken err.old) (E.bytes_taken err.new) (E.write_faults err.old) (E.write_faults err.new) (line_of NoMemory)) }
+{
+    match line {
+        Ok(line) => {
+            tell(err, &line);
+            status
+        }
+        Err(AllocError) => {
+            tell(err, b"no memory\n");
+            4
+        }
+    }
+}
+
+// Writes one line. Whether it was written changes nothing else.
+fn tell<E: Sink>(err: &mut E, line: &[u8])
+    ensures { Tells (E.bytes_taken err.old) (E.bytes_taken err.new) (E.write_faults err.old) (E.write_faults err.new) line.now }
+{
+    let _ = write_all(err, line);
+}
+
+// `read fault source 0`
+fn read_fault_line(alloc: Global, source: u16) -> Result<Vec<u8>, AllocError>
+    ensures { IfOk result (λ line. line.items ≡ line_of (ReadFault source)) }
+{
+    Ok(format!(in alloc; "read fault source {source}\n")?.into_bytes())
+}

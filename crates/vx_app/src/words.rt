@@ -1,0 +1,47 @@
+//! The grammar of the program's words, without the program's name.
+
+ghost use Rattle.std.specs.Prelude.{◌≡◌, None, IfSome, IfNone, slice_get, option_copied};
+ghost use Rattle.vx_app.specs.Asked.{asked};
+ghost use Rattle.vx_app.specs.Grammar.{Command as Asked, Spells, IsUnderstood, NamesFiles, files_of, texts};
+
+/// What the words ask for, with what they name.
+#[derive(Clone, Copy)]
+pub enum Command<'a> {
+    /// `show FILE`
+    Show { file: &'a str },
+}
+
+/// The command that the words spell.
+pub fn command_of(words: &[String]) -> Option<Command<'_>>
+    ensures some { IfSome result (λ command. Spells (texts words.now) (asked command)) }
+    ensures none { IfNone result (¬ IsUnderstood (texts words.now)) }
+{
+    match words {
+        [name, file] if name.as_str() == "show" && !file.is_empty() => {
+            Some(Command::Show { file: file.as_str() })
+        }
+        _ => None,
+    }
+}
+
+/// How many files the words name; none where they are no command.
+pub fn file_count(words: &[String]) -> usize
+    ensures { NamesFiles (texts words.now) result }
+{
+    match command_of(words) {
+        Some(Command::Show { .. }) => 1,
+        None => 0,
+    }
+}
+
+/// The `k`-th file that the words name, from 0.
+pub fn file_word(words: &[String], k: usize) -> Option<&str>
+    ensures files { (command : Asked) → Spells (texts words.now) command
+        → option_copied result ≡ slice_get (files_of command) k }
+    ensures none { ¬ IsUnderstood (texts words.now) → result ≡ None }
+{
+    match command_of(words) {
+        Some(Command::Show { file }) if k == 0 => Some(file),
+        _ => None,
+    }
+}
