@@ -2,7 +2,9 @@
 use Rattle.std.proofs.Common.{◌≡◌, ℕ, zero, suc, ◌+◌, ◌-◌, ◌<◌, ◌≤◌, inl, inr, true, List, [], ◌∷◌, ◌++◌, length, take, drop, replicate, slice_index, slice_range, flat_map, sym, ap, ap₂, subst, ◌∙◌, arith, refl, ⊎_elim, append_assoc, length-append, length-drop, get_or-drop, get_or-take}
 use Rattle.std.proofs.lemmas.List.{length-replicate, get_or-replicate, get_or_append_left, get_or-append-add, take-append-drop, drop-drop, drop_more, drop_all, take_at, drop_at, length-take-le}
 use Rattle.std.proofs.lemmas.Bool.{cases_lt}
-use Rattle.vx_annexb.specs.ByteStream.{AreZeros, IsMark, StartsAt, CanEnd, UnitPlace, unit_bytes, IsUnit, FollowsFrom, end_of}
+use Rattle.vx_annexb.proofs.Places.{length-slice, index-slice}
+use Rattle.vx_annexb.specs.Places.{AreZeros, IsMark}
+use Rattle.vx_annexb.specs.ByteStream.{StartsAt, CanEnd, UnitPlace, unit_bytes, IsUnit, FollowsFrom, end_of}
 use Rattle.vx_annexb.specs.Laws.{Part, part_bytes, annex_b, places_from, HoldsNoCode, AreSound, StreamIsAnnexB, AnnexBIsStream}
 
 length-zeros : (z : ℕ) → length {A = ℕ} (replicate z 0) ≡ z
@@ -22,12 +24,6 @@ unit_drop : (b : List ℕ) (s e : ℕ) → s ≤ e → drop s b ≡ slice_range 
 unit_drop b s e le =
     let n : s + (e - s) ≡ e = omega arith in
     sym (take-append-drop (e - s) (drop s b)) ∙ ap (λ xs. slice_range b s e ++ xs) (drop-drop (e - s) s b ∙ ap (λ k. drop k b) n)
-
-length-slice : (b : List ℕ) (s e : ℕ) → s ≤ e → e ≤ length b → length (slice_range b s e) ≡ e - s
-length-slice b s e le within = length-take-le (e - s) (drop s b) (omega (arith, length-drop s b))
-
-index-slice : (b : List ℕ) (s e k : ℕ) → k < e - s → slice_index (slice_range b s e) k ≡ slice_index b (s + k)
-index-slice b s e k lt = get_or-take (e - s) (drop s b) k 0 lt ∙ get_or-drop s b k 0
 
 -- a unit of the stream holds no start code
 module _ (b : List ℕ) (p : ℕ) (u : UnitPlace) (is : IsUnit b true p u) where

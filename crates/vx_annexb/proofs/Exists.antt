@@ -1,10 +1,12 @@
 -- Every list of bytes has units and an ending: each search of the definition comes to an answer.
-use Rattle.std.proofs.Common.{◌≡◌, ℕ, zero, suc, ◌+◌, ◌-◌, ◌/◌, ◌%◌, ◌<◌, ◌≤◌, ◌⊎◌, inl, inr, Bool, List, [], ◌∷◌, Option, Some, None, length, slice_index, sym, ap, subst, ◌∙◌, arith, refl, ⊎_elim}
+use Rattle.std.proofs.Common.{◌≡◌, ℕ, zero, suc, ◌+◌, ◌-◌, ◌/◌, ◌%◌, ◌<◌, ◌≤◌, ◌⊎◌, inl, inr, Bool, true, false, IsTrue, List, [], ◌∷◌, Option, Some, None, length, slice_index, sym, ap, subst, ◌∙◌, arith, refl, ⊎_elim}
 use Rattle.std.proofs.lemmas.Bool.{cases_lt, cases_eq, cases_Bool, false≢true}
 use Rattle.vx_bits.specs.declared.refusal.Refusal.{Refusal}
-use Rattle.vx_bits.specs.declared.refusal.Refusal.TheVariants.{Framing}
+use Rattle.vx_bits.specs.declared.refusal.Refusal.TheVariants.{Framing, Limit}
 use Rattle.vx_annexb.specs.NalUnit.{HasHeader}
-use Rattle.vx_annexb.specs.ByteStream.{AreZeros, IsMark, IsFirstFrom, StartsAt, CanEnd, UnitPlace, unit_bytes, IsUnit, IsSound, RefusesUnit, FollowsFrom, end_of, EndsWith}
+use Rattle.vx_annexb.specs.Places.{AreZeros, IsMark, IsFirstFrom}
+use Rattle.vx_annexb.specs.Emulation.{is_emulation, BreaksRule}
+use Rattle.vx_annexb.specs.ByteStream.{unit_limit, StartsAt, CanEnd, UnitPlace, unit_bytes, IsUnit, IsSound, RefusesUnit, FollowsFrom, end_of, EndsWith}
 use Rattle.vx_annexb.specs.Laws.{StreamExists}
 use Rattle.vx_annexb.proofs.Places.{zeros_join}
 
@@ -29,15 +31,15 @@ first_byte b (suc n) p e = ⊎_elim
     (λ other. inr (p, record { order = omega arith; within = omega (arith, e); each = λ k le lt. absurd (omega arith) }, omega (arith, e), other))
     (cases_eq (slice_index b p) 0)
 
-known_mark : (b : List ℕ) (k : ℕ) → Known (IsMark 1 b k)
+known_mark : (most : ℕ) (b : List ℕ) (k : ℕ) → Known (IsMark most b k)
 unfolding Known
-known_mark b k = ⊎_elim
+known_mark most b k = ⊎_elim
     (λ within. ⊎_elim
     (λ first. ⊎_elim
     (λ second. ⊎_elim
-    (λ third. inl (record { within = within; first = first; second = second; third = omega (arith, third) }))
     (λ more. inr (λ m. omega (arith, m.third, more)))
-    (cases_lt (slice_index b (k + 2)) 2))
+    (λ third. inl (record { within = within; first = first; second = second; third = third }))
+    (cases_lt most (slice_index b (k + 2))))
     (λ no. inr (λ m. no m.second))
     (cases_eq (slice_index b (k + 1)) 0))
     (λ no. inr (λ m. no m.first))
@@ -66,7 +68,7 @@ known_end b all k = ⊎_elim
     (known_zeros b k))
     (λ more. inr (λ c. ⊎_elim none (λ z. false≢true (sym more ∙ z.0)) c))
     (cases_Bool all))
-    (known_mark b k)
+    (known_mark 1 b k)
 
 -- the first of n places from s on where P holds, or none of them
 first_place : (P : ℕ → Type 0) → ((k : ℕ) → Known (P k)) → (n s : ℕ) → ((e : ℕ) × IsFirstFrom P s e) ⊎ ((k : ℕ) → s ≤ k → k < s + n → ¬ P k)
@@ -102,12 +104,45 @@ known_header unit = ⊎_elim
     (cases_eq (slice_index unit 0 / 128) 0))
     (cases_lt (length unit) 2)
 
+known_break : (unit : List ℕ) (k : ℕ) → Known (BreaksRule unit k)
+unfolding Known
+known_break unit k =
+    let second : Known ((1 ≤ k) × (k < length unit) × IsTrue (is_emulation unit (k - 1)) × (3 < slice_index unit k)) =
+    ⊎_elim
+    (λ none. inr (λ b. omega (arith, b.0, none)))
+    (λ one. ⊎_elim
+    (λ within. ⊎_elim
+    (λ there. ⊎_elim (λ big. inl (one, within, there, big)) (λ small. inr (λ b. omega (arith, b.3, small))) (cases_lt 3 (slice_index unit k)))
+    (λ not_there. inr (λ b. false≢true (sym not_there ∙ b.2)))
+    (cases_Bool (is_emulation unit (k - 1))))
+    (λ past. inr (λ b. omega (arith, b.1, past)))
+    (cases_lt k (length unit)))
+    (cases_lt k 1) in
+    ⊎_elim
+    (λ two. ⊎_elim
+    (λ m. inl (inl (two, m)))
+    (λ no. ⊎_elim (λ b. inl (inr b)) (λ none. inr (λ b. ⊎_elim (λ x. no x.1) none b)) second)
+    (known_mark 2 unit (k - 2)))
+    (λ less. ⊎_elim (λ b. inl (inr b)) (λ none. inr (λ b. ⊎_elim (λ x. omega (arith, x.0, less)) none b)) second)
+    (⊎_elim (λ lt. inr lt) (λ le. inl le) (cases_lt k 2))
+
+break_within : (unit : List ℕ) (k : ℕ) → BreaksRule unit k → k < length unit
+break_within unit k = ⊎_elim (λ x. omega (arith, x.0, x.1.within)) (λ x. x.1)
+
 -- a unit is sound, or refused
 sound_or_refused : (unit : List ℕ) (place : ℕ) → IsSound unit ⊎ ((r : Refusal) × RefusesUnit unit place r)
 unfolding Known
 sound_or_refused unit place = ⊎_elim
-    (λ h. inl (record { header = h }))
-    (λ no. inr (Framing 3 place, record { header = no; is = refl }))
+    (λ h. ⊎_elim
+    (λ found. inr (Framing 2 (place + found.0), inr (inl (h, (found.0, found.1, refl)))))
+    (λ none.
+    let rules : (k : ℕ) → ¬ BreaksRule unit k = λ k b. none k (omega arith) (omega (arith, break_within unit k b)) b in
+    ⊎_elim
+    (λ long. inr (Limit 1, inr (inr (h, rules, long, refl))))
+    (λ fits. inl (record { header = h; emulation = rules; size = fits }))
+    (cases_lt unit_limit (length unit)))
+    (first_place (BreaksRule unit) (known_break unit) (length unit) 0))
+    (λ no. inr (Framing 3 place, inl (no, refl)))
     (known_header unit)
 
 -- what comes next behind place p

@@ -1,6 +1,11 @@
 pub mod Options
 pub mod Places
+pub mod Zeros
 pub mod Steps
+pub mod EmulationBytes
+pub mod Fault
+pub mod EscapedBytes
+pub mod Seam
 pub mod Unique
 pub mod Exists
 pub mod AnnexB

@@ -1,9 +1,10 @@
 -- Zeros, marks and units at places of a list, as the list goes on and as its front is dropped.
-use Rattle.std.proofs.Common.{◌≡◌, ℕ, ◌+◌, ◌-◌, ◌<◌, ◌≤◌, inl, inr, Bool, false, List, [], ◌∷◌, ◌++◌, length, drop, slice_index, slice_range, sym, ap, ◌∙◌, arith, get_or-drop, length-append, length-drop, ⊎_elim, refl}
+use Rattle.std.proofs.Common.{◌≡◌, ℕ, ◌+◌, ◌-◌, ◌<◌, ◌≤◌, inl, inr, Bool, false, List, [], ◌∷◌, ◌++◌, length, drop, slice_index, slice_range, sym, ap, ◌∙◌, arith, get_or-drop, length-append, length-drop, ⊎_elim, refl, get_or-take}
 use Rattle.std.proofs.lemmas.Bool.{cases_lt, false≢true}
-use Rattle.std.proofs.lemmas.List.{get_or_append_left, take-append-le, drop-append-le, drop-drop}
+use Rattle.std.proofs.lemmas.List.{get_or_append_left, length-take-le, take-append-le, drop-append-le, drop-drop}
 use Rattle.vx_bits.specs.declared.refusal.Refusal.{Refusal}
-use Rattle.vx_annexb.specs.ByteStream.{AreZeros, IsMark, IsFirstFrom, StartsAt, CanEnd, UnitPlace, unit_bytes, IsUnit, IsStray, IsSound, Refuses, FollowsFrom, end_of}
+use Rattle.vx_annexb.specs.Places.{AreZeros, IsMark, IsFirstFrom}
+use Rattle.vx_annexb.specs.ByteStream.{StartsAt, CanEnd, UnitPlace, unit_bytes, IsUnit, IsStray, IsSound, Refuses, FollowsFrom, end_of}
 
 -- Bytes from place `base` on, and what stands there.
 module _ (g kept : List ℕ) (base : ℕ) (is : kept ≡ drop base g) where
@@ -62,6 +63,13 @@ zeros_mark g k n z lt = record {
   second = z.each (k + 1) (omega arith) (omega arith);
   third = rw (z.each (k + 2) (omega arith) lt) (omega arith);
 }
+
+-- bytes from place s up to place e
+pub length-slice : (b : List ℕ) (s e : ℕ) → s ≤ e → e ≤ length b → length (slice_range b s e) ≡ e - s
+length-slice b s e le within = length-take-le (e - s) (drop s b) (omega (arith, length-drop s b))
+
+pub index-slice : (b : List ℕ) (s e k : ℕ) → k < e - s → slice_index (slice_range b s e) k ≡ slice_index b (s + k)
+index-slice b s e k lt = get_or-take (e - s) (drop s b) k 0 lt ∙ get_or-drop s b k 0
 
 -- a unit's bytes among those that are kept
 pub slice_kept : (g kept : List ℕ) (base s e : ℕ) → kept ≡ drop base g → base ≤ s → slice_range kept (s - base) (e - base) ≡ slice_range g s e

@@ -2,7 +2,8 @@
 use Rattle.std.proofs.Common.{◌≡◌, ℕ, ◌+◌, ◌-◌, ◌<◌, ◌≤◌, inl, inr, Bool, true, false, List, [], ◌∷◌, ◌++◌, Option, Some, None, length, drop, slice_index, slice_range, sym, ap, subst, ◌∙◌, arith, length-append, length-drop, ⊎_elim, refl, unwrap_or}
 use Rattle.std.proofs.lemmas.List.{append-nil}
 use Rattle.vx_bits.specs.declared.refusal.Refusal.{Refusal}
-use Rattle.vx_annexb.specs.ByteStream.{AreZeros, IsMark, IsFirstFrom, StartsAt, CanEnd, UnitPlace, unit_bytes, IsUnit, IsStray, IsSound, RefusesUnit, Refuses, FollowsFrom, end_of, IsStream}
+use Rattle.vx_annexb.specs.Places.{AreZeros, IsMark, IsFirstFrom}
+use Rattle.vx_annexb.specs.ByteStream.{StartsAt, CanEnd, UnitPlace, unit_bytes, IsUnit, IsStray, IsSound, RefusesUnit, Refuses, FollowsFrom, end_of, IsStream}
 use Rattle.vx_annexb.specs.Held.{Held, fed, HasSought, Stands, IsStarted, IsInOrder, place_of}
 use Rattle.vx_annexb.specs.declared.span.Span.{Span}
 use Rattle.vx_bits.specs.declared.refusal.Refusal.TheVariants.{Framing}

@@ -1,9 +1,11 @@
 -- The bytes determine their units and the ending behind them.
-use Rattle.std.proofs.Common.{◌≡◌, ℕ, ◌-◌, inl, inr, Bool, false, List, [], ◌∷◌, ◌++◌, Option, Some, None, length, slice_index, sym, ap, ap₂, subst, ◌∙◌, arith, refl, ⊎_elim}
+use Rattle.std.proofs.Common.{◌≡◌, ℕ, ◌+◌, ◌-◌, inl, inr, Bool, false, List, [], ◌∷◌, ◌++◌, Option, Some, None, length, slice_index, sym, ap, ap₂, subst, ◌∙◌, arith, refl, ⊎_elim}
 use Rattle.std.proofs.lemmas.Bool.{cases_order}
 use Rattle.vx_bits.specs.declared.refusal.Refusal.{Refusal}
 use Rattle.vx_bits.specs.declared.refusal.Refusal.TheVariants.{Framing}
-use Rattle.vx_annexb.specs.ByteStream.{AreZeros, IsFirstFrom, StartsAt, CanEnd, UnitPlace, unit_bytes, IsUnit, SeesNoMore, IsStray, IsSound, RefusesUnit, Refuses, FollowsFrom, end_of, EndsWith}
+use Rattle.vx_annexb.specs.Places.{AreZeros, IsFirstFrom}
+use Rattle.vx_annexb.specs.ByteStream.{StartsAt, CanEnd, UnitPlace, unit_bytes, IsUnit, SeesNoMore, IsStray, IsSound, RefusesUnit, Refuses, FollowsFrom, end_of, EndsWith}
+use Rattle.vx_annexb.specs.Emulation.{BreaksRule}
 use Rattle.vx_annexb.specs.Laws.{StreamIsUnique, StreamGoesOn}
 use Rattle.vx_annexb.proofs.Places.{follows_on, refuses_on}
 
@@ -12,10 +14,20 @@ first_unique P s e f a b = ⊎_elim (λ is. is) (λ o. ⊎_elim (λ lt. absurd (
 
 -- what a unit's rules say of it is one thing
 unit_refusal : (unit : List ℕ) (place : ℕ) (r t : Refusal) → RefusesUnit unit place r → RefusesUnit unit place t → r ≡ t
-unit_refusal unit place r t a b = a.is ∙ sym b.is
+unit_refusal unit place r t (inl a) (inl c) = a.1 ∙ sym c.1
+unit_refusal unit place r t (inl a) (inr (inl c)) = absurd (a.0 c.0)
+unit_refusal unit place r t (inl a) (inr (inr c)) = absurd (a.0 c.0)
+unit_refusal unit place r t (inr (inl a)) (inl c) = absurd (c.0 a.0)
+unit_refusal unit place r t (inr (inl a)) (inr (inl c)) = a.1.2 ∙ ap (λ k. Framing 2 (place + k)) (first_unique (BreaksRule unit) 0 a.1.0 c.1.0 a.1.1 c.1.1) ∙ sym c.1.2
+unit_refusal unit place r t (inr (inl a)) (inr (inr c)) = absurd (c.1 a.1.0 a.1.1.here)
+unit_refusal unit place r t (inr (inr a)) (inl c) = absurd (c.0 a.0)
+unit_refusal unit place r t (inr (inr a)) (inr (inl c)) = absurd (a.1 c.1.0 c.1.1.here)
+unit_refusal unit place r t (inr (inr a)) (inr (inr c)) = a.3 ∙ sym c.3
 
 unit_refused : (unit : List ℕ) (place : ℕ) (r : Refusal) → RefusesUnit unit place r → ¬ IsSound unit
-unit_refused unit place r a s = a.header s.header
+unit_refused unit place r (inl a) s = a.0 s.header
+unit_refused unit place r (inr (inl a)) s = s.emulation a.1.0 a.1.1.here
+unit_refused unit place r (inr (inr a)) s = omega (arith, a.2, s.size)
 
 module _ (b : List ℕ) (all : Bool) (p : ℕ) where
   starts_unique : (s t : ℕ) → StartsAt b p s → StartsAt b p t → s ≡ t

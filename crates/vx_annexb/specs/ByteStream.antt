@@ -1,29 +1,12 @@
 -- The byte stream of H.266 Annex B, by places in a list of bytes.
 -- `all` says that the bytes are all there are. With it the definitions are those of B.2;
 -- without it a unit counts once its end is seen, however the bytes go on.
-use Rattle.std.specs.Prelude.{◌≡◌, ◌≢◌, ℕ, ◌+◌, ◌-◌, ◌<◌, ◌≤◌, ◌⊎◌, Bool, IsTrue, List, [], ◌∷◌, Option, Some, None, length, slice_index, slice_range}
+use Rattle.std.specs.Prelude.{◌≡◌, ◌≢◌, ℕ, ◌+◌, ◌-◌, ◌^◌, ◌<◌, ◌≤◌, ◌⊎◌, Bool, IsTrue, List, [], ◌∷◌, Option, Some, None, length, slice_index, slice_range}
 use Rattle.vx_bits.specs.declared.refusal.Refusal.{Refusal}
-use Rattle.vx_bits.specs.declared.refusal.Refusal.TheVariants.{Framing}
+use Rattle.vx_bits.specs.declared.refusal.Refusal.TheVariants.{Framing, Limit}
 use Rattle.vx_annexb.specs.NalUnit.{HasHeader}
-
--- zeros stand from place i up to place j
-pub record AreZeros (b : List ℕ) (i j : ℕ) : Type 0 where
-  pub order : i ≤ j
-  pub within : j ≤ length b
-  pub each : (k : ℕ) → i ≤ k → k < j → slice_index b k ≡ 0
-
--- 00 00 and a byte of at most `most` stand at place i
-pub record IsMark (most : ℕ) (b : List ℕ) (i : ℕ) : Type 0 where
-  pub within : i + 2 < length b
-  pub first : slice_index b i ≡ 0
-  pub second : slice_index b (i + 1) ≡ 0
-  pub third : slice_index b (i + 2) ≤ most
-
--- e is the first place from s on where P holds
-pub record IsFirstFrom (P : ℕ → Type 0) (s e : ℕ) : Type 0 where
-  pub order : s ≤ e
-  pub here : P e
-  pub before : (k : ℕ) → s ≤ k → k < e → ¬ P k
+use Rattle.vx_annexb.specs.Places.{AreZeros, IsMark, IsFirstFrom}
+use Rattle.vx_annexb.specs.Emulation.{BreaksRule}
 
 -- the start code prefix 00 00 01, behind zeros from place p on, ends just before place s (B.2.1)
 pub record StartsAt (b : List ℕ) (p s : ℕ) : Type 0 where
@@ -61,14 +44,23 @@ pub record IsStray (b : List ℕ) (p q : ℕ) : Type 0 where
   pub nonzero : slice_index b q ≢ 0
   pub no_code : slice_index b q ≡ 1 → q < p + 2
 
+-- the most bytes that a unit may have
+abbrev pub unit_limit : ℕ
+unit_limit = 2 ^ 23
+
 -- a unit that no rule refuses
 pub record IsSound (unit : List ℕ) : Type 0 where
   pub header : HasHeader unit
+  pub emulation : (k : ℕ) → ¬ BreaksRule unit k
+  pub size : length unit ≤ unit_limit
 
--- r refuses a unit whose first byte stands at this place: its header can't be read (F3)
-pub record RefusesUnit (unit : List ℕ) (place : ℕ) (r : Refusal) : Type 0 where
-  pub header : ¬ HasHeader unit
-  pub is : r ≡ Framing 3 place
+-- r refuses the unit whose first byte stands at this place: its header can't be read (F3),
+-- else a byte breaks the rules of emulation prevention (F2), else it is too long (L1)
+abbrev pub RefusesUnit : List ℕ → ℕ → Refusal → Type 0
+RefusesUnit unit place r =
+    ((¬ HasHeader unit) × (r ≡ Framing 3 place))
+    ⊎ ((HasHeader unit × ((k : ℕ) × IsFirstFrom (BreaksRule unit) 0 k × (r ≡ Framing 2 (place + k))))
+    ⊎ (HasHeader unit × ((k : ℕ) → ¬ BreaksRule unit k) × (unit_limit < length unit) × (r ≡ Limit 1)))
 
 -- r refuses what comes next behind place p: a byte that is no start code (F1), or a unit
 abbrev pub Refuses : List ℕ → Bool → ℕ → Refusal → Type 0
@@ -95,3 +87,7 @@ EndsWith b all p (Some r) = Refuses b all p r
 pub record IsStream (b : List ℕ) (all : Bool) (units : List UnitPlace) (ending : Option Refusal) : Type 0 where
   pub follow : FollowsFrom b all 0 units
   pub behind : EndsWith b all (end_of 0 units) ending
+
+-- zero_byte and start_code_prefix_one_3bytes, as a writer begins each unit (B.2.1)
+abbrev pub long_start_code : List ℕ
+long_start_code = 0 ∷ 0 ∷ 0 ∷ 1 ∷ []

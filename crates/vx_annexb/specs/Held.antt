@@ -2,7 +2,8 @@
 use Rattle.std.specs.Prelude.{◌≡◌, ℕ, ◌+◌, ◌*◌, ◌-◌, ◌^◌, ◌<◌, ◌≤◌, Bool, List, [], ◌∷◌, ◌++◌, Option, Some, None, Result, Ok, Err, length, drop, max, slice_range}
 use Rattle.vx_bits.specs.declared.refusal.Refusal.{Refusal}
 use Rattle.vx_annexb.specs.declared.span.Span.{Span}
-use Rattle.vx_annexb.specs.ByteStream.{AreZeros, IsMark, StartsAt, UnitPlace, unit_bytes, IsSound, Refuses, FollowsFrom, end_of, IsStream}
+use Rattle.vx_annexb.specs.Places.{AreZeros, IsMark}
+use Rattle.vx_annexb.specs.ByteStream.{StartsAt, UnitPlace, unit_bytes, IsSound, Refuses, FollowsFrom, end_of, IsStream}
 
 pub record Held : Type 0 where
   -- the bytes that are kept, and the place of the first of them

@@ -1,7 +1,9 @@
 -- What the definition of a byte stream comes to, apart from any program.
-use Rattle.std.specs.Prelude.{◌≡◌, ◌≢◌, ℕ, ◌+◌, Bool, true, false, List, [], ◌∷◌, ◌++◌, Option, Some, None, flat_map, length, replicate, slice_index}
+use Rattle.std.specs.Prelude.{◌≡◌, ◌≢◌, ℕ, ◌+◌, ◌<◌, Bool, true, false, List, [], ◌∷◌, ◌++◌, Option, Some, None, flat_map, length, replicate, slice_index}
 use Rattle.vx_bits.specs.declared.refusal.Refusal.{Refusal}
-use Rattle.vx_annexb.specs.ByteStream.{IsMark, UnitPlace, IsSound, IsStream}
+use Rattle.vx_annexb.specs.Places.{IsMark}
+use Rattle.vx_annexb.specs.Emulation.{EndsInNoZero, IsEscaped}
+use Rattle.vx_annexb.specs.ByteStream.{UnitPlace, IsSound, IsStream}
 
 -- the bytes determine the units and the ending
 abbrev pub StreamIsUnique : Type 0
@@ -38,7 +40,7 @@ places_from p (q ∷ qs) = record { start = p + 3; end = p + 3 + length q.unit }
 -- a unit holds no 00 00 00 and no 00 00 01, and doesn't end in 00 (7.4.2.1)
 pub record HoldsNoCode (unit : List ℕ) : Type 0 where
   pub no_mark : (k : ℕ) → ¬ IsMark 1 unit k
-  pub last : (k : ℕ) → length unit ≡ k + 1 → slice_index unit k ≢ 0
+  pub last : EndsInNoZero unit
 
 -- the parts hold units that no rule refuses
 abbrev pub AreSound : List Part → Type 0
@@ -54,3 +56,17 @@ StreamIsAnnexB =
 -- the byte stream of units that no rule refuses has them, and no refusal
 abbrev pub AnnexBIsStream : Type 0
 AnnexBIsStream = (zeros : ℕ) (parts : List Part) → AreSound parts → IsStream (annex_b zeros parts) true (places_from zeros parts) None
+
+-- the bytes determine their escaped form
+abbrev pub EscapedIsUnique : Type 0
+EscapedIsUnique = (r n m : List ℕ) → IsEscaped r n → IsEscaped r m → n ≡ m
+
+-- bytes that don't end in 00 have an escaped form
+abbrev pub EscapedExists : Type 0
+EscapedExists = (r : List ℕ) → EndsInNoZero r → (n : List ℕ) × IsEscaped r n
+
+-- behind bytes that don't end in 00 the escaped form goes on as it would begin
+abbrev pub EscapedHasSeam : Type 0
+EscapedHasSeam =
+    (h p m n : List ℕ) → 0 < length h → EndsInNoZero h → IsEscaped h m → IsEscaped (h ++ p) n
+    → (q : List ℕ) × IsEscaped p q × (n ≡ m ++ q)

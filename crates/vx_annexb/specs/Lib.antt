@@ -1,4 +1,6 @@
+pub mod Places
 pub mod NalUnit
+pub mod Emulation
 pub mod ByteStream
 pub mod Held
 pub mod Laws

@@ -1,5 +1,5 @@
 //! Laws of the byte stream: functions without a body, whose contracts say what its definition comes to.
-ghost use Rattle.vx_annexb.specs.Laws.{StreamIsUnique, StreamExists, StreamGoesOn, StreamIsAnnexB, AnnexBIsStream};
+ghost use Rattle.vx_annexb.specs.Laws.{StreamIsUnique, StreamExists, StreamGoesOn, StreamIsAnnexB, AnnexBIsStream, EscapedIsUnique, EscapedExists, EscapedHasSeam};
 
 /// The bytes determine their units and the ending behind them.
 pub fn stream_is_unique()
@@ -24,4 +24,19 @@ pub fn annex_b_is_stream()
 /// Units whose end is seen, and a refusal, stay however the bytes go on.
 pub fn stream_goes_on()
     ensures { StreamGoesOn }
+{}
+
+/// The escaped form of bytes is one: what a unit says without its emulation bytes determines the unit.
+pub fn escaped_is_unique()
+    ensures { EscapedIsUnique }
+{}
+
+/// Bytes that don't end in 00 have an escaped form.
+pub fn escaped_exists()
+    ensures { EscapedExists }
+{}
+
+/// Behind bytes that don't end in 00 the escaped form goes on as it would begin: a payload is passed on as it stands.
+pub fn escaped_has_seam()
+    ensures { EscapedHasSeam }
 {}

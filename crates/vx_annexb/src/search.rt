@@ -1,6 +1,11 @@
 //! Searches of a slice for zeros.
-ghost use Rattle.std.specs.Prelude.{◌≡◌, ◌≢◌, ℕ, ◌+◌, ◌<◌, ◌≤◌, length, slice_index, MatchOption};
-ghost use Rattle.vx_annexb.specs.ByteStream.{AreZeros, IsMark, IsFirstFrom};
+ghost use Rattle.std.specs.Prelude.{◌≡◌, ◌≢◌, ℕ, ◌<◌, ◌≤◌, length, slice_index, MatchOption};
+ghost use Rattle.vx_annexb.specs.Places.{AreZeros, IsMark, IsFirstFrom};
+
+use memchr::memchr;
+
+// A zero at fewer bytes from where it is sought is near: more may follow, and steps are then faster than `memchr`.
+const NEAR: usize = 32;
 
 // The first place from `from` on whose byte is no zero, or the end.
 pub(crate) fn skip_zeros(bytes: &[u8], from: usize) -> usize
@@ -15,6 +20,39 @@ pub(crate) fn skip_zeros(bytes: &[u8], from: usize) -> usize
     at
 }
 
+// The first zero from `from` on.
+fn next_zero(bytes: &[u8], from: usize) -> Option<usize>
+    requires { from ≤ length bytes.now }
+    ensures { MatchOption result
+        ((k : ℕ) → from ≤ k → k < length bytes.now → slice_index bytes.now k ≢ 0)
+        (λ place. place < length bytes.now × IsFirstFrom (λ k. slice_index bytes.now k ≡ 0) from place) }
+{
+    let skip = memchr(0, &bytes[from..])?;
+    Some(from + skip)
+}
+
+// Steps from `from` to a mark below `stop`, or past `stop` where none stands there: at most three bytes a step.
+fn step_to_mark(bytes: &[u8], from: usize, stop: usize, most: u8) -> usize
+    requires order { from ≤ stop }
+    requires within { stop ≤ length bytes.now }
+    ensures order { from ≤ result }
+    ensures within { result ≤ length bytes.now }
+    ensures none { (k : ℕ) → from ≤ k → k < result → ¬ IsMark most bytes.now k }
+    ensures found { result < stop → IsMark most bytes.now result }
+{
+    let mut at = from;
+    while at < stop && bytes.len() - at > 2 {
+        if bytes[at + 2] > most {
+            at += 3;
+        } else if bytes[at] == 0 && bytes[at + 1] == 0 {
+            return at;
+        } else {
+            at += 1;
+        }
+    }
+    at.max(stop)
+}
+
 // The first place from `from` on at which 00 00 and a byte of at most `most` stand.
 pub(crate) fn find_mark(bytes: &[u8], from: usize, most: u8) -> Option<usize>
     requires { from ≤ length bytes.now }
@@ -23,13 +61,16 @@ pub(crate) fn find_mark(bytes: &[u8], from: usize, most: u8) -> Option<usize>
         (IsFirstFrom (IsMark most bytes.now) from) }
 {
     let mut at = from;
-    while bytes.len() - at > 2 {
-        if bytes[at + 2] > most {
-            at += 3;
-        } else if bytes[at] == 0 && bytes[at + 1] == 0 {
-            return Some(at);
+    while at < bytes.len() {
+        let zero = next_zero(bytes, at)?;
+        let len = if zero - at < NEAR {
+            NEAR.min(bytes.len() - zero)
         } else {
-            at += 1;
+            1
+        };
+        at = step_to_mark(bytes, zero, zero + len, most);
+        if at < zero + len {
+            return Some(at);
         }
     }
     None

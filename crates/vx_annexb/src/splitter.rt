@@ -69,7 +69,8 @@ fn drop_front(bytes: &mut Vec<u8>, n: usize)
 impl Splitter {
     ghost use Rattle.std.specs.Prelude.{◌≡◌, ◌≢◌, ℕ, ◌+◌, ◌-◌, ◌*◌, ◌^◌, ◌<◌, ◌≤◌, ◌++◌, ◌⊎◌, [], ◌∷◌, List, Option, Some, None, true, false, length, drop, slice_range, slice_index, IfOk, IfErr, IfSome, OnOk, OnErr, OnSome, IsOk, IsSome, MatchOption, MatchResult};
     ghost use Rattle.vx_bits.specs.declared.refusal.Refusal.{Refusal};
-    ghost use Rattle.vx_annexb.specs.ByteStream.{UnitPlace, AreZeros, IsMark, CanEnd, IsFirstFrom, IsStream};
+    ghost use Rattle.vx_annexb.specs.Places.{AreZeros, IsMark, IsFirstFrom};
+    ghost use Rattle.vx_annexb.specs.ByteStream.{UnitPlace, CanEnd, IsStream};
     ghost use Rattle.vx_annexb.specs.Held.{Held, fed, left_to_seek, Stands, HasStarted, IsReadable, KeepsBytes, Answers};
 
     /// A splitter that was fed nothing.

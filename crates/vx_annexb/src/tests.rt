@@ -2,10 +2,13 @@
 ghost use Rattle.std.specs.Prelude.{◌<◌};
 ghost use Rattle.vx_annexb.specs.Held.{KeepsBytes};
 
-use crate::{NalHeader, Splitter, read_header};
+use crate::{
+    NalHeader, Splitter, emulation_fault, escape, read_header, unescape, unit_place, write_unit,
+};
 use std::alloc::{AllocError, Global};
 use std::test::Fail;
 use vx_bits::Refusal;
+use vx_io::MemorySink;
 
 // 64x64, 4:0:0, one picture: an SPS, a PPS and a slice.
 const STREAM_A: [u8; 49] = [
@@ -65,7 +68,7 @@ const fn framing(code: u8, byte: u64) -> Option<Refusal> {
 
 #[test]
 fn splits_streams(rt: HostRuntime) -> Result<(), Fail> {
-    let rows: [(&[u8], &[(u64, usize)], Option<Refusal>); 14] = [
+    let rows: [(&[u8], &[(u64, usize)], Option<Refusal>); 19] = [
         (&[], &[], None),
         (&[0, 0, 0], &[], None),
         (&STREAM_A, &[(4, 20), (28, 10), (42, 7)], None),
@@ -95,6 +98,17 @@ fn splits_streams(rt: HostRuntime) -> Result<(), Fail> {
         ),
         (&[0, 0, 1, 0, 64, 1], &[], framing(3, 3)),
         (&[0, 0, 1], &[], framing(3, 3)),
+        // A byte that emulation prevention rules out; a unit may end with an emulation byte.
+        (&[0, 0, 1, 0, 121, 0, 0, 2], &[], framing(2, 7)),
+        (&[0, 0, 1, 0, 65, 0, 0, 3, 4, 0, 0, 2], &[], framing(2, 8)),
+        (&[0, 0, 1, 0, 65, 0, 0, 3], &[(3, 5)], None),
+        (
+            &[0, 0, 1, 0, 65, 0, 0, 3, 3, 0, 0, 0, 1, 0, 65, 7],
+            &[(3, 6), (13, 3)],
+            None,
+        ),
+        // A bad header comes before bad emulation.
+        (&[0, 0, 1, 128, 65, 0, 0, 2], &[], framing(3, 3)),
     ];
     for (bytes, units, refusal) in rows {
         for size in [1, 2, 3, 5, 64] {
@@ -156,4 +170,111 @@ fn reads_headers(rt: HostRuntime) {
     for (unit, header) in rows {
         assert_eq!(rt; read_header(unit), header, "{unit:?}");
     }
+}
+
+// A unit of n bytes behind a start code.
+fn long_stream(alloc: Global, n: usize) -> Result<Vec<u8>, AllocError> {
+    let mut bytes = Vec::from_slice(alloc, [0, 0, 1, 0, 65].as_slice())?;
+    let unit = vec![in alloc; 255; n.saturating_sub(2)]?;
+    bytes.extend_from_slice(&unit)?;
+    Ok(bytes)
+}
+
+#[test]
+fn refuses_long_units(rt: HostRuntime) -> Result<(), Fail> {
+    let limit = 1usize << 23;
+    let rows = [
+        (limit, Some(limit), None),
+        (limit + 1, None, Some(Refusal::Limit { code: 1 })),
+    ];
+    for (n, unit, refusal) in rows {
+        let bytes = long_stream(rt.alloc(), n)?;
+        let found = split(rt.alloc(), &bytes, 1 << 20)?;
+        assert_eq!(rt;
+            found.units.first().map(|given| given.1),
+            unit,
+            "of {n} bytes"
+        );
+        assert_eq!(rt; found.refusal, refusal, "of {n} bytes");
+    }
+    Ok(())
+}
+
+#[test]
+fn finds_bad_emulation(rt: HostRuntime) {
+    let rows: [(&[u8], Option<usize>); 9] = [
+        (&[], None),
+        (&[0, 0, 3], None),
+        (&[0, 0, 3, 3], None),
+        (&[0, 0, 4, 0, 1], None),
+        (&[0, 0, 0], Some(2)),
+        (&[7, 0, 0, 1], Some(3)),
+        (&[0, 0, 2], Some(2)),
+        (&[0, 0, 3, 4], Some(3)),
+        (&[0, 0, 3, 0, 0, 3, 0, 0, 1], Some(8)),
+    ];
+    for (unit, fault) in rows {
+        assert_eq!(rt; emulation_fault(unit), fault, "{unit:?}");
+    }
+}
+
+// The escaped form of bytes, where they don't end in 00.
+fn escaped(alloc: Global, bytes: &[u8]) -> Result<Option<Vec<u8>>, AllocError> {
+    if !bytes.is_empty() && bytes[bytes.len() - 1] == 0 {
+        return Ok(None);
+    }
+    Ok(Some(escape(alloc, bytes)?))
+}
+
+// A unit without its emulation bytes, and the place behind each other byte, where no rule is broken.
+fn unescaped(alloc: Global, unit: &[u8]) -> Result<Option<(Vec<u8>, Vec<usize>)>, AllocError> {
+    let None = emulation_fault(unit) else {
+        return Ok(None);
+    };
+    let bytes = unescape(alloc, unit)?;
+    let mut places = Vec::new(alloc);
+    for n in 0..bytes.len() {
+        places.push(unit_place(unit, n + 1))?;
+    }
+    Ok(Some((bytes, places)))
+}
+
+#[test]
+fn escapes_both_ways(rt: HostRuntime) -> Result<(), Fail> {
+    let rows: [(&[u8], &[u8], &[usize]); 7] = [
+        (&[], &[], &[]),
+        (&[5], &[5], &[1]),
+        (&[0, 0, 4], &[0, 0, 4], &[1, 2, 3]),
+        (&[0, 0, 1], &[0, 0, 3, 1], &[1, 2, 4]),
+        (&[0, 0, 3], &[0, 0, 3, 3], &[1, 2, 4]),
+        (&[0, 0, 0, 0, 1], &[0, 0, 3, 0, 0, 3, 1], &[1, 2, 4, 5, 7]),
+        (
+            &[9, 0, 0, 0, 2, 0, 3],
+            &[9, 0, 0, 3, 0, 2, 0, 3],
+            &[1, 2, 3, 5, 6, 7, 8],
+        ),
+    ];
+    for (bytes, unit, places) in rows {
+        let made = escaped(rt.alloc(), bytes)?.ok_or("ends in 00")?;
+        assert_eq!(rt; made.as_slice(), unit, "{bytes:?}");
+        let (back, at) = unescaped(rt.alloc(), unit)?.ok_or("breaks a rule")?;
+        assert_eq!(rt; back.as_slice(), bytes, "{unit:?}");
+        assert_eq!(rt; at.as_slice(), places, "{unit:?}");
+    }
+    Ok(())
+}
+
+#[test]
+fn writes_units(rt: HostRuntime) -> Result<(), Fail> {
+    let mut out = MemorySink::new(
+        rt.alloc(),
+        11,
+        vec![in rt.alloc(); 3]?,
+        vec![in rt.alloc(); 7]?,
+    )?;
+    assert_eq!(rt; write_unit(&mut out, &[0, 65, 1], &[2, 3]).is_ok(), true);
+    assert_eq!(rt; out.bytes(), [0, 0, 0, 1, 0, 65, 1, 2, 3].as_slice());
+    assert_eq!(rt; write_unit(&mut out, &[0, 66], &[4]).is_ok(), false);
+    assert_eq!(rt; out.bytes(), [0, 0, 0, 1, 0, 65, 1, 2, 3, 0, 0].as_slice());
+    Ok(())
 }

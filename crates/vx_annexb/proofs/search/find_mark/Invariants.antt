@@ -1,5 +1,5 @@
 use Rattle.std.proofs.Common.{ℕ, ◌<◌, ◌≤◌, length, ◌-◌}
-use Rattle.vx_annexb.specs.ByteStream.{IsMark}
+use Rattle.vx_annexb.specs.Places.{IsMark}
 use Rattle.vx_annexb.proofs.search.find_mark.Given as goal
 
 abbrev pub invariant-loop-at : goal.invariant-loop-at

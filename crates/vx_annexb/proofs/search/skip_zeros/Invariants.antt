@@ -1,5 +1,5 @@
 use Rattle.std.proofs.Common.{length, ◌-◌}
-use Rattle.vx_annexb.specs.ByteStream.{AreZeros}
+use Rattle.vx_annexb.specs.Places.{AreZeros}
 use Rattle.vx_annexb.proofs.search.skip_zeros.Given as goal
 
 abbrev pub invariant-loop-at : goal.invariant-loop-at

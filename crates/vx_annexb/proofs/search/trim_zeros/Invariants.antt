@@ -1,5 +1,5 @@
 use Rattle.std.proofs.Common.{length, ◌-◌, ◌≤◌}
-use Rattle.vx_annexb.specs.ByteStream.{AreZeros}
+use Rattle.vx_annexb.specs.Places.{AreZeros}
 use Rattle.vx_annexb.proofs.search.trim_zeros.Given as goal
 
 abbrev pub invariant-loop-end : goal.invariant-loop-end

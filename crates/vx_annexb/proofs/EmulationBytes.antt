@@ -1,0 +1,97 @@
+-- Emulation bytes at places of a list, and the searches for them.
+use Rattle.std.proofs.Common.{◌≡◌, ◌≢◌, ℕ, zero, suc, ◌+◌, ◌-◌, ◌<◌, ◌≤◌, ◌⊎◌, inl, inr, Bool, true, false, IsTrue, if◌then◌else◌, List, [], ◌∷◌, ◌++◌, length, take, drop, slice_index, slice_range, sym, ap, ap₂, subst, ◌∙◌, arith, refl, ⊎_elim, add-one, append_assoc, length-append, length-drop, get_or-drop}
+use Rattle.std.proofs.lemmas.Bool.{cases_lt, cases_eq, cases_Bool, and_parts, and_from, leb-true, le-leb, eqb-true, eq-eqb, false_from_ne_true, false≢true, true≢false}
+use Rattle.std.proofs.lemmas.List.{get_or_past, take_more, append-nil, take_rest}
+use Rattle.vx_annexb.specs.Places.{IsMark, IsFirstFrom}
+use Rattle.vx_annexb.specs.Emulation.{is_emulation, BreaksRule, EndsInNoZero, unescaped_to, unescaped, IsEscaped}
+
+-- an emulation byte, part by part
+pub record EmulationAt (n : List ℕ) (k : ℕ) : Type 0 where
+  pub two : 2 ≤ k
+  pub first : slice_index n (k - 2) ≡ 0
+  pub second : slice_index n (k - 1) ≡ 0
+  pub three : slice_index n k ≡ 3
+
+pub emulation_is : (n : List ℕ) (k : ℕ) → is_emulation n k ≡ true → EmulationAt n k
+emulation_is n k e =
+    let a = and_parts _ _ e in
+    let b = and_parts _ _ a.1 in
+    let c = and_parts _ _ b.1 in
+    record { two = leb-true 2 k a.0; first = eqb-true _ _ b.0; second = eqb-true _ _ c.0; three = eqb-true _ _ c.1 }
+
+pub emulation_from : (n : List ℕ) (k : ℕ) → EmulationAt n k → is_emulation n k ≡ true
+emulation_from n k e = and_from _ _ (le-leb 2 k e.two) (and_from _ _ (eq-eqb _ _ e.first) (and_from _ _ (eq-eqb _ _ e.second) (eq-eqb _ _ e.three)))
+
+-- what is no zero stands within the list
+pub within_from : (n : List ℕ) (k : ℕ) → (slice_index n k ≡ 0 → ⊥) → k < length n
+within_from n k some = ⊎_elim (λ lt. lt) (λ past. absurd (some (get_or_past n k 0 past))) (cases_lt k (length n))
+
+pub emulation_mark : (n : List ℕ) (k : ℕ) → is_emulation n k ≡ true → IsMark 3 n (k - 2)
+emulation_mark n k e =
+    let at = emulation_is n k e in
+    let e1 : k - 2 + 1 ≡ k - 1 = omega (arith, at.two) in
+    let e2 : k - 2 + 2 ≡ k = omega (arith, at.two) in
+    record {
+      within = rw e2 (within_from n k (λ z. omega (arith, z, at.three)));
+      first = at.first;
+      second = rw e1 at.second;
+      third = rw (e2, at.three) (omega arith);
+    }
+
+-- lists that agree up to a place have the same emulation bytes there
+pub same_emulation : (n m : List ℕ) (k : ℕ) → ((i : ℕ) → i ≤ k → slice_index n i ≡ slice_index m i) → is_emulation n k ≡ is_emulation m k
+same_emulation n m k agree =
+    let a = agree k (omega arith) in
+    let b = agree (k - 1) (omega arith) in
+    let c = agree (k - 2) (omega arith) in
+    rw (a, b, c) refl
+
+pub same_unescaped : (n m : List ℕ) (k : ℕ) → ((i : ℕ) → i < k → slice_index n i ≡ slice_index m i) → unescaped_to n k ≡ unescaped_to m k
+same_unescaped n m zero agree = refl
+same_unescaped n m (suc k) agree =
+    let e = same_emulation n m k (λ i le. agree i (omega arith)) in
+    let u = same_unescaped n m k (λ i lt. agree i (omega arith)) in
+    let a = agree k (omega arith) in
+    rw (e, u, a) refl
+
+pub unescaped_skip : (n : List ℕ) (k : ℕ) → is_emulation n k ≡ true → unescaped_to n (k + 1) ≡ unescaped_to n k
+unescaped_skip n k e = rw (add-one k, e) refl
+
+pub unescaped_keep : (n : List ℕ) (k : ℕ) → is_emulation n k ≡ false → unescaped_to n (k + 1) ≡ unescaped_to n k ++ slice_index n k ∷ []
+unescaped_keep n k e = rw (add-one k, e) refl
+
+-- bytes among which no emulation byte stands are kept
+pub unescaped_run : (n : List ℕ) (at d : ℕ) → at + d ≤ length n → ((k : ℕ) → at ≤ k → k < at + d → is_emulation n k ≡ false) → unescaped_to n (at + d) ≡ unescaped_to n at ++ take d (drop at n)
+unescaped_run n at zero le none = let e : at + 0 ≡ at = omega arith in rw e (sym (append-nil (unescaped_to n at)))
+unescaped_run n at (suc d) le none =
+    let e : at + suc d ≡ at + d + 1 = omega arith in
+    let before = unescaped_run n at d (omega arith) (λ k a lt. none k a (omega arith)) in
+    let last = unescaped_keep n (at + d) (none (at + d) (omega arith) (omega arith)) in
+    let more = take_more (drop at n) d 0 (omega (arith, length-drop at n)) in
+    rw e last ∙ ap (λ xs. xs ++ slice_index n (at + d) ∷ []) before ∙ append_assoc (unescaped_to n at) (take d (drop at n)) (slice_index n (at + d) ∷ [])
+    ∙ ap (λ xs. unescaped_to n at ++ xs) (ap (λ (x : ℕ). take d (drop at n) ++ x ∷ []) (sym (get_or-drop at n d 0)) ∙ sym more ∙ ap (λ k. take k (drop at n)) (add-one d))
+
+-- Searches that go on from a place behind a byte that is no zero.
+module _ (n : List ℕ) (at : ℕ) (behind : 0 < at → slice_index n (at - 1) ≡ 0 → ⊥) where
+  pub mark_from : (most j : ℕ) → IsMark most n j → at ≤ j + 2 → at ≤ j
+  mark_from most j m le = ⊎_elim
+      (λ below. ⊎_elim
+      (λ one. let e : at - 1 ≡ j = omega arith in absurd (behind (omega arith) (ap (slice_index n) e ∙ m.first)))
+      (λ two. let e : at - 1 ≡ j + 1 = omega arith in absurd (behind (omega arith) (ap (slice_index n) e ∙ m.second)))
+      (cases_lt at (j + 2)))
+      (λ above. above)
+      (cases_lt j at)
+
+  -- no emulation byte where no mark was found
+  pub no_emulation : (stop : ℕ) → ((j : ℕ) → at ≤ j → j < stop → ¬ IsMark 3 n j) → (k : ℕ) → at ≤ k → k < stop + 2 → is_emulation n k ≡ false
+  no_emulation stop none k le lt = false_from_ne_true (is_emulation n k) (λ e.
+      let m = emulation_mark n k e in
+      let two = (emulation_is n k e).two in
+      none (k - 2) (mark_from 3 (k - 2) m (omega arith)) (omega arith) m)
+
+  -- no byte that breaks a rule either
+  pub no_break : (stop : ℕ) → ((j : ℕ) → at ≤ j → j < stop → ¬ IsMark 3 n j) → (k : ℕ) → at < k → k < stop + 2 → ¬ BreaksRule n k
+  no_break stop none k le lt (inl b) =
+      let m : IsMark 3 n (k - 2) = record { within = b.1.within; first = b.1.first; second = b.1.second; third = omega (arith, b.1.third) } in
+      none (k - 2) (mark_from 3 (k - 2) m (omega (arith, b.0))) (omega (arith, b.0)) m
+  no_break stop none k le lt (inr b) = false≢true (sym (no_emulation stop none (k - 1) (omega arith) (omega arith)) ∙ b.2)

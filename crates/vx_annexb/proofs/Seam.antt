@@ -1,0 +1,253 @@
+-- The escaped form of bytes is one, and goes on behind a byte that is no zero as it would begin.
+use Rattle.std.proofs.Common.{◌≡◌, ◌≢◌, ℕ, zero, suc, ◌+◌, ◌-◌, ◌<◌, ◌≤◌, ◌⊎◌, inl, inr, Bool, true, false, IsTrue, List, [], ◌∷◌, ◌++◌, length, take, drop, slice_index, sym, ap, subst, ◌∙◌, arith, refl, ⊎_elim, add-one, append_assoc, length-append, length-drop, get_or-drop, get_or-take}
+use Rattle.std.proofs.lemmas.Bool.{cases_lt, cases_eq, cases_Bool, cases_order, false_from_ne_true, true_from_ne_false, false≢true, true≢false}
+use Rattle.std.proofs.lemmas.List.{get_or_append_left, get_or_push, get_or-append-add, length_push, take-append-drop, take_at, append_cancel_left, append-nil, length-take-le, ext_get_or}
+use Rattle.vx_annexb.specs.Places.{IsMark}
+use Rattle.vx_annexb.specs.Emulation.{is_emulation, BreaksRule, EndsInNoZero, unescaped_to, unescaped, IsEscaped}
+use Rattle.vx_annexb.specs.Laws.{EscapedIsUnique, EscapedHasSeam}
+use Rattle.vx_annexb.proofs.Places.{mark_on, mark_stream}
+use Rattle.vx_annexb.proofs.EmulationBytes.{EmulationAt, emulation_is, emulation_from, within_from, same_emulation, same_unescaped, unescaped_skip, unescaped_keep}
+
+-- what was unescaped stays at the front
+unescaped_more : (n : List ℕ) (k d : ℕ) → (tail : List ℕ) × (unescaped_to n (k + d) ≡ unescaped_to n k ++ tail)
+unescaped_more n k zero = let e : k + 0 ≡ k = omega arith in ([], rw e (sym (append-nil (unescaped_to n k))))
+unescaped_more n k (suc d) =
+    let e : k + suc d ≡ k + d + 1 = omega arith in
+    let before = unescaped_more n k d in
+    ⊎_elim
+    (λ marked. (before.0, rw e (unescaped_skip n (k + d) marked ∙ before.1)))
+    (λ plain. (before.0 ++ slice_index n (k + d) ∷ [], rw e (unescaped_keep n (k + d) plain ∙ ap (λ xs. xs ++ slice_index n (k + d) ∷ []) before.1 ∙ append_assoc (unescaped_to n k) before.0 (slice_index n (k + d) ∷ []))))
+    (cases_Bool (is_emulation n (k + d)))
+
+unescaped_front : (n : List ℕ) (k : ℕ) → k ≤ length n → (tail : List ℕ) × (unescaped n ≡ unescaped_to n k ++ tail)
+unescaped_front n k le =
+    let e : k + (length n - k) ≡ length n = omega arith in
+    let more = unescaped_more n k (length n - k) in
+    (more.0, rw e at more.1)
+
+-- a byte that is no emulation byte is found again
+kept_index : (r n : List ℕ) (k : ℕ) → r ≡ unescaped n → k < length n → is_emulation n k ≡ false → (length (unescaped_to n k) < length r) × (slice_index r (length (unescaped_to n k)) ≡ slice_index n k)
+kept_index r n k is within plain =
+    let u = unescaped_to n k in
+    let front = unescaped_front n (k + 1) (omega arith) in
+    let same : r ≡ u ++ (slice_index n k ∷ front.0) = is ∙ front.1 ∙ ap (λ xs. xs ++ front.0) (unescaped_keep n k plain) ∙ append_assoc u (slice_index n k ∷ []) front.0 in
+    let j : length u + 0 ≡ length u = omega arith in
+    let at = get_or-append-add u (slice_index n k ∷ front.0) 0 0 in
+    (omega (arith, ap length same, length-append u (slice_index n k ∷ front.0)), ap (λ xs. slice_index xs (length u)) same ∙ (rw j at at))
+
+-- Two escaped forms of the same bytes that agree up to a place.
+module _ (r n m : List ℕ) (en : IsEscaped r n) (em : IsEscaped r m) (k : ℕ) (agree : (i : ℕ) → i < k → slice_index n i ≡ slice_index m i) where
+  same_length : length (unescaped_to n k) ≡ length (unescaped_to m k)
+  same_length = ap length (same_unescaped n m k agree)
+
+  -- an emulation byte stands in both or in none
+  not_in_one : k < length n → k < length m → is_emulation n k ≡ true → is_emulation m k ≡ false → ⊥
+  not_in_one inside within marked plain =
+      let at = emulation_is n k marked in
+      let first : slice_index m (k - 2) ≡ 0 = sym (agree (k - 2) (omega (arith, at.two))) ∙ at.first in
+      let second : slice_index m (k - 1) ≡ 0 = sym (agree (k - 1) (omega (arith, at.two))) ∙ at.second in
+      let kept = kept_index r m k em.is within plain in
+      let e1 : k - 2 + 1 ≡ k - 1 = omega (arith, at.two) in
+      let e2 : k - 2 + 2 ≡ k = omega (arith, at.two) in
+      let large : 3 < slice_index m k = ⊎_elim
+      (λ big. big)
+      (λ (small : slice_index m k ≤ 3). ⊎_elim
+      (λ three. absurd (false≢true (sym plain ∙ emulation_from m k (record { two = at.two; first = first; second = second; three = three }))))
+      (λ (other : slice_index m k ≡ 3 → ⊥). absurd (em.rules k (inl (at.two, record { within = rw e2 within; first = first; second = rw e1 second; third = rw e2 (omega arith) }))))
+      (cases_eq (slice_index m k) 3))
+      (cases_lt 3 (slice_index m k)) in
+      let skip = unescaped_skip n k marked in
+      let more : k + 1 < length n = ⊎_elim (λ lt. lt)
+      (λ end.
+      let e : length n ≡ k + 1 = omega arith in
+      let all : r ≡ unescaped_to n (k + 1) = rw e at en.is in
+      absurd (omega (arith, ap length all, ap length skip, same_length, kept.0)))
+      (cases_lt (k + 1) (length n)) in
+      let e : k + 1 - 1 ≡ k = omega arith in
+      let next_plain : is_emulation n (k + 1) ≡ false = false_from_ne_true (is_emulation n (k + 1)) (λ t. let z = rw e at (emulation_is n (k + 1) t).second in omega (arith, z, at.three)) in
+      let next = kept_index r n (k + 1) en.is more next_plain in
+      let place : length (unescaped_to n (k + 1)) ≡ length (unescaped_to m k) = ap length skip ∙ same_length in
+      let value : slice_index n (k + 1) ≡ slice_index m k = sym next.1 ∙ ap (slice_index r) place ∙ kept.1 in
+      en.rules (k + 1) (inr (omega arith, more, rw e marked, rw value large))
+
+  -- neither ends before the other
+  not_longer : length n ≡ k → k < length m → ⊥
+  not_longer end within =
+      let all : length (unescaped_to n k) ≡ length r = (let e = ap length en.is in let P : ℕ → Type 0 = λ j. length r ≡ length (unescaped_to n j) in sym (subst P end e)) in
+      ⊎_elim
+      (λ marked.
+      let at = emulation_is m k marked in
+      let e : length n ≡ k - 1 + 1 = omega (arith, at.two) in
+      en.last (k - 1) e (agree (k - 1) (omega (arith, at.two)) ∙ at.second))
+      (λ plain. let kept = kept_index r m k em.is within plain in omega (arith, kept.0, same_length, all))
+      (cases_Bool (is_emulation m k))
+
+next_same : (r n m : List ℕ) → IsEscaped r n → IsEscaped r m → (k : ℕ) → ((i : ℕ) → i < k → slice_index n i ≡ slice_index m i) → k < length n → k < length m → slice_index n k ≡ slice_index m k
+next_same r n m en em k agree inside within =
+    let back : (i : ℕ) → i < k → slice_index m i ≡ slice_index n i = λ i lt. sym (agree i lt) in
+    ⊎_elim
+    (λ a. ⊎_elim
+    (λ c. (emulation_is n k a).three ∙ sym (emulation_is m k c).three)
+    (λ c. absurd (not_in_one r n m en em k agree inside within a c))
+    (cases_Bool (is_emulation m k)))
+    (λ a. ⊎_elim
+    (λ c. absurd (not_in_one r m n em en k back within inside c a))
+    (λ c.
+    let x = kept_index r n k en.is inside a in
+    let y = kept_index r m k em.is within c in
+    sym x.1 ∙ ap (slice_index r) (same_length r n m en em k agree) ∙ y.1)
+    (cases_Bool (is_emulation m k)))
+    (cases_Bool (is_emulation n k))
+
+agree_to : (r n m : List ℕ) → IsEscaped r n → IsEscaped r m → (k : ℕ) → k ≤ length n → k ≤ length m → (i : ℕ) → i < k → slice_index n i ≡ slice_index m i
+agree_to r n m en em zero a c i lt = absurd (omega arith)
+agree_to r n m en em (suc k) a c i lt =
+    let before = agree_to r n m en em k (omega arith) (omega arith) in
+    ⊎_elim (λ low. before i low) (λ high. let same : k ≡ i = omega arith in let P : ℕ → Type 0 = λ j. slice_index n j ≡ slice_index m j in subst P same (next_same r n m en em k before (omega arith) (omega arith))) (cases_lt i k)
+
+pub escaped_unique : EscapedIsUnique
+escaped_unique r n m en em = ⊎_elim
+    (λ same. ext_get_or 0 n m same (agree_to r n m en em (length n) (omega arith) (omega arith)))
+    (λ other. ⊎_elim
+    (λ shorter. absurd (not_longer r n m en em (length n) (agree_to r n m en em (length n) (omega arith) (omega arith)) refl shorter))
+    (λ longer. absurd (not_longer r m n em en (length m) (agree_to r m n em en (length m) (omega arith) (omega arith)) refl longer))
+    other)
+    (cases_order (length n) (length m))
+
+-- the place behind the t-th byte that is no emulation byte
+Reached : List ℕ → ℕ → ℕ → Type 0
+Reached n t most = (k : ℕ) × (k < most) × (is_emulation n k ≡ false) × (length (unescaped_to n (k + 1)) ≡ t)
+
+reach : (n : List ℕ) (t most : ℕ) → 0 < t → t ≤ length (unescaped_to n most) → Reached n t most
+unfolding Reached
+reach n t zero some le = absurd (omega arith)
+reach n t (suc k) some le = ⊎_elim
+    (λ marked.
+    let skip : unescaped_to n (suc k) ≡ unescaped_to n k = (let e = unescaped_skip n k marked in rw add-one at e) in
+    let found = reach n t k some (omega (arith, ap length skip)) in
+    (found.0, omega (arith, found.1), found.2, found.3))
+    (λ plain.
+    let keep : unescaped_to n (suc k) ≡ unescaped_to n k ++ slice_index n k ∷ [] = (let e = unescaped_keep n k plain in rw add-one at e) in
+    let len = ap length keep ∙ length_push (unescaped_to n k) (slice_index n k) in
+    ⊎_elim
+    (λ here. (k, omega arith, plain, rw add-one (omega (arith, len, here))))
+    (λ other. let found = reach n t k some (omega (arith, len)) in (found.0, omega (arith, found.1), found.2, found.3))
+    (cases_eq t (length (unescaped_to n (suc k)))))
+    (cases_Bool (is_emulation n k))
+
+-- Behind a byte that is no zero and no emulation byte.
+module _ (n : List ℕ) (k : ℕ) (within : k ≤ length n) (behind : 0 < k → slice_index n (k - 1) ≡ 0 → ⊥) (some : 0 < k) where
+  shift : (i : ℕ) → slice_index (drop k n) i ≡ slice_index n (k + i)
+  shift i = get_or-drop k n i 0
+
+  emulation_on : (i : ℕ) → is_emulation (drop k n) i ≡ true → is_emulation n (k + i) ≡ true
+  emulation_on i e =
+      let at = emulation_is (drop k n) i e in
+      let e1 : k + (i - 1) ≡ k + i - 1 = omega (arith, at.two) in
+      let e2 : k + (i - 2) ≡ k + i - 2 = omega (arith, at.two) in
+      emulation_from n (k + i) (record {
+        two = omega (arith, at.two);
+        first = rw (← e2) (sym (shift (i - 2)) ∙ at.first);
+        second = rw (← e1) (sym (shift (i - 1)) ∙ at.second);
+        three = sym (shift i) ∙ at.three;
+      })
+
+  emulation_back : (i : ℕ) → is_emulation n (k + i) ≡ true → is_emulation (drop k n) i ≡ true
+  emulation_back i e =
+      let at = emulation_is n (k + i) e in
+      let two : 2 ≤ i = ⊎_elim
+      (λ less. ⊎_elim
+      (λ none. let f : k + i - 1 ≡ k - 1 = omega arith in absurd (behind some (rw f at at.second)))
+      (λ one. let f : k + i - 2 ≡ k - 1 = omega arith in absurd (behind some (rw f at at.first)))
+      (cases_lt i 1))
+      (λ enough. enough)
+      (cases_lt i 2) in
+      let e1 : k + i - 1 ≡ k + (i - 1) = omega arith in
+      let e2 : k + i - 2 ≡ k + (i - 2) = omega arith in
+      emulation_from (drop k n) i (record {
+        two = two;
+        first = shift (i - 2) ∙ (rw e2 at at.first);
+        second = shift (i - 1) ∙ (rw e1 at at.second);
+        three = shift i ∙ at.three;
+      })
+
+  emulation_shift : (i : ℕ) → is_emulation n (k + i) ≡ is_emulation (drop k n) i
+  emulation_shift i = ⊎_elim
+      (λ t. t ∙ sym (emulation_back i t))
+      (λ f. f ∙ sym (false_from_ne_true (is_emulation (drop k n) i) (λ t. false≢true (sym f ∙ emulation_on i t))))
+      (cases_Bool (is_emulation n (k + i)))
+
+  unescaped_shift : (d : ℕ) → unescaped_to n (k + d) ≡ unescaped_to n k ++ unescaped_to (drop k n) d
+  unescaped_shift zero = let e : k + 0 ≡ k = omega arith in rw e (sym (append-nil (unescaped_to n k)))
+  unescaped_shift (suc d) =
+      let e : k + suc d ≡ k + d + 1 = omega arith in
+      let before = unescaped_shift d in
+      ⊎_elim
+      (λ marked.
+      let skip : unescaped_to (drop k n) (suc d) ≡ unescaped_to (drop k n) d = (let f = unescaped_skip (drop k n) d (sym (emulation_shift d) ∙ marked) in rw add-one at f) in
+      rw e (unescaped_skip n (k + d) marked ∙ before ∙ ap (λ xs. unescaped_to n k ++ xs) (sym skip)))
+      (λ plain.
+      let keep : unescaped_to (drop k n) (suc d) ≡ unescaped_to (drop k n) d ++ slice_index (drop k n) d ∷ [] = (let f = unescaped_keep (drop k n) d (sym (emulation_shift d) ∙ plain) in rw add-one at f) in
+      rw e (unescaped_keep n (k + d) plain ∙ ap (λ xs. xs ++ slice_index n (k + d) ∷ []) before ∙ append_assoc (unescaped_to n k) (unescaped_to (drop k n) d) (slice_index n (k + d) ∷ [])
+      ∙ ap (λ xs. unescaped_to n k ++ xs) (ap (λ (x : ℕ). unescaped_to (drop k n) d ++ x ∷ []) (sym (shift d)) ∙ sym keep)))
+      (cases_Bool (is_emulation n (k + d)))
+
+  rest_rules : ((j : ℕ) → ¬ BreaksRule n j) → (j : ℕ) → ¬ BreaksRule (drop k n) j
+  rest_rules rules j (inl x) =
+      let e : k + j - 2 ≡ k + (j - 2) = omega (arith, x.0) in
+      let len : length n ≡ k + length (drop k n) = omega (arith, length-drop k n) in
+      rules (k + j) (inl (omega (arith, x.0), rw e (mark_stream n (drop k n) k refl len 2 (j - 2) x.1)))
+  rest_rules rules j (inr x) =
+      let e : k + j - 1 ≡ k + (j - 1) = omega (arith, x.0) in
+      rules (k + j) (inr (omega (arith, x.0), omega (arith, x.1, length-drop k n), rw e (emulation_on (j - 1) x.2), rw (← shift j) x.3))
+
+  rest_escaped : (r p : List ℕ) → IsEscaped r n → r ≡ unescaped_to n k ++ p → IsEscaped p (drop k n)
+  rest_escaped r p e split =
+      let f : k + (length n - k) ≡ length n = omega arith in
+      let len : length (drop k n) ≡ length n - k = length-drop k n in
+      let all : unescaped n ≡ unescaped_to n k ++ unescaped_to (drop k n) (length n - k) = rw f at (unescaped_shift (length n - k)) in
+      let same : unescaped_to n k ++ p ≡ unescaped_to n k ++ unescaped_to (drop k n) (length n - k) = sym split ∙ e.is ∙ all in
+      record {
+        rules = rest_rules e.rules;
+        last = λ j end zero_is. e.last (k + j) (omega (arith, end, len)) (sym (shift j) ∙ zero_is);
+        is = append_cancel_left (unescaped_to n k) p (unescaped_to (drop k n) (length n - k)) same ∙ ap (unescaped_to (drop k n)) (sym len);
+      }
+
+  front_rules : ((j : ℕ) → ¬ BreaksRule n j) → (j : ℕ) → ¬ BreaksRule (take k n) j
+  front_rules rules j b =
+      let at : (i : ℕ) → i < k → slice_index (take k n) i ≡ slice_index n i = λ i lt. get_or-take k n i 0 lt in
+      let len : length (take k n) ≡ k = length-take-le k n within in
+      ⊎_elim
+      (λ x. let m = mark_on (take k n) (drop k n) 2 (j - 2) x.1 in rules j (inl (x.0, rw (take-append-drop k n) at m)))
+      (λ x. rules j (inr (x.0, omega (arith, x.1, len), sym (same_emulation (take k n) n (j - 1) (λ i le. at i (omega (arith, x.0, x.1, len)))) ∙ x.2, rw (← at j (omega (arith, x.1, len))) x.3)))
+      b
+
+  front_escaped : (r h : List ℕ) → IsEscaped r n → h ≡ unescaped_to n k → IsEscaped h (take k n)
+  front_escaped r h e is =
+      let len : length (take k n) ≡ k = length-take-le k n within in
+      record {
+        rules = front_rules e.rules;
+        last = λ j end zero_is. let f : j ≡ k - 1 = omega (arith, end, len) in behind some (sym (get_or-take k n (k - 1) 0 (omega arith)) ∙ (rw f at zero_is));
+        is = is ∙ sym (same_unescaped (take k n) n k (λ i lt. get_or-take k n i 0 lt)) ∙ ap (unescaped_to (take k n)) (sym len);
+      }
+
+pub escaped_seam : EscapedHasSeam
+unfolding Reached
+escaped_seam h p m n some last eh e =
+    let front_len : length h ≤ length (unescaped n) = omega (arith, ap length e.is, length-append h p) in
+    let found = reach n (length h) (length n) some front_len in
+    let k : ℕ = found.0 + 1 in
+    let keep = unescaped_keep n found.0 found.2 in
+    let front = unescaped_front n (found.0 + 1) (omega (arith, found.1)) in
+    let both : h ++ p ≡ unescaped_to n (found.0 + 1) ++ front.0 = e.is ∙ front.1 in
+    let head : h ≡ unescaped_to n (found.0 + 1) = sym (take_at h p (length h) refl) ∙ ap (take (length h)) both ∙ take_at (unescaped_to n (found.0 + 1)) front.0 (length h) found.3 in
+    let f : found.0 + 1 - 1 ≡ found.0 = omega arith in
+    let count : length h ≡ length (unescaped_to n found.0) + 1 = ap length (head ∙ keep) ∙ length_push (unescaped_to n found.0) (slice_index n found.0) in
+    let behind : slice_index n found.0 ≡ 0 → ⊥ = λ z. last (length (unescaped_to n found.0)) count (ap (λ xs. slice_index xs (length (unescaped_to n found.0))) (head ∙ keep) ∙ get_or_push (unescaped_to n found.0) (slice_index n found.0) 0 (length (unescaped_to n found.0)) refl ∙ z) in
+    let within : found.0 + 1 ≤ length n = omega (arith, found.1) in
+    let some_k : 0 < found.0 + 1 = omega arith in
+    let nonzero : 0 < found.0 + 1 → slice_index n (found.0 + 1 - 1) ≡ 0 → ⊥ = λ _ z. behind (rw f at z) in
+    let split : h ++ p ≡ unescaped_to n (found.0 + 1) ++ p = ap (λ xs. xs ++ p) head in
+    let fm = front_escaped n (found.0 + 1) within nonzero some_k (h ++ p) h e head in
+    let rest = rest_escaped n (found.0 + 1) within nonzero some_k (h ++ p) p e split in
+    (drop (found.0 + 1) n, rest, sym (take-append-drop (found.0 + 1) n) ∙ ap (λ xs. xs ++ drop (found.0 + 1) n) (escaped_unique h (take (found.0 + 1) n) m fm eh))

@@ -1,0 +1,10 @@
+use Rattle.std.proofs.Common.{◌∙◌}
+use Rattle.vx_annexb.proofs.Fault.{unescape_step, unescape_end}
+use Rattle.vx_annexb.proofs.emulation.unescape.Goals as goal
+
+pub loop-mark-preserved : goal.loop-mark-preserved
+loop-mark-preserved c =
+    rw c.in_ok-extend_from_slice.ensures.items (unescape_step c.args.unit.now c.loop-mark.bytes.items c.loop-mark.at c.loop-mark.invariant c.requires c.in-Some.mark c.in-Some.ensures)
+
+pub returns : goal.returns
+returns c = c.in_ok-extend_from_slice-2.ensures.items ∙ unescape_end c.args.unit.now c.loop-mark.bytes.items c.loop-mark.at c.loop-mark.invariant c.in_default.ensures

@@ -1,0 +1,32 @@
+-- Emulation prevention within a NAL unit (H.266 7.3.1.1, 7.4.2.1), by places in a finished list of bytes.
+use Rattle.std.specs.Prelude.{◌≡◌, ◌≢◌, ℕ, zero, suc, ◌+◌, ◌-◌, ◌<◌, ◌≤◌, ◌⊎◌, ◌&&◌, ◌==◌, nat_le, Bool, IsTrue, List, [], ◌∷◌, ◌++◌, length, slice_index, if◌then◌else◌}
+use Rattle.vx_annexb.specs.Places.{IsMark}
+
+-- an emulation_prevention_three_byte stands at place k: 03 behind 00 00
+abbrev pub is_emulation : List ℕ → ℕ → Bool
+is_emulation n k = nat_le 2 k && (slice_index n (k - 2) == 0 && (slice_index n (k - 1) == 0 && slice_index n k == 3))
+
+-- the byte at place k may not stand there: 00, 01 or 02 behind 00 00, or more than 03 behind 00 00 03 (7.4.2.1)
+abbrev pub BreaksRule : List ℕ → ℕ → Type 0
+BreaksRule n k =
+    ((2 ≤ k) × IsMark 2 n (k - 2))
+    ⊎ ((1 ≤ k) × (k < length n) × IsTrue (is_emulation n (k - 1)) × (3 < slice_index n k))
+
+-- n doesn't end in 00 (7.4.2.1)
+abbrev pub EndsInNoZero : List ℕ → Type 0
+EndsInNoZero n = (k : ℕ) → length n ≡ k + 1 → slice_index n k ≢ 0
+
+-- the first k bytes of n without their emulation bytes
+abbrev pub unescaped_to : List ℕ → ℕ → List ℕ
+unescaped_to n zero = []
+unescaped_to n (suc k) = if is_emulation n k then unescaped_to n k else unescaped_to n k ++ slice_index n k ∷ []
+
+-- n without its emulation bytes
+abbrev pub unescaped : List ℕ → List ℕ
+unescaped n = unescaped_to n (length n)
+
+-- n is r with its emulation bytes
+pub record IsEscaped (r n : List ℕ) : Type 0 where
+  pub rules : (k : ℕ) → ¬ BreaksRule n k
+  pub last : EndsInNoZero n
+  pub is : r ≡ unescaped n

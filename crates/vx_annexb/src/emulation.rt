@@ -1,0 +1,87 @@
+//! Emulation prevention: the 03 bytes that keep start codes out of a NAL unit (H.266 7.3.1.1, 7.4.2.1).
+ghost use Rattle.std.specs.Prelude.{◌≡◌, ℕ, ◌+◌, ◌≤◌, ◌<◌, length, IfOk, MatchOption};
+ghost use Rattle.vx_annexb.specs.Places.{IsFirstFrom};
+ghost use Rattle.vx_annexb.specs.Emulation.{is_emulation, BreaksRule, EndsInNoZero, unescaped_to, unescaped, IsEscaped};
+
+use crate::search::find_mark;
+use std::alloc::{AllocError, Global};
+
+// emulation_prevention_three_byte
+const EMULATION: u8 = 3;
+
+/// The place of the first byte that emulation prevention rules out: 00, 01 or 02 behind 00 00, or more than 03
+/// behind 00 00 03. It takes no memory.
+pub fn emulation_fault(unit: &[u8]) -> Option<usize>
+    ensures { MatchOption result ((k : ℕ) → ¬ BreaksRule unit.now k) (IsFirstFrom (BreaksRule unit.now) 0) }
+{
+    let mut at = 0;
+    while let Some(mark) = find_mark(unit, at, EMULATION) {
+        if unit[mark + 2] < EMULATION {
+            return Some(mark + 2);
+        }
+        at = mark + 3;
+        if at < unit.len() && unit[at] > EMULATION {
+            return Some(at);
+        }
+    }
+    None
+}
+
+/// A unit without its emulation bytes.
+pub fn unescape(alloc: Global, unit: &[u8]) -> Result<Vec<u8>, AllocError>
+    requires { (k : ℕ) → ¬ BreaksRule unit.now k }
+    ensures { IfOk result (λ bytes. bytes.items ≡ unescaped unit.now) }
+{
+    let mut bytes = Vec::with_capacity(alloc, unit.len())?;
+    let mut at = 0;
+    while let Some(mark) = find_mark(unit, at, EMULATION) {
+        bytes.extend_from_slice(&unit[at..mark + 2])?;
+        at = mark + 3;
+    }
+    bytes.extend_from_slice(&unit[at..])?;
+    Ok(bytes)
+}
+
+/// Bytes with the emulation bytes that they need, for bytes that don't end in 00.
+pub fn escape(alloc: Global, bytes: &[u8]) -> Result<Vec<u8>, AllocError>
+    requires { EndsInNoZero bytes.now }
+    ensures { IfOk result (λ unit. IsEscaped bytes.now unit.items) }
+{
+    let mut unit = Vec::with_capacity(alloc, bytes.len())?;
+    // The zeros at the end of `unit`.
+    let mut zeros = 0u8;
+    for byte in bytes {
+        if zeros == 2 && *byte <= EMULATION {
+            unit.push(EMULATION)?;
+            zeros = 0;
+        }
+        unit.push(*byte)?;
+        zeros = if *byte == 0 { zeros + 1 } else { 0 };
+    }
+    Ok(unit)
+}
+
+/// The place in a unit just behind its n-th byte that is no emulation byte. It takes no memory.
+pub fn unit_place(unit: &[u8], n: usize) -> usize
+    requires { n ≤ length (unescaped unit.now) }
+    ensures within { result ≤ length unit.now }
+    ensures first { IsFirstFrom (λ place. length (unescaped_to unit.now place) ≡ n) 0 result }
+{
+    let mut place = 0;
+    let mut left = n;
+    while left > 0 {
+        if !stands_emulation(unit, place) {
+            left -= 1;
+        }
+        place += 1;
+    }
+    place
+}
+
+// Whether the byte at a place is an emulation byte.
+fn stands_emulation(unit: &[u8], place: usize) -> bool
+    requires { place < length unit.now }
+    ensures { result ≡ is_emulation unit.now place }
+{
+    place >= 2 && unit[place - 2] == 0 && unit[place - 1] == 0 && unit[place] == EMULATION
+}
