@@ -11,10 +11,6 @@ use Rattle.vx_io.specs.Written.{AppendsFront}
 pub StartsWith-of_split : (piece front rest : List ℕ) → piece ≡ front ++ rest → StartsWith piece front
 StartsWith-of_split piece front rest e = ap (take (length front)) e ∙ take-append_seam front rest
 
--- a piece wholly written, and more to write
-pub AppendsFront-whole : (a b : Option (List ℕ)) (xs ys : List ℕ) → Appends a b xs → AppendsFront a b (xs ++ ys)
-AppendsFront-whole a b xs ys p = record { front = xs; of_piece = take-append_seam xs ys; gained = p }
-
 -- a front of the first piece is one of both
 pub AppendsFront-append : (a b : Option (List ℕ)) (xs ys : List ℕ) → AppendsFront a b xs → AppendsFront a b (xs ++ ys)
 AppendsFront-append a b xs ys p = record {

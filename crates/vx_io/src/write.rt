@@ -40,7 +40,6 @@ pub trait Sink {
 }
 
 /// Writes all of `piece`. It takes no memory.
-#[tactic(auto, using(crate::proofs::WrittenLemmas::underway_more))]
 pub fn write_all<K: Sink>(out: &mut K, piece: &[u8]) -> Result<(), SinkFailed>
     ensures ok { OnOk result (Appends (K.bytes_taken out.old) (K.bytes_taken out.new) piece.now) }
     // A failed write leaves the front of the piece written.

@@ -4,8 +4,9 @@ ghost use Rattle.std.specs.Io.KnownBytes.{Consumes, IsAtEnd};
 ghost use Rattle.vx_io.specs.Faults.{Rose};
 ghost use Rattle.vx_io.specs.Listed.{bytes_at, faults_at};
 
-use crate::{Source, SourceFailed, read_at};
-use std::alloc::{AllocError, Global};
+use crate::{ClosedSource, MemorySource, Source, read_at};
+use std::alloc::Global;
+use std::test::Fail;
 
 #[derive(Drop, Debug)]
 enum ReadError {
@@ -70,4 +71,21 @@ fn read_whole(
         }
     }
     Ok(kept)
+}
+
+#[test]
+fn reads_one_source_of_two(rt: HostRuntime) -> Result<(), Fail> {
+    let alloc = rt.alloc();
+    let bytes = Vec::from_slice(alloc, b"abcdefg")?;
+    let memory = MemorySource::new(bytes, Vec::new(alloc), Vec::new(alloc));
+    let mut sources: Vec<Box<dyn Source>> = Vec::new(alloc);
+    sources.push(Box::new(alloc, ClosedSource::new())?)?;
+    sources.push(Box::new(alloc, memory)?)?;
+    assert_eq!(rt; sources.len(), 2);
+    assert_eq!(rt;
+        read_whole(alloc, &mut sources, 1, 9)?.as_slice(),
+        b"abcdefg".as_slice()
+    );
+    assert!(rt; matches!(read_whole(alloc, &mut sources, 0, 9), Err(ReadError::Fault)));
+    Ok(())
 }
