@@ -1,28 +1,16 @@
 -- Lemmas on alignment: zeros, or a one and zeros, up to the byte boundary.
-use Rattle.std.proofs.Common.{◌≡◌, ◌≢◌, ℕ, ◌+◌, ◌-◌, ◌*◌, ◌%◌, ◌^◌, ◌≤◌, zero, suc, Bool, true, false, List, [], ◌∷◌, ◌++◌, length, take, drop, refl, sym, ◌∙◌, ap, arith}
+use Rattle.std.proofs.Common.{◌≡◌, ◌≢◌, ℕ, ◌+◌, ◌-◌, ◌%◌, ◌^◌, ◌≤◌, zero, suc, Bool, true, false, List, [], ◌∷◌, ◌++◌, length, take, drop, refl, sym, ◌∙◌, ap, arith}
 use Rattle.std.specs.Prelude.{replicate, Contains}
-use Rattle.std.proofs.lemmas.List.{append-nil, length-append, length-take-le, length-replicate, take-append-drop, take_at, drop_at, nil_from_length}
-use Rattle.vx_bits.specs.Codes.{number, bits_of, to_boundary, zeros_from, one_from, BeginsWith}
+use Rattle.std.proofs.lemmas.List.{append-nil, length-append, length-take-le, length-replicate, take-append-drop, take_at, nil_from_length}
+use Rattle.vx_bits.specs.Codes.{number, to_boundary, zeros_from, one_from, BeginsWith}
 use Rattle.vx_bits.specs.Place.{Place, Takes, taken}
-use Rattle.vx_bits.proofs.Bits.{left_length, fixed_of}
+use Rattle.vx_bits.proofs.Bits.{fixed_of}
 use Rattle.std.proofs.lemmas.Nat.{pow_pos}
 
 -- ---- the place
 
-pub taken_is : (at : ℕ) (bytes : List ℕ) → at ≤ 8 * length bytes → 8 * length bytes - length (drop at (bits_of bytes)) ≡ at
-taken_is at bytes within = rw (left_length at bytes) (omega arith)
-
-pub boundary_within : (at : ℕ) (bytes : List ℕ) → at ≤ 8 * length bytes → (8 - at % 8) % 8 ≤ length (drop at (bits_of bytes))
-boundary_within at bytes within = rw (left_length at bytes) (omega arith)
-
 pub stop_is : (at : ℕ) → 8 - at % 8 ≡ length (one_from at)
 stop_is at = rw (length-replicate (to_boundary (at + 1)) false) (omega arith)
-
-pub stop_within : (at : ℕ) (bytes : List ℕ) → at ≤ 8 * length bytes → drop at (bits_of bytes) ≢ [] → 8 - at % 8 ≤ length (drop at (bits_of bytes))
-stop_within at bytes within more =
-    let some : length (drop at (bits_of bytes)) ≢ 0 = λ e. more (nil_from_length (drop at (bits_of bytes)) e) in
-    let size : length (drop at (bits_of bytes)) ≡ 8 * length bytes - at = left_length at bytes in
-    omega arith
 
 -- ---- numbers of zeros
 
@@ -90,11 +78,6 @@ stop_others count old is word (rest, e) =
     let less : count - 1 ≡ k = omega arith in
     let front : take count old.left ≡ one_from (taken old) = ap (take count) e ∙ take_at (one_from (taken old)) rest count (sym is) in
     word (rw (front, less) (number-stop k))
-
-pub takes_code : (code : List Bool) (n : ℕ) (old new : Place) → n ≡ length code → BeginsWith old.left code → new.left ≡ drop n old.left → new.total ≡ old.total → Takes code old new
-takes_code code n old new is (rest, e) behind total =
-    let left : new.left ≡ rest = behind ∙ ap (drop n) e ∙ drop_at code rest n (sym is) in
-    record { left = rw left e; total = total }
 
 -- bits as long as the code with which they begin are that code
 pub whole_code : (code bits : List Bool) → BeginsWith bits code → length bits ≡ length code → bits ≡ code

@@ -1,9 +1,9 @@
 -- Lemmas on bits: numbers and their bits, the bits of bytes.
-use Rattle.std.proofs.Common.{◌≡◌, ℕ, ◌+◌, ◌-◌, ◌*◌, ◌/◌, ◌%◌, ◌^◌, ◌<◌, ◌≤◌, zero, suc, Bool, true, false, cond, List, [], ◌∷◌, ◌++◌, length, take, drop, get_or, refl, sym, ◌∙◌, ap, arith, add-one, inl, inr}
+use Rattle.std.proofs.Common.{◌≡◌, ℕ, ◌+◌, ◌-◌, ◌*◌, ◌/◌, ◌%◌, ◌^◌, ◌<◌, ◌≤◌, zero, suc, Bool, true, false, cond, List, [], ◌∷◌, ◌++◌, length, take, drop, refl, sym, ◌∙◌, ap, arith, add-one, inl, inr}
 use Rattle.std.specs.Prelude.{nat_le}
 use Rattle.std.proofs.Math.Nat.{pow-le-pow_right}
 use Rattle.std.proofs.lemmas.Nat.{pow-add, div-mul-add, mod-mul-add}
-use Rattle.std.proofs.lemmas.List.{append-nil, append_assoc, length-append, length-take-le, length-drop, take-append-drop, take-take, drop-drop, drop-take, take_at, drop_at, take_more}
+use Rattle.std.proofs.lemmas.List.{append_assoc, length-append, length-take-le, length-drop, take-append-drop, take_at, drop_at}
 use Rattle.std.proofs.lemmas.Bool.Decides.{leb_tells}
 use Rattle.vx_bits.specs.Codes.{number, fixed, bits_of}
 use Rattle.vx_bits.specs.Place.{Place, Takes}
@@ -104,12 +104,6 @@ number-drop n m xs e =
     let low : number (drop n xs) < 2 ^ m = rw (← back) (number-below (drop n xs)) in
     rw split (sym (mod-mul-add (number (take n xs)) (2 ^ m) (number (drop n xs)) low))
 
--- n bits from a place on, of the number of all
-pub number-part : (off n m : ℕ) (xs : List Bool) → length xs ≡ off + n + m → number (take n (drop off xs)) ≡ number xs / 2 ^ m % 2 ^ n
-number-part off n m xs e =
-    let front : length (take (off + n) xs) ≡ off + n = length-take-le (off + n) xs (omega arith) in
-    rw (← drop-take off n xs, number-drop off n (take (off + n) xs) front, number-take (off + n) m xs e) refl
-
 -- ---- the bits of bytes
 
 pub length-bits_of : (bytes : List ℕ) → length (bits_of bytes) ≡ 8 * length bytes
@@ -119,55 +113,6 @@ length-bits_of (b ∷ bytes) = rw (length-append (fixed 8 b) (bits_of bytes), le
 pub bits_of-append : (xs ys : List ℕ) → bits_of (xs ++ ys) ≡ bits_of xs ++ bits_of ys
 bits_of-append [] ys = refl
 bits_of-append (x ∷ xs) ys = rw (bits_of-append xs ys) (sym (append_assoc (fixed 8 x) (bits_of xs) (bits_of ys)))
-
--- the bits of the bytes from i up to i + k
-pub bits_of-part : (i k : ℕ) (bytes : List ℕ) → i + k ≤ length bytes → bits_of (take k (drop i bytes)) ≡ take (8 * k) (drop (8 * i) (bits_of bytes))
-bits_of-part i k bytes h =
-    let whole : bits_of bytes ≡ bits_of (take i bytes) ++ (bits_of (take k (drop i bytes)) ++ bits_of (drop k (drop i bytes)))
-    = rw (← bits_of-append, take-append-drop k (drop i bytes), ← bits_of-append, take-append-drop i bytes) refl in
-    let front : length (bits_of (take i bytes)) ≡ 8 * i = rw (length-bits_of (take i bytes), length-take-le i bytes (omega arith)) refl in
-    let part : length (bits_of (take k (drop i bytes))) ≡ 8 * k = rw (length-bits_of (take k (drop i bytes)), length-take-le k (drop i bytes) (omega (arith, length-drop i bytes))) refl in
-    rw (whole, drop_at (bits_of (take i bytes)) (bits_of (take k (drop i bytes)) ++ bits_of (drop k (drop i bytes))) (8 * i) front)
-    (sym (take_at (bits_of (take k (drop i bytes))) (bits_of (drop k (drop i bytes))) (8 * k) part))
-
--- ---- the bits left behind a place
-
-pub left_length : (at : ℕ) (bytes : List ℕ) → length (drop at (bits_of bytes)) ≡ 8 * length bytes - at
-left_length at bytes = rw (length-drop at (bits_of bytes), length-bits_of bytes) refl
-
--- ---- a word of bytes
-
-pub word_below : (bytes : List ℕ) (i word : ℕ) → word ≡ number (bits_of (take i bytes)) → i < length bytes → length bytes ≤ 8 → word < 2 ^ 56
-word_below bytes i word is within room =
-    let size : length (bits_of (take i bytes)) ≡ 8 * i = rw (length-bits_of (take i bytes), length-take-le i bytes (omega arith)) refl in
-    let low : word < 2 ^ (8 * i) = rw (is, ← size) (number-below (bits_of (take i bytes))) in
-    omega (arith, pow_le (8 * i) 56 (omega arith))
-
-pub word_grows : (bytes : List ℕ) (i word byte : ℕ) → word ≡ number (bits_of (take i bytes)) → i < length bytes → byte ≡ get_or bytes i 0 → byte < 256 → word * 256 + byte ≡ number (bits_of (take (i + 1) bytes))
-word_grows bytes i word byte is within here below =
-    rw (take_more bytes i 0 within, ← here, bits_of-append (take i bytes) (byte ∷ []), append-nil (fixed 8 byte), number-append (bits_of (take i bytes)) (fixed 8 byte), length-fixed 8 byte, number-fixed 8 byte below, ← is) refl
-
--- some bits of the word of the bytes in which they lie
-pub bits_in_word : (bytes : List ℕ) (at count first last word : ℕ) → first ≡ at / 8 → last ≡ (at + count + 7) / 8 → at + count ≤ 8 * length bytes → word ≡ number (bits_of (take (last - first) (drop first bytes))) → word / 2 ^ (8 * last - at - count) % 2 ^ count ≡ number (take count (drop at (bits_of bytes)))
-bits_in_word bytes at count first last word from to within is =
-    let behind : ℕ = 8 * last - at - count in
-    let off : ℕ = at - 8 * first in
-    let part : bits_of (take (last - first) (drop first bytes)) ≡ take (8 * (last - first)) (drop (8 * first) (bits_of bytes))
-    = bits_of-part first (last - first) bytes (omega arith) in
-    let size : length (take (8 * (last - first)) (drop (8 * first) (bits_of bytes))) ≡ off + count + behind
-    = rw (length-take-le (8 * (last - first)) (drop (8 * first) (bits_of bytes)) (omega (arith, left_length (8 * first) bytes))) (omega arith) in
-    let whole : 8 * (last - first) ≡ off + (count + behind) = omega arith in
-    let place : 8 * first + off ≡ at = omega arith in
-    rw (
-      is,
-      part,
-      ← number-part off count behind (take (8 * (last - first)) (drop (8 * first) (bits_of bytes))) size,
-      whole,
-      drop-take off (count + behind) (drop (8 * first) (bits_of bytes)),
-      take-take count (count + behind) (drop off (drop (8 * first) (bits_of bytes))) (omega arith),
-      drop-drop off (8 * first) (bits_of bytes),
-      place,
-    ) refl
 
 pub shifted_one : (count : ℕ) → count < 64 → 1 * 2 ^ count % 2 ^ 64 ≡ 2 ^ count
 shifted_one count h = omega (arith, pow_le count 63 (omega arith))

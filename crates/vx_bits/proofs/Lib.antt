@@ -2,3 +2,4 @@ pub mod Alignment
 pub mod Appending
 pub mod Bits
 pub mod Golomb
+pub mod Windows

@@ -1,16 +1,16 @@
 -- The codes of H.266 as lists of bits: u(n) of clause 7.2, ue(v) and se(v) of clause 9.2.
 -- A one is `true`, and the bit that is read first stands first.
-use Rattle.std.specs.Prelude.{◌≡◌, ℕ, ◌+◌, ◌-◌, ◌*◌, ◌%◌, ◌^◌, ◌<◌, zero, suc, ℤ, pos, negsuc, Bool, true, false, cond, nat_le, List, [], ◌∷◌, ◌++◌, length, replicate}
+use Rattle.std.specs.Prelude.{◌≡◌, ℕ, ◌+◌, ◌-◌, ◌*◌, ◌%◌, ◌^◌, ◌<◌, zero, suc, ℤ, pos, negsuc, Bool, true, false, if◌then◌else◌, nat_le, List, [], ◌∷◌, ◌++◌, length, replicate}
 
 -- the number of which these bits are the binary representation, highest first
 abbrev pub number : List Bool → ℕ
 number [] = 0
-number (b ∷ bits) = cond b (2 ^ length bits) 0 + number bits
+number (b ∷ bits) = (if b then 2 ^ length bits else 0) + number bits
 
 -- u(n): the n bits of v, highest first; v is below 2^n (clause 7.2)
 unfoldable pub fixed : ℕ → ℕ → List Bool
 fixed zero v = []
-fixed (suc n) v = cond (nat_le (2 ^ n) v) (true ∷ fixed n (v - 2 ^ n)) (false ∷ fixed n v)
+fixed (suc n) v = if nat_le (2 ^ n) v then true ∷ fixed n (v - 2 ^ n) else false ∷ fixed n v
 
 -- the bits of bytes: eight a byte, highest first (clause 7.2)
 abbrev pub bits_of : List ℕ → List Bool
@@ -20,7 +20,7 @@ bits_of (byte ∷ bytes) = fixed 8 byte ++ bits_of bytes
 -- the greatest k up to the limit for which 2^k is at most n
 unfoldable pub magnitude : ℕ → ℕ → ℕ
 magnitude zero n = 0
-magnitude (suc k) n = cond (nat_le (2 ^ suc k) n) (suc k) (magnitude k n)
+magnitude (suc k) n = if nat_le (2 ^ suc k) n then suc k else magnitude k n
 
 -- the number of zeros before the first one of the code of v: 2^k ≤ v + 1 < 2^(k + 1)
 unfoldable pub leading_zeros : ℕ → ℕ
@@ -30,17 +30,17 @@ leading_zeros v = magnitude 31 (v + 1)
 abbrev pub IsCodeNumber : ℕ → Type 0
 IsCodeNumber v = v + 1 < 2 ^ 32
 
--- ue(v): k zeros, and then the k + 1 bits of v + 1 (clause 9.2.2)
+-- ue(v): k zeros, and then the k + 1 bits of v + 1 (clause 9.2)
 unfoldable pub exp_golomb : ℕ → List Bool
 exp_golomb v = replicate (leading_zeros v) false ++ fixed (leading_zeros v + 1) (v + 1)
 
--- the number for which se(v) has the code of ue(v): 1, -1, 2, -2 .. have 1, 2, 3, 4 .. (clause 9.2.3)
+-- the number for which se(v) has the code of ue(v): 1, -1, 2, -2 .. have 1, 2, 3, 4 .. (clause 9.2)
 abbrev pub code_number : ℤ → ℕ
 code_number (pos zero) = 0
 code_number (pos (suc n)) = 2 * n + 1
 code_number (negsuc n) = 2 * n + 2
 
--- se(v) (clause 9.2.3)
+-- se(v) (clause 9.2)
 abbrev pub signed_exp_golomb : ℤ → List Bool
 signed_exp_golomb v = exp_golomb (code_number v)
 
@@ -52,7 +52,7 @@ to_boundary place = (8 - place % 8) % 8
 abbrev pub zeros_from : ℕ → List Bool
 zeros_from place = replicate (to_boundary place) false
 
--- a one, and zeros up to the byte boundary: byte_alignment() and rbsp_trailing_bits() (clauses 7.3.2.17 and 7.3.2.18)
+-- a one, and zeros up to the byte boundary: byte_alignment() and rbsp_trailing_bits() (clause 7.3.2)
 abbrev pub one_from : ℕ → List Bool
 one_from place = true ∷ zeros_from (place + 1)
 

@@ -1,6 +1,6 @@
 -- What the codes promise: a code is read back as its number, whatever follows it.
-use Rattle.std.specs.Prelude.{◌≡◌, ℕ, ◌^◌, ◌<◌, ℤ, Bool, List, ◌++◌, ◌⊎◌, length}
-use Rattle.vx_bits.specs.Codes.{number, fixed, code_number, BeginsWithCode, EndsWithinCode, BeginsTooLong}
+use Rattle.std.specs.Prelude.{◌≡◌, ℕ, ◌^◌, ◌<◌, Bool, List, ◌++◌, ◌⊎◌, length}
+use Rattle.vx_bits.specs.Codes.{number, fixed, BeginsWithCode, EndsWithinCode, BeginsTooLong}
 
 -- bits that begin with a code tell its number and what follows it; so no code is a proper prefix of another
 abbrev pub TellsApart : {A : Type 0} → (A → Type 0) → (A → List Bool) → Type 0
@@ -24,7 +24,3 @@ BeginsInOneWay =
     → (BeginsWithCode bits → EndsWithinCode bits → ⊥)
     × (BeginsWithCode bits → BeginsTooLong bits → ⊥)
     × (EndsWithinCode bits → BeginsTooLong bits → ⊥)
-
--- each number of a code is that of one signed number
-abbrev pub SignsOnce : Type 0
-SignsOnce = (v w : ℤ) → code_number v ≡ code_number w → v ≡ w

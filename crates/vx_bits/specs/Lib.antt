@@ -2,3 +2,4 @@ pub mod Codes
 pub mod Fields
 pub mod Laws
 pub mod Place
+pub mod Window

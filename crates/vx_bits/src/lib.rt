@@ -12,6 +12,7 @@ mod reader;
 mod refusal;
 #[cfg(test)]
 mod tests;
+mod window;
 mod writer;
 
 pub use laws::{

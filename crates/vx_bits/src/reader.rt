@@ -2,35 +2,11 @@
 ghost use Rattle.std.specs.Prelude.{◌≡◌, ◌≢◌, ◌↔◌, ◌⊎◌, ℕ, ◌+◌, ◌-◌, ◌*◌, ◌/◌, ◌%◌, ◌^◌, ◌<◌, ◌≤◌, Bool, true, List, [], ◌++◌, length, take, drop, min, Contains, MatchOption, IfOk, IfErr, OnOk, OnErr, IsErrOf};
 ghost use Rattle.vx_bits.specs.Codes.{number, fixed, exp_golomb, signed_exp_golomb, code_number, bits_of, to_boundary, zeros_from, one_from, IsCodeNumber, BeginsWith, EndsWithinCode, BeginsTooLong, zeros_in_front};
 ghost use Rattle.vx_bits.specs.Place.{Place, Takes, taken};
+ghost use Rattle.vx_bits.specs.Window.{bits_ahead, IsWindow};
 
 use crate::refusal::BitCause;
+use crate::window::{Window, filled};
 use std::marker::Model;
-
-/// The number of which the bits of up to eight bytes are the binary representation.
-fn gather(bytes: &[u8]) -> u64
-    requires { length bytes.now ≤ 8 }
-    ensures { result ≡ number (bits_of bytes.now) }
-{
-    let mut word = 0;
-    for byte in bytes {
-        word = word * 256 + u64::from(*byte);
-    }
-    word
-}
-
-/// The number of which `count` bits from `at` on are the binary representation.
-fn bits_at(bytes: &[u8], at: u32, count: u32) -> u64
-    requires length { length bytes.now ≤ 2 ^ 23 }
-    requires within { at + count ≤ 8 * length bytes.now }
-    requires count { count ≤ 32 }
-    ensures { result ≡ number (take count (drop at (bits_of bytes.now))) }
-{
-    let first = at / 8;
-    let last = (at + count + 7) / 8;
-    let word = gather(&bytes[first as usize..last as usize]);
-    let behind = 8 * last - at - count;
-    (word >> behind) % (1 << count)
-}
 
 /// Bits that are taken from the front of bytes, the highest of each byte first.
 ///
@@ -39,15 +15,15 @@ fn bits_at(bytes: &[u8], at: u32, count: u32) -> u64
 #[derive(Drop)]
 pub struct BitReader<'a> {
     bytes: &'a [u8],
-    at: u32,
+    window: Window,
 }
 
 impl<'a> Model for BitReader<'a> {
     ghost Value = { Place };
 
-    ghost view = { λ r. record { total = 8 * length r.bytes.now; left = drop r.at (bits_of r.bytes.now) } };
+    ghost view = { λ r. record { total = 8 * length r.bytes.now; left = bits_ahead r.bytes.now r.window } };
 
-    ghost invariant = { λ r. (length r.bytes.now ≤ 2 ^ 23) × (r.at ≤ 8 * length r.bytes.now) };
+    ghost invariant = { λ r. (length r.bytes.now ≤ 2 ^ 23) × IsWindow r.bytes.now r.window };
 }
 
 impl<'a> BitReader<'a> {
@@ -57,44 +33,58 @@ impl<'a> BitReader<'a> {
         ensures total { result.total ≡ 8 * length bytes.now }
         ensures left { result.left ≡ bits_of bytes.now }
     {
-        BitReader { bytes, at: 0 }
+        BitReader {
+            bytes,
+            window: Window {
+                word: 0,
+                held: 0,
+                next: 0,
+            },
+        }
     }
 
     /// The number of bits taken.
-    #[tactic(auto, using(crate::proofs::Bits::left_length))]
     pub fn at(&self) -> u32
         ensures taken { result ≡ taken self.now }
         ensures within { result + length self.now.left ≡ self.now.total }
     {
-        self.at
+        8 * self.window.next - self.window.held
     }
 
     /// The number of bits left.
-    #[tactic(auto, using(crate::proofs::Bits::left_length))]
     fn left(&self) -> u32
         ensures { result ≡ length self.now.left }
     {
-        8 * self.bytes.len() as u32 - self.at
+        8 * (self.bytes.len() as u32 - self.window.next) + self.window.held
     }
 
     /// The number of which the next `count` bits are the binary representation.
-    #[tactic(auto, using(crate::proofs::Bits::left_length))]
-    fn peek(&self, count: u32) -> u64
+    fn next_bits(&mut self, count: u32) -> u64
         requires count { count ≤ 32 }
-        requires within { count ≤ length self.now.left }
-        ensures { result ≡ number (take count self.now.left) }
+        requires within { count ≤ length self.old.left }
+        ensures value { result ≡ number (take count self.old.left) }
+        ensures same { self.new ≡ self.old }
     {
-        bits_at(self.bytes, self.at, count)
+        self.window = filled(self.bytes, self.window, count);
+        self.window.word >> (self.window.held - count)
     }
 
-    /// Goes on behind the next `count` bits.
-    #[tactic(auto, using(crate::proofs::Bits::left_length))]
-    fn skip(&mut self, count: u32)
-        requires { count ≤ length self.old.left }
+    /// Takes the next `count` bits, and gives the number of which they are the binary representation.
+    fn read_bits(&mut self, count: u32) -> u64
+        requires count { count ≤ 32 }
+        requires within { count ≤ length self.old.left }
+        ensures value { result ≡ number (take count self.old.left) }
         ensures left { self.new.left ≡ drop count self.old.left }
         ensures total { self.new.total ≡ self.old.total }
     {
-        self.at += count;
+        let Window { word, held, next } = filled(self.bytes, self.window, count);
+        let held = held - count;
+        self.window = Window {
+            word: word % (1 << held),
+            held,
+            next,
+        };
+        word >> held
     }
 
     /// Takes u(n), the next n bits, of which there are at most 32.
@@ -112,17 +102,16 @@ impl<'a> BitReader<'a> {
         if self.left() < n {
             return Err(BitCause::Short);
         }
-        let value = self.peek(n);
-        self.skip(n);
-        Ok(value)
+        Ok(self.read_bits(n))
     }
 
     /// The number of zeros that come next, of which at most 32 are counted.
-    fn zeros(&self) -> u32
-        ensures { result ≡ zeros_in_front (take 32 self.now.left) }
+    fn zeros(&mut self) -> u32
+        ensures value { result ≡ zeros_in_front (take 32 self.old.left) }
+        ensures same { self.new ≡ self.old }
     {
         let window = self.left().min(32);
-        self.peek(window).leading_zeros() - (64 - window)
+        self.next_bits(window).leading_zeros() - (64 - window)
     }
 
     /// Takes ue(v), H.266 clause 9.2.
@@ -137,16 +126,16 @@ impl<'a> BitReader<'a> {
         ensures cause { IfErr result (λ cause. (cause ≡ BitCause.Short) ⊎ (cause ≡ BitCause.LongCode)) }
         ensures unchanged { OnErr result (self.new ≡ self.old) }
     {
+        let left = self.left();
         let zeros = self.zeros();
         if zeros == 32 {
             return Err(BitCause::LongCode);
         }
-        if self.left() < 2 * zeros + 1 {
+        if left < 2 * zeros + 1 {
             return Err(BitCause::Short);
         }
-        self.skip(zeros);
-        let code = self.peek(zeros + 1);
-        self.skip(zeros + 1);
+        self.read_bits(zeros);
+        let code = self.read_bits(zeros + 1);
         Ok((code - 1) as u32)
     }
 
@@ -172,7 +161,7 @@ impl<'a> BitReader<'a> {
         ensures within { result ≤ length self.now.left }
         ensures few { result < 8 }
     {
-        (8 - self.at % 8) % 8
+        self.window.held % 8
     }
 
     /// Takes zeros up to the byte boundary.
@@ -188,10 +177,10 @@ impl<'a> BitReader<'a> {
         ensures unchanged { OnErr result (self.new ≡ self.old) }
     {
         let count = self.to_next_byte();
-        if self.peek(count) != 0 {
+        if self.next_bits(count) != 0 {
             return Err(BitCause::BadAlignment);
         }
-        self.skip(count);
+        self.read_bits(count);
         Ok(())
     }
 
@@ -201,16 +190,17 @@ impl<'a> BitReader<'a> {
         ensures within { self.now.left ≢ [] → result ≤ length self.now.left }
         ensures few { (0 < result) × (result ≤ 8) }
     {
-        8 - self.at % 8
+        (self.window.held + 7) % 8 + 1
     }
 
     /// The length of a one and zeros up to the byte boundary, where these come next.
-    fn stop_length(&self) -> Option<u32>
-        requires { self.now.left ≢ [] }
-        ensures { MatchOption result (¬ BeginsWith self.now.left (one_from (taken self.now))) (λ n. (n ≡ length (one_from (taken self.now))) × BeginsWith self.now.left (one_from (taken self.now))) }
+    fn stop_length(&mut self) -> Option<u32>
+        requires { self.old.left ≢ [] }
+        ensures value { MatchOption result (¬ BeginsWith self.old.left (one_from (taken self.old))) (λ n. (n ≡ length (one_from (taken self.old))) × BeginsWith self.old.left (one_from (taken self.old))) }
+        ensures same { self.new ≡ self.old }
     {
         let count = self.past_next_one();
-        if self.peek(count) == 1 << (count - 1) {
+        if self.next_bits(count) == 1 << (count - 1) {
             Some(count)
         } else {
             None
@@ -235,7 +225,7 @@ impl<'a> BitReader<'a> {
         let Some(count) = self.stop_length() else {
             return Err(BitCause::BadAlignment);
         };
-        self.skip(count);
+        self.read_bits(count);
         Ok(())
     }
 
@@ -261,12 +251,12 @@ impl<'a> BitReader<'a> {
         if self.left() != count {
             return Err(BitCause::BadTrailing);
         }
-        self.skip(count);
+        self.read_bits(count);
         Ok(())
     }
 }
 
-/// The number for which se(v) has the code of ue(code), H.266 clause 9.2.3.
+/// The number for which se(v) has the code of ue(code), H.266 clause 9.2.
 fn signed(code: u32) -> i32
     requires { IsCodeNumber code }
     ensures { code_number result ≡ code }

@@ -148,7 +148,7 @@ impl BitWriter {
     }
 }
 
-/// The number for which ue(v) has the code of se(value), H.266 clause 9.2.3.
+/// The number for which ue(v) has the code of se(value), H.266 clause 9.2.
 fn unsigned(value: i32) -> u32
     requires { IsCodeNumber (code_number value) }
     ensures { result ≡ code_number value }
