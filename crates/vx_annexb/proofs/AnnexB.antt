@@ -1,6 +1,6 @@
 -- The places of a byte stream are those of Annex B's concatenation, in both directions.
-use Rattle.std.proofs.Common.{◌≡◌, ℕ, zero, suc, ◌+◌, ◌-◌, ◌<◌, ◌≤◌, inl, inr, true, List, [], ◌∷◌, ◌++◌, length, take, drop, replicate, slice_index, slice_range, flat_map, sym, ap, ap₂, subst, ◌∙◌, arith, refl, ⊎_elim, append_assoc, length-append, length-drop, get_or-drop, get_or-take}
-use Rattle.std.proofs.lemmas.List.{length-replicate, get_or-replicate, get_or_append_left, get_or-append-add, take-append-drop, drop-drop, drop_more, drop_all, take_at, drop_at, length-take-le}
+use Rattle.std.proofs.Common.{◌≡◌, ℕ, zero, suc, ◌+◌, ◌-◌, ◌<◌, ◌≤◌, inl, inr, true, List, [], ◌∷◌, ◌++◌, length, take, drop, replicate, slice_index, slice_range, flat_map, sym, ap, ap₂, subst, ◌∙◌, arith, refl, ⊎_elim, append_assoc, length-append}
+use Rattle.std.proofs.lemmas.List.{length-replicate, get_or-replicate, get_or_append_left, get_or-append-add, take-append-drop, drop-drop, drop_more, drop_all, take_at, drop_at}
 use Rattle.std.proofs.lemmas.Bool.{cases_lt}
 use Rattle.vx_annexb.proofs.Places.{length-slice, index-slice}
 use Rattle.vx_annexb.specs.Places.{AreZeros, IsMark}

@@ -1,9 +1,9 @@
 -- Emulation bytes at places of a list, and the searches for them.
-use Rattle.std.proofs.Common.{◌≡◌, ◌≢◌, ℕ, zero, suc, ◌+◌, ◌-◌, ◌<◌, ◌≤◌, ◌⊎◌, inl, inr, Bool, true, false, IsTrue, if◌then◌else◌, List, [], ◌∷◌, ◌++◌, length, take, drop, slice_index, slice_range, sym, ap, ap₂, subst, ◌∙◌, arith, refl, ⊎_elim, add-one, append_assoc, length-append, length-drop, get_or-drop}
-use Rattle.std.proofs.lemmas.Bool.{cases_lt, cases_eq, cases_Bool, and_parts, and_from, leb-true, le-leb, eqb-true, eq-eqb, false_from_ne_true, false≢true, true≢false}
-use Rattle.std.proofs.lemmas.List.{get_or_past, take_more, append-nil, take_rest}
-use Rattle.vx_annexb.specs.Places.{IsMark, IsFirstFrom}
-use Rattle.vx_annexb.specs.Emulation.{is_emulation, BreaksRule, EndsInNoZero, unescaped_to, unescaped, IsEscaped}
+use Rattle.std.proofs.Common.{◌≡◌, ℕ, zero, suc, ◌+◌, ◌-◌, ◌<◌, ◌≤◌, inl, inr, true, false, List, [], ◌∷◌, ◌++◌, length, take, drop, slice_index, sym, ap, ◌∙◌, arith, refl, ⊎_elim, add-one, append_assoc, length-drop, get_or-drop}
+use Rattle.std.proofs.lemmas.Bool.{cases_lt, and_parts, and_from, leb-true, le-leb, eqb-true, eq-eqb, false_from_ne_true, false≢true}
+use Rattle.std.proofs.lemmas.List.{get_or_past, take_more, append-nil}
+use Rattle.vx_annexb.specs.Places.{IsMark}
+use Rattle.vx_annexb.specs.Emulation.{is_emulation, BreaksRule, unescaped_to}
 
 -- an emulation byte, part by part
 pub record EmulationAt (n : List ℕ) (k : ℕ) : Type 0 where

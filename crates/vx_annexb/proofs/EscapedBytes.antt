@@ -1,12 +1,11 @@
 -- Bytes that grow, with emulation bytes where they are needed.
-use Rattle.std.proofs.Common.{◌≡◌, ◌≢◌, ℕ, zero, suc, ◌+◌, ◌-◌, ◌<◌, ◌≤◌, ◌⊎◌, inl, inr, Bool, true, false, IsTrue, List, [], ◌∷◌, ◌++◌, length, take, drop, slice_index, sym, ap, subst, ◌∙◌, arith, refl, ⊎_elim, add-one, length-append}
-use Rattle.std.proofs.lemmas.Bool.{cases_lt, cases_eq, false_from_ne_true, false≢true, true≢false}
+use Rattle.std.proofs.Common.{◌≡◌, ℕ, zero, suc, ◌+◌, ◌-◌, ◌<◌, ◌≤◌, ◌⊎◌, inl, inr, true, false, List, [], ◌∷◌, ◌++◌, length, take, slice_index, sym, ap, subst, ◌∙◌, arith, refl, ⊎_elim}
+use Rattle.std.proofs.lemmas.Bool.{cases_lt, cases_eq, false_from_ne_true, false≢true}
 use Rattle.std.proofs.lemmas.List.{get_or_append_left, get_or_push, length_push, take_more, take_all}
-use Rattle.vx_annexb.specs.Places.{IsMark}
 use Rattle.vx_annexb.specs.Emulation.{is_emulation, BreaksRule, EndsInNoZero, unescaped_to, unescaped, IsEscaped}
 use Rattle.vx_annexb.specs.Laws.{EscapedExists}
 use Rattle.vx_annexb.proofs.Places.{mark_before}
-use Rattle.vx_annexb.proofs.EmulationBytes.{EmulationAt, emulation_is, emulation_from, same_emulation, same_unescaped, unescaped_skip, unescaped_keep}
+use Rattle.vx_annexb.proofs.EmulationBytes.{emulation_is, emulation_from, same_emulation, same_unescaped, unescaped_skip, unescaped_keep}
 
 -- z zeros stand at the end of n, and no more
 pub record EndsInZeros (n : List ℕ) (z : ℕ) : Type 0 where

@@ -1,10 +1,9 @@
 -- The search for the first byte that emulation prevention rules out, and the unit without its emulation bytes.
-use Rattle.std.proofs.Common.{◌≡◌, ◌≢◌, ℕ, zero, suc, ◌+◌, ◌-◌, ◌<◌, ◌≤◌, ◌⊎◌, inl, inr, Bool, true, false, IsTrue, List, [], ◌∷◌, ◌++◌, length, take, drop, slice_index, slice_range, sym, ap, ap₂, subst, ◌∙◌, arith, refl, ⊎_elim, add-one, length-drop}
-use Rattle.std.proofs.lemmas.Bool.{cases_lt, cases_eq, false≢true}
-use Rattle.std.proofs.lemmas.List.{take_rest}
+use Rattle.std.proofs.Common.{◌≡◌, ℕ, ◌+◌, ◌-◌, ◌<◌, ◌≤◌, inl, inr, true, List, [], ◌++◌, length, slice_index, slice_range, sym, ap, subst, ◌∙◌, arith, refl, ⊎_elim}
+use Rattle.std.proofs.lemmas.Bool.{cases_lt}
 use Rattle.vx_annexb.specs.Places.{IsMark, IsFirstFrom}
 use Rattle.vx_annexb.specs.Emulation.{is_emulation, BreaksRule, unescaped_to, unescaped}
-use Rattle.vx_annexb.proofs.EmulationBytes.{EmulationAt, emulation_is, emulation_from, emulation_mark, no_emulation, no_break, unescaped_run, unescaped_skip}
+use Rattle.vx_annexb.proofs.EmulationBytes.{emulation_is, emulation_from, no_emulation, no_break, unescaped_run, unescaped_skip}
 
 -- up to this place no byte breaks a rule, and none of what is searched from there on begins before
 pub record IsClear (n : List ℕ) (at : ℕ) : Type 0 where

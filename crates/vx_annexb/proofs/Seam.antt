@@ -1,12 +1,11 @@
 -- The escaped form of bytes is one, and goes on behind a byte that is no zero as it would begin.
-use Rattle.std.proofs.Common.{◌≡◌, ◌≢◌, ℕ, zero, suc, ◌+◌, ◌-◌, ◌<◌, ◌≤◌, ◌⊎◌, inl, inr, Bool, true, false, IsTrue, List, [], ◌∷◌, ◌++◌, length, take, drop, slice_index, sym, ap, subst, ◌∙◌, arith, refl, ⊎_elim, add-one, append_assoc, length-append, length-drop, get_or-drop, get_or-take}
-use Rattle.std.proofs.lemmas.Bool.{cases_lt, cases_eq, cases_Bool, cases_order, false_from_ne_true, true_from_ne_false, false≢true, true≢false}
-use Rattle.std.proofs.lemmas.List.{get_or_append_left, get_or_push, get_or-append-add, length_push, take-append-drop, take_at, append_cancel_left, append-nil, length-take-le, ext_get_or}
-use Rattle.vx_annexb.specs.Places.{IsMark}
-use Rattle.vx_annexb.specs.Emulation.{is_emulation, BreaksRule, EndsInNoZero, unescaped_to, unescaped, IsEscaped}
+use Rattle.std.proofs.Common.{◌≡◌, ℕ, zero, suc, ◌+◌, ◌-◌, ◌<◌, ◌≤◌, inl, inr, true, false, List, [], ◌∷◌, ◌++◌, length, take, drop, slice_index, sym, ap, subst, ◌∙◌, arith, refl, ⊎_elim, add-one, append_assoc, length-append, length-drop, get_or-drop, get_or-take}
+use Rattle.std.proofs.lemmas.Bool.{cases_lt, cases_eq, cases_Bool, cases_order, false_from_ne_true, false≢true}
+use Rattle.std.proofs.lemmas.List.{get_or_push, get_or-append-add, length_push, take-append-drop, take_at, append_cancel_left, append-nil, length-take-le, ext_get_or}
+use Rattle.vx_annexb.specs.Emulation.{is_emulation, BreaksRule, unescaped_to, unescaped, IsEscaped}
 use Rattle.vx_annexb.specs.Laws.{EscapedIsUnique, EscapedHasSeam}
 use Rattle.vx_annexb.proofs.Places.{mark_on, mark_stream}
-use Rattle.vx_annexb.proofs.EmulationBytes.{EmulationAt, emulation_is, emulation_from, within_from, same_emulation, same_unescaped, unescaped_skip, unescaped_keep}
+use Rattle.vx_annexb.proofs.EmulationBytes.{emulation_is, emulation_from, same_emulation, same_unescaped, unescaped_skip, unescaped_keep}
 
 -- what was unescaped stays at the front
 unescaped_more : (n : List ℕ) (k d : ℕ) → (tail : List ℕ) × (unescaped_to n (k + d) ≡ unescaped_to n k ++ tail)

@@ -1,6 +1,5 @@
-use Rattle.std.proofs.Common.{◌≡◌, ◌<◌, ◌≤◌, ◌+◌, inl, inr, length, slice_index, arith, ◌∙◌, sym, refl}
-use Rattle.std.proofs.lemmas.Grind.{common_steps}
-use Rattle.vx_annexb.proofs.EscapedBytes.{Escapes, escape_turn, escape_end}
+use Rattle.std.proofs.Common.{◌≡◌, ◌<◌, inl, inr, length, arith, refl}
+use Rattle.vx_annexb.proofs.EscapedBytes.{escape_turn, escape_end}
 use Rattle.vx_annexb.proofs.emulation.escape.Goals as goal
 use Rattle.vx_annexb.proofs.emulation.escape.Goals.{then-zeros-eq2+then-byte-le-EMULATION+in_ok-push, else-zeros-eq2, else-zeros-eq2-via-then-zeros-eq2+else-byte-le-EMULATION, else-zeros-eq2-via-else-zeros-eq2, then-byte-eq0, else-byte-eq0}
 

@@ -1,6 +1,5 @@
-use Rattle.std.proofs.Common.{ℕ, List, ◌∷◌, [], ◌++◌}
+use Rattle.std.proofs.Common.{◌++◌}
 use Rattle.std.proofs.lemmas.Result.{err_from_is_err_and, on_err_weaker}
-use Rattle.std.proofs.KnownBytes.{Appends-trans}
 use Rattle.vx_io.proofs.WrittenLemmas.{AppendsFront-append, AppendsFront-after}
 use Rattle.vx_annexb.specs.ByteStream.{long_start_code}
 use Rattle.vx_annexb.proofs.write.write_unit.Goals as goal
