@@ -1,8 +1,8 @@
 -- What a search of the bytes from a place on says of all bytes.
-use Rattle.std.proofs.Common.{◌≡◌, ℕ, ◌+◌, ◌-◌, ◌<◌, ◌≤◌, List, length, slice_index, slice_range, sym, ap, ◌∙◌, arith}
-use Rattle.std.proofs.lemmas.Bool.{eqb-true, eq-eqb}
+use Rattle.std.proofs.Common.{◌≡◌, ℕ, ◌+◌, ◌-◌, ◌<◌, ◌≤◌, List, length, slice_index, slice_range, sym, ap, ◌∙◌, arith, ⊎_elim}
+use Rattle.std.proofs.lemmas.Bool.{cases_lt, eqb-true, eq-eqb}
 use Rattle.memchr.specs.Find.{Nowhere, NoneBefore, Passes, is_byte}
-use Rattle.vx_annexb.specs.Places.{IsFirstFrom}
+use Rattle.vx_annexb.specs.Places.{IsMark, IsFirstFrom}
 use Rattle.vx_annexb.proofs.Places.{length-slice, index-slice}
 
 module _ (b : List ℕ) (from : ℕ) (le : from ≤ length b) where
@@ -27,3 +27,11 @@ module _ (b : List ℕ) (from : ℕ) (le : from ≤ length b) where
           before = λ k low lt. no_zero_before (from + skip) (omega arith) (rw e found.0.before) k low lt;
         },
       )
+
+-- no mark up to a place, and no zero from there on
+pub no_mark_at_all : (most : ℕ) (b : List ℕ) (from zero at : ℕ) → ((k : ℕ) → from ≤ k → k < zero → ¬ IsMark most b k) → ((k : ℕ) → zero ≤ k → k < at → ¬ IsMark most b k)
+    → ((k : ℕ) → at ≤ k → k < length b → slice_index b k ≡ 0 → ⊥) → (k : ℕ) → from ≤ k → ¬ IsMark most b k
+no_mark_at_all most b from zero at before next none k le m = ⊎_elim
+    (λ low. before k le low m)
+    (λ high. ⊎_elim (λ near. next k high near m) (λ far. none k far (omega (arith, m.within)) m.first) (cases_lt k at))
+    (cases_lt k zero)

@@ -60,18 +60,16 @@ pub(crate) fn find_mark(bytes: &[u8], from: usize, most: u8) -> Option<usize>
         ((k : ℕ) → from ≤ k → ¬ IsMark most bytes.now k)
         (IsFirstFrom (IsMark most bytes.now) from) }
 {
-    let mut at = from;
-    while at < bytes.len() {
-        let zero = next_zero(bytes, at)?;
-        let len = if zero - at < NEAR {
-            NEAR.min(bytes.len() - zero)
-        } else {
-            1
-        };
-        at = step_to_mark(bytes, zero, zero + len, most);
-        if at < zero + len {
+    let mut zero = from;
+    let mut reach = NEAR;
+    while zero < bytes.len() {
+        let stop = zero + reach.min(bytes.len() - zero);
+        let at = step_to_mark(bytes, zero, stop, most);
+        if at < stop {
             return Some(at);
         }
+        zero = next_zero(bytes, at)?;
+        reach = if zero - at < NEAR { NEAR } else { 1 };
     }
     None
 }

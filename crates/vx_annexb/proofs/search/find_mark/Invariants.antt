@@ -2,8 +2,8 @@ use Rattle.std.proofs.Common.{ℕ, ◌<◌, ◌≤◌, length, ◌-◌}
 use Rattle.vx_annexb.specs.Places.{IsMark}
 use Rattle.vx_annexb.proofs.search.find_mark.Given as goal
 
-abbrev pub invariant-loop-at : goal.invariant-loop-at
-invariant-loop-at l = (l.from ≤ l.at) × (l.at ≤ length l.bytes) × ((k : ℕ) → l.from ≤ k → k < l.at → ¬ IsMark l.most l.bytes k)
+abbrev pub invariant-loop-zero : goal.invariant-loop-zero
+invariant-loop-zero l = (l.from ≤ l.zero) × (l.zero ≤ length l.bytes) × (0 < l.reach) × ((k : ℕ) → l.from ≤ k → k < l.zero → ¬ IsMark l.most l.bytes k)
 
-abbrev pub decreases-loop-at : goal.decreases-loop-at
-decreases-loop-at l = length l.bytes - l.at
+abbrev pub decreases-loop-zero : goal.decreases-loop-zero
+decreases-loop-zero l = length l.bytes - l.zero
