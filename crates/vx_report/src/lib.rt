@@ -2,6 +2,8 @@
 #![tactic(auto)]
 
 mod refusal;
+#[cfg(test)]
+mod tests;
 mod unit;
 
 pub use refusal::{Where, refusal_line};
