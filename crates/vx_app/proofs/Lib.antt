@@ -1,3 +1,4 @@
 pub mod Concluding
+pub mod Ending
 pub mod Pieces
 pub mod Shown

@@ -72,22 +72,22 @@ ending_of-some true refusal = refl
 ending_of-some false refusal = refl
 
 -- a stop of the units is one of the source
-pub ShowsBytes-stopped : (b : List ℕ) (all : Bool) (left' old new : Option (List ℕ)) (stop : Stop) → all ≡ is_within b → ShowsUnits (seen_of b) all old new (Err stop) → ShowsBytes b left' old new (Err stop)
-ShowsBytes-stopped b all left' old new NotUnderstood same shown = shown
-ShowsBytes-stopped b all left' old new (Refused refusal place) same shown =
+pub ShowsBytes-stopped : (b : List ℕ) (all : Bool) (old new : Option (List ℕ)) (stop : Stop) → all ≡ is_within b → ShowsUnits (seen_of b) all old new (Err stop) → ShowsBytes b old new (Err stop)
+ShowsBytes-stopped b all old new NotUnderstood same shown = shown
+ShowsBytes-stopped b all old new (Refused refusal place) same shown =
     (shown.0, record { behind = Some refusal; stream = rw (← same) shown.1; ends = ending_of-some (is_within b) refusal }, shown.2, shown.3)
-ShowsBytes-stopped b all left' old new (ReadFault source) same shown = absurd shown
-ShowsBytes-stopped b all left' old new WriteFault same shown = (shown.0, rw (← same) shown.1, shown.2)
-ShowsBytes-stopped b all left' old new NoMemory same shown = (shown.0, rw (← same) shown.1, shown.2)
+ShowsBytes-stopped b all old new (ReadFault source) same shown = absurd shown
+ShowsBytes-stopped b all old new WriteFault same shown = (shown.0, rw (← same) shown.1, shown.2)
+ShowsBytes-stopped b all old new NoMemory same shown = (shown.0, rw (← same) shown.1, shown.2)
 
 -- the units of a source that ended
-pub ShowsBytes-done : (b : List ℕ) (all : Bool) (left' old new : Option (List ℕ)) (n : ℕ) → all ≡ is_within b → all ≡ true → IsAtEnd left' → ShowsUnits (seen_of b) all old new (Ok n) → ShowsBytes b left' old new (Ok tt)
-ShowsBytes-done b all left' old new n same ended at_end shown =
+pub ShowsBytes-done : (b : List ℕ) (all : Bool) (old new : Option (List ℕ)) (n : ℕ) → all ≡ is_within b → all ≡ true → ShowsUnits (seen_of b) all old new (Ok n) → ShowsBytes b old new (Ok tt)
+ShowsBytes-done b all old new n same ended shown =
     let within : is_within b ≡ true = sym same ∙ ended in
-    (shown.0, record { behind = None; stream = rw (← same) shown.1; ends = rw within refl }, shown.2, at_end)
+    (shown.0, record { behind = None; stream = rw (← same) shown.1; ends = rw within refl }, shown.2)
 
 -- the units of a source that has more bytes than the limit
-pub ShowsBytes-beyond : (b : List ℕ) (all : Bool) (left' old new : Option (List ℕ)) (n : ℕ) (place : Where) → all ≡ is_within b → all ≡ false → place ≡ behind_unit n → ShowsUnits (seen_of b) all old new (Ok n) → ShowsBytes b left' old new (Err (Refused (Limit 3) place))
-ShowsBytes-beyond b all left' old new n place same ended at shown =
+pub ShowsBytes-beyond : (b : List ℕ) (all : Bool) (old new : Option (List ℕ)) (n : ℕ) (place : Where) → all ≡ is_within b → all ≡ false → place ≡ behind_unit n → ShowsUnits (seen_of b) all old new (Ok n) → ShowsBytes b old new (Err (Refused (Limit 3) place))
+ShowsBytes-beyond b all old new n place same ended at shown =
     let within : is_within b ≡ false = sym same ∙ ended in
     (shown.0, record { behind = None; stream = rw (← same) shown.1; ends = rw within refl }, shown.2, at ∙ ap behind_unit shown.3)

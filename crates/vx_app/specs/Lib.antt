@@ -1,5 +1,6 @@
 pub mod Asked
 pub mod Conclusion
 pub mod Grammar
+pub mod Run
 pub mod Show
 pub mod ShowSteps

@@ -18,9 +18,13 @@ seen_of b = take source_limit b
 abbrev pub is_within : List ℕ → Bool
 is_within b = nat_le (length b) source_limit
 
+-- the line of a unit whose first byte stands at this place
+unfoldable pub shown_line : List ℕ → ℕ → List ℕ
+shown_line unit place = unit_text (header_of unit) place (length unit)
+
 -- the line of a unit of these bytes
 abbrev pub unit_line : List ℕ → UnitPlace → List ℕ
-unit_line b u = unit_text (header_of (unit_bytes b u)) u.start (length (unit_bytes b u))
+unit_line b u = shown_line (unit_bytes b u) u.start
 
 -- the lines of these units, in order
 abbrev pub unit_lines : List ℕ → List UnitPlace → List ℕ

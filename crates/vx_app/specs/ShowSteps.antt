@@ -98,14 +98,14 @@ CountsShow f f' w w' (Err WriteFault) = (f' ≡ f) × Rose w w'
 CountsShow f f' w w' (Err NotUnderstood) = ⊥
 
 -- A source that had the bytes b was shown.
-abbrev pub ShowsBytes : List ℕ → Option (List ℕ) → Option (List ℕ) → Option (List ℕ) → Result (Unit {0}) Stop → Type 0
-ShowsBytes b left' old new (Ok _) =
-    (units : List UnitPlace) × IsShown b units None × Appends old new (shown_lines b units) × IsAtEnd left'
-ShowsBytes b left' old new (Err (Refused refusal place)) =
+abbrev pub ShowsBytes : List ℕ → Option (List ℕ) → Option (List ℕ) → Result (Unit {0}) Stop → Type 0
+ShowsBytes b old new (Ok _) =
+    (units : List UnitPlace) × IsShown b units None × Appends old new (shown_lines b units)
+ShowsBytes b old new (Err (Refused refusal place)) =
     (units : List UnitPlace) × IsShown b units (Some refusal) × Appends old new (shown_lines b units) × (place ≡ behind_unit (length units))
-ShowsBytes b left' old new (Err NoMemory) =
+ShowsBytes b old new (Err NoMemory) =
     (units : List UnitPlace) × AreFirst b units × Appends old new (shown_lines b units)
-ShowsBytes b left' old new (Err (ReadFault source)) = Appends old new []
-ShowsBytes b left' old new (Err WriteFault) =
+ShowsBytes b old new (Err (ReadFault source)) = Appends old new []
+ShowsBytes b old new (Err WriteFault) =
     (units : List UnitPlace) × AreFirst b units × AppendsFront old new (shown_lines b units)
-ShowsBytes b left' old new (Err NotUnderstood) = ⊥
+ShowsBytes b old new (Err NotUnderstood) = ⊥

@@ -5,6 +5,8 @@ mod conclude;
 mod run;
 mod show;
 mod stop;
+#[cfg(test)]
+mod tests;
 mod words;
 
 pub use run::run;

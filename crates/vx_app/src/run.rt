@@ -1,11 +1,18 @@
 //! The program over words, sources and sinks.
 
-ghost use Rattle.std.specs.Prelude.{◌≡◌, ◌<◌, ◌≤◌, ◌↔◌, ℕ, List, Some, Err, vec_len, slice_get, IfErr};
+ghost use Rattle.std.specs.Prelude.{◌≡◌, ◌≢◌, ◌<◌, ◌≤◌, ◌↔◌, ◌⊎◌, ℕ, List, [], Option, Some, None, Ok, Err, take, length, vec_len, slice_get, IfErr, OnOk};
+ghost use Rattle.std.specs.Io.KnownBytes.{Appends, IsAtEnd};
+ghost use Rattle.vx_bits.specs.declared.refusal.Refusal.{Refusal};
+ghost use Rattle.vx_io.specs.Faults.{Rose};
 ghost use Rattle.vx_io.specs.Listed.{bytes_at, faults_at};
+ghost use Rattle.vx_io.specs.Written.{AppendsFront};
+ghost use Rattle.vx_annexb.specs.ByteStream.{UnitPlace};
+ghost use Rattle.vx_app.specs.Conclusion.{IsTold, Tells, line_of};
 ghost use Rattle.vx_app.specs.Grammar.{IsUnderstood, NamesFiles, texts};
-ghost use Rattle.vx_app.specs.Conclusion.{IsTold};
-ghost use Rattle.vx_app.specs.ShowSteps.{CountsShow, ShowsBytes};
-ghost use Rattle.vx_app.specs.declared.stop.Stop.TheVariants.{NotUnderstood};
+ghost use Rattle.vx_app.specs.Run.{NoFault, status_at};
+ghost use Rattle.vx_app.specs.Show.{IsShown, shown_lines};
+ghost use Rattle.vx_app.specs.ShowSteps.{CountsShow, ShowsBytes, behind_unit};
+ghost use Rattle.vx_app.specs.declared.stop.Stop.TheVariants.{NotUnderstood, Refused, ReadFault, WriteFault, NoMemory};
 
 use crate::conclude::conclude;
 use crate::show::show;
@@ -26,7 +33,59 @@ pub fn run<K: Sink, E: Sink>(
     err: &mut E,
 ) -> u8
     requires { NamesFiles (texts words.now) (vec_len sources.old) }
+
+    // The words.
+    ensures words { (result ≡ 2) ↔ ¬ IsUnderstood (texts words.now) }
+    ensures not_understood { result ≡ 2 → (sources.new ≡ sources.old) × (out.new ≡ out.old)
+        × Tells (E.bytes_taken err.old) (E.bytes_taken err.new) (E.write_faults err.old) (E.write_faults err.new) (line_of NotUnderstood) }
+
+    // The sources: `show` reads the first alone.
     ensures list { vec_len sources.new ≡ vec_len sources.old }
+    ensures unread { (k : ℕ) → 0 < k → slice_get sources.new.items k ≡ slice_get sources.old.items k }
+
+    // What each status tells, of a source whose bytes are known.
+    ensures done { result ≡ 0 → (err.new ≡ err.old)
+        × (faults_at read_faults sources.new.items 0 ≡ faults_at read_faults sources.old.items 0)
+        × (K.write_faults out.new ≡ K.write_faults out.old)
+        × ((b : List ℕ) (units : List UnitPlace) (ending : Option Refusal)
+            → bytes_at bytes_left sources.old.items 0 ≡ Some b → IsShown b units ending
+            → (ending ≡ None) × Appends (K.bytes_taken out.old) (K.bytes_taken out.new) (shown_lines b units)
+            × IsAtEnd (bytes_at bytes_left sources.new.items 0)) }
+    ensures refused { result ≡ 1 →
+        (faults_at read_faults sources.new.items 0 ≡ faults_at read_faults sources.old.items 0)
+        × (K.write_faults out.new ≡ K.write_faults out.old)
+        × ((b : List ℕ) (units : List UnitPlace) (ending : Option Refusal)
+            → bytes_at bytes_left sources.old.items 0 ≡ Some b → IsShown b units ending
+            → (refusal : Refusal) × (ending ≡ Some refusal)
+            × Appends (K.bytes_taken out.old) (K.bytes_taken out.new) (shown_lines b units)
+            × Tells (E.bytes_taken err.old) (E.bytes_taken err.new) (E.write_faults err.old) (E.write_faults err.new)
+                (line_of (Refused refusal (behind_unit (length units))))) }
+    ensures fault { result ≡ 3 →
+        (Rose (faults_at read_faults sources.old.items 0) (faults_at read_faults sources.new.items 0)
+            × (out.new ≡ out.old)
+            × Tells (E.bytes_taken err.old) (E.bytes_taken err.new) (E.write_faults err.old) (E.write_faults err.new) (line_of (ReadFault 0)))
+        ⊎ (Rose (K.write_faults out.old) (K.write_faults out.new)
+            × (faults_at read_faults sources.new.items 0 ≡ faults_at read_faults sources.old.items 0)
+            × Tells (E.bytes_taken err.old) (E.bytes_taken err.new) (E.write_faults err.old) (E.write_faults err.new) (line_of WriteFault)
+            × ((b : List ℕ) (units : List UnitPlace) (ending : Option Refusal)
+                → bytes_at bytes_left sources.old.items 0 ≡ Some b → IsShown b units ending
+                → AppendsFront (K.bytes_taken out.old) (K.bytes_taken out.new) (shown_lines b units))) }
+    ensures memory { result ≡ 4 → (K.write_faults out.new ≡ K.write_faults out.old)
+        × Tells (E.bytes_taken err.old) (E.bytes_taken err.new) (E.write_faults err.old) (E.write_faults err.new) (line_of NoMemory)
+        × ((b : List ℕ) (units : List UnitPlace) (ending : Option Refusal)
+            → bytes_at bytes_left sources.old.items 0 ≡ Some b → IsShown b units ending
+            → (n : ℕ) × Appends (K.bytes_taken out.old) (K.bytes_taken out.new) (shown_lines b (take n units))) }
+    ensures statuses { result ≤ 4 }
+
+    // Which status it is: 4 for want of memory, which is free.
+    ensures faulted { (faults_at read_faults sources.old.items 0 < faults_at read_faults sources.new.items 0)
+            ⊎ (K.write_faults out.old < K.write_faults out.new)
+        → (result ≡ 3) ⊎ (result ≡ 4) }
+    ensures exact { IsUnderstood (texts words.now) → (b : List ℕ) (units : List UnitPlace) (ending : Option Refusal)
+        → bytes_at bytes_left sources.old.items 0 ≡ Some b → IsShown b units ending
+        → NoFault (faults_at read_faults sources.old.items 0) (faults_at read_faults sources.new.items 0)
+        → NoFault (K.write_faults out.old) (K.write_faults out.new)
+        → result ≢ 4 → result ≡ status_at ending }
 {
     match perform(alloc, words, sources, out) {
         Ok(()) => 0,
@@ -44,11 +103,14 @@ fn perform<K: Sink>(
     requires { NamesFiles (texts words.now) (vec_len sources.old) }
     ensures words { (result ≡ Err NotUnderstood) ↔ ¬ IsUnderstood (texts words.now) }
     ensures untouched { result ≡ Err NotUnderstood → (sources.new ≡ sources.old) × (out.new ≡ out.old) }
-    ensures answer { IsUnderstood (texts words.now) → (b : List ℕ) → bytes_at bytes_left sources.old.items 0 ≡ Some b
-        → ShowsBytes b (bytes_at bytes_left sources.new.items 0) (K.bytes_taken out.old) (K.bytes_taken out.new) result }
-    ensures counts { IsUnderstood (texts words.now) → CountsShow (faults_at read_faults sources.old.items 0) (faults_at read_faults sources.new.items 0)
-        (K.write_faults out.old) (K.write_faults out.new) result }
-    ensures others { (k : ℕ) → 0 < k → slice_get sources.new.items k ≡ slice_get sources.old.items k }
+    ensures answer { result ≢ Err NotUnderstood → (b : List ℕ) → bytes_at bytes_left sources.old.items 0 ≡ Some b
+        → ShowsBytes b (K.bytes_taken out.old) (K.bytes_taken out.new) result }
+    ensures counts { result ≢ Err NotUnderstood
+        → CountsShow (faults_at read_faults sources.old.items 0) (faults_at read_faults sources.new.items 0)
+            (K.write_faults out.old) (K.write_faults out.new) result }
+    ensures ended { OnOk result (IsAtEnd (bytes_at bytes_left sources.new.items 0)) }
+    ensures read_fault { result ≡ Err (ReadFault 0) → out.new ≡ out.old }
+    ensures unread { (k : ℕ) → 0 < k → slice_get sources.new.items k ≡ slice_get sources.old.items k }
     ensures list { vec_len sources.new ≡ vec_len sources.old }
     ensures told { IfErr result IsTold }
 {

@@ -1,11 +1,12 @@
 //! `show FILE`: a line for each NAL unit of a byte stream.
 
-ghost use Rattle.std.specs.Prelude.{◌≡◌, ◌+◌, ◌-◌, ◌^◌, ◌<◌, ◌≤◌, List, ℕ, [], true, false, min, length, slice_range, vec_len, IfOk, IfErr, OnOk, Ok, Some};
+ghost use Rattle.std.specs.Prelude.{◌≡◌, ◌+◌, ◌-◌, ◌^◌, ◌<◌, ◌≤◌, List, ℕ, [], true, false, min, length, slice_range, vec_len, IfOk, IfErr, OnOk, Ok, Err, Some};
+ghost use Rattle.std.specs.Io.KnownBytes.{IsAtEnd};
 ghost use Rattle.vx_annexb.specs.ByteStream.{UnitPlace};
 ghost use Rattle.vx_annexb.specs.Held.{Stands, IsReadable, fed, left_to_seek};
-ghost use Rattle.vx_annexb.specs.NalUnit.{header_of};
-ghost use Rattle.vx_report.specs.UnitLine.{unit_text};
 ghost use Rattle.vx_app.specs.Conclusion.{IsTold};
+ghost use Rattle.vx_app.specs.declared.stop.Stop.TheVariants.{ReadFault};
+ghost use Rattle.vx_app.specs.Show.{shown_line};
 ghost use Rattle.vx_app.specs.ShowSteps.{CountsWrite, WritesLine, ShowsNext, ShowsUnits, TakesPiece, TakesIn, CountsShow, ShowsBytes, IsBehind, behind_unit as place_behind};
 
 use crate::stop::Stop;
@@ -31,9 +32,11 @@ pub fn show<K: Sink>(
     out: &mut K,
 ) -> Result<(), Stop>
     ensures answer { (b : List ℕ) → bytes_left source.old ≡ Some b
-        → ShowsBytes b (bytes_left source.new) (K.bytes_taken out.old) (K.bytes_taken out.new) result }
+        → ShowsBytes b (K.bytes_taken out.old) (K.bytes_taken out.new) result }
     ensures counts { CountsShow (read_faults source.old) (read_faults source.new)
         (K.write_faults out.old) (K.write_faults out.new) result }
+    ensures ended { OnOk result (IsAtEnd (bytes_left source.new)) }
+    ensures read_fault { result ≡ Err (ReadFault 0) → out.new ≡ out.old }
     ensures told { IfErr result IsTold }
 {
     let mut splitter = Splitter::new(alloc);
@@ -125,6 +128,7 @@ fn take_in(
 }
 
 // Writes the line of a unit.
+#[tactic(auto, unfolding(crate::specs::Show::shown_line))]
 fn write_unit<K: Sink>(
     alloc: Global,
     splitter: &Splitter,
@@ -132,8 +136,8 @@ fn write_unit<K: Sink>(
     out: &mut K,
 ) -> Result<(), Stop>
     requires { IsReadable splitter.now span }
-    ensures line { let unit = slice_range splitter.now.kept span.start span.end in
-        WritesLine (unit_text (header_of unit) span.offset (length unit)) (K.bytes_taken out.old) (K.bytes_taken out.new) result }
+    ensures line { WritesLine (shown_line (slice_range splitter.now.kept span.start span.end) span.offset)
+        (K.bytes_taken out.old) (K.bytes_taken out.new) result }
     ensures counts { CountsWrite (K.write_faults out.old) (K.write_faults out.new) result }
 {
     let unit = splitter.bytes(span);

@@ -1,4 +1,4 @@
-use Rattle.std.proofs.Common.{rules, ◌≡◌, List, ℕ, [], Some, None, subst, sym, ◌∙◌}
+use Rattle.std.proofs.Common.{rules, ◌≡◌, List, ℕ, [], Some, subst, sym, ◌∙◌}
 use Rattle.std.proofs.lemmas.Result.{err_from_is_err_and}
 use Rattle.std.specs.Io.KnownBytes.{Consumes}
 use Rattle.vx_annexb.specs.Held.{Stands}
@@ -11,18 +11,18 @@ returns-in_err-units-clause-answer g c b told =
     let whole = taken-whole b taken.0 _ c.in_ok-ended.ended (rw told at taken.1) taken.4 taken.5 in
     let stands = subst (λ (l : List ℕ). Stands c.take_in.new.splitter l []) whole.0 taken.2 in
     let p = err_from_is_err_and c.from_residual-in_err-units.result c.from_residual-in_err-units.ensures.1 in
-    rw (p.1, p.2) (ShowsBytes-stopped b c.take_in.new.splitter.all ((goal.Source-dyn g (c.take_in.new.source.vtable, c.take_in.new.source.value)).bytes_left c.take_in.new.source.value) _ _ _ (taken.3 ∙ whole.1) (c.in_err-units.ensures.answer _ stands))
+    rw (p.1, p.2) (ShowsBytes-stopped b c.take_in.new.splitter.all _ _ _ (taken.3 ∙ whole.1) (c.in_err-units.ensures.answer _ stands))
 
 pub returns-then-ended-clause-answer : goal.returns-then-ended-clause-answer
 returns-then-ended-clause-answer g c b told =
     let taken = c.in_ok-ended.ensures.answer.1 in
     let whole = taken-whole b taken.0 _ c.in_ok-ended.ended (rw told at taken.1) taken.4 taken.5 in
     let stands = subst (λ (l : List ℕ). Stands c.take_in.new.splitter l []) whole.0 taken.2 in
-    ShowsBytes-done b c.take_in.new.splitter.all _ _ _ c.in_ok-units.units (taken.3 ∙ whole.1) (taken.3 ∙ c.if-ended.true) (taken.4 c.if-ended.true).0 (c.in_ok-units.ensures.answer _ stands)
+    ShowsBytes-done b c.take_in.new.splitter.all _ _ c.in_ok-units.units (taken.3 ∙ whole.1) (taken.3 ∙ c.if-ended.true) (c.in_ok-units.ensures.answer _ stands)
 
 pub returns-clause-answer : goal.returns-clause-answer
 returns-clause-answer g c b told =
     let taken = c.in_ok-ended.ensures.answer.1 in
     let whole = taken-whole b taken.0 _ c.in_ok-ended.ended (rw told at taken.1) taken.4 taken.5 in
     let stands = subst (λ (l : List ℕ). Stands c.take_in.new.splitter l []) whole.0 taken.2 in
-    ShowsBytes-beyond b c.take_in.new.splitter.all None _ _ c.in_ok-units.units _ (taken.3 ∙ whole.1) (taken.3 ∙ c.if-ended.false) c.behind_unit.ensures (c.in_ok-units.ensures.answer _ stands)
+    ShowsBytes-beyond b c.take_in.new.splitter.all _ _ c.in_ok-units.units _ (taken.3 ∙ whole.1) (taken.3 ∙ c.if-ended.false) c.behind_unit.ensures (c.in_ok-units.ensures.answer _ stands)
