@@ -123,7 +123,8 @@ impl<'a> BitReader<'a> {
         ensures value { IfOk result (λ v. IsCodeNumber v × Takes (exp_golomb v) self.old self.new) }
         ensures short { IsErrOf result BitCause.Short ↔ EndsWithinCode self.old.left }
         ensures long { IsErrOf result BitCause.LongCode ↔ BeginsTooLong self.old.left }
-        ensures cause { IfErr result (λ cause. (cause ≡ BitCause.Short) ⊎ (cause ≡ BitCause.LongCode)) }
+        ensures cause { IfErr result
+            (λ cause. (cause ≡ BitCause.Short) ⊎ (cause ≡ BitCause.LongCode)) }
         ensures unchanged { OnErr result (self.new ≡ self.old) }
     {
         let left = self.left();
@@ -145,10 +146,12 @@ impl<'a> BitReader<'a> {
     ///
     /// As [`BitReader::ue`].
     pub fn se(&mut self) -> Result<i32, BitCause>
-        ensures value { IfOk result (λ v. IsCodeNumber (code_number v) × Takes (signed_exp_golomb v) self.old self.new) }
+        ensures value { IfOk result
+            (λ v. IsCodeNumber (code_number v) × Takes (signed_exp_golomb v) self.old self.new) }
         ensures short { IsErrOf result BitCause.Short ↔ EndsWithinCode self.old.left }
         ensures long { IsErrOf result BitCause.LongCode ↔ BeginsTooLong self.old.left }
-        ensures cause { IfErr result (λ cause. (cause ≡ BitCause.Short) ⊎ (cause ≡ BitCause.LongCode)) }
+        ensures cause { IfErr result
+            (λ cause. (cause ≡ BitCause.Short) ⊎ (cause ≡ BitCause.LongCode)) }
         ensures unchanged { OnErr result (self.new ≡ self.old) }
     {
         let code = self.ue()?;
@@ -171,7 +174,8 @@ impl<'a> BitReader<'a> {
     /// `BadAlignment` where one of the bits up to the boundary is 1.
     pub fn align(&mut self) -> Result<(), BitCause>
         ensures value { OnOk result (Takes (zeros_from (taken self.old)) self.old self.new) }
-        ensures bad { IsErrOf result BitCause.BadAlignment ↔ Contains (take (to_boundary (taken self.old)) self.old.left) true }
+        ensures bad { IsErrOf result BitCause.BadAlignment
+            ↔ Contains (take (to_boundary (taken self.old)) self.old.left) true }
         ensures others { OnErr result (¬ BeginsWith self.old.left (zeros_from (taken self.old))) }
         ensures cause { IfErr result (λ cause. cause ≡ BitCause.BadAlignment) }
         ensures unchanged { OnErr result (self.new ≡ self.old) }
@@ -196,7 +200,10 @@ impl<'a> BitReader<'a> {
     /// The length of a one and zeros up to the byte boundary, where these come next.
     fn stop_length(&mut self) -> Option<u32>
         requires { self.old.left ≢ [] }
-        ensures value { MatchOption result (¬ BeginsWith self.old.left (one_from (taken self.old))) (λ n. (n ≡ length (one_from (taken self.old))) × BeginsWith self.old.left (one_from (taken self.old))) }
+        ensures value { let stop = one_from (taken self.old) in
+            MatchOption result
+            (¬ BeginsWith self.old.left stop)
+            (λ n. (n ≡ length stop) × BeginsWith self.old.left stop) }
         ensures same { self.new ≡ self.old }
     {
         let count = self.past_next_one();
@@ -215,8 +222,10 @@ impl<'a> BitReader<'a> {
     pub fn align_after_one(&mut self) -> Result<(), BitCause>
         ensures value { OnOk result (Takes (one_from (taken self.old)) self.old self.new) }
         ensures short { IsErrOf result BitCause.Short ↔ (self.old.left ≡ []) }
-        ensures bad { IsErrOf result BitCause.BadAlignment ↔ ((self.old.left ≢ []) × ¬ BeginsWith self.old.left (one_from (taken self.old))) }
-        ensures cause { IfErr result (λ cause. (cause ≡ BitCause.Short) ⊎ (cause ≡ BitCause.BadAlignment)) }
+        ensures bad { IsErrOf result BitCause.BadAlignment
+            ↔ ((self.old.left ≢ []) × ¬ BeginsWith self.old.left (one_from (taken self.old))) }
+        ensures cause { IfErr result
+            (λ cause. (cause ≡ BitCause.Short) ⊎ (cause ≡ BitCause.BadAlignment)) }
         ensures unchanged { OnErr result (self.new ≡ self.old) }
     {
         if self.left() == 0 {
@@ -238,8 +247,10 @@ impl<'a> BitReader<'a> {
         ensures value { OnOk result (Takes (one_from (taken self.old)) self.old self.new) }
         ensures last { OnOk result (self.new.left ≡ []) }
         ensures short { IsErrOf result BitCause.Short ↔ (self.old.left ≡ []) }
-        ensures bad { IsErrOf result BitCause.BadTrailing ↔ ((self.old.left ≢ []) × (self.old.left ≢ one_from (taken self.old))) }
-        ensures cause { IfErr result (λ cause. (cause ≡ BitCause.Short) ⊎ (cause ≡ BitCause.BadTrailing)) }
+        ensures bad { IsErrOf result BitCause.BadTrailing
+            ↔ ((self.old.left ≢ []) × (self.old.left ≢ one_from (taken self.old))) }
+        ensures cause { IfErr result
+            (λ cause. (cause ≡ BitCause.Short) ⊎ (cause ≡ BitCause.BadTrailing)) }
         ensures unchanged { OnErr result (self.new ≡ self.old) }
     {
         if self.left() == 0 {

@@ -5,12 +5,15 @@ ghost use Rattle.vx_bits.specs.Codes.{fixed, exp_golomb, signed_exp_golomb, code
 use std::alloc::{AllocError, Global};
 use std::marker::Model;
 
-/// Appends the whole bytes of a word of so many bits, for which there is room, and gives the number of the bits behind them.
+/// Appends the whole bytes of a word of so many bits, for which there is room.
+///
+/// Gives the number of the bits behind them.
 fn append(bytes: &mut Vec<u8>, word: u64, bits: u32) -> u8
     requires bits { bits ≤ 64 }
     requires range { word < 2 ^ bits }
     requires room { vec_len bytes.old + bits / 8 ≤ vec_capacity bytes.old }
-    ensures value { bits_of bytes.new.items ++ fixed (bits % 8) result ≡ bits_of bytes.old.items ++ fixed bits word }
+    ensures value { bits_of bytes.new.items ++ fixed (bits % 8) result
+        ≡ bits_of bytes.old.items ++ fixed bits word }
     ensures range { result < 2 ^ (bits % 8) }
     ensures len { vec_len bytes.new ≡ vec_len bytes.old + bits / 8 }
     ensures capacity { vec_capacity bytes.old ≤ vec_capacity bytes.new }
