@@ -14,21 +14,21 @@ HasLine _ = ⊥
 -- `F3 source 0 byte 5`
 abbrev pub framing_text : ℕ → ℕ → Where → List ℕ
 framing_text code byte place = concat
-  ( codes "F" ∷ decimal code
-  ∷ codes " source " ∷ decimal place.source
-  ∷ codes " byte " ∷ decimal byte ∷ codes "\n" ∷ [])
+    (codes "F" ∷ decimal code
+    ∷ codes " source " ∷ decimal place.source
+    ∷ codes " byte " ∷ decimal byte ∷ codes "\n" ∷ [])
 
 -- `L3 source 0`
 abbrev pub source_limit_text : ℕ → Where → List ℕ
 source_limit_text code place = concat
-  (codes "L" ∷ decimal code ∷ codes " source " ∷ decimal place.source ∷ codes "\n" ∷ [])
+    (codes "L" ∷ decimal code ∷ codes " source " ∷ decimal place.source ∷ codes "\n" ∷ [])
 
 -- `L1 source 0 unit 3`
 abbrev pub unit_limit_text : ℕ → Where → List ℕ
 unit_limit_text code place = concat
-  ( codes "L" ∷ decimal code
-  ∷ codes " source " ∷ decimal place.source
-  ∷ codes " unit " ∷ decimal place.unit ∷ codes "\n" ∷ [])
+    (codes "L" ∷ decimal code
+    ∷ codes " source " ∷ decimal place.source
+    ∷ codes " unit " ∷ decimal place.unit ∷ codes "\n" ∷ [])
 
 -- the line of a refusal, with its line feed
 abbrev pub refusal_text : Refusal → Where → List ℕ

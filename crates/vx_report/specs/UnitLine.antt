@@ -7,19 +7,19 @@ use Rattle.vx_annexb.specs.declared.header.NalHeader.{NalHeader}
 -- the unit as a JSON object, its keys in byte order
 abbrev pub unit_object : NalHeader → ℕ → ℕ → Data
 unit_object header offset bytes =
-  object (member (codes "bytes") (number (unsigned bytes))
-  (member (codes "offset") (number (unsigned offset))
-  (member (codes "tid") (number (unsigned header.temporal_id))
-  (member (codes "type") (number (unsigned header.nal_type)) no_members))))
+    object (member (codes "bytes") (number (unsigned bytes))
+    (member (codes "offset") (number (unsigned offset))
+    (member (codes "tid") (number (unsigned header.temporal_id))
+    (member (codes "type") (number (unsigned header.nal_type)) no_members))))
 
 -- the object's text, byte for byte
 abbrev pub unit_json : NalHeader → ℕ → ℕ → List ℕ
 unit_json header offset bytes = concat
-  ( codes "{\"bytes\":" ∷ decimal bytes
-  ∷ codes ",\"offset\":" ∷ decimal offset
-  ∷ codes ",\"tid\":" ∷ decimal header.temporal_id
-  ∷ codes ",\"type\":" ∷ decimal header.nal_type
-  ∷ codes "}" ∷ [])
+    (codes "{\"bytes\":" ∷ decimal bytes
+    ∷ codes ",\"offset\":" ∷ decimal offset
+    ∷ codes ",\"tid\":" ∷ decimal header.temporal_id
+    ∷ codes ",\"type\":" ∷ decimal header.nal_type
+    ∷ codes "}" ∷ [])
 
 -- the line, with its line feed
 abbrev pub unit_text : NalHeader → ℕ → ℕ → List ℕ

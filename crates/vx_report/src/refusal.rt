@@ -22,11 +22,7 @@ pub struct Where {
 /// The line of a rule on a byte stream, with its line feed: `F3 source 0 byte 5`
 /// for one on its framing, `L1 source 0 unit 3` for a unit that is too long,
 /// `L3 source 0` for a source that is.
-pub fn refusal_line(
-    alloc: Global,
-    refusal: Refusal,
-    place: Where,
-) -> Result<Vec<u8>, AllocError>
+pub fn refusal_line(alloc: Global, refusal: Refusal, place: Where) -> Result<Vec<u8>, AllocError>
     requires { HasLine refusal }
     ensures { IfOk result (λ line. line.items ≡ refusal_text refusal place) }
 {

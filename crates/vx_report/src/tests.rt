@@ -8,8 +8,20 @@ use vx_bits::Refusal;
 #[test]
 fn unit_lines(rt: HostRuntime) -> Result<(), Fail> {
     for (nal_type, temporal_id, offset, bytes, line) in [
-        (15, 0, 4, 20, "{\"bytes\":20,\"offset\":4,\"tid\":0,\"type\":15}\n"),
-        (0, 6, 0, 2, "{\"bytes\":2,\"offset\":0,\"tid\":6,\"type\":0}\n"),
+        (
+            15,
+            0,
+            4,
+            20,
+            "{\"bytes\":20,\"offset\":4,\"tid\":0,\"type\":15}\n",
+        ),
+        (
+            0,
+            6,
+            0,
+            2,
+            "{\"bytes\":2,\"offset\":0,\"tid\":6,\"type\":0}\n",
+        ),
         (
             31,
             1,

@@ -1,5 +1,4 @@
 use Rattle.std.proofs.Common.{rules}
-use Rattle.std.proofs.lemmas.Grind.{common_steps}
 use Rattle.serde_json.proofs.OnLiterals.{serde_json_on_literals}
 use Rattle.vx_report.proofs.unit.json_text.Goals as goal
 
