@@ -1,5 +1,5 @@
 -- What a splitter is given of the pieces of a source.
-use Rattle.std.proofs.Common.{◌≡◌, ℕ, ◌+◌, ◌-◌, ◌*◌, ◌≤◌, List, [], ◌∷◌, ◌++◌, ◌∙◌, sym, ap, refl, min, length, take, drop, arith, subst, length-append, Option, Ok, true, false}
+use Rattle.std.proofs.Common.{◌≡◌, ℕ, ◌+◌, ◌-◌, ◌≤◌, List, [], ◌++◌, ◌∙◌, sym, ap, refl, min, length, take, arith, subst, length-append, Option, Ok, true, false}
 use Rattle.std.proofs.Math.Seq.{take-append-add, take_all}
 use Rattle.std.proofs.Math.Nat.{min_comm, min-le_left}
 use Rattle.std.proofs.lemmas.List.{take-append-le, length-take-le, take-take, take_min}
@@ -25,7 +25,7 @@ take-of_take k n xs fits =
 
 -- the front of a piece behind r is what a front of both shows of it
 pub seen-front : (limit : ℕ) (r piece rest : List ℕ) (came : ℕ) → length r ≤ limit → came ≤ length piece
-  → r ++ take (min came (limit - length r)) (piece ++ rest) ≡ take limit (r ++ take came piece)
+    → r ++ take (min came (limit - length r)) (piece ++ rest) ≡ take limit (r ++ take came piece)
 seen-front limit r piece rest came within fits =
     let k = limit - length r in
     let split : length r + k ≡ limit = omega arith in
@@ -36,24 +36,26 @@ seen-front limit r piece rest came within fits =
 
 -- one more piece
 pub HasTaken-more : (h h' : Held) (left left' left'' : Option (List ℕ)) (f f' n came : ℕ) → n ≤ source_limit → HasTaken h left left' n
-  → ((r : List ℕ) → length r ≡ n → Stands h r [] → TakesPiece r h' left' left'' f f' (Ok came))
-  → (f' ≡ f) × HasTaken h' left left'' (n + came) × (came ≡ 0 → IsAtEnd left'')
+    → ((r : List ℕ) → length r ≡ n → Stands h r [] → TakesPiece r h' left' left'' f f' (Ok came))
+    → (f' ≡ f) × HasTaken h' left left'' (n + came) × (came ≡ 0 → IsAtEnd left'')
 HasTaken-more h h' left left' left'' f f' n came within taken step =
     let r = taken.bytes in
     let short : length r ≤ source_limit = subst (λ (k : ℕ). k ≤ source_limit) (sym taken.count) within in
     let here : Stands h r [] = subst (λ (g : List ℕ). Stands h g []) (take_all source_limit r short) taken.stands in
     let answer = step r taken.count here in
-    let piece = answer.1.0 in
-    ( answer.0
-    , record
-        { bytes = r ++ piece
-        ; count = length-append r piece ∙ ap (λ k. k + length piece) taken.count ∙ ap (λ k. n + k) answer.1.1
-        ; consumed = Consumes-trans left left' left'' r piece taken.consumed answer.1.2
-        ; stands = answer.1.4 }
-    , answer.1.3 )
+    let piece = answer.1.0 in (
+      answer.0,
+      record {
+        bytes = r ++ piece;
+        count = length-append r piece ∙ ap (λ k. k + length piece) taken.count ∙ ap (λ k. n + k) answer.1.1;
+        consumed = Consumes-trans left left' left'' r piece taken.consumed answer.1.2;
+        stands = answer.1.4;
+      },
+      answer.1.3,
+    )
 
 -- the source has ended
 pub TakesIn-ended : (h h' : Held) (left left' : Option (List ℕ)) (f f' n : ℕ) → f' ≡ f → n ≤ source_limit → HasTaken h left left' n → IsAtEnd left'
-  → ((g : List ℕ) (units : List UnitPlace) → Stands h g units → Stands h' g units) → h'.all ≡ true → TakesIn h' left left' f f' (Ok true)
+    → ((g : List ℕ) (units : List UnitPlace) → Stands h g units → Stands h' g units) → h'.all ≡ true → TakesIn h' left left' f f' (Ok true)
 TakesIn-ended h h' left left' f f' n counts within taken ended finish all =
     (counts, (taken.bytes, taken.consumed, finish (take source_limit taken.bytes) [] taken.stands, all, (λ _. (ended, subst (λ (k : ℕ). k ≤ source_limit) (sym taken.count) within)), λ (no : true ≡ false). absurd (cc)))

@@ -14,7 +14,7 @@ use Rattle.vx_app.specs.declared.stop.Stop.TheVariants.{NotUnderstood, Refused, 
 use Rattle.vx_bits.specs.declared.refusal.Refusal.{Refusal}
 use Rattle.vx_bits.specs.declared.refusal.Refusal.TheVariants.{Limit}
 use Rattle.vx_report.specs.declared.refusal.Where.{Where}
-use Rattle.vx_app.specs.Show.{source_limit, seen_of, is_within, ending_of, unit_line, unit_lines, IsShown}
+use Rattle.vx_app.specs.Show.{source_limit, seen_of, is_within, ending_of, unit_line, unit_lines}
 use Rattle.vx_app.specs.ShowSteps.{HasShown, ShowsNext, ShowsUnits, ShowsBytes, IsBehind, behind_unit}
 
 -- the lines of one more unit
@@ -27,18 +27,19 @@ Appends-no_more a b c xs p q = subst (λ (l : List ℕ). Appends a c l) (append-
 
 -- one more unit was shown
 pub HasShown-more : (b : List ℕ) (h h' : Held) (old mid new : Option (List ℕ)) (n : ℕ) → HasShown b h old mid n
-  → ((units : List UnitPlace) → Stands h b units → ShowsNext b units h' mid new (Ok true)) → HasShown b h' old new (n + 1)
+    → ((units : List UnitPlace) → Stands h b units → ShowsNext b units h' mid new (Ok true)) → HasShown b h' old new (n + 1)
 HasShown-more b h h' old mid new n shown step =
     let next = step shown.units shown.stands in
-    record
-      { units = shown.units ++ next.0 ∷ []
-      ; stands = next.1
-      ; lines = subst (λ (l : List ℕ). Appends old new l) (sym (unit_lines-more b shown.units next.0)) (Appends-trans old mid new (unit_lines b shown.units) (unit_line b next.0) shown.lines next.2)
-      ; count = ap (λ k. k + 1) shown.count ∙ sym (length-append shown.units (next.0 ∷ [])) }
+    record {
+      units = shown.units ++ next.0 ∷ [];
+      stands = next.1;
+      lines = subst (λ (l : List ℕ). Appends old new l) (sym (unit_lines-more b shown.units next.0)) (Appends-trans old mid new (unit_lines b shown.units) (unit_line b next.0) shown.lines next.2);
+      count = ap (λ k. k + 1) shown.count ∙ sym (length-append shown.units (next.0 ∷ []));
+    }
 
 -- a stop behind the units that were shown
 pub ShowsUnits-stopped : (b : List ℕ) (all : Bool) (h h' : Held) (old mid new : Option (List ℕ)) (n : ℕ) (stop : Stop) → h'.all ≡ all → HasShown b h old mid n
-  → ((units : List UnitPlace) → Stands h b units → ShowsNext b units h' mid new (Err stop)) → IsBehind n stop → ShowsUnits b all old new (Err stop)
+    → ((units : List UnitPlace) → Stands h b units → ShowsNext b units h' mid new (Err stop)) → IsBehind n stop → ShowsUnits b all old new (Err stop)
 ShowsUnits-stopped b all h h' old mid new n NotUnderstood same shown step place = step shown.units shown.stands
 ShowsUnits-stopped b all h h' old mid new n (Refused refusal place) same shown step behind =
     let answer = step shown.units shown.stands in
@@ -54,7 +55,7 @@ ShowsUnits-stopped b all h h' old mid new n NoMemory same shown step place =
 
 -- what was taken of a source is what is looked at, and whether it ended is whether that is all
 pub taken-whole : (b r : List ℕ) (left' : Option (List ℕ)) (ended : Bool) → Consumes (Some b) left' r → (ended ≡ true → IsAtEnd left' × (length r ≤ source_limit)) → (ended ≡ false → source_limit < length r)
-  → (take source_limit r ≡ seen_of b) × (ended ≡ is_within b)
+    → (take source_limit r ≡ seen_of b) × (ended ≡ is_within b)
 taken-whole b r None ended given whole beyond = absurd given
 taken-whole b r (Some rest) true given whole beyond =
     let all : b ≡ r = given ∙ ap (λ l. r ++ l) (whole refl).0 ∙ append-nil r in

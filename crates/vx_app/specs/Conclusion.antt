@@ -45,4 +45,4 @@ pub record Tells (old new : Option (List ℕ)) (faults faults' : ℕ) (line : Li
 pub record Concludes (stop : Stop) (status : ℕ) (old new : Option (List ℕ)) (faults faults' : ℕ) : Type 0 where
   pub ended :
       ((status ≡ status_of stop) × Tells old new faults faults' (line_of stop))
-    ⊎ (IsMade stop × (status ≡ status_of NoMemory) × Tells old new faults faults' (line_of NoMemory))
+      ⊎ (IsMade stop × (status ≡ status_of NoMemory) × Tells old new faults faults' (line_of NoMemory))

@@ -1,5 +1,5 @@
 -- What `show` finds in the bytes of a source, and what it writes.
-use Rattle.std.specs.Prelude.{◌≡◌, ℕ, ◌^◌, ◌≤◌, List, Bool, Option, Some, None, length, take, nat_le, unwrap_or, true, false}
+use Rattle.std.specs.Prelude.{◌≡◌, ℕ, ◌^◌, List, Bool, Option, Some, length, take, nat_le, unwrap_or, true, false}
 use Rattle.std.specs.List.{flat_map}
 use Rattle.vx_bits.specs.declared.refusal.Refusal.{Refusal}
 use Rattle.vx_bits.specs.declared.refusal.Refusal.TheVariants.{Limit}
@@ -49,3 +49,7 @@ AreFirst b units = FollowsFrom (seen_of b) (is_within b) 0 units
 -- what is written of these units of a source's bytes
 abbrev pub shown_lines : List ℕ → List UnitPlace → List ℕ
 shown_lines b units = unit_lines (seen_of b) units
+
+-- of the bytes that a source tells, their units and their ending
+abbrev pub WhereTold : Option (List ℕ) → (List ℕ → List UnitPlace → Option Refusal → Type 0) → Type 0
+WhereTold told P = (b : List ℕ) (units : List UnitPlace) (ending : Option Refusal) → told ≡ Some b → IsShown b units ending → P b units ending

@@ -1,6 +1,6 @@
 -- The steps of `show`, by their answers: what a source gave, what a splitter then stands for, what a sink gained.
 -- `f` and `f'` are counts of faults before and after.
-use Rattle.std.specs.Prelude.{◌≡◌, ℕ, ◌+◌, ◌<◌, ◌≤◌, Bool, true, false, List, [], ◌∷◌, ◌++◌, Option, Some, None, Result, Ok, Err, length, take}
+use Rattle.std.specs.Prelude.{◌≡◌, ℕ, ◌<◌, ◌≤◌, Bool, true, false, List, [], ◌∷◌, ◌++◌, Option, Some, None, Result, Ok, Err, length, take}
 use Rattle.std.specs.Io.KnownBytes.{Appends, Consumes, IsAtEnd, Keeps}
 use Rattle.vx_io.specs.Faults.{Rose}
 use Rattle.vx_io.specs.Written.{AppendsFront}

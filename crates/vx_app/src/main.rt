@@ -10,14 +10,13 @@ mod tests;
 mod words;
 
 pub use run::run;
-pub use words::{file_count, file_word};
-
 use std::alloc::AllocError;
 use std::env;
 use std::fs::File;
 use std::io::{self, ErrorKind};
 use std::process::ExitCode;
 use vx_io::{ClosedSource, FileSource, Source, WriterSink};
+pub use words::{file_count, file_word};
 
 fn main(rt: HostRuntime) -> ExitCode {
     ExitCode::from(status(&rt))

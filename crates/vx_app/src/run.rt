@@ -10,7 +10,7 @@ ghost use Rattle.vx_annexb.specs.ByteStream.{UnitPlace};
 ghost use Rattle.vx_app.specs.Conclusion.{IsTold, Tells, line_of};
 ghost use Rattle.vx_app.specs.Grammar.{IsUnderstood, NamesFiles, texts};
 ghost use Rattle.vx_app.specs.Run.{NoFault, status_at};
-ghost use Rattle.vx_app.specs.Show.{IsShown, shown_lines};
+ghost use Rattle.vx_app.specs.Show.{WhereTold, shown_lines};
 ghost use Rattle.vx_app.specs.ShowSteps.{CountsShow, ShowsBytes, behind_unit};
 ghost use Rattle.vx_app.specs.declared.stop.Stop.TheVariants.{NotUnderstood, Refused, ReadFault, WriteFault, NoMemory};
 
@@ -43,49 +43,44 @@ pub fn run<K: Sink, E: Sink>(
     ensures list { vec_len sources.new ≡ vec_len sources.old }
     ensures unread { (k : ℕ) → 0 < k → slice_get sources.new.items k ≡ slice_get sources.old.items k }
 
-    // What each status tells, of a source whose bytes are known.
-    ensures done { result ≡ 0 → (err.new ≡ err.old)
-        × (faults_at read_faults sources.new.items 0 ≡ faults_at read_faults sources.old.items 0)
-        × (K.write_faults out.new ≡ K.write_faults out.old)
-        × ((b : List ℕ) (units : List UnitPlace) (ending : Option Refusal)
-            → bytes_at bytes_left sources.old.items 0 ≡ Some b → IsShown b units ending
-            → (ending ≡ None) × Appends (K.bytes_taken out.old) (K.bytes_taken out.new) (shown_lines b units)
-            × IsAtEnd (bytes_at bytes_left sources.new.items 0)) }
-    ensures refused { result ≡ 1 →
+    // Without a fault: all lines and the ending, where the source tells its bytes.
+    ensures done { result ≡ 0 → WhereTold (bytes_at bytes_left sources.old.items 0) (λ b units ending. (ending ≡ None)
+        × Appends (K.bytes_taken out.old) (K.bytes_taken out.new) (shown_lines b units)
+        × IsAtEnd (bytes_at bytes_left sources.new.items 0)) }
+    ensures silent { result ≡ 0 → err.new ≡ err.old }
+    ensures refused { result ≡ 1 → WhereTold (bytes_at bytes_left sources.old.items 0) (λ b units ending. (refusal : Refusal)
+        × (ending ≡ Some refusal)
+        × Appends (K.bytes_taken out.old) (K.bytes_taken out.new) (shown_lines b units)
+        × Tells (E.bytes_taken err.old) (E.bytes_taken err.new) (E.write_faults err.old) (E.write_faults err.new)
+        (line_of (Refused refusal (behind_unit (length units))))) }
+    ensures no_fault { (result ≡ 0) ⊎ (result ≡ 1) →
         (faults_at read_faults sources.new.items 0 ≡ faults_at read_faults sources.old.items 0)
-        × (K.write_faults out.new ≡ K.write_faults out.old)
-        × ((b : List ℕ) (units : List UnitPlace) (ending : Option Refusal)
-            → bytes_at bytes_left sources.old.items 0 ≡ Some b → IsShown b units ending
-            → (refusal : Refusal) × (ending ≡ Some refusal)
-            × Appends (K.bytes_taken out.old) (K.bytes_taken out.new) (shown_lines b units)
-            × Tells (E.bytes_taken err.old) (E.bytes_taken err.new) (E.write_faults err.old) (E.write_faults err.new)
-                (line_of (Refused refusal (behind_unit (length units))))) }
-    ensures fault { result ≡ 3 →
-        (Rose (faults_at read_faults sources.old.items 0) (faults_at read_faults sources.new.items 0)
-            × (out.new ≡ out.old)
-            × Tells (E.bytes_taken err.old) (E.bytes_taken err.new) (E.write_faults err.old) (E.write_faults err.new) (line_of (ReadFault 0)))
-        ⊎ (Rose (K.write_faults out.old) (K.write_faults out.new)
-            × (faults_at read_faults sources.new.items 0 ≡ faults_at read_faults sources.old.items 0)
-            × Tells (E.bytes_taken err.old) (E.bytes_taken err.new) (E.write_faults err.old) (E.write_faults err.new) (line_of WriteFault)
-            × ((b : List ℕ) (units : List UnitPlace) (ending : Option Refusal)
-                → bytes_at bytes_left sources.old.items 0 ≡ Some b → IsShown b units ending
-                → AppendsFront (K.bytes_taken out.old) (K.bytes_taken out.new) (shown_lines b units))) }
-    ensures memory { result ≡ 4 → (K.write_faults out.new ≡ K.write_faults out.old)
-        × Tells (E.bytes_taken err.old) (E.bytes_taken err.new) (E.write_faults err.old) (E.write_faults err.new) (line_of NoMemory)
-        × ((b : List ℕ) (units : List UnitPlace) (ending : Option Refusal)
-            → bytes_at bytes_left sources.old.items 0 ≡ Some b → IsShown b units ending
-            → (n : ℕ) × Appends (K.bytes_taken out.old) (K.bytes_taken out.new) (shown_lines b (take n units))) }
-    ensures statuses { result ≤ 4 }
+        × (K.write_faults out.new ≡ K.write_faults out.old) }
 
-    // Which status it is: 4 for want of memory, which is free.
+    // After a failed read nothing is written, after a failed write a front of the lines.
+    ensures fault { result ≡ 3 →
+        ((out.new ≡ out.old) × Rose (faults_at read_faults sources.old.items 0) (faults_at read_faults sources.new.items 0)
+        × Tells (E.bytes_taken err.old) (E.bytes_taken err.new) (E.write_faults err.old) (E.write_faults err.new) (line_of (ReadFault 0)))
+        ⊎ (Rose (K.write_faults out.old) (K.write_faults out.new)
+        × Tells (E.bytes_taken err.old) (E.bytes_taken err.new) (E.write_faults err.old) (E.write_faults err.new) (line_of WriteFault)) }
+    ensures front { result ≡ 3 → WhereTold (bytes_at bytes_left sources.old.items 0) (λ b units ending.
+        AppendsFront (K.bytes_taken out.old) (K.bytes_taken out.new) (shown_lines b units)) }
+
+    // For want of memory, which is free: whole lines of the first units.
+    ensures memory { result ≡ 4 → (K.write_faults out.new ≡ K.write_faults out.old)
+        × Tells (E.bytes_taken err.old) (E.bytes_taken err.new) (E.write_faults err.old) (E.write_faults err.new) (line_of NoMemory) }
+    ensures whole_lines { result ≡ 4 → WhereTold (bytes_at bytes_left sources.old.items 0) (λ b units ending. (n : ℕ)
+        × Appends (K.bytes_taken out.old) (K.bytes_taken out.new) (shown_lines b (take n units))) }
+
+    // Which status it is, want of memory aside.
+    ensures statuses { result ≤ 4 }
     ensures faulted { (faults_at read_faults sources.old.items 0 < faults_at read_faults sources.new.items 0)
-            ⊎ (K.write_faults out.old < K.write_faults out.new)
+        ⊎ (K.write_faults out.old < K.write_faults out.new)
         → (result ≡ 3) ⊎ (result ≡ 4) }
-    ensures exact { IsUnderstood (texts words.now) → (b : List ℕ) (units : List UnitPlace) (ending : Option Refusal)
-        → bytes_at bytes_left sources.old.items 0 ≡ Some b → IsShown b units ending
-        → NoFault (faults_at read_faults sources.old.items 0) (faults_at read_faults sources.new.items 0)
+    ensures exact { IsUnderstood (texts words.now) → WhereTold (bytes_at bytes_left sources.old.items 0) (λ b units ending.
+        NoFault (faults_at read_faults sources.old.items 0) (faults_at read_faults sources.new.items 0)
         → NoFault (K.write_faults out.old) (K.write_faults out.new)
-        → result ≢ 4 → result ≡ status_at ending }
+        → result ≢ 4 → result ≡ status_at ending) }
 {
     match perform(alloc, words, sources, out) {
         Ok(()) => 0,
@@ -107,7 +102,7 @@ fn perform<K: Sink>(
         → ShowsBytes b (K.bytes_taken out.old) (K.bytes_taken out.new) result }
     ensures counts { result ≢ Err NotUnderstood
         → CountsShow (faults_at read_faults sources.old.items 0) (faults_at read_faults sources.new.items 0)
-            (K.write_faults out.old) (K.write_faults out.new) result }
+        (K.write_faults out.old) (K.write_faults out.new) result }
     ensures ended { OnOk result (IsAtEnd (bytes_at bytes_left sources.new.items 0)) }
     ensures read_fault { result ≡ Err (ReadFault 0) → out.new ≡ out.old }
     ensures unread { (k : ℕ) → 0 < k → slice_get sources.new.items k ≡ slice_get sources.old.items k }

@@ -11,8 +11,8 @@ ghost use Rattle.vx_app.specs.ShowSteps.{CountsWrite, WritesLine, ShowsNext, Sho
 
 use crate::stop::Stop;
 use std::alloc::{AllocError, Global};
-use vx_bits::Refusal;
 use vx_annexb::{Span, Splitter, read_header};
+use vx_bits::Refusal;
 use vx_io::{Sink, Source, read_box, write_all};
 use vx_report::{Where, unit_line};
 
@@ -26,11 +26,7 @@ const SOURCE_LIMIT: u64 = 1 << 40;
 const SOURCE_TOO_LONG: Refusal = Refusal::Limit { code: 3 };
 
 /// Writes a line for each NAL unit of a source, in order.
-pub fn show<K: Sink>(
-    alloc: Global,
-    source: &mut Box<dyn Source>,
-    out: &mut K,
-) -> Result<(), Stop>
+pub fn show<K: Sink>(alloc: Global, source: &mut Box<dyn Source>, out: &mut K) -> Result<(), Stop>
     ensures answer { (b : List ℕ) → bytes_left source.old ≡ Some b
         → ShowsBytes b (K.bytes_taken out.old) (K.bytes_taken out.new) result }
     ensures counts { CountsShow (read_faults source.old) (read_faults source.new)
@@ -79,7 +75,7 @@ fn take_piece(
     requires open { splitter.old.all ≡ false }
     ensures answer { (r : List ℕ) → length r ≡ taken → Stands splitter.old r []
         → TakesPiece r splitter.new (bytes_left source.old) (bytes_left source.new)
-            (read_faults source.old) (read_faults source.new) result }
+        (read_faults source.old) (read_faults source.new) result }
     ensures open { OnOk result (splitter.new.all ≡ false) }
     ensures bound { IfOk result (λ n. n ≤ SOURCE_LIMIT + 1 - taken) }
     ensures fed { IfOk result (λ n. fed splitter.new ≡ min SOURCE_LIMIT (taken + n)) }

@@ -18,7 +18,9 @@ pub fn command_of(words: &[String]) -> Option<Command<'_>>
 {
     match words {
         [name, file] if name.as_str() == "show" && !file.is_empty() => {
-            Some(Command::Show { file: file.as_str() })
+            Some(Command::Show {
+                file: file.as_str(),
+            })
         }
         _ => None,
     }

@@ -1,6 +1,5 @@
-use Rattle.std.proofs.Common.{rules, ◌≡◌, List, ℕ, [], Some, subst, sym, ◌∙◌}
+use Rattle.std.proofs.Common.{List, ℕ, [], subst, ◌∙◌}
 use Rattle.std.proofs.lemmas.Result.{err_from_is_err_and}
-use Rattle.std.specs.Io.KnownBytes.{Consumes}
 use Rattle.vx_annexb.specs.Held.{Stands}
 use Rattle.vx_app.proofs.Shown.{taken-whole, ShowsBytes-stopped, ShowsBytes-done, ShowsBytes-beyond}
 use Rattle.vx_app.proofs.show.show.Goals as goal

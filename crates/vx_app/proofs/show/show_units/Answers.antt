@@ -1,6 +1,6 @@
-use Rattle.std.proofs.Common.{rules, ◌≡◌, ◌+◌, ◌≤◌, ◌<◌, List, ℕ, [], ap, Ok, arith, ◌∙◌}
+use Rattle.std.proofs.Common.{◌<◌, ap, Ok, arith, ◌∙◌}
 use Rattle.std.proofs.lemmas.Result.{err_from_is_err_and}
-use Rattle.vx_annexb.specs.Held.{Stands, left_to_seek}
+use Rattle.vx_annexb.specs.Held.{left_to_seek}
 use Rattle.vx_app.proofs.Shown.{HasShown-more, ShowsUnits-stopped}
 use Rattle.vx_app.proofs.show.show_units.Goals as goal
 
@@ -12,6 +12,9 @@ returns-in_err-show_next-clause-answer g c b none =
 pub loop-shown-preserved : goal.loop-shown-preserved
 loop-shown-preserved g c =
     let falls : left_to_seek c.show_next.new.splitter < left_to_seek c.loop-shown.splitter = c.in_ok-show_next.ensures.falls (ap Ok c.if-branch.true) in
-    let step = rw c.if-branch.true at c.in_ok-show_next.ensures.answer in
-    (c.show_next.ensures.all ∙ c.loop-shown.invariant.0, omega arith, c.in_ok-show_next.ensures.counts ∙ c.loop-shown.invariant.2,
-    λ b none. HasShown-more b c.loop-shown.splitter c.show_next.new.splitter _ _ _ c.loop-shown.shown (c.loop-shown.invariant.3 b none) (step b))
+    let step = rw c.if-branch.true at c.in_ok-show_next.ensures.answer in (
+      c.show_next.ensures.all ∙ c.loop-shown.invariant.0,
+      omega arith,
+      c.in_ok-show_next.ensures.counts ∙ c.loop-shown.invariant.2,
+      λ b none. HasShown-more b c.loop-shown.splitter c.show_next.new.splitter _ _ _ c.loop-shown.shown (c.loop-shown.invariant.3 b none) (step b),
+    )

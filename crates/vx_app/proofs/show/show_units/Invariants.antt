@@ -7,9 +7,9 @@ use Rattle.vx_app.proofs.show.show_units.Given as goal
 abbrev pub invariant-loop-shown : goal.invariant-loop-shown
 invariant-loop-shown g l =
     (l.splitter.all ≡ l.initial.splitter.all)
-  × (l.shown + left_to_seek l.splitter ≤ left_to_seek l.initial.splitter)
-  × (g.K.Sink.write_faults l.out ≡ g.K.Sink.write_faults l.initial.out)
-  × ((b : List ℕ) → Stands l.initial.splitter b [] → HasShown b l.splitter (g.K.Sink.bytes_taken l.initial.out) (g.K.Sink.bytes_taken l.out) l.shown)
+    × (l.shown + left_to_seek l.splitter ≤ left_to_seek l.initial.splitter)
+    × (g.K.Sink.write_faults l.out ≡ g.K.Sink.write_faults l.initial.out)
+    × ((b : List ℕ) → Stands l.initial.splitter b [] → HasShown b l.splitter (g.K.Sink.bytes_taken l.initial.out) (g.K.Sink.bytes_taken l.out) l.shown)
 
 abbrev pub decreases-loop-shown : goal.decreases-loop-shown
 decreases-loop-shown g l = left_to_seek l.splitter

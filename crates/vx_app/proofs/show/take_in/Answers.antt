@@ -1,4 +1,4 @@
-use Rattle.std.proofs.Common.{rules, ◌≡◌, ◌+◌, ◌-◌, ◌<◌, ◌≤◌, List, ℕ, length, vec_len, arith, min, sym, ◌∙◌}
+use Rattle.std.proofs.Common.{rules, ◌+◌, ◌≤◌, arith, ◌∙◌}
 use Rattle.vx_app.specs.Show.{source_limit}
 use Rattle.vx_app.proofs.Pieces.{source_limit-is, HasTaken-more, TakesIn-ended}
 use Rattle.vx_app.proofs.show.take_in.Goals as goal

@@ -1,5 +1,5 @@
-use Rattle.std.proofs.Common.{rules, ◌≡◌, ℕ, suc, ◌<◌, ◌≤◌, length, List, [], ◌∷◌, map, slice_index_or, codes, string_bytes, String, arith}
-use Rattle.vx_app.specs.Grammar.{Spells, show, texts}
+use Rattle.std.proofs.Common.{rules, ◌≡◌, ℕ, ◌<◌, ◌≤◌, length, List, [], ◌∷◌, slice_index_or, string_bytes, String, arith}
+use Rattle.vx_app.specs.Grammar.{texts}
 use Rattle.vx_app.proofs.words.command_of.Goals as goal
 
 -- two words by their bytes
