@@ -20,7 +20,8 @@ pub(crate) fn skip_zeros(bytes: &[u8], from: usize) -> usize
     at
 }
 
-// The first zero from `from` on.
+// The first zero from `from` on. It is a call of its own, so that the search where marks are dense stays small.
+#[inline(never)]
 fn next_zero(bytes: &[u8], from: usize) -> Option<usize>
     requires { from ≤ length bytes.now }
     ensures { MatchOption result
