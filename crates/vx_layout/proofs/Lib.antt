@@ -1,0 +1,16 @@
+pub mod Counting
+pub mod Cutting
+pub mod Entries
+pub mod Holding
+pub mod Lowest
+pub mod Marks
+pub mod Members
+pub mod Moving
+pub mod Ordering
+pub mod Owners
+pub mod Parts
+pub mod Preceding
+pub mod Rising
+pub mod Runs
+pub mod Splitting
+pub mod Tiling

@@ -1,0 +1,7 @@
+use Rattle.std.proofs.Common.{◌≡◌, ℕ, ◌<◌, ◌≤◌, ◌++◌, true, false, take, count_by, filter}
+use Rattle.vx_layout.specs.Rects.{Precedes, fits, holds, slices_of}
+use Rattle.std.specs.List.{flat_map}
+use Rattle.vx_layout.proofs.plain.ordered.Given as goal
+
+abbrev pub invariant-loop-i : goal.invariant-loop-i
+invariant-loop-i l = l.all ≡ flat_map (slices_of l.slices) (take l.i l.subpics)

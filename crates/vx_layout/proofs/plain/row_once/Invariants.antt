@@ -1,0 +1,6 @@
+use Rattle.std.proofs.Common.{◌≡◌, ℕ, ◌<◌, ◌≤◌, ◌++◌, true, false, take, count_by, filter}
+use Rattle.vx_layout.specs.Rects.{Precedes, fits, holds, slices_of}
+use Rattle.vx_layout.proofs.plain.row_once.Given as goal
+
+abbrev pub invariant-loop-x : goal.invariant-loop-x
+invariant-loop-x l = (x : ℕ) → x < l.x → count_by (λ r. holds r x l.y) l.rects ≡ 1

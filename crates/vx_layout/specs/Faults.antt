@@ -1,0 +1,103 @@
+-- When tiles, slices and subpictures make up a picture, and which fault they have where they don't (H.266 6.3.1, 6.5.1, 7.4.3.4).
+use Rattle.std.specs.Prelude.{◌≡◌, ℕ, ◌+◌, ◌<◌, ◌≤◌, ◌⊎◌, ⊤, true, List, All, Any, Contains, length}
+use Rattle.std.specs.List.{AllPairs}
+use Rattle.vx_layout.specs.declared.numbers.Numbers.{Numbers}
+use Rattle.vx_layout.specs.declared.numbers.LayoutError.{LayoutError}
+use Rattle.vx_layout.specs.declared.numbers.LayoutError.TheVariants.{Memory, Fault}
+use Rattle.vx_layout.specs.declared.rect.Rect.{Rect}
+use Rattle.vx_layout.specs.Bounds.{last}
+use Rattle.vx_layout.specs.Rects.{CoversOnce, IsPart, Precedes, fits, holds, in_order}
+
+-- the picture's size in CTUs
+abbrev pub width : Numbers → ℕ
+width n = last n.columns
+
+abbrev pub height : Numbers → ℕ
+height n = last n.rows
+
+-- no fault 3: each subpicture is a part of the picture, and each CTU lies in exactly one
+pub record SubpicsCover (n : Numbers) : Type 0 where
+  pub parts : All (IsPart (width n) (height n)) n.subpics
+  pub once : CoversOnce n.subpics (width n) (height n)
+
+-- no bound stands strictly between a and b
+abbrev pub NoneBetween : List ℕ → ℕ → ℕ → Type 0
+NoneBetween bounds a b = (c : ℕ) → Contains bounds c → a < c → b ≤ c
+
+-- a tile column, or a tile row, goes from the bound a to the next bound, b
+pub record IsSpan (bounds : List ℕ) (a b : ℕ) : Type 0 where
+  pub begins : Contains bounds a
+  pub ends : Contains bounds b
+  pub rises : a < b
+  pub next : NoneBetween bounds a b
+
+-- a tile: a tile column in a tile row
+pub record IsTile (columns rows : List ℕ) (t : Rect) : Type 0 where
+  pub across : IsSpan columns t.x (t.x + t.w)
+  pub down : IsSpan rows t.y (t.y + t.h)
+
+-- the rectangles share a CTU
+abbrev pub Meet : Rect → Rect → Type 0
+Meet r s = (x y : ℕ) × (holds r x y ≡ true) × (holds s x y ≡ true)
+
+-- each CTU of r lies in s
+abbrev pub LiesIn : Rect → Rect → Type 0
+LiesIn r s = (x y : ℕ) → holds r x y ≡ true → holds s x y ≡ true
+
+-- the same left and right borders
+abbrev pub SameSides : Rect → Rect → Type 0
+SameSides r s = (r.x ≡ s.x) × (r.x + r.w ≡ s.x + s.w)
+
+-- each tile that shares a CTU with the subpicture lies in it, or holds it between the tile's own left and right borders
+abbrev pub SplitsWell : List ℕ → List ℕ → Rect → Type 0
+SplitsWell columns rows s = (t : Rect) → IsTile columns rows t → Meet t s → LiesIn t s ⊎ (LiesIn s t × SameSides s t)
+
+-- no fault 4
+abbrev pub TilesSplit : Numbers → Type 0
+TilesSplit n = All (SplitsWell n.columns n.rows) n.subpics
+
+-- no fault 5: each CTU lies in exactly one slice
+abbrev pub SlicesCover : Numbers → Type 0
+SlicesCover n = CoversOnce n.slices (width n) (height n)
+
+-- no fault 6: each slice lies in one subpicture
+abbrev pub SlicesFit : Numbers → Type 0
+SlicesFit n = All (λ r. Any (λ s. fits r s ≡ true) n.subpics) n.slices
+
+-- no fault 7: no CTU has its left or upper neighbour in a later slice
+abbrev pub SlicesInOrder : Numbers → Type 0
+SlicesInOrder n = AllPairs Precedes (in_order n.slices n.subpics)
+
+-- none of the faults
+pub record IsLayout (n : Numbers) : Type 0 where
+  pub subpics : SubpicsCover n
+  pub tiles : TilesSplit n
+  pub slices : SlicesCover n
+  pub split : SlicesFit n
+  pub order : SlicesInOrder n
+
+-- k is the lowest fault
+pub record IsLowestFault (n : Numbers) (k : ℕ) : Type 0 where
+  pub from : 3 ≤ k
+  pub upto : k ≤ 7
+  pub third : k ≡ 3 → SubpicsCover n → ⊥
+  pub no_third : 3 < k → SubpicsCover n
+  pub fourth : k ≡ 4 → TilesSplit n → ⊥
+  pub no_fourth : 4 < k → TilesSplit n
+  pub fifth : k ≡ 5 → SlicesCover n → ⊥
+  pub no_fifth : 5 < k → SlicesCover n
+  pub sixth : k ≡ 6 → SlicesFit n → ⊥
+  pub no_sixth : 6 < k → SlicesFit n
+  pub seventh : k ≡ 7 → SlicesInOrder n → ⊥
+
+-- P holds of the number of a fault
+abbrev pub IfFault : LayoutError → (ℕ → Type 0) → Type 0
+IfFault Memory P = ⊤
+IfFault (Fault k) P = P k
+
+-- numbers within the limits of a picture
+pub record IsInLimits (n : Numbers) : Type 0 where
+  pub columns : (2 ≤ length n.columns) × (width n ≤ 512)
+  pub rows : (2 ≤ length n.rows) × (height n ≤ 512)
+  pub slices : (1 ≤ length n.slices) × (length n.slices ≤ 1000)
+  pub subpics : (1 ≤ length n.subpics) × (length n.subpics ≤ 1000)

@@ -1,0 +1,37 @@
+-- A layout seen as its numbers, and the slices of its subpictures by their addresses.
+use Rattle.std.specs.Prelude.{ℕ, List}
+use Rattle.std.specs.List.{slice_index_or}
+use Rattle.vx_layout.specs.declared.numbers.Numbers.{Numbers}
+use Rattle.vx_layout.specs.declared.rect.Rect.{Rect}
+use Rattle.vx_layout.specs.Bounds.{Rises}
+use Rattle.vx_layout.specs.Faults.{IsInLimits, IsLayout}
+use Rattle.vx_layout.specs.Groups.{AreGroups}
+use Rattle.vx_layout.specs.Rects.{slices_of}
+
+-- no rectangle: what stands past the end of a list
+abbrev pub no_rect : Rect
+no_rect = record { x = 0; y = 0; w = 0; h = 0 }
+
+-- subpicture k
+abbrev pub subpic_at : Numbers → ℕ → Rect
+subpic_at n k = slice_index_or n.subpics k no_rect
+
+-- its slices, in the order of their addresses
+abbrev pub slices_in : Numbers → ℕ → List Rect
+slices_in n k = slices_of n.slices (subpic_at n k)
+
+-- its slice of address m
+abbrev pub slice_at : Numbers → ℕ → ℕ → Rect
+slice_at n k m = slice_index_or (slices_in n k) m no_rect
+
+-- what holds of the numbers of each layout
+pub record IsSound (n : Numbers) : Type 0 where
+  pub layout : IsLayout n
+  pub limits : IsInLimits n
+  pub columns : Rises n.columns
+  pub rows : Rises n.rows
+
+-- and of the groups that it keeps
+pub record IsKept (n : Numbers) (groups : List (List Rect)) : Type 0 where
+  pub sound : IsSound n
+  pub groups_are : AreGroups groups n.slices n.subpics

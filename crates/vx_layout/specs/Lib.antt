@@ -1,0 +1,11 @@
+pub mod Bounds
+pub mod Faults
+pub mod Groups
+pub mod Layouts
+pub mod Lines
+pub mod Marks
+pub mod Plain
+pub mod Rects
+pub mod Regions
+pub mod Scan
+pub mod TileErrors

@@ -1,0 +1,30 @@
+-- A subpicture as a layout of its own, counted from its corner.
+use Rattle.std.specs.Prelude.{ℕ, ◌+◌, ◌-◌, ◌&&◌, nat_lt, List, [], ◌∷◌, ◌++◌, filter, map}
+use Rattle.vx_layout.specs.declared.numbers.Numbers.{Numbers}
+use Rattle.vx_layout.specs.declared.rect.Rect.{Rect}
+use Rattle.vx_layout.specs.Layouts.{slices_in, subpic_at}
+
+-- the bounds strictly inside the `size` columns or rows that begin at `from`
+abbrev pub inner : List ℕ → ℕ → ℕ → List ℕ
+inner bounds from size = filter (λ b. nat_lt from b && nat_lt b (from + size)) bounds
+
+-- the bounds cut to these columns or rows, and counted from the first of them
+abbrev pub cut : List ℕ → ℕ → ℕ → List ℕ
+cut bounds from size = 0 ∷ (map (λ b. b - from) (inner bounds from size) ++ size ∷ [])
+
+-- a rectangle counted from the corner of another
+abbrev pub counted_from : Rect → Rect → Rect
+counted_from corner r = record { x = r.x - corner.x; y = r.y - corner.y; w = r.w; h = r.h }
+
+-- a subpicture as a picture
+abbrev pub whole : Rect → Rect
+whole s = record { x = 0; y = 0; w = s.w; h = s.h }
+
+-- the layout of subpicture k: its tile bounds, its slices by their addresses, and itself
+abbrev pub region_of : Numbers → ℕ → Numbers
+region_of n k = record {
+  columns = cut n.columns (subpic_at n k).x (subpic_at n k).w;
+  rows = cut n.rows (subpic_at n k).y (subpic_at n k).h;
+  slices = map (counted_from (subpic_at n k)) (slices_in n k);
+  subpics = whole (subpic_at n k) ∷ [];
+}

@@ -1,0 +1,121 @@
+//! A picture's layout: numbers without a fault, and its slices by subpicture and address.
+
+use crate::entry::count_entries;
+use crate::faults::{check_order, check_slices, check_subpics, check_tiles};
+use crate::groups::group_slices;
+use crate::numbers::{LayoutError, Numbers};
+use crate::rect::{Rect, RectList};
+use crate::region::{count_from, cut};
+use std::alloc::{AllocError, Global};
+use std::marker::Model;
+
+/// The tiles, slices and subpictures of a picture, which break none of the rules on them.
+///
+/// It is seen as its numbers.
+#[derive(Drop)]
+pub struct Layout {
+    numbers: Numbers,
+    groups: Vec<RectList>,
+}
+
+impl Model for Layout {
+    ghost use Rattle.vx_layout.specs.declared.numbers.Numbers.{Numbers};
+    ghost use Rattle.vx_layout.specs.Layouts.{IsKept};
+
+    ghost Value = { Numbers };
+
+    ghost view = { λ l. l.numbers };
+
+    ghost invariant = { λ l. IsKept l.numbers l.groups.items };
+}
+
+impl Layout {
+    ghost use Rattle.std.specs.Prelude.{◌≡◌, ℕ, ◌<◌, length, OnOk, IfOk, IfErr, slice_get, Some};
+    ghost use Rattle.vx_layout.specs.Faults.{IfFault, IsInLimits, IsLayout, IsLowestFault};
+    ghost use Rattle.vx_layout.specs.Layouts.{IsSound, slice_at, slices_in};
+    ghost use Rattle.vx_layout.specs.Regions.{region_of};
+    ghost use Rattle.vx_layout.specs.Scan.{entries};
+
+    /// Takes numbers for a layout.
+    ///
+    /// Time goes with the CTUs, the slices, the subpictures and the tile bounds; a slice without a CTU lies in
+    /// each subpicture, and is gathered for each.
+    ///
+    /// # Errors
+    ///
+    /// The lowest fault, exactly where there is one.
+    pub fn new(alloc: Global, numbers: Numbers) -> Result<Layout, LayoutError>
+        requires { IsInLimits numbers }
+        ensures numbers { IfOk result (λ layout. layout ≡ numbers) }
+        ensures sound { OnOk result (IsLayout numbers) }
+        ensures fault { IfErr result (λ e. IfFault e (IsLowestFault numbers)) }
+    {
+        let owners = check_subpics(alloc, &numbers)?;
+        check_tiles(alloc, &numbers)?;
+        check_slices(alloc, &numbers)?;
+        let groups = group_slices(alloc, &numbers, &owners)?;
+        check_order(alloc, &numbers, &groups)?;
+        Ok(Layout { numbers, groups })
+    }
+
+    /// The number of slices of a subpicture.
+    pub fn slice_count(&self, subpic: u32) -> u32
+        requires { subpic < length self.now.subpics }
+        ensures count { result ≡ length (slices_in self.now subpic) }
+        ensures sound { IsSound self.now }
+    {
+        self.groups[subpic as usize].len() as u32
+    }
+
+    /// The rectangle of a slice, by the index of its subpicture and its address there.
+    pub fn slice_rect(&self, subpic: u32, address: u32) -> Rect
+        requires subpic { subpic < length self.now.subpics }
+        requires address { address < length (slices_in self.now subpic) }
+        ensures value { slice_get (slices_in self.now subpic) address ≡ Some result }
+        ensures index { result ≡ slice_at self.now subpic address }
+        ensures sound { IsSound self.now }
+    {
+        self.groups[subpic as usize].item(address as usize)
+    }
+
+    /// The number of entry points of a slice, by the index of its subpicture and its address there: the CTUs that
+    /// stand in another tile than the CTU before, or with `sync` in another row (H.266 7.4.8, NumEntryPoints).
+    pub fn entry_points(&self, subpic: u32, address: u32, sync: bool) -> u32
+        requires subpic { subpic < length self.now.subpics }
+        requires address { address < length (slices_in self.now subpic) }
+        ensures count { result ≡ entries self.now.columns self.now.rows (slice_at self.now subpic address) sync }
+        ensures sound { IsSound self.now }
+    {
+        let slice = self.slice_rect(subpic, address);
+        count_entries(&self.numbers.columns, &self.numbers.rows, slice, sync)
+    }
+
+    /// A subpicture as a layout of its own: its tile bounds and its slices, counted from its corner, and one subpicture.
+    ///
+    /// # Errors
+    ///
+    /// Where memory runs out.
+    pub fn region(&self, alloc: Global, subpic: u32) -> Result<Numbers, AllocError>
+        requires { subpic < length self.now.subpics }
+        ensures numbers { IfOk result (λ numbers. numbers ≡ region_of self.now subpic) }
+        ensures sound { IsSound self.now }
+    {
+        let corner = self.numbers.subpics.item(subpic as usize);
+        let columns = cut(alloc, &self.numbers.columns, corner.x, corner.w)?;
+        let rows = cut(alloc, &self.numbers.rows, corner.y, corner.h)?;
+        let slices = count_from(alloc, &self.groups[subpic as usize], corner)?;
+        let mut subpics = RectList::new(alloc);
+        subpics.push(Rect {
+            x: 0,
+            y: 0,
+            w: corner.w,
+            h: corner.h,
+        })?;
+        Ok(Numbers {
+            columns,
+            rows,
+            slices,
+            subpics,
+        })
+    }
+}

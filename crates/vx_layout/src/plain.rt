@@ -1,0 +1,219 @@
+//! The layout faults, told straight from their definitions: slow, and a second opinion on [`crate::Layout::new`].
+//!
+//! The test for fault 4 alone is shared with it.
+ghost use Rattle.std.specs.Prelude.{◌≡◌, ℕ, ◌<◌, ◌≤◌, ◌++◌, [], ◌∷◌, true, Any, cond, count_by, length, IfErr, IfOk, OnOk};
+ghost use Rattle.std.specs.Bool.{OnTrue, OnFalse};
+ghost use Rattle.std.specs.List.{AllPairs, slice_index_or};
+ghost use Rattle.vx_layout.specs.Faults.{IfFault, IsInLimits, IsLayout, IsLowestFault, SlicesCover, SlicesFit, SlicesInOrder, SubpicsCover};
+ghost use Rattle.vx_layout.specs.Plain.{meet, precedes};
+ghost use Rattle.vx_layout.specs.Rects.{CoversOnce, Precedes, fits, holds, in_order, slices_of};
+ghost use Rattle.vx_layout.specs.declared.rect.Rect.{Rect};
+
+use crate::faults::{are_parts, check_tiles};
+use crate::numbers::{LayoutError, Numbers};
+use crate::rect::{Rect, RectList};
+use std::alloc::{AllocError, Global};
+
+/// Tells whether numbers are a layout, under the contract of [`crate::Layout::new`].
+///
+/// Time goes with the products of CTUs and rectangles, and with the square of the number of slices.
+///
+/// # Errors
+///
+/// The lowest fault, exactly where there is one.
+pub fn first_fault(alloc: Global, numbers: &Numbers) -> Result<(), LayoutError>
+    requires { IsInLimits numbers.now }
+    ensures sound { OnOk result (IsLayout numbers.now) }
+    ensures fault { IfErr result (λ e. IfFault e (IsLowestFault numbers.now)) }
+{
+    cover_by_subpics(numbers)?;
+    check_tiles(alloc, numbers)?;
+    cover_by_slices(numbers)?;
+    fit_slices(numbers)?;
+    order_slices(alloc, numbers)
+}
+
+/// Fault 3.
+fn cover_by_subpics(numbers: &Numbers) -> Result<(), LayoutError>
+    requires { IsInLimits numbers.now }
+    ensures cover { OnOk result (SubpicsCover numbers.now) }
+    ensures fault { IfErr result (λ e. IfFault e (λ k. (k ≡ 3) × (SubpicsCover numbers.now → ⊥))) }
+{
+    let (width, height) = (numbers.columns.last(), numbers.rows.last());
+    if !are_parts(&numbers.subpics, width, height) {
+        return Err(LayoutError::Fault(3));
+    }
+    if !covers_once(&numbers.subpics, width, height) {
+        return Err(LayoutError::Fault(3));
+    }
+    Ok(())
+}
+
+/// Fault 5.
+fn cover_by_slices(numbers: &Numbers) -> Result<(), LayoutError>
+    requires { IsInLimits numbers.now }
+    ensures cover { OnOk result (SlicesCover numbers.now) }
+    ensures fault { IfErr result (λ e. IfFault e (λ k. (k ≡ 5) × (SlicesCover numbers.now → ⊥))) }
+{
+    if !covers_once(&numbers.slices, numbers.columns.last(), numbers.rows.last()) {
+        return Err(LayoutError::Fault(5));
+    }
+    Ok(())
+}
+
+/// Fault 6.
+fn fit_slices(numbers: &Numbers) -> Result<(), LayoutError>
+    ensures split { OnOk result (SlicesFit numbers.now) }
+    ensures fault { IfErr result (λ e. IfFault e (λ k. (k ≡ 6) × (SlicesFit numbers.now → ⊥))) }
+{
+    for i in 0..numbers.slices.len() {
+        if !fits_some(numbers.slices.item(i), &numbers.subpics) {
+            return Err(LayoutError::Fault(6));
+        }
+    }
+    Ok(())
+}
+
+/// Fault 7.
+fn order_slices(alloc: Global, numbers: &Numbers) -> Result<(), LayoutError>
+    ensures order { OnOk result (SlicesInOrder numbers.now) }
+    ensures fault { IfErr result (λ e. IfFault e (λ k. (k ≡ 7) × (SlicesInOrder numbers.now → ⊥))) }
+{
+    let ordered = ordered(alloc, &numbers.slices, &numbers.subpics)?;
+    if !are_in_order(&ordered) {
+        return Err(LayoutError::Fault(7));
+    }
+    Ok(())
+}
+
+/// Whether each CTU of a picture lies in exactly one of the rectangles.
+fn covers_once(rects: &RectList, width: u32, height: u32) -> bool
+    ensures once { OnTrue result (CoversOnce rects.now width height) }
+    ensures not_once { OnFalse result (CoversOnce rects.now width height → ⊥) }
+{
+    for y in 0..height {
+        if !row_once(rects, width, y) {
+            return false;
+        }
+    }
+    true
+}
+
+/// Whether each CTU of a row lies in exactly one of the rectangles.
+fn row_once(rects: &RectList, width: u32, y: u32) -> bool
+    ensures once { OnTrue result ((x : ℕ) → x < width → count_by (λ r. holds r x y) rects.now ≡ 1) }
+    ensures not_once { OnFalse result (((x : ℕ) → x < width → count_by (λ r. holds r x y) rects.now ≡ 1) → ⊥) }
+{
+    for x in 0..width {
+        if holders(rects, x, y) != 1 {
+            return false;
+        }
+    }
+    true
+}
+
+/// In how many of the rectangles a CTU lies.
+fn holders(rects: &RectList, x: u32, y: u32) -> usize
+    ensures { result ≡ count_by (λ r. holds r x y) rects.now }
+{
+    let mut count = 0;
+    for i in 0..rects.len() {
+        if rects.item(i).holds(x, y) {
+            count += 1;
+        }
+    }
+    count
+}
+
+/// Whether a slice lies in a subpicture.
+fn fits_some(slice: Rect, subpics: &RectList) -> bool
+    ensures some { OnTrue result (Any (λ s. fits slice s ≡ true) subpics.now) }
+    ensures none { OnFalse result (Any (λ s. fits slice s ≡ true) subpics.now → ⊥) }
+{
+    for i in 0..subpics.len() {
+        if slice.fits(&subpics.item(i)) {
+            return true;
+        }
+    }
+    false
+}
+
+/// The slices by rising subpicture and then by their place in the slice list.
+fn ordered(alloc: Global, slices: &RectList, subpics: &RectList) -> Result<RectList, AllocError>
+    ensures { IfOk result (λ all. all ≡ in_order slices.now subpics.now) }
+{
+    let mut all = RectList::new(alloc);
+    for i in 0..subpics.len() {
+        append_slices(&mut all, slices, subpics.item(i))?;
+    }
+    Ok(all)
+}
+
+/// Appends the slices that lie in a subpicture.
+fn append_slices(all: &mut RectList, slices: &RectList, subpic: Rect) -> Result<(), AllocError>
+    ensures { OnOk result (all.new ≡ all.old ++ slices_of slices.now subpic) }
+{
+    for i in 0..slices.len() {
+        append_fitting(all, slices.item(i), subpic)?;
+    }
+    Ok(())
+}
+
+/// Appends a slice where it lies in a subpicture.
+fn append_fitting(all: &mut RectList, slice: Rect, subpic: Rect) -> Result<(), AllocError>
+    ensures { OnOk result (all.new ≡ all.old ++ cond (fits slice subpic) (slice ∷ []) []) }
+{
+    if !slice.fits(&subpic) {
+        return Ok(());
+    }
+    all.push(slice)
+}
+
+/// Whether no CTU of a rectangle has its left or upper neighbour in a later one.
+fn are_in_order(rects: &RectList) -> bool
+    ensures order { OnTrue result (AllPairs Precedes rects.now) }
+    ensures disorder { OnFalse result (AllPairs Precedes rects.now → ⊥) }
+{
+    for j in 0..rects.len() {
+        if !all_precede(rects, j) {
+            return false;
+        }
+    }
+    true
+}
+
+/// Whether each earlier rectangle precedes the one at `j`.
+fn all_precede(rects: &RectList, j: usize) -> bool
+    requires { j < length rects.now }
+    ensures all { OnTrue result ((i : ℕ) (d : Rect) → i < j → Precedes (slice_index_or rects.now i d) (slice_index_or rects.now j d)) }
+    ensures not_all { OnFalse result (((i : ℕ) (d : Rect) → i < j → Precedes (slice_index_or rects.now i d) (slice_index_or rects.now j d)) → ⊥) }
+{
+    let later = rects.item(j);
+    for i in 0..j {
+        if !precedes(rects.item(i), later) {
+            return false;
+        }
+    }
+    true
+}
+
+/// Whether no CTU of `r` has its left or its upper neighbour in `s`.
+#[tactic(auto, unfolding(crate::specs::Plain::precedes))]
+fn precedes(r: Rect, s: Rect) -> bool
+    ensures { result ≡ precedes r s }
+{
+    let beside = meet(r.x, r.w, s.x, s.w, 1) && meet(r.y, r.h, s.y, s.h, 0);
+    let below = meet(r.x, r.w, s.x, s.w, 0) && meet(r.y, r.h, s.y, s.h, 1);
+    !beside && !below
+}
+
+/// Whether one of the `size` numbers from `from` on is `step` above one of the `other_size` numbers from `other` on.
+#[tactic(auto, unfolding(crate::specs::Plain::meet))]
+fn meet(from: u32, size: u32, other: u32, other_size: u32, step: u32) -> bool
+    requires { step ≤ 1 }
+    ensures { result ≡ meet from size other other_size step }
+{
+    let (low, high) = (u64::from(from), u64::from(from) + u64::from(size));
+    let (other_low, other_high) = (u64::from(other) + u64::from(step), u64::from(other) + u64::from(other_size) + u64::from(step));
+    low.max(other_low) < high.min(other_high)
+}

@@ -1,0 +1,96 @@
+//! Rectangles of CTUs, and lists of them.
+ghost use Rattle.std.specs.Prelude.{◌≡◌, ◌==◌, ◌+◌, ◌<◌, ◌≤◌, ◌↔◌, ◌&&◌, ◌||◌, IsTrue, nat_le, nat_lt};
+ghost use Rattle.std.specs.Bool.{OnTrue, OnFalse};
+ghost use Rattle.vx_layout.specs.Regions.{counted_from};
+ghost use Rattle.vx_layout.specs.Rects.{IsPart, fits, holds};
+
+use vx_bits::Copied;
+
+/// A rectangle of CTUs: its left column, its upper row, its width and its height.
+#[derive(Clone, Copy, Debug, PartialEq, Eq)]
+pub struct Rect {
+    /// The column of its left CTUs.
+    pub x: u32,
+    /// The row of its upper CTUs.
+    pub y: u32,
+    /// Its width in CTUs.
+    pub w: u32,
+    /// Its height in CTUs.
+    pub h: u32,
+}
+
+/// Rectangles, as the slices or the subpictures of a picture.
+pub type RectList = Copied<Rect>;
+
+impl Rect {
+    /// Whether it has no CTU.
+    pub fn is_empty(&self) -> bool
+        ensures { result ≡ (self.now.w == 0 || self.now.h == 0) }
+    {
+        self.w == 0 || self.h == 0
+    }
+
+    /// Whether the CTU in column `x` and row `y` lies in it.
+    #[tactic(auto, unfolding(crate::specs::Rects::holds))]
+    pub fn holds(&self, x: u32, y: u32) -> bool
+        ensures { result ≡ holds self.now x y }
+    {
+        is_among(x, self.x, self.w) && is_among(y, self.y, self.h)
+    }
+
+    /// Whether all its CTUs lie in `outer`.
+    #[tactic(auto, unfolding(crate::specs::Rects::fits))]
+    pub fn fits(&self, outer: &Rect) -> bool
+        ensures { result ≡ fits self.now outer.now }
+    {
+        self.is_empty() || self.is_inside(outer)
+    }
+
+    /// Whether it holds a CTU and lies in a picture of `width` times `height` CTUs.
+    pub fn is_part_of(&self, width: u32, height: u32) -> bool
+        ensures inside { OnTrue result (IsPart width height self.now) }
+        ensures outside { OnFalse result (IsPart width height self.now → ⊥) }
+    {
+        ends_by(self.x, self.w, width) && ends_by(self.y, self.h, height)
+    }
+
+    /// The same rectangle, counted from the corner of another.
+    pub fn counted_from(&self, corner: Rect) -> Rect
+        ensures { result ≡ counted_from corner self.now }
+    {
+        Rect {
+            x: self.x.saturating_sub(corner.x),
+            y: self.y.saturating_sub(corner.y),
+            w: self.w,
+            h: self.h,
+        }
+    }
+
+    /// Whether its borders lie in `outer`.
+    fn is_inside(&self, outer: &Rect) -> bool
+        ensures { result ≡ ((nat_le outer.now.x self.now.x && nat_le (self.now.x + self.now.w) (outer.now.x + outer.now.w)) && (nat_le outer.now.y self.now.y && nat_le (self.now.y + self.now.h) (outer.now.y + outer.now.h))) }
+    {
+        is_part(self.x, self.w, outer.x, outer.w) && is_part(self.y, self.h, outer.y, outer.h)
+    }
+}
+
+/// Whether `n` is one of the `size` numbers from `from` on.
+fn is_among(n: u32, from: u32, size: u32) -> bool
+    ensures { result ≡ (nat_le from n && nat_lt n (from + size)) }
+{
+    from <= n && u64::from(n) < u64::from(from) + u64::from(size)
+}
+
+/// Whether the `size` numbers from `from` on are among the `outer_size` from `outer` on.
+fn is_part(from: u32, size: u32, outer: u32, outer_size: u32) -> bool
+    ensures { result ≡ (nat_le outer from && nat_le (from + size) (outer + outer_size)) }
+{
+    outer <= from && u64::from(from) + u64::from(size) <= u64::from(outer) + u64::from(outer_size)
+}
+
+/// Whether there are numbers from `from` on, `size` of them, and all are below `limit`.
+fn ends_by(from: u32, size: u32, limit: u32) -> bool
+    ensures { IsTrue result ↔ ((0 < size) × (from + size ≤ limit)) }
+{
+    0 < size && u64::from(from) + u64::from(size) <= u64::from(limit)
+}
