@@ -1,0 +1,10 @@
+pub mod Codings
+pub mod Items
+pub mod Numbers
+pub mod Apart
+pub mod Blocks
+pub mod Readings
+pub mod Steps
+pub mod Taking
+pub mod Values
+pub mod Writings

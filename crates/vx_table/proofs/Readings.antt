@@ -1,0 +1,147 @@
+-- A walk of a reader gives what the relations say.
+use Rattle.std.proofs.Common.{◌≡◌, ℕ, ℤ, Bool, List, [], ◌∷◌, ◌++◌, Result, Ok, Err, refl, ap, sym, subst, ◌∙◌, ◌*◌, length}
+use Rattle.std.proofs.lemmas.List.{append-nil, append_assoc}
+use Rattle.vx_bits.specs.declared.list.Item.{Item}
+use Rattle.vx_bits.specs.declared.refusal.Refusal.{Refusal}
+use Rattle.vx_bits.specs.declared.refusal.ReadError.{ReadError}
+use Rattle.vx_bits.specs.declared.refusal.ReadError.TheVariants as errors
+use Rattle.vx_bits.specs.Codes.{bits_of}
+use Rattle.vx_bits.specs.Place.{Place}
+use Rattle.vx_table.specs.declared.rows.Cell.{Cell}
+use Rattle.vx_table.specs.Forms.{Form, done, field}
+use Rattle.vx_table.specs.Walks.{Walks, ended, coded, refused, leaving}
+use Rattle.vx_table.specs.Spelling.{Stands, Spells, at_end, behind, Reaches, here, later, IsRefused, item_of, items_along}
+use Rattle.vx_table.specs.Reading.{at_front, reads_field, IsFound, StopsAt, IsFirstRefusal, IsAnswered, IsRefusedWith, Reads}
+use Rattle.vx_table.proofs.Codings.{begins_apart, stands_not_refused, refused_once}
+
+-- the same at an equal total
+spells_at : {A : Type 0} {f : Form A} {w : List ℤ} {left rest : List Bool} (s t : ℕ) → s ≡ t → Spells s f w left rest → Spells t f w left rest
+spells_at {f} {w} {left} {rest} s t e h = subst (λ x. Spells x f w left rest) e h
+
+reaches_at : {A : Type 0} {f : Form A} {w : List ℤ} {left rest : List Bool} {cell : Cell ℕ} (s t : ℕ) → s ≡ t → Reaches s f w left cell rest → Reaches t f w left cell rest
+reaches_at {f} {w} {left} {rest} {cell} s t e h = subst (λ x. Reaches x f w left cell rest) e h
+
+refused_at : {cell : Cell ℕ} {rest : List Bool} {r : Refusal} (s t : ℕ) → s ≡ t → IsRefused cell s rest r → IsRefused cell t rest r
+refused_at {cell} {rest} {r} s t e h = subst (λ x. IsRefused cell x rest r) e h
+
+-- the items of values behind one more
+one_more : {A : Type 0} (cell : Cell ℕ) (goes : ℤ → Form A) (items between after : List Item) (v : ℤ) (w : List ℤ)
+    → between ≡ items ++ item_of cell v → after ≡ between ++ items_along (goes v) w → after ≡ items ++ items_along (field cell goes) (v ∷ w)
+one_more cell goes items between after v w first more = more ∙ (ap (λ front. front ++ items_along (goes v) w) first ∙ append_assoc items (item_of cell v) (items_along (goes v) w))
+
+-- what is read is spelled
+pub found : {A : Type 0} {form : Form A} {old new : Place} {items after : List Item} {a : A}
+    → Walks reads_field form old items (Ok a) new after → IsFound form old items new after
+found {items} ended = record { values = []; spelled = at_end; total = refl; gained = sym (append-nil items) }
+found {form = field cell goes} {old} {new} {items} {after} (coded {d} {j} {v} s rest) =
+    let more = found rest in
+    record {
+      values = v ∷ more.values;
+      spelled = behind s.0 (spells_at d.total old.total s.1 more.spelled);
+      total = more.total ∙ s.1;
+      gained = one_more cell goes items j after v more.values s.2 more.gained;
+    }
+
+-- the items of a longer front
+longer : {A : Type 0} {cell : Cell ℕ} {goes : ℤ → Form A} {old mid : Place} {items between after : List Item} {v : ℤ} {next : Cell ℕ} {rest : List Bool}
+    → Stands cell old.total v old.left mid.left → mid.total ≡ old.total → between ≡ items ++ item_of cell v
+    → StopsAt (goes v) mid between after next rest → StopsAt (field cell goes) old items after next rest
+longer {cell} {goes} {old} {mid} {items} {between} {after} {v} stands total gained more = record {
+  values = v ∷ more.values;
+  reached = later stands (reaches_at mid.total old.total total more.reached);
+  gained = one_more cell goes items between after v more.values gained more.gained;
+}
+
+at_once : {A : Type 0} {cell : Cell ℕ} {goes : ℤ → Form A} {old : Place} {items after : List Item} → after ≡ items → StopsAt (field cell goes) old items after cell old.left
+at_once {items} same = record { values = []; reached = here; gained = same ∙ sym (append-nil items) }
+
+-- a refusal is that of the longest front
+pub stopped : {A : Type 0} {form : Form A} {old new : Place} {items after : List Item} (r : Refusal)
+    → Walks {A = A} reads_field form old items (Err (errors.Refused r)) new after → IsFirstRefusal form old items after r
+stopped {form = done a} r walk = elim walk [ ]
+stopped {form = field cell goes} {old} r (refused s) = record { cell = cell; rest = old.left; stops = at_once s.1; refused = s.0 }
+stopped {form = field cell goes} {old} r (coded {d} s walk) =
+    let more = stopped r walk in
+    record { cell = more.cell; rest = more.rest; stops = longer s.0 s.1 s.2 more.stops; refused = refused_at d.total old.total s.1 more.refused }
+
+-- and where memory runs out, a front was read
+pub interrupted : {A : Type 0} {form : Form A} {old new : Place} {items after : List Item}
+    → Walks {A = A} reads_field form old items (Err errors.Memory) new after → (cell : Cell ℕ) × (rest : List Bool) × StopsAt form old items after cell rest
+interrupted {form = done a} walk = elim walk [ ]
+interrupted {form = field cell goes} {old} (refused s) = (cell, old.left, at_once s)
+interrupted {form = field cell goes} (coded s walk) = let more = interrupted walk in (more.0, more.1, longer s.0 s.1 s.2 more.2)
+
+-- What the answer means for each fact about it.
+answered_more : {B P Q : Type 0} (result : Result B ReadError) → (P → Q) → IsAnswered result P → IsAnswered result Q
+answered_more (Ok b) f p = f p
+answered_more (Err errors.Memory) f p = tt
+answered_more (Err (errors.Refused r)) f p = p
+
+refused_more : {B P Q : Type 0} (result : Result B ReadError) (r : Refusal) → (P → Q) → IsRefusedWith result r P → IsRefusedWith result r Q
+refused_more (Ok b) r f p = p
+refused_more (Err errors.Memory) r f p = tt
+refused_more (Err (errors.Refused q)) r f p = (p.0, f p.1)
+
+-- whatever is spelled is answered
+pub only : {A : Type 0} {form : Form A} {old new : Place} {items after : List Item} {result : Result A ReadError} {w : List ℤ} {left rest : List Bool}
+    → Walks reads_field form old items result new after → Spells old.total form w left rest → left ≡ old.left
+    → IsAnswered result ((new.left ≡ rest) × (after ≡ items ++ items_along form w))
+only {items} ended at_end same = (sym same, sym (append-nil items))
+only (refused {e = errors.Memory} s) (behind stands more) same = tt
+only {form = field cell goes} {old} (refused {e = errors.Refused r} s) (behind {v} {mid} stands more) same =
+    stands_not_refused (subst (λ x. Stands cell old.total v x mid) same stands) s.0
+only {form = field cell goes} {old} {new} {items} {after} {result} {rest} (coded {d} {j} {v} s walk) (behind {v = u} {w} {mid} stands more) same =
+    let apart = begins_apart (subst (λ x. Stands cell old.total u x mid) same stands).code s.0.code in
+    let on : Spells d.total (goes v) w mid rest = spells_at old.total d.total (sym s.1) (subst (λ x. Spells old.total (goes x) w mid rest) apart.0 more) in
+    let rec = only walk on apart.1 in
+    let here : IsAnswered result ((new.left ≡ rest) × (after ≡ items ++ items_along (field cell goes) (v ∷ w)))
+    = answered_more result (λ p. (p.0, one_more cell goes items j after v w s.2 p.1)) rec in
+    subst (λ x. IsAnswered result ((new.left ≡ rest) × (after ≡ items ++ items_along (field cell goes) (x ∷ w)))) (sym apart.0) here
+
+-- where a field is refused, that is the answer
+pub refusal : {A : Type 0} {form : Form A} {old new : Place} {items after : List Item} {result : Result A ReadError} {w : List ℤ} {left rest : List Bool} {cell : Cell ℕ} {r : Refusal}
+    → Walks reads_field form old items result new after → Reaches old.total form w left cell rest → left ≡ old.left → IsRefused cell old.total rest r
+    → IsRefusedWith result r (after ≡ items ++ items_along form w)
+refusal ended reach same out = elim reach [ ]
+refusal (refused {e = errors.Memory} s) here same out = tt
+refusal {old} {items} {cell} {r} (refused {e = errors.Refused q} s) here same out =
+    (refused_once s.0 (subst (λ x. IsRefused cell old.total x r) same out), s.1 ∙ sym (append-nil items))
+refusal {old} {cell} {r} (coded s walk) here same out = absurd (stands_not_refused s.0 (subst (λ x. IsRefused cell old.total x r) same out))
+refusal (refused {e = errors.Memory} s) (later stands more) same out = tt
+refusal {form = field cell goes} {old} (refused {e = errors.Refused q} s) (later {v} {mid} stands more) same out =
+    absurd (stands_not_refused (subst (λ x. Stands cell old.total v x mid) same stands) s.0)
+refusal {form = field cell goes} {old} {items} {after} {result} {rest} {cell = next} {r} (coded {d} {j} {v} s walk) (later {v = u} {w} {mid} stands more) same out =
+    let apart = begins_apart (subst (λ x. Stands cell old.total u x mid) same stands).code s.0.code in
+    let on : Reaches d.total (goes v) w mid next rest = reaches_at old.total d.total (sym s.1) (subst (λ x. Reaches old.total (goes x) w mid next rest) apart.0 more) in
+    let rec = refusal walk on apart.1 (refused_at old.total d.total (sym s.1) out) in
+    let here : IsRefusedWith result r (after ≡ items ++ items_along (field cell goes) (v ∷ w))
+    = refused_more result r (one_more cell goes items j after v w s.2) rec in
+    subst (λ x. IsRefusedWith result r (after ≡ items ++ items_along (field cell goes) (x ∷ w))) (sym apart.0) here
+
+-- Such a walk is a reader's answer.
+pub reads : {A B : Type 0} {form : Form A} {old new : Place} {items after : List Item} (a : A) (result : Result B ReadError)
+    → Walks reads_field form old items (leaving a result) new after → Reads form old items result new after
+reads a (Ok b) walk = record {
+  is = found walk;
+  only = λ w rest spelled. only walk spelled refl;
+  refusal = λ w cell rest r reached out. refusal walk reached refl out;
+}
+reads a (Err errors.Memory) walk = record {
+  is = interrupted walk;
+  only = λ w rest spelled. only walk spelled refl;
+  refusal = λ w cell rest r reached out. refusal walk reached refl out;
+}
+reads a (Err (errors.Refused q)) walk = record {
+  is = stopped q walk;
+  only = λ w rest spelled. only walk spelled refl;
+  refusal = λ w cell rest r reached out. refusal walk reached refl out;
+}
+
+-- an error is the same whatever else would have been the answer
+pub reads_error : {A B C : Type 0} {form : Form A} {old new : Place} {items after : List Item} (e : ReadError)
+    → Reads {B = B} form old items (Err e) new after → Reads {B = C} form old items (Err e) new after
+reads_error errors.Memory r = record { is = r.is; only = r.only; refusal = r.refusal }
+reads_error (errors.Refused q) r = record { is = r.is; only = r.only; refusal = r.refusal }
+
+pub front_is : (p : Place) (bytes : List ℕ) → p.total ≡ 8 * length bytes → p.left ≡ bits_of bytes → p ≡ at_front bytes
+front_is p bytes total left = rw (← total, ← left) refl

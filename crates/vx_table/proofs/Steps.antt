@@ -1,0 +1,144 @@
+-- A walk over a form, put together of its steps.
+use Rattle.std.proofs.Common.{◌≡◌, ℕ, ℤ, suc, ◌+◌, ◌-◌, ◌<◌, ◌≤◌, min, List, [], ◌∷◌, length, take, drop, slice_set, Result, Ok, Err, arith, get_or, add-one, drop-cons, ◌∙◌, refl}
+use Rattle.std.proofs.Math.ListN.{drop_of_length-le}
+use Rattle.vx_table.specs.declared.rows.Formula.{Formula}
+use Rattle.vx_table.specs.declared.rows.Cell.{Cell}
+use Rattle.vx_table.specs.declared.rows.Row.{Row}
+use Rattle.vx_table.specs.declared.rows.Row.TheVariants.{Field, When, Repeat, Name}
+use Rattle.vx_table.specs.Forms.{Form, done, ◌>>=◌, cell_at, after, one_field, turns, part, form_of}
+use Rattle.vx_table.specs.declared.parts.Part.{Part}
+use Rattle.vx_table.specs.Parts.{part_form, parts_form}
+use Rattle.vx_table.specs.Scope.{value}
+use Rattle.vx_table.specs.Walks.{Walks, ended, coded, refused}
+use Rattle.vx_table.proofs.Blocks.{form-field, form-name, form-absent, form-present, form-repeat}
+
+-- a walk to the end of one form and on along the next is one along both
+pub then : {C I E A B : Type 0} {step : C → I → Cell ℕ → Result ℤ E → C → I → Type 0} {f : Form A} (next : A → Form B) {c d e : C} {i j k : I} {a : A} {r : Result B E}
+    → Walks step f c i (Ok a) d j → Walks step (next a) d j r e k → Walks step (f >>= next) c i r e k
+then next ended behind = behind
+then next (coded s rest) behind = coded s (then next rest behind)
+
+-- a refusal within the first form is one within both
+pub stop : {C I E A B : Type 0} {step : C → I → Cell ℕ → Result ℤ E → C → I → Type 0} {f : Form A} (next : A → Form B) {c d : C} {i j : I} {e : E}
+    → Walks step f c i (Err e) d j → Walks step (f >>= next) c i (Err e) d j
+stop next (coded s rest) = coded s (stop next rest)
+stop next (refused s) = refused s
+
+pub one_coded : {C I E : Type 0} {step : C → I → Cell ℕ → Result ℤ E → C → I → Type 0} (s : List ℕ) (row : Cell Formula) {c d : C} {i j : I} (v : ℤ)
+    → step c i (cell_at s row) (Ok v) d j → Walks step (one_field s row) c i (Ok (after s (cell_at s row) v)) d j
+unfolding one_field
+one_coded s row v h = coded h ended
+
+pub one_refused : {C I E : Type 0} {step : C → I → Cell ℕ → Result ℤ E → C → I → Type 0} (s : List ℕ) (row : Cell Formula) {c d : C} {i j : I} {e : E}
+    → step c i (cell_at s row) (Err e) d j → Walks step (one_field s row) c i (Err e) d j
+unfolding one_field
+one_refused s row h = refused h
+
+-- Whatever follows this rest of a form, from this coder and these items on, completes the whole.
+pub record Leads {C I E A : Type 0} (step : C → I → Cell ℕ → Result ℤ E → C → I → Type 0) (whole : Form A) (first : C) (first_items : I) (rest : Form A) (c : C) (i : I) : Type 0 where
+  pub on : (r : Result A E) (d : C) (j : I) → Walks step rest c i r d j → Walks step whole first first_items r d j
+
+pub leads : {C I E A : Type 0} (step : C → I → Cell ℕ → Result ℤ E → C → I → Type 0) (f : Form A) (c : C) (i : I) → Leads step f c i f c i
+leads step f c i = record { on = λ r d j w. w }
+
+-- behind a form that was walked
+pub leads-then : {C I E A : Type 0} {step : C → I → Cell ℕ → Result ℤ E → C → I → Type 0} {whole : Form A} {first : C} {first_items : I} {f : Form A} (next : A → Form A) {c d : C} {i j : I} {a : A}
+    → Leads step whole first first_items (f >>= next) c i → Walks step f c i (Ok a) d j → Leads step whole first first_items (next a) d j
+leads-then next before walked = record { on = λ r d j rest. before.on r d j (then next walked rest) }
+
+-- at a refusal
+pub leads-stop : {C I E A : Type 0} {step : C → I → Cell ℕ → Result ℤ E → C → I → Type 0} {whole : Form A} {first : C} {first_items : I} {f : Form A} (next : A → Form A) {c d : C} {i j : I} {e : E}
+    → Leads step whole first first_items (f >>= next) c i → Walks step f c i (Err e) d j → Walks step whole first first_items (Err e) d j
+leads-stop next before walked = before.on _ _ _ (stop next walked)
+
+-- at the end
+pub leads-end : {C I E A : Type 0} {step : C → I → Cell ℕ → Result ℤ E → C → I → Type 0} {whole : Form A} {first : C} {first_items : I} {a : A} {c : C} {i : I}
+    → Leads step whole first first_items (done a) c i → Walks step whole first first_items (Ok a) c i
+leads-end before = before.on _ _ _ ended
+
+-- What is left of a table behind its first row.
+module _ {C I E : Type 0} {step : C → I → Cell ℕ → Result ℤ E → C → I → Type 0} {whole : Form (List ℕ)} {first : C} {first_items : I} where
+  pub leads-field : (cell : Cell Formula) (rows : List Row) (s t : List ℕ) {c d : C} {i j : I}
+      → Leads step whole first first_items (form_of (Field cell ∷ rows) s) c i → Walks step (one_field s cell) c i (Ok t) d j → Leads step whole first first_items (form_of rows t) d j
+  leads-field cell rows s t before walked = leads-then (form_of rows) (rw form-field at before) walked
+
+  pub stop-field : (cell : Cell Formula) (rows : List Row) (s : List ℕ) {e : E} {c d : C} {i j : I}
+      → Leads step whole first first_items (form_of (Field cell ∷ rows) s) c i → Walks step (one_field s cell) c i (Err e) d j → Walks step whole first first_items (Err e) d j
+  stop-field cell rows s before walked = leads-stop (form_of rows) (rw form-field at before) walked
+
+  pub leads-absent : (holds : Formula) (n : ℕ) (rows : List Row) (s : List ℕ) {c : C} {i : I}
+      → Leads step whole first first_items (form_of (When holds n ∷ rows) s) c i → value s holds ≡ 0 → Leads step whole first first_items (form_of (drop (min n (length rows)) rows) s) c i
+  leads-absent holds n rows s before none = rw (form-absent holds n rows s none) at before
+
+  pub leads-present : (holds : Formula) (n : ℕ) (rows : List Row) (s : List ℕ) {c : C} {i : I}
+      → Leads step whole first first_items (form_of (When holds n ∷ rows) s) c i → ¬ (value s holds ≡ 0) → Leads step whole first first_items (form_of rows s) c i
+  leads-present holds n rows s before some = rw (form-present holds n rows s some) at before
+
+  pub leads-repeat : (counter : ℕ) (times : Formula) (n : ℕ) (rows : List Row) (s t : List ℕ) {c d : C} {i j : I}
+      → Leads step whole first first_items (form_of (Repeat counter times n ∷ rows) s) c i
+      → Walks step (turns (form_of (take (min n (length rows)) rows)) counter 0 (value s times) s) c i (Ok t) d j
+      → Leads step whole first first_items (form_of (drop (min n (length rows)) rows) t) d j
+  leads-repeat counter times n rows s t before walked = leads-then (form_of (drop (min n (length rows)) rows)) (rw form-repeat at before) walked
+
+  pub stop-repeat : (counter : ℕ) (times : Formula) (n : ℕ) (rows : List Row) (s : List ℕ) {e : E} {c d : C} {i j : I}
+      → Leads step whole first first_items (form_of (Repeat counter times n ∷ rows) s) c i
+      → Walks step (turns (form_of (take (min n (length rows)) rows)) counter 0 (value s times) s) c i (Err e) d j
+      → Walks step whole first first_items (Err e) d j
+  stop-repeat counter times n rows s before walked = leads-stop (form_of (drop (min n (length rows)) rows)) (rw form-repeat at before) walked
+
+  pub leads-name : (name : ℕ) (formula : Formula) (rows : List Row) (s : List ℕ) {c : C} {i : I}
+      → Leads step whole first first_items (form_of (Name name formula ∷ rows) s) c i → Leads step whole first first_items (form_of rows (slice_set s name (value s formula))) c i
+  leads-name name formula rows s before = rw form-name at before
+
+  pub leads-no_row : (rows : List Row) (s : List ℕ) {c : C} {i : I} → length rows ≡ 0
+      → Leads step whole first first_items (form_of rows s) c i → Walks step whole first first_items (Ok s) c i
+  unfolding form_of part
+  leads-no_row [] s none before = leads-end before
+  leads-no_row (row ∷ rows) s none before = absurd (omega arith)
+
+  pub leads-turn : (block : List Row) (counter turn times : ℕ) (s t : List ℕ) {c d : C} {i j : I} → turn < times
+      → Leads step whole first first_items (turns (form_of block) counter turn (times - turn) s) c i
+      → Walks step (form_of block (slice_set s counter turn)) c i (Ok t) d j
+      → Leads step whole first first_items (turns (form_of block) counter (turn + 1) (times - (turn + 1)) t) d j
+  unfolding turns
+  leads-turn block counter turn times s t more before walked =
+      let one : times - turn ≡ suc (times - (turn + 1)) = omega arith in
+      leads-then (turns (form_of block) counter (turn + 1) (times - (turn + 1))) (rw one at before) walked
+
+  pub stop-turn : (block : List Row) (counter turn times : ℕ) (s : List ℕ) {e : E} {c d : C} {i j : I} → turn < times
+      → Leads step whole first first_items (turns (form_of block) counter turn (times - turn) s) c i
+      → Walks step (form_of block (slice_set s counter turn)) c i (Err e) d j
+      → Walks step whole first first_items (Err e) d j
+  unfolding turns
+  stop-turn block counter turn times s more before walked =
+      let one : times - turn ≡ suc (times - (turn + 1)) = omega arith in
+      leads-stop (turns (form_of block) counter (turn + 1) (times - (turn + 1))) (rw one at before) walked
+
+  pub leads-no_turn : (rows : List Row) (counter turn times : ℕ) (s : List ℕ) {c : C} {i : I} → times ≤ turn
+      → Leads step whole first first_items (turns (form_of rows) counter turn (times - turn) s) c i → Walks step whole first first_items (Ok s) c i
+  unfolding turns
+  leads-no_turn rows counter turn times s over before =
+      let none : times - turn ≡ 0 = omega arith in
+      leads-end (rw none at before)
+
+-- What is left of parts behind the one at a place.
+module _ {C I E : Type 0} {step : C → I → Cell ℕ → Result ℤ E → C → I → Type 0} {whole : Form (List ℕ)} {first : C} {first_items : I} where
+  at_part : (parts : List Part) (i : ℕ) (none : Part) (s : List ℕ) {c : C} {j : I} → i < length parts
+      → Leads step whole first first_items (parts_form (drop i parts) s) c j → Leads step whole first first_items (part_form (get_or parts i none) s >>= parts_form (drop (i + 1) parts)) c j
+  unfolding parts_form
+  at_part parts i none s more before = rw (add-one) (rw (drop-cons parts i none more) at before)
+
+  pub leads-part : (parts : List Part) (i : ℕ) (none : Part) (s t : List ℕ) {c d : C} {j k : I} → i < length parts
+      → Leads step whole first first_items (parts_form (drop i parts) s) c j → Walks step (part_form (get_or parts i none) s) c j (Ok t) d k → Leads step whole first first_items (parts_form (drop (i + 1) parts) t) d k
+  leads-part parts i none s t more before walked = leads-then (parts_form (drop (i + 1) parts)) (at_part parts i none s more before) walked
+
+  pub stop-part : (parts : List Part) (i : ℕ) (none : Part) (s : List ℕ) {e : E} {c d : C} {j k : I} → i < length parts
+      → Leads step whole first first_items (parts_form (drop i parts) s) c j → Walks step (part_form (get_or parts i none) s) c j (Err e) d k → Walks step whole first first_items (Err e) d k
+  stop-part parts i none s more before walked = leads-stop (parts_form (drop (i + 1) parts)) (at_part parts i none s more before) walked
+
+  pub leads-no_part : (parts : List Part) (i : ℕ) (s : List ℕ) {c : C} {j : I} → length parts ≤ i
+      → Leads step whole first first_items (parts_form (drop i parts) s) c j → Walks step whole first first_items (Ok s) c j
+  unfolding parts_form
+  leads-no_part parts i s none before =
+      let end : drop i parts ≡ [] = drop_of_length-le parts none in
+      leads-end (rw end at before)

@@ -1,0 +1,5 @@
+use Rattle.vx_table.proofs.Writings.{writes}
+use Rattle.vx_table.proofs.writer.write_table.Goals as goal
+
+pub returns : goal.returns
+returns c = writes c.code_table.new.scope c.code_table.result c.code_table.ensures

@@ -1,0 +1,16 @@
+-- What the items that are given tell of the next field.
+use Rattle.std.specs.Prelude.{◌≡◌, ℕ, ℤ, cond, List, [], ◌∷◌, ◌++◌, Option, Some, None}
+use Rattle.vx_bits.specs.declared.list.Item.{Item}
+use Rattle.vx_table.specs.declared.rows.Coding.{Coding}
+use Rattle.vx_table.specs.Forms.{has_value}
+use Rattle.vx_table.specs.Spelling.{HasCode}
+
+-- the items of one value: none for a gap
+abbrev pub one_item : ℕ → Coding ℕ → ℤ → List Item
+one_item field coding v = cond (has_value coding) (record { field = field; value = v } ∷ []) []
+
+-- the only value that may come next, or that none does
+abbrev pub tells_value : ℕ → Coding ℕ → List Item → Option ℤ → List Item → Type 0
+tells_value field coding items (Some v) left = (items ≡ one_item field coding v ++ left)
+    × ((u : ℤ) (more : List Item) → HasCode coding u → items ≡ one_item field coding u ++ more → u ≡ v)
+tells_value field coding items None left = (v : ℤ) (more : List Item) → HasCode coding v → items ≡ one_item field coding v ++ more → ⊥

@@ -1,0 +1,10 @@
+pub mod Scope
+pub mod Forms
+pub mod Walks
+pub mod Spelling
+pub mod Items
+pub mod Laws
+pub mod Parts
+pub mod Reading
+pub mod Values
+pub mod Writing

@@ -1,0 +1,82 @@
+-- What a reader answers for a form: the value that the bits spell, or the first refusal.
+use Rattle.std.specs.Prelude.{◌≡◌, ℕ, ℤ, Bool, List, [], ◌*◌, ◌++◌, length, Result, Ok, Err}
+use Rattle.vx_bits.specs.declared.list.Item.{Item}
+use Rattle.vx_bits.specs.declared.refusal.Refusal.{Refusal}
+use Rattle.vx_bits.specs.declared.refusal.ReadError.{ReadError}
+use Rattle.vx_bits.specs.declared.refusal.ReadError.TheVariants as errors
+use Rattle.vx_bits.specs.declared.refusal.BitCause.{BitCause}
+use Rattle.vx_bits.specs.Codes.{bits_of}
+use Rattle.vx_bits.specs.Place.{Place, taken}
+use Rattle.vx_table.specs.declared.rows.Coding.{Coding}
+use Rattle.vx_table.specs.declared.rows.Cell.{Cell}
+use Rattle.vx_table.specs.Forms.{Form}
+use Rattle.vx_table.specs.Spelling.{Begins, Misses, Stands, Spells, Reaches, IsRefused, item_of, items_along}
+
+-- What taking the code of one field answers.
+abbrev pub takes_code : Coding ℕ → Place → Result ℤ BitCause → Place → Type 0
+takes_code coding old (Ok v) new = Begins coding old.total v old.left new.left × (new.total ≡ old.total)
+takes_code coding old (Err cause) new = Misses coding (taken old) old.left cause × (new ≡ old)
+
+-- What a reader does at one field.
+abbrev pub reads_field : Place → List Item → Cell ℕ → Result ℤ ReadError → Place → List Item → Type 0
+reads_field old items cell (Ok v) new after = Stands cell old.total v old.left new.left × (new.total ≡ old.total) × (after ≡ items ++ item_of cell v)
+reads_field old items cell (Err errors.Memory) new after = after ≡ items
+reads_field old items cell (Err (errors.Refused r)) new after = IsRefused cell old.total old.left r × (after ≡ items)
+
+-- The bits between the two places are the spelling of values of the form, and their items were gained.
+pub record IsFound {A : Type 0} (form : Form A) (old : Place) (items : List Item) (new : Place) (after : List Item) : Type 0 where
+  pub values : List ℤ
+  pub spelled : Spells old.total form values old.left new.left
+  pub total : new.total ≡ old.total
+  pub gained : after ≡ items ++ items_along form values
+
+-- The longest front of the bits that follows the form ends where this field comes next, and the items of the front were gained.
+pub record StopsAt {A : Type 0} (form : Form A) (old : Place) (items after : List Item) (cell : Cell ℕ) (rest : List Bool) : Type 0 where
+  pub values : List ℤ
+  pub reached : Reaches old.total form values old.left cell rest
+  pub gained : after ≡ items ++ items_along form values
+
+-- The field that comes next is refused there.
+pub record IsFirstRefusal {A : Type 0} (form : Form A) (old : Place) (items after : List Item) (r : Refusal) : Type 0 where
+  pub cell : Cell ℕ
+  pub rest : List Bool
+  pub stops : StopsAt form old items after cell rest
+  pub refused : IsRefused cell old.total rest r
+
+-- What a reader of a form answers, and what the items are then.
+abbrev pub IsRead : {A B : Type 0} → Form A → Place → List Item → Result B ReadError → Place → List Item → Type 0
+IsRead form old items (Ok b) new after = IsFound form old items new after
+IsRead form old items (Err errors.Memory) new after = (cell : Cell ℕ) × (rest : List Bool) × StopsAt form old items after cell rest
+IsRead form old items (Err (errors.Refused r)) new after = IsFirstRefusal form old items after r
+
+-- What a reader answers for values that the bits spell.
+abbrev pub IsAnswered : {B : Type 0} → Result B ReadError → Type 0 → Type 0
+IsAnswered (Ok b) P = P
+IsAnswered (Err errors.Memory) P = Unit {0}
+IsAnswered (Err (errors.Refused r)) P = ⊥
+
+-- What a reader answers where it is refused.
+abbrev pub IsRefusedWith : {B : Type 0} → Result B ReadError → Refusal → Type 0 → Type 0
+IsRefusedWith (Ok b) r P = ⊥
+IsRefusedWith (Err errors.Memory) r P = Unit {0}
+IsRefusedWith (Err (errors.Refused q)) r P = (q ≡ r) × P
+
+-- A reader's answer, whole, unless memory runs out:
+pub record Reads {A B : Type 0} (form : Form A) (old : Place) (items : List Item) (result : Result B ReadError) (new : Place) (after : List Item) : Type 0 where
+  -- what it answers is so;
+  pub is : IsRead form old items result new after
+  -- whatever the bits begin with the spelling of is answered, and exactly that is taken;
+  pub only : (values : List ℤ) (rest : List Bool) → Spells old.total form values old.left rest
+      → IsAnswered result ((new.left ≡ rest) × (after ≡ items ++ items_along form values))
+  -- where the next field behind a front is refused, that is the refusal.
+  pub refusal : (values : List ℤ) (cell : Cell ℕ) (rest : List Bool) (r : Refusal) → Reaches old.total form values old.left cell rest → IsRefused cell old.total rest r
+      → IsRefusedWith result r (after ≡ items ++ items_along form values)
+
+-- bits at their front, all of them left
+abbrev pub at_front : List ℕ → Place
+at_front bytes = record { total = 8 * length bytes; left = bits_of bytes }
+
+-- A reader's answer over bytes, from their first bit on, where its items are the value.
+abbrev pub ReadsValue : {A : Type 0} → Form A → List ℕ → Result (List Item) ReadError → Type 0
+ReadsValue form bytes (Ok items) = (new : Place) × Reads form (at_front bytes) [] (Ok items) new items
+ReadsValue form bytes (Err e) = (new : Place) × (items : List Item) × Reads {B = List Item} form (at_front bytes) [] (Err e) new items

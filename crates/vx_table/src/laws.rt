@@ -1,0 +1,13 @@
+//! Laws of all tables: functions that do nothing, each with a law as its contract.
+ghost use Rattle.vx_table.specs.Laws.{ReadsOneWay, AnswersOneWay};
+
+/// Bits that begin with a spelling tell the values and what follows: what is written is read back, whatever follows
+/// it, and no spelling of a value is a proper prefix of another's.
+pub fn one_reading()
+    ensures { ReadsOneWay }
+{}
+
+/// Bits that begin with a spelling aren't refused, and bits are refused in one way.
+pub fn one_answer()
+    ensures { AnswersOneWay }
+{}

@@ -1,0 +1,22 @@
+//! Syntax tables as data, and one walk over them in both directions.
+#![tactic(auto)]
+
+mod arithmetic;
+mod laws;
+mod macros;
+mod parts;
+mod reader;
+mod rows;
+mod scope;
+#[cfg(test)]
+mod tests;
+mod walk;
+mod writer;
+
+pub use laws::{one_answer, one_reading};
+pub use parts::{Part, code_parts, read_parts, write_parts};
+pub use reader::{read_table, read_value};
+pub use rows::{Cell, Coding, Fault, Formula, Limits, Row, Term};
+pub use scope::{NUMBERS, Scope};
+pub use walk::{Coder, code_table, coding, coding_of};
+pub use writer::{SpellError, Unwritten, write_code, write_table};

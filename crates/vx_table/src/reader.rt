@@ -1,0 +1,164 @@
+//! Reading by a table: bits to items.
+
+ghost use Rattle.std.specs.Prelude.{◌≡◌, ◌≤◌, ◌^◌, ◌++◌, length, OnOk, OnErr, IfErr};
+ghost use Rattle.vx_bits.specs.Place.{taken};
+ghost use Rattle.vx_table.specs.Forms.{form_of};
+ghost use Rattle.vx_table.specs.Spelling as spelling;
+ghost use Rattle.vx_table.specs.Spelling.{IsCodable};
+ghost use Rattle.vx_table.specs.Reading.{takes_code, reads_field, Reads, ReadsValue};
+
+use crate::rows::{Cell, Coding, Fault, Limits, Row};
+use crate::scope::Scope;
+use crate::walk::{Coder, code_table, has_value};
+use std::alloc::Global;
+use vx_bits::{BitCause, BitReader, Fields, Item, ReadError, Refusal};
+
+/// Takes the code of a field or a gap, and gives its value, 0 for a gap.
+fn take_code(bits: &mut BitReader<'_>, coding: Coding<u32>) -> Result<i64, BitCause>
+    requires { IsCodable coding }
+    ensures { takes_code coding bits.old result bits.new }
+{
+    match coding {
+        Coding::Fixed(width) => Ok(bits.u(width)? as i64),
+        Coding::Golomb => Ok(i64::from(bits.ue()?)),
+        Coding::SignedGolomb => Ok(i64::from(bits.se()?)),
+        Coding::Zeros => {
+            bits.align()?;
+            Ok(0)
+        }
+        Coding::OneAndZeros => {
+            bits.align_after_one()?;
+            Ok(0)
+        }
+        Coding::Trailing => {
+            bits.trailing()?;
+            Ok(0)
+        }
+        Coding::Absent => Ok(0),
+        Coding::Refused => Err(BitCause::OutOfRange),
+    }
+}
+
+/// The fault of a value, where it breaks its range.
+#[tactic(auto, unfolding(crate::specs::Spelling::fault_of))]
+pub fn fault_of(limits: Limits<u32>, value: i64) -> Option<Fault>
+    ensures { result ≡ spelling.fault_of limits value }
+{
+    match limits {
+        Limits::Any => None,
+        Limits::Within { low, high, fault } => {
+            let inside = i64::from(low) <= value && value <= i64::from(high);
+            if inside { None } else { Some(fault) }
+        }
+        Limits::Multiple { unit, high, fault } => {
+            if value > i64::from(high) {
+                Some(fault)
+            } else if is_multiple(unit, value) {
+                None
+            } else {
+                Some(Fault::OutOfRange)
+            }
+        }
+    }
+}
+
+/// Whether the value is one of 1, 2, 3 .. times the unit.
+fn is_multiple(unit: u32, value: i64) -> bool
+    ensures { result ≡ spelling.is_multiple unit value }
+{
+    value > 0 && unit > 0 && value % i64::from(unit) == 0
+}
+
+/// A fault as it is reported, at a field and the bit where it begins.
+#[tactic(auto, unfolding(crate::specs::Spelling::reported))]
+fn report(fault: Fault, field: u16, bit: u32) -> Refusal
+    ensures { result ≡ spelling.reported fault field bit }
+{
+    match fault {
+        Fault::OutOfRange => Refusal::Syntax {
+            field,
+            bit,
+            cause: BitCause::OutOfRange,
+        },
+        Fault::Profile(code) => Refusal::Profile { code },
+        Fault::Limit(code) => Refusal::Limit { code },
+    }
+}
+
+/// The refusal of a field where no code begins.
+fn syntax(field: u16, bit: u32, cause: BitCause) -> ReadError
+    ensures { result ≡ ReadError.Refused (Refusal.Syntax field bit cause) }
+{
+    ReadError::Refused(Refusal::Syntax { field, bit, cause })
+}
+
+impl<'a> Coder<Fields> for BitReader<'a> {
+    type Fault = ReadError;
+
+    ghost step = { reads_field };
+
+    fn code(&mut self, items: &mut Fields, cell: Cell<u32>) -> Result<i64, ReadError> {
+        let bit = self.at();
+        let value = match take_code(self, cell.coding) {
+            Ok(value) => value,
+            Err(cause) => return Err(syntax(cell.field, bit, cause)),
+        };
+        if let Some(fault) = fault_of(cell.limits, value) {
+            return Err(ReadError::Refused(report(fault, cell.field, bit)));
+        }
+        push(items, cell, value)?;
+        Ok(value)
+    }
+}
+
+/// Appends the item of a field's value; a gap has none.
+#[tactic(auto, unfolding(crate::specs::Spelling::item_of))]
+fn push(items: &mut Fields, cell: Cell<u32>, value: i64) -> Result<(), ReadError>
+    ensures ok { OnOk result (items.new ≡ items.old ++ spelling.item_of cell value) }
+    ensures err { OnErr result (items.new ≡ items.old) }
+    ensures memory { IfErr result (λ e. e ≡ ReadError.Memory) }
+{
+    if has_value(cell.coding) {
+        items.push(Item {
+            field: cell.field,
+            value,
+        })?;
+    }
+    Ok(())
+}
+
+/// Reads the fields of a table at a scope, appends their items, and gives the scope the numbers read.
+///
+/// # Errors
+///
+/// The first refusal, or want of memory. `items` has then gained the fields read before.
+pub fn read_table(
+    table: &[Row],
+    scope: &mut Scope,
+    bits: &mut BitReader<'_>,
+    items: &mut Fields,
+) -> Result<(), ReadError>
+    ensures { Reads (form_of table.now scope.old) bits.old items.old result bits.new items.new }
+{
+    code_table(table, scope, bits, items)
+}
+
+/// Reads the fields of a table at a scope from the front of an RBSP, which has at most 2^23 bytes.
+///
+/// # Errors
+///
+/// The first refusal, or want of memory.
+pub fn read_value(
+    alloc: Global,
+    table: &[Row],
+    scope: &mut Scope,
+    rbsp: &[u8],
+) -> Result<Fields, ReadError>
+    requires { length rbsp.now ≤ 2 ^ 23 }
+    ensures { ReadsValue (form_of table.now scope.old) rbsp.now result }
+{
+    let mut bits = BitReader::new(rbsp);
+    let mut items = Fields::new(alloc);
+    read_table(table, scope, &mut bits, &mut items)?;
+    Ok(items)
+}

@@ -1,0 +1,102 @@
+//! What a syntax table is made of: plain data, written by `table!`.
+
+/// A number that a row uses: a written one, or the latest of a field or a name.
+#[derive(Clone, Copy, Debug)]
+pub enum Term {
+    Number(u32),
+    Latest(u16),
+}
+
+/// A number computed from two at most. A test gives 1 where it holds and else 0.
+#[derive(Clone, Copy, Debug)]
+pub enum Formula {
+    Plain(Term),
+    Plus(Term, Term),
+    /// 0 where the second is the larger.
+    Minus(Term, Term),
+    Times(Term, Term),
+    /// The quotient, rounded up; 0 where the divisor is 0.
+    Quotient(Term, Term),
+    Least(Term, Term),
+    PowerOfTwo(Term),
+    CeilLog2(Term),
+    Equal(Term, Term),
+    Differs(Term, Term),
+    Below(Term, Term),
+    AtMost(Term, Term),
+    Both(Term, Term),
+    Either(Term, Term),
+}
+
+/// How a field is coded. `N` is a formula in a table's row, and its number where the row is coded.
+#[derive(Clone, Copy, Debug)]
+pub enum Coding<N> {
+    /// `u(n)`.
+    Fixed(N),
+    /// `ue(v)`.
+    Golomb,
+    /// `se(v)`.
+    SignedGolomb,
+    /// Zero bits up to the byte boundary.
+    Zeros,
+    /// A one, and zeros up to the byte boundary.
+    OneAndZeros,
+    /// The same, and the end of the bits.
+    Trailing,
+    /// No bits: a field that is absent and yet stands, as 0, among the kept ones.
+    Absent,
+    /// No bits: the structure is refused here.
+    Refused,
+}
+
+/// The name of a broken range.
+#[derive(Clone, Copy, Debug)]
+pub enum Fault {
+    OutOfRange,
+    Profile(u8),
+    Limit(u8),
+}
+
+/// The values that a field may have.
+#[derive(Clone, Copy, Debug)]
+pub enum Limits<N> {
+    /// Every value of the code.
+    Any,
+    /// From `low` to `high`; any other breaks the range by this name.
+    Within { low: i32, high: N, fault: Fault },
+    /// A positive multiple of `unit`; above `high` the fault has this name.
+    Multiple { unit: u32, high: u32, fault: Fault },
+}
+
+/// A field of a structure, or a gap that is reported under a field's number.
+#[derive(Clone, Copy, Debug)]
+pub struct Cell<N> {
+    pub field: u16,
+    /// Whether slice decoding depends on the field: one without a star.
+    pub kept: bool,
+    pub coding: Coding<N>,
+    pub limits: Limits<N>,
+}
+
+/// A row of a table.
+#[derive(Clone, Copy, Debug)]
+pub enum Row {
+    /// A field or a gap.
+    Field(Cell<Formula>),
+    /// The next `rows` rows are there where the formula isn't 0.
+    When {
+        holds: Formula,
+        rows: usize,
+    },
+    /// The next `rows` rows come this many times, with a counter from 0.
+    Repeat {
+        counter: u16,
+        times: Formula,
+        rows: usize,
+    },
+    /// A name for a number.
+    Name {
+        name: u16,
+        formula: Formula,
+    },
+}

@@ -1,0 +1,103 @@
+//! The latest numbers of fields and names, which formulas read.
+
+ghost use Rattle.std.specs.Prelude.{◌≡◌, ℕ, ◌+◌, ◌<◌, ◌≤◌, min, List, slice_index, slice_set, replicate, length};
+
+use crate::arithmetic::{ceil_log2, natural, power_of_two, quotient};
+use crate::rows::{Formula, Term};
+use std::marker::Model;
+use vx_bits::Fields;
+
+/// How many numbers fields and names have: each is below this.
+pub const NUMBERS: usize = 1024;
+
+/// The latest number of each field and name; 0 of those that have none.
+///
+/// It is seen as the list of these numbers. A copy costs the same whatever stands in it.
+#[derive(Clone, Copy, Debug)]
+pub struct Scope {
+    numbers: [u32; 1024],
+}
+
+impl Model for Scope {
+    ghost Value = { List ℕ };
+
+    ghost view = { λ s. s.numbers };
+
+    ghost inverse = { λ n. record { numbers = n } };
+}
+
+impl Scope {
+    ghost use Rattle.std.specs.Prelude.{◌≡◌, ℕ, ◌+◌, ◌<◌, ◌≤◌, min, List, slice_index, slice_set, replicate, length};
+    ghost use Rattle.vx_table.specs.Scope.{fresh, latest, value, natural, loaded};
+
+    /// A scope in which every number is 0.
+    #[tactic(auto, unfolding(crate::specs::Scope::fresh))]
+    pub fn new() -> Scope
+        ensures { result ≡ fresh }
+    {
+        Scope {
+            numbers: [0; NUMBERS],
+        }
+    }
+
+    /// The latest number of a field or a name.
+    pub fn latest(&self, of: u16) -> u32
+        ensures { result ≡ slice_index self.now of }
+    {
+        self.numbers.get(usize::from(of)).copied().unwrap_or(0)
+    }
+
+    /// Gives a field or a name its number. A number past the last one of fields and names has none.
+    #[tactic(auto, using(std::proofs::lemmas::List::set_past))]
+    pub fn set(&mut self, of: u16, number: u32)
+        ensures { self.new ≡ slice_set self.old of number }
+    {
+        let place = usize::from(of);
+        if place < self.numbers.len() {
+            self.numbers[place] = number;
+        }
+    }
+
+    /// Gives each field of another structure the number of its last item.
+    pub fn load(&mut self, items: &Fields)
+        ensures { self.new ≡ loaded self.old items.now }
+    {
+        for i in 0..items.len() {
+            let item = items.item(i);
+            self.set(item.field, natural(item.value));
+        }
+    }
+
+    /// The number of a term.
+    fn term(&self, term: Term) -> u32
+        ensures { result ≡ latest self.now term }
+    {
+        match term {
+            Term::Number(number) => number,
+            Term::Latest(of) => self.latest(of),
+        }
+    }
+
+    /// The number of a formula.
+    #[tactic(auto, unfolding(crate::specs::Scope::value))]
+    pub fn value(&self, formula: Formula) -> u32
+        ensures { result ≡ value self.now formula }
+    {
+        match formula {
+            Formula::Plain(a) => self.term(a),
+            Formula::Plus(a, b) => self.term(a).saturating_add(self.term(b)),
+            Formula::Minus(a, b) => self.term(a).saturating_sub(self.term(b)),
+            Formula::Times(a, b) => self.term(a).saturating_mul(self.term(b)),
+            Formula::Quotient(a, b) => quotient(self.term(a), self.term(b)),
+            Formula::Least(a, b) => self.term(a).min(self.term(b)),
+            Formula::PowerOfTwo(a) => power_of_two(self.term(a)),
+            Formula::CeilLog2(a) => ceil_log2(self.term(a)),
+            Formula::Equal(a, b) => u32::from(self.term(a) == self.term(b)),
+            Formula::Differs(a, b) => u32::from(self.term(a) != self.term(b)),
+            Formula::Below(a, b) => u32::from(self.term(a) < self.term(b)),
+            Formula::AtMost(a, b) => u32::from(self.term(a) <= self.term(b)),
+            Formula::Both(a, b) => u32::from(self.term(a) != 0 && self.term(b) != 0),
+            Formula::Either(a, b) => u32::from(self.term(a) != 0 || self.term(b) != 0),
+        }
+    }
+}

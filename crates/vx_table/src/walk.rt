@@ -1,0 +1,214 @@
+//! The walk over a table, for every coder.
+
+ghost use Rattle.std.specs.Prelude.{◌≡◌, ℕ, ℤ, ◌+◌, ◌≤◌, min, length, take, drop, Result};
+ghost use Rattle.vx_table.specs.Scope.{value};
+ghost use Rattle.vx_table.specs.Forms as forms;
+ghost use Rattle.vx_table.specs.Forms.{coding_in, coding_at, limits_at, cell_at, after, turns, form_of, one_field};
+ghost use Rattle.vx_table.specs.Spelling.{IsCodable};
+ghost use Rattle.vx_table.specs.Walks.{Walks, leaving};
+
+use crate::arithmetic::natural;
+use crate::rows::{Cell, Coding, Formula, Limits, Row};
+use crate::scope::Scope;
+
+/// What codes the fields of a structure, one after another: a reader from bits to items, a writer from items to bits.
+pub trait Coder<I> {
+    ghost use Rattle.vx_table.specs.declared.rows.Cell.{Cell};
+
+    /// Why a field can't be coded.
+    type Fault;
+
+    ghost step: { Self → I → Cell ℕ → Result ℤ Self.Fault → Self → I → Type 0 };
+
+    /// Codes one field, and answers its value, which is 0 for a gap.
+    fn code(&mut self, items: &mut I, cell: Cell<u32>) -> Result<i64, Self::Fault>
+        requires { IsCodable cell.coding }
+        ensures { step self.old items.old cell result self.new items.new };
+}
+
+/// A field's coding at a scope.
+#[tactic(auto, unfolding(crate::specs::Forms::coding_at))]
+pub fn coding(scope: &Scope, coding: Coding<Formula>) -> Coding<u32>
+    ensures value { result ≡ coding_at scope.now coding }
+    ensures width { IsCodable result }
+{
+    match coding {
+        Coding::Fixed(width) => Coding::Fixed(scope.value(width).min(32)),
+        Coding::Golomb => Coding::Golomb,
+        Coding::SignedGolomb => Coding::SignedGolomb,
+        Coding::Zeros => Coding::Zeros,
+        Coding::OneAndZeros => Coding::OneAndZeros,
+        Coding::Trailing => Coding::Trailing,
+        Coding::Absent => Coding::Absent,
+        Coding::Refused => Coding::Refused,
+    }
+}
+
+/// The coding of a row that codes the field with this number.
+#[tactic(auto, unfolding(crate::specs::Forms::has_value))]
+fn coding_in_row(row: Row, field: u16) -> Option<Coding<Formula>>
+    ensures { result ≡ coding_in row field }
+{
+    match row {
+        Row::Field(cell) if cell.field == field => match cell.coding {
+            Coding::Fixed(_) | Coding::Golomb | Coding::SignedGolomb => Some(cell.coding),
+            _ => None,
+        },
+        _ => None,
+    }
+}
+
+/// How a table codes the field with this number, where it has such a field.
+pub fn coding_of(table: &[Row], field: u16) -> Option<Coding<Formula>>
+    ensures { result ≡ forms.coding_of table.now field }
+{
+    for row in table {
+        if let Some(coding) = coding_in_row(*row, field) {
+            return Some(coding);
+        }
+    }
+    None
+}
+
+/// A field's range at a scope.
+#[tactic(auto, unfolding(crate::specs::Forms::limits_at))]
+fn limits(scope: &Scope, limits: Limits<Formula>) -> Limits<u32>
+    ensures { result ≡ limits_at scope.now limits }
+{
+    match limits {
+        Limits::Any => Limits::Any,
+        Limits::Within { low, high, fault } => Limits::Within {
+            low,
+            high: scope.value(high),
+            fault,
+        },
+        Limits::Multiple { unit, high, fault } => Limits::Multiple { unit, high, fault },
+    }
+}
+
+/// A field at a scope.
+fn cell(scope: &Scope, row: Cell<Formula>) -> Cell<u32>
+    ensures { result ≡ cell_at scope.now row }
+{
+    Cell {
+        field: row.field,
+        kept: row.kept,
+        coding: coding(scope, row.coding),
+        limits: limits(scope, row.limits),
+    }
+}
+
+/// Whether the coding is that of a field with a value, and not of a gap.
+#[tactic(auto, unfolding(crate::specs::Forms::has_value))]
+pub fn has_value(coding: Coding<u32>) -> bool
+    ensures { result ≡ forms.has_value coding }
+{
+    matches!(
+        coding,
+        Coding::Fixed(_) | Coding::Golomb | Coding::SignedGolomb
+    )
+}
+
+/// Gives a field its value; a gap has none.
+#[tactic(auto, unfolding(crate::specs::Forms::after))]
+fn keep(scope: &mut Scope, cell: Cell<u32>, value: i64)
+    ensures { scope.new ≡ after scope.old cell value }
+{
+    if has_value(cell.coding) {
+        scope.set(cell.field, natural(value));
+    }
+}
+
+/// Codes one field, and gives the scope its value.
+fn code_field<I, C: Coder<I>>(
+    row: Cell<Formula>,
+    scope: &mut Scope,
+    coder: &mut C,
+    items: &mut I,
+) -> Result<(), C::Fault>
+    ensures { Walks C.step (one_field scope.old row) coder.old items.old (leaving scope.new result) coder.new items.new }
+{
+    let cell = cell(scope, row);
+    let value = coder.code(items, cell)?;
+    keep(scope, cell, value);
+    Ok(())
+}
+
+/// The rows of a block, which are at most those that are left, and the rows behind it.
+fn split_block(rows: &[Row], inside: usize) -> (&[Row], &[Row])
+    ensures block { result.0.now ≡ take (min inside (length rows.now)) rows.now }
+    ensures behind { result.1.now ≡ drop (min inside (length rows.now)) rows.now }
+    ensures all { length result.0.now + length result.1.now ≡ length rows.now }
+{
+    rows.split_at(inside.min(rows.len()))
+}
+
+/// Codes a table's rows in order.
+///
+/// # Errors
+///
+/// The coder's, at the first field that it refuses.
+#[cycle(walk)]
+pub fn code_table<I, C: Coder<I>>(
+    table: &[Row],
+    scope: &mut Scope,
+    coder: &mut C,
+    items: &mut I,
+) -> Result<(), C::Fault>
+    ensures { Walks C.step (form_of table.now scope.old) coder.old items.old (leaving scope.new result) coder.new items.new }
+{
+    let mut rows = table;
+    while let Some((row, rest)) = rows.split_first() {
+        rows = match *row {
+            Row::Field(field) => {
+                code_field(field, scope, coder, items)?;
+                rest
+            }
+            Row::When {
+                holds,
+                rows: inside,
+            } => {
+                if scope.value(holds) == 0 {
+                    split_block(rest, inside).1
+                } else {
+                    rest
+                }
+            }
+            Row::Repeat {
+                counter,
+                times,
+                rows: inside,
+            } => {
+                let (block, behind) = split_block(rest, inside);
+                let times = scope.value(times);
+                code_turns(block, counter, times, scope, coder, items)?;
+                behind
+            }
+            Row::Name { name, formula } => {
+                let number = scope.value(formula);
+                scope.set(name, number);
+                rest
+            }
+        };
+    }
+    Ok(())
+}
+
+/// Codes a block of rows so many times, with the number of the turn under the counter's name.
+#[cycle(walk)]
+fn code_turns<I, C: Coder<I>>(
+    block: &[Row],
+    counter: u16,
+    times: u32,
+    scope: &mut Scope,
+    coder: &mut C,
+    items: &mut I,
+) -> Result<(), C::Fault>
+    ensures { Walks C.step (turns (form_of block.now) counter 0 times scope.old) coder.old items.old (leaving scope.new result) coder.new items.new }
+{
+    for turn in 0..times {
+        scope.set(counter, turn);
+        code_table(block, scope, coder, items)?;
+    }
+    Ok(())
+}

@@ -1,0 +1,221 @@
+//! Writing by a table: items to bits.
+
+ghost use Rattle.std.specs.Prelude.{◌≡◌, ◌↔◌, ℕ, ℤ, pos, ◌≤ℤ◌, ◌^◌, ◌<◌, ◌+◌, ◌-◌, ◌≤◌, List, ◌∷◌, ◌++◌, [], length, take, drop, IsTrue, OnOk, MatchOption};
+ghost use Rattle.vx_bits.specs.declared.list.Item.{Item};
+ghost use Rattle.vx_bits.specs.Codes.{one_from};
+ghost use Rattle.vx_table.specs.Spelling.{IsCodable, HasCode, code_of};
+ghost use Rattle.vx_table.specs.Items.{tells_value};
+ghost use Rattle.vx_table.specs.Values.{IsValueOf};
+ghost use Rattle.vx_table.specs.Forms.{form_of};
+ghost use Rattle.vx_table.specs.Writing.{Writes};
+
+use crate::reader::fault_of;
+use crate::rows::{Cell, Coding, Row};
+use crate::scope::Scope;
+use crate::walk::{Coder, code_table, has_value};
+use std::alloc::AllocError;
+use std::marker::Model;
+use vx_bits::{BitWriter, Fields, Item};
+
+/// Why a value isn't written.
+#[derive(Clone, Copy, Debug, PartialEq, Eq)]
+pub enum SpellError {
+    /// Memory ran out.
+    Memory,
+    /// The items are those of no value of the structure.
+    NoValue,
+}
+
+/// Items that are to be written, the next one first.
+///
+/// It is seen as the list of these items.
+#[derive(Drop)]
+pub struct Unwritten<'a> {
+    items: &'a Fields,
+    at: usize,
+    end: usize,
+}
+
+impl<'a> Model for Unwritten<'a> {
+    ghost Value = { List Item };
+
+    ghost view = { λ u. take (u.end - u.at) (drop u.at u.items.now) };
+
+    ghost invariant = { λ u. (u.at ≤ u.end) × (u.end ≤ length u.items.now) };
+}
+
+impl<'a> Unwritten<'a> {
+    /// The items from one place up to another.
+    pub fn new(items: &'a Fields, from: usize, to: usize) -> Unwritten<'a>
+        requires order { from ≤ to }
+        requires within { to ≤ length items.now }
+        ensures { result ≡ take (to - from) (drop from items.now) }
+    {
+        Unwritten {
+            items,
+            at: from,
+            end: to,
+        }
+    }
+
+    /// Whether all items were taken.
+    pub fn is_empty(&self) -> bool
+        ensures { IsTrue result ↔ (self.now ≡ []) }
+    {
+        self.at == self.end
+    }
+
+    /// The next item.
+    pub fn peek(&self) -> Option<Item>
+        ensures { MatchOption result (self.now ≡ []) (λ item. (rest : List Item) × (self.now ≡ item ∷ rest)) }
+    {
+        if self.at == self.end {
+            None
+        } else {
+            Some(self.items.item(self.at))
+        }
+    }
+
+    /// Takes the next item.
+    pub fn next(&mut self) -> Option<Item>
+        ensures { MatchOption result (self.old ≡ []) (λ item. self.old ≡ item ∷ self.new) }
+    {
+        if self.at == self.end {
+            return None;
+        }
+        let item = self.items.item(self.at);
+        self.at += 1;
+        Some(item)
+    }
+}
+
+/// The value of the next field; 0 for a gap, which has no item.
+fn next_value(items: &mut Unwritten<'_>, field: u16, coding: Coding<u32>) -> Option<i64>
+    ensures { tells_value field coding items.old result items.new }
+{
+    if !has_value(coding) {
+        return Some(0);
+    }
+    match items.next() {
+        Some(item) if item.field == field => Some(item.value),
+        _ => None,
+    }
+}
+
+/// Whether a value lies in a range.
+fn is_within(low: i64, value: i64, high: i64) -> bool
+    ensures { IsTrue result ↔ ((low ≤ℤ value) × (value ≤ℤ high)) }
+{
+    low <= value && value <= high
+}
+
+/// The largest number of `u(n)` for a width of at most 32.
+fn largest(width: u32) -> i64
+    requires { width ≤ 32 }
+    ensures { result ≡ pos (2 ^ width - 1) }
+{
+    (1 << width) - 1
+}
+
+/// The largest value of `ue(v)`.
+const LAST_NUMBER: i64 = 0xffff_fffe;
+
+/// The largest value of `se(v)`; the smallest is its opposite.
+const LAST_SIGNED: i64 = 0x7fff_ffff;
+
+/// Whether a coding has a code for the value.
+fn has_code(coding: Coding<u32>, value: i64) -> bool
+    requires { IsCodable coding }
+    ensures { IsTrue result ↔ HasCode coding value }
+{
+    match coding {
+        Coding::Fixed(width) => is_within(0, value, largest(width)),
+        Coding::Golomb => is_within(0, value, LAST_NUMBER),
+        Coding::SignedGolomb => is_within(-LAST_SIGNED, value, LAST_SIGNED),
+        Coding::Zeros | Coding::OneAndZeros | Coding::Trailing | Coding::Absent => {
+            is_within(0, value, 0)
+        }
+        Coding::Refused => false,
+    }
+}
+
+/// Whether a field may have the value.
+fn is_value(cell: Cell<u32>, value: i64) -> bool
+    requires { IsCodable cell.coding }
+    ensures { IsTrue result ↔ IsValueOf cell value }
+{
+    has_code(cell.coding, value) && fault_of(cell.limits, value).is_none()
+}
+
+/// A value as a number, where it is one of 32 bits.
+fn number(value: i64) -> u32
+    ensures { (n : ℕ) → value ≡ pos n → n < 2 ^ 32 → result ≡ n }
+{
+    u32::try_from(value).unwrap_or(0)
+}
+
+/// Appends the code of a field's value, or the bits of a gap.
+///
+/// # Errors
+///
+/// Where memory runs out.
+pub fn write_code(bits: &mut BitWriter, coding: Coding<u32>, value: i64) -> Result<(), AllocError>
+    requires width { IsCodable coding }
+    requires code { HasCode coding value }
+    ensures { OnOk result (bits.new ≡ bits.old ++ code_of coding (length bits.old) value) }
+{
+    match coding {
+        Coding::Fixed(width) => bits.u(width, u64::from(number(value))),
+        Coding::Golomb => bits.ue(number(value)),
+        Coding::SignedGolomb => bits.se(value as i32),
+        Coding::Zeros => bits.align(),
+        Coding::OneAndZeros | Coding::Trailing => append_one(bits),
+        Coding::Absent | Coding::Refused => Ok(()),
+    }
+}
+
+/// Appends a one, and zeros up to the byte boundary.
+fn append_one(bits: &mut BitWriter) -> Result<(), AllocError>
+    ensures { OnOk result (bits.new ≡ bits.old ++ one_from (length bits.old)) }
+{
+    bits.u(1, 1)?;
+    bits.align()?;
+    Ok(())
+}
+
+impl<'a> Coder<Unwritten<'a>> for BitWriter {
+    ghost use Rattle.vx_table.specs.Writing.{writes_field};
+
+    type Fault = SpellError;
+
+    ghost step = { writes_field };
+
+    fn code(&mut self, items: &mut Unwritten<'a>, cell: Cell<u32>) -> Result<i64, SpellError> {
+        let Some(value) = next_value(items, cell.field, cell.coding) else {
+            return Err(SpellError::NoValue);
+        };
+        if !is_value(cell, value) {
+            return Err(SpellError::NoValue);
+        }
+        match write_code(self, cell.coding, value) {
+            Ok(()) => Ok(value),
+            Err(_) => Err(SpellError::Memory),
+        }
+    }
+}
+
+/// Writes the fields of a table at a scope, whose items come next, and gives the scope the numbers written.
+///
+/// # Errors
+///
+/// `NoValue` where the items aren't those of a value of the table; want of memory.
+pub fn write_table(
+    table: &[Row],
+    scope: &mut Scope,
+    bits: &mut BitWriter,
+    items: &mut Unwritten<'_>,
+) -> Result<(), SpellError>
+    ensures { Writes (form_of table.now scope.old) bits.old items.old result bits.new items.new }
+{
+    code_table(table, scope, bits, items)
+}
