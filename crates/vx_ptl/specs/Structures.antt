@@ -1,0 +1,30 @@
+-- The forms of the structures, at the numbers on which they depend.
+use Rattle.std.specs.Prelude.{ℕ, Bool, List, slice_set}
+use Rattle.vx_bits.specs.declared.list.Item.{Item}
+use Rattle.vx_table.specs.Scope.{fresh, loaded, one_if}
+use Rattle.vx_table.specs.Forms.{Form, form_of}
+use Rattle.vx_ptl.specs.declared.tables.TheConstants.{VPS, PTL, DPB, TIMING, SUBLAYER_TIMING}
+
+-- the highest sublayer, and under a field's number whether each sublayer has an entry
+abbrev pub sublayers : List ℕ → ℕ → ℕ → Bool → List ℕ
+sublayers scope max field each = slice_set (slice_set scope 102 max) field (one_if each)
+
+-- the front of a VPS (H.266 clause 7.3.2.3)
+abbrev pub vps : Form (List ℕ)
+vps = form_of VPS fresh
+
+-- profile, tier and level (clause 7.3.3.1)
+abbrev pub ptl : ℕ → Form (List ℕ)
+ptl max = form_of PTL (slice_set fresh 102 max)
+
+-- DPB parameters (clause 7.3.4)
+abbrev pub dpb : ℕ → Bool → Form (List ℕ)
+dpb max each = form_of DPB (sublayers fresh max 140 each)
+
+-- general timing (clause 7.3.5.1)
+abbrev pub timing : ℕ → Bool → Form (List ℕ)
+timing max each = form_of TIMING (sublayers fresh max 225 each)
+
+-- sublayer timing, behind the items of the general timing (clauses 7.3.5.2 and 7.3.5.3)
+abbrev pub sublayer_timing : List Item → ℕ → Bool → Form (List ℕ)
+sublayer_timing items max each = form_of SUBLAYER_TIMING (sublayers (loaded fresh items) max 225 each)

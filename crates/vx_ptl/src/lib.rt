@@ -1,0 +1,13 @@
+//! Profile, tier and level, DPB parameters and timing of H.266, and the numbers of a VPS that are read.
+//!
+//! Each structure is a table ([`PTL`], [`DPB`] ..) and one call over it. The parameter sets that hold
+//! these structures take the tables as parts of their own.
+#![tactic(auto)]
+
+mod read;
+mod tables;
+#[cfg(test)]
+mod tests;
+
+pub use read::{read_dpb, read_ptl, read_sublayer_timing, read_timing, read_vps};
+pub use tables::{DPB, PTL, SUBLAYER_TIMING, TIMING, VPS};

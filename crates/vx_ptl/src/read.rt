@@ -1,0 +1,102 @@
+//! Reading the structures.
+
+ghost use Rattle.std.specs.Prelude.{◌≡◌, ◌≤◌, ◌^◌, length, slice_set};
+ghost use Rattle.vx_table.specs.Reading.{Reads, ReadsValue};
+ghost use Rattle.vx_ptl.specs.Structures.{sublayers, vps, ptl, dpb, timing, sublayer_timing};
+
+use crate::tables::{DPB, PTL, SUBLAYER_TIMING, TIMING, VPS};
+use std::alloc::Global;
+use vx_bits::{BitReader, Fields, ReadError};
+use vx_table::{Scope, read_table, read_value};
+
+/// The scope of a structure of sublayers: the highest one, and under a field's number whether each has an entry.
+fn at_sublayers(mut scope: Scope, max: u32, field: u16, each: bool) -> Scope
+    ensures { result ≡ sublayers scope max field each }
+{
+    scope.set(102, max);
+    scope.set(field, u32::from(each));
+    scope
+}
+
+/// Reads the first three numbers of a VPS: fields 1 to 3.
+///
+/// # Errors
+///
+/// The first refusal, or want of memory.
+pub fn read_vps(alloc: Global, rbsp: &[u8]) -> Result<Fields, ReadError>
+    requires { length rbsp.now ≤ 2 ^ 23 }
+    ensures { ReadsValue vps rbsp.now result }
+{
+    read_value(alloc, &VPS, &mut Scope::new(), rbsp)
+}
+
+/// Reads profile, tier and level, fields 11 to 23; `max` is the highest sublayer, field 102.
+///
+/// # Errors
+///
+/// The first refusal, or want of memory. `into` has then gained the fields read before.
+pub fn read_ptl(bits: &mut BitReader<'_>, max: u32, into: &mut Fields) -> Result<(), ReadError>
+    requires { max ≤ 6 }
+    ensures { Reads (ptl max) bits.old into.old result bits.new into.new }
+{
+    let mut scope = Scope::new();
+    scope.set(102, max);
+    read_table(&PTL, &mut scope, bits, into)
+}
+
+/// Reads DPB parameters, fields 31 to 33; `each` is field 140.
+///
+/// # Errors
+///
+/// As [`read_ptl`].
+pub fn read_dpb(
+    bits: &mut BitReader<'_>,
+    max: u32,
+    each: bool,
+    into: &mut Fields,
+) -> Result<(), ReadError>
+    requires { max ≤ 6 }
+    ensures { Reads (dpb max each) bits.old into.old result bits.new into.new }
+{
+    let mut scope = at_sublayers(Scope::new(), max, 140, each);
+    read_table(&DPB, &mut scope, bits, into)
+}
+
+/// Reads general timing and HRD parameters, fields 41 to 51, whose rows use neither `max` nor `each`.
+///
+/// # Errors
+///
+/// As [`read_ptl`].
+pub fn read_timing(
+    bits: &mut BitReader<'_>,
+    max: u32,
+    each: bool,
+    into: &mut Fields,
+) -> Result<(), ReadError>
+    requires { max ≤ 6 }
+    ensures { Reads (timing max each) bits.old into.old result bits.new into.new }
+{
+    let mut scope = at_sublayers(Scope::new(), max, 225, each);
+    read_table(&TIMING, &mut scope, bits, into)
+}
+
+/// Reads sublayer timing and HRD parameters, fields 52 to 60; `each` is field 225, and `into` has fields 43, 44, 46
+/// and 51 of the general ones.
+///
+/// # Errors
+///
+/// As [`read_ptl`].
+pub fn read_sublayer_timing(
+    bits: &mut BitReader<'_>,
+    max: u32,
+    each: bool,
+    into: &mut Fields,
+) -> Result<(), ReadError>
+    requires { max ≤ 6 }
+    ensures { Reads (sublayer_timing into.old max each) bits.old into.old result bits.new into.new }
+{
+    let mut scope = Scope::new();
+    scope.load(into);
+    let mut scope = at_sublayers(scope, max, 225, each);
+    read_table(&SUBLAYER_TIMING, &mut scope, bits, into)
+}
