@@ -6,14 +6,19 @@ mib=${1:-256}
 work=$(mktemp -d)
 trap 'rm -rf "$work"' EXIT
 
-# Units of 64 KiB: ordinary bytes; bytes of which every third begins a pair of zeros; zeros and 03 (cabac_zero_words).
+# Units of 64 KiB: bytes as entropy coding gives them, each value equally often; bytes of which every third begins
+# a pair of zeros; zeros and 03 (cabac_zero_words).
 python3 - "$work" "$mib" <<'PY'
 import random, sys
 work, mib = sys.argv[1], int(sys.argv[2])
 random.seed(1)
 head, size = b"\x00\x00\x00\x01\x00\x41", 65536 - 6
+ordinary = bytearray(random.randrange(256) for _ in range(size - 1)) + b"\x80"
+for place in range(2, size):
+    if ordinary[place - 2] == ordinary[place - 1] == 0 and ordinary[place] < 4:
+        ordinary[place] += 4
 kinds = {
-    "ordinary": bytes(random.choice(range(1, 256)) if random.random() < 1 / 64 else random.randrange(4, 256) for _ in range(size)),
+    "ordinary": bytes(ordinary),
     "pairs": b"\x00\x00\x05" * (size // 3) + b"\x80",
     "words": b"\x00\x00\x03" * (size // 3) + b"\x80",
 }
