@@ -5,6 +5,7 @@ use Rattle.vx_annexb.specs.declared.span.Span.{Span}
 use Rattle.vx_annexb.specs.Places.{AreZeros, IsMark}
 use Rattle.vx_annexb.specs.ByteStream.{StartsAt, UnitPlace, unit_bytes, IsSound, Refuses, FollowsFrom, end_of, IsStream}
 
+-- a splitter, as its callers see it
 pub record Held : Type 0 where
   -- the bytes that are kept, and the place of the first of them
   pub kept : List ℕ
@@ -17,17 +18,19 @@ pub record Held : Type 0 where
   pub sought : ℕ
   -- whether the bytes fed are all there are
   pub all : Bool
+  -- the first refusal, which is given again from then on
   pub refused : Option Refusal
 
 -- how many bytes were fed
 abbrev pub fed : Held → ℕ
 fed h = h.base + length h.kept
 
+-- two steps a byte, and one more within a unit
 abbrev pub steps_left : ℕ → Option ℕ → ℕ
 steps_left n None = 2 * n
 steps_left n (Some _) = 2 * n + 1
 
--- what is left to seek: two steps a byte, and one to end a unit that has begun
+-- what is left to seek, which falls with each unit given
 abbrev pub left_to_seek : Held → ℕ
 left_to_seek h = steps_left (fed h - h.sought) h.start
 
@@ -39,6 +42,7 @@ HasSought h g (Some s) None = StartsAt g h.from s × ((k : ℕ) → s ≤ k → 
 
 -- h is what a splitter keeps of the bytes g once it has given these units
 pub record Stands (h : Held) (g : List ℕ) (units : List UnitPlace) : Type 0 where
+  -- all bytes were taken, and those that are kept are the last of them
   pub taken : length g ≡ fed h
   pub kept : h.kept ≡ drop h.base g
   pub given : FollowsFrom g h.all 0 units

@@ -1,5 +1,5 @@
 //! Emulation prevention: the 03 bytes that keep start codes out of a NAL unit (H.266 7.3.1.1, 7.4.2.1).
-ghost use Rattle.std.specs.Prelude.{◌≡◌, ℕ, ◌+◌, ◌≤◌, ◌<◌, length, IfOk, MatchOption};
+ghost use Rattle.std.specs.Prelude.{◌≡◌, ℕ, ◌≤◌, ◌<◌, length, IfOk, MatchOption};
 ghost use Rattle.vx_annexb.specs.Places.{IsFirstFrom};
 ghost use Rattle.vx_annexb.specs.Emulation.{is_emulation, BreaksRule, EndsInNoZero, unescaped_to, unescaped, IsEscaped};
 
@@ -30,7 +30,8 @@ pub fn emulation_fault(unit: &[u8]) -> Option<usize>
 /// A unit without its emulation bytes.
 pub fn unescape(alloc: Global, unit: &[u8]) -> Result<Vec<u8>, AllocError>
     requires { (k : ℕ) → ¬ BreaksRule unit.now k }
-    ensures { IfOk result (λ bytes. bytes.items ≡ unescaped unit.now) }
+    ensures value { IfOk result (λ bytes. bytes.items ≡ unescaped unit.now) }
+    ensures escaped { EndsInNoZero unit.now → IfOk result (λ bytes. IsEscaped bytes.items unit.now) }
 {
     let mut bytes = Vec::with_capacity(alloc, unit.len())?;
     let mut at = 0;

@@ -1,5 +1,5 @@
 //! The header of a NAL unit.
-ghost use Rattle.std.specs.Prelude.{◌≡◌, ◌↔◌, MatchOption, ◌^◌};
+ghost use Rattle.std.specs.Prelude.{◌≡◌, MatchOption};
 ghost use Rattle.vx_annexb.specs.NalUnit.{HasHeader, header_of};
 
 /// The two bytes that begin each NAL unit (H.266 7.3.1.2).

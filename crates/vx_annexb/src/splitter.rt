@@ -1,6 +1,5 @@
 //! A byte stream that is taken in pieces, and its NAL units, given one at a time.
-ghost use Rattle.std.specs.Prelude.{◌≡◌, ◌≢◌, ℕ, ◌+◌, ◌-◌, ◌*◌, ◌^◌, ◌<◌, ◌≤◌, ◌++◌, ◌⊎◌, [], ◌∷◌, List, Option, true, false, length, drop, slice_range, slice_index, IfOk, IfErr, IfSome, OnOk, OnErr, OnSome, MatchOption, MatchResult, vec_capacity};
-ghost use Rattle.vx_annexb.specs.ByteStream.{UnitPlace};
+ghost use Rattle.std.specs.Prelude.{◌≡◌, ◌*◌, ◌≤◌, length, drop, vec_capacity};
 
 use crate::Span;
 use crate::rules::{NOT_A_START_CODE, refusal_of};
@@ -67,11 +66,11 @@ fn drop_front(bytes: &mut Vec<u8>, n: usize)
 }
 
 impl Splitter {
-    ghost use Rattle.std.specs.Prelude.{◌≡◌, ◌≢◌, ℕ, ◌+◌, ◌-◌, ◌*◌, ◌^◌, ◌<◌, ◌≤◌, ◌++◌, ◌⊎◌, [], ◌∷◌, List, Option, Some, None, true, false, length, drop, slice_range, slice_index, IfOk, IfErr, IfSome, OnOk, OnErr, OnSome, IsOk, IsSome, MatchOption, MatchResult};
+    ghost use Rattle.std.specs.Prelude.{◌≡◌, ℕ, ◌+◌, ◌^◌, ◌<◌, ◌≤◌, ◌++◌, [], List, true, false, length, slice_range, IfOk, IfErr, IfSome, OnOk, OnErr, OnSome, IsOk, IsSome, MatchOption};
     ghost use Rattle.vx_bits.specs.declared.refusal.Refusal.{Refusal};
-    ghost use Rattle.vx_annexb.specs.Places.{AreZeros, IsMark, IsFirstFrom};
-    ghost use Rattle.vx_annexb.specs.ByteStream.{UnitPlace, CanEnd, IsStream};
-    ghost use Rattle.vx_annexb.specs.Held.{Held, fed, left_to_seek, Stands, HasStarted, IsReadable, KeepsBytes, Answers};
+    ghost use Rattle.vx_annexb.specs.Places.{IsFirstFrom};
+    ghost use Rattle.vx_annexb.specs.ByteStream.{UnitPlace, CanEnd};
+    ghost use Rattle.vx_annexb.specs.Held.{fed, left_to_seek, Stands, HasStarted, IsReadable, KeepsBytes, Answers};
 
     /// A splitter that was fed nothing.
     pub fn new(alloc: Global) -> Splitter

@@ -7,4 +7,6 @@ loop-mark-preserved c =
     rw c.in_ok-extend_from_slice.ensures.items (unescape_step c.args.unit.now c.loop-mark.bytes.items c.loop-mark.at c.loop-mark.invariant c.requires c.in-Some.mark c.in-Some.ensures)
 
 pub returns : goal.returns
-returns c = c.in_ok-extend_from_slice-2.ensures.items ∙ unescape_end c.args.unit.now c.loop-mark.bytes.items c.loop-mark.at c.loop-mark.invariant c.in_default.ensures
+returns c =
+    let is = c.in_ok-extend_from_slice-2.ensures.items ∙ unescape_end c.args.unit.now c.loop-mark.bytes.items c.loop-mark.at c.loop-mark.invariant c.in_default.ensures in
+    record { value = is; escaped = λ last. record { rules = c.requires; last = last; is = is } }
