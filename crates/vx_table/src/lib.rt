@@ -19,4 +19,4 @@ pub use reader::{read_table, read_value};
 pub use rows::{Cell, Coding, Fault, Formula, Limits, Row, Term};
 pub use scope::{NUMBERS, Scope};
 pub use walk::{Coder, code_table, coding, coding_of};
-pub use writer::{SpellError, Unwritten, write_code, write_table};
+pub use writer::{SpellError, Unwritten, has_code, write_code, write_table};

@@ -124,7 +124,7 @@ const LAST_NUMBER: i64 = 0xffff_fffe;
 const LAST_SIGNED: i64 = 0x7fff_ffff;
 
 /// Whether a coding has a code for the value.
-fn has_code(coding: Coding<u32>, value: i64) -> bool
+pub fn has_code(coding: Coding<u32>, value: i64) -> bool
     requires { IsCodable coding }
     ensures { IsTrue result ↔ HasCode coding value }
 {
