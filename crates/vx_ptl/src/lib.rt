@@ -5,9 +5,11 @@
 #![tactic(auto)]
 
 mod read;
+mod run;
 mod tables;
 #[cfg(test)]
 mod tests;
 
 pub use read::{read_dpb, read_ptl, read_sublayer_timing, read_timing, read_vps};
+pub use run::{is_run, write_run};
 pub use tables::{DPB, PTL, SUBLAYER_TIMING, TIMING, VPS};

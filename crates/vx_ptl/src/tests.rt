@@ -2,7 +2,7 @@
 use super::*;
 use std::alloc::Global;
 use std::test::Fail;
-use vx_bits::{BitCause, BitReader, Fields, ReadError, Refusal};
+use vx_bits::{BitCause, BitReader, BitWriter, Fields, ReadError, Refusal};
 
 /// A front of a VPS: its bytes, how many there are, and the values of the fields, or the refusal.
 type Front = ([u8; 5], usize, Result<[i64; 3], ReadError>);
@@ -232,6 +232,70 @@ fn reads_dpb_of_each_sublayer(rt: HostRuntime) -> Result<(), Fail> {
         assert_eq!(rt; fields.len(), items);
         assert_eq!(rt; fields.first(33), Some(2));
         assert_eq!(rt; bits.at(), at);
+    }
+    Ok(())
+}
+
+/// Reads timing and sublayer timing of one layer, or profile, tier and level up to a layer, or DPB parameters.
+fn structure(bits: &mut BitReader<'_>, which: u8, fields: &mut Fields) -> Result<(), ReadError> {
+    match which {
+        0 => {
+            read_timing(bits, 0, false, fields)?;
+            read_sublayer_timing(bits, 0, false, fields)
+        }
+        1 => read_ptl(bits, 0, fields),
+        2 => read_ptl(bits, 1, fields),
+        _ => read_dpb(bits, 1, true, fields),
+    }
+}
+
+#[test]
+fn writes_what_was_read(rt: HostRuntime) -> Result<(), Fail> {
+    // With a one and zeros behind the bits that were read.
+    let cases: [(u8, [u8; 11], usize, [u8; 11], usize); 4] = [
+        (
+            0,
+            [0, 0, 0, 1, 0, 0, 0, 0x3c, 0x30, 0, 0],
+            9,
+            [0, 0, 0, 1, 0, 0, 0, 0x3c, 0x38, 0, 0],
+            9,
+        ),
+        (
+            1,
+            [0x02, 0x33, 0x80, 0, 0, 0, 0, 0, 0, 0, 0],
+            4,
+            [0x02, 0x33, 0x80, 0, 0x80, 0, 0, 0, 0, 0, 0],
+            5,
+        ),
+        (
+            2,
+            [0x02, 0x33, 0x80, 0x80, 0x28, 0x01, 1, 2, 3, 4, 0],
+            10,
+            [0x02, 0x33, 0x80, 0x80, 0x28, 0x01, 1, 2, 3, 4, 0x80],
+            11,
+        ),
+        (
+            3,
+            [0xa7, 0x4c, 0, 0, 0, 0, 0, 0, 0, 0, 0],
+            2,
+            [0xa7, 0x4e, 0, 0, 0, 0, 0, 0, 0, 0, 0],
+            2,
+        ),
+    ];
+    for (which, bytes, length, wanted, written) in cases {
+        let (Some(rbsp), Some(wanted)) = (bytes.get(..length), wanted.get(..written)) else {
+            continue;
+        };
+        if rbsp.len() > 11 {
+            continue;
+        }
+        let mut reader = BitReader::new(rbsp);
+        let mut fields = Fields::new(rt.alloc());
+        structure(&mut reader, which, &mut fields)?;
+        let mut bits = BitWriter::new(rt.alloc());
+        assert!(rt; is_run(&fields, 0, fields.len()));
+        write_run(&mut bits, &fields, 0, fields.len())?;
+        assert_eq!(rt; bits.close()?.as_slice(), wanted);
     }
     Ok(())
 }

@@ -1,0 +1,21 @@
+use Rattle.std.proofs.Common.{rules, ◌≡◌, ◌∙◌, sym, length, ◌-◌, ◌+◌, ◌∷◌, arith, take, drop}
+use Rattle.vx_table.proofs.Items.{unwritten_next}
+use Rattle.vx_ptl.proofs.Runs.{run_none, run_step, first_run, rest_run}
+use Rattle.vx_ptl.proofs.run.write_run.Goals as goal
+
+pub write_item-requires : goal.write_item-requires
+write_item-requires c =
+    let next = unwritten_next c.args.items.now c.loop-i.i c.args.to c.item-item.result c.loop-i-test.true c.requires.within c.item-item.ensures.index in
+    first_run _ _ _ next c.loop-i.invariant.1
+
+pub loop-i-preserved : goal.loop-i-preserved
+loop-i-preserved c =
+    let next = unwritten_next c.args.items.now c.loop-i.i c.args.to c.item-item.result c.loop-i-test.true c.requires.within c.item-item.ensures.index in
+    let before = rw next at c.loop-i.invariant.0 in
+    (run_step _ _ _ _ _ _ before c.in_ok-write_item.ensures, rest_run _ _ _ next c.loop-i.invariant.1)
+
+pub returns : goal.returns
+returns c =
+    let none : c.args.to - c.loop-i.i ≡ 0 = omega (arith, c.loop-i-test.false) in
+    let all = rw none at c.loop-i.invariant.0 in
+    sym (run_none c.loop-i.before (length c.loop-i.bits) c.loop-i.bits) ∙ all
