@@ -128,14 +128,16 @@ entries-is columns rows r sync rises_c rises_r wide high across down =
     ∙ (ap (λ n. n * sum_by (rows_of sync) YS) (columns_met columns r.x r.w rises_c wide across)
     ∙ ap (λ n. (length (inner columns r.x r.w) + 1) * n) (rows_met-is sync rows r.y r.h rises_r high down)))
 
--- and of one without a CTU
+-- a rectangle without a CTU has no CTUs
+pub ctus-none : (columns rows : List ℕ) (r : Rect) → (r.w ≡ 0) ⊎ (r.h ≡ 0) → ctus columns rows r ≡ []
+ctus-none columns rows r empty =
+    filter_none (λ (c : ℕ × ℕ). holds r c.0 c.1) (tile_scan columns rows)
+    (λ c. false_from_ne_true _ (λ on. let p = holds_tells r c.0 c.1 on in elim empty [ inl e ↦ omega (arith, p) | inr e ↦ omega (arith, p) ]))
+
 pub entries-empty : (columns rows : List ℕ) (r : Rect) (sync : Bool) → (r.w ≡ 0) ⊎ (r.h ≡ 0) → entries columns rows r sync ≡ 0
 unfolding entries
 entries-empty columns rows r sync empty =
-    let none : (c : ℕ × ℕ) → holds r c.0 c.1 ≡ false = λ c.
-    false_from_ne_true _ (λ on. let p = holds_tells r c.0 c.1 on in elim empty [ inl e ↦ omega (arith, p) | inr e ↦ omega (arith, p) ])
-    in
-    ap (λ t. changes (starts_entry (tile_bound columns) (tile_bound rows) sync) t) (filter_none (λ (c : ℕ × ℕ). holds r c.0 c.1) (tile_scan columns rows) none)
+    ap (λ t. changes (starts_entry (tile_bound columns) (tile_bound rows) sync) t) (ctus-none columns rows r empty)
 
 pub rows_met-sync : (rows : List ℕ) (from size : ℕ) → rows_met true rows from size ≡ size
 unfolding rows_met

@@ -28,3 +28,7 @@ region_of n k = record {
   slices = map (counted_from (subpic_at n k)) (slices_in n k);
   subpics = whole (subpic_at n k) ∷ [];
 }
+
+-- a CTU that was counted from the corner at a, b
+abbrev pub moved : ℕ → ℕ → ℕ × ℕ → ℕ × ℕ
+moved a b c = (c.0 + a, c.1 + b)
