@@ -20,4 +20,3 @@ pub use layout::Layout;
 pub use numbers::{LayoutError, Numbers};
 pub use plain::first_fault;
 pub use rect::{Rect, RectList};
-
