@@ -9,3 +9,5 @@ pub mod Seam
 pub mod Unique
 pub mod Exists
 pub mod AnnexB
+pub mod Inverse
+pub mod Stray

@@ -1,8 +1,9 @@
 -- What the definition of a byte stream comes to, apart from any program.
-use Rattle.std.specs.Prelude.{◌≡◌, ℕ, ◌+◌, ◌<◌, Bool, true, false, List, [], ◌∷◌, ◌++◌, Option, Some, None, flat_map, length, replicate}
+use Rattle.std.specs.Prelude.{◌≡◌, ℕ, ◌+◌, ◌<◌, Bool, true, false, List, [], ◌∷◌, ◌++◌, Option, Some, None, flat_map, length, replicate, take}
 use Rattle.vx_bits.specs.declared.refusal.Refusal.{Refusal}
+use Rattle.vx_bits.specs.declared.refusal.Refusal.TheVariants.{Framing}
 use Rattle.vx_annexb.specs.Places.{IsMark}
-use Rattle.vx_annexb.specs.Emulation.{EndsInNoZero, IsEscaped}
+use Rattle.vx_annexb.specs.Emulation.{BreaksRule, EndsInNoZero, unescaped, IsEscaped}
 use Rattle.vx_annexb.specs.ByteStream.{UnitPlace, IsSound, IsStream}
 
 -- the bytes determine the units and the ending
@@ -70,3 +71,14 @@ abbrev pub EscapedHasSeam : Type 0
 EscapedHasSeam =
     (h p m n : List ℕ) → 0 < length h → EndsInNoZero h → IsEscaped h m → IsEscaped (h ++ p) n
     → (q : List ℕ) × IsEscaped p q × (n ≡ m ++ q)
+
+-- unescape undoes escape, and escape undoes unescape
+abbrev pub EscapedIsInverse : Type 0
+EscapedIsInverse =
+    ((r n : List ℕ) → IsEscaped r n → unescaped n ≡ r)
+    × ((n m : List ℕ) → ((k : ℕ) → ¬ BreaksRule n k) → EndsInNoZero n → IsEscaped (unescaped n) m → m ≡ n)
+
+-- where a byte at place p is no start code, the units before are those of the first p bytes, and these are refused nowhere
+abbrev pub StrayEndsStream : Type 0
+StrayEndsStream =
+    (b : List ℕ) (all : Bool) (us : List UnitPlace) (p : ℕ) → IsStream b all us (Some (Framing 1 p)) → IsStream (take p b) true us None

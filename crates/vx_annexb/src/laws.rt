@@ -1,5 +1,5 @@
 //! Laws of the byte stream: functions without a body, whose contracts say what its definition comes to.
-ghost use Rattle.vx_annexb.specs.Laws.{StreamIsUnique, StreamExists, StreamGoesOn, StreamIsAnnexB, AnnexBIsStream, EscapedIsUnique, EscapedExists, EscapedHasSeam};
+ghost use Rattle.vx_annexb.specs.Laws.{StreamIsUnique, StreamExists, StreamGoesOn, StreamIsAnnexB, AnnexBIsStream, EscapedIsUnique, EscapedExists, EscapedHasSeam, EscapedIsInverse, StrayEndsStream};
 
 /// The bytes determine their units and the ending behind them.
 pub fn stream_is_unique()
@@ -39,4 +39,14 @@ pub fn escaped_exists()
 /// Behind bytes that don't end in 00 the escaped form goes on as it would begin: a payload is passed on as it stands.
 pub fn escaped_has_seam()
     ensures { EscapedHasSeam }
+{}
+
+/// Unescaping and escaping undo one another.
+pub fn escaped_is_inverse()
+    ensures { EscapedIsInverse }
+{}
+
+/// Before a byte that is no start code the units are those of the bytes before it, which no rule refuses.
+pub fn stray_ends_stream()
+    ensures { StrayEndsStream }
 {}
