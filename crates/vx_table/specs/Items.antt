@@ -2,12 +2,7 @@
 use Rattle.std.specs.Prelude.{◌≡◌, ℕ, ℤ, cond, List, [], ◌∷◌, ◌++◌, Option, Some, None}
 use Rattle.vx_bits.specs.declared.list.Item.{Item}
 use Rattle.vx_table.specs.declared.rows.Coding.{Coding}
-use Rattle.vx_table.specs.Forms.{has_value}
-use Rattle.vx_table.specs.Spelling.{HasCode}
-
--- the items of one value: none for a gap
-abbrev pub one_item : ℕ → Coding ℕ → ℤ → List Item
-one_item field coding v = cond (has_value coding) (record { field = field; value = v } ∷ []) []
+use Rattle.vx_table.specs.Spelling.{HasCode, one_item}
 
 -- the only value that may come next, or that none does
 abbrev pub tells_value : ℕ → Coding ℕ → List Item → Option ℤ → List Item → Type 0

@@ -125,8 +125,11 @@ pub data IsRefused (cell : Cell ℕ) (total : ℕ) (rest : List Bool) : Refusal 
       → IsRefused cell total rest (reported fault cell.field (total - length rest))
 
 -- a value as an item; a gap has none
+abbrev pub one_item : ℕ → Coding ℕ → ℤ → List Item
+one_item of coding v = cond (has_value coding) (record { field = of; value = v } ∷ []) []
+
 unfoldable pub item_of : Cell ℕ → ℤ → List Item
-item_of cell v = cond (has_value cell.coding) (record { field = cell.field; value = v } ∷ []) []
+item_of cell v = one_item cell.field cell.coding v
 
 -- the items of values that go along a form
 abbrev pub items_along : {A : Type 0} → Form A → List ℤ → List Item

@@ -1,4 +1,9 @@
-//! Syntax tables as data, and one walk over them in both directions.
+//! Syntax tables of H.266 as data, and one walk over them in both directions.
+//!
+//! A table is a constant array of [`Row`]s, written by [`table!`] in the look of the standard's own tables.
+//! [`code_table`] walks over it with any [`Coder`]; [`read_table`] is the walk with a bit reader, which appends
+//! items, and [`write_table`] the walk with a bit writer, which takes them. [`Scope`] has the numbers that
+//! conditions, widths and ranges read. docs/TABLES.md says how a table is read and how one is added.
 #![tactic(auto)]
 
 mod arithmetic;

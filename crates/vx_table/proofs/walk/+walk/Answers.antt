@@ -1,5 +1,6 @@
 use Rattle.std.proofs.Common.{arith, ◌≡◌}
 use Rattle.std.proofs.lemmas.Result.{err_from_is_err_and}
+use Rattle.vx_table.specs.Forms.{form_of}
 use Rattle.vx_table.specs.Scope.{value}
 use Rattle.vx_table.proofs.Steps.{leads-field, stop-field, leads-absent, leads-present, leads-repeat, stop-repeat, leads-name, leads-no_row, leads-turn, stop-turn, leads-no_turn}
 use Rattle.vx_table.proofs.walk.+walk.Goals as goal
@@ -24,14 +25,14 @@ pub code_table-loop-row-preserved-then-value-eq0 :
 code_table-loop-row-preserved-then-value-eq0 g t c =
     let before = rw (c.in-Some.ensures.cases.0, c.in-When.is) at c.loop-row.invariant.1 in
     let none : value c.loop-row.scope c.in-When.holds ≡ 0 = cc in
-    (omega (arith, c.in-Some.ensures.cases.1, c.split_block.ensures.all), rw c.split_block.ensures.behind (leads-absent _ _ _ _ before none))
+    (omega (arith, c.in-Some.ensures.cases.1, c.split_block.ensures.all), rw c.split_block.ensures.behind (leads-absent {whole = form_of c.args.table.now c.args.scope.now} _ _ _ _ before none))
 
 pub code_table-loop-row-preserved-else-value-eq0 :
     goal.code_table-loop-row-preserved-else-value-eq0
 code_table-loop-row-preserved-else-value-eq0 g t c =
     let before = rw (c.in-Some.ensures.cases.0, c.in-When.is) at c.loop-row.invariant.1 in
     let some : ¬ (value c.loop-row.scope c.in-When.holds ≡ 0) = rw c.value.ensures at c.if-value-eq0.false in
-    (omega (arith, c.in-Some.ensures.cases.1), leads-present _ _ _ _ before some)
+    (omega (arith, c.in-Some.ensures.cases.1), leads-present {whole = form_of c.args.table.now c.args.scope.now} _ _ _ _ before some)
 
 pub code_table-loop-row-preserved-in_ok-code_turns-in-Repeat :
     goal.code_table-loop-row-preserved-in_ok-code_turns-in-Repeat
@@ -51,7 +52,7 @@ code_table-returns-in_err-code_turns-in-Repeat g t c =
 pub code_table-loop-row-preserved : goal.code_table-loop-row-preserved
 code_table-loop-row-preserved g t c =
     let before = rw (c.in-Some.ensures.cases.0, c.in-Name.is) at c.loop-row.invariant.1 in
-    (omega (arith, c.in-Some.ensures.cases.1), rw (c.set.ensures, c.value-number.ensures) (leads-name _ _ _ _ before))
+    (omega (arith, c.in-Some.ensures.cases.1), rw (c.set.ensures, c.value-number.ensures) (leads-name {whole = form_of c.args.table.now c.args.scope.now} _ _ _ _ before))
 
 pub code_table-returns : goal.code_table-returns
 code_table-returns g t c = leads-no_row _ _ (rw c.in_default.is at c.split_first.ensures.cases) c.loop-row.invariant.1
