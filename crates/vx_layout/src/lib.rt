@@ -20,3 +20,6 @@ pub use layout::Layout;
 pub use numbers::{LayoutError, Numbers};
 pub use plain::first_fault;
 pub use rect::{Rect, RectList};
+
+#[cfg(test)]
+mod tests;
