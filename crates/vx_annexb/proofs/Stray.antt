@@ -1,13 +1,12 @@
 -- Before a byte that is no start code the units are those of the bytes before it.
-use Rattle.std.proofs.Common.{◌≡◌, ℕ, ◌+◌, ◌-◌, ◌<◌, ◌≤◌, inl, inr, Bool, true, List, [], ◌∷◌, ◌++◌, Option, Some, None, length, take, drop, slice_index, slice_range, sym, ap, subst, ◌∙◌, arith, refl, ⊎_elim, get_or-take}
+use Rattle.std.proofs.Common.{◌≡◌, ℕ, ◌+◌, ◌-◌, ◌<◌, ◌≤◌, inl, inr, Bool, true, List, [], ◌∷◌, length, take, drop, slice_index, sym, subst, ◌∙◌, arith, refl, ⊎_elim, get_or-take}
 use Rattle.std.proofs.lemmas.Bool.{cases_lt}
 use Rattle.std.proofs.lemmas.List.{length-take-le, take-append-drop}
-use Rattle.vx_bits.specs.declared.refusal.Refusal.{Refusal}
 use Rattle.vx_bits.specs.declared.refusal.Refusal.TheVariants.{Framing}
 use Rattle.vx_annexb.specs.Places.{AreZeros, IsMark, IsFirstFrom}
-use Rattle.vx_annexb.specs.ByteStream.{StartsAt, CanEnd, UnitPlace, unit_bytes, IsUnit, IsStray, IsSound, RefusesUnit, Refuses, FollowsFrom, end_of, IsStream}
+use Rattle.vx_annexb.specs.ByteStream.{StartsAt, CanEnd, UnitPlace, unit_bytes, IsUnit, IsStray, IsSound, Refuses, FollowsFrom, end_of}
 use Rattle.vx_annexb.specs.Laws.{StrayEndsStream}
-use Rattle.vx_annexb.proofs.Places.{mark_on, bytes_on, zeros_mark}
+use Rattle.vx_annexb.proofs.Places.{mark_on, bytes_on}
 
 -- The first p bytes, behind which a byte stands that is no start code.
 module _ (b : List ℕ) (p : ℕ) (inside : p ≤ length b) where

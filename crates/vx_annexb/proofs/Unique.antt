@@ -110,6 +110,17 @@ follow_unique b all p (u ∷ us) (v ∷ vs) r t f e g d =
     let later = follow_unique b all u.end us vs r t f.2 e others.0 others.1 in
     (ap₂ (λ (x : UnitPlace) (xs : List UnitPlace). x ∷ xs) same later.0, later.1)
 
+-- units that follow one another from a place on are the first of those that the bytes have there
+pub follow_front : (b : List ℕ) (all : Bool) (p : ℕ) (us vs : List UnitPlace) (t : Option Refusal) → FollowsFrom b all p us → FollowsFrom b all p vs → EndsWith b all (end_of p vs) t → (more : List UnitPlace) × (vs ≡ us ++ more)
+follow_front b all p [] vs t f g d = (vs, refl)
+follow_front b all p (u ∷ us) [] t f g d = absurd (ending_or_unit b all p t u d f.0 f.1)
+follow_front b all p (u ∷ us) (v ∷ vs) t f g d =
+    let same = unit_unique b all p u v f.0 g.0 in
+    let P : UnitPlace → Type 0 = λ w. FollowsFrom b all w.end vs × EndsWith b all (end_of w.end vs) t in
+    let others = subst P (sym same) (g.2, d) in
+    let later = follow_front b all u.end us vs t f.2 others.0 others.1 in
+    (later.0, ap₂ (λ (x : UnitPlace) (xs : List UnitPlace). x ∷ xs) (sym same) later.1)
+
 pub stream_unique : StreamIsUnique
 stream_unique b all us vs r t f g = follow_unique b all 0 us vs r t f.follow f.behind g.follow g.behind
 

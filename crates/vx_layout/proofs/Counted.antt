@@ -33,22 +33,22 @@ cut_range lo hi a (suc n) =
     let rest : filter (is_in lo hi) (range_with_len (a + 1) n) ≡ range_with_len (max (a + 1) lo) (min (a + 1 + n) hi - max (a + 1) lo) = cut_range lo hi (a + 1) n in
     elim (cases_lt a lo) [
       | inl under ↦
-        let low : max (a + 1) lo ≡ max a lo = omega arith in
-        let end : min (a + 1 + n) hi - max a lo ≡ min (a + suc n) hi - max a lo = omega arith in
-        rw (and_left (leb lo a) (ltb a hi) (lt-leb lo a under)) (rest ∙ (ap (λ m. range_with_len m (min (a + 1 + n) hi - m)) low ∙ ap (λ m. range_with_len (max a lo) m) end))
+          let low : max (a + 1) lo ≡ max a lo = omega arith in
+          let end : min (a + 1 + n) hi - max a lo ≡ min (a + suc n) hi - max a lo = omega arith in
+          rw (and_left (leb lo a) (ltb a hi) (lt-leb lo a under)) (rest ∙ (ap (λ m. range_with_len m (min (a + 1 + n) hi - m)) low ∙ ap (λ m. range_with_len (max a lo) m) end))
       | inr low ↦
-        elim (cases_lt a hi) [
-          | inl high ↦
-            let at : max a lo ≡ a = omega arith in
-            let next : max (a + 1) lo ≡ a + 1 = omega arith in
-            let more : min (a + suc n) hi - a ≡ suc (min (a + 1 + n) hi - (a + 1)) = omega arith in
-            rw (and_from (leb lo a) (ltb a hi) (le-leb lo a low) (lt-ltb a hi high))
-            (rw (at, more) (ap (λ t. a ∷ t) (rest ∙ ap (λ m. range_with_len m (min (a + 1 + n) hi - m)) next)))
-          | inr over ↦
-            let none : min (a + suc n) hi - max a lo ≡ 0 = omega arith in
-            let none_later : min (a + 1 + n) hi - max (a + 1) lo ≡ 0 = omega arith in
-            rw (and_right (leb lo a) (ltb a hi) (le-ltb a hi over)) (rw none (rest ∙ ap (λ m. range_with_len (max (a + 1) lo) m) none_later))
-        ]
+          elim (cases_lt a hi) [
+            | inl high ↦
+                let at : max a lo ≡ a = omega arith in
+                let next : max (a + 1) lo ≡ a + 1 = omega arith in
+                let more : min (a + suc n) hi - a ≡ suc (min (a + 1 + n) hi - (a + 1)) = omega arith in
+                rw (and_from (leb lo a) (ltb a hi) (le-leb lo a low) (lt-ltb a hi high))
+                (rw (at, more) (ap (λ t. a ∷ t) (rest ∙ ap (λ m. range_with_len m (min (a + 1 + n) hi - m)) next)))
+            | inr over ↦
+                let none : min (a + suc n) hi - max a lo ≡ 0 = omega arith in
+                let none_later : min (a + 1 + n) hi - max (a + 1) lo ≡ 0 = omega arith in
+                rw (and_right (leb lo a) (ltb a hi) (le-ltb a hi over)) (rw none (rest ∙ ap (λ m. range_with_len (max (a + 1) lo) m) none_later))
+          ]
     ]
 
 pub map-range : (from a n : ℕ) → map (λ x. x + from) (range_with_len a n) ≡ range_with_len (a + from) n
@@ -59,7 +59,7 @@ map-range from a (suc n) =
 
 -- a run of the picture, cut to a rectangle, is the run of the region that it meets, moved
 run_moved : (from lo hi a b p q : ℕ) → from ≤ lo → from ≤ hi → a ≤ b → p ≡ max a from - from → p ≤ q → min b hi ≡ min (q + from) hi →
-  filter (is_in lo hi) (range_with_len a (b - a)) ≡ map (λ x. x + from) (filter (is_in (lo - from) (hi - from)) (range_with_len p (q - p)))
+    filter (is_in lo hi) (range_with_len a (b - a)) ≡ map (λ x. x + from) (filter (is_in (lo - from) (hi - from)) (range_with_len p (q - p)))
 run_moved from lo hi a b p q f g up at less end =
     let whole : a + (b - a) ≡ b = omega arith in
     let inner : p + (q - p) ≡ q = omega arith in
@@ -67,10 +67,10 @@ run_moved from lo hi a b p q f g up at less end =
     let size : min q (hi - from) - max p (lo - from) ≡ min b hi - max a lo = omega arith in
     cut_range lo hi a (b - a)
     ∙ (ap (λ m. range_with_len (max a lo) (min m hi - max a lo)) whole
-      ∙ sym
-        (ap (λ t. map (λ x. x + from) t) (cut_range (lo - from) (hi - from) p (q - p) ∙ ap (λ m. range_with_len (max p (lo - from)) (min m (hi - from) - max p (lo - from))) inner)
-          ∙ (map-range from (max p (lo - from)) (min q (hi - from) - max p (lo - from))
-            ∙ (ap (λ m. range_with_len m (min q (hi - from) - max p (lo - from))) start ∙ ap (λ m. range_with_len (max a lo) m) size))))
+    ∙ sym
+    (ap (λ t. map (λ x. x + from) t) (cut_range (lo - from) (hi - from) p (q - p) ∙ ap (λ m. range_with_len (max p (lo - from)) (min m (hi - from) - max p (lo - from))) inner)
+    ∙ (map-range from (max p (lo - from)) (min q (hi - from) - max p (lo - from))
+    ∙ (ap (λ m. range_with_len m (min q (hi - from) - max p (lo - from))) start ∙ ap (λ m. range_with_len (max a lo) m) size))))
 
 run_empty : (lo hi a b : ℕ) → a ≤ b → (b ≤ lo) ⊎ (hi ≤ a) → filter (is_in lo hi) (range_with_len a (b - a)) ≡ []
 run_empty lo hi a b up out =
@@ -96,32 +96,32 @@ none_inner from to a (b ∷ bs) rises past = rw (and_right (ltb from b) (ltb b t
 
 -- the runs of the picture that a rectangle meets are those of the region, moved
 pub runs_moved : (from size lo hi a p : ℕ) (bs : List ℕ) → 0 < size → RisesAbove a bs → from ≤ lo → lo ≤ hi → hi ≤ from + size → a < from + size → from + size ≤ last_after a bs → p ≡ max a from - from →
-  strip (map (filter (is_in lo hi)) (runs_after a bs)) ≡ map (map (λ x. x + from)) (strip (map (filter (is_in (lo - from) (hi - from))) (runs_after p (map (λ b. b - from) (filter (is_inner from (from + size)) bs) ++ size ∷ []))))
+    strip (map (filter (is_in lo hi)) (runs_after a bs)) ≡ map (map (λ x. x + from)) (strip (map (filter (is_in (lo - from) (hi - from))) (runs_after p (map (λ b. b - from) (filter (is_inner from (from + size)) bs) ++ size ∷ []))))
 runs_moved from size lo hi a p [] some rises f g h under upto at = absurd (omega arith)
 runs_moved from size lo hi a p (b ∷ bs) some rises f g h under upto at =
     let up : a < b = rises.0 in
     let rest_runs : List (List ℕ) = map (filter (is_in lo hi)) (runs_after b bs) in
     elim (cases_lt from b) [
       | inr before ↦
-        let same : p ≡ max b from - from = omega arith in
-        rw (and_left (ltb from b) (ltb b (from + size)) (le-ltb from b before))
-        (strip-empty (filter (is_in lo hi) (range_with_len a (b - a))) rest_runs (run_empty lo hi a b (omega arith) (inl (omega arith)))
+          let same : p ≡ max b from - from = omega arith in
+          rw (and_left (ltb from b) (ltb b (from + size)) (le-ltb from b before))
+          (strip-empty (filter (is_in lo hi) (range_with_len a (b - a))) rest_runs (run_empty lo hi a b (omega arith) (inl (omega arith)))
           ∙ runs_moved from size lo hi b p bs some rises.1 f g h (omega arith) upto same)
       | inl past ↦
-        elim (cases_lt b (from + size)) [
-          | inl inside ↦
-            let next : b - from ≡ max b from - from = omega arith in
-            rw (and_from (ltb from b) (ltb b (from + size)) (lt-ltb from b past) (lt-ltb b (from + size) inside))
-            (strip-cons from (filter (is_in lo hi) (range_with_len a (b - a))) (filter (is_in (lo - from) (hi - from)) (range_with_len p (b - from - p))) rest_runs
-              (map (filter (is_in (lo - from) (hi - from))) (runs_after (b - from) (map (λ b. b - from) (filter (is_inner from (from + size)) bs) ++ size ∷ [])))
-              (run_moved from lo hi a b p (b - from) f (omega arith) (omega arith) at (omega arith) (omega arith))
-              (runs_moved from size lo hi b (b - from) bs some rises.1 f g h inside upto next))
-          | inr beyond ↦
-            rw (and_right (ltb from b) (ltb b (from + size)) (le-ltb b (from + size) beyond), none_inner from (from + size) b bs rises.1 beyond)
-            (strip-cons from (filter (is_in lo hi) (range_with_len a (b - a))) (filter (is_in (lo - from) (hi - from)) (range_with_len p (size - p))) rest_runs []
-              (run_moved from lo hi a b p size f (omega arith) (omega arith) at (omega arith) (omega arith))
-              (strip-beyond lo hi b bs rises.1 (omega arith)))
-        ]
+          elim (cases_lt b (from + size)) [
+            | inl inside ↦
+                let next : b - from ≡ max b from - from = omega arith in
+                rw (and_from (ltb from b) (ltb b (from + size)) (lt-ltb from b past) (lt-ltb b (from + size) inside))
+                (strip-cons from (filter (is_in lo hi) (range_with_len a (b - a))) (filter (is_in (lo - from) (hi - from)) (range_with_len p (b - from - p))) rest_runs
+                (map (filter (is_in (lo - from) (hi - from))) (runs_after (b - from) (map (λ b. b - from) (filter (is_inner from (from + size)) bs) ++ size ∷ [])))
+                (run_moved from lo hi a b p (b - from) f (omega arith) (omega arith) at (omega arith) (omega arith))
+                (runs_moved from size lo hi b (b - from) bs some rises.1 f g h inside upto next))
+            | inr beyond ↦
+                rw (and_right (ltb from b) (ltb b (from + size)) (le-ltb b (from + size) beyond), none_inner from (from + size) b bs rises.1 beyond)
+                (strip-cons from (filter (is_in lo hi) (range_with_len a (b - a))) (filter (is_in (lo - from) (hi - from)) (range_with_len p (size - p))) rest_runs []
+                (run_moved from lo hi a b p size f (omega arith) (omega arith) at (omega arith) (omega arith))
+                (strip-beyond lo hi b bs rises.1 (omega arith)))
+          ]
     ]
 
 -- joined, the lists that aren't empty are all that counts
@@ -156,22 +156,22 @@ flat_map-moved a b f g h each (xs ∷ xss) =
 
 -- the CTUs of runs that are others, moved
 scan-moved : (a b : ℕ) (XS YS US VS : List (List ℕ)) → strip XS ≡ map (map (λ x. x + a)) (strip US) → strip YS ≡ map (map (λ y. y + b)) (strip VS) →
-  flat_map (λ ys. flat_map (λ xs. raster xs ys) XS) YS ≡ map (moved a b) (flat_map (λ ys. flat_map (λ xs. raster xs ys) US) VS)
+    flat_map (λ ys. flat_map (λ xs. raster xs ys) XS) YS ≡ map (moved a b) (flat_map (λ ys. flat_map (λ xs. raster xs ys) US) VS)
 scan-moved a b XS YS US VS e f =
     let row : (ys : List ℕ) → flat_map (λ xs. raster xs (map (λ y. y + b) ys)) XS ≡ map (moved a b) (flat_map (λ xs. raster xs ys) US) = λ ys.
-      strip-flat_map (λ xs. raster xs (map (λ y. y + b) ys)) (raster-none (map (λ y. y + b) ys)) XS
-      ∙ (ap (λ t. flat_map (λ xs. raster xs (map (λ y. y + b) ys)) t) e
-        ∙ (flat_map-moved a b (λ xs. raster xs (map (λ y. y + b) ys)) (λ xs. raster xs ys) (map (λ x. x + a)) (λ xs. raster-moved a b xs ys) (strip US)
-          ∙ ap (λ t. map (moved a b) t) (sym (strip-flat_map (λ xs. raster xs ys) (raster-none ys) US))))
+    strip-flat_map (λ xs. raster xs (map (λ y. y + b) ys)) (raster-none (map (λ y. y + b) ys)) XS
+    ∙ (ap (λ t. flat_map (λ xs. raster xs (map (λ y. y + b) ys)) t) e
+    ∙ (flat_map-moved a b (λ xs. raster xs (map (λ y. y + b) ys)) (λ xs. raster xs ys) (map (λ x. x + a)) (λ xs. raster-moved a b xs ys) (strip US)
+    ∙ ap (λ t. map (moved a b) t) (sym (strip-flat_map (λ xs. raster xs ys) (raster-none ys) US))))
     in
     strip-flat_map (λ ys. flat_map (λ xs. raster xs ys) XS) (tiles-none XS) YS
     ∙ (ap (λ t. flat_map (λ ys. flat_map (λ xs. raster xs ys) XS) t) f
-      ∙ (flat_map-moved a b (λ ys. flat_map (λ xs. raster xs ys) XS) (λ ys. flat_map (λ xs. raster xs ys) US) (map (λ y. y + b)) row (strip VS)
-        ∙ ap (λ t. map (moved a b) t) (sym (strip-flat_map (λ ys. flat_map (λ xs. raster xs ys) US) (tiles-none US) VS))))
+    ∙ (flat_map-moved a b (λ ys. flat_map (λ xs. raster xs ys) XS) (λ ys. flat_map (λ xs. raster xs ys) US) (map (λ y. y + b)) row (strip VS)
+    ∙ ap (λ t. map (moved a b) t) (sym (strip-flat_map (λ ys. flat_map (λ xs. raster xs ys) US) (tiles-none US) VS))))
 
 -- the runs along one axis
 axis_moved : (bounds : List ℕ) (from size lo len : ℕ) → Rises bounds → 0 < size → from ≤ lo → lo + len ≤ from + size → from + size ≤ last bounds →
-  strip (map (filter (is_in lo (lo + len))) (runs bounds)) ≡ map (map (λ x. x + from)) (strip (map (filter (is_in (lo - from) (lo - from + len))) (runs (cut bounds from size))))
+    strip (map (filter (is_in lo (lo + len))) (runs bounds)) ≡ map (map (λ x. x + from)) (strip (map (filter (is_in (lo - from) (lo - from + len))) (runs (cut bounds from size))))
 axis_moved [] from size lo len rises some f h upto = absurd (omega arith)
 axis_moved (a ∷ bs) from size lo len rises some f h upto =
     let first : a ≡ 0 = rises.0 in
@@ -180,19 +180,19 @@ axis_moved (a ∷ bs) from size lo len rises some f h upto =
     let end : lo + len - from ≡ lo - from + len = omega arith in
     runs_moved from size lo (lo + len) a 0 bs some rises.1 f (omega arith) h (omega arith) upto start
     ∙ (ap (λ m. map (map (λ x. x + from)) (strip (map (filter (is_in (lo - from) m)) (runs_after 0 (map (λ b. b - from) (filter (is_inner from (from + size)) bs) ++ size ∷ []))))) end
-      ∙ ap (λ t. map (map (λ x. x + from)) (strip (map (filter (is_in (lo - from) (lo - from + len))) (runs_after 0 (map (λ b. b - from) t ++ size ∷ []))))) (sym (ap (λ t. cond t (a ∷ filter (is_inner from (from + size)) bs) (filter (is_inner from (from + size)) bs)) skip)))
+    ∙ ap (λ t. map (map (λ x. x + from)) (strip (map (filter (is_in (lo - from) (lo - from + len))) (runs_after 0 (map (λ b. b - from) t ++ size ∷ []))))) (sym (ap (λ t. cond t (a ∷ filter (is_inner from (from + size)) bs) (filter (is_inner from (from + size)) bs)) skip)))
 
 -- the CTUs of a slice in a subpicture s
 pub ctus-counted : (columns rows : List ℕ) (s r : Rect) → Rises columns → Rises rows → IsPart (last columns) (last rows) s → fits r s ≡ true →
-  ctus columns rows r ≡ map (moved s.x s.y) (ctus (cut columns s.x s.w) (cut rows s.y s.h) (counted_from s r))
+    ctus columns rows r ≡ map (moved s.x s.y) (ctus (cut columns s.x s.w) (cut rows s.y s.h) (counted_from s r))
 ctus-counted columns rows s r rises_c rises_r part f =
     elim (fits_tells r s f) [
       | inl empty ↦ ctus-none columns rows r empty ∙ ap (λ t. map (moved s.x s.y) t) (sym (ctus-none (cut columns s.x s.w) (cut rows s.y s.h) (counted_from s r) empty))
       | inr q ↦
-        ctus-runs columns rows r
-        ∙ (scan-moved s.x s.y (map (filter (is_in r.x (r.x + r.w))) (runs columns)) (map (filter (is_in r.y (r.y + r.h))) (runs rows))
-            (map (filter (is_in (r.x - s.x) (r.x - s.x + r.w))) (runs (cut columns s.x s.w))) (map (filter (is_in (r.y - s.y) (r.y - s.y + r.h))) (runs (cut rows s.y s.h)))
-            (axis_moved columns s.x s.w r.x r.w rises_c part.wide q.0 q.1 part.across) (axis_moved rows s.y s.h r.y r.h rises_r part.high q.2 q.3 part.down)
+          ctus-runs columns rows r
+          ∙ (scan-moved s.x s.y (map (filter (is_in r.x (r.x + r.w))) (runs columns)) (map (filter (is_in r.y (r.y + r.h))) (runs rows))
+          (map (filter (is_in (r.x - s.x) (r.x - s.x + r.w))) (runs (cut columns s.x s.w))) (map (filter (is_in (r.y - s.y) (r.y - s.y + r.h))) (runs (cut rows s.y s.h)))
+          (axis_moved columns s.x s.w r.x r.w rises_c part.wide q.0 q.1 part.across) (axis_moved rows s.y s.h r.y r.h rises_r part.high q.2 q.3 part.down)
           ∙ ap (λ t. map (moved s.x s.y) t) (sym (ctus-runs (cut columns s.x s.w) (cut rows s.y s.h) (counted_from s r))))
     ]
 
@@ -203,7 +203,7 @@ slice_at-region n k m low =
     ∙ get_or-map (counted_from (subpic_at n k)) (slices_in n k) m no_rect no_rect low
 
 pub ctus-region : (n : Numbers) (k m : ℕ) → IsSound n → k < length n.subpics → m < length (slices_in n k) →
-  ctus n.columns n.rows (slice_at n k m) ≡ map (moved (subpic_at n k).x (subpic_at n k).y) (ctus (region_of n k).columns (region_of n k).rows (slice_at (region_of n k) 0 m))
+    ctus n.columns n.rows (slice_at n k m) ≡ map (moved (subpic_at n k).x (subpic_at n k).y) (ctus (region_of n k).columns (region_of n k).rows (slice_at (region_of n k) 0 m))
 ctus-region n k m sound short low =
     ctus-counted n.columns n.rows (subpic_at n k) (slice_at n k m) sound.columns sound.rows (sound.layout.subpics.parts k no_rect short) (all_fit n k m no_rect low)
     ∙ ap (λ r. map (moved (subpic_at n k).x (subpic_at n k).y) (ctus (region_of n k).columns (region_of n k).rows r)) (sym (slice_at-region n k m low))

@@ -23,20 +23,20 @@ same_after x [] (b ∷ bs) r s f g = absurd (no_member b (g b (0, omega arith, r
 same_after x (a ∷ cs) [] r s f g = absurd (no_member a (f a (0, omega arith, refl)))
 same_after x (a ∷ cs) (b ∷ bs) r s f g =
     let up : b ≤ a =
-      elim (Contains-cases b bs a (f a (0, omega arith, refl))) [ inl e ↦ omega arith | inr later ↦ let above = Contains-above b bs a s.1 later in omega arith ]
+    elim (Contains-cases b bs a (f a (0, omega arith, refl))) [ inl e ↦ omega arith | inr later ↦ let above = Contains-above b bs a s.1 later in omega arith ]
     in
     let down : a ≤ b =
-      elim (Contains-cases a cs b (g b (0, omega arith, refl))) [ inl e ↦ omega arith | inr later ↦ let above = Contains-above a cs b r.1 later in omega arith ]
+    elim (Contains-cases a cs b (g b (0, omega arith, refl))) [ inl e ↦ omega arith | inr later ↦ let above = Contains-above a cs b r.1 later in omega arith ]
     in
     let same : a ≡ b = omega arith in
     let rest : cs ≡ bs =
-      same_after a cs bs r.1 (subst (λ n. RisesAbove n bs) (sym same) s.1)
-      (λ n inside.
-        let above = Contains-above a cs n r.1 inside in
-        elim (Contains-cases b bs n (f n (Contains-cons a cs n inside))) [ inl e ↦ absurd (omega arith) | inr later ↦ later ])
-      (λ n inside.
-        let above = Contains-above b bs n s.1 inside in
-        elim (Contains-cases a cs n (g n (Contains-cons b bs n inside))) [ inl e ↦ absurd (omega arith) | inr later ↦ later ])
+    same_after a cs bs r.1 (subst (λ n. RisesAbove n bs) (sym same) s.1)
+    (λ n inside.
+    let above = Contains-above a cs n r.1 inside in
+    elim (Contains-cases b bs n (f n (Contains-cons a cs n inside))) [ inl e ↦ absurd (omega arith) | inr later ↦ later ])
+    (λ n inside.
+    let above = Contains-above b bs n s.1 inside in
+    elim (Contains-cases a cs n (g n (Contains-cons b bs n inside))) [ inl e ↦ absurd (omega arith) | inr later ↦ later ])
     in
     ap (λ t. a ∷ t) rest ∙ ap (λ m. m ∷ bs) same
 
@@ -47,13 +47,13 @@ Rises-members (a ∷ cs) [] r s f = absurd (no_member a ((f a).0 (0, omega arith
 Rises-members (a ∷ cs) (b ∷ bs) r s f =
     let same : a ≡ b = omega (arith, r.0, s.0) in
     let rest : cs ≡ bs =
-      same_after a cs bs r.1 (subst (λ n. RisesAbove n bs) (sym same) s.1)
-      (λ n inside.
-        let above = Contains-above a cs n r.1 inside in
-        elim (Contains-cases b bs n ((f n).0 (Contains-cons a cs n inside))) [ inl e ↦ absurd (omega arith) | inr later ↦ later ])
-      (λ n inside.
-        let above = Contains-above b bs n s.1 inside in
-        elim (Contains-cases a cs n ((f n).1 (Contains-cons b bs n inside))) [ inl e ↦ absurd (omega arith) | inr later ↦ later ])
+    same_after a cs bs r.1 (subst (λ n. RisesAbove n bs) (sym same) s.1)
+    (λ n inside.
+    let above = Contains-above a cs n r.1 inside in
+    elim (Contains-cases b bs n ((f n).0 (Contains-cons a cs n inside))) [ inl e ↦ absurd (omega arith) | inr later ↦ later ])
+    (λ n inside.
+    let above = Contains-above b bs n s.1 inside in
+    elim (Contains-cases a cs n ((f n).1 (Contains-cons b bs n inside))) [ inl e ↦ absurd (omega arith) | inr later ↦ later ])
     in
     ap (λ t. a ∷ t) rest ∙ ap (λ m. m ∷ bs) same
 
@@ -65,15 +65,15 @@ LiesIn-fits r s inside =
     elim (cases_lt 0 r.w) [
       | inr flat ↦ let e : r.w ≡ 0 = omega arith in fits_empty r s (inl e)
       | inl wide ↦
-        elim (cases_lt 0 r.h) [
-          | inr flat ↦ let e : r.h ≡ 0 = omega arith in fits_empty r s (inr e)
-          | inl high ↦
-            let right : ℕ = r.x + r.w - 1 in
-            let low : ℕ = r.y + r.h - 1 in
-            let first = holds_tells s r.x r.y (inside r.x r.y (holds_from r r.x r.y (omega arith) (omega arith) (omega arith) (omega arith))) in
-            let final = holds_tells s right low (inside right low (holds_from r right low (omega arith) (omega arith) (omega arith) (omega arith))) in
-            fits_from r s (omega (arith, first)) (omega (arith, final)) (omega (arith, first)) (omega (arith, final))
-        ]
+          elim (cases_lt 0 r.h) [
+            | inr flat ↦ let e : r.h ≡ 0 = omega arith in fits_empty r s (inr e)
+            | inl high ↦
+                let right : ℕ = r.x + r.w - 1 in
+                let low : ℕ = r.y + r.h - 1 in
+                let first = holds_tells s r.x r.y (inside r.x r.y (holds_from r r.x r.y (omega arith) (omega arith) (omega arith) (omega arith))) in
+                let final = holds_tells s right low (inside right low (holds_from r right low (omega arith) (omega arith) (omega arith) (omega arith))) in
+                fits_from r s (omega (arith, first)) (omega (arith, final)) (omega (arith, first)) (omega (arith, final))
+          ]
     ]
 
 RisesAbove-sums : (a : ℕ) (sizes : List ℕ) → All (λ s. 1 ≤ s) sizes → RisesAbove a (sums_after a sizes)
@@ -92,12 +92,14 @@ repeated_are size left some =
     let same : All (λ s. 1 ≤ s) (replicate (left / size) size) = All-replicate (λ s. 1 ≤ s) (left / size) size some in
     elim (cases_Bool (eqb (left % size) 0)) [
       | inl none ↦
-        let e : left % size ≡ 0 = eqb-true _ _ none in
-        rw none (All-append (λ s. 1 ≤ s) (replicate (left / size) size) [] same (All-nil (λ s. 1 ≤ s)), sum_by-append (λ n. n) (replicate (left / size) size) [] ∙ (omega (arith, whole)))
+          let e : left % size ≡ 0 = eqb-true _ _ none in
+          rw none (All-append (λ s. 1 ≤ s) (replicate (left / size) size) [] same (All-nil (λ s. 1 ≤ s)), sum_by-append (λ n. n) (replicate (left / size) size) [] ∙ (omega (arith, whole)))
       | inr rest ↦
-        let ne : left % size ≡ 0 → ⊥ = eqb-false _ _ rest in
-        rw rest (All-append (λ s. 1 ≤ s) (replicate (left / size) size) (left % size ∷ []) same (All-cons (λ s. 1 ≤ s) (left % size) [] (omega arith) (All-nil (λ s. 1 ≤ s))),
-          sum_by-append (λ n. n) (replicate (left / size) size) (left % size ∷ []) ∙ (omega (arith, whole)))
+          let ne : left % size ≡ 0 → ⊥ = eqb-false _ _ rest in
+          rw rest (
+            All-append (λ s. 1 ≤ s) (replicate (left / size) size) (left % size ∷ []) same (All-cons (λ s. 1 ≤ s) (left % size) [] (omega arith) (All-nil (λ s. 1 ≤ s))),
+            sum_by-append (λ n. n) (replicate (left / size) size) (left % size ∷ []) ∙ (omega (arith, whole)),
+          )
     ]
 
 pub bounds_of-reach : (explicit : List ℕ) (total : ℕ) → 0 < length explicit → All (λ s. 1 ≤ s) explicit → 1 ≤ total → sum explicit ≤ total → Rises (bounds_of explicit total) × (last (bounds_of explicit total) ≡ total)

@@ -56,20 +56,20 @@ Contains-end (x ∷ xs) n =
 pub holds-counted : (s r : Rect) (x y : ℕ) → fits r s ≡ true → holds (counted_from s r) x y ≡ holds r (x + s.x) (y + s.y)
 holds-counted s r x y f =
     let there : holds (counted_from s r) x y ≡ true → holds r (x + s.x) (y + s.y) ≡ true = λ h.
-      let p = holds_tells (counted_from s r) x y h in
-      elim (fits_tells r s f) [
-        | inl (inl e) ↦ absurd (omega (arith, p))
-        | inl (inr e) ↦ absurd (omega (arith, p))
-        | inr q ↦ holds_from r (x + s.x) (y + s.y) (omega (arith, p, q)) (omega (arith, p, q)) (omega (arith, p, q)) (omega (arith, p, q))
-      ]
+    let p = holds_tells (counted_from s r) x y h in
+    elim (fits_tells r s f) [
+      | inl (inl e) ↦ absurd (omega (arith, p))
+      | inl (inr e) ↦ absurd (omega (arith, p))
+      | inr q ↦ holds_from r (x + s.x) (y + s.y) (omega (arith, p, q)) (omega (arith, p, q)) (omega (arith, p, q)) (omega (arith, p, q))
+    ]
     in
     let back : holds r (x + s.x) (y + s.y) ≡ true → holds (counted_from s r) x y ≡ true = λ h.
-      let p = holds_tells r (x + s.x) (y + s.y) h in
-      elim (fits_tells r s f) [
-        | inl (inl e) ↦ absurd (omega (arith, p))
-        | inl (inr e) ↦ absurd (omega (arith, p))
-        | inr q ↦ holds_from (counted_from s r) x y (omega (arith, p, q)) (omega (arith, p, q)) (omega (arith, p, q)) (omega (arith, p, q))
-      ]
+    let p = holds_tells r (x + s.x) (y + s.y) h in
+    elim (fits_tells r s f) [
+      | inl (inl e) ↦ absurd (omega (arith, p))
+      | inl (inr e) ↦ absurd (omega (arith, p))
+      | inr q ↦ holds_from (counted_from s r) x y (omega (arith, p, q)) (omega (arith, p, q)) (omega (arith, p, q)) (omega (arith, p, q))
+    ]
     in
     elim (cases_Bool (holds r (x + s.x) (y + s.y))) [
       | inl on ↦ back on ∙ sym on
@@ -102,9 +102,10 @@ Precedes-counted s r t f g order = λ x y on.
     let on_t : holds t (x + s.x) (y + s.y) ≡ true = sym (holds-counted s t x y g) ∙ on in
     let both = order (x + s.x) (y + s.y) on_t in
     let across : x + 1 + s.x ≡ x + s.x + 1 = omega arith in
-    let down : y + 1 + s.y ≡ y + s.y + 1 = omega arith in
-    (λ on_r. both.0 (subst (λ n. holds r n (y + s.y) ≡ true) across (sym (holds-counted s r (x + 1) y f) ∙ on_r)),
-    λ on_r. both.1 (subst (λ n. holds r (x + s.x) n ≡ true) down (sym (holds-counted s r x (y + 1) f) ∙ on_r)))
+    let down : y + 1 + s.y ≡ y + s.y + 1 = omega arith in (
+      λ on_r. both.0 (subst (λ n. holds r n (y + s.y) ≡ true) across (sym (holds-counted s r (x + 1) y f) ∙ on_r)),
+      λ on_r. both.1 (subst (λ n. holds r (x + s.x) n ≡ true) down (sym (holds-counted s r x (y + 1) f) ∙ on_r)),
+    )
 
 -- the slices of one subpicture stand together among the slices in order
 AllPairs-slices_in : (slices subpics : List Rect) (k : ℕ) (d : Rect) → k < length subpics → AllPairs Precedes (in_order slices subpics) → AllPairs Precedes (slices_of slices (get_or subpics k d))
@@ -129,30 +130,30 @@ IsLayout-region n k sound short =
     let slices_are : in_order (region_of n k).slices (region_of n k).subpics ≡ map (counted_from s) (slices_in n k) = append-nil _ ∙ filter_all s (slices_in n k) fit in
     record {
       subpics = record {
-        parts = All-cons (IsPart (width (region_of n k)) (height (region_of n k))) (whole s) [] (record { wide = part.wide; high = part.high; across = omega arith; down = omega arith; }) (All-nil (IsPart (width (region_of n k)) (height (region_of n k))));
+        parts = All-cons (IsPart (width (region_of n k)) (height (region_of n k))) (whole s) [] (record { wide = part.wide; high = part.high; across = omega arith; down = omega arith }) (All-nil (IsPart (width (region_of n k)) (height (region_of n k))));
         once = λ x y v u.
-          let here : holds (whole s) x y ≡ true = holds_from (whole s) x y (omega arith) (omega arith) (omega arith) (omega arith) in
-          count_by-cons (λ r. holds r x y) (whole s) [] ∙ ap (λ b. cond b 1 0 + 0) here;
+            let here : holds (whole s) x y ≡ true = holds_from (whole s) x y (omega arith) (omega arith) (omega arith) (omega arith) in
+            count_by-cons (λ r. holds r x y) (whole s) [] ∙ ap (λ b. cond b 1 0 + 0) here;
       };
       tiles = All-cons (SplitsWell (region_of n k).columns (region_of n k).rows) (whole s) []
-        (SplitsWell-from (region_of n k).columns (region_of n k).rows (whole s) (record {
-          left = (0, omega arith, refl);
-          right = subst (λ m. Contains (region_of n k).columns m) (sym (zero-add s.w)) (Contains-end (map (λ b. b - s.x) (inner n.columns s.x s.w)) s.w);
-          ends = inl ((0, omega arith, refl), subst (λ m. Contains (region_of n k).rows m) (sym (zero-add s.h)) (Contains-end (map (λ b. b - s.y) (inner n.rows s.y s.h)) s.h));
-        }))
-        (All-nil (SplitsWell (region_of n k).columns (region_of n k).rows));
+          (SplitsWell-from (region_of n k).columns (region_of n k).rows (whole s) (record {
+            left = (0, omega arith, refl);
+            right = subst (λ m. Contains (region_of n k).columns m) (sym (zero-add s.w)) (Contains-end (map (λ b. b - s.x) (inner n.columns s.x s.w)) s.w);
+            ends = inl ((0, omega arith, refl), subst (λ m. Contains (region_of n k).rows m) (sym (zero-add s.h)) (Contains-end (map (λ b. b - s.y) (inner n.rows s.y s.h)) s.h));
+          }))
+          (All-nil (SplitsWell (region_of n k).columns (region_of n k).rows));
       slices = λ x y v u.
-        let here : holds s (x + s.x) (y + s.y) ≡ true = holds_from s (x + s.x) (y + s.y) (omega arith) (omega arith) (omega arith) (omega arith) in
-        count-counted s (slices_in n k) x y fit
-        ∙ (slices_of-once n.slices n.subpics (width n) (height n) k no_rect (x + s.x) (y + s.y) sound.layout.split sound.layout.subpics.once sound.layout.slices short (omega (arith, part.across)) (omega (arith, part.down))
+          let here : holds s (x + s.x) (y + s.y) ≡ true = holds_from s (x + s.x) (y + s.y) (omega arith) (omega arith) (omega arith) (omega arith) in
+          count-counted s (slices_in n k) x y fit
+          ∙ (slices_of-once n.slices n.subpics (width n) (height n) k no_rect (x + s.x) (y + s.y) sound.layout.split sound.layout.subpics.once sound.layout.slices short (omega (arith, part.across)) (omega (arith, part.down))
           ∙ ap (λ b. cond b 1 0) here);
       split = λ i d low.
-        let r : Rect = get_or (slices_in n k) i d in
-        let low' : i < length (slices_in n k) = omega (arith, length-map (slices_in n k) (counted_from s)) in
-        let is : get_or (map (counted_from s) (slices_in n k)) i d ≡ counted_from s r = get_or-map (counted_from s) (slices_in n k) i d d low' in
-        (0, whole s, omega arith, refl, rw is (fits-counted s r (fit i d low')));
+          let r : Rect = get_or (slices_in n k) i d in
+          let low' : i < length (slices_in n k) = omega (arith, length-map (slices_in n k) (counted_from s)) in
+          let is : get_or (map (counted_from s) (slices_in n k)) i d ≡ counted_from s r = get_or-map (counted_from s) (slices_in n k) i d d low' in
+          (0, whole s, omega arith, refl, rw is (fits-counted s r (fit i d low')));
       order = subst (λ t. AllPairs Precedes t) (sym slices_are)
-        (λ i j d less low.
+          (λ i j d less low.
           let rs : List Rect = slices_in n k in
           let low_j : j < length rs = omega (arith, length-map rs (counted_from s)) in
           let low_i : i < length rs = omega arith in
@@ -167,7 +168,7 @@ IsSound-region n k sound short =
     let part : IsPart (width n) (height n) s = sound.layout.subpics.parts k no_rect short in
     let here : holds s s.x s.y ≡ true = holds_from s s.x s.y (omega arith) (omega (arith, part.wide)) (omega arith) (omega (arith, part.high)) in
     let one : count_by (λ r. holds r s.x s.y) (slices_in n k) ≡ 1 =
-      slices_of-once n.slices n.subpics (width n) (height n) k no_rect s.x s.y sound.layout.split sound.layout.subpics.once sound.layout.slices short (omega (arith, part.across, part.wide)) (omega (arith, part.down, part.high)) ∙ ap (λ b. cond b 1 0) here
+    slices_of-once n.slices n.subpics (width n) (height n) k no_rect s.x s.y sound.layout.split sound.layout.subpics.once sound.layout.slices short (omega (arith, part.across, part.wide)) (omega (arith, part.down, part.high)) ∙ ap (λ b. cond b 1 0) here
     in
     let some = count_by-le-length (λ r. holds r s.x s.y) (slices_in n k) in
     let few = length-slices_of-le n.slices s in

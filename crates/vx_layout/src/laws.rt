@@ -12,42 +12,35 @@ ghost use Rattle.vx_layout.specs.declared.rect.Rect.{Rect};
 /// The slices of a layout, by rising subpicture and then by their place in the slice list, cover the picture once.
 pub fn in_order_covers_once()
     ensures { (n : Numbers) → IsLayout n → CoversOnce (in_order n.slices n.subpics) (width n) (height n) }
-{
-}
+{}
 
 /// The slices of a subpicture cover it once, and nothing of the picture outside it.
 pub fn slices_cover_subpicture()
     ensures { (n : Numbers) (k x y : ℕ) → IsLayout n → k < length n.subpics → x < width n → y < height n → count_by (λ r. holds r x y) (slices_in n k) ≡ cond (holds (subpic_at n k) x y) 1 0 }
-{
-}
+{}
 
 /// The region of a layout's subpicture is a layout.
 pub fn region_is_layout()
     ensures { (n : Numbers) (k : ℕ) → IsSound n → k < length n.subpics → IsSound (region_of n k) }
-{
-}
+{}
 
 /// Bounds with the same members are the same bounds.
 pub fn bounds_by_members()
     ensures { (a b : List ℕ) → Rises a → Rises b → ((n : ℕ) → Contains a n ↔ Contains b n) → a ≡ b }
-{
-}
+{}
 
 /// A rectangle lies in another by its borders exactly where each of its CTUs does.
 pub fn fits_by_ctus()
     ensures { (r s : Rect) → (fits r s ≡ true) ↔ LiesIn r s }
-{
-}
+{}
 
 /// Tile bounds rise from 0 to the total.
 pub fn bounds_reach_total()
     ensures { (explicit : List ℕ) (total : ℕ) → 0 < length explicit → All (λ size. 1 ≤ size) explicit → 1 ≤ total → sum explicit ≤ total → Rises (bounds_of explicit total) × (last (bounds_of explicit total) ≡ total) }
-{
-}
+{}
 
 /// The CTUs of a region's slices, in their order, are those of the subpicture's slices, counted from its corner.
 pub fn region_has_same_ctus()
     ensures slices { (n : Numbers) (k m : ℕ) → m < length (slices_in n k) → slice_at (region_of n k) 0 m ≡ counted_from (subpic_at n k) (slice_at n k m) }
     ensures ctus { (n : Numbers) (k m : ℕ) → IsSound n → k < length n.subpics → m < length (slices_in n k) → ctus n.columns n.rows (slice_at n k m) ≡ map (moved (subpic_at n k).x (subpic_at n k).y) (ctus (region_of n k).columns (region_of n k).rows (slice_at (region_of n k) 0 m)) }
-{
-}
+{}

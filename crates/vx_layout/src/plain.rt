@@ -214,6 +214,9 @@ fn meet(from: u32, size: u32, other: u32, other_size: u32, step: u32) -> bool
     ensures { result ≡ meet from size other other_size step }
 {
     let (low, high) = (u64::from(from), u64::from(from) + u64::from(size));
-    let (other_low, other_high) = (u64::from(other) + u64::from(step), u64::from(other) + u64::from(other_size) + u64::from(step));
+    let (other_low, other_high) = (
+        u64::from(other) + u64::from(step),
+        u64::from(other) + u64::from(other_size) + u64::from(step),
+    );
     low.max(other_low) < high.min(other_high)
 }

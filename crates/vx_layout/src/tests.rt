@@ -3,7 +3,9 @@
 ghost use Rattle.std.specs.Prelude.{◌<◌};
 ghost use Rattle.vx_layout.specs.Faults.{IsInLimits};
 
-use crate::{Bounds, Layout, LayoutError, Numbers, Rect, RectList, TileError, first_fault, tile_bounds};
+use crate::{
+    Bounds, Layout, LayoutError, Numbers, Rect, RectList, TileError, first_fault, tile_bounds,
+};
 use std::alloc::{AllocError, Global};
 use std::process::Abort;
 use std::test::Fail;
@@ -32,7 +34,13 @@ fn rects(alloc: Global, rects: &[Rect]) -> Result<RectList, AllocError> {
 }
 
 /// Numbers of a picture.
-fn numbers(alloc: Global, columns: Bounds, rows: Bounds, slices: &[Rect], subpics: &[Rect]) -> Result<Numbers, AllocError> {
+fn numbers(
+    alloc: Global,
+    columns: Bounds,
+    rows: Bounds,
+    slices: &[Rect],
+    subpics: &[Rect],
+) -> Result<Numbers, AllocError> {
     Ok(Numbers {
         columns,
         rows,
@@ -57,14 +65,23 @@ fn assert_limits(rt: &impl Abort, n: &Numbers)
 
 /// A 4×4 picture of four tiles of 2×2, of these slices and subpictures.
 fn four_tiles(alloc: Global, slices: &[Rect], subpics: &[Rect]) -> Result<Numbers, Fail> {
-    Ok(numbers(alloc, tile_bounds(alloc, &[2], 4)?, tile_bounds(alloc, &[2], 4)?, slices, subpics)?)
+    Ok(numbers(
+        alloc,
+        tile_bounds(alloc, &[2], 4)?,
+        tile_bounds(alloc, &[2], 4)?,
+        slices,
+        subpics,
+    )?)
 }
 
 #[test]
 fn bounds_of_sizes(rt: HostRuntime) -> Result<(), Fail> {
     let alloc = rt.alloc();
     let uneven = tile_bounds(alloc, &[3], 10)?;
-    assert_eq!(rt; listed(alloc, &uneven)?.as_slice(), [0, 3, 6, 9, 10].as_slice());
+    assert_eq!(rt;
+        listed(alloc, &uneven)?.as_slice(),
+        [0, 3, 6, 9, 10].as_slice()
+    );
     let whole = tile_bounds(alloc, &[4, 3], 10)?;
     assert_eq!(rt; listed(alloc, &whole)?.as_slice(), [0, 4, 7, 10].as_slice());
     Ok(())
@@ -74,20 +91,39 @@ fn bounds_of_sizes(rt: HostRuntime) -> Result<(), Fail> {
 fn sizes_that_pass(rt: HostRuntime) {
     let alloc = rt.alloc();
     assert!(rt; matches!(tile_bounds(alloc, &[7, 4], 10), Err(TileError::Overflow(1))));
-    assert!(rt; matches!(tile_bounds(alloc, &[u32::MAX, u32::MAX], 10), Err(TileError::Overflow(0))));
-    assert!(rt; matches!(tile_bounds(alloc, &[4, u32::MAX], 10), Err(TileError::Overflow(1))));
+    assert!(rt;
+        matches!(
+            tile_bounds(alloc, &[u32::MAX, u32::MAX], 10),
+            Err(TileError::Overflow(0))
+        )
+    );
+    assert!(rt;
+        matches!(
+            tile_bounds(alloc, &[4, u32::MAX], 10),
+            Err(TileError::Overflow(1))
+        )
+    );
 }
 
 #[test]
 fn region_of_the_second_subpicture(rt: HostRuntime) -> Result<(), Fail> {
     let alloc = rt.alloc();
     let halves = [rect(0, 0, 4, 2), rect(0, 2, 4, 2)];
-    let n = numbers(alloc, tile_bounds(alloc, &[4], 4)?, tile_bounds(alloc, &[4], 4)?, &halves, &halves)?;
+    let n = numbers(
+        alloc,
+        tile_bounds(alloc, &[4], 4)?,
+        tile_bounds(alloc, &[4], 4)?,
+        &halves,
+        &halves,
+    )?;
     assert_limits(&rt, &n);
     assert!(rt; n.subpics.len() == 2);
     let layout = Layout::new(alloc, n)?;
     let region = layout.region(alloc, 1)?;
-    assert_eq!(rt; listed(alloc, &region.columns)?.as_slice(), [0, 4].as_slice());
+    assert_eq!(rt;
+        listed(alloc, &region.columns)?.as_slice(),
+        [0, 4].as_slice()
+    );
     assert_eq!(rt; listed(alloc, &region.rows)?.as_slice(), [0, 2].as_slice());
     assert_eq!(rt; region.slices.len(), 1);
     assert!(rt; region.slices.item(0) == rect(0, 0, 4, 2));
@@ -95,22 +131,43 @@ fn region_of_the_second_subpicture(rt: HostRuntime) -> Result<(), Fail> {
 }
 
 /// The entry points of the one slice of a picture, without sync and with it.
-fn entries_of_one(rt: &impl Abort, alloc: Global, columns: Bounds, rows: Bounds, slice: Rect) -> Result<(u32, u32), Fail> {
+fn entries_of_one(
+    rt: &impl Abort,
+    alloc: Global,
+    columns: Bounds,
+    rows: Bounds,
+    slice: Rect,
+) -> Result<(u32, u32), Fail> {
     let n = numbers(alloc, columns, rows, &[slice], &[slice])?;
     assert_limits(rt, &n);
     let layout = Layout::new(alloc, n)?;
     assert!(rt; layout.slice_count(0) == 1);
     assert!(rt; layout.slice_rect(0, 0) == slice);
-    Ok((layout.entry_points(0, 0, false), layout.entry_points(0, 0, true)))
+    Ok((
+        layout.entry_points(0, 0, false),
+        layout.entry_points(0, 0, true),
+    ))
 }
 
 #[test]
 fn entry_points_of_slices(rt: HostRuntime) -> Result<(), Fail> {
     let alloc = rt.alloc();
-    let one_tile = entries_of_one(&rt, alloc, tile_bounds(alloc, &[3], 3)?, tile_bounds(alloc, &[5], 5)?, rect(0, 0, 3, 5))?;
+    let one_tile = entries_of_one(
+        &rt,
+        alloc,
+        tile_bounds(alloc, &[3], 3)?,
+        tile_bounds(alloc, &[5], 5)?,
+        rect(0, 0, 3, 5),
+    )?;
     assert_eq!(rt; one_tile.0, 0);
     assert_eq!(rt; one_tile.1, 4);
-    let four = entries_of_one(&rt, alloc, tile_bounds(alloc, &[1, 3], 4)?, tile_bounds(alloc, &[2, 3], 5)?, rect(0, 0, 4, 5))?;
+    let four = entries_of_one(
+        &rt,
+        alloc,
+        tile_bounds(alloc, &[1, 3], 4)?,
+        tile_bounds(alloc, &[2, 3], 5)?,
+        rect(0, 0, 4, 5),
+    )?;
     assert_eq!(rt; four.0, 3);
     assert_eq!(rt; four.1, 9);
     Ok(())
@@ -137,22 +194,54 @@ fn fault_of(rt: &impl Abort, alloc: Global, n: Numbers) -> Result<u8, AllocError
 fn lowest_faults(rt: HostRuntime) -> Result<(), Fail> {
     let alloc = rt.alloc();
     let all = rect(0, 0, 4, 4);
-    let tiles = [rect(0, 0, 2, 2), rect(2, 0, 2, 2), rect(0, 2, 2, 2), rect(2, 2, 2, 2)];
+    let tiles = [
+        rect(0, 0, 2, 2),
+        rect(2, 0, 2, 2),
+        rect(0, 2, 2, 2),
+        rect(2, 2, 2, 2),
+    ];
     let rows = [rect(0, 0, 4, 2), rect(0, 2, 4, 2)];
     let turned = [rect(0, 2, 4, 2), rect(0, 0, 4, 2)];
     let sides = [rect(0, 0, 2, 4), rect(2, 0, 2, 4)];
     let off_lines = [rect(0, 0, 3, 4), rect(3, 0, 1, 4)];
     let short = [rect(0, 0, 4, 3)];
-    assert_eq!(rt; fault_of(&rt, alloc, four_tiles(alloc, &tiles, &[all])?)?, 0);
-    assert_eq!(rt; fault_of(&rt, alloc, four_tiles(alloc, &tiles, &short)?)?, 3);
-    assert_eq!(rt; fault_of(&rt, alloc, four_tiles(alloc, &tiles, &off_lines)?)?, 4);
-    assert_eq!(rt; fault_of(&rt, alloc, four_tiles(alloc, &sides[..1], &[all])?)?, 5);
+    assert_eq!(rt;
+        fault_of(&rt, alloc, four_tiles(alloc, &tiles, &[all])?)?,
+        0
+    );
+    assert_eq!(rt;
+        fault_of(&rt, alloc, four_tiles(alloc, &tiles, &short)?)?,
+        3
+    );
+    assert_eq!(rt;
+        fault_of(&rt, alloc, four_tiles(alloc, &tiles, &off_lines)?)?,
+        4
+    );
+    assert_eq!(rt;
+        fault_of(&rt, alloc, four_tiles(alloc, &sides[..1], &[all])?)?,
+        5
+    );
     assert_eq!(rt; fault_of(&rt, alloc, four_tiles(alloc, &rows, &sides)?)?, 6);
-    assert_eq!(rt; fault_of(&rt, alloc, four_tiles(alloc, &turned, &[all])?)?, 7);
-    assert_eq!(rt; fault_of(&rt, alloc, four_tiles(alloc, &rows[..1], &short)?)?, 3);
-    assert_eq!(rt; fault_of(&rt, alloc, four_tiles(alloc, &turned, &off_lines)?)?, 4);
-    assert_eq!(rt; fault_of(&rt, alloc, four_tiles(alloc, &rows[..1], &sides)?)?, 5);
-    assert_eq!(rt; fault_of(&rt, alloc, four_tiles(alloc, &turned, &sides)?)?, 6);
+    assert_eq!(rt;
+        fault_of(&rt, alloc, four_tiles(alloc, &turned, &[all])?)?,
+        7
+    );
+    assert_eq!(rt;
+        fault_of(&rt, alloc, four_tiles(alloc, &rows[..1], &short)?)?,
+        3
+    );
+    assert_eq!(rt;
+        fault_of(&rt, alloc, four_tiles(alloc, &turned, &off_lines)?)?,
+        4
+    );
+    assert_eq!(rt;
+        fault_of(&rt, alloc, four_tiles(alloc, &rows[..1], &sides)?)?,
+        5
+    );
+    assert_eq!(rt;
+        fault_of(&rt, alloc, four_tiles(alloc, &turned, &sides)?)?,
+        6
+    );
     Ok(())
 }
 
@@ -167,7 +256,12 @@ fn draw(seed: &mut u32, below: u32) -> u32
 
 /// A rectangle near a 4×4 picture.
 fn drawn(seed: &mut u32) -> Rect {
-    rect(draw(seed, 3) * 2, draw(seed, 3), draw(seed, 3) * 2, draw(seed, 5))
+    rect(
+        draw(seed, 3) * 2,
+        draw(seed, 3),
+        draw(seed, 3) * 2,
+        draw(seed, 5),
+    )
 }
 
 #[test]
@@ -178,7 +272,11 @@ fn random_layouts(rt: HostRuntime) -> Result<(), Fail> {
         let left = draw(&mut seed, 3) * 2;
         let top = draw(&mut seed, 5);
         let subpics = [rect(0, 0, left, 4), rect(left, 0, 4 - left, 4)];
-        let slices = [rect(0, 0, 4, top), drawn(&mut seed), rect(0, top, 4, 4 - top)];
+        let slices = [
+            rect(0, 0, 4, top),
+            drawn(&mut seed),
+            rect(0, top, 4, 4 - top),
+        ];
         let n = match draw(&mut seed, 3) {
             0 => four_tiles(alloc, &slices, &subpics[1..])?,
             1 => four_tiles(alloc, &slices[..2], &subpics)?,

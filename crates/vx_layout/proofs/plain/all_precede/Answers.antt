@@ -19,8 +19,8 @@ loop-i-preserved c = λ i d h.
     elim (cases_lt i c.loop-i.i) [
       | inl before ↦ c.loop-i.invariant i d before
       | inr here ↦
-        let e : c.loop-i.i ≡ i = omega arith in
-        let short = c.requires in
-        subst (λ n. Precedes (get_or c.args.rects.now n d) (get_or c.args.rects.now c.args.j d)) e
-        (Precedes-at c.args.rects.now c.loop-i.i c.args.j d r s (omega arith) c.requires c.item.ensures.index c.item-later.ensures.index (Precedes-from r s (sym c.if-not-precedes.ensures)))
+          let e : c.loop-i.i ≡ i = omega arith in
+          let short = c.requires in
+          subst (λ n. Precedes (get_or c.args.rects.now n d) (get_or c.args.rects.now c.args.j d)) e
+          (Precedes-at c.args.rects.now c.loop-i.i c.args.j d r s (omega arith) c.requires c.item.ensures.index c.item-later.ensures.index (Precedes-from r s (sym c.if-not-precedes.ensures)))
     ]

@@ -12,8 +12,8 @@ loop-j-preserved c = λ i j d less h.
     elim (cases_lt j c.loop-j.j) [
       | inl before ↦ c.loop-j.invariant i j d less before
       | inr here ↦
-        let e : c.loop-j.j ≡ j = omega arith in
-        subst (λ n. Precedes (get_or c.args.rects.now i d) (get_or c.args.rects.now n d)) e (c.if-not-all_precede.ensures.all i d (omega arith))
+          let e : c.loop-j.j ≡ j = omega arith in
+          subst (λ n. Precedes (get_or c.args.rects.now i d) (get_or c.args.rects.now n d)) e (c.if-not-all_precede.ensures.all i d (omega arith))
     ]
 
 pub returns-clause-order : goal.returns-clause-order

@@ -12,8 +12,8 @@ loop-y-preserved c = λ x y v u.
     elim (cases_lt y c.loop-y.y) [
       | inl before ↦ c.loop-y.invariant x y v before
       | inr here ↦
-        let e : c.loop-y.y ≡ y = omega arith in
-        subst (λ n. count_by (λ r. holds r x n) c.args.rects.now ≡ 1) e (c.if-not-row_once.ensures.once x v)
+          let e : c.loop-y.y ≡ y = omega arith in
+          subst (λ n. count_by (λ r. holds r x n) c.args.rects.now ≡ 1) e (c.if-not-row_once.ensures.once x v)
     ]
 
 pub returns-clause-once : goal.returns-clause-once

@@ -12,8 +12,8 @@ loop-x-preserved c = λ x h.
     elim (cases_lt x c.loop-x.x) [
       | inl before ↦ c.loop-x.invariant x before
       | inr here ↦
-        let e : c.loop-x.x ≡ x = omega arith in
-        subst (λ n. count_by (λ r. holds r n c.args.y) c.args.rects.now ≡ 1) e (sym c.holders.ensures ∙ c.if-holders-ne1.false)
+          let e : c.loop-x.x ≡ x = omega arith in
+          subst (λ n. count_by (λ r. holds r n c.args.y) c.args.rects.now ≡ 1) e (sym c.holders.ensures ∙ c.if-holders-ne1.false)
     ]
 
 pub returns-clause-once : goal.returns-clause-once
