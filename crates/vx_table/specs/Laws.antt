@@ -10,7 +10,7 @@ abbrev pub ReadsOneWay : Type 0
 ReadsOneWay = (form : Form (List ℕ)) (total : ℕ) (v w : List ℤ) (left r s : List Bool)
     → Spells total form v left r → Spells total form w left s → (v ≡ w) × (r ≡ s)
 
--- bits are spelled or refused, and refused in one way
+-- bits that are refused aren't spelled, and are refused in one way
 abbrev pub AnswersOneWay : Type 0
 AnswersOneWay = (form : Form (List ℕ)) (total : ℕ) (v w : List ℤ) (left r s : List Bool) (cell : Cell ℕ) (refusal : Refusal)
     → Reaches total form v left cell r → IsRefused cell total r refusal

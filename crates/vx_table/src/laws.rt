@@ -1,8 +1,7 @@
 //! Laws of all tables: functions that do nothing, each with a law as its contract.
 ghost use Rattle.vx_table.specs.Laws.{ReadsOneWay, AnswersOneWay};
 
-/// Bits that begin with a spelling tell the values and what follows: what is written is read back, whatever follows
-/// it, and no spelling of a value is a proper prefix of another's.
+/// Bits that begin with a spelling tell the values and what follows.
 pub fn one_reading()
     ensures { ReadsOneWay }
 {}
