@@ -20,7 +20,7 @@ for place in range(2, size):
 kinds = {
     "ordinary": bytes(ordinary),
     "pairs": b"\x00\x00\x05" * (size // 3) + b"\x80",
-    "words": b"\x00\x00\x03" * (size // 3) + b"\x80",
+    "words": b"\x80" + b"\x00\x00\x03" * (size // 3),
 }
 for name, payload in kinds.items():
     with open(f"{work}/{name}.266", "wb") as file:
