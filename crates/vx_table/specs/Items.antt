@@ -1,5 +1,5 @@
 -- What the items that are given tell of the next field.
-use Rattle.std.specs.Prelude.{◌≡◌, ℕ, ℤ, cond, List, [], ◌∷◌, ◌++◌, Option, Some, None}
+use Rattle.std.specs.Prelude.{◌≡◌, ℕ, ℤ, List, ◌++◌, Option, Some, None}
 use Rattle.vx_bits.specs.declared.list.Item.{Item}
 use Rattle.vx_table.specs.declared.rows.Coding.{Coding}
 use Rattle.vx_table.specs.Spelling.{HasCode, one_item}

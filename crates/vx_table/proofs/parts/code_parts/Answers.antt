@@ -1,4 +1,3 @@
-use Rattle.std.proofs.Common.{rules, arith, ◌≡◌, length}
 use Rattle.std.proofs.lemmas.Result.{err_from_is_err_and}
 use Rattle.vx_table.proofs.Steps.{leads-part, stop-part, leads-no_part}
 use Rattle.vx_table.proofs.parts.code_parts.Goals as goal
