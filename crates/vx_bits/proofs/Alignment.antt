@@ -1,7 +1,7 @@
 -- Lemmas on alignment: zeros, or a one and zeros, up to the byte boundary.
 use Rattle.std.proofs.Common.{◌≡◌, ◌≢◌, ℕ, ◌+◌, ◌-◌, ◌%◌, ◌^◌, ◌≤◌, zero, suc, Bool, true, false, List, [], ◌∷◌, ◌++◌, length, take, drop, refl, sym, ◌∙◌, ap, arith}
 use Rattle.std.specs.Prelude.{replicate, Contains}
-use Rattle.std.proofs.lemmas.List.{append-nil, length-append, length-take-le, length-replicate, take-append-drop, take_at, nil_from_length}
+use Rattle.std.proofs.lemmas.List.{length-take-le, length-replicate, take-append-drop, take_at}
 use Rattle.vx_bits.specs.Codes.{number, to_boundary, zeros_from, one_from, BeginsWith}
 use Rattle.vx_bits.specs.Place.{Place, Takes, taken}
 use Rattle.vx_bits.proofs.Bits.{fixed_of}
@@ -78,9 +78,3 @@ stop_others count old is word (rest, e) =
     let less : count - 1 ≡ k = omega arith in
     let front : take count old.left ≡ one_from (taken old) = ap (take count) e ∙ take_at (one_from (taken old)) rest count (sym is) in
     word (rw (front, less) (number-stop k))
-
--- bits as long as the code with which they begin are that code
-pub whole_code : (code bits : List Bool) → BeginsWith bits code → length bits ≡ length code → bits ≡ code
-whole_code code bits (rest, e) size =
-    let none : rest ≡ [] = nil_from_length rest (omega (arith, ap length e, length-append code rest)) in
-    e ∙ rw none (append-nil code)

@@ -9,22 +9,22 @@ use Rattle.vx_bits.proofs.Bits.{two_pow, pow_le, number-below, number-append, le
 use Rattle.vx_bits.proofs.Alignment.{number-zeros, number-stop}
 use Rattle.vx_bits.proofs.Golomb.{exp_golomb_is}
 
--- a number behind another
+-- the bits of two numbers, one behind the other
+pub joined : (n m v w : ℕ) → v < 2 ^ n → w < 2 ^ m → (length (fixed n v ++ fixed m w) ≡ n + m) × (number (fixed n v ++ fixed m w) ≡ v * 2 ^ m + w)
+joined n m v w high low = (
+  rw (length-append (fixed n v) (fixed m w), length-fixed n v, length-fixed m w) refl,
+  rw (number-append (fixed n v) (fixed m w), length-fixed m w, number-fixed n v high, number-fixed m w low) refl,
+)
+
 pub fixed_join : (n m v w : ℕ) → v < 2 ^ n → w < 2 ^ m → fixed n v ++ fixed m w ≡ fixed (n + m) (v * 2 ^ m + w)
 fixed_join n m v w high low =
-    let whole : number (fixed n v ++ fixed m w) ≡ v * 2 ^ m + w
-    = rw (number-append (fixed n v) (fixed m w), length-fixed m w, number-fixed n v high, number-fixed m w low) refl in
-    let size : length (fixed n v ++ fixed m w) ≡ n + m
-    = rw (length-append (fixed n v) (fixed m w), length-fixed n v, length-fixed m w) refl in
-    sym (fixed_of (n + m) (fixed n v ++ fixed m w) size) ∙ ap (fixed (n + m)) whole
+    let both = joined n m v w high low in
+    sym (fixed_of (n + m) (fixed n v ++ fixed m w) both.0) ∙ ap (fixed (n + m)) both.1
 
 pub join_below : (n m v w : ℕ) → v < 2 ^ n → w < 2 ^ m → v * 2 ^ m + w < 2 ^ (n + m)
 join_below n m v w high low =
-    let whole : number (fixed n v ++ fixed m w) ≡ v * 2 ^ m + w
-    = rw (number-append (fixed n v) (fixed m w), length-fixed m w, number-fixed n v high, number-fixed m w low) refl in
-    let size : length (fixed n v ++ fixed m w) ≡ n + m
-    = rw (length-append (fixed n v) (fixed m w), length-fixed n v, length-fixed m w) refl in
-    rw (← whole, ← size) (number-below (fixed n v ++ fixed m w))
+    let both = joined n m v w high low in
+    rw (← both.1, ← both.0) (number-below (fixed n v ++ fixed m w))
 
 -- the bits of a number in two parts
 pub fixed_split : (n m v : ℕ) → v < 2 ^ (n + m) → fixed (n + m) v ≡ fixed n (v / 2 ^ m) ++ fixed m (v % 2 ^ m)
@@ -105,17 +105,14 @@ code_is zeros v few low high =
 
 -- ---- the end
 
+pub length_begun : (bytes : List ℕ) (used begun : ℕ) → length (bits_of bytes ++ fixed used begun) ≡ 8 * length bytes + used
+length_begun bytes used begun = rw (length-append (bits_of bytes) (fixed used begun), length-bits_of bytes, length-fixed used begun) refl
+
 pub boundary_of : (bytes : List ℕ) (used begun : ℕ) → used < 8 → (8 - used) % 8 ≡ to_boundary (length (bits_of bytes ++ fixed used begun))
-boundary_of bytes used begun few =
-    let size : length (bits_of bytes ++ fixed used begun) ≡ 8 * length bytes + used
-    = rw (length-append (bits_of bytes) (fixed used begun), length-bits_of bytes, length-fixed used begun) refl in
-    rw size (omega arith)
+boundary_of bytes used begun few = rw (length_begun bytes used begun) (omega arith)
 
 pub stop_of : (bytes : List ℕ) (used begun : ℕ) → used < 8 → 7 - used ≡ to_boundary (length (bits_of bytes ++ fixed used begun) + 1)
-stop_of bytes used begun few =
-    let size : length (bits_of bytes ++ fixed used begun) ≡ 8 * length bytes + used
-    = rw (length-append (bits_of bytes) (fixed used begun), length-bits_of bytes, length-fixed used begun) refl in
-    rw size (omega arith)
+stop_of bytes used begun few = rw (length_begun bytes used begun) (omega arith)
 
 -- the last byte
 pub last_byte : (used begun : ℕ) → used < 8 → begun < 2 ^ used → fixed 8 ((begun * 2 + 1) * 2 ^ (7 - used)) ≡ fixed used begun ++ true ∷ replicate (7 - used) false

@@ -88,21 +88,21 @@ same_fronts xs ys rs ss e h =
     let back : rs ≡ ss = sym (drop_at xs rs (length xs) refl) ∙ ap (drop (length xs)) h ∙ drop_at ys ss (length xs) (sym e) in
     (front, back)
 
+-- a number in two parts
+pub number-split : (n m : ℕ) (xs : List Bool) → length xs ≡ n + m → (number xs ≡ number (take n xs) * 2 ^ m + number (drop n xs)) × (number (drop n xs) < 2 ^ m)
+number-split n m xs e =
+    let back : length (drop n xs) ≡ m = omega (arith, length-drop n xs) in
+    rw (← back) (ap number (sym (take-append-drop n xs)) ∙ number-append (take n xs) (drop n xs), number-below (drop n xs))
+
 pub number-take : (n m : ℕ) (xs : List Bool) → length xs ≡ n + m → number (take n xs) ≡ number xs / 2 ^ m
 number-take n m xs e =
-    let back : length (drop n xs) ≡ m = omega (arith, length-drop n xs) in
-    let split : number xs ≡ number (take n xs) * 2 ^ m + number (drop n xs)
-    = rw (← back) (ap number (sym (take-append-drop n xs)) ∙ number-append (take n xs) (drop n xs)) in
-    let low : number (drop n xs) < 2 ^ m = rw (← back) (number-below (drop n xs)) in
-    rw split (sym (div-mul-add (number (take n xs)) (2 ^ m) (number (drop n xs)) low))
+    let split = number-split n m xs e in
+    rw split.0 (sym (div-mul-add (number (take n xs)) (2 ^ m) (number (drop n xs)) split.1))
 
 pub number-drop : (n m : ℕ) (xs : List Bool) → length xs ≡ n + m → number (drop n xs) ≡ number xs % 2 ^ m
 number-drop n m xs e =
-    let back : length (drop n xs) ≡ m = omega (arith, length-drop n xs) in
-    let split : number xs ≡ number (take n xs) * 2 ^ m + number (drop n xs)
-    = rw (← back) (ap number (sym (take-append-drop n xs)) ∙ number-append (take n xs) (drop n xs)) in
-    let low : number (drop n xs) < 2 ^ m = rw (← back) (number-below (drop n xs)) in
-    rw split (sym (mod-mul-add (number (take n xs)) (2 ^ m) (number (drop n xs)) low))
+    let split = number-split n m xs e in
+    rw split.0 (sym (mod-mul-add (number (take n xs)) (2 ^ m) (number (drop n xs)) split.1))
 
 -- ---- the bits of bytes
 

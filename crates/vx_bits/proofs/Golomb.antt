@@ -68,6 +68,13 @@ exp_golomb_from k xs w e =
     rw (low, fixed_of k xs e) refl) in
     (v, valid, rw e is, code)
 
+-- as clause 9.2 reads them
+pub exp_golomb_parsed : (xs : List Bool) → length xs < 32 → IsCodeNumber (2 ^ length xs - 1 + number xs) × (exp_golomb (2 ^ length xs - 1 + number xs) ≡ replicate (length xs) false ++ true ∷ xs)
+exp_golomb_parsed xs few =
+    let code = exp_golomb_from (length xs) xs few refl in
+    let same : code.0 ≡ 2 ^ length xs - 1 + number xs = omega (arith, code.2, pow_pos (length xs)) in
+    rw (← same) (code.1, code.3)
+
 -- ---- what some bits begin with
 
 -- the zeros before the first one tell how many there are

@@ -1,6 +1,6 @@
 -- What the codes promise: a code is read back as its number, whatever follows it.
-use Rattle.std.specs.Prelude.{◌≡◌, ℕ, ◌^◌, ◌<◌, Bool, List, ◌++◌, ◌⊎◌, length}
-use Rattle.vx_bits.specs.Codes.{number, fixed, BeginsWithCode, EndsWithinCode, BeginsTooLong}
+use Rattle.std.specs.Prelude.{◌≡◌, ℕ, ◌+◌, ◌-◌, ◌^◌, ◌<◌, Bool, true, false, List, ◌∷◌, ◌++◌, ◌⊎◌, length, replicate}
+use Rattle.vx_bits.specs.Codes.{number, fixed, exp_golomb, IsCodeNumber, BeginsWithCode, EndsWithinCode, BeginsTooLong}
 
 -- bits that begin with a code tell its number and what follows it; so no code is a proper prefix of another
 abbrev pub TellsApart : {A : Type 0} → (A → Type 0) → (A → List Bool) → Type 0
@@ -12,6 +12,14 @@ abbrev pub IsBinary : Type 0
 IsBinary =
     ((n v : ℕ) → v < 2 ^ n → (length (fixed n v) ≡ n) × (number (fixed n v) ≡ v))
     × ((bits : List Bool) → (number bits < 2 ^ length bits) × (fixed (length bits) (number bits) ≡ bits))
+
+-- of n zeros, a one and n bits behind it, codeNum = 2^n - 1 + the number of the n bits (clause 9.2), for each n below 32
+abbrev pub IsParsed : Type 0
+IsParsed =
+    (bits : List Bool)
+    → length bits < 32
+    → IsCodeNumber (2 ^ length bits - 1 + number bits)
+    × (exp_golomb (2 ^ length bits - 1 + number bits) ≡ replicate (length bits) false ++ true ∷ bits)
 
 -- bits begin with a code, end within one, or begin with 32 zeros
 abbrev pub BeginsInThreeWays : Type 0

@@ -21,6 +21,8 @@ pub enum BitCause {
 }
 
 /// The rule that a stream, or what is asked of it, breaks.
+///
+/// `code` numbers the rules of a kind; the crate that tests a rule has a constant for its code.
 #[derive(Clone, Copy, Debug, PartialEq, Eq)]
 pub enum Refusal {
     /// The bytes aren't framed as H.266 Annex B and 7.3.1 say; `byte` is the place in the source.
@@ -52,7 +54,7 @@ pub enum Refusal {
     Extract {
         code: u8,
     },
-    /// Pictures can't be merged; `source` is the source that breaks the rule.
+    /// Pictures can't be merged; `source` is the source that breaks the rule, and `field` the one that differs, for a rule on fields.
     Merge {
         code: u8,
         source: u16,
