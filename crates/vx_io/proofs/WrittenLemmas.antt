@@ -1,10 +1,10 @@
 -- Lemmas on what a sink gained of a piece.
-use Rattle.std.proofs.Common.{◌≡◌, ℕ, ◌-◌, List, [], ◌++◌, Option, refl, sym, ap, ◌∙◌, length, take, drop, append_assoc, take-append-drop}
+use Rattle.std.proofs.Common.{◌≡◌, ℕ, ◌-◌, List, ◌++◌, Option, sym, ap, ◌∙◌, length, take, drop, append_assoc, take-append-drop}
 use Rattle.std.proofs.lemmas.List.{take_rest}
 use Rattle.std.proofs.Math.Seq.{take-append_seam}
 use Rattle.std.specs.Io.{StartsWith}
-use Rattle.std.specs.Io.KnownBytes.{Appends, Keeps}
-use Rattle.std.proofs.KnownBytes.{Appends-nil, Appends-trans, Appends-kept, starts_with_rest}
+use Rattle.std.specs.Io.KnownBytes.{Appends}
+use Rattle.std.proofs.KnownBytes.{Appends-trans, starts_with_rest}
 use Rattle.vx_io.specs.Written.{AppendsFront}
 
 -- a piece starts with each front of it
@@ -25,14 +25,6 @@ AppendsFront-after a b c xs ys p q = record {
   front = xs ++ q.front;
   of_piece = StartsWith-of_split (xs ++ ys) (xs ++ q.front) (drop (length q.front) ys) (ap (λ l. xs ++ l) (starts_with_rest ys q.front q.of_piece) ∙ sym (append_assoc xs q.front (drop (length q.front) ys)));
   gained = Appends-trans a b c xs q.front p q.gained;
-}
-
--- nothing of a piece
-pub AppendsFront-none : (a b : Option (List ℕ)) (xs : List ℕ) → Keeps a b → AppendsFront a b xs
-AppendsFront-none a b xs p = record {
-  front = [];
-  of_piece = refl;
-  gained = Appends-kept a a b [] (Appends-nil a) p;
 }
 
 -- a write under way: what the sink gained of the piece, and what is left to write

@@ -2,5 +2,5 @@
 pub mod Faults
 pub mod Listed
 pub mod Memory
-pub mod Writer
+pub mod Outside
 pub mod Written

@@ -9,7 +9,7 @@ mod write;
 
 pub use list::{read_at, read_box};
 pub use memory::{MemorySink, MemorySource};
-pub use outside::{ClosedSource, FileSource, WriterSink};
+pub use outside::{ClosedSource, FileSource, ReaderSource, WriterSink};
 pub use read::{Source, SourceFailed};
 pub use write::{Sink, SinkFailed, write_all};
 

@@ -7,6 +7,7 @@ ghost use Rattle.vx_io.specs.Listed.{bytes_at, faults_at};
 
 use crate::read::{Source, SourceFailed};
 
+/// Reads from a source behind its vtable, as [`Source::read`] does.
 fn read_from(source: &mut dyn Source, into: &mut [u8]) -> Result<usize, SourceFailed>
     ensures bound { ReadsAtMost result into.new }
     ensures bytes { ReadConsumes (bytes_left source.old) (bytes_left source.new) result into.new }

@@ -1,9 +1,9 @@
-//! The trusted edge: files and writers of the system. No contract knows a file's bytes.
+//! The trusted edge: readers and writers of the system. No contract knows a file's bytes.
 
 mod closed;
-mod file;
+mod reader;
 mod writer;
 
 pub use closed::ClosedSource;
-pub use file::FileSource;
+pub use reader::{FileSource, ReaderSource};
 pub use writer::WriterSink;

@@ -1,5 +1,5 @@
 //! What a sink is, and how a whole piece is written to one.
-ghost use Rattle.std.specs.Prelude.{◌<◌, ℕ, List, Option, Some, codes, length, IfOk, OnOk, OnErr};
+ghost use Rattle.std.specs.Prelude.{◌≡◌, ◌<◌, ℕ, List, Option, Some, codes, length, IfOk, IsOk, OnOk, OnErr};
 ghost use Rattle.std.specs.Io.{WritesAtMost};
 ghost use Rattle.std.specs.Io.KnownBytes.{Appends, WriteAppends};
 ghost use Rattle.vx_io.specs.Faults.{CountsFault};
@@ -45,6 +45,8 @@ pub fn write_all<K: Sink>(out: &mut K, piece: &[u8]) -> Result<(), SinkFailed>
     // A failed write leaves the front of the piece written.
     ensures err { OnErr result (AppendsFront (K.bytes_taken out.old) (K.bytes_taken out.new) piece.now) }
     ensures faults { CountsFault (K.write_faults out.old) (K.write_faults out.new) result }
+    // Of nothing, nothing is asked of the sink.
+    ensures none { length piece.now ≡ 0 → (out.new ≡ out.old) × IsOk result }
 {
     let mut rest = piece;
     while !rest.is_empty() {

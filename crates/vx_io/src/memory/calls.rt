@@ -6,6 +6,7 @@ ghost use Rattle.vx_io.specs.Memory.{fresh_plan, after_call, after_fault, moved_
 
 use std::marker::Model;
 
+/// The calls that were made, and how each goes. In contracts it is a `Plan`.
 #[derive(Drop)]
 pub(crate) struct Calls {
     pieces: Vec<u32>,
@@ -28,6 +29,7 @@ impl Model for Calls {
 }
 
 impl Calls {
+    /// No call yet.
     pub(crate) fn new(pieces: Vec<u32>, failing: Vec<u64>) -> Calls
         ensures { result ≡ fresh_plan pieces.items failing.items }
     {
@@ -39,7 +41,7 @@ impl Calls {
         }
     }
 
-    // The next call, for `len` bytes: how many of them it moves, or `None` where it fails.
+    /// The next call, for `len` bytes: how many of them it moves, or `None` where it fails.
     pub(crate) fn next(&mut self, len: usize) -> Option<usize>
         ensures fails { IsNone result ↔ Contains self.old.failing self.old.calls }
         ensures moved { IfSome result (λ n. n ≡ moved_len self.old.pieces self.old.calls len) }
@@ -56,7 +58,7 @@ impl Calls {
         Some(moved)
     }
 
-    // The next call fails.
+    /// The next call fails.
     pub(crate) fn fail(&mut self)
         ensures fault { self.new ≡ after_fault self.old }
         ensures rose { Rose self.old.faults self.new.faults }
@@ -66,6 +68,7 @@ impl Calls {
     }
 }
 
+/// How many of `len` bytes a call moves.
 fn piece_len(pieces: &[u32], call: u64, len: usize) -> usize
     ensures { result ≡ moved_len pieces.now call len }
 {

@@ -34,7 +34,11 @@ impl Model for MemorySink {
 }
 
 impl MemorySink {
-    /// Takes all of the room at once.
+    /// A sink with this room, all of which it takes at once.
+    ///
+    /// # Errors
+    ///
+    /// Where memory runs out.
     pub fn new(
         alloc: Global,
         room: usize,

@@ -34,6 +34,7 @@ impl Model for MemorySource {
 }
 
 impl MemorySource {
+    /// A source of these bytes that wasn't read yet.
     pub fn new(bytes: Vec<u8>, pieces: Vec<u32>, failing: Vec<u64>) -> MemorySource
         ensures { result ≡ record {
           left = bytes.items;

@@ -23,6 +23,7 @@ impl Model for ClosedSource {
 }
 
 impl ClosedSource {
+    /// A closed source that wasn't read yet.
     pub fn new() -> ClosedSource
         ensures { result ≡ 0 }
     {

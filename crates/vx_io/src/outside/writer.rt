@@ -15,18 +15,19 @@ pub struct WriterSink<W: Write + Drop> {
 }
 
 impl<W: Write + Drop> WriterSink<W> {
-    ghost use Rattle.vx_io.specs.Writer.{writer_of, fault_count_of};
+    ghost use Rattle.vx_io.specs.Outside.{writer_of, write_fault_count};
 
+    /// A sink over this writer, of which no write has failed.
     pub fn new(to: W) -> WriterSink<W>
         ensures writer { writer_of result ≡ to }
-        ensures faults { fault_count_of result ≡ 0 }
+        ensures faults { write_fault_count result ≡ 0 }
     {
         WriterSink { to, faults: 0 }
     }
 }
 
 impl<W: Write + Drop> Sink for WriterSink<W> {
-    ghost use Rattle.vx_io.specs.Writer.{writer_of, fault_count_of};
+    ghost use Rattle.vx_io.specs.Outside.{writer_of, write_fault_count};
 
     ghost bytes_taken = { λ _. None };
 
@@ -38,8 +39,8 @@ impl<W: Write + Drop> Sink for WriterSink<W> {
         ensures bound { WritesAtMost result piece.now }
         ensures bytes { WriteAppends None None result piece.now }
         ensures some { IfOk result (λ n. 0 < length piece.now → 0 < n) }
-        ensures faults { CountsFault (fault_count_of self.old) (fault_count_of self.new) result }
-        ensures one { CountsOne (fault_count_of self.old) (fault_count_of self.new) result }
+        ensures faults { CountsFault (write_fault_count self.old) (write_fault_count self.new) result }
+        ensures one { CountsOne (write_fault_count self.old) (write_fault_count self.new) result }
 
         // The writer behind it takes just these bytes, where it tells them.
         ensures writer { WriteAppends (W.contents (writer_of self.old)) (W.contents (writer_of self.new))

@@ -1,0 +1,59 @@
+//! A source over a reader of the system.
+ghost use Rattle.std.specs.Prelude.{◌≡◌, ℕ, None};
+ghost use Rattle.std.specs.Io.{ReadsAtMost};
+ghost use Rattle.std.specs.Io.KnownBytes.{ReadConsumes};
+ghost use Rattle.vx_io.specs.Faults.{CountsFault, CountsOne};
+
+use crate::read::{Source, SourceFailed};
+use std::fs::File;
+use std::io::Read;
+
+/// A source over a reader of the system. It doesn't tell its bytes.
+#[derive(Drop)]
+pub struct ReaderSource<R: Read + Drop> {
+    from: R,
+    faults: u64,
+}
+
+/// A source over an open file.
+pub type FileSource = ReaderSource<File>;
+
+impl<R: Read + Drop> ReaderSource<R> {
+    ghost use Rattle.vx_io.specs.Outside.{reader_of, read_fault_count};
+
+    /// A source over this reader, of which no read has failed.
+    pub fn new(from: R) -> ReaderSource<R>
+        ensures reader { reader_of result ≡ from }
+        ensures faults { read_fault_count result ≡ 0 }
+    {
+        ReaderSource { from, faults: 0 }
+    }
+}
+
+impl<R: Read + Drop> Source for ReaderSource<R> {
+    ghost use Rattle.vx_io.specs.Outside.{reader_of, read_fault_count};
+
+    ghost bytes_left = { λ _. None };
+
+    ghost read_faults = { λ s. s.faults };
+
+    /// A read fails where the reader's does. Each failure adds one to the count.
+    fn read(&mut self, into: &mut [u8]) -> Result<usize, SourceFailed>
+        ensures bound { ReadsAtMost result into.new }
+        ensures bytes { ReadConsumes None None result into.new }
+        ensures faults { CountsFault (read_fault_count self.old) (read_fault_count self.new) result }
+        ensures one { CountsOne (read_fault_count self.old) (read_fault_count self.new) result }
+
+        // The reader behind it gives just these bytes, where it tells them.
+        ensures reader { ReadConsumes (R.remaining (reader_of self.old)) (R.remaining (reader_of self.new))
+            result into.new }
+    {
+        match self.from.read(into) {
+            Ok(count) => Ok(count),
+            Err(_) => {
+                self.faults = self.faults.saturating_add(1);
+                Err(SourceFailed)
+            }
+        }
+    }
+}
