@@ -1,5 +1,5 @@
 -- The search for the first byte that emulation prevention rules out, and the unit without its emulation bytes.
-use Rattle.std.proofs.Common.{◌≡◌, ℕ, ◌+◌, ◌-◌, ◌<◌, ◌≤◌, inl, inr, true, List, [], ◌++◌, length, slice_index, slice_range, sym, ap, subst, ◌∙◌, arith, refl, ⊎_elim}
+use Rattle.std.proofs.Common.{◌≡◌, ℕ, ◌+◌, ◌-◌, ◌<◌, ◌≤◌, inl, inr, true, List, ◌++◌, length, slice_index, slice_range, sym, ap, subst, ◌∙◌, arith, ⊎_elim}
 use Rattle.std.proofs.lemmas.Bool.{cases_lt}
 use Rattle.vx_annexb.specs.Places.{IsMark, IsFirstFrom}
 use Rattle.vx_annexb.specs.Emulation.{is_emulation, BreaksRule, unescaped_to, unescaped}
@@ -10,13 +10,6 @@ pub record IsClear (n : List ℕ) (at : ℕ) : Type 0 where
   pub within : at ≤ length n
   pub behind : 0 < at → slice_index n (at - 1) ≡ 0 → ⊥
   pub rules : (k : ℕ) → k ≤ at → ¬ BreaksRule n k
-
-pub clear_start : (n : List ℕ) → IsClear n 0
-clear_start n = record {
-  within = omega arith;
-  behind = λ lt. absurd (omega arith);
-  rules = λ k le. ⊎_elim (λ b. omega (arith, b.0)) (λ b. omega (arith, b.0));
-}
 
 -- a mark behind clear bytes
 module _ (n : List ℕ) (at : ℕ) (clear : IsClear n at) (mark : ℕ) (first : IsFirstFrom (IsMark 3 n) at mark) where
@@ -92,9 +85,6 @@ pub record IsUnescaped (n bytes : List ℕ) (at : ℕ) : Type 0 where
   pub within : at ≤ length n
   pub behind : 0 < at → slice_index n (at - 1) ≡ 0 → ⊥
   pub is : bytes ≡ unescaped_to n at
-
-pub unescape_start : (n : List ℕ) → IsUnescaped n [] 0
-unescape_start n = record { within = omega arith; behind = λ lt. absurd (omega arith); is = refl }
 
 module _ (n bytes : List ℕ) (at : ℕ) (so_far : IsUnescaped n bytes at) where
   pub unescape_step : ((k : ℕ) → ¬ BreaksRule n k) → (mark : ℕ) → IsFirstFrom (IsMark 3 n) at mark → IsUnescaped n (bytes ++ slice_range n at (mark + 2)) (mark + 3)

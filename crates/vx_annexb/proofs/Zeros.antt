@@ -29,9 +29,9 @@ module _ (b : List ℕ) (from : ℕ) (le : from ≤ length b) where
       )
 
 -- no mark up to a place, and no zero from there on
-pub no_mark_at_all : (most : ℕ) (b : List ℕ) (from zero at : ℕ) → ((k : ℕ) → from ≤ k → k < zero → ¬ IsMark most b k) → ((k : ℕ) → zero ≤ k → k < at → ¬ IsMark most b k)
+pub no_mark_at_all : (most : ℕ) (b : List ℕ) (from there at : ℕ) → ((k : ℕ) → from ≤ k → k < there → ¬ IsMark most b k) → ((k : ℕ) → there ≤ k → k < at → ¬ IsMark most b k)
     → ((k : ℕ) → at ≤ k → k < length b → slice_index b k ≡ 0 → ⊥) → (k : ℕ) → from ≤ k → ¬ IsMark most b k
-no_mark_at_all most b from zero at before next none k le m = ⊎_elim
+no_mark_at_all most b from there at before next none k le m = ⊎_elim
     (λ low. before k le low m)
     (λ high. ⊎_elim (λ near. next k high near m) (λ far. none k far (omega (arith, m.within)) m.first) (cases_lt k at))
-    (cases_lt k zero)
+    (cases_lt k there)

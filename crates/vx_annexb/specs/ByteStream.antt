@@ -44,6 +44,20 @@ pub record IsStray (b : List ℕ) (p q : ℕ) : Type 0 where
   pub nonzero : slice_index b q ≢ 0
   pub no_code : slice_index b q ≡ 1 → q < p + 2
 
+-- the numbers of the rules of framing
+abbrev pub not_a_start_code : ℕ
+not_a_start_code = 1
+
+abbrev pub bad_emulation : ℕ
+bad_emulation = 2
+
+abbrev pub bad_header : ℕ
+bad_header = 3
+
+-- the number of the limit on a unit's bytes
+abbrev pub long_unit : ℕ
+long_unit = 1
+
 -- the most bytes that a unit may have
 abbrev pub unit_limit : ℕ
 unit_limit = 2 ^ 23
@@ -54,18 +68,18 @@ pub record IsSound (unit : List ℕ) : Type 0 where
   pub emulation : (k : ℕ) → ¬ BreaksRule unit k
   pub size : length unit ≤ unit_limit
 
--- r refuses the unit whose first byte stands at this place: its header can't be read (F3),
--- else a byte breaks the rules of emulation prevention (F2), else it is too long (L1)
+-- r refuses the unit whose first byte stands at this place: its header can't be read,
+-- else a byte breaks the rules of emulation prevention, else it is too long
 abbrev pub RefusesUnit : List ℕ → ℕ → Refusal → Type 0
 RefusesUnit unit place r =
-    ((¬ HasHeader unit) × (r ≡ Framing 3 place))
-    ⊎ ((HasHeader unit × ((k : ℕ) × IsFirstFrom (BreaksRule unit) 0 k × (r ≡ Framing 2 (place + k))))
-    ⊎ (HasHeader unit × ((k : ℕ) → ¬ BreaksRule unit k) × (unit_limit < length unit) × (r ≡ Limit 1)))
+    ((¬ HasHeader unit) × (r ≡ Framing bad_header place))
+    ⊎ ((HasHeader unit × ((k : ℕ) × IsFirstFrom (BreaksRule unit) 0 k × (r ≡ Framing bad_emulation (place + k))))
+    ⊎ (HasHeader unit × ((k : ℕ) → ¬ BreaksRule unit k) × (unit_limit < length unit) × (r ≡ Limit long_unit)))
 
--- r refuses what comes next behind place p: a byte that is no start code (F1), or a unit
+-- r refuses what comes next behind place p: a byte that is no start code, or a unit
 abbrev pub Refuses : List ℕ → Bool → ℕ → Refusal → Type 0
 Refuses b all p r =
-    ((q : ℕ) × IsStray b p q × (r ≡ Framing 1 q))
+    ((q : ℕ) × IsStray b p q × (r ≡ Framing not_a_start_code q))
     ⊎ ((u : UnitPlace) × IsUnit b all p u × RefusesUnit (unit_bytes b u) u.start r)
 
 -- these units follow one another from place p on, and no rule refuses them

@@ -1,5 +1,5 @@
 -- What a splitter keeps of the bytes that it was fed, and how that is tied to them.
-use Rattle.std.specs.Prelude.{◌≡◌, ℕ, ◌+◌, ◌*◌, ◌-◌, ◌^◌, ◌<◌, ◌≤◌, Bool, List, [], ◌∷◌, ◌++◌, Option, Some, None, Result, Ok, Err, length, drop, max, slice_range}
+use Rattle.std.specs.Prelude.{◌≡◌, ℕ, ◌+◌, ◌*◌, ◌-◌, ◌^◌, ◌<◌, ◌≤◌, Bool, List, [], ◌∷◌, ◌++◌, Option, Some, None, Result, Ok, Err, length, drop, max, slice_range, unwrap_or}
 use Rattle.vx_bits.specs.declared.refusal.Refusal.{Refusal}
 use Rattle.vx_annexb.specs.declared.span.Span.{Span}
 use Rattle.vx_annexb.specs.Places.{AreZeros, IsMark}
@@ -24,6 +24,10 @@ pub record Held : Type 0 where
 -- how many bytes were fed
 abbrev pub fed : Held → ℕ
 fed h = h.base + length h.kept
+
+-- the place from which bytes are still needed: the first of the unit that has begun, else that up to which zeros were passed
+abbrev pub needed_from : Held → ℕ
+needed_from h = unwrap_or h.start h.sought
 
 -- two steps a byte, and one more within a unit
 abbrev pub steps_left : ℕ → Option ℕ → ℕ

@@ -4,7 +4,7 @@ use Rattle.vx_bits.specs.declared.refusal.Refusal.{Refusal}
 use Rattle.vx_bits.specs.declared.refusal.Refusal.TheVariants.{Framing}
 use Rattle.vx_annexb.specs.Places.{IsMark}
 use Rattle.vx_annexb.specs.Emulation.{BreaksRule, EndsInNoZero, unescaped, IsEscaped}
-use Rattle.vx_annexb.specs.ByteStream.{UnitPlace, IsSound, IsStream}
+use Rattle.vx_annexb.specs.ByteStream.{not_a_start_code, UnitPlace, IsSound, IsStream}
 
 -- the bytes determine the units and the ending
 abbrev pub StreamIsUnique : Type 0
@@ -81,4 +81,4 @@ EscapedIsInverse =
 -- where a byte at place p is no start code, the units before are those of the first p bytes, and these are refused nowhere
 abbrev pub StrayEndsStream : Type 0
 StrayEndsStream =
-    (b : List ℕ) (all : Bool) (us : List UnitPlace) (p : ℕ) → IsStream b all us (Some (Framing 1 p)) → IsStream (take p b) true us None
+    (b : List ℕ) (all : Bool) (us : List UnitPlace) (p : ℕ) → IsStream b all us (Some (Framing not_a_start_code p)) → IsStream (take p b) true us None

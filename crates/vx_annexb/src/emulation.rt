@@ -6,7 +6,7 @@ ghost use Rattle.vx_annexb.specs.Emulation.{is_emulation, BreaksRule, EndsInNoZe
 use crate::search::find_mark;
 use std::alloc::{AllocError, Global};
 
-// emulation_prevention_three_byte
+/// emulation_prevention_three_byte
 const EMULATION: u8 = 3;
 
 /// The place of the first byte that emulation prevention rules out: 00, 01 or 02 behind 00 00, or more than 03
@@ -79,7 +79,7 @@ pub fn unit_place(unit: &[u8], n: usize) -> usize
     place
 }
 
-// Whether the byte at a place is an emulation byte.
+/// Whether the byte at a place is an emulation byte.
 fn stands_emulation(unit: &[u8], place: usize) -> bool
     requires { place < length unit.now }
     ensures { result ≡ is_emulation unit.now place }

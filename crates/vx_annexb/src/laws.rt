@@ -1,4 +1,4 @@
-//! Laws of the byte stream: functions without a body, whose contracts say what its definition comes to.
+//! Laws of the byte stream: functions that do nothing, each with a law as its contract.
 ghost use Rattle.vx_annexb.specs.Laws.{StreamIsUnique, StreamExists, StreamGoesOn, StreamIsAnnexB, AnnexBIsStream, EscapedIsUnique, EscapedExists, EscapedHasSeam, EscapedIsInverse, StrayEndsStream};
 
 /// The bytes determine their units and the ending behind them.

@@ -1,16 +1,9 @@
 //! NAL units in a byte stream (H.266 Annex B): where each begins and ends, and what their headers say.
 #![tactic(auto)]
 
-pub use emulation::{emulation_fault, escape, unescape, unit_place};
-pub use header::{NalHeader, read_header};
-pub use rules::{BAD_EMULATION, BAD_HEADER, LONG_UNIT, NOT_A_START_CODE};
-pub use span::Span;
-pub use splitter::Splitter;
-pub use write::write_unit;
-
 mod emulation;
 mod header;
-pub mod laws;
+mod laws;
 mod rules;
 mod search;
 mod span;
@@ -18,3 +11,14 @@ mod splitter;
 #[cfg(test)]
 mod tests;
 mod write;
+
+pub use emulation::{emulation_fault, escape, unescape, unit_place};
+pub use header::{NalHeader, read_header};
+pub use laws::{
+    annex_b_is_stream, escaped_exists, escaped_has_seam, escaped_is_inverse, escaped_is_unique,
+    stray_ends_stream, stream_exists, stream_goes_on, stream_is_annex_b, stream_is_unique,
+};
+pub use rules::{BAD_EMULATION, BAD_HEADER, LONG_UNIT, NOT_A_START_CODE};
+pub use span::Span;
+pub use splitter::Splitter;
+pub use write::write_unit;

@@ -17,7 +17,7 @@ pub const LONG_UNIT: u8 = 1;
 
 const UNIT_LIMIT: usize = 1 << 23;
 
-// Why the unit that begins at `place` of the stream is refused.
+/// Why the unit that begins at `place` of the stream is refused.
 pub(crate) fn refusal_of(unit: &[u8], place: u64) -> Option<Refusal>
     requires { place + length unit.now < 2 ^ 64 }
     ensures { MatchOption result (IsSound unit.now) (RefusesUnit unit.now place) }

@@ -4,10 +4,10 @@ ghost use Rattle.vx_annexb.specs.Places.{AreZeros, IsMark, IsFirstFrom};
 
 use memchr::memchr;
 
-// A zero at fewer bytes from where it is sought is near: more may follow, and steps are then faster than `memchr`.
+/// A zero at fewer bytes from where it is sought is near: more may follow, and steps are then faster than `memchr`.
 const NEAR: usize = 32;
 
-// The first place from `from` on whose byte is no zero, or the end.
+/// The first place from `from` on whose byte is no zero, or the end.
 pub(crate) fn skip_zeros(bytes: &[u8], from: usize) -> usize
     requires { from ≤ length bytes.now }
     ensures zeros { AreZeros bytes.now from result }
@@ -20,7 +20,7 @@ pub(crate) fn skip_zeros(bytes: &[u8], from: usize) -> usize
     at
 }
 
-// The first zero from `from` on. It is a call of its own, so that the search where marks are dense stays small.
+/// The first zero from `from` on. It is a call of its own, so that the search where marks are dense stays small.
 #[inline(never)]
 fn next_zero(bytes: &[u8], from: usize) -> Option<usize>
     requires { from ≤ length bytes.now }
@@ -32,7 +32,7 @@ fn next_zero(bytes: &[u8], from: usize) -> Option<usize>
     Some(from + skip)
 }
 
-// Steps from `from` to a mark below `stop`, or past `stop` where none stands there: at most three bytes a step.
+/// Steps from `from` to a mark below `stop`, or past `stop` where none stands there: at most three bytes a step.
 fn step_to_mark(bytes: &[u8], from: usize, stop: usize, most: u8) -> usize
     requires order { from ≤ stop }
     requires within { stop ≤ length bytes.now }
@@ -54,7 +54,7 @@ fn step_to_mark(bytes: &[u8], from: usize, stop: usize, most: u8) -> usize
     at.max(stop)
 }
 
-// The first place from `from` on at which 00 00 and a byte of at most `most` stand.
+/// The first place from `from` on at which 00 00 and a byte of at most `most` stand.
 pub(crate) fn find_mark(bytes: &[u8], from: usize, most: u8) -> Option<usize>
     requires { from ≤ length bytes.now }
     ensures { MatchOption result
@@ -75,7 +75,7 @@ pub(crate) fn find_mark(bytes: &[u8], from: usize, most: u8) -> Option<usize>
     None
 }
 
-// The first place from `from` on behind which the bytes are zeros to their end.
+/// The first place from `from` on behind which the bytes are zeros to their end.
 pub(crate) fn trim_zeros(bytes: &[u8], from: usize) -> usize
     requires { from ≤ length bytes.now }
     ensures { IsFirstFrom (λ k. AreZeros bytes.now k (length bytes.now)) from result }

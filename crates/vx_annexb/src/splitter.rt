@@ -10,7 +10,7 @@ use vx_bits::Refusal;
 
 /// Finds the NAL units of a byte stream that comes in pieces.
 ///
-/// It keeps the bytes from the unit that has begun on, and gives up what lies before at the next feed.
+/// It keeps the bytes from the unit that has begun on; at a feed it gives up what lies before, once that is half of all.
 #[derive(Drop)]
 pub struct Splitter {
     // The bytes kept, and the place of the first of them.
@@ -52,7 +52,7 @@ impl Model for Splitter {
     }) };
 }
 
-// Drops the first n bytes, which are at least half of them.
+/// Drops the first n bytes, which are at least half of them.
 fn drop_front(bytes: &mut Vec<u8>, n: usize)
     requires within { n ≤ length bytes.old.items }
     requires half { length bytes.old.items ≤ 2 * n }
@@ -66,11 +66,11 @@ fn drop_front(bytes: &mut Vec<u8>, n: usize)
 }
 
 impl Splitter {
-    ghost use Rattle.std.specs.Prelude.{◌≡◌, ℕ, ◌+◌, ◌^◌, ◌<◌, ◌≤◌, ◌++◌, [], List, true, false, length, slice_range, IfOk, IfErr, IfSome, OnOk, OnErr, OnSome, IsOk, IsSome, MatchOption};
+    ghost use Rattle.std.specs.Prelude.{◌≡◌, ℕ, ◌+◌, ◌-◌, ◌*◌, ◌^◌, ◌<◌, ◌≤◌, ◌++◌, [], List, true, false, length, slice_range, IfOk, IfErr, IfSome, OnOk, OnErr, OnSome, IsOk, IsSome, MatchOption};
     ghost use Rattle.vx_bits.specs.declared.refusal.Refusal.{Refusal};
     ghost use Rattle.vx_annexb.specs.Places.{IsFirstFrom};
     ghost use Rattle.vx_annexb.specs.ByteStream.{UnitPlace, CanEnd};
-    ghost use Rattle.vx_annexb.specs.Held.{fed, left_to_seek, Stands, HasStarted, IsReadable, KeepsBytes, Answers};
+    ghost use Rattle.vx_annexb.specs.Held.{fed, needed_from, left_to_seek, Stands, HasStarted, IsReadable, KeepsBytes, Answers};
 
     /// A splitter that was fed nothing.
     pub fn new(alloc: Global) -> Splitter
@@ -97,6 +97,7 @@ impl Splitter {
         ensures fed { OnOk result (fed self.new ≡ fed self.old + length piece.now) }
         ensures all { OnOk result (self.new.all ≡ false) }
         ensures refused { self.new.refused ≡ self.old.refused }
+        ensures spare { OnOk result (length self.new.kept ≤ 2 * (fed self.new - needed_from self.new)) }
         ensures err { OnErr result (self.new ≡ self.old) }
     {
         self.kept.reserve(piece.len())?;
@@ -141,7 +142,7 @@ impl Splitter {
         self.give(start, end)
     }
 
-    // Seeks the first byte of the next unit.
+    /// Seeks the first byte of the next unit.
     fn seek_start(&mut self) -> Result<Option<u64>, Refusal>
         requires { self.old.refused ≡ None }
         ensures answer { (g : List ℕ) (units : List UnitPlace) → Stands self.old g units → HasStarted g units self.new result }
@@ -172,7 +173,7 @@ impl Splitter {
         Ok(self.start)
     }
 
-    // Seeks the place behind the last byte of the unit that begins at `start`.
+    /// Seeks the place behind the last byte of the unit that begins at `start`.
     fn seek_end(&mut self, start: u64) -> Option<u64>
         requires begun { self.old.start ≡ Some start }
         requires open { self.old.refused ≡ None }
@@ -198,7 +199,7 @@ impl Splitter {
         Some(self.base + end as u64)
     }
 
-    // Gives the unit from `start` to `end`, or refuses it.
+    /// Gives the unit from `start` to `end`, or refuses it.
     fn give(&mut self, start: u64, end: u64) -> Result<Option<Span>, Refusal>
         requires begun { self.old.start ≡ Some start }
         requires open { self.old.refused ≡ None }

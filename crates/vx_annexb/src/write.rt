@@ -7,7 +7,7 @@ ghost use Rattle.vx_annexb.specs.ByteStream.{long_start_code};
 
 use vx_io::{Sink, SinkFailed, write_all};
 
-// zero_byte and start_code_prefix_one_3bytes (H.266 B.2.1)
+/// zero_byte and start_code_prefix_one_3bytes (H.266 B.2.1)
 const START_CODE: [u8; 4] = [0, 0, 0, 1];
 
 /// Writes 00 00 00 01 and a unit, which comes in two parts. It takes no memory.
