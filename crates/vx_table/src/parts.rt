@@ -1,9 +1,9 @@
 //! A structure of several tables, some of them on a condition.
 
-ghost use Rattle.std.specs.Prelude.{◌≡◌};
+ghost use Rattle.std.specs.Prelude.{◌≡◌, OnOk};
 ghost use Rattle.vx_table.specs.Walks.{Walks, leaving};
 ghost use Rattle.vx_table.specs.Parts.{part_form, parts_form};
-ghost use Rattle.vx_table.specs.Reading.{Reads};
+ghost use Rattle.vx_table.specs.Reading.{Reads, LeadsTo};
 ghost use Rattle.vx_table.specs.Writing.{Writes};
 
 use crate::rows::{Formula, Row};
@@ -57,14 +57,16 @@ pub fn code_parts<I, C: Coder<I>>(
 ///
 /// # Errors
 ///
-/// The first refusal, or want of memory. `items` has then gained the fields read before.
+/// The first refusal, or want of memory. `items` has then gained the fields read before, and `bits` stands at the
+/// field that comes next.
 pub fn read_parts(
     parts: &[Part<'_>],
     scope: &mut Scope,
     bits: &mut BitReader<'_>,
     items: &mut Fields,
 ) -> Result<(), ReadError>
-    ensures { Reads (parts_form parts.now scope.old) bits.old items.old result bits.new items.new }
+    ensures answer { Reads (parts_form parts.now scope.old) bits.old items.old result bits.new items.new }
+    ensures scope { OnOk result (LeadsTo (parts_form parts.now scope.old) bits.old scope.new) }
 {
     code_parts(parts, scope, bits, items)
 }
