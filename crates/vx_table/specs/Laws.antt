@@ -1,9 +1,10 @@
 -- What holds of all tables.
 use Rattle.std.specs.Prelude.{◌≡◌, ◌↔◌, ◌⊎◌, ℕ, ℤ, ◌+◌, ◌-◌, ◌≤◌, Bool, List, ◌++◌, length}
+use Rattle.vx_bits.specs.declared.list.Item.{Item}
 use Rattle.vx_bits.specs.declared.refusal.Refusal.{Refusal}
 use Rattle.vx_table.specs.declared.rows.Cell.{Cell}
 use Rattle.vx_table.specs.Forms.{Form}
-use Rattle.vx_table.specs.Spelling.{Spells, Reaches, IsRefused}
+use Rattle.vx_table.specs.Spelling.{Spells, Reaches, IsRefused, items_along}
 use Rattle.vx_table.specs.Values.{Follows, bits_along, Closes}
 
 -- bits that begin with spellings of two values begin with one
@@ -39,3 +40,8 @@ ReadsBack = (form : Form (List ℕ)) (place : ℕ) (values : List ℤ) (end : Li
 abbrev pub SpellsApart : Type 0
 SpellsApart = (form : Form (List ℕ)) (place : ℕ) (v w : List ℤ) (a b : List ℕ) (r s : List Bool) → Follows form v a → Follows form w b
     → bits_along form place v ++ r ≡ bits_along form place w ++ s → (v ≡ w) × (r ≡ s) × (a ≡ b)
+
+-- and two lists of items that begin with those of values and are equal begin with those of one
+abbrev pub ItemsApart : Type 0
+ItemsApart = (form : Form (List ℕ)) (v w : List ℤ) (a b : List ℕ) (r s : List Item) → Follows form v a → Follows form w b
+    → items_along form v ++ r ≡ items_along form w ++ s → (v ≡ w) × (r ≡ s) × (a ≡ b)

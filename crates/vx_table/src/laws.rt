@@ -1,5 +1,5 @@
 //! Laws of all tables: functions that do nothing, each with a law as its contract.
-ghost use Rattle.vx_table.specs.Laws.{ReadsOneWay, AnswersOneWay, AnswersAlways, SpellsBothWays, ReadsBack, SpellsApart};
+ghost use Rattle.vx_table.specs.Laws.{ReadsOneWay, AnswersOneWay, AnswersAlways, SpellsBothWays, ReadsBack, SpellsApart, ItemsApart};
 
 /// Bits that begin with a spelling tell the values and what follows.
 pub fn one_reading()
@@ -29,4 +29,9 @@ pub fn read_back()
 /// No spelling of values is a proper prefix of another's.
 pub fn no_proper_prefix()
     ensures { SpellsApart }
+{}
+
+/// Items tell the values that are written, and what follows.
+pub fn one_writing()
+    ensures { ItemsApart }
 {}

@@ -4,7 +4,7 @@ ghost use Rattle.std.specs.Prelude.{◌≡◌, OnOk};
 ghost use Rattle.vx_table.specs.Walks.{Walks, leaving};
 ghost use Rattle.vx_table.specs.Parts.{part_form, parts_form};
 ghost use Rattle.vx_table.specs.Reading.{Reads, LeadsTo};
-ghost use Rattle.vx_table.specs.Writing.{Writes};
+ghost use Rattle.vx_table.specs.Writing.{Writes, ItemsLeadTo};
 
 use crate::rows::{Formula, Row};
 use crate::scope::Scope;
@@ -75,14 +75,16 @@ pub fn read_parts(
 ///
 /// # Errors
 ///
-/// `NoValue` where the items aren't those of a value of the structure; want of memory.
+/// `NoValue` where the items don't begin with those of a value of the structure; want of memory. `bits` has then gained
+/// the spelling of the fields before one, and `items` begins with what was to be written there.
 pub fn write_parts(
     parts: &[Part<'_>],
     scope: &mut Scope,
     bits: &mut BitWriter,
     items: &mut Unwritten<'_>,
 ) -> Result<(), SpellError>
-    ensures { Writes (parts_form parts.now scope.old) bits.old items.old result bits.new items.new }
+    ensures answer { Writes (parts_form parts.now scope.old) bits.old items.old result bits.new items.new }
+    ensures scope { OnOk result (ItemsLeadTo (parts_form parts.now scope.old) items.old scope.new) }
 {
     code_parts(parts, scope, bits, items)
 }
