@@ -138,6 +138,16 @@ last_fits used begun few below =
 pub align_is : (zeros : ℕ) (old : List Bool) → zeros ≡ to_boundary (length old) → replicate zeros false ++ fixed 0 0 ≡ zeros_from (length old)
 align_is zeros old is = rw (fixed_none 0, append-nil (replicate zeros false), is) refl
 
+-- a one and the zeros as a number
+pub stop_word : (zeros : ℕ) → zeros < 8 → (1 * 2 ^ zeros % 2 ^ 64 ≡ 2 ^ zeros) × (2 ^ zeros < 2 ^ (zeros + 1))
+stop_word zeros few = (omega (arith, pow_le zeros 7 (omega arith)), rw (add-one zeros) (omega (arith, two_pow zeros, pow_pos zeros)))
+
+pub stop_put : (zeros : ℕ) (old : List Bool) → zeros < 8 → zeros ≡ to_boundary (length old + 1) → replicate 0 false ++ fixed (zeros + 1) (1 * 2 ^ zeros % 2 ^ 64) ≡ one_from (length old)
+stop_put zeros old few is =
+    let stop : fixed (suc zeros) (2 ^ zeros) ≡ true ∷ replicate zeros false
+    = ap (fixed (suc zeros)) (sym (number-stop zeros)) ∙ fixed_of (suc zeros) (true ∷ replicate zeros false) (ap suc (length-replicate zeros false)) in
+    rw ((stop_word zeros few).0, add-one zeros, stop, is) refl
+
 pub close_is : (bytes items : List ℕ) (used begun : ℕ) → used < 8 → begun < 2 ^ used → items ≡ bytes ++ ((begun * 2 + 1) * 2 ^ (7 - used) % 256) ∷ []
     → bits_of items ≡ (bits_of bytes ++ fixed used begun) ++ one_from (length (bits_of bytes ++ fixed used begun))
 close_is bytes items used begun few below pushed =

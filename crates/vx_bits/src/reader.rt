@@ -51,6 +51,16 @@ impl<'a> BitReader<'a> {
         8 * self.window.next - self.window.held
     }
 
+    /// A reader at the same place, which goes on by itself.
+    pub fn fork(&self) -> BitReader<'a>
+        ensures { result ≡ self.now }
+    {
+        BitReader {
+            bytes: self.bytes,
+            window: self.window,
+        }
+    }
+
     /// The number of bits left.
     fn left(&self) -> u32
         ensures { result ≡ length self.now.left }

@@ -107,11 +107,9 @@ fn reads_alignments(rt: HostRuntime) -> Result<(), Fail> {
     for (bytes, taken, wanted) in rows {
         assert!(&rt; bytes.len() <= 8 && taken <= 32);
         let mut align = BitReader::new(bytes);
-        let mut after = BitReader::new(bytes);
-        let mut trailing = BitReader::new(bytes);
         align.u(taken).ok();
-        after.u(taken).ok();
-        trailing.u(taken).ok();
+        let mut after = align.fork();
+        let mut trailing = align.fork();
         assert_eq!(&rt; align.align(), wanted[0]);
         assert_eq!(&rt; after.align_after_one(), wanted[1]);
         assert_eq!(&rt; trailing.trailing(), wanted[2]);
@@ -146,6 +144,16 @@ fn writes_codes(rt: HostRuntime) -> Result<(), Fail> {
         BitWriter::new(rt.alloc()).close()?.as_slice(),
         [0x80].as_slice()
     );
+    Ok(())
+}
+
+#[test]
+fn writes_a_one_and_zeros(rt: HostRuntime) -> Result<(), Fail> {
+    let mut writer = BitWriter::new(rt.alloc());
+    writer.u(3, 0b111)?;
+    writer.align_after_one()?;
+    writer.align_after_one()?;
+    assert_eq!(&rt; writer.close()?.as_slice(), [0xF0, 0x80, 0x80].as_slice());
     Ok(())
 }
 

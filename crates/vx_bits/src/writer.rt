@@ -132,6 +132,19 @@ impl BitWriter {
         self.put(zeros, 0, 0)
     }
 
+    /// Appends a one, and zeros up to the byte boundary.
+    ///
+    /// # Errors
+    ///
+    /// Where memory runs out.
+    pub fn align_after_one(&mut self) -> Result<(), AllocError>
+        ensures ok { OnOk result (self.new ≡ self.old ++ one_from (length self.old)) }
+        ensures err { OnErr result (self.new ≡ self.old) }
+    {
+        let zeros = 7 - self.used;
+        self.put(0, zeros + 1, 1 << zeros)
+    }
+
     /// Appends a one, and zeros up to the byte boundary, and gives the bytes.
     ///
     /// # Errors

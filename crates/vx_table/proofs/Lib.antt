@@ -6,5 +6,7 @@ pub mod Blocks
 pub mod Readings
 pub mod Steps
 pub mod Taking
+pub mod Every
+pub mod Spelled
 pub mod Values
 pub mod Writings

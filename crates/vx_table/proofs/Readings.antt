@@ -1,6 +1,7 @@
 -- A walk of a reader gives what the relations say.
 use Rattle.std.proofs.Common.{◌≡◌, ℕ, ℤ, Bool, List, [], ◌∷◌, ◌++◌, Result, Ok, Err, refl, ap, sym, subst, ◌∙◌, ◌*◌, length}
 use Rattle.std.proofs.lemmas.List.{append-nil, append_assoc}
+use Rattle.std.specs.Prelude.{OnOk}
 use Rattle.vx_bits.specs.declared.list.Item.{Item}
 use Rattle.vx_bits.specs.declared.refusal.Refusal.{Refusal}
 use Rattle.vx_bits.specs.declared.refusal.ReadError.{ReadError}
@@ -11,8 +12,10 @@ use Rattle.vx_table.specs.declared.rows.Cell.{Cell}
 use Rattle.vx_table.specs.Forms.{Form, done, field}
 use Rattle.vx_table.specs.Walks.{Walks, ended, coded, refused, leaving}
 use Rattle.vx_table.specs.Spelling.{Stands, Spells, at_end, behind, Reaches, here, later, IsRefused, item_of, items_along}
-use Rattle.vx_table.specs.Reading.{at_front, reads_field, IsFound, StopsAt, IsFirstRefusal, IsAnswered, IsRefusedWith, Reads}
+use Rattle.vx_table.specs.Values.{Follows, to_end, through}
+use Rattle.vx_table.specs.Reading.{at_front, reads_field, IsFound, StopsAt, IsFirstRefusal, IsAnswered, IsRefusedWith, Reads, LeadsTo}
 use Rattle.vx_table.proofs.Codings.{begins_apart, stands_not_refused, refused_once}
+use Rattle.vx_table.proofs.Spelled.{is_value}
 
 -- the same at an equal total
 spells_at : {A : Type 0} {f : Form A} {w : List ℤ} {left rest : List Bool} (s t : ℕ) → s ≡ t → Spells s f w left rest → Spells t f w left rest
@@ -42,34 +45,41 @@ found {form = field cell goes} {old} {new} {items} {after} (coded {d} {j} {v} s 
       gained = one_more cell goes items j after v more.values s.2 more.gained;
     }
 
--- the items of a longer front
-longer : {A : Type 0} {cell : Cell ℕ} {goes : ℤ → Form A} {old mid : Place} {items between after : List Item} {v : ℤ} {next : Cell ℕ} {rest : List Bool}
+-- a longer front
+longer : {A : Type 0} {cell : Cell ℕ} {goes : ℤ → Form A} {old mid new : Place} {items between after : List Item} {v : ℤ} {next : Cell ℕ}
     → Stands cell old.total v old.left mid.left → mid.total ≡ old.total → between ≡ items ++ item_of cell v
-    → StopsAt (goes v) mid between after next rest → StopsAt (field cell goes) old items after next rest
+    → StopsAt (goes v) mid between new after next → StopsAt (field cell goes) old items new after next
 longer {cell} {goes} {old} {mid} {items} {between} {after} {v} stands total gained more = record {
   values = v ∷ more.values;
   reached = later stands (reaches_at mid.total old.total total more.reached);
+  total = more.total ∙ total;
   gained = one_more cell goes items between after v more.values gained more.gained;
 }
 
-at_once : {A : Type 0} {cell : Cell ℕ} {goes : ℤ → Form A} {old : Place} {items after : List Item} → after ≡ items → StopsAt (field cell goes) old items after cell old.left
-at_once {items} same = record { values = []; reached = here; gained = same ∙ sym (append-nil items) }
+at_once : {A : Type 0} {cell : Cell ℕ} {goes : ℤ → Form A} {old new : Place} {items after : List Item} → new ≡ old → after ≡ items → StopsAt (field cell goes) old items new after cell
+at_once {cell} {goes} {old} {items} still same = record {
+  values = [];
+  reached = subst (λ (p : Place). Reaches old.total (field cell goes) [] old.left cell p.left) (sym still) here;
+  total = ap (λ (p : Place). p.total) still;
+  gained = same ∙ sym (append-nil items);
+}
 
 -- a refusal is that of the longest front
 pub stopped : {A : Type 0} {form : Form A} {old new : Place} {items after : List Item} (r : Refusal)
-    → Walks {A = A} reads_field form old items (Err (errors.Refused r)) new after → IsFirstRefusal form old items after r
+    → Walks {A = A} reads_field form old items (Err (errors.Refused r)) new after → IsFirstRefusal form old items new after r
 stopped {form = done a} r walk = elim walk [ ]
-stopped {form = field cell goes} {old} r (refused s) = record { cell = cell; rest = old.left; stops = at_once s.1; refused = s.0 }
+stopped {form = field cell goes} {old} r (refused s) =
+    record { cell = cell; stops = at_once s.1 s.2; refused = subst (λ (p : Place). IsRefused cell old.total p.left r) (sym s.1) s.0 }
 stopped {form = field cell goes} {old} r (coded {d} s walk) =
     let more = stopped r walk in
-    record { cell = more.cell; rest = more.rest; stops = longer s.0 s.1 s.2 more.stops; refused = refused_at d.total old.total s.1 more.refused }
+    record { cell = more.cell; stops = longer s.0 s.1 s.2 more.stops; refused = refused_at d.total old.total s.1 more.refused }
 
 -- and where memory runs out, a front was read
 pub interrupted : {A : Type 0} {form : Form A} {old new : Place} {items after : List Item}
-    → Walks {A = A} reads_field form old items (Err errors.Memory) new after → (cell : Cell ℕ) × (rest : List Bool) × StopsAt form old items after cell rest
+    → Walks {A = A} reads_field form old items (Err errors.Memory) new after → (cell : Cell ℕ) × StopsAt form old items new after cell
 interrupted {form = done a} walk = elim walk [ ]
-interrupted {form = field cell goes} {old} (refused s) = (cell, old.left, at_once s)
-interrupted {form = field cell goes} (coded s walk) = let more = interrupted walk in (more.0, more.1, longer s.0 s.1 s.2 more.2)
+interrupted {form = field cell goes} (refused s) = (cell, at_once s.0 s.1)
+interrupted {form = field cell goes} (coded s walk) = let more = interrupted walk in (more.0, longer s.0 s.1 s.2 more.1)
 
 -- What the answer means for each fact about it.
 answered_more : {B P Q : Type 0} (result : Result B ReadError) → (P → Q) → IsAnswered result P → IsAnswered result Q
@@ -101,22 +111,36 @@ only {form = field cell goes} {old} {new} {items} {after} {result} {rest} (coded
 -- where a field is refused, that is the answer
 pub refusal : {A : Type 0} {form : Form A} {old new : Place} {items after : List Item} {result : Result A ReadError} {w : List ℤ} {left rest : List Bool} {cell : Cell ℕ} {r : Refusal}
     → Walks reads_field form old items result new after → Reaches old.total form w left cell rest → left ≡ old.left → IsRefused cell old.total rest r
-    → IsRefusedWith result r (after ≡ items ++ items_along form w)
+    → IsRefusedWith result r ((new.left ≡ rest) × (after ≡ items ++ items_along form w))
 refusal ended reach same out = elim reach [ ]
 refusal (refused {e = errors.Memory} s) here same out = tt
 refusal {old} {items} {cell} {r} (refused {e = errors.Refused q} s) here same out =
-    (refused_once s.0 (subst (λ x. IsRefused cell old.total x r) same out), s.1 ∙ sym (append-nil items))
+    (refused_once s.0 (subst (λ x. IsRefused cell old.total x r) same out), (ap (λ (p : Place). p.left) s.1 ∙ sym same, s.2 ∙ sym (append-nil items)))
 refusal {old} {cell} {r} (coded s walk) here same out = absurd (stands_not_refused s.0 (subst (λ x. IsRefused cell old.total x r) same out))
 refusal (refused {e = errors.Memory} s) (later stands more) same out = tt
 refusal {form = field cell goes} {old} (refused {e = errors.Refused q} s) (later {v} {mid} stands more) same out =
     absurd (stands_not_refused (subst (λ x. Stands cell old.total v x mid) same stands) s.0)
-refusal {form = field cell goes} {old} {items} {after} {result} {rest} {cell = next} {r} (coded {d} {j} {v} s walk) (later {v = u} {w} {mid} stands more) same out =
+refusal {form = field cell goes} {old} {new} {items} {after} {result} {rest} {cell = next} {r} (coded {d} {j} {v} s walk) (later {v = u} {w} {mid} stands more) same out =
     let apart = begins_apart (subst (λ x. Stands cell old.total u x mid) same stands).code s.0.code in
     let on : Reaches d.total (goes v) w mid next rest = reaches_at old.total d.total (sym s.1) (subst (λ x. Reaches old.total (goes x) w mid next rest) apart.0 more) in
     let rec = refusal walk on apart.1 (refused_at old.total d.total (sym s.1) out) in
-    let here : IsRefusedWith result r (after ≡ items ++ items_along (field cell goes) (v ∷ w))
-    = refused_more result r (one_more cell goes items j after v w s.2) rec in
-    subst (λ x. IsRefusedWith result r (after ≡ items ++ items_along (field cell goes) (x ∷ w))) (sym apart.0) here
+    let here : IsRefusedWith result r ((new.left ≡ rest) × (after ≡ items ++ items_along (field cell goes) (v ∷ w)))
+    = refused_more result r (λ p. (p.0, one_more cell goes items j after v w s.2 p.1)) rec in
+    subst (λ x. IsRefusedWith result r ((new.left ≡ rest) × (after ≡ items ++ items_along (field cell goes) (x ∷ w)))) (sym apart.0) here
+
+-- the end to which a reader comes
+pub leads_to : {A : Type 0} {form : Form A} {old new : Place} {items after : List Item} {a : A} {w : List ℤ} {left rest : List Bool}
+    → Walks reads_field form old items (Ok a) new after → Spells old.total form w left rest → left ≡ old.left → Follows form w a
+leads_to ended at_end same = to_end
+leads_to {form = field cell goes} {old} {a} {rest} (coded {d} {v} s walk) (behind {v = u} {w} {mid} stands more) same =
+    let apart = begins_apart (subst (λ x. Stands cell old.total u x mid) same stands).code s.0.code in
+    let on : Spells d.total (goes v) w mid rest = spells_at old.total d.total (sym s.1) (subst (λ x. Spells old.total (goes x) w mid rest) apart.0 more) in
+    through (is_value stands) (subst (λ x. Follows (goes x) w a) (sym apart.0) (leads_to walk on apart.1))
+
+pub leads : {A B : Type 0} {form : Form A} {old new : Place} {items after : List Item} (a : A) (result : Result B ReadError)
+    → Walks reads_field form old items (leaving a result) new after → OnOk result (LeadsTo form old a)
+leads a (Ok b) walk = λ w rest spelled. leads_to walk spelled refl
+leads a (Err e) walk = tt
 
 -- Such a walk is a reader's answer.
 pub reads : {A B : Type 0} {form : Form A} {old new : Place} {items after : List Item} (a : A) (result : Result B ReadError)

@@ -35,13 +35,6 @@ unfolding HasCode magnitude
 golomb_number (pos v) has = (refl, has)
 golomb_number (negsuc v) has = absurd has
 
--- a bit of 1 and then an alignment are a one and zeros up to the boundary
-pub one_appended : (old mid new : List Bool) → mid ≡ old ++ fixed 1 1 → new ≡ mid ++ zeros_from (length mid) → new ≡ old ++ one_from (length old)
-unfolding fixed
-one_appended old mid new one zeros =
-    let place : length mid ≡ length old + 1 = omega (arith, ap length one, length-append old (true ∷ [])) in
-    rw (zeros, place, one) (append_assoc old (true ∷ []) (zeros_from (length old + 1)))
-
 -- one test after another
 pub chain : {P Q R : Type 0} → P ↔ Q → Q ↔ R → P ↔ R
 chain f g = (λ p. g.0 (f.0 p), λ r. f.1 (g.1 r))

@@ -1,55 +1,127 @@
 -- A walk of a writer appends the spelling.
-use Rattle.std.proofs.Common.{◌≡◌, ℕ, ℤ, ◌+◌, ◌-◌, Bool, List, [], ◌++◌, length, Result, Ok, Err, refl, ap, sym, subst, ◌∙◌, arith}
+use Rattle.std.proofs.Common.{◌≡◌, ℕ, ℤ, ◌+◌, Bool, List, [], ◌∷◌, ◌++◌, length, Result, Ok, Err, refl, ap, sym, subst, ◌∙◌, arith}
+use Rattle.std.specs.Prelude.{OnOk}
 use Rattle.std.proofs.lemmas.List.{append-nil, append_assoc, length-append}
 use Rattle.vx_bits.specs.declared.list.Item.{Item}
 use Rattle.vx_table.specs.declared.rows.Cell.{Cell}
 use Rattle.vx_table.specs.declared.writer.SpellError.{SpellError}
 use Rattle.vx_table.specs.declared.writer.SpellError.TheVariants as errors
-use Rattle.vx_table.specs.Forms.{Form, field}
+use Rattle.vx_table.specs.Forms.{Form, done, field}
 use Rattle.vx_table.specs.Walks.{Walks, ended, coded, refused, leaving}
-use Rattle.vx_table.specs.Spelling.{Stands, Spells, at_end, behind, code_of, item_of, items_along}
-use Rattle.vx_table.specs.Values.{IsValueOf}
-use Rattle.vx_table.specs.Writing.{writes_field, IsWritten, Writes}
+use Rattle.vx_table.specs.Spelling.{code_of, item_of, items_along}
+use Rattle.vx_table.specs.Values.{IsValueOf, Follows, to_end, through, ComesTo, at_field, past, bits_along}
+use Rattle.vx_table.specs.Laws.{ItemsApart}
+use Rattle.vx_table.specs.Writing.{writes_field, TellsNoValue, IsSpelled, HaltsAt, IsWritten, IsAccepted, IsRejected, AreItemsOf, Writes, ItemsLeadTo}
 use Rattle.vx_table.proofs.Items.{item_apart}
 
-written_more : {B P Q : Type 0} (result : Result B SpellError) → (P → Q) → IsWritten result P → IsWritten result Q
-written_more (Ok b) f p = f p
-written_more (Err errors.Memory) f p = tt
-written_more (Err errors.NoValue) f p = p
+-- the bits of a value and of those behind it
+bits_more : {A : Type 0} (cell : Cell ℕ) (goes : ℤ → Form A) (old mid new : List Bool) (v : ℤ) (w : List ℤ)
+    → mid ≡ old ++ code_of cell.coding (length old) v → new ≡ mid ++ bits_along (goes v) (length mid) w → new ≡ old ++ bits_along (field cell goes) (length old) (v ∷ w)
+bits_more cell goes old mid new v w first more =
+    let code : List Bool = code_of cell.coding (length old) v in
+    let place : length mid ≡ length old + length code = omega (arith, ap length first, length-append old code) in
+    more ∙ ap (λ at. mid ++ bits_along (goes v) at w) place ∙ ap (λ front. front ++ bits_along (goes v) (length old + length code) w) first ∙ append_assoc old code (bits_along (goes v) (length old + length code) w)
 
--- what stands is a value
-is_value : {cell : Cell ℕ} {total : ℕ} {v : ℤ} {left rest : List Bool} → Stands cell total v left rest → IsValueOf cell v
-is_value stands = record { code = stands.code.value; range = stands.range }
+-- and their items
+items_more : {A : Type 0} (cell : Cell ℕ) (goes : ℤ → Form A) (items between left : List Item) (v : ℤ) (w : List ℤ)
+    → items ≡ item_of cell v ++ between → between ≡ items_along (goes v) w ++ left → items ≡ items_along (field cell goes) (v ∷ w) ++ left
+items_more cell goes items between left v w first more = first ∙ ap (λ x. item_of cell v ++ x) more ∙ sym (append_assoc (item_of cell v) (items_along (goes v) w) left)
 
--- the bits of a value and those behind it
-appended : (cell : Cell ℕ) (v : ℤ) (old left mid new : List Bool) (total : ℕ) → total ≡ length old + length left → left ≡ code_of cell.coding (total - length left) v ++ mid
-    → new ≡ old ++ code_of cell.coding (length old) v → (total ≡ length new + length mid) × (new ++ mid ≡ old ++ left)
-appended cell v old left mid new total whole is gained =
-    let place : total - length left ≡ length old = omega arith in
-    let code = rw place at is in (
-      omega (arith, ap length gained, ap length code, length-append old (code_of cell.coding (length old) v), length-append (code_of cell.coding (length old) v) mid),
-      rw gained (append_assoc old (code_of cell.coding (length old) v) mid ∙ ap (λ x. old ++ x) (sym code)),
-    )
+-- what was written is spelled
+pub written : {A : Type 0} {form : Form A} {old new : List Bool} {items left : List Item} {a : A}
+    → Walks writes_field form old items (Ok a) new left → IsSpelled form old items new left a
+written {old} ended = record { values = []; follows = to_end; gained = sym (append-nil old); taken = refl }
+written {form = field cell goes} {old} {new} {items} {left} (coded {d} {j} {v} s walk) =
+    let more = written walk in
+    record {
+      values = v ∷ more.values;
+      follows = through s.0 more.follows;
+      gained = bits_more cell goes old d new v more.values s.1 more.gained;
+      taken = items_more cell goes items j left v more.values s.2 more.taken;
+    }
 
--- whatever the items are those of is spelled
-pub spelled : {A : Type 0} {form : Form A} {old new : List Bool} {items after : List Item} {result : Result A SpellError} {total : ℕ} {w : List ℤ} {left : List Bool} (more : List Item)
-    → Walks writes_field form old items result new after → Spells total form w left [] → total ≡ length old + length left → items ≡ items_along form w ++ more
-    → IsWritten result ((new ≡ old ++ left) × (after ≡ more))
-spelled {old} more ended at_end whole is = (sym (append-nil old), is)
-spelled more (refused {e = errors.Memory} s) (behind stands rest) whole is = tt
-spelled {form = field cell goes} more (refused {e = errors.NoValue} s) (behind {v} {w} stands rest) whole is =
-    s v (items_along (goes v) w ++ more) (is_value stands) (is ∙ append_assoc (item_of cell v) (items_along (goes v) w) more)
-spelled {form = field cell goes} {old} {new} {items} {after} {result} {total} {left} more (coded {d} {j} {v} s walk) (behind {v = u} {w} {mid} stands rest) whole is =
-    let same = item_apart cell {v = u} {w = v} (items_along (goes u) w ++ more) j stands.code.value s.0.code
-    (sym (is ∙ append_assoc (item_of cell u) (items_along (goes u) w) more) ∙ s.2) in
-    let bits : left ≡ code_of cell.coding (total - length left) v ++ mid = subst (λ x. left ≡ code_of cell.coding (total - length left) x ++ mid) same.0 stands.code.bits in
-    let gained = appended cell v old left mid d total whole bits s.1 in
-    let on : Spells total (goes v) w mid [] = subst (λ x. Spells total (goes x) w mid []) same.0 rest in
-    let ahead : j ≡ items_along (goes v) w ++ more = sym same.1 ∙ ap (λ x. items_along (goes x) w ++ more) same.0 in
-    written_more result (λ p. (p.0 ∙ gained.1, p.1)) (spelled more walk on gained.0 ahead)
+at_once : {A : Type 0} {cell : Cell ℕ} {goes : ℤ → Form A} {old new : List Bool} {items left : List Item} → new ≡ old → left ≡ items → HaltsAt (field cell goes) old items new left cell
+at_once {old} still same = record { values = []; comes = at_field; gained = still ∙ sym (append-nil old); taken = sym same }
 
-pub writes : {A B : Type 0} {form : Form A} {old new : List Bool} {items after : List Item} (a : A) (result : Result B SpellError)
-    → Walks writes_field form old items (leaving a result) new after → Writes form old items result new after
-writes a (Ok b) walk w bits more spells is = spelled more walk spells refl is
-writes a (Err errors.Memory) walk w bits more spells is = spelled more walk spells refl is
-writes a (Err errors.NoValue) walk w bits more spells is = spelled more walk spells refl is
+-- a longer front
+longer : {A : Type 0} {cell : Cell ℕ} {goes : ℤ → Form A} {old mid new : List Bool} {items between left : List Item} {v : ℤ} {next : Cell ℕ}
+    → IsValueOf cell v → mid ≡ old ++ code_of cell.coding (length old) v → items ≡ item_of cell v ++ between → HaltsAt (goes v) mid between new left next → HaltsAt (field cell goes) old items new left next
+longer {cell} {goes} {old} {mid} {new} {items} {between} {left} {v} is gained taken more = record {
+  values = v ∷ more.values;
+  comes = past is more.comes;
+  gained = bits_more cell goes old mid new v more.values gained more.gained;
+  taken = items_more cell goes items between left v more.values taken more.taken;
+}
+
+-- where memory runs out, a front was written
+pub interrupted : {A : Type 0} {form : Form A} {old new : List Bool} {items left : List Item}
+    → Walks {A = A} writes_field form old items (Err errors.Memory) new left → (cell : Cell ℕ) × HaltsAt form old items new left cell
+interrupted {form = done a} walk = elim walk [ ]
+interrupted {form = field cell goes} (refused s) = (cell, at_once s.0 s.1)
+interrupted {form = field cell goes} (coded s walk) = let more = interrupted walk in (more.0, longer s.0 s.1 s.2 more.1)
+
+-- and where the items are of no value
+pub stopped : {A : Type 0} {form : Form A} {old new : List Bool} {items left : List Item}
+    → Walks {A = A} writes_field form old items (Err errors.NoValue) new left → (cell : Cell ℕ) × HaltsAt form old items new left cell × TellsNoValue cell left
+stopped {form = done a} walk = elim walk [ ]
+stopped {form = field cell goes} (refused s) = (cell, at_once s.1 s.2, subst (λ x. TellsNoValue cell x) (sym s.2) s.0)
+stopped {form = field cell goes} (coded s walk) = let more = stopped walk in (more.0, longer s.0 s.1 s.2 more.1, more.2)
+
+-- ---- items tell their values
+
+apart : {A : Type 0} {form : Form A} {v w : List ℤ} {a b : A} (r s : List Item) → Follows form v a → Follows form w b → items_along form v ++ r ≡ items_along form w ++ s → (v ≡ w) × (r ≡ s) × (a ≡ b)
+apart r s to_end to_end same = (refl, same, refl)
+apart {form = field cell goes} {b} r s (through {v} {w} is more) (through {v = u} {w = us} other others) same =
+    let first = item_apart cell {v = v} {w = u} (items_along (goes v) w ++ r) (items_along (goes u) us ++ s) is.code other.code
+    (sym (append_assoc (item_of cell v) (items_along (goes v) w) r) ∙ same ∙ append_assoc (item_of cell u) (items_along (goes u) us) s) in
+    let ahead : items_along (goes v) w ++ r ≡ items_along (goes v) us ++ s = first.1 ∙ ap (λ x. items_along (goes x) us ++ s) (sym first.0) in
+    let on = apart r s more (subst (λ x. Follows (goes x) us b) (sym first.0) others) ahead in
+    let head = first.0 in
+    let tail = on.0 in
+    (cc (head, tail), on.1, on.2)
+
+pub items_apart : ItemsApart
+items_apart form v w a b r s follows others same = apart r s follows others same
+
+-- items of values that go on behind a front begin with those of a value of the next field
+goes_on : {A : Type 0} {form : Form A} {v w : List ℤ} {a : A} {cell : Cell ℕ} (left more : List Item) → ComesTo form v cell → Follows form w a → items_along form v ++ left ≡ items_along form w ++ more
+    → TellsNoValue cell left → ⊥
+goes_on {form = done e} left more comes follows same none = elim comes [ ]
+goes_on {form = field cell goes} left more at_field (through {v} {w} is rest) same none = none v (items_along (goes v) w ++ more) is (same ∙ append_assoc (item_of cell v) (items_along (goes v) w) more)
+goes_on {form = field cell goes} {a} left more (past {v} {w} is rest) (through {v = u} {w = us} other others) same none =
+    let first = item_apart cell {v = v} {w = u} (items_along (goes v) w ++ left) (items_along (goes u) us ++ more) is.code other.code
+    (sym (append_assoc (item_of cell v) (items_along (goes v) w) left) ∙ same ∙ append_assoc (item_of cell u) (items_along (goes u) us) more) in
+    let ahead : items_along (goes v) w ++ left ≡ items_along (goes v) us ++ more = first.1 ∙ ap (λ x. items_along (goes x) us ++ more) (sym first.0) in
+    goes_on left more rest (subst (λ x. Follows (goes x) us a) (sym first.0) others) ahead none
+
+-- ---- a writer's answer
+
+accepted : {A : Type 0} {form : Form A} {old new : List Bool} {items left : List Item} {a end : A} {values : List ℤ} {more : List Item} → IsSpelled form old items new left a → AreItemsOf form items values end more
+    → (new ≡ old ++ bits_along form (length old) values) × (left ≡ more) × (end ≡ a)
+accepted {form} {old} {left} {more} is of =
+    let same = apart left more is.follows of.follows (sym is.taken ∙ of.given) in
+    (is.gained ∙ ap (λ w. old ++ bits_along form (length old) w) same.0, same.1, sym same.2)
+
+pub writes : {A B : Type 0} {form : Form A} {old new : List Bool} {items left : List Item} (a : A) (result : Result B SpellError)
+    → Walks writes_field form old items (leaving a result) new left → Writes form old items result new left
+writes {left} a (Ok b) walk =
+    let is = written walk in
+    record {
+      is = (a, is);
+      only = λ values end more of. let same = accepted is of in (same.0, same.1);
+      none = λ others. others is.values a left (record { follows = is.follows; given = is.taken });
+    }
+writes a (Err errors.Memory) walk = record { is = interrupted walk; only = λ values end more of. tt; none = λ others. tt }
+writes {left} a (Err errors.NoValue) walk =
+    let is = stopped walk in
+    record {
+      is = is;
+      only = λ values end more of. goes_on left more is.1.comes of.follows (sym is.1.taken ∙ of.given) is.2;
+      none = λ others. tt;
+    }
+
+-- the end to which a writer comes
+pub leads : {A B : Type 0} {form : Form A} {old new : List Bool} {items left : List Item} (a : A) (result : Result B SpellError)
+    → Walks writes_field form old items (leaving a result) new left → OnOk result (ItemsLeadTo form items a)
+leads a (Ok b) walk = λ values other more of. (accepted (written walk) of).2
+leads a (Err e) walk = tt

@@ -1,9 +1,11 @@
 -- What holds of all tables.
-use Rattle.std.specs.Prelude.{◌≡◌, ℕ, ℤ, Bool, List}
+use Rattle.std.specs.Prelude.{◌≡◌, ◌↔◌, ◌⊎◌, ℕ, ℤ, ◌+◌, ◌-◌, ◌≤◌, Bool, List, ◌++◌, length}
+use Rattle.vx_bits.specs.declared.list.Item.{Item}
 use Rattle.vx_bits.specs.declared.refusal.Refusal.{Refusal}
 use Rattle.vx_table.specs.declared.rows.Cell.{Cell}
 use Rattle.vx_table.specs.Forms.{Form}
-use Rattle.vx_table.specs.Spelling.{Spells, Reaches, IsRefused}
+use Rattle.vx_table.specs.Spelling.{Spells, Reaches, IsRefused, items_along}
+use Rattle.vx_table.specs.Values.{Follows, bits_along, Closes}
 
 -- bits that begin with spellings of two values begin with one
 abbrev pub ReadsOneWay : Type 0
@@ -16,3 +18,30 @@ AnswersOneWay = (form : Form (List ℕ)) (total : ℕ) (v w : List ℤ) (left r 
     → Reaches total form v left cell r → IsRefused cell total r refusal
     → (Spells total form w left s → ⊥)
     × ((next : Cell ℕ) (other : Refusal) → Reaches total form w left next s → IsRefused next total s other → refusal ≡ other)
+
+-- whatever the bits, they begin with the spelling of some values, or the field behind a front of them is refused
+abbrev pub AnswersAlways : Type 0
+AnswersAlways = (form : Form (List ℕ)) (total : ℕ) (left : List Bool)
+    → ((values : List ℤ) × (rest : List Bool) × Spells total form values left rest)
+    ⊎ ((values : List ℤ) × (cell : Cell ℕ) × (rest : List Bool) × (refusal : Refusal) × Reaches total form values left cell rest × IsRefused cell total rest refusal)
+
+-- bits spell values exactly where the values follow the form and the bits are their codes, one behind another
+abbrev pub SpellsBothWays : Type 0
+SpellsBothWays = (form : Form (List ℕ)) (total : ℕ) (values : List ℤ) (left rest : List Bool) → length left ≤ total
+    → Spells total form values left rest
+    ↔ ((end : List ℕ) × Follows form values end × (left ≡ bits_along form (total - length left) values ++ rest) × Closes form (total - length left) values rest)
+
+-- values that follow the form are read back from their spelling, at every place and whatever follows that may follow
+abbrev pub ReadsBack : Type 0
+ReadsBack = (form : Form (List ℕ)) (place : ℕ) (values : List ℤ) (end : List ℕ) (rest : List Bool) → Follows form values end → Closes form place values rest
+    → Spells (place + length (bits_along form place values ++ rest)) form values (bits_along form place values ++ rest) rest
+
+-- two lists of bits that begin with spellings of values and are equal begin with one; so no spelling is a proper prefix of another
+abbrev pub SpellsApart : Type 0
+SpellsApart = (form : Form (List ℕ)) (place : ℕ) (v w : List ℤ) (a b : List ℕ) (r s : List Bool) → Follows form v a → Follows form w b
+    → bits_along form place v ++ r ≡ bits_along form place w ++ s → (v ≡ w) × (r ≡ s) × (a ≡ b)
+
+-- and two lists of items that begin with those of values and are equal begin with those of one
+abbrev pub ItemsApart : Type 0
+ItemsApart = (form : Form (List ℕ)) (v w : List ℤ) (a b : List ℕ) (r s : List Item) → Follows form v a → Follows form w b
+    → items_along form v ++ r ≡ items_along form w ++ s → (v ≡ w) × (r ≡ s) × (a ≡ b)

@@ -10,6 +10,7 @@ use Rattle.vx_bits.specs.Place.{Place, taken}
 use Rattle.vx_table.specs.declared.rows.Coding.{Coding}
 use Rattle.vx_table.specs.declared.rows.Cell.{Cell}
 use Rattle.vx_table.specs.Forms.{Form}
+use Rattle.vx_table.specs.Values.{Follows}
 use Rattle.vx_table.specs.Spelling.{Begins, Misses, Stands, Spells, Reaches, IsRefused, item_of, items_along}
 
 -- What taking the code of one field answers.
@@ -17,11 +18,11 @@ abbrev pub takes_code : Coding ℕ → Place → Result ℤ BitCause → Place �
 takes_code coding old (Ok v) new = Begins coding old.total v old.left new.left × (new.total ≡ old.total)
 takes_code coding old (Err cause) new = Misses coding (taken old) old.left cause × (new ≡ old)
 
--- What a reader does at one field.
+-- What a reader does at one field: where it answers an error, it stands there still.
 abbrev pub reads_field : Place → List Item → Cell ℕ → Result ℤ ReadError → Place → List Item → Type 0
 reads_field old items cell (Ok v) new after = Stands cell old.total v old.left new.left × (new.total ≡ old.total) × (after ≡ items ++ item_of cell v)
-reads_field old items cell (Err errors.Memory) new after = after ≡ items
-reads_field old items cell (Err (errors.Refused r)) new after = IsRefused cell old.total old.left r × (after ≡ items)
+reads_field old items cell (Err errors.Memory) new after = (new ≡ old) × (after ≡ items)
+reads_field old items cell (Err (errors.Refused r)) new after = IsRefused cell old.total old.left r × (new ≡ old) × (after ≡ items)
 
 -- The bits between the two places are the spelling of values of the form, and their items were gained.
 pub record IsFound {A : Type 0} (form : Form A) (old : Place) (items : List Item) (new : Place) (after : List Item) : Type 0 where
@@ -30,24 +31,24 @@ pub record IsFound {A : Type 0} (form : Form A) (old : Place) (items : List Item
   pub total : new.total ≡ old.total
   pub gained : after ≡ items ++ items_along form values
 
--- The longest front of the bits that follows the form ends where this field comes next, and the items of the front were gained.
-pub record StopsAt {A : Type 0} (form : Form A) (old : Place) (items after : List Item) (cell : Cell ℕ) (rest : List Bool) : Type 0 where
+-- The bits between the two places are a front of the form's, behind which this field comes next, and the items of the front were gained.
+pub record StopsAt {A : Type 0} (form : Form A) (old : Place) (items : List Item) (new : Place) (after : List Item) (cell : Cell ℕ) : Type 0 where
   pub values : List ℤ
-  pub reached : Reaches old.total form values old.left cell rest
+  pub reached : Reaches old.total form values old.left cell new.left
+  pub total : new.total ≡ old.total
   pub gained : after ≡ items ++ items_along form values
 
 -- The field that comes next is refused there.
-pub record IsFirstRefusal {A : Type 0} (form : Form A) (old : Place) (items after : List Item) (r : Refusal) : Type 0 where
+pub record IsFirstRefusal {A : Type 0} (form : Form A) (old : Place) (items : List Item) (new : Place) (after : List Item) (r : Refusal) : Type 0 where
   pub cell : Cell ℕ
-  pub rest : List Bool
-  pub stops : StopsAt form old items after cell rest
-  pub refused : IsRefused cell old.total rest r
+  pub stops : StopsAt form old items new after cell
+  pub refused : IsRefused cell old.total new.left r
 
--- What a reader of a form answers, and what the items are then.
+-- What a reader of a form answers, and where it and the items are then.
 abbrev pub IsRead : {A B : Type 0} → Form A → Place → List Item → Result B ReadError → Place → List Item → Type 0
 IsRead form old items (Ok b) new after = IsFound form old items new after
-IsRead form old items (Err errors.Memory) new after = (cell : Cell ℕ) × (rest : List Bool) × StopsAt form old items after cell rest
-IsRead form old items (Err (errors.Refused r)) new after = IsFirstRefusal form old items after r
+IsRead form old items (Err errors.Memory) new after = (cell : Cell ℕ) × StopsAt form old items new after cell
+IsRead form old items (Err (errors.Refused r)) new after = IsFirstRefusal form old items new after r
 
 -- What a reader answers for values that the bits spell.
 abbrev pub IsAnswered : {B : Type 0} → Result B ReadError → Type 0 → Type 0
@@ -68,9 +69,13 @@ pub record Reads {A B : Type 0} (form : Form A) (old : Place) (items : List Item
   -- whatever the bits begin with the spelling of is answered, and exactly that is taken;
   pub only : (values : List ℤ) (rest : List Bool) → Spells old.total form values old.left rest
       → IsAnswered result ((new.left ≡ rest) × (after ≡ items ++ items_along form values))
-  -- where the next field behind a front is refused, that is the refusal.
+  -- where the next field behind a front is refused, that is the refusal, and the reader stands at that field.
   pub refusal : (values : List ℤ) (cell : Cell ℕ) (rest : List Bool) (r : Refusal) → Reaches old.total form values old.left cell rest → IsRefused cell old.total rest r
-      → IsRefusedWith result r (after ≡ items ++ items_along form values)
+      → IsRefusedWith result r ((new.left ≡ rest) × (after ≡ items ++ items_along form values))
+
+-- The values that the bits begin with the spelling of go through the form to this end.
+abbrev pub LeadsTo : {A : Type 0} → Form A → Place → A → Type 0
+LeadsTo form old end = (values : List ℤ) (rest : List Bool) → Spells old.total form values old.left rest → Follows form values end
 
 -- bits at their front, all of them left
 abbrev pub at_front : List ℕ → Place

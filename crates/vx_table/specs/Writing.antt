@@ -1,27 +1,69 @@
 -- What a writer answers for a form: the spelling of the values whose items it is given.
-use Rattle.std.specs.Prelude.{◌≡◌, ℕ, ℤ, ◌+◌, Bool, List, [], ◌++◌, length, Result, Ok, Err}
+use Rattle.std.specs.Prelude.{◌≡◌, ℕ, ℤ, Bool, List, ◌++◌, length, Result, Ok, Err}
 use Rattle.vx_bits.specs.declared.list.Item.{Item}
 use Rattle.vx_table.specs.declared.rows.Cell.{Cell}
 use Rattle.vx_table.specs.declared.writer.SpellError.{SpellError}
 use Rattle.vx_table.specs.declared.writer.SpellError.TheVariants as errors
 use Rattle.vx_table.specs.Forms.{Form}
-use Rattle.vx_table.specs.Spelling.{code_of, Spells, item_of, items_along}
-use Rattle.vx_table.specs.Values.{IsValueOf}
+use Rattle.vx_table.specs.Spelling.{code_of, item_of, items_along}
+use Rattle.vx_table.specs.Values.{IsValueOf, Follows, ComesTo, bits_along}
 
--- What a writer does at one field.
+-- The items that come next are those of no value of the field.
+abbrev pub TellsNoValue : Cell ℕ → List Item → Type 0
+TellsNoValue cell items = (v : ℤ) (more : List Item) → IsValueOf cell v → items ≡ item_of cell v ++ more → ⊥
+
+-- What a writer does at one field: where it answers an error, bits and items are as they were.
 abbrev pub writes_field : List Bool → List Item → Cell ℕ → Result ℤ SpellError → List Bool → List Item → Type 0
 writes_field old items cell (Ok v) new left = IsValueOf cell v × (new ≡ old ++ code_of cell.coding (length old) v) × (items ≡ item_of cell v ++ left)
-writes_field old items cell (Err errors.Memory) new left = Unit {0}
-writes_field old items cell (Err errors.NoValue) new left = (v : ℤ) (more : List Item) → IsValueOf cell v → items ≡ item_of cell v ++ more → ⊥
+writes_field old items cell (Err errors.Memory) new left = (new ≡ old) × (left ≡ items)
+writes_field old items cell (Err errors.NoValue) new left = TellsNoValue cell items × (new ≡ old) × (left ≡ items)
+
+-- The bits have gained the spelling of values that go through the form to this end, and the values' items were taken.
+pub record IsSpelled {A : Type 0} (form : Form A) (old : List Bool) (items : List Item) (new : List Bool) (left : List Item) (end : A) : Type 0 where
+  pub values : List ℤ
+  pub follows : Follows form values end
+  pub gained : new ≡ old ++ bits_along form (length old) values
+  pub taken : items ≡ items_along form values ++ left
+
+-- The bits have gained the spelling of values up to this field, which comes next, and the values' items were taken.
+pub record HaltsAt {A : Type 0} (form : Form A) (old : List Bool) (items : List Item) (new : List Bool) (left : List Item) (cell : Cell ℕ) : Type 0 where
+  pub values : List ℤ
+  pub comes : ComesTo form values cell
+  pub gained : new ≡ old ++ bits_along form (length old) values
+  pub taken : items ≡ items_along form values ++ left
+
+-- What a writer of a form answers, and what the bits and the items are then.
+abbrev pub IsWritten : {A B : Type 0} → Form A → List Bool → List Item → Result B SpellError → List Bool → List Item → Type 0
+IsWritten {A} form old items (Ok b) new left = (end : A) × IsSpelled form old items new left end
+IsWritten form old items (Err errors.Memory) new left = (cell : Cell ℕ) × HaltsAt form old items new left cell
+IsWritten form old items (Err errors.NoValue) new left = (cell : Cell ℕ) × HaltsAt form old items new left cell × TellsNoValue cell left
 
 -- What a writer answers for items of values.
-abbrev pub IsWritten : {B : Type 0} → Result B SpellError → Type 0 → Type 0
-IsWritten (Ok b) P = P
-IsWritten (Err errors.Memory) P = Unit {0}
-IsWritten (Err errors.NoValue) P = ⊥
+abbrev pub IsAccepted : {B : Type 0} → Result B SpellError → Type 0 → Type 0
+IsAccepted (Ok b) P = P
+IsAccepted (Err errors.Memory) P = Unit {0}
+IsAccepted (Err errors.NoValue) P = ⊥
 
--- Where the items begin with those of values that some bits spell, these bits are appended, unless memory runs out.
-abbrev pub Writes : {A B : Type 0} → Form A → List Bool → List Item → Result B SpellError → List Bool → List Item → Type 0
-Writes form old items result new left = (values : List ℤ) (bits : List Bool) (more : List Item)
-    → Spells (length old + length bits) form values bits [] → items ≡ items_along form values ++ more
-    → IsWritten result ((new ≡ old ++ bits) × (left ≡ more))
+-- What a writer answers for other items.
+abbrev pub IsRejected : {B : Type 0} → Result B SpellError → Type 0
+IsRejected (Ok b) = ⊥
+IsRejected (Err e) = Unit {0}
+
+-- The items begin with those of these values, which go through the form to this end.
+pub record AreItemsOf {A : Type 0} (form : Form A) (items : List Item) (values : List ℤ) (end : A) (more : List Item) : Type 0 where
+  pub follows : Follows form values end
+  pub given : items ≡ items_along form values ++ more
+
+-- A writer's answer, whole, unless memory runs out:
+pub record Writes {A B : Type 0} (form : Form A) (old : List Bool) (items : List Item) (result : Result B SpellError) (new : List Bool) (left : List Item) : Type 0 where
+  -- what it answers is so;
+  pub is : IsWritten form old items result new left
+  -- where the items begin with those of values that follow the form, these are spelled, and exactly their items taken;
+  pub only : (values : List ℤ) (end : A) (more : List Item) → AreItemsOf form items values end more
+      → IsAccepted result ((new ≡ old ++ bits_along form (length old) values) × (left ≡ more))
+  -- where they begin with those of no values that follow it, no value is written.
+  pub none : ((values : List ℤ) (end : A) (more : List Item) → AreItemsOf form items values end more → ⊥) → IsRejected result
+
+-- The values whose items the items begin with go through the form to this end.
+abbrev pub ItemsLeadTo : {A : Type 0} → Form A → List Item → A → Type 0
+ItemsLeadTo {A} form items end = (values : List ℤ) (other : A) (more : List Item) → AreItemsOf form items values other more → other ≡ end

@@ -1,5 +1,5 @@
 //! Laws of all tables: functions that do nothing, each with a law as its contract.
-ghost use Rattle.vx_table.specs.Laws.{ReadsOneWay, AnswersOneWay};
+ghost use Rattle.vx_table.specs.Laws.{ReadsOneWay, AnswersOneWay, AnswersAlways, SpellsBothWays, ReadsBack, SpellsApart, ItemsApart};
 
 /// Bits that begin with a spelling tell the values and what follows.
 pub fn one_reading()
@@ -9,4 +9,29 @@ pub fn one_reading()
 /// Bits that begin with a spelling aren't refused, and bits are refused in one way.
 pub fn one_answer()
     ensures { AnswersOneWay }
+{}
+
+/// Whatever the bits, they begin with a spelling, or a field is refused behind a front of them.
+pub fn every_answer()
+    ensures { AnswersAlways }
+{}
+
+/// To be spelled by bits is to follow the form, and the bits are the codes, one behind another.
+pub fn spelled_both_ways()
+    ensures { SpellsBothWays }
+{}
+
+/// Values that follow the form are read back from their spelling, whatever follows that may follow.
+pub fn read_back()
+    ensures { ReadsBack }
+{}
+
+/// No spelling of values is a proper prefix of another's.
+pub fn no_proper_prefix()
+    ensures { SpellsApart }
+{}
+
+/// Items tell the values that are written, and what follows.
+pub fn one_writing()
+    ensures { ItemsApart }
 {}

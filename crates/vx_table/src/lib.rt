@@ -18,7 +18,10 @@ mod tests;
 mod walk;
 mod writer;
 
-pub use laws::{one_answer, one_reading};
+pub use laws::{
+    every_answer, no_proper_prefix, one_answer, one_reading, one_writing, read_back,
+    spelled_both_ways,
+};
 pub use parts::{Part, code_parts, read_parts, write_parts};
 pub use reader::{read_table, read_value};
 pub use rows::{Cell, Coding, Fault, Formula, Limits, Row, Term};

@@ -1,10 +1,10 @@
 //! A structure of several tables, some of them on a condition.
 
-ghost use Rattle.std.specs.Prelude.{◌≡◌};
+ghost use Rattle.std.specs.Prelude.{◌≡◌, OnOk};
 ghost use Rattle.vx_table.specs.Walks.{Walks, leaving};
 ghost use Rattle.vx_table.specs.Parts.{part_form, parts_form};
-ghost use Rattle.vx_table.specs.Reading.{Reads};
-ghost use Rattle.vx_table.specs.Writing.{Writes};
+ghost use Rattle.vx_table.specs.Reading.{Reads, LeadsTo};
+ghost use Rattle.vx_table.specs.Writing.{Writes, ItemsLeadTo};
 
 use crate::rows::{Formula, Row};
 use crate::scope::Scope;
@@ -57,14 +57,16 @@ pub fn code_parts<I, C: Coder<I>>(
 ///
 /// # Errors
 ///
-/// The first refusal, or want of memory. `items` has then gained the fields read before.
+/// The first refusal, or want of memory. `items` has then gained the fields read before, and `bits` stands at the
+/// field that comes next.
 pub fn read_parts(
     parts: &[Part<'_>],
     scope: &mut Scope,
     bits: &mut BitReader<'_>,
     items: &mut Fields,
 ) -> Result<(), ReadError>
-    ensures { Reads (parts_form parts.now scope.old) bits.old items.old result bits.new items.new }
+    ensures answer { Reads (parts_form parts.now scope.old) bits.old items.old result bits.new items.new }
+    ensures scope { OnOk result (LeadsTo (parts_form parts.now scope.old) bits.old scope.new) }
 {
     code_parts(parts, scope, bits, items)
 }
@@ -73,14 +75,16 @@ pub fn read_parts(
 ///
 /// # Errors
 ///
-/// `NoValue` where the items aren't those of a value of the structure; want of memory.
+/// `NoValue` where the items don't begin with those of a value of the structure; want of memory. `bits` has then gained
+/// the spelling of the fields before one, and `items` begins with what was to be written there.
 pub fn write_parts(
     parts: &[Part<'_>],
     scope: &mut Scope,
     bits: &mut BitWriter,
     items: &mut Unwritten<'_>,
 ) -> Result<(), SpellError>
-    ensures { Writes (parts_form parts.now scope.old) bits.old items.old result bits.new items.new }
+    ensures answer { Writes (parts_form parts.now scope.old) bits.old items.old result bits.new items.new }
+    ensures scope { OnOk result (ItemsLeadTo (parts_form parts.now scope.old) items.old scope.new) }
 {
     code_parts(parts, scope, bits, items)
 }

@@ -5,7 +5,7 @@ ghost use Rattle.vx_bits.specs.Place.{taken};
 ghost use Rattle.vx_table.specs.Forms.{form_of};
 ghost use Rattle.vx_table.specs.Spelling as spelling;
 ghost use Rattle.vx_table.specs.Spelling.{IsCodable};
-ghost use Rattle.vx_table.specs.Reading.{takes_code, reads_field, Reads, ReadsValue};
+ghost use Rattle.vx_table.specs.Reading.{takes_code, reads_field, at_front, Reads, ReadsValue, LeadsTo};
 
 use crate::rows::{Cell, Coding, Fault, Limits, Row};
 use crate::scope::Scope;
@@ -99,7 +99,8 @@ impl<'a> Coder<Fields> for BitReader<'a> {
 
     fn code(&mut self, items: &mut Fields, cell: Cell<u32>) -> Result<i64, ReadError> {
         let bit = self.at();
-        let value = match take_code(self, cell.coding) {
+        let mut behind = self.fork();
+        let value = match take_code(&mut behind, cell.coding) {
             Ok(value) => value,
             Err(cause) => return Err(syntax(cell.field, bit, cause)),
         };
@@ -107,6 +108,7 @@ impl<'a> Coder<Fields> for BitReader<'a> {
             return Err(ReadError::Refused(report(fault, cell.field, bit)));
         }
         push(items, cell, value)?;
+        *self = behind;
         Ok(value)
     }
 }
@@ -131,14 +133,16 @@ fn push(items: &mut Fields, cell: Cell<u32>, value: i64) -> Result<(), ReadError
 ///
 /// # Errors
 ///
-/// The first refusal, or want of memory. `items` has then gained the fields read before.
+/// The first refusal, or want of memory. `items` has then gained the fields read before, and `bits` stands at the
+/// field that comes next.
 pub fn read_table(
     table: &[Row],
     scope: &mut Scope,
     bits: &mut BitReader<'_>,
     items: &mut Fields,
 ) -> Result<(), ReadError>
-    ensures { Reads (form_of table.now scope.old) bits.old items.old result bits.new items.new }
+    ensures answer { Reads (form_of table.now scope.old) bits.old items.old result bits.new items.new }
+    ensures scope { OnOk result (LeadsTo (form_of table.now scope.old) bits.old scope.new) }
 {
     code_table(table, scope, bits, items)
 }
@@ -155,7 +159,8 @@ pub fn read_value(
     rbsp: &[u8],
 ) -> Result<Fields, ReadError>
     requires { length rbsp.now ≤ 2 ^ 23 }
-    ensures { ReadsValue (form_of table.now scope.old) rbsp.now result }
+    ensures answer { ReadsValue (form_of table.now scope.old) rbsp.now result }
+    ensures scope { OnOk result (LeadsTo (form_of table.now scope.old) (at_front rbsp.now) scope.new) }
 {
     let mut bits = BitReader::new(rbsp);
     let mut items = Fields::new(alloc);

@@ -1,13 +1,12 @@
 //! Writing by a table: items to bits.
 
-ghost use Rattle.std.specs.Prelude.{◌≡◌, ◌↔◌, ℕ, ℤ, pos, ◌≤ℤ◌, ◌^◌, ◌<◌, ◌+◌, ◌-◌, ◌≤◌, List, ◌∷◌, ◌++◌, [], length, take, drop, IsTrue, OnOk, MatchOption};
+ghost use Rattle.std.specs.Prelude.{◌≡◌, ◌↔◌, ℕ, ℤ, pos, ◌≤ℤ◌, ◌^◌, ◌<◌, ◌+◌, ◌-◌, ◌≤◌, List, ◌∷◌, ◌++◌, [], length, take, drop, IsTrue, OnOk, OnErr, MatchOption};
 ghost use Rattle.vx_bits.specs.declared.list.Item.{Item};
-ghost use Rattle.vx_bits.specs.Codes.{one_from};
 ghost use Rattle.vx_table.specs.Spelling.{IsCodable, HasCode, code_of};
 ghost use Rattle.vx_table.specs.Items.{tells_value};
 ghost use Rattle.vx_table.specs.Values.{IsValueOf};
 ghost use Rattle.vx_table.specs.Forms.{form_of};
-ghost use Rattle.vx_table.specs.Writing.{Writes};
+ghost use Rattle.vx_table.specs.Writing.{Writes, ItemsLeadTo};
 
 use crate::reader::fault_of;
 use crate::rows::{Cell, Coding, Row};
@@ -55,6 +54,17 @@ impl<'a> Unwritten<'a> {
             items,
             at: from,
             end: to,
+        }
+    }
+
+    /// The same items, which are taken by themselves.
+    fn fork(&self) -> Unwritten<'a>
+        ensures { result ≡ self.now }
+    {
+        Unwritten {
+            items: self.items,
+            at: self.at,
+            end: self.end,
         }
     }
 
@@ -158,29 +168,21 @@ fn number(value: i64) -> u32
 ///
 /// # Errors
 ///
-/// Where memory runs out.
+/// Where memory runs out; the bits are then as they were.
 pub fn write_code(bits: &mut BitWriter, coding: Coding<u32>, value: i64) -> Result<(), AllocError>
     requires width { IsCodable coding }
     requires code { HasCode coding value }
-    ensures { OnOk result (bits.new ≡ bits.old ++ code_of coding (length bits.old) value) }
+    ensures ok { OnOk result (bits.new ≡ bits.old ++ code_of coding (length bits.old) value) }
+    ensures err { OnErr result (bits.new ≡ bits.old) }
 {
     match coding {
         Coding::Fixed(width) => bits.u(width, u64::from(number(value))),
         Coding::Golomb => bits.ue(number(value)),
         Coding::SignedGolomb => bits.se(value as i32),
         Coding::Zeros => bits.align(),
-        Coding::OneAndZeros | Coding::Trailing => append_one(bits),
+        Coding::OneAndZeros | Coding::Trailing => bits.align_after_one(),
         Coding::Absent | Coding::Refused => Ok(()),
     }
-}
-
-/// Appends a one, and zeros up to the byte boundary.
-fn append_one(bits: &mut BitWriter) -> Result<(), AllocError>
-    ensures { OnOk result (bits.new ≡ bits.old ++ one_from (length bits.old)) }
-{
-    bits.u(1, 1)?;
-    bits.align()?;
-    Ok(())
 }
 
 impl<'a> Coder<Unwritten<'a>> for BitWriter {
@@ -191,14 +193,18 @@ impl<'a> Coder<Unwritten<'a>> for BitWriter {
     ghost step = { writes_field };
 
     fn code(&mut self, items: &mut Unwritten<'a>, cell: Cell<u32>) -> Result<i64, SpellError> {
-        let Some(value) = next_value(items, cell.field, cell.coding) else {
+        let mut behind = items.fork();
+        let Some(value) = next_value(&mut behind, cell.field, cell.coding) else {
             return Err(SpellError::NoValue);
         };
         if !is_value(cell, value) {
             return Err(SpellError::NoValue);
         }
         match write_code(self, cell.coding, value) {
-            Ok(()) => Ok(value),
+            Ok(()) => {
+                *items = behind;
+                Ok(value)
+            }
             Err(_) => Err(SpellError::Memory),
         }
     }
@@ -208,14 +214,16 @@ impl<'a> Coder<Unwritten<'a>> for BitWriter {
 ///
 /// # Errors
 ///
-/// `NoValue` where the items aren't those of a value of the table; want of memory.
+/// `NoValue` where the items don't begin with those of a value of the table; want of memory. `bits` has then gained the
+/// spelling of the fields before one, and `items` begins with what was to be written there.
 pub fn write_table(
     table: &[Row],
     scope: &mut Scope,
     bits: &mut BitWriter,
     items: &mut Unwritten<'_>,
 ) -> Result<(), SpellError>
-    ensures { Writes (form_of table.now scope.old) bits.old items.old result bits.new items.new }
+    ensures answer { Writes (form_of table.now scope.old) bits.old items.old result bits.new items.new }
+    ensures scope { OnOk result (ItemsLeadTo (form_of table.now scope.old) items.old scope.new) }
 {
     code_table(table, scope, bits, items)
 }

@@ -37,9 +37,9 @@ se-requires c =
     let narrow = signed_fits c.args.value has in
     rw (to_z-of_z w64 c.args.value fits, to_z-of_z w32 c.args.value narrow) has
 
-pub returns-in-Fixed : goal.returns-in-Fixed
+pub returns-in-Fixed-clause-ok : goal.returns-in-Fixed-clause-ok
 unfolding code_of
-returns-in-Fixed c =
+returns-in-Fixed-clause-ok c =
     let fits : SFits w64 c.args.value = search rules in
     let has = fixed_number c.in-Fixed.width c.args.value (rw c.in-Fixed.is at c.requires.code) in
     let width : c.in-Fixed.width ≤ 32 = rw c.in-Fixed.is at c.requires.width in
@@ -47,29 +47,29 @@ returns-in-Fixed c =
     let is = c.number.ensures (magnitude c.args.value) (to_z-of_z w64 c.args.value fits ∙ has.0) (omega (arith, has.1)) in
     rw c.in-Fixed.is (rw (c.from.ensures, is) at c.u.ensures.ok)
 
-pub returns-in-Golomb : goal.returns-in-Golomb
+pub returns-in-Golomb-clause-ok : goal.returns-in-Golomb-clause-ok
 unfolding code_of
-returns-in-Golomb c =
+returns-in-Golomb-clause-ok c =
     let fits : SFits w64 c.args.value = search rules in
     let has = golomb_number c.args.value (rw c.in-Golomb.is at c.requires.code) in
     let is = c.number-in-Golomb.ensures (magnitude c.args.value) (to_z-of_z w64 c.args.value fits ∙ has.0) (omega (arith, has.1)) in
     rw c.in-Golomb.is (rw is at c.ue.ensures.ok)
 
-pub returns-in-SignedGolomb : goal.returns-in-SignedGolomb
+pub returns-in-SignedGolomb-clause-ok : goal.returns-in-SignedGolomb-clause-ok
 unfolding code_of
-returns-in-SignedGolomb c =
+returns-in-SignedGolomb-clause-ok c =
     let fits : SFits w64 c.args.value = search rules in
     let narrow = signed_fits c.args.value (rw c.in-SignedGolomb.is at c.requires.code) in
     rw c.in-SignedGolomb.is (rw (to_z-of_z w64 c.args.value fits, to_z-of_z w32 c.args.value narrow) at c.se.ensures.ok)
 
-pub returns-in-Zeros : goal.returns-in-Zeros
+pub returns-in-Zeros-clause-ok : goal.returns-in-Zeros-clause-ok
 unfolding code_of
-returns-in-Zeros c = rw c.in-Zeros.is c.align.ensures.ok
+returns-in-Zeros-clause-ok c = rw c.in-Zeros.is c.align.ensures.ok
 
-pub returns-in-OneAndZeros : goal.returns-in-OneAndZeros
+pub returns-in-OneAndZeros-clause-ok : goal.returns-in-OneAndZeros-clause-ok
 unfolding code_of
-returns-in-OneAndZeros c = elim c.in-OneAndZeros.is [ inl is ↦ rw is c.append_one.ensures | inr is ↦ rw is c.append_one.ensures ]
+returns-in-OneAndZeros-clause-ok c = elim c.in-OneAndZeros.is [ inl is ↦ rw is c.align_after_one.ensures.ok | inr is ↦ rw is c.align_after_one.ensures.ok ]
 
-pub returns-in-Absent : goal.returns-in-Absent
+pub returns-in-Absent-clause-ok : goal.returns-in-Absent-clause-ok
 unfolding code_of
-returns-in-Absent c = elim c.in-Absent.is [ inl is ↦ rw is (sym (append-nil _)) | inr is ↦ rw is (sym (append-nil _)) ]
+returns-in-Absent-clause-ok c = elim c.in-Absent.is [ inl is ↦ rw is (sym (append-nil _)) | inr is ↦ rw is (sym (append-nil _)) ]

@@ -1,0 +1,90 @@
+-- Spelling as a relation, and as the codes of values one behind another.
+use Rattle.std.proofs.Common.{◌≡◌, ℕ, ℤ, ◌+◌, ◌-◌, ◌≤◌, Bool, List, ◌∷◌, ◌++◌, length, refl, ap, sym, subst, ◌∙◌, arith}
+use Rattle.std.proofs.lemmas.List.{append_assoc, length-append}
+use Rattle.vx_table.specs.declared.rows.Cell.{Cell}
+use Rattle.vx_table.specs.Forms.{Form, field}
+use Rattle.vx_table.specs.Spelling.{Stands, Spells, at_end, behind, MayEnd, code_of}
+use Rattle.vx_table.specs.Values.{IsValueOf, Follows, to_end, through, bits_along, Closes}
+use Rattle.vx_table.specs.Laws.{SpellsBothWays, ReadsBack, SpellsApart}
+use Rattle.vx_table.proofs.Codings.{code_apart}
+
+-- What the bits before a rest are, where values are spelled by them.
+pub record IsSpelling {A : Type 0} (form : Form A) (place : ℕ) (values : List ℤ) (left rest : List Bool) : Type 0 where
+  pub end : A
+  pub follows : Follows form values end
+  pub bits : left ≡ bits_along form place values ++ rest
+  pub closes : Closes form place values rest
+
+-- what stands is a value
+pub is_value : {cell : Cell ℕ} {total : ℕ} {v : ℤ} {left rest : List Bool} → Stands cell total v left rest → IsValueOf cell v
+is_value stands = record { code = stands.code.value; range = stands.range }
+
+-- the place behind a code
+place_behind : (total : ℕ) (left code mid : List Bool) → length left ≤ total → left ≡ code ++ mid → (total - length mid ≡ total - length left + length code) × (length mid ≤ total)
+place_behind total left code mid within is = (omega (arith, ap length is, length-append code mid), omega (arith, ap length is, length-append code mid))
+
+-- one more value before those that are spelled
+one_before : {A : Type 0} {cell : Cell ℕ} {goes : ℤ → Form A} {total : ℕ} {v : ℤ} {w : List ℤ} {left mid rest : List Bool} → length left ≤ total
+    → Stands cell total v left mid → IsSpelling (goes v) (total - length left + length (code_of cell.coding (total - length left) v)) w mid rest → IsSpelling (field cell goes) (total - length left) (v ∷ w) left rest
+one_before {cell} {goes} {total} {v} {w} {left} {mid} {rest} within stands more =
+    let code : List Bool = code_of cell.coding (total - length left) v in
+    let behind_it : List Bool = bits_along (goes v) (total - length left + length code) w in record {
+      end = more.end;
+      follows = through (is_value stands) more.follows;
+      bits = stands.code.bits ∙ ap (λ x. code ++ x) more.bits ∙ sym (append_assoc code behind_it rest);
+      closes = (subst (λ x. MayEnd cell.coding x) more.bits stands.code.end, more.closes);
+    }
+
+-- what is spelled follows the form
+pub spelling : {A : Type 0} {total : ℕ} {form : Form A} {v : List ℤ} {left rest : List Bool} → Spells total form v left rest → length left ≤ total → IsSpelling form (total - length left) v left rest
+spelling (at_end {a} {rest}) within = record { end = a; follows = to_end; bits = refl; closes = tt }
+spelling {total} {form = field cell goes} {left} {rest} (behind {v} {w} {mid} stands more) within =
+    let next = place_behind total left (code_of cell.coding (total - length left) v) mid within stands.code.bits in
+    one_before within stands (subst (λ place. IsSpelling (goes v) place w mid rest) next.0 (spelling more next.1))
+
+-- and what follows it is spelled
+pub spelled_at : {A : Type 0} {form : Form A} {v : List ℤ} {a : A} (total place : ℕ) (rest : List Bool) → Follows form v a → Closes form place v rest → total ≡ place + length (bits_along form place v ++ rest)
+    → Spells total form v (bits_along form place v ++ rest) rest
+spelled_at total place rest to_end closes whole = at_end
+spelled_at {form = field cell goes} total place rest (through {v} {w} is more) closes whole =
+    let code : List Bool = code_of cell.coding place v in
+    let ahead : List Bool = bits_along (goes v) (place + length code) w in
+    let split : (code ++ ahead) ++ rest ≡ code ++ (ahead ++ rest) = append_assoc code ahead rest in
+    let size : length ((code ++ ahead) ++ rest) ≡ length code + length (ahead ++ rest) = omega (arith, ap length split, length-append code (ahead ++ rest)) in
+    let here : total - length ((code ++ ahead) ++ rest) ≡ place = omega (arith, whole, size) in
+    let stands : Stands cell total v ((code ++ ahead) ++ rest) (ahead ++ rest) = record {
+      code = record { value = is.code; bits = split ∙ ap (λ at. code_of cell.coding at v ++ (ahead ++ rest)) (sym here); end = closes.0 };
+      range = is.range;
+    } in
+    behind stands (spelled_at total (place + length code) rest more closes.1 (omega (arith, whole, size)))
+
+pub both_ways : SpellsBothWays
+both_ways form total values left rest within = (
+  λ spelled. let is = spelling spelled within in (is.end, is.follows, is.bits, is.closes),
+  λ (end, follows, bits, closes).
+      let whole : total ≡ total - length left + length (bits_along form (total - length left) values ++ rest) = omega (arith, within, ap length bits) in
+      subst (λ x. Spells total form values x rest) (sym bits) (spelled_at total (total - length left) rest follows closes whole),
+)
+
+pub reads_back : ReadsBack
+reads_back form place values end rest follows closes = spelled_at _ place rest follows closes refl
+
+-- equal bits are the spelling of equal values
+apart_at : {A : Type 0} {form : Form A} {v w : List ℤ} {a b : A} (place : ℕ) (r s : List Bool) → Follows form v a → Follows form w b → bits_along form place v ++ r ≡ bits_along form place w ++ s
+    → (v ≡ w) × (r ≡ s) × (a ≡ b)
+apart_at place r s to_end to_end same = (refl, same, refl)
+apart_at {form = field cell goes} {b} place r s (through {v} {w} is more) (through {v = u} {w = us} other others) same =
+    let code : List Bool = code_of cell.coding place v in
+    let code2 : List Bool = code_of cell.coding place u in
+    let ahead : List Bool = bits_along (goes v) (place + length code) w in
+    let ahead2 : List Bool = bits_along (goes u) (place + length code2) us in
+    let first = code_apart cell.coding place v u (ahead ++ r) (ahead2 ++ s) is.code other.code (sym (append_assoc code ahead r) ∙ same ∙ append_assoc code2 ahead2 s) in
+    let behind_it : ahead ++ r ≡ bits_along (goes v) (place + length code) us ++ s
+    = first.1 ∙ ap (λ x. bits_along (goes x) (place + length (code_of cell.coding place x)) us ++ s) (sym first.0) in
+    let on = apart_at (place + length code) r s more (subst (λ x. Follows (goes x) us b) (sym first.0) others) behind_it in
+    let head = first.0 in
+    let tail = on.0 in
+    (cc (head, tail), on.1, on.2)
+
+pub spells_apart : SpellsApart
+spells_apart form place v w a b r s follows others same = apart_at place r s follows others same
