@@ -5,7 +5,7 @@ use Rattle.vx_table.specs.declared.rows.Formula.{Formula}
 use Rattle.vx_table.specs.declared.rows.Coding.{Coding}
 use Rattle.vx_table.specs.declared.rows.Coding.TheVariants.{Fixed, Golomb, SignedGolomb, Zeros, OneAndZeros, Trailing, Absent, Refused}
 use Rattle.vx_table.specs.declared.rows.Limits.{Limits}
-use Rattle.vx_table.specs.declared.rows.Limits.TheVariants.{Any, Within, Multiple}
+use Rattle.vx_table.specs.declared.rows.Limits.TheVariants.{Any, Within, Below, Multiple}
 use Rattle.vx_table.specs.declared.rows.Cell.{Cell}
 use Rattle.vx_table.specs.declared.rows.Row.{Row}
 use Rattle.vx_table.specs.declared.rows.Row.TheVariants.{Field, When, Repeat, Name}
@@ -36,6 +36,7 @@ coding_at s Refused = Refused
 unfoldable pub limits_at : List ℕ → Limits Formula → Limits ℕ
 limits_at s Any = Any
 limits_at s (Within low high fault) = Within low (value s high) fault
+limits_at s (Below bound fault) = Below (value s bound) fault
 limits_at s (Multiple unit high fault) = Multiple unit high fault
 
 abbrev pub cell_at : List ℕ → Cell Formula → Cell ℕ

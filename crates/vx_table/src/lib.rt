@@ -19,7 +19,7 @@ mod walk;
 mod writer;
 
 pub use laws::{one_answer, one_reading};
-pub use parts::{Part, code_parts, read_parts, write_parts};
+pub use parts::{Part, Presence, code_parts, read_parts, write_parts};
 pub use reader::{read_table, read_value};
 pub use rows::{Cell, Coding, Fault, Formula, Limits, Row, Term};
 pub use scope::{NUMBERS, Scope};

@@ -1,4 +1,4 @@
-//! A structure of several tables, some of them on a condition.
+//! A structure of several tables, some of them on a condition or repeated.
 
 ghost use Rattle.std.specs.Prelude.{◌≡◌};
 ghost use Rattle.vx_table.specs.Walks.{Walks, leaving};
@@ -8,18 +8,28 @@ ghost use Rattle.vx_table.specs.Writing.{Writes};
 
 use crate::rows::{Formula, Row};
 use crate::scope::Scope;
-use crate::walk::{Coder, code_table};
+use crate::walk::{Coder, code_table, code_turns};
 use crate::writer::{SpellError, Unwritten};
 use vx_bits::{BitReader, BitWriter, Fields, ReadError};
 
-/// A table of a structure, and the formula that isn't 0 where it is present.
+/// How often a part of a structure is there.
+#[derive(Clone, Copy, Debug)]
+pub enum Presence {
+    /// Once where the formula isn't 0.
+    When(Formula),
+    /// This many times, with a counter from 0.
+    Repeat { counter: u16, times: Formula },
+}
+
+/// A table of a structure, and how often it is there.
 #[derive(Clone, Copy, Debug)]
 pub struct Part<'a> {
-    pub present: Formula,
+    pub presence: Presence,
     pub rows: &'a [Row],
 }
 
-/// Codes a part, where it is present.
+/// Codes a part as often as it is there.
+#[tactic(auto, unfolding(crate::specs::Parts::part_form))]
 fn code_part<I, C: Coder<I>>(
     part: &Part<'_>,
     scope: &mut Scope,
@@ -28,10 +38,18 @@ fn code_part<I, C: Coder<I>>(
 ) -> Result<(), C::Fault>
     ensures { Walks C.step (part_form part.now scope.old) coder.old items.old (leaving scope.new result) coder.new items.new }
 {
-    if scope.value(part.present) == 0 {
-        return Ok(());
+    match part.presence {
+        Presence::When(holds) => {
+            if scope.value(holds) == 0 {
+                return Ok(());
+            }
+            code_table(part.rows, scope, coder, items)
+        }
+        Presence::Repeat { counter, times } => {
+            let times = scope.value(times);
+            code_turns(part.rows, counter, times, scope, coder, items)
+        }
     }
-    code_table(part.rows, scope, coder, items)
 }
 
 /// Codes the parts of a structure in order.

@@ -64,6 +64,8 @@ pub enum Limits<N> {
     Any,
     /// From `low` to `high`; any other breaks the range by this name.
     Within { low: i32, high: N, fault: Fault },
+    /// From 0 up to, and without, `bound`: none where it is 0.
+    Below { bound: N, fault: Fault },
     /// A positive multiple of `unit`; above `high` the fault has this name.
     Multiple { unit: u32, high: u32, fault: Fault },
 }

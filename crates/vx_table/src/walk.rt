@@ -82,6 +82,10 @@ fn limits(scope: &Scope, limits: Limits<Formula>) -> Limits<u32>
             high: scope.value(high),
             fault,
         },
+        Limits::Below { bound, fault } => Limits::Below {
+            bound: scope.value(bound),
+            fault,
+        },
         Limits::Multiple { unit, high, fault } => Limits::Multiple { unit, high, fault },
     }
 }
@@ -196,7 +200,7 @@ pub fn code_table<I, C: Coder<I>>(
 
 /// Codes a block of rows so many times, with the number of the turn under the counter's name.
 #[cycle(walk)]
-fn code_turns<I, C: Coder<I>>(
+pub fn code_turns<I, C: Coder<I>>(
     block: &[Row],
     counter: u16,
     times: u32,
