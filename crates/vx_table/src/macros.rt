@@ -125,17 +125,19 @@ macro_rules! table {
     };
     (@ [$($done:tt)*] if $holds:tt { $($block:tt)* } $($rest:tt)*) => {
         $crate::table!(@ [$($done)*
-            $crate::Row::When {
-                holds: $crate::formula!($holds),
+            $crate::Row::Block {
+                presence: $crate::Presence::When($crate::formula!($holds)),
                 rows: $crate::table!(@ [] $($block)*).len(),
             },
         ] $($block)* $($rest)*)
     };
     (@ [$($done:tt)*] for $counter:ident in $times:tt { $($block:tt)* } $($rest:tt)*) => {
         $crate::table!(@ [$($done)*
-            $crate::Row::Repeat {
-                counter: $counter,
-                times: $crate::formula!($times),
+            $crate::Row::Block {
+                presence: $crate::Presence::Repeat {
+                    counter: $counter,
+                    times: $crate::formula!($times),
+                },
                 rows: $crate::table!(@ [] $($block)*).len(),
             },
         ] $($block)* $($rest)*)

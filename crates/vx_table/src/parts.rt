@@ -2,54 +2,21 @@
 
 ghost use Rattle.std.specs.Prelude.{◌≡◌};
 ghost use Rattle.vx_table.specs.Walks.{Walks, leaving};
-ghost use Rattle.vx_table.specs.Parts.{part_form, parts_form};
+ghost use Rattle.vx_table.specs.Parts.{parts_form};
 ghost use Rattle.vx_table.specs.Reading.{Reads};
 ghost use Rattle.vx_table.specs.Writing.{Writes};
 
-use crate::rows::{Formula, Row};
+use crate::rows::{Presence, Row};
 use crate::scope::Scope;
-use crate::walk::{Coder, code_table, code_turns};
+use crate::walk::{Coder, code_block};
 use crate::writer::{SpellError, Unwritten};
 use vx_bits::{BitReader, BitWriter, Fields, ReadError};
-
-/// How often a part of a structure is there.
-#[derive(Clone, Copy, Debug)]
-pub enum Presence {
-    /// Once where the formula isn't 0.
-    When(Formula),
-    /// This many times, with a counter from 0.
-    Repeat { counter: u16, times: Formula },
-}
 
 /// A table of a structure, and how often it is there.
 #[derive(Clone, Copy, Debug)]
 pub struct Part<'a> {
     pub presence: Presence,
     pub rows: &'a [Row],
-}
-
-/// Codes a part as often as it is there.
-#[tactic(auto, unfolding(crate::specs::Parts::part_form))]
-fn code_part<I, C: Coder<I>>(
-    part: &Part<'_>,
-    scope: &mut Scope,
-    coder: &mut C,
-    items: &mut I,
-) -> Result<(), C::Fault>
-    ensures { Walks C.step (part_form part.now scope.old) coder.old items.old (leaving scope.new result) coder.new items.new }
-{
-    match part.presence {
-        Presence::When(holds) => {
-            if scope.value(holds) == 0 {
-                return Ok(());
-            }
-            code_table(part.rows, scope, coder, items)
-        }
-        Presence::Repeat { counter, times } => {
-            let times = scope.value(times);
-            code_turns(part.rows, counter, times, scope, coder, items)
-        }
-    }
 }
 
 /// Codes the parts of a structure in order.
@@ -66,7 +33,7 @@ pub fn code_parts<I, C: Coder<I>>(
     ensures { Walks C.step (parts_form parts.now scope.old) coder.old items.old (leaving scope.new result) coder.new items.new }
 {
     for part in parts {
-        code_part(part, scope, coder, items)?;
+        code_block(part.presence, part.rows, scope, coder, items)?;
     }
     Ok(())
 }

@@ -48,8 +48,6 @@ const ENTRY: [Row; 1] = table! { 17 entry: u([TURN] + 1); };
 
 const AGAIN: [Row; 2] = table! { 18 again; let TURN = 2; };
 
-const CLOSE: [Row; 1] = table! { trailing 19; };
-
 /// A sixth structure takes its table and one call: forty plain rows.
 const PLAIN: [Row; 40] = table! {
     701 a: u(1); 702 b: u(2); 703 c: u(3); 704 d: u(4); 705 e: u(5); 706 f: u(6); 707 g: u(7); 708 h: u(8);
