@@ -1,3 +1,5 @@
+mod Dependence
+mod Agreeing
 pub mod Codings
 pub mod Items
 pub mod Numbers

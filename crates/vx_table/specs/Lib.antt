@@ -4,6 +4,7 @@ pub mod Walks
 pub mod Spelling
 pub mod Items
 pub mod Laws
+pub mod Depends
 pub mod Parts
 pub mod Reading
 pub mod Values

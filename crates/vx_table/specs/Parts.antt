@@ -1,12 +1,11 @@
 -- A structure of several tables.
-use Rattle.std.specs.Prelude.{ℕ, cond, ◌==◌, List, [], ◌∷◌}
+use Rattle.std.specs.Prelude.{ℕ, List, [], ◌∷◌}
 use Rattle.vx_table.specs.declared.parts.Part.{Part}
-use Rattle.vx_table.specs.Scope.{value}
-use Rattle.vx_table.specs.Forms.{Form, done, ◌>>=◌, form_of}
+use Rattle.vx_table.specs.Forms.{Form, done, ◌>>=◌, present, form_of}
 
--- a table where its formula isn't 0, and else nothing
-unfoldable pub part_form : Part → List ℕ → Form (List ℕ)
-part_form part s = cond (value s part.present == 0) (done s) (form_of part.rows.now s)
+-- a table as often as it is there
+abbrev pub part_form : Part → List ℕ → Form (List ℕ)
+part_form part = present part.presence (form_of part.rows.now)
 
 -- one part after another
 unfoldable pub parts_form : List Part → List ℕ → Form (List ℕ)
