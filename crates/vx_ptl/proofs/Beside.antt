@@ -1,7 +1,7 @@
 -- A run beside the form whose items it writes: at each field of bits it writes the gaps that the form had since the field before.
-use Rattle.std.proofs.Common.{◌≡◌, ℕ, ℤ, zero, suc, ◌+◌, Bool, true, false, List, [], ◌∷◌, ◌++◌, length, slice_set, Some, refl, ap, sym, ◌∙◌, arith}
-use Rattle.std.specs.Prelude.{All, ◌==◌}
-use Rattle.std.proofs.lemmas.List.{append_assoc, append-nil, length-append}
+use Rattle.std.proofs.Common.{◌≡◌, ℕ, ℤ, zero, suc, ◌+◌, Bool, true, false, List, [], ◌∷◌, ◌++◌, length, slice_set, Some, refl, arith}
+use Rattle.std.specs.Prelude.{All}
+use Rattle.std.proofs.lemmas.List.{append_assoc, length-append}
 use Rattle.std.proofs.lemmas.List.Elements.{All-cons, All-nil}
 use Rattle.vx_bits.specs.declared.list.Item.{Item}
 use Rattle.vx_table.specs.declared.rows.Cell.{Cell}
@@ -48,7 +48,7 @@ unfolding turns
 runs_turns keep block counter turn zero s before place gaps each at = at
 runs_turns keep block counter turn (suc more) s before place gaps each at =
     runs_on keep keep (block (slice_set s counter turn)) (turns block counter (turn + 1) more) before place gaps
-        (λ t b p g now. runs_turns keep block counter (turn + 1) more t b p g each now) (each _ before place gaps at)
+    (λ t b p g now. runs_turns keep block counter (turn + 1) more t b p g each now) (each _ before place gaps at)
 
 -- an item's bits are the gaps and its code
 item_is : (cell : Cell ℕ) (v : ℤ) (before place at : ℕ) (gaps : List Bool) → at ≡ place + length gaps → field_coding cell.field ≡ Some cell.coding → gap before cell.field place ≡ gaps
@@ -80,9 +80,10 @@ item_spelled : {A : Type 0} (cell : Cell ℕ) (goes : ℤ → Form A) (v : ℤ) 
     → has_value cell.coding ≡ true → field_coding cell.field ≡ Some cell.coding → gap before cell.field place ≡ gaps
     → All IsRunItem (items_along (goes v) w) × (run_bits cell.field (at + length (code_of cell.coding at v)) (items_along (goes v) w) ≡ bits_along (goes v) (at + length (code_of cell.coding at v)) w)
     → All IsRunItem (items_along (field cell goes) (v ∷ w)) × (run_bits before place (items_along (field cell goes) (v ∷ w)) ≡ gaps ++ bits_along (field cell goes) at (v ∷ w))
-item_spelled cell goes v w before place at gaps here code has coded gapped rest =
-    (item_runs cell v (items_along (goes v) w) has coded code rest.0,
-    run_item cell v (items_along (goes v) w) before place at gaps (bits_along (goes v) (at + length (code_of cell.coding at v)) w) here has coded gapped rest.1)
+item_spelled cell goes v w before place at gaps here code has coded gapped rest = (
+  item_runs cell v (items_along (goes v) w) has coded code rest.0,
+  run_item cell v (items_along (goes v) w) before place at gaps (bits_along (goes v) (at + length (code_of cell.coding at v)) w) here has coded gapped rest.1,
+)
 
 -- a gap has no item
 gap_spelled : {A : Type 0} (cell : Cell ℕ) (goes : ℤ → Form A) (v : ℤ) (w : List ℤ) (before place at : ℕ) (gaps : List Bool) → has_value cell.coding ≡ false
@@ -98,10 +99,11 @@ pub spelled : {A : Type 0} (form : Form A) (values : List ℤ) (a : A) (before p
 unfolding run_bits
 spelled _ _ a before place at gaps here to_end runs = (All-nil IsRunItem, rw runs refl)
 spelled _ _ a before place at gaps here (through {cell} {goes} {v} {w} value follows) runs = elim (runs v value.code) [
-    written has coded gapped next ↦
-        let even : at + length (code_of cell.coding at v) ≡ (place + length gaps + length (code_of cell.coding (place + length gaps) v)) + length {A = Bool} [] = rw here (omega arith) in
-        let rest = spelled (goes v) w a _ _ (at + length (code_of cell.coding at v)) [] even follows next in
-        item_spelled cell goes v w before place at gaps here value.code has coded gapped (rest.0, rw (← here) at rest.1)
-    | owed none next ↦
-        let even : at + length (code_of cell.coding at v) ≡ place + length (gaps ++ code_of cell.coding at v) = omega (arith, length-append gaps (code_of cell.coding at v)) in
-        gap_spelled cell goes v w before place at gaps none (spelled (goes v) w a before place (at + length (code_of cell.coding at v)) (gaps ++ code_of cell.coding at v) even follows (rw here next)) ]
+  | written has coded gapped next ↦
+      let even : at + length (code_of cell.coding at v) ≡ (place + length gaps + length (code_of cell.coding (place + length gaps) v)) + length {A = Bool} [] = rw here (omega arith) in
+      let rest = spelled (goes v) w a _ _ (at + length (code_of cell.coding at v)) [] even follows next in
+      item_spelled cell goes v w before place at gaps here value.code has coded gapped (rest.0, rw (← here) at rest.1)
+  | owed none next ↦
+      let even : at + length (code_of cell.coding at v) ≡ place + length (gaps ++ code_of cell.coding at v) = omega (arith, length-append gaps (code_of cell.coding at v)) in
+      gap_spelled cell goes v w before place at gaps none (spelled (goes v) w a before place (at + length (code_of cell.coding at v)) (gaps ++ code_of cell.coding at v) even follows (rw here next))
+]

@@ -1,9 +1,6 @@
 -- The run beside each of the tables.
-use Rattle.std.proofs.Common.{◌≡◌, ℕ, ℤ, zero, suc, ◌+◌, ◌-◌, ◌%◌, min, Bool, true, false, List, [], ◌∷◌, ◌++◌, length, take, drop, slice_set, replicate, Some, refl, ap, sym, ◌∙◌, arith, rules}
+use Rattle.std.proofs.Common.{◌≡◌, ℕ, ℤ, zero, suc, ◌-◌, min, Bool, true, false, List, [], ◌∷◌, length, take, drop, slice_set, Some, refl}
 use Rattle.std.specs.Prelude.{◌==◌, cond}
-use Rattle.std.proofs.lemmas.List.{length-append, length-replicate}
-use Rattle.vx_bits.specs.Codes.{to_boundary, zeros_from}
-use Rattle.vx_bits.proofs.Bits.{length-fixed}
 use Rattle.vx_table.specs.declared.rows.Formula.{Formula}
 use Rattle.vx_table.specs.declared.rows.Coding.{Coding}
 use Rattle.vx_table.specs.declared.rows.Coding.TheVariants.{Fixed, Golomb, SignedGolomb, Zeros, OneAndZeros, Trailing, Absent, Refused}
@@ -11,12 +8,11 @@ use Rattle.vx_table.specs.declared.rows.Cell.{Cell}
 use Rattle.vx_table.specs.declared.rows.Row.{Row}
 use Rattle.vx_table.specs.declared.rows.Row.TheVariants.{Field, When, Repeat, Name}
 use Rattle.vx_table.specs.Scope.{value}
-use Rattle.vx_table.specs.Forms.{Form, done, field, ◌>>=◌, coding_at, cell_at, has_value, one_field, after, turns, part, form_of}
-use Rattle.vx_table.specs.Spelling.{HasCode, code_of}
+use Rattle.vx_table.specs.Forms.{Form, coding_at, cell_at, has_value, one_field, turns, part, form_of}
+use Rattle.vx_table.specs.Spelling.{HasCode}
 use Rattle.vx_table.proofs.Blocks.{form-field, form-name, form-drop, form-repeat}
-use Rattle.vx_ptl.specs.declared.tables.TheConstants.{PTL, DPB, TIMING, SUBLAYER_TIMING}
 use Rattle.vx_ptl.specs.Run.{gap, begins_byte, field_coding}
-use Rattle.vx_ptl.proofs.Beside.{Keeps, written, owed, Runs, Even, runs_on, runs_turns}
+use Rattle.vx_ptl.proofs.Beside.{Keeps, written, Runs, Even, runs_on, runs_turns}
 
 -- A row's field takes the run from here to there, at every scope.
 abbrev pub Takes : (ℕ → ℕ → List Bool → Type 0) → Cell Formula → (ℕ → ℕ → List Bool → Type 0) → Type 0
@@ -53,15 +49,15 @@ part_keeps keep P on (suc skip) len (Name name formula ∷ rows) s before place 
 part_keeps keep P on zero zero (row ∷ rows) s before place gaps each here = here
 part_keeps keep P on zero (suc len) (Field c ∷ rows) s before place gaps each here =
     runs_on keep keep (one_field s c) (part 0 len rows) before place gaps (λ t b p g now. part_keeps keep P on 0 len rows t b p g each.1 now)
-        (field_runs keep keep c s before place gaps (on c each.0) here)
+    (field_runs keep keep c s before place gaps (on c each.0) here)
 part_keeps keep P on zero (suc len) (When holds n ∷ rows) s before place gaps each here =
     either (value s holds == 0) (part (min n len) (len - min n len) rows s) (part 0 len rows s) keep before place gaps
-        (part_keeps keep P on (min n len) (len - min n len) rows s before place gaps each here) (part_keeps keep P on 0 len rows s before place gaps each here)
+    (part_keeps keep P on (min n len) (len - min n len) rows s before place gaps each here) (part_keeps keep P on 0 len rows s before place gaps each here)
 part_keeps keep P on zero (suc len) (Repeat counter times n ∷ rows) s before place gaps each here =
     runs_on keep keep (turns (part 0 (min n len) rows) counter 0 (value s times) s) (part (min n len) (len - min n len) rows) before place gaps
-        (λ t b p g now. part_keeps keep P on (min n len) (len - min n len) rows t b p g each now)
-        (runs_turns keep (part 0 (min n len) rows) counter 0 (value s times) s before place gaps
-            (λ t b p g now. part_keeps keep P on 0 (min n len) rows t b p g each now) here)
+    (λ t b p g now. part_keeps keep P on (min n len) (len - min n len) rows t b p g each now)
+    (runs_turns keep (part 0 (min n len) rows) counter 0 (value s times) s before place gaps
+    (λ t b p g now. part_keeps keep P on 0 (min n len) rows t b p g each now) here)
 part_keeps keep P on zero (suc len) (Name name formula ∷ rows) s before place gaps each here = part_keeps keep P on 0 len rows (slice_set s name (value s formula)) before place gaps each here
 
 -- a field of bits is one at every scope
@@ -123,5 +119,5 @@ pub leads_repeat : (from to : ℕ → ℕ → List Bool → Type 0) (counter : �
 leads_repeat from to counter times n rows block rest = record {
   runs = λ s before place gaps here.
       rw (form-repeat counter times n rows s) (runs_on from to (turns (form_of (take (min n (length rows)) rows)) counter 0 (value s times) s) (form_of (drop (min n (length rows)) rows)) before place gaps
-          rest.runs (runs_turns from (form_of (take (min n (length rows)) rows)) counter 0 (value s times) s before place gaps block.runs here));
+      rest.runs (runs_turns from (form_of (take (min n (length rows)) rows)) counter 0 (value s times) s before place gaps block.runs here));
 }

@@ -1,6 +1,6 @@
 -- The run beside each structure.
-use Rattle.std.proofs.Common.{◌≡◌, ℕ, ℤ, ◌+◌, ◌-◌, ◌%◌, Bool, true, false, List, [], ◌∷◌, ◌++◌, length, drop, replicate, Some, refl, ap, sym, ◌∙◌, arith, rules}
-use Rattle.std.specs.Prelude.{◌==◌, ◌||◌, ◌&&◌, not, cond}
+use Rattle.std.proofs.Common.{◌≡◌, ℕ, ℤ, ◌+◌, Bool, true, false, List, [], ◌∷◌, ◌++◌, length, drop, refl, ap, sym, ◌∙◌, arith, rules}
+use Rattle.std.specs.Prelude.{◌==◌, ◌||◌, ◌&&◌, cond}
 use Rattle.std.proofs.lemmas.List.{length-replicate, append-nil, append_assoc, length-append}
 use Rattle.std.proofs.lemmas.List.Elements.{All-nil, All-append}
 use Rattle.vx_bits.specs.declared.list.Item.{Item}
@@ -9,17 +9,16 @@ use Rattle.vx_bits.proofs.Bits.{length-fixed}
 use Rattle.vx_table.specs.declared.rows.Formula.{Formula}
 use Rattle.vx_table.specs.declared.rows.Cell.{Cell}
 use Rattle.vx_table.specs.declared.rows.Row.{Row}
-use Rattle.vx_table.specs.declared.rows.Row.TheVariants.{Field, When, Repeat, Name}
+use Rattle.vx_table.specs.declared.rows.Row.TheVariants.{Field}
 use Rattle.vx_table.specs.Scope.{value}
 use Rattle.vx_table.specs.Forms.{has_value, coding_at, form_of}
-use Rattle.vx_table.specs.Spelling.{HasCode, code_of, items_along}
+use Rattle.vx_table.specs.Spelling.{code_of, items_along}
 use Rattle.vx_table.specs.Values.{Follows, bits_along}
 use Rattle.vx_ptl.specs.declared.tables.TheConstants.{PTL, DPB, TIMING, SUBLAYER_TIMING}
-use Rattle.vx_ptl.specs.Run.{gap, begins_byte, field_coding, item_bits, run_bits, IsRunItem}
-use Rattle.vx_ptl.specs.Structures.{ptl, dpb, timing, sublayer_timing}
-use Rattle.vx_ptl.specs.Spelling.{IsStructure, profile_tier_level, dpb_parameters, general_timing, timing_of_sublayers, SpellStructures, no_more, one_more, AreWritten, StructuresAreSpelled, RunsAreSpelled}
-use Rattle.vx_ptl.proofs.Beside.{Keeps, written, owed, Runs, Even, spelled}
-use Rattle.vx_ptl.proofs.Keeping.{Takes, Each, IsPlain, Leads, plain_leads, has_at, leads_over, leads_field, leads_name, leads_when, leads_repeat}
+use Rattle.vx_ptl.specs.Run.{gap, field_coding, item_bits, run_bits, IsRunItem}
+use Rattle.vx_ptl.specs.Spelling.{profile_tier_level, dpb_parameters, general_timing, timing_of_sublayers, no_more, one_more, AreWritten, StructuresAreSpelled, RunsAreSpelled}
+use Rattle.vx_ptl.proofs.Beside.{written, owed, Even, spelled}
+use Rattle.vx_ptl.proofs.Keeping.{Each, IsPlain, Leads, plain_leads, has_at, leads_over, leads_field, leads_name, leads_when, leads_repeat}
 
 dpb_plain : Each IsPlain DPB
 unfolding field_coding coding_at has_value value
@@ -81,22 +80,22 @@ no_flag false false false is = refl
 plain_front : (c : Cell Formula) (rows : List Row) (to : ℕ → ℕ → List Bool → Type 0) → IsPlain c → Leads Front rows to → Leads Front (Field c ∷ rows) to
 plain_front c rows to plain rest =
     leads_field Front Front to c rows (λ s before place gaps v here code. written (has_at s c.coding plain.value) (plain.coded s) (rw (plain.apart before, here.1) refl)
-        (no_flag (c.field == 21) (c.field == 22) (c.field == 20) (plain.apart 0), refl)) rest
+    (no_flag (c.field == 21) (c.field == 22) (c.field == 20) (plain.apart 0), refl)) rest
 
 levels : Leads Bytes (drop 18 PTL) Even
 unfolding field_coding coding_at has_value value code_of
 levels =
     leads_repeat Bytes Even _ _ _ _
-        (leads_field Bytes Bytes Bytes _ _ (λ s before place gaps v here code. written refl refl here (none_behind place gaps _ here)) (leads_over Bytes))
-        (leads_field Bytes Even Even _ _ (λ s before place gaps v here code. written refl refl here refl) (plain_leads _ (search rules)))
+    (leads_field Bytes Bytes Bytes _ _ (λ s before place gaps v here code. written refl refl here (none_behind place gaps _ here)) (leads_over Bytes))
+    (leads_field Bytes Even Even _ _ (λ s before place gaps v here code. written refl refl here refl) (plain_leads _ (search rules)))
 
 flags : Leads Flags (drop 13 PTL) Even
 unfolding field_coding coding_at has_value value code_of
 flags =
     leads_name Flags Even _ _ _
-        (leads_repeat Flags Even _ _ _ _
-            (leads_field Flags Flags Flags _ _ (λ s before place gaps v here code. written refl refl here refl) (leads_name Flags Flags _ _ _ (leads_over Flags)))
-            (leads_field Flags Bytes Even _ _ (λ s before place gaps v here code. owed refl (flags_over _ place gaps here)) levels))
+    (leads_repeat Flags Even _ _ _ _
+    (leads_field Flags Flags Flags _ _ (λ s before place gaps v here code. written refl refl here refl) (leads_name Flags Flags _ _ _ (leads_over Flags)))
+    (leads_field Flags Bytes Even _ _ (λ s before place gaps v here code. owed refl (flags_over _ place gaps here)) levels))
 
 front : Leads Front (drop 12 PTL) Even
 unfolding field_coding coding_at has_value value code_of
@@ -106,14 +105,14 @@ constraints : Leads Front (drop 7 PTL) Even
 unfolding field_coding coding_at has_value value
 constraints =
     leads_repeat Front Even _ _ _ _ (plain_front _ _ Front (search rules) (leads_over Front))
-        (plain_front _ _ Even (search rules) (leads_repeat Front Even _ _ _ _ (plain_front _ _ Front (search rules) (leads_over Front)) front))
+    (plain_front _ _ Even (search rules) (leads_repeat Front Even _ _ _ _ (plain_front _ _ Front (search rules) (leads_over Front)) front))
 
 ptl_leads : Leads Even PTL Even
 unfolding field_coding coding_at has_value value
 ptl_leads =
     leads_field Even Front Even _ _ (λ s before place gaps v here code. written refl refl (sym here) (refl, refl))
-        (plain_front _ _ Even (search rules) (plain_front _ _ Even (search rules) (plain_front _ _ Even (search rules) (plain_front _ _ Even (search rules)
-        (plain_front _ _ Even (search rules) (leads_when Front Even _ _ _ constraints front))))))
+    (plain_front _ _ Even (search rules) (plain_front _ _ Even (search rules) (plain_front _ _ Even (search rules) (plain_front _ _ Even (search rules)
+    (plain_front _ _ Even (search rules) (leads_when Front Even _ _ _ constraints front))))))
 
 -- What a table's rows lead through is written as it is spelled.
 table_written : (rows : List Row) (s : List ℕ) (values : List ℤ) (scope : List ℕ) (place : ℕ) → Leads Even rows Even → Follows (form_of rows s) values scope
@@ -148,8 +147,9 @@ unfolding run_bits
 runs_spelled _ _ _ no_more = (All-nil IsRunItem, λ before. refl)
 runs_spelled _ _ _ (one_more {form} {values} {scope} {place} {items} {bits} is follows more) =
     let first = structures_spelled form values scope place is follows in
-    let rest = runs_spelled (place + length (bits_along form place values)) items bits more in
-    (All-append IsRunItem (items_along form values) items first.0 rest.0,
-    λ before.
-        let here : place + length (bits_along form place values) ≡ place + length (run_bits before place (items_along form values)) = rw (first.1 before) refl in
-        run_behind before place _ (items_along form values) items here ∙ rw (first.1 before, rest.1 (last_field before (items_along form values))) refl)
+    let rest = runs_spelled (place + length (bits_along form place values)) items bits more in (
+      All-append IsRunItem (items_along form values) items first.0 rest.0,
+      λ before.
+          let here : place + length (bits_along form place values) ≡ place + length (run_bits before place (items_along form values)) = rw (first.1 before) refl in
+          run_behind before place _ (items_along form values) items here ∙ rw (first.1 before, rest.1 (last_field before (items_along form values))) refl,
+    )

@@ -25,6 +25,10 @@ pub data SpellStructures : ℕ → List Item → List Bool → Type 0 where
 abbrev pub AreWritten : ℕ → List Item → List Bool → Type 0
 AreWritten place items bits = All IsRunItem items × ((before : ℕ) → run_bits before place items ≡ bits)
 
+-- Where the items are those of structures, what is appended is their spelling.
+abbrev pub AppendsSpelling : List Bool → List Item → List Bool → Type 0
+AppendsSpelling old items new = (bits : List Bool) → SpellStructures (length old) items bits → new ≡ old ++ bits
+
 -- A structure's items are written as its spelling.
 abbrev pub StructuresAreSpelled : Type 0
 StructuresAreSpelled = (form : Form (List ℕ)) (values : List ℤ) (scope : List ℕ) (place : ℕ)
@@ -34,8 +38,15 @@ StructuresAreSpelled = (form : Form (List ℕ)) (values : List ℤ) (scope : Lis
 abbrev pub RunsAreSpelled : Type 0
 RunsAreSpelled = (place : ℕ) (items : List Item) (bits : List Bool) → SpellStructures place items bits → AreWritten place items bits
 
--- What a structure was read from is what its items are written as at the same place.
+-- From the bits that are left, of so many in all, up to the rest, structures were read one behind another, and these are their items.
+pub data ReadStructures (total : ℕ) : List Bool → List Item → List Bool → Type 0 where
+  all_read : {rest : List Bool} → ReadStructures total rest [] rest
+  one_read : {form : Form (List ℕ)} {values : List ℤ} {items : List Item} {left mid rest : List Bool}
+      → IsStructure form → Spells total form values left mid → ReadStructures total mid items rest
+      → ReadStructures total left (items_along form values ++ items) rest
+
+-- The items that were read are written, at the same place, as the bits that they were read from.
 abbrev pub WritesWhatWasRead : Type 0
-WritesWhatWasRead = (form : Form (List ℕ)) (values : List ℤ) (total : ℕ) (left rest : List Bool)
-    → IsStructure form → length left ≤ total → Spells total form values left rest
-    → (bits : List Bool) × (left ≡ bits ++ rest) × AreWritten (total - length left) (items_along form values) bits
+WritesWhatWasRead = (total : ℕ) (items : List Item) (left rest : List Bool)
+    → length left ≤ total → ReadStructures total left items rest
+    → (bits : List Bool) × (left ≡ bits ++ rest) × AreWritten (total - length left) items bits

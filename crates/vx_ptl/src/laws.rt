@@ -11,7 +11,7 @@ pub fn runs_are_spelled()
     ensures { RunsAreSpelled }
 {}
 
-/// The items that were read as a structure are written as the bits that they were read from, at the same place.
+/// The items of structures that were read are written as the bits that they were read from, at the same place.
 pub fn writes_what_was_read()
     ensures { WritesWhatWasRead }
 {}
