@@ -1,13 +1,12 @@
 -- Writing items one after another.
-use Rattle.std.proofs.Common.{◌≡◌, ℕ, ℤ, ◌+◌, ◌-◌, ◌<◌, ◌≤◌, Bool, List, [], ◌∷◌, ◌++◌, length, take, drop, get_or, Some, ◌↔◌, refl, ap, sym, ◌∙◌, arith}
+use Rattle.std.proofs.Common.{◌≡◌, ℕ, ◌+◌, Bool, List, [], ◌∷◌, ◌++◌, length, Some, ◌↔◌, ap, ◌∙◌, arith}
 use Rattle.std.proofs.lemmas.List.{append_assoc, append-nil, length-append}
 use Rattle.std.specs.Prelude.{All}
 use Rattle.std.proofs.lemmas.List.Elements.{All-head, All-tail, All-cons, All-nil}
 use Rattle.vx_bits.specs.declared.list.Item.{Item}
 use Rattle.vx_table.specs.declared.rows.Coding.{Coding}
 use Rattle.vx_table.specs.Spelling.{code_of}
-use Rattle.vx_table.proofs.Items.{unwritten_next}
-use Rattle.vx_ptl.specs.Run.{item_bits, run_bits, gap, field_coding, value_bits, IsRunItem}
+use Rattle.vx_ptl.specs.Run.{item_bits, run_bits, gap, field_coding, IsRunItem}
 
 run_head : (item : Item) (items : List Item) → All IsRunItem (item ∷ items) → IsRunItem item
 run_head item items run = All-head IsRunItem item items run

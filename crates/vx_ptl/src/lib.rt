@@ -4,12 +4,14 @@
 //! these structures take the tables as parts of their own.
 #![tactic(auto)]
 
+mod laws;
 mod read;
 mod run;
 mod tables;
 #[cfg(test)]
 mod tests;
 
+pub use laws::{runs_are_spelled, structures_are_spelled, writes_what_was_read};
 pub use read::{read_dpb, read_ptl, read_sublayer_timing, read_timing, read_vps};
 pub use run::{is_run, write_run};
 pub use tables::{DPB, PTL, SUBLAYER_TIMING, TIMING, VPS};

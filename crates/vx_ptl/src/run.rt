@@ -1,6 +1,7 @@
 //! Writing items of the structures.
 
 ghost use Rattle.std.specs.Prelude.{◌≡◌, ◌↔◌, ◌+◌, ◌-◌, ◌≤◌, ◌++◌, length, take, drop, All, IsTrue, OnOk};
+ghost use Rattle.vx_ptl.specs.Spelling.{AppendsSpelling};
 ghost use Rattle.vx_ptl.specs.Run.{field_coding, resolved, begins_byte, gap, item_bits, run_bits, IsRunItem, IsCodableIfAny};
 
 use crate::tables::{DPB, PTL, SUBLAYER_TIMING, TIMING};
@@ -95,7 +96,8 @@ pub fn write_run(
     requires order { from ≤ to }
     requires within { to ≤ length items.now }
     requires run { All IsRunItem (take (to - from) (drop from items.now)) }
-    ensures { OnOk result (bits.new ≡ bits.old ++ run_bits 0 (length bits.old) (take (to - from) (drop from items.now))) }
+    ensures bits { OnOk result (bits.new ≡ bits.old ++ run_bits 0 (length bits.old) (take (to - from) (drop from items.now))) }
+    ensures structures { OnOk result (AppendsSpelling bits.old (take (to - from) (drop from items.now)) bits.new) }
 {
     let mut before = 0;
     for i in from..to {

@@ -1,4 +1,4 @@
-use Rattle.std.proofs.Common.{rules, ◌≡◌, ◌-◌, ◌+◌, ◌∷◌, true, take, drop}
+use Rattle.std.proofs.Common.{rules, true}
 use Rattle.std.specs.Prelude.{IsTrue}
 use Rattle.vx_table.proofs.Items.{unwritten_next}
 use Rattle.vx_ptl.proofs.Runs.{run_more, first_run}

@@ -1,5 +1,6 @@
-use Rattle.std.proofs.Common.{rules, ◌≡◌, ◌∙◌, sym, length, ◌-◌, ◌+◌, ◌∷◌, arith, take, drop}
+use Rattle.std.proofs.Common.{◌≡◌, ◌∙◌, sym, length, ◌-◌, ◌++◌, ap, arith}
 use Rattle.vx_table.proofs.Items.{unwritten_next}
+use Rattle.vx_ptl.proofs.Structured.{runs_spelled}
 use Rattle.vx_ptl.proofs.Runs.{run_none, run_step, first_run, rest_run}
 use Rattle.vx_ptl.proofs.run.write_run.Goals as goal
 
@@ -18,4 +19,5 @@ pub returns : goal.returns
 returns c =
     let none : c.args.to - c.loop-i.i ≡ 0 = omega (arith, c.loop-i-test.false) in
     let all = rw none at c.loop-i.invariant.0 in
-    sym (run_none c.loop-i.before (length c.loop-i.bits) c.loop-i.bits) ∙ all
+    let written = sym (run_none c.loop-i.before (length c.loop-i.bits) c.loop-i.bits) ∙ all in
+    record { bits = written; structures = λ bits spelled. written ∙ ap (λ run. c.args.bits.now ++ run) ((runs_spelled _ _ bits spelled).1 0) }

@@ -1,0 +1,123 @@
+-- The run beside each of the tables.
+use Rattle.std.proofs.Common.{◌≡◌, ℕ, ℤ, zero, suc, ◌-◌, min, Bool, true, false, List, [], ◌∷◌, length, take, drop, slice_set, Some, refl}
+use Rattle.std.specs.Prelude.{◌==◌, cond}
+use Rattle.vx_table.specs.declared.rows.Formula.{Formula}
+use Rattle.vx_table.specs.declared.rows.Coding.{Coding}
+use Rattle.vx_table.specs.declared.rows.Coding.TheVariants.{Fixed, Golomb, SignedGolomb, Zeros, OneAndZeros, Trailing, Absent, Refused}
+use Rattle.vx_table.specs.declared.rows.Cell.{Cell}
+use Rattle.vx_table.specs.declared.rows.Row.{Row}
+use Rattle.vx_table.specs.declared.rows.Row.TheVariants.{Field, When, Repeat, Name}
+use Rattle.vx_table.specs.Scope.{value}
+use Rattle.vx_table.specs.Forms.{Form, coding_at, cell_at, has_value, one_field, turns, part, form_of}
+use Rattle.vx_table.specs.Spelling.{HasCode}
+use Rattle.vx_table.proofs.Blocks.{form-field, form-name, form-drop, form-repeat}
+use Rattle.vx_ptl.specs.Run.{gap, begins_byte, field_coding}
+use Rattle.vx_ptl.proofs.Beside.{Keeps, written, Runs, Even, runs_on, runs_turns}
+
+-- A row's field takes the run from here to there, at every scope.
+abbrev pub Takes : (ℕ → ℕ → List Bool → Type 0) → Cell Formula → (ℕ → ℕ → List Bool → Type 0) → Type 0
+Takes from c to = (s : List ℕ) (before place : ℕ) (gaps : List Bool) (v : ℤ) → from before place gaps → HasCode (coding_at s c.coding) v → Keeps (cell_at s c) v before place gaps to
+
+-- Each field or gap of the rows is so.
+abbrev pub Each : (Cell Formula → Type 0) → List Row → Type 0
+Each P [] = Unit {0}
+Each P (Field c ∷ rows) = P c × Each P rows
+Each P (When holds n ∷ rows) = Each P rows
+Each P (Repeat counter times n ∷ rows) = Each P rows
+Each P (Name name formula ∷ rows) = Each P rows
+
+field_runs : (from to : ℕ → ℕ → List Bool → Type 0) (c : Cell Formula) (s : List ℕ) (before place : ℕ) (gaps : List Bool)
+    → Takes from c to → from before place gaps → Runs to (one_field s c) before place gaps
+unfolding one_field
+field_runs from to c s before place gaps takes here = λ v has. takes s before place gaps v here has
+
+either : (b : Bool) (f g : Form (List ℕ)) (to : ℕ → ℕ → List Bool → Type 0) (before place : ℕ) (gaps : List Bool)
+    → Runs to f before place gaps → Runs to g before place gaps → Runs to (cond b f g) before place gaps
+either true f g to before place gaps a b = a
+either false f g to before place gaps a b = b
+
+-- Where each field keeps it, each part of the rows does.
+pub part_keeps : (keep : ℕ → ℕ → List Bool → Type 0) (P : Cell Formula → Type 0) → ((c : Cell Formula) → P c → Takes keep c keep) → (skip len : ℕ) (rows : List Row) (s : List ℕ) (before place : ℕ) (gaps : List Bool)
+    → Each P rows → keep before place gaps → Runs keep (part skip len rows s) before place gaps
+unfolding part
+part_keeps keep P on zero len [] s before place gaps each here = here
+part_keeps keep P on (suc skip) len [] s before place gaps each here = here
+part_keeps keep P on (suc skip) len (Field c ∷ rows) s before place gaps each here = part_keeps keep P on skip len rows s before place gaps each.1 here
+part_keeps keep P on (suc skip) len (When holds n ∷ rows) s before place gaps each here = part_keeps keep P on skip len rows s before place gaps each here
+part_keeps keep P on (suc skip) len (Repeat counter times n ∷ rows) s before place gaps each here = part_keeps keep P on skip len rows s before place gaps each here
+part_keeps keep P on (suc skip) len (Name name formula ∷ rows) s before place gaps each here = part_keeps keep P on skip len rows s before place gaps each here
+part_keeps keep P on zero zero (row ∷ rows) s before place gaps each here = here
+part_keeps keep P on zero (suc len) (Field c ∷ rows) s before place gaps each here =
+    runs_on keep keep (one_field s c) (part 0 len rows) before place gaps (λ t b p g now. part_keeps keep P on 0 len rows t b p g each.1 now)
+    (field_runs keep keep c s before place gaps (on c each.0) here)
+part_keeps keep P on zero (suc len) (When holds n ∷ rows) s before place gaps each here =
+    either (value s holds == 0) (part (min n len) (len - min n len) rows s) (part 0 len rows s) keep before place gaps
+    (part_keeps keep P on (min n len) (len - min n len) rows s before place gaps each here) (part_keeps keep P on 0 len rows s before place gaps each here)
+part_keeps keep P on zero (suc len) (Repeat counter times n ∷ rows) s before place gaps each here =
+    runs_on keep keep (turns (part 0 (min n len) rows) counter 0 (value s times) s) (part (min n len) (len - min n len) rows) before place gaps
+    (λ t b p g now. part_keeps keep P on (min n len) (len - min n len) rows t b p g each now)
+    (runs_turns keep (part 0 (min n len) rows) counter 0 (value s times) s before place gaps
+    (λ t b p g now. part_keeps keep P on 0 (min n len) rows t b p g each now) here)
+part_keeps keep P on zero (suc len) (Name name formula ∷ rows) s before place gaps each here = part_keeps keep P on 0 len rows (slice_set s name (value s formula)) before place gaps each here
+
+-- a field of bits is one at every scope
+pub has_at : (s : List ℕ) (coding : Coding Formula) → has_value coding ≡ true → has_value (coding_at s coding) ≡ true
+unfolding has_value coding_at
+has_at s (Fixed width) has = refl
+has_at s Golomb has = refl
+has_at s SignedGolomb has = refl
+has_at s Zeros has = has
+has_at s OneAndZeros has = has
+has_at s Trailing has = has
+has_at s Absent has = has
+has_at s Refused has = has
+
+-- A field of bits that a run codes as its row does, and before which no gap stands.
+pub record IsPlain (c : Cell Formula) : Type 0 where
+  pub value : has_value c.coding ≡ true
+  pub coded : (s : List ℕ) → field_coding c.field ≡ Some (coding_at s c.coding)
+  pub apart : (before : ℕ) → begins_byte before c.field ≡ false
+
+plain_even : (c : Cell Formula) → IsPlain c → Takes Even c Even
+plain_even c plain s before place gaps v here code =
+    let none : gap before c.field place ≡ gaps = rw (plain.apart before, here) refl in
+    written (has_at s c.coding plain.value) (plain.coded s) none refl
+
+-- From here to there along the rows, at every scope.
+pub record Leads (from : ℕ → ℕ → List Bool → Type 0) (rows : List Row) (to : ℕ → ℕ → List Bool → Type 0) : Type 0 where
+  pub runs : (s : List ℕ) (before place : ℕ) (gaps : List Bool) → from before place gaps → Runs to (form_of rows s) before place gaps
+
+-- where all rows are plain
+pub plain_leads : (rows : List Row) → Each IsPlain rows → Leads Even rows Even
+unfolding form_of
+plain_leads rows plain = record { runs = λ s before place gaps here. part_keeps Even IsPlain plain_even 0 (length rows) rows s before place gaps plain here }
+
+-- by the first row
+pub leads_over : (keep : ℕ → ℕ → List Bool → Type 0) → Leads keep [] keep
+unfolding form_of part
+leads_over keep = record { runs = λ s before place gaps here. here }
+
+pub leads_field : (from mid to : ℕ → ℕ → List Bool → Type 0) (c : Cell Formula) (rows : List Row) → Takes from c mid → Leads mid rows to → Leads from (Field c ∷ rows) to
+leads_field from mid to c rows takes rest = record {
+  runs = λ s before place gaps here. rw (form-field c rows s) (runs_on mid to (one_field s c) (form_of rows) before place gaps rest.runs (field_runs from mid c s before place gaps takes here));
+}
+
+pub leads_name : (from to : ℕ → ℕ → List Bool → Type 0) (name : ℕ) (formula : Formula) (rows : List Row) → Leads from rows to → Leads from (Name name formula ∷ rows) to
+leads_name from to name formula rows rest = record {
+  runs = λ s before place gaps here. rw (form-name name formula rows s) (rest.runs _ before place gaps here);
+}
+
+pub leads_when : (from to : ℕ → ℕ → List Bool → Type 0) (holds : Formula) (n : ℕ) (rows : List Row) → Leads from rows to → Leads from (drop (min n (length rows)) rows) to → Leads from (When holds n ∷ rows) to
+unfolding form_of part
+leads_when from to holds n rows present absent = record {
+  runs = λ s before place gaps here.
+      either (value s holds == 0) _ (form_of rows s) to before place gaps (rw (form-drop n rows s) (absent.runs s before place gaps here)) (present.runs s before place gaps here);
+}
+
+pub leads_repeat : (from to : ℕ → ℕ → List Bool → Type 0) (counter : ℕ) (times : Formula) (n : ℕ) (rows : List Row)
+    → Leads from (take (min n (length rows)) rows) from → Leads from (drop (min n (length rows)) rows) to → Leads from (Repeat counter times n ∷ rows) to
+leads_repeat from to counter times n rows block rest = record {
+  runs = λ s before place gaps here.
+      rw (form-repeat counter times n rows s) (runs_on from to (turns (form_of (take (min n (length rows)) rows)) counter 0 (value s times) s) (form_of (drop (min n (length rows)) rows)) before place gaps
+      rest.runs (runs_turns from (form_of (take (min n (length rows)) rows)) counter 0 (value s times) s before place gaps block.runs here));
+}

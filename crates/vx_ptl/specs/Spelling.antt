@@ -1,0 +1,52 @@
+-- What items of whole structures spell, one structure behind another.
+use Rattle.std.specs.Prelude.{◌≡◌, ℕ, ℤ, ◌-◌, ◌+◌, ◌≤◌, Bool, List, [], ◌++◌, length, All}
+use Rattle.vx_bits.specs.declared.list.Item.{Item}
+use Rattle.vx_table.specs.Forms.{Form}
+use Rattle.vx_table.specs.Spelling.{Spells, items_along}
+use Rattle.vx_table.specs.Values.{Follows, bits_along}
+use Rattle.vx_ptl.specs.Structures.{ptl, dpb, timing, sublayer_timing}
+use Rattle.vx_ptl.specs.Run.{run_bits, IsRunItem}
+
+-- A structure of fields 11 to 60, at any numbers on which it depends.
+pub data IsStructure : Form (List ℕ) → Type 0 where
+  profile_tier_level : (max : ℕ) → IsStructure (ptl max)
+  dpb_parameters : (max : ℕ) (each : Bool) → IsStructure (dpb max each)
+  general_timing : (max : ℕ) (each : Bool) → IsStructure (timing max each)
+  timing_of_sublayers : (items : List Item) (max : ℕ) (each : Bool) → IsStructure (sublayer_timing items max each)
+
+-- From this place on the bits are the spelling of the structures whose items these are, one behind another.
+pub data SpellStructures : ℕ → List Item → List Bool → Type 0 where
+  no_more : {place : ℕ} → SpellStructures place [] []
+  one_more : {form : Form (List ℕ)} {values : List ℤ} {scope : List ℕ} {place : ℕ} {items : List Item} {bits : List Bool}
+      → IsStructure form → Follows form values scope → SpellStructures (place + length (bits_along form place values)) items bits
+      → SpellStructures place (items_along form values ++ items) (bits_along form place values ++ bits)
+
+-- Each of these items can be written, and their bits, behind whatever item, are these.
+abbrev pub AreWritten : ℕ → List Item → List Bool → Type 0
+AreWritten place items bits = All IsRunItem items × ((before : ℕ) → run_bits before place items ≡ bits)
+
+-- Where the items are those of structures, what is appended is their spelling.
+abbrev pub AppendsSpelling : List Bool → List Item → List Bool → Type 0
+AppendsSpelling old items new = (bits : List Bool) → SpellStructures (length old) items bits → new ≡ old ++ bits
+
+-- A structure's items are written as its spelling.
+abbrev pub StructuresAreSpelled : Type 0
+StructuresAreSpelled = (form : Form (List ℕ)) (values : List ℤ) (scope : List ℕ) (place : ℕ)
+    → IsStructure form → Follows form values scope → AreWritten place (items_along form values) (bits_along form place values)
+
+-- So are the items of several structures.
+abbrev pub RunsAreSpelled : Type 0
+RunsAreSpelled = (place : ℕ) (items : List Item) (bits : List Bool) → SpellStructures place items bits → AreWritten place items bits
+
+-- From the bits that are left, of so many in all, up to the rest, structures were read one behind another, and these are their items.
+pub data ReadStructures (total : ℕ) : List Bool → List Item → List Bool → Type 0 where
+  all_read : {rest : List Bool} → ReadStructures total rest [] rest
+  one_read : {form : Form (List ℕ)} {values : List ℤ} {items : List Item} {left mid rest : List Bool}
+      → IsStructure form → Spells total form values left mid → ReadStructures total mid items rest
+      → ReadStructures total left (items_along form values ++ items) rest
+
+-- The items that were read are written, at the same place, as the bits that they were read from.
+abbrev pub WritesWhatWasRead : Type 0
+WritesWhatWasRead = (total : ℕ) (items : List Item) (left rest : List Bool)
+    → length left ≤ total → ReadStructures total left items rest
+    → (bits : List Bool) × (left ≡ bits ++ rest) × AreWritten (total - length left) items bits
