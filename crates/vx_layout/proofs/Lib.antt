@@ -1,3 +1,4 @@
+pub mod Agreeing
 pub mod Counted
 pub mod Counting
 pub mod Cutting
