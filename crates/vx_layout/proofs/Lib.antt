@@ -12,6 +12,7 @@ pub mod Ordering
 pub mod Owners
 pub mod Parts
 pub mod Preceding
+pub mod ReadBack
 pub mod Rising
 pub mod Runs
 pub mod Splitting
