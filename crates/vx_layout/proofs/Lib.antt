@@ -1,3 +1,4 @@
+pub mod Agreeing
 pub mod Counted
 pub mod Counting
 pub mod Cutting
@@ -11,6 +12,7 @@ pub mod Ordering
 pub mod Owners
 pub mod Parts
 pub mod Preceding
+pub mod ReadBack
 pub mod Rising
 pub mod Runs
 pub mod Splitting

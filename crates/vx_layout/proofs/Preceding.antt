@@ -7,11 +7,11 @@ use Rattle.vx_layout.specs.Plain.{meet, precedes}
 use Rattle.vx_layout.specs.Rects.{Precedes, holds}
 use Rattle.vx_layout.proofs.Holding.{holds_from, holds_tells}
 
-meet_from : (from size other other_size step n : ℕ) → other ≤ n → n < other + other_size → from ≤ n + step → n + step < from + size → meet from size other other_size step ≡ true
+pub meet_from : (from size other other_size step n : ℕ) → other ≤ n → n < other + other_size → from ≤ n + step → n + step < from + size → meet from size other other_size step ≡ true
 unfolding meet
 meet_from from size other other_size step n a b c d = lt-ltb _ _ (omega arith)
 
-meet_tells : (from size other other_size step : ℕ) → meet from size other other_size step ≡ true → (n : ℕ) × (other ≤ n) × (n < other + other_size) × (from ≤ n + step) × (n + step < from + size)
+pub meet_tells : (from size other other_size step : ℕ) → meet from size other other_size step ≡ true → (n : ℕ) × (other ≤ n) × (n < other + other_size) × (from ≤ n + step) × (n + step < from + size)
 unfolding meet
 meet_tells from size other other_size step h =
     let less : max from (other + step) < min (from + size) (other + other_size + step) = ltb-true _ _ h in

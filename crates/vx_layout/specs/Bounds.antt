@@ -38,6 +38,16 @@ sums_after a (size ∷ sizes) = (a + size) ∷ sums_after (a + size) sizes
 abbrev pub bounds_of : List ℕ → ℕ → List ℕ
 bounds_of explicit total = 0 ∷ sums_after 0 (tile_sizes explicit total)
 
+-- the sizes between a and the bounds behind it
+abbrev pub gaps_after : ℕ → List ℕ → List ℕ
+gaps_after a [] = []
+gaps_after a (b ∷ bs) = (b - a) ∷ gaps_after b bs
+
+-- the sizes of the tile columns or rows that bounds make
+abbrev pub sizes_between : List ℕ → List ℕ
+sizes_between [] = []
+sizes_between (a ∷ bs) = gaps_after a bs
+
 -- the explicit sizes pass the total first at i
 pub record PassesFirstAt (explicit : List ℕ) (total i : ℕ) : Type 0 where
   pub in_range : i < length explicit

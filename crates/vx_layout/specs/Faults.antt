@@ -48,9 +48,13 @@ LiesIn r s = (x y : ℕ) → holds r x y ≡ true → holds s x y ≡ true
 abbrev pub SameSides : Rect → Rect → Type 0
 SameSides r s = (r.x ≡ s.x) × (r.x + r.w ≡ s.x + s.w)
 
--- each tile that shares a CTU with the subpicture lies in it, or holds it between the tile's own left and right borders
+-- where the tile t shares a CTU with the subpicture s, it lies in it, or holds it between the tile's own left and right borders
+abbrev pub TileAgrees : Rect → Rect → Type 0
+TileAgrees t s = Meet t s → LiesIn t s ⊎ (LiesIn s t × SameSides s t)
+
+-- each tile does so
 abbrev pub SplitsWell : List ℕ → List ℕ → Rect → Type 0
-SplitsWell columns rows s = (t : Rect) → IsTile columns rows t → Meet t s → LiesIn t s ⊎ (LiesIn s t × SameSides s t)
+SplitsWell columns rows s = (t : Rect) → IsTile columns rows t → TileAgrees t s
 
 -- no fault 4
 abbrev pub TilesSplit : Numbers → Type 0

@@ -1,6 +1,7 @@
 pub mod Bounds
 pub mod Faults
 pub mod Groups
+pub mod Heights
 pub mod Layouts
 pub mod Lines
 pub mod Marks

@@ -1,7 +1,8 @@
 //! Laws on layouts, each the contract of a function that does nothing.
-ghost use Rattle.std.specs.Prelude.{◌≡◌, ℕ, ◌+◌, ◌<◌, ◌≤◌, ◌↔◌, true, List, All, Contains, cond, count_by, length, map, sum};
-ghost use Rattle.vx_layout.specs.Bounds.{Rises, bounds_of, last};
+ghost use Rattle.std.specs.Prelude.{◌≡◌, ℕ, ◌+◌, ◌-◌, ◌<◌, ◌≤◌, ◌↔◌, true, List, ◌∷◌, All, Contains, cond, count_by, length, map, sum};
+ghost use Rattle.vx_layout.specs.Bounds.{Rises, bounds_of, last, sizes_between, sums_after, tile_sizes};
 ghost use Rattle.vx_layout.specs.Faults.{IsLayout, LiesIn, height, width};
+ghost use Rattle.vx_layout.specs.Heights.{written_heights};
 ghost use Rattle.vx_layout.specs.Layouts.{IsSound, slice_at, slices_in, subpic_at};
 ghost use Rattle.vx_layout.specs.Rects.{CoversOnce, fits, holds, in_order};
 ghost use Rattle.vx_layout.specs.Regions.{counted_from, moved, region_of};
@@ -37,6 +38,28 @@ pub fn fits_by_ctus()
 /// Tile bounds rise from 0 to the total.
 pub fn bounds_reach_total()
     ensures { (explicit : List ℕ) (total : ℕ) → 0 < length explicit → All (λ size. 1 ≤ size) explicit → 1 ≤ total → sum explicit ≤ total → Rises (bounds_of explicit total) × (last (bounds_of explicit total) ≡ total) }
+{}
+
+/// Sizes that are all listed are the tile sizes, and the bounds are their partial sums.
+pub fn all_sizes_listed()
+    ensures sizes { (sizes : List ℕ) → 0 < length sizes → All (λ size. 1 ≤ size) sizes → tile_sizes sizes (sum sizes) ≡ sizes }
+    ensures bounds { (sizes : List ℕ) → 0 < length sizes → All (λ size. 1 ≤ size) sizes → bounds_of sizes (sum sizes) ≡ 0 ∷ sums_after 0 sizes }
+{}
+
+/// Bounds are given back by the sizes between them, all listed; and sizes by the bounds that are their partial sums.
+pub fn bounds_by_sizes()
+    ensures count { (bounds : List ℕ) → length (sizes_between bounds) ≡ length bounds - 1 }
+    ensures some { (bounds : List ℕ) → Rises bounds → All (λ size. 1 ≤ size) (sizes_between bounds) }
+    ensures total { (bounds : List ℕ) → Rises bounds → sum (sizes_between bounds) ≡ last bounds }
+    ensures bounds { (bounds : List ℕ) → Rises bounds → 2 ≤ length bounds → bounds_of (sizes_between bounds) (last bounds) ≡ bounds }
+    ensures sizes { (sizes : List ℕ) → sizes_between (0 ∷ sums_after 0 sizes) ≡ sizes }
+{}
+
+/// The heights that are written for the slices of a tile are read back as all its heights, by the rule for tile sizes;
+/// and some are written for several slices.
+pub fn heights_are_read_back()
+    ensures read { (heights : List ℕ) → 0 < length heights → All (λ height. 1 ≤ height) heights → tile_sizes (written_heights heights) (sum heights) ≡ heights }
+    ensures some { (heights : List ℕ) → 2 ≤ length heights → 0 < length (written_heights heights) }
 {}
 
 /// The CTUs of a region's slices, in their order, are those of the subpicture's slices, counted from its corner.

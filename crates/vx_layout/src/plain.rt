@@ -1,22 +1,22 @@
-//! The layout faults, told straight from their definitions: slow, and a second opinion on [`crate::Layout::new`].
-//!
-//! The test for fault 4 alone is shared with it.
-ghost use Rattle.std.specs.Prelude.{◌≡◌, ℕ, ◌<◌, ◌≤◌, ◌++◌, [], ◌∷◌, true, Any, cond, count_by, length, IfErr, IfOk, OnOk};
+//! The layout faults, told straight from their definitions: slow, and a second opinion on [`crate::Layout::new`],
+//! with which it shares no test of a fault.
+ghost use Rattle.std.specs.Prelude.{◌≡◌, ◌↔◌, IsTrue, ℕ, ◌+◌, ◌<◌, ◌≤◌, ◌++◌, [], ◌∷◌, ◌&&◌, true, All, Any, cond, count_by, length, IfErr, IfOk, OnOk};
 ghost use Rattle.std.specs.Bool.{OnTrue, OnFalse};
 ghost use Rattle.std.specs.List.{AllPairs, slice_index_or};
-ghost use Rattle.vx_layout.specs.Faults.{IfFault, IsInLimits, IsLayout, IsLowestFault, SlicesCover, SlicesFit, SlicesInOrder, SubpicsCover};
-ghost use Rattle.vx_layout.specs.Plain.{meet, precedes};
-ghost use Rattle.vx_layout.specs.Rects.{CoversOnce, Precedes, fits, holds, in_order, slices_of};
+ghost use Rattle.vx_layout.specs.Faults.{IfFault, IsInLimits, IsLayout, IsLowestFault, SlicesCover, SlicesFit, SlicesInOrder, SplitsWell, SubpicsCover, TilesSplit};
+ghost use Rattle.vx_layout.specs.Plain.{ColumnAgrees, agrees, meet, precedes};
+ghost use Rattle.vx_layout.specs.Rects.{CoversOnce, IsPart, Precedes, fits, holds, in_order, slices_of};
 ghost use Rattle.vx_layout.specs.declared.rect.Rect.{Rect};
 
-use crate::faults::{are_parts, check_tiles};
+use crate::bounds::Bounds;
 use crate::numbers::{LayoutError, Numbers};
 use crate::rect::{Rect, RectList};
 use std::alloc::{AllocError, Global};
 
 /// Tells whether numbers are a layout, under the contract of [`crate::Layout::new`].
 ///
-/// Time goes with the products of CTUs and rectangles, and with the square of the number of slices.
+/// Time goes with the products of CTUs and rectangles, of tiles and subpictures, and with the square of the number
+/// of slices.
 ///
 /// # Errors
 ///
@@ -27,7 +27,7 @@ pub fn first_fault(alloc: Global, numbers: &Numbers) -> Result<(), LayoutError>
     ensures fault { IfErr result (λ e. IfFault e (IsLowestFault numbers.now)) }
 {
     cover_by_subpics(numbers)?;
-    check_tiles(alloc, numbers)?;
+    split_tiles(numbers)?;
     cover_by_slices(numbers)?;
     fit_slices(numbers)?;
     order_slices(alloc, numbers)
@@ -40,11 +40,24 @@ fn cover_by_subpics(numbers: &Numbers) -> Result<(), LayoutError>
     ensures fault { IfErr result (λ e. IfFault e (λ k. (k ≡ 3) × (SubpicsCover numbers.now → ⊥))) }
 {
     let (width, height) = (numbers.columns.last(), numbers.rows.last());
-    if !are_parts(&numbers.subpics, width, height) {
+    if !all_inside(&numbers.subpics, width, height) {
         return Err(LayoutError::Fault(3));
     }
     if !covers_once(&numbers.subpics, width, height) {
         return Err(LayoutError::Fault(3));
+    }
+    Ok(())
+}
+
+/// Fault 4.
+fn split_tiles(numbers: &Numbers) -> Result<(), LayoutError>
+    ensures split { OnOk result (TilesSplit numbers.now) }
+    ensures fault { IfErr result (λ e. IfFault e (λ k. (k ≡ 4) × (TilesSplit numbers.now → ⊥))) }
+{
+    for i in 0..numbers.subpics.len() {
+        if !tiles_agree(&numbers.columns, &numbers.rows, numbers.subpics.item(i)) {
+            return Err(LayoutError::Fault(4));
+        }
     }
     Ok(())
 }
@@ -84,6 +97,79 @@ fn order_slices(alloc: Global, numbers: &Numbers) -> Result<(), LayoutError>
         return Err(LayoutError::Fault(7));
     }
     Ok(())
+}
+
+/// Whether each rectangle holds a CTU and lies in the picture.
+fn all_inside(rects: &RectList, width: u32, height: u32) -> bool
+    ensures inside { OnTrue result (All (IsPart width height) rects.now) }
+    ensures outside { OnFalse result (All (IsPart width height) rects.now → ⊥) }
+{
+    for i in 0..rects.len() {
+        let r = rects.item(i);
+        if !(holds_some(r.x, r.w, width) && holds_some(r.y, r.h, height)) {
+            return false;
+        }
+    }
+    true
+}
+
+/// Whether `size` isn't 0, and the `size` numbers from `from` on are all below `limit`.
+fn holds_some(from: u32, size: u32, limit: u32) -> bool
+    ensures { IsTrue result ↔ ((0 < size) × (from + size ≤ limit)) }
+{
+    from < limit && 1 <= size && size <= limit - from
+}
+
+/// Whether each tile agrees with a subpicture.
+fn tiles_agree(columns: &Bounds, rows: &Bounds, subpic: Rect) -> bool
+    ensures agree { OnTrue result (SplitsWell columns.now rows.now subpic) }
+    ensures disagree { OnFalse result (SplitsWell columns.now rows.now subpic → ⊥) }
+{
+    for i in 1..columns.len() {
+        if !column_agrees(columns.item(i - 1), columns.item(i), rows, subpic) {
+            return false;
+        }
+    }
+    true
+}
+
+/// Whether each tile of a tile column agrees with a subpicture.
+fn column_agrees(left: u32, right: u32, rows: &Bounds, subpic: Rect) -> bool
+    requires { left ≤ right }
+    ensures agree { OnTrue result (ColumnAgrees left right rows.now subpic) }
+    ensures disagree { OnFalse result (ColumnAgrees left right rows.now subpic → ⊥) }
+{
+    for j in 1..rows.len() {
+        let (top, bottom) = (rows.item(j - 1), rows.item(j));
+        let tile = Rect {
+            x: left,
+            y: top,
+            w: right - left,
+            h: bottom - top,
+        };
+        if !agrees(tile, subpic) {
+            return false;
+        }
+    }
+    true
+}
+
+/// Whether a tile and a subpicture share no CTU, or the tile lies in the subpicture, or holds it between its own sides.
+#[tactic(auto, unfolding(crate::specs::Plain::agrees))]
+fn agrees(tile: Rect, subpic: Rect) -> bool
+    ensures { result ≡ agrees tile subpic }
+{
+    if !share_ctu(tile, subpic) || tile.fits(&subpic) {
+        return true;
+    }
+    subpic.fits(&tile) && subpic.x == tile.x && subpic.w == tile.w
+}
+
+/// Whether two rectangles share a CTU.
+fn share_ctu(r: Rect, s: Rect) -> bool
+    ensures { result ≡ (meet r.x r.w s.x s.w 0 && meet r.y r.h s.y s.h 0) }
+{
+    meet(r.x, r.w, s.x, s.w, 0) && meet(r.y, r.h, s.y, s.h, 0)
 }
 
 /// Whether each CTU of a picture lies in exactly one of the rectangles.

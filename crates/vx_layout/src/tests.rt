@@ -286,3 +286,49 @@ fn random_layouts(rt: HostRuntime) -> Result<(), Fail> {
     }
     Ok(())
 }
+
+/// A picture of 4×4 CTUs with tiles drawn anew and two or three subpictures, each a slice of its own.
+fn drawn_tiles(alloc: Global, seed: &mut u32) -> Result<Numbers, Fail> {
+    let columns = tile_bounds(alloc, &[1 + draw(seed, 4)], 4)?;
+    let rows = tile_bounds(alloc, &[1 + draw(seed, 4)], 4)?;
+    let (left, top) = (1 + draw(seed, 3), 1 + draw(seed, 3));
+    let parts = match draw(seed, 3) {
+        0 => [
+            rect(0, 0, left, 4),
+            rect(left, 0, 4 - left, top),
+            rect(left, top, 4 - left, 4 - top),
+        ],
+        1 => [
+            rect(0, 0, 4, top),
+            rect(0, top, left, 4 - top),
+            rect(left, top, 4 - left, 4 - top),
+        ],
+        _ => [
+            rect(0, 0, 4, 1),
+            rect(0, 1, 4, top),
+            rect(0, 1 + top, 4, 3 - top),
+        ],
+    };
+    let count = if parts[2].is_empty() { 2 } else { 3 };
+    Ok(numbers(alloc, columns, rows, &parts[..count], &parts[..count])?)
+}
+
+#[test]
+fn random_tiles(rt: HostRuntime) -> Result<(), Fail> {
+    let alloc = rt.alloc();
+    let mut seed = 7;
+    let (mut split, mut whole) = (false, false);
+    for _round in 0..400 {
+        let n = drawn_tiles(alloc, &mut seed)?;
+        match fault_of(&rt, alloc, n)? {
+            4 => split = true,
+            k => {
+                assert_eq!(rt; k, 0);
+                whole = true;
+            }
+        }
+    }
+    assert!(rt; split);
+    assert!(rt; whole);
+    Ok(())
+}

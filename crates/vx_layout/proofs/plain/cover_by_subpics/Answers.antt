@@ -11,6 +11,6 @@ returns-then-not-covers_once-clause-fault c =
 
 pub returns-clause-cover : goal.returns-clause-cover
 returns-clause-cover c = record {
-  parts = rw (← c.last-width.ensures.value, ← c.last-height.ensures.value) c.if-not-are_parts.ensures.inside;
+  parts = rw (← c.last-width.ensures.value, ← c.last-height.ensures.value) c.if-not-all_inside.ensures.inside;
   once = rw (← c.last-width.ensures.value, ← c.last-height.ensures.value) c.if-not-covers_once.ensures.once;
 }
