@@ -3,6 +3,7 @@ pub mod Counted
 pub mod Counting
 pub mod Cutting
 pub mod Entries
+pub mod FrameSlices
 pub mod Holding
 pub mod Lowest
 pub mod Marks

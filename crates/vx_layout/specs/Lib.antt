@@ -1,5 +1,6 @@
 pub mod Bounds
 pub mod Faults
+pub mod Frames
 pub mod Groups
 pub mod Heights
 pub mod Layouts

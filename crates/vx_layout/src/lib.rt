@@ -4,6 +4,7 @@
 mod bounds;
 mod entry;
 mod faults;
+pub mod frame_laws;
 mod grid;
 mod groups;
 pub mod laws;
