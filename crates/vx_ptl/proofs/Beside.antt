@@ -15,34 +15,34 @@ abbrev pub Between : Type 1
 Between = ℕ → ℕ → List Bool → Type 0
 
 -- where the run has written all
-abbrev pub Even : ℕ → ℕ → List Bool → Type 0
+abbrev pub Even : Between
 Even before place gaps = gaps ≡ []
 
 -- The run keeps up at one field.
-pub data Keeps (cell : Cell ℕ) (v : ℤ) (before place : ℕ) (gaps : List Bool) (next : ℕ → ℕ → List Bool → Type 0) : Type 0 where
+pub data Keeps (cell : Cell ℕ) (v : ℤ) (before place : ℕ) (gaps : List Bool) (next : Between) : Type 0 where
   written : has_value cell.coding ≡ true → field_coding cell.field ≡ Some cell.coding → gap before cell.field place ≡ gaps
       → next cell.field (place + length gaps + length (code_of cell.coding (place + length gaps) v)) [] → Keeps cell v before place gaps next
   owed : has_value cell.coding ≡ false → next before place (gaps ++ code_of cell.coding (place + length gaps) v) → Keeps cell v before place gaps next
 
 -- It keeps up along a form.
-abbrev pub Runs : {A : Type 0} → (ℕ → ℕ → List Bool → Type 0) → Form A → ℕ → ℕ → List Bool → Type 0
+abbrev pub Runs : {A : Type 0} → Between → Form A → Between
 Runs end (done a) before place gaps = end before place gaps
 Runs end (field cell goes) before place gaps = (v : ℤ) → HasCode cell.coding v → Keeps cell v before place gaps (Runs end (goes v))
 
-keeps_more : {cell : Cell ℕ} {v : ℤ} {before place : ℕ} {gaps : List Bool} (next last : ℕ → ℕ → List Bool → Type 0)
+keeps_more : {cell : Cell ℕ} {v : ℤ} {before place : ℕ} {gaps : List Bool} (next last : Between)
     → ((b p : ℕ) (g : List Bool) → next b p g → last b p g) → Keeps cell v before place gaps next → Keeps cell v before place gaps last
 keeps_more next last on (written has coded gapped at) = written has coded gapped (on _ _ _ at)
 keeps_more next last on (owed none at) = owed none (on _ _ _ at)
 
 -- one form after another
-pub runs_on : {A B : Type 0} (mid end : ℕ → ℕ → List Bool → Type 0) (form : Form A) (next : A → Form B) (before place : ℕ) (gaps : List Bool)
+pub runs_on : {A B : Type 0} (mid end : Between) (form : Form A) (next : A → Form B) (before place : ℕ) (gaps : List Bool)
     → ((a : A) (b p : ℕ) (g : List Bool) → mid b p g → Runs end (next a) b p g) → Runs mid form before place gaps → Runs end (form >>= next) before place gaps
 runs_on mid end (done a) next before place gaps on at = on a before place gaps at
 runs_on mid end (field cell goes) next before place gaps on runs =
     λ v has. keeps_more (Runs mid (goes v)) (Runs end (goes v >>= next)) (λ b p g at. runs_on mid end (goes v) next b p g on at) (runs v has)
 
 -- turns of a block
-pub runs_turns : (keep : ℕ → ℕ → List Bool → Type 0) (block : List ℕ → Form (List ℕ)) (counter turn times : ℕ) (s : List ℕ) (before place : ℕ) (gaps : List Bool)
+pub runs_turns : (keep : Between) (block : List ℕ → Form (List ℕ)) (counter turn times : ℕ) (s : List ℕ) (before place : ℕ) (gaps : List Bool)
     → ((t : List ℕ) (b p : ℕ) (g : List Bool) → keep b p g → Runs keep (block t) b p g) → keep before place gaps → Runs keep (turns block counter turn times s) before place gaps
 unfolding turns
 runs_turns keep block counter turn zero s before place gaps each at = at

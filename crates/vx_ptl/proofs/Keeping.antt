@@ -12,10 +12,10 @@ use Rattle.vx_table.specs.Forms.{Form, coding_at, cell_at, has_value, one_field,
 use Rattle.vx_table.specs.Spelling.{HasCode}
 use Rattle.vx_table.proofs.Blocks.{form-field, form-name, form-drop, form-repeat}
 use Rattle.vx_ptl.specs.Run.{gap, begins_byte, field_coding}
-use Rattle.vx_ptl.proofs.Beside.{Keeps, written, Runs, Even, runs_on, runs_turns}
+use Rattle.vx_ptl.proofs.Beside.{Between, Keeps, written, Runs, Even, runs_on, runs_turns}
 
 -- A row's field takes the run from here to there, at every scope.
-abbrev pub Takes : (ℕ → ℕ → List Bool → Type 0) → Cell Formula → (ℕ → ℕ → List Bool → Type 0) → Type 0
+abbrev pub Takes : Between → Cell Formula → Between → Type 0
 Takes from c to = (s : List ℕ) (before place : ℕ) (gaps : List Bool) (v : ℤ) → from before place gaps → HasCode (coding_at s c.coding) v → Keeps (cell_at s c) v before place gaps to
 
 -- Each field or gap of the rows is so.
@@ -26,18 +26,18 @@ Each P (When holds n ∷ rows) = Each P rows
 Each P (Repeat counter times n ∷ rows) = Each P rows
 Each P (Name name formula ∷ rows) = Each P rows
 
-field_runs : (from to : ℕ → ℕ → List Bool → Type 0) (c : Cell Formula) (s : List ℕ) (before place : ℕ) (gaps : List Bool)
+field_runs : (from to : Between) (c : Cell Formula) (s : List ℕ) (before place : ℕ) (gaps : List Bool)
     → Takes from c to → from before place gaps → Runs to (one_field s c) before place gaps
 unfolding one_field
 field_runs from to c s before place gaps takes here = λ v has. takes s before place gaps v here has
 
-either : (b : Bool) (f g : Form (List ℕ)) (to : ℕ → ℕ → List Bool → Type 0) (before place : ℕ) (gaps : List Bool)
+either : (b : Bool) (f g : Form (List ℕ)) (to : Between) (before place : ℕ) (gaps : List Bool)
     → Runs to f before place gaps → Runs to g before place gaps → Runs to (cond b f g) before place gaps
 either true f g to before place gaps a b = a
 either false f g to before place gaps a b = b
 
 -- Where each field keeps it, each part of the rows does.
-pub part_keeps : (keep : ℕ → ℕ → List Bool → Type 0) (P : Cell Formula → Type 0) → ((c : Cell Formula) → P c → Takes keep c keep) → (skip len : ℕ) (rows : List Row) (s : List ℕ) (before place : ℕ) (gaps : List Bool)
+pub part_keeps : (keep : Between) (P : Cell Formula → Type 0) → ((c : Cell Formula) → P c → Takes keep c keep) → (skip len : ℕ) (rows : List Row) (s : List ℕ) (before place : ℕ) (gaps : List Bool)
     → Each P rows → keep before place gaps → Runs keep (part skip len rows s) before place gaps
 unfolding part
 part_keeps keep P on zero len [] s before place gaps each here = here
@@ -84,7 +84,7 @@ plain_even c plain s before place gaps v here code =
     written (has_at s c.coding plain.value) (plain.coded s) none refl
 
 -- From here to there along the rows, at every scope.
-pub record Leads (from : ℕ → ℕ → List Bool → Type 0) (rows : List Row) (to : ℕ → ℕ → List Bool → Type 0) : Type 0 where
+pub record Leads (from : Between) (rows : List Row) (to : Between) : Type 0 where
   pub runs : (s : List ℕ) (before place : ℕ) (gaps : List Bool) → from before place gaps → Runs to (form_of rows s) before place gaps
 
 -- where all rows are plain
@@ -93,28 +93,28 @@ unfolding form_of
 plain_leads rows plain = record { runs = λ s before place gaps here. part_keeps Even IsPlain plain_even 0 (length rows) rows s before place gaps plain here }
 
 -- by the first row
-pub leads_over : (keep : ℕ → ℕ → List Bool → Type 0) → Leads keep [] keep
+pub leads_over : (keep : Between) → Leads keep [] keep
 unfolding form_of part
 leads_over keep = record { runs = λ s before place gaps here. here }
 
-pub leads_field : (from mid to : ℕ → ℕ → List Bool → Type 0) (c : Cell Formula) (rows : List Row) → Takes from c mid → Leads mid rows to → Leads from (Field c ∷ rows) to
+pub leads_field : (from mid to : Between) (c : Cell Formula) (rows : List Row) → Takes from c mid → Leads mid rows to → Leads from (Field c ∷ rows) to
 leads_field from mid to c rows takes rest = record {
   runs = λ s before place gaps here. rw (form-field c rows s) (runs_on mid to (one_field s c) (form_of rows) before place gaps rest.runs (field_runs from mid c s before place gaps takes here));
 }
 
-pub leads_name : (from to : ℕ → ℕ → List Bool → Type 0) (name : ℕ) (formula : Formula) (rows : List Row) → Leads from rows to → Leads from (Name name formula ∷ rows) to
+pub leads_name : (from to : Between) (name : ℕ) (formula : Formula) (rows : List Row) → Leads from rows to → Leads from (Name name formula ∷ rows) to
 leads_name from to name formula rows rest = record {
   runs = λ s before place gaps here. rw (form-name name formula rows s) (rest.runs _ before place gaps here);
 }
 
-pub leads_when : (from to : ℕ → ℕ → List Bool → Type 0) (holds : Formula) (n : ℕ) (rows : List Row) → Leads from rows to → Leads from (drop (min n (length rows)) rows) to → Leads from (When holds n ∷ rows) to
+pub leads_when : (from to : Between) (holds : Formula) (n : ℕ) (rows : List Row) → Leads from rows to → Leads from (drop (min n (length rows)) rows) to → Leads from (When holds n ∷ rows) to
 unfolding form_of part
 leads_when from to holds n rows present absent = record {
   runs = λ s before place gaps here.
       either (value s holds == 0) _ (form_of rows s) to before place gaps (rw (form-drop n rows s) (absent.runs s before place gaps here)) (present.runs s before place gaps here);
 }
 
-pub leads_repeat : (from to : ℕ → ℕ → List Bool → Type 0) (counter : ℕ) (times : Formula) (n : ℕ) (rows : List Row)
+pub leads_repeat : (from to : Between) (counter : ℕ) (times : Formula) (n : ℕ) (rows : List Row)
     → Leads from (take (min n (length rows)) rows) from → Leads from (drop (min n (length rows)) rows) to → Leads from (Repeat counter times n ∷ rows) to
 leads_repeat from to counter times n rows block rest = record {
   runs = λ s before place gaps here.

@@ -17,7 +17,7 @@ use Rattle.vx_table.specs.Values.{Follows, bits_along}
 use Rattle.vx_ptl.specs.declared.tables.TheConstants.{PTL, DPB, TIMING, SUBLAYER_TIMING}
 use Rattle.vx_ptl.specs.Run.{gap, field_coding, item_bits, run_bits, IsRunItem}
 use Rattle.vx_ptl.specs.Spelling.{profile_tier_level, dpb_parameters, general_timing, timing_of_sublayers, no_more, one_more, AreWritten, StructuresAreSpelled, RunsAreSpelled}
-use Rattle.vx_ptl.proofs.Beside.{written, owed, Even, spelled}
+use Rattle.vx_ptl.proofs.Beside.{Between, Even, written, owed, spelled}
 use Rattle.vx_ptl.proofs.Keeping.{Each, IsPlain, Leads, plain_leads, has_at, leads_over, leads_field, leads_name, leads_when, leads_repeat}
 
 dpb_plain : Each IsPlain DPB
@@ -53,15 +53,15 @@ flags_over false place gaps is =
     rw (here, ← is) refl
 
 -- Between the fields before the flags, the last field isn't a flag;
-abbrev Front : ℕ → ℕ → List Bool → Type 0
+abbrev Front : Between
 Front before place gaps = ((before == 20) ≡ false) × (gaps ≡ [])
 
 -- at the flags, the gap before the first is still to come;
-abbrev Flags : ℕ → ℕ → List Bool → Type 0
+abbrev Flags : Between
 Flags before place gaps = gap before 20 place ≡ gaps
 
 -- at the bytes behind them, the gap before the first is, and then there is none.
-abbrev Bytes : ℕ → ℕ → List Bool → Type 0
+abbrev Bytes : Between
 Bytes before place gaps = zeros_from place ≡ gaps
 
 -- no gap before the flags, and then a gap
@@ -77,7 +77,7 @@ no_flag false false true is = absurd (cc)
 no_flag false false false is = refl
 
 -- a plain field before the flags
-plain_front : (c : Cell Formula) (rows : List Row) (to : ℕ → ℕ → List Bool → Type 0) → IsPlain c → Leads Front rows to → Leads Front (Field c ∷ rows) to
+plain_front : (c : Cell Formula) (rows : List Row) (to : Between) → IsPlain c → Leads Front rows to → Leads Front (Field c ∷ rows) to
 plain_front c rows to plain rest =
     leads_field Front Front to c rows (λ s before place gaps v here code. written (has_at s c.coding plain.value) (plain.coded s) (rw (plain.apart before, here.1) refl)
     (no_flag (c.field == 21) (c.field == 22) (c.field == 20) (plain.apart 0), refl)) rest

@@ -86,7 +86,7 @@ fn write_gap(bits: &mut BitWriter, before: u16, field: u16) -> Result<(), AllocE
 ///
 /// # Errors
 ///
-/// Where memory runs out.
+/// Where memory runs out. It isn't said what the bits are then.
 pub fn write_run(
     bits: &mut BitWriter,
     items: &Fields,
