@@ -1,3 +1,4 @@
+-- Lemmas on streams, on emulation bytes, and on the steps of a splitter.
 pub mod Options
 pub mod Places
 pub mod Zeros

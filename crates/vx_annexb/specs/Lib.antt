@@ -1,3 +1,4 @@
+-- What the contracts of this crate cite.
 pub mod Places
 pub mod NalUnit
 pub mod Emulation

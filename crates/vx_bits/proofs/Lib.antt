@@ -1,3 +1,4 @@
+-- Lemmas on codes, and on what a reader and a writer do.
 pub mod Alignment
 pub mod Appending
 pub mod Bits
