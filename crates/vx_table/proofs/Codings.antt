@@ -10,12 +10,12 @@ use Rattle.vx_bits.specs.declared.refusal.BitCause.TheVariants as causes
 use Rattle.vx_bits.specs.declared.refusal.Refusal.{Refusal}
 use Rattle.vx_bits.specs.declared.refusal.Refusal.TheVariants as refusals
 use Rattle.vx_table.specs.declared.rows.Cell.{Cell}
-use Rattle.vx_table.specs.Spelling.{HasCode, code_of, magnitude, MayEnd, Begins, Misses, Stands, IsRefused, missed, broken, reported}
+use Rattle.vx_table.specs.Spelling.{HasCode, code_of, MayEnd, Begins, Misses, Stands, IsRefused, missed, broken, reported}
 use Rattle.std.proofs.lemmas.List.{length-append, append-nil}
 
 -- codes of the same kind at the same place tell their values and what follows
 pub code_apart : (coding : Coding ℕ) (place : ℕ) (v w : ℤ) (r s : List Bool) → HasCode coding v → HasCode coding w → code_of coding place v ++ r ≡ code_of coding place w ++ s → (v ≡ w) × (r ≡ s)
-unfolding HasCode code_of magnitude
+unfolding HasCode code_of
 code_apart (Fixed n) place (pos v) (pos w) r s hv hw e = let p = fixed_apart n v w r s hv hw e in (ap pos p.0, p.1)
 code_apart (Fixed n) place (negsuc v) w r s hv hw e = absurd hv
 code_apart (Fixed n) place (pos v) (negsuc w) r s hv hw e = absurd hw
@@ -34,7 +34,7 @@ begins_apart {coding} {total} {v} {w} {left} {mid} {rest} a b = code_apart codin
 
 -- where a code begins, no cause is found
 pub not_missed : (coding : Coding ℕ) (place : ℕ) (v : ℤ) (left rest : List Bool) (cause : BitCause) → HasCode coding v → left ≡ code_of coding place v ++ rest → MayEnd coding rest → Misses coding place left cause → ⊥
-unfolding HasCode code_of magnitude MayEnd Misses
+unfolding HasCode code_of MayEnd Misses
 not_missed (Fixed n) place (pos v) left rest causes.Short has is end short = omega (arith, ap length is, length-append (fixed n v) rest, length-fixed n v, short)
 not_missed (Fixed n) place (negsuc v) left rest causes.Short has is end short = absurd has
 not_missed Golomb place (pos v) left rest causes.Short has is end short = begins_not_ends left (v, has, (rest, is)) short

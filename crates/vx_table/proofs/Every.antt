@@ -13,7 +13,7 @@ use Rattle.vx_table.specs.declared.rows.Coding.TheVariants.{Fixed, Golomb, Signe
 use Rattle.vx_table.specs.declared.rows.Fault.{Fault}
 use Rattle.vx_table.specs.declared.rows.Cell.{Cell}
 use Rattle.vx_table.specs.Forms.{Form, done, field}
-use Rattle.vx_table.specs.Spelling.{HasCode, code_of, magnitude, MayEnd, Begins, Misses, Stands, fault_of, Spells, at_end, behind, Reaches, here, later, IsRefused, missed, broken}
+use Rattle.vx_table.specs.Spelling.{HasCode, code_of, MayEnd, Begins, Misses, Stands, fault_of, Spells, at_end, behind, Reaches, here, later, IsRefused, missed, broken}
 use Rattle.vx_table.specs.Laws.{AnswersAlways}
 
 -- a code begins at the bits, or there is a cause why none does
@@ -42,7 +42,7 @@ signed_of zero = (pos 0, refl)
 signed_of (suc n) = let before = signed_of n in let next = next_signed before.0 in (next.0, next.1 ∙ ap suc before.1)
 
 fixed_begins : (n total : ℕ) (left : List Bool) → CodeOrCause (Fixed n) total left
-unfolding HasCode code_of magnitude MayEnd Misses
+unfolding HasCode code_of MayEnd Misses
 fixed_begins n total left =
     elim (leb_tells n (length left)) [
       | inl p ↦
@@ -54,7 +54,7 @@ fixed_begins n total left =
     ]
 
 golomb_begins : (total : ℕ) (left : List Bool) → CodeOrCause Golomb total left
-unfolding HasCode code_of magnitude MayEnd Misses
+unfolding HasCode code_of MayEnd Misses
 golomb_begins total left =
     elim (three_ways left) [
       | inl (v, is, (rest, bits)) ↦ inl (pos v, rest, record { value = is; bits = bits; end = tt })
@@ -66,7 +66,7 @@ unfolding HasCode code_of MayEnd
 signed_from v n total left rest same is bits = record { value = rw same is; bits = rw same bits; end = tt }
 
 signed_begins : (total : ℕ) (left : List Bool) → CodeOrCause SignedGolomb total left
-unfolding HasCode code_of magnitude MayEnd Misses
+unfolding HasCode code_of MayEnd Misses
 signed_begins total left =
     elim (three_ways left) [
       | inl (n, is, (rest, bits)) ↦ let v = signed_of n in inl (v.0, rest, signed_from v.0 n total left rest v.1 is bits)
@@ -74,7 +74,7 @@ signed_begins total left =
     ]
 
 zeros_begin : (total : ℕ) (left : List Bool) → CodeOrCause Zeros total left
-unfolding HasCode code_of magnitude MayEnd Misses
+unfolding HasCode code_of MayEnd Misses
 zeros_begin total left =
     elim (begins_or_not (zeros_from (total - length left)) left) [
       | inl p ↦ inl (pos 0, p.0, record { value = refl; bits = p.1; end = tt })
@@ -82,7 +82,7 @@ zeros_begin total left =
     ]
 
 one_begins : (total : ℕ) (left : List Bool) → CodeOrCause OneAndZeros total left
-unfolding HasCode code_of magnitude MayEnd Misses
+unfolding HasCode code_of MayEnd Misses
 one_begins total [] = inr (causes.Short, refl)
 one_begins total (b ∷ left) =
     elim (begins_or_not (one_from (total - length (b ∷ left))) (b ∷ left)) [
@@ -96,7 +96,7 @@ whole_or_not code left [] is = inl refl
 whole_or_not code left (b ∷ rest) is = inr (λ same. omega (arith, ap length is, length-append code (b ∷ rest), ap length same))
 
 trailing_begins : (total : ℕ) (left : List Bool) → CodeOrCause Trailing total left
-unfolding HasCode code_of magnitude MayEnd Misses
+unfolding HasCode code_of MayEnd Misses
 trailing_begins total [] = inr (causes.Short, refl)
 trailing_begins total (b ∷ left) =
     let code : List Bool = one_from (total - length (b ∷ left)) in
@@ -110,7 +110,7 @@ trailing_begins total (b ∷ left) =
     ]
 
 absent_begins : (total : ℕ) (left : List Bool) → CodeOrCause Absent total left
-unfolding HasCode code_of magnitude MayEnd
+unfolding HasCode code_of MayEnd
 absent_begins total left = inl (pos 0, left, record { value = refl; bits = refl; end = tt })
 
 refused_begins : (total : ℕ) (left : List Bool) → CodeOrCause Refused total left

@@ -5,35 +5,35 @@ use Rattle.vx_bits.specs.Place.{Place, taken, Takes}
 use Rattle.vx_bits.specs.declared.refusal.BitCause.{BitCause}
 use Rattle.vx_bits.specs.declared.refusal.BitCause.TheVariants as causes
 use Rattle.vx_table.specs.declared.rows.Coding.TheVariants.{Fixed, Golomb, SignedGolomb, Zeros, OneAndZeros, Trailing, Absent, Refused}
-use Rattle.vx_table.specs.Spelling.{HasCode, code_of, magnitude, MayEnd, Misses}
+use Rattle.vx_table.specs.Spelling.{HasCode, code_of, MayEnd, Misses}
 use Rattle.vx_table.specs.Reading.{takes_code}
 
 pub fixed_taken : (n v : ℕ) (old new : Place) → v < 2 ^ n → Takes (fixed n v) old new → takes_code (Fixed n) old (Ok (pos v)) new
-unfolding HasCode code_of magnitude MayEnd
+unfolding HasCode code_of MayEnd
 fixed_taken n v old new small took = (record { value = small; bits = took.left; end = tt }, took.total)
 
 pub golomb_taken : (v : ℕ) (old new : Place) → IsCodeNumber v → Takes (exp_golomb v) old new → takes_code Golomb old (Ok (pos v)) new
-unfolding HasCode code_of magnitude MayEnd
+unfolding HasCode code_of MayEnd
 golomb_taken v old new is took = (record { value = is; bits = took.left; end = tt }, took.total)
 
 pub signed_taken : (v : ℤ) (old new : Place) → IsCodeNumber (code_number v) → Takes (signed_exp_golomb v) old new → takes_code SignedGolomb old (Ok v) new
-unfolding HasCode code_of magnitude MayEnd
+unfolding HasCode code_of MayEnd
 signed_taken v old new is took = (record { value = is; bits = took.left; end = tt }, took.total)
 
 pub zeros_taken : (old new : Place) → Takes (zeros_from (taken old)) old new → takes_code Zeros old (Ok (pos 0)) new
-unfolding HasCode code_of magnitude MayEnd
+unfolding HasCode code_of MayEnd
 zeros_taken old new took = (record { value = refl; bits = took.left; end = tt }, took.total)
 
 pub one_taken : (old new : Place) → Takes (one_from (taken old)) old new → takes_code OneAndZeros old (Ok (pos 0)) new
-unfolding HasCode code_of magnitude MayEnd
+unfolding HasCode code_of MayEnd
 one_taken old new took = (record { value = refl; bits = took.left; end = tt }, took.total)
 
 pub trailing_taken : (old new : Place) → Takes (one_from (taken old)) old new → new.left ≡ [] → takes_code Trailing old (Ok (pos 0)) new
-unfolding HasCode code_of magnitude MayEnd
+unfolding HasCode code_of MayEnd
 trailing_taken old new took last = (record { value = refl; bits = took.left; end = last }, took.total)
 
 pub absent_taken : (old : Place) → takes_code Absent old (Ok (pos 0)) old
-unfolding HasCode code_of magnitude MayEnd
+unfolding HasCode code_of MayEnd
 absent_taken old = (record { value = refl; bits = refl; end = tt }, refl)
 
 pub refused_missed : (old : Place) → takes_code Refused old (Err causes.OutOfRange) old

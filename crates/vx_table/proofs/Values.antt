@@ -1,4 +1,5 @@
 -- Which values have codes, by their ranges.
+use Rattle.std.specs.Int.RustNames.{unsigned_abs}
 use Rattle.std.proofs.Common.{◌≡◌, ◌↔◌, ℕ, ℤ, pos, negsuc, zero, suc, ◌+◌, ◌-◌, ◌*◌, ◌^◌, ◌<◌, ◌≤ℤ◌, refl, arith, w32, ap, List, [], ◌∷◌, ◌++◌, length, Bool, true}
 use Rattle.std.proofs.lemmas.Int.{ints}
 use Rattle.std.proofs.Math.Pow.{pow_pos}
@@ -6,7 +7,7 @@ use mir.Val.{SFits}
 use Rattle.std.proofs.lemmas.List.{length-append, append_assoc}
 use Rattle.vx_bits.specs.Codes.{fixed, zeros_from, one_from, IsCodeNumber}
 use Rattle.vx_table.specs.declared.rows.Coding.TheVariants.{Fixed, Golomb, SignedGolomb}
-use Rattle.vx_table.specs.Spelling.{HasCode, magnitude}
+use Rattle.vx_table.specs.Spelling.{HasCode}
 
 pub fixed_range : (n : ℕ) (v : ℤ) → ((pos 0 ≤ℤ v) × (v ≤ℤ pos (2 ^ n - 1))) ↔ HasCode (Fixed n) v
 unfolding HasCode
@@ -25,13 +26,13 @@ signed_range (pos (suc v)) = (λ (range : (negsuc 2147483646 ≤ℤ pos (suc v))
 signed_range (negsuc v) = (λ (range : (negsuc 2147483646 ≤ℤ negsuc v) × (negsuc v ≤ℤ pos 2147483647)). omega (arith, ints, range.0), λ (small : 2 * v + 2 + 1 < 2 ^ 32). (omega (arith, ints), omega (arith, ints)))
 
 -- the number of a value
-pub fixed_number : (n : ℕ) (v : ℤ) → HasCode (Fixed n) v → (v ≡ pos (magnitude v)) × (magnitude v < 2 ^ n)
-unfolding HasCode magnitude
+pub fixed_number : (n : ℕ) (v : ℤ) → HasCode (Fixed n) v → (v ≡ pos (unsigned_abs v)) × (unsigned_abs v < 2 ^ n)
+unfolding HasCode
 fixed_number n (pos v) has = (refl, has)
 fixed_number n (negsuc v) has = absurd has
 
-pub golomb_number : (v : ℤ) → HasCode Golomb v → (v ≡ pos (magnitude v)) × IsCodeNumber (magnitude v)
-unfolding HasCode magnitude
+pub golomb_number : (v : ℤ) → HasCode Golomb v → (v ≡ pos (unsigned_abs v)) × IsCodeNumber (unsigned_abs v)
+unfolding HasCode
 golomb_number (pos v) has = (refl, has)
 golomb_number (negsuc v) has = absurd has
 

@@ -5,7 +5,7 @@ use Rattle.vx_bits.specs.declared.refusal.Refusal.{Refusal}
 use Rattle.vx_table.specs.declared.rows.Cell.{Cell}
 use Rattle.vx_table.specs.Forms.{Form}
 use Rattle.vx_table.specs.Spelling.{Spells, Reaches, IsRefused, items_along}
-use Rattle.vx_table.specs.Values.{Follows, bits_along, Closes}
+use Rattle.vx_table.specs.Values.{Follows, ComesTo, bits_along, Closes}
 
 -- bits that begin with spellings of two values begin with one
 abbrev pub ReadsOneWay : Type 0
@@ -30,6 +30,12 @@ abbrev pub SpellsBothWays : Type 0
 SpellsBothWays = (form : Form (List ℕ)) (total : ℕ) (values : List ℤ) (left rest : List Bool) → length left ≤ total
     → Spells total form values left rest
     ↔ ((end : List ℕ) × Follows form values end × (left ≡ bits_along form (total - length left) values ++ rest) × Closes form (total - length left) values rest)
+
+-- and they reach a field exactly where the values go along the form up to it and the bits are their codes
+abbrev pub ReachesBothWays : Type 0
+ReachesBothWays = (form : Form (List ℕ)) (total : ℕ) (values : List ℤ) (left rest : List Bool) (cell : Cell ℕ) → length left ≤ total
+    → Reaches total form values left cell rest
+    ↔ (ComesTo form values cell × (left ≡ bits_along form (total - length left) values ++ rest) × Closes form (total - length left) values rest)
 
 -- values that follow the form are read back from their spelling, at every place and whatever follows that may follow
 abbrev pub ReadsBack : Type 0

@@ -1,4 +1,5 @@
 -- How values are spelled, and where and why bits are refused, said of forms and apart from any walk.
+use Rattle.std.specs.Int.RustNames.{unsigned_abs}
 use Rattle.std.specs.Prelude.{◌≡◌, ◌≢◌, ℕ, ℤ, pos, negsuc, zero, suc, ◌-◌, ◌%◌, ◌^◌, ◌<◌, ◌≤◌, Bool, false, cond, ◌&&◌, ◌==◌, List, [], ◌∷◌, ◌++◌, length, Option, Some, None}
 use Rattle.std.specs.Prelude.{int_le, int_lt}
 use Rattle.vx_bits.specs.Codes.{fixed, exp_golomb, signed_exp_golomb, code_number, IsCodeNumber, zeros_from, one_from, BeginsWith, EndsWithinCode, BeginsTooLong}
@@ -29,15 +30,10 @@ HasCode Trailing v = v ≡ pos 0
 HasCode Absent v = v ≡ pos 0
 HasCode Refused v = ⊥
 
--- the value as a number
-unfoldable pub magnitude : ℤ → ℕ
-magnitude (pos v) = v
-magnitude (negsuc v) = 0
-
 -- the bits of a value at a place of the structure's bits
 unfoldable pub code_of : Coding ℕ → ℕ → ℤ → List Bool
-code_of (Fixed n) place v = fixed n (magnitude v)
-code_of Golomb place v = exp_golomb (magnitude v)
+code_of (Fixed n) place v = fixed n (unsigned_abs v)
+code_of Golomb place v = exp_golomb (unsigned_abs v)
 code_of SignedGolomb place v = signed_exp_golomb v
 code_of Zeros place v = zeros_from place
 code_of OneAndZeros place v = one_from place
@@ -47,14 +43,8 @@ code_of Refused place v = []
 
 -- behind a trailing nothing may follow
 unfoldable pub MayEnd : Coding ℕ → List Bool → Type 0
-MayEnd (Fixed n) rest = Unit {0}
-MayEnd Golomb rest = Unit {0}
-MayEnd SignedGolomb rest = Unit {0}
-MayEnd Zeros rest = Unit {0}
-MayEnd OneAndZeros rest = Unit {0}
 MayEnd Trailing rest = rest ≡ []
-MayEnd Absent rest = Unit {0}
-MayEnd Refused rest = Unit {0}
+MayEnd coding rest = Unit {0}
 
 -- The bits that are left, of so many in all, begin with the code of the value, and the rest is behind it.
 pub record Begins (coding : Coding ℕ) (total : ℕ) (v : ℤ) (left rest : List Bool) : Type 0 where

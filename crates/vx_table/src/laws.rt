@@ -1,5 +1,5 @@
 //! Laws of all tables: functions that do nothing, each with a law as its contract.
-ghost use Rattle.vx_table.specs.Laws.{ReadsOneWay, AnswersOneWay, AnswersAlways, SpellsBothWays, ReadsBack, SpellsApart, ItemsApart};
+ghost use Rattle.vx_table.specs.Laws.{ReadsOneWay, AnswersOneWay, AnswersAlways, SpellsBothWays, ReachesBothWays, ReadsBack, SpellsApart, ItemsApart};
 
 /// Bits that begin with a spelling tell the values and what follows.
 pub fn one_reading()
@@ -16,9 +16,10 @@ pub fn every_answer()
     ensures { AnswersAlways }
 {}
 
-/// To be spelled by bits is to follow the form, and the bits are the codes, one behind another.
+/// To be spelled by bits is to follow the form, and the bits are the codes, one behind another; so also up to a field.
 pub fn spelled_both_ways()
-    ensures { SpellsBothWays }
+    ensures values { SpellsBothWays }
+    ensures fronts { ReachesBothWays }
 {}
 
 /// Values that follow the form are read back from their spelling, whatever follows that may follow.
