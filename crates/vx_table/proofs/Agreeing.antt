@@ -77,19 +77,19 @@ inside_grown {shown} {known} n inside = record {
   ];
 }
 
-pub grows : (shown known : List ℕ) (n : ℕ) → Inside known (grown shown known n)
-grows shown known n = record {
-  has_too = λ m h. elim (cases_Bool (has shown n)) [
-    | inl it_is ↦ rw it_is (elim (cases_eq m n) [
-      | inl is ↦ elim (cases_lt n (length known)) [
-        | inl within ↦ ap is_set (get_or-set_at known n m 1 0 is within)
-        | inr past ↦ rw (set_past known n 1 past) h
-      ]
-      | inr is_not ↦ ap is_set (get_or-set_other known n m 1 0 is_not) ∙ h
-    ])
-    | inr it_is_not ↦ rw it_is_not h
+pub with_one : (names : List ℕ) (n : ℕ) → Inside names (slice_set names n 1)
+with_one names n = record {
+  has_too = λ m h. elim (cases_eq m n) [
+    | inl is ↦ elim (cases_lt n (length names)) [
+      | inl within ↦ ap is_set (get_or-set_at names n m 1 0 is within)
+      | inr past ↦ rw (set_past names n 1 past) h
+    ]
+    | inr is_not ↦ ap is_set (get_or-set_other names n m 1 0 is_not) ∙ h
   ];
 }
+
+pub grows : (shown known : List ℕ) (n : ℕ) → Inside known (grown shown known n)
+grows shown known n = elim (has shown n) as (λ b. Inside known (cond b (slice_set known n 1) known)) [ true ↦ with_one known n | false ↦ inside_itself known ]
 
 -- a term and a formula over known names
 same_term : {known s t : List ℕ} (a : Term) → Agree known s t → knows known a ≡ true → latest s a ≡ latest t a

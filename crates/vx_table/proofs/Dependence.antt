@@ -1,5 +1,6 @@
 -- Where the test of a table holds, its forms at scopes that agree are alike.
 use Rattle.std.proofs.Common.{◌≡◌, inl, inr, ℕ, ℤ, pos, zero, suc, ◌+◌, ◌-◌, ◌≤◌, min, Bool, true, false, cond, not, ◌&&◌, ◌||◌, ◌==◌, IsTrue, IsFalse, List, [], ◌∷◌, length, take, slice_set, refl, ap, sym, subst, ◌∙◌, arith}
+use Rattle.std.proofs.lemmas.List.{take_all}
 use Rattle.std.proofs.lemmas.Bool.{cases_Bool, and_parts, or_cases, not-true, and_from}
 use Rattle.vx_table.specs.declared.rows.Formula.{Formula}
 use Rattle.vx_table.specs.declared.rows.Cell.{Cell}
@@ -9,8 +10,9 @@ use Rattle.vx_table.specs.declared.rows.Row.{Row}
 use Rattle.vx_table.specs.declared.rows.Row.TheVariants.{Field, Block, Name}
 use Rattle.vx_table.specs.Scope.{value, natural, is_set}
 use Rattle.vx_table.specs.Forms.{Form, done, field, ◌>>=◌, has_value, coding_at, cell_at, after, one_field, turns, present, part, form_of}
-use Rattle.vx_table.specs.Depends.{has, Agree, Alike, at_ends, both, hidden_left, hidden_right, knows_formula, knows_cell, knows_presence, hides_counter, hides_row, hides, grown, behind_field, within_block, depends}
-use Rattle.vx_table.proofs.Agreeing.{Inside, inside_itself, not_both_ways, agree_itself, agree_back, agree_on, agree_less, agree_set, agree_outside, grown_other, inside_grown, grows, same_value, same_cell, valued}
+use Rattle.vx_table.specs.Depends.{has, Agree, Alike, at_ends, both, hidden_left, hidden_right, knows_formula, knows_cell, knows_presence, hides_counter, hides_row, hides, grown, behind_field, within_block, block_depends, depends, table_depends, sections_depend, with_all, set_of, depends_only_on, sections_depend_only_on, DependsOnlyOn}
+use Rattle.vx_table.specs.Parts.{Section, section_form, sections_form}
+use Rattle.vx_table.proofs.Agreeing.{Inside, inside_itself, not_both_ways, agree_itself, agree_back, agree_on, agree_less, agree_set, agree_outside, grown_other, inside_grown, with_one, grows, same_value, same_cell, valued}
 
 pub alike_less : {shown known more : List ℕ} {f g : Form (List ℕ)} → Inside known more → Alike shown more f g → Alike shown known f g
 alike_less inside (at_ends agree) = at_ends (agree_less inside agree)
@@ -146,6 +148,23 @@ unfolding within_block
 block_grows shown known (When holds) = inside_itself known
 block_grows shown known (Repeat counter times) = grows shown known counter
 
+-- a block of rows or a table, as often as it is there
+alike_block : (shown known : List ℕ) (presence : Presence) (block : List ℕ → Form (List ℕ)) (hidden : Bool) (within : List ℕ → Bool) (s t : List ℕ) → Inside known shown
+    → block_depends shown known presence hidden within ≡ true → (hidden ≡ true → (u : List ℕ) → Hidden shown u (block u))
+    → ((more : List ℕ) → Inside more shown → within more ≡ true → (u w : List ℕ) → Agree more u w → Alike shown more (block u) (block w)) → Agree known s t
+    → Alike shown known (present presence block s) (present presence block t)
+alike_block shown known presence block hidden within s t inside test hide show agree =
+    let there : List ℕ = within_block shown known presence in
+    elim (or_cases (hides_counter shown presence && hidden) (knows_presence known presence && within there) test) [
+      | inl h ↦
+          let parts = and_parts (hides_counter shown presence) hidden h in
+          hidden_alike s t (present presence block s) (present presence block t) inside agree
+          (hidden_present shown presence block s parts.0 (hide parts.1)) (hidden_present shown presence block t parts.0 (hide parts.1))
+      | inr h ↦
+          let parts = and_parts (knows_presence known presence) (within there) h in
+          alike_present presence block s t parts.0 (λ u w same. alike_less (block_grows shown known presence) (show there (inside_block presence inside) parts.1 u w same)) agree
+    ]
+
 field_grows : (shown known : List ℕ) (c : Cell Formula) → Inside known (behind_field shown known c)
 unfolding behind_field
 field_grows shown known c = elim (has_value c.coding) as (λ b. Inside known (cond b (grown shown known c.field) known)) [
@@ -205,22 +224,48 @@ alike_part shown known zero (suc len) (Field c ∷ rows) s t inside test agree =
           (agree_on (agree_less inside (agree_back (after_hidden shown s c v is))) (agree_on agree (agree_less inside (after_hidden shown t c w is))))))
     ]
 alike_part shown known zero (suc len) (Block presence n ∷ rows) s t inside test agree =
-    let hidden : Bool = hides_counter shown presence && hides shown (take (min n len) rows) in
-    let known_there : Bool = knows_presence known presence && depends shown (within_block shown known presence) 0 (min n len) rows in
-    let parts = and_parts (hidden || known_there) (depends shown known (min n len) (len - min n len) rows) test in
-    let block : Alike shown known (present presence (part 0 (min n len) rows) s) (present presence (part 0 (min n len) rows) t) = elim (or_cases hidden known_there parts.0) [
-      | inl hide ↦
-          let both_hide = and_parts (hides_counter shown presence) (hides shown (take (min n len) rows)) hide in
-          let at_each = λ (u : List ℕ). hidden_part shown 0 (min n len) rows u (hides_fewer shown (0 + min n len) (min n len) rows (omega arith) both_hide.1) in
-          hidden_alike s t (present presence (part 0 (min n len) rows) s) (present presence (part 0 (min n len) rows) t) inside agree
-          (hidden_present shown presence (part 0 (min n len) rows) s both_hide.0 at_each) (hidden_present shown presence (part 0 (min n len) rows) t both_hide.0 at_each)
-      | inr knows ↦
-          let both_know = and_parts (knows_presence known presence) (depends shown (within_block shown known presence) 0 (min n len) rows) knows in
-          alike_present presence (part 0 (min n len) rows) s t both_know.0
-          (λ u w within. alike_less (block_grows shown known presence) (alike_part shown (within_block shown known presence) 0 (min n len) rows u w (inside_block presence inside) both_know.1 within)) agree
-    ] in
+    let hidden : Bool = hides shown (take (min n len) rows) in
+    let within : List ℕ → Bool = λ more. depends shown more 0 (min n len) rows in
+    let parts = and_parts (block_depends shown known presence hidden within) (depends shown known (min n len) (len - min n len) rows) test in
+    let block = alike_block shown known presence (part 0 (min n len) rows) hidden within s t inside parts.0
+    (λ hide u. hidden_part shown 0 (min n len) rows u (hides_fewer shown (0 + min n len) (min n len) rows (omega arith) hide))
+    (λ more there holds u w same. alike_part shown more 0 (min n len) rows u w there holds same) agree in
     alike_then block (λ u w behind. alike_part shown known (min n len) (len - min n len) rows u w inside parts.1 behind)
 alike_part shown known zero (suc len) (Name name formula ∷ rows) s t inside test agree =
     let parts = and_parts (not (has shown name) || knows_formula known formula) (depends shown (grown shown known name) 0 len rows) test in
     alike_less (grows shown known name)
     (alike_part shown (grown shown known name) 0 len rows (slice_set s name (value s formula)) (slice_set t name (value t formula)) (inside_grown name inside) parts.1 (named name formula inside parts.0 agree))
+
+alike_table : (shown known : List ℕ) (rows : List Row) (s t : List ℕ) → Inside known shown → table_depends shown known rows ≡ true → Agree known s t
+    → Alike shown known (form_of rows s) (form_of rows t)
+unfolding form_of
+alike_table shown known rows s t inside test agree = alike_part shown known 0 (length rows) rows s t inside test agree
+
+hidden_table : (shown : List ℕ) (rows : List Row) (s : List ℕ) → hides shown rows ≡ true → Hidden shown s (form_of rows s)
+unfolding form_of
+hidden_table shown rows s hide = hidden_part shown 0 (length rows) rows s (rw (take_all (0 + length rows) rows (omega arith)) hide)
+
+alike_sections : (shown known : List ℕ) (sections : List Section) (s t : List ℕ) → Inside known shown → sections_depend shown known sections ≡ true → Agree known s t
+    → Alike shown known (sections_form sections s) (sections_form sections t)
+unfolding sections_form
+alike_sections shown known [] s t inside test agree = at_ends agree
+alike_sections shown known (section ∷ more) s t inside test agree =
+    let hidden : Bool = hides shown section.rows in
+    let within : List ℕ → Bool = λ there. table_depends shown there section.rows in
+    let parts = and_parts (block_depends shown known section.presence hidden within) (sections_depend shown known more) test in
+    let first = alike_block shown known section.presence (form_of section.rows) hidden within s t inside parts.0
+    (λ hide u. hidden_table shown section.rows u hide) (λ there inside_there holds u w same. alike_table shown there section.rows u w inside_there holds same) agree in
+    alike_then first (λ u w behind. alike_sections shown known more u w inside parts.1 behind)
+
+-- a set lies within itself with more names
+inside_with_all : (names more : List ℕ) → Inside names (with_all names more)
+inside_with_all names [] = inside_itself names
+inside_with_all names (n ∷ more) = record { has_too = λ m h. (inside_with_all (slice_set names n 1) more).has_too m ((with_one names n).has_too m h) }
+
+-- What the test of a table and of a structure says.
+pub table_depends_only_on : (given shown : List ℕ) (rows : List Row) → depends_only_on given shown rows ≡ true → DependsOnlyOn given shown (form_of rows)
+table_depends_only_on given shown rows test s t agree = alike_table (with_all (set_of given) shown) (set_of given) rows s t (inside_with_all (set_of given) shown) test agree
+
+pub structure_depends_only_on : (given shown : List ℕ) (sections : List Section) → sections_depend_only_on given shown sections ≡ true → DependsOnlyOn given shown (sections_form sections)
+structure_depends_only_on given shown sections test s t agree =
+    alike_sections (with_all (set_of given) shown) (set_of given) sections s t (inside_with_all (set_of given) shown) test agree

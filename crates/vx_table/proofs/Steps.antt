@@ -8,7 +8,7 @@ use Rattle.vx_table.specs.declared.rows.Row.TheVariants.{Field, Block, Name}
 use Rattle.vx_table.specs.declared.rows.Presence.{Presence}
 use Rattle.vx_table.specs.Forms.{Form, done, ◌>>=◌, cell_at, after, one_field, turns, present, part, form_of}
 use Rattle.vx_table.specs.declared.parts.Part.{Part}
-use Rattle.vx_table.specs.Parts.{part_form, parts_form}
+use Rattle.vx_table.specs.Parts.{sections_form, section_form, section_of, parts_form}
 use Rattle.vx_table.specs.Scope.{value}
 use Rattle.vx_table.specs.Walks.{Walks, ended, coded, refused}
 use Rattle.vx_table.proofs.Blocks.{form-field, form-name, form-block}
@@ -117,21 +117,21 @@ module _ {C I E : Type 0} {step : C → I → Cell ℕ → Result ℤ E → C �
 -- What is left of parts behind the one at a place.
 module _ {C I E : Type 0} {step : C → I → Cell ℕ → Result ℤ E → C → I → Type 0} {whole : Form (List ℕ)} {first : C} {first_items : I} where
   at_part : (parts : List Part) (i : ℕ) (none : Part) (s : List ℕ) {c : C} {j : I} → i < length parts
-      → Leads step whole first first_items (parts_form (drop i parts) s) c j → Leads step whole first first_items (part_form (get_or parts i none) s >>= parts_form (drop (i + 1) parts)) c j
-  unfolding parts_form
+      → Leads step whole first first_items (parts_form (drop i parts) s) c j → Leads step whole first first_items (section_form (section_of (get_or parts i none)) s >>= parts_form (drop (i + 1) parts)) c j
+  unfolding sections_form
   at_part parts i none s more before = rw (add-one) (rw (drop-cons parts i none more) at before)
 
   pub leads-part : (parts : List Part) (i : ℕ) (none : Part) (s t : List ℕ) {c d : C} {j k : I} → i < length parts
-      → Leads step whole first first_items (parts_form (drop i parts) s) c j → Walks step (part_form (get_or parts i none) s) c j (Ok t) d k → Leads step whole first first_items (parts_form (drop (i + 1) parts) t) d k
+      → Leads step whole first first_items (parts_form (drop i parts) s) c j → Walks step (section_form (section_of (get_or parts i none)) s) c j (Ok t) d k → Leads step whole first first_items (parts_form (drop (i + 1) parts) t) d k
   leads-part parts i none s t more before walked = leads-then (parts_form (drop (i + 1) parts)) (at_part parts i none s more before) walked
 
   pub stop-part : (parts : List Part) (i : ℕ) (none : Part) (s : List ℕ) {e : E} {c d : C} {j k : I} → i < length parts
-      → Leads step whole first first_items (parts_form (drop i parts) s) c j → Walks step (part_form (get_or parts i none) s) c j (Err e) d k → Walks step whole first first_items (Err e) d k
+      → Leads step whole first first_items (parts_form (drop i parts) s) c j → Walks step (section_form (section_of (get_or parts i none)) s) c j (Err e) d k → Walks step whole first first_items (Err e) d k
   stop-part parts i none s more before walked = leads-stop (parts_form (drop (i + 1) parts)) (at_part parts i none s more before) walked
 
   pub leads-no_part : (parts : List Part) (i : ℕ) (s : List ℕ) {c : C} {j : I} → length parts ≤ i
       → Leads step whole first first_items (parts_form (drop i parts) s) c j → Walks step whole first first_items (Ok s) c j
-  unfolding parts_form
+  unfolding sections_form
   leads-no_part parts i s none before =
       let end : drop i parts ≡ [] = drop_of_length-le parts none in
       leads-end (rw end at before)

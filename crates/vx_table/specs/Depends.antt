@@ -14,7 +14,8 @@ use Rattle.vx_table.specs.declared.rows.Presence.TheVariants.{When, Repeat}
 use Rattle.vx_table.specs.declared.rows.Row.{Row}
 use Rattle.vx_table.specs.declared.rows.Row.TheVariants.{Field, Block, Name}
 use Rattle.vx_table.specs.Scope.{fresh, is_set}
-use Rattle.vx_table.specs.Forms.{Form, done, field, has_value, form_of}
+use Rattle.vx_table.specs.Forms.{Form, done, field, has_value}
+use Rattle.vx_table.specs.Parts.{Section}
 
 -- A set of fields and names is a scope in which they have a number.
 abbrev pub has : List ℕ → ℕ → Bool
@@ -118,8 +119,13 @@ unfoldable pub within_block : List ℕ → List ℕ → Presence → List ℕ
 within_block shown known (When holds) = known
 within_block shown known (Repeat counter times) = grown shown known counter
 
--- A shown field's width and range, and a shown name's formula, read what is known there; a block whose presence isn't known hides all
--- that it has. It is said of len rows, those behind the first skip of them.
+-- A block's presence is known, and its rows pass with what is known within it; or all that it has is hidden.
+abbrev pub block_depends : List ℕ → List ℕ → Presence → Bool → (List ℕ → Bool) → Bool
+block_depends shown known presence hidden inside =
+    (hides_counter shown presence && hidden) || (knows_presence known presence && inside (within_block shown known presence))
+
+-- A shown field's width and range and a shown name's formula read only what is known there. It is said of len rows, those behind the first
+-- skip of them.
 unfoldable pub depends : List ℕ → List ℕ → ℕ → ℕ → List Row → Bool
 depends shown known skip len [] = true
 depends shown known (suc skip) len (row ∷ rows) = depends shown known skip len rows
@@ -127,14 +133,24 @@ depends shown known zero zero (row ∷ rows) = true
 depends shown known zero (suc len) (Field c ∷ rows) =
     (not (has shown c.field) || knows_cell known c) && depends shown (behind_field shown known c) zero len rows
 depends shown known zero (suc len) (Block presence n ∷ rows) =
-    ((hides_counter shown presence && hides shown (take (min n len) rows))
-        || (knows_presence known presence && depends shown (within_block shown known presence) zero (min n len) rows))
+    block_depends shown known presence (hides shown (take (min n len) rows)) (λ more. depends shown more zero (min n len) rows)
     && depends shown known (min n len) (len - min n len) rows
 depends shown known zero (suc len) (Name name formula ∷ rows) =
     (not (has shown name) || knows_formula known formula) && depends shown (grown shown known name) zero len rows
 
+-- it is said of a table,
 abbrev pub table_depends : List ℕ → List ℕ → List Row → Bool
 table_depends shown known rows = depends shown known 0 (length rows) rows
 
+-- and of the tables of a structure
+abbrev pub sections_depend : List ℕ → List ℕ → List Section → Bool
+sections_depend shown known [] = true
+sections_depend shown known (section ∷ more) =
+    block_depends shown known section.presence (hides shown section.rows) (λ there. table_depends shown there section.rows) && sections_depend shown known more
+
+-- the test of a table, and of a structure
 abbrev pub depends_only_on : (given shown : List ℕ) → List Row → Bool
 depends_only_on given shown rows = table_depends (with_all (set_of given) shown) (set_of given) rows
+
+abbrev pub sections_depend_only_on : (given shown : List ℕ) → List Section → Bool
+sections_depend_only_on given shown sections = sections_depend (with_all (set_of given) shown) (set_of given) sections

@@ -4,8 +4,8 @@ pub mod Walks
 pub mod Spelling
 pub mod Items
 pub mod Laws
-pub mod Depends
 pub mod Parts
+pub mod Depends
 pub mod Reading
 pub mod Values
 pub mod Writing
