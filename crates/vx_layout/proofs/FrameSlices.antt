@@ -1,16 +1,17 @@
 -- The slices of a frame: where they stand, in which order, and which of them are a region's.
-use Rattle.std.proofs.Common.{◌≡◌, ℕ, suc, zero, ◌+◌, ◌-◌, ◌<◌, ◌≤◌, true, false, cond, List, [], ◌∷◌, ◌++◌, length, get_or, count_by, filter, map, refl, ap, sym, ◌∙◌, subst, inl, inr, arith}
+use Rattle.std.proofs.Common.{◌≡◌, ℕ, suc, zero, ◌+◌, ◌-◌, ◌<◌, ◌≤◌, true, false, cond, List, [], ◌∷◌, ◌++◌, length, get_or, take, count_by, map, refl, ap, sym, ◌∙◌, subst, inl, inr, arith}
 use Rattle.std.proofs.lemmas.Bool.{cases_Bool, both_ways, false_from_ne_true}
 use Rattle.std.proofs.lemmas.List.{append-nil, append_assoc, get_or-map, length-map}
-use Rattle.std.proofs.lemmas.List.Elements.{All-append, All-cons, All-head, All-map, All-nil, All-tail, All-weaker, filter-append}
+use Rattle.std.proofs.lemmas.List.Elements.{All-append, All-head, All-map, All-nil, All-tail, All-weaker, filter-append}
 use Rattle.std.proofs.lemmas.List.Kept.{AllPairs-cons}
-use Rattle.std.specs.List.{All, AllPairs, AllZip, Any, flat_map, zip}
+use Rattle.std.specs.List.{All, AllPairs, AllZip, Any}
 use Rattle.vx_layout.specs.declared.rect.Rect.{Rect}
 use Rattle.vx_layout.specs.Frames.{Fills, frame_slices, moved_to}
 use Rattle.vx_layout.specs.Rects.{CoversOnce, IsPart, Precedes, fits, holds, in_order, slices_of}
 use Rattle.vx_layout.specs.Regions.{counted_from}
 use Rattle.vx_layout.proofs.Counting.{count_by-append, count_by-cons, holds-fits, same_place}
 use Rattle.vx_layout.proofs.Holding.{fits_from, holds_from, holds_tells}
+use Rattle.vx_layout.proofs.Owners.{corner_held}
 
 -- what holds of each pair holds of the pair at k
 pub AllZip-at : {X Y : Type 0} (R : X → Y → Type 0) (xs : List X) (ys : List Y) (k : ℕ) (d : X) (e : Y) → AllZip R xs ys → k < length xs → R (get_or xs k d) (get_or ys k e)
@@ -18,6 +19,29 @@ AllZip-at R [] ys k d e each short = absurd (omega arith)
 AllZip-at R (x ∷ xs) [] k d e each short = absurd each
 AllZip-at R (x ∷ xs) (y ∷ ys) zero d e each short = each.0
 AllZip-at R (x ∷ xs) (y ∷ ys) (suc k) d e each short = AllZip-at R xs ys k d e each.1 (omega arith)
+
+pub AllZip-long : {X Y : Type 0} (R : X → Y → Type 0) (xs : List X) (ys : List Y) → AllZip R xs ys → length xs ≡ length ys
+AllZip-long R [] [] each = refl
+AllZip-long R [] (y ∷ ys) each = absurd each
+AllZip-long R (x ∷ xs) [] each = absurd each
+AllZip-long R (x ∷ xs) (y ∷ ys) each = omega (arith, AllZip-long R xs ys each.1)
+
+pub AllZip-from : {X Y : Type 0} (R : X → Y → Type 0) (xs : List X) (ys : List Y) → length xs ≡ length ys → ((k : ℕ) (d : X) (e : Y) → k < length xs → R (get_or xs k d) (get_or ys k e)) → AllZip R xs ys
+AllZip-from R [] [] long each = tt
+AllZip-from R [] (y ∷ ys) long each = absurd (omega arith)
+AllZip-from R (x ∷ xs) [] long each = absurd (omega arith)
+AllZip-from R (x ∷ xs) (y ∷ ys) long each = (each 0 x y (omega arith), AllZip-from R xs ys (omega arith) (λ k d e short. each (suc k) d e (omega arith)))
+
+-- the slices of one more region
+pub frame-more : (regions : List Rect) (pictures : List (List Rect)) (k : ℕ) (d : Rect) (e : List Rect) → k < length regions → k < length pictures →
+    frame_slices (take (k + 1) regions) (take (k + 1) pictures) ≡ frame_slices (take k regions) (take k pictures) ++ map (moved_to (get_or regions k d)) (get_or pictures k e)
+frame-more [] pictures k d e short low = absurd (omega arith)
+frame-more (s ∷ ss) [] k d e short low = absurd (omega arith)
+frame-more (s ∷ ss) (p ∷ ps) zero d e short low = append-nil (map (moved_to s) p)
+frame-more (s ∷ ss) (p ∷ ps) (suc k) d e short low =
+    let next : suc k + 1 ≡ suc (k + 1) = omega arith in
+    ap (λ n. frame_slices (take n (s ∷ ss)) (take n (p ∷ ps))) next
+    ∙ (ap (λ t. map (moved_to s) p ++ t) (frame-more ss ps k d e (omega arith) (omega arith)) ∙ sym (append_assoc (map (moved_to s) p) (frame_slices (take k ss) (take k ps)) (map (moved_to (get_or ss k d)) (get_or ps k e))))
 
 -- moved to a corner and counted from there, a rectangle is what it was
 pub counted-moved : (c r : Rect) → counted_from c (moved_to c r) ≡ r
@@ -176,12 +200,10 @@ apart_regions regions w h parts cover = λ i j d less short x y on_i on_j.
 -- a slice that lies in a rectangle lies in none apart from it
 not_in : (r s t : Rect) → IsIn s r → Apart t s → fits r t ≡ false
 not_in r s t inside apart =
-    let wide = inside.wide in
-    let high = inside.high in
-    let here : holds r r.x r.y ≡ true = holds_from r r.x r.y (omega arith) (omega arith) (omega arith) (omega arith) in
+    let here : holds r r.x r.y ≡ true = corner_held r inside.wide inside.high in
     false_from_ne_true _ (λ f. apart r.x r.y (holds-fits r t r.x r.y f here) (holds-fits r s r.x r.y inside.fit here))
 
-slices_all : (rects : List Rect) (s : Rect) → All (IsIn s) rects → slices_of rects s ≡ rects
+pub slices_all : (rects : List Rect) (s : Rect) → All (IsIn s) rects → slices_of rects s ≡ rects
 slices_all [] s inside = refl
 slices_all (r ∷ rs) s inside = rw (All-head (IsIn s) r rs inside).fit (ap (λ t. r ∷ t) (slices_all rs s (All-tail (IsIn s) r rs inside)))
 

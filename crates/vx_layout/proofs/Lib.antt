@@ -3,7 +3,10 @@ pub mod Counted
 pub mod Counting
 pub mod Cutting
 pub mod Entries
+pub mod FrameBounds
+pub mod FrameEnds
 pub mod FrameSlices
+pub mod FrameWhole
 pub mod Holding
 pub mod Lowest
 pub mod Marks

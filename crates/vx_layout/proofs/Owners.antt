@@ -15,7 +15,7 @@ use Rattle.vx_layout.proofs.Holding.{holds_tells, holds_from, fits_empty}
 use Rattle.vx_layout.proofs.Counting.{holds-fits, same_place}
 
 -- the corner CTU of a slice
-corner_held : (r : Rect) → 0 < r.w → 0 < r.h → holds r r.x r.y ≡ true
+pub corner_held : (r : Rect) → 0 < r.w → 0 < r.h → holds r r.x r.y ≡ true
 corner_held r wide high = holds_from r r.x r.y (omega arith) (omega arith) (omega arith) (omega arith)
 
 -- a slice that begins outside the picture lies in no subpicture

@@ -3,6 +3,7 @@ use Rattle.std.proofs.Common.{◌≡◌, ℕ, suc, zero, ◌+◌, ◌-◌, ◌<�
 use Rattle.std.proofs.lemmas.Bool.{cases_lt, both_ways, and_parts, and_from, or_cases, or_left, or_right, eqb-true, eq-eqb, leb-true, le-leb}
 use Rattle.std.specs.List.{Contains}
 use Rattle.vx_layout.specs.declared.rect.Rect.{Rect}
+use Rattle.vx_layout.specs.Borders.{SplitsAtLines}
 use Rattle.vx_layout.specs.Bounds.{RisesAbove, Rises, last_after, last}
 use Rattle.vx_layout.specs.Faults.{NoneBetween, IsSpan, IsTile, LiesIn, SameSides, SplitsWell}
 use Rattle.vx_layout.specs.Lines.{AreNextBounds, is_line, none_between, splits_by}
@@ -100,12 +101,6 @@ tile_at columns rows x y c r v w =
       };
       here = holds_from t x y across.low (omega (arith, across.high)) down.low (omega (arith, down.high));
     }
-
--- the borders of a subpicture where the tiles allow it
-pub record SplitsAtLines (columns rows : List ℕ) (s : Rect) : Type 0 where
-  pub left : Contains columns s.x
-  pub right : Contains columns (s.x + s.w)
-  pub ends : (Contains rows s.y × Contains rows (s.y + s.h)) ⊎ (NoneBetween columns s.x (s.x + s.w) × NoneBetween rows s.y (s.y + s.h))
 
 -- a bound that doesn't pass strictly between two others
 at_or_below : (low c high : ℕ) → (low < c → high ≤ c) → c < high → c ≤ low

@@ -1,9 +1,9 @@
 -- A frame put together of several pictures: each stands in a region, a rectangle of the frame, and its slices move to that corner.
-use Rattle.std.specs.Prelude.{◌≡◌, ◌↔◌, ℕ, ◌+◌, ◌<◌, ◌⊎◌, List, All, Contains, length, map}
+use Rattle.std.specs.Prelude.{◌≡◌, ℕ, ◌+◌, ◌<◌, List, All, length, map}
 use Rattle.std.specs.List.{flat_map, zip}
 use Rattle.vx_layout.specs.declared.numbers.Numbers.{Numbers}
 use Rattle.vx_layout.specs.declared.rect.Rect.{Rect}
-use Rattle.vx_layout.specs.Bounds.{last}
+use Rattle.vx_layout.specs.Borders.{HasLines}
 use Rattle.vx_layout.specs.Faults.{height, width}
 use Rattle.vx_layout.specs.Layouts.{IsSound}
 use Rattle.vx_layout.specs.Rects.{CoversOnce, IsPart}
@@ -20,16 +20,6 @@ frame_slices regions pictures = flat_map (λ p. map (moved_to p.0) p.1) (zip reg
 pub record Fills (region : Rect) (slices : List Rect) : Type 0 where
   pub parts : All (IsPart region.w region.h) slices
   pub once : CoversOnce slices region.w region.h
-
--- strictly inside the region from `from` on the frame has the bounds that the picture has
-abbrev pub SameInside : List ℕ → ℕ → List ℕ → Type 0
-SameInside bounds from own = (c : ℕ) → 0 < c → c < last own → Contains bounds (from + c) ↔ Contains own c
-
--- and at the region's borders it has some too
-pub record HasLines (bounds : List ℕ) (from : ℕ) (own : List ℕ) : Type 0 where
-  pub begins : Contains bounds from
-  pub ends : Contains bounds (from + last own)
-  pub inside : SameInside bounds from own
 
 -- a picture of one subpicture, of the region's size, each of whose slices holds a CTU, and whose tile bounds are the frame's there
 pub record Stands (columns rows : List ℕ) (region : Rect) (picture : Numbers) : Type 0 where

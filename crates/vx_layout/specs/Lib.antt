@@ -1,3 +1,4 @@
+pub mod Borders
 pub mod Bounds
 pub mod Faults
 pub mod Frames

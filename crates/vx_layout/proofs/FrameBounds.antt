@@ -1,0 +1,141 @@
+-- Bounds cut to a region that has bounds of its own, and a region of a region.
+use Rattle.std.proofs.Common.{◌≡◌, ℕ, ◌+◌, ◌-◌, ◌<◌, ◌≤◌, Bool, true, ◌&&◌, ltb, List, [], ◌∷◌, ◌++◌, length, get_or, filter, map, refl, ap, sym, ◌∙◌, subst, inl, inr, arith, zero-add}
+use Rattle.std.proofs.lemmas.Bool.{and_from, and_parts, both_ways, cases_Bool, cases_lt, ltb-true, lt-ltb}
+use Rattle.std.proofs.lemmas.List.{get_or-map, length-map}
+use Rattle.std.proofs.lemmas.List.Elements.{All-contains, All-contains_itself, All-filter, All-map, Contains-append_cases, Contains-append_left, Contains-append_right, filter_passes}
+use Rattle.std.proofs.lemmas.List.Folds.{map_fixed}
+use Rattle.std.specs.List.{Contains}
+use Rattle.vx_layout.specs.declared.numbers.Numbers.{Numbers}
+use Rattle.vx_layout.specs.declared.rect.Rect.{Rect}
+use Rattle.vx_layout.specs.Borders.{SameInside}
+use Rattle.vx_layout.specs.Bounds.{Rises, last}
+use Rattle.vx_layout.specs.Layouts.{IsSound, no_rect, slices_in, subpic_at}
+use Rattle.vx_layout.specs.Regions.{counted_from, cut, inner, region_of, whole}
+use Rattle.vx_layout.proofs.Members.{Rises-members}
+use Rattle.vx_layout.proofs.Moving.{Rises-cut, all_fit, filter_all, last-cut}
+use Rattle.vx_layout.proofs.Rising.{Rises-level, bound_at, bound_from}
+use Rattle.vx_layout.proofs.Splitting.{Contains-cases, Contains-cons}
+use Rattle.vx_layout.proofs.Tiling.{last-get_or}
+
+Contains-kept : (p : ℕ → Bool) (bs : List ℕ) (c : ℕ) → Contains bs c → p c ≡ true → Contains (filter p bs) c
+Contains-kept p [] c inside on = inside
+Contains-kept p (b ∷ bs) c inside on =
+    elim (cases_Bool (p b)) [
+      | inl here ↦ rw here (elim (Contains-cases b bs c inside) [ inl e ↦ (0, omega arith, e) | inr later ↦ Contains-cons b (filter p bs) c (Contains-kept p bs c later on) ])
+      | inr off ↦ rw off (elim (Contains-cases b bs c inside) [ inl e ↦ absurd (both_ways _ off (subst (λ m. p m ≡ true) (sym e) on)) | inr later ↦ Contains-kept p bs c later on ])
+    ]
+
+Contains-image : {X Y : Type 0} (f : X → Y) (xs : List X) (x : X) → Contains xs x → Contains (map f xs) (f x)
+Contains-image f xs x (k, short, is) = (k, omega (arith, length-map xs f), get_or-map f xs k x (f x) short ∙ ap f is)
+
+-- a bound strictly inside, counted from the first column or row
+inner_tells : (bounds : List ℕ) (from size n : ℕ) → Contains (map (λ b. b - from) (inner bounds from size)) n → Contains bounds (from + n) × (0 < n) × (n < size)
+inner_tells bounds from size n inside =
+    let test : ℕ → Bool = λ b. ltb from b && ltb b (from + size) in
+    let P : ℕ → Type 0 = λ m. Contains bounds (from + m) × (0 < m) × (m < size) in
+    let Q : ℕ → Type 0 = λ b. Contains bounds b in
+    All-contains P (map (λ b. b - from) (inner bounds from size)) n
+    (All-map P (λ b. b - from) (inner bounds from size)
+    (λ k d short.
+    let b : ℕ = get_or (inner bounds from size) k d in
+    let passes = and_parts _ _ (filter_passes test bounds k d short) in
+    let above : from < b = ltb-true _ _ passes.0 in
+    let below : b < from + size = ltb-true _ _ passes.1 in
+    let back : b ≡ from + (b - from) = omega arith in
+    (subst (λ m. Contains bounds m) back (All-filter test Q bounds (All-contains_itself bounds) k d short), omega arith, omega arith)))
+    inside
+
+inner_from : (bounds : List ℕ) (from size n : ℕ) → Contains bounds (from + n) → 0 < n → n < size → Contains (map (λ b. b - from) (inner bounds from size)) n
+inner_from bounds from size n inside some below =
+    let back : from + n - from ≡ n = omega arith in
+    let above : from < from + n = omega arith in
+    let under : from + n < from + size = omega arith in
+    subst (λ m. Contains (map (λ b. b - from) (inner bounds from size)) m) back
+    (Contains-image (λ b. b - from) (inner bounds from size) (from + n)
+    (Contains-kept (λ b. ltb from b && ltb b (from + size)) bounds (from + n) inside (and_from _ _ (lt-ltb _ _ above) (lt-ltb _ _ under))))
+
+-- the first bound, the last one, and those between
+Contains-first : (bounds : List ℕ) → Rises bounds → 0 < last bounds → Contains bounds 0
+Contains-first [] rises some = absurd (omega arith)
+Contains-first (b ∷ bs) rises some = (0, omega arith, rises.0)
+
+some_bound : (bounds : List ℕ) → 0 < last bounds → 0 < length bounds
+some_bound [] some = some
+some_bound (b ∷ bs) some = omega arith
+
+Contains-last : (bounds : List ℕ) → 0 < last bounds → Contains bounds (last bounds)
+Contains-last bounds some =
+    let long = some_bound bounds some in
+    bound_from bounds (length bounds - 1) (last bounds) (omega arith) (sym (last-get_or bounds long))
+
+Contains-le-last : (bounds : List ℕ) (n : ℕ) → Rises bounds → Contains bounds n → n ≤ last bounds
+Contains-le-last bounds n rises inside =
+    let at = bound_at bounds n inside in
+    let level = Rises-level bounds at.0 (length bounds - 1) rises (omega (arith, at.1)) (omega (arith, at.1)) in
+    omega (arith, at.2, level, last-get_or bounds (omega (arith, at.1)))
+
+-- where the bounds inside a region are its own, so are the cut bounds
+pub cut-own : (bounds own : List ℕ) (from : ℕ) → Rises bounds → Rises own → 0 < last own → SameInside bounds from own → cut bounds from (last own) ≡ own
+cut-own bounds own from rises own_rises some same =
+    let size : ℕ = last own in
+    let inside : List ℕ = map (λ b. b - from) (inner bounds from size) in
+    Rises-members (cut bounds from size) own (Rises-cut bounds from size rises some) own_rises
+    (λ n. (
+      λ cut_has.
+          elim (Contains-cases 0 (inside ++ size ∷ []) n cut_has) [
+            | inl first ↦ subst (λ m. Contains own m) first (Contains-first own own_rises some)
+            | inr later ↦
+                elim (Contains-append_cases inside (size ∷ []) n later) [
+                  | inl between ↦ let is = inner_tells bounds from size n between in (same n is.1 is.2).0 is.0
+                  | inr final ↦
+                      elim (Contains-cases size [] n final) [
+                        | inl end ↦ subst (λ m. Contains own m) end (Contains-last own some)
+                        | inr none ↦ absurd (omega (arith, none.1))
+                      ]
+                ]
+          ],
+      λ own_has.
+          let upto : n ≤ size = Contains-le-last own n own_rises own_has in
+          elim (cases_lt 0 n) [
+            | inr zero ↦ (0, omega arith, omega arith)
+            | inl above ↦
+                elim (cases_lt n size) [
+                  | inl below ↦ Contains-cons 0 (inside ++ size ∷ []) n (Contains-append_left inside (size ∷ []) n (inner_from bounds from size n ((same n above below).1 own_has) above below))
+                  | inr past ↦
+                      let end : size ≡ n = omega arith in
+                      Contains-cons 0 (inside ++ size ∷ []) n (Contains-append_right inside (size ∷ []) n (0, omega arith, end))
+                ]
+          ],
+    ))
+
+cut-cut : (bounds : List ℕ) (from size : ℕ) → Rises bounds → 0 < size → cut (cut bounds from size) 0 size ≡ cut bounds from size
+cut-cut bounds from size rises some =
+    let own : List ℕ = cut bounds from size in
+    let own_rises : Rises own = Rises-cut bounds from size rises some in
+    let reach : last own ≡ size = last-cut bounds from size in
+    subst (λ m. cut own 0 m ≡ own) reach
+    (cut-own own own 0 own_rises own_rises (omega arith) (λ c above below. (subst (λ m. Contains own m) (zero-add c), subst (λ m. Contains own m) (sym (zero-add c)))))
+
+pub same_numbers : (a b : Numbers) → a.columns ≡ b.columns → a.rows ≡ b.rows → a.slices ≡ b.slices → a.subpics ≡ b.subpics → a ≡ b
+same_numbers a b columns rows slices subpics =
+    let first : a ≡ record { columns = b.columns; rows = b.rows; slices = a.slices; subpics = a.subpics } =
+    ap (λ t. record { columns = t; rows = a.rows; slices = a.slices; subpics = a.subpics }) columns
+    ∙ ap (λ t. record { columns = b.columns; rows = t; slices = a.slices; subpics = a.subpics }) rows
+    in
+    first ∙ (ap (λ t. record { columns = b.columns; rows = b.rows; slices = t; subpics = a.subpics }) slices ∙ ap (λ t. record { columns = b.columns; rows = b.rows; slices = b.slices; subpics = t }) subpics)
+
+counted-whole : (s r : Rect) → counted_from (whole s) r ≡ r
+counted-whole s r =
+    let across : r.x - 0 ≡ r.x = omega arith in
+    let down : r.y - 0 ≡ r.y = omega arith in
+    rw (across, down) refl
+
+-- the region of a region is the region itself
+pub region-region : (n : Numbers) (k : ℕ) → IsSound n → k < length n.subpics → region_of (region_of n k) 0 ≡ region_of n k
+region-region n k sound short =
+    let s : Rect = subpic_at n k in
+    let part = sound.layout.subpics.parts k no_rect short in
+    let own : List Rect = map (counted_from s) (slices_in n k) in
+    same_numbers (region_of (region_of n k) 0) (region_of n k) (cut-cut n.columns s.x s.w sound.columns part.wide) (cut-cut n.rows s.y s.h sound.rows part.high)
+    (ap (λ t. map (counted_from (whole s)) t) (filter_all s (slices_in n k) (all_fit n k)) ∙ map_fixed (counted_from (whole s)) own (λ i d low. counted-whole s (get_or own i d)))
+    refl
