@@ -6,11 +6,13 @@ use Rattle.vx_table.specs.declared.rows.Coding.{Coding}
 use Rattle.vx_table.specs.declared.rows.Coding.TheVariants.{Fixed, Golomb, SignedGolomb, Zeros, OneAndZeros, Trailing, Absent, Refused}
 use Rattle.vx_table.specs.declared.rows.Cell.{Cell}
 use Rattle.vx_table.specs.declared.rows.Row.{Row}
-use Rattle.vx_table.specs.declared.rows.Row.TheVariants.{Field, When, Repeat, Name}
+use Rattle.vx_table.specs.declared.rows.Row.TheVariants.{Field, Block, Name}
+use Rattle.vx_table.specs.declared.rows.Presence.{Presence}
+use Rattle.vx_table.specs.declared.rows.Presence.TheVariants.{When, Repeat}
 use Rattle.vx_table.specs.Scope.{value}
-use Rattle.vx_table.specs.Forms.{Form, coding_at, cell_at, has_value, one_field, turns, part, form_of}
+use Rattle.vx_table.specs.Forms.{Form, done, coding_at, cell_at, has_value, one_field, present, part, form_of}
 use Rattle.vx_table.specs.Spelling.{HasCode}
-use Rattle.vx_table.proofs.Blocks.{form-field, form-name, form-drop, form-repeat}
+use Rattle.vx_table.proofs.Blocks.{form-field, form-name, form-block}
 use Rattle.vx_ptl.specs.Run.{gap, begins_byte, field_coding}
 use Rattle.vx_ptl.proofs.Beside.{Between, Keeps, written, Runs, Even, runs_on, runs_turns}
 
@@ -22,8 +24,7 @@ Takes from c to = (s : List ℕ) (before place : ℕ) (gaps : List Bool) (v : �
 abbrev pub Each : (Cell Formula → Type 0) → List Row → Type 0
 Each P [] = Unit {0}
 Each P (Field c ∷ rows) = P c × Each P rows
-Each P (When holds n ∷ rows) = Each P rows
-Each P (Repeat counter times n ∷ rows) = Each P rows
+Each P (Block presence n ∷ rows) = Each P rows
 Each P (Name name formula ∷ rows) = Each P rows
 
 field_runs : (from to : Between) (c : Cell Formula) (s : List ℕ) (before place : ℕ) (gaps : List Bool)
@@ -36,6 +37,13 @@ either : (b : Bool) (f g : Form (List ℕ)) (to : Between) (before place : ℕ) 
 either true f g to before place gaps a b = a
 either false f g to before place gaps a b = b
 
+-- What a block keeps, it keeps as often as it is there.
+present_keeps : (keep : ℕ → ℕ → List Bool → Type 0) (presence : Presence) (block : List ℕ → Form (List ℕ)) (s : List ℕ) (before place : ℕ) (gaps : List Bool)
+    → ((t : List ℕ) (b p : ℕ) (g : List Bool) → keep b p g → Runs keep (block t) b p g) → keep before place gaps → Runs keep (present presence block s) before place gaps
+unfolding present
+present_keeps keep (When holds) block s before place gaps each here = either (value s holds == 0) (done s) (block s) keep before place gaps here (each s before place gaps here)
+present_keeps keep (Repeat counter times) block s before place gaps each here = runs_turns keep block counter 0 (value s times) s before place gaps each here
+
 -- Where each field keeps it, each part of the rows does.
 pub part_keeps : (keep : Between) (P : Cell Formula → Type 0) → ((c : Cell Formula) → P c → Takes keep c keep) → (skip len : ℕ) (rows : List Row) (s : List ℕ) (before place : ℕ) (gaps : List Bool)
     → Each P rows → keep before place gaps → Runs keep (part skip len rows s) before place gaps
@@ -43,21 +51,16 @@ unfolding part
 part_keeps keep P on zero len [] s before place gaps each here = here
 part_keeps keep P on (suc skip) len [] s before place gaps each here = here
 part_keeps keep P on (suc skip) len (Field c ∷ rows) s before place gaps each here = part_keeps keep P on skip len rows s before place gaps each.1 here
-part_keeps keep P on (suc skip) len (When holds n ∷ rows) s before place gaps each here = part_keeps keep P on skip len rows s before place gaps each here
-part_keeps keep P on (suc skip) len (Repeat counter times n ∷ rows) s before place gaps each here = part_keeps keep P on skip len rows s before place gaps each here
+part_keeps keep P on (suc skip) len (Block presence n ∷ rows) s before place gaps each here = part_keeps keep P on skip len rows s before place gaps each here
 part_keeps keep P on (suc skip) len (Name name formula ∷ rows) s before place gaps each here = part_keeps keep P on skip len rows s before place gaps each here
 part_keeps keep P on zero zero (row ∷ rows) s before place gaps each here = here
 part_keeps keep P on zero (suc len) (Field c ∷ rows) s before place gaps each here =
     runs_on keep keep (one_field s c) (part 0 len rows) before place gaps (λ t b p g now. part_keeps keep P on 0 len rows t b p g each.1 now)
     (field_runs keep keep c s before place gaps (on c each.0) here)
-part_keeps keep P on zero (suc len) (When holds n ∷ rows) s before place gaps each here =
-    either (value s holds == 0) (part (min n len) (len - min n len) rows s) (part 0 len rows s) keep before place gaps
-    (part_keeps keep P on (min n len) (len - min n len) rows s before place gaps each here) (part_keeps keep P on 0 len rows s before place gaps each here)
-part_keeps keep P on zero (suc len) (Repeat counter times n ∷ rows) s before place gaps each here =
-    runs_on keep keep (turns (part 0 (min n len) rows) counter 0 (value s times) s) (part (min n len) (len - min n len) rows) before place gaps
+part_keeps keep P on zero (suc len) (Block presence n ∷ rows) s before place gaps each here =
+    runs_on keep keep (present presence (part 0 (min n len) rows) s) (part (min n len) (len - min n len) rows) before place gaps
     (λ t b p g now. part_keeps keep P on (min n len) (len - min n len) rows t b p g each now)
-    (runs_turns keep (part 0 (min n len) rows) counter 0 (value s times) s before place gaps
-    (λ t b p g now. part_keeps keep P on 0 (min n len) rows t b p g each now) here)
+    (present_keeps keep presence (part 0 (min n len) rows) s before place gaps (λ t b p g now. part_keeps keep P on 0 (min n len) rows t b p g each now) here)
 part_keeps keep P on zero (suc len) (Name name formula ∷ rows) s before place gaps each here = part_keeps keep P on 0 len rows (slice_set s name (value s formula)) before place gaps each here
 
 -- a field of bits is one at every scope
@@ -107,17 +110,10 @@ leads_name from to name formula rows rest = record {
   runs = λ s before place gaps here. rw (form-name name formula rows s) (rest.runs _ before place gaps here);
 }
 
-pub leads_when : (from to : Between) (holds : Formula) (n : ℕ) (rows : List Row) → Leads from rows to → Leads from (drop (min n (length rows)) rows) to → Leads from (When holds n ∷ rows) to
-unfolding form_of part
-leads_when from to holds n rows present absent = record {
+pub leads_block : (from to : ℕ → ℕ → List Bool → Type 0) (presence : Presence) (n : ℕ) (rows : List Row)
+    → Leads from (take (min n (length rows)) rows) from → Leads from (drop (min n (length rows)) rows) to → Leads from (Block presence n ∷ rows) to
+leads_block from to presence n rows block rest = record {
   runs = λ s before place gaps here.
-      either (value s holds == 0) _ (form_of rows s) to before place gaps (rw (form-drop n rows s) (absent.runs s before place gaps here)) (present.runs s before place gaps here);
-}
-
-pub leads_repeat : (from to : Between) (counter : ℕ) (times : Formula) (n : ℕ) (rows : List Row)
-    → Leads from (take (min n (length rows)) rows) from → Leads from (drop (min n (length rows)) rows) to → Leads from (Repeat counter times n ∷ rows) to
-leads_repeat from to counter times n rows block rest = record {
-  runs = λ s before place gaps here.
-      rw (form-repeat counter times n rows s) (runs_on from to (turns (form_of (take (min n (length rows)) rows)) counter 0 (value s times) s) (form_of (drop (min n (length rows)) rows)) before place gaps
-      rest.runs (runs_turns from (form_of (take (min n (length rows)) rows)) counter 0 (value s times) s before place gaps block.runs here));
+      rw (form-block presence n rows s) (runs_on from to (present presence (form_of (take (min n (length rows)) rows)) s) (form_of (drop (min n (length rows)) rows)) before place gaps
+      rest.runs (present_keeps from presence (form_of (take (min n (length rows)) rows)) s before place gaps block.runs here));
 }

@@ -1,5 +1,5 @@
 -- The run beside each structure.
-use Rattle.std.proofs.Common.{◌≡◌, ℕ, ℤ, ◌+◌, Bool, true, false, List, [], ◌∷◌, ◌++◌, length, drop, refl, ap, sym, ◌∙◌, arith, rules}
+use Rattle.std.proofs.Common.{◌≡◌, ℕ, ℤ, ◌+◌, Bool, true, false, List, [], ◌∷◌, ◌++◌, length, take, drop, refl, ap, sym, ◌∙◌, arith, rules}
 use Rattle.std.specs.Prelude.{◌==◌, ◌||◌, ◌&&◌, cond}
 use Rattle.std.proofs.lemmas.List.{length-replicate, append-nil, append_assoc, length-append}
 use Rattle.std.proofs.lemmas.List.Elements.{All-nil, All-append}
@@ -18,7 +18,7 @@ use Rattle.vx_ptl.specs.declared.tables.TheConstants.{PTL, DPB, TIMING, SUBLAYER
 use Rattle.vx_ptl.specs.Run.{gap, field_coding, item_bits, run_bits, IsRunItem}
 use Rattle.vx_ptl.specs.Spelling.{profile_tier_level, dpb_parameters, general_timing, timing_of_sublayers, no_more, one_more, AreWritten, StructuresAreSpelled, RunsAreSpelled}
 use Rattle.vx_ptl.proofs.Beside.{Between, Even, written, owed, spelled}
-use Rattle.vx_ptl.proofs.Keeping.{Each, IsPlain, Leads, plain_leads, has_at, leads_over, leads_field, leads_name, leads_when, leads_repeat}
+use Rattle.vx_ptl.proofs.Keeping.{Each, IsPlain, Leads, plain_leads, has_at, leads_over, leads_field, leads_name, leads_block}
 
 dpb_plain : Each IsPlain DPB
 unfolding field_coding coding_at has_value value
@@ -85,7 +85,7 @@ plain_front c rows to plain rest =
 levels : Leads Bytes (drop 18 PTL) Even
 unfolding field_coding coding_at has_value value code_of
 levels =
-    leads_repeat Bytes Even _ _ _ _
+    leads_block Bytes Even _ _ _
     (leads_field Bytes Bytes Bytes _ _ (λ s before place gaps v here code. written refl refl here (none_behind place gaps _ here)) (leads_over Bytes))
     (leads_field Bytes Even Even _ _ (λ s before place gaps v here code. written refl refl here refl) (plain_leads _ (search rules)))
 
@@ -93,7 +93,7 @@ flags : Leads Flags (drop 13 PTL) Even
 unfolding field_coding coding_at has_value value code_of
 flags =
     leads_name Flags Even _ _ _
-    (leads_repeat Flags Even _ _ _ _
+    (leads_block Flags Even _ _ _
     (leads_field Flags Flags Flags _ _ (λ s before place gaps v here code. written refl refl here refl) (leads_name Flags Flags _ _ _ (leads_over Flags)))
     (leads_field Flags Bytes Even _ _ (λ s before place gaps v here code. owed refl (flags_over _ place gaps here)) levels))
 
@@ -101,18 +101,18 @@ front : Leads Front (drop 12 PTL) Even
 unfolding field_coding coding_at has_value value code_of
 front = leads_field Front Flags Even _ _ (λ s before place gaps v here code. owed refl (front_over before place gaps here)) flags
 
-constraints : Leads Front (drop 7 PTL) Even
+constraints : Leads Front (take 5 (drop 7 PTL)) Front
 unfolding field_coding coding_at has_value value
 constraints =
-    leads_repeat Front Even _ _ _ _ (plain_front _ _ Front (search rules) (leads_over Front))
-    (plain_front _ _ Even (search rules) (leads_repeat Front Even _ _ _ _ (plain_front _ _ Front (search rules) (leads_over Front)) front))
+    leads_block Front Front _ _ _ (plain_front _ _ Front (search rules) (leads_over Front))
+    (plain_front _ _ Front (search rules) (leads_block Front Front _ _ _ (plain_front _ _ Front (search rules) (leads_over Front)) (leads_over Front)))
 
 ptl_leads : Leads Even PTL Even
 unfolding field_coding coding_at has_value value
 ptl_leads =
     leads_field Even Front Even _ _ (λ s before place gaps v here code. written refl refl (sym here) (refl, refl))
     (plain_front _ _ Even (search rules) (plain_front _ _ Even (search rules) (plain_front _ _ Even (search rules) (plain_front _ _ Even (search rules)
-    (plain_front _ _ Even (search rules) (leads_when Front Even _ _ _ constraints front))))))
+    (plain_front _ _ Even (search rules) (leads_block Front Even _ _ _ constraints front))))))
 
 -- What a table's rows lead through is written as it is spelled.
 table_written : (rows : List Row) (s : List ℕ) (values : List ℤ) (scope : List ℕ) (place : ℕ) → Leads Even rows Even → Follows (form_of rows s) values scope
