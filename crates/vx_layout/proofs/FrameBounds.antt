@@ -55,7 +55,7 @@ inner_from bounds from size n inside some below =
     (Contains-kept (λ b. ltb from b && ltb b (from + size)) bounds (from + n) inside (and_from _ _ (lt-ltb _ _ above) (lt-ltb _ _ under))))
 
 -- the first bound, the last one, and those between
-Contains-first : (bounds : List ℕ) → Rises bounds → 0 < last bounds → Contains bounds 0
+pub Contains-first : (bounds : List ℕ) → Rises bounds → 0 < last bounds → Contains bounds 0
 Contains-first [] rises some = absurd (omega arith)
 Contains-first (b ∷ bs) rises some = (0, omega arith, rises.0)
 
@@ -63,12 +63,12 @@ some_bound : (bounds : List ℕ) → 0 < last bounds → 0 < length bounds
 some_bound [] some = some
 some_bound (b ∷ bs) some = omega arith
 
-Contains-last : (bounds : List ℕ) → 0 < last bounds → Contains bounds (last bounds)
+pub Contains-last : (bounds : List ℕ) → 0 < last bounds → Contains bounds (last bounds)
 Contains-last bounds some =
     let long = some_bound bounds some in
     bound_from bounds (length bounds - 1) (last bounds) (omega arith) (sym (last-get_or bounds long))
 
-Contains-le-last : (bounds : List ℕ) (n : ℕ) → Rises bounds → Contains bounds n → n ≤ last bounds
+pub Contains-le-last : (bounds : List ℕ) (n : ℕ) → Rises bounds → Contains bounds n → n ≤ last bounds
 Contains-le-last bounds n rises inside =
     let at = bound_at bounds n inside in
     let level = Rises-level bounds at.0 (length bounds - 1) rises (omega (arith, at.1)) (omega (arith, at.1)) in

@@ -4,6 +4,7 @@ pub mod Cutting
 pub mod Entries
 pub mod FrameBounds
 pub mod FrameEnds
+pub mod FrameShapes
 pub mod FrameSlices
 pub mod FrameWhole
 pub mod Holding

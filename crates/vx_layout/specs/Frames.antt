@@ -1,5 +1,5 @@
 -- A frame put together of several pictures: each stands in a region, a rectangle of the frame, and its slices move to that corner.
-use Rattle.std.specs.Prelude.{◌≡◌, ℕ, ◌+◌, ◌<◌, List, All, length, map}
+use Rattle.std.specs.Prelude.{◌≡◌, ℕ, ◌+◌, ◌<◌, List, [], ◌∷◌, All, length, map}
 use Rattle.std.specs.List.{flat_map, zip}
 use Rattle.vx_layout.specs.declared.numbers.Numbers.{Numbers}
 use Rattle.vx_layout.specs.declared.rect.Rect.{Rect}
@@ -38,4 +38,13 @@ frame_of columns rows regions pictures = record {
   rows = rows;
   slices = frame_slices regions (map (λ p. p.slices) pictures);
   subpics = regions;
+}
+
+-- the same picture as one subpicture
+abbrev pub with_one_subpic : Numbers → Numbers
+with_one_subpic n = record {
+  columns = n.columns;
+  rows = n.rows;
+  slices = n.slices;
+  subpics = record { x = 0; y = 0; w = width n; h = height n } ∷ [];
 }
