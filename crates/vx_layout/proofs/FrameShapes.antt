@@ -3,7 +3,7 @@ use Rattle.std.proofs.Common.{◌≡◌, ℕ, suc, zero, ◌+◌, ◌-◌, ◌<�
 use Rattle.std.proofs.lemmas.Bool.{both_ways, cases_lt}
 use Rattle.std.proofs.lemmas.List.{get_or-append_right, get_or-map, get_or_append_left, length-map}
 use Rattle.std.proofs.lemmas.List.Elements.{All-append, All-head, All-map, All-nil, All-tail, All-weaker}
-use Rattle.std.specs.List.{All, AllPairs, AllZip, Contains}
+use Rattle.std.specs.List.{All, AllPairs, AllZip, Any, Contains}
 use Rattle.vx_layout.specs.declared.numbers.Numbers.{Numbers}
 use Rattle.vx_layout.specs.declared.rect.Rect.{Rect}
 use Rattle.vx_layout.specs.Borders.{HasLines}
@@ -12,7 +12,7 @@ use Rattle.vx_layout.specs.Faults.{IsSpan, IsTile, SubpicsCover}
 use Rattle.vx_layout.specs.Frames.{Stands, frame_of, frame_slices, moved_to}
 use Rattle.vx_layout.specs.Rects.{fits}
 use Rattle.vx_layout.specs.Regions.{counted_from}
-use Rattle.vx_layout.specs.Shapes.{AreListable, AreTilesOrRows, StandTogether}
+use Rattle.vx_layout.specs.Shapes.{AreListable, AreTilesOrRows, HasCtu, StandTogether}
 use Rattle.vx_layout.proofs.FrameBounds.{Contains-first, Contains-last, Contains-le-last}
 use Rattle.vx_layout.proofs.FrameSlices.{Apart, AreIn-moved, IsIn, apart_regions, frame-in, not_in}
 use Rattle.vx_layout.proofs.FrameWhole.{fill_each, slices_fill}
@@ -72,10 +72,8 @@ span_back bounds own from a b rises lines upto span =
     }
 
 -- and so are its tiles
-tile_there : (columns rows : List ℕ) (s t : Rect) (n : Numbers) → Stands columns rows s n → IsTile n.columns n.rows t → IsTile columns rows (moved_to s t)
-tile_there columns rows s t n stands tile =
-    let across = span_there columns n.columns s.x t.x (t.x + t.w) stands.sound.columns stands.across tile.across in
-    let down = span_there rows n.rows s.y t.y (t.y + t.h) stands.sound.rows stands.down tile.down in
+pub tile_from : (columns rows : List ℕ) (s t : Rect) → IsSpan columns (s.x + t.x) (s.x + (t.x + t.w)) → IsSpan rows (s.y + t.y) (s.y + (t.y + t.h)) → IsTile columns rows (moved_to s t)
+tile_from columns rows s t across down =
     let left : s.x + t.x ≡ t.x + s.x = omega arith in
     let right : s.x + (t.x + t.w) ≡ t.x + s.x + t.w = omega arith in
     let top : s.y + t.y ≡ t.y + s.y = omega arith in
@@ -85,12 +83,17 @@ tile_there columns rows s t n stands tile =
       down = subst (λ m. IsSpan rows m (t.y + s.y + t.h)) top (subst (λ m. IsSpan rows (s.y + t.y) m) bottom down);
     }
 
+tile_there : (columns rows : List ℕ) (s t : Rect) (n : Numbers) → Stands columns rows s n → IsTile n.columns n.rows t → IsTile columns rows (moved_to s t)
+tile_there columns rows s t n stands tile =
+    tile_from columns rows s t (span_there columns n.columns s.x t.x (t.x + t.w) stands.sound.columns stands.across tile.across)
+    (span_there rows n.rows s.y t.y (t.y + t.h) stands.sound.rows stands.down tile.down)
+
 -- a rectangle's borders within another's
-record Within (s t : Rect) : Type 0 where
-  left : s.x ≤ t.x
-  right : t.x + t.w ≤ s.x + s.w
-  top : s.y ≤ t.y
-  bottom : t.y + t.h ≤ s.y + s.h
+pub record Within (s t : Rect) : Type 0 where
+  pub left : s.x ≤ t.x
+  pub right : t.x + t.w ≤ s.x + s.w
+  pub top : s.y ≤ t.y
+  pub bottom : t.y + t.h ≤ s.y + s.h
 
 tile_back : (columns rows : List ℕ) (s t : Rect) (n : Numbers) → Stands columns rows s n → Within s t → IsTile columns rows t → IsTile n.columns n.rows (counted_from s t)
 tile_back columns rows s t n stands within tile =
@@ -194,17 +197,23 @@ together_moved s t rects within together = λ i j k d a b low f g.
 abbrev NoneIn : Rect → List Rect → Type 0
 NoneIn t rects = All (λ r. fits r t ≡ false) rects
 
-together_behind : (t r : Rect) (rects : List Rect) → fits r t ≡ false → StandTogether rects t → StandTogether (r ∷ rects) t
-together_behind t r rects off together zero j k d a b low f g = absurd (both_ways _ off f)
-together_behind t r rects off together (suc i) zero k d a b low f g = absurd (omega arith)
-together_behind t r rects off together (suc i) (suc j) zero d a b low f g = absurd (omega arith)
-together_behind t r rects off together (suc i) (suc j) (suc k) d a b low f g = together i j k d (omega arith) (omega arith) (omega arith) f g
+-- one rectangle more in front: where it lies in the tile, none that does stands behind one that doesn't
+abbrev pub Leads : Rect → Rect → Rect → Type 0
+Leads t r s = fits s t ≡ true → fits r t ≡ true
+
+pub together_cons : (t r : Rect) (rects : List Rect) → (fits r t ≡ true → AllPairs (Leads t) rects) → StandTogether rects t → StandTogether (r ∷ rects) t
+together_cons t r rects lead together zero zero k d a b low f g = absurd (omega arith)
+together_cons t r rects lead together zero (suc j) zero d a b low f g = absurd (omega arith)
+together_cons t r rects lead together zero (suc j) (suc k) d a b low f g = lead f j k d (omega arith) (omega arith) g
+together_cons t r rects lead together (suc i) zero k d a b low f g = absurd (omega arith)
+together_cons t r rects lead together (suc i) (suc j) zero d a b low f g = absurd (omega arith)
+together_cons t r rects lead together (suc i) (suc j) (suc k) d a b low f g = together i j k d (omega arith) (omega arith) (omega arith) f g
 
 together_after : (t : Rect) (front rects : List Rect) → NoneIn t front → StandTogether rects t → StandTogether (front ++ rects) t
 together_after t [] rects off together = together
 together_after t (r ∷ front) rects off together =
     let P : Rect → Type 0 = λ u. fits u t ≡ false in
-    together_behind t r (front ++ rects) (All-head P r front off) (together_after t front rects (All-tail P r front off) together)
+    together_cons t r (front ++ rects) (λ on. absurd (both_ways _ (All-head P r front off) on)) (together_after t front rects (All-tail P r front off) together)
 
 together_before : (t : Rect) (front rects : List Rect) → StandTogether front t → NoneIn t rects → StandTogether (front ++ rects) t
 together_before t front rects together off = λ i j k d a b low f g.
@@ -248,6 +257,9 @@ tile_together columns rows t (s ∷ ss) (p ∷ ps) tile apart stand listable =
 pub frame-listable : (columns rows : List ℕ) (regions : List Rect) (pictures : List Numbers) → SubpicsCover (frame_of columns rows regions pictures) → AllZip (Stands columns rows) regions pictures → All (λ p. AreListable p.columns p.rows p.slices) pictures →
     AreListable columns rows (frame_of columns rows regions pictures).slices
 frame-listable columns rows regions pictures cover stand listable = record {
+  some =
+      All-weaker (λ r. Any (λ s. IsIn s r) regions) HasCtu (λ r one. (one.4.wide, one.4.high)) (frame_of columns rows regions pictures).slices
+      (frame-in regions (map (λ p. p.slices) pictures) (fill_each columns rows regions pictures stand));
   shapes = shapes_there columns rows regions pictures stand listable;
   together = λ t tile. tile_together columns rows t regions pictures tile (apart_regions regions (last columns) (last rows) cover.parts cover.once) stand listable;
 }

@@ -16,6 +16,7 @@ pub mod Ordering
 pub mod Owners
 pub mod Parts
 pub mod Preceding
+pub mod RegionShapes
 pub mod Rising
 pub mod Runs
 pub mod Splitting

@@ -5,6 +5,10 @@ use Rattle.vx_layout.specs.declared.rect.Rect.{Rect}
 use Rattle.vx_layout.specs.Faults.{IsTile, SameSides}
 use Rattle.vx_layout.specs.Rects.{fits}
 
+-- a rectangle that holds a CTU
+abbrev pub HasCtu : Rect → Type 0
+HasCtu r = (0 < r.w) × (0 < r.h)
+
 -- whole tiles: each border is a bound
 pub record AreTiles (columns rows : List ℕ) (r : Rect) : Type 0 where
   pub left : Contains columns r.x
@@ -26,7 +30,8 @@ abbrev pub StandTogether : List Rect → Rect → Type 0
 StandTogether rects t =
     (i j k : ℕ) (d : Rect) → i < j → j < k → k < length rects → fits (slice_index_or rects i d) t ≡ true → fits (slice_index_or rects k d) t ≡ true → fits (slice_index_or rects j d) t ≡ true
 
--- slices that can be listed tile by tile
+-- slices that hold CTUs and can be listed tile by tile
 pub record AreListable (columns rows : List ℕ) (slices : List Rect) : Type 0 where
+  pub some : All HasCtu slices
   pub shapes : All (AreTilesOrRows columns rows) slices
   pub together : (t : Rect) → IsTile columns rows t → StandTogether slices t

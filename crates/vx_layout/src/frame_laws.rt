@@ -96,8 +96,13 @@ pub fn frame_alone_is_layout()
     ensures { (columns rows : List ℕ) (regions : List Rect) (pictures : List Numbers) → Rises columns → Rises rows → 0 < length regions → SubpicsCover (frame_of columns rows regions pictures) → AllPairs Precedes regions → AllZip (Stands columns rows) regions pictures → IsLayout (with_one_subpic (frame_of columns rows regions pictures)) }
 {}
 
-/// Where each picture's slices are whole tiles or whole rows of one tile, and those in one tile stand next to one
-/// another, so is it with the frame's slices and the frame's tiles.
+/// Where each picture's slices hold CTUs, are whole tiles or whole rows of one tile, and those in one tile stand next
+/// to one another, so is it with the frame's slices and the frame's tiles.
 pub fn frame_slices_are_listable()
     ensures { (columns rows : List ℕ) (regions : List Rect) (pictures : List Numbers) → SubpicsCover (frame_of columns rows regions pictures) → AllZip (Stands columns rows) regions pictures → All (λ p. AreListable p.columns p.rows p.slices) pictures → AreListable columns rows (frame_of columns rows regions pictures).slices }
+{}
+
+/// And so is it with a region's slices and the region's tiles, where it is with a layout's.
+pub fn region_slices_are_listable()
+    ensures { (n : Numbers) (k : ℕ) → IsSound n → k < length n.subpics → AreListable n.columns n.rows n.slices → AreListable (region_of n k).columns (region_of n k).rows (region_of n k).slices }
 {}
