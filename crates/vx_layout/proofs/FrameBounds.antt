@@ -1,5 +1,5 @@
 -- Bounds cut to a region that has bounds of its own, and a region of a region.
-use Rattle.std.proofs.Common.{◌≡◌, ℕ, ◌+◌, ◌-◌, ◌<◌, ◌≤◌, Bool, true, ◌&&◌, ltb, List, [], ◌∷◌, ◌++◌, length, get_or, filter, map, refl, ap, sym, ◌∙◌, subst, inl, inr, arith, zero-add}
+use Rattle.std.proofs.Common.{◌≡◌, ℕ, ◌+◌, ◌-◌, ◌<◌, ◌≤◌, Bool, true, ◌&&◌, ltb, List, [], ◌∷◌, ◌++◌, length, get_or, filter, map, refl, ap, sym, ◌∙◌, subst, inl, inr, arith, ◌⊎◌, zero-add}
 use Rattle.std.proofs.lemmas.Bool.{and_from, and_parts, both_ways, cases_Bool, cases_lt, ltb-true, lt-ltb}
 use Rattle.std.proofs.lemmas.List.{get_or-map, length-map}
 use Rattle.std.proofs.lemmas.List.Elements.{All-contains, All-contains_itself, All-filter, All-map, Contains-append_cases, Contains-append_left, Contains-append_right, filter_passes}
@@ -55,7 +55,7 @@ inner_from bounds from size n inside some below =
     (Contains-kept (λ b. ltb from b && ltb b (from + size)) bounds (from + n) inside (and_from _ _ (lt-ltb _ _ above) (lt-ltb _ _ under))))
 
 -- the first bound, the last one, and those between
-Contains-first : (bounds : List ℕ) → Rises bounds → 0 < last bounds → Contains bounds 0
+pub Contains-first : (bounds : List ℕ) → Rises bounds → 0 < last bounds → Contains bounds 0
 Contains-first [] rises some = absurd (omega arith)
 Contains-first (b ∷ bs) rises some = (0, omega arith, rises.0)
 
@@ -63,47 +63,63 @@ some_bound : (bounds : List ℕ) → 0 < last bounds → 0 < length bounds
 some_bound [] some = some
 some_bound (b ∷ bs) some = omega arith
 
-Contains-last : (bounds : List ℕ) → 0 < last bounds → Contains bounds (last bounds)
+pub Contains-last : (bounds : List ℕ) → 0 < last bounds → Contains bounds (last bounds)
 Contains-last bounds some =
     let long = some_bound bounds some in
     bound_from bounds (length bounds - 1) (last bounds) (omega arith) (sym (last-get_or bounds long))
 
-Contains-le-last : (bounds : List ℕ) (n : ℕ) → Rises bounds → Contains bounds n → n ≤ last bounds
+pub Contains-le-last : (bounds : List ℕ) (n : ℕ) → Rises bounds → Contains bounds n → n ≤ last bounds
 Contains-le-last bounds n rises inside =
     let at = bound_at bounds n inside in
     let level = Rises-level bounds at.0 (length bounds - 1) rises (omega (arith, at.1)) (omega (arith, at.1)) in
     omega (arith, at.2, level, last-get_or bounds (omega (arith, at.1)))
 
+-- what the cut bounds are: the first, the last, and those inside
+pub cut_tells : (bounds : List ℕ) (from size n : ℕ) → Contains (cut bounds from size) n → (0 ≡ n) ⊎ ((size ≡ n) ⊎ (Contains bounds (from + n) × (0 < n) × (n < size)))
+cut_tells bounds from size n inside =
+    let between : List ℕ = map (λ b. b - from) (inner bounds from size) in
+    elim (Contains-cases 0 (between ++ size ∷ []) n inside) [
+      | inl first ↦ inl first
+      | inr later ↦
+          elim (Contains-append_cases between (size ∷ []) n later) [
+            | inl mid ↦ inr (inr (inner_tells bounds from size n mid))
+            | inr final ↦ elim (Contains-cases size [] n final) [ inl end ↦ inr (inl end) | inr none ↦ absurd (omega (arith, none.1)) ]
+          ]
+    ]
+
+pub cut_first : (bounds : List ℕ) (from size : ℕ) → Contains (cut bounds from size) 0
+cut_first bounds from size = (0, omega arith, refl)
+
+pub cut_last : (bounds : List ℕ) (from size : ℕ) → Contains (cut bounds from size) size
+cut_last bounds from size =
+    let between : List ℕ = map (λ b. b - from) (inner bounds from size) in
+    Contains-cons 0 (between ++ size ∷ []) size (Contains-append_right between (size ∷ []) size (0, omega arith, refl))
+
+pub cut_inner : (bounds : List ℕ) (from size n : ℕ) → Contains bounds (from + n) → 0 < n → n < size → Contains (cut bounds from size) n
+cut_inner bounds from size n inside above below =
+    let between : List ℕ = map (λ b. b - from) (inner bounds from size) in
+    Contains-cons 0 (between ++ size ∷ []) n (Contains-append_left between (size ∷ []) n (inner_from bounds from size n inside above below))
+
 -- where the bounds inside a region are its own, so are the cut bounds
 pub cut-own : (bounds own : List ℕ) (from : ℕ) → Rises bounds → Rises own → 0 < last own → SameInside bounds from own → cut bounds from (last own) ≡ own
 cut-own bounds own from rises own_rises some same =
     let size : ℕ = last own in
-    let inside : List ℕ = map (λ b. b - from) (inner bounds from size) in
     Rises-members (cut bounds from size) own (Rises-cut bounds from size rises some) own_rises
     (λ n. (
       λ cut_has.
-          elim (Contains-cases 0 (inside ++ size ∷ []) n cut_has) [
+          elim (cut_tells bounds from size n cut_has) [
             | inl first ↦ subst (λ m. Contains own m) first (Contains-first own own_rises some)
-            | inr later ↦
-                elim (Contains-append_cases inside (size ∷ []) n later) [
-                  | inl between ↦ let is = inner_tells bounds from size n between in (same n is.1 is.2).0 is.0
-                  | inr final ↦
-                      elim (Contains-cases size [] n final) [
-                        | inl end ↦ subst (λ m. Contains own m) end (Contains-last own some)
-                        | inr none ↦ absurd (omega (arith, none.1))
-                      ]
-                ]
+            | inr (inl end) ↦ subst (λ m. Contains own m) end (Contains-last own some)
+            | inr (inr is) ↦ (same n is.1 is.2).0 is.0
           ],
       λ own_has.
           let upto : n ≤ size = Contains-le-last own n own_rises own_has in
           elim (cases_lt 0 n) [
-            | inr zero ↦ (0, omega arith, omega arith)
+            | inr none ↦ let first : 0 ≡ n = omega arith in subst (λ m. Contains (cut bounds from size) m) first (cut_first bounds from size)
             | inl above ↦
                 elim (cases_lt n size) [
-                  | inl below ↦ Contains-cons 0 (inside ++ size ∷ []) n (Contains-append_left inside (size ∷ []) n (inner_from bounds from size n ((same n above below).1 own_has) above below))
-                  | inr past ↦
-                      let end : size ≡ n = omega arith in
-                      Contains-cons 0 (inside ++ size ∷ []) n (Contains-append_right inside (size ∷ []) n (0, omega arith, end))
+                  | inl below ↦ cut_inner bounds from size n ((same n above below).1 own_has) above below
+                  | inr past ↦ let end : size ≡ n = omega arith in subst (λ m. Contains (cut bounds from size) m) end (cut_last bounds from size)
                 ]
           ],
     ))

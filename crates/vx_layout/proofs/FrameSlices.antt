@@ -98,7 +98,7 @@ IsIn-moved c r part = record {
   high = part.high;
 }
 
-AreIn-moved : (c : Rect) (rects : List Rect) → All (IsPart c.w c.h) rects → All (IsIn c) (map (moved_to c) rects)
+pub AreIn-moved : (c : Rect) (rects : List Rect) → All (IsPart c.w c.h) rects → All (IsIn c) (map (moved_to c) rects)
 AreIn-moved c rects parts = All-map (IsIn c) (moved_to c) rects (All-weaker (IsPart c.w c.h) (λ r. IsIn c (moved_to c r)) (IsIn-moved c) rects parts)
 
 none_outside : (s : Rect) (rects : List Rect) (x y : ℕ) → All (IsIn s) rects → holds s x y ≡ false → count_by (λ r. holds r x y) rects ≡ 0
@@ -131,7 +131,7 @@ frame-once regions pictures w h cover fill = λ x y v u. frame-count regions pic
 
 -- each slice of the frame lies in a region
 
-frame-in : (regions : List Rect) (pictures : List (List Rect)) → AllZip Fills regions pictures → All (λ r. Any (λ s. IsIn s r) regions) (frame_slices regions pictures)
+pub frame-in : (regions : List Rect) (pictures : List (List Rect)) → AllZip Fills regions pictures → All (λ r. Any (λ s. IsIn s r) regions) (frame_slices regions pictures)
 frame-in [] pictures fill = All-nil (λ r. Any (λ s. IsIn s r) [])
 frame-in (s ∷ ss) [] fill = absurd fill
 frame-in (s ∷ ss) (p ∷ ps) fill =
@@ -186,10 +186,10 @@ frame-order (s ∷ ss) (p ∷ ps) pairs fill own =
     Precedes-in _ s _ some.1 (AreIn-moved s p fill.0.parts i d low).fit some.4.fit later)
 
 -- two rectangles share no CTU
-abbrev Apart : Rect → Rect → Type 0
+abbrev pub Apart : Rect → Rect → Type 0
 Apart r s = (x y : ℕ) → holds r x y ≡ true → holds s x y ≡ true → ⊥
 
-apart_regions : (regions : List Rect) (w h : ℕ) → All (IsPart w h) regions → CoversOnce regions w h → AllPairs Apart regions
+pub apart_regions : (regions : List Rect) (w h : ℕ) → All (IsPart w h) regions → CoversOnce regions w h → AllPairs Apart regions
 apart_regions regions w h parts cover = λ i j d less short x y on_i on_j.
     let part = parts j d short in
     let p = holds_tells _ x y on_j in
@@ -198,7 +198,7 @@ apart_regions regions w h parts cover = λ i j d less short x y on_i on_j.
     omega arith
 
 -- a slice that lies in a rectangle lies in none apart from it
-not_in : (r s t : Rect) → IsIn s r → Apart t s → fits r t ≡ false
+pub not_in : (r s t : Rect) → IsIn s r → Apart t s → fits r t ≡ false
 not_in r s t inside apart =
     let here : holds r r.x r.y ≡ true = corner_held r inside.wide inside.high in
     false_from_ne_true _ (λ f. apart r.x r.y (holds-fits r t r.x r.y f here) (holds-fits r s r.x r.y inside.fit here))

@@ -1,5 +1,5 @@
 -- A frame of pictures that stand in its regions is a layout, and its regions are the pictures.
-use Rattle.std.proofs.Common.{◌≡◌, ℕ, ◌+◌, ◌-◌, ◌<◌, true, cond, List, [], ◌∷◌, length, get_or, count_by, map, ap, sym, ◌∙◌, subst, inl, inr, arith}
+use Rattle.std.proofs.Common.{◌≡◌, ℕ, ◌+◌, ◌-◌, ◌<◌, true, cond, List, [], ◌∷◌, length, get_or, count_by, map, refl, ap, sym, ◌∙◌, subst, inl, inr, arith, zero-add}
 use Rattle.std.proofs.lemmas.Bool.{cases_Bool}
 use Rattle.std.proofs.lemmas.List.{append-nil, get_or-map}
 use Rattle.std.proofs.lemmas.List.Elements.{All-cons, All-head, All-nil}
@@ -8,14 +8,14 @@ use Rattle.vx_layout.specs.declared.numbers.Numbers.{Numbers}
 use Rattle.vx_layout.specs.declared.rect.Rect.{Rect}
 use Rattle.vx_layout.specs.Bounds.{Rises, last}
 use Rattle.vx_layout.specs.Faults.{IsLayout, SplitsWell, SubpicsCover, height, width}
-use Rattle.vx_layout.specs.Frames.{Fills, Stands, frame_of}
+use Rattle.vx_layout.specs.Frames.{Fills, Stands, frame_of, frame_slices, with_one_subpic}
 use Rattle.vx_layout.specs.Layouts.{no_rect}
 use Rattle.vx_layout.specs.Rects.{CoversOnce, IsPart, Precedes, holds, in_order, slices_of}
 use Rattle.vx_layout.specs.Regions.{cut, region_of, whole}
 use Rattle.vx_layout.proofs.Counting.{count_by-cons}
-use Rattle.vx_layout.proofs.FrameBounds.{cut-own, same_numbers}
-use Rattle.vx_layout.proofs.FrameSlices.{AllZip-at, AllZip-long, IsIn, frame-counted, frame-fit, frame-in_order, frame-once, frame-order, slices_all}
-use Rattle.vx_layout.proofs.Holding.{fits_from, fits_tells, holds_tells}
+use Rattle.vx_layout.proofs.FrameBounds.{Contains-first, Contains-last, cut-own, same_numbers}
+use Rattle.vx_layout.proofs.FrameSlices.{AllZip-at, AllZip-long, IsIn, frame-counted, frame-fit, frame-in, frame-in_order, frame-once, frame-order, slices_all}
+use Rattle.vx_layout.proofs.Holding.{fits_empty, fits_from, fits_tells, holds_from, holds_tells}
 use Rattle.vx_layout.proofs.Splitting.{SplitsWell-from}
 
 same_rect : (a b : Rect) → a.x ≡ b.x → a.y ≡ b.y → a.w ≡ b.w → a.h ≡ b.h → a ≡ b
@@ -49,7 +49,7 @@ lone_is (r ∷ []) w h parts cover one =
     ap (λ t. t ∷ []) (same_rect r (picture w h) (omega (arith, p)) (omega (arith, p)) (omega (arith, p, q, part.across)) (omega (arith, p, q, part.down)))
 
 -- the slices of a picture that stands in a region
-slices_fill : (columns rows : List ℕ) (s : Rect) (n : Numbers) → Stands columns rows s n → Fills s n.slices
+pub slices_fill : (columns rows : List ℕ) (s : Rect) (n : Numbers) → Stands columns rows s n → Fills s n.slices
 slices_fill columns rows s n stands =
     let l = stands.sound.layout in
     record {
@@ -88,7 +88,7 @@ slices_ordered columns rows s n stands =
     let same : in_order n.slices n.subpics ≡ n.slices = ap (λ t. in_order n.slices t) lone ∙ (append-nil (slices_of n.slices all) ∙ slices_all n.slices all inside) in
     subst (AllPairs Precedes) same l.order
 
-fill_each : (columns rows : List ℕ) (regions : List Rect) (pictures : List Numbers) → AllZip (Stands columns rows) regions pictures → AllZip Fills regions (map (λ p. p.slices) pictures)
+pub fill_each : (columns rows : List ℕ) (regions : List Rect) (pictures : List Numbers) → AllZip (Stands columns rows) regions pictures → AllZip Fills regions (map (λ p. p.slices) pictures)
 fill_each columns rows [] [] stand = tt
 fill_each columns rows [] (p ∷ ps) stand = absurd stand
 fill_each columns rows (s ∷ ss) [] stand = absurd stand
@@ -141,3 +141,52 @@ frame-region columns rows regions pictures k d columns_rise rows_rise cover stan
     (subst (λ m. cut rows s.y m ≡ n.rows) stands.high (cut-own rows n.rows s.y rows_rise stands.sound.rows (omega (arith, stands.high, part.high)) stands.down.inside))
     (frame-counted regions slices (last columns) (last rows) k no_rect [] cover.parts cover.once fill short ∙ get_or-map (λ p. p.slices) pictures k d [] (omega (arith, AllZip-long (Stands columns rows) regions pictures stand)))
     (sym (lone ∙ ap (λ t. t ∷ []) sized))
+
+-- slices in order that cover a picture are a layout with one subpicture
+layout-alone : (n : Numbers) → Rises n.columns → Rises n.rows → 0 < width n → 0 < height n → CoversOnce n.slices (width n) (height n) → All (IsIn (picture (width n) (height n))) n.slices → AllPairs Precedes n.slices → IsLayout (with_one_subpic n)
+layout-alone n columns_rise rows_rise wide high cover inside order =
+    let all : Rect = picture (width n) (height n) in
+    let P : Rect → Type 0 = IsPart (width n) (height n) in
+    let same : in_order n.slices (all ∷ []) ≡ n.slices = append-nil (slices_of n.slices all) ∙ slices_all n.slices all inside in
+    record {
+      subpics = record {
+        parts = All-cons P all [] (record { wide = wide; high = high; across = omega arith; down = omega arith }) (All-nil P);
+        once = λ x y v u.
+            let here : holds all x y ≡ true = holds_from all x y (omega arith) (omega arith) (omega arith) (omega arith) in
+            count_by-cons (λ r. holds r x y) all [] ∙ ap (λ b. cond b 1 0 + 0) here;
+      };
+      tiles = All-cons (SplitsWell n.columns n.rows) all []
+          (SplitsWell-from n.columns n.rows all (record {
+            left = Contains-first n.columns columns_rise wide;
+            right = subst (λ m. Contains n.columns m) (sym (zero-add (width n))) (Contains-last n.columns wide);
+            ends = inl (Contains-first n.rows rows_rise high, subst (λ m. Contains n.rows m) (sym (zero-add (height n))) (Contains-last n.rows high));
+          }))
+          (All-nil (SplitsWell n.columns n.rows));
+      slices = cover;
+      split = λ i d low. (0, all, omega arith, refl, (inside i d low).fit);
+      order = subst (AllPairs Precedes) (sym same) order;
+    }
+
+pub frame-alone : (columns rows : List ℕ) (regions : List Rect) (pictures : List Numbers) → Rises columns → Rises rows → 0 < length regions → SubpicsCover (frame_of columns rows regions pictures) → AllPairs Precedes regions → AllZip (Stands columns rows) regions pictures →
+    IsLayout (with_one_subpic (frame_of columns rows regions pictures))
+frame-alone columns rows regions pictures columns_rise rows_rise some cover order stand =
+    let slices : List (List Rect) = map (λ p. p.slices) pictures in
+    let fill : AllZip Fills regions slices = fill_each columns rows regions pictures stand in
+    let all : Rect = picture (last columns) (last rows) in
+    let first = cover.parts 0 no_rect some in
+    let inside : All (IsIn all) (frame_slices regions slices) = λ i d low.
+    let one = frame-in regions slices fill i d low in
+    let part : IsPart (last columns) (last rows) one.1 = subst (λ t. IsPart (last columns) (last rows) t) one.3 (cover.parts one.0 one.1 one.2) in
+    record {
+      fit =
+          let r : Rect = get_or (frame_slices regions slices) i d in
+          elim (fits_tells r one.1 one.4.fit) [
+            | inl empty ↦ fits_empty r all empty
+            | inr q ↦ fits_from r all (omega arith) (omega (arith, q, part.across)) (omega arith) (omega (arith, q, part.down))
+          ];
+      wide = one.4.wide;
+      high = one.4.high;
+    }
+    in
+    layout-alone (frame_of columns rows regions pictures) columns_rise rows_rise (omega (arith, first.wide, first.across)) (omega (arith, first.high, first.down)) (frame-once regions slices (last columns) (last rows) cover.once fill) inside
+    (frame-order regions slices order fill (order_each columns rows regions pictures stand))

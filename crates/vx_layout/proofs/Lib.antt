@@ -5,6 +5,7 @@ pub mod Cutting
 pub mod Entries
 pub mod FrameBounds
 pub mod FrameEnds
+pub mod FrameShapes
 pub mod FrameSlices
 pub mod FrameWhole
 pub mod Holding
@@ -17,6 +18,7 @@ pub mod Owners
 pub mod Parts
 pub mod Preceding
 pub mod ReadBack
+pub mod RegionShapes
 pub mod Rising
 pub mod Runs
 pub mod Splitting

@@ -1,5 +1,5 @@
 -- A frame put together of several pictures: each stands in a region, a rectangle of the frame, and its slices move to that corner.
-use Rattle.std.specs.Prelude.{◌≡◌, ℕ, ◌+◌, ◌<◌, List, All, length, map}
+use Rattle.std.specs.Prelude.{◌≡◌, ℕ, ◌+◌, List, [], ◌∷◌, All, length, map}
 use Rattle.std.specs.List.{flat_map, zip}
 use Rattle.vx_layout.specs.declared.numbers.Numbers.{Numbers}
 use Rattle.vx_layout.specs.declared.rect.Rect.{Rect}
@@ -7,6 +7,7 @@ use Rattle.vx_layout.specs.Borders.{HasLines}
 use Rattle.vx_layout.specs.Faults.{height, width}
 use Rattle.vx_layout.specs.Layouts.{IsSound}
 use Rattle.vx_layout.specs.Rects.{CoversOnce, IsPart}
+use Rattle.vx_layout.specs.Shapes.{HasCtu}
 
 -- a rectangle moved to a corner
 abbrev pub moved_to : Rect → Rect → Rect
@@ -25,7 +26,7 @@ pub record Fills (region : Rect) (slices : List Rect) : Type 0 where
 pub record Stands (columns rows : List ℕ) (region : Rect) (picture : Numbers) : Type 0 where
   pub sound : IsSound picture
   pub lone : length picture.subpics ≡ 1
-  pub slices : All (λ r. (0 < r.w) × (0 < r.h)) picture.slices
+  pub slices : All HasCtu picture.slices
   pub wide : width picture ≡ region.w
   pub high : height picture ≡ region.h
   pub across : HasLines columns region.x picture.columns
@@ -38,4 +39,13 @@ frame_of columns rows regions pictures = record {
   rows = rows;
   slices = frame_slices regions (map (λ p. p.slices) pictures);
   subpics = regions;
+}
+
+-- the same picture as one subpicture
+abbrev pub with_one_subpic : Numbers → Numbers
+with_one_subpic n = record {
+  columns = n.columns;
+  rows = n.rows;
+  slices = n.slices;
+  subpics = record { x = 0; y = 0; w = width n; h = height n } ∷ [];
 }

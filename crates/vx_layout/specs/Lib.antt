@@ -11,4 +11,5 @@ pub mod Plain
 pub mod Rects
 pub mod Regions
 pub mod Scan
+pub mod Shapes
 pub mod TileErrors

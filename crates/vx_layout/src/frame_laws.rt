@@ -4,10 +4,11 @@ ghost use Rattle.std.specs.List.{AllPairs, AllZip, Any, slice_index_or};
 ghost use Rattle.vx_layout.specs.Borders.{Begins, Ends, SameInside, SplitsAtLines};
 ghost use Rattle.vx_layout.specs.Bounds.{Rises, last};
 ghost use Rattle.vx_layout.specs.Faults.{IsLayout, SplitsWell, SubpicsCover, height, width};
-ghost use Rattle.vx_layout.specs.Frames.{Fills, Stands, frame_of, frame_slices, moved_to};
+ghost use Rattle.vx_layout.specs.Frames.{Fills, Stands, frame_of, frame_slices, moved_to, with_one_subpic};
 ghost use Rattle.vx_layout.specs.Layouts.{IsSound, slice_at, slices_in};
 ghost use Rattle.vx_layout.specs.Rects.{CoversOnce, IsPart, Precedes, fits, in_order, slices_of};
 ghost use Rattle.vx_layout.specs.Regions.{counted_from, cut, region_of};
+ghost use Rattle.vx_layout.specs.Shapes.{AreListable};
 ghost use Rattle.vx_layout.specs.declared.numbers.Numbers.{Numbers};
 ghost use Rattle.vx_layout.specs.declared.rect.Rect.{Rect};
 
@@ -88,4 +89,20 @@ pub fn slices_begin_and_end()
 pub fn frame_is_layout()
     ensures layout { (columns rows : List ℕ) (regions : List Rect) (pictures : List Numbers) → SubpicsCover (frame_of columns rows regions pictures) → AllPairs Precedes regions → AllZip (Stands columns rows) regions pictures → IsLayout (frame_of columns rows regions pictures) }
     ensures regions { (columns rows : List ℕ) (regions : List Rect) (pictures : List Numbers) (k : ℕ) (d : Numbers) → Rises columns → Rises rows → SubpicsCover (frame_of columns rows regions pictures) → AllZip (Stands columns rows) regions pictures → k < length regions → region_of (frame_of columns rows regions pictures) k ≡ slice_index_or pictures k d }
+{}
+
+/// Such a frame is a layout as one subpicture too, where it has a region.
+pub fn frame_alone_is_layout()
+    ensures { (columns rows : List ℕ) (regions : List Rect) (pictures : List Numbers) → Rises columns → Rises rows → 0 < length regions → SubpicsCover (frame_of columns rows regions pictures) → AllPairs Precedes regions → AllZip (Stands columns rows) regions pictures → IsLayout (with_one_subpic (frame_of columns rows regions pictures)) }
+{}
+
+/// Where each picture's slices hold CTUs, are whole tiles or whole rows of one tile, and those in one tile stand next
+/// to one another, so is it with the frame's slices and the frame's tiles.
+pub fn frame_slices_are_listable()
+    ensures { (columns rows : List ℕ) (regions : List Rect) (pictures : List Numbers) → SubpicsCover (frame_of columns rows regions pictures) → AllZip (Stands columns rows) regions pictures → All (λ p. AreListable p.columns p.rows p.slices) pictures → AreListable columns rows (frame_of columns rows regions pictures).slices }
+{}
+
+/// And so is it with a region's slices and the region's tiles, where it is with a layout's.
+pub fn region_slices_are_listable()
+    ensures { (n : Numbers) (k : ℕ) → IsSound n → k < length n.subpics → AreListable n.columns n.rows n.slices → AreListable (region_of n k).columns (region_of n k).rows (region_of n k).slices }
 {}
