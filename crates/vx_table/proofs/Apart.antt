@@ -28,14 +28,17 @@ not_both {total} {form = field cell goes} {s} same (later {v} {mid} a more) out 
     not_both first.1 more out (subst (λ x. Spells total (goes x) us next s) (sym first.0) others)
 
 one_refusal : {total : ℕ} {form : Form (List ℕ)} {v w : List ℤ} {left other r s : List Bool} {cell next : Cell ℕ} {q p : Refusal}
-    → left ≡ other → Reaches total form v left cell r → IsRefused cell total r q → Reaches total form w other next s → IsRefused next total s p → q ≡ p
+    → left ≡ other → Reaches total form v left cell r → IsRefused cell total r q → Reaches total form w other next s → IsRefused next total s p → (v ≡ w) × (r ≡ s) × (cell ≡ next) × (q ≡ p)
 one_refusal {form = done a} same reached out again other = elim reached [ ]
-one_refusal {total} {form = field cell goes} {q} same here out here other = refused_once (subst (λ x. IsRefused cell total x q) same out) other
+one_refusal {total} {form = field cell goes} {q} same here out here other = (refl, same, refl, refused_once (subst (λ x. IsRefused cell total x q) same out) other)
 one_refusal {total} {form = field cell goes} {q} same here out (later b others) other = absurd (stands_not_refused b (subst (λ x. IsRefused cell total x q) same out))
 one_refusal {total} {form = field cell goes} same (later {v} {mid} a more) out here other = absurd (stands_not_refused (subst (λ x. Stands cell total v x mid) same a) other)
-one_refusal {total} {form = field cell goes} {s} {next = final} same (later {v} {mid} a more) out (later {v = u} {w = us} {mid = after} b others) other =
+one_refusal {total} {form = field cell goes} {s} {next = final} same (later {v} {w = vs} {mid} a more) out (later {v = u} {w = us} {mid = after} b others) other =
     let first = begins_apart (subst (λ x. Stands cell total v x mid) same a).code b.code in
-    one_refusal first.1 more out (subst (λ x. Reaches total (goes x) us after final s) (sym first.0) others) other
+    let on = one_refusal first.1 more out (subst (λ x. Reaches total (goes x) us after final s) (sym first.0) others) other in
+    let head = first.0 in
+    let tail : vs ≡ us = on.0 in
+    (cc (head, tail), on.1, on.2, on.3)
 
 pub answers_one_way : AnswersOneWay
 answers_one_way form total v w left r s cell q reached out = (λ spelled. not_both refl reached out spelled, λ next other again no_other. one_refusal refl reached out again no_other)

@@ -3,7 +3,7 @@ use Rattle.std.proofs.Common.{◌≡◌, ℕ, ℤ, ◌+◌, ◌-◌, ◌≤◌, 
 use Rattle.std.proofs.lemmas.List.{append_assoc, length-append}
 use Rattle.vx_table.specs.declared.rows.Cell.{Cell}
 use Rattle.vx_table.specs.Forms.{Form, field}
-use Rattle.vx_table.specs.Spelling.{Begins, Stands, Spells, at_end, behind, Reaches, here, later, MayEnd, code_of}
+use Rattle.vx_table.specs.Spelling.{Stands, Spells, at_end, behind, Reaches, here, later, MayEnd, code_of}
 use Rattle.vx_table.specs.Values.{IsValueOf, Follows, to_end, through, ComesTo, at_field, past, bits_along, Closes}
 use Rattle.vx_table.specs.Laws.{SpellsBothWays, ReachesBothWays, ReadsBack, SpellsApart}
 use Rattle.vx_table.proofs.Codings.{code_apart}

@@ -1,11 +1,10 @@
 -- Which values have codes, by their ranges.
 use Rattle.std.specs.Int.RustNames.{unsigned_abs}
-use Rattle.std.proofs.Common.{◌≡◌, ◌↔◌, ℕ, ℤ, pos, negsuc, zero, suc, ◌+◌, ◌-◌, ◌*◌, ◌^◌, ◌<◌, ◌≤ℤ◌, refl, arith, w32, ap, List, [], ◌∷◌, ◌++◌, length, Bool, true}
+use Rattle.std.proofs.Common.{◌≡◌, ◌↔◌, ℕ, ℤ, pos, negsuc, zero, suc, ◌+◌, ◌-◌, ◌*◌, ◌^◌, ◌<◌, ◌≤ℤ◌, refl, arith, w32}
 use Rattle.std.proofs.lemmas.Int.{ints}
 use Rattle.std.proofs.Math.Pow.{pow_pos}
 use mir.Val.{SFits}
-use Rattle.std.proofs.lemmas.List.{length-append, append_assoc}
-use Rattle.vx_bits.specs.Codes.{fixed, zeros_from, one_from, IsCodeNumber}
+use Rattle.vx_bits.specs.Codes.{IsCodeNumber}
 use Rattle.vx_table.specs.declared.rows.Coding.TheVariants.{Fixed, Golomb, SignedGolomb}
 use Rattle.vx_table.specs.Spelling.{HasCode}
 

@@ -12,12 +12,12 @@ abbrev pub ReadsOneWay : Type 0
 ReadsOneWay = (form : Form (List ℕ)) (total : ℕ) (v w : List ℤ) (left r s : List Bool)
     → Spells total form v left r → Spells total form w left s → (v ≡ w) × (r ≡ s)
 
--- bits that are refused aren't spelled, and are refused in one way
+-- bits that are refused aren't spelled, and are refused at one field, behind one front, in one way
 abbrev pub AnswersOneWay : Type 0
 AnswersOneWay = (form : Form (List ℕ)) (total : ℕ) (v w : List ℤ) (left r s : List Bool) (cell : Cell ℕ) (refusal : Refusal)
     → Reaches total form v left cell r → IsRefused cell total r refusal
     → (Spells total form w left s → ⊥)
-    × ((next : Cell ℕ) (other : Refusal) → Reaches total form w left next s → IsRefused next total s other → refusal ≡ other)
+    × ((next : Cell ℕ) (other : Refusal) → Reaches total form w left next s → IsRefused next total s other → (v ≡ w) × (r ≡ s) × (cell ≡ next) × (refusal ≡ other))
 
 -- whatever the bits, they begin with the spelling of some values, or the field behind a front of them is refused
 abbrev pub AnswersAlways : Type 0

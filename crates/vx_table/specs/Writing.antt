@@ -54,7 +54,7 @@ pub record AreItemsOf {A : Type 0} (form : Form A) (items : List Item) (values :
   pub follows : Follows form values end
   pub given : items ≡ items_along form values ++ more
 
--- A writer's answer, whole, unless memory runs out:
+-- A writer's answer, whole, unless memory runs out (the law `read_back` says how what it wrote is read):
 pub record Writes {A B : Type 0} (form : Form A) (old : List Bool) (items : List Item) (result : Result B SpellError) (new : List Bool) (left : List Item) : Type 0 where
   -- what it answers is so;
   pub is : IsWritten form old items result new left

@@ -6,7 +6,7 @@ pub fn one_reading()
     ensures { ReadsOneWay }
 {}
 
-/// Bits that begin with a spelling aren't refused, and bits are refused in one way.
+/// Bits that begin with a spelling aren't refused, and bits are refused at one field and in one way.
 pub fn one_answer()
     ensures { AnswersOneWay }
 {}

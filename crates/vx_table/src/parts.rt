@@ -43,7 +43,7 @@ pub fn code_parts<I, C: Coder<I>>(
 /// # Errors
 ///
 /// The first refusal, or want of memory. `items` has then gained the fields read before, and `bits` stands at the
-/// field that comes next.
+/// field that comes next; nothing is said of `scope`.
 pub fn read_parts(
     parts: &[Part<'_>],
     scope: &mut Scope,
@@ -61,7 +61,8 @@ pub fn read_parts(
 /// # Errors
 ///
 /// `NoValue` where the items don't begin with those of a value of the structure; want of memory. `bits` has then gained
-/// the spelling of the fields before one, and `items` begins with what was to be written there.
+/// the spelling of the fields before one, and `items` begins with what was to be written there; nothing is said of
+/// `scope`.
 pub fn write_parts(
     parts: &[Part<'_>],
     scope: &mut Scope,

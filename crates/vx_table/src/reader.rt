@@ -138,7 +138,7 @@ fn push(items: &mut Fields, cell: Cell<u32>, value: i64) -> Result<(), ReadError
 /// # Errors
 ///
 /// The first refusal, or want of memory. `items` has then gained the fields read before, and `bits` stands at the
-/// field that comes next.
+/// field that comes next; nothing is said of `scope`.
 pub fn read_table(
     table: &[Row],
     scope: &mut Scope,

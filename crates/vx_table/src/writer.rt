@@ -215,7 +215,7 @@ impl<'a> Coder<Unwritten<'a>> for BitWriter {
 /// # Errors
 ///
 /// `NoValue` where the items don't begin with those of a value of the table; want of memory. `bits` has then gained the
-/// spelling of the fields before one, and `items` begins with what was to be written there.
+/// spelling of the fields before one, and `items` begins with what was to be written there; nothing is said of `scope`.
 pub fn write_table(
     table: &[Row],
     scope: &mut Scope,
