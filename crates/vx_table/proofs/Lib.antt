@@ -1,3 +1,4 @@
+mod Testing
 mod Dependence
 mod Agreeing
 pub mod Codings

@@ -7,6 +7,7 @@
 #![tactic(auto)]
 
 mod arithmetic;
+mod depends;
 mod laws;
 mod macros;
 mod parts;
@@ -18,6 +19,7 @@ mod tests;
 mod walk;
 mod writer;
 
+pub use depends::{depends_only_on, parts_depend_only_on};
 pub use laws::{one_answer, one_reading};
 pub use parts::{Part, code_parts, read_parts, write_parts};
 pub use reader::{read_table, read_value};
