@@ -1,3 +1,4 @@
+mod Shown
 mod Testing
 mod Dependence
 mod Agreeing
