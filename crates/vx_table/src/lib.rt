@@ -17,6 +17,8 @@ mod rows;
 mod scope;
 #[cfg(test)]
 mod tests;
+#[cfg(test)]
+mod tests_depend;
 mod walk;
 mod writer;
 
