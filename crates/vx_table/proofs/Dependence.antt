@@ -61,7 +61,6 @@ hidden_present shown (When holds) block s is h = elim (value s holds == 0) as (�
 hidden_present shown (Repeat counter times) block s is h = hidden_turns shown block counter 0 (value s times) s (not-true (has shown counter) is) h
 
 hides_fewer : (shown : List ℕ) (k n : ℕ) (rows : List Row) → k ≤ n → hides shown (take n rows) ≡ true → hides shown (take k rows) ≡ true
-unfolding hides
 hides_fewer shown zero n [] few h = refl
 hides_fewer shown (suc k) n [] few h = refl
 hides_fewer shown zero n (row ∷ rows) few h = refl
@@ -78,7 +77,7 @@ after_hidden shown s c v is = elim (has_value (coding_at s c.coding)) as (λ b. 
 ]
 
 hidden_part : (shown : List ℕ) (skip len : ℕ) (rows : List Row) (s : List ℕ) → hides shown (take (skip + len) rows) ≡ true → Hidden shown s (part skip len rows s)
-unfolding Hidden hides hides_row part one_field
+unfolding Hidden hides_row part one_field
 hidden_part shown zero len [] s h = agree_itself shown s
 hidden_part shown (suc skip) len [] s h = agree_itself shown s
 hidden_part shown (suc skip) len (row ∷ rows) s h =
@@ -238,7 +237,7 @@ alike_part shown known zero (suc len) (Name name formula ∷ rows) s t inside te
 
 alike_table : (shown known : List ℕ) (rows : List Row) (s t : List ℕ) → Inside known shown → table_depends shown known rows ≡ true → Agree known s t
     → Alike shown known (form_of rows s) (form_of rows t)
-unfolding form_of
+unfolding form_of table_depends
 alike_table shown known rows s t inside test agree = alike_part shown known 0 (length rows) rows s t inside test agree
 
 hidden_table : (shown : List ℕ) (rows : List Row) (s : List ℕ) → hides shown rows ≡ true → Hidden shown s (form_of rows s)

@@ -1,3 +1,5 @@
+mod Shown
+mod Testing
 mod Dependence
 mod Agreeing
 pub mod Codings

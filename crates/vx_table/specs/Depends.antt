@@ -104,7 +104,7 @@ hides_row shown (Field c) = not (has shown c.field)
 hides_row shown (Block presence n) = hides_counter shown presence
 hides_row shown (Name name formula) = not (has shown name)
 
-unfoldable pub hides : List ℕ → List Row → Bool
+abbrev pub hides : List ℕ → List Row → Bool
 hides shown [] = true
 hides shown (row ∷ rows) = hides_row shown row && hides shown rows
 
@@ -124,29 +124,40 @@ abbrev pub block_depends : List ℕ → List ℕ → Presence → Bool → (List
 block_depends shown known presence hidden inside =
     (hides_counter shown presence && hidden) || (knows_presence known presence && inside (within_block shown known presence))
 
--- A shown field's width and range and a shown name's formula read only what is known there. It is said of len rows, those behind the first
+-- a shown field's width and range are known
+abbrev pub field_depends : List ℕ → List ℕ → Cell Formula → Bool
+field_depends shown known c = not (has shown c.field) || knows_cell known c
+
+-- and a shown name's formula
+abbrev pub name_depends : List ℕ → List ℕ → ℕ → Formula → Bool
+name_depends shown known name formula = not (has shown name) || knows_formula known formula
+
+-- The shown fields and names depend only on what is known where they stand. It is said of len rows, those behind the first
 -- skip of them.
 unfoldable pub depends : List ℕ → List ℕ → ℕ → ℕ → List Row → Bool
 depends shown known skip len [] = true
 depends shown known (suc skip) len (row ∷ rows) = depends shown known skip len rows
 depends shown known zero zero (row ∷ rows) = true
 depends shown known zero (suc len) (Field c ∷ rows) =
-    (not (has shown c.field) || knows_cell known c) && depends shown (behind_field shown known c) zero len rows
+    field_depends shown known c && depends shown (behind_field shown known c) zero len rows
 depends shown known zero (suc len) (Block presence n ∷ rows) =
     block_depends shown known presence (hides shown (take (min n len) rows)) (λ more. depends shown more zero (min n len) rows)
     && depends shown known (min n len) (len - min n len) rows
 depends shown known zero (suc len) (Name name formula ∷ rows) =
-    (not (has shown name) || knows_formula known formula) && depends shown (grown shown known name) zero len rows
+    name_depends shown known name formula && depends shown (grown shown known name) zero len rows
 
 -- it is said of a table,
-abbrev pub table_depends : List ℕ → List ℕ → List Row → Bool
+unfoldable pub table_depends : List ℕ → List ℕ → List Row → Bool
 table_depends shown known rows = depends shown known 0 (length rows) rows
+
+-- of one that is there so often,
+abbrev pub rows_depend : List ℕ → List ℕ → Presence → List Row → Bool
+rows_depend shown known presence rows = block_depends shown known presence (hides shown rows) (λ there. table_depends shown there rows)
 
 -- and of the tables of a structure
 abbrev pub sections_depend : List ℕ → List ℕ → List Section → Bool
 sections_depend shown known [] = true
-sections_depend shown known (section ∷ more) =
-    block_depends shown known section.presence (hides shown section.rows) (λ there. table_depends shown there section.rows) && sections_depend shown known more
+sections_depend shown known (section ∷ more) = rows_depend shown known section.presence section.rows && sections_depend shown known more
 
 -- the test of a table, and of a structure
 abbrev pub depends_only_on : (given shown : List ℕ) → List Row → Bool

@@ -7,5 +7,6 @@ pub mod Laws
 pub mod Parts
 pub mod Depends
 pub mod Reading
+pub mod Shown
 pub mod Values
 pub mod Writing

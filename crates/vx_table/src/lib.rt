@@ -7,7 +7,9 @@
 #![tactic(auto)]
 
 mod arithmetic;
+mod depends;
 mod laws;
+mod laws_depend;
 mod macros;
 mod parts;
 mod reader;
@@ -15,13 +17,17 @@ mod rows;
 mod scope;
 #[cfg(test)]
 mod tests;
+#[cfg(test)]
+mod tests_depend;
 mod walk;
 mod writer;
 
+pub use depends::{depends_only_on, parts_depend_only_on};
 pub use laws::{
     every_answer, no_proper_prefix, one_answer, one_reading, one_writing, read_back,
     spelled_both_ways,
 };
+pub use laws_depend::{alike_together, cells_follow_items, scopes_follow_items};
 pub use parts::{Part, code_parts, read_parts, write_parts};
 pub use reader::{read_table, read_value};
 pub use rows::{Cell, Coding, Fault, Formula, Limits, Presence, Row, Term};

@@ -139,7 +139,7 @@ fn code_field<I, C: Coder<I>>(
 }
 
 /// The rows of a block, which are at most those that are left, and the rows behind it.
-fn split_block(rows: &[Row], inside: usize) -> (&[Row], &[Row])
+pub fn split_block(rows: &[Row], inside: usize) -> (&[Row], &[Row])
     ensures block { result.0.now ≡ take (min inside (length rows.now)) rows.now }
     ensures behind { result.1.now ≡ drop (min inside (length rows.now)) rows.now }
     ensures all { length result.0.now + length result.1.now ≡ length rows.now }

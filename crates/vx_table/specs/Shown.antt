@@ -1,0 +1,35 @@
+-- The shown fields of a structure, their items and how they are coded, and what two structures with alike forms have in common.
+use Rattle.std.specs.Prelude.{◌≡◌, ℕ, ℤ, cond, List, [], ◌∷◌, filter}
+use Rattle.vx_bits.specs.declared.list.Item.{Item}
+use Rattle.vx_table.specs.declared.rows.Cell.{Cell}
+use Rattle.vx_table.specs.Scope.{loaded}
+use Rattle.vx_table.specs.Forms.{Form, done, field, ◌>>=◌}
+use Rattle.vx_table.specs.Spelling.{items_along}
+use Rattle.vx_table.specs.Values.{Follows}
+use Rattle.vx_table.specs.Depends.{has, Agree, Alike}
+
+-- the items of shown fields
+abbrev pub shown_items : List ℕ → List Item → List Item
+shown_items shown items = filter (λ item. has shown item.field) items
+
+-- the shown fields that values go through, in order, each with its coding and its range
+abbrev pub shown_cells : List ℕ → Form (List ℕ) → List ℤ → List (Cell ℕ)
+shown_cells shown (done s) w = []
+shown_cells shown (field cell goes) [] = []
+shown_cells shown (field cell goes) (v ∷ w) = cond (has shown cell.field) (cell ∷ shown_cells shown (goes v) w) (shown_cells shown (goes v) w)
+
+-- values of alike forms which have the same shown items have the same shown fields, with the same codings and ranges, and leave scopes that
+-- agree
+abbrev pub CellsFollowItems : Type 0
+CellsFollowItems = (shown known : List ℕ) (f g : Form (List ℕ)) (v w : List ℤ) (s t : List ℕ) → Alike shown known f g → Follows f v s → Follows g w t
+    → shown_items shown (items_along f v) ≡ shown_items shown (items_along g w) → (shown_cells shown f v ≡ shown_cells shown g w) × Agree known s t
+
+-- items that have the same shown ones lead from scopes that agree to scopes that agree
+abbrev pub ScopesFollowItems : Type 0
+ScopesFollowItems = (names s t : List ℕ) (items others : List Item) → Agree names s t → shown_items names items ≡ shown_items names others
+    → Agree names (loaded s items) (loaded t others)
+
+-- alike structures behind alike ones are alike
+abbrev pub AlikeTogether : Type 0
+AlikeTogether = (shown mid known : List ℕ) (f g : Form (List ℕ)) (next other : List ℕ → Form (List ℕ)) → Alike shown mid f g
+    → ((s t : List ℕ) → Agree mid s t → Alike shown known (next s) (other t)) → Alike shown known (f >>= next) (g >>= other)
