@@ -210,6 +210,12 @@ module _ (before : List ℕ) (z : ℕ) (unit rest : List ℕ) (p : ℕ) (is : le
       (λ zs. last_is (zs.1.each (s + (length unit - 1)) (omega arith) (omega (arith, length-whole))))
       c
 
+-- 00 00 and a byte of at most 1 end a unit
+code_ends : (b : List ℕ) (e x : ℕ) (rest : List ℕ) → length b ≡ e + length (0 ∷ 0 ∷ x ∷ rest) → ((k : ℕ) → slice_index b (e + k) ≡ slice_index (0 ∷ 0 ∷ x ∷ rest) k) → x ≤ 1 → CanEnd b true e
+code_ends b e x rest len at small =
+    let zero_is : e + 0 ≡ e = omega arith in
+    inl (record { within = omega (arith, len); first = rw zero_is at (at 0); second = at 1; third = rw (at 2) small })
+
 -- what stands behind a unit: zeros to the end, or a start code behind zeros
 rest_ends : (b : List ℕ) (e : ℕ) (z : ℕ) (parts : List Part) → length b ≡ e + length (replicate z 0 ++ flat_map part_bytes parts) → ((k : ℕ) → slice_index b (e + k) ≡ slice_index (replicate z 0 ++ flat_map part_bytes parts) k) → CanEnd b true e
 rest_ends b e z [] len at =
@@ -224,18 +230,10 @@ rest_ends b e z [] len at =
             ap (slice_index b) (sym same) ∙ at (k - e) ∙ get_or_append_left (replicate z 0) [] 0 (k - e) (omega (arith, length-zeros z)) ∙ get_or-replicate z (k - e) 0 0 (omega (arith, n));
       },
     )
-rest_ends b e zero (q ∷ qs) len at =
-    let zero_is : e + 0 ≡ e = omega arith in
-    inl (record { within = omega (arith, len); first = rw zero_is at (at 0); second = at 1; third = rw (at 2) (omega arith) })
-rest_ends b e (suc zero) (q ∷ qs) len at =
-    let zero_is : e + 0 ≡ e = omega arith in
-    inl (record { within = omega (arith, len); first = rw zero_is at (at 0); second = at 1; third = rw (at 2) (omega arith) })
-rest_ends b e (suc (suc zero)) (q ∷ qs) len at =
-    let zero_is : e + 0 ≡ e = omega arith in
-    inl (record { within = omega (arith, len); first = rw zero_is at (at 0); second = at 1; third = rw (at 2) (omega arith) })
-rest_ends b e (suc (suc (suc z))) (q ∷ qs) len at =
-    let zero_is : e + 0 ≡ e = omega arith in
-    inl (record { within = omega (arith, len); first = rw zero_is at (at 0); second = at 1; third = rw (at 2) (omega arith) })
+rest_ends b e zero (q ∷ qs) len at = code_ends b e 1 _ len at (omega arith)
+rest_ends b e (suc zero) (q ∷ qs) len at = code_ends b e 0 (drop 2 (flat_map part_bytes (q ∷ qs))) len at (omega arith)
+rest_ends b e (suc (suc zero)) (q ∷ qs) len at = code_ends b e 0 (drop 1 (flat_map part_bytes (q ∷ qs))) len at (omega arith)
+rest_ends b e (suc (suc (suc z))) (q ∷ qs) len at = code_ends b e 0 _ len at (omega arith)
 
 -- the units of parts behind other bytes
 Follow : List ℕ → ℕ → ℕ → List Part → Type 0

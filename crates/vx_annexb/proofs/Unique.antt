@@ -124,21 +124,10 @@ follow_front b all p (u ∷ us) (v ∷ vs) t f g d =
 pub stream_unique : StreamIsUnique
 stream_unique b all us vs r t f g = follow_unique b all 0 us vs r t f.follow f.behind g.follow g.behind
 
--- units that follow one another are the first of all
-begins_with : (b : List ℕ) (all : Bool) (p : ℕ) (us vs : List UnitPlace) (t : Option Refusal) → FollowsFrom b all p us → FollowsFrom b all p vs → EndsWith b all (end_of p vs) t → (later : List UnitPlace) × (vs ≡ us ++ later)
-begins_with b all p [] vs t f g d = (vs, refl)
-begins_with b all p (u ∷ us) [] t f g d = absurd (ending_or_unit b all p t u d f.0 f.1)
-begins_with b all p (u ∷ us) (v ∷ vs) t f g d =
-    let same = unit_unique b all p u v f.0 g.0 in
-    let P : UnitPlace → Type 0 = λ w. FollowsFrom b all w.end vs × EndsWith b all (end_of w.end vs) t in
-    let others = subst P (sym same) (g.2, d) in
-    let later = begins_with b all u.end us vs t f.2 others.0 others.1 in
-    (later.0, ap₂ (λ (x : UnitPlace) (xs : List UnitPlace). x ∷ xs) (sym same) later.1)
-
 pub stream_goes_on : StreamGoesOn
 stream_goes_on b more all us vs r t f g =
     let follow = follows_on b more all 0 us f.follow in (
-      begins_with (b ++ more) all 0 us vs t follow g.follow g.behind,
+      follow_front (b ++ more) all 0 us vs t follow g.follow g.behind,
       λ refusal is.
           let P : Option Refusal → Type 0 = λ e. EndsWith b false (end_of 0 us) e in
           let behind = refuses_on b more all (end_of 0 us) refusal (subst P is f.behind) in

@@ -62,55 +62,54 @@ fn split(alloc: Global, bytes: &[u8], size: usize) -> Result<Seen, AllocError>
     Ok(Seen { units, refusal })
 }
 
-const fn framing(code: u8, byte: u64) -> Option<Refusal> {
-    Some(Refusal::Framing { code, byte })
-}
+// Streams, the place and the length of each unit, and the rule of framing that refuses them, with its byte.
+const STREAMS: [(&[u8], &[(u64, usize)], Option<(u8, u64)>); 19] = [
+    (&[], &[], None),
+    (&[0, 0, 0], &[], None),
+    (&STREAM_A, &[(4, 20), (28, 10), (42, 7)], None),
+    // Zeros around the units belong to none.
+    (
+        &[0, 0, 0, 0, 0, 1, 0, 65, 128, 0, 0, 0, 0, 1, 0, 65, 5, 0, 0],
+        &[(6, 3), (14, 3)],
+        None,
+    ),
+    (
+        &[0, 0, 1, 0, 65, 128, 0, 0, 1, 0, 66],
+        &[(3, 3), (9, 2)],
+        None,
+    ),
+    // A byte that is no start code.
+    (&[65, 0, 0, 1], &[], Some((1, 0))),
+    (&[0, 1], &[], Some((1, 1))),
+    (&[0, 0, 2], &[], Some((1, 2))),
+    (&[0, 0, 1, 0, 65, 128, 0, 0, 0, 5], &[(3, 3)], Some((1, 9))),
+    // A header that can't be read.
+    (&[0, 0, 0, 0, 1, 66], &[], Some((3, 5))),
+    (&[0, 0, 1, 0, 0, 1, 0, 65], &[], Some((3, 3))),
+    (
+        &[0, 0, 1, 0, 65, 0, 0, 1, 128, 65, 0, 0, 1, 7],
+        &[(3, 2)],
+        Some((3, 8)),
+    ),
+    (&[0, 0, 1, 0, 64, 1], &[], Some((3, 3))),
+    (&[0, 0, 1], &[], Some((3, 3))),
+    // A byte that emulation prevention rules out; a unit may end with an emulation byte.
+    (&[0, 0, 1, 0, 121, 0, 0, 2], &[], Some((2, 7))),
+    (&[0, 0, 1, 0, 65, 0, 0, 3, 4, 0, 0, 2], &[], Some((2, 8))),
+    (&[0, 0, 1, 0, 65, 0, 0, 3], &[(3, 5)], None),
+    (
+        &[0, 0, 1, 0, 65, 0, 0, 3, 3, 0, 0, 0, 1, 0, 65, 7],
+        &[(3, 6), (13, 3)],
+        None,
+    ),
+    // A bad header comes before bad emulation.
+    (&[0, 0, 1, 128, 65, 0, 0, 2], &[], Some((3, 3))),
+];
 
 #[test]
 fn splits_streams(rt: HostRuntime) -> Result<(), Fail> {
-    let rows: [(&[u8], &[(u64, usize)], Option<Refusal>); 19] = [
-        (&[], &[], None),
-        (&[0, 0, 0], &[], None),
-        (&STREAM_A, &[(4, 20), (28, 10), (42, 7)], None),
-        // Zeros around the units belong to none.
-        (
-            &[0, 0, 0, 0, 0, 1, 0, 65, 128, 0, 0, 0, 0, 1, 0, 65, 5, 0, 0],
-            &[(6, 3), (14, 3)],
-            None,
-        ),
-        (
-            &[0, 0, 1, 0, 65, 128, 0, 0, 1, 0, 66],
-            &[(3, 3), (9, 2)],
-            None,
-        ),
-        // A byte that is no start code.
-        (&[65, 0, 0, 1], &[], framing(1, 0)),
-        (&[0, 1], &[], framing(1, 1)),
-        (&[0, 0, 2], &[], framing(1, 2)),
-        (&[0, 0, 1, 0, 65, 128, 0, 0, 0, 5], &[(3, 3)], framing(1, 9)),
-        // A header that can't be read.
-        (&[0, 0, 0, 0, 1, 66], &[], framing(3, 5)),
-        (&[0, 0, 1, 0, 0, 1, 0, 65], &[], framing(3, 3)),
-        (
-            &[0, 0, 1, 0, 65, 0, 0, 1, 128, 65, 0, 0, 1, 7],
-            &[(3, 2)],
-            framing(3, 8),
-        ),
-        (&[0, 0, 1, 0, 64, 1], &[], framing(3, 3)),
-        (&[0, 0, 1], &[], framing(3, 3)),
-        // A byte that emulation prevention rules out; a unit may end with an emulation byte.
-        (&[0, 0, 1, 0, 121, 0, 0, 2], &[], framing(2, 7)),
-        (&[0, 0, 1, 0, 65, 0, 0, 3, 4, 0, 0, 2], &[], framing(2, 8)),
-        (&[0, 0, 1, 0, 65, 0, 0, 3], &[(3, 5)], None),
-        (
-            &[0, 0, 1, 0, 65, 0, 0, 3, 3, 0, 0, 0, 1, 0, 65, 7],
-            &[(3, 6), (13, 3)],
-            None,
-        ),
-        // A bad header comes before bad emulation.
-        (&[0, 0, 1, 128, 65, 0, 0, 2], &[], framing(3, 3)),
-    ];
-    for (bytes, units, refusal) in rows {
+    for (bytes, units, refused) in STREAMS {
+        let refusal = refused.map(|(code, byte)| Refusal::Framing { code, byte });
         for size in [1, 2, 3, 5, 64] {
             let found = split(rt.alloc(), bytes, size)?;
             assert_eq!(rt;
