@@ -15,6 +15,7 @@ use Rattle.vx_app.specs.declared.stop.Stop.TheVariants.{NotUnderstood, Refused, 
 use Rattle.vx_bits.specs.declared.refusal.Refusal.{Refusal}
 use Rattle.vx_bits.specs.declared.refusal.Refusal.TheVariants.{Limit}
 use Rattle.vx_report.specs.declared.refusal.Where.{Where}
+use Rattle.vx_report.specs.RefusalLine.{long_source}
 use Rattle.vx_app.specs.Change.{Change, change, change_at, Gains, GainsFront}
 use Rattle.vx_app.specs.Conclusion.{Outcome}
 use Rattle.vx_app.specs.Show.{source_limit, seen_of, is_within, ending_of, unit_line, unit_lines, shown_lines, behind_unit, IsShown, Shows}
@@ -178,14 +179,14 @@ Shows-done source out h ended n taken whole shows =
 
 -- the units of a source that has more bytes than the limit
 pub Shows-beyond : {S K : Type 0} (source : Change S) (out : Change K) (h : Held) (ended : Bool) (n : ℕ) (place : Where) → GivesAll h source ended → ended ≡ false → place ≡ behind_unit n
-    → ((b : List ℕ) → Stands h b [] → ShowsUnits b h.all out (Ok n)) → Shows source out (Err (Refused (Limit 3) place))
+    → ((b : List ℕ) → Stands h b [] → ShowsUnits b h.all out (Ok n)) → Shows source out (Err (Refused (Limit long_source) place))
 Shows-beyond source out h ended n place taken beyond at shows =
     let s = shows (take source_limit taken.bytes) taken.stands in (
       taken.kept,
       s.2.kept,
       λ b units ending told is.
-          let here = shown-told source h ended taken b s.0 None (Some (Limit 3)) told s.1 (rw (taken.all ∙ beyond) refl) in
-          let same = IsShown-unique b s.0 units (Some (Limit 3)) ending here is in
+          let here = shown-told source h ended taken b s.0 None (Some (Limit long_source)) told s.1 (rw (taken.all ∙ beyond) refl) in
+          let same = IsShown-unique b s.0 units (Some (Limit long_source)) ending here is in
           (sym same.1, at ∙ ap behind_unit s.3 ∙ ap (λ (us : List UnitPlace). behind_unit (length us)) same.0, lines-told source out h ended taken b s.0 units told same.0 s.2),
     )
 

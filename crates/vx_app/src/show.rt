@@ -13,7 +13,7 @@ use std::alloc::{AllocError, Global};
 use vx_annexb::{Span, Splitter, read_header};
 use vx_bits::Refusal;
 use vx_io::{Sink, Source, read_box, write_all};
-use vx_report::{Where, unit_line};
+use vx_report::{LONG_SOURCE, Where, unit_line};
 
 /// How many bytes a read asks for.
 const READ_LEN: usize = 65_536;
@@ -22,7 +22,7 @@ const READ_LEN: usize = 65_536;
 const SOURCE_LIMIT: u64 = 1 << 40;
 
 /// The refusal of a source that has more.
-const SOURCE_TOO_LONG: Refusal = Refusal::Limit { code: 3 };
+const SOURCE_TOO_LONG: Refusal = Refusal::Limit { code: LONG_SOURCE };
 
 /// Writes a line for each NAL unit of a source, in order.
 pub fn show<K: Sink>(alloc: Global, source: &mut Box<dyn Source>, out: &mut K) -> Result<(), Stop>
