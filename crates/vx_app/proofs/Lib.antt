@@ -1,4 +1,6 @@
 pub mod Concluding
 pub mod Ending
+pub mod Gained
+pub mod Performing
 pub mod Pieces
 pub mod Shown

@@ -1,5 +1,5 @@
 -- What a splitter is given of the pieces of a source.
-use Rattle.std.proofs.Common.{◌≡◌, ℕ, ◌+◌, ◌-◌, ◌≤◌, List, [], ◌++◌, ◌∙◌, sym, ap, refl, min, length, take, arith, subst, length-append, Option, Ok, true, false}
+use Rattle.std.proofs.Common.{◌≡◌, ℕ, ◌+◌, ◌-◌, ◌≤◌, List, [], ◌++◌, ◌∙◌, sym, ap, refl, min, length, take, arith, subst, length-append, Option, true, false}
 use Rattle.std.proofs.Math.Seq.{take-append-add, take_all}
 use Rattle.std.proofs.Math.Nat.{min_comm, min-le_left}
 use Rattle.std.proofs.lemmas.List.{take-append-le, length-take-le, take-take, take_min}
@@ -8,7 +8,8 @@ use Rattle.std.proofs.KnownBytes.{Consumes-trans}
 use Rattle.vx_annexb.specs.ByteStream.{UnitPlace}
 use Rattle.vx_annexb.specs.Held.{Held, Stands}
 use Rattle.vx_app.specs.Show.{source_limit}
-use Rattle.vx_app.specs.ShowSteps.{HasTaken, TakesPiece, TakesIn}
+use Rattle.vx_app.specs.Change.{Change, HasNoFault}
+use Rattle.vx_app.specs.ShowSteps.{GivesPiece, HasTaken, GivesAll}
 
 -- the limit as a number
 pub source_limit-is : source_limit ≡ 1099511627776
@@ -35,27 +36,32 @@ seen-front limit r piece rest came within fits =
     ∙ ap (λ n. take n (r ++ take came piece)) split
 
 -- one more piece
-pub HasTaken-more : (h h' : Held) (left left' left'' : Option (List ℕ)) (f f' n came : ℕ) → n ≤ source_limit → HasTaken h left left' n
-    → ((r : List ℕ) → length r ≡ n → Stands h r [] → TakesPiece r h' left' left'' f f' (Ok came))
-    → (f' ≡ f) × HasTaken h' left left'' (n + came) × (came ≡ 0 → IsAtEnd left'')
-HasTaken-more h h' left left' left'' f f' n came within taken step =
+pub HasTaken-more : {S : Type 0} (h h' : Held) (source : Change S) (left : Option (List ℕ)) (n came : ℕ) → n ≤ source_limit → HasTaken h left (source.bytes source.old) n
+    → ((r : List ℕ) → length r ≡ n → Stands h r [] → GivesPiece r h' source came) → HasNoFault source × HasTaken h' left (source.bytes source.new) (n + came) × (came ≡ 0 → IsAtEnd (source.bytes source.new))
+HasTaken-more h h' source left n came within taken step =
     let r = taken.bytes in
     let short : length r ≤ source_limit = subst (λ (k : ℕ). k ≤ source_limit) (sym taken.count) within in
     let here : Stands h r [] = subst (λ (g : List ℕ). Stands h g []) (take_all source_limit r short) taken.stands in
-    let answer = step r taken.count here in
-    let piece = answer.1.0 in (
-      answer.0,
+    let next = step r taken.count here in (
+      next.kept,
       record {
-        bytes = r ++ piece;
-        count = length-append r piece ∙ ap (λ k. k + length piece) taken.count ∙ ap (λ k. n + k) answer.1.1;
-        consumed = Consumes-trans left left' left'' r piece taken.consumed answer.1.2;
-        stands = answer.1.4;
+        bytes = r ++ next.piece;
+        count = length-append r next.piece ∙ ap (λ k. k + length next.piece) taken.count ∙ ap (λ k. n + k) next.count;
+        consumed = Consumes-trans left (source.bytes source.old) (source.bytes source.new) r next.piece taken.consumed next.consumed;
+        stands = next.stands;
       },
-      answer.1.3,
+      next.ended,
     )
 
 -- the source has ended
-pub TakesIn-ended : (h h' : Held) (left left' : Option (List ℕ)) (f f' n : ℕ) → f' ≡ f → n ≤ source_limit → HasTaken h left left' n → IsAtEnd left'
-    → ((g : List ℕ) (units : List UnitPlace) → Stands h g units → Stands h' g units) → h'.all ≡ true → TakesIn h' left left' f f' (Ok true)
-TakesIn-ended h h' left left' f f' n counts within taken ended finish all =
-    (counts, (taken.bytes, taken.consumed, finish (take source_limit taken.bytes) [] taken.stands, all, (λ _. (ended, subst (λ (k : ℕ). k ≤ source_limit) (sym taken.count) within)), λ (no : true ≡ false). absurd (cc)))
+pub GivesAll-ended : {S : Type 0} (h h' : Held) (source : Change S) (n : ℕ) → HasNoFault source → n ≤ source_limit → HasTaken h (source.bytes source.old) (source.bytes source.new) n → IsAtEnd (source.bytes source.new)
+    → ((g : List ℕ) (units : List UnitPlace) → Stands h g units → Stands h' g units) → h'.all ≡ true → GivesAll h' source true
+GivesAll-ended h h' source n kept within taken ended finish all = record {
+  bytes = taken.bytes;
+  kept = kept;
+  consumed = taken.consumed;
+  stands = finish (take source_limit taken.bytes) [] taken.stands;
+  all = all;
+  within = λ _. (ended, subst (λ (k : ℕ). k ≤ source_limit) (sym taken.count) within);
+  beyond = λ (no : true ≡ false). absurd (cc);
+}

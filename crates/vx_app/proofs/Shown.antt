@@ -1,57 +1,88 @@
--- The units that were shown, one after the other.
-use Rattle.std.proofs.Common.{◌≡◌, ℕ, ◌+◌, ◌≤◌, ◌<◌, List, [], ◌∷◌, ◌++◌, Option, Some, None, Ok, Err, Bool, true, false, take, arith, ◌∙◌, sym, ap, refl, subst, length, length-append, append-nil}
+-- The units that were shown, one after the other, and what that comes to for a source.
+use Rattle.std.proofs.Common.{◌≡◌, ℕ, ◌+◌, ◌≤◌, ◌<◌, List, [], ◌∷◌, ◌++◌, Option, Some, None, Ok, Err, Bool, true, false, take, arith, ◌∙◌, sym, ap, refl, subst, length, length-append, append-nil, get_or, slice_get, slice_set}
 use Rattle.std.proofs.lemmas.Grind.{flat_map-append}
 use Rattle.std.proofs.lemmas.Bool.{le-leb, lt-leb}
-use Rattle.std.proofs.lemmas.List.{take-append-le}
-use Rattle.std.specs.Io.KnownBytes.{Appends, Consumes, IsAtEnd}
-use Rattle.std.proofs.KnownBytes.{Appends-trans}
-use Rattle.vx_io.specs.Written.{AppendsFront}
-use Rattle.vx_io.proofs.WrittenLemmas.{AppendsFront-after}
-use Rattle.vx_annexb.specs.ByteStream.{UnitPlace}
+use Rattle.std.proofs.lemmas.List.{take-append-le, get_or-set_same}
+use Rattle.std.proofs.lemmas.Option.{slice_get_read}
+use Rattle.std.proofs.Math.ListN.{length-set}
+use Rattle.std.proofs.Math.Seq.{take-append_seam}
+use Rattle.std.specs.Io.KnownBytes.{Consumes, IsAtEnd}
+use Rattle.vx_annexb.specs.ByteStream.{UnitPlace, IsStream, FollowsFrom}
 use Rattle.vx_annexb.specs.Held.{Held, Stands}
+use Rattle.vx_annexb.proofs.Unique.{stream_unique, follow_front}
 use Rattle.vx_app.specs.declared.stop.Stop.{Stop}
 use Rattle.vx_app.specs.declared.stop.Stop.TheVariants.{NotUnderstood, Refused, ReadFault, WriteFault, NoMemory}
 use Rattle.vx_bits.specs.declared.refusal.Refusal.{Refusal}
 use Rattle.vx_bits.specs.declared.refusal.Refusal.TheVariants.{Limit}
 use Rattle.vx_report.specs.declared.refusal.Where.{Where}
-use Rattle.vx_app.specs.Show.{source_limit, seen_of, is_within, ending_of, unit_line, unit_lines}
-use Rattle.vx_app.specs.ShowSteps.{HasShown, ShowsNext, ShowsUnits, ShowsBytes, IsBehind, behind_unit}
+use Rattle.vx_report.specs.RefusalLine.{long_source}
+use Rattle.vx_app.specs.Change.{Change, change, change_at, Gains, GainsFront}
+use Rattle.vx_app.specs.Conclusion.{Outcome}
+use Rattle.vx_app.specs.Show.{source_limit, seen_of, is_within, ending_of, unit_line, unit_lines, shown_lines, behind_unit, IsShown, Shows}
+use Rattle.vx_app.specs.ShowSteps.{GivesAll, ShowsNext, HasShown, ShowsUnits}
+use Rattle.vx_app.proofs.Gained.{Gains-nothing, Gains-still, Gains-then, GainsFront-then, GainsFront-append}
+
+-- ---- one unit after the other
 
 -- the lines of one more unit
 unit_lines-more : (b : List ℕ) (units : List UnitPlace) (u : UnitPlace) → unit_lines b (units ++ u ∷ []) ≡ unit_lines b units ++ unit_line b u
 unit_lines-more b units u = flat_map-append (unit_line b) units (u ∷ []) ∙ ap (λ l. unit_lines b units ++ l) (append-nil (unit_line b u))
 
--- nothing more was written
-Appends-no_more : (a b c : Option (List ℕ)) (xs : List ℕ) → Appends a b xs → Appends b c [] → Appends a c xs
-Appends-no_more a b c xs p q = subst (λ (l : List ℕ). Appends a c l) (append-nil xs) (Appends-trans a b c xs [] p q)
-
 -- one more unit was shown
-pub HasShown-more : (b : List ℕ) (h h' : Held) (old mid new : Option (List ℕ)) (n : ℕ) → HasShown b h old mid n
-    → ((units : List UnitPlace) → Stands h b units → ShowsNext b units h' mid new (Ok true)) → HasShown b h' old new (n + 1)
-HasShown-more b h h' old mid new n shown step =
-    let next = step shown.units shown.stands in
+pub HasShown-more : {K : Type 0} (b : List ℕ) (h h' : Held) (bytes : K → Option (List ℕ)) (faults : K → ℕ) (old mid new : K) (n : ℕ) → HasShown b h (change bytes faults old mid) n
+    → ((units : List UnitPlace) → Stands h b units → n ≡ length units → ShowsNext b units h' (change bytes faults mid new) (Ok true)) → HasShown b h' (change bytes faults old new) (n + 1)
+HasShown-more {K} b h h' bytes faults old mid new n shown step =
+    let next = step shown.units shown.stands shown.count in
     record {
       units = shown.units ++ next.0 ∷ [];
       stands = next.1;
-      lines = subst (λ (l : List ℕ). Appends old new l) (sym (unit_lines-more b shown.units next.0)) (Appends-trans old mid new (unit_lines b shown.units) (unit_line b next.0) shown.lines next.2);
+      lines = subst (λ (l : List ℕ). Gains (change bytes faults old new) l) (sym (unit_lines-more b shown.units next.0)) (Gains-then bytes faults old mid new (unit_lines b shown.units) (unit_line b next.0) shown.lines next.2);
       count = ap (λ k. k + 1) shown.count ∙ sym (length-append shown.units (next.0 ∷ []));
     }
 
 -- a stop behind the units that were shown
-pub ShowsUnits-stopped : (b : List ℕ) (all : Bool) (h h' : Held) (old mid new : Option (List ℕ)) (n : ℕ) (stop : Stop) → h'.all ≡ all → HasShown b h old mid n
-    → ((units : List UnitPlace) → Stands h b units → ShowsNext b units h' mid new (Err stop)) → IsBehind n stop → ShowsUnits b all old new (Err stop)
-ShowsUnits-stopped b all h h' old mid new n NotUnderstood same shown step place = step shown.units shown.stands
-ShowsUnits-stopped b all h h' old mid new n (Refused refusal place) same shown step behind =
-    let answer = step shown.units shown.stands in
-    rw (← same) (shown.units, answer.1, Appends-no_more old mid new (unit_lines b shown.units) shown.lines answer.0, behind ∙ ap behind_unit shown.count)
-ShowsUnits-stopped b all h h' old mid new n (ReadFault source) same shown step place = step shown.units shown.stands
-ShowsUnits-stopped b all h h' old mid new n WriteFault same shown step place =
-    let answer = step shown.units shown.stands in
+pub ShowsUnits-stopped : {K : Type 0} (b : List ℕ) (all : Bool) (h h' : Held) (bytes : K → Option (List ℕ)) (faults : K → ℕ) (old mid new : K) (n : ℕ) (stop : Stop) → h'.all ≡ all
+    → HasShown b h (change bytes faults old mid) n
+    → ((units : List UnitPlace) → Stands h b units → n ≡ length units → ShowsNext b units h' (change bytes faults mid new) (Err stop)) → ShowsUnits b all (change bytes faults old new) (Err stop)
+ShowsUnits-stopped b all h h' bytes faults old mid new n NotUnderstood same shown step = step shown.units shown.stands shown.count
+ShowsUnits-stopped b all h h' bytes faults old mid new n (Refused refusal place) same shown step =
+    let answer = step shown.units shown.stands shown.count in
+    rw (← same) (shown.units, answer.1, Gains-still bytes faults old mid new (unit_lines b shown.units) shown.lines answer.0, answer.2)
+ShowsUnits-stopped b all h h' bytes faults old mid new n (ReadFault source) same shown step = step shown.units shown.stands shown.count
+ShowsUnits-stopped b all h h' bytes faults old mid new n WriteFault same shown step =
+    let answer = step shown.units shown.stands shown.count in
     let units = shown.units ++ answer.0 ∷ [] in
-    rw (← same) (units, answer.1, subst (λ (l : List ℕ). AppendsFront old new l) (sym (unit_lines-more b shown.units answer.0)) (AppendsFront-after old mid new (unit_lines b shown.units) (unit_line b answer.0) shown.lines answer.2))
-ShowsUnits-stopped b all h h' old mid new n NoMemory same shown step place =
-    let answer = step shown.units shown.stands in
-    rw (← same) (shown.units, answer.1, Appends-no_more old mid new (unit_lines b shown.units) shown.lines answer.0)
+    rw (← same) (units, answer.1, subst (λ (l : List ℕ). GainsFront (change bytes faults old new) l) (sym (unit_lines-more b shown.units answer.0)) (GainsFront-then bytes faults old mid new (unit_lines b shown.units) (unit_line b answer.0) shown.lines answer.2))
+ShowsUnits-stopped b all h h' bytes faults old mid new n NoMemory same shown step =
+    let answer = step shown.units shown.stands shown.count in
+    rw (← same) (shown.units, answer.1, Gains-still bytes faults old mid new (unit_lines b shown.units) shown.lines answer.0)
+
+-- ---- the units of a source
+
+-- the bytes determine the units and the ending
+IsShown-unique : (b : List ℕ) (us vs : List UnitPlace) (r t : Option Refusal) → IsShown b us r → IsShown b vs t → (us ≡ vs) × (r ≡ t)
+IsShown-unique b us vs r t p q =
+    let same = stream_unique (seen_of b) (is_within b) us vs p.behind q.behind p.stream q.stream in
+    (same.0, p.ends ∙ ap (ending_of (is_within b)) same.1 ∙ sym q.ends)
+
+-- first units are a front of all
+first-front : (b : List ℕ) (us vs : List UnitPlace) (t : Option Refusal) → FollowsFrom (seen_of b) (is_within b) 0 us → IsShown b vs t → (more : List UnitPlace) × (vs ≡ us ++ more)
+first-front b us vs t first shown = follow_front (seen_of b) (is_within b) 0 us vs shown.behind first shown.stream.follow shown.stream.behind
+
+-- a front of the lines of first units is one of all lines
+GainsFront-all : {K : Type 0} (out : Change K) (b : List ℕ) (us vs : List UnitPlace) (t : Option Refusal) → FollowsFrom (seen_of b) (is_within b) 0 us → IsShown b vs t → GainsFront out (shown_lines b us) → GainsFront out (shown_lines b vs)
+GainsFront-all out b us vs t first shown front =
+    let more = first-front b us vs t first shown in
+    subst (λ (l : List ℕ). GainsFront out l)
+    (sym (ap (shown_lines b) more.1 ∙ flat_map-append (unit_line (seen_of b)) us more.0))
+    (GainsFront-append out (shown_lines b us) (shown_lines b more.0) front)
+
+-- the lines of first units are those of so many
+Gains-first : {K : Type 0} (out : Change K) (b : List ℕ) (us vs : List UnitPlace) (t : Option Refusal) → FollowsFrom (seen_of b) (is_within b) 0 us → IsShown b vs t → Gains out (shown_lines b us) → (n : ℕ) × Gains out (shown_lines b (take n vs))
+Gains-first out b us vs t first shown lines =
+    let more = first-front b us vs t first shown in
+    let same : take (length us) vs ≡ us = ap (take (length us)) more.1 ∙ take-append_seam us more.0 in
+    (length us, subst (λ (l : List UnitPlace). Gains out (shown_lines b l)) (sym same) lines)
 
 -- what was taken of a source is what is looked at, and whether it ended is whether that is all
 pub taken-whole : (b r : List ℕ) (left' : Option (List ℕ)) (ended : Bool) → Consumes (Some b) left' r → (ended ≡ true → IsAtEnd left' × (length r ≤ source_limit)) → (ended ≡ false → source_limit < length r)
@@ -67,28 +98,110 @@ taken-whole b r (Some rest) false given whole beyond =
     let more : source_limit < length b = omega (arith, len, long) in
     (sym (ap (take source_limit) given ∙ take-append-le source_limit r rest (omega arith)), sym (lt-leb (length b) source_limit more))
 
+-- ---- what came of a source
+
+-- what was taken of the bytes that a source tells is what is looked at
+taken-told : {S : Type 0} (source : Change S) (h : Held) (ended : Bool) (taken : GivesAll h source ended) (b : List ℕ) → source.bytes source.old ≡ Some b
+    → (take source_limit taken.bytes ≡ seen_of b) × (h.all ≡ is_within b)
+taken-told source h ended taken b told =
+    let whole = taken-whole b taken.bytes (source.bytes source.new) ended (rw told at taken.consumed) taken.within taken.beyond in
+    (whole.0, taken.all ∙ whole.1)
+
+-- the units of what was taken and how they end
+shown-told : {S : Type 0} (source : Change S) (h : Held) (ended : Bool) (taken : GivesAll h source ended) (b : List ℕ) (units : List UnitPlace) (behind ending : Option Refusal) → source.bytes source.old ≡ Some b
+    → IsStream (take source_limit taken.bytes) h.all units behind → ending ≡ ending_of h.all behind → IsShown b units ending
+shown-told source h ended taken b units behind ending told stream ends =
+    let whole = taken-told source h ended taken b told in
+    record {
+      behind = behind;
+      stream = subst (λ (l : List ℕ). IsStream l (is_within b) units behind) whole.0 (subst (λ (all : Bool). IsStream (take source_limit taken.bytes) all units behind) whole.1 stream);
+      ends = ends ∙ ap (λ all. ending_of all behind) whole.1;
+    }
+
+-- the lines of these units are those of the units that the source's bytes have
+lines-told : {S K : Type 0} (source : Change S) (out : Change K) (h : Held) (ended : Bool) (taken : GivesAll h source ended) (b : List ℕ) (us vs : List UnitPlace) → source.bytes source.old ≡ Some b
+    → us ≡ vs → Gains out (unit_lines (take source_limit taken.bytes) us) → Gains out (shown_lines b vs)
+lines-told source out h ended taken b us vs told same lines =
+    subst (λ (l : List ℕ). Gains out (unit_lines l vs)) (taken-told source h ended taken b told).0
+    (subst (λ (l : List UnitPlace). Gains out (unit_lines (take source_limit taken.bytes) l)) same lines)
+
 -- a refusal of what is looked at ends the source
 ending_of-some : (within : Bool) (refusal : Refusal) → Some refusal ≡ ending_of within (Some refusal)
 ending_of-some true refusal = refl
 ending_of-some false refusal = refl
 
--- a stop of the units is one of the source
-pub ShowsBytes-stopped : (b : List ℕ) (all : Bool) (old new : Option (List ℕ)) (stop : Stop) → all ≡ is_within b → ShowsUnits (seen_of b) all old new (Err stop) → ShowsBytes b old new (Err stop)
-ShowsBytes-stopped b all old new NotUnderstood same shown = shown
-ShowsBytes-stopped b all old new (Refused refusal place) same shown =
-    (shown.0, record { behind = Some refusal; stream = rw (← same) shown.1; ends = ending_of-some (is_within b) refusal }, shown.2, shown.3)
-ShowsBytes-stopped b all old new (ReadFault source) same shown = absurd shown
-ShowsBytes-stopped b all old new WriteFault same shown = (shown.0, rw (← same) shown.1, shown.2)
-ShowsBytes-stopped b all old new NoMemory same shown = (shown.0, rw (← same) shown.1, shown.2)
+-- a stop of the units
+pub Shows-stopped : {S K : Type 0} (source : Change S) (out : Change K) (h : Held) (ended : Bool) (stop : Stop) → GivesAll h source ended
+    → ((b : List ℕ) → Stands h b [] → ShowsUnits b h.all out (Err stop)) → Shows source out (Err stop)
+Shows-stopped source out h ended NotUnderstood taken shows = shows (take source_limit taken.bytes) taken.stands
+Shows-stopped source out h ended (Refused refusal place) taken shows =
+    let s = shows (take source_limit taken.bytes) taken.stands in (
+      taken.kept,
+      s.2.kept,
+      λ b units ending told is.
+          let here = shown-told source h ended taken b s.0 (Some refusal) (Some refusal) told s.1 (ending_of-some h.all refusal) in
+          let same = IsShown-unique b s.0 units (Some refusal) ending here is in
+          (sym same.1, s.3 ∙ ap (λ (us : List UnitPlace). behind_unit (length us)) same.0, lines-told source out h ended taken b s.0 units told same.0 s.2),
+    )
+Shows-stopped source out h ended (ReadFault k) taken shows = absurd (shows (take source_limit taken.bytes) taken.stands)
+Shows-stopped source out h ended WriteFault taken shows =
+    let s = shows (take source_limit taken.bytes) taken.stands in (
+      taken.kept,
+      s.2.failed,
+      λ b units ending told is.
+          let whole = taken-told source h ended taken b told in
+          let first = subst (λ (l : List ℕ). FollowsFrom l (is_within b) 0 s.0) whole.0 (subst (λ (all : Bool). FollowsFrom (take source_limit taken.bytes) all 0 s.0) whole.1 s.1) in
+          GainsFront-all out b s.0 units ending first is (subst (λ (l : List ℕ). GainsFront out (unit_lines l s.0)) whole.0 s.2),
+    )
+Shows-stopped source out h ended NoMemory taken shows =
+    let s = shows (take source_limit taken.bytes) taken.stands in (
+      taken.kept,
+      s.2.kept,
+      λ b units ending told is.
+          let whole = taken-told source h ended taken b told in
+          let first = subst (λ (l : List ℕ). FollowsFrom l (is_within b) 0 s.0) whole.0 (subst (λ (all : Bool). FollowsFrom (take source_limit taken.bytes) all 0 s.0) whole.1 s.1) in
+          Gains-first out b s.0 units ending first is (lines-told source out h ended taken b s.0 s.0 told refl s.2),
+    )
 
--- the units of a source that ended
-pub ShowsBytes-done : (b : List ℕ) (all : Bool) (old new : Option (List ℕ)) (n : ℕ) → all ≡ is_within b → all ≡ true → ShowsUnits (seen_of b) all old new (Ok n) → ShowsBytes b old new (Ok tt)
-ShowsBytes-done b all old new n same ended shown =
-    let within : is_within b ≡ true = sym same ∙ ended in
-    (shown.0, record { behind = None; stream = rw (← same) shown.1; ends = rw within refl }, shown.2)
+-- all units of a source that ended
+pub Shows-done : {S K : Type 0} (source : Change S) (out : Change K) (h : Held) (ended : Bool) (n : ℕ) → GivesAll h source ended → ended ≡ true
+    → ((b : List ℕ) → Stands h b [] → ShowsUnits b h.all out (Ok n)) → Shows source out (Ok tt)
+Shows-done source out h ended n taken whole shows =
+    let s = shows (take source_limit taken.bytes) taken.stands in (
+      taken.kept,
+      s.2.kept,
+      (taken.within whole).0,
+      λ b units ending told is.
+          let here = shown-told source h ended taken b s.0 None None told s.1 (rw (taken.all ∙ whole) refl) in
+          let same = IsShown-unique b s.0 units None ending here is in
+          (sym same.1, lines-told source out h ended taken b s.0 units told same.0 s.2),
+    )
 
 -- the units of a source that has more bytes than the limit
-pub ShowsBytes-beyond : (b : List ℕ) (all : Bool) (old new : Option (List ℕ)) (n : ℕ) (place : Where) → all ≡ is_within b → all ≡ false → place ≡ behind_unit n → ShowsUnits (seen_of b) all old new (Ok n) → ShowsBytes b old new (Err (Refused (Limit 3) place))
-ShowsBytes-beyond b all old new n place same ended at shown =
-    let within : is_within b ≡ false = sym same ∙ ended in
-    (shown.0, record { behind = None; stream = rw (← same) shown.1; ends = rw within refl }, shown.2, at ∙ ap behind_unit shown.3)
+pub Shows-beyond : {S K : Type 0} (source : Change S) (out : Change K) (h : Held) (ended : Bool) (n : ℕ) (place : Where) → GivesAll h source ended → ended ≡ false → place ≡ behind_unit n
+    → ((b : List ℕ) → Stands h b [] → ShowsUnits b h.all out (Ok n)) → Shows source out (Err (Refused (Limit long_source) place))
+Shows-beyond source out h ended n place taken beyond at shows =
+    let s = shows (take source_limit taken.bytes) taken.stands in (
+      taken.kept,
+      s.2.kept,
+      λ b units ending told is.
+          let here = shown-told source h ended taken b s.0 None (Some (Limit long_source)) told s.1 (rw (taken.all ∙ beyond) refl) in
+          let same = IsShown-unique b s.0 units (Some (Limit long_source)) ending here is in
+          (sym same.1, at ∙ ap behind_unit s.3 ∙ ap (λ (us : List UnitPlace). behind_unit (length us)) same.0, lines-told source out h ended taken b s.0 units told same.0 s.2),
+    )
+
+-- the source at k of a list was shown
+shows-moved : {S K : Type 0} (bytes : S → Option (List ℕ)) (faults : S → ℕ) (k : ℕ) (s s' : S) (l l' : List S) (out : Change K) (outcome : Outcome) → slice_get l k ≡ Some s → slice_get l' k ≡ Some s'
+    → Shows (change bytes faults s s') out outcome → Shows (change_at bytes faults l l' k) out outcome
+shows-moved bytes faults k s s' l l' out (Ok _) old new shows = rw (old, new) shows
+shows-moved bytes faults k s s' l l' out (Err (Refused refusal place)) old new shows = rw (old, new) shows
+shows-moved bytes faults k s s' l l' out (Err (ReadFault j)) old new shows = rw (old, new) shows
+shows-moved bytes faults k s s' l l' out (Err WriteFault) old new shows = rw (old, new) shows
+shows-moved bytes faults k s s' l l' out (Err NoMemory) old new shows = rw (old, new) shows
+shows-moved bytes faults k s s' l l' out (Err NotUnderstood) old new shows = shows
+
+pub Shows-at : {S K : Type 0} (bytes : S → Option (List ℕ)) (faults : S → ℕ) (k : ℕ) (s s' : S) (l : List S) (out : Change K) (outcome : Outcome) → k < length l → s ≡ get_or l k s
+    → Shows (change bytes faults s s') out outcome → Shows (change_at bytes faults l (slice_set l k s') k) out outcome
+Shows-at bytes faults k s s' l out outcome within is shows =
+    let there : k < length (slice_set l k s') = rw (length-set l k s') within in
+    shows-moved bytes faults k s s' l (slice_set l k s') out outcome (slice_get_read l (length l) k s refl within is) (slice_get_read (slice_set l k s') (length (slice_set l k s')) k s' refl there (sym (get_or-set_same l k s' s' within))) shows

@@ -1,12 +1,14 @@
--- How a command that is not done ends: its status, and the line that tells why.
-use Rattle.std.specs.Prelude.{◌≡◌, ℕ, List, [], ◌∷◌, ◌⊎◌, Option, codes, decimal}
+-- What came of a command, and how it ends the program: the status, and the line that tells why.
+use Rattle.std.specs.Prelude.{◌≡◌, ℕ, List, [], ◌∷◌, ◌⊎◌, Result, Ok, Err, codes, decimal}
 use Rattle.std.specs.List.{concat}
-use Rattle.std.specs.Io.KnownBytes.{Appends}
-use Rattle.vx_io.specs.Faults.{Rose}
-use Rattle.vx_io.specs.Written.{AppendsFront}
 use Rattle.vx_report.specs.RefusalLine.{HasLine, refusal_text}
+use Rattle.vx_app.specs.Change.{Change, IsUntouched, Tells}
 use Rattle.vx_app.specs.declared.stop.Stop.{Stop}
 use Rattle.vx_app.specs.declared.stop.Stop.TheVariants.{NotUnderstood, Refused, ReadFault, WriteFault, NoMemory}
+
+-- it is done, or it stopped
+abbrev pub Outcome : Type 0
+Outcome = Result (Unit {0}) Stop
 
 -- 1 refused, 2 words, 3 fault, 4 want of memory
 abbrev pub status_of : Stop → ℕ
@@ -37,12 +39,11 @@ abbrev pub IsTold : Stop → Type 0
 IsTold (Refused refusal place) = HasLine refusal
 IsTold _ = Unit {0}
 
--- a sink gained the line, or failed and gained a front of it
-pub record Tells (old new : Option (List ℕ)) (faults faults' : ℕ) (line : List ℕ) : Type 0 where
-  pub gained : ((faults' ≡ faults) × Appends old new line) ⊎ (Rose faults faults' × AppendsFront old new line)
+-- the status and the line on `err` are the stop's, or those for want of memory
+pub record Concludes {E : Type 0} (stop : Stop) (status : ℕ) (err : Change E) : Type 0 where
+  pub ended : ((status ≡ status_of stop) × Tells err (line_of stop)) ⊎ (IsMade stop × (status ≡ status_of NoMemory) × Tells err (line_of NoMemory))
 
--- the status and the line are the stop's, or those for want of memory
-pub record Concludes (stop : Stop) (status : ℕ) (old new : Option (List ℕ)) (faults faults' : ℕ) : Type 0 where
-  pub ended :
-      ((status ≡ status_of stop) × Tells old new faults faults' (line_of stop))
-      ⊎ (IsMade stop × (status ≡ status_of NoMemory) × Tells old new faults faults' (line_of NoMemory))
+-- status 0 and no line where the command is done
+abbrev pub Ends : {E : Type 0} → Outcome → ℕ → Change E → Type 0
+Ends (Ok _) status err = (status ≡ 0) × IsUntouched err
+Ends (Err stop) status err = Concludes stop status err

@@ -1,4 +1,5 @@
 pub mod Asked
+pub mod Change
 pub mod Conclusion
 pub mod Grammar
 pub mod Run

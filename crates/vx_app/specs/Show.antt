@@ -1,11 +1,17 @@
 -- What `show` finds in the bytes of a source, and what it writes.
-use Rattle.std.specs.Prelude.{◌≡◌, ℕ, ◌^◌, List, Bool, Option, Some, length, take, nat_le, unwrap_or, true, false}
+use Rattle.std.specs.Prelude.{◌≡◌, ℕ, ◌^◌, List, Bool, Option, Some, None, Ok, Err, length, take, nat_le, unwrap_or, true, false}
 use Rattle.std.specs.List.{flat_map}
+use Rattle.std.specs.Io.KnownBytes.{IsAtEnd}
 use Rattle.vx_bits.specs.declared.refusal.Refusal.{Refusal}
 use Rattle.vx_bits.specs.declared.refusal.Refusal.TheVariants.{Limit}
 use Rattle.vx_annexb.specs.NalUnit.{header_of}
 use Rattle.vx_annexb.specs.ByteStream.{UnitPlace, unit_bytes, IsStream, FollowsFrom}
+use Rattle.vx_report.specs.declared.refusal.Where.{Where}
+use Rattle.vx_report.specs.RefusalLine.{long_source}
 use Rattle.vx_report.specs.UnitLine.{unit_text}
+use Rattle.vx_app.specs.declared.stop.Stop.TheVariants.{NotUnderstood, Refused, ReadFault, WriteFault, NoMemory}
+use Rattle.vx_app.specs.Change.{Change, IsUntouched, HasNoFault, HasFault, Gains, GainsFront}
+use Rattle.vx_app.specs.Conclusion.{Outcome}
 
 -- the most bytes that a source may have
 unfoldable pub source_limit : ℕ
@@ -33,7 +39,7 @@ unit_lines b units = flat_map (unit_line b) units
 -- a source of more bytes than the limit is refused behind its last unit, unless a rule is broken before
 abbrev pub ending_of : Bool → Option Refusal → Option Refusal
 ending_of true ending = ending
-ending_of false ending = Some (unwrap_or ending (Limit 3))
+ending_of false ending = Some (unwrap_or ending (Limit long_source))
 
 -- The units of a source's bytes before the ending, and the ending. Of a source that has more bytes than
 -- the limit the units are those whose end is seen in that many.
@@ -42,14 +48,38 @@ pub record IsShown (b : List ℕ) (units : List UnitPlace) (ending : Option Refu
   pub stream : IsStream (seen_of b) (is_within b) units behind
   pub ends : ending ≡ ending_of (is_within b) behind
 
--- these are the first units of a source's bytes
-abbrev pub AreFirst : List ℕ → List UnitPlace → Type 0
-AreFirst b units = FollowsFrom (seen_of b) (is_within b) 0 units
+-- 0 where nothing is refused, else 1
+abbrev pub status_at : Option Refusal → ℕ
+status_at None = 0
+status_at (Some refusal) = 1
 
 -- what is written of these units of a source's bytes
 abbrev pub shown_lines : List ℕ → List UnitPlace → List ℕ
 shown_lines b units = unit_lines (seen_of b) units
 
+-- the place in the first source behind its n-th unit
+abbrev pub behind_unit : ℕ → Where
+behind_unit n = record { source = 0; unit = n; picture = 0; written = false }
+
 -- of the bytes that a source tells, their units and their ending
-abbrev pub WhereTold : Option (List ℕ) → (List ℕ → List UnitPlace → Option Refusal → Type 0) → Type 0
-WhereTold told P = (b : List ℕ) (units : List UnitPlace) (ending : Option Refusal) → told ≡ Some b → IsShown b units ending → P b units ending
+abbrev pub WhereTold : {A : Type 0} → Change A → (List ℕ → List UnitPlace → Option Refusal → Type 0) → Type 0
+WhereTold source P =
+    (b : List ℕ) (units : List UnitPlace) (ending : Option Refusal) → source.bytes source.old ≡ Some b → IsShown b units ending → P b units ending
+
+-- What `show` did to its source and to `out`, by what came of it. Without a fault `out` gained the lines of the units
+-- before the ending, and for want of memory those of the first of them. After a failed read nothing is written, after
+-- a failed write a front of the lines.
+abbrev pub Shows : {A K : Type 0} → Change A → Change K → Outcome → Type 0
+Shows source out (Ok _) =
+    HasNoFault source × HasNoFault out × IsAtEnd (source.bytes source.new)
+    × WhereTold source (λ b units ending. (ending ≡ None) × Gains out (shown_lines b units))
+Shows source out (Err (Refused refusal place)) =
+    HasNoFault source × HasNoFault out
+    × WhereTold source (λ b units ending. (ending ≡ Some refusal) × (place ≡ behind_unit (length units)) × Gains out (shown_lines b units))
+Shows source out (Err (ReadFault k)) = HasFault source × (k ≡ 0) × IsUntouched out
+Shows source out (Err WriteFault) =
+    HasNoFault source × HasFault out × WhereTold source (λ b units ending. GainsFront out (shown_lines b units))
+Shows source out (Err NoMemory) =
+    HasNoFault source × HasNoFault out
+    × WhereTold source (λ b units ending. (n : ℕ) × Gains out (shown_lines b (take n units)))
+Shows source out (Err NotUnderstood) = ⊥

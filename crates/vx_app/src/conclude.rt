@@ -1,7 +1,8 @@
 //! How a command that is not done ends: its status, and the line that tells why.
 
 ghost use Rattle.std.specs.Prelude.{◌≡◌, IfOk, OnErr};
-ghost use Rattle.vx_app.specs.Conclusion.{Concludes, IsTold, Tells, line_of};
+ghost use Rattle.vx_app.specs.Change.{Tells, change};
+ghost use Rattle.vx_app.specs.Conclusion.{Concludes, IsTold, line_of};
 ghost use Rattle.vx_app.specs.declared.stop.Stop.TheVariants.{ReadFault, NoMemory};
 
 use crate::stop::Stop;
@@ -13,8 +14,7 @@ use vx_report::refusal_line;
 /// write to `err` changes nothing else.
 pub fn conclude<E: Sink>(alloc: Global, stop: Stop, err: &mut E) -> u8
     requires { IsTold stop }
-    ensures { Concludes stop result
-        (E.bytes_taken err.old) (E.bytes_taken err.new) (E.write_faults err.old) (E.write_faults err.new) }
+    ensures { Concludes stop result (change E.bytes_taken E.write_faults err.old err.new) }
 {
     match stop {
         Stop::NotUnderstood => {
@@ -36,10 +36,10 @@ pub fn conclude<E: Sink>(alloc: Global, stop: Stop, err: &mut E) -> u8
 
 // Tells a line that was made, and answers the status that goes with it.
 fn end<E: Sink>(err: &mut E, line: Result<Vec<u8>, AllocError>, status: u8) -> u8
-    ensures made { IfOk line (λ made. (result ≡ status)
-        × Tells (E.bytes_taken err.old) (E.bytes_taken err.new) (E.write_faults err.old) (E.write_faults err.new) made.items) }
-    ensures memory { OnErr line ((result ≡ 4)
-        × Tells (E.bytes_taken err.old) (E.bytes_taken err.new) (E.write_faults err.old) (E.write_faults err.new) (line_of NoMemory)) }
+    ensures made { IfOk line (λ made.
+        (result ≡ status) × Tells (change E.bytes_taken E.write_faults err.old err.new) made.items) }
+    ensures memory { OnErr line
+        ((result ≡ 4) × Tells (change E.bytes_taken E.write_faults err.old err.new) (line_of NoMemory)) }
 {
     match line {
         Ok(line) => {
@@ -55,7 +55,7 @@ fn end<E: Sink>(err: &mut E, line: Result<Vec<u8>, AllocError>, status: u8) -> u
 
 // Writes one line. Whether it was written changes nothing else.
 fn tell<E: Sink>(err: &mut E, line: &[u8])
-    ensures { Tells (E.bytes_taken err.old) (E.bytes_taken err.new) (E.write_faults err.old) (E.write_faults err.new) line.now }
+    ensures { Tells (change E.bytes_taken E.write_faults err.old err.new) line.now }
 {
     let _ = write_all(err, line);
 }

@@ -1,18 +1,11 @@
 //! The program over words, sources and sinks.
 
-ghost use Rattle.std.specs.Prelude.{◌≡◌, ◌≢◌, ◌<◌, ◌≤◌, ◌↔◌, ◌⊎◌, ℕ, List, [], Option, Some, None, Ok, Err, take, length, vec_len, slice_get, IfErr, OnOk};
-ghost use Rattle.std.specs.Io.KnownBytes.{Appends, IsAtEnd};
-ghost use Rattle.vx_bits.specs.declared.refusal.Refusal.{Refusal};
-ghost use Rattle.vx_io.specs.Faults.{Rose};
-ghost use Rattle.vx_io.specs.Listed.{bytes_at, faults_at};
-ghost use Rattle.vx_io.specs.Written.{AppendsFront};
-ghost use Rattle.vx_annexb.specs.ByteStream.{UnitPlace};
-ghost use Rattle.vx_app.specs.Conclusion.{IsTold, Tells, line_of};
-ghost use Rattle.vx_app.specs.Grammar.{IsUnderstood, NamesFiles, texts};
-ghost use Rattle.vx_app.specs.Run.{NoFault, status_at};
-ghost use Rattle.vx_app.specs.Show.{WhereTold, shown_lines};
-ghost use Rattle.vx_app.specs.ShowSteps.{CountsShow, ShowsBytes, behind_unit};
-ghost use Rattle.vx_app.specs.declared.stop.Stop.TheVariants.{NotUnderstood, Refused, ReadFault, WriteFault, NoMemory};
+ghost use Rattle.std.specs.Prelude.{◌≡◌, ◌≢◌, ◌↔◌, List, ℕ, Err, vec_len, IfErr};
+ghost use Rattle.vx_app.specs.Change.{HasFault, change, change_at};
+ghost use Rattle.vx_app.specs.Conclusion.{Outcome, IsTold, Ends};
+ghost use Rattle.vx_app.specs.Grammar.{show as for_show, Spells, IsUnderstood, NamesFiles, texts};
+ghost use Rattle.vx_app.specs.Run.{Performs};
+ghost use Rattle.vx_app.specs.Show.{WhereTold, status_at};
 
 use crate::conclude::conclude;
 use crate::show::show;
@@ -34,53 +27,19 @@ pub fn run<K: Sink, E: Sink>(
 ) -> u8
     requires { NamesFiles (texts words.now) (vec_len sources.old) }
 
-    // The words.
-    ensures words { (result ≡ 2) ↔ ¬ IsUnderstood (texts words.now) }
-    ensures not_understood { result ≡ 2 → (sources.new ≡ sources.old) × (out.new ≡ out.old)
-        × Tells (E.bytes_taken err.old) (E.bytes_taken err.new) (E.write_faults err.old) (E.write_faults err.new) (line_of NotUnderstood) }
-
-    // The sources: `show` reads the first alone.
+    // What came of the command: what it did to its sources and to `out`, and how that ends the program.
+    ensures ends { (outcome : Outcome)
+        × Performs (texts words.now) (change_at bytes_left read_faults sources.old.items sources.new.items)
+        (change K.bytes_taken K.write_faults out.old out.new) outcome
+        × Ends outcome result (change E.bytes_taken E.write_faults err.old err.new) }
     ensures list { vec_len sources.new ≡ vec_len sources.old }
-    ensures unread { (k : ℕ) → 0 < k → slice_get sources.new.items k ≡ slice_get sources.old.items k }
 
-    // Without a fault: all lines and the ending, where the source tells its bytes.
-    ensures done { result ≡ 0 → WhereTold (bytes_at bytes_left sources.old.items 0) (λ b units ending. (ending ≡ None)
-        × Appends (K.bytes_taken out.old) (K.bytes_taken out.new) (shown_lines b units)
-        × IsAtEnd (bytes_at bytes_left sources.new.items 0)) }
-    ensures silent { result ≡ 0 → err.new ≡ err.old }
-    ensures refused { result ≡ 1 → WhereTold (bytes_at bytes_left sources.old.items 0) (λ b units ending. (refusal : Refusal)
-        × (ending ≡ Some refusal)
-        × Appends (K.bytes_taken out.old) (K.bytes_taken out.new) (shown_lines b units)
-        × Tells (E.bytes_taken err.old) (E.bytes_taken err.new) (E.write_faults err.old) (E.write_faults err.new)
-        (line_of (Refused refusal (behind_unit (length units))))) }
-    ensures no_fault { (result ≡ 0) ⊎ (result ≡ 1) →
-        (faults_at read_faults sources.new.items 0 ≡ faults_at read_faults sources.old.items 0)
-        × (K.write_faults out.new ≡ K.write_faults out.old) }
-
-    // After a failed read nothing is written, after a failed write a front of the lines.
-    ensures fault { result ≡ 3 →
-        ((out.new ≡ out.old) × Rose (faults_at read_faults sources.old.items 0) (faults_at read_faults sources.new.items 0)
-        × Tells (E.bytes_taken err.old) (E.bytes_taken err.new) (E.write_faults err.old) (E.write_faults err.new) (line_of (ReadFault 0)))
-        ⊎ (Rose (K.write_faults out.old) (K.write_faults out.new)
-        × Tells (E.bytes_taken err.old) (E.bytes_taken err.new) (E.write_faults err.old) (E.write_faults err.new) (line_of WriteFault)) }
-    ensures front { result ≡ 3 → WhereTold (bytes_at bytes_left sources.old.items 0) (λ b units ending.
-        AppendsFront (K.bytes_taken out.old) (K.bytes_taken out.new) (shown_lines b units)) }
-
-    // For want of memory, which is free: whole lines of the first units.
-    ensures memory { result ≡ 4 → (K.write_faults out.new ≡ K.write_faults out.old)
-        × Tells (E.bytes_taken err.old) (E.bytes_taken err.new) (E.write_faults err.old) (E.write_faults err.new) (line_of NoMemory) }
-    ensures whole_lines { result ≡ 4 → WhereTold (bytes_at bytes_left sources.old.items 0) (λ b units ending. (n : ℕ)
-        × Appends (K.bytes_taken out.old) (K.bytes_taken out.new) (shown_lines b (take n units))) }
-
-    // Which status it is, want of memory aside.
-    ensures statuses { result ≤ 4 }
-    ensures faulted { (faults_at read_faults sources.old.items 0 < faults_at read_faults sources.new.items 0)
-        ⊎ (K.write_faults out.old < K.write_faults out.new)
-        → (result ≡ 3) ⊎ (result ≡ 4) }
-    ensures exact { IsUnderstood (texts words.now) → WhereTold (bytes_at bytes_left sources.old.items 0) (λ b units ending.
-        NoFault (faults_at read_faults sources.old.items 0) (faults_at read_faults sources.new.items 0)
-        → NoFault (K.write_faults out.old) (K.write_faults out.new)
-        → result ≢ 4 → result ≡ status_at ending) }
+    // Which status it is, want of memory and faults aside.
+    ensures words { (result ≡ 2) ↔ ¬ IsUnderstood (texts words.now) }
+    ensures exact { (file : List ℕ) → Spells (texts words.now) (for_show file)
+        → let source = change_at bytes_left read_faults sources.old.items sources.new.items 0 in
+        ¬ HasFault source → ¬ HasFault (change K.bytes_taken K.write_faults out.old out.new)
+        → result ≢ 4 → WhereTold source (λ b units ending. result ≡ status_at ending) }
 {
     match perform(alloc, words, sources, out) {
         Ok(()) => 0,
@@ -96,16 +55,9 @@ fn perform<K: Sink>(
     out: &mut K,
 ) -> Result<(), Stop>
     requires { NamesFiles (texts words.now) (vec_len sources.old) }
-    ensures words { (result ≡ Err NotUnderstood) ↔ ¬ IsUnderstood (texts words.now) }
-    ensures untouched { result ≡ Err NotUnderstood → (sources.new ≡ sources.old) × (out.new ≡ out.old) }
-    ensures answer { result ≢ Err NotUnderstood → (b : List ℕ) → bytes_at bytes_left sources.old.items 0 ≡ Some b
-        → ShowsBytes b (K.bytes_taken out.old) (K.bytes_taken out.new) result }
-    ensures counts { result ≢ Err NotUnderstood
-        → CountsShow (faults_at read_faults sources.old.items 0) (faults_at read_faults sources.new.items 0)
-        (K.write_faults out.old) (K.write_faults out.new) result }
-    ensures ended { OnOk result (IsAtEnd (bytes_at bytes_left sources.new.items 0)) }
-    ensures read_fault { result ≡ Err (ReadFault 0) → out.new ≡ out.old }
-    ensures unread { (k : ℕ) → 0 < k → slice_get sources.new.items k ≡ slice_get sources.old.items k }
+    ensures performs { Performs (texts words.now)
+        (change_at bytes_left read_faults sources.old.items sources.new.items)
+        (change K.bytes_taken K.write_faults out.old out.new) result }
     ensures list { vec_len sources.new ≡ vec_len sources.old }
     ensures told { IfErr result IsTold }
 {

@@ -1,20 +1,19 @@
 //! `show FILE`: a line for each NAL unit of a byte stream.
 
-ghost use Rattle.std.specs.Prelude.{◌≡◌, ◌+◌, ◌-◌, ◌^◌, ◌<◌, ◌≤◌, List, ℕ, [], true, false, min, length, slice_range, vec_len, IfOk, IfErr, OnOk, Ok, Err, Some};
-ghost use Rattle.std.specs.Io.KnownBytes.{IsAtEnd};
+ghost use Rattle.std.specs.Prelude.{◌≡◌, ◌+◌, ◌-◌, ◌^◌, ◌<◌, ◌≤◌, List, ℕ, [], true, false, min, length, slice_range, vec_len, IfOk, IfErr, OnOk, Ok};
 ghost use Rattle.vx_annexb.specs.ByteStream.{UnitPlace};
 ghost use Rattle.vx_annexb.specs.Held.{Stands, IsReadable, fed, left_to_seek};
+ghost use Rattle.vx_app.specs.Change.{change};
 ghost use Rattle.vx_app.specs.Conclusion.{IsTold};
-ghost use Rattle.vx_app.specs.declared.stop.Stop.TheVariants.{ReadFault};
-ghost use Rattle.vx_app.specs.Show.{shown_line};
-ghost use Rattle.vx_app.specs.ShowSteps.{CountsWrite, WritesLine, ShowsNext, ShowsUnits, TakesPiece, TakesIn, CountsShow, ShowsBytes, IsBehind, behind_unit as place_behind};
+ghost use Rattle.vx_app.specs.Show.{Shows, shown_line, behind_unit as place_behind};
+ghost use Rattle.vx_app.specs.ShowSteps.{TakesPiece, TakesIn, WritesLine, ShowsNext, ShowsUnits};
 
 use crate::stop::Stop;
 use std::alloc::{AllocError, Global};
 use vx_annexb::{Span, Splitter, read_header};
 use vx_bits::Refusal;
 use vx_io::{Sink, Source, read_box, write_all};
-use vx_report::{Where, unit_line};
+use vx_report::{LONG_SOURCE, Where, unit_line};
 
 /// How many bytes a read asks for.
 const READ_LEN: usize = 65_536;
@@ -23,16 +22,12 @@ const READ_LEN: usize = 65_536;
 const SOURCE_LIMIT: u64 = 1 << 40;
 
 /// The refusal of a source that has more.
-const SOURCE_TOO_LONG: Refusal = Refusal::Limit { code: 3 };
+const SOURCE_TOO_LONG: Refusal = Refusal::Limit { code: LONG_SOURCE };
 
 /// Writes a line for each NAL unit of a source, in order.
 pub fn show<K: Sink>(alloc: Global, source: &mut Box<dyn Source>, out: &mut K) -> Result<(), Stop>
-    ensures answer { (b : List ℕ) → bytes_left source.old ≡ Some b
-        → ShowsBytes b (K.bytes_taken out.old) (K.bytes_taken out.new) result }
-    ensures counts { CountsShow (read_faults source.old) (read_faults source.new)
-        (K.write_faults out.old) (K.write_faults out.new) result }
-    ensures ended { OnOk result (IsAtEnd (bytes_left source.new)) }
-    ensures read_fault { result ≡ Err (ReadFault 0) → out.new ≡ out.old }
+    ensures shows { Shows (change bytes_left read_faults source.old source.new)
+        (change K.bytes_taken K.write_faults out.old out.new) result }
     ensures told { IfErr result IsTold }
 {
     let mut splitter = Splitter::new(alloc);
@@ -74,8 +69,7 @@ fn take_piece(
     requires fed { fed splitter.old ≡ taken }
     requires open { splitter.old.all ≡ false }
     ensures answer { (r : List ℕ) → length r ≡ taken → Stands splitter.old r []
-        → TakesPiece r splitter.new (bytes_left source.old) (bytes_left source.new)
-        (read_faults source.old) (read_faults source.new) result }
+        → TakesPiece r splitter.new (change bytes_left read_faults source.old source.new) result }
     ensures open { OnOk result (splitter.new.all ≡ false) }
     ensures bound { IfOk result (λ n. n ≤ SOURCE_LIMIT + 1 - taken) }
     ensures fed { IfOk result (λ n. fed splitter.new ≡ min SOURCE_LIMIT (taken + n)) }
@@ -106,8 +100,7 @@ fn take_in(
     requires empty { fed splitter.old ≡ 0 }
     requires open { splitter.old.all ≡ false }
     requires stands { Stands splitter.old [] [] }
-    ensures answer { TakesIn splitter.new (bytes_left source.old) (bytes_left source.new)
-        (read_faults source.old) (read_faults source.new) result }
+    ensures answer { TakesIn splitter.new (change bytes_left read_faults source.old source.new) result }
     ensures fed { OnOk result (fed splitter.new ≤ SOURCE_LIMIT) }
 {
     let mut buffer = buffer_of(alloc, READ_LEN)?;
@@ -132,9 +125,8 @@ fn write_unit<K: Sink>(
     out: &mut K,
 ) -> Result<(), Stop>
     requires { IsReadable splitter.now span }
-    ensures line { WritesLine (shown_line (slice_range splitter.now.kept span.start span.end) span.offset)
-        (K.bytes_taken out.old) (K.bytes_taken out.new) result }
-    ensures counts { CountsWrite (K.write_faults out.old) (K.write_faults out.new) result }
+    ensures { WritesLine (shown_line (slice_range splitter.now.kept span.start span.end) span.offset)
+        (change K.bytes_taken K.write_faults out.old out.new) result }
 {
     let unit = splitter.bytes(span);
     let header = read_header(unit).unwrap();
@@ -150,12 +142,10 @@ fn show_next<K: Sink>(
     n: u64,
     out: &mut K,
 ) -> Result<bool, Stop>
-    ensures answer { (b : List ℕ) (units : List UnitPlace) → Stands splitter.old b units
-        → ShowsNext b units splitter.new (K.bytes_taken out.old) (K.bytes_taken out.new) result }
-    ensures counts { CountsWrite (K.write_faults out.old) (K.write_faults out.new) result }
+    ensures answer { (b : List ℕ) (units : List UnitPlace) → Stands splitter.old b units → n ≡ length units
+        → ShowsNext b units splitter.new (change K.bytes_taken K.write_faults out.old out.new) result }
     ensures all { splitter.new.all ≡ splitter.old.all }
     ensures falls { result ≡ Ok true → left_to_seek splitter.new < left_to_seek splitter.old }
-    ensures place { IfErr result (IsBehind n) }
 {
     match splitter.next() {
         Ok(Some(span)) => {
@@ -173,9 +163,8 @@ fn show_next<K: Sink>(
 // Shows the units, in order. Answers how many they are.
 fn show_units<K: Sink>(alloc: Global, splitter: &mut Splitter, out: &mut K) -> Result<u64, Stop>
     requires { left_to_seek splitter.old < 2 ^ 64 }
-    ensures answer { (b : List ℕ) → Stands splitter.old b []
-        → ShowsUnits b splitter.old.all (K.bytes_taken out.old) (K.bytes_taken out.new) result }
-    ensures counts { CountsWrite (K.write_faults out.old) (K.write_faults out.new) result }
+    ensures { (b : List ℕ) → Stands splitter.old b []
+        → ShowsUnits b splitter.old.all (change K.bytes_taken K.write_faults out.old out.new) result }
 {
     let mut shown = 0;
     while show_next(alloc, splitter, shown, out)? {

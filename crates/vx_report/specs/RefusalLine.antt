@@ -1,14 +1,22 @@
 -- The lines of the refusals that a byte stream meets.
-use Rattle.std.specs.Prelude.{◌≡◌, ℕ, ◌==◌, List, [], ◌∷◌, ◌⊎◌, codes, decimal, if◌then◌else◌}
+use Rattle.std.specs.Prelude.{◌≡◌, ℕ, ◌≤◌, ◌==◌, List, [], ◌∷◌, ◌⊎◌, codes, decimal, if◌then◌else◌}
 use Rattle.std.specs.List.{concat}
 use Rattle.vx_bits.specs.declared.refusal.Refusal.{Refusal}
 use Rattle.vx_bits.specs.declared.refusal.Refusal.TheVariants.{Framing, Limit}
 use Rattle.vx_report.specs.declared.refusal.Where.{Where}
 
--- a rule on a byte stream: F1 to F3 on its framing, L1 on the length of a unit, L3 on its own
+-- L1, a unit is too long
+abbrev pub long_unit : ℕ
+long_unit = 1
+
+-- L3, a source is too long
+abbrev pub long_source : ℕ
+long_source = 3
+
+-- a rule on a byte stream: F1 to F3 on its framing, L1 and L3 on lengths
 abbrev pub HasLine : Refusal → Type 0
-HasLine (Framing code byte) = Unit {0}
-HasLine (Limit code) = (code ≡ 1) ⊎ (code ≡ 3)
+HasLine (Framing code byte) = (1 ≤ code) × (code ≤ 3)
+HasLine (Limit code) = (code ≡ long_unit) ⊎ (code ≡ long_source)
 HasLine _ = ⊥
 
 -- `F3 source 0 byte 5`
@@ -33,5 +41,5 @@ unit_limit_text code place = concat
 -- the line of a refusal, with its line feed
 abbrev pub refusal_text : Refusal → Where → List ℕ
 refusal_text (Framing code byte) place = framing_text code byte place
-refusal_text (Limit code) place = (if code == 3 then source_limit_text code place else unit_limit_text code place)
+refusal_text (Limit code) place = (if code == long_source then source_limit_text code place else unit_limit_text code place)
 refusal_text _ place = []

@@ -6,6 +6,9 @@ ghost use Rattle.vx_report.specs.RefusalLine.{HasLine, framing_text, source_limi
 use std::alloc::{AllocError, Global};
 use vx_bits::Refusal;
 
+/// The code of the limit on the bytes of a source.
+pub const LONG_SOURCE: u8 = 3;
+
 /// Where a rule was broken.
 #[derive(Clone, Copy, Debug, PartialEq, Eq)]
 pub struct Where {
@@ -28,7 +31,7 @@ pub fn refusal_line(alloc: Global, refusal: Refusal, place: Where) -> Result<Vec
 {
     let text = match refusal {
         Refusal::Framing { code, byte } => framing_line(alloc, code, byte, place),
-        Refusal::Limit { code: 3 } => source_limit_line(alloc, 3, place),
+        Refusal::Limit { code: LONG_SOURCE } => source_limit_line(alloc, LONG_SOURCE, place),
         Refusal::Limit { code } => unit_limit_line(alloc, code, place),
         _ => unreachable!(),
     }?;

@@ -4,10 +4,10 @@ use Rattle.vx_annexb.specs.Held.{left_to_seek}
 use Rattle.vx_app.proofs.Shown.{HasShown-more, ShowsUnits-stopped}
 use Rattle.vx_app.proofs.show.show_units.Goals as goal
 
-pub returns-in_err-show_next-clause-answer : goal.returns-in_err-show_next-clause-answer
-returns-in_err-show_next-clause-answer g c b none =
+pub returns-in_err-show_next : goal.returns-in_err-show_next
+returns-in_err-show_next g c b none =
     let p = err_from_is_err_and c.from_residual.result c.from_residual.ensures.1 in
-    rw (p.1, p.2) (ShowsUnits-stopped b c.args.splitter.now.all c.loop-shown.splitter c.show_next.new.splitter _ _ _ c.loop-shown.shown _ (c.show_next.ensures.all ∙ c.loop-shown.invariant.0) (c.loop-shown.invariant.3 b none) (c.in_err-show_next.ensures.answer b) c.in_err-show_next.ensures.place)
+    rw (p.1, p.2) (ShowsUnits-stopped b c.args.splitter.now.all c.loop-shown.splitter c.show_next.new.splitter _ _ _ _ _ c.loop-shown.shown _ (c.show_next.ensures.all ∙ c.loop-shown.invariant.0) (c.loop-shown.invariant.2 b none) (c.in_err-show_next.ensures.answer b))
 
 pub loop-shown-preserved : goal.loop-shown-preserved
 loop-shown-preserved g c =
@@ -15,6 +15,5 @@ loop-shown-preserved g c =
     let step = rw c.if-branch.true at c.in_ok-show_next.ensures.answer in (
       c.show_next.ensures.all ∙ c.loop-shown.invariant.0,
       omega arith,
-      c.in_ok-show_next.ensures.counts ∙ c.loop-shown.invariant.2,
-      λ b none. HasShown-more b c.loop-shown.splitter c.show_next.new.splitter _ _ _ c.loop-shown.shown (c.loop-shown.invariant.3 b none) (step b),
+      λ b none. HasShown-more b c.loop-shown.splitter c.show_next.new.splitter _ _ _ _ _ c.loop-shown.shown (c.loop-shown.invariant.2 b none) (step b),
     )

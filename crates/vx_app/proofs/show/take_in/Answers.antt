@@ -1,18 +1,18 @@
 use Rattle.std.proofs.Common.{rules, ◌+◌, ◌≤◌, arith, ◌∙◌}
 use Rattle.vx_app.specs.Show.{source_limit}
-use Rattle.vx_app.proofs.Pieces.{source_limit-is, HasTaken-more, TakesIn-ended}
+use Rattle.vx_app.proofs.Pieces.{source_limit-is, HasTaken-more, GivesAll-ended}
 use Rattle.vx_app.proofs.show.take_in.Goals as goal
 
 pub returns-then-came-eq0-clause-answer : goal.returns-then-came-eq0-clause-answer
 returns-then-came-eq0-clause-answer g c =
     let within : c.loop-taken.taken ≤ source_limit = rw source_limit-is (omega arith) in
     let within_more : c.loop-taken.taken + c.in_ok-came.came ≤ source_limit = rw source_limit-is (omega arith) in
-    let more = HasTaken-more c.loop-taken.splitter c.take_piece.new.splitter _ _ _ _ _ c.loop-taken.taken c.in_ok-came.came within c.loop-taken.invariant.5 c.in_ok-came.ensures.answer in
-    TakesIn-ended c.take_piece.new.splitter c.finish.new.self _ _ _ _ _ (more.0 ∙ c.loop-taken.invariant.4) within_more more.1 (more.2 c.if-came-eq0.true) c.finish.ensures.stands (search rules)
+    let more = HasTaken-more c.loop-taken.splitter c.take_piece.new.splitter _ _ c.loop-taken.taken c.in_ok-came.came within c.loop-taken.invariant.5 c.in_ok-came.ensures.answer in
+    GivesAll-ended c.take_piece.new.splitter c.finish.new.self _ _ (more.0 ∙ c.loop-taken.invariant.4) within_more more.1 (more.2 c.if-came-eq0.true) c.finish.ensures.stands (search rules)
 
 pub loop-taken-preserved : goal.loop-taken-preserved
 loop-taken-preserved g c =
     let within : c.loop-taken.taken ≤ source_limit = rw source_limit-is (omega arith) in
-    let more = HasTaken-more c.loop-taken.splitter c.take_piece.new.splitter _ _ _ _ _ c.loop-taken.taken c.in_ok-came.came within c.loop-taken.invariant.5 c.in_ok-came.ensures.answer in
+    let more = HasTaken-more c.loop-taken.splitter c.take_piece.new.splitter _ _ c.loop-taken.taken c.in_ok-came.came within c.loop-taken.invariant.5 c.in_ok-came.ensures.answer in
     let bound = c.in_ok-came.ensures.bound in
     (search rules, c.in_ok-came.ensures.open, c.in_ok-came.ensures.fed, omega arith, more.0 ∙ c.loop-taken.invariant.4, more.1)

@@ -13,13 +13,12 @@ returns-clause-answer g c r len stands =
     let len_room = c.read_box.auto.into in
     let room : 0 < length c.read_box.new.into = omega (arith, len_room, length-take c.min-room.result c.args.buffer.now, c.min-room.ensures) in
     let front = seen-front source_limit r c.read_box.new.into (drop c.min-room.result c.args.buffer.now) c.in-Ok.came within fits in
-    let seen : c.min-seen.result ≡ min c.in-Ok.came (source_limit - length r) = rw (source_limit-is, len) c.min-seen.ensures in (
-      c.in-Ok.ensures.faults,
-      (
-        piece,
-        length-take-le c.in-Ok.came c.read_box.new.into fits,
-        c.in-Ok.ensures.bytes.0,
-        λ none. c.in-Ok.ensures.bytes.1 none room,
-        subst (λ (g' : List ℕ). Stands c.feed.new.self g' []) (ap (λ n. r ++ take n (c.read_box.new.into ++ drop c.min-room.result c.args.buffer.now)) seen ∙ front) (c.in_ok-feed.ensures.stands r [] stands),
-      ),
-    )
+    let seen : c.min-seen.result ≡ min c.in-Ok.came (source_limit - length r) = rw (source_limit-is, len) c.min-seen.ensures in
+    record {
+      piece = piece;
+      kept = c.in-Ok.ensures.faults;
+      count = length-take-le c.in-Ok.came c.read_box.new.into fits;
+      consumed = c.in-Ok.ensures.bytes.0;
+      ended = λ none. c.in-Ok.ensures.bytes.1 none room;
+      stands = subst (λ (g' : List ℕ). Stands c.feed.new.self g' []) (ap (λ n. r ++ take n (c.read_box.new.into ++ drop c.min-room.result c.args.buffer.now)) seen ∙ front) (c.in_ok-feed.ensures.stands r [] stands);
+    }

@@ -1,0 +1,47 @@
+-- What a call did to sources and sinks, as its caller sees it.
+use Rattle.std.specs.Prelude.{◌≡◌, ℕ, List, ◌⊎◌, Option}
+use Rattle.std.specs.Io.KnownBytes.{Appends}
+use Rattle.vx_io.specs.Faults.{Rose}
+use Rattle.vx_io.specs.Listed.{bytes_at, faults_at}
+use Rattle.vx_io.specs.Written.{AppendsFront}
+
+-- A source or a sink before and after a call, with the bytes that it tells (those left in a source,
+-- those taken by a sink) and its count of faults.
+pub record Change (A : Type 0) : Type 0 where
+  pub bytes : A → Option (List ℕ)
+  pub faults : A → ℕ
+  pub old : A
+  pub new : A
+
+abbrev pub change : {A : Type 0} → (A → Option (List ℕ)) → (A → ℕ) → A → A → Change A
+change bytes faults old new = record { bytes = bytes; faults = faults; old = old; new = new }
+
+-- the source at k of a list
+abbrev pub change_at : {A : Type 0} → (A → Option (List ℕ)) → (A → ℕ) → List A → List A → ℕ → Change (List A)
+change_at bytes faults old new k = change (λ l. bytes_at bytes l k) (λ l. faults_at faults l k) old new
+
+-- nothing was done to it
+abbrev pub IsUntouched : {A : Type 0} → Change A → Type 0
+IsUntouched c = c.new ≡ c.old
+
+-- no read or write of it failed
+abbrev pub HasNoFault : {A : Type 0} → Change A → Type 0
+HasNoFault c = c.faults c.new ≡ c.faults c.old
+
+-- a read or a write of it failed
+abbrev pub HasFault : {A : Type 0} → Change A → Type 0
+HasFault c = Rose (c.faults c.old) (c.faults c.new)
+
+-- a sink gained these bytes, and no write failed
+pub record Gains {A : Type 0} (c : Change A) (bytes : List ℕ) : Type 0 where
+  pub kept : HasNoFault c
+  pub gained : Appends (c.bytes c.old) (c.bytes c.new) bytes
+
+-- a write failed, and the sink gained a front of these bytes
+pub record GainsFront {A : Type 0} (c : Change A) (bytes : List ℕ) : Type 0 where
+  pub failed : HasFault c
+  pub gained : AppendsFront (c.bytes c.old) (c.bytes c.new) bytes
+
+-- a line was written, or a front of it where a write failed
+abbrev pub Tells : {A : Type 0} → Change A → List ℕ → Type 0
+Tells c line = Gains c line ⊎ GainsFront c line
