@@ -1,6 +1,6 @@
 mod Shown
 mod Testing
-mod Dependence
+pub mod Dependence
 mod Agreeing
 pub mod Codings
 pub mod Items
