@@ -1,3 +1,4 @@
+mod Keepings
 mod Shown
 mod Testing
 pub mod Dependence

@@ -10,3 +10,4 @@ pub mod Reading
 pub mod Shown
 pub mod Values
 pub mod Writing
+pub mod Kept

@@ -8,6 +8,7 @@
 
 mod arithmetic;
 mod depends;
+mod kept;
 mod laws;
 mod laws_depend;
 mod macros;
@@ -23,6 +24,7 @@ mod walk;
 mod writer;
 
 pub use depends::{depends_only_on, parts_depend_only_on};
+pub use kept::{keep_parts, keep_table};
 pub use laws::{one_answer, one_reading};
 pub use laws_depend::{alike_together, cells_follow_items, scopes_follow_items};
 pub use parts::{Part, code_parts, read_parts, write_parts};
