@@ -1,3 +1,4 @@
+mod Stars
 mod Keepings
 mod Shown
 mod Testing

@@ -26,7 +26,7 @@ mod writer;
 pub use depends::{depends_only_on, parts_depend_only_on};
 pub use kept::{keep_parts, keep_table};
 pub use laws::{one_answer, one_reading};
-pub use laws_depend::{alike_together, cells_follow_items, scopes_follow_items};
+pub use laws_depend::{alike_together, cells_follow_items, cells_follow_kept, scopes_follow_items};
 pub use parts::{Part, code_parts, read_parts, write_parts};
 pub use reader::{read_table, read_value};
 pub use rows::{Cell, Coding, Fault, Formula, Limits, Presence, Row, Term};
