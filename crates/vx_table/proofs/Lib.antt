@@ -1,4 +1,4 @@
-mod Stars
+mod Starred
 mod Keepings
 mod Shown
 mod Testing

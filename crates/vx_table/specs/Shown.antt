@@ -4,9 +4,10 @@ use Rattle.vx_bits.specs.declared.list.Item.{Item}
 use Rattle.vx_table.specs.declared.rows.Cell.{Cell}
 use Rattle.vx_table.specs.Scope.{loaded}
 use Rattle.vx_table.specs.Forms.{Form, done, field, ◌>>=◌}
+use Rattle.vx_table.specs.Parts.{Section}
 use Rattle.vx_table.specs.Spelling.{items_along}
 use Rattle.vx_table.specs.Values.{Follows}
-use Rattle.vx_table.specs.Depends.{has, Agree, Alike}
+use Rattle.vx_table.specs.Depends.{has, with_all, set_of, Agree, Alike, DependsOnlyOn}
 use Rattle.vx_table.specs.Kept.{stands_for_field, kept_along}
 use Rattle.vx_table.specs.declared.rows.Row.{Row}
 use Rattle.vx_table.specs.declared.rows.Row.TheVariants.{Field, Block, Name}
@@ -56,3 +57,18 @@ star_tells shown (Name name formula) = true
 abbrev pub stars_tell : List ℕ → List Row → Bool
 stars_tell shown [] = true
 stars_tell shown (row ∷ rows) = star_tells shown row && stars_tell shown rows
+
+abbrev pub sections_stars_tell : List ℕ → List Section → Bool
+sections_stars_tell shown [] = true
+sections_stars_tell shown (section ∷ more) = stars_tell shown section.rows && sections_stars_tell shown more
+
+-- at each scope a form keeps exactly the shown ones of its fields
+pub record KeepsOnly (given shown : List ℕ) (form : List ℕ → Form (List ℕ)) : Type 0 where
+  pub keeps : (s : List ℕ) → KeepsShown (with_all (set_of given) shown) (form s)
+
+-- Kept fields depend on kept fields and on the given numbers alone: where a form keeps what is shown, and the shown depend only on the given,
+-- equal kept items at scopes that agree on the given come from equal kept fields, with equal codings and ranges.
+abbrev pub KeptTellsKept : Type 0
+KeptTellsKept = (given shown : List ℕ) (form : List ℕ → Form (List ℕ)) (s t a b : List ℕ) (v w : List ℤ) → DependsOnlyOn given shown form → KeepsOnly given shown form
+    → Agree (set_of given) s t → Follows (form s) v a → Follows (form t) w b → kept_along (form s) v ≡ kept_along (form t) w
+    → (shown_cells (with_all (set_of given) shown) (form s) v ≡ shown_cells (with_all (set_of given) shown) (form t) w) × Agree (set_of given) a b

@@ -19,10 +19,10 @@ use vx_bits::{Fields, Item};
 fn stands_for_field(coding: Coding<u32>) -> bool
     ensures { result ≡ kept.stands_for_field coding }
 {
-    match coding {
-        Coding::Fixed(_) | Coding::Golomb | Coding::SignedGolomb | Coding::Absent => true,
-        _ => false,
-    }
+    matches!(
+        coding,
+        Coding::Fixed(_) | Coding::Golomb | Coding::SignedGolomb | Coding::Absent
+    )
 }
 
 /// Appends the item of a kept field.

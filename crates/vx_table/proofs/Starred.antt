@@ -15,9 +15,9 @@ use Rattle.vx_table.specs.Forms.{Form, done, field, ◌>>=◌, has_value, coding
 use Rattle.vx_table.specs.Parts.{Section, sections_form}
 use Rattle.vx_table.specs.Spelling.{HasCode}
 use Rattle.vx_table.specs.Values.{Follows, to_end, through}
-use Rattle.vx_table.specs.Depends.{has, Agree, Alike, at_ends, both, hidden_left, hidden_right}
+use Rattle.vx_table.specs.Depends.{has, with_all, set_of, Agree, Alike, at_ends, both, hidden_left, hidden_right}
 use Rattle.vx_table.specs.Kept.{stands_for_field, kept_item, kept_along}
-use Rattle.vx_table.specs.Shown.{shown_cells, KeepsShown, CellsFollowKept, star_tells, stars_tell}
+use Rattle.vx_table.specs.Shown.{shown_cells, KeepsShown, KeepsOnly, CellsFollowKept, KeptTellsKept, star_tells, stars_tell, sections_stars_tell}
 
 keeps_then : (shown : List ℕ) (f : Form (List ℕ)) (next : List ℕ → Form (List ℕ)) → KeepsShown shown f → ((t : List ℕ) → KeepsShown shown (next t)) → KeepsShown shown (f >>= next)
 keeps_then shown (done t) next keeps behind = behind t
@@ -73,9 +73,24 @@ keeps_part shown zero (suc len) (Block presence n ∷ rows) s h =
 keeps_part shown zero (suc len) (Name name formula ∷ rows) s h =
     keeps_part shown 0 len rows (slice_set s name (value s formula)) (and_parts (star_tells shown (Name name formula)) (stars_tell shown rows) h).1
 
-pub table_keeps : (shown : List ℕ) (rows : List Row) (s : List ℕ) → stars_tell shown rows ≡ true → KeepsShown shown (form_of rows s)
+table_keeps : (shown : List ℕ) (rows : List Row) (s : List ℕ) → stars_tell shown rows ≡ true → KeepsShown shown (form_of rows s)
 unfolding form_of
 table_keeps shown rows s h = keeps_part shown 0 (length rows) rows s h
+
+sections_keep : (shown : List ℕ) (sections : List Section) (s : List ℕ) → sections_stars_tell shown sections ≡ true → KeepsShown shown (sections_form sections s)
+unfolding sections_form
+sections_keep shown [] s h = tt
+sections_keep shown (section ∷ more) s h =
+    let parts = and_parts (stars_tell shown section.rows) (sections_stars_tell shown more) h in
+    keeps_then shown (present section.presence (form_of section.rows) s) (sections_form more)
+    (keeps_present shown section.presence (form_of section.rows) s (λ t. table_keeps shown section.rows t parts.0)) (λ t. sections_keep shown more t parts.1)
+
+-- What the test of a table and of a structure says.
+pub table_keeps_only : (given shown : List ℕ) (rows : List Row) → stars_tell (with_all (set_of given) shown) rows ≡ true → KeepsOnly given shown (form_of rows)
+table_keeps_only given shown rows h = record { keeps = λ s. table_keeps (with_all (set_of given) shown) rows s h }
+
+pub structure_keeps_only : (given shown : List ℕ) (sections : List Section) → sections_stars_tell (with_all (set_of given) shown) sections ≡ true → KeepsOnly given shown (sections_form sections)
+structure_keeps_only given shown sections h = record { keeps = λ s. sections_keep (with_all (set_of given) shown) sections s h }
 
 -- two items of one field
 same_kept : (at : ℕ) (v w : ℤ) (r s : List Item) → (record { field = at; value = v } ∷ []) ++ r ≡ (record { field = at; value = w } ∷ []) ++ s → (v ≡ w) × (r ≡ s)
@@ -135,3 +150,7 @@ follow_kept {shown} (hidden_right {cell} {goes} is more) keep hold on (through {
 
 pub cells_follow_kept : CellsFollowKept
 cells_follow_kept shown known f g v w s t alike keep hold on along same = follow_kept alike keep hold on along same
+
+pub kept_tells_kept : KeptTellsKept
+kept_tells_kept given shown form s t a b v w depends only agree on along same =
+    follow_kept (depends.alike s t agree) (only.keeps s) (only.keeps t) on along same
