@@ -1,3 +1,4 @@
 pub mod Run
 pub mod Spelling
 pub mod Structures
+pub mod Depends

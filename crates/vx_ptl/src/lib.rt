@@ -4,6 +4,7 @@
 //! these structures take the tables as parts of their own.
 #![tactic(auto)]
 
+mod depends;
 mod laws;
 mod read;
 mod run;
@@ -11,6 +12,7 @@ mod tables;
 #[cfg(test)]
 mod tests;
 
+pub use depends::{dpb_depends, ptl_depends, sublayer_timing_depends, timing_depends};
 pub use laws::{runs_are_spelled, structures_are_spelled, writes_what_was_read};
 pub use read::{read_dpb, read_ptl, read_sublayer_timing, read_timing, read_vps};
 pub use run::{is_run, write_run};

@@ -263,8 +263,11 @@ inside_with_all names (n ∷ more) = record { has_too = λ m h. (inside_with_all
 
 -- What the test of a table and of a structure says.
 pub table_depends_only_on : (given shown : List ℕ) (rows : List Row) → depends_only_on given shown rows ≡ true → DependsOnlyOn given shown (form_of rows)
-table_depends_only_on given shown rows test s t agree = alike_table (with_all (set_of given) shown) (set_of given) rows s t (inside_with_all (set_of given) shown) test agree
+table_depends_only_on given shown rows test = record {
+  alike = λ s t agree. alike_table (with_all (set_of given) shown) (set_of given) rows s t (inside_with_all (set_of given) shown) test agree;
+}
 
 pub structure_depends_only_on : (given shown : List ℕ) (sections : List Section) → sections_depend_only_on given shown sections ≡ true → DependsOnlyOn given shown (sections_form sections)
-structure_depends_only_on given shown sections test s t agree =
-    alike_sections (with_all (set_of given) shown) (set_of given) sections s t (inside_with_all (set_of given) shown) test agree
+structure_depends_only_on given shown sections test = record {
+  alike = λ s t agree. alike_sections (with_all (set_of given) shown) (set_of given) sections s t (inside_with_all (set_of given) shown) test agree;
+}

@@ -1,6 +1,8 @@
+mod Starred
+mod Keepings
 mod Shown
 mod Testing
-mod Dependence
+pub mod Dependence
 mod Agreeing
 pub mod Codings
 pub mod Items

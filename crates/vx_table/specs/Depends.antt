@@ -44,9 +44,9 @@ pub data Alike (shown known : List ℕ) : Form (List ℕ) → Form (List ℕ) �
   hidden_right : {cell : Cell ℕ} {f : Form (List ℕ)} {goes : ℤ → Form (List ℕ)} → IsFalse (has shown cell.field)
       → ((v : ℤ) → Alike shown known f (goes v)) → Alike shown known f (field cell goes)
 
--- The shown fields and names of a table depend on the given ones alone: at scopes that agree on the given ones, its forms are alike.
-abbrev pub DependsOnlyOn : (given shown : List ℕ) → (List ℕ → Form (List ℕ)) → Type 0
-DependsOnlyOn given shown form = (s t : List ℕ) → Agree (set_of given) s t → Alike (with_all (set_of given) shown) (set_of given) (form s) (form t)
+-- The shown fields and names of a form depend on the given numbers alone: at scopes that agree on these, it is alike.
+pub record DependsOnlyOn (given shown : List ℕ) (form : List ℕ → Form (List ℕ)) : Type 0 where
+  pub alike : (s t : List ℕ) → Agree (set_of given) s t → Alike (with_all (set_of given) shown) (set_of given) (form s) (form t)
 
 -- The test: what it takes for that to hold.
 

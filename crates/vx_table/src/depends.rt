@@ -2,7 +2,7 @@
 
 ghost use Rattle.std.specs.Prelude.{◌≡◌, IsTrue};
 ghost use Rattle.vx_table.specs.Forms.{form_of};
-ghost use Rattle.vx_table.specs.Parts.{Section, sections_of, sections_form};
+ghost use Rattle.vx_table.specs.Parts.{sections_of, sections_form};
 ghost use Rattle.vx_table.specs.Depends as test;
 ghost use Rattle.vx_table.specs.Depends.{DependsOnlyOn};
 
@@ -12,14 +12,14 @@ use crate::scope::Scope;
 use crate::walk::split_block;
 
 /// Whether a set of fields and names has this one; a set is a scope in which they have a number.
-fn has(names: &Scope, n: u16) -> bool
+pub fn has(names: &Scope, n: u16) -> bool
     ensures { result ≡ test.has names.now n }
 {
     names.latest(n) != 0
 }
 
 /// A set with more fields and names.
-fn with_all(mut names: Scope, more: &[u16]) -> Scope
+pub fn with_all(mut names: Scope, more: &[u16]) -> Scope
     ensures { result ≡ test.with_all names more.now }
 {
     for n in more {

@@ -1,7 +1,7 @@
 //! A small structure with each kind of row, at the ends of each range, worked by hand.
 use crate::{
-    Row, Scope, SpellError, Unwritten, parts, read_parts, read_value, table, write_parts,
-    write_table,
+    Row, Scope, SpellError, Unwritten, keep_table, parts, read_parts, read_value, table,
+    write_parts, write_table,
 };
 use std::alloc::Global;
 use std::test::Fail;
@@ -283,4 +283,23 @@ fn refuses_within_a_part(rt: HostRuntime) {
         syntax(17, 7, BitCause::Short)
     );
     assert!(rt; are(&fields, &[(16, 2), (17, 1), (17, 2), (18, 1)]));
+}
+
+#[test]
+fn keeps_the_items_without_a_star(rt: HostRuntime) -> Result<(), Fail> {
+    let fields = read_value(
+        rt.alloc(),
+        &SMALL,
+        &mut Scope::new(),
+        &[0x68, 0x92, 0x90, 0x40],
+    )?;
+    let mut items = Unwritten::new(&fields, 0, fields.len());
+    let mut kept = Fields::new(rt.alloc());
+    assert_eq!(rt;
+        keep_table(&SMALL, &mut Scope::new(), &mut items, &mut kept),
+        Ok(())
+    );
+    assert!(rt; items.is_empty());
+    assert!(rt; are(&kept, &[(1, 1), (2, 2), (3, 1), (4, 8), (7, 0), (9, 1)]));
+    Ok(())
 }

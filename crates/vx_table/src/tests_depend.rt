@@ -1,5 +1,7 @@
 //! Claims of what fields depend on, right ones and wrong ones.
-use crate::{Row, depends_only_on, parts, parts_depend_only_on, table};
+use crate::{
+    Row, depends_only_on, keeps_only, parts, parts_depend_only_on, parts_keep_only, table,
+};
 
 const TURN: u16 = 900;
 
@@ -75,4 +77,14 @@ fn tells_claims_of_parts(rt: HostRuntime) {
     let in_turns = parts![MIXED, TURN in [2] => REPEAT];
     assert!(rt; parts_depend_only_on(&in_turns, &[2, 4, 102], &[1, 3, 7, SUM]));
     assert!(rt; !parts_depend_only_on(&in_turns, &[102], &[1, 3, 7, SUM]));
+}
+
+#[test]
+fn tells_what_stars_say(rt: HostRuntime) {
+    assert!(rt; keeps_only(&MIXED, &[102], &[1, 3, 7, SUM]));
+    assert!(rt; !keeps_only(&MIXED, &[102], &[1, 3, SUM]));
+    assert!(rt; !keeps_only(&MIXED, &[102], &[1, 2, 3, 7, SUM]));
+    let in_turns = parts![MIXED, TURN in [1] => REPEAT];
+    assert!(rt; parts_keep_only(&in_turns, &[102], &[1, 3, 7, SUM]));
+    assert!(rt; !parts_keep_only(&in_turns, &[2, 102], &[1, 3, 7, SUM]));
 }
