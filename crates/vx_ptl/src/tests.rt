@@ -158,7 +158,7 @@ fn reads_hrd_of_two_sublayers(rt: HostRuntime) -> Result<(), Fail> {
 }
 
 /// How many items timing and sublayer timing of one layer have, and where they end.
-fn timed(alloc: Global, bytes: &[u8; 12]) -> Result<(usize, u32), ReadError> {
+fn timed(alloc: Global, bytes: &[u8; 24]) -> Result<(usize, u32), ReadError> {
     let mut bits = BitReader::new(bytes);
     let mut fields = Fields::new(alloc);
     read_timing(&mut bits, 0, false, &mut fields)?;
@@ -170,19 +170,22 @@ fn timed(alloc: Global, bytes: &[u8; 12]) -> Result<(usize, u32), ReadError> {
 fn reads_hrd_of_kinds(rt: HostRuntime) {
     // The bits behind the two numbers. VCL alone: 0 1 1 0 0000 0000 1, then 0 0 1 and 1 1 1.
     // NAL and VCL, two CPBs each: 1 1 0 0 0000 0000 010, then 1 1 and 1 1 1 four times.
-    // VCL and 33 CPBs, one too many: 0 1 0 0 0000 0000 00000100001.
+    // VCL and 33 CPBs, one too many: 0 1 0 0 0000 0000 00000100001. And 32: .. 00000100000, then 98 ones.
     let range = ReadError::Refused(Refusal::Syntax {
         field: 51,
         bit: 76,
         cause: BitCause::OutOfRange,
     });
-    let cases: [([u8; 4], Result<(usize, u32), ReadError>); 3] = [
+    let cases: [([u8; 4], Result<(usize, u32), ReadError>); 4] = [
         ([0x60, 0x09, 0xe0, 0], Ok((15, 83))),
         ([0xc0, 0x05, 0xff, 0xf8], Ok((23, 93))),
         ([0x40, 0x00, 0x42, 0], Err(range)),
+        ([0x40, 0x00, 0x41, 0xff], Ok((107, 185))),
     ];
     for ([a, b, c, d], wanted) in cases {
-        let bytes = [0, 0, 0, 1, 0, 0, 0, 2, a, b, c, d];
+        let bytes = [
+            0, 0, 0, 1, 0, 0, 0, 2, a, b, c, d, d, d, d, d, d, d, d, d, d, d, d, d,
+        ];
         assert_eq!(rt; timed(rt.alloc(), &bytes), wanted);
     }
 }
