@@ -4,7 +4,6 @@ pub mod Counting
 pub mod Cutting
 pub mod Entries
 pub mod Holding
-pub mod Lowest
 pub mod Marks
 pub mod Members
 pub mod Moving
