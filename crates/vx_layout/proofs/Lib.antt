@@ -7,6 +7,7 @@ pub mod Holding
 pub mod Marks
 pub mod Members
 pub mod Moving
+pub mod Nested
 pub mod Ordering
 pub mod Owners
 pub mod Parts
