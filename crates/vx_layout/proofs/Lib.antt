@@ -9,10 +9,10 @@ pub mod FrameShapes
 pub mod FrameSlices
 pub mod FrameWhole
 pub mod Holding
-pub mod Lowest
 pub mod Marks
 pub mod Members
 pub mod Moving
+pub mod Nested
 pub mod Ordering
 pub mod Owners
 pub mod Parts

@@ -51,15 +51,6 @@ IsTakenIn-from a r columns rows c d t =
       marked = t.marked;
     }
 
--- before the first rectangle, where no CTU has a mark
-pub AreMarks-start : (g : Grid) (rects : List Rect) → ((x y : ℕ) → mark_at g x y ≡ 0) → AreMarks g rects 0
-AreMarks-start g rects blank = λ x y v w. record {
-  none = λ _. refl;
-  one = λ ne. absurd (ne (blank x y));
-  place = λ ne. absurd (ne (blank x y));
-  holder = λ ne. absurd (ne (blank x y));
-}
-
 -- rectangle k, painted with its place from 1 on
 pub AreMarks-more : (a b : Grid) (rects : List Rect) (k : ℕ) (r : Rect) → k < length rects → r ≡ get_or rects k r → AreMarks a rects k → PaintsRect a b r (k + 1) → AreMarks b rects (k + 1)
 AreMarks-more a b rects k r short is marks painted = λ x y v w.

@@ -92,12 +92,6 @@ AreGroups-more before after slices subpics k r short is groups adds = record {
       adds.each i d e (omega (arith, groups.long)) ∙ (ap (λ t. t ++ cond (fits r s) (r ∷ []) []) (groups.each i d e low) ∙ (ap (λ t. slices_of (take k slices) s ++ t) (sym same) ∙ sym more));
 }
 
-pub AreGroups-start : (groups : List (List Rect)) (slices subpics : List Rect) → length groups ≡ length subpics → ((i : ℕ) (e : List Rect) → i < length subpics → get_or groups i e ≡ []) → AreGroups groups (take 0 slices) subpics
-AreGroups-start groups slices subpics long each = record { long = long; each = λ i d e short. each i e short }
-
-pub AreGroups-all : (groups : List (List Rect)) (slices subpics : List Rect) (k : ℕ) → length slices ≤ k → AreGroups groups (take k slices) subpics → AreGroups groups slices subpics
-AreGroups-all groups slices subpics k all groups_are = subst (λ t. AreGroups groups t subpics) (take_all k slices all) groups_are
-
 -- the groups one after another are the slices in order
 pub in_order-groups : (groups : List (List Rect)) (slices subpics : List Rect) → AreGroups groups slices subpics → flat_map (λ g. g) groups ≡ in_order slices subpics
 in_order-groups groups slices subpics g =

@@ -45,13 +45,6 @@ pub record NextSoFar (bounds next : List ℕ) (i : ℕ) : Type 0 where
   pub ahead : (j : ℕ) → i ≤ j → j < length bounds → length next ≤ get_or bounds j 0
   pub each : (x : ℕ) → x < length next → IsNextBound bounds x (get_or next x 0)
 
-pub NextSoFar-start : (bounds : List ℕ) → NextSoFar bounds [] 0
-NextSoFar-start bounds = record {
-  reached = λ j h. absurd (omega arith);
-  ahead = λ j h k. omega arith;
-  each = λ x h. absurd (omega arith);
-}
-
 -- the table filled up with bound i
 pub NextSoFar-more : (bounds next new : List ℕ) (i b : ℕ) → Rises bounds → i < length bounds → b ≡ get_or bounds i 0 → length new ≡ b + 1 →
     ((k d : ℕ) → k < b + 1 → k < length next → get_or new k d ≡ get_or next k d) → ((k d : ℕ) → length next ≤ k → k < b + 1 → get_or new k d ≡ b) →

@@ -5,7 +5,7 @@ ghost use Rattle.vx_layout.specs.Faults.{IsLayout, LiesIn, height, width};
 ghost use Rattle.vx_layout.specs.Heights.{written_heights};
 ghost use Rattle.vx_layout.specs.Layouts.{IsSound, slice_at, slices_in, subpic_at};
 ghost use Rattle.vx_layout.specs.Rects.{CoversOnce, fits, holds, in_order};
-ghost use Rattle.vx_layout.specs.Regions.{counted_from, moved, region_of};
+ghost use Rattle.vx_layout.specs.Regions.{counted_from, cut, moved, region_of};
 ghost use Rattle.vx_layout.specs.Scan.{ctus};
 ghost use Rattle.vx_layout.specs.declared.numbers.Numbers.{Numbers};
 ghost use Rattle.vx_layout.specs.declared.rect.Rect.{Rect};
@@ -23,6 +23,12 @@ pub fn slices_cover_subpicture()
 /// The region of a layout's subpicture is a layout.
 pub fn region_is_layout()
     ensures { (n : Numbers) (k : ℕ) → IsSound n → k < length n.subpics → IsSound (region_of n k) }
+{}
+
+/// A region of a region is a region: bounds that are cut twice are cut once, and the only subpicture of a region is it.
+pub fn regions_nest()
+    ensures bounds { (bounds : List ℕ) (from size inner_from inner_size : ℕ) → inner_from + inner_size ≤ size → cut (cut bounds from size) inner_from inner_size ≡ cut bounds (from + inner_from) inner_size }
+    ensures region { (n : Numbers) (k : ℕ) → region_of (region_of n k) 0 ≡ region_of n k }
 {}
 
 /// Bounds with the same members are the same bounds.

@@ -26,77 +26,79 @@ pub fn first_fault(alloc: Global, numbers: &Numbers) -> Result<(), LayoutError>
     ensures sound { OnOk result (IsLayout numbers.now) }
     ensures fault { IfErr result (λ e. IfFault e (IsLowestFault numbers.now)) }
 {
-    cover_by_subpics(numbers)?;
-    split_tiles(numbers)?;
-    cover_by_slices(numbers)?;
-    fit_slices(numbers)?;
-    order_slices(alloc, numbers)
-}
-
-/// Fault 3.
-fn cover_by_subpics(numbers: &Numbers) -> Result<(), LayoutError>
-    requires { IsInLimits numbers.now }
-    ensures cover { OnOk result (SubpicsCover numbers.now) }
-    ensures fault { IfErr result (λ e. IfFault e (λ k. (k ≡ 3) × (SubpicsCover numbers.now → ⊥))) }
-{
-    let (width, height) = (numbers.columns.last(), numbers.rows.last());
-    if !all_inside(&numbers.subpics, width, height) {
+    if !subpics_cover(numbers) {
         return Err(LayoutError::Fault(3));
     }
-    if !covers_once(&numbers.subpics, width, height) {
-        return Err(LayoutError::Fault(3));
+    if !tiles_split(numbers) {
+        return Err(LayoutError::Fault(4));
     }
-    Ok(())
-}
-
-/// Fault 4.
-fn split_tiles(numbers: &Numbers) -> Result<(), LayoutError>
-    ensures split { OnOk result (TilesSplit numbers.now) }
-    ensures fault { IfErr result (λ e. IfFault e (λ k. (k ≡ 4) × (TilesSplit numbers.now → ⊥))) }
-{
-    for i in 0..numbers.subpics.len() {
-        if !tiles_agree(&numbers.columns, &numbers.rows, numbers.subpics.item(i)) {
-            return Err(LayoutError::Fault(4));
-        }
-    }
-    Ok(())
-}
-
-/// Fault 5.
-fn cover_by_slices(numbers: &Numbers) -> Result<(), LayoutError>
-    requires { IsInLimits numbers.now }
-    ensures cover { OnOk result (SlicesCover numbers.now) }
-    ensures fault { IfErr result (λ e. IfFault e (λ k. (k ≡ 5) × (SlicesCover numbers.now → ⊥))) }
-{
-    if !covers_once(&numbers.slices, numbers.columns.last(), numbers.rows.last()) {
+    if !slices_cover(numbers) {
         return Err(LayoutError::Fault(5));
     }
-    Ok(())
-}
-
-/// Fault 6.
-fn fit_slices(numbers: &Numbers) -> Result<(), LayoutError>
-    ensures split { OnOk result (SlicesFit numbers.now) }
-    ensures fault { IfErr result (λ e. IfFault e (λ k. (k ≡ 6) × (SlicesFit numbers.now → ⊥))) }
-{
-    for i in 0..numbers.slices.len() {
-        if !fits_some(numbers.slices.item(i), &numbers.subpics) {
-            return Err(LayoutError::Fault(6));
-        }
+    if !slices_fit(numbers) {
+        return Err(LayoutError::Fault(6));
     }
-    Ok(())
-}
-
-/// Fault 7.
-fn order_slices(alloc: Global, numbers: &Numbers) -> Result<(), LayoutError>
-    ensures order { OnOk result (SlicesInOrder numbers.now) }
-    ensures fault { IfErr result (λ e. IfFault e (λ k. (k ≡ 7) × (SlicesInOrder numbers.now → ⊥))) }
-{
-    let ordered = ordered(alloc, &numbers.slices, &numbers.subpics)?;
-    if !are_in_order(&ordered) {
+    if !slices_in_order(alloc, numbers)? {
         return Err(LayoutError::Fault(7));
     }
     Ok(())
+}
+
+/// Whether there is no fault 3.
+fn subpics_cover(numbers: &Numbers) -> bool
+    requires { IsInLimits numbers.now }
+    ensures cover { OnTrue result (SubpicsCover numbers.now) }
+    ensures fault { OnFalse result (SubpicsCover numbers.now → ⊥) }
+{
+    let (width, height) = (numbers.columns.last(), numbers.rows.last());
+    if !all_inside(&numbers.subpics, width, height) {
+        return false;
+    }
+    covers_once(&numbers.subpics, width, height)
+}
+
+/// Whether there is no fault 4.
+fn tiles_split(numbers: &Numbers) -> bool
+    ensures split { OnTrue result (TilesSplit numbers.now) }
+    ensures fault { OnFalse result (TilesSplit numbers.now → ⊥) }
+{
+    for i in 0..numbers.subpics.len() {
+        if !tiles_agree(&numbers.columns, &numbers.rows, numbers.subpics.item(i)) {
+            return false;
+        }
+    }
+    true
+}
+
+/// Whether there is no fault 5.
+fn slices_cover(numbers: &Numbers) -> bool
+    requires { IsInLimits numbers.now }
+    ensures cover { OnTrue result (SlicesCover numbers.now) }
+    ensures fault { OnFalse result (SlicesCover numbers.now → ⊥) }
+{
+    covers_once(&numbers.slices, numbers.columns.last(), numbers.rows.last())
+}
+
+/// Whether there is no fault 6.
+fn slices_fit(numbers: &Numbers) -> bool
+    ensures split { OnTrue result (SlicesFit numbers.now) }
+    ensures fault { OnFalse result (SlicesFit numbers.now → ⊥) }
+{
+    for i in 0..numbers.slices.len() {
+        if !fits_some(numbers.slices.item(i), &numbers.subpics) {
+            return false;
+        }
+    }
+    true
+}
+
+/// Whether there is no fault 7.
+fn slices_in_order(alloc: Global, numbers: &Numbers) -> Result<bool, AllocError>
+    ensures order { IfOk result (λ is_so. OnTrue is_so (SlicesInOrder numbers.now)) }
+    ensures fault { IfOk result (λ is_so. OnFalse is_so (SlicesInOrder numbers.now → ⊥)) }
+{
+    let ordered = ordered(alloc, &numbers.slices, &numbers.subpics)?;
+    Ok(are_in_order(&ordered))
 }
 
 /// Whether each rectangle holds a CTU and lies in the picture.

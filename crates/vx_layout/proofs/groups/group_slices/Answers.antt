@@ -1,12 +1,18 @@
-use Rattle.std.proofs.Common.{◌≡◌, ◌<◌, true, length, arith, sym, subst}
+use Rattle.std.proofs.Common.{◌≡◌, ℕ, ◌<◌, true, length, arith, sym, subst}
 use Rattle.std.proofs.lemmas.List.Elements.{AllWithin-more, at_read}
 use Rattle.std.specs.List.{Any}
-use Rattle.vx_layout.specs.Faults.{SlicesFit}
-use Rattle.vx_layout.proofs.Lowest.{IfFault-weaker}
+use Rattle.vx_layout.specs.Faults.{IfFault, SlicesFit}
+use Rattle.vx_layout.specs.declared.numbers.LayoutError.{LayoutError}
+use Rattle.vx_layout.specs.declared.numbers.LayoutError.TheVariants.{Memory, Fault}
 use Rattle.std.proofs.lemmas.Result.{err_from_is_err_and}
 use Rattle.vx_layout.specs.Rects.{fits}
 use Rattle.vx_layout.proofs.Owners.{AreGroups-more}
 use Rattle.vx_layout.proofs.groups.group_slices.Goals as goal
+
+-- what follows for each fault follows for the fault that is told
+IfFault-weaker : (e : LayoutError) (P Q : ℕ → Type 0) → ((k : ℕ) → P k → Q k) → IfFault e P → IfFault e Q
+IfFault-weaker Memory P Q f p = tt
+IfFault-weaker (Fault k) P Q f p = f k p
 
 pub returns-in_err-add-clause-fault : goal.returns-in_err-add-clause-fault
 returns-in_err-add-clause-fault c =

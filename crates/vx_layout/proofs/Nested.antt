@@ -1,0 +1,88 @@
+-- A region of a region.
+use Rattle.std.proofs.Common.{◌≡◌, ℕ, suc, zero, ◌+◌, ◌-◌, ◌<◌, ◌≤◌, Bool, true, false, ◌&&◌, ltb, List, [], ◌∷◌, ◌++◌, filter, map, refl, ap, sym, ◌∙◌, subst, inl, inr, arith}
+use Rattle.std.proofs.lemmas.Bool.{and_from, and_parts, both_ways, cases_Bool, false_from_ne_true, lt-ltb, ltb-true}
+use Rattle.std.proofs.lemmas.List.{append-nil}
+use Rattle.std.proofs.lemmas.List.Elements.{filter-append}
+use Rattle.vx_layout.specs.declared.numbers.Numbers.{Numbers}
+use Rattle.vx_layout.specs.declared.rect.Rect.{Rect}
+use Rattle.vx_layout.specs.Layouts.{slices_in, subpic_at}
+use Rattle.vx_layout.specs.Rects.{fits, slices_of}
+use Rattle.vx_layout.specs.Regions.{counted_from, cut, inner, region_of, whole}
+use Rattle.vx_layout.proofs.Counting.{All-slices_of}
+use Rattle.vx_layout.proofs.Moving.{filter_all}
+
+-- the bounds within the inner columns, counted from their first one: by way of the outer columns or not
+inner_nested : (bounds : List ℕ) (from size inner_from inner_size : ℕ) → inner_from + inner_size ≤ size →
+    map (λ b. b - inner_from) (inner (map (λ b. b - from) (inner bounds from size)) inner_from inner_size) ≡ map (λ b. b - (from + inner_from)) (inner bounds (from + inner_from) inner_size)
+inner_nested [] f s g t low = refl
+inner_nested (b ∷ bs) f s g t low =
+    let rest = inner_nested bs f s g t low in
+    elim (cases_Bool (ltb (f + g) b && ltb b (f + g + t))) [
+      | inl deep ↦
+          let d = and_parts _ _ deep in
+          let above : f + g < b = ltb-true (f + g) b d.0 in
+          let below : b < f + g + t = ltb-true b (f + g + t) d.1 in
+          let outer : (ltb f b && ltb b (f + s)) ≡ true = and_from _ _ (lt-ltb f b (omega arith)) (lt-ltb b (f + s) (omega arith)) in
+          let within : (ltb g (b - f) && ltb (b - f) (g + t)) ≡ true = and_from _ _ (lt-ltb g (b - f) (omega arith)) (lt-ltb (b - f) (g + t) (omega arith)) in
+          let same : b - f - g ≡ b - (f + g) = omega arith in
+          rw (outer, within, deep) (ap (λ n. n ∷ map (λ b. b - g) (inner (map (λ b. b - f) (inner bs f s)) g t)) same ∙ ap (λ l. (b - (f + g)) ∷ l) rest)
+      | inr shallow ↦
+          elim (cases_Bool (ltb f b && ltb b (f + s))) [
+            | inr out ↦ rw (out, shallow) rest
+            | inl outer ↦
+                let o = and_parts _ _ outer in
+                let above : f < b = ltb-true _ _ o.0 in
+                let not_within : (ltb g (b - f) && ltb (b - f) (g + t)) ≡ false =
+                false_from_ne_true _
+                (λ on.
+                let d = and_parts _ _ on in
+                let over : g < b - f = ltb-true _ _ d.0 in
+                let under : b - f < g + t = ltb-true _ _ d.1 in
+                both_ways _ shallow (and_from _ _ (lt-ltb (f + g) b (omega arith)) (lt-ltb b (f + g + t) (omega arith))))
+                in
+                rw (outer, not_within, shallow) rest
+          ]
+    ]
+
+inner-end : (bounds : List ℕ) (n from size : ℕ) → from + size ≤ n → inner (bounds ++ n ∷ []) from size ≡ inner bounds from size
+inner-end bounds n from size low =
+    let test : ℕ → Bool = λ b. ltb from b && ltb b (from + size) in
+    let out : test n ≡ false = false_from_ne_true _ (λ on. let d = and_parts _ _ on in let under : n < from + size = ltb-true _ _ d.1 in absurd (omega arith)) in
+    filter-append test bounds (n ∷ []) ∙ rw out (append-nil (filter test bounds))
+
+pub cut_nested : (bounds : List ℕ) (from size inner_from inner_size : ℕ) → inner_from + inner_size ≤ size → cut (cut bounds from size) inner_from inner_size ≡ cut bounds (from + inner_from) inner_size
+cut_nested bounds f s g t low =
+    let first : (ltb g 0 && ltb 0 (g + t)) ≡ false =
+    false_from_ne_true _ (λ on. let d = and_parts _ _ on in let under : g < 0 = ltb-true _ _ d.0 in absurd (omega arith))
+    in
+    let between : inner (cut bounds f s) g t ≡ inner (map (λ b. b - f) (inner bounds f s)) g t = rw first (inner-end (map (λ b. b - f) (inner bounds f s)) s g t low) in
+    ap (λ l. 0 ∷ (map (λ b. b - g) l ++ t ∷ [])) between ∙ ap (λ l. 0 ∷ (l ++ t ∷ [])) (inner_nested bounds f s g t low)
+
+-- a rectangle counted from 0, 0
+counted-whole : (s r : Rect) → counted_from (whole s) r ≡ r
+counted-whole s r =
+    let made : ℕ → ℕ → Rect = λ x y. record { x = x; y = y; w = r.w; h = r.h } in
+    let across : r.x - 0 ≡ r.x = omega arith in
+    let down : r.y - 0 ≡ r.y = omega arith in
+    ap (λ n. made n (r.y - 0)) across ∙ ap (λ n. made r.x n) down
+
+map-counted-whole : (s : Rect) (rects : List Rect) → map (counted_from (whole s)) rects ≡ rects
+map-counted-whole s [] = refl
+map-counted-whole s (r ∷ rs) =
+    ap (λ t. t ∷ map (counted_from (whole s)) rs) (counted-whole s r) ∙ ap (λ l. r ∷ l) (map-counted-whole s rs)
+
+-- the region of a region's only subpicture is the region
+pub region_of-region : (n : Numbers) (k : ℕ) → region_of (region_of n k) 0 ≡ region_of n k
+region_of-region n k =
+    let s : Rect = subpic_at n k in
+    let made : List ℕ → List ℕ → List Rect → Numbers = λ c r l. record { columns = c; rows = r; slices = l; subpics = whole s ∷ [] } in
+    let left : s.x + 0 ≡ s.x = omega arith in
+    let top : s.y + 0 ≡ s.y = omega arith in
+    let columns : cut (cut n.columns s.x s.w) 0 s.w ≡ cut n.columns s.x s.w = cut_nested n.columns s.x s.w 0 s.w (omega arith) ∙ ap (λ a. cut n.columns a s.w) left in
+    let rows : cut (cut n.rows s.y s.h) 0 s.h ≡ cut n.rows s.y s.h = cut_nested n.rows s.y s.h 0 s.h (omega arith) ∙ ap (λ a. cut n.rows a s.h) top in
+    let slices : map (counted_from (whole s)) (slices_in (region_of n k) 0) ≡ map (counted_from s) (slices_in n k) =
+    map-counted-whole s (slices_in (region_of n k) 0) ∙ filter_all s (slices_in n k) (All-slices_of n.slices s (λ r. fits r s ≡ true) (λ r on. on))
+    in
+    ap (λ c. made c (cut (cut n.rows s.y s.h) 0 s.h) (map (counted_from (whole s)) (slices_in (region_of n k) 0))) columns
+    ∙ (ap (λ r. made (cut n.columns s.x s.w) r (map (counted_from (whole s)) (slices_in (region_of n k) 0))) rows
+    ∙ ap (λ l. made (cut n.columns s.x s.w) (cut n.rows s.y s.h) l) slices)
