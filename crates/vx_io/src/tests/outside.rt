@@ -1,6 +1,7 @@
 //! Real files: what no clause can say.
 use crate::{
-    ClosedSource, FileSource, Sink, SinkFailed, Source, SourceFailed, WriterSink, write_all,
+    ClosedSource, FileSource, ReaderSource, Sink, SinkFailed, Source, SourceFailed, WriterSink,
+    write_all,
 };
 use std::fs::File;
 use std::test::Fail;
@@ -50,4 +51,15 @@ fn a_closed_source_fails(rt: HostRuntime) {
     for _ in 0..3u8 {
         assert_eq!(rt; source.read(&mut buffer), Err(SourceFailed));
     }
+}
+
+#[test]
+fn a_reader_gives_its_bytes(rt: HostRuntime) {
+    let mut source = ReaderSource::new(b"abcde".as_slice());
+    let mut buffer = [0; 3];
+    assert_eq!(rt; source.read(&mut buffer), Ok(3));
+    assert_eq!(rt; buffer.as_slice(), b"abc".as_slice());
+    assert_eq!(rt; source.read(&mut buffer), Ok(2));
+    assert_eq!(rt; &buffer[..2], b"de".as_slice());
+    assert_eq!(rt; source.read(&mut buffer), Ok(0));
 }
