@@ -33,16 +33,16 @@ pub record HaltsAt {A : Type 0} (form : Form A) (old : List Bool) (items : List 
   pub taken : items ≡ items_along form values ++ left
 
 -- What a writer of a form answers, and what the bits and the items are then.
-abbrev pub IsWritten : {A B : Type 0} → Form A → List Bool → List Item → Result B SpellError → List Bool → List Item → Type 0
-IsWritten {A} form old items (Ok b) new left = (end : A) × IsSpelled form old items new left end
-IsWritten form old items (Err errors.Memory) new left = (cell : Cell ℕ) × HaltsAt form old items new left cell
-IsWritten form old items (Err errors.NoValue) new left = (cell : Cell ℕ) × HaltsAt form old items new left cell × TellsNoValue cell left
+abbrev pub HasWritten : {A B : Type 0} → Form A → List Bool → List Item → Result B SpellError → List Bool → List Item → Type 0
+HasWritten {A} form old items (Ok b) new left = (end : A) × IsSpelled form old items new left end
+HasWritten form old items (Err errors.Memory) new left = (cell : Cell ℕ) × HaltsAt form old items new left cell
+HasWritten form old items (Err errors.NoValue) new left = (cell : Cell ℕ) × HaltsAt form old items new left cell × TellsNoValue cell left
 
 -- What a writer answers for items of values.
-abbrev pub IsAccepted : {B : Type 0} → Result B SpellError → Type 0 → Type 0
-IsAccepted (Ok b) P = P
-IsAccepted (Err errors.Memory) P = Unit {0}
-IsAccepted (Err errors.NoValue) P = ⊥
+abbrev pub IsWritten : {B : Type 0} → Result B SpellError → Type 0 → Type 0
+IsWritten (Ok b) P = P
+IsWritten (Err errors.Memory) P = Unit {0}
+IsWritten (Err errors.NoValue) P = ⊥
 
 -- What a writer answers for other items.
 abbrev pub IsRejected : {B : Type 0} → Result B SpellError → Type 0
@@ -57,10 +57,10 @@ pub record AreItemsOf {A : Type 0} (form : Form A) (items : List Item) (values :
 -- A writer's answer, whole, unless memory runs out (the law `read_back` says how what it wrote is read):
 pub record Writes {A B : Type 0} (form : Form A) (old : List Bool) (items : List Item) (result : Result B SpellError) (new : List Bool) (left : List Item) : Type 0 where
   -- what it answers is so;
-  pub is : IsWritten form old items result new left
+  pub is : HasWritten form old items result new left
   -- where the items begin with those of values that follow the form, these are spelled, and exactly their items taken;
   pub only : (values : List ℤ) (end : A) (more : List Item) → AreItemsOf form items values end more
-      → IsAccepted result ((new ≡ old ++ bits_along form (length old) values) × (left ≡ more))
+      → IsWritten result ((new ≡ old ++ bits_along form (length old) values) × (left ≡ more))
   -- where they begin with those of no values that follow it, no value is written.
   pub none : ((values : List ℤ) (end : A) (more : List Item) → AreItemsOf form items values end more → ⊥) → IsRejected result
 
