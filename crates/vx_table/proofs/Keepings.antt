@@ -1,8 +1,7 @@
 -- A walk of sifting gains the kept items.
-use Rattle.std.proofs.Common.{◌≡◌, ℕ, ℤ, List, [], ◌∷◌, ◌++◌, Result, Ok, Err, refl, ap, sym, subst, ◌∙◌}
+use Rattle.std.proofs.Common.{◌≡◌, ℤ, List, [], ◌∷◌, ◌++◌, Result, Ok, Err, refl, ap, sym, subst, ◌∙◌}
 use Rattle.std.proofs.lemmas.List.{append-nil, append_assoc}
 use Rattle.vx_bits.specs.declared.list.Item.{Item}
-use Rattle.vx_table.specs.declared.rows.Cell.{Cell}
 use Rattle.vx_table.specs.declared.writer.SpellError.{SpellError}
 use Rattle.vx_table.specs.declared.writer.SpellError.TheVariants as errors
 use Rattle.vx_table.specs.Forms.{Form, field}
@@ -12,6 +11,7 @@ use Rattle.vx_table.specs.Values.{Follows, to_end, through}
 use Rattle.vx_table.specs.Writing.{IsWritten}
 use Rattle.vx_table.specs.Kept.{kept_item, kept_along, keeps_field, IsKept, Keeps}
 use Rattle.vx_table.proofs.Items.{item_apart}
+use Rattle.vx_table.proofs.Writings.{written_more}
 
 is_kept : {A : Type 0} {form : Form A} {items into left new : List Item} {a : A} → Walks keeps_field form items into (Ok a) left new → IsKept form items into a left new
 is_kept {into} ended = record { values = []; follows = to_end; taken = refl; gained = sym (append-nil into) }
@@ -23,11 +23,6 @@ is_kept {form = field cell goes} {into} {left} {new} (coded {v} s walk) =
       taken = s.1 ∙ ap (λ x. item_of cell v ++ x) rest.taken ∙ sym (append_assoc (item_of cell v) (items_along (goes v) rest.values) left);
       gained = rest.gained ∙ ap (λ x. x ++ kept_along (goes v) rest.values) s.2 ∙ append_assoc into (kept_item cell v) (kept_along (goes v) rest.values);
     }
-
-kept_more : {B P Q : Type 0} (result : Result B SpellError) → (P → Q) → IsWritten result P → IsWritten result Q
-kept_more (Ok b) f p = f p
-kept_more (Err errors.Memory) f p = tt
-kept_more (Err errors.NoValue) f p = p
 
 -- the scope at the end, where there is one
 ends_at : {A : Type 0} → Result A SpellError → A → Type 0
@@ -48,7 +43,7 @@ kept_only {form = field cell goes} {items} {into} {left} {new} {result} {b} more
     let on : Follows (goes v) w b = subst (λ x. Follows (goes x) w b) same.0 rest in
     let ahead : d ≡ items_along (goes v) w ++ more = sym same.1 ∙ ap (λ x. items_along (goes x) w ++ more) same.0 in
     let here : IsWritten result ((new ≡ into ++ kept_along (field cell goes) (v ∷ w)) × (left ≡ more) × ends_at result b)
-    = kept_more result (λ p. (p.0 ∙ ap (λ x. x ++ kept_along (goes v) w) s.2 ∙ append_assoc into (kept_item cell v) (kept_along (goes v) w), p.1, p.2)) (kept_only more walk on ahead) in
+    = written_more result (λ p. (p.0 ∙ ap (λ x. x ++ kept_along (goes v) w) s.2 ∙ append_assoc into (kept_item cell v) (kept_along (goes v) w), p.1, p.2)) (kept_only more walk on ahead) in
     subst (λ x. IsWritten result ((new ≡ into ++ kept_along (field cell goes) (x ∷ w)) × (left ≡ more) × ends_at result b)) (sym same.0) here
 
 pub keeps : {A B : Type 0} {form : Form A} {items into left new : List Item} (a : A) (result : Result B SpellError) → Walks keeps_field form items into (leaving a result) left new

@@ -12,7 +12,7 @@ use Rattle.vx_table.specs.Values.{IsValueOf}
 use Rattle.vx_table.specs.Writing.{writes_field, IsWritten, Writes}
 use Rattle.vx_table.proofs.Items.{item_apart}
 
-written_more : {B P Q : Type 0} (result : Result B SpellError) → (P → Q) → IsWritten result P → IsWritten result Q
+pub written_more : {B P Q : Type 0} (result : Result B SpellError) → (P → Q) → IsWritten result P → IsWritten result Q
 written_more (Ok b) f p = f p
 written_more (Err errors.Memory) f p = tt
 written_more (Err errors.NoValue) f p = p
