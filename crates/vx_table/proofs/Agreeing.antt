@@ -1,6 +1,6 @@
 -- Scopes that agree on a set of names, and what formulas over these are.
-use Rattle.std.proofs.Common.{◌≡◌, ◌≢◌, inl, inr, ℕ, zero, suc, ◌<◌, ◌≤◌, Bool, true, false, cond, not, ◌&&◌, ◌||◌, IsTrue, IsFalse, List, length, slice_index, slice_set, refl, ap, sym, ◌∙◌, true≢false, arith}
-use Rattle.std.proofs.lemmas.Bool.{cases_Bool, cases_eq, cases_lt, and_parts, or_cases, not-true}
+use Rattle.std.proofs.Common.{◌≡◌, ◌≢◌, inl, inr, ℕ, Bool, true, false, cond, ◌&&◌, IsTrue, IsFalse, List, length, slice_set, refl, ap, sym, ◌∙◌, true≢false, arith}
+use Rattle.std.proofs.lemmas.Bool.{cases_Bool, cases_eq, cases_lt, and_parts}
 use Rattle.std.proofs.lemmas.Grind.{get_or-set_at}
 use Rattle.std.proofs.lemmas.List.{length-set, get_or-set_other, get_or_past, set_past}
 use Rattle.vx_table.specs.declared.rows.Term.{Term}
@@ -13,8 +13,8 @@ use Rattle.vx_table.specs.declared.rows.Limits.{Limits}
 use Rattle.vx_table.specs.declared.rows.Limits.TheVariants as ranges
 use Rattle.vx_table.specs.declared.rows.Cell.{Cell}
 use Rattle.vx_table.specs.Scope.{is_set, latest, value}
-use Rattle.vx_table.specs.Forms.{has_value, coding_at, limits_at, cell_at, after}
-use Rattle.vx_table.specs.Depends.{has, Agree, knows, knows_formula, knows_width, knows_range, knows_cell, grown, behind_field}
+use Rattle.vx_table.specs.Forms.{has_value, coding_at, limits_at, cell_at}
+use Rattle.vx_table.specs.Depends.{has, Agree, knows, knows_formula, knows_width, knows_range, knows_cell, grown}
 
 -- One set of names lies within another.
 pub record Inside (known shown : List ℕ) : Type 0 where

@@ -1,5 +1,5 @@
 -- Where the test of a table holds, its forms at scopes that agree are alike.
-use Rattle.std.proofs.Common.{◌≡◌, inl, inr, ℕ, ℤ, pos, zero, suc, ◌+◌, ◌-◌, ◌≤◌, min, Bool, true, false, cond, not, ◌&&◌, ◌||◌, ◌==◌, IsTrue, IsFalse, List, [], ◌∷◌, length, take, slice_set, refl, ap, sym, subst, ◌∙◌, arith}
+use Rattle.std.proofs.Common.{◌≡◌, inl, inr, ℕ, ℤ, zero, suc, ◌+◌, ◌-◌, ◌≤◌, min, Bool, true, false, cond, not, ◌&&◌, ◌||◌, ◌==◌, IsFalse, List, [], ◌∷◌, length, take, slice_set, refl, subst, arith}
 use Rattle.std.proofs.lemmas.List.{take_all}
 use Rattle.std.proofs.lemmas.Bool.{cases_Bool, and_parts, or_cases, not-true, and_from}
 use Rattle.vx_table.specs.declared.rows.Formula.{Formula}
@@ -8,11 +8,11 @@ use Rattle.vx_table.specs.declared.rows.Presence.{Presence}
 use Rattle.vx_table.specs.declared.rows.Presence.TheVariants.{When, Repeat}
 use Rattle.vx_table.specs.declared.rows.Row.{Row}
 use Rattle.vx_table.specs.declared.rows.Row.TheVariants.{Field, Block, Name}
-use Rattle.vx_table.specs.Scope.{value, natural, is_set}
+use Rattle.vx_table.specs.Scope.{value, natural}
 use Rattle.vx_table.specs.Forms.{Form, done, field, ◌>>=◌, has_value, coding_at, cell_at, after, one_field, turns, present, part, form_of}
 use Rattle.vx_table.specs.Depends.{has, Agree, Alike, at_ends, both, hidden_left, hidden_right, knows_formula, knows_cell, knows_presence, hides_counter, hides_row, hides, grown, behind_field, within_block, block_depends, depends, table_depends, sections_depend, with_all, set_of, depends_only_on, sections_depend_only_on, DependsOnlyOn}
-use Rattle.vx_table.specs.Parts.{Section, section_form, sections_form}
-use Rattle.vx_table.proofs.Agreeing.{Inside, inside_itself, not_both_ways, agree_itself, agree_back, agree_on, agree_less, agree_set, agree_outside, grown_other, inside_grown, with_one, grows, same_value, same_cell, valued}
+use Rattle.vx_table.specs.Parts.{Section, sections_form}
+use Rattle.vx_table.proofs.Agreeing.{Inside, inside_itself, agree_itself, agree_back, agree_on, agree_less, agree_set, agree_outside, grown_other, inside_grown, with_one, grows, same_value, same_cell, valued}
 
 pub alike_less : {shown known more : List ℕ} {f g : Form (List ℕ)} → Inside known more → Alike shown more f g → Alike shown known f g
 alike_less inside (at_ends agree) = at_ends (agree_less inside agree)

@@ -1,12 +1,12 @@
 -- What structures with alike forms have in common.
-use Rattle.std.proofs.Common.{◌≡◌, inl, inr, ℕ, ℤ, Bool, true, false, cond, IsTrue, IsFalse, List, [], ◌∷◌, ◌++◌, slice_set, refl, ap, sym, subst, ◌∙◌}
+use Rattle.std.proofs.Common.{◌≡◌, inl, inr, ℕ, ℤ, true, false, cond, IsTrue, IsFalse, List, [], ◌∷◌, ◌++◌, slice_set, refl, sym, subst, ◌∙◌}
 use Rattle.std.proofs.lemmas.Bool.{cases_Bool}
 use Rattle.vx_bits.specs.declared.list.Item.{Item}
 use Rattle.vx_table.specs.declared.rows.Cell.{Cell}
 use Rattle.vx_table.specs.Scope.{loaded, natural}
-use Rattle.vx_table.specs.Forms.{Form, done, field, has_value}
+use Rattle.vx_table.specs.Forms.{Form, field, has_value}
 use Rattle.vx_table.specs.Spelling.{item_of, items_along}
-use Rattle.vx_table.specs.Values.{IsValueOf, Follows, to_end, through}
+use Rattle.vx_table.specs.Values.{Follows, to_end, through}
 use Rattle.vx_table.specs.Depends.{has, Agree, Alike, at_ends, both, hidden_left, hidden_right}
 use Rattle.vx_table.specs.Shown.{shown_items, shown_cells, CellsFollowItems, ScopesFollowItems, AlikeTogether}
 use Rattle.vx_table.proofs.Items.{item_apart}

@@ -1,6 +1,6 @@
 -- Where the stars of a table tell what is shown, its forms keep the shown fields, and the kept items tell these.
-use Rattle.std.proofs.Common.{◌≡◌, inl, inr, ℕ, ℤ, pos, zero, suc, ◌+◌, ◌-◌, min, Bool, true, false, cond, not, ◌&&◌, ◌||◌, ◌==◌, IsTrue, IsFalse, List, [], ◌∷◌, ◌++◌, length, slice_set, refl, ap, sym, subst, ◌∙◌}
-use Rattle.std.proofs.lemmas.Bool.{cases_Bool, and_parts, or_cases, not-true}
+use Rattle.std.proofs.Common.{◌≡◌, inl, inr, ℕ, ℤ, zero, suc, ◌+◌, ◌-◌, min, Bool, true, false, cond, not, ◌&&◌, ◌==◌, IsTrue, List, [], ◌∷◌, ◌++◌, length, slice_set, refl, ap, sym, subst, ◌∙◌}
+use Rattle.std.proofs.lemmas.Bool.{cases_Bool, and_parts, not-true}
 use Rattle.vx_bits.specs.declared.list.Item.{Item}
 use Rattle.vx_table.specs.declared.rows.Formula.{Formula}
 use Rattle.vx_table.specs.declared.rows.Coding.{Coding}
@@ -11,12 +11,13 @@ use Rattle.vx_table.specs.declared.rows.Presence.TheVariants.{When, Repeat}
 use Rattle.vx_table.specs.declared.rows.Row.{Row}
 use Rattle.vx_table.specs.declared.rows.Row.TheVariants.{Field, Block, Name}
 use Rattle.vx_table.specs.Scope.{value}
-use Rattle.vx_table.specs.Forms.{Form, done, field, ◌>>=◌, has_value, coding_at, cell_at, after, one_field, turns, present, part, form_of}
+use Rattle.vx_table.specs.Forms.{Form, done, field, ◌>>=◌, coding_at, cell_at, after, one_field, turns, present, part, form_of}
 use Rattle.vx_table.specs.Parts.{Section, sections_form}
 use Rattle.vx_table.specs.Spelling.{HasCode}
 use Rattle.vx_table.specs.Values.{Follows, to_end, through}
 use Rattle.vx_table.specs.Depends.{has, with_all, set_of, Agree, Alike, at_ends, both, hidden_left, hidden_right}
 use Rattle.vx_table.specs.Kept.{stands_for_field, kept_item, kept_along}
+use Rattle.vx_table.proofs.Items.{same_value}
 use Rattle.vx_table.specs.Shown.{shown_cells, KeepsShown, KeepsOnly, CellsFollowKept, KeptTellsKept, star_tells, stars_tell, sections_stars_tell}
 
 keeps_then : (shown : List ℕ) (f : Form (List ℕ)) (next : List ℕ → Form (List ℕ)) → KeepsShown shown f → ((t : List ℕ) → KeepsShown shown (next t)) → KeepsShown shown (f >>= next)
@@ -92,13 +93,6 @@ table_keeps_only given shown rows h = record { keeps = λ s. table_keeps (with_a
 pub structure_keeps_only : (given shown : List ℕ) (sections : List Section) → sections_stars_tell (with_all (set_of given) shown) sections ≡ true → KeepsOnly given shown (sections_form sections)
 structure_keeps_only given shown sections h = record { keeps = λ s. sections_keep (with_all (set_of given) shown) sections s h }
 
--- two items of one field
-same_kept : (at : ℕ) (v w : ℤ) (r s : List Item) → (record { field = at; value = v } ∷ []) ++ r ≡ (record { field = at; value = w } ∷ []) ++ s → (v ≡ w) × (r ≡ s)
-same_kept at v w r s e =
-    let first : ◌≡◌ {A = Item} (record { field = at; value = v }) (record { field = at; value = w }) = cc in
-    let behind : r ≡ s = cc in
-    (ap (λ (item : Item). item.value) first, behind)
-
 -- what stands for no field has one value
 only_value : (coding : Coding ℕ) (v w : ℤ) → stands_for_field coding ≡ false → HasCode coding v → HasCode coding w → v ≡ w
 unfolding stands_for_field HasCode
@@ -119,7 +113,7 @@ no_two false = refl
 kept_apart : (cell : Cell ℕ) (v w : ℤ) (r s : List Item) → (IsTrue (stands_for_field cell.coding) → cell.kept ≡ true) → HasCode cell.coding v → HasCode cell.coding w
     → kept_item cell v ++ r ≡ kept_item cell w ++ s → (v ≡ w) × (r ≡ s)
 kept_apart cell v w r s keeps a b e = elim (cases_Bool (stands_for_field cell.coding)) [
-  | inl stands ↦ same_kept cell.field v w r s (rw (keeps stands, stands) at e)
+  | inl stands ↦ same_value cell.field v w r s (rw (keeps stands, stands) at e)
   | inr none ↦ (only_value cell.coding v w none a b, rw (none, no_two cell.kept) at e)
 ]
 

@@ -9,7 +9,7 @@ use Rattle.vx_table.specs.declared.writer.SpellError.TheVariants as errors
 use Rattle.vx_table.specs.Forms.{Form, done, field}
 use Rattle.vx_table.specs.Spelling.{item_of, items_along}
 use Rattle.vx_table.specs.Values.{IsValueOf, Follows}
-use Rattle.vx_table.specs.Writing.{IsAccepted}
+use Rattle.vx_table.specs.Writing.{IsWritten}
 
 -- a field, or an absent one that stands among the kept ones, and no gap
 unfoldable pub stands_for_field : {N : Type 0} → Coding N → Bool
@@ -56,4 +56,4 @@ pub record Keeps {A B : Type 0} (form : Form A) (items into : List Item) (result
   pub is : OnAnswer result (IsKept form items into a left new)
   -- where the items begin with those of values of the form, the kept ones of these are gained.
   pub only : (values : List ℤ) (b : A) (more : List Item) → Follows form values b → items ≡ items_along form values ++ more
-      → IsAccepted result ((new ≡ into ++ kept_along form values) × (left ≡ more) × (a ≡ b))
+      → IsWritten result ((new ≡ into ++ kept_along form values) × (left ≡ more) × (a ≡ b))

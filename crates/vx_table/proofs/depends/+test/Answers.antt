@@ -1,5 +1,4 @@
-use Rattle.std.proofs.Common.{arith, refl, sym, ◌∙◌, length, [], ◌∷◌}
-use Rattle.vx_table.specs.Depends.{depends, table_depends}
+use Rattle.std.proofs.Common.{arith, sym, ◌∙◌}
 use Rattle.vx_table.proofs.Testing.{test-none, test-field, test-block, test-name}
 use Rattle.vx_table.proofs.depends.+test.Goals as goal
 
