@@ -283,6 +283,26 @@ fn structure(bits: &mut BitReader<'_>, which: u8, fields: &mut Fields) -> Result
 }
 
 #[test]
+fn refuses_short_structures(rt: HostRuntime) {
+    // The second sublayer's field 32 is missing; and behind 0 0 0 1 field 54 isn't whole.
+    let cases: [(u8, [u8; 9], usize, u16, u32); 2] = [
+        (3, [0xa7, 0, 0, 0, 0, 0, 0, 0, 0], 1, 32, 8),
+        (0, [0, 0, 0, 1, 0, 0, 0, 2, 0x10], 9, 54, 68),
+    ];
+    for (which, bytes, length, field, bit) in cases {
+        let Some(rbsp) = bytes.get(..length) else {
+            continue;
+        };
+        if rbsp.len() > 9 {
+            continue;
+        }
+        let mut fields = Fields::new(rt.alloc());
+        let read = structure(&mut BitReader::new(rbsp), which, &mut fields);
+        assert_eq!(rt; read, syntax(field, bit, BitCause::Short).map(|_| ()));
+    }
+}
+
+#[test]
 fn writes_what_was_read(rt: HostRuntime) -> Result<(), Fail> {
     // With a one and zeros behind the bits that were read.
     let cases: [(u8, [u8; 11], usize, [u8; 11], usize); 4] = [
