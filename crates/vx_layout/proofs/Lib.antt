@@ -1,4 +1,5 @@
 pub mod Agreeing
+pub mod Corners
 pub mod Counted
 pub mod Counting
 pub mod Cutting

@@ -6,7 +6,7 @@ use Rattle.vx_layout.specs.declared.rect.Rect.{Rect}
 use Rattle.vx_layout.specs.Bounds.{Rises}
 use Rattle.vx_layout.specs.Faults.{IsInLimits, IsLayout}
 use Rattle.vx_layout.specs.Groups.{AreGroups}
-use Rattle.vx_layout.specs.Rects.{slices_of}
+use Rattle.vx_layout.specs.Rects.{in_order, slices_of}
 
 -- no rectangle: what stands past the end of a list
 abbrev pub no_rect : Rect
@@ -23,6 +23,10 @@ slices_in n k = slices_of n.slices (subpic_at n k)
 -- its slice of address m
 abbrev pub slice_at : Numbers → ℕ → ℕ → Rect
 slice_at n k m = slice_index_or (slices_in n k) m no_rect
+
+-- slice i of all slices, by rising subpicture and then by their place in the slice list
+abbrev pub ordered_at : Numbers → ℕ → Rect
+ordered_at n i = slice_index_or (in_order n.slices n.subpics) i no_rect
 
 -- what holds of the numbers of each layout
 pub record IsSound (n : Numbers) : Type 0 where

@@ -3,7 +3,7 @@ ghost use Rattle.std.specs.Prelude.{◌≡◌, ℕ, ◌+◌, ◌-◌, ◌<◌, �
 ghost use Rattle.vx_layout.specs.Bounds.{Rises, bounds_of, last, sizes_between, sums_after, tile_sizes};
 ghost use Rattle.vx_layout.specs.Faults.{IsLayout, LiesIn, height, width};
 ghost use Rattle.vx_layout.specs.Heights.{written_heights};
-ghost use Rattle.vx_layout.specs.Layouts.{IsSound, slice_at, slices_in, subpic_at};
+ghost use Rattle.vx_layout.specs.Layouts.{IsSound, ordered_at, slice_at, slices_in, subpic_at};
 ghost use Rattle.vx_layout.specs.Rects.{CoversOnce, fits, holds, in_order};
 ghost use Rattle.vx_layout.specs.Regions.{counted_from, cut, moved, region_of};
 ghost use Rattle.vx_layout.specs.Scan.{ctus};
@@ -18,6 +18,13 @@ pub fn in_order_covers_once()
 /// The slices of a subpicture cover it once, and nothing of the picture outside it.
 pub fn slices_cover_subpicture()
     ensures { (n : Numbers) (k x y : ℕ) → IsLayout n → k < length n.subpics → x < width n → y < height n → count_by (λ r. holds r x y) (slices_in n k) ≡ cond (holds (subpic_at n k) x y) 1 0 }
+{}
+
+/// Of the slices of a layout that hold a CTU, in their order, the first holds the upper left CTU of the picture, and
+/// the last the lower right one.
+pub fn corners_in_order()
+    ensures first { (n : Numbers) (i j x y : ℕ) → IsLayout n → i < length (in_order n.slices n.subpics) → j < length (in_order n.slices n.subpics) → holds (ordered_at n i) 0 0 ≡ true → holds (ordered_at n j) x y ≡ true → i ≤ j }
+    ensures last { (n : Numbers) (i j x y : ℕ) → IsLayout n → i < length (in_order n.slices n.subpics) → j < length (in_order n.slices n.subpics) → holds (ordered_at n i) (width n - 1) (height n - 1) ≡ true → holds (ordered_at n j) x y ≡ true → j ≤ i }
 {}
 
 /// The region of a layout's subpicture is a layout.

@@ -1,4 +1,7 @@
 //! A picture's layout: numbers without a fault, and its slices by subpicture and address.
+ghost use Rattle.std.specs.Prelude.{OnOk, IfOk, IfErr};
+ghost use Rattle.vx_layout.specs.Faults.{IfFault, IsInLimits, IsLayout, IsLowestFault};
+ghost use Rattle.vx_layout.specs.Groups.{AreGroups};
 
 use crate::entry::count_entries;
 use crate::faults::{check_order, check_slices, check_subpics, check_tiles};
@@ -50,11 +53,7 @@ impl Layout {
         ensures sound { OnOk result (IsLayout numbers) }
         ensures fault { IfErr result (λ e. IfFault e (IsLowestFault numbers)) }
     {
-        let owners = check_subpics(alloc, &numbers)?;
-        check_tiles(alloc, &numbers)?;
-        check_slices(alloc, &numbers)?;
-        let groups = group_slices(alloc, &numbers, &owners)?;
-        check_order(alloc, &numbers, &groups)?;
+        let groups = checked_groups(alloc, &numbers)?;
         Ok(Layout { numbers, groups })
     }
 
@@ -118,4 +117,23 @@ impl Layout {
             subpics,
         })
     }
+}
+
+/// The slices of each subpicture, where numbers have no fault.
+///
+/// # Errors
+///
+/// The lowest fault, exactly where there is one.
+fn checked_groups(alloc: Global, numbers: &Numbers) -> Result<Vec<RectList>, LayoutError>
+    requires { IsInLimits numbers.now }
+    ensures groups { IfOk result (λ groups. AreGroups groups.items numbers.now.slices numbers.now.subpics) }
+    ensures sound { OnOk result (IsLayout numbers.now) }
+    ensures fault { IfErr result (λ e. IfFault e (IsLowestFault numbers.now)) }
+{
+    let owners = check_subpics(alloc, numbers)?;
+    check_tiles(alloc, numbers)?;
+    check_slices(alloc, numbers)?;
+    let groups = group_slices(alloc, numbers, &owners)?;
+    check_order(alloc, numbers, &groups)?;
+    Ok(groups)
 }
