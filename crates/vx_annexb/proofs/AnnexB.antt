@@ -210,6 +210,18 @@ module _ (before : List ℕ) (z : ℕ) (unit rest : List ℕ) (p : ℕ) (is : le
       (λ zs. last_is (zs.1.each (s + (length unit - 1)) (omega arith) (omega (arith, length-whole))))
       c
 
+-- zeros, and nothing behind them
+zeros_to_end : (b : List ℕ) (e z : ℕ) → length b ≡ e + length {A = ℕ} (replicate z 0 ++ []) → ((k : ℕ) → slice_index b (e + k) ≡ slice_index (replicate z 0 ++ []) k) → AreZeros b e (length b)
+zeros_to_end b e z len at =
+    let n : length {A = ℕ} (replicate z 0 ++ []) ≡ z = simp (length-append, length-replicate) (omega arith) in
+    record {
+      order = omega arith;
+      within = omega arith;
+      each = λ k le lt.
+          let same : e + (k - e) ≡ k = omega arith in
+          ap (slice_index b) (sym same) ∙ at (k - e) ∙ get_or_append_left (replicate z 0) [] 0 (k - e) (omega (arith, length-zeros z)) ∙ get_or-replicate z (k - e) 0 0 (omega (arith, n));
+    }
+
 -- 00 00 and a byte of at most 1 end a unit
 code_ends : (b : List ℕ) (e x : ℕ) (rest : List ℕ) → length b ≡ e + length (0 ∷ 0 ∷ x ∷ rest) → ((k : ℕ) → slice_index b (e + k) ≡ slice_index (0 ∷ 0 ∷ x ∷ rest) k) → x ≤ 1 → CanEnd b true e
 code_ends b e x rest len at small =
@@ -219,17 +231,7 @@ code_ends b e x rest len at small =
 -- what stands behind a unit: zeros to the end, or a start code behind zeros
 rest_ends : (b : List ℕ) (e : ℕ) (z : ℕ) (parts : List Part) → length b ≡ e + length (replicate z 0 ++ flat_map part_bytes parts) → ((k : ℕ) → slice_index b (e + k) ≡ slice_index (replicate z 0 ++ flat_map part_bytes parts) k) → CanEnd b true e
 rest_ends b e z [] len at =
-    let n : length {A = ℕ} (replicate z 0 ++ flat_map part_bytes []) ≡ z = simp (length-append, length-replicate) (omega arith) in
-    inr (
-      refl,
-      record {
-        order = omega arith;
-        within = omega arith;
-        each = λ k le lt.
-            let same : e + (k - e) ≡ k = omega arith in
-            ap (slice_index b) (sym same) ∙ at (k - e) ∙ get_or_append_left (replicate z 0) [] 0 (k - e) (omega (arith, length-zeros z)) ∙ get_or-replicate z (k - e) 0 0 (omega (arith, n));
-      },
-    )
+    inr (refl, zeros_to_end b e z len at)
 rest_ends b e zero (q ∷ qs) len at = code_ends b e 1 _ len at (omega arith)
 rest_ends b e (suc zero) (q ∷ qs) len at = code_ends b e 0 (drop 2 (flat_map part_bytes (q ∷ qs))) len at (omega arith)
 rest_ends b e (suc (suc zero)) (q ∷ qs) len at = code_ends b e 0 (drop 1 (flat_map part_bytes (q ∷ qs))) len at (omega arith)
@@ -242,17 +244,8 @@ Follow b p z parts = FollowsFrom b true p (places_from (p + z) parts) × AreZero
 follow_parts : (before : List ℕ) (p z : ℕ) (parts : List Part) → length before ≡ p → AreSound parts → Follow (before ++ (replicate z 0 ++ flat_map part_bytes parts)) p z parts
 unfolding Follow whole
 follow_parts before p z [] len sound =
-    let n : length (before ++ (replicate z 0 ++ flat_map part_bytes [])) ≡ p + z = simp (length-append, length-replicate) (omega (arith, len)) in (
-      tt,
-      record {
-        order = omega arith;
-        within = omega arith;
-        each = λ k le lt.
-            let same : p + (k - p) ≡ k = omega arith in
-            let g = get_or-append-add before (replicate z 0 ++ []) (k - p) 0 in
-            ap (slice_index (before ++ (replicate z 0 ++ []))) (sym same) ∙ (rw len at g) ∙ get_or_append_left (replicate z 0) [] 0 (k - p) (omega (arith, length-zeros z)) ∙ get_or-replicate z (k - p) 0 0 (omega arith);
-      },
-    )
+    let at : (k : ℕ) → slice_index (before ++ (replicate z 0 ++ [])) (p + k) ≡ slice_index (replicate z 0 ++ []) k = λ k. rw (← len) (get_or-append-add before (replicate z 0 ++ []) k 0) in
+    (tt, zeros_to_end (before ++ (replicate z 0 ++ [])) p z (omega (arith, length-append before (replicate z 0 ++ []), len)) at)
 follow_parts before p z (q ∷ qs) len sound =
     let rest = replicate q.zeros 0 ++ flat_map part_bytes qs in
     let same : before ++ (replicate z 0 ++ flat_map part_bytes (q ∷ qs)) ≡ whole before z q.unit rest = ap (λ xs. before ++ (replicate z 0 ++ (0 ∷ 0 ∷ 1 ∷ xs))) (append_assoc q.unit (replicate q.zeros 0) (flat_map part_bytes qs)) in
