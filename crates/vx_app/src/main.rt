@@ -26,10 +26,7 @@ fn main(rt: HostRuntime) -> ExitCode {
 // memory is found before the first read, nothing is written.
 fn status(rt: &HostRuntime) -> u8 {
     match words_of(rt) {
-        Ok(words) => match run_on_files(rt, &words) {
-            Ok(status) => status,
-            Err(AllocError) => 4,
-        },
+        Ok(words) => run_on_files(rt, &words).unwrap_or(4),
         Err(error) if error.kind() == ErrorKind::OutOfMemory => 4,
         Err(_) => 2,
     }
