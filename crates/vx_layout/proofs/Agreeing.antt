@@ -1,12 +1,10 @@
 -- A tile and a subpicture by their borders, and tiles by the places of their bounds.
-use Rattle.std.proofs.Common.{◌≡◌, ℕ, suc, zero, ◌+◌, ◌-◌, ◌<◌, ◌≤◌, Bool, true, false, ◌&&◌, ◌||◌, eqb, List, length, get_or, refl, ap, sym, ◌∙◌, subst, inl, inr, arith, ◌⊎◌}
+use Rattle.std.proofs.Common.{◌≡◌, ℕ, ◌+◌, ◌-◌, ◌<◌, ◌≤◌, true, false, ◌&&◌, List, length, get_or, refl, ap, sym, ◌∙◌, subst, inl, inr, arith}
 use Rattle.std.proofs.lemmas.Bool.{and_parts, and_from, both_ways, cases_lt, eqb-true, eq-eqb, not-true, not_from_false, cases_Bool, or_cases, or_left, or_right}
-use Rattle.std.specs.List.{Contains}
 use Rattle.vx_layout.specs.declared.rect.Rect.{Rect}
 use Rattle.vx_layout.specs.Bounds.{Rises}
-use Rattle.vx_layout.specs.Faults.{IsSpan, IsTile, LiesIn, Meet, NoneBetween, SameSides, SplitsWell, TileAgrees}
+use Rattle.vx_layout.specs.Faults.{IsSpan, IsTile, Meet, SplitsWell, TileAgrees}
 use Rattle.vx_layout.specs.Plain.{ColumnAgrees, agrees, meet}
-use Rattle.vx_layout.specs.Rects.{fits, holds}
 use Rattle.vx_layout.proofs.Holding.{holds_from, holds_tells}
 use Rattle.vx_layout.proofs.Members.{LiesIn-fits, fits-LiesIn}
 use Rattle.vx_layout.proofs.Preceding.{meet_from, meet_tells}

@@ -1,5 +1,5 @@
 -- Bounds told apart by their members, rectangles by their CTUs, and where tile bounds end.
-use Rattle.std.proofs.Common.{◌≡◌, ◌↔◌, ℕ, suc, zero, ◌+◌, ◌-◌, ◌*◌, ◌/◌, ◌%◌, ◌<◌, ◌≤◌, Bool, true, false, cond, eqb, List, [], ◌∷◌, ◌++◌, length, get_or, replicate, sum, refl, ap, sym, ◌∙◌, subst, inl, inr, arith, ◌⊎◌}
+use Rattle.std.proofs.Common.{◌≡◌, ◌↔◌, ℕ, ◌+◌, ◌-◌, ◌*◌, ◌/◌, ◌%◌, ◌<◌, ◌≤◌, true, eqb, List, [], ◌∷◌, length, replicate, sum, refl, ap, sym, ◌∙◌, subst, inl, inr, arith}
 use Rattle.std.proofs.lemmas.Bool.{cases_Bool, cases_lt, eqb-false, eqb-true}
 use Rattle.std.proofs.lemmas.List.Elements.{All-append, All-cons, All-head, All-nil, All-replicate, All-tail}
 use Rattle.std.proofs.lemmas.List.Folds.{sum_by-replicate}
@@ -8,7 +8,7 @@ use Rattle.std.specs.List.{All, Contains}
 use Rattle.vx_layout.specs.declared.rect.Rect.{Rect}
 use Rattle.vx_layout.specs.Bounds.{Rises, RisesAbove, bounds_of, last, last_after, repeated_sizes, sums_after, tile_sizes}
 use Rattle.vx_layout.specs.Faults.{LiesIn}
-use Rattle.vx_layout.specs.Rects.{fits, holds}
+use Rattle.vx_layout.specs.Rects.{fits}
 use Rattle.vx_layout.proofs.Counting.{holds-fits}
 use Rattle.vx_layout.proofs.Holding.{fits_empty, fits_from, holds_from, holds_tells}
 use Rattle.vx_layout.proofs.Splitting.{Contains-above, Contains-cases, Contains-cons}

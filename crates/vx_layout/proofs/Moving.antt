@@ -1,20 +1,20 @@
 -- A subpicture's layout counted from its corner.
-use Rattle.std.proofs.Common.{◌≡◌, ◌≢◌, ℕ, suc, zero, ◌+◌, ◌-◌, ◌*◌, ◌<◌, ◌≤◌, Bool, true, false, cond, ◌&&◌, ltb, List, [], ◌∷◌, ◌++◌, length, get_or, take, count_by, filter, map, refl, ap, sym, ◌∙◌, subst, inl, inr, arith, ◌⊎◌, length-append, zero-add}
+use Rattle.std.proofs.Common.{◌≡◌, ℕ, suc, zero, ◌+◌, ◌-◌, ◌<◌, ◌≤◌, true, cond, ◌&&◌, ltb, List, [], ◌∷◌, ◌++◌, length, get_or, take, count_by, map, refl, ap, sym, ◌∙◌, subst, inl, inr, arith, length-append, zero-add}
 use Rattle.std.proofs.lemmas.Bool.{cases_Bool, both_ways, false_from_ne_true}
-use Rattle.std.proofs.lemmas.List.{append-nil, get_or_default, get_or-map, length-map}
+use Rattle.std.proofs.lemmas.List.{append-nil, get_or-map, length-map}
 use Rattle.std.proofs.lemmas.List.Concat.{get_or-flat_map}
 use Rattle.std.proofs.lemmas.List.Elements.{All-head, All-tail, All-cons, All-nil}
 use Rattle.std.proofs.lemmas.List.Folds.{length-flat_map-take}
 use Rattle.std.proofs.lemmas.List.Sums.{count_by-le-length}
-use Rattle.std.specs.List.{All, AllPairs, Any, Contains, flat_map}
+use Rattle.std.specs.List.{All, AllPairs, Contains}
 use Rattle.vx_layout.specs.declared.numbers.Numbers.{Numbers}
 use Rattle.vx_layout.specs.declared.rect.Rect.{Rect}
 use Rattle.vx_layout.specs.Bounds.{Rises, last}
-use Rattle.vx_layout.specs.Faults.{IsInLimits, IsLayout, LiesIn, SlicesCover, SlicesFit, SlicesInOrder, SplitsWell, SubpicsCover, TilesSplit, width, height}
+use Rattle.vx_layout.specs.Faults.{IsLayout, SplitsWell, width, height}
 use Rattle.vx_layout.specs.Layouts.{IsSound, no_rect, slices_in, subpic_at}
-use Rattle.vx_layout.specs.Rects.{CoversOnce, IsPart, Precedes, fits, holds, in_order, slices_of}
+use Rattle.vx_layout.specs.Rects.{IsPart, Precedes, fits, holds, in_order, slices_of}
 use Rattle.vx_layout.specs.Regions.{counted_from, cut, inner, region_of, whole}
-use Rattle.vx_layout.proofs.Counting.{All-slices_of, count_by-cons, holds-fits, length-slices_of-le, slices_of-once}
+use Rattle.vx_layout.proofs.Counting.{All-slices_of, count_by-cons, length-slices_of-le, slices_of-once}
 use Rattle.vx_layout.proofs.Cutting.{CutSoFar, CutSoFar-more, CutSoFar-start, cut-all, cut-may}
 use Rattle.vx_layout.proofs.Holding.{fits_empty, fits_from, fits_tells, holds_from, holds_tells}
 use Rattle.vx_layout.proofs.Splitting.{SplitsWell-from}

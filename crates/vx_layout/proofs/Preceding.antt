@@ -1,10 +1,10 @@
 -- The order of two slices, by their borders.
-use Rattle.std.proofs.Common.{◌≡◌, ℕ, ◌+◌, ◌-◌, ◌<◌, ◌≤◌, max, min, Bool, true, false, ◌&&◌, not, ltb, List, length, get_or, refl, sym, subst, ◌∙◌, inl, inr, arith, ◌⊎◌}
+use Rattle.std.proofs.Common.{◌≡◌, ℕ, ◌+◌, ◌-◌, ◌<◌, ◌≤◌, max, min, true, false, List, length, get_or, sym, subst, ◌∙◌, inl, inr, arith}
 use Rattle.std.proofs.lemmas.Bool.{and_parts, and_from, and_cases, both_ways, ltb-true, lt-ltb, not-true, not-false}
 use Rattle.std.proofs.lemmas.List.{get_or_default}
 use Rattle.vx_layout.specs.declared.rect.Rect.{Rect}
 use Rattle.vx_layout.specs.Plain.{meet, precedes}
-use Rattle.vx_layout.specs.Rects.{Precedes, holds}
+use Rattle.vx_layout.specs.Rects.{Precedes}
 use Rattle.vx_layout.proofs.Holding.{holds_from, holds_tells}
 
 pub meet_from : (from size other other_size step n : ℕ) → other ≤ n → n < other + other_size → from ≤ n + step → n + step < from + size → meet from size other other_size step ≡ true

@@ -1,5 +1,5 @@
-use Rattle.std.proofs.Common.{◌≡◌, ℕ, ◌<◌, ◌≤◌, ◌++◌, true, false, take, count_by, filter}
-use Rattle.vx_layout.specs.Rects.{Precedes, fits, holds, slices_of}
+use Rattle.std.proofs.Common.{ℕ, ◌<◌}
+use Rattle.vx_layout.specs.Rects.{Precedes}
 use Rattle.std.specs.List.{slice_index_or}
 use Rattle.vx_layout.specs.declared.rect.Rect.{Rect}
 use Rattle.vx_layout.proofs.plain.all_precede.Given as goal

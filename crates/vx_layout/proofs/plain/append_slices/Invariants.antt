@@ -1,5 +1,5 @@
-use Rattle.std.proofs.Common.{◌≡◌, ℕ, ◌<◌, ◌≤◌, ◌++◌, true, false, take, count_by, filter}
-use Rattle.vx_layout.specs.Rects.{Precedes, fits, holds, slices_of}
+use Rattle.std.proofs.Common.{◌≡◌, ◌++◌, take}
+use Rattle.vx_layout.specs.Rects.{slices_of}
 use Rattle.vx_layout.proofs.plain.append_slices.Given as goal
 
 abbrev pub invariant-loop-i : goal.invariant-loop-i

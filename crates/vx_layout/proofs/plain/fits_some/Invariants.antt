@@ -1,5 +1,5 @@
-use Rattle.std.proofs.Common.{◌≡◌, ℕ, ◌<◌, ◌≤◌, ◌++◌, true, false, take, count_by, filter}
-use Rattle.vx_layout.specs.Rects.{Precedes, fits, holds, slices_of}
+use Rattle.std.proofs.Common.{◌≡◌, false}
+use Rattle.vx_layout.specs.Rects.{fits}
 use Rattle.std.specs.List.{AllWithin}
 use Rattle.vx_layout.proofs.plain.fits_some.Given as goal
 

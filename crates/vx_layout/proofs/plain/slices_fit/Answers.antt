@@ -1,4 +1,4 @@
-use Rattle.std.proofs.Common.{◌≡◌, ℕ, ◌<◌, true, length, arith, sym, subst}
+use Rattle.std.proofs.Common.{◌≡◌, ◌<◌, true, length, arith, sym, subst}
 use Rattle.std.proofs.lemmas.List.Elements.{AllWithin-more, at_read}
 use Rattle.std.specs.List.{Any}
 use Rattle.vx_layout.specs.Rects.{fits}

@@ -1,4 +1,3 @@
-use Rattle.std.proofs.Common.{◌≡◌, true, false}
 use Rattle.std.proofs.lemmas.Bool.{OnFalse_at, OnFalse_from, OnTrue_at, OnTrue_from}
 use Rattle.vx_layout.specs.Faults.{SubpicsCover, height, width}
 use Rattle.vx_layout.specs.Rects.{CoversOnce}

@@ -1,6 +1,4 @@
-use Rattle.std.proofs.Common.{◌≡◌, ℕ, ◌+◌, ◌-◌, ◌<◌, ◌≤◌, length, get_or, arith, sym, subst}
-use Rattle.vx_layout.specs.Faults.{IsSpan, TileAgrees}
-use Rattle.vx_layout.specs.Plain.{ColumnAgrees}
+use Rattle.std.proofs.Common.{◌+◌, ◌-◌, arith}
 use Rattle.vx_layout.proofs.Agreeing.{IsSpan-last, SplitsWell-column, tiles_more}
 use Rattle.vx_layout.proofs.Rising.{Rises-apart}
 use Rattle.vx_layout.proofs.plain.tiles_agree.Goals as goal
