@@ -16,11 +16,11 @@ exact-done words source out file performs spelled b units ending told is = sym (
 stopped : {A K E : Type 0} (source : Change A) (out : Change K) (err : Change E) (stop : Stop) (status : ℕ)
     → Shows source out (Err stop) → Concludes stop status err → ¬ HasFault source → ¬ HasFault out → status ≢ 4 → WhereTold source (λ b units ending. status ≡ status_at ending)
 stopped source out err (Refused refusal place) status shows ends read write fits b units ending told is =
-    elim ends.ended [ | inl p ↦ p.0 ∙ sym (ap status_at (shows.2 b units ending told is).0) | inr p ↦ absurd (fits p.1) ]
+    elim ends.ended [ inl p ↦ p.0 ∙ sym (ap status_at (shows.2 b units ending told is).0) | inr p ↦ absurd (fits p.1) ]
 stopped source out err (ReadFault k) status shows ends read write fits b units ending told is = absurd (read shows.0)
 stopped source out err WriteFault status shows ends read write fits b units ending told is = absurd (write shows.1)
 stopped source out err NoMemory status shows ends read write fits b units ending told is =
-    elim ends.ended [ | inl p ↦ absurd (fits p.0) | inr p ↦ absurd p.0 ]
+    elim ends.ended [ inl p ↦ absurd (fits p.0) | inr p ↦ absurd p.0 ]
 stopped source out err NotUnderstood status shows ends read write fits b units ending told is = absurd shows
 
 -- where it stopped without a fault, and not for want of memory, the ending is a refusal

@@ -3,7 +3,6 @@ use Rattle.std.proofs.Common.{◌≡◌, ℕ, List, [], ◌++◌, ◌∙◌, Opt
 use Rattle.std.specs.Io.KnownBytes.{Appends}
 use Rattle.std.proofs.KnownBytes.{Appends-nil, Appends-trans}
 use Rattle.vx_io.specs.Faults.{Rose}
-use Rattle.vx_io.specs.Written.{AppendsFront}
 use Rattle.vx_io.proofs.WrittenLemmas.{AppendsFront-append, AppendsFront-after}
 use Rattle.vx_app.specs.Change.{Change, change, Gains, GainsFront}
 

@@ -20,7 +20,7 @@ use Rattle.vx_app.specs.Change.{Change, change, change_at, Gains, GainsFront}
 use Rattle.vx_app.specs.Conclusion.{Outcome}
 use Rattle.vx_app.specs.Show.{source_limit, seen_of, is_within, ending_of, unit_line, unit_lines, shown_lines, behind_unit, IsShown, Shows}
 use Rattle.vx_app.specs.ShowSteps.{GivesAll, ShowsNext, HasShown, ShowsUnits}
-use Rattle.vx_app.proofs.Gained.{Gains-nothing, Gains-still, Gains-then, GainsFront-then, GainsFront-append}
+use Rattle.vx_app.proofs.Gained.{Gains-still, Gains-then, GainsFront-then, GainsFront-append}
 
 -- ---- one unit after the other
 

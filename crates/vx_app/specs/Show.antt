@@ -5,7 +5,7 @@ use Rattle.std.specs.Io.KnownBytes.{IsAtEnd}
 use Rattle.vx_bits.specs.declared.refusal.Refusal.{Refusal}
 use Rattle.vx_bits.specs.declared.refusal.Refusal.TheVariants.{Limit}
 use Rattle.vx_annexb.specs.NalUnit.{header_of}
-use Rattle.vx_annexb.specs.ByteStream.{UnitPlace, unit_bytes, IsStream, FollowsFrom}
+use Rattle.vx_annexb.specs.ByteStream.{UnitPlace, unit_bytes, IsStream}
 use Rattle.vx_report.specs.declared.refusal.Where.{Where}
 use Rattle.vx_report.specs.RefusalLine.{long_source}
 use Rattle.vx_report.specs.UnitLine.{unit_text}

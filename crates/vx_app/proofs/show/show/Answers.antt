@@ -1,4 +1,3 @@
-use Rattle.std.proofs.Common.{◌∙◌}
 use Rattle.std.proofs.lemmas.Result.{err_from_is_err_and}
 use Rattle.vx_app.proofs.Shown.{Shows-stopped, Shows-done, Shows-beyond}
 use Rattle.vx_app.proofs.show.show.Goals as goal
