@@ -16,7 +16,7 @@ use vx_bits::{Fields, Item};
 
 /// Whether a coding is that of a field, or of an absent one that stands among the kept ones.
 #[tactic(auto, unfolding(crate::specs::Kept::stands_for_field))]
-fn stands_for_field(coding: Coding<u32>) -> bool
+pub fn stands_for_field<N: Copy>(coding: Coding<N>) -> bool
     ensures { result ≡ kept.stands_for_field coding }
 {
     matches!(
