@@ -6,23 +6,12 @@ ghost use Rattle.vx_table.specs.Parts.{sections_of, sections_form};
 ghost use Rattle.vx_table.specs.Depends as sets;
 ghost use Rattle.vx_table.specs.Shown as stars;
 ghost use Rattle.vx_table.specs.Shown.{KeepsOnly};
-ghost use Rattle.vx_table.specs.Kept as kept;
 
 use crate::depends::{has, with_all};
+use crate::kept::stands_for_field;
 use crate::parts::Part;
-use crate::rows::{Coding, Formula, Row};
+use crate::rows::Row;
 use crate::scope::Scope;
-
-/// Whether a row's coding is that of a field, or of an absent one that stands among the kept ones.
-#[tactic(auto, unfolding(crate::specs::Kept::stands_for_field))]
-fn stands_for_field(coding: Coding<Formula>) -> bool
-    ensures { result ≡ kept.stands_for_field coding }
-{
-    matches!(
-        coding,
-        Coding::Fixed(_) | Coding::Golomb | Coding::SignedGolomb | Coding::Absent
-    )
-}
 
 /// Whether a row's field has a star exactly where it isn't shown.
 #[tactic(auto, unfolding(crate::specs::Shown::star_tells))]
