@@ -4,12 +4,14 @@
 //! these structures take the tables as parts of their own.
 #![tactic(auto)]
 
+mod depends;
 mod read;
 mod run;
 mod tables;
 #[cfg(test)]
 mod tests;
 
+pub use depends::{dpb_depends, ptl_depends, sublayer_timing_depends, timing_depends};
 pub use read::{read_dpb, read_ptl, read_sublayer_timing, read_timing, read_vps};
 pub use run::{is_run, write_run};
 pub use tables::{DPB, PTL, SUBLAYER_TIMING, TIMING, VPS};

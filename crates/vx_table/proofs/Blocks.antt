@@ -3,15 +3,15 @@ use Rattle.std.proofs.Common.{◌≡◌, ℕ, zero, suc, ◌+◌, ◌-◌, ◌�
 use Rattle.vx_table.specs.declared.rows.Formula.{Formula}
 use Rattle.vx_table.specs.declared.rows.Cell.{Cell}
 use Rattle.vx_table.specs.declared.rows.Row.{Row}
-use Rattle.vx_table.specs.declared.rows.Row.TheVariants.{Field, When, Repeat, Name}
+use Rattle.vx_table.specs.declared.rows.Row.TheVariants.{Field, Block, Name}
+use Rattle.vx_table.specs.declared.rows.Presence.{Presence}
 use Rattle.vx_table.specs.declared.rows.Coding.{Coding}
 use Rattle.vx_table.specs.declared.rows.Coding.TheVariants.{Fixed, Golomb, SignedGolomb, Zeros, OneAndZeros, Trailing, Absent, Refused}
 use Rattle.vx_table.specs.Spelling.{IsCodable}
 use Rattle.vx_table.specs.Scope.{value}
-use Rattle.vx_table.specs.Forms.{Form, ◌>>=◌, coding_at, one_field, turns, part, form_of}
+use Rattle.vx_table.specs.Forms.{Form, ◌>>=◌, coding_at, one_field, present, part, form_of}
 use Rattle.std.proofs.Math.Path.{fun_ext}
 use Rattle.std.proofs.lemmas.List.{take-append-drop, length-take-le, length-drop}
-use Rattle.std.proofs.lemmas.Bool.{ne_eqb}
 
 -- the rows behind the first few
 pub part-drop : (skip len : ℕ) (rows : List Row) (s : List ℕ) → part skip len rows s ≡ part 0 len (drop skip rows) s
@@ -33,11 +33,7 @@ part-append zero zero (row ∷ rows) more s fits = refl
 part-append zero (suc len) (Field c ∷ rows) more s fits =
     let next : part 0 len (rows ++ more) ≡ part 0 len rows = fun_ext (λ t. part-append 0 len rows more t (omega arith)) in
     ap (λ (rest : List ℕ → Form (List ℕ)). one_field s c >>= rest) next
-part-append zero (suc len) (When holds n ∷ rows) more s fits =
-    let behind = part-append (min n len) (len - min n len) rows more s (omega arith) in
-    let inside = part-append 0 len rows more s (omega arith) in
-    rw (behind, inside) refl
-part-append zero (suc len) (Repeat counter times n ∷ rows) more s fits =
+part-append zero (suc len) (Block presence n ∷ rows) more s fits =
     let block : part 0 (min n len) (rows ++ more) ≡ part 0 (min n len) rows = fun_ext (λ t. part-append 0 (min n len) rows more t (omega arith)) in
     let behind : part (min n len) (len - min n len) (rows ++ more) ≡ part (min n len) (len - min n len) rows
     = fun_ext (λ t. part-append (min n len) (len - min n len) rows more t (omega arith)) in
@@ -62,23 +58,15 @@ pub form-name : (name : ℕ) (formula : Formula) (rows : List Row) (s : List ℕ
 unfolding form_of part
 form-name name formula rows s = refl
 
--- the rows behind a block that is left out
+-- the rows behind a block
 pub form-drop : (n : ℕ) (rows : List Row) (s : List ℕ) → part (min n (length rows)) (length rows - min n (length rows)) rows s ≡ form_of (drop (min n (length rows)) rows) s
 unfolding form_of
 form-drop n rows s = part-drop (min n (length rows)) (length rows - min n (length rows)) rows s ∙ ap (λ len. part 0 len (drop (min n (length rows)) rows) s) (sym (length-drop (min n (length rows)) rows))
 
-pub form-absent : (holds : Formula) (n : ℕ) (rows : List Row) (s : List ℕ) → value s holds ≡ 0 → form_of (When holds n ∷ rows) s ≡ form_of (drop (min n (length rows)) rows) s
+pub form-block : (presence : Presence) (n : ℕ) (rows : List Row) (s : List ℕ)
+    → form_of (Block presence n ∷ rows) s ≡ (present presence (form_of (take (min n (length rows)) rows)) s >>= form_of (drop (min n (length rows)) rows))
 unfolding form_of part
-form-absent holds n rows s none = rw none (form-drop n rows s)
-
-pub form-present : (holds : Formula) (n : ℕ) (rows : List Row) (s : List ℕ) → ¬ (value s holds ≡ 0) → form_of (When holds n ∷ rows) s ≡ form_of rows s
-unfolding form_of part
-form-present holds n rows s some = rw (ne_eqb _ _ some) refl
-
-pub form-repeat : (counter : ℕ) (times : Formula) (n : ℕ) (rows : List Row) (s : List ℕ)
-    → form_of (Repeat counter times n ∷ rows) s ≡ (turns (form_of (take (min n (length rows)) rows)) counter 0 (value s times) s >>= form_of (drop (min n (length rows)) rows))
-unfolding form_of part
-form-repeat counter times n rows s =
+form-block presence n rows s =
     let block : part 0 (min n (length rows)) rows ≡ form_of (take (min n (length rows)) rows) = fun_ext (λ t. part-take (min n (length rows)) rows t (omega arith)) in
     let behind : part (min n (length rows)) (length rows - min n (length rows)) rows ≡ form_of (drop (min n (length rows)) rows) = fun_ext (λ t. form-drop n rows t) in
     rw (block, behind) refl

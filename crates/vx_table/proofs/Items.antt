@@ -16,7 +16,7 @@ unwritten_next items at end item more within is =
     rw (one, add-one, drop-cons items at item (omega arith)) cc
 
 -- the first of two equal lists of items
-same_value : (field : ℕ) (v w : ℤ) (r s : List Item) → (record { field = field; value = v } ∷ []) ++ r ≡ (record { field = field; value = w } ∷ []) ++ s → (v ≡ w) × (r ≡ s)
+pub same_value : (field : ℕ) (v w : ℤ) (r s : List Item) → (record { field = field; value = v } ∷ []) ++ r ≡ (record { field = field; value = w } ∷ []) ++ s → (v ≡ w) × (r ≡ s)
 same_value field v w r s e =
     let first : ◌≡◌ {A = Item} (record { field = field; value = v }) (record { field = field; value = w }) = cc in
     let behind : r ≡ s = cc in

@@ -1,3 +1,9 @@
+mod Starred
+mod Keepings
+mod Shown
+mod Testing
+pub mod Dependence
+mod Agreeing
 pub mod Codings
 pub mod Items
 pub mod Numbers

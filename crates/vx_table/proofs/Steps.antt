@@ -4,13 +4,14 @@ use Rattle.std.proofs.Math.ListN.{drop_of_length-le}
 use Rattle.vx_table.specs.declared.rows.Formula.{Formula}
 use Rattle.vx_table.specs.declared.rows.Cell.{Cell}
 use Rattle.vx_table.specs.declared.rows.Row.{Row}
-use Rattle.vx_table.specs.declared.rows.Row.TheVariants.{Field, When, Repeat, Name}
-use Rattle.vx_table.specs.Forms.{Form, done, ◌>>=◌, cell_at, after, one_field, turns, part, form_of}
+use Rattle.vx_table.specs.declared.rows.Row.TheVariants.{Field, Block, Name}
+use Rattle.vx_table.specs.declared.rows.Presence.{Presence}
+use Rattle.vx_table.specs.Forms.{Form, done, ◌>>=◌, cell_at, after, one_field, turns, present, part, form_of}
 use Rattle.vx_table.specs.declared.parts.Part.{Part}
-use Rattle.vx_table.specs.Parts.{part_form, parts_form}
+use Rattle.vx_table.specs.Parts.{sections_form, section_form, section_of, parts_form}
 use Rattle.vx_table.specs.Scope.{value}
 use Rattle.vx_table.specs.Walks.{Walks, ended, coded, refused}
-use Rattle.vx_table.proofs.Blocks.{form-field, form-name, form-absent, form-present, form-repeat}
+use Rattle.vx_table.proofs.Blocks.{form-field, form-name, form-block}
 
 -- a walk to the end of one form and on along the next is one along both
 pub then : {C I E A B : Type 0} {step : C → I → Cell ℕ → Result ℤ E → C → I → Type 0} {f : Form A} (next : A → Form B) {c d e : C} {i j k : I} {a : A} {r : Result B E}
@@ -66,25 +67,17 @@ module _ {C I E : Type 0} {step : C → I → Cell ℕ → Result ℤ E → C �
       → Leads step whole first first_items (form_of (Field cell ∷ rows) s) c i → Walks step (one_field s cell) c i (Err e) d j → Walks step whole first first_items (Err e) d j
   stop-field cell rows s before walked = leads-stop (form_of rows) (rw form-field at before) walked
 
-  pub leads-absent : (holds : Formula) (n : ℕ) (rows : List Row) (s : List ℕ) {c : C} {i : I}
-      → Leads step whole first first_items (form_of (When holds n ∷ rows) s) c i → value s holds ≡ 0 → Leads step whole first first_items (form_of (drop (min n (length rows)) rows) s) c i
-  leads-absent holds n rows s before none = rw (form-absent holds n rows s none) at before
-
-  pub leads-present : (holds : Formula) (n : ℕ) (rows : List Row) (s : List ℕ) {c : C} {i : I}
-      → Leads step whole first first_items (form_of (When holds n ∷ rows) s) c i → ¬ (value s holds ≡ 0) → Leads step whole first first_items (form_of rows s) c i
-  leads-present holds n rows s before some = rw (form-present holds n rows s some) at before
-
-  pub leads-repeat : (counter : ℕ) (times : Formula) (n : ℕ) (rows : List Row) (s t : List ℕ) {c d : C} {i j : I}
-      → Leads step whole first first_items (form_of (Repeat counter times n ∷ rows) s) c i
-      → Walks step (turns (form_of (take (min n (length rows)) rows)) counter 0 (value s times) s) c i (Ok t) d j
+  pub leads-block : (presence : Presence) (n : ℕ) (rows : List Row) (s t : List ℕ) {c d : C} {i j : I}
+      → Leads step whole first first_items (form_of (Block presence n ∷ rows) s) c i
+      → Walks step (present presence (form_of (take (min n (length rows)) rows)) s) c i (Ok t) d j
       → Leads step whole first first_items (form_of (drop (min n (length rows)) rows) t) d j
-  leads-repeat counter times n rows s t before walked = leads-then (form_of (drop (min n (length rows)) rows)) (rw form-repeat at before) walked
+  leads-block presence n rows s t before walked = leads-then (form_of (drop (min n (length rows)) rows)) (rw form-block at before) walked
 
-  pub stop-repeat : (counter : ℕ) (times : Formula) (n : ℕ) (rows : List Row) (s : List ℕ) {e : E} {c d : C} {i j : I}
-      → Leads step whole first first_items (form_of (Repeat counter times n ∷ rows) s) c i
-      → Walks step (turns (form_of (take (min n (length rows)) rows)) counter 0 (value s times) s) c i (Err e) d j
+  pub stop-block : (presence : Presence) (n : ℕ) (rows : List Row) (s : List ℕ) {e : E} {c d : C} {i j : I}
+      → Leads step whole first first_items (form_of (Block presence n ∷ rows) s) c i
+      → Walks step (present presence (form_of (take (min n (length rows)) rows)) s) c i (Err e) d j
       → Walks step whole first first_items (Err e) d j
-  stop-repeat counter times n rows s before walked = leads-stop (form_of (drop (min n (length rows)) rows)) (rw form-repeat at before) walked
+  stop-block presence n rows s before walked = leads-stop (form_of (drop (min n (length rows)) rows)) (rw form-block at before) walked
 
   pub leads-name : (name : ℕ) (formula : Formula) (rows : List Row) (s : List ℕ) {c : C} {i : I}
       → Leads step whole first first_items (form_of (Name name formula ∷ rows) s) c i → Leads step whole first first_items (form_of rows (slice_set s name (value s formula))) c i
@@ -124,21 +117,21 @@ module _ {C I E : Type 0} {step : C → I → Cell ℕ → Result ℤ E → C �
 -- What is left of parts behind the one at a place.
 module _ {C I E : Type 0} {step : C → I → Cell ℕ → Result ℤ E → C → I → Type 0} {whole : Form (List ℕ)} {first : C} {first_items : I} where
   at_part : (parts : List Part) (i : ℕ) (none : Part) (s : List ℕ) {c : C} {j : I} → i < length parts
-      → Leads step whole first first_items (parts_form (drop i parts) s) c j → Leads step whole first first_items (part_form (get_or parts i none) s >>= parts_form (drop (i + 1) parts)) c j
-  unfolding parts_form
+      → Leads step whole first first_items (parts_form (drop i parts) s) c j → Leads step whole first first_items (section_form (section_of (get_or parts i none)) s >>= parts_form (drop (i + 1) parts)) c j
+  unfolding sections_form
   at_part parts i none s more before = rw (add-one) (rw (drop-cons parts i none more) at before)
 
   pub leads-part : (parts : List Part) (i : ℕ) (none : Part) (s t : List ℕ) {c d : C} {j k : I} → i < length parts
-      → Leads step whole first first_items (parts_form (drop i parts) s) c j → Walks step (part_form (get_or parts i none) s) c j (Ok t) d k → Leads step whole first first_items (parts_form (drop (i + 1) parts) t) d k
+      → Leads step whole first first_items (parts_form (drop i parts) s) c j → Walks step (section_form (section_of (get_or parts i none)) s) c j (Ok t) d k → Leads step whole first first_items (parts_form (drop (i + 1) parts) t) d k
   leads-part parts i none s t more before walked = leads-then (parts_form (drop (i + 1) parts)) (at_part parts i none s more before) walked
 
   pub stop-part : (parts : List Part) (i : ℕ) (none : Part) (s : List ℕ) {e : E} {c d : C} {j k : I} → i < length parts
-      → Leads step whole first first_items (parts_form (drop i parts) s) c j → Walks step (part_form (get_or parts i none) s) c j (Err e) d k → Walks step whole first first_items (Err e) d k
+      → Leads step whole first first_items (parts_form (drop i parts) s) c j → Walks step (section_form (section_of (get_or parts i none)) s) c j (Err e) d k → Walks step whole first first_items (Err e) d k
   stop-part parts i none s more before walked = leads-stop (parts_form (drop (i + 1) parts)) (at_part parts i none s more before) walked
 
   pub leads-no_part : (parts : List Part) (i : ℕ) (s : List ℕ) {c : C} {j : I} → length parts ≤ i
       → Leads step whole first first_items (parts_form (drop i parts) s) c j → Walks step whole first first_items (Ok s) c j
-  unfolding parts_form
+  unfolding sections_form
   leads-no_part parts i s none before =
       let end : drop i parts ≡ [] = drop_of_length-le parts none in
       leads-end (rw end at before)

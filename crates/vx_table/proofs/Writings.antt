@@ -11,8 +11,13 @@ use Rattle.vx_table.specs.Walks.{Walks, ended, coded, refused, leaving}
 use Rattle.vx_table.specs.Spelling.{code_of, item_of, items_along}
 use Rattle.vx_table.specs.Values.{IsValueOf, Follows, to_end, through, ComesTo, at_field, past, bits_along}
 use Rattle.vx_table.specs.Laws.{ItemsApart}
-use Rattle.vx_table.specs.Writing.{writes_field, TellsNoValue, IsSpelled, HaltsAt, AreItemsOf, Writes, ItemsLeadTo}
+use Rattle.vx_table.specs.Writing.{writes_field, TellsNoValue, IsWritten, IsSpelled, HaltsAt, AreItemsOf, Writes, ItemsLeadTo}
 use Rattle.vx_table.proofs.Items.{item_apart}
+
+pub written_more : {B P Q : Type 0} (result : Result B SpellError) → (P → Q) → IsWritten result P → IsWritten result Q
+written_more (Ok b) f p = f p
+written_more (Err errors.Memory) f p = tt
+written_more (Err errors.NoValue) f p = p
 
 -- the bits of a value and of those behind it
 bits_more : {A : Type 0} (cell : Cell ℕ) (goes : ℤ → Form A) (old mid new : List Bool) (v : ℤ) (w : List ℤ)

@@ -5,10 +5,12 @@ use Rattle.vx_table.specs.declared.rows.Formula.{Formula}
 use Rattle.vx_table.specs.declared.rows.Coding.{Coding}
 use Rattle.vx_table.specs.declared.rows.Coding.TheVariants.{Fixed, Golomb, SignedGolomb, Zeros, OneAndZeros, Trailing, Absent, Refused}
 use Rattle.vx_table.specs.declared.rows.Limits.{Limits}
-use Rattle.vx_table.specs.declared.rows.Limits.TheVariants.{Any, Within, Multiple}
+use Rattle.vx_table.specs.declared.rows.Limits.TheVariants.{Any, Within, Below, Multiple}
 use Rattle.vx_table.specs.declared.rows.Cell.{Cell}
 use Rattle.vx_table.specs.declared.rows.Row.{Row}
-use Rattle.vx_table.specs.declared.rows.Row.TheVariants.{Field, When, Repeat, Name}
+use Rattle.vx_table.specs.declared.rows.Row.TheVariants.{Field, Block, Name}
+use Rattle.vx_table.specs.declared.rows.Presence.{Presence}
+use Rattle.vx_table.specs.declared.rows.Presence.TheVariants.{When, Repeat}
 use Rattle.vx_table.specs.Scope.{value, natural}
 
 -- A structure: at its end, or at a field and how it goes on after each value of it.
@@ -36,6 +38,7 @@ coding_at s Refused = Refused
 unfoldable pub limits_at : List ℕ → Limits Formula → Limits ℕ
 limits_at s Any = Any
 limits_at s (Within low high fault) = Within low (value s high) fault
+limits_at s (Below bound fault) = Below (value s bound) fault
 limits_at s (Multiple unit high fault) = Multiple unit high fault
 
 abbrev pub cell_at : List ℕ → Cell Formula → Cell ℕ
@@ -55,8 +58,7 @@ has_value Refused = false
 -- how a row codes the field with this number
 abbrev pub coding_in : Row → ℕ → Option (Coding Formula)
 coding_in (Field c) of = cond (c.field == of && has_value c.coding) (Some c.coding) None
-coding_in (When holds n) of = None
-coding_in (Repeat counter times n) of = None
+coding_in (Block presence n) of = None
 coding_in (Name name formula) of = None
 
 -- how a table codes it
@@ -77,14 +79,18 @@ unfoldable pub turns : (List ℕ → Form (List ℕ)) → ℕ → ℕ → ℕ �
 turns block counter turn zero s = done s
 turns block counter turn (suc more) s = block (slice_set s counter turn) >>= turns block counter (turn + 1) more
 
+-- a block as often as it is there: once where the formula isn't 0, or in so many turns
+unfoldable pub present : Presence → (List ℕ → Form (List ℕ)) → List ℕ → Form (List ℕ)
+present (When holds) block s = cond (value s holds == 0) (done s) (block s)
+present (Repeat counter times) block s = turns block counter 0 (value s times) s
+
 -- The form of len rows, those behind the first skip of them.
 unfoldable pub part : ℕ → ℕ → List Row → List ℕ → Form (List ℕ)
 part skip len [] s = done s
 part (suc skip) len (row ∷ rows) s = part skip len rows s
 part zero zero (row ∷ rows) s = done s
 part zero (suc len) (Field c ∷ rows) s = one_field s c >>= part zero len rows
-part zero (suc len) (When holds n ∷ rows) s = cond (value s holds == 0) (part (min n len) (len - min n len) rows s) (part zero len rows s)
-part zero (suc len) (Repeat counter times n ∷ rows) s = turns (part zero (min n len) rows) counter 0 (value s times) s >>= part (min n len) (len - min n len) rows
+part zero (suc len) (Block presence n ∷ rows) s = present presence (part zero (min n len) rows) s >>= part (min n len) (len - min n len) rows
 part zero (suc len) (Name name formula ∷ rows) s = part zero len rows (slice_set s name (value s formula))
 
 -- The form of a table at a scope.

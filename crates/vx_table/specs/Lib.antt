@@ -5,6 +5,9 @@ pub mod Spelling
 pub mod Items
 pub mod Laws
 pub mod Parts
+pub mod Depends
 pub mod Reading
 pub mod Values
 pub mod Writing
+pub mod Kept
+pub mod Shown

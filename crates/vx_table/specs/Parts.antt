@@ -1,14 +1,30 @@
 -- A structure of several tables.
-use Rattle.std.specs.Prelude.{ℕ, cond, ◌==◌, List, [], ◌∷◌}
+use Rattle.std.specs.Prelude.{ℕ, List, [], ◌∷◌}
 use Rattle.vx_table.specs.declared.parts.Part.{Part}
-use Rattle.vx_table.specs.Scope.{value}
-use Rattle.vx_table.specs.Forms.{Form, done, ◌>>=◌, form_of}
+use Rattle.vx_table.specs.declared.rows.Presence.{Presence}
+use Rattle.vx_table.specs.declared.rows.Row.{Row}
+use Rattle.vx_table.specs.Forms.{Form, done, ◌>>=◌, present, form_of}
 
--- a table where its formula isn't 0, and else nothing
-unfoldable pub part_form : Part → List ℕ → Form (List ℕ)
-part_form part s = cond (value s part.present == 0) (done s) (form_of part.rows.now s)
+-- A table, and how often it is there.
+pub record Section : Type 0 where
+  pub presence : Presence
+  pub rows : List Row
 
--- one part after another
-unfoldable pub parts_form : List Part → List ℕ → Form (List ℕ)
-parts_form [] s = done s
-parts_form (part ∷ parts) s = part_form part s >>= parts_form parts
+abbrev pub section_form : Section → List ℕ → Form (List ℕ)
+section_form section = present section.presence (form_of section.rows)
+
+-- one table after another
+unfoldable pub sections_form : List Section → List ℕ → Form (List ℕ)
+sections_form [] s = done s
+sections_form (section ∷ more) s = section_form section s >>= sections_form more
+
+-- the parts of a structure, wherever their tables lie in memory
+abbrev pub section_of : Part → Section
+section_of part = record { presence = part.presence; rows = part.rows.now }
+
+abbrev pub sections_of : List Part → List Section
+sections_of [] = []
+sections_of (part ∷ parts) = section_of part ∷ sections_of parts
+
+abbrev pub parts_form : List Part → List ℕ → Form (List ℕ)
+parts_form parts = sections_form (sections_of parts)

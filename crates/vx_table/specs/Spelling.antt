@@ -1,7 +1,7 @@
 -- How values are spelled, and where and why bits are refused, said of forms and apart from any walk.
 use Rattle.std.specs.Int.RustNames.{unsigned_abs}
 use Rattle.std.specs.Prelude.{◌≡◌, ◌≢◌, ℕ, ℤ, pos, negsuc, zero, suc, ◌-◌, ◌%◌, ◌^◌, ◌<◌, ◌≤◌, Bool, false, cond, ◌&&◌, ◌==◌, List, [], ◌∷◌, ◌++◌, length, Option, Some, None}
-use Rattle.std.specs.Prelude.{int_le}
+use Rattle.std.specs.Prelude.{int_le, int_lt}
 use Rattle.vx_bits.specs.Codes.{fixed, exp_golomb, signed_exp_golomb, code_number, IsCodeNumber, zeros_from, one_from, BeginsWith, EndsWithinCode, BeginsTooLong}
 use Rattle.vx_bits.specs.declared.list.Item.{Item}
 use Rattle.vx_bits.specs.declared.refusal.BitCause.{BitCause}
@@ -13,7 +13,7 @@ use Rattle.vx_table.specs.declared.rows.Coding.TheVariants.{Fixed, Golomb, Signe
 use Rattle.vx_table.specs.declared.rows.Fault.{Fault}
 use Rattle.vx_table.specs.declared.rows.Fault.TheVariants as faults
 use Rattle.vx_table.specs.declared.rows.Limits.{Limits}
-use Rattle.vx_table.specs.declared.rows.Limits.TheVariants.{Any, Within, Multiple}
+use Rattle.vx_table.specs.declared.rows.Limits.TheVariants.{Any, Within, Below, Multiple}
 use Rattle.vx_table.specs.declared.rows.Cell.{Cell}
 use Rattle.vx_table.specs.Forms.{Form, done, field, has_value}
 
@@ -67,6 +67,7 @@ is_multiple unit (negsuc v) = false
 unfoldable pub fault_of : Limits ℕ → ℤ → Option Fault
 fault_of Any v = None
 fault_of (Within low high fault) v = cond (int_le low v && int_le v (pos high)) None (Some fault)
+fault_of (Below bound fault) v = cond (int_le (pos 0) v && int_lt v (pos bound)) None (Some fault)
 fault_of (Multiple unit high fault) v = cond (int_le v (pos high)) (cond (is_multiple unit v) None (Some faults.OutOfRange)) (Some fault)
 
 -- The bits begin with the code of a value in the field's range.

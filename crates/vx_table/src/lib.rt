@@ -7,24 +7,36 @@
 #![tactic(auto)]
 
 mod arithmetic;
+mod depends;
+mod kept;
 mod laws;
+mod laws_depend;
 mod macros;
 mod parts;
 mod reader;
 mod rows;
 mod scope;
+mod stars;
 #[cfg(test)]
 mod tests;
+#[cfg(test)]
+mod tests_depend;
 mod walk;
 mod writer;
 
+pub use depends::{depends_only_on, parts_depend_only_on};
+pub use kept::{keep_parts, keep_table};
 pub use laws::{
     every_answer, no_proper_prefix, one_answer, one_reading, one_writing, read_back,
     spelled_both_ways,
 };
+pub use laws_depend::{
+    alike_together, cells_follow_items, cells_follow_kept, kept_tells_kept, scopes_follow_items,
+};
 pub use parts::{Part, code_parts, read_parts, write_parts};
 pub use reader::{read_table, read_value};
-pub use rows::{Cell, Coding, Fault, Formula, Limits, Row, Term};
+pub use rows::{Cell, Coding, Fault, Formula, Limits, Presence, Row, Term};
 pub use scope::{NUMBERS, Scope};
+pub use stars::{keeps_only, parts_keep_only};
 pub use walk::{Coder, code_table, coding, coding_of};
 pub use writer::{SpellError, Unwritten, has_code, write_code, write_table};

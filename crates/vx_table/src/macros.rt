@@ -1,4 +1,4 @@
-//! `table!`, which writes rows in the look of H.266's syntax tables.
+//! `table!`, which writes rows in the look of H.266's syntax tables, and `parts!`, which puts tables together.
 
 /// A term: `4`, or `[133]` for the latest number of field 133, or `[CTU]` for that of a name.
 #[macro_export]
@@ -39,8 +39,8 @@ macro_rules! coding {
     (u $width:tt) => { $crate::Coding::Fixed($crate::formula!($width)) };
 }
 
-/// What values a row takes: `in 0..=6`, with `else Profile(4)` where a broken range has a name, and
-/// `multiple 8 upto 16384 else Limit(6)` for a picture's size.
+/// What values a row takes: `in 0..=6` or `below [418]`, with `else Profile(4)` where a broken range has a name,
+/// and `multiple 8 upto 16384 else Limit(6)` for a picture's size.
 #[macro_export]
 macro_rules! limits {
     () => { $crate::Limits::Any };
@@ -51,6 +51,15 @@ macro_rules! limits {
         $crate::Limits::Within {
             low: $low,
             high: $crate::formula!($high),
+            fault: $crate::Fault::$($fault)+,
+        }
+    };
+    (below $bound:tt) => {
+        $crate::limits!(below $bound else OutOfRange)
+    };
+    (below $bound:tt else $($fault:tt)+) => {
+        $crate::Limits::Below {
+            bound: $crate::formula!($bound),
             fault: $crate::Fault::$($fault)+,
         }
     };
@@ -116,44 +125,80 @@ macro_rules! table {
     };
     (@ [$($done:tt)*] if $holds:tt { $($block:tt)* } $($rest:tt)*) => {
         $crate::table!(@ [$($done)*
-            $crate::Row::When {
-                holds: $crate::formula!($holds),
+            $crate::Row::Block {
+                presence: $crate::Presence::When($crate::formula!($holds)),
                 rows: $crate::table!(@ [] $($block)*).len(),
             },
         ] $($block)* $($rest)*)
     };
     (@ [$($done:tt)*] for $counter:ident in $times:tt { $($block:tt)* } $($rest:tt)*) => {
         $crate::table!(@ [$($done)*
-            $crate::Row::Repeat {
-                counter: $counter,
-                times: $crate::formula!($times),
+            $crate::Row::Block {
+                presence: $crate::Presence::Repeat {
+                    counter: $counter,
+                    times: $crate::formula!($times),
+                },
                 rows: $crate::table!(@ [] $($block)*).len(),
             },
         ] $($block)* $($rest)*)
     };
     (@ [$($done:tt)*]
         $field:literal * $name:ident
-        $(: $code:ident $(($($width:tt)+))?)?
+        $(: $coding:ident $(($($width:tt)+))?)?
         $(in $low:literal ..= $high:tt $(else $fault:ident $(($number:literal))?)?)?
+        $(below $bound:tt $(else $beyond:ident $(($code:literal))?)?)?
         $(multiple $unit:literal upto $most:literal else $above:ident ($limit:literal))?
         ; $($rest:tt)*) => {
         $crate::table!(@ [$($done)*
-            $crate::cell!($field, false, [$($code $(($($width)+))?)?],
+            $crate::cell!($field, false, [$($coding $(($($width)+))?)?],
                 [$(in $low ..= $high $(else $fault $(($number))?)?)?
+                 $(below $bound $(else $beyond $(($code))?)?)?
                  $(multiple $unit upto $most else $above($limit))?]),
         ] $($rest)*)
     };
     (@ [$($done:tt)*]
         $field:literal $name:ident
-        $(: $code:ident $(($($width:tt)+))?)?
+        $(: $coding:ident $(($($width:tt)+))?)?
         $(in $low:literal ..= $high:tt $(else $fault:ident $(($number:literal))?)?)?
+        $(below $bound:tt $(else $beyond:ident $(($code:literal))?)?)?
         $(multiple $unit:literal upto $most:literal else $above:ident ($limit:literal))?
         ; $($rest:tt)*) => {
         $crate::table!(@ [$($done)*
-            $crate::cell!($field, true, [$($code $(($($width)+))?)?],
+            $crate::cell!($field, true, [$($coding $(($($width)+))?)?],
                 [$(in $low ..= $high $(else $fault $(($number))?)?)?
+                 $(below $bound $(else $beyond $(($code))?)?)?
                  $(multiple $unit upto $most else $above($limit))?]),
         ] $($rest)*)
     };
     ($($rows:tt)*) => { $crate::table!(@ [] $($rows)*) };
+}
+
+/// The parts of a structure: a table, one that is there where a formula isn't 0, as `[224] => TIMING`, or one that
+/// comes so many times under a counter, as `INDEX in [179] => STRUCTURE`.
+#[macro_export]
+macro_rules! parts {
+    (@ [$($done:tt)*]) => { [$($done)*] };
+    (@ [$($done:tt)*] $counter:ident in $times:tt => $rows:ident $(, $($rest:tt)*)?) => {
+        $crate::parts!(@ [$($done)*
+            $crate::Part {
+                presence: $crate::Presence::Repeat {
+                    counter: $counter,
+                    times: $crate::formula!($times),
+                },
+                rows: &$rows,
+            },
+        ] $($($rest)*)?)
+    };
+    (@ [$($done:tt)*] $holds:tt => $rows:ident $(, $($rest:tt)*)?) => {
+        $crate::parts!(@ [$($done)*
+            $crate::Part {
+                presence: $crate::Presence::When($crate::formula!($holds)),
+                rows: &$rows,
+            },
+        ] $($($rest)*)?)
+    };
+    (@ [$($done:tt)*] $rows:ident $(, $($rest:tt)*)?) => {
+        $crate::parts!(@ [$($done)*] 1 => $rows $(, $($rest)*)?)
+    };
+    ($($parts:tt)*) => { $crate::parts!(@ [] $($parts)*) };
 }

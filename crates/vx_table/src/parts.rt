@@ -1,37 +1,22 @@
-//! A structure of several tables, some of them on a condition.
+//! A structure of several tables, some of them on a condition or repeated.
 
 ghost use Rattle.std.specs.Prelude.{◌≡◌, OnOk};
 ghost use Rattle.vx_table.specs.Walks.{Walks, leaving};
-ghost use Rattle.vx_table.specs.Parts.{part_form, parts_form};
+ghost use Rattle.vx_table.specs.Parts.{parts_form};
 ghost use Rattle.vx_table.specs.Reading.{Reads, LeadsTo};
 ghost use Rattle.vx_table.specs.Writing.{Writes, ItemsLeadTo};
 
-use crate::rows::{Formula, Row};
+use crate::rows::{Presence, Row};
 use crate::scope::Scope;
-use crate::walk::{Coder, code_table};
+use crate::walk::{Coder, code_block};
 use crate::writer::{SpellError, Unwritten};
 use vx_bits::{BitReader, BitWriter, Fields, ReadError};
 
-/// A table of a structure, and the formula that isn't 0 where it is present.
+/// A table of a structure, and how often it is there.
 #[derive(Clone, Copy, Debug)]
 pub struct Part<'a> {
-    pub present: Formula,
+    pub presence: Presence,
     pub rows: &'a [Row],
-}
-
-/// Codes a part, where it is present.
-fn code_part<I, C: Coder<I>>(
-    part: &Part<'_>,
-    scope: &mut Scope,
-    coder: &mut C,
-    items: &mut I,
-) -> Result<(), C::Fault>
-    ensures { Walks C.step (part_form part.now scope.old) coder.old items.old (leaving scope.new result) coder.new items.new }
-{
-    if scope.value(part.present) == 0 {
-        return Ok(());
-    }
-    code_table(part.rows, scope, coder, items)
 }
 
 /// Codes the parts of a structure in order.
@@ -48,7 +33,7 @@ pub fn code_parts<I, C: Coder<I>>(
     ensures { Walks C.step (parts_form parts.now scope.old) coder.old items.old (leaving scope.new result) coder.new items.new }
 {
     for part in parts {
-        code_part(part, scope, coder, items)?;
+        code_block(part.presence, part.rows, scope, coder, items)?;
     }
     Ok(())
 }

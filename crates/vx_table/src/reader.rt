@@ -50,6 +50,10 @@ pub fn fault_of(limits: Limits<u32>, value: i64) -> Option<Fault>
             let inside = i64::from(low) <= value && value <= i64::from(high);
             if inside { None } else { Some(fault) }
         }
+        Limits::Below { bound, fault } => {
+            let inside = 0 <= value && value < i64::from(bound);
+            if inside { None } else { Some(fault) }
+        }
         Limits::Multiple { unit, high, fault } => {
             if value > i64::from(high) {
                 Some(fault)

@@ -64,6 +64,8 @@ pub enum Limits<N> {
     Any,
     /// From `low` to `high`; any other breaks the range by this name.
     Within { low: i32, high: N, fault: Fault },
+    /// From 0 up to, and without, `bound`: none where it is 0.
+    Below { bound: N, fault: Fault },
     /// A positive multiple of `unit`; above `high` the fault has this name.
     Multiple { unit: u32, high: u32, fault: Fault },
 }
@@ -78,25 +80,22 @@ pub struct Cell<N> {
     pub limits: Limits<N>,
 }
 
+/// How often a block of rows is there.
+#[derive(Clone, Copy, Debug)]
+pub enum Presence {
+    /// Once where the formula isn't 0.
+    When(Formula),
+    /// This many times, with a counter from 0.
+    Repeat { counter: u16, times: Formula },
+}
+
 /// A row of a table.
 #[derive(Clone, Copy, Debug)]
 pub enum Row {
     /// A field or a gap.
     Field(Cell<Formula>),
-    /// The next `rows` rows are there where the formula isn't 0.
-    When {
-        holds: Formula,
-        rows: usize,
-    },
-    /// The next `rows` rows come this many times, with a counter from 0.
-    Repeat {
-        counter: u16,
-        times: Formula,
-        rows: usize,
-    },
+    /// The next `rows` rows are there so often.
+    Block { presence: Presence, rows: usize },
     /// A name for a number.
-    Name {
-        name: u16,
-        formula: Formula,
-    },
+    Name { name: u16, formula: Formula },
 }

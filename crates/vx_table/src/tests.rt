@@ -1,8 +1,11 @@
 //! A small structure with each kind of row, at the ends of each range, worked by hand.
-use crate::{Row, Scope, SpellError, Unwritten, read_value, table, write_table};
+use crate::{
+    Row, Scope, SpellError, Unwritten, keep_table, parts, read_parts, read_value, table,
+    write_parts, write_table,
+};
 use std::alloc::Global;
 use std::test::Fail;
-use vx_bits::{BitCause, BitWriter, Fields, Item, ReadError, Refusal};
+use vx_bits::{BitCause, BitReader, BitWriter, Fields, Item, ReadError, Refusal};
 
 const TURN: u16 = 900;
 
@@ -30,6 +33,20 @@ const ENDS: [Row; 3] = table! {
     one_and_zeros 11;
     trailing 12;
 };
+
+/// Ranges below a number that may be 0.
+const PLACES: [Row; 3] = table! {
+    13 count: u(3);
+    14 place: u(4) below [13];
+    15 other: ue below ([13] - 1) else Limit(9);
+};
+
+const COUNT: [Row; 1] = table! { 16 count: ue; };
+
+/// It comes in turns, and once more behind them.
+const ENTRY: [Row; 1] = table! { 17 entry: u([TURN] + 1); };
+
+const AGAIN: [Row; 2] = table! { 18 again; let TURN = 2; };
 
 /// A sixth structure takes its table and one call: forty plain rows.
 const PLAIN: [Row; 40] = table! {
@@ -193,5 +210,96 @@ fn reads_forty_plain_rows(rt: HostRuntime) -> Result<(), Fail> {
     assert_eq!(rt; fields.len(), 40);
     assert_eq!(rt; fields.first(708), Some(255));
     assert_eq!(rt; fields.first(718), Some(0));
+    Ok(())
+}
+
+#[test]
+fn values_lie_below_a_number(rt: HostRuntime) {
+    let limit = Err(ReadError::Refused(Refusal::Limit { code: 9 }));
+    let cases = [
+        ([0x00, 0, 0, 0, 0, 0], syntax(14, 3, BitCause::OutOfRange)),
+        ([0x21, 0, 0, 0, 0, 0], limit),
+        ([0x22, 0, 0, 0, 0, 0], syntax(14, 3, BitCause::OutOfRange)),
+        ([0x43, 0, 0, 0, 0, 0], Ok(())),
+        ([0x42, 0x80, 0, 0, 0, 0], limit),
+        ([0x44, 0, 0, 0, 0, 0], syntax(14, 3, BitCause::OutOfRange)),
+        ([0xec, 0x80, 0, 0, 0, 0], Ok(())),
+    ];
+    for (bytes, wanted) in cases {
+        assert_eq!(rt;
+            outcome(rt.alloc(), &PLACES, &bytes, 2),
+            wanted,
+            "{bytes:?}"
+        );
+    }
+}
+
+/// Whether these are the items.
+fn are(fields: &Fields, wanted: &[(u16, i64)]) -> bool {
+    for (i, (field, value)) in wanted.iter().enumerate() {
+        if i >= fields.len() || fields.item(i) != item(*field, *value) {
+            return false;
+        }
+    }
+    fields.len() == wanted.len()
+}
+
+#[test]
+fn parts_come_in_turns(rt: HostRuntime) -> Result<(), Fail> {
+    let parts = parts![COUNT, TURN in [16] => ENTRY, AGAIN, [18] => ENTRY];
+    let cases: [(&[u8], &[(u16, i64)]); 2] = [
+        (&[0xa0], &[(16, 0), (18, 0)]),
+        (
+            &[0x7b, 0x60],
+            &[(16, 2), (17, 1), (17, 2), (18, 1), (17, 5)],
+        ),
+    ];
+    for (rbsp, wanted) in cases {
+        let mut fields = Fields::new(rt.alloc());
+        let mut read = BitReader::new(rbsp);
+        assert_eq!(rt;
+            read_parts(&parts, &mut Scope::new(), &mut read, &mut fields),
+            Ok(())
+        );
+        assert!(rt; are(&fields, wanted));
+        let mut written = BitWriter::new(rt.alloc());
+        let mut items = Unwritten::new(&fields, 0, fields.len());
+        assert_eq!(rt;
+            write_parts(&parts, &mut Scope::new(), &mut written, &mut items),
+            Ok(())
+        );
+        assert_eq!(rt; written.close()?.as_slice(), rbsp);
+    }
+    Ok(())
+}
+
+#[test]
+fn refuses_within_a_part(rt: HostRuntime) {
+    let parts = parts![COUNT, TURN in [16] => ENTRY, AGAIN, [18] => ENTRY];
+    let mut fields = Fields::new(rt.alloc());
+    let mut read = BitReader::new(&[0x7b]);
+    assert_eq!(rt;
+        read_parts(&parts, &mut Scope::new(), &mut read, &mut fields),
+        syntax(17, 7, BitCause::Short)
+    );
+    assert!(rt; are(&fields, &[(16, 2), (17, 1), (17, 2), (18, 1)]));
+}
+
+#[test]
+fn keeps_the_items_without_a_star(rt: HostRuntime) -> Result<(), Fail> {
+    let fields = read_value(
+        rt.alloc(),
+        &SMALL,
+        &mut Scope::new(),
+        &[0x68, 0x92, 0x90, 0x40],
+    )?;
+    let mut items = Unwritten::new(&fields, 0, fields.len());
+    let mut kept = Fields::new(rt.alloc());
+    assert_eq!(rt;
+        keep_table(&SMALL, &mut Scope::new(), &mut items, &mut kept),
+        Ok(())
+    );
+    assert!(rt; items.is_empty());
+    assert!(rt; are(&kept, &[(1, 1), (2, 2), (3, 1), (4, 8), (7, 0), (9, 1)]));
     Ok(())
 }

@@ -3,12 +3,12 @@
 ghost use Rattle.std.specs.Prelude.{◌≡◌, ℕ, ℤ, ◌+◌, ◌≤◌, min, length, take, drop, Result};
 ghost use Rattle.vx_table.specs.Scope.{value};
 ghost use Rattle.vx_table.specs.Forms as forms;
-ghost use Rattle.vx_table.specs.Forms.{coding_in, coding_at, limits_at, cell_at, after, turns, form_of, one_field};
+ghost use Rattle.vx_table.specs.Forms.{coding_in, coding_at, limits_at, cell_at, after, turns, present, form_of, one_field};
 ghost use Rattle.vx_table.specs.Spelling.{IsCodable};
 ghost use Rattle.vx_table.specs.Walks.{Walks, leaving};
 
 use crate::arithmetic::natural;
-use crate::rows::{Cell, Coding, Formula, Limits, Row};
+use crate::rows::{Cell, Coding, Formula, Limits, Presence, Row};
 use crate::scope::Scope;
 
 /// What codes the fields of a structure, one after another: a reader from bits to items, a writer from items to bits.
@@ -82,6 +82,10 @@ fn limits(scope: &Scope, limits: Limits<Formula>) -> Limits<u32>
             high: scope.value(high),
             fault,
         },
+        Limits::Below { bound, fault } => Limits::Below {
+            bound: scope.value(bound),
+            fault,
+        },
         Limits::Multiple { unit, high, fault } => Limits::Multiple { unit, high, fault },
     }
 }
@@ -135,7 +139,7 @@ fn code_field<I, C: Coder<I>>(
 }
 
 /// The rows of a block, which are at most those that are left, and the rows behind it.
-fn split_block(rows: &[Row], inside: usize) -> (&[Row], &[Row])
+pub fn split_block(rows: &[Row], inside: usize) -> (&[Row], &[Row])
     ensures block { result.0.now ≡ take (min inside (length rows.now)) rows.now }
     ensures behind { result.1.now ≡ drop (min inside (length rows.now)) rows.now }
     ensures all { length result.0.now + length result.1.now ≡ length rows.now }
@@ -164,24 +168,12 @@ pub fn code_table<I, C: Coder<I>>(
                 code_field(field, scope, coder, items)?;
                 rest
             }
-            Row::When {
-                holds,
-                rows: inside,
-            } => {
-                if scope.value(holds) == 0 {
-                    split_block(rest, inside).1
-                } else {
-                    rest
-                }
-            }
-            Row::Repeat {
-                counter,
-                times,
+            Row::Block {
+                presence,
                 rows: inside,
             } => {
                 let (block, behind) = split_block(rest, inside);
-                let times = scope.value(times);
-                code_turns(block, counter, times, scope, coder, items)?;
+                code_block(presence, block, scope, coder, items)?;
                 behind
             }
             Row::Name { name, formula } => {
@@ -192,6 +184,31 @@ pub fn code_table<I, C: Coder<I>>(
         };
     }
     Ok(())
+}
+
+/// Codes a block of rows as often as it is there.
+#[cycle(walk)]
+pub fn code_block<I, C: Coder<I>>(
+    presence: Presence,
+    block: &[Row],
+    scope: &mut Scope,
+    coder: &mut C,
+    items: &mut I,
+) -> Result<(), C::Fault>
+    ensures { Walks C.step (present presence (form_of block.now) scope.old) coder.old items.old (leaving scope.new result) coder.new items.new }
+{
+    match presence {
+        Presence::When(holds) => {
+            if scope.value(holds) == 0 {
+                return Ok(());
+            }
+            code_table(block, scope, coder, items)
+        }
+        Presence::Repeat { counter, times } => {
+            let times = scope.value(times);
+            code_turns(block, counter, times, scope, coder, items)
+        }
+    }
 }
 
 /// Codes a block of rows so many times, with the number of the turn under the counter's name.

@@ -100,7 +100,7 @@ impl<'a> Unwritten<'a> {
 }
 
 /// The value of the next field; 0 for a gap, which has no item.
-fn next_value(items: &mut Unwritten<'_>, field: u16, coding: Coding<u32>) -> Option<i64>
+pub fn next_value(items: &mut Unwritten<'_>, field: u16, coding: Coding<u32>) -> Option<i64>
     ensures { tells_value field coding items.old result items.new }
 {
     if !has_value(coding) {
@@ -150,7 +150,7 @@ pub fn has_code(coding: Coding<u32>, value: i64) -> bool
 }
 
 /// Whether a field may have the value.
-fn is_value(cell: Cell<u32>, value: i64) -> bool
+pub fn is_value(cell: Cell<u32>, value: i64) -> bool
     requires { IsCodable cell.coding }
     ensures { IsTrue result ↔ IsValueOf cell value }
 {

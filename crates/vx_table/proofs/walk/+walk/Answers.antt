@@ -1,8 +1,9 @@
-use Rattle.std.proofs.Common.{arith, ◌≡◌}
+use Rattle.std.proofs.Common.{arith, sym, ◌∙◌}
+use Rattle.std.proofs.lemmas.Bool.{ne_eqb}
 use Rattle.std.proofs.lemmas.Result.{err_from_is_err_and}
-use Rattle.vx_table.specs.Forms.{form_of}
-use Rattle.vx_table.specs.Scope.{value}
-use Rattle.vx_table.proofs.Steps.{leads-field, stop-field, leads-absent, leads-present, leads-repeat, stop-repeat, leads-name, leads-no_row, leads-turn, stop-turn, leads-no_turn}
+use Rattle.vx_table.specs.Forms.{present, form_of}
+use Rattle.vx_table.specs.Walks.{ended}
+use Rattle.vx_table.proofs.Steps.{leads-field, stop-field, leads-block, stop-block, leads-name, leads-no_row, leads-turn, stop-turn, leads-no_turn}
 use Rattle.vx_table.proofs.walk.+walk.Goals as goal
 
 pub code_table-loop-row-preserved-in_ok-code_field-in-Field :
@@ -20,34 +21,20 @@ code_table-returns-in_err-code_field-in-Field g t c =
     let p = err_from_is_err_and c.from_residual.result c.from_residual.ensures.1 in
     rw (p.1, p.2) (stop-field _ _ _ before walked)
 
-pub code_table-loop-row-preserved-then-value-eq0 :
-    goal.code_table-loop-row-preserved-then-value-eq0
-code_table-loop-row-preserved-then-value-eq0 g t c =
-    let before = rw (c.in-Some.ensures.cases.0, c.in-When.is) at c.loop-row.invariant.1 in
-    let none : value c.loop-row.scope c.in-When.holds ≡ 0 = cc in
-    (omega (arith, c.in-Some.ensures.cases.1, c.split_block.ensures.all), rw c.split_block.ensures.behind (leads-absent {whole = form_of c.args.table.now c.args.scope.now} _ _ _ _ before none))
+pub code_table-loop-row-preserved-in_ok-code_block-in-Block :
+    goal.code_table-loop-row-preserved-in_ok-code_block-in-Block
+code_table-loop-row-preserved-in_ok-code_block-in-Block g t c =
+    let before = rw (c.in-Some.ensures.cases.0, c.in-Block.is) at c.loop-row.invariant.1 in
+    let walked = rw (c.in_ok-code_block-in-Block.was, c.split_block.ensures.block) at c.code_block.ensures in
+    (omega (arith, c.in-Some.ensures.cases.1, c.split_block.ensures.all), rw c.split_block.ensures.behind (leads-block _ _ _ _ _ before walked))
 
-pub code_table-loop-row-preserved-else-value-eq0 :
-    goal.code_table-loop-row-preserved-else-value-eq0
-code_table-loop-row-preserved-else-value-eq0 g t c =
-    let before = rw (c.in-Some.ensures.cases.0, c.in-When.is) at c.loop-row.invariant.1 in
-    let some : ¬ (value c.loop-row.scope c.in-When.holds ≡ 0) = rw c.value.ensures at c.if-value-eq0.false in
-    (omega (arith, c.in-Some.ensures.cases.1), leads-present {whole = form_of c.args.table.now c.args.scope.now} _ _ _ _ before some)
-
-pub code_table-loop-row-preserved-in_ok-code_turns-in-Repeat :
-    goal.code_table-loop-row-preserved-in_ok-code_turns-in-Repeat
-code_table-loop-row-preserved-in_ok-code_turns-in-Repeat g t c =
-    let before = rw (c.in-Some.ensures.cases.0, c.in-Repeat.is) at c.loop-row.invariant.1 in
-    let walked = rw (c.in_ok-code_turns-in-Repeat.was, c.split_block-in-Repeat.ensures.block, c.value-times.ensures) at c.code_turns.ensures in
-    (omega (arith, c.in-Some.ensures.cases.1, c.split_block-in-Repeat.ensures.all), rw c.split_block-in-Repeat.ensures.behind (leads-repeat _ _ _ _ _ _ before walked))
-
-pub code_table-returns-in_err-code_turns-in-Repeat :
-    goal.code_table-returns-in_err-code_turns-in-Repeat
-code_table-returns-in_err-code_turns-in-Repeat g t c =
-    let before = rw (c.in-Some.ensures.cases.0, c.in-Repeat.is) at c.loop-row.invariant.1 in
-    let walked = rw (c.in_err-code_turns-in-Repeat.was, c.split_block-in-Repeat.ensures.block, c.value-times.ensures) at c.code_turns.ensures in
-    let p = err_from_is_err_and c.from_residual-in_err-code_turns-in-Repeat.result c.from_residual-in_err-code_turns-in-Repeat.ensures.1 in
-    rw (p.1, p.2) (stop-repeat _ _ _ _ _ before walked)
+pub code_table-returns-in_err-code_block-in-Block :
+    goal.code_table-returns-in_err-code_block-in-Block
+code_table-returns-in_err-code_block-in-Block g t c =
+    let before = rw (c.in-Some.ensures.cases.0, c.in-Block.is) at c.loop-row.invariant.1 in
+    let walked = rw (c.in_err-code_block-in-Block.was, c.split_block.ensures.block) at c.code_block.ensures in
+    let p = err_from_is_err_and c.from_residual-in_err-code_block-in-Block.result c.from_residual-in_err-code_block-in-Block.ensures.1 in
+    rw (p.1, p.2) (stop-block _ _ _ _ before walked)
 
 pub code_table-loop-row-preserved : goal.code_table-loop-row-preserved
 code_table-loop-row-preserved g t c =
@@ -56,6 +43,18 @@ code_table-loop-row-preserved g t c =
 
 pub code_table-returns : goal.code_table-returns
 code_table-returns g t c = leads-no_row _ _ (rw c.in_default.is at c.split_first.ensures.cases) c.loop-row.invariant.1
+
+pub code_block-returns-then-value-eq0 : goal.code_block-returns-then-value-eq0
+unfolding present
+code_block-returns-then-value-eq0 g t c = rw (c.in-When.is, sym c.value.ensures ∙ c.if-value-eq0.true) ended
+
+pub code_block-returns-else-value-eq0 : goal.code_block-returns-else-value-eq0
+unfolding present
+code_block-returns-else-value-eq0 g t c = rw (c.in-When.is, ne_eqb _ _ (rw c.value.ensures at c.if-value-eq0.false)) c.code_table.ensures
+
+pub code_block-returns-in-Repeat : goal.code_block-returns-in-Repeat
+unfolding present
+code_block-returns-in-Repeat g t c = rw (c.in-Repeat.is, sym c.value-times.ensures) c.code_turns.ensures
 
 pub code_turns-loop-turn-preserved : goal.code_turns-loop-turn-preserved
 code_turns-loop-turn-preserved g t c =

@@ -1,0 +1,150 @@
+-- Where the stars of a table tell what is shown, its forms keep the shown fields, and the kept items tell these.
+use Rattle.std.proofs.Common.{◌≡◌, inl, inr, ℕ, ℤ, zero, suc, ◌+◌, ◌-◌, min, Bool, true, false, cond, not, ◌&&◌, ◌==◌, IsTrue, List, [], ◌∷◌, ◌++◌, length, slice_set, refl, ap, sym, subst, ◌∙◌}
+use Rattle.std.proofs.lemmas.Bool.{cases_Bool, and_parts, not-true}
+use Rattle.vx_bits.specs.declared.list.Item.{Item}
+use Rattle.vx_table.specs.declared.rows.Formula.{Formula}
+use Rattle.vx_table.specs.declared.rows.Coding.{Coding}
+use Rattle.vx_table.specs.declared.rows.Coding.TheVariants.{Fixed, Golomb, SignedGolomb, Zeros, OneAndZeros, Trailing, Absent, Refused}
+use Rattle.vx_table.specs.declared.rows.Cell.{Cell}
+use Rattle.vx_table.specs.declared.rows.Presence.{Presence}
+use Rattle.vx_table.specs.declared.rows.Presence.TheVariants.{When, Repeat}
+use Rattle.vx_table.specs.declared.rows.Row.{Row}
+use Rattle.vx_table.specs.declared.rows.Row.TheVariants.{Field, Block, Name}
+use Rattle.vx_table.specs.Scope.{value}
+use Rattle.vx_table.specs.Forms.{Form, done, field, ◌>>=◌, coding_at, cell_at, after, one_field, turns, present, part, form_of}
+use Rattle.vx_table.specs.Parts.{Section, sections_form}
+use Rattle.vx_table.specs.Spelling.{HasCode}
+use Rattle.vx_table.specs.Values.{Follows, to_end, through}
+use Rattle.vx_table.specs.Depends.{has, with_all, set_of, Agree, Alike, at_ends, both, hidden_left, hidden_right}
+use Rattle.vx_table.specs.Kept.{stands_for_field, kept_item, kept_along}
+use Rattle.vx_table.proofs.Items.{same_value}
+use Rattle.vx_table.specs.Shown.{shown_cells, KeepsShown, KeepsOnly, CellsFollowKept, KeptTellsKept, star_tells, stars_tell, sections_stars_tell}
+
+keeps_then : (shown : List ℕ) (f : Form (List ℕ)) (next : List ℕ → Form (List ℕ)) → KeepsShown shown f → ((t : List ℕ) → KeepsShown shown (next t)) → KeepsShown shown (f >>= next)
+keeps_then shown (done t) next keeps behind = behind t
+keeps_then shown (field cell goes) next keeps behind = (keeps.0, λ v. keeps_then shown (goes v) next (keeps.1 v) behind)
+
+keeps_turns : (shown : List ℕ) (block : List ℕ → Form (List ℕ)) (counter turn times : ℕ) (s : List ℕ) → ((t : List ℕ) → KeepsShown shown (block t)) → KeepsShown shown (turns block counter turn times s)
+unfolding turns
+keeps_turns shown block counter turn zero s keeps = tt
+keeps_turns shown block counter turn (suc more) s keeps =
+    keeps_then shown (block (slice_set s counter turn)) (turns block counter (turn + 1) more) (keeps (slice_set s counter turn)) (λ t. keeps_turns shown block counter (turn + 1) more t keeps)
+
+keeps_present : (shown : List ℕ) (presence : Presence) (block : List ℕ → Form (List ℕ)) (s : List ℕ) → ((t : List ℕ) → KeepsShown shown (block t)) → KeepsShown shown (present presence block s)
+unfolding present
+keeps_present shown (When holds) block s keeps = elim (value s holds == 0) as (λ none. KeepsShown shown (cond none (done s) (block s))) [
+  | true ↦ tt
+  | false ↦ keeps s
+]
+keeps_present shown (Repeat counter times) block s keeps = keeps_turns shown block counter 0 (value s times) s keeps
+
+-- a field stands for one at each scope or at none
+standing : (s : List ℕ) (coding : Coding Formula) → stands_for_field (coding_at s coding) ≡ stands_for_field coding
+unfolding stands_for_field coding_at
+standing s (Fixed width) = refl
+standing s Golomb = refl
+standing s SignedGolomb = refl
+standing s Zeros = refl
+standing s OneAndZeros = refl
+standing s Trailing = refl
+standing s Absent = refl
+standing s Refused = refl
+
+same_tests : (kept is : Bool) → cond kept is (not is) ≡ true → kept ≡ is
+same_tests true is h = sym h
+same_tests false is h = sym (not-true is h)
+
+starred : (shown s : List ℕ) (c : Cell Formula) → star_tells shown (Field c) ≡ true → IsTrue (stands_for_field (coding_at s c.coding)) → c.kept ≡ has shown c.field
+unfolding star_tells
+starred shown s c h stands = same_tests c.kept (has shown c.field) (rw (sym (standing s c.coding) ∙ stands) at h)
+
+keeps_part : (shown : List ℕ) (skip len : ℕ) (rows : List Row) (s : List ℕ) → stars_tell shown rows ≡ true → KeepsShown shown (part skip len rows s)
+unfolding part one_field
+keeps_part shown zero len [] s h = tt
+keeps_part shown (suc skip) len [] s h = tt
+keeps_part shown (suc skip) len (row ∷ rows) s h = keeps_part shown skip len rows s (and_parts (star_tells shown row) (stars_tell shown rows) h).1
+keeps_part shown zero zero (row ∷ rows) s h = tt
+keeps_part shown zero (suc len) (Field c ∷ rows) s h =
+    let parts = and_parts (star_tells shown (Field c)) (stars_tell shown rows) h in
+    (λ stands. starred shown s c parts.0 stands, λ v. keeps_part shown 0 len rows (after s (cell_at s c) v) parts.1)
+keeps_part shown zero (suc len) (Block presence n ∷ rows) s h =
+    let rest = (and_parts (star_tells shown (Block presence n)) (stars_tell shown rows) h).1 in
+    keeps_then shown (present presence (part 0 (min n len) rows) s) (part (min n len) (len - min n len) rows)
+    (keeps_present shown presence (part 0 (min n len) rows) s (λ t. keeps_part shown 0 (min n len) rows t rest)) (λ t. keeps_part shown (min n len) (len - min n len) rows t rest)
+keeps_part shown zero (suc len) (Name name formula ∷ rows) s h =
+    keeps_part shown 0 len rows (slice_set s name (value s formula)) (and_parts (star_tells shown (Name name formula)) (stars_tell shown rows) h).1
+
+table_keeps : (shown : List ℕ) (rows : List Row) (s : List ℕ) → stars_tell shown rows ≡ true → KeepsShown shown (form_of rows s)
+unfolding form_of
+table_keeps shown rows s h = keeps_part shown 0 (length rows) rows s h
+
+sections_keep : (shown : List ℕ) (sections : List Section) (s : List ℕ) → sections_stars_tell shown sections ≡ true → KeepsShown shown (sections_form sections s)
+unfolding sections_form
+sections_keep shown [] s h = tt
+sections_keep shown (section ∷ more) s h =
+    let parts = and_parts (stars_tell shown section.rows) (sections_stars_tell shown more) h in
+    keeps_then shown (present section.presence (form_of section.rows) s) (sections_form more)
+    (keeps_present shown section.presence (form_of section.rows) s (λ t. table_keeps shown section.rows t parts.0)) (λ t. sections_keep shown more t parts.1)
+
+-- What the test of a table and of a structure says.
+pub table_keeps_only : (given shown : List ℕ) (rows : List Row) → stars_tell (with_all (set_of given) shown) rows ≡ true → KeepsOnly given shown (form_of rows)
+table_keeps_only given shown rows h = record { keeps = λ s. table_keeps (with_all (set_of given) shown) rows s h }
+
+pub structure_keeps_only : (given shown : List ℕ) (sections : List Section) → sections_stars_tell (with_all (set_of given) shown) sections ≡ true → KeepsOnly given shown (sections_form sections)
+structure_keeps_only given shown sections h = record { keeps = λ s. sections_keep (with_all (set_of given) shown) sections s h }
+
+-- what stands for no field has one value
+only_value : (coding : Coding ℕ) (v w : ℤ) → stands_for_field coding ≡ false → HasCode coding v → HasCode coding w → v ≡ w
+unfolding stands_for_field HasCode
+only_value (Fixed n) v w none a b = absurd (cc)
+only_value Golomb v w none a b = absurd (cc)
+only_value SignedGolomb v w none a b = absurd (cc)
+only_value Zeros v w none a b = a ∙ sym b
+only_value OneAndZeros v w none a b = a ∙ sym b
+only_value Trailing v w none a b = a ∙ sym b
+only_value Absent v w none a b = absurd (cc)
+only_value Refused v w none a b = absurd a
+
+-- a test and one that fails
+no_two : (b : Bool) → (b && false) ≡ false
+no_two true = refl
+no_two false = refl
+
+kept_apart : (cell : Cell ℕ) (v w : ℤ) (r s : List Item) → (IsTrue (stands_for_field cell.coding) → cell.kept ≡ true) → HasCode cell.coding v → HasCode cell.coding w
+    → kept_item cell v ++ r ≡ kept_item cell w ++ s → (v ≡ w) × (r ≡ s)
+kept_apart cell v w r s keeps a b e = elim (cases_Bool (stands_for_field cell.coding)) [
+  | inl stands ↦ same_value cell.field v w r s (rw (keeps stands, stands) at e)
+  | inr none ↦ (only_value cell.coding v w none a b, rw (none, no_two cell.kept) at e)
+]
+
+not_kept : (cell : Cell ℕ) (v : ℤ) → (IsTrue (stands_for_field cell.coding) → cell.kept ≡ false) → kept_item cell v ≡ []
+not_kept cell v drops = elim (cases_Bool (stands_for_field cell.coding)) [
+  | inl stands ↦ rw (drops stands) refl
+  | inr none ↦ rw (none, no_two cell.kept) refl
+]
+
+follow_kept : {shown known : List ℕ} {f g : Form (List ℕ)} {v w : List ℤ} {s t : List ℕ} → Alike shown known f g → KeepsShown shown f → KeepsShown shown g → Follows f v s → Follows g w t
+    → kept_along f v ≡ kept_along g w → (shown_cells shown f v ≡ shown_cells shown g w) × Agree known s t
+follow_kept (at_ends agree) keep hold to_end to_end same = (refl, agree)
+follow_kept {shown} {known} {t} (both {cell} {goes} {other} is more) keep hold (through {v} {w = vs} has_v on) (through {v = u} {w = us} has_u along) same =
+    let apart = kept_apart cell v u (kept_along (goes v) vs) (kept_along (other u) us) (λ stands. keep.0 stands ∙ is) has_v.code has_u.code same in
+    let along_v : Follows (other v) us t = subst (λ x. Follows (other x) us t) (sym apart.0) along in
+    let same_rest : kept_along (goes v) vs ≡ kept_along (other v) us = subst (λ x. kept_along (goes v) vs ≡ kept_along (other x) us) (sym apart.0) apart.1 in
+    let rest = follow_kept (more v) (keep.1 v) (hold.1 v) on along_v same_rest in
+    let cells : shown_cells shown (field cell goes) (v ∷ vs) ≡ shown_cells shown (field cell other) (v ∷ us) = rw (is, rest.0) refl in
+    (subst (λ x. shown_cells shown (field cell goes) (v ∷ vs) ≡ shown_cells shown (field cell other) (x ∷ us)) apart.0 cells, rest.1)
+follow_kept {shown} (hidden_left {cell} {goes} is more) keep hold (through {v} {w = vs} has_v on) along same =
+    let none = not_kept cell v (λ stands. keep.0 stands ∙ is) in
+    let rest = follow_kept (more v) (keep.1 v) hold on along (rw none at same) in
+    (rw is rest.0, rest.1)
+follow_kept {shown} (hidden_right {cell} {goes} is more) keep hold on (through {v} {w = vs} has_v along) same =
+    let none = not_kept cell v (λ stands. hold.0 stands ∙ is) in
+    let rest = follow_kept (more v) keep (hold.1 v) on along (rw none at same) in
+    (rw is rest.0, rest.1)
+
+pub cells_follow_kept : CellsFollowKept
+cells_follow_kept shown known f g v w s t alike keep hold on along same = follow_kept alike keep hold on along same
+
+pub kept_tells_kept : KeptTellsKept
+kept_tells_kept given shown form s t a b v w depends only agree on along same =
+    follow_kept (depends.alike s t agree) (only.keeps s) (only.keeps t) on along same

@@ -1,0 +1,6 @@
+use Rattle.std.proofs.Common.{◌≡◌, drop}
+use Rattle.vx_table.specs.Depends.{hides}
+use Rattle.vx_table.proofs.depends.hides.Given as goal
+
+abbrev pub invariant-loop-row : goal.invariant-loop-row
+invariant-loop-row l = hides l.fn.shown (drop l.row-index l.rows) ≡ hides l.fn.shown l.fn.rows

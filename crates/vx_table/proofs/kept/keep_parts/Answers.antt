@@ -1,0 +1,5 @@
+use Rattle.vx_table.proofs.Keepings.{keeps}
+use Rattle.vx_table.proofs.kept.keep_parts.Goals as goal
+
+pub returns : goal.returns
+returns c = keeps c.code_parts.new.scope c.code_parts.result c.code_parts.ensures

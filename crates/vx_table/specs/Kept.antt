@@ -1,0 +1,59 @@
+-- The kept items of a structure: those of the fields that slice decoding depends on.
+use Rattle.std.specs.Prelude.{◌≡◌, ℕ, ℤ, Bool, true, false, cond, ◌&&◌, List, [], ◌∷◌, ◌++◌, Result, Ok, Err}
+use Rattle.vx_bits.specs.declared.list.Item.{Item}
+use Rattle.vx_table.specs.declared.rows.Coding.{Coding}
+use Rattle.vx_table.specs.declared.rows.Coding.TheVariants.{Fixed, Golomb, SignedGolomb, Zeros, OneAndZeros, Trailing, Absent, Refused}
+use Rattle.vx_table.specs.declared.rows.Cell.{Cell}
+use Rattle.vx_table.specs.declared.writer.SpellError.{SpellError}
+use Rattle.vx_table.specs.declared.writer.SpellError.TheVariants as errors
+use Rattle.vx_table.specs.Forms.{Form, done, field}
+use Rattle.vx_table.specs.Spelling.{item_of, items_along}
+use Rattle.vx_table.specs.Values.{IsValueOf, Follows}
+use Rattle.vx_table.specs.Writing.{IsWritten}
+
+-- a field, or an absent one that stands among the kept ones, and no gap
+unfoldable pub stands_for_field : {N : Type 0} → Coding N → Bool
+stands_for_field (Fixed width) = true
+stands_for_field Golomb = true
+stands_for_field SignedGolomb = true
+stands_for_field Zeros = false
+stands_for_field OneAndZeros = false
+stands_for_field Trailing = false
+stands_for_field Absent = true
+stands_for_field Refused = false
+
+-- the item of a kept field; that of an absent one is 0, its only value
+abbrev pub kept_item : Cell ℕ → ℤ → List Item
+kept_item cell v = cond (cell.kept && stands_for_field cell.coding) (record { field = cell.field; value = v } ∷ []) []
+
+-- the kept items of values that go along a form
+abbrev pub kept_along : {A : Type 0} → Form A → List ℤ → List Item
+kept_along (done a) w = []
+kept_along (field cell goes) [] = []
+kept_along (field cell goes) (v ∷ w) = kept_item cell v ++ kept_along (goes v) w
+
+-- What sifting does at one field: its item is taken, and kept where the field is.
+abbrev pub keeps_field : List Item → List Item → Cell ℕ → Result ℤ SpellError → List Item → List Item → Type 0
+keeps_field items into cell (Ok v) left new = IsValueOf cell v × (items ≡ item_of cell v ++ left) × (new ≡ into ++ kept_item cell v)
+keeps_field items into cell (Err errors.Memory) left new = Unit {0}
+keeps_field items into cell (Err errors.NoValue) left new = (v : ℤ) (more : List Item) → IsValueOf cell v → items ≡ item_of cell v ++ more → ⊥
+
+-- The items taken are those of values of the form, which leave this scope, and the kept ones were gained.
+pub record IsKept {A : Type 0} (form : Form A) (items into : List Item) (a : A) (left new : List Item) : Type 0 where
+  pub values : List ℤ
+  pub follows : Follows form values a
+  pub taken : items ≡ items_along form values ++ left
+  pub gained : new ≡ into ++ kept_along form values
+
+-- what is said of an answer
+abbrev pub OnAnswer : {B : Type 0} → Result B SpellError → Type 0 → Type 0
+OnAnswer (Ok b) P = P
+OnAnswer (Err e) P = Unit {0}
+
+-- An answer of sifting, whole, unless memory runs out:
+pub record Keeps {A B : Type 0} (form : Form A) (items into : List Item) (result : Result B SpellError) (a : A) (left new : List Item) : Type 0 where
+  -- what it answers is so;
+  pub is : OnAnswer result (IsKept form items into a left new)
+  -- where the items begin with those of values of the form, the kept ones of these are gained.
+  pub only : (values : List ℤ) (b : A) (more : List Item) → Follows form values b → items ≡ items_along form values ++ more
+      → IsWritten result ((new ≡ into ++ kept_along form values) × (left ≡ more) × (a ≡ b))

@@ -1,0 +1,96 @@
+//! Sifting by a table: from all items of a structure to those of its kept fields.
+
+ghost use Rattle.std.specs.Prelude.{◌≡◌, ◌++◌, OnOk};
+ghost use Rattle.vx_table.specs.Forms.{form_of};
+ghost use Rattle.vx_table.specs.Parts.{parts_form};
+ghost use Rattle.vx_table.specs.Kept as kept;
+ghost use Rattle.vx_table.specs.Kept.{kept_item, Keeps};
+
+use crate::parts::{Part, code_parts};
+use crate::rows::{Cell, Coding, Row};
+use crate::scope::Scope;
+use crate::walk::{Coder, code_table};
+use crate::writer::{SpellError, Unwritten, is_value, next_value};
+use std::alloc::AllocError;
+use vx_bits::{Fields, Item};
+
+/// Whether a coding is that of a field, or of an absent one that stands among the kept ones.
+#[tactic(auto, unfolding(crate::specs::Kept::stands_for_field))]
+fn stands_for_field(coding: Coding<u32>) -> bool
+    ensures { result ≡ kept.stands_for_field coding }
+{
+    matches!(
+        coding,
+        Coding::Fixed(_) | Coding::Golomb | Coding::SignedGolomb | Coding::Absent
+    )
+}
+
+/// Appends the item of a kept field.
+fn keep_item(into: &mut Fields, cell: Cell<u32>, value: i64) -> Result<(), AllocError>
+    ensures { OnOk result (into.new ≡ into.old ++ kept_item cell value) }
+{
+    if !cell.kept {
+        return Ok(());
+    }
+    if !stands_for_field(cell.coding) {
+        return Ok(());
+    }
+    into.push(Item {
+        field: cell.field,
+        value,
+    })
+}
+
+impl<'a> Coder<Fields> for Unwritten<'a> {
+    ghost use Rattle.vx_table.specs.Kept.{keeps_field};
+
+    type Fault = SpellError;
+
+    ghost step = { keeps_field };
+
+    fn code(&mut self, items: &mut Fields, cell: Cell<u32>) -> Result<i64, SpellError> {
+        let Some(value) = next_value(self, cell.field, cell.coding) else {
+            return Err(SpellError::NoValue);
+        };
+        if !is_value(cell, value) {
+            return Err(SpellError::NoValue);
+        }
+        match keep_item(items, cell, value) {
+            Ok(()) => Ok(value),
+            Err(_) => Err(SpellError::Memory),
+        }
+    }
+}
+
+/// Takes the items of a value of a table at a scope, appends those of its kept fields to `into`, and gives the scope
+/// the numbers taken. A `fill` row is kept as an item with value 0.
+///
+/// # Errors
+///
+/// `NoValue` where the items aren't those of a value of the table; want of memory.
+pub fn keep_table(
+    table: &[Row],
+    scope: &mut Scope,
+    items: &mut Unwritten<'_>,
+    into: &mut Fields,
+) -> Result<(), SpellError>
+    ensures { Keeps (form_of table.now scope.old) items.old into.old result scope.new items.new into.new }
+{
+    code_table(table, scope, items, into)
+}
+
+/// Takes the items of a value of a structure's parts, as [`keep_table`] takes those of a table.
+///
+/// # Errors
+///
+/// `NoValue` where the items aren't those of a value of the structure; want of memory.
+pub fn keep_parts(
+    parts: &[Part<'_>],
+    scope: &mut Scope,
+    items: &mut Unwritten<'_>,
+    into: &mut Fields,
+) -> Result<(), SpellError>
+    ensures { Keeps (parts_form parts.now scope.old) items.old into.old result scope.new items.new into.new }
+{
+    code_parts(parts, scope, items, into)
+}
