@@ -1,5 +1,6 @@
 //! Laws of all tables: functions that do nothing, each with a law as its contract.
 ghost use Rattle.vx_table.specs.Laws.{ReadsOneWay, AnswersOneWay, AnswersAlways, SpellsBothWays, ReachesBothWays, ReadsBack, SpellsApart, ItemsApart};
+ghost use Rattle.vx_table.specs.Trailing.{ClosesWithoutTrailing};
 
 /// Bits that begin with a spelling tell the values and what follows.
 pub fn one_reading()
@@ -25,6 +26,11 @@ pub fn spelled_both_ways()
 /// Values that follow the form are read back from their spelling, whatever follows that may follow.
 pub fn read_back()
     ensures { ReadsBack }
+{}
+
+/// Behind the values of a table without a trailing anything may follow.
+pub fn closed_without_trailing()
+    ensures { ClosesWithoutTrailing }
 {}
 
 /// No spelling of values is a proper prefix of another's.

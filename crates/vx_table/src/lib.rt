@@ -27,7 +27,7 @@ mod writer;
 pub use depends::{depends_only_on, parts_depend_only_on};
 pub use kept::{keep_parts, keep_table};
 pub use laws::{
-    every_answer, no_proper_prefix, one_answer, one_reading, one_writing, read_back,
+    closed_without_trailing, every_answer, no_proper_prefix, one_answer, one_reading, one_writing, read_back,
     spelled_both_ways,
 };
 pub use laws_depend::{

@@ -1,0 +1,90 @@
+-- Values of a table without a trailing may be followed by anything.
+use Rattle.std.proofs.Common.{◌≡◌, ℕ, ℤ, zero, suc, ◌+◌, ◌-◌, min, Bool, true, false, List, [], ◌∷◌, length, slice_set, refl, sym, ◌∙◌}
+use Rattle.std.specs.Prelude.{◌||◌}
+use Rattle.std.specs.Prelude.{◌==◌, cond}
+use Rattle.vx_table.specs.declared.rows.Formula.{Formula}
+use Rattle.vx_table.specs.declared.rows.Coding.{Coding}
+use Rattle.vx_table.specs.declared.rows.Coding.TheVariants.{Fixed, Golomb, SignedGolomb, Zeros, OneAndZeros, Trailing, Absent, Refused}
+use Rattle.vx_table.specs.declared.rows.Cell.{Cell}
+use Rattle.vx_table.specs.declared.rows.Row.{Row}
+use Rattle.vx_table.specs.declared.rows.Row.TheVariants.{Field, Block, Name}
+use Rattle.vx_table.specs.declared.rows.Presence.{Presence}
+use Rattle.vx_table.specs.declared.rows.Presence.TheVariants.{When, Repeat}
+use Rattle.vx_table.specs.Scope.{value}
+use Rattle.vx_table.specs.Forms.{Form, done, field, ◌>>=◌, coding_at, cell_at, one_field, turns, present, part, form_of}
+use Rattle.vx_table.specs.Spelling.{MayEnd, code_of}
+use Rattle.vx_table.specs.Values.{bits_along, Closes}
+use Rattle.vx_table.specs.Trailing.{is_trailing, has_trailing, ClosesWithoutTrailing}
+
+-- No field of the form is a trailing.
+data IsOpen {A : Type 0} : Form A → Type 0 where
+  over : {a : A} → IsOpen (done a)
+  on : {cell : Cell ℕ} {goes : ℤ → Form A} → is_trailing cell.coding ≡ false → ((v : ℤ) → IsOpen (goes v)) → IsOpen (field cell goes)
+
+may_end : (coding : Coding ℕ) (rest : List Bool) → is_trailing coding ≡ false → MayEnd coding rest
+unfolding MayEnd is_trailing
+may_end (Fixed n) rest none = tt
+may_end Golomb rest none = tt
+may_end SignedGolomb rest none = tt
+may_end Zeros rest none = tt
+may_end OneAndZeros rest none = tt
+may_end Trailing rest none = absurd (cc)
+may_end Absent rest none = tt
+may_end Refused rest none = tt
+
+closes : {A : Type 0} (form : Form A) (place : ℕ) (values : List ℤ) (rest : List Bool) → IsOpen form → Closes form place values rest
+closes (done a) place values rest is = tt
+closes (field cell goes) place [] rest is = tt
+closes (field cell goes) place (v ∷ w) rest (on none more) = (may_end cell.coding _ none, closes (goes v) _ w rest (more v))
+
+sequence : {A B : Type 0} (f : Form A) (next : A → Form B) → IsOpen f → ((a : A) → IsOpen (next a)) → IsOpen (f >>= next)
+sequence (done a) next is others = others a
+sequence (field cell goes) next (on none more) others = on none (λ v. sequence (goes v) next (more v) others)
+
+-- a scope doesn't make a trailing
+same_kind : (s : List ℕ) (coding : Coding Formula) → is_trailing coding ≡ false → is_trailing (coding_at s coding) ≡ false
+unfolding is_trailing coding_at
+same_kind s (Fixed width) none = refl
+same_kind s Golomb none = refl
+same_kind s SignedGolomb none = refl
+same_kind s Zeros none = refl
+same_kind s OneAndZeros none = refl
+same_kind s Trailing none = none
+same_kind s Absent none = refl
+same_kind s Refused none = refl
+
+open_field : (s : List ℕ) (c : Cell Formula) → is_trailing c.coding ≡ false → IsOpen (one_field s c)
+unfolding one_field
+open_field s c none = on (same_kind s c.coding none) (λ v. over)
+
+open_turns : (block : List ℕ → Form (List ℕ)) (counter turn times : ℕ) (s : List ℕ) → ((t : List ℕ) → IsOpen (block t)) → IsOpen (turns block counter turn times s)
+unfolding turns
+open_turns block counter turn zero s is = over
+open_turns block counter turn (suc more) s is = sequence (block (slice_set s counter turn)) (turns block counter (turn + 1) more) (is (slice_set s counter turn)) (λ t. open_turns block counter (turn + 1) more t is)
+
+open_present : (presence : Presence) (block : List ℕ → Form (List ℕ)) (s : List ℕ) → ((t : List ℕ) → IsOpen (block t)) → IsOpen (present presence block s)
+unfolding present
+open_present (When holds) block s is = elim (value s holds == 0) as (λ b. IsOpen (cond b (done s) (block s))) [ | true ↦ over | false ↦ is s ]
+open_present (Repeat counter times) block s is = open_turns block counter 0 (value s times) s is
+
+both_false : (a b : Bool) → (a || b) ≡ false → (a ≡ false) × (b ≡ false)
+both_false true b none = absurd (cc)
+both_false false b none = (refl, none)
+
+open_part : (skip len : ℕ) (rows : List Row) (s : List ℕ) → has_trailing rows ≡ false → IsOpen (part skip len rows s)
+unfolding part has_trailing
+open_part skip len [] s none = over
+open_part (suc skip) len (Field c ∷ rows) s none = open_part skip len rows s (both_false _ _ none).1
+open_part (suc skip) len (Block presence n ∷ rows) s none = open_part skip len rows s none
+open_part (suc skip) len (Name name formula ∷ rows) s none = open_part skip len rows s none
+open_part zero zero (row ∷ rows) s none = over
+open_part zero (suc len) (Field c ∷ rows) s none =
+    sequence (one_field s c) (part 0 len rows) (open_field s c (both_false _ _ none).0) (λ t. open_part 0 len rows t (both_false _ _ none).1)
+open_part zero (suc len) (Block presence n ∷ rows) s none =
+    sequence (present presence (part 0 (min n len) rows) s) (part (min n len) (len - min n len) rows) (open_present presence (part 0 (min n len) rows) s (λ t. open_part 0 (min n len) rows t none))
+    (λ t. open_part (min n len) (len - min n len) rows t none)
+open_part zero (suc len) (Name name formula ∷ rows) s none = open_part 0 len rows (slice_set s name (value s formula)) none
+
+pub closes_without_trailing : ClosesWithoutTrailing
+unfolding form_of
+closes_without_trailing rows s place values rest none = closes (part 0 (length rows) rows s) place values rest (open_part 0 (length rows) rows s none)
