@@ -1,9 +1,9 @@
--- Tables without a trailing, behind whose values anything may follow.
-use Rattle.std.specs.Prelude.{◌≡◌, ℕ, ℤ, Bool, true, false, ◌||◌, List, [], ◌∷◌}
+-- What may follow the values of a table: anything where it has no trailing, nothing where it ends in one.
+use Rattle.std.specs.Prelude.{◌≡◌, ℕ, ℤ, Bool, true, false, ◌||◌, ◌&&◌, not, nat_lt, List, [], ◌∷◌, length}
 use Rattle.vx_table.specs.declared.rows.Coding.{Coding}
 use Rattle.vx_table.specs.declared.rows.Coding.TheVariants.{Trailing}
 use Rattle.vx_table.specs.declared.rows.Row.{Row}
-use Rattle.vx_table.specs.declared.rows.Row.TheVariants.{Field}
+use Rattle.vx_table.specs.declared.rows.Row.TheVariants.{Field, Block}
 use Rattle.vx_table.specs.Forms.{form_of}
 use Rattle.vx_table.specs.Values.{Closes}
 
@@ -20,3 +20,15 @@ has_trailing (row ∷ rows) = has_trailing rows
 -- where none is, anything may follow the values of the table
 abbrev pub ClosesWithoutTrailing : Type 0
 ClosesWithoutTrailing = (rows : List Row) (s : List ℕ) (place : ℕ) (values : List ℤ) (rest : List Bool) → has_trailing rows ≡ false → Closes (form_of rows s) place values rest
+
+-- no row but the last one, which is in no block, is a trailing
+unfoldable pub trails_last : List Row → Bool
+trails_last [] = true
+trails_last (Field c ∷ []) = true
+trails_last (Field c ∷ row ∷ rows) = not (is_trailing c.coding) && trails_last (row ∷ rows)
+trails_last (Block presence n ∷ rows) = (nat_lt n (length rows) || not (has_trailing rows)) && trails_last rows
+trails_last (row ∷ rows) = trails_last rows
+
+-- where that holds, the values of the table may end the bits
+abbrev pub ClosesAtTheEnd : Type 0
+ClosesAtTheEnd = (rows : List Row) (s : List ℕ) (place : ℕ) (values : List ℤ) → trails_last rows ≡ true → Closes (form_of rows s) place values []

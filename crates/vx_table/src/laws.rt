@@ -1,6 +1,6 @@
 //! Laws of all tables: functions that do nothing, each with a law as its contract.
 ghost use Rattle.vx_table.specs.Laws.{ReadsOneWay, AnswersOneWay, AnswersAlways, SpellsBothWays, ReachesBothWays, ReadsBack, SpellsApart, ItemsApart};
-ghost use Rattle.vx_table.specs.Trailing.{ClosesWithoutTrailing};
+ghost use Rattle.vx_table.specs.Trailing.{ClosesWithoutTrailing, ClosesAtTheEnd};
 
 /// Bits that begin with a spelling tell the values and what follows.
 pub fn one_reading()
@@ -28,9 +28,10 @@ pub fn read_back()
     ensures { ReadsBack }
 {}
 
-/// Behind the values of a table without a trailing anything may follow.
-pub fn closed_without_trailing()
-    ensures { ClosesWithoutTrailing }
+/// Behind the values of a table without a trailing anything may follow; where it ends in one, the bits may end.
+pub fn what_may_follow()
+    ensures anything { ClosesWithoutTrailing }
+    ensures nothing { ClosesAtTheEnd }
 {}
 
 /// No spelling of values is a proper prefix of another's.

@@ -27,8 +27,8 @@ mod writer;
 pub use depends::{depends_only_on, parts_depend_only_on};
 pub use kept::{keep_parts, keep_table};
 pub use laws::{
-    closed_without_trailing, every_answer, no_proper_prefix, one_answer, one_reading, one_writing, read_back,
-    spelled_both_ways,
+    every_answer, no_proper_prefix, one_answer, one_reading, one_writing, read_back,
+    spelled_both_ways, what_may_follow,
 };
 pub use laws_depend::{
     alike_together, cells_follow_items, cells_follow_kept, kept_tells_kept, scopes_follow_items,
