@@ -1,5 +1,5 @@
 -- What may follow the values of a table.
-use Rattle.std.proofs.Common.{◌≡◌, ℕ, ℤ, zero, suc, ◌+◌, ◌-◌, ◌<◌, ◌≤◌, min, ◌⊎◌, inl, inr, Bool, true, false, List, [], ◌∷◌, ◌++◌, length, slice_set, refl, sym, subst, ◌∙◌, arith}
+use Rattle.std.proofs.Common.{◌≡◌, ℕ, ℤ, zero, suc, ◌+◌, ◌-◌, ◌<◌, min, ◌⊎◌, inl, inr, Bool, true, false, List, [], ◌∷◌, ◌++◌, length, slice_set, refl, sym, subst, arith}
 use Rattle.std.specs.Prelude.{◌||◌, ◌&&◌, not, nat_lt, ◌==◌, cond}
 use Rattle.std.proofs.lemmas.Bool.Decides.{leb_tells}
 use Rattle.vx_table.specs.declared.rows.Formula.{Formula}
@@ -11,10 +11,12 @@ use Rattle.vx_table.specs.declared.rows.Row.TheVariants.{Field, Block, Name}
 use Rattle.vx_table.specs.declared.rows.Presence.{Presence}
 use Rattle.vx_table.specs.declared.rows.Presence.TheVariants.{When, Repeat}
 use Rattle.vx_table.specs.Scope.{value}
-use Rattle.vx_table.specs.Forms.{Form, done, field, ◌>>=◌, coding_at, cell_at, one_field, turns, present, part, form_of}
-use Rattle.vx_table.specs.Spelling.{MayEnd, code_of}
+use Rattle.vx_table.specs.Forms.{Form, done, field, ◌>>=◌, coding_at, one_field, turns, present, part, form_of}
+use Rattle.vx_table.specs.Spelling.{MayEnd}
 use Rattle.vx_table.specs.Values.{bits_along, Closes}
-use Rattle.vx_table.specs.Trailing.{is_trailing, has_trailing, trails_last, ClosesWithoutTrailing, ClosesAtTheEnd}
+use Rattle.vx_table.specs.declared.parts.Part.{Part}
+use Rattle.vx_table.specs.Parts.{sections_form, parts_form}
+use Rattle.vx_table.specs.Trailing.{is_trailing, has_trailing, trails_last, comes_once, parts_have_trailing, parts_trail_last, ClosesWithoutTrailing, ClosesAtTheEnd, PartsCloseWithoutTrailing, PartsCloseAtTheEnd}
 
 -- No field of the form is a trailing.
 data IsOpen {A : Type 0} : Form A → Type 0 where
@@ -184,3 +186,48 @@ last_part zero (suc len) (Name name formula ∷ rows) s holds all = last_part 0 
 pub closes_at_the_end : ClosesAtTheEnd
 unfolding form_of
 closes_at_the_end rows s place values holds = closes_end (part 0 (length rows) rows s) place values (last_part 0 (length rows) rows s holds (omega arith))
+
+-- ---- several tables
+
+open_form : (rows : List Row) (s : List ℕ) → has_trailing rows ≡ false → IsOpen (form_of rows s)
+unfolding form_of
+open_form rows s none = open_part 0 (length rows) rows s none
+
+last_form : (rows : List Row) (s : List ℕ) → trails_last rows ≡ true → ComesLast (form_of rows s)
+unfolding form_of
+last_form rows s holds = last_part 0 (length rows) rows s holds (omega arith)
+
+last_present : (presence : Presence) (block : List ℕ → Form (List ℕ)) (s : List ℕ) → comes_once presence ≡ true → ((t : List ℕ) → ComesLast (block t)) → ComesLast (present presence block s)
+unfolding present
+last_present (When holds) block s once is = elim (value s holds == 0) as (λ b. ComesLast (cond b (done s) (block s))) [ true ↦ over_too | false ↦ is s ]
+last_present (Repeat counter times) block s once is = absurd (cc)
+
+-- nothing behind a form
+alone : {A : Type 0} (f : Form A) → ComesLast f → ComesLast (f >>= done)
+alone (done a) is = over_too
+alone (field cell goes) (before none more) = before none (λ v. alone (goes v) (more v))
+alone (field cell goes) (last ends) = last (λ v. ((ends v).0, subst (λ x. (x >>= done) ≡ done (ends v).0) (sym (ends v).1) refl))
+
+open_parts : (parts : List Part) (s : List ℕ) → parts_have_trailing parts ≡ false → IsOpen (parts_form parts s)
+unfolding sections_form parts_have_trailing
+open_parts [] s none = over
+open_parts (part ∷ parts) s none =
+    let both = both_false (has_trailing part.rows.now) (parts_have_trailing parts) none in
+    sequence (present part.presence (form_of part.rows.now) s) (parts_form parts) (open_present part.presence (form_of part.rows.now) s (λ t. open_form part.rows.now t both.0)) (λ t. open_parts parts t both.1)
+
+last_parts : (parts : List Part) (s : List ℕ) → parts_trail_last parts ≡ true → ComesLast (parts_form parts s)
+unfolding sections_form parts_trail_last
+last_parts [] s holds = over_too
+last_parts (part ∷ []) s holds =
+    let both = both_true (comes_once part.presence) (trails_last part.rows.now) holds in
+    alone (present part.presence (form_of part.rows.now) s) (last_present part.presence (form_of part.rows.now) s both.0 (λ t. last_form part.rows.now t both.1))
+last_parts (part ∷ next ∷ parts) s holds =
+    let both = both_true (not (has_trailing part.rows.now)) (parts_trail_last (next ∷ parts)) holds in
+    sequence_last (present part.presence (form_of part.rows.now) s) (parts_form (next ∷ parts)) (open_present part.presence (form_of part.rows.now) s (λ t. open_form part.rows.now t (not_true _ both.0)))
+    (λ t. last_parts (next ∷ parts) t both.1)
+
+pub parts_close : PartsCloseWithoutTrailing
+parts_close parts s place values rest none = closes (parts_form parts s) place values rest (open_parts parts s none)
+
+pub parts_close_at_the_end : PartsCloseAtTheEnd
+parts_close_at_the_end parts s place values holds = closes_end (parts_form parts s) place values (last_parts parts s holds)

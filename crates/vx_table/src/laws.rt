@@ -1,6 +1,6 @@
 //! Laws of all tables: functions that do nothing, each with a law as its contract.
 ghost use Rattle.vx_table.specs.Laws.{ReadsOneWay, AnswersOneWay, AnswersAlways, SpellsBothWays, ReachesBothWays, ReadsBack, SpellsApart, ItemsApart};
-ghost use Rattle.vx_table.specs.Trailing.{ClosesWithoutTrailing, ClosesAtTheEnd};
+ghost use Rattle.vx_table.specs.Trailing.{ClosesWithoutTrailing, ClosesAtTheEnd, PartsCloseWithoutTrailing, PartsCloseAtTheEnd};
 
 /// Bits that begin with a spelling tell the values and what follows.
 pub fn one_reading()
@@ -32,6 +32,8 @@ pub fn read_back()
 pub fn what_may_follow()
     ensures anything { ClosesWithoutTrailing }
     ensures nothing { ClosesAtTheEnd }
+    ensures parts_anything { PartsCloseWithoutTrailing }
+    ensures parts_nothing { PartsCloseAtTheEnd }
 {}
 
 /// No spelling of values is a proper prefix of another's.
