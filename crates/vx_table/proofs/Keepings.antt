@@ -36,7 +36,7 @@ unfolding ends_at
 kept_only {into} more ended to_end is = (sym (append-nil into), is, refl)
 kept_only more (refused {e = errors.Memory} s) (through has rest) is = tt
 kept_only {form = field cell goes} more (refused {e = errors.NoValue} s) (through {v} {w} has rest) is =
-    s v (items_along (goes v) w ++ more) has (is ∙ append_assoc (item_of cell v) (items_along (goes v) w) more)
+    s.1 v (items_along (goes v) w ++ more) has (is ∙ append_assoc (item_of cell v) (items_along (goes v) w) more)
 kept_only {form = field cell goes} {items} {into} {left} {new} {result} {b} more (coded {d} {j} {v} s walk) (through {v = u} {w} has rest) is =
     let same = item_apart cell {v = u} {w = v} (items_along (goes u) w ++ more) d has.code s.0.code
     (sym (is ∙ append_assoc (item_of cell u) (items_along (goes u) w) more) ∙ s.1) in
@@ -46,9 +46,18 @@ kept_only {form = field cell goes} {items} {into} {left} {new} {result} {b} more
     = written_more result (λ p. (p.0 ∙ ap (λ x. x ++ kept_along (goes v) w) s.2 ∙ append_assoc into (kept_item cell v) (kept_along (goes v) w), p.1, p.2)) (kept_only more walk on ahead) in
     subst (λ x. IsWritten result ((new ≡ into ++ kept_along (field cell goes) (x ∷ w)) × (left ≡ more) × ends_at result b)) (sym same.0) here
 
+-- items stay in front
+gains : {A : Type 0} {form : Form A} {items into left new : List Item} {result : Result A SpellError} → Walks keeps_field form items into result left new → (gained : List Item) × (new ≡ into ++ gained)
+gains {into} ended = ([], sym (append-nil into))
+gains {into} (refused {e = errors.Memory} s) = ([], s ∙ sym (append-nil into))
+gains {into} (refused {e = errors.NoValue} s) = ([], s.0 ∙ sym (append-nil into))
+gains {form = field cell goes} {into} (coded {v} s walk) =
+    let rest = gains walk in
+    (kept_item cell v ++ rest.0, rest.1 ∙ ap (λ x. x ++ rest.0) s.2 ∙ append_assoc into (kept_item cell v) rest.0)
+
 pub keeps : {A B : Type 0} {form : Form A} {items into left new : List Item} (a : A) (result : Result B SpellError) → Walks keeps_field form items into (leaving a result) left new
     → Keeps form items into result a left new
 unfolding ends_at
-keeps a (Ok b) walk = record { is = is_kept walk; only = λ w end more follows is. kept_only more walk follows is }
-keeps a (Err errors.Memory) walk = record { is = tt; only = λ w end more follows is. kept_only more walk follows is }
-keeps a (Err errors.NoValue) walk = record { is = tt; only = λ w end more follows is. kept_only more walk follows is }
+keeps a (Ok b) walk = record { is = is_kept walk; only = λ w end more follows is. kept_only more walk follows is; front = gains walk }
+keeps a (Err errors.Memory) walk = record { is = tt; only = λ w end more follows is. kept_only more walk follows is; front = gains walk }
+keeps a (Err errors.NoValue) walk = record { is = tt; only = λ w end more follows is. kept_only more walk follows is; front = gains walk }

@@ -1,6 +1,6 @@
-mod Starred
+pub mod Starred
 mod Keepings
-mod Shown
+pub mod Shown
 mod Testing
 pub mod Dependence
 mod Agreeing

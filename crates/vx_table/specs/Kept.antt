@@ -35,8 +35,8 @@ kept_along (field cell goes) (v ∷ w) = kept_item cell v ++ kept_along (goes v)
 -- What sifting does at one field: its item is taken, and kept where the field is.
 abbrev pub keeps_field : List Item → List Item → Cell ℕ → Result ℤ SpellError → List Item → List Item → Type 0
 keeps_field items into cell (Ok v) left new = IsValueOf cell v × (items ≡ item_of cell v ++ left) × (new ≡ into ++ kept_item cell v)
-keeps_field items into cell (Err errors.Memory) left new = Unit {0}
-keeps_field items into cell (Err errors.NoValue) left new = (v : ℤ) (more : List Item) → IsValueOf cell v → items ≡ item_of cell v ++ more → ⊥
+keeps_field items into cell (Err errors.Memory) left new = new ≡ into
+keeps_field items into cell (Err errors.NoValue) left new = (new ≡ into) × ((v : ℤ) (more : List Item) → IsValueOf cell v → items ≡ item_of cell v ++ more → ⊥)
 
 -- The items taken are those of values of the form, which leave this scope, and the kept ones were gained.
 pub record IsKept {A : Type 0} (form : Form A) (items into : List Item) (a : A) (left new : List Item) : Type 0 where
@@ -50,10 +50,12 @@ abbrev pub OnAnswer : {B : Type 0} → Result B SpellError → Type 0 → Type 0
 OnAnswer (Ok b) P = P
 OnAnswer (Err e) P = Unit {0}
 
--- An answer of sifting, whole, unless memory runs out:
+-- An answer of sifting, whole:
 pub record Keeps {A B : Type 0} (form : Form A) (items into : List Item) (result : Result B SpellError) (a : A) (left new : List Item) : Type 0 where
   -- what it answers is so;
   pub is : OnAnswer result (IsKept form items into a left new)
-  -- where the items begin with those of values of the form, the kept ones of these are gained.
+  -- where the items begin with those of values of the form, the kept ones of these are gained, unless memory runs out;
   pub only : (values : List ℤ) (b : A) (more : List Item) → Follows form values b → items ≡ items_along form values ++ more
       → IsWritten result ((new ≡ into ++ kept_along form values) × (left ≡ more) × (a ≡ b))
+  -- what was there stays in front, also after an error.
+  pub front : (gained : List Item) × (new ≡ into ++ gained)

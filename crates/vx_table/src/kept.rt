@@ -1,6 +1,6 @@
 //! Sifting by a table: from all items of a structure to those of its kept fields.
 
-ghost use Rattle.std.specs.Prelude.{◌≡◌, ◌++◌, OnOk};
+ghost use Rattle.std.specs.Prelude.{◌≡◌, ◌++◌, OnOk, OnErr};
 ghost use Rattle.vx_table.specs.Forms.{form_of};
 ghost use Rattle.vx_table.specs.Parts.{parts_form};
 ghost use Rattle.vx_table.specs.Kept as kept;
@@ -27,7 +27,8 @@ fn stands_for_field(coding: Coding<u32>) -> bool
 
 /// Appends the item of a kept field.
 fn keep_item(into: &mut Fields, cell: Cell<u32>, value: i64) -> Result<(), AllocError>
-    ensures { OnOk result (into.new ≡ into.old ++ kept_item cell value) }
+    ensures ok { OnOk result (into.new ≡ into.old ++ kept_item cell value) }
+    ensures err { OnErr result (into.new ≡ into.old) }
 {
     if !cell.kept {
         return Ok(());
@@ -67,7 +68,8 @@ impl<'a> Coder<Fields> for Unwritten<'a> {
 ///
 /// # Errors
 ///
-/// `NoValue` where the items aren't those of a value of the table; want of memory.
+/// `NoValue` where the items aren't those of a value of the table; want of memory. `into` has then gained some
+/// items behind those that it had.
 pub fn keep_table(
     table: &[Row],
     scope: &mut Scope,
