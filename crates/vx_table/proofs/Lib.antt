@@ -4,6 +4,7 @@ pub mod Shown
 mod Testing
 pub mod Dependence
 mod Agreeing
+pub mod Closing
 pub mod Codings
 pub mod Items
 pub mod Numbers

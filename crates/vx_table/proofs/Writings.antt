@@ -11,7 +11,7 @@ use Rattle.vx_table.specs.Walks.{Walks, ended, coded, refused, leaving}
 use Rattle.vx_table.specs.Spelling.{code_of, item_of, items_along}
 use Rattle.vx_table.specs.Values.{IsValueOf, Follows, to_end, through, ComesTo, at_field, past, bits_along}
 use Rattle.vx_table.specs.Laws.{ItemsApart}
-use Rattle.vx_table.specs.Writing.{writes_field, IsWritten, TellsNoValue, IsSpelled, HaltsAt, AreItemsOf, Writes, ItemsLeadTo}
+use Rattle.vx_table.specs.Writing.{writes_field, TellsNoValue, IsWritten, IsSpelled, HaltsAt, AreItemsOf, Writes, ItemsLeadTo}
 use Rattle.vx_table.proofs.Items.{item_apart}
 
 pub written_more : {B P Q : Type 0} (result : Result B SpellError) → (P → Q) → IsWritten result P → IsWritten result Q

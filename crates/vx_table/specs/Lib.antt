@@ -7,6 +7,7 @@ pub mod Laws
 pub mod Parts
 pub mod Depends
 pub mod Reading
+pub mod Trailing
 pub mod Values
 pub mod Writing
 pub mod Kept

@@ -1,5 +1,6 @@
 //! Laws of all tables: functions that do nothing, each with a law as its contract.
 ghost use Rattle.vx_table.specs.Laws.{ReadsOneWay, AnswersOneWay, AnswersAlways, SpellsBothWays, ReachesBothWays, ReadsBack, SpellsApart, ItemsApart};
+ghost use Rattle.vx_table.specs.Trailing.{ClosesWithoutTrailing, ClosesAtTheEnd, PartsCloseWithoutTrailing, PartsCloseAtTheEnd};
 
 /// Bits that begin with a spelling tell the values and what follows.
 pub fn one_reading()
@@ -25,6 +26,14 @@ pub fn spelled_both_ways()
 /// Values that follow the form are read back from their spelling, whatever follows that may follow.
 pub fn read_back()
     ensures { ReadsBack }
+{}
+
+/// Behind the values of a table without a trailing anything may follow; where it ends in one, the bits may end.
+pub fn what_may_follow()
+    ensures anything { ClosesWithoutTrailing }
+    ensures nothing { ClosesAtTheEnd }
+    ensures parts_anything { PartsCloseWithoutTrailing }
+    ensures parts_nothing { PartsCloseAtTheEnd }
 {}
 
 /// No spelling of values is a proper prefix of another's.

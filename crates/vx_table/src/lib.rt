@@ -3,9 +3,7 @@
 //! A table is a constant array of [`Row`]s, written by [`table!`] in the look of the standard's own tables.
 //! [`code_table`] walks over it with any [`Coder`]; [`read_table`] is the walk with a bit reader, which appends
 //! items, and [`write_table`] the walk with a bit writer, which takes them. [`Scope`] has the numbers that
-//! conditions, widths and ranges read. [`keep_table`] sifts the items of kept fields, and [`depends_only_on`] and
-//! [`keeps_only`] test a table: what its fields depend on, and which of them it keeps. docs/TABLES.md says how a
-//! table is read and how one is added.
+//! conditions, widths and ranges read. docs/TABLES.md says how a table is read and how one is added.
 #![tactic(auto)]
 
 mod arithmetic;
@@ -30,7 +28,7 @@ pub use depends::{depends_only_on, parts_depend_only_on};
 pub use kept::{keep_parts, keep_table};
 pub use laws::{
     every_answer, no_proper_prefix, one_answer, one_reading, one_writing, read_back,
-    spelled_both_ways,
+    spelled_both_ways, what_may_follow,
 };
 pub use laws_depend::{
     alike_together, cells_follow_items, cells_follow_kept, kept_tells_kept, scopes_follow_items,
