@@ -24,7 +24,7 @@ abbrev pub IsCodableIfAny : Option (Coding ℕ) → Type 0
 IsCodableIfAny (Some coding) = IsCodable coding
 IsCodableIfAny None = Unit {0}
 
--- Zeros up to the byte boundary stand before the first flag of field 20, and before fields 21 and 22 (H.266 clause 7.3.3.1).
+-- Zeros up to the byte boundary stand before the first flag of field 20, and before fields 21 and 22 (H.266 clauses 7.3.3.1 and 7.3.3.2).
 abbrev pub begins_byte : ℕ → ℕ → Bool
 begins_byte before field = (field == 21) || ((field == 22) || ((field == 20) && not (before == 20)))
 
