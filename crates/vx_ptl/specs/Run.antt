@@ -1,5 +1,5 @@
 -- The bits of items of the structures, in their order.
-use Rattle.std.specs.Prelude.{ℕ, ℤ, ◌+◌, Bool, cond, not, ◌&&◌, ◌||◌, ◌==◌, List, [], ◌∷◌, ◌++◌, length, Option, Some, None}
+use Rattle.std.specs.Prelude.{◌≡◌, ℕ, ℤ, ◌+◌, Bool, cond, not, ◌&&◌, ◌||◌, ◌==◌, List, [], ◌∷◌, ◌++◌, length, take, Option, Some, None}
 use Rattle.std.specs.Option.{option_or}
 use Rattle.vx_bits.specs.Codes.{zeros_from}
 use Rattle.vx_bits.specs.declared.list.Item.{Item}
@@ -44,6 +44,10 @@ item_bits before place item = gap before item.field place ++ value_bits (field_c
 unfoldable pub run_bits : ℕ → ℕ → List Item → List Bool
 run_bits before place [] = []
 run_bits before place (item ∷ items) = item_bits before place item ++ run_bits item.field (place + length (item_bits before place item)) items
+
+-- The bits have gained a front of these: none, some or all of them.
+abbrev pub AppendsFront : List Bool → List Bool → List Bool → Type 0
+AppendsFront old bits new = (n : ℕ) × (new ≡ old ++ take n bits)
 
 -- the field has a code, and its value has one
 abbrev pub HasBits : Option (Coding ℕ) → ℤ → Type 0
