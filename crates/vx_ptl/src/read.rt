@@ -83,7 +83,12 @@ pub fn read_timing(
     requires { max ≤ 6 }
     ensures { Reads (timing max each) bits.old into.old result bits.new into.new }
 {
-    let mut scope = at_sublayers(Scope::new(), max, SPS_SUBLAYER_CPB_PARAMS_PRESENT_FLAG, each);
+    let mut scope = at_sublayers(
+        Scope::new(),
+        max,
+        SPS_SUBLAYER_CPB_PARAMS_PRESENT_FLAG,
+        each,
+    );
     read_table(&TIMING, &mut scope, bits, into)
 }
 
