@@ -5,9 +5,9 @@ use vx_table::{Row, table};
 
 /// The number of a turn.
 const TURN: u16 = 800;
-
+/// The number of a CPB.
 const CPB: u16 = 801;
-
+/// The number of a kind of HRD parameters: NAL or VCL.
 const KIND: u16 = 802;
 /// How many sublayers have a level.
 const WITH_LEVEL: u16 = 803;
