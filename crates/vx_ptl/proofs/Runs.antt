@@ -1,29 +1,55 @@
 -- Writing items one after another.
-use Rattle.std.proofs.Common.{◌≡◌, ℕ, ◌+◌, Bool, List, [], ◌∷◌, ◌++◌, length, Some, ◌↔◌, ap, ◌∙◌, arith}
-use Rattle.std.proofs.lemmas.List.{append_assoc, append-nil, length-append}
+use Rattle.std.proofs.Common.{◌≡◌, ℕ, ◌+◌, Bool, List, [], ◌∷◌, ◌++◌, length, take, drop, Some, ◌↔◌, refl, ap, sym, ◌∙◌, arith}
+use Rattle.std.proofs.lemmas.List.{append_assoc, append-nil, length-append, take-append-drop}
+use Rattle.std.proofs.Math.Seq.{take-append_seam}
 use Rattle.std.specs.Prelude.{All}
 use Rattle.std.proofs.lemmas.List.Elements.{All-head, All-tail, All-cons, All-nil}
 use Rattle.vx_bits.specs.declared.list.Item.{Item}
 use Rattle.vx_table.specs.declared.rows.Coding.{Coding}
 use Rattle.vx_table.specs.Spelling.{code_of}
-use Rattle.vx_ptl.specs.Run.{item_bits, run_bits, gap, field_coding, IsRunItem}
+use Rattle.vx_ptl.specs.Run.{item_bits, run_bits, gap, field_coding, IsRunItem, AppendsFront}
 
-run_head : (item : Item) (items : List Item) → All IsRunItem (item ∷ items) → IsRunItem item
-run_head item items run = All-head IsRunItem item items run
+-- The bits have gained a front of all, and more of it is to come.
+abbrev pub Gained : List Bool → List Bool → List Bool → List Bool → Type 0
+Gained old all new more = (front : List Bool) × (new ≡ old ++ front) × (all ≡ front ++ more)
 
-run_tail : (item : Item) (items : List Item) → All IsRunItem (item ∷ items) → All IsRunItem items
-run_tail item items run = All-tail IsRunItem item items run
+pub gained_none : (old all : List Bool) → Gained old all old all
+gained_none old all = ([], sym (append-nil old), refl)
 
-pub run_none : (before place : ℕ) (old : List Bool) → old ++ run_bits before place [] ≡ old
+pub gained_all : (old all new : List Bool) → Gained old all new [] → new ≡ old ++ all
+gained_all old all new (front, gained, is) = gained ∙ ap (λ x. old ++ x) (sym (is ∙ append-nil front))
+
+-- more of all was gained
+gained_more : (old all mid more new rest : List Bool) → Gained old all mid more → Gained mid more new rest → Gained old all new rest
+gained_more old all mid more new rest (front, first, is) (on, second, next) =
+    (front ++ on, second ∙ (ap (λ x. x ++ on) first ∙ append_assoc old front on), is ∙ (ap (λ x. front ++ x) next ∙ sym (append_assoc front on rest)))
+
+appends_front : (old all new more : List Bool) → Gained old all new more → AppendsFront old all new
+appends_front old all new more (front, gained, is) = (length front, gained ∙ ap (λ x. old ++ x) (sym (ap (take (length front)) is ∙ take-append_seam front more)))
+
+-- a front of the first of all that is to come
+front_gained : (old all mid bits behind new : List Bool) → Gained old all mid (bits ++ behind) → AppendsFront mid bits new → AppendsFront old all new
+front_gained old all mid bits behind new before (n, gained) =
+    let split : bits ++ behind ≡ take n bits ++ (drop n bits ++ behind) = ap (λ x. x ++ behind) (sym (take-append-drop n bits)) ∙ append_assoc (take n bits) (drop n bits) behind in
+    appends_front old all new _ (gained_more old all mid _ new _ before (take n bits, gained, split))
+
+pub run_over : (before place : ℕ) (old all new : List Bool) → Gained old all new (run_bits before place []) → new ≡ old ++ all
 unfolding run_bits
-run_none before place old = append-nil old
+run_over before place old all new gained = gained_all old all new gained
 
-pub run_step : (before : ℕ) (old new whole : List Bool) (item : Item) (items : List Item)
-    → old ++ run_bits before (length old) (item ∷ items) ≡ whole → new ≡ old ++ item_bits before (length old) item → new ++ run_bits item.field (length new) items ≡ whole
+-- an item was written
+pub run_step : (before : ℕ) (old all mid new : List Bool) (item : Item) (items : List Item)
+    → Gained old all mid (run_bits before (length mid) (item ∷ items)) → new ≡ mid ++ item_bits before (length mid) item → Gained old all new (run_bits item.field (length new) items)
 unfolding run_bits
-run_step before old new whole item items is gained =
-    let place : length new ≡ length old + length (item_bits before (length old) item) = omega (arith, ap length gained, length-append old (item_bits before (length old) item)) in
-    rw (place, gained) (append_assoc old (item_bits before (length old) item) (run_bits item.field (length old + length (item_bits before (length old) item)) items) ∙ is)
+run_step before old all mid new item items is gained =
+    let place : length new ≡ length mid + length (item_bits before (length mid) item) = omega (arith, ap length gained, length-append mid (item_bits before (length mid) item)) in
+    rw place (gained_more old all mid _ new _ is (item_bits before (length mid) item, gained, refl))
+
+-- an item was written in part
+pub run_stopped : (before : ℕ) (old all mid new : List Bool) (item : Item) (items : List Item)
+    → Gained old all mid (run_bits before (length mid) (item ∷ items)) → AppendsFront mid (item_bits before (length mid) item) new → AppendsFront old all new
+unfolding run_bits
+run_stopped before old all mid new item items is front = front_gained old all mid (item_bits before (length mid) item) _ new is front
 
 pub item_written : (before : ℕ) (item : Item) (old mid new : List Bool) (coding : Coding ℕ) → field_coding item.field ≡ Some coding
     → mid ≡ old ++ gap before item.field (length old) → new ≡ mid ++ code_of coding (length mid) item.value → new ≡ old ++ item_bits before (length old) item
@@ -32,16 +58,21 @@ item_written before item old mid new coding is gapped coded =
     let place : length mid ≡ length old + length (gap before item.field (length old)) = omega (arith, ap length gapped, length-append old (gap before item.field (length old))) in
     rw (is, coded, place, gapped) (append_assoc old (gap before item.field (length old)) (code_of coding (length old + length (gap before item.field (length old))) item.value))
 
+-- of an item the zeros before it alone were written
+pub item_interrupted : (before : ℕ) (item : Item) (old mid new : List Bool) → mid ≡ old ++ gap before item.field (length old) → new ≡ mid → AppendsFront old (item_bits before (length old) item) new
+unfolding item_bits
+item_interrupted before item old mid new gapped same = appends_front old _ new _ (gap before item.field (length old), same ∙ gapped, refl)
+
 pub first_run : (item : Item) (items all : List Item) → all ≡ item ∷ items → All IsRunItem all → IsRunItem item
-first_run item items all is run = run_head item items (rw is at run)
+first_run item items all is run = All-head IsRunItem item items (rw is at run)
 
 pub rest_run : (item : Item) (items all : List Item) → all ≡ item ∷ items → All IsRunItem all → All IsRunItem items
-rest_run item items all is run = run_tail item items (rw is at run)
+rest_run item items all is run = All-tail IsRunItem item items (rw is at run)
 
 -- one item after another
 pub run_more : (item : Item) (items all : List Item) (whole : Type 0) → all ≡ item ∷ items → IsRunItem item → (All IsRunItem all ↔ whole) → (All IsRunItem items ↔ whole)
 run_more item items all whole is run before =
     ((λ (rest : All IsRunItem items). before.0 (rw is (All-cons IsRunItem item items run rest))), (λ w. rest_run item items all is (before.1 w)))
 
-pub run_over : (all : List Item) → all ≡ [] → All IsRunItem all
-run_over all none = rw none (All-nil IsRunItem)
+pub all_run : (all : List Item) → all ≡ [] → All IsRunItem all
+all_run all none = rw none (All-nil IsRunItem)

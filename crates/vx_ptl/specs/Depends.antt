@@ -1,5 +1,5 @@
 -- What the fields of each structure depend on, of the scope that it is read or written at.
-use Rattle.std.specs.Prelude.{List, [], ◌∷◌, ℕ}
+use Rattle.std.specs.Prelude.{[], ◌∷◌}
 use Rattle.vx_ptl.specs.declared.tables.TheConstants.{PTL, DPB, TIMING, SUBLAYER_TIMING, WITH_LEVEL, LOWER, HRD, KINDS}
 use Rattle.vx_table.specs.Forms.{form_of}
 use Rattle.vx_table.specs.Depends.{DependsOnlyOn}

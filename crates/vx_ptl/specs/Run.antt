@@ -1,5 +1,5 @@
 -- The bits of items of the structures, in their order.
-use Rattle.std.specs.Prelude.{ℕ, ℤ, ◌+◌, Bool, cond, not, ◌&&◌, ◌||◌, ◌==◌, List, [], ◌∷◌, ◌++◌, length, Option, Some, None}
+use Rattle.std.specs.Prelude.{◌≡◌, ℕ, ℤ, ◌+◌, Bool, cond, not, ◌&&◌, ◌||◌, ◌==◌, List, [], ◌∷◌, ◌++◌, length, take, Option, Some, None}
 use Rattle.std.specs.Option.{option_or}
 use Rattle.vx_bits.specs.Codes.{zeros_from}
 use Rattle.vx_bits.specs.declared.list.Item.{Item}
@@ -24,7 +24,7 @@ abbrev pub IsCodableIfAny : Option (Coding ℕ) → Type 0
 IsCodableIfAny (Some coding) = IsCodable coding
 IsCodableIfAny None = Unit {0}
 
--- Zeros up to the byte boundary stand before the first flag of field 20, and before fields 21 and 22 (H.266 clause 7.3.3.1).
+-- Zeros up to the byte boundary stand before the first flag of field 20, and before fields 21 and 22 (H.266 clauses 7.3.3.1 and 7.3.3.2).
 abbrev pub begins_byte : ℕ → ℕ → Bool
 begins_byte before field = (field == 21) || ((field == 22) || ((field == 20) && not (before == 20)))
 
@@ -44,6 +44,10 @@ item_bits before place item = gap before item.field place ++ value_bits (field_c
 unfoldable pub run_bits : ℕ → ℕ → List Item → List Bool
 run_bits before place [] = []
 run_bits before place (item ∷ items) = item_bits before place item ++ run_bits item.field (place + length (item_bits before place item)) items
+
+-- The bits have gained a front of these: none, some or all of them.
+abbrev pub AppendsFront : List Bool → List Bool → List Bool → Type 0
+AppendsFront old bits new = (n : ℕ) × (new ≡ old ++ take n bits)
 
 -- the field has a code, and its value has one
 abbrev pub HasBits : Option (Coding ℕ) → ℤ → Type 0

@@ -9,11 +9,18 @@ use std::alloc::Global;
 use vx_bits::{BitReader, Fields, ReadError};
 use vx_table::{Scope, read_table, read_value};
 
+/// The highest sublayer, which the SPS tells.
+const SPS_MAX_SUBLAYERS_MINUS1: u16 = 102;
+/// Whether each sublayer has DPB parameters of its own.
+const SPS_SUBLAYER_DPB_PARAMS_FLAG: u16 = 140;
+/// Whether each sublayer has HRD parameters of its own.
+const SPS_SUBLAYER_CPB_PARAMS_PRESENT_FLAG: u16 = 225;
+
 /// The scope of a structure of sublayers: the highest one, and under a field's number whether each has an entry.
 fn at_sublayers(mut scope: Scope, max: u32, field: u16, each: bool) -> Scope
     ensures { result ≡ sublayers scope max field each }
 {
-    scope.set(102, max);
+    scope.set(SPS_MAX_SUBLAYERS_MINUS1, max);
     scope.set(field, u32::from(each));
     scope
 }
@@ -40,7 +47,7 @@ pub fn read_ptl(bits: &mut BitReader<'_>, max: u32, into: &mut Fields) -> Result
     ensures { Reads (ptl max) bits.old into.old result bits.new into.new }
 {
     let mut scope = Scope::new();
-    scope.set(102, max);
+    scope.set(SPS_MAX_SUBLAYERS_MINUS1, max);
     read_table(&PTL, &mut scope, bits, into)
 }
 
@@ -58,7 +65,7 @@ pub fn read_dpb(
     requires { max ≤ 6 }
     ensures { Reads (dpb max each) bits.old into.old result bits.new into.new }
 {
-    let mut scope = at_sublayers(Scope::new(), max, 140, each);
+    let mut scope = at_sublayers(Scope::new(), max, SPS_SUBLAYER_DPB_PARAMS_FLAG, each);
     read_table(&DPB, &mut scope, bits, into)
 }
 
@@ -76,7 +83,12 @@ pub fn read_timing(
     requires { max ≤ 6 }
     ensures { Reads (timing max each) bits.old into.old result bits.new into.new }
 {
-    let mut scope = at_sublayers(Scope::new(), max, 225, each);
+    let mut scope = at_sublayers(
+        Scope::new(),
+        max,
+        SPS_SUBLAYER_CPB_PARAMS_PRESENT_FLAG,
+        each,
+    );
     read_table(&TIMING, &mut scope, bits, into)
 }
 
@@ -97,6 +109,6 @@ pub fn read_sublayer_timing(
 {
     let mut scope = Scope::new();
     scope.load(into);
-    let mut scope = at_sublayers(scope, max, 225, each);
+    let mut scope = at_sublayers(scope, max, SPS_SUBLAYER_CPB_PARAMS_PRESENT_FLAG, each);
     read_table(&SUBLAYER_TIMING, &mut scope, bits, into)
 }

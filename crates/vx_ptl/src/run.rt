@@ -1,8 +1,8 @@
 //! Writing items of the structures.
 
-ghost use Rattle.std.specs.Prelude.{◌≡◌, ◌↔◌, ◌+◌, ◌-◌, ◌≤◌, ◌++◌, length, take, drop, All, IsTrue, OnOk};
+ghost use Rattle.std.specs.Prelude.{◌≡◌, ◌↔◌, ◌+◌, ◌-◌, ◌≤◌, ◌++◌, length, take, drop, All, IsTrue, OnOk, OnErr};
 ghost use Rattle.vx_ptl.specs.Spelling.{AppendsSpelling};
-ghost use Rattle.vx_ptl.specs.Run.{field_coding, resolved, begins_byte, gap, item_bits, run_bits, IsRunItem, IsCodableIfAny};
+ghost use Rattle.vx_ptl.specs.Run.{field_coding, resolved, begins_byte, gap, item_bits, run_bits, IsRunItem, IsCodableIfAny, AppendsFront};
 
 use crate::tables::{DPB, PTL, SUBLAYER_TIMING, TIMING};
 use std::alloc::AllocError;
@@ -62,7 +62,8 @@ pub fn is_run(items: &Fields, from: usize, to: usize) -> bool
 #[tactic(auto, unfolding(crate::specs::Run::item_bits, crate::specs::Run::IsRunItem))]
 fn write_item(bits: &mut BitWriter, before: u16, item: Item) -> Result<(), AllocError>
     requires { IsRunItem item }
-    ensures { OnOk result (bits.new ≡ bits.old ++ item_bits before (length bits.old) item) }
+    ensures ok { OnOk result (bits.new ≡ bits.old ++ item_bits before (length bits.old) item) }
+    ensures err { OnErr result (AppendsFront bits.old (item_bits before (length bits.old) item) bits.new) }
 {
     write_gap(bits, before, item.field)?;
     match coding_of_field(item.field) {
@@ -74,7 +75,8 @@ fn write_item(bits: &mut BitWriter, before: u16, item: Item) -> Result<(), Alloc
 
 /// Writes the zeros up to the byte boundary, where they stand before a field.
 fn write_gap(bits: &mut BitWriter, before: u16, field: u16) -> Result<(), AllocError>
-    ensures { OnOk result (bits.new ≡ bits.old ++ gap before field (length bits.old)) }
+    ensures ok { OnOk result (bits.new ≡ bits.old ++ gap before field (length bits.old)) }
+    ensures err { OnErr result (bits.new ≡ bits.old) }
 {
     if field == 21 || field == 22 || (field == 20 && before != 20) {
         bits.align()?;
@@ -86,7 +88,7 @@ fn write_gap(bits: &mut BitWriter, before: u16, field: u16) -> Result<(), AllocE
 ///
 /// # Errors
 ///
-/// Where memory runs out. It isn't said what the bits are then.
+/// Where memory runs out. The bits have then gained a front of the items' bits.
 pub fn write_run(
     bits: &mut BitWriter,
     items: &Fields,
@@ -97,6 +99,7 @@ pub fn write_run(
     requires within { to ≤ length items.now }
     requires run { All IsRunItem (take (to - from) (drop from items.now)) }
     ensures bits { OnOk result (bits.new ≡ bits.old ++ run_bits 0 (length bits.old) (take (to - from) (drop from items.now))) }
+    ensures err { OnErr result (AppendsFront bits.old (run_bits 0 (length bits.old) (take (to - from) (drop from items.now))) bits.new) }
     ensures structures { OnOk result (AppendsSpelling bits.old (take (to - from) (drop from items.now)) bits.new) }
 {
     let mut before = 0;

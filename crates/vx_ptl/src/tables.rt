@@ -1,13 +1,13 @@
-//! The tables of H.266 clauses 7.3.2.3, 7.3.3.1, 7.3.4, 7.3.5.1 and 7.3.5.3, for the accepted profiles.
+//! The tables of H.266 clauses 7.3.2.3, 7.3.3.1, 7.3.3.2, 7.3.4, 7.3.5.1, 7.3.5.2 and 7.3.5.3, for the accepted profiles.
 //!
 //! Names have numbers from 800 on, above those of all fields.
 use vx_table::{Row, table};
 
 /// The number of a turn.
 const TURN: u16 = 800;
-
+/// The number of a CPB.
 const CPB: u16 = 801;
-
+/// The number of a kind of HRD parameters: NAL or VCL.
 const KIND: u16 = 802;
 /// How many sublayers have a level.
 const WITH_LEVEL: u16 = 803;
@@ -25,7 +25,8 @@ pub const VPS: [Row; 3] = table! {
     3* vps_max_sublayers_minus1: u(3) in 0..=6;
 };
 
-/// Profile, tier and level, clause 7.3.3.1, where field 102 is the highest sublayer.
+/// Profile, tier and level, clause 7.3.3.1, where field 102 is the highest sublayer; fields 16 to 19 and the zeros behind
+/// them are its general constraints, clause 7.3.3.2.
 pub const PTL: [Row; 23] = table! {
     11* general_profile_idc: u(7);
     12* general_tier_flag;

@@ -1,11 +1,13 @@
 //! Cases worked by hand and by a model of the syntax that isn't ours.
+ghost use Rattle.std.specs.Prelude.{◌≤◌, length};
+
 use super::*;
-use std::alloc::Global;
+use std::alloc::{AllocError, Global};
 use std::test::Fail;
 use vx_bits::{BitCause, BitReader, BitWriter, Fields, ReadError, Refusal};
 
-/// A front of a VPS: its bytes, how many there are, and the values of the fields, or the refusal.
-type Front = ([u8; 5], usize, Result<[i64; 3], ReadError>);
+/// A front of a VPS: its bytes, and the values of the fields, or the refusal.
+type Front<'a> = (&'a [u8], Result<[i64; 3], ReadError>);
 
 /// A malformed field.
 const fn syntax(field: u16, bit: u32, cause: BitCause) -> Result<[i64; 3], ReadError> {
@@ -13,58 +15,49 @@ const fn syntax(field: u16, bit: u32, cause: BitCause) -> Result<[i64; 3], ReadE
 }
 
 /// The values of fields 1 to 3, or 99 for one that isn't there.
-fn front(alloc: Global, rbsp: &[u8]) -> Result<[i64; 3], ReadError> {
-    if rbsp.len() > 5 {
-        return Ok([99; 3]);
-    }
+fn front(alloc: Global, rbsp: &[u8]) -> Result<[i64; 3], ReadError>
+    requires { length rbsp.now ≤ 5 }
+{
     let fields = read_vps(alloc, rbsp)?;
     Ok([1, 2, 3].map(|field| fields.first(field).unwrap_or(99)))
 }
 
 #[test]
 fn reads_fronts_of_vps(rt: HostRuntime) {
-    let fronts: [Front; 20] = [
-        ([0x2f, 0xdf, 0x00, 0xfd, 0x45], 5, Ok([2, 63, 3])),
-        ([0xbb, 0x85, 0x12, 0xd5, 0], 4, Ok([11, 46, 0])),
-        ([0x0e, 0x5a, 0xea, 0xad, 0], 4, Ok([0, 57, 3])),
-        ([0x96, 0x35, 0xd0, 0, 0], 3, Ok([9, 24, 6])),
-        ([0x36, 0xb4, 0xcb, 0, 0], 3, Ok([3, 26, 6])),
-        ([0x7e, 0x41, 0xcf, 0xc9, 0], 4, Ok([7, 57, 0])),
+    let fronts: [Front<'_>; 20] = [
+        (&[0x2f, 0xdf, 0x00, 0xfd, 0x45], Ok([2, 63, 3])),
+        (&[0xbb, 0x85, 0x12, 0xd5], Ok([11, 46, 0])),
+        (&[0x0e, 0x5a, 0xea, 0xad], Ok([0, 57, 3])),
+        (&[0x96, 0x35, 0xd0], Ok([9, 24, 6])),
+        (&[0x36, 0xb4, 0xcb], Ok([3, 26, 6])),
+        (&[0x7e, 0x41, 0xcf, 0xc9], Ok([7, 57, 0])),
         (
-            [0x8e, 0xff, 0x3b, 0xf3, 0xdb],
-            5,
+            &[0x8e, 0xff, 0x3b, 0xf3, 0xdb],
             syntax(3, 10, BitCause::OutOfRange),
         ),
-        ([0xed, 0xad, 0xce, 0xe7, 0], 4, Ok([14, 54, 5])),
-        ([0x66, 0x2a, 0, 0, 0], 2, Ok([6, 24, 5])),
-        ([0xbe, 0x68, 0xfc, 0x26, 0], 4, Ok([11, 57, 5])),
-        ([0x44, 0x45, 0x6c, 0, 0], 3, Ok([4, 17, 0])),
-        ([0xe3, 0x10, 0x29, 0x95, 0xa6], 5, Ok([14, 12, 2])),
+        (&[0xed, 0xad, 0xce, 0xe7], Ok([14, 54, 5])),
+        (&[0x66, 0x2a], Ok([6, 24, 5])),
+        (&[0xbe, 0x68, 0xfc, 0x26], Ok([11, 57, 5])),
+        (&[0x44, 0x45, 0x6c], Ok([4, 17, 0])),
+        (&[0xe3, 0x10, 0x29, 0x95, 0xa6], Ok([14, 12, 2])),
         (
-            [0x8e, 0xff, 0x3b, 0xf3, 0xd9],
-            5,
+            &[0x8e, 0xff, 0x3b, 0xf3, 0xd9],
             syntax(3, 10, BitCause::OutOfRange),
         ),
-        ([0x66, 0, 0, 0, 0], 1, syntax(2, 4, BitCause::Short)),
-        ([0x44, 0, 0, 0, 0], 1, syntax(2, 4, BitCause::Short)),
+        (&[0x66], syntax(2, 4, BitCause::Short)),
+        (&[0x44], syntax(2, 4, BitCause::Short)),
         (
-            [0x86, 0xff, 0x3b, 0xf3, 0xdb],
-            5,
+            &[0x86, 0xff, 0x3b, 0xf3, 0xdb],
             syntax(3, 10, BitCause::OutOfRange),
         ),
-        ([0, 0, 0, 0, 0], 0, syntax(1, 0, BitCause::Short)),
-        ([0, 0, 0, 0, 0], 2, Ok([0, 0, 0])),
-        ([0xff, 0xf0, 0, 0, 0], 2, Ok([15, 63, 6])),
-        (
-            [0xff, 0xf8, 0, 0, 0],
-            2,
-            syntax(3, 10, BitCause::OutOfRange),
-        ),
+        (&[], syntax(1, 0, BitCause::Short)),
+        (&[0, 0], Ok([0, 0, 0])),
+        (&[0xff, 0xf0], Ok([15, 63, 6])),
+        (&[0xff, 0xf8], syntax(3, 10, BitCause::OutOfRange)),
     ];
-    for (bytes, length, wanted) in fronts {
-        if let Some(rbsp) = bytes.get(..length) {
-            assert_eq!(rt; front(rt.alloc(), rbsp), wanted, "{bytes:?}");
-        }
+    for (rbsp, wanted) in fronts {
+        assert!(rt; rbsp.len() <= 5);
+        assert_eq!(rt; front(rt.alloc(), rbsp), wanted, "{rbsp:?}");
     }
 }
 
@@ -190,39 +183,146 @@ fn reads_hrd_of_kinds(rt: HostRuntime) {
     }
 }
 
-#[test]
-fn reads_levels_of_sublayers(rt: HostRuntime) -> Result<(), Fail> {
-    let bytes = [0x02, 0x33, 0x80, 0x80, 0x28, 0x01, 1, 2, 3, 4];
-    let wanted = [
-        (11, 1),
-        (12, 0),
-        (13, 51),
-        (14, 1),
-        (15, 0),
-        (16, 0),
-        (20, 1),
-        (21, 40),
-        (22, 1),
-        (23, 0x0102_0304),
-    ];
-    let mut bits = BitReader::new(&bytes);
-    let mut fields = Fields::new(rt.alloc());
-    read_ptl(&mut bits, 1, &mut fields)?;
-    assert!(rt; are(&fields, &wanted));
-    assert_eq!(rt; bits.at(), 80);
-    Ok(())
+/// Profile, tier and level of an SPS: its field 102, the bytes behind it from the first whole one on, the value of each
+/// of fields 11 to 16, and the values of each of fields 17 to 23.
+type ProfileTierLevel<'a> = (u32, &'a [u8], [i64; 6], [&'a [i64]; 7]);
+
+/// Whether a field has those values, in this order.
+fn has_values(fields: &Fields, field: u16, wanted: &[i64]) -> bool {
+    let mut rest = wanted.iter();
+    for i in 0..fields.len() {
+        let item = fields.item(i);
+        if item.field == field {
+            if rest.next() != Some(&item.value) {
+                return false;
+            }
+        }
+    }
+    rest.next().is_none()
+}
+
+/// The items of profile, tier and level.
+fn profile_tier_level(alloc: Global, max: u32, bytes: &[u8]) -> Result<Fields, ReadError>
+    requires highest { max ≤ 6 }
+    requires short { length bytes.now ≤ 28 }
+{
+    let mut fields = Fields::new(alloc);
+    read_ptl(&mut BitReader::new(bytes), max, &mut fields)?;
+    Ok(fields)
+}
+
+/// Whether fields 11 to 23 have those values.
+fn are_values(fields: &Fields, general: [i64; 6], others: [&[i64]; 7]) -> bool {
+    (11..17)
+        .zip(general)
+        .all(|(field, value)| has_values(fields, field, &[value]))
+        & (17..24)
+            .zip(others)
+            .all(|(field, values)| has_values(fields, field, values))
+}
+
+/// The bytes of all items, or of none where they can't be written, and a one and zeros behind them.
+fn written(alloc: Global, fields: &Fields) -> Result<Vec<u8>, AllocError> {
+    let mut bits = BitWriter::new(alloc);
+    if is_run(fields, 0, fields.len()) {
+        write_run(&mut bits, fields, 0, fields.len())?;
+    }
+    bits.close()
 }
 
 #[test]
-fn reads_constraint_bits(rt: HostRuntime) -> Result<(), Fail> {
-    let bytes = [0x02, 0x33, 0xa0, 0, 0, 0, 0, 0, 0, 0, 0, 0, 0xa0, 0];
-    let mut bits = BitReader::new(&bytes);
-    let mut fields = Fields::new(rt.alloc());
-    read_ptl(&mut bits, 0, &mut fields)?;
-    assert_eq!(rt; fields.len(), 81);
-    assert_eq!(rt; fields.first(18), Some(2));
-    assert_eq!(rt; fields.first(19), Some(1));
-    assert_eq!(rt; bits.at(), 112);
+fn reads_profile_tier_level_of_sps(rt: HostRuntime) -> Result<(), Fail> {
+    let sets: [ProfileTierLevel<'_>; 6] = [
+        (
+            1,
+            &[0x01, 0x00, 0x40, 0x80, 0x00, 0x01, 0x00, 0x00, 0x00, 0x03],
+            [0, 1, 0, 0, 1, 0],
+            [&[], &[], &[], &[1], &[0], &[1], &[3]],
+        ),
+        (
+            6,
+            &[
+                0x06, 0x1d, 0xc0, 0xe4, 0x49, 0xff, 0xff, 0x52, 0x02, 0x00, 0x00, 0x00, 0x01, 0xf9,
+                0x06, 0x5e, 0x86,
+            ],
+            [3, 0, 29, 1, 1, 0],
+            [
+                &[],
+                &[],
+                &[],
+                &[1, 1, 1, 0, 0, 1],
+                &[73, 255, 255, 82],
+                &[2],
+                &[1, 4177944198],
+            ],
+        ),
+        (
+            0,
+            &[
+                0xfe, 0x02, 0x40, 0x02, 0x14, 0x5f, 0xaf, 0x4d, 0x00, 0x00, 0x00, 0x00,
+            ],
+            [127, 0, 2, 0, 1, 0],
+            [&[], &[], &[], &[], &[], &[2], &[341815117, 0]],
+        ),
+        (
+            1,
+            &[
+                0x12, 0x02, 0xc0, 0x00, 0x02, 0x00, 0x00, 0x00, 0x02, 0x00, 0x00, 0x00, 0x02,
+            ],
+            [9, 0, 2, 1, 1, 0],
+            [&[], &[], &[], &[0], &[], &[2], &[2, 2]],
+        ),
+        (
+            6,
+            &[
+                0xff, 0xff, 0x6c, 0xbf, 0xd8, 0xd4, 0x18, 0x8b, 0x5f, 0x7c, 0x68, 0xc0, 0x60, 0xf8,
+                0x03, 0x03, 0x02, 0xff, 0x00, 0x02, 0xbf, 0x71, 0x93, 0xcd, 0xff, 0xff, 0xff, 0xff,
+            ],
+            [127, 1, 255, 0, 1, 1],
+            [
+                &[
+                    0, 1, 1, 0, 0, 1, 0, 1, 1, 1, 1, 1, 1, 1, 1, 0, 1, 1, 0, 0, 0, 1, 1, 0, 1, 0,
+                    1, 0, 0, 0, 0, 0, 1, 1, 0, 0, 0, 1, 0, 0, 0, 1, 0, 1, 1, 0, 1, 0, 1, 1, 1, 1,
+                    1, 0, 1, 1, 1, 1, 1, 0, 0, 0, 1, 1, 0, 1, 0, 0, 0, 1, 1,
+                ],
+                &[1],
+                &[1],
+                &[1, 1, 1, 1, 1, 0],
+                &[3, 3, 2, 255, 0],
+                &[2],
+                &[3211891661, 4294967295],
+            ],
+        ),
+        (
+            2,
+            &[
+                0x19, 0x01, 0x76, 0x7c, 0x3b, 0xbc, 0x44, 0x90, 0x3b, 0x52, 0xd1, 0x00, 0xc8, 0x00,
+                0x00,
+            ],
+            [12, 1, 1, 0, 1, 1],
+            [
+                &[
+                    1, 0, 1, 1, 0, 0, 1, 1, 1, 1, 1, 0, 0, 0, 0, 1, 1, 1, 0, 1, 1, 1, 0, 1, 1, 1,
+                    1, 0, 0, 0, 1, 0, 0, 0, 1, 0, 0, 1, 0, 0, 1, 0, 0, 0, 0, 0, 0, 1, 1, 1, 0, 1,
+                    1, 0, 1, 0, 1, 0, 0, 1, 0, 1, 1, 0, 1, 0, 0, 0, 1, 0, 0,
+                ],
+                &[3],
+                &[0, 0, 1],
+                &[0, 0],
+                &[],
+                &[0],
+                &[],
+            ],
+        ),
+    ];
+    for (max, bytes, general, others) in sets {
+        assert!(rt; max <= 6);
+        assert!(rt; bytes.len() <= 28);
+        let fields = profile_tier_level(rt.alloc(), max, bytes)?;
+        assert!(rt; are_values(&fields, general, others), "{bytes:?}");
+        let list = written(rt.alloc(), &fields)?;
+        assert_eq!(rt; list.as_slice().split_last(), Some((&0x80, bytes)));
+    }
     Ok(())
 }
 
@@ -269,35 +369,26 @@ fn reads_dpb_of_each_sublayer(rt: HostRuntime) -> Result<(), Fail> {
     Ok(())
 }
 
-/// Reads timing and sublayer timing of one layer, or profile, tier and level up to a layer, or DPB parameters.
-fn structure(bits: &mut BitReader<'_>, which: u8, fields: &mut Fields) -> Result<(), ReadError> {
-    match which {
-        0 => {
-            read_timing(bits, 0, false, fields)?;
-            read_sublayer_timing(bits, 0, false, fields)
-        }
-        1 => read_ptl(bits, 0, fields),
-        2 => read_ptl(bits, 1, fields),
-        _ => read_dpb(bits, 1, true, fields),
+/// Reads timing and sublayer timing of one layer, or DPB parameters of two sublayers.
+fn structure(bits: &mut BitReader<'_>, timed: bool, fields: &mut Fields) -> Result<(), ReadError> {
+    if !timed {
+        return read_dpb(bits, 1, true, fields);
     }
+    read_timing(bits, 0, false, fields)?;
+    read_sublayer_timing(bits, 0, false, fields)
 }
 
 #[test]
 fn refuses_short_structures(rt: HostRuntime) {
     // The second sublayer's field 32 is missing; and behind 0 0 0 1 field 54 isn't whole.
-    let cases: [(u8, [u8; 9], usize, u16, u32); 2] = [
-        (3, [0xa7, 0, 0, 0, 0, 0, 0, 0, 0], 1, 32, 8),
-        (0, [0, 0, 0, 1, 0, 0, 0, 2, 0x10], 9, 54, 68),
+    let cases: [(bool, &[u8], u16, u32); 2] = [
+        (false, &[0xa7], 32, 8),
+        (true, &[0, 0, 0, 1, 0, 0, 0, 2, 0x10], 54, 68),
     ];
-    for (which, bytes, length, field, bit) in cases {
-        let Some(rbsp) = bytes.get(..length) else {
-            continue;
-        };
-        if rbsp.len() > 9 {
-            continue;
-        }
+    for (timed, rbsp, field, bit) in cases {
+        assert!(rt; rbsp.len() <= 9);
         let mut fields = Fields::new(rt.alloc());
-        let read = structure(&mut BitReader::new(rbsp), which, &mut fields);
+        let read = structure(&mut BitReader::new(rbsp), timed, &mut fields);
         assert_eq!(rt; read, syntax(field, bit, BitCause::Short).map(|_| ()));
     }
 }
@@ -305,50 +396,19 @@ fn refuses_short_structures(rt: HostRuntime) {
 #[test]
 fn writes_what_was_read(rt: HostRuntime) -> Result<(), Fail> {
     // With a one and zeros behind the bits that were read.
-    let cases: [(u8, [u8; 11], usize, [u8; 11], usize); 4] = [
+    let cases: [(bool, &[u8], &[u8]); 2] = [
         (
-            0,
-            [0, 0, 0, 1, 0, 0, 0, 0x3c, 0x30, 0, 0],
-            9,
-            [0, 0, 0, 1, 0, 0, 0, 0x3c, 0x38, 0, 0],
-            9,
+            true,
+            &[0, 0, 0, 1, 0, 0, 0, 0x3c, 0x30],
+            &[0, 0, 0, 1, 0, 0, 0, 0x3c, 0x38],
         ),
-        (
-            1,
-            [0x02, 0x33, 0x80, 0, 0, 0, 0, 0, 0, 0, 0],
-            4,
-            [0x02, 0x33, 0x80, 0, 0x80, 0, 0, 0, 0, 0, 0],
-            5,
-        ),
-        (
-            2,
-            [0x02, 0x33, 0x80, 0x80, 0x28, 0x01, 1, 2, 3, 4, 0],
-            10,
-            [0x02, 0x33, 0x80, 0x80, 0x28, 0x01, 1, 2, 3, 4, 0x80],
-            11,
-        ),
-        (
-            3,
-            [0xa7, 0x4c, 0, 0, 0, 0, 0, 0, 0, 0, 0],
-            2,
-            [0xa7, 0x4e, 0, 0, 0, 0, 0, 0, 0, 0, 0],
-            2,
-        ),
+        (false, &[0xa7, 0x4c], &[0xa7, 0x4e]),
     ];
-    for (which, bytes, length, wanted, written) in cases {
-        let (Some(rbsp), Some(wanted)) = (bytes.get(..length), wanted.get(..written)) else {
-            continue;
-        };
-        if rbsp.len() > 11 {
-            continue;
-        }
-        let mut reader = BitReader::new(rbsp);
+    for (timed, rbsp, wanted) in cases {
+        assert!(rt; rbsp.len() <= 9);
         let mut fields = Fields::new(rt.alloc());
-        structure(&mut reader, which, &mut fields)?;
-        let mut bits = BitWriter::new(rt.alloc());
-        assert!(rt; is_run(&fields, 0, fields.len()));
-        write_run(&mut bits, &fields, 0, fields.len())?;
-        assert_eq!(rt; bits.close()?.as_slice(), wanted);
+        structure(&mut BitReader::new(rbsp), timed, &mut fields)?;
+        assert_eq!(rt; written(rt.alloc(), &fields)?.as_slice(), wanted);
     }
     Ok(())
 }
