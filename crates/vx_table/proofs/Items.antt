@@ -5,7 +5,7 @@ use Rattle.vx_table.specs.declared.rows.Coding.{Coding}
 use Rattle.vx_table.specs.declared.rows.Coding.TheVariants.{Fixed, Golomb, SignedGolomb, Zeros, OneAndZeros, Trailing, Absent, Refused}
 use Rattle.vx_table.specs.declared.rows.Cell.{Cell}
 use Rattle.vx_table.specs.Forms.{has_value}
-use Rattle.vx_table.specs.Items.{tells_value}
+use Rattle.vx_table.specs.Items.{TellsValue}
 use Rattle.vx_table.specs.Spelling.{HasCode, item_of}
 
 -- the next of the items from one place up to another
@@ -52,5 +52,5 @@ gap_value Absent v gap has = has
 gap_value Refused v gap has = absurd has
 
 -- and it has no item
-pub gap_tells : (field : ℕ) (coding : Coding ℕ) (items : List Item) → has_value coding ≡ false → tells_value field coding items (Some (pos 0)) items
+pub gap_tells : (field : ℕ) (coding : Coding ℕ) (items : List Item) → has_value coding ≡ false → TellsValue field coding items (Some (pos 0)) items
 gap_tells field coding items gap = (rw gap refl, λ u more has is. gap_value coding u gap has)

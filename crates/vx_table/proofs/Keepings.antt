@@ -9,11 +9,11 @@ use Rattle.vx_table.specs.Walks.{Walks, ended, coded, refused, leaving}
 use Rattle.vx_table.specs.Spelling.{item_of, items_along}
 use Rattle.vx_table.specs.Values.{Follows, to_end, through}
 use Rattle.vx_table.specs.Writing.{IsWritten}
-use Rattle.vx_table.specs.Kept.{kept_item, kept_along, keeps_field, IsKept, Keeps}
+use Rattle.vx_table.specs.Kept.{kept_item, kept_along, KeepsField, IsKept, Keeps}
 use Rattle.vx_table.proofs.Items.{item_apart}
 use Rattle.vx_table.proofs.Writings.{written_more}
 
-is_kept : {A : Type 0} {form : Form A} {items into left new : List Item} {a : A} → Walks keeps_field form items into (Ok a) left new → IsKept form items into a left new
+is_kept : {A : Type 0} {form : Form A} {items into left new : List Item} {a : A} → Walks KeepsField form items into (Ok a) left new → IsKept form items into a left new
 is_kept {into} ended = record { values = []; follows = to_end; taken = refl; gained = sym (append-nil into) }
 is_kept {form = field cell goes} {into} {left} {new} (coded {v} s walk) =
     let rest = is_kept walk in
@@ -30,7 +30,7 @@ ends_at (Ok a) b = a ≡ b
 ends_at (Err e) b = Unit {0}
 
 kept_only : {A : Type 0} {form : Form A} {items into left new : List Item} {result : Result A SpellError} {w : List ℤ} {b : A} (more : List Item)
-    → Walks keeps_field form items into result left new → Follows form w b → items ≡ items_along form w ++ more
+    → Walks KeepsField form items into result left new → Follows form w b → items ≡ items_along form w ++ more
     → IsWritten result ((new ≡ into ++ kept_along form w) × (left ≡ more) × ends_at result b)
 unfolding ends_at
 kept_only {into} more ended to_end is = (sym (append-nil into), is, refl)
@@ -47,7 +47,7 @@ kept_only {form = field cell goes} {items} {into} {left} {new} {result} {b} more
     subst (λ x. IsWritten result ((new ≡ into ++ kept_along (field cell goes) (x ∷ w)) × (left ≡ more) × ends_at result b)) (sym same.0) here
 
 -- items stay in front
-gains : {A : Type 0} {form : Form A} {items into left new : List Item} {result : Result A SpellError} → Walks keeps_field form items into result left new → (gained : List Item) × (new ≡ into ++ gained)
+gains : {A : Type 0} {form : Form A} {items into left new : List Item} {result : Result A SpellError} → Walks KeepsField form items into result left new → (gained : List Item) × (new ≡ into ++ gained)
 gains {into} ended = ([], sym (append-nil into))
 gains {into} (refused {e = errors.Memory} s) = ([], s ∙ sym (append-nil into))
 gains {into} (refused {e = errors.NoValue} s) = ([], s.0 ∙ sym (append-nil into))
@@ -55,7 +55,7 @@ gains {form = field cell goes} {into} (coded {v} s walk) =
     let rest = gains walk in
     (kept_item cell v ++ rest.0, rest.1 ∙ ap (λ x. x ++ rest.0) s.2 ∙ append_assoc into (kept_item cell v) rest.0)
 
-pub keeps : {A B : Type 0} {form : Form A} {items into left new : List Item} (a : A) (result : Result B SpellError) → Walks keeps_field form items into (leaving a result) left new
+pub keeps : {A B : Type 0} {form : Form A} {items into left new : List Item} (a : A) (result : Result B SpellError) → Walks KeepsField form items into (leaving a result) left new
     → Keeps form items into result a left new
 unfolding ends_at
 keeps a (Ok b) walk = record { is = is_kept walk; only = λ w end more follows is. kept_only more walk follows is; front = gains walk }

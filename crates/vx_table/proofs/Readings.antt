@@ -13,7 +13,7 @@ use Rattle.vx_table.specs.Forms.{Form, done, field}
 use Rattle.vx_table.specs.Walks.{Walks, ended, coded, refused, leaving}
 use Rattle.vx_table.specs.Spelling.{Stands, Spells, at_end, behind, Reaches, here, later, IsRefused, item_of, items_along}
 use Rattle.vx_table.specs.Values.{Follows, to_end, through}
-use Rattle.vx_table.specs.Reading.{at_front, reads_field, IsFound, StopsAt, IsFirstRefusal, IsAnswered, IsRefusedWith, Reads, LeadsTo}
+use Rattle.vx_table.specs.Reading.{at_front, ReadsField, IsFound, StopsAt, IsFirstRefusal, IsAnswered, IsRefusedWith, Reads, LeadsTo}
 use Rattle.vx_table.proofs.Codings.{begins_apart, stands_not_refused, refused_once}
 use Rattle.vx_table.proofs.Spelled.{is_value}
 
@@ -34,7 +34,7 @@ one_more cell goes items between after v w first more = more ∙ (ap (λ front. 
 
 -- what is read is spelled
 pub found : {A : Type 0} {form : Form A} {old new : Place} {items after : List Item} {a : A}
-    → Walks reads_field form old items (Ok a) new after → IsFound form old items new after
+    → Walks ReadsField form old items (Ok a) new after → IsFound form old items new after
 found {items} ended = record { values = []; spelled = at_end; total = refl; gained = sym (append-nil items) }
 found {form = field cell goes} {old} {new} {items} {after} (coded {d} {j} {v} s rest) =
     let more = found rest in
@@ -66,7 +66,7 @@ at_once {cell} {goes} {old} {items} still same = record {
 
 -- a refusal is that of the longest front
 pub stopped : {A : Type 0} {form : Form A} {old new : Place} {items after : List Item} (r : Refusal)
-    → Walks {A = A} reads_field form old items (Err (errors.Refused r)) new after → IsFirstRefusal form old items new after r
+    → Walks {A = A} ReadsField form old items (Err (errors.Refused r)) new after → IsFirstRefusal form old items new after r
 stopped {form = done a} r walk = elim walk [ ]
 stopped {form = field cell goes} {old} r (refused s) =
     record { cell = cell; stops = at_once s.1 s.2; refused = subst (λ (p : Place). IsRefused cell old.total p.left r) (sym s.1) s.0 }
@@ -76,7 +76,7 @@ stopped {form = field cell goes} {old} r (coded {d} s walk) =
 
 -- and where memory runs out, a front was read
 pub interrupted : {A : Type 0} {form : Form A} {old new : Place} {items after : List Item}
-    → Walks {A = A} reads_field form old items (Err errors.Memory) new after → (cell : Cell ℕ) × StopsAt form old items new after cell
+    → Walks {A = A} ReadsField form old items (Err errors.Memory) new after → (cell : Cell ℕ) × StopsAt form old items new after cell
 interrupted {form = done a} walk = elim walk [ ]
 interrupted {form = field cell goes} (refused s) = (cell, at_once s.0 s.1)
 interrupted {form = field cell goes} (coded s walk) = let more = interrupted walk in (more.0, longer s.0 s.1 s.2 more.1)
@@ -94,7 +94,7 @@ refused_more (Err (errors.Refused q)) r f p = (p.0, f p.1)
 
 -- whatever is spelled is answered
 pub only : {A : Type 0} {form : Form A} {old new : Place} {items after : List Item} {result : Result A ReadError} {w : List ℤ} {left rest : List Bool}
-    → Walks reads_field form old items result new after → Spells old.total form w left rest → left ≡ old.left
+    → Walks ReadsField form old items result new after → Spells old.total form w left rest → left ≡ old.left
     → IsAnswered result ((new.left ≡ rest) × (after ≡ items ++ items_along form w))
 only {items} ended at_end same = (sym same, sym (append-nil items))
 only (refused {e = errors.Memory} s) (behind stands more) same = tt
@@ -110,7 +110,7 @@ only {form = field cell goes} {old} {new} {items} {after} {result} {rest} (coded
 
 -- where a field is refused, that is the answer
 pub refusal : {A : Type 0} {form : Form A} {old new : Place} {items after : List Item} {result : Result A ReadError} {w : List ℤ} {left rest : List Bool} {cell : Cell ℕ} {r : Refusal}
-    → Walks reads_field form old items result new after → Reaches old.total form w left cell rest → left ≡ old.left → IsRefused cell old.total rest r
+    → Walks ReadsField form old items result new after → Reaches old.total form w left cell rest → left ≡ old.left → IsRefused cell old.total rest r
     → IsRefusedWith result r ((new.left ≡ rest) × (after ≡ items ++ items_along form w))
 refusal ended reach same out = elim reach [ ]
 refusal (refused {e = errors.Memory} s) here same out = tt
@@ -130,7 +130,7 @@ refusal {form = field cell goes} {old} {new} {items} {after} {result} {rest} {ce
 
 -- the end to which a reader comes
 pub leads_to : {A : Type 0} {form : Form A} {old new : Place} {items after : List Item} {a : A} {w : List ℤ} {left rest : List Bool}
-    → Walks reads_field form old items (Ok a) new after → Spells old.total form w left rest → left ≡ old.left → Follows form w a
+    → Walks ReadsField form old items (Ok a) new after → Spells old.total form w left rest → left ≡ old.left → Follows form w a
 leads_to ended at_end same = to_end
 leads_to {form = field cell goes} {old} {a} {rest} (coded {d} {v} s walk) (behind {v = u} {w} {mid} stands more) same =
     let apart = begins_apart (subst (λ x. Stands cell old.total u x mid) same stands).code s.0.code in
@@ -138,13 +138,13 @@ leads_to {form = field cell goes} {old} {a} {rest} (coded {d} {v} s walk) (behin
     through (is_value stands) (subst (λ x. Follows (goes x) w a) (sym apart.0) (leads_to walk on apart.1))
 
 pub leads : {A B : Type 0} {form : Form A} {old new : Place} {items after : List Item} (a : A) (result : Result B ReadError)
-    → Walks reads_field form old items (leaving a result) new after → OnOk result (LeadsTo form old a)
+    → Walks ReadsField form old items (leaving a result) new after → OnOk result (LeadsTo form old a)
 leads a (Ok b) walk = λ w rest spelled. leads_to walk spelled refl
 leads a (Err e) walk = tt
 
 -- Such a walk is a reader's answer.
 pub reads : {A B : Type 0} {form : Form A} {old new : Place} {items after : List Item} (a : A) (result : Result B ReadError)
-    → Walks reads_field form old items (leaving a result) new after → Reads form old items result new after
+    → Walks ReadsField form old items (leaving a result) new after → Reads form old items result new after
 reads a (Ok b) walk = record {
   is = found walk;
   only = λ w rest spelled. only walk spelled refl;

@@ -10,55 +10,55 @@ use Rattle.vx_table.specs.Forms.{Form, done, ◌>>=◌, cell_at, after, one_fiel
 use Rattle.vx_table.specs.declared.parts.Part.{Part}
 use Rattle.vx_table.specs.Parts.{sections_form, section_form, section_of, parts_form}
 use Rattle.vx_table.specs.Scope.{value}
-use Rattle.vx_table.specs.Walks.{Walks, ended, coded, refused}
+use Rattle.vx_table.specs.Walks.{Step, Walks, ended, coded, refused}
 use Rattle.vx_table.proofs.Blocks.{form-field, form-name, form-block}
 
 -- a walk to the end of one form and on along the next is one along both
-pub then : {C I E A B : Type 0} {step : C → I → Cell ℕ → Result ℤ E → C → I → Type 0} {f : Form A} (next : A → Form B) {c d e : C} {i j k : I} {a : A} {r : Result B E}
+pub then : {C I E A B : Type 0} {step : Step C I E} {f : Form A} (next : A → Form B) {c d e : C} {i j k : I} {a : A} {r : Result B E}
     → Walks step f c i (Ok a) d j → Walks step (next a) d j r e k → Walks step (f >>= next) c i r e k
 then next ended behind = behind
 then next (coded s rest) behind = coded s (then next rest behind)
 
 -- a refusal within the first form is one within both
-pub stop : {C I E A B : Type 0} {step : C → I → Cell ℕ → Result ℤ E → C → I → Type 0} {f : Form A} (next : A → Form B) {c d : C} {i j : I} {e : E}
+pub stop : {C I E A B : Type 0} {step : Step C I E} {f : Form A} (next : A → Form B) {c d : C} {i j : I} {e : E}
     → Walks step f c i (Err e) d j → Walks step (f >>= next) c i (Err e) d j
 stop next (coded s rest) = coded s (stop next rest)
 stop next (refused s) = refused s
 
-pub one_coded : {C I E : Type 0} {step : C → I → Cell ℕ → Result ℤ E → C → I → Type 0} (s : List ℕ) (row : Cell Formula) {c d : C} {i j : I} (v : ℤ)
+pub one_coded : {C I E : Type 0} {step : Step C I E} (s : List ℕ) (row : Cell Formula) {c d : C} {i j : I} (v : ℤ)
     → step c i (cell_at s row) (Ok v) d j → Walks step (one_field s row) c i (Ok (after s (cell_at s row) v)) d j
 unfolding one_field
 one_coded s row v h = coded h ended
 
-pub one_refused : {C I E : Type 0} {step : C → I → Cell ℕ → Result ℤ E → C → I → Type 0} (s : List ℕ) (row : Cell Formula) {c d : C} {i j : I} {e : E}
+pub one_refused : {C I E : Type 0} {step : Step C I E} (s : List ℕ) (row : Cell Formula) {c d : C} {i j : I} {e : E}
     → step c i (cell_at s row) (Err e) d j → Walks step (one_field s row) c i (Err e) d j
 unfolding one_field
 one_refused s row h = refused h
 
 -- Whatever follows this rest of a form, from this coder and these items on, completes the whole.
-pub record Leads {C I E A : Type 0} (step : C → I → Cell ℕ → Result ℤ E → C → I → Type 0) (whole : Form A) (first : C) (first_items : I) (rest : Form A) (c : C) (i : I) : Type 0 where
+pub record Leads {C I E A : Type 0} (step : Step C I E) (whole : Form A) (first : C) (first_items : I) (rest : Form A) (c : C) (i : I) : Type 0 where
   pub on : (r : Result A E) (d : C) (j : I) → Walks step rest c i r d j → Walks step whole first first_items r d j
 
-pub leads : {C I E A : Type 0} (step : C → I → Cell ℕ → Result ℤ E → C → I → Type 0) (f : Form A) (c : C) (i : I) → Leads step f c i f c i
+pub leads : {C I E A : Type 0} (step : Step C I E) (f : Form A) (c : C) (i : I) → Leads step f c i f c i
 leads step f c i = record { on = λ r d j w. w }
 
 -- behind a form that was walked
-pub leads-then : {C I E A : Type 0} {step : C → I → Cell ℕ → Result ℤ E → C → I → Type 0} {whole : Form A} {first : C} {first_items : I} {f : Form A} (next : A → Form A) {c d : C} {i j : I} {a : A}
+pub leads-then : {C I E A : Type 0} {step : Step C I E} {whole : Form A} {first : C} {first_items : I} {f : Form A} (next : A → Form A) {c d : C} {i j : I} {a : A}
     → Leads step whole first first_items (f >>= next) c i → Walks step f c i (Ok a) d j → Leads step whole first first_items (next a) d j
 leads-then next before walked = record { on = λ r d j rest. before.on r d j (then next walked rest) }
 
 -- at a refusal
-pub leads-stop : {C I E A : Type 0} {step : C → I → Cell ℕ → Result ℤ E → C → I → Type 0} {whole : Form A} {first : C} {first_items : I} {f : Form A} (next : A → Form A) {c d : C} {i j : I} {e : E}
+pub leads-stop : {C I E A : Type 0} {step : Step C I E} {whole : Form A} {first : C} {first_items : I} {f : Form A} (next : A → Form A) {c d : C} {i j : I} {e : E}
     → Leads step whole first first_items (f >>= next) c i → Walks step f c i (Err e) d j → Walks step whole first first_items (Err e) d j
 leads-stop next before walked = before.on _ _ _ (stop next walked)
 
 -- at the end
-pub leads-end : {C I E A : Type 0} {step : C → I → Cell ℕ → Result ℤ E → C → I → Type 0} {whole : Form A} {first : C} {first_items : I} {a : A} {c : C} {i : I}
+pub leads-end : {C I E A : Type 0} {step : Step C I E} {whole : Form A} {first : C} {first_items : I} {a : A} {c : C} {i : I}
     → Leads step whole first first_items (done a) c i → Walks step whole first first_items (Ok a) c i
 leads-end before = before.on _ _ _ ended
 
 -- What is left of a table behind its first row.
-module _ {C I E : Type 0} {step : C → I → Cell ℕ → Result ℤ E → C → I → Type 0} {whole : Form (List ℕ)} {first : C} {first_items : I} where
+module _ {C I E : Type 0} {step : Step C I E} {whole : Form (List ℕ)} {first : C} {first_items : I} where
   pub leads-field : (cell : Cell Formula) (rows : List Row) (s t : List ℕ) {c d : C} {i j : I}
       → Leads step whole first first_items (form_of (Field cell ∷ rows) s) c i → Walks step (one_field s cell) c i (Ok t) d j → Leads step whole first first_items (form_of rows t) d j
   leads-field cell rows s t before walked = leads-then (form_of rows) (rw form-field at before) walked
@@ -115,7 +115,7 @@ module _ {C I E : Type 0} {step : C → I → Cell ℕ → Result ℤ E → C �
       leads-end (rw none at before)
 
 -- What is left of parts behind the one at a place.
-module _ {C I E : Type 0} {step : C → I → Cell ℕ → Result ℤ E → C → I → Type 0} {whole : Form (List ℕ)} {first : C} {first_items : I} where
+module _ {C I E : Type 0} {step : Step C I E} {whole : Form (List ℕ)} {first : C} {first_items : I} where
   at_part : (parts : List Part) (i : ℕ) (none : Part) (s : List ℕ) {c : C} {j : I} → i < length parts
       → Leads step whole first first_items (parts_form (drop i parts) s) c j → Leads step whole first first_items (section_form (section_of (get_or parts i none)) s >>= parts_form (drop (i + 1) parts)) c j
   unfolding sections_form

@@ -6,73 +6,73 @@ use Rattle.vx_bits.specs.declared.refusal.BitCause.{BitCause}
 use Rattle.vx_bits.specs.declared.refusal.BitCause.TheVariants as causes
 use Rattle.vx_table.specs.declared.rows.Coding.TheVariants.{Fixed, Golomb, SignedGolomb, Zeros, OneAndZeros, Trailing, Absent, Refused}
 use Rattle.vx_table.specs.Spelling.{HasCode, code_of, MayEnd, Misses}
-use Rattle.vx_table.specs.Reading.{takes_code}
+use Rattle.vx_table.specs.Reading.{TakesCode}
 
-pub fixed_taken : (n v : ℕ) (old new : Place) → v < 2 ^ n → Takes (fixed n v) old new → takes_code (Fixed n) old (Ok (pos v)) new
+pub fixed_taken : (n v : ℕ) (old new : Place) → v < 2 ^ n → Takes (fixed n v) old new → TakesCode (Fixed n) old (Ok (pos v)) new
 unfolding HasCode code_of MayEnd
 fixed_taken n v old new small took = (record { value = small; bits = took.left; end = tt }, took.total)
 
-pub golomb_taken : (v : ℕ) (old new : Place) → IsCodeNumber v → Takes (exp_golomb v) old new → takes_code Golomb old (Ok (pos v)) new
+pub golomb_taken : (v : ℕ) (old new : Place) → IsCodeNumber v → Takes (exp_golomb v) old new → TakesCode Golomb old (Ok (pos v)) new
 unfolding HasCode code_of MayEnd
 golomb_taken v old new is took = (record { value = is; bits = took.left; end = tt }, took.total)
 
-pub signed_taken : (v : ℤ) (old new : Place) → IsCodeNumber (code_number v) → Takes (signed_exp_golomb v) old new → takes_code SignedGolomb old (Ok v) new
+pub signed_taken : (v : ℤ) (old new : Place) → IsCodeNumber (code_number v) → Takes (signed_exp_golomb v) old new → TakesCode SignedGolomb old (Ok v) new
 unfolding HasCode code_of MayEnd
 signed_taken v old new is took = (record { value = is; bits = took.left; end = tt }, took.total)
 
-pub zeros_taken : (old new : Place) → Takes (zeros_from (taken old)) old new → takes_code Zeros old (Ok (pos 0)) new
+pub zeros_taken : (old new : Place) → Takes (zeros_from (taken old)) old new → TakesCode Zeros old (Ok (pos 0)) new
 unfolding HasCode code_of MayEnd
 zeros_taken old new took = (record { value = refl; bits = took.left; end = tt }, took.total)
 
-pub one_taken : (old new : Place) → Takes (one_from (taken old)) old new → takes_code OneAndZeros old (Ok (pos 0)) new
+pub one_taken : (old new : Place) → Takes (one_from (taken old)) old new → TakesCode OneAndZeros old (Ok (pos 0)) new
 unfolding HasCode code_of MayEnd
 one_taken old new took = (record { value = refl; bits = took.left; end = tt }, took.total)
 
-pub trailing_taken : (old new : Place) → Takes (one_from (taken old)) old new → new.left ≡ [] → takes_code Trailing old (Ok (pos 0)) new
+pub trailing_taken : (old new : Place) → Takes (one_from (taken old)) old new → new.left ≡ [] → TakesCode Trailing old (Ok (pos 0)) new
 unfolding HasCode code_of MayEnd
 trailing_taken old new took last = (record { value = refl; bits = took.left; end = last }, took.total)
 
-pub absent_taken : (old : Place) → takes_code Absent old (Ok (pos 0)) old
+pub absent_taken : (old : Place) → TakesCode Absent old (Ok (pos 0)) old
 unfolding HasCode code_of MayEnd
 absent_taken old = (record { value = refl; bits = refl; end = tt }, refl)
 
-pub refused_missed : (old : Place) → takes_code Refused old (Err causes.OutOfRange) old
+pub refused_missed : (old : Place) → TakesCode Refused old (Err causes.OutOfRange) old
 unfolding Misses
 refused_missed old = (tt, refl)
 
 pub fixed_missed : {T : Type 0} (n : ℕ) (old new : Place) (e : BitCause) → e ≡ causes.Short → ((◌≡◌ {A = Result T BitCause} (Err e) (Err causes.Short)) ↔ (length old.left < n)) → new ≡ old
-    → takes_code (Fixed n) old (Err e) new
+    → TakesCode (Fixed n) old (Err e) new
 unfolding Misses
 fixed_missed n old new e is short same = rw is (short.0 (ap Err is), same)
 
 pub golomb_missed : {T : Type 0} (old new : Place) (e : BitCause) → (e ≡ causes.Short) ⊎ (e ≡ causes.LongCode)
     → ((◌≡◌ {A = Result T BitCause} (Err e) (Err causes.Short)) ↔ EndsWithinCode old.left) → ((◌≡◌ {A = Result T BitCause} (Err e) (Err causes.LongCode)) ↔ BeginsTooLong old.left) → new ≡ old
-    → takes_code Golomb old (Err e) new
+    → TakesCode Golomb old (Err e) new
 unfolding Misses
 golomb_missed old new e (inl is) short long same = rw is (short.0 (ap Err is), same)
 golomb_missed old new e (inr is) short long same = rw is (long.0 (ap Err is), same)
 
 pub signed_missed : {T : Type 0} (old new : Place) (e : BitCause) → (e ≡ causes.Short) ⊎ (e ≡ causes.LongCode)
     → ((◌≡◌ {A = Result T BitCause} (Err e) (Err causes.Short)) ↔ EndsWithinCode old.left) → ((◌≡◌ {A = Result T BitCause} (Err e) (Err causes.LongCode)) ↔ BeginsTooLong old.left) → new ≡ old
-    → takes_code SignedGolomb old (Err e) new
+    → TakesCode SignedGolomb old (Err e) new
 unfolding Misses
 signed_missed old new e (inl is) short long same = rw is (short.0 (ap Err is), same)
 signed_missed old new e (inr is) short long same = rw is (long.0 (ap Err is), same)
 
-pub zeros_missed : (old new : Place) (e : BitCause) → e ≡ causes.BadAlignment → (¬ BeginsWith old.left (zeros_from (taken old))) → new ≡ old → takes_code Zeros old (Err e) new
+pub zeros_missed : (old new : Place) (e : BitCause) → e ≡ causes.BadAlignment → (¬ BeginsWith old.left (zeros_from (taken old))) → new ≡ old → TakesCode Zeros old (Err e) new
 unfolding Misses
 zeros_missed old new e is others same = rw is (others, same)
 
 pub one_missed : {T : Type 0} (old new : Place) (e : BitCause) → (e ≡ causes.Short) ⊎ (e ≡ causes.BadAlignment)
     → ((◌≡◌ {A = Result T BitCause} (Err e) (Err causes.Short)) ↔ (old.left ≡ [])) → ((◌≡◌ {A = Result T BitCause} (Err e) (Err causes.BadAlignment)) ↔ ((old.left ≢ []) × (¬ BeginsWith old.left (one_from (taken old))))) → new ≡ old
-    → takes_code OneAndZeros old (Err e) new
+    → TakesCode OneAndZeros old (Err e) new
 unfolding Misses
 one_missed old new e (inl is) short bad same = rw is (short.0 (ap Err is), same)
 one_missed old new e (inr is) short bad same = rw is (bad.0 (ap Err is), same)
 
 pub trailing_missed : {T : Type 0} (old new : Place) (e : BitCause) → (e ≡ causes.Short) ⊎ (e ≡ causes.BadTrailing)
     → ((◌≡◌ {A = Result T BitCause} (Err e) (Err causes.Short)) ↔ (old.left ≡ [])) → ((◌≡◌ {A = Result T BitCause} (Err e) (Err causes.BadTrailing)) ↔ ((old.left ≢ []) × (old.left ≢ one_from (taken old)))) → new ≡ old
-    → takes_code Trailing old (Err e) new
+    → TakesCode Trailing old (Err e) new
 unfolding Misses
 trailing_missed old new e (inl is) short bad same = rw is (short.0 (ap Err is), same)
 trailing_missed old new e (inr is) short bad same = rw is (bad.0 (ap Err is), same)

@@ -11,7 +11,7 @@ use Rattle.vx_table.specs.Walks.{Walks, ended, coded, refused, leaving}
 use Rattle.vx_table.specs.Spelling.{code_of, item_of, items_along}
 use Rattle.vx_table.specs.Values.{IsValueOf, Follows, to_end, through, ComesTo, at_field, past, bits_along}
 use Rattle.vx_table.specs.Laws.{ItemsApart}
-use Rattle.vx_table.specs.Writing.{writes_field, TellsNoValue, IsWritten, IsSpelled, HaltsAt, AreItemsOf, Writes, ItemsLeadTo}
+use Rattle.vx_table.specs.Writing.{WritesField, TellsNoValue, IsWritten, IsSpelled, HaltsAt, AreItemsOf, Writes, ItemsLeadTo}
 use Rattle.vx_table.proofs.Items.{item_apart}
 
 pub written_more : {B P Q : Type 0} (result : Result B SpellError) → (P → Q) → IsWritten result P → IsWritten result Q
@@ -34,7 +34,7 @@ items_more cell goes items between left v w first more = first ∙ ap (λ x. ite
 
 -- what was written is spelled
 pub written : {A : Type 0} {form : Form A} {old new : List Bool} {items left : List Item} {a : A}
-    → Walks writes_field form old items (Ok a) new left → IsSpelled form old items new left a
+    → Walks WritesField form old items (Ok a) new left → IsSpelled form old items new left a
 written {old} ended = record { values = []; follows = to_end; gained = sym (append-nil old); taken = refl }
 written {form = field cell goes} {old} {new} {items} {left} (coded {d} {j} {v} s walk) =
     let more = written walk in
@@ -60,14 +60,14 @@ longer {cell} {goes} {old} {mid} {new} {items} {between} {left} {v} is gained ta
 
 -- where memory runs out, a front was written
 pub interrupted : {A : Type 0} {form : Form A} {old new : List Bool} {items left : List Item}
-    → Walks {A = A} writes_field form old items (Err errors.Memory) new left → (cell : Cell ℕ) × HaltsAt form old items new left cell
+    → Walks {A = A} WritesField form old items (Err errors.Memory) new left → (cell : Cell ℕ) × HaltsAt form old items new left cell
 interrupted {form = done a} walk = elim walk [ ]
 interrupted {form = field cell goes} (refused s) = (cell, at_once s.0 s.1)
 interrupted {form = field cell goes} (coded s walk) = let more = interrupted walk in (more.0, longer s.0 s.1 s.2 more.1)
 
 -- and where the items are of no value
 pub stopped : {A : Type 0} {form : Form A} {old new : List Bool} {items left : List Item}
-    → Walks {A = A} writes_field form old items (Err errors.NoValue) new left → (cell : Cell ℕ) × HaltsAt form old items new left cell × TellsNoValue cell left
+    → Walks {A = A} WritesField form old items (Err errors.NoValue) new left → (cell : Cell ℕ) × HaltsAt form old items new left cell × TellsNoValue cell left
 stopped {form = done a} walk = elim walk [ ]
 stopped {form = field cell goes} (refused s) = (cell, at_once s.1 s.2, subst (λ x. TellsNoValue cell x) (sym s.2) s.0)
 stopped {form = field cell goes} (coded s walk) = let more = stopped walk in (more.0, longer s.0 s.1 s.2 more.1, more.2)
@@ -108,7 +108,7 @@ accepted {form} {old} {left} {more} is of =
     (is.gained ∙ ap (λ w. old ++ bits_along form (length old) w) same.0, same.1, sym same.2)
 
 pub writes : {A B : Type 0} {form : Form A} {old new : List Bool} {items left : List Item} (a : A) (result : Result B SpellError)
-    → Walks writes_field form old items (leaving a result) new left → Writes form old items result new left
+    → Walks WritesField form old items (leaving a result) new left → Writes form old items result new left
 writes {left} a (Ok b) walk =
     let is = written walk in
     record {
@@ -127,6 +127,6 @@ writes {left} a (Err errors.NoValue) walk =
 
 -- the end to which a writer comes
 pub leads : {A B : Type 0} {form : Form A} {old new : List Bool} {items left : List Item} (a : A) (result : Result B SpellError)
-    → Walks writes_field form old items (leaving a result) new left → OnOk result (ItemsLeadTo form items a)
+    → Walks WritesField form old items (leaving a result) new left → OnOk result (ItemsLeadTo form items a)
 leads a (Ok b) walk = λ values other more of. (accepted (written walk) of).2
 leads a (Err e) walk = tt

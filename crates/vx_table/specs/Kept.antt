@@ -33,10 +33,10 @@ kept_along (field cell goes) [] = []
 kept_along (field cell goes) (v ∷ w) = kept_item cell v ++ kept_along (goes v) w
 
 -- What sifting does at one field: its item is taken, and kept where the field is.
-abbrev pub keeps_field : List Item → List Item → Cell ℕ → Result ℤ SpellError → List Item → List Item → Type 0
-keeps_field items into cell (Ok v) left new = IsValueOf cell v × (items ≡ item_of cell v ++ left) × (new ≡ into ++ kept_item cell v)
-keeps_field items into cell (Err errors.Memory) left new = new ≡ into
-keeps_field items into cell (Err errors.NoValue) left new = (new ≡ into) × ((v : ℤ) (more : List Item) → IsValueOf cell v → items ≡ item_of cell v ++ more → ⊥)
+abbrev pub KeepsField : List Item → List Item → Cell ℕ → Result ℤ SpellError → List Item → List Item → Type 0
+KeepsField items into cell (Ok v) left new = IsValueOf cell v × (items ≡ item_of cell v ++ left) × (new ≡ into ++ kept_item cell v)
+KeepsField items into cell (Err errors.Memory) left new = new ≡ into
+KeepsField items into cell (Err errors.NoValue) left new = (new ≡ into) × ((v : ℤ) (more : List Item) → IsValueOf cell v → items ≡ item_of cell v ++ more → ⊥)
 
 -- The items taken are those of values of the form, which leave this scope, and the kept ones were gained.
 pub record IsKept {A : Type 0} (form : Form A) (items into : List Item) (a : A) (left new : List Item) : Type 0 where

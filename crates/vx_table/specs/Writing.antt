@@ -13,10 +13,10 @@ abbrev pub TellsNoValue : Cell ℕ → List Item → Type 0
 TellsNoValue cell items = (v : ℤ) (more : List Item) → IsValueOf cell v → items ≡ item_of cell v ++ more → ⊥
 
 -- What a writer does at one field: where it answers an error, bits and items are as they were.
-abbrev pub writes_field : List Bool → List Item → Cell ℕ → Result ℤ SpellError → List Bool → List Item → Type 0
-writes_field old items cell (Ok v) new left = IsValueOf cell v × (new ≡ old ++ code_of cell.coding (length old) v) × (items ≡ item_of cell v ++ left)
-writes_field old items cell (Err errors.Memory) new left = (new ≡ old) × (left ≡ items)
-writes_field old items cell (Err errors.NoValue) new left = TellsNoValue cell items × (new ≡ old) × (left ≡ items)
+abbrev pub WritesField : List Bool → List Item → Cell ℕ → Result ℤ SpellError → List Bool → List Item → Type 0
+WritesField old items cell (Ok v) new left = IsValueOf cell v × (new ≡ old ++ code_of cell.coding (length old) v) × (items ≡ item_of cell v ++ left)
+WritesField old items cell (Err errors.Memory) new left = (new ≡ old) × (left ≡ items)
+WritesField old items cell (Err errors.NoValue) new left = TellsNoValue cell items × (new ≡ old) × (left ≡ items)
 
 -- The bits have gained the spelling of values that go through the form to this end, and the values' items were taken.
 pub record IsSpelled {A : Type 0} (form : Form A) (old : List Bool) (items : List Item) (new : List Bool) (left : List Item) (end : A) : Type 0 where

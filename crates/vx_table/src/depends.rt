@@ -9,17 +9,17 @@ ghost use Rattle.vx_table.specs.Depends.{DependsOnlyOn};
 use crate::parts::Part;
 use crate::rows::{Cell, Coding, Formula, Limits, Presence, Row, Term};
 use crate::scope::Scope;
-use crate::walk::split_block;
+use crate::walk::{has_value, split_block};
 
 /// Whether a set of fields and names has this one; a set is a scope in which they have a number.
-pub fn has(names: &Scope, n: u16) -> bool
+pub(crate) fn has(names: &Scope, n: u16) -> bool
     ensures { result ≡ test.has names.now n }
 {
     names.latest(n) != 0
 }
 
 /// A set with more fields and names.
-pub fn with_all(mut names: Scope, more: &[u16]) -> Scope
+pub(crate) fn with_all(mut names: Scope, more: &[u16]) -> Scope
     ensures { result ≡ test.with_all names more.now }
 {
     for n in more {
@@ -142,15 +142,14 @@ fn grown(shown: &Scope, known: Scope, n: u16) -> Scope
 }
 
 /// What is known behind a field.
-#[tactic(auto, unfolding(crate::specs::Depends::behind_field, crate::specs::Forms::has_value))]
+#[tactic(auto, unfolding(crate::specs::Depends::behind_field))]
 fn behind_field(shown: &Scope, known: Scope, cell: Cell<Formula>) -> Scope
     ensures { result ≡ test.behind_field shown.now known cell }
 {
-    match cell.coding {
-        Coding::Fixed(_) | Coding::Golomb | Coding::SignedGolomb => {
-            grown(shown, known, cell.field)
-        }
-        _ => known,
+    if has_value(cell.coding) {
+        grown(shown, known, cell.field)
+    } else {
+        known
     }
 }
 

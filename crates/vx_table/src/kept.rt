@@ -16,7 +16,7 @@ use vx_bits::{Fields, Item};
 
 /// Whether a coding is that of a field, or of an absent one that stands among the kept ones.
 #[tactic(auto, unfolding(crate::specs::Kept::stands_for_field))]
-pub fn stands_for_field<N: Copy>(coding: Coding<N>) -> bool
+pub(crate) fn stands_for_field<N: Copy>(coding: Coding<N>) -> bool
     ensures { result ≡ kept.stands_for_field coding }
 {
     matches!(
@@ -43,11 +43,11 @@ fn keep_item(into: &mut Fields, cell: Cell<u32>, value: i64) -> Result<(), Alloc
 }
 
 impl<'a> Coder<Fields> for Unwritten<'a> {
-    ghost use Rattle.vx_table.specs.Kept.{keeps_field};
+    ghost use Rattle.vx_table.specs.Kept.{KeepsField};
 
     type Fault = SpellError;
 
-    ghost step = { keeps_field };
+    ghost step = { KeepsField };
 
     fn code(&mut self, items: &mut Fields, cell: Cell<u32>) -> Result<i64, SpellError> {
         let Some(value) = next_value(self, cell.field, cell.coding) else {

@@ -36,7 +36,7 @@ pub use laws_depend::{
 pub use parts::{Part, code_parts, read_parts, write_parts};
 pub use reader::{read_table, read_value};
 pub use rows::{Cell, Coding, Fault, Formula, Limits, Presence, Row, Term};
-pub use scope::{NUMBERS, Scope};
+pub use scope::Scope;
 pub use stars::{keeps_only, parts_keep_only};
 pub use walk::{Coder, code_table, coding, coding_of};
 pub use writer::{SpellError, Unwritten, has_code, write_code, write_table};

@@ -5,7 +5,7 @@ ghost use Rattle.vx_bits.specs.Place.{taken};
 ghost use Rattle.vx_table.specs.Forms.{form_of};
 ghost use Rattle.vx_table.specs.Spelling as spelling;
 ghost use Rattle.vx_table.specs.Spelling.{IsCodable};
-ghost use Rattle.vx_table.specs.Reading.{takes_code, reads_field, at_front, Reads, ReadsValue, LeadsTo};
+ghost use Rattle.vx_table.specs.Reading.{TakesCode, ReadsField, at_front, Reads, ReadsValue, LeadsTo};
 
 use crate::rows::{Cell, Coding, Fault, Limits, Row};
 use crate::scope::Scope;
@@ -16,7 +16,7 @@ use vx_bits::{BitCause, BitReader, Fields, Item, ReadError, Refusal};
 /// Takes the code of a field or a gap, and gives its value, 0 for a gap.
 fn take_code(bits: &mut BitReader<'_>, coding: Coding<u32>) -> Result<i64, BitCause>
     requires { IsCodable coding }
-    ensures { takes_code coding bits.old result bits.new }
+    ensures { TakesCode coding bits.old result bits.new }
 {
     match coding {
         Coding::Fixed(width) => Ok(bits.u(width)? as i64),
@@ -41,7 +41,7 @@ fn take_code(bits: &mut BitReader<'_>, coding: Coding<u32>) -> Result<i64, BitCa
 
 /// The fault of a value, where it breaks its range.
 #[tactic(auto, unfolding(crate::specs::Spelling::fault_of))]
-pub fn fault_of(limits: Limits<u32>, value: i64) -> Option<Fault>
+pub(crate) fn fault_of(limits: Limits<u32>, value: i64) -> Option<Fault>
     ensures { result ≡ spelling.fault_of limits value }
 {
     match limits {
@@ -99,7 +99,7 @@ fn syntax(field: u16, bit: u32, cause: BitCause) -> ReadError
 impl<'a> Coder<Fields> for BitReader<'a> {
     type Fault = ReadError;
 
-    ghost step = { reads_field };
+    ghost step = { ReadsField };
 
     fn code(&mut self, items: &mut Fields, cell: Cell<u32>) -> Result<i64, ReadError> {
         let bit = self.at();

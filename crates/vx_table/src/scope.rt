@@ -8,7 +8,7 @@ use std::marker::Model;
 use vx_bits::Fields;
 
 /// How many numbers fields and names have: each is below this.
-pub const NUMBERS: usize = 1024;
+const NUMBERS: usize = 1024;
 
 /// The latest number of each field and name; 0 of those that have none.
 ///

@@ -13,12 +13,12 @@ use crate::scope::Scope;
 
 /// What codes the fields of a structure, one after another: a reader from bits to items, a writer from items to bits.
 pub trait Coder<I> {
-    ghost use Rattle.vx_table.specs.declared.rows.Cell.{Cell};
+    ghost use Rattle.vx_table.specs.Walks.{Step};
 
     /// Why a field can't be coded.
     type Fault;
 
-    ghost step: { Self → I → Cell ℕ → Result ℤ Self.Fault → Self → I → Type 0 };
+    ghost step: { Step Self I Self.Fault };
 
     /// Codes one field, and answers its value, which is 0 for a gap.
     fn code(&mut self, items: &mut I, cell: Cell<u32>) -> Result<i64, Self::Fault>
@@ -44,16 +44,23 @@ pub fn coding(scope: &Scope, coding: Coding<Formula>) -> Coding<u32>
     }
 }
 
-/// The coding of a row that codes the field with this number.
+/// Whether the coding is that of a field with a value, and not of a gap.
 #[tactic(auto, unfolding(crate::specs::Forms::has_value))]
+pub(crate) fn has_value<N: Copy>(coding: Coding<N>) -> bool
+    ensures { result ≡ forms.has_value coding }
+{
+    matches!(
+        coding,
+        Coding::Fixed(_) | Coding::Golomb | Coding::SignedGolomb
+    )
+}
+
+/// The coding of a row that codes the field with this number.
 fn coding_in_row(row: Row, field: u16) -> Option<Coding<Formula>>
     ensures { result ≡ coding_in row field }
 {
     match row {
-        Row::Field(cell) if cell.field == field => match cell.coding {
-            Coding::Fixed(_) | Coding::Golomb | Coding::SignedGolomb => Some(cell.coding),
-            _ => None,
-        },
+        Row::Field(cell) if cell.field == field && has_value(cell.coding) => Some(cell.coding),
         _ => None,
     }
 }
@@ -102,17 +109,6 @@ fn cell(scope: &Scope, row: Cell<Formula>) -> Cell<u32>
     }
 }
 
-/// Whether the coding is that of a field with a value, and not of a gap.
-#[tactic(auto, unfolding(crate::specs::Forms::has_value))]
-pub fn has_value(coding: Coding<u32>) -> bool
-    ensures { result ≡ forms.has_value coding }
-{
-    matches!(
-        coding,
-        Coding::Fixed(_) | Coding::Golomb | Coding::SignedGolomb
-    )
-}
-
 /// Gives a field its value; a gap has none.
 #[tactic(auto, unfolding(crate::specs::Forms::after))]
 fn keep(scope: &mut Scope, cell: Cell<u32>, value: i64)
@@ -139,7 +135,7 @@ fn code_field<I, C: Coder<I>>(
 }
 
 /// The rows of a block, which are at most those that are left, and the rows behind it.
-pub fn split_block(rows: &[Row], inside: usize) -> (&[Row], &[Row])
+pub(crate) fn split_block(rows: &[Row], inside: usize) -> (&[Row], &[Row])
     ensures block { result.0.now ≡ take (min inside (length rows.now)) rows.now }
     ensures behind { result.1.now ≡ drop (min inside (length rows.now)) rows.now }
     ensures all { length result.0.now + length result.1.now ≡ length rows.now }
@@ -188,7 +184,7 @@ pub fn code_table<I, C: Coder<I>>(
 
 /// Codes a block of rows as often as it is there.
 #[cycle(walk)]
-pub fn code_block<I, C: Coder<I>>(
+pub(crate) fn code_block<I, C: Coder<I>>(
     presence: Presence,
     block: &[Row],
     scope: &mut Scope,

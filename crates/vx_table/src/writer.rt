@@ -3,7 +3,7 @@
 ghost use Rattle.std.specs.Prelude.{◌≡◌, ◌↔◌, ℕ, ℤ, pos, ◌≤ℤ◌, ◌^◌, ◌<◌, ◌+◌, ◌-◌, ◌≤◌, List, ◌∷◌, ◌++◌, [], length, take, drop, IsTrue, OnOk, OnErr, MatchOption};
 ghost use Rattle.vx_bits.specs.declared.list.Item.{Item};
 ghost use Rattle.vx_table.specs.Spelling.{IsCodable, HasCode, code_of};
-ghost use Rattle.vx_table.specs.Items.{tells_value};
+ghost use Rattle.vx_table.specs.Items.{TellsValue};
 ghost use Rattle.vx_table.specs.Values.{IsValueOf};
 ghost use Rattle.vx_table.specs.Forms.{form_of};
 ghost use Rattle.vx_table.specs.Writing.{Writes, ItemsLeadTo};
@@ -75,17 +75,6 @@ impl<'a> Unwritten<'a> {
         self.at == self.end
     }
 
-    /// The next item.
-    pub fn peek(&self) -> Option<Item>
-        ensures { MatchOption result (self.now ≡ []) (λ item. (rest : List Item) × (self.now ≡ item ∷ rest)) }
-    {
-        if self.at == self.end {
-            None
-        } else {
-            Some(self.items.item(self.at))
-        }
-    }
-
     /// Takes the next item.
     pub fn next(&mut self) -> Option<Item>
         ensures { MatchOption result (self.old ≡ []) (λ item. self.old ≡ item ∷ self.new) }
@@ -100,8 +89,8 @@ impl<'a> Unwritten<'a> {
 }
 
 /// The value of the next field; 0 for a gap, which has no item.
-pub fn next_value(items: &mut Unwritten<'_>, field: u16, coding: Coding<u32>) -> Option<i64>
-    ensures { tells_value field coding items.old result items.new }
+pub(crate) fn next_value(items: &mut Unwritten<'_>, field: u16, coding: Coding<u32>) -> Option<i64>
+    ensures { TellsValue field coding items.old result items.new }
 {
     if !has_value(coding) {
         return Some(0);
@@ -150,7 +139,7 @@ pub fn has_code(coding: Coding<u32>, value: i64) -> bool
 }
 
 /// Whether a field may have the value.
-pub fn is_value(cell: Cell<u32>, value: i64) -> bool
+pub(crate) fn is_value(cell: Cell<u32>, value: i64) -> bool
     requires { IsCodable cell.coding }
     ensures { IsTrue result ↔ IsValueOf cell value }
 {
@@ -186,11 +175,11 @@ pub fn write_code(bits: &mut BitWriter, coding: Coding<u32>, value: i64) -> Resu
 }
 
 impl<'a> Coder<Unwritten<'a>> for BitWriter {
-    ghost use Rattle.vx_table.specs.Writing.{writes_field};
+    ghost use Rattle.vx_table.specs.Writing.{WritesField};
 
     type Fault = SpellError;
 
-    ghost step = { writes_field };
+    ghost step = { WritesField };
 
     fn code(&mut self, items: &mut Unwritten<'a>, cell: Cell<u32>) -> Result<i64, SpellError> {
         let mut behind = items.fork();
