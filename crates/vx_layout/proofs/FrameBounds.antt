@@ -1,18 +1,15 @@
--- Bounds cut to a region that has bounds of its own, and a region of a region.
-use Rattle.std.proofs.Common.{◌≡◌, ℕ, ◌+◌, ◌-◌, ◌<◌, ◌≤◌, Bool, true, ◌&&◌, ltb, List, [], ◌∷◌, ◌++◌, length, get_or, filter, map, refl, ap, sym, ◌∙◌, subst, inl, inr, arith, ◌⊎◌, zero-add}
+-- The members of bounds that are cut to a region, and a region that has bounds of its own.
+use Rattle.std.proofs.Common.{◌≡◌, ℕ, ◌+◌, ◌-◌, ◌<◌, ◌≤◌, Bool, true, ◌&&◌, ltb, List, [], ◌∷◌, ◌++◌, length, get_or, filter, map, refl, ap, sym, ◌∙◌, subst, inl, inr, arith, ◌⊎◌}
 use Rattle.std.proofs.lemmas.Bool.{and_from, and_parts, both_ways, cases_Bool, cases_lt, ltb-true, lt-ltb}
 use Rattle.std.proofs.lemmas.List.{get_or-map, length-map}
 use Rattle.std.proofs.lemmas.List.Elements.{All-contains, All-contains_itself, All-filter, All-map, Contains-append_cases, Contains-append_left, Contains-append_right, filter_passes}
-use Rattle.std.proofs.lemmas.List.Folds.{map_fixed}
 use Rattle.std.specs.List.{Contains}
 use Rattle.vx_layout.specs.declared.numbers.Numbers.{Numbers}
-use Rattle.vx_layout.specs.declared.rect.Rect.{Rect}
 use Rattle.vx_layout.specs.Borders.{SameInside}
 use Rattle.vx_layout.specs.Bounds.{Rises, last}
-use Rattle.vx_layout.specs.Layouts.{IsSound, no_rect, slices_in, subpic_at}
-use Rattle.vx_layout.specs.Regions.{counted_from, cut, inner, region_of, whole}
+use Rattle.vx_layout.specs.Regions.{cut, inner}
 use Rattle.vx_layout.proofs.Members.{Rises-members}
-use Rattle.vx_layout.proofs.Moving.{Rises-cut, all_fit, filter_all, last-cut}
+use Rattle.vx_layout.proofs.Moving.{Rises-cut}
 use Rattle.vx_layout.proofs.Rising.{Rises-level, bound_at, bound_from}
 use Rattle.vx_layout.proofs.Splitting.{Contains-cases, Contains-cons}
 use Rattle.vx_layout.proofs.Tiling.{last-get_or}
@@ -124,14 +121,7 @@ cut-own bounds own from rises own_rises some same =
           ],
     ))
 
-cut-cut : (bounds : List ℕ) (from size : ℕ) → Rises bounds → 0 < size → cut (cut bounds from size) 0 size ≡ cut bounds from size
-cut-cut bounds from size rises some =
-    let own : List ℕ = cut bounds from size in
-    let own_rises : Rises own = Rises-cut bounds from size rises some in
-    let reach : last own ≡ size = last-cut bounds from size in
-    subst (λ m. cut own 0 m ≡ own) reach
-    (cut-own own own 0 own_rises own_rises (omega arith) (λ c above below. (subst (λ m. Contains own m) (zero-add c), subst (λ m. Contains own m) (sym (zero-add c)))))
-
+-- numbers are the same where their parts are
 pub same_numbers : (a b : Numbers) → a.columns ≡ b.columns → a.rows ≡ b.rows → a.slices ≡ b.slices → a.subpics ≡ b.subpics → a ≡ b
 same_numbers a b columns rows slices subpics =
     let first : a ≡ record { columns = b.columns; rows = b.rows; slices = a.slices; subpics = a.subpics } =
@@ -139,19 +129,3 @@ same_numbers a b columns rows slices subpics =
     ∙ ap (λ t. record { columns = b.columns; rows = t; slices = a.slices; subpics = a.subpics }) rows
     in
     first ∙ (ap (λ t. record { columns = b.columns; rows = b.rows; slices = t; subpics = a.subpics }) slices ∙ ap (λ t. record { columns = b.columns; rows = b.rows; slices = b.slices; subpics = t }) subpics)
-
-counted-whole : (s r : Rect) → counted_from (whole s) r ≡ r
-counted-whole s r =
-    let across : r.x - 0 ≡ r.x = omega arith in
-    let down : r.y - 0 ≡ r.y = omega arith in
-    rw (across, down) refl
-
--- the region of a region is the region itself
-pub region-region : (n : Numbers) (k : ℕ) → IsSound n → k < length n.subpics → region_of (region_of n k) 0 ≡ region_of n k
-region-region n k sound short =
-    let s : Rect = subpic_at n k in
-    let part = sound.layout.subpics.parts k no_rect short in
-    let own : List Rect = map (counted_from s) (slices_in n k) in
-    same_numbers (region_of (region_of n k) 0) (region_of n k) (cut-cut n.columns s.x s.w sound.columns part.wide) (cut-cut n.rows s.y s.h sound.rows part.high)
-    (ap (λ t. map (counted_from (whole s)) t) (filter_all s (slices_in n k) (all_fit n k)) ∙ map_fixed (counted_from (whole s)) own (λ i d low. counted-whole s (get_or own i d)))
-    refl

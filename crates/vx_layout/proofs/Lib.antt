@@ -1,3 +1,4 @@
+-- Lemmas on bounds, rectangles and marks, on regions and their CTUs, and on frames.
 pub mod Agreeing
 pub mod Corners
 pub mod Counted
@@ -5,7 +6,6 @@ pub mod Counting
 pub mod Cutting
 pub mod Entries
 pub mod FrameBounds
-pub mod FrameEnds
 pub mod FrameShapes
 pub mod FrameSlices
 pub mod FrameWhole

@@ -4,10 +4,10 @@
 mod bounds;
 mod entry;
 mod faults;
-pub mod frame_laws;
+mod frame_laws;
 mod grid;
 mod groups;
-pub mod laws;
+mod laws;
 mod layout;
 mod lines;
 mod numbers;
@@ -17,6 +17,18 @@ mod rect;
 mod region;
 
 pub use bounds::{Bounds, TileError, tile_bounds};
+pub use frame_laws::{
+    cut_bounds_are_own, first_begins_and_last_ends, frame_alone_is_layout, frame_is_layout,
+    frame_slices_are_listable, frame_slices_cover_once, frame_slices_fit, frame_slices_grow,
+    frame_slices_of_region, frame_slices_stand_in_order, moving_undoes_counting, pictures_by_index,
+    split_by_borders,
+};
+pub use laws::{
+    all_sizes_listed, bounds_by_members, bounds_by_sizes, bounds_reach_total, fits_by_ctus,
+    heights_are_read_back, in_order_covers_once, region_has_same_ctus, region_is_layout,
+    region_slices_are_listable, regions_nest, slices_begin_and_end, slices_cover_subpicture,
+    slices_run_right_and_down,
+};
 pub use layout::Layout;
 pub use numbers::{LayoutError, Numbers};
 pub use plain::first_fault;

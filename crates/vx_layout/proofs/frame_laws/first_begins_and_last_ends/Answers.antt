@@ -1,4 +1,4 @@
-use Rattle.vx_layout.proofs.FrameEnds.{first-begins, last-ends}
+use Rattle.vx_layout.proofs.Corners.{first-begins, last-ends}
 use Rattle.vx_layout.proofs.frame_laws.first_begins_and_last_ends.Goals as goal
 
 pub returns-clause-first : goal.returns-clause-first

@@ -1,5 +1,5 @@
-use Rattle.vx_layout.proofs.FrameEnds.{slice-begins, slice-ends}
-use Rattle.vx_layout.proofs.frame_laws.slices_begin_and_end.Goals as goal
+use Rattle.vx_layout.proofs.Corners.{slice-begins, slice-ends}
+use Rattle.vx_layout.proofs.laws.slices_begin_and_end.Goals as goal
 
 pub returns-clause-first : goal.returns-clause-first
 returns-clause-first c = slice-begins

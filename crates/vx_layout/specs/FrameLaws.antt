@@ -1,0 +1,115 @@
+-- What holds of frames that are put together of pictures. `regions` are the regions of a frame, and `pictures` what
+-- stands in them, by their index: of each picture its slices, or in the laws on whole frames its numbers.
+use Rattle.std.specs.Prelude.{◌≡◌, ℕ, ◌+◌, ◌-◌, ◌<◌, ◌≤◌, ◌↔◌, true, List, All, ◌++◌, length, map, take}
+use Rattle.std.specs.List.{AllPairs, AllZip, Any, slice_index_or}
+use Rattle.vx_layout.specs.declared.numbers.Numbers.{Numbers}
+use Rattle.vx_layout.specs.declared.rect.Rect.{Rect}
+use Rattle.vx_layout.specs.Borders.{Begins, Ends, SameInside, SplitsAtLines}
+use Rattle.vx_layout.specs.Bounds.{Rises, last}
+use Rattle.vx_layout.specs.Faults.{IsLayout, SplitsWell, SubpicsCover}
+use Rattle.vx_layout.specs.Frames.{Fills, Stands, frame_of, frame_slices, moved_to, with_one_subpic}
+use Rattle.vx_layout.specs.Rects.{CoversOnce, IsPart, Precedes, fits, in_order, slices_of}
+use Rattle.vx_layout.specs.Regions.{counted_from, cut, region_of}
+use Rattle.vx_layout.specs.Shapes.{AreListable}
+
+-- counting from a corner that is not further right nor further down, and then moving back, changes nothing
+abbrev pub MovingUndoesCounting : Type 0
+MovingUndoesCounting = (corner r : Rect) → corner.x ≤ r.x → corner.y ≤ r.y → moved_to corner (counted_from corner r) ≡ r
+
+-- tiles and a part of the picture split one another well exactly by the part's borders
+abbrev pub SplitByBorders : Type 0
+SplitByBorders =
+    (columns rows : List ℕ) (s : Rect) → Rises columns → Rises rows → IsPart (last columns) (last rows) s → SplitsWell columns rows s ↔ SplitsAtLines columns rows s
+
+-- where the bounds inside a region are a picture's own, so are the bounds cut to the region
+abbrev pub CutBoundsAreOwn : Type 0
+CutBoundsAreOwn =
+    (bounds own : List ℕ) (from : ℕ) → Rises bounds → Rises own → 0 < last own → SameInside bounds from own → cut bounds from (last own) ≡ own
+
+-- the first of rectangles that cover a picture once and stand in order begins it, where it is a part of it
+abbrev pub FirstBegins : Type 0
+FirstBegins =
+    (rects : List Rect) (w h : ℕ) (d : Rect) → CoversOnce rects w h → AllPairs Precedes rects → 0 < length rects
+    → IsPart w h (slice_index_or rects 0 d) → Begins (slice_index_or rects 0 d)
+
+-- and the last one ends it
+abbrev pub LastEnds : Type 0
+LastEnds =
+    (rects : List Rect) (w h : ℕ) (d : Rect) → CoversOnce rects w h → AllPairs Precedes rects → 0 < length rects
+    → IsPart w h (slice_index_or rects (length rects - 1) d) → Ends w h (slice_index_or rects (length rects - 1) d)
+
+-- slices that fill each of the regions of their index do so pair by pair
+abbrev pub FillsByIndex : Type 0
+FillsByIndex =
+    (regions : List Rect) (pictures : List (List Rect)) → length regions ≡ length pictures
+    → ((k : ℕ) (d : Rect) (e : List Rect) → k < length regions → Fills (slice_index_or regions k d) (slice_index_or pictures k e)) → AllZip Fills regions pictures
+
+-- and so do pictures that stand in them
+abbrev pub StandsByIndex : Type 0
+StandsByIndex =
+    (columns rows : List ℕ) (regions : List Rect) (pictures : List Numbers) → length regions ≡ length pictures
+    → ((k : ℕ) (d : Rect) (e : Numbers) → k < length regions → Stands columns rows (slice_index_or regions k d) (slice_index_or pictures k e)) → AllZip (Stands columns rows) regions pictures
+
+-- the frame's slices cover it once where the regions do
+abbrev pub FrameSlicesCoverOnce : Type 0
+FrameSlicesCoverOnce =
+    (regions : List Rect) (pictures : List (List Rect)) (w h : ℕ) → CoversOnce regions w h → AllZip Fills regions pictures → CoversOnce (frame_slices regions pictures) w h
+
+-- the frame's slices stand in order where the regions do, and the slices of each picture
+abbrev pub FrameSlicesStandInOrder : Type 0
+FrameSlicesStandInOrder =
+    (regions : List Rect) (pictures : List (List Rect)) → AllPairs Precedes regions → AllZip Fills regions pictures → All (AllPairs Precedes) pictures
+    → AllPairs Precedes (frame_slices regions pictures)
+
+-- region by region the frame's slices are its slice list itself
+abbrev pub FrameSlicesAreInOrder : Type 0
+FrameSlicesAreInOrder =
+    (regions : List Rect) (pictures : List (List Rect)) (w h : ℕ) → All (IsPart w h) regions → CoversOnce regions w h → AllZip Fills regions pictures
+    → in_order (frame_slices regions pictures) regions ≡ frame_slices regions pictures
+
+-- the frame's slices in a region are those of the picture there, moved to the region's corner
+abbrev pub SlicesOfRegion : Type 0
+SlicesOfRegion =
+    (regions : List Rect) (pictures : List (List Rect)) (w h k : ℕ) (d : Rect) (e : List Rect) → All (IsPart w h) regions → CoversOnce regions w h → AllZip Fills regions pictures → k < length regions
+    → slices_of (frame_slices regions pictures) (slice_index_or regions k d) ≡ map (moved_to (slice_index_or regions k d)) (slice_index_or pictures k e)
+
+-- counted from the corner they are the picture's own
+abbrev pub SlicesOfRegionCounted : Type 0
+SlicesOfRegionCounted =
+    (regions : List Rect) (pictures : List (List Rect)) (w h k : ℕ) (d : Rect) (e : List Rect) → All (IsPart w h) regions → CoversOnce regions w h → AllZip Fills regions pictures → k < length regions
+    → map (counted_from (slice_index_or regions k d)) (slices_of (frame_slices regions pictures) (slice_index_or regions k d)) ≡ slice_index_or pictures k e
+
+-- each slice of the frame lies in a region
+abbrev pub FrameSlicesFit : Type 0
+FrameSlicesFit =
+    (regions : List Rect) (pictures : List (List Rect)) → AllZip Fills regions pictures → All (λ r. Any (λ s. fits r s ≡ true) regions) (frame_slices regions pictures)
+
+-- the slices of one region more come behind those so far
+abbrev pub FrameSlicesGrow : Type 0
+FrameSlicesGrow =
+    (regions : List Rect) (pictures : List (List Rect)) (k : ℕ) (d : Rect) (e : List Rect) → k < length regions → k < length pictures
+    → frame_slices (take (k + 1) regions) (take (k + 1) pictures) ≡ frame_slices (take k regions) (take k pictures) ++ map (moved_to (slice_index_or regions k d)) (slice_index_or pictures k e)
+
+-- a frame is a layout where the pictures stand in its regions, and these cover it and stand in order
+abbrev pub FrameIsLayout : Type 0
+FrameIsLayout =
+    (columns rows : List ℕ) (regions : List Rect) (pictures : List Numbers) → SubpicsCover (frame_of columns rows regions pictures) → AllPairs Precedes regions → AllZip (Stands columns rows) regions pictures
+    → IsLayout (frame_of columns rows regions pictures)
+
+-- its region k is picture k
+abbrev pub FrameHasPictures : Type 0
+FrameHasPictures =
+    (columns rows : List ℕ) (regions : List Rect) (pictures : List Numbers) (k : ℕ) (d : Numbers) → Rises columns → Rises rows → SubpicsCover (frame_of columns rows regions pictures) → AllZip (Stands columns rows) regions pictures → k < length regions
+    → region_of (frame_of columns rows regions pictures) k ≡ slice_index_or pictures k d
+
+-- and it is a layout as one subpicture too, where it has a region
+abbrev pub FrameAloneIsLayout : Type 0
+FrameAloneIsLayout =
+    (columns rows : List ℕ) (regions : List Rect) (pictures : List Numbers) → Rises columns → Rises rows → 0 < length regions → SubpicsCover (frame_of columns rows regions pictures) → AllPairs Precedes regions → AllZip (Stands columns rows) regions pictures
+    → IsLayout (with_one_subpic (frame_of columns rows regions pictures))
+
+-- its slices can be listed tile by tile where each picture's can
+abbrev pub FrameIsListable : Type 0
+FrameIsListable =
+    (columns rows : List ℕ) (regions : List Rect) (pictures : List Numbers) → SubpicsCover (frame_of columns rows regions pictures) → AllZip (Stands columns rows) regions pictures
+    → All (λ p. AreListable p.columns p.rows p.slices) pictures → AreListable columns rows (frame_of columns rows regions pictures).slices
