@@ -11,12 +11,12 @@ use Rattle.vx_app.specs.Show.{Shows, WhereTold, status_at}
 -- where it is done there is no ending
 pub exact-done : {A K : Type 0} (words : List (List ℕ)) (source : ℕ → Change (List A)) (out : Change K) (file : List ℕ) → Performs words source out (Ok tt) → Spells words (show file)
     → WhereTold (source 0) (λ b units ending. 0 ≡ status_at ending)
-exact-done words source out file performs spelled b units ending told is = sym (ap status_at ((performs.command (show file) spelled).3 b units ending told is).0)
+exact-done words source out file performs spelled b units ending told is = sym (ap status_at ((performs.command (show file) spelled).4 b units ending told is).0)
 
 stopped : {A K E : Type 0} (source : Change A) (out : Change K) (err : Change E) (stop : Stop) (status : ℕ)
     → Shows source out (Err stop) → Concludes stop status err → ¬ HasFault source → ¬ HasFault out → status ≢ 4 → WhereTold source (λ b units ending. status ≡ status_at ending)
 stopped source out err (Refused refusal place) status shows ends read write fits b units ending told is =
-    elim ends.ended [ inl p ↦ p.0 ∙ sym (ap status_at (shows.2 b units ending told is).0) | inr p ↦ absurd (fits p.1) ]
+    elim ends.ended [ inl p ↦ p.0 ∙ sym (ap status_at (shows.3 b units ending told is).0) | inr p ↦ absurd (fits p.1) ]
 stopped source out err (ReadFault k) status shows ends read write fits b units ending told is = absurd (read shows.0)
 stopped source out err WriteFault status shows ends read write fits b units ending told is = absurd (write shows.1)
 stopped source out err NoMemory status shows ends read write fits b units ending told is =

@@ -1,5 +1,5 @@
 -- The units that were shown, one after the other, and what that comes to for a source.
-use Rattle.std.proofs.Common.{◌≡◌, ℕ, ◌+◌, ◌≤◌, ◌<◌, List, [], ◌∷◌, ◌++◌, Option, Some, None, Ok, Err, Bool, true, false, take, arith, ◌∙◌, sym, ap, refl, subst, length, length-append, append-nil, get_or, slice_get, slice_set}
+use Rattle.std.proofs.Common.{◌≡◌, ℕ, ◌+◌, ◌≤◌, ◌<◌, List, [], ◌∷◌, ◌++◌, Option, Some, None, Ok, Err, Bool, true, false, inl, inr, take, arith, ◌∙◌, sym, ap, refl, subst, length, length-append, append-nil, get_or, slice_get, slice_set}
 use Rattle.std.proofs.lemmas.Grind.{flat_map-append}
 use Rattle.std.proofs.lemmas.Bool.{le-leb, lt-leb}
 use Rattle.std.proofs.lemmas.List.{take-append-le, get_or-set_same}
@@ -18,9 +18,9 @@ use Rattle.vx_report.specs.declared.refusal.Where.{Where}
 use Rattle.vx_report.specs.RefusalLine.{long_source}
 use Rattle.vx_app.specs.Change.{Change, change, change_at, Gains, GainsFront}
 use Rattle.vx_app.specs.Conclusion.{Outcome}
-use Rattle.vx_app.specs.Show.{source_limit, seen_of, is_within, ending_of, unit_line, unit_lines, shown_lines, behind_unit, IsShown, Shows}
-use Rattle.vx_app.specs.ShowSteps.{GivesAll, ShowsNext, HasShown, ShowsUnits}
-use Rattle.vx_app.proofs.Gained.{Gains-still, Gains-then, GainsFront-then, GainsFront-append}
+use Rattle.vx_app.specs.Show.{source_limit, seen_of, is_within, ending_of, unit_line, unit_lines, shown_lines, behind_unit, IsShown, GivesToLimit, Shows}
+use Rattle.vx_app.specs.ShowSteps.{GivesAll, GivesThenStops, ShowsNext, HasShown, ShowsUnits}
+use Rattle.vx_app.proofs.Gained.{Gains-nothing, Gains-still, Gains-then, GainsFront-then, GainsFront-append}
 
 -- ---- one unit after the other
 
@@ -85,7 +85,7 @@ Gains-first out b us vs t first shown lines =
     (length us, subst (λ (l : List UnitPlace). Gains out (shown_lines b l)) (sym same) lines)
 
 -- what was taken of a source is what is looked at, and whether it ended is whether that is all
-pub taken-whole : (b r : List ℕ) (left' : Option (List ℕ)) (ended : Bool) → Consumes (Some b) left' r → (ended ≡ true → IsAtEnd left' × (length r ≤ source_limit)) → (ended ≡ false → source_limit < length r)
+pub taken-whole : (b r : List ℕ) (left' : Option (List ℕ)) (ended : Bool) → Consumes (Some b) left' r → (ended ≡ true → IsAtEnd left' × (length r ≤ source_limit)) → (ended ≡ false → length r ≡ source_limit + 1)
     → (take source_limit r ≡ seen_of b) × (ended ≡ is_within b)
 taken-whole b r None ended given whole beyond = absurd given
 taken-whole b r (Some rest) true given whole beyond =
@@ -93,7 +93,7 @@ taken-whole b r (Some rest) true given whole beyond =
     let short : length b ≤ source_limit = subst (λ (l : List ℕ). length l ≤ source_limit) (sym all) (whole refl).1 in
     (ap (take source_limit) (sym all), sym (le-leb (length b) source_limit short))
 taken-whole b r (Some rest) false given whole beyond =
-    let long : source_limit < length r = beyond refl in
+    let long : length r ≡ source_limit + 1 = beyond refl in
     let len : length b ≡ length r + length rest = ap length given ∙ length-append r rest in
     let more : source_limit < length b = omega (arith, len, long) in
     (sym (ap (take source_limit) given ∙ take-append-le source_limit r rest (omega arith)), sym (lt-leb (length b) source_limit more))
@@ -130,6 +130,11 @@ ending_of-some : (within : Bool) (refusal : Refusal) → Some refusal ≡ ending
 ending_of-some true refusal = refl
 ending_of-some false refusal = refl
 
+-- what is taken in was given
+given-to-limit : {S : Type 0} (source : Change S) (h : Held) (ended : Bool) → GivesAll h source ended → GivesToLimit source
+given-to-limit source h true taken = (taken.bytes, taken.consumed, inl (taken.within refl).0)
+given-to-limit source h false taken = (taken.bytes, taken.consumed, inr (taken.beyond refl))
+
 -- a stop of the units
 pub Shows-stopped : {S K : Type 0} (source : Change S) (out : Change K) (h : Held) (ended : Bool) (stop : Stop) → GivesAll h source ended
     → ((b : List ℕ) → Stands h b [] → ShowsUnits b h.all out (Err stop)) → Shows source out (Err stop)
@@ -138,6 +143,7 @@ Shows-stopped source out h ended (Refused refusal place) taken shows =
     let s = shows (take source_limit taken.bytes) taken.stands in (
       taken.kept,
       s.2.kept,
+      given-to-limit source h ended taken,
       λ b units ending told is.
           let here = shown-told source h ended taken b s.0 (Some refusal) (Some refusal) told s.1 (ending_of-some h.all refusal) in
           let same = IsShown-unique b s.0 units (Some refusal) ending here is in
@@ -148,6 +154,7 @@ Shows-stopped source out h ended WriteFault taken shows =
     let s = shows (take source_limit taken.bytes) taken.stands in (
       taken.kept,
       s.2.failed,
+      given-to-limit source h ended taken,
       λ b units ending told is.
           let whole = taken-told source h ended taken b told in
           let first = subst (λ (l : List ℕ). FollowsFrom l (is_within b) 0 s.0) whole.0 (subst (λ (all : Bool). FollowsFrom (take source_limit taken.bytes) all 0 s.0) whole.1 s.1) in
@@ -157,11 +164,21 @@ Shows-stopped source out h ended NoMemory taken shows =
     let s = shows (take source_limit taken.bytes) taken.stands in (
       taken.kept,
       s.2.kept,
+      (taken.bytes, taken.consumed),
       λ b units ending told is.
           let whole = taken-told source h ended taken b told in
           let first = subst (λ (l : List ℕ). FollowsFrom l (is_within b) 0 s.0) whole.0 (subst (λ (all : Bool). FollowsFrom (take source_limit taken.bytes) all 0 s.0) whole.1 s.1) in
           Gains-first out b s.0 units ending first is (lines-told source out h ended taken b s.0 s.0 told refl s.2),
     )
+
+-- a stop before the first unit
+pub Shows-unread : {S K : Type 0} (source : Change S) (bytes : K → Option (List ℕ)) (faults : K → ℕ) (out : K) (stop : Stop) → GivesThenStops source stop → Shows source (change bytes faults out out) (Err stop)
+Shows-unread source bytes faults out NotUnderstood taken = taken.cause
+Shows-unread source bytes faults out (Refused refusal place) taken = absurd taken.cause
+Shows-unread source bytes faults out (ReadFault k) taken = (taken.cause.0, taken.cause.1, taken.gave, refl)
+Shows-unread source bytes faults out WriteFault taken = absurd taken.cause
+Shows-unread source bytes faults out NoMemory taken =
+    (taken.cause, refl, taken.gave, λ b units ending told is. (0, Gains-nothing bytes faults out out refl))
 
 -- all units of a source that ended
 pub Shows-done : {S K : Type 0} (source : Change S) (out : Change K) (h : Held) (ended : Bool) (n : ℕ) → GivesAll h source ended → ended ≡ true
@@ -170,6 +187,7 @@ Shows-done source out h ended n taken whole shows =
     let s = shows (take source_limit taken.bytes) taken.stands in (
       taken.kept,
       s.2.kept,
+      (taken.bytes, taken.consumed),
       (taken.within whole).0,
       λ b units ending told is.
           let here = shown-told source h ended taken b s.0 None None told s.1 (rw (taken.all ∙ whole) refl) in
@@ -184,6 +202,7 @@ Shows-beyond source out h ended n place taken beyond at shows =
     let s = shows (take source_limit taken.bytes) taken.stands in (
       taken.kept,
       s.2.kept,
+      given-to-limit source h ended taken,
       λ b units ending told is.
           let here = shown-told source h ended taken b s.0 None (Some (Limit long_source)) told s.1 (rw (taken.all ∙ beyond) refl) in
           let same = IsShown-unique b s.0 units (Some (Limit long_source)) ending here is in

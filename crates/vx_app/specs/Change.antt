@@ -1,6 +1,6 @@
 -- What a call did to sources and sinks, as its caller sees it.
 use Rattle.std.specs.Prelude.{◌≡◌, ℕ, List, ◌⊎◌, Option}
-use Rattle.std.specs.Io.KnownBytes.{Appends}
+use Rattle.std.specs.Io.KnownBytes.{Appends, Consumes}
 use Rattle.vx_io.specs.Faults.{Rose}
 use Rattle.vx_io.specs.Listed.{bytes_at, faults_at}
 use Rattle.vx_io.specs.Written.{AppendsFront}
@@ -31,6 +31,10 @@ HasNoFault c = c.faults c.new ≡ c.faults c.old
 -- a read or a write of it failed
 abbrev pub HasFault : {A : Type 0} → Change A → Type 0
 HasFault c = Rose (c.faults c.old) (c.faults c.new)
+
+-- a source gave some bytes, from its front and in order
+abbrev pub GivesFront : {A : Type 0} → Change A → Type 0
+GivesFront c = (given : List ℕ) × Consumes (c.bytes c.old) (c.bytes c.new) given
 
 -- a sink gained these bytes, and no write failed
 pub record Gains {A : Type 0} (c : Change A) (bytes : List ℕ) : Type 0 where

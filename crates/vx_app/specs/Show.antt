@@ -1,7 +1,7 @@
 -- What `show` finds in the bytes of a source, and what it writes.
-use Rattle.std.specs.Prelude.{◌≡◌, ℕ, ◌^◌, List, Bool, Option, Some, None, Ok, Err, length, take, nat_le, unwrap_or, true, false}
+use Rattle.std.specs.Prelude.{◌≡◌, ℕ, ◌+◌, ◌^◌, ◌⊎◌, List, Bool, Option, Some, None, Ok, Err, length, take, nat_le, unwrap_or, true, false}
 use Rattle.std.specs.List.{flat_map}
-use Rattle.std.specs.Io.KnownBytes.{IsAtEnd}
+use Rattle.std.specs.Io.KnownBytes.{Consumes, IsAtEnd}
 use Rattle.vx_bits.specs.declared.refusal.Refusal.{Refusal}
 use Rattle.vx_bits.specs.declared.refusal.Refusal.TheVariants.{Limit}
 use Rattle.vx_annexb.specs.NalUnit.{header_of}
@@ -10,7 +10,7 @@ use Rattle.vx_report.specs.declared.refusal.Where.{Where}
 use Rattle.vx_report.specs.RefusalLine.{long_source}
 use Rattle.vx_report.specs.UnitLine.{unit_text}
 use Rattle.vx_app.specs.declared.stop.Stop.TheVariants.{NotUnderstood, Refused, ReadFault, WriteFault, NoMemory}
-use Rattle.vx_app.specs.Change.{Change, IsUntouched, HasNoFault, HasFault, Gains, GainsFront}
+use Rattle.vx_app.specs.Change.{Change, IsUntouched, HasNoFault, HasFault, GivesFront, Gains, GainsFront}
 use Rattle.vx_app.specs.Conclusion.{Outcome}
 
 -- the most bytes that a source may have
@@ -66,20 +66,28 @@ abbrev pub WhereTold : {A : Type 0} → Change A → (List ℕ → List UnitPlac
 WhereTold source P =
     (b : List ℕ) (units : List UnitPlace) (ending : Option Refusal) → source.bytes source.old ≡ Some b → IsShown b units ending → P b units ending
 
+-- a source gave its bytes in order, all of them or as many as the limit and one more
+abbrev pub GivesToLimit : {A : Type 0} → Change A → Type 0
+GivesToLimit source =
+    (given : List ℕ) × Consumes (source.bytes source.old) (source.bytes source.new) given
+    × (IsAtEnd (source.bytes source.new) ⊎ (length given ≡ source_limit + 1))
+
 -- What `show` did to its source and to `out`, by what came of it. Without a fault `out` gained the lines of the units
 -- before the ending, and for want of memory those of the first of them. After a failed read nothing is written, after
--- a failed write a front of the lines.
+-- a failed write a front of the lines. Before the first line is written the source has given all that is
+-- read of it; where a read fails, or for want of memory, it may have given less.
 abbrev pub Shows : {A K : Type 0} → Change A → Change K → Outcome → Type 0
 Shows source out (Ok _) =
-    HasNoFault source × HasNoFault out × IsAtEnd (source.bytes source.new)
+    HasNoFault source × HasNoFault out × GivesFront source × IsAtEnd (source.bytes source.new)
     × WhereTold source (λ b units ending. (ending ≡ None) × Gains out (shown_lines b units))
 Shows source out (Err (Refused refusal place)) =
-    HasNoFault source × HasNoFault out
+    HasNoFault source × HasNoFault out × GivesToLimit source
     × WhereTold source (λ b units ending. (ending ≡ Some refusal) × (place ≡ behind_unit (length units)) × Gains out (shown_lines b units))
-Shows source out (Err (ReadFault k)) = HasFault source × (k ≡ 0) × IsUntouched out
+Shows source out (Err (ReadFault k)) = HasFault source × (k ≡ 0) × GivesFront source × IsUntouched out
 Shows source out (Err WriteFault) =
-    HasNoFault source × HasFault out × WhereTold source (λ b units ending. GainsFront out (shown_lines b units))
+    HasNoFault source × HasFault out × GivesToLimit source
+    × WhereTold source (λ b units ending. GainsFront out (shown_lines b units))
 Shows source out (Err NoMemory) =
-    HasNoFault source × HasNoFault out
+    HasNoFault source × HasNoFault out × GivesFront source
     × WhereTold source (λ b units ending. (n : ℕ) × Gains out (shown_lines b (take n units)))
 Shows source out (Err NotUnderstood) = ⊥

@@ -1,11 +1,11 @@
 -- The steps of `show`, by their answers: what a source gave, what a splitter then stands for, what a sink gained.
-use Rattle.std.specs.Prelude.{◌≡◌, ℕ, ◌<◌, ◌≤◌, Bool, true, false, List, [], ◌∷◌, ◌++◌, Option, Some, None, Result, Ok, Err, length, take}
+use Rattle.std.specs.Prelude.{◌≡◌, ℕ, ◌+◌, ◌≤◌, Bool, true, false, List, [], ◌∷◌, ◌++◌, Option, Some, None, Result, Ok, Err, length, take}
 use Rattle.std.specs.Io.KnownBytes.{Consumes, IsAtEnd}
 use Rattle.vx_annexb.specs.ByteStream.{UnitPlace, IsStream, FollowsFrom}
 use Rattle.vx_annexb.specs.Held.{Held, Stands}
 use Rattle.vx_app.specs.declared.stop.Stop.{Stop}
 use Rattle.vx_app.specs.declared.stop.Stop.TheVariants.{Refused, ReadFault, WriteFault, NoMemory}
-use Rattle.vx_app.specs.Change.{Change, IsUntouched, HasNoFault, HasFault, Gains, GainsFront}
+use Rattle.vx_app.specs.Change.{Change, IsUntouched, HasNoFault, HasFault, GivesFront, Gains, GainsFront}
 use Rattle.vx_app.specs.Conclusion.{Outcome}
 use Rattle.vx_app.specs.Show.{source_limit, unit_line, unit_lines, behind_unit}
 
@@ -18,12 +18,21 @@ pub record GivesPiece {S : Type 0} (r : List ℕ) (h : Held) (source : Change S)
   pub ended : n ≡ 0 → IsAtEnd (source.bytes source.new)
   pub stands : Stands h (take source_limit (r ++ piece)) []
 
+-- by a failed read, or for want of memory
+abbrev pub StopsReading : {S : Type 0} → Change S → Stop → Type 0
+StopsReading source (ReadFault k) = HasFault source × (k ≡ 0)
+StopsReading source NoMemory = HasNoFault source
+StopsReading source _ = ⊥
+
+-- A source gave some bytes, and was not read further.
+pub record GivesThenStops {S : Type 0} (source : Change S) (stop : Stop) : Type 0 where
+  pub gave : GivesFront source
+  pub cause : StopsReading source stop
+
 -- That, or a stop.
 abbrev pub TakesPiece : {S : Type 0} → List ℕ → Held → Change S → Result ℕ Stop → Type 0
 TakesPiece r h source (Ok n) = GivesPiece r h source n
-TakesPiece r h source (Err (ReadFault k)) = HasFault source × (k ≡ 0)
-TakesPiece r h source (Err NoMemory) = HasNoFault source
-TakesPiece r h source (Err _) = ⊥
+TakesPiece r h source (Err stop) = GivesThenStops source stop
 
 -- The first n bytes of a source were taken, and a splitter stands for what the limit lets see of them.
 pub record HasTaken (h : Held) (left left' : Option (List ℕ)) (n : ℕ) : Type 0 where
@@ -40,14 +49,12 @@ pub record GivesAll {S : Type 0} (h : Held) (source : Change S) (ended : Bool) :
   pub stands : Stands h (take source_limit bytes) []
   pub all : h.all ≡ ended
   pub within : ended ≡ true → IsAtEnd (source.bytes source.new) × (length bytes ≤ source_limit)
-  pub beyond : ended ≡ false → source_limit < length bytes
+  pub beyond : ended ≡ false → length bytes ≡ source_limit + 1
 
 -- That, or a stop.
 abbrev pub TakesIn : {S : Type 0} → Held → Change S → Result Bool Stop → Type 0
 TakesIn h source (Ok ended) = GivesAll h source ended
-TakesIn h source (Err (ReadFault k)) = HasFault source × (k ≡ 0)
-TakesIn h source (Err NoMemory) = HasNoFault source
-TakesIn h source (Err _) = ⊥
+TakesIn h source (Err stop) = GivesThenStops source stop
 
 -- One line was written.
 abbrev pub WritesLine : {K : Type 0} → List ℕ → Change K → Outcome → Type 0

@@ -1,6 +1,11 @@
 use Rattle.std.proofs.lemmas.Result.{err_from_is_err_and}
-use Rattle.vx_app.proofs.Shown.{Shows-stopped, Shows-done, Shows-beyond}
+use Rattle.vx_app.proofs.Shown.{Shows-unread, Shows-stopped, Shows-done, Shows-beyond}
 use Rattle.vx_app.proofs.show.show.Goals as goal
+
+pub returns-in_err-ended-clause-shows : goal.returns-in_err-ended-clause-shows
+returns-in_err-ended-clause-shows g c =
+    let p = err_from_is_err_and c.from_residual.result c.from_residual.ensures.1 in
+    rw (p.1, p.2) (Shows-unread _ g.K.Sink.bytes_taken g.K.Sink.write_faults c.args.out.now _ c.in_err-ended.ensures.answer)
 
 pub returns-in_err-units-clause-shows : goal.returns-in_err-units-clause-shows
 returns-in_err-units-clause-shows g c =
