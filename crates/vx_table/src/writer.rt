@@ -58,7 +58,7 @@ impl<'a> Unwritten<'a> {
     }
 
     /// The same items, which are taken by themselves.
-    fn fork(&self) -> Unwritten<'a>
+    pub(crate) fn fork(&self) -> Unwritten<'a>
         ensures { result ≡ self.now }
     {
         Unwritten {

@@ -7,20 +7,24 @@ use Rattle.vx_table.proofs.kept.UnwrittenCoderFields.code.Goals as goal
 
 pub returns-in_default : goal.returns-in_default
 unfolding item_of
-returns-in_default c = (refl, λ v more is items. c.in_default.ensures v more is.code items)
+returns-in_default c =
+    let none = rw c.fork-behind.ensures at c.in_default.ensures in
+    (λ v more is items. none v more is.code items, refl, refl)
 
 pub returns-then-not-is_value : goal.returns-then-not-is_value
 unfolding item_of
-returns-then-not-is_value c = (
-  refl,
-  λ v more is items.
-      let fits : SFits w64 c.in-Some.value = search rules in
-      let same : v ≡ c.in-Some.value = c.in-Some.ensures.1 v more is.code items in
-      let tests = rw (to_z-of_z w64 c.in-Some.value fits) at c.is_value.ensures in
-      let yes_it_is = tests.1 (subst (λ x. IsValueOf c.args.cell x) same is) in
-      let no_it_is_not = rw c.if-not-is_value.true at yes_it_is in
-      search (rules, no_it_is_not),
-)
+returns-then-not-is_value c =
+    let only = rw c.fork-behind.ensures at c.in-Some.ensures.1 in (
+      λ v more is items.
+          let fits : SFits w64 c.in-Some.value = search rules in
+          let same : v ≡ c.in-Some.value = only v more is.code items in
+          let tests = rw (to_z-of_z w64 c.in-Some.value fits) at c.is_value.ensures in
+          let yes_it_is = tests.1 (subst (λ x. IsValueOf c.args.cell x) same is) in
+          let no_it_is_not = rw c.if-not-is_value.true at yes_it_is in
+          search (rules, no_it_is_not),
+      refl,
+      refl,
+    )
 
 pub returns-in-Ok : goal.returns-in-Ok
 unfolding item_of
@@ -28,4 +32,5 @@ returns-in-Ok c =
     let fits : SFits w64 c.in-Some.value = search rules in
     let tests = rw (to_z-of_z w64 c.in-Some.value fits, c.if-not-is_value.false) at c.is_value.ensures in
     let gained = rw (to_z-of_z w64 c.in-Some.value fits) at c.in-Ok.ensures.ok in
-    rw (to_z-of_z w64 c.in-Some.value fits) (tests.0 (search rules), c.in-Some.ensures.0, gained)
+    let taken = rw c.fork-behind.ensures at c.in-Some.ensures.0 in
+    rw (to_z-of_z w64 c.in-Some.value fits) (tests.0 (search rules), taken, gained)
