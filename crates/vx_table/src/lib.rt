@@ -9,8 +9,9 @@
 mod arithmetic;
 mod depends;
 mod kept;
-mod laws;
-mod laws_depend;
+mod laws_depends;
+mod laws_numbers;
+mod laws_spelling;
 mod macros;
 mod parts;
 mod reader;
@@ -18,20 +19,21 @@ mod rows;
 mod scope;
 mod stars;
 #[cfg(test)]
-mod tests;
+mod tests_coding;
 #[cfg(test)]
-mod tests_depend;
+mod tests_depends;
 mod walk;
 mod writer;
 
 pub use depends::{depends_only_on, parts_depend_only_on};
 pub use kept::{keep_parts, keep_table};
-pub use laws::{
+pub use laws_depends::{
+    alike_together, cells_follow_items, cells_follow_kept, kept_tells_kept, scopes_follow_items,
+};
+pub use laws_numbers::ceil_log2_is_least;
+pub use laws_spelling::{
     every_answer, no_proper_prefix, one_answer, one_reading, one_writing, read_back,
     spelled_both_ways, what_may_follow,
-};
-pub use laws_depend::{
-    alike_together, cells_follow_items, cells_follow_kept, kept_tells_kept, scopes_follow_items,
 };
 pub use parts::{Part, code_parts, read_parts, write_parts};
 pub use reader::{read_table, read_value};
