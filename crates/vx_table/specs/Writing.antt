@@ -1,5 +1,5 @@
 -- What a writer answers for a form: what the values whose items it is given are written as.
-use Rattle.std.specs.Prelude.{◌≡◌, ℕ, ℤ, Bool, List, ◌++◌, length, Result, Ok, Err}
+use Rattle.std.specs.Prelude.{◌≡◌, ℕ, ℤ, Bool, List, ◌++◌, length, Option, Some, None, Result, Ok, Err}
 use Rattle.vx_bits.specs.declared.list.Item.{Item}
 use Rattle.vx_table.specs.declared.rows.Cell.{Cell}
 use Rattle.vx_table.specs.declared.writer.SpellError.{SpellError}
@@ -11,6 +11,11 @@ use Rattle.vx_table.specs.Values.{IsValueOf, Follows, ComesTo, bits_along}
 -- The items that come next are those of no value of the field.
 abbrev pub TellsNoValue : Cell ℕ → List Item → Type 0
 TellsNoValue cell items = (v : ℤ) (more : List Item) → IsValueOf cell v → items ≡ item_of cell v ++ more → ⊥
+
+-- What taking the value of a field answers: one that the field may have, whose item is taken, or that none comes next.
+abbrev pub TakesValue : Cell ℕ → List Item → Option ℤ → List Item → Type 0
+TakesValue cell items (Some v) left = IsValueOf cell v × (items ≡ item_of cell v ++ left)
+TakesValue cell items None left = TellsNoValue cell items
 
 -- What a writer does at one field: where it answers an error, bits and items are as they were.
 abbrev pub WritesField : List Bool → List Item → Cell ℕ → Result ℤ SpellError → List Bool → List Item → Type 0

@@ -11,7 +11,7 @@ use crate::parts::{Part, code_parts};
 use crate::rows::{Cell, Coding, Row};
 use crate::scope::Scope;
 use crate::walk::{Coder, code_table};
-use crate::writer::{SpellError, Unwritten, is_value, next_value};
+use crate::writer::{SpellError, Unwritten, take_value};
 use std::alloc::AllocError;
 use vx_bits::{Fields, Item};
 
@@ -52,12 +52,9 @@ impl<'a> Coder<Fields> for Unwritten<'a> {
 
     fn code(&mut self, items: &mut Fields, cell: Cell<u32>) -> Result<i64, SpellError> {
         let mut behind = self.fork();
-        let Some(value) = next_value(&mut behind, cell.field, cell.coding) else {
+        let Some(value) = take_value(&mut behind, cell) else {
             return Err(SpellError::NoValue);
         };
-        if !is_value(cell, value) {
-            return Err(SpellError::NoValue);
-        }
         match keep_item(items, cell, value) {
             Ok(()) => {
                 *self = behind;

@@ -6,7 +6,7 @@ ghost use Rattle.vx_table.specs.Spelling.{IsCodable, HasCode, code_of};
 ghost use Rattle.vx_table.specs.Items.{TellsValue};
 ghost use Rattle.vx_table.specs.Values.{IsValueOf};
 ghost use Rattle.vx_table.specs.Forms.{form_of};
-ghost use Rattle.vx_table.specs.Writing.{Writes, ItemsLeadTo};
+ghost use Rattle.vx_table.specs.Writing.{TakesValue, Writes, ItemsLeadTo};
 
 use crate::reader::fault_of;
 use crate::rows::{Cell, Coding, Row};
@@ -89,7 +89,7 @@ impl<'a> Unwritten<'a> {
 }
 
 /// The value of the next field; 0 for a gap, which has no item.
-pub(crate) fn next_value(items: &mut Unwritten<'_>, field: u16, coding: Coding<u32>) -> Option<i64>
+fn next_value(items: &mut Unwritten<'_>, field: u16, coding: Coding<u32>) -> Option<i64>
     ensures { TellsValue field coding items.old result items.new }
 {
     if !has_value(coding) {
@@ -139,11 +139,25 @@ pub fn has_code(coding: Coding<u32>, value: i64) -> bool
 }
 
 /// Whether a field may have the value.
-pub(crate) fn is_value(cell: Cell<u32>, value: i64) -> bool
+fn is_value(cell: Cell<u32>, value: i64) -> bool
     requires { IsCodable cell.coding }
     ensures { IsTrue result ↔ IsValueOf cell value }
 {
     has_code(cell.coding, value) && fault_of(cell.limits, value).is_none()
+}
+
+/// Takes the item of the next field's value, where it is one that the field may have.
+pub(crate) fn take_value(items: &mut Unwritten<'_>, cell: Cell<u32>) -> Option<i64>
+    requires { IsCodable cell.coding }
+    ensures { TakesValue cell items.old result items.new }
+{
+    let Some(value) = next_value(items, cell.field, cell.coding) else {
+        return None;
+    };
+    if !is_value(cell, value) {
+        return None;
+    }
+    Some(value)
 }
 
 /// A value as a number, where it is one of 32 bits.
@@ -183,12 +197,9 @@ impl<'a> Coder<Unwritten<'a>> for BitWriter {
 
     fn code(&mut self, items: &mut Unwritten<'a>, cell: Cell<u32>) -> Result<i64, SpellError> {
         let mut behind = items.fork();
-        let Some(value) = next_value(&mut behind, cell.field, cell.coding) else {
+        let Some(value) = take_value(&mut behind, cell) else {
             return Err(SpellError::NoValue);
         };
-        if !is_value(cell, value) {
-            return Err(SpellError::NoValue);
-        }
         match write_code(self, cell.coding, value) {
             Ok(()) => {
                 *items = behind;
