@@ -1,14 +1,13 @@
 //! Writing by a table: items to bits.
 
-ghost use Rattle.std.specs.Prelude.{◌≡◌, ◌↔◌, ℕ, ℤ, pos, ◌≤ℤ◌, ◌^◌, ◌<◌, ◌+◌, ◌-◌, ◌≤◌, List, ◌∷◌, ◌++◌, [], length, take, drop, IsTrue, OnOk, OnErr, MatchOption};
+ghost use Rattle.std.specs.Prelude.{◌≡◌, ◌↔◌, ℕ, pos, ◌^◌, ◌<◌, ◌-◌, ◌≤◌, List, ◌∷◌, ◌++◌, [], length, take, drop, IsTrue, OnOk, OnErr, MatchOption};
 ghost use Rattle.vx_bits.specs.declared.list.Item.{Item};
 ghost use Rattle.vx_table.specs.Spelling.{IsCodable, HasCode, code_of};
 ghost use Rattle.vx_table.specs.Items.{TellsValue};
-ghost use Rattle.vx_table.specs.Values.{IsValueOf};
 ghost use Rattle.vx_table.specs.Forms.{form_of};
 ghost use Rattle.vx_table.specs.Writing.{TakesValue, Writes, ItemsLeadTo};
 
-use crate::reader::fault_of;
+use crate::ranges::is_value;
 use crate::rows::{Cell, Coding, Row};
 use crate::scope::Scope;
 use crate::walk::{Coder, code_table, has_value};
@@ -21,7 +20,7 @@ use vx_bits::{BitWriter, Fields, Item};
 pub enum SpellError {
     /// Memory ran out.
     Memory,
-    /// The items are those of no value of the structure.
+    /// The items begin with those of no value of the structure.
     NoValue,
 }
 
@@ -99,51 +98,6 @@ fn next_value(items: &mut Unwritten<'_>, field: u16, coding: Coding<u32>) -> Opt
         Some(item) if item.field == field => Some(item.value),
         _ => None,
     }
-}
-
-/// Whether a value lies in a range.
-fn is_within(low: i64, value: i64, high: i64) -> bool
-    ensures { IsTrue result ↔ ((low ≤ℤ value) × (value ≤ℤ high)) }
-{
-    low <= value && value <= high
-}
-
-/// The largest number of `u(n)` for a width of at most 32.
-fn largest(width: u32) -> i64
-    requires { width ≤ 32 }
-    ensures { result ≡ pos (2 ^ width - 1) }
-{
-    (1 << width) - 1
-}
-
-/// The largest value of `ue(v)`.
-const LAST_NUMBER: i64 = 0xffff_fffe;
-
-/// The largest value of `se(v)`; the smallest is its opposite.
-const LAST_SIGNED: i64 = 0x7fff_ffff;
-
-/// Whether a coding has a code for the value.
-pub fn has_code(coding: Coding<u32>, value: i64) -> bool
-    requires { IsCodable coding }
-    ensures { IsTrue result ↔ HasCode coding value }
-{
-    match coding {
-        Coding::Fixed(width) => is_within(0, value, largest(width)),
-        Coding::Golomb => is_within(0, value, LAST_NUMBER),
-        Coding::SignedGolomb => is_within(-LAST_SIGNED, value, LAST_SIGNED),
-        Coding::Zeros | Coding::OneAndZeros | Coding::Trailing | Coding::Absent => {
-            is_within(0, value, 0)
-        }
-        Coding::Refused => false,
-    }
-}
-
-/// Whether a field may have the value.
-fn is_value(cell: Cell<u32>, value: i64) -> bool
-    requires { IsCodable cell.coding }
-    ensures { IsTrue result ↔ IsValueOf cell value }
-{
-    has_code(cell.coding, value) && fault_of(cell.limits, value).is_none()
 }
 
 /// Takes the item of the next field's value, where it is one that the field may have.

@@ -3,7 +3,7 @@ use Rattle.std.proofs.lemmas.Int.{to_z-of_z}
 use mir.Val.{SFits}
 use Rattle.vx_table.specs.Spelling.{HasCode}
 use Rattle.vx_table.proofs.Values.{fixed_range, golomb_range, signed_range, gap_range, chain}
-use Rattle.vx_table.proofs.writer.has_code.Goals as goal
+use Rattle.vx_table.proofs.ranges.has_code.Goals as goal
 
 pub returns-in-Fixed : goal.returns-in-Fixed
 returns-in-Fixed c =
