@@ -1,5 +1,5 @@
 -- Counting the powers of two below a number.
-use Rattle.std.proofs.Common.{◌≡◌, ℕ, zero, suc, ◌^◌, ◌<◌, ◌≤◌, min, refl, arith, true, false, ltb, inl, inr}
+use Rattle.std.proofs.Common.{◌≡◌, ◌↔◌, ◌∙◌, ℕ, zero, suc, ◌^◌, ◌<◌, ◌≤◌, min, refl, arith, true, false, ltb, inl, inr}
 use Rattle.std.proofs.Math.Pow.{pow_mono, pow_pos}
 use Rattle.std.proofs.lemmas.Bool.{cases_lt, lt-ltb, le-ltb}
 use Rattle.vx_table.specs.Scope.{powers_below}
@@ -29,3 +29,23 @@ powers_to (suc k) j n above upto =
           let below : ltb (2 ^ k) n ≡ true = lt-ltb _ _ (omega arith) in
           rw (before, below) (omega arith)
     ]
+
+-- of m of them so many are below n that n isn't above the power of that number, and is above each before
+pub powers_least : (m n k : ℕ) → n ≤ 2 ^ m → n ≤ 2 ^ k ↔ powers_below m n ≤ k
+unfolding powers_below
+powers_least zero n k within = let first : 1 ≤ 2 ^ k = pow_pos k in (λ upto. omega arith, λ few. omega arith)
+powers_least (suc m) n k within = elim (cases_lt (2 ^ m) n) [
+  | inl above ↦
+      let count : powers_below (suc m) n ≡ suc m = powers_to (suc m) m n above within ∙ omega arith in (
+        λ upto. elim (cases_lt m k) [
+          | inl past ↦ omega (arith, count)
+          | inr not_past ↦ let smaller : 2 ^ k ≤ 2 ^ m = pow_mono not_past in absurd (omega arith)
+        ],
+        λ few. let larger : 2 ^ suc m ≤ 2 ^ k = pow_mono (omega (arith, count)) in omega arith,
+      )
+  | inr upto_m ↦
+      let not_below : ltb (2 ^ m) n ≡ false = le-ltb _ _ upto_m in
+      let before = powers_least m n k upto_m in
+      let count : powers_below (suc m) n ≡ powers_below m n = rw not_below (omega arith) in
+      (λ upto. omega (arith, count, before.0 upto), λ few. before.1 (omega (arith, count)))
+]

@@ -11,13 +11,8 @@ use Rattle.vx_table.specs.Walks.{Walks, ended, coded, refused, leaving}
 use Rattle.vx_table.specs.Spelling.{code_of, item_of, items_along}
 use Rattle.vx_table.specs.Values.{IsValueOf, Follows, to_end, through, ComesTo, at_field, past, bits_along}
 use Rattle.vx_table.specs.Laws.{ItemsApart}
-use Rattle.vx_table.specs.Writing.{WritesField, TellsNoValue, IsWritten, IsSpelled, HaltsAt, AreItemsOf, Writes, ItemsLeadTo}
+use Rattle.vx_table.specs.Writing.{WritesField, TellsNoValue, IsSpelled, HaltsAt, HasWritten, AreItemsOf, WritesAs, Writes, ItemsLeadTo}
 use Rattle.vx_table.proofs.Items.{item_apart}
-
-pub written_more : {B P Q : Type 0} (result : Result B SpellError) → (P → Q) → IsWritten result P → IsWritten result Q
-written_more (Ok b) f p = f p
-written_more (Err errors.Memory) f p = tt
-written_more (Err errors.NoValue) f p = p
 
 -- the bits of a value and of those behind it
 bits_more : {A : Type 0} (cell : Cell ℕ) (goes : ℤ → Form A) (old mid new : List Bool) (v : ℤ) (w : List ℤ)
@@ -28,13 +23,13 @@ bits_more cell goes old mid new v w first more =
     more ∙ ap (λ at. mid ++ bits_along (goes v) at w) place ∙ ap (λ front. front ++ bits_along (goes v) (length old + length code) w) first ∙ append_assoc old code (bits_along (goes v) (length old + length code) w)
 
 -- and their items
-items_more : {A : Type 0} (cell : Cell ℕ) (goes : ℤ → Form A) (items between left : List Item) (v : ℤ) (w : List ℤ)
+pub items_more : {A : Type 0} (cell : Cell ℕ) (goes : ℤ → Form A) (items between left : List Item) (v : ℤ) (w : List ℤ)
     → items ≡ item_of cell v ++ between → between ≡ items_along (goes v) w ++ left → items ≡ items_along (field cell goes) (v ∷ w) ++ left
 items_more cell goes items between left v w first more = first ∙ ap (λ x. item_of cell v ++ x) more ∙ sym (append_assoc (item_of cell v) (items_along (goes v) w) left)
 
 -- what was written is spelled
 pub written : {A : Type 0} {form : Form A} {old new : List Bool} {items left : List Item} {a : A}
-    → Walks WritesField form old items (Ok a) new left → IsSpelled form old items new left a
+    → Walks WritesField form old items (Ok a) new left → IsSpelled form (bits_along form (length old)) old items new left a
 written {old} ended = record { values = []; follows = to_end; gained = sym (append-nil old); taken = refl }
 written {form = field cell goes} {old} {new} {items} {left} (coded {d} {j} {v} s walk) =
     let more = written walk in
@@ -45,32 +40,38 @@ written {form = field cell goes} {old} {new} {items} {left} (coded {d} {j} {v} s
       taken = items_more cell goes items j left v more.values s.2 more.taken;
     }
 
-at_once : {A : Type 0} {cell : Cell ℕ} {goes : ℤ → Form A} {old new : List Bool} {items left : List Item} → new ≡ old → left ≡ items → HaltsAt (field cell goes) old items new left cell
-at_once {old} still same = record { values = []; comes = at_field; gained = still ∙ sym (append-nil old); taken = sym same }
+pub at_once : {A X : Type 0} {cell : Cell ℕ} {goes : ℤ → Form A} {spelling : List ℤ → List X} {old new : List X} {items left : List Item}
+    → spelling [] ≡ [] → new ≡ old → left ≡ items → HaltsAt (field cell goes) spelling old items new left cell
+at_once {old} empty still same = record { values = []; comes = at_field; gained = still ∙ sym (ap (λ x. old ++ x) empty ∙ append-nil old); taken = sym same }
 
 -- a longer front
-longer : {A : Type 0} {cell : Cell ℕ} {goes : ℤ → Form A} {old mid new : List Bool} {items between left : List Item} {v : ℤ} {next : Cell ℕ}
-    → IsValueOf cell v → mid ≡ old ++ code_of cell.coding (length old) v → items ≡ item_of cell v ++ between → HaltsAt (goes v) mid between new left next → HaltsAt (field cell goes) old items new left next
-longer {cell} {goes} {old} {mid} {new} {items} {between} {left} {v} is gained taken more = record {
+pub longer : {A X : Type 0} {cell : Cell ℕ} {goes : ℤ → Form A} {spelling behind : List ℤ → List X} {old mid new : List X} {items between left : List Item} {v : ℤ} {next : Cell ℕ}
+    → IsValueOf cell v → ((w : List ℤ) → new ≡ mid ++ behind w → new ≡ old ++ spelling (v ∷ w)) → items ≡ item_of cell v ++ between
+    → HaltsAt (goes v) behind mid between new left next → HaltsAt (field cell goes) spelling old items new left next
+longer {cell} {goes} {items} {between} {left} {v} is gain taken more = record {
   values = v ∷ more.values;
   comes = past is more.comes;
-  gained = bits_more cell goes old mid new v more.values gained more.gained;
+  gained = gain more.values more.gained;
   taken = items_more cell goes items between left v more.values taken more.taken;
 }
 
 -- where memory runs out, a front was written
-pub interrupted : {A : Type 0} {form : Form A} {old new : List Bool} {items left : List Item}
-    → Walks {A = A} WritesField form old items (Err errors.Memory) new left → (cell : Cell ℕ) × HaltsAt form old items new left cell
+interrupted : {A : Type 0} {form : Form A} {old new : List Bool} {items left : List Item}
+    → Walks {A = A} WritesField form old items (Err errors.Memory) new left → (cell : Cell ℕ) × HaltsAt form (bits_along form (length old)) old items new left cell
 interrupted {form = done a} walk = elim walk [ ]
-interrupted {form = field cell goes} (refused s) = (cell, at_once s.0 s.1)
-interrupted {form = field cell goes} (coded s walk) = let more = interrupted walk in (more.0, longer s.0 s.1 s.2 more.1)
+interrupted {form = field cell goes} (refused s) = (cell, at_once refl s.0 s.1)
+interrupted {form = field cell goes} {old} {new} (coded {d} {v} s walk) =
+    let more = interrupted walk in
+    (more.0, longer s.0 (λ w gained. bits_more cell goes old d new v w s.1 gained) s.2 more.1)
 
 -- and where the items are of no value
-pub stopped : {A : Type 0} {form : Form A} {old new : List Bool} {items left : List Item}
-    → Walks {A = A} WritesField form old items (Err errors.NoValue) new left → (cell : Cell ℕ) × HaltsAt form old items new left cell × TellsNoValue cell left
+stopped : {A : Type 0} {form : Form A} {old new : List Bool} {items left : List Item}
+    → Walks {A = A} WritesField form old items (Err errors.NoValue) new left → (cell : Cell ℕ) × HaltsAt form (bits_along form (length old)) old items new left cell × TellsNoValue cell left
 stopped {form = done a} walk = elim walk [ ]
-stopped {form = field cell goes} (refused s) = (cell, at_once s.1 s.2, subst (λ x. TellsNoValue cell x) (sym s.2) s.0)
-stopped {form = field cell goes} (coded s walk) = let more = stopped walk in (more.0, longer s.0 s.1 s.2 more.1, more.2)
+stopped {form = field cell goes} (refused s) = (cell, at_once refl s.1 s.2, subst (λ x. TellsNoValue cell x) (sym s.2) s.0)
+stopped {form = field cell goes} {old} {new} (coded {d} {v} s walk) =
+    let more = stopped walk in
+    (more.0, longer s.0 (λ w gained. bits_more cell goes old d new v w s.1 gained) s.2 more.1, more.2)
 
 -- ---- items tell their values
 
@@ -101,32 +102,38 @@ goes_on {form = field cell goes} {a} left more (past {v} {w} is rest) (through {
 
 -- ---- a writer's answer
 
-accepted : {A : Type 0} {form : Form A} {old new : List Bool} {items left : List Item} {a end : A} {values : List ℤ} {more : List Item} → IsSpelled form old items new left a → AreItemsOf form items values end more
-    → (new ≡ old ++ bits_along form (length old) values) × (left ≡ more) × (end ≡ a)
-accepted {form} {old} {left} {more} is of =
+accepted : {A X : Type 0} {form : Form A} {spelling : List ℤ → List X} {old new : List X} {items left : List Item} {a end : A} {values : List ℤ} {more : List Item}
+    → IsSpelled form spelling old items new left a → AreItemsOf form items values end more → (new ≡ old ++ spelling values) × (left ≡ more) × (end ≡ a)
+accepted {spelling} {old} {left} {more} is of =
     let same = apart left more is.follows of.follows (sym is.taken ∙ of.given) in
-    (is.gained ∙ ap (λ w. old ++ bits_along form (length old) w) same.0, same.1, sym same.2)
+    (is.gained ∙ ap (λ w. old ++ spelling w) same.0, same.1, sym same.2)
+
+-- the rest of it follows from what it says
+pub whole : {A B X : Type 0} {form : Form A} {spelling : List ℤ → List X} {old new : List X} {items left : List Item} (result : Result B SpellError)
+    → HasWritten form spelling old items result new left → WritesAs form spelling old items result new left
+whole {left} (Ok b) is = record {
+  is = is;
+  only = λ values end more of. let same = accepted is.1 of in (same.0, same.1);
+  none = λ others. others is.1.values is.0 left (record { follows = is.1.follows; given = is.1.taken });
+}
+whole (Err errors.Memory) is = record { is = is; only = λ values end more of. tt; none = λ others. tt }
+whole {left} (Err errors.NoValue) is = record {
+  is = is;
+  only = λ values end more of. goes_on left more is.1.comes of.follows (sym is.1.taken ∙ of.given) is.2;
+  none = λ others. tt;
+}
+
+-- and its items lead to its end
+pub leads_to : {A X : Type 0} {form : Form A} {spelling : List ℤ → List X} {old new : List X} {items left : List Item} {a : A} → IsSpelled form spelling old items new left a → ItemsLeadTo form items a
+leads_to is = λ values other more of. (accepted is of).2
 
 pub writes : {A B : Type 0} {form : Form A} {old new : List Bool} {items left : List Item} (a : A) (result : Result B SpellError)
     → Walks WritesField form old items (leaving a result) new left → Writes form old items result new left
-writes {left} a (Ok b) walk =
-    let is = written walk in
-    record {
-      is = (a, is);
-      only = λ values end more of. let same = accepted is of in (same.0, same.1);
-      none = λ others. others is.values a left (record { follows = is.follows; given = is.taken });
-    }
-writes a (Err errors.Memory) walk = record { is = interrupted walk; only = λ values end more of. tt; none = λ others. tt }
-writes {left} a (Err errors.NoValue) walk =
-    let is = stopped walk in
-    record {
-      is = is;
-      only = λ values end more of. goes_on left more is.1.comes of.follows (sym is.1.taken ∙ of.given) is.2;
-      none = λ others. tt;
-    }
+writes a (Ok b) walk = whole (Ok b) (a, written walk)
+writes a (Err errors.Memory) walk = whole (Err errors.Memory) (interrupted walk)
+writes a (Err errors.NoValue) walk = whole (Err errors.NoValue) (stopped walk)
 
--- the end to which a writer comes
 pub leads : {A B : Type 0} {form : Form A} {old new : List Bool} {items left : List Item} (a : A) (result : Result B SpellError)
     → Walks WritesField form old items (leaving a result) new left → OnOk result (ItemsLeadTo form items a)
-leads a (Ok b) walk = λ values other more of. (accepted (written walk) of).2
+leads a (Ok b) walk = leads_to (written walk)
 leads a (Err e) walk = tt

@@ -7,9 +7,9 @@ use Rattle.vx_table.specs.declared.rows.Cell.{Cell}
 use Rattle.vx_table.specs.declared.writer.SpellError.{SpellError}
 use Rattle.vx_table.specs.declared.writer.SpellError.TheVariants as errors
 use Rattle.vx_table.specs.Forms.{Form, done, field}
-use Rattle.vx_table.specs.Spelling.{item_of, items_along}
-use Rattle.vx_table.specs.Values.{IsValueOf, Follows}
-use Rattle.vx_table.specs.Writing.{IsWritten}
+use Rattle.vx_table.specs.Spelling.{item_of}
+use Rattle.vx_table.specs.Values.{IsValueOf}
+use Rattle.vx_table.specs.Writing.{TellsNoValue, WritesAs}
 
 -- a field, or an absent one that stands among the kept ones, and no gap
 unfoldable pub stands_for_field : {N : Type 0} → Coding N → Bool
@@ -32,30 +32,12 @@ kept_along (done a) w = []
 kept_along (field cell goes) [] = []
 kept_along (field cell goes) (v ∷ w) = kept_item cell v ++ kept_along (goes v) w
 
--- What sifting does at one field: its item is taken, and kept where the field is.
+-- What sifting does at one field: its item is taken, and kept where the field is; where it answers an error, all is as it was.
 abbrev pub KeepsField : List Item → List Item → Cell ℕ → Result ℤ SpellError → List Item → List Item → Type 0
 KeepsField items into cell (Ok v) left new = IsValueOf cell v × (items ≡ item_of cell v ++ left) × (new ≡ into ++ kept_item cell v)
-KeepsField items into cell (Err errors.Memory) left new = new ≡ into
-KeepsField items into cell (Err errors.NoValue) left new = (new ≡ into) × ((v : ℤ) (more : List Item) → IsValueOf cell v → items ≡ item_of cell v ++ more → ⊥)
+KeepsField items into cell (Err errors.Memory) left new = (new ≡ into) × (left ≡ items)
+KeepsField items into cell (Err errors.NoValue) left new = TellsNoValue cell items × (new ≡ into) × (left ≡ items)
 
--- The items taken are those of values of the form, which leave this scope, and the kept ones were gained.
-pub record IsKept {A : Type 0} (form : Form A) (items into : List Item) (a : A) (left new : List Item) : Type 0 where
-  pub values : List ℤ
-  pub follows : Follows form values a
-  pub taken : items ≡ items_along form values ++ left
-  pub gained : new ≡ into ++ kept_along form values
-
--- what is said of an answer
-abbrev pub OnAnswer : {B : Type 0} → Result B SpellError → Type 0 → Type 0
-OnAnswer (Ok b) P = P
-OnAnswer (Err e) P = Unit {0}
-
--- An answer of sifting, whole:
-pub record Keeps {A B : Type 0} (form : Form A) (items into : List Item) (result : Result B SpellError) (a : A) (left new : List Item) : Type 0 where
-  -- what it answers is so;
-  pub is : OnAnswer result (IsKept form items into a left new)
-  -- where the items begin with those of values of the form, the kept ones of these are gained, unless memory runs out;
-  pub only : (values : List ℤ) (b : A) (more : List Item) → Follows form values b → items ≡ items_along form values ++ more
-      → IsWritten result ((new ≡ into ++ kept_along form values) × (left ≡ more) × (a ≡ b))
-  -- what was there stays in front, also after an error.
-  pub front : (gained : List Item) × (new ≡ into ++ gained)
+-- An answer of sifting, whole: a writer's, where values are written as their kept items.
+abbrev pub Keeps : {A B : Type 0} → Form A → List Item → List Item → Result B SpellError → List Item → List Item → Type 0
+Keeps form into items result new left = WritesAs form (kept_along form) into items result new left

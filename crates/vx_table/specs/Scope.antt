@@ -1,5 +1,5 @@
 -- The latest numbers of fields and names, and what a row's formulas are at them.
-use Rattle.std.specs.Prelude.{ℕ, ℤ, pos, negsuc, zero, suc, ◌+◌, ◌-◌, ◌*◌, ◌^◌, min, Bool, cond, not, ◌&&◌, ◌||◌, ◌==◌, nat_lt, nat_le, List, slice_index, [], ◌∷◌, replicate, slice_set}
+use Rattle.std.specs.Prelude.{◌↔◌, ◌≤◌, ℕ, ℤ, pos, negsuc, zero, suc, ◌+◌, ◌-◌, ◌*◌, ◌^◌, min, Bool, cond, not, ◌&&◌, ◌||◌, ◌==◌, nat_lt, nat_le, List, slice_index, [], ◌∷◌, replicate, slice_set}
 use Rattle.vx_bits.specs.declared.list.Item.{Item}
 use Rattle.std.specs.Int.{div_ceil}
 use Rattle.vx_table.specs.declared.rows.Term.{Term}
@@ -24,6 +24,10 @@ is_set n = not (n == 0)
 unfoldable pub powers_below : ℕ → ℕ → ℕ
 powers_below zero n = 0
 powers_below (suc k) n = powers_below k n + one_if (nat_lt (2 ^ k) n)
+
+-- so it is the least k for which 2^k isn't below n
+abbrev pub CeilLog2IsLeast : Type 0
+CeilLog2IsLeast = (n k : ℕ) → n ≤ 2 ^ 32 → n ≤ 2 ^ k ↔ powers_below 32 n ≤ k
 
 -- the quotient, rounded up; 0 where the divisor is 0
 abbrev pub quotient : ℕ → ℕ → ℕ

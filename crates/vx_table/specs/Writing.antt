@@ -1,5 +1,5 @@
--- What a writer answers for a form: the spelling of the values whose items it is given.
-use Rattle.std.specs.Prelude.{◌≡◌, ℕ, ℤ, Bool, List, ◌++◌, length, Result, Ok, Err}
+-- What a writer answers for a form: what the values whose items it is given are written as.
+use Rattle.std.specs.Prelude.{◌≡◌, ℕ, ℤ, Bool, List, ◌++◌, length, Option, Some, None, Result, Ok, Err}
 use Rattle.vx_bits.specs.declared.list.Item.{Item}
 use Rattle.vx_table.specs.declared.rows.Cell.{Cell}
 use Rattle.vx_table.specs.declared.writer.SpellError.{SpellError}
@@ -12,31 +12,36 @@ use Rattle.vx_table.specs.Values.{IsValueOf, Follows, ComesTo, bits_along}
 abbrev pub TellsNoValue : Cell ℕ → List Item → Type 0
 TellsNoValue cell items = (v : ℤ) (more : List Item) → IsValueOf cell v → items ≡ item_of cell v ++ more → ⊥
 
+-- What taking the value of a field answers: one that the field may have, whose item is taken, or that none comes next.
+abbrev pub TakesValue : Cell ℕ → List Item → Option ℤ → List Item → Type 0
+TakesValue cell items (Some v) left = IsValueOf cell v × (items ≡ item_of cell v ++ left)
+TakesValue cell items None left = TellsNoValue cell items
+
 -- What a writer does at one field: where it answers an error, bits and items are as they were.
 abbrev pub WritesField : List Bool → List Item → Cell ℕ → Result ℤ SpellError → List Bool → List Item → Type 0
 WritesField old items cell (Ok v) new left = IsValueOf cell v × (new ≡ old ++ code_of cell.coding (length old) v) × (items ≡ item_of cell v ++ left)
 WritesField old items cell (Err errors.Memory) new left = (new ≡ old) × (left ≡ items)
 WritesField old items cell (Err errors.NoValue) new left = TellsNoValue cell items × (new ≡ old) × (left ≡ items)
 
--- The bits have gained the spelling of values that go through the form to this end, and the values' items were taken.
-pub record IsSpelled {A : Type 0} (form : Form A) (old : List Bool) (items : List Item) (new : List Bool) (left : List Item) (end : A) : Type 0 where
+-- What was gained is what values that go through the form to this end are written as, and the values' items were taken.
+pub record IsSpelled {A X : Type 0} (form : Form A) (spelling : List ℤ → List X) (old : List X) (items : List Item) (new : List X) (left : List Item) (end : A) : Type 0 where
   pub values : List ℤ
   pub follows : Follows form values end
-  pub gained : new ≡ old ++ bits_along form (length old) values
+  pub gained : new ≡ old ++ spelling values
   pub taken : items ≡ items_along form values ++ left
 
--- The bits have gained the spelling of values up to this field, which comes next, and the values' items were taken.
-pub record HaltsAt {A : Type 0} (form : Form A) (old : List Bool) (items : List Item) (new : List Bool) (left : List Item) (cell : Cell ℕ) : Type 0 where
+-- What was gained is what values up to this field, which comes next, are written as, and the values' items were taken.
+pub record HaltsAt {A X : Type 0} (form : Form A) (spelling : List ℤ → List X) (old : List X) (items : List Item) (new : List X) (left : List Item) (cell : Cell ℕ) : Type 0 where
   pub values : List ℤ
   pub comes : ComesTo form values cell
-  pub gained : new ≡ old ++ bits_along form (length old) values
+  pub gained : new ≡ old ++ spelling values
   pub taken : items ≡ items_along form values ++ left
 
--- What a writer of a form answers, and what the bits and the items are then.
-abbrev pub HasWritten : {A B : Type 0} → Form A → List Bool → List Item → Result B SpellError → List Bool → List Item → Type 0
-HasWritten {A} form old items (Ok b) new left = (end : A) × IsSpelled form old items new left end
-HasWritten form old items (Err errors.Memory) new left = (cell : Cell ℕ) × HaltsAt form old items new left cell
-HasWritten form old items (Err errors.NoValue) new left = (cell : Cell ℕ) × HaltsAt form old items new left cell × TellsNoValue cell left
+-- What a writer of a form answers, and what was gained and which items are left then.
+abbrev pub HasWritten : {A B X : Type 0} → Form A → (List ℤ → List X) → List X → List Item → Result B SpellError → List X → List Item → Type 0
+HasWritten {A} form spelling old items (Ok b) new left = (end : A) × IsSpelled form spelling old items new left end
+HasWritten form spelling old items (Err errors.Memory) new left = (cell : Cell ℕ) × HaltsAt form spelling old items new left cell
+HasWritten form spelling old items (Err errors.NoValue) new left = (cell : Cell ℕ) × HaltsAt form spelling old items new left cell × TellsNoValue cell left
 
 -- What a writer answers for items of values.
 abbrev pub IsWritten : {B : Type 0} → Result B SpellError → Type 0 → Type 0
@@ -54,15 +59,19 @@ pub record AreItemsOf {A : Type 0} (form : Form A) (items : List Item) (values :
   pub follows : Follows form values end
   pub given : items ≡ items_along form values ++ more
 
--- A writer's answer, whole, unless memory runs out (the law `read_back` says how what it wrote is read):
-pub record Writes {A B : Type 0} (form : Form A) (old : List Bool) (items : List Item) (result : Result B SpellError) (new : List Bool) (left : List Item) : Type 0 where
+-- The answer, whole, of what writes values in some spelling, unless memory runs out:
+pub record WritesAs {A B X : Type 0} (form : Form A) (spelling : List ℤ → List X) (old : List X) (items : List Item) (result : Result B SpellError) (new : List X) (left : List Item) : Type 0 where
   -- what it answers is so;
-  pub is : HasWritten form old items result new left
+  pub is : HasWritten form spelling old items result new left
   -- where the items begin with those of values that follow the form, these are spelled, and exactly their items taken;
   pub only : (values : List ℤ) (end : A) (more : List Item) → AreItemsOf form items values end more
-      → IsWritten result ((new ≡ old ++ bits_along form (length old) values) × (left ≡ more))
+      → IsWritten result ((new ≡ old ++ spelling values) × (left ≡ more))
   -- where they begin with those of no values that follow it, no value is written.
   pub none : ((values : List ℤ) (end : A) (more : List Item) → AreItemsOf form items values end more → ⊥) → IsRejected result
+
+-- A writer's answer: the values are spelled as bits (the law `read_back` says how these are read).
+abbrev pub Writes : {A B : Type 0} → Form A → List Bool → List Item → Result B SpellError → List Bool → List Item → Type 0
+Writes form old items result new left = WritesAs form (bits_along form (length old)) old items result new left
 
 -- The values whose items the items begin with go through the form to this end.
 abbrev pub ItemsLeadTo : {A : Type 0} → Form A → List Item → A → Type 0

@@ -4,13 +4,14 @@ ghost use Rattle.std.specs.Prelude.{◌≡◌, ◌++◌, OnOk, OnErr};
 ghost use Rattle.vx_table.specs.Forms.{form_of};
 ghost use Rattle.vx_table.specs.Parts.{parts_form};
 ghost use Rattle.vx_table.specs.Kept as kept;
+ghost use Rattle.vx_table.specs.Writing.{ItemsLeadTo};
 ghost use Rattle.vx_table.specs.Kept.{kept_item, Keeps};
 
 use crate::parts::{Part, code_parts};
 use crate::rows::{Cell, Coding, Row};
 use crate::scope::Scope;
 use crate::walk::{Coder, code_table};
-use crate::writer::{SpellError, Unwritten, is_value, next_value};
+use crate::writer::{SpellError, Unwritten, take_value};
 use std::alloc::AllocError;
 use vx_bits::{Fields, Item};
 
@@ -50,14 +51,15 @@ impl<'a> Coder<Fields> for Unwritten<'a> {
     ghost step = { KeepsField };
 
     fn code(&mut self, items: &mut Fields, cell: Cell<u32>) -> Result<i64, SpellError> {
-        let Some(value) = next_value(self, cell.field, cell.coding) else {
+        let mut behind = self.fork();
+        let Some(value) = take_value(&mut behind, cell) else {
             return Err(SpellError::NoValue);
         };
-        if !is_value(cell, value) {
-            return Err(SpellError::NoValue);
-        }
         match keep_item(items, cell, value) {
-            Ok(()) => Ok(value),
+            Ok(()) => {
+                *self = behind;
+                Ok(value)
+            }
             Err(_) => Err(SpellError::Memory),
         }
     }
@@ -68,15 +70,16 @@ impl<'a> Coder<Fields> for Unwritten<'a> {
 ///
 /// # Errors
 ///
-/// `NoValue` where the items aren't those of a value of the table; want of memory. `into` has then gained some
-/// items behind those that it had.
+/// `NoValue` where the items don't begin with those of a value of the table; want of memory. `into` has then gained the
+/// kept items of the fields before one, and `items` begins with what was to be taken there; nothing is said of `scope`.
 pub fn keep_table(
     table: &[Row],
     scope: &mut Scope,
     items: &mut Unwritten<'_>,
     into: &mut Fields,
 ) -> Result<(), SpellError>
-    ensures { Keeps (form_of table.now scope.old) items.old into.old result scope.new items.new into.new }
+    ensures answer { Keeps (form_of table.now scope.old) into.old items.old result into.new items.new }
+    ensures scope { OnOk result (ItemsLeadTo (form_of table.now scope.old) items.old scope.new) }
 {
     code_table(table, scope, items, into)
 }
@@ -85,14 +88,17 @@ pub fn keep_table(
 ///
 /// # Errors
 ///
-/// `NoValue` where the items aren't those of a value of the structure; want of memory.
+/// `NoValue` where the items don't begin with those of a value of the structure; want of memory. `into` has then gained
+/// the kept items of the fields before one, and `items` begins with what was to be taken there; nothing is said of
+/// `scope`.
 pub fn keep_parts(
     parts: &[Part<'_>],
     scope: &mut Scope,
     items: &mut Unwritten<'_>,
     into: &mut Fields,
 ) -> Result<(), SpellError>
-    ensures { Keeps (parts_form parts.now scope.old) items.old into.old result scope.new items.new into.new }
+    ensures answer { Keeps (parts_form parts.now scope.old) into.old items.old result into.new items.new }
+    ensures scope { OnOk result (ItemsLeadTo (parts_form parts.now scope.old) items.old scope.new) }
 {
     code_parts(parts, scope, items, into)
 }

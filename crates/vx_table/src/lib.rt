@@ -2,41 +2,47 @@
 //!
 //! A table is a constant array of [`Row`]s, written by [`table!`] in the look of the standard's own tables.
 //! [`code_table`] walks over it with any [`Coder`]; [`read_table`] is the walk with a bit reader, which appends
-//! items, and [`write_table`] the walk with a bit writer, which takes them. [`Scope`] has the numbers that
-//! conditions, widths and ranges read. docs/TABLES.md says how a table is read and how one is added.
+//! items, [`write_table`] the walk with a bit writer, which takes them, and [`keep_table`] sifts them to those of
+//! kept fields. [`Scope`] has the numbers that conditions, widths and ranges read. [`depends_only_on`] and
+//! [`keeps_only`] test of a table which of these numbers its fields depend on, and which fields it keeps.
+//! docs/TABLES.md says how a table is read and how one is added.
 #![tactic(auto)]
 
 mod arithmetic;
 mod depends;
 mod kept;
-mod laws;
-mod laws_depend;
+mod laws_depends;
+mod laws_numbers;
+mod laws_spelling;
 mod macros;
 mod parts;
+mod ranges;
 mod reader;
 mod rows;
 mod scope;
 mod stars;
 #[cfg(test)]
-mod tests;
+mod tests_coding;
 #[cfg(test)]
-mod tests_depend;
+mod tests_depends;
 mod walk;
 mod writer;
 
 pub use depends::{depends_only_on, parts_depend_only_on};
 pub use kept::{keep_parts, keep_table};
-pub use laws::{
+pub use laws_depends::{
+    alike_together, cells_follow_items, cells_follow_kept, kept_tells_kept, scopes_follow_items,
+};
+pub use laws_numbers::ceil_log2_is_least;
+pub use laws_spelling::{
     every_answer, no_proper_prefix, one_answer, one_reading, one_writing, read_back,
     spelled_both_ways, what_may_follow,
 };
-pub use laws_depend::{
-    alike_together, cells_follow_items, cells_follow_kept, kept_tells_kept, scopes_follow_items,
-};
 pub use parts::{Part, code_parts, read_parts, write_parts};
+pub use ranges::has_code;
 pub use reader::{read_table, read_value};
 pub use rows::{Cell, Coding, Fault, Formula, Limits, Presence, Row, Term};
 pub use scope::Scope;
 pub use stars::{keeps_only, parts_keep_only};
 pub use walk::{Coder, code_table, coding, coding_of};
-pub use writer::{SpellError, Unwritten, has_code, write_code, write_table};
+pub use writer::{SpellError, Unwritten, write_code, write_table};

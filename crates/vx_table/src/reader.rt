@@ -7,7 +7,8 @@ ghost use Rattle.vx_table.specs.Spelling as spelling;
 ghost use Rattle.vx_table.specs.Spelling.{IsCodable};
 ghost use Rattle.vx_table.specs.Reading.{TakesCode, ReadsField, at_front, Reads, ReadsValue, LeadsTo};
 
-use crate::rows::{Cell, Coding, Fault, Limits, Row};
+use crate::ranges::fault_of;
+use crate::rows::{Cell, Coding, Fault, Row};
 use crate::scope::Scope;
 use crate::walk::{Coder, code_table, has_value};
 use std::alloc::Global;
@@ -37,40 +38,6 @@ fn take_code(bits: &mut BitReader<'_>, coding: Coding<u32>) -> Result<i64, BitCa
         Coding::Absent => Ok(0),
         Coding::Refused => Err(BitCause::OutOfRange),
     }
-}
-
-/// The fault of a value, where it breaks its range.
-#[tactic(auto, unfolding(crate::specs::Spelling::fault_of))]
-pub(crate) fn fault_of(limits: Limits<u32>, value: i64) -> Option<Fault>
-    ensures { result ≡ spelling.fault_of limits value }
-{
-    match limits {
-        Limits::Any => None,
-        Limits::Within { low, high, fault } => {
-            let inside = i64::from(low) <= value && value <= i64::from(high);
-            if inside { None } else { Some(fault) }
-        }
-        Limits::Below { bound, fault } => {
-            let inside = 0 <= value && value < i64::from(bound);
-            if inside { None } else { Some(fault) }
-        }
-        Limits::Multiple { unit, high, fault } => {
-            if value > i64::from(high) {
-                Some(fault)
-            } else if is_multiple(unit, value) {
-                None
-            } else {
-                Some(Fault::OutOfRange)
-            }
-        }
-    }
-}
-
-/// Whether the value is one of 1, 2, 3 .. times the unit.
-fn is_multiple(unit: u32, value: i64) -> bool
-    ensures { result ≡ spelling.is_multiple unit value }
-{
-    value > 0 && unit > 0 && value % i64::from(unit) == 0
 }
 
 /// A fault as it is reported, at a field and the bit where it begins.

@@ -7,10 +7,7 @@ use crate::rows::{Formula, Term};
 use std::marker::Model;
 use vx_bits::Fields;
 
-/// How many numbers fields and names have: each is below this.
-const NUMBERS: usize = 1024;
-
-/// The latest number of each field and name; 0 of those that have none.
+/// The latest number of each field and name, which are themselves numbers below 1024; 0 of those that have none.
 ///
 /// It is seen as the list of these numbers. A copy costs the same whatever stands in it.
 #[derive(Clone, Copy, Debug)]
@@ -35,9 +32,7 @@ impl Scope {
     pub fn new() -> Scope
         ensures { result ≡ fresh }
     {
-        Scope {
-            numbers: [0; NUMBERS],
-        }
+        Scope { numbers: [0; 1024] }
     }
 
     /// The latest number of a field or a name.

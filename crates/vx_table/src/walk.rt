@@ -111,7 +111,7 @@ fn cell(scope: &Scope, row: Cell<Formula>) -> Cell<u32>
 
 /// Gives a field its value; a gap has none.
 #[tactic(auto, unfolding(crate::specs::Forms::after))]
-fn keep(scope: &mut Scope, cell: Cell<u32>, value: i64)
+fn set_field(scope: &mut Scope, cell: Cell<u32>, value: i64)
     ensures { scope.new ≡ after scope.old cell value }
 {
     if has_value(cell.coding) {
@@ -130,7 +130,7 @@ fn code_field<I, C: Coder<I>>(
 {
     let cell = cell(scope, row);
     let value = coder.code(items, cell)?;
-    keep(scope, cell, value);
+    set_field(scope, cell, value);
     Ok(())
 }
 

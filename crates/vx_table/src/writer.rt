@@ -1,14 +1,13 @@
 //! Writing by a table: items to bits.
 
-ghost use Rattle.std.specs.Prelude.{◌≡◌, ◌↔◌, ℕ, ℤ, pos, ◌≤ℤ◌, ◌^◌, ◌<◌, ◌+◌, ◌-◌, ◌≤◌, List, ◌∷◌, ◌++◌, [], length, take, drop, IsTrue, OnOk, OnErr, MatchOption};
+ghost use Rattle.std.specs.Prelude.{◌≡◌, ◌↔◌, ℕ, pos, ◌^◌, ◌<◌, ◌-◌, ◌≤◌, List, ◌∷◌, ◌++◌, [], length, take, drop, IsTrue, OnOk, OnErr, MatchOption};
 ghost use Rattle.vx_bits.specs.declared.list.Item.{Item};
 ghost use Rattle.vx_table.specs.Spelling.{IsCodable, HasCode, code_of};
 ghost use Rattle.vx_table.specs.Items.{TellsValue};
-ghost use Rattle.vx_table.specs.Values.{IsValueOf};
 ghost use Rattle.vx_table.specs.Forms.{form_of};
-ghost use Rattle.vx_table.specs.Writing.{Writes, ItemsLeadTo};
+ghost use Rattle.vx_table.specs.Writing.{TakesValue, Writes, ItemsLeadTo};
 
-use crate::reader::fault_of;
+use crate::ranges::is_value;
 use crate::rows::{Cell, Coding, Row};
 use crate::scope::Scope;
 use crate::walk::{Coder, code_table, has_value};
@@ -21,7 +20,7 @@ use vx_bits::{BitWriter, Fields, Item};
 pub enum SpellError {
     /// Memory ran out.
     Memory,
-    /// The items are those of no value of the structure.
+    /// The items begin with those of no value of the structure.
     NoValue,
 }
 
@@ -58,7 +57,7 @@ impl<'a> Unwritten<'a> {
     }
 
     /// The same items, which are taken by themselves.
-    fn fork(&self) -> Unwritten<'a>
+    pub(crate) fn fork(&self) -> Unwritten<'a>
         ensures { result ≡ self.now }
     {
         Unwritten {
@@ -89,7 +88,7 @@ impl<'a> Unwritten<'a> {
 }
 
 /// The value of the next field; 0 for a gap, which has no item.
-pub(crate) fn next_value(items: &mut Unwritten<'_>, field: u16, coding: Coding<u32>) -> Option<i64>
+fn next_value(items: &mut Unwritten<'_>, field: u16, coding: Coding<u32>) -> Option<i64>
     ensures { TellsValue field coding items.old result items.new }
 {
     if !has_value(coding) {
@@ -101,49 +100,18 @@ pub(crate) fn next_value(items: &mut Unwritten<'_>, field: u16, coding: Coding<u
     }
 }
 
-/// Whether a value lies in a range.
-fn is_within(low: i64, value: i64, high: i64) -> bool
-    ensures { IsTrue result ↔ ((low ≤ℤ value) × (value ≤ℤ high)) }
-{
-    low <= value && value <= high
-}
-
-/// The largest number of `u(n)` for a width of at most 32.
-fn largest(width: u32) -> i64
-    requires { width ≤ 32 }
-    ensures { result ≡ pos (2 ^ width - 1) }
-{
-    (1 << width) - 1
-}
-
-/// The largest value of `ue(v)`.
-const LAST_NUMBER: i64 = 0xffff_fffe;
-
-/// The largest value of `se(v)`; the smallest is its opposite.
-const LAST_SIGNED: i64 = 0x7fff_ffff;
-
-/// Whether a coding has a code for the value.
-pub fn has_code(coding: Coding<u32>, value: i64) -> bool
-    requires { IsCodable coding }
-    ensures { IsTrue result ↔ HasCode coding value }
-{
-    match coding {
-        Coding::Fixed(width) => is_within(0, value, largest(width)),
-        Coding::Golomb => is_within(0, value, LAST_NUMBER),
-        Coding::SignedGolomb => is_within(-LAST_SIGNED, value, LAST_SIGNED),
-        Coding::Zeros | Coding::OneAndZeros | Coding::Trailing | Coding::Absent => {
-            is_within(0, value, 0)
-        }
-        Coding::Refused => false,
-    }
-}
-
-/// Whether a field may have the value.
-pub(crate) fn is_value(cell: Cell<u32>, value: i64) -> bool
+/// Takes the item of the next field's value, where it is one that the field may have.
+pub(crate) fn take_value(items: &mut Unwritten<'_>, cell: Cell<u32>) -> Option<i64>
     requires { IsCodable cell.coding }
-    ensures { IsTrue result ↔ IsValueOf cell value }
+    ensures { TakesValue cell items.old result items.new }
 {
-    has_code(cell.coding, value) && fault_of(cell.limits, value).is_none()
+    let Some(value) = next_value(items, cell.field, cell.coding) else {
+        return None;
+    };
+    if !is_value(cell, value) {
+        return None;
+    }
+    Some(value)
 }
 
 /// A value as a number, where it is one of 32 bits.
@@ -183,12 +151,9 @@ impl<'a> Coder<Unwritten<'a>> for BitWriter {
 
     fn code(&mut self, items: &mut Unwritten<'a>, cell: Cell<u32>) -> Result<i64, SpellError> {
         let mut behind = items.fork();
-        let Some(value) = next_value(&mut behind, cell.field, cell.coding) else {
+        let Some(value) = take_value(&mut behind, cell) else {
             return Err(SpellError::NoValue);
         };
-        if !is_value(cell, value) {
-            return Err(SpellError::NoValue);
-        }
         match write_code(self, cell.coding, value) {
             Ok(()) => {
                 *items = behind;

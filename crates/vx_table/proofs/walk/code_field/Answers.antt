@@ -16,7 +16,7 @@ pub returns : goal.returns
 returns g c =
     let s = rw (c.in_ok-value.was, c.cell-cell.ensures) at c.code.ensures in
     let fits : SFits w64 c.in_ok-value.value = search rules in
-    rw (c.keep.ensures, c.cell-cell.ensures, to_z-of_z w64 c.in_ok-value.value fits) (one_coded _ _ _ s)
+    rw (c.set_field.ensures, c.cell-cell.ensures, to_z-of_z w64 c.in_ok-value.value fits) (one_coded _ _ _ s)
 
 pub code-requires : goal.code-requires
 code-requires g c = rw c.cell-cell.ensures (codable _ _)

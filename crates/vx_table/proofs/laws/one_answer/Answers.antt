@@ -1,5 +1,0 @@
-use Rattle.vx_table.proofs.Apart.{answers_one_way}
-use Rattle.vx_table.proofs.laws.one_answer.Goals as goal
-
-pub returns : goal.returns
-returns c = answers_one_way

@@ -1,5 +1,0 @@
-use Rattle.vx_table.proofs.Apart.{reads_one_way}
-use Rattle.vx_table.proofs.laws.one_reading.Goals as goal
-
-pub returns : goal.returns
-returns c = reads_one_way

@@ -1,5 +1,0 @@
-use Rattle.vx_table.proofs.Spelled.{reads_back}
-use Rattle.vx_table.proofs.laws.read_back.Goals as goal
-
-pub returns : goal.returns
-returns c = reads_back

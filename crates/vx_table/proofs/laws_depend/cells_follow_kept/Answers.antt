@@ -1,5 +1,0 @@
-use Rattle.vx_table.proofs.Starred.{cells_follow_kept}
-use Rattle.vx_table.proofs.laws_depend.cells_follow_kept.Goals as goal
-
-pub returns : goal.returns
-returns c = cells_follow_kept

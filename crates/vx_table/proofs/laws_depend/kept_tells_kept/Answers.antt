@@ -1,5 +1,0 @@
-use Rattle.vx_table.proofs.Starred.{kept_tells_kept}
-use Rattle.vx_table.proofs.laws_depend.kept_tells_kept.Goals as goal
-
-pub returns : goal.returns
-returns c = kept_tells_kept
