@@ -1,4 +1,5 @@
--- A frame put together of several pictures: each stands in a region, a rectangle of the frame, and its slices move to that corner.
+-- A frame that is put together of pictures: each stands in a region, a rectangle of the frame, and its slices are moved
+-- to the region's corner. The regions are the frame's subpictures.
 use Rattle.std.specs.Prelude.{◌≡◌, ℕ, ◌+◌, List, [], ◌∷◌, All, length, map}
 use Rattle.std.specs.List.{flat_map, zip}
 use Rattle.vx_layout.specs.declared.numbers.Numbers.{Numbers}
@@ -22,7 +23,8 @@ pub record Fills (region : Rect) (slices : List Rect) : Type 0 where
   pub parts : All (IsPart region.w region.h) slices
   pub once : CoversOnce slices region.w region.h
 
--- a picture of one subpicture, of the region's size, each of whose slices holds a CTU, and whose tile bounds are the frame's there
+-- a picture that can stand in a region of a frame of these tile bounds: it has one subpicture and the region's size,
+-- each of its slices holds a CTU, and the frame's tile bounds there are its own
 pub record Stands (columns rows : List ℕ) (region : Rect) (picture : Numbers) : Type 0 where
   pub sound : IsSound picture
   pub lone : length picture.subpics ≡ 1
@@ -32,7 +34,7 @@ pub record Stands (columns rows : List ℕ) (region : Rect) (picture : Numbers) 
   pub across : HasLines columns region.x picture.columns
   pub down : HasLines rows region.y picture.rows
 
--- a frame of these tile bounds, with the pictures in its regions, which are its subpictures
+-- the frame of these tile bounds with these pictures in its regions
 abbrev pub frame_of : List ℕ → List ℕ → List Rect → List Numbers → Numbers
 frame_of columns rows regions pictures = record {
   columns = columns;
@@ -41,7 +43,7 @@ frame_of columns rows regions pictures = record {
   subpics = regions;
 }
 
--- the same picture as one subpicture
+-- a picture, as one subpicture that is all of it
 abbrev pub with_one_subpic : Numbers → Numbers
 with_one_subpic n = record {
   columns = n.columns;
