@@ -120,12 +120,3 @@ cut-own bounds own from rises own_rises some same =
                 ]
           ],
     ))
-
--- numbers are the same where their parts are
-pub same_numbers : (a b : Numbers) → a.columns ≡ b.columns → a.rows ≡ b.rows → a.slices ≡ b.slices → a.subpics ≡ b.subpics → a ≡ b
-same_numbers a b columns rows slices subpics =
-    let first : a ≡ record { columns = b.columns; rows = b.rows; slices = a.slices; subpics = a.subpics } =
-    ap (λ t. record { columns = t; rows = a.rows; slices = a.slices; subpics = a.subpics }) columns
-    ∙ ap (λ t. record { columns = b.columns; rows = t; slices = a.slices; subpics = a.subpics }) rows
-    in
-    first ∙ (ap (λ t. record { columns = b.columns; rows = b.rows; slices = t; subpics = a.subpics }) slices ∙ ap (λ t. record { columns = b.columns; rows = b.rows; slices = b.slices; subpics = t }) subpics)

@@ -1,6 +1,6 @@
 -- A frame that is put together of pictures: each stands in a region, a rectangle of the frame, and its slices are moved
 -- to the region's corner. The regions are the frame's subpictures.
-use Rattle.std.specs.Prelude.{◌≡◌, ℕ, ◌+◌, List, [], ◌∷◌, All, length, map}
+use Rattle.std.specs.Prelude.{◌≡◌, ℕ, List, [], ◌∷◌, All, length, map}
 use Rattle.std.specs.List.{flat_map, zip}
 use Rattle.vx_layout.specs.declared.numbers.Numbers.{Numbers}
 use Rattle.vx_layout.specs.declared.rect.Rect.{Rect}
@@ -8,11 +8,8 @@ use Rattle.vx_layout.specs.Borders.{HasLines}
 use Rattle.vx_layout.specs.Faults.{height, width}
 use Rattle.vx_layout.specs.Layouts.{IsSound}
 use Rattle.vx_layout.specs.Rects.{CoversOnce, IsPart}
+use Rattle.vx_layout.specs.Regions.{moved_to}
 use Rattle.vx_layout.specs.Shapes.{HasCtu}
-
--- a rectangle moved to a corner
-abbrev pub moved_to : Rect → Rect → Rect
-moved_to corner r = record { x = r.x + corner.x; y = r.y + corner.y; w = r.w; h = r.h }
 
 -- the slices of a frame: those of the picture in each region, moved to its corner, in the order of the regions
 abbrev pub frame_slices : List Rect → List (List Rect) → List Rect
