@@ -21,12 +21,12 @@ pub record HasLines (bounds : List ℕ) (from : ℕ) (own : List ℕ) : Type 0 w
   pub ends : Contains bounds (from + last own)
   pub inside : SameInside bounds from own
 
--- its upper left corner is that of the picture
+-- a rectangle in the upper left corner of the picture
 pub record Begins (r : Rect) : Type 0 where
   pub left : r.x ≡ 0
   pub top : r.y ≡ 0
 
--- its lower right corner is that of a picture of w times h CTUs
+-- a rectangle in the lower right corner of a picture of w times h CTUs
 pub record Ends (w h : ℕ) (r : Rect) : Type 0 where
   pub right : r.x + r.w ≡ w
   pub bottom : r.y + r.h ≡ h

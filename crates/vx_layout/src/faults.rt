@@ -49,22 +49,6 @@ pub fn are_parts(rects: &RectList, width: u32, height: u32) -> bool
     true
 }
 
-/// SLICE_COVER_FAULT: a CTU lies in no slice or in two.
-pub fn check_slices(alloc: Global, numbers: &Numbers) -> Result<(), LayoutError>
-    requires limits { IsInLimits numbers.now }
-    ensures cover { OnOk result (SlicesCover numbers.now) }
-    ensures fault { IfErr result (λ e. IfFault e (λ k. (k ≡ slice_cover_fault) × (¬ SlicesCover numbers.now))) }
-{
-    let (width, height) = (
-        numbers.columns.last() as usize,
-        numbers.rows.last() as usize,
-    );
-    let Some(_map) = map_of(alloc, &numbers.slices, width, height)? else {
-        return Err(LayoutError::Fault(SLICE_COVER_FAULT));
-    };
-    Ok(())
-}
-
 /// TILE_SPLIT_FAULT: a tile and a subpicture share CTUs and neither lies in the other as it has to.
 pub fn check_tiles(alloc: Global, numbers: &Numbers) -> Result<(), LayoutError>
     requires limits { IsInLimits numbers.now }
@@ -79,6 +63,22 @@ pub fn check_tiles(alloc: Global, numbers: &Numbers) -> Result<(), LayoutError>
             return Err(LayoutError::Fault(TILE_SPLIT_FAULT));
         }
     }
+    Ok(())
+}
+
+/// SLICE_COVER_FAULT: a CTU lies in no slice or in two.
+pub fn check_slices(alloc: Global, numbers: &Numbers) -> Result<(), LayoutError>
+    requires limits { IsInLimits numbers.now }
+    ensures cover { OnOk result (SlicesCover numbers.now) }
+    ensures fault { IfErr result (λ e. IfFault e (λ k. (k ≡ slice_cover_fault) × (¬ SlicesCover numbers.now))) }
+{
+    let (width, height) = (
+        numbers.columns.last() as usize,
+        numbers.rows.last() as usize,
+    );
+    let Some(_map) = map_of(alloc, &numbers.slices, width, height)? else {
+        return Err(LayoutError::Fault(SLICE_COVER_FAULT));
+    };
     Ok(())
 }
 

@@ -35,7 +35,7 @@ pub enum LayoutError {
     /// Memory ran out.
     #[error("out of memory")]
     Memory,
-    /// The lowest fault, from [`SUBPICS_FAULT`] to [`ORDER_FAULT`].
+    /// The lowest fault that the numbers have, from [`SUBPICS_FAULT`] to [`ORDER_FAULT`].
     #[error("layout fault {0}")]
     Fault(u8),
 }
