@@ -8,7 +8,7 @@ use Rattle.vx_layout.specs.Borders.{SameInside}
 use Rattle.vx_layout.specs.Bounds.{Rises, last}
 use Rattle.vx_layout.specs.Regions.{cut, inner}
 use Rattle.vx_layout.proofs.Members.{Rises-members}
-use Rattle.vx_layout.proofs.Moving.{Rises-cut}
+use Rattle.vx_layout.proofs.Moving.{Rises-cut, cut_first, cut_last}
 use Rattle.vx_layout.proofs.Rising.{Rises-level, bound_at, bound_from}
 use Rattle.vx_layout.proofs.Splitting.{Contains-cases, Contains-cons}
 use Rattle.vx_layout.proofs.Tiling.{last-get_or}
@@ -82,14 +82,6 @@ cut_tells bounds from size n inside =
             | inr final ↦ elim (Contains-cases size [] n final) [ inl end ↦ inr (inl end) | inr none ↦ absurd (omega (arith, none.1)) ]
           ]
     ]
-
-pub cut_first : (bounds : List ℕ) (from size : ℕ) → Contains (cut bounds from size) 0
-cut_first bounds from size = (0, omega arith, refl)
-
-pub cut_last : (bounds : List ℕ) (from size : ℕ) → Contains (cut bounds from size) size
-cut_last bounds from size =
-    let between : List ℕ = map (λ b. b - from) (inner bounds from size) in
-    Contains-cons 0 (between ++ size ∷ []) size (Contains-append_right between (size ∷ []) size (0, omega arith, refl))
 
 pub cut_inner : (bounds : List ℕ) (from size n : ℕ) → Contains bounds (from + n) → 0 < n → n < size → Contains (cut bounds from size) n
 cut_inner bounds from size n inside above below =
