@@ -1,11 +1,11 @@
 -- A tile and a subpicture by their borders, and tiles by the places of their bounds.
-use Rattle.std.proofs.Common.{◌≡◌, ℕ, ◌+◌, ◌-◌, ◌<◌, ◌≤◌, true, false, ◌&&◌, List, length, get_or, refl, ap, sym, ◌∙◌, subst, inl, inr, arith}
+use Rattle.std.proofs.Common.{◌≡◌, ℕ, ◌+◌, ◌-◌, ◌<◌, ◌≤◌, true, false, ◌&&◌, List, length, get_or, refl, sym, ◌∙◌, subst, inl, inr, arith}
 use Rattle.std.proofs.lemmas.Bool.{and_parts, and_from, both_ways, cases_lt, eqb-true, eq-eqb, not-true, not_from_false, cases_Bool, or_cases, or_left, or_right}
 use Rattle.vx_layout.specs.declared.rect.Rect.{Rect}
 use Rattle.vx_layout.specs.Bounds.{Rises}
 use Rattle.vx_layout.specs.Faults.{IsSpan, IsTile, Meet, SplitsWell, TileAgrees}
 use Rattle.vx_layout.specs.Plain.{ColumnAgrees, agrees, meet}
-use Rattle.vx_layout.proofs.Holding.{holds_from, holds_tells}
+use Rattle.vx_layout.proofs.Holding.{holds_from, holds_tells, same_rect}
 use Rattle.vx_layout.proofs.Members.{LiesIn-fits, fits-LiesIn}
 use Rattle.vx_layout.proofs.Preceding.{meet_from, meet_tells}
 use Rattle.vx_layout.proofs.Rising.{Rises-apart, Rises-level, bound_at, bound_from}
@@ -91,11 +91,6 @@ IsSpan-last bounds a b i rises span long short =
     let at = bound_at bounds b span.ends in
     let level = Rises-level bounds at.0 i rises (omega arith) short in
     omega (arith, level, at.2)
-
-same_rect : (t u : Rect) → t.x ≡ u.x → t.y ≡ u.y → t.w ≡ u.w → t.h ≡ u.h → t ≡ u
-same_rect t u a b c d =
-    let made : ℕ → ℕ → ℕ → ℕ → Rect = λ x y w h. record { x = x; y = y; w = w; h = h } in
-    ap (λ n. made n t.y t.w t.h) a ∙ (ap (λ n. made u.x n t.w t.h) b ∙ (ap (λ n. made u.x u.y n t.h) c ∙ ap (λ n. made u.x u.y u.w n) d))
 
 -- the tiles of a tile column above one that agrees, and that one
 pub column_more : (left right : ℕ) (rows : List ℕ) (s tile : Rect) (j : ℕ) → Rises rows → 1 ≤ j → j < length rows →

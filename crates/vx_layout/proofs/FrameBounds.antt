@@ -1,15 +1,14 @@
 -- The members of bounds that are cut to a region, and a region that has bounds of its own.
-use Rattle.std.proofs.Common.{◌≡◌, ℕ, ◌+◌, ◌-◌, ◌<◌, ◌≤◌, Bool, true, ◌&&◌, ltb, List, [], ◌∷◌, ◌++◌, length, get_or, filter, map, refl, ap, sym, ◌∙◌, subst, inl, inr, arith, ◌⊎◌}
+use Rattle.std.proofs.Common.{◌≡◌, ℕ, ◌+◌, ◌-◌, ◌<◌, ◌≤◌, Bool, true, ◌&&◌, ltb, List, [], ◌∷◌, ◌++◌, length, get_or, filter, map, ap, sym, ◌∙◌, subst, inl, inr, arith, ◌⊎◌}
 use Rattle.std.proofs.lemmas.Bool.{and_from, and_parts, both_ways, cases_Bool, cases_lt, ltb-true, lt-ltb}
 use Rattle.std.proofs.lemmas.List.{get_or-map, length-map}
-use Rattle.std.proofs.lemmas.List.Elements.{All-contains, All-contains_itself, All-filter, All-map, Contains-append_cases, Contains-append_left, Contains-append_right, filter_passes}
+use Rattle.std.proofs.lemmas.List.Elements.{All-contains, All-contains_itself, All-filter, All-map, Contains-append_cases, Contains-append_left, filter_passes}
 use Rattle.std.specs.List.{Contains}
-use Rattle.vx_layout.specs.declared.numbers.Numbers.{Numbers}
 use Rattle.vx_layout.specs.Borders.{SameInside}
 use Rattle.vx_layout.specs.Bounds.{Rises, last}
 use Rattle.vx_layout.specs.Regions.{cut, inner}
 use Rattle.vx_layout.proofs.Members.{Rises-members}
-use Rattle.vx_layout.proofs.Moving.{Rises-cut}
+use Rattle.vx_layout.proofs.Moving.{Rises-cut, cut_first, cut_last}
 use Rattle.vx_layout.proofs.Rising.{Rises-level, bound_at, bound_from}
 use Rattle.vx_layout.proofs.Splitting.{Contains-cases, Contains-cons}
 use Rattle.vx_layout.proofs.Tiling.{last-get_or}
@@ -84,14 +83,6 @@ cut_tells bounds from size n inside =
           ]
     ]
 
-pub cut_first : (bounds : List ℕ) (from size : ℕ) → Contains (cut bounds from size) 0
-cut_first bounds from size = (0, omega arith, refl)
-
-pub cut_last : (bounds : List ℕ) (from size : ℕ) → Contains (cut bounds from size) size
-cut_last bounds from size =
-    let between : List ℕ = map (λ b. b - from) (inner bounds from size) in
-    Contains-cons 0 (between ++ size ∷ []) size (Contains-append_right between (size ∷ []) size (0, omega arith, refl))
-
 pub cut_inner : (bounds : List ℕ) (from size n : ℕ) → Contains bounds (from + n) → 0 < n → n < size → Contains (cut bounds from size) n
 cut_inner bounds from size n inside above below =
     let between : List ℕ = map (λ b. b - from) (inner bounds from size) in
@@ -120,12 +111,3 @@ cut-own bounds own from rises own_rises some same =
                 ]
           ],
     ))
-
--- numbers are the same where their parts are
-pub same_numbers : (a b : Numbers) → a.columns ≡ b.columns → a.rows ≡ b.rows → a.slices ≡ b.slices → a.subpics ≡ b.subpics → a ≡ b
-same_numbers a b columns rows slices subpics =
-    let first : a ≡ record { columns = b.columns; rows = b.rows; slices = a.slices; subpics = a.subpics } =
-    ap (λ t. record { columns = t; rows = a.rows; slices = a.slices; subpics = a.subpics }) columns
-    ∙ ap (λ t. record { columns = b.columns; rows = t; slices = a.slices; subpics = a.subpics }) rows
-    in
-    first ∙ (ap (λ t. record { columns = b.columns; rows = b.rows; slices = t; subpics = a.subpics }) slices ∙ ap (λ t. record { columns = b.columns; rows = b.rows; slices = b.slices; subpics = t }) subpics)

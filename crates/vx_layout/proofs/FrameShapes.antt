@@ -9,9 +9,9 @@ use Rattle.vx_layout.specs.declared.rect.Rect.{Rect}
 use Rattle.vx_layout.specs.Borders.{HasLines}
 use Rattle.vx_layout.specs.Bounds.{Rises, last}
 use Rattle.vx_layout.specs.Faults.{IsSpan, IsTile, SubpicsCover}
-use Rattle.vx_layout.specs.Frames.{Stands, frame_of, frame_slices, moved_to}
+use Rattle.vx_layout.specs.Frames.{Stands, frame_of, frame_slices}
 use Rattle.vx_layout.specs.Rects.{fits}
-use Rattle.vx_layout.specs.Regions.{counted_from}
+use Rattle.vx_layout.specs.Regions.{counted_from, moved_to}
 use Rattle.vx_layout.specs.Shapes.{AreListable, AreTilesOrRows, HasCtu, StandTogether}
 use Rattle.vx_layout.proofs.FrameBounds.{Contains-first, Contains-last, Contains-le-last}
 use Rattle.vx_layout.proofs.FrameSlices.{Apart, AreIn-moved, IsIn, apart_regions, frame-in, not_in}

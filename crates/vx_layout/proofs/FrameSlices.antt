@@ -6,9 +6,9 @@ use Rattle.std.proofs.lemmas.List.Elements.{All-append, All-head, All-map, All-n
 use Rattle.std.proofs.lemmas.List.Kept.{AllPairs-cons}
 use Rattle.std.specs.List.{All, AllPairs, AllZip, Any}
 use Rattle.vx_layout.specs.declared.rect.Rect.{Rect}
-use Rattle.vx_layout.specs.Frames.{Fills, frame_slices, moved_to}
+use Rattle.vx_layout.specs.Frames.{Fills, frame_slices}
 use Rattle.vx_layout.specs.Rects.{CoversOnce, IsPart, Precedes, fits, holds, in_order, slices_of}
-use Rattle.vx_layout.specs.Regions.{counted_from}
+use Rattle.vx_layout.specs.Regions.{counted_from, moved_to}
 use Rattle.vx_layout.proofs.Counting.{count_by-append, count_by-cons, holds-fits, same_place}
 use Rattle.vx_layout.proofs.Holding.{fits_from, holds_from, holds_tells}
 use Rattle.vx_layout.proofs.Owners.{corner_held}

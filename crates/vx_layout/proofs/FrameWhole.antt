@@ -13,15 +13,11 @@ use Rattle.vx_layout.specs.Layouts.{no_rect}
 use Rattle.vx_layout.specs.Rects.{CoversOnce, IsPart, Precedes, holds, in_order, slices_of}
 use Rattle.vx_layout.specs.Regions.{cut, region_of, whole}
 use Rattle.vx_layout.proofs.Counting.{count_by-cons}
-use Rattle.vx_layout.proofs.FrameBounds.{Contains-first, Contains-last, cut-own, same_numbers}
+use Rattle.vx_layout.proofs.FrameBounds.{Contains-first, Contains-last, cut-own}
 use Rattle.vx_layout.proofs.FrameSlices.{AllZip-at, AllZip-long, IsIn, frame-counted, frame-fit, frame-in, frame-in_order, frame-once, frame-order, slices_all}
-use Rattle.vx_layout.proofs.Holding.{fits_empty, fits_from, fits_tells, holds_from, holds_tells}
+use Rattle.vx_layout.proofs.Holding.{fits_empty, fits_from, fits_tells, holds_from, holds_tells, same_rect}
+use Rattle.vx_layout.proofs.Nested.{same_numbers}
 use Rattle.vx_layout.proofs.Splitting.{SplitsWell-from}
-
-same_rect : (a b : Rect) → a.x ≡ b.x → a.y ≡ b.y → a.w ≡ b.w → a.h ≡ b.h → a ≡ b
-same_rect a b x y w h =
-    let first : a ≡ record { x = b.x; y = b.y; w = a.w; h = a.h } = ap (λ t. record { x = t; y = a.y; w = a.w; h = a.h }) x ∙ ap (λ t. record { x = b.x; y = t; w = a.w; h = a.h }) y in
-    first ∙ (ap (λ t. record { x = b.x; y = b.y; w = t; h = a.h }) w ∙ ap (λ t. record { x = b.x; y = b.y; w = b.w; h = t }) h)
 
 -- the rectangle that a picture is
 abbrev picture : ℕ → ℕ → Rect

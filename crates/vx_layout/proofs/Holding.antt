@@ -1,5 +1,5 @@
--- What it is to lie in a rectangle, by its borders.
-use Rattle.std.proofs.Common.{◌≡◌, ℕ, zero, suc, ◌+◌, ◌<◌, ◌≤◌, true, false, ◌||◌, eqb, refl, inl, inr, arith, ◌⊎◌}
+-- Rectangles by their borders: which CTUs lie in them, which rectangles lie in others, and which are the same.
+use Rattle.std.proofs.Common.{◌≡◌, ℕ, zero, suc, ◌+◌, ◌<◌, ◌≤◌, true, false, ◌||◌, eqb, refl, ap, ◌∙◌, inl, inr, arith, ◌⊎◌}
 use Rattle.std.proofs.lemmas.Bool.{and_parts, and_from, leb-true, ltb-true, le-leb, lt-ltb, or_cases, or_left, or_right, eqb-true, eqb-false, eq-eqb, or_parts}
 use Rattle.vx_layout.specs.declared.rect.Rect.{Rect}
 use Rattle.vx_layout.specs.Rects.{holds, fits}
@@ -53,3 +53,9 @@ is_empty_fails w h e =
     let wide : w ≡ 0 → ⊥ = eqb-false w 0 both.0 in
     let high : h ≡ 0 → ⊥ = eqb-false h 0 both.1 in
     (above_zero w wide, above_zero h high)
+
+-- rectangles of the same corner and size are the same
+pub same_rect : (t u : Rect) → t.x ≡ u.x → t.y ≡ u.y → t.w ≡ u.w → t.h ≡ u.h → t ≡ u
+same_rect t u a b c d =
+    let made : ℕ → ℕ → ℕ → ℕ → Rect = λ x y w h. record { x = x; y = y; w = w; h = h } in
+    ap (λ n. made n t.y t.w t.h) a ∙ (ap (λ n. made u.x n t.w t.h) b ∙ (ap (λ n. made u.x u.y n t.h) c ∙ ap (λ n. made u.x u.y u.w n) d))

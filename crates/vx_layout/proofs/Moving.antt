@@ -3,7 +3,7 @@ use Rattle.std.proofs.Common.{◌≡◌, ℕ, suc, zero, ◌+◌, ◌-◌, ◌<�
 use Rattle.std.proofs.lemmas.Bool.{cases_Bool, both_ways, false_from_ne_true}
 use Rattle.std.proofs.lemmas.List.{append-nil, get_or-map, length-map}
 use Rattle.std.proofs.lemmas.List.Concat.{get_or-flat_map}
-use Rattle.std.proofs.lemmas.List.Elements.{All-head, All-tail, All-cons, All-nil}
+use Rattle.std.proofs.lemmas.List.Elements.{All-head, All-tail, All-cons, All-nil, Contains-append_right}
 use Rattle.std.proofs.lemmas.List.Folds.{length-flat_map-take}
 use Rattle.std.proofs.lemmas.List.Sums.{count_by-le-length}
 use Rattle.std.specs.List.{All, AllPairs, Contains}
@@ -17,7 +17,7 @@ use Rattle.vx_layout.specs.Regions.{counted_from, cut, inner, region_of, whole}
 use Rattle.vx_layout.proofs.Counting.{All-slices_of, count_by-cons, length-slices_of-le, slices_of-once}
 use Rattle.vx_layout.proofs.Cutting.{CutSoFar, CutSoFar-more, CutSoFar-start, cut-all, cut-may}
 use Rattle.vx_layout.proofs.Holding.{fits_empty, fits_from, fits_tells, holds_from, holds_tells}
-use Rattle.vx_layout.proofs.Splitting.{SplitsWell-from}
+use Rattle.vx_layout.proofs.Splitting.{Contains-cons, SplitsWell-from}
 use Rattle.vx_layout.proofs.Tiling.{last_after-push}
 
 -- cut bounds are bounds
@@ -38,19 +38,14 @@ Rises-cut bounds from size rises some =
 pub last-cut : (bounds : List ℕ) (from size : ℕ) → last (cut bounds from size) ≡ size
 last-cut bounds from size = last_after-push 0 (map (λ b. b - from) (inner bounds from size)) size
 
-end_of : (xs : List ℕ) (n : ℕ) → get_or (xs ++ n ∷ []) (length xs) n ≡ n
-end_of [] n = refl
-end_of (x ∷ xs) n = end_of xs n
+-- cut bounds begin at 0 and end at the size
+pub cut_first : (bounds : List ℕ) (from size : ℕ) → Contains (cut bounds from size) 0
+cut_first bounds from size = (0, omega arith, refl)
 
-Contains-shift : (x : ℕ) (xs : List ℕ) (n : ℕ) → Contains (0 ∷ (xs ++ n ∷ [])) n → Contains (0 ∷ (x ∷ (xs ++ n ∷ []))) n
-Contains-shift x xs n (zero, short, is) = (suc (suc (length xs)), omega (arith, length-append xs (n ∷ [])), end_of xs n)
-Contains-shift x xs n (suc k, short, is) = (suc (suc k), omega arith, is)
-
-Contains-end : (xs : List ℕ) (n : ℕ) → Contains (0 ∷ (xs ++ n ∷ [])) n
-Contains-end [] n = (1, omega arith, refl)
-Contains-end (x ∷ xs) n =
-    let rest = Contains-end xs n in
-    Contains-shift x xs n rest
+pub cut_last : (bounds : List ℕ) (from size : ℕ) → Contains (cut bounds from size) size
+cut_last bounds from size =
+    let between : List ℕ = map (λ b. b - from) (inner bounds from size) in
+    Contains-cons 0 (between ++ size ∷ []) size (Contains-append_right between (size ∷ []) size (0, omega arith, refl))
 
 -- a slice that lies in s, counted from its corner, holds the CTUs moved likewise
 pub holds-counted : (s r : Rect) (x y : ℕ) → fits r s ≡ true → holds (counted_from s r) x y ≡ holds r (x + s.x) (y + s.y)
@@ -138,8 +133,8 @@ IsLayout-region n k sound short =
       tiles = All-cons (SplitsWell (region_of n k).columns (region_of n k).rows) (whole s) []
           (SplitsWell-from (region_of n k).columns (region_of n k).rows (whole s) (record {
             left = (0, omega arith, refl);
-            right = subst (λ m. Contains (region_of n k).columns m) (sym (zero-add s.w)) (Contains-end (map (λ b. b - s.x) (inner n.columns s.x s.w)) s.w);
-            ends = inl ((0, omega arith, refl), subst (λ m. Contains (region_of n k).rows m) (sym (zero-add s.h)) (Contains-end (map (λ b. b - s.y) (inner n.rows s.y s.h)) s.h));
+            right = subst (λ m. Contains (region_of n k).columns m) (sym (zero-add s.w)) (cut_last n.columns s.x s.w);
+            ends = inl ((0, omega arith, refl), subst (λ m. Contains (region_of n k).rows m) (sym (zero-add s.h)) (cut_last n.rows s.y s.h));
           }))
           (All-nil (SplitsWell (region_of n k).columns (region_of n k).rows));
       slices = λ x y v u.

@@ -1,15 +1,14 @@
--- A region of a region.
-use Rattle.std.proofs.Common.{◌≡◌, ℕ, ◌+◌, ◌-◌, ◌<◌, ◌≤◌, Bool, true, false, ◌&&◌, ltb, List, [], ◌∷◌, ◌++◌, filter, map, refl, ap, ◌∙◌, inl, inr, arith}
+-- A region of a region: bounds that are cut twice, and numbers that are the same.
+use Rattle.std.proofs.Common.{◌≡◌, ℕ, ◌+◌, ◌-◌, ◌<◌, ◌≤◌, Bool, true, false, ◌&&◌, ltb, List, [], ◌∷◌, ◌++◌, get_or, filter, map, refl, ap, ◌∙◌, inl, inr, arith}
 use Rattle.std.proofs.lemmas.Bool.{and_from, and_parts, both_ways, cases_Bool, false_from_ne_true, lt-ltb, ltb-true}
 use Rattle.std.proofs.lemmas.List.{append-nil}
 use Rattle.std.proofs.lemmas.List.Elements.{filter-append}
+use Rattle.std.proofs.lemmas.List.Folds.{map_fixed}
 use Rattle.vx_layout.specs.declared.numbers.Numbers.{Numbers}
 use Rattle.vx_layout.specs.declared.rect.Rect.{Rect}
 use Rattle.vx_layout.specs.Layouts.{slices_in, subpic_at}
-use Rattle.vx_layout.specs.Rects.{fits}
 use Rattle.vx_layout.specs.Regions.{counted_from, cut, inner, region_of, whole}
-use Rattle.vx_layout.proofs.Counting.{All-slices_of}
-use Rattle.vx_layout.proofs.Moving.{filter_all}
+use Rattle.vx_layout.proofs.Moving.{all_fit, filter_all}
 
 -- the bounds within the inner columns, counted from their first one: by way of the outer columns or not
 inner_nested : (bounds : List ℕ) (from size inner_from inner_size : ℕ) → inner_from + inner_size ≤ size →
@@ -58,31 +57,32 @@ cut_nested bounds f s g t low =
     let between : inner (cut bounds f s) g t ≡ inner (map (λ b. b - f) (inner bounds f s)) g t = rw first (inner-end (map (λ b. b - f) (inner bounds f s)) s g t low) in
     ap (λ l. 0 ∷ (map (λ b. b - g) l ++ t ∷ [])) between ∙ ap (λ l. 0 ∷ (l ++ t ∷ [])) (inner_nested bounds f s g t low)
 
+-- numbers are the same where their parts are
+pub same_numbers : (a b : Numbers) → a.columns ≡ b.columns → a.rows ≡ b.rows → a.slices ≡ b.slices → a.subpics ≡ b.subpics → a ≡ b
+same_numbers a b columns rows slices subpics =
+    let first : a ≡ record { columns = b.columns; rows = b.rows; slices = a.slices; subpics = a.subpics } =
+    ap (λ t. record { columns = t; rows = a.rows; slices = a.slices; subpics = a.subpics }) columns
+    ∙ ap (λ t. record { columns = b.columns; rows = t; slices = a.slices; subpics = a.subpics }) rows
+    in
+    first ∙ (ap (λ t. record { columns = b.columns; rows = b.rows; slices = t; subpics = a.subpics }) slices ∙ ap (λ t. record { columns = b.columns; rows = b.rows; slices = b.slices; subpics = t }) subpics)
+
 -- a rectangle counted from 0, 0
 counted-whole : (s r : Rect) → counted_from (whole s) r ≡ r
 counted-whole s r =
-    let made : ℕ → ℕ → Rect = λ x y. record { x = x; y = y; w = r.w; h = r.h } in
     let across : r.x - 0 ≡ r.x = omega arith in
     let down : r.y - 0 ≡ r.y = omega arith in
-    ap (λ n. made n (r.y - 0)) across ∙ ap (λ n. made r.x n) down
-
-map-counted-whole : (s : Rect) (rects : List Rect) → map (counted_from (whole s)) rects ≡ rects
-map-counted-whole s [] = refl
-map-counted-whole s (r ∷ rs) =
-    ap (λ t. t ∷ map (counted_from (whole s)) rs) (counted-whole s r) ∙ ap (λ l. r ∷ l) (map-counted-whole s rs)
+    rw (across, down) refl
 
 -- the region of a region's only subpicture is the region
 pub region_of-region : (n : Numbers) (k : ℕ) → region_of (region_of n k) 0 ≡ region_of n k
 region_of-region n k =
     let s : Rect = subpic_at n k in
-    let made : List ℕ → List ℕ → List Rect → Numbers = λ c r l. record { columns = c; rows = r; slices = l; subpics = whole s ∷ [] } in
+    let own : List Rect = map (counted_from s) (slices_in n k) in
     let left : s.x + 0 ≡ s.x = omega arith in
     let top : s.y + 0 ≡ s.y = omega arith in
     let columns : cut (cut n.columns s.x s.w) 0 s.w ≡ cut n.columns s.x s.w = cut_nested n.columns s.x s.w 0 s.w (omega arith) ∙ ap (λ a. cut n.columns a s.w) left in
     let rows : cut (cut n.rows s.y s.h) 0 s.h ≡ cut n.rows s.y s.h = cut_nested n.rows s.y s.h 0 s.h (omega arith) ∙ ap (λ a. cut n.rows a s.h) top in
-    let slices : map (counted_from (whole s)) (slices_in (region_of n k) 0) ≡ map (counted_from s) (slices_in n k) =
-    map-counted-whole s (slices_in (region_of n k) 0) ∙ filter_all s (slices_in n k) (All-slices_of n.slices s (λ r. fits r s ≡ true) (λ r on. on))
+    let slices : map (counted_from (whole s)) (slices_in (region_of n k) 0) ≡ own =
+    ap (λ t. map (counted_from (whole s)) t) (filter_all s (slices_in n k) (all_fit n k)) ∙ map_fixed (counted_from (whole s)) own (λ i d low. counted-whole s (get_or own i d))
     in
-    ap (λ c. made c (cut (cut n.rows s.y s.h) 0 s.h) (map (counted_from (whole s)) (slices_in (region_of n k) 0))) columns
-    ∙ (ap (λ r. made (cut n.columns s.x s.w) r (map (counted_from (whole s)) (slices_in (region_of n k) 0))) rows
-    ∙ ap (λ l. made (cut n.columns s.x s.w) (cut n.rows s.y s.h) l) slices)
+    same_numbers (region_of (region_of n k) 0) (region_of n k) columns rows slices refl

@@ -9,17 +9,16 @@ use Rattle.vx_layout.specs.declared.numbers.Numbers.{Numbers}
 use Rattle.vx_layout.specs.declared.rect.Rect.{Rect}
 use Rattle.vx_layout.specs.Borders.{SplitsAtLines}
 use Rattle.vx_layout.specs.Faults.{IsSpan, IsTile, NoneBetween, SplitsWell, height, width}
-use Rattle.vx_layout.specs.Frames.{moved_to}
 use Rattle.vx_layout.specs.Layouts.{IsSound, no_rect, slices_in, subpic_at}
 use Rattle.vx_layout.specs.Rects.{IsPart, fits}
-use Rattle.vx_layout.specs.Regions.{counted_from, cut, region_of, whole}
+use Rattle.vx_layout.specs.Regions.{counted_from, cut, moved_to, region_of, whole}
 use Rattle.vx_layout.specs.Shapes.{AreListable, AreTilesOrRows, HasCtu, StandTogether}
-use Rattle.vx_layout.proofs.FrameBounds.{cut_first, cut_inner, cut_last, cut_tells}
+use Rattle.vx_layout.proofs.FrameBounds.{cut_inner, cut_tells}
 use Rattle.vx_layout.proofs.FrameShapes.{Leads, Within, tile_from, together_cons}
 use Rattle.vx_layout.proofs.Holding.{fits_empty, fits_from, fits_tells}
 use Rattle.vx_layout.proofs.Counting.{holds-fits}
 use Rattle.vx_layout.proofs.Members.{LiesIn-fits}
-use Rattle.vx_layout.proofs.Moving.{all_fit}
+use Rattle.vx_layout.proofs.Moving.{all_fit, cut_first, cut_last}
 use Rattle.vx_layout.proofs.Owners.{corner_held}
 use Rattle.vx_layout.proofs.Splitting.{SplitsAtLines-from}
 

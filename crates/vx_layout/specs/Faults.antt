@@ -1,5 +1,6 @@
--- When tiles, slices and subpictures make up a picture, and which fault they have where they don't (H.266 6.3.1, 6.5.1, 7.4.3.4).
-use Rattle.std.specs.Prelude.{◌≡◌, ℕ, ◌+◌, ◌<◌, ◌≤◌, ◌⊎◌, ⊤, true, List, All, Any, Contains, length}
+-- When tiles, slices and subpictures make up a picture, and which fault they have where they don't (H.266 6.3.1, 7.4.3.4;
+-- the order of slices 7.4.8, sh_slice_address).
+use Rattle.std.specs.Prelude.{◌≡◌, ℕ, ◌+◌, ◌<◌, ◌≤◌, ◌⊎◌, true, List, All, Any, Contains, length}
 use Rattle.std.specs.List.{AllPairs}
 use Rattle.vx_layout.specs.declared.numbers.Numbers.{Numbers}
 use Rattle.vx_layout.specs.declared.numbers.LayoutError.{LayoutError}
@@ -8,6 +9,22 @@ use Rattle.vx_layout.specs.declared.rect.Rect.{Rect}
 use Rattle.vx_layout.specs.Bounds.{last}
 use Rattle.vx_layout.specs.Rects.{CoversOnce, IsPart, Precedes, fits, holds, in_order}
 
+-- the numbers of the faults
+abbrev pub subpics_fault : ℕ
+subpics_fault = 3
+
+abbrev pub tile_split_fault : ℕ
+tile_split_fault = 4
+
+abbrev pub slice_cover_fault : ℕ
+slice_cover_fault = 5
+
+abbrev pub slice_split_fault : ℕ
+slice_split_fault = 6
+
+abbrev pub order_fault : ℕ
+order_fault = 7
+
 -- the picture's size in CTUs
 abbrev pub width : Numbers → ℕ
 width n = last n.columns
@@ -15,7 +32,7 @@ width n = last n.columns
 abbrev pub height : Numbers → ℕ
 height n = last n.rows
 
--- no fault 3: each subpicture is a part of the picture, and each CTU lies in exactly one
+-- no subpics_fault: each subpicture is a part of the picture, and each CTU lies in exactly one
 pub record SubpicsCover (n : Numbers) : Type 0 where
   pub parts : All (IsPart (width n) (height n)) n.subpics
   pub once : CoversOnce n.subpics (width n) (height n)
@@ -56,19 +73,19 @@ TileAgrees t s = Meet t s → LiesIn t s ⊎ (LiesIn s t × SameSides s t)
 abbrev pub SplitsWell : List ℕ → List ℕ → Rect → Type 0
 SplitsWell columns rows s = (t : Rect) → IsTile columns rows t → TileAgrees t s
 
--- no fault 4
+-- no tile_split_fault: each subpicture splits the tiles well
 abbrev pub TilesSplit : Numbers → Type 0
 TilesSplit n = All (SplitsWell n.columns n.rows) n.subpics
 
--- no fault 5: each CTU lies in exactly one slice
+-- no slice_cover_fault: each CTU lies in exactly one slice
 abbrev pub SlicesCover : Numbers → Type 0
 SlicesCover n = CoversOnce n.slices (width n) (height n)
 
--- no fault 6: each slice lies in one subpicture
+-- no slice_split_fault: each slice lies in one subpicture
 abbrev pub SlicesFit : Numbers → Type 0
 SlicesFit n = All (λ r. Any (λ s. fits r s ≡ true) n.subpics) n.slices
 
--- no fault 7: no CTU has its left or upper neighbour in a later slice
+-- no order_fault: no CTU has its left or upper neighbour in a later slice
 abbrev pub SlicesInOrder : Numbers → Type 0
 SlicesInOrder n = AllPairs Precedes (in_order n.slices n.subpics)
 
@@ -82,21 +99,21 @@ pub record IsLayout (n : Numbers) : Type 0 where
 
 -- k is the lowest fault
 pub record IsLowestFault (n : Numbers) (k : ℕ) : Type 0 where
-  pub from : 3 ≤ k
-  pub upto : k ≤ 7
-  pub third : k ≡ 3 → SubpicsCover n → ⊥
-  pub no_third : 3 < k → SubpicsCover n
-  pub fourth : k ≡ 4 → TilesSplit n → ⊥
-  pub no_fourth : 4 < k → TilesSplit n
-  pub fifth : k ≡ 5 → SlicesCover n → ⊥
-  pub no_fifth : 5 < k → SlicesCover n
-  pub sixth : k ≡ 6 → SlicesFit n → ⊥
-  pub no_sixth : 6 < k → SlicesFit n
-  pub seventh : k ≡ 7 → SlicesInOrder n → ⊥
+  pub from : subpics_fault ≤ k
+  pub upto : k ≤ order_fault
+  pub third : k ≡ subpics_fault → ¬ SubpicsCover n
+  pub no_third : subpics_fault < k → SubpicsCover n
+  pub fourth : k ≡ tile_split_fault → ¬ TilesSplit n
+  pub no_fourth : tile_split_fault < k → TilesSplit n
+  pub fifth : k ≡ slice_cover_fault → ¬ SlicesCover n
+  pub no_fifth : slice_cover_fault < k → SlicesCover n
+  pub sixth : k ≡ slice_split_fault → ¬ SlicesFit n
+  pub no_sixth : slice_split_fault < k → SlicesFit n
+  pub seventh : k ≡ order_fault → ¬ SlicesInOrder n
 
 -- P holds of the number of a fault
 abbrev pub IfFault : LayoutError → (ℕ → Type 0) → Type 0
-IfFault Memory P = ⊤
+IfFault Memory P = Unit {0}
 IfFault (Fault k) P = P k
 
 -- numbers within the limits of a picture

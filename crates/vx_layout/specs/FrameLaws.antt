@@ -7,9 +7,9 @@ use Rattle.vx_layout.specs.declared.rect.Rect.{Rect}
 use Rattle.vx_layout.specs.Borders.{Begins, Ends, SameInside, SplitsAtLines}
 use Rattle.vx_layout.specs.Bounds.{Rises, last}
 use Rattle.vx_layout.specs.Faults.{IsLayout, SplitsWell, SubpicsCover}
-use Rattle.vx_layout.specs.Frames.{Fills, Stands, frame_of, frame_slices, moved_to, with_one_subpic}
+use Rattle.vx_layout.specs.Frames.{Fills, Stands, frame_of, frame_slices, with_one_subpic}
 use Rattle.vx_layout.specs.Rects.{CoversOnce, IsPart, Precedes, fits, in_order, slices_of}
-use Rattle.vx_layout.specs.Regions.{counted_from, cut, region_of}
+use Rattle.vx_layout.specs.Regions.{counted_from, cut, moved_to, region_of}
 use Rattle.vx_layout.specs.Shapes.{AreListable}
 
 -- counting from a corner that is not further right nor further down, and then moving back, changes nothing

@@ -1,5 +1,6 @@
--- A frame put together of several pictures: each stands in a region, a rectangle of the frame, and its slices move to that corner.
-use Rattle.std.specs.Prelude.{◌≡◌, ℕ, ◌+◌, List, [], ◌∷◌, All, length, map}
+-- A frame that is put together of pictures: each stands in a region, a rectangle of the frame, and its slices are moved
+-- to the region's corner. The regions are the frame's subpictures.
+use Rattle.std.specs.Prelude.{◌≡◌, ℕ, List, [], ◌∷◌, All, length, map}
 use Rattle.std.specs.List.{flat_map, zip}
 use Rattle.vx_layout.specs.declared.numbers.Numbers.{Numbers}
 use Rattle.vx_layout.specs.declared.rect.Rect.{Rect}
@@ -7,11 +8,8 @@ use Rattle.vx_layout.specs.Borders.{HasLines}
 use Rattle.vx_layout.specs.Faults.{height, width}
 use Rattle.vx_layout.specs.Layouts.{IsSound}
 use Rattle.vx_layout.specs.Rects.{CoversOnce, IsPart}
+use Rattle.vx_layout.specs.Regions.{moved_to}
 use Rattle.vx_layout.specs.Shapes.{HasCtu}
-
--- a rectangle moved to a corner
-abbrev pub moved_to : Rect → Rect → Rect
-moved_to corner r = record { x = r.x + corner.x; y = r.y + corner.y; w = r.w; h = r.h }
 
 -- the slices of a frame: those of the picture in each region, moved to its corner, in the order of the regions
 abbrev pub frame_slices : List Rect → List (List Rect) → List Rect
@@ -22,7 +20,8 @@ pub record Fills (region : Rect) (slices : List Rect) : Type 0 where
   pub parts : All (IsPart region.w region.h) slices
   pub once : CoversOnce slices region.w region.h
 
--- a picture of one subpicture, of the region's size, each of whose slices holds a CTU, and whose tile bounds are the frame's there
+-- a picture that can stand in a region of a frame of these tile bounds: it has one subpicture and the region's size,
+-- each of its slices holds a CTU, and the frame's tile bounds there are its own
 pub record Stands (columns rows : List ℕ) (region : Rect) (picture : Numbers) : Type 0 where
   pub sound : IsSound picture
   pub lone : length picture.subpics ≡ 1
@@ -32,7 +31,7 @@ pub record Stands (columns rows : List ℕ) (region : Rect) (picture : Numbers) 
   pub across : HasLines columns region.x picture.columns
   pub down : HasLines rows region.y picture.rows
 
--- a frame of these tile bounds, with the pictures in its regions, which are its subpictures
+-- the frame of these tile bounds with these pictures in its regions
 abbrev pub frame_of : List ℕ → List ℕ → List Rect → List Numbers → Numbers
 frame_of columns rows regions pictures = record {
   columns = columns;
@@ -41,7 +40,7 @@ frame_of columns rows regions pictures = record {
   subpics = regions;
 }
 
--- the same picture as one subpicture
+-- a picture, as one subpicture that is all of it
 abbrev pub with_one_subpic : Numbers → Numbers
 with_one_subpic n = record {
   columns = n.columns;

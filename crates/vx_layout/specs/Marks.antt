@@ -21,7 +21,7 @@ pub record PaintsRect (before after : Grid) (r : Rect) (mark : ℕ) : Type 0 whe
   pub same_width : after.width ≡ before.width
   pub same_height : after.height ≡ before.height
   pub inside : (x y : ℕ) → x < before.width → y < before.height → holds r x y ≡ true → (mark_at before x y ≡ 0) × (mark_at after x y ≡ mark)
-  pub outside : (x y : ℕ) → x < before.width → y < before.height → (holds r x y ≡ true → ⊥) → mark_at after x y ≡ mark_at before x y
+  pub outside : (x y : ℕ) → x < before.width → y < before.height → ¬ (holds r x y ≡ true) → mark_at after x y ≡ mark_at before x y
 
 -- a CTU of these columns and rows bears a mark
 pub record IsTaken (g : Grid) (left right top bottom : ℕ) : Type 0 where

@@ -28,7 +28,7 @@ in_order slices subpics = flat_map (slices_of slices) subpics
 -- no CTU of r has its left or its upper neighbour in s
 abbrev pub Precedes : Rect → Rect → Type 0
 Precedes r s =
-    (x y : ℕ) → holds s x y ≡ true → (holds r (x + 1) y ≡ true → ⊥) × (holds r x (y + 1) ≡ true → ⊥)
+    (x y : ℕ) → holds s x y ≡ true → (¬ (holds r (x + 1) y ≡ true)) × (¬ (holds r x (y + 1) ≡ true))
 
 -- the rectangle holds a CTU and lies in a picture of w times h CTUs
 pub record IsPart (w h : ℕ) (r : Rect) : Type 0 where

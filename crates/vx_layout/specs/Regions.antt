@@ -1,4 +1,4 @@
--- A subpicture as a layout of its own, counted from its corner.
+-- Rectangles counted from a corner and moved to it, and a subpicture as a layout of its own.
 use Rattle.std.specs.Prelude.{ℕ, ◌+◌, ◌-◌, ◌&&◌, nat_lt, List, [], ◌∷◌, ◌++◌, filter, map}
 use Rattle.vx_layout.specs.declared.numbers.Numbers.{Numbers}
 use Rattle.vx_layout.specs.declared.rect.Rect.{Rect}
@@ -16,6 +16,10 @@ cut bounds from size = 0 ∷ (map (λ b. b - from) (inner bounds from size) ++ s
 abbrev pub counted_from : Rect → Rect → Rect
 counted_from corner r = record { x = r.x - corner.x; y = r.y - corner.y; w = r.w; h = r.h }
 
+-- and one that was counted from a corner, moved back to it
+abbrev pub moved_to : Rect → Rect → Rect
+moved_to corner r = record { x = r.x + corner.x; y = r.y + corner.y; w = r.w; h = r.h }
+
 -- a subpicture as a picture
 abbrev pub whole : Rect → Rect
 whole s = record { x = 0; y = 0; w = s.w; h = s.h }
@@ -29,6 +33,6 @@ region_of n k = record {
   subpics = whole (subpic_at n k) ∷ [];
 }
 
--- a CTU that was counted from the corner at a, b
+-- a CTU that was counted from the corner at a, b, moved back to it
 abbrev pub moved : ℕ → ℕ → ℕ × ℕ → ℕ × ℕ
 moved a b c = (c.0 + a, c.1 + b)

@@ -17,11 +17,11 @@ runs (a ∷ bs) = runs_after a bs
 abbrev pub raster : List ℕ → List ℕ → List (ℕ × ℕ)
 raster xs ys = flat_map (λ y. map (λ x. (x, y)) xs) ys
 
--- all CTUs of the picture, by tile row, tile column, y and x (the order of CtbAddrRsToTs)
+-- all CTUs of the picture, by tile row, tile column, y and x (the tile scan; a slice's part of it is CtbAddrInSlice, 6.5.1)
 abbrev pub tile_scan : List ℕ → List ℕ → List (ℕ × ℕ)
 tile_scan columns rows = flat_map (λ ys. flat_map (λ xs. raster xs ys) (runs columns)) (runs rows)
 
--- the CTUs of a slice's rectangle in this order (CtbAddrInSlice)
+-- the CTUs of a slice's rectangle in this order
 abbrev pub ctus : List ℕ → List ℕ → Rect → List (ℕ × ℕ)
 ctus columns rows r = filter (λ c. holds r c.0 c.1) (tile_scan columns rows)
 

@@ -1,4 +1,4 @@
--- What a slice is made of: whole tiles, or whole rows of one tile (H.266 6.3.1).
+-- Slices that a slice list can name tile by tile: whole tiles, or whole rows of one tile (H.266 6.3.1, 7.4.3.5).
 use Rattle.std.specs.Prelude.{◌≡◌, ℕ, ◌+◌, ◌<◌, ◌⊎◌, true, List, All, Contains, length}
 use Rattle.std.specs.List.{slice_index_or}
 use Rattle.vx_layout.specs.declared.rect.Rect.{Rect}
@@ -16,21 +16,22 @@ pub record AreTiles (columns rows : List ℕ) (r : Rect) : Type 0 where
   pub top : Contains rows r.y
   pub bottom : Contains rows (r.y + r.h)
 
--- whole rows of the tile t
+-- whole CTU rows of the tile t
 pub record AreRowsOf (columns rows : List ℕ) (r t : Rect) : Type 0 where
   pub tile : IsTile columns rows t
   pub sides : SameSides r t
   pub inside : fits r t ≡ true
 
+-- either
 abbrev pub AreTilesOrRows : List ℕ → List ℕ → Rect → Type 0
 AreTilesOrRows columns rows r = AreTiles columns rows r ⊎ ((t : Rect) × AreRowsOf columns rows r t)
 
--- of the rectangles those that lie in t stand next to one another
+-- the rectangles that lie in t stand next to one another in the list
 abbrev pub StandTogether : List Rect → Rect → Type 0
 StandTogether rects t =
     (i j k : ℕ) (d : Rect) → i < j → j < k → k < length rects → fits (slice_index_or rects i d) t ≡ true → fits (slice_index_or rects k d) t ≡ true → fits (slice_index_or rects j d) t ≡ true
 
--- slices that hold CTUs and can be listed tile by tile
+-- slices that hold CTUs, are of one of these shapes, and are listed tile by tile
 pub record AreListable (columns rows : List ℕ) (slices : List Rect) : Type 0 where
   pub some : All HasCtu slices
   pub shapes : All (AreTilesOrRows columns rows) slices

@@ -108,7 +108,7 @@ impl From<AllocError> for TileError {
 ///
 /// # Errors
 ///
-/// `Overflow(i)` exactly where the explicit sizes pass the total first at index `i`.
+/// `Overflow(i)` exactly where the explicit sizes pass the total first at index `i`, or `Memory` where memory runs out.
 pub fn tile_bounds(alloc: Global, explicit: &[u32], total: u32) -> Result<Bounds, TileError>
     requires some { 0 < length explicit.now }
     requires sizes { All (λ size. 1 ≤ size) explicit.now }

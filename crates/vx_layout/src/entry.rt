@@ -7,8 +7,10 @@ ghost use Rattle.vx_layout.specs.Scan.{entries};
 use crate::bounds::Bounds;
 use crate::rect::Rect;
 
-/// The number of entry points of a slice that lies in the picture (H.266 7.4.8, NumEntryPoints), with `sync` as
-/// sps_entropy_coding_sync_enabled_flag: one less than its tiles, or with sync than the rows of its parts of tiles.
+/// The number of entry points of a slice that lies in the picture (H.266 7.4.8, NumEntryPoints).
+///
+/// It is one less than the tiles that the rectangle meets; with `sync` (sps_entropy_coding_sync_enabled_flag), one less
+/// than the CTU rows of all its parts of tiles. A slice without a CTU has none.
 pub fn count_entries(columns: &Bounds, rows: &Bounds, slice: Rect, sync: bool) -> u32
     requires rises { Rises columns.now × Rises rows.now }
     requires across { 0 < slice.w → 0 < slice.h → slice.x + slice.w ≤ last columns.now }

@@ -1,8 +1,7 @@
 //! Laws on a frame that is put together of several pictures: functions that do nothing, each with laws as its contract.
 ghost use Rattle.std.specs.Prelude.{◌≡◌};
 ghost use Rattle.vx_layout.specs.FrameLaws.{CutBoundsAreOwn, FillsByIndex, FirstBegins, FrameAloneIsLayout, FrameHasPictures, FrameIsLayout, FrameIsListable, FrameSlicesAreInOrder, FrameSlicesCoverOnce, FrameSlicesFit, FrameSlicesGrow, FrameSlicesStandInOrder, LastEnds, MovingUndoesCounting, SlicesOfRegion, SlicesOfRegionCounted, SplitByBorders, StandsByIndex};
-ghost use Rattle.vx_layout.specs.Frames.{moved_to};
-ghost use Rattle.vx_layout.specs.Regions.{counted_from};
+ghost use Rattle.vx_layout.specs.Regions.{counted_from, moved_to};
 ghost use Rattle.vx_layout.specs.declared.rect.Rect.{Rect};
 
 /// A rectangle that is moved to a corner is what it was, counted from there, and one that is counted from a corner is

@@ -134,7 +134,7 @@ impl Grid {
     fn rises_at(&self, x: usize, y: usize) -> bool
         requires { (x < self.now.width) × (y < self.now.height) }
         ensures rises { OnTrue result (RisesAt self.now x y) }
-        ensures falls { OnFalse result (RisesAt self.now x y → ⊥) }
+        ensures falls { OnFalse result (¬ RisesAt self.now x y) }
     {
         let mark = self.at(x, y);
         if x > 0 && self.at(x - 1, y) > mark {
@@ -150,7 +150,7 @@ impl Grid {
     fn row_rises(&self, y: usize) -> bool
         requires { y < self.now.height }
         ensures rises { OnTrue result ((x : ℕ) → x < self.now.width → RisesAt self.now x y) }
-        ensures falls { OnFalse result (((x : ℕ) → x < self.now.width → RisesAt self.now x y) → ⊥) }
+        ensures falls { OnFalse result (¬ ((x : ℕ) → x < self.now.width → RisesAt self.now x y)) }
     {
         for x in 0..self.width {
             if !self.rises_at(x, y) {
@@ -163,7 +163,7 @@ impl Grid {
     /// Whether no CTU has a left or upper neighbour with a higher mark.
     pub fn is_rising(&self) -> bool
         ensures rises { OnTrue result (IsRising self.now) }
-        ensures falls { OnFalse result (IsRising self.now → ⊥) }
+        ensures falls { OnFalse result (¬ IsRising self.now) }
     {
         for y in 0..self.height {
             if !self.row_rises(y) {

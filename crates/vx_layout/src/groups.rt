@@ -1,18 +1,18 @@
 //! The slices of each subpicture, gathered in one go over the slice list.
 ghost use Rattle.std.specs.Prelude.{◌≡◌, ℕ, ◌<◌, ◌≤◌, true, List, [], ◌∷◌, ◌++◌, All, Any, length, vec_len, OnOk, IfOk, IfErr, MatchOption};
 ghost use Rattle.std.specs.List.{flat_map, slice_index_or};
-ghost use Rattle.vx_layout.specs.Faults.{IfFault, SlicesFit, SubpicsCover, height, width};
+ghost use Rattle.vx_layout.specs.Faults.{IfFault, SlicesFit, SubpicsCover, height, slice_split_fault, width};
 ghost use Rattle.vx_layout.specs.Groups.{Adds, AreGroups, IsOwner};
 ghost use Rattle.vx_layout.specs.Marks.{IsMapOf};
 ghost use Rattle.vx_layout.specs.Rects.{IsPart, fits};
 ghost use Rattle.vx_layout.specs.declared.rect.Rect.{Rect};
 
 use crate::grid::Grid;
-use crate::numbers::{LayoutError, Numbers};
+use crate::numbers::{LayoutError, Numbers, SLICE_SPLIT_FAULT};
 use crate::rect::{Rect, RectList};
 use std::alloc::{AllocError, Global};
 
-/// The slices of each subpicture, in the order of the slice list, or fault 6: a slice that lies in no subpicture.
+/// The slices of each subpicture, in the order of the slice list, or SLICE_SPLIT_FAULT: a slice that lies in no subpicture.
 ///
 /// `owners` tells the place of the subpicture of each CTU.
 pub fn group_slices(
@@ -25,7 +25,7 @@ pub fn group_slices(
     requires some { 1 ≤ length numbers.now.subpics }
     ensures groups { IfOk result (λ groups. AreGroups groups.items numbers.now.slices numbers.now.subpics) }
     ensures split { OnOk result (SlicesFit numbers.now) }
-    ensures fault { IfErr result (λ e. IfFault e (λ k. (k ≡ 6) × (SlicesFit numbers.now → ⊥))) }
+    ensures fault { IfErr result (λ e. IfFault e (λ k. (k ≡ slice_split_fault) × (¬ SlicesFit numbers.now))) }
 {
     let mut groups = empty_groups(alloc, numbers.subpics.len())?;
     for k in 0..numbers.slices.len() {
@@ -64,14 +64,14 @@ fn add(
     requires groups { length groups.old.items ≡ length subpics.now }
     ensures adds { OnOk result (Adds groups.old.items groups.new.items slice subpics.now) }
     ensures fits { OnOk result (Any (λ s. fits slice s ≡ true) subpics.now) }
-    ensures fault { IfErr result (λ e. IfFault e (λ k. (k ≡ 6) × (Any (λ s. fits slice s ≡ true) subpics.now → ⊥))) }
+    ensures fault { IfErr result (λ e. IfFault e (λ k. (k ≡ slice_split_fault) × (¬ Any (λ s. fits slice s ≡ true) subpics.now))) }
 {
     if slice.is_empty() {
         add_to_all(groups, slice)?;
         return Ok(());
     }
     let Some(owner) = owner_of(slice, subpics, owners) else {
-        return Err(LayoutError::Fault(6));
+        return Err(LayoutError::Fault(SLICE_SPLIT_FAULT));
     };
     groups[owner].push(slice)?;
     Ok(())
@@ -93,7 +93,7 @@ fn owner_of(slice: Rect, subpics: &RectList, owners: &Grid) -> Option<usize>
     requires some { (0 < slice.w) × (0 < slice.h) }
     requires owners { IsMapOf owners.now subpics.now owners.now.width owners.now.height }
     requires parts { All (IsPart owners.now.width owners.now.height) subpics.now }
-    ensures { MatchOption result (Any (λ s. fits slice s ≡ true) subpics.now → ⊥) (IsOwner subpics.now slice) }
+    ensures { MatchOption result (¬ Any (λ s. fits slice s ≡ true) subpics.now) (IsOwner subpics.now slice) }
 {
     let (x, y) = (slice.x as usize, slice.y as usize);
     if !owners.has(x, y) {
@@ -108,8 +108,8 @@ fn owner_of(slice: Rect, subpics: &RectList, owners: &Grid) -> Option<usize>
 }
 
 /// The groups one after another.
-pub fn flatten(alloc: Global, groups: &Vec<RectList>) -> Result<RectList, AllocError>
-    ensures { IfOk result (λ all. all ≡ flat_map (λ group. group) groups.now.items) }
+pub fn flatten(alloc: Global, groups: &[RectList]) -> Result<RectList, AllocError>
+    ensures { IfOk result (λ all. all ≡ flat_map (λ group. group) groups.now) }
 {
     let mut all = RectList::new(alloc);
     for i in 0..groups.len() {

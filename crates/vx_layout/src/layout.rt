@@ -46,7 +46,7 @@ impl Layout {
     ///
     /// # Errors
     ///
-    /// The lowest fault, exactly where there is one.
+    /// The lowest fault, exactly where there is one, or `Memory` where memory runs out.
     pub fn new(alloc: Global, numbers: Numbers) -> Result<Layout, LayoutError>
         requires { IsInLimits numbers }
         ensures numbers { IfOk result (λ layout. layout ≡ numbers) }
@@ -123,7 +123,7 @@ impl Layout {
 ///
 /// # Errors
 ///
-/// The lowest fault, exactly where there is one.
+/// The lowest fault, exactly where there is one, or `Memory` where memory runs out.
 fn checked_groups(alloc: Global, numbers: &Numbers) -> Result<Vec<RectList>, LayoutError>
     requires { IsInLimits numbers.now }
     ensures groups { IfOk result (λ groups. AreGroups groups.items numbers.now.slices numbers.now.subpics) }
@@ -134,6 +134,6 @@ fn checked_groups(alloc: Global, numbers: &Numbers) -> Result<Vec<RectList>, Lay
     check_tiles(alloc, numbers)?;
     check_slices(alloc, numbers)?;
     let groups = group_slices(alloc, numbers, &owners)?;
-    check_order(alloc, numbers, &groups)?;
+    check_order(alloc, numbers, groups.as_slice())?;
     Ok(groups)
 }

@@ -30,7 +30,10 @@ pub use laws::{
     slices_run_right_and_down,
 };
 pub use layout::Layout;
-pub use numbers::{LayoutError, Numbers};
+pub use numbers::{
+    LayoutError, Numbers, ORDER_FAULT, SLICE_COVER_FAULT, SLICE_SPLIT_FAULT, SUBPICS_FAULT,
+    TILE_SPLIT_FAULT,
+};
 pub use plain::first_fault;
 pub use rect::{Rect, RectList};
 

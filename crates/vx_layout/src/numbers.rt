@@ -18,14 +18,24 @@ pub struct Numbers {
     pub subpics: RectList,
 }
 
+/// A CTU lies in no subpicture or in two, or a subpicture leaves the picture or holds no CTU.
+pub const SUBPICS_FAULT: u8 = 3;
+/// A tile and a subpicture share CTUs, and neither lies in the other as it has to.
+pub const TILE_SPLIT_FAULT: u8 = 4;
+/// A CTU lies in no slice or in two.
+pub const SLICE_COVER_FAULT: u8 = 5;
+/// A slice lies in no subpicture.
+pub const SLICE_SPLIT_FAULT: u8 = 6;
+/// A CTU's left or upper neighbour lies in a later slice.
+pub const ORDER_FAULT: u8 = 7;
+
 /// Why numbers are no layout.
 #[derive(Clone, Copy, Debug, PartialEq, Eq, Error)]
 pub enum LayoutError {
     /// Memory ran out.
     #[error("out of memory")]
     Memory,
-    /// The lowest fault: 3 of the subpictures, 4 of tiles that a subpicture splits, 5 of what the slices cover,
-    /// 6 of a slice that no subpicture holds, 7 of the order of the slices.
+    /// The lowest fault that the numbers have, from [`SUBPICS_FAULT`] to [`ORDER_FAULT`].
     #[error("layout fault {0}")]
     Fault(u8),
 }

@@ -9,7 +9,10 @@ ghost use Rattle.vx_layout.specs.Rects.{CoversOnce, IsPart, Precedes, fits, hold
 ghost use Rattle.vx_layout.specs.declared.rect.Rect.{Rect};
 
 use crate::bounds::Bounds;
-use crate::numbers::{LayoutError, Numbers};
+use crate::numbers::{
+    LayoutError, Numbers, ORDER_FAULT, SLICE_COVER_FAULT, SLICE_SPLIT_FAULT, SUBPICS_FAULT,
+    TILE_SPLIT_FAULT,
+};
 use crate::rect::{Rect, RectList};
 use std::alloc::{AllocError, Global};
 
@@ -20,35 +23,35 @@ use std::alloc::{AllocError, Global};
 ///
 /// # Errors
 ///
-/// The lowest fault, exactly where there is one.
+/// The lowest fault, exactly where there is one, or `Memory` where memory runs out.
 pub fn first_fault(alloc: Global, numbers: &Numbers) -> Result<(), LayoutError>
     requires { IsInLimits numbers.now }
     ensures sound { OnOk result (IsLayout numbers.now) }
     ensures fault { IfErr result (λ e. IfFault e (IsLowestFault numbers.now)) }
 {
     if !subpics_cover(numbers) {
-        return Err(LayoutError::Fault(3));
+        return Err(LayoutError::Fault(SUBPICS_FAULT));
     }
     if !tiles_split(numbers) {
-        return Err(LayoutError::Fault(4));
+        return Err(LayoutError::Fault(TILE_SPLIT_FAULT));
     }
     if !slices_cover(numbers) {
-        return Err(LayoutError::Fault(5));
+        return Err(LayoutError::Fault(SLICE_COVER_FAULT));
     }
     if !slices_fit(numbers) {
-        return Err(LayoutError::Fault(6));
+        return Err(LayoutError::Fault(SLICE_SPLIT_FAULT));
     }
     if !slices_in_order(alloc, numbers)? {
-        return Err(LayoutError::Fault(7));
+        return Err(LayoutError::Fault(ORDER_FAULT));
     }
     Ok(())
 }
 
-/// Whether there is no fault 3.
+/// Whether there is no SUBPICS_FAULT.
 fn subpics_cover(numbers: &Numbers) -> bool
     requires { IsInLimits numbers.now }
     ensures cover { OnTrue result (SubpicsCover numbers.now) }
-    ensures fault { OnFalse result (SubpicsCover numbers.now → ⊥) }
+    ensures fault { OnFalse result (¬ SubpicsCover numbers.now) }
 {
     let (width, height) = (numbers.columns.last(), numbers.rows.last());
     if !all_inside(&numbers.subpics, width, height) {
@@ -57,10 +60,10 @@ fn subpics_cover(numbers: &Numbers) -> bool
     covers_once(&numbers.subpics, width, height)
 }
 
-/// Whether there is no fault 4.
+/// Whether there is no TILE_SPLIT_FAULT.
 fn tiles_split(numbers: &Numbers) -> bool
     ensures split { OnTrue result (TilesSplit numbers.now) }
-    ensures fault { OnFalse result (TilesSplit numbers.now → ⊥) }
+    ensures fault { OnFalse result (¬ TilesSplit numbers.now) }
 {
     for i in 0..numbers.subpics.len() {
         if !tiles_agree(&numbers.columns, &numbers.rows, numbers.subpics.item(i)) {
@@ -70,19 +73,19 @@ fn tiles_split(numbers: &Numbers) -> bool
     true
 }
 
-/// Whether there is no fault 5.
+/// Whether there is no SLICE_COVER_FAULT.
 fn slices_cover(numbers: &Numbers) -> bool
     requires { IsInLimits numbers.now }
     ensures cover { OnTrue result (SlicesCover numbers.now) }
-    ensures fault { OnFalse result (SlicesCover numbers.now → ⊥) }
+    ensures fault { OnFalse result (¬ SlicesCover numbers.now) }
 {
     covers_once(&numbers.slices, numbers.columns.last(), numbers.rows.last())
 }
 
-/// Whether there is no fault 6.
+/// Whether there is no SLICE_SPLIT_FAULT.
 fn slices_fit(numbers: &Numbers) -> bool
     ensures split { OnTrue result (SlicesFit numbers.now) }
-    ensures fault { OnFalse result (SlicesFit numbers.now → ⊥) }
+    ensures fault { OnFalse result (¬ SlicesFit numbers.now) }
 {
     for i in 0..numbers.slices.len() {
         if !fits_some(numbers.slices.item(i), &numbers.subpics) {
@@ -92,10 +95,10 @@ fn slices_fit(numbers: &Numbers) -> bool
     true
 }
 
-/// Whether there is no fault 7.
+/// Whether there is no ORDER_FAULT.
 fn slices_in_order(alloc: Global, numbers: &Numbers) -> Result<bool, AllocError>
     ensures order { IfOk result (λ is_so. OnTrue is_so (SlicesInOrder numbers.now)) }
-    ensures fault { IfOk result (λ is_so. OnFalse is_so (SlicesInOrder numbers.now → ⊥)) }
+    ensures fault { IfOk result (λ is_so. OnFalse is_so (¬ SlicesInOrder numbers.now)) }
 {
     let ordered = ordered(alloc, &numbers.slices, &numbers.subpics)?;
     Ok(are_in_order(&ordered))
@@ -104,7 +107,7 @@ fn slices_in_order(alloc: Global, numbers: &Numbers) -> Result<bool, AllocError>
 /// Whether each rectangle holds a CTU and lies in the picture.
 fn all_inside(rects: &RectList, width: u32, height: u32) -> bool
     ensures inside { OnTrue result (All (IsPart width height) rects.now) }
-    ensures outside { OnFalse result (All (IsPart width height) rects.now → ⊥) }
+    ensures outside { OnFalse result (¬ All (IsPart width height) rects.now) }
 {
     for i in 0..rects.len() {
         let r = rects.item(i);
@@ -125,7 +128,7 @@ fn holds_some(from: u32, size: u32, limit: u32) -> bool
 /// Whether each tile agrees with a subpicture.
 fn tiles_agree(columns: &Bounds, rows: &Bounds, subpic: Rect) -> bool
     ensures agree { OnTrue result (SplitsWell columns.now rows.now subpic) }
-    ensures disagree { OnFalse result (SplitsWell columns.now rows.now subpic → ⊥) }
+    ensures disagree { OnFalse result (¬ SplitsWell columns.now rows.now subpic) }
 {
     for i in 1..columns.len() {
         if !column_agrees(columns.item(i - 1), columns.item(i), rows, subpic) {
@@ -139,7 +142,7 @@ fn tiles_agree(columns: &Bounds, rows: &Bounds, subpic: Rect) -> bool
 fn column_agrees(left: u32, right: u32, rows: &Bounds, subpic: Rect) -> bool
     requires { left ≤ right }
     ensures agree { OnTrue result (ColumnAgrees left right rows.now subpic) }
-    ensures disagree { OnFalse result (ColumnAgrees left right rows.now subpic → ⊥) }
+    ensures disagree { OnFalse result (¬ ColumnAgrees left right rows.now subpic) }
 {
     for j in 1..rows.len() {
         let (top, bottom) = (rows.item(j - 1), rows.item(j));
@@ -177,7 +180,7 @@ fn share_ctu(r: Rect, s: Rect) -> bool
 /// Whether each CTU of a picture lies in exactly one of the rectangles.
 fn covers_once(rects: &RectList, width: u32, height: u32) -> bool
     ensures once { OnTrue result (CoversOnce rects.now width height) }
-    ensures not_once { OnFalse result (CoversOnce rects.now width height → ⊥) }
+    ensures not_once { OnFalse result (¬ CoversOnce rects.now width height) }
 {
     for y in 0..height {
         if !row_once(rects, width, y) {
@@ -190,7 +193,7 @@ fn covers_once(rects: &RectList, width: u32, height: u32) -> bool
 /// Whether each CTU of a row lies in exactly one of the rectangles.
 fn row_once(rects: &RectList, width: u32, y: u32) -> bool
     ensures once { OnTrue result ((x : ℕ) → x < width → count_by (λ r. holds r x y) rects.now ≡ 1) }
-    ensures not_once { OnFalse result (((x : ℕ) → x < width → count_by (λ r. holds r x y) rects.now ≡ 1) → ⊥) }
+    ensures not_once { OnFalse result (¬ ((x : ℕ) → x < width → count_by (λ r. holds r x y) rects.now ≡ 1)) }
 {
     for x in 0..width {
         if holders(rects, x, y) != 1 {
@@ -216,7 +219,7 @@ fn holders(rects: &RectList, x: u32, y: u32) -> usize
 /// Whether a slice lies in a subpicture.
 fn fits_some(slice: Rect, subpics: &RectList) -> bool
     ensures some { OnTrue result (Any (λ s. fits slice s ≡ true) subpics.now) }
-    ensures none { OnFalse result (Any (λ s. fits slice s ≡ true) subpics.now → ⊥) }
+    ensures none { OnFalse result (¬ Any (λ s. fits slice s ≡ true) subpics.now) }
 {
     for i in 0..subpics.len() {
         if slice.fits(&subpics.item(i)) {
@@ -260,7 +263,7 @@ fn append_fitting(all: &mut RectList, slice: Rect, subpic: Rect) -> Result<(), A
 /// Whether no CTU of a rectangle has its left or upper neighbour in a later one.
 fn are_in_order(rects: &RectList) -> bool
     ensures order { OnTrue result (AllPairs Precedes rects.now) }
-    ensures disorder { OnFalse result (AllPairs Precedes rects.now → ⊥) }
+    ensures disorder { OnFalse result (¬ AllPairs Precedes rects.now) }
 {
     for j in 0..rects.len() {
         if !all_precede(rects, j) {
@@ -274,7 +277,7 @@ fn are_in_order(rects: &RectList) -> bool
 fn all_precede(rects: &RectList, j: usize) -> bool
     requires { j < length rects.now }
     ensures all { OnTrue result ((i : ℕ) (d : Rect) → i < j → Precedes (slice_index_or rects.now i d) (slice_index_or rects.now j d)) }
-    ensures not_all { OnFalse result (((i : ℕ) (d : Rect) → i < j → Precedes (slice_index_or rects.now i d) (slice_index_or rects.now j d)) → ⊥) }
+    ensures not_all { OnFalse result (¬ ((i : ℕ) (d : Rect) → i < j → Precedes (slice_index_or rects.now i d) (slice_index_or rects.now j d))) }
 {
     let later = rects.item(j);
     for i in 0..j {

@@ -49,7 +49,7 @@ impl Rect {
     /// Whether it holds a CTU and lies in a picture of `width` times `height` CTUs.
     pub fn is_part_of(&self, width: u32, height: u32) -> bool
         ensures inside { OnTrue result (IsPart width height self.now) }
-        ensures outside { OnFalse result (IsPart width height self.now → ⊥) }
+        ensures outside { OnFalse result (¬ IsPart width height self.now) }
     {
         ends_by(self.x, self.w, width) && ends_by(self.y, self.h, height)
     }

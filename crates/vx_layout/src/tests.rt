@@ -4,7 +4,8 @@ ghost use Rattle.std.specs.Prelude.{◌<◌};
 ghost use Rattle.vx_layout.specs.Faults.{IsInLimits};
 
 use crate::{
-    Bounds, Layout, LayoutError, Numbers, Rect, RectList, TileError, first_fault, tile_bounds,
+    Bounds, Layout, LayoutError, Numbers, ORDER_FAULT, Rect, RectList, SLICE_COVER_FAULT,
+    SLICE_SPLIT_FAULT, SUBPICS_FAULT, TILE_SPLIT_FAULT, TileError, first_fault, tile_bounds,
 };
 use std::alloc::{AllocError, Global};
 use std::process::Abort;
@@ -211,36 +212,39 @@ fn lowest_faults(rt: HostRuntime) -> Result<(), Fail> {
     );
     assert_eq!(rt;
         fault_of(&rt, alloc, four_tiles(alloc, &tiles, &short)?)?,
-        3
+        SUBPICS_FAULT
     );
     assert_eq!(rt;
         fault_of(&rt, alloc, four_tiles(alloc, &tiles, &off_lines)?)?,
-        4
+        TILE_SPLIT_FAULT
     );
     assert_eq!(rt;
         fault_of(&rt, alloc, four_tiles(alloc, &sides[..1], &[all])?)?,
-        5
+        SLICE_COVER_FAULT
     );
-    assert_eq!(rt; fault_of(&rt, alloc, four_tiles(alloc, &rows, &sides)?)?, 6);
+    assert_eq!(rt;
+        fault_of(&rt, alloc, four_tiles(alloc, &rows, &sides)?)?,
+        SLICE_SPLIT_FAULT
+    );
     assert_eq!(rt;
         fault_of(&rt, alloc, four_tiles(alloc, &turned, &[all])?)?,
-        7
+        ORDER_FAULT
     );
     assert_eq!(rt;
         fault_of(&rt, alloc, four_tiles(alloc, &rows[..1], &short)?)?,
-        3
+        SUBPICS_FAULT
     );
     assert_eq!(rt;
         fault_of(&rt, alloc, four_tiles(alloc, &turned, &off_lines)?)?,
-        4
+        TILE_SPLIT_FAULT
     );
     assert_eq!(rt;
         fault_of(&rt, alloc, four_tiles(alloc, &rows[..1], &sides)?)?,
-        5
+        SLICE_COVER_FAULT
     );
     assert_eq!(rt;
         fault_of(&rt, alloc, four_tiles(alloc, &turned, &sides)?)?,
-        6
+        SLICE_SPLIT_FAULT
     );
     Ok(())
 }
@@ -321,7 +325,7 @@ fn random_tiles(rt: HostRuntime) -> Result<(), Fail> {
     for _round in 0..400 {
         let n = drawn_tiles(alloc, &mut seed)?;
         match fault_of(&rt, alloc, n)? {
-            4 => split = true,
+            TILE_SPLIT_FAULT => split = true,
             k => {
                 assert_eq!(rt; k, 0);
                 whole = true;

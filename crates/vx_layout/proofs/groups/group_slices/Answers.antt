@@ -1,7 +1,7 @@
 use Rattle.std.proofs.Common.{◌≡◌, ℕ, ◌<◌, true, length, arith, sym, subst}
 use Rattle.std.proofs.lemmas.List.Elements.{AllWithin-more, at_read}
 use Rattle.std.specs.List.{Any}
-use Rattle.vx_layout.specs.Faults.{IfFault, SlicesFit}
+use Rattle.vx_layout.specs.Faults.{IfFault, SlicesFit, slice_split_fault}
 use Rattle.vx_layout.specs.declared.numbers.LayoutError.{LayoutError}
 use Rattle.vx_layout.specs.declared.numbers.LayoutError.TheVariants.{Memory, Fault}
 use Rattle.std.proofs.lemmas.Result.{err_from_is_err_and}
@@ -20,7 +20,7 @@ returns-in_err-add-clause-fault c =
     let short : c.loop-k.k < length n.slices = omega arith in
     let p = err_from_is_err_and c.from_residual-in_err-add.result c.from_residual-in_err-add.ensures.1 in
     rw (p.1, p.2)
-    (IfFault-weaker c.in_err-add.field-0.0 (λ k. (k ≡ 6) × (Any (λ s. fits c.item.result s ≡ true) n.subpics → ⊥)) (λ k. (k ≡ 6) × (SlicesFit n → ⊥))
+    (IfFault-weaker c.in_err-add.field-0.0 (λ k. (k ≡ slice_split_fault) × (Any (λ s. fits c.item.result s ≡ true) n.subpics → ⊥)) (λ k. (k ≡ slice_split_fault) × (SlicesFit n → ⊥))
     (λ k h. (h.0, λ all. h.1 (subst (λ r. Any (λ s. fits r s ≡ true) n.subpics) (sym c.item.ensures.index) (all c.loop-k.k c.item.result short)))) c.in_err-add.ensures.fault)
 
 pub loop-k-preserved : goal.loop-k-preserved
