@@ -1,7 +1,7 @@
 use Rattle.std.proofs.Common.{rules, refl, ◌+◌, ◌≤◌, arith, ◌∙◌}
 use Rattle.vx_app.specs.Show.{source_limit}
 use Rattle.std.proofs.lemmas.Result.{err_from_is_err_and}
-use Rattle.vx_app.proofs.Pieces.{source_limit-is, HasTaken-more, GivesAll-ended, GivesAll-beyond, GivesThenStops-behind}
+use Rattle.vx_app.proofs.Pieces.{source_limit-is, HasTaken-more, GivesAll-ended, GivesThenStops-behind}
 use Rattle.vx_app.proofs.show.take_in.Goals as goal
 
 pub returns-then-came-eq0-clause-answer : goal.returns-then-came-eq0-clause-answer
