@@ -3,8 +3,8 @@ use Rattle.std.proofs.Common.{◌≡◌, ℕ, ◌+◌, ◌-◌, ◌≤◌, List,
 use Rattle.std.proofs.Math.Seq.{take-append-add, take_all}
 use Rattle.std.proofs.Math.Nat.{min_comm, min-le_left}
 use Rattle.std.proofs.lemmas.List.{take-append-le, length-take-le, take-take, take_min}
-use Rattle.std.specs.Io.KnownBytes.{Consumes, IsAtEnd, Keeps}
-use Rattle.std.proofs.KnownBytes.{Consumes-nil, Consumes-kept, Consumes-trans}
+use Rattle.std.specs.Io.KnownBytes.{IsAtEnd}
+use Rattle.std.proofs.KnownBytes.{Consumes-trans}
 use Rattle.vx_annexb.specs.ByteStream.{UnitPlace}
 use Rattle.vx_annexb.specs.Held.{Held, Stands}
 use Rattle.vx_app.specs.declared.stop.Stop.{Stop}
@@ -80,13 +80,7 @@ GivesAll-beyond h source n kept beyond taken all = record {
   beyond = λ _. taken.count ∙ beyond;
 }
 
--- a read that failed gave nothing
-pub GivesThenStops-at_once : {S : Type 0} (source : Change S) (stop : Stop) → Keeps (source.bytes source.old) (source.bytes source.new) → StopsReading source stop → GivesThenStops source stop
-GivesThenStops-at_once source stop kept cause = record {
-  gave = ([], Consumes-kept (source.bytes source.old) (source.bytes source.old) (source.bytes source.new) [] (Consumes-nil (source.bytes source.old)) kept);
-  cause = cause;
-}
-
+-- what stops a piece stops the whole
 stops-then : {S T : Type 0} (piece : Change S) (whole : Change T) (stop : Stop) → piece.faults piece.old ≡ whole.faults whole.old → whole.faults whole.new ≡ piece.faults piece.new → StopsReading piece stop → StopsReading whole stop
 stops-then piece whole NotUnderstood before faults cause = cause
 stops-then piece whole (Refused refusal place) before faults cause = cause
@@ -95,9 +89,9 @@ stops-then piece whole WriteFault before faults cause = cause
 stops-then piece whole NoMemory before faults cause = faults ∙ cause ∙ before
 
 -- what a source gave before a stop, and what it then gave
-pub TakesIn-stopped : {S T : Type 0} (h : Held) (piece : Change S) (whole : Change T) (n : ℕ) (stop : Stop) → n ≤ source_limit → piece.faults piece.old ≡ whole.faults whole.old → whole.faults whole.new ≡ piece.faults piece.new
+pub GivesThenStops-behind : {S T : Type 0} (h : Held) (piece : Change S) (whole : Change T) (n : ℕ) (stop : Stop) → n ≤ source_limit → piece.faults piece.old ≡ whole.faults whole.old → whole.faults whole.new ≡ piece.faults piece.new
     → whole.bytes whole.new ≡ piece.bytes piece.new → HasTaken h (whole.bytes whole.old) (piece.bytes piece.old) n → ((r : List ℕ) → length r ≡ n → Stands h r [] → GivesThenStops piece stop) → GivesThenStops whole stop
-TakesIn-stopped h piece whole n stop within before faults left taken step =
+GivesThenStops-behind h piece whole n stop within before faults left taken step =
     let r = taken.bytes in
     let short : length r ≤ source_limit = subst (λ (k : ℕ). k ≤ source_limit) (sym taken.count) within in
     let here : Stands h r [] = subst (λ (g : List ℕ). Stands h g []) (take_all source_limit r short) taken.stands in

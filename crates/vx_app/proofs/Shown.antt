@@ -18,15 +18,15 @@ use Rattle.vx_report.specs.declared.refusal.Where.{Where}
 use Rattle.vx_report.specs.RefusalLine.{long_source}
 use Rattle.vx_app.specs.Change.{Change, change, change_at, Gains, GainsFront}
 use Rattle.vx_app.specs.Conclusion.{Outcome}
-use Rattle.vx_app.specs.Show.{source_limit, seen_of, is_within, ending_of, unit_line, unit_lines, shown_lines, behind_unit, IsShown, GivesToLimit, Shows}
+use Rattle.vx_app.specs.Show.{source_limit, seen_of, is_within, ending_of, line_of_unit, lines_of_units, shown_lines, behind_unit, IsShown, GivesToLimit, Shows}
 use Rattle.vx_app.specs.ShowSteps.{GivesAll, GivesThenStops, ShowsNext, HasShown, ShowsUnits}
 use Rattle.vx_app.proofs.Gained.{Gains-nothing, Gains-still, Gains-then, GainsFront-then, GainsFront-append}
 
 -- ---- one unit after the other
 
 -- the lines of one more unit
-unit_lines-more : (b : List ℕ) (units : List UnitPlace) (u : UnitPlace) → unit_lines b (units ++ u ∷ []) ≡ unit_lines b units ++ unit_line b u
-unit_lines-more b units u = flat_map-append (unit_line b) units (u ∷ []) ∙ ap (λ l. unit_lines b units ++ l) (append-nil (unit_line b u))
+lines_of_units-more : (b : List ℕ) (units : List UnitPlace) (u : UnitPlace) → lines_of_units b (units ++ u ∷ []) ≡ lines_of_units b units ++ line_of_unit b u
+lines_of_units-more b units u = flat_map-append (line_of_unit b) units (u ∷ []) ∙ ap (λ l. lines_of_units b units ++ l) (append-nil (line_of_unit b u))
 
 -- one more unit was shown
 pub HasShown-more : {K : Type 0} (b : List ℕ) (h h' : Held) (bytes : K → Option (List ℕ)) (faults : K → ℕ) (old mid new : K) (n : ℕ) → HasShown b h (change bytes faults old mid) n
@@ -36,7 +36,7 @@ HasShown-more {K} b h h' bytes faults old mid new n shown step =
     record {
       units = shown.units ++ next.0 ∷ [];
       stands = next.1;
-      lines = subst (λ (l : List ℕ). Gains (change bytes faults old new) l) (sym (unit_lines-more b shown.units next.0)) (Gains-then bytes faults old mid new (unit_lines b shown.units) (unit_line b next.0) shown.lines next.2);
+      lines = subst (λ (l : List ℕ). Gains (change bytes faults old new) l) (sym (lines_of_units-more b shown.units next.0)) (Gains-then bytes faults old mid new (lines_of_units b shown.units) (line_of_unit b next.0) shown.lines next.2);
       count = ap (λ k. k + 1) shown.count ∙ sym (length-append shown.units (next.0 ∷ []));
     }
 
@@ -47,15 +47,15 @@ pub ShowsUnits-stopped : {K : Type 0} (b : List ℕ) (all : Bool) (h h' : Held) 
 ShowsUnits-stopped b all h h' bytes faults old mid new n NotUnderstood same shown step = step shown.units shown.stands shown.count
 ShowsUnits-stopped b all h h' bytes faults old mid new n (Refused refusal place) same shown step =
     let answer = step shown.units shown.stands shown.count in
-    rw (← same) (shown.units, answer.1, Gains-still bytes faults old mid new (unit_lines b shown.units) shown.lines answer.0, answer.2)
+    rw (← same) (shown.units, answer.1, Gains-still bytes faults old mid new (lines_of_units b shown.units) shown.lines answer.0, answer.2)
 ShowsUnits-stopped b all h h' bytes faults old mid new n (ReadFault source) same shown step = step shown.units shown.stands shown.count
 ShowsUnits-stopped b all h h' bytes faults old mid new n WriteFault same shown step =
     let answer = step shown.units shown.stands shown.count in
     let units = shown.units ++ answer.0 ∷ [] in
-    rw (← same) (units, answer.1, subst (λ (l : List ℕ). GainsFront (change bytes faults old new) l) (sym (unit_lines-more b shown.units answer.0)) (GainsFront-then bytes faults old mid new (unit_lines b shown.units) (unit_line b answer.0) shown.lines answer.2))
+    rw (← same) (units, answer.1, subst (λ (l : List ℕ). GainsFront (change bytes faults old new) l) (sym (lines_of_units-more b shown.units answer.0)) (GainsFront-then bytes faults old mid new (lines_of_units b shown.units) (line_of_unit b answer.0) shown.lines answer.2))
 ShowsUnits-stopped b all h h' bytes faults old mid new n NoMemory same shown step =
     let answer = step shown.units shown.stands shown.count in
-    rw (← same) (shown.units, answer.1, Gains-still bytes faults old mid new (unit_lines b shown.units) shown.lines answer.0)
+    rw (← same) (shown.units, answer.1, Gains-still bytes faults old mid new (lines_of_units b shown.units) shown.lines answer.0)
 
 -- ---- the units of a source
 
@@ -74,7 +74,7 @@ GainsFront-all : {K : Type 0} (out : Change K) (b : List ℕ) (us vs : List Unit
 GainsFront-all out b us vs t first shown front =
     let more = first-front b us vs t first shown in
     subst (λ (l : List ℕ). GainsFront out l)
-    (sym (ap (shown_lines b) more.1 ∙ flat_map-append (unit_line (seen_of b)) us more.0))
+    (sym (ap (shown_lines b) more.1 ∙ flat_map-append (line_of_unit (seen_of b)) us more.0))
     (GainsFront-append out (shown_lines b us) (shown_lines b more.0) front)
 
 -- the lines of first units are those of so many
@@ -120,10 +120,10 @@ shown-told source h ended taken b units behind ending told stream ends =
 
 -- the lines of these units are those of the units that the source's bytes have
 lines-told : {S K : Type 0} (source : Change S) (out : Change K) (h : Held) (ended : Bool) (taken : GivesAll h source ended) (b : List ℕ) (us vs : List UnitPlace) → source.bytes source.old ≡ Some b
-    → us ≡ vs → Gains out (unit_lines (take source_limit taken.bytes) us) → Gains out (shown_lines b vs)
+    → us ≡ vs → Gains out (lines_of_units (take source_limit taken.bytes) us) → Gains out (shown_lines b vs)
 lines-told source out h ended taken b us vs told same lines =
-    subst (λ (l : List ℕ). Gains out (unit_lines l vs)) (taken-told source h ended taken b told).0
-    (subst (λ (l : List UnitPlace). Gains out (unit_lines (take source_limit taken.bytes) l)) same lines)
+    subst (λ (l : List ℕ). Gains out (lines_of_units l vs)) (taken-told source h ended taken b told).0
+    (subst (λ (l : List UnitPlace). Gains out (lines_of_units (take source_limit taken.bytes) l)) same lines)
 
 -- a refusal of what is looked at ends the source
 ending_of-some : (within : Bool) (refusal : Refusal) → Some refusal ≡ ending_of within (Some refusal)
@@ -158,7 +158,7 @@ Shows-stopped source out h ended WriteFault taken shows =
       λ b units ending told is.
           let whole = taken-told source h ended taken b told in
           let first = subst (λ (l : List ℕ). FollowsFrom l (is_within b) 0 s.0) whole.0 (subst (λ (all : Bool). FollowsFrom (take source_limit taken.bytes) all 0 s.0) whole.1 s.1) in
-          GainsFront-all out b s.0 units ending first is (subst (λ (l : List ℕ). GainsFront out (unit_lines l s.0)) whole.0 s.2),
+          GainsFront-all out b s.0 units ending first is (subst (λ (l : List ℕ). GainsFront out (lines_of_units l s.0)) whole.0 s.2),
     )
 Shows-stopped source out h ended NoMemory taken shows =
     let s = shows (take source_limit taken.bytes) taken.stands in (

@@ -18,13 +18,13 @@ abbrev pub IsWellNamed : Command → Type 0
 IsWellNamed (show file) = file ≢ []
 
 -- the words ask for this command
-pub record Spells (words : List (List ℕ)) (command : Command) : Type 0 where
+pub record AskFor (words : List (List ℕ)) (command : Command) : Type 0 where
   pub spelled : words ≡ spelling command
   pub named : IsWellNamed command
 
 -- the words ask for a command
 abbrev pub IsUnderstood : List (List ℕ) → Type 0
-IsUnderstood words = (command : Command) × Spells words command
+IsUnderstood words = (command : Command) × AskFor words command
 
 -- the files that a command names, in order
 abbrev pub files_of : Command → List (List ℕ)
@@ -32,5 +32,5 @@ files_of (show file) = file ∷ []
 
 -- the words name n files, and none where they ask for no command
 pub record NamesFiles (words : List (List ℕ)) (n : ℕ) : Type 0 where
-  pub command : (command : Command) → Spells words command → n ≡ length (files_of command)
+  pub command : (command : Command) → AskFor words command → n ≡ length (files_of command)
   pub other : ¬ IsUnderstood words → n ≡ 0

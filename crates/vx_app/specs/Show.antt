@@ -29,12 +29,12 @@ unfoldable pub shown_line : List ℕ → ℕ → List ℕ
 shown_line unit place = unit_text (header_of unit) place (length unit)
 
 -- the line of a unit of these bytes
-abbrev pub unit_line : List ℕ → UnitPlace → List ℕ
-unit_line b u = shown_line (unit_bytes b u) u.start
+abbrev pub line_of_unit : List ℕ → UnitPlace → List ℕ
+line_of_unit b u = shown_line (unit_bytes b u) u.start
 
 -- the lines of these units, in order
-abbrev pub unit_lines : List ℕ → List UnitPlace → List ℕ
-unit_lines b units = flat_map (unit_line b) units
+abbrev pub lines_of_units : List ℕ → List UnitPlace → List ℕ
+lines_of_units b units = flat_map (line_of_unit b) units
 
 -- a source of more bytes than the limit is refused behind its last unit, unless a rule is broken before
 abbrev pub ending_of : Bool → Option Refusal → Option Refusal
@@ -55,7 +55,7 @@ status_at (Some refusal) = 1
 
 -- what is written of these units of a source's bytes
 abbrev pub shown_lines : List ℕ → List UnitPlace → List ℕ
-shown_lines b units = unit_lines (seen_of b) units
+shown_lines b units = lines_of_units (seen_of b) units
 
 -- the place in the first source behind its n-th unit
 abbrev pub behind_unit : ℕ → Where

@@ -7,7 +7,7 @@ use Rattle.vx_app.specs.declared.stop.Stop.{Stop}
 use Rattle.vx_app.specs.declared.stop.Stop.TheVariants.{Refused, ReadFault, WriteFault, NoMemory}
 use Rattle.vx_app.specs.Change.{Change, IsUntouched, HasNoFault, HasFault, GivesFront, Gains, GainsFront}
 use Rattle.vx_app.specs.Conclusion.{Outcome}
-use Rattle.vx_app.specs.Show.{source_limit, unit_line, unit_lines, behind_unit}
+use Rattle.vx_app.specs.Show.{source_limit, line_of_unit, lines_of_units, behind_unit}
 
 -- Some bytes r were taken before; the next n were taken behind them, as far as the limit lets see.
 pub record GivesPiece {S : Type 0} (r : List ℕ) (h : Held) (source : Change S) (n : ℕ) : Type 0 where
@@ -65,25 +65,25 @@ WritesLine line out (Err _) = ⊥
 
 -- The next unit, behind these, was shown, or there is none, or it is refused.
 abbrev pub ShowsNext : {K : Type 0} → List ℕ → List UnitPlace → Held → Change K → Result Bool Stop → Type 0
-ShowsNext b units h out (Ok true) = (u : UnitPlace) × Stands h b (units ++ u ∷ []) × Gains out (unit_line b u)
+ShowsNext b units h out (Ok true) = (u : UnitPlace) × Stands h b (units ++ u ∷ []) × Gains out (line_of_unit b u)
 ShowsNext b units h out (Ok false) = IsUntouched out × IsStream b h.all units None
 ShowsNext b units h out (Err (Refused refusal place)) = IsUntouched out × IsStream b h.all units (Some refusal) × (place ≡ behind_unit (length units))
 ShowsNext b units h out (Err NoMemory) = IsUntouched out × FollowsFrom b h.all 0 units
-ShowsNext b units h out (Err WriteFault) = (u : UnitPlace) × FollowsFrom b h.all 0 (units ++ u ∷ []) × GainsFront out (unit_line b u)
+ShowsNext b units h out (Err WriteFault) = (u : UnitPlace) × FollowsFrom b h.all 0 (units ++ u ∷ []) × GainsFront out (line_of_unit b u)
 ShowsNext b units h out (Err _) = ⊥
 
 -- The first n units of these bytes were shown.
 pub record HasShown {K : Type 0} (b : List ℕ) (h : Held) (out : Change K) (n : ℕ) : Type 0 where
   pub units : List UnitPlace
   pub stands : Stands h b units
-  pub lines : Gains out (unit_lines b units)
+  pub lines : Gains out (lines_of_units b units)
   pub count : n ≡ length units
 
 -- Units were shown up to the ending, or up to a stop.
 abbrev pub ShowsUnits : {K : Type 0} → List ℕ → Bool → Change K → Result ℕ Stop → Type 0
-ShowsUnits b all out (Ok n) = (units : List UnitPlace) × IsStream b all units None × Gains out (unit_lines b units) × (n ≡ length units)
+ShowsUnits b all out (Ok n) = (units : List UnitPlace) × IsStream b all units None × Gains out (lines_of_units b units) × (n ≡ length units)
 ShowsUnits b all out (Err (Refused refusal place)) =
-    (units : List UnitPlace) × IsStream b all units (Some refusal) × Gains out (unit_lines b units) × (place ≡ behind_unit (length units))
-ShowsUnits b all out (Err NoMemory) = (units : List UnitPlace) × FollowsFrom b all 0 units × Gains out (unit_lines b units)
-ShowsUnits b all out (Err WriteFault) = (units : List UnitPlace) × FollowsFrom b all 0 units × GainsFront out (unit_lines b units)
+    (units : List UnitPlace) × IsStream b all units (Some refusal) × Gains out (lines_of_units b units) × (place ≡ behind_unit (length units))
+ShowsUnits b all out (Err NoMemory) = (units : List UnitPlace) × FollowsFrom b all 0 units × Gains out (lines_of_units b units)
+ShowsUnits b all out (Err WriteFault) = (units : List UnitPlace) × FollowsFrom b all 0 units × GainsFront out (lines_of_units b units)
 ShowsUnits b all out (Err _) = ⊥

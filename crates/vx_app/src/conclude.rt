@@ -34,7 +34,7 @@ pub fn conclude<E: Sink>(alloc: Global, stop: Stop, err: &mut E) -> u8
     }
 }
 
-// Tells a line that was made, and answers the status that goes with it.
+/// Tells a line that was made, and answers the status that goes with it.
 fn end<E: Sink>(err: &mut E, line: Result<Vec<u8>, AllocError>, status: u8) -> u8
     ensures made { IfOk line (λ made.
         (result ≡ status) × Tells (change E.bytes_taken E.write_faults err.old err.new) made.items) }
@@ -53,14 +53,14 @@ fn end<E: Sink>(err: &mut E, line: Result<Vec<u8>, AllocError>, status: u8) -> u
     }
 }
 
-// Writes one line. Whether it was written changes nothing else.
+/// Writes one line. Whether it was written changes nothing else.
 fn tell<E: Sink>(err: &mut E, line: &[u8])
     ensures { Tells (change E.bytes_taken E.write_faults err.old err.new) line.now }
 {
     let _ = write_all(err, line);
 }
 
-// `read fault source 0`
+/// `read fault source 0`
 fn read_fault_line(alloc: Global, source: u16) -> Result<Vec<u8>, AllocError>
     ensures { IfOk result (λ line. line.items ≡ line_of (ReadFault source)) }
 {

@@ -22,8 +22,8 @@ fn main(rt: HostRuntime) -> ExitCode {
     ExitCode::from(status(&rt))
 }
 
-// The status with which the program ends. Where a word is no text, or no
-// memory is found before the first read, nothing is written.
+/// The status with which the program ends. Where a word is no text, or no
+/// memory is found before the first read, nothing is written.
 fn status(rt: &HostRuntime) -> u8 {
     match words_of(rt) {
         Ok(words) => run_on_files(rt, &words).unwrap_or(4),
@@ -32,14 +32,14 @@ fn status(rt: &HostRuntime) -> u8 {
     }
 }
 
-// The program's words, without its name.
+/// The program's words, without its name.
 fn words_of(rt: &HostRuntime) -> io::Result<Vec<String>> {
     let mut args = env::args(rt)?;
     let _name = args.next();
     Ok(args.collect(rt.alloc())?)
 }
 
-// Runs the program on the files that the words name.
+/// Runs the program on the files that the words name.
 fn run_on_files(rt: &HostRuntime, words: &[String]) -> Result<u8, AllocError> {
     let mut sources: Vec<Box<dyn Source>> = Vec::new(rt.alloc());
     for k in 0..file_count(words) {
@@ -54,7 +54,7 @@ fn run_on_files(rt: &HostRuntime, words: &[String]) -> Result<u8, AllocError> {
     Ok(run(rt.alloc(), words, &mut sources, &mut out, &mut err))
 }
 
-// The k-th file that the words name, if it can be opened.
+/// The k-th file that the words name, if it can be opened.
 fn open_file(rt: &HostRuntime, words: &[String], k: usize) -> Result<Option<File>, AllocError> {
     let Some(name) = file_word(words, k) else {
         return Ok(None);

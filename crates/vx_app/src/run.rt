@@ -3,7 +3,7 @@
 ghost use Rattle.std.specs.Prelude.{◌≡◌, ◌≢◌, ◌↔◌, List, ℕ, Err, vec_len, IfErr};
 ghost use Rattle.vx_app.specs.Change.{HasFault, change, change_at};
 ghost use Rattle.vx_app.specs.Conclusion.{Outcome, IsTold, Ends};
-ghost use Rattle.vx_app.specs.Grammar.{show as for_show, Spells, IsUnderstood, NamesFiles, texts};
+ghost use Rattle.vx_app.specs.Grammar.{show as for_show, AskFor, IsUnderstood, NamesFiles, texts};
 ghost use Rattle.vx_app.specs.Run.{Performs};
 ghost use Rattle.vx_app.specs.Show.{WhereTold, status_at};
 
@@ -36,7 +36,7 @@ pub fn run<K: Sink, E: Sink>(
 
     // Which status it is, want of memory and faults aside.
     ensures words { (result ≡ 2) ↔ ¬ IsUnderstood (texts words.now) }
-    ensures exact { (file : List ℕ) → Spells (texts words.now) (for_show file)
+    ensures exact { (file : List ℕ) → AskFor (texts words.now) (for_show file)
         → let source = change_at bytes_left read_faults sources.old.items sources.new.items 0 in
         ¬ HasFault source → ¬ HasFault (change K.bytes_taken K.write_faults out.old out.new)
         → result ≢ 4 → WhereTold source (λ b units ending. result ≡ status_at ending) }
@@ -47,7 +47,7 @@ pub fn run<K: Sink, E: Sink>(
     }
 }
 
-// Does what the words ask for.
+/// Does what the words ask for.
 fn perform<K: Sink>(
     alloc: Global,
     words: &[String],

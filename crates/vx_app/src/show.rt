@@ -43,7 +43,7 @@ pub fn show<K: Sink>(alloc: Global, source: &mut Box<dyn Source>, out: &mut K) -
     }
 }
 
-// The place in the first source behind its n-th unit.
+/// The place in the first source behind its n-th unit.
 fn behind_unit(n: u64) -> Where
     ensures { result ≡ place_behind n }
 {
@@ -55,9 +55,9 @@ fn behind_unit(n: u64) -> Where
     }
 }
 
-// Takes the next piece of a source of which `taken` bytes were taken, and
-// gives the splitter what the limit lets see of it. Answers how many bytes
-// came, none at the source's end.
+/// Takes the next piece of a source of which `taken` bytes were taken, and
+/// gives the splitter what the limit lets see of it. Answers how many bytes
+/// came, none at the source's end.
 fn take_piece(
     source: &mut Box<dyn Source>,
     buffer: &mut [u8],
@@ -83,15 +83,15 @@ fn take_piece(
     Ok(came)
 }
 
-// A buffer of this many bytes.
+/// A buffer of this many bytes.
 fn buffer_of(alloc: Global, len: usize) -> Result<Vec<u8>, AllocError>
     ensures { IfOk result (λ buffer. vec_len buffer ≡ len) }
 {
     vec![in alloc; 0u8; len]
 }
 
-// Takes the bytes of a source, to its end or to one byte past the limit.
-// Answers whether the source ended.
+/// Takes the bytes of a source, to its end or to one byte past the limit.
+/// Answers whether the source ended.
 fn take_in(
     alloc: Global,
     source: &mut Box<dyn Source>,
@@ -116,7 +116,7 @@ fn take_in(
     Ok(false)
 }
 
-// Writes the line of a unit.
+/// Writes the line of a unit.
 #[tactic(auto, unfolding(crate::specs::Show::shown_line))]
 fn write_unit<K: Sink>(
     alloc: Global,
@@ -135,7 +135,7 @@ fn write_unit<K: Sink>(
     Ok(())
 }
 
-// Shows the next unit, the n-th from 0. Answers whether there was one.
+/// Shows the next unit, the n-th from 0. Answers whether there was one.
 fn show_next<K: Sink>(
     alloc: Global,
     splitter: &mut Splitter,
@@ -160,7 +160,7 @@ fn show_next<K: Sink>(
     }
 }
 
-// Shows the units, in order. Answers how many they are.
+/// Shows the units, in order. Answers how many they are.
 fn show_units<K: Sink>(alloc: Global, splitter: &mut Splitter, out: &mut K) -> Result<u64, Stop>
     requires { left_to_seek splitter.old < 2 ^ 64 }
     ensures { (b : List ℕ) → Stands splitter.old b []

@@ -6,7 +6,7 @@ use std::process::Abort;
 use std::test::Fail;
 use vx_io::{ClosedSource, MemorySink, MemorySource, Source};
 
-// A parameter set of a sequence, one of a picture, and a slice: a gray picture of 64 by 64 samples.
+/// A parameter set of a sequence, one of a picture, and a slice: a gray picture of 64 by 64 samples.
 const GRAY: &[u8] = &[
     0x00, 0x00, 0x00, 0x01, 0x00, 0x79, 0x00, 0x03, 0x02, 0x33, 0x80, 0x00, 0x00, 0x82, 0x04, 0x12,
     0x00, 0x3D, 0xE0, 0x03, 0x00, 0x60, 0x80, 0x01, 0x00, 0x00, 0x00, 0x01, 0x00, 0x81, 0x00, 0x00,
@@ -26,7 +26,7 @@ const TWO_LINES: &str = r#"{"bytes":20,"offset":4,"tid":0,"type":15}
 const ONE_LINE: &str = r#"{"bytes":20,"offset":4,"tid":0,"type":15}
 "#;
 
-// The same units with start codes of three bytes, zeros before, between and behind them.
+/// The same units with start codes of three bytes, zeros before, between and behind them.
 const GRAY_AMONG_ZEROS: &[u8] = &[
     0x00, 0x00, 0x00, 0x00, 0x00, 0x00, 0x01, 0x00, 0x79, 0x00, 0x03, 0x02, 0x33, 0x80, 0x00, 0x00,
     0x82, 0x04, 0x12, 0x00, 0x3D, 0xE0, 0x03, 0x00, 0x60, 0x80, 0x01, 0x00, 0x00, 0x01, 0x00, 0x81,
@@ -39,7 +39,7 @@ const LINES_AMONG_ZEROS: &str = r#"{"bytes":20,"offset":7,"tid":0,"type":15}
 {"bytes":7,"offset":46,"tid":0,"type":8}
 "#;
 
-// What an ordinary encoder wrote for one gray picture.
+/// What an ordinary encoder wrote for one gray picture.
 const ENCODED: &[u8] = &[
     0x00, 0x00, 0x00, 0x01, 0x00, 0x79, 0x00, 0x03, 0x02, 0x33, 0x80, 0x00, 0x00, 0x92, 0x04, 0x12,
     0xA0, 0x0C, 0xF7, 0xC0, 0x0C, 0x01, 0x82, 0x00, 0x04, 0x00, 0x00, 0x00, 0x01, 0x00, 0x81, 0x00,
@@ -54,7 +54,7 @@ const ENCODED_LINES: &str = r#"{"bytes":21,"offset":4,"tid":0,"type":15}
 {"bytes":40,"offset":43,"tid":0,"type":8}
 "#;
 
-// The words, a memory source and the sinks of a run, and what comes of it.
+/// The words, a memory source and the sinks of a run, and what comes of it.
 struct Row {
     words: &'static [&'static str],
     bytes: &'static [u8],
@@ -81,7 +81,7 @@ const SHOW: Row = Row {
     status: 0,
 };
 
-// Whole streams.
+/// Whole streams.
 const SHOWN: [Row; 6] = [
     SHOW,
     Row {
@@ -112,7 +112,7 @@ const SHOWN: [Row; 6] = [
     },
 ];
 
-// Streams that are refused.
+/// Streams that are refused.
 const REFUSED: [Row; 6] = [
     Row {
         bytes: &[0x00, 0x00, 0x00, 0x00, 0x01, 0x42],
@@ -163,7 +163,7 @@ const REFUSED: [Row; 6] = [
     },
 ];
 
-// Reads and writes that fail, at the first call and at later ones.
+/// Reads and writes that fail, at the first call and at later ones.
 const FAILED: [Row; 8] = [
     Row {
         failing_reads: &[0],
@@ -226,7 +226,7 @@ const FAILED: [Row; 8] = [
     },
 ];
 
-// Words that are no command.
+/// Words that are no command.
 const NOT_UNDERSTOOD: [Row; 6] = [
     Row {
         words: &[],
@@ -299,7 +299,7 @@ fn check_rows(rt: &impl Abort, alloc: Global, rows: &[Row]) -> Result<(), Fail> 
     Ok(())
 }
 
-// Runs the program as the row says, and compares what it wrote and answered.
+/// Runs the program as the row says, and compares what it wrote and answered.
 fn check_row(rt: &impl Abort, alloc: Global, at: usize, row: &Row) -> Result<(), Fail> {
     let words = words_of(alloc, row.words)?;
     let mut sources: Vec<Box<dyn Source>> = Vec::new(alloc);
@@ -329,7 +329,7 @@ fn words_of(alloc: Global, words: &[&str]) -> Result<Vec<String>, AllocError> {
     Ok(all)
 }
 
-// A sink with room for the lines of these tests.
+/// A sink with room for the lines of these tests.
 fn sink(alloc: Global, pieces: &[u32], failing: &[u64]) -> Result<MemorySink, AllocError> {
     MemorySink::new(
         alloc,

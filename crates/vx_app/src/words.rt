@@ -2,7 +2,7 @@
 
 ghost use Rattle.std.specs.Prelude.{◌≡◌, None, IfSome, IfNone, slice_get, option_copied};
 ghost use Rattle.vx_app.specs.Asked.{asked};
-ghost use Rattle.vx_app.specs.Grammar.{Command as Asked, Spells, IsUnderstood, NamesFiles, files_of, texts};
+ghost use Rattle.vx_app.specs.Grammar.{Command as Asked, AskFor, IsUnderstood, NamesFiles, files_of, texts};
 
 /// What the words ask for, with what they name.
 #[derive(Clone, Copy)]
@@ -13,7 +13,7 @@ pub enum Command<'a> {
 
 /// The command that the words spell.
 pub fn command_of(words: &[String]) -> Option<Command<'_>>
-    ensures some { IfSome result (λ command. Spells (texts words.now) (asked command)) }
+    ensures some { IfSome result (λ command. AskFor (texts words.now) (asked command)) }
     ensures none { IfNone result (¬ IsUnderstood (texts words.now)) }
 {
     match words {
@@ -38,7 +38,7 @@ pub fn file_count(words: &[String]) -> usize
 
 /// The `k`-th file that the words name, from 0.
 pub fn file_word(words: &[String], k: usize) -> Option<&str>
-    ensures files { (command : Asked) → Spells (texts words.now) command
+    ensures files { (command : Asked) → AskFor (texts words.now) command
         → option_copied result ≡ slice_get (files_of command) k }
     ensures none { ¬ IsUnderstood (texts words.now) → result ≡ None }
 {

@@ -24,7 +24,7 @@ pub fn unit_line(
     Ok(text.into_bytes())
 }
 
-// The line without its line feed.
+/// The line without its line feed.
 fn json_text(
     alloc: Global,
     header: NalHeader,
@@ -37,7 +37,7 @@ fn json_text(
     value.to_string(alloc)
 }
 
-// The same as a JSON value.
+/// The same as a JSON value.
 fn unit_value(
     alloc: Global,
     header: NalHeader,

@@ -1,7 +1,7 @@
 use Rattle.std.proofs.Common.{rules, refl, ◌+◌, ◌≤◌, arith, ◌∙◌}
 use Rattle.vx_app.specs.Show.{source_limit}
 use Rattle.std.proofs.lemmas.Result.{err_from_is_err_and}
-use Rattle.vx_app.proofs.Pieces.{source_limit-is, HasTaken-more, GivesAll-ended, GivesAll-beyond, TakesIn-stopped}
+use Rattle.vx_app.proofs.Pieces.{source_limit-is, HasTaken-more, GivesAll-ended, GivesThenStops-behind}
 use Rattle.vx_app.proofs.show.take_in.Goals as goal
 
 pub returns-then-came-eq0-clause-answer : goal.returns-then-came-eq0-clause-answer
@@ -22,4 +22,4 @@ pub returns-in_err-came-clause-answer : goal.returns-in_err-came-clause-answer
 returns-in_err-came-clause-answer g c =
     let within : c.loop-taken.taken ≤ source_limit = rw source_limit-is (omega arith) in
     let p = err_from_is_err_and c.from_residual-in_err-came.result c.from_residual-in_err-came.ensures.1 in
-    rw (p.1, p.2) (TakesIn-stopped c.loop-taken.splitter _ _ c.loop-taken.taken _ within c.loop-taken.invariant.4 refl refl c.loop-taken.invariant.5 c.in_err-came.ensures.answer)
+    rw (p.1, p.2) (GivesThenStops-behind c.loop-taken.splitter _ _ c.loop-taken.taken _ within c.loop-taken.invariant.4 refl refl c.loop-taken.invariant.5 c.in_err-came.ensures.answer)
