@@ -68,18 +68,6 @@ GivesAll-ended h h' source n kept within taken ended finish all = record {
   beyond = λ (no : true ≡ false). absurd (cc);
 }
 
--- the source has given the limit and one more
-pub GivesAll-beyond : {S : Type 0} (h : Held) (source : Change S) (n : ℕ) → HasNoFault source → n ≡ source_limit + 1 → HasTaken h (source.bytes source.old) (source.bytes source.new) n → h.all ≡ false → GivesAll h source false
-GivesAll-beyond h source n kept beyond taken all = record {
-  bytes = taken.bytes;
-  kept = kept;
-  consumed = taken.consumed;
-  stands = taken.stands;
-  all = all;
-  within = λ (no : false ≡ true). absurd (cc);
-  beyond = λ _. taken.count ∙ beyond;
-}
-
 -- what stops a piece stops the whole
 stops-then : {S T : Type 0} (piece : Change S) (whole : Change T) (stop : Stop) → piece.faults piece.old ≡ whole.faults whole.old → whole.faults whole.new ≡ piece.faults piece.new → StopsReading piece stop → StopsReading whole stop
 stops-then piece whole NotUnderstood before faults cause = cause
