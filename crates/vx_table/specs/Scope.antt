@@ -7,7 +7,7 @@ use Rattle.vx_table.specs.declared.rows.Term.TheVariants.{Number, Latest}
 use Rattle.vx_table.specs.declared.rows.Formula.{Formula}
 use Rattle.vx_table.specs.declared.rows.Formula.TheVariants.{Plain, Plus, Minus, Times, Quotient, Least, PowerOfTwo, CeilLog2, Equal, Differs, Below, AtMost, Both, Either}
 
--- Numbers are kept to 32 bits; none of H.266's comes near the last of them.
+-- Numbers are kept to 32 bits, as wide as any field; no sum or product that H.266 asks for comes near the last of them.
 abbrev pub most : ℕ
 most = 4294967295
 

@@ -74,7 +74,7 @@ pub enum Limits<N> {
 #[derive(Clone, Copy, Debug)]
 pub struct Cell<N> {
     pub field: u16,
-    /// Whether slice decoding depends on the field: one without a star.
+    /// Whether the field is kept when a structure is rewritten: one without a star.
     pub kept: bool,
     pub coding: Coding<N>,
     pub limits: Limits<N>,
