@@ -10,22 +10,22 @@ use std::test::Fail;
 use vx_bits::Refusal;
 use vx_io::MemorySink;
 
-// 64x64, 4:0:0, one picture: an SPS, a PPS and a slice.
-const STREAM_A: [u8; 49] = [
+/// 64x64, 4:0:0, one picture: an SPS, a PPS and a slice.
+const GRAY: [u8; 49] = [
     0x00, 0x00, 0x00, 0x01, 0x00, 0x79, 0x00, 0x03, 0x02, 0x33, 0x80, 0x00, 0x00, 0x82, 0x04, 0x12,
     0x00, 0x3D, 0xE0, 0x03, 0x00, 0x60, 0x80, 0x01, 0x00, 0x00, 0x00, 0x01, 0x00, 0x81, 0x00, 0x00,
     0x41, 0x02, 0x08, 0x98, 0x40, 0x80, 0x00, 0x00, 0x00, 0x01, 0x00, 0x41, 0xC4, 0x18, 0x5A, 0xA7,
     0x80,
 ];
 
-// What a stream holds: the place and the length of each unit, and why it is refused.
+/// What a stream holds: the place and the length of each unit, and why it is refused.
 #[derive(Debug, PartialEq, Drop)]
 struct Seen {
     units: Vec<(u64, usize)>,
     refusal: Option<Refusal>,
 }
 
-// Takes the units whose end is seen.
+/// Takes the units whose end is seen.
 fn take_units(
     splitter: &mut Splitter,
     units: &mut Vec<(u64, usize)>,
@@ -44,7 +44,7 @@ fn take_units(
     }
 }
 
-// The units of a stream that comes in pieces of this size.
+/// The units of a stream that comes in pieces of this size.
 fn split(alloc: Global, bytes: &[u8], size: usize) -> Result<Seen, AllocError>
     requires { 0 < size }
 {
@@ -62,11 +62,11 @@ fn split(alloc: Global, bytes: &[u8], size: usize) -> Result<Seen, AllocError>
     Ok(Seen { units, refusal })
 }
 
-// Streams, the place and the length of each unit, and the rule of framing that refuses them, with its byte.
+/// Streams, the place and the length of each unit, and the rule of framing that refuses them, with its byte.
 const STREAMS: [(&[u8], &[(u64, usize)], Option<(u8, u64)>); 19] = [
     (&[], &[], None),
     (&[0, 0, 0], &[], None),
-    (&STREAM_A, &[(4, 20), (28, 10), (42, 7)], None),
+    (&GRAY, &[(4, 20), (28, 10), (42, 7)], None),
     // Zeros around the units belong to none.
     (
         &[0, 0, 0, 0, 0, 1, 0, 65, 128, 0, 0, 0, 0, 1, 0, 65, 5, 0, 0],
@@ -171,7 +171,7 @@ fn reads_headers(rt: HostRuntime) {
     }
 }
 
-// A unit of n bytes behind a start code.
+/// A unit of n bytes behind a start code.
 fn long_stream(alloc: Global, n: usize) -> Result<Vec<u8>, AllocError> {
     let mut bytes = Vec::from_slice(alloc, [0, 0, 1, 0, 65].as_slice())?;
     let unit = vec![in alloc; 255; n.saturating_sub(2)]?;
@@ -217,7 +217,7 @@ fn finds_bad_emulation(rt: HostRuntime) {
     }
 }
 
-// The escaped form of bytes, where they don't end in 00.
+/// The escaped form of bytes, where they don't end in 00.
 fn escaped(alloc: Global, bytes: &[u8]) -> Result<Option<Vec<u8>>, AllocError> {
     if !bytes.is_empty() && bytes[bytes.len() - 1] == 0 {
         return Ok(None);
@@ -225,7 +225,7 @@ fn escaped(alloc: Global, bytes: &[u8]) -> Result<Option<Vec<u8>>, AllocError> {
     Ok(Some(escape(alloc, bytes)?))
 }
 
-// A unit without its emulation bytes, and the place behind each other byte, where no rule is broken.
+/// A unit without its emulation bytes, and the place behind each other byte, where no rule is broken.
 fn unescaped(alloc: Global, unit: &[u8]) -> Result<Option<(Vec<u8>, Vec<usize>)>, AllocError> {
     let None = emulation_fault(unit) else {
         return Ok(None);

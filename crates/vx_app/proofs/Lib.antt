@@ -1,3 +1,4 @@
+-- Lemmas on the steps of `show`, and on how a command ends.
 pub mod Concluding
 pub mod Ending
 pub mod Gained

@@ -1,3 +1,4 @@
+-- What the contracts of this crate cite.
 pub mod Asked
 pub mod Change
 pub mod Conclusion

@@ -1,3 +1,4 @@
+-- Lemmas on codings, on walks, readers and writers, and on what fields depend on.
 pub mod Starred
 mod Keepings
 pub mod Shown
