@@ -1,10 +1,12 @@
 -- Lemmas on appending codes to bits.
 use Rattle.std.proofs.Common.{◌≡◌, ℕ, ◌+◌, ◌-◌, ◌*◌, ◌/◌, ◌%◌, ◌^◌, ◌<◌, ◌≤◌, suc, Bool, true, false, List, [], ◌∷◌, ◌++◌, length, refl, sym, ◌∙◌, ap, arith, add-one}
-use Rattle.std.specs.Prelude.{replicate}
+use Rattle.std.specs.Prelude.{replicate, slice_index}
+use Rattle.std.proofs.Math.Nat.{mul-lt-mul_of_pos_right}
+use Rattle.std.proofs.Math.Seq.{get_or-append_seam}
 use Rattle.std.proofs.lemmas.List.{append-nil, append_assoc, length-append, length-replicate}
 use Rattle.std.proofs.lemmas.Nat.{pow-add, pow_pos, div_below, mod_below, div-add-mod', leading_top}
 use lib.Count.{count_leading_zeros}
-use Rattle.vx_bits.specs.Codes.{number, fixed, bits_of, to_boundary, zeros_from, one_from, exp_golomb}
+use Rattle.vx_bits.specs.Codes.{number, fixed, bits_of, to_boundary, zeros_from, one_from, exp_golomb, EndsInNoZero}
 use Rattle.vx_bits.proofs.Bits.{two_pow, pow_le, number-below, number-append, length-fixed, number-fixed, fixed_of, fixed-one, bits_of-append, length-bits_of, fixed_none}
 use Rattle.vx_bits.proofs.Alignment.{number-zeros, number-stop}
 use Rattle.vx_bits.proofs.Golomb.{exp_golomb_is}
@@ -156,3 +158,13 @@ close_is bytes items used begun few below pushed =
     = ap (λ n. true ∷ replicate n false) (stop_of bytes used begun few) in
     rw (pushed, fits, bits_of-append bytes (((begun * 2 + 1) * 2 ^ (7 - used)) ∷ []), append-nil (fixed 8 ((begun * 2 + 1) * 2 ^ (7 - used))), last_byte used begun few below)
     (sym (append_assoc (bits_of bytes) (fixed used begun) (true ∷ replicate (7 - used) false)) ∙ ap (λ ys. (bits_of bytes ++ fixed used begun) ++ ys) end)
+
+-- the last byte has a one
+pub close_end : (bytes items : List ℕ) (used begun : ℕ) → used < 8 → begun < 2 ^ used → items ≡ bytes ++ ((begun * 2 + 1) * 2 ^ (7 - used) % 256) ∷ []
+    → EndsInNoZero items
+close_end bytes items used begun few below pushed k size none =
+    let at_end : length bytes ≡ k = omega (arith, size, ap length pushed, length-append bytes (((begun * 2 + 1) * 2 ^ (7 - used) % 256) ∷ [])) in
+    let is_zero : (begun * 2 + 1) * 2 ^ (7 - used) % 256 ≡ 0
+    = sym (get_or-append_seam bytes ((begun * 2 + 1) * 2 ^ (7 - used) % 256) [] 0) ∙ ap (λ n. slice_index (bytes ++ ((begun * 2 + 1) * 2 ^ (7 - used) % 256) ∷ []) n) at_end ∙ ap (λ xs. slice_index xs k) (sym pushed) ∙ none in
+    let one : 0 * 2 ^ (7 - used) < (begun * 2 + 1) * 2 ^ (7 - used) = mul-lt-mul_of_pos_right (omega arith) (pow_pos (7 - used)) in
+    absurd (omega (arith, last_fits used begun few below, is_zero, one))

@@ -1,11 +1,12 @@
 -- Lemmas on Exp-Golomb codes: which code a list of bits begins with.
-use Rattle.std.proofs.Common.{◌≡◌, ◌≢◌, ℕ, ◌+◌, ◌-◌, ◌*◌, ◌^◌, ◌<◌, ◌≤◌, zero, suc, Bool, true, false, List, [], ◌∷◌, ◌++◌, length, take, drop, min, refl, sym, ◌∙◌, ap, arith, add-one, ◌⊎◌, inl, inr, ℤ, pos, negsuc}
-use Rattle.std.specs.Prelude.{replicate}
+use Rattle.std.proofs.Common.{◌≡◌, ◌≢◌, ℕ, ◌+◌, ◌-◌, ◌*◌, ◌^◌, ◌<◌, ◌≤◌, zero, suc, Bool, true, false, List, [], ◌∷◌, ◌++◌, length, take, drop, min, refl, sym, ◌∙◌, ap, arith, add-one, ◌⊎◌, inl, inr, ℤ, pos, negsuc, ◌/◌, ◌%◌}
+use Rattle.std.specs.Prelude.{replicate, neg_ℤ}
 use Rattle.std.proofs.lemmas.Nat.{pow_pos, leading_top, leading_length}
 use Rattle.std.proofs.lemmas.List.{append-nil, append_assoc, length-append, length-take, length-take-le, take_all, take_min, length-replicate, take-append-drop, drop_at}
 use Rattle.std.proofs.lemmas.Bool.Decides.{leb_tells}
 use lib.Count.{count_leading_zeros}
 use Rattle.vx_bits.specs.Codes.{number, fixed, magnitude, leading_zeros, exp_golomb, IsCodeNumber, BeginsWithCode, EndsWithinCode, BeginsTooLong, zeros_in_front, code_number}
+use Rattle.vx_bits.specs.Laws.{mapped}
 use Rattle.vx_bits.specs.Place.{Place, Takes}
 use Rattle.vx_bits.proofs.Bits.{two_pow, pow_le, number-below, length-fixed, fixed-one, fixed_of, number-fixed, same_fronts}
 
@@ -351,3 +352,30 @@ signed_once (pos (suc n)) (negsuc m) e = absurd (omega arith)
 signed_once (negsuc n) (pos zero) e = absurd (omega arith)
 signed_once (negsuc n) (pos (suc m)) e = absurd (omega arith)
 signed_once (negsuc n) (negsuc m) e = let same : n ≡ m = omega arith in rw same refl
+
+pub mapped_code : (v : ℤ) → v ≡ mapped (code_number v)
+mapped_code (pos zero) = refl
+mapped_code (pos (suc n)) =
+    let odd : (2 * n + 1) % 2 ≡ 1 = omega arith in
+    let half : (2 * n + 1 + 1) / 2 ≡ suc n = omega arith in
+    rw (odd, half) refl
+mapped_code (negsuc n) =
+    let even : (2 * n + 2) % 2 ≡ 0 = omega arith in
+    let half : (2 * n + 2 + 1) / 2 ≡ suc n = omega arith in
+    rw (even, half) refl
+
+code_of_half : (k m : ℕ) → m ≡ k / 2 → k % 2 ≡ 0 → code_number (neg_ℤ (pos m)) ≡ k
+code_of_half k zero half even = omega (arith, half, even)
+code_of_half k (suc m) half even = omega (arith, half, even)
+
+pub code_mapped : (k : ℕ) → code_number (mapped k) ≡ k
+code_mapped k =
+    elim (leb_tells 1 (k % 2)) [
+      | inl p ↦
+          let odd : k % 2 ≡ 1 = omega (arith, p.1) in
+          let half : (k + 1) / 2 ≡ suc (k / 2) = omega (arith, odd) in
+          rw (odd, half) (omega (arith, odd))
+      | inr p ↦
+          let even : k % 2 ≡ 0 = omega (arith, p.1) in
+          rw even (code_of_half k ((k + 1) / 2) (omega (arith, even)) even)
+    ]

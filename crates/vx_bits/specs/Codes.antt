@@ -1,6 +1,6 @@
 -- The codes of H.266 as lists of bits: u(n) of clause 7.2, ue(v) and se(v) of clause 9.2.
 -- A one is `true`, and the bit that is read first stands first.
-use Rattle.std.specs.Prelude.{◌≡◌, ℕ, ◌+◌, ◌-◌, ◌*◌, ◌%◌, ◌^◌, ◌<◌, zero, suc, ℤ, pos, negsuc, Bool, true, false, if◌then◌else◌, nat_le, List, [], ◌∷◌, ◌++◌, length, replicate}
+use Rattle.std.specs.Prelude.{◌≡◌, ◌≢◌, ℕ, ◌+◌, ◌-◌, ◌*◌, ◌%◌, ◌^◌, ◌<◌, zero, suc, ℤ, pos, negsuc, Bool, true, false, if◌then◌else◌, nat_le, List, [], ◌∷◌, ◌++◌, length, replicate, slice_index}
 
 -- the number of which these bits are the binary representation, highest first
 abbrev pub number : List Bool → ℕ
@@ -22,7 +22,7 @@ unfoldable pub magnitude : ℕ → ℕ → ℕ
 magnitude zero n = 0
 magnitude (suc k) n = if nat_le (2 ^ suc k) n then suc k else magnitude k n
 
--- the number of zeros before the first one of the code of v: 2^k ≤ v + 1 < 2^(k + 1)
+-- the number of zeros before the first one of the code of v: 2^k ≤ v + 1 < 2^(k + 1), where v has a code
 unfoldable pub leading_zeros : ℕ → ℕ
 leading_zeros v = magnitude 31 (v + 1)
 
@@ -55,6 +55,10 @@ zeros_from place = replicate (to_boundary place) false
 -- a one, and zeros up to the byte boundary: byte_alignment() and rbsp_trailing_bits() (clause 7.3.2)
 abbrev pub one_from : ℕ → List Bool
 one_from place = true ∷ zeros_from (place + 1)
+
+-- bytes don't end in 00, as the bytes of a NAL unit may not (clause 7.4.2.1)
+abbrev pub EndsInNoZero : List ℕ → Type 0
+EndsInNoZero bytes = (k : ℕ) → length bytes ≡ k + 1 → slice_index bytes k ≢ 0
 
 -- these bits begin with that code
 abbrev pub BeginsWith : List Bool → List Bool → Type 0

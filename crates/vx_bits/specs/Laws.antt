@@ -1,6 +1,6 @@
 -- What the codes promise: a code is read back as its number, whatever follows it.
-use Rattle.std.specs.Prelude.{◌≡◌, ℕ, ◌+◌, ◌-◌, ◌^◌, ◌<◌, Bool, true, false, List, ◌∷◌, ◌++◌, ◌⊎◌, length, replicate}
-use Rattle.vx_bits.specs.Codes.{number, fixed, exp_golomb, IsCodeNumber, BeginsWithCode, EndsWithinCode, BeginsTooLong}
+use Rattle.std.specs.Prelude.{◌≡◌, ◌==◌, ℕ, ◌+◌, ◌-◌, ◌/◌, ◌%◌, ◌^◌, ◌<◌, ℤ, pos, neg_ℤ, Bool, true, false, if◌then◌else◌, List, ◌∷◌, ◌++◌, ◌⊎◌, ◌↔◌, length, replicate}
+use Rattle.vx_bits.specs.Codes.{number, fixed, exp_golomb, IsCodeNumber, BeginsWithCode, EndsWithinCode, BeginsTooLong, code_number}
 
 -- bits that begin with a code tell its number and what follows it; so no code is a proper prefix of another
 abbrev pub TellsApart : {A : Type 0} → (A → Type 0) → (A → List Bool) → Type 0
@@ -20,6 +20,14 @@ IsParsed =
     → length bits < 32
     → IsCodeNumber (2 ^ length bits - 1 + number bits)
     × (exp_golomb (2 ^ length bits - 1 + number bits) ≡ replicate (length bits) false ++ true ∷ bits)
+
+-- the value that se(v) spells by codeNum k: (−1)^(k + 1) · Ceil(k ÷ 2) (clause 9.2.2)
+abbrev pub mapped : ℕ → ℤ
+mapped k = if k % 2 == 1 then pos ((k + 1) / 2) else neg_ℤ (pos ((k + 1) / 2))
+
+-- each codeNum has the value of clause 9.2.2, and no value has another codeNum
+abbrev pub IsMapped : Type 0
+IsMapped = (v : ℤ) (k : ℕ) → (code_number v ≡ k) ↔ (v ≡ mapped k)
 
 -- bits begin with a code, end within one, or begin with 32 zeros
 abbrev pub BeginsInThreeWays : Type 0

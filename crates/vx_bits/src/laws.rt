@@ -1,7 +1,7 @@
 //! Laws of the codes: functions that do nothing, each with a law as its contract.
 ghost use Rattle.std.specs.Prelude.{ℕ, ◌^◌, ◌<◌};
 ghost use Rattle.vx_bits.specs.Codes.{fixed, exp_golomb, signed_exp_golomb, IsCodeNumber, code_number};
-ghost use Rattle.vx_bits.specs.Laws.{TellsApart, IsBinary, IsParsed, BeginsInThreeWays, BeginsInOneWay};
+ghost use Rattle.vx_bits.specs.Laws.{TellsApart, IsBinary, IsParsed, IsMapped, BeginsInThreeWays, BeginsInOneWay};
 
 /// u(n) is read back as its number, whatever follows, and no code of a width is a proper prefix of another.
 pub fn fixed_tells_apart()
@@ -16,6 +16,11 @@ pub fn fixed_is_binary()
 /// The codes of ue(v) are those that H.266 clause 9.2 parses, with the numbers that it gives them.
 pub fn exp_golomb_is_parsed()
     ensures { IsParsed }
+{}
+
+/// The codes of se(v) stand for the values that H.266 clause 9.2.2 gives them, each for one.
+pub fn signed_exp_golomb_is_mapped()
+    ensures { IsMapped }
 {}
 
 /// ue(v) is read back as its number, whatever follows, and no code is a proper prefix of another.

@@ -1,6 +1,6 @@
 //! Writing: codes are appended to bits.
 ghost use Rattle.std.specs.Prelude.{◌≡◌, ℕ, ◌+◌, ◌*◌, ◌/◌, ◌%◌, ◌^◌, ◌<◌, ◌≤◌, Bool, false, List, [], ◌++◌, length, replicate, IfOk, OnOk, OnErr, vec_len, vec_capacity};
-ghost use Rattle.vx_bits.specs.Codes.{fixed, exp_golomb, signed_exp_golomb, code_number, bits_of, zeros_from, one_from, IsCodeNumber};
+ghost use Rattle.vx_bits.specs.Codes.{fixed, exp_golomb, signed_exp_golomb, code_number, bits_of, zeros_from, one_from, EndsInNoZero, IsCodeNumber};
 
 use std::alloc::{AllocError, Global};
 use std::marker::Model;
@@ -151,7 +151,8 @@ impl BitWriter {
     ///
     /// Where memory runs out; the bits are then given up.
     pub fn close(self) -> Result<Vec<u8>, AllocError>
-        ensures { IfOk result (λ bytes. bits_of bytes.items ≡ self ++ one_from (length self)) }
+        ensures bits { IfOk result (λ bytes. bits_of bytes.items ≡ self ++ one_from (length self)) }
+        ensures end { IfOk result (λ bytes. EndsInNoZero bytes.items) }
     {
         let BitWriter {
             mut bytes,

@@ -1,5 +1,5 @@
 -- Lemmas on what a sink gained of a piece.
-use Rattle.std.proofs.Common.{◌≡◌, ℕ, ◌-◌, List, ◌++◌, Option, sym, ap, ◌∙◌, length, take, drop, append_assoc, take-append-drop}
+use Rattle.std.proofs.Common.{◌≡◌, ℕ, ◌-◌, List, ◌++◌, Option, sym, ap, arith, ◌∙◌, length, take, drop, append_assoc, length-append, take-append-drop}
 use Rattle.std.proofs.lemmas.List.{take_rest}
 use Rattle.std.proofs.Math.Seq.{take-append_seam}
 use Rattle.std.specs.Io.{StartsWith}
@@ -16,6 +16,7 @@ pub AppendsFront-append : (a b : Option (List ℕ)) (xs ys : List ℕ) → Appen
 AppendsFront-append a b xs ys p = record {
   front = p.front;
   of_piece = StartsWith-of_split (xs ++ ys) p.front (drop (length p.front) xs ++ ys) (ap (λ l. l ++ ys) (starts_with_rest xs p.front p.of_piece) ∙ append_assoc p.front (drop (length p.front) xs) ys);
+  short = omega (arith, p.short, length-append xs ys);
   gained = p.gained;
 }
 
@@ -24,6 +25,7 @@ pub AppendsFront-after : (a b c : Option (List ℕ)) (xs ys : List ℕ) → Appe
 AppendsFront-after a b c xs ys p q = record {
   front = xs ++ q.front;
   of_piece = StartsWith-of_split (xs ++ ys) (xs ++ q.front) (drop (length q.front) ys) (ap (λ l. xs ++ l) (starts_with_rest ys q.front q.of_piece) ∙ sym (append_assoc xs q.front (drop (length q.front) ys)));
+  short = omega (arith, q.short, length-append xs q.front, length-append xs ys);
   gained = Appends-trans a b c xs q.front p q.gained;
 }
 

@@ -26,7 +26,7 @@ pub trait Source: Drop {
     // The bytes that the source has left, where it tells them.
     ghost bytes_left: { Self → Option (List ℕ) };
 
-    // How many of its reads have failed. The count stops at 2^64 - 1.
+    // A count that rises with each failed read. It stops at 2^64 - 1.
     ghost read_faults: { Self → ℕ };
 
     /// Reads some bytes to the front of `into`, and answers how many they are. What stands behind

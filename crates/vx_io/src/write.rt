@@ -27,7 +27,7 @@ pub trait Sink {
     // The bytes that the sink has taken, where it tells them.
     ghost bytes_taken: { Self → Option (List ℕ) };
 
-    // How many of its writes have failed. The count stops at 2^64 - 1.
+    // A count that rises with each failed write. It stops at 2^64 - 1.
     ghost write_faults: { Self → ℕ };
 
     /// Takes some bytes from the front of `piece`, and answers how many they are: at least one,
@@ -42,7 +42,7 @@ pub trait Sink {
 /// Writes all of `piece`. It takes no memory.
 pub fn write_all<K: Sink>(out: &mut K, piece: &[u8]) -> Result<(), SinkFailed>
     ensures ok { OnOk result (Appends (K.bytes_taken out.old) (K.bytes_taken out.new) piece.now) }
-    // A failed write leaves the front of the piece written.
+    // A failed write leaves a front of the piece written, and not all of it.
     ensures err { OnErr result (AppendsFront (K.bytes_taken out.old) (K.bytes_taken out.new) piece.now) }
     ensures faults { CountsFault (K.write_faults out.old) (K.write_faults out.new) result }
     // Of nothing, nothing is asked of the sink.

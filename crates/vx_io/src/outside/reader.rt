@@ -37,7 +37,8 @@ impl<R: Read + Drop> Source for ReaderSource<R> {
 
     ghost read_faults = { λ s. s.faults };
 
-    /// A read fails where the reader's does. Each failure adds one to the count.
+    /// Asks the reader once; its error is a failed read, and adds one to the count. That no other
+    /// read fails is tested, and no contract: those of std's readers don't tell when one fails.
     fn read(&mut self, into: &mut [u8]) -> Result<usize, SourceFailed>
         ensures bound { ReadsAtMost result into.new }
         ensures bytes { ReadConsumes None None result into.new }

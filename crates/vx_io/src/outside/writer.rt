@@ -33,8 +33,9 @@ impl<W: Write + Drop> Sink for WriterSink<W> {
 
     ghost write_faults = { λ s. s.faults };
 
-    /// A write fails where the writer's does, and where the writer takes none of the bytes that it
-    /// is given. Each failure adds one to the count.
+    /// Asks the writer once; its error, or an answer that it took none of the bytes, is a failed
+    /// write, and adds one to the count. That no other write fails is tested, and no contract:
+    /// those of std's writers don't tell when one fails.
     fn write(&mut self, piece: &[u8]) -> Result<usize, SinkFailed>
         ensures bound { WritesAtMost result piece.now }
         ensures bytes { WriteAppends None None result piece.now }
