@@ -1,11 +1,11 @@
 -- Lemmas on alignment: zeros, or a one and zeros, up to the byte boundary.
 use Rattle.std.proofs.Common.{◌≡◌, ◌≢◌, ℕ, ◌+◌, ◌-◌, ◌%◌, ◌^◌, ◌≤◌, zero, suc, Bool, true, false, List, [], ◌∷◌, ◌++◌, length, take, drop, refl, sym, ◌∙◌, ap, arith}
 use Rattle.std.specs.Prelude.{replicate, Contains}
+use Rattle.std.proofs.lemmas.Nat.{pow_pos}
 use Rattle.std.proofs.lemmas.List.{length-take-le, length-replicate, take-append-drop, take_at}
 use Rattle.vx_bits.specs.Codes.{number, to_boundary, zeros_from, one_from, BeginsWith}
 use Rattle.vx_bits.specs.Place.{Place, Takes, taken}
 use Rattle.vx_bits.proofs.Bits.{fixed_of}
-use Rattle.std.proofs.lemmas.Nat.{pow_pos}
 
 -- ---- the place
 

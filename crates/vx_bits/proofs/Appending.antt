@@ -4,10 +4,10 @@ use Rattle.std.specs.Prelude.{replicate, slice_index}
 use Rattle.std.proofs.Math.Nat.{mul-lt-mul_of_pos_right}
 use Rattle.std.proofs.Math.Seq.{get_or-append_seam}
 use Rattle.std.proofs.lemmas.List.{append-nil, append_assoc, length-append, length-replicate}
-use Rattle.std.proofs.lemmas.Nat.{pow-add, pow_pos, div_below, mod_below, div-add-mod', leading_top}
+use Rattle.std.proofs.lemmas.Nat.{pow-add, pow_pos, pow_below, div_below, mod_below, div-add-mod', leading_top}
 use lib.Count.{count_leading_zeros}
 use Rattle.vx_bits.specs.Codes.{number, fixed, bits_of, to_boundary, zeros_from, one_from, exp_golomb, EndsInNoZero}
-use Rattle.vx_bits.proofs.Bits.{two_pow, pow_le, number-below, number-append, length-fixed, number-fixed, fixed_of, fixed-one, bits_of-append, length-bits_of, fixed_none}
+use Rattle.vx_bits.proofs.Bits.{two_pow, pow_le, number-below, number-append, length-fixed, number-fixed, fixed_of, fixed-one, bits_of-append, length-bits_of, fixed_none, shifted_one}
 use Rattle.vx_bits.proofs.Alignment.{number-zeros, number-stop}
 use Rattle.vx_bits.proofs.Golomb.{exp_golomb_is}
 
@@ -116,39 +116,37 @@ boundary_of bytes used begun few = rw (length_begun bytes used begun) (omega ari
 pub stop_of : (bytes : List ℕ) (used begun : ℕ) → used < 8 → 7 - used ≡ to_boundary (length (bits_of bytes ++ fixed used begun) + 1)
 stop_of bytes used begun few = rw (length_begun bytes used begun) (omega arith)
 
--- the last byte
+-- a one and zeros as a number
+pub fixed-stop : (zeros : ℕ) → fixed (suc zeros) (2 ^ zeros) ≡ true ∷ replicate zeros false
+fixed-stop zeros = ap (fixed (suc zeros)) (sym (number-stop zeros)) ∙ fixed_of (suc zeros) (true ∷ replicate zeros false) (ap suc (length-replicate zeros false))
+
+-- the last byte: what was begun, a one and zeros
+pub last_word : (used begun : ℕ) → begun * 2 ^ suc (7 - used) + 2 ^ (7 - used) ≡ (begun * 2 + 1) * 2 ^ (7 - used)
+last_word used begun = rw (two_pow (7 - used)) (omega arith)
+
 pub last_byte : (used begun : ℕ) → used < 8 → begun < 2 ^ used → fixed 8 ((begun * 2 + 1) * 2 ^ (7 - used)) ≡ fixed used begun ++ true ∷ replicate (7 - used) false
 last_byte used begun few below =
     let size : used + suc (7 - used) ≡ 8 = omega arith in
-    let stop : true ∷ replicate (7 - used) false ≡ fixed (suc (7 - used)) (2 ^ (7 - used))
-    = sym (fixed_of (suc (7 - used)) (true ∷ replicate (7 - used) false) (ap suc (length-replicate (7 - used) false))) ∙ ap (fixed (suc (7 - used))) (number-stop (7 - used)) in
-    let low : 2 ^ (7 - used) < 2 ^ suc (7 - used) = omega (arith, two_pow (7 - used), pow_pos (7 - used)) in
-    let word : begun * 2 ^ suc (7 - used) + 2 ^ (7 - used) ≡ (begun * 2 + 1) * 2 ^ (7 - used)
-    = rw (two_pow (7 - used)) (omega arith) in
-    sym (ap (λ ys. fixed used begun ++ ys) stop ∙ fixed_join used (suc (7 - used)) begun (2 ^ (7 - used)) below low ∙ ap (λ k. fixed k (begun * 2 ^ suc (7 - used) + 2 ^ (7 - used))) size ∙ ap (fixed 8) word)
+    let low : 2 ^ (7 - used) < 2 ^ suc (7 - used) = pow_below (7 - used) (suc (7 - used)) (omega arith) in
+    sym (ap (λ ys. fixed used begun ++ ys) (sym (fixed-stop (7 - used))) ∙ fixed_join used (suc (7 - used)) begun (2 ^ (7 - used)) below low ∙ ap (λ k. fixed k (begun * 2 ^ suc (7 - used) + 2 ^ (7 - used))) size ∙ ap (fixed 8) (last_word used begun))
 
 pub last_fits : (used begun : ℕ) → used < 8 → begun < 2 ^ used → (begun * 2 + 1) * 2 ^ (7 - used) < 256
 last_fits used begun few below =
     let size : used + suc (7 - used) ≡ 8 = omega arith in
-    let low : 2 ^ (7 - used) < 2 ^ suc (7 - used) = omega (arith, two_pow (7 - used), pow_pos (7 - used)) in
-    let word : begun * 2 ^ suc (7 - used) + 2 ^ (7 - used) ≡ (begun * 2 + 1) * 2 ^ (7 - used)
-    = rw (two_pow (7 - used)) (omega arith) in
+    let low : 2 ^ (7 - used) < 2 ^ suc (7 - used) = pow_below (7 - used) (suc (7 - used)) (omega arith) in
     let all : begun * 2 ^ suc (7 - used) + 2 ^ (7 - used) < 2 ^ (used + suc (7 - used)) = join_below used (suc (7 - used)) begun (2 ^ (7 - used)) below low in
     let end : 2 ^ (used + suc (7 - used)) ≡ 256 = rw size refl in
-    omega arith
+    omega (arith, last_word used begun)
 
 pub align_is : (zeros : ℕ) (old : List Bool) → zeros ≡ to_boundary (length old) → replicate zeros false ++ fixed 0 0 ≡ zeros_from (length old)
 align_is zeros old is = rw (fixed_none 0, append-nil (replicate zeros false), is) refl
 
--- a one and the zeros as a number
+-- the word of a one and zeros
 pub stop_word : (zeros : ℕ) → zeros < 8 → (1 * 2 ^ zeros % 2 ^ 64 ≡ 2 ^ zeros) × (2 ^ zeros < 2 ^ (zeros + 1))
-stop_word zeros few = (omega (arith, pow_le zeros 7 (omega arith)), rw (add-one zeros) (omega (arith, two_pow zeros, pow_pos zeros)))
+stop_word zeros few = (shifted_one zeros (omega arith), pow_below zeros (zeros + 1) (omega arith))
 
 pub stop_put : (zeros : ℕ) (old : List Bool) → zeros < 8 → zeros ≡ to_boundary (length old + 1) → replicate 0 false ++ fixed (zeros + 1) (1 * 2 ^ zeros % 2 ^ 64) ≡ one_from (length old)
-stop_put zeros old few is =
-    let stop : fixed (suc zeros) (2 ^ zeros) ≡ true ∷ replicate zeros false
-    = ap (fixed (suc zeros)) (sym (number-stop zeros)) ∙ fixed_of (suc zeros) (true ∷ replicate zeros false) (ap suc (length-replicate zeros false)) in
-    rw ((stop_word zeros few).0, add-one zeros, stop, is) refl
+stop_put zeros old few is = rw ((stop_word zeros few).0, add-one zeros, fixed-stop zeros, is) refl
 
 pub close_is : (bytes items : List ℕ) (used begun : ℕ) → used < 8 → begun < 2 ^ used → items ≡ bytes ++ ((begun * 2 + 1) * 2 ^ (7 - used) % 256) ∷ []
     → bits_of items ≡ (bits_of bytes ++ fixed used begun) ++ one_from (length (bits_of bytes ++ fixed used begun))

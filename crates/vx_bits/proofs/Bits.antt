@@ -14,6 +14,10 @@ two_pow n = rw (← add-one n, pow-add 2 n 1) (omega arith)
 pub pow_le : (i j : ℕ) → i ≤ j → 2 ^ i ≤ 2 ^ j
 pow_le i j h = pow-le-pow_right {n = 2} (omega arith) h
 
+-- a one that a shift doesn't lose
+pub shifted_one : (count : ℕ) → count < 64 → 1 * 2 ^ count % 2 ^ 64 ≡ 2 ^ count
+shifted_one count h = omega (arith, pow_le count 63 (omega arith))
+
 -- ---- numbers of bits
 
 pub number-below : (xs : List Bool) → number xs < 2 ^ length xs
@@ -28,6 +32,9 @@ number-append (true ∷ xs) ys =
 number-append (false ∷ xs) ys = rw (number-append xs ys) (omega arith)
 
 -- ---- u(n)
+
+pub fixed_none : (v : ℕ) → fixed 0 v ≡ []
+fixed_none v = unfold fixed in refl
 
 pub length-fixed : (n v : ℕ) → length (fixed n v) ≡ n
 unfolding fixed
@@ -114,9 +121,6 @@ pub bits_of-append : (xs ys : List ℕ) → bits_of (xs ++ ys) ≡ bits_of xs ++
 bits_of-append [] ys = refl
 bits_of-append (x ∷ xs) ys = rw (bits_of-append xs ys) (sym (append_assoc (fixed 8 x) (bits_of xs) (bits_of ys)))
 
-pub shifted_one : (count : ℕ) → count < 64 → 1 * 2 ^ count % 2 ^ 64 ≡ 2 ^ count
-shifted_one count h = omega (arith, pow_le count 63 (omega arith))
-
 -- ---- taking
 
 pub takes_fixed : (n v : ℕ) (old new : Place) → n ≤ length old.left → v ≡ number (take n old.left) → new.left ≡ drop n old.left → new.total ≡ old.total → (v < 2 ^ n) × Takes (fixed n v) old new
@@ -126,8 +130,3 @@ takes_fixed n v old new within is behind total =
     let below : v < 2 ^ n = rw is fits in
     let code : fixed n v ≡ take n old.left = rw is (fixed_of n (take n old.left) size) in
     (below, record { left = rw (code, behind) (sym (take-append-drop n old.left)); total = total })
-
--- ---- appending
-
-pub fixed_none : (v : ℕ) → fixed 0 v ≡ []
-fixed_none v = unfold fixed in refl

@@ -1,4 +1,4 @@
--- Lists of fields.
+-- What is looked up in a list of fields.
 use Rattle.std.specs.Prelude.{ℕ, ℤ, ◌==◌, List, Option, option_map, find}
 use Rattle.vx_bits.specs.declared.list.Item.{Item}
 

@@ -19,7 +19,10 @@ pub use laws::{
     bits_begin_in_one_way, exp_golomb_is_parsed, exp_golomb_tells_apart, fixed_is_binary,
     fixed_tells_apart, signed_exp_golomb_tells_apart,
 };
-pub use list::{BodyList, ByteLists, Bytes, Copied, Fields, IdList, Item, Kept, Listed};
+pub use list::{
+    BodyList, ByReference, ByValue, ByteLists, Bytes, Copied, Entries, Fields, IdList, Item, Kept,
+    Listed,
+};
 pub use reader::BitReader;
 pub use refusal::{BitCause, ReadError, Refusal};
 pub use writer::BitWriter;

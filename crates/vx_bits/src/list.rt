@@ -1,33 +1,47 @@
-//! Lists: two generic types that carry every list type of the project, and those that belong here.
+//! Lists: one generic type that carries every list type of the project, and those that belong here.
 //!
 //! A list type elsewhere is one line, as `pub type RectList = Copied<Rect>;`.
 ghost use Rattle.std.specs.Prelude.{◌≡◌, ◌<◌, List, [], ◌∷◌, ◌++◌, length, Some, OnOk, OnErr, slice_get, slice_index_or};
 ghost use Rattle.vx_bits.specs.Fields.{first_value};
 
 use std::alloc::{AllocError, Global};
-use std::marker::Model;
+use std::marker::{Model, PhantomData};
 
-/// A list whose entries are handed out by value.
+/// A list, whose entries are handed out as `By` says: [`ByValue`] or [`ByReference`].
 ///
 /// It is seen as the list of its entries.
 #[derive(Drop)]
-pub struct Copied<T> {
+pub struct Entries<T, By> {
     entries: Vec<T>,
+    by: PhantomData<By>,
 }
 
-impl<T> Model for Copied<T> {
+/// A list's `item` gives a copy of the entry.
+pub struct ByValue;
+
+/// A list's `item` lends the entry.
+pub struct ByReference;
+
+/// A list whose entries are handed out by value.
+pub type Copied<T> = Entries<T, ByValue>;
+
+/// A list whose entries are lent.
+pub type Listed<T> = Entries<T, ByReference>;
+
+impl<T, By> Model for Entries<T, By> {
     ghost Value = { List T };
 
     ghost view = { λ c. c.entries.items };
 }
 
-impl<T: Copy> Copied<T> {
+impl<T: Drop, By> Entries<T, By> {
     /// An empty list. Takes no memory yet.
-    pub fn new(alloc: Global) -> Copied<T>
+    pub fn new(alloc: Global) -> Entries<T, By>
         ensures { result ≡ [] }
     {
-        Copied {
+        Entries {
             entries: Vec::new(alloc),
+            by: PhantomData,
         }
     }
 
@@ -50,7 +64,9 @@ impl<T: Copy> Copied<T> {
     {
         self.entries.len()
     }
+}
 
+impl<T: Copy> Copied<T> {
     /// The entry at an index, counted from 0.
     pub fn item(&self, i: usize) -> T
         requires { i < length self.now }
@@ -61,50 +77,7 @@ impl<T: Copy> Copied<T> {
     }
 }
 
-/// A list whose entries are lent.
-///
-/// It is seen as the list of its entries.
-#[derive(Drop)]
-pub struct Listed<T> {
-    entries: Vec<T>,
-}
-
-impl<T> Model for Listed<T> {
-    ghost Value = { List T };
-
-    ghost view = { λ c. c.entries.items };
-}
-
 impl<T: Drop> Listed<T> {
-    /// An empty list. Takes no memory yet.
-    pub fn new(alloc: Global) -> Listed<T>
-        ensures { result ≡ [] }
-    {
-        Listed {
-            entries: Vec::new(alloc),
-        }
-    }
-
-    /// Appends an entry.
-    ///
-    /// # Errors
-    ///
-    /// Where memory runs out, and the list then stays as it was.
-    pub fn push(&mut self, entry: T) -> Result<(), AllocError>
-        ensures ok { OnOk result (self.new ≡ self.old ++ entry ∷ []) }
-        ensures err { OnErr result (self.new ≡ self.old) }
-    {
-        self.entries.push(entry)?;
-        Ok(())
-    }
-
-    /// The number of entries.
-    pub fn len(&self) -> usize
-        ensures { result ≡ length self.now }
-    {
-        self.entries.len()
-    }
-
     /// The entry at an index, counted from 0.
     pub fn item(&self, i: usize) -> &T
         requires { i < length self.now }

@@ -6,7 +6,10 @@ ghost use Rattle.vx_io.specs.Memory.{fresh_plan, after_call, after_fault, moved_
 
 use std::marker::Model;
 
-/// The calls that were made, and how each goes. In contracts it is a `Plan`.
+/// The calls that were made, and how each goes.
+///
+/// It is seen as the bounds and the failing calls, how many calls were made, and how many of them
+/// failed.
 #[derive(Drop)]
 pub(crate) struct Calls {
     pieces: Vec<u32>,

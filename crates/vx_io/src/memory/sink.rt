@@ -13,6 +13,8 @@ use std::marker::Model;
 
 /// A sink in memory, with room for a number of bytes. It tells its bytes.
 ///
+/// It is seen as the bytes that it took, its room and how its calls go.
+///
 /// Writes go in pieces, and some fail, as reads of a [`MemorySource`](super::MemorySource) do. A
 /// write fails also where the room is used up, unless it is of nothing.
 #[derive(Drop)]

@@ -12,6 +12,8 @@ use std::marker::Model;
 
 /// A source over bytes in memory. It tells its bytes.
 ///
+/// It is seen as the bytes that are left and how its calls go.
+///
 /// Reads come in pieces: read i, from 0, gives at most `pieces[i % pieces.len()]` bytes, where a 0
 /// counts as 1, and no pieces set no bound. The reads whose numbers `failing` lists fail, and no
 /// others. Numbers stop at 2^64 - 1, which all reads from that one on have.

@@ -7,8 +7,9 @@ ghost use Rattle.vx_io.specs.Faults.{CountsFault, count_after};
 use crate::read::{Source, SourceFailed};
 use std::marker::Model;
 
-/// A source that stands for a file that could not be opened. Every read fails. In contracts it is
-/// its count of faults.
+/// A source that stands for a file that could not be opened. Every read fails.
+///
+/// It is seen as its count of faults.
 #[derive(Drop)]
 pub struct ClosedSource {
     faults: u64,

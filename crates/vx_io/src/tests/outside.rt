@@ -1,4 +1,4 @@
-//! Real files: what no clause can say.
+//! Real files, of which no clause can speak, and each source and sink of the outside once.
 use crate::{
     ClosedSource, FileSource, ReaderSource, Sink, SinkFailed, Source, SourceFailed, WriterSink,
     write_all,
