@@ -73,9 +73,9 @@ impl<'a> Unwritten<'a> {
         self.at == self.end
     }
 
-    /// Takes the next item.
+    /// Takes the next item, where one is left.
     pub fn next(&mut self) -> Option<Item>
-        ensures { MatchOption result (self.old ≡ []) (λ item. self.old ≡ item ∷ self.new) }
+        ensures { MatchOption result ((self.old ≡ []) × (self.new ≡ [])) (λ item. self.old ≡ item ∷ self.new) }
     {
         if self.at == self.end {
             return None;
