@@ -3,9 +3,8 @@
 ghost use Rattle.std.specs.Prelude.{◌≡◌, ◌↔◌, ℕ, pos, ◌^◌, ◌<◌, ◌-◌, ◌≤◌, List, ◌∷◌, ◌++◌, [], length, take, drop, IsTrue, OnOk, OnErr, MatchOption};
 ghost use Rattle.vx_bits.specs.declared.list.Item.{Item};
 ghost use Rattle.vx_table.specs.Spelling.{IsCodable, HasCode, code_of};
-ghost use Rattle.vx_table.specs.Items.{TellsValue};
 ghost use Rattle.vx_table.specs.Forms.{form_of};
-ghost use Rattle.vx_table.specs.Writing.{TakesValue, Writes, ItemsLeadTo};
+ghost use Rattle.vx_table.specs.Writing.{TellsValue, TakesValue, Writes, ItemsLeadTo};
 
 use crate::ranges::is_value;
 use crate::rows::{Cell, Coding, Row};
@@ -74,9 +73,9 @@ impl<'a> Unwritten<'a> {
         self.at == self.end
     }
 
-    /// Takes the next item.
+    /// Takes the next item, where one is left.
     pub fn next(&mut self) -> Option<Item>
-        ensures { MatchOption result (self.old ≡ []) (λ item. self.old ≡ item ∷ self.new) }
+        ensures { MatchOption result ((self.old ≡ []) × (self.new ≡ [])) (λ item. self.old ≡ item ∷ self.new) }
     {
         if self.at == self.end {
             return None;
