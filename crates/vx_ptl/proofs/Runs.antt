@@ -3,7 +3,7 @@ use Rattle.std.proofs.Common.{◌≡◌, ℕ, ◌+◌, Bool, List, [], ◌∷◌
 use Rattle.std.proofs.lemmas.List.{append_assoc, append-nil, length-append, take-append-drop}
 use Rattle.std.proofs.Math.Seq.{take-append_seam}
 use Rattle.std.specs.Prelude.{All}
-use Rattle.std.proofs.lemmas.List.Elements.{All-head, All-tail, All-cons, All-nil}
+use Rattle.std.proofs.lemmas.List.Elements.{All-head, All-tail, All-cons}
 use Rattle.vx_bits.specs.declared.list.Item.{Item}
 use Rattle.vx_table.specs.declared.rows.Coding.{Coding}
 use Rattle.vx_table.specs.Spelling.{code_of}
@@ -12,9 +12,6 @@ use Rattle.vx_ptl.specs.Run.{item_bits, run_bits, gap, field_coding, IsRunItem, 
 -- The bits have gained a front of all, and more of it is to come.
 abbrev pub Gained : List Bool → List Bool → List Bool → List Bool → Type 0
 Gained old new all more = (front : List Bool) × (new ≡ old ++ front) × (all ≡ front ++ more)
-
-pub gained_none : (old all : List Bool) → Gained old old all all
-gained_none old all = ([], sym (append-nil old), refl)
 
 gained_all : (old new all : List Bool) → Gained old new all [] → new ≡ old ++ all
 gained_all old new all (front, gained, is) = gained ∙ ap (λ x. old ++ x) (sym (is ∙ append-nil front))
@@ -73,6 +70,3 @@ rest_run item items all is run = All-tail IsRunItem item items (rw is at run)
 pub run_more : (item : Item) (items all : List Item) (whole : Type 0) → all ≡ item ∷ items → IsRunItem item → (All IsRunItem all ↔ whole) → (All IsRunItem items ↔ whole)
 run_more item items all whole is run before =
     ((λ (rest : All IsRunItem items). before.0 (rw is (All-cons IsRunItem item items run rest))), (λ w. rest_run item items all is (before.1 w)))
-
-pub all_run : (all : List Item) → all ≡ [] → All IsRunItem all
-all_run all none = rw none (All-nil IsRunItem)
