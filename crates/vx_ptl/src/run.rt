@@ -7,7 +7,7 @@ ghost use Rattle.vx_ptl.specs.Run.{field_coding, resolved, begins_byte, gap, ite
 use crate::tables::{DPB, PTL, SUBLAYER_TIMING, TIMING};
 use std::alloc::AllocError;
 use vx_bits::{BitWriter, Fields, Item};
-use vx_table::{Coding, Formula, Scope, coding, coding_of, has_code, write_code};
+use vx_table::{Coding, Formula, Scope, coding_at, coding_of, has_code, write_code};
 
 /// How the tables code a field of these structures.
 #[tactic(auto, unfolding(crate::specs::Run::field_coding))]
@@ -28,7 +28,7 @@ fn resolve(found: Option<Coding<Formula>>) -> Option<Coding<u32>>
     ensures width { IsCodableIfAny result }
 {
     match found {
-        Some(code) => Some(coding(&Scope::new(), code)),
+        Some(code) => Some(coding_at(&Scope::new(), code)),
         None => None,
     }
 }

@@ -10,7 +10,7 @@ use Rattle.vx_bits.specs.declared.refusal.BitCause.TheVariants as causes
 use Rattle.vx_bits.specs.declared.refusal.Refusal.{Refusal}
 use Rattle.vx_bits.specs.declared.refusal.Refusal.TheVariants as refusals
 use Rattle.vx_table.specs.declared.rows.Cell.{Cell}
-use Rattle.vx_table.specs.Spelling.{HasCode, code_of, MayEnd, Begins, Misses, Stands, IsRefused, missed, broken, reported}
+use Rattle.vx_table.specs.Spelling.{HasCode, code_of, MayEnd, BeginsCode, Misses, BeginsField, IsRefused, missed, broken, reported}
 use Rattle.std.proofs.lemmas.List.{length-append, append-nil}
 
 -- codes of the same kind at the same place tell their values and what follows
@@ -29,8 +29,8 @@ code_apart Trailing place v w r s hv hw e = (hv ∙ sym hw, (same_fronts (one_fr
 code_apart Absent place v w r s hv hw e = (hv ∙ sym hw, e)
 code_apart Refused place v w r s hv hw e = absurd hv
 
-pub begins_apart : {coding : Coding ℕ} {total : ℕ} {v w : ℤ} {left mid rest : List Bool} → Begins coding total v left mid → Begins coding total w left rest → (v ≡ w) × (mid ≡ rest)
-begins_apart {coding} {total} {v} {w} {left} {mid} {rest} a b = code_apart coding (total - length left) v w mid rest a.value b.value (sym a.bits ∙ b.bits)
+pub begins_code_apart : {coding : Coding ℕ} {total : ℕ} {v w : ℤ} {left mid rest : List Bool} → BeginsCode coding total v left mid → BeginsCode coding total w left rest → (v ≡ w) × (mid ≡ rest)
+begins_code_apart {coding} {total} {v} {w} {left} {mid} {rest} a b = code_apart coding (total - length left) v w mid rest a.value b.value (sym a.bits ∙ b.bits)
 
 -- where a code begins, no cause is found
 pub not_missed : (coding : Coding ℕ) (place : ℕ) (v : ℤ) (left rest : List Bool) (cause : BitCause) → HasCode coding v → left ≡ code_of coding place v ++ rest → MayEnd coding rest → Misses coding place left cause → ⊥
@@ -75,11 +75,11 @@ missed_once Trailing place left causes.BadTrailing causes.Short m n = absurd (m.
 missed_once Refused place left causes.OutOfRange causes.OutOfRange m n = refl
 missed_once coding place left a b m n = absurd (assumption (m, n))
 
--- A field that stands isn't refused.
-pub stands_not_refused : {cell : Cell ℕ} {total : ℕ} {v : ℤ} {left mid : List Bool} {r : Refusal} → Stands cell total v left mid → IsRefused cell total left r → ⊥
-stands_not_refused {cell} {total} {v} {left} {mid} s (missed {cause} m) = not_missed cell.coding (total - length left) v left mid cause s.code.value s.code.bits s.code.end m
-stands_not_refused {cell} s (broken {v} {behind} {fault} begins out) =
-    let same = (begins_apart s.code begins).0 in
+-- A field that the bits begin with isn't refused.
+pub begins_field_not_refused : {cell : Cell ℕ} {total : ℕ} {v : ℤ} {left mid : List Bool} {r : Refusal} → BeginsField cell total v left mid → IsRefused cell total left r → ⊥
+begins_field_not_refused {cell} {total} {v} {left} {mid} s (missed {cause} m) = not_missed cell.coding (total - length left) v left mid cause s.code.value s.code.bits s.code.end m
+begins_field_not_refused {cell} s (broken {v} {behind} {fault} begins out) =
+    let same = (begins_code_apart s.code begins).0 in
     let none = s.range in
     cc
 
@@ -89,6 +89,6 @@ refused_once {cell} {total} {left} (missed {cause = a} m) (missed {cause = b} n)
 refused_once {cell} {total} {left} (missed {cause} m) (broken {v} {behind} {fault} b out) = absurd (not_missed cell.coding (total - length left) v left behind cause b.value b.bits b.end m)
 refused_once {cell} {total} {left} (broken {v} {behind} {fault} b out) (missed {cause} m) = absurd (not_missed cell.coding (total - length left) v left behind cause b.value b.bits b.end m)
 refused_once {cell} {total} {left} (broken {v = v} {fault = f} b out) (broken {v = w} {fault = h} c other) =
-    let same = (begins_apart b c).0 in
+    let same = (begins_code_apart b c).0 in
     let fault : f ≡ h = cc in
     ap (λ fault. reported fault cell.field (total - length left)) fault

@@ -1,4 +1,4 @@
--- Whatever the bits, a field stands there or is refused.
+-- Whatever the bits, they begin with a field or it is refused.
 use Rattle.std.proofs.Common.{◌≡◌, ◌≢◌, ◌⊎◌, inl, inr, ℕ, ℤ, pos, negsuc, zero, suc, ◌-◌, ◌^◌, ◌<◌, Bool, true, false, List, [], ◌∷◌, ◌++◌, length, take, drop, Option, Some, None, refl, ap, sym, ◌∙◌, arith}
 use Rattle.std.proofs.lemmas.List.{append-nil, length-append, length-take-le, take-append-drop}
 use Rattle.std.proofs.lemmas.Bool.Decides.{leb_tells}
@@ -13,12 +13,12 @@ use Rattle.vx_table.specs.declared.rows.Coding.TheVariants.{Fixed, Golomb, Signe
 use Rattle.vx_table.specs.declared.rows.Fault.{Fault}
 use Rattle.vx_table.specs.declared.rows.Cell.{Cell}
 use Rattle.vx_table.specs.Forms.{Form, done, field}
-use Rattle.vx_table.specs.Spelling.{HasCode, code_of, MayEnd, Begins, Misses, Stands, fault_of, Spells, at_end, behind, Reaches, here, later, IsRefused, missed, broken}
+use Rattle.vx_table.specs.Spelling.{HasCode, code_of, MayEnd, BeginsCode, Misses, BeginsField, fault_of, Spells, at_end, behind, Reaches, here, later, IsRefused, missed, broken}
 use Rattle.vx_table.specs.Laws.{AnswersAlways}
 
 -- a code begins at the bits, or there is a cause why none does
 abbrev pub CodeOrCause : Coding ℕ → ℕ → List Bool → Type 0
-CodeOrCause coding total left = ((v : ℤ) × (rest : List Bool) × Begins coding total v left rest) ⊎ ((cause : BitCause) × Misses coding (total - length left) left cause)
+CodeOrCause coding total left = ((v : ℤ) × (rest : List Bool) × BeginsCode coding total v left rest) ⊎ ((cause : BitCause) × Misses coding (total - length left) left cause)
 
 -- bits begin with others, or they don't
 begins_or_not : (code left : List Bool) → BeginsWith left code ⊎ (¬ BeginsWith left code)
@@ -61,7 +61,7 @@ golomb_begins total left =
       | inr others ↦ elim others [ inl ends ↦ inr (causes.Short, ends) | inr long ↦ inr (causes.LongCode, long) ]
     ]
 
-signed_from : (v : ℤ) (n total : ℕ) (left rest : List Bool) → code_number v ≡ n → IsCodeNumber n → left ≡ exp_golomb n ++ rest → Begins SignedGolomb total v left rest
+signed_from : (v : ℤ) (n total : ℕ) (left rest : List Bool) → code_number v ≡ n → IsCodeNumber n → left ≡ exp_golomb n ++ rest → BeginsCode SignedGolomb total v left rest
 unfolding HasCode code_of MayEnd
 signed_from v n total left rest same is bits = record { value = rw same is; bits = rw same bits; end = tt }
 
@@ -131,9 +131,9 @@ some_or_none : (fault : Option Fault) → (fault ≡ None) ⊎ ((f : Fault) × (
 some_or_none None = inl refl
 some_or_none (Some f) = inr (f, refl)
 
--- a field stands or is refused
+-- bits begin with a field or it is refused
 field_answers : (cell : Cell ℕ) (total : ℕ) (left : List Bool)
-    → ((v : ℤ) × (rest : List Bool) × Stands cell total v left rest) ⊎ ((r : Refusal) × IsRefused cell total left r)
+    → ((v : ℤ) × (rest : List Bool) × BeginsField cell total v left rest) ⊎ ((r : Refusal) × IsRefused cell total left r)
 field_answers cell total left =
     elim (code_begins cell.coding total left) [
       | inl (v, rest, code) ↦
@@ -148,16 +148,16 @@ abbrev pub Answer : {A : Type 0} → Form A → ℕ → List Bool → Type 0
 Answer form total left = ((values : List ℤ) × (rest : List Bool) × Spells total form values left rest)
     ⊎ ((values : List ℤ) × (cell : Cell ℕ) × (rest : List Bool) × (refusal : Refusal) × Reaches total form values left cell rest × IsRefused cell total rest refusal)
 
--- behind a field that stands
-answer_behind : {A : Type 0} {cell : Cell ℕ} {goes : ℤ → Form A} {total : ℕ} {v : ℤ} {left mid : List Bool} → Stands cell total v left mid → Answer (goes v) total mid → Answer (field cell goes) total left
-answer_behind {v} stands (inl (values, rest, spelled)) = inl (v ∷ values, rest, behind stands spelled)
-answer_behind {v} stands (inr (values, next, rest, r, reached, out)) = inr (v ∷ values, next, rest, r, later stands reached, out)
+-- behind a field that they begin with
+answer_behind : {A : Type 0} {cell : Cell ℕ} {goes : ℤ → Form A} {total : ℕ} {v : ℤ} {left mid : List Bool} → BeginsField cell total v left mid → Answer (goes v) total mid → Answer (field cell goes) total left
+answer_behind {v} begins (inl (values, rest, spelled)) = inl (v ∷ values, rest, behind begins spelled)
+answer_behind {v} begins (inr (values, next, rest, r, reached, out)) = inr (v ∷ values, next, rest, r, later begins reached, out)
 
 answer : {A : Type 0} (form : Form A) (total : ℕ) (left : List Bool) → Answer form total left
 answer (done a) total left = inl ([], left, at_end)
 answer (field cell goes) total left =
     elim (field_answers cell total left) [
-      | inl (v, mid, stands) ↦ answer_behind stands (answer (goes v) total mid)
+      | inl (v, mid, begins) ↦ answer_behind begins (answer (goes v) total mid)
       | inr (r, out) ↦ inr ([], cell, left, r, here, out)
     ]
 

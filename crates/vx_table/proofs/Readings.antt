@@ -11,10 +11,10 @@ use Rattle.vx_bits.specs.Place.{Place}
 use Rattle.vx_table.specs.declared.rows.Cell.{Cell}
 use Rattle.vx_table.specs.Forms.{Form, done, field}
 use Rattle.vx_table.specs.Walks.{Walks, ended, coded, refused, leaving}
-use Rattle.vx_table.specs.Spelling.{Stands, Spells, at_end, behind, Reaches, here, later, IsRefused, item_of, items_along}
+use Rattle.vx_table.specs.Spelling.{BeginsField, Spells, at_end, behind, Reaches, here, later, IsRefused, item_of, items_along}
 use Rattle.vx_table.specs.Values.{Follows, to_end, through}
 use Rattle.vx_table.specs.Reading.{at_front, ReadsField, IsFound, StopsAt, IsFirstRefusal, IsAnswered, IsRefusedWith, Reads, LeadsTo}
-use Rattle.vx_table.proofs.Codings.{begins_apart, stands_not_refused, refused_once}
+use Rattle.vx_table.proofs.Codings.{begins_code_apart, begins_field_not_refused, refused_once}
 use Rattle.vx_table.proofs.Spelled.{is_value}
 
 -- the same at an equal total
@@ -47,11 +47,11 @@ found {form = field cell goes} {old} {new} {items} {after} (coded {d} {j} {v} s 
 
 -- a longer front
 longer : {A : Type 0} {cell : Cell ℕ} {goes : ℤ → Form A} {old mid new : Place} {items between after : List Item} {v : ℤ} {next : Cell ℕ}
-    → Stands cell old.total v old.left mid.left → mid.total ≡ old.total → between ≡ items ++ item_of cell v
+    → BeginsField cell old.total v old.left mid.left → mid.total ≡ old.total → between ≡ items ++ item_of cell v
     → StopsAt (goes v) mid between new after next → StopsAt (field cell goes) old items new after next
-longer {cell} {goes} {old} {mid} {items} {between} {after} {v} stands total gained more = record {
+longer {cell} {goes} {old} {mid} {items} {between} {after} {v} begins total gained more = record {
   values = v ∷ more.values;
-  reached = later stands (reaches_at mid.total old.total total more.reached);
+  reached = later begins (reaches_at mid.total old.total total more.reached);
   total = more.total ∙ total;
   gained = one_more cell goes items between after v more.values gained more.gained;
 }
@@ -97,11 +97,11 @@ pub only : {A : Type 0} {form : Form A} {old new : Place} {items after : List It
     → Walks ReadsField form old items result new after → Spells old.total form w left rest → left ≡ old.left
     → IsAnswered result ((new.left ≡ rest) × (after ≡ items ++ items_along form w))
 only {items} ended at_end same = (sym same, sym (append-nil items))
-only (refused {e = errors.Memory} s) (behind stands more) same = tt
-only {form = field cell goes} {old} (refused {e = errors.Refused r} s) (behind {v} {mid} stands more) same =
-    stands_not_refused (subst (λ x. Stands cell old.total v x mid) same stands) s.0
-only {form = field cell goes} {old} {new} {items} {after} {result} {rest} (coded {d} {j} {v} s walk) (behind {v = u} {w} {mid} stands more) same =
-    let apart = begins_apart (subst (λ x. Stands cell old.total u x mid) same stands).code s.0.code in
+only (refused {e = errors.Memory} s) (behind begins more) same = tt
+only {form = field cell goes} {old} (refused {e = errors.Refused r} s) (behind {v} {mid} begins more) same =
+    begins_field_not_refused (subst (λ x. BeginsField cell old.total v x mid) same begins) s.0
+only {form = field cell goes} {old} {new} {items} {after} {result} {rest} (coded {d} {j} {v} s walk) (behind {v = u} {w} {mid} begins more) same =
+    let apart = begins_code_apart (subst (λ x. BeginsField cell old.total u x mid) same begins).code s.0.code in
     let on : Spells d.total (goes v) w mid rest = spells_at old.total d.total (sym s.1) (subst (λ x. Spells old.total (goes x) w mid rest) apart.0 more) in
     let rec = only walk on apart.1 in
     let here : IsAnswered result ((new.left ≡ rest) × (after ≡ items ++ items_along (field cell goes) (v ∷ w)))
@@ -116,12 +116,12 @@ refusal ended reach same out = elim reach [ ]
 refusal (refused {e = errors.Memory} s) here same out = tt
 refusal {old} {items} {cell} {r} (refused {e = errors.Refused q} s) here same out =
     (refused_once s.0 (subst (λ x. IsRefused cell old.total x r) same out), (ap (λ (p : Place). p.left) s.1 ∙ sym same, s.2 ∙ sym (append-nil items)))
-refusal {old} {cell} {r} (coded s walk) here same out = absurd (stands_not_refused s.0 (subst (λ x. IsRefused cell old.total x r) same out))
-refusal (refused {e = errors.Memory} s) (later stands more) same out = tt
-refusal {form = field cell goes} {old} (refused {e = errors.Refused q} s) (later {v} {mid} stands more) same out =
-    absurd (stands_not_refused (subst (λ x. Stands cell old.total v x mid) same stands) s.0)
-refusal {form = field cell goes} {old} {new} {items} {after} {result} {rest} {cell = next} {r} (coded {d} {j} {v} s walk) (later {v = u} {w} {mid} stands more) same out =
-    let apart = begins_apart (subst (λ x. Stands cell old.total u x mid) same stands).code s.0.code in
+refusal {old} {cell} {r} (coded s walk) here same out = absurd (begins_field_not_refused s.0 (subst (λ x. IsRefused cell old.total x r) same out))
+refusal (refused {e = errors.Memory} s) (later begins more) same out = tt
+refusal {form = field cell goes} {old} (refused {e = errors.Refused q} s) (later {v} {mid} begins more) same out =
+    absurd (begins_field_not_refused (subst (λ x. BeginsField cell old.total v x mid) same begins) s.0)
+refusal {form = field cell goes} {old} {new} {items} {after} {result} {rest} {cell = next} {r} (coded {d} {j} {v} s walk) (later {v = u} {w} {mid} begins more) same out =
+    let apart = begins_code_apart (subst (λ x. BeginsField cell old.total u x mid) same begins).code s.0.code in
     let on : Reaches d.total (goes v) w mid next rest = reaches_at old.total d.total (sym s.1) (subst (λ x. Reaches old.total (goes x) w mid next rest) apart.0 more) in
     let rec = refusal walk on apart.1 (refused_at old.total d.total (sym s.1) out) in
     let here : IsRefusedWith result r ((new.left ≡ rest) × (after ≡ items ++ items_along (field cell goes) (v ∷ w)))
@@ -132,10 +132,10 @@ refusal {form = field cell goes} {old} {new} {items} {after} {result} {rest} {ce
 pub leads_to : {A : Type 0} {form : Form A} {old new : Place} {items after : List Item} {a : A} {w : List ℤ} {left rest : List Bool}
     → Walks ReadsField form old items (Ok a) new after → Spells old.total form w left rest → left ≡ old.left → Follows form w a
 leads_to ended at_end same = to_end
-leads_to {form = field cell goes} {old} {a} {rest} (coded {d} {v} s walk) (behind {v = u} {w} {mid} stands more) same =
-    let apart = begins_apart (subst (λ x. Stands cell old.total u x mid) same stands).code s.0.code in
+leads_to {form = field cell goes} {old} {a} {rest} (coded {d} {v} s walk) (behind {v = u} {w} {mid} begins more) same =
+    let apart = begins_code_apart (subst (λ x. BeginsField cell old.total u x mid) same begins).code s.0.code in
     let on : Spells d.total (goes v) w mid rest = spells_at old.total d.total (sym s.1) (subst (λ x. Spells old.total (goes x) w mid rest) apart.0 more) in
-    through (is_value stands) (subst (λ x. Follows (goes x) w a) (sym apart.0) (leads_to walk on apart.1))
+    through (is_value begins) (subst (λ x. Follows (goes x) w a) (sym apart.0) (leads_to walk on apart.1))
 
 pub leads : {A B : Type 0} {form : Form A} {old new : Place} {items after : List Item} (a : A) (result : Result B ReadError)
     → Walks ReadsField form old items (leaving a result) new after → OnOk result (LeadsTo form old a)

@@ -3,14 +3,14 @@ use Rattle.std.proofs.Common.{◌≡◌, ℕ, ℤ, ◌+◌, ◌-◌, ◌≤◌, 
 use Rattle.std.proofs.lemmas.List.{append_assoc, length-append}
 use Rattle.vx_table.specs.declared.rows.Cell.{Cell}
 use Rattle.vx_table.specs.Forms.{Form, field}
-use Rattle.vx_table.specs.Spelling.{Stands, Spells, at_end, behind, Reaches, here, later, MayEnd, code_of}
+use Rattle.vx_table.specs.Spelling.{BeginsField, Spells, at_end, behind, Reaches, here, later, MayEnd, code_of}
 use Rattle.vx_table.specs.Values.{IsValueOf, Follows, to_end, through, ComesTo, at_field, past, bits_along, Closes}
 use Rattle.vx_table.specs.Laws.{SpellsBothWays, ReachesBothWays, ReadsBack, SpellsApart}
 use Rattle.vx_table.proofs.Codings.{code_apart}
 
--- what stands is a value
-pub is_value : {cell : Cell ℕ} {total : ℕ} {v : ℤ} {left rest : List Bool} → Stands cell total v left rest → IsValueOf cell v
-is_value stands = record { code = stands.code.value; range = stands.range }
+-- a field that the bits begin with has a value that it may have
+pub is_value : {cell : Cell ℕ} {total : ℕ} {v : ℤ} {left rest : List Bool} → BeginsField cell total v left rest → IsValueOf cell v
+is_value begins = record { code = begins.code.value; range = begins.range }
 
 -- The bits before the rest are the codes of the values.
 record AreCodes {A : Type 0} (form : Form A) (place : ℕ) (values : List ℤ) (left rest : List Bool) : Type 0 where
@@ -23,39 +23,39 @@ place_behind total left code mid within is = (omega (arith, ap length is, length
 
 -- one more code before those
 one_before : {A : Type 0} {cell : Cell ℕ} {goes : ℤ → Form A} {total : ℕ} {v : ℤ} {w : List ℤ} {left mid rest : List Bool} → length left ≤ total
-    → Stands cell total v left mid → AreCodes (goes v) (total - length mid) w mid rest → AreCodes (field cell goes) (total - length left) (v ∷ w) left rest
-one_before {cell} {goes} {total} {v} {w} {left} {mid} {rest} within stands more =
+    → BeginsField cell total v left mid → AreCodes (goes v) (total - length mid) w mid rest → AreCodes (field cell goes) (total - length left) (v ∷ w) left rest
+one_before {cell} {goes} {total} {v} {w} {left} {mid} {rest} within begins more =
     let code : List Bool = code_of cell.coding (total - length left) v in
-    let next = place_behind total left code mid within stands.code.bits in
+    let next = place_behind total left code mid within begins.code.bits in
     let codes : AreCodes (goes v) (total - length left + length code) w mid rest = subst (λ place. AreCodes (goes v) place w mid rest) next.0 more in
     record {
-      bits = stands.code.bits ∙ ap (λ x. code ++ x) codes.bits ∙ sym (append_assoc code (bits_along (goes v) (total - length left + length code) w) rest);
-      closes = (subst (λ x. MayEnd cell.coding x) codes.bits stands.code.end, codes.closes);
+      bits = begins.code.bits ∙ ap (λ x. code ++ x) codes.bits ∙ sym (append_assoc code (bits_along (goes v) (total - length left + length code) w) rest);
+      closes = (subst (λ x. MayEnd cell.coding x) codes.bits begins.code.end, codes.closes);
     }
 
 -- what is spelled follows the form, and its bits are the codes
 spelling : {A : Type 0} {total : ℕ} {form : Form A} {v : List ℤ} {left rest : List Bool} → Spells total form v left rest → length left ≤ total
     → (end : A) × Follows form v end × AreCodes form (total - length left) v left rest
 spelling (at_end {a}) within = (a, to_end, record { bits = refl; closes = tt })
-spelling {total} {left} (behind {cell} {v} {mid} stands more) within =
-    let next = place_behind total left (code_of cell.coding (total - length left) v) mid within stands.code.bits in
+spelling {total} {left} (behind {cell} {v} {mid} begins more) within =
+    let next = place_behind total left (code_of cell.coding (total - length left) v) mid within begins.code.bits in
     let on = spelling more next.1 in
-    (on.0, through (is_value stands) on.1, one_before within stands on.2)
+    (on.0, through (is_value begins) on.1, one_before within begins on.2)
 
 reaching : {A : Type 0} {total : ℕ} {form : Form A} {v : List ℤ} {left rest : List Bool} {cell : Cell ℕ} → Reaches total form v left cell rest → length left ≤ total
     → ComesTo form v cell × AreCodes form (total - length left) v left rest
 reaching here within = (at_field, record { bits = refl; closes = tt })
-reaching {total} {left} (later {cell} {v} {mid} stands more) within =
-    let next = place_behind total left (code_of cell.coding (total - length left) v) mid within stands.code.bits in
+reaching {total} {left} (later {cell} {v} {mid} begins more) within =
+    let next = place_behind total left (code_of cell.coding (total - length left) v) mid within begins.code.bits in
     let on = reaching more next.1 in
-    (past (is_value stands) on.0, one_before within stands on.1)
+    (past (is_value begins) on.0, one_before within begins on.1)
 
--- the first of codes stands
-first_stands : {A : Type 0} (cell : Cell ℕ) (goes : ℤ → Form A) (total place : ℕ) (v : ℤ) (w : List ℤ) (rest : List Bool) → IsValueOf cell v → Closes (field cell goes) place (v ∷ w) rest
+-- codes of values begin with the first field
+first_begins_field : {A : Type 0} (cell : Cell ℕ) (goes : ℤ → Form A) (total place : ℕ) (v : ℤ) (w : List ℤ) (rest : List Bool) → IsValueOf cell v → Closes (field cell goes) place (v ∷ w) rest
     → total ≡ place + length (bits_along (field cell goes) place (v ∷ w) ++ rest)
-    → Stands cell total v (bits_along (field cell goes) place (v ∷ w) ++ rest) (bits_along (goes v) (place + length (code_of cell.coding place v)) w ++ rest)
+    → BeginsField cell total v (bits_along (field cell goes) place (v ∷ w) ++ rest) (bits_along (goes v) (place + length (code_of cell.coding place v)) w ++ rest)
     × (total ≡ place + length (code_of cell.coding place v) + length (bits_along (goes v) (place + length (code_of cell.coding place v)) w ++ rest))
-first_stands cell goes total place v w rest is closes whole =
+first_begins_field cell goes total place v w rest is closes whole =
     let code : List Bool = code_of cell.coding place v in
     let ahead : List Bool = bits_along (goes v) (place + length code) w in
     let split : (code ++ ahead) ++ rest ≡ code ++ (ahead ++ rest) = append_assoc code ahead rest in
@@ -73,14 +73,14 @@ spelled_at : {A : Type 0} {form : Form A} {v : List ℤ} {a : A} (total place : 
     → Spells total form v (bits_along form place v ++ rest) rest
 spelled_at total place rest to_end closes whole = at_end
 spelled_at total place rest (through {cell} {goes} {v} {w} is more) closes whole =
-    let first = first_stands cell goes total place v w rest is closes whole in
+    let first = first_begins_field cell goes total place v w rest is closes whole in
     behind first.0 (spelled_at total (place + length (code_of cell.coding place v)) rest more closes.1 first.1)
 
 reached_at : {A : Type 0} {form : Form A} {v : List ℤ} {next : Cell ℕ} (total place : ℕ) (rest : List Bool) → ComesTo form v next → Closes form place v rest → total ≡ place + length (bits_along form place v ++ rest)
     → Reaches total form v (bits_along form place v ++ rest) next rest
 reached_at total place rest at_field closes whole = here
 reached_at total place rest (past {cell} {goes} {v} {w} is more) closes whole =
-    let first = first_stands cell goes total place v w rest is closes whole in
+    let first = first_begins_field cell goes total place v w rest is closes whole in
     later first.0 (reached_at total (place + length (code_of cell.coding place v)) rest more closes.1 first.1)
 
 pub both_ways : SpellsBothWays

@@ -11,16 +11,16 @@ use Rattle.vx_table.specs.declared.rows.Coding.{Coding}
 use Rattle.vx_table.specs.declared.rows.Cell.{Cell}
 use Rattle.vx_table.specs.Forms.{Form}
 use Rattle.vx_table.specs.Values.{Follows}
-use Rattle.vx_table.specs.Spelling.{Begins, Misses, Stands, Spells, Reaches, IsRefused, item_of, items_along}
+use Rattle.vx_table.specs.Spelling.{BeginsCode, Misses, BeginsField, Spells, Reaches, IsRefused, item_of, items_along}
 
 -- What taking the code of one field answers.
 abbrev pub TakesCode : Coding ℕ → Place → Result ℤ BitCause → Place → Type 0
-TakesCode coding old (Ok v) new = Begins coding old.total v old.left new.left × (new.total ≡ old.total)
+TakesCode coding old (Ok v) new = BeginsCode coding old.total v old.left new.left × (new.total ≡ old.total)
 TakesCode coding old (Err cause) new = Misses coding (taken old) old.left cause × (new ≡ old)
 
 -- What a reader does at one field: where it answers an error, it stands there still.
 abbrev pub ReadsField : Place → List Item → Cell ℕ → Result ℤ ReadError → Place → List Item → Type 0
-ReadsField old items cell (Ok v) new after = Stands cell old.total v old.left new.left × (new.total ≡ old.total) × (after ≡ items ++ item_of cell v)
+ReadsField old items cell (Ok v) new after = BeginsField cell old.total v old.left new.left × (new.total ≡ old.total) × (after ≡ items ++ item_of cell v)
 ReadsField old items cell (Err errors.Memory) new after = (new ≡ old) × (after ≡ items)
 ReadsField old items cell (Err (errors.Refused r)) new after = IsRefused cell old.total old.left r × (new ≡ old) × (after ≡ items)
 

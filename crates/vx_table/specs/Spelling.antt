@@ -47,7 +47,7 @@ MayEnd Trailing rest = rest ≡ []
 MayEnd coding rest = Unit {0}
 
 -- The bits that are left, of so many in all, begin with the code of the value, and the rest is behind it.
-pub record Begins (coding : Coding ℕ) (total : ℕ) (v : ℤ) (left rest : List Bool) : Type 0 where
+pub record BeginsCode (coding : Coding ℕ) (total : ℕ) (v : ℤ) (left rest : List Bool) : Type 0 where
   pub value : HasCode coding v
   pub bits : left ≡ code_of coding (total - length left) v ++ rest
   pub end : MayEnd coding rest
@@ -70,22 +70,22 @@ fault_of (Within low high fault) v = cond (int_le low v && int_le v (pos high)) 
 fault_of (Below bound fault) v = cond (int_le (pos 0) v && int_lt v (pos bound)) None (Some fault)
 fault_of (Multiple unit high fault) v = cond (int_le v (pos high)) (cond (is_multiple unit v) None (Some faults.OutOfRange)) (Some fault)
 
--- The bits begin with the code of a value in the field's range.
-pub record Stands (cell : Cell ℕ) (total : ℕ) (v : ℤ) (left rest : List Bool) : Type 0 where
-  pub code : Begins cell.coding total v left rest
+-- The bits begin with the field: with the code of a value in its range.
+pub record BeginsField (cell : Cell ℕ) (total : ℕ) (v : ℤ) (left rest : List Bool) : Type 0 where
+  pub code : BeginsCode cell.coding total v left rest
   pub range : fault_of cell.limits v ≡ None
 
 -- The bits that are left, up to the rest, spell these values, which go through the form to its end.
 pub data Spells {A : Type 0} (total : ℕ) : Form A → List ℤ → List Bool → List Bool → Type 0 where
   at_end : {a : A} {rest : List Bool} → Spells total (done a) [] rest rest
   behind : {cell : Cell ℕ} {goes : ℤ → Form A} {v : ℤ} {w : List ℤ} {left mid rest : List Bool}
-      → Stands cell total v left mid → Spells total (goes v) w mid rest → Spells total (field cell goes) (v ∷ w) left rest
+      → BeginsField cell total v left mid → Spells total (goes v) w mid rest → Spells total (field cell goes) (v ∷ w) left rest
 
 -- The bits spell these values up to a field that comes next, where the rest begins.
 pub data Reaches {A : Type 0} (total : ℕ) : Form A → List ℤ → List Bool → Cell ℕ → List Bool → Type 0 where
   here : {cell : Cell ℕ} {goes : ℤ → Form A} {rest : List Bool} → Reaches total (field cell goes) [] rest cell rest
   later : {cell next : Cell ℕ} {goes : ℤ → Form A} {v : ℤ} {w : List ℤ} {left mid rest : List Bool}
-      → Stands cell total v left mid → Reaches total (goes v) w mid next rest → Reaches total (field cell goes) (v ∷ w) left next rest
+      → BeginsField cell total v left mid → Reaches total (goes v) w mid next rest → Reaches total (field cell goes) (v ∷ w) left next rest
 
 -- no code of this kind begins here, for this cause
 unfoldable pub Misses : Coding ℕ → ℕ → List Bool → BitCause → Type 0
@@ -112,7 +112,7 @@ reported (faults.Limit code) of bit = refusals.Limit code
 pub data IsRefused (cell : Cell ℕ) (total : ℕ) (rest : List Bool) : Refusal → Type 0 where
   missed : {cause : BitCause} → Misses cell.coding (total - length rest) rest cause
       → IsRefused cell total rest (refusals.Syntax cell.field (total - length rest) cause)
-  broken : {v : ℤ} {behind : List Bool} {fault : Fault} → Begins cell.coding total v rest behind → fault_of cell.limits v ≡ Some fault
+  broken : {v : ℤ} {behind : List Bool} {fault : Fault} → BeginsCode cell.coding total v rest behind → fault_of cell.limits v ≡ Some fault
       → IsRefused cell total rest (reported fault cell.field (total - length rest))
 
 -- a value as an item; a gap has none

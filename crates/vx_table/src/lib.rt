@@ -44,5 +44,5 @@ pub use reader::{read_table, read_value};
 pub use rows::{Cell, Coding, Fault, Formula, Limits, Presence, Row, Term};
 pub use scope::Scope;
 pub use stars::{keeps_only, parts_keep_only};
-pub use walk::{Coder, code_table, coding, coding_of};
+pub use walk::{Coder, code_table, coding_at, coding_of};
 pub use writer::{SpellError, Unwritten, write_code, write_table};

@@ -3,7 +3,7 @@
 ghost use Rattle.std.specs.Prelude.{◌≡◌, ℕ, ℤ, ◌+◌, ◌≤◌, min, length, take, drop, Result};
 ghost use Rattle.vx_table.specs.Scope.{value};
 ghost use Rattle.vx_table.specs.Forms as forms;
-ghost use Rattle.vx_table.specs.Forms.{coding_in, coding_at, limits_at, cell_at, after, turns, present, form_of, one_field};
+ghost use Rattle.vx_table.specs.Forms.{coding_in, limits_at, cell_at, after, turns, present, form_of, one_field};
 ghost use Rattle.vx_table.specs.Spelling.{IsCodable};
 ghost use Rattle.vx_table.specs.Walks.{Walks, leaving};
 
@@ -28,8 +28,8 @@ pub trait Coder<I> {
 
 /// A field's coding at a scope.
 #[tactic(auto, unfolding(crate::specs::Forms::coding_at))]
-pub fn coding(scope: &Scope, coding: Coding<Formula>) -> Coding<u32>
-    ensures value { result ≡ coding_at scope.now coding }
+pub fn coding_at(scope: &Scope, coding: Coding<Formula>) -> Coding<u32>
+    ensures value { result ≡ forms.coding_at scope.now coding }
     ensures width { IsCodable result }
 {
     match coding {
@@ -104,7 +104,7 @@ fn cell(scope: &Scope, row: Cell<Formula>) -> Cell<u32>
     Cell {
         field: row.field,
         kept: row.kept,
-        coding: coding(scope, row.coding),
+        coding: coding_at(scope, row.coding),
         limits: limits(scope, row.limits),
     }
 }
