@@ -1,6 +1,6 @@
 -- Scopes that agree on a set of names, and what formulas over these are.
 use Rattle.std.proofs.Common.{◌≡◌, ◌≢◌, inl, inr, ℕ, Bool, true, false, cond, ◌&&◌, IsTrue, IsFalse, List, length, slice_set, refl, ap, sym, ◌∙◌, true≢false, arith}
-use Rattle.std.proofs.lemmas.Bool.{cases_Bool, cases_eq, cases_lt, and_parts}
+use Rattle.std.proofs.lemmas.Bool.{both_ways, cases_Bool, cases_eq, cases_lt, and_parts}
 use Rattle.std.proofs.lemmas.Grind.{get_or-set_at}
 use Rattle.std.proofs.lemmas.List.{length-set, get_or-set_other, get_or_past, set_past}
 use Rattle.vx_table.specs.declared.rows.Term.{Term}
@@ -22,10 +22,6 @@ pub record Inside (known shown : List ℕ) : Type 0 where
 
 pub inside_itself : (names : List ℕ) → Inside names names
 inside_itself names = record { has_too = λ n h. h }
-
--- where a test answers no, it doesn't answer yes
-pub not_both_ways : {b : Bool} → b ≡ true → b ≡ false → ⊥
-not_both_ways yes_it_is no_it_is_not = true≢false (sym yes_it_is ∙ no_it_is_not)
 
 pub agree_itself : (names s : List ℕ) → Agree names s s
 agree_itself names s = record { size = refl; same = λ n h. refl }
@@ -56,7 +52,7 @@ agree_set {known} {more} {s} {t} n v others a = record {
 pub agree_outside : (shown s : List ℕ) (n v : ℕ) → IsFalse (has shown n) → Agree shown s (slice_set s n v)
 agree_outside shown s n v outside = record {
   size = sym (length-set s n v);
-  same = λ m h. sym (get_or-set_other s n m v 0 (λ is. not_both_ways h (ap (has shown) is ∙ outside)));
+  same = λ m h. sym (get_or-set_other s n m v 0 (λ is. both_ways _ (ap (has shown) is ∙ outside) h));
 }
 
 -- what more is known behind a name

@@ -14,7 +14,7 @@ use Rattle.std.proofs.Math.Path.{fun_ext}
 use Rattle.std.proofs.lemmas.List.{take-append-drop, length-take-le, length-drop}
 
 -- the rows behind the first few
-pub part-drop : (skip len : ℕ) (rows : List Row) (s : List ℕ) → part skip len rows s ≡ part 0 len (drop skip rows) s
+part-drop : (skip len : ℕ) (rows : List Row) (s : List ℕ) → part skip len rows s ≡ part 0 len (drop skip rows) s
 unfolding part
 part-drop zero len [] s = refl
 part-drop (suc skip) len [] s = refl
@@ -22,7 +22,7 @@ part-drop zero len (row ∷ rows) s = refl
 part-drop (suc skip) len (row ∷ rows) s = part-drop skip len rows s
 
 -- rows that stand behind a part don't change it
-pub part-append : (skip len : ℕ) (rows more : List Row) (s : List ℕ) → skip + len ≤ length rows → part skip len (rows ++ more) s ≡ part skip len rows s
+part-append : (skip len : ℕ) (rows more : List Row) (s : List ℕ) → skip + len ≤ length rows → part skip len (rows ++ more) s ≡ part skip len rows s
 unfolding part one_field
 part-append zero zero [] [] s fits = refl
 part-append zero zero [] (row ∷ more) s fits = refl
@@ -41,7 +41,7 @@ part-append zero (suc len) (Block presence n ∷ rows) more s fits =
 part-append zero (suc len) (Name name formula ∷ rows) more s fits = part-append 0 len rows more _ (omega arith)
 
 -- a part from the first row on is the form of its rows
-pub part-take : (len : ℕ) (rows : List Row) (s : List ℕ) → len ≤ length rows → part 0 len rows s ≡ form_of (take len rows) s
+part-take : (len : ℕ) (rows : List Row) (s : List ℕ) → len ≤ length rows → part 0 len rows s ≡ form_of (take len rows) s
 unfolding form_of
 part-take len rows s fits =
     let whole = take-append-drop len rows in
@@ -59,7 +59,7 @@ unfolding form_of part
 form-name name formula rows s = refl
 
 -- the rows behind a block
-pub form-drop : (n : ℕ) (rows : List Row) (s : List ℕ) → part (min n (length rows)) (length rows - min n (length rows)) rows s ≡ form_of (drop (min n (length rows)) rows) s
+form-drop : (n : ℕ) (rows : List Row) (s : List ℕ) → part (min n (length rows)) (length rows - min n (length rows)) rows s ≡ form_of (drop (min n (length rows)) rows) s
 unfolding form_of
 form-drop n rows s = part-drop (min n (length rows)) (length rows - min n (length rows)) rows s ∙ ap (λ len. part 0 len (drop (min n (length rows)) rows) s) (sym (length-drop (min n (length rows)) rows))
 

@@ -1,6 +1,7 @@
 -- What may follow the values of a table.
 use Rattle.std.proofs.Common.{◌≡◌, ℕ, ℤ, zero, suc, ◌+◌, ◌-◌, ◌<◌, min, ◌⊎◌, inl, inr, Bool, true, false, List, [], ◌∷◌, ◌++◌, length, slice_set, refl, sym, subst, arith}
 use Rattle.std.specs.Prelude.{◌||◌, ◌&&◌, not, nat_lt, ◌==◌, cond}
+use Rattle.std.proofs.lemmas.Bool.{and_parts, or_parts, not-true}
 use Rattle.std.proofs.lemmas.Bool.Decides.{leb_tells}
 use Rattle.vx_table.specs.declared.rows.Formula.{Formula}
 use Rattle.vx_table.specs.declared.rows.Coding.{Coding}
@@ -69,27 +70,26 @@ unfolding present
 open_present (When holds) block s is = elim (value s holds == 0) as (λ b. IsOpen (cond b (done s) (block s))) [ true ↦ over | false ↦ is s ]
 open_present (Repeat counter times) block s is = open_turns block counter 0 (value s times) s is
 
-both_false : (a b : Bool) → (a || b) ≡ false → (a ≡ false) × (b ≡ false)
-both_false true b none = absurd (cc)
-both_false false b none = (refl, none)
-
 open_part : (skip len : ℕ) (rows : List Row) (s : List ℕ) → has_trailing rows ≡ false → IsOpen (part skip len rows s)
 unfolding part has_trailing
 open_part skip len [] s none = over
-open_part (suc skip) len (Field c ∷ rows) s none = open_part skip len rows s (both_false _ _ none).1
+open_part (suc skip) len (Field c ∷ rows) s none = open_part skip len rows s (or_parts _ _ none).1
 open_part (suc skip) len (Block presence n ∷ rows) s none = open_part skip len rows s none
 open_part (suc skip) len (Name name formula ∷ rows) s none = open_part skip len rows s none
 open_part zero zero (row ∷ rows) s none = over
 open_part zero (suc len) (Field c ∷ rows) s none =
-    sequence (one_field s c) (part 0 len rows) (open_field s c (both_false _ _ none).0) (λ t. open_part 0 len rows t (both_false _ _ none).1)
+    sequence (one_field s c) (part 0 len rows) (open_field s c (or_parts _ _ none).0) (λ t. open_part 0 len rows t (or_parts _ _ none).1)
 open_part zero (suc len) (Block presence n ∷ rows) s none =
     sequence (present presence (part 0 (min n len) rows) s) (part (min n len) (len - min n len) rows) (open_present presence (part 0 (min n len) rows) s (λ t. open_part 0 (min n len) rows t none))
     (λ t. open_part (min n len) (len - min n len) rows t none)
 open_part zero (suc len) (Name name formula ∷ rows) s none = open_part 0 len rows (slice_set s name (value s formula)) none
 
-pub closes_without_trailing : ClosesWithoutTrailing
+open_form : (rows : List Row) (s : List ℕ) → has_trailing rows ≡ false → IsOpen (form_of rows s)
 unfolding form_of
-closes_without_trailing rows s place values rest none = closes (part 0 (length rows) rows s) place values rest (open_part 0 (length rows) rows s none)
+open_form rows s none = open_part 0 (length rows) rows s none
+
+pub closes_without_trailing : ClosesWithoutTrailing
+closes_without_trailing rows s place values rest none = closes (form_of rows s) place values rest (open_form rows s none)
 
 -- ---- a trailing at the end
 
@@ -123,27 +123,19 @@ sequence_last : {A B : Type 0} (f : Form A) (next : A → Form B) → IsOpen f �
 sequence_last (done a) next is others = others a
 sequence_last (field cell goes) next (on none more) others = before none (λ v. sequence_last (goes v) next (more v) others)
 
-both_true : (a b : Bool) → (a && b) ≡ true → (a ≡ true) × (b ≡ true)
-both_true true b holds = (refl, holds)
-both_true false b holds = absurd (cc)
-
-not_true : (a : Bool) → not a ≡ true → a ≡ false
-not_true true holds = absurd (cc)
-not_true false holds = refl
-
 -- the block ends before the last row, or no row is a trailing
 block_ends : (n : ℕ) (rows : List Row) → (nat_lt n (length rows) || not (has_trailing rows)) ≡ true → (n < length rows) ⊎ (has_trailing rows ≡ false)
 block_ends n rows holds =
     elim (leb_tells (suc n) (length rows)) [
       | inl p ↦ inl p.1
-      | inr p ↦ inr (not_true (has_trailing rows) (rw p.0 at holds))
+      | inr p ↦ inr (not-true (has_trailing rows) (rw p.0 at holds))
     ]
 
 tail_last : (row : Row) (rows : List Row) → trails_last (row ∷ rows) ≡ true → trails_last rows ≡ true
 unfolding trails_last
 tail_last (Field c) [] holds = refl
-tail_last (Field c) (row ∷ rows) holds = (both_true _ _ holds).1
-tail_last (Block presence n) rows holds = (both_true _ _ holds).1
+tail_last (Field c) (row ∷ rows) holds = (and_parts _ _ holds).1
+tail_last (Block presence n) rows holds = (and_parts _ _ holds).1
 tail_last (Name name formula) rows holds = holds
 
 -- before the last row there is no trailing
@@ -154,10 +146,10 @@ open_before (suc skip) len (row ∷ rows) s holds few = open_before skip len row
 open_before zero zero (row ∷ rows) s holds few = over
 open_before zero (suc len) (Field c ∷ []) s holds few = absurd (omega arith)
 open_before zero (suc len) (Field c ∷ row ∷ rows) s holds few =
-    let parts = both_true (not (is_trailing c.coding)) (trails_last (row ∷ rows)) holds in
-    sequence (one_field s c) (part 0 len (row ∷ rows)) (open_field s c (not_true _ parts.0)) (λ t. open_before 0 len (row ∷ rows) t parts.1 (omega arith))
+    let parts = and_parts (not (is_trailing c.coding)) (trails_last (row ∷ rows)) holds in
+    sequence (one_field s c) (part 0 len (row ∷ rows)) (open_field s c (not-true _ parts.0)) (λ t. open_before 0 len (row ∷ rows) t parts.1 (omega arith))
 open_before zero (suc len) (Block presence n ∷ rows) s holds few =
-    let more = (both_true _ _ holds).1 in
+    let more = (and_parts (nat_lt n (length rows) || not (has_trailing rows)) (trails_last rows) holds).1 in
     sequence (present presence (part 0 (min n len) rows) s) (part (min n len) (len - min n len) rows)
     (open_present presence (part 0 (min n len) rows) s (λ t. open_before 0 (min n len) rows t more (omega arith)))
     (λ t. open_before (min n len) (len - min n len) rows t more (omega arith))
@@ -170,10 +162,10 @@ last_part (suc skip) len (row ∷ rows) s holds all = last_part skip len rows s 
 last_part zero zero (row ∷ rows) s holds all = over_too
 last_part zero (suc len) (Field c ∷ []) s holds all = last (λ v. (_, refl))
 last_part zero (suc len) (Field c ∷ row ∷ rows) s holds all =
-    let parts = both_true (not (is_trailing c.coding)) (trails_last (row ∷ rows)) holds in
-    sequence_last (one_field s c) (part 0 len (row ∷ rows)) (open_field s c (not_true _ parts.0)) (λ t. last_part 0 len (row ∷ rows) t parts.1 (omega arith))
+    let parts = and_parts (not (is_trailing c.coding)) (trails_last (row ∷ rows)) holds in
+    sequence_last (one_field s c) (part 0 len (row ∷ rows)) (open_field s c (not-true _ parts.0)) (λ t. last_part 0 len (row ∷ rows) t parts.1 (omega arith))
 last_part zero (suc len) (Block presence n ∷ rows) s holds all =
-    let parts = both_true _ _ holds in
+    let parts = and_parts _ _ holds in
     let block : (t : List ℕ) → IsOpen (part 0 (min n len) rows t) = λ t.
     elim (block_ends n rows parts.0) [
       | inl few ↦ open_before 0 (min n len) rows t parts.1 (omega arith)
@@ -183,19 +175,14 @@ last_part zero (suc len) (Block presence n ∷ rows) s holds all =
     (λ t. last_part (min n len) (len - min n len) rows t parts.1 (omega arith))
 last_part zero (suc len) (Name name formula ∷ rows) s holds all = last_part 0 len rows (slice_set s name (value s formula)) holds (omega arith)
 
-pub closes_at_the_end : ClosesAtTheEnd
-unfolding form_of
-closes_at_the_end rows s place values holds = closes_end (part 0 (length rows) rows s) place values (last_part 0 (length rows) rows s holds (omega arith))
-
--- ---- several tables
-
-open_form : (rows : List Row) (s : List ℕ) → has_trailing rows ≡ false → IsOpen (form_of rows s)
-unfolding form_of
-open_form rows s none = open_part 0 (length rows) rows s none
-
 last_form : (rows : List Row) (s : List ℕ) → trails_last rows ≡ true → ComesLast (form_of rows s)
 unfolding form_of
 last_form rows s holds = last_part 0 (length rows) rows s holds (omega arith)
+
+pub closes_at_the_end : ClosesAtTheEnd
+closes_at_the_end rows s place values holds = closes_end (form_of rows s) place values (last_form rows s holds)
+
+-- ---- several tables
 
 last_present : (presence : Presence) (block : List ℕ → Form (List ℕ)) (s : List ℕ) → comes_once presence ≡ true → ((t : List ℕ) → ComesLast (block t)) → ComesLast (present presence block s)
 unfolding present
@@ -212,18 +199,18 @@ open_parts : (parts : List Part) (s : List ℕ) → parts_have_trailing parts �
 unfolding sections_form parts_have_trailing
 open_parts [] s none = over
 open_parts (part ∷ parts) s none =
-    let both = both_false (has_trailing part.rows.now) (parts_have_trailing parts) none in
+    let both = or_parts (has_trailing part.rows.now) (parts_have_trailing parts) none in
     sequence (present part.presence (form_of part.rows.now) s) (parts_form parts) (open_present part.presence (form_of part.rows.now) s (λ t. open_form part.rows.now t both.0)) (λ t. open_parts parts t both.1)
 
 last_parts : (parts : List Part) (s : List ℕ) → parts_trail_last parts ≡ true → ComesLast (parts_form parts s)
 unfolding sections_form parts_trail_last
 last_parts [] s holds = over_too
 last_parts (part ∷ []) s holds =
-    let both = both_true (comes_once part.presence) (trails_last part.rows.now) holds in
+    let both = and_parts (comes_once part.presence) (trails_last part.rows.now) holds in
     alone (present part.presence (form_of part.rows.now) s) (last_present part.presence (form_of part.rows.now) s both.0 (λ t. last_form part.rows.now t both.1))
 last_parts (part ∷ next ∷ parts) s holds =
-    let both = both_true (not (has_trailing part.rows.now)) (parts_trail_last (next ∷ parts)) holds in
-    sequence_last (present part.presence (form_of part.rows.now) s) (parts_form (next ∷ parts)) (open_present part.presence (form_of part.rows.now) s (λ t. open_form part.rows.now t (not_true _ both.0)))
+    let both = and_parts (not (has_trailing part.rows.now)) (parts_trail_last (next ∷ parts)) holds in
+    sequence_last (present part.presence (form_of part.rows.now) s) (parts_form (next ∷ parts)) (open_present part.presence (form_of part.rows.now) s (λ t. open_form part.rows.now t (not-true _ both.0)))
     (λ t. last_parts (next ∷ parts) t both.1)
 
 pub parts_close : PartsCloseWithoutTrailing

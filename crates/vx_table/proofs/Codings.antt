@@ -33,7 +33,7 @@ pub begins_code_apart : {coding : Coding ℕ} {total : ℕ} {v w : ℤ} {left mi
 begins_code_apart {coding} {total} {v} {w} {left} {mid} {rest} a b = code_apart coding (total - length left) v w mid rest a.value b.value (sym a.bits ∙ b.bits)
 
 -- where a code begins, no cause is found
-pub not_missed : (coding : Coding ℕ) (place : ℕ) (v : ℤ) (left rest : List Bool) (cause : BitCause) → HasCode coding v → left ≡ code_of coding place v ++ rest → MayEnd coding rest → Misses coding place left cause → ⊥
+not_missed : (coding : Coding ℕ) (place : ℕ) (v : ℤ) (left rest : List Bool) (cause : BitCause) → HasCode coding v → left ≡ code_of coding place v ++ rest → MayEnd coding rest → Misses coding place left cause → ⊥
 unfolding HasCode code_of MayEnd Misses
 not_missed (Fixed n) place (pos v) left rest causes.Short has is end short = omega (arith, ap length is, length-append (fixed n v) rest, length-fixed n v, short)
 not_missed (Fixed n) place (negsuc v) left rest causes.Short has is end short = absurd has
@@ -52,7 +52,7 @@ not_missed Refused place v left rest cause has is end none = has
 not_missed coding place v left rest cause has is end none = none
 
 -- and only one cause is found
-pub missed_once : (coding : Coding ℕ) (place : ℕ) (left : List Bool) (a b : BitCause) → Misses coding place left a → Misses coding place left b → a ≡ b
+missed_once : (coding : Coding ℕ) (place : ℕ) (left : List Bool) (a b : BitCause) → Misses coding place left a → Misses coding place left b → a ≡ b
 unfolding Misses
 missed_once (Fixed n) place left causes.Short causes.Short m n' = refl
 missed_once Golomb place left causes.Short causes.Short m n = refl

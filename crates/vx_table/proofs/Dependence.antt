@@ -14,7 +14,7 @@ use Rattle.vx_table.specs.Depends.{has, Agree, Alike, at_ends, both, hidden_left
 use Rattle.vx_table.specs.Parts.{Section, sections_form}
 use Rattle.vx_table.proofs.Agreeing.{Inside, inside_itself, agree_itself, agree_back, agree_on, agree_less, agree_set, agree_outside, grown_other, inside_grown, with_one, grows, same_value, same_cell, valued}
 
-pub alike_less : {shown known more : List ℕ} {f g : Form (List ℕ)} → Inside known more → Alike shown more f g → Alike shown known f g
+alike_less : {shown known more : List ℕ} {f g : Form (List ℕ)} → Inside known more → Alike shown more f g → Alike shown known f g
 alike_less inside (at_ends agree) = at_ends (agree_less inside agree)
 alike_less inside (both is more) = both is (λ v. alike_less inside (more v))
 alike_less inside (hidden_left is more) = hidden_left is (λ v. alike_less inside (more v))
@@ -201,7 +201,7 @@ named {shown} {known} {s} {t} name f inside test agree = elim (or_cases (not (ha
   | inr knows ↦ rw (same_value f agree knows) (agree_grown shown known name (value t f) agree)
 ]
 
-pub alike_part : (shown known : List ℕ) (skip len : ℕ) (rows : List Row) (s t : List ℕ) → Inside known shown → depends shown known skip len rows ≡ true → Agree known s t
+alike_part : (shown known : List ℕ) (skip len : ℕ) (rows : List Row) (s t : List ℕ) → Inside known shown → depends shown known skip len rows ≡ true → Agree known s t
     → Alike shown known (part skip len rows s) (part skip len rows t)
 unfolding depends part one_field
 alike_part shown known zero len [] s t inside test agree = at_ends agree

@@ -17,7 +17,7 @@ use Rattle.vx_table.specs.Spelling.{HasCode, code_of, MayEnd, BeginsCode, Misses
 use Rattle.vx_table.specs.Laws.{AnswersAlways}
 
 -- a code begins at the bits, or there is a cause why none does
-abbrev pub CodeOrCause : Coding ℕ → ℕ → List Bool → Type 0
+abbrev CodeOrCause : Coding ℕ → ℕ → List Bool → Type 0
 CodeOrCause coding total left = ((v : ℤ) × (rest : List Bool) × BeginsCode coding total v left rest) ⊎ ((cause : BitCause) × Misses coding (total - length left) left cause)
 
 -- bits begin with others, or they don't
@@ -144,7 +144,7 @@ field_answers cell total left =
       | inr (cause, m) ↦ inr (_, missed m)
     ]
 
-abbrev pub Answer : {A : Type 0} → Form A → ℕ → List Bool → Type 0
+abbrev Answer : {A : Type 0} → Form A → ℕ → List Bool → Type 0
 Answer form total left = ((values : List ℤ) × (rest : List Bool) × Spells total form values left rest)
     ⊎ ((values : List ℤ) × (cell : Cell ℕ) × (rest : List Bool) × (refusal : Refusal) × Reaches total form values left cell rest × IsRefused cell total rest refusal)
 

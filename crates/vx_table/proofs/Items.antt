@@ -5,7 +5,7 @@ use Rattle.vx_table.specs.declared.rows.Coding.{Coding}
 use Rattle.vx_table.specs.declared.rows.Coding.TheVariants.{Fixed, Golomb, SignedGolomb, Zeros, OneAndZeros, Trailing, Absent, Refused}
 use Rattle.vx_table.specs.declared.rows.Cell.{Cell}
 use Rattle.vx_table.specs.Forms.{has_value}
-use Rattle.vx_table.specs.Items.{TellsValue}
+use Rattle.vx_table.specs.Writing.{TellsValue}
 use Rattle.vx_table.specs.Spelling.{HasCode, item_of}
 
 -- the next of the items from one place up to another
@@ -40,7 +40,7 @@ unfolding item_of
 item_apart cell {v} {w} r s a b e = item_apart_at cell.coding cell.field v w r s a b e
 
 -- the value of a gap is 0
-pub gap_value : (coding : Coding ℕ) (v : ℤ) → has_value coding ≡ false → HasCode coding v → v ≡ pos 0
+gap_value : (coding : Coding ℕ) (v : ℤ) → has_value coding ≡ false → HasCode coding v → v ≡ pos 0
 unfolding has_value HasCode
 gap_value (Fixed n) v gap has = absurd (cc)
 gap_value Golomb v gap has = absurd (cc)

@@ -33,7 +33,7 @@ one_more : {A : Type 0} (cell : Cell ℕ) (goes : ℤ → Form A) (items between
 one_more cell goes items between after v w first more = more ∙ (ap (λ front. front ++ items_along (goes v) w) first ∙ append_assoc items (item_of cell v) (items_along (goes v) w))
 
 -- what is read is spelled
-pub found : {A : Type 0} {form : Form A} {old new : Place} {items after : List Item} {a : A}
+found : {A : Type 0} {form : Form A} {old new : Place} {items after : List Item} {a : A}
     → Walks ReadsField form old items (Ok a) new after → IsFound form old items new after
 found {items} ended = record { values = []; spelled = at_end; total = refl; gained = sym (append-nil items) }
 found {form = field cell goes} {old} {new} {items} {after} (coded {d} {j} {v} s rest) =
@@ -65,7 +65,7 @@ at_once {cell} {goes} {old} {items} still same = record {
 }
 
 -- a refusal is that of the longest front
-pub stopped : {A : Type 0} {form : Form A} {old new : Place} {items after : List Item} (r : Refusal)
+stopped : {A : Type 0} {form : Form A} {old new : Place} {items after : List Item} (r : Refusal)
     → Walks {A = A} ReadsField form old items (Err (errors.Refused r)) new after → IsFirstRefusal form old items new after r
 stopped {form = done a} r walk = elim walk [ ]
 stopped {form = field cell goes} {old} r (refused s) =
@@ -75,7 +75,7 @@ stopped {form = field cell goes} {old} r (coded {d} s walk) =
     record { cell = more.cell; stops = longer s.0 s.1 s.2 more.stops; refused = refused_at d.total old.total s.1 more.refused }
 
 -- and where memory runs out, a front was read
-pub interrupted : {A : Type 0} {form : Form A} {old new : Place} {items after : List Item}
+interrupted : {A : Type 0} {form : Form A} {old new : Place} {items after : List Item}
     → Walks {A = A} ReadsField form old items (Err errors.Memory) new after → (cell : Cell ℕ) × StopsAt form old items new after cell
 interrupted {form = done a} walk = elim walk [ ]
 interrupted {form = field cell goes} (refused s) = (cell, at_once s.0 s.1)
@@ -93,7 +93,7 @@ refused_more (Err errors.Memory) r f p = tt
 refused_more (Err (errors.Refused q)) r f p = (p.0, f p.1)
 
 -- whatever is spelled is answered
-pub only : {A : Type 0} {form : Form A} {old new : Place} {items after : List Item} {result : Result A ReadError} {w : List ℤ} {left rest : List Bool}
+only : {A : Type 0} {form : Form A} {old new : Place} {items after : List Item} {result : Result A ReadError} {w : List ℤ} {left rest : List Bool}
     → Walks ReadsField form old items result new after → Spells old.total form w left rest → left ≡ old.left
     → IsAnswered result ((new.left ≡ rest) × (after ≡ items ++ items_along form w))
 only {items} ended at_end same = (sym same, sym (append-nil items))
@@ -109,7 +109,7 @@ only {form = field cell goes} {old} {new} {items} {after} {result} {rest} (coded
     subst (λ x. IsAnswered result ((new.left ≡ rest) × (after ≡ items ++ items_along (field cell goes) (x ∷ w)))) (sym apart.0) here
 
 -- where a field is refused, that is the answer
-pub refusal : {A : Type 0} {form : Form A} {old new : Place} {items after : List Item} {result : Result A ReadError} {w : List ℤ} {left rest : List Bool} {cell : Cell ℕ} {r : Refusal}
+refusal : {A : Type 0} {form : Form A} {old new : Place} {items after : List Item} {result : Result A ReadError} {w : List ℤ} {left rest : List Bool} {cell : Cell ℕ} {r : Refusal}
     → Walks ReadsField form old items result new after → Reaches old.total form w left cell rest → left ≡ old.left → IsRefused cell old.total rest r
     → IsRefusedWith result r ((new.left ≡ rest) × (after ≡ items ++ items_along form w))
 refusal ended reach same out = elim reach [ ]
@@ -129,7 +129,7 @@ refusal {form = field cell goes} {old} {new} {items} {after} {result} {rest} {ce
     subst (λ x. IsRefusedWith result r ((new.left ≡ rest) × (after ≡ items ++ items_along (field cell goes) (x ∷ w)))) (sym apart.0) here
 
 -- the end to which a reader comes
-pub leads_to : {A : Type 0} {form : Form A} {old new : Place} {items after : List Item} {a : A} {w : List ℤ} {left rest : List Bool}
+leads_to : {A : Type 0} {form : Form A} {old new : Place} {items after : List Item} {a : A} {w : List ℤ} {left rest : List Bool}
     → Walks ReadsField form old items (Ok a) new after → Spells old.total form w left rest → left ≡ old.left → Follows form w a
 leads_to ended at_end same = to_end
 leads_to {form = field cell goes} {old} {a} {rest} (coded {d} {v} s walk) (behind {v = u} {w} {mid} begins more) same =

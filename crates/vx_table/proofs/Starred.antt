@@ -1,5 +1,6 @@
 -- Where the stars of a table tell what is shown, its forms keep the shown fields, and the kept items tell these.
 use Rattle.std.proofs.Common.{◌≡◌, inl, inr, ℕ, ℤ, zero, suc, ◌+◌, ◌-◌, min, Bool, true, false, cond, not, ◌&&◌, ◌==◌, IsTrue, List, [], ◌∷◌, ◌++◌, length, slice_set, refl, sym, subst, ◌∙◌}
+use Rattle.std.proofs.Math.Bool.{and-false}
 use Rattle.std.proofs.lemmas.Bool.{cases_Bool, and_parts, not-true}
 use Rattle.vx_bits.specs.declared.list.Item.{Item}
 use Rattle.vx_table.specs.declared.rows.Formula.{Formula}
@@ -105,22 +106,17 @@ only_value Trailing v w none a b = a ∙ sym b
 only_value Absent v w none a b = absurd (cc)
 only_value Refused v w none a b = absurd a
 
--- a test and one that fails
-no_two : (b : Bool) → (b && false) ≡ false
-no_two true = refl
-no_two false = refl
-
 kept_apart : (cell : Cell ℕ) (v w : ℤ) (r s : List Item) → (IsTrue (stands_for_field cell.coding) → cell.kept ≡ true) → HasCode cell.coding v → HasCode cell.coding w
     → kept_item cell v ++ r ≡ kept_item cell w ++ s → (v ≡ w) × (r ≡ s)
 kept_apart cell v w r s keeps a b e = elim (cases_Bool (stands_for_field cell.coding)) [
   | inl stands ↦ same_value cell.field v w r s (rw (keeps stands, stands) at e)
-  | inr none ↦ (only_value cell.coding v w none a b, rw (none, no_two cell.kept) at e)
+  | inr none ↦ (only_value cell.coding v w none a b, rw (none, and-false cell.kept) at e)
 ]
 
 not_kept : (cell : Cell ℕ) (v : ℤ) → (IsTrue (stands_for_field cell.coding) → cell.kept ≡ false) → kept_item cell v ≡ []
 not_kept cell v drops = elim (cases_Bool (stands_for_field cell.coding)) [
   | inl stands ↦ rw (drops stands) refl
-  | inr none ↦ rw (none, no_two cell.kept) refl
+  | inr none ↦ rw (none, and-false cell.kept) refl
 ]
 
 follow_kept : {shown known : List ℕ} {f g : Form (List ℕ)} {v w : List ℤ} {s t : List ℕ} → Alike shown known f g → KeepsShown shown f → KeepsShown shown g → Follows f v s → Follows g w t

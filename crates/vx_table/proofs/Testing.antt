@@ -1,7 +1,7 @@
 -- The test of a table by its first row.
 use Rattle.std.proofs.Common.{◌≡◌, ℕ, zero, suc, ◌+◌, ◌-◌, ◌≤◌, min, true, ◌&&◌, List, [], ◌∷◌, ◌++◌, length, take, drop, refl, ap, sym, ◌∙◌, arith}
 use Rattle.std.proofs.Math.Path.{fun_ext}
-use Rattle.std.proofs.lemmas.List.{take-append-drop, length-take-le, length-drop}
+use Rattle.std.proofs.lemmas.List.{take-append-le, take-append-drop, length-take-le, length-drop}
 use Rattle.vx_table.specs.declared.rows.Formula.{Formula}
 use Rattle.vx_table.specs.declared.rows.Cell.{Cell}
 use Rattle.vx_table.specs.declared.rows.Presence.{Presence}
@@ -17,12 +17,6 @@ depends-drop shown known (suc skip) len [] = refl
 depends-drop shown known zero len (row ∷ rows) = refl
 depends-drop shown known (suc skip) len (row ∷ rows) = depends-drop shown known skip len rows
 
-take_of-append : (k : ℕ) (rows more : List Row) → k ≤ length rows → take k (rows ++ more) ≡ take k rows
-take_of-append zero [] more fits = refl
-take_of-append zero (row ∷ rows) more fits = refl
-take_of-append (suc k) [] more fits = absurd (omega arith)
-take_of-append (suc k) (row ∷ rows) more fits = ap (λ x. row ∷ x) (take_of-append k rows more (omega arith))
-
 -- rows that stand behind don't change it
 depends-append : (shown known : List ℕ) (skip len : ℕ) (rows more : List Row) → skip + len ≤ length rows → depends shown known skip len (rows ++ more) ≡ depends shown known skip len rows
 unfolding depends
@@ -35,10 +29,10 @@ depends-append shown known zero zero (row ∷ rows) more fits = refl
 depends-append shown known zero (suc len) (Field c ∷ rows) more fits =
     ap (λ rest. field_depends shown known c && rest) (depends-append shown (behind_field shown known c) 0 len rows more (omega arith))
 depends-append shown known zero (suc len) (Block presence n ∷ rows) more fits =
-    let block = take_of-append (min n len) rows more (omega arith) in
+    let block = take-append-le (min n len) rows more (omega arith) in
+    let behind = depends-append shown known (min n len) (len - min n len) rows more (omega arith) in
     let within : (λ there. depends shown there 0 (min n len) (rows ++ more)) ≡ (λ there. depends shown there 0 (min n len) rows)
     = fun_ext (λ there. depends-append shown there 0 (min n len) rows more (omega arith)) in
-    let behind = depends-append shown known (min n len) (len - min n len) rows more (omega arith) in
     rw (block, behind) (ap (λ inside. block_depends shown known presence (hides shown (take (min n len) rows)) inside && depends shown known (min n len) (len - min n len) rows) within)
 depends-append shown known zero (suc len) (Name name formula ∷ rows) more fits =
     ap (λ rest. name_depends shown known name formula && rest) (depends-append shown (grown shown known name) 0 len rows more (omega arith))

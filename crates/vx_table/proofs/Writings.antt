@@ -28,7 +28,7 @@ pub items_more : {A : Type 0} (cell : Cell ℕ) (goes : ℤ → Form A) (items b
 items_more cell goes items between left v w first more = first ∙ ap (λ x. item_of cell v ++ x) more ∙ sym (append_assoc (item_of cell v) (items_along (goes v) w) left)
 
 -- what was written is spelled
-pub written : {A : Type 0} {form : Form A} {old new : List Bool} {items left : List Item} {a : A}
+written : {A : Type 0} {form : Form A} {old new : List Bool} {items left : List Item} {a : A}
     → Walks WritesField form old items (Ok a) new left → IsSpelled form (bits_along form (length old)) old items new left a
 written {old} ended = record { values = []; follows = to_end; gained = sym (append-nil old); taken = refl }
 written {form = field cell goes} {old} {new} {items} {left} (coded {d} {j} {v} s walk) =

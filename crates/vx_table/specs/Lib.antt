@@ -3,7 +3,6 @@ pub mod Scope
 pub mod Forms
 pub mod Walks
 pub mod Spelling
-pub mod Items
 pub mod Laws
 pub mod Parts
 pub mod Depends

@@ -1,12 +1,19 @@
 -- What a writer answers for a form: what the values whose items it is given are written as.
 use Rattle.std.specs.Prelude.{◌≡◌, ℕ, ℤ, Bool, List, ◌++◌, length, Option, Some, None, Result, Ok, Err}
 use Rattle.vx_bits.specs.declared.list.Item.{Item}
+use Rattle.vx_table.specs.declared.rows.Coding.{Coding}
 use Rattle.vx_table.specs.declared.rows.Cell.{Cell}
 use Rattle.vx_table.specs.declared.writer.SpellError.{SpellError}
 use Rattle.vx_table.specs.declared.writer.SpellError.TheVariants as errors
 use Rattle.vx_table.specs.Forms.{Form}
-use Rattle.vx_table.specs.Spelling.{code_of, item_of, items_along}
+use Rattle.vx_table.specs.Spelling.{HasCode, code_of, one_item, item_of, items_along}
 use Rattle.vx_table.specs.Values.{IsValueOf, Follows, ComesTo, bits_along}
+
+-- The only value of a coding whose item may come next in the items, with those behind it, or that none may.
+abbrev pub TellsValue : ℕ → Coding ℕ → List Item → Option ℤ → List Item → Type 0
+TellsValue of coding items (Some v) left = (items ≡ one_item of coding v ++ left)
+    × ((u : ℤ) (more : List Item) → HasCode coding u → items ≡ one_item of coding u ++ more → u ≡ v)
+TellsValue of coding items None left = (v : ℤ) (more : List Item) → HasCode coding v → items ≡ one_item of coding v ++ more → ⊥
 
 -- The items that come next are those of no value of the field.
 abbrev pub TellsNoValue : Cell ℕ → List Item → Type 0

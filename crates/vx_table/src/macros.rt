@@ -142,29 +142,21 @@ macro_rules! table {
             },
         ] $($block)* $($rest)*)
     };
-    (@ [$($done:tt)*]
-        $field:literal * $name:ident
-        $(: $coding:ident $(($($width:tt)+))?)?
-        $(in $low:literal ..= $high:tt $(else $fault:ident $(($number:literal))?)?)?
-        $(below $bound:tt $(else $beyond:ident $(($code:literal))?)?)?
-        $(multiple $unit:literal upto $most:literal else $above:ident ($limit:literal))?
-        ; $($rest:tt)*) => {
-        $crate::table!(@ [$($done)*
-            $crate::cell!($field, false, [$($coding $(($($width)+))?)?],
-                [$(in $low ..= $high $(else $fault $(($number))?)?)?
-                 $(below $bound $(else $beyond $(($code))?)?)?
-                 $(multiple $unit upto $most else $above($limit))?]),
-        ] $($rest)*)
+    (@ [$($done:tt)*] $field:literal * $name:ident $($rest:tt)*) => {
+        $crate::table!(@ [$($done)*] ($field, false) $($rest)*)
+    };
+    (@ [$($done:tt)*] $field:literal $name:ident $($rest:tt)*) => {
+        $crate::table!(@ [$($done)*] ($field, true) $($rest)*)
     };
     (@ [$($done:tt)*]
-        $field:literal $name:ident
+        ($field:literal, $kept:literal)
         $(: $coding:ident $(($($width:tt)+))?)?
         $(in $low:literal ..= $high:tt $(else $fault:ident $(($number:literal))?)?)?
         $(below $bound:tt $(else $beyond:ident $(($code:literal))?)?)?
         $(multiple $unit:literal upto $most:literal else $above:ident ($limit:literal))?
         ; $($rest:tt)*) => {
         $crate::table!(@ [$($done)*
-            $crate::cell!($field, true, [$($coding $(($($width)+))?)?],
+            $crate::cell!($field, $kept, [$($coding $(($($width)+))?)?],
                 [$(in $low ..= $high $(else $fault $(($number))?)?)?
                  $(below $bound $(else $beyond $(($code))?)?)?
                  $(multiple $unit upto $most else $above($limit))?]),

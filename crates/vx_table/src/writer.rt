@@ -3,9 +3,8 @@
 ghost use Rattle.std.specs.Prelude.{◌≡◌, ◌↔◌, ℕ, pos, ◌^◌, ◌<◌, ◌-◌, ◌≤◌, List, ◌∷◌, ◌++◌, [], length, take, drop, IsTrue, OnOk, OnErr, MatchOption};
 ghost use Rattle.vx_bits.specs.declared.list.Item.{Item};
 ghost use Rattle.vx_table.specs.Spelling.{IsCodable, HasCode, code_of};
-ghost use Rattle.vx_table.specs.Items.{TellsValue};
 ghost use Rattle.vx_table.specs.Forms.{form_of};
-ghost use Rattle.vx_table.specs.Writing.{TakesValue, Writes, ItemsLeadTo};
+ghost use Rattle.vx_table.specs.Writing.{TellsValue, TakesValue, Writes, ItemsLeadTo};
 
 use crate::ranges::is_value;
 use crate::rows::{Cell, Coding, Row};
