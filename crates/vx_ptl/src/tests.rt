@@ -263,7 +263,12 @@ fn reads_and_writes(rt: HostRuntime) -> Result<(), Fail> {
               57=0 60=1 56=1 57=1 60=0",
         ),
         // By hand.
-        (Dpb(true), 1, &[0xa7, 0x4e], b"31=0 32=1 33=2 31=0 32=1 33=2"),
+        (
+            Dpb(true),
+            1,
+            &[0xa7, 0x4e],
+            b"31=0 32=1 33=2 31=0 32=1 33=2",
+        ),
         (Dpb(false), 1, &[0xa7], b"31=0 32=1 33=2"),
         (
             Timing(false),
