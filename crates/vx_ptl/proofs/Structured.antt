@@ -123,10 +123,10 @@ table_written rows s values scope place leads follows =
     ((at 0).0, λ before. (at before).1)
 
 pub structures_spelled : StructuresAreSpelled
-structures_spelled _ values scope place (profile_tier_level max) follows = table_written PTL _ values scope place ptl_leads follows
-structures_spelled _ values scope place (dpb_parameters max each) follows = table_written DPB _ values scope place (plain_leads DPB dpb_plain) follows
-structures_spelled _ values scope place (general_timing max each) follows = table_written TIMING _ values scope place (plain_leads TIMING timing_plain) follows
-structures_spelled _ values scope place (timing_of_sublayers items max each) follows = table_written SUBLAYER_TIMING _ values scope place (plain_leads SUBLAYER_TIMING sublayer_plain) follows
+structures_spelled _ values scope place (profile_tier_level s) follows = table_written PTL s values scope place ptl_leads follows
+structures_spelled _ values scope place (dpb_parameters s) follows = table_written DPB s values scope place (plain_leads DPB dpb_plain) follows
+structures_spelled _ values scope place (general_timing s) follows = table_written TIMING s values scope place (plain_leads TIMING timing_plain) follows
+structures_spelled _ values scope place (timing_of_sublayers s) follows = table_written SUBLAYER_TIMING s values scope place (plain_leads SUBLAYER_TIMING sublayer_plain) follows
 
 -- the last field of the items, or the one before them
 last_field : ℕ → List Item → ℕ

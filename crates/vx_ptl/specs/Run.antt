@@ -45,9 +45,9 @@ unfoldable pub run_bits : ℕ → ℕ → List Item → List Bool
 run_bits before place [] = []
 run_bits before place (item ∷ items) = item_bits before place item ++ run_bits item.field (place + length (item_bits before place item)) items
 
--- The bits have gained a front of these: none, some or all of them.
-abbrev pub AppendsFront : List Bool → List Bool → List Bool → Type 0
-AppendsFront old bits new = (n : ℕ) × (new ≡ old ++ take n bits)
+-- The bits grow by a front of these: by none, some or all of them.
+abbrev pub GrowsByFront : List Bool → List Bool → List Bool → Type 0
+GrowsByFront old new bits = (n : ℕ) × (new ≡ old ++ take n bits)
 
 -- the field has a code, and its value has one
 abbrev pub HasBits : Option (Coding ℕ) → ℤ → Type 0

@@ -1,18 +1,18 @@
 -- What items of whole structures spell, one structure behind another.
 use Rattle.std.specs.Prelude.{◌≡◌, ℕ, ℤ, ◌-◌, ◌+◌, ◌≤◌, Bool, List, [], ◌++◌, length, All}
 use Rattle.vx_bits.specs.declared.list.Item.{Item}
-use Rattle.vx_table.specs.Forms.{Form}
+use Rattle.vx_table.specs.Forms.{Form, form_of}
 use Rattle.vx_table.specs.Spelling.{Spells, items_along}
 use Rattle.vx_table.specs.Values.{Follows, bits_along}
-use Rattle.vx_ptl.specs.Structures.{ptl, dpb, timing, sublayer_timing}
+use Rattle.vx_ptl.specs.declared.tables.TheConstants.{PTL, DPB, TIMING, SUBLAYER_TIMING}
 use Rattle.vx_ptl.specs.Run.{run_bits, IsRunItem}
 
--- A structure of fields 11 to 60, at any numbers on which it depends.
+-- A structure of fields 11 to 60, at whatever scope.
 pub data IsStructure : Form (List ℕ) → Type 0 where
-  profile_tier_level : (max : ℕ) → IsStructure (ptl max)
-  dpb_parameters : (max : ℕ) (each : Bool) → IsStructure (dpb max each)
-  general_timing : (max : ℕ) (each : Bool) → IsStructure (timing max each)
-  timing_of_sublayers : (items : List Item) (max : ℕ) (each : Bool) → IsStructure (sublayer_timing items max each)
+  profile_tier_level : (scope : List ℕ) → IsStructure (form_of PTL scope)
+  dpb_parameters : (scope : List ℕ) → IsStructure (form_of DPB scope)
+  general_timing : (scope : List ℕ) → IsStructure (form_of TIMING scope)
+  timing_of_sublayers : (scope : List ℕ) → IsStructure (form_of SUBLAYER_TIMING scope)
 
 -- From this place on the bits are the spelling of the structures whose items these are, one behind another.
 pub data SpellStructures : ℕ → List Item → List Bool → Type 0 where

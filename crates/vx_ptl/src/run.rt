@@ -2,7 +2,7 @@
 
 ghost use Rattle.std.specs.Prelude.{◌≡◌, ◌↔◌, ◌+◌, ◌-◌, ◌≤◌, ◌++◌, length, take, drop, All, IsTrue, OnOk, OnErr};
 ghost use Rattle.vx_ptl.specs.Spelling.{AppendsSpelling};
-ghost use Rattle.vx_ptl.specs.Run.{field_coding, resolved, begins_byte, gap, item_bits, run_bits, IsRunItem, IsCodableIfAny, AppendsFront};
+ghost use Rattle.vx_ptl.specs.Run.{field_coding, resolved, begins_byte, gap, item_bits, run_bits, IsRunItem, IsCodableIfAny, GrowsByFront};
 
 use crate::tables::{DPB, PTL, SUBLAYER_TIMING, TIMING};
 use std::alloc::AllocError;
@@ -63,7 +63,7 @@ pub fn is_run(items: &Fields, from: usize, to: usize) -> bool
 fn write_item(bits: &mut BitWriter, before: u16, item: Item) -> Result<(), AllocError>
     requires { IsRunItem item }
     ensures ok { OnOk result (bits.new ≡ bits.old ++ item_bits before (length bits.old) item) }
-    ensures err { OnErr result (AppendsFront bits.old (item_bits before (length bits.old) item) bits.new) }
+    ensures err { OnErr result (GrowsByFront bits.old bits.new (item_bits before (length bits.old) item)) }
 {
     write_gap(bits, before, item.field)?;
     match coding_of_field(item.field) {
@@ -99,7 +99,7 @@ pub fn write_run(
     requires within { to ≤ length items.now }
     requires run { All IsRunItem (take (to - from) (drop from items.now)) }
     ensures bits { OnOk result (bits.new ≡ bits.old ++ run_bits 0 (length bits.old) (take (to - from) (drop from items.now))) }
-    ensures err { OnErr result (AppendsFront bits.old (run_bits 0 (length bits.old) (take (to - from) (drop from items.now))) bits.new) }
+    ensures err { OnErr result (GrowsByFront bits.old bits.new (run_bits 0 (length bits.old) (take (to - from) (drop from items.now)))) }
     ensures structures { OnOk result (AppendsSpelling bits.old (take (to - from) (drop from items.now)) bits.new) }
 {
     let mut before = 0;

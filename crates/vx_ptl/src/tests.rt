@@ -1,16 +1,27 @@
-//! Cases worked by hand and by a model of the syntax that isn't ours.
+//! Cases by a model of the syntax that isn't ours, and worked by hand.
 ghost use Rattle.std.specs.Prelude.{◌≤◌, length};
 
 use super::*;
+use crate::tests::Structure::{Dpb, ProfileTierLevel, Timing};
 use std::alloc::{AllocError, Global};
 use std::test::Fail;
-use vx_bits::{BitCause, BitReader, BitWriter, Fields, ReadError, Refusal};
+use vx_bits::{BitCause, BitReader, BitWriter, Fields, Item, ReadError, Refusal};
+use vx_table::keeps_only;
+
+/// A structure, and whether each sublayer has an entry of its own.
+#[derive(Clone, Copy)]
+enum Structure {
+    ProfileTierLevel,
+    Dpb(bool),
+    /// General timing, and sublayer timing behind it.
+    Timing(bool),
+}
 
 /// A front of a VPS: its bytes, and the values of the fields, or the refusal.
 type Front<'a> = (&'a [u8], Result<[i64; 3], ReadError>);
 
 /// A malformed field.
-const fn syntax(field: u16, bit: u32, cause: BitCause) -> Result<[i64; 3], ReadError> {
+const fn syntax<T>(field: u16, bit: u32, cause: BitCause) -> Result<T, ReadError> {
     Err(ReadError::Refused(Refusal::Syntax { field, bit, cause }))
 }
 
@@ -61,167 +72,37 @@ fn reads_fronts_of_vps(rt: HostRuntime) {
     }
 }
 
-/// Whether the fields are those, in this order.
-fn are(fields: &Fields, wanted: &[(u16, i64)]) -> bool {
-    if fields.len() != wanted.len() {
-        return false;
-    }
-    let mut same = true;
-    for (i, (field, value)) in wanted.iter().enumerate() {
-        if i < fields.len() {
-            let item = fields.item(i);
-            same = same & (item.field == *field) & (item.value == *value);
-        }
-    }
-    same
-}
-
-#[test]
-fn reads_timing(rt: HostRuntime) -> Result<(), Fail> {
-    let bytes = [0, 0, 0, 1, 0, 0, 0, 0x3c, 0x30];
-    let mut bits = BitReader::new(&bytes);
-    let mut fields = Fields::new(rt.alloc());
-    read_timing(&mut bits, 0, false, &mut fields)?;
-    assert!(rt; are(&fields, &[(41, 1), (42, 60), (43, 0), (44, 0)]));
-    read_sublayer_timing(&mut bits, 0, false, &mut fields)?;
-    assert!(rt;
-        are(
-            &fields,
-            &[(41, 1), (42, 60), (43, 0), (44, 0), (52, 1), (54, 0)]
-        )
-    );
-    assert_eq!(rt; bits.at(), 68);
-    Ok(())
-}
-
-#[test]
-fn reads_hrd_of_two_sublayers(rt: HostRuntime) -> Result<(), Fail> {
-    // Behind the two numbers: 1 0 0 1 00000010 0011 0100 0101 1, then for each sublayer
-    // 0 0 1 010 011 1 1 0 and 1 1 1 1 00100 1 1.
-    let bytes = [0, 0, 0, 1, 0, 0, 0, 2, 0x90, 0x23, 0x45, 0x94, 0xf7, 0x93];
-    let general = [
-        (41, 1),
-        (42, 2),
-        (43, 1),
-        (44, 0),
-        (45, 0),
-        (46, 1),
-        (47, 2),
-        (48, 3),
-        (49, 4),
-        (50, 5),
-        (51, 0),
-    ];
-    let all = [
-        (41, 1),
-        (42, 2),
-        (43, 1),
-        (44, 0),
-        (45, 0),
-        (46, 1),
-        (47, 2),
-        (48, 3),
-        (49, 4),
-        (50, 5),
-        (51, 0),
-        (52, 0),
-        (53, 0),
-        (55, 1),
-        (56, 1),
-        (57, 2),
-        (58, 0),
-        (59, 0),
-        (60, 0),
-        (52, 1),
-        (54, 0),
-        (56, 0),
-        (57, 0),
-        (58, 3),
-        (59, 0),
-        (60, 1),
-    ];
-    let mut bits = BitReader::new(&bytes);
-    let mut fields = Fields::new(rt.alloc());
-    read_timing(&mut bits, 1, true, &mut fields)?;
-    assert!(rt; are(&fields, &general));
-    read_sublayer_timing(&mut bits, 1, true, &mut fields)?;
-    assert!(rt; are(&fields, &all));
-    assert_eq!(rt; bits.at(), 112);
-    Ok(())
-}
-
-/// How many items timing and sublayer timing of one layer have, and where they end.
-fn timed(alloc: Global, bytes: &[u8; 24]) -> Result<(usize, u32), ReadError> {
-    let mut bits = BitReader::new(bytes);
-    let mut fields = Fields::new(alloc);
-    read_timing(&mut bits, 0, false, &mut fields)?;
-    read_sublayer_timing(&mut bits, 0, false, &mut fields)?;
-    Ok((fields.len(), bits.at()))
-}
-
-#[test]
-fn reads_hrd_of_kinds(rt: HostRuntime) {
-    // The bits behind the two numbers. VCL alone: 0 1 1 0 0000 0000 1, then 0 0 1 and 1 1 1.
-    // NAL and VCL, two CPBs each: 1 1 0 0 0000 0000 010, then 1 1 and 1 1 1 four times.
-    // VCL and 33 CPBs, one too many: 0 1 0 0 0000 0000 00000100001. And 32: .. 00000100000, then 98 ones.
-    let range = ReadError::Refused(Refusal::Syntax {
-        field: 51,
-        bit: 76,
-        cause: BitCause::OutOfRange,
-    });
-    let cases: [([u8; 4], Result<(usize, u32), ReadError>); 4] = [
-        ([0x60, 0x09, 0xe0, 0], Ok((15, 83))),
-        ([0xc0, 0x05, 0xff, 0xf8], Ok((23, 93))),
-        ([0x40, 0x00, 0x42, 0], Err(range)),
-        ([0x40, 0x00, 0x41, 0xff], Ok((107, 185))),
-    ];
-    for ([a, b, c, d], wanted) in cases {
-        let bytes = [
-            0, 0, 0, 1, 0, 0, 0, 2, a, b, c, d, d, d, d, d, d, d, d, d, d, d, d, d,
-        ];
-        assert_eq!(rt; timed(rt.alloc(), &bytes), wanted);
-    }
-}
-
-/// Profile, tier and level of an SPS: its field 102, the bytes behind it from the first whole one on, the value of each
-/// of fields 11 to 16, and the values of each of fields 17 to 23.
-type ProfileTierLevel<'a> = (u32, &'a [u8], [i64; 6], [&'a [i64]; 7]);
-
-/// Whether a field has those values, in this order.
-fn has_values(fields: &Fields, field: u16, wanted: &[i64]) -> bool {
-    let mut rest = wanted.iter();
-    for i in 0..fields.len() {
-        let item = fields.item(i);
-        if item.field == field {
-            if rest.next() != Some(&item.value) {
-                return false;
-            }
-        }
-    }
-    rest.next().is_none()
-}
-
-/// The items of profile, tier and level.
-fn profile_tier_level(alloc: Global, max: u32, bytes: &[u8]) -> Result<Fields, ReadError>
-    requires highest { max ≤ 6 }
-    requires short { length bytes.now ≤ 28 }
+/// Reads a structure up to that highest sublayer.
+fn read(
+    bits: &mut BitReader<'_>,
+    structure: Structure,
+    max: u32,
+    into: &mut Fields,
+) -> Result<(), ReadError>
+    requires { max ≤ 6 }
 {
-    let mut fields = Fields::new(alloc);
-    read_ptl(&mut BitReader::new(bytes), max, &mut fields)?;
-    Ok(fields)
+    match structure {
+        ProfileTierLevel => read_ptl(bits, max, into),
+        Dpb(each) => read_dpb(bits, max, each, into),
+        Timing(each) => {
+            read_timing(bits, into)?;
+            read_sublayer_timing(bits, max, each, into)
+        }
+    }
 }
 
-/// Whether fields 11 to 23 have those values.
-fn are_values(fields: &Fields, general: [i64; 6], others: [&[i64]; 7]) -> bool {
-    (11..17)
-        .zip(general)
-        .all(|(field, value)| has_values(fields, field, &[value]))
-        & (17..24)
-            .zip(others)
-            .all(|(field, values)| has_values(fields, field, values))
+/// The items as text.
+fn text(alloc: Global, fields: &Fields) -> Result<String, AllocError> {
+    let mut text = String::new(alloc);
+    for i in 0..fields.len() {
+        let Item { field, value } = fields.item(i);
+        let space = if i == 0 { "" } else { " " };
+        write!(text, "{space}{field}={value}")?;
+    }
+    Ok(text)
 }
 
-/// The bytes of all items, or of none where they can't be written, and a one and zeros behind them.
+/// The bits of all items, or of none where they can't be written, with a one and zeros behind them.
 fn written(alloc: Global, fields: &Fields) -> Result<Vec<u8>, AllocError> {
     let mut bits = BitWriter::new(alloc);
     if is_run(fields, 0, fields.len()) {
@@ -230,185 +111,292 @@ fn written(alloc: Global, fields: &Fields) -> Result<Vec<u8>, AllocError> {
     bits.close()
 }
 
+/// A structure, the highest sublayer, its bits with a one and zeros behind them, and its items.
+type Spelled<'a> = (Structure, u32, &'a [u8], &'a [u8]);
+
 #[test]
-fn reads_profile_tier_level_of_sps(rt: HostRuntime) -> Result<(), Fail> {
-    let sets: [ProfileTierLevel<'_>; 6] = [
+fn reads_and_writes(rt: HostRuntime) -> Result<(), Fail> {
+    // From SPS of the model, timing without field 225.
+    let cases: [Spelled<'_>; 24] = [
         (
+            ProfileTierLevel,
             1,
-            &[0x01, 0x00, 0x40, 0x80, 0x00, 0x01, 0x00, 0x00, 0x00, 0x03],
-            [0, 1, 0, 0, 1, 0],
-            [&[], &[], &[], &[1], &[0], &[1], &[3]],
+            &[
+                0x01, 0x00, 0x40, 0x80, 0x00, 0x01, 0x00, 0x00, 0x00, 0x03, 0x80,
+            ],
+            b"11=0 12=1 13=0 14=0 15=1 16=0 20=1 21=0 22=1 23=3",
         ),
         (
+            ProfileTierLevel,
             6,
             &[
                 0x06, 0x1d, 0xc0, 0xe4, 0x49, 0xff, 0xff, 0x52, 0x02, 0x00, 0x00, 0x00, 0x01, 0xf9,
-                0x06, 0x5e, 0x86,
+                0x06, 0x5e, 0x86, 0x80,
             ],
-            [3, 0, 29, 1, 1, 0],
-            [
-                &[],
-                &[],
-                &[],
-                &[1, 1, 1, 0, 0, 1],
-                &[73, 255, 255, 82],
-                &[2],
-                &[1, 4177944198],
-            ],
+            b"11=3 12=0 13=29 14=1 15=1 16=0 20=1 20=1 20=1 20=0 20=0 20=1 21=73 21=255 21=255 \
+              21=82 22=2 23=1 23=4177944198",
         ),
         (
+            ProfileTierLevel,
             0,
             &[
-                0xfe, 0x02, 0x40, 0x02, 0x14, 0x5f, 0xaf, 0x4d, 0x00, 0x00, 0x00, 0x00,
+                0xfe, 0x02, 0x40, 0x02, 0x14, 0x5f, 0xaf, 0x4d, 0x00, 0x00, 0x00, 0x00, 0x80,
             ],
-            [127, 0, 2, 0, 1, 0],
-            [&[], &[], &[], &[], &[], &[2], &[341815117, 0]],
+            b"11=127 12=0 13=2 14=0 15=1 16=0 22=2 23=341815117 23=0",
         ),
         (
+            ProfileTierLevel,
             1,
             &[
-                0x12, 0x02, 0xc0, 0x00, 0x02, 0x00, 0x00, 0x00, 0x02, 0x00, 0x00, 0x00, 0x02,
+                0x12, 0x02, 0xc0, 0x00, 0x02, 0x00, 0x00, 0x00, 0x02, 0x00, 0x00, 0x00, 0x02, 0x80,
             ],
-            [9, 0, 2, 1, 1, 0],
-            [&[], &[], &[], &[0], &[], &[2], &[2, 2]],
+            b"11=9 12=0 13=2 14=1 15=1 16=0 20=0 22=2 23=2 23=2",
         ),
         (
+            ProfileTierLevel,
             6,
             &[
                 0xff, 0xff, 0x6c, 0xbf, 0xd8, 0xd4, 0x18, 0x8b, 0x5f, 0x7c, 0x68, 0xc0, 0x60, 0xf8,
                 0x03, 0x03, 0x02, 0xff, 0x00, 0x02, 0xbf, 0x71, 0x93, 0xcd, 0xff, 0xff, 0xff, 0xff,
+                0x80,
             ],
-            [127, 1, 255, 0, 1, 1],
-            [
-                &[
-                    0, 1, 1, 0, 0, 1, 0, 1, 1, 1, 1, 1, 1, 1, 1, 0, 1, 1, 0, 0, 0, 1, 1, 0, 1, 0,
-                    1, 0, 0, 0, 0, 0, 1, 1, 0, 0, 0, 1, 0, 0, 0, 1, 0, 1, 1, 0, 1, 0, 1, 1, 1, 1,
-                    1, 0, 1, 1, 1, 1, 1, 0, 0, 0, 1, 1, 0, 1, 0, 0, 0, 1, 1,
-                ],
-                &[1],
-                &[1],
-                &[1, 1, 1, 1, 1, 0],
-                &[3, 3, 2, 255, 0],
-                &[2],
-                &[3211891661, 4294967295],
-            ],
+            b"11=127 12=1 13=255 14=0 15=1 16=1 17=0 17=1 17=1 17=0 17=0 17=1 17=0 17=1 17=1 17=1 \
+              17=1 17=1 17=1 17=1 17=1 17=0 17=1 17=1 17=0 17=0 17=0 17=1 17=1 17=0 17=1 17=0 17=1 \
+              17=0 17=0 17=0 17=0 17=0 17=1 17=1 17=0 17=0 17=0 17=1 17=0 17=0 17=0 17=1 17=0 17=1 \
+              17=1 17=0 17=1 17=0 17=1 17=1 17=1 17=1 17=1 17=0 17=1 17=1 17=1 17=1 17=1 17=0 17=0 \
+              17=0 17=1 17=1 17=0 17=1 17=0 17=0 17=0 17=1 17=1 18=1 19=1 20=1 20=1 20=1 20=1 20=1 \
+              20=0 21=3 21=3 21=2 21=255 21=0 22=2 23=3211891661 23=4294967295",
         ),
         (
+            ProfileTierLevel,
             2,
             &[
                 0x19, 0x01, 0x76, 0x7c, 0x3b, 0xbc, 0x44, 0x90, 0x3b, 0x52, 0xd1, 0x00, 0xc8, 0x00,
-                0x00,
+                0x00, 0x80,
             ],
-            [12, 1, 1, 0, 1, 1],
-            [
-                &[
-                    1, 0, 1, 1, 0, 0, 1, 1, 1, 1, 1, 0, 0, 0, 0, 1, 1, 1, 0, 1, 1, 1, 0, 1, 1, 1,
-                    1, 0, 0, 0, 1, 0, 0, 0, 1, 0, 0, 1, 0, 0, 1, 0, 0, 0, 0, 0, 0, 1, 1, 1, 0, 1,
-                    1, 0, 1, 0, 1, 0, 0, 1, 0, 1, 1, 0, 1, 0, 0, 0, 1, 0, 0,
-                ],
-                &[3],
-                &[0, 0, 1],
-                &[0, 0],
-                &[],
-                &[0],
-                &[],
+            b"11=12 12=1 13=1 14=0 15=1 16=1 17=1 17=0 17=1 17=1 17=0 17=0 17=1 17=1 17=1 17=1 \
+              17=1 17=0 17=0 17=0 17=0 17=1 17=1 17=1 17=0 17=1 17=1 17=1 17=0 17=1 17=1 17=1 17=1 \
+              17=0 17=0 17=0 17=1 17=0 17=0 17=0 17=1 17=0 17=0 17=1 17=0 17=0 17=1 17=0 17=0 17=0 \
+              17=0 17=0 17=0 17=1 17=1 17=1 17=0 17=1 17=1 17=0 17=1 17=0 17=1 17=0 17=0 17=1 17=0 \
+              17=1 17=1 17=0 17=1 17=0 17=0 17=0 17=1 17=0 17=0 18=3 19=0 19=0 19=1 20=0 20=0 22=0",
+        ),
+        (
+            Dpb(true),
+            2,
+            &[
+                0x48, 0xa0, 0x00, 0x00, 0x00, 0x3f, 0xff, 0xff, 0xff, 0xe5, 0x22, 0x50,
             ],
+            b"31=1 32=1 33=4 31=4294967294 32=0 33=4 31=3 32=1 33=1",
+        ),
+        (
+            Dpb(true),
+            6,
+            &[0x32, 0x55, 0x31, 0x88, 0x4c, 0xf5, 0x2a, 0x46, 0xc0],
+            b"31=5 32=1 33=1 31=0 32=1 33=0 31=5 32=5 33=3 31=3 32=0 33=0 31=6 32=0 33=1 31=0 32=4 \
+              33=1 31=1 32=5 33=0",
+        ),
+        (Dpb(false), 2, &[0x80, 0xda, 0x70], b"31=0 32=217 33=2"),
+        (
+            Dpb(true),
+            2,
+            &[
+                0x20, 0x0f, 0xe2, 0x2a, 0x68, 0x00, 0x00, 0x00, 0x07, 0xff, 0xff, 0xff, 0xfc,
+            ],
+            b"31=3 32=253 33=3 31=1 32=0 33=1 31=2 32=1 33=4294967294",
+        ),
+        (
+            Timing(true),
+            2,
+            &[
+                0xff, 0xff, 0xff, 0xff, 0xe2, 0x1a, 0x8f, 0xbd, 0xd0, 0x31, 0x26, 0x4a, 0xf6, 0xfc,
+                0xac, 0xaf, 0x0a, 0x44, 0x42, 0x70, 0x10, 0x78, 0x08, 0xf9, 0x28, 0xc8, 0xd4, 0x88,
+                0x80, 0x00, 0x10, 0x00, 0x00, 0x1b, 0x94, 0xd2, 0xe0, 0x34, 0x8c, 0x2a, 0x46, 0xc0,
+            ],
+            b"41=4294967295 42=3793391549 43=1 44=1 45=0 46=1 47=3 48=1 49=2 50=6 51=1 52=0 53=1 \
+              54=1 56=0 57=0 58=0 59=0 60=0 56=0 57=0 58=2 59=0 60=1 56=0 57=0 58=4 59=2 60=0 56=1 \
+              57=0 58=2 59=0 60=1 52=0 53=0 56=4 57=3 58=1 59=3 60=0 56=1 57=2 58=0 59=130 60=1 \
+              56=0 57=142 58=0 59=3 60=1 56=1 57=5 58=1 59=5 60=1 52=0 53=1 54=3 56=1 57=3 \
+              58=65535 59=219 60=1 56=1 57=2 58=1 59=1 60=1 56=0 57=0 58=209 59=5 60=0 56=4 57=1 \
+              58=1 59=5 60=1",
+        ),
+        (
+            Timing(true),
+            2,
+            &[
+                0x17, 0x10, 0x00, 0xe7, 0xb1, 0x06, 0xcc, 0xa4, 0x45, 0x69, 0x50, 0x94, 0x74,
+            ],
+            b"41=386924775 42=2970012836 43=0 44=1 45=0 46=0 48=5 49=6 51=0 52=0 53=0 55=1 56=1 \
+              57=0 60=0 52=0 53=0 55=0 56=0 57=4 60=0 52=0 53=0 55=1 56=0 57=0 60=0",
+        ),
+        (
+            Timing(false),
+            6,
+            &[
+                0xfa, 0x0e, 0x20, 0x00, 0x00, 0x00, 0x00, 0x02, 0x20, 0x20, 0x60,
+            ],
+            b"41=4195229696 42=2 43=0 44=0 52=1 54=128",
+        ),
+        (
+            Timing(false),
+            6,
+            &[
+                0x00, 0x00, 0x00, 0x03, 0x00, 0x00, 0x00, 0x01, 0x48, 0x34, 0x29, 0x2c,
+            ],
+            b"41=3 42=1 43=0 44=1 45=0 46=0 48=8 49=3 51=1 52=0 53=0 56=1 57=0 60=0 56=1 57=1 60=1",
+        ),
+        (
+            Timing(false),
+            0,
+            &[
+                0x63, 0xf8, 0x42, 0x9e, 0xff, 0xff, 0xff, 0xff, 0x70, 0x23, 0xf1, 0xaf, 0x37,
+            ],
+            b"41=1677214366 42=4294967295 43=0 44=1 45=1 46=1 47=2 48=3 49=15 50=1 51=0 52=0 53=1 \
+              54=2 56=0 57=0 58=5 59=0 60=1",
+        ),
+        (
+            Timing(false),
+            0,
+            &[
+                0xff, 0xff, 0xff, 0xff, 0xff, 0xff, 0xff, 0xff, 0xc3, 0x29, 0x03, 0xe6, 0x92,
+            ],
+            b"41=4294967295 42=4294967295 43=1 44=1 45=0 46=0 48=3 49=2 51=0 52=0 53=0 55=1 56=123 \
+              57=0 60=1 56=1 57=1 60=0",
+        ),
+        // By hand.
+        (
+            Dpb(true),
+            1,
+            &[0xa7, 0x4e],
+            b"31=0 32=1 33=2 31=0 32=1 33=2",
+        ),
+        (Dpb(false), 1, &[0xa7], b"31=0 32=1 33=2"),
+        (
+            Timing(false),
+            0,
+            &[0x00, 0x00, 0x00, 0x01, 0x00, 0x00, 0x00, 0x3c, 0x38],
+            b"41=1 42=60 43=0 44=0 52=1 54=0",
+        ),
+        (
+            Timing(true),
+            1,
+            &[
+                0x00, 0x00, 0x00, 0x01, 0x00, 0x00, 0x00, 0x02, 0x04, 0x00, 0x00, 0x00, 0x07, 0xff,
+                0xff, 0xff, 0xfc,
+            ],
+            b"41=1 42=2 43=0 44=0 52=0 53=0 52=0 53=1 54=4294967294",
+        ),
+        (
+            Timing(true),
+            1,
+            &[
+                0x00, 0x00, 0x00, 0x01, 0x00, 0x00, 0x00, 0x02, 0x90, 0x23, 0x45, 0x94, 0xf7, 0x93,
+                0x80,
+            ],
+            b"41=1 42=2 43=1 44=0 45=0 46=1 47=2 48=3 49=4 50=5 51=0 52=0 53=0 55=1 56=1 57=2 58=0 \
+              59=0 60=0 52=1 54=0 56=0 57=0 58=3 59=0 60=1",
+        ),
+        (
+            Timing(false),
+            0,
+            &[
+                0x00, 0x00, 0x00, 0x01, 0x00, 0x00, 0x00, 0x02, 0x60, 0x09, 0xf0,
+            ],
+            b"41=1 42=2 43=0 44=1 45=1 46=0 48=0 49=0 51=0 52=0 53=0 55=1 56=0 57=0 60=1",
+        ),
+        (
+            Timing(false),
+            0,
+            &[
+                0x00, 0x00, 0x00, 0x01, 0x00, 0x00, 0x00, 0x02, 0xc0, 0x05, 0xff, 0xfc,
+            ],
+            b"41=1 42=2 43=1 44=1 45=0 46=0 48=0 49=0 51=1 52=1 54=0 56=0 57=0 60=1 56=0 57=0 60=1 \
+              56=0 57=0 60=1 56=0 57=0 60=1",
+        ),
+        (
+            Timing(false),
+            0,
+            &[
+                0x00, 0x00, 0x00, 0x01, 0x00, 0x00, 0x00, 0x02, 0x40, 0x00, 0x41, 0xff, 0xff, 0xff,
+                0xff, 0xff, 0xff, 0xff, 0xff, 0xff, 0xff, 0xff, 0xff, 0xc0,
+            ],
+            b"41=1 42=2 43=0 44=1 45=0 46=0 48=0 49=0 51=31 52=1 54=0 56=0 57=0 60=1 56=0 57=0 \
+              60=1 56=0 57=0 60=1 56=0 57=0 60=1 56=0 57=0 60=1 56=0 57=0 60=1 56=0 57=0 60=1 56=0 \
+              57=0 60=1 56=0 57=0 60=1 56=0 57=0 60=1 56=0 57=0 60=1 56=0 57=0 60=1 56=0 57=0 60=1 \
+              56=0 57=0 60=1 56=0 57=0 60=1 56=0 57=0 60=1 56=0 57=0 60=1 56=0 57=0 60=1 56=0 57=0 \
+              60=1 56=0 57=0 60=1 56=0 57=0 60=1 56=0 57=0 60=1 56=0 57=0 60=1 56=0 57=0 60=1 56=0 \
+              57=0 60=1 56=0 57=0 60=1 56=0 57=0 60=1 56=0 57=0 60=1 56=0 57=0 60=1 56=0 57=0 60=1 \
+              56=0 57=0 60=1 56=0 57=0 60=1",
         ),
     ];
-    for (max, bytes, general, others) in sets {
+    for (structure, max, bytes, items) in cases {
         assert!(rt; max <= 6);
-        assert!(rt; bytes.len() <= 28);
-        let fields = profile_tier_level(rt.alloc(), max, bytes)?;
-        assert!(rt; are_values(&fields, general, others), "{bytes:?}");
-        let list = written(rt.alloc(), &fields)?;
-        assert_eq!(rt; list.as_slice().split_last(), Some((&0x80, bytes)));
+        assert!(rt; bytes.len() <= 50);
+        let mut fields = Fields::new(rt.alloc());
+        read(&mut BitReader::new(bytes), structure, max, &mut fields)?;
+        assert_eq!(rt; text(rt.alloc(), &fields)?.as_bytes(), items);
+        assert_eq!(rt; written(rt.alloc(), &fields)?.as_slice(), bytes);
     }
     Ok(())
 }
 
+/// A structure, the highest sublayer, bytes, the refusal, and how many items stand before it.
+type Refused<'a> = (Structure, u32, &'a [u8], Result<(), ReadError>, usize);
+
 #[test]
-fn refuses_bits_between_levels(rt: HostRuntime) -> Result<(), Fail> {
-    let cases = [
+fn refuses_the_first_field(rt: HostRuntime) {
+    let cases: [Refused<'_>; 6] = [
         (
-            [0x02, 0x33, 0x81, 0x80, 0x28, 0x01],
+            ProfileTierLevel,
+            1,
+            &[0x02, 0x33, 0x81, 0x80, 0x28, 0x01],
             syntax(20, 19, BitCause::BadAlignment),
             6,
         ),
         (
-            [0x02, 0x33, 0x80, 0x81, 0x28, 0x01],
+            ProfileTierLevel,
+            1,
+            &[0x02, 0x33, 0x80, 0x81, 0x28, 0x01],
             syntax(21, 25, BitCause::BadAlignment),
             7,
         ),
         (
-            [0x02, 0x33, 0x80, 0x80, 0x28, 0x01],
+            ProfileTierLevel,
+            1,
+            &[0x02, 0x33, 0x80, 0x80, 0x28, 0x01],
             syntax(23, 48, BitCause::Short),
             9,
         ),
-    ];
-    for (bytes, wanted, gained) in cases {
-        let mut bits = BitReader::new(&bytes);
-        let mut fields = Fields::new(rt.alloc());
-        let read = read_ptl(&mut bits, 1, &mut fields);
-        assert_eq!(rt; read, wanted.map(|_| ()));
-        assert_eq!(rt; fields.len(), gained);
-    }
-    Ok(())
-}
-
-#[test]
-fn reads_dpb_of_each_sublayer(rt: HostRuntime) -> Result<(), Fail> {
-    let bytes = [0xa7, 0x4c];
-    for (each, items, at) in [(true, 6, 14), (false, 3, 7)] {
-        let mut bits = BitReader::new(&bytes);
-        let mut fields = Fields::new(rt.alloc());
-        read_dpb(&mut bits, 1, each, &mut fields)?;
-        assert_eq!(rt; fields.len(), items);
-        assert_eq!(rt; fields.first(33), Some(2));
-        assert_eq!(rt; bits.at(), at);
-    }
-    Ok(())
-}
-
-/// Reads timing and sublayer timing of one layer, or DPB parameters of two sublayers.
-fn structure(bits: &mut BitReader<'_>, timed: bool, fields: &mut Fields) -> Result<(), ReadError> {
-    if !timed {
-        return read_dpb(bits, 1, true, fields);
-    }
-    read_timing(bits, 0, false, fields)?;
-    read_sublayer_timing(bits, 0, false, fields)
-}
-
-#[test]
-fn refuses_short_structures(rt: HostRuntime) {
-    // The second sublayer's field 32 is missing; and behind 0 0 0 1 field 54 isn't whole.
-    let cases: [(bool, &[u8], u16, u32); 2] = [
-        (false, &[0xa7], 32, 8),
-        (true, &[0, 0, 0, 1, 0, 0, 0, 2, 0x10], 54, 68),
-    ];
-    for (timed, rbsp, field, bit) in cases {
-        assert!(rt; rbsp.len() <= 9);
-        let mut fields = Fields::new(rt.alloc());
-        let read = structure(&mut BitReader::new(rbsp), timed, &mut fields);
-        assert_eq!(rt; read, syntax(field, bit, BitCause::Short).map(|_| ()));
-    }
-}
-
-#[test]
-fn writes_what_was_read(rt: HostRuntime) -> Result<(), Fail> {
-    // With a one and zeros behind the bits that were read.
-    let cases: [(bool, &[u8], &[u8]); 2] = [
+        (Dpb(true), 1, &[0xa7], syntax(32, 8, BitCause::Short), 4),
         (
-            true,
-            &[0, 0, 0, 1, 0, 0, 0, 0x3c, 0x30],
-            &[0, 0, 0, 1, 0, 0, 0, 0x3c, 0x38],
+            Timing(false),
+            0,
+            &[0, 0, 0, 1, 0, 0, 0, 2, 0x10],
+            syntax(54, 68, BitCause::Short),
+            6,
         ),
-        (false, &[0xa7, 0x4c], &[0xa7, 0x4e]),
+        // 33 CPBs, one too many.
+        (
+            Timing(false),
+            0,
+            &[0, 0, 0, 1, 0, 0, 0, 2, 0x40, 0x00, 0x42, 0x00],
+            syntax(51, 76, BitCause::OutOfRange),
+            8,
+        ),
     ];
-    for (timed, rbsp, wanted) in cases {
-        assert!(rt; rbsp.len() <= 9);
+    for (structure, max, bytes, wanted, before) in cases {
+        assert!(rt; max <= 6);
+        assert!(rt; bytes.len() <= 12);
         let mut fields = Fields::new(rt.alloc());
-        structure(&mut BitReader::new(rbsp), timed, &mut fields)?;
-        assert_eq!(rt; written(rt.alloc(), &fields)?.as_slice(), wanted);
+        let answer = read(&mut BitReader::new(bytes), structure, max, &mut fields);
+        assert_eq!(rt; (answer, fields.len()), (wanted, before), "{bytes:?}");
     }
-    Ok(())
+}
+
+#[test]
+fn keeps_no_field(rt: HostRuntime) {
+    assert!(rt; keeps_only(&VPS, &[], &[]));
+    assert!(rt; keeps_only(&PTL, &[], &[]));
+    assert!(rt; keeps_only(&DPB, &[], &[]));
+    assert!(rt; keeps_only(&TIMING, &[], &[]));
+    assert!(rt; keeps_only(&SUBLAYER_TIMING, &[], &[]));
 }

@@ -6,5 +6,5 @@ use Rattle.vx_ptl.proofs.run.write_run.Given as goal
 
 abbrev pub invariant-loop-i : goal.invariant-loop-i
 invariant-loop-i l =
-    Gained l.fn.bits (run_bits 0 (length l.fn.bits) (take (l.fn.to - l.fn.from) (drop l.fn.from l.fn.items))) l.bits (run_bits l.before (length l.bits) (take (l.to - l.i) (drop l.i l.items)))
+    Gained l.fn.bits l.bits (run_bits 0 (length l.fn.bits) (take (l.fn.to - l.fn.from) (drop l.fn.from l.fn.items))) (run_bits l.before (length l.bits) (take (l.to - l.i) (drop l.i l.items)))
     × All IsRunItem (take (l.to - l.i) (drop l.i l.items))
