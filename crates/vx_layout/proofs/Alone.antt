@@ -1,5 +1,5 @@
 -- A picture as one subpicture that is all of it.
-use Rattle.std.proofs.Common.{◌≡◌, ℕ, ◌+◌, ◌<◌, true, cond, List, [], ◌∷◌, count_by, refl, ap, sym, ◌∙◌, subst, inl, arith, zero-add}
+use Rattle.std.proofs.Common.{◌≡◌, ◌+◌, ◌<◌, true, cond, [], ◌∷◌, refl, ap, sym, ◌∙◌, subst, inl, arith, zero-add}
 use Rattle.std.proofs.lemmas.List.{append-nil}
 use Rattle.std.proofs.lemmas.List.Elements.{All-cons, All-nil}
 use Rattle.std.specs.List.{All, AllPairs, Contains}

@@ -16,7 +16,7 @@ use Rattle.vx_layout.proofs.Alone.{layout-alone}
 use Rattle.vx_layout.proofs.Counting.{count_by-cons, slices_all}
 use Rattle.vx_layout.proofs.FrameBounds.{cut-own}
 use Rattle.vx_layout.proofs.FrameSlices.{AllZip-at, AllZip-long, frame-counted, frame-fit, frame-in_order, frame-once, frame-order}
-use Rattle.vx_layout.proofs.Holding.{fits_empty, fits_from, fits_tells, holds_from, holds_tells, same_rect}
+use Rattle.vx_layout.proofs.Holding.{fits_empty, fits_from, fits_tells, holds_tells, same_rect}
 use Rattle.vx_layout.proofs.Nested.{same_numbers}
 use Rattle.vx_layout.proofs.Splitting.{SplitsWell-from}
 
