@@ -9,13 +9,13 @@ use Rattle.vx_layout.specs.declared.numbers.Numbers.{Numbers}
 use Rattle.vx_layout.specs.declared.rect.Rect.{Rect}
 use Rattle.vx_layout.specs.Borders.{Begins, Ends}
 use Rattle.vx_layout.specs.Faults.{IsLayout, height, width}
-use Rattle.vx_layout.specs.Layouts.{IsSound, no_rect, ordered_at, slice_at, slices_in, subpic_at}
+use Rattle.vx_layout.specs.Layouts.{HasLayout, no_rect, ordered_at, slice_at, slices_in, subpic_at}
 use Rattle.vx_layout.specs.Rects.{CoversOnce, IsPart, Precedes, holds, in_order, slices_of}
 use Rattle.vx_layout.specs.Regions.{counted_from}
 use Rattle.vx_layout.specs.Shapes.{HasCtu}
 use Rattle.vx_layout.proofs.Counting.{count_by-cons, in_order-once, same_place}
 use Rattle.vx_layout.proofs.Holding.{holds_tells}
-use Rattle.vx_layout.proofs.Moving.{IsSound-region}
+use Rattle.vx_layout.proofs.Moving.{HasLayout-region}
 use Rattle.vx_layout.proofs.Ordering.{AreWithin-in_order, slice_within}
 use Rattle.vx_layout.proofs.Owners.{corner_held}
 
@@ -126,30 +126,30 @@ slices-run n i j x y v u l short_i short_j on_i on_j across down =
     no_later (in_order n.slices n.subpics) (width n) (height n) x y v u i j no_rect (in_order-ordered n l) across down within.0 within.1 short_i short_j on_i on_j
 
 -- a subpicture of a sound layout has a slice
-some_slice : (n : Numbers) (k : ℕ) → IsSound n → k < length n.subpics → 0 < length (slices_in n k)
-some_slice n k sound short =
-    let some = (IsSound-region n k sound short).limits.slices.0 in
+some_slice : (n : Numbers) (k : ℕ) → HasLayout n → k < length n.subpics → 0 < length (slices_in n k)
+some_slice n k layout short =
+    let some = (HasLayout-region n k layout short).limits.slices.0 in
     omega (arith, some, length-map (slices_in n k) (counted_from (subpic_at n k)))
 
-pub slice-begins : (n : Numbers) → IsSound n → HasCtu (slice_at n 0 0) → Begins (slice_at n 0 0)
-slice-begins n sound some =
+pub slice-begins : (n : Numbers) → HasLayout n → HasCtu (slice_at n 0 0) → Begins (slice_at n 0 0)
+slice-begins n layout some =
     let all : List Rect = in_order n.slices n.subpics in
-    let l = sound.layout in
-    let short : 0 < length n.subpics = omega (arith, sound.limits.subpics) in
-    let low : 0 < length (slices_in n 0) = some_slice n 0 sound short in
+    let l = layout.faultless in
+    let short : 0 < length n.subpics = omega (arith, layout.limits.subpics) in
+    let low : 0 < length (slices_in n 0) = some_slice n 0 layout short in
     let is : get_or all 0 no_rect ≡ slice_at n 0 0 = get_or-flat_map (slices_of n.slices) n.subpics 0 0 no_rect no_rect short low in
     let upto = length-flat_map-take (slices_of n.slices) n.subpics 0 no_rect short in
-    let part : IsPart (width n) (height n) (slice_at n 0 0) = slice_within n 0 0 sound short low some.0 some.1 in
+    let part : IsPart (width n) (height n) (slice_at n 0 0) = slice_within n 0 0 layout short low some.0 some.1 in
     subst Begins is
     (first-begins all (width n) (height n) no_rect (in_order-once n.slices n.subpics (width n) (height n) l.split l.subpics.once l.slices) l.order (omega (arith, upto, low))
     (subst (λ r. IsPart (width n) (height n) r) (sym is) part))
 
-pub slice-ends : (n : Numbers) (k m : ℕ) → IsSound n → k + 1 ≡ length n.subpics → m + 1 ≡ length (slices_in n k) → HasCtu (slice_at n k m) → Ends (width n) (height n) (slice_at n k m)
-slice-ends n k m sound last_k last_m some =
+pub slice-ends : (n : Numbers) (k m : ℕ) → HasLayout n → k + 1 ≡ length n.subpics → m + 1 ≡ length (slices_in n k) → HasCtu (slice_at n k m) → Ends (width n) (height n) (slice_at n k m)
+slice-ends n k m layout last_k last_m some =
     let f : Rect → List Rect = slices_of n.slices in
     let all : List Rect = in_order n.slices n.subpics in
     let before : List Rect = flat_map f (take k n.subpics) in
-    let l = sound.layout in
+    let l = layout.faultless in
     let short : k < length n.subpics = omega arith in
     let low : m < length (slices_in n k) = omega arith in
     let at : get_or all (length before + m) no_rect ≡ slice_at n k m = get_or-flat_map f n.subpics k m no_rect no_rect short low in
@@ -158,7 +158,7 @@ slice-ends n k m sound last_k last_m some =
     let long : length all ≡ length before + length (slices_in n k) = ap length parts ∙ (length-append before (slices_in n k ++ []) ∙ ap (λ t. length before + length t) (append-nil (slices_in n k))) in
     let place : length before + m ≡ length all - 1 = omega arith in
     let is : get_or all (length all - 1) no_rect ≡ slice_at n k m = ap (λ i. get_or all i no_rect) (sym place) ∙ at in
-    let part : IsPart (width n) (height n) (slice_at n k m) = slice_within n k m sound short low some.0 some.1 in
+    let part : IsPart (width n) (height n) (slice_at n k m) = slice_within n k m layout short low some.0 some.1 in
     subst (λ r. Ends (width n) (height n) r) is
     (last-ends all (width n) (height n) no_rect (in_order-once n.slices n.subpics (width n) (height n) l.split l.subpics.once l.slices) l.order (omega arith)
     (subst (λ r. IsPart (width n) (height n) r) (sym is) part))

@@ -6,13 +6,13 @@ use Rattle.std.specs.List.{flat_map, range_with_len}
 use Rattle.vx_layout.specs.declared.numbers.Numbers.{Numbers}
 use Rattle.vx_layout.specs.declared.rect.Rect.{Rect}
 use Rattle.vx_layout.specs.Bounds.{Rises, RisesAbove, last, last_after}
-use Rattle.vx_layout.specs.Layouts.{IsSound, no_rect, slice_at, slices_in, subpic_at}
+use Rattle.vx_layout.specs.Layouts.{HasLayout, no_rect, slice_at, slices_in, subpic_at}
 use Rattle.vx_layout.specs.Rects.{IsPart, fits}
 use Rattle.vx_layout.specs.Regions.{counted_from, cut, moved, region_of}
 use Rattle.vx_layout.specs.Scan.{ctus, raster, runs, runs_after}
 use Rattle.vx_layout.proofs.Entries.{ctus-none, ctus-runs}
 use Rattle.vx_layout.proofs.Holding.{fits_tells}
-use Rattle.vx_layout.proofs.Moving.{all_fit, filter_all}
+use Rattle.vx_layout.proofs.Moving.{all_fit, slices_in-region}
 use Rattle.vx_layout.proofs.Runs.{is_in, is_inner}
 
 -- the lists that aren't empty
@@ -199,11 +199,11 @@ ctus-counted columns rows s r rises_c rises_r part f =
 -- slice m of the region is slice m of the subpicture, counted from its corner
 pub slice_at-region : (n : Numbers) (k m : ℕ) → m < length (slices_in n k) → slice_at (region_of n k) 0 m ≡ counted_from (subpic_at n k) (slice_at n k m)
 slice_at-region n k m low =
-    ap (λ t. get_or t m no_rect) (filter_all (subpic_at n k) (slices_in n k) (all_fit n k))
+    ap (λ t. get_or t m no_rect) (slices_in-region n k)
     ∙ get_or-map (counted_from (subpic_at n k)) (slices_in n k) m no_rect no_rect low
 
-pub ctus-region : (n : Numbers) (k m : ℕ) → IsSound n → k < length n.subpics → m < length (slices_in n k) →
+pub ctus-region : (n : Numbers) (k m : ℕ) → HasLayout n → k < length n.subpics → m < length (slices_in n k) →
     ctus n.columns n.rows (slice_at n k m) ≡ map (moved (subpic_at n k).x (subpic_at n k).y) (ctus (region_of n k).columns (region_of n k).rows (slice_at (region_of n k) 0 m))
-ctus-region n k m sound short low =
-    ctus-counted n.columns n.rows (subpic_at n k) (slice_at n k m) sound.columns sound.rows (sound.layout.subpics.parts k no_rect short) (all_fit n k m no_rect low)
+ctus-region n k m layout short low =
+    ctus-counted n.columns n.rows (subpic_at n k) (slice_at n k m) layout.columns layout.rows (layout.faultless.subpics.parts k no_rect short) (all_fit n k m no_rect low)
     ∙ ap (λ r. map (moved (subpic_at n k).x (subpic_at n k).y) (ctus (region_of n k).columns (region_of n k).rows r)) (sym (slice_at-region n k m low))

@@ -112,6 +112,13 @@ in_order-once slices subpics w h fit cover_subpics cover_slices = λ x y v u.
     (λ i d short. slices_of-once slices subpics w h i d x y fit cover_subpics cover_slices short v u)
     ∙ cover_subpics x y v u
 
+-- where all slices lie in s, they are its slices
+pub slices_all : (slices : List Rect) (s : Rect) → All (λ r. fits r s ≡ true) slices → slices_of slices s ≡ slices
+slices_all [] s fit = refl
+slices_all (r ∷ rs) s fit =
+    let P : Rect → Type 0 = λ r. fits r s ≡ true in
+    rw (All-head P r rs fit) (ap (λ t. r ∷ t) (slices_all rs s (All-tail P r rs fit)))
+
 -- what holds of each slice that lies in the subpicture holds of each of its slices
 pub All-slices_of : (slices : List Rect) (s : Rect) (P : Rect → Type 0) → ((r : Rect) → fits r s ≡ true → P r) → All P (slices_of slices s)
 All-slices_of [] s P each = λ k d short. absurd (omega arith)

@@ -1,5 +1,5 @@
 -- The members of bounds that are cut to a region, and a region that has bounds of its own.
-use Rattle.std.proofs.Common.{◌≡◌, ℕ, ◌+◌, ◌-◌, ◌<◌, ◌≤◌, Bool, true, ◌&&◌, ltb, List, [], ◌∷◌, ◌++◌, length, get_or, filter, map, ap, sym, ◌∙◌, subst, inl, inr, arith, ◌⊎◌}
+use Rattle.std.proofs.Common.{◌≡◌, ℕ, ◌+◌, ◌-◌, ◌<◌, ◌≤◌, Bool, true, ◌&&◌, ltb, List, [], ◌∷◌, ◌++◌, get_or, filter, map, ap, sym, ◌∙◌, subst, inl, inr, arith, ◌⊎◌}
 use Rattle.std.proofs.lemmas.Bool.{and_from, and_parts, both_ways, cases_Bool, cases_lt, ltb-true, lt-ltb}
 use Rattle.std.proofs.lemmas.List.{get_or-map, length-map}
 use Rattle.std.proofs.lemmas.List.Elements.{All-contains, All-contains_itself, All-filter, All-map, Contains-append_cases, Contains-append_left, filter_passes}
@@ -9,9 +9,8 @@ use Rattle.vx_layout.specs.Bounds.{Rises, last}
 use Rattle.vx_layout.specs.Regions.{cut, inner}
 use Rattle.vx_layout.proofs.Members.{Rises-members}
 use Rattle.vx_layout.proofs.Moving.{Rises-cut, cut_first, cut_last}
-use Rattle.vx_layout.proofs.Rising.{Rises-level, bound_at, bound_from}
+use Rattle.vx_layout.proofs.Rising.{Contains-first, Contains-last, Contains-le-last}
 use Rattle.vx_layout.proofs.Splitting.{Contains-cases, Contains-cons}
-use Rattle.vx_layout.proofs.Tiling.{last-get_or}
 
 Contains-kept : (p : ℕ → Bool) (bs : List ℕ) (c : ℕ) → Contains bs c → p c ≡ true → Contains (filter p bs) c
 Contains-kept p [] c inside on = inside
@@ -49,26 +48,6 @@ inner_from bounds from size n inside some below =
     subst (λ m. Contains (map (λ b. b - from) (inner bounds from size)) m) back
     (Contains-image (λ b. b - from) (inner bounds from size) (from + n)
     (Contains-kept (λ b. ltb from b && ltb b (from + size)) bounds (from + n) inside (and_from _ _ (lt-ltb _ _ above) (lt-ltb _ _ under))))
-
--- the first bound, the last one, and those between
-pub Contains-first : (bounds : List ℕ) → Rises bounds → 0 < last bounds → Contains bounds 0
-Contains-first [] rises some = absurd (omega arith)
-Contains-first (b ∷ bs) rises some = (0, omega arith, rises.0)
-
-some_bound : (bounds : List ℕ) → 0 < last bounds → 0 < length bounds
-some_bound [] some = some
-some_bound (b ∷ bs) some = omega arith
-
-pub Contains-last : (bounds : List ℕ) → 0 < last bounds → Contains bounds (last bounds)
-Contains-last bounds some =
-    let long = some_bound bounds some in
-    bound_from bounds (length bounds - 1) (last bounds) (omega arith) (sym (last-get_or bounds long))
-
-pub Contains-le-last : (bounds : List ℕ) (n : ℕ) → Rises bounds → Contains bounds n → n ≤ last bounds
-Contains-le-last bounds n rises inside =
-    let at = bound_at bounds n inside in
-    let level = Rises-level bounds at.0 (length bounds - 1) rises (omega (arith, at.1)) (omega (arith, at.1)) in
-    omega (arith, at.2, level, last-get_or bounds (omega (arith, at.1)))
 
 -- what the cut bounds are: the first, the last, and those inside
 pub cut_tells : (bounds : List ℕ) (from size n : ℕ) → Contains (cut bounds from size) n → (0 ≡ n) ⊎ ((size ≡ n) ⊎ (Contains bounds (from + n) × (0 < n) × (n < size)))

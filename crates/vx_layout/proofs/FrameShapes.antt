@@ -9,14 +9,14 @@ use Rattle.vx_layout.specs.declared.rect.Rect.{Rect}
 use Rattle.vx_layout.specs.Borders.{HasLines}
 use Rattle.vx_layout.specs.Bounds.{Rises, last}
 use Rattle.vx_layout.specs.Faults.{IsSpan, IsTile, SubpicsCover}
-use Rattle.vx_layout.specs.Frames.{Stands, frame_of, frame_slices}
+use Rattle.vx_layout.specs.Frames.{IsPlaced, frame_of, frame_slices}
 use Rattle.vx_layout.specs.Rects.{fits}
 use Rattle.vx_layout.specs.Regions.{counted_from, moved_to}
 use Rattle.vx_layout.specs.Shapes.{AreListable, AreTilesOrRows, HasCtu, StandTogether}
-use Rattle.vx_layout.proofs.FrameBounds.{Contains-first, Contains-last, Contains-le-last}
 use Rattle.vx_layout.proofs.FrameSlices.{Apart, AreIn-moved, IsIn, apart_regions, frame-in, not_in}
 use Rattle.vx_layout.proofs.FrameWhole.{fill_each, slices_fill}
 use Rattle.vx_layout.proofs.Holding.{fits_empty, fits_from, fits_tells, holds_from, holds_tells}
+use Rattle.vx_layout.proofs.Rising.{Contains-first, Contains-last, Contains-le-last}
 
 -- a picture's bounds and spans are the frame's, moved
 bound_there : (bounds own : List ℕ) (from c : ℕ) → Rises own → HasLines bounds from own → Contains own c → Contains bounds (from + c)
@@ -83,10 +83,10 @@ tile_from columns rows s t across down =
       down = subst (λ m. IsSpan rows m (t.y + s.y + t.h)) top (subst (λ m. IsSpan rows (s.y + t.y) m) bottom down);
     }
 
-tile_there : (columns rows : List ℕ) (s t : Rect) (n : Numbers) → Stands columns rows s n → IsTile n.columns n.rows t → IsTile columns rows (moved_to s t)
-tile_there columns rows s t n stands tile =
-    tile_from columns rows s t (span_there columns n.columns s.x t.x (t.x + t.w) stands.sound.columns stands.across tile.across)
-    (span_there rows n.rows s.y t.y (t.y + t.h) stands.sound.rows stands.down tile.down)
+tile_there : (columns rows : List ℕ) (s t : Rect) (n : Numbers) → IsPlaced columns rows s n → IsTile n.columns n.rows t → IsTile columns rows (moved_to s t)
+tile_there columns rows s t n placed tile =
+    tile_from columns rows s t (span_there columns n.columns s.x t.x (t.x + t.w) placed.layout.columns placed.across tile.across)
+    (span_there rows n.rows s.y t.y (t.y + t.h) placed.layout.rows placed.down tile.down)
 
 -- a rectangle's borders within another's
 pub record Within (s t : Rect) : Type 0 where
@@ -95,16 +95,16 @@ pub record Within (s t : Rect) : Type 0 where
   pub top : s.y ≤ t.y
   pub bottom : t.y + t.h ≤ s.y + s.h
 
-tile_back : (columns rows : List ℕ) (s t : Rect) (n : Numbers) → Stands columns rows s n → Within s t → IsTile columns rows t → IsTile n.columns n.rows (counted_from s t)
-tile_back columns rows s t n stands within tile =
+tile_back : (columns rows : List ℕ) (s t : Rect) (n : Numbers) → IsPlaced columns rows s n → Within s t → IsTile columns rows t → IsTile n.columns n.rows (counted_from s t)
+tile_back columns rows s t n placed within tile =
     let left : t.x ≡ s.x + (t.x - s.x) = omega arith in
     let right : t.x + t.w ≡ s.x + (t.x - s.x + t.w) = omega arith in
     let top : t.y ≡ s.y + (t.y - s.y) = omega arith in
     let bottom : t.y + t.h ≡ s.y + (t.y - s.y + t.h) = omega arith in
     record {
-      across = span_back columns n.columns s.x (t.x - s.x) (t.x - s.x + t.w) stands.sound.columns stands.across (omega (arith, stands.wide))
+      across = span_back columns n.columns s.x (t.x - s.x) (t.x - s.x + t.w) placed.layout.columns placed.across (omega (arith, placed.wide))
           (subst (λ m. IsSpan columns m (s.x + (t.x - s.x + t.w))) left (subst (λ m. IsSpan columns t.x m) right tile.across));
-      down = span_back rows n.rows s.y (t.y - s.y) (t.y - s.y + t.h) stands.sound.rows stands.down (omega (arith, stands.high))
+      down = span_back rows n.rows s.y (t.y - s.y) (t.y - s.y + t.h) placed.layout.rows placed.down (omega (arith, placed.high))
           (subst (λ m. IsSpan rows m (s.y + (t.y - s.y + t.h))) top (subst (λ m. IsSpan rows t.y m) bottom tile.down));
     }
 
@@ -117,24 +117,24 @@ span_beside bounds low high a b has_low has_high span =
     ]
 
 -- a tile of the frame lies in a region or shares no CTU with it
-tile_beside : (columns rows : List ℕ) (s t : Rect) (n : Numbers) → Stands columns rows s n → IsTile columns rows t → Within s t ⊎ Apart t s
-tile_beside columns rows s t n stands tile =
-    let right : Contains columns (s.x + s.w) = subst (λ m. Contains columns (s.x + m)) stands.wide stands.across.ends in
-    let bottom : Contains rows (s.y + s.h) = subst (λ m. Contains rows (s.y + m)) stands.high stands.down.ends in
-    elim (span_beside columns s.x (s.x + s.w) t.x (t.x + t.w) stands.across.begins right tile.across) [
+tile_beside : (columns rows : List ℕ) (s t : Rect) (n : Numbers) → IsPlaced columns rows s n → IsTile columns rows t → Within s t ⊎ Apart t s
+tile_beside columns rows s t n placed tile =
+    let right : Contains columns (s.x + s.w) = subst (λ m. Contains columns (s.x + m)) placed.wide placed.across.ends in
+    let bottom : Contains rows (s.y + s.h) = subst (λ m. Contains rows (s.y + m)) placed.high placed.down.ends in
+    elim (span_beside columns s.x (s.x + s.w) t.x (t.x + t.w) placed.across.begins right tile.across) [
       | inr out ↦ inr (λ x y on_t on_s. let p = holds_tells t x y on_t in let q = holds_tells s x y on_s in elim out [ inl e ↦ absurd (omega (arith, p, q, e)) | inr e ↦ absurd (omega (arith, p, q, e)) ])
       | inl across ↦
-          elim (span_beside rows s.y (s.y + s.h) t.y (t.y + t.h) stands.down.begins bottom tile.down) [
+          elim (span_beside rows s.y (s.y + s.h) t.y (t.y + t.h) placed.down.begins bottom tile.down) [
             | inr out ↦ inr (λ x y on_t on_s. let p = holds_tells t x y on_t in let q = holds_tells s x y on_s in elim out [ inl e ↦ absurd (omega (arith, p, q, e)) | inr e ↦ absurd (omega (arith, p, q, e)) ])
             | inl down ↦ inl (record { left = across.0; right = across.1; top = down.0; bottom = down.1 })
           ]
     ]
 
 -- the shape of a slice, moved
-shape_there : (columns rows : List ℕ) (s r : Rect) (n : Numbers) → Stands columns rows s n → AreTilesOrRows n.columns n.rows r → AreTilesOrRows columns rows (moved_to s r)
-shape_there columns rows s r n stands (inl tiles) =
-    let at : (c : ℕ) → Contains n.columns c → Contains columns (s.x + c) = λ c. bound_there columns n.columns s.x c stands.sound.columns stands.across in
-    let down : (c : ℕ) → Contains n.rows c → Contains rows (s.y + c) = λ c. bound_there rows n.rows s.y c stands.sound.rows stands.down in
+shape_there : (columns rows : List ℕ) (s r : Rect) (n : Numbers) → IsPlaced columns rows s n → AreTilesOrRows n.columns n.rows r → AreTilesOrRows columns rows (moved_to s r)
+shape_there columns rows s r n placed (inl tiles) =
+    let at : (c : ℕ) → Contains n.columns c → Contains columns (s.x + c) = λ c. bound_there columns n.columns s.x c placed.layout.columns placed.across in
+    let down : (c : ℕ) → Contains n.rows c → Contains rows (s.y + c) = λ c. bound_there rows n.rows s.y c placed.layout.rows placed.down in
     let left : s.x + r.x ≡ r.x + s.x = omega arith in
     let right : s.x + (r.x + r.w) ≡ r.x + s.x + r.w = omega arith in
     let top : s.y + r.y ≡ r.y + s.y = omega arith in
@@ -145,12 +145,12 @@ shape_there columns rows s r n stands (inl tiles) =
       top = subst (λ m. Contains rows m) top (down r.y tiles.top);
       bottom = subst (λ m. Contains rows m) bottom (down (r.y + r.h) tiles.bottom);
     })
-shape_there columns rows s r n stands (inr (t, rows_of)) =
+shape_there columns rows s r n placed (inr (t, rows_of)) =
     let sides = rows_of.sides in
     inr (
       moved_to s t,
       record {
-        tile = tile_there columns rows s t n stands rows_of.tile;
+        tile = tile_there columns rows s t n placed rows_of.tile;
         sides = (omega arith, omega arith);
         inside = elim (fits_tells r t rows_of.inside) [
           | inl empty ↦ fits_empty (moved_to s r) (moved_to s t) empty
@@ -159,16 +159,16 @@ shape_there columns rows s r n stands (inr (t, rows_of)) =
       },
     )
 
-shapes_there : (columns rows : List ℕ) (regions : List Rect) (pictures : List Numbers) → AllZip (Stands columns rows) regions pictures → All (λ p. AreListable p.columns p.rows p.slices) pictures → All (AreTilesOrRows columns rows) (frame_slices regions (map (λ p. p.slices) pictures))
-shapes_there columns rows [] pictures stand listable = All-nil (AreTilesOrRows columns rows)
-shapes_there columns rows (s ∷ ss) [] stand listable = absurd stand
-shapes_there columns rows (s ∷ ss) (p ∷ ps) stand listable =
+shapes_there : (columns rows : List ℕ) (regions : List Rect) (pictures : List Numbers) → AllZip (IsPlaced columns rows) regions pictures → All (λ p. AreListable p.columns p.rows p.slices) pictures → All (AreTilesOrRows columns rows) (frame_slices regions (map (λ p. p.slices) pictures))
+shapes_there columns rows [] pictures all_placed listable = All-nil (AreTilesOrRows columns rows)
+shapes_there columns rows (s ∷ ss) [] all_placed listable = absurd all_placed
+shapes_there columns rows (s ∷ ss) (p ∷ ps) all_placed listable =
     let L : Numbers → Type 0 = λ q. AreListable q.columns q.rows q.slices in
     let mine = All-head L p ps listable in
     All-append (AreTilesOrRows columns rows) (map (moved_to s) p.slices) (frame_slices ss (map (λ q. q.slices) ps))
     (All-map (AreTilesOrRows columns rows) (moved_to s) p.slices
-    (All-weaker (AreTilesOrRows p.columns p.rows) (λ r. AreTilesOrRows columns rows (moved_to s r)) (λ r. shape_there columns rows s r p stand.0) p.slices mine.shapes))
-    (shapes_there columns rows ss ps stand.1 (All-tail L p ps listable))
+    (All-weaker (AreTilesOrRows p.columns p.rows) (λ r. AreTilesOrRows columns rows (moved_to s r)) (λ r. shape_there columns rows s r p all_placed.0) p.slices mine.shapes))
+    (shapes_there columns rows ss ps all_placed.1 (All-tail L p ps listable))
 
 -- a moved slice lies in a tile of the region where the slice lies in the picture's tile
 fits_back : (s r t : Rect) → Within s t → fits (moved_to s r) t ≡ true → fits r (counted_from s t) ≡ true
@@ -229,22 +229,22 @@ together_before t front rects together off = λ i j k d a b low f g.
     ]
 
 -- the slices in a tile of the frame stand together
-tile_together : (columns rows : List ℕ) (t : Rect) (regions : List Rect) (pictures : List Numbers) → IsTile columns rows t → AllPairs Apart regions → AllZip (Stands columns rows) regions pictures → All (λ p. AreListable p.columns p.rows p.slices) pictures →
+tile_together : (columns rows : List ℕ) (t : Rect) (regions : List Rect) (pictures : List Numbers) → IsTile columns rows t → AllPairs Apart regions → AllZip (IsPlaced columns rows) regions pictures → All (λ p. AreListable p.columns p.rows p.slices) pictures →
     StandTogether (frame_slices regions (map (λ p. p.slices) pictures)) t
-tile_together columns rows t [] pictures tile apart stand listable = λ i j k d a b low. absurd (omega arith)
-tile_together columns rows t (s ∷ ss) [] tile apart stand listable = absurd stand
-tile_together columns rows t (s ∷ ss) (p ∷ ps) tile apart stand listable =
+tile_together columns rows t [] pictures tile apart all_placed listable = λ i j k d a b low. absurd (omega arith)
+tile_together columns rows t (s ∷ ss) [] tile apart all_placed listable = absurd all_placed
+tile_together columns rows t (s ∷ ss) (p ∷ ps) tile apart all_placed listable =
     let L : Numbers → Type 0 = λ q. AreListable q.columns q.rows q.slices in
     let mine : List Rect = map (moved_to s) p.slices in
     let rest : List Rect = frame_slices ss (map (λ q. q.slices) ps) in
-    let mine_in : All (IsIn s) mine = AreIn-moved s p.slices (slices_fill columns rows s p stand.0).parts in
-    let rest_in = frame-in ss (map (λ q. q.slices) ps) (fill_each columns rows ss ps stand.1) in
-    elim (tile_beside columns rows s t p stand.0 tile) [
+    let mine_in : All (IsIn s) mine = AreIn-moved s p.slices (slices_fill columns rows s p all_placed.0).parts in
+    let rest_in = frame-in ss (map (λ q. q.slices) ps) (fill_each columns rows ss ps all_placed.1) in
+    elim (tile_beside columns rows s t p all_placed.0 tile) [
       | inr out ↦
           together_after t mine rest (λ k d low. not_in _ s t (mine_in k d low) out)
-          (tile_together columns rows t ss ps tile (λ i j d less low. apart (suc i) (suc j) d (omega arith) (omega arith)) stand.1 (All-tail L p ps listable))
+          (tile_together columns rows t ss ps tile (λ i j d less low. apart (suc i) (suc j) d (omega arith) (omega arith)) all_placed.1 (All-tail L p ps listable))
       | inl within ↦
-          together_before t mine rest (together_moved s t p.slices within ((All-head L p ps listable).together (counted_from s t) (tile_back columns rows s t p stand.0 within tile)))
+          together_before t mine rest (together_moved s t p.slices within ((All-head L p ps listable).together (counted_from s t) (tile_back columns rows s t p all_placed.0 within tile)))
           (λ k d low.
           let some = rest_in k d low in
           let away : Apart s some.1 = subst (λ u. Apart s u) some.3 (apart 0 (suc some.0) some.1 (omega arith) (omega (arith, some.2))) in
@@ -254,12 +254,12 @@ tile_together columns rows t (s ∷ ss) (p ∷ ps) tile apart stand listable =
           away x y (holds_from s x y (omega (arith, q, within.left)) (omega (arith, q, within.right)) (omega (arith, q, within.top)) (omega (arith, q, within.bottom))) on_u))
     ]
 
-pub frame-listable : (columns rows : List ℕ) (regions : List Rect) (pictures : List Numbers) → SubpicsCover (frame_of columns rows regions pictures) → AllZip (Stands columns rows) regions pictures → All (λ p. AreListable p.columns p.rows p.slices) pictures →
+pub frame-listable : (columns rows : List ℕ) (regions : List Rect) (pictures : List Numbers) → SubpicsCover (frame_of columns rows regions pictures) → AllZip (IsPlaced columns rows) regions pictures → All (λ p. AreListable p.columns p.rows p.slices) pictures →
     AreListable columns rows (frame_of columns rows regions pictures).slices
-frame-listable columns rows regions pictures cover stand listable = record {
+frame-listable columns rows regions pictures cover all_placed listable = record {
   some =
       All-weaker (λ r. Any (λ s. IsIn s r) regions) HasCtu (λ r one. (one.4.wide, one.4.high)) (frame_of columns rows regions pictures).slices
-      (frame-in regions (map (λ p. p.slices) pictures) (fill_each columns rows regions pictures stand));
-  shapes = shapes_there columns rows regions pictures stand listable;
-  together = λ t tile. tile_together columns rows t regions pictures tile (apart_regions regions (last columns) (last rows) cover.parts cover.once) stand listable;
+      (frame-in regions (map (λ p. p.slices) pictures) (fill_each columns rows regions pictures all_placed));
+  shapes = shapes_there columns rows regions pictures all_placed listable;
+  together = λ t tile. tile_together columns rows t regions pictures tile (apart_regions regions (last columns) (last rows) cover.parts cover.once) all_placed listable;
 }

@@ -9,7 +9,7 @@ use Rattle.vx_layout.specs.declared.rect.Rect.{Rect}
 use Rattle.vx_layout.specs.Frames.{Fills, frame_slices}
 use Rattle.vx_layout.specs.Rects.{CoversOnce, IsPart, Precedes, fits, holds, in_order, slices_of}
 use Rattle.vx_layout.specs.Regions.{counted_from, moved_to}
-use Rattle.vx_layout.proofs.Counting.{count_by-append, count_by-cons, holds-fits, same_place}
+use Rattle.vx_layout.proofs.Counting.{count_by-append, count_by-cons, holds-fits, same_place, slices_all}
 use Rattle.vx_layout.proofs.Holding.{fits_from, holds_from, holds_tells}
 use Rattle.vx_layout.proofs.Owners.{corner_held}
 
@@ -203,10 +203,6 @@ not_in r s t inside apart =
     let here : holds r r.x r.y ≡ true = corner_held r inside.wide inside.high in
     false_from_ne_true _ (λ f. apart r.x r.y (holds-fits r t r.x r.y f here) (holds-fits r s r.x r.y inside.fit here))
 
-pub slices_all : (rects : List Rect) (s : Rect) → All (IsIn s) rects → slices_of rects s ≡ rects
-slices_all [] s inside = refl
-slices_all (r ∷ rs) s inside = rw (All-head (IsIn s) r rs inside).fit (ap (λ t. r ∷ t) (slices_all rs s (All-tail (IsIn s) r rs inside)))
-
 slices_none : (rects : List Rect) (s : Rect) → All (λ r. fits r s ≡ false) rects → slices_of rects s ≡ []
 slices_none [] s off = refl
 slices_none (r ∷ rs) s off =
@@ -233,7 +229,7 @@ frame-slices_after front (s ∷ ss) (p ∷ ps) clear apart fill =
     let here : slices_of (front ++ (mine ++ rest)) s ≡ mine =
     filter-append (λ r. fits r s) front (mine ++ rest)
     ∙ (ap (λ t. t ++ slices_of (mine ++ rest) s) (All-head Clear s ss clear)
-    ∙ (filter-append (λ r. fits r s) mine rest ∙ (ap (λ t. t ++ slices_of rest s) (slices_all mine s mine_in) ∙ (ap (λ t. mine ++ t) rest_out ∙ append-nil mine))))
+    ∙ (filter-append (λ r. fits r s) mine rest ∙ (ap (λ t. t ++ slices_of rest s) (slices_all mine s (λ i e short. (mine_in i e short).fit)) ∙ (ap (λ t. mine ++ t) rest_out ∙ append-nil mine))))
     in
     let clear_more : All (λ t. slices_of (front ++ mine) t ≡ []) ss = λ k d low.
     let t : Rect = get_or ss k d in

@@ -1,5 +1,6 @@
 -- Lemmas on bounds, rectangles and marks, on regions and their CTUs, and on frames.
 pub mod Agreeing
+pub mod Alone
 pub mod Corners
 pub mod Counted
 pub mod Counting
@@ -10,6 +11,7 @@ pub mod FrameShapes
 pub mod FrameSlices
 pub mod FrameWhole
 pub mod Holding
+pub mod Lowest
 pub mod Marks
 pub mod Members
 pub mod Moving

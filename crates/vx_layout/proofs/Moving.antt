@@ -1,23 +1,25 @@
 -- A subpicture's layout counted from its corner.
-use Rattle.std.proofs.Common.{◌≡◌, ℕ, suc, zero, ◌+◌, ◌-◌, ◌<◌, ◌≤◌, true, cond, ◌&&◌, ltb, List, [], ◌∷◌, ◌++◌, length, get_or, take, count_by, map, refl, ap, sym, ◌∙◌, subst, inl, inr, arith, length-append, zero-add}
+use Rattle.std.proofs.Common.{◌≡◌, ℕ, suc, zero, ◌+◌, ◌-◌, ◌<◌, ◌≤◌, true, cond, ◌&&◌, ltb, List, [], ◌∷◌, ◌++◌, length, get_or, take, count_by, map, refl, ap, sym, ◌∙◌, subst, inl, inr, arith, length-append}
 use Rattle.std.proofs.lemmas.Bool.{cases_Bool, both_ways, false_from_ne_true}
-use Rattle.std.proofs.lemmas.List.{append-nil, get_or-map, length-map}
+use Rattle.std.proofs.lemmas.List.{get_or-map, length-map}
 use Rattle.std.proofs.lemmas.List.Concat.{get_or-flat_map}
-use Rattle.std.proofs.lemmas.List.Elements.{All-head, All-tail, All-cons, All-nil, Contains-append_right}
+use Rattle.std.proofs.lemmas.List.Elements.{All-head, All-map, All-tail, All-weaker, Contains-append_right}
 use Rattle.std.proofs.lemmas.List.Folds.{length-flat_map-take}
 use Rattle.std.proofs.lemmas.List.Sums.{count_by-le-length}
 use Rattle.std.specs.List.{All, AllPairs, Contains}
 use Rattle.vx_layout.specs.declared.numbers.Numbers.{Numbers}
 use Rattle.vx_layout.specs.declared.rect.Rect.{Rect}
 use Rattle.vx_layout.specs.Bounds.{Rises, last}
-use Rattle.vx_layout.specs.Faults.{IsLayout, SplitsWell, width, height}
-use Rattle.vx_layout.specs.Layouts.{IsSound, no_rect, slices_in, subpic_at}
-use Rattle.vx_layout.specs.Rects.{IsPart, Precedes, fits, holds, in_order, slices_of}
-use Rattle.vx_layout.specs.Regions.{counted_from, cut, inner, region_of, whole}
-use Rattle.vx_layout.proofs.Counting.{All-slices_of, count_by-cons, length-slices_of-le, slices_of-once}
+use Rattle.vx_layout.specs.Faults.{IsLayout, width, height}
+use Rattle.vx_layout.specs.Frames.{with_one_subpic}
+use Rattle.vx_layout.specs.Layouts.{HasLayout, no_rect, slices_in, subpic_at}
+use Rattle.vx_layout.specs.Rects.{CoversOnce, IsPart, Precedes, fits, holds, in_order, slices_of, whole_picture}
+use Rattle.vx_layout.specs.Regions.{counted_from, cut, inner, region_of}
+use Rattle.vx_layout.proofs.Alone.{layout-alone}
+use Rattle.vx_layout.proofs.Counting.{All-slices_of, count_by-cons, length-slices_of-le, slices_all, slices_of-once}
 use Rattle.vx_layout.proofs.Cutting.{CutSoFar, CutSoFar-more, CutSoFar-start, cut-all, cut-may}
 use Rattle.vx_layout.proofs.Holding.{fits_empty, fits_from, fits_tells, holds_from, holds_tells}
-use Rattle.vx_layout.proofs.Splitting.{Contains-cons, SplitsWell-from}
+use Rattle.vx_layout.proofs.Splitting.{Contains-cons}
 use Rattle.vx_layout.proofs.Tiling.{last_after-push}
 
 -- cut bounds are bounds
@@ -79,18 +81,15 @@ count-counted s (r ∷ rs) x y f =
     let rest : count_by (λ r. holds r x y) (map (counted_from s) rs) ≡ count_by (λ r. holds r (x + s.x) (y + s.y)) rs = count-counted s rs x y (All-tail P r rs f) in
     omega (arith, count_by-cons (λ r. holds r x y) (counted_from s r) (map (counted_from s) rs), count_by-cons (λ r. holds r (x + s.x) (y + s.y)) r rs, first, rest)
 
-fits-counted : (s r : Rect) → fits r s ≡ true → fits (counted_from s r) (whole s) ≡ true
+fits-counted : (s r : Rect) → fits r s ≡ true → fits (counted_from s r) (whole_picture s.w s.h) ≡ true
 fits-counted s r f =
     elim (fits_tells r s f) [
-      | inl e ↦ fits_empty (counted_from s r) (whole s) e
-      | inr q ↦ fits_from (counted_from s r) (whole s) (omega (arith, q)) (omega (arith, q)) (omega (arith, q)) (omega (arith, q))
+      | inl e ↦ fits_empty (counted_from s r) (whole_picture s.w s.h) e
+      | inr q ↦ fits_from (counted_from s r) (whole_picture s.w s.h) (omega (arith, q)) (omega (arith, q)) (omega (arith, q)) (omega (arith, q))
     ]
 
-pub filter_all : (s : Rect) (rects : List Rect) → All (λ r. fits r s ≡ true) rects → slices_of (map (counted_from s) rects) (whole s) ≡ map (counted_from s) rects
-filter_all s [] f = refl
-filter_all s (r ∷ rs) f =
-    let P : Rect → Type 0 = λ r. fits r s ≡ true in
-    rw (fits-counted s r (All-head P r rs f)) (ap (λ t. counted_from s r ∷ t) (filter_all s rs (All-tail P r rs f)))
+fit-counted : (s : Rect) (rects : List Rect) → All (λ r. fits r s ≡ true) rects → All (λ r. fits r (whole_picture s.w s.h) ≡ true) (map (counted_from s) rects)
+fit-counted s rects fit = All-map (λ r. fits r (whole_picture s.w s.h) ≡ true) (counted_from s) rects (All-weaker (λ r. fits r s ≡ true) (λ r. fits (counted_from s r) (whole_picture s.w s.h) ≡ true) (fits-counted s) rects fit)
 
 Precedes-counted : (s r t : Rect) → fits r s ≡ true → fits t s ≡ true → Precedes r t → Precedes (counted_from s r) (counted_from s t)
 Precedes-counted s r t f g order = λ x y on.
@@ -114,68 +113,61 @@ AllPairs-slices_in slices subpics k d short pairs = λ i j e less low.
 pub all_fit : (n : Numbers) (k : ℕ) → All (λ r. fits r (subpic_at n k) ≡ true) (slices_in n k)
 all_fit n k = All-slices_of n.slices (subpic_at n k) (λ r. fits r (subpic_at n k) ≡ true) (λ r f. f)
 
--- a region of a layout is a layout
-pub IsLayout-region : (n : Numbers) (k : ℕ) → IsSound n → k < length n.subpics → IsLayout (region_of n k)
-IsLayout-region n k sound short =
+-- the slices of a region are the subpicture's, counted from its corner
+pub slices_in-region : (n : Numbers) (k : ℕ) → slices_in (region_of n k) 0 ≡ map (counted_from (subpic_at n k)) (slices_in n k)
+slices_in-region n k =
     let s : Rect = subpic_at n k in
-    let part : IsPart (width n) (height n) s = sound.layout.subpics.parts k no_rect short in
-    let w_is : width (region_of n k) ≡ s.w = last-cut n.columns s.x s.w in
-    let h_is : height (region_of n k) ≡ s.h = last-cut n.rows s.y s.h in
-    let fit : All (λ r. fits r s ≡ true) (slices_in n k) = all_fit n k in
-    let slices_are : in_order (region_of n k).slices (region_of n k).subpics ≡ map (counted_from s) (slices_in n k) = append-nil _ ∙ filter_all s (slices_in n k) fit in
-    record {
-      subpics = record {
-        parts = All-cons (IsPart (width (region_of n k)) (height (region_of n k))) (whole s) [] (record { wide = part.wide; high = part.high; across = omega arith; down = omega arith }) (All-nil (IsPart (width (region_of n k)) (height (region_of n k))));
-        once = λ x y v u.
-            let here : holds (whole s) x y ≡ true = holds_from (whole s) x y (omega arith) (omega arith) (omega arith) (omega arith) in
-            count_by-cons (λ r. holds r x y) (whole s) [] ∙ ap (λ b. cond b 1 0 + 0) here;
-      };
-      tiles = All-cons (SplitsWell (region_of n k).columns (region_of n k).rows) (whole s) []
-          (SplitsWell-from (region_of n k).columns (region_of n k).rows (whole s) (record {
-            left = (0, omega arith, refl);
-            right = subst (λ m. Contains (region_of n k).columns m) (sym (zero-add s.w)) (cut_last n.columns s.x s.w);
-            ends = inl ((0, omega arith, refl), subst (λ m. Contains (region_of n k).rows m) (sym (zero-add s.h)) (cut_last n.rows s.y s.h));
-          }))
-          (All-nil (SplitsWell (region_of n k).columns (region_of n k).rows));
-      slices = λ x y v u.
-          let here : holds s (x + s.x) (y + s.y) ≡ true = holds_from s (x + s.x) (y + s.y) (omega arith) (omega arith) (omega arith) (omega arith) in
-          count-counted s (slices_in n k) x y fit
-          ∙ (slices_of-once n.slices n.subpics (width n) (height n) k no_rect (x + s.x) (y + s.y) sound.layout.split sound.layout.subpics.once sound.layout.slices short (omega (arith, part.across)) (omega (arith, part.down))
-          ∙ ap (λ b. cond b 1 0) here);
-      split = λ i d low.
-          let r : Rect = get_or (slices_in n k) i d in
-          let low' : i < length (slices_in n k) = omega (arith, length-map (slices_in n k) (counted_from s)) in
-          let is : get_or (map (counted_from s) (slices_in n k)) i d ≡ counted_from s r = get_or-map (counted_from s) (slices_in n k) i d d low' in
-          (0, whole s, omega arith, refl, rw is (fits-counted s r (fit i d low')));
-      order = subst (λ t. AllPairs Precedes t) (sym slices_are)
-          (λ i j d less low.
-          let rs : List Rect = slices_in n k in
-          let low_j : j < length rs = omega (arith, length-map rs (counted_from s)) in
-          let low_i : i < length rs = omega arith in
-          let pairs = AllPairs-slices_in n.slices n.subpics k no_rect short sound.layout.order i j d less low_j in
-          rw (get_or-map (counted_from s) rs i d d low_i, get_or-map (counted_from s) rs j d d low_j) (Precedes-counted s (get_or rs i d) (get_or rs j d) (fit i d low_i) (fit j d low_j) pairs));
-    }
+    slices_all (map (counted_from s) (slices_in n k)) (whole_picture s.w s.h) (fit-counted s (slices_in n k) (all_fit n k))
+
+-- a region of a layout is a layout
+IsLayout-region : (n : Numbers) (k : ℕ) → HasLayout n → k < length n.subpics → IsLayout (region_of n k)
+IsLayout-region n k layout short =
+    let s : Rect = subpic_at n k in
+    let own : Numbers = region_of n k in
+    let rs : List Rect = slices_in n k in
+    let part : IsPart (width n) (height n) s = layout.faultless.subpics.parts k no_rect short in
+    let fit : All (λ r. fits r s ≡ true) rs = all_fit n k in
+    let w_is : width own ≡ s.w = last-cut n.columns s.x s.w in
+    let h_is : height own ≡ s.h = last-cut n.rows s.y s.h in
+    let sized : whole_picture (width own) (height own) ≡ whole_picture s.w s.h = ap (λ w. whole_picture w (height own)) w_is ∙ ap (λ h. whole_picture s.w h) h_is in
+    let cover : CoversOnce own.slices (width own) (height own) = λ x y v u.
+    let here : holds s (x + s.x) (y + s.y) ≡ true = holds_from s (x + s.x) (y + s.y) (omega arith) (omega arith) (omega arith) (omega arith) in
+    count-counted s rs x y fit
+    ∙ (slices_of-once n.slices n.subpics (width n) (height n) k no_rect (x + s.x) (y + s.y) layout.faultless.split layout.faultless.subpics.once layout.faultless.slices short (omega (arith, part.across)) (omega (arith, part.down))
+    ∙ ap (λ b. cond b 1 0) here)
+    in
+    let order : AllPairs Precedes own.slices = λ i j d less low.
+    let low_j : j < length rs = omega (arith, length-map rs (counted_from s)) in
+    let low_i : i < length rs = omega arith in
+    let pairs = AllPairs-slices_in n.slices n.subpics k no_rect short layout.faultless.order i j d less low_j in
+    rw (get_or-map (counted_from s) rs i d d low_i, get_or-map (counted_from s) rs j d d low_j) (Precedes-counted s (get_or rs i d) (get_or rs j d) (fit i d low_i) (fit j d low_j) pairs)
+    in
+    let alone : IsLayout (with_one_subpic own) =
+    layout-alone own (Rises-cut n.columns s.x s.w layout.columns part.wide) (Rises-cut n.rows s.y s.h layout.rows part.high) (omega (arith, part.wide)) (omega (arith, part.high)) cover
+    (subst (λ t. All (λ r. fits r t ≡ true) own.slices) (sym sized) (fit-counted s rs fit)) order
+    in
+    subst (λ t. IsLayout (record { columns = own.columns; rows = own.rows; slices = own.slices; subpics = t ∷ [] })) sized alone
 
 -- and within the limits
-pub IsSound-region : (n : Numbers) (k : ℕ) → IsSound n → k < length n.subpics → IsSound (region_of n k)
-IsSound-region n k sound short =
+pub HasLayout-region : (n : Numbers) (k : ℕ) → HasLayout n → k < length n.subpics → HasLayout (region_of n k)
+HasLayout-region n k layout short =
     let s : Rect = subpic_at n k in
-    let part : IsPart (width n) (height n) s = sound.layout.subpics.parts k no_rect short in
+    let part : IsPart (width n) (height n) s = layout.faultless.subpics.parts k no_rect short in
     let here : holds s s.x s.y ≡ true = holds_from s s.x s.y (omega arith) (omega (arith, part.wide)) (omega arith) (omega (arith, part.high)) in
     let one : count_by (λ r. holds r s.x s.y) (slices_in n k) ≡ 1 =
-    slices_of-once n.slices n.subpics (width n) (height n) k no_rect s.x s.y sound.layout.split sound.layout.subpics.once sound.layout.slices short (omega (arith, part.across, part.wide)) (omega (arith, part.down, part.high)) ∙ ap (λ b. cond b 1 0) here
+    slices_of-once n.slices n.subpics (width n) (height n) k no_rect s.x s.y layout.faultless.split layout.faultless.subpics.once layout.faultless.slices short (omega (arith, part.across, part.wide)) (omega (arith, part.down, part.high)) ∙ ap (λ b. cond b 1 0) here
     in
     let some = count_by-le-length (λ r. holds r s.x s.y) (slices_in n k) in
     let few = length-slices_of-le n.slices s in
     let long = length-map (slices_in n k) (counted_from s) in
     record {
-      layout = IsLayout-region n k sound short;
+      faultless = IsLayout-region n k layout short;
       limits = record {
-        columns = (omega (arith, length-append (map (λ b. b - s.x) (inner n.columns s.x s.w)) (s.w ∷ [])), omega (arith, last-cut n.columns s.x s.w, part.across, sound.limits.columns));
-        rows = (omega (arith, length-append (map (λ b. b - s.y) (inner n.rows s.y s.h)) (s.h ∷ [])), omega (arith, last-cut n.rows s.y s.h, part.down, sound.limits.rows));
-        slices = (omega (arith, one, some, long), omega (arith, few, long, sound.limits.slices));
+        columns = (omega (arith, length-append (map (λ b. b - s.x) (inner n.columns s.x s.w)) (s.w ∷ [])), omega (arith, last-cut n.columns s.x s.w, part.across, layout.limits.columns));
+        rows = (omega (arith, length-append (map (λ b. b - s.y) (inner n.rows s.y s.h)) (s.h ∷ [])), omega (arith, last-cut n.rows s.y s.h, part.down, layout.limits.rows));
+        slices = (omega (arith, one, some, long), omega (arith, few, long, layout.limits.slices));
         subpics = (omega arith, omega arith);
       };
-      columns = Rises-cut n.columns s.x s.w sound.columns part.wide;
-      rows = Rises-cut n.rows s.y s.h sound.rows part.high;
+      columns = Rises-cut n.columns s.x s.w layout.columns part.wide;
+      rows = Rises-cut n.rows s.y s.h layout.rows part.high;
     }

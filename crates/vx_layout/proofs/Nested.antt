@@ -7,8 +7,9 @@ use Rattle.std.proofs.lemmas.List.Folds.{map_fixed}
 use Rattle.vx_layout.specs.declared.numbers.Numbers.{Numbers}
 use Rattle.vx_layout.specs.declared.rect.Rect.{Rect}
 use Rattle.vx_layout.specs.Layouts.{slices_in, subpic_at}
-use Rattle.vx_layout.specs.Regions.{counted_from, cut, inner, region_of, whole}
-use Rattle.vx_layout.proofs.Moving.{all_fit, filter_all}
+use Rattle.vx_layout.specs.Rects.{whole_picture}
+use Rattle.vx_layout.specs.Regions.{counted_from, cut, inner, region_of}
+use Rattle.vx_layout.proofs.Moving.{slices_in-region}
 
 -- the bounds within the inner columns, counted from their first one: by way of the outer columns or not
 inner_nested : (bounds : List ℕ) (from size inner_from inner_size : ℕ) → inner_from + inner_size ≤ size →
@@ -67,8 +68,8 @@ same_numbers a b columns rows slices subpics =
     first ∙ (ap (λ t. record { columns = b.columns; rows = b.rows; slices = t; subpics = a.subpics }) slices ∙ ap (λ t. record { columns = b.columns; rows = b.rows; slices = b.slices; subpics = t }) subpics)
 
 -- a rectangle counted from 0, 0
-counted-whole : (s r : Rect) → counted_from (whole s) r ≡ r
-counted-whole s r =
+counted-whole : (w h : ℕ) (r : Rect) → counted_from (whole_picture w h) r ≡ r
+counted-whole w h r =
     let across : r.x - 0 ≡ r.x = omega arith in
     let down : r.y - 0 ≡ r.y = omega arith in
     rw (across, down) refl
@@ -82,7 +83,8 @@ region_of-region n k =
     let top : s.y + 0 ≡ s.y = omega arith in
     let columns : cut (cut n.columns s.x s.w) 0 s.w ≡ cut n.columns s.x s.w = cut_nested n.columns s.x s.w 0 s.w (omega arith) ∙ ap (λ a. cut n.columns a s.w) left in
     let rows : cut (cut n.rows s.y s.h) 0 s.h ≡ cut n.rows s.y s.h = cut_nested n.rows s.y s.h 0 s.h (omega arith) ∙ ap (λ a. cut n.rows a s.h) top in
-    let slices : map (counted_from (whole s)) (slices_in (region_of n k) 0) ≡ own =
-    ap (λ t. map (counted_from (whole s)) t) (filter_all s (slices_in n k) (all_fit n k)) ∙ map_fixed (counted_from (whole s)) own (λ i d low. counted-whole s (get_or own i d))
+    let whole : Rect = whole_picture s.w s.h in
+    let slices : map (counted_from whole) (slices_in (region_of n k) 0) ≡ own =
+    ap (λ t. map (counted_from whole) t) (slices_in-region n k) ∙ map_fixed (counted_from whole) own (λ i d low. counted-whole s.w s.h (get_or own i d))
     in
     same_numbers (region_of (region_of n k) 0) (region_of n k) columns rows slices refl

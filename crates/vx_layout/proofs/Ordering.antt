@@ -11,7 +11,7 @@ use Rattle.vx_layout.specs.declared.grid.Grid.{Grid}
 use Rattle.vx_layout.specs.declared.rect.Rect.{Rect}
 use Rattle.vx_layout.specs.declared.numbers.Numbers.{Numbers}
 use Rattle.vx_layout.specs.Faults.{width, height}
-use Rattle.vx_layout.specs.Layouts.{IsSound, no_rect, slice_at, slices_in, subpic_at}
+use Rattle.vx_layout.specs.Layouts.{HasLayout, no_rect, slice_at, slices_in, subpic_at}
 use Rattle.vx_layout.specs.Marks.{IsMapOf, IsMark, IsRising, mark_at}
 use Rattle.vx_layout.specs.Rects.{holds, fits, IsPart, Precedes, slices_of, in_order}
 use Rattle.vx_layout.proofs.Holding.{fits_tells, holds_tells}
@@ -95,11 +95,11 @@ length-in_order-le slices subpics m n a b =
     omega (arith, length-flat_map (slices_of slices) subpics, whole, mul-le-mul_right m b)
 
 -- a slice of a subpicture lies in the picture, where it has a CTU
-pub slice_within : (n : Numbers) (k m : ℕ) → IsSound n → k < length n.subpics → m < length (slices_in n k) → 0 < (slice_at n k m).w → 0 < (slice_at n k m).h → IsPart (width n) (height n) (slice_at n k m)
-slice_within n k m sound short low wide high =
+pub slice_within : (n : Numbers) (k m : ℕ) → HasLayout n → k < length n.subpics → m < length (slices_in n k) → 0 < (slice_at n k m).w → 0 < (slice_at n k m).h → IsPart (width n) (height n) (slice_at n k m)
+slice_within n k m layout short low wide high =
     let s : Rect = subpic_at n k in
     let r : Rect = slice_at n k m in
-    let part : IsPart (width n) (height n) s = sound.layout.subpics.parts k no_rect short in
+    let part : IsPart (width n) (height n) s = layout.faultless.subpics.parts k no_rect short in
     let inside : fits r s ≡ true = All-slices_of n.slices s (λ t. fits t s ≡ true) (λ t f. f) m no_rect low in
     elim (fits_tells r s inside) [
       | inl (inl e) ↦ absurd (omega (arith, e))

@@ -9,9 +9,9 @@ use Rattle.vx_layout.specs.declared.numbers.Numbers.{Numbers}
 use Rattle.vx_layout.specs.declared.rect.Rect.{Rect}
 use Rattle.vx_layout.specs.Borders.{SplitsAtLines}
 use Rattle.vx_layout.specs.Faults.{IsSpan, IsTile, NoneBetween, SplitsWell, height, width}
-use Rattle.vx_layout.specs.Layouts.{IsSound, no_rect, slices_in, subpic_at}
-use Rattle.vx_layout.specs.Rects.{IsPart, fits}
-use Rattle.vx_layout.specs.Regions.{counted_from, cut, moved_to, region_of, whole}
+use Rattle.vx_layout.specs.Layouts.{HasLayout, no_rect, slices_in, subpic_at}
+use Rattle.vx_layout.specs.Rects.{IsPart, fits, whole_picture}
+use Rattle.vx_layout.specs.Regions.{counted_from, cut, moved_to, region_of}
 use Rattle.vx_layout.specs.Shapes.{AreListable, AreTilesOrRows, HasCtu, StandTogether}
 use Rattle.vx_layout.proofs.FrameBounds.{cut_inner, cut_tells}
 use Rattle.vx_layout.proofs.FrameShapes.{Leads, Within, tile_from, together_cons}
@@ -171,14 +171,14 @@ shape_counted columns rows s r some_w some_h well f wide high (inr (t, rows_of))
           let none_x : NoneBetween columns s.x (s.x + s.w) = λ c inside above. let later = rows_of.tile.across.next c inside (omega arith) in omega arith in
           let none_y : NoneBetween rows s.y (s.y + s.h) = λ c inside above. let later = rows_of.tile.down.next c inside (omega arith) in omega arith in
           inr (
-            whole s,
+            whole_picture s.w s.h,
             record {
               tile = record {
                 across = subst (λ m. IsSpan (cut columns s.x s.w) 0 m) (sym (zero-add s.w)) (span_whole columns s.x s.w some_w none_x);
                 down = subst (λ m. IsSpan (cut rows s.y s.h) 0 m) (sym (zero-add s.h)) (span_whole rows s.y s.h some_h none_y);
               };
               sides = (omega arith, omega arith);
-              inside = fits_from (counted_from s r) (whole s) (omega arith) (omega arith) (omega arith) (omega arith);
+              inside = fits_from (counted_from s r) (whole_picture s.w s.h) (omega arith) (omega arith) (omega arith) (omega arith);
             },
           )
     ]
@@ -237,13 +237,13 @@ tile_together columns rows s t slices lines within together tile =
           (fits_from (counted_from s r) t (omega (arith, at, across)) (omega (arith, at, across)) (omega (arith, at, down)) (omega (arith, at, down)))
     ]
 
-pub region-listable : (n : Numbers) (k : ℕ) → IsSound n → k < length n.subpics → AreListable n.columns n.rows n.slices →
+pub region-listable : (n : Numbers) (k : ℕ) → HasLayout n → k < length n.subpics → AreListable n.columns n.rows n.slices →
     AreListable (region_of n k).columns (region_of n k).rows (region_of n k).slices
-region-listable n k sound short listable =
+region-listable n k layout short listable =
     let s : Rect = subpic_at n k in
     let inside : Rect → Bool = λ r. fits r s in
-    let part : IsPart (width n) (height n) s = sound.layout.subpics.parts k no_rect short in
-    let well : SplitsWell n.columns n.rows s = sound.layout.tiles k no_rect short in
+    let part : IsPart (width n) (height n) s = layout.faultless.subpics.parts k no_rect short in
+    let well : SplitsWell n.columns n.rows s = layout.faultless.tiles k no_rect short in
     let held : All HasCtu (slices_in n k) = All-filter inside HasCtu n.slices listable.some in
     let shaped : All (AreTilesOrRows n.columns n.rows) (slices_in n k) = All-filter inside (AreTilesOrRows n.columns n.rows) n.slices listable.shapes in
     let within : All (Within s) (slices_in n k) = λ i d low. within_from s (get_or (slices_in n k) i d) (all_fit n k i d low) (held i d low).0 (held i d low).1 in
@@ -252,6 +252,6 @@ region-listable n k sound short listable =
       shapes = All-map (AreTilesOrRows (region_of n k).columns (region_of n k).rows) (counted_from s) (slices_in n k)
           (λ i d low. shape_counted n.columns n.rows s (get_or (slices_in n k) i d) part.wide part.high well (all_fit n k i d low) (held i d low).0 (held i d low).1 (shaped i d low));
       together = λ t tile.
-          tile_together n.columns n.rows s t (slices_in n k) (SplitsAtLines-from n.columns n.rows s sound.columns sound.rows part well) within
+          tile_together n.columns n.rows s t (slices_in n k) (SplitsAtLines-from n.columns n.rows s layout.columns layout.rows part well) within
           (λ u tile_u. together_filter inside u n.slices (listable.together u tile_u)) tile;
     }

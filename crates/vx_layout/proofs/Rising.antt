@@ -39,6 +39,26 @@ bound_at bs c (k, short, is) = (k, short, get_or_default bs k 0 c short ∙ is)
 pub bound_from : (bs : List ℕ) (k c : ℕ) → k < length bs → c ≡ get_or bs k 0 → Contains bs c
 bound_from bs k c short is = (k, short, get_or_default bs k c 0 short ∙ sym is)
 
+-- the first bound, the last one, and those between
+pub Contains-first : (bounds : List ℕ) → Rises bounds → 0 < last bounds → Contains bounds 0
+Contains-first [] rises some = absurd (omega arith)
+Contains-first (b ∷ bs) rises some = (0, omega arith, rises.0)
+
+some_bound : (bounds : List ℕ) → 0 < last bounds → 0 < length bounds
+some_bound [] some = some
+some_bound (b ∷ bs) some = omega arith
+
+pub Contains-last : (bounds : List ℕ) → 0 < last bounds → Contains bounds (last bounds)
+Contains-last bounds some =
+    let long = some_bound bounds some in
+    bound_from bounds (length bounds - 1) (last bounds) (omega arith) (sym (last-get_or bounds long))
+
+pub Contains-le-last : (bounds : List ℕ) (n : ℕ) → Rises bounds → Contains bounds n → n ≤ last bounds
+Contains-le-last bounds n rises inside =
+    let at = bound_at bounds n inside in
+    let level = Rises-level bounds at.0 (length bounds - 1) rises (omega (arith, at.1)) (omega (arith, at.1)) in
+    omega (arith, at.2, level, last-get_or bounds (omega (arith, at.1)))
+
 -- the table of next bounds, as far as the first i bounds reach
 pub record NextSoFar (bounds next : List ℕ) (i : ℕ) : Type 0 where
   pub reached : (j : ℕ) → j < i → get_or bounds j 0 < length next

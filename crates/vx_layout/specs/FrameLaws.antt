@@ -7,7 +7,7 @@ use Rattle.vx_layout.specs.declared.rect.Rect.{Rect}
 use Rattle.vx_layout.specs.Borders.{Begins, Ends, SameInside, SplitsAtLines}
 use Rattle.vx_layout.specs.Bounds.{Rises, last}
 use Rattle.vx_layout.specs.Faults.{IsLayout, SplitsWell, SubpicsCover}
-use Rattle.vx_layout.specs.Frames.{Fills, Stands, frame_of, frame_slices, with_one_subpic}
+use Rattle.vx_layout.specs.Frames.{Fills, IsPlaced, frame_of, frame_slices, with_one_subpic}
 use Rattle.vx_layout.specs.Rects.{CoversOnce, IsPart, Precedes, fits, in_order, slices_of}
 use Rattle.vx_layout.specs.Regions.{counted_from, cut, moved_to, region_of}
 use Rattle.vx_layout.specs.Shapes.{AreListable}
@@ -38,6 +38,10 @@ LastEnds =
     (rects : List Rect) (w h : ℕ) (d : Rect) → CoversOnce rects w h → AllPairs Precedes rects → 0 < length rects
     → IsPart w h (slice_index_or rects (length rects - 1) d) → Ends w h (slice_index_or rects (length rects - 1) d)
 
+-- the slices of a picture that stands in a region fill it
+abbrev pub PlacedFills : Type 0
+PlacedFills = (columns rows : List ℕ) (region : Rect) (picture : Numbers) → IsPlaced columns rows region picture → Fills region picture.slices
+
 -- slices that fill each of the regions of their index do so pair by pair
 abbrev pub FillsByIndex : Type 0
 FillsByIndex =
@@ -45,10 +49,10 @@ FillsByIndex =
     → ((k : ℕ) (d : Rect) (e : List Rect) → k < length regions → Fills (slice_index_or regions k d) (slice_index_or pictures k e)) → AllZip Fills regions pictures
 
 -- and so do pictures that stand in them
-abbrev pub StandsByIndex : Type 0
-StandsByIndex =
+abbrev pub PlacedByIndex : Type 0
+PlacedByIndex =
     (columns rows : List ℕ) (regions : List Rect) (pictures : List Numbers) → length regions ≡ length pictures
-    → ((k : ℕ) (d : Rect) (e : Numbers) → k < length regions → Stands columns rows (slice_index_or regions k d) (slice_index_or pictures k e)) → AllZip (Stands columns rows) regions pictures
+    → ((k : ℕ) (d : Rect) (e : Numbers) → k < length regions → IsPlaced columns rows (slice_index_or regions k d) (slice_index_or pictures k e)) → AllZip (IsPlaced columns rows) regions pictures
 
 -- the frame's slices cover it once where the regions do
 abbrev pub FrameSlicesCoverOnce : Type 0
@@ -68,14 +72,14 @@ FrameSlicesAreInOrder =
     → in_order (frame_slices regions pictures) regions ≡ frame_slices regions pictures
 
 -- the frame's slices in a region are those of the picture there, moved to the region's corner
-abbrev pub SlicesOfRegion : Type 0
-SlicesOfRegion =
+abbrev pub FrameSlicesOfRegion : Type 0
+FrameSlicesOfRegion =
     (regions : List Rect) (pictures : List (List Rect)) (w h k : ℕ) (d : Rect) (e : List Rect) → All (IsPart w h) regions → CoversOnce regions w h → AllZip Fills regions pictures → k < length regions
     → slices_of (frame_slices regions pictures) (slice_index_or regions k d) ≡ map (moved_to (slice_index_or regions k d)) (slice_index_or pictures k e)
 
 -- counted from the corner they are the picture's own
-abbrev pub SlicesOfRegionCounted : Type 0
-SlicesOfRegionCounted =
+abbrev pub FrameSlicesOfRegionCounted : Type 0
+FrameSlicesOfRegionCounted =
     (regions : List Rect) (pictures : List (List Rect)) (w h k : ℕ) (d : Rect) (e : List Rect) → All (IsPart w h) regions → CoversOnce regions w h → AllZip Fills regions pictures → k < length regions
     → map (counted_from (slice_index_or regions k d)) (slices_of (frame_slices regions pictures) (slice_index_or regions k d)) ≡ slice_index_or pictures k e
 
@@ -93,23 +97,23 @@ FrameSlicesGrow =
 -- a frame is a layout where the pictures stand in its regions, and these cover it and stand in order
 abbrev pub FrameIsLayout : Type 0
 FrameIsLayout =
-    (columns rows : List ℕ) (regions : List Rect) (pictures : List Numbers) → SubpicsCover (frame_of columns rows regions pictures) → AllPairs Precedes regions → AllZip (Stands columns rows) regions pictures
+    (columns rows : List ℕ) (regions : List Rect) (pictures : List Numbers) → SubpicsCover (frame_of columns rows regions pictures) → AllPairs Precedes regions → AllZip (IsPlaced columns rows) regions pictures
     → IsLayout (frame_of columns rows regions pictures)
 
 -- its region k is picture k
 abbrev pub FrameHasPictures : Type 0
 FrameHasPictures =
-    (columns rows : List ℕ) (regions : List Rect) (pictures : List Numbers) (k : ℕ) (d : Numbers) → Rises columns → Rises rows → SubpicsCover (frame_of columns rows regions pictures) → AllZip (Stands columns rows) regions pictures → k < length regions
+    (columns rows : List ℕ) (regions : List Rect) (pictures : List Numbers) (k : ℕ) (d : Numbers) → Rises columns → Rises rows → SubpicsCover (frame_of columns rows regions pictures) → AllZip (IsPlaced columns rows) regions pictures → k < length regions
     → region_of (frame_of columns rows regions pictures) k ≡ slice_index_or pictures k d
 
 -- and it is a layout as one subpicture too, where it has a region
 abbrev pub FrameAloneIsLayout : Type 0
 FrameAloneIsLayout =
-    (columns rows : List ℕ) (regions : List Rect) (pictures : List Numbers) → Rises columns → Rises rows → 0 < length regions → SubpicsCover (frame_of columns rows regions pictures) → AllPairs Precedes regions → AllZip (Stands columns rows) regions pictures
+    (columns rows : List ℕ) (regions : List Rect) (pictures : List Numbers) → Rises columns → Rises rows → 0 < length regions → SubpicsCover (frame_of columns rows regions pictures) → AllPairs Precedes regions → AllZip (IsPlaced columns rows) regions pictures
     → IsLayout (with_one_subpic (frame_of columns rows regions pictures))
 
 -- its slices can be listed tile by tile where each picture's can
 abbrev pub FrameIsListable : Type 0
 FrameIsListable =
-    (columns rows : List ℕ) (regions : List Rect) (pictures : List Numbers) → SubpicsCover (frame_of columns rows regions pictures) → AllZip (Stands columns rows) regions pictures
+    (columns rows : List ℕ) (regions : List Rect) (pictures : List Numbers) → SubpicsCover (frame_of columns rows regions pictures) → AllZip (IsPlaced columns rows) regions pictures
     → All (λ p. AreListable p.columns p.rows p.slices) pictures → AreListable columns rows (frame_of columns rows regions pictures).slices

@@ -6,8 +6,8 @@ use Rattle.vx_layout.specs.declared.numbers.Numbers.{Numbers}
 use Rattle.vx_layout.specs.declared.rect.Rect.{Rect}
 use Rattle.vx_layout.specs.Borders.{HasLines}
 use Rattle.vx_layout.specs.Faults.{height, width}
-use Rattle.vx_layout.specs.Layouts.{IsSound}
-use Rattle.vx_layout.specs.Rects.{CoversOnce, IsPart}
+use Rattle.vx_layout.specs.Layouts.{HasLayout}
+use Rattle.vx_layout.specs.Rects.{CoversOnce, IsPart, whole_picture}
 use Rattle.vx_layout.specs.Regions.{moved_to}
 use Rattle.vx_layout.specs.Shapes.{HasCtu}
 
@@ -22,8 +22,8 @@ pub record Fills (region : Rect) (slices : List Rect) : Type 0 where
 
 -- a picture that can stand in a region of a frame of these tile bounds: it has one subpicture and the region's size,
 -- each of its slices holds a CTU, and the frame's tile bounds there are its own
-pub record Stands (columns rows : List ℕ) (region : Rect) (picture : Numbers) : Type 0 where
-  pub sound : IsSound picture
+pub record IsPlaced (columns rows : List ℕ) (region : Rect) (picture : Numbers) : Type 0 where
+  pub layout : HasLayout picture
   pub lone : length picture.subpics ≡ 1
   pub slices : All HasCtu picture.slices
   pub wide : width picture ≡ region.w
@@ -46,5 +46,5 @@ with_one_subpic n = record {
   columns = n.columns;
   rows = n.rows;
   slices = n.slices;
-  subpics = record { x = 0; y = 0; w = width n; h = height n } ∷ [];
+  subpics = whole_picture (width n) (height n) ∷ [];
 }

@@ -3,13 +3,21 @@ use Rattle.std.specs.Prelude.{◌≡◌, ℕ, ◌+◌, ◌<◌, ◌≤◌, ◌�
 use Rattle.vx_layout.specs.declared.numbers.Numbers.{Numbers}
 use Rattle.vx_layout.specs.Bounds.{Rises, bounds_of, last, sizes_between, sums_after, tile_sizes}
 use Rattle.vx_layout.specs.Borders.{Begins, Ends}
-use Rattle.vx_layout.specs.Faults.{IsLayout, height, width}
+use Rattle.vx_layout.specs.Faults.{IsLayout, IsLowestFault, height, width}
 use Rattle.vx_layout.specs.Heights.{written_heights}
-use Rattle.vx_layout.specs.Layouts.{IsSound, ordered_at, slice_at, slices_in, subpic_at}
+use Rattle.vx_layout.specs.Layouts.{HasLayout, ordered_at, slice_at, slices_in, subpic_at}
 use Rattle.vx_layout.specs.Rects.{CoversOnce, holds, in_order}
 use Rattle.vx_layout.specs.Regions.{counted_from, cut, moved, region_of}
 use Rattle.vx_layout.specs.Scan.{ctus}
 use Rattle.vx_layout.specs.Shapes.{AreListable, HasCtu}
+
+-- numbers have one lowest fault at most
+abbrev pub LowestFaultIsOne : Type 0
+LowestFaultIsOne = (n : Numbers) (j k : ℕ) → IsLowestFault n j → IsLowestFault n k → j ≡ k
+
+-- and a layout has none
+abbrev pub LayoutHasNoFault : Type 0
+LayoutHasNoFault = (n : Numbers) (k : ℕ) → IsLayout n → ¬ IsLowestFault n k
 
 -- each CTU of the picture lies in exactly one of a layout's slices in order
 abbrev pub InOrderCoversOnce : Type 0
@@ -34,12 +42,12 @@ SlicesRunRightAndDown =
 
 -- the first slice of the first subpicture begins the picture, where it holds a CTU
 abbrev pub FirstSliceBegins : Type 0
-FirstSliceBegins = (n : Numbers) → IsSound n → HasCtu (slice_at n 0 0) → Begins (slice_at n 0 0)
+FirstSliceBegins = (n : Numbers) → HasLayout n → HasCtu (slice_at n 0 0) → Begins (slice_at n 0 0)
 
 -- the last slice of the last subpicture ends the picture, where it holds a CTU
 abbrev pub LastSliceEnds : Type 0
 LastSliceEnds =
-    (n : Numbers) (k m : ℕ) → IsSound n → k + 1 ≡ length n.subpics → m + 1 ≡ length (slices_in n k) → HasCtu (slice_at n k m)
+    (n : Numbers) (k m : ℕ) → HasLayout n → k + 1 ≡ length n.subpics → m + 1 ≡ length (slices_in n k) → HasCtu (slice_at n k m)
     → Ends (width n) (height n) (slice_at n k m)
 
 -- bounds that are cut twice are cut once
@@ -55,13 +63,13 @@ RegionKeepsSlices = (n : Numbers) (k m : ℕ) → m < length (slices_in n k) →
 -- and the CTUs of the two are the same in the same order, but for the corner
 abbrev pub RegionKeepsCtus : Type 0
 RegionKeepsCtus =
-    (n : Numbers) (k m : ℕ) → IsSound n → k < length n.subpics → m < length (slices_in n k)
+    (n : Numbers) (k m : ℕ) → HasLayout n → k < length n.subpics → m < length (slices_in n k)
     → ctus n.columns n.rows (slice_at n k m) ≡ map (moved (subpic_at n k).x (subpic_at n k).y) (ctus (region_of n k).columns (region_of n k).rows (slice_at (region_of n k) 0 m))
 
 -- a region's slices can be listed tile by tile where a layout's can
 abbrev pub RegionIsListable : Type 0
 RegionIsListable =
-    (n : Numbers) (k : ℕ) → IsSound n → k < length n.subpics → AreListable n.columns n.rows n.slices
+    (n : Numbers) (k : ℕ) → HasLayout n → k < length n.subpics → AreListable n.columns n.rows n.slices
     → AreListable (region_of n k).columns (region_of n k).rows (region_of n k).slices
 
 -- bounds with the same members are the same
@@ -83,8 +91,8 @@ abbrev pub ListedGiveSums : Type 0
 ListedGiveSums = (sizes : List ℕ) → 0 < length sizes → All (λ size. 1 ≤ size) sizes → bounds_of sizes (sum sizes) ≡ 0 ∷ sums_after 0 sizes
 
 -- the bounds are those of the sizes between them
-abbrev pub SizesGiveBounds : Type 0
-SizesGiveBounds = (bounds : List ℕ) → Rises bounds → 2 ≤ length bounds → bounds_of (sizes_between bounds) (last bounds) ≡ bounds
+abbrev pub BoundsBySizes : Type 0
+BoundsBySizes = (bounds : List ℕ) → Rises bounds → 2 ≤ length bounds → bounds_of (sizes_between bounds) (last bounds) ≡ bounds
 
 -- from the heights that are written all heights follow, by the rule for tile sizes
 abbrev pub HeightsAreReadBack : Type 0

@@ -28,14 +28,14 @@ slice_at n k m = slice_index_or (slices_in n k) m no_rect
 abbrev pub ordered_at : Numbers → ℕ → Rect
 ordered_at n i = slice_index_or (in_order n.slices n.subpics) i no_rect
 
--- what holds of the numbers of each layout
-pub record IsSound (n : Numbers) : Type 0 where
-  pub layout : IsLayout n
+-- numbers of which `Layout::new` makes a layout
+pub record HasLayout (n : Numbers) : Type 0 where
+  pub faultless : IsLayout n
   pub limits : IsInLimits n
   pub columns : Rises n.columns
   pub rows : Rises n.rows
 
--- and of the groups that it keeps
+-- and the groups that the layout keeps beside them
 pub record IsKept (n : Numbers) (groups : List (List Rect)) : Type 0 where
-  pub sound : IsSound n
+  pub layout : HasLayout n
   pub groups_are : AreGroups groups n.slices n.subpics

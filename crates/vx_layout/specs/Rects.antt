@@ -30,6 +30,10 @@ abbrev pub Precedes : Rect → Rect → Type 0
 Precedes r s =
     (x y : ℕ) → holds s x y ≡ true → (¬ (holds r (x + 1) y ≡ true)) × (¬ (holds r x (y + 1) ≡ true))
 
+-- a picture of w times h CTUs as a rectangle
+abbrev pub whole_picture : ℕ → ℕ → Rect
+whole_picture w h = record { x = 0; y = 0; w = w; h = h }
+
 -- the rectangle holds a CTU and lies in a picture of w times h CTUs
 pub record IsPart (w h : ℕ) (r : Rect) : Type 0 where
   pub wide : 0 < r.w

@@ -3,6 +3,7 @@ use Rattle.std.specs.Prelude.{ℕ, ◌+◌, ◌-◌, ◌&&◌, nat_lt, List, [],
 use Rattle.vx_layout.specs.declared.numbers.Numbers.{Numbers}
 use Rattle.vx_layout.specs.declared.rect.Rect.{Rect}
 use Rattle.vx_layout.specs.Layouts.{slices_in, subpic_at}
+use Rattle.vx_layout.specs.Rects.{whole_picture}
 
 -- the bounds strictly inside the `size` columns or rows that begin at `from`
 abbrev pub inner : List ℕ → ℕ → ℕ → List ℕ
@@ -20,17 +21,13 @@ counted_from corner r = record { x = r.x - corner.x; y = r.y - corner.y; w = r.w
 abbrev pub moved_to : Rect → Rect → Rect
 moved_to corner r = record { x = r.x + corner.x; y = r.y + corner.y; w = r.w; h = r.h }
 
--- a subpicture as a picture
-abbrev pub whole : Rect → Rect
-whole s = record { x = 0; y = 0; w = s.w; h = s.h }
-
--- the layout of subpicture k: its tile bounds, its slices by their addresses, and itself
+-- the layout of subpicture k: its tile bounds, its slices by their addresses, and one subpicture that is all of it
 abbrev pub region_of : Numbers → ℕ → Numbers
 region_of n k = record {
   columns = cut n.columns (subpic_at n k).x (subpic_at n k).w;
   rows = cut n.rows (subpic_at n k).y (subpic_at n k).h;
   slices = map (counted_from (subpic_at n k)) (slices_in n k);
-  subpics = whole (subpic_at n k) ∷ [];
+  subpics = whole_picture (subpic_at n k).w (subpic_at n k).h ∷ [];
 }
 
 -- a CTU that was counted from the corner at a, b, moved back to it

@@ -1,6 +1,6 @@
 //! Laws on a frame that is put together of several pictures: functions that do nothing, each with laws as its contract.
 ghost use Rattle.std.specs.Prelude.{◌≡◌};
-ghost use Rattle.vx_layout.specs.FrameLaws.{CutBoundsAreOwn, FillsByIndex, FirstBegins, FrameAloneIsLayout, FrameHasPictures, FrameIsLayout, FrameIsListable, FrameSlicesAreInOrder, FrameSlicesCoverOnce, FrameSlicesFit, FrameSlicesGrow, FrameSlicesStandInOrder, LastEnds, MovingUndoesCounting, SlicesOfRegion, SlicesOfRegionCounted, SplitByBorders, StandsByIndex};
+ghost use Rattle.vx_layout.specs.FrameLaws.{CutBoundsAreOwn, FillsByIndex, FirstBegins, FrameAloneIsLayout, FrameHasPictures, FrameIsLayout, FrameIsListable, FrameSlicesAreInOrder, FrameSlicesCoverOnce, FrameSlicesFit, FrameSlicesGrow, FrameSlicesOfRegion, FrameSlicesOfRegionCounted, FrameSlicesStandInOrder, LastEnds, MovingUndoesCounting, PlacedByIndex, PlacedFills, SplitByBorders};
 ghost use Rattle.vx_layout.specs.Regions.{counted_from, moved_to};
 ghost use Rattle.vx_layout.specs.declared.rect.Rect.{Rect};
 
@@ -29,10 +29,15 @@ pub fn first_begins_and_last_ends()
     ensures last { LastEnds }
 {}
 
-/// Pictures that fill the regions of their index, or stand in them, do so pair by pair.
+/// A picture that stands in a region fills it with its slices.
+pub fn placed_fills()
+    ensures { PlacedFills }
+{}
+
+/// Slices that fill the regions of their index, and pictures that stand in them, do so pair by pair.
 pub fn pictures_by_index()
     ensures fill { FillsByIndex }
-    ensures stand { StandsByIndex }
+    ensures placed { PlacedByIndex }
 {}
 
 /// Where the regions cover a frame once, and the slices of each picture make up the picture, the frame's slices cover it once.
@@ -50,8 +55,8 @@ pub fn frame_slices_stand_in_order()
 /// The frame's slices in a region are the slices of the picture there, moved to the region's corner; counted from the
 /// corner they are the picture's own.
 pub fn frame_slices_of_region()
-    ensures slices { SlicesOfRegion }
-    ensures counted { SlicesOfRegionCounted }
+    ensures slices { FrameSlicesOfRegion }
+    ensures counted { FrameSlicesOfRegionCounted }
 {}
 
 /// Each slice of the frame lies in a region.
@@ -78,6 +83,6 @@ pub fn frame_alone_is_layout()
 
 /// Where each picture's slices hold CTUs, are whole tiles or whole rows of one tile, and those in one tile stand next
 /// to one another, so is it with the frame's slices and the frame's tiles.
-pub fn frame_slices_are_listable()
+pub fn frame_is_listable()
     ensures { FrameIsListable }
 {}

@@ -3,12 +3,18 @@ ghost use Rattle.std.specs.Prelude.{◌≡◌, ℕ, ◌-◌, ◌<◌, ◌≤◌,
 ghost use Rattle.vx_layout.specs.Bounds.{Rises, last, sizes_between, sums_after};
 ghost use Rattle.vx_layout.specs.Faults.{LiesIn};
 ghost use Rattle.vx_layout.specs.Heights.{written_heights};
-ghost use Rattle.vx_layout.specs.Laws.{BoundsByMembers, BoundsReachTotal, CutsNest, FirstSliceBegins, HeightsAreReadBack, InOrderCoversOnce, LastSliceEnds, ListedAreSizes, ListedGiveSums, RegionIsListable, RegionKeepsCtus, RegionKeepsSlices, SizesGiveBounds, SlicesCoverSubpicture, SlicesLieInPicture, SlicesRunRightAndDown};
-ghost use Rattle.vx_layout.specs.Layouts.{IsSound};
+ghost use Rattle.vx_layout.specs.Laws.{BoundsByMembers, BoundsReachTotal, CutsNest, FirstSliceBegins, HeightsAreReadBack, InOrderCoversOnce, LastSliceEnds, LayoutHasNoFault, ListedAreSizes, ListedGiveSums, LowestFaultIsOne, RegionIsListable, RegionKeepsCtus, RegionKeepsSlices, BoundsBySizes, SlicesCoverSubpicture, SlicesLieInPicture, SlicesRunRightAndDown};
+ghost use Rattle.vx_layout.specs.Layouts.{HasLayout};
 ghost use Rattle.vx_layout.specs.Rects.{fits};
 ghost use Rattle.vx_layout.specs.Regions.{region_of};
 ghost use Rattle.vx_layout.specs.declared.numbers.Numbers.{Numbers};
 ghost use Rattle.vx_layout.specs.declared.rect.Rect.{Rect};
+
+/// Numbers have one lowest fault at most, and a layout has none.
+pub fn lowest_fault_is_one()
+    ensures one { LowestFaultIsOne }
+    ensures none { LayoutHasNoFault }
+{}
 
 /// The slices of a layout, by rising subpicture and then by their place in the slice list, cover the picture once.
 pub fn in_order_covers_once()
@@ -37,7 +43,7 @@ pub fn slices_begin_and_end()
 
 /// The region of a layout's subpicture is a layout.
 pub fn region_is_layout()
-    ensures { (n : Numbers) (k : ℕ) → IsSound n → k < length n.subpics → IsSound (region_of n k) }
+    ensures { (n : Numbers) (k : ℕ) → HasLayout n → k < length n.subpics → HasLayout (region_of n k) }
 {}
 
 /// A region of a region is a region: bounds that are cut twice are cut once, and the only subpicture of a region is it.
@@ -47,14 +53,14 @@ pub fn regions_nest()
 {}
 
 /// The CTUs of a region's slices, in their order, are those of the subpicture's slices, counted from its corner.
-pub fn region_has_same_ctus()
+pub fn region_keeps_slices()
     ensures slices { RegionKeepsSlices }
     ensures ctus { RegionKeepsCtus }
 {}
 
 /// Where a layout's slices hold CTUs, are whole tiles or whole rows of one tile, and those in one tile stand next to
 /// one another, so is it with a region's slices and the region's tiles.
-pub fn region_slices_are_listable()
+pub fn region_is_listable()
     ensures { RegionIsListable }
 {}
 
@@ -74,7 +80,7 @@ pub fn bounds_reach_total()
 {}
 
 /// Sizes that are all listed are the tile sizes, and the bounds are their partial sums.
-pub fn all_sizes_listed()
+pub fn listed_are_sizes()
     ensures sizes { ListedAreSizes }
     ensures bounds { ListedGiveSums }
 {}
@@ -84,7 +90,7 @@ pub fn bounds_by_sizes()
     ensures count { (bounds : List ℕ) → length (sizes_between bounds) ≡ length bounds - 1 }
     ensures some { (bounds : List ℕ) → Rises bounds → All (λ size. 1 ≤ size) (sizes_between bounds) }
     ensures total { (bounds : List ℕ) → Rises bounds → sum (sizes_between bounds) ≡ last bounds }
-    ensures bounds { SizesGiveBounds }
+    ensures bounds { BoundsBySizes }
     ensures sizes { (sizes : List ℕ) → sizes_between (0 ∷ sums_after 0 sizes) ≡ sizes }
 {}
 

@@ -35,7 +35,7 @@ impl Model for Layout {
 impl Layout {
     ghost use Rattle.std.specs.Prelude.{◌≡◌, ℕ, ◌<◌, length, OnOk, IfOk, IfErr, slice_get, Some};
     ghost use Rattle.vx_layout.specs.Faults.{IfFault, IsInLimits, IsLayout, IsLowestFault};
-    ghost use Rattle.vx_layout.specs.Layouts.{IsSound, slice_at, slices_in};
+    ghost use Rattle.vx_layout.specs.Layouts.{HasLayout, slice_at, slices_in};
     ghost use Rattle.vx_layout.specs.Regions.{region_of};
     ghost use Rattle.vx_layout.specs.Scan.{entries};
 
@@ -50,7 +50,7 @@ impl Layout {
     pub fn new(alloc: Global, numbers: Numbers) -> Result<Layout, LayoutError>
         requires { IsInLimits numbers }
         ensures numbers { IfOk result (λ layout. layout ≡ numbers) }
-        ensures sound { OnOk result (IsLayout numbers) }
+        ensures layout { OnOk result (HasLayout numbers) }
         ensures fault { IfErr result (λ e. IfFault e (IsLowestFault numbers)) }
     {
         let groups = checked_groups(alloc, &numbers)?;
@@ -61,7 +61,7 @@ impl Layout {
     pub fn slice_count(&self, subpic: u32) -> u32
         requires { subpic < length self.now.subpics }
         ensures count { result ≡ length (slices_in self.now subpic) }
-        ensures sound { IsSound self.now }
+        ensures layout { HasLayout self.now }
     {
         self.groups[subpic as usize].len() as u32
     }
@@ -72,7 +72,7 @@ impl Layout {
         requires address { address < length (slices_in self.now subpic) }
         ensures value { slice_get (slices_in self.now subpic) address ≡ Some result }
         ensures index { result ≡ slice_at self.now subpic address }
-        ensures sound { IsSound self.now }
+        ensures layout { HasLayout self.now }
     {
         self.groups[subpic as usize].item(address as usize)
     }
@@ -83,7 +83,7 @@ impl Layout {
         requires subpic { subpic < length self.now.subpics }
         requires address { address < length (slices_in self.now subpic) }
         ensures count { result ≡ entries self.now.columns self.now.rows (slice_at self.now subpic address) sync }
-        ensures sound { IsSound self.now }
+        ensures layout { HasLayout self.now }
     {
         let slice = self.slice_rect(subpic, address);
         count_entries(&self.numbers.columns, &self.numbers.rows, slice, sync)
@@ -97,7 +97,7 @@ impl Layout {
     pub fn region(&self, alloc: Global, subpic: u32) -> Result<Numbers, AllocError>
         requires { subpic < length self.now.subpics }
         ensures numbers { IfOk result (λ numbers. numbers ≡ region_of self.now subpic) }
-        ensures sound { IsSound self.now }
+        ensures layout { HasLayout self.now }
     {
         let corner = self.numbers.subpics.item(subpic as usize);
         let columns = cut(alloc, &self.numbers.columns, corner.x, corner.w)?;
@@ -127,7 +127,7 @@ impl Layout {
 fn checked_groups(alloc: Global, numbers: &Numbers) -> Result<Vec<RectList>, LayoutError>
     requires { IsInLimits numbers.now }
     ensures groups { IfOk result (λ groups. AreGroups groups.items numbers.now.slices numbers.now.subpics) }
-    ensures sound { OnOk result (IsLayout numbers.now) }
+    ensures layout { OnOk result (IsLayout numbers.now) }
     ensures fault { IfErr result (λ e. IfFault e (IsLowestFault numbers.now)) }
 {
     let owners = check_subpics(alloc, numbers)?;

@@ -19,15 +19,15 @@ mod region;
 pub use bounds::{Bounds, TileError, tile_bounds};
 pub use frame_laws::{
     cut_bounds_are_own, first_begins_and_last_ends, frame_alone_is_layout, frame_is_layout,
-    frame_slices_are_listable, frame_slices_cover_once, frame_slices_fit, frame_slices_grow,
+    frame_is_listable, frame_slices_cover_once, frame_slices_fit, frame_slices_grow,
     frame_slices_of_region, frame_slices_stand_in_order, moving_undoes_counting, pictures_by_index,
-    split_by_borders,
+    placed_fills, split_by_borders,
 };
 pub use laws::{
-    all_sizes_listed, bounds_by_members, bounds_by_sizes, bounds_reach_total, fits_by_ctus,
-    heights_are_read_back, in_order_covers_once, region_has_same_ctus, region_is_layout,
-    region_slices_are_listable, regions_nest, slices_begin_and_end, slices_cover_subpicture,
-    slices_run_right_and_down,
+    bounds_by_members, bounds_by_sizes, bounds_reach_total, fits_by_ctus, heights_are_read_back,
+    in_order_covers_once, listed_are_sizes, lowest_fault_is_one, region_is_layout,
+    region_is_listable, region_keeps_slices, regions_nest, slices_begin_and_end,
+    slices_cover_subpicture, slices_run_right_and_down,
 };
 pub use layout::Layout;
 pub use numbers::{

@@ -16,7 +16,7 @@ use crate::numbers::{
 use crate::rect::{Rect, RectList};
 use std::alloc::{AllocError, Global};
 
-/// Tells whether numbers are a layout, under the contract of [`crate::Layout::new`].
+/// Tells whether numbers are a layout, with the answers of [`crate::Layout::new`].
 ///
 /// Time goes with the products of CTUs and rectangles, of tiles and subpictures, and with the square of the number
 /// of slices.
@@ -26,7 +26,7 @@ use std::alloc::{AllocError, Global};
 /// The lowest fault, exactly where there is one, or `Memory` where memory runs out.
 pub fn first_fault(alloc: Global, numbers: &Numbers) -> Result<(), LayoutError>
     requires { IsInLimits numbers.now }
-    ensures sound { OnOk result (IsLayout numbers.now) }
+    ensures layout { OnOk result (IsLayout numbers.now) }
     ensures fault { IfErr result (λ e. IfFault e (IsLowestFault numbers.now)) }
 {
     if !subpics_cover(numbers) {

@@ -12,5 +12,5 @@ overflow_cast-result c =
     let short : c.args.subpic < length n.subpics = rw c.self.view_is c.requires in
     let is : g ≡ slices_of n.slices (subpic_at n c.args.subpic) = c.index.ensures ∙ c.self.invariant.groups_are.each c.args.subpic no_rect g short in
     let few : length (slices_of n.slices (subpic_at n c.args.subpic)) ≤ length n.slices = length-slices_of-le n.slices (subpic_at n c.args.subpic) in
-    let limit = c.self.invariant.sound.limits.slices.1 in
+    let limit = c.self.invariant.layout.limits.slices.1 in
     omega (arith, c.len.ensures, ap length is, few, limit)

@@ -1,5 +1,5 @@
 use Rattle.vx_layout.proofs.ReadBack.{bounds_of-all, tile_sizes-all}
-use Rattle.vx_layout.proofs.laws.all_sizes_listed.Goals as goal
+use Rattle.vx_layout.proofs.laws.listed_are_sizes.Goals as goal
 
 pub returns-clause-sizes : goal.returns-clause-sizes
 returns-clause-sizes c = tile_sizes-all

@@ -1,5 +1,5 @@
 use Rattle.vx_layout.proofs.Counted.{ctus-region, slice_at-region}
-use Rattle.vx_layout.proofs.laws.region_has_same_ctus.Goals as goal
+use Rattle.vx_layout.proofs.laws.region_keeps_slices.Goals as goal
 
 pub returns-clause-slices : goal.returns-clause-slices
 returns-clause-slices c = slice_at-region
