@@ -2,7 +2,7 @@
 use Rattle.std.proofs.Common.{◌≡◌, ℕ, zero, suc, ◌+◌, ◌-◌, ◌<◌, ◌≤◌, inl, inr, true, List, [], ◌∷◌, ◌++◌, length, take, drop, replicate, slice_index, slice_range, flat_map, sym, ap, ap₂, subst, ◌∙◌, arith, refl, ⊎_elim, append_assoc, length-append}
 use Rattle.std.proofs.lemmas.List.{length-replicate, get_or-replicate, get_or_append_left, get_or-append-add, take-append-drop, drop-drop, drop_more, drop_all, take_at, drop_at}
 use Rattle.std.proofs.lemmas.Bool.{cases_lt}
-use Rattle.vx_annexb.proofs.Places.{length-slice, index-slice}
+use Rattle.vx_annexb.proofs.Places.{length-slice, index-slice, mark_slice}
 use Rattle.vx_annexb.specs.Places.{AreZeros, IsMark}
 use Rattle.vx_annexb.specs.ByteStream.{StartsAt, CanEnd, UnitPlace, unit_bytes, IsUnit, FollowsFrom, end_of}
 use Rattle.vx_annexb.specs.Laws.{Part, part_bytes, annex_b, places_from, HoldsNoCode, AreSound, StreamIsAnnexB, AnnexBIsStream}
@@ -37,15 +37,7 @@ module _ (b : List ℕ) (p : ℕ) (u : UnitPlace) (is : IsUnit b true p u) where
   at_unit = index-slice b u.start u.end
 
   no_mark : (k : ℕ) → ¬ IsMark 1 (unit_bytes b u) k
-  no_mark k m =
-      let e1 : u.start + k + 1 ≡ u.start + (k + 1) = omega arith in
-      let e2 : u.start + k + 2 ≡ u.start + (k + 2) = omega arith in
-      is.ends.before (u.start + k) (omega arith) (omega (arith, m.within, len_is)) (inl (record {
-        within = omega (arith, m.within, len_is, unit_within);
-        first = sym (at_unit k (omega (arith, m.within, len_is))) ∙ m.first;
-        second = rw e1 (sym (at_unit (k + 1) (omega (arith, m.within, len_is))) ∙ m.second);
-        third = rw e2 (rw (← at_unit (k + 2) (omega (arith, m.within, len_is))) m.third);
-      }))
+  no_mark k m = is.ends.before (u.start + k) (omega arith) (omega (arith, m.within, len_is)) (inl (mark_slice 1 b u.start u.end k is.ends.order unit_within m))
 
   last : (k : ℕ) → length (unit_bytes b u) ≡ k + 1 → slice_index (unit_bytes b u) k ≡ 0 → ⊥
   last k len zero_is =

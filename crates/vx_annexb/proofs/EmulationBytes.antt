@@ -4,6 +4,7 @@ use Rattle.std.proofs.lemmas.Bool.{cases_lt, and_parts, and_from, leb-true, le-l
 use Rattle.std.proofs.lemmas.List.{get_or_past, take_more, append-nil}
 use Rattle.vx_annexb.specs.Places.{IsMark}
 use Rattle.vx_annexb.specs.Emulation.{is_emulation, BreaksRule, unescaped_to}
+use Rattle.vx_annexb.proofs.Places.{mark_wider}
 
 -- an emulation byte, part by part
 pub record EmulationAt (n : List ℕ) (k : ℕ) : Type 0 where
@@ -71,27 +72,32 @@ unescaped_run n at (suc d) le none =
     rw e last ∙ ap (λ xs. xs ++ slice_index n (at + d) ∷ []) before ∙ append_assoc (unescaped_to n at) (take d (drop at n)) (slice_index n (at + d) ∷ [])
     ∙ ap (λ xs. unescaped_to n at ++ xs) (ap (λ (x : ℕ). take d (drop at n) ++ x ∷ []) (sym (get_or-drop at n d 0)) ∙ sym more ∙ ap (λ k. take k (drop at n)) (add-one d))
 
--- Searches that go on from a place behind a byte that is no zero.
-module _ (n : List ℕ) (at : ℕ) (behind : 0 < at → slice_index n (at - 1) ≡ 0 → ⊥) where
-  pub mark_from : (most j : ℕ) → IsMark most n j → at ≤ j + 2 → at ≤ j
-  mark_from most j m le = ⊎_elim
-      (λ below. ⊎_elim
-      (λ one. let e : at - 1 ≡ j = omega arith in absurd (behind (omega arith) (ap (slice_index n) e ∙ m.first)))
-      (λ two. let e : at - 1 ≡ j + 1 = omega arith in absurd (behind (omega arith) (ap (slice_index n) e ∙ m.second)))
-      (cases_lt at (j + 2)))
-      (λ above. above)
-      (cases_lt j at)
+-- no mark of at most 3 reaches from before this place to its byte or beyond
+abbrev pub StandsApart : List ℕ → ℕ → Type 0
+StandsApart n at = (j : ℕ) → IsMark 3 n j → at ≤ j + 2 → at ≤ j
 
+-- as behind a byte that is no zero
+pub apart_behind : (n : List ℕ) (at : ℕ) → (slice_index n at ≡ 0 → ⊥) → StandsApart n (at + 1)
+apart_behind n at some j m le = ⊎_elim
+    (λ below. ⊎_elim
+    (λ one. let e : at ≡ j = omega arith in absurd (some (ap (slice_index n) e ∙ m.first)))
+    (λ two. let e : at ≡ j + 1 = omega arith in absurd (some (ap (slice_index n) e ∙ m.second)))
+    (cases_lt at (j + 1)))
+    (λ above. above)
+    (cases_lt j (at + 1))
+
+-- Searches that go on from such a place.
+module _ (n : List ℕ) (at : ℕ) (apart : StandsApart n at) where
   -- no emulation byte where no mark was found
   pub no_emulation : (stop : ℕ) → ((j : ℕ) → at ≤ j → j < stop → ¬ IsMark 3 n j) → (k : ℕ) → at ≤ k → k < stop + 2 → is_emulation n k ≡ false
   no_emulation stop none k le lt = false_from_ne_true (is_emulation n k) (λ e.
       let m = emulation_mark n k e in
       let two = (emulation_is n k e).two in
-      none (k - 2) (mark_from 3 (k - 2) m (omega arith)) (omega arith) m)
+      none (k - 2) (apart (k - 2) m (omega arith)) (omega arith) m)
 
   -- no byte that breaks a rule either
   pub no_break : (stop : ℕ) → ((j : ℕ) → at ≤ j → j < stop → ¬ IsMark 3 n j) → (k : ℕ) → at < k → k < stop + 2 → ¬ BreaksRule n k
   no_break stop none k le lt (inl b) =
-      let m : IsMark 3 n (k - 2) = record { within = b.1.within; first = b.1.first; second = b.1.second; third = omega (arith, b.1.third) } in
-      none (k - 2) (mark_from 3 (k - 2) m (omega (arith, b.0))) (omega (arith, b.0)) m
+      let m = mark_wider 2 3 n (k - 2) (omega arith) b.1 in
+      none (k - 2) (apart (k - 2) m (omega (arith, b.0))) (omega (arith, b.0)) m
   no_break stop none k le lt (inr b) = false≢true (sym (no_emulation stop none (k - 1) (omega arith) (omega arith)) ∙ b.2)

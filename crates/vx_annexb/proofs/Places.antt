@@ -64,12 +64,28 @@ zeros_mark g k n z lt = record {
   third = rw (z.each (k + 2) (omega arith) lt) (omega arith);
 }
 
+-- a byte of at most `most` is of at most `more`
+pub mark_wider : (most more : ℕ) (b : List ℕ) (k : ℕ) → most ≤ more → IsMark most b k → IsMark more b k
+mark_wider most more b k le m = record { within = m.within; first = m.first; second = m.second; third = omega (arith, m.third) }
+
 -- bytes from place s up to place e
 pub length-slice : (b : List ℕ) (s e : ℕ) → s ≤ e → e ≤ length b → length (slice_range b s e) ≡ e - s
 length-slice b s e le within = length-take-le (e - s) (drop s b) (omega (arith, length-drop s b))
 
 pub index-slice : (b : List ℕ) (s e k : ℕ) → k < e - s → slice_index (slice_range b s e) k ≡ slice_index b (s + k)
 index-slice b s e k lt = get_or-take (e - s) (drop s b) k 0 lt ∙ get_or-drop s b k 0
+
+pub mark_slice : (most : ℕ) (b : List ℕ) (s e k : ℕ) → s ≤ e → e ≤ length b → IsMark most (slice_range b s e) k → IsMark most b (s + k)
+mark_slice most b s e k le within m =
+    let n = length-slice b s e le within in
+    let e1 : s + k + 1 ≡ s + (k + 1) = omega arith in
+    let e2 : s + k + 2 ≡ s + (k + 2) = omega arith in
+    record {
+      within = omega (arith, m.within, n);
+      first = sym (index-slice b s e k (omega (arith, m.within, n))) ∙ m.first;
+      second = rw e1 (sym (index-slice b s e (k + 1) (omega (arith, m.within, n))) ∙ m.second);
+      third = rw e2 (rw (← index-slice b s e (k + 2) (omega (arith, m.within, n))) m.third);
+    }
 
 -- a unit's bytes among those that are kept
 pub slice_kept : (g kept : List ℕ) (base s e : ℕ) → kept ≡ drop base g → base ≤ s → slice_range kept (s - base) (e - base) ≡ slice_range g s e
