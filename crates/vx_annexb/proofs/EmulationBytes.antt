@@ -1,10 +1,10 @@
 -- Emulation bytes at places of a list, and the searches for them.
 use Rattle.std.proofs.Common.{◌≡◌, ℕ, zero, suc, ◌+◌, ◌-◌, ◌<◌, ◌≤◌, inl, inr, true, false, List, [], ◌∷◌, ◌++◌, length, take, drop, slice_index, sym, ap, ◌∙◌, arith, refl, ⊎_elim, add-one, append_assoc, length-drop, get_or-drop}
-use Rattle.std.proofs.lemmas.Bool.{cases_lt, and_parts, and_from, leb-true, le-leb, eqb-true, eq-eqb, false_from_ne_true, false≢true}
-use Rattle.std.proofs.lemmas.List.{get_or_past, take_more, append-nil}
+use Rattle.std.proofs.lemmas.Bool.{cases_lt, cases_Bool, and_parts, and_from, leb-true, le-leb, eqb-true, eq-eqb, false_from_ne_true, false≢true}
+use Rattle.std.proofs.lemmas.List.{get_or_past, length_push, take_more, append-nil}
 use Rattle.vx_annexb.specs.Places.{IsMark}
 use Rattle.vx_annexb.specs.Emulation.{is_emulation, BreaksRule, unescaped_to}
-use Rattle.vx_annexb.proofs.Places.{mark_wider}
+use Rattle.vx_annexb.proofs.Places.{index_on, mark_before, mark_wider}
 
 -- an emulation byte, part by part
 pub record EmulationAt (n : List ℕ) (k : ℕ) : Type 0 where
@@ -60,6 +60,21 @@ unescaped_skip n k e = rw (add-one k, e) refl
 
 pub unescaped_keep : (n : List ℕ) (k : ℕ) → is_emulation n k ≡ false → unescaped_to n (k + 1) ≡ unescaped_to n k ++ slice_index n k ∷ []
 unescaped_keep n k e = rw (add-one k, e) refl
+
+-- however the bytes go on, none among them comes to break a rule
+pub breaks_before : (n more : List ℕ) (k : ℕ) → k < length n → BreaksRule (n ++ more) k → BreaksRule n k
+breaks_before n more k lt (inl x) = inl (x.0, mark_before n more 2 (k - 2) (omega (arith, x.0)) x.1)
+breaks_before n more k lt (inr x) = inr (x.0, lt, sym (same_emulation (n ++ more) n (k - 1) (λ i le. index_on n more i (omega arith))) ∙ x.2, rw (index_on n more k lt) at x.3)
+
+-- no more bytes are left than were taken
+pub unescaped_size : (n : List ℕ) (k : ℕ) → length (unescaped_to n k) ≤ k
+unescaped_size n zero = omega arith
+unescaped_size n (suc k) =
+    let before = unescaped_size n k in
+    ⊎_elim
+    (λ marked. let skip = ap length (unescaped_skip n k marked) in let here = rw add-one at skip in omega (arith, here, before))
+    (λ plain. let keep = ap length (unescaped_keep n k plain) in let here = rw add-one at keep in omega (arith, here, before, length_push (unescaped_to n k) (slice_index n k)))
+    (cases_Bool (is_emulation n k))
 
 -- bytes among which no emulation byte stands are kept
 pub unescaped_run : (n : List ℕ) (at d : ℕ) → at + d ≤ length n → ((k : ℕ) → at ≤ k → k < at + d → is_emulation n k ≡ false) → unescaped_to n (at + d) ≡ unescaped_to n at ++ take d (drop at n)

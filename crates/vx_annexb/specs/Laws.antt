@@ -1,9 +1,9 @@
 -- What the definition of a byte stream comes to, apart from any program.
-use Rattle.std.specs.Prelude.{◌≡◌, ℕ, ◌+◌, ◌<◌, Bool, true, false, List, [], ◌∷◌, ◌++◌, Option, Some, None, flat_map, length, replicate, take}
+use Rattle.std.specs.Prelude.{◌≡◌, ℕ, ◌+◌, ◌≤◌, Bool, true, false, List, [], ◌∷◌, ◌++◌, Option, Some, None, drop, flat_map, length, replicate, take}
 use Rattle.vx_bits.specs.declared.refusal.Refusal.{Refusal}
 use Rattle.vx_bits.specs.declared.refusal.Refusal.TheVariants.{Framing}
 use Rattle.vx_annexb.specs.Places.{IsMark}
-use Rattle.vx_annexb.specs.Emulation.{BreaksRule, EndsInNoZero, unescaped, IsEscaped}
+use Rattle.vx_annexb.specs.Emulation.{BreaksRule, EndsInNoZero, unescaped_to, unescaped, IsEscaped}
 use Rattle.vx_annexb.specs.ByteStream.{not_a_start_code, UnitPlace, IsSound, IsStream}
 
 -- the bytes determine the units and the ending
@@ -66,11 +66,15 @@ EscapedIsUnique = (r n m : List ℕ) → IsEscaped r n → IsEscaped r m → n �
 abbrev pub EscapedExists : Type 0
 EscapedExists = (r : List ℕ) → EndsInNoZero r → (n : List ℕ) × IsEscaped r n
 
--- behind bytes that don't end in 00 the escaped form goes on as it would begin
-abbrev pub EscapedHasSeam : Type 0
-EscapedHasSeam =
-    (h p m n : List ℕ) → 0 < length h → EndsInNoZero h → IsEscaped h m → IsEscaped (h ++ p) n
-    → (q : List ℕ) × IsEscaped p q × (n ≡ m ++ q)
+-- one behind the other, the escaped forms of bytes that don't end in 00 and of any others are that of both
+abbrev pub EscapedJoins : Type 0
+EscapedJoins = (h p m q : List ℕ) → EndsInNoZero h → IsEscaped h m → IsEscaped p q → IsEscaped (h ++ p) (m ++ q)
+
+-- where the first k bytes don't end in 00, the place behind them splits the escaped form into theirs and that of the rest
+abbrev pub EscapedSplits : Type 0
+EscapedSplits =
+    (r n : List ℕ) (k place : ℕ) → IsEscaped r n → place ≤ length n → length (unescaped_to n place) ≡ k → EndsInNoZero (take k r)
+    → IsEscaped (take k r) (take place n) × IsEscaped (drop k r) (drop place n)
 
 -- unescape undoes escape, and escape undoes unescape
 abbrev pub EscapedIsInverse : Type 0

@@ -40,6 +40,7 @@ pub(crate) fn fault_from(unit: &[u8], from: usize) -> Option<usize>
 pub fn unescape(alloc: Global, unit: &[u8]) -> Result<Vec<u8>, AllocError>
     requires { (k : ℕ) → ¬ BreaksRule unit.now k }
     ensures value { IfOk result (λ bytes. bytes.items ≡ unescaped unit.now) }
+    ensures size { IfOk result (λ bytes. length bytes.items ≤ length unit.now) }
     ensures escaped { EndsInNoZero unit.now → IfOk result (λ bytes. IsEscaped bytes.items unit.now) }
 {
     let mut bytes = Vec::with_capacity(alloc, unit.len())?;

@@ -1,5 +1,5 @@
 //! Laws of the byte stream: functions that do nothing, each with a law as its contract.
-ghost use Rattle.vx_annexb.specs.Laws.{StreamIsUnique, StreamExists, StreamGoesOn, StreamIsAnnexB, AnnexBIsStream, EscapedIsUnique, EscapedExists, EscapedHasSeam, EscapedIsInverse, StrayEndsStream};
+ghost use Rattle.vx_annexb.specs.Laws.{StreamIsUnique, StreamExists, StreamGoesOn, StreamIsAnnexB, AnnexBIsStream, EscapedIsUnique, EscapedExists, EscapedJoins, EscapedSplits, EscapedIsInverse, StrayEndsStream};
 
 /// The bytes determine their units and the ending behind them.
 pub fn stream_is_unique()
@@ -36,9 +36,14 @@ pub fn escaped_exists()
     ensures { EscapedExists }
 {}
 
-/// Behind bytes that don't end in 00 the escaped form goes on as it would begin: a payload is passed on as it stands.
-pub fn escaped_has_seam()
-    ensures { EscapedHasSeam }
+/// Behind bytes that don't end in 00 the escaped form of any others stands as it is: so a payload is passed on.
+pub fn escaped_joins()
+    ensures { EscapedJoins }
+{}
+
+/// The place behind bytes that don't end in 00 splits an escaped form into theirs and that of the rest.
+pub fn escaped_splits()
+    ensures { EscapedSplits }
 {}
 
 /// Unescaping and escaping undo one another.
