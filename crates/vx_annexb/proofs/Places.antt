@@ -75,18 +75,6 @@ length-slice b s e le within = length-take-le (e - s) (drop s b) (omega (arith, 
 pub index-slice : (b : List ℕ) (s e k : ℕ) → k < e - s → slice_index (slice_range b s e) k ≡ slice_index b (s + k)
 index-slice b s e k lt = get_or-take (e - s) (drop s b) k 0 lt ∙ get_or-drop s b k 0
 
-pub mark_slice : (most : ℕ) (b : List ℕ) (s e k : ℕ) → s ≤ e → e ≤ length b → IsMark most (slice_range b s e) k → IsMark most b (s + k)
-mark_slice most b s e k le within m =
-    let n = length-slice b s e le within in
-    let e1 : s + k + 1 ≡ s + (k + 1) = omega arith in
-    let e2 : s + k + 2 ≡ s + (k + 2) = omega arith in
-    record {
-      within = omega (arith, m.within, n);
-      first = sym (index-slice b s e k (omega (arith, m.within, n))) ∙ m.first;
-      second = rw e1 (sym (index-slice b s e (k + 1) (omega (arith, m.within, n))) ∙ m.second);
-      third = rw e2 (rw (← index-slice b s e (k + 2) (omega (arith, m.within, n))) m.third);
-    }
-
 -- a unit's bytes among those that are kept
 pub slice_kept : (g kept : List ℕ) (base s e : ℕ) → kept ≡ drop base g → base ≤ s → slice_range kept (s - base) (e - base) ≡ slice_range g s e
 slice_kept g kept base s e is le =

@@ -1,7 +1,7 @@
 -- The escaped form of bytes is one, and can be split and joined behind a byte that is no zero.
 use Rattle.std.proofs.Common.{◌≡◌, ℕ, zero, suc, ◌+◌, ◌-◌, ◌<◌, ◌≤◌, inl, inr, true, false, List, [], ◌∷◌, ◌++◌, length, take, drop, slice_index, sym, ap, ap₂, subst, ◌∙◌, arith, refl, ⊎_elim, add-one, append_assoc, length-append, length-drop, get_or-drop, get_or-take}
 use Rattle.std.proofs.lemmas.Bool.{cases_lt, cases_eq, cases_Bool, cases_order, false_from_ne_true, false≢true}
-use Rattle.std.proofs.lemmas.List.{get_or_push, get_or-append-add, length_push, take-append-drop, take_at, drop_at, append_cancel_left, append-nil, length-take-le, ext_get_or}
+use Rattle.std.proofs.lemmas.List.{get_or_push, get_or-append-add, length_push, take-append-drop, take_at, take_all, drop_at, drop_all, append_cancel_left, append-nil, length-take-le, ext_get_or}
 use Rattle.vx_annexb.specs.Emulation.{is_emulation, BreaksRule, EndsInNoZero, unescaped_to, unescaped, IsEscaped}
 use Rattle.vx_annexb.specs.Laws.{EscapedIsUnique, EscapedJoins, EscapedSplits}
 use Rattle.vx_annexb.proofs.Places.{index_on, mark_kept, mark_on, mark_stream}
@@ -247,14 +247,22 @@ split_at n (suc j) within last r p e split =
     (front_escaped n (suc j) within nonzero (omega arith) r (unescaped_to n (suc j)) e refl, rest_escaped n (suc j) within nonzero (omega arith) r p e split)
 
 pub escaped_splits : EscapedSplits
-escaped_splits r n k place e within count last =
+escaped_splits r n k place e count last = ⊎_elim
+    (λ past.
+    let f : length n + (place - length n) ≡ place = omega arith in
+    let more = unescaped_more n (length n) (place - length n) in
+    let longer : unescaped_to n place ≡ unescaped n ++ more.0 = rw f at more.1 in
+    let all_taken : length r ≤ k = omega (arith, ap length e.is, ap length longer, length-append (unescaped n) more.0, count) in
+    (rw (take_all k r all_taken, take_all place n (omega arith)) e, rw (drop_all k r all_taken, drop_all place n (omega arith)) nothing_escaped))
+    (λ within.
     let front = unescaped_front n place within in
     let split : r ≡ unescaped_to n place ++ front.0 = e.is ∙ front.1 in
     let head : take k r ≡ unescaped_to n place = ap (take k) split ∙ take_at (unescaped_to n place) front.0 k count in
     let rest : drop k r ≡ front.0 = ap (drop k) split ∙ drop_at (unescaped_to n place) front.0 k count in
     let P : List ℕ → Type 0 = λ xs. EndsInNoZero xs in
     let both = split_at n place within (subst P head last) r front.0 e split in
-    (rw head both.0, rw rest both.1)
+    (rw head both.0, rw rest both.1))
+    (cases_lt (length n) place)
 
 -- An escaped form behind that of bytes that don't end in 00, whose last byte stands at place j.
 module _ (h m p q : List ℕ) (last : EndsInNoZero h) (eh : IsEscaped h m) (ep : IsEscaped p q) (j : ℕ) (len : length m ≡ j + 1) where
