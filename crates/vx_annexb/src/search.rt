@@ -75,7 +75,8 @@ pub(crate) fn find_mark(bytes: &[u8], from: usize, most: u8) -> Option<usize>
     None
 }
 
-/// The first place from `from` on at which 00 00 and a byte of at most `most` stand or, with more bytes, may stand.
+/// The first place from `from` on at which 00 00 and a byte of at most `most` stand, or from which fewer than three
+/// bytes are there to tell.
 pub(crate) fn pass_to_mark(bytes: &[u8], from: usize, most: u8) -> usize
     requires { from ≤ length bytes.now }
     ensures order { from ≤ result }
