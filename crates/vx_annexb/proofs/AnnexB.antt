@@ -1,11 +1,14 @@
 -- The places of a byte stream are those of Annex B's concatenation, in both directions.
-use Rattle.std.proofs.Common.{◌≡◌, ℕ, zero, suc, ◌+◌, ◌-◌, ◌<◌, ◌≤◌, inl, inr, true, List, [], ◌∷◌, ◌++◌, length, take, drop, replicate, slice_index, slice_range, flat_map, sym, ap, ap₂, subst, ◌∙◌, arith, refl, ⊎_elim, append_assoc, length-append}
+use Rattle.std.proofs.Common.{◌≡◌, ℕ, zero, suc, ◌+◌, ◌-◌, ◌<◌, ◌≤◌, inl, inr, Bool, true, List, [], ◌∷◌, ◌++◌, length, take, drop, replicate, slice_index, slice_range, flat_map, map, sym, ap, ap₂, subst, ◌∙◌, arith, refl, ⊎_elim, append_assoc, length-append}
 use Rattle.std.proofs.lemmas.List.{length-replicate, get_or-replicate, get_or_append_left, get_or-append-add, take-append-drop, drop-drop, drop_more, drop_all, take_at, drop_at}
+use Rattle.std.proofs.lemmas.List.Elements.{All-cons, All-head, All-nil, All-tail}
 use Rattle.std.proofs.lemmas.Bool.{cases_lt}
-use Rattle.vx_annexb.proofs.Places.{length-slice, index-slice}
-use Rattle.vx_annexb.specs.Places.{AreZeros, IsMark}
+use Rattle.std.specs.List.{All}
+use Rattle.vx_annexb.proofs.Places.{length-slice, index-slice, mark_wider}
+use Rattle.vx_annexb.specs.Places.{AreZeros}
+use Rattle.vx_annexb.specs.Emulation.{BreaksRule, EndsInNoZero}
 use Rattle.vx_annexb.specs.ByteStream.{StartsAt, CanEnd, UnitPlace, unit_bytes, IsUnit, FollowsFrom, end_of}
-use Rattle.vx_annexb.specs.Laws.{Part, part_bytes, annex_b, places_from, HoldsNoCode, AreSound, StreamIsAnnexB, AnnexBIsStream}
+use Rattle.vx_annexb.specs.Laws.{Part, part_bytes, annex_b, places_from, units_of, CanStand, HoldsNoCode, UnitsCanStand, StreamIsAnnexB, AnnexBIsStream}
 
 length-zeros : (z : ℕ) → length {A = ℕ} (replicate z 0) ≡ z
 length-zeros z = length-replicate {A = ℕ} z 0
@@ -25,8 +28,12 @@ unit_drop b s e le =
     let n : s + (e - s) ≡ e = omega arith in
     sym (take-append-drop (e - s) (drop s b)) ∙ ap (λ xs. slice_range b s e ++ xs) (drop-drop (e - s) s b ∙ ap (λ k. drop k b) n)
 
--- a unit of the stream holds no start code
-module _ (b : List ℕ) (p : ℕ) (u : UnitPlace) (is : IsUnit b true p u) where
+-- where no byte breaks a rule no start code stands
+no_code : (unit : List ℕ) → ((k : ℕ) → ¬ BreaksRule unit k) → HoldsNoCode unit
+no_code unit rules k m = let e : k + 2 - 2 ≡ k = omega arith in rules (k + 2) (inl (omega arith, rw e (mark_wider 1 2 unit k (omega arith) m)))
+
+-- a unit of the stream doesn't end in 00
+module _ (b : List ℕ) (all : Bool) (p : ℕ) (u : UnitPlace) (is : IsUnit b all p u) where
   unit_within : u.end ≤ length b
   unit_within = ⊎_elim (λ m. omega (arith, m.within)) (λ z. z.1.order) is.ends.here
 
@@ -36,22 +43,11 @@ module _ (b : List ℕ) (p : ℕ) (u : UnitPlace) (is : IsUnit b true p u) where
   at_unit : (k : ℕ) → k < u.end - u.start → slice_index (unit_bytes b u) k ≡ slice_index b (u.start + k)
   at_unit = index-slice b u.start u.end
 
-  no_mark : (k : ℕ) → ¬ IsMark 1 (unit_bytes b u) k
-  no_mark k m =
-      let e1 : u.start + k + 1 ≡ u.start + (k + 1) = omega arith in
-      let e2 : u.start + k + 2 ≡ u.start + (k + 2) = omega arith in
-      is.ends.before (u.start + k) (omega arith) (omega (arith, m.within, len_is)) (inl (record {
-        within = omega (arith, m.within, len_is, unit_within);
-        first = sym (at_unit k (omega (arith, m.within, len_is))) ∙ m.first;
-        second = rw e1 (sym (at_unit (k + 1) (omega (arith, m.within, len_is))) ∙ m.second);
-        third = rw e2 (rw (← at_unit (k + 2) (omega (arith, m.within, len_is))) m.third);
-      }))
-
-  last : (k : ℕ) → length (unit_bytes b u) ≡ k + 1 → slice_index (unit_bytes b u) k ≡ 0 → ⊥
+  last : EndsInNoZero (unit_bytes b u)
   last k len zero_is =
       let e : u.start + k + 1 ≡ u.end = omega (arith, len, len_is) in
       let here : slice_index b (u.start + k) ≡ 0 = sym (at_unit k (omega (arith, len, len_is))) ∙ zero_is in
-      let ends : CanEnd b true (u.start + k) = ⊎_elim
+      let ends : CanEnd b all (u.start + k) = ⊎_elim
       (λ m. inl (record {
         within = omega (arith, m.within);
         first = here;
@@ -59,7 +55,7 @@ module _ (b : List ℕ) (p : ℕ) (u : UnitPlace) (is : IsUnit b true p u) where
         third = let e2 : u.start + k + 2 ≡ u.end + 1 = omega arith in rw (e2, m.second) (omega arith);
       }))
       (λ z. inr (
-        refl,
+        z.0,
         record {
           order = omega (arith, z.1.order);
           within = omega arith;
@@ -69,12 +65,16 @@ module _ (b : List ℕ) (p : ℕ) (u : UnitPlace) (is : IsUnit b true p u) where
       is.ends.here in
       is.ends.before (u.start + k) (omega arith) (omega arith) ends
 
-  no_code : HoldsNoCode (unit_bytes b u)
-  no_code = record { no_mark = no_mark; last = last }
+pub units_can_stand : UnitsCanStand
+units_can_stand b all p [] f = All-nil (λ u. CanStand (unit_bytes b u) × HoldsNoCode (unit_bytes b u))
+units_can_stand b all p (u ∷ us) f =
+    All-cons (λ v. CanStand (unit_bytes b v) × HoldsNoCode (unit_bytes b v)) u us
+    (record { last = last b all p u f.0; sound = f.1 }, no_code (unit_bytes b u) f.1.emulation)
+    (units_can_stand b all u.end us f.2)
 
 -- what follows place p is zeros and parts
 Parts : List ℕ → ℕ → List UnitPlace → Type 0
-Parts b p us = (z : ℕ) × (parts : List Part) × (drop p b ≡ replicate z 0 ++ flat_map part_bytes parts) × (us ≡ places_from (p + z) parts) × AreSound parts
+Parts b p us = (z : ℕ) × (parts : List Part) × (drop p b ≡ replicate z 0 ++ flat_map part_bytes parts) × (us ≡ places_from (p + z) parts) × All CanStand (units_of parts)
 
 parts_from : (b : List ℕ) (p : ℕ) (us : List UnitPlace) → FollowsFrom b true p us → AreZeros b (end_of p us) (length b) → Parts b p us
 unfolding Parts
@@ -82,7 +82,7 @@ parts_from b p [] f z =
     let n : p + (length b - p) ≡ length b = omega (arith, z.order) in
     let e = zeros_drop b (length b - p) p (rw n z) in
     let rest : drop (length b) b ≡ [] = drop_all (length b) b (omega arith) in
-    (length b - p, [], rw (n, rest) at e, refl, tt)
+    (length b - p, [], rw (n, rest) at e, refl, All-nil CanStand)
 parts_from b p (u ∷ us) f z =
     let rest = parts_from b u.end us f.2 z in
     let starts = f.0.starts in
@@ -104,15 +104,15 @@ parts_from b p (u ∷ us) f z =
     let joined : unit ++ (replicate rest.0 0 ++ flat_map part_bytes rest.1) ≡ (unit ++ replicate rest.0 0) ++ flat_map part_bytes rest.1 = sym (append_assoc unit (replicate rest.0 0) (flat_map part_bytes rest.1)) in
     let head = zeros_drop b (u.start - 3 - p) p front in
     let place : p + (u.start - 3 - p) + 3 ≡ u.start = omega (arith, starts.prefix) in
-    let end : p + (u.start - 3 - p) + 3 + length unit ≡ u.end = omega (arith, len_is b p u f.0, f.0.ends.order, starts.prefix) in (
+    let end : p + (u.start - 3 - p) + 3 + length unit ≡ u.end = omega (arith, len_is b true p u f.0, f.0.ends.order, starts.prefix) in (
       u.start - 3 - p,
       record { unit = unit; zeros = rest.0 } ∷ rest.1,
       head ∙ ap (λ xs. replicate (u.start - 3 - p) 0 ++ xs) (ap (λ k. drop k b) n ∙ codes ∙ ap (λ xs. 0 ∷ 0 ∷ 1 ∷ xs) (all ∙ joined)),
       ap₂ (λ (x : UnitPlace) (xs : List UnitPlace). x ∷ xs) (ap₂ (λ (s t : ℕ). let w : UnitPlace = record { start = s; end = t } in w) (sym place) (sym end)) (rest.3 ∙ ap (λ k. places_from (k + rest.0) rest.1) (sym end)),
-      (no_code b p u f.0, f.1, rest.4),
+      All-cons CanStand unit (units_of rest.1) (record { last = last b true p u f.0; sound = f.1 }) rest.4,
     )
 
-from_start : (b : List ℕ) (us : List UnitPlace) → Parts b 0 us → (zeros : ℕ) × (parts : List Part) × (b ≡ annex_b zeros parts) × (us ≡ places_from zeros parts) × AreSound parts
+from_start : (b : List ℕ) (us : List UnitPlace) → Parts b 0 us → (zeros : ℕ) × (parts : List Part) × (b ≡ annex_b zeros parts) × (us ≡ places_from zeros parts) × All CanStand (units_of parts)
 unfolding Parts
 from_start b us parts =
     let none : 0 + parts.0 ≡ parts.0 = omega arith in
@@ -187,7 +187,7 @@ module _ (before : List ℕ) (z : ℕ) (unit rest : List ℕ) (p : ℕ) (is : le
       rw (n, split) (ap (take (length unit)) (drop_at front (unit ++ rest) (p + z + 3) len) ∙ take_at unit rest (length unit) refl)
 
   -- no end before the unit's own
-  not_before : HoldsNoCode unit → (k : ℕ) → p + z + 3 ≤ k → k < p + z + 3 + length unit → ¬ CanEnd (whole before z unit rest) true k
+  not_before : CanStand unit → (k : ℕ) → p + z + 3 ≤ k → k < p + z + 3 + length unit → ¬ CanEnd (whole before z unit rest) true k
   not_before plain k le lt c =
       let s = p + z + 3 in
       let n : length unit ≡ length unit - 1 + 1 = omega arith in
@@ -196,7 +196,7 @@ module _ (before : List ℕ) (z : ℕ) (unit rest : List ℕ) (p : ℕ) (is : le
       let last_is : slice_index b (s + (length unit - 1)) ≡ 0 → ⊥ = λ zero_is. plain.last (length unit - 1) n (sym (in_unit (length unit - 1) (omega arith)) ∙ zero_is) in
       ⊎_elim
       (λ m. ⊎_elim
-      (λ inner. plain.no_mark (k - s) (record {
+      (λ inner. no_code unit plain.sound.emulation (k - s) (record {
         within = omega arith;
         first = sym (in_unit (k - s) (omega arith)) ∙ ap (slice_index b) e ∙ m.first;
         second = let e1 : s + (k - s + 1) ≡ k + 1 = omega arith in sym (in_unit (k - s + 1) (omega arith)) ∙ ap (slice_index b) e1 ∙ m.second;
@@ -239,31 +239,39 @@ rest_ends b e (suc (suc (suc z))) (q ∷ qs) len at = code_ends b e 0 _ len at (
 
 -- the units of parts behind other bytes
 Follow : List ℕ → ℕ → ℕ → List Part → Type 0
-Follow b p z parts = FollowsFrom b true p (places_from (p + z) parts) × AreZeros b (end_of p (places_from (p + z) parts)) (length b)
+Follow b p z parts =
+    FollowsFrom b true p (places_from (p + z) parts)
+    × AreZeros b (end_of p (places_from (p + z) parts)) (length b)
+    × (map (unit_bytes b) (places_from (p + z) parts) ≡ units_of parts)
 
-follow_parts : (before : List ℕ) (p z : ℕ) (parts : List Part) → length before ≡ p → AreSound parts → Follow (before ++ (replicate z 0 ++ flat_map part_bytes parts)) p z parts
+follow_parts : (before : List ℕ) (p z : ℕ) (parts : List Part) → length before ≡ p → All CanStand (units_of parts) → Follow (before ++ (replicate z 0 ++ flat_map part_bytes parts)) p z parts
 unfolding Follow whole
 follow_parts before p z [] len sound =
     let at : (k : ℕ) → slice_index (before ++ (replicate z 0 ++ [])) (p + k) ≡ slice_index (replicate z 0 ++ []) k = λ k. rw (← len) (get_or-append-add before (replicate z 0 ++ []) k 0) in
-    (tt, zeros_to_end (before ++ (replicate z 0 ++ [])) p z (omega (arith, length-append before (replicate z 0 ++ []), len)) at)
+    (tt, zeros_to_end (before ++ (replicate z 0 ++ [])) p z (omega (arith, length-append before (replicate z 0 ++ []), len)) at, refl)
 follow_parts before p z (q ∷ qs) len sound =
     let rest = replicate q.zeros 0 ++ flat_map part_bytes qs in
     let same : before ++ (replicate z 0 ++ flat_map part_bytes (q ∷ qs)) ≡ whole before z q.unit rest = ap (λ xs. before ++ (replicate z 0 ++ (0 ∷ 0 ∷ 1 ∷ xs))) (append_assoc q.unit (replicate q.zeros 0) (flat_map part_bytes qs)) in
     let e = p + z + 3 + length q.unit in
     let before2 : List ℕ = before ++ (replicate z 0 ++ (0 ∷ 0 ∷ 1 ∷ q.unit)) in
     let len2 : length before2 ≡ e = simp (length-append, length-replicate) (omega (arith, len)) in
-    let later = follow_parts before2 e q.zeros qs len2 sound.2 in
+    let stands = All-head CanStand q.unit (units_of qs) sound in
+    let later = follow_parts before2 e q.zeros qs len2 (All-tail CanStand q.unit (units_of qs) sound) in
     let same2 : before2 ++ rest ≡ whole before z q.unit rest = append_assoc before (replicate z 0 ++ (0 ∷ 0 ∷ 1 ∷ q.unit)) rest ∙ ap (λ xs. before ++ xs) (append_assoc (replicate z 0) (0 ∷ 0 ∷ 1 ∷ q.unit) rest) in
-    let P : List ℕ → Type 0 = λ b. FollowsFrom b true p (places_from (p + z) (q ∷ qs)) × AreZeros b (end_of p (places_from (p + z) (q ∷ qs))) (length b) in
-    let Q : List ℕ → Type 0 = λ b. FollowsFrom b true e (places_from (e + q.zeros) qs) × AreZeros b (end_of e (places_from (e + q.zeros) qs)) (length b) in
+    let P : List ℕ → Type 0 = λ b. Follow b p z (q ∷ qs) in
+    let Q : List ℕ → Type 0 = λ b. Follow b e q.zeros qs in
     let after : Q (whole before z q.unit rest) = subst Q same2 later in
     let ends = rest_ends (whole before z q.unit rest) e q.zeros qs (length-whole before z q.unit rest p len) (at_rest before z q.unit rest p len) in
     let place : UnitPlace = record { start = p + z + 3; end = e } in
     let is : IsUnit (whole before z q.unit rest) true p place = record {
       starts = code_starts before z q.unit rest p len;
-      ends = record { order = omega arith; here = ends; before = not_before before z q.unit rest p len sound.0 };
+      ends = record { order = omega arith; here = ends; before = not_before before z q.unit rest p len stands };
     } in
-    let holds : P (whole before z q.unit rest) = ((is, rw (unit_is before z q.unit rest p len) sound.1, after.0), after.1) in
+    let holds : P (whole before z q.unit rest) = (
+      (is, rw (unit_is before z q.unit rest p len) stands.sound, after.0),
+      after.1,
+      ap₂ (λ (x : List ℕ) (xs : List (List ℕ)). x ∷ xs) (unit_is before z q.unit rest p len) after.2,
+    ) in
     subst P (sym same) holds
 
 pub annex_b_is_stream : AnnexBIsStream
@@ -271,6 +279,9 @@ unfolding Follow
 annex_b_is_stream z parts sound =
     let f = follow_parts [] 0 z parts refl sound in
     let none : 0 + z ≡ z = omega arith in
-    let P : ℕ → Type 0 = λ k. FollowsFrom (annex_b z parts) true 0 (places_from k parts) × AreZeros (annex_b z parts) (end_of 0 (places_from k parts)) (length (annex_b z parts)) in
+    let P : ℕ → Type 0 = λ k.
+    FollowsFrom (annex_b z parts) true 0 (places_from k parts)
+    × AreZeros (annex_b z parts) (end_of 0 (places_from k parts)) (length (annex_b z parts))
+    × (map (unit_bytes (annex_b z parts)) (places_from k parts) ≡ units_of parts) in
     let g : P z = subst P none f in
-    record { follow = g.0; behind = inl g.1 }
+    (record { follow = g.0; behind = inl g.1 }, g.2)

@@ -1,9 +1,10 @@
 -- Emulation bytes at places of a list, and the searches for them.
 use Rattle.std.proofs.Common.{◌≡◌, ℕ, zero, suc, ◌+◌, ◌-◌, ◌<◌, ◌≤◌, inl, inr, true, false, List, [], ◌∷◌, ◌++◌, length, take, drop, slice_index, sym, ap, ◌∙◌, arith, refl, ⊎_elim, add-one, append_assoc, length-drop, get_or-drop}
-use Rattle.std.proofs.lemmas.Bool.{cases_lt, and_parts, and_from, leb-true, le-leb, eqb-true, eq-eqb, false_from_ne_true, false≢true}
-use Rattle.std.proofs.lemmas.List.{get_or_past, take_more, append-nil}
+use Rattle.std.proofs.lemmas.Bool.{cases_lt, cases_Bool, and_parts, and_from, leb-true, le-leb, eqb-true, eq-eqb, false_from_ne_true, false≢true}
+use Rattle.std.proofs.lemmas.List.{get_or_past, length_push, take_more, append-nil}
 use Rattle.vx_annexb.specs.Places.{IsMark}
 use Rattle.vx_annexb.specs.Emulation.{is_emulation, BreaksRule, unescaped_to}
+use Rattle.vx_annexb.proofs.Places.{index_on, mark_before, mark_wider}
 
 -- an emulation byte, part by part
 pub record EmulationAt (n : List ℕ) (k : ℕ) : Type 0 where
@@ -60,6 +61,21 @@ unescaped_skip n k e = rw (add-one k, e) refl
 pub unescaped_keep : (n : List ℕ) (k : ℕ) → is_emulation n k ≡ false → unescaped_to n (k + 1) ≡ unescaped_to n k ++ slice_index n k ∷ []
 unescaped_keep n k e = rw (add-one k, e) refl
 
+-- however the bytes go on, none among them comes to break a rule
+pub breaks_before : (n more : List ℕ) (k : ℕ) → k < length n → BreaksRule (n ++ more) k → BreaksRule n k
+breaks_before n more k lt (inl x) = inl (x.0, mark_before n more 2 (k - 2) (omega (arith, x.0)) x.1)
+breaks_before n more k lt (inr x) = inr (x.0, lt, sym (same_emulation (n ++ more) n (k - 1) (λ i le. index_on n more i (omega arith))) ∙ x.2, rw (index_on n more k lt) at x.3)
+
+-- no more bytes are left than were taken
+pub unescaped_size : (n : List ℕ) (k : ℕ) → length (unescaped_to n k) ≤ k
+unescaped_size n zero = omega arith
+unescaped_size n (suc k) =
+    let before = unescaped_size n k in
+    ⊎_elim
+    (λ marked. let skip = ap length (unescaped_skip n k marked) in let here = rw add-one at skip in omega (arith, here, before))
+    (λ plain. let keep = ap length (unescaped_keep n k plain) in let here = rw add-one at keep in omega (arith, here, before, length_push (unescaped_to n k) (slice_index n k)))
+    (cases_Bool (is_emulation n k))
+
 -- bytes among which no emulation byte stands are kept
 pub unescaped_run : (n : List ℕ) (at d : ℕ) → at + d ≤ length n → ((k : ℕ) → at ≤ k → k < at + d → is_emulation n k ≡ false) → unescaped_to n (at + d) ≡ unescaped_to n at ++ take d (drop at n)
 unescaped_run n at zero le none = let e : at + 0 ≡ at = omega arith in rw e (sym (append-nil (unescaped_to n at)))
@@ -71,27 +87,32 @@ unescaped_run n at (suc d) le none =
     rw e last ∙ ap (λ xs. xs ++ slice_index n (at + d) ∷ []) before ∙ append_assoc (unescaped_to n at) (take d (drop at n)) (slice_index n (at + d) ∷ [])
     ∙ ap (λ xs. unescaped_to n at ++ xs) (ap (λ (x : ℕ). take d (drop at n) ++ x ∷ []) (sym (get_or-drop at n d 0)) ∙ sym more ∙ ap (λ k. take k (drop at n)) (add-one d))
 
--- Searches that go on from a place behind a byte that is no zero.
-module _ (n : List ℕ) (at : ℕ) (behind : 0 < at → slice_index n (at - 1) ≡ 0 → ⊥) where
-  pub mark_from : (most j : ℕ) → IsMark most n j → at ≤ j + 2 → at ≤ j
-  mark_from most j m le = ⊎_elim
-      (λ below. ⊎_elim
-      (λ one. let e : at - 1 ≡ j = omega arith in absurd (behind (omega arith) (ap (slice_index n) e ∙ m.first)))
-      (λ two. let e : at - 1 ≡ j + 1 = omega arith in absurd (behind (omega arith) (ap (slice_index n) e ∙ m.second)))
-      (cases_lt at (j + 2)))
-      (λ above. above)
-      (cases_lt j at)
+-- no mark of at most 3 reaches from before this place to its byte or beyond
+abbrev pub StandsApart : List ℕ → ℕ → Type 0
+StandsApart n at = (j : ℕ) → IsMark 3 n j → at ≤ j + 2 → at ≤ j
 
+-- as behind a byte that is no zero
+pub apart_behind : (n : List ℕ) (at : ℕ) → (slice_index n at ≡ 0 → ⊥) → StandsApart n (at + 1)
+apart_behind n at some j m le = ⊎_elim
+    (λ below. ⊎_elim
+    (λ one. let e : at ≡ j = omega arith in absurd (some (ap (slice_index n) e ∙ m.first)))
+    (λ two. let e : at ≡ j + 1 = omega arith in absurd (some (ap (slice_index n) e ∙ m.second)))
+    (cases_lt at (j + 1)))
+    (λ above. above)
+    (cases_lt j (at + 1))
+
+-- Searches that go on from such a place.
+module _ (n : List ℕ) (at : ℕ) (apart : StandsApart n at) where
   -- no emulation byte where no mark was found
   pub no_emulation : (stop : ℕ) → ((j : ℕ) → at ≤ j → j < stop → ¬ IsMark 3 n j) → (k : ℕ) → at ≤ k → k < stop + 2 → is_emulation n k ≡ false
   no_emulation stop none k le lt = false_from_ne_true (is_emulation n k) (λ e.
       let m = emulation_mark n k e in
       let two = (emulation_is n k e).two in
-      none (k - 2) (mark_from 3 (k - 2) m (omega arith)) (omega arith) m)
+      none (k - 2) (apart (k - 2) m (omega arith)) (omega arith) m)
 
   -- no byte that breaks a rule either
   pub no_break : (stop : ℕ) → ((j : ℕ) → at ≤ j → j < stop → ¬ IsMark 3 n j) → (k : ℕ) → at < k → k < stop + 2 → ¬ BreaksRule n k
   no_break stop none k le lt (inl b) =
-      let m : IsMark 3 n (k - 2) = record { within = b.1.within; first = b.1.first; second = b.1.second; third = omega (arith, b.1.third) } in
-      none (k - 2) (mark_from 3 (k - 2) m (omega (arith, b.0))) (omega (arith, b.0)) m
+      let m = mark_wider 2 3 n (k - 2) (omega arith) b.1 in
+      none (k - 2) (apart (k - 2) m (omega (arith, b.0))) (omega (arith, b.0)) m
   no_break stop none k le lt (inr b) = false≢true (sym (no_emulation stop none (k - 1) (omega arith) (omega arith)) ∙ b.2)

@@ -4,8 +4,7 @@ use Rattle.std.proofs.lemmas.Bool.{cases_lt, cases_eq, false_from_ne_true, false
 use Rattle.std.proofs.lemmas.List.{get_or_append_left, get_or_push, length_push, take_more, take_all}
 use Rattle.vx_annexb.specs.Emulation.{is_emulation, BreaksRule, EndsInNoZero, unescaped_to, unescaped, IsEscaped}
 use Rattle.vx_annexb.specs.Laws.{EscapedExists}
-use Rattle.vx_annexb.proofs.Places.{mark_before}
-use Rattle.vx_annexb.proofs.EmulationBytes.{emulation_is, emulation_from, same_emulation, same_unescaped, unescaped_skip, unescaped_keep}
+use Rattle.vx_annexb.proofs.EmulationBytes.{emulation_is, emulation_from, same_emulation, same_unescaped, unescaped_skip, unescaped_keep, breaks_before}
 
 -- z zeros stand at the end of n, and no more
 pub record EndsInZeros (n : List ℕ) (z : ℕ) : Type 0 where
@@ -34,10 +33,7 @@ module _ (n : List ℕ) (b : ℕ) where
 
   push_rules : ((k : ℕ) → ¬ BreaksRule n k) → ¬ BreaksRule (n ++ b ∷ []) (length n) → (k : ℕ) → ¬ BreaksRule (n ++ b ∷ []) k
   push_rules old new k broken = ⊎_elim
-      (λ low. ⊎_elim
-      (λ x. old k (inl (x.0, mark_before n (b ∷ []) 2 (k - 2) (omega (arith, x.0)) x.1)))
-      (λ x. old k (inr (x.0, low, sym (old_emulation (k - 1) (omega arith)) ∙ x.2, (rw (old_index k low) at x.3))))
-      broken)
+      (λ low. old k (breaks_before n (b ∷ []) k low broken))
       (λ high. ⊎_elim
       (λ here. let e : length n ≡ k = omega arith in let P : ℕ → Type 0 = λ j. ¬ BreaksRule (n ++ b ∷ []) j in (subst P e new) broken)
       (λ past. ⊎_elim (λ x. omega (arith, x.0, x.1.within, length_push n b)) (λ x. omega (arith, x.1, length_push n b)) broken)

@@ -10,5 +10,6 @@ pub mod Seam
 pub mod Unique
 pub mod Exists
 pub mod AnnexB
+pub mod Written
 pub mod Inverse
 pub mod Stray

@@ -64,6 +64,10 @@ zeros_mark g k n z lt = record {
   third = rw (z.each (k + 2) (omega arith) lt) (omega arith);
 }
 
+-- a byte of at most `most` is of at most `more`
+pub mark_wider : (most more : ℕ) (b : List ℕ) (k : ℕ) → most ≤ more → IsMark most b k → IsMark more b k
+mark_wider most more b k le m = record { within = m.within; first = m.first; second = m.second; third = omega (arith, m.third) }
+
 -- bytes from place s up to place e
 pub length-slice : (b : List ℕ) (s e : ℕ) → s ≤ e → e ≤ length b → length (slice_range b s e) ≡ e - s
 length-slice b s e le within = length-take-le (e - s) (drop s b) (omega (arith, length-drop s b))

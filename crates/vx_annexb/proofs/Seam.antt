@@ -1,11 +1,12 @@
--- The escaped form of bytes is one, and goes on behind a byte that is no zero as it would begin.
-use Rattle.std.proofs.Common.{◌≡◌, ℕ, zero, suc, ◌+◌, ◌-◌, ◌<◌, ◌≤◌, inl, inr, true, false, List, [], ◌∷◌, ◌++◌, length, take, drop, slice_index, sym, ap, subst, ◌∙◌, arith, refl, ⊎_elim, add-one, append_assoc, length-append, length-drop, get_or-drop, get_or-take}
+-- The escaped form of bytes is one, and can be split and joined behind a byte that is no zero.
+use Rattle.std.proofs.Common.{◌≡◌, ℕ, zero, suc, ◌+◌, ◌-◌, ◌<◌, ◌≤◌, inl, inr, true, false, List, [], ◌∷◌, ◌++◌, length, take, drop, slice_index, sym, ap, ap₂, subst, ◌∙◌, arith, refl, ⊎_elim, add-one, append_assoc, length-append, length-drop, get_or-drop, get_or-take}
 use Rattle.std.proofs.lemmas.Bool.{cases_lt, cases_eq, cases_Bool, cases_order, false_from_ne_true, false≢true}
-use Rattle.std.proofs.lemmas.List.{get_or_push, get_or-append-add, length_push, take-append-drop, take_at, append_cancel_left, append-nil, length-take-le, ext_get_or}
-use Rattle.vx_annexb.specs.Emulation.{is_emulation, BreaksRule, unescaped_to, unescaped, IsEscaped}
-use Rattle.vx_annexb.specs.Laws.{EscapedIsUnique, EscapedHasSeam}
-use Rattle.vx_annexb.proofs.Places.{mark_on, mark_stream}
-use Rattle.vx_annexb.proofs.EmulationBytes.{emulation_is, emulation_from, same_emulation, same_unescaped, unescaped_skip, unescaped_keep}
+use Rattle.std.proofs.lemmas.List.{get_or_push, get_or-append-add, length_push, take-append-drop, take_at, take_all, drop_at, drop_all, append_cancel_left, append-nil, length-take-le, ext_get_or}
+use Rattle.vx_annexb.specs.Emulation.{is_emulation, BreaksRule, EndsInNoZero, unescaped_to, unescaped, IsEscaped}
+use Rattle.vx_annexb.specs.Laws.{EscapedIsUnique, EscapedJoins, EscapedSplits}
+use Rattle.vx_annexb.proofs.Places.{index_on, mark_kept, mark_on, mark_stream}
+use Rattle.vx_annexb.proofs.EmulationBytes.{emulation_is, emulation_from, same_emulation, same_unescaped, unescaped_skip, unescaped_keep, breaks_before}
+use Rattle.vx_annexb.proofs.EscapedBytes.{escape_start, escape_end}
 
 -- what was unescaped stays at the front
 unescaped_more : (n : List ℕ) (k d : ℕ) → (tail : List ℕ) × (unescaped_to n (k + d) ≡ unescaped_to n k ++ tail)
@@ -113,26 +114,25 @@ escaped_unique r n m en em = ⊎_elim
     other)
     (cases_order (length n) (length m))
 
--- the place behind the t-th byte that is no emulation byte
-Reached : List ℕ → ℕ → ℕ → Type 0
-Reached n t most = (k : ℕ) × (k < most) × (is_emulation n k ≡ false) × (length (unescaped_to n (k + 1)) ≡ t)
+-- what was unescaped ends with the last byte, where it doesn't end in 00
+push_no_zero : (xs : List ℕ) (b : ℕ) → EndsInNoZero (xs ++ b ∷ []) → b ≡ 0 → ⊥
+push_no_zero xs b last z = last (length xs) (length_push xs b) (get_or_push xs b 0 (length xs) refl ∙ z)
 
-reach : (n : List ℕ) (t most : ℕ) → 0 < t → t ≤ length (unescaped_to n most) → Reached n t most
-unfolding Reached
-reach n t zero some le = absurd (omega arith)
-reach n t (suc k) some le = ⊎_elim
-    (λ marked.
-    let skip : unescaped_to n (suc k) ≡ unescaped_to n k = (let e = unescaped_skip n k marked in rw add-one at e) in
-    let found = reach n t k some (omega (arith, ap length skip)) in
-    (found.0, omega (arith, found.1), found.2, found.3))
-    (λ plain.
-    let keep : unescaped_to n (suc k) ≡ unescaped_to n k ++ slice_index n k ∷ [] = (let e = unescaped_keep n k plain in rw add-one at e) in
-    let len = ap length keep ∙ length_push (unescaped_to n k) (slice_index n k) in
-    ⊎_elim
-    (λ here. (k, omega arith, plain, rw add-one (omega (arith, len, here))))
-    (λ other. let found = reach n t k some (omega (arith, len)) in (found.0, omega (arith, found.1), found.2, found.3))
-    (cases_eq t (length (unescaped_to n (suc k)))))
-    (cases_Bool (is_emulation n k))
+-- a place behind which what was unescaped doesn't end in 00
+module _ (n : List ℕ) (j : ℕ) (last : EndsInNoZero (unescaped_to n (j + 1))) where
+  last_plain : is_emulation n j ≡ false
+  last_plain = false_from_ne_true (is_emulation n j) (λ e.
+      let at = emulation_is n j e in
+      let i : j - 1 + 1 ≡ j = omega (arith, at.two) in
+      let zero_plain : is_emulation n (j - 1) ≡ false = false_from_ne_true (is_emulation n (j - 1)) (λ f. let three = (emulation_is n (j - 1) f).three in omega (arith, three, at.second)) in
+      let ends : unescaped_to n (j + 1) ≡ unescaped_to n (j - 1) ++ slice_index n (j - 1) ∷ [] = unescaped_skip n j e ∙ ap (unescaped_to n) (sym i) ∙ unescaped_keep n (j - 1) zero_plain in
+      let P : List ℕ → Type 0 = λ xs. EndsInNoZero xs in
+      push_no_zero (unescaped_to n (j - 1)) (slice_index n (j - 1)) (subst P ends last) at.second)
+
+  last_nonzero : slice_index n j ≡ 0 → ⊥
+  last_nonzero =
+      let P : List ℕ → Type 0 = λ xs. EndsInNoZero xs in
+      push_no_zero (unescaped_to n j) (slice_index n j) (subst P (unescaped_keep n j last_plain) last)
 
 -- Behind a byte that is no zero and no emulation byte.
 module _ (n : List ℕ) (k : ℕ) (within : k ≤ length n) (behind : 0 < k → slice_index n (k - 1) ≡ 0 → ⊥) (some : 0 < k) where
@@ -230,23 +230,108 @@ module _ (n : List ℕ) (k : ℕ) (within : k ≤ length n) (behind : 0 < k → 
         is = is ∙ sym (same_unescaped (take k n) n k (λ i lt. get_or-take k n i 0 lt)) ∙ ap (unescaped_to (take k n)) (sym len);
       }
 
-pub escaped_seam : EscapedHasSeam
-unfolding Reached
-escaped_seam h p m n some last eh e =
-    let front_len : length h ≤ length (unescaped n) = omega (arith, ap length e.is, length-append h p) in
-    let found = reach n (length h) (length n) some front_len in
-    let k : ℕ = found.0 + 1 in
-    let keep = unescaped_keep n found.0 found.2 in
-    let front = unescaped_front n (found.0 + 1) (omega (arith, found.1)) in
-    let both : h ++ p ≡ unescaped_to n (found.0 + 1) ++ front.0 = e.is ∙ front.1 in
-    let head : h ≡ unescaped_to n (found.0 + 1) = sym (take_at h p (length h) refl) ∙ ap (take (length h)) both ∙ take_at (unescaped_to n (found.0 + 1)) front.0 (length h) found.3 in
-    let f : found.0 + 1 - 1 ≡ found.0 = omega arith in
-    let count : length h ≡ length (unescaped_to n found.0) + 1 = ap length (head ∙ keep) ∙ length_push (unescaped_to n found.0) (slice_index n found.0) in
-    let behind : slice_index n found.0 ≡ 0 → ⊥ = λ z. last (length (unescaped_to n found.0)) count (ap (λ xs. slice_index xs (length (unescaped_to n found.0))) (head ∙ keep) ∙ get_or_push (unescaped_to n found.0) (slice_index n found.0) 0 (length (unescaped_to n found.0)) refl ∙ z) in
-    let within : found.0 + 1 ≤ length n = omega (arith, found.1) in
-    let some_k : 0 < found.0 + 1 = omega arith in
-    let nonzero : 0 < found.0 + 1 → slice_index n (found.0 + 1 - 1) ≡ 0 → ⊥ = λ _ z. behind (rw f at z) in
-    let split : h ++ p ≡ unescaped_to n (found.0 + 1) ++ p = ap (λ xs. xs ++ p) head in
-    let fm = front_escaped n (found.0 + 1) within nonzero some_k (h ++ p) h e head in
-    let rest = rest_escaped n (found.0 + 1) within nonzero some_k (h ++ p) p e split in
-    (drop (found.0 + 1) n, rest, sym (take-append-drop (found.0 + 1) n) ∙ ap (λ xs. xs ++ drop (found.0 + 1) n) (escaped_unique h (take (found.0 + 1) n) m fm eh))
+nothing_escaped : IsEscaped [] []
+nothing_escaped = escape_end [] [] 0 (λ k len. absurd (omega (arith, len))) (escape_start [])
+
+-- A place behind which what was unescaped doesn't end in 00 splits the escaped form.
+split_at : (n : List ℕ) (place : ℕ) → place ≤ length n → EndsInNoZero (unescaped_to n place) → (r p : List ℕ) → IsEscaped r n → r ≡ unescaped_to n place ++ p
+    → IsEscaped (unescaped_to n place) (take place n) × IsEscaped p (drop place n)
+split_at n zero within last r p e split =
+    let P : List ℕ → Type 0 = λ xs. IsEscaped xs n in
+    (nothing_escaped, subst P split e)
+split_at n (suc j) within last r p e split =
+    let i : suc j - 1 ≡ j = omega arith in
+    let P : ℕ → Type 0 = λ k. EndsInNoZero (unescaped_to n k) in
+    let s : suc j ≡ j + 1 = omega arith in
+    let nonzero : 0 < suc j → slice_index n (suc j - 1) ≡ 0 → ⊥ = λ _ z. last_nonzero n j (subst P s last) (rw i at z) in
+    (front_escaped n (suc j) within nonzero (omega arith) r (unescaped_to n (suc j)) e refl, rest_escaped n (suc j) within nonzero (omega arith) r p e split)
+
+pub escaped_splits : EscapedSplits
+escaped_splits r n k place e count last = ⊎_elim
+    (λ past.
+    let f : length n + (place - length n) ≡ place = omega arith in
+    let more = unescaped_more n (length n) (place - length n) in
+    let longer : unescaped_to n place ≡ unescaped n ++ more.0 = rw f at more.1 in
+    let all_taken : length r ≤ k = omega (arith, ap length e.is, ap length longer, length-append (unescaped n) more.0, count) in
+    (rw (take_all k r all_taken, take_all place n (omega arith)) e, rw (drop_all k r all_taken, drop_all place n (omega arith)) nothing_escaped))
+    (λ within.
+    let front = unescaped_front n place within in
+    let split : r ≡ unescaped_to n place ++ front.0 = e.is ∙ front.1 in
+    let head : take k r ≡ unescaped_to n place = ap (take k) split ∙ take_at (unescaped_to n place) front.0 k count in
+    let rest : drop k r ≡ front.0 = ap (drop k) split ∙ drop_at (unescaped_to n place) front.0 k count in
+    let P : List ℕ → Type 0 = λ xs. EndsInNoZero xs in
+    let both = split_at n place within (subst P head last) r front.0 e split in
+    (rw head both.0, rw rest both.1))
+    (cases_lt (length n) place)
+
+-- An escaped form behind that of bytes that don't end in 00, whose last byte stands at place j.
+module _ (h m p q : List ℕ) (last : EndsInNoZero h) (eh : IsEscaped h m) (ep : IsEscaped p q) (j : ℕ) (len : length m ≡ j + 1) where
+  front_is : h ≡ unescaped_to m (j + 1)
+  front_is = rw len at eh.is
+
+  front_last : EndsInNoZero (unescaped_to m (j + 1))
+  front_last = let P : List ℕ → Type 0 = λ xs. EndsInNoZero xs in subst P front_is last
+
+  front_at : (i : ℕ) → i < j + 1 → slice_index (m ++ q) i ≡ slice_index m i
+  front_at i lt = index_on m q i (omega (arith, len))
+
+  total : length (m ++ q) ≡ j + 1 + length q
+  total = omega (arith, length-append m q, len)
+
+  inside : j + 1 ≤ length (m ++ q)
+  inside = omega (arith, total)
+
+  nonzero_at : slice_index (m ++ q) j ≡ 0 → ⊥
+  nonzero_at z = last_nonzero m j front_last (sym (front_at j (omega arith)) ∙ z)
+
+  nonzero : 0 < j + 1 → slice_index (m ++ q) (j + 1 - 1) ≡ 0 → ⊥
+  nonzero some z = let i : j + 1 - 1 ≡ j = omega arith in nonzero_at (rw i at z)
+
+  rest_is : drop (j + 1) (m ++ q) ≡ q
+  rest_is = drop_at m q (j + 1) len
+
+  rest_at : (i : ℕ) → slice_index (m ++ q) (j + 1 + i) ≡ slice_index q i
+  rest_at i = rw len at (get_or-append-add m q i 0)
+
+  rest_emulation : (i : ℕ) → is_emulation (m ++ q) (j + 1 + i) ≡ is_emulation q i
+  rest_emulation i = emulation_shift (m ++ q) (j + 1) inside nonzero (omega arith) i ∙ ap (λ xs. is_emulation xs i) rest_is
+
+  rest_rule : (i : ℕ) → ¬ BreaksRule (m ++ q) (j + 1 + i)
+  rest_rule i (inl x) = ⊎_elim
+      (λ first. let e : j + 1 + i - 2 + 1 ≡ j = omega (arith, x.0) in nonzero_at (rw e at x.1.second))
+      (λ later. ⊎_elim
+      (λ second. let e : j + 1 + i - 2 ≡ j = omega (arith, x.0) in nonzero_at (rw e at x.1.first))
+      (λ far.
+      let e : j + 1 + i - 2 - (j + 1) ≡ i - 2 = omega arith in
+      ep.rules i (inl (far, rw e at (mark_kept (m ++ q) q (j + 1) (sym rest_is) total 2 (j + 1 + i - 2) (omega arith) x.1))))
+      (cases_lt i 2))
+      (cases_lt i 1)
+  rest_rule i (inr x) = ⊎_elim
+      (λ first.
+      let e : j + 1 + i - 1 ≡ j = omega arith in
+      let same = same_emulation (m ++ q) m j (λ k le. front_at k (omega arith)) in
+      false≢true (sym (last_plain m j front_last) ∙ sym same ∙ (rw e at x.2)))
+      (λ later.
+      let e : j + 1 + i - 1 ≡ j + 1 + (i - 1) = omega arith in
+      ep.rules i (inr (later, omega (arith, x.1, total), sym (rest_emulation (i - 1)) ∙ (rw e at x.2), rw (rest_at i) at x.3)))
+      (cases_lt i 1)
+
+  joined : IsEscaped (h ++ p) (m ++ q)
+  joined =
+      let front : h ≡ unescaped_to (m ++ q) (j + 1) = front_is ∙ sym (same_unescaped (m ++ q) m (j + 1) front_at) in
+      let rest : p ≡ unescaped_to (drop (j + 1) (m ++ q)) (length q) = ep.is ∙ ap (λ xs. unescaped_to xs (length q)) (sym rest_is) in
+      record {
+        rules = λ i b. ⊎_elim
+            (λ low. eh.rules i (breaks_before m q i (omega (arith, len)) b))
+            (λ high. let e : i ≡ j + 1 + (i - (j + 1)) = omega arith in let P : ℕ → Type 0 = λ k. BreaksRule (m ++ q) k in rest_rule (i - (j + 1)) (subst P e b))
+            (cases_lt i (j + 1));
+        last = λ i end z. ⊎_elim
+            (λ low. let e : i ≡ j = omega (arith, total, end) in nonzero_at (ap (slice_index (m ++ q)) (sym e) ∙ z))
+            (λ high. let e : j + 1 + (i - (j + 1)) ≡ i = omega arith in ep.last (i - (j + 1)) (omega (arith, total, end)) (sym (rest_at (i - (j + 1))) ∙ ap (slice_index (m ++ q)) e ∙ z))
+            (cases_lt i (j + 1));
+        is = ap₂ (λ (xs ys : List ℕ). xs ++ ys) front rest ∙ sym (unescaped_shift (m ++ q) (j + 1) inside nonzero (omega arith) (length q)) ∙ ap (unescaped_to (m ++ q)) (sym total);
+      }
+
+pub escaped_joins : EscapedJoins
+escaped_joins h p [] q last eh ep = let none : h ≡ [] = eh.is in rw none ep
+escaped_joins h p (x ∷ m) q last eh ep = joined h (x ∷ m) p q last eh ep (length m) (omega arith)

@@ -1,15 +1,15 @@
 -- How each step of a splitter carries on what ties it to the bytes that it was fed.
-use Rattle.std.proofs.Common.{◌≡◌, ℕ, ◌+◌, ◌-◌, ◌<◌, ◌≤◌, inl, inr, Bool, true, false, List, [], ◌∷◌, ◌++◌, Option, Some, None, length, drop, slice_index, slice_range, sym, ap, subst, ◌∙◌, arith, length-append, length-drop, ⊎_elim, refl, unwrap_or}
+use Rattle.std.proofs.Common.{◌≡◌, ℕ, ◌+◌, ◌-◌, ◌<◌, ◌≤◌, inl, inr, Bool, true, false, List, [], ◌∷◌, ◌++◌, Option, Some, None, IsSome, length, drop, slice_index, slice_range, sym, ap, subst, ◌∙◌, arith, length-append, length-drop, ⊎_elim, refl, unwrap_or}
 use Rattle.std.proofs.lemmas.List.{append-nil}
 use Rattle.vx_bits.specs.declared.refusal.Refusal.{Refusal}
 use Rattle.vx_annexb.specs.Places.{AreZeros, IsMark, IsFirstFrom}
 use Rattle.vx_annexb.specs.ByteStream.{StartsAt, CanEnd, UnitPlace, unit_bytes, IsUnit, IsStray, IsSound, RefusesUnit, Refuses, FollowsFrom, end_of, IsStream}
-use Rattle.vx_annexb.specs.Held.{Held, fed, HasSought, Stands, IsStarted, IsInOrder, place_of}
+use Rattle.vx_annexb.specs.Held.{Held, fed, HasSought, Stands, HasBegun, IsStarted, IsInOrder, place_of}
 use Rattle.vx_annexb.specs.declared.span.Span.{Span}
 use Rattle.vx_bits.specs.declared.refusal.Refusal.TheVariants.{Framing}
 use Rattle.std.proofs.lemmas.List.{drop-append-le, drop-drop}
 use Rattle.std.proofs.lemmas.Bool.{cases_lt, false≢true}
-use Rattle.vx_annexb.proofs.Places.{index_kept, zeros_stream, zeros_kept, mark_stream, mark_kept, zeros_join, zeros_mark, slice_kept, follows_more, end_of_more, zeros_on, mark_before, starts_on, follows_on, refuses_on}
+use Rattle.vx_annexb.proofs.Places.{index_kept, zeros_stream, zeros_kept, mark_stream, mark_kept, zeros_join, zeros_mark, mark_wider, slice_kept, follows_more, end_of_more, zeros_on, mark_before, starts_on, follows_on, refuses_on}
 
 -- the bytes are all there are
 finish_follows : (g : List ℕ) (all : Bool) (p : ℕ) (us : List UnitPlace) → FollowsFrom g all p us → FollowsFrom g true p us
@@ -39,7 +39,7 @@ feed_sought : (h : Held) (g piece : List ℕ) (kept : List ℕ) (base : ℕ) (st
 feed_sought h g piece kept base start (Some r) going len begun s = rw going (refuses_on g piece false h.from r (rw going at s))
 feed_sought h g piece kept base None None going len begun s = zeros_on g piece h.from h.sought s
 feed_sought h g piece kept base (Some p) None going len begun s =
-    (starts_on g piece h.from p s.0, λ k le lt m. s.1 k le lt (mark_before g piece 1 k (omega (arith, begun.3)) m))
+    (starts_on g piece h.from p s.0, λ k le lt m. s.1 k le lt (mark_before g piece 1 k (omega (arith, begun.sought)) m))
 
 pub Stands-feed : (h : Held) (g piece : List ℕ) (units : List UnitPlace) (kept : List ℕ) (base : ℕ) → IsInOrder h → h.all ≡ false → h.base ≤ base → base ≤ fed h → kept ≡ drop (base - h.base) h.kept ++ piece → Stands h g units → Stands (record h { kept = kept; base = base }) (g ++ piece) units
 Stands-feed h g piece units kept base order going low high is s =
@@ -57,7 +57,7 @@ Stands-feed h g piece units kept base order going low high is s =
 -- the bytes are kept from the unit that has begun on, or from what is yet to be sought
 pub begin_order : (h : Held) (start : Option ℕ) → IsStarted h start → h.base ≤ h.sought → h.sought ≤ fed h → (h.base ≤ unwrap_or start h.sought) × (unwrap_or start h.sought ≤ fed h)
 begin_order h None begun low high = (low, high)
-begin_order h (Some p) begun low high = (begun.0, omega (arith, begun.2))
+begin_order h (Some p) begun low high = (begun.base, omega (arith, begun.order, begun.clear))
 
 -- the next start code, behind zeros
 module _ (h : Held) (g : List ℕ) (units : List UnitPlace) (order : IsInOrder h) (unbegun : h.start ≡ None) (open_ : h.refused ≡ None) (place : ℕ) (zeros : AreZeros h.kept (h.sought - h.base) place) (s : Stands h g units) where
@@ -89,7 +89,7 @@ module _ (h : Held) (g : List ℕ) (units : List UnitPlace) (order : IsInOrder h
         record { follow = s.given; behind = rw (← s.behind) refuses },
       )
 
-  pub Stands-code : place < length h.kept → slice_index h.kept place ≡ 1 → h.from + 2 ≤ h.base + place → Stands (record h { start = Some (h.base + place + 1); sought = h.base + place + 1 }) g units
+  pub Stands-code : place < length h.kept → slice_index h.kept place ≡ 1 → h.from + 2 ≤ h.base + place → Stands (record h { start = Some (h.base + place + 1); sought = h.base + place + 1; clear = h.base + place + 1 }) g units
   Stands-code within one code =
       let e : h.base + place + 1 - 1 ≡ h.base + place = omega arith in
       let starts : StartsAt g h.from (h.base + place + 1) = record {
@@ -106,13 +106,36 @@ Stands-no_more h g units start begun open_ s none =
     let sought : HasSought h g (Some start) None = rw (begun, open_) at s.sought in
     record { follow = s.given; behind = inr (rw (← s.behind) (start, sought.0, none)) }
 
+-- the unit that has begun is passed up to a place before which no mark of at most 3 stands
+module _ (h : Held) (place : ℕ) (none : (k : ℕ) → h.sought - h.base ≤ k → k < place → ¬ IsMark 3 h.kept k) where
+  sought_passed : (g : List ℕ) (start : Option ℕ) (refused : Option Refusal) → IsSome start → refused ≡ None → ((k : ℕ) → h.sought ≤ k → k < h.base + place → ¬ IsMark 1 g k) → HasSought h g start refused → HasSought (record h { sought = h.base + place; clear = h.base + place }) g start refused
+  sought_passed g start (Some r) some open_ before s = cc
+  sought_passed g None None some open_ before s = cc
+  sought_passed g (Some p) None some open_ before s = (s.0, λ k le lt. ⊎_elim (λ below. s.1 k le below) (λ above. before k above lt) (cases_lt k h.sought))
+
+  pub Stands-passed : (g : List ℕ) (units : List UnitPlace) → IsInOrder h → IsSome h.start → h.refused ≡ None → Stands h g units → Stands (record h { sought = h.base + place; clear = h.base + place }) g units
+  Stands-passed g units order some open_ s = record {
+    taken = s.taken;
+    kept = s.kept;
+    given = s.given;
+    behind = s.behind;
+    sought = sought_passed g h.start h.refused some open_
+        (λ k low lt m. none (k - h.base) (omega arith) (omega (arith, order.base)) (mark_wider 1 3 h.kept (k - h.base) (omega arith) (mark_kept g h.kept h.base s.kept s.taken 1 k (omega (arith, order.base)) m)))
+        s.sought;
+  }
+
+-- what stands in order of a unit that has begun
+has_begun : (h : Held) (o : Option ℕ) (start : ℕ) → o ≡ Some start → IsStarted h o → HasBegun h start
+has_begun h None start is begun = cc
+has_begun h (Some s) start is begun = let same : s ≡ start = (cc) in let P : ℕ → Type 0 = λ k. HasBegun h k in subst P same begun
+
 -- the end of the unit that has begun
 module _ (h : Held) (g : List ℕ) (units : List UnitPlace) (order : IsInOrder h) (start : ℕ) (begun : h.start ≡ Some start) (open_ : h.refused ≡ None) (s : Stands h g units) where
   pub sought_start : StartsAt g h.from start × ((k : ℕ) → start ≤ k → k < h.sought → ¬ IsMark 1 g k)
   sought_start = rw (begun, open_) at s.sought
 
-  in_order : IsStarted h (Some start)
-  in_order = rw begun at order.start
+  in_order : HasBegun h start
+  in_order = has_begun h h.start start begun order.start
 
   -- nothing in what is kept ends the unit
   no_mark : ((k : ℕ) → h.sought - h.base ≤ k → ¬ IsMark 1 h.kept k) → (k : ℕ) → start ≤ k → ¬ IsMark 1 g k
@@ -141,7 +164,7 @@ module _ (h : Held) (g : List ℕ) (units : List UnitPlace) (order : IsInOrder h
       (λ above. first.before (k - h.base) (omega arith) (omega (arith, order.base)) (mark_kept g h.kept h.base s.kept s.taken 1 k (omega (arith, order.base)) m))
       (cases_lt k h.sought) in
       record {
-        order = omega (arith, first.order, in_order.2, order.base);
+        order = omega (arith, first.order, in_order.order, in_order.clear, order.base);
         here = inl mark;
         before = λ k le lt. ⊎_elim (no k le lt) (λ z. no k le lt (zeros_mark g k (length g) z.1 (omega (arith, mark.within))));
       }
@@ -152,10 +175,10 @@ module _ (h : Held) (g : List ℕ) (units : List UnitPlace) (order : IsInOrder h
       let e : h.base + length h.kept ≡ length g = sym s.taken in
       let n : length g - h.base ≡ length h.kept = omega (arith, s.taken) in
       record {
-        order = omega (arith, first.order, in_order.2, order.base);
+        order = omega (arith, first.order, in_order.order, in_order.clear, order.base);
         here = inr (done, rw e at zeros);
         before = λ k le lt. ⊎_elim (no_mark none k le) (λ z. ⊎_elim
-            (λ below. sought_start.1 k le below (zeros_mark g k (length g) z.1 (omega (arith, in_order.3, s.taken))))
+            (λ below. sought_start.1 k le below (zeros_mark g k (length g) z.1 (omega (arith, in_order.sought, s.taken))))
             (λ above. first.before (k - h.base) (omega arith) (omega (arith, order.base)) (rw n at (zeros_kept g h.kept h.base s.kept s.taken k (length g) (omega (arith, order.base)) z.1)))
             (cases_lt k h.sought));
       }
@@ -168,7 +191,7 @@ module _ (h : Held) (g : List ℕ) (units : List UnitPlace) (order : IsInOrder h
     within = ⊎_elim (λ m. omega (arith, m.within)) (λ z. z.1.order) first.here
 
     same_bytes : slice_range h.kept (start - h.base) (end - h.base) ≡ slice_range g start end
-    same_bytes = slice_kept g h.kept h.base start end s.kept in_order.0
+    same_bytes = slice_kept g h.kept h.base start end s.kept in_order.base
 
     pub Stands-refused : (r : Refusal) → RefusesUnit (slice_range h.kept (start - h.base) (end - h.base)) start r → Stands (record h { refused = Some r }) g units × IsStream g h.all units (Some r)
     Stands-refused r why =
@@ -179,7 +202,7 @@ module _ (h : Held) (g : List ℕ) (units : List UnitPlace) (order : IsInOrder h
 
     pub Stands-given : IsSound (slice_range h.kept (start - h.base) (end - h.base)) → (span : Span) → span.start ≡ start - h.base → span.end ≡ end - h.base → span.offset ≡ start → Stands (record h { from = end; start = None; sought = end }) g (units ++ place_of span ∷ []) × (unit_bytes g (place_of span) ≡ slice_range h.kept (start - h.base) (end - h.base))
     Stands-given sound span a b c =
-        let n : span.offset + (span.end - span.start) ≡ end = omega (arith, in_order.0, first.order) in
+        let n : span.offset + (span.end - span.start) ≡ end = omega (arith, in_order.base, first.order) in
         let u : UnitPlace = record { start = start; end = end } in
         let place : place_of span ≡ u = rw (n, c) refl in
         let next : IsUnit g h.all (end_of 0 units) u = rw s.behind at unit_is in

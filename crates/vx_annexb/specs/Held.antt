@@ -16,6 +16,8 @@ pub record Held : Type 0 where
   pub start : Option ℕ
   -- the place up to which the next unit has been sought
   pub sought : ℕ
+  -- the place up to which no 00 00 and a byte of at most 03 begins in the unit that has begun
+  pub clear : ℕ
   -- whether the bytes fed are all there are
   pub all : Bool
   -- the first refusal, which is given again from then on
@@ -53,10 +55,18 @@ pub record Stands (h : Held) (g : List ℕ) (units : List UnitPlace) : Type 0 wh
   pub behind : h.from ≡ end_of 0 units
   pub sought : HasSought h g h.start h.refused
 
--- a unit that has begun lies behind the last one, in what is kept
+-- the unit that begins at place s lies behind the last one, in what is kept
+pub record HasBegun (h : Held) (s : ℕ) : Type 0 where
+  pub base : h.base ≤ s
+  pub from : h.from ≤ s
+  pub order : s ≤ h.clear
+  pub clear : h.clear ≤ h.sought
+  pub sought : h.sought + 2 ≤ max (s + 2) (fed h)
+  pub no_mark : (k : ℕ) → s ≤ h.base + k → h.base + k < h.clear → ¬ IsMark 3 h.kept k
+
 abbrev pub IsStarted : Held → Option ℕ → Type 0
 IsStarted h None = Unit {0}
-IsStarted h (Some s) = (h.base ≤ s) × (h.from ≤ s) × (s ≤ h.sought) × (h.sought + 2 ≤ max (s + 2) (fed h))
+IsStarted h (Some s) = HasBegun h s
 
 -- what is kept and sought lies in order
 pub record IsInOrder (h : Held) : Type 0 where

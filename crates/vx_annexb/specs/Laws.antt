@@ -1,10 +1,10 @@
 -- What the definition of a byte stream comes to, apart from any program.
-use Rattle.std.specs.Prelude.{◌≡◌, ℕ, ◌+◌, ◌<◌, Bool, true, false, List, [], ◌∷◌, ◌++◌, Option, Some, None, flat_map, length, replicate, take}
+use Rattle.std.specs.Prelude.{◌≡◌, ℕ, ◌+◌, Bool, true, false, List, [], ◌∷◌, ◌++◌, All, Option, Some, None, drop, flat_map, length, map, replicate, take}
 use Rattle.vx_bits.specs.declared.refusal.Refusal.{Refusal}
 use Rattle.vx_bits.specs.declared.refusal.Refusal.TheVariants.{Framing}
 use Rattle.vx_annexb.specs.Places.{IsMark}
-use Rattle.vx_annexb.specs.Emulation.{BreaksRule, EndsInNoZero, unescaped, IsEscaped}
-use Rattle.vx_annexb.specs.ByteStream.{not_a_start_code, UnitPlace, IsSound, IsStream}
+use Rattle.vx_annexb.specs.Emulation.{BreaksRule, EndsInNoZero, unescaped_to, unescaped, IsEscaped}
+use Rattle.vx_annexb.specs.ByteStream.{not_a_start_code, UnitPlace, unit_bytes, IsSound, FollowsFrom, IsStream, long_start_code}
 
 -- the bytes determine the units and the ending
 abbrev pub StreamIsUnique : Type 0
@@ -38,25 +38,51 @@ abbrev pub places_from : ℕ → List Part → List UnitPlace
 places_from p [] = []
 places_from p (q ∷ qs) = record { start = p + 3; end = p + 3 + length q.unit } ∷ places_from (p + 3 + length q.unit + q.zeros) qs
 
--- a unit holds no 00 00 00 and no 00 00 01, and doesn't end in 00 (7.4.2.1)
-pub record HoldsNoCode (unit : List ℕ) : Type 0 where
-  pub no_mark : (k : ℕ) → ¬ IsMark 1 unit k
-  pub last : EndsInNoZero unit
+-- the units of parts
+abbrev pub units_of : List Part → List (List ℕ)
+units_of parts = map (λ q. q.unit) parts
 
--- the parts hold units that no rule refuses
-abbrev pub AreSound : List Part → Type 0
-AreSound [] = Unit {0}
-AreSound (q ∷ qs) = HoldsNoCode q.unit × IsSound q.unit × AreSound qs
+-- a unit that can stand in a byte stream: it doesn't end in 00, and no rule refuses it
+pub record CanStand (unit : List ℕ) : Type 0 where
+  pub last : EndsInNoZero unit
+  pub sound : IsSound unit
+
+-- a unit holds no 00 00 00 and no 00 00 01 (7.4.2.1)
+abbrev pub HoldsNoCode : List ℕ → Type 0
+HoldsNoCode unit = (k : ℕ) → ¬ IsMark 1 unit k
+
+-- units that follow one another can stand in a byte stream, and hold no start code
+abbrev pub UnitsCanStand : Type 0
+UnitsCanStand =
+    (b : List ℕ) (all : Bool) (p : ℕ) (us : List UnitPlace) → FollowsFrom b all p us
+    → All (λ u. CanStand (unit_bytes b u) × HoldsNoCode (unit_bytes b u)) us
 
 -- bytes that no rule refuses are the byte stream of their units
 abbrev pub StreamIsAnnexB : Type 0
 StreamIsAnnexB =
     (b : List ℕ) (us : List UnitPlace) → IsStream b true us None
-    → (zeros : ℕ) × (parts : List Part) × (b ≡ annex_b zeros parts) × (us ≡ places_from zeros parts) × AreSound parts
+    → (zeros : ℕ) × (parts : List Part) × (b ≡ annex_b zeros parts) × (us ≡ places_from zeros parts) × All CanStand (units_of parts)
 
--- the byte stream of units that no rule refuses has them, and no refusal
+-- the byte stream of units that can stand in one has them, and no refusal
 abbrev pub AnnexBIsStream : Type 0
-AnnexBIsStream = (zeros : ℕ) (parts : List Part) → AreSound parts → IsStream (annex_b zeros parts) true (places_from zeros parts) None
+AnnexBIsStream =
+    (zeros : ℕ) (parts : List Part) → All CanStand (units_of parts)
+    → IsStream (annex_b zeros parts) true (places_from zeros parts) None
+    × (map (unit_bytes (annex_b zeros parts)) (places_from zeros parts) ≡ units_of parts)
+
+-- units as `write_unit` writes them, one behind the other
+abbrev pub written : List (List ℕ) → List ℕ
+written units = flat_map (λ unit. long_start_code ++ unit) units
+
+-- what is written is the byte stream of its units
+abbrev pub WrittenIsAnnexB : Type 0
+WrittenIsAnnexB = (units : List (List ℕ)) → (zeros : ℕ) × (parts : List Part) × (written units ≡ annex_b zeros parts) × (units_of parts ≡ units)
+
+-- units that can stand in a byte stream are found again in what is written, and no refusal
+abbrev pub WrittenIsStream : Type 0
+WrittenIsStream =
+    (units : List (List ℕ)) → All CanStand units
+    → (places : List UnitPlace) × IsStream (written units) true places None × (map (unit_bytes (written units)) places ≡ units)
 
 -- the bytes determine their escaped form
 abbrev pub EscapedIsUnique : Type 0
@@ -66,11 +92,15 @@ EscapedIsUnique = (r n m : List ℕ) → IsEscaped r n → IsEscaped r m → n �
 abbrev pub EscapedExists : Type 0
 EscapedExists = (r : List ℕ) → EndsInNoZero r → (n : List ℕ) × IsEscaped r n
 
--- behind bytes that don't end in 00 the escaped form goes on as it would begin
-abbrev pub EscapedHasSeam : Type 0
-EscapedHasSeam =
-    (h p m n : List ℕ) → 0 < length h → EndsInNoZero h → IsEscaped h m → IsEscaped (h ++ p) n
-    → (q : List ℕ) × IsEscaped p q × (n ≡ m ++ q)
+-- one behind the other, the escaped forms of bytes that don't end in 00 and of any others are that of both
+abbrev pub EscapedJoins : Type 0
+EscapedJoins = (h p m q : List ℕ) → EndsInNoZero h → IsEscaped h m → IsEscaped p q → IsEscaped (h ++ p) (m ++ q)
+
+-- where the first k bytes don't end in 00, the place behind them splits the escaped form into theirs and that of the rest
+abbrev pub EscapedSplits : Type 0
+EscapedSplits =
+    (r n : List ℕ) (k place : ℕ) → IsEscaped r n → length (unescaped_to n place) ≡ k → EndsInNoZero (take k r)
+    → IsEscaped (take k r) (take place n) × IsEscaped (drop k r) (drop place n)
 
 -- unescape undoes escape, and escape undoes unescape
 abbrev pub EscapedIsInverse : Type 0

@@ -1,20 +1,29 @@
 //! Emulation prevention: the 03 bytes that keep start codes out of a NAL unit (H.266 7.3.1.1, 7.4.2.1).
 ghost use Rattle.std.specs.Prelude.{◌≡◌, ℕ, ◌≤◌, ◌<◌, length, IfOk, MatchOption};
-ghost use Rattle.vx_annexb.specs.Places.{IsFirstFrom};
+ghost use Rattle.vx_annexb.specs.Places.{IsMark, IsFirstFrom};
 ghost use Rattle.vx_annexb.specs.Emulation.{is_emulation, BreaksRule, EndsInNoZero, unescaped_to, unescaped, IsEscaped};
 
 use crate::search::find_mark;
 use std::alloc::{AllocError, Global};
 
 /// emulation_prevention_three_byte
-const EMULATION: u8 = 3;
+pub(crate) const EMULATION: u8 = 3;
 
 /// The place of the first byte that emulation prevention rules out: 00, 01 or 02 behind 00 00, or more than 03
 /// behind 00 00 03. It takes no memory.
 pub fn emulation_fault(unit: &[u8]) -> Option<usize>
     ensures { MatchOption result ((k : ℕ) → ¬ BreaksRule unit.now k) (IsFirstFrom (BreaksRule unit.now) 0) }
 {
-    let mut at = 0;
+    fault_from(unit, 0)
+}
+
+/// The same, where no 00 00 and a byte of at most 03 begins before `from`.
+pub(crate) fn fault_from(unit: &[u8], from: usize) -> Option<usize>
+    requires within { from ≤ length unit.now }
+    requires clear { (k : ℕ) → k < from → ¬ IsMark EMULATION unit.now k }
+    ensures { MatchOption result ((k : ℕ) → ¬ BreaksRule unit.now k) (IsFirstFrom (BreaksRule unit.now) 0) }
+{
+    let mut at = from;
     while let Some(mark) = find_mark(unit, at, EMULATION) {
         if unit[mark + 2] < EMULATION {
             return Some(mark + 2);
@@ -31,6 +40,7 @@ pub fn emulation_fault(unit: &[u8]) -> Option<usize>
 pub fn unescape(alloc: Global, unit: &[u8]) -> Result<Vec<u8>, AllocError>
     requires { (k : ℕ) → ¬ BreaksRule unit.now k }
     ensures value { IfOk result (λ bytes. bytes.items ≡ unescaped unit.now) }
+    ensures size { IfOk result (λ bytes. length bytes.items ≤ length unit.now) }
     ensures escaped { EndsInNoZero unit.now → IfOk result (λ bytes. IsEscaped bytes.items unit.now) }
 {
     let mut bytes = Vec::with_capacity(alloc, unit.len())?;

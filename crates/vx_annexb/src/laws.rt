@@ -1,5 +1,5 @@
 //! Laws of the byte stream: functions that do nothing, each with a law as its contract.
-ghost use Rattle.vx_annexb.specs.Laws.{StreamIsUnique, StreamExists, StreamGoesOn, StreamIsAnnexB, AnnexBIsStream, EscapedIsUnique, EscapedExists, EscapedHasSeam, EscapedIsInverse, StrayEndsStream};
+ghost use Rattle.vx_annexb.specs.Laws.{StreamIsUnique, StreamExists, StreamGoesOn, UnitsCanStand, StreamIsAnnexB, AnnexBIsStream, WrittenIsAnnexB, WrittenIsStream, EscapedIsUnique, EscapedExists, EscapedJoins, EscapedSplits, EscapedIsInverse, StrayEndsStream};
 
 /// The bytes determine their units and the ending behind them.
 pub fn stream_is_unique()
@@ -21,6 +21,21 @@ pub fn annex_b_is_stream()
     ensures { AnnexBIsStream }
 {}
 
+/// Each unit before the first refusal doesn't end in 00 and holds no start code, and no rule refuses it.
+pub fn units_can_stand()
+    ensures { UnitsCanStand }
+{}
+
+/// Units that are written one behind the other, each behind 00 00 00 01, are their byte stream (H.266 B.2).
+pub fn written_is_annex_b()
+    ensures { WrittenIsAnnexB }
+{}
+
+/// Written units that no rule refuses and that don't end in 00 are found again in what is written, and no refusal.
+pub fn written_is_stream()
+    ensures { WrittenIsStream }
+{}
+
 /// Units whose end is seen, and a refusal, stay however the bytes go on.
 pub fn stream_goes_on()
     ensures { StreamGoesOn }
@@ -36,9 +51,14 @@ pub fn escaped_exists()
     ensures { EscapedExists }
 {}
 
-/// Behind bytes that don't end in 00 the escaped form goes on as it would begin: a payload is passed on as it stands.
-pub fn escaped_has_seam()
-    ensures { EscapedHasSeam }
+/// Behind bytes that don't end in 00 the escaped form of any others stands as it is: so a payload is passed on.
+pub fn escaped_joins()
+    ensures { EscapedJoins }
+{}
+
+/// The place behind bytes that don't end in 00 splits an escaped form into theirs and that of the rest.
+pub fn escaped_splits()
+    ensures { EscapedSplits }
 {}
 
 /// Unescaping and escaping undo one another.

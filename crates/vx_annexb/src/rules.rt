@@ -1,8 +1,10 @@
 //! The rules by which a stream's framing is refused.
-ghost use Rattle.std.specs.Prelude.{◌+◌, ◌<◌, ◌^◌, length, MatchOption};
+ghost use Rattle.std.specs.Prelude.{ℕ, ◌+◌, ◌<◌, ◌≤◌, ◌^◌, length, MatchOption};
+ghost use Rattle.vx_annexb.specs.Places.{IsMark};
 ghost use Rattle.vx_annexb.specs.ByteStream.{IsSound, RefusesUnit};
 
-use crate::{emulation_fault, read_header};
+use crate::emulation::fault_from;
+use crate::read_header;
 use vx_bits::Refusal;
 
 /// A byte outside the units that is no zero and no end of a start code.
@@ -17,9 +19,12 @@ pub const LONG_UNIT: u8 = 1;
 
 const UNIT_LIMIT: usize = 1 << 23;
 
-/// Why the unit that begins at `place` of the stream is refused.
-pub(crate) fn refusal_of(unit: &[u8], place: u64) -> Option<Refusal>
-    requires { place + length unit.now < 2 ^ 64 }
+/// Why the unit that begins at `place` of the stream is refused, where no 00 00 and a byte of at most 03 begins
+/// among its first `clear` bytes.
+pub(crate) fn refusal_of(unit: &[u8], clear: usize, place: u64) -> Option<Refusal>
+    requires fits { place + length unit.now < 2 ^ 64 }
+    requires within { clear ≤ length unit.now }
+    requires clear { (k : ℕ) → k < clear → ¬ IsMark 3 unit.now k }
     ensures { MatchOption result (IsSound unit.now) (RefusesUnit unit.now place) }
 {
     if read_header(unit).is_none() {
@@ -28,7 +33,7 @@ pub(crate) fn refusal_of(unit: &[u8], place: u64) -> Option<Refusal>
             byte: place,
         });
     }
-    if let Some(fault) = emulation_fault(unit) {
+    if let Some(fault) = fault_from(unit, clear) {
         return Some(Refusal::Framing {
             code: BAD_EMULATION,
             byte: place + fault as u64,

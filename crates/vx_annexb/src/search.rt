@@ -1,5 +1,5 @@
 //! Searches of a slice for zeros.
-ghost use Rattle.std.specs.Prelude.{◌≡◌, ◌≢◌, ℕ, ◌<◌, ◌≤◌, length, slice_index, MatchOption};
+ghost use Rattle.std.specs.Prelude.{◌≡◌, ◌≢◌, ℕ, ◌+◌, ◌<◌, ◌≤◌, length, max, slice_index, MatchOption};
 ghost use Rattle.vx_annexb.specs.Places.{AreZeros, IsMark, IsFirstFrom};
 
 use memchr::memchr;
@@ -73,6 +73,21 @@ pub(crate) fn find_mark(bytes: &[u8], from: usize, most: u8) -> Option<usize>
         reach = if zero - at < NEAR { NEAR } else { 1 };
     }
     None
+}
+
+/// The first place from `from` on at which 00 00 and a byte of at most `most` stand, or from which fewer than three
+/// bytes are there to tell.
+pub(crate) fn pass_to_mark(bytes: &[u8], from: usize, most: u8) -> usize
+    requires { from ≤ length bytes.now }
+    ensures order { from ≤ result }
+    ensures seen { result + 2 ≤ max (from + 2) (length bytes.now) }
+    ensures none { (k : ℕ) → from ≤ k → k < result → ¬ IsMark most bytes.now k }
+    ensures stops { result + 2 < length bytes.now → IsMark most bytes.now result }
+{
+    match find_mark(bytes, from, most) {
+        Some(mark) => mark,
+        None => from.max(bytes.len().saturating_sub(2)),
+    }
 }
 
 /// The first place from `from` on behind which the bytes are zeros to their end.

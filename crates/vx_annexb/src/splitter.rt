@@ -2,8 +2,9 @@
 ghost use Rattle.std.specs.Prelude.{◌≡◌, ◌*◌, ◌≤◌, length, drop, vec_capacity};
 
 use crate::Span;
+use crate::emulation::EMULATION;
 use crate::rules::{NOT_A_START_CODE, refusal_of};
-use crate::search::{find_mark, skip_zeros, trim_zeros};
+use crate::search::{find_mark, pass_to_mark, skip_zeros, trim_zeros};
 use std::alloc::{AllocError, Global};
 use std::marker::Model;
 use vx_bits::Refusal;
@@ -22,6 +23,8 @@ pub struct Splitter {
     start: Option<u64>,
     // The place up to which the next unit has been sought.
     sought: u64,
+    // The place up to which no 00 00 and a byte of at most 03 begins in the unit that has begun.
+    clear: u64,
     all: bool,
     refused: Option<Refusal>,
 }
@@ -37,6 +40,7 @@ impl Model for Splitter {
       from = a.from;
       start = a.start;
       sought = a.sought;
+      clear = a.clear;
       all = a.all;
       refused = a.refused;
     } };
@@ -47,6 +51,7 @@ impl Model for Splitter {
       from = a.from;
       start = a.start;
       sought = a.sought;
+      clear = a.clear;
       all = a.all;
       refused = a.refused;
     }) };
@@ -84,6 +89,7 @@ impl Splitter {
             from: 0,
             start: None,
             sought: 0,
+            clear: 0,
             all: false,
             refused: None,
         }
@@ -136,6 +142,7 @@ impl Splitter {
         let Some(start) = self.seek_start()? else {
             return Ok(None);
         };
+        self.pass_clear();
         let Some(end) = self.seek_end(start) else {
             return Ok(None);
         };
@@ -169,8 +176,27 @@ impl Splitter {
             return Err(refusal);
         }
         self.sought += 1;
+        self.clear = self.sought;
         self.start = Some(self.sought);
         Ok(self.start)
+    }
+
+    /// Passes the bytes of the unit that has begun before its first 00 00 and a byte of at most 03. Where that was
+    /// met before, `clear` stays behind `sought`.
+    fn pass_clear(&mut self)
+        requires begun { IsSome self.old.start }
+        requires open { self.old.refused ≡ None }
+        ensures stands { (g : List ℕ) (units : List UnitPlace) → Stands self.old g units → Stands self.new g units }
+        ensures keeps { KeepsBytes self.old self.new }
+        ensures start { self.new.start ≡ self.old.start }
+        ensures open { self.new.refused ≡ None }
+        ensures falls { left_to_seek self.new ≤ left_to_seek self.old }
+    {
+        if self.clear == self.sought {
+            let at = (self.sought - self.base) as usize;
+            self.sought = self.base + pass_to_mark(&self.kept, at, EMULATION) as u64;
+            self.clear = self.sought;
+        }
     }
 
     /// Seeks the place behind the last byte of the unit that begins at `start`.
@@ -216,7 +242,8 @@ impl Splitter {
     {
         let first = (start - self.base) as usize;
         let last = (end - self.base) as usize;
-        if let Some(refusal) = refusal_of(&self.kept[first..last], start) {
+        let clear = (self.clear - start) as usize;
+        if let Some(refusal) = refusal_of(&self.kept[first..last], clear, start) {
             self.refused = Some(refusal);
             return Err(refusal);
         }

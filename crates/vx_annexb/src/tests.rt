@@ -63,7 +63,7 @@ fn split(alloc: Global, bytes: &[u8], size: usize) -> Result<Seen, AllocError>
 }
 
 /// Streams, the place and the length of each unit, and the rule of framing that refuses them, with its byte.
-const STREAMS: [(&[u8], &[(u64, usize)], Option<(u8, u64)>); 19] = [
+const STREAMS: [(&[u8], &[(u64, usize)], Option<(u8, u64)>); 20] = [
     (&[], &[], None),
     (&[0, 0, 0], &[], None),
     (&GRAY, &[(4, 20), (28, 10), (42, 7)], None),
@@ -101,6 +101,11 @@ const STREAMS: [(&[u8], &[(u64, usize)], Option<(u8, u64)>); 19] = [
         &[0, 0, 1, 0, 65, 0, 0, 3, 3, 0, 0, 0, 1, 0, 65, 7],
         &[(3, 6), (13, 3)],
         None,
+    ),
+    (
+        &[0, 0, 1, 0, 65, 0, 0, 3, 0, 0, 1, 0, 65, 0, 0, 3, 1, 0, 0, 2],
+        &[(3, 5)],
+        Some((2, 19)),
     ),
     // A bad header comes before bad emulation.
     (&[0, 0, 1, 128, 65, 0, 0, 2], &[], Some((3, 3))),

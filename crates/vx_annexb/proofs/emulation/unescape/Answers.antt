@@ -1,4 +1,5 @@
-use Rattle.std.proofs.Common.{◌∙◌}
+use Rattle.std.proofs.Common.{◌∙◌, length, ap, arith}
+use Rattle.vx_annexb.proofs.EmulationBytes.{unescaped_size}
 use Rattle.vx_annexb.proofs.Fault.{unescape_step, unescape_end}
 use Rattle.vx_annexb.proofs.emulation.unescape.Goals as goal
 
@@ -9,4 +10,4 @@ loop-mark-preserved c =
 pub returns : goal.returns
 returns c =
     let is = c.in_ok-extend_from_slice-2.ensures.items ∙ unescape_end c.args.unit.now c.loop-mark.bytes.items c.loop-mark.at c.loop-mark.invariant c.in_default.ensures in
-    record { value = is; escaped = λ last. record { rules = c.requires; last = last; is = is } }
+    record { value = is; size = omega (arith, ap length is, unescaped_size c.args.unit.now (length c.args.unit.now)); escaped = λ last. record { rules = c.requires; last = last; is = is } }

@@ -1,7 +1,10 @@
 use Rattle.std.proofs.Common.{◌≡◌, ◌+◌, slice_index, arith}
-use Rattle.vx_annexb.proofs.Fault.{breaks_at_mark, breaks_behind, clear_behind, clear_all}
-use Rattle.vx_annexb.proofs.emulation.emulation_fault.Goals as goal
-use Rattle.vx_annexb.proofs.emulation.emulation_fault.Goals.{else-at-unit-via-then-at-unit+else-unit-at-gt-EMULATION, else-at-unit-via-else-at-unit}
+use Rattle.vx_annexb.proofs.Fault.{clear_from, breaks_at_mark, breaks_behind, clear_behind, clear_all}
+use Rattle.vx_annexb.proofs.emulation.fault_from.Goals as goal
+use Rattle.vx_annexb.proofs.emulation.fault_from.Goals.{else-at-unit-via-then-at-unit+else-unit-at-gt-EMULATION, else-at-unit-via-else-at-unit}
+
+pub loop-mark-init : goal.loop-mark-init
+loop-mark-init c = clear_from c.args.unit.now c.args.from c.requires.within c.requires.clear
 
 pub returns-then-unit-mark-lt-EMULATION : goal.returns-then-unit-mark-lt-EMULATION
 returns-then-unit-mark-lt-EMULATION c =

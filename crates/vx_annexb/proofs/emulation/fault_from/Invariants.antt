@@ -1,6 +1,6 @@
 use Rattle.std.proofs.Common.{length, ◌-◌}
 use Rattle.vx_annexb.proofs.Fault.{IsClear}
-use Rattle.vx_annexb.proofs.emulation.emulation_fault.Given as goal
+use Rattle.vx_annexb.proofs.emulation.fault_from.Given as goal
 
 abbrev pub invariant-loop-mark : goal.invariant-loop-mark
 invariant-loop-mark l = IsClear l.unit l.at
