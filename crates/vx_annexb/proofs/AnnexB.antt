@@ -4,9 +4,10 @@ use Rattle.std.proofs.lemmas.List.{length-replicate, get_or-replicate, get_or_ap
 use Rattle.std.proofs.lemmas.List.Elements.{All-cons, All-head, All-nil, All-tail}
 use Rattle.std.proofs.lemmas.Bool.{cases_lt}
 use Rattle.std.specs.List.{All}
+use Rattle.vx_bits.specs.Codes.{EndsInNoZero}
 use Rattle.vx_annexb.proofs.Places.{length-slice, index-slice, mark_wider}
 use Rattle.vx_annexb.specs.Places.{AreZeros}
-use Rattle.vx_annexb.specs.Emulation.{BreaksRule, EndsInNoZero}
+use Rattle.vx_annexb.specs.Emulation.{BreaksRule}
 use Rattle.vx_annexb.specs.ByteStream.{StartsAt, CanEnd, UnitPlace, unit_bytes, IsUnit, FollowsFrom, end_of}
 use Rattle.vx_annexb.specs.Laws.{Part, part_bytes, annex_b, places_from, units_of, CanStand, HoldsNoCode, UnitsCanStand, StreamIsAnnexB, AnnexBIsStream}
 

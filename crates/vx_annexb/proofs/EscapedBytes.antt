@@ -2,7 +2,8 @@
 use Rattle.std.proofs.Common.{◌≡◌, ℕ, zero, suc, ◌+◌, ◌-◌, ◌<◌, ◌≤◌, ◌⊎◌, inl, inr, true, false, List, [], ◌∷◌, ◌++◌, length, take, slice_index, sym, ap, subst, ◌∙◌, arith, refl, ⊎_elim}
 use Rattle.std.proofs.lemmas.Bool.{cases_lt, cases_eq, false_from_ne_true, false≢true}
 use Rattle.std.proofs.lemmas.List.{get_or_append_left, get_or_push, length_push, take_more, take_all}
-use Rattle.vx_annexb.specs.Emulation.{is_emulation, BreaksRule, EndsInNoZero, unescaped_to, unescaped, IsEscaped}
+use Rattle.vx_bits.specs.Codes.{EndsInNoZero}
+use Rattle.vx_annexb.specs.Emulation.{is_emulation, BreaksRule, unescaped_to, unescaped, IsEscaped}
 use Rattle.vx_annexb.specs.Laws.{EscapedExists}
 use Rattle.vx_annexb.proofs.EmulationBytes.{emulation_is, emulation_from, same_emulation, same_unescaped, unescaped_skip, unescaped_keep, breaks_before}
 

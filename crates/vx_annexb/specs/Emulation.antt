@@ -1,5 +1,6 @@
 -- Emulation prevention within a NAL unit (H.266 7.3.1.1, 7.4.2.1), by places in a finished list of bytes.
-use Rattle.std.specs.Prelude.{◌≡◌, ◌≢◌, ℕ, zero, suc, ◌+◌, ◌-◌, ◌<◌, ◌≤◌, ◌⊎◌, ◌&&◌, ◌==◌, nat_le, Bool, IsTrue, List, [], ◌∷◌, ◌++◌, length, slice_index, if◌then◌else◌}
+use Rattle.std.specs.Prelude.{◌≡◌, ℕ, zero, suc, ◌+◌, ◌-◌, ◌<◌, ◌≤◌, ◌⊎◌, ◌&&◌, ◌==◌, nat_le, Bool, IsTrue, List, [], ◌∷◌, ◌++◌, length, slice_index, if◌then◌else◌}
+use Rattle.vx_bits.specs.Codes.{EndsInNoZero}
 use Rattle.vx_annexb.specs.Places.{IsMark}
 
 -- an emulation_prevention_three_byte stands at place k: 03 behind 00 00
@@ -11,10 +12,6 @@ abbrev pub BreaksRule : List ℕ → ℕ → Type 0
 BreaksRule n k =
     ((2 ≤ k) × IsMark 2 n (k - 2))
     ⊎ ((1 ≤ k) × (k < length n) × IsTrue (is_emulation n (k - 1)) × (3 < slice_index n k))
-
--- n doesn't end in 00 (7.4.2.1)
-abbrev pub EndsInNoZero : List ℕ → Type 0
-EndsInNoZero n = (k : ℕ) → length n ≡ k + 1 → slice_index n k ≢ 0
 
 -- the first k bytes of n without their emulation bytes
 abbrev pub unescaped_to : List ℕ → ℕ → List ℕ

@@ -2,8 +2,9 @@
 use Rattle.std.specs.Prelude.{◌≡◌, ℕ, ◌+◌, Bool, true, false, List, [], ◌∷◌, ◌++◌, All, Option, Some, None, drop, flat_map, length, map, replicate, take}
 use Rattle.vx_bits.specs.declared.refusal.Refusal.{Refusal}
 use Rattle.vx_bits.specs.declared.refusal.Refusal.TheVariants.{Framing}
+use Rattle.vx_bits.specs.Codes.{EndsInNoZero}
 use Rattle.vx_annexb.specs.Places.{IsMark}
-use Rattle.vx_annexb.specs.Emulation.{BreaksRule, EndsInNoZero, unescaped_to, unescaped, IsEscaped}
+use Rattle.vx_annexb.specs.Emulation.{BreaksRule, unescaped_to, unescaped, IsEscaped}
 use Rattle.vx_annexb.specs.ByteStream.{not_a_start_code, UnitPlace, unit_bytes, IsSound, FollowsFrom, IsStream, long_start_code}
 
 -- the bytes determine the units and the ending

@@ -1,7 +1,8 @@
 //! Emulation prevention: the 03 bytes that keep start codes out of a NAL unit (H.266 7.3.1.1, 7.4.2.1).
 ghost use Rattle.std.specs.Prelude.{◌≡◌, ℕ, ◌≤◌, ◌<◌, length, IfOk, MatchOption};
+ghost use Rattle.vx_bits.specs.Codes.{EndsInNoZero};
 ghost use Rattle.vx_annexb.specs.Places.{IsMark, IsFirstFrom};
-ghost use Rattle.vx_annexb.specs.Emulation.{is_emulation, BreaksRule, EndsInNoZero, unescaped_to, unescaped, IsEscaped};
+ghost use Rattle.vx_annexb.specs.Emulation.{is_emulation, BreaksRule, unescaped_to, unescaped, IsEscaped};
 
 use crate::search::find_mark;
 use std::alloc::{AllocError, Global};

@@ -1,8 +1,9 @@
 -- Lemmas on appending codes to bits.
-use Rattle.std.proofs.Common.{◌≡◌, ℕ, ◌+◌, ◌-◌, ◌*◌, ◌/◌, ◌%◌, ◌^◌, ◌<◌, ◌≤◌, suc, Bool, true, false, List, [], ◌∷◌, ◌++◌, length, refl, sym, ◌∙◌, ap, arith, add-one}
-use Rattle.std.specs.Prelude.{replicate, slice_index}
+use Rattle.std.proofs.Common.{◌≡◌, ℕ, ◌+◌, ◌-◌, ◌*◌, ◌/◌, ◌%◌, ◌^◌, ◌<◌, ◌≤◌, ◌↔◌, suc, Bool, true, false, List, [], ◌∷◌, ◌++◌, length, refl, sym, ◌∙◌, ap, arith, add-one}
+use Rattle.std.specs.Prelude.{◌==◌, IsTrue, replicate, slice_index}
 use Rattle.std.proofs.Math.Nat.{mul-lt-mul_of_pos_right}
 use Rattle.std.proofs.Math.Seq.{get_or-append_seam}
+use Rattle.std.proofs.lemmas.Bool.{eqb-true, eq-eqb}
 use Rattle.std.proofs.lemmas.List.{append-nil, append_assoc, length-append, length-replicate}
 use Rattle.std.proofs.lemmas.Nat.{pow-add, pow_pos, pow_below, div_below, mod_below, div-add-mod', leading_top}
 use lib.Count.{count_leading_zeros}
@@ -166,3 +167,16 @@ close_end bytes items used begun few below pushed k size none =
     = sym (get_or-append_seam bytes ((begun * 2 + 1) * 2 ^ (7 - used) % 256) [] 0) ∙ ap (λ n. slice_index (bytes ++ ((begun * 2 + 1) * 2 ^ (7 - used) % 256) ∷ []) n) at_end ∙ ap (λ xs. slice_index xs k) (sym pushed) ∙ none in
     let one : 0 * 2 ^ (7 - used) < (begun * 2 + 1) * 2 ^ (7 - used) = mul-lt-mul_of_pos_right (omega arith) (pow_pos (7 - used)) in
     absurd (omega (arith, last_fits used begun few below, is_zero, one))
+
+-- bits that end at a byte boundary are those of the whole bytes
+pub whole_bytes : (bytes : List ℕ) (used begun : ℕ) → used < 8 → length (bits_of bytes ++ fixed used begun) % 8 ≡ 0 → bits_of bytes ≡ bits_of bytes ++ fixed used begun
+whole_bytes bytes used begun below whole =
+    let none : used ≡ 0 = omega (arith, whole, length_begun bytes used begun) in
+    rw (none, fixed_none begun) (sym (append-nil (bits_of bytes)))
+
+-- bits end at a byte boundary where no further byte has begun
+pub aligned_is : (bytes : List ℕ) (used begun : ℕ) → used < 8 → IsTrue (used == 0) ↔ (length (bits_of bytes ++ fixed used begun) % 8 ≡ 0)
+aligned_is bytes used begun below = (
+  λ none. omega (arith, eqb-true used 0 none, length_begun bytes used begun),
+  λ whole. eq-eqb used 0 (omega (arith, whole, below, length_begun bytes used begun)),
+)

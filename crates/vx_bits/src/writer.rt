@@ -1,5 +1,5 @@
 //! Writing: codes are appended to bits.
-ghost use Rattle.std.specs.Prelude.{◌≡◌, ℕ, ◌+◌, ◌*◌, ◌/◌, ◌%◌, ◌^◌, ◌<◌, ◌≤◌, Bool, false, List, [], ◌++◌, length, replicate, IfOk, OnOk, OnErr, vec_len, vec_capacity};
+ghost use Rattle.std.specs.Prelude.{◌≡◌, ◌↔◌, ℕ, ◌+◌, ◌*◌, ◌/◌, ◌%◌, ◌^◌, ◌<◌, ◌≤◌, Bool, false, List, [], ◌++◌, length, replicate, IfOk, IsTrue, OnOk, OnErr, vec_len, vec_capacity};
 ghost use Rattle.vx_bits.specs.Codes.{fixed, exp_golomb, signed_exp_golomb, code_number, bits_of, zeros_from, one_from, EndsInNoZero, IsCodeNumber};
 
 use std::alloc::{AllocError, Global};
@@ -162,6 +162,26 @@ impl BitWriter {
         let behind = 7 - used;
         bytes.push((begun * 2 + 1) << behind)?;
         Ok(bytes)
+    }
+
+    /// Whether the bits end at a byte boundary.
+    pub fn is_aligned(&self) -> bool
+        ensures { IsTrue result ↔ (length self.now % 8 ≡ 0) }
+    {
+        self.used == 0
+    }
+
+    /// The bytes of bits that end at a byte boundary, as behind a written rbsp_trailing_bits(). Takes no memory.
+    pub fn into_bytes(self) -> Vec<u8>
+        requires { length self % 8 ≡ 0 }
+        ensures { bits_of result.items ≡ self }
+    {
+        let BitWriter {
+            bytes,
+            begun: _,
+            used: _,
+        } = self;
+        bytes
     }
 }
 
