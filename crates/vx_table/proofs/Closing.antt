@@ -1,6 +1,6 @@
 -- What may follow the values of a table.
 use Rattle.std.proofs.Common.{◌≡◌, ℕ, ℤ, zero, suc, ◌+◌, ◌-◌, ◌<◌, min, ◌⊎◌, inl, inr, Bool, true, false, List, [], ◌∷◌, ◌++◌, length, slice_set, refl, sym, subst, arith}
-use Rattle.std.specs.Prelude.{◌||◌, ◌&&◌, not, nat_lt, ◌==◌, cond}
+use Rattle.std.specs.Prelude.{◌||◌, not, nat_lt, ◌==◌, cond}
 use Rattle.std.proofs.lemmas.Bool.{and_parts, or_parts, not-true}
 use Rattle.std.proofs.lemmas.Bool.Decides.{leb_tells}
 use Rattle.vx_table.specs.declared.rows.Formula.{Formula}

@@ -1,7 +1,7 @@
 //! Tables read, written and sifted: a small structure with each kind of row, at the ends of each range, worked by hand.
 use crate::{
-    Row, Scope, SpellError, Unwritten, keep_table, parts, read_parts, read_value, table,
-    write_parts, write_table,
+    Row, Scope, SpellError, Unwritten, keep_parts, keep_table, parts, read_parts, read_value,
+    table, write_parts, write_table,
 };
 use std::alloc::Global;
 use std::test::Fail;
@@ -41,7 +41,7 @@ const PLACES: [Row; 3] = table! {
     15 other: ue below ([13] - 1) else Limit(9);
 };
 
-const COUNT: [Row; 1] = table! { 16 count: ue; };
+const COUNT: [Row; 1] = table! { 16* count: ue; };
 
 /// It comes in turns, and once more behind them.
 const ENTRY: [Row; 1] = table! { 17 entry: u([TURN] + 1); };
@@ -171,23 +171,21 @@ fn ends_where_the_bits_end(rt: HostRuntime) {
 
 #[test]
 fn writes_what_was_read(rt: HostRuntime) -> Result<(), Fail> {
-    let fields = read_value(
-        rt.alloc(),
-        &SMALL,
-        &mut Scope::new(),
-        &[0x68, 0x92, 0x90, 0x40],
-    )?;
-    let mut bits = BitWriter::new(rt.alloc());
-    let mut items = Unwritten::new(&fields, 0, fields.len());
-    assert_eq!(rt;
-        write_table(&SMALL, &mut Scope::new(), &mut bits, &mut items),
-        Ok(())
-    );
-    assert!(rt; items.is_empty());
-    assert_eq!(rt;
-        bits.close()?.as_slice(),
-        [0x68, 0x92, 0x90, 0x50].as_slice()
-    );
+    let cases: [(&[Row], &[u8], &[u8]); 2] = [
+        (&SMALL, &[0x68, 0x92, 0x90, 0x40], &[0x68, 0x92, 0x90, 0x50]),
+        (&ENDS, &[0xc0, 0x80], &[0xc0, 0x80, 0x80]),
+    ];
+    for (table, rbsp, wanted) in cases {
+        let fields = read_value(rt.alloc(), table, &mut Scope::new(), rbsp)?;
+        let mut bits = BitWriter::new(rt.alloc());
+        let mut items = Unwritten::new(&fields, 0, fields.len());
+        assert_eq!(rt;
+            write_table(table, &mut Scope::new(), &mut bits, &mut items),
+            Ok(())
+        );
+        assert!(rt; items.is_empty());
+        assert_eq!(rt; bits.close()?.as_slice(), wanted);
+    }
     Ok(())
 }
 
@@ -247,14 +245,15 @@ fn are(fields: &Fields, wanted: &[(u16, i64)]) -> bool {
 #[test]
 fn parts_come_in_turns(rt: HostRuntime) -> Result<(), Fail> {
     let parts = parts![COUNT, TURN in [16] => ENTRY, AGAIN, [18] => ENTRY];
-    let cases: [(&[u8], &[(u16, i64)]); 2] = [
-        (&[0xa0], &[(16, 0), (18, 0)]),
+    let cases: [(&[u8], &[(u16, i64)], &[(u16, i64)]); 2] = [
+        (&[0xa0], &[(16, 0), (18, 0)], &[(18, 0)]),
         (
             &[0x7b, 0x60],
             &[(16, 2), (17, 1), (17, 2), (18, 1), (17, 5)],
+            &[(17, 1), (17, 2), (18, 1), (17, 5)],
         ),
     ];
-    for (rbsp, wanted) in cases {
+    for (rbsp, wanted, without_stars) in cases {
         let mut fields = Fields::new(rt.alloc());
         let mut read = BitReader::new(rbsp);
         assert_eq!(rt;
@@ -269,6 +268,13 @@ fn parts_come_in_turns(rt: HostRuntime) -> Result<(), Fail> {
             Ok(())
         );
         assert_eq!(rt; written.close()?.as_slice(), rbsp);
+        let mut kept = Fields::new(rt.alloc());
+        let mut items = Unwritten::new(&fields, 0, fields.len());
+        assert_eq!(rt;
+            keep_parts(&parts, &mut Scope::new(), &mut items, &mut kept),
+            Ok(())
+        );
+        assert!(rt; are(&kept, without_stars));
     }
     Ok(())
 }
