@@ -1,0 +1,84 @@
+#!/bin/bash
+# Has each allocation fail in turn, in every test and in runs of the program, and counts what comes of it. Contracts
+# leave open when memory runs out; this shows that then nothing else changes. A test must fail for want of memory, and
+# `show` must answer 4 behind the lines of whole units, or each as ever, where it can do without. What is neither is
+# printed, and makes the status 1. No test of the gate: only how the C library is called is looked at.
+# Usage: scripts/fail-each-allocation.sh [CRATE..]   (from the top of the repository; all crates if none is named, and
+# the program; proves what it runs first, and needs cc; LAST=N stops behind the first N allocations, 20,000 if left out)
+set -euo pipefail
+work=$(mktemp -d)
+trap 'rm -rf "$work"' EXIT
+neither=0
+
+cat > "$work/fail.c" <<'C'
+// The allocations of the C library, of which the one whose number is FAIL_ALLOC gives nothing. COUNT tells how many.
+#include <stdio.h>
+#include <stdlib.h>
+void *__libc_malloc(size_t);
+void *__libc_realloc(void *, size_t);
+static long made, failing;
+__attribute__((constructor)) static void begin(void) { failing = atol(getenv("FAIL_ALLOC")); }
+void *malloc(size_t n) { return ++made == failing ? 0 : __libc_malloc(n); }
+void *realloc(void *p, size_t n) { return ++made == failing ? 0 : __libc_realloc(p, n); }
+__attribute__((destructor)) static void tell(void) {
+    long all = made;
+    FILE *count = fopen(getenv("COUNT"), "w");
+    if (count) { fprintf(count, "%ld\n", all); fclose(count); }
+}
+C
+cc -shared -fPIC -O1 -o "$work/fail.so" "$work/fail.c"
+
+# Runs a command whose n-th allocation fails, none for 0. Its status is in `status`, what it wrote in out and err.
+run() {
+  status=0
+  timeout 60 env FAIL_ALLOC="$1" COUNT="$work/count" LD_PRELOAD="$work/fail.so" "${@:2}" \
+    > "$work/out" 2> "$work/err" || status=$?
+}
+
+# Whether a test failed for want of memory.
+test_wants() { [ "$status" = 101 ] && [ "$(head -1 "$work/err")" = "error: AllocError" ]; }
+
+# Whether the program did: status 4, a front of its lines, and no other line on standard error.
+program_wants() {
+  local length
+  length=$(stat -c %s "$work/out")
+  [ "$status" = 4 ] && cmp -s -n "$length" "$work/out" "$work/whole" && [ -z "$(tail -c1 "$work/out")" ] \
+    && { [ ! -s "$work/err" ] || [ "$(cat "$work/err")" = "no memory" ]; }
+}
+
+# Has each allocation of a command fail. WANTS judges what came of it.
+fail_each() {
+  local name=$1 wants=$2 memory=0 ever=0 usual count; shift 2
+  run 0 "$@"
+  usual=$status count=$(cat "$work/count")
+  mv "$work/out" "$work/whole"; mv "$work/err" "$work/told"
+  [ "$count" -le "${LAST:-20000}" ] || count=${LAST:-20000}
+  for ((n = 1; n <= count; n++)); do
+    run "$n" "$@"
+    if $wants; then memory=$((memory + 1))
+    elif [ "$status" = "$usual" ] && cmp -s "$work/out" "$work/whole" && cmp -s "$work/err" "$work/told"; then
+      ever=$((ever + 1))
+    else
+      neither=1
+      echo "$name, allocation $n: status $status, $(head -c 200 "$work/err")"
+    fi
+  done
+  echo "$name: $count allocations, want of memory at $memory, as ever at $ever"
+}
+
+for crate in ${*:-$(grep -rl '#\[test\]' crates/*/src | cut -d/ -f2 | sort -u)}; do
+  (cd "crates/$crate" && rt test > "$work/log" 2>&1) || { tail -40 "$work/log"; exit 1; }
+  tests=$PWD/crates/$crate/out/${crate}_tests
+  for test in $("$tests" --list | grep -o '^.*: test$' | cut -d' ' -f1); do
+    fail_each "$crate ${test%:}" test_wants "$tests" "${test%:}"
+  done
+done
+
+# The program: a stored stream, and one that is refused behind the same units.
+(cd crates/vx_app && rt run -- show data/a.266 > "$work/log" 2>&1) || { tail -40 "$work/log"; exit 1; }
+program=$PWD/crates/vx_app/out/vx_app
+cp crates/vx_app/data/a.266 "$work/stored.266"
+{ cat "$work/stored.266"; printf '\0\0\1\x80\x79'; } > "$work/refused.266"
+fail_each "show, a stored stream" program_wants "$program" show "$work/stored.266"
+fail_each "show, a refused stream" program_wants "$program" show "$work/refused.266"
+exit "$neither"
