@@ -35,15 +35,15 @@ IsMade WriteFault = ⊥
 IsMade NoMemory = ⊥
 
 -- the refusal is one that has a line
-abbrev pub IsTold : Stop → Type 0
-IsTold (Refused refusal place) = HasLine refusal
-IsTold _ = Unit {0}
+abbrev pub IsTellable : Stop → Type 0
+IsTellable (Refused refusal place) = HasLine refusal
+IsTellable _ = Unit {0}
 
 -- the status and the line on `err` are the stop's, or those for want of memory
 pub record Concludes {E : Type 0} (stop : Stop) (status : ℕ) (err : Change E) : Type 0 where
   pub ended : ((status ≡ status_of stop) × Tells err (line_of stop)) ⊎ (IsMade stop × (status ≡ status_of NoMemory) × Tells err (line_of NoMemory))
 
 -- status 0 and no line where the command is done
-abbrev pub Ends : {E : Type 0} → Outcome → ℕ → Change E → Type 0
-Ends (Ok _) status err = (status ≡ 0) × IsUntouched err
-Ends (Err stop) status err = Concludes stop status err
+abbrev pub ExitsWith : {E : Type 0} → Outcome → ℕ → Change E → Type 0
+ExitsWith (Ok _) status err = (status ≡ 0) × IsUntouched err
+ExitsWith (Err stop) status err = Concludes stop status err

@@ -62,8 +62,8 @@ abbrev pub behind_unit : ℕ → Where
 behind_unit n = record { source = 0; unit = n; picture = 0; written = false }
 
 -- of the bytes that a source tells, their units and their ending
-abbrev pub WhereTold : {A : Type 0} → Change A → (List ℕ → List UnitPlace → Option Refusal → Type 0) → Type 0
-WhereTold source P =
+abbrev pub WhereKnown : {A : Type 0} → Change A → (List ℕ → List UnitPlace → Option Refusal → Type 0) → Type 0
+WhereKnown source P =
     (b : List ℕ) (units : List UnitPlace) (ending : Option Refusal) → source.bytes source.old ≡ Some b → IsShown b units ending → P b units ending
 
 -- a source gave its bytes in order, all of them or as many as the limit and one more
@@ -79,15 +79,15 @@ GivesToLimit source =
 abbrev pub Shows : {A K : Type 0} → Change A → Change K → Outcome → Type 0
 Shows source out (Ok _) =
     HasNoFault source × HasNoFault out × GivesFront source × IsAtEnd (source.bytes source.new)
-    × WhereTold source (λ b units ending. (ending ≡ None) × Gains out (shown_lines b units))
+    × WhereKnown source (λ b units ending. (ending ≡ None) × Gains out (shown_lines b units))
 Shows source out (Err (Refused refusal place)) =
     HasNoFault source × HasNoFault out × GivesToLimit source
-    × WhereTold source (λ b units ending. (ending ≡ Some refusal) × (place ≡ behind_unit (length units)) × Gains out (shown_lines b units))
+    × WhereKnown source (λ b units ending. (ending ≡ Some refusal) × (place ≡ behind_unit (length units)) × Gains out (shown_lines b units))
 Shows source out (Err (ReadFault k)) = HasFault source × (k ≡ 0) × GivesFront source × IsUntouched out
 Shows source out (Err WriteFault) =
     HasNoFault source × HasFault out × GivesToLimit source
-    × WhereTold source (λ b units ending. GainsFront out (shown_lines b units))
+    × WhereKnown source (λ b units ending. GainsFront out (shown_lines b units))
 Shows source out (Err NoMemory) =
     HasNoFault source × HasNoFault out × GivesFront source
-    × WhereTold source (λ b units ending. (n : ℕ) × Gains out (shown_lines b (take n units)))
+    × WhereKnown source (λ b units ending. (n : ℕ) × Gains out (shown_lines b (take n units)))
 Shows source out (Err NotUnderstood) = ⊥

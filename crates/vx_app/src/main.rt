@@ -23,7 +23,7 @@ fn main(rt: HostRuntime) -> ExitCode {
 }
 
 /// The status with which the program ends. Where a word is no text, or no
-/// memory is found before the first read, nothing is written.
+/// memory is found before `run`, nothing is written.
 fn status(rt: &HostRuntime) -> u8 {
     match words_of(rt) {
         Ok(words) => run_on_files(rt, &words).unwrap_or(4),

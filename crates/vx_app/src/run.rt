@@ -2,10 +2,10 @@
 
 ghost use Rattle.std.specs.Prelude.{◌≡◌, ◌≢◌, ◌↔◌, List, ℕ, Err, vec_len, IfErr};
 ghost use Rattle.vx_app.specs.Change.{HasFault, change, change_at};
-ghost use Rattle.vx_app.specs.Conclusion.{Outcome, IsTold, Ends};
+ghost use Rattle.vx_app.specs.Conclusion.{Outcome, IsTellable, ExitsWith};
 ghost use Rattle.vx_app.specs.Grammar.{show as for_show, AskFor, IsUnderstood, NamesFiles, texts};
 ghost use Rattle.vx_app.specs.Run.{Performs};
-ghost use Rattle.vx_app.specs.Show.{WhereTold, status_at};
+ghost use Rattle.vx_app.specs.Show.{WhereKnown, status_at};
 
 use crate::conclude::conclude;
 use crate::show::show;
@@ -31,7 +31,7 @@ pub fn run<K: Sink, E: Sink>(
     ensures ends { (outcome : Outcome)
         × Performs (texts words.now) (change_at bytes_left read_faults sources.old.items sources.new.items)
         (change K.bytes_taken K.write_faults out.old out.new) outcome
-        × Ends outcome result (change E.bytes_taken E.write_faults err.old err.new) }
+        × ExitsWith outcome result (change E.bytes_taken E.write_faults err.old err.new) }
     ensures list { vec_len sources.new ≡ vec_len sources.old }
 
     // Which status it is, want of memory and faults aside.
@@ -39,7 +39,7 @@ pub fn run<K: Sink, E: Sink>(
     ensures exact { (file : List ℕ) → AskFor (texts words.now) (for_show file)
         → let source = change_at bytes_left read_faults sources.old.items sources.new.items 0 in
         ¬ HasFault source → ¬ HasFault (change K.bytes_taken K.write_faults out.old out.new)
-        → result ≢ 4 → WhereTold source (λ b units ending. result ≡ status_at ending) }
+        → result ≢ 4 → WhereKnown source (λ b units ending. result ≡ status_at ending) }
 {
     match perform(alloc, words, sources, out) {
         Ok(()) => 0,
@@ -59,7 +59,7 @@ fn perform<K: Sink>(
         (change_at bytes_left read_faults sources.old.items sources.new.items)
         (change K.bytes_taken K.write_faults out.old out.new) result }
     ensures list { vec_len sources.new ≡ vec_len sources.old }
-    ensures told { IfErr result IsTold }
+    ensures tellable { IfErr result IsTellable }
 {
     match command_of(words) {
         Some(Command::Show { .. }) => show(alloc, &mut sources[0], out),

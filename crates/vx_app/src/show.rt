@@ -4,7 +4,7 @@ ghost use Rattle.std.specs.Prelude.{◌≡◌, ◌+◌, ◌-◌, ◌^◌, ◌<�
 ghost use Rattle.vx_annexb.specs.ByteStream.{UnitPlace};
 ghost use Rattle.vx_annexb.specs.Held.{Stands, IsReadable, fed, left_to_seek};
 ghost use Rattle.vx_app.specs.Change.{change};
-ghost use Rattle.vx_app.specs.Conclusion.{IsTold};
+ghost use Rattle.vx_app.specs.Conclusion.{IsTellable};
 ghost use Rattle.vx_app.specs.Show.{Shows, shown_line, behind_unit as place_behind};
 ghost use Rattle.vx_app.specs.ShowSteps.{TakesPiece, TakesIn, WritesLine, ShowsNext, ShowsUnits};
 
@@ -28,7 +28,7 @@ const SOURCE_TOO_LONG: Refusal = Refusal::Limit { code: LONG_SOURCE };
 pub fn show<K: Sink>(alloc: Global, source: &mut Box<dyn Source>, out: &mut K) -> Result<(), Stop>
     ensures shows { Shows (change bytes_left read_faults source.old source.new)
         (change K.bytes_taken K.write_faults out.old out.new) result }
-    ensures told { IfErr result IsTold }
+    ensures tellable { IfErr result IsTellable }
 {
     let mut splitter = Splitter::new(alloc);
     let ended = take_in(alloc, source, &mut splitter)?;

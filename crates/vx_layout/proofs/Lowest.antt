@@ -7,17 +7,17 @@ use Rattle.vx_layout.specs.Faults.{IsLayout, IsLowestFault}
 pub layout-faultless : (n : Numbers) (k : ℕ) → IsLayout n → ¬ IsLowestFault n k
 layout-faultless n k layout lowest =
     elim (cases_lt 3 k) [
-      | inr third ↦ lowest.third (omega (arith, lowest.from)) layout.subpics
-      | inl past_third ↦
+      | inr subpics ↦ lowest.breaks_subpics (omega (arith, lowest.from)) layout.subpics
+      | inl past_subpics ↦
           elim (cases_lt 4 k) [
-            | inr fourth ↦ lowest.fourth (omega arith) layout.tiles
-            | inl past_fourth ↦
+            | inr tiles ↦ lowest.breaks_tiles (omega arith) layout.tiles
+            | inl past_tiles ↦
                 elim (cases_lt 5 k) [
-                  | inr fifth ↦ lowest.fifth (omega arith) layout.slices
-                  | inl past_fifth ↦
+                  | inr slices ↦ lowest.breaks_slices (omega arith) layout.slices
+                  | inl past_slices ↦
                       elim (cases_lt 6 k) [
-                        | inr sixth ↦ lowest.sixth (omega arith) layout.split
-                        | inl past_sixth ↦ lowest.seventh (omega (arith, lowest.upto)) layout.order
+                        | inr split ↦ lowest.breaks_split (omega arith) layout.split
+                        | inl past_split ↦ lowest.breaks_order (omega (arith, lowest.upto)) layout.order
                       ]
                 ]
           ]
@@ -27,14 +27,14 @@ layout-faultless n k layout lowest =
 none_below : (n : Numbers) (j k : ℕ) → IsLowestFault n j → IsLowestFault n k → ¬ (j < k)
 none_below n j k at_j at_k below =
     elim (cases_lt 3 j) [
-      | inr third ↦ at_j.third (omega (arith, at_j.from)) (at_k.no_third (omega (arith, at_j.from)))
-      | inl past_third ↦
+      | inr subpics ↦ at_j.breaks_subpics (omega (arith, at_j.from)) (at_k.keeps_subpics (omega (arith, at_j.from)))
+      | inl past_subpics ↦
           elim (cases_lt 4 j) [
-            | inr fourth ↦ at_j.fourth (omega arith) (at_k.no_fourth (omega arith))
-            | inl past_fourth ↦
+            | inr tiles ↦ at_j.breaks_tiles (omega arith) (at_k.keeps_tiles (omega arith))
+            | inl past_tiles ↦
                 elim (cases_lt 5 j) [
-                  | inr fifth ↦ at_j.fifth (omega arith) (at_k.no_fifth (omega arith))
-                  | inl past_fifth ↦ at_j.sixth (omega (arith, at_k.upto)) (at_k.no_sixth (omega arith))
+                  | inr slices ↦ at_j.breaks_slices (omega arith) (at_k.keeps_slices (omega arith))
+                  | inl past_slices ↦ at_j.breaks_split (omega (arith, at_k.upto)) (at_k.keeps_split (omega arith))
                 ]
           ]
     ]

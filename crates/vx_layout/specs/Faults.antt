@@ -101,15 +101,15 @@ pub record IsLayout (n : Numbers) : Type 0 where
 pub record IsLowestFault (n : Numbers) (k : ℕ) : Type 0 where
   pub from : subpics_fault ≤ k
   pub upto : k ≤ order_fault
-  pub third : k ≡ subpics_fault → ¬ SubpicsCover n
-  pub no_third : subpics_fault < k → SubpicsCover n
-  pub fourth : k ≡ tile_split_fault → ¬ TilesSplit n
-  pub no_fourth : tile_split_fault < k → TilesSplit n
-  pub fifth : k ≡ slice_cover_fault → ¬ SlicesCover n
-  pub no_fifth : slice_cover_fault < k → SlicesCover n
-  pub sixth : k ≡ slice_split_fault → ¬ SlicesFit n
-  pub no_sixth : slice_split_fault < k → SlicesFit n
-  pub seventh : k ≡ order_fault → ¬ SlicesInOrder n
+  pub breaks_subpics : k ≡ subpics_fault → ¬ SubpicsCover n
+  pub keeps_subpics : subpics_fault < k → SubpicsCover n
+  pub breaks_tiles : k ≡ tile_split_fault → ¬ TilesSplit n
+  pub keeps_tiles : tile_split_fault < k → TilesSplit n
+  pub breaks_slices : k ≡ slice_cover_fault → ¬ SlicesCover n
+  pub keeps_slices : slice_cover_fault < k → SlicesCover n
+  pub breaks_split : k ≡ slice_split_fault → ¬ SlicesFit n
+  pub keeps_split : slice_split_fault < k → SlicesFit n
+  pub breaks_order : k ≡ order_fault → ¬ SlicesInOrder n
 
 -- P holds of the number of a fault
 abbrev pub IfFault : LayoutError → (ℕ → Type 0) → Type 0

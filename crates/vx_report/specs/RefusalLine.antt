@@ -3,11 +3,8 @@ use Rattle.std.specs.Prelude.{◌≡◌, ℕ, ◌≤◌, ◌==◌, List, [], ◌
 use Rattle.std.specs.List.{concat}
 use Rattle.vx_bits.specs.declared.refusal.Refusal.{Refusal}
 use Rattle.vx_bits.specs.declared.refusal.Refusal.TheVariants.{Framing, Limit}
+use Rattle.vx_annexb.specs.ByteStream.{long_unit}
 use Rattle.vx_report.specs.declared.refusal.Where.{Where}
-
--- L1, a unit is too long
-abbrev pub long_unit : ℕ
-long_unit = 1
 
 -- L3, a source is too long
 abbrev pub long_source : ℕ
