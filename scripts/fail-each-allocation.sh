@@ -36,7 +36,7 @@ run() {
 }
 
 # Whether a test failed for want of memory.
-test_wants() { [ "$status" = 101 ] && [ "$(head -1 "$work/err")" = "error: AllocError" ]; }
+test_wants() { [ "$status" = 101 ] && [[ "$(head -1 "$work/err")" =~ ^"error: Alloc"(Error|Failed) ]]; }
 
 # Whether the program did: status 4, a front of its lines, and no other line on standard error.
 program_wants() {

@@ -4,7 +4,7 @@ use crate::{file_count, file_word, run};
 use std::alloc::{AllocError, Global};
 use std::process::Abort;
 use std::test::Fail;
-use vx_io::{ClosedSource, MemorySink, MemorySource, Source};
+use vx_io::{MemorySink, MemorySource, Source};
 
 /// A parameter set of a sequence, one of a picture, and a slice: a gray picture of 64 by 64 samples.
 const GRAY: &[u8] = &[
@@ -14,16 +14,9 @@ const GRAY: &[u8] = &[
     0x80,
 ];
 
-const GRAY_LINES: &str = r#"{"bytes":20,"offset":4,"tid":0,"type":15}
+const GRAY_LINES: &[u8] = br#"{"bytes":20,"offset":4,"tid":0,"type":15}
 {"bytes":10,"offset":28,"tid":0,"type":16}
 {"bytes":7,"offset":42,"tid":0,"type":8}
-"#;
-
-const TWO_LINES: &str = r#"{"bytes":20,"offset":4,"tid":0,"type":15}
-{"bytes":10,"offset":28,"tid":0,"type":16}
-"#;
-
-const ONE_LINE: &str = r#"{"bytes":20,"offset":4,"tid":0,"type":15}
 "#;
 
 /// The same units with start codes of three bytes, zeros before, between and behind them.
@@ -34,7 +27,7 @@ const GRAY_AMONG_ZEROS: &[u8] = &[
     0xC4, 0x18, 0x5A, 0xA7, 0x80, 0x00, 0x00,
 ];
 
-const LINES_AMONG_ZEROS: &str = r#"{"bytes":20,"offset":7,"tid":0,"type":15}
+const LINES_AMONG_ZEROS: &[u8] = br#"{"bytes":20,"offset":7,"tid":0,"type":15}
 {"bytes":10,"offset":30,"tid":0,"type":16}
 {"bytes":7,"offset":46,"tid":0,"type":8}
 "#;
@@ -49,44 +42,56 @@ const ENCODED: &[u8] = &[
     0x29, 0x8B, 0x1E,
 ];
 
-const ENCODED_LINES: &str = r#"{"bytes":21,"offset":4,"tid":0,"type":15}
+const ENCODED_LINES: &[u8] = br#"{"bytes":21,"offset":4,"tid":0,"type":15}
 {"bytes":10,"offset":29,"tid":0,"type":16}
 {"bytes":40,"offset":43,"tid":0,"type":8}
 "#;
 
+/// A unit, and one whose forbidden bit is set.
+const BROKEN: &[u8] = &[0x00, 0x00, 0x01, 0x00, 0x79, 0x00, 0x00, 0x01, 0x80, 0x79];
+
+const BROKEN_LINE: &[u8] = br#"{"bytes":2,"offset":3,"tid":0,"type":15}
+"#;
+
 /// The words, a memory source and the sinks of a run, and what comes of it.
-struct Row {
-    words: &'static [&'static str],
-    bytes: &'static [u8],
-    pieces: &'static [u32],
-    failing_reads: &'static [u64],
-    taken: &'static [u32],
-    failing_writes: &'static [u64],
-    failing_tells: &'static [u64],
-    out: &'static str,
-    err: &'static str,
+#[derive(Clone, Copy)]
+struct Row<'a> {
+    words: &'a [&'a str],
+    bytes: &'a [u8],
+    pieces: &'a [u32],
+    failing_reads: &'a [u64],
+    room: usize,
+    taken: &'a [u32],
+    failing_writes: &'a [u64],
+    failing_tells: &'a [u64],
+    out: &'a [u8],
+    err: &'a [u8],
     status: u8,
 }
 
-const SHOW: Row = Row {
+const SHOW: Row<'static> = Row {
     words: &["show", "a.266"],
     bytes: GRAY,
     pieces: &[],
     failing_reads: &[],
+    room: 400,
     taken: &[],
     failing_writes: &[],
     failing_tells: &[],
     out: GRAY_LINES,
-    err: "",
+    err: b"",
     status: 0,
 };
 
 /// Whole streams.
-const SHOWN: [Row; 6] = [
+const SHOWN: [Row<'static>; 6] = [
     SHOW,
+    // A byte a call: the calls that would fail are those behind the last.
     Row {
         pieces: &[1],
-        taken: &[7, 1],
+        failing_reads: &[50],
+        taken: &[1],
+        failing_writes: &[126],
         ..SHOW
     },
     Row {
@@ -102,45 +107,44 @@ const SHOWN: [Row; 6] = [
     },
     Row {
         bytes: &[],
-        out: "",
+        out: b"",
         ..SHOW
     },
     Row {
         bytes: &[0, 0, 0, 0],
-        out: "",
+        out: b"",
         ..SHOW
     },
 ];
 
 /// Streams that are refused.
-const REFUSED: [Row; 6] = [
+const REFUSED: [Row<'static>; 5] = [
     Row {
         bytes: &[0x00, 0x00, 0x00, 0x00, 0x01, 0x42],
-        out: "",
-        err: "F3 source 0 byte 5\n",
+        out: b"",
+        err: b"F3 source 0 byte 5\n",
         status: 1,
         ..SHOW
     },
     Row {
         bytes: &[0x41, 0x00, 0x00, 0x01],
-        out: "",
-        err: "F1 source 0 byte 0\n",
+        out: b"",
+        err: b"F1 source 0 byte 0\n",
         status: 1,
         ..SHOW
     },
     Row {
         bytes: &[0x00, 0x00, 0x01, 0x00, 0x79, 0x00, 0x00, 0x02],
-        out: "",
-        err: "F2 source 0 byte 7\n",
+        out: b"",
+        err: b"F2 source 0 byte 7\n",
         status: 1,
         ..SHOW
     },
-    // The forbidden bit.
     Row {
-        bytes: &[0x00, 0x00, 0x01, 0x00, 0x79, 0x00, 0x00, 0x01, 0x80, 0x79],
+        bytes: BROKEN,
         pieces: &[1],
-        out: "{\"bytes\":2,\"offset\":3,\"tid\":0,\"type\":15}\n",
-        err: "F3 source 0 byte 8\n",
+        out: BROKEN_LINE,
+        err: b"F3 source 0 byte 8\n",
         status: 1,
         ..SHOW
     },
@@ -148,125 +152,54 @@ const REFUSED: [Row; 6] = [
     Row {
         bytes: &[0x00, 0x00, 0x01, 0x05, 0x0A, 0x80, 0x00, 0x00, 0x00, 0x02],
         pieces: &[3],
-        out: "{\"bytes\":3,\"offset\":3,\"tid\":1,\"type\":1}\n",
-        err: "F1 source 0 byte 9\n",
+        out: b"{\"bytes\":3,\"offset\":3,\"tid\":1,\"type\":1}\n",
+        err: b"F1 source 0 byte 9\n",
         status: 1,
-        ..SHOW
-    },
-    // A line that can't be written changes nothing else.
-    Row {
-        bytes: &[0x41],
-        failing_tells: &[0],
-        out: "",
-        status: 1,
-        ..SHOW
-    },
-];
-
-/// Reads and writes that fail, at the first call and at later ones.
-const FAILED: [Row; 8] = [
-    Row {
-        failing_reads: &[0],
-        out: "",
-        err: "read fault source 0\n",
-        status: 3,
-        ..SHOW
-    },
-    Row {
-        pieces: &[10],
-        failing_reads: &[3],
-        out: "",
-        err: "read fault source 0\n",
-        status: 3,
-        ..SHOW
-    },
-    // The read that would have told the end.
-    Row {
-        failing_reads: &[1],
-        out: "",
-        err: "read fault source 0\n",
-        status: 3,
-        ..SHOW
-    },
-    Row {
-        failing_writes: &[0],
-        out: "",
-        err: "write fault\n",
-        status: 3,
-        ..SHOW
-    },
-    Row {
-        failing_writes: &[1],
-        out: ONE_LINE,
-        err: "write fault\n",
-        status: 3,
-        ..SHOW
-    },
-    Row {
-        failing_writes: &[2],
-        out: TWO_LINES,
-        err: "write fault\n",
-        status: 3,
-        ..SHOW
-    },
-    Row {
-        taken: &[8],
-        failing_writes: &[1],
-        out: "{\"bytes\"",
-        err: "write fault\n",
-        status: 3,
-        ..SHOW
-    },
-    Row {
-        failing_writes: &[0],
-        failing_tells: &[0],
-        out: "",
-        status: 3,
         ..SHOW
     },
 ];
 
 /// Words that are no command.
-const NOT_UNDERSTOOD: [Row; 6] = [
+const NOT_UNDERSTOOD: [Row<'static>; 6] = [
     Row {
         words: &[],
-        out: "",
-        err: "words not understood\n",
+        out: b"",
+        err: b"words not understood\n",
         status: 2,
         ..SHOW
     },
     Row {
         words: &["show"],
-        out: "",
-        err: "words not understood\n",
+        out: b"",
+        err: b"words not understood\n",
         status: 2,
         ..SHOW
     },
     Row {
         words: &["show", ""],
-        out: "",
-        err: "words not understood\n",
+        out: b"",
+        err: b"words not understood\n",
         status: 2,
         ..SHOW
     },
     Row {
         words: &["show", "a.266", "b.266"],
-        out: "",
-        err: "words not understood\n",
+        out: b"",
+        err: b"words not understood\n",
         status: 2,
         ..SHOW
     },
     Row {
         words: &["Show", "a.266"],
-        out: "",
-        err: "words not understood\n",
+        out: b"",
+        err: b"words not understood\n",
         status: 2,
         ..SHOW
     },
     Row {
         words: &["a.266", "show"],
-        out: "",
-        err: "words not understood\n",
+        out: b"",
+        err: b"words not understood\n",
         status: 2,
         ..SHOW
     },
@@ -283,16 +216,11 @@ fn refuses(rt: HostRuntime) -> Result<(), Fail> {
 }
 
 #[test]
-fn tells_faults(rt: HostRuntime) -> Result<(), Fail> {
-    check_rows(&rt, rt.alloc(), &FAILED)
-}
-
-#[test]
 fn tells_other_words(rt: HostRuntime) -> Result<(), Fail> {
     check_rows(&rt, rt.alloc(), &NOT_UNDERSTOOD)
 }
 
-fn check_rows(rt: &impl Abort, alloc: Global, rows: &[Row]) -> Result<(), Fail> {
+fn check_rows(rt: &impl Abort, alloc: Global, rows: &[Row<'_>]) -> Result<(), Fail> {
     for (at, row) in rows.iter().enumerate() {
         check_row(rt, alloc, at, row)?;
     }
@@ -300,7 +228,7 @@ fn check_rows(rt: &impl Abort, alloc: Global, rows: &[Row]) -> Result<(), Fail> 
 }
 
 /// Runs the program as the row says, and compares what it wrote and answered.
-fn check_row(rt: &impl Abort, alloc: Global, at: usize, row: &Row) -> Result<(), Fail> {
+fn check_row(rt: &impl Abort, alloc: Global, at: usize, row: &Row<'_>) -> Result<(), Fail> {
     let words = words_of(alloc, row.words)?;
     let mut sources: Vec<Box<dyn Source>> = Vec::new(alloc);
     if file_count(&words) == 1 {
@@ -312,11 +240,17 @@ fn check_row(rt: &impl Abort, alloc: Global, at: usize, row: &Row) -> Result<(),
         sources.push(Box::new(alloc, source)?)?;
     }
     assert_eq!(rt; sources.len(), file_count(&words));
-    let mut out = sink(alloc, row.taken, row.failing_writes)?;
-    let mut err = sink(alloc, &[], row.failing_tells)?;
+    let mut out = sink(alloc, row.room, row.taken, row.failing_writes)?;
+    let mut err = sink(alloc, 400, &[1], row.failing_tells)?;
     let status = run(alloc, &words, &mut sources, &mut out, &mut err);
-    assert_eq!(rt; out.bytes(), row.out.as_bytes(), "out of row {at}");
-    assert_eq!(rt; err.bytes(), row.err.as_bytes(), "err of row {at}");
+    if status == 4 {
+        // No row expects it: want of memory, behind the lines of the first units.
+        assert!(rt; row.out.starts_with(out.bytes()), "out of row {at}");
+        assert_eq!(rt; err.bytes(), b"no memory\n".as_slice(), "err of row {at}");
+        return Err(AllocError.into());
+    }
+    assert_eq!(rt; out.bytes(), row.out, "out of row {at}");
+    assert_eq!(rt; err.bytes(), row.err, "err of row {at}");
     assert_eq!(rt; status, row.status, "status of row {at}");
     Ok(())
 }
@@ -329,14 +263,75 @@ fn words_of(alloc: Global, words: &[&str]) -> Result<Vec<String>, AllocError> {
     Ok(all)
 }
 
-/// A sink with room for the lines of these tests.
-fn sink(alloc: Global, pieces: &[u32], failing: &[u64]) -> Result<MemorySink, AllocError> {
+fn sink(
+    alloc: Global,
+    room: usize,
+    pieces: &[u32],
+    failing: &[u64],
+) -> Result<MemorySink, AllocError> {
     MemorySink::new(
         alloc,
-        400,
+        room,
         Vec::from_slice(alloc, pieces)?,
         Vec::from_slice(alloc, failing)?,
     )
+}
+
+/// A byte a read, and the k-th read fails. The last of the 50 would have told the end.
+#[test]
+fn tells_each_failed_read(rt: HostRuntime) -> Result<(), Fail> {
+    for k in 0..50 {
+        let row = Row {
+            pieces: &[1],
+            failing_reads: &[k as u64],
+            out: b"",
+            err: b"read fault source 0\n",
+            status: 3,
+            ..SHOW
+        };
+        check_row(&rt, rt.alloc(), k, &row)?;
+    }
+    Ok(())
+}
+
+/// A byte a write, and the k-th write fails, or there is room for k bytes: those were written.
+#[test]
+fn tells_each_failed_write(rt: HostRuntime) -> Result<(), Fail> {
+    for k in 0..GRAY_LINES.len() {
+        let short = Row {
+            out: &GRAY_LINES[..k],
+            err: b"write fault\n",
+            status: 3,
+            ..SHOW
+        };
+        let failing = Row {
+            taken: &[1],
+            failing_writes: &[k as u64],
+            ..short
+        };
+        check_row(&rt, rt.alloc(), k, &failing)?;
+        let full = Row { room: k, ..short };
+        check_row(&rt, rt.alloc(), k, &full)?;
+    }
+    Ok(())
+}
+
+/// A byte a write, and the k-th write to `err` fails: nothing else changes.
+#[test]
+fn keeps_its_answer_where_err_fails(rt: HostRuntime) -> Result<(), Fail> {
+    let line = b"F3 source 0 byte 8\n";
+    for k in 0..line.len() {
+        let row = Row {
+            bytes: BROKEN,
+            failing_tells: &[k as u64],
+            out: BROKEN_LINE,
+            err: &line[..k],
+            status: 1,
+            ..SHOW
+        };
+        check_row(&rt, rt.alloc(), k, &row)?;
+    }
+    Ok(())
 }
 
 #[test]
@@ -352,20 +347,5 @@ fn names_files(rt: HostRuntime) -> Result<(), Fail> {
         assert_eq!(rt; file_word(&words, 0), file);
         assert_eq!(rt; file_word(&words, 1), None);
     }
-    Ok(())
-}
-
-#[test]
-fn tells_a_file_that_cannot_be_opened(rt: HostRuntime) -> Result<(), Fail> {
-    let alloc = rt.alloc();
-    let words = words_of(alloc, &["show", "a.266"])?;
-    let mut sources: Vec<Box<dyn Source>> = Vec::new(alloc);
-    sources.push(Box::new(alloc, ClosedSource::new())?)?;
-    assert_eq!(rt; sources.len(), file_count(&words));
-    let mut out = sink(alloc, &[], &[])?;
-    let mut err = sink(alloc, &[], &[])?;
-    assert_eq!(rt; run(alloc, &words, &mut sources, &mut out, &mut err), 3);
-    assert_eq!(rt; out.bytes(), [].as_slice());
-    assert_eq!(rt; err.bytes(), b"read fault source 0\n".as_slice());
     Ok(())
 }
