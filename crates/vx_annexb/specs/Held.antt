@@ -93,6 +93,16 @@ pub record KeepsBytes (old new : Held) : Type 0 where
   pub base : new.base ≡ old.base
   pub all : new.all ≡ old.all
 
+-- what has been sought need not be sought again
+pub record KeepsSought (old new : Held) : Type 0 where
+  pub start : new.start ≡ old.start
+  pub sought : new.sought ≡ old.sought
+  pub clear : new.clear ≡ old.clear
+
+-- all bytes have been sought but the last two, with which what comes next may begin
+abbrev pub IsSought : Held → Type 0
+IsSought h = fed h ≤ h.sought + 2
+
 -- the answer of a search for the next unit's first byte
 abbrev pub HasStarted : List ℕ → List UnitPlace → Held → Result (Option ℕ) Refusal → Type 0
 HasStarted g units h (Ok (Some s)) = Stands h g units

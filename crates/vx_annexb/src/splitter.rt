@@ -71,11 +71,11 @@ fn drop_front(bytes: &mut Vec<u8>, n: usize)
 }
 
 impl Splitter {
-    ghost use Rattle.std.specs.Prelude.{◌≡◌, ℕ, ◌+◌, ◌-◌, ◌*◌, ◌^◌, ◌<◌, ◌≤◌, ◌++◌, [], List, true, false, length, slice_range, IfOk, IfErr, IfSome, OnOk, OnErr, OnSome, IsOk, IsSome, MatchOption};
+    ghost use Rattle.std.specs.Prelude.{◌≡◌, ℕ, ◌+◌, ◌-◌, ◌*◌, ◌^◌, ◌<◌, ◌≤◌, ◌++◌, [], List, true, false, length, slice_range, IfOk, IfErr, IfSome, IfNone, OnOk, OnErr, OnSome, IsOk, IsSome, MatchOption};
     ghost use Rattle.vx_bits.specs.declared.refusal.Refusal.{Refusal};
     ghost use Rattle.vx_annexb.specs.Places.{IsFirstFrom};
     ghost use Rattle.vx_annexb.specs.ByteStream.{UnitPlace, CanEnd};
-    ghost use Rattle.vx_annexb.specs.Held.{fed, needed_from, left_to_seek, Stands, HasStarted, IsReadable, KeepsBytes, Answers};
+    ghost use Rattle.vx_annexb.specs.Held.{fed, needed_from, left_to_seek, Stands, HasStarted, IsReadable, IsSought, KeepsBytes, KeepsSought, Answers};
 
     /// A splitter that was fed nothing.
     pub fn new(alloc: Global) -> Splitter
@@ -103,6 +103,7 @@ impl Splitter {
         ensures fed { OnOk result (fed self.new ≡ fed self.old + length piece.now) }
         ensures all { OnOk result (self.new.all ≡ false) }
         ensures refused { self.new.refused ≡ self.old.refused }
+        ensures sought { OnOk result (KeepsSought self.old self.new) }
         ensures spare { OnOk result (length self.new.kept ≤ 2 * (fed self.new - needed_from self.new)) }
         ensures err { OnErr result (self.new ≡ self.old) }
     {
@@ -135,6 +136,7 @@ impl Splitter {
         ensures falls { IfOk result (λ given. OnSome given (left_to_seek self.new < left_to_seek self.old)) }
         ensures refused { IfErr result (λ r. self.new.refused ≡ Some r) }
         ensures again { (r : Refusal) → self.old.refused ≡ Some r → result ≡ Err r }
+        ensures sought { IfOk result (λ given. IfNone given (IsSought self.new)) }
     {
         if let Some(refusal) = self.refused {
             return Err(refusal);
@@ -157,6 +159,7 @@ impl Splitter {
         ensures falls { IfOk result (λ _. left_to_seek self.new ≤ left_to_seek self.old) }
         ensures start { IfOk result (λ start. (self.new.start ≡ start) × (self.new.refused ≡ None)) }
         ensures refused { IfErr result (λ r. self.new.refused ≡ Some r) }
+        ensures sought { IfOk result (λ start. IfNone start (IsSought self.new)) }
     {
         if self.start.is_some() {
             return Ok(self.start);
@@ -211,6 +214,7 @@ impl Splitter {
         ensures open { self.new.refused ≡ None }
         ensures order { IfSome result (λ end. (start ≤ end) × (self.new.base ≤ start) × (self.new.sought ≤ end) × (self.new.from ≤ start) × (end ≤ fed self.new)) }
         ensures falls { left_to_seek self.new ≤ left_to_seek self.old }
+        ensures sought { IfNone result (IsSought self.new) }
     {
         let at = (self.sought - self.base) as usize;
         let end = match find_mark(&self.kept, at, 1) {
