@@ -246,7 +246,10 @@ fn check_row(rt: &impl Abort, alloc: Global, at: usize, row: &Row<'_>) -> Result
     if status == 4 {
         // No row expects it: want of memory, behind the lines of the first units.
         assert!(rt; row.out.starts_with(out.bytes()), "out of row {at}");
-        assert_eq!(rt; err.bytes(), b"no memory\n".as_slice(), "err of row {at}");
+        assert!(rt;
+            b"no memory\n".as_slice().starts_with(err.bytes()),
+            "err of row {at}"
+        );
         return Err(AllocError.into());
     }
     assert_eq!(rt; out.bytes(), row.out, "out of row {at}");
