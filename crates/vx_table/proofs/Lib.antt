@@ -15,6 +15,7 @@ pub mod Readings
 pub mod Steps
 pub mod Taking
 pub mod Every
+pub mod Joined
 pub mod Spelled
 pub mod Values
 pub mod Writings
