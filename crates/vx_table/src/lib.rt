@@ -35,8 +35,8 @@ pub use laws_depends::{
 };
 pub use laws_numbers::ceil_log2_is_least;
 pub use laws_spelling::{
-    every_answer, no_proper_prefix, one_answer, one_behind_another, one_reading, one_writing,
-    read_back, spelled_both_ways, what_may_follow,
+    every_answer, items_in_range, no_proper_prefix, one_answer, one_behind_another, one_reading,
+    one_writing, read_back, spelled_both_ways, what_may_follow,
 };
 pub use parts::{Part, code_parts, read_parts, write_parts};
 pub use ranges::{fault_of, has_code, is_value};
