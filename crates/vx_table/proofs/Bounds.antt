@@ -1,5 +1,5 @@
 -- Where rows give a field a range in numbers, the field's items lie in it.
-use Rattle.std.proofs.Common.{◌≡◌, ℕ, ℤ, pos, negsuc, zero, suc, Bool, true, false, cond, ◌&&◌, ◌==◌, inl, inr, List, Some, None, refl, arith}
+use Rattle.std.proofs.Common.{◌≡◌, ℕ, ℤ, pos, negsuc, zero, suc, Bool, true, false, cond, ◌&&◌, ◌==◌, inl, inr, List, Some, None, refl, arith, sym, ◌∙◌}
 use Rattle.std.specs.Prelude.{All, int_le}
 use Rattle.std.proofs.lemmas.Bool.{and_parts, eqb-true, eq-eqb, le-leb, cases_Bool, false≢true}
 use Rattle.std.proofs.lemmas.List.Elements.{All-cons, All-nil}
@@ -18,6 +18,7 @@ use Rattle.vx_table.specs.Spelling.{fault_of, is_multiple, item_of, items_along}
 use Rattle.vx_table.specs.Values.{Follows, to_end, through}
 use Rattle.vx_table.specs.EachField.{EachField}
 use Rattle.vx_table.specs.Bounds.{lies, LiesIn, KeepsRange, is_range, tells_range, LieInRange, PartsLieInRange}
+use Rattle.vx_table.proofs.Agreeing.{valued}
 use Rattle.vx_table.proofs.EachField.{each_of_rows, each_of_sections}
 
 -- a range that isn't broken
@@ -37,7 +38,7 @@ from_one unit (pos (suc v)) h = le-leb 1 (suc v) (omega arith)
 from_one unit (negsuc v) h = absurd (cc)
 
 range_is : (low high : ℕ) (s : List ℕ) (limits : Limits Formula) (v : ℤ) → is_range low high limits ≡ true → fault_of (limits_at s limits) v ≡ None → lies low high v ≡ true
-unfolding is_range fault_of limits_at value
+unfolding fault_of limits_at value
 range_is low high s (Within (pos l) (Plain (Number h)) fault) v is none =
     let parts = and_parts (l == low) (h == high) is in
     let here = unbroken (int_le (pos l) v && int_le v (pos h)) fault none in
@@ -51,10 +52,9 @@ range_is low high s limits v is none = absurd (cc)
 
 -- the row tells the range of its field at every scope
 tells : (of low high : ℕ) (c : Cell Formula) (s : List ℕ) → tells_range of low high (Field c) ≡ true → KeepsRange of low high (cell_at s c)
-unfolding tells_range
-tells of low high c s h = λ same v none. elim (cases_Bool (is_range low high c.limits)) [
+tells of low high c s h = λ has same v none. elim (cases_Bool (is_range low high c.limits)) [
   | inl is ↦ range_is low high s c.limits v is none
-  | inr other ↦ absurd (false≢true (rw (eq-eqb c.field of same, other) at h))
+  | inr other ↦ absurd (false≢true (rw (sym (valued s c.coding) ∙ has, eq-eqb c.field of same, other) at h))
 ]
 
 items_lie : {A : Type 0} (of low high : ℕ) {form : Form A} {w : List ℤ} {a : A} → EachField (KeepsRange of low high) form → Follows form w a → All (LiesIn of low high) (items_along form w)
@@ -63,7 +63,7 @@ items_lie of low high each to_end = All-nil (LiesIn of low high)
 items_lie of low high each (through {cell} {goes} {v} {w} value follows) =
     let more = items_lie of low high (each.1 v) follows in
     elim (cases_Bool (has_value cell.coding)) [
-      | inl is ↦ rw is (All-cons (LiesIn of low high) (record { field = cell.field; value = v }) (items_along (goes v) w) (λ same. each.0 same v value.range) more)
+      | inl is ↦ rw is (All-cons (LiesIn of low high) (record { field = cell.field; value = v }) (items_along (goes v) w) (λ same. each.0 is same v value.range) more)
       | inr none ↦ rw none more
     ]
 

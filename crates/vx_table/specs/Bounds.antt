@@ -9,7 +9,7 @@ use Rattle.vx_table.specs.declared.rows.Limits.TheVariants.{Within, Multiple}
 use Rattle.vx_table.specs.declared.rows.Cell.{Cell}
 use Rattle.vx_table.specs.declared.rows.Row.{Row}
 use Rattle.vx_table.specs.declared.rows.Row.TheVariants.{Field, Block, Name}
-use Rattle.vx_table.specs.Forms.{form_of}
+use Rattle.vx_table.specs.Forms.{has_value, form_of}
 use Rattle.vx_table.specs.Parts.{Section, sections_form}
 use Rattle.vx_table.specs.Spelling.{fault_of, items_along}
 use Rattle.vx_table.specs.Values.{Follows}
@@ -25,17 +25,17 @@ LiesIn of low high item = item.field ≡ of → IsTrue (lies low high item.value
 
 -- values of this field that break no range lie there
 abbrev pub KeepsRange : ℕ → ℕ → ℕ → Cell ℕ → Type 0
-KeepsRange of low high cell = cell.field ≡ of → (v : ℤ) → fault_of cell.limits v ≡ None → IsTrue (lies low high v)
+KeepsRange of low high cell = IsTrue (has_value cell.coding) → cell.field ≡ of → (v : ℤ) → fault_of cell.limits v ≡ None → IsTrue (lies low high v)
 
 -- the range is this one; multiples of a unit are from 1 on
-unfoldable pub is_range : ℕ → ℕ → Limits Formula → Bool
+abbrev pub is_range : ℕ → ℕ → Limits Formula → Bool
 is_range low high (Within (pos l) (Plain (Number h)) fault) = (l == low) && (h == high)
 is_range low high (Multiple unit h fault) = (1 == low) && (h == high)
 is_range low high limits = false
 
--- a row of this field says so
-unfoldable pub tells_range : ℕ → ℕ → ℕ → Row → Bool
-tells_range of low high (Field c) = not (c.field == of) || is_range low high c.limits
+-- a row of this field says so; a gap, which may have the number of a field beside it, says nothing
+abbrev pub tells_range : ℕ → ℕ → ℕ → Row → Bool
+tells_range of low high (Field c) = not (has_value c.coding && c.field == of) || is_range low high c.limits
 tells_range of low high (Block presence n) = true
 tells_range of low high (Name name formula) = true
 
