@@ -16,4 +16,6 @@ pub use depends::{dpb_depends, ptl_depends, sublayer_timing_depends, timing_depe
 pub use laws::{runs_are_spelled, structures_are_spelled, writes_what_was_read};
 pub use read::{read_dpb, read_ptl, read_sublayer_timing, read_timing, read_vps};
 pub use run::{is_run, write_run};
-pub use tables::{DPB, PTL, SUBLAYER_TIMING, TIMING, VPS};
+pub use tables::{
+    CPB, DPB, HRD, KIND, KINDS, LOWER, PTL, SUBLAYER_TIMING, TIMING, TURN, VPS, WITH_LEVEL,
+};

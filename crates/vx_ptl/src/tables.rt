@@ -1,22 +1,22 @@
 //! The tables of H.266 clauses 7.3.2.3, 7.3.3.1, 7.3.3.2, 7.3.4, 7.3.5.1, 7.3.5.2 and 7.3.5.3, for the accepted profiles.
 //!
-//! Names have numbers from 800 on, above those of all fields.
+//! Names have numbers from 800 on, above those of all fields; they are public, so that a claim on the tables can cite them.
 use vx_table::{Row, table};
 
 /// The number of a turn.
-const TURN: u16 = 800;
+pub const TURN: u16 = 800;
 /// The number of a CPB.
-const CPB: u16 = 801;
+pub const CPB: u16 = 801;
 /// The number of a kind of HRD parameters: NAL or VCL.
-const KIND: u16 = 802;
+pub const KIND: u16 = 802;
 /// How many sublayers have a level.
-const WITH_LEVEL: u16 = 803;
+pub const WITH_LEVEL: u16 = 803;
 /// How many sublayers below the highest have an entry.
-const LOWER: u16 = 804;
+pub const LOWER: u16 = 804;
 /// Whether there are HRD parameters.
-const HRD: u16 = 805;
+pub const HRD: u16 = 805;
 /// How many of the NAL and the VCL HRD parameters there are.
-const KINDS: u16 = 806;
+pub const KINDS: u16 = 806;
 
 /// The front of a video parameter set, clause 7.3.2.3.
 pub const VPS: [Row; 3] = table! {

@@ -12,17 +12,21 @@ use Rattle.vx_table.specs.declared.rows.Row.TheVariants.{Field, Block, Name}
 use Rattle.vx_table.specs.declared.rows.Presence.{Presence}
 use Rattle.vx_table.specs.declared.rows.Presence.TheVariants.{When, Repeat}
 use Rattle.vx_table.specs.Scope.{value}
-use Rattle.vx_table.specs.Forms.{Form, done, field, ◌>>=◌, coding_at, one_field, turns, present, part, form_of}
+use Rattle.vx_table.specs.Forms.{Form, done, field, ◌>>=◌, coding_at, one_field, present, part, form_of}
 use Rattle.vx_table.specs.Spelling.{MayEnd}
 use Rattle.vx_table.specs.Values.{bits_along, Closes}
 use Rattle.vx_table.specs.declared.parts.Part.{Part}
 use Rattle.vx_table.specs.Parts.{sections_form, parts_form}
+use Rattle.vx_table.specs.EachField.{EachField}
+use Rattle.vx_table.proofs.EachField.{each_then, each_present}
 use Rattle.vx_table.specs.Trailing.{is_trailing, has_trailing, trails_last, comes_once, parts_have_trailing, parts_trail_last, ClosesWithoutTrailing, ClosesAtTheEnd, PartsCloseWithoutTrailing, PartsCloseAtTheEnd}
 
 -- No field of the form is a trailing.
-data IsOpen {A : Type 0} : Form A → Type 0 where
-  over : {a : A} → IsOpen (done a)
-  on : {cell : Cell ℕ} {goes : ℤ → Form A} → is_trailing cell.coding ≡ false → ((v : ℤ) → IsOpen (goes v)) → IsOpen (field cell goes)
+abbrev IsNoTrailing : Cell ℕ → Type 0
+IsNoTrailing cell = is_trailing cell.coding ≡ false
+
+abbrev IsOpen : {A : Type 0} → Form A → Type 0
+IsOpen form = EachField IsNoTrailing form
 
 may_end : (coding : Coding ℕ) (rest : List Bool) → is_trailing coding ≡ false → MayEnd coding rest
 unfolding MayEnd is_trailing
@@ -38,11 +42,7 @@ may_end Refused rest none = tt
 closes : {A : Type 0} (form : Form A) (place : ℕ) (values : List ℤ) (rest : List Bool) → IsOpen form → Closes form place values rest
 closes (done a) place values rest is = tt
 closes (field cell goes) place [] rest is = tt
-closes (field cell goes) place (v ∷ w) rest (on none more) = (may_end cell.coding _ none, closes (goes v) _ w rest (more v))
-
-sequence : {A B : Type 0} (f : Form A) (next : A → Form B) → IsOpen f → ((a : A) → IsOpen (next a)) → IsOpen (f >>= next)
-sequence (done a) next is others = others a
-sequence (field cell goes) next (on none more) others = on none (λ v. sequence (goes v) next (more v) others)
+closes (field cell goes) place (v ∷ w) rest is = (may_end cell.coding _ is.0, closes (goes v) _ w rest (is.1 v))
 
 -- a scope doesn't make a trailing
 same_kind : (s : List ℕ) (coding : Coding Formula) → is_trailing coding ≡ false → is_trailing (coding_at s coding) ≡ false
@@ -58,29 +58,19 @@ same_kind s Refused none = refl
 
 open_field : (s : List ℕ) (c : Cell Formula) → is_trailing c.coding ≡ false → IsOpen (one_field s c)
 unfolding one_field
-open_field s c none = on (same_kind s c.coding none) (λ v. over)
-
-open_turns : (block : List ℕ → Form (List ℕ)) (counter turn times : ℕ) (s : List ℕ) → ((t : List ℕ) → IsOpen (block t)) → IsOpen (turns block counter turn times s)
-unfolding turns
-open_turns block counter turn zero s is = over
-open_turns block counter turn (suc more) s is = sequence (block (slice_set s counter turn)) (turns block counter (turn + 1) more) (is (slice_set s counter turn)) (λ t. open_turns block counter (turn + 1) more t is)
-
-open_present : (presence : Presence) (block : List ℕ → Form (List ℕ)) (s : List ℕ) → ((t : List ℕ) → IsOpen (block t)) → IsOpen (present presence block s)
-unfolding present
-open_present (When holds) block s is = elim (value s holds == 0) as (λ b. IsOpen (cond b (done s) (block s))) [ true ↦ over | false ↦ is s ]
-open_present (Repeat counter times) block s is = open_turns block counter 0 (value s times) s is
+open_field s c none = (same_kind s c.coding none, λ v. tt)
 
 open_part : (skip len : ℕ) (rows : List Row) (s : List ℕ) → has_trailing rows ≡ false → IsOpen (part skip len rows s)
 unfolding part has_trailing
-open_part skip len [] s none = over
+open_part skip len [] s none = tt
 open_part (suc skip) len (Field c ∷ rows) s none = open_part skip len rows s (or_parts _ _ none).1
 open_part (suc skip) len (Block presence n ∷ rows) s none = open_part skip len rows s none
 open_part (suc skip) len (Name name formula ∷ rows) s none = open_part skip len rows s none
-open_part zero zero (row ∷ rows) s none = over
+open_part zero zero (row ∷ rows) s none = tt
 open_part zero (suc len) (Field c ∷ rows) s none =
-    sequence (one_field s c) (part 0 len rows) (open_field s c (or_parts _ _ none).0) (λ t. open_part 0 len rows t (or_parts _ _ none).1)
+    each_then IsNoTrailing (one_field s c) (part 0 len rows) (open_field s c (or_parts _ _ none).0) (λ t. open_part 0 len rows t (or_parts _ _ none).1)
 open_part zero (suc len) (Block presence n ∷ rows) s none =
-    sequence (present presence (part 0 (min n len) rows) s) (part (min n len) (len - min n len) rows) (open_present presence (part 0 (min n len) rows) s (λ t. open_part 0 (min n len) rows t none))
+    each_then IsNoTrailing (present presence (part 0 (min n len) rows) s) (part (min n len) (len - min n len) rows) (each_present IsNoTrailing presence (part 0 (min n len) rows) s (λ t. open_part 0 (min n len) rows t none))
     (λ t. open_part (min n len) (len - min n len) rows t none)
 open_part zero (suc len) (Name name formula ∷ rows) s none = open_part 0 len rows (slice_set s name (value s formula)) none
 
@@ -121,7 +111,7 @@ closes_end (field cell goes) place (v ∷ w) (last ends) = over_closes (goes v) 
 
 sequence_last : {A B : Type 0} (f : Form A) (next : A → Form B) → IsOpen f → ((a : A) → ComesLast (next a)) → ComesLast (f >>= next)
 sequence_last (done a) next is others = others a
-sequence_last (field cell goes) next (on none more) others = before none (λ v. sequence_last (goes v) next (more v) others)
+sequence_last (field cell goes) next is others = before is.0 (λ v. sequence_last (goes v) next (is.1 v) others)
 
 -- the block ends before the last row, or no row is a trailing
 block_ends : (n : ℕ) (rows : List Row) → (nat_lt n (length rows) || not (has_trailing rows)) ≡ true → (n < length rows) ⊎ (has_trailing rows ≡ false)
@@ -141,17 +131,17 @@ tail_last (Name name formula) rows holds = holds
 -- before the last row there is no trailing
 open_before : (skip len : ℕ) (rows : List Row) (s : List ℕ) → trails_last rows ≡ true → skip + len < length rows → IsOpen (part skip len rows s)
 unfolding part trails_last
-open_before skip len [] s holds few = over
+open_before skip len [] s holds few = tt
 open_before (suc skip) len (row ∷ rows) s holds few = open_before skip len rows s (tail_last row rows holds) (omega arith)
-open_before zero zero (row ∷ rows) s holds few = over
+open_before zero zero (row ∷ rows) s holds few = tt
 open_before zero (suc len) (Field c ∷ []) s holds few = absurd (omega arith)
 open_before zero (suc len) (Field c ∷ row ∷ rows) s holds few =
     let parts = and_parts (not (is_trailing c.coding)) (trails_last (row ∷ rows)) holds in
-    sequence (one_field s c) (part 0 len (row ∷ rows)) (open_field s c (not-true _ parts.0)) (λ t. open_before 0 len (row ∷ rows) t parts.1 (omega arith))
+    each_then IsNoTrailing (one_field s c) (part 0 len (row ∷ rows)) (open_field s c (not-true _ parts.0)) (λ t. open_before 0 len (row ∷ rows) t parts.1 (omega arith))
 open_before zero (suc len) (Block presence n ∷ rows) s holds few =
     let more = (and_parts (nat_lt n (length rows) || not (has_trailing rows)) (trails_last rows) holds).1 in
-    sequence (present presence (part 0 (min n len) rows) s) (part (min n len) (len - min n len) rows)
-    (open_present presence (part 0 (min n len) rows) s (λ t. open_before 0 (min n len) rows t more (omega arith)))
+    each_then IsNoTrailing (present presence (part 0 (min n len) rows) s) (part (min n len) (len - min n len) rows)
+    (each_present IsNoTrailing presence (part 0 (min n len) rows) s (λ t. open_before 0 (min n len) rows t more (omega arith)))
     (λ t. open_before (min n len) (len - min n len) rows t more (omega arith))
 open_before zero (suc len) (Name name formula ∷ rows) s holds few = open_before 0 len rows (slice_set s name (value s formula)) holds (omega arith)
 
@@ -171,7 +161,7 @@ last_part zero (suc len) (Block presence n ∷ rows) s holds all =
       | inl few ↦ open_before 0 (min n len) rows t parts.1 (omega arith)
       | inr none ↦ open_part 0 (min n len) rows t none
     ] in
-    sequence_last (present presence (part 0 (min n len) rows) s) (part (min n len) (len - min n len) rows) (open_present presence (part 0 (min n len) rows) s block)
+    sequence_last (present presence (part 0 (min n len) rows) s) (part (min n len) (len - min n len) rows) (each_present IsNoTrailing presence (part 0 (min n len) rows) s block)
     (λ t. last_part (min n len) (len - min n len) rows t parts.1 (omega arith))
 last_part zero (suc len) (Name name formula ∷ rows) s holds all = last_part 0 len rows (slice_set s name (value s formula)) holds (omega arith)
 
@@ -197,10 +187,10 @@ alone (field cell goes) (last ends) = last (λ v. ((ends v).0, subst (λ x. (x >
 
 open_parts : (parts : List Part) (s : List ℕ) → parts_have_trailing parts ≡ false → IsOpen (parts_form parts s)
 unfolding sections_form parts_have_trailing
-open_parts [] s none = over
+open_parts [] s none = tt
 open_parts (part ∷ parts) s none =
     let both = or_parts (has_trailing part.rows.now) (parts_have_trailing parts) none in
-    sequence (present part.presence (form_of part.rows.now) s) (parts_form parts) (open_present part.presence (form_of part.rows.now) s (λ t. open_form part.rows.now t both.0)) (λ t. open_parts parts t both.1)
+    each_then IsNoTrailing (present part.presence (form_of part.rows.now) s) (parts_form parts) (each_present IsNoTrailing part.presence (form_of part.rows.now) s (λ t. open_form part.rows.now t both.0)) (λ t. open_parts parts t both.1)
 
 last_parts : (parts : List Part) (s : List ℕ) → parts_trail_last parts ≡ true → ComesLast (parts_form parts s)
 unfolding sections_form parts_trail_last
@@ -210,7 +200,7 @@ last_parts (part ∷ []) s holds =
     alone (present part.presence (form_of part.rows.now) s) (last_present part.presence (form_of part.rows.now) s both.0 (λ t. last_form part.rows.now t both.1))
 last_parts (part ∷ next ∷ parts) s holds =
     let both = and_parts (not (has_trailing part.rows.now)) (parts_trail_last (next ∷ parts)) holds in
-    sequence_last (present part.presence (form_of part.rows.now) s) (parts_form (next ∷ parts)) (open_present part.presence (form_of part.rows.now) s (λ t. open_form part.rows.now t (not-true _ both.0)))
+    sequence_last (present part.presence (form_of part.rows.now) s) (parts_form (next ∷ parts)) (each_present IsNoTrailing part.presence (form_of part.rows.now) s (λ t. open_form part.rows.now t (not-true _ both.0)))
     (λ t. last_parts (next ∷ parts) t both.1)
 
 pub parts_close : PartsCloseWithoutTrailing

@@ -1,4 +1,6 @@
 -- Lemmas on codings, on walks, readers and writers, and on what fields depend on.
+pub mod EachField
+pub mod Bounds
 pub mod Starred
 mod Keepings
 pub mod Shown
@@ -15,6 +17,7 @@ pub mod Readings
 pub mod Steps
 pub mod Taking
 pub mod Every
+pub mod Joined
 pub mod Spelled
 pub mod Values
 pub mod Writings

@@ -1,43 +1,23 @@
 -- Where the stars of a table tell what is shown, its forms keep the shown fields, and the kept items tell these.
-use Rattle.std.proofs.Common.{◌≡◌, inl, inr, ℕ, ℤ, zero, suc, ◌+◌, ◌-◌, min, Bool, true, false, cond, not, ◌==◌, IsTrue, List, [], ◌∷◌, ◌++◌, length, slice_set, refl, sym, subst, ◌∙◌}
+use Rattle.std.proofs.Common.{◌≡◌, inl, inr, ℕ, ℤ, Bool, true, false, cond, not, IsTrue, List, [], ◌∷◌, ◌++◌, refl, sym, subst, ◌∙◌}
 use Rattle.std.proofs.Math.Bool.{and-false}
-use Rattle.std.proofs.lemmas.Bool.{cases_Bool, and_parts, not-true}
+use Rattle.std.proofs.lemmas.Bool.{cases_Bool, not-true}
 use Rattle.vx_bits.specs.declared.list.Item.{Item}
 use Rattle.vx_table.specs.declared.rows.Formula.{Formula}
 use Rattle.vx_table.specs.declared.rows.Coding.{Coding}
 use Rattle.vx_table.specs.declared.rows.Coding.TheVariants.{Fixed, Golomb, SignedGolomb, Zeros, OneAndZeros, Trailing, Absent, Refused}
 use Rattle.vx_table.specs.declared.rows.Cell.{Cell}
-use Rattle.vx_table.specs.declared.rows.Presence.{Presence}
-use Rattle.vx_table.specs.declared.rows.Presence.TheVariants.{When, Repeat}
 use Rattle.vx_table.specs.declared.rows.Row.{Row}
-use Rattle.vx_table.specs.declared.rows.Row.TheVariants.{Field, Block, Name}
-use Rattle.vx_table.specs.Scope.{value}
-use Rattle.vx_table.specs.Forms.{Form, done, field, ◌>>=◌, coding_at, cell_at, after, one_field, turns, present, part, form_of}
+use Rattle.vx_table.specs.declared.rows.Row.TheVariants.{Field}
+use Rattle.vx_table.specs.Forms.{Form, field, coding_at, cell_at, form_of}
 use Rattle.vx_table.specs.Parts.{Section, sections_form}
 use Rattle.vx_table.specs.Spelling.{HasCode}
 use Rattle.vx_table.specs.Values.{Follows, to_end, through}
 use Rattle.vx_table.specs.Depends.{has, with_all, set_of, Agree, Alike, at_ends, both, hidden_left, hidden_right}
 use Rattle.vx_table.specs.Kept.{stands_for_field, kept_item, kept_along}
 use Rattle.vx_table.proofs.Items.{same_value}
-use Rattle.vx_table.specs.Shown.{shown_cells, KeepsShown, KeepsOnly, CellsFollowKept, KeptTellsKept, star_tells, stars_tell, sections_stars_tell}
-
-keeps_then : (shown : List ℕ) (f : Form (List ℕ)) (next : List ℕ → Form (List ℕ)) → KeepsShown shown f → ((t : List ℕ) → KeepsShown shown (next t)) → KeepsShown shown (f >>= next)
-keeps_then shown (done t) next keeps behind = behind t
-keeps_then shown (field cell goes) next keeps behind = (keeps.0, λ v. keeps_then shown (goes v) next (keeps.1 v) behind)
-
-keeps_turns : (shown : List ℕ) (block : List ℕ → Form (List ℕ)) (counter turn times : ℕ) (s : List ℕ) → ((t : List ℕ) → KeepsShown shown (block t)) → KeepsShown shown (turns block counter turn times s)
-unfolding turns
-keeps_turns shown block counter turn zero s keeps = tt
-keeps_turns shown block counter turn (suc more) s keeps =
-    keeps_then shown (block (slice_set s counter turn)) (turns block counter (turn + 1) more) (keeps (slice_set s counter turn)) (λ t. keeps_turns shown block counter (turn + 1) more t keeps)
-
-keeps_present : (shown : List ℕ) (presence : Presence) (block : List ℕ → Form (List ℕ)) (s : List ℕ) → ((t : List ℕ) → KeepsShown shown (block t)) → KeepsShown shown (present presence block s)
-unfolding present
-keeps_present shown (When holds) block s keeps = elim (value s holds == 0) as (λ none. KeepsShown shown (cond none (done s) (block s))) [
-  | true ↦ tt
-  | false ↦ keeps s
-]
-keeps_present shown (Repeat counter times) block s keeps = keeps_turns shown block counter 0 (value s times) s keeps
+use Rattle.vx_table.proofs.EachField.{each_of_rows, each_of_sections}
+use Rattle.vx_table.specs.Shown.{shown_cells, IsKeptWhereShown, KeepsShown, KeepsOnly, CellsFollowKept, KeptTellsKept, star_tells, stars_tell, sections_stars_tell}
 
 -- a field stands for one at each scope or at none
 standing : (s : List ℕ) (coding : Coding Formula) → stands_for_field (coding_at s coding) ≡ stands_for_field coding
@@ -55,44 +35,20 @@ same_tests : (kept is : Bool) → cond kept is (not is) ≡ true → kept ≡ is
 same_tests true is h = sym h
 same_tests false is h = sym (not-true is h)
 
-starred : (shown s : List ℕ) (c : Cell Formula) → star_tells shown (Field c) ≡ true → IsTrue (stands_for_field (coding_at s c.coding)) → c.kept ≡ has shown c.field
+starred : (shown : List ℕ) (c : Cell Formula) (s : List ℕ) → star_tells shown (Field c) ≡ true → IsKeptWhereShown shown (cell_at s c)
 unfolding star_tells
-starred shown s c h stands = same_tests c.kept (has shown c.field) (rw (sym (standing s c.coding) ∙ stands) at h)
-
-keeps_part : (shown : List ℕ) (skip len : ℕ) (rows : List Row) (s : List ℕ) → stars_tell shown rows ≡ true → KeepsShown shown (part skip len rows s)
-unfolding part one_field
-keeps_part shown zero len [] s h = tt
-keeps_part shown (suc skip) len [] s h = tt
-keeps_part shown (suc skip) len (row ∷ rows) s h = keeps_part shown skip len rows s (and_parts (star_tells shown row) (stars_tell shown rows) h).1
-keeps_part shown zero zero (row ∷ rows) s h = tt
-keeps_part shown zero (suc len) (Field c ∷ rows) s h =
-    let parts = and_parts (star_tells shown (Field c)) (stars_tell shown rows) h in
-    (λ stands. starred shown s c parts.0 stands, λ v. keeps_part shown 0 len rows (after s (cell_at s c) v) parts.1)
-keeps_part shown zero (suc len) (Block presence n ∷ rows) s h =
-    let rest = (and_parts (star_tells shown (Block presence n)) (stars_tell shown rows) h).1 in
-    keeps_then shown (present presence (part 0 (min n len) rows) s) (part (min n len) (len - min n len) rows)
-    (keeps_present shown presence (part 0 (min n len) rows) s (λ t. keeps_part shown 0 (min n len) rows t rest)) (λ t. keeps_part shown (min n len) (len - min n len) rows t rest)
-keeps_part shown zero (suc len) (Name name formula ∷ rows) s h =
-    keeps_part shown 0 len rows (slice_set s name (value s formula)) (and_parts (star_tells shown (Name name formula)) (stars_tell shown rows) h).1
-
-table_keeps : (shown : List ℕ) (rows : List Row) (s : List ℕ) → stars_tell shown rows ≡ true → KeepsShown shown (form_of rows s)
-unfolding form_of
-table_keeps shown rows s h = keeps_part shown 0 (length rows) rows s h
-
-sections_keep : (shown : List ℕ) (sections : List Section) (s : List ℕ) → sections_stars_tell shown sections ≡ true → KeepsShown shown (sections_form sections s)
-unfolding sections_form
-sections_keep shown [] s h = tt
-sections_keep shown (section ∷ more) s h =
-    let parts = and_parts (stars_tell shown section.rows) (sections_stars_tell shown more) h in
-    keeps_then shown (present section.presence (form_of section.rows) s) (sections_form more)
-    (keeps_present shown section.presence (form_of section.rows) s (λ t. table_keeps shown section.rows t parts.0)) (λ t. sections_keep shown more t parts.1)
+starred shown c s h = λ stands. same_tests c.kept (has shown c.field) (rw (sym (standing s c.coding) ∙ stands) at h)
 
 -- What the test of a table and of a structure says.
 pub table_keeps_only : (given shown : List ℕ) (rows : List Row) → stars_tell (with_all (set_of given) shown) rows ≡ true → KeepsOnly given shown (form_of rows)
-table_keeps_only given shown rows h = record { keeps = λ s. table_keeps (with_all (set_of given) shown) rows s h }
+table_keeps_only given shown rows h =
+    let known = with_all (set_of given) shown in
+    record { keeps = λ s. each_of_rows (IsKeptWhereShown known) (star_tells known) (λ c t. starred known c t) rows s h }
 
 pub structure_keeps_only : (given shown : List ℕ) (sections : List Section) → sections_stars_tell (with_all (set_of given) shown) sections ≡ true → KeepsOnly given shown (sections_form sections)
-structure_keeps_only given shown sections h = record { keeps = λ s. sections_keep (with_all (set_of given) shown) sections s h }
+structure_keeps_only given shown sections h =
+    let known = with_all (set_of given) shown in
+    record { keeps = λ s. each_of_sections (IsKeptWhereShown known) (star_tells known) (λ c t. starred known c t) sections s h }
 
 -- what stands for no field has one value
 only_value : (coding : Coding ℕ) (v w : ℤ) → stands_for_field coding ≡ false → HasCode coding v → HasCode coding w → v ≡ w

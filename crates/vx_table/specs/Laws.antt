@@ -3,9 +3,9 @@ use Rattle.std.specs.Prelude.{◌≡◌, ◌↔◌, ◌⊎◌, ℕ, ℤ, ◌+◌
 use Rattle.vx_bits.specs.declared.list.Item.{Item}
 use Rattle.vx_bits.specs.declared.refusal.Refusal.{Refusal}
 use Rattle.vx_table.specs.declared.rows.Cell.{Cell}
-use Rattle.vx_table.specs.Forms.{Form}
+use Rattle.vx_table.specs.Forms.{Form, ◌>>=◌}
 use Rattle.vx_table.specs.Spelling.{Spells, Reaches, IsRefused, items_along}
-use Rattle.vx_table.specs.Values.{Follows, ComesTo, bits_along, Closes}
+use Rattle.vx_table.specs.Values.{Follows, Parted, ComesTo, bits_along, Closes}
 
 -- bits that begin with spellings of two values begin with one
 abbrev pub ReadsOneWay : Type 0
@@ -51,3 +51,22 @@ SpellsApart = (form : Form (List ℕ)) (place : ℕ) (v w : List ℤ) (a b : Lis
 abbrev pub ItemsApart : Type 0
 ItemsApart = (form : Form (List ℕ)) (v w : List ℤ) (a b : List ℕ) (r s : List Item) → Follows form v a → Follows form w b
     → items_along form v ++ r ≡ items_along form w ++ s → (v ≡ w) × (r ≡ s) × (a ≡ b)
+
+-- values follow one structure behind another exactly where they part between the two
+abbrev pub FollowsTogether : Type 0
+FollowsTogether = (form : Form (List ℕ)) (next : List ℕ → Form (List ℕ)) (values : List ℤ) (end : List ℕ) → Follows (form >>= next) values end ↔ Parted form next values end
+
+-- their items stand one behind another
+abbrev pub ItemsTogether : Type 0
+ItemsTogether = (form : Form (List ℕ)) (next : List ℕ → Form (List ℕ)) (v w : List ℤ) (mid : List ℕ) → Follows form v mid
+    → items_along (form >>= next) (v ++ w) ≡ items_along form v ++ items_along (next mid) w
+
+-- and their bits, the latter from the place on where the former end
+abbrev pub BitsTogether : Type 0
+BitsTogether = (form : Form (List ℕ)) (next : List ℕ → Form (List ℕ)) (place : ℕ) (v w : List ℤ) (mid : List ℕ) → Follows form v mid
+    → bits_along (form >>= next) place (v ++ w) ≡ bits_along form place v ++ bits_along (next mid) (place + length (bits_along form place v)) w
+
+-- bits spell values of the two, parted so, exactly where they spell those of the first and behind them those of the next
+abbrev pub SpellsTogether : Type 0
+SpellsTogether = (form : Form (List ℕ)) (next : List ℕ → Form (List ℕ)) (total : ℕ) (v w : List ℤ) (mid : List ℕ) (left rest : List Bool) → Follows form v mid
+    → Spells total (form >>= next) (v ++ w) left rest ↔ ((between : List Bool) × Spells total form v left between × Spells total (next mid) w between rest)

@@ -5,6 +5,8 @@ pub mod Walks
 pub mod Spelling
 pub mod Laws
 pub mod Parts
+pub mod EachField
+pub mod Bounds
 pub mod Depends
 pub mod Reading
 pub mod Trailing

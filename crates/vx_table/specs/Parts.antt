@@ -1,7 +1,11 @@
 -- A structure of several tables.
 use Rattle.std.specs.Prelude.{ℕ, List, [], ◌∷◌}
 use Rattle.vx_table.specs.declared.parts.Part.{Part}
+use Rattle.vx_table.specs.declared.rows.Term.TheVariants.{Number}
+use Rattle.vx_table.specs.declared.rows.Formula.{Formula}
+use Rattle.vx_table.specs.declared.rows.Formula.TheVariants.{Plain}
 use Rattle.vx_table.specs.declared.rows.Presence.{Presence}
+use Rattle.vx_table.specs.declared.rows.Presence.TheVariants.{When, Repeat}
 use Rattle.vx_table.specs.declared.rows.Row.{Row}
 use Rattle.vx_table.specs.Forms.{Form, done, ◌>>=◌, present, form_of}
 
@@ -9,6 +13,16 @@ use Rattle.vx_table.specs.Forms.{Form, done, ◌>>=◌, present, form_of}
 pub record Section : Type 0 where
   pub presence : Presence
   pub rows : List Row
+
+-- a table that is there where a formula isn't 0, one that is always there, and one that comes in so many turns under a counter
+abbrev pub provided : Formula → List Row → Section
+provided holds rows = record { presence = When holds; rows = rows }
+
+abbrev pub always : List Row → Section
+always rows = provided (Plain (Number 1)) rows
+
+abbrev pub in_turns : ℕ → Formula → List Row → Section
+in_turns counter times rows = record { presence = Repeat counter times; rows = rows }
 
 abbrev pub section_form : Section → List ℕ → Form (List ℕ)
 section_form section = present section.presence (form_of section.rows)

@@ -1,10 +1,11 @@
 -- The shown fields of a structure, their items and how they are coded, and what two structures with alike forms have in common.
-use Rattle.std.specs.Prelude.{◌≡◌, ℕ, ℤ, Bool, true, cond, not, ◌&&◌, ◌||◌, IsTrue, List, [], ◌∷◌, filter}
+use Rattle.std.specs.Prelude.{◌≡◌, ℕ, ℤ, Bool, true, cond, not, ◌||◌, IsTrue, List, [], ◌∷◌, filter}
 use Rattle.vx_bits.specs.declared.list.Item.{Item}
 use Rattle.vx_table.specs.declared.rows.Cell.{Cell}
 use Rattle.vx_table.specs.Scope.{loaded}
 use Rattle.vx_table.specs.Forms.{Form, done, field, ◌>>=◌}
 use Rattle.vx_table.specs.Parts.{Section}
+use Rattle.vx_table.specs.EachField.{EachField, rows_pass, sections_pass}
 use Rattle.vx_table.specs.Spelling.{items_along}
 use Rattle.vx_table.specs.Values.{Follows}
 use Rattle.vx_table.specs.Depends.{has, with_all, set_of, Agree, Alike, DependsOnlyOn}
@@ -39,9 +40,11 @@ AlikeTogether = (shown mid known : List ℕ) (f g : Form (List ℕ)) (next other
     → ((s t : List ℕ) → Agree mid s t → Alike shown known (next s) (other t)) → Alike shown known (f >>= next) (g >>= other)
 
 -- a form keeps exactly the shown ones of its fields
+abbrev pub IsKeptWhereShown : List ℕ → Cell ℕ → Type 0
+IsKeptWhereShown shown cell = IsTrue (stands_for_field cell.coding) → cell.kept ≡ has shown cell.field
+
 abbrev pub KeepsShown : List ℕ → Form (List ℕ) → Type 0
-KeepsShown shown (done s) = Unit {0}
-KeepsShown shown (field cell goes) = (IsTrue (stands_for_field cell.coding) → cell.kept ≡ has shown cell.field) × ((v : ℤ) → KeepsShown shown (goes v))
+KeepsShown shown form = EachField (IsKeptWhereShown shown) form
 
 -- then values of alike forms which have the same kept items have the same kept fields, with the same codings and ranges
 abbrev pub CellsFollowKept : Type 0
@@ -55,12 +58,10 @@ star_tells shown (Block presence n) = true
 star_tells shown (Name name formula) = true
 
 abbrev pub stars_tell : List ℕ → List Row → Bool
-stars_tell shown [] = true
-stars_tell shown (row ∷ rows) = star_tells shown row && stars_tell shown rows
+stars_tell shown rows = rows_pass (star_tells shown) rows
 
 abbrev pub sections_stars_tell : List ℕ → List Section → Bool
-sections_stars_tell shown [] = true
-sections_stars_tell shown (section ∷ more) = stars_tell shown section.rows && sections_stars_tell shown more
+sections_stars_tell shown sections = sections_pass (star_tells shown) sections
 
 -- at each scope a form keeps exactly the shown ones of its fields
 pub record KeepsOnly (given shown : List ℕ) (form : List ℕ → Form (List ℕ)) : Type 0 where

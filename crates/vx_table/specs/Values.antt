@@ -15,6 +15,15 @@ pub data Follows {A : Type 0} : Form A → List ℤ → A → Type 0 where
   through : {cell : Cell ℕ} {goes : ℤ → Form A} {v : ℤ} {w : List ℤ} {a : A}
       → IsValueOf cell v → Follows (goes v) w a → Follows (field cell goes) (v ∷ w) a
 
+-- The values part where the form ends: the first of them go through it, and the others through the next.
+pub record Parted {A B : Type 0} (form : Form A) (next : A → Form B) (values : List ℤ) (end : B) : Type 0 where
+  pub front : List ℤ
+  pub others : List ℤ
+  pub mid : A
+  pub all : values ≡ front ++ others
+  pub first : Follows form front mid
+  pub second : Follows (next mid) others end
+
 -- The values go along the form, each one that its field may have, up to a field that comes next.
 pub data ComesTo {A : Type 0} : Form A → List ℤ → Cell ℕ → Type 0 where
   at_field : {cell : Cell ℕ} {goes : ℤ → Form A} → ComesTo (field cell goes) [] cell

@@ -1,5 +1,6 @@
 //! Laws of spelling, which hold of all tables: functions that do nothing, each with a law as its contract.
-ghost use Rattle.vx_table.specs.Laws.{ReadsOneWay, AnswersOneWay, AnswersAlways, SpellsBothWays, ReachesBothWays, ReadsBack, SpellsApart, ItemsApart};
+ghost use Rattle.vx_table.specs.Laws.{ReadsOneWay, AnswersOneWay, AnswersAlways, SpellsBothWays, ReachesBothWays, ReadsBack, SpellsApart, ItemsApart, FollowsTogether, ItemsTogether, BitsTogether, SpellsTogether};
+ghost use Rattle.vx_table.specs.Bounds.{LieInRange, PartsLieInRange};
 ghost use Rattle.vx_table.specs.Trailing.{ClosesWithoutTrailing, ClosesAtTheEnd, PartsCloseWithoutTrailing, PartsCloseAtTheEnd};
 
 /// Bits that begin with a spelling tell the values and what follows.
@@ -44,4 +45,18 @@ pub fn no_proper_prefix()
 /// Items tell the values that are written, and what follows.
 pub fn one_writing()
     ensures { ItemsApart }
+{}
+
+/// Values of one structure behind another part where the first ends; their items and their bits stand one behind another.
+pub fn one_behind_another()
+    ensures values { FollowsTogether }
+    ensures items { ItemsTogether }
+    ensures bits { BitsTogether }
+    ensures spellings { SpellsTogether }
+{}
+
+/// Where each row of a field gives it one range in numbers, the field's items lie in it.
+pub fn items_in_range()
+    ensures table { LieInRange }
+    ensures parts { PartsLieInRange }
 {}

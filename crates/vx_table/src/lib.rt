@@ -35,14 +35,14 @@ pub use laws_depends::{
 };
 pub use laws_numbers::ceil_log2_is_least;
 pub use laws_spelling::{
-    every_answer, no_proper_prefix, one_answer, one_reading, one_writing, read_back,
-    spelled_both_ways, what_may_follow,
+    every_answer, items_in_range, no_proper_prefix, one_answer, one_behind_another, one_reading,
+    one_writing, read_back, spelled_both_ways, what_may_follow,
 };
 pub use parts::{Part, code_parts, read_parts, write_parts};
-pub use ranges::has_code;
-pub use reader::{read_table, read_value};
+pub use ranges::{fault_of, has_code, is_value};
+pub use reader::{read_table, read_value, report, take_code};
 pub use rows::{Cell, Coding, Fault, Formula, Limits, Presence, Row, Term};
 pub use scope::Scope;
 pub use stars::{keeps_only, parts_keep_only};
-pub use walk::{Coder, code_table, coding_at, coding_of};
-pub use writer::{SpellError, Unwritten, write_code, write_table};
+pub use walk::{Coder, code_table, coding_at, coding_of, has_value};
+pub use writer::{SpellError, Unwritten, take_value, write_code, write_table};

@@ -94,6 +94,30 @@ macro_rules! gap {
     };
 }
 
+/// How many rows there are, with those inside blocks: a row is counted once for each block that it stands in.
+#[macro_export]
+macro_rules! count_rows {
+    (@ [$($done:tt)*]) => { [$($done)*].len() };
+    (@ [$($done:tt)*] if $holds:tt { $($block:tt)* } $($rest:tt)*) => {
+        $crate::count_rows!(@ [$($done)* (),] $($block)* $($rest)*)
+    };
+    (@ [$($done:tt)*] for $counter:ident in $times:tt { $($block:tt)* } $($rest:tt)*) => {
+        $crate::count_rows!(@ [$($done)* (),] $($block)* $($rest)*)
+    };
+    (@ [$($done:tt)*] $word:ident $name:tt $(= $formula:tt)?; $($rest:tt)*) => {
+        $crate::count_rows!(@ [$($done)* (),] $($rest)*)
+    };
+    (@ [$($done:tt)*]
+        $field:literal $(*)? $name:ident
+        $(: $coding:ident $(($($width:tt)+))?)?
+        $(in $low:literal ..= $high:tt $(else $fault:ident $(($number:literal))?)?)?
+        $(below $bound:tt $(else $beyond:ident $(($code:literal))?)?)?
+        $(multiple $unit:literal upto $most:literal else $above:ident ($limit:literal))?
+        ; $($rest:tt)*) => {
+        $crate::count_rows!(@ [$($done)* (),] $($rest)*)
+    };
+}
+
 /// A table's rows as one flat array.
 #[macro_export]
 macro_rules! table {
@@ -127,7 +151,7 @@ macro_rules! table {
         $crate::table!(@ [$($done)*
             $crate::Row::Block {
                 presence: $crate::Presence::When($crate::formula!($holds)),
-                rows: $crate::table!(@ [] $($block)*).len(),
+                rows: $crate::count_rows!(@ [] $($block)*),
             },
         ] $($block)* $($rest)*)
     };
@@ -138,7 +162,7 @@ macro_rules! table {
                     counter: $counter,
                     times: $crate::formula!($times),
                 },
-                rows: $crate::table!(@ [] $($block)*).len(),
+                rows: $crate::count_rows!(@ [] $($block)*),
             },
         ] $($block)* $($rest)*)
     };

@@ -46,7 +46,7 @@ pub fn has_code(coding: Coding<u32>, value: i64) -> bool
 
 /// The fault of a value, where it breaks its range.
 #[tactic(auto, unfolding(crate::specs::Spelling::fault_of))]
-pub(crate) fn fault_of(limits: Limits<u32>, value: i64) -> Option<Fault>
+pub fn fault_of(limits: Limits<u32>, value: i64) -> Option<Fault>
     ensures { result ≡ spelling.fault_of limits value }
 {
     match limits {
@@ -78,8 +78,8 @@ fn is_multiple(unit: u32, value: i64) -> bool
     value > 0 && unit > 0 && value % i64::from(unit) == 0
 }
 
-/// Whether a field may have the value.
-pub(crate) fn is_value(cell: Cell<u32>, value: i64) -> bool
+/// Whether a field may have the value: whether it has a code that keeps the range.
+pub fn is_value(cell: Cell<u32>, value: i64) -> bool
     requires { IsCodable cell.coding }
     ensures { IsTrue result ↔ IsValueOf cell value }
 {

@@ -14,8 +14,12 @@ use crate::walk::{Coder, code_table, has_value};
 use std::alloc::Global;
 use vx_bits::{BitCause, BitReader, Fields, Item, ReadError, Refusal};
 
-/// Takes the code of a field or a gap, and gives its value, 0 for a gap.
-fn take_code(bits: &mut BitReader<'_>, coding: Coding<u32>) -> Result<i64, BitCause>
+/// Takes the code of a field or a gap, and gives its value, 0 for a gap; the field's range isn't looked at.
+///
+/// # Errors
+///
+/// Why no code begins here. The reader may then have moved on: a coder takes the code from a fork.
+pub fn take_code(bits: &mut BitReader<'_>, coding: Coding<u32>) -> Result<i64, BitCause>
     requires { IsCodable coding }
     ensures { TakesCode coding bits.old result bits.new }
 {
@@ -42,7 +46,7 @@ fn take_code(bits: &mut BitReader<'_>, coding: Coding<u32>) -> Result<i64, BitCa
 
 /// A fault as it is reported, at a field and the bit where it begins.
 #[tactic(auto, unfolding(crate::specs::Spelling::reported))]
-fn report(fault: Fault, field: u16, bit: u32) -> Refusal
+pub fn report(fault: Fault, field: u16, bit: u32) -> Refusal
     ensures { result ≡ spelling.reported fault field bit }
 {
     match fault {

@@ -34,9 +34,31 @@ const WITHIN: [Row; 4] = table! { 1 kept; if [1] { 4 there; } 3 wide: u([4]); };
 
 const BEFORE: [Row; 2] = table! { 3 wide: u([4]); 4 there; };
 
+const DEEP: [Row; 29] = table! {
+    2* flag;
+    if [2] {
+        4* a; 5* b: ue in 0..=3; 6* c: u([2] + 1) below 9 else Limit(3); zeros 6;
+        for TURN in 2 {
+            7* d; 8* e; 9* f: se;
+            if ([2] and [4]) {
+                10* g; default 11 = 1; 12* h; let SUM = ([2] + 1);
+                if [5] {
+                    13* i: ue multiple 8 upto 64 else Limit(6); 14* j; 15* k; fill 16;
+                    if [6] { 17* l; 18* m; 19* n; 20* o; }
+                    21* p;
+                }
+                22* q;
+            }
+            23* r;
+        }
+    }
+    3 behind;
+};
+
 #[test]
 fn tells_right_claims_from_wrong_ones(rt: HostRuntime) {
-    let cases: [(&str, &[Row], &[u16], &[u16], bool); 14] = [
+    let cases: [(&str, &[Row], &[u16], &[u16], bool); 15] = [
+        ("behind blocks in blocks", &DEEP, &[], &[3], true),
         ("all", &MIXED, &[102], &[1, 3, 7, SUM], true),
         (
             "the starred ones too",

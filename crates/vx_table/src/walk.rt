@@ -46,7 +46,7 @@ pub fn coding_at(scope: &Scope, coding: Coding<Formula>) -> Coding<u32>
 
 /// Whether the coding is that of a field with a value, and not of a gap.
 #[tactic(auto, unfolding(crate::specs::Forms::has_value))]
-pub(crate) fn has_value<N: Copy>(coding: Coding<N>) -> bool
+pub fn has_value<N: Copy>(coding: Coding<N>) -> bool
     ensures { result ≡ forms.has_value coding }
 {
     matches!(

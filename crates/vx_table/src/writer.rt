@@ -56,7 +56,7 @@ impl<'a> Unwritten<'a> {
     }
 
     /// The same items, which are taken by themselves.
-    pub(crate) fn fork(&self) -> Unwritten<'a>
+    pub fn fork(&self) -> Unwritten<'a>
         ensures { result ≡ self.now }
     {
         Unwritten {
@@ -99,8 +99,10 @@ fn next_value(items: &mut Unwritten<'_>, field: u16, coding: Coding<u32>) -> Opt
     }
 }
 
-/// Takes the item of the next field's value, where it is one that the field may have.
-pub(crate) fn take_value(items: &mut Unwritten<'_>, cell: Cell<u32>) -> Option<i64>
+/// Takes the item of the next field's value, where it is one that the field may have; a gap has the value 0 and no item.
+///
+/// Where it answers `None`, the items may be fewer: a coder takes the value from a fork.
+pub fn take_value(items: &mut Unwritten<'_>, cell: Cell<u32>) -> Option<i64>
     requires { IsCodable cell.coding }
     ensures { TakesValue cell items.old result items.new }
 {
