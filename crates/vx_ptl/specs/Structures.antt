@@ -22,8 +22,8 @@ abbrev pub dpb : ℕ → Bool → Form (List ℕ)
 dpb max each = form_of DPB (sublayers fresh max 140 each)
 
 -- general timing (clause 7.3.5.1)
-abbrev pub timing : Form (List ℕ)
-timing = form_of TIMING fresh
+abbrev pub timing : ℕ → Bool → Form (List ℕ)
+timing max each = form_of TIMING (sublayers fresh max 225 each)
 
 -- sublayer timing, behind the items of the general timing (clauses 7.3.5.2 and 7.3.5.3)
 abbrev pub sublayer_timing : List Item → ℕ → Bool → Form (List ℕ)

@@ -69,15 +69,27 @@ pub fn read_dpb(
     read_table(&DPB, &mut scope, bits, into)
 }
 
-/// Reads general timing and HRD parameters, fields 41 to 51.
+/// Reads general timing and HRD parameters, fields 41 to 51, whose rows use neither `max` nor `each`.
 ///
 /// # Errors
 ///
 /// As [`read_ptl`].
-pub fn read_timing(bits: &mut BitReader<'_>, into: &mut Fields) -> Result<(), ReadError>
-    ensures { Reads timing bits.old into.old result bits.new into.new }
+pub fn read_timing(
+    bits: &mut BitReader<'_>,
+    max: u32,
+    each: bool,
+    into: &mut Fields,
+) -> Result<(), ReadError>
+    requires { max ≤ 6 }
+    ensures { Reads (timing max each) bits.old into.old result bits.new into.new }
 {
-    read_table(&TIMING, &mut Scope::new(), bits, into)
+    let mut scope = at_sublayers(
+        Scope::new(),
+        max,
+        SPS_SUBLAYER_CPB_PARAMS_PRESENT_FLAG,
+        each,
+    );
+    read_table(&TIMING, &mut scope, bits, into)
 }
 
 /// Reads sublayer timing and HRD parameters, fields 52 to 60; `each` is field 225, and `into` has fields 43, 44, 46

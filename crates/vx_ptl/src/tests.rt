@@ -85,7 +85,7 @@ fn read(
         ProfileTierLevel => read_ptl(bits, max, into),
         Dpb(each) => read_dpb(bits, max, each, into),
         Timing(each) => {
-            read_timing(bits, into)?;
+            read_timing(bits, max, each, into)?;
             read_sublayer_timing(bits, max, each, into)
         }
     }
