@@ -3,8 +3,8 @@
 # leave open when memory runs out; this shows that then nothing else changes. A test must fail for want of memory, and
 # `show` must answer 4 behind the lines of whole units, or each as ever, where it can do without. What is neither is
 # printed, and makes the status 1. No test of the gate: only how the C library is called is looked at.
-# Usage: scripts/fail-each-allocation.sh [CRATE..]   (from the top of the repository; all crates if none is named, and
-# the program; proves what it runs first, and needs cc; LAST=N stops behind the first N allocations, 20,000 if left out)
+# Usage: scripts/fail-each-allocation.sh [CRATE..]   (from the top of the repository; all crates and the program if none
+# is named; proves what it runs first, and needs cc; LAST=N stops behind the first N allocations, 20,000 if left out)
 set -euo pipefail
 work=$(mktemp -d)
 trap 'rm -rf "$work"' EXIT
@@ -35,8 +35,13 @@ run() {
     > "$work/out" 2> "$work/err" || status=$?
 }
 
-# Whether a test failed for want of memory.
-test_wants() { [ "$status" = 101 ] && [[ "$(head -1 "$work/err")" =~ ^"error: Alloc"(Error|Failed) ]]; }
+# Whether a test failed for want of memory: by its error, or by an answer that it compares with another.
+test_wants() {
+  [ "$status" = 101 ] && {
+    head -1 "$work/err" | grep -qxE 'error: (AllocError|AllocFailed|Memory|Kind\(OutOfMemory\))' \
+      || grep -qE '^ *left: .*\b(Memory|AllocError)\b' "$work/err"
+  }
+}
 
 # Whether the program did: status 4, a front of its lines, and no other line on standard error.
 program_wants() {
@@ -74,6 +79,7 @@ for crate in ${*:-$(grep -rl '#\[test\]' crates/*/src | cut -d/ -f2 | sort -u)};
   done
 done
 
+[ $# = 0 ] || exit "$neither"
 # The program: a stored stream, and one that is refused behind the same units.
 (cd crates/vx_app && rt run -- show data/a.266 > "$work/log" 2>&1) || { tail -40 "$work/log"; exit 1; }
 program=$PWD/crates/vx_app/out/vx_app
