@@ -38,7 +38,7 @@ run() {
 # Whether a test failed for want of memory: by its error, or by an answer that it compares with another.
 test_wants() {
   [ "$status" = 101 ] && {
-    head -1 "$work/err" | grep -qxE 'error: (AllocError|AllocFailed|Memory|Kind\(OutOfMemory\))' \
+    head -1 "$work/err" | grep -qE '^error: (AllocError|AllocFailed|Memory|Kind\(OutOfMemory\))' \
       || grep -qE '^ *left: .*\b(Memory|AllocError)\b' "$work/err"
   }
 }
