@@ -31,16 +31,17 @@ cc -shared -fPIC -O1 -o "$work/fail.so" "$work/fail.c"
 # Runs a command whose n-th allocation fails, none for 0. Its status is in `status`, what it wrote in out and err.
 run() {
   status=0
-  timeout 60 env FAIL_ALLOC="$1" COUNT="$work/count" LD_PRELOAD="$work/fail.so" "${@:2}" \
-    > "$work/out" 2> "$work/err" || status=$?
+  { timeout 60 env FAIL_ALLOC="$1" COUNT="$work/count" LD_PRELOAD="$work/fail.so" "${@:2}" \
+    > "$work/out" 2> "$work/err" || status=$?; } 2> "$work/shell"
 }
 
 # Whether a test failed for want of memory: by its error, or by an answer that it compares with another.
 test_wants() {
-  [ "$status" = 101 ] && {
-    head -1 "$work/err" | grep -qE '^error: (AllocError|AllocFailed|Memory|Kind\(OutOfMemory\))' \
-      || grep -qE '^ *left: .*\b(Memory|AllocError)\b' "$work/err"
-  }
+  case $status in
+    101) head -1 "$work/err" | grep -qE '^error: (AllocError|AllocFailed|Memory|Kind\(OutOfMemory\))' ;;
+    134) grep -qE '^ *left: .*\b(Memory|AllocError)\b' "$work/err" ;;
+    *) false ;;
+  esac
 }
 
 # Whether the program did: status 4, a front of its lines, and no other line on standard error.
