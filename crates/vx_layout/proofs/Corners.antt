@@ -25,7 +25,7 @@ pub record StandsAt {X : Type 0} (p : X → Bool) (xs : List X) : Type 0 where
   pub low : place < length xs
   pub passes : (d : X) → p (get_or xs place d) ≡ true
 
-place_of : {X : Type 0} (p : X → Bool) (xs : List X) → 1 ≤ count_by p xs → StandsAt p xs
+pub place_of : {X : Type 0} (p : X → Bool) (xs : List X) → 1 ≤ count_by p xs → StandsAt p xs
 place_of p [] some = absurd (omega arith)
 place_of p (x ∷ xs) some =
     elim (cases_Bool (p x)) [
@@ -41,7 +41,7 @@ pub record IsOrdered (rects : List Rect) (w h : ℕ) : Type 0 where
   pub once : CoversOnce rects w h
   pub order : AllPairs Precedes rects
 
-holder : (rects : List Rect) (w h x y : ℕ) → IsOrdered rects w h → x < w → y < h → StandsAt (λ r. holds r x y) rects
+pub holder : (rects : List Rect) (w h x y : ℕ) → IsOrdered rects w h → x < w → y < h → StandsAt (λ r. holds r x y) rects
 holder rects w h x y ordered v u =
     let one = ordered.once x y v u in
     place_of (λ r. holds r x y) rects (omega arith)
@@ -78,7 +78,7 @@ below rects w h x y (suc n) i j d ordered v u low_i low_j on_i on_j =
     ]
 
 -- no rectangle that holds a CTU comes before one that holds a CTU above and to the left of it
-no_later : (rects : List Rect) (w h x y v u i j : ℕ) (d : Rect) → IsOrdered rects w h → x ≤ v → y ≤ u → v < w → u < h → i < length rects → j < length rects → holds (get_or rects i d) x y ≡ true → holds (get_or rects j d) v u ≡ true → i ≤ j
+pub no_later : (rects : List Rect) (w h x y v u i j : ℕ) (d : Rect) → IsOrdered rects w h → x ≤ v → y ≤ u → v < w → u < h → i < length rects → j < length rects → holds (get_or rects i d) x y ≡ true → holds (get_or rects j d) v u ≡ true → i ≤ j
 no_later rects w h x y v u i j d ordered a b in_w in_h low_i low_j on_i on_j =
     let corner = holder rects w h v y ordered in_w (omega arith) in
     let across : x + (v - x) ≡ v = omega arith in

@@ -109,7 +109,7 @@ tile_back columns rows s t n placed within tile =
     }
 
 -- a span lies between two bounds, or beyond one of them
-span_beside : (bounds : List ℕ) (low high a b : ℕ) → Contains bounds low → Contains bounds high → IsSpan bounds a b → ((low ≤ a) × (b ≤ high)) ⊎ ((b ≤ low) ⊎ (high ≤ a))
+pub span_beside : (bounds : List ℕ) (low high a b : ℕ) → Contains bounds low → Contains bounds high → IsSpan bounds a b → ((low ≤ a) × (b ≤ high)) ⊎ ((b ≤ low) ⊎ (high ≤ a))
 span_beside bounds low high a b has_low has_high span =
     elim (cases_lt a low) [
       | inl before ↦ inr (inl (span.next low has_low before))

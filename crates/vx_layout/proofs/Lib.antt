@@ -24,5 +24,6 @@ pub mod ReadBack
 pub mod RegionShapes
 pub mod Rising
 pub mod Runs
+pub mod Searching
 pub mod Splitting
 pub mod Tiling

@@ -35,7 +35,7 @@ repeated_sizes-one size left some low =
     ]
 
 -- the last height apart from the others
-split_last : (hs : List ℕ) → 0 < length hs → all_but_last hs ++ last hs ∷ [] ≡ hs
+pub split_last : (hs : List ℕ) → 0 < length hs → all_but_last hs ++ last hs ∷ [] ≡ hs
 split_last hs some =
     let end : length hs - 1 + 1 ≡ length hs = omega arith in
     let more = take_more hs (length hs - 1) 0 (omega arith) in

@@ -1,16 +1,35 @@
 -- What holds of frames that are put together of pictures. `regions` are the regions of a frame, and `pictures` what
 -- stands in them, by their index: of each picture its slices, or in the laws on whole frames its numbers.
-use Rattle.std.specs.Prelude.{◌≡◌, ℕ, ◌+◌, ◌-◌, ◌<◌, ◌≤◌, ◌↔◌, true, List, All, ◌++◌, length, map, take}
+use Rattle.std.specs.Prelude.{◌≡◌, ℕ, ◌+◌, ◌-◌, ◌<◌, ◌≤◌, ◌↔◌, ◌⊎◌, true, List, All, Contains, ◌++◌, length, map, take}
 use Rattle.std.specs.List.{AllPairs, AllZip, Any, slice_index_or}
 use Rattle.vx_layout.specs.declared.numbers.Numbers.{Numbers}
 use Rattle.vx_layout.specs.declared.rect.Rect.{Rect}
 use Rattle.vx_layout.specs.Borders.{Begins, Ends, SameInside, SplitsAtLines}
 use Rattle.vx_layout.specs.Bounds.{Rises, last}
-use Rattle.vx_layout.specs.Faults.{IsLayout, SplitsWell, SubpicsCover}
+use Rattle.vx_layout.specs.Faults.{IsLayout, IsTile, SameSides, SplitsWell, SubpicsCover}
 use Rattle.vx_layout.specs.Frames.{Fills, IsPlaced, frame_of, frame_slices, with_one_subpic}
 use Rattle.vx_layout.specs.Rects.{CoversOnce, IsPart, Precedes, fits, in_order, slices_of}
 use Rattle.vx_layout.specs.Regions.{counted_from, cut, moved_to, region_of}
-use Rattle.vx_layout.specs.Shapes.{AreListable}
+use Rattle.vx_layout.specs.Shapes.{AreListable, StandTogether}
+
+-- the regions that lie in one tile stand next to one another in the list
+abbrev pub TilesHoldRuns : List ℕ → List ℕ → List Rect → Type 0
+TilesHoldRuns columns rows regions = (t : Rect) → IsTile columns rows t → StandTogether regions t
+
+-- s begins at a tile row, or stands directly below r with the same left and right borders
+abbrev pub BeginsOrFollows : List ℕ → Rect → Rect → Type 0
+BeginsOrFollows rows r s = Contains rows s.y ⊎ (SameSides r s × (r.y + r.h ≡ s.y))
+
+-- so does each region, after the one before it
+pub record StandInRuns (rows : List ℕ) (regions : List Rect) : Type 0 where
+  pub first : (d : Rect) → 0 < length regions → Contains rows (slice_index_or regions 0 d).y
+  pub later : (k : ℕ) (d : Rect) → k + 1 < length regions → BeginsOrFollows rows (slice_index_or regions k d) (slice_index_or regions (k + 1) d)
+
+-- then the regions of one tile stand next to one another, where they cover a frame once, in order, and their borders split the tiles well
+abbrev pub RunsFillTiles : Type 0
+RunsFillTiles =
+    (columns rows : List ℕ) (regions : List Rect) → All (IsPart (last columns) (last rows)) regions → CoversOnce regions (last columns) (last rows) → AllPairs Precedes regions
+    → All (SplitsAtLines columns rows) regions → StandInRuns rows regions → TilesHoldRuns columns rows regions
 
 -- counting from a corner that is not further right nor further down, and then moving back, changes nothing
 abbrev pub MovingUndoesCounting : Type 0

@@ -27,7 +27,8 @@ impl Model for Bounds {
 }
 
 impl Bounds {
-    ghost use Rattle.std.specs.Prelude.{◌≡◌, ℕ, ◌+◌, ◌<◌, List, [], ◌∷◌, ◌++◌, length, OnOk, OnErr, slice_get, slice_index, Some};
+    ghost use Rattle.std.specs.Prelude.{◌≡◌, ℕ, ◌+◌, ◌<◌, List, [], ◌∷◌, ◌++◌, Contains, length, OnOk, OnErr, slice_get, slice_index, Some};
+    ghost use Rattle.std.specs.Bool.{OnTrue, OnFalse};
     ghost use Rattle.vx_layout.specs.Bounds.{Rises, last};
 
     /// No bounds yet. Takes no memory.
@@ -77,6 +78,15 @@ impl Bounds {
         ensures rises { Rises self.now }
     {
         self.numbers[self.numbers.len() - 1]
+    }
+
+    /// Whether a number is a bound. Time goes with the logarithm of the number of bounds.
+    pub fn has(&self, number: u32) -> bool
+        ensures found { OnTrue result (Contains self.now number) }
+        ensures missing { OnFalse result (¬ Contains self.now number) }
+        ensures rises { Rises self.now }
+    {
+        self.numbers.binary_search(&number).is_ok()
     }
 }
 

@@ -290,7 +290,7 @@ fn all_precede(rects: &RectList, j: usize) -> bool
 
 /// Whether no CTU of `r` has its left or its upper neighbour in `s`.
 #[tactic(auto, unfolding(crate::specs::Plain::precedes))]
-fn precedes(r: Rect, s: Rect) -> bool
+pub fn precedes(r: Rect, s: Rect) -> bool
     ensures { result ≡ precedes r s }
 {
     let beside = meet(r.x, r.w, s.x, s.w, 1) && meet(r.y, r.h, s.y, s.h, 0);

@@ -2,8 +2,9 @@
 ghost use Rattle.std.specs.Prelude.{◌≡◌, ◌==◌, ◌+◌, ◌<◌, ◌≤◌, ◌↔◌, ◌&&◌, ◌||◌, IsTrue, nat_le, nat_lt};
 ghost use Rattle.std.specs.Bool.{OnTrue, OnFalse};
 ghost use Rattle.vx_layout.specs.Regions.{counted_from};
-ghost use Rattle.vx_layout.specs.Rects.{IsPart, fits, holds};
+ghost use Rattle.vx_layout.specs.Rects.{IsPart, Precedes, fits, holds};
 
+use crate::plain::precedes;
 use vx_bits::Copied;
 
 /// A rectangle of CTUs: its left column, its upper row, its width and its height.
@@ -52,6 +53,14 @@ impl Rect {
         ensures outside { OnFalse result (¬ IsPart width height self.now) }
     {
         ends_by(self.x, self.w, width) && ends_by(self.y, self.h, height)
+    }
+
+    /// Whether none of its CTUs has its left or its upper neighbour in `later`.
+    pub fn precedes(&self, later: &Rect) -> bool
+        ensures order { OnTrue result (Precedes self.now later.now) }
+        ensures disorder { OnFalse result (¬ Precedes self.now later.now) }
+    {
+        precedes(*self, *later)
     }
 
     /// The same rectangle, counted from the corner of another.
