@@ -145,7 +145,7 @@ frame-fit regions pictures fill =
     All-weaker (λ r. Any (λ s. IsIn s r) regions) (λ r. Any (λ s. fits r s ≡ true) regions) (λ r some. (some.0, some.1, some.2, some.3, some.4.fit)) (frame_slices regions pictures) (frame-in regions pictures fill)
 
 -- pairs of a joined list
-AllPairs-append : {X : Type 0} (R : X → X → Type 0) (xs ys : List X) → AllPairs R xs → AllPairs R ys → All (λ x. All (R x) ys) xs → AllPairs R (xs ++ ys)
+pub AllPairs-append : {X : Type 0} (R : X → X → Type 0) (xs ys : List X) → AllPairs R xs → AllPairs R ys → All (λ x. All (R x) ys) xs → AllPairs R (xs ++ ys)
 AllPairs-append R [] ys a b c = b
 AllPairs-append {X} R (x ∷ xs) ys a b c =
     let P : X → Type 0 = λ x. All (R x) ys in

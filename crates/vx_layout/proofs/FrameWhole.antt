@@ -1,9 +1,9 @@
 -- A frame of pictures that stand in its regions is a layout, and its regions are the pictures.
-use Rattle.std.proofs.Common.{◌≡◌, ℕ, ◌+◌, ◌-◌, ◌<◌, true, cond, List, [], ◌∷◌, length, get_or, count_by, map, ap, sym, ◌∙◌, subst, inl, inr, arith}
+use Rattle.std.proofs.Common.{◌≡◌, ℕ, ◌-◌, ◌<◌, true, cond, List, [], ◌∷◌, length, get_or, count_by, map, ap, sym, ◌∙◌, subst, inl, inr, arith}
 use Rattle.std.proofs.lemmas.Bool.{cases_Bool}
 use Rattle.std.proofs.lemmas.List.{append-nil, get_or-map}
 use Rattle.std.proofs.lemmas.List.Elements.{All-cons, All-head, All-nil}
-use Rattle.std.specs.List.{All, AllPairs, AllZip, Contains}
+use Rattle.std.specs.List.{All, AllPairs, AllZip}
 use Rattle.vx_layout.specs.declared.numbers.Numbers.{Numbers}
 use Rattle.vx_layout.specs.declared.rect.Rect.{Rect}
 use Rattle.vx_layout.specs.Bounds.{Rises, last}
@@ -94,11 +94,7 @@ split_each columns rows [] pictures all_placed = All-nil (SplitsWell columns row
 split_each columns rows (s ∷ ss) [] all_placed = absurd all_placed
 split_each columns rows (s ∷ ss) (p ∷ ps) all_placed =
     All-cons (SplitsWell columns rows) s ss
-    (SplitsWell-from columns rows s (record {
-      left = all_placed.0.across.begins;
-      right = subst (λ m. Contains columns (s.x + m)) all_placed.0.wide all_placed.0.across.ends;
-      ends = inl (all_placed.0.down.begins, subst (λ m. Contains rows (s.y + m)) all_placed.0.high all_placed.0.down.ends);
-    }))
+    (SplitsWell-from columns rows s all_placed.0.borders)
     (split_each columns rows ss ps all_placed.1)
 
 pub frame-layout : (columns rows : List ℕ) (regions : List Rect) (pictures : List Numbers) → SubpicsCover (frame_of columns rows regions pictures) → AllPairs Precedes regions → AllZip (IsPlaced columns rows) regions pictures → IsLayout (frame_of columns rows regions pictures)
@@ -126,8 +122,8 @@ frame-region columns rows regions pictures k d columns_rise rows_rise cover all_
     let lone : n.subpics ≡ whole_picture (width n) (height n) ∷ [] = lone_is n.subpics (width n) (height n) l.subpics.parts l.subpics.once placed.lone in
     let sized : whole_picture (width n) (height n) ≡ whole_picture s.w s.h = ap (λ w. whole_picture w (height n)) placed.wide ∙ ap (λ h. whole_picture s.w h) placed.high in
     same_numbers (region_of (frame_of columns rows regions pictures) k) n
-    (subst (λ m. cut columns s.x m ≡ n.columns) placed.wide (cut-own columns n.columns s.x columns_rise placed.layout.columns (omega (arith, placed.wide, part.wide)) placed.across.inside))
-    (subst (λ m. cut rows s.y m ≡ n.rows) placed.high (cut-own rows n.rows s.y rows_rise placed.layout.rows (omega (arith, placed.high, part.high)) placed.down.inside))
+    (subst (λ m. cut columns s.x m ≡ n.columns) placed.wide (cut-own columns n.columns s.x columns_rise placed.layout.columns (omega (arith, placed.wide, part.wide)) placed.across))
+    (subst (λ m. cut rows s.y m ≡ n.rows) placed.high (cut-own rows n.rows s.y rows_rise placed.layout.rows (omega (arith, placed.high, part.high)) placed.down))
     (frame-counted regions slices (last columns) (last rows) k no_rect [] cover.parts cover.once fill short ∙ get_or-map (λ p. p.slices) pictures k d [] (omega (arith, AllZip-long (IsPlaced columns rows) regions pictures all_placed)))
     (sym (lone ∙ ap (λ t. t ∷ []) sized))
 

@@ -7,6 +7,8 @@ pub mod Counting
 pub mod Cutting
 pub mod Entries
 pub mod FrameBounds
+pub mod FrameLines
+pub mod FrameRuns
 pub mod FrameShapes
 pub mod FrameSlices
 pub mod FrameWhole
@@ -26,4 +28,5 @@ pub mod Rising
 pub mod Runs
 pub mod Searching
 pub mod Splitting
+pub mod TileRuns
 pub mod Tiling

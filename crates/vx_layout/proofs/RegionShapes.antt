@@ -14,7 +14,8 @@ use Rattle.vx_layout.specs.Rects.{IsPart, fits, whole_picture}
 use Rattle.vx_layout.specs.Regions.{counted_from, cut, moved_to, region_of}
 use Rattle.vx_layout.specs.Shapes.{AreListable, AreTilesOrRows, HasCtu, StandTogether}
 use Rattle.vx_layout.proofs.FrameBounds.{cut_inner, cut_tells}
-use Rattle.vx_layout.proofs.FrameShapes.{Leads, Within, tile_from, together_cons}
+use Rattle.vx_layout.proofs.FrameLines.{Within, tile_from}
+use Rattle.vx_layout.proofs.FrameRuns.{Leads, together_cons}
 use Rattle.vx_layout.proofs.Holding.{fits_empty, fits_from, fits_tells}
 use Rattle.vx_layout.proofs.Counting.{holds-fits}
 use Rattle.vx_layout.proofs.Members.{LiesIn-fits}

@@ -15,12 +15,6 @@ pub record SplitsAtLines (columns rows : List ℕ) (s : Rect) : Type 0 where
 abbrev pub SameInside : List ℕ → ℕ → List ℕ → Type 0
 SameInside bounds from own = (c : ℕ) → 0 < c → c < last own → Contains bounds (from + c) ↔ Contains own c
 
--- and where it begins and where it ends there are bounds
-pub record HasLines (bounds : List ℕ) (from : ℕ) (own : List ℕ) : Type 0 where
-  pub begins : Contains bounds from
-  pub ends : Contains bounds (from + last own)
-  pub inside : SameInside bounds from own
-
 -- a rectangle in the upper left corner of the picture
 pub record Begins (r : Rect) : Type 0 where
   pub left : r.x ≡ 0

@@ -21,9 +21,9 @@ abbrev pub BeginsOrFollows : List ℕ → Rect → Rect → Type 0
 BeginsOrFollows rows r s = Contains rows s.y ⊎ (SameSides r s × (r.y + r.h ≡ s.y))
 
 -- so does each region, after the one before it
-pub record StandInRuns (rows : List ℕ) (regions : List Rect) : Type 0 where
-  pub first : (d : Rect) → 0 < length regions → Contains rows (slice_index_or regions 0 d).y
-  pub later : (k : ℕ) (d : Rect) → k + 1 < length regions → BeginsOrFollows rows (slice_index_or regions k d) (slice_index_or regions (k + 1) d)
+abbrev pub StandInRuns : List ℕ → List Rect → Type 0
+StandInRuns rows regions =
+    (k : ℕ) (d : Rect) → k + 1 < length regions → BeginsOrFollows rows (slice_index_or regions k d) (slice_index_or regions (k + 1) d)
 
 -- then the regions of one tile stand next to one another, where they cover a frame once, in order, and their borders split the tiles well
 abbrev pub RunsFillTiles : Type 0
@@ -131,8 +131,8 @@ FrameAloneIsLayout =
     (columns rows : List ℕ) (regions : List Rect) (pictures : List Numbers) → Rises columns → Rises rows → 0 < length regions → SubpicsCover (frame_of columns rows regions pictures) → AllPairs Precedes regions → AllZip (IsPlaced columns rows) regions pictures
     → IsLayout (with_one_subpic (frame_of columns rows regions pictures))
 
--- its slices can be listed tile by tile where each picture's can
+-- its slices can be listed tile by tile where each picture's can, and the regions of one tile stand next to one another
 abbrev pub FrameIsListable : Type 0
 FrameIsListable =
-    (columns rows : List ℕ) (regions : List Rect) (pictures : List Numbers) → SubpicsCover (frame_of columns rows regions pictures) → AllZip (IsPlaced columns rows) regions pictures
-    → All (λ p. AreListable p.columns p.rows p.slices) pictures → AreListable columns rows (frame_of columns rows regions pictures).slices
+    (columns rows : List ℕ) (regions : List Rect) (pictures : List Numbers) → Rises rows → SubpicsCover (frame_of columns rows regions pictures) → AllZip (IsPlaced columns rows) regions pictures
+    → TilesHoldRuns columns rows regions → All (λ p. AreListable p.columns p.rows p.slices) pictures → AreListable columns rows (frame_of columns rows regions pictures).slices

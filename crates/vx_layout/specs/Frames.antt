@@ -4,7 +4,7 @@ use Rattle.std.specs.Prelude.{◌≡◌, ℕ, List, [], ◌∷◌, All, length, 
 use Rattle.std.specs.List.{flat_map, zip}
 use Rattle.vx_layout.specs.declared.numbers.Numbers.{Numbers}
 use Rattle.vx_layout.specs.declared.rect.Rect.{Rect}
-use Rattle.vx_layout.specs.Borders.{HasLines}
+use Rattle.vx_layout.specs.Borders.{SameInside, SplitsAtLines}
 use Rattle.vx_layout.specs.Faults.{height, width}
 use Rattle.vx_layout.specs.Layouts.{HasLayout}
 use Rattle.vx_layout.specs.Rects.{CoversOnce, IsPart, whole_picture}
@@ -21,15 +21,17 @@ pub record Fills (region : Rect) (slices : List Rect) : Type 0 where
   pub once : CoversOnce slices region.w region.h
 
 -- a picture that can stand in a region of a frame of these tile bounds: it has one subpicture and the region's size,
--- each of its slices holds a CTU, and the frame's tile bounds there are its own
+-- each of its slices holds a CTU, strictly inside the region the frame's bounds are its own, and the region's borders
+-- split the frame's tiles well
 pub record IsPlaced (columns rows : List ℕ) (region : Rect) (picture : Numbers) : Type 0 where
   pub layout : HasLayout picture
   pub lone : length picture.subpics ≡ 1
   pub slices : All HasCtu picture.slices
   pub wide : width picture ≡ region.w
   pub high : height picture ≡ region.h
-  pub across : HasLines columns region.x picture.columns
-  pub down : HasLines rows region.y picture.rows
+  pub across : SameInside columns region.x picture.columns
+  pub down : SameInside rows region.y picture.rows
+  pub borders : SplitsAtLines columns rows region
 
 -- the frame of these tile bounds with these pictures in its regions
 abbrev pub frame_of : List ℕ → List ℕ → List Rect → List Numbers → Numbers

@@ -1,6 +1,6 @@
 //! Laws on a frame that is put together of several pictures: functions that do nothing, each with laws as its contract.
 ghost use Rattle.std.specs.Prelude.{◌≡◌};
-ghost use Rattle.vx_layout.specs.FrameLaws.{CutBoundsAreOwn, FillsByIndex, FirstBegins, FrameAloneIsLayout, FrameHasPictures, FrameIsLayout, FrameIsListable, FrameSlicesAreInOrder, FrameSlicesCoverOnce, FrameSlicesFit, FrameSlicesGrow, FrameSlicesOfRegion, FrameSlicesOfRegionCounted, FrameSlicesStandInOrder, LastEnds, MovingUndoesCounting, PlacedByIndex, PlacedFills, SplitByBorders};
+ghost use Rattle.vx_layout.specs.FrameLaws.{CutBoundsAreOwn, FillsByIndex, FirstBegins, FrameAloneIsLayout, FrameHasPictures, FrameIsLayout, FrameIsListable, FrameSlicesAreInOrder, FrameSlicesCoverOnce, FrameSlicesFit, FrameSlicesGrow, FrameSlicesOfRegion, FrameSlicesOfRegionCounted, FrameSlicesStandInOrder, LastEnds, MovingUndoesCounting, PlacedByIndex, PlacedFills, RunsFillTiles, SplitByBorders};
 ghost use Rattle.vx_layout.specs.Regions.{counted_from, moved_to};
 ghost use Rattle.vx_layout.specs.declared.rect.Rect.{Rect};
 
@@ -81,8 +81,15 @@ pub fn frame_alone_is_layout()
     ensures { FrameAloneIsLayout }
 {}
 
+/// Where regions cover a frame once, in order, their borders split the tiles well, and each begins at a tile row or
+/// stands directly below the one before it, the regions of one tile stand next to one another.
+pub fn runs_fill_tiles()
+    ensures { RunsFillTiles }
+{}
+
 /// Where each picture's slices hold CTUs, are whole tiles or whole rows of one tile, and those in one tile stand next
-/// to one another, so is it with the frame's slices and the frame's tiles.
+/// to one another, so is it with the frame's slices and the frame's tiles, if the regions of one tile stand next to
+/// one another.
 pub fn frame_is_listable()
     ensures { FrameIsListable }
 {}

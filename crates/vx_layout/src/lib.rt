@@ -21,7 +21,7 @@ pub use frame_laws::{
     cut_bounds_are_own, first_begins_and_last_ends, frame_alone_is_layout, frame_is_layout,
     frame_is_listable, frame_slices_cover_once, frame_slices_fit, frame_slices_grow,
     frame_slices_of_region, frame_slices_stand_in_order, moving_undoes_counting, pictures_by_index,
-    placed_fills, split_by_borders,
+    placed_fills, runs_fill_tiles, split_by_borders,
 };
 pub use laws::{
     bounds_by_members, bounds_by_sizes, bounds_reach_total, fits_by_ctus, heights_are_read_back,
