@@ -6,7 +6,8 @@ mod Keepings
 pub mod Shown
 mod Testing
 pub mod Dependence
-mod Agreeing
+pub mod Chains
+pub mod Agreeing
 pub mod Closing
 pub mod Codings
 pub mod Items

@@ -8,6 +8,8 @@ pub mod Parts
 pub mod EachField
 pub mod Bounds
 pub mod Depends
+pub mod Claims
+pub mod Chains
 pub mod Reading
 pub mod Trailing
 pub mod Values

@@ -28,10 +28,12 @@ mod tests_depends;
 mod walk;
 mod writer;
 
+pub use arithmetic::{ceil_log2, natural, quotient};
 pub use depends::{depends_only_on, parts_depend_only_on};
 pub use kept::{keep_parts, keep_table};
 pub use laws_depends::{
-    alike_together, cells_follow_items, cells_follow_kept, kept_tells_kept, scopes_follow_items,
+    alike_together, cells_follow_items, cells_follow_kept, chains_carry, chains_depend,
+    kept_tells_kept, scopes_follow_items, steps_carry, tables_carry,
 };
 pub use laws_numbers::ceil_log2_is_least;
 pub use laws_spelling::{
