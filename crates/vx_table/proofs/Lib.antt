@@ -7,6 +7,7 @@ pub mod Shown
 mod Testing
 pub mod Dependence
 pub mod Chains
+pub mod Again
 pub mod Agreeing
 pub mod Closing
 pub mod Codings

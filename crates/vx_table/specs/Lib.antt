@@ -10,6 +10,7 @@ pub mod Bounds
 pub mod Depends
 pub mod Claims
 pub mod Chains
+pub mod Again
 pub mod Reading
 pub mod Trailing
 pub mod Values
