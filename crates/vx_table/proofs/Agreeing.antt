@@ -14,14 +14,14 @@ use Rattle.vx_table.specs.declared.rows.Limits.TheVariants as ranges
 use Rattle.vx_table.specs.declared.rows.Cell.{Cell}
 use Rattle.vx_table.specs.Scope.{is_set, latest, value}
 use Rattle.vx_table.specs.Forms.{has_value, coding_at, limits_at, cell_at}
-use Rattle.vx_table.specs.Depends.{has, Agree, knows, knows_formula, knows_width, knows_range, knows_cell, grown}
-
--- One set of names lies within another.
-pub record Inside (known shown : List ℕ) : Type 0 where
-  pub has_too : (n : ℕ) → IsTrue (has known n) → IsTrue (has shown n)
+use Rattle.vx_table.specs.Depends.{has, Inside, Agree}
+use Rattle.vx_table.specs.Claims.{knows, knows_formula, knows_width, knows_range, knows_cell, grown}
 
 pub inside_itself : (names : List ℕ) → Inside names names
 inside_itself names = record { has_too = λ n h. h }
+
+pub inside_on : {a b c : List ℕ} → Inside a b → Inside b c → Inside a c
+inside_on first more = record { has_too = λ n h. more.has_too n (first.has_too n h) }
 
 pub agree_itself : (names s : List ℕ) → Agree names s s
 agree_itself names s = record { size = refl; same = λ n h. refl }

@@ -22,7 +22,7 @@ use Rattle.vx_table.proofs.Agreeing.{valued}
 use Rattle.vx_table.proofs.EachField.{each_of_rows, each_of_sections}
 
 -- a range that isn't broken
-unbroken : (holds : Bool) (fault : Fault) → cond holds None (Some fault) ≡ None → holds ≡ true
+pub unbroken : (holds : Bool) (fault : Fault) → cond holds None (Some fault) ≡ None → holds ≡ true
 unbroken true fault h = refl
 unbroken false fault h = absurd (cc)
 

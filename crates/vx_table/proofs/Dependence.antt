@@ -10,11 +10,11 @@ use Rattle.vx_table.specs.declared.rows.Row.{Row}
 use Rattle.vx_table.specs.declared.rows.Row.TheVariants.{Field, Block, Name}
 use Rattle.vx_table.specs.Scope.{value, natural}
 use Rattle.vx_table.specs.Forms.{Form, done, field, ◌>>=◌, has_value, coding_at, cell_at, after, one_field, turns, present, part, form_of}
-use Rattle.vx_table.specs.Depends.{has, Agree, Alike, at_ends, both, hidden_left, hidden_right, knows_formula, knows_cell, knows_presence, hides_counter, hides_row, hides, grown, behind_field, within_block, block_depends, depends, table_depends, sections_depend, with_all, set_of, depends_only_on, sections_depend_only_on, DependsOnlyOn}
-use Rattle.vx_table.specs.Parts.{Section, sections_form}
-use Rattle.vx_table.proofs.Agreeing.{Inside, inside_itself, agree_itself, agree_back, agree_on, agree_less, agree_set, agree_outside, grown_other, inside_grown, with_one, grows, same_value, same_cell, valued}
+use Rattle.vx_table.specs.Depends.{has, Inside, Agree, Alike, at_ends, both, hidden_left, hidden_right, IsLeft, with_all, set_of, DependsOnlyOn}
+use Rattle.vx_table.specs.Claims.{knows_formula, knows_cell, knows_presence, hides_counter, hides_row, hides, grown, behind_field, within_block, block_depends, depends, behind_rows, table_depends, behind_table, depends_only_on}
+use Rattle.vx_table.proofs.Agreeing.{inside_itself, inside_on, agree_itself, agree_back, agree_on, agree_less, agree_set, agree_outside, grown_other, inside_grown, with_one, grows, same_value, same_cell, valued}
 
-alike_less : {shown known more : List ℕ} {f g : Form (List ℕ)} → Inside known more → Alike shown more f g → Alike shown known f g
+pub alike_less : {shown known more : List ℕ} {f g : Form (List ℕ)} → Inside known more → Alike shown more f g → Alike shown known f g
 alike_less inside (at_ends agree) = at_ends (agree_less inside agree)
 alike_less inside (both is more) = both is (λ v. alike_less inside (more v))
 alike_less inside (hidden_left is more) = hidden_left is (λ v. alike_less inside (more v))
@@ -28,37 +28,32 @@ alike_then (both is more) behind = both is (λ v. alike_then (more v) behind)
 alike_then (hidden_left is more) behind = hidden_left is (λ v. alike_then (more v) behind)
 alike_then (hidden_right is more) behind = hidden_right is (λ v. alike_then (more v) behind)
 
--- All fields of a form are hidden, and the scopes at its ends agree with the one before.
-Hidden : List ℕ → List ℕ → Form (List ℕ) → Type 0
-Hidden shown s (done t) = Agree shown s t
-Hidden shown s (field cell goes) = IsFalse (has shown cell.field) × ((v : ℤ) → Hidden shown s (goes v))
+-- ---- forms without a shown field
 
-hidden_at : {shown s t : List ℕ} (f : Form (List ℕ)) → Agree shown s t → Hidden shown t f → Hidden shown s f
-unfolding Hidden
-hidden_at (done u) agree h = agree_on agree h
-hidden_at (field cell goes) agree h = (h.0, λ v. hidden_at (goes v) agree (h.1 v))
+pub left_at : {shown s t : List ℕ} (f : Form (List ℕ)) → Agree shown s t → IsLeft shown t f → IsLeft shown s f
+left_at (done u) agree h = agree_on agree h
+left_at (field cell goes) agree h = (h.0, λ v. left_at (goes v) agree (h.1 v))
 
-hidden_then : (shown s : List ℕ) (f : Form (List ℕ)) (next : List ℕ → Form (List ℕ)) → Hidden shown s f → ((t : List ℕ) → Hidden shown t (next t)) → Hidden shown s (f >>= next)
-unfolding Hidden
-hidden_then shown s (done t) next h behind = hidden_at (next t) h (behind t)
-hidden_then shown s (field cell goes) next h behind = (h.0, λ v. hidden_then shown s (goes v) next (h.1 v) behind)
+pub left_then : (shown s : List ℕ) (f : Form (List ℕ)) (next : List ℕ → Form (List ℕ)) → IsLeft shown s f → ((t : List ℕ) → IsLeft shown t (next t)) → IsLeft shown s (f >>= next)
+left_then shown s (done t) next h behind = left_at (next t) h (behind t)
+left_then shown s (field cell goes) next h behind = (h.0, λ v. left_then shown s (goes v) next (h.1 v) behind)
 
-hidden_turns : (shown : List ℕ) (block : List ℕ → Form (List ℕ)) (counter turn times : ℕ) (s : List ℕ) → IsFalse (has shown counter) → ((t : List ℕ) → Hidden shown t (block t))
-    → Hidden shown s (turns block counter turn times s)
-unfolding Hidden turns
-hidden_turns shown block counter turn zero s is h = agree_itself shown s
-hidden_turns shown block counter turn (suc more) s is h =
-    hidden_then shown s (block (slice_set s counter turn)) (turns block counter (turn + 1) more) (hidden_at (block (slice_set s counter turn)) (agree_outside shown s counter turn is) (h (slice_set s counter turn)))
-    (λ t. hidden_turns shown block counter (turn + 1) more t is h)
+pub left_turns : (shown : List ℕ) (block : List ℕ → Form (List ℕ)) (counter turn times : ℕ) (s : List ℕ) → IsFalse (has shown counter) → ((t : List ℕ) → IsLeft shown t (block t))
+    → IsLeft shown s (turns block counter turn times s)
+unfolding turns
+left_turns shown block counter turn zero s is h = agree_itself shown s
+left_turns shown block counter turn (suc more) s is h =
+    left_then shown s (block (slice_set s counter turn)) (turns block counter (turn + 1) more) (left_at (block (slice_set s counter turn)) (agree_outside shown s counter turn is) (h (slice_set s counter turn)))
+    (λ t. left_turns shown block counter (turn + 1) more t is h)
 
-hidden_present : (shown : List ℕ) (presence : Presence) (block : List ℕ → Form (List ℕ)) (s : List ℕ) → hides_counter shown presence ≡ true → ((t : List ℕ) → Hidden shown t (block t))
-    → Hidden shown s (present presence block s)
-unfolding Hidden present hides_counter
-hidden_present shown (When holds) block s is h = elim (value s holds == 0) as (λ none. Hidden shown s (cond none (done s) (block s))) [
+pub left_present : (shown : List ℕ) (presence : Presence) (block : List ℕ → Form (List ℕ)) (s : List ℕ) → hides_counter shown presence ≡ true → ((t : List ℕ) → IsLeft shown t (block t))
+    → IsLeft shown s (present presence block s)
+unfolding present hides_counter
+left_present shown (When holds) block s is h = elim (value s holds == 0) as (λ none. IsLeft shown s (cond none (done s) (block s))) [
   | true ↦ agree_itself shown s
   | false ↦ h s
 ]
-hidden_present shown (Repeat counter times) block s is h = hidden_turns shown block counter 0 (value s times) s (not-true (has shown counter) is) h
+left_present shown (Repeat counter times) block s is h = left_turns shown block counter 0 (value s times) s (not-true (has shown counter) is) h
 
 hides_fewer : (shown : List ℕ) (k n : ℕ) (rows : List Row) → k ≤ n → hides shown (take n rows) ≡ true → hides shown (take k rows) ≡ true
 hides_fewer shown zero n [] few h = refl
@@ -76,41 +71,40 @@ after_hidden shown s c v is = elim (has_value (coding_at s c.coding)) as (λ b. 
   | false ↦ agree_itself shown s
 ]
 
-hidden_part : (shown : List ℕ) (skip len : ℕ) (rows : List Row) (s : List ℕ) → hides shown (take (skip + len) rows) ≡ true → Hidden shown s (part skip len rows s)
-unfolding Hidden hides_row part one_field
-hidden_part shown zero len [] s h = agree_itself shown s
-hidden_part shown (suc skip) len [] s h = agree_itself shown s
-hidden_part shown (suc skip) len (row ∷ rows) s h =
+left_part : (shown : List ℕ) (skip len : ℕ) (rows : List Row) (s : List ℕ) → hides shown (take (skip + len) rows) ≡ true → IsLeft shown s (part skip len rows s)
+unfolding hides_row part one_field
+left_part shown zero len [] s h = agree_itself shown s
+left_part shown (suc skip) len [] s h = agree_itself shown s
+left_part shown (suc skip) len (row ∷ rows) s h =
     let one : suc skip + len ≡ suc (skip + len) = omega arith in
     let parts = and_parts (hides_row shown row) (hides shown (take (skip + len) rows)) (rw one at h) in
-    hidden_part shown skip len rows s parts.1
-hidden_part shown zero zero (row ∷ rows) s h = agree_itself shown s
-hidden_part shown zero (suc len) (Field c ∷ rows) s h =
+    left_part shown skip len rows s parts.1
+left_part shown zero zero (row ∷ rows) s h = agree_itself shown s
+left_part shown zero (suc len) (Field c ∷ rows) s h =
     let one : 0 + suc len ≡ suc (0 + len) = omega arith in
     let parts = and_parts (not (has shown c.field)) (hides shown (take (0 + len) rows)) (rw one at h) in
     let is = not-true (has shown c.field) parts.0 in
-    (is, λ v. hidden_at (part 0 len rows (after s (cell_at s c) v)) (after_hidden shown s c v is) (hidden_part shown 0 len rows (after s (cell_at s c) v) parts.1))
-hidden_part shown zero (suc len) (Block presence n ∷ rows) s h =
+    (is, λ v. left_at (part 0 len rows (after s (cell_at s c) v)) (after_hidden shown s c v is) (left_part shown 0 len rows (after s (cell_at s c) v) parts.1))
+left_part shown zero (suc len) (Block presence n ∷ rows) s h =
     let one : 0 + suc len ≡ suc (0 + len) = omega arith in
     let parts = and_parts (hides_counter shown presence) (hides shown (take (0 + len) rows)) (rw one at h) in
-    hidden_then shown s (present presence (part 0 (min n len) rows) s) (part (min n len) (len - min n len) rows)
-    (hidden_present shown presence (part 0 (min n len) rows) s parts.0 (λ t. hidden_part shown 0 (min n len) rows t (hides_fewer shown (0 + min n len) (0 + len) rows (omega arith) parts.1)))
-    (λ t. hidden_part shown (min n len) (len - min n len) rows t (hides_fewer shown (min n len + (len - min n len)) (0 + len) rows (omega arith) parts.1))
-hidden_part shown zero (suc len) (Name name formula ∷ rows) s h =
+    left_then shown s (present presence (part 0 (min n len) rows) s) (part (min n len) (len - min n len) rows)
+    (left_present shown presence (part 0 (min n len) rows) s parts.0 (λ t. left_part shown 0 (min n len) rows t (hides_fewer shown (0 + min n len) (0 + len) rows (omega arith) parts.1)))
+    (λ t. left_part shown (min n len) (len - min n len) rows t (hides_fewer shown (min n len + (len - min n len)) (0 + len) rows (omega arith) parts.1))
+left_part shown zero (suc len) (Name name formula ∷ rows) s h =
     let one : 0 + suc len ≡ suc (0 + len) = omega arith in
     let parts = and_parts (not (has shown name)) (hides shown (take (0 + len) rows)) (rw one at h) in
     let is = not-true (has shown name) parts.0 in
     let t : List ℕ = slice_set s name (value s formula) in
-    hidden_at (part 0 len rows t) (agree_outside shown s name (value s formula) is) (hidden_part shown 0 len rows t parts.1)
+    left_at (part 0 len rows t) (agree_outside shown s name (value s formula) is) (left_part shown 0 len rows t parts.1)
 
-hidden_alike : {shown known : List ℕ} (s t : List ℕ) (f g : Form (List ℕ)) → Inside known shown → Agree known s t → Hidden shown s f → Hidden shown t g → Alike shown known f g
-unfolding Hidden
-hidden_alike s t (field cell goes) g inside agree h k = hidden_left h.0 (λ v. hidden_alike s t (goes v) g inside agree (h.1 v) k)
-hidden_alike s t (done u) (field cell goes) inside agree h k = hidden_right k.0 (λ v. hidden_alike s t (done u) (goes v) inside agree h (k.1 v))
-hidden_alike s t (done u) (done w) inside agree h k = at_ends (agree_on (agree_less inside (agree_back h)) (agree_on agree (agree_less inside k)))
+left_alike : {shown known : List ℕ} (s t : List ℕ) (f g : Form (List ℕ)) → Inside known shown → Agree known s t → IsLeft shown s f → IsLeft shown t g → Alike shown known f g
+left_alike s t (field cell goes) g inside agree h k = hidden_left h.0 (λ v. left_alike s t (goes v) g inside agree (h.1 v) k)
+left_alike s t (done u) (field cell goes) inside agree h k = hidden_right k.0 (λ v. left_alike s t (done u) (goes v) inside agree h (k.1 v))
+left_alike s t (done u) (done w) inside agree h k = at_ends (agree_on (agree_less inside (agree_back h)) (agree_on agree (agree_less inside k)))
 
 -- the names that are known behind a name
-agree_grown : (shown known : List ℕ) {s t : List ℕ} (n v : ℕ) → Agree known s t → Agree (grown shown known n) (slice_set s n v) (slice_set t n v)
+pub agree_grown : (shown known : List ℕ) {s t : List ℕ} (n v : ℕ) → Agree known s t → Agree (grown shown known n) (slice_set s n v) (slice_set t n v)
 agree_grown shown known n v agree = agree_set n v (grown_other shown known n) agree
 
 agree_hidden : {shown known s t : List ℕ} (n v w : ℕ) → Inside known shown → IsFalse (has shown n) → Agree known s t → Agree known (slice_set s n v) (slice_set t n w)
@@ -125,7 +119,7 @@ alike_turns block counter turn zero s t h agree = at_ends agree
 alike_turns {shown} {known} block counter turn (suc more) s t h agree =
     alike_then (h (slice_set s counter turn) (slice_set t counter turn) (agree_grown shown known counter turn agree)) (λ u w. alike_turns block counter (turn + 1) more u w h)
 
-alike_present : {shown known : List ℕ} (presence : Presence) (block : List ℕ → Form (List ℕ)) (s t : List ℕ) → knows_presence known presence ≡ true
+pub alike_present : {shown known : List ℕ} (presence : Presence) (block : List ℕ → Form (List ℕ)) (s t : List ℕ) → knows_presence known presence ≡ true
     → ((s t : List ℕ) → Agree (within_block shown known presence) s t → Alike shown known (block s) (block t)) → Agree known s t
     → Alike shown known (present presence block s) (present presence block t)
 unfolding present knows_presence within_block
@@ -137,19 +131,19 @@ alike_present {shown} {known} (When holds) block s t knows h agree =
 alike_present (Repeat counter times) block s t knows h agree =
     rw (same_value times agree knows) (alike_turns block counter 0 (value t times) s t h agree)
 
-inside_block : {shown known : List ℕ} (presence : Presence) → Inside known shown → Inside (within_block shown known presence) shown
+pub inside_block : {shown known : List ℕ} (presence : Presence) → Inside known shown → Inside (within_block shown known presence) shown
 unfolding within_block
 inside_block (When holds) inside = inside
 inside_block (Repeat counter times) inside = inside_grown counter inside
 
-block_grows : (shown known : List ℕ) (presence : Presence) → Inside known (within_block shown known presence)
+pub block_grows : (shown known : List ℕ) (presence : Presence) → Inside known (within_block shown known presence)
 unfolding within_block
 block_grows shown known (When holds) = inside_itself known
 block_grows shown known (Repeat counter times) = grows shown known counter
 
 -- a block of rows or a table, as often as it is there
-alike_block : (shown known : List ℕ) (presence : Presence) (block : List ℕ → Form (List ℕ)) (hidden : Bool) (within : List ℕ → Bool) (s t : List ℕ) → Inside known shown
-    → block_depends shown known presence hidden within ≡ true → (hidden ≡ true → (u : List ℕ) → Hidden shown u (block u))
+pub alike_block : (shown known : List ℕ) (presence : Presence) (block : List ℕ → Form (List ℕ)) (hidden : Bool) (within : List ℕ → Bool) (s t : List ℕ) → Inside known shown
+    → block_depends shown known presence hidden within ≡ true → (hidden ≡ true → (u : List ℕ) → IsLeft shown u (block u))
     → ((more : List ℕ) → Inside more shown → within more ≡ true → (u w : List ℕ) → Agree more u w → Alike shown more (block u) (block w)) → Agree known s t
     → Alike shown known (present presence block s) (present presence block t)
 alike_block shown known presence block hidden within s t inside test hide show agree =
@@ -157,8 +151,8 @@ alike_block shown known presence block hidden within s t inside test hide show a
     elim (or_cases (hides_counter shown presence && hidden) (knows_presence known presence && within there) test) [
       | inl h ↦
           let parts = and_parts (hides_counter shown presence) hidden h in
-          hidden_alike s t (present presence block s) (present presence block t) inside agree
-          (hidden_present shown presence block s parts.0 (hide parts.1)) (hidden_present shown presence block t parts.0 (hide parts.1))
+          left_alike s t (present presence block s) (present presence block t) inside agree
+          (left_present shown presence block s parts.0 (hide parts.1)) (left_present shown presence block t parts.0 (hide parts.1))
       | inr h ↦
           let parts = and_parts (knows_presence known presence) (within there) h in
           alike_present presence block s t parts.0 (λ u w same. alike_less (block_grows shown known presence) (show there (inside_block presence inside) parts.1 u w same)) agree
@@ -201,9 +195,29 @@ named {shown} {known} {s} {t} name f inside test agree = elim (or_cases (not (ha
   | inr knows ↦ rw (same_value f agree knows) (agree_grown shown known name (value t f) agree)
 ]
 
+rows_grow : (shown known : List ℕ) (skip len : ℕ) (rows : List Row) → Inside known (behind_rows shown known skip len rows)
+unfolding behind_rows
+rows_grow shown known zero len [] = inside_itself known
+rows_grow shown known (suc skip) len [] = inside_itself known
+rows_grow shown known (suc skip) len (row ∷ rows) = rows_grow shown known skip len rows
+rows_grow shown known zero zero (row ∷ rows) = inside_itself known
+rows_grow shown known zero (suc len) (Field c ∷ rows) = inside_on (field_grows shown known c) (rows_grow shown (behind_field shown known c) 0 len rows)
+rows_grow shown known zero (suc len) (Block presence n ∷ rows) = rows_grow shown known (min n len) (len - min n len) rows
+rows_grow shown known zero (suc len) (Name name formula ∷ rows) = inside_on (grows shown known name) (rows_grow shown (grown shown known name) 0 len rows)
+
+rows_inside : (shown known : List ℕ) (skip len : ℕ) (rows : List Row) → Inside known shown → Inside (behind_rows shown known skip len rows) shown
+unfolding behind_rows
+rows_inside shown known zero len [] inside = inside
+rows_inside shown known (suc skip) len [] inside = inside
+rows_inside shown known (suc skip) len (row ∷ rows) inside = rows_inside shown known skip len rows inside
+rows_inside shown known zero zero (row ∷ rows) inside = inside
+rows_inside shown known zero (suc len) (Field c ∷ rows) inside = rows_inside shown (behind_field shown known c) 0 len rows (inside_field c inside)
+rows_inside shown known zero (suc len) (Block presence n ∷ rows) inside = rows_inside shown known (min n len) (len - min n len) rows inside
+rows_inside shown known zero (suc len) (Name name formula ∷ rows) inside = rows_inside shown (grown shown known name) 0 len rows (inside_grown name inside)
+
 alike_part : (shown known : List ℕ) (skip len : ℕ) (rows : List Row) (s t : List ℕ) → Inside known shown → depends shown known skip len rows ≡ true → Agree known s t
-    → Alike shown known (part skip len rows s) (part skip len rows t)
-unfolding depends part one_field
+    → Alike shown (behind_rows shown known skip len rows) (part skip len rows s) (part skip len rows t)
+unfolding depends behind_rows part one_field
 alike_part shown known zero len [] s t inside test agree = at_ends agree
 alike_part shown known (suc skip) len [] s t inside test agree = at_ends agree
 alike_part shown known (suc skip) len (row ∷ rows) s t inside test agree = alike_part shown known skip len rows s t inside test agree
@@ -214,60 +228,50 @@ alike_part shown known zero (suc len) (Field c ∷ rows) s t inside test agree =
       | inl is ↦
           let knows : knows_cell known c ≡ true = rw is at parts.0 in
           let same = same_cell c agree knows in
-          subst (λ (x : Cell ℕ). Alike shown known (field (cell_at s c) (λ v. part 0 len rows (after s (cell_at s c) v))) (field x (λ v. part 0 len rows (after t x v)))) same
-          (both is (λ v. alike_less (field_grows shown known c)
-          (alike_part shown (behind_field shown known c) 0 len rows (after s (cell_at s c) v) (after t (cell_at s c) v) (inside_field c inside) parts.1 (after_shown shown known c v agree))))
+          subst (λ (x : Cell ℕ). Alike shown (behind_rows shown (behind_field shown known c) 0 len rows) (field (cell_at s c) (λ v. part 0 len rows (after s (cell_at s c) v))) (field x (λ v. part 0 len rows (after t x v)))) same
+          (both is (λ v. alike_part shown (behind_field shown known c) 0 len rows (after s (cell_at s c) v) (after t (cell_at s c) v) (inside_field c inside) parts.1 (after_shown shown known c v agree)))
       | inr is ↦
           let rest = rw (known_hidden shown known c is) at parts.1 in
-          hidden_left is (λ v. hidden_right is (λ w. alike_part shown known 0 len rows (after s (cell_at s c) v) (after t (cell_at t c) w) inside rest
-          (agree_on (agree_less inside (agree_back (after_hidden shown s c v is))) (agree_on agree (agree_less inside (after_hidden shown t c w is))))))
+          rw (known_hidden shown known c is) (hidden_left is (λ v. hidden_right is (λ w. alike_part shown known 0 len rows (after s (cell_at s c) v) (after t (cell_at t c) w) inside rest
+          (agree_on (agree_less inside (agree_back (after_hidden shown s c v is))) (agree_on agree (agree_less inside (after_hidden shown t c w is)))))))
     ]
 alike_part shown known zero (suc len) (Block presence n ∷ rows) s t inside test agree =
     let hidden : Bool = hides shown (take (min n len) rows) in
     let within : List ℕ → Bool = λ more. depends shown more 0 (min n len) rows in
     let parts = and_parts (block_depends shown known presence hidden within) (depends shown known (min n len) (len - min n len) rows) test in
     let block = alike_block shown known presence (part 0 (min n len) rows) hidden within s t inside parts.0
-    (λ hide u. hidden_part shown 0 (min n len) rows u (hides_fewer shown (0 + min n len) (min n len) rows (omega arith) hide))
-    (λ more there holds u w same. alike_part shown more 0 (min n len) rows u w there holds same) agree in
+    (λ hide u. left_part shown 0 (min n len) rows u (hides_fewer shown (0 + min n len) (min n len) rows (omega arith) hide))
+    (λ more there holds u w same. alike_less (rows_grow shown more 0 (min n len) rows) (alike_part shown more 0 (min n len) rows u w there holds same)) agree in
     alike_then block (λ u w behind. alike_part shown known (min n len) (len - min n len) rows u w inside parts.1 behind)
 alike_part shown known zero (suc len) (Name name formula ∷ rows) s t inside test agree =
     let parts = and_parts (not (has shown name) || knows_formula known formula) (depends shown (grown shown known name) 0 len rows) test in
-    alike_less (grows shown known name)
-    (alike_part shown (grown shown known name) 0 len rows (slice_set s name (value s formula)) (slice_set t name (value t formula)) (inside_grown name inside) parts.1 (named name formula inside parts.0 agree))
+    alike_part shown (grown shown known name) 0 len rows (slice_set s name (value s formula)) (slice_set t name (value t formula)) (inside_grown name inside) parts.1 (named name formula inside parts.0 agree)
 
-alike_table : (shown known : List ℕ) (rows : List Row) (s t : List ℕ) → Inside known shown → table_depends shown known rows ≡ true → Agree known s t
-    → Alike shown known (form_of rows s) (form_of rows t)
-unfolding form_of table_depends
+pub table_grows : (shown known : List ℕ) (rows : List Row) → Inside known (behind_table shown known rows)
+unfolding behind_table
+table_grows shown known rows = rows_grow shown known 0 (length rows) rows
+
+pub table_inside : {shown known : List ℕ} (rows : List Row) → Inside known shown → Inside (behind_table shown known rows) shown
+unfolding behind_table
+table_inside {shown} {known} rows inside = rows_inside shown known 0 (length rows) rows inside
+
+pub alike_table : (shown known : List ℕ) (rows : List Row) (s t : List ℕ) → Inside known shown → table_depends shown known rows ≡ true → Agree known s t
+    → Alike shown (behind_table shown known rows) (form_of rows s) (form_of rows t)
+unfolding form_of table_depends behind_table
 alike_table shown known rows s t inside test agree = alike_part shown known 0 (length rows) rows s t inside test agree
 
-hidden_table : (shown : List ℕ) (rows : List Row) (s : List ℕ) → hides shown rows ≡ true → Hidden shown s (form_of rows s)
+pub left_table : (shown : List ℕ) (rows : List Row) (s : List ℕ) → hides shown rows ≡ true → IsLeft shown s (form_of rows s)
 unfolding form_of
-hidden_table shown rows s hide = hidden_part shown 0 (length rows) rows s (rw (take_all (0 + length rows) rows (omega arith)) hide)
-
-alike_sections : (shown known : List ℕ) (sections : List Section) (s t : List ℕ) → Inside known shown → sections_depend shown known sections ≡ true → Agree known s t
-    → Alike shown known (sections_form sections s) (sections_form sections t)
-unfolding sections_form
-alike_sections shown known [] s t inside test agree = at_ends agree
-alike_sections shown known (section ∷ more) s t inside test agree =
-    let hidden : Bool = hides shown section.rows in
-    let within : List ℕ → Bool = λ there. table_depends shown there section.rows in
-    let parts = and_parts (block_depends shown known section.presence hidden within) (sections_depend shown known more) test in
-    let first = alike_block shown known section.presence (form_of section.rows) hidden within s t inside parts.0
-    (λ hide u. hidden_table shown section.rows u hide) (λ there inside_there holds u w same. alike_table shown there section.rows u w inside_there holds same) agree in
-    alike_then first (λ u w behind. alike_sections shown known more u w inside parts.1 behind)
+left_table shown rows s hide = left_part shown 0 (length rows) rows s (rw (take_all (0 + length rows) rows (omega arith)) hide)
 
 -- a set lies within itself with more names
-inside_with_all : (names more : List ℕ) → Inside names (with_all names more)
+pub inside_with_all : (names more : List ℕ) → Inside names (with_all names more)
 inside_with_all names [] = inside_itself names
 inside_with_all names (n ∷ more) = record { has_too = λ m h. (inside_with_all (slice_set names n 1) more).has_too m ((with_one names n).has_too m h) }
 
--- What the test of a table and of a structure says.
+-- What the test of a table says.
 pub table_depends_only_on : (given shown : List ℕ) (rows : List Row) → depends_only_on given shown rows ≡ true → DependsOnlyOn given shown (form_of rows)
 table_depends_only_on given shown rows test = record {
-  alike = λ s t agree. alike_table (with_all (set_of given) shown) (set_of given) rows s t (inside_with_all (set_of given) shown) test agree;
-}
-
-pub structure_depends_only_on : (given shown : List ℕ) (sections : List Section) → sections_depend_only_on given shown sections ≡ true → DependsOnlyOn given shown (sections_form sections)
-structure_depends_only_on given shown sections test = record {
-  alike = λ s t agree. alike_sections (with_all (set_of given) shown) (set_of given) sections s t (inside_with_all (set_of given) shown) test agree;
+  alike = λ s t agree. alike_less (table_grows (with_all (set_of given) shown) (set_of given) rows)
+      (alike_table (with_all (set_of given) shown) (set_of given) rows s t (inside_with_all (set_of given) shown) test agree);
 }

@@ -6,7 +6,9 @@ mod Keepings
 pub mod Shown
 mod Testing
 pub mod Dependence
-mod Agreeing
+pub mod Chains
+pub mod Again
+pub mod Agreeing
 pub mod Closing
 pub mod Codings
 pub mod Items

@@ -1,5 +1,5 @@
 -- A walk of a reader gives what the relations say.
-use Rattle.std.proofs.Common.{◌≡◌, ℕ, ℤ, Bool, List, [], ◌∷◌, ◌++◌, Result, Ok, Err, refl, ap, sym, subst, ◌∙◌, ◌*◌, length}
+use Rattle.std.proofs.Common.{◌≡◌, inl, inr, ℕ, ℤ, Bool, List, [], ◌∷◌, ◌++◌, Result, Ok, Err, refl, ap, sym, subst, ◌∙◌, ◌*◌, length}
 use Rattle.std.proofs.lemmas.List.{append-nil, append_assoc}
 use Rattle.std.specs.Prelude.{OnOk}
 use Rattle.vx_bits.specs.declared.list.Item.{Item}
@@ -151,7 +151,7 @@ reads a (Ok b) walk = record {
   refusal = λ w cell rest r reached out. refusal walk reached refl out;
 }
 reads a (Err errors.Memory) walk = record {
-  is = interrupted walk;
+  is = inl (interrupted walk);
   only = λ w rest spelled. only walk spelled refl;
   refusal = λ w cell rest r reached out. refusal walk reached refl out;
 }
@@ -160,6 +160,11 @@ reads a (Err (errors.Refused q)) walk = record {
   only = λ w rest spelled. only walk spelled refl;
   refusal = λ w cell rest r reached out. refusal walk reached refl out;
 }
+
+-- where memory runs out behind a whole reading
+pub reads_cut_short : {A B C : Type 0} {form : Form A} {old new : Place} {items after : List Item} (b : B)
+    → Reads form old items (Ok b) new after → Reads {B = C} form old items (Err errors.Memory) new after
+reads_cut_short b r = record { is = inr r.is; only = λ w rest spelled. tt; refusal = λ w cell rest q reached out. tt }
 
 -- an error is the same whatever else would have been the answer
 pub reads_error : {A B C : Type 0} {form : Form A} {old new : Place} {items after : List Item} (e : ReadError)

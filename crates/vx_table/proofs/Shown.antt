@@ -13,7 +13,7 @@ use Rattle.vx_table.proofs.Items.{item_apart}
 use Rattle.vx_table.proofs.Agreeing.{agree_back, agree_on, agree_set, agree_outside, agree_itself}
 use Rattle.vx_table.proofs.Dependence.{alike_then}
 
-shown_here : (shown : List ℕ) (cell : Cell ℕ) (v : ℤ) (rest : List Item) → IsTrue (has shown cell.field) → shown_items shown (item_of cell v ++ rest) ≡ item_of cell v ++ shown_items shown rest
+pub shown_here : (shown : List ℕ) (cell : Cell ℕ) (v : ℤ) (rest : List Item) → IsTrue (has shown cell.field) → shown_items shown (item_of cell v ++ rest) ≡ item_of cell v ++ shown_items shown rest
 unfolding item_of
 shown_here shown cell v rest is = elim (has_value cell.coding)
     as (λ b. shown_items shown (cond b (record { field = cell.field; value = v } ∷ []) [] ++ rest) ≡ cond b (record { field = cell.field; value = v } ∷ []) [] ++ shown_items shown rest) [
@@ -21,7 +21,7 @@ shown_here shown cell v rest is = elim (has_value cell.coding)
       | false ↦ refl
     ]
 
-hidden_here : (shown : List ℕ) (cell : Cell ℕ) (v : ℤ) (rest : List Item) → IsFalse (has shown cell.field) → shown_items shown (item_of cell v ++ rest) ≡ shown_items shown rest
+pub hidden_here : (shown : List ℕ) (cell : Cell ℕ) (v : ℤ) (rest : List Item) → IsFalse (has shown cell.field) → shown_items shown (item_of cell v ++ rest) ≡ shown_items shown rest
 unfolding item_of
 hidden_here shown cell v rest is = elim (has_value cell.coding)
     as (λ b. shown_items shown (cond b (record { field = cell.field; value = v } ∷ []) [] ++ rest) ≡ shown_items shown rest) [
@@ -53,7 +53,7 @@ pub cells_follow_items : CellsFollowItems
 cells_follow_items shown known f g v w s t alike on along same = follow_items alike on along same
 
 -- only shown items count
-loaded_shown : (names s t : List ℕ) (items : List Item) → Agree names s t → Agree names (loaded s items) (loaded t (shown_items names items))
+pub loaded_shown : (names s t : List ℕ) (items : List Item) → Agree names s t → Agree names (loaded s items) (loaded t (shown_items names items))
 loaded_shown names s t [] agree = agree
 loaded_shown names s t (item ∷ items) agree = elim (cases_Bool (has names item.field)) [
   | inl is ↦ rw is (loaded_shown names (slice_set s item.field (natural item.value)) (slice_set t item.field (natural item.value)) items

@@ -35,7 +35,7 @@ same_tests : (kept is : Bool) → cond kept is (not is) ≡ true → kept ≡ is
 same_tests true is h = sym h
 same_tests false is h = sym (not-true is h)
 
-starred : (shown : List ℕ) (c : Cell Formula) (s : List ℕ) → star_tells shown (Field c) ≡ true → IsKeptWhereShown shown (cell_at s c)
+pub starred : (shown : List ℕ) (c : Cell Formula) (s : List ℕ) → star_tells shown (Field c) ≡ true → IsKeptWhereShown shown (cell_at s c)
 unfolding star_tells
 starred shown c s h = λ stands. same_tests c.kept (has shown c.field) (rw (sym (standing s c.coding) ∙ stands) at h)
 
@@ -69,7 +69,7 @@ kept_apart cell v w r s keeps a b e = elim (cases_Bool (stands_for_field cell.co
   | inr none ↦ (only_value cell.coding v w none a b, rw (none, and-false cell.kept) at e)
 ]
 
-not_kept : (cell : Cell ℕ) (v : ℤ) → (IsTrue (stands_for_field cell.coding) → cell.kept ≡ false) → kept_item cell v ≡ []
+pub not_kept : (cell : Cell ℕ) (v : ℤ) → (IsTrue (stands_for_field cell.coding) → cell.kept ≡ false) → kept_item cell v ≡ []
 not_kept cell v drops = elim (cases_Bool (stands_for_field cell.coding)) [
   | inl stands ↦ rw (drops stands) refl
   | inr none ↦ rw (none, and-false cell.kept) refl

@@ -43,12 +43,12 @@ pub leads : {C I E A : Type 0} (step : Step C I E) (f : Form A) (c : C) (i : I) 
 leads step f c i = record { on = λ r d j w. w }
 
 -- behind a form that was walked
-pub leads-then : {C I E A : Type 0} {step : Step C I E} {whole : Form A} {first : C} {first_items : I} {f : Form A} (next : A → Form A) {c d : C} {i j : I} {a : A}
-    → Leads step whole first first_items (f >>= next) c i → Walks step f c i (Ok a) d j → Leads step whole first first_items (next a) d j
+pub leads-then : {C I E A B : Type 0} {step : Step C I E} {whole : Form A} {first : C} {first_items : I} {f : Form B} (next : B → Form A) {c d : C} {i j : I} {b : B}
+    → Leads step whole first first_items (f >>= next) c i → Walks step f c i (Ok b) d j → Leads step whole first first_items (next b) d j
 leads-then next before walked = record { on = λ r d j rest. before.on r d j (then next walked rest) }
 
 -- at a refusal
-pub leads-stop : {C I E A : Type 0} {step : Step C I E} {whole : Form A} {first : C} {first_items : I} {f : Form A} (next : A → Form A) {c d : C} {i j : I} {e : E}
+pub leads-stop : {C I E A B : Type 0} {step : Step C I E} {whole : Form A} {first : C} {first_items : I} {f : Form B} (next : B → Form A) {c d : C} {i j : I} {e : E}
     → Leads step whole first first_items (f >>= next) c i → Walks step f c i (Err e) d j → Walks step whole first first_items (Err e) d j
 leads-stop next before walked = before.on _ _ _ (stop next walked)
 

@@ -1,5 +1,6 @@
--- The test of a table by its first row.
-use Rattle.std.proofs.Common.{◌≡◌, ℕ, zero, suc, ◌+◌, ◌-◌, ◌≤◌, min, true, ◌&&◌, List, [], ◌∷◌, ◌++◌, length, take, drop, refl, ap, sym, ◌∙◌, arith}
+-- The test of a table, and what is known behind it, by its first row.
+use Rattle.std.proofs.Common.{◌≡◌, ℕ, zero, suc, ◌+◌, ◌-◌, ◌≤◌, min, Bool, true, false, ◌&&◌, List, [], ◌∷◌, ◌++◌, length, take, drop, refl, ap, sym, ◌∙◌, arith}
+use Rattle.std.specs.Prelude.{is_some}
 use Rattle.std.proofs.Math.Path.{fun_ext}
 use Rattle.std.proofs.lemmas.List.{take-append-le, take-append-drop, length-take-le, length-drop}
 use Rattle.vx_table.specs.declared.rows.Formula.{Formula}
@@ -7,7 +8,7 @@ use Rattle.vx_table.specs.declared.rows.Cell.{Cell}
 use Rattle.vx_table.specs.declared.rows.Presence.{Presence}
 use Rattle.vx_table.specs.declared.rows.Row.{Row}
 use Rattle.vx_table.specs.declared.rows.Row.TheVariants.{Field, Block, Name}
-use Rattle.vx_table.specs.Depends.{hides, grown, behind_field, block_depends, field_depends, name_depends, depends, table_depends, rows_depend}
+use Rattle.vx_table.specs.Claims.{hides, grown, behind_field, block_depends, field_depends, name_depends, depends, table_depends, rows_depend, behind_rows, behind_table, known_if}
 
 -- the rows behind the first few
 depends-drop : (shown known : List ℕ) (skip len : ℕ) (rows : List Row) → depends shown known skip len rows ≡ depends shown known 0 len (drop skip rows)
@@ -76,3 +77,38 @@ pub test-none : (shown known : List ℕ) (rows : List Row) → length rows ≡ 0
 unfolding depends table_depends
 test-none shown known [] none = refl
 test-none shown known (row ∷ rows) none = absurd (omega arith)
+
+-- ---- what is known behind
+
+behind-drop : (shown known : List ℕ) (skip len : ℕ) (rows : List Row) → behind_rows shown known skip len rows ≡ behind_rows shown known 0 len (drop skip rows)
+unfolding behind_rows
+behind-drop shown known zero len [] = refl
+behind-drop shown known (suc skip) len [] = refl
+behind-drop shown known zero len (row ∷ rows) = refl
+behind-drop shown known (suc skip) len (row ∷ rows) = behind-drop shown known skip len rows
+
+pub behind-first-field : (shown known : List ℕ) (c : Cell Formula) (rows : List Row) → behind_table shown known (Field c ∷ rows) ≡ behind_table shown (behind_field shown known c) rows
+unfolding behind_rows behind_table
+behind-first-field shown known c rows = refl
+
+pub behind-first-name : (shown known : List ℕ) (name : ℕ) (formula : Formula) (rows : List Row)
+    → behind_table shown known (Name name formula ∷ rows) ≡ behind_table shown (grown shown known name) rows
+unfolding behind_rows behind_table
+behind-first-name shown known name formula rows = refl
+
+pub behind-first-block : (shown known : List ℕ) (presence : Presence) (n : ℕ) (rows : List Row)
+    → behind_table shown known (Block presence n ∷ rows) ≡ behind_table shown known (drop (min n (length rows)) rows)
+unfolding behind_rows behind_table
+behind-first-block shown known presence n rows =
+    behind-drop shown known (min n (length rows)) (length rows - min n (length rows)) rows
+    ∙ ap (λ len. behind_rows shown known 0 len (drop (min n (length rows)) rows)) (sym (length-drop (min n (length rows)) rows))
+
+pub behind-none : (shown known : List ℕ) (rows : List Row) → length rows ≡ 0 → behind_table shown known rows ≡ known
+unfolding behind_rows behind_table
+behind-none shown known [] none = refl
+behind-none shown known (row ∷ rows) none = absurd (omega arith)
+
+-- a test has an answer where it holds
+pub known_where : (holds : Bool) (known : List ℕ) → is_some (known_if holds known) ≡ holds
+known_where true known = refl
+known_where false known = refl

@@ -8,6 +8,9 @@ pub mod Parts
 pub mod EachField
 pub mod Bounds
 pub mod Depends
+pub mod Claims
+pub mod Chains
+pub mod Again
 pub mod Reading
 pub mod Trailing
 pub mod Values

@@ -1,5 +1,5 @@
 -- What a reader answers for a form: the value that the bits spell, or the first refusal.
-use Rattle.std.specs.Prelude.{◌≡◌, ℕ, ℤ, Bool, List, [], ◌*◌, ◌++◌, length, Result, Ok, Err}
+use Rattle.std.specs.Prelude.{◌≡◌, ◌⊎◌, ℕ, ℤ, Bool, List, [], ◌*◌, ◌++◌, length, Result, Ok, Err}
 use Rattle.vx_bits.specs.declared.list.Item.{Item}
 use Rattle.vx_bits.specs.declared.refusal.Refusal.{Refusal}
 use Rattle.vx_bits.specs.declared.refusal.ReadError.{ReadError}
@@ -44,10 +44,14 @@ pub record IsFirstRefusal {A : Type 0} (form : Form A) (old : Place) (items : Li
   pub stops : StopsAt form old items new after cell
   pub refused : IsRefused cell old.total new.left r
 
+-- What a reader has read where memory runs out: a front up to a field that comes next, or all of it, where it takes memory behind the last field.
+abbrev pub IsCutShort : {A : Type 0} → Form A → Place → List Item → Place → List Item → Type 0
+IsCutShort form old items new after = ((cell : Cell ℕ) × StopsAt form old items new after cell) ⊎ IsFound form old items new after
+
 -- What a reader of a form answers, and where it and the items are then.
 abbrev pub IsRead : {A B : Type 0} → Form A → Place → List Item → Result B ReadError → Place → List Item → Type 0
 IsRead form old items (Ok b) new after = IsFound form old items new after
-IsRead form old items (Err errors.Memory) new after = (cell : Cell ℕ) × StopsAt form old items new after cell
+IsRead form old items (Err errors.Memory) new after = IsCutShort form old items new after
 IsRead form old items (Err (errors.Refused r)) new after = IsFirstRefusal form old items new after r
 
 -- What a reader answers for values that the bits spell.

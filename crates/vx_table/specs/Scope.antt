@@ -1,5 +1,5 @@
 -- The latest numbers of fields and names, and what a row's formulas are at them.
-use Rattle.std.specs.Prelude.{◌↔◌, ◌≤◌, ℕ, ℤ, pos, negsuc, zero, suc, ◌+◌, ◌-◌, ◌*◌, ◌^◌, min, Bool, cond, not, ◌&&◌, ◌||◌, ◌==◌, nat_lt, nat_le, List, slice_index, [], ◌∷◌, replicate, slice_set}
+use Rattle.std.specs.Prelude.{◌↔◌, ◌≤◌, ℕ, ℤ, pos, negsuc, zero, suc, ◌+◌, ◌-◌, ◌*◌, ◌^◌, min, Bool, cond, not, ◌&&◌, ◌||◌, ◌==◌, nat_lt, nat_le, List, slice_index, [], ◌∷◌, ◌++◌, take, drop, replicate, slice_set}
 use Rattle.vx_bits.specs.declared.list.Item.{Item}
 use Rattle.std.specs.Int.{div_ceil}
 use Rattle.vx_table.specs.declared.rows.Term.{Term}
@@ -67,3 +67,7 @@ natural (negsuc n) = 0
 abbrev pub loaded : List ℕ → List Item → List ℕ
 loaded s [] = s
 loaded s (item ∷ items) = loaded (slice_set s item.field (natural item.value)) items
+
+-- a scope that has the numbers of one below a field or name, and those of another from it on
+abbrev pub joined : ℕ → List ℕ → List ℕ → List ℕ
+joined from s t = take from s ++ drop from t

@@ -5,7 +5,7 @@ ghost use Rattle.vx_table.specs.Scope as numbers;
 
 /// The number that formulas see of a value.
 #[tactic(auto, unfolding(crate::specs::Scope::natural))]
-pub(crate) fn natural(value: i64) -> u32
+pub fn natural(value: i64) -> u32
     ensures { result ≡ numbers.natural value }
 {
     if value < 0 {
@@ -16,7 +16,7 @@ pub(crate) fn natural(value: i64) -> u32
 }
 
 /// The quotient, rounded up; 0 where the divisor is 0.
-pub(crate) fn quotient(n: u32, divisor: u32) -> u32
+pub fn quotient(n: u32, divisor: u32) -> u32
     ensures { result ≡ numbers.quotient n divisor }
 {
     if divisor == 0 { 0 } else { n.div_ceil(divisor) }
@@ -30,7 +30,7 @@ pub(crate) fn power_of_two(n: u32) -> u32
 }
 
 /// Ceil(Log2(n)): how many powers of two are below n.
-pub(crate) fn ceil_log2(n: u32) -> u32
+pub fn ceil_log2(n: u32) -> u32
     ensures { result ≡ numbers.powers_below 32 n }
 {
     if n <= 1 {

@@ -2,9 +2,11 @@
 
 ghost use Rattle.std.specs.Prelude.{◌≡◌, IsTrue};
 ghost use Rattle.vx_table.specs.Forms.{form_of};
-ghost use Rattle.vx_table.specs.Parts.{sections_of, sections_form};
-ghost use Rattle.vx_table.specs.Depends as test;
+ghost use Rattle.vx_table.specs.Parts.{section_of, sections_of, sections_form};
+ghost use Rattle.vx_table.specs.Depends as sets;
 ghost use Rattle.vx_table.specs.Depends.{DependsOnlyOn};
+ghost use Rattle.vx_table.specs.Claims as test;
+ghost use Rattle.vx_table.specs.Claims.{known_if};
 
 use crate::parts::Part;
 use crate::rows::{Cell, Coding, Formula, Limits, Presence, Row, Term};
@@ -13,14 +15,14 @@ use crate::walk::{has_value, split_block};
 
 /// Whether a set of fields and names has this one; a set is a scope in which they have a number.
 pub(crate) fn has(names: &Scope, n: u16) -> bool
-    ensures { result ≡ test.has names.now n }
+    ensures { result ≡ sets.has names.now n }
 {
     names.latest(n) != 0
 }
 
 /// A set with more fields and names.
 pub(crate) fn with_all(mut names: Scope, more: &[u16]) -> Scope
-    ensures { result ≡ test.with_all names more.now }
+    ensures { result ≡ sets.with_all names more.now }
 {
     for n in more {
         names.set(*n, 1);
@@ -39,7 +41,7 @@ fn knows(known: &Scope, term: Term) -> bool
 }
 
 /// Whether a formula reads only known names.
-#[tactic(auto, unfolding(crate::specs::Depends::knows_formula))]
+#[tactic(auto, unfolding(crate::specs::Claims::knows_formula))]
 fn knows_formula(known: &Scope, formula: Formula) -> bool
     ensures { result ≡ test.knows_formula known.now formula }
 {
@@ -62,7 +64,7 @@ fn knows_formula(known: &Scope, formula: Formula) -> bool
 }
 
 /// Whether a field's width is known.
-#[tactic(auto, unfolding(crate::specs::Depends::knows_width))]
+#[tactic(auto, unfolding(crate::specs::Claims::knows_width))]
 fn knows_width(known: &Scope, coding: Coding<Formula>) -> bool
     ensures { result ≡ test.knows_width known.now coding }
 {
@@ -73,7 +75,7 @@ fn knows_width(known: &Scope, coding: Coding<Formula>) -> bool
 }
 
 /// Whether a field's range is known.
-#[tactic(auto, unfolding(crate::specs::Depends::knows_range))]
+#[tactic(auto, unfolding(crate::specs::Claims::knows_range))]
 fn knows_range(known: &Scope, limits: Limits<Formula>) -> bool
     ensures { result ≡ test.knows_range known.now limits }
 {
@@ -85,7 +87,7 @@ fn knows_range(known: &Scope, limits: Limits<Formula>) -> bool
 }
 
 /// Whether it is known how often a block is there.
-#[tactic(auto, unfolding(crate::specs::Depends::knows_presence))]
+#[tactic(auto, unfolding(crate::specs::Claims::knows_presence))]
 fn knows_presence(known: &Scope, presence: Presence) -> bool
     ensures { result ≡ test.knows_presence known.now presence }
 {
@@ -96,7 +98,7 @@ fn knows_presence(known: &Scope, presence: Presence) -> bool
 }
 
 /// Whether a block gives no shown counter a number.
-#[tactic(auto, unfolding(crate::specs::Depends::hides_counter))]
+#[tactic(auto, unfolding(crate::specs::Claims::hides_counter))]
 fn hides_counter(shown: &Scope, presence: Presence) -> bool
     ensures { result ≡ test.hides_counter shown.now presence }
 {
@@ -107,7 +109,7 @@ fn hides_counter(shown: &Scope, presence: Presence) -> bool
 }
 
 /// Whether a row is no shown field, and gives no shown name a number.
-#[tactic(auto, unfolding(crate::specs::Depends::hides_row))]
+#[tactic(auto, unfolding(crate::specs::Claims::hides_row))]
 fn hides_row(shown: &Scope, row: Row) -> bool
     ensures { result ≡ test.hides_row shown.now row }
 {
@@ -142,7 +144,7 @@ fn grown(shown: &Scope, known: Scope, n: u16) -> Scope
 }
 
 /// What is known behind a field.
-#[tactic(auto, unfolding(crate::specs::Depends::behind_field))]
+#[tactic(auto, unfolding(crate::specs::Claims::behind_field))]
 fn behind_field(shown: &Scope, known: Scope, cell: Cell<Formula>) -> Scope
     ensures { result ≡ test.behind_field shown.now known cell }
 {
@@ -154,7 +156,7 @@ fn behind_field(shown: &Scope, known: Scope, cell: Cell<Formula>) -> Scope
 }
 
 /// What is known within a block.
-#[tactic(auto, unfolding(crate::specs::Depends::within_block))]
+#[tactic(auto, unfolding(crate::specs::Claims::within_block))]
 fn within_block(shown: &Scope, known: Scope, presence: Presence) -> Scope
     ensures { result ≡ test.within_block shown.now known presence }
 {
@@ -184,10 +186,10 @@ fn name_depends(shown: &Scope, known: &Scope, name: u16, formula: Formula) -> bo
     knows_formula(known, formula)
 }
 
-/// Whether the shown fields and names of rows depend only on what is known.
+/// What is known behind rows, where their shown fields and names depend only on what is known where they stand.
 #[cycle(test)]
-fn table_depends(shown: &Scope, known: Scope, table: &[Row]) -> bool
-    ensures { result ≡ test.table_depends shown.now known table.now }
+fn table_depends(shown: &Scope, known: Scope, table: &[Row]) -> Option<Scope>
+    ensures { result ≡ known_if (test.table_depends shown.now known table.now) (test.behind_table shown.now known table.now) }
 {
     let mut known = known;
     let mut rows = table;
@@ -195,7 +197,7 @@ fn table_depends(shown: &Scope, known: Scope, table: &[Row]) -> bool
         rows = match *row {
             Row::Field(cell) => {
                 if !field_depends(shown, &known, cell) {
-                    return false;
+                    return None;
                 }
                 known = behind_field(shown, known, cell);
                 rest
@@ -206,20 +208,20 @@ fn table_depends(shown: &Scope, known: Scope, table: &[Row]) -> bool
             } => {
                 let (block, behind) = split_block(rest, inside);
                 if !block_depends(shown, known, presence, block) {
-                    return false;
+                    return None;
                 }
                 behind
             }
             Row::Name { name, formula } => {
                 if !name_depends(shown, &known, name, formula) {
-                    return false;
+                    return None;
                 }
                 known = grown(shown, known, name);
                 rest
             }
         };
     }
-    true
+    Some(known)
 }
 
 /// Whether a block's presence is known and its rows depend on what is known within it, or all that it has is hidden.
@@ -233,7 +235,7 @@ fn block_depends(shown: &Scope, known: Scope, presence: Presence, block: &[Row])
     if !knows_presence(&known, presence) {
         return false;
     }
-    table_depends(shown, within_block(shown, known, presence), block)
+    table_depends(shown, within_block(shown, known, presence), block).is_some()
 }
 
 /// Whether the shown fields and names of a table depend on the given numbers of the scope alone, as far as a test
@@ -245,23 +247,50 @@ pub fn depends_only_on(table: &[Row], given: &[u16], shown: &[u16]) -> bool
     ensures depends { IsTrue result → DependsOnlyOn given.now shown.now (form_of table.now) }
 {
     let known = with_all(Scope::new(), given);
-    table_depends(&with_all(known, shown), known, table)
+    table_depends(&with_all(known, shown), known, table).is_some()
 }
 
-/// Whether the shown fields and names of a structure's parts depend only on what is known before them.
-fn parts_depend(shown: &Scope, known: Scope, parts: &[Part<'_>]) -> bool
-    ensures { result ≡ test.sections_depend shown.now known (sections_of parts.now) }
+/// Whether a table of a structure is there whatever the scope.
+#[tactic(auto, unfolding(crate::specs::Claims::comes_always))]
+fn comes_always(presence: Presence) -> bool
+    ensures { result ≡ test.comes_always presence }
 {
+    match presence {
+        Presence::When(Formula::Plain(Term::Number(number))) => number != 0,
+        _ => false,
+    }
+}
+
+/// What is known behind a part of a structure, where its shown fields and names depend only on what is known before it.
+fn part_depends(shown: &Scope, known: Scope, part: &Part<'_>) -> Option<Scope>
+    ensures { result ≡ known_if (test.section_depends shown.now known (section_of part.now)) (test.behind_section shown.now known (section_of part.now)) }
+{
+    if comes_always(part.presence) {
+        return table_depends(shown, known, part.rows);
+    }
+    if block_depends(shown, known, part.presence, part.rows) {
+        Some(known)
+    } else {
+        None
+    }
+}
+
+/// Whether the shown fields and names of a structure's parts depend only on what is known before each.
+fn parts_depend(shown: &Scope, known: Scope, parts: &[Part<'_>]) -> bool
+    ensures { result ≡ test.sections_chain shown.now known (sections_of parts.now) }
+{
+    let mut known = known;
     for part in parts {
-        if !block_depends(shown, known, part.presence, part.rows) {
-            return false;
+        match part_depends(shown, known, part) {
+            Some(behind) => known = behind,
+            None => return false,
         }
     }
     true
 }
 
 /// Whether the shown fields and names of a structure's parts depend on the given numbers of the scope alone; a
-/// number that a part gives counts only within that part.
+/// number that a part gives outside its blocks is known behind it, where the part is always there.
 pub fn parts_depend_only_on(parts: &[Part<'_>], given: &[u16], shown: &[u16]) -> bool
     ensures test { result ≡ test.sections_depend_only_on given.now shown.now (sections_of parts.now) }
     ensures depends { IsTrue result → DependsOnlyOn given.now shown.now (sections_form (sections_of parts.now)) }

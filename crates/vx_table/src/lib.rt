@@ -11,6 +11,7 @@
 mod arithmetic;
 mod depends;
 mod kept;
+mod laws_again;
 mod laws_depends;
 mod laws_numbers;
 mod laws_spelling;
@@ -28,10 +29,13 @@ mod tests_depends;
 mod walk;
 mod writer;
 
+pub use arithmetic::{ceil_log2, natural, quotient};
 pub use depends::{depends_only_on, parts_depend_only_on};
 pub use kept::{keep_parts, keep_table};
+pub use laws_again::{answers_again, follows_again, reads_again, tables_show};
 pub use laws_depends::{
-    alike_together, cells_follow_items, cells_follow_kept, kept_tells_kept, scopes_follow_items,
+    alike_together, cells_follow_items, cells_follow_kept, chains_carry, chains_depend,
+    kept_tells_kept, scopes_follow_items, steps_carry, tables_carry,
 };
 pub use laws_numbers::ceil_log2_is_least;
 pub use laws_spelling::{

@@ -25,7 +25,7 @@ impl Model for Scope {
 
 impl Scope {
     ghost use Rattle.std.specs.Prelude.{◌≡◌, ℕ, ◌+◌, ◌<◌, ◌≤◌, min, List, slice_index, slice_set, replicate, length};
-    ghost use Rattle.vx_table.specs.Scope.{fresh, latest, value, natural, loaded};
+    ghost use Rattle.vx_table.specs.Scope.{fresh, latest, value, natural, loaded, joined};
 
     /// A scope in which every number is 0.
     #[tactic(auto, unfolding(crate::specs::Scope::fresh))]
@@ -61,6 +61,14 @@ impl Scope {
             let item = items.item(i);
             self.set(item.field, natural(item.value));
         }
+    }
+
+    /// Takes the numbers of all fields and names from this one on from another scope.
+    pub fn take_over(&mut self, other: &Scope, from: u16)
+        ensures { self.new ≡ joined from self.old other.now }
+    {
+        let from = usize::from(from).min(self.numbers.len());
+        self.numbers[from..].copy_from_slice(&other.numbers[from..]);
     }
 
     /// The number of a term.

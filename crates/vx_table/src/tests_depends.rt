@@ -95,7 +95,10 @@ fn tells_right_claims_from_wrong_ones(rt: HostRuntime) {
 fn tells_claims_of_parts(rt: HostRuntime) {
     let on_the_flag = parts![WIDTH, [2] => NAME];
     assert!(rt; parts_depend_only_on(&on_the_flag, &[2], &[3, SUM]));
-    assert!(rt; !parts_depend_only_on(&on_the_flag, &[], &[2, 3, SUM]));
+    assert!(rt; parts_depend_only_on(&on_the_flag, &[], &[2, 3, SUM]));
+    assert!(rt; !parts_depend_only_on(&on_the_flag, &[], &[3, SUM]));
+    let behind_a_condition = parts![[1] => WIDTH, [2] => NAME];
+    assert!(rt; !parts_depend_only_on(&behind_a_condition, &[1], &[2, 3, SUM]));
     let in_turns = parts![MIXED, TURN in [2] => REPEAT];
     assert!(rt; parts_depend_only_on(&in_turns, &[2, 4, 102], &[1, 3, 7, SUM]));
     assert!(rt; !parts_depend_only_on(&in_turns, &[102], &[1, 3, 7, SUM]));

@@ -13,6 +13,8 @@ use crate::scope::Scope;
 
 /// What codes the fields of a structure, one after another: a reader from bits to items, a writer from items to bits.
 pub trait Coder<I> {
+    ghost use Rattle.std.specs.Prelude.{IfOk};
+    ghost use Rattle.vx_table.specs.Values.{IsValueOf};
     ghost use Rattle.vx_table.specs.Walks.{Step};
 
     /// Why a field can't be coded.
@@ -20,10 +22,11 @@ pub trait Coder<I> {
 
     ghost step: { Step Self I Self.Fault };
 
-    /// Codes one field, and answers its value, which is 0 for a gap.
+    /// Codes one field, and answers its value, one that the field may have, which is 0 for a gap.
     fn code(&mut self, items: &mut I, cell: Cell<u32>) -> Result<i64, Self::Fault>
         requires { IsCodable cell.coding }
-        ensures { step self.old items.old cell result self.new items.new };
+        ensures step { step self.old items.old cell result self.new items.new }
+        ensures value { IfOk result (λ v. IsValueOf cell v) };
 }
 
 /// A field's coding at a scope.

@@ -1,5 +1,5 @@
 use Rattle.std.proofs.Common.{◌≡◌, drop}
-use Rattle.vx_table.specs.Depends.{hides}
+use Rattle.vx_table.specs.Claims.{hides}
 use Rattle.vx_table.proofs.depends.hides.Given as goal
 
 abbrev pub invariant-loop-row : goal.invariant-loop-row

@@ -1,6 +1,6 @@
 use Rattle.std.proofs.Common.{sym, ◌∙◌}
 use Rattle.vx_table.specs.Parts.{sections_of}
-use Rattle.vx_table.proofs.Dependence.{structure_depends_only_on}
+use Rattle.vx_table.proofs.Chains.{structure_depends_only_on}
 use Rattle.vx_table.proofs.depends.parts_depend_only_on.Goals as goal
 
 pub returns-clause-depends : goal.returns-clause-depends
