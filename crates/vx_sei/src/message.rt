@@ -2,7 +2,7 @@
 ghost use Rattle.std.specs.Prelude.{◌≡◌, length};
 ghost use Rattle.vx_sei.specs.Sei.{sei_message};
 
-use vx_bits::{Bytes, Listed};
+use vx_bits::{Bytes, LentList};
 
 /// payloadType of mastering_display_colour_volume( ).
 pub const MASTERING_DISPLAY_COLOUR_VOLUME: u32 = 137;
@@ -24,7 +24,7 @@ pub struct Message {
 }
 
 /// SEI messages, in order.
-pub type MessageList = Listed<Message>;
+pub type MessageList = LentList<Message>;
 
 impl Message {
     /// The number of bytes of the message as it is spelled: type, size and payload.
