@@ -7,12 +7,14 @@
 //! [`keeps_only`] test of a table which of these numbers its fields depend on, and which fields it keeps.
 //! docs/TABLES.md says how a table is read and how one is added.
 #![tactic(auto)]
+#![allow(non_upper_case_globals)]
 
 mod arithmetic;
 mod depends;
 mod kept;
 mod laws_depends;
 mod laws_numbers;
+mod laws_rows;
 mod laws_spelling;
 mod macros;
 mod parts;
@@ -34,6 +36,7 @@ pub use laws_depends::{
     alike_together, cells_follow_items, cells_follow_kept, kept_tells_kept, scopes_follow_items,
 };
 pub use laws_numbers::ceil_log2_is_least;
+pub use laws_rows::first_row_first;
 pub use laws_spelling::{
     every_answer, items_in_range, no_proper_prefix, one_answer, one_behind_another, one_reading,
     one_writing, read_back, spelled_both_ways, what_may_follow,
