@@ -1,21 +1,28 @@
--- What the fields of each structure depend on, of the scope that it is read or written at.
+-- What the structures read of the scope at which they are read or written.
 use Rattle.std.specs.Prelude.{[], ◌∷◌}
-use Rattle.vx_ptl.specs.declared.tables.TheConstants.{PTL, DPB, TIMING, SUBLAYER_TIMING, WITH_LEVEL, LOWER, HRD, KINDS}
-use Rattle.vx_table.specs.Forms.{form_of}
-use Rattle.vx_table.specs.Depends.{DependsOnlyOn}
+use Rattle.vx_fields.specs.declared.sps.TheConstants.{sps_max_sublayers_minus1, sps_sublayer_dpb_params_flag, sps_sublayer_cpb_params_present_flag}
+use Rattle.vx_fields.specs.declared.timing.TheConstants.{general_nal_hrd_params_present_flag, general_vcl_hrd_params_present_flag, general_du_hrd_params_present_flag, hrd_cpb_cnt_minus1}
+use Rattle.vx_ptl.specs.declared.tables.TheConstants.{VPS, PTL, DPB, TIMING, SUBLAYER_TIMING}
+use Rattle.vx_table.specs.Named.{ReadsOnly, CodedOnce}
 
--- profile, tier and level: on the highest sublayer
+-- profile, tier and level: the highest sublayer
 abbrev pub PtlDepends : Type 0
-PtlDepends = DependsOnlyOn (102 ∷ []) (11 ∷ 12 ∷ 13 ∷ 14 ∷ 15 ∷ 16 ∷ 17 ∷ 18 ∷ 19 ∷ 20 ∷ 21 ∷ 22 ∷ 23 ∷ WITH_LEVEL ∷ []) (form_of PTL)
+PtlDepends = ReadsOnly (sps_max_sublayers_minus1 ∷ []) PTL
 
--- DPB parameters: on that, and on whether each sublayer has an entry
+-- DPB parameters: that, and whether each sublayer has an entry
 abbrev pub DpbDepends : Type 0
-DpbDepends = DependsOnlyOn (102 ∷ 140 ∷ []) (31 ∷ 32 ∷ 33 ∷ LOWER ∷ []) (form_of DPB)
+DpbDepends = ReadsOnly (sps_max_sublayers_minus1 ∷ sps_sublayer_dpb_params_flag ∷ []) DPB
 
--- general timing: on nothing
+-- general timing: nothing
 abbrev pub TimingDepends : Type 0
-TimingDepends = DependsOnlyOn [] (41 ∷ 42 ∷ 43 ∷ 44 ∷ 45 ∷ 46 ∷ 47 ∷ 48 ∷ 49 ∷ 50 ∷ 51 ∷ []) (form_of TIMING)
+TimingDepends = ReadsOnly [] TIMING
 
--- sublayer timing: on those two, and on four fields of general timing
+-- sublayer timing: the highest sublayer, whether each has an entry, and four fields of general timing
 abbrev pub SublayerTimingDepends : Type 0
-SublayerTimingDepends = DependsOnlyOn (43 ∷ 44 ∷ 46 ∷ 51 ∷ 102 ∷ 225 ∷ []) (52 ∷ 53 ∷ 54 ∷ 55 ∷ 56 ∷ 57 ∷ 58 ∷ 59 ∷ 60 ∷ LOWER ∷ HRD ∷ KINDS ∷ []) (form_of SUBLAYER_TIMING)
+SublayerTimingDepends = ReadsOnly (sps_max_sublayers_minus1 ∷ sps_sublayer_cpb_params_present_flag
+    ∷ general_nal_hrd_params_present_flag ∷ general_vcl_hrd_params_present_flag ∷ general_du_hrd_params_present_flag ∷ hrd_cpb_cnt_minus1 ∷ [])
+    SUBLAYER_TIMING
+
+-- No field of all these is coded by two rows.
+abbrev pub FieldsAreCodedOnce : Type 0
+FieldsAreCodedOnce = CodedOnce (VPS ∷ PTL ∷ DPB ∷ TIMING ∷ SUBLAYER_TIMING ∷ [])

@@ -4,18 +4,18 @@
 //! these structures take the tables as parts of their own.
 #![tactic(auto)]
 
-mod depends;
 mod laws;
+mod laws_depends;
 mod read;
 mod run;
 mod tables;
 #[cfg(test)]
 mod tests;
 
-pub use depends::{dpb_depends, ptl_depends, sublayer_timing_depends, timing_depends};
 pub use laws::{runs_are_spelled, structures_are_spelled, writes_what_was_read};
+pub use laws_depends::{
+    dpb_depends, fields_are_coded_once, ptl_depends, sublayer_timing_depends, timing_depends,
+};
 pub use read::{read_dpb, read_ptl, read_sublayer_timing, read_timing, read_vps};
 pub use run::{is_run, write_run};
-pub use tables::{
-    CPB, DPB, HRD, KIND, KINDS, LOWER, PTL, SUBLAYER_TIMING, TIMING, TURN, VPS, WITH_LEVEL,
-};
+pub use tables::{DPB, PTL, SUBLAYER_TIMING, TIMING, VPS};

@@ -7,20 +7,16 @@ ghost use Rattle.vx_ptl.specs.Structures.{sublayers, vps, ptl, dpb, timing, subl
 use crate::tables::{DPB, PTL, SUBLAYER_TIMING, TIMING, VPS};
 use std::alloc::Global;
 use vx_bits::{BitReader, Fields, ReadError};
+use vx_fields::sps::{
+    sps_max_sublayers_minus1, sps_sublayer_cpb_params_present_flag, sps_sublayer_dpb_params_flag,
+};
 use vx_table::{Scope, read_table, read_value};
-
-/// The highest sublayer, which the SPS tells.
-const SPS_MAX_SUBLAYERS_MINUS1: u16 = 102;
-/// Whether each sublayer has DPB parameters of its own.
-const SPS_SUBLAYER_DPB_PARAMS_FLAG: u16 = 140;
-/// Whether each sublayer has HRD parameters of its own.
-const SPS_SUBLAYER_CPB_PARAMS_PRESENT_FLAG: u16 = 225;
 
 /// The scope of a structure of sublayers: the highest one, and under a field's number whether each has an entry.
 fn at_sublayers(mut scope: Scope, max: u32, field: u16, each: bool) -> Scope
     ensures { result ≡ sublayers scope max field each }
 {
-    scope.set(SPS_MAX_SUBLAYERS_MINUS1, max);
+    scope.set(sps_max_sublayers_minus1, max);
     scope.set(field, u32::from(each));
     scope
 }
@@ -47,7 +43,7 @@ pub fn read_ptl(bits: &mut BitReader<'_>, max: u32, into: &mut Fields) -> Result
     ensures { Reads (ptl max) bits.old into.old result bits.new into.new }
 {
     let mut scope = Scope::new();
-    scope.set(SPS_MAX_SUBLAYERS_MINUS1, max);
+    scope.set(sps_max_sublayers_minus1, max);
     read_table(&PTL, &mut scope, bits, into)
 }
 
@@ -65,7 +61,7 @@ pub fn read_dpb(
     requires { max ≤ 6 }
     ensures { Reads (dpb max each) bits.old into.old result bits.new into.new }
 {
-    let mut scope = at_sublayers(Scope::new(), max, SPS_SUBLAYER_DPB_PARAMS_FLAG, each);
+    let mut scope = at_sublayers(Scope::new(), max, sps_sublayer_dpb_params_flag, each);
     read_table(&DPB, &mut scope, bits, into)
 }
 
@@ -86,7 +82,7 @@ pub fn read_timing(
     let mut scope = at_sublayers(
         Scope::new(),
         max,
-        SPS_SUBLAYER_CPB_PARAMS_PRESENT_FLAG,
+        sps_sublayer_cpb_params_present_flag,
         each,
     );
     read_table(&TIMING, &mut scope, bits, into)
@@ -109,6 +105,6 @@ pub fn read_sublayer_timing(
 {
     let mut scope = Scope::new();
     scope.load(into);
-    let mut scope = at_sublayers(scope, max, SPS_SUBLAYER_CPB_PARAMS_PRESENT_FLAG, each);
+    let mut scope = at_sublayers(scope, max, sps_sublayer_cpb_params_present_flag, each);
     read_table(&SUBLAYER_TIMING, &mut scope, bits, into)
 }

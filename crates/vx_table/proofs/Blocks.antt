@@ -82,3 +82,10 @@ codable s OneAndZeros = tt
 codable s Trailing = tt
 codable s Absent = tt
 codable s Refused = tt
+
+-- by its first row where all rows of the block are there
+pub form-block-whole : (presence : Presence) (n : ℕ) (rows : List Row) (s : List ℕ) → n ≤ length rows
+    → form_of (Block presence n ∷ rows) s ≡ (present presence (form_of (take n rows)) s >>= form_of (drop n rows))
+form-block-whole presence n rows s fits =
+    let all : min n (length rows) ≡ n = omega (arith, fits) in
+    rw all at (form-block presence n rows s)

@@ -1,5 +1,6 @@
 -- Lemmas on codings, on walks, readers and writers, and on what fields depend on.
 pub mod EachField
+pub mod Naming
 pub mod Bounds
 pub mod Starred
 mod Keepings

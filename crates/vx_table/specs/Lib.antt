@@ -1,6 +1,7 @@
 -- What tables mean, what is said of values and bits by them, and the laws on all of them.
 pub mod Scope
 pub mod Forms
+pub mod Rows
 pub mod Walks
 pub mod Spelling
 pub mod Laws
@@ -11,6 +12,7 @@ pub mod Depends
 pub mod Claims
 pub mod Chains
 pub mod Again
+pub mod Named
 pub mod Reading
 pub mod Trailing
 pub mod Values

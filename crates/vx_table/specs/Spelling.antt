@@ -107,6 +107,7 @@ unfoldable pub reported : Fault → ℕ → ℕ → Refusal
 reported faults.OutOfRange of bit = refusals.Syntax of bit causes.OutOfRange
 reported (faults.Profile code) of bit = refusals.Profile code
 reported (faults.Limit code) of bit = refusals.Limit code
+reported (faults.Structure code) of bit = refusals.Structure code 0 0
 
 -- The field is refused where the rest begins: no code begins, or that of a value which breaks the range.
 pub data IsRefused (cell : Cell ℕ) (total : ℕ) (rest : List Bool) : Refusal → Type 0 where

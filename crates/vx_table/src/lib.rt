@@ -7,6 +7,7 @@
 //! [`keeps_only`] test of a table which of these numbers its fields depend on, and which fields it keeps.
 //! docs/TABLES.md says how a table is read and how one is added.
 #![tactic(auto)]
+#![allow(non_upper_case_globals)]
 
 mod arithmetic;
 mod depends;
@@ -14,6 +15,7 @@ mod kept;
 mod laws_again;
 mod laws_depends;
 mod laws_numbers;
+mod laws_rows;
 mod laws_spelling;
 mod macros;
 mod parts;
@@ -38,6 +40,7 @@ pub use laws_depends::{
     kept_tells_kept, scopes_follow_items, steps_carry, tables_carry,
 };
 pub use laws_numbers::ceil_log2_is_least;
+pub use laws_rows::first_row_first;
 pub use laws_spelling::{
     every_answer, items_in_range, no_proper_prefix, one_answer, one_behind_another, one_reading,
     one_writing, read_back, spelled_both_ways, what_may_follow,

@@ -1,13 +1,13 @@
 //! `table!`, which writes rows in the look of H.266's syntax tables, and `parts!`, which puts tables together.
 
-/// A term: `4`, or `[133]` for the latest number of field 133, or `[CTU]` for that of a name.
+/// A term: `4`, or `cbr_flag` for the latest number of that field, and `LOWER` for that of a name.
 #[macro_export]
 macro_rules! term {
-    ([$of:expr]) => { $crate::Term::Latest($of) };
     ($number:literal) => { $crate::Term::Number($number) };
+    ($of:ident) => { $crate::Term::Latest($of) };
 }
 
-/// A formula: a term, or one in parentheses, as `([133] + 4)` and `([43] or [44])`.
+/// A formula: a term, or one in parentheses, as `(sps_log2_ctu_size_minus5 + 5)` and `(not cbr_flag)`.
 #[macro_export]
 macro_rules! formula {
     (($($inner:tt)+)) => { $crate::formula!(@ $($inner)+) };
@@ -30,7 +30,7 @@ macro_rules! formula {
     (@ $a:tt or $b:tt) => { $crate::Formula::Either($crate::term!($a), $crate::term!($b)) };
 }
 
-/// How a row is coded: `u(7)`, `u([133] + 4)`, `ue`, `se`, or one bit where nothing is said.
+/// How a row is coded: `u(7)`, `u(sps_subpic_id_len_minus1 + 1)`, `ue`, `se`, or one bit where nothing is said.
 #[macro_export]
 macro_rules! coding {
     () => { $crate::Coding::Fixed($crate::Formula::Plain($crate::Term::Number(1))) };
@@ -39,8 +39,8 @@ macro_rules! coding {
     (u $width:tt) => { $crate::Coding::Fixed($crate::formula!($width)) };
 }
 
-/// What values a row takes: `in 0..=6` or `below [418]`, with `else Profile(4)` where a broken range has a name,
-/// and `multiple 8 upto 16384 else Limit(6)` for a picture's size.
+/// What values a row takes: `in 0..=6` or `below SLICES`, with `else Profile(CHROMA_FORMAT)` where a broken range has a
+/// name, and `multiple 8 upto 16384 else Limit(TOO_LARGE)` for a picture's size.
 #[macro_export]
 macro_rules! limits {
     () => { $crate::Limits::Any };
@@ -71,7 +71,7 @@ macro_rules! limits {
 /// A row that is no block.
 #[macro_export]
 macro_rules! cell {
-    ($field:literal, $kept:literal, [$($coding:tt)*], [$($limits:tt)*]) => {
+    ($field:ident, $kept:literal, [$($coding:tt)*], [$($limits:tt)*]) => {
         $crate::Row::Field($crate::Cell {
             field: $field,
             kept: $kept,
@@ -84,113 +84,146 @@ macro_rules! cell {
 /// A gap or a row without bits.
 #[macro_export]
 macro_rules! gap {
-    ($field:literal, $kept:literal, $coding:ident) => {
+    ($field:ident, $kept:literal, $coding:ident) => {
+        $crate::gap!($field, $kept, $coding, $crate::Limits::Any)
+    };
+    ($field:ident, $kept:literal, $coding:ident, $limits:expr) => {
         $crate::Row::Field($crate::Cell {
             field: $field,
             kept: $kept,
             coding: $crate::Coding::$coding,
-            limits: $crate::Limits::Any,
+            limits: $limits,
         })
+    };
+}
+
+/// No value is in the range, and what is refused has this name.
+#[macro_export]
+macro_rules! none_but {
+    ($($fault:tt)+) => {
+        $crate::Limits::Below {
+            bound: $crate::Formula::Plain($crate::Term::Number(0)),
+            fault: $crate::Fault::$($fault)+,
+        }
     };
 }
 
 /// How many rows there are, with those inside blocks: a row is counted once for each block that it stands in.
 #[macro_export]
 macro_rules! count_rows {
-    (@ [$($done:tt)*]) => { [$($done)*].len() };
-    (@ [$($done:tt)*] if $holds:tt { $($block:tt)* } $($rest:tt)*) => {
-        $crate::count_rows!(@ [$($done)* (),] $($block)* $($rest)*)
+    (@ {} [$($done:tt)*]) => { [$($done)*].len() };
+    (@ { if $holds:tt { $($block:tt)* } $($rest:tt)* } [$($done:tt)*]) => {
+        $crate::count_rows!(@ { $($block)* $($rest)* } [$($done)* (),])
     };
-    (@ [$($done:tt)*] for $counter:ident in $times:tt { $($block:tt)* } $($rest:tt)*) => {
-        $crate::count_rows!(@ [$($done)* (),] $($block)* $($rest)*)
+    (@ { for $counter:ident in $times:tt { $($block:tt)* } $($rest:tt)* } [$($done:tt)*]) => {
+        $crate::count_rows!(@ { $($block)* $($rest)* } [$($done)* (),])
     };
-    (@ [$($done:tt)*] $word:ident $name:tt $(= $formula:tt)?; $($rest:tt)*) => {
-        $crate::count_rows!(@ [$($done)* (),] $($rest)*)
+    (@ { $word:ident $name:ident $(= $formula:tt)?; $($rest:tt)* } [$($done:tt)*]) => {
+        $crate::count_rows!(@ { $($rest)* } [$($done)* (),])
     };
-    (@ [$($done:tt)*]
-        $field:literal $(*)? $name:ident
+    (@ { refuse $field:ident else $fault:ident $(($code:tt))?; $($rest:tt)* } [$($done:tt)*]) => {
+        $crate::count_rows!(@ { $($rest)* } [$($done)* (),])
+    };
+    (@ {
+        $field:ident $(*)?
         $(: $coding:ident $(($($width:tt)+))?)?
-        $(in $low:literal ..= $high:tt $(else $fault:ident $(($number:literal))?)?)?
-        $(below $bound:tt $(else $beyond:ident $(($code:literal))?)?)?
-        $(multiple $unit:literal upto $most:literal else $above:ident ($limit:literal))?
-        ; $($rest:tt)*) => {
-        $crate::count_rows!(@ [$($done)* (),] $($rest)*)
+        $(in $low:literal ..= $high:tt $(else $fault:ident $(($code:tt))?)?)?
+        $(below $bound:tt $(else $beyond:ident $(($number:tt))?)?)?
+        $(multiple $unit:literal upto $most:literal else $above:ident ($limit:tt))?
+        ; $($rest:tt)*
+    } [$($done:tt)*]) => {
+        $crate::count_rows!(@ { $($rest)* } [$($done)* (),])
     };
+    ($($rows:tt)*) => { $crate::count_rows!(@ { $($rows)* } []) };
 }
 
 /// A table's rows as one flat array.
 #[macro_export]
 macro_rules! table {
-    (@ [$($done:tt)*]) => { [$($done)*] };
-    (@ [$($done:tt)*] zeros $field:literal; $($rest:tt)*) => {
-        $crate::table!(@ [$($done)* $crate::gap!($field, false, Zeros),] $($rest)*)
+    (@ {} [$($done:expr,)*]) => { [$($done),*] };
+    (@ { zeros $field:ident; $($rest:tt)* } [$($done:expr,)*]) => {
+        $crate::table!(@ { $($rest)* } [$($done,)* $crate::gap!($field, false, Zeros),])
     };
-    (@ [$($done:tt)*] one_and_zeros $field:literal; $($rest:tt)*) => {
-        $crate::table!(@ [$($done)* $crate::gap!($field, false, OneAndZeros),] $($rest)*)
+    (@ { one_and_zeros $field:ident; $($rest:tt)* } [$($done:expr,)*]) => {
+        $crate::table!(@ { $($rest)* } [$($done,)* $crate::gap!($field, false, OneAndZeros),])
     };
-    (@ [$($done:tt)*] trailing $field:literal; $($rest:tt)*) => {
-        $crate::table!(@ [$($done)* $crate::gap!($field, false, Trailing),] $($rest)*)
+    (@ { trailing $field:ident; $($rest:tt)* } [$($done:expr,)*]) => {
+        $crate::table!(@ { $($rest)* } [$($done,)* $crate::gap!($field, false, Trailing),])
     };
-    (@ [$($done:tt)*] fill $field:literal; $($rest:tt)*) => {
-        $crate::table!(@ [$($done)* $crate::gap!($field, true, Absent),] $($rest)*)
+    (@ { fill $field:ident; $($rest:tt)* } [$($done:expr,)*]) => {
+        $crate::table!(@ { $($rest)* } [$($done,)* $crate::gap!($field, true, Absent),])
     };
-    (@ [$($done:tt)*] refuse $field:literal; $($rest:tt)*) => {
-        $crate::table!(@ [$($done)* $crate::gap!($field, false, Refused),] $($rest)*)
+    (@ { refuse $field:ident; $($rest:tt)* } [$($done:expr,)*]) => {
+        $crate::table!(@ { $($rest)* } [$($done,)* $crate::gap!($field, false, Refused),])
     };
-    (@ [$($done:tt)*] default $field:literal = $formula:tt; $($rest:tt)*) => {
-        $crate::table!(@ [$($done)*
-            $crate::Row::Name { name: $field, formula: $crate::formula!($formula) },
-        ] $($rest)*)
+    (@ { refuse $field:ident else $fault:ident $(($code:tt))?; $($rest:tt)* } [$($done:expr,)*]) => {
+        $crate::table!(@ { $($rest)* } [$($done,)*
+            $crate::gap!($field, false, Absent, $crate::none_but!($fault $(($code))?)),
+        ])
     };
-    (@ [$($done:tt)*] let $name:ident = $formula:tt; $($rest:tt)*) => {
-        $crate::table!(@ [$($done)*
+    (@ { default $name:ident = $formula:tt; $($rest:tt)* } [$($done:expr,)*]) => {
+        $crate::table!(@ { $($rest)* } [$($done,)*
             $crate::Row::Name { name: $name, formula: $crate::formula!($formula) },
-        ] $($rest)*)
+        ])
     };
-    (@ [$($done:tt)*] if $holds:tt { $($block:tt)* } $($rest:tt)*) => {
-        $crate::table!(@ [$($done)*
+    (@ { let $name:ident = $formula:tt; $($rest:tt)* } [$($done:expr,)*]) => {
+        $crate::table!(@ { $($rest)* } [$($done,)*
+            $crate::Row::Name { name: $name, formula: $crate::formula!($formula) },
+        ])
+    };
+    (@ { if $holds:tt { $($block:tt)* } $($rest:tt)* } [$($done:expr,)*]) => {
+        $crate::table!(@ { $($block)* $($rest)* } [$($done,)*
             $crate::Row::Block {
                 presence: $crate::Presence::When($crate::formula!($holds)),
-                rows: $crate::count_rows!(@ [] $($block)*),
+                rows: $crate::count_rows!($($block)*),
             },
-        ] $($block)* $($rest)*)
+        ])
     };
-    (@ [$($done:tt)*] for $counter:ident in $times:tt { $($block:tt)* } $($rest:tt)*) => {
-        $crate::table!(@ [$($done)*
+    (@ { for $counter:ident in $times:tt { $($block:tt)* } $($rest:tt)* } [$($done:expr,)*]) => {
+        $crate::table!(@ { $($block)* $($rest)* } [$($done,)*
             $crate::Row::Block {
                 presence: $crate::Presence::Repeat {
                     counter: $counter,
                     times: $crate::formula!($times),
                 },
-                rows: $crate::count_rows!(@ [] $($block)*),
+                rows: $crate::count_rows!($($block)*),
             },
-        ] $($block)* $($rest)*)
+        ])
     };
-    (@ [$($done:tt)*] $field:literal * $name:ident $($rest:tt)*) => {
-        $crate::table!(@ [$($done)*] ($field, false) $($rest)*)
-    };
-    (@ [$($done:tt)*] $field:literal $name:ident $($rest:tt)*) => {
-        $crate::table!(@ [$($done)*] ($field, true) $($rest)*)
-    };
-    (@ [$($done:tt)*]
-        ($field:literal, $kept:literal)
-        $(: $coding:ident $(($($width:tt)+))?)?
-        $(in $low:literal ..= $high:tt $(else $fault:ident $(($number:literal))?)?)?
-        $(below $bound:tt $(else $beyond:ident $(($code:literal))?)?)?
-        $(multiple $unit:literal upto $most:literal else $above:ident ($limit:literal))?
-        ; $($rest:tt)*) => {
-        $crate::table!(@ [$($done)*
-            $crate::cell!($field, $kept, [$($coding $(($($width)+))?)?],
-                [$(in $low ..= $high $(else $fault $(($number))?)?)?
-                 $(below $bound $(else $beyond $(($code))?)?)?
+    (@ {
+        $field:ident * $(: $coding:ident $(($($width:tt)+))?)?
+        $(in $low:literal ..= $high:tt $(else $fault:ident $(($code:tt))?)?)?
+        $(below $bound:tt $(else $beyond:ident $(($number:tt))?)?)?
+        $(multiple $unit:literal upto $most:literal else $above:ident ($limit:tt))?
+        ; $($rest:tt)*
+    } [$($done:expr,)*]) => {
+        $crate::table!(@ { $($rest)* } [$($done,)*
+            $crate::cell!($field, false, [$($coding $(($($width)+))?)?],
+                [$(in $low ..= $high $(else $fault $(($code))?)?)?
+                 $(below $bound $(else $beyond $(($number))?)?)?
                  $(multiple $unit upto $most else $above($limit))?]),
-        ] $($rest)*)
+        ])
     };
-    ($($rows:tt)*) => { $crate::table!(@ [] $($rows)*) };
+    (@ {
+        $field:ident $(: $coding:ident $(($($width:tt)+))?)?
+        $(in $low:literal ..= $high:tt $(else $fault:ident $(($code:tt))?)?)?
+        $(below $bound:tt $(else $beyond:ident $(($number:tt))?)?)?
+        $(multiple $unit:literal upto $most:literal else $above:ident ($limit:tt))?
+        ; $($rest:tt)*
+    } [$($done:expr,)*]) => {
+        $crate::table!(@ { $($rest)* } [$($done,)*
+            $crate::cell!($field, true, [$($coding $(($($width)+))?)?],
+                [$(in $low ..= $high $(else $fault $(($code))?)?)?
+                 $(below $bound $(else $beyond $(($number))?)?)?
+                 $(multiple $unit upto $most else $above($limit))?]),
+        ])
+    };
+    ($($rows:tt)*) => { $crate::table!(@ { $($rows)* } []) };
 }
 
-/// The parts of a structure: a table, one that is there where a formula isn't 0, as `[224] => TIMING`, or one that
-/// comes so many times under a counter, as `INDEX in [179] => STRUCTURE`.
+/// The parts of a structure: a table, one that is there where a formula isn't 0, as
+/// `sps_timing_hrd_params_present_flag => TIMING`, or one that comes so many times under a counter, as
+/// `INDEX in sps_num_ref_pic_lists => STRUCTURE`.
 #[macro_export]
 macro_rules! parts {
     (@ [$($done:tt)*]) => { [$($done)*] };

@@ -57,6 +57,11 @@ pub fn report(fault: Fault, field: u16, bit: u32) -> Refusal
         },
         Fault::Profile(code) => Refusal::Profile { code },
         Fault::Limit(code) => Refusal::Limit { code },
+        Fault::Structure(code) => Refusal::Structure {
+            code,
+            kind: 0,
+            id: 0,
+        },
     }
 }
 

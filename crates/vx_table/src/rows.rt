@@ -55,6 +55,7 @@ pub enum Fault {
     OutOfRange,
     Profile(u8),
     Limit(u8),
+    Structure(u8),
 }
 
 /// The values that a field may have.

@@ -7,54 +7,119 @@ use std::alloc::Global;
 use std::test::Fail;
 use vx_bits::{BitCause, BitReader, BitWriter, Fields, Item, ReadError, Refusal};
 
+const width_minus1: u16 = 1;
+
+const number: u16 = 2;
+
+const flag: u16 = 3;
+
+const size: u16 = 4;
+
+const delta: u16 = 5;
+
+const other: u16 = 6;
+
+const filler: u16 = 7;
+
+const refused: u16 = 8;
+
+const last: u16 = 9;
+
+const front: u16 = 10;
+
+const alignment: u16 = 11;
+
+const trailing_bits: u16 = 12;
+
+const places: u16 = 13;
+
+const place: u16 = 14;
+
+const place_before: u16 = 15;
+
+const entries: u16 = 16;
+
+const entry: u16 = 17;
+
+const again: u16 = 18;
+
+const unknown_id: u16 = 19;
+
 const TURN: u16 = 900;
 
 const BITS: u16 = 901;
 
 const SMALL: [Row; 16] = table! {
-    1 width_minus1: u(2);
-    let BITS = ([1] + 1);
-    2 number: u([BITS]) in 0..=(12 - [1]);
-    3 flag;
-    if [3] {
-        4 size: ue multiple 8 upto 64 else Limit(6);
-        for TURN in [2] { 5* delta: se in -2..=2 else Profile(4); }
+    width_minus1: u(2);
+    let BITS = (width_minus1 + 1);
+    number: u(BITS) in 0..=(12 - width_minus1);
+    flag;
+    if flag {
+        size: ue multiple 8 upto 64 else Limit(6);
+        for TURN in 2 { delta*: se in -2..=2 else Profile(4); }
     }
-    default 6 = 7;
-    if (not [3]) { 6 other: u(3); }
-    fill 7;
-    if ([6] == 5) { refuse 8; }
-    zeros 9;
-    9 last: ue in 0..=1;
+    default other = 7;
+    if (not flag) { other: u(3); }
+    fill filler;
+    if (other == 5) { refuse refused; }
+    zeros last;
+    last: ue in 0..=1;
 };
 
 const ENDS: [Row; 3] = table! {
-    10 flag;
-    one_and_zeros 11;
-    trailing 12;
+    front;
+    one_and_zeros alignment;
+    trailing trailing_bits;
 };
 
 /// Ranges below a number that may be 0.
 const PLACES: [Row; 3] = table! {
-    13 count: u(3);
-    14 place: u(4) below [13];
-    15 other: ue below ([13] - 1) else Limit(9);
+    places: u(3);
+    place: u(4) below places;
+    place_before: ue below (places - 1) else Limit(9);
 };
 
-const COUNT: [Row; 1] = table! { 16* count: ue; };
+const ENTRIES: [Row; 1] = table! { entries*: ue; };
 
 /// It comes in turns, and once more behind them.
-const ENTRY: [Row; 1] = table! { 17 entry: u([TURN] + 1); };
+const ENTRY: [Row; 1] = table! { entry: u(TURN + 1); };
 
-const AGAIN: [Row; 2] = table! { 18 again; let TURN = 2; };
+const AGAIN: [Row; 2] = table! { again; let TURN = 2; };
+
+/// The number of a rule.
+const UNKNOWN_ID: u8 = 5;
+
+/// A refusal by a name of its own, which takes no bits.
+const IDS: [Row; 3] =
+    table! { place: u(4); if (place > 2) { refuse unknown_id else Structure(UNKNOWN_ID); } };
+
+const bits_1: u16 = 701;
+
+const bits_2: u16 = 702;
+
+const bits_3: u16 = 703;
+
+const bits_4: u16 = 704;
+
+const bits_5: u16 = 705;
+
+const bits_6: u16 = 706;
+
+const bits_7: u16 = 707;
+
+const bits_8: u16 = 708;
+
+const plain_flag: u16 = 709;
+
+const plain_code: u16 = 717;
 
 /// A sixth structure takes its table and one call: forty plain rows.
 const PLAIN: [Row; 40] = table! {
-    701 a: u(1); 702 b: u(2); 703 c: u(3); 704 d: u(4); 705 e: u(5); 706 f: u(6); 707 g: u(7); 708 h: u(8);
-    709 i; 710 j; 711 k; 712 l; 713 m; 714 n; 715 o; 716 p;
-    717 q: ue; 718 r: se; 719 s: ue; 720 t: se; 721 u: ue; 722 v: se; 723 w: ue; 724 x: se;
-    725 a: u(1); 726 b: u(2); 727 c: u(3); 728 d: u(4); 729 e: u(5); 730 f: u(6); 731 g: u(7); 732 h: u(8);
-    733 i; 734 j; 735 k; 736 l; 737 m; 738 n; 739 o; 740 p;
+    bits_1; bits_2: u(2); bits_3: u(3); bits_4: u(4); bits_5: u(5); bits_6: u(6); bits_7: u(7); bits_8: u(8);
+    plain_flag; plain_flag; plain_flag; plain_flag; plain_flag; plain_flag; plain_flag; plain_flag;
+    plain_code: ue; plain_code: se; plain_code: ue; plain_code: se; plain_code: ue; plain_code: se; plain_code: ue; plain_code: se;
+    bits_1: u(1); bits_2: u(2); bits_3: u(3); bits_4: u(4); bits_5: u(5); bits_6: u(6); bits_7: u(7); bits_8: u(8);
+    plain_flag; plain_flag; plain_flag; plain_flag; plain_flag; plain_flag; plain_flag; plain_flag;
 };
 
 const fn item(field: u16, value: i64) -> Item {
@@ -145,6 +210,19 @@ fn refuses_the_first_field(rt: HostRuntime) {
 }
 
 #[test]
+fn refuses_by_a_name(rt: HostRuntime) {
+    let unknown = Err(ReadError::Refused(Refusal::Structure {
+        code: 5,
+        kind: 0,
+        id: 0,
+    }));
+    for (first, wanted) in [(0x2f, Ok(())), (0x30, unknown)] {
+        let bytes = [first, 0, 0, 0, 0, 0];
+        assert_eq!(rt; outcome(rt.alloc(), &IDS, &bytes, 1), wanted, "{bytes:?}");
+    }
+}
+
+#[test]
 fn ends_where_the_bits_end(rt: HostRuntime) {
     let cases = [
         ([0xc0, 0x80, 0, 0, 0, 0], 2, Ok(())),
@@ -207,7 +285,7 @@ fn reads_forty_plain_rows(rt: HostRuntime) -> Result<(), Fail> {
     let fields = read_value(rt.alloc(), &PLAIN, &mut Scope::new(), &[0xff; 20])?;
     assert_eq!(rt; fields.len(), 40);
     assert_eq!(rt; fields.first(708), Some(255));
-    assert_eq!(rt; fields.first(718), Some(0));
+    assert_eq!(rt; fields.first(717), Some(0));
     Ok(())
 }
 
@@ -244,7 +322,7 @@ fn are(fields: &Fields, wanted: &[(u16, i64)]) -> bool {
 
 #[test]
 fn parts_come_in_turns(rt: HostRuntime) -> Result<(), Fail> {
-    let parts = parts![COUNT, TURN in [16] => ENTRY, AGAIN, [18] => ENTRY];
+    let parts = parts![ENTRIES, TURN in entries => ENTRY, AGAIN, again => ENTRY];
     let cases: [(&[u8], &[(u16, i64)], &[(u16, i64)]); 2] = [
         (&[0xa0], &[(16, 0), (18, 0)], &[(18, 0)]),
         (
@@ -281,7 +359,7 @@ fn parts_come_in_turns(rt: HostRuntime) -> Result<(), Fail> {
 
 #[test]
 fn refuses_within_a_part(rt: HostRuntime) {
-    let parts = parts![COUNT, TURN in [16] => ENTRY, AGAIN, [18] => ENTRY];
+    let parts = parts![ENTRIES, TURN in entries => ENTRY, AGAIN, again => ENTRY];
     let mut fields = Fields::new(rt.alloc());
     let mut read = BitReader::new(&[0x7b]);
     assert_eq!(rt;

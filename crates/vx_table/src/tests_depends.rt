@@ -3,56 +3,108 @@ use crate::{
     Row, depends_only_on, keeps_only, parts, parts_depend_only_on, parts_keep_only, table,
 };
 
+const kept: u16 = 1;
+
+const flag: u16 = 2;
+
+const wide: u16 = 3;
+
+const size: u16 = 4;
+
+const wider: u16 = 5;
+
+const other: u16 = 6;
+
+const last: u16 = 7;
+
+const most: u16 = 102;
+
 const TURN: u16 = 900;
 
 const SUM: u16 = 901;
 
 const MIXED: [Row; 12] = table! {
-    1 kept: u(2);
-    2* flag;
-    3 wide: u([1] + 1) in 0..=(9 - [1]);
-    if [2] { 4* size: ue; 5* wider: u([4]); }
-    for TURN in [4] { 6* other; }
-    let SUM = ([1] + [102]);
-    if [SUM] { 7 last: ue below [102]; }
-    zeros 7;
+    kept: u(2);
+    flag*;
+    wide: u(kept + 1) in 0..=(9 - kept);
+    if flag { size*: ue; wider*: u(size); }
+    for TURN in size { other*; }
+    let SUM = (kept + most);
+    if SUM { last: ue below most; }
+    zeros last;
 };
 
-const WIDTH: [Row; 2] = table! { 2* flag; 3 wide: u([2] + 1); };
+const WIDTH: [Row; 2] = table! { flag*; wide: u(flag + 1); };
 
-const RANGE: [Row; 2] = table! { 2* flag; 3 wide: ue in 0..=[2]; };
+const RANGE: [Row; 2] = table! { flag*; wide: ue in 0..=flag; };
 
-const CONDITION: [Row; 3] = table! { 2* flag; if [2] { 3 there; } };
+const CONDITION: [Row; 3] = table! { flag*; if flag { wide; } };
 
-const REPEAT: [Row; 3] = table! { 2* flag; for TURN in [2] { 3 there; } };
+const REPEAT: [Row; 3] = table! { flag*; for TURN in flag { wide; } };
 
-const COUNTER: [Row; 4] = table! { 2* flag; for TURN in [2] { 4* hidden; } 3 wide: u([TURN]); };
+const COUNTER: [Row; 4] = table! { flag*; for TURN in flag { size*; } wide: u(TURN); };
 
-const NAME: [Row; 3] = table! { 2* flag; let SUM = ([2] + 1); 3 wide: u([SUM]); };
+const NAME: [Row; 3] = table! { flag*; let SUM = (flag + 1); wide: u(SUM); };
 
-const WITHIN: [Row; 4] = table! { 1 kept; if [1] { 4 there; } 3 wide: u([4]); };
+const WITHIN: [Row; 4] = table! { kept; if kept { size; } wide: u(size); };
 
-const BEFORE: [Row; 2] = table! { 3 wide: u([4]); 4 there; };
+const BEFORE: [Row; 2] = table! { wide: u(size); size; };
+
+const row_a: u16 = 20;
+
+const row_b: u16 = 21;
+
+const row_c: u16 = 22;
+
+const row_d: u16 = 23;
+
+const row_e: u16 = 24;
+
+const row_f: u16 = 25;
+
+const row_g: u16 = 26;
+
+const row_h: u16 = 27;
+
+const row_i: u16 = 28;
+
+const row_j: u16 = 29;
+
+const row_k: u16 = 30;
+
+const row_l: u16 = 31;
+
+const row_m: u16 = 32;
+
+const row_n: u16 = 33;
+
+const row_o: u16 = 34;
+
+const row_p: u16 = 35;
+
+const row_q: u16 = 36;
+
+const row_r: u16 = 37;
 
 const DEEP: [Row; 29] = table! {
-    2* flag;
-    if [2] {
-        4* a; 5* b: ue in 0..=3; 6* c: u([2] + 1) below 9 else Limit(3); zeros 6;
+    flag*;
+    if flag {
+        row_a*; row_b*: ue in 0..=3; row_c*: u(flag + 1) below 9 else Limit(3); zeros row_c;
         for TURN in 2 {
-            7* d; 8* e; 9* f: se;
-            if ([2] and [4]) {
-                10* g; default 11 = 1; 12* h; let SUM = ([2] + 1);
-                if [5] {
-                    13* i: ue multiple 8 upto 64 else Limit(6); 14* j; 15* k; fill 16;
-                    if [6] { 17* l; 18* m; 19* n; 20* o; }
-                    21* p;
+            row_d*; row_e*; row_f*: se;
+            if (flag and row_a) {
+                row_g*; default row_q = 1; row_h*; let SUM = (flag + 1);
+                if row_b {
+                    row_i*: ue multiple 8 upto 64 else Limit(6); row_j*; row_k*; fill row_r;
+                    if row_c { row_l*; row_m*; row_n*; row_o*; }
+                    row_p*;
                 }
-                22* q;
+                row_q*;
             }
-            23* r;
+            row_r*;
         }
     }
-    3 behind;
+    wide;
 };
 
 #[test]
@@ -93,13 +145,13 @@ fn tells_right_claims_from_wrong_ones(rt: HostRuntime) {
 
 #[test]
 fn tells_claims_of_parts(rt: HostRuntime) {
-    let on_the_flag = parts![WIDTH, [2] => NAME];
+    let on_the_flag = parts![WIDTH, flag => NAME];
     assert!(rt; parts_depend_only_on(&on_the_flag, &[2], &[3, SUM]));
     assert!(rt; parts_depend_only_on(&on_the_flag, &[], &[2, 3, SUM]));
     assert!(rt; !parts_depend_only_on(&on_the_flag, &[], &[3, SUM]));
-    let behind_a_condition = parts![[1] => WIDTH, [2] => NAME];
+    let behind_a_condition = parts![kept => WIDTH, flag => NAME];
     assert!(rt; !parts_depend_only_on(&behind_a_condition, &[1], &[2, 3, SUM]));
-    let in_turns = parts![MIXED, TURN in [2] => REPEAT];
+    let in_turns = parts![MIXED, TURN in flag => REPEAT];
     assert!(rt; parts_depend_only_on(&in_turns, &[2, 4, 102], &[1, 3, 7, SUM]));
     assert!(rt; !parts_depend_only_on(&in_turns, &[102], &[1, 3, 7, SUM]));
 }
@@ -109,7 +161,7 @@ fn tells_what_stars_say(rt: HostRuntime) {
     assert!(rt; keeps_only(&MIXED, &[102], &[1, 3, 7, SUM]));
     assert!(rt; !keeps_only(&MIXED, &[102], &[1, 3, SUM]));
     assert!(rt; !keeps_only(&MIXED, &[102], &[1, 2, 3, 7, SUM]));
-    let in_turns = parts![MIXED, TURN in [1] => REPEAT];
+    let in_turns = parts![MIXED, TURN in kept => REPEAT];
     assert!(rt; parts_keep_only(&in_turns, &[102], &[1, 3, 7, SUM]));
     assert!(rt; !parts_keep_only(&in_turns, &[2, 102], &[1, 3, 7, SUM]));
 }
