@@ -1,0 +1,2 @@
+-- Proofs on the numbers.
+mod Rising

@@ -1,0 +1,2 @@
+-- The numbers of fields and names.
+pub mod Numbers

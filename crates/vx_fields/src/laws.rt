@@ -1,0 +1,12 @@
+//! Laws of the numbers: functions that do nothing, each with a law as its contract.
+ghost use Rattle.vx_fields.specs.Numbers.{NumbersAreDistinct, NumbersFitAScope};
+
+/// No number is given to two fields or names.
+pub fn numbers_are_distinct()
+    ensures { NumbersAreDistinct }
+{}
+
+/// Each number is one that a scope has room for.
+pub fn numbers_fit_a_scope()
+    ensures { NumbersFitAScope }
+{}
