@@ -2,16 +2,16 @@
 use Rattle.std.proofs.Common.{◌≡◌, ◌≢◌, ℕ, List, Ok, Err, inl, inr, sym, ap, ◌∙◌}
 use Rattle.vx_app.specs.declared.stop.Stop.{Stop}
 use Rattle.vx_app.specs.declared.stop.Stop.TheVariants.{NotUnderstood, Refused, ReadFault, WriteFault, NoMemory}
-use Rattle.vx_app.specs.Change.{Change, HasFault}
+use Rattle.vx_app.specs.Change.{Change, Sources, source_at, HasFault}
 use Rattle.vx_app.specs.Conclusion.{Concludes}
 use Rattle.vx_app.specs.Grammar.{show, AskFor}
 use Rattle.vx_app.specs.Run.{Performs}
 use Rattle.vx_app.specs.Show.{Shows, WhereKnown, status_at}
 
 -- where it is done there is no ending
-pub exact-done : {A K : Type 0} (words : List (List ℕ)) (source : ℕ → Change (List A)) (out : Change K) (file : List ℕ) → Performs words source out (Ok tt) → AskFor words (show file)
-    → WhereKnown (source 0) (λ b units ending. 0 ≡ status_at ending)
-exact-done words source out file performs spelled b units ending told is = sym (ap status_at ((performs.command (show file) spelled).4 b units ending told is).0)
+pub exact-done : {A K : Type 0} (words : List (List ℕ)) (sources : Sources A) (out : Change K) (file : List ℕ) → Performs words sources out (Ok tt) → AskFor words (show file)
+    → WhereKnown (source_at sources 0) (λ b units ending. 0 ≡ status_at ending)
+exact-done words sources out file performs spelled b units ending told is = sym (ap status_at ((performs.command (show file) spelled).4 b units ending told is).0)
 
 stopped : {A K E : Type 0} (source : Change A) (out : Change K) (err : Change E) (stop : Stop) (status : ℕ)
     → Shows source out (Err stop) → Concludes stop status err → ¬ HasFault source → ¬ HasFault out → status ≢ 4 → WhereKnown source (λ b units ending. status ≡ status_at ending)
@@ -24,6 +24,6 @@ stopped source out err NoMemory status shows ends read write fits b units ending
 stopped source out err NotUnderstood status shows ends read write fits b units ending told is = absurd shows
 
 -- where it stopped without a fault, and not for want of memory, the ending is a refusal
-pub exact-stopped : {A K E : Type 0} (words : List (List ℕ)) (source : ℕ → Change (List A)) (out : Change K) (err : Change E) (stop : Stop) (status : ℕ) (file : List ℕ)
-    → Performs words source out (Err stop) → Concludes stop status err → AskFor words (show file) → ¬ HasFault (source 0) → ¬ HasFault out → status ≢ 4 → WhereKnown (source 0) (λ b units ending. status ≡ status_at ending)
-exact-stopped words source out err stop status file performs ends spelled = stopped (source 0) out err stop status (performs.command (show file) spelled) ends
+pub exact-stopped : {A K E : Type 0} (words : List (List ℕ)) (sources : Sources A) (out : Change K) (err : Change E) (stop : Stop) (status : ℕ) (file : List ℕ)
+    → Performs words sources out (Err stop) → Concludes stop status err → AskFor words (show file) → ¬ HasFault (source_at sources 0) → ¬ HasFault out → status ≢ 4 → WhereKnown (source_at sources 0) (λ b units ending. status ≡ status_at ending)
+exact-stopped words sources out err stop status file performs ends spelled = stopped (source_at sources 0) out err stop status (performs.command (show file) spelled) ends

@@ -16,7 +16,7 @@ use Rattle.vx_bits.specs.declared.refusal.Refusal.{Refusal}
 use Rattle.vx_bits.specs.declared.refusal.Refusal.TheVariants.{Limit}
 use Rattle.vx_report.specs.declared.refusal.Where.{Where}
 use Rattle.vx_report.specs.RefusalLine.{long_source}
-use Rattle.vx_app.specs.Change.{Change, change, change_at, Gains, GainsFront}
+use Rattle.vx_app.specs.Change.{Change, change, sources_change, source_at, Gains, GainsFront}
 use Rattle.vx_app.specs.Conclusion.{Outcome}
 use Rattle.vx_app.specs.Show.{source_limit, seen_of, is_within, ending_of, line_of_unit, lines_of_units, shown_lines, behind_unit, IsShown, GivesToLimit, Shows}
 use Rattle.vx_app.specs.ShowSteps.{GivesAll, GivesThenStops, ShowsNext, HasShown, ShowsUnits}
@@ -211,7 +211,7 @@ Shows-beyond source out h ended n place taken beyond at shows =
 
 -- the source at k of a list was shown
 shows-moved : {S K : Type 0} (bytes : S → Option (List ℕ)) (faults : S → ℕ) (k : ℕ) (s s' : S) (l l' : List S) (out : Change K) (outcome : Outcome) → slice_get l k ≡ Some s → slice_get l' k ≡ Some s'
-    → Shows (change bytes faults s s') out outcome → Shows (change_at bytes faults l l' k) out outcome
+    → Shows (change bytes faults s s') out outcome → Shows (source_at (sources_change bytes faults l l') k) out outcome
 shows-moved bytes faults k s s' l l' out (Ok _) old new shows = rw (old, new) shows
 shows-moved bytes faults k s s' l l' out (Err (Refused refusal place)) old new shows = rw (old, new) shows
 shows-moved bytes faults k s s' l l' out (Err (ReadFault j)) old new shows = rw (old, new) shows
@@ -220,7 +220,7 @@ shows-moved bytes faults k s s' l l' out (Err NoMemory) old new shows = rw (old,
 shows-moved bytes faults k s s' l l' out (Err NotUnderstood) old new shows = shows
 
 pub Shows-at : {S K : Type 0} (bytes : S → Option (List ℕ)) (faults : S → ℕ) (k : ℕ) (s s' : S) (l : List S) (out : Change K) (outcome : Outcome) → k < length l → s ≡ get_or l k s
-    → Shows (change bytes faults s s') out outcome → Shows (change_at bytes faults l (slice_set l k s') k) out outcome
+    → Shows (change bytes faults s s') out outcome → Shows (source_at (sources_change bytes faults l (slice_set l k s')) k) out outcome
 Shows-at bytes faults k s s' l out outcome within is shows =
     let there : k < length (slice_set l k s') = rw (length-set l k s') within in
     shows-moved bytes faults k s s' l (slice_set l k s') out outcome (slice_get_read l (length l) k s refl within is) (slice_get_read (slice_set l k s') (length (slice_set l k s')) k s' refl there (sym (get_or-set_same l k s' s' within))) shows

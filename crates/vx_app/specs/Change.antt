@@ -16,9 +16,23 @@ pub record Change (A : Type 0) : Type 0 where
 abbrev pub change : {A : Type 0} → (A → Option (List ℕ)) → (A → ℕ) → A → A → Change A
 change bytes faults old new = record { bytes = bytes; faults = faults; old = old; new = new }
 
--- the source at k of a list
-abbrev pub change_at : {A : Type 0} → (A → Option (List ℕ)) → (A → ℕ) → List A → List A → ℕ → Change (List A)
-change_at bytes faults old new k = change (λ l. bytes_at bytes l k) (λ l. faults_at faults l k) old new
+-- the sources of a list before and after a call
+pub record Sources (A : Type 0) : Type 0 where
+  pub bytes : A → Option (List ℕ)
+  pub faults : A → ℕ
+  pub old : List A
+  pub new : List A
+
+abbrev pub sources_change : {A : Type 0} → (A → Option (List ℕ)) → (A → ℕ) → List A → List A → Sources A
+sources_change bytes faults old new = record { bytes = bytes; faults = faults; old = old; new = new }
+
+-- the source at k of them
+abbrev pub source_at : {A : Type 0} → Sources A → ℕ → Change (List A)
+source_at s k = change (λ l. bytes_at s.bytes l k) (λ l. faults_at s.faults l k) s.old s.new
+
+-- nothing was done to any of them
+abbrev pub AreUntouched : {A : Type 0} → Sources A → Type 0
+AreUntouched s = s.new ≡ s.old
 
 -- nothing was done to it
 abbrev pub IsUntouched : {A : Type 0} → Change A → Type 0

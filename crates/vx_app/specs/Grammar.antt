@@ -8,14 +8,20 @@ texts words = map string_bytes words
 -- what the words ask for
 pub data Command : Type 0 where
   show : List ℕ → Command
+  help : Command
+  version : Command
 
--- `show FILE`
+-- `show FILE`, `--help`, `--version`
 abbrev pub spelling : Command → List (List ℕ)
 spelling (show file) = codes "show" ∷ file ∷ []
+spelling help = codes "--help" ∷ []
+spelling version = codes "--version" ∷ []
 
 -- a file's name has a byte
 abbrev pub IsWellNamed : Command → Type 0
 IsWellNamed (show file) = file ≢ []
+IsWellNamed help = Unit {0}
+IsWellNamed version = Unit {0}
 
 -- the words ask for this command
 pub record AskFor (words : List (List ℕ)) (command : Command) : Type 0 where
@@ -29,6 +35,8 @@ IsUnderstood words = (command : Command) × AskFor words command
 -- the files that a command names, in order
 abbrev pub files_of : Command → List (List ℕ)
 files_of (show file) = file ∷ []
+files_of help = []
+files_of version = []
 
 -- the words name n files, and none where they ask for no command
 pub record NamesFiles (words : List (List ℕ)) (n : ℕ) : Type 0 where

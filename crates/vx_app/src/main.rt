@@ -1,6 +1,7 @@
 //! The program: reads VVC byte streams, as its words say, and tells how it ended.
 #![tactic(auto)]
 
+mod about;
 mod conclude;
 mod run;
 mod show;

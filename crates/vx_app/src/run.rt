@@ -1,12 +1,13 @@
 //! The program over words, sources and sinks.
 
 ghost use Rattle.std.specs.Prelude.{◌≡◌, ◌≢◌, ◌↔◌, List, ℕ, Err, vec_len, IfErr};
-ghost use Rattle.vx_app.specs.Change.{HasFault, change, change_at};
+ghost use Rattle.vx_app.specs.Change.{HasFault, change, source_at, sources_change};
 ghost use Rattle.vx_app.specs.Conclusion.{Outcome, IsTellable, ExitsWith};
 ghost use Rattle.vx_app.specs.Grammar.{show as for_show, AskFor, IsUnderstood, NamesFiles, texts};
 ghost use Rattle.vx_app.specs.Run.{Performs};
 ghost use Rattle.vx_app.specs.Show.{WhereKnown, status_at};
 
+use crate::about::{help, version, write_text};
 use crate::conclude::conclude;
 use crate::show::show;
 use crate::stop::Stop;
@@ -29,7 +30,7 @@ pub fn run<K: Sink, E: Sink>(
 
     // What came of the command: what it did to its sources and to `out`, and how that ends the program.
     ensures ends { (outcome : Outcome)
-        × Performs (texts words.now) (change_at bytes_left read_faults sources.old.items sources.new.items)
+        × Performs (texts words.now) (sources_change bytes_left read_faults sources.old.items sources.new.items)
         (change K.bytes_taken K.write_faults out.old out.new) outcome
         × ExitsWith outcome result (change E.bytes_taken E.write_faults err.old err.new) }
     ensures list { vec_len sources.new ≡ vec_len sources.old }
@@ -37,7 +38,7 @@ pub fn run<K: Sink, E: Sink>(
     // Which status it is, want of memory and faults aside.
     ensures words { (result ≡ 2) ↔ ¬ IsUnderstood (texts words.now) }
     ensures exact { (file : List ℕ) → AskFor (texts words.now) (for_show file)
-        → let source = change_at bytes_left read_faults sources.old.items sources.new.items 0 in
+        → let source = source_at (sources_change bytes_left read_faults sources.old.items sources.new.items) 0 in
         ¬ HasFault source → ¬ HasFault (change K.bytes_taken K.write_faults out.old out.new)
         → result ≢ 4 → WhereKnown source (λ b units ending. result ≡ status_at ending) }
 {
@@ -56,13 +57,15 @@ fn perform<K: Sink>(
 ) -> Result<(), Stop>
     requires { NamesFiles (texts words.now) (vec_len sources.old) }
     ensures performs { Performs (texts words.now)
-        (change_at bytes_left read_faults sources.old.items sources.new.items)
+        (sources_change bytes_left read_faults sources.old.items sources.new.items)
         (change K.bytes_taken K.write_faults out.old out.new) result }
     ensures list { vec_len sources.new ≡ vec_len sources.old }
     ensures tellable { IfErr result IsTellable }
 {
     match command_of(words) {
         Some(Command::Show { .. }) => show(alloc, &mut sources[0], out),
+        Some(Command::Help) => write_text(help(), out),
+        Some(Command::Version) => write_text(version(), out),
         None => Err(Stop::NotUnderstood),
     }
 }

@@ -159,8 +159,59 @@ const REFUSED: [Row<'static>; 5] = [
     },
 ];
 
+const HELP: &[u8] = b"goosequince: subpictures of VVC byte streams (H.266, Annex B)
+
+  show FILE  a line of JSON for each NAL unit of a byte stream: its length in
+             bytes, the place of its first byte, its TemporalId and its type
+  --help     this text
+  --version  the name and the version of the program
+
+The status is 0 where all was done. Else a line on standard error says why:
+
+  1  a rule is broken; its letter, number and place
+  2  the words are not understood
+  3  a read or a write failed
+  4  there is no memory
+
+The letters of the rules:
+
+  F  framing: F1 a byte outside a unit that is no zero and no start code,
+     F2 a byte that emulation prevention rules out, F3 a unit's header
+  L  limits: L1 a unit of more than 2^23 bytes, L3 a source of more than 2^40
+";
+
+/// What the program tells of itself. No source is there to be read.
+const ABOUT: [Row<'static>; 4] = [
+    Row {
+        words: &["--help"],
+        room: 2000,
+        out: HELP,
+        ..SHOW
+    },
+    Row {
+        words: &["--version"],
+        taken: &[1],
+        out: b"goosequince 0.1.0\n",
+        ..SHOW
+    },
+    Row {
+        words: &["--version"],
+        taken: &[1],
+        failing_writes: &[11],
+        out: b"goosequince",
+        err: b"write fault\n",
+        status: 3,
+        ..SHOW
+    },
+    // Behind `show` it is a file's name.
+    Row {
+        words: &["show", "--help"],
+        ..SHOW
+    },
+];
+
 /// Words that are no command.
-const NOT_UNDERSTOOD: [Row<'static>; 6] = [
+const NOT_UNDERSTOOD: [Row<'static>; 8] = [
     Row {
         words: &[],
         out: b"",
@@ -203,6 +254,20 @@ const NOT_UNDERSTOOD: [Row<'static>; 6] = [
         status: 2,
         ..SHOW
     },
+    Row {
+        words: &["--help", "show"],
+        out: b"",
+        err: b"words not understood\n",
+        status: 2,
+        ..SHOW
+    },
+    Row {
+        words: &["-version"],
+        out: b"",
+        err: b"words not understood\n",
+        status: 2,
+        ..SHOW
+    },
 ];
 
 #[test]
@@ -213,6 +278,11 @@ fn shows_units(rt: HostRuntime) -> Result<(), Fail> {
 #[test]
 fn refuses(rt: HostRuntime) -> Result<(), Fail> {
     check_rows(&rt, rt.alloc(), &REFUSED)
+}
+
+#[test]
+fn tells_of_itself(rt: HostRuntime) -> Result<(), Fail> {
+    check_rows(&rt, rt.alloc(), &ABOUT)
 }
 
 #[test]
@@ -341,7 +411,7 @@ fn keeps_its_answer_where_err_fails(rt: HostRuntime) -> Result<(), Fail> {
 fn names_files(rt: HostRuntime) -> Result<(), Fail> {
     for (words, file) in [
         (["show", "a.266"], Some("a.266")),
-        (["show", "show"], Some("show")),
+        (["show", "--help"], Some("--help")),
         (["show", ""], None),
         (["extract", "a.266"], None),
     ] {

@@ -9,6 +9,10 @@ ghost use Rattle.vx_app.specs.Grammar.{Command as Asked, AskFor, IsUnderstood, N
 pub enum Command<'a> {
     /// `show FILE`
     Show { file: &'a str },
+    /// `--help`
+    Help,
+    /// `--version`
+    Version,
 }
 
 /// The command that the words spell.
@@ -22,6 +26,8 @@ pub fn command_of(words: &[String]) -> Option<Command<'_>>
                 file: file.as_str(),
             })
         }
+        [word] if word.as_str() == "--help" => Some(Command::Help),
+        [word] if word.as_str() == "--version" => Some(Command::Version),
         _ => None,
     }
 }
@@ -32,7 +38,7 @@ pub fn file_count(words: &[String]) -> usize
 {
     match command_of(words) {
         Some(Command::Show { .. }) => 1,
-        None => 0,
+        Some(Command::Help | Command::Version) | None => 0,
     }
 }
 

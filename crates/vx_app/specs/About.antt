@@ -1,0 +1,40 @@
+-- What `--help` and `--version` write: the text, byte for byte.
+use Rattle.std.specs.Prelude.{ℕ, List, [], ◌∷◌, codes, Ok, Err}
+use Rattle.std.specs.List.{concat}
+use Rattle.vx_app.specs.declared.stop.Stop.TheVariants.{WriteFault}
+use Rattle.vx_app.specs.Change.{Change, Gains, GainsFront}
+use Rattle.vx_app.specs.Conclusion.{Outcome}
+
+-- the commands, the statuses, and the rules by their letters and numbers
+unfoldable pub help_text : List ℕ
+help_text = concat
+    (codes "goosequince: subpictures of VVC byte streams (H.266, Annex B)\n"
+    ∷ codes "\n"
+    ∷ codes "  show FILE  a line of JSON for each NAL unit of a byte stream: its length in\n"
+    ∷ codes "             bytes, the place of its first byte, its TemporalId and its type\n"
+    ∷ codes "  --help     this text\n"
+    ∷ codes "  --version  the name and the version of the program\n"
+    ∷ codes "\n"
+    ∷ codes "The status is 0 where all was done. Else a line on standard error says why:\n"
+    ∷ codes "\n"
+    ∷ codes "  1  a rule is broken; its letter, number and place\n"
+    ∷ codes "  2  the words are not understood\n"
+    ∷ codes "  3  a read or a write failed\n"
+    ∷ codes "  4  there is no memory\n"
+    ∷ codes "\n"
+    ∷ codes "The letters of the rules:\n"
+    ∷ codes "\n"
+    ∷ codes "  F  framing: F1 a byte outside a unit that is no zero and no start code,\n"
+    ∷ codes "     F2 a byte that emulation prevention rules out, F3 a unit's header\n"
+    ∷ codes "  L  limits: L1 a unit of more than 2^23 bytes, L3 a source of more than 2^40\n"
+    ∷ [])
+
+-- the name and the version
+unfoldable pub version_text : List ℕ
+version_text = codes "goosequince 0.1.0\n"
+
+-- a text was written, or a front of it where a write failed, and nothing else stopped it
+abbrev pub Writes : {K : Type 0} → List ℕ → Change K → Outcome → Type 0
+Writes text out (Ok _) = Gains out text
+Writes text out (Err WriteFault) = GainsFront out text
+Writes text out (Err _) = ⊥

@@ -1,0 +1,53 @@
+//! `--help` and `--version`: what the program tells of itself.
+
+ghost use Rattle.std.specs.Prelude.{◌≡◌, Ok, IfErr};
+ghost use Rattle.vx_app.specs.About.{Writes, help_text, version_text};
+ghost use Rattle.vx_app.specs.Change.{change};
+ghost use Rattle.vx_app.specs.Conclusion.{IsTellable};
+
+use crate::stop::Stop;
+use vx_io::{Sink, write_all};
+
+/// The commands, the statuses, and the rules by their letters and numbers.
+#[tactic(auto, unfolding(crate::specs::About::help_text))]
+pub fn help() -> &'static [u8]
+    ensures { result.now ≡ help_text }
+{
+    b"goosequince: subpictures of VVC byte streams (H.266, Annex B)
+
+  show FILE  a line of JSON for each NAL unit of a byte stream: its length in
+             bytes, the place of its first byte, its TemporalId and its type
+  --help     this text
+  --version  the name and the version of the program
+
+The status is 0 where all was done. Else a line on standard error says why:
+
+  1  a rule is broken; its letter, number and place
+  2  the words are not understood
+  3  a read or a write failed
+  4  there is no memory
+
+The letters of the rules:
+
+  F  framing: F1 a byte outside a unit that is no zero and no start code,
+     F2 a byte that emulation prevention rules out, F3 a unit's header
+  L  limits: L1 a unit of more than 2^23 bytes, L3 a source of more than 2^40
+"
+}
+
+/// The program's name and version.
+#[tactic(auto, unfolding(crate::specs::About::version_text))]
+pub fn version() -> &'static [u8]
+    ensures { result.now ≡ version_text }
+{
+    b"goosequince 0.1.0\n"
+}
+
+/// Writes a text, and nothing else.
+pub fn write_text<K: Sink>(text: &[u8], out: &mut K) -> Result<(), Stop>
+    ensures writes { Writes text.now (change K.bytes_taken K.write_faults out.old out.new) result }
+    ensures tellable { IfErr result IsTellable }
+{
+    write_all(out, text)?;
+    Ok(())
+}
