@@ -5,6 +5,7 @@
 use Rattle.std.specs.Prelude.{◌≡◌, ◌≢◌, ℕ, ◌+◌, ◌-◌, ◌^◌, ◌<◌, ◌≤◌, ◌⊎◌, Bool, IsTrue, List, [], ◌∷◌, Option, Some, None, length, slice_index, slice_range}
 use Rattle.vx_bits.specs.declared.refusal.Refusal.{Refusal}
 use Rattle.vx_bits.specs.declared.refusal.Refusal.TheVariants.{Framing, Limit}
+use Rattle.vx_bits.specs.declared.rules.TheConstants.{NOT_A_START_CODE, BAD_EMULATION, BAD_HEADER, LONG_UNIT}
 use Rattle.vx_annexb.specs.NalUnit.{HasHeader}
 use Rattle.vx_annexb.specs.Places.{AreZeros, IsMark, IsFirstFrom}
 use Rattle.vx_annexb.specs.Emulation.{BreaksRule}
@@ -45,20 +46,6 @@ pub record IsStray (b : List ℕ) (p q : ℕ) : Type 0 where
   pub nonzero : slice_index b q ≢ 0
   pub no_code : slice_index b q ≡ 1 → q < p + 2
 
--- the numbers of the rules of framing
-abbrev pub not_a_start_code : ℕ
-not_a_start_code = 1
-
-abbrev pub bad_emulation : ℕ
-bad_emulation = 2
-
-abbrev pub bad_header : ℕ
-bad_header = 3
-
--- the number of the limit on a unit's bytes
-abbrev pub long_unit : ℕ
-long_unit = 1
-
 -- the most bytes that a unit may have
 abbrev pub unit_limit : ℕ
 unit_limit = 2 ^ 23
@@ -73,14 +60,14 @@ pub record IsSound (unit : List ℕ) : Type 0 where
 -- else a byte breaks the rules of emulation prevention, else it is too long
 abbrev pub RefusesUnit : List ℕ → ℕ → Refusal → Type 0
 RefusesUnit unit place r =
-    ((¬ HasHeader unit) × (r ≡ Framing bad_header place))
-    ⊎ ((HasHeader unit × ((k : ℕ) × IsFirstFrom (BreaksRule unit) 0 k × (r ≡ Framing bad_emulation (place + k))))
-    ⊎ (HasHeader unit × ((k : ℕ) → ¬ BreaksRule unit k) × (unit_limit < length unit) × (r ≡ Limit long_unit)))
+    ((¬ HasHeader unit) × (r ≡ Framing BAD_HEADER place))
+    ⊎ ((HasHeader unit × ((k : ℕ) × IsFirstFrom (BreaksRule unit) 0 k × (r ≡ Framing BAD_EMULATION (place + k))))
+    ⊎ (HasHeader unit × ((k : ℕ) → ¬ BreaksRule unit k) × (unit_limit < length unit) × (r ≡ Limit LONG_UNIT)))
 
 -- r refuses what comes next behind place p: a byte that is no start code, or a unit
 abbrev pub Refuses : List ℕ → Bool → ℕ → Refusal → Type 0
 Refuses b all p r =
-    ((q : ℕ) × IsStray b p q × (r ≡ Framing not_a_start_code q))
+    ((q : ℕ) × IsStray b p q × (r ≡ Framing NOT_A_START_CODE q))
     ⊎ ((u : UnitPlace) × IsUnit b all p u × RefusesUnit (unit_bytes b u) u.start r)
 
 -- these units follow one another from place p on, and no rule refuses them

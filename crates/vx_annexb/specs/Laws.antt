@@ -3,9 +3,10 @@ use Rattle.std.specs.Prelude.{◌≡◌, ℕ, ◌+◌, Bool, true, false, List, 
 use Rattle.vx_bits.specs.declared.refusal.Refusal.{Refusal}
 use Rattle.vx_bits.specs.declared.refusal.Refusal.TheVariants.{Framing}
 use Rattle.vx_bits.specs.Codes.{EndsInNoZero}
+use Rattle.vx_bits.specs.declared.rules.TheConstants.{NOT_A_START_CODE}
 use Rattle.vx_annexb.specs.Places.{IsMark}
 use Rattle.vx_annexb.specs.Emulation.{BreaksRule, unescaped_to, unescaped, IsEscaped}
-use Rattle.vx_annexb.specs.ByteStream.{not_a_start_code, UnitPlace, unit_bytes, IsSound, FollowsFrom, IsStream, long_start_code}
+use Rattle.vx_annexb.specs.ByteStream.{UnitPlace, unit_bytes, IsSound, FollowsFrom, IsStream, long_start_code}
 
 -- the bytes determine the units and the ending
 abbrev pub StreamIsUnique : Type 0
@@ -112,4 +113,4 @@ EscapedIsInverse =
 -- where a byte at place p is no start code, the units before are those of the first p bytes, and these are refused nowhere
 abbrev pub StrayEndsStream : Type 0
 StrayEndsStream =
-    (b : List ℕ) (all : Bool) (us : List UnitPlace) (p : ℕ) → IsStream b all us (Some (Framing not_a_start_code p)) → IsStream (take p b) true us None
+    (b : List ℕ) (all : Bool) (us : List UnitPlace) (p : ℕ) → IsStream b all us (Some (Framing NOT_A_START_CODE p)) → IsStream (take p b) true us None

@@ -19,7 +19,6 @@ pub use laws::{
     escaped_splits, stray_ends_stream, stream_exists, stream_goes_on, stream_is_annex_b,
     stream_is_unique, units_can_stand, written_is_annex_b, written_is_stream,
 };
-pub use rules::{BAD_EMULATION, BAD_HEADER, LONG_UNIT, NOT_A_START_CODE};
 pub use span::Span;
 pub use splitter::Splitter;
 pub use write::write_unit;

@@ -6,16 +6,7 @@ ghost use Rattle.vx_annexb.specs.ByteStream.{IsSound, RefusesUnit};
 use crate::emulation::fault_from;
 use crate::read_header;
 use vx_bits::Refusal;
-
-/// A byte outside the units that is no zero and no end of a start code.
-pub const NOT_A_START_CODE: u8 = 1;
-/// A byte in a unit that emulation prevention rules out.
-pub const BAD_EMULATION: u8 = 2;
-/// A unit whose header can't be read.
-pub const BAD_HEADER: u8 = 3;
-
-/// A unit of more than 2^23 bytes.
-pub const LONG_UNIT: u8 = 1;
+use vx_bits::rules::{BAD_EMULATION, BAD_HEADER, LONG_UNIT};
 
 const UNIT_LIMIT: usize = 1 << 23;
 

@@ -3,11 +3,12 @@ ghost use Rattle.std.specs.Prelude.{◌≡◌, ◌*◌, ◌≤◌, length, drop,
 
 use crate::Span;
 use crate::emulation::EMULATION;
-use crate::rules::{NOT_A_START_CODE, refusal_of};
+use crate::rules::refusal_of;
 use crate::search::{find_mark, pass_to_mark, skip_zeros, trim_zeros};
 use std::alloc::{AllocError, Global};
 use std::marker::Model;
 use vx_bits::Refusal;
+use vx_bits::rules::NOT_A_START_CODE;
 
 /// Finds the NAL units of a byte stream that comes in pieces.
 ///

@@ -15,7 +15,7 @@ use Rattle.vx_app.specs.declared.stop.Stop.TheVariants.{NotUnderstood, Refused, 
 use Rattle.vx_bits.specs.declared.refusal.Refusal.{Refusal}
 use Rattle.vx_bits.specs.declared.refusal.Refusal.TheVariants.{Limit}
 use Rattle.vx_report.specs.declared.refusal.Where.{Where}
-use Rattle.vx_report.specs.RefusalLine.{long_source}
+use Rattle.vx_bits.specs.declared.rules.TheConstants.{LONG_SOURCE}
 use Rattle.vx_app.specs.Change.{Change, change, sources_change, source_at, Gains, GainsFront}
 use Rattle.vx_app.specs.Conclusion.{Outcome}
 use Rattle.vx_app.specs.Show.{source_limit, seen_of, is_within, ending_of, line_of_unit, lines_of_units, shown_lines, behind_unit, IsShown, GivesToLimit, Shows}
@@ -197,15 +197,15 @@ Shows-done source out h ended n taken whole shows =
 
 -- the units of a source that has more bytes than the limit
 pub Shows-beyond : {S K : Type 0} (source : Change S) (out : Change K) (h : Held) (ended : Bool) (n : ℕ) (place : Where) → GivesAll h source ended → ended ≡ false → place ≡ behind_unit n
-    → ((b : List ℕ) → Stands h b [] → ShowsUnits b h.all out (Ok n)) → Shows source out (Err (Refused (Limit long_source) place))
+    → ((b : List ℕ) → Stands h b [] → ShowsUnits b h.all out (Ok n)) → Shows source out (Err (Refused (Limit LONG_SOURCE) place))
 Shows-beyond source out h ended n place taken beyond at shows =
     let s = shows (take source_limit taken.bytes) taken.stands in (
       taken.kept,
       s.2.kept,
       given-to-limit source h ended taken,
       λ b units ending told is.
-          let here = shown-told source h ended taken b s.0 None (Some (Limit long_source)) told s.1 (rw (taken.all ∙ beyond) refl) in
-          let same = IsShown-unique b s.0 units (Some (Limit long_source)) ending here is in
+          let here = shown-told source h ended taken b s.0 None (Some (Limit LONG_SOURCE)) told s.1 (rw (taken.all ∙ beyond) refl) in
+          let same = IsShown-unique b s.0 units (Some (Limit LONG_SOURCE)) ending here is in
           (sym same.1, at ∙ ap behind_unit s.3 ∙ ap (λ (us : List UnitPlace). behind_unit (length us)) same.0, lines-told source out h ended taken b s.0 units told same.0 s.2),
     )
 

@@ -7,7 +7,7 @@ use Rattle.vx_bits.specs.declared.refusal.Refusal.TheVariants.{Limit}
 use Rattle.vx_annexb.specs.NalUnit.{header_of}
 use Rattle.vx_annexb.specs.ByteStream.{UnitPlace, unit_bytes, IsStream}
 use Rattle.vx_report.specs.declared.refusal.Where.{Where}
-use Rattle.vx_report.specs.RefusalLine.{long_source}
+use Rattle.vx_bits.specs.declared.rules.TheConstants.{LONG_SOURCE}
 use Rattle.vx_report.specs.UnitLine.{unit_text}
 use Rattle.vx_app.specs.declared.stop.Stop.TheVariants.{NotUnderstood, Refused, ReadFault, WriteFault, NoMemory}
 use Rattle.vx_app.specs.Change.{Change, IsUntouched, HasNoFault, HasFault, GivesFront, Gains, GainsFront}
@@ -39,7 +39,7 @@ lines_of_units b units = flat_map (line_of_unit b) units
 -- a source of more bytes than the limit is refused behind its last unit, unless a rule is broken before
 abbrev pub ending_of : Bool → Option Refusal → Option Refusal
 ending_of true ending = ending
-ending_of false ending = Some (unwrap_or ending (Limit long_source))
+ending_of false ending = Some (unwrap_or ending (Limit LONG_SOURCE))
 
 -- The units of a source's bytes before the ending, and the ending. Of a source that has more bytes than
 -- the limit the units are those whose end is seen in that many.

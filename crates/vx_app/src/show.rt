@@ -12,8 +12,9 @@ use crate::stop::Stop;
 use std::alloc::{AllocError, Global};
 use vx_annexb::{Span, Splitter, read_header};
 use vx_bits::Refusal;
+use vx_bits::rules::LONG_SOURCE;
 use vx_io::{Sink, Source, read_box, write_all};
-use vx_report::{LONG_SOURCE, Where, unit_line};
+use vx_report::{Where, unit_line};
 
 /// How many bytes a read asks for.
 const READ_LEN: usize = 65_536;

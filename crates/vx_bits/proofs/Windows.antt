@@ -3,7 +3,7 @@ use Rattle.std.proofs.Common.{◌≡◌, ◌≢◌, ℕ, ◌+◌, ◌-◌, ◌*�
 use Rattle.std.proofs.lemmas.List.{append_assoc, length-append, length-drop, take-append-le, drop-append-le, drop_more, nil_from_length}
 use Rattle.vx_bits.specs.declared.window.Window.{Window}
 use Rattle.vx_bits.specs.Codes.{number, fixed, bits_of, to_boundary, one_from}
-use Rattle.vx_bits.specs.Window.{bits_ahead, IsWindow}
+use Rattle.vx_bits.specs.inner.Window.{bits_ahead, IsWindow}
 use Rattle.vx_bits.proofs.Bits.{number-fixed, length-fixed, number-take, number-drop, fixed_of, length-bits_of}
 use Rattle.vx_bits.proofs.Appending.{fixed_join, join_below}
 use Rattle.vx_bits.proofs.Alignment.{stop_is}

@@ -3,4 +3,4 @@ pub mod Codes
 pub mod Fields
 pub mod Laws
 pub mod Place
-pub mod Window
+pub mod inner

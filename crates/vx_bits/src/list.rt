@@ -1,11 +1,15 @@
 //! Lists: one generic type that carries every list type of the project, and those that belong here.
 //!
-//! A list type elsewhere is one line, as `pub type RectList = Copied<Rect>;`.
+//! A list type elsewhere is one line, as `pub type RectList = CopyList<Rect>;`, and a struct of its own where it
+//! guards something, as [`Kept`].
 ghost use Rattle.std.specs.Prelude.{◌≡◌, ◌<◌, List, [], ◌∷◌, ◌++◌, length, Some, OnOk, OnErr, slice_get, slice_index_or};
+ghost use Rattle.std.specs.Slice.Iter.{iter_rest};
+ghost use Rattle.std.specs.Iterator.Adapters.{IterYieldsInOrder};
 ghost use Rattle.vx_bits.specs.Fields.{first_value};
 
 use std::alloc::{AllocError, Global};
 use std::marker::{Model, PhantomData};
+use std::slice::Iter;
 
 /// A list, whose entries are handed out as `By` says: [`ByValue`] or [`ByReference`].
 ///
@@ -22,11 +26,11 @@ pub struct ByValue;
 /// A list's `item` lends the entry.
 pub struct ByReference;
 
-/// A list whose entries are handed out by value.
-pub type Copied<T> = Entries<T, ByValue>;
+/// A list whose entries are handed out as copies.
+pub type CopyList<T> = Entries<T, ByValue>;
 
 /// A list whose entries are lent.
-pub type Listed<T> = Entries<T, ByReference>;
+pub type LentList<T> = Entries<T, ByReference>;
 
 impl<T, By> Model for Entries<T, By> {
     ghost Value = { List T };
@@ -64,9 +68,24 @@ impl<T: Drop, By> Entries<T, By> {
     {
         self.entries.len()
     }
+
+    /// The entries as a slice.
+    pub fn as_slice(&self) -> &[T]
+        ensures { result.now ≡ self.now }
+    {
+        self.entries.as_slice()
+    }
+
+    /// The entries in order.
+    pub fn iter(&self) -> Iter<'_, T>
+        ensures rest { iter_rest result ≡ self.now }
+        ensures runs { IterYieldsInOrder T }
+    {
+        self.entries.iter()
+    }
 }
 
-impl<T: Copy> Copied<T> {
+impl<T: Copy> CopyList<T> {
     /// The entry at an index, counted from 0.
     pub fn item(&self, i: usize) -> T
         requires { i < length self.now }
@@ -75,9 +94,21 @@ impl<T: Copy> Copied<T> {
     {
         self.entries[i]
     }
+
+    /// Appends the entries of a slice, in order.
+    ///
+    /// # Errors
+    ///
+    /// Where memory runs out, and the list then stays as it was.
+    pub fn extend_from_slice(&mut self, entries: &[T]) -> Result<(), AllocError>
+        ensures ok { OnOk result (self.new ≡ self.old ++ entries.now) }
+        ensures err { OnErr result (self.new ≡ self.old) }
+    {
+        self.entries.extend_from_slice(entries)
+    }
 }
 
-impl<T: Drop> Listed<T> {
+impl<T: Drop> LentList<T> {
     /// The entry at an index, counted from 0.
     pub fn item(&self, i: usize) -> &T
         requires { i < length self.now }
@@ -98,24 +129,21 @@ pub struct Item {
 }
 
 /// The value of a syntax structure: its fields in the order in which they are spelled.
-pub type Fields = Copied<Item>;
+pub type Fields = CopyList<Item>;
 
 /// Bytes.
-pub type Bytes = Copied<u8>;
+pub type Bytes = CopyList<u8>;
 
 /// Byte strings.
-pub type ByteLists = Listed<Bytes>;
+pub type ByteLists = LentList<Bytes>;
 
 /// Borrowed byte strings.
-pub type BodyList<'a> = Copied<&'a [u8]>;
+pub type BodyList<'a> = CopyList<&'a [u8]>;
 
 /// Ids.
-pub type IdList = Copied<u32>;
+pub type IdList = CopyList<u32>;
 
-/// The fields of a structure that are kept when it is rewritten.
-pub type Kept = Copied<Item>;
-
-impl Copied<Item> {
+impl CopyList<Item> {
     /// The value of the first item of a field, or `None` where no item has it.
     pub fn first(&self, field: u16) -> Option<i64>
         ensures { result ≡ first_value self.now field }
@@ -124,14 +152,5 @@ impl Copied<Item> {
             .iter()
             .find(|item| item.field == field)
             .map(|item| item.value)
-    }
-}
-
-impl Copied<u8> {
-    /// The bytes as a slice.
-    pub fn as_slice(&self) -> &[u8]
-        ensures { result.now ≡ self.now }
-    {
-        self.entries.as_slice()
     }
 }

@@ -22,7 +22,7 @@ pub enum BitCause {
 
 /// The rule that a stream, or what is asked of it, breaks.
 ///
-/// `code` numbers the rules of a kind; the crate that tests a rule has a constant for its code.
+/// `code` numbers the rules of a kind, as [`rules`](crate::rules) has them.
 #[derive(Clone, Copy, Debug, PartialEq, Eq)]
 pub enum Refusal {
     /// The bytes aren't framed as H.266 Annex B and 7.3.1 say; `byte` is the place in the source.

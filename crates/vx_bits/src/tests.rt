@@ -1,6 +1,7 @@
 //! Codes worked by hand, each cause of each call, and each allocating call once.
 use crate::{
-    BitCause, BitReader, BitWriter, ByteLists, Bytes, Fields, IdList, Item, ReadError, Refusal,
+    BitCause, BitReader, BitWriter, ByteLists, Bytes, Fields, IdList, Item, Kept, ReadError,
+    Refusal,
 };
 use std::alloc::AllocError;
 use std::test::Fail;
@@ -178,12 +179,20 @@ fn keeps_lists(rt: HostRuntime) -> Result<(), Fail> {
     assert_eq!(&rt; fields.first(7), Some(5));
     assert_eq!(&rt; fields.first(8), None);
 
+    let mut kept = Kept::new(rt.alloc());
+    for item in fields.iter() {
+        kept.push(*item)?;
+    }
+    assert_eq!(&rt; kept.len(), 3);
+    assert_eq!(&rt; kept.as_slice(), fields.as_slice());
+
     let mut bytes = Bytes::new(rt.alloc());
-    bytes.push(0xC4)?;
+    bytes.extend_from_slice(&[0xC4, 0x18])?;
+    bytes.push(0x5A)?;
     let mut lists = ByteLists::new(rt.alloc());
     lists.push(bytes)?;
     assert_eq!(&rt; lists.len(), 1);
-    assert_eq!(&rt; lists.item(0).as_slice(), [0xC4].as_slice());
+    assert_eq!(&rt; lists.item(0).as_slice(), [0xC4, 0x18, 0x5A].as_slice());
 
     let mut ids = IdList::new(rt.alloc());
     ids.push(11)?;

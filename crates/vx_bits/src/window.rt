@@ -1,6 +1,6 @@
 //! A window of bits over bytes, filled by whole bytes.
 ghost use Rattle.std.specs.Prelude.{◌≡◌, ◌^◌, ◌≤◌, length};
-ghost use Rattle.vx_bits.specs.Window.{bits_ahead, IsWindow};
+ghost use Rattle.vx_bits.specs.inner.Window.{bits_ahead, IsWindow};
 
 /// The next `held` bits as a number, and the index of the first byte behind them.
 #[derive(Clone, Copy)]

@@ -5,7 +5,7 @@ ghost use Rattle.vx_layout.specs.Regions.{counted_from};
 ghost use Rattle.vx_layout.specs.Rects.{IsPart, Precedes, fits, holds};
 
 use crate::plain::precedes;
-use vx_bits::Copied;
+use vx_bits::CopyList;
 
 /// A rectangle of CTUs: its left column, its upper row, its width and its height.
 #[derive(Clone, Copy, Debug, PartialEq, Eq)]
@@ -21,7 +21,7 @@ pub struct Rect {
 }
 
 /// Rectangles, as the slices or the subpictures of a picture.
-pub type RectList = Copied<Rect>;
+pub type RectList = CopyList<Rect>;
 
 impl Rect {
     /// Whether it has no CTU.

@@ -6,5 +6,5 @@ mod refusal;
 mod tests;
 mod unit;
 
-pub use refusal::{LONG_SOURCE, Where, refusal_line};
+pub use refusal::{Where, refusal_line};
 pub use unit::unit_line;

@@ -5,9 +5,7 @@ ghost use Rattle.vx_report.specs.RefusalLine.{HasLine, framing_text, source_limi
 
 use std::alloc::{AllocError, Global};
 use vx_bits::Refusal;
-
-/// The code of the limit on the bytes of a source.
-pub const LONG_SOURCE: u8 = 3;
+use vx_bits::rules::LONG_SOURCE;
 
 /// Where a rule was broken.
 #[derive(Clone, Copy, Debug, PartialEq, Eq)]

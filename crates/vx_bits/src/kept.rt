@@ -1,0 +1,67 @@
+//! The kept fields of a structure, which no list of all its fields can be taken for.
+ghost use Rattle.std.specs.Prelude.{◌≡◌, ◌<◌, List, [], ◌∷◌, ◌++◌, length, Some, OnOk, OnErr, slice_get, slice_index_or};
+ghost use Rattle.vx_bits.specs.declared.list.Item.{Item};
+
+use crate::list::{CopyList, Item};
+use std::alloc::{AllocError, Global};
+use std::marker::Model;
+
+/// The fields of a structure that are kept when it is rewritten, in the order in which they are spelled.
+///
+/// It is seen as the list of their items.
+#[derive(Drop)]
+pub struct Kept {
+    items: CopyList<Item>,
+}
+
+impl Model for Kept {
+    ghost Value = { List Item };
+
+    ghost view = { λ kept. kept.items };
+}
+
+impl Kept {
+    /// No fields. Takes no memory yet.
+    pub fn new(alloc: Global) -> Kept
+        ensures { result ≡ [] }
+    {
+        Kept {
+            items: CopyList::new(alloc),
+        }
+    }
+
+    /// Appends a field.
+    ///
+    /// # Errors
+    ///
+    /// Where memory runs out, and the fields then stay as they were.
+    pub fn push(&mut self, item: Item) -> Result<(), AllocError>
+        ensures ok { OnOk result (self.new ≡ self.old ++ item ∷ []) }
+        ensures err { OnErr result (self.new ≡ self.old) }
+    {
+        self.items.push(item)
+    }
+
+    /// The number of fields.
+    pub fn len(&self) -> usize
+        ensures { result ≡ length self.now }
+    {
+        self.items.len()
+    }
+
+    /// The field at an index, counted from 0.
+    pub fn item(&self, i: usize) -> Item
+        requires { i < length self.now }
+        ensures value { slice_get self.now i ≡ Some result }
+        ensures index { result ≡ slice_index_or self.now i result }
+    {
+        self.items.item(i)
+    }
+
+    /// The fields as a slice.
+    pub fn as_slice(&self) -> &[Item]
+        ensures { result.now ≡ self.now }
+    {
+        self.items.as_slice()
+    }
+}
