@@ -1,0 +1,5 @@
+-- Lemmas on regions.
+pub mod Areas
+pub mod Overlapping
+pub mod Sizes
+pub mod Together

@@ -1,0 +1,8 @@
+//! Which regions fit together into one frame, and the tile lines of that frame (H.266 6.3.1, 6.5.1).
+#![tactic(auto)]
+
+mod placed;
+mod regions;
+
+pub use placed::{FitFault, Placed};
+pub use regions::fit_regions;
