@@ -1,0 +1,20 @@
+-- The greatest number that regions give.
+use Rattle.std.proofs.Common.{◌≡◌, ℕ, zero, suc, ◌+◌, ◌<◌, ◌≤◌, max, List, [], ◌∷◌, All, length, get_or, take, ap, refl, arith, ◌∙◌}
+use Rattle.std.proofs.lemmas.List.Elements.{All-head, All-tail}
+use Rattle.vx_fit.specs.declared.placed.Placed.{Placed}
+use Rattle.vx_fit.specs.Placing.{greatest}
+
+-- one region more
+pub greatest_more : (f : Placed → ℕ) (ps : List Placed) (i : ℕ) (d : Placed) → i < length ps → greatest f (take (i + 1) ps) ≡ max (f (get_or ps i d)) (greatest f (take i ps))
+greatest_more f [] i d short = absurd (omega arith)
+greatest_more f (p ∷ ps) zero d short = omega arith
+greatest_more f (p ∷ ps) (suc i) d short =
+    let more = greatest_more f ps i d (omega arith) in
+    let next : suc i + 1 ≡ suc (i + 1) = omega arith in
+    rw next (omega (arith, more))
+
+-- no region gives more
+pub greatest_bounds : (f : Placed → ℕ) (ps : List Placed) (k : ℕ) (d : Placed) → k < length ps → f (get_or ps k d) ≤ greatest f ps
+greatest_bounds f [] k d short = absurd (omega arith)
+greatest_bounds f (p ∷ ps) zero d short = omega arith
+greatest_bounds f (p ∷ ps) (suc k) d short = omega (arith, greatest_bounds f ps k d (omega arith))

@@ -1,0 +1,7 @@
+use Rattle.std.proofs.Common.{ℕ, ◌<◌, ◌≤◌, ◌+◌, ◌↔◌, Contains}
+use Rattle.vx_fit.specs.FrameLines.{Crosses, HasBound, IsHorizontal, IsVertical, KeepsLines, corner_at, part_at}
+use Rattle.vx_fit.specs.inner.Passing.{LetsDrop, LinesBelow}
+use Rattle.vx_fit.proofs.lines.all_let_drop.Given as goal
+
+abbrev pub invariant-loop-k : goal.invariant-loop-k
+invariant-loop-k l = (j : ℕ) → j < l.k → LetsDrop (corner_at l.corners j) (part_at l.parts j) l.n

@@ -1,0 +1,7 @@
+-- Definitions that the contracts of this crate cite.
+pub mod FitFaults
+pub mod FrameLines
+pub mod Lowest
+pub mod Placing
+pub mod Sources
+pub mod inner

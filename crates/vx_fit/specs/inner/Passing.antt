@@ -1,0 +1,36 @@
+-- What the bodies that find a frame's lines answer.
+use Rattle.std.specs.Prelude.{◌≡◌, ◌↔◌, ℕ, ◌+◌, ◌<◌, ◌≤◌, List, All, Contains, Option, None, Some, length}
+use Rattle.std.specs.List.{AllZip}
+use Rattle.vx_layout.specs.declared.numbers.Numbers.{Numbers}
+use Rattle.vx_layout.specs.declared.rect.Rect.{Rect}
+use Rattle.vx_layout.specs.Bounds.{Rises}
+use Rattle.vx_fit.specs.FrameLines.{HasBound, HasOneTile, IsBorder, IsFull, IsInner, IsLinesFault, IsVertical, KeepsLines, PassesInside}
+use Rattle.vx_fit.specs.Placing.{greatest_size}
+use Rattle.vx_fit.specs.Sources.{IsSource}
+
+-- bounds that are exactly the lines below n
+pub record LinesBelow (IsLine : ℕ → Type 0) (bounds : List ℕ) (n : ℕ) : Type 0 where
+  pub rises : Rises bounds
+  pub each : (m : ℕ) → Contains bounds m ↔ ((m < n) × IsLine m)
+
+-- strictly inside a picture that stands at `from`, the bounds are its own
+abbrev pub AreOwn : List ℕ → ℕ → ℕ → List ℕ → Type 0
+AreOwn bounds from size own = (n : ℕ) → PassesInside from size n → Contains bounds n ↔ HasBound from own n
+
+-- the lowest region that doesn't keep its lines, or none where all do
+abbrev pub IsLinesAnswer : List Rect → List Numbers → Option ℕ → Type 0
+IsLinesAnswer corners parts None = (k : ℕ) → k < length corners → KeepsLines corners parts k
+IsLinesAnswer corners parts (Some k) = IsLinesFault corners parts k
+
+-- the line n may be left out as far as the region s goes
+abbrev pub LetsDrop : Rect → Numbers → ℕ → Type 0
+LetsDrop s p n = (¬ IsInner s p n) × (IsBorder s n → HasOneTile p)
+
+-- pictures in regions of a frame that isn't too large, whose left and upper borders are lines
+pub record AreFramed (corners : List Rect) (parts : List Numbers) : Type 0 where
+  pub sources : AllZip IsSource corners parts
+  pub same : length corners ≡ length parts
+  pub across : All (λ s. s.x + s.w ≤ greatest_size) corners
+  pub down : All (λ s. s.y + s.h ≤ greatest_size) corners
+  pub left : IsVertical corners parts 0
+  pub top : IsFull corners parts 0

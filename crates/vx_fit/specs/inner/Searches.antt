@@ -1,0 +1,18 @@
+-- What the searches through a list of regions answer.
+use Rattle.std.specs.Prelude.{ℕ, ◌+◌, ◌*◌, ◌<◌, Bool, ◌&&◌, nat_lt, max, min, Option, None, Some, List}
+use Rattle.std.specs.List.{sum_by}
+use Rattle.vx_fit.specs.declared.placed.Placed.{Placed}
+use Rattle.vx_fit.specs.Lowest.{IsLowest}
+
+-- the lowest index below `count` that breaks the rule, or none where none does
+abbrev pub IsLowestAnswer : ℕ → (ℕ → Type 0) → Option ℕ → Type 0
+IsLowestAnswer count Breaks None = (k : ℕ) → k < count → ¬ Breaks k
+IsLowestAnswer count Breaks (Some k) = IsLowest count Breaks k
+
+-- whether two regions overlap, by their borders
+unfoldable pub overlaps : Placed → Placed → Bool
+overlaps p q = nat_lt (max p.x q.x) (min (p.x + p.w) (q.x + q.w)) && nat_lt (max p.y q.y) (min (p.y + p.h) (q.y + q.h))
+
+-- the positions of all regions, those that several cover counted for each
+abbrev pub areas : List Placed → ℕ
+areas placed = sum_by (λ p. p.w * p.h) placed

@@ -1,0 +1,351 @@
+//! The tile lines of a frame that regions make up, and the regions that don't keep their own.
+ghost use Rattle.std.specs.Prelude.{◌≡◌, ℕ, ◌+◌, ◌<◌, ◌≤◌, ◌∷◌, [], ◌++◌, All, true, cond, IfOk, IfErr, OnOk, length};
+ghost use Rattle.std.specs.Bool.{OnTrue, OnFalse};
+ghost use Rattle.std.specs.List.{AllZip};
+ghost use Rattle.vx_layout.specs.Bounds.{Rises};
+ghost use Rattle.vx_fit.specs.FrameLines.{AreBounds, Crosses, Follows, HasBound, HasOneTile, HaveLines, IfLines, IsBorder, IsDropped, IsFull, IsHorizontal, IsInner, IsLinesFault, IsVertical, KeepsLines, OfEach, OfSome, PassesInside, StandsOn};
+ghost use Rattle.vx_fit.specs.Sources.{IsFitted, IsSource};
+ghost use Rattle.vx_fit.specs.Placing.{greatest_size};
+ghost use Rattle.vx_fit.specs.inner.Passing.{AreFramed, AreOwn, IsLinesAnswer, LetsDrop};
+
+use std::alloc::{AllocError, Global};
+use thiserror::Error;
+use vx_layout::{Bounds, Numbers, Rect};
+
+/// Why a frame has no tile lines.
+#[derive(Clone, Copy, Debug, PartialEq, Eq, Error)]
+pub enum LineError {
+    /// Memory ran out.
+    #[error("out of memory")]
+    Memory,
+    /// The lowest region through which a line passes that isn't its own, or of whose own lines one is missing, or which
+    /// doesn't follow the region above it where the line between the two is left out.
+    #[error("region {0} doesn't keep its tile lines")]
+    Lines(u16),
+}
+
+impl From<AllocError> for LineError {
+    ghost use Rattle.std.specs.Prelude.{◌≡◌};
+    ghost use Rattle.vx_fit.specs.declared.lines.LineError.TheVariants.{Memory as OutOfMemory};
+
+    ghost from_gives = { λ _ e. e ≡ OutOfMemory };
+
+    fn from(_error: AllocError) -> LineError {
+        LineError::Memory
+    }
+}
+
+/// The bounds of the tile columns and tile rows of the frame that regions make up, in CTUs.
+///
+/// `corners` are the regions in CTUs, which fit together, and `parts` the pictures in them. Takes memory for its
+/// answer alone.
+///
+/// # Errors
+///
+/// `Lines(k)` exactly where k is the lowest region that doesn't keep its tile lines, or `Memory` where memory runs out.
+pub fn fit_lines(
+    alloc: Global,
+    corners: &[Rect],
+    parts: &[Numbers],
+) -> Result<(Bounds, Bounds), LineError>
+    requires count { (1 ≤ length corners.now) × (length corners.now ≤ 64) }
+    requires sources { AllZip IsSource corners.now parts.now }
+    requires fitted { IsFitted corners.now }
+    ensures lines { IfOk result (λ bounds. HaveLines bounds.0 bounds.1 corners.now parts.now) }
+    ensures fault { IfErr result (λ e. IfLines e (IsLinesFault corners.now parts.now)) }
+{
+    let columns = vertical_lines(alloc, corners, parts)?;
+    let rows = horizontal_lines(alloc, corners, parts)?;
+    if let Some(k) = lowest_broken(&columns, &rows, corners, parts) {
+        return Err(LineError::Lines(k));
+    }
+    Ok((columns, rows))
+}
+
+/// The vertical lines of a frame.
+fn vertical_lines(alloc: Global, corners: &[Rect], parts: &[Numbers]) -> Result<Bounds, AllocError>
+    requires { AreFramed corners.now parts.now }
+    ensures { IfOk result (λ bounds. AreBounds (IsVertical corners.now parts.now) bounds) }
+{
+    let mut bounds = Bounds::new(alloc);
+    for n in 0..right_end(corners) + 1 {
+        push_where(&mut bounds, is_vertical(corners, parts, n), n)?;
+    }
+    Ok(bounds)
+}
+
+/// The horizontal lines of a frame.
+fn horizontal_lines(
+    alloc: Global,
+    corners: &[Rect],
+    parts: &[Numbers],
+) -> Result<Bounds, AllocError>
+    requires { AreFramed corners.now parts.now }
+    ensures { IfOk result (λ bounds. AreBounds (IsHorizontal corners.now parts.now) bounds) }
+{
+    let mut bounds = Bounds::new(alloc);
+    for n in 0..bottom_end(corners) + 1 {
+        push_where(&mut bounds, is_horizontal(corners, parts, n), n)?;
+    }
+    Ok(bounds)
+}
+
+/// A column that no region passes.
+fn right_end(corners: &[Rect]) -> u32
+    requires { All (λ s. s.x + s.w ≤ greatest_size) corners.now }
+    ensures reach { All (λ s. s.x + s.w ≤ result) corners.now }
+    ensures limit { result ≤ greatest_size }
+{
+    let mut end = 0;
+    for region in corners {
+        end = (region.x + region.w).max(end);
+    }
+    end
+}
+
+/// A row that no region passes.
+fn bottom_end(corners: &[Rect]) -> u32
+    requires { All (λ s. s.y + s.h ≤ greatest_size) corners.now }
+    ensures reach { All (λ s. s.y + s.h ≤ result) corners.now }
+    ensures limit { result ≤ greatest_size }
+{
+    let mut end = 0;
+    for region in corners {
+        end = (region.y + region.h).max(end);
+    }
+    end
+}
+
+/// Appends a number where it is a line.
+fn push_where(bounds: &mut Bounds, is_line: bool, n: u32) -> Result<(), AllocError>
+    requires { is_line ≡ true → Rises (bounds.old ++ n ∷ []) }
+    ensures { OnOk result (bounds.new ≡ bounds.old ++ cond is_line (n ∷ []) []) }
+{
+    if !is_line {
+        return Ok(());
+    }
+    bounds.push(n)
+}
+
+/// Whether a number is a vertical line.
+fn is_vertical(corners: &[Rect], parts: &[Numbers], n: u32) -> bool
+    requires { length corners.now ≡ length parts.now }
+    ensures line { OnTrue result (IsVertical corners.now parts.now n) }
+    ensures none { OnFalse result (¬ IsVertical corners.now parts.now n) }
+{
+    for k in 0..corners.len() {
+        if has_column(corners[k], &parts[k], n) {
+            return true;
+        }
+    }
+    false
+}
+
+/// Whether a number is a horizontal line.
+fn is_horizontal(corners: &[Rect], parts: &[Numbers], n: u32) -> bool
+    requires { length corners.now ≡ length parts.now }
+    ensures line { OnTrue result (IsHorizontal corners.now parts.now n) }
+    ensures none { OnFalse result (¬ IsHorizontal corners.now parts.now n) }
+{
+    is_full(corners, parts, n) && !is_dropped(corners, parts, n)
+}
+
+/// Whether a horizontal line is left out.
+fn is_dropped(corners: &[Rect], parts: &[Numbers], n: u32) -> bool
+    requires { length corners.now ≡ length parts.now }
+    ensures dropped { OnTrue result (IsDropped corners.now parts.now n) }
+    ensures kept { OnFalse result (¬ IsDropped corners.now parts.now n) }
+{
+    if !crosses_some(corners, parts, n) {
+        return false;
+    }
+    all_let_drop(corners, parts, n) && is_full(corners, parts, n)
+}
+
+/// Whether a number is a full horizontal line.
+fn is_full(corners: &[Rect], parts: &[Numbers], n: u32) -> bool
+    requires { length corners.now ≡ length parts.now }
+    ensures line { OnTrue result (IsFull corners.now parts.now n) }
+    ensures none { OnFalse result (¬ IsFull corners.now parts.now n) }
+{
+    for k in 0..corners.len() {
+        if has_row(corners[k], &parts[k], n) {
+            return true;
+        }
+    }
+    false
+}
+
+/// Whether a horizontal line passes through a region that it is no inner line of.
+fn crosses_some(corners: &[Rect], parts: &[Numbers], n: u32) -> bool
+    requires { length corners.now ≡ length parts.now }
+    ensures some { OnTrue result (OfSome corners.now parts.now (λ s p. Crosses s p n)) }
+    ensures none { OnFalse result (¬ OfSome corners.now parts.now (λ s p. Crosses s p n)) }
+{
+    for k in 0..corners.len() {
+        if crosses(corners[k], &parts[k], n) {
+            return true;
+        }
+    }
+    false
+}
+
+/// Whether each region lets a horizontal line be left out.
+fn all_let_drop(corners: &[Rect], parts: &[Numbers], n: u32) -> bool
+    requires { length corners.now ≡ length parts.now }
+    ensures all { OnTrue result (OfEach corners.now parts.now (λ s p. LetsDrop s p n)) }
+    ensures not_all { OnFalse result (¬ OfEach corners.now parts.now (λ s p. LetsDrop s p n)) }
+{
+    for k in 0..corners.len() {
+        if !lets_drop(corners[k], &parts[k], n) {
+            return false;
+        }
+    }
+    true
+}
+
+/// Whether a horizontal line passes through a region and is no inner line of it.
+fn crosses(region: Rect, part: &Numbers, n: u32) -> bool
+    ensures crosses { OnTrue result (Crosses region part.now n) }
+    ensures fine { OnFalse result (¬ Crosses region part.now n) }
+{
+    passes_inside(region.y, region.h, n) && !has_row(region, part, n)
+}
+
+/// Whether a region lets a horizontal line be left out: it is no inner line of it, and where it bounds it, there is one tile.
+fn lets_drop(region: Rect, part: &Numbers, n: u32) -> bool
+    ensures lets { OnTrue result (LetsDrop region part.now n) }
+    ensures holds { OnFalse result (¬ LetsDrop region part.now n) }
+{
+    if passes_inside(region.y, region.h, n) {
+        return !has_row(region, part, n);
+    }
+    !is_border(region, n) || has_one_tile(part)
+}
+
+/// Whether a number is a column bound of the picture in a region.
+fn has_column(region: Rect, part: &Numbers, n: u32) -> bool
+    ensures bound { OnTrue result (HasBound region.x part.now.columns n) }
+    ensures none { OnFalse result (¬ HasBound region.x part.now.columns n) }
+{
+    has_bound(region.x, &part.columns, n)
+}
+
+/// Whether a number is a row bound of the picture in a region.
+fn has_row(region: Rect, part: &Numbers, n: u32) -> bool
+    ensures bound { OnTrue result (HasBound region.y part.now.rows n) }
+    ensures none { OnFalse result (¬ HasBound region.y part.now.rows n) }
+{
+    has_bound(region.y, &part.rows, n)
+}
+
+/// Whether a number is a bound of a picture that stands at `from`.
+fn has_bound(from: u32, own: &Bounds, n: u32) -> bool
+    ensures bound { OnTrue result (HasBound from own.now n) }
+    ensures none { OnFalse result (¬ HasBound from own.now n) }
+{
+    from <= n && own.has(n - from)
+}
+
+/// Whether a number stands strictly between the borders of what begins at `from`.
+fn passes_inside(from: u32, size: u32, n: u32) -> bool
+    ensures inside { OnTrue result (PassesInside from size n) }
+    ensures outside { OnFalse result (¬ PassesInside from size n) }
+{
+    from < n && n - from < size
+}
+
+/// Whether a number is the upper or the lower border of a region.
+fn is_border(region: Rect, n: u32) -> bool
+    ensures border { OnTrue result (IsBorder region n) }
+    ensures other { OnFalse result (¬ IsBorder region n) }
+{
+    region.y == n || region.y <= n && n - region.y == region.h
+}
+
+/// Whether a picture has one tile.
+fn has_one_tile(part: &Numbers) -> bool
+    ensures one { OnTrue result (HasOneTile part.now) }
+    ensures several { OnFalse result (¬ HasOneTile part.now) }
+{
+    part.columns.len() == 2 && part.rows.len() == 2
+}
+
+/// The lowest region that doesn't keep its lines.
+fn lowest_broken(
+    columns: &Bounds,
+    rows: &Bounds,
+    corners: &[Rect],
+    parts: &[Numbers],
+) -> Option<u16>
+    requires count { length corners.now ≤ 64 }
+    requires framed { AreFramed corners.now parts.now }
+    requires vertical { AreBounds (IsVertical corners.now parts.now) columns.now }
+    requires horizontal { AreBounds (IsHorizontal corners.now parts.now) rows.now }
+    ensures { IsLinesAnswer corners.now parts.now result }
+{
+    for k in 0..corners.len() {
+        if !keeps_lines(columns, rows, corners, parts, k) {
+            return Some(k as u16);
+        }
+    }
+    None
+}
+
+/// Whether a region keeps its lines.
+fn keeps_lines(
+    columns: &Bounds,
+    rows: &Bounds,
+    corners: &[Rect],
+    parts: &[Numbers],
+    k: usize,
+) -> bool
+    requires place { k < length corners.now }
+    requires framed { AreFramed corners.now parts.now }
+    requires vertical { AreBounds (IsVertical corners.now parts.now) columns.now }
+    requires horizontal { AreBounds (IsHorizontal corners.now parts.now) rows.now }
+    ensures keeps { OnTrue result (KeepsLines corners.now parts.now k) }
+    ensures breaks { OnFalse result (¬ KeepsLines corners.now parts.now k) }
+{
+    let region = corners[k];
+    if !are_own(columns, region.x, region.w, &parts[k].columns) {
+        return false;
+    }
+    are_own(rows, region.y, region.h, &parts[k].rows) && follows(corners, parts, k)
+}
+
+/// Whether the bounds strictly inside a picture that stands at `from` are its own.
+fn are_own(bounds: &Bounds, from: u32, size: u32, own: &Bounds) -> bool
+    requires { from + size ≤ greatest_size }
+    ensures own { OnTrue result (AreOwn bounds.now from size own.now) }
+    ensures other { OnFalse result (¬ AreOwn bounds.now from size own.now) }
+{
+    for c in 1..size {
+        if bounds.has(from + c) != own.has(c) {
+            return false;
+        }
+    }
+    true
+}
+
+/// Whether a region follows the one above it where the line between the two is left out.
+fn follows(corners: &[Rect], parts: &[Numbers], k: usize) -> bool
+    requires place { k < length corners.now }
+    requires same { length corners.now ≡ length parts.now }
+    ensures follows { OnTrue result (Follows corners.now parts.now k) }
+    ensures alone { OnFalse result (¬ Follows corners.now parts.now k) }
+{
+    if !is_dropped(corners, parts, corners[k].y) {
+        return true;
+    }
+    0 < k && stands_on(corners[k - 1], corners[k])
+}
+
+/// Whether a region stands right upon another, with the same columns.
+fn stands_on(upper: Rect, lower: Rect) -> bool
+    ensures on { OnTrue result (StandsOn upper lower) }
+    ensures off { OnFalse result (¬ StandsOn upper lower) }
+{
+    let is_below = upper.y <= lower.y && lower.y - upper.y == upper.h;
+    upper.x == lower.x && upper.w == lower.w && is_below
+}

@@ -1,0 +1,154 @@
+//! Whether regions fit together into one frame.
+ghost use Rattle.std.specs.Prelude.{◌≡◌, ℕ, ◌+◌, ◌*◌, ◌<◌, ◌≤◌, All, IfOk, IfErr, OnOk, length};
+ghost use Rattle.std.specs.Bool.{OnTrue, OnFalse};
+ghost use Rattle.vx_fit.specs.FitFaults.{ComesTooEarly, IsFitFault, IsOffGrid, OverlapsLower};
+ghost use Rattle.vx_fit.specs.Placing.{FitTogether, IsInRange, frame_height, frame_width, greatest_size};
+ghost use Rattle.vx_fit.specs.inner.Searches.{IsLowestAnswer, areas};
+
+use crate::placed::{FitFault, GREATEST_SIZE, Placed};
+
+/// The width and height of the frame that regions make up, in luma samples, for CTUs of `ctb` times `ctb` samples.
+///
+/// Takes no memory, and time with the square of the number of regions.
+///
+/// # Errors
+///
+/// The first of the faults that the regions have, in the order of [`FitFault`], exactly where there is one.
+pub fn fit_regions(placed: &[Placed], ctb: u32) -> Result<(u32, u32), FitFault>
+    requires count { (1 ≤ length placed.now) × (length placed.now ≤ 64) }
+    requires numbers { All IsInRange placed.now }
+    requires ctb { 1 ≤ ctb }
+    ensures size { IfOk result (λ size. (size.0 ≡ frame_width placed.now) × (size.1 ≡ frame_height placed.now)) }
+    ensures fit { OnOk result (FitTogether placed.now ctb) }
+    ensures fault { IfErr result (λ e. IsFitFault placed.now ctb e) }
+{
+    let (width, height) = (frame_width(placed), frame_height(placed));
+    if GREATEST_SIZE < width || GREATEST_SIZE < height {
+        return Err(FitFault::TooLarge);
+    }
+    if let Some(k) = lowest_off_grid(placed, ctb) {
+        return Err(FitFault::Geometry(k));
+    }
+    if let Some(k) = lowest_overlap(placed) {
+        return Err(FitFault::Geometry(k));
+    }
+    if areas(placed) != u64::from(width) * u64::from(height) {
+        return Err(FitFault::Geometry(0));
+    }
+    if let Some(k) = lowest_early(placed, ctb) {
+        return Err(FitFault::Order(k));
+    }
+    Ok((width, height))
+}
+
+/// How far right a region reaches at most.
+fn frame_width(placed: &[Placed]) -> u32
+    requires { All IsInRange placed.now }
+    ensures width { result ≡ frame_width placed.now }
+    ensures limit { result ≤ 2 * greatest_size }
+{
+    let mut width = 0;
+    for region in placed {
+        width = region.right().max(width);
+    }
+    width
+}
+
+/// How far down a region reaches at most.
+fn frame_height(placed: &[Placed]) -> u32
+    requires { All IsInRange placed.now }
+    ensures height { result ≡ frame_height placed.now }
+    ensures limit { result ≤ 2 * greatest_size }
+{
+    let mut height = 0;
+    for region in placed {
+        height = region.bottom().max(height);
+    }
+    height
+}
+
+/// The lowest region whose corner is off the grid of CTUs.
+fn lowest_off_grid(placed: &[Placed], ctb: u32) -> Option<u16>
+    requires count { length placed.now ≤ 64 }
+    requires ctb { 1 ≤ ctb }
+    ensures { IsLowestAnswer (length placed.now) (IsOffGrid placed.now ctb) result }
+{
+    for (k, region) in placed.iter().enumerate() {
+        if !region.is_on_grid(ctb) {
+            return Some(k as u16);
+        }
+    }
+    None
+}
+
+/// The lowest region that overlaps one before it.
+fn lowest_overlap(placed: &[Placed]) -> Option<u16>
+    requires count { length placed.now ≤ 64 }
+    requires numbers { All IsInRange placed.now }
+    ensures { IsLowestAnswer (length placed.now) (OverlapsLower placed.now) result }
+{
+    for k in 0..placed.len() {
+        if overlaps_lower(placed, k) {
+            return Some(k as u16);
+        }
+    }
+    None
+}
+
+/// Whether a region overlaps one before it.
+fn overlaps_lower(placed: &[Placed], k: usize) -> bool
+    requires place { k < length placed.now }
+    requires numbers { All IsInRange placed.now }
+    ensures some { OnTrue result (OverlapsLower placed.now k) }
+    ensures none { OnFalse result (¬ OverlapsLower placed.now k) }
+{
+    for j in 0..k {
+        if placed[j].overlaps(&placed[k]) {
+            return true;
+        }
+    }
+    false
+}
+
+/// The sum of the regions' areas.
+fn areas(placed: &[Placed]) -> u64
+    requires count { length placed.now ≤ 64 }
+    requires numbers { All IsInRange placed.now }
+    ensures { result ≡ areas placed.now }
+{
+    let mut sum = 0;
+    for region in placed {
+        sum += region.area();
+    }
+    sum
+}
+
+/// The lowest region that comes too early.
+fn lowest_early(placed: &[Placed], ctb: u32) -> Option<u16>
+    requires count { length placed.now ≤ 64 }
+    requires ctb { 1 ≤ ctb }
+    ensures { IsLowestAnswer (length placed.now) (ComesTooEarly placed.now ctb) result }
+{
+    for k in 0..placed.len() {
+        if comes_too_early(placed, ctb, k) {
+            return Some(k as u16);
+        }
+    }
+    None
+}
+
+/// Whether a CTU of a region has its left or upper neighbour in a later one.
+fn comes_too_early(placed: &[Placed], ctb: u32, k: usize) -> bool
+    requires place { k < length placed.now }
+    requires ctb { 1 ≤ ctb }
+    ensures early { OnTrue result (ComesTooEarly placed.now ctb k) }
+    ensures fine { OnFalse result (¬ ComesTooEarly placed.now ctb k) }
+{
+    let region = placed[k].in_ctus(ctb);
+    for j in k + 1..placed.len() {
+        if !region.precedes(&placed[j].in_ctus(ctb)) {
+            return true;
+        }
+    }
+    false
+}
