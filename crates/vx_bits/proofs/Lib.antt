@@ -2,5 +2,6 @@
 pub mod Alignment
 pub mod Appending
 pub mod Bits
+pub mod EightBytes
 pub mod Golomb
 pub mod Windows

@@ -1,5 +1,6 @@
 //! A window of bits over bytes, filled by whole bytes.
-ghost use Rattle.std.specs.Prelude.{◌≡◌, ◌^◌, ◌≤◌, length};
+ghost use Rattle.std.specs.Prelude.{◌≡◌, ◌+◌, ◌*◌, ◌^◌, ◌<◌, ◌≤◌, length, take, drop};
+ghost use Rattle.vx_bits.specs.Codes.{number, bits_of};
 ghost use Rattle.vx_bits.specs.inner.Window.{bits_ahead, IsWindow};
 
 /// The next `held` bits as a number, and the index of the first byte behind them.
@@ -12,6 +13,44 @@ pub(crate) struct Window {
 
 /// The window with further bytes, where it holds fewer than `count` bits.
 pub(crate) fn filled(bytes: &[u8], window: Window, count: u32) -> Window
+    requires count { count ≤ 32 }
+    requires length { length bytes.now ≤ 2 ^ 23 }
+    requires sound { IsWindow bytes.now window }
+    requires within { count ≤ length (bits_ahead bytes.now window) }
+    ensures same { bits_ahead bytes.now result ≡ bits_ahead bytes.now window }
+    ensures sound { IsWindow bytes.now result }
+    ensures enough { count ≤ result.held }
+{
+    if count <= window.held {
+        return window;
+    }
+    match bytes[window.next as usize..].first_chunk::<8>() {
+        Some(eight) => with_some_of(bytes, window, u64::from_be_bytes(*eight)),
+        None => with_bytes(bytes, window, count),
+    }
+}
+
+/// The window with as many of the next eight bytes as it has room for.
+fn with_some_of(bytes: &[u8], window: Window, eight: u64) -> Window
+    requires sound { IsWindow bytes.now window }
+    requires room { window.held < 32 }
+    requires within { window.next + 8 ≤ length bytes.now }
+    requires length { length bytes.now ≤ 2 ^ 23 }
+    requires eight { eight ≡ number (bits_of (take 8 (drop window.next bytes.now))) }
+    ensures same { bits_ahead bytes.now result ≡ bits_ahead bytes.now window }
+    ensures sound { IsWindow bytes.now result }
+    ensures enough { 32 ≤ result.held }
+{
+    let count = (63 - window.held) / 8;
+    Window {
+        word: (window.word << (8 * count)) + (eight >> (64 - 8 * count)),
+        held: window.held + 8 * count,
+        next: window.next + count,
+    }
+}
+
+/// The window with as many further bytes as it takes to hold `count` bits.
+fn with_bytes(bytes: &[u8], window: Window, count: u32) -> Window
     requires count { count ≤ 32 }
     requires length { length bytes.now ≤ 2 ^ 23 }
     requires sound { IsWindow bytes.now window }

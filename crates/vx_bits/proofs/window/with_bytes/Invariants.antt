@@ -1,6 +1,6 @@
 use Rattle.std.proofs.Common.{◌+◌, ◌-◌, ◌*◌, ◌≡◌, ◌≤◌, ◌<◌, ◌^◌, ◌++◌, length, drop}
 use Rattle.vx_bits.specs.Codes.{fixed, bits_of}
-use Rattle.vx_bits.proofs.window.filled.Given as goal
+use Rattle.vx_bits.proofs.window.with_bytes.Given as goal
 
 abbrev pub invariant-loop-held : goal.invariant-loop-held
 invariant-loop-held l =
