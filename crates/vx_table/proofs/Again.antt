@@ -98,7 +98,7 @@ answer_again {f} {old} {new} {items} {after} {result} alike all others reads = r
   is = answers alike all others old new items after result reads.is;
   only = λ w rest on. subst (λ x. IsAnswered result ((new.left ≡ rest) × (after ≡ items ++ x))) (same_items alike all others w) (reads.only w rest (spell (alike_back alike) others all on));
   refusal = λ w cell rest r on out. subst (λ x. IsRefusedWith result r ((new.left ≡ rest) × (after ≡ items ++ x))) (same_items alike all others w)
-  (reads.refusal w cell rest r (reach (alike_back alike) others all on) out);
+      (reads.refusal w cell rest r (reach (alike_back alike) others all on) out);
 }
 
 pub answers_again : AnswersAgain

@@ -17,3 +17,4 @@ pub mod Values
 pub mod Writing
 pub mod Kept
 pub mod Shown
+pub mod Rewritten
