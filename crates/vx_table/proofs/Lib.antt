@@ -9,6 +9,7 @@ mod Testing
 pub mod Dependence
 pub mod Chains
 pub mod Again
+pub mod Rewriting
 pub mod Agreeing
 pub mod Closing
 pub mod Codings

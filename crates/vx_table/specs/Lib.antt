@@ -19,3 +19,4 @@ pub mod Values
 pub mod Writing
 pub mod Kept
 pub mod Shown
+pub mod Rewritten

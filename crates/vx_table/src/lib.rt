@@ -15,12 +15,14 @@ mod kept;
 mod laws_again;
 mod laws_depends;
 mod laws_numbers;
+mod laws_rewritten;
 mod laws_rows;
 mod laws_spelling;
 mod macros;
 mod parts;
 mod ranges;
 mod reader;
+mod rewriter;
 mod rows;
 mod scope;
 mod stars;
@@ -40,6 +42,7 @@ pub use laws_depends::{
     kept_tells_kept, scopes_follow_items, steps_carry, tables_carry,
 };
 pub use laws_numbers::ceil_log2_is_least;
+pub use laws_rewritten::{makes_rewritten, rewrites_one_way};
 pub use laws_rows::first_row_first;
 pub use laws_spelling::{
     every_answer, items_in_range, no_proper_prefix, one_answer, one_behind_another, one_reading,
@@ -48,6 +51,7 @@ pub use laws_spelling::{
 pub use parts::{Part, code_parts, read_parts, write_parts};
 pub use ranges::{fault_of, has_code, is_value};
 pub use reader::{read_table, read_value, report, take_code};
+pub use rewriter::{Rewriter, rewrite_parts, rewrite_table, set_of};
 pub use rows::{Cell, Coding, Fault, Formula, Limits, Presence, Row, Term};
 pub use scope::Scope;
 pub use stars::{keeps_only, parts_keep_only};

@@ -95,7 +95,7 @@ impl<'a> Coder<Fields> for BitReader<'a> {
 
 /// Appends the item of a field's value; a gap has none.
 #[tactic(auto, unfolding(crate::specs::Spelling::item_of))]
-fn push(items: &mut Fields, cell: Cell<u32>, value: i64) -> Result<(), ReadError>
+pub(crate) fn push(items: &mut Fields, cell: Cell<u32>, value: i64) -> Result<(), ReadError>
     ensures ok { OnOk result (items.new ≡ items.old ++ spelling.item_of cell value) }
     ensures err { OnErr result (items.new ≡ items.old) }
     ensures memory { IfErr result (λ e. e ≡ ReadError.Memory) }

@@ -1,0 +1,125 @@
+//! Rewriting: from the items of some fields, and those of the others, the items of one value of a structure.
+
+ghost use Rattle.std.specs.Prelude.{◌≡◌, ◌↔◌, [], IsTrue};
+ghost use Rattle.vx_table.specs.Depends as sets;
+ghost use Rattle.vx_table.specs.Parts.{parts_form};
+ghost use Rattle.vx_table.specs.Forms.{form_of};
+ghost use Rattle.vx_table.specs.Spelling as spelling;
+ghost use Rattle.vx_table.specs.Spelling.{IsCodable};
+ghost use Rattle.vx_table.specs.Rewritten.{Sources, TakesNext, RewritesInto};
+
+use crate::depends::{has, with_all};
+use crate::parts::{Part, code_parts};
+use crate::reader::push;
+use crate::rows::{Cell, Row};
+use crate::scope::Scope;
+use crate::walk::{Coder, code_table};
+use crate::writer::{SpellError, Unwritten, take_value};
+use std::marker::Model;
+use vx_bits::Fields;
+
+/// A set of fields and names: a scope in which they have a number.
+pub fn set_of(numbers: &[u16]) -> Scope
+    ensures { result ≡ sets.set_of numbers.now }
+{
+    with_all(Scope::new(), numbers)
+}
+
+/// What a structure is rewritten from: the fields that are taken over, their items, and those of all other fields.
+#[derive(Drop)]
+pub struct Rewriter<'a> {
+    names: Scope,
+    shown: Unwritten<'a>,
+    others: Unwritten<'a>,
+}
+
+impl<'a> Model for Rewriter<'a> {
+    ghost Value = { Sources };
+
+    ghost view = { λ r. record { names = r.names; shown = r.shown; others = r.others } };
+}
+
+impl<'a> Rewriter<'a> {
+    /// From the items of the fields in a set, and those of the others, the next one of each first.
+    pub fn new(names: Scope, shown: Unwritten<'a>, others: Unwritten<'a>) -> Rewriter<'a>
+        ensures { result ≡ record { names = names; shown = shown.entry; others = others.entry } }
+    {
+        Rewriter {
+            names,
+            shown,
+            others,
+        }
+    }
+
+    /// Whether all items were taken.
+    pub fn is_empty(&self) -> bool
+        ensures { IsTrue result ↔ ((self.now.shown ≡ []) × (self.now.others ≡ [])) }
+    {
+        self.shown.is_empty() && self.others.is_empty()
+    }
+
+    /// Takes the item of the next field's value; a gap has the value 0 and no item.
+    fn take(&mut self, cell: Cell<u32>) -> Option<i64>
+        requires { IsCodable cell.coding }
+        ensures { TakesNext cell self.old result self.new }
+    {
+        if has(&self.names, cell.field) {
+            take_value(&mut self.shown, cell)
+        } else {
+            take_value(&mut self.others, cell)
+        }
+    }
+}
+
+impl<'a> Coder<Fields> for Rewriter<'a> {
+    ghost use Rattle.vx_table.specs.Rewritten.{RewritesField};
+
+    type Fault = SpellError;
+
+    ghost step = { RewritesField };
+
+    fn code(&mut self, items: &mut Fields, cell: Cell<u32>) -> Result<i64, SpellError> {
+        let Some(value) = self.take(cell) else {
+            return Err(SpellError::NoValue);
+        };
+        match push(items, cell, value) {
+            Ok(()) => Ok(value),
+            Err(_) => Err(SpellError::Memory),
+        }
+    }
+}
+
+/// Takes the items of a value of a table at a scope, each among those of its kind, appends them to `into` in the order
+/// of the table, and gives the scope the numbers taken.
+///
+/// # Errors
+///
+/// `NoValue` where the items don't begin with those of a value of the table; want of memory. `into` has then gained the
+/// items of the fields before one; nothing is said of `scope` and `rewriter`.
+pub fn rewrite_table(
+    table: &[Row],
+    scope: &mut Scope,
+    rewriter: &mut Rewriter<'_>,
+    into: &mut Fields,
+) -> Result<(), SpellError>
+    ensures { RewritesInto (form_of table.now scope.old) rewriter.old into.old result rewriter.new into.new }
+{
+    code_table(table, scope, rewriter, into)
+}
+
+/// Takes the items of a value of a structure's parts, as [`rewrite_table`] takes those of a table.
+///
+/// # Errors
+///
+/// `NoValue` where the items don't begin with those of a value of the structure; want of memory. `into` has then gained
+/// the items of the fields before one; nothing is said of `scope` and `rewriter`.
+pub fn rewrite_parts(
+    parts: &[Part<'_>],
+    scope: &mut Scope,
+    rewriter: &mut Rewriter<'_>,
+    into: &mut Fields,
+) -> Result<(), SpellError>
+    ensures { RewritesInto (parts_form parts.now scope.old) rewriter.old into.old result rewriter.new into.new }
+{
+    code_parts(parts, scope, rewriter, into)
+}
