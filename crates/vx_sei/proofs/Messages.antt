@@ -1,7 +1,7 @@
 -- Messages in front of bytes: no message begins another, and bytes are taken apart in one way.
-use Rattle.std.proofs.Common.{◌≡◌, ⊎_elim, inl, inr, true, false, take, slice_index_or, ℕ, zero, suc, ◌+◌, ◌*◌, ◌/◌, ◌%◌, ◌<◌, ◌≤◌, List, [], ◌∷◌, ◌++◌, length, replicate, sym, ap, ◌∙◌, arith, refl, append_assoc, length-append}
+use Rattle.std.proofs.Common.{◌≡◌, ⊎_elim, inl, inr, true, false, ℕ, zero, suc, ◌*◌, ◌/◌, ◌%◌, ◌<◌, ◌≤◌, List, [], ◌∷◌, ◌++◌, length, replicate, sym, ap, ◌∙◌, arith, refl, append_assoc, length-append}
 use Rattle.std.proofs.Math.Nat.{div-add-mod}
-use Rattle.std.proofs.lemmas.List.{append-nil, take_more}
+use Rattle.std.proofs.lemmas.List.{append-nil}
 use Rattle.std.proofs.lemmas.Bool.{cases_Bool}
 use Rattle.std.proofs.lemmas.Grind.{flat_map-append}
 use Rattle.std.proofs.lemmas.List.Elements.{filter-append, All-head, All-tail}
@@ -127,12 +127,6 @@ not_ended rbsp rest gathered ns t none unended s =
 
 pub all_taken : (rbsp rest : List ℕ) (gathered : List Message) → HasTaken rbsp rest gathered → (length rest < length rbsp) × (rest ≡ 128 ∷ []) → (messages : List Message) × IsSei rbsp messages × (gathered ≡ carried messages)
 all_taken rbsp rest gathered t ended = (t.messages, record { some = some_taken rbsp rest t.messages t.bytes ended.0; bytes = t.bytes ∙ ap (λ l. sei_messages t.messages ++ l) ended.1 }, t.carries)
-
--- messages written, one more
-pub write_turn : (ms : List Message) (i : ℕ) (m : Message) (old new : List ℕ) → i < length ms → m ≡ slice_index_or ms i m → old ≡ sei_messages (take i ms) → new ≡ old ++ sei_message m → new ≡ sei_messages (take (i + 1) ms)
-write_turn ms i m old new lt is o n =
-    n ∙ ap (λ l. l ++ sei_message m) o
-    ∙ sym (ap sei_messages (take_more ms i m lt ∙ ap (λ (k : Message). take i ms ++ k ∷ []) (sym is)) ∙ flat_map-append sei_message (take i ms) (m ∷ []) ∙ ap (λ l. sei_messages (take i ms) ++ l) (flat_map-cons sei_message m [] ∙ append-nil (sei_message m)))
 
 -- the carried messages are no longer than all
 pub carried_size : (ms : List Message) → length (sei_messages (carried ms)) ≤ length (sei_messages ms)

@@ -11,8 +11,8 @@ pub fn write_sei(alloc: Global, messages: &MessageList) -> Result<Vec<u8>, Alloc
     ensures { IfOk result (λ rbsp. IsSei rbsp.items messages.now) }
 {
     let mut rbsp = Vec::new(alloc);
-    for i in 0..messages.len() {
-        append_message(&mut rbsp, messages.item(i))?;
+    for message in messages.as_slice() {
+        append_message(&mut rbsp, message)?;
     }
     rbsp.push(TRAILING)?;
     Ok(rbsp)

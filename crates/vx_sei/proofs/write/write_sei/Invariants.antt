@@ -2,5 +2,5 @@ use Rattle.std.proofs.Common.{◌≡◌, take}
 use Rattle.vx_sei.specs.Sei.{sei_messages}
 use Rattle.vx_sei.proofs.write.write_sei.Given as goal
 
-abbrev pub invariant-loop-i : goal.invariant-loop-i
-invariant-loop-i l = l.rbsp.items ≡ sei_messages (take l.i l.messages)
+abbrev pub invariant-loop-message : goal.invariant-loop-message
+invariant-loop-message l = l.rbsp.items ≡ sei_messages (take l.message-index l.messages)
