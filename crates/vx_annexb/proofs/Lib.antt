@@ -3,6 +3,8 @@ pub mod Options
 pub mod Places
 pub mod Zeros
 pub mod Steps
+pub mod Endless
+pub mod Doomed
 pub mod EmulationBytes
 pub mod Fault
 pub mod EscapedBytes
@@ -13,3 +15,4 @@ pub mod AnnexB
 pub mod Written
 pub mod Inverse
 pub mod Stray
+pub mod Taking

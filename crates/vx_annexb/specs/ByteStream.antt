@@ -46,6 +46,10 @@ pub record IsStray (b : List ℕ) (p q : ℕ) : Type 0 where
   pub nonzero : slice_index b q ≢ 0
   pub no_code : slice_index b q ≡ 1 → q < p + 2
 
+-- the most bytes that a source may have
+unfoldable pub source_limit : ℕ
+source_limit = 2 ^ 40
+
 -- the most bytes that a unit may have
 abbrev pub unit_limit : ℕ
 unit_limit = 2 ^ 23

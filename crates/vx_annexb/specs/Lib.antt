@@ -4,4 +4,6 @@ pub mod NalUnit
 pub mod Emulation
 pub mod ByteStream
 pub mod Held
+pub mod Reading
 pub mod Laws
+pub mod inner

@@ -10,6 +10,7 @@ mod span;
 mod splitter;
 #[cfg(test)]
 mod tests;
+mod unit_reader;
 mod write;
 
 pub use emulation::{emulation_fault, escape, unescape, unit_place};
@@ -21,4 +22,5 @@ pub use laws::{
 };
 pub use span::Span;
 pub use splitter::Splitter;
+pub use unit_reader::{Closed, ReadFault, UnitReader};
 pub use write::write_unit;

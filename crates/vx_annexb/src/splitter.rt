@@ -1,18 +1,19 @@
 //! A byte stream that is taken in pieces, and its NAL units, given one at a time.
-ghost use Rattle.std.specs.Prelude.{◌≡◌, ◌*◌, ◌≤◌, length, drop, vec_capacity};
+ghost use Rattle.std.specs.Prelude.{◌≡◌, ◌≤◌, length, drop, vec_capacity};
 
 use crate::Span;
-use crate::emulation::EMULATION;
-use crate::rules::refusal_of;
+use crate::emulation::{EMULATION, emulation_fault};
+use crate::rules::{UNIT_LIMIT, refusal_of};
 use crate::search::{find_mark, pass_to_mark, skip_zeros, trim_zeros};
 use std::alloc::{AllocError, Global};
 use std::marker::Model;
 use vx_bits::Refusal;
-use vx_bits::rules::NOT_A_START_CODE;
+use vx_bits::rules::{BAD_EMULATION, NOT_A_START_CODE};
 
 /// Finds the NAL units of a byte stream that comes in pieces.
 ///
-/// It keeps the bytes from the unit that has begun on; at a feed it gives up what lies before, once that is half of all.
+/// It holds the bytes from the unit that has begun on, and gives up what lies before when it makes room for more. Of a
+/// unit of more than 2^23 bytes it holds only the last five, and what the unit would be refused for so far.
 #[derive(Drop)]
 pub struct Splitter {
     // The bytes kept, and the place of the first of them.
@@ -24,24 +25,30 @@ pub struct Splitter {
     start: Option<u64>,
     // The place up to which the next unit has been sought.
     sought: u64,
-    // The place up to which no 00 00 and a byte of at most 03 begins in the unit that has begun.
+    // The place up to which no 00 00 and a byte of at most 03 begins in the unit that has begun, while it is kept whole.
     clear: u64,
+    // What the unit that has begun would be refused for, once it is too long and no longer kept whole.
+    doomed: Option<Refusal>,
     all: bool,
     refused: Option<Refusal>,
 }
 
 impl Model for Splitter {
-    ghost use Rattle.vx_annexb.specs.Held.{Held, IsInOrder};
+    ghost use Rattle.std.specs.Prelude.{◌-◌, vec_capacity, vec_len};
+    ghost use Rattle.vx_annexb.specs.Held.{Held};
+    ghost use Rattle.vx_annexb.specs.inner.Order.{IsInOrder};
 
     ghost Value = { Held };
 
     ghost view = { λ a. record {
       kept = a.kept.items;
       base = a.base;
+      room = vec_capacity a.kept - vec_len a.kept;
       from = a.from;
       start = a.start;
       sought = a.sought;
       clear = a.clear;
+      doomed = a.doomed;
       all = a.all;
       refused = a.refused;
     } };
@@ -49,39 +56,51 @@ impl Model for Splitter {
     ghost invariant = { λ a. IsInOrder (record {
       kept = a.kept.items;
       base = a.base;
+      room = vec_capacity a.kept - vec_len a.kept;
       from = a.from;
       start = a.start;
       sought = a.sought;
       clear = a.clear;
+      doomed = a.doomed;
       all = a.all;
       refused = a.refused;
     }) };
 }
 
-/// Drops the first n bytes, which are at least half of them.
+/// From where on bytes are kept as room is made, and what is then known of the unit that has begun.
+#[derive(Clone, Copy)]
+struct Cut {
+    base: u64,
+    doomed: Option<Refusal>,
+}
+
+/// Drops the first n bytes.
 fn drop_front(bytes: &mut Vec<u8>, n: usize)
-    requires within { n ≤ length bytes.old.items }
-    requires half { length bytes.old.items ≤ 2 * n }
+    requires { n ≤ length bytes.old.items }
     ensures items { bytes.new.items ≡ drop n bytes.old.items }
     ensures capacity { vec_capacity bytes.new ≡ vec_capacity bytes.old }
 {
+    if n == 0 {
+        return;
+    }
     let rest = bytes.len() - n;
-    let (front, back) = bytes.as_mut_slice().split_at_mut(n);
-    front[..rest].copy_from_slice(back);
+    bytes.as_mut_slice().copy_within(n.., 0);
     bytes.truncate(rest);
 }
 
 impl Splitter {
-    ghost use Rattle.std.specs.Prelude.{◌≡◌, ℕ, ◌+◌, ◌-◌, ◌*◌, ◌^◌, ◌<◌, ◌≤◌, ◌++◌, [], List, true, false, length, slice_range, IfOk, IfErr, IfSome, IfNone, OnOk, OnErr, OnSome, IsOk, IsSome, MatchOption};
+    ghost use Rattle.std.specs.Prelude.{◌≡◌, ℕ, ◌+◌, ◌-◌, ◌^◌, ◌<◌, ◌≤◌, ◌++◌, [], List, true, false, length, slice_range, IfOk, IfErr, IfSome, IfNone, OnOk, OnErr, OnSome, IsOk, IsSome, MatchOption};
     ghost use Rattle.vx_bits.specs.declared.refusal.Refusal.{Refusal};
     ghost use Rattle.vx_annexb.specs.Places.{IsFirstFrom};
-    ghost use Rattle.vx_annexb.specs.ByteStream.{UnitPlace, CanEnd};
-    ghost use Rattle.vx_annexb.specs.Held.{fed, needed_from, left_to_seek, Stands, HasStarted, IsReadable, IsSought, KeepsBytes, KeepsSought, Answers};
+    ghost use Rattle.vx_annexb.specs.ByteStream.{UnitPlace, CanEnd, IsSound, RefusesUnit};
+    ghost use Rattle.vx_annexb.specs.Held.{Stands, Answers, IsReadable, IsSought, Lends, fed, held, lent, room as has_room, is_all, first_refusal, ahead};
+    ghost use Rattle.vx_annexb.specs.inner.Order.{HasStarted, IsCut};
 
     /// A splitter that was fed nothing.
     pub fn new(alloc: Global) -> Splitter
         ensures fed { fed result ≡ 0 }
-        ensures all { result.all ≡ false }
+        ensures held { held result ≡ 0 }
+        ensures all { is_all result ≡ false }
         ensures stands { Stands result [] [] }
     {
         Splitter {
@@ -91,39 +110,124 @@ impl Splitter {
             start: None,
             sought: 0,
             clear: 0,
+            doomed: None,
             all: false,
             refused: None,
         }
     }
 
-    /// Takes the next bytes of the stream; spans given before are given up. A refused call changes nothing.
+    /// Makes room for n more bytes; spans given before are given up, and of the bytes held those that no unit to come
+    /// needs. A refused call changes nothing.
+    pub fn make_room(&mut self, n: usize) -> Result<(), AllocError>
+        ensures stands { OnOk result ((g : List ℕ) (units : List UnitPlace) → Stands self.old g units → Stands self.new g units) }
+        ensures room { OnOk result (n ≤ has_room self.new) }
+        ensures fed { fed self.new ≡ fed self.old }
+        ensures ahead { ahead self.new ≡ ahead self.old }
+        ensures all { is_all self.new ≡ is_all self.old }
+        ensures refused { first_refusal self.new ≡ first_refusal self.old }
+        ensures sought { OnOk result (IsSought self.old → IsSought self.new) }
+        ensures held { OnOk result (IsSought self.old → held self.new ≤ 2 ^ 23 + 2) }
+        ensures succeeds { n ≤ has_room self.old → IsOk result }
+        ensures err { OnErr result (self.new ≡ self.old) }
+    {
+        let cut = self.cut();
+        self.kept.reserve(n)?;
+        drop_front(&mut self.kept, (cut.base - self.base) as usize);
+        self.base = cut.base;
+        self.doomed = cut.doomed;
+        Ok(())
+    }
+
+    /// Takes the next bytes of the stream, behind `make_room`. A refused call changes nothing.
     pub fn feed(&mut self, piece: &[u8]) -> Result<(), AllocError>
-        requires open { self.old.all ≡ false }
+        requires going { is_all self.old ≡ false }
         requires fits { fed self.old + length piece.now < 2 ^ 64 }
         ensures stands { OnOk result ((g : List ℕ) (units : List UnitPlace) → Stands self.old g units → Stands self.new (g ++ piece.now) units) }
         ensures fed { OnOk result (fed self.new ≡ fed self.old + length piece.now) }
-        ensures all { OnOk result (self.new.all ≡ false) }
-        ensures refused { self.new.refused ≡ self.old.refused }
-        ensures sought { OnOk result (KeepsSought self.old self.new) }
-        ensures spare { OnOk result (length self.new.kept ≤ 2 * (fed self.new - needed_from self.new)) }
+        ensures ahead { OnOk result (ahead self.new ≡ ahead self.old + length piece.now) }
+        ensures all { is_all self.new ≡ false }
+        ensures refused { first_refusal self.new ≡ first_refusal self.old }
+        ensures held { OnOk result (IsSought self.old → held self.new ≤ 2 ^ 23 + 2 + length piece.now) }
+        ensures room { length piece.now ≤ has_room self.old → IsOk result }
         ensures err { OnErr result (self.new ≡ self.old) }
     {
-        self.kept.reserve(piece.len())?;
-        let begin = self.start.unwrap_or(self.sought);
-        let spent = (begin - self.base) as usize;
-        if spent >= self.kept.len() - spent {
-            drop_front(&mut self.kept, spent);
-            self.base = begin;
-        }
-        // The room was reserved.
+        self.make_room(piece.len())?;
+        // The room was made.
         self.kept.extend_from_slice(piece).unwrap();
         Ok(())
+    }
+
+    /// From where on bytes are kept when room is made.
+    fn cut(&self) -> Cut
+        ensures cut { IsCut self.now result.base result.doomed }
+        ensures held { IsSought self.now → fed self.now ≤ result.base + (2 ^ 23 + 2) }
+    {
+        if self.base + self.kept.len() as u64 - self.sought > 2 {
+            return Cut {
+                base: self.base,
+                doomed: self.doomed,
+            };
+        }
+        let Some(start) = self.start else {
+            return Cut {
+                base: self.sought,
+                doomed: None,
+            };
+        };
+        if self.sought - start <= UNIT_LIMIT as u64 {
+            return Cut {
+                base: start,
+                doomed: None,
+            };
+        }
+        Cut {
+            base: self.sought - 3,
+            doomed: self.refusal_to(start, self.sought),
+        }
+    }
+
+    /// Why the unit that has begun at `start` is refused, if it ends at `end`.
+    fn refusal_to(&self, start: u64, end: u64) -> Option<Refusal>
+        requires begun { self.now.start ≡ Some start }
+        requires order { start ≤ end }
+        requires sought { self.now.sought ≤ end }
+        requires within { end ≤ fed self.now }
+        ensures answer { (g : List ℕ) (units : List UnitPlace) → Stands self.now g units → first_refusal self.now ≡ None
+            → MatchOption result (IsSound (slice_range g start end)) (RefusesUnit (slice_range g start end) start) }
+        ensures whole { IfNone result (self.now.doomed ≡ None) }
+        ensures sound { IfNone result (IsSound (slice_range (lent self.now) (start - self.now.base) (end - self.now.base))) }
+    {
+        let last = (end - self.base) as usize;
+        match self.doomed {
+            None => {
+                let first = (start - self.base) as usize;
+                refusal_of(
+                    &self.kept[first..last],
+                    (self.clear - start) as usize,
+                    start,
+                )
+            }
+            Some(refusal) => match refusal {
+                Refusal::Limit { .. } => match emulation_fault(&self.kept[..last]) {
+                    Some(fault) => Some(Refusal::Framing {
+                        code: BAD_EMULATION,
+                        byte: self.base + fault as u64,
+                    }),
+                    None => Some(refusal),
+                },
+                _ => Some(refusal),
+            },
+        }
     }
 
     /// Says that the bytes fed are all there are.
     pub fn finish(&mut self)
         ensures stands { (g : List ℕ) (units : List UnitPlace) → Stands self.old g units → Stands self.new g units }
-        ensures is { self.new ≡ record self.old { all = true } }
+        ensures lent { lent self.new ≡ lent self.old }
+        ensures fed { fed self.new ≡ fed self.old }
+        ensures ahead { ahead self.new ≡ ahead self.old }
+        ensures all { is_all self.new ≡ true }
+        ensures refused { first_refusal self.new ≡ first_refusal self.old }
     {
         self.all = true;
     }
@@ -133,10 +237,11 @@ impl Splitter {
     pub fn next(&mut self) -> Result<Option<Span>, Refusal>
         ensures answer { (g : List ℕ) (units : List UnitPlace) → Stands self.old g units → Answers g units self.new result }
         ensures readable { IfOk result (λ given. IfSome given (IsReadable self.new)) }
-        ensures keeps { KeepsBytes self.old self.new }
-        ensures falls { IfOk result (λ given. OnSome given (left_to_seek self.new < left_to_seek self.old)) }
-        ensures refused { IfErr result (λ r. self.new.refused ≡ Some r) }
-        ensures again { (r : Refusal) → self.old.refused ≡ Some r → result ≡ Err r }
+        ensures lends { Lends self.old self.new }
+        ensures falls { IfOk result (λ given. OnSome given (ahead self.new < ahead self.old)) }
+        ensures stays { IfOk result (λ _. ahead self.new ≤ ahead self.old) }
+        ensures refused { IfErr result (λ r. first_refusal self.new ≡ Some r) }
+        ensures again { (r : Refusal) → first_refusal self.old ≡ Some r → result ≡ Err r }
         ensures sought { IfOk result (λ given. IfNone given (IsSought self.new)) }
     {
         if let Some(refusal) = self.refused {
@@ -156,8 +261,8 @@ impl Splitter {
     fn seek_start(&mut self) -> Result<Option<u64>, Refusal>
         requires { self.old.refused ≡ None }
         ensures answer { (g : List ℕ) (units : List UnitPlace) → Stands self.old g units → HasStarted g units self.new result }
-        ensures keeps { KeepsBytes self.old self.new }
-        ensures falls { IfOk result (λ _. left_to_seek self.new ≤ left_to_seek self.old) }
+        ensures lends { Lends self.old self.new }
+        ensures from { self.new.from ≡ self.old.from }
         ensures start { IfOk result (λ start. (self.new.start ≡ start) × (self.new.refused ≡ None)) }
         ensures refused { IfErr result (λ r. self.new.refused ≡ Some r) }
         ensures sought { IfOk result (λ start. IfNone start (IsSought self.new)) }
@@ -191,10 +296,10 @@ impl Splitter {
         requires begun { IsSome self.old.start }
         requires open { self.old.refused ≡ None }
         ensures stands { (g : List ℕ) (units : List UnitPlace) → Stands self.old g units → Stands self.new g units }
-        ensures keeps { KeepsBytes self.old self.new }
+        ensures lends { Lends self.old self.new }
         ensures start { self.new.start ≡ self.old.start }
         ensures open { self.new.refused ≡ None }
-        ensures falls { left_to_seek self.new ≤ left_to_seek self.old }
+        ensures from { self.new.from ≡ self.old.from }
     {
         if self.clear == self.sought {
             let at = (self.sought - self.base) as usize;
@@ -210,11 +315,11 @@ impl Splitter {
         ensures answer { (g : List ℕ) (units : List UnitPlace) → Stands self.old g units → Stands self.new g units × MatchOption result
             ((k : ℕ) → start ≤ k → ¬ CanEnd g self.old.all k)
             (IsFirstFrom (CanEnd g self.old.all) start) }
-        ensures keeps { KeepsBytes self.old self.new }
+        ensures lends { Lends self.old self.new }
         ensures start { self.new.start ≡ Some start }
         ensures open { self.new.refused ≡ None }
-        ensures order { IfSome result (λ end. (start ≤ end) × (self.new.base ≤ start) × (self.new.sought ≤ end) × (self.new.from ≤ start) × (end ≤ fed self.new)) }
-        ensures falls { left_to_seek self.new ≤ left_to_seek self.old }
+        ensures order { IfSome result (λ end. (start ≤ end) × (self.new.sought ≤ end) × (self.new.from ≤ start) × (end ≤ fed self.new)) }
+        ensures from { self.new.from ≡ self.old.from }
         ensures sought { IfNone result (IsSought self.new) }
     {
         let at = (self.sought - self.base) as usize;
@@ -234,21 +339,17 @@ impl Splitter {
     fn give(&mut self, start: u64, end: u64) -> Result<Option<Span>, Refusal>
         requires begun { self.old.start ≡ Some start }
         requires open { self.old.refused ≡ None }
-        requires base { self.old.base ≤ start }
         requires order { start ≤ end }
         requires sought { self.old.sought ≤ end }
         requires within { end ≤ fed self.old }
         ensures answer { (g : List ℕ) (units : List UnitPlace) → Stands self.old g units → IsFirstFrom (CanEnd g self.old.all) start end → Answers g units self.new result }
         ensures readable { IfOk result (λ given. IfSome given (IsReadable self.new)) }
-        ensures keeps { KeepsBytes self.old self.new }
-        ensures given { IsOk result → (self.new.start ≡ None) × (self.new.sought ≡ end) }
+        ensures lends { Lends self.old self.new }
+        ensures given { IsOk result → (self.old.from + 2 ≤ end) × (self.new.from ≡ end) }
         ensures some { IfOk result IsSome }
         ensures refused { IfErr result (λ r. self.new.refused ≡ Some r) }
     {
-        let first = (start - self.base) as usize;
-        let last = (end - self.base) as usize;
-        let clear = (self.clear - start) as usize;
-        if let Some(refusal) = refusal_of(&self.kept[first..last], clear, start) {
+        if let Some(refusal) = self.refusal_to(start, end) {
             self.refused = Some(refusal);
             return Err(refusal);
         }
@@ -256,17 +357,16 @@ impl Splitter {
         self.sought = end;
         self.start = None;
         Ok(Some(Span {
-            start: first,
-            end: last,
+            start: (start - self.base) as usize,
+            end: (end - self.base) as usize,
             offset: start,
         }))
     }
 
-    /// The kept bytes from a span's start to its end.
+    /// The bytes of a span that can be read.
     pub fn bytes(&self, span: Span) -> &[u8]
-        requires order { span.start ≤ span.end }
-        requires within { span.end ≤ length self.now.kept }
-        ensures { result.now ≡ slice_range self.now.kept span.start span.end }
+        requires { IsReadable self.now span }
+        ensures { result.now ≡ slice_range (lent self.now) span.start span.end }
     {
         &self.kept[span.start..span.end]
     }

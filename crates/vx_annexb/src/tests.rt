@@ -1,6 +1,6 @@
 //! Streams and their units, worked by hand from the format.
 ghost use Rattle.std.specs.Prelude.{◌<◌};
-ghost use Rattle.vx_annexb.specs.Held.{KeepsBytes};
+ghost use Rattle.vx_annexb.specs.Held.{Lends};
 
 use crate::{
     NalHeader, Splitter, emulation_fault, escape, read_header, unescape, unit_place, write_unit,
@@ -30,7 +30,7 @@ fn take_units(
     splitter: &mut Splitter,
     units: &mut Vec<(u64, usize)>,
 ) -> Result<Option<Refusal>, AllocError>
-    ensures { KeepsBytes splitter.old splitter.new }
+    ensures { Lends splitter.old splitter.new }
 {
     loop {
         match splitter.next() {
@@ -200,6 +200,52 @@ fn refuses_long_units(rt: HostRuntime) -> Result<(), Fail> {
             "of {n} bytes"
         );
         assert_eq!(rt; found.refusal, refusal, "of {n} bytes");
+    }
+    Ok(())
+}
+
+/// A unit of 2^23 bytes and a few more, in the last bytes of which stands what may break a rule: the zeros before it, how
+/// many bytes more than 2^23 stand before what is tried, that, and the place in it of the byte that is refused, if one is.
+const TAILS: [(usize, usize, &[u8], Option<u64>); 12] = [
+    (0, 1, &[], None),
+    (0, 1, &[7], None),
+    (0, 0, &[0, 0, 2], Some(2)),
+    (0, 1, &[0, 0, 2], Some(2)),
+    (0, 5, &[0, 0, 2, 0, 0, 2], Some(2)),
+    (0, 9, &[0, 0, 2], Some(2)),
+    (0, 3, &[0, 0, 3, 4], Some(3)),
+    (0, 4, &[0, 0, 3, 3], None),
+    (0, 7, &[0, 0, 3, 0, 0, 3, 5], Some(6)),
+    (3, 1, &[0, 0, 2], Some(2)),
+    (70_000, 2, &[0, 0, 3, 9], Some(3)),
+    (70_000, 70_000, &[7], None),
+];
+
+#[test]
+fn tells_what_long_units_are_refused_for(rt: HostRuntime) -> Result<(), Fail> {
+    let limit = 1usize << 23;
+    for (zeros, over, tail, fault) in TAILS {
+        let mut bytes = vec![in rt.alloc(); 0; zeros]?;
+        let unit = long_stream(rt.alloc(), limit + over)?;
+        bytes.extend_from_slice(&unit)?;
+        let place = bytes.len() as u64;
+        bytes.extend_from_slice(tail)?;
+        let refusal = match fault {
+            Some(at) => Refusal::Framing {
+                code: 2,
+                byte: place + at,
+            },
+            None => Refusal::Limit { code: 1 },
+        };
+        for size in [65_536, 1_000_003, limit + 5, limit + 9] {
+            let found = split(rt.alloc(), &bytes, size)?;
+            assert_eq!(rt; found.units.len(), 0, "{over} more, in pieces of {size}");
+            assert_eq!(rt;
+                found.refusal,
+                Some(refusal),
+                "{over} more, in pieces of {size}: {tail:?}"
+            );
+        }
     }
     Ok(())
 }

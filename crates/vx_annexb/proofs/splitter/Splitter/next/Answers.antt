@@ -7,7 +7,7 @@ pub returns-in_default-seek_end-clause-answer : goal.returns-in_default-seek_end
 returns-in_default-seek_end-clause-answer c g units s =
     let started : Stands c.seek_start.new.self g units = (rw c.in-Some-2.is at c.in_ok-start.ensures.answer) g units s in
     let ended = c.in_default-seek_end.ensures.answer g units (c.pass_clear.ensures.stands g units started) in
-    (ended.0, Stands-no_more _ g units c.in-Some-2.start c.seek_end.ensures.start c.seek_end.ensures.open ended.0 (rw c.seek_end.ensures.keeps.all ended.1))
+    (ended.0, Stands-no_more _ g units c.in-Some-2.start c.seek_end.ensures.start c.seek_end.ensures.open ended.0 (rw c.seek_end.ensures.lends.all ended.1))
 
 pub returns-in_err-start-clause-answer : goal.returns-in_err-start-clause-answer
 returns-in_err-start-clause-answer c g units s =

@@ -1,0 +1,72 @@
+-- What a reader of units takes of its source, as far as the limit lets see, and what it then finds.
+use Rattle.std.proofs.Common.{◌≡◌, ℕ, ◌+◌, ◌-◌, ◌≤◌, inl, inr, Bool, false, List, ◌++◌, Option, Some, None, Ok, Err, length, take, min, sym, ap, ◌∙◌, arith, refl, subst}
+use Rattle.std.proofs.Math.Seq.{take-append-add, take_all}
+use Rattle.std.proofs.lemmas.List.{take_min}
+use Rattle.std.proofs.Math.Nat.{min_comm}
+use Rattle.vx_bits.specs.declared.refusal.Refusal.{Refusal}
+use Rattle.vx_bits.specs.declared.refusal.Refusal.TheVariants.{Limit}
+use Rattle.vx_bits.specs.declared.rules.TheConstants.{LONG_SOURCE}
+use Rattle.vx_annexb.specs.declared.span.Span.{Span}
+use Rattle.vx_annexb.specs.declared.unit_reader.Closed.{Closed}
+use Rattle.vx_annexb.specs.declared.unit_reader.Closed.TheVariants.{End, TooLong, Failed}
+use Rattle.vx_annexb.specs.ByteStream.{source_limit, UnitPlace, IsStream}
+use Rattle.vx_annexb.specs.Held.{Held, Stands, Answers}
+use Rattle.vx_annexb.specs.Reading.{Reading, ClosesAt, HasRead, Finds}
+
+-- the limit as a number
+pub source_limit-is : source_limit ≡ 1099511627776
+unfolding source_limit
+source_limit-is = refl
+
+-- a front of a piece behind g is what the limit lets see of both
+module _ (limit : ℕ) (g piece : List ℕ) (within : length g ≤ limit) where
+  seen_front : g ++ take (min (length piece) (limit - length g)) piece ≡ take limit (g ++ piece)
+  seen_front =
+      let k = limit - length g in
+      let split : length g + k ≡ limit = omega arith in
+      ap (λ xs. g ++ xs) (ap (λ n. take n piece) (min_comm (length piece) k) ∙ take_min k piece)
+      ∙ sym (take-append-add g piece k)
+      ∙ ap (λ n. take n (g ++ piece)) split
+
+pub seen_of_more : (g piece : List ℕ) (taken seen : ℕ) → length g ≡ taken → taken ≤ 1099511627776 → seen ≡ min (length piece) (1099511627776 - taken)
+    → take source_limit g ++ take seen piece ≡ take source_limit (g ++ piece)
+seen_of_more g piece taken seen len within is =
+    let short : length g ≤ source_limit = rw source_limit-is (omega arith) in
+    let same : seen ≡ min (length piece) (source_limit - length g) = rw (source_limit-is, len) is in
+    ap (λ xs. xs ++ take seen piece) (take_all source_limit g short)
+    ∙ ap (λ n. g ++ take n piece) same
+    ∙ seen_front source_limit g piece short
+
+-- why a reader reads no more hangs on whether the bytes are all there are
+closes_as : (closed : Option Closed) (h h' : Held) (n : ℕ) → h'.all ≡ h.all → ClosesAt closed h n → ClosesAt closed h' n
+closes_as None h h' n same c = (same ∙ c.0, c.1)
+closes_as (Some End) h h' n same c = (same ∙ c.0, c.1)
+closes_as (Some TooLong) h h' n same c = (same ∙ c.0, c.1)
+closes_as (Some Failed) h h' n same c = (same ∙ c.0, c.1)
+
+-- where there are more bytes than the limit, those that are seen aren't all
+long_goes_on : (closed : Option Closed) (h : Held) (n : ℕ) → closed ≡ Some TooLong → ClosesAt closed h n → h.all ≡ false
+long_goes_on None h n is c = cc
+long_goes_on (Some End) h n is c = cc
+long_goes_on (Some TooLong) h n is c = c.0
+long_goes_on (Some Failed) h n is c = cc
+
+-- what the splitter answers, a reader finds
+module _ (r : Reading) (h : Held) (same : h.all ≡ r.splitter.all) (g : List ℕ) (units : List UnitPlace) (read : HasRead r g units) where
+  read_on : (later : List UnitPlace) → Stands h (take source_limit g) later → HasRead (record r { splitter = h }) g later
+  read_on later stands = record { taken = read.taken; closes = closes_as r.closed r.splitter h r.taken same read.closes; stands = stands }
+
+  pub finds_unit : (span : Span) → Answers (take source_limit g) units h (Ok (Some span)) → Finds g units (record r { splitter = h }) (Ok (Some span))
+  finds_unit span a = (read_on _ a.0, a.1)
+
+  pub finds_none : Answers (take source_limit g) units h (Ok None) → (r.closed ≡ Some TooLong → ⊥) → Finds g units (record r { splitter = h }) (Ok None)
+  finds_none a short = (read_on units a.0, a.1, short)
+
+  pub finds_long : Answers (take source_limit g) units h (Ok None) → r.closed ≡ Some TooLong → Finds g units (record r { splitter = h }) (Err (Limit LONG_SOURCE))
+  finds_long a long =
+      let going : h.all ≡ false = same ∙ long_goes_on r.closed r.splitter r.taken long read.closes in
+      let P : Bool → Type 0 = λ all. IsStream (take source_limit g) all units None in
+      (read_on units a.0, inr (subst P going a.1, long, refl))
+
+  pub finds_refusal : (x : Refusal) → Answers (take source_limit g) units h (Err x) → Finds g units (record r { splitter = h }) (Err x)
+  finds_refusal x a = (read_on units a.0, inl a.1)

@@ -1,0 +1,67 @@
+-- A reader of units, as its callers see it: by these words, and by the relation `HasRead` between it and the bytes that it
+-- took of a source with the units that it gave.
+use Rattle.std.specs.Prelude.{◌≡◌, ℕ, ◌+◌, ◌^◌, ◌<◌, ◌≤◌, ◌⊎◌, Bool, true, false, List, [], ◌∷◌, ◌++◌, Option, Some, None, Result, Ok, Err, length, take, slice_range}
+use Rattle.std.specs.Io.KnownBytes.{Consumes, Keeps, IsAtEnd}
+use Rattle.vx_bits.specs.declared.refusal.Refusal.{Refusal}
+use Rattle.vx_bits.specs.declared.refusal.Refusal.TheVariants.{Limit}
+use Rattle.vx_bits.specs.declared.rules.TheConstants.{LONG_SOURCE}
+use Rattle.vx_io.specs.Faults.{Rose}
+use Rattle.vx_annexb.specs.declared.span.Span.{Span}
+use Rattle.vx_annexb.specs.declared.unit_reader.Closed.{Closed}
+use Rattle.vx_annexb.specs.declared.unit_reader.Closed.TheVariants.{End, TooLong, Failed}
+use Rattle.vx_annexb.specs.declared.unit_reader.ReadFault.{ReadFault}
+use Rattle.vx_annexb.specs.declared.unit_reader.ReadFault.TheVariants.{Memory, SourceFailed}
+use Rattle.vx_annexb.specs.ByteStream.{source_limit, UnitPlace, unit_bytes, IsStream}
+use Rattle.vx_annexb.specs.Held.{Held, Stands, fed, held, lent, is_all, place_of, IsSought}
+
+-- a reader: its splitter, how many bytes it took, and why it reads no more
+pub record Reading : Type 0 where
+  pub splitter : Held
+  pub taken : ℕ
+  pub closed : Option Closed
+
+-- it may read on
+abbrev pub IsOpen : Reading → Type 0
+IsOpen r = r.closed ≡ None
+
+-- the bytes that it holds, the room for a read aside
+abbrev pub HoldsFew : Reading → Type 0
+HoldsFew r = held r.splitter ≤ 2 ^ 23 + 2 + 65536
+
+-- Why it reads no more, by the n bytes that it took: they are all there are; or one more than the limit, which is not
+-- looked at; or a read failed.
+abbrev pub ClosesAt : Option Closed → Held → ℕ → Type 0
+ClosesAt None h n = (is_all h ≡ false) × (n ≤ 2 ^ 40)
+ClosesAt (Some End) h n = (is_all h ≡ true) × (n ≤ 2 ^ 40)
+ClosesAt (Some TooLong) h n = (is_all h ≡ false) × (n ≡ 2 ^ 40 + 1)
+ClosesAt (Some Failed) h n = (is_all h ≡ false) × (n ≤ 2 ^ 40)
+
+-- g are the bytes that it took, and these are the units that it gave
+pub record HasRead (r : Reading) (g : List ℕ) (units : List UnitPlace) : Type 0 where
+  pub taken : length g ≡ r.taken
+  pub closes : ClosesAt r.closed r.splitter r.taken
+  pub stands : Stands r.splitter (take source_limit g) units
+
+-- What was read is refused for x behind these units: a rule is broken, or none is in as many bytes as the limit, and the
+-- source has more.
+abbrev pub IsRefusedBy : List ℕ → List UnitPlace → Reading → Refusal → Type 0
+IsRefusedBy g units r x =
+    IsStream (take source_limit g) (is_all r.splitter) units (Some x)
+    ⊎ (IsStream (take source_limit g) false units None × (r.closed ≡ Some TooLong) × (x ≡ Limit LONG_SOURCE))
+
+-- The next unit in what was read: one whose end is seen, or none, or a refusal.
+abbrev pub Finds : List ℕ → List UnitPlace → Reading → Result (Option Span) Refusal → Type 0
+Finds g units r (Ok (Some span)) =
+    HasRead r g (units ++ place_of span ∷ []) × (unit_bytes (take source_limit g) (place_of span) ≡ slice_range (lent r.splitter) span.start span.end)
+Finds g units r (Ok None) =
+    HasRead r g units × IsStream (take source_limit g) (is_all r.splitter) units None × (r.closed ≡ Some TooLong → ⊥)
+Finds g units r (Err x) = HasRead r g units × IsRefusedBy g units r x
+
+-- One read of a source with these bytes left and this count of faults, before and after it.
+abbrev pub Reads : List ℕ → List UnitPlace → Reading → Option (List ℕ) → Option (List ℕ) → ℕ → ℕ → Result (Unit {0}) ReadFault → Type 0
+Reads g units new left left' faults faults' (Ok _) =
+    (piece : List ℕ) × Consumes left left' piece × (length piece ≤ 65536) × (faults' ≡ faults)
+    × HasRead new (g ++ piece) units × (new.closed ≡ Some End → (length piece ≡ 0) × IsAtEnd left') × (new.closed ≡ Some Failed → ⊥)
+Reads g units new left left' faults faults' (Err Memory) = (left' ≡ left) × (faults' ≡ faults) × HasRead new g units × IsOpen new
+Reads g units new left left' faults faults' (Err SourceFailed) =
+    Keeps left left' × Rose faults faults' × HasRead new g units × (new.closed ≡ Some Failed)

@@ -1,0 +1,32 @@
+-- What a reader keeps to, and the steps of a read.
+use Rattle.std.specs.Prelude.{◌≡◌, ℕ, ◌+◌, ◌^◌, ◌<◌, ◌≤◌, Bool, true, false, List, [], ◌++◌, Option, Some, None, Result, Ok, Err, length, take, min, ◌-◌}
+use Rattle.std.specs.Io.KnownBytes.{Consumes, Keeps, IsAtEnd}
+use Rattle.vx_io.specs.Faults.{Rose}
+use Rattle.vx_annexb.specs.declared.unit_reader.Closed.{Closed}
+use Rattle.vx_annexb.specs.declared.unit_reader.Closed.TheVariants.{End, TooLong, Failed}
+use Rattle.vx_annexb.specs.declared.unit_reader.ReadFault.{ReadFault}
+use Rattle.vx_annexb.specs.declared.unit_reader.ReadFault.TheVariants.{Memory, SourceFailed}
+use Rattle.vx_annexb.specs.declared.unit_reader.Came.{Came}
+use Rattle.vx_annexb.specs.ByteStream.{source_limit, UnitPlace}
+use Rattle.vx_annexb.specs.Held.{Held, Stands, fed, held, ahead, is_all, IsSought}
+use Rattle.vx_annexb.specs.Reading.{Reading, HoldsFew, ClosesAt}
+
+-- how many bytes the splitter was fed of the n that were taken
+abbrev pub FedOf : Option Closed → Held → ℕ → Type 0
+FedOf (Some TooLong) h n = fed h ≡ 2 ^ 40
+FedOf _ h n = fed h ≡ n
+
+-- what a reader with a buffer of this length keeps to
+pub record IsBounded (r : Reading) (len : ℕ) : Type 0 where
+  pub buffer : len ≡ 65536
+  pub held : HoldsFew r
+  pub closes : ClosesAt r.closed r.splitter r.taken
+  pub fed : FedOf r.closed r.splitter r.taken
+
+-- One read of a source with these bytes left and this count of faults, before and after it, by what came.
+abbrev pub ReadsPiece : List ℕ → List UnitPlace → Held → Option (List ℕ) → Option (List ℕ) → ℕ → ℕ → Result Came ReadFault → Type 0
+ReadsPiece g units new left left' faults faults' (Ok came) =
+    (piece : List ℕ) × Consumes left left' piece × (length piece ≡ came.count) × (faults' ≡ faults)
+    × Stands new (take source_limit (g ++ piece)) units × (came.closed ≡ Some End → (length piece ≡ 0) × IsAtEnd left')
+ReadsPiece g units new left left' faults faults' (Err Memory) = (left' ≡ left) × (faults' ≡ faults) × Stands new (take source_limit g) units
+ReadsPiece g units new left left' faults faults' (Err SourceFailed) = Keeps left left' × Rose faults faults' × Stands new (take source_limit g) units

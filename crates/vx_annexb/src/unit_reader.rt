@@ -1,0 +1,256 @@
+//! The NAL units of a source, given one at a time while the source is read.
+ghost use Rattle.std.specs.Prelude.{◌≡◌, ◌+◌, ◌^◌, ◌<◌, ◌≤◌, ◌++◌, ℕ, List, take, false, length, vec_len, IfOk, OnOk, OnErr, Some, None, Err};
+ghost use Rattle.vx_annexb.specs.ByteStream.{UnitPlace, source_limit};
+ghost use Rattle.vx_annexb.specs.Held.{Stands, IsSought, fed, held, is_all, ahead, room as has_room};
+ghost use Rattle.vx_annexb.specs.Reading.{ClosesAt};
+ghost use Rattle.vx_annexb.specs.inner.Reading.{FedOf, ReadsPiece};
+ghost use Rattle.vx_annexb.specs.declared.unit_reader.Closed.TheVariants.{End, Failed};
+ghost use Rattle.vx_annexb.specs.declared.unit_reader.ReadFault.TheVariants.{Memory};
+
+use crate::{Span, Splitter};
+use std::alloc::{AllocError, Global};
+use std::marker::Model;
+use thiserror::Error;
+use vx_bits::Refusal;
+use vx_bits::rules::LONG_SOURCE;
+use vx_io::Source;
+
+/// How many bytes a read asks for.
+const READ_LEN: usize = 65_536;
+
+/// The most bytes that a source may have.
+const SOURCE_LIMIT: u64 = 1 << 40;
+
+/// The refusal of a source that has more.
+const SOURCE_TOO_LONG: Refusal = Refusal::Limit { code: LONG_SOURCE };
+
+/// Why a reader reads no more of its source.
+#[derive(Clone, Copy, Debug, PartialEq, Eq)]
+pub enum Closed {
+    /// The source has given all its bytes.
+    End,
+    /// It has more than the limit.
+    TooLong,
+    /// A read of it failed.
+    Failed,
+}
+
+/// Why a source wasn't read.
+#[derive(Clone, Copy, Debug, PartialEq, Eq, Error)]
+pub enum ReadFault {
+    /// Memory ran out; nothing was taken of the source, and it may be read again.
+    #[error("out of memory")]
+    Memory,
+    /// A read of the source failed.
+    #[error("a read failed")]
+    SourceFailed,
+}
+
+/// Reads the NAL units of a source (H.266 Annex B), with at most 2^23 + 65,538 of its bytes in memory.
+///
+/// It takes at most 2^40 bytes of the source and one more, and gives the units whose end is seen in 2^40. Each call is given
+/// the source, which is to be the same one.
+#[derive(Drop)]
+pub struct UnitReader {
+    splitter: Splitter,
+    // Where a read's bytes go; between calls it holds none.
+    buffer: Vec<u8>,
+    taken: u64,
+    closed: Option<Closed>,
+}
+
+impl Model for UnitReader {
+    ghost use Rattle.std.specs.Prelude.{vec_len};
+    ghost use Rattle.vx_annexb.specs.Reading.{Reading};
+    ghost use Rattle.vx_annexb.specs.inner.Reading.{IsBounded};
+
+    ghost Value = { Reading };
+
+    ghost view = { λ a. record {
+      splitter = a.splitter;
+      taken = a.taken;
+      closed = a.closed;
+    } };
+
+    ghost invariant = { λ a. IsBounded (record {
+      splitter = a.splitter;
+      taken = a.taken;
+      closed = a.closed;
+    }) (vec_len a.buffer) };
+}
+
+/// How many bytes came of a read, and whether it was the last one.
+#[derive(Clone, Copy)]
+struct Came {
+    count: u64,
+    closed: Option<Closed>,
+}
+
+/// A buffer of this many bytes.
+fn buffer_of(alloc: Global, len: usize) -> Result<Vec<u8>, AllocError>
+    ensures { IfOk result (λ buffer. vec_len buffer ≡ len) }
+{
+    vec![in alloc; 0u8; len]
+}
+
+/// Feeds what the limit lets see of a piece of a source of which `taken` bytes came before; no bytes are its end.
+fn take_in(splitter: &mut Splitter, piece: &[u8], taken: u64) -> Option<Closed>
+    requires going { is_all splitter.old ≡ false }
+    requires fed { fed splitter.old ≡ taken }
+    requires within { taken ≤ SOURCE_LIMIT }
+    requires bound { taken + length piece.now ≤ SOURCE_LIMIT + 1 }
+    requires room { length piece.now ≤ has_room splitter.old }
+    requires sought { IsSought splitter.old }
+    requires held { held splitter.old ≤ 2 ^ 23 + 2 }
+    ensures stands { (g : List ℕ) (units : List UnitPlace) → length g ≡ taken → Stands splitter.old (take source_limit g) units
+        → Stands splitter.new (take source_limit (g ++ piece.now)) units }
+    ensures closes { ClosesAt result splitter.new (taken + length piece.now) }
+    ensures fed { FedOf result splitter.new (taken + length piece.now) }
+    ensures ahead { ahead splitter.new + fed splitter.old ≡ ahead splitter.old + fed splitter.new }
+    ensures held { held splitter.new ≤ 2 ^ 23 + 2 + length piece.now }
+    ensures some { result ≡ None → 0 < length piece.now }
+    ensures end { result ≡ Some End → length piece.now ≡ 0 }
+    ensures unfailed { result ≡ Some Failed → ⊥ }
+{
+    if piece.is_empty() {
+        splitter.finish();
+        return Some(Closed::End);
+    }
+    let seen = piece.len().min((SOURCE_LIMIT - taken) as usize);
+    // The room was made.
+    splitter.feed(&piece[..seen]).unwrap();
+    if seen < piece.len() {
+        return Some(Closed::TooLong);
+    }
+    None
+}
+
+/// Reads one piece of a source of which `taken` bytes came before, behind room that is made for it.
+fn read_piece(
+    source: &mut dyn Source,
+    buffer: &mut [u8],
+    splitter: &mut Splitter,
+    taken: u64,
+) -> Result<Came, ReadFault>
+    requires buffer { length buffer.old ≡ READ_LEN }
+    requires going { is_all splitter.old ≡ false }
+    requires fed { fed splitter.old ≡ taken }
+    requires within { taken ≤ SOURCE_LIMIT }
+    requires sought { IsSought splitter.old }
+    requires held { held splitter.old ≤ 2 ^ 23 + 2 + 65536 }
+    ensures answer { (g : List ℕ) (units : List UnitPlace) → length g ≡ taken → Stands splitter.old (take source_limit g) units
+        → ReadsPiece g units splitter.new (bytes_left source.old) (bytes_left source.new) (read_faults source.old) (read_faults source.new) result }
+    ensures count { IfOk result (λ came. came.count ≤ 65536) }
+    ensures closes { IfOk result (λ came. ClosesAt came.closed splitter.new (taken + came.count)) }
+    ensures fed { IfOk result (λ came. FedOf came.closed splitter.new (taken + came.count)) }
+    ensures ahead { OnOk result (ahead splitter.new + fed splitter.old ≡ ahead splitter.old + fed splitter.new) }
+    ensures held { held splitter.new ≤ 2 ^ 23 + 2 + 65536 }
+    ensures some { IfOk result (λ came. came.closed ≡ None → 0 < came.count) }
+    ensures unfailed { IfOk result (λ came. came.closed ≡ Some Failed → ⊥) }
+    ensures memory { result ≡ Err Memory → splitter.new ≡ splitter.old }
+    ensures failed { OnErr result ((fed splitter.new ≡ fed splitter.old) × (ahead splitter.new ≡ ahead splitter.old) × (is_all splitter.new ≡ is_all splitter.old)) }
+{
+    let Ok(()) = splitter.make_room(buffer.len()) else {
+        return Err(ReadFault::Memory);
+    };
+    let room = buffer.len().min((SOURCE_LIMIT + 1 - taken) as usize);
+    let Ok(count) = source.read(&mut buffer[..room]) else {
+        return Err(ReadFault::SourceFailed);
+    };
+    let closed = take_in(splitter, &buffer[..count], taken);
+    Ok(Came {
+        count: count as u64,
+        closed,
+    })
+}
+
+impl UnitReader {
+    ghost use Rattle.std.specs.Prelude.{◌≡◌, ℕ, ◌+◌, ◌^◌, ◌<◌, ◌≤◌, [], List, length, slice_range, Some, None, Err, IfOk, IfErr, IfSome, IfNone, OnOk, OnSome, IsTrue, IsSome};
+    ghost use Rattle.vx_bits.specs.declared.refusal.Refusal.{Refusal};
+    ghost use Rattle.vx_annexb.specs.ByteStream.{UnitPlace};
+    ghost use Rattle.vx_annexb.specs.Held.{IsReadable, IsSought, Lends, fed, held, lent, ahead, first_refusal};
+    ghost use Rattle.vx_annexb.specs.Reading.{IsOpen, HoldsFew, HasRead, Finds, Reads};
+    ghost use Rattle.vx_annexb.specs.declared.unit_reader.ReadFault.TheVariants.{Memory};
+
+    /// A reader that has read nothing.
+    pub fn new(alloc: Global) -> Result<UnitReader, AllocError>
+        ensures read { IfOk result (λ r. HasRead r [] []) }
+        ensures open { IfOk result IsOpen }
+        ensures held { IfOk result HoldsFew }
+    {
+        let buffer = buffer_of(alloc, READ_LEN)?;
+        Ok(UnitReader {
+            splitter: Splitter::new(alloc),
+            buffer,
+            taken: 0,
+            closed: None,
+        })
+    }
+
+    /// The next unit, in order, whose end is seen in what was read, or why it is refused; the refusal is given again from
+    /// then on. None where neither a further unit's end nor a byte that is no start code was read. It reads nothing.
+    pub fn next(&mut self) -> Result<Option<Span>, Refusal>
+        ensures answer { (g : List ℕ) (units : List UnitPlace) → HasRead self.old g units → Finds g units self.new result }
+        ensures readable { IfOk result (λ given. IfSome given (IsReadable self.new.splitter)) }
+        ensures lends { Lends self.old.splitter self.new.splitter }
+        ensures taken { self.new.taken ≡ self.old.taken }
+        ensures closed { self.new.closed ≡ self.old.closed }
+        ensures falls { IfOk result (λ given. OnSome given (ahead self.new.splitter < ahead self.old.splitter)) }
+        ensures stays { IfOk result (λ _. ahead self.new.splitter ≤ ahead self.old.splitter) }
+        ensures again { (r : Refusal) → first_refusal self.old.splitter ≡ Some r → result ≡ Err r }
+        ensures sought { IfOk result (λ given. IfNone given (IsSought self.new.splitter)) }
+        ensures held { HoldsFew self.new }
+    {
+        if let Some(span) = self.splitter.next()? {
+            return Ok(Some(span));
+        }
+        if let Some(Closed::TooLong) = self.closed {
+            return Err(SOURCE_TOO_LONG);
+        }
+        Ok(None)
+    }
+
+    /// Whether the source may be read on: it has not ended, has given no more bytes than the limit, and has not failed.
+    pub fn is_open(&self) -> bool
+        ensures open { IsTrue result → IsOpen self.now }
+        ensures closed { ¬ IsTrue result → IsSome self.now.closed }
+    {
+        self.closed.is_none()
+    }
+
+    /// Reads once, where `next` answered none last; spans given before are given up. For want of memory nothing is read.
+    pub fn read(&mut self, source: &mut dyn Source) -> Result<(), ReadFault>
+        requires open { IsOpen self.old }
+        requires sought { IsSought self.old.splitter }
+        ensures answer { (g : List ℕ) (units : List UnitPlace) → HasRead self.old g units
+            → Reads g units self.new (bytes_left source.old) (bytes_left source.new) (read_faults source.old) (read_faults source.new) result }
+        ensures grows { OnOk result (IsOpen self.new → self.old.taken < self.new.taken) }
+        ensures ahead { OnOk result (ahead self.new.splitter + fed self.old.splitter ≡ ahead self.old.splitter + fed self.new.splitter) }
+        ensures within { fed self.new.splitter ≤ 2 ^ 40 }
+        ensures held { HoldsFew self.new }
+        ensures memory { result ≡ Err Memory → self.new ≡ self.old }
+    {
+        let came = read_piece(source, &mut self.buffer, &mut self.splitter, self.taken);
+        match came {
+            Ok(came) => {
+                self.taken += came.count;
+                self.closed = came.closed;
+                Ok(())
+            }
+            Err(fault) => {
+                if let ReadFault::SourceFailed = fault {
+                    self.closed = Some(Closed::Failed);
+                }
+                Err(fault)
+            }
+        }
+    }
+
+    /// The bytes of a span that can be read.
+    pub fn bytes(&self, span: Span) -> &[u8]
+        requires { IsReadable self.now.splitter span }
+        ensures { result.now ≡ slice_range (lent self.now.splitter) span.start span.end }
+    {
+        self.splitter.bytes(span)
+    }
+}
