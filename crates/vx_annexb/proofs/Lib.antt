@@ -16,3 +16,4 @@ pub mod Written
 pub mod Inverse
 pub mod Stray
 pub mod Taking
+pub mod Unseen

@@ -166,7 +166,7 @@ module _ (g more : List ℕ) where
     no_code = λ e. h.no_code (sym (index_on q h.within) ∙ e);
   }
 
-  unit_within : (p : ℕ) (u : UnitPlace) → IsUnit g false p u → u.end ≤ length g
+  pub unit_within : (p : ℕ) (u : UnitPlace) → IsUnit g false p u → u.end ≤ length g
   unit_within p u h = ⊎_elim (λ m. omega (arith, m.within)) (λ z. absurd (false≢true z.0)) h.ends.here
 
   pub follows_on : (all : Bool) (p : ℕ) (us : List UnitPlace) → FollowsFrom g false p us → FollowsFrom (g ++ more) all p us

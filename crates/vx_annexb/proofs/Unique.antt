@@ -61,7 +61,7 @@ module _ (b : List ℕ) (all : Bool) (p : ℕ) where
   zeros_or_stray : (q : ℕ) → AreZeros b p (length b) → IsStray b p q → ⊥
   zeros_or_stray q a c = c.nonzero (a.each q c.zeros.order c.within)
 
-  none_or_unit : (u : UnitPlace) → SeesNoMore b all p → IsUnit b all p u → ⊥
+  pub none_or_unit : (u : UnitPlace) → SeesNoMore b all p → IsUnit b all p u → ⊥
   none_or_unit u (inl z) is = zeros_or_start u.start z is.starts
   none_or_unit u (inr n) is =
       let e = starts_unique n.0 u.start n.1 is.starts in

@@ -1,12 +1,12 @@
 -- What the definition of a byte stream comes to, apart from any program.
-use Rattle.std.specs.Prelude.{◌≡◌, ℕ, ◌+◌, Bool, true, false, List, [], ◌∷◌, ◌++◌, All, Option, Some, None, drop, flat_map, length, map, replicate, take}
+use Rattle.std.specs.Prelude.{◌≡◌, ℕ, ◌+◌, ◌<◌, Bool, true, false, List, [], ◌∷◌, ◌++◌, All, Option, Some, None, drop, flat_map, length, map, replicate, take}
 use Rattle.vx_bits.specs.declared.refusal.Refusal.{Refusal}
 use Rattle.vx_bits.specs.declared.refusal.Refusal.TheVariants.{Framing}
 use Rattle.vx_bits.specs.Codes.{EndsInNoZero}
 use Rattle.vx_bits.specs.declared.rules.TheConstants.{NOT_A_START_CODE}
 use Rattle.vx_annexb.specs.Places.{IsMark}
 use Rattle.vx_annexb.specs.Emulation.{BreaksRule, unescaped_to, unescaped, IsEscaped}
-use Rattle.vx_annexb.specs.ByteStream.{UnitPlace, unit_bytes, IsSound, FollowsFrom, IsStream, long_start_code}
+use Rattle.vx_annexb.specs.ByteStream.{UnitPlace, unit_bytes, IsUnit, SeesNoMore, IsSound, FollowsFrom, IsStream, long_start_code}
 
 -- the bytes determine the units and the ending
 abbrev pub StreamIsUnique : Type 0
@@ -21,6 +21,16 @@ abbrev pub StreamGoesOn : Type 0
 StreamGoesOn =
     (b more : List ℕ) (all : Bool) (us vs : List UnitPlace) (r t : Option Refusal) → IsStream b false us r → IsStream (b ++ more) all vs t
     → ((later : List UnitPlace) × (vs ≡ us ++ later)) × ((refusal : Refusal) → r ≡ Some refusal → (vs ≡ us) × (t ≡ Some refusal))
+
+-- however the bytes go on, units whose end is seen follow one another, with the same bytes
+abbrev pub SeenStays : Type 0
+SeenStays =
+    (g more : List ℕ) (all : Bool) (p : ℕ) (us : List UnitPlace) → FollowsFrom g false p us
+    → FollowsFrom (g ++ more) all p us × (map (unit_bytes (g ++ more)) us ≡ map (unit_bytes g) us)
+
+-- where no further unit's end is seen in the bytes g, the next unit ends at most two bytes before they do
+abbrev pub LaterUnseen : Type 0
+LaterUnseen = (g more : List ℕ) (all : Bool) (p : ℕ) (u : UnitPlace) → SeesNoMore g false p → IsUnit (g ++ more) all p u → length g < u.end + 3
 
 -- a NAL unit and the zeros behind it
 pub record Part : Type 0 where

@@ -1,5 +1,5 @@
 //! Laws of the byte stream: functions that do nothing, each with a law as its contract.
-ghost use Rattle.vx_annexb.specs.Laws.{StreamIsUnique, StreamExists, StreamGoesOn, UnitsCanStand, StreamIsAnnexB, AnnexBIsStream, WrittenIsAnnexB, WrittenIsStream, EscapedIsUnique, EscapedExists, EscapedJoins, EscapedSplits, EscapedIsInverse, StrayEndsStream};
+ghost use Rattle.vx_annexb.specs.Laws.{StreamIsUnique, StreamExists, StreamGoesOn, UnitsCanStand, StreamIsAnnexB, AnnexBIsStream, WrittenIsAnnexB, WrittenIsStream, EscapedIsUnique, EscapedExists, EscapedJoins, EscapedSplits, EscapedIsInverse, StrayEndsStream, SeenStays, LaterUnseen};
 
 /// The bytes determine their units and the ending behind them.
 pub fn stream_is_unique()
@@ -69,4 +69,14 @@ pub fn escaped_is_inverse()
 /// Before a byte that is no start code the units are those of the bytes before it, which no rule refuses.
 pub fn stray_ends_stream()
     ensures { StrayEndsStream }
+{}
+
+/// Units whose end is seen keep their places and their bytes however the bytes go on.
+pub fn seen_stays()
+    ensures { SeenStays }
+{}
+
+/// Where no further unit's end is seen in the first bytes, the next unit ends at most two bytes before they do.
+pub fn later_unseen()
+    ensures { LaterUnseen }
 {}

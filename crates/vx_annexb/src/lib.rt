@@ -17,8 +17,8 @@ pub use emulation::{emulation_fault, escape, unescape, unit_place};
 pub use header::{NalHeader, read_header};
 pub use laws::{
     annex_b_is_stream, escaped_exists, escaped_is_inverse, escaped_is_unique, escaped_joins,
-    escaped_splits, stray_ends_stream, stream_exists, stream_goes_on, stream_is_annex_b,
-    stream_is_unique, units_can_stand, written_is_annex_b, written_is_stream,
+    escaped_splits, later_unseen, seen_stays, stray_ends_stream, stream_exists, stream_goes_on,
+    stream_is_annex_b, stream_is_unique, units_can_stand, written_is_annex_b, written_is_stream,
 };
 pub use span::Span;
 pub use splitter::Splitter;
