@@ -1,8 +1,8 @@
 -- Where no further unit's end is seen in the first bytes, the next unit ends no more than two bytes before they do.
-use Rattle.std.proofs.Common.{◌≡◌, ℕ, ◌+◌, ◌-◌, ◌<◌, ◌≤◌, inl, Bool, false, List, [], ◌∷◌, ◌++◌, length, slice_index, sym, ◌∙◌, arith, length-append, ⊎_elim, refl, map, ap₂}
+use Rattle.std.proofs.Common.{◌≡◌, ℕ, ◌+◌, ◌-◌, ◌<◌, ◌≤◌, inl, Bool, false, List, [], ◌∷◌, ◌++◌, length, sym, ◌∙◌, arith, ⊎_elim, refl, map, ap₂}
 use Rattle.std.proofs.lemmas.Bool.{cases_lt, false≢true}
-use Rattle.vx_annexb.specs.Places.{AreZeros, IsMark, IsFirstFrom}
-use Rattle.vx_annexb.specs.ByteStream.{StartsAt, CanEnd, UnitPlace, unit_bytes, IsUnit, SeesNoMore, FollowsFrom}
+use Rattle.vx_annexb.specs.Places.{AreZeros}
+use Rattle.vx_annexb.specs.ByteStream.{StartsAt, UnitPlace, unit_bytes, IsUnit, FollowsFrom}
 use Rattle.vx_annexb.specs.Laws.{LaterUnseen, SeenStays}
 use Rattle.vx_annexb.proofs.Places.{index_on, mark_on, end_before, unit_within, bytes_on, follows_on}
 use Rattle.vx_annexb.proofs.Unique.{none_or_unit}

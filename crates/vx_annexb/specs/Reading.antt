@@ -1,6 +1,6 @@
 -- A reader of units, as its callers see it: by these words, and by the relation `HasRead` between it and the bytes that it
 -- took of a source with the units that it gave.
-use Rattle.std.specs.Prelude.{◌≡◌, ℕ, ◌+◌, ◌^◌, ◌<◌, ◌≤◌, ◌⊎◌, Bool, true, false, List, [], ◌∷◌, ◌++◌, Option, Some, None, Result, Ok, Err, length, take, slice_range}
+use Rattle.std.specs.Prelude.{◌≡◌, ℕ, ◌+◌, ◌^◌, ◌≤◌, ◌⊎◌, true, false, List, [], ◌∷◌, ◌++◌, Option, Some, None, Result, Ok, Err, length, take, slice_range}
 use Rattle.std.specs.Io.KnownBytes.{Consumes, Keeps, IsAtEnd}
 use Rattle.vx_bits.specs.declared.refusal.Refusal.{Refusal}
 use Rattle.vx_bits.specs.declared.refusal.Refusal.TheVariants.{Limit}
@@ -12,7 +12,7 @@ use Rattle.vx_annexb.specs.declared.unit_reader.Closed.TheVariants.{End, TooLong
 use Rattle.vx_annexb.specs.declared.unit_reader.ReadFault.{ReadFault}
 use Rattle.vx_annexb.specs.declared.unit_reader.ReadFault.TheVariants.{Memory, SourceFailed}
 use Rattle.vx_annexb.specs.ByteStream.{source_limit, UnitPlace, unit_bytes, IsStream}
-use Rattle.vx_annexb.specs.Held.{Held, Stands, fed, held, lent, is_all, place_of, IsSought}
+use Rattle.vx_annexb.specs.Held.{Held, Stands, held, lent, is_all, place_of}
 
 -- a reader: its splitter, how many bytes it took, and why it reads no more
 pub record Reading : Type 0 where

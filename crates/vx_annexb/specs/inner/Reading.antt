@@ -1,14 +1,14 @@
 -- What a reader keeps to, and the steps of a read.
-use Rattle.std.specs.Prelude.{◌≡◌, ℕ, ◌+◌, ◌^◌, ◌<◌, ◌≤◌, Bool, true, false, List, [], ◌++◌, Option, Some, None, Result, Ok, Err, length, take, min, ◌-◌}
+use Rattle.std.specs.Prelude.{◌≡◌, ℕ, ◌^◌, List, ◌++◌, Option, Some, Result, Ok, Err, length, take}
 use Rattle.std.specs.Io.KnownBytes.{Consumes, Keeps, IsAtEnd}
 use Rattle.vx_io.specs.Faults.{Rose}
 use Rattle.vx_annexb.specs.declared.unit_reader.Closed.{Closed}
-use Rattle.vx_annexb.specs.declared.unit_reader.Closed.TheVariants.{End, TooLong, Failed}
+use Rattle.vx_annexb.specs.declared.unit_reader.Closed.TheVariants.{End, TooLong}
 use Rattle.vx_annexb.specs.declared.unit_reader.ReadFault.{ReadFault}
 use Rattle.vx_annexb.specs.declared.unit_reader.ReadFault.TheVariants.{Memory, SourceFailed}
 use Rattle.vx_annexb.specs.declared.unit_reader.Came.{Came}
 use Rattle.vx_annexb.specs.ByteStream.{source_limit, UnitPlace}
-use Rattle.vx_annexb.specs.Held.{Held, Stands, fed, held, ahead, is_all, IsSought}
+use Rattle.vx_annexb.specs.Held.{Held, Stands, fed}
 use Rattle.vx_annexb.specs.Reading.{Reading, HoldsFew, ClosesAt}
 
 -- how many bytes the splitter was fed of the n that were taken
