@@ -145,7 +145,7 @@ Any-counted p (x ∷ xs) some =
     ]
 
 -- where no two pass, one passes at most
-at_most_one : {X : Type 0} (p : X → Bool) (xs : List X) → AllPairs (λ x y. p x ≡ true → p y ≡ true → ⊥) xs → count_by p xs ≤ 1
+pub at_most_one : {X : Type 0} (p : X → Bool) (xs : List X) → AllPairs (λ x y. p x ≡ true → p y ≡ true → ⊥) xs → count_by p xs ≤ 1
 at_most_one p [] apart = omega arith
 at_most_one {X} p (x ∷ xs) apart =
     let rest : count_by p xs ≤ 1 = at_most_one p xs (λ i j d less short. apart (suc i) (suc j) d (omega arith) (omega arith)) in

@@ -1,7 +1,12 @@
--- Lemmas on regions.
+-- Lemmas on regions and lines, and on the frames that they make up.
 pub mod Areas
+pub mod Covering
 pub mod Framed
+pub mod Keeping
 pub mod Lined
+pub mod Merged
 pub mod Overlapping
+pub mod Positions
+pub mod Single
 pub mod Sizes
 pub mod Together

@@ -1,6 +1,6 @@
 -- The greatest number that regions give.
-use Rattle.std.proofs.Common.{◌≡◌, ℕ, zero, suc, ◌+◌, ◌<◌, ◌≤◌, max, List, [], ◌∷◌, All, length, get_or, take, ap, refl, arith, ◌∙◌}
-use Rattle.std.proofs.lemmas.List.Elements.{All-head, All-tail}
+use Rattle.std.proofs.Common.{◌≡◌, ℕ, zero, suc, ◌+◌, ◌<◌, ◌≤◌, max, List, [], ◌∷◌, All, length, get_or, take, ap, refl, arith, ◌∙◌, inl, inr}
+use Rattle.std.proofs.lemmas.Bool.{cases_lt}
 use Rattle.vx_fit.specs.declared.placed.Placed.{Placed}
 use Rattle.vx_fit.specs.Placing.{greatest}
 
@@ -18,3 +18,12 @@ pub greatest_bounds : (f : Placed → ℕ) (ps : List Placed) (k : ℕ) (d : Pla
 greatest_bounds f [] k d short = absurd (omega arith)
 greatest_bounds f (p ∷ ps) zero d short = omega arith
 greatest_bounds f (p ∷ ps) (suc k) d short = omega (arith, greatest_bounds f ps k d (omega arith))
+
+-- what is below the greatest is below what one gives
+pub greatest_above : (f : Placed → ℕ) (ps : List Placed) (n : ℕ) (d : Placed) → n < greatest f ps → (k : ℕ) × (k < length ps) × (n < f (get_or ps k d))
+greatest_above f [] n d below = absurd (omega arith)
+greatest_above f (p ∷ ps) n d below =
+    elim (cases_lt n (f p)) [
+      | inl first ↦ (0, omega arith, first)
+      | inr later ↦ let rest = greatest_above f ps n d (omega arith) in (suc rest.0, omega (arith, rest.1), rest.2)
+    ]

@@ -1,5 +1,6 @@
 -- Definitions that the contracts of this crate cite.
 pub mod FitFaults
+pub mod FitLaws
 pub mod FrameLines
 pub mod Lowest
 pub mod Placing

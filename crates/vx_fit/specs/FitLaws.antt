@@ -1,0 +1,61 @@
+-- What holds of regions that fit together and of their lines: each list has one answer, and the frame that they make up is
+-- a layout whose regions are the pictures.
+use Rattle.std.specs.Prelude.{◌≡◌, ℕ, ◌-◌, ◌<◌, List, length, map}
+use Rattle.std.specs.Int.{div_ceil}
+use Rattle.std.specs.List.{AllZip, slice_index_or}
+use Rattle.vx_layout.specs.declared.numbers.Numbers.{Numbers}
+use Rattle.vx_layout.specs.declared.rect.Rect.{Rect}
+use Rattle.vx_layout.specs.Borders.{Begins, Ends}
+use Rattle.vx_layout.specs.Bounds.{last}
+use Rattle.vx_layout.specs.Faults.{IsLayout}
+use Rattle.vx_layout.specs.Frames.{frame_of, with_one_subpic}
+use Rattle.vx_layout.specs.Regions.{region_of}
+use Rattle.vx_layout.specs.Shapes.{AreListable}
+use Rattle.vx_fit.specs.declared.placed.FitFault.{FitFault}
+use Rattle.vx_fit.specs.declared.placed.Placed.{Placed}
+use Rattle.vx_fit.specs.FitFaults.{IsFitFault}
+use Rattle.vx_fit.specs.FrameLines.{HaveLines, IsLinesFault}
+use Rattle.vx_fit.specs.Placing.{FitTogether, frame_height, frame_width, in_ctus}
+use Rattle.vx_fit.specs.Sources.{IsSource}
+
+-- regions have one fault at most
+abbrev pub FitFaultIsOne : Type 0
+FitFaultIsOne = (placed : List Placed) (ctb : ℕ) (d e : FitFault) → IsFitFault placed ctb d → IsFitFault placed ctb e → d ≡ e
+
+-- and where they fit together they have none
+abbrev pub FittingHasNoFault : Type 0
+FittingHasNoFault = (placed : List Placed) (ctb : ℕ) (e : FitFault) → FitTogether placed ctb → ¬ IsFitFault placed ctb e
+
+-- at most one region is the lowest that doesn't keep its lines
+abbrev pub LinesFaultIsOne : Type 0
+LinesFaultIsOne = (corners : List Rect) (parts : List Numbers) (j k : ℕ) → IsLinesFault corners parts j → IsLinesFault corners parts k → j ≡ k
+
+-- and none is where all keep them
+abbrev pub KeepingHasNoFault : Type 0
+KeepingHasNoFault =
+    (columns rows : List ℕ) (corners : List Rect) (parts : List Numbers) (k : ℕ) → HaveLines columns rows corners parts → ¬ IsLinesFault corners parts k
+
+-- the lines make up one list of columns, and one of rows
+abbrev pub LinesAreOne : Type 0
+LinesAreOne =
+    (columns rows others below : List ℕ) (corners : List Rect) (parts : List Numbers) → HaveLines columns rows corners parts → HaveLines others below corners parts
+    → (columns ≡ others) × (rows ≡ below)
+
+-- the frame of these columns, rows and regions, with these pictures in them, is a layout by its regions and as one
+-- subpicture; its slices can be listed tile by tile; its region k is picture k; it has the frame's size in CTUs; and its
+-- first region begins it, and its last one ends it
+pub record IsMerged (placed : List Placed) (ctb : ℕ) (columns rows : List ℕ) (corners : List Rect) (parts : List Numbers) : Type 0 where
+  pub layout : IsLayout (frame_of columns rows corners parts)
+  pub alone : IsLayout (with_one_subpic (frame_of columns rows corners parts))
+  pub listable : AreListable columns rows (frame_of columns rows corners parts).slices
+  pub regions : (k : ℕ) (d : Numbers) → k < length corners → region_of (frame_of columns rows corners parts) k ≡ slice_index_or parts k d
+  pub wide : last columns ≡ div_ceil (frame_width placed) ctb
+  pub high : last rows ≡ div_ceil (frame_height placed) ctb
+  pub begins : (d : Rect) → Begins (slice_index_or corners 0 d)
+  pub ends : (d : Rect) → Ends (last columns) (last rows) (slice_index_or corners (length corners - 1) d)
+
+-- this holds of regions that fit together, of sources of their sizes, and of the lines that they all keep
+abbrev pub FrameOfRegions : Type 0
+FrameOfRegions =
+    (placed : List Placed) (ctb : ℕ) (columns rows : List ℕ) (corners : List Rect) (parts : List Numbers) → 0 < length placed → 0 < ctb → FitTogether placed ctb
+    → corners ≡ map (in_ctus ctb) placed → AllZip IsSource corners parts → HaveLines columns rows corners parts → IsMerged placed ctb columns rows corners parts
