@@ -1,7 +1,7 @@
 //! Profile, tier and level, DPB parameters and timing of H.266, and the numbers of a VPS that are read.
 //!
-//! Each structure is a table ([`PTL`], [`DPB`] ..) and one call over it. The parameter sets that hold
-//! these structures take the tables as parts of their own.
+//! Each structure is a table ([`PTL`], [`DPB`] ..), a walk over it and one call that reads. The parameter sets that hold
+//! these structures take the tables as parts of their own, or build on the walks ([`code_ptl`], [`code_dpb`] ..).
 #![tactic(auto)]
 
 mod laws;
@@ -11,6 +11,7 @@ mod run;
 mod tables;
 #[cfg(test)]
 mod tests;
+mod walk;
 
 pub use laws::{runs_are_spelled, structures_are_spelled, writes_what_was_read};
 pub use laws_depends::{
@@ -19,3 +20,4 @@ pub use laws_depends::{
 pub use read::{read_dpb, read_ptl, read_sublayer_timing, read_timing, read_vps};
 pub use run::{is_run, write_run};
 pub use tables::{DPB, PTL, SUBLAYER_TIMING, TIMING, VPS};
+pub use walk::{code_dpb, code_ptl, code_sublayer_timing, code_timing};
