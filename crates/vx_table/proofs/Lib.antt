@@ -10,6 +10,7 @@ pub mod Dependence
 pub mod Chains
 pub mod Again
 pub mod Rewriting
+pub mod Rewrites
 pub mod Agreeing
 pub mod Closing
 pub mod Codings

@@ -20,3 +20,4 @@ pub mod Writing
 pub mod Kept
 pub mod Shown
 pub mod Rewritten
+pub mod Rewrites

@@ -1,4 +1,5 @@
 //! Laws of rewriting: functions that do nothing, each with a law as its contract.
+ghost use Rattle.vx_table.specs.Rewrites.{WhatGoesIsRewritten, CopiedRewrites, ReplacedRewrites, RewritesTogether, AbsentRewrites, PresentRewrites, NothingRewrites, ValuesTake, TakesAgain, TakesTogether, TurnsTake, RewrittenIsRead, TablesLeave, SectionsLeave, LeavesTogether, LeavesPresent, LeavesAgree, SectionsTogether};
 ghost use Rattle.vx_table.specs.Rewritten.{RewritesOneWay, MakesRewritten, MadeIsRewritten};
 
 /// The items of some fields and those of the others tell the structure that has both.
@@ -10,4 +11,49 @@ pub fn rewrites_one_way()
 pub fn makes_rewritten()
     ensures makes { MakesRewritten }
     ensures made { MadeIsRewritten }
+{}
+
+/// What is written of a rewritten structure is read as it: with the same items of the fields that were taken over.
+pub fn rewritten_is_read()
+    ensures { RewrittenIsRead }
+{}
+
+/// Where a structure can be rewritten, there is a rewritten one.
+pub fn what_goes_is_rewritten()
+    ensures { WhatGoesIsRewritten }
+{}
+
+/// A part can be rewritten whose fields are all taken over, and one whose fields are all replaced; one that is absent
+/// or there alike; and one part behind another.
+pub fn parts_rewrite()
+    ensures copied { CopiedRewrites }
+    ensures replaced { ReplacedRewrites }
+    ensures absent { AbsentRewrites }
+    ensures present { PresentRewrites }
+    ensures nothing { NothingRewrites }
+    ensures together { RewritesTogether }
+{}
+
+/// What stands in place of a part: given values; what goes through at one scope, at each that agrees; one part behind
+/// another; and the turns of a block.
+pub fn items_take()
+    ensures values { ValuesTake }
+    ensures again { TakesAgain }
+    ensures together { TakesTogether }
+    ensures turns { TurnsTake }
+{}
+
+/// Structures leave names alone where the test over their rows holds; so do parts, one behind another or on a
+/// condition, and at the end these names have the numbers that they had.
+pub fn parts_leave()
+    ensures table { TablesLeave }
+    ensures sections { SectionsLeave }
+    ensures together { LeavesTogether }
+    ensures present { LeavesPresent }
+    ensures agree { LeavesAgree }
+{}
+
+/// Sections are one structure behind another, wherever they are cut.
+pub fn sections_together()
+    ensures { SectionsTogether }
 {}

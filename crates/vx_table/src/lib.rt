@@ -42,7 +42,10 @@ pub use laws_depends::{
     kept_tells_kept, scopes_follow_items, steps_carry, tables_carry,
 };
 pub use laws_numbers::ceil_log2_is_least;
-pub use laws_rewritten::{makes_rewritten, rewrites_one_way};
+pub use laws_rewritten::{
+    items_take, makes_rewritten, parts_leave, parts_rewrite, rewrites_one_way, rewritten_is_read,
+    sections_together, what_goes_is_rewritten,
+};
 pub use laws_rows::first_row_first;
 pub use laws_spelling::{
     every_answer, items_in_range, no_proper_prefix, one_answer, one_behind_another, one_reading,

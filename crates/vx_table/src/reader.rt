@@ -18,7 +18,7 @@ use vx_bits::{BitCause, BitReader, Fields, Item, ReadError, Refusal};
 ///
 /// # Errors
 ///
-/// Why no code begins here. The reader may then have moved on: a coder takes the code from a fork.
+/// Why no code begins here; the reader is then as it was.
 pub fn take_code(bits: &mut BitReader<'_>, coding: Coding<u32>) -> Result<i64, BitCause>
     requires { IsCodable coding }
     ensures { TakesCode coding bits.old result bits.new }
