@@ -8,7 +8,7 @@ use Rattle.vx_table.specs.declared.rows.Cell.{Cell}
 use Rattle.vx_table.specs.Forms.{Form, done, field, ◌>>=◌, has_value, turns}
 use Rattle.vx_table.specs.Spelling.{HasCode, code_of, item_of, items_along}
 use Rattle.vx_table.specs.Values.{Follows, to_end, through, bits_along}
-use Rattle.vx_ptl.specs.Run.{item_bits, run_bits, gap, field_coding, IsRunItem}
+use Rattle.vx_ptl.specs.Run.{item_bits, run_bits, gap, field_code, IsRunItem}
 
 -- What holds between two fields of the last field written, of the place that the run has reached, and of the gaps of the form from there on.
 abbrev pub Between : Type 1
@@ -20,7 +20,7 @@ Even before place gaps = gaps ≡ []
 
 -- The run keeps up at one field.
 pub data Keeps (cell : Cell ℕ) (v : ℤ) (before place : ℕ) (gaps : List Bool) (next : Between) : Type 0 where
-  written : has_value cell.coding ≡ true → field_coding cell.field ≡ Some cell.coding → gap before cell.field place ≡ gaps
+  written : has_value cell.coding ≡ true → (field_code cell.field).coding ≡ Some cell.coding → gap before cell.field place ≡ gaps
       → next cell.field (place + length gaps + length (code_of cell.coding (place + length gaps) v)) [] → Keeps cell v before place gaps next
   owed : has_value cell.coding ≡ false → next before place (gaps ++ code_of cell.coding (place + length gaps) v) → Keeps cell v before place gaps next
 
@@ -51,14 +51,14 @@ runs_turns keep block counter turn (suc more) s before place gaps each at =
     (λ t b p g now. runs_turns keep block counter (turn + 1) more t b p g each now) (each _ before place gaps at)
 
 -- an item's bits are the gaps and its code
-item_is : (cell : Cell ℕ) (v : ℤ) (before place at : ℕ) (gaps : List Bool) → at ≡ place + length gaps → field_coding cell.field ≡ Some cell.coding → gap before cell.field place ≡ gaps
+item_is : (cell : Cell ℕ) (v : ℤ) (before place at : ℕ) (gaps : List Bool) → at ≡ place + length gaps → (field_code cell.field).coding ≡ Some cell.coding → gap before cell.field place ≡ gaps
     → item_bits before place (record { field = cell.field; value = v }) ≡ gaps ++ code_of cell.coding at v
 unfolding item_bits
 item_is cell v before place at gaps here coded gapped = rw (coded, gapped, here) refl
 
 -- the bits of an item and of those behind it
 run_item : (cell : Cell ℕ) (v : ℤ) (items : List Item) (before place at : ℕ) (gaps bits : List Bool) → at ≡ place + length gaps → has_value cell.coding ≡ true
-    → field_coding cell.field ≡ Some cell.coding → gap before cell.field place ≡ gaps → run_bits cell.field (at + length (code_of cell.coding at v)) items ≡ bits
+    → (field_code cell.field).coding ≡ Some cell.coding → gap before cell.field place ≡ gaps → run_bits cell.field (at + length (code_of cell.coding at v)) items ≡ bits
     → run_bits before place (item_of cell v ++ items) ≡ gaps ++ (code_of cell.coding at v ++ bits)
 unfolding run_bits item_of
 run_item cell v items before place at gaps bits here has coded gapped rest =
@@ -67,7 +67,7 @@ run_item cell v items before place at gaps bits here has coded gapped rest =
     rw (has, one, next, rest) (append_assoc gaps (code_of cell.coding at v) bits)
 
 -- an item that is written has a code
-item_runs : (cell : Cell ℕ) (v : ℤ) (items : List Item) → has_value cell.coding ≡ true → field_coding cell.field ≡ Some cell.coding → HasCode cell.coding v
+item_runs : (cell : Cell ℕ) (v : ℤ) (items : List Item) → has_value cell.coding ≡ true → (field_code cell.field).coding ≡ Some cell.coding → HasCode cell.coding v
     → All IsRunItem items → All IsRunItem (item_of cell v ++ items)
 unfolding IsRunItem item_of
 item_runs cell v items has coded code rest =
@@ -77,7 +77,7 @@ item_runs cell v items has coded code rest =
 
 -- the bits of a field of bits, and of those behind it
 item_spelled : {A : Type 0} (cell : Cell ℕ) (goes : ℤ → Form A) (v : ℤ) (w : List ℤ) (before place at : ℕ) (gaps : List Bool) → at ≡ place + length gaps → HasCode cell.coding v
-    → has_value cell.coding ≡ true → field_coding cell.field ≡ Some cell.coding → gap before cell.field place ≡ gaps
+    → has_value cell.coding ≡ true → (field_code cell.field).coding ≡ Some cell.coding → gap before cell.field place ≡ gaps
     → All IsRunItem (items_along (goes v) w) × (run_bits cell.field (at + length (code_of cell.coding at v)) (items_along (goes v) w) ≡ bits_along (goes v) (at + length (code_of cell.coding at v)) w)
     → All IsRunItem (items_along (field cell goes) (v ∷ w)) × (run_bits before place (items_along (field cell goes) (v ∷ w)) ≡ gaps ++ bits_along (field cell goes) at (v ∷ w))
 item_spelled cell goes v w before place at gaps here code has coded gapped rest = (

@@ -1,5 +1,5 @@
 -- The run beside each of the tables.
-use Rattle.std.proofs.Common.{◌≡◌, ℕ, ℤ, zero, suc, ◌-◌, min, Bool, true, false, List, [], ◌∷◌, length, take, drop, slice_set, Some, refl}
+use Rattle.std.proofs.Common.{◌≡◌, ℕ, ℤ, zero, suc, ◌-◌, min, Bool, true, false, nat_lt, arith, List, [], ◌∷◌, length, take, drop, slice_set, Some, refl}
 use Rattle.std.specs.Prelude.{◌==◌, cond}
 use Rattle.vx_table.specs.declared.rows.Formula.{Formula}
 use Rattle.vx_table.specs.declared.rows.Coding.{Coding}
@@ -12,8 +12,9 @@ use Rattle.vx_table.specs.declared.rows.Presence.TheVariants.{When, Repeat}
 use Rattle.vx_table.specs.Scope.{value}
 use Rattle.vx_table.specs.Forms.{Form, done, coding_at, cell_at, has_value, one_field, present, part, form_of}
 use Rattle.vx_table.specs.Spelling.{HasCode}
+use Rattle.std.proofs.lemmas.Bool.{le-ltb}
 use Rattle.vx_table.proofs.Blocks.{form-field, form-name, form-block}
-use Rattle.vx_ptl.specs.Run.{gap, begins_byte, field_coding}
+use Rattle.vx_ptl.specs.Run.{gap, field_code}
 use Rattle.vx_ptl.proofs.Beside.{Between, Keeps, written, Runs, Even, runs_on, runs_turns}
 
 -- A row's field takes the run from here to there, at every scope.
@@ -78,13 +79,17 @@ has_at s Refused has = has
 -- A field of bits that a run codes as its row does, and before which no gap stands.
 pub record IsPlain (c : Cell Formula) : Type 0 where
   pub value : has_value c.coding ≡ true
-  pub coded : (s : List ℕ) → field_coding c.field ≡ Some (coding_at s c.coding)
-  pub apart : (before : ℕ) → begins_byte before c.field ≡ false
+  pub coded : (s : List ℕ) → (field_code c.field).coding ≡ Some (coding_at s c.coding)
+  pub apart : (field_code c.field).zeros ≡ 0
+
+pub no_gap : (c : Cell Formula) (before place : ℕ) → IsPlain c → gap before c.field place ≡ []
+no_gap c before place plain =
+    let none : nat_lt before 0 ≡ false = le-ltb before 0 (omega arith) in
+    rw (plain.apart, none) refl
 
 plain_even : (c : Cell Formula) → IsPlain c → Takes Even c Even
 plain_even c plain s before place gaps v here code =
-    let none : gap before c.field place ≡ gaps = rw (plain.apart before, here) refl in
-    written (has_at s c.coding plain.value) (plain.coded s) none refl
+    written (has_at s c.coding plain.value) (plain.coded s) (rw (no_gap c before place plain, here) refl) refl
 
 -- From here to there along the rows, at every scope.
 pub record Leads (from : Between) (rows : List Row) (to : Between) : Type 0 where

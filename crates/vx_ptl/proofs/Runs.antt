@@ -7,7 +7,7 @@ use Rattle.std.proofs.lemmas.List.Elements.{All-head, All-tail, All-cons}
 use Rattle.vx_bits.specs.declared.list.Item.{Item}
 use Rattle.vx_table.specs.declared.rows.Coding.{Coding}
 use Rattle.vx_table.specs.Spelling.{code_of}
-use Rattle.vx_ptl.specs.Run.{item_bits, run_bits, gap, field_coding, IsRunItem, GrowsByFront}
+use Rattle.vx_ptl.specs.Run.{item_bits, run_bits, gap, field_code, IsRunItem, GrowsByFront}
 
 -- The bits have gained a front of all, and more of it is to come.
 abbrev pub Gained : List Bool → List Bool → List Bool → List Bool → Type 0
@@ -48,7 +48,7 @@ pub run_stopped : (before : ℕ) (old mid new all : List Bool) (item : Item) (it
 unfolding run_bits
 run_stopped before old mid new all item items is front = front_gained old mid new all (item_bits before (length mid) item) _ is front
 
-pub item_written : (before : ℕ) (item : Item) (old mid new : List Bool) (coding : Coding ℕ) → field_coding item.field ≡ Some coding
+pub item_written : (before : ℕ) (item : Item) (old mid new : List Bool) (coding : Coding ℕ) → (field_code item.field).coding ≡ Some coding
     → mid ≡ old ++ gap before item.field (length old) → new ≡ mid ++ code_of coding (length mid) item.value → new ≡ old ++ item_bits before (length old) item
 unfolding item_bits
 item_written before item old mid new coding is gapped coded =

@@ -1,35 +1,66 @@
 -- The bits of items of the structures, in their order.
-use Rattle.std.specs.Prelude.{◌≡◌, ℕ, ℤ, ◌+◌, Bool, cond, not, ◌&&◌, ◌||◌, ◌==◌, List, [], ◌∷◌, ◌++◌, length, take, Option, Some, None}
-use Rattle.std.specs.Option.{option_or}
+use Rattle.std.specs.Prelude.{◌≡◌, ℕ, ℤ, ◌+◌, min, nat_lt, Bool, cond, List, [], ◌∷◌, ◌++◌, length, take, replicate, slice_set, slice_index_or, Option, Some, None}
 use Rattle.vx_bits.specs.Codes.{zeros_from}
 use Rattle.vx_bits.specs.declared.list.Item.{Item}
+use Rattle.vx_table.specs.declared.rows.Term.TheVariants.{Number}
 use Rattle.vx_table.specs.declared.rows.Formula.{Formula}
+use Rattle.vx_table.specs.declared.rows.Formula.TheVariants.{Plain}
 use Rattle.vx_table.specs.declared.rows.Coding.{Coding}
-use Rattle.vx_table.specs.Scope.{fresh}
-use Rattle.vx_table.specs.Forms.{coding_of, coding_at}
+use Rattle.vx_table.specs.declared.rows.Coding.TheVariants.{Fixed, Golomb, SignedGolomb, Zeros}
+use Rattle.vx_table.specs.declared.rows.Row.{Row}
+use Rattle.vx_table.specs.declared.rows.Row.TheVariants.{Field, Block, Name}
 use Rattle.vx_table.specs.Spelling.{HasCode, IsCodable, code_of}
+use Rattle.vx_ptl.specs.declared.run.FieldCode.{FieldCode}
 use Rattle.vx_ptl.specs.declared.tables.TheConstants.{PTL, DPB, TIMING, SUBLAYER_TIMING}
 
--- at no scope, since no width of these structures depends on one
-abbrev pub resolved : Option (Coding Formula) → Option (Coding ℕ)
-resolved (Some coding) = Some (coding_at fresh coding)
-resolved None = None
+-- How a row codes its field whatever the scope: no width of these structures depends on one, and a gap is no field.
+abbrev pub fixed_coding : Coding Formula → Option (Coding ℕ)
+fixed_coding (Fixed (Plain (Number n))) = Some (Fixed (min n 32))
+fixed_coding Golomb = Some Golomb
+fixed_coding SignedGolomb = Some SignedGolomb
+fixed_coding coding = None
 
--- how a field of these structures is coded
-unfoldable pub field_coding : ℕ → Option (Coding ℕ)
-field_coding field = resolved (option_or (option_or (option_or (coding_of PTL field) (coding_of DPB field)) (coding_of TIMING field)) (coding_of SUBLAYER_TIMING field))
+-- The zeros up to a byte boundary that stand last before a row of a table, by the field that they are reported under; 0 where none do.
+abbrev pub zeros_over : ℕ → Coding Formula → ℕ → ℕ
+zeros_over before Zeros field = field
+zeros_over before coding field = before
+
+abbrev pub zeros_at : ℕ → Row → ℕ
+zeros_at over (Field c) = zeros_over over c.coding c.field
+zeros_at over (Block presence n) = over
+zeros_at over (Name name formula) = over
+
+-- each field's coding, and the zeros before it in its table
+abbrev pub code_at : ℕ → Row → List FieldCode → List FieldCode
+code_at over (Field c) codes = slice_set codes c.field (record { coding = fixed_coding c.coding; zeros = zeros_over over c.coding c.field })
+code_at over (Block presence n) codes = codes
+code_at over (Name name formula) codes = codes
+
+abbrev pub codes_of : ℕ → List Row → List FieldCode → List FieldCode
+codes_of over [] codes = codes
+codes_of over (row ∷ rows) codes = codes_of (zeros_at over row) rows (code_at over row codes)
+
+abbrev pub no_code : FieldCode
+no_code = record { coding = None; zeros = 0 }
+
+-- by the number of the field
+unfoldable pub field_codes : List FieldCode
+field_codes = codes_of 0 SUBLAYER_TIMING (codes_of 0 TIMING (codes_of 0 DPB (codes_of 0 PTL (replicate 64 no_code))))
+
+abbrev pub field_code : ℕ → FieldCode
+field_code field = slice_index_or field_codes field no_code
+
+-- Behind an item of a field that stands before these zeros, they come: the numbers of fields rise along a table.
+abbrev pub zeros_behind : ℕ → ℕ → ℕ → List Bool
+zeros_behind before over place = cond (nat_lt before over) (zeros_from place) []
+
+abbrev pub gap : ℕ → ℕ → ℕ → List Bool
+gap before field place = zeros_behind before (field_code field).zeros place
 
 -- if there is a coding, it is at most 32 bits wide
 abbrev pub IsCodableIfAny : Option (Coding ℕ) → Type 0
 IsCodableIfAny (Some coding) = IsCodable coding
 IsCodableIfAny None = Unit {0}
-
--- Zeros up to the byte boundary stand before the first flag of field 20, and before fields 21 and 22 (H.266 clauses 7.3.3.1 and 7.3.3.2).
-abbrev pub begins_byte : ℕ → ℕ → Bool
-begins_byte before field = (field == 21) || ((field == 22) || ((field == 20) && not (before == 20)))
-
-abbrev pub gap : ℕ → ℕ → ℕ → List Bool
-gap before field place = cond (begins_byte before field) (zeros_from place) []
 
 -- the code of a value at a place
 abbrev pub value_bits : Option (Coding ℕ) → ℕ → ℤ → List Bool
@@ -38,7 +69,8 @@ value_bits None place v = []
 
 -- an item's bits at a place, behind an item of that field
 unfoldable pub item_bits : ℕ → ℕ → Item → List Bool
-item_bits before place item = gap before item.field place ++ value_bits (field_coding item.field) (place + length (gap before item.field place)) item.value
+item_bits before place item =
+    gap before item.field place ++ value_bits (field_code item.field).coding (place + length (gap before item.field place)) item.value
 
 -- the items' bits from a place on
 unfoldable pub run_bits : ℕ → ℕ → List Item → List Bool
@@ -55,4 +87,4 @@ HasBits (Some coding) v = HasCode coding v
 HasBits None v = ⊥
 
 unfoldable pub IsRunItem : Item → Type 0
-IsRunItem item = HasBits (field_coding item.field) item.value
+IsRunItem item = HasBits (field_code item.field).coding item.value

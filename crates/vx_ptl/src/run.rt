@@ -1,44 +1,115 @@
 //! Writing items of the structures.
 
-ghost use Rattle.std.specs.Prelude.{◌≡◌, ◌↔◌, ◌+◌, ◌-◌, ◌≤◌, ◌++◌, length, take, drop, All, IsTrue, OnOk, OnErr};
+ghost use Rattle.std.specs.Prelude.{◌≡◌, ◌↔◌, ◌+◌, ◌-◌, ◌≤◌, ◌++◌, length, take, drop, slice_set, All, IsTrue, OnOk, OnErr};
 ghost use Rattle.vx_ptl.specs.Spelling.{AppendsSpelling};
-ghost use Rattle.vx_ptl.specs.Run.{field_coding, resolved, begins_byte, gap, item_bits, run_bits, IsRunItem, IsCodableIfAny, GrowsByFront};
+ghost use Rattle.vx_ptl.specs.Run as run;
+ghost use Rattle.vx_ptl.specs.Run.{codes_of, code_at, zeros_at, field_code, zeros_behind, item_bits, run_bits, IsRunItem, IsCodableIfAny, GrowsByFront};
 
 use crate::tables::{DPB, PTL, SUBLAYER_TIMING, TIMING};
 use std::alloc::AllocError;
 use vx_bits::{BitWriter, Fields, Item};
-use vx_table::{Coding, Formula, Scope, coding_at, coding_of, has_code, write_code};
+use vx_table::{Coding, Formula, Row, Term, has_code, write_code};
 
-/// How the tables code a field of these structures.
-#[tactic(auto, unfolding(crate::specs::Run::field_coding))]
-fn coding_of_field(field: u16) -> Option<Coding<u32>>
-    ensures coding { result ≡ field_coding field }
-    ensures width { IsCodableIfAny result }
-{
-    let found = coding_of(&PTL, field)
-        .or(coding_of(&DPB, field))
-        .or(coding_of(&TIMING, field))
-        .or(coding_of(&SUBLAYER_TIMING, field));
-    resolve(found)
+/// How a field of these structures is written, which its row tells whatever the scope.
+#[derive(Clone, Copy)]
+struct FieldCode {
+    coding: Option<Coding<u32>>,
+    /// The zeros up to a byte boundary that stand last before it in its table, by the field that they are reported
+    /// under; 0 where none do.
+    zeros: u16,
 }
 
-/// A coding of these structures, whose widths depend on no scope.
-fn resolve(found: Option<Coding<Formula>>) -> Option<Coding<u32>>
-    ensures coding { result ≡ resolved found }
-    ensures width { IsCodableIfAny result }
+const NO_CODE: FieldCode = FieldCode {
+    coding: None,
+    zeros: 0,
+};
+
+/// How a row codes its field whatever the scope.
+fn fixed_coding(coding: Coding<Formula>) -> Option<Coding<u32>>
+    ensures { result ≡ run.fixed_coding coding }
 {
-    match found {
-        Some(code) => Some(coding_at(&Scope::new(), code)),
-        None => None,
+    match coding {
+        Coding::Fixed(Formula::Plain(Term::Number(width))) => Some(Coding::Fixed(width.min(32))),
+        Coding::Golomb => Some(Coding::Golomb),
+        Coding::SignedGolomb => Some(Coding::SignedGolomb),
+        _ => None,
     }
+}
+
+/// The zeros that stand last before what comes behind a row.
+fn zeros_over(before: u16, coding: Coding<Formula>, field: u16) -> u16
+    ensures { result ≡ run.zeros_over before coding field }
+{
+    match coding {
+        Coding::Zeros => field,
+        _ => before,
+    }
+}
+
+/// Notes how the fields of a table are written.
+fn note_table(codes: &mut [FieldCode; 64], table: &[Row])
+    ensures { codes.new ≡ codes_of 0 table.now codes.old }
+{
+    let mut zeros = 0;
+    for row in table {
+        zeros = note_row(codes, zeros, *row);
+    }
+}
+
+/// Notes how a row's field is written, and gives the zeros that stand last before the next row.
+fn note_row(codes: &mut [FieldCode; 64], before: u16, row: Row) -> u16
+    ensures codes { codes.new ≡ code_at before row codes.old }
+    ensures zeros { result ≡ zeros_at before row }
+{
+    let Row::Field(cell) = row else {
+        return before;
+    };
+    let zeros = zeros_over(before, cell.coding, cell.field);
+    let coding = fixed_coding(cell.coding);
+    note(codes, cell.field, FieldCode { coding, zeros });
+    zeros
+}
+
+/// Notes how a field is written.
+#[tactic(auto, using(std::proofs::lemmas::List::set_past))]
+fn note(codes: &mut [FieldCode; 64], field: u16, code: FieldCode)
+    ensures { codes.new ≡ slice_set codes.old field code }
+{
+    let place = usize::from(field);
+    if place < codes.len() {
+        codes[place] = code;
+    }
+}
+
+/// How each field of these structures is written, by its number.
+fn field_codes() -> [FieldCode; 64]
+    ensures { result ≡ run.field_codes }
+{
+    let mut codes = [NO_CODE; 64];
+    note_table(&mut codes, &PTL);
+    note_table(&mut codes, &DPB);
+    note_table(&mut codes, &TIMING);
+    note_table(&mut codes, &SUBLAYER_TIMING);
+    codes
+}
+
+/// How a field is written.
+#[tactic(auto, using(crate::proofs::Codes::codable))]
+fn code_of(codes: &[FieldCode; 64], field: u16) -> FieldCode
+    requires { codes.now ≡ run.field_codes }
+    ensures code { result ≡ field_code field }
+    ensures width { IsCodableIfAny result.coding }
+{
+    codes.get(usize::from(field)).copied().unwrap_or(NO_CODE)
 }
 
 /// Whether an item is of a field of these structures, and its value has a code.
 #[tactic(auto, unfolding(crate::specs::Run::IsRunItem))]
-fn is_run_item(item: Item) -> bool
+fn is_run_item(codes: &[FieldCode; 64], item: Item) -> bool
+    requires { codes.now ≡ run.field_codes }
     ensures { IsTrue result ↔ IsRunItem item }
 {
-    match coding_of_field(item.field) {
+    match code_of(codes, item.field).coding {
         Some(coding) => has_code(coding, item.value),
         None => false,
     }
@@ -50,8 +121,9 @@ pub fn is_run(items: &Fields, from: usize, to: usize) -> bool
     requires within { to ≤ length items.now }
     ensures { IsTrue result ↔ All IsRunItem (take (to - from) (drop from items.now)) }
 {
+    let codes = field_codes();
     for i in from..to {
-        if !is_run_item(items.item(i)) {
+        if !is_run_item(&codes, items.item(i)) {
             return false;
         }
     }
@@ -60,25 +132,32 @@ pub fn is_run(items: &Fields, from: usize, to: usize) -> bool
 
 /// Writes an item behind an item of another field, with the zeros before it.
 #[tactic(auto, unfolding(crate::specs::Run::item_bits, crate::specs::Run::IsRunItem))]
-fn write_item(bits: &mut BitWriter, before: u16, item: Item) -> Result<(), AllocError>
-    requires { IsRunItem item }
+fn write_item(
+    bits: &mut BitWriter,
+    codes: &[FieldCode; 64],
+    before: u16,
+    item: Item,
+) -> Result<(), AllocError>
+    requires codes { codes.now ≡ run.field_codes }
+    requires item { IsRunItem item }
     ensures ok { OnOk result (bits.new ≡ bits.old ++ item_bits before (length bits.old) item) }
     ensures err { OnErr result (GrowsByFront bits.old bits.new (item_bits before (length bits.old) item)) }
 {
-    write_gap(bits, before, item.field)?;
-    match coding_of_field(item.field) {
+    let code = code_of(codes, item.field);
+    write_gap(bits, before, code.zeros)?;
+    match code.coding {
         Some(coding) => write_code(bits, coding, item.value)?,
         None => unreachable!(),
     }
     Ok(())
 }
 
-/// Writes the zeros up to the byte boundary, where they stand before a field.
-fn write_gap(bits: &mut BitWriter, before: u16, field: u16) -> Result<(), AllocError>
-    ensures ok { OnOk result (bits.new ≡ bits.old ++ gap before field (length bits.old)) }
+/// Writes the zeros up to the byte boundary, where the item before is of a field that stands before them.
+fn write_gap(bits: &mut BitWriter, before: u16, zeros: u16) -> Result<(), AllocError>
+    ensures ok { OnOk result (bits.new ≡ bits.old ++ zeros_behind before zeros (length bits.old)) }
     ensures err { OnErr result (bits.new ≡ bits.old) }
 {
-    if field == 21 || field == 22 || (field == 20 && before != 20) {
+    if before < zeros {
         bits.align()?;
     }
     Ok(())
@@ -102,10 +181,11 @@ pub fn write_run(
     ensures err { OnErr result (GrowsByFront bits.old bits.new (run_bits 0 (length bits.old) (take (to - from) (drop from items.now)))) }
     ensures structures { OnOk result (AppendsSpelling bits.old (take (to - from) (drop from items.now)) bits.new) }
 {
+    let codes = field_codes();
     let mut before = 0;
     for i in from..to {
         let item = items.item(i);
-        write_item(bits, before, item)?;
+        write_item(bits, &codes, before, item)?;
         before = item.field;
     }
     Ok(())

@@ -7,6 +7,7 @@ use Rattle.vx_table.specs.declared.rows.Presence.TheVariants.{When, Repeat}
 use Rattle.vx_table.specs.declared.rows.Row.{Row}
 use Rattle.vx_table.specs.declared.rows.Row.TheVariants.{Field, Block, Name}
 use Rattle.vx_table.specs.Forms.{has_value, form_of}
+use Rattle.vx_table.specs.Parts.{Section, sections_form}
 use Rattle.vx_table.specs.Depends.{DependsOnlyOn}
 
 -- what a row gives a number: its field, its name, its block's counter
@@ -27,6 +28,14 @@ named_by (row ∷ rows) = named_by_row row ++ named_by rows
 -- the same fields with the same codings and ranges, after the same values.
 abbrev pub ReadsOnly : (given : List ℕ) → List Row → Type 0
 ReadsOnly given rows = DependsOnlyOn given (named_by rows) (form_of rows)
+
+-- So does a structure of several tables.
+abbrev pub named_by_all : List Section → List ℕ
+named_by_all [] = []
+named_by_all (section ∷ more) = (counter_of section.presence ++ named_by section.rows) ++ named_by_all more
+
+abbrev pub SectionsReadOnly : (given : List ℕ) → List Section → Type 0
+SectionsReadOnly given sections = DependsOnlyOn given (named_by_all sections) (sections_form sections)
 
 -- the fields that rows code, gaps left out
 abbrev pub coded_by_row : Row → List ℕ

@@ -5,8 +5,11 @@ use Rattle.vx_ptl.proofs.Structured.{runs_spelled}
 use Rattle.vx_ptl.proofs.Runs.{run_over, run_step, run_stopped, first_run, rest_run}
 use Rattle.vx_ptl.proofs.run.write_run.Goals as goal
 
-pub write_item-requires : goal.write_item-requires
-write_item-requires c =
+pub write_item-requires-clause-codes : goal.write_item-requires-clause-codes
+write_item-requires-clause-codes c = c.field_codes-codes.ensures
+
+pub write_item-requires-clause-item : goal.write_item-requires-clause-item
+write_item-requires-clause-item c =
     let next = unwritten_next c.args.items.now c.loop-i.i c.args.to c.item-item.result c.loop-i-test.true c.requires.within c.item-item.ensures.index in
     first_run _ _ _ next c.loop-i.invariant.1
 
