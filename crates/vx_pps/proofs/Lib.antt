@@ -1,0 +1,6 @@
+-- Lemmas of this crate.
+pub mod Blocks
+pub mod Runs
+pub mod Grouping
+pub mod Few
+pub mod Pictures

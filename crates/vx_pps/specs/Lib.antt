@@ -1,0 +1,4 @@
+-- What the contracts of this crate cite.
+pub mod Tiles
+pub mod Groups
+pub mod Laws

@@ -1,0 +1,43 @@
+-- The tiles of a picture, by their index (H.266 6.5.1), and rectangles of whole tiles.
+use Rattle.std.specs.Prelude.{◌==◌, ℕ, ◌+◌, ◌-◌, ◌*◌, ◌/◌, ◌%◌, ◌≤◌, length, slice_index, cond}
+use Rattle.vx_layout.specs.declared.rect.Rect.{Rect}
+use Rattle.vx_pps.specs.declared.tiles.Tiles.{Tiles}
+
+-- NumTileColumns
+abbrev pub across : Tiles → ℕ
+across g = length g.columns - 1
+
+-- NumTileRows
+abbrev pub down : Tiles → ℕ
+down g = length g.rows - 1
+
+-- the column of tile t
+abbrev pub column : Tiles → ℕ → ℕ
+column g t = t % across g
+
+-- the row of tile t
+abbrev pub row : Tiles → ℕ → ℕ
+row g t = t / across g
+
+-- so many tiles across and down from tile t on, as a rectangle of CTUs
+abbrev pub block : Tiles → ℕ → ℕ → ℕ → Rect
+block g t wide high = record {
+  x = slice_index g.columns (column g t);
+  y = slice_index g.rows (row g t);
+  w = slice_index g.columns (column g t + wide) - slice_index g.columns (column g t);
+  h = slice_index g.rows (row g t + high) - slice_index g.rows (row g t);
+}
+
+-- tile t
+abbrev pub tile : Tiles → ℕ → Rect
+tile g t = block g t 1 1
+
+-- the tile where the slice behind one of so many tiles across and down, less 1 each, begins, where it isn't spelled:
+-- the one beside the slice, or at the end of the columns the first one below it (7.4.3.5, SliceTopLeftTileIdx)
+abbrev pub tile_behind : Tiles → ℕ → ℕ → ℕ → ℕ
+tile_behind g t width height = t + (width + 1) + cond ((t + (width + 1)) % across g == 0) (height * across g) 0
+
+-- one to 512 tile columns and tile rows
+pub record IsGrid (g : Tiles) : Type 0 where
+  pub columns : (2 ≤ length g.columns) × (length g.columns ≤ 513)
+  pub rows : (2 ≤ length g.rows) × (length g.rows ≤ 513)
