@@ -5,7 +5,8 @@ use Rattle.std.proofs.lemmas.Nat.{pow_pos, leading_top, leading_length}
 use Rattle.std.proofs.lemmas.List.{append-nil, append_assoc, length-append, length-take, length-take-le, take_all, take_min, length-replicate, take-append-drop, drop_at}
 use Rattle.std.proofs.lemmas.Bool.Decides.{leb_tells}
 use lib.Count.{count_leading_zeros}
-use Rattle.vx_bits.specs.Codes.{number, fixed, magnitude, leading_zeros, exp_golomb, IsCodeNumber, BeginsWithCode, EndsWithinCode, BeginsTooLong, zeros_in_front, code_number}
+use Rattle.vx_bits.specs.Codes.{number, fixed, magnitude, leading_zeros, exp_golomb, IsCodeNumber, BeginsWithCode, EndsWithinCode, BeginsTooLong, code_number}
+use Rattle.vx_bits.specs.inner.Zeros.{zeros_in_front}
 use Rattle.vx_bits.specs.Laws.{mapped}
 use Rattle.vx_bits.specs.Place.{Place, Takes}
 use Rattle.vx_bits.proofs.Bits.{two_pow, pow_le, number-below, length-fixed, fixed-one, fixed_of, number-fixed, same_fronts}

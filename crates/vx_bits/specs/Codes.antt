@@ -1,6 +1,7 @@
 -- The codes of H.266 as lists of bits: u(n) of clause 7.2, ue(v) and se(v) of clause 9.2.
 -- A one is `true`, and the bit that is read first stands first.
-use Rattle.std.specs.Prelude.{◌≡◌, ◌≢◌, ℕ, ◌+◌, ◌-◌, ◌*◌, ◌%◌, ◌^◌, ◌<◌, zero, suc, ℤ, pos, negsuc, Bool, true, false, if◌then◌else◌, nat_le, List, [], ◌∷◌, ◌++◌, length, replicate, slice_index}
+use Rattle.std.specs.Prelude.{◌≡◌, ◌≢◌, ℕ, ◌+◌, ◌-◌, ◌*◌, ◌%◌, ◌^◌, ◌<◌, zero, suc, ℤ, pos, negsuc, nat_le}
+use Rattle.std.specs.Prelude.{Bool, true, false, if◌then◌else◌, List, [], ◌∷◌, ◌++◌, length, replicate, slice_index}
 
 -- the number of which these bits are the binary representation, highest first
 abbrev pub number : List Bool → ℕ
@@ -79,9 +80,3 @@ EndsWithinCode bits = (v : ℕ) × IsCodeNumber v × EndsWithin bits (exp_golomb
 -- 32 zeros come first, which no code begins with
 abbrev pub BeginsTooLong : List Bool → Type 0
 BeginsTooLong bits = BeginsWith bits (replicate 32 false)
-
--- the number of zeros that come first
-abbrev pub zeros_in_front : List Bool → ℕ
-zeros_in_front [] = 0
-zeros_in_front (true ∷ bits) = 0
-zeros_in_front (false ∷ bits) = suc (zeros_in_front bits)

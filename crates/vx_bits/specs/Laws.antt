@@ -1,5 +1,6 @@
 -- What the codes promise: a code is read back as its number, whatever follows it.
-use Rattle.std.specs.Prelude.{◌≡◌, ◌==◌, ℕ, ◌+◌, ◌-◌, ◌/◌, ◌%◌, ◌^◌, ◌<◌, ℤ, pos, neg_ℤ, Bool, true, false, if◌then◌else◌, List, ◌∷◌, ◌++◌, ◌⊎◌, ◌↔◌, length, replicate}
+use Rattle.std.specs.Prelude.{◌≡◌, ◌==◌, ℕ, ◌+◌, ◌-◌, ◌/◌, ◌%◌, ◌^◌, ◌<◌, ℤ, pos, neg_ℤ, ◌⊎◌, ◌↔◌}
+use Rattle.std.specs.Prelude.{Bool, true, false, if◌then◌else◌, List, ◌∷◌, ◌++◌, length, replicate}
 use Rattle.vx_bits.specs.Codes.{number, fixed, exp_golomb, IsCodeNumber, BeginsWithCode, EndsWithinCode, BeginsTooLong, code_number}
 
 -- bits that begin with a code tell its number and what follows it; so no code is a proper prefix of another

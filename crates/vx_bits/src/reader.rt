@@ -1,8 +1,9 @@
 //! Reading: codes are taken from the front of bytes.
 ghost use Rattle.std.specs.Prelude.{◌≡◌, ◌≢◌, ◌↔◌, ◌⊎◌, ℕ, ◌+◌, ◌-◌, ◌*◌, ◌/◌, ◌%◌, ◌^◌, ◌<◌, ◌≤◌, Bool, true, List, [], ◌++◌, length, take, drop, min, Contains, MatchOption, IfOk, IfErr, OnOk, OnErr, IsErrOf};
-ghost use Rattle.vx_bits.specs.Codes.{number, fixed, exp_golomb, signed_exp_golomb, code_number, bits_of, to_boundary, zeros_from, one_from, IsCodeNumber, BeginsWith, EndsWithinCode, BeginsTooLong, zeros_in_front};
+ghost use Rattle.vx_bits.specs.Codes.{number, fixed, exp_golomb, signed_exp_golomb, code_number, bits_of, to_boundary, zeros_from, one_from, IsCodeNumber, BeginsWith, EndsWithinCode, BeginsTooLong};
 ghost use Rattle.vx_bits.specs.Place.{Place, Takes, taken};
 ghost use Rattle.vx_bits.specs.inner.Window.{bits_ahead, IsWindow};
+ghost use Rattle.vx_bits.specs.inner.Zeros.{zeros_in_front};
 
 use crate::refusal::BitCause;
 use crate::window::{Window, filled};

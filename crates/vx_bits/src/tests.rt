@@ -1,9 +1,8 @@
 //! Codes worked by hand, each cause of each call, and each allocating call once.
 use crate::{
-    BitCause, BitReader, BitWriter, ByteLists, Bytes, Fields, IdList, Item, Kept, ReadError,
-    Refusal,
+    BitCause, BitReader, BitWriter, ByteLists, Bytes, Fields, Item, Kept, ReadError, Refusal,
 };
-use std::alloc::AllocError;
+use std::alloc::{AllocError, Global};
 use std::test::Fail;
 
 const FAR: [u8; 8] = [0x00, 0x00, 0x00, 0x01, 0xFF, 0xFF, 0xFF, 0xFE];
@@ -163,40 +162,87 @@ fn writes_a_one_and_zeros(rt: HostRuntime) -> Result<(), Fail> {
 }
 
 #[test]
-fn keeps_lists(rt: HostRuntime) -> Result<(), Fail> {
+fn keeps_fields(rt: HostRuntime) -> Result<(), Fail> {
     let mut fields = Fields::new(rt.alloc());
     for (field, value) in [(7, 5), (9, -3), (7, 6)] {
         fields.push(Item { field, value })?;
     }
-    assert_eq!(&rt; fields.len(), 3);
-    assert_eq!(&rt;
-        fields.item(1),
-        Item {
-            field: 9,
-            value: -3
-        }
-    );
     assert_eq!(&rt; fields.first(7), Some(5));
     assert_eq!(&rt; fields.first(8), None);
+    assert_eq!(&rt; fields.len(), 3);
+    assert_eq!(&rt; fields.item(1).value, -3);
+    Ok(())
+}
 
-    let mut kept = Kept::new(rt.alloc());
+/// The fields from 0 on, each with its number, as many as these.
+fn numbered(alloc: Global, count: u16) -> Result<Fields, AllocError> {
+    let mut fields = Fields::new(alloc);
+    for field in 0..count {
+        fields.push(Item {
+            field,
+            value: i64::from(field),
+        })?;
+    }
+    Ok(fields)
+}
+
+/// The kept fields, where all are kept.
+fn all_kept(alloc: Global, fields: &Fields) -> Result<Kept, AllocError> {
+    let mut kept = Kept::new(alloc);
     for item in fields.iter() {
         kept.push(*item)?;
     }
-    assert_eq!(&rt; kept.len(), 3);
-    assert_eq!(&rt; kept.as_slice(), fields.as_slice());
+    Ok(kept)
+}
 
+#[test]
+fn keeps_many_fields(rt: HostRuntime) -> Result<(), Fail> {
+    let fields = numbered(rt.alloc(), 40_000)?;
+    assert_eq!(&rt; fields.first(39_999), Some(39_999));
+    let kept = all_kept(rt.alloc(), &fields)?;
+    assert_eq!(&rt; kept.len(), 40_000);
+    assert!(&rt; kept.as_slice() == fields.as_slice());
+    Ok(())
+}
+
+#[test]
+fn keeps_bytes(rt: HostRuntime) -> Result<(), Fail> {
+    let mut all = Vec::new(rt.alloc());
+    all.resize(1 << 23, 0xC4)?;
     let mut bytes = Bytes::new(rt.alloc());
-    bytes.extend_from_slice(&[0xC4, 0x18])?;
-    bytes.push(0x5A)?;
+    bytes.extend_from_slice(&all)?;
+    bytes.push(0xC4)?;
+    all.push(0xC4)?;
     let mut lists = ByteLists::new(rt.alloc());
     lists.push(bytes)?;
     assert_eq!(&rt; lists.len(), 1);
-    assert_eq!(&rt; lists.item(0).as_slice(), [0xC4, 0x18, 0x5A].as_slice());
+    assert!(&rt; lists.item(0).as_slice() == all.as_slice());
+    Ok(())
+}
 
-    let mut ids = IdList::new(rt.alloc());
-    ids.push(11)?;
-    assert_eq!(&rt; ids.item(0), 11);
+/// The codes of the numbers from 0 on, as many as these, each as ue(v) and as u(32).
+fn long_bits(alloc: Global, count: u32) -> Result<Vec<u8>, AllocError> {
+    let mut bits = BitWriter::new(alloc);
+    for number in 0..count {
+        bits.ue(number)?;
+        bits.u(32, u64::from(number))?;
+    }
+    bits.close()
+}
+
+#[test]
+fn reads_what_is_written(rt: HostRuntime) -> Result<(), Fail> {
+    let bytes = long_bits(rt.alloc(), 900_000)?;
+    assert!(&rt; bytes.len() > 1 << 22 && bytes.len() <= 1 << 23);
+    if bytes.len() > 1 << 23 {
+        return Ok(());
+    }
+    let mut bits = BitReader::new(&bytes);
+    for number in 0..900_000u32 {
+        assert_eq!(&rt; bits.ue(), Ok(number));
+        assert_eq!(&rt; bits.u(32), Ok(u64::from(number)));
+    }
+    assert_eq!(&rt; bits.trailing(), Ok(()));
     Ok(())
 }
 
@@ -205,9 +251,7 @@ fn names_errors(rt: HostRuntime) -> Result<(), Fail> {
     let refused = ReadError::Refused(Refusal::Limit { code: 1 });
     assert_eq!(&rt; ReadError::from(AllocError), ReadError::Memory);
     assert!(&rt; refused != ReadError::Memory);
-    assert_eq!(&rt;
-        format!(in rt.alloc(); "{}", ReadError::Memory)?.as_str(),
-        "out of memory"
-    );
+    let told = format!(in rt.alloc(); "{}; {refused}", ReadError::Memory)?;
+    assert_eq!(&rt; told.as_str(), "out of memory; refused");
     Ok(())
 }

@@ -22,14 +22,14 @@ overflow_add-zeros c = omega (arith, few_zeros c.args.self.now.left _ c.zeros-ze
 
 pub returns-then-left-zeros-clause-short : goal.returns-then-left-zeros-clause-short
 returns-then-left-zeros-clause-short c = (
-  λ is. short_code c.args.self.now.left _ c.zeros-zeros.ensures.value c.if-zeros-eq32.false (omega (arith, c.left-left.ensures, c.if-left-zeros.true)),
+  λ is. short_code c.args.self.now.left _ c.zeros-zeros.ensures.value c.if-zeros-eq32.false (omega (arith, c.left-left.ensures, c.if-left-zeros.true, few_zeros c.args.self.now.left _ c.zeros-zeros.ensures.value c.if-zeros-eq32.false)),
   λ ends. (cc),
 )
 
 pub returns-then-left-zeros-clause-long : goal.returns-then-left-zeros-clause-long
 returns-then-left-zeros-clause-long c = (
   λ is. cc,
-  λ long. absurd (ends_not_long c.args.self.now.left (short_code c.args.self.now.left _ c.zeros-zeros.ensures.value c.if-zeros-eq32.false (omega (arith, c.left-left.ensures, c.if-left-zeros.true))) long),
+  λ long. absurd (ends_not_long c.args.self.now.left (short_code c.args.self.now.left _ c.zeros-zeros.ensures.value c.if-zeros-eq32.false (omega (arith, c.left-left.ensures, c.if-left-zeros.true, few_zeros c.args.self.now.left _ c.zeros-zeros.ensures.value c.if-zeros-eq32.false))) long),
 )
 
 pub read_bits-code-requires-clause-count : goal.read_bits-code-requires-clause-count
@@ -40,7 +40,7 @@ read_bits-requires-clause-count c = omega (arith, few_zeros c.args.self.now.left
 
 pub code : (c : goal.After-read_bits-code) → IsRead c.read_bits-code.result c.args.self.now c.read_bits-code.new.self
 code c =
-    whole_code_read c.zeros-zeros.result c.read_bits-code.result c.args.self.now c.read_bits.new.self c.read_bits-code.new.self c.zeros-zeros.ensures.value c.if-zeros-eq32.false (omega (arith, c.left-left.ensures, c.if-left-zeros.false))
+    whole_code_read c.zeros-zeros.result c.read_bits-code.result c.args.self.now c.read_bits.new.self c.read_bits-code.new.self c.zeros-zeros.ensures.value c.if-zeros-eq32.false (omega (arith, c.left-left.ensures, c.if-left-zeros.false, few_zeros c.args.self.now.left _ c.zeros-zeros.ensures.value c.if-zeros-eq32.false))
     (c.read_bits.ensures.left ∙ rw c.zeros-zeros.ensures.same refl) (c.read_bits.ensures.total ∙ rw c.zeros-zeros.ensures.same refl) c.read_bits-code.ensures.value c.read_bits-code.ensures.left c.read_bits-code.ensures.total
 
 pub overflow_sub-result : goal.overflow_sub-result
