@@ -137,6 +137,16 @@ fn sink_writes(rt: HostRuntime) -> Result<(), Fail> {
     Ok(())
 }
 
+#[test]
+fn a_long_piece_goes_whole(rt: HostRuntime) -> Result<(), Fail> {
+    let mut piece = Vec::new(rt.alloc());
+    piece.resize(1 << 23, 0xA5)?;
+    let mut sink = sink(rt.alloc(), 1 << 23, &[65_536, 0], &[])?;
+    assert_eq!(rt; write_all(&mut sink, &piece).is_ok(), true);
+    assert!(rt; sink.bytes() == piece.as_slice());
+    Ok(())
+}
+
 // A whole piece written: the room, the pieces, the writes that fail, the piece, whether it is
 // written, and the bytes in the end.
 const WHOLES: [(usize, &[u32], &[u64], &str, bool, &str); 5] = [

@@ -4,8 +4,60 @@ use crate::{
     write_all,
 };
 use std::fs::File;
+use std::io::{ErrorKind, Read, Write};
 use std::test::Fail;
-use std::{env, fs, process};
+use std::{env, fs, io, process};
+
+/// A reader and a writer of one byte a call, every other call of which fails, the first one too.
+#[derive(Drop)]
+struct Faltering {
+    is_well: bool,
+}
+
+impl Read for Faltering {
+    fn read(&mut self, into: &mut [u8]) -> io::Result<usize> {
+        self.is_well = !self.is_well;
+        if !self.is_well {
+            return Err(ErrorKind::Other.into());
+        }
+        Ok(into.len().min(1))
+    }
+}
+
+impl Write for Faltering {
+    fn write(&mut self, piece: &[u8]) -> io::Result<usize> {
+        self.is_well = !self.is_well;
+        if !self.is_well {
+            return Err(ErrorKind::Other.into());
+        }
+        Ok(piece.len().min(1))
+    }
+
+    fn flush(&mut self) -> io::Result<()> {
+        Ok(())
+    }
+}
+
+// No contract says when a reader or a writer fails, so none says that each is asked once, and that its failure is told.
+#[test]
+fn each_fault_is_told(rt: HostRuntime) -> Result<(), Fail> {
+    let mut source = ReaderSource::new(Faltering { is_well: true });
+    let mut sink = WriterSink::new(Faltering { is_well: true });
+    let mut buffer = [0; 2];
+    for _ in 0..3u8 {
+        assert_eq!(rt; source.read(&mut buffer), Err(SourceFailed));
+        assert_eq!(rt; source.read(&mut buffer), Ok(1));
+        assert_eq!(rt; sink.write(b"ab"), Err(SinkFailed));
+        assert_eq!(rt; sink.write(b"ab"), Ok(1));
+        assert_eq!(rt; sink.write(b""), Err(SinkFailed));
+        assert_eq!(rt; sink.write(b""), Ok(0));
+        assert_eq!(rt; write_all(&mut sink, b"ab"), Err(SinkFailed));
+        assert_eq!(rt; write_all(&mut sink, b"a"), Ok(()));
+    }
+    let told = format!(in rt.alloc(); "{SourceFailed}; {SinkFailed}")?;
+    assert_eq!(rt; told.as_str(), "a read failed; a write failed");
+    Ok(())
+}
 
 #[test]
 fn files(rt: HostRuntime) -> Result<(), Fail> {
