@@ -17,3 +17,4 @@ pub mod Inverse
 pub mod Stray
 pub mod Taking
 pub mod Unseen
+pub mod Needed

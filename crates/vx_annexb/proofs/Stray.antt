@@ -51,7 +51,7 @@ module _ (b : List ℕ) (p : ℕ) (inside : p ≤ length b) where
   }
 
 -- where the units begin behind a place, they end behind it
-end_after : (b : List ℕ) (all : Bool) (q : ℕ) (us : List UnitPlace) → FollowsFrom b all q us → q ≤ end_of q us
+pub end_after : (b : List ℕ) (all : Bool) (q : ℕ) (us : List UnitPlace) → FollowsFrom b all q us → q ≤ end_of q us
 end_after b all q [] f = omega arith
 end_after b all q (u ∷ us) f = omega (arith, end_after b all u.end us f.2, f.0.starts.prefix, f.0.ends.order)
 

@@ -20,7 +20,7 @@ source_limit-is = refl
 
 -- a front of a piece behind g is what the limit lets see of both
 module _ (limit : ℕ) (g piece : List ℕ) (within : length g ≤ limit) where
-  seen_front : g ++ take (min (length piece) (limit - length g)) piece ≡ take limit (g ++ piece)
+  pub seen_front : g ++ take (min (length piece) (limit - length g)) piece ≡ take limit (g ++ piece)
   seen_front =
       let k = limit - length g in
       let split : length g + k ≡ limit = omega arith in
@@ -45,7 +45,7 @@ closes_as (Some TooLong) h h' n same c = (same ∙ c.0, c.1)
 closes_as (Some Failed) h h' n same c = (same ∙ c.0, c.1)
 
 -- where there are more bytes than the limit, those that are seen aren't all
-long_goes_on : (closed : Option Closed) (h : Held) (n : ℕ) → closed ≡ Some TooLong → ClosesAt closed h n → h.all ≡ false
+pub long_goes_on : (closed : Option Closed) (h : Held) (n : ℕ) → closed ≡ Some TooLong → ClosesAt closed h n → h.all ≡ false
 long_goes_on None h n is c = cc
 long_goes_on (Some End) h n is c = cc
 long_goes_on (Some TooLong) h n is c = c.0

@@ -1,6 +1,6 @@
 -- A reader of units, as its callers see it: by these words, and by the relation `HasRead` between it and the bytes that it
 -- took of a source with the units that it gave.
-use Rattle.std.specs.Prelude.{◌≡◌, ℕ, ◌+◌, ◌^◌, ◌≤◌, ◌⊎◌, true, false, List, [], ◌∷◌, ◌++◌, Option, Some, None, Result, Ok, Err, length, take, slice_range}
+use Rattle.std.specs.Prelude.{◌≡◌, ℕ, ◌+◌, ◌^◌, ◌<◌, ◌≤◌, ◌⊎◌, true, false, List, [], ◌∷◌, ◌++◌, Option, Some, None, Result, Ok, Err, length, take, slice_range}
 use Rattle.std.specs.Io.KnownBytes.{Consumes, Keeps, IsAtEnd}
 use Rattle.vx_bits.specs.declared.refusal.Refusal.{Refusal}
 use Rattle.vx_bits.specs.declared.refusal.Refusal.TheVariants.{Limit}
@@ -11,6 +11,8 @@ use Rattle.vx_annexb.specs.declared.unit_reader.Closed.{Closed}
 use Rattle.vx_annexb.specs.declared.unit_reader.Closed.TheVariants.{End, TooLong, Failed}
 use Rattle.vx_annexb.specs.declared.unit_reader.ReadFault.{ReadFault}
 use Rattle.vx_annexb.specs.declared.unit_reader.ReadFault.TheVariants.{Memory, SourceFailed}
+use Rattle.vx_annexb.specs.declared.unit_reader.TakeFault.{TakeFault}
+use Rattle.vx_annexb.specs.declared.unit_reader.TakeFault.TheVariants.{Refused, Memory as OutOfMemory, SourceFailed as ReadFailed}
 use Rattle.vx_annexb.specs.ByteStream.{source_limit, UnitPlace, unit_bytes, IsStream}
 use Rattle.vx_annexb.specs.Held.{Held, Stands, held, lent, is_all, place_of}
 
@@ -65,3 +67,39 @@ Reads g units new left left' faults faults' (Ok _) =
 Reads g units new left left' faults faults' (Err Memory) = (left' ≡ left) × (faults' ≡ faults) × HasRead new g units × IsOpen new
 Reads g units new left left' faults faults' (Err SourceFailed) =
     Keeps left left' × Rose faults faults' × HasRead new g units × (new.closed ≡ Some Failed)
+
+-- The last read was needed: its piece of at most 65,536 bytes came behind bytes in which no unit was seen but the first of
+-- these.
+pub record LastWasNeeded (g : List ℕ) (units : List UnitPlace) : Type 0 where
+  pub before : List ℕ
+  pub piece : List ℕ
+  pub given : List UnitPlace
+  pub later : List UnitPlace
+  pub bytes : g ≡ before ++ piece
+  pub few : length piece ≤ 65536
+  pub within : length before ≤ 2 ^ 40
+  pub split : units ≡ given ++ later
+  pub seen : IsStream (take source_limit before) false given None
+
+-- Of a source, behind the bytes g, a piece was taken by reads that were needed, and these are the units given by then.
+pub record TakesTo (g : List ℕ) (units : List UnitPlace) (new : Reading) (left left' : Option (List ℕ)) : Type 0 where
+  pub piece : List ℕ
+  pub consumed : Consumes left left' piece
+  pub read : HasRead new (g ++ piece) units
+  pub needed : LastWasNeeded (g ++ piece) units
+
+-- The next unit of a source with these bytes left and this count of faults, before and after it.
+abbrev pub Takes : List ℕ → List UnitPlace → Reading → Option (List ℕ) → Option (List ℕ) → ℕ → ℕ → Result (Option Span) TakeFault → Type 0
+Takes g units new left left' faults faults' (Ok (Some span)) =
+    (faults' ≡ faults)
+    × ((t : TakesTo g (units ++ place_of span ∷ []) new left left')
+    × (unit_bytes (take source_limit (g ++ t.piece)) (place_of span) ≡ slice_range (lent new.splitter) span.start span.end)
+    × (length (g ++ t.piece) < (place_of span).end + 3 + 65536))
+Takes g units new left left' faults faults' (Ok None) =
+    (faults' ≡ faults) × ((t : TakesTo g units new left left') × IsStream (take source_limit (g ++ t.piece)) true units None × (new.closed ≡ Some End))
+Takes g units new left left' faults faults' (Err (Refused x)) =
+    (faults' ≡ faults) × ((t : TakesTo g units new left left') × IsRefusedBy (g ++ t.piece) units new x)
+Takes g units new left left' faults faults' (Err OutOfMemory) = (faults' ≡ faults) × TakesTo g units new left left'
+Takes g units new left left' faults faults' (Err ReadFailed) =
+    Rose faults faults'
+    × ((t : TakesTo g units new left left') × IsStream (take source_limit (g ++ t.piece)) false units None × (new.closed ≡ Some Failed))

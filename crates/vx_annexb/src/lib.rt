@@ -22,5 +22,5 @@ pub use laws::{
 };
 pub use span::Span;
 pub use splitter::Splitter;
-pub use unit_reader::{Closed, ReadFault, UnitReader};
+pub use unit_reader::{Closed, ReadFault, TakeFault, UnitReader};
 pub use write::write_unit;

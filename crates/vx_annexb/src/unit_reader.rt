@@ -1,11 +1,13 @@
 //! The NAL units of a source, given one at a time while the source is read.
 ghost use Rattle.std.specs.Prelude.{◌≡◌, ◌+◌, ◌^◌, ◌<◌, ◌≤◌, ◌++◌, ℕ, List, take, false, length, vec_len, IfOk, OnOk, OnErr, Some, None, Err};
+ghost use Rattle.std.specs.Io.KnownBytes.{IsAtEnd};
 ghost use Rattle.vx_annexb.specs.ByteStream.{UnitPlace, source_limit};
 ghost use Rattle.vx_annexb.specs.Held.{Stands, IsSought, fed, held, is_all, ahead, room as has_room};
 ghost use Rattle.vx_annexb.specs.Reading.{ClosesAt};
-ghost use Rattle.vx_annexb.specs.inner.Reading.{FedOf, ReadsPiece};
+ghost use Rattle.vx_annexb.specs.inner.Reading.{FedOf, ReadsPiece, fault_of};
 ghost use Rattle.vx_annexb.specs.declared.unit_reader.Closed.TheVariants.{End, Failed};
 ghost use Rattle.vx_annexb.specs.declared.unit_reader.ReadFault.TheVariants.{Memory};
+ghost use Rattle.vx_annexb.specs.declared.unit_reader.TakeFault.TheVariants.{Refused};
 
 use crate::{Span, Splitter};
 use std::alloc::{AllocError, Global};
@@ -44,6 +46,39 @@ pub enum ReadFault {
     /// A read of the source failed.
     #[error("a read failed")]
     SourceFailed,
+}
+
+/// Why a reader gives no unit.
+#[derive(Clone, Copy, Debug, PartialEq, Eq, Error)]
+pub enum TakeFault {
+    /// The source is refused; so it is from then on.
+    #[error("refused")]
+    Refused(Refusal),
+    /// Memory ran out; nothing that was taken of the source is lost, and it may be read again.
+    #[error("out of memory")]
+    Memory,
+    /// A read of the source failed.
+    #[error("a read failed")]
+    SourceFailed,
+}
+
+impl From<Refusal> for TakeFault {
+    ghost from_gives = { λ refusal e. e ≡ Refused refusal };
+
+    fn from(refusal: Refusal) -> TakeFault {
+        TakeFault::Refused(refusal)
+    }
+}
+
+impl From<ReadFault> for TakeFault {
+    ghost from_gives = { λ fault e. e ≡ fault_of fault };
+
+    fn from(fault: ReadFault) -> TakeFault {
+        match fault {
+            ReadFault::Memory => TakeFault::Memory,
+            ReadFault::SourceFailed => TakeFault::SourceFailed,
+        }
+    }
 }
 
 /// Reads the NAL units of a source (H.266 Annex B), with at most 2^23 + 65,538 of its bytes in memory.
@@ -147,6 +182,7 @@ fn read_piece(
     ensures held { held splitter.new ≤ 2 ^ 23 + 2 + 65536 }
     ensures some { IfOk result (λ came. came.closed ≡ None → 0 < came.count) }
     ensures unfailed { IfOk result (λ came. came.closed ≡ Some Failed → ⊥) }
+    ensures end { IfOk result (λ came. came.closed ≡ Some End → IsAtEnd (bytes_left source.new)) }
     ensures memory { result ≡ Err Memory → splitter.new ≡ splitter.old }
     ensures failed { OnErr result ((fed splitter.new ≡ fed splitter.old) × (ahead splitter.new ≡ ahead splitter.old) × (is_all splitter.new ≡ is_all splitter.old)) }
 {
@@ -168,13 +204,17 @@ impl UnitReader {
     ghost use Rattle.std.specs.Prelude.{◌≡◌, ℕ, ◌+◌, ◌^◌, ◌<◌, ◌≤◌, [], List, length, slice_range, Some, None, Err, IfOk, IfErr, IfSome, IfNone, OnOk, OnSome, IsTrue, IsSome};
     ghost use Rattle.vx_bits.specs.declared.refusal.Refusal.{Refusal};
     ghost use Rattle.vx_annexb.specs.ByteStream.{UnitPlace};
-    ghost use Rattle.vx_annexb.specs.Held.{IsReadable, IsSought, Lends, fed, held, lent, ahead, first_refusal};
-    ghost use Rattle.vx_annexb.specs.Reading.{IsOpen, HoldsFew, HasRead, Finds, Reads};
-    ghost use Rattle.vx_annexb.specs.declared.unit_reader.ReadFault.TheVariants.{Memory};
+    ghost use Rattle.std.specs.Io.KnownBytes.{IsAtEnd};
+    ghost use Rattle.vx_annexb.specs.Held.{IsReadable, IsSought, Lends, fed, held, lent, ahead};
+    ghost use Rattle.vx_annexb.specs.Reading.{IsOpen, HoldsFew, HasRead, IsRefusedBy, Finds, Reads, LastWasNeeded, Takes};
+    ghost use Rattle.vx_annexb.specs.declared.unit_reader.Closed.TheVariants.{End, Failed};
+    ghost use Rattle.vx_annexb.specs.declared.unit_reader.ReadFault.TheVariants.{Memory, SourceFailed};
+    ghost use Rattle.vx_annexb.specs.declared.unit_reader.TakeFault.TheVariants.{Refused, SourceFailed as ReadFailed};
 
     /// A reader that has read nothing.
     pub fn new(alloc: Global) -> Result<UnitReader, AllocError>
         ensures read { IfOk result (λ r. HasRead r [] []) }
+        ensures needed { OnOk result (LastWasNeeded [] []) }
         ensures open { IfOk result IsOpen }
         ensures held { IfOk result HoldsFew }
     {
@@ -197,7 +237,7 @@ impl UnitReader {
         ensures closed { self.new.closed ≡ self.old.closed }
         ensures falls { IfOk result (λ given. OnSome given (ahead self.new.splitter < ahead self.old.splitter)) }
         ensures stays { IfOk result (λ _. ahead self.new.splitter ≤ ahead self.old.splitter) }
-        ensures again { (r : Refusal) → first_refusal self.old.splitter ≡ Some r → result ≡ Err r }
+        ensures again { (g : List ℕ) (units : List UnitPlace) (x : Refusal) → HasRead self.old g units → IsRefusedBy g units self.old x → result ≡ Err x }
         ensures sought { IfOk result (λ given. IfNone given (IsSought self.new.splitter)) }
         ensures held { HoldsFew self.new }
     {
@@ -214,6 +254,7 @@ impl UnitReader {
     pub fn is_open(&self) -> bool
         ensures open { IsTrue result → IsOpen self.now }
         ensures closed { ¬ IsTrue result → IsSome self.now.closed }
+        ensures within { IsTrue result → self.now.taken ≤ 2 ^ 40 }
     {
         self.closed.is_none()
     }
@@ -229,6 +270,9 @@ impl UnitReader {
         ensures within { fed self.new.splitter ≤ 2 ^ 40 }
         ensures held { HoldsFew self.new }
         ensures memory { result ≡ Err Memory → self.new ≡ self.old }
+        ensures failed { result ≡ Err SourceFailed → self.new.closed ≡ Some Failed }
+        ensures end { OnOk result (self.new.closed ≡ Some End → IsAtEnd (bytes_left source.new)) }
+        ensures unfailed { OnOk result (self.new.closed ≡ Some Failed → ⊥) }
     {
         let came = read_piece(source, &mut self.buffer, &mut self.splitter, self.taken);
         match came {
@@ -243,6 +287,29 @@ impl UnitReader {
                 }
                 Err(fault)
             }
+        }
+    }
+
+    /// The next unit of the source, in order: it is read for as long as no further unit's end is seen. None at its end. A
+    /// refusal is answered again from then on.
+    pub fn take(&mut self, source: &mut dyn Source) -> Result<Option<Span>, TakeFault>
+        requires unfailed { self.old.closed ≡ Some Failed → ⊥ }
+        ensures answer { (g : List ℕ) (units : List UnitPlace) → HasRead self.old g units → LastWasNeeded g units
+            → Takes g units self.new (bytes_left source.old) (bytes_left source.new) (read_faults source.old) (read_faults source.new) result }
+        ensures end { IsOpen self.old → self.new.closed ≡ Some End → IsAtEnd (bytes_left source.new) }
+        ensures unfailed { self.new.closed ≡ Some Failed → result ≡ Err ReadFailed }
+        ensures readable { IfOk result (λ given. IfSome given (IsReadable self.new.splitter)) }
+        ensures again { (g : List ℕ) (units : List UnitPlace) (x : Refusal) → HasRead self.old g units → IsRefusedBy g units self.old x → result ≡ Err (Refused x) }
+        ensures held { HoldsFew self.new }
+    {
+        loop {
+            if let Some(span) = self.next()? {
+                return Ok(Some(span));
+            }
+            if !self.is_open() {
+                return Ok(None);
+            }
+            self.read(source)?;
         }
     }
 
