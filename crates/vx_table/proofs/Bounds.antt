@@ -27,7 +27,7 @@ unbroken true fault h = refl
 unbroken false fault h = absurd (cc)
 
 -- nor that of multiples
-unbroken_multiple : (below is : Bool) (fault : Fault) → cond below (cond is None (Some faults.OutOfRange)) (Some fault) ≡ None → (below ≡ true) × (is ≡ true)
+pub unbroken_multiple : (below is : Bool) (fault : Fault) → cond below (cond is None (Some faults.OutOfRange)) (Some fault) ≡ None → (below ≡ true) × (is ≡ true)
 unbroken_multiple true true fault h = (refl, refl)
 unbroken_multiple true false fault h = absurd (cc)
 unbroken_multiple false is fault h = absurd (cc)

@@ -58,7 +58,7 @@ chains_depend given shown after form carries = record {
 -- ---- tables one after another
 
 -- one that is always there is there
-there_always : (presence : Presence) (block : List ℕ → Form (List ℕ)) (s : List ℕ) → comes_always presence ≡ true → present presence block s ≡ block s
+pub there_always : (presence : Presence) (block : List ℕ → Form (List ℕ)) (s : List ℕ) → comes_always presence ≡ true → present presence block s ≡ block s
 unfolding comes_always present value
 there_always (When (formulas.Plain (Number n))) block s is = elim (n == 0) as (λ b. not b ≡ true → cond b (done s) (block s) ≡ block s) [ true ↦ λ h. absurd (cc) | false ↦ λ h. refl ] is
 there_always presence block s is = absurd (cc)

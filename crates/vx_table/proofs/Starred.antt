@@ -20,7 +20,7 @@ use Rattle.vx_table.proofs.EachField.{each_of_rows, each_of_sections}
 use Rattle.vx_table.specs.Shown.{shown_cells, IsKeptWhereShown, KeepsShown, KeepsOnly, CellsFollowKept, KeptTellsKept, star_tells, stars_tell, sections_stars_tell}
 
 -- a field stands for one at each scope or at none
-standing : (s : List ℕ) (coding : Coding Formula) → stands_for_field (coding_at s coding) ≡ stands_for_field coding
+pub standing : (s : List ℕ) (coding : Coding Formula) → stands_for_field (coding_at s coding) ≡ stands_for_field coding
 unfolding stands_for_field coding_at
 standing s (Fixed width) = refl
 standing s Golomb = refl

@@ -1,4 +1,5 @@
--- The same bits, values and answers again: of two alike forms all of whose fields are shown, as those of one structure at scopes that agree.
+-- The same bits, values and answers again: of two alike forms all of whose fields are shown, as those of one structure at scopes
+-- that agree.
 use Rattle.std.specs.Prelude.{◌≡◌, ℕ, ℤ, Bool, true, IsTrue, List, Result}
 use Rattle.vx_bits.specs.declared.list.Item.{Item}
 use Rattle.vx_bits.specs.declared.refusal.ReadError.{ReadError}
@@ -22,7 +23,8 @@ AllShown shown form = EachField (λ cell. IsTrue (has shown cell.field)) form
 pub record AlwaysShown (shown : List ℕ) (form : List ℕ → Form (List ℕ)) : Type 0 where
   pub at : (s : List ℕ) → AllShown shown (form s)
 
--- The values that go through a form to an end go through another too, to an end that agrees with it, with the same items and the same bits.
+-- The values that go through a form to an end go through another too, to an end that agrees with it, with the same items and the
+-- same bits.
 pub record GoesToo (known : List ℕ) (form other : Form (List ℕ)) (values : List ℤ) (end : List ℕ) : Type 0 where
   pub last : List ℕ
   pub follows : Follows other values last
@@ -31,23 +33,25 @@ pub record GoesToo (known : List ℕ) (form other : Form (List ℕ)) (values : L
   pub bits : (place : ℕ) → bits_along other place values ≡ bits_along form place values
 
 abbrev pub FollowsAgain : Type 0
-FollowsAgain = (shown known : List ℕ) (f g : Form (List ℕ)) (values : List ℤ) (end : List ℕ) → Alike shown known f g → AllShown shown f → AllShown shown g
-    → Follows f values end → GoesToo known f g values end
+FollowsAgain = (shown known : List ℕ) (f g : Form (List ℕ)) (values : List ℤ) (end : List ℕ) → Alike shown known f g → AllShown shown f
+    → AllShown shown g → Follows f values end → GoesToo known f g values end
 
--- bits that spell values of the one spell them of the other, with the same rest; and so up to a field that comes next, which then is refused alike,
--- since a refusal tells of the field and the bits alone
+-- bits that spell values of the one spell them of the other, with the same rest; and so up to a field that comes next, which then
+-- is refused alike, since a refusal tells of the field and the bits alone
 abbrev pub ReadsAgain : Type 0
-ReadsAgain = (shown known : List ℕ) (f g : Form (List ℕ)) (total : ℕ) (values : List ℤ) (left rest : List Bool) → Alike shown known f g → AllShown shown f → AllShown shown g
-    → Spells total f values left rest → Spells total g values left rest
+ReadsAgain = (shown known : List ℕ) (f g : Form (List ℕ)) (total : ℕ) (values : List ℤ) (left rest : List Bool) → Alike shown known f g
+    → AllShown shown f → AllShown shown g → Spells total f values left rest → Spells total g values left rest
 
 abbrev pub StopsAgain : Type 0
-StopsAgain = (shown known : List ℕ) (f g : Form (List ℕ)) (total : ℕ) (values : List ℤ) (left rest : List Bool) (cell : Cell ℕ) → Alike shown known f g
-    → AllShown shown f → AllShown shown g → Reaches total f values left cell rest → Reaches total g values left cell rest
+StopsAgain = (shown known : List ℕ) (f g : Form (List ℕ)) (total : ℕ) (values : List ℤ) (left rest : List Bool) (cell : Cell ℕ)
+    → Alike shown known f g → AllShown shown f → AllShown shown g → Reaches total f values left cell rest
+    → Reaches total g values left cell rest
 
 -- so an answer, whole, to the same bits is the same: the same items and rest, or the same refusal at the same bit
 abbrev pub AnswersAgain : Type 0
-AnswersAgain = (shown known : List ℕ) (f g : Form (List ℕ)) (old new : Place) (items after : List Item) (result : Result (Unit {0}) ReadError) → Alike shown known f g
-    → AllShown shown f → AllShown shown g → Reads f old items result new after → Reads g old items result new after
+AnswersAgain = (shown known : List ℕ) (f g : Form (List ℕ)) (old new : Place) (items after : List Item)
+    (result : Result (Unit {0}) ReadError)
+    → Alike shown known f g → AllShown shown f → AllShown shown g → Reads f old items result new after → Reads g old items result new after
 
 -- The test over rows: each field is shown.
 unfoldable pub shows_row : List ℕ → Row → Bool
@@ -59,4 +63,5 @@ abbrev pub TablesShow : Type 0
 TablesShow = (shown : List ℕ) (rows : List Row) → rows_pass (shows_row shown) rows ≡ true → AlwaysShown shown (form_of rows)
 
 abbrev pub SectionsShow : Type 0
-SectionsShow = (shown : List ℕ) (sections : List Section) → sections_pass (shows_row shown) sections ≡ true → AlwaysShown shown (sections_form sections)
+SectionsShow = (shown : List ℕ) (sections : List Section) → sections_pass (shows_row shown) sections ≡ true
+    → AlwaysShown shown (sections_form sections)

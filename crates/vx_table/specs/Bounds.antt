@@ -25,7 +25,8 @@ LiesIn of low high item = item.field ≡ of → IsTrue (lies low high item.value
 
 -- values of this field that break no range lie there
 abbrev pub KeepsRange : ℕ → ℕ → ℕ → Cell ℕ → Type 0
-KeepsRange of low high cell = IsTrue (has_value cell.coding) → cell.field ≡ of → (v : ℤ) → fault_of cell.limits v ≡ None → IsTrue (lies low high v)
+KeepsRange of low high cell = IsTrue (has_value cell.coding) → cell.field ≡ of → (v : ℤ) → fault_of cell.limits v ≡ None
+    → IsTrue (lies low high v)
 
 -- the range is this one; multiples of a unit are from 1 on
 abbrev pub is_range : ℕ → ℕ → Limits Formula → Bool
@@ -41,9 +42,11 @@ tells_range of low high (Name name formula) = true
 
 -- where each row of the field says so, its items lie there
 abbrev pub LieInRange : Type 0
-LieInRange = (of low high : ℕ) (rows : List Row) (s : List ℕ) (values : List ℤ) (end : List ℕ) → rows_pass (tells_range of low high) rows ≡ true
-    → Follows (form_of rows s) values end → All (LiesIn of low high) (items_along (form_of rows s) values)
+LieInRange = (of low high : ℕ) (rows : List Row) (s : List ℕ) (values : List ℤ) (end : List ℕ)
+    → rows_pass (tells_range of low high) rows ≡ true → Follows (form_of rows s) values end
+    → All (LiesIn of low high) (items_along (form_of rows s) values)
 
 abbrev pub PartsLieInRange : Type 0
-PartsLieInRange = (of low high : ℕ) (sections : List Section) (s : List ℕ) (values : List ℤ) (end : List ℕ) → sections_pass (tells_range of low high) sections ≡ true
-    → Follows (sections_form sections s) values end → All (LiesIn of low high) (items_along (sections_form sections s) values)
+PartsLieInRange = (of low high : ℕ) (sections : List Section) (s : List ℕ) (values : List ℤ) (end : List ℕ)
+    → sections_pass (tells_range of low high) sections ≡ true → Follows (sections_form sections s) values end
+    → All (LiesIn of low high) (items_along (sections_form sections s) values)

@@ -9,7 +9,8 @@ use Rattle.vx_table.specs.Claims.{grown, within_block, knows_presence, table_dep
 
 -- a table on which the test holds, and tables one after another
 abbrev pub TablesCarry : Type 0
-TablesCarry = (shown before : List ℕ) (rows : List Row) → table_depends shown before rows ≡ true → Carries shown before (behind_table shown before rows) (form_of rows)
+TablesCarry = (shown before : List ℕ) (rows : List Row) → table_depends shown before rows ≡ true
+    → Carries shown before (behind_table shown before rows) (form_of rows)
 
 abbrev pub SectionsCarry : Type 0
 SectionsCarry = (shown before : List ℕ) (sections : List Section) → sections_chain shown before sections ≡ true
@@ -25,13 +26,15 @@ StepsCarry = (shown before : List ℕ) (step : List ℕ → List ℕ) → ((s t 
 
 -- one part behind another, and one that is there so often, where that is known
 abbrev pub CarriesTogether : Type 0
-CarriesTogether = (shown before mid after : List ℕ) (form next : List ℕ → Form (List ℕ)) → Carries shown before mid form → Carries shown mid after next
-    → Carries shown before after (λ s. form s >>= next)
+CarriesTogether = (shown before mid after : List ℕ) (form next : List ℕ → Form (List ℕ)) → Carries shown before mid form
+    → Carries shown mid after next → Carries shown before after (λ s. form s >>= next)
 
 abbrev pub CarriesPresent : Type 0
-CarriesPresent = (shown before after : List ℕ) (presence : Presence) (form : List ℕ → Form (List ℕ)) → knows_presence before presence ≡ true
-    → Carries shown (within_block shown before presence) after form → Carries shown before before (present presence form)
+CarriesPresent = (shown before after : List ℕ) (presence : Presence) (form : List ℕ → Form (List ℕ))
+    → knows_presence before presence ≡ true → Carries shown (within_block shown before presence) after form
+    → Carries shown before before (present presence form)
 
 -- a structure that carries the given numbers depends on them alone
 abbrev pub ChainsDepend : Type 0
-ChainsDepend = (given shown after : List ℕ) (form : List ℕ → Form (List ℕ)) → Carries (with_all (set_of given) shown) (set_of given) after form → DependsOnlyOn given shown form
+ChainsDepend = (given shown after : List ℕ) (form : List ℕ → Form (List ℕ))
+    → Carries (with_all (set_of given) shown) (set_of given) after form → DependsOnlyOn given shown form

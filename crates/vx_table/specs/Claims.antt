@@ -1,9 +1,12 @@
--- The tests of what structures depend on, over rows. What they find is told by their laws, so that a reader need not believe how they find it.
-use Rattle.std.specs.Prelude.{ℕ, zero, suc, ◌-◌, min, Bool, true, false, cond, not, ◌&&◌, ◌||◌, List, [], ◌∷◌, length, take, slice_set, Option, Some, None}
+-- The tests of what structures depend on, over rows. What they find is told by their laws, so that a reader need not believe how
+-- they find it.
+use Rattle.std.specs.Prelude.{ℕ, zero, suc, ◌-◌, min, Bool, true, false, cond, not, ◌&&◌, ◌||◌, List, [], ◌∷◌, length, take, slice_set}
+use Rattle.std.specs.Prelude.{Option, Some, None}
 use Rattle.vx_table.specs.declared.rows.Term.{Term}
 use Rattle.vx_table.specs.declared.rows.Term.TheVariants.{Number, Latest}
 use Rattle.vx_table.specs.declared.rows.Formula.{Formula}
-use Rattle.vx_table.specs.declared.rows.Formula.TheVariants.{Plain, Plus, Minus, Times, Quotient, Least, PowerOfTwo, CeilLog2, Equal, Differs, Below, AtMost, Both, Either}
+use Rattle.vx_table.specs.declared.rows.Formula.TheVariants.{Plain, Plus, Minus, Times, Quotient, Least, PowerOfTwo, CeilLog2, Equal}
+use Rattle.vx_table.specs.declared.rows.Formula.TheVariants.{Differs, Below, AtMost, Both, Either}
 use Rattle.vx_table.specs.declared.rows.Coding.{Coding}
 use Rattle.vx_table.specs.declared.rows.Coding.TheVariants.{Fixed, Golomb, SignedGolomb, Zeros, OneAndZeros, Trailing, Absent, Refused}
 use Rattle.vx_table.specs.declared.rows.Limits.{Limits}
@@ -148,7 +151,8 @@ behind_section shown known section = cond (comes_always section.presence) (behin
 -- and of the tables of a structure, each with what is known behind those before it.
 abbrev pub sections_chain : List ℕ → List ℕ → List Section → Bool
 sections_chain shown known [] = true
-sections_chain shown known (section ∷ more) = section_depends shown known section && sections_chain shown (behind_section shown known section) more
+sections_chain shown known (section ∷ more) = section_depends shown known section
+    && sections_chain shown (behind_section shown known section) more
 
 abbrev pub behind_sections : List ℕ → List ℕ → List Section → List ℕ
 behind_sections shown known [] = known

@@ -39,8 +39,8 @@ pub data Alike (shown known : List ℕ) : Form (List ℕ) → Form (List ℕ) �
 pub record DependsOnlyOn (given shown : List ℕ) (form : List ℕ → Form (List ℕ)) : Type 0 where
   pub alike : (s t : List ℕ) → Agree (set_of given) s t → Alike (with_all (set_of given) shown) (set_of given) (form s) (form t)
 
--- The same, with what is known before it and behind it: at scopes that agree on the one, all of it shown, the forms are alike and agree on the other
--- at their ends.
+-- The same, with what is known before it and behind it: at scopes that agree on the one, all of it shown, the forms are alike and
+-- agree on the other at their ends.
 pub record Carries (shown before after : List ℕ) (form : List ℕ → Form (List ℕ)) : Type 0 where
   pub alike : Inside before shown → (s t : List ℕ) → Agree before s t → Alike shown after (form s) (form t)
   pub inside : Inside before shown → Inside after shown

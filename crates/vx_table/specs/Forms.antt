@@ -1,5 +1,6 @@
 -- What a table means: the fields in order, each with its coding and range, and after each value how it goes on.
-use Rattle.std.specs.Prelude.{ℕ, ℤ, zero, suc, ◌+◌, ◌-◌, min, Bool, true, false, cond, ◌==◌, List, [], ◌∷◌, length, slice_set, Option, Some, None, ◌&&◌}
+use Rattle.std.specs.Prelude.{ℕ, ℤ, zero, suc, ◌+◌, ◌-◌, min, Bool, true, false, cond, ◌==◌, List, [], ◌∷◌, length, slice_set, Option}
+use Rattle.std.specs.Prelude.{Some, None, ◌&&◌}
 use Rattle.std.specs.Option.{option_or}
 use Rattle.vx_table.specs.declared.rows.Formula.{Formula}
 use Rattle.vx_table.specs.declared.rows.Coding.{Coding}
@@ -90,7 +91,8 @@ part skip len [] s = done s
 part (suc skip) len (row ∷ rows) s = part skip len rows s
 part zero zero (row ∷ rows) s = done s
 part zero (suc len) (Field c ∷ rows) s = one_field s c >>= part zero len rows
-part zero (suc len) (Block presence n ∷ rows) s = present presence (part zero (min n len) rows) s >>= part (min n len) (len - min n len) rows
+part zero (suc len) (Block presence n ∷ rows) s =
+    present presence (part zero (min n len) rows) s >>= part (min n len) (len - min n len) rows
 part zero (suc len) (Name name formula ∷ rows) s = part zero len rows (slice_set s name (value s formula))
 
 -- The form of a table at a scope.

@@ -17,29 +17,34 @@ abbrev pub AnswersOneWay : Type 0
 AnswersOneWay = (form : Form (List ℕ)) (total : ℕ) (v w : List ℤ) (left r s : List Bool) (cell : Cell ℕ) (refusal : Refusal)
     → Reaches total form v left cell r → IsRefused cell total r refusal
     → (Spells total form w left s → ⊥)
-    × ((next : Cell ℕ) (other : Refusal) → Reaches total form w left next s → IsRefused next total s other → (v ≡ w) × (r ≡ s) × (cell ≡ next) × (refusal ≡ other))
+    × ((next : Cell ℕ) (other : Refusal) → Reaches total form w left next s → IsRefused next total s other
+    → (v ≡ w) × (r ≡ s) × (cell ≡ next) × (refusal ≡ other))
 
 -- whatever the bits, they begin with the spelling of some values, or the field behind a front of them is refused
 abbrev pub AnswersAlways : Type 0
 AnswersAlways = (form : Form (List ℕ)) (total : ℕ) (left : List Bool)
     → ((values : List ℤ) × (rest : List Bool) × Spells total form values left rest)
-    ⊎ ((values : List ℤ) × (cell : Cell ℕ) × (rest : List Bool) × (refusal : Refusal) × Reaches total form values left cell rest × IsRefused cell total rest refusal)
+    ⊎ ((values : List ℤ) × (cell : Cell ℕ) × (rest : List Bool) × (refusal : Refusal) × Reaches total form values left cell rest
+    × IsRefused cell total rest refusal)
 
 -- bits spell values exactly where the values follow the form and the bits are their codes, one behind another
 abbrev pub SpellsBothWays : Type 0
 SpellsBothWays = (form : Form (List ℕ)) (total : ℕ) (values : List ℤ) (left rest : List Bool) → length left ≤ total
     → Spells total form values left rest
-    ↔ ((end : List ℕ) × Follows form values end × (left ≡ bits_along form (total - length left) values ++ rest) × Closes form (total - length left) values rest)
+    ↔ ((end : List ℕ) × Follows form values end × (left ≡ bits_along form (total - length left) values ++ rest)
+    × Closes form (total - length left) values rest)
 
 -- and they reach a field exactly where the values go along the form up to it and the bits are their codes
 abbrev pub ReachesBothWays : Type 0
 ReachesBothWays = (form : Form (List ℕ)) (total : ℕ) (values : List ℤ) (left rest : List Bool) (cell : Cell ℕ) → length left ≤ total
     → Reaches total form values left cell rest
-    ↔ (ComesTo form values cell × (left ≡ bits_along form (total - length left) values ++ rest) × Closes form (total - length left) values rest)
+    ↔ (ComesTo form values cell × (left ≡ bits_along form (total - length left) values ++ rest)
+    × Closes form (total - length left) values rest)
 
 -- values that follow the form are read back from their spelling, at every place and whatever follows that may follow
 abbrev pub ReadsBack : Type 0
-ReadsBack = (form : Form (List ℕ)) (place : ℕ) (values : List ℤ) (end : List ℕ) (rest : List Bool) → Follows form values end → Closes form place values rest
+ReadsBack = (form : Form (List ℕ)) (place : ℕ) (values : List ℤ) (end : List ℕ) (rest : List Bool) → Follows form values end
+    → Closes form place values rest
     → Spells (place + length (bits_along form place values ++ rest)) form values (bits_along form place values ++ rest) rest
 
 -- two lists of bits that begin with spellings of values and are equal begin with one; so no spelling is a proper prefix of another
@@ -54,7 +59,8 @@ ItemsApart = (form : Form (List ℕ)) (v w : List ℤ) (a b : List ℕ) (r s : L
 
 -- values follow one structure behind another exactly where they part between the two
 abbrev pub FollowsTogether : Type 0
-FollowsTogether = (form : Form (List ℕ)) (next : List ℕ → Form (List ℕ)) (values : List ℤ) (end : List ℕ) → Follows (form >>= next) values end ↔ Parted form next values end
+FollowsTogether = (form : Form (List ℕ)) (next : List ℕ → Form (List ℕ)) (values : List ℤ) (end : List ℕ)
+    → Follows (form >>= next) values end ↔ Parted form next values end
 
 -- their items stand one behind another
 abbrev pub ItemsTogether : Type 0
@@ -64,9 +70,12 @@ ItemsTogether = (form : Form (List ℕ)) (next : List ℕ → Form (List ℕ)) (
 -- and their bits, the latter from the place on where the former end
 abbrev pub BitsTogether : Type 0
 BitsTogether = (form : Form (List ℕ)) (next : List ℕ → Form (List ℕ)) (place : ℕ) (v w : List ℤ) (mid : List ℕ) → Follows form v mid
-    → bits_along (form >>= next) place (v ++ w) ≡ bits_along form place v ++ bits_along (next mid) (place + length (bits_along form place v)) w
+    → bits_along (form >>= next) place (v ++ w)
+    ≡ bits_along form place v ++ bits_along (next mid) (place + length (bits_along form place v)) w
 
 -- bits spell values of the two, parted so, exactly where they spell those of the first and behind them those of the next
 abbrev pub SpellsTogether : Type 0
-SpellsTogether = (form : Form (List ℕ)) (next : List ℕ → Form (List ℕ)) (total : ℕ) (v w : List ℤ) (mid : List ℕ) (left rest : List Bool) → Follows form v mid
-    → Spells total (form >>= next) (v ++ w) left rest ↔ ((between : List Bool) × Spells total form v left between × Spells total (next mid) w between rest)
+SpellsTogether = (form : Form (List ℕ)) (next : List ℕ → Form (List ℕ)) (total : ℕ) (v w : List ℤ) (mid : List ℕ) (left rest : List Bool)
+    → Follows form v mid
+    → Spells total (form >>= next) (v ++ w) left rest
+    ↔ ((between : List Bool) × Spells total form v left between × Spells total (next mid) w between rest)

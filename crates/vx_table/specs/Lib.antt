@@ -21,3 +21,4 @@ pub mod Kept
 pub mod Shown
 pub mod Rewritten
 pub mod Rewrites
+pub mod Loaded

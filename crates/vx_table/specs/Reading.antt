@@ -18,9 +18,15 @@ abbrev pub TakesCode : Coding ℕ → Place → Result ℤ BitCause → Place �
 TakesCode coding old (Ok v) new = BeginsCode coding old.total v old.left new.left × (new.total ≡ old.total)
 TakesCode coding old (Err cause) new = Misses coding (taken old) old.left cause × (new ≡ old)
 
+-- What taking a field answers: its value, or its refusal, where all is as it was.
+abbrev pub TakesField : Cell ℕ → Place → Result ℤ Refusal → Place → Type 0
+TakesField cell old (Ok v) new = BeginsField cell old.total v old.left new.left × (new.total ≡ old.total)
+TakesField cell old (Err r) new = IsRefused cell old.total old.left r × (new ≡ old)
+
 -- What a reader does at one field: where it answers an error, it stands there still.
 abbrev pub ReadsField : Place → List Item → Cell ℕ → Result ℤ ReadError → Place → List Item → Type 0
-ReadsField old items cell (Ok v) new after = BeginsField cell old.total v old.left new.left × (new.total ≡ old.total) × (after ≡ items ++ item_of cell v)
+ReadsField old items cell (Ok v) new after = BeginsField cell old.total v old.left new.left × (new.total ≡ old.total)
+    × (after ≡ items ++ item_of cell v)
 ReadsField old items cell (Err errors.Memory) new after = (new ≡ old) × (after ≡ items)
 ReadsField old items cell (Err (errors.Refused r)) new after = IsRefused cell old.total old.left r × (new ≡ old) × (after ≡ items)
 
@@ -32,19 +38,22 @@ pub record IsFound {A : Type 0} (form : Form A) (old : Place) (items : List Item
   pub gained : after ≡ items ++ items_along form values
 
 -- The bits between the two places are a front of the form's, behind which this field comes next, and the items of the front were gained.
-pub record StopsAt {A : Type 0} (form : Form A) (old : Place) (items : List Item) (new : Place) (after : List Item) (cell : Cell ℕ) : Type 0 where
+pub record StopsAt {A : Type 0} (form : Form A) (old : Place) (items : List Item) (new : Place) (after : List Item)
+    (cell : Cell ℕ) : Type 0 where
   pub values : List ℤ
   pub reached : Reaches old.total form values old.left cell new.left
   pub total : new.total ≡ old.total
   pub gained : after ≡ items ++ items_along form values
 
 -- The field that comes next is refused there.
-pub record IsFirstRefusal {A : Type 0} (form : Form A) (old : Place) (items : List Item) (new : Place) (after : List Item) (r : Refusal) : Type 0 where
+pub record IsFirstRefusal {A : Type 0} (form : Form A) (old : Place) (items : List Item) (new : Place) (after : List Item)
+    (r : Refusal) : Type 0 where
   pub cell : Cell ℕ
   pub stops : StopsAt form old items new after cell
   pub refused : IsRefused cell old.total new.left r
 
--- What a reader has read where memory runs out: a front up to a field that comes next, or all of it, where it takes memory behind the last field.
+-- What a reader has read where memory runs out: a front up to a field that comes next, or all of it, where it takes memory behind
+-- the last field.
 abbrev pub IsCutShort : {A : Type 0} → Form A → Place → List Item → Place → List Item → Type 0
 IsCutShort form old items new after = ((cell : Cell ℕ) × StopsAt form old items new after cell) ⊎ IsFound form old items new after
 
@@ -67,15 +76,16 @@ IsRefusedWith (Err errors.Memory) r P = Unit {0}
 IsRefusedWith (Err (errors.Refused q)) r P = (q ≡ r) × P
 
 -- A reader's answer, whole, unless memory runs out:
-pub record Reads {A B : Type 0} (form : Form A) (old : Place) (items : List Item) (result : Result B ReadError) (new : Place) (after : List Item) : Type 0 where
+pub record Reads {A B : Type 0} (form : Form A) (old : Place) (items : List Item) (result : Result B ReadError) (new : Place)
+    (after : List Item) : Type 0 where
   -- what it answers is so;
   pub is : IsRead form old items result new after
   -- whatever the bits begin with the spelling of is answered, and exactly that is taken;
   pub only : (values : List ℤ) (rest : List Bool) → Spells old.total form values old.left rest
       → IsAnswered result ((new.left ≡ rest) × (after ≡ items ++ items_along form values))
   -- where the next field behind a front is refused, that is the refusal, and the reader stands at that field.
-  pub refusal : (values : List ℤ) (cell : Cell ℕ) (rest : List Bool) (r : Refusal) → Reaches old.total form values old.left cell rest → IsRefused cell old.total rest r
-      → IsRefusedWith result r ((new.left ≡ rest) × (after ≡ items ++ items_along form values))
+  pub refusal : (values : List ℤ) (cell : Cell ℕ) (rest : List Bool) (r : Refusal) → Reaches old.total form values old.left cell rest
+      → IsRefused cell old.total rest r → IsRefusedWith result r ((new.left ≡ rest) × (after ≡ items ++ items_along form values))
 
 -- The values that the bits begin with the spelling of go through the form to this end.
 abbrev pub LeadsTo : {A : Type 0} → Form A → Place → A → Type 0
@@ -89,3 +99,16 @@ at_front bytes = record { total = 8 * length bytes; left = bits_of bytes }
 abbrev pub ReadsValue : {A : Type 0} → Form A → List ℕ → Result (List Item) ReadError → Type 0
 ReadsValue form bytes (Ok items) = (new : Place) × Reads form (at_front bytes) [] (Ok items) new items
 ReadsValue form bytes (Err e) = (new : Place) × (items : List Item) × Reads {B = List Item} form (at_front bytes) [] (Err e) new items
+
+-- What passing over a field does: it is taken, and no item is made.
+abbrev pub PassesField : Place → Unit {0} → Cell ℕ → Result ℤ Refusal → Place → Unit {0} → Type 0
+PassesField old i cell result new j = TakesField cell old result new
+
+-- what a reader would answer
+abbrev pub as_read : {B : Type 0} → Result B Refusal → Result B ReadError
+as_read (Ok b) = Ok b
+as_read (Err r) = Err (errors.Refused r)
+
+-- The answer, whole, of what passes over a form: a reader's, whatever items it has, which takes no memory.
+pub record Passes {A B : Type 0} (form : Form A) (old : Place) (result : Result B Refusal) (new : Place) : Type 0 where
+  pub reads : (items : List Item) → (after : List Item) × Reads form old items (as_read result) new after

@@ -31,10 +31,13 @@ pub record Goes (names end : List ℕ) (shown others : List Item) (form : Form (
   pub shown_ones : shown_items names (items_along form values) ≡ shown
   pub other_ones : other_items names (items_along form values) ≡ others
 
--- The values go through a structure at a scope, to an end. At each scope that agrees with it on a set, and where some names have no number yet,
--- values with the same items of the set's fields, and with these of the others, go through it to an end that agrees.
-pub record Rewrites (names none : List ℕ) (form : List ℕ → Form (List ℕ)) (s : List ℕ) (values : List ℤ) (end : List ℕ) (others : List Item) : Type 0 where
-  pub at : (t : List ℕ) → Agree names s t → Agree none fresh t → Goes names end (shown_items names (items_along (form s) values)) others (form t)
+-- The values go through a structure at a scope, to an end. At each scope that agrees with it on a set, and where some names have
+-- no number yet, values with the same items of the set's fields, and with these of the others, go through it to an end that
+-- agrees.
+pub record Rewrites (names none : List ℕ) (form : List ℕ → Form (List ℕ)) (s : List ℕ) (values : List ℤ) (end : List ℕ)
+    (others : List Item) : Type 0 where
+  pub at : (t : List ℕ) → Agree names s t → Agree none fresh t
+      → Goes names end (shown_items names (items_along (form s) values)) others (form t)
 
 -- values that go so are a rewritten structure
 abbrev pub WhatGoesIsRewritten : Type 0
@@ -45,27 +48,32 @@ WhatGoesIsRewritten = (names end : List ℕ) (shown others : List Item) (form : 
 
 -- a part all of whose fields are in the set, where the set carries it
 abbrev pub CopiedRewrites : Type 0
-CopiedRewrites = (names none shown after : List ℕ) (form : List ℕ → Form (List ℕ)) (s : List ℕ) (values : List ℤ) (end : List ℕ) → Inside names shown
-    → Carries shown names after form → AlwaysShown names form → Follows (form s) values end → Rewrites names none form s values end []
+CopiedRewrites = (names none shown after : List ℕ) (form : List ℕ → Form (List ℕ)) (s : List ℕ) (values : List ℤ) (end : List ℕ)
+    → Inside names shown → Carries shown names after form → AlwaysShown names form → Follows (form s) values end
+    → Rewrites names none form s values end []
 
 -- a part that has no field of the set, where the items in its place go through it at each scope in question
 abbrev pub ReplacedRewrites : Type 0
-ReplacedRewrites = (names none : List ℕ) (form : List ℕ → Form (List ℕ)) (s : List ℕ) (values : List ℤ) (end : List ℕ) (here : List Item) → Leaves names form
-    → Follows (form s) values end → ((t : List ℕ) → Agree names s t → Agree none fresh t → Takes (form t) here) → Rewrites names none form s values end here
+ReplacedRewrites = (names none : List ℕ) (form : List ℕ → Form (List ℕ)) (s : List ℕ) (values : List ℤ) (end : List ℕ) (here : List Item)
+    → Leaves names form → Follows (form s) values end → ((t : List ℕ) → Agree names s t → Agree none fresh t → Takes (form t) here)
+    → Rewrites names none form s values end here
 
 -- one part behind another, before which some names still have no number that the first leaves alone
 abbrev pub RewritesTogether : Type 0
-RewritesTogether = (names none later : List ℕ) (first more : List ℕ → Form (List ℕ)) (s : List ℕ) (values : List ℤ) (end : List ℕ) (here others : List Item)
-    → (parts : Parted (first s) more values end) → Inside later none → Leaves later first → Rewrites names none first s parts.front parts.mid here
-    → Rewrites names later more parts.mid parts.others end others → Rewrites names none (λ t. first t >>= more) s values end (here ++ others)
+RewritesTogether = (names none later : List ℕ) (first more : List ℕ → Form (List ℕ)) (s : List ℕ) (values : List ℤ) (end : List ℕ)
+    (here others : List Item)
+    → (parts : Parted (first s) more values end) → Inside later none → Leaves later first
+    → Rewrites names none first s parts.front parts.mid here → Rewrites names later more parts.mid parts.others end others
+    → Rewrites names none (λ t. first t >>= more) s values end (here ++ others)
 
 -- a part on a condition that the set knows: where it doesn't hold, and where it does
 abbrev pub AbsentRewrites : Type 0
-AbsentRewrites = (names none : List ℕ) (holds : Formula) (form : List ℕ → Form (List ℕ)) (s : List ℕ) → knows_formula names holds ≡ true → value s holds ≡ 0
-    → Rewrites names none (present (When holds) form) s [] s []
+AbsentRewrites = (names none : List ℕ) (holds : Formula) (form : List ℕ → Form (List ℕ)) (s : List ℕ) → knows_formula names holds ≡ true
+    → value s holds ≡ 0 → Rewrites names none (present (When holds) form) s [] s []
 
 abbrev pub PresentRewrites : Type 0
-PresentRewrites = (names none : List ℕ) (holds : Formula) (form : List ℕ → Form (List ℕ)) (s : List ℕ) (values : List ℤ) (end : List ℕ) (others : List Item)
+PresentRewrites = (names none : List ℕ) (holds : Formula) (form : List ℕ → Form (List ℕ)) (s : List ℕ) (values : List ℤ) (end : List ℕ)
+    (others : List Item)
     → knows_formula names holds ≡ true → (value s holds == 0) ≡ false → Rewrites names none form s values end others
     → Rewrites names none (present (When holds) form) s values end others
 
@@ -83,34 +91,39 @@ AreValues (field cell goes) [] = ⊥
 AreValues (field cell goes) (v ∷ w) = IsValueOf cell v × AreValues (goes v) w
 
 abbrev pub ValuesTake : Type 0
-ValuesTake = (form : Form (List ℕ)) (values : List ℤ) (items : List Item) → AreValues form values → items_along form values ≡ items → Takes form items
+ValuesTake = (form : Form (List ℕ)) (values : List ℤ) (items : List Item) → AreValues form values → items_along form values ≡ items
+    → Takes form items
 
 -- what goes through at one scope goes through at all that agree, where all fields are shown
 abbrev pub TakesAgain : Type 0
-TakesAgain = (shown known : List ℕ) (f g : Form (List ℕ)) (items : List Item) → Alike shown known f g → AllShown shown f → AllShown shown g → Takes f items → Takes g items
+TakesAgain = (shown known : List ℕ) (f g : Form (List ℕ)) (items : List Item) → Alike shown known f g → AllShown shown f → AllShown shown g
+    → Takes f items → Takes g items
 
 -- and one part behind another, which takes its items where the first ends
 abbrev pub TakesTogether : Type 0
-TakesTogether = (first : Form (List ℕ)) (more : List ℕ → Form (List ℕ)) (here others : List Item) → (before : Takes first here) → Takes (more before.end) others
-    → Takes (first >>= more) (here ++ others)
+TakesTogether = (first : Form (List ℕ)) (more : List ℕ → Form (List ℕ)) (here others : List Item) → (before : Takes first here)
+    → Takes (more before.end) others → Takes (first >>= more) (here ++ others)
 
 -- the items of so many turns, from this one on
 abbrev pub in_all_turns : (ℕ → List Item) → ℕ → ℕ → List Item
 in_all_turns items turn zero = []
 in_all_turns items turn (suc more) = items turn ++ in_all_turns items (turn + 1) more
 
--- a block whose items are known for each turn at one scope goes through so many turns at each that agrees with it, where the block leaves alone what
--- it knows but the counter
+-- a block whose items are known for each turn at one scope goes through so many turns at each that agrees with it, where the
+-- block leaves alone what it knows but the counter
 abbrev pub TurnsTake : Type 0
-TurnsTake = (shown known after : List ℕ) (form : List ℕ → Form (List ℕ)) (counter times : ℕ) (s t : List ℕ) (items : ℕ → List Item) → IsFalse (has known counter)
-    → Inside (slice_set known counter 1) shown → Carries shown (slice_set known counter 1) after form → AlwaysShown shown form → Leaves known form → Agree known s t
-    → ((turn : ℕ) → turn < times → Takes (form (slice_set s counter turn)) (items turn)) → Takes (turns form counter 0 times t) (in_all_turns items 0 times)
+TurnsTake = (shown known after : List ℕ) (form : List ℕ → Form (List ℕ)) (counter times : ℕ) (s t : List ℕ) (items : ℕ → List Item)
+    → IsFalse (has known counter) → Inside (slice_set known counter 1) shown → Carries shown (slice_set known counter 1) after form
+    → AlwaysShown shown form → Leaves known form → Agree known s t
+    → ((turn : ℕ) → turn < times → Takes (form (slice_set s counter turn)) (items turn))
+    → Takes (turns form counter 0 times t) (in_all_turns items 0 times)
 
 -- ---- read again
 
 -- what is written of a rewritten structure is read as it: with the same items of the set's fields, whatever the others are
 abbrev pub RewrittenIsRead : Type 0
-RewrittenIsRead = (form : Form (List ℕ)) (names : List ℕ) (shown others items : List Item) (place : ℕ) (rest left : List Bool) (values : List ℤ)
+RewrittenIsRead = (form : Form (List ℕ)) (names : List ℕ) (shown others items : List Item) (place : ℕ) (rest left : List Bool)
+    (values : List ℤ)
     → (is : IsRewritten form names shown others items) → Closes form place is.values rest
     → Spells (place + length (bits_along form place is.values ++ rest)) form values (bits_along form place is.values ++ rest) left
     → (items_along form values ≡ items) × (shown_items names (items_along form values) ≡ shown) × (left ≡ rest)
@@ -124,15 +137,19 @@ abbrev pub SectionsLeave : Type 0
 SectionsLeave = (names : List ℕ) (sections : List Section) → sections_hide names sections ≡ true → Leaves names (sections_form sections)
 
 abbrev pub LeavesTogether : Type 0
-LeavesTogether = (names : List ℕ) (first more : List ℕ → Form (List ℕ)) → Leaves names first → Leaves names more → Leaves names (λ s. first s >>= more)
+LeavesTogether = (names : List ℕ) (first more : List ℕ → Form (List ℕ)) → Leaves names first → Leaves names more
+    → Leaves names (λ s. first s >>= more)
 
 abbrev pub LeavesPresent : Type 0
-LeavesPresent = (names : List ℕ) (holds : Formula) (form : List ℕ → Form (List ℕ)) → Leaves names form → Leaves names (present (When holds) form)
+LeavesPresent = (names : List ℕ) (holds : Formula) (form : List ℕ → Form (List ℕ)) → Leaves names form
+    → Leaves names (present (When holds) form)
 
 -- its end agrees with its start on them
 abbrev pub LeavesAgree : Type 0
-LeavesAgree = (names : List ℕ) (form : List ℕ → Form (List ℕ)) (s : List ℕ) (values : List ℤ) (end : List ℕ) → Leaves names form → Follows (form s) values end → Agree names s end
+LeavesAgree = (names : List ℕ) (form : List ℕ → Form (List ℕ)) (s : List ℕ) (values : List ℤ) (end : List ℕ) → Leaves names form
+    → Follows (form s) values end → Agree names s end
 
 -- sections cut in two
 abbrev pub SectionsTogether : Type 0
-SectionsTogether = (first more : List Section) (s : List ℕ) → sections_form (first ++ more) s ≡ (sections_form first s >>= sections_form more)
+SectionsTogether = (first more : List Section) (s : List ℕ)
+    → sections_form (first ++ more) s ≡ (sections_form first s >>= sections_form more)

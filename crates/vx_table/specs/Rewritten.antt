@@ -1,15 +1,20 @@
 -- A structure rewritten: some fields as another value of it has them, the others as stated; and what makes it.
-use Rattle.std.specs.Prelude.{◌≡◌, ℕ, ℤ, not, List, [], ◌++◌, filter, Option, Some, None, Result, Ok, Err}
+use Rattle.std.specs.Prelude.{◌≡◌, ℕ, ℤ, Bool, true, not, ◌&&◌, ◌||◌, IsTrue, List, [], ◌++◌, filter, Option, Some, None, Result, Ok, Err}
 use Rattle.vx_bits.specs.declared.list.Item.{Item}
 use Rattle.vx_table.specs.declared.rows.Cell.{Cell}
 use Rattle.vx_table.specs.declared.writer.SpellError.{SpellError}
 use Rattle.vx_table.specs.declared.writer.SpellError.TheVariants as errors
-use Rattle.vx_table.specs.Forms.{Form}
+use Rattle.vx_table.specs.declared.rows.Row.{Row}
+use Rattle.vx_table.specs.declared.rows.Row.TheVariants.{Field, Block, Name}
+use Rattle.vx_table.specs.Forms.{Form, has_value}
+use Rattle.vx_table.specs.Parts.{Section, sections_form}
+use Rattle.vx_table.specs.EachField.{EachField, sections_pass}
+use Rattle.vx_table.specs.Kept.{stands_for_field, kept_along}
 use Rattle.vx_table.specs.Spelling.{item_of, items_along}
 use Rattle.vx_table.specs.Values.{IsValueOf, Follows, ComesTo}
 use Rattle.vx_table.specs.Writing.{IsWritten}
-use Rattle.vx_table.specs.Depends.{has}
-use Rattle.vx_table.specs.Shown.{shown_items}
+use Rattle.vx_table.specs.Depends.{has, Inside}
+use Rattle.vx_table.specs.Shown.{shown_items, KeepsShown}
 
 -- the items of the fields that aren't in a set
 abbrev pub other_items : List ℕ → List Item → List Item
@@ -26,7 +31,26 @@ pub record IsRewritten {A : Type 0} (form : Form A) (names : List ℕ) (shown ot
 
 -- and they are the only ones
 abbrev pub RewritesOneWay : Type 0
-RewritesOneWay = (form : Form (List ℕ)) (names : List ℕ) (shown others a b : List Item) → IsRewritten form names shown others a → IsRewritten form names shown others b → a ≡ b
+RewritesOneWay = (form : Form (List ℕ)) (names : List ℕ) (shown others a b : List Item) → IsRewritten form names shown others a
+    → IsRewritten form names shown others b → a ≡ b
+
+-- What is rewritten has the same kept items, where the set has each kept field and no kept row stands for an absent field.
+abbrev pub FillsNone : Cell ℕ → Type 0
+FillsNone cell = IsTrue (cell.kept && stands_for_field cell.coding) → IsTrue (has_value cell.coding)
+
+unfoldable pub fills_none : Row → Bool
+fills_none (Field c) = not (c.kept && stands_for_field c.coding) || has_value c.coding
+fills_none (Block presence n) = true
+fills_none (Name name formula) = true
+
+abbrev pub RewrittenKeeps : Type 0
+RewrittenKeeps = (kept names : List ℕ) (f g : Form (List ℕ)) (v w : List ℤ) (a b : List ℕ) → Inside kept names → KeepsShown kept f
+    → KeepsShown kept g → EachField FillsNone f → EachField FillsNone g → Follows f v a → Follows g w b
+    → shown_items names (items_along f v) ≡ shown_items names (items_along g w) → kept_along f v ≡ kept_along g w
+
+abbrev pub SectionsFillNone : Type 0
+SectionsFillNone = (sections : List Section) (s : List ℕ) → sections_pass fills_none sections ≡ true
+    → EachField FillsNone (sections_form sections s)
 
 -- ---- what makes it
 
@@ -71,22 +95,26 @@ pub record BreaksOff {A : Type 0} (form : Form A) (into after : List Item) : Typ
 
 -- What a rewriter of a form answers.
 abbrev pub HasRewritten : {A B : Type 0} → Form A → Sources → List Item → Result B SpellError → Sources → List Item → Type 0
-HasRewritten {A} form old into (Ok b) new after = (values : List ℤ) × (end : A) × AreTaken form old values end new × (after ≡ into ++ items_along form values)
+HasRewritten {A} form old into (Ok b) new after = (values : List ℤ) × (end : A) × AreTaken form old values end new
+    × (after ≡ into ++ items_along form values)
 HasRewritten form old into (Err e) new after = BreaksOff form into after
 
 -- A rewriter's answer, whole, unless memory runs out:
-pub record RewritesInto {A B : Type 0} (form : Form A) (old : Sources) (into : List Item) (result : Result B SpellError) (new : Sources) (after : List Item) : Type 0 where
+pub record RewritesInto {A B : Type 0} (form : Form A) (old : Sources) (into : List Item) (result : Result B SpellError) (new : Sources)
+    (after : List Item) : Type 0 where
   -- what it answers is so: the items of values that come next are taken and appended;
   pub is : HasRewritten form old into result new after
   -- where the items of values come next, these are taken and appended, and no others.
-  pub only : (values : List ℤ) (end : A) (more : Sources) → AreTaken form old values end more → IsWritten result ((after ≡ into ++ items_along form values) × (new ≡ more))
+  pub only : (values : List ℤ) (end : A) (more : Sources) → AreTaken form old values end more
+      → IsWritten result ((after ≡ into ++ items_along form values) × (new ≡ more))
 
 -- So from the items that a rewritten structure has of the one kind and of the other it makes that structure,
 abbrev pub MakesRewritten : Type 0
-MakesRewritten = (form : Form (List ℕ)) (old new : Sources) (items after : List Item) (result : Result (Unit {0}) SpellError) → RewritesInto form old [] result new after
-    → IsRewritten form old.names old.shown old.others items → IsWritten result (after ≡ items)
+MakesRewritten = (form : Form (List ℕ)) (old new : Sources) (items after : List Item) (result : Result (Unit {0}) SpellError)
+    → RewritesInto form old [] result new after → IsRewritten form old.names old.shown old.others items → IsWritten result (after ≡ items)
 
 -- and what it makes of all items is one.
 abbrev pub MadeIsRewritten : Type 0
-MadeIsRewritten = (form : Form (List ℕ)) (old new : Sources) (after : List Item) → RewritesInto {B = Unit {0}} form old [] (Ok tt) new after → new.shown ≡ [] → new.others ≡ []
+MadeIsRewritten = (form : Form (List ℕ)) (old new : Sources) (after : List Item)
+    → RewritesInto {B = Unit {0}} form old [] (Ok tt) new after → new.shown ≡ [] → new.others ≡ []
     → IsRewritten form old.names old.shown old.others after

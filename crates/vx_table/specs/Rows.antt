@@ -23,4 +23,5 @@ BeginsWithBlock = (presence : Presence) (n : ℕ) (rows : List Row) (s : List �
 
 -- the rest, at the scope in which the name has the formula's number
 abbrev pub BeginsWithName : Type 0
-BeginsWithName = (name : ℕ) (formula : Formula) (rows : List Row) (s : List ℕ) → form_of (Name name formula ∷ rows) s ≡ form_of rows (slice_set s name (value s formula))
+BeginsWithName = (name : ℕ) (formula : Formula) (rows : List Row) (s : List ℕ)
+    → form_of (Name name formula ∷ rows) s ≡ form_of rows (slice_set s name (value s formula))

@@ -1,11 +1,13 @@
 -- The latest numbers of fields and names, and what a row's formulas are at them.
-use Rattle.std.specs.Prelude.{◌↔◌, ◌≤◌, ℕ, ℤ, pos, negsuc, zero, suc, ◌+◌, ◌-◌, ◌*◌, ◌^◌, min, Bool, cond, not, ◌&&◌, ◌||◌, ◌==◌, nat_lt, nat_le, List, slice_index, [], ◌∷◌, ◌++◌, take, drop, replicate, slice_set}
+use Rattle.std.specs.Prelude.{◌↔◌, ◌≤◌, ℕ, ℤ, pos, negsuc, zero, suc, ◌+◌, ◌-◌, ◌*◌, ◌^◌, min, Bool, cond, not, ◌&&◌, ◌||◌, ◌==◌, nat_lt}
+use Rattle.std.specs.Prelude.{nat_le, List, slice_index, [], ◌∷◌, ◌++◌, take, drop, replicate, slice_set}
 use Rattle.vx_bits.specs.declared.list.Item.{Item}
 use Rattle.std.specs.Int.{div_ceil}
 use Rattle.vx_table.specs.declared.rows.Term.{Term}
 use Rattle.vx_table.specs.declared.rows.Term.TheVariants.{Number, Latest}
 use Rattle.vx_table.specs.declared.rows.Formula.{Formula}
-use Rattle.vx_table.specs.declared.rows.Formula.TheVariants.{Plain, Plus, Minus, Times, Quotient, Least, PowerOfTwo, CeilLog2, Equal, Differs, Below, AtMost, Both, Either}
+use Rattle.vx_table.specs.declared.rows.Formula.TheVariants.{Plain, Plus, Minus, Times, Quotient, Least, PowerOfTwo, CeilLog2, Equal}
+use Rattle.vx_table.specs.declared.rows.Formula.TheVariants.{Differs, Below, AtMost, Both, Either}
 
 -- Numbers are kept to 32 bits, as wide as any field; no sum or product that H.266 asks for comes near the last of them.
 abbrev pub most : ℕ

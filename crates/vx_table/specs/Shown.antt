@@ -21,13 +21,15 @@ shown_items shown items = filter (λ item. has shown item.field) items
 abbrev pub shown_cells : List ℕ → Form (List ℕ) → List ℤ → List (Cell ℕ)
 shown_cells shown (done s) w = []
 shown_cells shown (field cell goes) [] = []
-shown_cells shown (field cell goes) (v ∷ w) = cond (has shown cell.field) (cell ∷ shown_cells shown (goes v) w) (shown_cells shown (goes v) w)
+shown_cells shown (field cell goes) (v ∷ w) = cond (has shown cell.field) (cell ∷ shown_cells shown (goes v) w)
+    (shown_cells shown (goes v) w)
 
--- values of alike forms which have the same shown items have the same shown fields, with the same codings and ranges, and leave scopes that
--- agree
+-- values of alike forms which have the same shown items have the same shown fields, with the same codings and ranges, and leave
+-- scopes that agree
 abbrev pub CellsFollowItems : Type 0
-CellsFollowItems = (shown known : List ℕ) (f g : Form (List ℕ)) (v w : List ℤ) (s t : List ℕ) → Alike shown known f g → Follows f v s → Follows g w t
-    → shown_items shown (items_along f v) ≡ shown_items shown (items_along g w) → (shown_cells shown f v ≡ shown_cells shown g w) × Agree known s t
+CellsFollowItems = (shown known : List ℕ) (f g : Form (List ℕ)) (v w : List ℤ) (s t : List ℕ) → Alike shown known f g → Follows f v s
+    → Follows g w t → shown_items shown (items_along f v) ≡ shown_items shown (items_along g w)
+    → (shown_cells shown f v ≡ shown_cells shown g w) × Agree known s t
 
 -- items that have the same shown ones lead from scopes that agree to scopes that agree
 abbrev pub ScopesFollowItems : Type 0
@@ -48,8 +50,9 @@ KeepsShown shown form = EachField (IsKeptWhereShown shown) form
 
 -- then values of alike forms which have the same kept items have the same kept fields, with the same codings and ranges
 abbrev pub CellsFollowKept : Type 0
-CellsFollowKept = (shown known : List ℕ) (f g : Form (List ℕ)) (v w : List ℤ) (s t : List ℕ) → Alike shown known f g → KeepsShown shown f → KeepsShown shown g
-    → Follows f v s → Follows g w t → kept_along f v ≡ kept_along g w → (shown_cells shown f v ≡ shown_cells shown g w) × Agree known s t
+CellsFollowKept = (shown known : List ℕ) (f g : Form (List ℕ)) (v w : List ℤ) (s t : List ℕ) → Alike shown known f g → KeepsShown shown f
+    → KeepsShown shown g → Follows f v s → Follows g w t → kept_along f v ≡ kept_along g w
+    → (shown_cells shown f v ≡ shown_cells shown g w) × Agree known s t
 
 -- the test over rows: a field has a star exactly where it isn't shown
 unfoldable pub star_tells : List ℕ → Row → Bool
@@ -67,9 +70,11 @@ sections_stars_tell shown sections = sections_pass (star_tells shown) sections
 pub record KeepsOnly (given shown : List ℕ) (form : List ℕ → Form (List ℕ)) : Type 0 where
   pub keeps : (s : List ℕ) → KeepsShown (with_all (set_of given) shown) (form s)
 
--- Kept fields depend on kept fields and on the given numbers alone: where a form keeps what is shown, and the shown depend only on the given,
--- equal kept items at scopes that agree on the given come from equal kept fields, with equal codings and ranges.
+-- Kept fields depend on kept fields and on the given numbers alone: where a form keeps what is shown, and the shown depend only
+-- on the given, equal kept items at scopes that agree on the given come from equal kept fields, with equal codings and ranges.
 abbrev pub KeptTellsKept : Type 0
-KeptTellsKept = (given shown : List ℕ) (form : List ℕ → Form (List ℕ)) (s t a b : List ℕ) (v w : List ℤ) → DependsOnlyOn given shown form → KeepsOnly given shown form
-    → Agree (set_of given) s t → Follows (form s) v a → Follows (form t) w b → kept_along (form s) v ≡ kept_along (form t) w
-    → (shown_cells (with_all (set_of given) shown) (form s) v ≡ shown_cells (with_all (set_of given) shown) (form t) w) × Agree (set_of given) a b
+KeptTellsKept = (given shown : List ℕ) (form : List ℕ → Form (List ℕ)) (s t a b : List ℕ) (v w : List ℤ) → DependsOnlyOn given shown form
+    → KeepsOnly given shown form → Agree (set_of given) s t → Follows (form s) v a → Follows (form t) w b
+    → kept_along (form s) v ≡ kept_along (form t) w
+    → (shown_cells (with_all (set_of given) shown) (form s) v ≡ shown_cells (with_all (set_of given) shown) (form t) w)
+    × Agree (set_of given) a b

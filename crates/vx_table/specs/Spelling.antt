@@ -1,8 +1,10 @@
 -- How values are spelled, and where and why bits are refused, said of forms and apart from any walk.
 use Rattle.std.specs.Int.RustNames.{unsigned_abs}
-use Rattle.std.specs.Prelude.{◌≡◌, ◌≢◌, ℕ, ℤ, pos, negsuc, zero, suc, ◌-◌, ◌%◌, ◌^◌, ◌<◌, ◌≤◌, Bool, false, cond, ◌&&◌, ◌==◌, List, [], ◌∷◌, ◌++◌, length, Option, Some, None}
+use Rattle.std.specs.Prelude.{◌≡◌, ◌≢◌, ℕ, ℤ, pos, negsuc, zero, suc, ◌-◌, ◌%◌, ◌^◌, ◌<◌, ◌≤◌, Bool, false, cond, ◌&&◌, ◌==◌, List, []}
+use Rattle.std.specs.Prelude.{◌∷◌, ◌++◌, length, Option, Some, None}
 use Rattle.std.specs.Prelude.{int_le, int_lt}
-use Rattle.vx_bits.specs.Codes.{fixed, exp_golomb, signed_exp_golomb, code_number, IsCodeNumber, zeros_from, one_from, BeginsWith, EndsWithinCode, BeginsTooLong}
+use Rattle.vx_bits.specs.Codes.{fixed, exp_golomb, signed_exp_golomb, code_number, IsCodeNumber, zeros_from, one_from, BeginsWith}
+use Rattle.vx_bits.specs.Codes.{EndsWithinCode, BeginsTooLong}
 use Rattle.vx_bits.specs.declared.list.Item.{Item}
 use Rattle.vx_bits.specs.declared.refusal.BitCause.{BitCause}
 use Rattle.vx_bits.specs.declared.refusal.BitCause.TheVariants as causes

@@ -27,7 +27,8 @@ pub record Parted {A B : Type 0} (form : Form A) (next : A → Form B) (values :
 -- The values go along the form, each one that its field may have, up to a field that comes next.
 pub data ComesTo {A : Type 0} : Form A → List ℤ → Cell ℕ → Type 0 where
   at_field : {cell : Cell ℕ} {goes : ℤ → Form A} → ComesTo (field cell goes) [] cell
-  past : {cell next : Cell ℕ} {goes : ℤ → Form A} {v : ℤ} {w : List ℤ} → IsValueOf cell v → ComesTo (goes v) w next → ComesTo (field cell goes) (v ∷ w) next
+  past : {cell next : Cell ℕ} {goes : ℤ → Form A} {v : ℤ} {w : List ℤ} → IsValueOf cell v → ComesTo (goes v) w next
+      → ComesTo (field cell goes) (v ∷ w) next
 
 -- The spelling of values that go along a form, from a place on: their codes and the gaps, one behind another.
 abbrev pub bits_along : {A : Type 0} → Form A → ℕ → List ℤ → List Bool

@@ -26,29 +26,34 @@ TakesValue cell items None left = TellsNoValue cell items
 
 -- What a writer does at one field: where it answers an error, bits and items are as they were.
 abbrev pub WritesField : List Bool → List Item → Cell ℕ → Result ℤ SpellError → List Bool → List Item → Type 0
-WritesField old items cell (Ok v) new left = IsValueOf cell v × (new ≡ old ++ code_of cell.coding (length old) v) × (items ≡ item_of cell v ++ left)
+WritesField old items cell (Ok v) new left = IsValueOf cell v × (new ≡ old ++ code_of cell.coding (length old) v)
+    × (items ≡ item_of cell v ++ left)
 WritesField old items cell (Err errors.Memory) new left = (new ≡ old) × (left ≡ items)
 WritesField old items cell (Err errors.NoValue) new left = TellsNoValue cell items × (new ≡ old) × (left ≡ items)
 
 -- What was gained is what values that go through the form to this end are written as, and the values' items were taken.
-pub record IsSpelled {A X : Type 0} (form : Form A) (spelling : List ℤ → List X) (old : List X) (items : List Item) (new : List X) (left : List Item) (end : A) : Type 0 where
+pub record IsSpelled {A X : Type 0} (form : Form A) (spelling : List ℤ → List X) (old : List X) (items : List Item) (new : List X)
+    (left : List Item) (end : A) : Type 0 where
   pub values : List ℤ
   pub follows : Follows form values end
   pub gained : new ≡ old ++ spelling values
   pub taken : items ≡ items_along form values ++ left
 
 -- What was gained is what values up to this field, which comes next, are written as, and the values' items were taken.
-pub record HaltsAt {A X : Type 0} (form : Form A) (spelling : List ℤ → List X) (old : List X) (items : List Item) (new : List X) (left : List Item) (cell : Cell ℕ) : Type 0 where
+pub record HaltsAt {A X : Type 0} (form : Form A) (spelling : List ℤ → List X) (old : List X) (items : List Item) (new : List X)
+    (left : List Item) (cell : Cell ℕ) : Type 0 where
   pub values : List ℤ
   pub comes : ComesTo form values cell
   pub gained : new ≡ old ++ spelling values
   pub taken : items ≡ items_along form values ++ left
 
 -- What a writer of a form answers, and what was gained and which items are left then.
-abbrev pub HasWritten : {A B X : Type 0} → Form A → (List ℤ → List X) → List X → List Item → Result B SpellError → List X → List Item → Type 0
+abbrev pub HasWritten : {A B X : Type 0} → Form A → (List ℤ → List X) → List X → List Item → Result B SpellError → List X → List Item
+    → Type 0
 HasWritten {A} form spelling old items (Ok b) new left = (end : A) × IsSpelled form spelling old items new left end
 HasWritten form spelling old items (Err errors.Memory) new left = (cell : Cell ℕ) × HaltsAt form spelling old items new left cell
-HasWritten form spelling old items (Err errors.NoValue) new left = (cell : Cell ℕ) × HaltsAt form spelling old items new left cell × TellsNoValue cell left
+HasWritten form spelling old items (Err errors.NoValue) new left = (cell : Cell ℕ) × HaltsAt form spelling old items new left cell
+    × TellsNoValue cell left
 
 -- What a writer answers for items of values.
 abbrev pub IsWritten : {B : Type 0} → Result B SpellError → Type 0 → Type 0
@@ -67,7 +72,8 @@ pub record AreItemsOf {A : Type 0} (form : Form A) (items : List Item) (values :
   pub given : items ≡ items_along form values ++ more
 
 -- The answer, whole, of what writes values in some spelling, unless memory runs out:
-pub record WritesAs {A B X : Type 0} (form : Form A) (spelling : List ℤ → List X) (old : List X) (items : List Item) (result : Result B SpellError) (new : List X) (left : List Item) : Type 0 where
+pub record WritesAs {A B X : Type 0} (form : Form A) (spelling : List ℤ → List X) (old : List X) (items : List Item)
+    (result : Result B SpellError) (new : List X) (left : List Item) : Type 0 where
   -- what it answers is so;
   pub is : HasWritten form spelling old items result new left
   -- where the items begin with those of values that follow the form, these are spelled, and exactly their items taken;

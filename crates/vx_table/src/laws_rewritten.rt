@@ -1,6 +1,6 @@
 //! Laws of rewriting: functions that do nothing, each with a law as its contract.
 ghost use Rattle.vx_table.specs.Rewrites.{WhatGoesIsRewritten, CopiedRewrites, ReplacedRewrites, RewritesTogether, AbsentRewrites, PresentRewrites, NothingRewrites, ValuesTake, TakesAgain, TakesTogether, TurnsTake, RewrittenIsRead, TablesLeave, SectionsLeave, LeavesTogether, LeavesPresent, LeavesAgree, SectionsTogether};
-ghost use Rattle.vx_table.specs.Rewritten.{RewritesOneWay, MakesRewritten, MadeIsRewritten};
+ghost use Rattle.vx_table.specs.Rewritten.{RewritesOneWay, RewrittenKeeps, SectionsFillNone, MakesRewritten, MadeIsRewritten};
 
 /// The items of some fields and those of the others tell the structure that has both.
 pub fn rewrites_one_way()
@@ -56,4 +56,10 @@ pub fn parts_leave()
 /// Sections are one structure behind another, wherever they are cut.
 pub fn sections_together()
     ensures { SectionsTogether }
+{}
+
+/// What is rewritten has the same kept items, where each kept field is taken over.
+pub fn rewritten_keeps()
+    ensures keeps { RewrittenKeeps }
+    ensures test { SectionsFillNone }
 {}

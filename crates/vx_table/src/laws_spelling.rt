@@ -1,7 +1,7 @@
 //! Laws of spelling, which hold of all tables: functions that do nothing, each with a law as its contract.
 ghost use Rattle.vx_table.specs.Laws.{ReadsOneWay, AnswersOneWay, AnswersAlways, SpellsBothWays, ReachesBothWays, ReadsBack, SpellsApart, ItemsApart, FollowsTogether, ItemsTogether, BitsTogether, SpellsTogether};
 ghost use Rattle.vx_table.specs.Bounds.{LieInRange, PartsLieInRange};
-ghost use Rattle.vx_table.specs.Trailing.{ClosesWithoutTrailing, ClosesAtTheEnd, PartsCloseWithoutTrailing, PartsCloseAtTheEnd};
+ghost use Rattle.vx_table.specs.Trailing.{ClosesWithoutTrailing, ClosesAtTheEnd, PartsCloseWithoutTrailing, PartsCloseAtTheEnd, TablesEndAligned, SectionsEndAligned, EndsAlignedTogether};
 
 /// Bits that begin with a spelling tell the values and what follows.
 pub fn one_reading()
@@ -59,4 +59,11 @@ pub fn one_behind_another()
 pub fn items_in_range()
     ensures table { LieInRange }
     ensures parts { PartsLieInRange }
+{}
+
+/// A structure that ends in a trailing ends at a byte boundary.
+pub fn ends_aligned()
+    ensures table { TablesEndAligned }
+    ensures sections { SectionsEndAligned }
+    ensures together { EndsAlignedTogether }
 {}

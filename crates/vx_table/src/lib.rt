@@ -14,12 +14,14 @@ mod depends;
 mod kept;
 mod laws_again;
 mod laws_depends;
+mod laws_loaded;
 mod laws_numbers;
 mod laws_rewritten;
 mod laws_rows;
 mod laws_spelling;
 mod macros;
 mod parts;
+mod passing;
 mod ranges;
 mod reader;
 mod rewriter;
@@ -41,19 +43,21 @@ pub use laws_depends::{
     alike_together, cells_follow_items, cells_follow_kept, chains_carry, chains_depend,
     kept_tells_kept, scopes_follow_items, steps_carry, tables_carry,
 };
+pub use laws_loaded::{items_load, number_below, number_of_items};
 pub use laws_numbers::ceil_log2_is_least;
 pub use laws_rewritten::{
     items_take, makes_rewritten, parts_leave, parts_rewrite, rewrites_one_way, rewritten_is_read,
-    sections_together, what_goes_is_rewritten,
+    rewritten_keeps, sections_together, what_goes_is_rewritten,
 };
 pub use laws_rows::first_row_first;
 pub use laws_spelling::{
-    every_answer, items_in_range, no_proper_prefix, one_answer, one_behind_another, one_reading,
-    one_writing, read_back, spelled_both_ways, what_may_follow,
+    ends_aligned, every_answer, items_in_range, no_proper_prefix, one_answer, one_behind_another,
+    one_reading, one_writing, read_back, spelled_both_ways, what_may_follow,
 };
 pub use parts::{Part, code_parts, read_parts, write_parts};
+pub use passing::{pass_parts, pass_table};
 pub use ranges::{fault_of, has_code, is_value};
-pub use reader::{read_table, read_value, report, take_code};
+pub use reader::{read_table, read_value, report, take_code, take_field};
 pub use rewriter::{Rewriter, rewrite_parts, rewrite_table, set_of};
 pub use rows::{Cell, Coding, Fault, Formula, Limits, Presence, Row, Term};
 pub use scope::Scope;

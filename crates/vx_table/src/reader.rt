@@ -5,7 +5,7 @@ ghost use Rattle.vx_bits.specs.Place.{taken};
 ghost use Rattle.vx_table.specs.Forms.{form_of};
 ghost use Rattle.vx_table.specs.Spelling as spelling;
 ghost use Rattle.vx_table.specs.Spelling.{IsCodable};
-ghost use Rattle.vx_table.specs.Reading.{TakesCode, ReadsField, at_front, Reads, ReadsValue, LeadsTo};
+ghost use Rattle.vx_table.specs.Reading.{TakesCode, TakesField, ReadsField, at_front, Reads, ReadsValue, LeadsTo};
 
 use crate::ranges::fault_of;
 use crate::rows::{Cell, Coding, Fault, Row};
@@ -65,11 +65,27 @@ pub fn report(fault: Fault, field: u16, bit: u32) -> Refusal
     }
 }
 
-/// The refusal of a field where no code begins.
-fn syntax(field: u16, bit: u32, cause: BitCause) -> ReadError
-    ensures { result ≡ ReadError.Refused (Refusal.Syntax field bit cause) }
+/// Takes a field, a value of its range, and gives that; 0 for a gap.
+///
+/// # Errors
+///
+/// The field's refusal; the reader is then as it was.
+pub fn take_field(bits: &mut BitReader<'_>, cell: Cell<u32>) -> Result<i64, Refusal>
+    requires { IsCodable cell.coding }
+    ensures { TakesField cell bits.old result bits.new }
 {
-    ReadError::Refused(Refusal::Syntax { field, bit, cause })
+    let field = cell.field;
+    let bit = bits.at();
+    let mut behind = bits.fork();
+    let value = match take_code(&mut behind, cell.coding) {
+        Ok(value) => value,
+        Err(cause) => return Err(Refusal::Syntax { field, bit, cause }),
+    };
+    if let Some(fault) = fault_of(cell.limits, value) {
+        return Err(report(fault, field, bit));
+    }
+    *bits = behind;
+    Ok(value)
 }
 
 impl<'a> Coder<Fields> for BitReader<'a> {
@@ -78,15 +94,11 @@ impl<'a> Coder<Fields> for BitReader<'a> {
     ghost step = { ReadsField };
 
     fn code(&mut self, items: &mut Fields, cell: Cell<u32>) -> Result<i64, ReadError> {
-        let bit = self.at();
         let mut behind = self.fork();
-        let value = match take_code(&mut behind, cell.coding) {
+        let value = match take_field(&mut behind, cell) {
             Ok(value) => value,
-            Err(cause) => return Err(syntax(cell.field, bit, cause)),
+            Err(refusal) => return Err(ReadError::Refused(refusal)),
         };
-        if let Some(fault) = fault_of(cell.limits, value) {
-            return Err(ReadError::Refused(report(fault, cell.field, bit)));
-        }
         push(items, cell, value)?;
         *self = behind;
         Ok(value)
