@@ -5,6 +5,12 @@ mod list;
 mod memory;
 mod outside;
 mod read;
+#[cfg(test)]
+mod tests_callers;
+#[cfg(test)]
+mod tests_memory;
+#[cfg(test)]
+mod tests_outside;
 mod write;
 
 pub use list::{read_at, read_box};
@@ -12,6 +18,3 @@ pub use memory::{MemorySink, MemorySource};
 pub use outside::{ClosedSource, FileSource, ReaderSource, WriterSink};
 pub use read::{Source, SourceFailed};
 pub use write::{Sink, SinkFailed, write_all};
-
-#[cfg(test)]
-mod tests;

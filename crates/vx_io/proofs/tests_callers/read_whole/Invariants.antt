@@ -1,7 +1,7 @@
 use Rattle.std.proofs.Common.{◌+◌, ◌-◌, vec_len, ◌≡◌, ◌≢◌, ℕ, slice_get}
 use Rattle.std.specs.Io.KnownBytes.{Consumes}
 use Rattle.vx_io.specs.Listed.{bytes_at, faults_at}
-use Rattle.vx_io.proofs.tests.callers.read_whole.Given as goal
+use Rattle.vx_io.proofs.tests_callers.read_whole.Given as goal
 
 abbrev pub invariant-loop-sources : goal.invariant-loop-sources
 invariant-loop-sources g l =
