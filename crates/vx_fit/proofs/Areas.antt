@@ -1,13 +1,13 @@
 -- Regions that don't overlap fill a frame exactly where their areas add up to its own.
-use Rattle.std.proofs.Common.{◌≡◌, ℕ, zero, suc, ◌+◌, ◌-◌, ◌*◌, ◌<◌, ◌≤◌, min, Bool, true, false, cond, ◌&&◌, nat_le, nat_lt, List, [], ◌∷◌, length, get_or, count_by, ap, refl, sym, ◌∙◌, subst, inl, inr, arith}
+use Rattle.std.proofs.Common.{◌≡◌, ℕ, zero, suc, ◌+◌, ◌-◌, ◌*◌, ◌<◌, ◌≤◌, min, Bool, true, false, cond, ◌&&◌, nat_le, nat_lt, List, [], ◌∷◌, count_by, ap, refl, sym, ◌∙◌, subst, inl, inr, arith}
 use Rattle.std.proofs.Math.Nat.{mul_comm}
-use Rattle.std.proofs.lemmas.Bool.{cases_Bool, cases_eq, cases_lt, and_from, and_right, and_parts, both_ways, cond-true, cond-false, false_from_ne_true, and_cases, leb-false, leb-true, ltb-false, ltb-true}
+use Rattle.std.proofs.lemmas.Bool.{cases_Bool, cases_eq, cases_lt, and_parts, cond-true, cond-false, and_cases, leb-false, leb-true, ltb-false, ltb-true}
 use Rattle.std.proofs.lemmas.List.Elements.{All-head, All-tail}
 use Rattle.std.proofs.lemmas.List.Sums.{sum_by-cons}
 use Rattle.std.specs.List.{All, AllPairs, Any}
 use Rattle.vx_fit.specs.declared.placed.Placed.{Placed}
 use Rattle.vx_fit.specs.FitFaults.{HasGap}
-use Rattle.vx_fit.specs.Placing.{IsCovered, IsFilled, Overlap, covers, frame_height, frame_width}
+use Rattle.vx_fit.specs.Placing.{IsFilled, Overlap, covers, frame_height, frame_width}
 use Rattle.vx_fit.specs.inner.Searches.{areas}
 use Rattle.vx_fit.proofs.Sizes.{greatest_bounds}
 use Rattle.vx_layout.proofs.Counting.{count_by-cons, count_by-some}

@@ -1,24 +1,24 @@
 -- The CTUs of regions that fit together cover the frame that their lines bound, each CTU once.
-use Rattle.std.proofs.Common.{◌≡◌, ℕ, suc, zero, ◌+◌, ◌*◌, ◌<◌, ◌≤◌, true, max, List, [], ◌∷◌, length, get_or, map, count_by, ap, refl, sym, ◌∙◌, subst, inl, inr, arith}
+use Rattle.std.proofs.Common.{◌≡◌, ℕ, suc, zero, ◌+◌, ◌*◌, ◌<◌, ◌≤◌, true, List, [], ◌∷◌, length, get_or, map, count_by, ap, sym, ◌∙◌, subst, inl, inr, arith}
 use Rattle.std.specs.Int.{div_ceil}
-use Rattle.std.specs.List.{All, AllPairs, AllZip, Any, Contains}
+use Rattle.std.specs.List.{All, AllPairs, AllZip}
 use Rattle.std.proofs.lemmas.Bool.{cases_lt}
 use Rattle.std.proofs.lemmas.List.{get_or_default}
 use Rattle.vx_layout.specs.declared.numbers.Numbers.{Numbers}
 use Rattle.vx_layout.specs.declared.rect.Rect.{Rect}
-use Rattle.vx_layout.specs.Bounds.{Rises, last}
+use Rattle.vx_layout.specs.Bounds.{last}
 use Rattle.vx_layout.specs.Layouts.{no_rect}
 use Rattle.vx_layout.specs.Rects.{CoversOnce, IsPart, Precedes, holds}
 use Rattle.vx_layout.proofs.Counting.{count_by-some}
-use Rattle.vx_layout.proofs.Rising.{Contains-last, Contains-le-last, length-le-last}
+use Rattle.vx_layout.proofs.Rising.{Contains-last, Contains-le-last}
 use Rattle.vx_fit.specs.declared.placed.Placed.{Placed}
 use Rattle.vx_fit.specs.FitFaults.{nowhere, region_at}
-use Rattle.vx_fit.specs.FrameLines.{AreBounds, HaveLines, IsFull, IsHorizontal, IsVertical, corner_at, part_at}
-use Rattle.vx_fit.specs.Placing.{FitTogether, Overlap, covers, frame_height, frame_width, greatest, in_ctus}
-use Rattle.vx_fit.specs.Sources.{IsSource}
+use Rattle.vx_fit.specs.FrameLines.{AreBounds, IsFull, IsHorizontal, IsVertical, corner_at, part_at}
+use Rattle.vx_fit.specs.Placing.{FitTogether, covers, frame_height, frame_width, in_ctus}
+use Rattle.vx_fit.specs.Sources.{IsSized}
 use Rattle.vx_fit.proofs.Areas.{at_most_one}
-use Rattle.vx_fit.proofs.Framed.{fitted_at, fitted_long, some_columns, some_rows}
-use Rattle.vx_fit.proofs.Lined.{source_at}
+use Rattle.vx_fit.proofs.Framed.{first_column, first_row, fitted_at, fitted_long}
+use Rattle.vx_fit.proofs.Lined.{sized_at}
 use Rattle.vx_fit.proofs.Positions.{ceil_is, ctu_back, ctu_there, high_back, high_there}
 use Rattle.vx_fit.proofs.Sizes.{greatest_above, greatest_bounds}
 
@@ -27,7 +27,7 @@ pub record IsFrame (placed : List Placed) (ctb : ℕ) (corners : List Rect) (par
   pub some : 0 < ctb
   pub fit : FitTogether placed ctb
   pub ctus : corners ≡ map (in_ctus ctb) placed
-  pub sources : AllZip IsSource corners parts
+  pub sized : AllZip IsSized corners parts
   pub vertical : AreBounds (IsVertical corners parts) columns
   pub horizontal : AreBounds (IsHorizontal corners parts) rows
 
@@ -59,26 +59,26 @@ some_farthest : (f : Rect → ℕ) (ss : List Rect) → 0 < length ss → (k : �
 some_farthest f [] some = absurd (omega arith)
 some_farthest f (s ∷ ss) some = farthest f s ss
 
--- the last bounds of a source are lines at its region's right and lower borders
-pub right_line : (corners : List Rect) (parts : List Numbers) (k : ℕ) → AllZip IsSource corners parts → k < length corners → IsVertical corners parts ((corner_at corners k).x + (corner_at corners k).w)
-right_line corners parts k sources short =
-    let source = source_at corners parts k sources short in
-    (k, short, (last (part_at parts k).columns, Contains-last (part_at parts k).columns (omega (arith, (some_columns _ _ source).0, source.wide)), omega (arith, source.wide)))
+-- the last bounds of a picture are lines at its region's right and lower borders
+pub right_line : (corners : List Rect) (parts : List Numbers) (k : ℕ) → AllZip IsSized corners parts → k < length corners → IsVertical corners parts ((corner_at corners k).x + (corner_at corners k).w)
+right_line corners parts k sized short =
+    let here = sized_at corners parts k sized short in
+    (k, short, (last (part_at parts k).columns, Contains-last (part_at parts k).columns (omega (arith, here.wide)), omega (arith, here.wide)))
 
-pub bottom_line : (corners : List Rect) (parts : List Numbers) (k : ℕ) → AllZip IsSource corners parts → k < length corners → IsFull corners parts ((corner_at corners k).y + (corner_at corners k).h)
-bottom_line corners parts k sources short =
-    let source = source_at corners parts k sources short in
-    (k, short, (last (part_at parts k).rows, Contains-last (part_at parts k).rows (omega (arith, (some_rows _ _ source).0, source.high)), omega (arith, source.high)))
+pub bottom_line : (corners : List Rect) (parts : List Numbers) (k : ℕ) → AllZip IsSized corners parts → k < length corners → IsFull corners parts ((corner_at corners k).y + (corner_at corners k).h)
+bottom_line corners parts k sized short =
+    let here = sized_at corners parts k sized short in
+    (k, short, (last (part_at parts k).rows, Contains-last (part_at parts k).rows (omega (arith, here.high)), omega (arith, here.high)))
 
-pub left_line : (corners : List Rect) (parts : List Numbers) (k : ℕ) → AllZip IsSource corners parts → k < length corners → IsVertical corners parts (corner_at corners k).x
-left_line corners parts k sources short = (k, short, (0, (some_columns _ _ (source_at corners parts k sources short)).1, omega arith))
+pub left_line : (corners : List Rect) (parts : List Numbers) (k : ℕ) → AllZip IsSized corners parts → k < length corners → IsVertical corners parts (corner_at corners k).x
+left_line corners parts k sized short = (k, short, (0, first_column _ _ (sized_at corners parts k sized short), omega arith))
 
-pub upper_line : (corners : List Rect) (parts : List Numbers) (k : ℕ) → AllZip IsSource corners parts → k < length corners → IsFull corners parts (corner_at corners k).y
-upper_line corners parts k sources short = (k, short, (0, (some_rows _ _ (source_at corners parts k sources short)).1, omega arith))
+pub upper_line : (corners : List Rect) (parts : List Numbers) (k : ℕ) → AllZip IsSized corners parts → k < length corners → IsFull corners parts (corner_at corners k).y
+upper_line corners parts k sized short = (k, short, (0, first_row _ _ (sized_at corners parts k sized short), omega arith))
 
 module _ (placed : List Placed) (ctb : ℕ) (corners : List Rect) (parts : List Numbers) (columns rows : List ℕ) (frame : IsFrame placed ctb corners parts columns rows) where
   right_in : (k : ℕ) → k < length corners → (corner_at corners k).x + (corner_at corners k).w ≤ last columns
-  right_in k short = Contains-le-last columns _ frame.vertical.rises ((frame.vertical.each _).1 (right_line corners parts k frame.sources short))
+  right_in k short = Contains-le-last columns _ frame.vertical.rises ((frame.vertical.each _).1 (right_line corners parts k frame.sized short))
 
   -- the lowest border of all passes through no region, so it is a line
   bottom_in : (k : ℕ) → k < length corners → (corner_at corners k).y + (corner_at corners k).h ≤ last rows
@@ -86,7 +86,7 @@ module _ (placed : List Placed) (ctb : ℕ) (corners : List Rect) (parts : List 
       let low = some_farthest (λ s. s.y + s.h) corners (omega arith) in
       let end : ℕ = (corner_at corners low.0).y + (corner_at corners low.0).h in
       let line : IsHorizontal corners parts end = (
-        bottom_line corners parts low.0 frame.sources low.1,
+        bottom_line corners parts low.0 frame.sized low.1,
         λ dropped. let through = dropped.crosses in let most = low.2 through.0 no_rect through.1 in omega (arith, through.2.0.1, most),
       ) in
       let inside : end ≤ last rows = Contains-le-last rows end frame.horizontal.rises ((frame.horizontal.each end).1 line) in
@@ -96,16 +96,16 @@ module _ (placed : List Placed) (ctb : ℕ) (corners : List Rect) (parts : List 
   right_out : (i : ℕ) → i < last columns → (k : ℕ) × (k < length corners) × (i < (corner_at corners k).x + (corner_at corners k).w)
   right_out i below =
       let line = (frame.vertical.each (last columns)).0 (Contains-last columns (omega arith)) in
-      let source = source_at corners parts line.0 frame.sources line.1 in
-      let upto = Contains-le-last (part_at parts line.0).columns line.2.0 source.layout.columns line.2.1 in
-      (line.0, line.1, omega (arith, line.2.2, upto, source.wide))
+      let here = sized_at corners parts line.0 frame.sized line.1 in
+      let upto = Contains-le-last (part_at parts line.0).columns line.2.0 here.columns line.2.1 in
+      (line.0, line.1, omega (arith, line.2.2, upto, here.wide))
 
   bottom_out : (j : ℕ) → j < last rows → (k : ℕ) × (k < length corners) × (j < (corner_at corners k).y + (corner_at corners k).h)
   bottom_out j below =
       let line = ((frame.horizontal.each (last rows)).0 (Contains-last rows (omega arith))).0 in
-      let source = source_at corners parts line.0 frame.sources line.1 in
-      let upto = Contains-le-last (part_at parts line.0).rows line.2.0 source.layout.rows line.2.1 in
-      (line.0, line.1, omega (arith, line.2.2, upto, source.high))
+      let here = sized_at corners parts line.0 frame.sized line.1 in
+      let upto = Contains-le-last (part_at parts line.0).rows line.2.0 here.rows line.2.1 in
+      (line.0, line.1, omega (arith, line.2.2, upto, here.high))
 
   pub long : length corners ≡ length placed
   long = fitted_long placed ctb corners frame.ctus
@@ -158,9 +158,9 @@ module _ (placed : List Placed) (ctb : ℕ) (corners : List Rect) (parts : List 
 
   pub regions_are_parts : All (IsPart (last columns) (last rows)) corners
   regions_are_parts = λ k d short.
-      let source = source_at corners parts k frame.sources short in
+      let here = sized_at corners parts k frame.sized short in
       subst (IsPart (last columns) (last rows)) (get_or_default corners k no_rect d short)
-      (record { wide = (some_columns _ _ source).0; high = (some_rows _ _ source).0; across = right_in k short; down = bottom_in k short })
+      (record { wide = here.wide.0; high = here.high.0; across = right_in k short; down = bottom_in k short })
 
   -- no two regions hold a CTU
   held_once : (i j a b : ℕ) (d : Rect) → a < b → b < length corners → holds (get_or corners a d) i j ≡ true → holds (get_or corners b d) i j ≡ true → ⊥

@@ -1,22 +1,21 @@
 -- What fitting regions give of their CTUs: they stay within the greatest size, and a region begins each axis.
-use Rattle.std.proofs.Common.{◌≡◌, ℕ, zero, suc, ◌+◌, ◌*◌, ◌/◌, ◌%◌, ◌<◌, ◌≤◌, min, List, length, get_or, map, ap, sym, ◌∙◌, subst, refl, inl, inr, arith}
+use Rattle.std.proofs.Common.{◌≡◌, ℕ, zero, suc, ◌+◌, ◌/◌, ◌%◌, ◌<◌, ◌≤◌, min, List, length, get_or, map, ap, sym, ◌∙◌, subst, inl, inr, arith}
 use Rattle.std.specs.Int.{div_ceil}
 use Rattle.std.proofs.lemmas.Bool.{cases_lt}
 use Rattle.std.proofs.lemmas.List.{get_or_default, get_or-map, length-map}
-use Rattle.std.specs.List.{All, AllZip, Contains}
+use Rattle.std.specs.List.{AllZip, Contains}
 use Rattle.vx_layout.specs.declared.numbers.Numbers.{Numbers}
 use Rattle.vx_layout.specs.declared.rect.Rect.{Rect}
-use Rattle.vx_layout.specs.Bounds.{Rises, last}
 use Rattle.vx_layout.specs.Layouts.{no_rect}
 use Rattle.vx_layout.proofs.FrameSlices.{AllZip-long}
-use Rattle.vx_layout.proofs.Rising.{Contains-first, length-le-last}
+use Rattle.vx_layout.proofs.Rising.{Contains-first}
 use Rattle.vx_fit.specs.declared.placed.Placed.{Placed}
 use Rattle.vx_fit.specs.FitFaults.{nowhere, region_at}
-use Rattle.vx_fit.specs.FrameLines.{HasBound, IsDropped, IsFull, IsHorizontal, IsVertical, corner_at, part_at}
-use Rattle.vx_fit.specs.Placing.{IsTooLarge, covers, frame_height, frame_width, greatest_size, in_ctus}
-use Rattle.vx_fit.specs.Sources.{IsFitted, IsSource}
+use Rattle.vx_fit.specs.FrameLines.{IsFull, IsHorizontal, corner_at}
+use Rattle.vx_fit.specs.Placing.{IsTooLarge, frame_height, frame_width, greatest_size, in_ctus}
+use Rattle.vx_fit.specs.Sources.{IsFitted, IsSized}
 use Rattle.vx_fit.specs.inner.Passing.{AreFramed}
-use Rattle.vx_fit.proofs.Lined.{source_at}
+use Rattle.vx_fit.proofs.Lined.{sized_at}
 use Rattle.vx_fit.proofs.Overlapping.{covers_tells}
 use Rattle.vx_fit.proofs.Sizes.{greatest_bounds}
 
@@ -41,18 +40,12 @@ not_too_wide placed small = elim (cases_lt greatest_size (frame_width placed)) [
 not_too_high : (placed : List Placed) → ¬ IsTooLarge placed → frame_height placed ≤ greatest_size
 not_too_high placed small = elim (cases_lt greatest_size (frame_height placed)) [ inl higher ↦ absurd (small (inr higher)) | inr fine ↦ fine ]
 
--- the bounds of a source
-pub some_columns : (s : Rect) (p : Numbers) → IsSource s p → (0 < s.w) × Contains p.columns 0
-some_columns s p source =
-    let long = length-le-last p.columns source.layout.columns in
-    let some : 0 < last p.columns = omega (arith, long, source.layout.limits.columns) in
-    (omega (arith, some, source.wide), Contains-first p.columns source.layout.columns some)
+-- the first bounds of a picture
+pub first_column : (s : Rect) (p : Numbers) → IsSized s p → Contains p.columns 0
+first_column s p sized = Contains-first p.columns sized.columns (omega (arith, sized.wide))
 
-pub some_rows : (s : Rect) (p : Numbers) → IsSource s p → (0 < s.h) × Contains p.rows 0
-some_rows s p source =
-    let long = length-le-last p.rows source.layout.rows in
-    let some : 0 < last p.rows = omega (arith, long, source.layout.limits.rows) in
-    (omega (arith, some, source.high), Contains-first p.rows source.layout.rows some)
+pub first_row : (s : Rect) (p : Numbers) → IsSized s p → Contains p.rows 0
+first_row s p sized = Contains-first p.rows sized.rows (omega (arith, sized.high))
 
 -- a region in the frame's upper left corner
 record IsFirst (corners : List Rect) (k : ℕ) : Type 0 where
@@ -63,20 +56,20 @@ record IsFirst (corners : List Rect) (k : ℕ) : Type 0 where
 no_size : (ctb n : ℕ) → 0 < ctb → n ≡ 0 → div_ceil n ctb ≡ 0
 no_size ctb n some none = rw none (let d : 0 / ctb ≡ 0 = omega arith in let m : 0 % ctb ≡ 0 = omega arith in omega arith)
 
-first_region : (corners : List Rect) (parts : List Numbers) → 1 ≤ length corners → AllZip IsSource corners parts → IsFitted corners → (k : ℕ) × IsFirst corners k
-first_region corners parts some sources fitted =
+first_region : (corners : List Rect) (parts : List Numbers) → 1 ≤ length corners → AllZip IsSized corners parts → IsFitted corners → (k : ℕ) × IsFirst corners k
+first_region corners parts some sized fitted =
     let placed = fitted.placed in
     let ctb = fitted.ctb in
     let long : length corners ≡ length placed = fitted_long placed ctb corners fitted.ctus in
     let p : Placed = region_at placed 0 in
-    let source = source_at corners parts 0 sources some in
+    let here = sized_at corners parts 0 sized some in
     let at : corner_at corners 0 ≡ in_ctus ctb p = fitted_at placed ctb corners 0 no_rect fitted.ctus (omega arith) in
     let wide : 0 < p.w =
     elim (cases_lt 0 p.w) [
       | inl fine ↦ fine
       | inr none ↦
           let w : (corner_at corners 0).w ≡ div_ceil p.w ctb = ap (λ s. s.w) at in
-          absurd (omega (arith, (some_columns _ _ source).0, w, no_size ctb p.w fitted.some (omega arith)))
+          absurd (omega (arith, here.wide, w, no_size ctb p.w fitted.some (omega arith)))
     ]
     in
     let high : 0 < p.h =
@@ -84,7 +77,7 @@ first_region corners parts some sources fitted =
       | inl fine ↦ fine
       | inr none ↦
           let h : (corner_at corners 0).h ≡ div_ceil p.h ctb = ap (λ s. s.h) at in
-          absurd (omega (arith, (some_rows _ _ source).0, h, no_size ctb p.h fitted.some (omega arith)))
+          absurd (omega (arith, here.high, h, no_size ctb p.h fitted.some (omega arith)))
     ]
     in
     let right : p.x + p.w ≤ frame_width placed = greatest_bounds (λ q. q.x + q.w) placed 0 nowhere (omega arith) in
@@ -106,18 +99,18 @@ first_region corners parts some sources fitted =
       },
     )
 
-pub AreFramed-from : (corners : List Rect) (parts : List Numbers) → 1 ≤ length corners → AllZip IsSource corners parts → IsFitted corners → AreFramed corners parts
-AreFramed-from corners parts some sources fitted =
+pub AreFramed-from : (corners : List Rect) (parts : List Numbers) → 1 ≤ length corners → AllZip IsSized corners parts → IsFitted corners → AreFramed corners parts
+AreFramed-from corners parts some sized fitted =
     let placed = fitted.placed in
     let ctb = fitted.ctb in
     let long : length corners ≡ length placed = fitted_long placed ctb corners fitted.ctus in
     let width : frame_width placed ≤ greatest_size = not_too_wide placed fitted.fit.small in
     let height : frame_height placed ≤ greatest_size = not_too_high placed fitted.fit.small in
-    let first = first_region corners parts some sources fitted in
-    let source = source_at corners parts first.0 sources first.1.short in
+    let first = first_region corners parts some sized fitted in
+    let here = sized_at corners parts first.0 sized first.1.short in
     record {
-      sources = sources;
-      same = AllZip-long IsSource corners parts sources;
+      sized = sized;
+      same = AllZip-long IsSized corners parts sized;
       across = λ k d short.
           let p : Placed = region_at placed k in
           let low : k < length placed = omega arith in
@@ -130,8 +123,8 @@ AreFramed-from corners parts some sources fitted =
           let bottom : p.y + p.h ≤ frame_height placed = greatest_bounds (λ q. q.y + q.h) placed k nowhere low in
           let cut = div_upto ctb p.y p.h fitted.some in
           subst (λ s. s.y + s.h ≤ greatest_size) (sym (fitted_at placed ctb corners k d fitted.ctus low)) (omega (arith, cut, bottom, height));
-      left = (first.0, first.1.short, (0, (some_columns _ _ source).1, omega (arith, first.1.left)));
-      top = (first.0, first.1.short, (0, (some_rows _ _ source).1, omega (arith, first.1.top)));
+      left = (first.0, first.1.short, (0, first_column _ _ here, omega (arith, first.1.left)));
+      top = (first.0, first.1.short, (0, first_row _ _ here, omega (arith, first.1.top)));
     }
 
 -- the frame's upper border is a line: it passes through no region

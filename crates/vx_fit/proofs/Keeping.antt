@@ -1,23 +1,45 @@
 -- Where the regions keep their lines, their pictures stand in a frame of these lines, and the regions of one tile make up a run.
-use Rattle.std.proofs.Common.{◌≡◌, ◌↔◌, ℕ, suc, zero, ◌+◌, ◌<◌, ◌≤◌, List, [], ◌∷◌, length, get_or, ap, refl, sym, ◌∙◌, subst, inl, inr, arith, ◌⊎◌}
+use Rattle.std.proofs.Common.{◌≡◌, ℕ, ◌+◌, ◌<◌, List, [], ◌∷◌, length, get_or, refl, sym, ◌∙◌, subst, inl, inr, arith, ◌⊎◌}
 use Rattle.std.specs.List.{All, AllZip, Contains}
 use Rattle.std.proofs.lemmas.Bool.{cases_eq, cases_lt}
 use Rattle.std.proofs.lemmas.List.{get_or_default}
 use Rattle.vx_layout.specs.declared.numbers.Numbers.{Numbers}
 use Rattle.vx_layout.specs.declared.rect.Rect.{Rect}
-use Rattle.vx_layout.specs.Borders.{SameInside, SplitsAtLines}
+use Rattle.vx_layout.specs.Borders.{SplitsAtLines}
 use Rattle.vx_layout.specs.Bounds.{Rises, last}
 use Rattle.vx_layout.specs.Faults.{NoneBetween}
 use Rattle.vx_layout.specs.FrameLaws.{BeginsOrFollows, StandInRuns}
 use Rattle.vx_layout.specs.Frames.{IsPlaced}
 use Rattle.vx_layout.specs.Layouts.{no_rect}
-use Rattle.vx_layout.proofs.FrameSlices.{AllZip-from, AllZip-long}
+use Rattle.vx_layout.proofs.FrameSlices.{AllZip-at, AllZip-from, AllZip-long}
+use Rattle.vx_layout.proofs.Rising.{length-le-last}
 use Rattle.vx_layout.proofs.Splitting.{Contains-cases, Contains-cons}
-use Rattle.vx_fit.specs.FrameLines.{HasBound, HasOneTile, HaveLines, IsBorder, IsDropped, IsFull, IsHorizontal, IsVertical, KeepsLines, StandsOn, corner_at, no_numbers, part_at}
-use Rattle.vx_fit.specs.Sources.{IsSource}
+use Rattle.vx_fit.specs.FrameLines.{HasOneTile, HaveLines, IsBorder, IsDropped, IsFull, IsHorizontal, IsVertical, StandsOn, corner_at, no_numbers, part_at}
+use Rattle.vx_fit.specs.Sources.{IsSized, IsSource}
 use Rattle.vx_fit.specs.inner.Passing.{AreOwn}
 use Rattle.vx_fit.proofs.Covering.{bottom_line, left_line, right_line, upper_line}
-use Rattle.vx_fit.proofs.Lined.{own_from_lines, own_tells, source_at}
+use Rattle.vx_fit.proofs.Lined.{own_from_lines, own_tells}
+
+-- a source has its region's size
+sized_source : (s : Rect) (p : Numbers) → IsSource s p → IsSized s p
+sized_source s p source =
+    let columns = length-le-last p.columns source.layout.columns in
+    let rows = length-le-last p.rows source.layout.rows in
+    record {
+      columns = source.layout.columns;
+      rows = source.layout.rows;
+      wide = (omega (arith, columns, source.layout.limits.columns, source.wide), source.wide);
+      high = (omega (arith, rows, source.layout.limits.rows, source.high), source.high);
+    }
+
+pub source_at : (corners : List Rect) (parts : List Numbers) (k : ℕ) → AllZip IsSource corners parts → k < length corners → IsSource (corner_at corners k) (part_at parts k)
+source_at corners parts k sources short = AllZip-at IsSource corners parts k no_rect no_numbers sources short
+
+pub sized_sources : (corners : List Rect) (parts : List Numbers) → AllZip IsSource corners parts → AllZip IsSized corners parts
+sized_sources [] [] sources = tt
+sized_sources [] (p ∷ ps) sources = absurd sources
+sized_sources (s ∷ ss) [] sources = absurd sources
+sized_sources (s ∷ ss) (p ∷ ps) sources = (sized_source s p sources.0, sized_sources ss ps sources.1)
 
 contains_or_not : (bounds : List ℕ) (n : ℕ) → Contains bounds n ⊎ (¬ Contains bounds n)
 contains_or_not [] n = inr (λ inside. omega (arith, inside.1))
@@ -56,6 +78,9 @@ none_inside bounds from size own two rises sized are = λ c has above.
     ]
 
 module _ (columns rows : List ℕ) (corners : List Rect) (parts : List Numbers) (sources : AllZip IsSource corners parts) (lines : HaveLines columns rows corners parts) where
+  sized : AllZip IsSized corners parts
+  sized = sized_sources corners parts sources
+
   own_columns : (k : ℕ) → k < length corners → AreOwn columns (corner_at corners k).x (corner_at corners k).w (part_at parts k).columns
   own_columns k short = own_from_lines (IsVertical corners parts) columns _ _ (part_at parts k).columns lines.vertical (lines.keep k short).columns
 
@@ -86,15 +111,15 @@ module _ (columns rows : List ℕ) (corners : List Rect) (parts : List Numbers) 
   borders_at k short =
       let s : Rect = corner_at corners k in
       record {
-        left = (lines.vertical.each s.x).1 (left_line corners parts k sources short);
-        right = (lines.vertical.each (s.x + s.w)).1 (right_line corners parts k sources short);
+        left = (lines.vertical.each s.x).1 (left_line corners parts k sized short);
+        right = (lines.vertical.each (s.x + s.w)).1 (right_line corners parts k sized short);
         ends =
             elim (contains_or_not rows s.y) [
-              | inr none ↦ inr (none_between k s.y short (upper_line corners parts k sources short) none (inl refl))
+              | inr none ↦ inr (none_between k s.y short (upper_line corners parts k sized short) none (inl refl))
               | inl top ↦
                   elim (contains_or_not rows (s.y + s.h)) [
                     | inl bottom ↦ inl (top, bottom)
-                    | inr none ↦ inr (none_between k (s.y + s.h) short (bottom_line corners parts k sources short) none (inr refl))
+                    | inr none ↦ inr (none_between k (s.y + s.h) short (bottom_line corners parts k sized short) none (inr refl))
                   ]
             ];
       }
@@ -129,7 +154,7 @@ module _ (columns rows : List ℕ) (corners : List Rect) (parts : List Numbers) 
   stands_on : (k : ℕ) → k + 1 < length corners → ¬ Contains rows (corner_at corners (k + 1)).y → StandsOn (corner_at corners k) (corner_at corners (k + 1))
   stands_on k short none =
       let s : Rect = corner_at corners (k + 1) in
-      let full : IsFull corners parts s.y = upper_line corners parts (k + 1) sources short in
+      let full : IsFull corners parts s.y = upper_line corners parts (k + 1) sized short in
       let on : IsDropped corners parts s.y → StandsOn (corner_at corners k) s = λ dropped.
       let upon = (lines.keep (k + 1) short).above dropped in
       let same : upon.0 ≡ k = omega (arith, upon.1) in

@@ -14,7 +14,7 @@ use Rattle.vx_layout.proofs.FrameSlices.{AllZip-at}
 use Rattle.vx_layout.proofs.Rising.{Contains-last, Contains-le-last}
 use Rattle.vx_layout.proofs.Tiling.{Rises-push}
 use Rattle.vx_fit.specs.FrameLines.{AreBounds, HasBound, IsFull, IsVertical, PassesInside, corner_at, no_numbers, part_at}
-use Rattle.vx_fit.specs.Sources.{IsSource}
+use Rattle.vx_fit.specs.Sources.{IsSized}
 use Rattle.vx_fit.specs.inner.Passing.{AreOwn, LinesBelow}
 
 pub same_answers : (a b : Bool) (P Q : Type 0) → OnTrue a P → OnFalse a (¬ P) → OnTrue b Q → OnFalse b (¬ Q) → not (beq a b) ≡ false → P ↔ Q
@@ -89,24 +89,24 @@ AreBounds-from IsLine bounds end n past upto below = record {
   each = λ m. (λ inside. ((below.each m).0 inside).1, λ line. let low = upto m line in (below.each m).1 (omega arith, line));
 }
 
--- a picture's source
-pub source_at : (corners : List Rect) (parts : List Numbers) (k : ℕ) → AllZip IsSource corners parts → k < length corners → IsSource (corner_at corners k) (part_at parts k)
-source_at corners parts k sources short = AllZip-at IsSource corners parts k no_rect no_numbers sources short
+-- region k and its picture
+pub sized_at : (corners : List Rect) (parts : List Numbers) (k : ℕ) → AllZip IsSized corners parts → k < length corners → IsSized (corner_at corners k) (part_at parts k)
+sized_at corners parts k sized short = AllZip-at IsSized corners parts k no_rect no_numbers sized short
 
 -- no line stands right of all regions, nor below them
-pub vertical_upto : (corners : List Rect) (parts : List Numbers) (end m : ℕ) → AllZip IsSource corners parts → All (λ s. s.x + s.w ≤ end) corners → IsVertical corners parts m → m ≤ end
-vertical_upto corners parts end m sources reach line =
-    let source = source_at corners parts line.0 sources line.1 in
-    let upto : line.2.0 ≤ last (part_at parts line.0).columns = Contains-le-last (part_at parts line.0).columns line.2.0 source.layout.columns line.2.1 in
+pub vertical_upto : (corners : List Rect) (parts : List Numbers) (end m : ℕ) → AllZip IsSized corners parts → All (λ s. s.x + s.w ≤ end) corners → IsVertical corners parts m → m ≤ end
+vertical_upto corners parts end m sized reach line =
+    let here = sized_at corners parts line.0 sized line.1 in
+    let upto : line.2.0 ≤ last (part_at parts line.0).columns = Contains-le-last (part_at parts line.0).columns line.2.0 here.columns line.2.1 in
     let inside : (corner_at corners line.0).x + (corner_at corners line.0).w ≤ end = reach line.0 no_rect line.1 in
-    omega (arith, upto, inside, source.wide, line.2.2)
+    omega (arith, upto, inside, here.wide, line.2.2)
 
-pub full_upto : (corners : List Rect) (parts : List Numbers) (end m : ℕ) → AllZip IsSource corners parts → All (λ s. s.y + s.h ≤ end) corners → IsFull corners parts m → m ≤ end
-full_upto corners parts end m sources reach line =
-    let source = source_at corners parts line.0 sources line.1 in
-    let upto : line.2.0 ≤ last (part_at parts line.0).rows = Contains-le-last (part_at parts line.0).rows line.2.0 source.layout.rows line.2.1 in
+pub full_upto : (corners : List Rect) (parts : List Numbers) (end m : ℕ) → AllZip IsSized corners parts → All (λ s. s.y + s.h ≤ end) corners → IsFull corners parts m → m ≤ end
+full_upto corners parts end m sized reach line =
+    let here = sized_at corners parts line.0 sized line.1 in
+    let upto : line.2.0 ≤ last (part_at parts line.0).rows = Contains-le-last (part_at parts line.0).rows line.2.0 here.rows line.2.1 in
     let inside : (corner_at corners line.0).y + (corner_at corners line.0).h ≤ end = reach line.0 no_rect line.1 in
-    omega (arith, upto, inside, source.high, line.2.2)
+    omega (arith, upto, inside, here.high, line.2.2)
 
 -- the same bounds strictly inside, counted from the corner or not
 pub own_tells : (bounds : List ℕ) (from size : ℕ) (own : List ℕ) (c : ℕ) → 1 ≤ c → c < size → AreOwn bounds from size own → Contains bounds (from + c) ↔ Contains own c

@@ -1,5 +1,5 @@
 -- The frame that regions make up is a layout, and its regions are the sources.
-use Rattle.std.proofs.Common.{◌≡◌, ℕ, ◌+◌, ◌-◌, ◌<◌, ◌≤◌, List, length, get_or, map, sym, subst, arith}
+use Rattle.std.proofs.Common.{◌≡◌, ℕ, ◌-◌, ◌<◌, List, length, map, subst, arith}
 use Rattle.std.specs.List.{All, AllZip}
 use Rattle.std.proofs.lemmas.List.{get_or_default}
 use Rattle.vx_layout.specs.declared.numbers.Numbers.{Numbers}
@@ -16,12 +16,11 @@ use Rattle.vx_layout.proofs.FrameWhole.{frame-alone, frame-layout, frame-region}
 use Rattle.vx_layout.proofs.TileRuns.{runs-fill}
 use Rattle.vx_fit.specs.declared.placed.Placed.{Placed}
 use Rattle.vx_fit.specs.FitLaws.{IsMerged}
-use Rattle.vx_fit.specs.FrameLines.{HaveLines, no_numbers, part_at}
+use Rattle.vx_fit.specs.FrameLines.{HaveLines, no_numbers}
 use Rattle.vx_fit.specs.Placing.{FitTogether, in_ctus}
 use Rattle.vx_fit.specs.Sources.{IsSource}
 use Rattle.vx_fit.proofs.Covering.{IsFrame, frame_high, frame_wide, long, regions_are_parts, regions_cover_once, regions_in_order}
-use Rattle.vx_fit.proofs.Keeping.{borders_split, pictures_are_placed, regions_in_runs}
-use Rattle.vx_fit.proofs.Lined.{source_at}
+use Rattle.vx_fit.proofs.Keeping.{borders_split, pictures_are_placed, regions_in_runs, sized_sources, source_at}
 
 all_listable : (corners : List Rect) (parts : List Numbers) → AllZip IsSource corners parts → All (λ p. AreListable p.columns p.rows p.slices) parts
 all_listable corners parts sources = λ k d short.
@@ -31,7 +30,7 @@ all_listable corners parts sources = λ k d short.
 pub frame-merged : (placed : List Placed) (ctb : ℕ) (columns rows : List ℕ) (corners : List Rect) (parts : List Numbers) → 0 < length placed → 0 < ctb → FitTogether placed ctb → corners ≡ map (in_ctus ctb) placed → AllZip IsSource corners parts → HaveLines columns rows corners parts →
     IsMerged placed ctb columns rows corners parts
 frame-merged placed ctb columns rows corners parts some_placed some fit ctus sources lines =
-    let frame : IsFrame placed ctb corners parts columns rows = record { some = some; fit = fit; ctus = ctus; sources = sources; vertical = lines.vertical; horizontal = lines.horizontal } in
+    let frame : IsFrame placed ctb corners parts columns rows = record { some = some; fit = fit; ctus = ctus; sized = sized_sources corners parts sources; vertical = lines.vertical; horizontal = lines.horizontal } in
     let here : 0 < length corners = omega (arith, long placed ctb corners parts columns rows frame) in
     let covered = regions_are_parts placed ctb corners parts columns rows frame in
     let once = regions_cover_once placed ctb corners parts columns rows frame in

@@ -1,7 +1,6 @@
 -- The positions that a region covers, and regions that overlap.
-use Rattle.std.proofs.Common.{◌≡◌, ℕ, ◌+◌, ◌<◌, ◌≤◌, max, min, true, false, List, length, get_or, inl, inr, arith, ◌∙◌, sym, subst}
-use Rattle.std.proofs.lemmas.Bool.{and_parts, and_from, and_cases, both_ways, leb-true, ltb-true, le-leb, lt-ltb, true≢false}
-use Rattle.std.proofs.lemmas.List.{get_or_default}
+use Rattle.std.proofs.Common.{◌≡◌, ℕ, ◌+◌, ◌<◌, ◌≤◌, max, min, true, false, arith}
+use Rattle.std.proofs.lemmas.Bool.{and_parts, and_from, both_ways, leb-true, ltb-true, le-leb, lt-ltb}
 use Rattle.vx_fit.specs.declared.placed.Placed.{Placed}
 use Rattle.vx_fit.specs.Placing.{Overlap, covers}
 use Rattle.vx_fit.specs.inner.Searches.{overlaps}

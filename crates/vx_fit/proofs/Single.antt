@@ -1,5 +1,5 @@
 -- Regions have one fault at most, and their lines one list.
-use Rattle.std.proofs.Common.{◌≡◌, ℕ, ◌<◌, List, All, length, ap, sym, ◌∙◌, refl, inl, inr, arith}
+use Rattle.std.proofs.Common.{◌≡◌, ℕ, List, All, ap, sym, ◌∙◌, refl, inl, inr}
 use Rattle.std.proofs.lemmas.Bool.{cases_order}
 use Rattle.std.specs.List.{AllPairs}
 use Rattle.vx_layout.specs.declared.numbers.Numbers.{Numbers}

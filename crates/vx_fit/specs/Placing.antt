@@ -1,8 +1,8 @@
 -- Regions of a frame in luma samples, and when they fit together into it. Each becomes a subpicture of the frame
 -- (H.266 6.3.1), so its corner stands on the grid of CTUs (7.4.3.4).
-use Rattle.std.specs.Prelude.{◌≡◌, ℕ, ◌+◌, ◌/◌, ◌%◌, ◌<◌, ◌≤◌, ◌⊎◌, Bool, true, ◌&&◌, nat_le, nat_lt, max, List, [], ◌∷◌, All, Any, map, length}
+use Rattle.std.specs.Prelude.{◌≡◌, ℕ, ◌+◌, ◌/◌, ◌%◌, ◌<◌, ◌≤◌, ◌⊎◌, Bool, true, ◌&&◌, nat_le, nat_lt, max, List, [], ◌∷◌, All, Any, map}
 use Rattle.std.specs.Int.{div_ceil}
-use Rattle.std.specs.List.{AllPairs, slice_index_or}
+use Rattle.std.specs.List.{AllPairs}
 use Rattle.vx_fit.specs.declared.placed.Placed.{Placed}
 use Rattle.vx_layout.specs.declared.rect.Rect.{Rect}
 use Rattle.vx_layout.specs.Rects.{Precedes}

@@ -2,11 +2,19 @@
 use Rattle.std.specs.Prelude.{◌≡◌, ℕ, ◌<◌, List, length, map}
 use Rattle.vx_layout.specs.declared.numbers.Numbers.{Numbers}
 use Rattle.vx_layout.specs.declared.rect.Rect.{Rect}
+use Rattle.vx_layout.specs.Bounds.{Rises, last}
 use Rattle.vx_layout.specs.Faults.{height, width}
 use Rattle.vx_layout.specs.Layouts.{HasLayout}
 use Rattle.vx_layout.specs.Shapes.{AreListable}
 use Rattle.vx_fit.specs.declared.placed.Placed.{Placed}
 use Rattle.vx_fit.specs.Placing.{FitTogether, in_ctus}
+
+-- tile bounds of the region's size, which holds a CTU
+pub record IsSized (s : Rect) (p : Numbers) : Type 0 where
+  pub columns : Rises p.columns
+  pub rows : Rises p.rows
+  pub wide : (0 < s.w) × (last p.columns ≡ s.w)
+  pub high : (0 < s.h) × (last p.rows ≡ s.h)
 
 -- a layout of one subpicture and of the region's size, whose slices can be listed tile by tile
 pub record IsSource (s : Rect) (p : Numbers) : Type 0 where

@@ -10,3 +10,8 @@ pub use laws::{fit_fault_is_one, frame_of_regions, lines_are_one};
 pub use lines::{LineError, fit_lines};
 pub use placed::{FitFault, Placed};
 pub use regions::fit_regions;
+
+#[cfg(test)]
+mod cases;
+#[cfg(test)]
+mod tests;

@@ -4,7 +4,7 @@ ghost use Rattle.std.specs.Bool.{OnTrue, OnFalse};
 ghost use Rattle.std.specs.List.{AllZip};
 ghost use Rattle.vx_layout.specs.Bounds.{Rises};
 ghost use Rattle.vx_fit.specs.FrameLines.{AreBounds, Crosses, Follows, HasBound, HasOneTile, HaveLines, IfLines, IsBorder, IsDropped, IsFull, IsHorizontal, IsInner, IsLinesFault, IsVertical, KeepsLines, OfEach, OfSome, PassesInside, StandsOn};
-ghost use Rattle.vx_fit.specs.Sources.{IsFitted, IsSource};
+ghost use Rattle.vx_fit.specs.Sources.{IsFitted, IsSized};
 ghost use Rattle.vx_fit.specs.Placing.{greatest_size};
 ghost use Rattle.vx_fit.specs.inner.Passing.{AreFramed, AreOwn, IsLinesAnswer, LetsDrop};
 
@@ -37,8 +37,8 @@ impl From<AllocError> for LineError {
 
 /// The bounds of the tile columns and tile rows of the frame that regions make up, in CTUs.
 ///
-/// `corners` are the regions in CTUs, which fit together, and `parts` the pictures in them. Takes memory for its
-/// answer alone.
+/// `corners` are the regions in CTUs, which fit together, and `parts` the pictures in them, of their sizes. Takes memory
+/// for its answer alone.
 ///
 /// # Errors
 ///
@@ -49,7 +49,7 @@ pub fn fit_lines(
     parts: &[Numbers],
 ) -> Result<(Bounds, Bounds), LineError>
     requires count { (1 ≤ length corners.now) × (length corners.now ≤ 64) }
-    requires sources { AllZip IsSource corners.now parts.now }
+    requires sized { AllZip IsSized corners.now parts.now }
     requires fitted { IsFitted corners.now }
     ensures lines { IfOk result (λ bounds. HaveLines bounds.0 bounds.1 corners.now parts.now) }
     ensures fault { IfErr result (λ e. IfLines e (IsLinesFault corners.now parts.now)) }

@@ -1,8 +1,9 @@
 //! Whether regions fit together into one frame.
 ghost use Rattle.std.specs.Prelude.{◌≡◌, ℕ, ◌+◌, ◌*◌, ◌<◌, ◌≤◌, All, IfOk, IfErr, OnOk, length};
 ghost use Rattle.std.specs.Bool.{OnTrue, OnFalse};
-ghost use Rattle.vx_fit.specs.FitFaults.{ComesTooEarly, IsFitFault, IsOffGrid, OverlapsLower};
-ghost use Rattle.vx_fit.specs.Placing.{FitTogether, IsInRange, frame_height, frame_width, greatest_size};
+ghost use Rattle.std.specs.List.{AllPairs};
+ghost use Rattle.vx_fit.specs.FitFaults.{ComesTooEarly, HasGap, IsFitFault, IsOffGrid, OverlapsLower};
+ghost use Rattle.vx_fit.specs.Placing.{FitTogether, IsFilled, IsInRange, Overlap, frame_height, frame_width, greatest_size};
 ghost use Rattle.vx_fit.specs.inner.Searches.{IsLowestAnswer, areas};
 
 use crate::placed::{FitFault, GREATEST_SIZE, Placed};
@@ -26,13 +27,13 @@ pub fn fit_regions(placed: &[Placed], ctb: u32) -> Result<(u32, u32), FitFault>
     if GREATEST_SIZE < width || GREATEST_SIZE < height {
         return Err(FitFault::TooLarge);
     }
-    if let Some(k) = lowest_off_grid(placed, ctb) {
-        return Err(FitFault::Geometry(k));
+    if let Some(region) = lowest_off_grid(placed, ctb) {
+        return Err(FitFault::Geometry(region));
     }
     if let Some(k) = lowest_overlap(placed) {
         return Err(FitFault::Geometry(k));
     }
-    if areas(placed) != u64::from(width) * u64::from(height) {
+    if leaves_gap(placed, width, height) {
         return Err(FitFault::Geometry(0));
     }
     if let Some(k) = lowest_early(placed, ctb) {
@@ -108,6 +109,18 @@ fn overlaps_lower(placed: &[Placed], k: usize) -> bool
         }
     }
     false
+}
+
+/// Whether a position of the frame is in no region, where no two overlap: their areas don't add up to its own.
+fn leaves_gap(placed: &[Placed], width: u32, height: u32) -> bool
+    requires count { length placed.now ≤ 64 }
+    requires numbers { All IsInRange placed.now }
+    requires apart { AllPairs (λ p q. ¬ Overlap p q) placed.now }
+    requires frame { (width ≡ frame_width placed.now) × (height ≡ frame_height placed.now) }
+    ensures gap { OnTrue result (HasGap placed.now) }
+    ensures filled { OnFalse result (IsFilled placed.now) }
+{
+    areas(placed) != u64::from(width) * u64::from(height)
 }
 
 /// The sum of the regions' areas.

@@ -6,7 +6,7 @@ use Rattle.vx_layout.specs.declared.rect.Rect.{Rect}
 use Rattle.vx_layout.specs.Bounds.{Rises}
 use Rattle.vx_fit.specs.FrameLines.{HasBound, HasOneTile, IsBorder, IsFull, IsInner, IsLinesFault, IsVertical, KeepsLines, PassesInside}
 use Rattle.vx_fit.specs.Placing.{greatest_size}
-use Rattle.vx_fit.specs.Sources.{IsSource}
+use Rattle.vx_fit.specs.Sources.{IsSized}
 
 -- bounds that are exactly the lines below n
 pub record LinesBelow (IsLine : ℕ → Type 0) (bounds : List ℕ) (n : ℕ) : Type 0 where
@@ -28,7 +28,7 @@ LetsDrop s p n = (¬ IsInner s p n) × (IsBorder s n → HasOneTile p)
 
 -- pictures in regions of a frame that isn't too large, whose left and upper borders are lines
 pub record AreFramed (corners : List Rect) (parts : List Numbers) : Type 0 where
-  pub sources : AllZip IsSource corners parts
+  pub sized : AllZip IsSized corners parts
   pub same : length corners ≡ length parts
   pub across : All (λ s. s.x + s.w ≤ greatest_size) corners
   pub down : All (λ s. s.y + s.h ≤ greatest_size) corners

@@ -1,6 +1,4 @@
 use Rattle.std.proofs.Common.{ℕ, ◌<◌, ◌≤◌, ◌+◌, ◌↔◌, Contains}
-use Rattle.vx_fit.specs.FrameLines.{Crosses, HasBound, IsHorizontal, IsVertical, KeepsLines, corner_at, part_at}
-use Rattle.vx_fit.specs.inner.Passing.{LetsDrop, LinesBelow}
 use Rattle.vx_fit.proofs.lines.are_own.Given as goal
 
 abbrev pub invariant-loop-c : goal.invariant-loop-c

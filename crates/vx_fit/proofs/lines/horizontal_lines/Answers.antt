@@ -1,4 +1,3 @@
-use Rattle.std.proofs.Common.{ℕ}
 use Rattle.vx_fit.specs.FrameLines.{IsHorizontal}
 use Rattle.vx_fit.proofs.Framed.{top_line}
 use Rattle.vx_fit.proofs.Lined.{AreBounds-from, LinesBelow-may, LinesBelow-more, full_upto}
@@ -21,5 +20,5 @@ returns c =
     let corners = c.args.corners.now in
     let parts = c.args.parts.now in
     AreBounds-from (IsHorizontal corners parts) c.loop-n.bounds c.bottom_end-n-end.result c.loop-n.n c.loop-n-test.false
-    (λ m line. full_upto corners parts c.bottom_end-n-end.result m c.requires.sources c.bottom_end-n-end.ensures.reach line.0)
+    (λ m line. full_upto corners parts c.bottom_end-n-end.result m c.requires.sized c.bottom_end-n-end.ensures.reach line.0)
     c.loop-n.invariant

@@ -1,6 +1,5 @@
-use Rattle.std.proofs.Common.{ℕ, ◌<◌, ◌≤◌, ◌+◌, ◌↔◌, Contains}
-use Rattle.vx_fit.specs.FrameLines.{Crosses, HasBound, IsHorizontal, IsVertical, KeepsLines, corner_at, part_at}
-use Rattle.vx_fit.specs.inner.Passing.{LetsDrop, LinesBelow}
+use Rattle.std.proofs.Common.{ℕ, ◌<◌}
+use Rattle.vx_fit.specs.FrameLines.{HasBound, corner_at, part_at}
 use Rattle.vx_fit.proofs.lines.is_full.Given as goal
 
 abbrev pub invariant-loop-k : goal.invariant-loop-k

@@ -1,5 +1,4 @@
-use Rattle.std.proofs.Common.{◌≡◌, ◌<◌, ℕ, length, below_more, sym, subst, arith}
-use Rattle.vx_layout.specs.declared.numbers.Numbers.{Numbers}
+use Rattle.std.proofs.Common.{◌≡◌, ℕ, below_more, sym, subst, arith}
 use Rattle.vx_fit.specs.FrameLines.{HasBound, corner_at, part_at}
 use Rattle.vx_fit.proofs.Lined.{part_read}
 use Rattle.vx_fit.proofs.lines.is_vertical.Goals as goal

@@ -1,4 +1,3 @@
-use Rattle.std.proofs.Common.{ℕ}
 use Rattle.vx_fit.specs.FrameLines.{IsVertical}
 use Rattle.vx_fit.proofs.Lined.{AreBounds-from, LinesBelow-may, LinesBelow-more, vertical_upto}
 use Rattle.vx_fit.proofs.lines.vertical_lines.Goals as goal
@@ -20,5 +19,5 @@ returns c =
     let corners = c.args.corners.now in
     let parts = c.args.parts.now in
     AreBounds-from (IsVertical corners parts) c.loop-n.bounds c.right_end-n-end.result c.loop-n.n c.loop-n-test.false
-    (λ m line. vertical_upto corners parts c.right_end-n-end.result m c.requires.sources c.right_end-n-end.ensures.reach line)
+    (λ m line. vertical_upto corners parts c.right_end-n-end.result m c.requires.sized c.right_end-n-end.ensures.reach line)
     c.loop-n.invariant

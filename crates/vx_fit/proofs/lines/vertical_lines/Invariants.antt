@@ -1,6 +1,5 @@
-use Rattle.std.proofs.Common.{ℕ, ◌<◌, ◌≤◌, ◌+◌, ◌↔◌, Contains}
-use Rattle.vx_fit.specs.FrameLines.{Crosses, HasBound, IsHorizontal, IsVertical, KeepsLines, corner_at, part_at}
-use Rattle.vx_fit.specs.inner.Passing.{LetsDrop, LinesBelow}
+use Rattle.vx_fit.specs.FrameLines.{IsVertical}
+use Rattle.vx_fit.specs.inner.Passing.{LinesBelow}
 use Rattle.vx_fit.proofs.lines.vertical_lines.Given as goal
 
 abbrev pub invariant-loop-n : goal.invariant-loop-n
