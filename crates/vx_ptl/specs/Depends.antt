@@ -1,9 +1,12 @@
 -- What the structures read of the scope at which they are read or written.
-use Rattle.std.specs.Prelude.{[], ◌∷◌}
-use Rattle.vx_fields.specs.declared.sps.TheConstants.{sps_max_sublayers_minus1, sps_sublayer_dpb_params_flag, sps_sublayer_cpb_params_present_flag}
+use Rattle.std.specs.Prelude.{List, [], ◌∷◌}
+use Rattle.vx_fields.specs.declared.sps.TheConstants.{sps_max_sublayers_minus1, sps_sublayer_dpb_params_flag, sps_sublayer_cpb_params_present_flag, sps_timing_hrd_params_present_flag}
 use Rattle.vx_fields.specs.declared.timing.TheConstants.{general_nal_hrd_params_present_flag, general_vcl_hrd_params_present_flag, general_du_hrd_params_present_flag, hrd_cpb_cnt_minus1}
-use Rattle.vx_ptl.specs.declared.tables.TheConstants.{VPS, PTL, DPB, TIMING, SUBLAYER_TIMING}
-use Rattle.vx_table.specs.Named.{ReadsOnly, CodedOnce}
+use Rattle.vx_ptl.specs.declared.tables.TheConstants.{VPS, PTL, DPB, TIMING, NO_TIMING, SUBLAYER_TIMING}
+use Rattle.vx_table.specs.declared.rows.Term.TheVariants.{Latest}
+use Rattle.vx_table.specs.declared.rows.Formula.TheVariants.{Plain}
+use Rattle.vx_table.specs.Parts.{Section, always, provided}
+use Rattle.vx_table.specs.Named.{ReadsOnly, SectionsReadOnly, CodedOnce}
 
 -- profile, tier and level: the highest sublayer
 abbrev pub PtlDepends : Type 0
@@ -22,6 +25,15 @@ abbrev pub SublayerTimingDepends : Type 0
 SublayerTimingDepends = ReadsOnly (sps_max_sublayers_minus1 ∷ sps_sublayer_cpb_params_present_flag
     ∷ general_nal_hrd_params_present_flag ∷ general_vcl_hrd_params_present_flag ∷ general_du_hrd_params_present_flag ∷ hrd_cpb_cnt_minus1 ∷ [])
     SUBLAYER_TIMING
+
+-- the two where a parameter set says that they are there
+abbrev pub timing_if_present : List Section
+timing_if_present = always NO_TIMING ∷ provided (Plain (Latest sps_timing_hrd_params_present_flag)) TIMING
+    ∷ provided (Plain (Latest sps_timing_hrd_params_present_flag)) SUBLAYER_TIMING ∷ []
+
+-- these: that it says so, the highest sublayer, and whether each has an entry
+abbrev pub TimingIfPresentDepends : Type 0
+TimingIfPresentDepends = SectionsReadOnly (sps_timing_hrd_params_present_flag ∷ sps_max_sublayers_minus1 ∷ sps_sublayer_cpb_params_present_flag ∷ []) timing_if_present
 
 -- No field of all these is coded by two rows.
 abbrev pub FieldsAreCodedOnce : Type 0

@@ -72,6 +72,14 @@ pub const TIMING: [Row; 14] = table! {
     }
 };
 
+/// What sublayer timing sees of general timing that is absent: it stands before the two in a structure that may lack them.
+pub const NO_TIMING: [Row; 4] = table! {
+    default general_nal_hrd_params_present_flag = 0;
+    default general_vcl_hrd_params_present_flag = 0;
+    default general_du_hrd_params_present_flag = 0;
+    default hrd_cpb_cnt_minus1 = 0;
+};
+
 /// Sublayer timing and HRD parameters, clauses 7.3.5.2 and 7.3.5.3: of each sublayer where
 /// `sps_sublayer_cpb_params_present_flag` is 1, else of the highest alone. Four fields of general timing are used.
 pub const SUBLAYER_TIMING: [Row; 24] = table! {

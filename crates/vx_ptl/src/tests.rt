@@ -339,6 +339,233 @@ fn reads_and_writes(rt: HostRuntime) -> Result<(), Fail> {
     Ok(())
 }
 
+/// Appends a group of items so many times.
+fn push_all(
+    items: &mut Vec<(u16, i64)>,
+    group: &[(u16, i64)],
+    times: usize,
+) -> Result<(), AllocError> {
+    for _ in 0..times {
+        items.extend_from_slice(group)?;
+    }
+    Ok(())
+}
+
+/// Bytes, each so many times.
+fn bytes(alloc: Global, runs: &[(u8, usize)]) -> Result<Vec<u8>, AllocError> {
+    let mut bytes = Vec::new(alloc);
+    for (byte, times) in runs {
+        for _ in 0..*times {
+            bytes.push(*byte)?;
+        }
+    }
+    Ok(bytes)
+}
+
+/// Whether these are the items.
+fn are(fields: &Fields, items: &[(u16, i64)]) -> bool {
+    for (i, (field, value)) in items.iter().enumerate() {
+        let item = Item {
+            field: *field,
+            value: *value,
+        };
+        if i >= fields.len() || fields.item(i) != item {
+            return false;
+        }
+    }
+    fields.len() == items.len()
+}
+
+/// Whether a structure up to sublayer 6 is read from the bytes as these items, and written as these bytes.
+fn both_ways(
+    alloc: Global,
+    structure: Structure,
+    spelled: &[u8],
+    items: &[(u16, i64)],
+) -> Result<bool, Fail>
+    requires { length spelled.now ≤ 1100 }
+{
+    let mut fields = Fields::new(alloc);
+    read(&mut BitReader::new(spelled), structure, 6, &mut fields)?;
+    Ok(are(&fields, items) && written(alloc, &fields)?.as_slice() == spelled)
+}
+
+/// All constraints and further bits, all levels, and 255 sub-profiles.
+#[test]
+fn reads_and_writes_the_longest_profile(rt: HostRuntime) -> Result<(), Fail> {
+    let spelled = bytes(
+        rt.alloc(),
+        &[(0xff, 44), (0x80, 1), (0xfc, 1), (0xff, 1027), (0x80, 1)],
+    )?;
+    let mut items = Vec::new(rt.alloc());
+    push_all(
+        &mut items,
+        &[(11, 127), (12, 1), (13, 255), (14, 1), (15, 1), (16, 1)],
+        1,
+    )?;
+    push_all(&mut items, &[(17, 1)], 71)?;
+    push_all(&mut items, &[(18, 255)], 1)?;
+    push_all(&mut items, &[(19, 1)], 255)?;
+    push_all(&mut items, &[(20, 1)], 6)?;
+    push_all(&mut items, &[(21, 255)], 6)?;
+    push_all(&mut items, &[(22, 255)], 1)?;
+    push_all(&mut items, &[(23, 4294967295)], 255)?;
+    assert!(rt; spelled.len() <= 1100);
+    assert!(rt;
+        both_ways(
+            rt.alloc(),
+            ProfileTierLevel,
+            spelled.as_slice(),
+            items.as_slice()
+        )?
+    );
+    Ok(())
+}
+
+/// Seven entries of the longest codes: 31 zeros and 32 ones, 21 times.
+#[test]
+fn reads_and_writes_the_longest_dpb_parameters(rt: HostRuntime) -> Result<(), Fail> {
+    let spelled = bytes(
+        rt.alloc(),
+        &[
+            (0x00, 3),
+            (0x01, 1),
+            (0xff, 3),
+            (0xfe, 1),
+            (0x00, 3),
+            (0x03, 1),
+            (0xff, 3),
+            (0xfc, 1),
+            (0x00, 3),
+            (0x07, 1),
+            (0xff, 3),
+            (0xf8, 1),
+            (0x00, 3),
+            (0x0f, 1),
+            (0xff, 3),
+            (0xf0, 1),
+            (0x00, 3),
+            (0x1f, 1),
+            (0xff, 3),
+            (0xe0, 1),
+            (0x00, 3),
+            (0x3f, 1),
+            (0xff, 3),
+            (0xc0, 1),
+            (0x00, 3),
+            (0x7f, 1),
+            (0xff, 3),
+            (0x80, 1),
+            (0x00, 3),
+            (0xff, 4),
+            (0x00, 3),
+            (0x01, 1),
+            (0xff, 3),
+            (0xfe, 1),
+            (0x00, 3),
+            (0x03, 1),
+            (0xff, 3),
+            (0xfc, 1),
+            (0x00, 3),
+            (0x07, 1),
+            (0xff, 3),
+            (0xf8, 1),
+            (0x00, 3),
+            (0x0f, 1),
+            (0xff, 3),
+            (0xf0, 1),
+            (0x00, 3),
+            (0x1f, 1),
+            (0xff, 3),
+            (0xe0, 1),
+            (0x00, 3),
+            (0x3f, 1),
+            (0xff, 3),
+            (0xc0, 1),
+            (0x00, 3),
+            (0x7f, 1),
+            (0xff, 3),
+            (0x80, 1),
+            (0x00, 3),
+            (0xff, 4),
+            (0x00, 3),
+            (0x01, 1),
+            (0xff, 3),
+            (0xfe, 1),
+            (0x00, 3),
+            (0x03, 1),
+            (0xff, 3),
+            (0xfc, 1),
+            (0x00, 3),
+            (0x07, 1),
+            (0xff, 3),
+            (0xf8, 1),
+            (0x00, 3),
+            (0x0f, 1),
+            (0xff, 3),
+            (0xf0, 1),
+            (0x00, 3),
+            (0x1f, 1),
+            (0xff, 3),
+            (0xf0, 1),
+        ],
+    )?;
+    let mut items = Vec::new(rt.alloc());
+    push_all(
+        &mut items,
+        &[(31, 4294967294), (32, 4294967294), (33, 4294967294)],
+        7,
+    )?;
+    assert!(rt; spelled.len() <= 1100);
+    assert!(rt; both_ways(rt.alloc(), Dpb(true), spelled.as_slice(), items.as_slice())?);
+    Ok(())
+}
+
+/// 32 CPBs of both kinds for each of seven sublayers.
+#[test]
+fn reads_and_writes_the_longest_timing(rt: HostRuntime) -> Result<(), Fail> {
+    let spelled = bytes(
+        rt.alloc(),
+        &[(0xff, 11), (0x04, 1), (0x1f, 1), (0xff, 281), (0xc0, 1)],
+    )?;
+    let mut items = Vec::new(rt.alloc());
+    push_all(
+        &mut items,
+        &[
+            (41, 4294967295),
+            (42, 4294967295),
+            (43, 1),
+            (44, 1),
+            (45, 1),
+            (46, 1),
+        ],
+        1,
+    )?;
+    push_all(
+        &mut items,
+        &[(47, 255), (48, 15), (49, 15), (50, 15), (51, 31)],
+        1,
+    )?;
+    for _ in 0..7 {
+        push_all(&mut items, &[(52, 1), (54, 0)], 1)?;
+        push_all(
+            &mut items,
+            &[(56, 0), (57, 0), (58, 0), (59, 0), (60, 1)],
+            64,
+        )?;
+    }
+    assert!(rt; spelled.len() <= 1100);
+    assert!(rt;
+        both_ways(
+            rt.alloc(),
+            Timing(true),
+            spelled.as_slice(),
+            items.as_slice()
+        )?
+    );
+    Ok(())
+}
+
 /// A structure, the highest sublayer, bytes, the refusal, and how many items stand before it.
 type Refused<'a> = (Structure, u32, &'a [u8], Result<(), ReadError>, usize);
 
