@@ -133,12 +133,12 @@ two_follow g slices wide high u wider higher l same inside lies inside_u lies_u 
           )
     ]
 
-strips_length : (t : Rect) (y : ℕ) (heights : List ℕ) → length (strips t y heights) ≡ length heights
+pub strips_length : (t : Rect) (y : ℕ) (heights : List ℕ) → length (strips t y heights) ≡ length heights
 strips_length t y [] = refl
 strips_length t y (height ∷ heights) = ap suc (strips_length t (y + height) heights)
 
 -- a group has a slice at least, and where it is cut two
-group_some : (g : Tiles) (group : Group) → Lies g group → 1 ≤ length (slices_of g group)
+pub group_some : (g : Tiles) (group : Group) → Lies g group → 1 ≤ length (slices_of g group)
 group_some g (whole t wide high) lies = omega arith
 group_some g (cut t heights) lies = omega (arith, strips_length (tile g t) (tile g t).y heights, lies.0)
 

@@ -4,3 +4,5 @@ pub mod Runs
 pub mod Grouping
 pub mod Few
 pub mod Pictures
+pub mod Giving
+pub mod Listing

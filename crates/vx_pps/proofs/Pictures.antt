@@ -1,14 +1,15 @@
 -- The slices of a layout of one subpicture.
-use Rattle.std.proofs.Common.{◌≡◌, ℕ, true, [], ◌∷◌, get_or, sym, ◌∙◌, subst, inl, inr, arith}
-use Rattle.std.proofs.lemmas.List.{append-nil}
+use Rattle.std.proofs.Common.{◌≡◌, ℕ, ◌≤◌, true, List, [], ◌∷◌, length, get_or, sym, ◌∙◌, subst, inl, inr, arith, refl}
+use Rattle.std.proofs.lemmas.List.{append-nil, get_or_past}
+use Rattle.std.proofs.lemmas.Bool.{cases_lt}
 use Rattle.std.specs.List.{All, AllPairs, Any}
 use Rattle.vx_layout.specs.declared.rect.Rect.{Rect}
-use Rattle.vx_layout.specs.Bounds.{last}
+use Rattle.vx_layout.specs.Bounds.{Rises, last}
 use Rattle.vx_layout.specs.Rects.{IsPart, Precedes, fits, in_order, slices_of, whole_picture}
 use Rattle.vx_layout.specs.Shapes.{HasCtu}
 use Rattle.vx_layout.proofs.Counting.{slices_all}
 use Rattle.vx_layout.proofs.Holding.{fits_tells}
-use Rattle.vx_layout.proofs.Rising.{length-le-last}
+use Rattle.vx_layout.proofs.Rising.{Contains-le-last, bound_from, length-le-last}
 use Rattle.vx_pps.specs.Laws.{LayoutsAreLists}
 
 -- some of one is that one
@@ -27,6 +28,14 @@ part_in w h r some fit =
       | inr q ↦ record { wide = some.0; high = some.1; across = omega (arith, q); down = omega (arith, q) }
     ]
 
+-- no bound is above the last
+upto_last : (bs : List ℕ) (i : ℕ) → Rises bs → get_or bs i 0 ≤ last bs
+upto_last bs i rises =
+    elim (cases_lt i (length bs)) [
+      | inl short ↦ Contains-le-last bs (get_or bs i 0) rises (bound_from bs i (get_or bs i 0) short refl)
+      | inr past ↦ rw (get_or_past bs i 0 past) (omega arith)
+    ]
+
 pub layouts_are : LayoutsAreLists
 layouts_are g slices layout listable =
     let all : Rect = whole_picture (last g.columns) (last g.rows) in
@@ -36,6 +45,7 @@ layouts_are g slices layout listable =
       grid = record {
         columns = (layout.limits.columns.0, omega (arith, layout.limits.columns, length-le-last g.columns layout.columns));
         rows = (layout.limits.rows.0, omega (arith, layout.limits.rows, length-le-last g.rows layout.rows));
+        low = λ i. omega (arith, upto_last g.rows i layout.rows, layout.limits.rows.1);
       };
       columns = layout.columns;
       rows = layout.rows;

@@ -1,13 +1,16 @@
 -- What slices that a list can name come to.
-use Rattle.std.specs.Prelude.{◌<◌, ◌≤◌, true, false, List, ◌∷◌, [], length}
+use Rattle.std.specs.Prelude.{◌≡◌, ℕ, ◌+◌, ◌-◌, ◌^◌, ◌<◌, ◌≤◌, Bool, true, false, List, ◌∷◌, [], length, Some}
 use Rattle.vx_layout.specs.declared.numbers.Numbers.{Numbers}
 use Rattle.vx_layout.specs.declared.rect.Rect.{Rect}
-use Rattle.vx_layout.specs.Bounds.{last}
+use Rattle.vx_layout.specs.Bounds.{Rises, bounds_of, last, sizes_between}
 use Rattle.vx_layout.specs.Layouts.{HasLayout}
 use Rattle.vx_layout.specs.Rects.{whole_picture}
 use Rattle.vx_layout.specs.Shapes.{AreListable}
 use Rattle.vx_pps.specs.declared.tiles.Tiles.{Tiles}
-use Rattle.vx_pps.specs.Groups.{IsList, InGroups}
+use Rattle.vx_pps.specs.Tiles.{IsGrid}
+use Rattle.vx_pps.specs.Groups.{Follow, Group, InGroups, IsList, slices_of_all, start}
+use Rattle.vx_pps.specs.Slices.{list_from, sizes_from}
+use Rattle.vx_pps.specs.Written.{Gives, list_items, size_items}
 
 -- such slices fall into groups that can be listed with tile indices
 abbrev pub ListsFallIntoGroups : Type 0
@@ -24,3 +27,29 @@ picture_of g slices = record { columns = g.columns; rows = g.rows; slices = slic
 -- the slices of a layout of one subpicture are such slices, where a list can name them
 abbrev pub LayoutsAreLists : Type 0
 LayoutsAreLists = (g : Tiles) (slices : List Rect) → HasLayout (picture_of g slices) → AreListable g.columns g.rows slices → IsList g slices
+
+-- what is written of groups that can be listed gives their slices, where they are so many, less 1
+abbrev pub ListGivesSlices : Type 0
+ListGivesSlices =
+    (g : Tiles) (last : ℕ) (deltas : Bool) (group : Group) (groups : List Group) → IsGrid g → last < 1000 → start group ≡ 0
+    → length (slices_of_all g (group ∷ groups)) ≡ last + 1 → Follow g deltas 0 (group ∷ groups)
+    → Gives (list_from g last deltas) (list_items g deltas (group ∷ groups)) (Some (slices_of_all g (group ∷ groups)))
+
+-- so what is written of slices that a list can name is read back as them
+abbrev pub SlicesAreReadBack : Type 0
+SlicesAreReadBack =
+    (g : Tiles) (slices : List Rect) (last_slice : ℕ) → IsList g slices → length slices ≡ last_slice + 1 → last_slice < 1000
+    → (groups : InGroups g true slices) × Gives (list_from g last_slice true) (list_items g true (groups.group ∷ groups.groups)) (Some slices)
+
+-- and of one or two slices where tile indices aren't spelled
+abbrev pub FewAreReadBack : Type 0
+FewAreReadBack =
+    (g : Tiles) (slices : List Rect) (last_slice : ℕ) → IsList g slices → length slices ≡ last_slice + 1 → last_slice ≤ 1
+    → (groups : InGroups g false slices) × Gives (list_from g last_slice false) (list_items g false (groups.group ∷ groups.groups)) (Some slices)
+
+-- all sizes of the tile columns or rows are read back, and the bounds are those of these sizes
+abbrev pub BoundsAreReadBack : Type 0
+BoundsAreReadBack =
+    (of : ℕ) (bounds : List ℕ) → Rises bounds → 2 ≤ length bounds → last bounds < 2 ^ 20
+    → Gives (sizes_from of (length bounds - 1) (last bounds) []) (size_items of (sizes_between bounds)) (sizes_between bounds)
+    × (bounds_of (sizes_between bounds) (last bounds) ≡ bounds)

@@ -1,4 +1,6 @@
 -- What the contracts of this crate cite.
 pub mod Tiles
 pub mod Groups
+pub mod Slices
+pub mod Written
 pub mod Laws

@@ -1,5 +1,5 @@
 -- The tiles of a picture, by their index (H.266 6.5.1), and rectangles of whole tiles.
-use Rattle.std.specs.Prelude.{◌==◌, ℕ, ◌+◌, ◌-◌, ◌*◌, ◌/◌, ◌%◌, ◌≤◌, length, slice_index, cond}
+use Rattle.std.specs.Prelude.{◌==◌, ℕ, ◌+◌, ◌-◌, ◌*◌, ◌/◌, ◌%◌, ◌^◌, ◌<◌, ◌≤◌, length, slice_index, cond}
 use Rattle.vx_layout.specs.declared.rect.Rect.{Rect}
 use Rattle.vx_pps.specs.declared.tiles.Tiles.{Tiles}
 
@@ -37,7 +37,8 @@ tile g t = block g t 1 1
 abbrev pub tile_behind : Tiles → ℕ → ℕ → ℕ → ℕ
 tile_behind g t width height = t + (width + 1) + cond ((t + (width + 1)) % across g == 0) (height * across g) 0
 
--- one to 512 tile columns and tile rows
+-- one to 512 tile columns and tile rows, of a picture of no great height
 pub record IsGrid (g : Tiles) : Type 0 where
   pub columns : (2 ≤ length g.columns) × (length g.columns ≤ 513)
   pub rows : (2 ≤ length g.rows) × (length g.rows ≤ 513)
+  pub low : (i : ℕ) → slice_index g.rows i < 2 ^ 20

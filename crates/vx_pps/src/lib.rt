@@ -9,5 +9,8 @@ mod laws;
 mod tests;
 mod tiles;
 
-pub use laws::{few_fall_into_groups, layouts_are_lists, lists_fall_into_groups};
+pub use laws::{
+    bounds_are_read_back, few_are_read_back, few_fall_into_groups, layouts_are_lists,
+    list_gives_slices, lists_fall_into_groups, slices_are_read_back,
+};
 pub use tiles::Tiles;

@@ -1,0 +1,65 @@
+-- What is written of tile sizes, and of groups of slices: the items of their fields.
+use Rattle.std.specs.Prelude.{◌≡◌, ◌==◌, ℕ, ℤ, pos, ◌+◌, ◌-◌, ◌&&◌, nat_lt, Bool, false, cond, List, [], ◌∷◌, ◌++◌, length}
+use Rattle.std.specs.Prelude.{neg_ℤ, ◌+ℤ◌}
+use Rattle.vx_bits.specs.declared.list.Item.{Item}
+use Rattle.vx_fields.specs.declared.pps.TheConstants as pps
+use Rattle.vx_layout.specs.Heights.{written_heights}
+use Rattle.vx_table.specs.Forms.{Form}
+use Rattle.vx_table.specs.Spelling.{items_along}
+use Rattle.vx_table.specs.Values.{Follows}
+use Rattle.vx_pps.specs.declared.tiles.Tiles.{Tiles}
+use Rattle.vx_pps.specs.Tiles.{across, column, down, row, tile}
+use Rattle.vx_pps.specs.Groups.{Group, cut, high_of, spells_height, start, whole, wide_of}
+
+abbrev pub item : ℕ → ℤ → List Item
+item of v = record { field = of; value = v } ∷ []
+
+-- all sizes of tile columns or rows
+abbrev pub size_items : ℕ → List ℕ → List Item
+size_items of [] = []
+size_items of (size ∷ sizes) = item of (pos (size - 1)) ++ size_items of sizes
+
+-- a slice's tiles across and down
+abbrev pub width_items : Tiles → ℕ → ℕ → List Item
+width_items g t wide = cond (column g t + 1 == across g) [] (item pps.pps_slice_width_in_tiles_minus1 (pos (wide - 1)))
+
+abbrev pub height_items : Tiles → Bool → ℕ → ℕ → List Item
+height_items g deltas t high =
+    cond (row g t + 1 == down g) [] (cond (spells_height g deltas t) (item pps.pps_slice_height_in_tiles_minus1 (pos (high - 1))) [])
+
+-- heights of slices of a tile
+abbrev pub strip_items : List ℕ → List Item
+strip_items [] = []
+strip_items (height ∷ heights) = item pps.pps_exp_slice_height_in_ctus_minus1 (pos (height - 1)) ++ strip_items heights
+
+-- the number of the explicit slices of a tile, and their heights
+abbrev pub heights_items : Tiles → Group → List Item
+heights_items g (whole t wide high) = cond ((wide - 1 == 0 && high - 1 == 0) && nat_lt 1 (tile g t).h) (item pps.pps_num_exp_slices_in_tile (pos 0)) []
+heights_items g (cut t heights) = item pps.pps_num_exp_slices_in_tile (pos (length (written_heights heights))) ++ strip_items (written_heights heights)
+
+-- how far on the next tile is
+abbrev pub delta_items : Bool → ℕ → ℕ → List Item
+delta_items spelled t next = cond spelled (item pps.pps_tile_idx_delta_val (pos next +ℤ neg_ℤ (pos t))) []
+
+-- a group, behind which the next one begins at this tile
+abbrev pub turn_items : Tiles → Bool → Bool → Group → ℕ → List Item
+turn_items g deltas spelled group next =
+    width_items g (start group) (wide_of group)
+    ++ (height_items g deltas (start group) (high_of group) ++ (heights_items g group ++ delta_items spelled (start group) next))
+
+-- the last group: a slice of whole tiles isn't spelled
+abbrev pub last_items : Tiles → Bool → Group → List Item
+last_items g deltas (whole t wide high) = []
+last_items g deltas (cut t heights) = turn_items g deltas false (cut t heights) 0
+
+-- the slice list of these groups
+abbrev pub list_items : Tiles → Bool → List Group → List Item
+list_items g deltas [] = []
+list_items g deltas (group ∷ []) = last_items g deltas group
+list_items g deltas (group ∷ next ∷ more) = turn_items g deltas deltas group (start next) ++ list_items g deltas (next ∷ more)
+
+-- the items are those of values that go through a form to this end
+pub record Gives {A : Type 0} (form : Form A) (items : List Item) (end : A) : Type 0 where
+  pub values : List ℤ
+  pub follows : Follows form values end
+  pub given : items_along form values ≡ items
