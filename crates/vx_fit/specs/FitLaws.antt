@@ -28,18 +28,21 @@ FittingHasNoFault = (placed : List Placed) (ctb : ℕ) (e : FitFault) → FitTog
 
 -- at most one region is the lowest that doesn't keep its lines
 abbrev pub LinesFaultIsOne : Type 0
-LinesFaultIsOne = (corners : List Rect) (parts : List Numbers) (j k : ℕ) → IsLinesFault corners parts j → IsLinesFault corners parts k → j ≡ k
+LinesFaultIsOne =
+    (corners : List Rect) (parts : List Numbers) (j k : ℕ)
+    → IsLinesFault corners parts j → IsLinesFault corners parts k → j ≡ k
 
 -- and none is where all keep them
 abbrev pub KeepingHasNoFault : Type 0
 KeepingHasNoFault =
-    (columns rows : List ℕ) (corners : List Rect) (parts : List Numbers) (k : ℕ) → HaveLines columns rows corners parts → ¬ IsLinesFault corners parts k
+    (columns rows : List ℕ) (corners : List Rect) (parts : List Numbers) (k : ℕ)
+    → HaveLines columns rows corners parts → ¬ IsLinesFault corners parts k
 
 -- the lines make up one list of columns, and one of rows
 abbrev pub LinesAreOne : Type 0
 LinesAreOne =
-    (columns rows others below : List ℕ) (corners : List Rect) (parts : List Numbers) → HaveLines columns rows corners parts → HaveLines others below corners parts
-    → (columns ≡ others) × (rows ≡ below)
+    (columns rows others below : List ℕ) (corners : List Rect) (parts : List Numbers)
+    → HaveLines columns rows corners parts → HaveLines others below corners parts → (columns ≡ others) × (rows ≡ below)
 
 -- the frame of these columns, rows and regions, with these pictures in them, is a layout by its regions and as one
 -- subpicture; its slices can be listed tile by tile; its region k is picture k; it has the frame's size in CTUs; and its
@@ -57,5 +60,6 @@ pub record IsMerged (placed : List Placed) (ctb : ℕ) (columns rows : List ℕ)
 -- this holds of regions that fit together, of sources of their sizes, and of the lines that they all keep
 abbrev pub FrameOfRegions : Type 0
 FrameOfRegions =
-    (placed : List Placed) (ctb : ℕ) (columns rows : List ℕ) (corners : List Rect) (parts : List Numbers) → 0 < length placed → 0 < ctb → FitTogether placed ctb
-    → corners ≡ map (in_ctus ctb) placed → AllZip IsSource corners parts → HaveLines columns rows corners parts → IsMerged placed ctb columns rows corners parts
+    (placed : List Placed) (ctb : ℕ) (columns rows : List ℕ) (corners : List Rect) (parts : List Numbers)
+    → 0 < length placed → 0 < ctb → FitTogether placed ctb → corners ≡ map (in_ctus ctb) placed
+    → AllZip IsSource corners parts → HaveLines columns rows corners parts → IsMerged placed ctb columns rows corners parts

@@ -86,11 +86,15 @@ abbrev pub Follows : List Rect → List Numbers → ℕ → Type 0
 Follows corners parts k =
     IsDropped corners parts (corner_at corners k).y → (j : ℕ) × (j + 1 ≡ k) × StandsOn (corner_at corners j) (corner_at corners k)
 
+-- strictly inside what begins at `from` the lines are the bounds of a picture that stands there
+abbrev pub LinesAreOwn : (ℕ → Type 0) → ℕ → ℕ → List ℕ → Type 0
+LinesAreOwn IsLine from size own = (n : ℕ) → PassesInside from size n → IsLine n ↔ HasBound from own n
+
 -- the lines strictly between the borders of region k are its own inner tile lines, and it follows the region above it
 -- where the line between the two is left out
 pub record KeepsLines (corners : List Rect) (parts : List Numbers) (k : ℕ) : Type 0 where
-  pub columns : (n : ℕ) → PassesInside (corner_at corners k).x (corner_at corners k).w n → IsVertical corners parts n ↔ HasBound (corner_at corners k).x (part_at parts k).columns n
-  pub rows : (n : ℕ) → PassesInside (corner_at corners k).y (corner_at corners k).h n → IsHorizontal corners parts n ↔ HasBound (corner_at corners k).y (part_at parts k).rows n
+  pub columns : LinesAreOwn (IsVertical corners parts) (corner_at corners k).x (corner_at corners k).w (part_at parts k).columns
+  pub rows : LinesAreOwn (IsHorizontal corners parts) (corner_at corners k).y (corner_at corners k).h (part_at parts k).rows
   pub above : Follows corners parts k
 
 -- columns and rows that are exactly the frame's lines, where each region keeps its own

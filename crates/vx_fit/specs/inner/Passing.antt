@@ -4,7 +4,7 @@ use Rattle.std.specs.List.{AllZip}
 use Rattle.vx_layout.specs.declared.numbers.Numbers.{Numbers}
 use Rattle.vx_layout.specs.declared.rect.Rect.{Rect}
 use Rattle.vx_layout.specs.Bounds.{Rises}
-use Rattle.vx_fit.specs.FrameLines.{HasBound, HasOneTile, IsBorder, IsFull, IsInner, IsLinesFault, IsVertical, KeepsLines, PassesInside}
+use Rattle.vx_fit.specs.FrameLines.{HasOneTile, IsBorder, IsFull, IsInner, IsLinesFault, IsVertical, KeepsLines, LinesAreOwn}
 use Rattle.vx_fit.specs.Placing.{greatest_size}
 use Rattle.vx_fit.specs.Sources.{IsSized}
 
@@ -15,7 +15,7 @@ pub record LinesBelow (IsLine : ℕ → Type 0) (bounds : List ℕ) (n : ℕ) : 
 
 -- strictly inside a picture that stands at `from`, the bounds are its own
 abbrev pub AreOwn : List ℕ → ℕ → ℕ → List ℕ → Type 0
-AreOwn bounds from size own = (n : ℕ) → PassesInside from size n → Contains bounds n ↔ HasBound from own n
+AreOwn bounds from size own = LinesAreOwn (Contains bounds) from size own
 
 -- the lowest region that doesn't keep its lines, or none where all do
 abbrev pub IsLinesAnswer : List Rect → List Numbers → Option ℕ → Type 0
