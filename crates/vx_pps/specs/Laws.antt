@@ -22,11 +22,17 @@ FewFallIntoGroups = (g : Tiles) (slices : List Rect) → IsList g slices → 0 <
 
 -- a picture of these tiles and slices, as one subpicture
 abbrev pub picture_of : Tiles → List Rect → Numbers
-picture_of g slices = record { columns = g.columns; rows = g.rows; slices = slices; subpics = whole_picture (last g.columns) (last g.rows) ∷ [] }
+picture_of g slices = record {
+  columns = g.columns;
+  rows = g.rows;
+  slices = slices;
+  subpics = whole_picture (last g.columns) (last g.rows) ∷ [];
+}
 
 -- the slices of a layout of one subpicture are such slices, where a list can name them
 abbrev pub LayoutsAreLists : Type 0
-LayoutsAreLists = (g : Tiles) (slices : List Rect) → HasLayout (picture_of g slices) → AreListable g.columns g.rows slices → IsList g slices
+LayoutsAreLists =
+    (g : Tiles) (slices : List Rect) → HasLayout (picture_of g slices) → AreListable g.columns g.rows slices → IsList g slices
 
 -- what is written of groups that can be listed gives their slices, where they are so many, less 1
 abbrev pub ListGivesSlices : Type 0
@@ -39,13 +45,15 @@ ListGivesSlices =
 abbrev pub SlicesAreReadBack : Type 0
 SlicesAreReadBack =
     (g : Tiles) (slices : List Rect) (last_slice : ℕ) → IsList g slices → length slices ≡ last_slice + 1 → last_slice < 1000
-    → (groups : InGroups g true slices) × Gives (list_from g last_slice true) (list_items g true (groups.group ∷ groups.groups)) (Some slices)
+    → (groups : InGroups g true slices)
+    × Gives (list_from g last_slice true) (list_items g true (groups.group ∷ groups.groups)) (Some slices)
 
 -- and of one or two slices where tile indices aren't spelled
 abbrev pub FewAreReadBack : Type 0
 FewAreReadBack =
     (g : Tiles) (slices : List Rect) (last_slice : ℕ) → IsList g slices → length slices ≡ last_slice + 1 → last_slice ≤ 1
-    → (groups : InGroups g false slices) × Gives (list_from g last_slice false) (list_items g false (groups.group ∷ groups.groups)) (Some slices)
+    → (groups : InGroups g false slices)
+    × Gives (list_from g last_slice false) (list_items g false (groups.group ∷ groups.groups)) (Some slices)
 
 -- all sizes of the tile columns or rows are read back, and the bounds are those of these sizes
 abbrev pub BoundsAreReadBack : Type 0

@@ -39,7 +39,8 @@ sizes_from of (suc more) left sizes = size_of of left >>= λ size. sizes_from of
 
 -- pps_slice_width_in_tiles_minus1, of a slice that begins at tile t: it isn't there in the last column
 abbrev pub width_in_tiles : Tiles → ℕ → Form ℕ
-width_in_tiles g t = cond (column g t + 1 == across g) (done 0) (number pps.pps_slice_width_in_tiles_minus1 (below (across g - column g t)))
+width_in_tiles g t =
+    cond (column g t + 1 == across g) (done 0) (number pps.pps_slice_width_in_tiles_minus1 (below (across g - column g t)))
 
 -- pps_slice_height_in_tiles_minus1: it isn't there in the last row, which gives 0, nor where tile indices aren't spelled and
 -- the slice stands beside the one before, whose height it takes
@@ -59,7 +60,8 @@ height_limits is_last left room =
 -- come; the picture has `last` + 1 slices
 abbrev pub strip_height : Rect → ℕ → ℕ → ℕ → List Rect → Form ℕ
 strip_height t last more y slices =
-    number pps.pps_exp_slice_height_in_ctus_minus1 (height_limits (more == 0) (t.y + t.h - y) (last + 1 - length slices)) >>= λ v. done (v + 1)
+    number pps.pps_exp_slice_height_in_ctus_minus1 (height_limits (more == 0) (t.y + t.h - y) (last + 1 - length slices))
+    >>= λ v. done (v + 1)
 
 -- so many explicit slices of the tile, from CTU row y on; then the last height again while it fits, and the rest where one
 -- is left
@@ -138,7 +140,9 @@ turns_from g last deltas (suc more) at =
 abbrev pub all_slices : Tiles → ℕ → Listed → Option (List Rect)
 all_slices g last at =
     cond (nat_lt last (length at.slices)) (Some at.slices)
-    (cond (nat_lt at.next (across g * down g)) (Some (at.slices ++ block g at.next (across g - column g at.next) (down g - row g at.next) ∷ [])) None)
+    (cond (nat_lt at.next (across g * down g))
+    (Some (at.slices ++ block g at.next (across g - column g at.next) (down g - row g at.next) ∷ []))
+    None)
 
 -- before the first slice
 abbrev pub none_listed : Listed

@@ -1,5 +1,5 @@
 -- What is written of tile sizes, and of groups of slices: the items of their fields.
-use Rattle.std.specs.Prelude.{◌≡◌, ◌==◌, ℕ, ℤ, pos, ◌+◌, ◌-◌, ◌&&◌, nat_lt, Bool, false, cond, List, [], ◌∷◌, ◌++◌, length}
+use Rattle.std.specs.Prelude.{◌≡◌, ◌==◌, ℕ, ℤ, pos, ◌+◌, ◌-◌, Bool, false, cond, List, [], ◌∷◌, ◌++◌, length}
 use Rattle.std.specs.Prelude.{neg_ℤ, ◌+ℤ◌}
 use Rattle.vx_bits.specs.declared.list.Item.{Item}
 use Rattle.vx_fields.specs.declared.pps.TheConstants as pps
@@ -9,6 +9,7 @@ use Rattle.vx_table.specs.Spelling.{items_along}
 use Rattle.vx_table.specs.Values.{Follows}
 use Rattle.vx_pps.specs.declared.tiles.Tiles.{Tiles}
 use Rattle.vx_pps.specs.Tiles.{across, column, down, row, tile}
+use Rattle.vx_pps.specs.Slices.{may_be_cut}
 use Rattle.vx_pps.specs.Groups.{Group, cut, high_of, spells_height, start, whole, wide_of}
 
 abbrev pub item : ℕ → ℤ → List Item
@@ -34,8 +35,9 @@ strip_items (height ∷ heights) = item pps.pps_exp_slice_height_in_ctus_minus1 
 
 -- the number of the explicit slices of a tile, and their heights
 abbrev pub heights_items : Tiles → Group → List Item
-heights_items g (whole t wide high) = cond ((wide - 1 == 0 && high - 1 == 0) && nat_lt 1 (tile g t).h) (item pps.pps_num_exp_slices_in_tile (pos 0)) []
-heights_items g (cut t heights) = item pps.pps_num_exp_slices_in_tile (pos (length (written_heights heights))) ++ strip_items (written_heights heights)
+heights_items g (whole t wide high) = cond (may_be_cut (wide - 1) (high - 1) (tile g t)) (item pps.pps_num_exp_slices_in_tile (pos 0)) []
+heights_items g (cut t heights) =
+    item pps.pps_num_exp_slices_in_tile (pos (length (written_heights heights))) ++ strip_items (written_heights heights)
 
 -- how far on the next tile is
 abbrev pub delta_items : Bool → ℕ → ℕ → List Item

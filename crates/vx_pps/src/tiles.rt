@@ -1,5 +1,5 @@
 //! The tiles of a picture, by their index.
-ghost use Rattle.std.specs.Prelude.{◌≡◌, ◌*◌, ◌<◌, ◌≤◌, ℕ, List, length, slice_index};
+ghost use Rattle.std.specs.Prelude.{◌≡◌, ◌+◌, ◌-◌, ◌*◌, ◌<◌, ◌≤◌, ℕ, List, length, slice_index};
 ghost use Rattle.vx_pps.specs.Tiles.{IsGrid, across, block, column, down, row, tile_behind};
 
 use vx_layout::{Bounds, Rect};
@@ -53,4 +53,48 @@ impl Tiles {
     {
         tile / self.across()
     }
+
+    /// So many tiles across and down from a tile on, as a rectangle of CTUs.
+    pub fn block(&self, tile: u32, wide: u32, high: u32) -> Rect
+        requires grid { IsGrid self.now }
+        requires inside { tile < across self.now * down self.now }
+        requires wide { column self.now tile + wide ≤ across self.now }
+        requires high { row self.now tile + high ≤ down self.now }
+        ensures { result ≡ block self.now tile wide high }
+    {
+        let (column, row) = (self.column(tile), self.row(tile));
+        let x = bound(&self.columns, column);
+        let y = bound(&self.rows, row);
+        Rect {
+            x,
+            y,
+            w: bound(&self.columns, column + wide).saturating_sub(x),
+            h: bound(&self.rows, row + high).saturating_sub(y),
+        }
+    }
+
+    /// The tile where the next slice begins, where it isn't spelled, behind a slice of so many tiles across and down from a
+    /// tile on: the one beside the slice, or at the end of the columns the first one below it (H.266 7.4.3.5).
+    pub fn tile_behind(&self, tile: u32, wide: u32, high: u32) -> u32
+        requires grid { IsGrid self.now }
+        requires inside { tile < across self.now * down self.now }
+        requires wide { (1 ≤ wide) × (column self.now tile + wide ≤ across self.now) }
+        requires high { (1 ≤ high) × (row self.now tile + high ≤ down self.now) }
+        ensures { result ≡ tile_behind self.now tile (wide - 1) (high - 1) }
+    {
+        let beside = tile + wide;
+        if beside % self.across() == 0 {
+            beside + (high - 1) * self.across()
+        } else {
+            beside
+        }
+    }
+}
+
+/// A bound by its index.
+fn bound(bounds: &Bounds, index: u32) -> u32
+    requires { index < length bounds.now }
+    ensures { result ≡ slice_index bounds.now index }
+{
+    bounds.item(index as usize)
 }
