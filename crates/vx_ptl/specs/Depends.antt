@@ -22,8 +22,9 @@ TimingDepends = ReadsOnly [] TIMING
 
 -- sublayer timing: the highest sublayer, whether each has an entry, and four fields of general timing
 abbrev pub SublayerTimingDepends : Type 0
-SublayerTimingDepends = ReadsOnly (sps_max_sublayers_minus1 ∷ sps_sublayer_cpb_params_present_flag
-    ∷ general_nal_hrd_params_present_flag ∷ general_vcl_hrd_params_present_flag ∷ general_du_hrd_params_present_flag ∷ hrd_cpb_cnt_minus1 ∷ [])
+SublayerTimingDepends = ReadsOnly
+    (sps_max_sublayers_minus1 ∷ sps_sublayer_cpb_params_present_flag ∷ general_nal_hrd_params_present_flag
+    ∷ general_vcl_hrd_params_present_flag ∷ general_du_hrd_params_present_flag ∷ hrd_cpb_cnt_minus1 ∷ [])
     SUBLAYER_TIMING
 
 -- the two where a parameter set says that they are there
@@ -33,7 +34,8 @@ timing_if_present = always NO_TIMING ∷ provided (Plain (Latest sps_timing_hrd_
 
 -- these: that it says so, the highest sublayer, and whether each has an entry
 abbrev pub TimingIfPresentDepends : Type 0
-TimingIfPresentDepends = SectionsReadOnly (sps_timing_hrd_params_present_flag ∷ sps_max_sublayers_minus1 ∷ sps_sublayer_cpb_params_present_flag ∷ []) timing_if_present
+TimingIfPresentDepends = SectionsReadOnly
+    (sps_timing_hrd_params_present_flag ∷ sps_max_sublayers_minus1 ∷ sps_sublayer_cpb_params_present_flag ∷ []) timing_if_present
 
 -- No field of all these is coded by two rows.
 abbrev pub FieldsAreCodedOnce : Type 0

@@ -32,7 +32,8 @@ zeros_at over (Name name formula) = over
 
 -- each field's coding, and the zeros before it in its table
 abbrev pub code_at : ℕ → Row → List FieldCode → List FieldCode
-code_at over (Field c) codes = slice_set codes c.field (record { coding = fixed_coding c.coding; zeros = zeros_over over c.coding c.field })
+code_at over (Field c) codes =
+    slice_set codes c.field (record { coding = fixed_coding c.coding; zeros = zeros_over over c.coding c.field })
 code_at over (Block presence n) codes = codes
 code_at over (Name name formula) codes = codes
 
@@ -75,7 +76,8 @@ item_bits before place item =
 -- the items' bits from a place on
 unfoldable pub run_bits : ℕ → ℕ → List Item → List Bool
 run_bits before place [] = []
-run_bits before place (item ∷ items) = item_bits before place item ++ run_bits item.field (place + length (item_bits before place item)) items
+run_bits before place (item ∷ items) =
+    item_bits before place item ++ run_bits item.field (place + length (item_bits before place item)) items
 
 -- The bits grow by a front of these: by none, some or all of them.
 abbrev pub GrowsByFront : List Bool → List Bool → List Bool → Type 0
