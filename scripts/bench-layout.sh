@@ -24,7 +24,7 @@ ghost use Rattle.vx_layout.specs.Faults.{IsInLimits};
 
 use std::alloc::{AllocError, Global};
 use std::time::Instant;
-use vx_layout::{Layout, LayoutError, Numbers, Rect, RectList, first_fault, tile_bounds};
+use vx_layout::{Layout, LayoutError, Numbers, Rect, RectList, tile_bounds};
 
 // A picture cut into `across` by `down` parts, the last of each row and column as large as is left.
 fn parts(alloc: Global, side: u32, across: u32, down: u32) -> Result<RectList, AllocError>
@@ -146,21 +146,6 @@ fn entries(rt: &HostRuntime, name: &str, layout: &Layout, subpics: u32, sync: bo
     Ok(())
 }
 
-// Times the plain program.
-fn plain(rt: &HostRuntime, name: &str, n: Numbers) -> anyhow::Result<()> {
-    if !is_in_limits(&n) {
-        return Ok(());
-    }
-    let start = Instant::now(rt)?;
-    let told = match first_fault(rt.alloc(), &n) {
-        Ok(()) => 0,
-        Err(error) => fault(error),
-    };
-    let took = start.elapsed(rt)?.as_micros();
-    println!(rt; "{name}: first_fault {took} us, fault {told}")?;
-    Ok(())
-}
-
 fn main(rt: HostRuntime) -> anyhow::Result<()> {
     let alloc = rt.alloc();
     let each = picture(alloc, 512, parts(alloc, 512, 8, 125)?, parts(alloc, 512, 8, 125)?)?;
@@ -169,8 +154,6 @@ fn main(rt: HostRuntime) -> anyhow::Result<()> {
     fast(&rt, "1 subpicture of 1,000 slices", one)?;
     let bare = picture(alloc, 512, with_empty(parts(alloc, 512, 4, 125)?, 500)?, parts(alloc, 512, 4, 125)?)?;
     fast(&rt, "500 subpictures, 500 slices without a CTU", bare)?;
-    let small = picture(alloc, 32, parts(alloc, 32, 8, 8)?, parts(alloc, 32, 8, 8)?)?;
-    plain(&rt, "32 x 32 CTUs, 64 subpictures of a slice", small)?;
     let small = picture(alloc, 32, parts(alloc, 32, 8, 8)?, parts(alloc, 32, 8, 8)?)?;
     fast(&rt, "32 x 32 CTUs, 64 subpictures of a slice", small)
 }

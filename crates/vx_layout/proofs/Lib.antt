@@ -1,5 +1,4 @@
 -- Lemmas on bounds, rectangles and marks, on regions and their CTUs, and on frames.
-pub mod Agreeing
 pub mod Alone
 pub mod Corners
 pub mod Counted

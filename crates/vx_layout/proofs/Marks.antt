@@ -9,7 +9,7 @@ use Rattle.vx_layout.specs.declared.grid.Grid.{Grid}
 use Rattle.vx_layout.specs.declared.rect.Rect.{Rect}
 use Rattle.vx_layout.proofs.Holding.{holds_tells, holds_from}
 use Rattle.vx_layout.specs.Rects.{holds, CoversOnce}
-use Rattle.vx_layout.specs.Marks.{mark_at, Paints, PaintsRect, IsTaken, IsTakenIn, IsBare, IsMark, AreMarks, IsMapOf}
+use Rattle.vx_layout.specs.inner.Marks.{mark_at, Paints, PaintsRect, IsTaken, IsTakenIn, IsBare, IsMark, AreMarks, IsMapOf}
 
 pub other_column : (marks : List ℕ) (w x y column row m : ℕ) → x < w → column < w → column ≢ x → get_or (set marks (y * w + x) m) (row * w + column) 0 ≡ get_or marks (row * w + column) 0
 other_column marks w x y column row m p q ne =

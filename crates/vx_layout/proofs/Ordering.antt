@@ -12,7 +12,7 @@ use Rattle.vx_layout.specs.declared.rect.Rect.{Rect}
 use Rattle.vx_layout.specs.declared.numbers.Numbers.{Numbers}
 use Rattle.vx_layout.specs.Faults.{width, height}
 use Rattle.vx_layout.specs.Layouts.{HasLayout, no_rect, slice_at, slices_in, subpic_at}
-use Rattle.vx_layout.specs.Marks.{IsMapOf, IsMark, IsRising, mark_at}
+use Rattle.vx_layout.specs.inner.Marks.{IsMapOf, IsMark, IsRising, mark_at}
 use Rattle.vx_layout.specs.Rects.{holds, fits, IsPart, Precedes, slices_of, in_order}
 use Rattle.vx_layout.proofs.Holding.{fits_tells, holds_tells}
 use Rattle.vx_layout.proofs.Counting.{All-slices_of, holds-fits, same_place}

@@ -8,8 +8,8 @@ use Rattle.std.proofs.Math.Seq.{take-length}
 use Rattle.std.specs.List.{All, Any, flat_map}
 use Rattle.vx_layout.specs.declared.grid.Grid.{Grid}
 use Rattle.vx_layout.specs.declared.rect.Rect.{Rect}
-use Rattle.vx_layout.specs.Groups.{AreGroups, Adds, IsOwner}
-use Rattle.vx_layout.specs.Marks.{IsMapOf, IsMark, mark_at}
+use Rattle.vx_layout.specs.inner.Groups.{AreGroups, Adds, IsOwner}
+use Rattle.vx_layout.specs.inner.Marks.{IsMapOf, IsMark, mark_at}
 use Rattle.vx_layout.specs.Rects.{holds, fits, IsPart, slices_of, in_order}
 use Rattle.vx_layout.proofs.Holding.{holds_tells, holds_from, fits_empty}
 use Rattle.vx_layout.proofs.Counting.{holds-fits, same_place}

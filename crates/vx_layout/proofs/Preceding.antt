@@ -1,9 +1,8 @@
 -- The order of two slices, by their borders.
-use Rattle.std.proofs.Common.{◌≡◌, ℕ, ◌+◌, ◌-◌, ◌<◌, ◌≤◌, max, min, true, false, List, length, get_or, sym, subst, ◌∙◌, inl, inr, arith}
+use Rattle.std.proofs.Common.{◌≡◌, ℕ, ◌+◌, ◌-◌, ◌<◌, ◌≤◌, max, min, true, false, inl, inr, arith}
 use Rattle.std.proofs.lemmas.Bool.{and_parts, and_from, and_cases, both_ways, ltb-true, lt-ltb, not-true, not-false}
-use Rattle.std.proofs.lemmas.List.{get_or_default}
 use Rattle.vx_layout.specs.declared.rect.Rect.{Rect}
-use Rattle.vx_layout.specs.Plain.{meet, precedes}
+use Rattle.vx_layout.specs.inner.Neighbours.{meet, precedes}
 use Rattle.vx_layout.specs.Rects.{Precedes}
 use Rattle.vx_layout.proofs.Holding.{holds_from, holds_tells}
 
@@ -47,15 +46,3 @@ Precedes-refuted r s h order =
           let y = meet_tells r.y r.h s.y s.h 1 both.1 in
           (order x.0 y.0 (holds_from s x.0 y.0 x.1 x.2 y.1 y.2)).1 (holds_from r x.0 (y.0 + 1) (omega (arith, x.3)) (omega (arith, x.4)) y.3 y.4)
     ]
-
--- from the rectangles to their places in a list, and back
-pub Precedes-at : (rects : List Rect) (i j : ℕ) (d r s : Rect) → i < length rects → j < length rects → r ≡ get_or rects i r → s ≡ get_or rects j s → Precedes r s → Precedes (get_or rects i d) (get_or rects j d)
-Precedes-at rects i j d r s a b e f order =
-    let first : r ≡ get_or rects i d = e ∙ get_or_default rects i r d a in
-    let second : s ≡ get_or rects j d = f ∙ get_or_default rects j s d b in
-    subst (λ t. Precedes t (get_or rects j d)) first (subst (λ t. Precedes r t) second order)
-
-pub Precedes-back : (rects : List Rect) (i j : ℕ) (r s : Rect) → j < length rects → r ≡ get_or rects i r → s ≡ get_or rects j s → Precedes (get_or rects i r) (get_or rects j r) → Precedes r s
-Precedes-back rects i j r s b e f order =
-    let second : get_or rects j r ≡ s = get_or_default rects j r s b ∙ sym f in
-    subst (λ t. Precedes t s) (sym e) (subst (λ t. Precedes (get_or rects i r) t) second order)

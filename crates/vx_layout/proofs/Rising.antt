@@ -4,7 +4,7 @@ use Rattle.std.proofs.lemmas.Bool.{cases_lt}
 use Rattle.std.proofs.lemmas.List.{get_or_default}
 use Rattle.std.specs.List.{Contains}
 use Rattle.vx_layout.specs.Bounds.{RisesAbove, Rises, last_after, last}
-use Rattle.vx_layout.specs.Lines.{IsNextBound, AreNextBounds}
+use Rattle.vx_layout.specs.inner.Lines.{IsNextBound, AreNextBounds}
 use Rattle.vx_layout.proofs.Tiling.{last-get_or}
 
 pub RisesAbove-get_or : (a : ℕ) (bs : List ℕ) (j : ℕ) → RisesAbove a bs → j < length bs → a < get_or bs j 0

@@ -6,7 +6,7 @@ use Rattle.vx_layout.specs.declared.rect.Rect.{Rect}
 use Rattle.vx_layout.specs.Borders.{SplitsAtLines}
 use Rattle.vx_layout.specs.Bounds.{RisesAbove, Rises, last_after, last}
 use Rattle.vx_layout.specs.Faults.{NoneBetween, IsSpan, IsTile, LiesIn, SameSides, SplitsWell}
-use Rattle.vx_layout.specs.Lines.{AreNextBounds, is_line, none_between, splits_by}
+use Rattle.vx_layout.specs.inner.Lines.{AreNextBounds, is_line, none_between, splits_by}
 use Rattle.vx_layout.specs.Rects.{IsPart, holds}
 use Rattle.vx_layout.proofs.Holding.{holds_tells, holds_from}
 use Rattle.vx_layout.proofs.Rising.{RisesAbove-get_or, bound_at}

@@ -28,7 +28,8 @@ StandInRuns rows regions =
 -- then the regions of one tile stand next to one another, where they cover a frame once, in order, and their borders split the tiles well
 abbrev pub RunsFillTiles : Type 0
 RunsFillTiles =
-    (columns rows : List ℕ) (regions : List Rect) → All (IsPart (last columns) (last rows)) regions → CoversOnce regions (last columns) (last rows) → AllPairs Precedes regions
+    (columns rows : List ℕ) (regions : List Rect) → All (IsPart (last columns) (last rows)) regions
+    → CoversOnce regions (last columns) (last rows) → AllPairs Precedes regions
     → All (SplitsAtLines columns rows) regions → StandInRuns rows regions → TilesHoldRuns columns rows regions
 
 -- counting from a corner that is not further right nor further down, and then moving back, changes nothing
@@ -38,12 +39,14 @@ MovingUndoesCounting = (corner r : Rect) → corner.x ≤ r.x → corner.y ≤ r
 -- tiles and a part of the picture split one another well exactly by the part's borders
 abbrev pub SplitByBorders : Type 0
 SplitByBorders =
-    (columns rows : List ℕ) (s : Rect) → Rises columns → Rises rows → IsPart (last columns) (last rows) s → SplitsWell columns rows s ↔ SplitsAtLines columns rows s
+    (columns rows : List ℕ) (s : Rect) → Rises columns → Rises rows → IsPart (last columns) (last rows) s
+    → SplitsWell columns rows s ↔ SplitsAtLines columns rows s
 
 -- where the bounds inside a region are a picture's own, so are the bounds cut to the region
 abbrev pub CutBoundsAreOwn : Type 0
 CutBoundsAreOwn =
-    (bounds own : List ℕ) (from : ℕ) → Rises bounds → Rises own → 0 < last own → SameInside bounds from own → cut bounds from (last own) ≡ own
+    (bounds own : List ℕ) (from : ℕ) → Rises bounds → Rises own → 0 < last own → SameInside bounds from own
+    → cut bounds from (last own) ≡ own
 
 -- the first of rectangles that cover a picture once and stand in order begins it, where it is a part of it
 abbrev pub FirstBegins : Type 0
@@ -59,80 +62,102 @@ LastEnds =
 
 -- the slices of a picture that stands in a region fill it
 abbrev pub PlacedFills : Type 0
-PlacedFills = (columns rows : List ℕ) (region : Rect) (picture : Numbers) → IsPlaced columns rows region picture → Fills region picture.slices
+PlacedFills =
+    (columns rows : List ℕ) (region : Rect) (picture : Numbers) → IsPlaced columns rows region picture
+    → Fills region picture.slices
 
 -- slices that fill each of the regions of their index do so pair by pair
 abbrev pub FillsByIndex : Type 0
 FillsByIndex =
     (regions : List Rect) (pictures : List (List Rect)) → length regions ≡ length pictures
-    → ((k : ℕ) (d : Rect) (e : List Rect) → k < length regions → Fills (slice_index_or regions k d) (slice_index_or pictures k e)) → AllZip Fills regions pictures
+    → ((k : ℕ) (d : Rect) (e : List Rect) → k < length regions → Fills (slice_index_or regions k d) (slice_index_or pictures k e))
+    → AllZip Fills regions pictures
 
 -- and so do pictures that stand in them
 abbrev pub PlacedByIndex : Type 0
 PlacedByIndex =
     (columns rows : List ℕ) (regions : List Rect) (pictures : List Numbers) → length regions ≡ length pictures
-    → ((k : ℕ) (d : Rect) (e : Numbers) → k < length regions → IsPlaced columns rows (slice_index_or regions k d) (slice_index_or pictures k e)) → AllZip (IsPlaced columns rows) regions pictures
+    → ((k : ℕ) (d : Rect) (e : Numbers) → k < length regions
+    → IsPlaced columns rows (slice_index_or regions k d) (slice_index_or pictures k e))
+    → AllZip (IsPlaced columns rows) regions pictures
 
 -- the frame's slices cover it once where the regions do
 abbrev pub FrameSlicesCoverOnce : Type 0
 FrameSlicesCoverOnce =
-    (regions : List Rect) (pictures : List (List Rect)) (w h : ℕ) → CoversOnce regions w h → AllZip Fills regions pictures → CoversOnce (frame_slices regions pictures) w h
+    (regions : List Rect) (pictures : List (List Rect)) (w h : ℕ) → CoversOnce regions w h → AllZip Fills regions pictures
+    → CoversOnce (frame_slices regions pictures) w h
 
 -- the frame's slices stand in order where the regions do, and the slices of each picture
 abbrev pub FrameSlicesStandInOrder : Type 0
 FrameSlicesStandInOrder =
-    (regions : List Rect) (pictures : List (List Rect)) → AllPairs Precedes regions → AllZip Fills regions pictures → All (AllPairs Precedes) pictures
+    (regions : List Rect) (pictures : List (List Rect)) → AllPairs Precedes regions → AllZip Fills regions pictures
+    → All (AllPairs Precedes) pictures
     → AllPairs Precedes (frame_slices regions pictures)
 
 -- region by region the frame's slices are its slice list itself
 abbrev pub FrameSlicesAreInOrder : Type 0
 FrameSlicesAreInOrder =
-    (regions : List Rect) (pictures : List (List Rect)) (w h : ℕ) → All (IsPart w h) regions → CoversOnce regions w h → AllZip Fills regions pictures
+    (regions : List Rect) (pictures : List (List Rect)) (w h : ℕ) → All (IsPart w h) regions → CoversOnce regions w h
+    → AllZip Fills regions pictures
     → in_order (frame_slices regions pictures) regions ≡ frame_slices regions pictures
 
 -- the frame's slices in a region are those of the picture there, moved to the region's corner
 abbrev pub FrameSlicesOfRegion : Type 0
 FrameSlicesOfRegion =
-    (regions : List Rect) (pictures : List (List Rect)) (w h k : ℕ) (d : Rect) (e : List Rect) → All (IsPart w h) regions → CoversOnce regions w h → AllZip Fills regions pictures → k < length regions
-    → slices_of (frame_slices regions pictures) (slice_index_or regions k d) ≡ map (moved_to (slice_index_or regions k d)) (slice_index_or pictures k e)
+    (regions : List Rect) (pictures : List (List Rect)) (w h k : ℕ) (d : Rect) (e : List Rect) → All (IsPart w h) regions
+    → CoversOnce regions w h → AllZip Fills regions pictures → k < length regions
+    → slices_of (frame_slices regions pictures) (slice_index_or regions k d)
+    ≡ map (moved_to (slice_index_or regions k d)) (slice_index_or pictures k e)
 
 -- counted from the corner they are the picture's own
 abbrev pub FrameSlicesOfRegionCounted : Type 0
 FrameSlicesOfRegionCounted =
-    (regions : List Rect) (pictures : List (List Rect)) (w h k : ℕ) (d : Rect) (e : List Rect) → All (IsPart w h) regions → CoversOnce regions w h → AllZip Fills regions pictures → k < length regions
-    → map (counted_from (slice_index_or regions k d)) (slices_of (frame_slices regions pictures) (slice_index_or regions k d)) ≡ slice_index_or pictures k e
+    (regions : List Rect) (pictures : List (List Rect)) (w h k : ℕ) (d : Rect) (e : List Rect) → All (IsPart w h) regions
+    → CoversOnce regions w h → AllZip Fills regions pictures → k < length regions
+    → map (counted_from (slice_index_or regions k d)) (slices_of (frame_slices regions pictures) (slice_index_or regions k d))
+    ≡ slice_index_or pictures k e
 
 -- each slice of the frame lies in a region
 abbrev pub FrameSlicesFit : Type 0
 FrameSlicesFit =
-    (regions : List Rect) (pictures : List (List Rect)) → AllZip Fills regions pictures → All (λ r. Any (λ s. fits r s ≡ true) regions) (frame_slices regions pictures)
+    (regions : List Rect) (pictures : List (List Rect)) → AllZip Fills regions pictures
+    → All (λ r. Any (λ s. fits r s ≡ true) regions) (frame_slices regions pictures)
 
 -- the slices of one region more come behind those so far
 abbrev pub FrameSlicesGrow : Type 0
 FrameSlicesGrow =
     (regions : List Rect) (pictures : List (List Rect)) (k : ℕ) (d : Rect) (e : List Rect) → k < length regions → k < length pictures
-    → frame_slices (take (k + 1) regions) (take (k + 1) pictures) ≡ frame_slices (take k regions) (take k pictures) ++ map (moved_to (slice_index_or regions k d)) (slice_index_or pictures k e)
+    → frame_slices (take (k + 1) regions) (take (k + 1) pictures)
+    ≡ frame_slices (take k regions) (take k pictures) ++ map (moved_to (slice_index_or regions k d)) (slice_index_or pictures k e)
 
 -- a frame is a layout where the pictures stand in its regions, and these cover it and stand in order
 abbrev pub FrameIsLayout : Type 0
 FrameIsLayout =
-    (columns rows : List ℕ) (regions : List Rect) (pictures : List Numbers) → SubpicsCover (frame_of columns rows regions pictures) → AllPairs Precedes regions → AllZip (IsPlaced columns rows) regions pictures
+    (columns rows : List ℕ) (regions : List Rect) (pictures : List Numbers)
+    → SubpicsCover (frame_of columns rows regions pictures) → AllPairs Precedes regions
+    → AllZip (IsPlaced columns rows) regions pictures
     → IsLayout (frame_of columns rows regions pictures)
 
 -- its region k is picture k
 abbrev pub FrameHasPictures : Type 0
 FrameHasPictures =
-    (columns rows : List ℕ) (regions : List Rect) (pictures : List Numbers) (k : ℕ) (d : Numbers) → Rises columns → Rises rows → SubpicsCover (frame_of columns rows regions pictures) → AllZip (IsPlaced columns rows) regions pictures → k < length regions
+    (columns rows : List ℕ) (regions : List Rect) (pictures : List Numbers) (k : ℕ) (d : Numbers) → Rises columns
+    → Rises rows → SubpicsCover (frame_of columns rows regions pictures) → AllZip (IsPlaced columns rows) regions pictures
+    → k < length regions
     → region_of (frame_of columns rows regions pictures) k ≡ slice_index_or pictures k d
 
 -- and it is a layout as one subpicture too, where it has a region
 abbrev pub FrameAloneIsLayout : Type 0
 FrameAloneIsLayout =
-    (columns rows : List ℕ) (regions : List Rect) (pictures : List Numbers) → Rises columns → Rises rows → 0 < length regions → SubpicsCover (frame_of columns rows regions pictures) → AllPairs Precedes regions → AllZip (IsPlaced columns rows) regions pictures
+    (columns rows : List ℕ) (regions : List Rect) (pictures : List Numbers) → Rises columns → Rises rows
+    → 0 < length regions → SubpicsCover (frame_of columns rows regions pictures) → AllPairs Precedes regions
+    → AllZip (IsPlaced columns rows) regions pictures
     → IsLayout (with_one_subpic (frame_of columns rows regions pictures))
 
 -- its slices can be listed tile by tile where each picture's can, and the regions of one tile stand next to one another
 abbrev pub FrameIsListable : Type 0
 FrameIsListable =
-    (columns rows : List ℕ) (regions : List Rect) (pictures : List Numbers) → Rises rows → SubpicsCover (frame_of columns rows regions pictures) → AllZip (IsPlaced columns rows) regions pictures
-    → TilesHoldRuns columns rows regions → All (λ p. AreListable p.columns p.rows p.slices) pictures → AreListable columns rows (frame_of columns rows regions pictures).slices
+    (columns rows : List ℕ) (regions : List Rect) (pictures : List Numbers) → Rises rows
+    → SubpicsCover (frame_of columns rows regions pictures) → AllZip (IsPlaced columns rows) regions pictures
+    → TilesHoldRuns columns rows regions → All (λ p. AreListable p.columns p.rows p.slices) pictures
+    → AreListable columns rows (frame_of columns rows regions pictures).slices

@@ -32,7 +32,8 @@ SlicesCoverSubpicture =
 -- what a slice holds are CTUs of the picture
 abbrev pub SlicesLieInPicture : Type 0
 SlicesLieInPicture =
-    (n : Numbers) (i x y : ℕ) → IsLayout n → i < length (in_order n.slices n.subpics) → holds (ordered_at n i) x y ≡ true → (x < width n) × (y < height n)
+    (n : Numbers) (i x y : ℕ) → IsLayout n → i < length (in_order n.slices n.subpics) → holds (ordered_at n i) x y ≡ true
+    → (x < width n) × (y < height n)
 
 -- a slice that holds a CTU comes no later than a slice that holds one not further left and not further up
 abbrev pub SlicesRunRightAndDown : Type 0
@@ -58,13 +59,16 @@ CutsNest =
 
 -- slice m of a region is slice m of the subpicture, counted from its corner
 abbrev pub RegionKeepsSlices : Type 0
-RegionKeepsSlices = (n : Numbers) (k m : ℕ) → m < length (slices_in n k) → slice_at (region_of n k) 0 m ≡ counted_from (subpic_at n k) (slice_at n k m)
+RegionKeepsSlices =
+    (n : Numbers) (k m : ℕ) → m < length (slices_in n k)
+    → slice_at (region_of n k) 0 m ≡ counted_from (subpic_at n k) (slice_at n k m)
 
 -- and the CTUs of the two are the same in the same order, but for the corner
 abbrev pub RegionKeepsCtus : Type 0
 RegionKeepsCtus =
     (n : Numbers) (k m : ℕ) → HasLayout n → k < length n.subpics → m < length (slices_in n k)
-    → ctus n.columns n.rows (slice_at n k m) ≡ map (moved (subpic_at n k).x (subpic_at n k).y) (ctus (region_of n k).columns (region_of n k).rows (slice_at (region_of n k) 0 m))
+    → ctus n.columns n.rows (slice_at n k m)
+    ≡ map (moved (subpic_at n k).x (subpic_at n k).y) (ctus (region_of n k).columns (region_of n k).rows (slice_at (region_of n k) 0 m))
 
 -- a region's slices can be listed tile by tile where a layout's can
 abbrev pub RegionIsListable : Type 0
@@ -97,4 +101,5 @@ BoundsBySizes = (bounds : List ℕ) → Rises bounds → 2 ≤ length bounds →
 -- from the heights that are written all heights follow, by the rule for tile sizes
 abbrev pub HeightsAreReadBack : Type 0
 HeightsAreReadBack =
-    (heights : List ℕ) → 0 < length heights → All (λ height. 1 ≤ height) heights → tile_sizes (written_heights heights) (sum heights) ≡ heights
+    (heights : List ℕ) → 0 < length heights → All (λ height. 1 ≤ height) heights
+    → tile_sizes (written_heights heights) (sum heights) ≡ heights

@@ -5,7 +5,6 @@ use Rattle.vx_layout.specs.declared.numbers.Numbers.{Numbers}
 use Rattle.vx_layout.specs.declared.rect.Rect.{Rect}
 use Rattle.vx_layout.specs.Bounds.{Rises}
 use Rattle.vx_layout.specs.Faults.{IsInLimits, IsLayout}
-use Rattle.vx_layout.specs.Groups.{AreGroups}
 use Rattle.vx_layout.specs.Rects.{in_order, slices_of}
 
 -- no rectangle: what stands past the end of a list
@@ -34,8 +33,3 @@ pub record HasLayout (n : Numbers) : Type 0 where
   pub limits : IsInLimits n
   pub columns : Rises n.columns
   pub rows : Rises n.rows
-
--- and the groups that the layout keeps beside them
-pub record IsKept (n : Numbers) (groups : List (List Rect)) : Type 0 where
-  pub layout : HasLayout n
-  pub groups_are : AreGroups groups n.slices n.subpics

@@ -11,7 +11,8 @@ holds r x y = (nat_le r.x x && nat_lt x (r.x + r.w)) && (nat_le r.y y && nat_lt 
 unfoldable pub fits : Rect → Rect → Bool
 fits inner outer =
     (inner.w == 0 || inner.h == 0) ||
-    ((nat_le outer.x inner.x && nat_le (inner.x + inner.w) (outer.x + outer.w)) && (nat_le outer.y inner.y && nat_le (inner.y + inner.h) (outer.y + outer.h)))
+    ((nat_le outer.x inner.x && nat_le (inner.x + inner.w) (outer.x + outer.w)) &&
+    (nat_le outer.y inner.y && nat_le (inner.y + inner.h) (outer.y + outer.h)))
 
 -- each CTU of a picture of w times h CTUs lies in exactly one of the rectangles
 abbrev pub CoversOnce : List Rect → ℕ → ℕ → Type 0

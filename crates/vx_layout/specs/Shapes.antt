@@ -29,7 +29,8 @@ AreTilesOrRows columns rows r = AreTiles columns rows r ⊎ ((t : Rect) × AreRo
 -- the rectangles that lie in t stand next to one another in the list
 abbrev pub StandTogether : List Rect → Rect → Type 0
 StandTogether rects t =
-    (i j k : ℕ) (d : Rect) → i < j → j < k → k < length rects → fits (slice_index_or rects i d) t ≡ true → fits (slice_index_or rects k d) t ≡ true → fits (slice_index_or rects j d) t ≡ true
+    (i j k : ℕ) (d : Rect) → i < j → j < k → k < length rects → fits (slice_index_or rects i d) t ≡ true
+    → fits (slice_index_or rects k d) t ≡ true → fits (slice_index_or rects j d) t ≡ true
 
 -- slices that hold CTUs, are of one of these shapes, and are listed tile by tile
 pub record AreListable (columns rows : List ℕ) (slices : List Rect) : Type 0 where

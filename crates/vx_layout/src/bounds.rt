@@ -97,7 +97,7 @@ pub enum TileError {
     #[error("out of memory")]
     Memory,
     /// The explicit sizes pass the total first at this index.
-    #[error("size {0} passes the total")]
+    #[error("the sizes pass the total")]
     Overflow(usize),
 }
 

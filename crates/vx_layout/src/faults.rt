@@ -3,8 +3,8 @@ ghost use Rattle.std.specs.Prelude.{◌≡◌, ℕ, ◌<◌, ◌≤◌, All, len
 ghost use Rattle.std.specs.Bool.{OnTrue, OnFalse};
 ghost use Rattle.vx_layout.specs.Bounds.{last};
 ghost use Rattle.vx_layout.specs.Faults.{IfFault, IsInLimits, SlicesCover, SlicesFit, SlicesInOrder, SubpicsCover, TilesSplit, height, order_fault, slice_cover_fault, subpics_fault, tile_split_fault, width};
-ghost use Rattle.vx_layout.specs.Groups.{AreGroups};
-ghost use Rattle.vx_layout.specs.Marks.{IsMapOf};
+ghost use Rattle.vx_layout.specs.inner.Groups.{AreGroups};
+ghost use Rattle.vx_layout.specs.inner.Marks.{IsMapOf};
 ghost use Rattle.vx_layout.specs.Rects.{IsPart};
 
 use crate::grid::Grid;

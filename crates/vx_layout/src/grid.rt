@@ -17,10 +17,10 @@ pub struct Grid {
 impl Grid {
     ghost use Rattle.std.specs.Prelude.{◌≡◌, ◌↔◌, IsTrue, ℕ, ◌+◌, ◌*◌, ◌<◌, ◌≤◌, ◌≢◌, length, IfOk};
     ghost use Rattle.std.specs.Bool.{OnTrue, OnFalse};
-    ghost use Rattle.vx_layout.specs.Marks.{IsBare, IsRising, IsTaken, IsTakenIn, Paints, PaintsRect, RisesAt, mark_at};
+    ghost use Rattle.vx_layout.specs.inner.Marks.{IsBare, IsRising, IsTaken, IsTakenIn, Paints, PaintsRect, RisesAt, mark_at};
 
     /// A picture with the mark 0 at each CTU.
-    #[tactic(auto, unfolding(crate::specs::Marks::mark_at))]
+    #[tactic(auto, unfolding(crate::specs::inner::Marks::mark_at))]
     pub fn new(alloc: Global, width: usize, height: usize) -> Result<Grid, AllocError>
         requires { (width ≤ 512) × (height ≤ 512) }
         ensures size { IfOk result (λ g. (g.width ≡ width) × (g.height ≡ height)) }
@@ -41,7 +41,7 @@ impl Grid {
     }
 
     /// The mark of a CTU.
-    #[tactic(auto, unfolding(crate::specs::Marks::mark_at))]
+    #[tactic(auto, unfolding(crate::specs::inner::Marks::mark_at))]
     pub fn at(&self, x: usize, y: usize) -> u32
         requires { (x < self.now.width) × (y < self.now.height) }
         ensures { result ≡ mark_at self.now x y }
@@ -50,7 +50,7 @@ impl Grid {
     }
 
     /// Gives a CTU a mark.
-    #[tactic(auto, unfolding(crate::specs::Marks::mark_at))]
+    #[tactic(auto, unfolding(crate::specs::inner::Marks::mark_at))]
     fn set(&mut self, x: usize, y: usize, mark: u32)
         requires { (x < self.old.width) × (y < self.old.height) }
         ensures width { self.new.width ≡ self.old.width }

@@ -2,8 +2,8 @@
 ghost use Rattle.std.specs.Prelude.{◌≡◌, ℕ, ◌<◌, ◌≤◌, true, List, [], ◌∷◌, ◌++◌, All, Any, length, vec_len, OnOk, IfOk, IfErr, MatchOption};
 ghost use Rattle.std.specs.List.{flat_map, slice_index_or};
 ghost use Rattle.vx_layout.specs.Faults.{IfFault, SlicesFit, SubpicsCover, height, slice_split_fault, width};
-ghost use Rattle.vx_layout.specs.Groups.{Adds, AreGroups, IsOwner};
-ghost use Rattle.vx_layout.specs.Marks.{IsMapOf};
+ghost use Rattle.vx_layout.specs.inner.Groups.{Adds, AreGroups, IsOwner};
+ghost use Rattle.vx_layout.specs.inner.Marks.{IsMapOf};
 ghost use Rattle.vx_layout.specs.Rects.{IsPart, fits};
 ghost use Rattle.vx_layout.specs.declared.rect.Rect.{Rect};
 

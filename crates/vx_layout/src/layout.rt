@@ -1,7 +1,7 @@
 //! A picture's layout: numbers without a fault, and its slices by subpicture and address.
 ghost use Rattle.std.specs.Prelude.{OnOk, IfOk, IfErr};
 ghost use Rattle.vx_layout.specs.Faults.{IfFault, IsInLimits, IsLayout, IsLowestFault};
-ghost use Rattle.vx_layout.specs.Groups.{AreGroups};
+ghost use Rattle.vx_layout.specs.inner.Groups.{AreGroups};
 
 use crate::entry::count_entries;
 use crate::faults::{check_order, check_slices, check_subpics, check_tiles};
@@ -23,7 +23,7 @@ pub struct Layout {
 
 impl Model for Layout {
     ghost use Rattle.vx_layout.specs.declared.numbers.Numbers.{Numbers};
-    ghost use Rattle.vx_layout.specs.Layouts.{IsKept};
+    ghost use Rattle.vx_layout.specs.inner.Groups.{IsKept};
 
     ghost Value = { Numbers };
 

@@ -4,37 +4,35 @@
 mod bounds;
 mod entry;
 mod faults;
-mod frame_laws;
 mod grid;
 mod groups;
 mod laws;
+mod laws_frames;
 mod layout;
 mod lines;
 mod numbers;
 mod paint;
-mod plain;
 mod rect;
 mod region;
 
 pub use bounds::{Bounds, TileError, tile_bounds};
-pub use frame_laws::{
-    cut_bounds_are_own, first_begins_and_last_ends, frame_alone_is_layout, frame_is_layout,
-    frame_is_listable, frame_slices_cover_once, frame_slices_fit, frame_slices_grow,
-    frame_slices_of_region, frame_slices_stand_in_order, moving_undoes_counting, pictures_by_index,
-    placed_fills, runs_fill_tiles, split_by_borders,
-};
 pub use laws::{
     bounds_by_members, bounds_by_sizes, bounds_reach_total, fits_by_ctus, heights_are_read_back,
     in_order_covers_once, listed_are_sizes, lowest_fault_is_one, region_is_layout,
     region_is_listable, region_keeps_slices, regions_nest, slices_begin_and_end,
     slices_cover_subpicture, slices_run_right_and_down,
 };
+pub use laws_frames::{
+    cut_bounds_are_own, first_begins_and_last_ends, frame_alone_is_layout, frame_is_layout,
+    frame_is_listable, frame_slices_cover_once, frame_slices_fit, frame_slices_grow,
+    frame_slices_of_region, frame_slices_stand_in_order, moving_undoes_counting, pictures_by_index,
+    placed_fills, runs_fill_tiles, split_by_borders,
+};
 pub use layout::Layout;
 pub use numbers::{
     LayoutError, Numbers, ORDER_FAULT, SLICE_COVER_FAULT, SLICE_SPLIT_FAULT, SUBPICS_FAULT,
     TILE_SPLIT_FAULT,
 };
-pub use plain::first_fault;
 pub use rect::{Rect, RectList};
 
 #[cfg(test)]

@@ -1,7 +1,7 @@
 //! Look-up tables that tell in constant time which numbers are bounds, and whether one stands between two numbers.
 ghost use Rattle.std.specs.Prelude.{◌≡◌, ℕ, ◌+◌, ◌<◌, length, IfOk};
 ghost use Rattle.vx_layout.specs.Bounds.{Rises};
-ghost use Rattle.vx_layout.specs.Lines.{AreNextBounds, is_line, none_between, splits_by};
+ghost use Rattle.vx_layout.specs.inner.Lines.{AreNextBounds, is_line, none_between, splits_by};
 
 use crate::bounds::Bounds;
 use crate::rect::Rect;
@@ -22,7 +22,7 @@ pub fn next_bounds(alloc: Global, bounds: &Bounds) -> Result<Vec<u32>, AllocErro
 }
 
 /// Whether the borders of a subpicture stand where the tiles allow it.
-#[tactic(auto, unfolding(crate::specs::Lines::splits_by))]
+#[tactic(auto, unfolding(crate::specs::inner::Lines::splits_by))]
 pub fn splits_by(subpic: Rect, columns: &[u32], rows: &[u32]) -> bool
     requires columns { (0 < subpic.w) × (subpic.x + subpic.w < length columns.now) }
     requires rows { (0 < subpic.h) × (subpic.y + subpic.h < length rows.now) }

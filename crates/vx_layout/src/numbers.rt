@@ -36,7 +36,7 @@ pub enum LayoutError {
     #[error("out of memory")]
     Memory,
     /// The lowest fault that the numbers have, from [`SUBPICS_FAULT`] to [`ORDER_FAULT`].
-    #[error("layout fault {0}")]
+    #[error("tiles, slices and subpictures are no layout")]
     Fault(u8),
 }
 

@@ -1,6 +1,6 @@
 //! Painting all rectangles of a list on a picture's CTUs.
 ghost use Rattle.std.specs.Prelude.{◌<◌, ◌≤◌, ◌^◌, length, IfOk, MatchOption};
-ghost use Rattle.vx_layout.specs.Marks.{IsMapOf};
+ghost use Rattle.vx_layout.specs.inner.Marks.{IsMapOf};
 ghost use Rattle.vx_layout.specs.Rects.{CoversOnce};
 
 use crate::grid::Grid;

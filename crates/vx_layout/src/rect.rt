@@ -3,8 +3,8 @@ ghost use Rattle.std.specs.Prelude.{◌≡◌, ◌==◌, ◌+◌, ◌<◌, ◌�
 ghost use Rattle.std.specs.Bool.{OnTrue, OnFalse};
 ghost use Rattle.vx_layout.specs.Regions.{counted_from};
 ghost use Rattle.vx_layout.specs.Rects.{IsPart, Precedes, fits, holds};
+ghost use Rattle.vx_layout.specs.inner.Neighbours.{meet, precedes};
 
-use crate::plain::precedes;
 use vx_bits::CopyList;
 
 /// A rectangle of CTUs: its left column, its upper row, its width and its height.
@@ -102,4 +102,28 @@ fn ends_by(from: u32, size: u32, limit: u32) -> bool
     ensures { IsTrue result ↔ ((0 < size) × (from + size ≤ limit)) }
 {
     0 < size && u64::from(from) + u64::from(size) <= u64::from(limit)
+}
+
+/// Whether no CTU of `r` has its left or its upper neighbour in `s`, by their borders.
+#[tactic(auto, unfolding(crate::specs::inner::Neighbours::precedes))]
+fn precedes(r: Rect, s: Rect) -> bool
+    ensures { result ≡ precedes r s }
+{
+    let beside = meet(r.x, r.w, s.x, s.w, 1) && meet(r.y, r.h, s.y, s.h, 0);
+    let below = meet(r.x, r.w, s.x, s.w, 0) && meet(r.y, r.h, s.y, s.h, 1);
+    !beside && !below
+}
+
+/// Whether one of the `size` numbers from `from` on is `step` above one of the `other_size` numbers from `other` on.
+#[tactic(auto, unfolding(crate::specs::inner::Neighbours::meet))]
+fn meet(from: u32, size: u32, other: u32, other_size: u32, step: u32) -> bool
+    requires { step ≤ 1 }
+    ensures { result ≡ meet from size other other_size step }
+{
+    let (low, high) = (u64::from(from), u64::from(from) + u64::from(size));
+    let (other_low, other_high) = (
+        u64::from(other) + u64::from(step),
+        u64::from(other) + u64::from(other_size) + u64::from(step),
+    );
+    low.max(other_low) < high.min(other_high)
 }

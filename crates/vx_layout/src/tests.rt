@@ -1,11 +1,11 @@
-//! Rows worked by hand, and the fast program against the plain one.
+//! Rows worked by hand, and each call that takes memory at the largest size that it meets in use.
 
-ghost use Rattle.std.specs.Prelude.{◌<◌};
+ghost use Rattle.std.specs.Prelude.{◌<◌, ◌≤◌, length};
 ghost use Rattle.vx_layout.specs.Faults.{IsInLimits};
 
 use crate::{
     Bounds, Layout, LayoutError, Numbers, ORDER_FAULT, Rect, RectList, SLICE_COVER_FAULT,
-    SLICE_SPLIT_FAULT, SUBPICS_FAULT, TILE_SPLIT_FAULT, TileError, first_fault, tile_bounds,
+    SLICE_SPLIT_FAULT, SUBPICS_FAULT, TILE_SPLIT_FAULT, TileError, tile_bounds,
 };
 use std::alloc::{AllocError, Global};
 use std::process::Abort;
@@ -174,21 +174,14 @@ fn entry_points_of_slices(rt: HostRuntime) -> Result<(), Fail> {
     Ok(())
 }
 
-/// The fault of numbers, and 0 where there is none; the plain program has to tell the same.
+/// The fault of numbers, and 0 where there is none.
 fn fault_of(rt: &impl Abort, alloc: Global, n: Numbers) -> Result<u8, AllocError> {
     assert_limits(rt, &n);
-    let plain = match first_fault(alloc, &n) {
-        Ok(()) => 0,
-        Err(LayoutError::Fault(k)) => k,
-        Err(LayoutError::Memory) => return Err(AllocError),
-    };
-    let fast = match Layout::new(alloc, n) {
-        Ok(_) => 0,
-        Err(LayoutError::Fault(k)) => k,
-        Err(LayoutError::Memory) => return Err(AllocError),
-    };
-    assert!(rt; fast == plain);
-    Ok(fast)
+    match Layout::new(alloc, n) {
+        Ok(_) => Ok(0),
+        Err(LayoutError::Fault(k)) => Ok(k),
+        Err(LayoutError::Memory) => Err(AllocError),
+    }
 }
 
 #[test]
@@ -201,138 +194,175 @@ fn lowest_faults(rt: HostRuntime) -> Result<(), Fail> {
         rect(0, 2, 2, 2),
         rect(2, 2, 2, 2),
     ];
-    let rows = [rect(0, 0, 4, 2), rect(0, 2, 4, 2)];
+    let halves = [rect(0, 0, 4, 2), rect(0, 2, 4, 2)];
     let turned = [rect(0, 2, 4, 2), rect(0, 0, 4, 2)];
     let sides = [rect(0, 0, 2, 4), rect(2, 0, 2, 4)];
     let off_lines = [rect(0, 0, 3, 4), rect(3, 0, 1, 4)];
     let short = [rect(0, 0, 4, 3)];
-    assert_eq!(rt;
-        fault_of(&rt, alloc, four_tiles(alloc, &tiles, &[all])?)?,
-        0
-    );
-    assert_eq!(rt;
-        fault_of(&rt, alloc, four_tiles(alloc, &tiles, &short)?)?,
-        SUBPICS_FAULT
-    );
-    assert_eq!(rt;
-        fault_of(&rt, alloc, four_tiles(alloc, &tiles, &off_lines)?)?,
-        TILE_SPLIT_FAULT
-    );
-    assert_eq!(rt;
-        fault_of(&rt, alloc, four_tiles(alloc, &sides[..1], &[all])?)?,
-        SLICE_COVER_FAULT
-    );
-    assert_eq!(rt;
-        fault_of(&rt, alloc, four_tiles(alloc, &rows, &sides)?)?,
-        SLICE_SPLIT_FAULT
-    );
-    assert_eq!(rt;
-        fault_of(&rt, alloc, four_tiles(alloc, &turned, &[all])?)?,
-        ORDER_FAULT
-    );
-    assert_eq!(rt;
-        fault_of(&rt, alloc, four_tiles(alloc, &rows[..1], &short)?)?,
-        SUBPICS_FAULT
-    );
-    assert_eq!(rt;
-        fault_of(&rt, alloc, four_tiles(alloc, &turned, &off_lines)?)?,
-        TILE_SPLIT_FAULT
-    );
-    assert_eq!(rt;
-        fault_of(&rt, alloc, four_tiles(alloc, &rows[..1], &sides)?)?,
-        SLICE_COVER_FAULT
-    );
-    assert_eq!(rt;
-        fault_of(&rt, alloc, four_tiles(alloc, &turned, &sides)?)?,
-        SLICE_SPLIT_FAULT
-    );
+    let rows: [(&[Rect], &[Rect], u8); 10] = [
+        (&tiles, &[all], 0),
+        (&tiles, &short, SUBPICS_FAULT),
+        (&tiles, &off_lines, TILE_SPLIT_FAULT),
+        (&sides[..1], &[all], SLICE_COVER_FAULT),
+        (&halves, &sides, SLICE_SPLIT_FAULT),
+        (&turned, &[all], ORDER_FAULT),
+        (&halves[..1], &short, SUBPICS_FAULT),
+        (&turned, &off_lines, TILE_SPLIT_FAULT),
+        (&halves[..1], &sides, SLICE_COVER_FAULT),
+        (&turned, &sides, SLICE_SPLIT_FAULT),
+    ];
+    for (slices, subpics, fault) in rows {
+        let n = four_tiles(alloc, slices, subpics)?;
+        assert_eq!(rt; fault_of(&rt, alloc, n)?, fault);
+    }
     Ok(())
 }
 
-/// The next number of a generator.
-fn draw(seed: &mut u32, below: u32) -> u32
-    requires { 0 < below }
-    ensures { result < below }
+/// Part `i` of 1,000 of a picture of 512×512 CTUs: 8 columns of 64, and 125 rows of 4, of which the last has 16.
+fn part(i: u32) -> Rect
+    requires { i < 1000 }
 {
-    *seed = seed.wrapping_mul(1_664_525).wrapping_add(1_013_904_223);
-    (*seed >> 16) % below
+    let row = i / 8;
+    let h = if row == 124 { 16 } else { 4 };
+    rect(i % 8 * 64, row * 4, 64, h)
 }
 
-/// A rectangle near a 4×4 picture.
-fn drawn(seed: &mut u32) -> Rect {
-    rect(
-        draw(seed, 3) * 2,
-        draw(seed, 3),
-        draw(seed, 3) * 2,
-        draw(seed, 5),
-    )
+/// The first parts.
+fn parts(alloc: Global, count: u32) -> Result<RectList, AllocError>
+    requires { count ≤ 1000 }
+{
+    let mut list = RectList::new(alloc);
+    for i in 0..count {
+        list.push(part(i))?;
+    }
+    Ok(list)
+}
+
+/// A picture of 512×512 CTUs with a tile for each, of these slices and subpictures.
+fn largest(alloc: Global, slices: RectList, subpics: RectList) -> Result<Numbers, Fail> {
+    Ok(Numbers {
+        columns: tile_bounds(alloc, &[1], 512)?,
+        rows: tile_bounds(alloc, &[1], 512)?,
+        slices,
+        subpics,
+    })
+}
+
+/// Asserts that subpicture `i` has one slice, which is part `i`, and whose CTUs are tiles.
+fn assert_part(rt: &impl Abort, layout: &Layout, i: u32)
+    requires part { i < 1000 }
+    requires subpic { i < length layout.now.subpics }
+{
+    assert!(rt; layout.slice_count(i) == 1);
+    assert!(rt; layout.slice_rect(i, 0) == part(i));
+    let entries = if i < 992 { 64 * 4 - 1 } else { 64 * 16 - 1 };
+    assert!(rt; layout.entry_points(i, 0, false) == entries);
+}
+
+/// Asserts that so it is with each of 1,000 subpictures.
+fn assert_parts(rt: &impl Abort, layout: &Layout)
+    requires { 1000 ≤ length layout.now.subpics }
+{
+    for i in 0..1000 {
+        assert_part(rt, layout, i);
+    }
+}
+
+/// Asserts that numbers are those of the last part.
+fn assert_last(rt: &impl Abort, region: &Numbers) {
+    assert!(rt; region.columns.len() == 65);
+    assert!(rt; region.rows.len() == 17);
+    assert!(rt; region.slices.len() == 1);
+    assert!(rt; region.slices.item(0) == rect(0, 0, 64, 16));
 }
 
 #[test]
-fn random_layouts(rt: HostRuntime) -> Result<(), Fail> {
-    let alloc = rt.alloc();
-    let mut seed = 5;
-    for _round in 0..400 {
-        let left = draw(&mut seed, 3) * 2;
-        let top = draw(&mut seed, 5);
-        let subpics = [rect(0, 0, left, 4), rect(left, 0, 4 - left, 4)];
-        let slices = [
-            rect(0, 0, 4, top),
-            drawn(&mut seed),
-            rect(0, top, 4, 4 - top),
-        ];
-        let n = match draw(&mut seed, 3) {
-            0 => four_tiles(alloc, &slices, &subpics[1..])?,
-            1 => four_tiles(alloc, &slices[..2], &subpics)?,
-            _ => four_tiles(alloc, &slices, &[rect(0, 0, 4, 4)])?,
-        };
-        let _fault = fault_of(&rt, alloc, n)?;
-    }
+fn largest_subpictures(rt: HostRuntime) -> Result<(), Fail> {
+    let n = largest(
+        rt.alloc(),
+        parts(rt.alloc(), 1000)?,
+        parts(rt.alloc(), 1000)?,
+    )?;
+    assert_limits(&rt, &n);
+    assert!(rt; n.subpics.len() == 1000);
+    let layout = Layout::new(rt.alloc(), n)?;
+    assert_parts(&rt, &layout);
+    let region = layout.region(rt.alloc(), 999)?;
+    assert_last(&rt, &region);
     Ok(())
 }
 
-/// A picture of 4×4 CTUs with tiles drawn anew and two or three subpictures, each a slice of its own.
-fn drawn_tiles(alloc: Global, seed: &mut u32) -> Result<Numbers, Fail> {
-    let columns = tile_bounds(alloc, &[1 + draw(seed, 4)], 4)?;
-    let rows = tile_bounds(alloc, &[1 + draw(seed, 4)], 4)?;
-    let (left, top) = (1 + draw(seed, 3), 1 + draw(seed, 3));
-    let parts = match draw(seed, 3) {
-        0 => [
-            rect(0, 0, left, 4),
-            rect(left, 0, 4 - left, top),
-            rect(left, top, 4 - left, 4 - top),
-        ],
-        1 => [
-            rect(0, 0, 4, top),
-            rect(0, top, left, 4 - top),
-            rect(left, top, 4 - left, 4 - top),
-        ],
-        _ => [
-            rect(0, 0, 4, 1),
-            rect(0, 1, 4, top),
-            rect(0, 1 + top, 4, 3 - top),
-        ],
-    };
-    let count = if parts[2].is_empty() { 2 } else { 3 };
-    Ok(numbers(alloc, columns, rows, &parts[..count], &parts[..count])?)
+/// The largest picture with the first parts as its slices, and one subpicture.
+fn with_slices(alloc: Global, count: u32) -> Result<Numbers, Fail>
+    requires { count ≤ 1000 }
+{
+    let all = rects(alloc, &[rect(0, 0, 512, 512)])?;
+    largest(alloc, parts(alloc, count)?, all)
 }
 
 #[test]
-fn random_tiles(rt: HostRuntime) -> Result<(), Fail> {
-    let alloc = rt.alloc();
-    let mut seed = 7;
-    let (mut split, mut whole) = (false, false);
-    for _round in 0..400 {
-        let n = drawn_tiles(alloc, &mut seed)?;
-        match fault_of(&rt, alloc, n)? {
-            TILE_SPLIT_FAULT => split = true,
-            k => {
-                assert_eq!(rt; k, 0);
-                whole = true;
-            }
-        }
-    }
-    assert!(rt; split);
-    assert!(rt; whole);
+fn one_slice_of_many_missing(rt: HostRuntime) -> Result<(), Fail> {
+    let short = with_slices(rt.alloc(), 999)?;
+    assert_eq!(rt; fault_of(&rt, rt.alloc(), short)?, SLICE_COVER_FAULT);
+    Ok(())
+}
+
+#[test]
+fn largest_slice_list(rt: HostRuntime) -> Result<(), Fail> {
+    let n = with_slices(rt.alloc(), 1000)?;
+    assert_limits(&rt, &n);
+    assert!(rt; n.subpics.len() == 1);
+    let layout = Layout::new(rt.alloc(), n)?;
+    assert!(rt; layout.slice_count(0) == 1000);
+    assert!(rt; layout.slice_rect(0, 999) == part(999));
+    let region = layout.region(rt.alloc(), 0)?;
+    assert_eq!(rt; region.columns.len(), 513);
+    assert_eq!(rt; region.slices.len(), 1000);
+    assert!(rt; region.slices.item(999) == part(999));
+    Ok(())
+}
+
+#[test]
+fn members_of_bounds(rt: HostRuntime) -> Result<(), Fail> {
+    let bounds = tile_bounds(rt.alloc(), &[3], 10)?;
+    assert!(rt; bounds.has(0));
+    assert!(rt; bounds.has(3));
+    assert!(rt; bounds.has(10));
+    assert!(rt; !bounds.has(4));
+    assert!(rt; !bounds.has(11));
+    Ok(())
+}
+
+#[test]
+fn order_of_rectangles(rt: HostRuntime) {
+    let r = rect(2, 2, 2, 2);
+    assert!(rt; r.precedes(&rect(4, 2, 1, 1)));
+    assert!(rt; r.precedes(&rect(0, 4, 4, 1)));
+    assert!(rt; r.precedes(&rect(4, 1, 1, 1)));
+    assert!(rt; !r.precedes(&rect(1, 3, 1, 1)));
+    assert!(rt; !r.precedes(&rect(0, 0, 8, 2)));
+}
+
+/// What is printed of an error.
+fn text_of(alloc: Global, error: LayoutError) -> Result<String, Fail> {
+    Ok(format!(in alloc; "{}", error)?)
+}
+
+#[test]
+fn texts_of_layout_errors(rt: HostRuntime) -> Result<(), Fail> {
+    let memory = text_of(rt.alloc(), LayoutError::Memory)?;
+    assert_eq!(rt; memory.as_str(), "out of memory");
+    let fault = text_of(rt.alloc(), LayoutError::Fault(ORDER_FAULT))?;
+    assert_eq!(rt;
+        fault.as_str(),
+        "tiles, slices and subpictures are no layout"
+    );
+    Ok(())
+}
+
+#[test]
+fn text_of_tile_error(rt: HostRuntime) -> Result<(), Fail> {
+    let text = format!(in rt.alloc(); "{}", TileError::Overflow(7))?;
+    assert_eq!(rt; text.as_str(), "the sizes pass the total");
     Ok(())
 }

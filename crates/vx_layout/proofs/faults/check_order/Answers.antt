@@ -1,6 +1,6 @@
 use Rattle.std.proofs.Common.{◌≡◌, ◌*◌, ◌≤◌, length, arith, refl, ap, sym, ◌∙◌, subst}
 use Rattle.vx_layout.specs.Faults.{width, height}
-use Rattle.vx_layout.specs.Marks.{IsMapOf}
+use Rattle.vx_layout.specs.inner.Marks.{IsMapOf}
 use Rattle.vx_layout.specs.Rects.{CoversOnce, in_order}
 use Rattle.vx_layout.proofs.Counting.{in_order-once}
 use Rattle.vx_layout.proofs.Ordering.{AllPairs-rising, rising-AllPairs, AreWithin-in_order, length-in_order-le}

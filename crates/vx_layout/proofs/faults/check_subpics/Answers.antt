@@ -1,6 +1,6 @@
 use Rattle.std.proofs.Common.{refl}
 use Rattle.vx_layout.specs.Faults.{width, height}
-use Rattle.vx_layout.specs.Marks.{IsMapOf}
+use Rattle.vx_layout.specs.inner.Marks.{IsMapOf}
 use Rattle.vx_layout.specs.Rects.{CoversOnce}
 use Rattle.vx_layout.proofs.Marks.{CoversOnce-map}
 use Rattle.vx_layout.proofs.faults.check_subpics.Goals as goal

@@ -1,6 +1,6 @@
 use Rattle.std.proofs.Common.{◌≡◌, true, take}
 use Rattle.std.specs.List.{AllWithin, Any}
-use Rattle.vx_layout.specs.Groups.{AreGroups}
+use Rattle.vx_layout.specs.inner.Groups.{AreGroups}
 use Rattle.vx_layout.specs.Rects.{fits}
 use Rattle.vx_layout.proofs.groups.group_slices.Given as goal
 

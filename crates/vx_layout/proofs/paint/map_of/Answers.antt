@@ -1,6 +1,6 @@
 use Rattle.std.proofs.Common.{◌≡◌, length, arith, ◌∙◌}
 use Rattle.vx_layout.specs.Rects.{CoversOnce}
-use Rattle.vx_layout.specs.Marks.{AreMarks}
+use Rattle.vx_layout.specs.inner.Marks.{AreMarks}
 use Rattle.vx_layout.proofs.Marks.{AreMarks-more, not_once-taken, not_once-bare}
 use Rattle.vx_layout.proofs.paint.map_of.Goals as goal
 

@@ -1,5 +1,5 @@
 use Rattle.std.proofs.Common.{◌≡◌}
-use Rattle.vx_layout.specs.Marks.{AreMarks}
+use Rattle.vx_layout.specs.inner.Marks.{AreMarks}
 use Rattle.vx_layout.proofs.paint.map_of.Given as goal
 
 abbrev pub invariant-loop-k : goal.invariant-loop-k

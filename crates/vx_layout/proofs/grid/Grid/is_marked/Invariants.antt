@@ -1,5 +1,5 @@
 use Rattle.std.proofs.Common.{ℕ, ◌<◌, ◌≢◌}
-use Rattle.vx_layout.specs.Marks.{mark_at}
+use Rattle.vx_layout.specs.inner.Marks.{mark_at}
 use Rattle.vx_layout.proofs.grid.Grid.is_marked.Given as goal
 
 abbrev pub invariant-loop-y : goal.invariant-loop-y

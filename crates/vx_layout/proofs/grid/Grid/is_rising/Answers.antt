@@ -1,6 +1,6 @@
 use Rattle.std.proofs.Common.{◌≡◌, arith, inl, inr, subst}
 use Rattle.std.proofs.lemmas.Bool.{cases_lt}
-use Rattle.vx_layout.specs.Marks.{RisesAt}
+use Rattle.vx_layout.specs.inner.Marks.{RisesAt}
 use Rattle.vx_layout.proofs.grid.Grid.is_rising.Goals as goal
 
 pub loop-y-preserved : goal.loop-y-preserved

@@ -1,5 +1,5 @@
 use Rattle.std.proofs.Common.{ℕ, ◌<◌}
-use Rattle.vx_layout.specs.Marks.{RisesAt}
+use Rattle.vx_layout.specs.inner.Marks.{RisesAt}
 use Rattle.vx_layout.proofs.grid.Grid.is_rising.Given as goal
 
 abbrev pub invariant-loop-y : goal.invariant-loop-y

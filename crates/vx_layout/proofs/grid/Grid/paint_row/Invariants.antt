@@ -1,5 +1,5 @@
 use Rattle.std.proofs.Common.{◌+◌}
-use Rattle.vx_layout.specs.Marks.{Paints}
+use Rattle.vx_layout.specs.inner.Marks.{Paints}
 use Rattle.vx_layout.proofs.grid.Grid.paint_row.Given as goal
 
 abbrev pub invariant-loop-x : goal.invariant-loop-x

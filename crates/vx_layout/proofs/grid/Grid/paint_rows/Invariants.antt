@@ -1,4 +1,4 @@
-use Rattle.vx_layout.specs.Marks.{Paints}
+use Rattle.vx_layout.specs.inner.Marks.{Paints}
 use Rattle.vx_layout.proofs.grid.Grid.paint_rows.Given as goal
 
 abbrev pub invariant-loop-y : goal.invariant-loop-y

@@ -1,4 +1,4 @@
-use Rattle.vx_layout.specs.Marks.{mark_at}
+use Rattle.vx_layout.specs.inner.Marks.{mark_at}
 use Rattle.vx_layout.proofs.Marks.{other_column, other_row}
 use Rattle.vx_layout.proofs.grid.Grid.set.Goals as goal
 

@@ -1,5 +1,0 @@
-use Rattle.vx_layout.proofs.FrameWhole.{frame-alone}
-use Rattle.vx_layout.proofs.frame_laws.frame_alone_is_layout.Goals as goal
-
-pub returns : goal.returns
-returns c = frame-alone

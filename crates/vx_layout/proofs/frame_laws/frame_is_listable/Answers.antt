@@ -1,5 +1,0 @@
-use Rattle.vx_layout.proofs.FrameRuns.{frame-listable}
-use Rattle.vx_layout.proofs.frame_laws.frame_is_listable.Goals as goal
-
-pub returns : goal.returns
-returns c = frame-listable

@@ -1,5 +1,0 @@
-use Rattle.vx_layout.proofs.FrameSlices.{frame-once}
-use Rattle.vx_layout.proofs.frame_laws.frame_slices_cover_once.Goals as goal
-
-pub returns : goal.returns
-returns c = frame-once

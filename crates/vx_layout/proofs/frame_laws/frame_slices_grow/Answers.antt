@@ -1,5 +1,0 @@
-use Rattle.vx_layout.proofs.FrameSlices.{frame-more}
-use Rattle.vx_layout.proofs.frame_laws.frame_slices_grow.Goals as goal
-
-pub returns : goal.returns
-returns c = frame-more

@@ -1,5 +1,0 @@
-use Rattle.vx_layout.proofs.FrameWhole.{slices_fill}
-use Rattle.vx_layout.proofs.frame_laws.placed_fills.Goals as goal
-
-pub returns : goal.returns
-returns c = slices_fill

@@ -1,5 +1,0 @@
-use Rattle.vx_layout.proofs.TileRuns.{runs-fill}
-use Rattle.vx_layout.proofs.frame_laws.runs_fill_tiles.Goals as goal
-
-pub returns : goal.returns
-returns c = runs-fill
