@@ -19,6 +19,7 @@ pub mod Aligned
 pub mod Codings
 pub mod Items
 pub mod Numbers
+mod Example
 pub mod Apart
 pub mod Blocks
 pub mod Readings

@@ -1,30 +1,32 @@
 -- That a structure can be rewritten, part by part.
-use Rattle.std.proofs.Common.{◌≡◌, ◌≢◌, ℕ, ℤ, zero, suc, ◌+◌, ◌<◌, Bool, true, false, ◌==◌, IsTrue, IsFalse, List, [], ◌∷◌, ◌++◌, length, slice_set, refl, ap, sym, ◌∙◌, arith}
-use Rattle.std.specs.Prelude.{not, filter}
+use Rattle.std.proofs.Common.{◌≡◌, ◌≢◌, ℕ, ℤ, zero, suc, ◌+◌, ◌<◌, Bool, true, false, cond, ◌==◌, IsTrue, IsFalse, List, [], ◌∷◌, ◌++◌, length, slice_set, refl, ap, sym, ◌∙◌, arith}
+use Rattle.std.specs.Prelude.{not, filter, All}
 use Rattle.std.proofs.Math.Path.{fun_ext}
-use Rattle.std.proofs.lemmas.Bool.{and_parts}
+use Rattle.std.proofs.lemmas.Bool.{both_ways, and_parts}
 use Rattle.std.proofs.lemmas.List.{get_or-set_other}
-use Rattle.std.proofs.lemmas.List.Elements.{filter-append}
+use Rattle.std.proofs.lemmas.List.Elements.{filter-append, All-cons, All-nil}
 use Rattle.vx_bits.specs.declared.list.Item.{Item}
 use Rattle.vx_table.specs.declared.rows.Formula.{Formula}
+use Rattle.vx_table.specs.declared.rows.Cell.{Cell}
 use Rattle.vx_table.specs.declared.rows.Presence.TheVariants.{When}
 use Rattle.vx_table.specs.Scope.{fresh, is_set, value}
-use Rattle.vx_table.specs.Forms.{Form, done, field, ◌>>=◌, turns, present, form_of}
+use Rattle.vx_table.specs.Forms.{Form, done, field, ◌>>=◌, has_value, turns, present, form_of}
 use Rattle.vx_table.specs.Parts.{Section, sections_form}
 use Rattle.vx_table.specs.Spelling.{item_of, items_along}
 use Rattle.vx_table.specs.Values.{Follows, to_end, through, bits_along}
-use Rattle.vx_table.specs.Depends.{has, Inside, Agree, Carries, IsLeft, Leaves}
+use Rattle.vx_table.specs.EachField.{EachField}
+use Rattle.vx_table.specs.Depends.{has, Inside, Agree, Alike, at_ends, both, hidden_left, hidden_right, Carries, IsLeft, Leaves}
 use Rattle.vx_table.specs.Claims.{hides_counter, hides, hides_section, sections_hide, knows_formula}
 use Rattle.vx_table.specs.Shown.{shown_items}
 use Rattle.vx_table.specs.Again.{AllShown, AlwaysShown}
 use Rattle.vx_table.specs.Rewritten.{other_items}
-use Rattle.vx_table.specs.Rewrites.{Takes, WhatGoesIsRewritten, CopiedRewrites, ReplacedRewrites, RewritesTogether, AbsentRewrites, PresentRewrites, NothingRewrites, AreValues, ValuesTake, TakesAgain, TakesTogether, in_all_turns, TurnsTake, RewrittenIsRead, TablesLeave, SectionsLeave, LeavesTogether, LeavesPresent, LeavesAgree, SectionsTogether}
-use Rattle.vx_table.proofs.Agreeing.{agree_itself, agree_back, agree_on, agree_less, agree_set, agree_outside, same_value}
+use Rattle.vx_table.specs.Rewrites.{Takes, Goes, WhatGoesIsRewritten, CopiedRewrites, ReplacedRewrites, Admits, no_more, at_shown, at_other, MixedRewrites, MayHaveGiven, GivenGoes, RewritesTogether, AbsentRewrites, PresentRewrites, NothingRewrites, AreValues, ValuesTake, TakesAgain, TakesTogether, in_all_turns, TurnsTake, RewrittenIsRead, TablesLeave, SectionsLeave, LeavesTogether, LeavesPresent, LeavesAgree, SectionsTogether}
+use Rattle.vx_table.proofs.Agreeing.{inside_itself, agree_itself, agree_back, agree_on, agree_less, agree_set, agree_outside, same_value}
 use Rattle.vx_table.proofs.Dependence.{left_then, left_present, left_table}
 use Rattle.vx_table.proofs.Again.{follows_again, all_shown_more}
 use Rattle.vx_table.proofs.Joined.{joined, items_joined}
 use Rattle.vx_table.proofs.Rewriting.{other_here, no_other_here}
-use Rattle.vx_table.proofs.Shown.{hidden_here}
+use Rattle.vx_table.proofs.Shown.{shown_here, hidden_here}
 use Rattle.vx_table.proofs.Spelled.{reads_back}
 use Rattle.vx_table.proofs.Apart.{reads_one_way}
 
@@ -123,6 +125,110 @@ replaced_rewrites names none form s values end here leaves follows takes = recor
         other_ones = left_others names t (leaves.at t) there.follows ∙ there.all;
       };
 }
+
+-- ---- parts of both kinds of fields
+
+-- a form that admits others goes with the shown items of a value of an alike one
+refill : {names known : List ℕ} {f g : Form (List ℕ)} {w : List ℤ} {a : List ℕ} {others : List Item} → Alike names known f g → Admits names g others → Inside names known → Follows f w a
+    → Goes names a (shown_items names (items_along f w)) others g
+refill (at_ends {t} agree) no_more inside to_end = record { values = []; last = t; follows = to_end; agree = agree_less inside agree; shown_ones = refl; other_ones = refl }
+refill {names} (both {cell} {goes} {other} is more) (at_shown it_is admits) inside (through {v} {w} value on) =
+    let rest = refill (more v) (admits v value) inside on in
+    record {
+      values = v ∷ rest.values;
+      last = rest.last;
+      follows = through value rest.follows;
+      agree = rest.agree;
+      shown_ones = shown_here names cell v (items_along (other v) rest.values) is ∙ ap (λ x. item_of cell v ++ x) rest.shown_ones ∙ sym (shown_here names cell v (items_along (goes v) w) is);
+      other_ones = no_other_here names cell v (items_along (other v) rest.values) is ∙ rest.other_ones;
+    }
+refill (both is more) (at_other it_is_not value admits) inside on = absurd (both_ways _ it_is_not is)
+refill {names} (hidden_left {cell} {goes} is more) admits inside (through {v} {w} value on) =
+    let rest = refill (more v) admits inside on in
+    record {
+      values = rest.values;
+      last = rest.last;
+      follows = rest.follows;
+      agree = rest.agree;
+      shown_ones = rest.shown_ones ∙ sym (hidden_here names cell v (items_along (goes v) w) is);
+      other_ones = rest.other_ones;
+    }
+refill {names} (hidden_right {cell} {goes} is more) (at_other {v} it_is_not value admits) inside on =
+    let rest = refill (more v) admits inside on in
+    record {
+      values = v ∷ rest.values;
+      last = rest.last;
+      follows = through value rest.follows;
+      agree = rest.agree;
+      shown_ones = hidden_here names cell v (items_along (goes v) rest.values) is ∙ rest.shown_ones;
+      other_ones = other_here names cell v (items_along (goes v) rest.values) is ∙ ap (λ x. item_of cell v ++ x) rest.other_ones;
+    }
+refill (hidden_right is more) (at_shown it_is admits) inside on = absurd (both_ways _ is it_is)
+
+pub mixed_rewrites : MixedRewrites
+mixed_rewrites names none after form s values end others carries follows admits = record {
+  at = λ t agree fresh_there. refill (carries.alike (inside_itself names) s t agree) (admits t agree fresh_there) carries.grows follows;
+}
+
+-- an item of the value that is given to its field
+given_item : (given : ℕ → ℤ) (cell : Cell ℕ) (others : List Item) → All (λ item. item.value ≡ given item.field) others → All (λ item. item.value ≡ given item.field) (item_of cell (given cell.field) ++ others)
+unfolding item_of
+given_item given cell others all = elim (has_value cell.coding)
+    as (λ b. All (λ item. item.value ≡ given item.field) (cond b (record { field = cell.field; value = given cell.field } ∷ []) [] ++ others)) [
+      | true ↦ All-cons (λ item. item.value ≡ given item.field) (record { field = cell.field; value = given cell.field }) others refl all
+      | false ↦ all
+    ]
+
+fill_given : {names known : List ℕ} {f g : Form (List ℕ)} {w : List ℤ} {a : List ℕ} (given : ℕ → ℤ) → Alike names known f g → EachField (MayHaveGiven names given) g → Inside names known → Follows f w a
+    → (others : List Item) × Goes names a (shown_items names (items_along f w)) others g × All (λ item. item.value ≡ given item.field) others
+fill_given given (at_ends {t} agree) may inside to_end =
+    ([], record { values = []; last = t; follows = to_end; agree = agree_less inside agree; shown_ones = refl; other_ones = refl }, All-nil (λ item. item.value ≡ given item.field))
+fill_given {names} given (both {cell} {goes} {other} is more) may inside (through {v} {w} value on) =
+    let rest = fill_given given (more v) (may.1 v) inside on in
+    let there = rest.1 in (
+      rest.0,
+      record {
+        values = v ∷ there.values;
+        last = there.last;
+        follows = through value there.follows;
+        agree = there.agree;
+        shown_ones = shown_here names cell v (items_along (other v) there.values) is ∙ ap (λ x. item_of cell v ++ x) there.shown_ones ∙ sym (shown_here names cell v (items_along (goes v) w) is);
+        other_ones = no_other_here names cell v (items_along (other v) there.values) is ∙ there.other_ones;
+      },
+      rest.2,
+    )
+fill_given {names} given (hidden_left {cell} {goes} is more) may inside (through {v} {w} value on) =
+    let rest = fill_given given (more v) may inside on in
+    let there = rest.1 in (
+      rest.0,
+      record {
+        values = there.values;
+        last = there.last;
+        follows = there.follows;
+        agree = there.agree;
+        shown_ones = there.shown_ones ∙ sym (hidden_here names cell v (items_along (goes v) w) is);
+        other_ones = there.other_ones;
+      },
+      rest.2,
+    )
+fill_given {names} given (hidden_right {cell} {goes} is more) may inside on =
+    let v : ℤ = given cell.field in
+    let rest = fill_given given (more v) (may.1 v) inside on in
+    let there = rest.1 in (
+      item_of cell v ++ rest.0,
+      record {
+        values = v ∷ there.values;
+        last = there.last;
+        follows = through (may.0 is) there.follows;
+        agree = there.agree;
+        shown_ones = hidden_here names cell v (items_along (goes v) there.values) is ∙ there.shown_ones;
+        other_ones = other_here names cell v (items_along (goes v) there.values) is ∙ ap (λ x. item_of cell v ++ x) there.other_ones;
+      },
+      given_item given cell rest.0 rest.2,
+    )
+
+pub given_goes : GivenGoes
+given_goes names known given f g values end alike may inside follows = fill_given given alike may inside follows
 
 -- the items of the set, and the others, of one form behind another
 both_items : (p : Item → Bool) {f : Form (List ℕ)} (next : List ℕ → Form (List ℕ)) {v : List ℤ} (w : List ℤ) {a : List ℕ} → Follows f v a

@@ -75,7 +75,7 @@ stopped {form = field cell goes} {old} {new} (coded {d} {v} s walk) =
 
 -- ---- items tell their values
 
-apart : {A : Type 0} {form : Form A} {v w : List ℤ} {a b : A} (r s : List Item) → Follows form v a → Follows form w b → items_along form v ++ r ≡ items_along form w ++ s → (v ≡ w) × (r ≡ s) × (a ≡ b)
+pub apart : {A : Type 0} {form : Form A} {v w : List ℤ} {a b : A} (r s : List Item) → Follows form v a → Follows form w b → items_along form v ++ r ≡ items_along form w ++ s → (v ≡ w) × (r ≡ s) × (a ≡ b)
 apart r s to_end to_end same = (refl, same, refl)
 apart {form = field cell goes} {b} r s (through {v} {w} is more) (through {v = u} {w = us} other others) same =
     let first = item_apart cell {v = v} {w = u} (items_along (goes v) w ++ r) (items_along (goes u) us ++ s) is.code other.code

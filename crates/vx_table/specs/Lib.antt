@@ -22,3 +22,4 @@ pub mod Shown
 pub mod Rewritten
 pub mod Rewrites
 pub mod Loaded
+pub mod inner

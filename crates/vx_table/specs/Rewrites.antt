@@ -1,14 +1,17 @@
 -- That a structure can be rewritten, part by part: fields of a set go through again, and others are replaced by given items.
-use Rattle.std.specs.Prelude.{◌≡◌, ℕ, ℤ, ◌+◌, ◌<◌, zero, suc, Bool, true, false, ◌==◌, IsFalse, List, [], ◌∷◌, ◌++◌, length, slice_set}
+use Rattle.std.specs.Prelude.{◌≡◌, ℕ, ℤ, ◌+◌, ◌<◌, zero, suc, Bool, true, false, ◌==◌, IsTrue, IsFalse, All, List, [], ◌∷◌, ◌++◌, length}
+use Rattle.std.specs.Prelude.{slice_set}
 use Rattle.vx_bits.specs.declared.list.Item.{Item}
 use Rattle.vx_table.specs.declared.rows.Formula.{Formula}
+use Rattle.vx_table.specs.declared.rows.Cell.{Cell}
 use Rattle.vx_table.specs.declared.rows.Presence.TheVariants.{When}
 use Rattle.vx_table.specs.declared.rows.Row.{Row}
 use Rattle.vx_table.specs.Scope.{fresh, value}
 use Rattle.vx_table.specs.Forms.{Form, done, field, ◌>>=◌, turns, present, form_of}
 use Rattle.vx_table.specs.Parts.{Section, sections_form}
-use Rattle.vx_table.specs.Spelling.{Spells, items_along}
+use Rattle.vx_table.specs.Spelling.{Spells, item_of, items_along}
 use Rattle.vx_table.specs.Values.{IsValueOf, Follows, Parted, bits_along, Closes}
+use Rattle.vx_table.specs.EachField.{EachField}
 use Rattle.vx_table.specs.Depends.{has, Inside, Agree, Alike, Carries, Leaves}
 use Rattle.vx_table.specs.Claims.{knows_formula, hides, sections_hide}
 use Rattle.vx_table.specs.Shown.{shown_items}
@@ -57,6 +60,32 @@ abbrev pub ReplacedRewrites : Type 0
 ReplacedRewrites = (names none : List ℕ) (form : List ℕ → Form (List ℕ)) (s : List ℕ) (values : List ℤ) (end : List ℕ) (here : List Item)
     → Leaves names form → Follows (form s) values end → ((t : List ℕ) → Agree names s t → Agree none fresh t → Takes (form t) here)
     → Rewrites names none form s values end here
+
+-- The items of the set's fields, whatever values they have, and these others go through the form.
+pub data Admits (names : List ℕ) : Form (List ℕ) → List Item → Type 0 where
+  no_more : {s : List ℕ} → Admits names (done s) []
+  at_shown : {cell : Cell ℕ} {goes : ℤ → Form (List ℕ)} {others : List Item} → IsTrue (has names cell.field)
+      → ((v : ℤ) → IsValueOf cell v → Admits names (goes v) others) → Admits names (field cell goes) others
+  at_other : {cell : Cell ℕ} {goes : ℤ → Form (List ℕ)} {v : ℤ} {others : List Item} → IsFalse (has names cell.field)
+      → IsValueOf cell v → Admits names (goes v) others → Admits names (field cell goes) (item_of cell v ++ others)
+
+-- a part of both kinds of fields, which admits the others whatever the set's fields are
+abbrev pub MixedRewrites : Type 0
+MixedRewrites = (names none after : List ℕ) (form : List ℕ → Form (List ℕ)) (s : List ℕ) (values : List ℤ) (end : List ℕ)
+    (others : List Item)
+    → Carries names names after form → Follows (form s) values end
+    → ((t : List ℕ) → Agree names s t → Agree none fresh t → Admits names (form t) others) → Rewrites names none form s values end others
+
+-- or in which each other field may have a value that is given to its number: then so go the set's items with others of these values,
+-- however many there are
+abbrev pub MayHaveGiven : List ℕ → (ℕ → ℤ) → Cell ℕ → Type 0
+MayHaveGiven names given cell = IsFalse (has names cell.field) → IsValueOf cell (given cell.field)
+
+abbrev pub GivenGoes : Type 0
+GivenGoes = (names known : List ℕ) (given : ℕ → ℤ) (f g : Form (List ℕ)) (values : List ℤ) (end : List ℕ) → Alike names known f g
+    → EachField (MayHaveGiven names given) g → Inside names known → Follows f values end
+    → (others : List Item) × Goes names end (shown_items names (items_along f values)) others g
+    × All (λ item. item.value ≡ given item.field) others
 
 -- one part behind another, before which some names still have no number that the first leaves alone
 abbrev pub RewritesTogether : Type 0

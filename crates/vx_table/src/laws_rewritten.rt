@@ -1,5 +1,5 @@
 //! Laws of rewriting: functions that do nothing, each with a law as its contract.
-ghost use Rattle.vx_table.specs.Rewrites.{WhatGoesIsRewritten, CopiedRewrites, ReplacedRewrites, RewritesTogether, AbsentRewrites, PresentRewrites, NothingRewrites, ValuesTake, TakesAgain, TakesTogether, TurnsTake, RewrittenIsRead, TablesLeave, SectionsLeave, LeavesTogether, LeavesPresent, LeavesAgree, SectionsTogether};
+ghost use Rattle.vx_table.specs.Rewrites.{WhatGoesIsRewritten, CopiedRewrites, ReplacedRewrites, MixedRewrites, GivenGoes, RewritesTogether, AbsentRewrites, PresentRewrites, NothingRewrites, ValuesTake, TakesAgain, TakesTogether, TurnsTake, RewrittenIsRead, TablesLeave, SectionsLeave, LeavesTogether, LeavesPresent, LeavesAgree, SectionsTogether};
 ghost use Rattle.vx_table.specs.Rewritten.{RewritesOneWay, RewrittenKeeps, SectionsFillNone, MakesRewritten, MadeIsRewritten};
 
 /// The items of some fields and those of the others tell the structure that has both.
@@ -23,11 +23,13 @@ pub fn what_goes_is_rewritten()
     ensures { WhatGoesIsRewritten }
 {}
 
-/// A part can be rewritten whose fields are all taken over, and one whose fields are all replaced; one that is absent
-/// or there alike; and one part behind another.
+/// A part can be rewritten whose fields are all taken over, one whose fields are all replaced, and one of both kinds
+/// that admits the others or their given values; one that is absent or there alike; and one part behind another.
 pub fn parts_rewrite()
     ensures copied { CopiedRewrites }
     ensures replaced { ReplacedRewrites }
+    ensures mixed { MixedRewrites }
+    ensures given { GivenGoes }
     ensures absent { AbsentRewrites }
     ensures present { PresentRewrites }
     ensures nothing { NothingRewrites }

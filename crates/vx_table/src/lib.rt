@@ -5,6 +5,7 @@
 //! items, [`write_table`] the walk with a bit writer, which takes them, and [`keep_table`] sifts them to those of
 //! kept fields. [`Scope`] has the numbers that conditions, widths and ranges read. [`depends_only_on`] and
 //! [`keeps_only`] test of a table which of these numbers its fields depend on, and which fields it keeps.
+//! [`Rewriter`] is the coder that puts a structure together of the items of some fields and those of the others.
 //! docs/TABLES.md says how a table is read and how one is added.
 #![tactic(auto)]
 #![allow(non_upper_case_globals)]
@@ -30,6 +31,8 @@ mod scope;
 mod stars;
 #[cfg(test)]
 mod tests_coding;
+#[cfg(test)]
+mod tests_composite;
 #[cfg(test)]
 mod tests_depends;
 mod walk;
