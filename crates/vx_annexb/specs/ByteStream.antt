@@ -2,7 +2,8 @@
 -- `all` says that the bytes are all there are. With it the definitions are those of B.2, where a zero_byte is a zero
 -- like any other: that some units must have one (B.2.2) is not asked. Without it a unit counts once its end is seen,
 -- however the bytes go on.
-use Rattle.std.specs.Prelude.{◌≡◌, ◌≢◌, ℕ, ◌+◌, ◌-◌, ◌^◌, ◌<◌, ◌≤◌, ◌⊎◌, Bool, IsTrue, List, [], ◌∷◌, Option, Some, None, length, slice_index, slice_range}
+use Rattle.std.specs.Prelude.{◌≡◌, ◌≢◌, ℕ, ◌+◌, ◌-◌, ◌^◌, ◌<◌, ◌≤◌, ◌⊎◌, Bool}
+use Rattle.std.specs.Prelude.{IsTrue, List, [], ◌∷◌, Option, Some, None, length, slice_index, slice_range}
 use Rattle.vx_bits.specs.declared.refusal.Refusal.{Refusal}
 use Rattle.vx_bits.specs.declared.refusal.Refusal.TheVariants.{Framing, Limit}
 use Rattle.vx_bits.specs.declared.rules.TheConstants.{NOT_A_START_CODE, BAD_EMULATION, BAD_HEADER, LONG_UNIT}

@@ -1,5 +1,6 @@
 -- Emulation prevention within a NAL unit (H.266 7.3.1.1, 7.4.2.1), by places in a finished list of bytes.
-use Rattle.std.specs.Prelude.{◌≡◌, ℕ, zero, suc, ◌-◌, ◌<◌, ◌≤◌, ◌⊎◌, ◌&&◌, ◌==◌, nat_le, Bool, IsTrue, List, [], ◌∷◌, ◌++◌, length, slice_index, if◌then◌else◌}
+use Rattle.std.specs.Prelude.{◌≡◌, ℕ, zero, suc, ◌-◌, ◌<◌, ◌≤◌, ◌⊎◌, ◌&&◌, ◌==◌}
+use Rattle.std.specs.Prelude.{nat_le, Bool, IsTrue, List, [], ◌∷◌, ◌++◌, length, slice_index, if◌then◌else◌}
 use Rattle.vx_bits.specs.Codes.{EndsInNoZero}
 use Rattle.vx_annexb.specs.Places.{IsMark}
 

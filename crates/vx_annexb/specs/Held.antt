@@ -57,6 +57,7 @@ pub record Lends (old new : Held) : Type 0 where
 
 -- the answer of a call that seeks the next unit, for bytes g of which these units were given
 abbrev pub Answers : List ℕ → List UnitPlace → Held → Result (Option Span) Refusal → Type 0
-Answers g units h (Ok (Some span)) = Stands h g (units ++ place_of span ∷ []) × (unit_bytes g (place_of span) ≡ slice_range (lent h) span.start span.end)
+Answers g units h (Ok (Some span)) =
+    Stands h g (units ++ place_of span ∷ []) × (unit_bytes g (place_of span) ≡ slice_range (lent h) span.start span.end)
 Answers g units h (Ok None) = Stands h g units × IsStream g (is_all h) units None
 Answers g units h (Err r) = Stands h g units × IsStream g (is_all h) units (Some r)

@@ -1,5 +1,6 @@
 -- What the definition of a byte stream comes to, apart from any program.
-use Rattle.std.specs.Prelude.{◌≡◌, ℕ, ◌+◌, ◌<◌, Bool, true, false, List, [], ◌∷◌, ◌++◌, All, Option, Some, None, drop, flat_map, length, map, replicate, take}
+use Rattle.std.specs.Prelude.{◌≡◌, ℕ, ◌+◌, ◌<◌, Bool, true, false, List, [], ◌∷◌}
+use Rattle.std.specs.Prelude.{◌++◌, All, Option, Some, None, drop, flat_map, length, map, replicate, take}
 use Rattle.vx_bits.specs.declared.refusal.Refusal.{Refusal}
 use Rattle.vx_bits.specs.declared.refusal.Refusal.TheVariants.{Framing}
 use Rattle.vx_bits.specs.Codes.{EndsInNoZero}
@@ -10,7 +11,9 @@ use Rattle.vx_annexb.specs.ByteStream.{UnitPlace, unit_bytes, IsUnit, SeesNoMore
 
 -- the bytes determine the units and the ending
 abbrev pub StreamIsUnique : Type 0
-StreamIsUnique = (b : List ℕ) (all : Bool) (us vs : List UnitPlace) (r t : Option Refusal) → IsStream b all us r → IsStream b all vs t → (us ≡ vs) × (r ≡ t)
+StreamIsUnique =
+    (b : List ℕ) (all : Bool) (us vs : List UnitPlace) (r t : Option Refusal)
+    → IsStream b all us r → IsStream b all vs t → (us ≡ vs) × (r ≡ t)
 
 -- every list of bytes has units and an ending
 abbrev pub StreamExists : Type 0
@@ -30,7 +33,8 @@ SeenStays =
 
 -- where no further unit's end is seen in the bytes g, the next unit ends at most two bytes before they do
 abbrev pub LaterUnseen : Type 0
-LaterUnseen = (g more : List ℕ) (all : Bool) (p : ℕ) (u : UnitPlace) → SeesNoMore g false p → IsUnit (g ++ more) all p u → length g < u.end + 3
+LaterUnseen =
+    (g more : List ℕ) (all : Bool) (p : ℕ) (u : UnitPlace) → SeesNoMore g false p → IsUnit (g ++ more) all p u → length g < u.end + 3
 
 -- a NAL unit and the zeros behind it
 pub record Part : Type 0 where
@@ -88,7 +92,9 @@ written units = flat_map (λ unit. long_start_code ++ unit) units
 
 -- what is written is the byte stream of its units
 abbrev pub WrittenIsAnnexB : Type 0
-WrittenIsAnnexB = (units : List (List ℕ)) → (zeros : ℕ) × (parts : List Part) × (written units ≡ annex_b zeros parts) × (units_of parts ≡ units)
+WrittenIsAnnexB =
+    (units : List (List ℕ))
+    → (zeros : ℕ) × (parts : List Part) × (written units ≡ annex_b zeros parts) × (units_of parts ≡ units)
 
 -- units that can stand in a byte stream are found again in what is written, and no refusal
 abbrev pub WrittenIsStream : Type 0
@@ -123,4 +129,5 @@ EscapedIsInverse =
 -- where a byte at place p is no start code, the units before are those of the first p bytes, and these are refused nowhere
 abbrev pub StrayEndsStream : Type 0
 StrayEndsStream =
-    (b : List ℕ) (all : Bool) (us : List UnitPlace) (p : ℕ) → IsStream b all us (Some (Framing NOT_A_START_CODE p)) → IsStream (take p b) true us None
+    (b : List ℕ) (all : Bool) (us : List UnitPlace) (p : ℕ)
+    → IsStream b all us (Some (Framing NOT_A_START_CODE p)) → IsStream (take p b) true us None

@@ -1,6 +1,7 @@
 -- A reader of units, as its callers see it: by these words, and by the relation `HasRead` between it and the bytes that it
 -- took of a source with the units that it gave.
-use Rattle.std.specs.Prelude.{◌≡◌, ℕ, ◌+◌, ◌^◌, ◌<◌, ◌≤◌, ◌⊎◌, true, false, List, [], ◌∷◌, ◌++◌, Option, Some, None, Result, Ok, Err, length, take, slice_range}
+use Rattle.std.specs.Prelude.{◌≡◌, ℕ, ◌+◌, ◌^◌, ◌<◌, ◌≤◌, ◌⊎◌, true, false, List, []}
+use Rattle.std.specs.Prelude.{◌∷◌, ◌++◌, Option, Some, None, Result, Ok, Err, length, take, slice_range}
 use Rattle.std.specs.Io.KnownBytes.{Consumes, Keeps, IsAtEnd}
 use Rattle.vx_bits.specs.declared.refusal.Refusal.{Refusal}
 use Rattle.vx_bits.specs.declared.refusal.Refusal.TheVariants.{Limit}
@@ -54,7 +55,8 @@ IsRefusedBy g units r x =
 -- The next unit in what was read: one whose end is seen, or none, or a refusal.
 abbrev pub Finds : List ℕ → List UnitPlace → Reading → Result (Option Span) Refusal → Type 0
 Finds g units r (Ok (Some span)) =
-    HasRead r g (units ++ place_of span ∷ []) × (unit_bytes (take source_limit g) (place_of span) ≡ slice_range (lent r.splitter) span.start span.end)
+    HasRead r g (units ++ place_of span ∷ [])
+    × (unit_bytes (take source_limit g) (place_of span) ≡ slice_range (lent r.splitter) span.start span.end)
 Finds g units r (Ok None) =
     HasRead r g units × IsStream (take source_limit g) (is_all r.splitter) units None × (r.closed ≡ Some TooLong → ⊥)
 Finds g units r (Err x) = HasRead r g units × IsRefusedBy g units r x
@@ -96,7 +98,8 @@ Takes g units new left left' faults faults' (Ok (Some span)) =
     × (unit_bytes (take source_limit (g ++ t.piece)) (place_of span) ≡ slice_range (lent new.splitter) span.start span.end)
     × (length (g ++ t.piece) < (place_of span).end + 3 + 65536))
 Takes g units new left left' faults faults' (Ok None) =
-    (faults' ≡ faults) × ((t : TakesTo g units new left left') × IsStream (take source_limit (g ++ t.piece)) true units None × (new.closed ≡ Some End))
+    (faults' ≡ faults)
+    × ((t : TakesTo g units new left left') × IsStream (take source_limit (g ++ t.piece)) true units None × (new.closed ≡ Some End))
 Takes g units new left left' faults faults' (Err (Refused x)) =
     (faults' ≡ faults) × ((t : TakesTo g units new left left') × IsRefusedBy (g ++ t.piece) units new x)
 Takes g units new left left' faults faults' (Err OutOfMemory) = (faults' ≡ faults) × TakesTo g units new left left'

@@ -10,6 +10,8 @@ mod span;
 mod splitter;
 #[cfg(test)]
 mod tests;
+#[cfg(test)]
+mod tests_reader;
 mod unit_reader;
 mod write;
 

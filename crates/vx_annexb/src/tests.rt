@@ -11,7 +11,7 @@ use vx_bits::Refusal;
 use vx_io::MemorySink;
 
 /// 64x64, 4:0:0, one picture: an SPS, a PPS and a slice.
-const GRAY: [u8; 49] = [
+pub(crate) const GRAY: [u8; 49] = [
     0x00, 0x00, 0x00, 0x01, 0x00, 0x79, 0x00, 0x03, 0x02, 0x33, 0x80, 0x00, 0x00, 0x82, 0x04, 0x12,
     0x00, 0x3D, 0xE0, 0x03, 0x00, 0x60, 0x80, 0x01, 0x00, 0x00, 0x00, 0x01, 0x00, 0x81, 0x00, 0x00,
     0x41, 0x02, 0x08, 0x98, 0x40, 0x80, 0x00, 0x00, 0x00, 0x01, 0x00, 0x41, 0xC4, 0x18, 0x5A, 0xA7,
@@ -63,7 +63,7 @@ fn split(alloc: Global, bytes: &[u8], size: usize) -> Result<Seen, AllocError>
 }
 
 /// Streams, the place and the length of each unit, and the rule of framing that refuses them, with its byte.
-const STREAMS: [(&[u8], &[(u64, usize)], Option<(u8, u64)>); 20] = [
+pub(crate) const STREAMS: [(&[u8], &[(u64, usize)], Option<(u8, u64)>); 20] = [
     (&[], &[], None),
     (&[0, 0, 0], &[], None),
     (&GRAY, &[(4, 20), (28, 10), (42, 7)], None),
@@ -177,7 +177,7 @@ fn reads_headers(rt: HostRuntime) {
 }
 
 /// A unit of n bytes behind a start code.
-fn long_stream(alloc: Global, n: usize) -> Result<Vec<u8>, AllocError> {
+pub(crate) fn long_stream(alloc: Global, n: usize) -> Result<Vec<u8>, AllocError> {
     let mut bytes = Vec::from_slice(alloc, [0, 0, 1, 0, 65].as_slice())?;
     let unit = vec![in alloc; 255; n.saturating_sub(2)]?;
     bytes.extend_from_slice(&unit)?;
@@ -205,28 +205,21 @@ fn refuses_long_units(rt: HostRuntime) -> Result<(), Fail> {
 }
 
 /// A unit of 2^23 bytes and a few more, in the last bytes of which stands what may break a rule: the zeros before it, how
-/// many bytes more than 2^23 stand before what is tried, that, and the place in it of the byte that is refused, if one is.
-const TAILS: [(usize, usize, &[u8], Option<u64>); 12] = [
-    (0, 1, &[], None),
-    (0, 1, &[7], None),
-    (0, 0, &[0, 0, 2], Some(2)),
-    (0, 1, &[0, 0, 2], Some(2)),
-    (0, 5, &[0, 0, 2, 0, 0, 2], Some(2)),
-    (0, 9, &[0, 0, 2], Some(2)),
-    (0, 3, &[0, 0, 3, 4], Some(3)),
-    (0, 4, &[0, 0, 3, 3], None),
-    (0, 7, &[0, 0, 3, 0, 0, 3, 5], Some(6)),
-    (3, 1, &[0, 0, 2], Some(2)),
-    (70_000, 2, &[0, 0, 3, 9], Some(3)),
-    (70_000, 70_000, &[7], None),
+/// many bytes more than 2^23 stand before what is tried, that, the place in it of the byte that is refused, if one is, and
+/// the size of the pieces in which the stream comes.
+const TAILS: [(usize, usize, &[u8], Option<u64>, usize); 5] = [
+    (0, 1, &[7], None, 65_536),
+    (0, 0, &[0, 0, 2], Some(2), 8_388_611),
+    (0, 9, &[0, 0, 2, 0, 0, 2], Some(2), 65_536),
+    (0, 3, &[0, 0, 3, 4], Some(3), 8_388_615),
+    (70_000, 7, &[0, 0, 3, 0, 0, 3, 5], Some(6), 65_536),
 ];
 
 #[test]
 fn tells_what_long_units_are_refused_for(rt: HostRuntime) -> Result<(), Fail> {
-    let limit = 1usize << 23;
-    for (zeros, over, tail, fault) in TAILS {
+    for (zeros, over, tail, fault, size) in TAILS {
         let mut bytes = vec![in rt.alloc(); 0; zeros]?;
-        let unit = long_stream(rt.alloc(), limit + over)?;
+        let unit = long_stream(rt.alloc(), (1 << 23) + over)?;
         bytes.extend_from_slice(&unit)?;
         let place = bytes.len() as u64;
         bytes.extend_from_slice(tail)?;
@@ -237,15 +230,13 @@ fn tells_what_long_units_are_refused_for(rt: HostRuntime) -> Result<(), Fail> {
             },
             None => Refusal::Limit { code: 1 },
         };
-        for size in [65_536, 1_000_003, limit + 5, limit + 9] {
-            let found = split(rt.alloc(), &bytes, size)?;
-            assert_eq!(rt; found.units.len(), 0, "{over} more, in pieces of {size}");
-            assert_eq!(rt;
-                found.refusal,
-                Some(refusal),
-                "{over} more, in pieces of {size}: {tail:?}"
-            );
-        }
+        let found = split(rt.alloc(), &bytes, size)?;
+        assert_eq!(rt; found.units.len(), 0, "{over} more, in pieces of {size}");
+        assert_eq!(rt;
+            found.refusal,
+            Some(refusal),
+            "{over} more, in pieces of {size}: {tail:?}"
+        );
     }
     Ok(())
 }
@@ -311,6 +302,22 @@ fn escapes_both_ways(rt: HostRuntime) -> Result<(), Fail> {
         assert_eq!(rt; back.as_slice(), bytes, "{unit:?}");
         assert_eq!(rt; at.as_slice(), places, "{unit:?}");
     }
+    Ok(())
+}
+
+#[test]
+fn escapes_many_bytes(rt: HostRuntime) -> Result<(), Fail> {
+    let mut bytes = Vec::new(rt.alloc());
+    let mut unit = Vec::new(rt.alloc());
+    for _ in 0..200_000 {
+        bytes.extend_from_slice(&[0, 0, 1])?;
+        unit.extend_from_slice(&[0, 0, 3, 1])?;
+    }
+    let made = escaped(rt.alloc(), &bytes)?.ok_or("ends in 00")?;
+    assert!(rt; made == unit, "a unit of 800,000 bytes");
+    assert_eq!(rt; emulation_fault(&unit), None);
+    let back = unescape(rt.alloc(), &unit)?;
+    assert!(rt; back == bytes, "600,000 bytes of a unit");
     Ok(())
 }
 

@@ -39,7 +39,8 @@ IsDoomedBy g m s (Some r) = RefusesUnit (slice_range g s m) s r
 abbrev pub HasSought : Held → List ℕ → Option ℕ → Option Refusal → Type 0
 HasSought h g start (Some r) = Refuses g h.all h.from r
 HasSought h g None None = AreZeros g h.from h.sought
-HasSought h g (Some s) None = StartsAt g h.from s × ((k : ℕ) → s ≤ k → k < h.sought → ¬ IsMark 1 g k) × IsDoomedBy g (h.base + 3) s h.doomed
+HasSought h g (Some s) None =
+    StartsAt g h.from s × ((k : ℕ) → s ≤ k → k < h.sought → ¬ IsMark 1 g k) × IsDoomedBy g (h.base + 3) s h.doomed
 
 -- h is what a splitter keeps of the bytes g once it has given these units
 pub record Stands (h : Held) (g : List ℕ) (units : List UnitPlace) : Type 0 where

@@ -31,8 +31,10 @@ abbrev pub ReadsPiece : List ℕ → List UnitPlace → Held → Option (List �
 ReadsPiece g units new left left' faults faults' (Ok came) =
     (piece : List ℕ) × Consumes left left' piece × (length piece ≡ came.count) × (faults' ≡ faults)
     × Stands new (take source_limit (g ++ piece)) units × (came.closed ≡ Some End → (length piece ≡ 0) × IsAtEnd left')
-ReadsPiece g units new left left' faults faults' (Err Memory) = (left' ≡ left) × (faults' ≡ faults) × Stands new (take source_limit g) units
-ReadsPiece g units new left left' faults faults' (Err SourceFailed) = Keeps left left' × Rose faults faults' × Stands new (take source_limit g) units
+ReadsPiece g units new left left' faults faults' (Err Memory) =
+    (left' ≡ left) × (faults' ≡ faults) × Stands new (take source_limit g) units
+ReadsPiece g units new left left' faults faults' (Err SourceFailed) =
+    Keeps left left' × Rose faults faults' × Stands new (take source_limit g) units
 
 -- the fault of a read as one of a call that takes a unit
 abbrev pub fault_of : ReadFault → TakeFault
@@ -42,9 +44,11 @@ fault_of SourceFailed = ReadFailed
 -- A reader that began to seek the next unit as `old` reads on; its source had these bytes left and this count of faults then,
 -- and has these now.
 pub record Taking (old r : Reading) (left left' : Option (List ℕ)) (faults faults' : ℕ) : Type 0 where
-  pub taking : (g : List ℕ) (units : List UnitPlace) → HasRead old g units → LastWasNeeded g units → (faults' ≡ faults) × TakesTo g units r left left'
+  pub taking : (g : List ℕ) (units : List UnitPlace) → HasRead old g units → LastWasNeeded g units
+      → (faults' ≡ faults) × TakesTo g units r left left'
   pub end : IsOpen old → r.closed ≡ Some End → IsAtEnd left'
-  pub again : (g : List ℕ) (units : List UnitPlace) (x : Refusal) → HasRead old g units → IsRefusedBy g units old x → HasRead r g units × IsRefusedBy g units r x
+  pub again : (g : List ℕ) (units : List UnitPlace) (x : Refusal) → HasRead old g units → IsRefusedBy g units old x
+      → HasRead r g units × IsRefusedBy g units r x
   pub unfailed : r.closed ≡ Some Failed → ⊥
 
 -- how many reads a reader may still make, at most
