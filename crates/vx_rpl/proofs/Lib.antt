@@ -1,0 +1,5 @@
+-- Lemmas on lists of entries.
+mod Counted
+mod Entries
+mod Whole
+mod Structures

@@ -1,0 +1,4 @@
+-- Definitions that the contracts of this crate cite.
+pub mod Lists
+pub mod Resolved
+pub mod Numbers

@@ -1,0 +1,20 @@
+//! Reference picture lists of H.266: their structures, the lists of a header, and prediction weights.
+#![tactic(auto)]
+
+mod entry;
+mod numbers;
+mod read;
+mod resolved;
+mod tables;
+#[cfg(test)]
+mod tests;
+mod walk;
+
+pub use entry::{RefEntry, RefList, RefLists, RplTable, Structure, StructureList};
+pub use numbers::{RplNumbers, WeightNumbers};
+pub use read::{read_struct, read_weights};
+pub use tables::{
+    BEFORE_LIST_0, BEHIND_LIST_0, BEHIND_LIST_1, CHOICE, LONG_TERM, REF_PIC_LIST_STRUCT, WEIGHTS,
+    WEIGHTS_0, WEIGHTS_1,
+};
+pub use walk::{code_first, code_lists, code_second, code_weights};

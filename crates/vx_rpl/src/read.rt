@@ -1,0 +1,79 @@
+//! Reading a structure and weights, and the structures of an SPS from its items.
+ghost use Rattle.std.specs.Prelude.{◌≡◌, ◌≤◌, length, IfOk, slice_range};
+ghost use Rattle.vx_table.specs.Forms.{form_of};
+ghost use Rattle.vx_table.specs.Reading.{Reads};
+ghost use Rattle.vx_rpl.specs.declared.tables.TheConstants.{REF_PIC_LIST_STRUCT};
+ghost use Rattle.vx_rpl.specs.Lists.{weights_form};
+ghost use Rattle.vx_rpl.specs.Numbers.{structure_scope, weights_scope};
+ghost use Rattle.vx_rpl.specs.Resolved.{table_of};
+
+use crate::entry::RplTable;
+use crate::numbers::{RplNumbers, WeightNumbers};
+use crate::resolved::table;
+use crate::tables::{REF_PIC_LIST_STRUCT, WEIGHTS, WEIGHTS_0, WEIGHTS_1};
+use std::alloc::{AllocError, Global};
+use vx_bits::{BitReader, Fields, ReadError};
+use vx_table::{parts, read_parts, read_table};
+
+/// Reads a reference picture list structure, `ref_pic_list_struct()`, clause 7.3.10: number `index` of the SPS's `count`,
+/// or where these are equal one of a header.
+///
+/// # Errors
+///
+/// The first refusal, or want of memory. `into` has then gained the fields read before.
+pub fn read_struct(
+    bits: &mut BitReader<'_>,
+    numbers: &RplNumbers,
+    index: u32,
+    count: u32,
+    into: &mut Fields,
+) -> Result<(), ReadError>
+    requires { (4 ≤ numbers.now.lsb_bits) × (numbers.now.lsb_bits ≤ 16) }
+    ensures { Reads (form_of REF_PIC_LIST_STRUCT (structure_scope numbers.now index count)) bits.old into.old result bits.new into.new }
+{
+    let mut scope = numbers.structure_scope(index, count);
+    read_table(&REF_PIC_LIST_STRUCT, &mut scope, bits, into)
+}
+
+/// Reads prediction weights, `pred_weight_table()`, clause 7.3.8.
+///
+/// # Errors
+///
+/// As [`read_struct`].
+pub fn read_weights(
+    bits: &mut BitReader<'_>,
+    numbers: &WeightNumbers,
+    into: &mut Fields,
+) -> Result<(), ReadError>
+    ensures { Reads (weights_form (weights_scope numbers.now)) bits.old into.old result bits.new into.new }
+{
+    let mut scope = numbers.scope();
+    read_parts(
+        &parts![WEIGHTS_0, WEIGHTS, WEIGHTS_1, WEIGHTS],
+        &mut scope,
+        bits,
+        into,
+    )
+}
+
+impl RplTable {
+    /// The structures that an SPS's items from one place up to another spell: those from sps_rpl1_same_as_rpl0_flag to
+    /// the last structure.
+    ///
+    /// # Errors
+    ///
+    /// Want of memory.
+    pub fn new(
+        alloc: Global,
+        numbers: &RplNumbers,
+        fields: &Fields,
+        from: usize,
+        to: usize,
+    ) -> Result<RplTable, AllocError>
+        requires order { from ≤ to }
+        requires within { to ≤ length fields.now }
+        ensures { IfOk result (λ made. made ≡ table_of numbers.now.weighted (slice_range fields.now from to)) }
+    {
+        table(alloc, numbers.weighted, &fields.as_slice()[from..to])
+    }
+}
