@@ -1,5 +1,6 @@
 #!/bin/bash
-# How fast `show` reads a byte stream, beside `cat` of the same file. No test: times depend on the machine.
+# How fast `show` reads a byte stream, beside `cat` of the same file, and how much memory it has resident at most.
+# No test: times depend on the machine.
 # Usage: scripts/bench-show.sh [MIB]   (from the top of the repository; default 256)
 set -euo pipefail
 mib=${1:-256}
@@ -7,7 +8,7 @@ work=$(mktemp -d)
 trap 'rm -rf "$work"' EXIT
 
 # Units of 64 KiB: bytes as entropy coding gives them, each value equally often; bytes of which every third begins
-# a pair of zeros; zeros and 03 (cabac_zero_words).
+# a pair of zeros. Units of 100 bytes. One unit that never ends.
 python3 - "$work" "$mib" <<'PY'
 import random, sys
 work, mib = sys.argv[1], int(sys.argv[2])
@@ -18,27 +19,41 @@ for place in range(2, size):
     if ordinary[place - 2] == ordinary[place - 1] == 0 and ordinary[place] < 4:
         ordinary[place] += 4
 kinds = {
-    "ordinary": bytes(ordinary),
-    "pairs": b"\x00\x00\x05" * (size // 3) + b"\x80",
-    "words": b"\x80" + b"\x00\x00\x03" * (size // 3),
+    "ordinary": (head + bytes(ordinary), b""),
+    "pairs": (head + b"\x00\x00\x05" * (size // 3) + b"\x80", b""),
+    "short": (head + bytes(ordinary[:93]) + b"\x80", b""),
+    "endless": (b"\x81" * 65536, head),
 }
-for name, payload in kinds.items():
+for name, (part, first) in kinds.items():
+    count = mib * 1048576 // len(part)
     with open(f"{work}/{name}.266", "wb") as file:
-        for _ in range(mib * 16):
-            file.write(head + payload)
+        file.write(first)
+        for _ in range(count // 1024):
+            file.write(part * 1024)
+        file.write(part * (count % 1024))
+PY
+
+# Runs a command, and tells how long it took and its peak resident memory.
+cat > "$work/measure.py" <<'PY'
+import os, resource, subprocess, sys, time
+name, tool, size, *command = sys.argv[1:]
+best = None
+for _ in range(3):
+    begin = time.monotonic()
+    status = subprocess.run(command, stdout=subprocess.DEVNULL, stderr=subprocess.DEVNULL).returncode
+    took = time.monotonic() - begin
+    best = took if best is None else min(best, took)
+peak = resource.getrusage(resource.RUSAGE_CHILDREN).ru_maxrss
+print(f"{name} {tool}: {best * 1000:.0f} ms, {int(size) / best / 1048576:.0f} MiB/s, peak {peak} KiB, status {status}")
 PY
 
 (cd crates/vx_app && rt run -- show data/a.266 >/dev/null 2>&1)
 program=$PWD/crates/vx_app/out/vx_app
-for name in ordinary pairs words; do
+for name in ordinary pairs short endless; do
   file=$work/$name.266
   cat "$file" >/dev/null
-  for tool in cat show; do
-    for _ in 1 2 3; do
-      begin=$(date +%s%N)
-      if [ $tool = cat ]; then cat "$file" >/dev/null; else "$program" show "$file" >/dev/null; fi
-      end=$(date +%s%N)
-      echo "$name $tool $(( (end - begin) / 1000000 )) ms, $(( mib * 1000000000 / (end - begin) )) MiB/s"
-    done
-  done
+  size=$(stat -c %s "$file")
+  python3 "$work/measure.py" "$name" cat "$size" cat "$file"
+  python3 "$work/measure.py" "$name" show "$size" "$program" show "$file"
 done
+"$program" show "$work/short.266" | wc -l

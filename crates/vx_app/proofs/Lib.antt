@@ -2,6 +2,8 @@
 pub mod Concluding
 pub mod Ending
 pub mod Gained
+pub mod Gathering
+pub mod Moved
 pub mod Performing
-pub mod Pieces
-pub mod Shown
+pub mod Showing
+pub mod Told

@@ -5,7 +5,7 @@ use Rattle.vx_app.specs.Conclusion.{Outcome}
 use Rattle.vx_app.specs.Grammar.{Command, show, help, version, spelling, AskFor, NamesFiles}
 use Rattle.vx_app.specs.Run.{Does, Performs}
 use Rattle.vx_app.specs.Show.{Shows}
-use Rattle.vx_app.proofs.Shown.{Shows-at}
+use Rattle.vx_app.proofs.Moved.{Shows-at}
 
 -- words of two lengths, or of two first words, are not the same
 other_length : (words xs ys : List (List ℕ)) → words ≡ xs → words ≡ ys → length xs ≢ length ys → ⊥

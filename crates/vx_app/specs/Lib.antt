@@ -6,4 +6,4 @@ pub mod Conclusion
 pub mod Grammar
 pub mod Run
 pub mod Show
-pub mod ShowSteps
+pub mod inner

@@ -1,21 +1,17 @@
 -- What `show` finds in the bytes of a source, and what it writes.
-use Rattle.std.specs.Prelude.{◌≡◌, ℕ, ◌+◌, ◌^◌, ◌⊎◌, List, Bool, Option, Some, None, Ok, Err, length, take, nat_le, unwrap_or, true, false}
+use Rattle.std.specs.Prelude.{◌≡◌, ℕ, ◌+◌, ◌^◌, ◌<◌, List, [], ◌∷◌, ◌++◌, Bool, Option, Some, None, Ok, Err, length, take, nat_le, unwrap_or, true, false}
 use Rattle.std.specs.List.{flat_map}
 use Rattle.std.specs.Io.KnownBytes.{Consumes, IsAtEnd}
 use Rattle.vx_bits.specs.declared.refusal.Refusal.{Refusal}
 use Rattle.vx_bits.specs.declared.refusal.Refusal.TheVariants.{Limit}
 use Rattle.vx_annexb.specs.NalUnit.{header_of}
-use Rattle.vx_annexb.specs.ByteStream.{UnitPlace, unit_bytes, IsStream}
+use Rattle.vx_annexb.specs.ByteStream.{source_limit, UnitPlace, unit_bytes, IsStream, FollowsFrom}
 use Rattle.vx_report.specs.declared.refusal.Where.{Where}
 use Rattle.vx_bits.specs.declared.rules.TheConstants.{LONG_SOURCE}
 use Rattle.vx_report.specs.UnitLine.{unit_text}
 use Rattle.vx_app.specs.declared.stop.Stop.TheVariants.{NotUnderstood, Refused, ReadFault, WriteFault, NoMemory}
-use Rattle.vx_app.specs.Change.{Change, IsUntouched, HasNoFault, HasFault, GivesFront, Gains, GainsFront}
+use Rattle.vx_app.specs.Change.{Change, HasNoFault, HasFault, GivesFront, Gains, GainsFront}
 use Rattle.vx_app.specs.Conclusion.{Outcome}
-
--- the most bytes that a source may have
-unfoldable pub source_limit : ℕ
-source_limit = 2 ^ 40
 
 -- the bytes of a source that are looked at, and whether they are all
 abbrev pub seen_of : List ℕ → List ℕ
@@ -66,26 +62,48 @@ abbrev pub WhereKnown : {A : Type 0} → Change A → (List ℕ → List UnitPla
 WhereKnown source P =
     (b : List ℕ) (units : List UnitPlace) (ending : Option Refusal) → source.bytes source.old ≡ Some b → IsShown b units ending → P b units ending
 
--- a source gave its bytes in order, all of them or as many as the limit and one more
-abbrev pub GivesToLimit : {A : Type 0} → Change A → Type 0
-GivesToLimit source =
-    (given : List ℕ) × Consumes (source.bytes source.old) (source.bytes source.new) given
-    × (IsAtEnd (source.bytes source.new) ⊎ (length given ≡ source_limit + 1))
+-- how many bytes a read asks for
+abbrev pub read_len : ℕ
+read_len = 65536
 
--- What `show` did to its source and to `out`, by what came of it. Without a fault `out` gained the lines of the units
--- before the ending, and for want of memory those of the first of them. After a failed read nothing is written, after
--- a failed write a front of the lines. Before the first line is written the source has given all that is
--- read of it; where a read fails, or for want of memory, it may have given less.
+-- how many bytes show the end of a unit, where 00 00 00 or 00 00 01 stands behind it
+abbrev pub shown_by : UnitPlace → ℕ
+shown_by u = u.end + 3
+
+-- A read failed: `out` gained the lines of exactly the units whose end is seen in what the source has given, however
+-- that goes on, and no rule is broken there.
+pub record ShowsSeen {A K : Type 0} (source : Change A) (out : Change K) : Type 0 where
+  pub given : List ℕ
+  pub units : List UnitPlace
+  pub gave : Consumes (source.bytes source.old) (source.bytes source.new) given
+  pub seen : IsStream given false units None
+  pub lines : Gains out (lines_of_units given units)
+
+-- A write failed: `out` gained a front of the lines of the units up to one, the last that was taken. The source has ended,
+-- or has given fewer bytes past the place where that unit's end is seen than a read asks for.
+pub record ShowsFront {A K : Type 0} (source : Change A) (out : Change K) : Type 0 where
+  pub given : List ℕ
+  pub before : List UnitPlace
+  pub last : UnitPlace
+  pub ended : Bool
+  pub gave : Consumes (source.bytes source.old) (source.bytes source.new) given
+  pub follow : FollowsFrom (seen_of given) ended 0 (before ++ last ∷ [])
+  pub lines : GainsFront out (shown_lines given (before ++ last ∷ []))
+  pub whole : ended ≡ true → IsAtEnd (source.bytes source.new)
+  pub near : ended ≡ false → length given < shown_by last + read_len
+
+-- What `show` did to its source and to `out`, by what came of it. Where it was done or refused, `out` gained the lines of
+-- the units before the ending, and for want of memory those of the first of them.
 abbrev pub Shows : {A K : Type 0} → Change A → Change K → Outcome → Type 0
 Shows source out (Ok _) =
     HasNoFault source × HasNoFault out × GivesFront source × IsAtEnd (source.bytes source.new)
     × WhereKnown source (λ b units ending. (ending ≡ None) × Gains out (shown_lines b units))
 Shows source out (Err (Refused refusal place)) =
-    HasNoFault source × HasNoFault out × GivesToLimit source
+    HasNoFault source × HasNoFault out × GivesFront source
     × WhereKnown source (λ b units ending. (ending ≡ Some refusal) × (place ≡ behind_unit (length units)) × Gains out (shown_lines b units))
-Shows source out (Err (ReadFault k)) = HasFault source × (k ≡ 0) × GivesFront source × IsUntouched out
+Shows source out (Err (ReadFault k)) = HasFault source × (k ≡ 0) × ShowsSeen source out
 Shows source out (Err WriteFault) =
-    HasNoFault source × HasFault out × GivesToLimit source
+    HasNoFault source × HasFault out × ShowsFront source out
     × WhereKnown source (λ b units ending. GainsFront out (shown_lines b units))
 Shows source out (Err NoMemory) =
     HasNoFault source × HasNoFault out × GivesFront source

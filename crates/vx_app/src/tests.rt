@@ -86,17 +86,14 @@ const SHOW: Row<'static> = Row {
 /// Whole streams.
 const SHOWN: [Row<'static>; 6] = [
     SHOW,
-    // A byte a call: the calls that would fail are those behind the last.
+    // A byte a write: the call that would fail is the one behind the last.
     Row {
-        pieces: &[1],
-        failing_reads: &[50],
         taken: &[1],
         failing_writes: &[126],
         ..SHOW
     },
     Row {
         bytes: GRAY_AMONG_ZEROS,
-        pieces: &[2],
         out: LINES_AMONG_ZEROS,
         ..SHOW
     },
@@ -142,7 +139,6 @@ const REFUSED: [Row<'static>; 5] = [
     },
     Row {
         bytes: BROKEN,
-        pieces: &[1],
         out: BROKEN_LINE,
         err: b"F3 source 0 byte 8\n",
         status: 1,
@@ -151,10 +147,34 @@ const REFUSED: [Row<'static>; 5] = [
     // A stray byte behind a unit of the second temporal layer.
     Row {
         bytes: &[0x00, 0x00, 0x01, 0x05, 0x0A, 0x80, 0x00, 0x00, 0x00, 0x02],
-        pieces: &[3],
         out: b"{\"bytes\":3,\"offset\":3,\"tid\":1,\"type\":1}\n",
         err: b"F1 source 0 byte 9\n",
         status: 1,
+        ..SHOW
+    },
+];
+
+/// Of a stream that comes in one piece the lines of the first two units are one
+/// write, and that of the third, which the end shows, is another.
+const ONCE: [Row<'static>; 3] = [
+    Row {
+        failing_writes: &[2],
+        ..SHOW
+    },
+    Row {
+        failing_writes: &[1],
+        out: br#"{"bytes":20,"offset":4,"tid":0,"type":15}
+{"bytes":10,"offset":28,"tid":0,"type":16}
+"#,
+        err: b"write fault\n",
+        status: 3,
+        ..SHOW
+    },
+    Row {
+        failing_writes: &[0],
+        out: b"",
+        err: b"write fault\n",
+        status: 3,
         ..SHOW
     },
 ];
@@ -270,40 +290,157 @@ const NOT_UNDERSTOOD: [Row<'static>; 8] = [
     },
 ];
 
+/// A stream that is made: some bytes, many of one, and some behind them; and what
+/// is shown of it.
+#[derive(Clone, Copy)]
+struct Made<'a> {
+    head: &'a [u8],
+    count: usize,
+    byte: u8,
+    tail: &'a [u8],
+    row: Row<'a>,
+}
+
+/// A unit that ends at byte 65,536.
+const LONG: Made<'static> = Made {
+    head: &[0x00, 0x00, 0x01, 0x00, 0x41],
+    count: 65_531,
+    byte: 0x81,
+    tail: &[],
+    row: Row {
+        out: b"{\"bytes\":65533,\"offset\":3,\"tid\":0,\"type\":8}\n",
+        ..SHOW
+    },
+};
+
+const MADE: [Made<'static>; 9] = [
+    LONG,
+    Made {
+        count: 65_530,
+        row: Row {
+            out: b"{\"bytes\":65532,\"offset\":3,\"tid\":0,\"type\":8}\n",
+            ..SHOW
+        },
+        ..LONG
+    },
+    Made {
+        count: 65_532,
+        row: Row {
+            out: b"{\"bytes\":65534,\"offset\":3,\"tid\":0,\"type\":8}\n",
+            ..SHOW
+        },
+        ..LONG
+    },
+    Made {
+        count: 199_998,
+        row: Row {
+            out: b"{\"bytes\":200000,\"offset\":3,\"tid\":0,\"type\":8}\n",
+            ..SHOW
+        },
+        ..LONG
+    },
+    // A read cuts a start code.
+    Made {
+        count: 65_529,
+        tail: &[0x00, 0x00, 0x01, 0x00, 0x79],
+        row: Row {
+            out: b"{\"bytes\":65531,\"offset\":3,\"tid\":0,\"type\":8}
+{\"bytes\":2,\"offset\":65537,\"tid\":0,\"type\":15}
+",
+            ..SHOW
+        },
+        ..LONG
+    },
+    // The longest unit, one more byte, and a byte that emulation prevention rules out behind these.
+    Made {
+        count: 8_388_606,
+        row: Row {
+            out: b"{\"bytes\":8388608,\"offset\":3,\"tid\":0,\"type\":8}\n",
+            ..SHOW
+        },
+        ..LONG
+    },
+    Made {
+        head: &[0x00, 0x00, 0x01, 0x00, 0x79, 0x00, 0x00, 0x01, 0x00, 0x41],
+        count: 8_388_607,
+        row: Row {
+            out: b"{\"bytes\":2,\"offset\":3,\"tid\":0,\"type\":15}\n",
+            err: b"L1 source 0 unit 1\n",
+            status: 1,
+            ..SHOW
+        },
+        ..LONG
+    },
+    Made {
+        count: 8_500_000,
+        tail: &[0x00, 0x00, 0x02, 0x81],
+        row: Row {
+            out: b"",
+            err: b"F2 source 0 byte 8500007\n",
+            status: 1,
+            ..SHOW
+        },
+        ..LONG
+    },
+    // 10 MB of zeros between two units.
+    Made {
+        head: &[0x00, 0x00, 0x01, 0x00, 0x41, 0x80],
+        count: 10_000_000,
+        byte: 0,
+        tail: &[0x01, 0x00, 0x79],
+        row: Row {
+            out: b"{\"bytes\":3,\"offset\":3,\"tid\":0,\"type\":8}
+{\"bytes\":2,\"offset\":10000007,\"tid\":0,\"type\":15}
+",
+            ..SHOW
+        },
+    },
+];
+
+/// Runs of the same bytes, by how many come at a time.
+const PIECES: [&[u32]; 3] = [&[], &[1], &[60]];
+
 #[test]
 fn shows_units(rt: HostRuntime) -> Result<(), Fail> {
-    check_rows(&rt, rt.alloc(), &SHOWN)
+    for pieces in &PIECES {
+        check_rows(&rt, rt.alloc(), &SHOWN, pieces)?;
+        check_rows(&rt, rt.alloc(), &REFUSED, pieces)?;
+    }
+    check_rows(&rt, rt.alloc(), &ONCE, &[])?;
+    check_rows(&rt, rt.alloc(), &ABOUT, &[])?;
+    check_rows(&rt, rt.alloc(), &NOT_UNDERSTOOD, &[])
 }
 
-#[test]
-fn refuses(rt: HostRuntime) -> Result<(), Fail> {
-    check_rows(&rt, rt.alloc(), &REFUSED)
-}
-
-#[test]
-fn tells_of_itself(rt: HostRuntime) -> Result<(), Fail> {
-    check_rows(&rt, rt.alloc(), &ABOUT)
-}
-
-#[test]
-fn tells_other_words(rt: HostRuntime) -> Result<(), Fail> {
-    check_rows(&rt, rt.alloc(), &NOT_UNDERSTOOD)
-}
-
-fn check_rows(rt: &impl Abort, alloc: Global, rows: &[Row<'_>]) -> Result<(), Fail> {
+fn check_rows(
+    rt: &impl Abort,
+    alloc: Global,
+    rows: &[Row<'_>],
+    pieces: &[u32],
+) -> Result<(), Fail> {
     for (at, row) in rows.iter().enumerate() {
-        check_row(rt, alloc, at, row)?;
+        check_row(rt, alloc, at, &Row { pieces, ..*row })?;
     }
     Ok(())
 }
 
 /// Runs the program as the row says, and compares what it wrote and answered.
 fn check_row(rt: &impl Abort, alloc: Global, at: usize, row: &Row<'_>) -> Result<(), Fail> {
+    check_bytes(rt, alloc, at, row, Vec::from_slice(alloc, row.bytes)?)
+}
+
+/// Runs it as the row says, but over these bytes.
+fn check_bytes(
+    rt: &impl Abort,
+    alloc: Global,
+    at: usize,
+    row: &Row<'_>,
+    bytes: Vec<u8>,
+) -> Result<(), Fail> {
     let words = words_of(alloc, row.words)?;
     let mut sources: Vec<Box<dyn Source>> = Vec::new(alloc);
     if file_count(&words) == 1 {
         let source = MemorySource::new(
-            Vec::from_slice(alloc, row.bytes)?,
+            bytes,
             Vec::from_slice(alloc, row.pieces)?,
             Vec::from_slice(alloc, row.failing_reads)?,
         );
@@ -350,14 +487,49 @@ fn sink(
     )
 }
 
-/// A byte a read, and the k-th read fails. The last of the 50 would have told the end.
+#[test]
+fn shows_long_streams(rt: HostRuntime) -> Result<(), Fail> {
+    for (at, made) in MADE.iter().enumerate() {
+        check_made(&rt, rt.alloc(), at, &made.row, made)?;
+        let cut = Row {
+            pieces: &[60, 65_537],
+            ..made.row
+        };
+        check_made(&rt, rt.alloc(), at, &cut, made)?;
+    }
+    Ok(())
+}
+
+/// Runs the program over a stream that is made.
+fn check_made(
+    rt: &impl Abort,
+    alloc: Global,
+    at: usize,
+    row: &Row<'_>,
+    made: &Made<'_>,
+) -> Result<(), Fail> {
+    let bytes = bytes_of(alloc, made)?;
+    check_bytes(rt, alloc, at, row, bytes)
+}
+
+fn bytes_of(alloc: Global, made: &Made<'_>) -> Result<Vec<u8>, AllocError> {
+    let mut bytes = Vec::from_slice(alloc, made.head)?;
+    bytes.extend_from_slice(&vec![in alloc; made.byte; made.count]?)?;
+    bytes.extend_from_slice(made.tail)?;
+    Ok(bytes)
+}
+
+/// A byte a read, and the k-th read fails: the lines of the units are written
+/// whose end is seen in the k bytes before, with the 00 00 00 or 00 00 01 that
+/// stands there. The last of the 50 would have told the end.
 #[test]
 fn tells_each_failed_read(rt: HostRuntime) -> Result<(), Fail> {
     for k in 0..50 {
+        let lines = len_of_lines(k).min(GRAY_LINES.len());
         let row = Row {
             pieces: &[1],
             failing_reads: &[k as u64],
-            out: b"",
+            out: &GRAY_LINES[..lines],
             err: b"read fault source 0\n",
             status: 3,
             ..SHOW
@@ -365,6 +537,14 @@ fn tells_each_failed_read(rt: HostRuntime) -> Result<(), Fail> {
         check_row(&rt, rt.alloc(), k, &row)?;
     }
     Ok(())
+}
+
+/// How long the lines are of the gray picture's units whose end is seen in its first k bytes.
+fn len_of_lines(k: usize) -> usize {
+    if k < 27 {
+        return 0;
+    }
+    if k < 41 { 42 } else { 85 }
 }
 
 /// A byte a write, and the k-th write fails, or there is room for k bytes: those were written.
