@@ -30,10 +30,6 @@ first_refusal h = h.refused
 abbrev pub ahead : Held → ℕ
 ahead h = fed h - h.from
 
--- to go, once nothing cites it
-abbrev pub left_to_seek : Held → ℕ
-left_to_seek h = ahead h
-
 -- all bytes have been sought but the last two, with which what comes next may begin
 abbrev pub IsSought : Held → Type 0
 IsSought h = fed h ≤ h.sought + 2

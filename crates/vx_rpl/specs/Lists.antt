@@ -1,5 +1,6 @@
 -- The forms of reference picture lists (H.266 7.3.9), of their structures (7.3.10) and of prediction weights (7.3.8).
-use Rattle.std.specs.Prelude.{ℕ, Bool, true, false, Option, None, Some, cond, List, [], ◌∷◌, ◌==◌, length, count_by, slice_get, slice_index, slice_set}
+use Rattle.std.specs.Prelude.{ℕ, Bool, true, false, Option, None, Some, cond, List, [], ◌∷◌, ◌==◌}
+use Rattle.std.specs.Prelude.{length, count_by, slice_get, slice_index, slice_set}
 use Rattle.vx_table.specs.declared.rows.Term.TheVariants.{Number, Latest}
 use Rattle.vx_table.specs.declared.rows.Formula.TheVariants.{Equal}
 use Rattle.vx_table.specs.Scope.{one_if}
@@ -11,7 +12,8 @@ use Rattle.vx_rpl.specs.declared.entry.RefEntry.{RefEntry}
 use Rattle.vx_rpl.specs.declared.entry.RefEntry.TheVariants.{Short, Long}
 use Rattle.vx_rpl.specs.declared.entry.Structure.{Structure}
 use Rattle.vx_rpl.specs.declared.entry.RplTable.{RplTable}
-use Rattle.vx_rpl.specs.declared.tables.TheConstants.{BEFORE_LIST_0, CHOICE, REF_PIC_LIST_STRUCT, LONG_TERM, BEHIND_LIST_0, BEHIND_LIST_1, WEIGHTS_0, WEIGHTS, WEIGHTS_1}
+use Rattle.vx_rpl.specs.declared.tables.TheConstants.{BEFORE_LIST_0, CHOICE, REF_PIC_LIST_STRUCT, LONG_TERM}
+use Rattle.vx_rpl.specs.declared.tables.TheConstants.{BEHIND_LIST_0, BEHIND_LIST_1, WEIGHTS_0, WEIGHTS, WEIGHTS_1}
 
 -- ---- a structure that a header takes from the SPS
 
