@@ -33,18 +33,28 @@ for name, (part, first) in kinds.items():
         file.write(part * (count % 1024))
 PY
 
-# Runs a command, and tells how long it took and its peak resident memory.
+# Runs a command on a file, and tells the best time of three, and its peak resident memory over a pipe that is read to
+# its end and kept open.
 cat > "$work/measure.py" <<'PY'
-import os, resource, subprocess, sys, time
-name, tool, size, *command = sys.argv[1:]
+import os, subprocess, sys, time
+name, tool, file, *command = sys.argv[1:]
+size = os.path.getsize(file)
 best = None
 for _ in range(3):
     begin = time.monotonic()
-    status = subprocess.run(command, stdout=subprocess.DEVNULL, stderr=subprocess.DEVNULL).returncode
+    status = subprocess.run(command + [file], stdout=subprocess.DEVNULL, stderr=subprocess.DEVNULL).returncode
     took = time.monotonic() - begin
     best = took if best is None else min(best, took)
-peak = resource.getrusage(resource.RUSAGE_CHILDREN).ru_maxrss
-print(f"{name} {tool}: {best * 1000:.0f} ms, {int(size) / best / 1048576:.0f} MiB/s, peak {peak} KiB, status {status}")
+run = subprocess.Popen(command + ["/dev/stdin"], stdin=subprocess.PIPE, stdout=subprocess.DEVNULL, stderr=subprocess.DEVNULL)
+with open(file, "rb") as source:
+    while piece := source.read(65536):
+        run.stdin.write(piece)
+run.stdin.flush()
+time.sleep(0.2)
+peak = next(line.split()[1] for line in open(f"/proc/{run.pid}/status") if line.startswith("VmHWM"))
+run.stdin.close()
+run.wait()
+print(f"{name} {tool}: {best * 1000:.0f} ms, {size / best / 1048576:.0f} MiB/s, peak {peak} KiB, status {status}")
 PY
 
 (cd crates/vx_app && rt run -- show data/a.266 >/dev/null 2>&1)
@@ -52,8 +62,7 @@ program=$PWD/crates/vx_app/out/vx_app
 for name in ordinary pairs short endless; do
   file=$work/$name.266
   cat "$file" >/dev/null
-  size=$(stat -c %s "$file")
-  python3 "$work/measure.py" "$name" cat "$size" cat "$file"
-  python3 "$work/measure.py" "$name" show "$size" "$program" show "$file"
+  python3 "$work/measure.py" "$name" cat "$file" cat
+  python3 "$work/measure.py" "$name" show "$file" "$program" show
 done
-"$program" show "$work/short.266" | wc -l
+echo "lines of short: $("$program" show "$work/short.266" | wc -l)"
