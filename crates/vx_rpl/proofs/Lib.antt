@@ -3,3 +3,9 @@ mod Counted
 mod Entries
 mod Whole
 mod Structures
+mod Told
+mod Grown
+pub mod Carrying
+pub mod Passing
+pub mod Following
+mod Written

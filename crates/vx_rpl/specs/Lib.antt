@@ -2,3 +2,6 @@
 pub mod Lists
 pub mod Resolved
 pub mod Numbers
+pub mod HeaderLists
+pub mod Depends
+pub mod Written
