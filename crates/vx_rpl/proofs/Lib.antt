@@ -3,3 +3,5 @@ mod Counted
 mod Entries
 mod Whole
 mod Structures
+mod Told
+mod Grown

@@ -2,3 +2,4 @@
 pub mod Lists
 pub mod Resolved
 pub mod Numbers
+pub mod HeaderLists

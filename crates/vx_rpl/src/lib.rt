@@ -2,6 +2,7 @@
 #![tactic(auto)]
 
 mod entry;
+mod lists;
 mod numbers;
 mod read;
 mod resolved;
@@ -11,8 +12,9 @@ mod tests;
 mod walk;
 
 pub use entry::{RefEntry, RefList, RefLists, RplTable, Structure, StructureList};
+pub use lists::resolve_lists;
 pub use numbers::{RplNumbers, WeightNumbers};
-pub use read::{read_struct, read_weights};
+pub use read::{read_lists, read_struct, read_weights};
 pub use tables::{
     BEFORE_LIST_0, BEHIND_LIST_0, BEHIND_LIST_1, CHOICE, LONG_TERM, REF_PIC_LIST_STRUCT, WEIGHTS,
     WEIGHTS_0, WEIGHTS_1,
