@@ -5,3 +5,6 @@ mod Whole
 mod Structures
 mod Told
 mod Grown
+pub mod Carrying
+pub mod Passing
+pub mod Following

@@ -3,3 +3,4 @@ pub mod Lists
 pub mod Resolved
 pub mod Numbers
 pub mod HeaderLists
+pub mod Depends
