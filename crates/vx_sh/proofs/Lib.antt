@@ -1,1 +1,2 @@
 -- Lemmas on slice headers.
+pub mod Depending
