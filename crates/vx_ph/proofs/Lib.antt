@@ -2,3 +2,4 @@
 mod Carrying
 mod Passing
 mod Sets
+mod Spelling
