@@ -12,7 +12,8 @@ mod write;
 pub use header::PictureHeader;
 pub use in_force::both_sets;
 pub use laws::{
-    fields_are_coded_once, header_depends, header_keeps, header_read_again, sets_agree,
+    fields_are_coded_once, header_depends, header_keeps, header_read_again, header_rewrites,
+    sets_agree,
 };
 pub use read::read_header_at;
 pub use tables::{
