@@ -24,7 +24,7 @@ use Rattle.vx_rpl.specs.declared.entry.RplTable.{RplTable}
 use Rattle.vx_rpl.specs.Lists.{lists_form, weights, weights_form}
 use Rattle.vx_rpl.specs.Depends.{lists_pass}
 use Rattle.vx_rpl.proofs.Passing.{lists_each}
-use Rattle.vx_ph.specs.Header.{front, lists_if_present, middle, weights_if_present, end, before_weights, header_form}
+use Rattle.vx_ph.specs.Header.{front, lists_if_present, middle, weights_if_present, back, before_weights, header_form}
 use Rattle.vx_ph.specs.Depends.{of_header, kept, kept_of_sets, all_of_sets, KeepsKept, ShowsAll, HeaderReadAgain}
 use Rattle.vx_ph.proofs.Carrying.{all_depend}
 
@@ -34,7 +34,7 @@ pub record Pass (test : Row → Bool) : Type 0 where
   pub lists : lists_pass test ≡ true
   pub middle : sections_pass test middle ≡ true
   pub weights : sections_pass test weights ≡ true
-  pub end : sections_pass test end ≡ true
+  pub back : sections_pass test back ≡ true
 
 pub header_each : (P : Cell ℕ → Type 0) (test : Row → Bool) (sound : (c : Cell Formula) (s : List ℕ) → test (Field c) ≡ true → P (cell_at s c)) (table : RplTable) (s : List ℕ)
     → Pass test → EachField P (header_form table s)
@@ -44,26 +44,26 @@ header_each P test sound table s pass =
     each_present P (When (Plain (Latest pps_rpl_info_in_ph_flag))) (lists_form table) t (λ u. lists_each P test sound table u pass.lists) in
     let weighted : (t : List ℕ) → EachField P (weights_if_present t) = λ t.
     each_present P (When (Plain (Latest HAS_WEIGHTS))) weights_form t (λ u. each_of_sections P test sound weights u pass.weights) in
-    each_then P (before_weights table s >>= weights_if_present) (sections_form end)
+    each_then P (before_weights table s >>= weights_if_present) (sections_form back)
     (each_then P (before_weights table s) weights_if_present
     (each_then P (sections_form front s >>= lists_if_present table) (sections_form middle)
     (each_then P (sections_form front s) (lists_if_present table) (each_of_sections P test sound front s pass.front) lists)
     (λ t. each_of_sections P test sound middle t pass.middle))
     weighted)
-    (λ t. each_of_sections P test sound end t pass.end)
+    (λ t. each_of_sections P test sound back t pass.back)
 
 pub shows_all : ShowsAll
 unfolding fresh shows_row
 shows_all table = record {
   at = λ s. header_each _ (shows_row (with_all (set_of all_of_sets) of_header)) (λ c t h. h) table s
-      (record { front = refl; lists = refl; middle = refl; weights = refl; end = refl });
+      (record { front = refl; lists = refl; middle = refl; weights = refl; back = refl });
 }
 
 pub keeps_kept : KeepsKept
 unfolding fresh has_value star_tells stands_for_field
 keeps_kept table = record {
   keeps = λ s. header_each _ (star_tells (with_all (set_of kept_of_sets) kept)) (λ c t h. starred (with_all (set_of kept_of_sets) kept) c t h) table s
-      (record { front = refl; lists = refl; middle = refl; weights = refl; end = refl });
+      (record { front = refl; lists = refl; middle = refl; weights = refl; back = refl });
 }
 
 pub header_read_again : HeaderReadAgain

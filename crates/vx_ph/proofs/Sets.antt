@@ -10,8 +10,10 @@ use Rattle.vx_table.specs.Shown.{shown_items}
 use Rattle.vx_table.proofs.Agreeing.{agree_itself, agree_set}
 use Rattle.vx_table.proofs.Shown.{scopes_follow_items}
 use Rattle.vx_fields.specs.declared.sps.TheConstants.{sps_extra_ph_bit_present_flag}
+use Rattle.vx_fields.specs.declared.pps.TheConstants.{pps_pic_parameter_set_id}
 use Rattle.vx_fields.specs.declared.names.ph.TheConstants.{EXTRA_PH_BITS}
-use Rattle.vx_ph.specs.InForce.{set_flags, first_of_pps, both_sets, in_force, SetsAgree}
+use Rattle.vx_sps.specs.Set.{set_flags}
+use Rattle.vx_ph.specs.InForce.{both_sets, in_force, SetsAgree}
 
 -- the flags of a field among the items of a set that has it
 is_flag : ℕ → Item → Bool
@@ -87,6 +89,6 @@ unfolding both_sets in_force
 sets_agree names sps other_sps pps other_pps there same_sps same_pps =
     let flags = same_flags names sps_extra_ph_bit_present_flag sps other_sps there same_sps in
     rw flags (agree_set EXTRA_PH_BITS (set_flags sps_extra_ph_bit_present_flag other_sps) (λ m is_not h. h)
-    (joined_agree names first_of_pps (loaded fresh sps) (loaded fresh other_sps) (loaded fresh pps) (loaded fresh other_pps)
+    (joined_agree names pps_pic_parameter_set_id (loaded fresh sps) (loaded fresh other_sps) (loaded fresh pps) (loaded fresh other_pps)
     (fresh_length sps ∙ sym (fresh_length pps)) (omega (arith, fresh_length sps))
     (loaded_agree names sps other_sps same_sps) (loaded_agree names pps other_pps same_pps)))

@@ -20,13 +20,13 @@ use Rattle.vx_rpl.specs.declared.entry.RplTable.{RplTable}
 use Rattle.vx_rpl.specs.Lists.{weights}
 use Rattle.vx_rpl.specs.Depends.{of_lists}
 use Rattle.vx_ph.specs.declared.tables.TheConstants.{PICTURE, PPS_ID, ORDER_COUNT, ALF, LMCS_AND_SCALING, OUTPUT, INTRA, INTER, QP, FILTERS}
-use Rattle.vx_ph.specs.Header.{front, middle, end, header_form}
+use Rattle.vx_ph.specs.Header.{front, middle, back, header_form}
 
 -- ---- fields
 
 -- all that a header has, and what its rows name besides
 abbrev pub of_header : List ℕ
-of_header = named_by_all front ++ (named_by_all middle ++ (named_by_all end ++ (of_lists ++ named_by_all weights)))
+of_header = named_by_all front ++ (named_by_all middle ++ (named_by_all back ++ (of_lists ++ named_by_all weights)))
 
 -- the fields with a star, and what is named for them alone: the id of the PPS, the filter, LMCS and scaling lists, the QP
 abbrev pub starred : List ℕ

@@ -2,3 +2,4 @@
 pub mod Header
 pub mod InForce
 pub mod Depends
+pub mod Picture

@@ -1,5 +1,5 @@
 //! Laws of picture headers: functions that do nothing, each with a law as its contract.
-ghost use Rattle.vx_ph.specs.Depends.{KeptDepend, AllDepend, KeepsKept, ShowsAll, FieldsAreCodedOnce, HeaderReadAgain};
+ghost use Rattle.vx_ph.specs.Depends.{KeptDepend, AllDepend, KeepsKept, ShowsAll, FieldsAreCodedOnce, HeaderReadAgain, HeaderRewrites};
 ghost use Rattle.vx_ph.specs.InForce.{SetsAgree};
 
 /// Sets that have the same items of some fields give scopes that agree on these.
@@ -28,4 +28,9 @@ pub fn header_keeps()
 /// The same bits under sets that agree on what a header depends on are the same header or the same refusal.
 pub fn header_read_again()
     ensures { HeaderReadAgain }
+{}
+
+/// A header goes again under sets of a merge, with another id of the PPS and another LMCS and scaling part.
+pub fn header_rewrites()
+    ensures { HeaderRewrites }
 {}
