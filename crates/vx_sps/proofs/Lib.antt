@@ -2,3 +2,13 @@
 pub mod Counted
 pub mod Bounded
 pub mod Written
+pub mod Groups
+pub mod Tests
+pub mod Chain
+pub mod Testing
+pub mod Stated
+pub mod Limits
+pub mod Picture
+pub mod Pushed
+pub mod Many
+pub mod Exists

@@ -3,4 +3,5 @@ pub mod Structure
 pub mod Set
 pub mod Subpictures
 pub mod Depends
+pub mod Reshaped
 pub mod inner

@@ -1,2 +1,3 @@
 -- Definitions that serve bodies and proofs alone.
 pub mod Kept
+pub mod Makes

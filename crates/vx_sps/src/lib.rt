@@ -2,10 +2,13 @@
 //!
 //! Its syntax stands in tables, cut into groups of fields that a rewritten set takes from its source, or replaces.
 //! [`read_sps`] reads a set, [`write_sps`] writes it, and [`Sps`] has what headers, layouts and rewriting ask of it.
+//! [`reshape_sps`] gives the set that is sent for a region or a frame, which [`SpsShape`] tells.
 #![tactic(auto)]
 
 mod laws;
 mod read;
+mod reshape;
+mod shape;
 mod sps;
 mod subpictures;
 mod tables;
@@ -17,6 +20,8 @@ mod walk;
 
 pub use laws::{kept_and_others_tell, kept_depends_on_kept, no_proper_prefix, written_is_read};
 pub use read::{read_sps, write_sps};
+pub use reshape::reshape_sps;
+pub use shape::{SpsShape, SubpicPlan};
 pub use sps::Sps;
 pub use tables::{
     CHROMA_QP, COUNTS, CTUS, END, FILTERS, IDS, INTER, INTRA, LIST_1, PARTITIONS, PLACE,

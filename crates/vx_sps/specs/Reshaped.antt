@@ -1,0 +1,186 @@
+-- The rewritten sequence parameter set: what it takes over from its source, and what it states (H.266 clause 7.3.2.4).
+use Rattle.std.specs.Prelude.{◌≡◌, ℕ, pos, ◌+◌, ◌-◌, ◌*◌, ◌^◌, ◌<◌, ◌≤◌, ◌%◌, max, Bool, cond, not, ◌&&◌, ◌||◌, ◌==◌, nat_lt, All}
+use Rattle.std.specs.Prelude.{List, [], ◌∷◌, ◌++◌, length, replicate, slice_index, slice_index_or, Option, Some, None, IfSome}
+use Rattle.vx_bits.specs.Codes.{IsCodeNumber}
+use Rattle.vx_bits.specs.declared.list.Item.{Item}
+use Rattle.vx_fields.specs.declared.ptl.TheConstants as ptl
+use Rattle.vx_fields.specs.declared.dpb.TheConstants as dpb
+use Rattle.vx_fields.specs.declared.timing.TheConstants as timing
+use Rattle.vx_fields.specs.declared.sps.TheConstants as sps
+use Rattle.vx_layout.specs.declared.rect.Rect.{Rect}
+use Rattle.vx_layout.specs.Borders.{Begins, Ends}
+use Rattle.vx_layout.specs.Layouts.{no_rect}
+use Rattle.vx_layout.specs.Rects.{IsPart}
+use Rattle.vx_table.specs.Scope.{one_if, is_set, quotient, powers_below, fresh}
+use Rattle.vx_table.specs.Depends.{set_of}
+use Rattle.vx_table.specs.Loaded.{number}
+use Rattle.vx_table.specs.Parts.{sections_form}
+use Rattle.vx_table.specs.Rewrites.{in_all_turns}
+use Rattle.vx_table.specs.Rewritten.{IsRewritten}
+use Rattle.vx_table.specs.Shown.{shown_items}
+use Rattle.vx_sps.specs.declared.shape.SpsShape.{SpsShape}
+use Rattle.vx_sps.specs.declared.shape.SubpicPlan.{SubpicPlan}
+use Rattle.vx_sps.specs.declared.shape.SubpicPlan.TheVariants.{Absent, One, Many}
+use Rattle.vx_sps.specs.declared.tables.TheConstants.{TAKEN}
+use Rattle.vx_sps.specs.Set.{ctb_size_of}
+use Rattle.vx_sps.specs.Structure.{sps_form}
+
+-- ---- what is stated, in the order of the syntax
+
+-- an item of a field; and items that stand only where something holds
+abbrev pub item : ℕ → ℕ → Item
+item of n = record { field = of; value = pos n }
+
+abbrev pub where_so : Bool → List Item → List Item
+where_so holds items = cond holds items []
+
+-- an item that the source's last one gives its number
+abbrev pub same : List Item → ℕ → Item
+same source of = item of (number source of)
+
+-- ids: the shape's, of no VPS
+abbrev pub id_items : ℕ → List Item
+id_items id = item sps.sps_seq_parameter_set_id id ∷ item sps.sps_video_parameter_set_id 0 ∷ []
+
+-- profile and tier of the source at a level (clause 7.3.3.1), without constraints, levels of sublayers and sub-profiles
+abbrev pub profile_items : List Item → ℕ → List Item
+profile_items source level =
+    same source ptl.general_profile_idc ∷ same source ptl.general_tier_flag ∷ item ptl.general_level_idc level
+    ∷ same source ptl.ptl_frame_only_constraint_flag ∷ same source ptl.ptl_multilayer_enabled_flag ∷ item ptl.gci_present_flag 0
+    ∷ (replicate (number source sps.sps_max_sublayers_minus1) (item ptl.ptl_sublayer_level_present_flag 0)
+    ++ item ptl.ptl_num_sub_profiles 0 ∷ [])
+
+-- the window's offsets, left, right, top and bottom, where one isn't 0
+abbrev pub has_window : List ℕ → Bool
+has_window window = (is_set (slice_index window 0) || is_set (slice_index window 1)) || (is_set (slice_index window 2) || is_set (slice_index window 3))
+
+abbrev pub window_items : List ℕ → List Item
+window_items window =
+    item sps.sps_conformance_window_flag (one_if (has_window window))
+    ∷ where_so (has_window window)
+    (item sps.sps_conf_win_left_offset (slice_index window 0) ∷ item sps.sps_conf_win_right_offset (slice_index window 1)
+    ∷ item sps.sps_conf_win_top_offset (slice_index window 2) ∷ item sps.sps_conf_win_bottom_offset (slice_index window 3) ∷ [])
+
+-- width and height, and the window
+abbrev pub size_items : ℕ → ℕ → List ℕ → List Item
+size_items width height window =
+    item sps.sps_pic_width_max_in_luma_samples width ∷ item sps.sps_pic_height_max_in_luma_samples height ∷ window_items window
+
+-- the place of subpicture i: its corner, but of the first, and its size, but of the last, both in columns and rows where the
+-- picture has several of these
+abbrev pub place_items : ℕ → ℕ → List Rect → ℕ → List Item
+place_items columns rows rects i =
+    let rect = slice_index_or rects i no_rect in
+    let later = is_set i in
+    let before_last = nat_lt i (length rects - 1) in
+    where_so (later && nat_lt 1 columns) (item sps.sps_subpic_ctu_top_left_x rect.x ∷ [])
+    ++ (where_so (later && nat_lt 1 rows) (item sps.sps_subpic_ctu_top_left_y rect.y ∷ [])
+    ++ (where_so (before_last && nat_lt 1 columns) (item sps.sps_subpic_width_minus1 (rect.w - 1) ∷ [])
+    ++ where_so (before_last && nat_lt 1 rows) (item sps.sps_subpic_height_minus1 (rect.h - 1) ∷ [])))
+
+-- several subpictures are independent, and each is placed by itself
+abbrev pub places_items : ℕ → ℕ → List Rect → List Item
+places_items columns rows rects = where_so (nat_lt 1 (length rects))
+    (item sps.sps_independent_subpics_flag 1 ∷ item sps.sps_subpic_same_size_flag 0
+    ∷ in_all_turns (place_items columns rows rects) 0 (length rects))
+
+-- the id of the one subpicture, where the set has it
+abbrev pub mapping_items : Option ℕ → List Item
+mapping_items None = item sps.sps_subpic_id_mapping_present_flag 0 ∷ []
+mapping_items (Some id) = item sps.sps_subpic_id_mapping_present_flag 1 ∷ item sps.sps_subpic_id id ∷ []
+
+-- the bits of the ids of n subpictures: Ceil(Log2(n)), and at least 1
+abbrev pub id_bits : ℕ → ℕ
+id_bits n = max (powers_below 32 n) 1
+
+-- one subpicture, whose id is mapped
+abbrev pub one_items : ℕ → Option ℕ → List Item
+one_items id_len id =
+    item sps.sps_num_subpics_minus1 0 ∷ item sps.sps_subpic_id_len_minus1 id_len ∷ item sps.sps_subpic_id_mapping_explicitly_signalled_flag 1
+    ∷ mapping_items id
+
+-- subpictures whose ids are their indices
+abbrev pub many_items : ℕ → ℕ → List Rect → List Item
+many_items columns rows rects =
+    item sps.sps_num_subpics_minus1 (length rects - 1)
+    ∷ (places_items columns rows rects
+    ++ item sps.sps_subpic_id_len_minus1 (id_bits (length rects) - 1) ∷ item sps.sps_subpic_id_mapping_explicitly_signalled_flag 0 ∷ [])
+
+-- the subpictures of a picture of so many columns and rows of CTUs
+abbrev pub subpic_items : ℕ → ℕ → SubpicPlan → List Item
+subpic_items columns rows Absent = item sps.sps_subpic_info_present_flag 0 ∷ []
+subpic_items columns rows (One id_len id) = item sps.sps_subpic_info_present_flag 1 ∷ one_items id_len id
+subpic_items columns rows (Many rects) = item sps.sps_subpic_info_present_flag 1 ∷ many_items columns rows rects
+
+-- DPB parameters of the highest sublayer alone (clause 7.3.4)
+abbrev pub dpb_items : List Item → List ℕ → List Item
+dpb_items source numbers =
+    where_so (is_set (number source sps.sps_max_sublayers_minus1)) (item sps.sps_sublayer_dpb_params_flag 0 ∷ [])
+    ++ item dpb.dpb_max_dec_pic_buffering_minus1 (slice_index numbers 0) ∷ item dpb.dpb_max_num_reorder_pics (slice_index numbers 1)
+    ∷ item dpb.dpb_max_latency_increase_plus1 (slice_index numbers 2) ∷ []
+
+-- The rate of the source's highest sublayer (clause 7.3.5.2): its numbers are the last ones.
+abbrev pub rate_items : List Item → List Item
+rate_items source =
+    let general = is_set (number source timing.fixed_pic_rate_general_flag) in
+    let within = is_set (number source timing.fixed_pic_rate_within_cvs_flag) in
+    same source timing.fixed_pic_rate_general_flag
+    ∷ (where_so (not general) (same source timing.fixed_pic_rate_within_cvs_flag ∷ [])
+    ++ where_so (general || within) (same source timing.elemental_duration_in_tc_minus1 ∷ []))
+
+-- timing where the source has it (clauses 7.3.5.1 and 7.3.5.2): its ticks, no HRD parameters, and that rate
+abbrev pub timing_items : List Item → List Item
+timing_items source = where_so (is_set (number source sps.sps_timing_hrd_params_present_flag))
+    (same source timing.num_units_in_tick ∷ same source timing.time_scale ∷ item timing.general_nal_hrd_params_present_flag 0
+    ∷ item timing.general_vcl_hrd_params_present_flag 0
+    ∷ (where_so (is_set (number source sps.sps_max_sublayers_minus1)) (item sps.sps_sublayer_cpb_params_present_flag 0 ∷ [])
+    ++ rate_items source))
+
+-- the picture: its size, and the subpictures
+abbrev pub picture_items : List Item → SpsShape → List Item
+picture_items source shape =
+    size_items shape.width shape.height shape.window
+    ++ subpic_items (quotient shape.width (ctb_size_of source)) (quotient shape.height (ctb_size_of source)) shape.subpics
+
+-- all that is stated
+abbrev pub stated : List Item → SpsShape → List Item
+stated source shape =
+    id_items shape.id
+    ++ (profile_items source shape.level ++ (picture_items source shape ++ (dpb_items source shape.dpb ++ timing_items source)))
+
+-- ---- shapes
+
+-- a width or height in luma samples
+pub record IsSize (n : ℕ) : Type 0 where
+  pub some : 0 < n
+  pub small : n ≤ 16384
+  pub whole : n % 8 ≡ 0
+
+-- rectangles that are parts of a picture of so many columns and rows, the first from its first CTU on, the last to its last
+pub record AreParts (columns rows : ℕ) (rects : List Rect) : Type 0 where
+  pub some : 0 < length rects
+  pub few : length rects ≤ 1000
+  pub parts : All (IsPart columns rows) rects
+  pub begins : Begins (slice_index_or rects 0 no_rect)
+  pub ends : Ends columns rows (slice_index_or rects (length rects - 1) no_rect)
+
+abbrev pub IsPlan : ℕ → ℕ → SubpicPlan → Type 0
+IsPlan columns rows Absent = Unit {0}
+IsPlan columns rows (One id_len id) = (id_len ≤ 15) × IfSome id (λ n. n < 2 ^ (id_len + 1))
+IsPlan columns rows (Many rects) = AreParts columns rows rects
+
+-- numbers that a set can have whose CTUs have this size
+pub record IsShape (ctb_size : ℕ) (shape : SpsShape) : Type 0 where
+  pub id : shape.id < 16
+  pub width : IsSize shape.width
+  pub height : IsSize shape.height
+  pub window : All IsCodeNumber shape.window
+  pub dpb : All IsCodeNumber shape.dpb
+  pub plan : IsPlan (quotient shape.width ctb_size) (quotient shape.height ctb_size) shape.subpics
+
+-- ---- the rewritten set
+
+-- The items are those of a set. Those of the fields that are taken over are the source's, and the others are exactly what is stated.
+abbrev pub IsReshaped : List Item → SpsShape → List Item → Type 0
+IsReshaped source shape items =
+    IsRewritten sps_form (set_of TAKEN) (shown_items (set_of TAKEN) source) (stated source shape) items

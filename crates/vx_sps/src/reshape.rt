@@ -1,0 +1,360 @@
+//! The sequence parameter set that is sent for a region or a frame, put together of its source's fields and stated ones.
+
+ghost use Rattle.std.specs.Prelude.{◌≡◌, ◌+◌, ◌<◌, ◌≤◌, [], ◌∷◌, ◌++◌, length, replicate, OnOk, IfOk};
+ghost use Rattle.vx_table.specs.Depends as sets;
+ghost use Rattle.vx_table.specs.Loaded as loading;
+ghost use Rattle.vx_table.specs.Shown.{shown_items};
+ghost use Rattle.vx_sps.specs.Set.{ctb_size_of};
+ghost use Rattle.vx_sps.specs.inner.Makes.{MakesSet};
+ghost use Rattle.vx_sps.specs.Reshaped as reshaped;
+ghost use Rattle.vx_sps.specs.Reshaped.{where_so, id_items, profile_items, window_items, size_items, place_items, places_items, one_items, many_items, subpic_items, dpb_items, rate_items, timing_items, stated, IsPlan, IsShape, IsReshaped};
+
+use crate::shape::{SpsShape, SubpicPlan};
+use crate::sps::Sps;
+use crate::tables::TAKEN;
+use crate::walk::code_sps;
+use std::alloc::{AllocError, Global};
+use vx_bits::{Fields, Item};
+use vx_fields::dpb::*;
+use vx_fields::ptl::*;
+use vx_fields::sps::*;
+use vx_fields::timing::*;
+use vx_layout::RectList;
+use vx_table::{Rewriter, Scope, SpellError, Unwritten, ceil_log2, quotient, set_of};
+
+/// Whether a field is one of a set.
+fn has(names: &Scope, field: u16) -> bool
+    ensures { result ≡ sets.has names.now field }
+{
+    names.latest(field) != 0
+}
+
+/// The items of a set's fields, in order.
+#[tactic(auto, using(crate::proofs::Pushed::shown_more, crate::proofs::Pushed::shown_passed))]
+fn items_of(alloc: Global, items: &Fields, names: &Scope) -> Result<Fields, AllocError>
+    ensures { IfOk result (λ shown. shown ≡ shown_items names.now items.now) }
+{
+    let mut shown = Fields::new(alloc);
+    for i in 0..items.len() {
+        let item = items.item(i);
+        if has(names, item.field) {
+            shown.push(item)?;
+        }
+    }
+    Ok(shown)
+}
+
+/// An item of a field.
+fn item(field: u16, number: u32) -> Item
+    ensures { result ≡ reshaped.item field number }
+{
+    Item {
+        field,
+        value: i64::from(number),
+    }
+}
+
+/// The number that a set's last item of a field gives it.
+fn number(source: &Sps, field: u16) -> u32
+    ensures { result ≡ loading.number source.now field }
+{
+    source.scope().latest(field)
+}
+
+/// An item of a field with the number that the source gives it.
+fn same(source: &Sps, field: u16) -> Item
+    ensures { result ≡ reshaped.same source.now field }
+{
+    item(field, number(source, field))
+}
+
+/// Appends an item that stands only where something holds.
+fn push_where(holds: bool, item: Item, into: &mut Fields) -> Result<(), AllocError>
+    ensures { OnOk result (into.new ≡ into.old ++ where_so holds (item ∷ [])) }
+{
+    if holds { into.push(item) } else { Ok(()) }
+}
+
+fn push_ids(id: u8, into: &mut Fields) -> Result<(), AllocError>
+    ensures { OnOk result (into.new ≡ into.old ++ id_items id) }
+{
+    into.extend_from_slice(&[
+        item(sps_seq_parameter_set_id, u32::from(id)),
+        item(sps_video_parameter_set_id, 0),
+    ])
+}
+
+/// Appends so many equal items.
+#[tactic(auto, using(crate::proofs::Pushed::equal_more))]
+fn push_times(item: Item, times: u32, into: &mut Fields) -> Result<(), AllocError>
+    ensures { OnOk result (into.new ≡ into.old ++ replicate times item) }
+{
+    for _turn in 0..times {
+        into.push(item)?;
+    }
+    Ok(())
+}
+
+/// Profile, tier and level.
+fn push_profile(source: &Sps, level: u8, into: &mut Fields) -> Result<(), AllocError>
+    ensures { OnOk result (into.new ≡ into.old ++ profile_items source.now level) }
+{
+    into.extend_from_slice(&[
+        same(source, general_profile_idc),
+        same(source, general_tier_flag),
+        item(general_level_idc, u32::from(level)),
+        same(source, ptl_frame_only_constraint_flag),
+        same(source, ptl_multilayer_enabled_flag),
+        item(gci_present_flag, 0),
+    ])?;
+    let no_level = item(ptl_sublayer_level_present_flag, 0);
+    push_times(no_level, number(source, sps_max_sublayers_minus1), into)?;
+    into.push(item(ptl_num_sub_profiles, 0))
+}
+
+/// Whether a window leaves anything out.
+fn has_window(window: [u32; 4]) -> bool
+    ensures { result ≡ reshaped.has_window window }
+{
+    (window[0] != 0 || window[1] != 0) || (window[2] != 0 || window[3] != 0)
+}
+
+/// Width, height and window.
+fn push_size(shape: &SpsShape, into: &mut Fields) -> Result<(), AllocError>
+    ensures { OnOk result (into.new ≡ into.old ++ size_items shape.now.width shape.now.height shape.now.window) }
+{
+    into.extend_from_slice(&[
+        item(sps_pic_width_max_in_luma_samples, shape.width),
+        item(sps_pic_height_max_in_luma_samples, shape.height),
+    ])?;
+    push_window(shape.window, into)
+}
+
+fn push_window(window: [u32; 4], into: &mut Fields) -> Result<(), AllocError>
+    ensures { OnOk result (into.new ≡ into.old ++ window_items window) }
+{
+    if !has_window(window) {
+        return into.push(item(sps_conformance_window_flag, 0));
+    }
+    into.extend_from_slice(&[
+        item(sps_conformance_window_flag, 1),
+        item(sps_conf_win_left_offset, window[0]),
+        item(sps_conf_win_right_offset, window[1]),
+        item(sps_conf_win_top_offset, window[2]),
+        item(sps_conf_win_bottom_offset, window[3]),
+    ])
+}
+
+/// The place of a subpicture of several.
+fn push_place(
+    columns: u32,
+    rows: u32,
+    rects: &RectList,
+    i: usize,
+    into: &mut Fields,
+) -> Result<(), AllocError>
+    requires { i < length rects.now }
+    ensures { OnOk result (into.new ≡ into.old ++ place_items columns rows rects.now i) }
+{
+    let rect = rects.item(i);
+    let later = i != 0;
+    let before_last = i < rects.len() - 1;
+    push_where(
+        later && 1 < columns,
+        item(sps_subpic_ctu_top_left_x, rect.x),
+        into,
+    )?;
+    push_where(
+        later && 1 < rows,
+        item(sps_subpic_ctu_top_left_y, rect.y),
+        into,
+    )?;
+    push_where(
+        before_last && 1 < columns,
+        item(sps_subpic_width_minus1, rect.w.saturating_sub(1)),
+        into,
+    )?;
+    push_where(
+        before_last && 1 < rows,
+        item(sps_subpic_height_minus1, rect.h.saturating_sub(1)),
+        into,
+    )
+}
+
+/// The places of several subpictures.
+fn push_places(
+    columns: u32,
+    rows: u32,
+    rects: &RectList,
+    into: &mut Fields,
+) -> Result<(), AllocError>
+    ensures { OnOk result (into.new ≡ into.old ++ places_items columns rows rects.now) }
+{
+    if rects.len() <= 1 {
+        return Ok(());
+    }
+    into.extend_from_slice(&[
+        item(sps_independent_subpics_flag, 1),
+        item(sps_subpic_same_size_flag, 0),
+    ])?;
+    for i in 0..rects.len() {
+        push_place(columns, rows, rects, i, into)?;
+    }
+    Ok(())
+}
+
+/// One subpicture, whose id is mapped.
+fn push_one(id_len: u32, id: Option<u32>, into: &mut Fields) -> Result<(), AllocError>
+    ensures { OnOk result (into.new ≡ into.old ++ one_items id_len id) }
+{
+    into.extend_from_slice(&[
+        item(sps_num_subpics_minus1, 0),
+        item(sps_subpic_id_len_minus1, id_len),
+        item(sps_subpic_id_mapping_explicitly_signalled_flag, 1),
+    ])?;
+    match id {
+        None => into.push(item(sps_subpic_id_mapping_present_flag, 0)),
+        Some(id) => into.extend_from_slice(&[
+            item(sps_subpic_id_mapping_present_flag, 1),
+            item(sps_subpic_id, id),
+        ]),
+    }
+}
+
+/// Several subpictures, or one whose id is its index.
+fn push_many(columns: u32, rows: u32, rects: &RectList, into: &mut Fields) -> Result<(), AllocError>
+    requires few { length rects.now ≤ 1000 }
+    ensures { OnOk result (into.new ≡ into.old ++ many_items columns rows rects.now) }
+{
+    let count = rects.len() as u32;
+    into.push(item(sps_num_subpics_minus1, count.saturating_sub(1)))?;
+    push_places(columns, rows, rects, into)?;
+    into.extend_from_slice(&[
+        item(sps_subpic_id_len_minus1, ceil_log2(count).max(1) - 1),
+        item(sps_subpic_id_mapping_explicitly_signalled_flag, 0),
+    ])
+}
+
+/// The subpictures of a picture of so many columns and rows of CTUs.
+fn push_subpics(
+    columns: u32,
+    rows: u32,
+    plan: &SubpicPlan,
+    into: &mut Fields,
+) -> Result<(), AllocError>
+    requires { IsPlan columns rows plan.now }
+    ensures { OnOk result (into.new ≡ into.old ++ subpic_items columns rows plan.now) }
+{
+    match plan {
+        SubpicPlan::Absent => into.push(item(sps_subpic_info_present_flag, 0)),
+        SubpicPlan::One { id_len, id } => {
+            into.push(item(sps_subpic_info_present_flag, 1))?;
+            push_one(*id_len, *id, into)
+        }
+        SubpicPlan::Many(rects) => {
+            into.push(item(sps_subpic_info_present_flag, 1))?;
+            push_many(columns, rows, rects, into)
+        }
+    }
+}
+
+/// DPB parameters of the highest sublayer.
+fn push_dpb(source: &Sps, numbers: [u32; 3], into: &mut Fields) -> Result<(), AllocError>
+    ensures { OnOk result (into.new ≡ into.old ++ dpb_items source.now numbers) }
+{
+    let several = number(source, sps_max_sublayers_minus1) != 0;
+    push_where(several, item(sps_sublayer_dpb_params_flag, 0), into)?;
+    into.extend_from_slice(&[
+        item(dpb_max_dec_pic_buffering_minus1, numbers[0]),
+        item(dpb_max_num_reorder_pics, numbers[1]),
+        item(dpb_max_latency_increase_plus1, numbers[2]),
+    ])
+}
+
+/// The rate of the highest sublayer.
+fn push_rate(source: &Sps, into: &mut Fields) -> Result<(), AllocError>
+    ensures { OnOk result (into.new ≡ into.old ++ rate_items source.now) }
+{
+    let general = number(source, fixed_pic_rate_general_flag) != 0;
+    let within = number(source, fixed_pic_rate_within_cvs_flag) != 0;
+    into.push(same(source, fixed_pic_rate_general_flag))?;
+    push_where(!general, same(source, fixed_pic_rate_within_cvs_flag), into)?;
+    push_where(
+        general || within,
+        same(source, elemental_duration_in_tc_minus1),
+        into,
+    )
+}
+
+/// Timing, where the source has it.
+fn push_timing(source: &Sps, into: &mut Fields) -> Result<(), AllocError>
+    ensures { OnOk result (into.new ≡ into.old ++ timing_items source.now) }
+{
+    if number(source, sps_timing_hrd_params_present_flag) == 0 {
+        return Ok(());
+    }
+    into.extend_from_slice(&[
+        same(source, num_units_in_tick),
+        same(source, time_scale),
+        item(general_nal_hrd_params_present_flag, 0),
+        item(general_vcl_hrd_params_present_flag, 0),
+    ])?;
+    let several = number(source, sps_max_sublayers_minus1) != 0;
+    push_where(several, item(sps_sublayer_cpb_params_present_flag, 0), into)?;
+    push_rate(source, into)
+}
+
+/// All that is stated, in order.
+fn stated_items(alloc: Global, source: &Sps, shape: &SpsShape) -> Result<Fields, AllocError>
+    requires { IsShape (ctb_size_of source.now) shape.now }
+    ensures items { IfOk result (λ items. items ≡ stated source.now shape.now) }
+    // A level that was read is one of its type.
+    ensures level { OnOk result (shape.now.level < 256) }
+{
+    let side = source.ctb();
+    let (columns, rows) = (quotient(shape.width, side), quotient(shape.height, side));
+    let mut into = Fields::new(alloc);
+    push_ids(shape.id, &mut into)?;
+    push_profile(source, shape.level, &mut into)?;
+    push_size(shape, &mut into)?;
+    push_subpics(columns, rows, &shape.subpics, &mut into)?;
+    push_dpb(source, shape.dpb, &mut into)?;
+    push_timing(source, &mut into)?;
+    Ok(into)
+}
+
+/// Appends the set that has these items of the fields that are taken over, and those of the others.
+///
+/// # Errors
+///
+/// `NoValue` where there is none; want of memory.
+fn rewrite(taken: &Fields, stated: &Fields, into: &mut Fields) -> Result<(), SpellError>
+    requires { into.old ≡ [] }
+    ensures { MakesSet taken.now stated.now result into.new }
+{
+    let mut rewriter = Rewriter::new(
+        set_of(&TAKEN),
+        Unwritten::new(taken, 0, taken.len()),
+        Unwritten::new(stated, 0, stated.len()),
+    );
+    code_sps(&mut Scope::new(), &mut rewriter, into)
+}
+
+/// The set that says what `shape` says, and all else as its source `sps`: the fields in [`TAKEN`] are the source's.
+///
+/// # Errors
+///
+/// Where memory runs out.
+pub fn reshape_sps(alloc: Global, sps: &Sps, shape: &SpsShape) -> Result<Sps, AllocError>
+    requires { IsShape (ctb_size_of sps.now) shape.now }
+    ensures { IfOk result (λ reshaped. IsReshaped sps.now shape.now reshaped) }
+{
+    let taken = items_of(alloc, sps.fields(), &set_of(&TAKEN))?;
+    let stated = stated_items(alloc, sps, shape)?;
+    let mut items = Fields::new(alloc);
+    match rewrite(&taken, &stated, &mut items) {
+        Ok(()) => Sps::new(alloc, items),
+        Err(SpellError::Memory) => Err(AllocError),
+        Err(SpellError::NoValue) => unreachable!(),
+    }
+}
