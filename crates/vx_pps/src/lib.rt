@@ -5,13 +5,17 @@
 #![tactic(auto)]
 #![allow(non_upper_case_globals)]
 
+mod grid;
+mod halt;
 mod laws;
 mod list;
+mod numbers;
 mod partition;
 mod tables;
 #[cfg(test)]
 mod tests;
 mod tiles;
+mod walk;
 
 pub use laws::{
     bounds_are_read_back, few_are_read_back, few_fall_into_groups, layouts_are_lists,
