@@ -1,10 +1,14 @@
-//! The tiles and slices of a picture parameter set (H.266 7.3.2.5, 6.5.1).
+//! The picture parameter set and its slice list (H.266 7.3.2.5, 6.5.1).
 //!
 //! [`Tiles`] names tiles by their index. The laws say of which groups the slices of a picture are that a slice list can
 //! name: slices of whole tiles, and the slices of one tile.
 #![tactic(auto)]
+#![allow(non_upper_case_globals)]
 
 mod laws;
+mod list;
+mod partition;
+mod tables;
 #[cfg(test)]
 mod tests;
 mod tiles;
@@ -13,4 +17,7 @@ pub use laws::{
     bounds_are_read_back, few_are_read_back, few_fall_into_groups, layouts_are_lists,
     list_gives_slices, lists_fall_into_groups, slices_are_read_back,
 };
+pub use list::Listed;
+pub use partition::Partition;
+pub use tables::{FRONT, PLACES, TILE_FLAGS, TOOLS};
 pub use tiles::Tiles;

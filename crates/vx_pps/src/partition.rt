@@ -1,0 +1,16 @@
+//! The tiles and slices of a picture parameter set.
+
+use crate::tiles::Tiles;
+use vx_layout::RectList;
+use vx_table::Scope;
+
+/// What a picture parameter set tells of tiles and slices, and its numbers.
+#[derive(Drop)]
+pub struct Partition {
+    /// The numbers behind it.
+    pub scope: Scope,
+    /// The tiles; none where the picture isn't partitioned.
+    pub tiles: Tiles,
+    /// The slices, where the slice list names them.
+    pub slices: Option<RectList>,
+}
