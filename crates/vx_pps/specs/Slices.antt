@@ -1,7 +1,7 @@
 -- The slice list of a picture parameter set: its fields in order, and the rectangles of its slices (H.266 7.3.2.5, 7.4.3.5,
 -- 6.5.1).
-use Rattle.std.specs.Prelude.{◌==◌, ℕ, pos, zero, suc, ◌+◌, ◌-◌, ◌*◌, ◌&&◌, nat_le, nat_lt, Bool, false, cond, List, [], ◌∷◌, ◌++◌, length, Option, Some, None}
-use Rattle.std.specs.Prelude.{neg_ℤ, ◌+ℤ◌}
+use Rattle.std.specs.Prelude.{◌==◌, ℕ, pos, zero, suc, ◌+◌, ◌-◌, ◌*◌, neg_ℤ, ◌+ℤ◌, ◌&&◌, nat_le, nat_lt, Bool, false, cond}
+use Rattle.std.specs.Prelude.{List, [], ◌∷◌, ◌++◌, length, Option, Some, None}
 use Rattle.std.specs.Int.{div_ceil}
 use Rattle.vx_fields.specs.declared.pps.TheConstants as pps
 use Rattle.vx_layout.specs.declared.rect.Rect.{Rect}

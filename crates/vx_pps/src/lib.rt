@@ -19,5 +19,8 @@ pub use laws::{
 };
 pub use list::Listed;
 pub use partition::Partition;
-pub use tables::{FRONT, PLACES, TILE_FLAGS, TOOLS};
+pub use tables::{
+    DBF_INFO, DBF_OFFSETS, END, HEADER_INFO, IDS, INIT_QP, NAL_TYPES, OUTPUT, PREDICTION,
+    QP_OFFSETS, SIZE, SUBPIC_IDS,
+};
 pub use tiles::Tiles;

@@ -2,13 +2,10 @@
 
 use crate::tiles::Tiles;
 use vx_layout::RectList;
-use vx_table::Scope;
 
-/// What a picture parameter set tells of tiles and slices, and its numbers.
+/// What a picture parameter set tells of tiles and slices.
 #[derive(Drop)]
 pub struct Partition {
-    /// The numbers behind it.
-    pub scope: Scope,
     /// The tiles; none where the picture isn't partitioned.
     pub tiles: Tiles,
     /// The slices, where the slice list names them.

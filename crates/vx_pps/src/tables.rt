@@ -1,18 +1,28 @@
-//! The tables of H.266 clause 7.3.2.5, the picture parameter set. Its tile sizes and its slice list, which no table can
-//! carry, are in direct style.
+//! The tables of H.266 clause 7.3.2.5, the picture parameter set. What it tells of tiles and slices, which no table can
+//! carry, stands between [`SUBPIC_IDS`] and [`PREDICTION`] in direct style.
+//!
+//! They are cut where fields that a rewritten set takes over and fields that it replaces meet.
 use vx_bits::rules::{
-    MIXED_NAL_TYPES, PPS_EXTENSION, RASTER_SCAN_SLICES, REFERENCE_WRAPAROUND, SCALING_WINDOW,
-    TOO_LARGE, TOO_MANY_SUBPICTURES,
+    MIXED_NAL_TYPES, PPS_EXTENSION, REFERENCE_WRAPAROUND, SCALING_WINDOW, TOO_LARGE,
+    TOO_MANY_SUBPICTURES,
 };
 use vx_fields::names::pps::*;
 use vx_fields::pps::*;
 use vx_table::{Row, table};
 
-/// Up to the CTU size, which tells how many CTUs a picture has across and down.
-pub const FRONT: [Row; 29] = table! {
+/// The ids.
+pub const IDS: [Row; 2] = table! {
     pps_pic_parameter_set_id*: u(6);
     pps_seq_parameter_set_id*: u(4);
+};
+
+/// Whether the slices of a picture have several NAL unit types.
+pub const NAL_TYPES: [Row; 1] = table! {
     pps_mixed_nalu_types_in_pic_flag in 0..=0 else Profile(MIXED_NAL_TYPES);
+};
+
+/// The size of a picture, and its conformance window.
+pub const SIZE: [Row; 8] = table! {
     pps_pic_width_in_luma_samples*: ue multiple 8 upto 16384 else Limit(TOO_LARGE);
     pps_pic_height_in_luma_samples*: ue multiple 8 upto 16384 else Limit(TOO_LARGE);
     pps_conformance_window_flag*;
@@ -22,14 +32,21 @@ pub const FRONT: [Row; 29] = table! {
         pps_conf_win_top_offset*: ue;
         pps_conf_win_bottom_offset*: ue;
     }
+};
+
+/// The scaling window, and whether picture headers say that a picture is not shown.
+pub const OUTPUT: [Row; 2] = table! {
     pps_scaling_window_explicit_signalling_flag in 0..=0 else Profile(SCALING_WINDOW);
     pps_output_flag_present_flag;
+};
+
+/// Whether the picture may have several tiles and slices, and the ids of its subpictures.
+pub const SUBPIC_IDS: [Row; 9] = table! {
     pps_no_pic_partition_flag*;
-    let PARTITIONED = (not pps_no_pic_partition_flag);
     pps_subpic_id_mapping_present_flag*;
     if pps_subpic_id_mapping_present_flag {
         default pps_num_subpics_minus1 = 0;
-        if PARTITIONED {
+        if (not pps_no_pic_partition_flag) {
             pps_num_subpics_minus1*: ue below 1000 else Limit(TOO_MANY_SUBPICTURES);
         }
         pps_subpic_id_len_minus1*: ue in 0..=15;
@@ -37,33 +54,23 @@ pub const FRONT: [Row; 29] = table! {
             pps_subpic_id*: u(pps_subpic_id_len_minus1 + 1);
         }
     }
-    if PARTITIONED {
-        pps_log2_ctu_size_minus5*: u(2) in 0..=2;
-        let CTB_LOG2 = (pps_log2_ctu_size_minus5 + 5);
-        let CTB = (pow2 CTB_LOG2);
-        let CTU_COLUMNS = (pps_pic_width_in_luma_samples / CTB);
-        let CTU_ROWS = (pps_pic_height_in_luma_samples / CTB);
-    }
 };
 
-/// Behind the tile sizes: what is said of the tiles, and whether subpictures are the slices.
-pub const TILE_FLAGS: [Row; 4] = table! {
-    if SEVERAL_TILES {
-        pps_loop_filter_across_tiles_enabled_flag*;
-        pps_rect_slice_flag* in 1..=1 else Profile(RASTER_SCAN_SLICES);
-    }
-    pps_single_slice_per_subpic_flag*;
-};
-
-/// Behind tiles and slices: the tools of slices, up to whether the deblocking filter is on.
-pub const TOOLS: [Row; 31] = table! {
+/// Behind tiles and slices: references and weights.
+pub const PREDICTION: [Row; 7] = table! {
     pps_cabac_init_present_flag;
     for LIST in 2 { pps_num_ref_idx_default_active_minus1: ue in 0..=14; }
     pps_rpl1_idx_present_flag;
     pps_weighted_pred_flag;
     pps_weighted_bipred_flag;
     pps_ref_wraparound_enabled_flag in 0..=0 else Profile(REFERENCE_WRAPAROUND);
-    pps_init_qp_minus26*: se in -38..=37;
+};
+
+/// The QP from which slices differ.
+pub const INIT_QP: [Row; 1] = table! { pps_init_qp_minus26*: se in -38..=37; };
+
+/// Offsets of the chroma QP, and whether the deblocking filter is on.
+pub const QP_OFFSETS: [Row; 23] = table! {
     pps_cu_qp_delta_enabled_flag;
     pps_chroma_tool_offsets_present_flag;
     if pps_chroma_tool_offsets_present_flag {
@@ -91,13 +98,16 @@ pub const TOOLS: [Row; 31] = table! {
     }
 };
 
-/// The deblocking filter's offsets, what stands in picture headers, and the end. The flags that say what stands there are
-/// among the kept fields also where they are absent, as 0.
-pub const PLACES: [Row; 34] = table! {
+/// Whether the deblocking filter's parameters stand in picture headers. It is a kept field also where it is absent, as 0.
+pub const DBF_INFO: [Row; 6] = table! {
     let PARTITIONED = (not pps_no_pic_partition_flag);
     let HAS_DBF_INFO = (PARTITIONED and pps_deblocking_filter_override_enabled_flag);
     if HAS_DBF_INFO { pps_dbf_info_in_ph_flag; }
     if (not HAS_DBF_INFO) { fill pps_dbf_info_in_ph_flag; }
+};
+
+/// The offsets of the deblocking filter.
+pub const DBF_OFFSETS: [Row; 9] = table! {
     if pps_deblocking_filter_control_present_flag {
         if (not pps_deblocking_filter_disabled_flag) {
             pps_luma_beta_offset_div2: se;
@@ -110,8 +120,13 @@ pub const PLACES: [Row; 34] = table! {
             }
         }
     }
+};
+
+/// What else stands in picture headers. Lists, sample adaptive offset and weights are kept fields also where they are
+/// absent, as 0.
+pub const HEADER_INFO: [Row; 15] = table! {
     let IS_WEIGHTED = (pps_weighted_pred_flag or pps_weighted_bipred_flag);
-    if PARTITIONED {
+    if (not pps_no_pic_partition_flag) {
         pps_rpl_info_in_ph_flag;
         pps_sao_info_in_ph_flag;
         pps_alf_info_in_ph_flag*;
@@ -120,11 +135,15 @@ pub const PLACES: [Row; 34] = table! {
         if (not HAS_WP_INFO) { fill pps_wp_info_in_ph_flag; }
         pps_qp_delta_info_in_ph_flag*;
     }
-    if (not PARTITIONED) {
+    if pps_no_pic_partition_flag {
         fill pps_rpl_info_in_ph_flag;
         fill pps_sao_info_in_ph_flag;
         fill pps_wp_info_in_ph_flag;
     }
+};
+
+/// The extensions of headers, and the end.
+pub const END: [Row; 4] = table! {
     pps_picture_header_extension_present_flag;
     pps_slice_header_extension_present_flag;
     pps_extension_flag in 0..=0 else Profile(PPS_EXTENSION);
