@@ -6,3 +6,5 @@ pub mod Few
 pub mod Pictures
 pub mod Giving
 pub mod Listing
+pub mod Finding
+pub mod Pushing

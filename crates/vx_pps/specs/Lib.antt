@@ -7,3 +7,4 @@ pub mod Partition
 pub mod Items
 pub mod Pps
 pub mod Laws
+pub mod inner

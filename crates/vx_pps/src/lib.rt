@@ -5,12 +5,16 @@
 #![tactic(auto)]
 #![allow(non_upper_case_globals)]
 
+mod groups;
 mod laws;
 mod list;
+mod list_items;
 mod partition;
 mod tables;
 #[cfg(test)]
 mod tests;
+#[cfg(test)]
+mod tests_list_items;
 mod tiles;
 
 pub use laws::{
