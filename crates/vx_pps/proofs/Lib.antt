@@ -8,3 +8,6 @@ pub mod Giving
 pub mod Listing
 pub mod Finding
 pub mod Pushing
+pub mod Division
+pub mod Testing
+pub mod Fronts

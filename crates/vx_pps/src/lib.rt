@@ -10,6 +10,7 @@ mod laws;
 mod list;
 mod list_items;
 mod partition;
+mod shape;
 mod tables;
 #[cfg(test)]
 mod tests;
@@ -23,6 +24,7 @@ pub use laws::{
 };
 pub use list::Listed;
 pub use partition::Partition;
+pub use shape::{PpsShape, TAKEN, TAKEN_FOR_FRAME};
 pub use tables::{
     DBF_INFO, DBF_OFFSETS, END, HEADER_INFO, IDS, INIT_QP, NAL_TYPES, OUTPUT, PREDICTION,
     QP_OFFSETS, SIZE, SUBPIC_IDS,
