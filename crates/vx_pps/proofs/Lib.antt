@@ -1,4 +1,8 @@
 -- Lemmas of this crate.
+mod Ranges
+mod Walking
+mod Sizing
+mod Turning
 pub mod Blocks
 pub mod Runs
 pub mod Grouping

@@ -49,14 +49,17 @@ ctus samples log2 = min (div_ceil samples (2 ^ (log2 + 5))) most_ctus
 unfoldable pub sizes_of : ℕ → ℕ → ℕ → Form (List ℕ)
 sizes_of of count total = sizes_from of count total []
 
--- the tiles of a picture of so many CTUs across and down (ColBdVal, RowBdVal)
+-- the tiles of these explicit sizes, in a picture of so many CTUs across and down (ColBdVal, RowBdVal)
+abbrev pub tiles_of : List ℕ → ℕ → List ℕ → ℕ → Tiles
+tiles_of widths columns heights rows = record { columns = bounds_of widths columns; rows = bounds_of heights rows }
+
 unfoldable pub tiles_among : ℕ → ℕ → Form Tiles
 tiles_among columns rows = do
   last_column ← counted pps.pps_num_exp_tile_columns_minus1 columns
   last_row ← counted pps.pps_num_exp_tile_rows_minus1 rows
   widths ← sizes_of pps.pps_tile_column_width_minus1 (last_column + 1) columns
   heights ← sizes_of pps.pps_tile_row_height_minus1 (last_row + 1) rows
-  done (record { columns = bounds_of widths columns; rows = bounds_of heights rows })
+  done (tiles_of widths columns heights rows)
 
 -- pps_loop_filter_across_tiles_enabled_flag and pps_rect_slice_flag, of several tiles
 unfoldable pub tile_flags : Tiles → Form ℕ

@@ -1,6 +1,7 @@
 -- A picture parameter set: its form, and what its items tell (H.266 7.3.2.5, 7.4.3.5).
 use Rattle.std.specs.Prelude.{◌≡◌, ℕ, not, Bool, List, [], ◌∷◌, ◌++◌, Option, Some, None, slice_index}
 use Rattle.vx_bits.specs.declared.list.Item.{Item}
+use Rattle.vx_bits.specs.Codes.{bits_of}
 use Rattle.vx_fields.specs.declared.pps.TheConstants as pps
 use Rattle.vx_layout.specs.declared.rect.Rect.{Rect}
 use Rattle.vx_table.specs.Forms.{Form, done, ◌>>=◌}
@@ -8,6 +9,7 @@ use Rattle.vx_table.specs.Kept.{kept_along}
 use Rattle.vx_table.specs.Loaded as loading
 use Rattle.vx_table.specs.Parts.{Section, always, sections_form}
 use Rattle.vx_table.specs.Scope.{fresh, is_set}
+use Rattle.vx_table.specs.Values.{bits_along}
 use Rattle.vx_pps.specs.declared.partition.Partition.{Partition}
 use Rattle.vx_pps.specs.declared.tables.TheConstants as tables
 use Rattle.vx_pps.specs.Items.{end_along, numbers_of, values_in}
@@ -75,3 +77,11 @@ default_active items list = slice_index (numbers_of items pps.pps_num_ref_idx_de
 -- the items of its kept fields; those that say what stands in picture headers, also where they are absent, as 0
 abbrev pub kept_of : List Item → List Item
 kept_of items = kept_along pps_form (values_in pps_form items)
+
+-- ---- how it is spelled
+
+-- The bytes are the spelling of the values whose items these are.
+pub record IsSpelling (items : List Item) (bytes : List ℕ) : Type 0 where
+  pub end : Partition
+  pub set : IsPps items end
+  pub bits : bits_of bytes ≡ bits_along pps_form 0 set.values

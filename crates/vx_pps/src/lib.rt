@@ -5,10 +5,13 @@
 #![tactic(auto)]
 #![allow(non_upper_case_globals)]
 
+mod grid;
 mod groups;
+mod halt;
 mod laws;
 mod list;
 mod list_items;
+mod numbers;
 mod partition;
 mod shape;
 mod tables;
@@ -17,6 +20,7 @@ mod tests;
 #[cfg(test)]
 mod tests_list_items;
 mod tiles;
+mod walk;
 
 pub use laws::{
     bounds_are_read_back, few_are_read_back, few_fall_into_groups, layouts_are_lists,
