@@ -10,3 +10,8 @@ pub mod Few
 pub mod Pictures
 pub mod Giving
 pub mod Listing
+pub mod Finding
+pub mod Pushing
+pub mod Division
+pub mod Testing
+pub mod Fronts

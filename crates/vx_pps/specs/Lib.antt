@@ -7,4 +7,5 @@ pub mod Partition
 pub mod Items
 pub mod Pps
 pub mod Laws
+pub mod Reshaped
 pub mod inner

@@ -6,14 +6,19 @@
 #![allow(non_upper_case_globals)]
 
 mod grid;
+mod groups;
 mod halt;
 mod laws;
 mod list;
+mod list_items;
 mod numbers;
 mod partition;
+mod shape;
 mod tables;
 #[cfg(test)]
 mod tests;
+#[cfg(test)]
+mod tests_list_items;
 mod tiles;
 mod walk;
 
@@ -23,6 +28,7 @@ pub use laws::{
 };
 pub use list::Listed;
 pub use partition::Partition;
+pub use shape::{PpsShape, TAKEN, TAKEN_FOR_FRAME};
 pub use tables::{
     DBF_INFO, DBF_OFFSETS, END, HEADER_INFO, IDS, INIT_QP, NAL_TYPES, OUTPUT, PREDICTION,
     QP_OFFSETS, SIZE, SUBPIC_IDS,
