@@ -1,5 +1,6 @@
 //! Laws of picture headers: functions that do nothing, each with a law as its contract.
 ghost use Rattle.vx_ph.specs.Depends.{KeptDepend, AllDepend, KeepsKept, ShowsAll, FieldsAreCodedOnce, HeaderReadAgain, HeaderRewrites};
+ghost use Rattle.vx_ph.specs.Id.{HeaderHasId};
 ghost use Rattle.vx_ph.specs.InForce.{SetsAgree};
 
 /// Sets that have the same items of some fields give scopes that agree on these.
@@ -33,4 +34,9 @@ pub fn header_read_again()
 /// A header goes again under sets of a merge, with another id of the PPS and another LMCS and scaling part.
 pub fn header_rewrites()
     ensures { HeaderRewrites }
+{}
+
+/// The id that stands in the bits is that of each header that they begin with, whatever the sets.
+pub fn header_has_id()
+    ensures { HeaderHasId }
 {}
