@@ -3,3 +3,7 @@ pub mod Depending
 pub mod Kept
 mod Admitting
 pub mod Rewritten
+mod Passing
+mod Parts
+mod Stopped
+mod Sized

@@ -25,7 +25,7 @@ use Rattle.vx_fields.specs.declared.names.sh.TheConstants.{NUM_ENTRY_POINTS, HAS
 use Rattle.vx_rpl.specs.declared.entry.RplTable.{RplTable}
 use Rattle.vx_rpl.specs.Lists.{lists_form, weights, weights_form}
 use Rattle.vx_rpl.proofs.Passing.{lists_show, lists_leave}
-use Rattle.vx_sh.specs.declared.tables.TheConstants.{ADDRESS, TYPE, LISTS_HERE, CHROMA_QP_AND_FILTERS, END}
+use Rattle.vx_sh.specs.declared.tables.TheConstants.{ADDRESS, TYPE, LISTS_HERE, CHROMA_QP_AND_FILTERS, END, ALIGNMENT}
 use Rattle.vx_sh.specs.Slice.{with_entry_points, address_form, own, before_lists, lists_here, between, weights_here, qp, behind_weights, front_form, before_weights, rest_form}
 use Rattle.vx_sh.specs.Depends.{starred_given, starred_fields}
 use Rattle.vx_sh.specs.Again.{kept, SlicesReadAgain, SlicesRewrite}
@@ -96,7 +96,7 @@ weights_add t = adds_none weights_here
 behind_weights_adds : (t : List ℕ) (delta : List Item) → Takes (sections_form qp t) delta → Adds kept uses_read t (sections_form behind_weights) delta
 unfolding fresh shows_row hides_row hides_counter
 behind_weights_adds t delta takes =
-    let last : List Section = always CHROMA_QP_AND_FILTERS ∷ always END ∷ [] in
+    let last : List Section = always CHROMA_QP_AND_FILTERS ∷ always END ∷ always ALIGNMENT ∷ [] in
     rw (append-nil delta) at (adds_sections qp last delta [] (delta_adds t delta takes) (adds_none (sections_form last) (sections_show kept last refl) (sections_leave uses_read last refl)))
 
 -- ---- the whole

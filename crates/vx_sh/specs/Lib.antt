@@ -2,3 +2,6 @@
 pub mod Slice
 pub mod Depends
 pub mod Again
+pub mod Whole
+pub mod Value
+pub mod inner

@@ -11,7 +11,7 @@ use Rattle.vx_rpl.specs.declared.entry.RplTable.{RplTable}
 use Rattle.vx_rpl.specs.Lists.{lists_form, weights_form}
 use Rattle.vx_ph.specs.declared.tables.TheConstants.{ALF}
 use Rattle.vx_sh.specs.declared.tables.TheConstants.{ADDRESS, TYPE, FILTER_HERE, LMCS_AND_SCALING, LISTS_HERE, ACTIVE, INTER, QP}
-use Rattle.vx_sh.specs.declared.tables.TheConstants.{CHROMA_QP_AND_FILTERS, END}
+use Rattle.vx_sh.specs.declared.tables.TheConstants.{CHROMA_QP_AND_FILTERS, END, ALIGNMENT}
 
 -- the scope in which NumEntryPoints is that of the slice at the address, of so many at each address
 unfoldable pub with_entry_points : (ℕ → ℕ) → List ℕ → List ℕ
@@ -47,7 +47,7 @@ qp = always QP ∷ []
 
 -- behind the weights
 abbrev pub behind_weights : List Section
-behind_weights = qp ++ (always CHROMA_QP_AND_FILTERS ∷ always END ∷ [])
+behind_weights = qp ++ (always CHROMA_QP_AND_FILTERS ∷ always END ∷ always ALIGNMENT ∷ [])
 
 unfoldable pub front_form : (ℕ → ℕ) → List ℕ → Form (List ℕ)
 front_form points s = address_form points s >>= sections_form before_lists

@@ -161,8 +161,8 @@ pub const CHROMA_QP_AND_FILTERS: [Row; 28] = table! {
     }
 };
 
-/// Residuals, the extension, the entry points, and the alignment.
-pub const END: [Row; 20] = table! {
+/// Residuals, the extension, and the entry points.
+pub const END: [Row; 19] = table! {
     default sh_dep_quant_used_flag = 0;
     if sps_dep_quant_enabled_flag { sh_dep_quant_used_flag; }
     default sh_sign_data_hiding_used_flag = 0;
@@ -186,5 +186,7 @@ pub const END: [Row; 20] = table! {
             sh_entry_point_offset_minus1: u(sh_entry_offset_len_minus1 + 1);
         }
     }
-    one_and_zeros sh_byte_alignment;
 };
+
+/// The alignment.
+pub const ALIGNMENT: [Row; 1] = table! { one_and_zeros sh_byte_alignment; };

@@ -1,0 +1,62 @@
+-- A slice header as a value: what is read and what is written of it.
+use Rattle.std.specs.Prelude.{◌≡◌, ℕ, ℤ, ◌+◌, ◌*◌, Bool, List, [], ◌++◌, length, take, slice_index, Result, Ok, Err}
+use Rattle.vx_bits.specs.declared.list.Item.{Item}
+use Rattle.vx_bits.specs.declared.refusal.Refusal.{Refusal}
+use Rattle.vx_bits.specs.declared.refusal.ReadError.{ReadError}
+use Rattle.vx_bits.specs.declared.refusal.ReadError.TheVariants as errors
+use Rattle.vx_bits.specs.Codes.{bits_of, EndsInNoZero}
+use Rattle.vx_bits.specs.Place.{Place}
+use Rattle.vx_table.specs.Scope.{is_set}
+use Rattle.vx_table.specs.Forms.{form_of}
+use Rattle.vx_table.specs.Spelling.{Spells, items_along}
+use Rattle.vx_table.specs.Values.{Follows, bits_along}
+use Rattle.vx_table.specs.Reading.{at_front, Passes}
+use Rattle.vx_fields.specs.declared.sh.TheConstants.{sh_picture_header_in_slice_header_flag, sh_slice_address}
+use Rattle.vx_fields.specs.declared.names.sh.TheConstants.{SUBPIC}
+use Rattle.vx_rpl.specs.HeaderLists.{lists_of}
+use Rattle.vx_sh.specs.declared.context.Context.{Context}
+use Rattle.vx_sh.specs.declared.header.SliceHeader.{SliceHeader}
+use Rattle.vx_sh.specs.declared.tables.TheConstants.{HEADER_INSIDE}
+use Rattle.vx_sh.specs.Whole.{behind_header, header_inside, slice_form}
+
+-- The items are those of a slice header: of values that go through its form but for the picture header that stands inside, whose
+-- values are these.
+pub record AreFields (n : Context) (fields : List Item) (inside : List ℤ) : Type 0 where
+  pub first : List ℤ
+  pub behind : List ℤ
+  pub at : List ℕ
+  pub end : List ℕ
+  pub begins : Follows (form_of HEADER_INSIDE n.slice.now) first at
+  pub goes_on : Follows (header_inside n.table.now n.sets.now at) inside at
+  pub ends : Follows (behind_header n.table.now n.ids.now n.layout.now at) behind end
+  pub all : fields ≡ items_along (form_of HEADER_INSIDE n.slice.now) first
+      ++ items_along (behind_header n.table.now n.ids.now n.layout.now at) behind
+
+-- all values, in the order of the bits
+abbrev pub values_of : {n : Context} {fields : List Item} {inside : List ℤ} → AreFields n fields inside → List ℤ
+values_of {inside} f = (f.first ++ inside) ++ f.behind
+
+-- What else a slice header has: whether the picture header stands inside, its subpicture and its address, and the lists that its
+-- fields come to.
+pub record HasNumbers (n : Context) (header : SliceHeader) (end : List ℕ) : Type 0 where
+  pub inside : header.inside ≡ is_set (slice_index end sh_picture_header_in_slice_header_flag)
+  pub subpic : header.subpic ≡ slice_index end SUBPIC
+  pub address : header.address ≡ slice_index end sh_slice_address
+  pub lists : header.lists ≡ lists_of n.table.now n.sets.now header.fields
+
+-- An RBSP begins with the spelling of a slice header, which takes so many bytes. The last of these isn't 00.
+pub record BeginsSlice (n : Context) (rbsp : List ℕ) (header : SliceHeader) (bytes : ℕ) : Type 0 where
+  pub inside : List ℤ
+  pub fields : AreFields n header.fields inside
+  pub rest : List Bool
+  pub spelled : Spells (8 * length rbsp) (slice_form n) (values_of fields) (bits_of rbsp) rest
+  pub numbers : HasNumbers n header fields.end
+  pub size : 8 * bytes + length rest ≡ 8 * length rbsp
+  pub last : EndsInNoZero (take bytes rbsp)
+
+-- What a reader answers: the slice header that the RBSP begins with, and its bytes; or the first refusal, as one would that passes
+-- over it.
+abbrev pub ReadsSlice : Context → List ℕ → Result (SliceHeader × ℕ) ReadError → Type 0
+ReadsSlice n rbsp (Ok (header, size)) = BeginsSlice n rbsp header size
+ReadsSlice n rbsp (Err errors.Memory) = Unit {0}
+ReadsSlice n rbsp (Err (errors.Refused r)) = (new : Place) × Passes {B = Unit {0}} (slice_form n) (at_front rbsp) (Err r) new

@@ -1,0 +1,77 @@
+-- The form of a slice header from its first bit on (H.266 7.3.7): the picture header that may stand inside it, its subpicture,
+-- and what is behind.
+use Rattle.std.specs.Prelude.{ℕ, ◌+◌, Bool, cond, ◌&&◌, ◌==◌, nat_lt, List, [], ◌∷◌, length, slice_index, slice_set}
+use Rattle.vx_table.specs.declared.rows.Term.TheVariants.{Latest}
+use Rattle.vx_table.specs.declared.rows.Formula.TheVariants.{Plain}
+use Rattle.vx_table.specs.declared.rows.Presence.TheVariants.{When}
+use Rattle.vx_table.specs.Scope.{is_set}
+use Rattle.vx_table.specs.Forms.{Form, done, ◌>>=◌, present, form_of}
+use Rattle.vx_fields.specs.declared.sps.TheConstants.{sps_entropy_coding_sync_enabled_flag, sps_entry_point_offsets_present_flag}
+use Rattle.vx_fields.specs.declared.sh.TheConstants.{sh_picture_header_in_slice_header_flag, sh_subpic_id}
+use Rattle.vx_fields.specs.declared.names.sh.TheConstants.{NUM_SUBPICS, SUBPIC, NUM_SLICES}
+use Rattle.vx_layout.specs.declared.numbers.Numbers.{Numbers}
+use Rattle.vx_layout.specs.Layouts.{slices_in, slice_at}
+use Rattle.vx_layout.specs.Scan.{entries}
+use Rattle.vx_rpl.specs.declared.entry.RplTable.{RplTable}
+use Rattle.vx_ph.specs.Header.{header_form}
+use Rattle.vx_sh.specs.declared.context.Context.{Context}
+use Rattle.vx_sh.specs.declared.tables.TheConstants.{HEADER_INSIDE, SUBPIC_ID, KNOWN_SUBPIC}
+use Rattle.vx_sh.specs.Slice.{rest_form}
+
+-- ---- the subpicture
+
+-- the place of an id among the ids of the subpictures; past the last one where it is none of them
+abbrev pub index_of : ℕ → List ℕ → ℕ
+index_of id [] = 0
+index_of id (n ∷ more) = cond (n == id) 0 (index_of id more + 1)
+
+-- the slices of subpicture k
+abbrev pub slices_at : Numbers → ℕ → ℕ
+slices_at layout k = cond (nat_lt k (length layout.subpics)) (length (slices_in layout k)) 0
+
+-- the subpicture that has the id, and how many slices it has (7.4.8, CurrSubpicIdx)
+unfoldable pub located : List ℕ → Numbers → List ℕ → List ℕ
+located ids layout s =
+    slice_set
+    (slice_set (slice_set s NUM_SUBPICS (length ids)) SUBPIC (index_of (slice_index s sh_subpic_id) ids))
+    NUM_SLICES (slices_at layout (index_of (slice_index s sh_subpic_id) ids))
+
+-- the id, with which the subpicture is known
+unfoldable pub id_form : List ℕ → Numbers → List ℕ → Form (List ℕ)
+id_form ids layout s = form_of SUBPIC_ID s >>= λ t. done (located ids layout t)
+
+-- it is refused where no subpicture has it
+unfoldable pub subpic_form : List ℕ → Numbers → List ℕ → Form (List ℕ)
+subpic_form ids layout s = id_form ids layout s >>= form_of KNOWN_SUBPIC
+
+-- ---- entry points
+
+-- of slice m of subpicture k (7.4.8, NumEntryPoints): none where the SPS says that slice headers don't name them
+unfoldable pub points_at : Numbers → (has_points sync : Bool) → ℕ → ℕ → ℕ
+points_at layout has_points sync k m =
+    cond (has_points && nat_lt m (slices_at layout k)) (entries layout.columns layout.rows (slice_at layout k m) sync) 0
+
+-- those of the subpicture and the SPS of a scope, by address
+abbrev pub points_of : Numbers → List ℕ → ℕ → ℕ
+points_of layout s = points_at layout (is_set (slice_index s sps_entry_point_offsets_present_flag))
+    (is_set (slice_index s sps_entropy_coding_sync_enabled_flag)) (slice_index s SUBPIC)
+
+-- ---- the whole
+
+-- behind the id
+abbrev pub there : RplTable → Numbers → List ℕ → Form (List ℕ)
+there table layout s = rest_form table (points_of layout s) s
+
+-- behind the picture header
+unfoldable pub behind_header : RplTable → List ℕ → Numbers → List ℕ → Form (List ℕ)
+behind_header table ids layout s = subpic_form ids layout s >>= there table layout
+
+-- the picture header, where it stands inside: it reads the numbers of the sets, and leaves those of the slice
+abbrev pub header_inside : RplTable → List ℕ → List ℕ → Form (List ℕ)
+header_inside table sets =
+    present (When (Plain (Latest sh_picture_header_in_slice_header_flag))) (λ s. header_form table sets >>= λ t. done s)
+
+-- slice_header( ), with its alignment
+unfoldable pub slice_form : Context → Form (List ℕ)
+slice_form n = (form_of HEADER_INSIDE n.slice.now >>= header_inside n.table.now n.sets.now)
+    >>= behind_header n.table.now n.ids.now n.layout.now

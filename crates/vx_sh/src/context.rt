@@ -1,0 +1,24 @@
+//! What a slice header is read and written at.
+ghost use Rattle.std.specs.Prelude.{◌≡◌, ◌≤◌, length};
+
+use vx_bits::IdList;
+use vx_layout::Layout;
+use vx_rpl::RplTable;
+use vx_table::Scope;
+
+/// What a slice header reads of the sets, the picture header and the place of the slice.
+#[derive(Clone, Copy)]
+pub struct Context<'a> {
+    /// The numbers of the SPS and the PPS, at which a picture header inside is read.
+    pub sets: &'a Scope,
+    /// These, with those of the picture header in force, and the type of the NAL unit.
+    pub slice: &'a Scope,
+    /// The SPS's structures of reference picture lists.
+    pub table: &'a RplTable,
+    /// The layout of the picture.
+    pub layout: &'a Layout,
+    /// The ids of its subpictures.
+    pub ids: &'a IdList,
+    ghost few: { length ids.now ≤ 1000 },
+    ghost one_each: { length ids.now ≡ length layout.now.subpics },
+}

@@ -1,0 +1,76 @@
+//! Reading a slice header.
+ghost use Rattle.std.specs.Prelude.{◌≡◌, ◌^◌, ◌≤◌, [], length};
+ghost use Rattle.vx_sh.specs.Whole.{header_inside};
+ghost use Rattle.vx_sh.specs.Value.{ReadsSlice};
+ghost use Rattle.vx_sh.specs.inner.Reading.{IsPassed, ReadsFields};
+
+use crate::context::Context;
+use crate::front::{code_behind, code_inside};
+use crate::header::SliceHeader;
+use crate::tables::HEADER_INSIDE;
+use std::alloc::Global;
+use vx_bits::{BitReader, Fields, ReadError};
+use vx_fields::names::sh::SUBPIC;
+use vx_fields::sh::{sh_picture_header_in_slice_header_flag, sh_slice_address};
+use vx_rpl::resolve_lists;
+use vx_table::{Scope, code_table};
+
+/// Passes over the picture header, where it stands inside.
+fn pass_inside(
+    n: &Context<'_>,
+    scope: &Scope,
+    bits: &mut BitReader<'_>,
+) -> Result<(), ReadError>
+    ensures { IsPassed (header_inside n.now.table.now n.now.sets.now scope.now) scope.now bits.old result bits.new }
+{
+    match code_inside(n, scope, bits, &mut ()) {
+        Ok(()) => Ok(()),
+        Err(refusal) => Err(ReadError::Refused(refusal)),
+    }
+}
+
+/// Reads the fields, and gives the scope behind them.
+fn read_fields(
+    n: &Context<'_>,
+    bits: &mut BitReader<'_>,
+    into: &mut Fields,
+) -> Result<Scope, ReadError>
+    requires { into.old ≡ [] }
+    ensures { ReadsFields n.now bits.old result bits.new into.new }
+{
+    let mut scope = *n.slice;
+    code_table(&HEADER_INSIDE, &mut scope, bits, into)?;
+    pass_inside(n, &scope, bits)?;
+    code_behind(n, &mut scope, bits, into)?;
+    Ok(scope)
+}
+
+/// Reads the slice header that an RBSP begins with, `slice_header()`, clause 7.3.7, and answers how many bytes it takes. The
+/// picture header that may stand inside is passed over.
+///
+/// # Errors
+///
+/// The first refusal: of a field, of the id of a subpicture that there is none of, or of the picture header inside. Want of
+/// memory.
+pub fn read_slice_at(
+    alloc: Global,
+    rbsp: &[u8],
+    n: &Context<'_>,
+) -> Result<(SliceHeader, usize), ReadError>
+    requires { length rbsp.now ≤ 2 ^ 23 }
+    ensures { ReadsSlice n.now rbsp.now result }
+{
+    let mut bits = BitReader::new(rbsp);
+    let mut fields = Fields::new(alloc);
+    let end = read_fields(n, &mut bits, &mut fields)?;
+    let lists = resolve_lists(alloc, n.table, n.sets, fields.as_slice())?;
+    let size = (bits.at() / 8) as usize;
+    let header = SliceHeader {
+        inside: end.latest(sh_picture_header_in_slice_header_flag) != 0,
+        fields,
+        subpic: end.latest(SUBPIC),
+        address: end.latest(sh_slice_address),
+        lists,
+    };
+    Ok((header, size))
+}
