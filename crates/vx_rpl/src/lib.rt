@@ -1,6 +1,8 @@
 //! Reference picture lists of H.266: their structures, the lists of a header, and prediction weights.
 #![tactic(auto)]
 
+#[cfg(test)]
+mod cases;
 mod entry;
 mod laws;
 mod lists;
