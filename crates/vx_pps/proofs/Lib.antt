@@ -15,3 +15,5 @@ pub mod Pushing
 pub mod Division
 pub mod Testing
 pub mod Fronts
+pub mod Tooled
+pub mod Cutting

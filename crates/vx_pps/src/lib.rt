@@ -30,7 +30,7 @@ pub use list::Listed;
 pub use partition::Partition;
 pub use shape::{PpsShape, TAKEN, TAKEN_FOR_FRAME};
 pub use tables::{
-    DBF_INFO, DBF_OFFSETS, END, HEADER_INFO, IDS, INIT_QP, NAL_TYPES, OUTPUT, PREDICTION,
-    QP_OFFSETS, SIZE, SUBPIC_IDS,
+    DBF_CONTROL, DBF_INFO, DBF_OFFSETS, END, HEADER_INFO, IDS, INIT_QP, NAL_TYPES, OUTPUT,
+    PREDICTION, QP_OFFSETS, SIZE, SUBPIC_IDS,
 };
 pub use tiles::Tiles;
