@@ -11,10 +11,14 @@ mod laws;
 mod list;
 mod numbers;
 mod partition;
+mod pps;
+mod read;
 mod tables;
 #[cfg(test)]
 mod tests;
 mod tiles;
+#[cfg(test)]
+mod vectors;
 mod walk;
 
 pub use laws::{
@@ -23,6 +27,8 @@ pub use laws::{
 };
 pub use list::Listed;
 pub use partition::Partition;
+pub use pps::Pps;
+pub use read::{keep_pps, read_pps, write_pps};
 pub use tables::{
     DBF_INFO, DBF_OFFSETS, END, HEADER_INFO, IDS, INIT_QP, NAL_TYPES, OUTPUT, PREDICTION,
     QP_OFFSETS, SIZE, SUBPIC_IDS,
