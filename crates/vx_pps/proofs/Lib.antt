@@ -3,6 +3,8 @@ mod Ranges
 mod Walking
 mod Sizing
 mod Turning
+mod Told
+mod Sets
 pub mod Blocks
 pub mod Runs
 pub mod Grouping

@@ -47,6 +47,10 @@ pps_form = do
 abbrev pub IsPps : List Item → Partition → Type 0
 IsPps items end = Gives pps_form items end
 
+pub record IsItems (items : List Item) : Type 0 where
+  pub end : Partition
+  pub set : IsPps items end
+
 -- those that it has
 abbrev pub or_none : Option Partition → Partition
 or_none (Some end) = end
@@ -82,6 +86,5 @@ kept_of items = kept_along pps_form (values_in pps_form items)
 
 -- The bytes are the spelling of the values whose items these are.
 pub record IsSpelling (items : List Item) (bytes : List ℕ) : Type 0 where
-  pub end : Partition
-  pub set : IsPps items end
-  pub bits : bits_of bytes ≡ bits_along pps_form 0 set.values
+  pub is : IsItems items
+  pub bits : bits_of bytes ≡ bits_along pps_form 0 is.set.values
