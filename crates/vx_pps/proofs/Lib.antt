@@ -3,6 +3,8 @@ mod Ranges
 mod Walking
 mod Sizing
 mod Turning
+mod Told
+mod Sets
 pub mod Blocks
 pub mod Runs
 pub mod Grouping
@@ -15,3 +17,5 @@ pub mod Pushing
 pub mod Division
 pub mod Testing
 pub mod Fronts
+pub mod Tooled
+pub mod Cutting

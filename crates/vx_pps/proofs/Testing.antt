@@ -4,7 +4,9 @@ use Rattle.vx_fields.specs.declared.pps.TheConstants as pps
 use Rattle.vx_table.specs.Scope.{fresh}
 use Rattle.vx_table.specs.Forms.{has_value}
 use Rattle.vx_table.specs.Parts.{Section, always}
-use Rattle.vx_table.specs.EachField.{sections_pass}
+use Rattle.std.specs.Prelude.{drop}
+use Rattle.vx_table.specs.declared.rows.Row.{Row}
+use Rattle.vx_table.specs.EachField.{rows_pass, sections_pass}
 use Rattle.vx_table.specs.Depends.{set_of, with_all}
 use Rattle.vx_table.specs.Claims.{knows_formula, knows_width, knows_range, knows_presence, hides_counter, hides_row, behind_field, within_block, depends, behind_rows, table_depends, behind_table, comes_always, sections_chain, sections_hide, sections_depend_only_on}
 use Rattle.vx_table.specs.Again.{shows_row}
@@ -44,6 +46,9 @@ init_qp = always tables.INIT_QP ∷ []
 abbrev pub qp_offsets : List Section
 qp_offsets = always tables.QP_OFFSETS ∷ []
 
+abbrev pub dbf_control : List Section
+dbf_control = always tables.DBF_CONTROL ∷ []
+
 abbrev pub dbf_info : List Section
 dbf_info = always tables.DBF_INFO ∷ []
 
@@ -82,6 +87,10 @@ prediction_taken = (refl, refl, refl, refl)
 pub qp_offsets_taken : IsTaken true qp_offsets
 unfolding fresh has_value knows_formula knows_width knows_range knows_presence hides_counter hides_row behind_field within_block depends behind_rows table_depends behind_table comes_always shows_row
 qp_offsets_taken = (refl, refl, refl, refl)
+
+pub dbf_control_taken : IsTaken true dbf_control
+unfolding fresh has_value knows_formula knows_width knows_range knows_presence hides_counter hides_row behind_field within_block depends behind_rows table_depends behind_table comes_always shows_row
+dbf_control_taken = (refl, refl, refl, refl)
 
 pub dbf_offsets_taken : IsTaken true dbf_offsets
 unfolding fresh has_value knows_formula knows_width knows_range knows_presence hides_counter hides_row behind_field within_block depends behind_rows table_depends behind_table comes_always shows_row
@@ -179,7 +188,7 @@ tools_read = (refl, refl, refl)
 -- of these fields the scope at the end has the numbers of the items
 abbrev pub numbered : List ℕ
 numbered = set_of (pps.pps_pic_width_in_luma_samples ∷ pps.pps_pic_height_in_luma_samples ∷ pps.pps_no_pic_partition_flag ∷ pps.pps_weighted_pred_flag
-    ∷ pps.pps_weighted_bipred_flag ∷ pps.pps_deblocking_filter_override_enabled_flag ∷ [])
+    ∷ pps.pps_weighted_bipred_flag ∷ [])
 
 pub front_numbered : sections_name_none numbered front ≡ true
 unfolding fresh hides_counter names_none
@@ -192,3 +201,50 @@ early = set_of (pps.pps_pic_width_in_luma_samples ∷ pps.pps_pic_height_in_luma
 pub tools_early : sections_hide early tools ≡ true
 unfolding fresh hides_counter hides_row
 tools_early = refl
+
+-- the tools from a group on
+abbrev pub from_info : List Section
+from_info = header_info ++ end
+
+abbrev pub from_dbf : List Section
+from_dbf = dbf_info ++ (dbf_offsets ++ from_info)
+
+pub info_stands : sections_hide numbered from_info ≡ true
+unfolding fresh hides_counter hides_row
+info_stands = refl
+
+-- this field gets a number, in a scope that has none of it, within one table alone
+abbrev pub override : List ℕ
+override = set_of (pps.pps_deblocking_filter_override_enabled_flag ∷ [])
+
+abbrev pub before_control : List Section
+before_control = prediction ++ (init_qp ++ qp_offsets)
+
+pub override_stands : (sections_hide override front ≡ true) × (sections_hide override before_control ≡ true) × (sections_hide override from_dbf ≡ true)
+unfolding fresh hides_counter hides_row
+override_stands = (refl, refl, refl)
+
+pub override_unshown : (sections_pass (hides_row override) front ≡ true) × (sections_pass (hides_row override) before_control ≡ true) × (sections_pass (hides_row override) from_dbf ≡ true)
+unfolding fresh hides_counter hides_row
+override_unshown = (refl, refl, refl)
+
+-- the rows behind the first field of that table and its two names
+abbrev pub control_block : List Row
+control_block = drop 3 tables.DBF_CONTROL
+
+pub block_loads : rows_pass (names_none override) control_block ≡ true
+unfolding fresh hides_counter names_none
+block_loads = refl
+
+pub tools_numbered : sections_name_none numbered tools ≡ true
+unfolding fresh hides_counter names_none
+tools_numbered = refl
+
+-- flags
+abbrev pub IsFlag : ℕ → Type 0
+IsFlag of = (sections_pass (row_below of 2) front ≡ true) × (sections_pass (row_below of 2) tools ≡ true)
+
+pub flags_are : IsFlag pps.pps_no_pic_partition_flag × IsFlag pps.pps_weighted_pred_flag × IsFlag pps.pps_weighted_bipred_flag × IsFlag pps.pps_deblocking_filter_override_enabled_flag × IsFlag pps.pps_dbf_info_in_ph_flag
+    × IsFlag pps.pps_rpl_info_in_ph_flag × IsFlag pps.pps_sao_info_in_ph_flag × IsFlag pps.pps_wp_info_in_ph_flag
+unfolding has_value row_below code_below range_below
+flags_are = ((refl, refl), (refl, refl), (refl, refl), (refl, refl), (refl, refl), (refl, refl), (refl, refl), (refl, refl))

@@ -24,8 +24,8 @@ front = always tables.IDS ∷ always tables.NAL_TYPES ∷ always tables.SIZE ∷
 
 -- behind them: the tools of slices, what stands in picture headers, and the end
 abbrev pub tools : List Section
-tools = always tables.PREDICTION ∷ always tables.INIT_QP ∷ always tables.QP_OFFSETS ∷ always tables.DBF_INFO
-    ∷ always tables.DBF_OFFSETS ∷ always tables.HEADER_INFO ∷ always tables.END ∷ []
+tools = always tables.PREDICTION ∷ always tables.INIT_QP ∷ always tables.QP_OFFSETS ∷ always tables.DBF_CONTROL
+    ∷ always tables.DBF_INFO ∷ always tables.DBF_OFFSETS ∷ always tables.HEADER_INFO ∷ always tables.END ∷ []
 
 -- the tiles and slices of a picture of that size
 abbrev pub partition_at : List ℕ → Form Partition
@@ -46,6 +46,10 @@ pps_form = do
 -- the items are those of a picture parameter set, which has these tiles and slices
 abbrev pub IsPps : List Item → Partition → Type 0
 IsPps items end = Gives pps_form items end
+
+pub record IsItems (items : List Item) : Type 0 where
+  pub end : Partition
+  pub set : IsPps items end
 
 -- those that it has
 abbrev pub or_none : Option Partition → Partition
@@ -82,6 +86,5 @@ kept_of items = kept_along pps_form (values_in pps_form items)
 
 -- The bytes are the spelling of the values whose items these are.
 pub record IsSpelling (items : List Item) (bytes : List ℕ) : Type 0 where
-  pub end : Partition
-  pub set : IsPps items end
-  pub bits : bits_of bytes ≡ bits_along pps_form 0 set.values
+  pub is : IsItems items
+  pub bits : bits_of bytes ≡ bits_along pps_form 0 is.set.values

@@ -13,6 +13,8 @@ mod list;
 mod list_items;
 mod numbers;
 mod partition;
+mod pps;
+mod read;
 mod shape;
 mod tables;
 #[cfg(test)]
@@ -20,6 +22,8 @@ mod tests;
 #[cfg(test)]
 mod tests_list_items;
 mod tiles;
+#[cfg(test)]
+mod vectors;
 mod walk;
 
 pub use laws::{
@@ -28,9 +32,11 @@ pub use laws::{
 };
 pub use list::Listed;
 pub use partition::Partition;
+pub use pps::Pps;
+pub use read::{keep_pps, read_pps, write_pps};
 pub use shape::{PpsShape, TAKEN, TAKEN_FOR_FRAME};
 pub use tables::{
-    DBF_INFO, DBF_OFFSETS, END, HEADER_INFO, IDS, INIT_QP, NAL_TYPES, OUTPUT, PREDICTION,
-    QP_OFFSETS, SIZE, SUBPIC_IDS,
+    DBF_CONTROL, DBF_INFO, DBF_OFFSETS, END, HEADER_INFO, IDS, INIT_QP, NAL_TYPES, OUTPUT,
+    PREDICTION, QP_OFFSETS, SIZE, SUBPIC_IDS,
 };
 pub use tiles::Tiles;
