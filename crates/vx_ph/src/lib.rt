@@ -7,6 +7,10 @@ mod laws;
 mod pps_id;
 mod read;
 mod tables;
+#[cfg(test)]
+mod tests;
+#[cfg(test)]
+mod vectors;
 mod walk;
 mod write;
 
