@@ -7,3 +7,4 @@ mod Passing
 mod Parts
 mod Stopped
 mod Sized
+mod Written

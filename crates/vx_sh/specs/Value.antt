@@ -60,3 +60,16 @@ abbrev pub ReadsSlice : Context → List ℕ → Result (SliceHeader × ℕ) Rea
 ReadsSlice n rbsp (Ok (header, size)) = BeginsSlice n rbsp header size
 ReadsSlice n rbsp (Err errors.Memory) = Unit {0}
 ReadsSlice n rbsp (Err (errors.Refused r)) = (new : Place) × Passes {B = Unit {0}} (slice_form n) (at_front rbsp) (Err r) new
+
+-- The items are those of a slice header inside of which, where a picture header stands there, the one of these items stands.
+pub record IsSliceOf (n : Context) (fields header : List Item) : Type 0 where
+  pub inside : List ℤ
+  pub slice : AreFields n fields inside
+  pub others : List Item
+  pub given : header ≡ items_along (header_inside n.table.now n.sets.now slice.at) inside ++ others
+
+-- The bytes are its spelling, and the last of them isn't 00.
+pub record IsSpelling (n : Context) (fields header : List Item) (bytes : List ℕ) : Type 0 where
+  pub is : IsSliceOf n fields header
+  pub bits : bits_of bytes ≡ bits_along (slice_form n) 0 (values_of is.slice)
+  pub last : EndsInNoZero bytes

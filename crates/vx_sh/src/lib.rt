@@ -8,6 +8,7 @@ mod laws;
 mod read;
 mod tables;
 mod walk;
+mod write;
 
 pub use context::Context;
 pub use header::SliceHeader;
@@ -18,3 +19,4 @@ pub use tables::{
     LISTS_HERE, LMCS_AND_SCALING, QP, SUBPIC_ID, TYPE,
 };
 pub use walk::{EntryPoints, code_rest};
+pub use write::write_slice_at;
