@@ -12,9 +12,8 @@ use Rattle.vx_table.specs.Values.{Follows, bits_along}
 use Rattle.vx_table.specs.Writing.{WritesField, AreItemsOf}
 use Rattle.vx_table.proofs.Joined.{joined, bits_joined}
 use Rattle.vx_table.proofs.Writings.{writes, leads}
-use Rattle.vx_sh.specs.declared.context.Context.{Context}
 use Rattle.vx_sh.specs.declared.tables.TheConstants.{HEADER_INSIDE}
-use Rattle.vx_sh.specs.Whole.{behind_header, header_inside, slice_form}
+use Rattle.vx_sh.specs.Whole.{At, behind_header, header_inside, slice_form}
 use Rattle.vx_sh.specs.Value.{AreFields, values_of, IsSliceOf}
 use Rattle.vx_sh.specs.inner.Writing.{PartIsWritten, WritesPart, WritesFields}
 
@@ -36,38 +35,38 @@ part_written {form} {values} {end} more {items} scope (Err errors.NoValue) follo
     (writes {B = Unit {0}} scope (Err errors.NoValue) walk).only values end more of
 
 -- the bits of the three parts
-pub parts_written : (n : Context) (fields header : List Item) (is : IsSliceOf n fields header) (first second third : List Bool)
-    → first ≡ [] ++ bits_along (form_of HEADER_INSIDE n.slice.now) 0 is.slice.first
-    → second ≡ first ++ bits_along (header_inside n.table.now n.sets.now is.slice.at) (length first) is.inside
-    → third ≡ second ++ bits_along (behind_header n.table.now n.ids.now n.layout.now is.slice.at) (length second) is.slice.behind
+pub parts_written : (n : At) (fields header : List Item) (is : IsSliceOf n fields header) (first second third : List Bool)
+    → first ≡ [] ++ bits_along (form_of HEADER_INSIDE n.slice) 0 is.slice.first
+    → second ≡ first ++ bits_along (header_inside n.table n.sets is.slice.at) (length first) is.inside
+    → third ≡ second ++ bits_along (behind_header n.table n.ids n.layout is.slice.at) (length second) is.slice.behind
     → third ≡ bits_along (slice_form n) 0 (values_of is.slice)
 unfolding slice_form
 parts_written n fields header is first second third one two three =
     let f = is.slice in
-    let inside = header_inside n.table.now n.sets.now in
-    let behind = behind_header n.table.now n.ids.now n.layout.now in
-    let place : 0 + length (bits_along (form_of HEADER_INSIDE n.slice.now) 0 f.first) ≡ length (bits_along (form_of HEADER_INSIDE n.slice.now) 0 f.first) = omega arith in
-    let whole : 0 + length (bits_along (form_of HEADER_INSIDE n.slice.now >>= inside) 0 (f.first ++ is.inside)) ≡ length (bits_along (form_of HEADER_INSIDE n.slice.now >>= inside) 0 (f.first ++ is.inside)) = omega arith in
+    let inside = header_inside n.table n.sets in
+    let behind = behind_header n.table n.ids n.layout in
+    let place : 0 + length (bits_along (form_of HEADER_INSIDE n.slice) 0 f.first) ≡ length (bits_along (form_of HEADER_INSIDE n.slice) 0 f.first) = omega arith in
+    let whole : 0 + length (bits_along (form_of HEADER_INSIDE n.slice >>= inside) 0 (f.first ++ is.inside)) ≡ length (bits_along (form_of HEADER_INSIDE n.slice >>= inside) 0 (f.first ++ is.inside)) = omega arith in
     let front = rw place at (bits_joined inside 0 is.inside f.begins) in
-    let same : second ≡ bits_along (form_of HEADER_INSIDE n.slice.now >>= inside) 0 (f.first ++ is.inside)
+    let same : second ≡ bits_along (form_of HEADER_INSIDE n.slice >>= inside) 0 (f.first ++ is.inside)
     = two ∙ ap (λ x. x ++ bits_along (inside f.at) (length x) is.inside) one ∙ sym (front) in
     three ∙ ap (λ x. x ++ bits_along (behind f.at) (length x) f.behind) same ∙ sym (rw whole at (bits_joined behind 0 f.behind (joined inside f.begins f.goes_on)))
 
 -- ---- the parts of a slice header, from the items of the whole
 
-pub first_written : (n : Context) (fields header : List Item) (is : IsSliceOf n fields header) (scope : List ℕ) (old new : List Bool) (items left : List Item) (result : Result (Unit {0}) SpellError)
-    → old ≡ [] → items ≡ fields → Walks WritesField (form_of HEADER_INSIDE n.slice.now) old items (leaving scope result) new left
-    → WritesPart (form_of HEADER_INSIDE n.slice.now) is.slice.first is.slice.at (items_along (behind_header n.table.now n.ids.now n.layout.now is.slice.at) is.slice.behind) [] scope result new left
+pub first_written : (n : At) (fields header : List Item) (is : IsSliceOf n fields header) (scope : List ℕ) (old new : List Bool) (items left : List Item) (result : Result (Unit {0}) SpellError)
+    → old ≡ [] → items ≡ fields → Walks WritesField (form_of HEADER_INSIDE n.slice) old items (leaving scope result) new left
+    → WritesPart (form_of HEADER_INSIDE n.slice) is.slice.first is.slice.at (items_along (behind_header n.table n.ids n.layout is.slice.at) is.slice.behind) [] scope result new left
 first_written n fields header is scope old new items left result none all walk = part_written _ scope result is.slice.begins (all ∙ is.slice.all) (rw none at walk)
 
-pub inside_written : (n : Context) (fields header : List Item) (is : IsSliceOf n fields header) (scope : List ℕ) (old new : List Bool) (items left : List Item) (result : Result (Unit {0}) SpellError)
-    → scope ≡ is.slice.at → items ≡ header → Walks WritesField (header_inside n.table.now n.sets.now scope) old items (leaving scope result) new left
-    → WritesPart (header_inside n.table.now n.sets.now is.slice.at) is.inside is.slice.at is.others old is.slice.at result new left
+pub inside_written : (n : At) (fields header : List Item) (is : IsSliceOf n fields header) (scope : List ℕ) (old new : List Bool) (items left : List Item) (result : Result (Unit {0}) SpellError)
+    → scope ≡ is.slice.at → items ≡ header → Walks WritesField (header_inside n.table n.sets scope) old items (leaving scope result) new left
+    → WritesPart (header_inside n.table n.sets is.slice.at) is.inside is.slice.at is.others old is.slice.at result new left
 inside_written n fields header is scope old new items left result at all walk = part_written is.others is.slice.at result is.slice.goes_on (all ∙ is.given) (rw at at walk)
 
-pub behind_written : (n : Context) (fields header : List Item) (is : IsSliceOf n fields header) (at scope : List ℕ) (old new : List Bool) (items left : List Item) (result : Result (Unit {0}) SpellError)
-    → at ≡ is.slice.at → items ≡ items_along (behind_header n.table.now n.ids.now n.layout.now is.slice.at) is.slice.behind
-    → Walks WritesField (behind_header n.table.now n.ids.now n.layout.now at) old items (leaving scope result) new left
-    → WritesPart (behind_header n.table.now n.ids.now n.layout.now is.slice.at) is.slice.behind is.slice.end [] old scope result new left
+pub behind_written : (n : At) (fields header : List Item) (is : IsSliceOf n fields header) (at scope : List ℕ) (old new : List Bool) (items left : List Item) (result : Result (Unit {0}) SpellError)
+    → at ≡ is.slice.at → items ≡ items_along (behind_header n.table n.ids n.layout is.slice.at) is.slice.behind
+    → Walks WritesField (behind_header n.table n.ids n.layout at) old items (leaving scope result) new left
+    → WritesPart (behind_header n.table n.ids n.layout is.slice.at) is.slice.behind is.slice.end [] old scope result new left
 behind_written n fields header is at scope old new items left result same all walk =
-    part_written [] scope result is.slice.ends (all ∙ sym (append-nil (items_along (behind_header n.table.now n.ids.now n.layout.now is.slice.at) is.slice.behind))) (rw same at walk)
+    part_written [] scope result is.slice.ends (all ∙ sym (append-nil (items_along (behind_header n.table n.ids n.layout is.slice.at) is.slice.behind))) (rw same at walk)

@@ -1,5 +1,6 @@
 //! Writing a slice header.
 ghost use Rattle.std.specs.Prelude.{◌≡◌, [], length, IfOk};
+ghost use Rattle.vx_sh.specs.Whole.{at_of};
 ghost use Rattle.vx_sh.specs.Value.{IsSliceOf, IsSpelling};
 ghost use Rattle.vx_sh.specs.inner.Writing.{WritesFields};
 
@@ -18,9 +19,9 @@ fn write_fields(
     inside: &Fields,
     bits: &mut BitWriter,
 ) -> Result<(), SpellError>
-    requires slice { IsSliceOf n.now fields.now inside.now }
+    requires slice { IsSliceOf (at_of n.now) fields.now inside.now }
     requires bits { bits.old ≡ [] }
-    ensures { WritesFields n.now fields.now inside.now result bits.new }
+    ensures { WritesFields (at_of n.now) fields.now inside.now result bits.new }
 {
     let mut scope = *n.slice;
     let mut own = Unwritten::new(fields, 0, fields.len());
@@ -42,8 +43,8 @@ pub fn write_slice_at(
     inside: &Fields,
     n: &Context<'_>,
 ) -> Result<Vec<u8>, AllocError>
-    requires { IsSliceOf n.now header.now.fields inside.now }
-    ensures { IfOk result (λ bytes. IsSpelling n.now header.now.fields inside.now bytes.items) }
+    requires { IsSliceOf (at_of n.now) header.now.fields inside.now }
+    ensures { IfOk result (λ bytes. IsSpelling (at_of n.now) header.now.fields inside.now bytes.items) }
 {
     let mut bits = BitWriter::new(alloc);
     match write_fields(n, &header.fields, inside, &mut bits) {

@@ -5,8 +5,7 @@ use Rattle.vx_table.specs.declared.writer.SpellError.{SpellError}
 use Rattle.vx_table.specs.declared.writer.SpellError.TheVariants as errors
 use Rattle.vx_table.specs.Forms.{Form}
 use Rattle.vx_table.specs.Values.{bits_along}
-use Rattle.vx_sh.specs.declared.context.Context.{Context}
-use Rattle.vx_sh.specs.Whole.{slice_form}
+use Rattle.vx_sh.specs.Whole.{At, slice_form}
 use Rattle.vx_sh.specs.Value.{IsSliceOf, values_of}
 
 -- the values are written, exactly their items are taken, and this is the scope at their end
@@ -26,6 +25,6 @@ abbrev pub WritesPart : Form (List ℕ) → List ℤ → List ℕ → List Item 
 WritesPart form values end more old scope (Ok u) new left = PartIsWritten form values end more old scope new left
 WritesPart form values end more old scope (Err e) new left = HasFailed e
 
-abbrev pub WritesFields : Context → List Item → List Item → Result (Unit {0}) SpellError → List Bool → Type 0
+abbrev pub WritesFields : At → List Item → List Item → Result (Unit {0}) SpellError → List Bool → Type 0
 WritesFields n fields header (Ok u) new = (is : IsSliceOf n fields header) × (new ≡ bits_along (slice_form n) 0 (values_of is.slice))
 WritesFields n fields header (Err e) new = HasFailed e
