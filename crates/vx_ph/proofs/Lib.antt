@@ -1,1 +1,7 @@
--- Lemmas on the form of a picture header.
+-- Lemmas on the form of a picture header, and on the sets in force.
+mod Carrying
+mod Id
+mod Passing
+mod Rewriting
+mod Sets
+mod Spelling

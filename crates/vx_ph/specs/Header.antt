@@ -30,12 +30,12 @@ abbrev pub weights_if_present : List ℕ → Form (List ℕ)
 weights_if_present = present (When (Plain (Latest HAS_WEIGHTS))) weights_form
 
 -- behind the weights
-abbrev pub end : List Section
-end = always QP ∷ always FILTERS ∷ []
+abbrev pub back : List Section
+back = always QP ∷ always FILTERS ∷ []
 
 unfoldable pub before_weights : RplTable → List ℕ → Form (List ℕ)
 before_weights table s = (sections_form front s >>= lists_if_present table) >>= sections_form middle
 
 -- picture_header_structure( ), with the SPS's structures of lists, at a scope that has the numbers of the sets in force
 unfoldable pub header_form : RplTable → List ℕ → Form (List ℕ)
-header_form table s = (before_weights table s >>= weights_if_present) >>= sections_form end
+header_form table s = (before_weights table s >>= weights_if_present) >>= sections_form back

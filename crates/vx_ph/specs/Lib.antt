@@ -1,2 +1,6 @@
 -- Definitions that the contracts of this crate cite.
 pub mod Header
+pub mod Id
+pub mod InForce
+pub mod Depends
+pub mod Picture

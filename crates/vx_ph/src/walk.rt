@@ -2,7 +2,7 @@
 ghost use Rattle.std.specs.Prelude.{◌≡◌};
 ghost use Rattle.vx_table.specs.Walks.{Walks, leaving};
 ghost use Rattle.vx_table.specs.Parts.{sections_form};
-ghost use Rattle.vx_ph.specs.Header.{front, lists_if_present, middle, weights_if_present, end, before_weights, header_form};
+ghost use Rattle.vx_ph.specs.Header.{front, lists_if_present, middle, weights_if_present, back, before_weights, header_form};
 
 use crate::tables::{
     ALF, FILTERS, INTER, INTRA, LMCS_AND_SCALING, ORDER_COUNT, OUTPUT, PICTURE, PPS_ID, QP,
@@ -76,8 +76,12 @@ fn code_weights_if_present<I, C: Coder<I>>(
 }
 
 /// Codes what stands behind prediction weights.
-fn code_end<I, C: Coder<I>>(scope: &mut Scope, coder: &mut C, items: &mut I) -> Result<(), C::Fault>
-    ensures { Walks C.step (sections_form end scope.old) coder.old items.old (leaving scope.new result) coder.new items.new }
+fn code_back<I, C: Coder<I>>(
+    scope: &mut Scope,
+    coder: &mut C,
+    items: &mut I,
+) -> Result<(), C::Fault>
+    ensures { Walks C.step (sections_form back scope.old) coder.old items.old (leaving scope.new result) coder.new items.new }
 {
     code_parts(&parts![QP, FILTERS], scope, coder, items)
 }
@@ -114,5 +118,5 @@ pub fn code_header<I, C: Coder<I>>(
 {
     code_before_weights(table, scope, coder, items)?;
     code_weights_if_present(scope, coder, items)?;
-    code_end(scope, coder, items)
+    code_back(scope, coder, items)
 }

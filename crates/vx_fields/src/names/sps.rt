@@ -1,4 +1,54 @@
 //! Names in the tables of a sequence parameter set: numbers 880 to 919.
 
-/// None yet.
-pub const ALL: [u16; 0] = [];
+/// The CTU size: CtbSizeY.
+pub const CTB_SIZE: u16 = 880;
+/// The columns of CTUs of the largest picture.
+pub const WIDTH_IN_CTBS: u16 = 881;
+/// Its rows of CTUs.
+pub const HEIGHT_IN_CTBS: u16 = 882;
+/// Whether there are several columns.
+pub const IS_WIDE: u16 = 883;
+/// Whether there are several rows.
+pub const IS_HIGH: u16 = 884;
+/// The bits of a column.
+pub const X_BITS: u16 = 885;
+/// The bits of a row.
+pub const Y_BITS: u16 = 886;
+/// How many subpictures have a place: all, where there are several.
+pub const NUM_PLACES: u16 = 887;
+/// The number of a subpicture.
+pub const SUBPIC: u16 = 888;
+/// Whether a subpicture has the size of the first, and stands on the grid of that size.
+pub const LIKE_FIRST: u16 = 889;
+/// The number of an extra bit.
+pub const EXTRA_BIT: u16 = 890;
+/// How many chroma QP tables there are.
+pub const NUM_QP_TABLES: u16 = 891;
+/// The number of a chroma QP table.
+pub const QP_TABLE: u16 = 892;
+/// The number of a point of a chroma QP table.
+pub const QP_POINT: u16 = 893;
+/// The number of an interval of luma.
+pub const INTERVAL: u16 = 894;
+/// The number of a byte of usability information.
+pub const VUI_BYTE: u16 = 895;
+
+/// The numbers above, in their order.
+pub const ALL: [u16; 16] = [
+    CTB_SIZE,
+    WIDTH_IN_CTBS,
+    HEIGHT_IN_CTBS,
+    IS_WIDE,
+    IS_HIGH,
+    X_BITS,
+    Y_BITS,
+    NUM_PLACES,
+    SUBPIC,
+    LIKE_FIRST,
+    EXTRA_BIT,
+    NUM_QP_TABLES,
+    QP_TABLE,
+    QP_POINT,
+    INTERVAL,
+    VUI_BYTE,
+];

@@ -1,0 +1,30 @@
+-- The id of the PPS that a picture header refers to, which stands before what the sets tell.
+use Rattle.std.specs.Prelude.{◌≡◌, ℕ, ℤ, Bool, List, [], ◌∷◌, length}
+use Rattle.vx_bits.specs.Place.{Place}
+use Rattle.vx_table.specs.Scope.{fresh}
+use Rattle.vx_table.specs.Forms.{Form}
+use Rattle.vx_table.specs.Parts.{Section, always, sections_form}
+use Rattle.vx_table.specs.Spelling.{Spells, items_along}
+use Rattle.vx_table.specs.Loaded.{number}
+use Rattle.vx_fields.specs.declared.ph.TheConstants.{ph_pic_parameter_set_id}
+use Rattle.vx_rpl.specs.declared.entry.RplTable.{RplTable}
+use Rattle.vx_ph.specs.declared.tables.TheConstants.{PICTURE, PPS_ID}
+use Rattle.vx_ph.specs.Header.{header_form}
+
+-- a header up to the id
+abbrev pub to_id : List Section
+to_id = always PICTURE ∷ always PPS_ID ∷ []
+
+unfoldable pub id_form : Form (List ℕ)
+id_form = sections_form to_id fresh
+
+-- This is the id in what the bits begin with the spelling of.
+abbrev pub IsId : Place → ℕ → Type 0
+IsId place id = (values : List ℤ) (rest : List Bool) → Spells place.total id_form values place.left rest
+    → number (items_along id_form values) ph_pic_parameter_set_id ≡ id
+
+-- It is the id of each header that they begin with, whatever the sets.
+abbrev pub HeaderHasId : Type 0
+HeaderHasId = (table : RplTable) (s : List ℕ) (place : Place) (id : ℕ) (values : List ℤ) (rest : List Bool) → length s ≡ 1024 → IsId place id
+    → Spells place.total (header_form table s) values place.left rest
+    → number (items_along (header_form table s) values) ph_pic_parameter_set_id ≡ id

@@ -1,0 +1,24 @@
+-- The numbers of the sets in force, which headers read.
+use Rattle.std.specs.Prelude.{◌≡◌, ℕ, IsTrue, List, slice_set}
+use Rattle.vx_bits.specs.declared.list.Item.{Item}
+use Rattle.vx_table.specs.Scope.{fresh, loaded, joined}
+use Rattle.vx_table.specs.Depends.{has, Agree}
+use Rattle.vx_table.specs.Shown.{shown_items}
+use Rattle.vx_fields.specs.declared.sps.TheConstants.{sps_extra_ph_bit_present_flag}
+use Rattle.vx_fields.specs.declared.pps.TheConstants.{pps_pic_parameter_set_id}
+use Rattle.vx_fields.specs.declared.names.ph.TheConstants.{EXTRA_PH_BITS}
+use Rattle.vx_sps.specs.Set.{extra_ph_bits_of}
+
+-- the numbers of an SPS, which are below the first field of a PPS, those of a PPS from there on, and the number of extra bits
+unfoldable pub both_sets : List ℕ → List ℕ → ℕ → List ℕ
+both_sets sps pps extra = slice_set (joined pps_pic_parameter_set_id sps pps) EXTRA_PH_BITS extra
+
+-- The scope of the sets in force: the SPS's numbers, the PPS's, and how many extra bits there are (7.4.3.4, NumExtraPhBits).
+unfoldable pub in_force : List Item → List Item → List ℕ
+in_force sps pps = both_sets (loaded fresh sps) (loaded fresh pps) (extra_ph_bits_of sps)
+
+-- Sets that have the same items of some fields give scopes that agree on these, and on all names.
+abbrev pub SetsAgree : Type 0
+SetsAgree = (names : List ℕ) (sps other_sps pps other_pps : List Item) → IsTrue (has names sps_extra_ph_bit_present_flag)
+    → shown_items names sps ≡ shown_items names other_sps → shown_items names pps ≡ shown_items names other_pps
+    → Agree names (in_force sps pps) (in_force other_sps other_pps)

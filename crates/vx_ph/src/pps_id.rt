@@ -1,0 +1,24 @@
+//! The id of the PPS that a picture header refers to.
+ghost use Rattle.std.specs.Prelude.{◌≡◌, IfOk};
+ghost use Rattle.vx_table.specs.Reading.{Passes};
+ghost use Rattle.vx_ph.specs.Id.{id_form, IsId};
+
+use crate::tables::{PICTURE, PPS_ID};
+use vx_bits::{BitReader, Refusal};
+use vx_fields::ph::ph_pic_parameter_set_id;
+use vx_table::{Scope, parts, pass_parts};
+
+/// The id of the PPS, from 0 to 63, in the picture header that comes next; the bits up to it are taken. So it is known which sets
+/// the header is to be read with. Takes no memory.
+///
+/// # Errors
+///
+/// The first refusal among these fields; `bits` then stands at its field.
+pub fn read_pps_id(bits: &mut BitReader<'_>) -> Result<u8, Refusal>
+    ensures answer { Passes id_form bits.old result bits.new }
+    ensures id { IfOk result (λ id. IsId bits.old id) }
+{
+    let mut scope = Scope::new();
+    pass_parts(&parts![PICTURE, PPS_ID], &mut scope, bits)?;
+    Ok(scope.latest(ph_pic_parameter_set_id) as u8)
+}

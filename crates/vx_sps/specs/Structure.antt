@@ -1,0 +1,67 @@
+-- The form of a sequence parameter set (H.266 clause 7.3.2.4).
+use Rattle.std.specs.Prelude.{ℕ, ◌++◌, List, [], ◌∷◌}
+use Rattle.vx_table.specs.declared.rows.Term.TheVariants.{Latest}
+use Rattle.vx_table.specs.declared.rows.Formula.TheVariants.{Plain}
+use Rattle.vx_table.specs.declared.rows.Row.{Row}
+use Rattle.vx_table.specs.Scope.{fresh}
+use Rattle.vx_table.specs.Forms.{Form}
+use Rattle.vx_table.specs.Parts.{Section, always, provided, in_turns, sections_form}
+use Rattle.vx_fields.specs.declared.sps.TheConstants.{sps_subpic_info_present_flag, sps_timing_hrd_params_present_flag}
+use Rattle.vx_fields.specs.declared.names.rpl.TheConstants.{STRUCTURE, NUM_STRUCTURES}
+use Rattle.vx_fields.specs.declared.names.sps.TheConstants.{SUBPIC, NUM_PLACES}
+use Rattle.vx_ptl.specs.declared.tables.TheConstants.{PTL, DPB, NO_TIMING, TIMING, SUBLAYER_TIMING}
+use Rattle.vx_rpl.specs.declared.tables.TheConstants.{REF_PIC_LIST_STRUCT}
+use Rattle.vx_sps.specs.declared.tables.TheConstants as tables
+
+-- ---- the tables in groups: of each all fields are taken over by a set rewritten from another, or all are replaced
+
+abbrev pub ids : List Section
+ids = always tables.IDS ∷ []
+
+abbrev pub start : List Section
+start = always tables.START ∷ []
+
+abbrev pub profile : List Section
+profile = always PTL ∷ []
+
+abbrev pub resampling : List Section
+resampling = always tables.RESAMPLING ∷ []
+
+abbrev pub with_subpictures : List Row → Section
+with_subpictures rows = provided (Plain (Latest sps_subpic_info_present_flag)) rows
+
+abbrev pub picture : List Section
+picture = always tables.SIZE ∷ always tables.CTUS ∷ with_subpictures tables.SUBPICTURES
+    ∷ in_turns SUBPIC (Plain (Latest NUM_PLACES)) tables.PLACE ∷ with_subpictures tables.SUBPIC_IDS ∷ []
+
+abbrev pub counts : List Section
+counts = always tables.COUNTS ∷ []
+
+abbrev pub dpb : List Section
+dpb = always tables.SUBLAYER_DPB ∷ always DPB ∷ []
+
+abbrev pub structures : Section
+structures = in_turns STRUCTURE (Plain (Latest NUM_STRUCTURES)) REF_PIC_LIST_STRUCT
+
+abbrev pub tools : List Section
+tools = always tables.PARTITIONS ∷ always tables.TRANSFORMS ∷ always tables.CHROMA_QP ∷ always tables.FILTERS
+    ∷ always tables.REFERENCES ∷ structures ∷ always tables.LIST_1 ∷ structures
+    ∷ always tables.INTER ∷ always tables.INTRA ∷ always tables.SCALING ∷ always tables.TIMED ∷ []
+
+abbrev pub timed : List Row → Section
+timed rows = provided (Plain (Latest sps_timing_hrd_params_present_flag)) rows
+
+abbrev pub timing : List Section
+timing = always NO_TIMING ∷ timed TIMING ∷ always tables.SUBLAYER_CPB ∷ timed SUBLAYER_TIMING ∷ []
+
+abbrev pub end : List Section
+end = always tables.END ∷ []
+
+-- ---- the whole set
+
+abbrev pub sps_sections : List Section
+sps_sections = ids ++ (start ++ (profile ++ (resampling ++ (picture ++ (counts ++ (dpb ++ (tools ++ (timing ++ end))))))))
+
+-- it reads nothing of the scope that it begins at
+abbrev pub sps_form : Form (List ℕ)
+sps_form = sections_form sps_sections fresh
