@@ -8,3 +8,4 @@ mod Parts
 mod Stopped
 mod Sized
 mod Written
+mod Told

@@ -11,12 +11,13 @@ use Rattle.vx_table.specs.Forms.{form_of}
 use Rattle.vx_table.specs.Spelling.{Spells, items_along}
 use Rattle.vx_table.specs.Values.{Follows, bits_along}
 use Rattle.vx_table.specs.Reading.{at_front, Passes}
-use Rattle.vx_fields.specs.declared.sh.TheConstants.{sh_picture_header_in_slice_header_flag, sh_slice_address}
+use Rattle.vx_fields.specs.declared.sh.TheConstants.{sh_picture_header_in_slice_header_flag, sh_subpic_id, sh_slice_address}
 use Rattle.vx_fields.specs.declared.names.sh.TheConstants.{SUBPIC}
 use Rattle.vx_rpl.specs.HeaderLists.{lists_of}
 use Rattle.vx_sh.specs.declared.header.SliceHeader.{SliceHeader}
 use Rattle.vx_sh.specs.declared.tables.TheConstants.{HEADER_INSIDE}
-use Rattle.vx_sh.specs.Whole.{At, behind_header, header_inside, slice_form}
+use Rattle.vx_table.specs.Loaded.{number}
+use Rattle.vx_sh.specs.Whole.{At, index_of, behind_header, header_inside, slice_form}
 
 -- The items are those of a slice header: of values that go through its form but for the picture header that stands inside, whose
 -- values are these.
@@ -72,3 +73,19 @@ pub record IsSpelling (n : At) (fields header : List Item) (bytes : List ℕ) : 
   pub is : IsSliceOf n fields header
   pub bits : bits_of bytes ≡ bits_along (slice_form n) 0 (values_of is.slice)
   pub last : EndsInNoZero bytes
+
+-- What is written is read as it, whatever payload follows: the same items, of the same length.
+abbrev pub SpellingIsRead : Type 0
+SpellingIsRead = (n : At) (fields header : List Item) (bytes payload : List ℕ) (read : SliceHeader) (size : ℕ)
+    → IsSpelling n fields header bytes → BeginsSlice n (bytes ++ payload) read size → (read.fields ≡ fields) × (size ≡ length bytes)
+
+-- The scope at the end of a slice header has the numbers that its items tell: whether the picture header stands inside, the index of
+-- the id, and the address.
+pub record AreTold (n : At) (fields : List Item) (end : List ℕ) : Type 0 where
+  pub inside : slice_index end sh_picture_header_in_slice_header_flag ≡ number fields sh_picture_header_in_slice_header_flag
+  pub subpic : slice_index end SUBPIC ≡ index_of (number fields sh_subpic_id) n.ids
+  pub address : slice_index end sh_slice_address ≡ number fields sh_slice_address
+
+abbrev pub NumbersAreTold : Type 0
+NumbersAreTold = (n : At) (fields : List Item) (inside : List ℤ) (f : AreFields n fields inside) → length n.slice ≡ 1024
+    → AreTold n fields f.end

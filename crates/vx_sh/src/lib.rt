@@ -12,7 +12,9 @@ mod write;
 
 pub use context::Context;
 pub use header::SliceHeader;
-pub use laws::{slices_depend, slices_go_again, slices_keep};
+pub use laws::{
+    numbers_are_told, slices_depend, slices_go_again, slices_keep,
+};
 pub use read::read_slice_at;
 pub use tables::{
     ACTIVE, ADDRESS, ALIGNMENT, CHROMA_QP_AND_FILTERS, END, FILTER_HERE, HEADER_INSIDE, INTER, KNOWN_SUBPIC,
