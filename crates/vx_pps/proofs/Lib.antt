@@ -1,4 +1,10 @@
 -- Lemmas of this crate.
+mod Ranges
+mod Walking
+mod Sizing
+mod Turning
+mod Told
+mod Sets
 pub mod Blocks
 pub mod Runs
 pub mod Grouping

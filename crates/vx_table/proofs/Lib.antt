@@ -3,7 +3,7 @@ pub mod EachField
 pub mod Naming
 pub mod Bounds
 pub mod Starred
-mod Keepings
+pub mod Keepings
 pub mod Shown
 mod Testing
 pub mod Dependence
