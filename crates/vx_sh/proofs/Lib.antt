@@ -7,3 +7,5 @@ mod Passing
 mod Parts
 mod Stopped
 mod Sized
+mod Written
+mod Told

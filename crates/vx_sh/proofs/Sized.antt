@@ -10,17 +10,16 @@ use Rattle.vx_table.specs.Spelling.{Spells}
 use Rattle.vx_table.specs.Values.{Follows, bits_along}
 use Rattle.vx_table.proofs.Joined.{joined}
 use Rattle.vx_table.proofs.Spelled.{both_ways}
-use Rattle.vx_sh.specs.declared.context.Context.{Context}
-use Rattle.vx_sh.specs.Whole.{behind_header, header_inside, slice_form}
+use Rattle.vx_sh.specs.Whole.{At, behind_header, header_inside, slice_form}
 use Rattle.vx_sh.specs.Value.{AreFields, values_of}
 use Rattle.vx_sh.proofs.Stopped.{slice_ends, whole_bytes, last_byte}
 
-pub all_follow : (n : Context) (items : List Item) (inside : List ℤ) (f : AreFields n items inside) → Follows (slice_form n) (values_of f) f.end
+pub all_follow : (n : At) (items : List Item) (inside : List ℤ) (f : AreFields n items inside) → Follows (slice_form n) (values_of f) f.end
 unfolding slice_form
-all_follow n items inside f = joined (behind_header n.table.now n.ids.now n.layout.now) (joined (header_inside n.table.now n.sets.now) f.begins f.goes_on) f.ends
+all_follow n items inside f = joined (behind_header n.table n.ids n.layout) (joined (header_inside n.table n.sets) f.begins f.goes_on) f.ends
 
 -- bits that are spelled from the front on end at a byte boundary, and the last byte isn't 00
-pub sized : (n : Context) (rbsp : List ℕ) (values : List ℤ) (end : List ℕ) (rest : List Bool) (at : ℕ) → Spells (8 * length rbsp) (slice_form n) values (bits_of rbsp) rest
+pub sized : (n : At) (rbsp : List ℕ) (values : List ℤ) (end : List ℕ) (rest : List Bool) (at : ℕ) → Spells (8 * length rbsp) (slice_form n) values (bits_of rbsp) rest
     → Follows (slice_form n) values end → at + length rest ≡ 8 * length rbsp
     → (8 * (at / 8) + length rest ≡ 8 * length rbsp) × EndsInNoZero (take (at / 8) rbsp)
 sized n rbsp values end rest at spelled follows is =

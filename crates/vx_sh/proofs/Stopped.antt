@@ -13,11 +13,10 @@ use Rattle.vx_table.specs.Parts.{Section, always, sections_form}
 use Rattle.vx_table.specs.Spelling.{code_of}
 use Rattle.vx_table.specs.Values.{Follows, through, bits_along}
 use Rattle.vx_table.proofs.Rewrites.{sections_together}
-use Rattle.vx_sh.specs.declared.context.Context.{Context}
 use Rattle.vx_sh.specs.declared.tables.TheConstants.{HEADER_INSIDE, CHROMA_QP_AND_FILTERS, END, ALIGNMENT}
 use Rattle.vx_rpl.specs.declared.entry.RplTable.{RplTable}
 use Rattle.vx_sh.specs.Slice.{qp, behind_weights, weights_here, before_weights, rest_form}
-use Rattle.vx_sh.specs.Whole.{subpic_form, there, behind_header, header_inside, slice_form}
+use Rattle.vx_sh.specs.Whole.{At, subpic_form, there, behind_header, header_inside, slice_form}
 
 -- The last field of a form is a one and zeros.
 data EndsInStop {A : Type 0} : Form A → Type 0 where
@@ -63,12 +62,12 @@ rest_stops : (table : RplTable) (points : ℕ → ℕ) (s : List ℕ) → EndsIn
 unfolding rest_form
 rest_stops table points s = stops_then (before_weights table points s >>= weights_here) (sections_form behind_weights) behind_weights_stops
 
-slice_stops : (n : Context) → EndsInStop (slice_form n)
+slice_stops : (n : At) → EndsInStop (slice_form n)
 unfolding slice_form behind_header
-slice_stops n = stops_then (form_of HEADER_INSIDE n.slice.now >>= header_inside n.table.now n.sets.now) (behind_header n.table.now n.ids.now n.layout.now)
-    (λ t. stops_then (subpic_form n.ids.now n.layout.now t) (there n.table.now n.layout.now) (λ u. rest_stops n.table.now _ u))
+slice_stops n = stops_then (form_of HEADER_INSIDE n.slice >>= header_inside n.table n.sets) (behind_header n.table n.ids n.layout)
+    (λ t. stops_then (subpic_form n.ids n.layout t) (there n.table n.layout) (λ u. rest_stops n.table _ u))
 
-pub slice_ends : (n : Context) (values : List ℤ) (end : List ℕ) → Follows (slice_form n) values end → EndsWithStop 0 (bits_along (slice_form n) 0 values)
+pub slice_ends : (n : At) (values : List ℤ) (end : List ℕ) → Follows (slice_form n) values end → EndsWithStop 0 (bits_along (slice_form n) 0 values)
 slice_ends n values end follows = stopped 0 (slice_stops n) follows
 
 -- ---- bytes

@@ -11,41 +11,41 @@ use Rattle.vx_table.specs.Forms.{form_of}
 use Rattle.vx_table.specs.Spelling.{Spells, items_along}
 use Rattle.vx_table.specs.Values.{Follows, bits_along}
 use Rattle.vx_table.specs.Reading.{at_front, Passes}
-use Rattle.vx_fields.specs.declared.sh.TheConstants.{sh_picture_header_in_slice_header_flag, sh_slice_address}
+use Rattle.vx_fields.specs.declared.sh.TheConstants.{sh_picture_header_in_slice_header_flag, sh_subpic_id, sh_slice_address}
 use Rattle.vx_fields.specs.declared.names.sh.TheConstants.{SUBPIC}
 use Rattle.vx_rpl.specs.HeaderLists.{lists_of}
-use Rattle.vx_sh.specs.declared.context.Context.{Context}
 use Rattle.vx_sh.specs.declared.header.SliceHeader.{SliceHeader}
 use Rattle.vx_sh.specs.declared.tables.TheConstants.{HEADER_INSIDE}
-use Rattle.vx_sh.specs.Whole.{behind_header, header_inside, slice_form}
+use Rattle.vx_table.specs.Loaded.{number}
+use Rattle.vx_sh.specs.Whole.{At, index_of, behind_header, header_inside, slice_form}
 
 -- The items are those of a slice header: of values that go through its form but for the picture header that stands inside, whose
 -- values are these.
-pub record AreFields (n : Context) (fields : List Item) (inside : List ℤ) : Type 0 where
+pub record AreFields (n : At) (fields : List Item) (inside : List ℤ) : Type 0 where
   pub first : List ℤ
   pub behind : List ℤ
   pub at : List ℕ
   pub end : List ℕ
-  pub begins : Follows (form_of HEADER_INSIDE n.slice.now) first at
-  pub goes_on : Follows (header_inside n.table.now n.sets.now at) inside at
-  pub ends : Follows (behind_header n.table.now n.ids.now n.layout.now at) behind end
-  pub all : fields ≡ items_along (form_of HEADER_INSIDE n.slice.now) first
-      ++ items_along (behind_header n.table.now n.ids.now n.layout.now at) behind
+  pub begins : Follows (form_of HEADER_INSIDE n.slice) first at
+  pub goes_on : Follows (header_inside n.table n.sets at) inside at
+  pub ends : Follows (behind_header n.table n.ids n.layout at) behind end
+  pub all : fields ≡ items_along (form_of HEADER_INSIDE n.slice) first
+      ++ items_along (behind_header n.table n.ids n.layout at) behind
 
 -- all values, in the order of the bits
-abbrev pub values_of : {n : Context} {fields : List Item} {inside : List ℤ} → AreFields n fields inside → List ℤ
+abbrev pub values_of : {n : At} {fields : List Item} {inside : List ℤ} → AreFields n fields inside → List ℤ
 values_of {inside} f = (f.first ++ inside) ++ f.behind
 
 -- What else a slice header has: whether the picture header stands inside, its subpicture and its address, and the lists that its
 -- fields come to.
-pub record HasNumbers (n : Context) (header : SliceHeader) (end : List ℕ) : Type 0 where
+pub record HasNumbers (n : At) (header : SliceHeader) (end : List ℕ) : Type 0 where
   pub inside : header.inside ≡ is_set (slice_index end sh_picture_header_in_slice_header_flag)
   pub subpic : header.subpic ≡ slice_index end SUBPIC
   pub address : header.address ≡ slice_index end sh_slice_address
-  pub lists : header.lists ≡ lists_of n.table.now n.sets.now header.fields
+  pub lists : header.lists ≡ lists_of n.table n.sets header.fields
 
 -- An RBSP begins with the spelling of a slice header, which takes so many bytes. The last of these isn't 00.
-pub record BeginsSlice (n : Context) (rbsp : List ℕ) (header : SliceHeader) (bytes : ℕ) : Type 0 where
+pub record BeginsSlice (n : At) (rbsp : List ℕ) (header : SliceHeader) (bytes : ℕ) : Type 0 where
   pub inside : List ℤ
   pub fields : AreFields n header.fields inside
   pub rest : List Bool
@@ -56,7 +56,36 @@ pub record BeginsSlice (n : Context) (rbsp : List ℕ) (header : SliceHeader) (b
 
 -- What a reader answers: the slice header that the RBSP begins with, and its bytes; or the first refusal, as one would that passes
 -- over it.
-abbrev pub ReadsSlice : Context → List ℕ → Result (SliceHeader × ℕ) ReadError → Type 0
+abbrev pub ReadsSlice : At → List ℕ → Result (SliceHeader × ℕ) ReadError → Type 0
 ReadsSlice n rbsp (Ok (header, size)) = BeginsSlice n rbsp header size
 ReadsSlice n rbsp (Err errors.Memory) = Unit {0}
 ReadsSlice n rbsp (Err (errors.Refused r)) = (new : Place) × Passes {B = Unit {0}} (slice_form n) (at_front rbsp) (Err r) new
+
+-- The items are those of a slice header inside of which, where a picture header stands there, the one of these items stands.
+pub record IsSliceOf (n : At) (fields header : List Item) : Type 0 where
+  pub inside : List ℤ
+  pub slice : AreFields n fields inside
+  pub others : List Item
+  pub given : header ≡ items_along (header_inside n.table n.sets slice.at) inside ++ others
+
+-- The bytes are its spelling, and the last of them isn't 00.
+pub record IsSpelling (n : At) (fields header : List Item) (bytes : List ℕ) : Type 0 where
+  pub is : IsSliceOf n fields header
+  pub bits : bits_of bytes ≡ bits_along (slice_form n) 0 (values_of is.slice)
+  pub last : EndsInNoZero bytes
+
+-- What is written is read as it, whatever payload follows: the same items, of the same length.
+abbrev pub SpellingIsRead : Type 0
+SpellingIsRead = (n : At) (fields header : List Item) (bytes payload : List ℕ) (read : SliceHeader) (size : ℕ)
+    → IsSpelling n fields header bytes → BeginsSlice n (bytes ++ payload) read size → (read.fields ≡ fields) × (size ≡ length bytes)
+
+-- The scope at the end of a slice header has the numbers that its items tell: whether the picture header stands inside, the index of
+-- the id, and the address.
+pub record AreTold (n : At) (fields : List Item) (end : List ℕ) : Type 0 where
+  pub inside : slice_index end sh_picture_header_in_slice_header_flag ≡ number fields sh_picture_header_in_slice_header_flag
+  pub subpic : slice_index end SUBPIC ≡ index_of (number fields sh_subpic_id) n.ids
+  pub address : slice_index end sh_slice_address ≡ number fields sh_slice_address
+
+abbrev pub NumbersAreTold : Type 0
+NumbersAreTold = (n : At) (fields : List Item) (inside : List ℤ) (f : AreFields n fields inside) → length n.slice ≡ 1024
+    → AreTold n fields f.end

@@ -71,7 +71,18 @@ abbrev pub header_inside : RplTable → List ℕ → List ℕ → Form (List ℕ
 header_inside table sets =
     present (When (Plain (Latest sh_picture_header_in_slice_header_flag))) (λ s. header_form table sets >>= λ t. done s)
 
+-- What a slice header is read and written at: the SPS's structures of lists, the numbers of the sets, these with the numbers of the
+-- picture header and of the slice, the ids of the subpictures, and the layout.
+pub record At : Type 0 where
+  pub table : RplTable
+  pub sets : List ℕ
+  pub slice : List ℕ
+  pub ids : List ℕ
+  pub layout : Numbers
+
+abbrev pub at_of : Context → At
+at_of n = record { table = n.table.now; sets = n.sets.now; slice = n.slice.now; ids = n.ids.now; layout = n.layout.now }
+
 -- slice_header( ), with its alignment
-unfoldable pub slice_form : Context → Form (List ℕ)
-slice_form n = (form_of HEADER_INSIDE n.slice.now >>= header_inside n.table.now n.sets.now)
-    >>= behind_header n.table.now n.ids.now n.layout.now
+unfoldable pub slice_form : At → Form (List ℕ)
+slice_form n = (form_of HEADER_INSIDE n.slice >>= header_inside n.table n.sets) >>= behind_header n.table n.ids n.layout

@@ -1,2 +1,3 @@
 -- What serves bodies alone.
 pub mod Reading
+pub mod Writing

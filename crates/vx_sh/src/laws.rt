@@ -1,6 +1,7 @@
 //! Laws of slice headers: functions that do nothing, each with a law as its contract.
 ghost use Rattle.vx_sh.specs.Depends.{KeptDepend, AllDepend, AllAreShown, KeptAreShown};
 ghost use Rattle.vx_sh.specs.Again.{SlicesReadAgain, SlicesRewrite};
+ghost use Rattle.vx_sh.specs.Value.{NumbersAreTold};
 
 /// The kept fields of a slice header behind the id of its subpicture depend on kept fields alone, and the other fields on a
 /// few with a star beside these.
@@ -20,4 +21,9 @@ pub fn slices_keep()
 pub fn slices_go_again()
     ensures read { SlicesReadAgain }
     ensures rewritten { SlicesRewrite }
+{}
+
+/// The items of a slice header tell whether the picture header stands inside, its subpicture and its address.
+pub fn numbers_are_told()
+    ensures { NumbersAreTold }
 {}

@@ -1,6 +1,6 @@
 //! Reading a slice header.
 ghost use Rattle.std.specs.Prelude.{◌≡◌, ◌^◌, ◌≤◌, [], length};
-ghost use Rattle.vx_sh.specs.Whole.{header_inside};
+ghost use Rattle.vx_sh.specs.Whole.{header_inside, at_of};
 ghost use Rattle.vx_sh.specs.Value.{ReadsSlice};
 ghost use Rattle.vx_sh.specs.inner.Reading.{IsPassed, ReadsFields};
 
@@ -36,7 +36,7 @@ fn read_fields(
     into: &mut Fields,
 ) -> Result<Scope, ReadError>
     requires { into.old ≡ [] }
-    ensures { ReadsFields n.now bits.old result bits.new into.new }
+    ensures { ReadsFields (at_of n.now) bits.old result bits.new into.new }
 {
     let mut scope = *n.slice;
     code_table(&HEADER_INSIDE, &mut scope, bits, into)?;
@@ -58,7 +58,7 @@ pub fn read_slice_at(
     n: &Context<'_>,
 ) -> Result<(SliceHeader, usize), ReadError>
     requires { length rbsp.now ≤ 2 ^ 23 }
-    ensures { ReadsSlice n.now rbsp.now result }
+    ensures { ReadsSlice (at_of n.now) rbsp.now result }
 {
     let mut bits = BitReader::new(rbsp);
     let mut fields = Fields::new(alloc);

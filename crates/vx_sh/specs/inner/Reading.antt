@@ -8,8 +8,7 @@ use Rattle.vx_table.specs.Forms.{Form}
 use Rattle.vx_table.specs.Walks.{Walks}
 use Rattle.vx_table.specs.Spelling.{Spells}
 use Rattle.vx_table.specs.Reading.{PassesField, Passes}
-use Rattle.vx_sh.specs.declared.context.Context.{Context}
-use Rattle.vx_sh.specs.Whole.{slice_form}
+use Rattle.vx_sh.specs.Whole.{At, slice_form}
 use Rattle.vx_sh.specs.Value.{AreFields, values_of}
 
 abbrev pub IsPassed : Form (List ℕ) → List ℕ → Place → Result (Unit {0}) ReadError → Place → Type 0
@@ -17,14 +16,14 @@ IsPassed form end old (Ok u) new = Walks PassesField form old tt (Ok end) new tt
 IsPassed form end old (Err errors.Memory) new = ⊥
 IsPassed form end old (Err (errors.Refused r)) new = Walks {A = List ℕ} PassesField form old tt (Err r) new tt
 
-pub record FieldsRead (n : Context) (old : Place) (end : List ℕ) (new : Place) (items : List Item) : Type 0 where
+pub record FieldsRead (n : At) (old : Place) (end : List ℕ) (new : Place) (items : List Item) : Type 0 where
   pub inside : List ℤ
   pub fields : AreFields n items inside
   pub ends : fields.end ≡ end
   pub spelled : Spells old.total (slice_form n) (values_of fields) old.left new.left
   pub total : new.total ≡ old.total
 
-abbrev pub ReadsFields : Context → Place → Result (List ℕ) ReadError → Place → List Item → Type 0
+abbrev pub ReadsFields : At → Place → Result (List ℕ) ReadError → Place → List Item → Type 0
 ReadsFields n old (Ok end) new items = FieldsRead n old end new items
 ReadsFields n old (Err errors.Memory) new items = Unit {0}
 ReadsFields n old (Err (errors.Refused r)) new items = Passes {B = Unit {0}} (slice_form n) old (Err r) new

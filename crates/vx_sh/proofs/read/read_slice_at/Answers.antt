@@ -4,14 +4,14 @@ use Rattle.vx_fields.specs.declared.sh.TheConstants.{sh_picture_header_in_slice_
 use Rattle.vx_fields.specs.declared.names.sh.TheConstants.{SUBPIC}
 use Rattle.vx_bits.specs.Codes.{bits_of}
 use Rattle.vx_table.specs.Spelling.{Spells}
-use Rattle.vx_sh.specs.Whole.{slice_form}
+use Rattle.vx_sh.specs.Whole.{at_of, slice_form}
 use Rattle.vx_sh.specs.Value.{values_of}
 use Rattle.vx_sh.proofs.Sized.{all_follow, sized}
 use Rattle.vx_sh.proofs.read.read_slice_at.Goals as goal
 
 pub returns : goal.returns
 returns c =
-    let n = c.args.n.now in
+    let n = at_of c.args.n.now in
     let rbsp = c.args.rbsp.now in
     let read = rw c.in_ok-end.was at c.read_fields.ensures in
     let rest = c.read_fields.new.bits.left in
