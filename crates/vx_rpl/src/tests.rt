@@ -4,12 +4,13 @@ ghost use Rattle.std.specs.Prelude.{◌≤◌};
 use crate::cases::{HEADERS, TABLES, WEIGHTS};
 use crate::{
     RefEntry, RefList, RefLists, RplNumbers, RplTable, Structure, StructureList, WeightNumbers,
-    read_lists, read_struct, read_weights, write_lists, write_struct, write_weights,
+    code_lists, read_lists, read_struct, read_weights, write_lists, write_struct, write_weights,
 };
 use std::alloc::{AllocError, Global};
 use std::process::Abort;
 use std::test::Fail;
 use vx_bits::{BitReader, BitWriter, Fields, Item, ReadError};
+use vx_fields::names::rpl::{ENTRIES_0, ENTRIES_1};
 use vx_table::SpellError;
 
 /// No long-term entries, no weights.
@@ -208,6 +209,31 @@ fn lists_written(
     Ok(bits.close()?)
 }
 
+/// How many entries the walk over lists finds.
+fn entries_walked(
+    rt: &impl Abort,
+    numbers: &RplNumbers,
+    table: &RplTable,
+    bytes: &[u8],
+) -> Result<(usize, usize), Fail> {
+    assert!(rt; bytes.len() <= 1 << 23);
+    assert!(rt; 4 <= numbers.lsb_bits && numbers.lsb_bits <= 16);
+    let mut scope = numbers.scope();
+    code_lists(table, &mut scope, &mut BitReader::new(bytes), &mut ())?;
+    Ok((
+        scope.latest(ENTRIES_0) as usize,
+        scope.latest(ENTRIES_1) as usize,
+    ))
+}
+
+/// How many entries a list's text has.
+fn entries_told(text: &str) -> usize {
+    if text == "-" {
+        return 0;
+    }
+    text.split(',').count()
+}
+
 /// Reads the lists of a header, and writes what was read.
 fn header(
     rt: &impl Abort,
@@ -221,7 +247,10 @@ fn header(
     let text = lists_read(rt, alloc, numbers, table, &bytes)?;
     let (_, text) = text.split_once(' ').ok_or("no place")?;
     assert_eq!(rt; text, told);
-    let (told, _) = told.split_once(" = ").ok_or("no lists")?;
+    let (told, lists) = told.split_once(" = ").ok_or("no lists")?;
+    let (first, second) = lists.split_once('|').ok_or("no list 1")?;
+    let walked = entries_walked(rt, numbers, table, &bytes)?;
+    assert_eq!(rt; walked, (entries_told(first), entries_told(second)));
     let written = lists_written(rt, alloc, numbers, table, told)?;
     assert_eq!(rt; written.as_slice(), bytes.as_slice());
     Ok(())
