@@ -17,7 +17,7 @@ use Rattle.vx_rpl.specs.Lists.{behind_structure, picked, begun, own_and_long_ter
 use Rattle.vx_rpl.specs.Depends.{at_choice, at_structure, list_chains, behind_list, first_chains, behind_first, second_chains, behind_second, lists_chain, behind_lists, ListsCarry}
 
 -- a name that both give the same number
-set_keeps : (known s t : List ℕ) (n v : ℕ) → Agree known s t → Agree known (slice_set s n v) (slice_set t n v)
+pub set_keeps : (known s t : List ℕ) (n v : ℕ) → Agree known s t → Agree known (slice_set s n v) (slice_set t n v)
 set_keeps known s t n v agree = agree_set n v (λ m other h. h) agree
 
 structure_keeps : (known s t : List ℕ) (structure : Option Structure) → Agree known s t → Agree known (behind_structure structure s) (behind_structure structure t)

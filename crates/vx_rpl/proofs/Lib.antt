@@ -9,3 +9,4 @@ pub mod Carrying
 pub mod Passing
 pub mod Following
 mod Written
+pub mod Anywhere

@@ -4,11 +4,13 @@ use Rattle.vx_bits.specs.declared.list.Item.{Item}
 use Rattle.vx_table.specs.declared.writer.SpellError.{SpellError}
 use Rattle.vx_table.specs.declared.writer.SpellError.TheVariants.{NoValue}
 use Rattle.vx_table.specs.Scope.{one_if}
-use Rattle.vx_table.specs.Forms.{Form}
-use Rattle.vx_table.specs.Values.{bits_along}
+use Rattle.vx_table.specs.Forms.{Form, form_of}
+use Rattle.vx_table.specs.Spelling.{items_along}
+use Rattle.vx_table.specs.Values.{Follows, bits_along}
 use Rattle.vx_table.specs.Writing.{AreItemsOf, IsWritten, IsRejected}
 use Rattle.vx_fields.specs.declared.rpl.TheConstants.{ltrp_in_header_flag}
 use Rattle.vx_rpl.specs.declared.numbers.RplNumbers.{RplNumbers}
+use Rattle.vx_rpl.specs.declared.tables.TheConstants.{REF_PIC_LIST_STRUCT}
 use Rattle.vx_rpl.specs.Numbers.{structure_scope}
 
 -- The answer, whole, unless memory runs out:
@@ -39,3 +41,20 @@ is_second of items = false
 
 abbrev pub own_scope : RplNumbers → List Item → List ℕ
 own_scope numbers items = structure_scope numbers 0 (one_if (is_second ltrp_in_header_flag items))
+
+-- Values go through a form and through another, with the same items and the same bits.
+pub record GoAlike (form other : Form (List ℕ)) (values : List ℤ) : Type 0 where
+  pub end : List ℕ
+  pub follows : Follows other values end
+  pub items : items_along other values ≡ items_along form values
+  pub bits : (place : ℕ) → bits_along other place values ≡ bits_along form place values
+
+-- So the items of a structure are written as the structure wherever it stands, of whatever index and count.
+abbrev pub structure_at : RplNumbers → ℕ → ℕ → Form (List ℕ)
+structure_at numbers index count = form_of REF_PIC_LIST_STRUCT (structure_scope numbers index count)
+
+abbrev pub StructuresWrittenAlike : Type 0
+StructuresWrittenAlike = (numbers : RplNumbers) (index count : ℕ) (values : List ℤ) (end : List ℕ)
+    → Follows (structure_at numbers index count) values end
+    → GoAlike (structure_at numbers index count)
+    (form_of REF_PIC_LIST_STRUCT (own_scope numbers (items_along (structure_at numbers index count) values))) values

@@ -1,5 +1,6 @@
 //! Laws of lists, structures and weights: functions that do nothing, each with a law as its contract.
 ghost use Rattle.vx_rpl.specs.Depends.{ListsDepend, StructureDepends, WeightsDepend, FieldsAreCodedOnce, ListsCarry, ListsShow, ListsKeep, ListsLeave, ListsFollowItems, TablesFollowItems};
+ghost use Rattle.vx_rpl.specs.Written.{StructuresWrittenAlike};
 
 /// Whatever structures the SPS has, lists read five numbers of the parameter sets.
 pub fn lists_depend()
@@ -42,4 +43,9 @@ pub fn lists_follow_items()
 /// The items of structures and of their numbers tell the structures of an SPS.
 pub fn tables_follow_items()
     ensures { TablesFollowItems }
+{}
+
+/// A structure's items are written as the structure, whatever its index and count were when it was read.
+pub fn structures_written_alike()
+    ensures { StructuresWrittenAlike }
 {}

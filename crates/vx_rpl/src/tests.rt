@@ -1,13 +1,16 @@
 //! Structures, lists and weights: rows worked by hand, and cases from an independent model.
+ghost use Rattle.std.specs.Prelude.{◌≤◌};
+
 use crate::cases::{HEADERS, TABLES, WEIGHTS};
 use crate::{
     RefEntry, RefList, RefLists, RplNumbers, RplTable, Structure, StructureList, WeightNumbers,
-    read_lists, read_struct, read_weights, write_lists, write_struct, write_weights,
+    code_lists, read_lists, read_struct, read_weights, write_lists, write_struct, write_weights,
 };
 use std::alloc::{AllocError, Global};
 use std::process::Abort;
 use std::test::Fail;
-use vx_bits::{BitCause, BitReader, BitWriter, Fields, Item, ReadError, Refusal};
+use vx_bits::{BitReader, BitWriter, Fields, Item, ReadError};
+use vx_fields::names::rpl::{ENTRIES_0, ENTRIES_1};
 use vx_table::SpellError;
 
 /// No long-term entries, no weights.
@@ -29,6 +32,17 @@ fn items(alloc: Global, text: &str) -> Result<Fields, Fail> {
         })?;
     }
     Ok(items)
+}
+
+/// The text of items.
+fn items_text(alloc: Global, items: &Fields) -> Result<String, AllocError> {
+    let mut text = String::new(alloc);
+    for i in 0..items.len() {
+        let Item { field, value } = items.item(i);
+        let item = format!(in alloc; "{field}={value} ")?;
+        text.push_str(item.as_str())?;
+    }
+    Ok(text)
 }
 
 /// Bits from their text, with a one and zeros behind them.
@@ -112,6 +126,19 @@ fn structures_text(alloc: Global, structures: &StructureList) -> Result<String, 
     Ok(text)
 }
 
+/// The structures of an SPS, list 0's and list 1's.
+fn table_text(alloc: Global, table: &RplTable) -> Result<String, Fail> {
+    let first = structures_text(alloc, &table.first)?;
+    let second = structures_text(alloc, &table.second)?;
+    Ok(format!(in alloc; "{first}|{second}")?)
+}
+
+/// The structures that items of an SPS tell.
+fn table(alloc: Global, numbers: &RplNumbers, set: &str) -> Result<RplTable, Fail> {
+    let set = items(alloc, set)?;
+    Ok(RplTable::new(alloc, numbers, &set, 0, set.len())?)
+}
+
 #[test]
 fn tells_the_structures_of_sets(rt: HostRuntime) -> Result<(), Fail> {
     for row in TABLES.lines() {
@@ -121,12 +148,9 @@ fn tells_the_structures_of_sets(rt: HostRuntime) -> Result<(), Fail> {
             weighted: weighted == "1",
             ..PLAIN
         };
-        let set = items(rt.alloc(), set)?;
-        let table = RplTable::new(rt.alloc(), &numbers, &set, 0, set.len())?;
-        let first = structures_text(rt.alloc(), &table.first)?;
-        let second = structures_text(rt.alloc(), &table.second)?;
-        let told = format!(in rt.alloc(); "{first}|{second}")?;
-        assert_eq!(rt; told.as_str(), wanted, "{row}");
+        let table = table(rt.alloc(), &numbers, set)?;
+        let text = table_text(rt.alloc(), &table)?;
+        assert_eq!(rt; text.as_str(), wanted);
     }
     Ok(())
 }
@@ -144,6 +168,72 @@ fn numbers(text: &str) -> Result<RplNumbers, Fail> {
     })
 }
 
+/// The answer to lists, or the error.
+fn answer_text(alloc: Global, answer: &Result<RefLists, ReadError>) -> Result<String, AllocError> {
+    match answer {
+        Ok(lists) => lists_text(alloc, lists),
+        Err(error) => format!(in alloc; "{error:?}"),
+    }
+}
+
+/// What reading lists answers: where it ends, the items that it gains, and the entries or the error.
+fn lists_read(
+    rt: &impl Abort,
+    alloc: Global,
+    numbers: &RplNumbers,
+    table: &RplTable,
+    bytes: &[u8],
+) -> Result<String, Fail> {
+    assert!(rt; bytes.len() <= 1 << 23);
+    assert!(rt; 4 <= numbers.lsb_bits && numbers.lsb_bits <= 16);
+    let mut bits = BitReader::new(bytes);
+    let mut gained = Fields::new(alloc);
+    let answer = read_lists(alloc, &mut bits, numbers, table, &mut gained);
+    let answer = answer_text(alloc, &answer)?;
+    let items = items_text(alloc, &gained)?;
+    Ok(format!(in alloc; "{} {items}= {answer}", bits.at())?)
+}
+
+/// The bytes that the items of lists are written as, with a one and zeros behind them.
+fn lists_written(
+    rt: &impl Abort,
+    alloc: Global,
+    numbers: &RplNumbers,
+    table: &RplTable,
+    told: &str,
+) -> Result<Vec<u8>, Fail> {
+    assert!(rt; 4 <= numbers.lsb_bits && numbers.lsb_bits <= 16);
+    let told = items(alloc, told)?;
+    let mut bits = BitWriter::new(alloc);
+    write_lists(&mut bits, &told, 0, told.len(), numbers, table)?;
+    Ok(bits.close()?)
+}
+
+/// How many entries the walk over lists finds.
+fn entries_walked(
+    rt: &impl Abort,
+    numbers: &RplNumbers,
+    table: &RplTable,
+    bytes: &[u8],
+) -> Result<(usize, usize), Fail> {
+    assert!(rt; bytes.len() <= 1 << 23);
+    assert!(rt; 4 <= numbers.lsb_bits && numbers.lsb_bits <= 16);
+    let mut scope = numbers.scope();
+    code_lists(table, &mut scope, &mut BitReader::new(bytes), &mut ())?;
+    Ok((
+        scope.latest(ENTRIES_0) as usize,
+        scope.latest(ENTRIES_1) as usize,
+    ))
+}
+
+/// How many entries a list's text has.
+fn entries_told(text: &str) -> usize {
+    if text == "-" {
+        return 0;
+    }
+    text.split(',').count()
+}
+
 /// Reads the lists of a header, and writes what was read.
 fn header(
     rt: &impl Abort,
@@ -152,40 +242,32 @@ fn header(
     table: &RplTable,
     row: &str,
 ) -> Result<(), Fail> {
-    let (spelled, wanted) = row.split_once(" = ").ok_or("no lists")?;
-    let (bits, told) = spelled.split_once(' ').ok_or("no items")?;
+    let (bits, told) = row.split_once(' ').ok_or("no items")?;
     let bytes = bytes(alloc, bits)?;
-    assert!(rt; bytes.len() <= 1 << 23);
-    assert!(rt; 4 <= numbers.lsb_bits && numbers.lsb_bits <= 16);
-    let mut reader = BitReader::new(&bytes);
-    let mut gained = Fields::new(alloc);
-    let lists = read_lists(alloc, &mut reader, numbers, table, &mut gained)?;
-    assert_eq!(rt; reader.at() as usize, bits.len(), "{row}");
-    let told = items(alloc, told)?;
-    assert_eq!(rt; gained.as_slice(), told.as_slice(), "{row}");
-    let text = lists_text(alloc, &lists)?;
-    assert_eq!(rt; text.as_str(), wanted, "{row}");
-    let mut writer = BitWriter::new(alloc);
-    write_lists(&mut writer, &told, 0, told.len(), numbers, table)?;
-    let written = writer.close()?;
-    assert_eq!(rt; written.as_slice(), bytes.as_slice(), "{row}");
+    let text = lists_read(rt, alloc, numbers, table, &bytes)?;
+    let (_, text) = text.split_once(' ').ok_or("no place")?;
+    assert_eq!(rt; text, told);
+    let (told, lists) = told.split_once(" = ").ok_or("no lists")?;
+    let (first, second) = lists.split_once('|').ok_or("no list 1")?;
+    let walked = entries_walked(rt, numbers, table, &bytes)?;
+    assert_eq!(rt; walked, (entries_told(first), entries_told(second)));
+    let written = lists_written(rt, alloc, numbers, table, told)?;
+    assert_eq!(rt; written.as_slice(), bytes.as_slice());
     Ok(())
 }
 
 #[test]
 fn reads_and_writes_the_lists_of_headers(rt: HostRuntime) -> Result<(), Fail> {
     let mut in_force = PLAIN;
-    let mut table = no_structures(rt.alloc());
+    let mut set = no_structures(rt.alloc());
     for row in HEADERS.lines() {
         match row.strip_prefix("sps ") {
-            Some(set) => {
-                let (text, structures) = set.split_once(" 179").ok_or("no structures")?;
+            Some(row) => {
+                let (text, structures) = row.split_once(" : ").ok_or("no structures")?;
                 in_force = numbers(text)?;
-                let structures = format!(in rt.alloc(); "179{structures}")?;
-                let structures = items(rt.alloc(), structures.as_str())?;
-                table = RplTable::new(rt.alloc(), &in_force, &structures, 0, structures.len())?;
+                set = table(rt.alloc(), &in_force, structures)?;
             }
-            None => header(&rt, rt.alloc(), &in_force, &table, row)?,
+            None => header(&rt, rt.alloc(), &in_force, &set, row)?,
         }
     }
     Ok(())
@@ -200,32 +282,152 @@ fn no_structures(alloc: Global) -> RplTable {
 }
 
 #[test]
-fn reads_and_writes_a_structure(rt: HostRuntime) -> Result<(), Fail> {
-    let mut bits = BitReader::new(&[0x50]);
-    let mut gained = Fields::new(rt.alloc());
-    read_struct(&mut bits, &PLAIN, 0, 1, &mut gained)?;
-    let told = items(rt.alloc(), "301=1 304=0 305=0")?;
-    assert_eq!(rt; gained.as_slice(), told.as_slice());
-    assert_eq!(rt; bits.at(), 5);
-    let mut written = BitWriter::new(rt.alloc());
-    write_struct(&mut written, &told, 0, told.len(), &PLAIN)?;
-    assert_eq!(rt; written.close()?.as_slice(), [0b01010_100].as_slice());
+fn reads_and_writes_no_entries(rt: HostRuntime) -> Result<(), Fail> {
+    let set = no_structures(rt.alloc());
+    let text = lists_read(&rt, rt.alloc(), &PLAIN, &set, &[0xC0])?;
+    assert_eq!(rt; text.as_str(), "2 301=0 301=0 = -|-");
+    let written = lists_written(&rt, rt.alloc(), &PLAIN, &set, "301=0 301=0")?;
+    assert_eq!(rt; written.as_slice(), [0b11_100000].as_slice());
+    Ok(())
+}
+
+/// List 0 has structure 2 of 3, with five long-term entries, and list 1 takes its index over.
+#[test]
+fn refuses_an_index_that_leads_past(rt: HostRuntime) -> Result<(), Fail> {
+    let in_force = RplNumbers {
+        long_term: true,
+        rpl1_idx_present: false,
+        ..PLAIN
+    };
+    let cases = [
+        ("179=1 301=0", "l1,l2,l3,l4,l5|-"),
+        (
+            "179=2 301=0 301=0",
+            "Refused(Syntax { field: 308, bit: 8, cause: OutOfRange })",
+        ),
+        ("179=3 301=0 301=0 301=0", "l1,l2,l3,l4,l5|-"),
+    ];
+    for (second, wanted) in cases {
+        let text = taken_over(&rt, rt.alloc(), &in_force, second)?;
+        let (told, answer) = text.split_once(" = ").ok_or("no answer")?;
+        assert_eq!(rt; told, "8 307=1 308=2 310=0 310=0 310=0 310=0 310=0");
+        assert_eq!(rt; answer, wanted);
+    }
+    Ok(())
+}
+
+/// What is read of such a header, where these are the structures of list 1.
+fn taken_over(
+    rt: &impl Abort,
+    alloc: Global,
+    in_force: &RplNumbers,
+    second: &str,
+) -> Result<String, Fail> {
+    let first =
+        "179=3 301=0 301=0 301=5 302=0 303=0 306=1 303=0 306=2 303=0 306=3 303=0 306=4 303=0 306=5";
+    let set = format!(in alloc; "{first} {second}")?;
+    let set = table(alloc, in_force, set.as_str())?;
+    lists_read(rt, alloc, in_force, &set, &[0b1_10_00000])
+}
+
+/// What reading a structure answers.
+fn structure_read(rt: &impl Abort, alloc: Global, bytes: &[u8]) -> Result<String, Fail> {
+    assert!(rt; bytes.len() <= 1 << 23);
+    let mut bits = BitReader::new(bytes);
+    let mut gained = Fields::new(alloc);
+    let answer = read_struct(&mut bits, &PLAIN, 0, 1, &mut gained);
+    let items = items_text(alloc, &gained)?;
+    Ok(format!(in alloc; "{} {items}{answer:?}", bits.at())?)
+}
+
+#[test]
+fn reads_structures(rt: HostRuntime) -> Result<(), Fail> {
+    let cases: [(&[u8], &str); 8] = [
+        (&[0x50], "5 301=1 304=0 305=0 Ok(())"),
+        (
+            &[0b0000_1111, 0],
+            "9 301=29 Err(Refused(Syntax { field: 304, bit: 9, cause: Short }))",
+        ),
+        (
+            &[0b0000_1111, 0b1000_0000],
+            "0 Err(Refused(Limit { code: 7 }))",
+        ),
+        (
+            &[0b0000_0100],
+            "0 Err(Refused(Syntax { field: 301, bit: 0, cause: Short }))",
+        ),
+        (
+            &[0, 0, 0, 0, 0],
+            "0 Err(Refused(Syntax { field: 301, bit: 0, cause: LongCode }))",
+        ),
+        (
+            &[0b010_00001],
+            "3 301=1 Err(Refused(Syntax { field: 304, bit: 3, cause: Short }))",
+        ),
+        (
+            &[0x40, 0, 0x20, 0, 0x40],
+            "3 301=1 Err(Refused(Syntax { field: 304, bit: 3, cause: OutOfRange }))",
+        ),
+        (
+            &[0b010_00110],
+            "8 301=1 304=5 Err(Refused(Syntax { field: 305, bit: 8, cause: Short }))",
+        ),
+    ];
+    for (bytes, wanted) in cases {
+        let text = structure_read(&rt, rt.alloc(), bytes)?;
+        assert_eq!(rt; text.as_str(), wanted);
+    }
+    Ok(())
+}
+
+/// What writing a structure answers, with the bytes.
+fn structure_written(
+    alloc: Global,
+    long_term: bool,
+    told: &str,
+) -> Result<(Result<(), SpellError>, Vec<u8>), Fail> {
+    let numbers = RplNumbers {
+        long_term,
+        lsb_bits: 4,
+        ..PLAIN
+    };
+    let told = items(alloc, told)?;
+    let mut bits = BitWriter::new(alloc);
+    let answer = write_struct(&mut bits, &told, 0, told.len(), &numbers);
+    Ok((answer, bits.close()?))
+}
+
+#[test]
+fn writes_structures(rt: HostRuntime) -> Result<(), Fail> {
+    let cases: [(bool, &str, &[u8]); 3] = [
+        (false, "301=1 304=0 305=0", &[0b01010_100]),
+        (
+            true,
+            "301=1 302=0 303=0 306=5",
+            &[0b010_0_0_010, 0b1_1000000],
+        ),
+        (true, "301=1 303=0", &[0b010_0_1000]),
+    ];
+    for (long_term, told, wanted) in cases {
+        let (answer, bytes) = structure_written(rt.alloc(), long_term, told)?;
+        assert_eq!(rt; answer, Ok(()));
+        assert_eq!(rt; bytes.as_slice(), wanted);
+    }
     Ok(())
 }
 
 #[test]
-fn reads_and_writes_no_entries(rt: HostRuntime) -> Result<(), Fail> {
-    let table = no_structures(rt.alloc());
-    let mut bits = BitReader::new(&[0xC0]);
-    let mut gained = Fields::new(rt.alloc());
-    let lists = read_lists(rt.alloc(), &mut bits, &PLAIN, &table, &mut gained)?;
-    let told = items(rt.alloc(), "301=0 301=0")?;
-    assert_eq!(rt; gained.as_slice(), told.as_slice());
-    assert_eq!(rt; (lists.first.len(), lists.second.len()), (0, 0));
-    assert_eq!(rt; bits.at(), 2);
-    let mut written = BitWriter::new(rt.alloc());
-    write_lists(&mut written, &told, 0, told.len(), &PLAIN, &table)?;
-    assert_eq!(rt; written.close()?.as_slice(), [0b11_100000].as_slice());
+fn writes_no_part_of_a_structure(rt: HostRuntime) -> Result<(), Fail> {
+    let cases = [
+        "301=1 304=0",
+        "301=1 304=0 305=0 305=0",
+        "301=30",
+        "301=1 302=0 304=0 305=0",
+    ];
+    for told in cases {
+        let (answer, _) = structure_written(rt.alloc(), false, told)?;
+        assert_eq!(rt; answer, Err(SpellError::NoValue));
+    }
     Ok(())
 }
 
@@ -245,124 +447,38 @@ fn weight_numbers(rt: &impl Abort, alloc: Global, text: &str) -> Result<WeightNu
     })
 }
 
+/// The items that weights are read as.
+fn weights_read(
+    rt: &impl Abort,
+    alloc: Global,
+    numbers: &WeightNumbers,
+    bytes: &[u8],
+) -> Result<String, Fail> {
+    assert!(rt; bytes.len() <= 1 << 23);
+    let mut gained = Fields::new(alloc);
+    read_weights(&mut BitReader::new(bytes), numbers, &mut gained)?;
+    Ok(items_text(alloc, &gained)?)
+}
+
+/// The bytes that the items of weights are written as, with a one and zeros behind them.
+fn weights_written(alloc: Global, numbers: &WeightNumbers, told: &str) -> Result<Vec<u8>, Fail> {
+    let told = items(alloc, told)?;
+    let mut bits = BitWriter::new(alloc);
+    write_weights(&mut bits, &told, 0, told.len(), numbers)?;
+    Ok(bits.close()?)
+}
+
 #[test]
 fn reads_and_writes_weights(rt: HostRuntime) -> Result<(), Fail> {
     for row in WEIGHTS.lines() {
-        let (numbers, row) = row.split_once(" = ").ok_or("no numbers")?;
-        let numbers = weight_numbers(&rt, rt.alloc(), numbers)?;
+        let (text, row) = row.split_once(" = ").ok_or("no numbers")?;
+        let numbers = weight_numbers(&rt, rt.alloc(), text)?;
         let (bits, told) = row.split_once(' ').ok_or("no items")?;
         let bytes = bytes(rt.alloc(), bits)?;
-        assert!(rt; bytes.len() <= 1 << 23);
-        let mut reader = BitReader::new(&bytes);
-        let mut gained = Fields::new(rt.alloc());
-        read_weights(&mut reader, &numbers, &mut gained)?;
-        let told = items(rt.alloc(), told)?;
-        assert_eq!(rt; gained.as_slice(), told.as_slice(), "{row}");
-        assert_eq!(rt; reader.at() as usize, bits.len(), "{row}");
-        let mut writer = BitWriter::new(rt.alloc());
-        write_weights(&mut writer, &told, 0, told.len(), &numbers)?;
-        let written = writer.close()?;
-        assert_eq!(rt; written.as_slice(), bytes.as_slice(), "{row}");
-    }
-    Ok(())
-}
-
-/// A field's refusal.
-const fn refused(field: u16, bit: u32, cause: BitCause) -> ReadError {
-    ReadError::Refused(Refusal::Syntax { field, bit, cause })
-}
-
-#[test]
-fn refuses_structures_at_their_fields(rt: HostRuntime) -> Result<(), Fail> {
-    let too_many = ReadError::Refused(Refusal::Limit { code: 7 });
-    let cases: [(&[u8], ReadError); 7] = [
-        (
-            &[0b0000_1111, 0b0_000_0000],
-            refused(304, 9, BitCause::Short),
-        ),
-        (&[0b0000_1111, 0b1_000_0000], too_many),
-        (&[0b0000_0100], refused(301, 0, BitCause::Short)),
-        (&[0, 0, 0, 0, 0], refused(301, 0, BitCause::LongCode)),
-        (&[0b010_00001], refused(304, 3, BitCause::Short)),
-        (
-            &[0x40, 0, 0x20, 0, 0x40],
-            refused(304, 3, BitCause::OutOfRange),
-        ),
-        (&[0b010_00110], refused(305, 8, BitCause::Short)),
-    ];
-    for (bytes, wanted) in cases {
-        assert!(rt; bytes.len() <= 1 << 23);
-        let mut gained = Fields::new(rt.alloc());
-        let answer = read_struct(&mut BitReader::new(bytes), &PLAIN, 0, 1, &mut gained);
-        assert_eq!(rt; answer, Err(wanted), "{bytes:?}");
-    }
-    Ok(())
-}
-
-/// The first list's structure is number 2 of 3, with five long-term entries, and list 1 takes the index over.
-#[test]
-fn refuses_an_index_that_leads_past(rt: HostRuntime) -> Result<(), Fail> {
-    let in_force = RplNumbers {
-        long_term: true,
-        rpl1_idx_present: false,
-        ..PLAIN
-    };
-    let first =
-        "179=3 301=0 301=0 301=5 302=0 303=0 306=1 303=0 306=2 303=0 306=3 303=0 306=4 303=0 306=5";
-    let cases: [(&str, Result<&str, ReadError>); 3] = [
-        ("179=1 301=0", Ok("l1,l2,l3,l4,l5|-")),
-        (
-            "179=2 301=0 301=0",
-            Err(refused(308, 8, BitCause::OutOfRange)),
-        ),
-        ("179=3 301=0 301=0 301=0", Ok("l1,l2,l3,l4,l5|-")),
-    ];
-    for (second, wanted) in cases {
-        let set = format!(in rt.alloc(); "{first} {second}")?;
-        let set = items(rt.alloc(), set.as_str())?;
-        let table = RplTable::new(rt.alloc(), &in_force, &set, 0, set.len())?;
-        let mut bits = BitReader::new(&[0b1_10_00000]);
-        let mut gained = Fields::new(rt.alloc());
-        let answer = read_lists(rt.alloc(), &mut bits, &in_force, &table, &mut gained);
-        assert_eq!(rt; (gained.len(), bits.at()), (7, 8));
-        match answer {
-            Ok(lists) => {
-                let text = lists_text(rt.alloc(), &lists)?;
-                assert_eq!(rt; Ok(text.as_str()), wanted, "{second}");
-            }
-            Err(error) => assert_eq!(rt; Err(error), wanted, "{second}"),
-        }
-    }
-    Ok(())
-}
-
-#[test]
-fn writes_whole_structures_alone(rt: HostRuntime) -> Result<(), Fail> {
-    let long_term = RplNumbers {
-        long_term: true,
-        lsb_bits: 4,
-        ..PLAIN
-    };
-    let cases: [(&str, RplNumbers, Result<&[u8], SpellError>); 6] = [
-        (
-            "301=1 302=0 303=0 306=5",
-            long_term,
-            Ok(&[0b010_0_0_010, 0b1_1000000]),
-        ),
-        ("301=1 303=0", long_term, Ok(&[0b010_0_1000])),
-        ("301=1 304=0", PLAIN, Err(SpellError::NoValue)),
-        ("301=1 304=0 305=0 305=0", PLAIN, Err(SpellError::NoValue)),
-        ("301=30", PLAIN, Err(SpellError::NoValue)),
-        ("301=1 302=0 304=0 305=0", PLAIN, Err(SpellError::NoValue)),
-    ];
-    for (told, numbers, wanted) in cases {
-        let told = items(rt.alloc(), told)?;
-        let mut bits = BitWriter::new(rt.alloc());
-        let answer = write_struct(&mut bits, &told, 0, told.len(), &numbers);
-        match wanted {
-            Ok(bytes) => assert_eq!(rt; bits.close()?.as_slice(), bytes),
-            Err(error) => assert_eq!(rt; answer, Err(error)),
-        }
+        let text = weights_read(&rt, rt.alloc(), &numbers, &bytes)?;
+        assert_eq!(rt; text.as_str().trim_end(), told);
+        let written = weights_written(rt.alloc(), &numbers, told)?;
+        assert_eq!(rt; written.as_slice(), bytes.as_slice());
     }
     Ok(())
 }
@@ -421,6 +537,16 @@ fn are_longest(lists: &RefLists) -> bool {
     true
 }
 
+/// The bytes that items of lists without structures of an SPS are written as.
+fn longest(alloc: Global, told: &Fields, numbers: &RplNumbers) -> Result<Vec<u8>, Fail>
+    requires { (4 ≤ numbers.now.lsb_bits) × (numbers.now.lsb_bits ≤ 16) }
+{
+    let set = no_structures(alloc);
+    let mut bits = BitWriter::new(alloc);
+    write_lists(&mut bits, told, 0, told.len(), numbers, &set)?;
+    Ok(bits.close()?)
+}
+
 #[test]
 fn reads_the_longest_lists(rt: HostRuntime) -> Result<(), Fail> {
     let in_force = RplNumbers {
@@ -428,18 +554,15 @@ fn reads_the_longest_lists(rt: HostRuntime) -> Result<(), Fail> {
         lsb_bits: 16,
         ..PLAIN
     };
-    let table = no_structures(rt.alloc());
     let mut told = Fields::new(rt.alloc());
     push_long(&mut told)?;
     push_short(&mut told)?;
-    let mut writer = BitWriter::new(rt.alloc());
-    write_lists(&mut writer, &told, 0, told.len(), &in_force, &table)?;
-    let bytes = writer.close()?;
+    let bytes = longest(rt.alloc(), &told, &in_force)?;
     assert!(rt; bytes.len() <= 1 << 23);
+    let set = no_structures(rt.alloc());
     let mut gained = Fields::new(rt.alloc());
-    let mut reader = BitReader::new(&bytes);
-    let lists = read_lists(rt.alloc(), &mut reader, &in_force, &table, &mut gained)?;
-    assert_eq!(rt; gained.as_slice(), told.as_slice());
+    let mut bits = BitReader::new(&bytes);
+    let lists = read_lists(rt.alloc(), &mut bits, &in_force, &set, &mut gained)?;
     assert!(rt; are_longest(&lists));
     Ok(())
 }
