@@ -25,7 +25,8 @@ use Rattle.vx_pps.specs.declared.tiles.Tiles.{Tiles}
 use Rattle.vx_pps.specs.Tiles.{IsGrid, across, block, column, down, row, tile, tile_behind}
 use Rattle.vx_pps.specs.Groups.{Ends, Follow, Group, InGroups, Lies, Stands, cut, high_of, slices_of, slices_of_all, start, strips, whole, wide_of}
 use Rattle.vx_pps.specs.Laws.{FewAreReadBack, ListGivesSlices, SlicesAreReadBack}
-use Rattle.vx_pps.specs.Slices.{Listed, all_slices, below, delta, delta_cell, height_in_tiles, list_from, may_be_cut, none_listed, slices_at, slices_in_tile, spells_delta, strips_from, tile_after, turn, turns_from}
+use Rattle.vx_pps.specs.declared.list.Listed.{Listed}
+use Rattle.vx_pps.specs.Slices.{all_slices, below, delta, delta_cell, height_in_tiles, list_from, may_be_cut, none_listed, slices_at, slices_in_tile, spells_delta, strips_from, tile_after, turn, turns_from}
 use Rattle.vx_pps.specs.Written.{Gives, delta_items, heights_items, item, last_items, list_items, strip_items, turn_items}
 use Rattle.vx_pps.proofs.Blocks.{row_inside}
 use Rattle.vx_pps.proofs.Few.{few_fall, group_some, strips_length}

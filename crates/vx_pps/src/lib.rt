@@ -1,10 +1,14 @@
-//! The tiles and slices of a picture parameter set (H.266 7.3.2.5, 6.5.1).
+//! The picture parameter set and its slice list (H.266 7.3.2.5, 6.5.1).
 //!
 //! [`Tiles`] names tiles by their index. The laws say of which groups the slices of a picture are that a slice list can
 //! name: slices of whole tiles, and the slices of one tile.
 #![tactic(auto)]
+#![allow(non_upper_case_globals)]
 
 mod laws;
+mod list;
+mod partition;
+mod tables;
 #[cfg(test)]
 mod tests;
 mod tiles;
@@ -12,5 +16,11 @@ mod tiles;
 pub use laws::{
     bounds_are_read_back, few_are_read_back, few_fall_into_groups, layouts_are_lists,
     list_gives_slices, lists_fall_into_groups, slices_are_read_back,
+};
+pub use list::Listed;
+pub use partition::Partition;
+pub use tables::{
+    DBF_INFO, DBF_OFFSETS, END, HEADER_INFO, IDS, INIT_QP, NAL_TYPES, OUTPUT, PREDICTION,
+    QP_OFFSETS, SIZE, SUBPIC_IDS,
 };
 pub use tiles::Tiles;
