@@ -3,3 +3,8 @@ mod Counted
 mod Entries
 mod Whole
 mod Structures
+mod Told
+mod Grown
+pub mod Carrying
+pub mod Passing
+pub mod Following

@@ -2,3 +2,5 @@
 pub mod Lists
 pub mod Resolved
 pub mod Numbers
+pub mod HeaderLists
+pub mod Depends

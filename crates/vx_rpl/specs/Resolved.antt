@@ -1,5 +1,5 @@
 -- What the items of reference picture list structures come to: entries with their numbers (H.266 7.4.11).
-use Rattle.std.specs.Prelude.{ℕ, ◌+◌, Bool, cond, ◌&&◌, ◌||◌, ◌==◌, nat_le, nat_lt, Option, None, Some, List, [], ◌∷◌, take}
+use Rattle.std.specs.Prelude.{ℕ, ◌+◌, Bool, cond, ◌&&◌, ◌||◌, ◌==◌, nat_le, nat_lt, Option, None, Some, List, [], ◌∷◌, take, filter}
 use Rattle.vx_bits.specs.declared.list.Item.{Item}
 use Rattle.vx_table.specs.Scope.{natural, capped, is_set}
 use Rattle.vx_fields.specs.declared.rpl.TheConstants.{num_ref_entries, ltrp_in_header_flag, st_ref_pic_flag}
@@ -87,5 +87,12 @@ second_or_first weighted items (Some others) = structures_behind weighted (Some 
 abbrev pub second_of : Bool → List Item → List Structure
 second_of weighted items = second_or_first weighted items (behind_second (past sps_num_ref_pic_lists items))
 
-abbrev pub table_of : Bool → List Item → RplTable
-table_of weighted items = record { first = first_of weighted items; second = second_of weighted items }
+abbrev pub both_of : Bool → List Item → RplTable
+both_of weighted items = record { first = first_of weighted items; second = second_of weighted items }
+
+-- They are told by the items of structures and of their numbers, whatever others stand beside them.
+abbrev pub is_of_table : Item → Bool
+is_of_table item = item.field == sps_num_ref_pic_lists || (nat_le num_ref_entries item.field && nat_le item.field rpls_poc_lsb_lt)
+
+unfoldable pub table_of : Bool → List Item → RplTable
+table_of weighted items = both_of weighted (filter is_of_table items)

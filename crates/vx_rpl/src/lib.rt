@@ -2,6 +2,8 @@
 #![tactic(auto)]
 
 mod entry;
+mod laws;
+mod lists;
 mod numbers;
 mod read;
 mod resolved;
@@ -11,8 +13,13 @@ mod tests;
 mod walk;
 
 pub use entry::{RefEntry, RefList, RefLists, RplTable, Structure, StructureList};
+pub use laws::{
+    fields_are_coded_once, lists_carry, lists_depend, lists_follow_items, lists_pass,
+    structure_depends, tables_follow_items, weights_depend,
+};
+pub use lists::resolve_lists;
 pub use numbers::{RplNumbers, WeightNumbers};
-pub use read::{read_struct, read_weights};
+pub use read::{read_lists, read_struct, read_weights};
 pub use tables::{
     BEFORE_LIST_0, BEHIND_LIST_0, BEHIND_LIST_1, CHOICE, LONG_TERM, REF_PIC_LIST_STRUCT, WEIGHTS,
     WEIGHTS_0, WEIGHTS_1,

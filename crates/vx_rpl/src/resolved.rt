@@ -1,5 +1,5 @@
 //! What the items of lists come to: their entries.
-ghost use Rattle.std.specs.Prelude.{◌≡◌, ◌≤◌, length, take, drop, IfOk, option_copied};
+ghost use Rattle.std.specs.Prelude.{◌≡◌, ◌≤◌, length, take, drop, filter, IfOk, option_copied};
 ghost use Rattle.vx_fields.specs.declared.sps.TheConstants.{sps_num_ref_pic_lists};
 ghost use Rattle.vx_rpl.specs.Resolved as spec;
 
@@ -14,7 +14,7 @@ use vx_fields::sps::sps_num_ref_pic_lists;
 use vx_table::natural;
 
 /// The number that stands next, where it is one of this field; else 0.
-fn next_number(field: u16, items: &[Item]) -> u32
+pub(crate) fn next_number(field: u16, items: &[Item]) -> u32
     ensures { result ≡ spec.next_number field items.now }
 {
     match items.first() {
@@ -42,7 +42,7 @@ fn begins_entry(item: Item) -> bool
 }
 
 /// Whether this item is one of a structure, behind its number of entries.
-fn is_of_structure(item: Item) -> bool
+pub(crate) fn is_of_structure(item: Item) -> bool
     ensures { result ≡ spec.is_of_structure item }
 {
     ltrp_in_header_flag <= item.field && item.field <= rpls_poc_lsb_lt
@@ -71,7 +71,7 @@ fn entry_of(weighted: bool, i: usize, item: Item, rest: &[Item]) -> RefEntry
 ///
 /// Want of memory.
 #[tactic(auto, using(crate::proofs::Entries::entries_stop, crate::proofs::Entries::entries_pushed, crate::proofs::Entries::entries_passed))]
-fn entries(alloc: Global, weighted: bool, items: &[Item]) -> Result<RefList, AllocError>
+pub(crate) fn entries(alloc: Global, weighted: bool, items: &[Item]) -> Result<RefList, AllocError>
     ensures { IfOk result (λ list. list ≡ take 29 (spec.entries_from weighted 0 items.now)) }
 {
     let mut list = RefList::new(alloc);
@@ -137,13 +137,49 @@ fn structures(alloc: Global, weighted: bool, items: &[Item]) -> Result<Structure
     Ok(list)
 }
 
-/// The structures of an SPS, for each list: its items from rpl1_same_as_rpl0_flag to the last structure.
+/// Whether an item is one of the structures of an SPS, or of their number.
+fn is_of_table(item: Item) -> bool
+    ensures { result ≡ spec.is_of_table item }
+{
+    item.field == sps_num_ref_pic_lists
+        || (num_ref_entries <= item.field && item.field <= rpls_poc_lsb_lt)
+}
+
+/// These items.
 ///
 /// # Errors
 ///
 /// Want of memory.
+fn items_of_table(alloc: Global, items: &[Item]) -> Result<Vec<Item>, AllocError>
+    ensures { IfOk result (λ own. own.items ≡ filter spec.is_of_table items.now) }
+{
+    items
+        .iter()
+        .copied()
+        .filter(|item| is_of_table(*item))
+        .collect(alloc)
+}
+
+/// The structures of an SPS, for each list, which its items spell.
+///
+/// # Errors
+///
+/// Want of memory.
+#[tactic(auto, unfolding(crate::specs::Resolved::table_of))]
 pub(crate) fn table(alloc: Global, weighted: bool, items: &[Item]) -> Result<RplTable, AllocError>
     ensures { IfOk result (λ table. table ≡ spec.table_of weighted items.now) }
+{
+    let own = items_of_table(alloc, items)?;
+    both(alloc, weighted, &own)
+}
+
+/// The structures that items of them alone spell.
+///
+/// # Errors
+///
+/// Want of memory.
+fn both(alloc: Global, weighted: bool, items: &[Item]) -> Result<RplTable, AllocError>
+    ensures { IfOk result (λ table. table ≡ spec.both_of weighted items.now) }
 {
     let first = first_structures(alloc, weighted, items)?;
     let second = second_structures(alloc, weighted, items)?;

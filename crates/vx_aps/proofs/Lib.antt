@@ -1,0 +1,2 @@
+-- Lemmas on adaptation parameter sets.
+mod Bytes

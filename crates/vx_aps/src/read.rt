@@ -1,0 +1,56 @@
+//! The RBSP of an adaptation parameter set read.
+ghost use Rattle.std.specs.Prelude.{◌≡◌};
+ghost use Rattle.vx_bits.specs.declared.refusal.ReadError.TheVariants.{Refused as IsRefusedFor};
+ghost use Rattle.vx_bits.specs.declared.refusal.Refusal.TheVariants.{Syntax as SyntaxOf};
+ghost use Rattle.vx_aps.specs.Aps.{ids, AnswersAps};
+
+use crate::aps::{Aps, LMCS, SCALING};
+use std::alloc::Global;
+use vx_bits::rules::APS_ID;
+use vx_bits::{BitCause, Bytes, ReadError, Refusal};
+use vx_fields::aps::{aps_body, aps_params_type};
+
+/// A field that can't be read, and where it begins.
+fn missed(field: u16, bit: u32, cause: BitCause) -> ReadError
+    ensures { result ≡ IsRefusedFor (SyntaxOf field bit cause) }
+{
+    ReadError::Refused(Refusal::Syntax { field, bit, cause })
+}
+
+/// How many ids a type has (clause 7.4.3.6).
+fn ids(kind: u8) -> u8
+    ensures { result ≡ ids kind }
+{
+    if kind == LMCS { 4 } else { 8 }
+}
+
+/// Reads the RBSP of an adaptation parameter set, `adaptation_parameter_set_rbsp()`, clause 7.3.2.6. The answer is None
+/// exactly for the types 3 to 7, which are dropped whatever follows.
+///
+/// # Errors
+///
+/// An id past those of its type; a body without a byte, or that ends in 00; want of memory.
+pub fn read_aps(alloc: Global, rbsp: &[u8]) -> Result<Option<Aps>, ReadError>
+    ensures { AnswersAps rbsp.now result }
+{
+    let Some((first, behind)) = rbsp.split_first() else {
+        return Err(missed(aps_params_type, 0, BitCause::Short));
+    };
+    let kind = first / 32;
+    let id = first % 32;
+    if kind > SCALING {
+        return Ok(None);
+    }
+    if id >= ids(kind) {
+        return Err(ReadError::Refused(Refusal::Profile { code: APS_ID }));
+    }
+    if behind.is_empty() {
+        return Err(missed(aps_body, 8, BitCause::Short));
+    }
+    if behind[behind.len() - 1] == 0 {
+        return Err(missed(aps_body, 8, BitCause::BadTrailing));
+    }
+    let mut body = Bytes::new(alloc);
+    body.extend_from_slice(behind)?;
+    Ok(Some(Aps { kind, id, body }))
+}

@@ -1,0 +1,2 @@
+-- Lemmas on the form of a picture header, and on the sets in force.
+mod Sets

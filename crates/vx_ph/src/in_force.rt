@@ -1,0 +1,19 @@
+//! The scope of the sets in force.
+ghost use Rattle.std.specs.Prelude.{◌≡◌};
+ghost use Rattle.vx_ph.specs.InForce.{both_sets};
+
+use vx_fields::names::ph::EXTRA_PH_BITS;
+use vx_fields::pps::pps_pic_parameter_set_id;
+use vx_table::Scope;
+
+/// The scope that headers are read and written at, from that of the SPS, that of the PPS, and the number of extra bits of
+/// a picture header: two copies, whatever the sets have.
+#[tactic(auto, unfolding(crate::specs::InForce::both_sets))]
+pub fn both_sets(sps: &Scope, pps: &Scope, extra_ph_bits: u32) -> Scope
+    ensures { result ≡ both_sets sps.now pps.now extra_ph_bits }
+{
+    let mut scope = *sps;
+    scope.take_over(pps, pps_pic_parameter_set_id);
+    scope.set(EXTRA_PH_BITS, extra_ph_bits);
+    scope
+}
