@@ -1,0 +1,19 @@
+use Rattle.std.proofs.lemmas.Result.{err_from_is_err_and}
+use Rattle.vx_table.specs.Forms.{done}
+use Rattle.vx_table.specs.Walks.{ended}
+use Rattle.vx_table.proofs.Steps.{then, stop}
+use Rattle.vx_sh.specs.Slice.{with_entry_points, address_form}
+use Rattle.vx_sh.proofs.walk.code_address.Goals as goal
+
+pub returns-in_err-code_table : goal.returns-in_err-code_table
+unfolding address_form
+returns-in_err-code_table g c =
+    let walked = rw c.in_err-code_table.was at c.code_table.ensures in
+    let p = err_from_is_err_and c.from_residual.result c.from_residual.ensures.1 in
+    rw (p.1, p.2) (stop (λ t. done (with_entry_points (g.P.EntryPoints.points c.args.points.now) t)) walked)
+
+pub returns : goal.returns
+unfolding address_form
+returns g c =
+    let walked = rw c.in_ok-code_table.was at c.code_table.ensures in
+    rw c.count_entry_points.ensures (then (λ t. done (with_entry_points (g.P.EntryPoints.points c.args.points.now) t)) walked ended)

@@ -1,0 +1,190 @@
+//! The tables of H.266 clause 7.3.7 (slice header).
+//!
+//! Fields with a star that a merged stream states anew stand in tables of their own: the id of the subpicture, what the slice
+//! uses of the picture's adaptation sets, and the QP.
+use vx_bits::rules::UNKNOWN_SUBPIC_ID;
+use vx_fields::names::rpl::{ACTIVE_0, ACTIVE_1, ENTRIES_0, ENTRIES_1};
+use vx_fields::names::sh::*;
+use vx_fields::ph::{
+    ph_explicit_scaling_list_enabled_flag, ph_inter_slice_allowed_flag, ph_lmcs_enabled_flag,
+    ph_temporal_mvp_enabled_flag,
+};
+use vx_fields::pps::*;
+use vx_fields::sh::*;
+use vx_fields::sps::{
+    sps_alf_enabled_flag, sps_chroma_format_idc, sps_dep_quant_enabled_flag,
+    sps_idr_rpl_present_flag, sps_joint_cbcr_enabled_flag, sps_sao_enabled_flag,
+    sps_sign_data_hiding_enabled_flag, sps_subpic_id_len_minus1, sps_subpic_info_present_flag,
+    sps_transform_skip_enabled_flag,
+};
+use vx_table::{Row, table};
+
+/// The first field; behind it comes the picture header, where it stands inside.
+pub const HEADER_INSIDE: [Row; 1] = table! { sh_picture_header_in_slice_header_flag*; };
+
+/// The id of the subpicture.
+pub const SUBPIC_ID: [Row; 3] = table! {
+    default sh_subpic_id = 0;
+    if sps_subpic_info_present_flag { sh_subpic_id*: u(sps_subpic_id_len_minus1 + 1); }
+};
+
+/// No subpicture has the id.
+pub const KNOWN_SUBPIC: [Row; 2] = table! {
+    if (NUM_SUBPICS <= SUBPIC) { refuse sh_subpic_id else Structure(UNKNOWN_SUBPIC_ID); }
+};
+
+/// The place of the slice in its subpicture.
+pub const ADDRESS: [Row; 3] = table! {
+    default sh_slice_address = 0;
+    if (NUM_SLICES > 1) { sh_slice_address: u(ceil_log2 NUM_SLICES) below NUM_SLICES; }
+};
+
+/// The extra bits, and the type of the slice.
+pub const TYPE: [Row; 8] = table! {
+    for EXTRA_SH_BIT in EXTRA_SH_BITS { sh_extra_bit; }
+    default sh_slice_type = 2;
+    if ph_inter_slice_allowed_flag { sh_slice_type: ue in 0..=2; }
+    if (7 <= NAL_TYPE) { if (NAL_TYPE <= 10) { sh_no_output_of_prior_pics_flag; } }
+};
+
+/// Whether the adaptive loop filter stands here; it comes behind, where it does.
+pub const FILTER_HERE: [Row; 3] = table! {
+    let HAS_ALF = sps_alf_enabled_flag;
+    if pps_alf_info_in_ph_flag { let HAS_ALF = 0; }
+};
+
+/// What the slice uses of luma mapping with chroma scaling and of scaling lists, where the picture header stands apart.
+pub const LMCS_AND_SCALING: [Row; 6] = table! {
+    if ph_lmcs_enabled_flag {
+        if (not sh_picture_header_in_slice_header_flag) { sh_lmcs_used_flag*; }
+    }
+    if ph_explicit_scaling_list_enabled_flag {
+        if (not sh_picture_header_in_slice_header_flag) { sh_explicit_scaling_list_used_flag*; }
+    }
+};
+
+/// Whether reference picture lists stand here; they come behind, where they do.
+pub const LISTS_HERE: [Row; 8] = table! {
+    let IS_IDR = (NAL_TYPE == 7);
+    if (NAL_TYPE == 8) { let IS_IDR = 1; }
+    let HAS_LISTS = sps_idr_rpl_present_flag;
+    if (not IS_IDR) { let HAS_LISTS = 1; }
+    if pps_rpl_info_in_ph_flag { let HAS_LISTS = 0; }
+};
+
+/// The active entries of the lists.
+pub const ACTIVE: [Row; 27] = table! {
+    let MAY_COUNT_0 = (ENTRIES_0 > 1);
+    if (sh_slice_type == 2) { let MAY_COUNT_0 = 0; }
+    let MAY_COUNT_1 = (ENTRIES_1 > 1);
+    if sh_slice_type { let MAY_COUNT_1 = 0; }
+    let ACTIVE_0 = 1;
+    let ACTIVE_1 = 1;
+    default sh_num_ref_idx_active_override_flag = 1;
+    if (MAY_COUNT_0 or MAY_COUNT_1) {
+        sh_num_ref_idx_active_override_flag;
+        if sh_num_ref_idx_active_override_flag {
+            if MAY_COUNT_0 {
+                sh_num_ref_idx_active_minus1: ue in 0..=14;
+                let ACTIVE_0 = (sh_num_ref_idx_active_minus1 + 1);
+            }
+            if MAY_COUNT_1 {
+                sh_num_ref_idx_active_minus1: ue in 0..=14;
+                let ACTIVE_1 = (sh_num_ref_idx_active_minus1 + 1);
+            }
+        }
+    }
+    if (not sh_num_ref_idx_active_override_flag) {
+        let ACTIVE_0 = (DEFAULT_ACTIVE_0 + 1);
+        let ACTIVE_0 = (ACTIVE_0 min ENTRIES_0);
+        let ACTIVE_1 = (DEFAULT_ACTIVE_1 + 1);
+        let ACTIVE_1 = (ACTIVE_1 min ENTRIES_1);
+    }
+    if (sh_slice_type == 2) { let ACTIVE_0 = 0; }
+    if sh_slice_type { let ACTIVE_1 = 0; }
+};
+
+/// How motion is predicted, and whether prediction weights stand here; they come behind, where they do.
+pub const INTER: [Row; 22] = table! {
+    let NAMES_COLLOCATED = ph_temporal_mvp_enabled_flag;
+    if pps_rpl_info_in_ph_flag { let NAMES_COLLOCATED = 0; }
+    if (sh_slice_type != 2) {
+        if pps_cabac_init_present_flag { sh_cabac_init_flag; }
+        if NAMES_COLLOCATED {
+            default sh_collocated_from_l0_flag = 1;
+            if (not sh_slice_type) { sh_collocated_from_l0_flag; }
+            let COLLOCATED_AMONG = ACTIVE_0;
+            if (not sh_collocated_from_l0_flag) { let COLLOCATED_AMONG = ACTIVE_1; }
+            if (COLLOCATED_AMONG > 1) { sh_collocated_ref_idx: ue; }
+        }
+    }
+    let HAS_WEIGHTS = 0;
+    if (sh_slice_type == 1) { let HAS_WEIGHTS = pps_weighted_pred_flag; }
+    if (not sh_slice_type) { let HAS_WEIGHTS = pps_weighted_bipred_flag; }
+    if pps_wp_info_in_ph_flag { let HAS_WEIGHTS = 0; }
+};
+
+/// The QP of the slice.
+pub const QP: [Row; 2] = table! { if (not pps_qp_delta_info_in_ph_flag) { sh_qp_delta*: se; } };
+
+/// Chroma QP, and the filters within the loop.
+pub const CHROMA_QP_AND_FILTERS: [Row; 28] = table! {
+    if pps_slice_chroma_qp_offsets_present_flag {
+        sh_cb_qp_offset: se;
+        sh_cr_qp_offset: se;
+        if sps_joint_cbcr_enabled_flag { sh_joint_cbcr_qp_offset: se; }
+    }
+    if pps_cu_chroma_qp_offset_list_enabled_flag { sh_cu_chroma_qp_offset_enabled_flag; }
+    if sps_sao_enabled_flag {
+        if (not pps_sao_info_in_ph_flag) {
+            sh_sao_luma_used_flag;
+            if sps_chroma_format_idc { sh_sao_chroma_used_flag; }
+        }
+    }
+    default sh_deblocking_params_present_flag = 0;
+    if pps_deblocking_filter_override_enabled_flag {
+        if (not pps_dbf_info_in_ph_flag) { sh_deblocking_params_present_flag; }
+    }
+    if sh_deblocking_params_present_flag {
+        default sh_deblocking_filter_disabled_flag = 0;
+        if (not pps_deblocking_filter_disabled_flag) { sh_deblocking_filter_disabled_flag; }
+        if (not sh_deblocking_filter_disabled_flag) {
+            sh_luma_beta_offset_div2: se;
+            sh_luma_tc_offset_div2: se;
+            if pps_chroma_tool_offsets_present_flag {
+                sh_cb_beta_offset_div2: se;
+                sh_cb_tc_offset_div2: se;
+                sh_cr_beta_offset_div2: se;
+                sh_cr_tc_offset_div2: se;
+            }
+        }
+    }
+};
+
+/// Residuals, the extension, the entry points, and the alignment.
+pub const END: [Row; 20] = table! {
+    default sh_dep_quant_used_flag = 0;
+    if sps_dep_quant_enabled_flag { sh_dep_quant_used_flag; }
+    default sh_sign_data_hiding_used_flag = 0;
+    if sps_sign_data_hiding_enabled_flag {
+        if (not sh_dep_quant_used_flag) { sh_sign_data_hiding_used_flag; }
+    }
+    if sps_transform_skip_enabled_flag {
+        if (not sh_dep_quant_used_flag) {
+            if (not sh_sign_data_hiding_used_flag) { sh_ts_residual_coding_disabled_flag; }
+        }
+    }
+    if pps_slice_header_extension_present_flag {
+        sh_slice_header_extension_length: ue in 0..=256;
+        for EXTENSION_BYTE in sh_slice_header_extension_length {
+            sh_slice_header_extension_data_byte: u(8);
+        }
+    }
+    if NUM_ENTRY_POINTS {
+        sh_entry_offset_len_minus1: ue in 0..=31;
+        for ENTRY_POINT in NUM_ENTRY_POINTS {
+            sh_entry_point_offset_minus1: u(sh_entry_offset_len_minus1 + 1);
+        }
+    }
+    one_and_zeros sh_byte_alignment;
+};

@@ -1,0 +1,167 @@
+//! The walk over a slice header behind the id of its subpicture, for every coder.
+ghost use Rattle.std.specs.Prelude.{◌≡◌, ℕ};
+ghost use Rattle.vx_table.specs.Walks.{Walks, leaving};
+ghost use Rattle.vx_table.specs.Parts.{sections_form};
+ghost use Rattle.vx_sh.specs.Slice.{with_entry_points, address_form, before_lists, lists_here, between, weights_here, behind_weights, front_form, before_weights, rest_form};
+
+use crate::tables::{
+    ACTIVE, ADDRESS, CHROMA_QP_AND_FILTERS, END, FILTER_HERE, INTER, LISTS_HERE, LMCS_AND_SCALING,
+    QP, TYPE,
+};
+use vx_fields::names::sh::{HAS_ALF, HAS_LISTS, HAS_WEIGHTS, NUM_ENTRY_POINTS};
+use vx_fields::sh::sh_slice_address;
+use vx_ph::ALF;
+use vx_rpl::{RplTable, code_lists, code_weights};
+use vx_table::{Coder, Scope, code_parts, code_table, parts};
+
+/// How many entry points the slices of a subpicture have.
+pub trait EntryPoints {
+    ghost use Rattle.std.specs.Prelude.{◌≡◌, ℕ};
+
+    ghost points: { Self → ℕ → ℕ };
+
+    /// NumEntryPoints of the slice at an address.
+    fn entry_points(&self, address: u32) -> u32
+        ensures { result ≡ points self.now address };
+}
+
+/// Tells the scope how many entry points the slice at its address has.
+#[tactic(auto, unfolding(crate::specs::Slice::with_entry_points))]
+fn count_entry_points<P: EntryPoints>(points: &P, scope: &mut Scope)
+    ensures { scope.new ≡ with_entry_points (P.points points.now) scope.old }
+{
+    let number = points.entry_points(scope.latest(sh_slice_address));
+    scope.set(NUM_ENTRY_POINTS, number);
+}
+
+/// Codes the address.
+fn code_address<I, C: Coder<I>, P: EntryPoints>(
+    points: &P,
+    scope: &mut Scope,
+    coder: &mut C,
+    items: &mut I,
+) -> Result<(), C::Fault>
+    ensures { Walks C.step (address_form (P.points points.now) scope.old) coder.old items.old (leaving scope.new result) coder.new items.new }
+{
+    code_table(&ADDRESS, scope, coder, items)?;
+    count_entry_points(points, scope);
+    Ok(())
+}
+
+/// Codes what stands between the address and the lists.
+fn code_before_lists<I, C: Coder<I>>(
+    scope: &mut Scope,
+    coder: &mut C,
+    items: &mut I,
+) -> Result<(), C::Fault>
+    ensures { Walks C.step (sections_form before_lists scope.old) coder.old items.old (leaving scope.new result) coder.new items.new }
+{
+    code_parts(
+        &parts![TYPE, FILTER_HERE, HAS_ALF => ALF, LMCS_AND_SCALING, LISTS_HERE],
+        scope,
+        coder,
+        items,
+    )
+}
+
+/// Codes the reference picture lists, where they stand here.
+fn code_lists_here<I, C: Coder<I>>(
+    table: &RplTable,
+    scope: &mut Scope,
+    coder: &mut C,
+    items: &mut I,
+) -> Result<(), C::Fault>
+    ensures { Walks C.step (lists_here table.now scope.old) coder.old items.old (leaving scope.new result) coder.new items.new }
+{
+    if scope.latest(HAS_LISTS) == 0 {
+        return Ok(());
+    }
+    code_lists(table, scope, coder, items)
+}
+
+/// Codes what stands between the lists and prediction weights.
+fn code_between<I, C: Coder<I>>(
+    scope: &mut Scope,
+    coder: &mut C,
+    items: &mut I,
+) -> Result<(), C::Fault>
+    ensures { Walks C.step (sections_form between scope.old) coder.old items.old (leaving scope.new result) coder.new items.new }
+{
+    code_parts(&parts![ACTIVE, INTER], scope, coder, items)
+}
+
+/// Codes prediction weights, where they stand here.
+fn code_weights_here<I, C: Coder<I>>(
+    scope: &mut Scope,
+    coder: &mut C,
+    items: &mut I,
+) -> Result<(), C::Fault>
+    ensures { Walks C.step (weights_here scope.old) coder.old items.old (leaving scope.new result) coder.new items.new }
+{
+    if scope.latest(HAS_WEIGHTS) == 0 {
+        return Ok(());
+    }
+    code_weights(scope, coder, items)
+}
+
+/// Codes what stands behind prediction weights.
+fn code_behind_weights<I, C: Coder<I>>(
+    scope: &mut Scope,
+    coder: &mut C,
+    items: &mut I,
+) -> Result<(), C::Fault>
+    ensures { Walks C.step (sections_form behind_weights scope.old) coder.old items.old (leaving scope.new result) coder.new items.new }
+{
+    code_parts(&parts![QP, CHROMA_QP_AND_FILTERS, END], scope, coder, items)
+}
+
+/// Codes what stands before the lists.
+#[tactic(auto, unfolding(crate::specs::Slice::front_form), using(vx_table::proofs::Steps::then, vx_table::proofs::Steps::stop))]
+fn code_front<I, C: Coder<I>, P: EntryPoints>(
+    points: &P,
+    scope: &mut Scope,
+    coder: &mut C,
+    items: &mut I,
+) -> Result<(), C::Fault>
+    ensures { Walks C.step (front_form (P.points points.now) scope.old) coder.old items.old (leaving scope.new result) coder.new items.new }
+{
+    code_address(points, scope, coder, items)?;
+    code_before_lists(scope, coder, items)
+}
+
+/// Codes what stands before prediction weights.
+#[tactic(auto, unfolding(crate::specs::Slice::before_weights), using(vx_table::proofs::Steps::then, vx_table::proofs::Steps::stop))]
+fn code_before_weights<I, C: Coder<I>, P: EntryPoints>(
+    table: &RplTable,
+    points: &P,
+    scope: &mut Scope,
+    coder: &mut C,
+    items: &mut I,
+) -> Result<(), C::Fault>
+    ensures { Walks C.step (before_weights table.now (P.points points.now) scope.old) coder.old items.old (leaving scope.new result) coder.new items.new }
+{
+    code_front(points, scope, coder, items)?;
+    code_lists_here(table, scope, coder, items)?;
+    code_between(scope, coder, items)
+}
+
+/// Codes a slice header, `slice_header()`, clause 7.3.7, behind the id of its subpicture, with its alignment. The scope has
+/// the numbers of the sets and the picture header in force, and the table is the SPS's.
+///
+/// # Errors
+///
+/// The coder's, at the first field that it refuses.
+#[tactic(auto, unfolding(crate::specs::Slice::rest_form), using(vx_table::proofs::Steps::then, vx_table::proofs::Steps::stop))]
+pub fn code_rest<I, C: Coder<I>, P: EntryPoints>(
+    table: &RplTable,
+    points: &P,
+    scope: &mut Scope,
+    coder: &mut C,
+    items: &mut I,
+) -> Result<(), C::Fault>
+    ensures { Walks C.step (rest_form table.now (P.points points.now) scope.old) coder.old items.old (leaving scope.new result) coder.new items.new }
+{
+    code_before_weights(table, points, scope, coder, items)?;
+    code_weights_here(scope, coder, items)?;
+    code_behind_weights(scope, coder, items)
+}
