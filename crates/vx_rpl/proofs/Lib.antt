@@ -8,3 +8,4 @@ mod Grown
 pub mod Carrying
 pub mod Passing
 pub mod Following
+mod Written

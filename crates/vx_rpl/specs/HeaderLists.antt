@@ -1,6 +1,6 @@
 -- What the items of a header come to: the entries of its two reference picture lists (H.266 7.4.10).
-use Rattle.std.specs.Prelude.{ℕ, Bool, true, false, cond, ◌&&◌, ◌||◌, ◌==◌, nat_le, nat_lt, Option, None, Some, List, [], ◌∷◌, length, take, filter}
-use Rattle.std.specs.Prelude.{slice_get, slice_index}
+use Rattle.std.specs.Prelude.{ℕ, Bool, true, false, cond, ◌&&◌, ◌||◌, ◌==◌, nat_le, nat_lt, Option, None, Some, List, [], ◌∷◌}
+use Rattle.std.specs.Prelude.{length, take, filter, slice_get, slice_index}
 use Rattle.vx_bits.specs.declared.list.Item.{Item}
 use Rattle.vx_table.specs.Scope.{is_set}
 use Rattle.vx_fields.specs.declared.rpl.TheConstants.{num_ref_entries, rpl_sps_flag, rpl_idx, poc_lsb_lt}

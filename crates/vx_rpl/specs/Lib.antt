@@ -4,3 +4,4 @@ pub mod Resolved
 pub mod Numbers
 pub mod HeaderLists
 pub mod Depends
+pub mod Written

@@ -1,5 +1,5 @@
 -- The scopes at which reference picture list structures and weights are read: what they take from parameter sets.
-use Rattle.std.specs.Prelude.{ℕ, ◌-◌, List, slice_set}
+use Rattle.std.specs.Prelude.{ℕ, ◌-◌, List, slice_index, slice_set}
 use Rattle.vx_table.specs.Scope.{fresh, one_if}
 use Rattle.vx_fields.specs.declared.names.rpl.TheConstants.{NUM_STRUCTURES, STRUCTURE, ENTRIES_0, ENTRIES_1, ACTIVE_0, ACTIVE_1}
 use Rattle.vx_fields.specs.declared.sps.TheConstants.{sps_chroma_format_idc, sps_log2_max_pic_order_cnt_lsb_minus4}
@@ -31,7 +31,7 @@ weights_scope n =
     (slice_set
     (slice_set (slice_set fresh sps_chroma_format_idc (one_if n.chroma)) pps_wp_info_in_ph_flag (one_if n.in_header))
     pps_weighted_bipred_flag (one_if n.bipred))
-    ENTRIES_0 n.entries_0)
-    ENTRIES_1 n.entries_1)
-    ACTIVE_0 n.active_0)
-    ACTIVE_1 n.active_1
+    ENTRIES_0 (slice_index n.entries 0))
+    ENTRIES_1 (slice_index n.entries 1))
+    ACTIVE_0 (slice_index n.active 0))
+    ACTIVE_1 (slice_index n.active 1)

@@ -11,6 +11,7 @@ mod tables;
 #[cfg(test)]
 mod tests;
 mod walk;
+mod write;
 
 pub use entry::{RefEntry, RefList, RefLists, RplTable, Structure, StructureList};
 pub use laws::{
@@ -25,3 +26,4 @@ pub use tables::{
     WEIGHTS_0, WEIGHTS_1,
 };
 pub use walk::{code_first, code_lists, code_second, code_weights};
+pub use write::{write_lists, write_struct, write_weights};

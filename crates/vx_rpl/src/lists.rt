@@ -213,7 +213,7 @@ fn kinds_at(scope: &Scope) -> Kinds
 ///
 /// Want of memory.
 fn own_list(alloc: Global, kinds: Kinds, items: &[Item]) -> Result<RefList, AllocError>
-    ensures { IfOk result (λ list. list ≡ spec.told (spec.own_structure kinds.weighted kinds.long_term (spec.behind 301 items.now)) (spec.behind_entries (spec.behind 301 items.now))) }
+    ensures { let spelled = spec.behind num_ref_entries items.now in IfOk result (λ list. list ≡ spec.told (spec.own_structure kinds.weighted kinds.long_term spelled) (spec.behind_entries spelled)) }
 {
     let spelled = behind(num_ref_entries, items);
     let structure = Structure {

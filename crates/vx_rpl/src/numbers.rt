@@ -60,14 +60,10 @@ pub struct WeightNumbers {
     pub in_header: bool,
     /// pps_weighted_bipred_flag.
     pub bipred: bool,
-    /// The entries of list 0.
-    pub entries_0: u32,
-    /// The entries of list 1.
-    pub entries_1: u32,
-    /// NumRefIdxActive[ 0 ].
-    pub active_0: u32,
-    /// NumRefIdxActive[ 1 ].
-    pub active_1: u32,
+    /// How many entries list 0 and list 1 have.
+    pub entries: [u32; 2],
+    /// NumRefIdxActive[ 0 ] and NumRefIdxActive[ 1 ].
+    pub active: [u32; 2],
 }
 
 impl WeightNumbers {
@@ -80,10 +76,10 @@ impl WeightNumbers {
         scope.set(sps_chroma_format_idc, u32::from(self.chroma));
         scope.set(pps_wp_info_in_ph_flag, u32::from(self.in_header));
         scope.set(pps_weighted_bipred_flag, u32::from(self.bipred));
-        scope.set(ENTRIES_0, self.entries_0);
-        scope.set(ENTRIES_1, self.entries_1);
-        scope.set(ACTIVE_0, self.active_0);
-        scope.set(ACTIVE_1, self.active_1);
+        scope.set(ENTRIES_0, self.entries[0]);
+        scope.set(ENTRIES_1, self.entries[1]);
+        scope.set(ACTIVE_0, self.active[0]);
+        scope.set(ACTIVE_1, self.active[1]);
         scope
     }
 }

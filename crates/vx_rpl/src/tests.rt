@@ -62,10 +62,8 @@ fn reads_weights(rt: HostRuntime) -> Result<(), Fail> {
         chroma: false,
         in_header: false,
         bipred: false,
-        entries_0: 1,
-        entries_1: 0,
-        active_0: 1,
-        active_1: 0,
+        entries: [1, 0],
+        active: [1, 0],
     };
     let mut bits = BitReader::new(&[0xF0]);
     let mut fields = Fields::new(rt.alloc());
