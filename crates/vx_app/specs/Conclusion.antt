@@ -41,7 +41,9 @@ IsTellable _ = Unit {0}
 
 -- the status and the line on `err` are the stop's, or those for want of memory
 pub record Concludes {E : Type 0} (stop : Stop) (status : ℕ) (err : Change E) : Type 0 where
-  pub ended : ((status ≡ status_of stop) × Tells err (line_of stop)) ⊎ (IsMade stop × (status ≡ status_of NoMemory) × Tells err (line_of NoMemory))
+  pub ended :
+      ((status ≡ status_of stop) × Tells err (line_of stop))
+      ⊎ (IsMade stop × (status ≡ status_of NoMemory) × Tells err (line_of NoMemory))
 
 -- status 0 and no line where the command is done
 abbrev pub ExitsWith : {E : Type 0} → Outcome → ℕ → Change E → Type 0

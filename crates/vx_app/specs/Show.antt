@@ -1,5 +1,6 @@
 -- What `show` finds in the bytes of a source, and what it writes.
-use Rattle.std.specs.Prelude.{◌≡◌, ℕ, ◌+◌, ◌^◌, ◌<◌, List, [], ◌∷◌, ◌++◌, Bool, Option, Some, None, Ok, Err, length, take, nat_le, unwrap_or, true, false}
+use Rattle.std.specs.Prelude.{◌≡◌, ℕ, ◌+◌, ◌^◌, ◌<◌, nat_le, Bool, true, false, List, [], ◌∷◌, ◌++◌, length, take}
+use Rattle.std.specs.Prelude.{Option, Some, None, Ok, Err, unwrap_or}
 use Rattle.std.specs.List.{flat_map}
 use Rattle.std.specs.Io.KnownBytes.{Consumes, IsAtEnd}
 use Rattle.vx_bits.specs.declared.refusal.Refusal.{Refusal}
@@ -60,7 +61,8 @@ behind_unit n = record { source = 0; unit = n; picture = 0; written = false }
 -- of the bytes that a source tells, their units and their ending
 abbrev pub WhereKnown : {A : Type 0} → Change A → (List ℕ → List UnitPlace → Option Refusal → Type 0) → Type 0
 WhereKnown source P =
-    (b : List ℕ) (units : List UnitPlace) (ending : Option Refusal) → source.bytes source.old ≡ Some b → IsShown b units ending → P b units ending
+    (b : List ℕ) (units : List UnitPlace) (ending : Option Refusal)
+    → source.bytes source.old ≡ Some b → IsShown b units ending → P b units ending
 
 -- how many bytes a read asks for
 abbrev pub read_len : ℕ

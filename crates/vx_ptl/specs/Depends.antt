@@ -1,7 +1,9 @@
 -- What the structures read of the scope at which they are read or written.
 use Rattle.std.specs.Prelude.{List, [], ◌∷◌}
-use Rattle.vx_fields.specs.declared.sps.TheConstants.{sps_max_sublayers_minus1, sps_sublayer_dpb_params_flag, sps_sublayer_cpb_params_present_flag, sps_timing_hrd_params_present_flag}
-use Rattle.vx_fields.specs.declared.timing.TheConstants.{general_nal_hrd_params_present_flag, general_vcl_hrd_params_present_flag, general_du_hrd_params_present_flag, hrd_cpb_cnt_minus1}
+use Rattle.vx_fields.specs.declared.sps.TheConstants.{sps_max_sublayers_minus1, sps_sublayer_dpb_params_flag}
+use Rattle.vx_fields.specs.declared.sps.TheConstants.{sps_sublayer_cpb_params_present_flag, sps_timing_hrd_params_present_flag}
+use Rattle.vx_fields.specs.declared.timing.TheConstants.{general_nal_hrd_params_present_flag, general_vcl_hrd_params_present_flag}
+use Rattle.vx_fields.specs.declared.timing.TheConstants.{general_du_hrd_params_present_flag, hrd_cpb_cnt_minus1}
 use Rattle.vx_ptl.specs.declared.tables.TheConstants.{VPS, PTL, DPB, TIMING, NO_TIMING, SUBLAYER_TIMING}
 use Rattle.vx_table.specs.declared.rows.Term.TheVariants.{Latest}
 use Rattle.vx_table.specs.declared.rows.Formula.TheVariants.{Plain}

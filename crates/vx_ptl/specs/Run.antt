@@ -1,5 +1,6 @@
 -- The bits of items of the structures, in their order.
-use Rattle.std.specs.Prelude.{◌≡◌, ℕ, ℤ, ◌+◌, min, nat_lt, Bool, cond, List, [], ◌∷◌, ◌++◌, length, take, replicate, slice_set, slice_index_or, Option, Some, None}
+use Rattle.std.specs.Prelude.{◌≡◌, ℕ, ℤ, ◌+◌, min, nat_lt, Bool, cond, Option, Some, None}
+use Rattle.std.specs.Prelude.{List, [], ◌∷◌, ◌++◌, length, take, replicate, slice_set, slice_index_or}
 use Rattle.vx_bits.specs.Codes.{zeros_from}
 use Rattle.vx_bits.specs.declared.list.Item.{Item}
 use Rattle.vx_table.specs.declared.rows.Term.TheVariants.{Number}

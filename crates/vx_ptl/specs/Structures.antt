@@ -3,7 +3,8 @@ use Rattle.std.specs.Prelude.{ℕ, Bool, List, slice_set}
 use Rattle.vx_bits.specs.declared.list.Item.{Item}
 use Rattle.vx_table.specs.Scope.{fresh, loaded, one_if}
 use Rattle.vx_table.specs.Forms.{Form, form_of}
-use Rattle.vx_fields.specs.declared.sps.TheConstants.{sps_max_sublayers_minus1, sps_sublayer_dpb_params_flag, sps_sublayer_cpb_params_present_flag}
+use Rattle.vx_fields.specs.declared.sps.TheConstants.{sps_max_sublayers_minus1, sps_sublayer_dpb_params_flag}
+use Rattle.vx_fields.specs.declared.sps.TheConstants.{sps_sublayer_cpb_params_present_flag}
 use Rattle.vx_ptl.specs.declared.tables.TheConstants.{VPS, PTL, DPB, TIMING, SUBLAYER_TIMING}
 
 -- the highest sublayer, and under a field's number whether each sublayer has an entry

@@ -1,4 +1,4 @@
--- SEI messages and their RBSP (H.266 7.3.5, 7.3.6). A message's type and its payload may have any size.
+-- SEI messages and their RBSP (H.266 7.3.2.9, 7.3.6). A message's type and its payload may have any size.
 use Rattle.std.specs.Prelude.{◌≡◌, ◌⊎◌, ℕ, ◌/◌, ◌%◌, ◌<◌, ◌==◌, ◌||◌, Bool, List, [], ◌∷◌, ◌++◌, filter, flat_map, length, replicate}
 use Rattle.vx_sei.specs.declared.message.Message.{Message}
 
@@ -14,7 +14,7 @@ sei_message m = ff_coded m.kind ++ ff_coded (length m.bytes) ++ m.bytes
 abbrev pub sei_messages : List Message → List ℕ
 sei_messages ms = flat_map sei_message ms
 
--- sei_rbsp( ): one or more messages, and rbsp_trailing_bits( ), which is the byte 80 at a byte boundary (7.3.5)
+-- sei_rbsp( ): one or more messages, and rbsp_trailing_bits( ), which is the byte 80 at a byte boundary (7.3.2.9)
 pub record IsSei (rbsp : List ℕ) (ms : List Message) : Type 0 where
   pub some : 0 < length ms
   pub bytes : rbsp ≡ sei_messages ms ++ 128 ∷ []

@@ -1,4 +1,4 @@
-//! SEI messages that describe how pictures are to be shown, read and written (H.266 7.3.5, 7.3.6).
+//! SEI messages that describe how pictures are to be shown, read and written (H.266 7.3.2.9, 7.3.6).
 //!
 //! An SEI RBSP is one or more messages and the byte 80. [`read_sei`] gives those of its messages that are carried
 //! through, and [`write_sei`] the RBSP of messages.

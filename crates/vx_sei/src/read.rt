@@ -12,7 +12,7 @@ use std::alloc::{AllocError, Global};
 use vx_bits::Bytes;
 
 /// The carried messages of an SEI RBSP, in order: those of types 137, 144 and 147. None exactly where the bytes are
-/// no SEI RBSP: no messages and the byte 80 (H.266 7.3.5, 7.3.6).
+/// no SEI RBSP: no messages and the byte 80 (H.266 7.3.2.9, 7.3.6).
 ///
 /// A type that passes 2^32 - 1 is none of these: its message is dropped like others.
 pub fn read_sei(alloc: Global, rbsp: &[u8]) -> Result<Option<MessageList>, AllocError>

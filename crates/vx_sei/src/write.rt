@@ -5,7 +5,7 @@ ghost use Rattle.vx_sei.specs.Sei.{ff_coded, sei_message, IsSei};
 use crate::message::{Message, MessageList, TRAILING};
 use std::alloc::{AllocError, Global};
 
-/// The SEI RBSP of messages, of which there is one at least (H.266 7.3.5, 7.3.6).
+/// The SEI RBSP of messages, of which there is one at least (H.266 7.3.2.9, 7.3.6).
 pub fn write_sei(alloc: Global, messages: &MessageList) -> Result<Vec<u8>, AllocError>
     requires { 0 < length messages.now }
     ensures { IfOk result (λ rbsp. IsSei rbsp.items messages.now) }

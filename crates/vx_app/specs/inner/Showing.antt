@@ -1,5 +1,6 @@
 -- The steps of `show`: the lines of the units that are seen, gathered and then written, and what the source has given.
-use Rattle.std.specs.Prelude.{◌≡◌, ℕ, ◌+◌, ◌-◌, ◌^◌, ◌<◌, Bool, true, false, List, [], ◌∷◌, ◌++◌, Option, Some, None, Result, Ok, Err, length}
+use Rattle.std.specs.Prelude.{◌≡◌, ℕ, ◌+◌, ◌-◌, ◌^◌, ◌<◌, Bool, true, false, List, [], ◌∷◌, ◌++◌, length}
+use Rattle.std.specs.Prelude.{Option, Some, None, Result, Ok, Err}
 use Rattle.std.specs.Io.KnownBytes.{Consumes, IsAtEnd}
 use Rattle.vx_annexb.specs.ByteStream.{UnitPlace, IsUnit, IsStream, FollowsFrom, end_of}
 use Rattle.vx_app.specs.declared.stop.Stop.{Stop}
@@ -11,6 +12,7 @@ use Rattle.vx_annexb.specs.Reading.{Reading, HasRead, Reads, IsRefusedBy}
 use Rattle.vx_annexb.specs.Held.{is_all}
 use Rattle.vx_annexb.specs.declared.unit_reader.Closed.{Closed}
 use Rattle.vx_annexb.specs.declared.unit_reader.Closed.TheVariants.{End, TooLong, Failed}
+use Rattle.vx_annexb.specs.declared.unit_reader.ReadFault.{ReadFault as ReadAnswer}
 use Rattle.vx_annexb.specs.declared.unit_reader.ReadFault.TheVariants.{Memory, SourceFailed}
 
 -- no further unit's end is seen
@@ -19,12 +21,16 @@ pub record SeesNone (r : Reading) (g : List ℕ) (units : List UnitPlace) : Type
   pub stream : IsStream (seen_of g) (is_all r.splitter) units None
   pub within : r.closed ≡ Some TooLong → ⊥
 
+-- one read of a source, with this answer
+abbrev pub ReadsOnce : {A : Type 0} → List ℕ → List UnitPlace → Reading → Change A → Result (Unit {0}) ReadAnswer → Type 0
+ReadsOnce g units r source result =
+    Reads g units r (source.bytes source.old) (source.bytes source.new) (source.faults source.old) (source.faults source.new) result
+
 -- one read of a source, or what stopped it
 abbrev pub ReadsOn : {A : Type 0} → List ℕ → List UnitPlace → Reading → Change A → Outcome → Type 0
-ReadsOn g units r source (Ok _) = Reads g units r (source.bytes source.old) (source.bytes source.new) (source.faults source.old) (source.faults source.new) (Ok tt)
-ReadsOn g units r source (Err NoMemory) = Reads g units r (source.bytes source.old) (source.bytes source.new) (source.faults source.old) (source.faults source.new) (Err Memory)
-ReadsOn g units r source (Err (ReadFault k)) =
-    (k ≡ 0) × Reads g units r (source.bytes source.old) (source.bytes source.new) (source.faults source.old) (source.faults source.new) (Err SourceFailed)
+ReadsOn g units r source (Ok _) = ReadsOnce g units r source (Ok tt)
+ReadsOn g units r source (Err NoMemory) = ReadsOnce g units r source (Err Memory)
+ReadsOn g units r source (Err (ReadFault k)) = (k ≡ 0) × ReadsOnce g units r source (Err SourceFailed)
 ReadsOn g units r source (Err _) = ⊥
 
 -- how many more bytes may be read of a source
@@ -65,7 +71,8 @@ WritesLines r g units lines out (Err WriteFault) = GainsFront out lines
 WritesLines r g units lines out result = Gains out lines × EndsGathering r g units result
 
 -- the units that are seen were shown, behind these
-pub record ShowsLater {K : Type 0} (g : List ℕ) (units : List UnitPlace) (r : Reading) (out : Change K) (result : Result ℕ Stop) : Type 0 where
+pub record ShowsLater {K : Type 0} (g : List ℕ) (units : List UnitPlace) (r : Reading) (out : Change K) (result : Result ℕ Stop)
+    : Type 0 where
   pub later : List UnitPlace
   pub follow : FollowsFrom (seen_of g) (is_all r.splitter) 0 (units ++ later)
   pub writes : WritesLines r g (units ++ later) (shown_lines g later) out result
