@@ -1,2 +1,6 @@
 -- Definitions that the contracts of this crate cite.
 pub mod Structure
+pub mod Set
+pub mod Subpictures
+pub mod Depends
+pub mod inner

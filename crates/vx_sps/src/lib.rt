@@ -1,11 +1,23 @@
 //! The sequence parameter set of H.266.
 //!
 //! Its syntax stands in tables, cut into groups of fields that a rewritten set takes from its source, or replaces.
+//! [`read_sps`] reads a set, [`write_sps`] writes it, and [`Sps`] has what headers, layouts and rewriting ask of it.
 #![tactic(auto)]
 
+mod laws;
+mod read;
+mod sps;
+mod subpictures;
 mod tables;
+#[cfg(test)]
+mod tests;
+#[cfg(test)]
+mod vectors;
 mod walk;
 
+pub use laws::{kept_and_others_tell, kept_depends_on_kept, no_proper_prefix, written_is_read};
+pub use read::{read_sps, write_sps};
+pub use sps::Sps;
 pub use tables::{
     CHROMA_QP, COUNTS, CTUS, END, FILTERS, IDS, INTER, INTRA, LIST_1, PARTITIONS, PLACE,
     REFERENCES, RESAMPLING, SCALING, SIZE, START, SUBLAYER_CPB, SUBLAYER_DPB, SUBPIC_IDS,

@@ -1,0 +1,4 @@
+-- Lemmas on sequence parameter sets.
+pub mod Counted
+pub mod Bounded
+pub mod Written

@@ -1,0 +1,35 @@
+-- The kept fields of a set, and what they depend on.
+use Rattle.std.specs.Prelude.{◌≡◌, ℕ, not, List, [], ◌∷◌, filter}
+use Rattle.vx_bits.specs.declared.list.Item.{Item}
+use Rattle.vx_fields.specs.declared.sps.TheConstants as sps
+use Rattle.vx_fields.specs.declared.names.sps.TheConstants.{VUI_BYTE}
+use Rattle.vx_table.specs.Depends.{has, set_of, DependsOnlyOn}
+use Rattle.vx_table.specs.Parts.{sections_form}
+use Rattle.vx_table.specs.Rewritten.{other_items}
+use Rattle.vx_table.specs.Shown.{shown_items, KeepsOnly}
+use Rattle.vx_sps.specs.Set.{IsItems}
+use Rattle.vx_sps.specs.Structure.{sps_sections}
+use Rattle.vx_sps.specs.declared.tables.TheConstants.{TAKEN}
+
+-- what a rewritten set takes from its source though it isn't kept: whether there is timing, and usability information
+abbrev pub taken_besides : List ℕ
+taken_besides = sps.sps_timing_hrd_params_present_flag ∷ sps.sps_vui_parameters_present_flag ∷ sps.sps_vui_payload_size_minus1
+    ∷ sps.vui_payload_byte ∷ VUI_BYTE ∷ []
+
+-- the kept fields, with the names that they use
+abbrev pub kept : List ℕ
+kept = filter (λ n. not (has (set_of taken_besides) n)) TAKEN
+
+-- They are those without a star,
+abbrev pub StarsTellKept : Type 0
+StarsTellKept = KeepsOnly [] kept (sections_form sps_sections)
+
+-- and depend on one another alone: on no other field of the set, and on no number of the scope that it is read at.
+abbrev pub KeptDependsOnKept : Type 0
+KeptDependsOnKept = DependsOnlyOn [] kept (sections_form sps_sections)
+
+-- Sets with the same items of kept fields, and the same others, are the same.
+abbrev pub KeptAndOthersTell : Type 0
+KeptAndOthersTell = (items others : List Item) → IsItems items → IsItems others
+    → shown_items (set_of kept) items ≡ shown_items (set_of kept) others
+    → other_items (set_of kept) items ≡ other_items (set_of kept) others → items ≡ others

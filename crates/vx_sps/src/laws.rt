@@ -1,0 +1,24 @@
+//! Laws of sequence parameter sets: functions that do nothing, each with a law as its contract.
+ghost use Rattle.vx_sps.specs.Set.{WrittenIsRead, NoProperPrefix};
+ghost use Rattle.vx_sps.specs.Depends.{KeptDependsOnKept, StarsTellKept, KeptAndOthersTell};
+
+/// What is written of a set is read as it.
+pub fn written_is_read()
+    ensures { WrittenIsRead }
+{}
+
+/// No spelling of a set is a proper prefix of another's.
+pub fn no_proper_prefix()
+    ensures { NoProperPrefix }
+{}
+
+/// The kept fields of a set are those without a star, and depend on kept fields alone.
+pub fn kept_depends_on_kept()
+    ensures depends { KeptDependsOnKept }
+    ensures stars { StarsTellKept }
+{}
+
+/// Kept fields and the others tell the set.
+pub fn kept_and_others_tell()
+    ensures { KeptAndOthersTell }
+{}

@@ -1,0 +1,72 @@
+//! Reading and writing a sequence parameter set.
+
+ghost use Rattle.std.specs.Prelude.{◌≡◌, ◌≤◌, ◌^◌, length, IfOk};
+ghost use Rattle.vx_table.specs.Reading.{Reads, ReadsValue};
+ghost use Rattle.vx_table.specs.Writing.{Writes};
+ghost use Rattle.vx_sps.specs.Structure.{sps_form};
+ghost use Rattle.vx_sps.specs.Set.{IsSpelling};
+
+use crate::sps::Sps;
+use crate::walk::code_sps;
+use std::alloc::{AllocError, Global};
+use vx_bits::{BitReader, BitWriter, Fields, ReadError};
+use vx_table::{Scope, SpellError, Unwritten};
+
+/// Reads a set's items, and appends them.
+fn read_fields(bits: &mut BitReader<'_>, items: &mut Fields) -> Result<(), ReadError>
+    ensures { Reads sps_form bits.old items.old result bits.new items.new }
+{
+    code_sps(&mut Scope::new(), bits, items)
+}
+
+/// Writes the set whose items come next.
+fn write_fields(bits: &mut BitWriter, items: &mut Unwritten<'_>) -> Result<(), SpellError>
+    ensures { Writes sps_form bits.old items.old result bits.new items.new }
+{
+    code_sps(&mut Scope::new(), bits, items)
+}
+
+/// Reads the items of a set.
+fn read_items(alloc: Global, rbsp: &[u8]) -> Result<Fields, ReadError>
+    requires { length rbsp.now ≤ 2 ^ 23 }
+    ensures { ReadsValue sps_form rbsp.now result }
+{
+    let mut bits = BitReader::new(rbsp);
+    let mut items = Fields::new(alloc);
+    read_fields(&mut bits, &mut items)?;
+    Ok(items)
+}
+
+/// Reads a sequence parameter set, `seq_parameter_set_rbsp()`, clause 7.3.2.4, from an RBSP of at most 2^23 bytes.
+///
+/// # Errors
+///
+/// The first refusal, or want of memory.
+pub fn read_sps(alloc: Global, rbsp: &[u8]) -> Result<Sps, ReadError>
+    requires { length rbsp.now ≤ 2 ^ 23 }
+    ensures { ReadsValue sps_form rbsp.now result }
+{
+    let items = read_items(alloc, rbsp)?;
+    match Sps::new(alloc, items) {
+        Ok(sps) => Ok(sps),
+        Err(_) => Err(ReadError::Memory),
+    }
+}
+
+/// Writes a sequence parameter set: its RBSP.
+///
+/// # Errors
+///
+/// Want of memory.
+pub fn write_sps(alloc: Global, sps: &Sps) -> Result<Vec<u8>, AllocError>
+    ensures { IfOk result (λ bytes. IsSpelling sps.now bytes.items) }
+{
+    let fields = sps.fields();
+    let mut bits = BitWriter::new(alloc);
+    let mut items = Unwritten::new(fields, 0, fields.len());
+    match write_fields(&mut bits, &mut items) {
+        Ok(()) => Ok(bits.into_bytes()),
+        Err(SpellError::Memory) => Err(AllocError),
+        Err(SpellError::NoValue) => unreachable!(),
+    }
+}

@@ -1,0 +1,241 @@
+//! A sequence parameter set, and what is asked of it.
+
+ghost use Rattle.std.specs.Prelude.{◌≡◌, ◌+◌, ◌^◌, ◌<◌, ◌≤◌, List, length, slice_index, IfOk};
+ghost use Rattle.vx_table.specs.Scope.{fresh, loaded};
+ghost use Rattle.vx_table.specs.Loaded.{number};
+ghost use Rattle.vx_rpl.specs.Resolved.{table_of};
+ghost use Rattle.vx_sps.specs.Set as set;
+ghost use Rattle.vx_fields.specs.declared.sps.TheConstants as sps;
+
+use crate::subpictures::{Subpicture, subpictures};
+use std::alloc::{AllocError, Global};
+use std::marker::Model;
+use vx_bits::{CopyList, Fields};
+use vx_fields::sps::{
+    sps_extra_ph_bit_present_flag, sps_extra_sh_bit_present_flag, sps_log2_ctu_size_minus5,
+    sps_log2_max_pic_order_cnt_lsb_minus4, sps_long_term_ref_pics_flag, sps_num_subpics_minus1,
+    sps_pic_height_max_in_luma_samples, sps_pic_width_max_in_luma_samples,
+    sps_weighted_bipred_flag, sps_weighted_pred_flag,
+};
+use vx_layout::Rect;
+use vx_rpl::{RplNumbers, RplTable};
+use vx_table::{Scope, natural, quotient};
+
+/// A sequence parameter set. It is seen as the list of its items.
+///
+/// What is asked of it is computed once, when it is made.
+#[derive(Drop)]
+pub struct Sps {
+    fields: Fields,
+    scope: Scope,
+    subpictures: CopyList<Subpicture>,
+    table: RplTable,
+    extra_ph_bits: u32,
+    extra_sh_bits: u32,
+}
+
+impl Model for Sps {
+    ghost use Rattle.std.specs.Prelude.{◌≡◌, List};
+    ghost use Rattle.vx_bits.specs.declared.list.Item.{Item};
+    ghost use Rattle.vx_table.specs.Scope.{fresh, loaded};
+    ghost use Rattle.vx_rpl.specs.Resolved.{table_of};
+    ghost use Rattle.vx_sps.specs.Set as set;
+    ghost use Rattle.vx_sps.specs.Subpictures.{subpics_of};
+    ghost use Rattle.vx_sps.specs.inner.Kept.{AreSubpictures};
+
+    ghost Value = { List Item };
+
+    ghost view = { λ s. s.fields };
+
+    ghost invariant = { λ s. set.IsItems s.fields × (s.scope ≡ loaded fresh s.fields) × AreSubpictures s.fields (subpics_of s.fields) s.subpictures × (s.table ≡ table_of (set.is_weighted s.fields) s.fields) × (s.extra_ph_bits ≡ set.extra_ph_bits_of s.fields) × (s.extra_sh_bits ≡ set.extra_sh_bits_of s.fields) };
+}
+
+/// How many flags of a field are 1.
+#[tactic(auto, using(crate::proofs::Counted::flag_more, crate::proofs::Counted::flag_passed))]
+fn set_flags(field: u16, fields: &Fields) -> u32
+    ensures { result ≡ set.set_flags field fields.now }
+{
+    let mut count = 0_u32;
+    for i in 0..fields.len() {
+        let item = fields.item(i);
+        if item.field == field && natural(item.value) != 0 {
+            count = count.saturating_add(1);
+        }
+    }
+    count
+}
+
+/// The CTU size of a set whose numbers the scope has.
+fn ctb_size(scope: &Scope) -> u32
+    requires { slice_index scope.now sps.sps_log2_ctu_size_minus5 < 3 }
+    ensures { result ≡ 2 ^ (slice_index scope.now sps.sps_log2_ctu_size_minus5 + 5) }
+{
+    1 << (scope.latest(sps_log2_ctu_size_minus5) + 5)
+}
+
+/// The reference picture list structures of a set.
+///
+/// # Errors
+///
+/// Want of memory.
+fn structures(alloc: Global, fields: &Fields, scope: &Scope) -> Result<RplTable, AllocError>
+    requires { scope.now ≡ loaded fresh fields.now }
+    ensures { IfOk result (λ table. table ≡ table_of (set.is_weighted fields.now) fields.now) }
+{
+    let weighted = scope.latest(sps_weighted_pred_flag) != 0
+        || scope.latest(sps_weighted_bipred_flag) != 0;
+    // A PPS says the last of these, which no structure of a set reads.
+    let numbers = RplNumbers {
+        long_term: scope.latest(sps_long_term_ref_pics_flag) != 0,
+        weighted,
+        lsb_bits: scope
+            .latest(sps_log2_max_pic_order_cnt_lsb_minus4)
+            .saturating_add(4),
+        rpl1_idx_present: false,
+    };
+    RplTable::new(alloc, &numbers, fields, 0, fields.len())
+}
+
+impl Sps {
+    ghost use Rattle.std.specs.Prelude.{◌≡◌, ◌<◌, ◌≤◌, IfOk};
+    ghost use Rattle.vx_table.specs.Scope.{fresh, loaded};
+    ghost use Rattle.vx_rpl.specs.Resolved.{table_of};
+    ghost use Rattle.vx_sps.specs.Set as set;
+    ghost use Rattle.vx_sps.specs.Subpictures as pictures;
+    ghost use Rattle.vx_sps.specs.inner.Kept.{subpicture_of};
+    ghost use Rattle.vx_sps.specs.Subpictures.{subpics_of};
+
+    /// The set of these items.
+    ///
+    /// # Errors
+    ///
+    /// Want of memory.
+    pub(crate) fn new(alloc: Global, fields: Fields) -> Result<Sps, AllocError>
+        requires { set.IsItems fields }
+        ensures { IfOk result (λ made. made ≡ fields) }
+    {
+        let mut scope = Scope::new();
+        scope.load(&fields);
+        let ctb = ctb_size(&scope);
+        let columns = quotient(scope.latest(sps_pic_width_max_in_luma_samples), ctb);
+        let rows = quotient(scope.latest(sps_pic_height_max_in_luma_samples), ctb);
+        let subpictures = subpictures(alloc, &fields, &scope, columns, rows)?;
+        let table = structures(alloc, &fields, &scope)?;
+        let extra_ph_bits = set_flags(sps_extra_ph_bit_present_flag, &fields);
+        let extra_sh_bits = set_flags(sps_extra_sh_bit_present_flag, &fields);
+        Ok(Sps {
+            fields,
+            scope,
+            subpictures,
+            table,
+            extra_ph_bits,
+            extra_sh_bits,
+        })
+    }
+
+    /// Its items, as H.266 orders them.
+    pub fn fields(&self) -> &Fields
+        ensures items { result.now ≡ self.now }
+        ensures set { set.IsItems result.now }
+    {
+        &self.fields
+    }
+
+    /// The numbers of its fields, from which headers are read.
+    pub fn scope(&self) -> &Scope
+        ensures { result.now ≡ loaded fresh self.now }
+    {
+        &self.scope
+    }
+
+    /// The width of the largest picture in luma samples: sps_pic_width_max_in_luma_samples.
+    pub fn width(&self) -> u32
+        ensures { result ≡ set.width_of self.now }
+    {
+        self.scope.latest(sps_pic_width_max_in_luma_samples)
+    }
+
+    /// The height of the largest picture in luma samples: sps_pic_height_max_in_luma_samples.
+    pub fn height(&self) -> u32
+        ensures { result ≡ set.height_of self.now }
+    {
+        self.scope.latest(sps_pic_height_max_in_luma_samples)
+    }
+
+    /// The CTU size in luma samples, 32, 64 or 128: CtbSizeY.
+    pub fn ctb(&self) -> u32
+        ensures { result ≡ set.ctb_size_of self.now }
+    {
+        ctb_size(&self.scope)
+    }
+
+    /// The number of subpictures, from 1 to 1,000: sps_num_subpics_minus1 + 1.
+    pub fn subpics(&self) -> u32
+        ensures number { result ≡ subpics_of self.now }
+        ensures most { result ≤ 1000 }
+    {
+        self.scope.latest(sps_num_subpics_minus1) + 1
+    }
+
+    /// What is kept of a subpicture.
+    fn subpicture(&self, i: u32) -> Subpicture
+        requires { i < subpics_of self.now }
+        ensures { result ≡ subpicture_of self.now i }
+    {
+        self.subpictures.item(i as usize)
+    }
+
+    /// The rectangle of a subpicture, in CTUs: sps_subpic_ctu_top_left_x and so on, H.266 7.4.3.4.
+    pub fn rect(&self, i: u32) -> Rect
+        requires { i < subpics_of self.now }
+        ensures { result ≡ pictures.rect_of self.now i }
+    {
+        self.subpicture(i).rect
+    }
+
+    /// Whether a subpicture is treated as a picture: sps_subpic_treated_as_pic_flag, or where that is absent, true.
+    pub fn treated(&self, i: u32) -> bool
+        requires { i < subpics_of self.now }
+        ensures { result ≡ pictures.is_treated self.now i }
+    {
+        self.subpicture(i).treated
+    }
+
+    /// Whether in-loop filters cross the borders of a subpicture: sps_loop_filter_across_subpic_enabled_flag, or where
+    /// that is absent, false.
+    pub fn filtered(&self, i: u32) -> bool
+        requires { i < subpics_of self.now }
+        ensures { result ≡ pictures.is_filtered self.now i }
+    {
+        self.subpicture(i).filtered
+    }
+
+    /// The id of a subpicture, where no PPS says another: sps_subpic_id, or where that is absent, its index.
+    pub fn id(&self, i: u32) -> u32
+        requires { i < subpics_of self.now }
+        ensures { result ≡ pictures.id_of self.now i }
+    {
+        self.subpicture(i).id
+    }
+
+    /// The reference picture list structures.
+    pub fn table(&self) -> &RplTable
+        ensures { result.now ≡ table_of (set.is_weighted self.now) self.now }
+    {
+        &self.table
+    }
+
+    /// The extra bits of a picture header: NumExtraPhBits.
+    pub fn extra_ph_bits(&self) -> u32
+        ensures { result ≡ set.extra_ph_bits_of self.now }
+    {
+        self.extra_ph_bits
+    }
+
+    /// The extra bits of a slice header: NumExtraShBits.
+    pub fn extra_sh_bits(&self) -> u32
+        ensures { result ≡ set.extra_sh_bits_of self.now }
+    {
+        self.extra_sh_bits
+    }
+}

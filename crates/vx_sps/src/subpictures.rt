@@ -1,0 +1,231 @@
+//! The subpictures of a set's pictures, from its items.
+
+ghost use Rattle.std.specs.Prelude.{◌≡◌, ◌+◌, ◌-◌, ◌<◌, ◌≤◌, length, slice_index, slice_index_or, IfOk};
+ghost use Rattle.vx_table.specs.Loaded.{number};
+ghost use Rattle.vx_sps.specs.Subpictures as spec;
+ghost use Rattle.vx_table.specs.Scope.{fresh, loaded};
+ghost use Rattle.vx_fields.specs.declared.sps.TheConstants as sps;
+ghost use Rattle.vx_sps.specs.Set as set;
+ghost use Rattle.vx_sps.specs.inner.Kept.{AreSubpictures};
+
+use std::alloc::{AllocError, Global};
+use std::marker::Model;
+use vx_bits::{CopyList, Fields, IdList};
+use vx_fields::sps::{
+    sps_loop_filter_across_subpic_enabled_flag, sps_num_subpics_minus1, sps_subpic_ctu_top_left_x,
+    sps_subpic_ctu_top_left_y, sps_subpic_height_minus1, sps_subpic_id, sps_subpic_same_size_flag,
+    sps_subpic_treated_as_pic_flag, sps_subpic_width_minus1,
+};
+use vx_layout::Rect;
+use vx_table::{Scope, natural};
+
+/// A subpicture, as a set keeps it.
+#[derive(Clone, Copy, Debug)]
+pub(crate) struct Subpicture {
+    /// Its rectangle, in CTUs.
+    pub rect: Rect,
+    /// It is treated as a picture.
+    pub treated: bool,
+    /// In-loop filters cross its borders.
+    pub filtered: bool,
+    /// Its id, where no PPS says another.
+    pub id: u32,
+}
+
+/// The numbers of a field's items, in order.
+///
+/// # Errors
+///
+/// Want of memory.
+#[tactic(auto, using(crate::proofs::Counted::number_more, crate::proofs::Counted::number_passed))]
+fn numbers_of(alloc: Global, fields: &Fields, field: u16) -> Result<IdList, AllocError>
+    ensures { IfOk result (λ list. list ≡ spec.numbers_of fields.now field) }
+{
+    let mut numbers = IdList::new(alloc);
+    for i in 0..fields.len() {
+        let item = fields.item(i);
+        if item.field == field {
+            numbers.push(natural(item.value))?;
+        }
+    }
+    Ok(numbers)
+}
+
+/// A number by its place; 0 where there is none.
+fn number_at(numbers: &IdList, i: u32) -> u32
+    ensures { result ≡ slice_index numbers.now i }
+{
+    number_or(numbers, i, 0)
+}
+
+/// A number by its place; another where there is none.
+fn number_or(numbers: &IdList, i: u32, other: u32) -> u32
+    ensures { result ≡ slice_index_or numbers.now i other }
+{
+    numbers.as_slice().get(i as usize).copied().unwrap_or(other)
+}
+
+/// The column, or the row, at which subpicture `i` begins.
+fn corner_at(corners: &IdList, i: u32) -> u32
+    ensures { result ≡ spec.corner_at corners.now i }
+{
+    if i == 0 { 0 } else { number_at(corners, i - 1) }
+}
+
+/// Its width, or its height, in a picture that ends at this border.
+fn size_at(sizes: &IdList, border: u32, corner: u32, i: u32) -> u32
+    ensures { result ≡ spec.size_at sizes.now border corner i }
+{
+    if (i as usize) < sizes.len() {
+        number_at(sizes, i).saturating_add(1)
+    } else {
+        border.saturating_sub(corner)
+    }
+}
+
+/// How many of a width stand beside one another.
+fn across(columns: u32, w: u32) -> u32
+    ensures count { result ≡ spec.across columns w }
+    ensures some { 1 ≤ result }
+{
+    if w == 0 { 1 } else { (columns / w).max(1) }
+}
+
+/// Rectangle `i` of those that stand on the grid of the first one's size.
+fn on_grid(columns: u32, first: Rect, i: u32) -> Rect
+    ensures { result ≡ spec.on_grid columns first i }
+{
+    let across = across(columns, first.w);
+    Rect {
+        x: (i % across).saturating_mul(first.w),
+        y: (i / across).saturating_mul(first.h),
+        w: first.w,
+        h: first.h,
+    }
+}
+
+/// What a set tells of its subpictures, field by field. It is seen as the items of the set.
+#[derive(Drop)]
+struct Told<'a> {
+    fields: &'a Fields,
+    columns: u32,
+    rows: u32,
+    same_size: bool,
+    x: IdList,
+    y: IdList,
+    w: IdList,
+    h: IdList,
+    treated: IdList,
+    filtered: IdList,
+    ids: IdList,
+}
+
+impl<'a> Model for Told<'a> {
+    ghost use Rattle.std.specs.Prelude.{◌≡◌, List};
+    ghost use Rattle.vx_bits.specs.declared.list.Item.{Item};
+    ghost use Rattle.vx_table.specs.Scope.{is_set};
+    ghost use Rattle.vx_table.specs.Loaded.{number};
+    ghost use Rattle.vx_fields.specs.declared.sps.TheConstants as sps;
+    ghost use Rattle.vx_sps.specs.Set as set;
+    ghost use Rattle.vx_sps.specs.Subpictures as spec;
+
+    ghost Value = { List Item };
+
+    ghost view = { λ t. t.fields.now };
+
+    ghost invariant = { λ t. (t.columns ≡ set.columns_of t.fields.now) × (t.rows ≡ set.rows_of t.fields.now) × (t.same_size ≡ is_set (number t.fields.now sps.sps_subpic_same_size_flag)) × (t.x ≡ spec.numbers_of t.fields.now sps.sps_subpic_ctu_top_left_x) × (t.y ≡ spec.numbers_of t.fields.now sps.sps_subpic_ctu_top_left_y) × (t.w ≡ spec.numbers_of t.fields.now sps.sps_subpic_width_minus1) × (t.h ≡ spec.numbers_of t.fields.now sps.sps_subpic_height_minus1) × (t.treated ≡ spec.numbers_of t.fields.now sps.sps_subpic_treated_as_pic_flag) × (t.filtered ≡ spec.numbers_of t.fields.now sps.sps_loop_filter_across_subpic_enabled_flag) × (t.ids ≡ spec.numbers_of t.fields.now sps.sps_subpic_id) };
+}
+
+impl<'a> Told<'a> {
+    ghost use Rattle.std.specs.Prelude.{◌≡◌, ◌+◌, ◌-◌, ◌<◌, ◌≤◌, length, slice_index, slice_index_or, IfOk};
+    ghost use Rattle.vx_table.specs.Scope.{fresh, loaded};
+    ghost use Rattle.vx_sps.specs.Set as set;
+    ghost use Rattle.vx_sps.specs.Subpictures as spec;
+    ghost use Rattle.vx_sps.specs.inner.Kept.{AreSubpictures, subpicture_of};
+
+    /// The rectangle of subpicture `i`, where it is spelled by itself.
+    fn own_rect(&self, i: u32) -> Rect
+        ensures { result ≡ spec.own_rect self.now i }
+    {
+        let (x, y) = (corner_at(&self.x, i), corner_at(&self.y, i));
+        Rect {
+            x,
+            y,
+            w: size_at(&self.w, self.columns, x, i),
+            h: size_at(&self.h, self.rows, y, i),
+        }
+    }
+
+    /// The rectangle of subpicture `i`.
+    fn rect(&self, i: u32) -> Rect
+        ensures { result ≡ spec.rect_of self.now i }
+    {
+        if self.same_size {
+            on_grid(self.columns, self.own_rect(0), i)
+        } else {
+            self.own_rect(i)
+        }
+    }
+
+    /// Subpicture `i`.
+    fn subpicture(&self, i: u32) -> Subpicture
+        ensures { result ≡ subpicture_of self.now i }
+    {
+        Subpicture {
+            rect: self.rect(i),
+            treated: number_or(&self.treated, i, 1) != 0,
+            filtered: number_or(&self.filtered, i, 0) != 0,
+            id: number_or(&self.ids, i, i),
+        }
+    }
+
+    /// The first `n` subpictures.
+    ///
+    /// # Errors
+    ///
+    /// Want of memory.
+    #[tactic(auto, using(crate::proofs::Counted::subpicture_more))]
+    fn subpictures(&self, alloc: Global, n: u32) -> Result<CopyList<Subpicture>, AllocError>
+        ensures { IfOk result (λ list. AreSubpictures self.now n list) }
+    {
+        let mut list = CopyList::new(alloc);
+        for i in 0..n {
+            list.push(self.subpicture(i))?;
+        }
+        Ok(list)
+    }
+}
+
+/// The subpictures of a set whose numbers the scope has; its pictures have so many columns and rows of CTUs.
+///
+/// # Errors
+///
+/// Want of memory.
+pub(crate) fn subpictures(
+    alloc: Global,
+    fields: &Fields,
+    scope: &Scope,
+    columns: u32,
+    rows: u32,
+) -> Result<CopyList<Subpicture>, AllocError>
+    requires scope { scope.now ≡ loaded fresh fields.now }
+    requires most { number fields.now sps.sps_num_subpics_minus1 < 1000 }
+    requires columns { columns ≡ set.columns_of fields.now }
+    requires rows { rows ≡ set.rows_of fields.now }
+    ensures { IfOk result (λ list. AreSubpictures fields.now (spec.subpics_of fields.now) list) }
+{
+    let told = Told {
+        fields,
+        columns,
+        rows,
+        same_size: scope.latest(sps_subpic_same_size_flag) != 0,
+        x: numbers_of(alloc, fields, sps_subpic_ctu_top_left_x)?,
+        y: numbers_of(alloc, fields, sps_subpic_ctu_top_left_y)?,
+        w: numbers_of(alloc, fields, sps_subpic_width_minus1)?,
+        h: numbers_of(alloc, fields, sps_subpic_height_minus1)?,
+        treated: numbers_of(alloc, fields, sps_subpic_treated_as_pic_flag)?,
+        filtered: numbers_of(alloc, fields, sps_loop_filter_across_subpic_enabled_flag)?,
+        ids: numbers_of(alloc, fields, sps_subpic_id)?,
+    };
+    told.subpictures(alloc, scope.latest(sps_num_subpics_minus1) + 1)
+}
