@@ -1,5 +1,5 @@
 -- The numbers of the sets in force, which headers read.
-use Rattle.std.specs.Prelude.{◌≡◌, ℕ, Bool, true, ◌&&◌, ◌==◌, IsTrue, List, count_by, slice_set}
+use Rattle.std.specs.Prelude.{◌≡◌, ℕ, ◌&&◌, ◌==◌, IsTrue, List, count_by, slice_set}
 use Rattle.vx_bits.specs.declared.list.Item.{Item}
 use Rattle.vx_table.specs.Scope.{natural, capped, is_set, fresh, loaded, joined}
 use Rattle.vx_table.specs.Depends.{has, Agree}

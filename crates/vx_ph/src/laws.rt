@@ -1,7 +1,31 @@
 //! Laws of picture headers: functions that do nothing, each with a law as its contract.
+ghost use Rattle.vx_ph.specs.Depends.{KeptDepend, AllDepend, KeepsKept, ShowsAll, FieldsAreCodedOnce, HeaderReadAgain};
 ghost use Rattle.vx_ph.specs.InForce.{SetsAgree};
 
 /// Sets that have the same items of some fields give scopes that agree on these.
 pub fn sets_agree()
     ensures { SetsAgree }
+{}
+
+/// Whatever structures the SPS has, the kept fields of a header depend on kept fields of the sets and of the header alone; all its
+/// fields besides on two fields of the PPS.
+pub fn header_depends()
+    ensures kept { KeptDepend }
+    ensures all { AllDepend }
+{}
+
+/// No field is coded by two rows.
+pub fn fields_are_coded_once()
+    ensures { FieldsAreCodedOnce }
+{}
+
+/// A header keeps exactly the kept fields, and all that it has is named.
+pub fn header_keeps()
+    ensures kept { KeepsKept }
+    ensures all { ShowsAll }
+{}
+
+/// The same bits under sets that agree on what a header depends on are the same header or the same refusal.
+pub fn header_read_again()
+    ensures { HeaderReadAgain }
 {}

@@ -1,0 +1,107 @@
+-- What a picture header depends on, which of its fields are kept, and that it is read again and rewritten.
+use Rattle.std.specs.Prelude.{◌≤◌, ℕ, ℤ, pos, not, List, [], ◌∷◌, ◌++◌, filter, Result}
+use Rattle.vx_bits.specs.declared.list.Item.{Item}
+use Rattle.vx_bits.specs.declared.refusal.ReadError.{ReadError}
+use Rattle.vx_bits.specs.Place.{Place}
+use Rattle.vx_table.specs.Forms.{form_of}
+use Rattle.vx_table.specs.Values.{Follows}
+use Rattle.vx_table.specs.Reading.{Reads}
+use Rattle.vx_table.specs.Depends.{has, with_all, set_of, Agree, DependsOnlyOn}
+use Rattle.vx_table.specs.Named.{named_by_all, CodedOnce}
+use Rattle.vx_table.specs.Shown.{KeepsOnly}
+use Rattle.vx_table.specs.Again.{AlwaysShown}
+use Rattle.vx_table.specs.Rewrites.{Takes, Rewrites}
+use Rattle.vx_fields.specs.declared.sps.TheConstants as sps
+use Rattle.vx_fields.specs.declared.pps.TheConstants as pps
+use Rattle.vx_fields.specs.declared.ph.TheConstants as ph
+use Rattle.vx_fields.specs.declared.alf.TheConstants as alf
+use Rattle.vx_fields.specs.declared.names.ph.TheConstants.{EXTRA_PH_BITS, FILTER_SET}
+use Rattle.vx_rpl.specs.declared.entry.RplTable.{RplTable}
+use Rattle.vx_rpl.specs.Lists.{weights}
+use Rattle.vx_rpl.specs.Depends.{of_lists}
+use Rattle.vx_ph.specs.declared.tables.TheConstants.{PICTURE, PPS_ID, ORDER_COUNT, ALF, LMCS_AND_SCALING, OUTPUT, INTRA, INTER, QP, FILTERS}
+use Rattle.vx_ph.specs.Header.{front, middle, end, header_form}
+
+-- ---- fields
+
+-- all that a header has, and what its rows name besides
+abbrev pub of_header : List ℕ
+of_header = named_by_all front ++ (named_by_all middle ++ (named_by_all end ++ (of_lists ++ named_by_all weights)))
+
+-- the fields with a star, and what is named for them alone: the id of the PPS, the filter, LMCS and scaling lists, the QP
+abbrev pub starred : List ℕ
+starred = ph.ph_pic_parameter_set_id ∷ FILTER_SET ∷ (alf.ALL ++ (ph.ph_lmcs_enabled_flag ∷ ph.ph_lmcs_aps_id ∷ ph.ph_chroma_residual_scale_flag
+    ∷ ph.ph_explicit_scaling_list_enabled_flag ∷ ph.ph_scaling_list_aps_id ∷ ph.ph_qp_delta ∷ []))
+
+-- all others are kept
+abbrev pub kept : List ℕ
+kept = filter (λ n. not (has (set_of starred) n)) of_header
+
+-- ---- what they depend on
+
+-- of the sets in force kept fields depend on these, which are kept fields of the SPS and the PPS, and the number of extra bits,
+abbrev pub kept_of_sets : List ℕ
+kept_of_sets = sps.sps_chroma_format_idc ∷ sps.sps_log2_max_pic_order_cnt_lsb_minus4 ∷ sps.sps_poc_msb_cycle_flag
+    ∷ sps.sps_poc_msb_cycle_len_minus1 ∷ EXTRA_PH_BITS ∷ sps.sps_partition_constraints_override_enabled_flag
+    ∷ sps.sps_qtbtt_dual_tree_intra_flag ∷ sps.sps_joint_cbcr_enabled_flag ∷ sps.sps_sao_enabled_flag ∷ sps.sps_weighted_pred_flag
+    ∷ sps.sps_weighted_bipred_flag ∷ sps.sps_long_term_ref_pics_flag ∷ sps.sps_temporal_mvp_enabled_flag
+    ∷ sps.sps_bdof_control_present_in_ph_flag ∷ sps.sps_dmvr_control_present_in_ph_flag ∷ sps.sps_mmvd_fullpel_only_enabled_flag
+    ∷ sps.sps_prof_control_present_in_ph_flag ∷ pps.pps_output_flag_present_flag ∷ pps.pps_rpl1_idx_present_flag
+    ∷ pps.pps_weighted_pred_flag ∷ pps.pps_weighted_bipred_flag ∷ pps.pps_cu_qp_delta_enabled_flag
+    ∷ pps.pps_chroma_tool_offsets_present_flag ∷ pps.pps_cu_chroma_qp_offset_list_enabled_flag
+    ∷ pps.pps_deblocking_filter_disabled_flag ∷ pps.pps_dbf_info_in_ph_flag ∷ pps.pps_rpl_info_in_ph_flag
+    ∷ pps.pps_sao_info_in_ph_flag ∷ pps.pps_wp_info_in_ph_flag ∷ pps.pps_picture_header_extension_present_flag ∷ []
+
+-- the others also on these: four more kept fields of the SPS,
+abbrev pub kept_for_starred : List ℕ
+kept_for_starred = sps.sps_alf_enabled_flag ∷ sps.sps_ccalf_enabled_flag ∷ sps.sps_lmcs_enabled_flag
+    ∷ sps.sps_explicit_scaling_list_enabled_flag ∷ kept_of_sets
+
+-- and two fields with a star of the PPS.
+abbrev pub starred_of_sets : List ℕ
+starred_of_sets = pps.pps_alf_info_in_ph_flag ∷ pps.pps_qp_delta_info_in_ph_flag ∷ []
+
+abbrev pub all_of_sets : List ℕ
+all_of_sets = starred_of_sets ++ kept_for_starred
+
+-- The presence, coding and range of each kept field depend on kept fields of the sets, and kept fields before it in the header, alone.
+abbrev pub KeptDepend : Type 0
+KeptDepend = (table : RplTable) → DependsOnlyOn kept_of_sets kept (header_form table)
+
+-- Those of each field depend besides on the two fields, and any field before it in the header.
+abbrev pub AllDepend : Type 0
+AllDepend = (table : RplTable) → DependsOnlyOn all_of_sets of_header (header_form table)
+
+-- The header keeps exactly the kept fields, and all its fields are named above.
+abbrev pub KeepsKept : Type 0
+KeepsKept = (table : RplTable) → KeepsOnly kept_of_sets kept (header_form table)
+
+abbrev pub ShowsAll : Type 0
+ShowsAll = (table : RplTable) → AlwaysShown (with_all (set_of all_of_sets) of_header) (header_form table)
+
+-- No field is coded by two rows.
+abbrev pub FieldsAreCodedOnce : Type 0
+FieldsAreCodedOnce = CodedOnce
+    (PICTURE ∷ PPS_ID ∷ ORDER_COUNT ∷ ALF ∷ LMCS_AND_SCALING ∷ OUTPUT ∷ INTRA ∷ INTER ∷ QP ∷ FILTERS ∷ [])
+
+-- ---- read again
+
+-- The same bits, under sets that agree on all these, are the same header or the same refusal.
+abbrev pub HeaderReadAgain : Type 0
+HeaderReadAgain = (table : RplTable) (s t : List ℕ) (old new : Place) (items after : List Item) (result : Result (Unit {0}) ReadError)
+    → Agree (set_of all_of_sets) s t → Reads (header_form table s) old items result new after
+    → Reads (header_form table t) old items result new after
+
+-- ---- rewritten
+
+-- what a header of other sets takes over: the kept fields, and with them what agrees of the sets
+abbrev pub taken : List ℕ
+taken = kept_for_starred ++ kept
+
+-- A header goes again with another id of the PPS, another LMCS and scaling part, and neither filter nor QP, under sets that agree on what
+-- is taken over, and whose PPS has both in slice headers.
+abbrev pub HeaderRewrites : Type 0
+HeaderRewrites = (table : RplTable) (s : List ℕ) (values : List ℤ) (end : List ℕ) (id : ℕ) (maps : List Item)
+    → Follows (header_form table s) values end → id ≤ 63 → Takes (form_of LMCS_AND_SCALING s) maps
+    → Rewrites (set_of taken) (set_of starred_of_sets) (header_form table) s values end
+    (record { field = ph.ph_pic_parameter_set_id; value = pos id } ∷ maps)

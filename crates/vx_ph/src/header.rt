@@ -1,0 +1,13 @@
+//! The value of a picture header.
+
+use vx_bits::Fields;
+use vx_rpl::RefLists;
+
+/// A picture header: its fields, and the reference picture lists that they come to, both empty where it has none.
+#[derive(Drop)]
+pub struct PictureHeader {
+    /// Its items, in the order of the bits.
+    pub fields: Fields,
+    /// The lists.
+    pub lists: RefLists,
+}

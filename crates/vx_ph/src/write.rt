@@ -1,0 +1,96 @@
+//! Writing a picture header.
+ghost use Rattle.std.specs.Prelude.{◌≡◌, [], ◌++◌, IfOk, OnOk, OnErr};
+ghost use Rattle.vx_table.specs.Walks.{Walks, leaving};
+ghost use Rattle.vx_table.specs.Writing.{Writes};
+ghost use Rattle.vx_ph.specs.Header.{header_form};
+ghost use Rattle.vx_ph.specs.Picture.{IsHeader, IsSpelling, IsFront, IsUnit, unit_form};
+
+use crate::header::PictureHeader;
+use crate::tables::TRAILING;
+use crate::walk::code_header;
+use std::alloc::{AllocError, Global};
+use vx_bits::BitWriter;
+use vx_rpl::RplTable;
+use vx_table::{Coder, Scope, SpellError, Unwritten, code_table};
+
+/// Writes the header whose items come next.
+fn write_fields(
+    bits: &mut BitWriter,
+    items: &mut Unwritten<'_>,
+    table: &RplTable,
+    mut scope: Scope,
+) -> Result<(), SpellError>
+    ensures { Writes (header_form table.now scope) bits.old items.old result bits.new items.new }
+{
+    code_header(table, &mut scope, bits, items)
+}
+
+/// Writes a picture header without a trailing, with the SPS's structures of lists, at the scope of the sets in force.
+///
+/// # Errors
+///
+/// Want of memory; `bits` has then gained a front of the spelling.
+pub fn write_header_at(
+    bits: &mut BitWriter,
+    header: &PictureHeader,
+    table: &RplTable,
+    scope: &Scope,
+) -> Result<(), AllocError>
+    requires { IsHeader table.now scope.now header.now }
+    ensures ok { OnOk result (IsSpelling table.now scope.now header.now bits.old bits.new) }
+    ensures err { OnErr result (IsFront table.now scope.now header.now bits.old bits.new) }
+{
+    let fields = &header.fields;
+    let mut items = Unwritten::new(fields, 0, fields.len());
+    match write_fields(bits, &mut items, table, *scope) {
+        Ok(()) => Ok(()),
+        Err(SpellError::Memory) => Err(AllocError),
+        Err(SpellError::NoValue) => unreachable!(),
+    }
+}
+
+/// Codes a picture header that is a unit of its own, `picture_header_rbsp()`, clause 7.3.2.7.
+#[tactic(auto, unfolding(crate::specs::Picture::unit_form), using(vx_table::proofs::Steps::then, vx_table::proofs::Steps::stop))]
+fn code_unit<I, C: Coder<I>>(
+    table: &RplTable,
+    scope: &mut Scope,
+    coder: &mut C,
+    items: &mut I,
+) -> Result<(), C::Fault>
+    ensures { Walks C.step (unit_form table.now scope.old) coder.old items.old (leaving scope.new result) coder.new items.new }
+{
+    code_header(table, scope, coder, items)?;
+    code_table(&TRAILING, scope, coder, items)
+}
+
+/// Writes the unit whose items come next.
+fn write_unit(
+    bits: &mut BitWriter,
+    items: &mut Unwritten<'_>,
+    table: &RplTable,
+    mut scope: Scope,
+) -> Result<(), SpellError>
+    ensures { Writes (unit_form table.now scope) bits.old items.old result bits.new items.new }
+{
+    code_unit(table, &mut scope, bits, items)
+}
+
+/// The RBSP of a picture header, clause 7.3.2.7, with the SPS's structures of lists, at the scope of the sets in force.
+pub fn write_unit_at(
+    alloc: Global,
+    header: &PictureHeader,
+    table: &RplTable,
+    scope: &Scope,
+) -> Result<Vec<u8>, AllocError>
+    requires { IsHeader table.now scope.now header.now }
+    ensures { IfOk result (λ bytes. IsUnit table.now scope.now header.now bytes.items) }
+{
+    let fields = &header.fields;
+    let mut bits = BitWriter::new(alloc);
+    let mut items = Unwritten::new(fields, 0, fields.len());
+    match write_unit(&mut bits, &mut items, table, *scope) {
+        Ok(()) => Ok(bits.into_bytes()),
+        Err(SpellError::Memory) => Err(AllocError),
+        Err(SpellError::NoValue) => unreachable!(),
+    }
+}
