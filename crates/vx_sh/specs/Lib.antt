@@ -1,2 +1,4 @@
 -- Definitions that the contracts of this crate cite.
 pub mod Slice
+pub mod Depends
+pub mod Again
