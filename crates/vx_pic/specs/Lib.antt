@@ -1,0 +1,8 @@
+-- Definitions that the contracts of this crate cite.
+pub mod Answers
+pub mod Units
+pub mod Sets
+pub mod Readings
+pub mod Counts
+pub mod Rules
+pub mod Streams
