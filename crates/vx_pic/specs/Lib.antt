@@ -6,3 +6,6 @@ pub mod Readings
 pub mod Counts
 pub mod Rules
 pub mod Streams
+pub mod Bytes
+pub mod Alike
+pub mod Laws

@@ -28,6 +28,11 @@ abbrev pub read_on : Readers → List Reading → List (List ℕ) → Outcome
 read_on R before [] = all_read before
 read_on R before (u ∷ units) = one_more (reads R before u) before (λ after. read_on R after units)
 
+-- what follows where none is refused
+abbrev pub unless_refused : Option Refusal → List Reading → (List Reading → Outcome) → Outcome
+unless_refused None before rest = rest before
+unless_refused (Some r) before rest = stopped before r
+
 -- the pictures of a list of units, the latest first
 abbrev pub pictures_of : Readers → List (List ℕ) → List Picture
 pictures_of R units = pictures (read_on R [] units).before

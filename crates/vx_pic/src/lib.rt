@@ -5,10 +5,15 @@
 #![tactic(auto)]
 
 mod kind;
+mod laws;
 mod sets;
 mod unit_types;
 
 pub use kind::Kind;
+pub use laws::{
+    alike_is_next, pictures_are_unique, pictures_exist, pictures_stay, previous_by_places,
+    reading_goes_on, seen_pictures_stay, stored_by_places,
+};
 pub use sets::{PPS, SPS};
 pub use unit_types::{
     CRA_NUT, EOB_NUT, EOS_NUT, GDR_NUT, IDR_N_LP, IDR_W_RADL, PH_NUT, PPS_NUT, PREFIX_APS_NUT,
