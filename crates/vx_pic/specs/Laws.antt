@@ -1,0 +1,68 @@
+-- What the definition of pictures comes to, whatever sets and headers are read as.
+use Rattle.std.specs.Prelude.{◌≡◌, ℕ, ◌<◌, Bool, true, false, List, ◌++◌, slice_get, Option, Some, None}
+use Rattle.vx_pic.specs.Readings.{Reading, latest, sps_in, pps_in, aps_in, Picture}
+use Rattle.vx_pic.specs.Counts.{is_tid0_picture, counts_of, no_counts, previous}
+use Rattle.vx_pic.specs.Rules.{Readers}
+use Rattle.vx_pic.specs.Streams.{read_on, unless_refused, pictures_of}
+use Rattle.vx_pic.specs.Bytes.{Ending, ArePictures, AreSeenPictures}
+
+-- ---- units
+
+-- more units are read behind those before them, unless one of these is refused
+abbrev pub ReadingGoesOn : Type 0
+ReadingGoesOn = (R : Readers) (before : List Reading) (units more : List (List ℕ))
+    → read_on R before (units ++ more)
+    ≡ unless_refused (read_on R before units).refusal (read_on R before units).before (λ after. read_on R after more)
+
+-- pictures that are done stay, however the units go on
+abbrev pub PicturesStay : Type 0
+PicturesStay = (R : Readers) (units more : List (List ℕ))
+    → (later : List Picture) × (pictures_of R (units ++ more) ≡ later ++ pictures_of R units)
+
+-- ---- bytes
+
+-- the bytes determine pictures and ending
+abbrev pub PicturesAreUnique : Type 0
+PicturesAreUnique = (R : Readers) (b : List ℕ) (all : Bool) (ps qs : List Picture) (e f : Option Ending)
+    → ArePictures R b all ps e → ArePictures R b all qs f → (ps ≡ qs) × (e ≡ f)
+
+-- all bytes have them
+abbrev pub PicturesExist : Type 0
+PicturesExist = (R : Readers) (b : List ℕ) (all : Bool) → (ps : List Picture) × (e : Option Ending) × ArePictures R b all ps e
+
+-- pictures that are seen stay, however the bytes go on
+abbrev pub SeenPicturesStay : Type 0
+SeenPicturesStay = (R : Readers) (b more : List ℕ) (all : Bool) (ps qs : List Picture) (e : Option Ending)
+    → AreSeenPictures R b ps → ArePictures R (b ++ more) all qs e → (later : List Picture) × (qs ≡ later ++ ps)
+
+-- ---- places
+
+-- What stands at a place gives this, and nothing later does. Lists have the latest at place 0.
+pub record IsLatestAt {A : Type 0} (gives : Reading → Option A) (before : List Reading) (n : ℕ) (a : A) : Type 0 where
+  pub reading : Reading
+  pub here : slice_get before n ≡ Some reading
+  pub given : gives reading ≡ Some a
+  pub later : (k : ℕ) (r : Reading) → k < n → slice_get before k ≡ Some r → gives r ≡ None
+
+-- what is in force is given by the last reading that gives it, and by no other
+abbrev pub IsByPlaces : {A : Type 0} → (Reading → Option A) → Type 0
+IsByPlaces {A} gives = (before : List Reading) (a : A)
+    → (latest gives before ≡ Some a → (n : ℕ) × IsLatestAt gives before n a)
+    × ((n : ℕ) → IsLatestAt gives before n a → latest gives before ≡ Some a)
+
+-- The SPS, the PPS and the adaptation parameter sets in force are those of the last units of their ids.
+abbrev pub StoredByPlaces : Type 0
+StoredByPlaces = ((id : ℕ) → IsByPlaces (sps_in id)) × ((id : ℕ) → IsByPlaces (pps_in id)) × ((kind id : ℕ) → IsByPlaces (aps_in kind id))
+
+-- the picture at this place can be prevTid0Pic, and no later one can
+pub record IsPrevTid0At (earlier : List Picture) (n : ℕ) (p : Picture) : Type 0 where
+  pub here : slice_get earlier n ≡ Some p
+  pub can : is_tid0_picture p ≡ true
+  pub later : (k : ℕ) (q : Picture) → k < n → slice_get earlier k ≡ Some q → is_tid0_picture q ≡ false
+
+-- prevPicOrderCntLsb and prevPicOrderCntMsb are those of that picture, and 0 where there is none.
+abbrev pub PreviousByPlaces : Type 0
+PreviousByPlaces =
+    ((earlier : List Picture) (n : ℕ) (p : Picture) → IsPrevTid0At earlier n p → previous earlier ≡ counts_of p)
+    × ((earlier : List Picture) → ((k : ℕ) (q : Picture) → slice_get earlier k ≡ Some q → is_tid0_picture q ≡ false)
+    → previous earlier ≡ no_counts)

@@ -1,0 +1,11 @@
+-- Definitions that the contracts of this crate cite.
+pub mod Answers
+pub mod Units
+pub mod Sets
+pub mod Readings
+pub mod Counts
+pub mod Rules
+pub mod Streams
+pub mod Bytes
+pub mod Alike
+pub mod Laws

@@ -1,0 +1,17 @@
+//! What a picture is among the pictures of its stream.
+
+/// What a picture is among the pictures of its stream.
+#[derive(Clone, Copy, Debug, PartialEq, Eq)]
+pub struct Kind {
+    /// nal_unit_type of its slices.
+    pub nal_type: u8,
+    /// TemporalId.
+    pub temporal_id: u8,
+    /// Whether it starts a coded layer video sequence: an IDR picture, or a CRA or GDR picture that is the first, or the first
+    /// behind an end of sequence (H.266 7.4.2.4.3).
+    pub clvss: bool,
+    /// Whether an end of sequence stands between it and the picture before it.
+    pub after_eos: bool,
+    /// PicOrderCntVal (H.266 8.3.1).
+    pub poc: i32,
+}

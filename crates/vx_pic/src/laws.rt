@@ -1,0 +1,45 @@
+//! Laws of the pictures of a stream: functions that do nothing, each with a law as its contract. They hold whatever sets and
+//! headers are read as.
+ghost use Rattle.vx_pic.specs.Alike.{AlikeIsNext};
+ghost use Rattle.vx_pic.specs.Laws.{ReadingGoesOn, PicturesStay, PicturesAreUnique, PicturesExist, SeenPicturesStay, StoredByPlaces, PreviousByPlaces};
+
+/// More units are read behind those before them, unless one of these is refused.
+pub fn reading_goes_on()
+    ensures { ReadingGoesOn }
+{}
+
+/// Pictures that are done stay, however the units go on.
+pub fn pictures_stay()
+    ensures { PicturesStay }
+{}
+
+/// The bytes determine the pictures, and where and why they are refused.
+pub fn pictures_are_unique()
+    ensures { PicturesAreUnique }
+{}
+
+/// All bytes have pictures and an ending.
+pub fn pictures_exist()
+    ensures { PicturesExist }
+{}
+
+/// Pictures that are seen stay, however the bytes go on.
+pub fn seen_pictures_stay()
+    ensures { SeenPicturesStay }
+{}
+
+/// The sets in force are those of the last units of their ids.
+pub fn stored_by_places()
+    ensures { StoredByPlaces }
+{}
+
+/// prevTid0Pic is the last picture that can be it (H.266 8.3.1).
+pub fn previous_by_places()
+    ensures { PreviousByPlaces }
+{}
+
+/// A picture of a stream that takes the place of one in another stream, whose headers tell the same of counts, has its count and
+/// its kind.
+pub fn alike_is_next()
+    ensures { AlikeIsNext }
+{}

@@ -1,0 +1,21 @@
+//! The pictures of a stream of NAL units (H.266 7.4.2.4, 8.3.1).
+//!
+//! What the pictures are is defined in the folder `specs`: what each unit is read as behind those before it, the pictures that
+//! come of that, and the rule that ends them. The laws say what follows of it, whatever sets and headers are read as.
+#![tactic(auto)]
+
+mod kind;
+mod laws;
+mod sets;
+mod unit_types;
+
+pub use kind::Kind;
+pub use laws::{
+    alike_is_next, pictures_are_unique, pictures_exist, pictures_stay, previous_by_places,
+    reading_goes_on, seen_pictures_stay, stored_by_places,
+};
+pub use sets::{PPS, SPS};
+pub use unit_types::{
+    CRA_NUT, EOB_NUT, EOS_NUT, GDR_NUT, IDR_N_LP, IDR_W_RADL, PH_NUT, PPS_NUT, PREFIX_APS_NUT,
+    PREFIX_SEI_NUT, RADL_NUT, RASL_NUT, SPS_NUT, STSA_NUT, SUFFIX_APS_NUT, TRAIL_NUT, VPS_NUT,
+};
