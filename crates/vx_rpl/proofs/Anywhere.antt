@@ -1,8 +1,7 @@
 -- A structure is written the same wherever it stands: what differs is told by its items.
-use Rattle.std.proofs.Common.{◌≡◌, inl, inr, ℕ, ℤ, pos, ◌+◌, Bool, true, false, cond, not, ◌==◌, nat_lt, IsFalse, List, [], ◌∷◌, ◌++◌, length, drop, slice_set, refl, ap, sym, subst, ◌∙◌}
+use Rattle.std.proofs.Common.{◌≡◌, inl, inr, ℕ, ℤ, pos, ◌+◌, Bool, true, false, not, ◌==◌, nat_lt, IsFalse, List, [], ◌∷◌, ◌++◌, length, drop, slice_set, refl, ap, sym, subst, ◌∙◌}
 use Rattle.std.proofs.lemmas.Bool.{cases_Bool, not-true, eqb-true}
 use Rattle.vx_bits.specs.declared.list.Item.{Item}
-use Rattle.vx_table.specs.declared.rows.Formula.{Formula}
 use Rattle.vx_table.specs.declared.rows.Coding.TheVariants.{Golomb}
 use Rattle.vx_table.specs.declared.rows.Fault.TheVariants.{Limit}
 use Rattle.vx_table.specs.declared.rows.Limits.TheVariants.{Within}
@@ -10,10 +9,10 @@ use Rattle.vx_table.specs.declared.rows.Cell.{Cell}
 use Rattle.vx_table.specs.declared.rows.Row.{Row}
 use Rattle.vx_table.specs.declared.rows.Row.TheVariants.{Field, Block, Name}
 use Rattle.vx_table.specs.Scope.{fresh, natural, one_if, value}
-use Rattle.vx_table.specs.Forms.{Form, done, field, has_value, coding_at, limits_at, cell_at, after, one_field, turns, present, part, form_of}
+use Rattle.vx_table.specs.Forms.{Form, done, field, has_value, coding_at, limits_at, after, one_field, turns, present, part, form_of}
 use Rattle.vx_table.specs.EachField.{EachField, rows_pass}
 use Rattle.vx_table.specs.Spelling.{code_of, item_of, items_along}
-use Rattle.vx_table.specs.Values.{IsValueOf, Follows, to_end, through, bits_along}
+use Rattle.vx_table.specs.Values.{IsValueOf, Follows, to_end, through}
 use Rattle.vx_table.specs.Depends.{has, with_all, set_of, Agree}
 use Rattle.vx_table.specs.Claims.{knows_formula, knows_width, knows_range, knows_presence, hides_counter, hides_row, behind_field, within_block, depends, table_depends, behind_table}
 use Rattle.vx_table.specs.Named.{named_by}

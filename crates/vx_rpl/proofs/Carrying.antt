@@ -1,5 +1,5 @@
 -- How what is known goes along the lists of a header.
-use Rattle.std.proofs.Common.{◌≡◌, ◌≢◌, ℕ, Bool, true, false, cond, ◌&&◌, ◌==◌, List, length, slice_index, slice_set, slice_get, None, Some, refl}
+use Rattle.std.proofs.Common.{◌≡◌, ℕ, Bool, true, false, cond, ◌&&◌, ◌==◌, List, length, slice_index, slice_set, slice_get, None, Some}
 use Rattle.std.specs.Prelude.{Option, IsTrue}
 use Rattle.std.proofs.lemmas.Bool.{and_parts}
 use Rattle.vx_table.specs.Scope.{one_if}

@@ -1,6 +1,6 @@
 -- The items of their fields tell the lists of a header, and the structures of an SPS.
-use Rattle.std.proofs.Common.{◌≡◌, inl, inr, ℕ, zero, suc, ◌+◌, ◌≤◌, ◌<◌, Bool, true, false, cond, ◌&&◌, IsTrue, List, [], ◌∷◌, filter, refl, ap, sym, ◌∙◌, arith}
-use Rattle.std.specs.Prelude.{nat_le, ◌||◌, ◌==◌}
+use Rattle.std.proofs.Common.{◌≡◌, inl, inr, ℕ, zero, suc, ◌+◌, ◌≤◌, ◌<◌, Bool, true, ◌&&◌, IsTrue, List, [], ◌∷◌, filter, refl, ap, sym, ◌∙◌, arith}
+use Rattle.std.specs.Prelude.{nat_le, ◌==◌}
 use Rattle.std.proofs.lemmas.Bool.{cases_Bool, cases_eq, and_parts, or_cases, leb-true, eqb-true}
 use Rattle.vx_bits.specs.declared.list.Item.{Item}
 use Rattle.vx_table.specs.Depends.{has, Agree}
@@ -9,7 +9,6 @@ use Rattle.vx_fields.specs.declared.sps.TheConstants.{sps_num_ref_pic_lists, sps
 use Rattle.vx_fields.specs.declared.pps.TheConstants.{pps_rpl1_idx_present_flag}
 use Rattle.vx_fields.specs.declared.rpl.TheConstants.{num_ref_entries, rpls_poc_lsb_lt, delta_poc_msb_cycle_lt}
 use Rattle.vx_rpl.specs.declared.entry.Structure.{Structure}
-use Rattle.vx_rpl.specs.declared.entry.RefEntry.{RefEntry}
 use Rattle.vx_rpl.specs.declared.entry.RplTable.{RplTable}
 use Rattle.vx_rpl.specs.declared.lists.Choice.{Choice}
 use Rattle.vx_rpl.specs.Resolved.{is_of_table, table_of}

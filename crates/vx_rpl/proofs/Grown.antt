@@ -1,5 +1,5 @@
 -- What is read is appended.
-use Rattle.std.proofs.Common.{◌≡◌, ◌≤◌, List, length, Result, Ok, Err, ap, arith}
+use Rattle.std.proofs.Common.{◌≤◌, List, length, Result, Ok, Err, ap, arith}
 use Rattle.std.specs.Prelude.{OnOk}
 use Rattle.std.proofs.lemmas.List.{length-append}
 use Rattle.vx_bits.specs.declared.list.Item.{Item}

@@ -7,7 +7,7 @@ use Rattle.vx_table.specs.declared.rows.Cell.{Cell}
 use Rattle.vx_table.specs.declared.rows.Row.{Row}
 use Rattle.vx_table.specs.declared.rows.Row.TheVariants.{Field}
 use Rattle.vx_table.specs.Scope.{one_if}
-use Rattle.vx_table.specs.Forms.{Form, done, ◌>>=◌, cell_at, form_of}
+use Rattle.vx_table.specs.Forms.{done, ◌>>=◌, cell_at, form_of}
 use Rattle.vx_table.specs.Parts.{sections_form}
 use Rattle.vx_table.specs.EachField.{EachField, rows_pass, sections_pass}
 use Rattle.vx_table.specs.Depends.{has, Agree, Leaves}
@@ -24,7 +24,7 @@ use Rattle.vx_rpl.specs.declared.entry.Structure.{Structure}
 use Rattle.vx_rpl.specs.declared.entry.RplTable.{RplTable}
 use Rattle.vx_rpl.specs.declared.tables.TheConstants.{BEFORE_LIST_0, CHOICE, BEHIND_LIST_0, BEHIND_LIST_1}
 use Rattle.vx_rpl.specs.Lists.{behind_structure, picked, begun, own_and_long_term, choice_form, chosen_form, list_form, first_form, second_form, lists_form}
-use Rattle.vx_rpl.specs.Depends.{lists_pass, lists_hide, has_none, ListsShow, ListsKeep, ListsLeave}
+use Rattle.vx_rpl.specs.Depends.{lists_pass, has_none, ListsShow, ListsKeep, ListsLeave}
 
 -- ---- each field
 

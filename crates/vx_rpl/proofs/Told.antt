@@ -5,7 +5,6 @@ use Rattle.std.proofs.lemmas.List.{append-nil, append_assoc, drop_more}
 use Rattle.std.proofs.lemmas.Option.{slice_get_within, get_or_from_slice_get}
 use Rattle.vx_bits.specs.declared.list.Item.{Item}
 use Rattle.vx_rpl.specs.declared.entry.RefEntry.{RefEntry}
-use Rattle.vx_rpl.specs.Resolved.{is_of_structure}
 use Rattle.vx_rpl.specs.HeaderLists.{behind_entries, entry_told, behind_entry, entries_told, behind_told}
 
 pub drop_one : (entries : List RefEntry) (i : ℕ) (entry : RefEntry) → slice_get entries i ≡ Some entry → drop i entries ≡ entry ∷ drop (i + 1) entries

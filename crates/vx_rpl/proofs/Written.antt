@@ -1,14 +1,13 @@
 -- A writer that has taken all items answers for them.
-use Rattle.std.proofs.Common.{◌≡◌, ℕ, ℤ, Bool, List, [], ◌∷◌, ◌++◌, length, Result, Ok, Err, refl, ap, sym, subst, ◌∙◌}
-use Rattle.std.proofs.lemmas.List.{append-nil}
+use Rattle.std.proofs.Common.{◌≡◌, ℕ, Bool, List, [], ◌∷◌, length, Result, Ok, Err, sym, subst}
 use Rattle.vx_bits.specs.declared.list.Item.{Item}
 use Rattle.vx_table.specs.declared.writer.SpellError.{SpellError}
 use Rattle.vx_table.specs.declared.writer.SpellError.TheVariants as errors
 use Rattle.vx_table.specs.Forms.{Form}
 use Rattle.vx_table.specs.Walks.{Walks, leaving}
 use Rattle.vx_table.specs.Values.{bits_along}
-use Rattle.vx_table.specs.Writing.{WritesField, AreItemsOf, Writes}
-use Rattle.vx_table.proofs.Writings.{writes, apart}
+use Rattle.vx_table.specs.Writing.{WritesField, Writes}
+use Rattle.vx_table.proofs.Writings.{writes}
 use Rattle.vx_rpl.specs.Written.{WritesAll, all_taken}
 
 -- from a writer's answer

@@ -2,7 +2,6 @@
 use Rattle.std.specs.Prelude.{◌≡◌, ℕ, zero, suc, ◌+◌, Bool, true, ◌&&◌, not, IsTrue, List, [], ◌∷◌, ◌++◌}
 use Rattle.vx_bits.specs.declared.list.Item.{Item}
 use Rattle.vx_table.specs.declared.rows.Row.{Row}
-use Rattle.vx_table.specs.Parts.{sections_form}
 use Rattle.vx_table.specs.EachField.{rows_pass, sections_pass}
 use Rattle.vx_table.specs.Depends.{has, Agree, DependsOnlyOn, Carries, Leaves}
 use Rattle.vx_table.specs.Claims.{hides, grown, table_depends, behind_table, sections_chain, behind_sections, sections_hide}

@@ -1,5 +1,5 @@
 -- What a writer of the items of one value answers, all of which it takes.
-use Rattle.std.specs.Prelude.{◌≡◌, ℕ, ℤ, ◌==◌, Bool, true, false, cond, List, [], ◌∷◌, ◌++◌, length, OnOk, Result, Ok, Err}
+use Rattle.std.specs.Prelude.{◌≡◌, ℕ, ℤ, ◌==◌, Bool, false, List, [], ◌∷◌, ◌++◌, length, OnOk, Result, Ok, Err}
 use Rattle.vx_bits.specs.declared.list.Item.{Item}
 use Rattle.vx_table.specs.declared.writer.SpellError.{SpellError}
 use Rattle.vx_table.specs.declared.writer.SpellError.TheVariants.{NoValue}
