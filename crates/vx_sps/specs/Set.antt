@@ -1,5 +1,6 @@
 -- A sequence parameter set as its items, what these tell of its pictures, and how it is spelled.
-use Rattle.std.specs.Prelude.{◌≡◌, ◌⊎◌, ℕ, ℤ, ◌+◌, ◌^◌, Bool, ◌&&◌, ◌||◌, ◌==◌, List, [], ◌++◌, count_by, Result, Ok, Err}
+use Rattle.std.specs.Prelude.{◌≡◌, ◌⊎◌, ℕ, ℤ, ◌+◌, ◌^◌, Bool, ◌&&◌, ◌||◌, ◌==◌, List}
+use Rattle.std.specs.Prelude.{[], ◌++◌, count_by, Result, Ok, Err}
 use Rattle.vx_bits.specs.Codes.{bits_of}
 use Rattle.vx_bits.specs.declared.list.Item.{Item}
 use Rattle.vx_bits.specs.declared.refusal.ReadError.{ReadError}

@@ -1,5 +1,6 @@
 -- The subpictures of a set's pictures (H.266 7.4.3.4), from its items.
-use Rattle.std.specs.Prelude.{ℕ, ◌+◌, ◌-◌, ◌*◌, ◌/◌, ◌%◌, max, Bool, cond, ◌==◌, nat_lt, List, length, map, filter, slice_index, slice_index_or}
+use Rattle.std.specs.Prelude.{ℕ, ◌+◌, ◌-◌, ◌*◌, ◌/◌, ◌%◌, max, Bool, cond, ◌==◌, nat_lt}
+use Rattle.std.specs.Prelude.{List, length, map, filter, slice_index, slice_index_or}
 use Rattle.vx_bits.specs.declared.list.Item.{Item}
 use Rattle.vx_fields.specs.declared.sps.TheConstants as sps
 use Rattle.vx_layout.specs.declared.rect.Rect.{Rect}

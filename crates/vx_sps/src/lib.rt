@@ -15,8 +15,6 @@ mod subpictures;
 mod tables;
 #[cfg(test)]
 mod tests;
-#[cfg(test)]
-mod vectors;
 mod walk;
 
 pub use laws::{kept_and_others_tell, kept_depends_on_kept, no_proper_prefix, written_is_read};

@@ -35,19 +35,15 @@ pub struct Sps {
 }
 
 impl Model for Sps {
-    ghost use Rattle.std.specs.Prelude.{◌≡◌, List};
+    ghost use Rattle.std.specs.Prelude.{List};
     ghost use Rattle.vx_bits.specs.declared.list.Item.{Item};
-    ghost use Rattle.vx_table.specs.Scope.{fresh, loaded};
-    ghost use Rattle.vx_rpl.specs.Resolved.{table_of};
-    ghost use Rattle.vx_sps.specs.Set as set;
-    ghost use Rattle.vx_sps.specs.Subpictures.{subpics_of};
-    ghost use Rattle.vx_sps.specs.inner.Kept.{AreSubpictures};
+    ghost use Rattle.vx_sps.specs.inner.Kept.{IsKept};
 
     ghost Value = { List Item };
 
     ghost view = { λ s. s.fields };
 
-    ghost invariant = { λ s. set.IsItems s.fields × (s.scope ≡ loaded fresh s.fields) × AreSubpictures s.fields (subpics_of s.fields) s.subpictures × (s.table ≡ table_of (set.is_weighted s.fields) s.fields) × (s.extra_ph_bits ≡ set.extra_ph_bits_of s.fields) × (s.extra_sh_bits ≡ set.extra_sh_bits_of s.fields) };
+    ghost invariant = { λ s. IsKept s.fields s.scope s.subpictures s.table s.extra_ph_bits s.extra_sh_bits };
 }
 
 /// How many flags of a field are 1.

@@ -121,19 +121,15 @@ struct Told<'a> {
 }
 
 impl<'a> Model for Told<'a> {
-    ghost use Rattle.std.specs.Prelude.{◌≡◌, List};
+    ghost use Rattle.std.specs.Prelude.{List};
     ghost use Rattle.vx_bits.specs.declared.list.Item.{Item};
-    ghost use Rattle.vx_table.specs.Scope.{is_set};
-    ghost use Rattle.vx_table.specs.Loaded.{number};
-    ghost use Rattle.vx_fields.specs.declared.sps.TheConstants as sps;
-    ghost use Rattle.vx_sps.specs.Set as set;
-    ghost use Rattle.vx_sps.specs.Subpictures as spec;
+    ghost use Rattle.vx_sps.specs.inner.Kept.{IsTold};
 
     ghost Value = { List Item };
 
     ghost view = { λ t. t.fields.now };
 
-    ghost invariant = { λ t. (t.columns ≡ set.columns_of t.fields.now) × (t.rows ≡ set.rows_of t.fields.now) × (t.same_size ≡ is_set (number t.fields.now sps.sps_subpic_same_size_flag)) × (t.x ≡ spec.numbers_of t.fields.now sps.sps_subpic_ctu_top_left_x) × (t.y ≡ spec.numbers_of t.fields.now sps.sps_subpic_ctu_top_left_y) × (t.w ≡ spec.numbers_of t.fields.now sps.sps_subpic_width_minus1) × (t.h ≡ spec.numbers_of t.fields.now sps.sps_subpic_height_minus1) × (t.treated ≡ spec.numbers_of t.fields.now sps.sps_subpic_treated_as_pic_flag) × (t.filtered ≡ spec.numbers_of t.fields.now sps.sps_loop_filter_across_subpic_enabled_flag) × (t.ids ≡ spec.numbers_of t.fields.now sps.sps_subpic_id) };
+    ghost invariant = { λ t. IsTold t.fields.now t.columns t.rows t.same_size t.x t.y t.w t.h t.treated t.filtered t.ids };
 }
 
 impl<'a> Told<'a> {

@@ -1,8 +1,27 @@
--- What a set keeps of its items, computed once: the subpictures, one by one.
-use Rattle.std.specs.Prelude.{◌≡◌, ℕ, ◌<◌, List, length, slice_get, Some}
+-- What a set keeps of its items, computed once.
+use Rattle.std.specs.Prelude.{◌≡◌, ℕ, ◌<◌, Bool, List, length, slice_get, Some}
 use Rattle.vx_bits.specs.declared.list.Item.{Item}
+use Rattle.vx_fields.specs.declared.sps.TheConstants as sps
+use Rattle.vx_rpl.specs.declared.entry.RplTable.{RplTable}
+use Rattle.vx_rpl.specs.Resolved.{table_of}
+use Rattle.vx_table.specs.Loaded.{number}
+use Rattle.vx_table.specs.Scope.{fresh, loaded, is_set}
 use Rattle.vx_sps.specs.declared.subpictures.Subpicture.{Subpicture}
-use Rattle.vx_sps.specs.Subpictures.{rect_of, is_treated, is_filtered, id_of}
+use Rattle.vx_sps.specs.Set.{IsItems, columns_of, rows_of, is_weighted, extra_ph_bits_of, extra_sh_bits_of}
+use Rattle.vx_sps.specs.Subpictures.{subpics_of, numbers_of, rect_of, is_treated, is_filtered, id_of}
+
+-- The numbers are what the items tell of the subpictures, field by field, in a picture of so many columns and rows.
+pub record IsTold (items : List Item) (across down : ℕ) (same : Bool) (xs ys ws hs treated_ones filtered_ones all_ids : List ℕ) : Type 0 where
+  pub columns : across ≡ columns_of items
+  pub rows : down ≡ rows_of items
+  pub same_size : same ≡ is_set (number items sps.sps_subpic_same_size_flag)
+  pub x : xs ≡ numbers_of items sps.sps_subpic_ctu_top_left_x
+  pub y : ys ≡ numbers_of items sps.sps_subpic_ctu_top_left_y
+  pub w : ws ≡ numbers_of items sps.sps_subpic_width_minus1
+  pub h : hs ≡ numbers_of items sps.sps_subpic_height_minus1
+  pub treated : treated_ones ≡ numbers_of items sps.sps_subpic_treated_as_pic_flag
+  pub filtered : filtered_ones ≡ numbers_of items sps.sps_loop_filter_across_subpic_enabled_flag
+  pub ids : all_ids ≡ numbers_of items sps.sps_subpic_id
 
 -- what is kept of subpicture i
 abbrev pub subpicture_of : List Item → ℕ → Subpicture
@@ -17,3 +36,12 @@ subpicture_of items i = record {
 pub record AreSubpictures (items : List Item) (n : ℕ) (list : List Subpicture) : Type 0 where
   pub count : length list ≡ n
   pub each : (i : ℕ) → i < n → slice_get list i ≡ Some (subpicture_of items i)
+
+-- All that is kept is what the items of a set tell.
+pub record IsKept (items : List Item) (scope : List ℕ) (list : List Subpicture) (structures : RplTable) (in_ph in_sh : ℕ) : Type 0 where
+  pub set : IsItems items
+  pub numbers : scope ≡ loaded fresh items
+  pub subpictures : AreSubpictures items (subpics_of items) list
+  pub table : structures ≡ table_of (is_weighted items) items
+  pub ph_bits : in_ph ≡ extra_ph_bits_of items
+  pub sh_bits : in_sh ≡ extra_sh_bits_of items

@@ -3,5 +3,5 @@ use Rattle.vx_sps.proofs.sps.Sps.subpicture.Goals as goal
 
 pub returns : goal.returns
 returns c =
-    let kept = c.self.invariant.2.each c.args.i (rw (← c.self.view_is) at c.requires) in
+    let kept = c.self.invariant.subpictures.each c.args.i (rw (← c.self.view_is) at c.requires) in
     rw (← c.self.view_is) (same_entry _ _ _ c.item.ensures.value kept)
