@@ -55,7 +55,7 @@ flag_is (suc zero) few some = refl
 flag_is (suc (suc n)) few some = absurd (omega (arith, few))
 
 -- a picture has few columns and rows of CTUs
-few_units : (n ctu : ℕ) → ctu < 3 → IsSize n → quotient n (2 ^ (ctu + 5)) ≤ 16384
+pub few_units : (n ctu : ℕ) → ctu < 3 → IsSize n → quotient n (2 ^ (ctu + 5)) ≤ 16384
 few_units n zero few is = omega (arith, is.small)
 few_units n (suc zero) few is = omega (arith, is.small)
 few_units n (suc (suc zero)) few is = omega (arith, is.small)

@@ -12,3 +12,6 @@ pub mod Picture
 pub mod Pushed
 pub mod Many
 pub mod Exists
+pub mod With
+pub mod Places
+pub mod Says

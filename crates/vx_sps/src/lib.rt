@@ -6,6 +6,7 @@
 #![tactic(auto)]
 
 mod laws;
+mod laws_reshaped;
 mod read;
 mod reshape;
 mod shape;
@@ -19,6 +20,7 @@ mod tests_vectors;
 mod walk;
 
 pub use laws::{kept_and_others_tell, kept_depends_on_kept, no_proper_prefix, written_is_read};
+pub use laws_reshaped::{reshaped_keeps, reshaped_says};
 pub use read::{read_sps, write_sps};
 pub use reshape::reshape_sps;
 pub use shape::{SpsShape, SubpicPlan};

@@ -1,0 +1,61 @@
+-- What a rewritten sequence parameter set says, and what stays as its source has it.
+use Rattle.std.specs.Prelude.{◌≡◌, ℕ, ◌<◌, Bool, true, false, List, length, slice_index_or, Option, Some, None}
+use Rattle.vx_bits.specs.declared.list.Item.{Item}
+use Rattle.vx_layout.specs.declared.rect.Rect.{Rect}
+use Rattle.vx_layout.specs.Layouts.{no_rect}
+use Rattle.vx_layout.specs.Rects.{whole_picture}
+use Rattle.vx_table.specs.Depends.{set_of}
+use Rattle.vx_table.specs.Scope.{quotient}
+use Rattle.vx_table.specs.Shown.{shown_items}
+use Rattle.vx_sps.specs.declared.shape.SpsShape.{SpsShape}
+use Rattle.vx_sps.specs.declared.shape.SubpicPlan.{SubpicPlan}
+use Rattle.vx_sps.specs.declared.shape.SubpicPlan.TheVariants.{Absent, One, Many}
+use Rattle.vx_sps.specs.Set.{IsItems, width_of, height_of, ctb_size_of}
+use Rattle.vx_sps.specs.Subpictures.{subpics_of, rect_of, is_treated, is_filtered, id_of}
+use Rattle.vx_sps.specs.Depends.{kept}
+use Rattle.vx_sps.specs.Reshaped.{IsShape, IsReshaped}
+
+-- ---- the subpictures of a plan
+
+-- how many there are
+abbrev pub count_in : SubpicPlan → ℕ
+count_in Absent = 1
+count_in (One id_len id) = 1
+count_in (Many rects) = length rects
+
+-- rectangle i, in a picture of so many columns and rows of CTUs
+abbrev pub rect_in : ℕ → ℕ → SubpicPlan → ℕ → Rect
+rect_in columns rows Absent i = whole_picture columns rows
+rect_in columns rows (One id_len id) i = whole_picture columns rows
+rect_in columns rows (Many rects) i = slice_index_or rects i no_rect
+
+-- id i, where no PPS says another
+abbrev pub id_in : SubpicPlan → ℕ → ℕ
+id_in Absent i = i
+id_in (One id_len None) i = i
+id_in (One id_len (Some id)) i = id
+id_in (Many rects) i = i
+
+-- ---- the set
+
+-- It says what the shape says: width, height and subpictures, which are all treated as pictures and not filtered across; its CTUs
+-- are those of the source.
+pub record Says (source : List Item) (shape : SpsShape) (items : List Item) : Type 0 where
+  pub width : width_of items ≡ shape.width
+  pub height : height_of items ≡ shape.height
+  pub ctb : ctb_size_of items ≡ ctb_size_of source
+  pub subpics : subpics_of items ≡ count_in shape.subpics
+  pub rect : (i : ℕ) → i < count_in shape.subpics
+      → rect_of items i ≡ rect_in (quotient shape.width (ctb_size_of source)) (quotient shape.height (ctb_size_of source)) shape.subpics i
+  pub treated : (i : ℕ) → is_treated items i ≡ true
+  pub filtered : (i : ℕ) → is_filtered items i ≡ false
+  pub id : (i : ℕ) → i < count_in shape.subpics → id_of items i ≡ id_in shape.subpics i
+
+abbrev pub ReshapedSays : Type 0
+ReshapedSays = (source items : List Item) (shape : SpsShape) → IsItems source → IsShape (ctb_size_of source) shape
+    → IsReshaped source shape items → Says source shape items
+
+-- Its kept fields are the source's.
+abbrev pub ReshapedKeeps : Type 0
+ReshapedKeeps = (source items : List Item) (shape : SpsShape) → IsReshaped source shape items
+    → shown_items (set_of kept) items ≡ shown_items (set_of kept) source
