@@ -350,7 +350,7 @@ list_gives g last_one deltas group groups grid few first size follow =
     let from : Gives (turns_from g last_one deltas last_one none_listed) (list_items g deltas (group ∷ groups)) all.end = subst (λ k. Gives (turns_from g last_one deltas last_one (record { slices = []; next = k; before = 0 })) (list_items g deltas (group ∷ groups)) all.end) first all.gives in
     subst (λ end. Gives (list_from g last_one deltas) (list_items g deltas (group ∷ groups)) end) all.all_are (gives_end (all_slices g last_one) from)
 
-given_back : (g : Tiles) (last : ℕ) (deltas : Bool) (slices : List Rect) → IsGrid g → last < 1000 → length slices ≡ last + 1 → (groups : InGroups g deltas slices) → Gives (list_from g last deltas) (list_items g deltas (groups.group ∷ groups.groups)) (Some slices)
+pub given_back : (g : Tiles) (last : ℕ) (deltas : Bool) (slices : List Rect) → IsGrid g → last < 1000 → length slices ≡ last + 1 → (groups : InGroups g deltas slices) → Gives (list_from g last deltas) (list_items g deltas (groups.group ∷ groups.groups)) (Some slices)
 given_back g last_one deltas slices grid few size groups =
     subst (λ xs. Gives (list_from g last_one deltas) (list_items g deltas (groups.group ∷ groups.groups)) (Some xs)) groups.same
     (list_gives g last_one deltas groups.group groups.groups grid few groups.first (ap length groups.same ∙ size) groups.follow)

@@ -24,8 +24,8 @@ front = always tables.IDS ∷ always tables.NAL_TYPES ∷ always tables.SIZE ∷
 
 -- behind them: the tools of slices, what stands in picture headers, and the end
 abbrev pub tools : List Section
-tools = always tables.PREDICTION ∷ always tables.INIT_QP ∷ always tables.QP_OFFSETS ∷ always tables.DBF_INFO
-    ∷ always tables.DBF_OFFSETS ∷ always tables.HEADER_INFO ∷ always tables.END ∷ []
+tools = always tables.PREDICTION ∷ always tables.INIT_QP ∷ always tables.QP_OFFSETS ∷ always tables.DBF_CONTROL
+    ∷ always tables.DBF_INFO ∷ always tables.DBF_OFFSETS ∷ always tables.HEADER_INFO ∷ always tables.END ∷ []
 
 -- the tiles and slices of a picture of that size
 abbrev pub partition_at : List ℕ → Form Partition

@@ -69,8 +69,8 @@ pub const PREDICTION: [Row; 7] = table! {
 /// The QP from which slices differ.
 pub const INIT_QP: [Row; 1] = table! { pps_init_qp_minus26*: se in -38..=37; };
 
-/// Offsets of the chroma QP, and whether the deblocking filter is on.
-pub const QP_OFFSETS: [Row; 23] = table! {
+/// Offsets of the chroma QP.
+pub const QP_OFFSETS: [Row; 17] = table! {
     pps_cu_qp_delta_enabled_flag;
     pps_chroma_tool_offsets_present_flag;
     if pps_chroma_tool_offsets_present_flag {
@@ -89,6 +89,10 @@ pub const QP_OFFSETS: [Row; 23] = table! {
             }
         }
     }
+};
+
+/// Whether the deblocking filter is on.
+pub const DBF_CONTROL: [Row; 6] = table! {
     pps_deblocking_filter_control_present_flag;
     default pps_deblocking_filter_override_enabled_flag = 0;
     default pps_deblocking_filter_disabled_flag = 0;

@@ -9,8 +9,8 @@ use crate::halt::Halt;
 use crate::numbers::code_sections;
 use crate::partition::{Partition, code_partition};
 use crate::tables::{
-    DBF_INFO, DBF_OFFSETS, END, HEADER_INFO, IDS, INIT_QP, NAL_TYPES, OUTPUT, PREDICTION,
-    QP_OFFSETS, SIZE, SUBPIC_IDS,
+    DBF_CONTROL, DBF_INFO, DBF_OFFSETS, END, HEADER_INFO, IDS, INIT_QP, NAL_TYPES, OUTPUT,
+    PREDICTION, QP_OFFSETS, SIZE, SUBPIC_IDS,
 };
 use std::alloc::Global;
 use vx_fields::pps::{
@@ -47,6 +47,7 @@ fn code_tools<I, C: Coder<I>>(
             PREDICTION,
             INIT_QP,
             QP_OFFSETS,
+            DBF_CONTROL,
             DBF_INFO,
             DBF_OFFSETS,
             HEADER_INFO,

@@ -31,3 +31,4 @@ pub mod Joined
 pub mod Spelled
 pub mod Values
 pub mod Writings
+pub mod Groups
