@@ -9,12 +9,18 @@ mod grid;
 mod groups;
 mod halt;
 mod laws;
+mod laws_sets;
 mod list;
 mod list_items;
 mod numbers;
 mod partition;
 mod pps;
 mod read;
+<<<<<<< HEAD
+=======
+#[cfg(test)]
+mod rows;
+>>>>>>> b2208fe0e9fd95bc2a70ca812d6d08d449a150b6
 mod shape;
 mod tables;
 #[cfg(test)]
@@ -29,6 +35,9 @@ mod walk;
 pub use laws::{
     bounds_are_read_back, few_are_read_back, few_fall_into_groups, layouts_are_lists,
     list_gives_slices, lists_fall_into_groups, slices_are_read_back,
+};
+pub use laws_sets::{
+    kept_and_others_tell, kept_depends_on_kept, no_proper_prefix, written_is_read,
 };
 pub use list::Listed;
 pub use partition::Partition;
