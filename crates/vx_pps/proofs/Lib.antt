@@ -19,3 +19,5 @@ pub mod Testing
 pub mod Fronts
 pub mod Tooled
 pub mod Cutting
+pub mod Reshaping
+pub mod Remade

@@ -15,6 +15,7 @@ mod numbers;
 mod partition;
 mod pps;
 mod read;
+mod reshape;
 mod shape;
 mod tables;
 #[cfg(test)]
@@ -34,6 +35,7 @@ pub use list::Listed;
 pub use partition::Partition;
 pub use pps::Pps;
 pub use read::{keep_pps, read_pps, write_pps};
+pub use reshape::reshape_pps;
 pub use shape::{PpsShape, TAKEN, TAKEN_FOR_FRAME};
 pub use tables::{
     DBF_CONTROL, DBF_INFO, DBF_OFFSETS, END, HEADER_INFO, IDS, INIT_QP, NAL_TYPES, OUTPUT,
