@@ -16,6 +16,7 @@ use Rattle.vx_table.specs.EachField.{EachField}
 use Rattle.vx_table.specs.Forms.{Form, done, ◌>>=◌, has_value}
 use Rattle.vx_table.specs.Scope.{is_set, natural, one_if, powers_below}
 use Rattle.vx_table.specs.Spelling.{HasCode, fault_of, item_of}
+use Rattle.vx_table.specs.Trailing.{is_trailing}
 use Rattle.vx_table.specs.Values.{Follows, to_end, through}
 use Rattle.vx_table.proofs.EachField.{each_then}
 use Rattle.vx_bits.specs.declared.rules.TheConstants.{TOO_MANY_SLICES, RASTER_SCAN_SLICES}
@@ -39,22 +40,24 @@ use Rattle.vx_pps.proofs.Pictures.{layouts_are}
 
 -- one of the fields of tiles and slices, which isn't kept
 abbrev pub IsDividing : Cell ℕ → Type 0
-IsDividing cell = (417 ≤ cell.field) × (cell.field ≤ 432) × (cell.kept ≡ false)
+IsDividing cell = (417 ≤ cell.field) × (cell.field ≤ 432) × (cell.kept ≡ false) × (is_trailing cell.coding ≡ false)
 
 each_number : (of : ℕ) (limits : Limits ℕ) → 417 ≤ of → of ≤ 432 → EachField IsDividing (number of limits)
-each_number of limits low high = ((low, high, refl), λ v. tt)
+unfolding is_trailing
+each_number of limits low high = ((low, high, refl, refl), λ v. tt)
 
 each_fixed : (of bits : ℕ) (limits : Limits ℕ) → 417 ≤ of → of ≤ 432 → EachField IsDividing (fixed of bits limits)
-unfolding fixed
-each_fixed of bits limits low high = ((low, high, refl), λ v. tt)
+unfolding fixed is_trailing
+each_fixed of bits limits low high = ((low, high, refl, refl), λ v. tt)
 
 each_cond : {A : Type 0} (b : Bool) (f g : Form A) → EachField IsDividing f → EachField IsDividing g → EachField IsDividing (cond b f g)
 each_cond true f g on off = on
 each_cond false f g on off = off
 
 each_sizes : (of more left : ℕ) (sizes : List ℕ) → 417 ≤ of → of ≤ 432 → EachField IsDividing (sizes_from of more left sizes)
+unfolding is_trailing
 each_sizes of zero left sizes low high = tt
-each_sizes of (suc more) left sizes low high = ((low, high, refl), λ v. each_sizes of more (left - (natural v + 1)) (sizes ++ (natural v + 1) ∷ []) low high)
+each_sizes of (suc more) left sizes low high = ((low, high, refl, refl), λ v. each_sizes of more (left - (natural v + 1)) (sizes ++ (natural v + 1) ∷ []) low high)
 
 each_counted : (of bound : ℕ) → 417 ≤ of → of ≤ 432 → EachField IsDividing (counted of bound)
 unfolding counted
@@ -93,19 +96,22 @@ each_height g deltas t before =
     (each_cond (spells_height g deltas t) spelled (done before) (each_number pps.pps_slice_height_in_tiles_minus1 limits (omega arith) (omega arith)) tt)
 
 each_strips : (t : Rect) (last more y size : ℕ) (slices : List Rect) → EachField IsDividing (strips_from t last more y size slices)
+unfolding is_trailing
 each_strips t last_one zero y size slices = tt
-each_strips t last_one (suc more) y size slices = ((omega arith, omega arith, refl), λ v. each_strips t last_one more (y + (natural v + 1)) (natural v + 1) _)
+each_strips t last_one (suc more) y size slices = ((omega arith, omega arith, refl, refl), λ v. each_strips t last_one more (y + (natural v + 1)) (natural v + 1) _)
 
 each_in_tile : (t : Rect) (last : ℕ) (slices : List Rect) → EachField IsDividing (slices_in_tile t last slices)
+unfolding is_trailing
 each_in_tile t last_one slices =
-    ((omega arith, omega arith, refl), λ v. each_cond (eqb (natural v) 0) (done (slices ++ t ∷ [])) (strips_from t last_one (natural v) t.y 0 slices) tt (each_strips t last_one (natural v) t.y 0 slices))
+    ((omega arith, omega arith, refl, refl), λ v. each_cond (eqb (natural v) 0) (done (slices ++ t ∷ [])) (strips_from t last_one (natural v) t.y 0 slices) tt (each_strips t last_one (natural v) t.y 0 slices))
 
 each_slices_at : (g : Tiles) (last t width height : ℕ) (slices : List Rect) → EachField IsDividing (slices_at g last t width height slices)
 each_slices_at g last_one t width height slices =
     each_cond (may_be_cut width height (tile g t)) (slices_in_tile (tile g t) last_one slices) (done (slices ++ block g t (width + 1) (height + 1) ∷ [])) (each_in_tile (tile g t) last_one slices) tt
 
 each_after : (g : Tiles) (spelled : Bool) (t width height : ℕ) → EachField IsDividing (tile_after g spelled t width height)
-each_after g spelled t width height = each_cond spelled (delta g t) (done (tile_behind g t width height)) ((omega arith, omega arith, refl), λ v. tt) tt
+unfolding is_trailing
+each_after g spelled t width height = each_cond spelled (delta g t) (done (tile_behind g t width height)) ((omega arith, omega arith, refl, refl), λ v. tt) tt
 
 each_turn : (g : Tiles) (last : ℕ) (deltas : Bool) (at : Listed) → EachField IsDividing (turn g last deltas at)
 each_turn g last_one deltas at =

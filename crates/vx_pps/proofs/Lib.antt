@@ -5,6 +5,7 @@ mod Sizing
 mod Turning
 mod Told
 mod Sets
+mod Spelling
 pub mod Blocks
 pub mod Runs
 pub mod Grouping

@@ -9,6 +9,7 @@ mod grid;
 mod groups;
 mod halt;
 mod laws;
+mod laws_sets;
 mod list;
 mod list_items;
 mod numbers;
@@ -16,6 +17,8 @@ mod partition;
 mod pps;
 mod read;
 mod reshape;
+#[cfg(test)]
+mod rows;
 mod shape;
 mod tables;
 #[cfg(test)]
@@ -30,6 +33,9 @@ mod walk;
 pub use laws::{
     bounds_are_read_back, few_are_read_back, few_fall_into_groups, layouts_are_lists,
     list_gives_slices, lists_fall_into_groups, slices_are_read_back,
+};
+pub use laws_sets::{
+    kept_and_others_tell, kept_depends_on_kept, no_proper_prefix, written_is_read,
 };
 pub use list::Listed;
 pub use partition::Partition;

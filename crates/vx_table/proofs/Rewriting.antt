@@ -98,7 +98,7 @@ front_others : (names : List ℕ) (xs ys more : List Item) → other_items names
 front_others names xs ys more = ap (λ x. x ++ more) (filter-append (λ item. not (has names item.field)) xs ys) ∙ append_assoc (other_items names xs) (other_items names ys) more
 
 -- lists that begin with the shown items and with the others of values tell the values and what is left
-apart : (names : List ℕ) {form : Form (List ℕ)} {v w : List ℤ} {x y : List ℕ} (a b c d : List Item) → Follows form v x → Follows form w y
+pub apart : {A : Type 0} (names : List ℕ) {form : Form A} {v w : List ℤ} {x y : A} (a b c d : List Item) → Follows form v x → Follows form w y
     → shown_items names (items_along form v) ++ a ≡ shown_items names (items_along form w) ++ b → other_items names (items_along form v) ++ c ≡ other_items names (items_along form w) ++ d
     → (v ≡ w) × (a ≡ b) × (c ≡ d)
 apart names a b c d to_end to_end same_shown same_others = (refl, same_shown, same_others)
