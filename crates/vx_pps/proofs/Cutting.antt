@@ -230,7 +230,7 @@ module _ {items : List Item} {end : Partition} (p : Parts items end) where
   loaded_all : loaded fresh items ≡ loaded (loaded (loaded fresh p.front_items) p.division) p.tool_items
   loaded_all = ap (λ xs. loaded fresh xs) p.all ∙ loaded_then fresh p.front_items (p.division ++ p.tool_items) ∙ loaded_then (loaded fresh p.front_items) p.division p.tool_items
 
-  front_loads : Agree numbered (loaded fresh p.front_items) p.scope
+  pub front_loads : Agree numbered (loaded fresh p.front_items) p.scope
   front_loads = subst (λ xs. Agree numbered (loaded fresh xs) p.scope) p.first.given ((sections_load numbered front front_numbered).at fresh p.first.values p.scope p.first.follows)
 
   pub numbers_told : (n : ℕ) → IsTrue (has numbered n) → slice_index p.last n ≡ number items n

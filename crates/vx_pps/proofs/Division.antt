@@ -24,7 +24,7 @@ use Rattle.vx_pps.specs.declared.list.Listed.{Listed}
 use Rattle.vx_pps.specs.declared.partition.Partition.{Partition}
 use Rattle.vx_pps.specs.declared.shape.PpsShape.{PpsShape}
 use Rattle.vx_pps.specs.declared.tiles.Tiles.{Tiles}
-use Rattle.vx_pps.specs.Tiles.{across, block, column, down, row, tile, tile_behind}
+use Rattle.vx_pps.specs.Tiles.{IsGrid, across, block, column, down, row, tile, tile_behind}
 use Rattle.vx_pps.specs.Groups.{Group, InGroups, IsList, spells_height}
 use Rattle.vx_pps.specs.Partition.{across_flag, counted, ctu_size, ctus, deltas_flag, divided, fixed, flag, impossible_flag, last_slice, listed_slices, partition, sizes_of, slices_among, subpicture_slices, tile_flags, tiles_among, undivided}
 use Rattle.vx_pps.specs.Reshaped.{CanBeDivided, Divides, divided_items, has_deltas, slice_items, tile_flag_items, tile_items, where_so}
@@ -308,6 +308,9 @@ log2_of (suc (suc (suc n))) low = absurd (omega arith)
 
 gives_ctu : (log2 : ℕ) → log2 < 3 → Gives ctu_size (item pps.pps_log2_ctu_size_minus5 (pos log2)) log2
 gives_ctu log2 low = gives_fixed pps.pps_log2_ctu_size_minus5 2 log2 (below 3) (omega arith) (omega arith) (below_allows log2 3 low)
+
+pub grid_of : (shape : PpsShape) → CanBeDivided shape → IsGrid shape.tiles
+grid_of shape can = (layouts_are shape.tiles shape.slices can.layout can.listable).grid
 
 -- a picture's tiles and slices
 pub record Division (shape : PpsShape) : Type 0 where

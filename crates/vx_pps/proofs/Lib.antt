@@ -20,3 +20,5 @@ pub mod Testing
 pub mod Fronts
 pub mod Tooled
 pub mod Cutting
+pub mod Reshaping
+pub mod Remade

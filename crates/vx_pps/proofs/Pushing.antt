@@ -3,7 +3,8 @@ use Rattle.std.proofs.Common.{neg_ℤ, ◌+ℤ◌}
 use Rattle.std.proofs.Common.{◌≡◌, ℕ, pos, suc, ◌*◌, ◌+◌, ◌-◌, ◌<◌, ◌≤◌, leb, eqb, ltb, ◌&&◌, Bool, true, false, cond, List, [], ◌∷◌, ◌++◌, length, map, take, drop, get_or, sym, ap, ◌∙◌, inl, inr, arith, refl, append_assoc, drop-cons, length-append}
 use Rattle.std.proofs.lemmas.Bool.{cases_Bool, cases_lt, false_from_ne_true, eqb-false, eqb-true, le-leb, leb-true, ne_eqb, true≢false}
 use Rattle.std.proofs.lemmas.List.{append-nil, drop_all, get_or_append_left, get_or-map, get_or-take, length-map, length-take-le, take-map}
-use Rattle.std.proofs.lemmas.List.Elements.{All-head, All-tail}
+use Rattle.std.specs.List.{All}
+use Rattle.std.proofs.lemmas.List.Elements.{All-cons, All-head, All-nil, All-tail}
 use Rattle.vx_fields.specs.declared.pps.TheConstants as pps
 use Rattle.vx_bits.specs.declared.list.Item.{Item}
 use Rattle.vx_layout.specs.declared.rect.Rect.{Rect}
@@ -13,7 +14,7 @@ use Rattle.vx_layout.proofs.Tiling.{last-get_or}
 use Rattle.vx_pps.specs.declared.groups.Span.{Span}
 use Rattle.vx_pps.specs.declared.tiles.Tiles.{Tiles}
 use Rattle.vx_pps.specs.Tiles.{across, block, column, down, row, tile}
-use Rattle.vx_pps.specs.Groups.{Group, cut, slices_of, slices_of_all, start, strips, whole}
+use Rattle.vx_pps.specs.Groups.{Follow, Group, InGroups, cut, high_of, slices_of, slices_of_all, start, strips, whole}
 use Rattle.vx_pps.specs.Written.{delta_items, height_items, heights_items, item, list_items, size_items, strip_items, width_items}
 use Rattle.vx_pps.specs.inner.Found.{AreGroups, IsSpan, LiesInside, Stand, delta_behind, group_items}
 use Rattle.vx_pps.proofs.Few.{group_some, strips_length}
@@ -258,3 +259,22 @@ delta_pushed g tile_ next r (group ∷ more) behind items new are some first fou
     let at = corner g group r is in
     let next_is : next ≡ start group = found (start group) is.inside (at.0 ∙ ap (λ (q : Rect). q.x) (sym here)) (at.1 ∙ ap (λ (q : Rect). q.y) (sym here)) in
     pushed ∙ ap (λ n. items ++ item pps.pps_tile_idx_delta_val (pos n +ℤ neg_ℤ (pos tile_))) next_is
+
+-- ---- parts one behind another
+
+pub three_parts : (before a b c one two three : List Item) → one ≡ before ++ a → two ≡ one ++ b → three ≡ two ++ c → three ≡ before ++ (a ++ (b ++ c))
+three_parts before a b c one two three is_one is_two is_three = is_three ∙ ap (λ xs. xs ++ c) (is_two ∙ ap (λ xs. xs ++ b) is_one) ∙ simp append_assoc
+
+pub five_parts : (before a b c d e one two three four five : List Item) → one ≡ before ++ a → two ≡ one ++ b → three ≡ two ++ c → four ≡ three ++ d → five ≡ four ++ e → five ≡ before ++ (a ++ (b ++ (c ++ (d ++ e))))
+five_parts before a b c d e one two three four five is_one is_two is_three is_four is_five =
+    is_five ∙ ap (λ xs. xs ++ e) (four_parts before a b c d one two three four is_one is_two is_three is_four) ∙ simp append_assoc
+
+-- groups that can be listed lie in the picture
+follow_inside : (g : Tiles) (deltas : Bool) (before : ℕ) (groups : List Group) → Follow g deltas before groups → All (LiesInside g) groups
+follow_inside g deltas before [] follow = absurd follow
+follow_inside g deltas before (group ∷ []) follow = All-cons (LiesInside g) group [] (record { inside = follow.0.inside; lies = follow.0.lies }) (All-nil (LiesInside g))
+follow_inside g deltas before (group ∷ next ∷ more) follow =
+    All-cons (LiesInside g) group (next ∷ more) (record { inside = follow.0.inside; lies = follow.0.lies }) (follow_inside g deltas (high_of group - 1) (next ∷ more) follow.2)
+
+pub are_groups : {g : Tiles} {deltas : Bool} {slices : List Rect} (groups : InGroups g deltas slices) → AreGroups g (groups.group ∷ groups.groups) slices
+are_groups {g} {deltas} groups = record { same = groups.same; inside = follow_inside g deltas 0 (groups.group ∷ groups.groups) groups.follow }

@@ -51,9 +51,10 @@ no_more of = All-nil (λ item. (item.field == of) ≡ false)
 none_ids : (of whole_ : ℕ) (id : Option (ℕ × ℕ)) → of < 413 → NoneOf of (id_items whole_ id)
 none_ids of whole_ None low = no_item of pps.pps_subpic_id_mapping_present_flag (pos 0) [] low (no_more of)
 none_ids of whole_ (Some (bits, id)) low =
-    no_item of pps.pps_subpic_id_mapping_present_flag (pos 1) _ low
-    (none_where of pps.pps_num_subpics_minus1 (pos 0) (eqb whole_ 0) _ (omega (arith, low))
-    (no_item of pps.pps_subpic_id_len_minus1 (pos bits) _ (omega (arith, low)) (no_item of pps.pps_subpic_id (pos id) [] (omega (arith, low)) (no_more of))))
+    no_item of pps.pps_subpic_id_mapping_present_flag (pos 1)
+    (where_so (eqb whole_ 0) (item pps.pps_num_subpics_minus1 (pos 0)) ++ (item pps.pps_subpic_id_len_minus1 (pos bits) ++ item pps.pps_subpic_id (pos id))) low
+    (none_where of pps.pps_num_subpics_minus1 (pos 0) (eqb whole_ 0) (item pps.pps_subpic_id_len_minus1 (pos bits) ++ item pps.pps_subpic_id (pos id)) (omega (arith, low))
+    (no_item of pps.pps_subpic_id_len_minus1 (pos bits) (item pps.pps_subpic_id (pos id)) (omega (arith, low)) (no_item of pps.pps_subpic_id (pos id) [] (omega (arith, low)) (no_more of))))
 
 stated_whole : (whole_ : ℕ) (shape : PpsShape) → whole_ < 2 → number (front_items whole_ shape) pps.pps_no_pic_partition_flag ≡ whole_
 stated_whole whole_ shape low =
@@ -68,7 +69,8 @@ stated_height whole_ shape is =
     number_of_last pps.pps_pic_height_in_luma_samples (pos shape.height)
     (item pps.pps_pic_parameter_set_id (pos shape.id) ++ (item pps.pps_seq_parameter_set_id (pos shape.sps_id) ++ item pps.pps_pic_width_in_luma_samples (pos shape.width)))
     (item pps.pps_conformance_window_flag (pos 0) ++ (item pps.pps_no_pic_partition_flag (pos whole_) ++ id_items whole_ shape.subpic_id)) (omega arith)
-    (no_item pps.pps_pic_height_in_luma_samples pps.pps_conformance_window_flag (pos 0) _ (omega arith) (no_item pps.pps_pic_height_in_luma_samples pps.pps_no_pic_partition_flag (pos whole_) _ (omega arith) (none_ids pps.pps_pic_height_in_luma_samples whole_ shape.subpic_id (omega arith))))
+    (no_item pps.pps_pic_height_in_luma_samples pps.pps_conformance_window_flag (pos 0) (item pps.pps_no_pic_partition_flag (pos whole_) ++ id_items whole_ shape.subpic_id) (omega arith)
+    (no_item pps.pps_pic_height_in_luma_samples pps.pps_no_pic_partition_flag (pos whole_) (id_items whole_ shape.subpic_id) (omega arith) (none_ids pps.pps_pic_height_in_luma_samples whole_ shape.subpic_id (omega arith))))
     ∙ natural_is shape.height (omega (arith, is.small))
 
 stated_width : (whole_ : ℕ) (shape : PpsShape) → IsSize shape.width → number (front_items whole_ shape) pps.pps_pic_width_in_luma_samples ≡ shape.width
@@ -76,8 +78,9 @@ stated_width whole_ shape is =
     number_of_last pps.pps_pic_width_in_luma_samples (pos shape.width)
     (item pps.pps_pic_parameter_set_id (pos shape.id) ++ item pps.pps_seq_parameter_set_id (pos shape.sps_id))
     (item pps.pps_pic_height_in_luma_samples (pos shape.height) ++ (item pps.pps_conformance_window_flag (pos 0) ++ (item pps.pps_no_pic_partition_flag (pos whole_) ++ id_items whole_ shape.subpic_id))) (omega arith)
-    (no_item pps.pps_pic_width_in_luma_samples pps.pps_pic_height_in_luma_samples (pos shape.height) _ (omega arith)
-    (no_item pps.pps_pic_width_in_luma_samples pps.pps_conformance_window_flag (pos 0) _ (omega arith) (no_item pps.pps_pic_width_in_luma_samples pps.pps_no_pic_partition_flag (pos whole_) _ (omega arith) (none_ids pps.pps_pic_width_in_luma_samples whole_ shape.subpic_id (omega arith)))))
+    (no_item pps.pps_pic_width_in_luma_samples pps.pps_pic_height_in_luma_samples (pos shape.height) (item pps.pps_conformance_window_flag (pos 0) ++ (item pps.pps_no_pic_partition_flag (pos whole_) ++ id_items whole_ shape.subpic_id)) (omega arith)
+    (no_item pps.pps_pic_width_in_luma_samples pps.pps_conformance_window_flag (pos 0) (item pps.pps_no_pic_partition_flag (pos whole_) ++ id_items whole_ shape.subpic_id) (omega arith)
+    (no_item pps.pps_pic_width_in_luma_samples pps.pps_no_pic_partition_flag (pos whole_) (id_items whole_ shape.subpic_id) (omega arith) (none_ids pps.pps_pic_width_in_luma_samples whole_ shape.subpic_id (omega arith)))))
     ∙ natural_is shape.width (omega (arith, is.small))
 
 -- ---- sets
@@ -221,8 +224,8 @@ reshapes source end shape gives is =
     let d = divide whole_ shape low is.divided in
     let t = tools_gone shape.merged p shape.init_qp f.last is.init_qp.0 is.init_qp.1 f.agree f.long f.whole_is in
     let there : Gives (partition_at f.last) d.items d.end = subst (λ n. Gives (partition n (slice_index f.last pps.pps_pic_width_in_luma_samples) (slice_index f.last pps.pps_pic_height_in_luma_samples)) d.items d.end) (sym f.whole_is)
-        (subst (λ n. Gives (partition whole_ n (slice_index f.last pps.pps_pic_height_in_luma_samples)) d.items d.end) (sym f.width_is)
-        (subst (λ n. Gives (partition whole_ shape.width n) d.items d.end) (sym f.height_is) d.gives)) in
+    (subst (λ n. Gives (partition whole_ n (slice_index f.last pps.pps_pic_height_in_luma_samples)) d.items d.end) (sym f.width_is)
+    (subst (λ n. Gives (partition whole_ shape.width n) d.items d.end) (sym f.height_is) d.gives)) in
     let all = put_parts f.gives there t.gives in
     let clear = names_clear shape.merged in
     let old = division_unshown set p.scope clear p.second in

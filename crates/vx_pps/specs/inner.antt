@@ -1,3 +1,4 @@
 -- What serves bodies and proofs alone: nothing that a caller has to believe.
 pub mod Found
 pub mod Walked
+pub mod Stated

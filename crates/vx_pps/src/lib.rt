@@ -17,10 +17,16 @@ mod partition;
 mod pps;
 mod read;
 <<<<<<< HEAD
+<<<<<<< HEAD
 =======
 #[cfg(test)]
 mod rows;
 >>>>>>> b2208fe0e9fd95bc2a70ca812d6d08d449a150b6
+=======
+mod reshape;
+#[cfg(test)]
+mod rows;
+>>>>>>> 2add4cea8cafcf185ae35b337540d2c27a1a17c4
 mod shape;
 mod tables;
 #[cfg(test)]
@@ -43,6 +49,7 @@ pub use list::Listed;
 pub use partition::Partition;
 pub use pps::Pps;
 pub use read::{keep_pps, read_pps, write_pps};
+pub use reshape::reshape_pps;
 pub use shape::{PpsShape, TAKEN, TAKEN_FOR_FRAME};
 pub use tables::{
     DBF_CONTROL, DBF_INFO, DBF_OFFSETS, END, HEADER_INFO, IDS, INIT_QP, NAL_TYPES, OUTPUT,
