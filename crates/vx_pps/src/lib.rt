@@ -16,17 +16,9 @@ mod numbers;
 mod partition;
 mod pps;
 mod read;
-<<<<<<< HEAD
-<<<<<<< HEAD
-=======
-#[cfg(test)]
-mod rows;
->>>>>>> b2208fe0e9fd95bc2a70ca812d6d08d449a150b6
-=======
 mod reshape;
 #[cfg(test)]
 mod rows;
->>>>>>> 2add4cea8cafcf185ae35b337540d2c27a1a17c4
 mod shape;
 mod tables;
 #[cfg(test)]
