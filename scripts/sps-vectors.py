@@ -19,7 +19,7 @@ def hashed(text):
 
 
 def bytes_of(rbsp):
-    return "&[" + ", ".join("0x" + rbsp[i : i + 2] for i in range(0, len(rbsp.replace("-", "")), 2)) + "]"
+    return 'b"' + "".join("\\x" + rbsp[i : i + 2] for i in range(0, len(rbsp.replace("-", "")), 2)) + '"'
 
 
 def refusal(text):
