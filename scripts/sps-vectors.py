@@ -7,7 +7,6 @@ A line of SETS has an RBSP in hexadecimal, and `ok` with its items or `refused` 
 an RBSP and what the set tells. Items and meaning stand in the test as one number, by FNV-1a: as text they would take longer to
 check than all else.
 """
-import re
 import sys
 
 
@@ -19,15 +18,7 @@ def hashed(text):
 
 
 def bytes_of(rbsp):
-    return "&[" + ", ".join("0x" + rbsp[i : i + 2] for i in range(0, len(rbsp.replace("-", "")), 2)) + "]"
-
-
-def refusal(text):
-    kind, parts = text.split(" ", 1)
-    if kind == "Y":
-        field, bit, cause = re.match(r"field=(\d+) bit=(\d+) cause=(\w+)$", parts).groups()
-        return f"syntax({field}, {bit}, BitCause::{cause})"
-    return f"{'Profile' if kind == 'P' else 'Limit'} {{ {parts.replace('=', ': ')} }}"
+    return 'b"' + "".join("\\x" + rbsp[i : i + 2] for i in range(0, len(rbsp.replace("-", "")), 2)) + '"'
 
 
 def table(name, wanted, rows):
@@ -41,10 +32,8 @@ sets = [line.rstrip("\n").split(" ", 2) for line in open(sys.argv[1])]
 meanings = dict(line.rstrip("\n").split(" ", 1) for line in open(sys.argv[2]))
 print("""//! Cases by a model of the syntax that isn't ours. Written by scripts/sps-vectors.py.
 
-use crate::tests::{is_written_as, read, syntax, told_hash};
+use crate::tests::{is_written_as, read, refusal, told_hash};
 use std::test::Fail;
-use vx_bits::Refusal::{Limit, Profile};
-use vx_bits::{BitCause, ReadError, Refusal};
 
 /// RBSPs, each with a hash of its items and what they tell.
 #[test]
@@ -61,13 +50,11 @@ print("""    for (rbsp, wanted) in sets {
 
 /// RBSPs, each with its refusal.
 #[test]
-fn refuses_sets(rt: HostRuntime) {""")
-table("sets", "Refusal", [(rbsp, refusal(answer)) for rbsp, kind, answer in sets if kind == "refused"])
+fn refuses_sets(rt: HostRuntime) -> Result<(), Fail> {""")
+table("sets", "&str", [(rbsp, f'"{answer}"') for rbsp, kind, answer in sets if kind == "refused"])
 print("""    for (rbsp, wanted) in sets {
         assert!(rt; rbsp.len() <= 50000);
-        match read(rt.alloc(), rbsp) {
-            Err(ReadError::Refused(refusal)) => assert_eq!(rt; refusal, wanted),
-            _ => assert!(rt; false, "{rbsp:?}"),
-        }
+        assert_eq!(rt; refusal(rt.alloc(), rbsp)?.as_str(), wanted, "{rbsp:?}");
     }
+    Ok(())
 }""")

@@ -4,13 +4,13 @@ ghost use Rattle.std.specs.Prelude.{◌≤◌, length};
 use crate::{Sps, read_sps, write_sps};
 use std::alloc::{AllocError, Global};
 use std::test::Fail;
-use vx_bits::Refusal::{Limit, Profile};
+use vx_bits::Refusal::{Limit, Profile, Syntax};
 use vx_bits::{BitCause, BitWriter, Fields, Item, ReadError, Refusal};
 use vx_layout::Rect;
 use vx_rpl::{RefEntry, RefList, StructureList};
 
 /// A malformed field.
-pub(crate) const fn syntax(field: u16, bit: u32, cause: BitCause) -> Refusal {
+const fn syntax(field: u16, bit: u32, cause: BitCause) -> Refusal {
     Refusal::Syntax { field, bit, cause }
 }
 
@@ -155,6 +155,22 @@ fn answer(alloc: Global, rbsp: &[u8]) -> Result<(), ReadError>
 {
     read(alloc, rbsp)?;
     Ok(())
+}
+
+/// The refusal of an RBSP as text; none of one that is read.
+pub(crate) fn refusal(alloc: Global, rbsp: &[u8]) -> Result<String, AllocError>
+    requires { length rbsp.now ≤ 50000 }
+{
+    let mut text = String::new(alloc);
+    match answer(alloc, rbsp) {
+        Err(ReadError::Refused(Syntax { field, bit, cause })) => {
+            write!(text, "Y field={field} bit={bit} cause={cause:?}")?;
+        }
+        Err(ReadError::Refused(Profile { code })) => write!(text, "P code={code}")?,
+        Err(ReadError::Refused(Limit { code })) => write!(text, "L code={code}")?,
+        _ => {}
+    }
+    Ok(text)
 }
 
 /// A refused set.
