@@ -22,7 +22,7 @@ use Rattle.vx_sps.specs.declared.tables.TheConstants.{TAKEN}
 use Rattle.vx_sps.specs.Structure.{ids, start, profile, resampling, picture, counts, dpb, tools, timing, end, sps_sections, sps_form}
 use Rattle.vx_sps.specs.Reshaped.{id_items, profile_items, picture_items, dpb_items, timing_items, stated, IsReshaped}
 use Rattle.vx_sps.proofs.Groups.{cut, copied_group, replaced_group, groups_rewrite, inside_nothing, standing}
-use Rattle.vx_sps.proofs.Tests as tests
+use Rattle.vx_sps.proofs.Rows as tests
 
 -- What is stated goes through the replaced groups, at each scope that has the numbers which they read.
 pub record Replaces (source : List Item) (shape : SpsShape) : Type 0 where

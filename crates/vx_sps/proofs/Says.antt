@@ -71,9 +71,11 @@ dpb_beside source numbers = passing_append beside _ _ (passing_where beside (is_
 rate_beside : (source : List Item) → Passing beside (rate_items source)
 rate_beside source =
     let general = is_set (number source timing.fixed_pic_rate_general_flag) in
-    let within = is_set (number source timing.fixed_pic_rate_within_cvs_flag) in
-    (refl, passing_append beside (where_so (not general) (same source timing.fixed_pic_rate_within_cvs_flag ∷ [])) (where_so (general || within) (same source timing.elemental_duration_in_tc_minus1 ∷ []))
-    (passing_where beside (not general) _ (refl, tt)) (passing_where beside (general || within) _ (refl, tt)))
+    let within = is_set (number source timing.fixed_pic_rate_within_cvs_flag) in (
+      refl,
+      passing_append beside (where_so (not general) (same source timing.fixed_pic_rate_within_cvs_flag ∷ [])) (where_so (general || within) (same source timing.elemental_duration_in_tc_minus1 ∷ []))
+          (passing_where beside (not general) _ (refl, tt)) (passing_where beside (general || within) _ (refl, tt)),
+    )
 
 timing_beside : (source : List Item) → Passing beside (timing_items source)
 timing_beside source =
@@ -233,8 +235,8 @@ module _ (columns rows : ℕ) where
       ∙ ap (λ l. own (corners (length rects) columns (λ i. (rect_at rects i).x)) (corners (length rects) rows (λ i. (rect_at rects i).y)) (sizes (length rects) columns (λ i. (rect_at rects i).w)) l i) hs
       ∙ same_rect _ _ _ _ (rect_at rects i) x y (rw x w) (rw y h)
     where
-    same_rect : (a b c d : ℕ) (r : Rect) → a ≡ r.x → b ≡ r.y → c ≡ r.w → d ≡ r.h → record { x = a; y = b; w = c; h = d } ≡ r
-    same_rect a b c d r e f g h = rw (e, f, g, h) refl
+      same_rect : (a b c d : ℕ) (r : Rect) → a ≡ r.x → b ≡ r.y → c ≡ r.w → d ≡ r.h → record { x = a; y = b; w = c; h = d } ≡ r
+      same_rect a b c d r e f g h = rw (e, f, g, h) refl
 
 own_same : {c d r s : ℕ} {xs ys ws hs x' y' w' h' : List ℕ} (i : ℕ) → c ≡ d → r ≡ s → xs ≡ x' → ys ≡ y' → ws ≡ w' → hs ≡ h' → own c r xs ys ws hs i ≡ own d s x' y' w' h' i
 own_same i a b e f g h = rw (a, b, e, f, g, h) refl
