@@ -1,11 +1,11 @@
 -- What a binary search over bounds finds.
-use Rattle.std.proofs.Common.{◌≡◌, ℕ, ◌<◌, true, false, List, get_or, refl, sym, inl, inr, arith, Result, Ok, Err}
+use Rattle.std.proofs.Common.{◌≡◌, ℕ, ◌<◌, true, false, List, length, get_or, refl, sym, inl, inr, arith, MatchOption, Result, Ok, Err}
 use Rattle.std.proofs.lemmas.Bool.{both_ways, cases_lt}
 use Rattle.std.proofs.lemmas.List.Sorted.{searched}
 use Rattle.std.specs.List.{Contains}
 use Rattle.std.specs.List.Sorted.{IsBinarySearchResult}
 use Rattle.std.specs.Ordering.{nat_cmp}
-use Rattle.std.specs.Result.{is_ok}
+use Rattle.std.specs.Result.{is_ok, result_ok}
 use Rattle.vx_layout.specs.Bounds.{Rises}
 use Rattle.vx_layout.proofs.Rising.{Rises-level, bound_at, bound_from}
 
@@ -25,3 +25,8 @@ search-misses bs n (Err i) rises answer err inside =
       | inl low ↦ let below : get_or bs at.0 0 < n = between.1 at.0 low in absurd (omega (arith, below, at.2))
       | inr high ↦ let above : n < get_or bs at.0 0 = between.2 at.0 high at.1 in absurd (omega (arith, above, at.2))
     ]
+
+-- and where it does, at which index
+pub search-index : (bs : List ℕ) (n : ℕ) (r : Result ℕ ℕ) → Rises bs → IsBinarySearchResult (λ m. nat_cmp m n) bs r → MatchOption (result_ok r) (Contains bs n → ⊥) (λ i. (i < length bs) × (get_or bs i 0 ≡ n))
+search-index bs n (Ok i) rises answer = searched bs n (Ok i) answer (λ j k. Rises-level bs j k rises)
+search-index bs n (Err i) rises answer = λ inside. search-misses bs n (Err i) rises answer refl inside

@@ -27,7 +27,7 @@ impl Model for Bounds {
 }
 
 impl Bounds {
-    ghost use Rattle.std.specs.Prelude.{◌≡◌, ℕ, ◌+◌, ◌<◌, List, [], ◌∷◌, ◌++◌, Contains, length, OnOk, OnErr, slice_get, slice_index, Some};
+    ghost use Rattle.std.specs.Prelude.{◌≡◌, ℕ, ◌+◌, ◌<◌, List, [], ◌∷◌, ◌++◌, Contains, length, OnOk, OnErr, slice_get, slice_index, Some, MatchOption};
     ghost use Rattle.std.specs.Bool.{OnTrue, OnFalse};
     ghost use Rattle.vx_layout.specs.Bounds.{Rises, last};
 
@@ -87,6 +87,14 @@ impl Bounds {
         ensures rises { Rises self.now }
     {
         self.numbers.binary_search(&number).is_ok()
+    }
+
+    /// The index of a number, where it is a bound. Time goes with the logarithm of the number of bounds.
+    pub fn index_of(&self, number: u32) -> Option<usize>
+        ensures index { MatchOption result (¬ Contains self.now number) (λ i. (i < length self.now) × (slice_index self.now i ≡ number)) }
+        ensures rises { Rises self.now }
+    {
+        self.numbers.binary_search(&number).ok()
     }
 }
 

@@ -1,4 +1,11 @@
 -- Lemmas of this crate.
+mod Ranges
+mod Walking
+mod Sizing
+mod Turning
+mod Told
+mod Sets
+mod Spelling
 pub mod Blocks
 pub mod Runs
 pub mod Grouping
@@ -6,3 +13,10 @@ pub mod Few
 pub mod Pictures
 pub mod Giving
 pub mod Listing
+pub mod Finding
+pub mod Pushing
+pub mod Division
+pub mod Testing
+pub mod Fronts
+pub mod Tooled
+pub mod Cutting

@@ -25,7 +25,8 @@ use Rattle.vx_pps.specs.declared.tiles.Tiles.{Tiles}
 use Rattle.vx_pps.specs.Tiles.{IsGrid, across, block, column, down, row, tile, tile_behind}
 use Rattle.vx_pps.specs.Groups.{Ends, Follow, Group, InGroups, Lies, Stands, cut, high_of, slices_of, slices_of_all, start, strips, whole, wide_of}
 use Rattle.vx_pps.specs.Laws.{FewAreReadBack, ListGivesSlices, SlicesAreReadBack}
-use Rattle.vx_pps.specs.Slices.{Listed, all_slices, below, delta, delta_cell, height_in_tiles, list_from, may_be_cut, none_listed, slices_at, slices_in_tile, spells_delta, strips_from, tile_after, turn, turns_from}
+use Rattle.vx_pps.specs.declared.list.Listed.{Listed}
+use Rattle.vx_pps.specs.Slices.{all_slices, below, delta, delta_cell, height_in_tiles, list_from, may_be_cut, none_listed, slices_at, slices_in_tile, spells_delta, strips_from, tile_after, turn, turns_from}
 use Rattle.vx_pps.specs.Written.{Gives, delta_items, heights_items, item, last_items, list_items, strip_items, turn_items}
 use Rattle.vx_pps.proofs.Blocks.{row_inside}
 use Rattle.vx_pps.proofs.Few.{few_fall, group_some, strips_length}
@@ -349,7 +350,7 @@ list_gives g last_one deltas group groups grid few first size follow =
     let from : Gives (turns_from g last_one deltas last_one none_listed) (list_items g deltas (group ∷ groups)) all.end = subst (λ k. Gives (turns_from g last_one deltas last_one (record { slices = []; next = k; before = 0 })) (list_items g deltas (group ∷ groups)) all.end) first all.gives in
     subst (λ end. Gives (list_from g last_one deltas) (list_items g deltas (group ∷ groups)) end) all.all_are (gives_end (all_slices g last_one) from)
 
-given_back : (g : Tiles) (last : ℕ) (deltas : Bool) (slices : List Rect) → IsGrid g → last < 1000 → length slices ≡ last + 1 → (groups : InGroups g deltas slices) → Gives (list_from g last deltas) (list_items g deltas (groups.group ∷ groups.groups)) (Some slices)
+pub given_back : (g : Tiles) (last : ℕ) (deltas : Bool) (slices : List Rect) → IsGrid g → last < 1000 → length slices ≡ last + 1 → (groups : InGroups g deltas slices) → Gives (list_from g last deltas) (list_items g deltas (groups.group ∷ groups.groups)) (Some slices)
 given_back g last_one deltas slices grid few size groups =
     subst (λ xs. Gives (list_from g last_one deltas) (list_items g deltas (groups.group ∷ groups.groups)) (Some xs)) groups.same
     (list_gives g last_one deltas groups.group groups.groups grid few groups.first (ap length groups.same ∙ size) groups.follow)

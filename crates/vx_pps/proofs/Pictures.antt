@@ -29,7 +29,7 @@ part_in w h r some fit =
     ]
 
 -- no bound is above the last
-upto_last : (bs : List ℕ) (i : ℕ) → Rises bs → get_or bs i 0 ≤ last bs
+pub upto_last : (bs : List ℕ) (i : ℕ) → Rises bs → get_or bs i 0 ≤ last bs
 upto_last bs i rises =
     elim (cases_lt i (length bs)) [
       | inl short ↦ Contains-le-last bs (get_or bs i 0) rises (bound_from bs i (get_or bs i 0) short refl)

@@ -3,4 +3,10 @@ pub mod Tiles
 pub mod Groups
 pub mod Slices
 pub mod Written
+pub mod Partition
+pub mod Items
+pub mod Pps
+pub mod Sets
 pub mod Laws
+pub mod Reshaped
+pub mod inner

@@ -1,7 +1,7 @@
 -- The slice list of a picture parameter set: its fields in order, and the rectangles of its slices (H.266 7.3.2.5, 7.4.3.5,
 -- 6.5.1).
-use Rattle.std.specs.Prelude.{◌==◌, ℕ, pos, zero, suc, ◌+◌, ◌-◌, ◌*◌, ◌&&◌, nat_le, nat_lt, Bool, false, cond, List, [], ◌∷◌, ◌++◌, length, Option, Some, None}
-use Rattle.std.specs.Prelude.{neg_ℤ, ◌+ℤ◌}
+use Rattle.std.specs.Prelude.{◌==◌, ℕ, pos, zero, suc, ◌+◌, ◌-◌, ◌*◌, neg_ℤ, ◌+ℤ◌, ◌&&◌, nat_le, nat_lt, Bool, false, cond}
+use Rattle.std.specs.Prelude.{List, [], ◌∷◌, ◌++◌, length, Option, Some, None}
 use Rattle.std.specs.Int.{div_ceil}
 use Rattle.vx_fields.specs.declared.pps.TheConstants as pps
 use Rattle.vx_layout.specs.declared.rect.Rect.{Rect}
@@ -13,6 +13,7 @@ use Rattle.vx_table.specs.declared.rows.Limits.{Limits}
 use Rattle.vx_table.specs.declared.rows.Limits.TheVariants.{Within, Below}
 use Rattle.vx_table.specs.Forms.{Form, done, field, ◌>>=◌}
 use Rattle.vx_table.specs.Scope.{natural}
+use Rattle.vx_pps.specs.declared.list.Listed.{Listed}
 use Rattle.vx_pps.specs.declared.tiles.Tiles.{Tiles}
 use Rattle.vx_pps.specs.Tiles.{across, block, column, down, row, tile, tile_behind}
 use Rattle.vx_pps.specs.Groups.{spells_height, strips}
@@ -108,13 +109,7 @@ tile_after g spelled t width height = cond spelled (delta g t) (done (tile_behin
 
 -- ---- the list
 
--- the slices so far, the tile where the next one begins, and the height of the one before, less 1
-pub record Listed : Type 0 where
-  pub slices : List Rect
-  pub next : ℕ
-  pub before : ℕ
-
--- one turn
+-- one turn: from the slices so far, the tile where the next one begins, and the height of the one before, less 1
 abbrev pub turn : Tiles → ℕ → Bool → Listed → Form Listed
 turn g last deltas at = do
   width ← width_in_tiles g at.next

@@ -1,16 +1,48 @@
-//! The tiles and slices of a picture parameter set (H.266 7.3.2.5, 6.5.1).
+//! The picture parameter set and its slice list (H.266 7.3.2.5, 6.5.1).
 //!
 //! [`Tiles`] names tiles by their index. The laws say of which groups the slices of a picture are that a slice list can
 //! name: slices of whole tiles, and the slices of one tile.
 #![tactic(auto)]
+#![allow(non_upper_case_globals)]
 
+mod grid;
+mod groups;
+mod halt;
 mod laws;
+mod laws_sets;
+mod list;
+mod list_items;
+mod numbers;
+mod partition;
+mod pps;
+mod read;
+#[cfg(test)]
+mod rows;
+mod shape;
+mod tables;
 #[cfg(test)]
 mod tests;
+#[cfg(test)]
+mod tests_list_items;
 mod tiles;
+#[cfg(test)]
+mod vectors;
+mod walk;
 
 pub use laws::{
     bounds_are_read_back, few_are_read_back, few_fall_into_groups, layouts_are_lists,
     list_gives_slices, lists_fall_into_groups, slices_are_read_back,
+};
+pub use laws_sets::{
+    kept_and_others_tell, kept_depends_on_kept, no_proper_prefix, written_is_read,
+};
+pub use list::Listed;
+pub use partition::Partition;
+pub use pps::Pps;
+pub use read::{keep_pps, read_pps, write_pps};
+pub use shape::{PpsShape, TAKEN, TAKEN_FOR_FRAME};
+pub use tables::{
+    DBF_CONTROL, DBF_INFO, DBF_OFFSETS, END, HEADER_INFO, IDS, INIT_QP, NAL_TYPES, OUTPUT,
+    PREDICTION, QP_OFFSETS, SIZE, SUBPIC_IDS,
 };
 pub use tiles::Tiles;

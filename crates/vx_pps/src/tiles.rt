@@ -54,12 +54,11 @@ impl Tiles {
         tile / self.across()
     }
 
-    /// So many tiles across and down from a tile on, as a rectangle of CTUs.
+    /// So many tiles across and down from a tile on, as a rectangle of CTUs; a bound past the last one counts as 0.
     pub fn block(&self, tile: u32, wide: u32, high: u32) -> Rect
         requires grid { IsGrid self.now }
         requires inside { tile < across self.now * down self.now }
-        requires wide { column self.now tile + wide ≤ across self.now }
-        requires high { row self.now tile + high ≤ down self.now }
+        requires low { (wide ≤ 512) × (high ≤ 512) }
         ensures { result ≡ block self.now tile wide high }
     {
         let (column, row) = (self.column(tile), self.row(tile));
@@ -78,8 +77,8 @@ impl Tiles {
     pub fn tile_behind(&self, tile: u32, wide: u32, high: u32) -> u32
         requires grid { IsGrid self.now }
         requires inside { tile < across self.now * down self.now }
-        requires wide { (1 ≤ wide) × (column self.now tile + wide ≤ across self.now) }
-        requires high { (1 ≤ high) × (row self.now tile + high ≤ down self.now) }
+        requires wide { (1 ≤ wide) × (wide ≤ 512) }
+        requires high { (1 ≤ high) × (high ≤ 512) }
         ensures { result ≡ tile_behind self.now tile (wide - 1) (high - 1) }
     {
         let beside = tile + wide;
@@ -91,10 +90,14 @@ impl Tiles {
     }
 }
 
-/// A bound by its index.
+/// A bound by its index, and 0 past the last one.
 fn bound(bounds: &Bounds, index: u32) -> u32
-    requires { index < length bounds.now }
     ensures { result ≡ slice_index bounds.now index }
 {
-    bounds.item(index as usize)
+    let index = index as usize;
+    if index < bounds.len() {
+        bounds.item(index)
+    } else {
+        0
+    }
 }

@@ -22,10 +22,10 @@ use Rattle.vx_table.proofs.EachField.{each_then, each_present}
 use Rattle.vx_table.specs.Trailing.{is_trailing, has_trailing, trails_last, comes_once, parts_have_trailing, parts_trail_last, ClosesWithoutTrailing, ClosesAtTheEnd, PartsCloseWithoutTrailing, PartsCloseAtTheEnd}
 
 -- No field of the form is a trailing.
-abbrev IsNoTrailing : Cell ℕ → Type 0
+abbrev pub IsNoTrailing : Cell ℕ → Type 0
 IsNoTrailing cell = is_trailing cell.coding ≡ false
 
-abbrev IsOpen : {A : Type 0} → Form A → Type 0
+abbrev pub IsOpen : {A : Type 0} → Form A → Type 0
 IsOpen form = EachField IsNoTrailing form
 
 may_end : (coding : Coding ℕ) (rest : List Bool) → is_trailing coding ≡ false → MayEnd coding rest
@@ -84,7 +84,7 @@ closes_without_trailing rows s place values rest none = closes (form_of rows s) 
 -- ---- a trailing at the end
 
 -- A trailing comes only as the last field.
-data ComesLast {A : Type 0} : Form A → Type 0 where
+pub data ComesLast {A : Type 0} : Form A → Type 0 where
   over_too : {a : A} → ComesLast (done a)
   before : {cell : Cell ℕ} {goes : ℤ → Form A} → is_trailing cell.coding ≡ false → ((v : ℤ) → ComesLast (goes v)) → ComesLast (field cell goes)
   last : {cell : Cell ℕ} {goes : ℤ → Form A} → ((v : ℤ) → (a : A) × (goes v ≡ done a)) → ComesLast (field cell goes)
@@ -103,13 +103,13 @@ ends_bits Refused = tt
 over_closes : {A : Type 0} (form : Form A) (a : A) (coding : Coding ℕ) (place : ℕ) (w : List ℤ) → form ≡ done a → MayEnd coding (bits_along form place w ++ []) × Closes form place w []
 over_closes form a coding place w is = subst (λ x. MayEnd coding (bits_along x place w ++ []) × Closes x place w []) (sym is) (ends_bits coding, tt)
 
-closes_end : {A : Type 0} (form : Form A) (place : ℕ) (values : List ℤ) → ComesLast form → Closes form place values []
+pub closes_end : {A : Type 0} (form : Form A) (place : ℕ) (values : List ℤ) → ComesLast form → Closes form place values []
 closes_end (done a) place values is = tt
 closes_end (field cell goes) place [] is = tt
 closes_end (field cell goes) place (v ∷ w) (before none more) = (may_end cell.coding _ none, closes_end (goes v) _ w (more v))
 closes_end (field cell goes) place (v ∷ w) (last ends) = over_closes (goes v) (ends v).0 cell.coding _ w (ends v).1
 
-sequence_last : {A B : Type 0} (f : Form A) (next : A → Form B) → IsOpen f → ((a : A) → ComesLast (next a)) → ComesLast (f >>= next)
+pub sequence_last : {A B : Type 0} (f : Form A) (next : A → Form B) → IsOpen f → ((a : A) → ComesLast (next a)) → ComesLast (f >>= next)
 sequence_last (done a) next is others = others a
 sequence_last (field cell goes) next is others = before is.0 (λ v. sequence_last (goes v) next (is.1 v) others)
 
@@ -185,14 +185,14 @@ alone (done a) is = over_too
 alone (field cell goes) (before none more) = before none (λ v. alone (goes v) (more v))
 alone (field cell goes) (last ends) = last (λ v. ((ends v).0, subst (λ x. (x >>= done) ≡ done (ends v).0) (sym (ends v).1) refl))
 
-open_parts : (parts : List Part) (s : List ℕ) → parts_have_trailing parts ≡ false → IsOpen (parts_form parts s)
+pub open_parts : (parts : List Part) (s : List ℕ) → parts_have_trailing parts ≡ false → IsOpen (parts_form parts s)
 unfolding sections_form parts_have_trailing
 open_parts [] s none = tt
 open_parts (part ∷ parts) s none =
     let both = or_parts (has_trailing part.rows.now) (parts_have_trailing parts) none in
     each_then IsNoTrailing (present part.presence (form_of part.rows.now) s) (parts_form parts) (each_present IsNoTrailing part.presence (form_of part.rows.now) s (λ t. open_form part.rows.now t both.0)) (λ t. open_parts parts t both.1)
 
-last_parts : (parts : List Part) (s : List ℕ) → parts_trail_last parts ≡ true → ComesLast (parts_form parts s)
+pub last_parts : (parts : List Part) (s : List ℕ) → parts_trail_last parts ≡ true → ComesLast (parts_form parts s)
 unfolding sections_form parts_trail_last
 last_parts [] s holds = over_too
 last_parts (part ∷ []) s holds =

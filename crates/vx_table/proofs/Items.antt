@@ -40,7 +40,7 @@ unfolding item_of
 item_apart cell {v} {w} r s a b e = item_apart_at cell.coding cell.field v w r s a b e
 
 -- the value of a gap is 0
-gap_value : (coding : Coding ℕ) (v : ℤ) → has_value coding ≡ false → HasCode coding v → v ≡ pos 0
+pub gap_value : (coding : Coding ℕ) (v : ℤ) → has_value coding ≡ false → HasCode coding v → v ≡ pos 0
 unfolding has_value HasCode
 gap_value (Fixed n) v gap has = absurd (cc)
 gap_value Golomb v gap has = absurd (cc)

@@ -3,7 +3,7 @@ pub mod EachField
 pub mod Naming
 pub mod Bounds
 pub mod Starred
-mod Keepings
+pub mod Keepings
 pub mod Shown
 mod Testing
 pub mod Dependence
@@ -31,3 +31,4 @@ pub mod Joined
 pub mod Spelled
 pub mod Values
 pub mod Writings
+pub mod Groups

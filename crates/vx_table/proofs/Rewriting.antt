@@ -14,7 +14,7 @@ use Rattle.vx_table.specs.Values.{IsValueOf, Follows, to_end, through, at_field,
 use Rattle.vx_table.specs.Writing.{IsWritten, TakesValue}
 use Rattle.vx_table.specs.Depends.{has}
 use Rattle.vx_table.specs.Shown.{shown_items}
-use Rattle.vx_table.specs.Rewritten.{other_items, RewritesOneWay, Sources, TakesItems, TakesNext, RewritesField, AreTaken, BreaksOff, RewritesInto, MakesRewritten, MadeIsRewritten}
+use Rattle.vx_table.specs.Rewritten.{IsRewritten, other_items, RewritesOneWay, Sources, TakesItems, TakesNext, RewritesField, AreTaken, BreaksOff, RewritesInto, MakesRewritten, MadeIsRewritten}
 use Rattle.vx_table.proofs.Items.{item_apart}
 use Rattle.vx_table.proofs.Shown.{shown_here, hidden_here}
 
@@ -98,7 +98,7 @@ front_others : (names : List ℕ) (xs ys more : List Item) → other_items names
 front_others names xs ys more = ap (λ x. x ++ more) (filter-append (λ item. not (has names item.field)) xs ys) ∙ append_assoc (other_items names xs) (other_items names ys) more
 
 -- lists that begin with the shown items and with the others of values tell the values and what is left
-apart : (names : List ℕ) {form : Form (List ℕ)} {v w : List ℤ} {x y : List ℕ} (a b c d : List Item) → Follows form v x → Follows form w y
+pub apart : {A : Type 0} (names : List ℕ) {form : Form A} {v w : List ℤ} {x y : A} (a b c d : List Item) → Follows form v x → Follows form w y
     → shown_items names (items_along form v) ++ a ≡ shown_items names (items_along form w) ++ b → other_items names (items_along form v) ++ c ≡ other_items names (items_along form w) ++ d
     → (v ≡ w) × (a ≡ b) × (c ≡ d)
 apart names a b c d to_end to_end same_shown same_others = (refl, same_shown, same_others)
@@ -216,15 +216,18 @@ rewrites a (Ok b) walk =
 rewrites a (Err errors.Memory) walk = record { is = broken_off walk; only = λ values end more are. tt }
 rewrites a (Err errors.NoValue) walk = record { is = broken_off walk; only = λ values end more are. only walk are.follows are.taken }
 
-pub makes_rewritten : MakesRewritten
-makes_rewritten form old new items after result makes is =
+pub makes : {A B : Type 0} (form : Form A) (old new : Sources) (items after : List Item) (result : Result B SpellError) → RewritesInto form old [] result new after → IsRewritten form old.names old.shown old.others items → IsWritten result (after ≡ items)
+makes form old new items after result made_ is =
     let left : Sources = record { names = old.names; shown = []; others = [] } in
     let taken : TakesItems (items_along form is.values) old left = record {
       names = refl;
       shown = sym (append-nil old.shown) ∙ ap (λ x. x ++ []) (sym is.shown_ones ∙ ap (λ x. shown_items old.names x) is.all);
       others = sym (append-nil old.others) ∙ ap (λ x. x ++ []) (sym is.other_ones ∙ ap (λ x. other_items old.names x) is.all);
     } in
-    written_more result (λ p. p.0 ∙ sym is.all) (makes.only is.values is.end left (record { follows = is.follows; taken = taken }))
+    written_more result (λ p. p.0 ∙ sym is.all) (made_.only is.values is.end left (record { follows = is.follows; taken = taken }))
+
+pub makes_rewritten : MakesRewritten
+makes_rewritten form old new items after result made_ is = makes form old new items after result made_ is
 
 pub made_is_rewritten : MadeIsRewritten
 made_is_rewritten form old new after makes no_shown no_others =

@@ -69,7 +69,7 @@ first_begins_field cell goes total place v w rest is closes whole =
     )
 
 -- codes of values that follow the form are spelled
-spelled_at : {A : Type 0} {form : Form A} {v : List ℤ} {a : A} (total place : ℕ) (rest : List Bool) → Follows form v a → Closes form place v rest → total ≡ place + length (bits_along form place v ++ rest)
+pub spelled_at : {A : Type 0} {form : Form A} {v : List ℤ} {a : A} (total place : ℕ) (rest : List Bool) → Follows form v a → Closes form place v rest → total ≡ place + length (bits_along form place v ++ rest)
     → Spells total form v (bits_along form place v ++ rest) rest
 spelled_at total place rest to_end closes whole = at_end
 spelled_at total place rest (through {cell} {goes} {v} {w} is more) closes whole =
@@ -103,7 +103,7 @@ pub reads_back : ReadsBack
 reads_back form place values end rest follows closes = spelled_at _ place rest follows closes refl
 
 -- equal bits are the spelling of equal values
-apart_at : {A : Type 0} {form : Form A} {v w : List ℤ} {a b : A} (place : ℕ) (r s : List Bool) → Follows form v a → Follows form w b → bits_along form place v ++ r ≡ bits_along form place w ++ s
+pub apart_at : {A : Type 0} {form : Form A} {v w : List ℤ} {a b : A} (place : ℕ) (r s : List Bool) → Follows form v a → Follows form w b → bits_along form place v ++ r ≡ bits_along form place w ++ s
     → (v ≡ w) × (r ≡ s) × (a ≡ b)
 apart_at place r s to_end to_end same = (refl, same, refl)
 apart_at {form = field cell goes} {b} place r s (through {v} {w} is more) (through {v = u} {w = us} other others) same =

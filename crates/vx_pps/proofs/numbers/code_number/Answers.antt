@@ -1,0 +1,21 @@
+use Rattle.std.proofs.Common.{rules, w64}
+use Rattle.std.proofs.lemmas.Int.{to_z-of_z}
+use mir.Val.{SFits}
+use Rattle.vx_pps.specs.inner.Walked.{ended, coded, refused}
+use Rattle.vx_pps.proofs.Ranges.{golomb_range}
+use Rattle.vx_pps.proofs.numbers.code_number.Goals as goal
+
+pub returns-in-Ok-clause-walk : goal.returns-in-Ok-clause-walk
+returns-in-Ok-clause-walk g c =
+    let fits : SFits w64 c.in-Ok.value = search rules in
+    let n = rw (to_z-of_z w64 c.in-Ok.value fits) at c.natural.ensures in
+    rw n (coded c.in-Ok.ensures.step ended)
+
+pub returns-in-Ok-clause-range : goal.returns-in-Ok-clause-range
+returns-in-Ok-clause-range g c =
+    let fits : SFits w64 c.in-Ok.value = search rules in
+    let n = rw (to_z-of_z w64 c.in-Ok.value fits) at c.natural.ensures in
+    rw n (golomb_range c.args.limits c.in-Ok.value c.in-Ok.ensures.value.code c.in-Ok.ensures.value.range)
+
+pub returns-in-Err-clause-walk : goal.returns-in-Err-clause-walk
+returns-in-Err-clause-walk g c = refused c.in-Err.ensures.step

@@ -1,0 +1,90 @@
+-- A picture parameter set: its form, and what its items tell (H.266 7.3.2.5, 7.4.3.5).
+use Rattle.std.specs.Prelude.{◌≡◌, ℕ, not, Bool, List, [], ◌∷◌, ◌++◌, Option, Some, None, slice_index}
+use Rattle.vx_bits.specs.declared.list.Item.{Item}
+use Rattle.vx_bits.specs.Codes.{bits_of}
+use Rattle.vx_fields.specs.declared.pps.TheConstants as pps
+use Rattle.vx_layout.specs.declared.rect.Rect.{Rect}
+use Rattle.vx_table.specs.Forms.{Form, done, ◌>>=◌}
+use Rattle.vx_table.specs.Kept.{kept_along}
+use Rattle.vx_table.specs.Loaded as loading
+use Rattle.vx_table.specs.Parts.{Section, always, sections_form}
+use Rattle.vx_table.specs.Scope.{fresh, is_set}
+use Rattle.vx_table.specs.Values.{bits_along}
+use Rattle.vx_pps.specs.declared.partition.Partition.{Partition}
+use Rattle.vx_pps.specs.declared.tables.TheConstants as tables
+use Rattle.vx_pps.specs.Items.{end_along, numbers_of, values_in}
+use Rattle.vx_pps.specs.Partition.{partition, undivided}
+use Rattle.vx_pps.specs.Written.{Gives}
+
+-- ---- the form
+
+-- before tiles and slices
+abbrev pub front : List Section
+front = always tables.IDS ∷ always tables.NAL_TYPES ∷ always tables.SIZE ∷ always tables.OUTPUT ∷ always tables.SUBPIC_IDS ∷ []
+
+-- behind them: the tools of slices, what stands in picture headers, and the end
+abbrev pub tools : List Section
+tools = always tables.PREDICTION ∷ always tables.INIT_QP ∷ always tables.QP_OFFSETS ∷ always tables.DBF_CONTROL
+    ∷ always tables.DBF_INFO ∷ always tables.DBF_OFFSETS ∷ always tables.HEADER_INFO ∷ always tables.END ∷ []
+
+-- the tiles and slices of a picture of that size
+abbrev pub partition_at : List ℕ → Form Partition
+partition_at s =
+    partition (slice_index s pps.pps_no_pic_partition_flag) (slice_index s pps.pps_pic_width_in_luma_samples)
+    (slice_index s pps.pps_pic_height_in_luma_samples)
+
+-- pic_parameter_set_rbsp(), at whose end stand its tiles and slices
+unfoldable pub pps_form : Form Partition
+pps_form = do
+  s ← sections_form front fresh
+  p ← partition_at s
+  t ← sections_form tools s
+  done p
+
+-- ---- what its items tell
+
+-- the items are those of a picture parameter set, which has these tiles and slices
+abbrev pub IsPps : List Item → Partition → Type 0
+IsPps items end = Gives pps_form items end
+
+pub record IsItems (items : List Item) : Type 0 where
+  pub end : Partition
+  pub set : IsPps items end
+
+-- those that it has
+abbrev pub or_none : Option Partition → Partition
+or_none (Some end) = end
+or_none None = undivided
+
+abbrev pub partition_of : List Item → Partition
+partition_of items = or_none (end_along pps_form (values_in pps_form items))
+
+-- pps_no_pic_partition_flag is 0: the picture may have several tiles and slices
+abbrev pub is_partitioned : List Item → Bool
+is_partitioned items = not (is_set (loading.number items pps.pps_no_pic_partition_flag))
+
+-- the bounds of the tile columns and rows of such a picture, in CTUs
+abbrev pub columns_of : List Item → List ℕ
+columns_of items = (partition_of items).tiles.columns
+
+abbrev pub rows_of : List Item → List ℕ
+rows_of items = (partition_of items).tiles.rows
+
+-- its slices, unless each subpicture is one
+abbrev pub slices_of : List Item → Option (List Rect)
+slices_of items = (partition_of items).slices
+
+-- the active entries of list 0 and of list 1 where a slice says nothing, less 1
+abbrev pub default_active : List Item → ℕ → ℕ
+default_active items list = slice_index (numbers_of items pps.pps_num_ref_idx_default_active_minus1) list
+
+-- the items of its kept fields; those that say what stands in picture headers, also where they are absent, as 0
+abbrev pub kept_of : List Item → List Item
+kept_of items = kept_along pps_form (values_in pps_form items)
+
+-- ---- how it is spelled
+
+-- The bytes are the spelling of the values whose items these are.
+pub record IsSpelling (items : List Item) (bytes : List ℕ) : Type 0 where
+  pub is : IsItems items
+  pub bits : bits_of bytes ≡ bits_along pps_form 0 is.set.values

@@ -1,0 +1,169 @@
+-- The rewritten picture parameter set: what it takes over from its source, and what it states (H.266 7.3.2.5).
+use Rattle.std.specs.Prelude.{◌≡◌, ◌==◌, ℕ, ℤ, pos, ◌+◌, ◌-◌, ◌*◌, ◌^◌, ◌<◌, ◌≤◌, ◌≤ℤ◌, ◌%◌, neg_ℤ, Bool, true, false, cond, ◌&&◌, ◌||◌, nat_lt}
+use Rattle.std.specs.Prelude.{List, [], ◌∷◌, ◌++◌, length, Option, Some, None, IfSome}
+use Rattle.std.specs.Int.{div_ceil}
+use Rattle.vx_bits.specs.declared.list.Item.{Item}
+use Rattle.vx_fields.specs.declared.pps.TheConstants as pps
+use Rattle.vx_layout.specs.declared.rect.Rect.{Rect}
+use Rattle.vx_layout.specs.Bounds.{last, sizes_between}
+use Rattle.vx_layout.specs.Layouts.{HasLayout}
+use Rattle.vx_layout.specs.Shapes.{AreListable}
+use Rattle.vx_table.specs.Depends.{set_of}
+use Rattle.vx_table.specs.Loaded.{number}
+use Rattle.vx_table.specs.Rewritten.{IsRewritten}
+use Rattle.vx_table.specs.Scope.{is_set, one_if, powers_below}
+use Rattle.vx_table.specs.Shown.{shown_items}
+use Rattle.vx_pps.specs.declared.shape.PpsShape.{PpsShape}
+use Rattle.vx_pps.specs.declared.shape.TheConstants.{TAKEN, TAKEN_FOR_FRAME}
+use Rattle.vx_pps.specs.declared.tiles.Tiles.{Tiles}
+use Rattle.vx_pps.specs.Tiles.{across, down}
+use Rattle.vx_pps.specs.Groups.{Group, InGroups}
+use Rattle.vx_pps.specs.Laws.{picture_of}
+use Rattle.vx_pps.specs.Pps.{pps_form}
+use Rattle.vx_pps.specs.Written.{item, list_items, size_items}
+
+-- ---- what is stated, in the order of the syntax
+
+-- items that stand only where something holds
+abbrev pub where_so : Bool → List Item → List Item
+where_so holds items = cond holds items []
+
+-- an item with the number that the source's last one gives the field: 0 where it has none
+abbrev pub same : List Item → ℕ → List Item
+same source of = item of (pos (number source of))
+
+-- pps_no_pic_partition_flag: a frame is partitioned, and a region where its source is
+abbrev pub whole_flag : List Item → PpsShape → ℕ
+whole_flag source shape = cond shape.merged 0 (number source pps.pps_no_pic_partition_flag)
+
+-- the id of the one subpicture, where this set has it
+abbrev pub id_items : ℕ → Option (ℕ × ℕ) → List Item
+id_items whole None = item pps.pps_subpic_id_mapping_present_flag (pos 0)
+id_items whole (Some (bits, id)) =
+    item pps.pps_subpic_id_mapping_present_flag (pos 1)
+    ++ (where_so (whole == 0) (item pps.pps_num_subpics_minus1 (pos 0))
+    ++ (item pps.pps_subpic_id_len_minus1 (pos bits) ++ item pps.pps_subpic_id (pos id)))
+
+-- ids, size, no conformance window, whether it is partitioned
+abbrev pub front_items : ℕ → PpsShape → List Item
+front_items whole shape =
+    item pps.pps_pic_parameter_set_id (pos shape.id)
+    ++ (item pps.pps_seq_parameter_set_id (pos shape.sps_id)
+    ++ (item pps.pps_pic_width_in_luma_samples (pos shape.width)
+    ++ (item pps.pps_pic_height_in_luma_samples (pos shape.height)
+    ++ (item pps.pps_conformance_window_flag (pos 0)
+    ++ (item pps.pps_no_pic_partition_flag (pos whole)
+    ++ id_items whole shape.subpic_id)))))
+
+-- the flags of several tiles
+abbrev pub tile_flag_items : PpsShape → List Item
+tile_flag_items shape = where_so (nat_lt 1 (across shape.tiles * down shape.tiles))
+    (item pps.pps_loop_filter_across_tiles_enabled_flag (pos (one_if shape.across_tiles)) ++ item pps.pps_rect_slice_flag (pos 1))
+
+-- tile indices are spelled of three slices and more
+abbrev pub has_deltas : PpsShape → Bool
+has_deltas shape = nat_lt 2 (length shape.slices)
+
+-- the number of the slices, their list, tile by tile, and whether loop filters cross their borders
+abbrev pub slice_items : PpsShape → List Group → List Item
+slice_items shape groups =
+    item pps.pps_num_slices_in_pic_minus1 (pos (length shape.slices - 1))
+    ++ (where_so (has_deltas shape) (item pps.pps_tile_idx_delta_present_flag (pos 1))
+    ++ (list_items shape.tiles (has_deltas shape) groups
+    ++ where_so (nat_lt 1 (length shape.slices)) (item pps.pps_loop_filter_across_slices_enabled_flag (pos (one_if shape.across_slices)))))
+
+-- all tile columns and rows, each with its size
+abbrev pub tile_items : PpsShape → List Item
+tile_items shape =
+    item pps.pps_num_exp_tile_columns_minus1 (pos (across shape.tiles - 1))
+    ++ (item pps.pps_num_exp_tile_rows_minus1 (pos (down shape.tiles - 1))
+    ++ (size_items pps.pps_tile_column_width_minus1 (sizes_between shape.tiles.columns)
+    ++ size_items pps.pps_tile_row_height_minus1 (sizes_between shape.tiles.rows)))
+
+-- the CTU size, the tiles, and the slices in these groups
+abbrev pub divided_items : PpsShape → List Group → List Item
+divided_items shape groups =
+    item pps.pps_log2_ctu_size_minus5 (pos (powers_below 32 shape.ctb - 5))
+    ++ (tile_items shape
+    ++ (tile_flag_items shape
+    ++ (item pps.pps_single_slice_per_subpic_flag (pos 0)
+    ++ slice_items shape groups)))
+
+-- what is said of tiles and slices: each group has slices of whole tiles, or the slices of one tile
+pub record Divides (shape : PpsShape) (items : List Item) : Type 0 where
+  pub groups : InGroups shape.tiles (has_deltas shape) shape.slices
+  pub same : items ≡ divided_items shape (groups.group ∷ groups.groups)
+
+-- nothing is said of a picture that isn't partitioned
+abbrev pub IsDivision : Bool → PpsShape → List Item → Type 0
+IsDivision true shape items = items ≡ []
+IsDivision false shape items = Divides shape items
+
+-- of a frame's tools: the QP, and what stands in picture headers, as the source has it, but for the adaptive loop filter and the
+-- QP, which stand in slice headers
+abbrev pub has_weights : List Item → Bool
+has_weights source =
+    (is_set (number source pps.pps_weighted_pred_flag) || is_set (number source pps.pps_weighted_bipred_flag))
+    && is_set (number source pps.pps_rpl_info_in_ph_flag)
+
+abbrev pub info_items : List Item → List Item
+info_items source =
+    same source pps.pps_rpl_info_in_ph_flag
+    ++ (same source pps.pps_sao_info_in_ph_flag
+    ++ (item pps.pps_alf_info_in_ph_flag (pos 0)
+    ++ (where_so (has_weights source) (same source pps.pps_wp_info_in_ph_flag)
+    ++ item pps.pps_qp_delta_info_in_ph_flag (pos 0))))
+
+abbrev pub frame_tool_items : List Item → ℤ → List Item
+frame_tool_items source init_qp =
+    item pps.pps_init_qp_minus26 init_qp
+    ++ (where_so (is_set (number source pps.pps_deblocking_filter_override_enabled_flag)) (same source pps.pps_dbf_info_in_ph_flag)
+    ++ info_items source)
+
+abbrev pub tool_items : List Item → PpsShape → List Item
+tool_items source shape = where_so shape.merged (frame_tool_items source shape.init_qp)
+
+-- all that is stated
+pub record IsStated (source : List Item) (shape : PpsShape) (items : List Item) : Type 0 where
+  pub division : List Item
+  pub divides : IsDivision (is_set (whole_flag source shape)) shape division
+  pub all : items ≡ front_items (whole_flag source shape) shape ++ (division ++ tool_items source shape)
+
+-- ---- shapes
+
+-- a width or height in luma samples
+pub record IsSize (n : ℕ) : Type 0 where
+  pub some : 0 < n
+  pub small : n ≤ 16384
+  pub whole : n % 8 ≡ 0
+
+-- tiles and slices of a picture of that size: they have a layout as one subpicture, and a slice list can name the slices
+pub record CanBeDivided (shape : PpsShape) : Type 0 where
+  pub ctb : (log2 : ℕ) × (log2 < 3) × (shape.ctb ≡ 2 ^ (log2 + 5))
+  pub columns : last shape.tiles.columns ≡ div_ceil shape.width shape.ctb
+  pub rows : last shape.tiles.rows ≡ div_ceil shape.height shape.ctb
+  pub layout : HasLayout (picture_of shape.tiles shape.slices)
+  pub listable : AreListable shape.tiles.columns shape.tiles.rows shape.slices
+
+-- numbers that a set can have
+pub record IsShape (source : List Item) (shape : PpsShape) : Type 0 where
+  pub id : shape.id < 64
+  pub sps_id : shape.sps_id < 16
+  pub width : IsSize shape.width
+  pub height : IsSize shape.height
+  pub subpic_id : IfSome shape.subpic_id (λ (bits, id). (bits ≤ 15) × (id < 2 ^ (bits + 1)))
+  pub init_qp : (neg_ℤ (pos 38) ≤ℤ shape.init_qp) × (shape.init_qp ≤ℤ pos 37)
+  pub divided : whole_flag source shape ≡ 0 → CanBeDivided shape
+
+-- ---- the rewritten set
+
+-- the fields that are taken over
+abbrev pub taken : PpsShape → List ℕ
+taken shape = set_of (cond shape.merged TAKEN_FOR_FRAME TAKEN)
+
+-- The items are those of a set. Those of the fields that are taken over are the source's, and the others are exactly what is
+-- stated.
+pub record IsReshaped (source : List Item) (shape : PpsShape) (items : List Item) : Type 0 where
+  pub others : List Item
+  pub stated : IsStated source shape others
+  pub rewritten : IsRewritten pps_form (taken shape) (shown_items (taken shape) source) others items

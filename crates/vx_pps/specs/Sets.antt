@@ -1,0 +1,60 @@
+-- What holds of picture parameter sets: how they are spelled, and what their kept fields depend on.
+use Rattle.std.specs.Prelude.{◌≡◌, ◌⊎◌, ℕ, not, false, List, [], ◌∷◌, ◌++◌, filter, Result, Ok, Err}
+use Rattle.vx_bits.specs.declared.list.Item.{Item}
+use Rattle.vx_bits.specs.declared.refusal.ReadError.{ReadError}
+use Rattle.vx_bits.specs.declared.refusal.ReadError.TheVariants as errors
+use Rattle.vx_fields.specs.declared.pps.TheConstants as pps
+use Rattle.vx_fields.specs.declared.names.pps.TheConstants.{LIST, OFFSET, PARTITIONED, HAS_DBF_INFO, IS_WEIGHTED, HAS_WP_INFO}
+use Rattle.vx_table.specs.declared.rows.Cell.{Cell}
+use Rattle.vx_table.specs.Depends.{has, set_of, DependsOnlyOn}
+use Rattle.vx_table.specs.EachField.{EachField}
+use Rattle.vx_table.specs.Parts.{sections_form}
+use Rattle.vx_table.specs.Reading.{ReadsValue}
+use Rattle.vx_table.specs.Rewritten.{other_items}
+use Rattle.vx_table.specs.Shown.{shown_items, KeepsOnly}
+use Rattle.vx_pps.specs.declared.shape.TheConstants.{TAKEN, TAKEN_FOR_FRAME}
+use Rattle.vx_pps.specs.Partition.{partition}
+use Rattle.vx_pps.specs.Pps.{IsItems, IsSpelling, front, pps_form, tools}
+
+-- ---- spelling
+
+-- What is written of a set is read as it, unless memory runs out.
+abbrev pub WrittenIsRead : Type 0
+WrittenIsRead =
+    (items : List Item) (bytes : List ℕ) (result : Result (List Item) ReadError) → IsSpelling items bytes
+    → ReadsValue pps_form bytes result → (result ≡ Ok items) ⊎ (result ≡ Err errors.Memory)
+
+-- No spelling of a set is a proper prefix of another's.
+abbrev pub NoProperPrefix : Type 0
+NoProperPrefix =
+    (items others : List Item) (bytes more : List ℕ) → IsSpelling items bytes → IsSpelling others (bytes ++ more)
+    → (items ≡ others) × (more ≡ [])
+
+-- ---- kept fields
+
+-- those that a region's set takes over, but for the QP and what is written anew of picture headers
+abbrev pub starred : List ℕ
+starred = pps.pps_init_qp_minus26 ∷ pps.pps_alf_info_in_ph_flag ∷ pps.pps_qp_delta_info_in_ph_flag ∷ []
+
+abbrev pub kept : List ℕ
+kept = filter (λ n. not (has (set_of starred) n)) TAKEN
+
+-- They are those without a star.
+pub record StarsTellKept : Type 0 where
+  pub before : KeepsOnly [] kept (sections_form front)
+  pub division : (whole width height : ℕ) → EachField (λ cell. cell.kept ≡ false) (partition whole width height)
+  pub behind : KeepsOnly [] kept (sections_form tools)
+
+-- They depend on one another, and on no other field but pps_no_pic_partition_flag: where it is 1, those that say what stands in
+-- picture headers are absent. All others depend on one another alone.
+pub record KeptDependsOnKept : Type 0 where
+  pub before : DependsOnlyOn [] kept (sections_form front)
+  pub behind : DependsOnlyOn (pps.pps_no_pic_partition_flag ∷ [])
+      (LIST ∷ OFFSET ∷ PARTITIONED ∷ HAS_DBF_INFO ∷ IS_WEIGHTED ∷ HAS_WP_INFO ∷ kept) (sections_form tools)
+  pub always : DependsOnlyOn [] (LIST ∷ OFFSET ∷ TAKEN_FOR_FRAME) (sections_form tools)
+
+-- Sets with the same items of kept fields, and the same others, are the same.
+abbrev pub KeptAndOthersTell : Type 0
+KeptAndOthersTell =
+    (items others : List Item) → IsItems items → IsItems others → shown_items (set_of kept) items ≡ shown_items (set_of kept) others
+    → other_items (set_of kept) items ≡ other_items (set_of kept) others → items ≡ others

@@ -1,0 +1,23 @@
+//! Laws of picture parameter sets: functions that do nothing, each with a law as its contract.
+ghost use Rattle.vx_pps.specs.Sets.{WrittenIsRead, NoProperPrefix, StarsTellKept, KeptDependsOnKept, KeptAndOthersTell};
+
+/// What is written of a set is read as it.
+pub fn written_is_read()
+    ensures { WrittenIsRead }
+{}
+
+/// No spelling of a set is a proper prefix of another's.
+pub fn no_proper_prefix()
+    ensures { NoProperPrefix }
+{}
+
+/// The kept fields of a set are those without a star, and depend on kept fields and on pps_no_pic_partition_flag alone.
+pub fn kept_depends_on_kept()
+    ensures depends { KeptDependsOnKept }
+    ensures stars { StarsTellKept }
+{}
+
+/// Kept fields and the others tell the set.
+pub fn kept_and_others_tell()
+    ensures { KeptAndOthersTell }
+{}

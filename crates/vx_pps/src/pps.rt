@@ -1,0 +1,155 @@
+//! A picture parameter set, and what is asked of it.
+ghost use Rattle.std.specs.Prelude.{◌≡◌, slice_index};
+ghost use Rattle.vx_pps.specs.Items as told;
+
+use crate::partition::Partition;
+use std::marker::Model;
+use vx_bits::Fields;
+use vx_fields::pps::{
+    pps_no_pic_partition_flag, pps_num_ref_idx_default_active_minus1,
+    pps_pic_height_in_luma_samples, pps_pic_width_in_luma_samples,
+};
+use vx_layout::{Bounds, RectList};
+use vx_table::{Scope, natural};
+
+/// A picture parameter set. It is seen as the list of its items.
+///
+/// What is asked of it is computed once, when it is made.
+#[derive(Drop)]
+pub struct Pps {
+    fields: Fields,
+    scope: Scope,
+    partition: Partition,
+    default_active_0: u32,
+    default_active_1: u32,
+}
+
+impl Model for Pps {
+    ghost use Rattle.std.specs.Prelude.{◌≡◌, List};
+    ghost use Rattle.vx_bits.specs.declared.list.Item.{Item};
+    ghost use Rattle.vx_table.specs.Scope.{fresh, loaded};
+    ghost use Rattle.vx_pps.specs.Pps.{IsPps, default_active};
+
+    ghost Value = { List Item };
+
+    ghost view = { λ p. p.fields };
+
+    ghost invariant = { λ p. IsPps p.fields p.partition × (p.scope ≡ loaded fresh p.fields) × (p.default_active_0 ≡ default_active p.fields 0) × (p.default_active_1 ≡ default_active p.fields 1) };
+}
+
+/// The number of a field's item, counted from 0 among those of this field; 0 where there are fewer.
+fn number_at(fields: &Fields, field: u16, index: usize) -> u32
+    ensures { result ≡ slice_index (told.numbers_of fields.now field) index }
+{
+    let mut before = 0;
+    for i in 0..fields.len() {
+        let item = fields.item(i);
+        if item.field == field {
+            if before == index {
+                return natural(item.value);
+            }
+            before += 1;
+        }
+    }
+    0
+}
+
+impl Pps {
+    ghost use Rattle.std.specs.Prelude.{◌≡◌, option_copied};
+    ghost use Rattle.vx_table.specs.Loaded.{number};
+    ghost use Rattle.vx_table.specs.Scope.{fresh, loaded};
+    ghost use Rattle.vx_fields.specs.declared.pps.TheConstants as names;
+    ghost use Rattle.vx_pps.specs.Pps as set;
+    ghost use Rattle.vx_pps.specs.Pps.{IsPps};
+
+    /// The set of these items, which has these tiles and slices.
+    pub(crate) fn new(fields: Fields, partition: Partition) -> Pps
+        requires { IsPps fields partition }
+        ensures { result ≡ fields }
+    {
+        let mut scope = Scope::new();
+        scope.load(&fields);
+        let field = pps_num_ref_idx_default_active_minus1;
+        let default_active_0 = number_at(&fields, field, 0);
+        let default_active_1 = number_at(&fields, field, 1);
+        Pps {
+            fields,
+            scope,
+            partition,
+            default_active_0,
+            default_active_1,
+        }
+    }
+
+    /// Its items, as H.266 orders them.
+    pub fn fields(&self) -> &Fields
+        ensures items { result.now ≡ self.now }
+        ensures set { set.IsItems result.now }
+    {
+        &self.fields
+    }
+
+    /// The numbers of its fields, from which headers are read.
+    pub fn scope(&self) -> &Scope
+        ensures { result.now ≡ loaded fresh self.now }
+    {
+        &self.scope
+    }
+
+    /// The width of a picture in luma samples.
+    pub fn width(&self) -> u32
+        ensures { result ≡ number self.now names.pps_pic_width_in_luma_samples }
+    {
+        self.scope.latest(pps_pic_width_in_luma_samples)
+    }
+
+    /// The height of a picture in luma samples.
+    pub fn height(&self) -> u32
+        ensures { result ≡ number self.now names.pps_pic_height_in_luma_samples }
+    {
+        self.scope.latest(pps_pic_height_in_luma_samples)
+    }
+
+    /// Whether a picture may have several tiles and slices: pps_no_pic_partition_flag is 0.
+    pub fn partitioned(&self) -> bool
+        ensures { result ≡ set.is_partitioned self.now }
+    {
+        self.scope.latest(pps_no_pic_partition_flag) == 0
+    }
+
+    /// The bounds of the tile columns in CTUs (H.266 6.5.1); none where the picture isn't partitioned.
+    pub fn columns(&self) -> &Bounds
+        ensures { result.now ≡ set.columns_of self.now }
+    {
+        &self.partition.tiles.columns
+    }
+
+    /// The bounds of the tile rows in CTUs (H.266 6.5.1); none where the picture isn't partitioned.
+    pub fn rows(&self) -> &Bounds
+        ensures { result.now ≡ set.rows_of self.now }
+    {
+        &self.partition.tiles.rows
+    }
+
+    /// The slices as rectangles of CTUs (H.266 6.5.1), in the order of the slice list; `None` where the picture isn't
+    /// partitioned, or each subpicture is a slice.
+    pub fn slices(&self) -> Option<&RectList>
+        ensures { option_copied result ≡ set.slices_of self.now }
+    {
+        self.partition.slices.as_ref()
+    }
+
+    /// The active entries of list 0 where a slice says nothing, less 1.
+    pub fn default_active_0(&self) -> u32
+        ensures { result ≡ set.default_active self.now 0 }
+    {
+        self.default_active_0
+    }
+
+    /// The active entries of list 1 where a slice says nothing, less 1.
+    pub fn default_active_1(&self) -> u32
+        ensures { result ≡ set.default_active self.now 1 }
+    {
+        self.default_active_1
+    }
+}

@@ -1,0 +1,66 @@
+//! Reading, writing and sifting a picture parameter set.
+ghost use Rattle.std.specs.Prelude.{◌≡◌, ◌≤◌, ◌^◌, length, IfOk};
+ghost use Rattle.vx_table.specs.Reading.{ReadsValue};
+ghost use Rattle.vx_pps.specs.Pps.{IsSpelling, kept_of, pps_form};
+
+use crate::halt::Halt;
+use crate::pps::Pps;
+use crate::walk::code_pps;
+use std::alloc::{AllocError, Global};
+use vx_bits::{BitReader, BitWriter, Fields, ReadError};
+use vx_table::{SpellError, Unwritten};
+
+/// Reads a picture parameter set, `pic_parameter_set_rbsp()`, clause 7.3.2.5, from an RBSP of at most 2^23 bytes.
+///
+/// # Errors
+///
+/// The first refusal, or want of memory.
+pub fn read_pps(alloc: Global, rbsp: &[u8]) -> Result<Pps, ReadError>
+    requires { length rbsp.now ≤ 2 ^ 23 }
+    ensures { ReadsValue pps_form rbsp.now result }
+{
+    let mut bits = BitReader::new(rbsp);
+    let mut fields = Fields::new(alloc);
+    match code_pps(alloc, &mut bits, &mut fields) {
+        Ok(partition) => Ok(Pps::new(fields, partition)),
+        Err(Halt::Memory) => Err(ReadError::Memory),
+        Err(Halt::Refused(error)) => Err(error),
+    }
+}
+
+/// Writes a picture parameter set: its RBSP.
+///
+/// # Errors
+///
+/// Want of memory.
+pub fn write_pps(alloc: Global, pps: &Pps) -> Result<Vec<u8>, AllocError>
+    ensures { IfOk result (λ bytes. IsSpelling pps.now bytes.items) }
+{
+    let fields = pps.fields();
+    let mut bits = BitWriter::new(alloc);
+    let mut items = Unwritten::new(fields, 0, fields.len());
+    match code_pps(alloc, &mut bits, &mut items) {
+        Ok(_) => Ok(bits.into_bytes()),
+        Err(Halt::Refused(SpellError::NoValue)) => unreachable!(),
+        Err(Halt::Memory | Halt::Refused(SpellError::Memory)) => Err(AllocError),
+    }
+}
+
+/// The items of a set's kept fields. Those that say what stands in picture headers are among them also where they are
+/// absent, as 0.
+///
+/// # Errors
+///
+/// Want of memory.
+pub fn keep_pps(alloc: Global, pps: &Pps) -> Result<Fields, AllocError>
+    ensures { IfOk result (λ kept. kept ≡ kept_of pps.now) }
+{
+    let fields = pps.fields();
+    let mut kept = Fields::new(alloc);
+    let mut items = Unwritten::new(fields, 0, fields.len());
+    match code_pps(alloc, &mut items, &mut kept) {
+        Ok(_) => Ok(kept),
+        Err(Halt::Refused(SpellError::NoValue)) => unreachable!(),
+        Err(Halt::Memory | Halt::Refused(SpellError::Memory)) => Err(AllocError),
+    }
+}
