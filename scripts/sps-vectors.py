@@ -41,8 +41,7 @@ sets = [line.rstrip("\n").split(" ", 2) for line in open(sys.argv[1])]
 meanings = dict(line.rstrip("\n").split(" ", 1) for line in open(sys.argv[2]))
 print("""//! Cases by a model of the syntax that isn't ours. Written by scripts/sps-vectors.py.
 
-use crate::tests::{hash, items, meaning, read, syntax};
-use crate::write_sps;
+use crate::tests::{is_written_as, read, syntax, told_hash};
 use std::test::Fail;
 use vx_bits::Refusal::{Limit, Profile};
 use vx_bits::{BitCause, ReadError, Refusal};
@@ -54,11 +53,8 @@ table("sets", "u64", [(rbsp, hashed(f"{answer} {meanings[rbsp]}")) for rbsp, kin
 print("""    for (rbsp, wanted) in sets {
         assert!(rt; rbsp.len() <= 50000);
         let sps = read(rt.alloc(), rbsp)?;
-        let mut text = items(rt.alloc(), sps.fields())?;
-        let told = meaning(rt.alloc(), &sps)?;
-        write!(text, " {told}")?;
-        assert_eq!(rt; hash(text.as_str()), wanted, "{text}");
-        assert_eq!(rt; write_sps(rt.alloc(), &sps)?.as_slice(), rbsp);
+        assert_eq!(rt; told_hash(rt.alloc(), &sps)?, wanted, "{rbsp:?}");
+        assert!(rt; is_written_as(rt.alloc(), &sps, rbsp)?);
     }
     Ok(())
 }

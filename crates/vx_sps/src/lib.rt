@@ -15,6 +15,8 @@ mod subpictures;
 mod tables;
 #[cfg(test)]
 mod tests;
+#[cfg(test)]
+mod tests_vectors;
 mod walk;
 
 pub use laws::{kept_and_others_tell, kept_depends_on_kept, no_proper_prefix, written_is_read};

@@ -15,7 +15,7 @@ pub(crate) const fn syntax(field: u16, bit: u32, cause: BitCause) -> Refusal {
 }
 
 /// A hash of a text, FNV-1a.
-pub(crate) fn hash(text: &str) -> u64 {
+fn hash(text: &str) -> u64 {
     let mut hash = 0xcbf2_9ce4_8422_2325_u64;
     for byte in text.as_bytes() {
         hash = (hash ^ u64::from(*byte)).wrapping_mul(0x0100_0000_01b3);
@@ -24,7 +24,7 @@ pub(crate) fn hash(text: &str) -> u64 {
 }
 
 /// Items as text.
-pub(crate) fn items(alloc: Global, fields: &Fields) -> Result<String, AllocError> {
+fn items(alloc: Global, fields: &Fields) -> Result<String, AllocError> {
     let mut text = String::new(alloc);
     for i in 0..fields.len() {
         let Item { field, value } = fields.item(i);
@@ -91,7 +91,7 @@ fn structures(text: &mut String, list: &StructureList) -> Result<(), AllocError>
 }
 
 /// What a set tells as text.
-pub(crate) fn meaning(alloc: Global, sps: &Sps) -> Result<String, AllocError> {
+fn meaning(alloc: Global, sps: &Sps) -> Result<String, AllocError> {
     let mut first = String::new(alloc);
     let mut second = String::new(alloc);
     structures(&mut first, &sps.table().first)?;
@@ -104,6 +104,14 @@ pub(crate) fn meaning(alloc: Global, sps: &Sps) -> Result<String, AllocError> {
         "width={width} height={height} ctb={ctb} subpics={count} {subpictures} lists={first}|{second}"
     )?;
     Ok(text)
+}
+
+/// A hash of a set's items and what they tell, as text.
+pub(crate) fn told_hash(alloc: Global, sps: &Sps) -> Result<u64, AllocError> {
+    let mut text = items(alloc, sps.fields())?;
+    let told = meaning(alloc, sps)?;
+    write!(text, " {told}")?;
+    Ok(hash(text.as_str()))
 }
 
 /// The sets of stream A, of two of its pictures merged, and of the second one extracted again; what they tell.
@@ -136,7 +144,7 @@ fn reads_and_writes_sets_of_streams(rt: HostRuntime) -> Result<(), Fail> {
         assert!(rt; rbsp.len() <= 50000);
         let sps = read(rt.alloc(), rbsp)?;
         assert_eq!(rt; meaning(rt.alloc(), &sps)?.as_str(), told);
-        assert_eq!(rt; write_sps(rt.alloc(), &sps)?.as_slice(), rbsp);
+        assert!(rt; is_written_as(rt.alloc(), &sps, rbsp)?);
     }
     Ok(())
 }
@@ -537,31 +545,51 @@ fn push_end(bits: &mut BitWriter) -> Result<(), AllocError> {
     )
 }
 
-#[test]
-fn reads_and_writes_the_longest_set(rt: HostRuntime) -> Result<(), Fail> {
-    let mut bits = BitWriter::new(rt.alloc());
+/// The longest set.
+fn longest(alloc: Global) -> Result<Vec<u8>, AllocError> {
+    let mut bits = BitWriter::new(alloc);
     push_front(&mut bits)?;
     push_structures(&mut bits)?;
     push_structures(&mut bits)?;
     push_end(&mut bits)?;
-    let rbsp = bits.close()?;
+    bits.close()
+}
+
+/// What the longest set tells, its last subpicture in particular.
+fn longest_told(alloc: Global, sps: &Sps) -> Result<String, AllocError> {
+    let mut text = String::new(alloc);
+    let (width, height, ctb) = (sps.width(), sps.height(), sps.ctb());
+    write!(text, "{width}x{height} {ctb}")?;
+    let (ph, sh) = (sps.extra_ph_bits(), sps.extra_sh_bits());
+    write!(text, " {ph} {sh}")?;
+    let (first, second) = (sps.table().first.len(), sps.table().second.len());
+    write!(text, " {first} {second}")?;
+    if sps.subpics() == 1000 {
+        let Rect { x, y, w, h } = sps.rect(999);
+        write!(text, " {x},{y},{w},{h}")?;
+        let (treated, filtered) = (sps.treated(999), sps.filtered(999));
+        write!(text, " {treated} {filtered} {}", sps.id(999))?;
+    }
+    Ok(text)
+}
+
+/// Whether the set is written as these bytes.
+pub(crate) fn is_written_as(alloc: Global, sps: &Sps, rbsp: &[u8]) -> Result<bool, AllocError> {
+    let written = write_sps(alloc, sps)?;
+    Ok(written.as_slice() == rbsp)
+}
+
+#[test]
+fn reads_and_writes_the_longest_set(rt: HostRuntime) -> Result<(), Fail> {
+    let rbsp = longest(rt.alloc())?;
     assert!(rt; rbsp.len() <= 50000);
     let sps = read(rt.alloc(), rbsp.as_slice())?;
     assert_eq!(rt; sps.fields().len(), 22933);
-    assert_eq!(rt; (sps.width(), sps.height(), sps.ctb()), (16384, 16384, 32));
-    assert_eq!(rt; (sps.extra_ph_bits(), sps.extra_sh_bits()), (24, 24));
-    assert_eq!(rt; sps.subpics(), 1000);
-    assert!(rt; 999 < sps.subpics());
-    let last = Rect {
-        x: 1,
-        y: 2,
-        w: 511,
-        h: 510,
-    };
-    assert_eq!(rt; (sps.rect(999), sps.id(999)), (last, 65535));
-    assert_eq!(rt; (sps.treated(999), sps.filtered(999)), (false, true));
-    let table = sps.table();
-    assert_eq!(rt; (table.first.len(), table.second.len()), (64, 64));
-    assert_eq!(rt; write_sps(rt.alloc(), &sps)?.as_slice(), rbsp.as_slice());
+    let told = longest_told(rt.alloc(), &sps)?;
+    assert_eq!(rt;
+        told.as_str(),
+        "16384x16384 32 24 24 64 64 1,2,511,510 false true 65535"
+    );
+    assert!(rt; is_written_as(rt.alloc(), &sps, rbsp.as_slice())?);
     Ok(())
 }
