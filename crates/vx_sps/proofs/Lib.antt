@@ -2,7 +2,7 @@
 pub mod Counted
 pub mod Bounded
 pub mod Written
-pub mod Groups
+pub mod Stages
 pub mod Rows
 pub mod Chain
 pub mod Testing

@@ -28,7 +28,8 @@ use Rattle.vx_sps.specs.Subpictures.{subpics_of, numbers_of, corner_at, size_at,
 use Rattle.vx_sps.specs.Depends.{kept}
 use Rattle.vx_sps.specs.Reshaped.{item, same, where_so, place_items, id_items, profile_items, size_items, window_items, has_window, mapping_items, one_items, places_items, many_items, id_bits, subpic_items, picture_items, dpb_items, rate_items, timing_items, stated, AreParts, IsSize, IsPlan, IsShape, IsReshaped}
 use Rattle.vx_sps.specs.Reread.{count_in, rect_in, id_in, Says, ReshapedSays, ReshapedKeeps}
-use Rattle.vx_sps.proofs.Groups.{knows_all, inside_nothing}
+use Rattle.vx_table.proofs.Groups.{inside_nothing}
+use Rattle.vx_sps.proofs.Stages.{knows_all}
 use Rattle.vx_sps.proofs.Stated.{below}
 use Rattle.vx_sps.proofs.Exists.{few_units}
 use Rattle.vx_sps.proofs.With.{with_field, number_with, others_with, Passing, passing_append, passing_where, passing_times, passing_turns, lacks, with_first, with_second}
