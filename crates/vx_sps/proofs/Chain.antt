@@ -21,8 +21,9 @@ use Rattle.vx_sps.specs.declared.shape.SpsShape.{SpsShape}
 use Rattle.vx_sps.specs.declared.tables.TheConstants.{TAKEN}
 use Rattle.vx_sps.specs.Structure.{ids, start, profile, resampling, picture, counts, dpb, tools, timing, end, sps_sections, sps_form}
 use Rattle.vx_sps.specs.Reshaped.{id_items, profile_items, picture_items, dpb_items, timing_items, stated, IsReshaped}
-use Rattle.vx_sps.proofs.Groups.{cut, copied_group, replaced_group, groups_rewrite, inside_nothing, standing}
-use Rattle.vx_sps.proofs.Tests as tests
+use Rattle.vx_table.proofs.Groups.{copied_group, inside_nothing, Onward, copied_first, replaced_first}
+use Rattle.vx_sps.proofs.Stages.{standing}
+use Rattle.vx_sps.proofs.Rows as tests
 
 -- What is stated goes through the replaced groups, at each scope that has the numbers which they read.
 pub record Replaces (source : List Item) (shape : SpsShape) : Type 0 where
@@ -40,27 +41,6 @@ pub record Replaces (source : List Item) (shape : SpsShape) : Type 0 where
 abbrev names : List ℕ
 names = set_of TAKEN
 
--- ---- one group before the rest
-
--- The rest of a set can be rewritten with these others, at each scope at which it ends so, where some names have no number before it.
-abbrev Onward : List ℕ → List Section → List ℕ → List Item → Type 0
-Onward none rest last others = (s : List ℕ) (values : List ℤ) → Follows (sections_form rest s) values last → Rewrites names none (sections_form rest) s values last others
-
-copied_first : (none : List ℕ) (group rest : List Section) {last : List ℕ} {others : List Item} → sections_chain names names group ≡ true
-    → sections_pass (shows_row names) group ≡ true → sections_hide none group ≡ true → Onward none rest last others → Onward none (group ++ rest) last others
-copied_first none group rest chain shows hide more s values follows =
-    let parts = cut group rest s follows in
-    groups_rewrite names none none group rest (inside_itself none) hide parts (copied_group names none group chain shows parts.first) (more parts.mid parts.others parts.second)
-
-replaced_first : (none later : List ℕ) (group rest : List Section) {last : List ℕ} {here others : List Item} → Inside later none → sections_hide names group ≡ true
-    → sections_hide later group ≡ true
-    → ((s t : List ℕ) (values : List ℤ) → Follows (sections_form (group ++ rest) s) values last → Agree names s t → Agree none fresh t → Takes (sections_form group t) here)
-    → Onward later rest last others → Onward none (group ++ rest) last (here ++ others)
-replaced_first none later group rest inside replaced hide takes more s values follows =
-    let parts = cut group rest s follows in
-    groups_rewrite names none later group rest inside hide parts (replaced_group names none group replaced parts.first (λ t agree empty. takes s t values follows agree empty))
-    (more parts.mid parts.others parts.second)
-
 -- a number that a replaced group reads
 reads : (given : List ℕ) (rest : List Section) {values others : List ℤ} {s last t : List ℕ} → sections_name_none (set_of given) sps_sections ≡ true → sections_hide (set_of given) rest ≡ true
     → Follows sps_form values last → Follows (sections_form rest s) others last → Agree names s t → (n : ℕ) → IsTrue (has (set_of given) n) → IsTrue (has names n)
@@ -73,36 +53,36 @@ module _ {values : List ℤ} {last : List ℕ} (shape : SpsShape) (follows : Fol
   abbrev source : List Item
   source = items_along sps_form values
 
-  from_end : Onward fresh end last []
+  from_end : Onward names fresh end last []
   from_end s w ends = copied_group names fresh end tests.end_taken.0 tests.end_taken.1 ends
 
-  from_timing : Onward fresh tests.from_timing last (timing_items source ++ [])
+  from_timing : Onward names fresh tests.from_timing last (timing_items source ++ [])
   unfolding fresh
-  from_timing = replaced_first fresh fresh timing end (inside_itself fresh) tests.timing_replaced.0 tests.timing_replaced.1
+  from_timing = replaced_first names fresh fresh timing end (inside_itself fresh) tests.timing_replaced.0 tests.timing_replaced.1
       (λ s t w ends agree empty. there.timing t empty.size (reads tests.read_numbers tests.from_timing tests.numbers_load tests.timed_stands follows ends agree sps_max_sublayers_minus1 refl refl)
       (reads tests.read_numbers tests.from_timing tests.numbers_load tests.timed_stands follows ends agree sps_timing_hrd_params_present_flag refl refl)) from_end
 
-  from_dpb : Onward fresh tests.from_dpb last (dpb_items source shape.dpb ++ (timing_items source ++ []))
+  from_dpb : Onward names fresh tests.from_dpb last (dpb_items source shape.dpb ++ (timing_items source ++ []))
   unfolding fresh
-  from_dpb = replaced_first fresh fresh dpb tests.from_tools (inside_itself fresh) tests.dpb_replaced.0 tests.dpb_replaced.1
+  from_dpb = replaced_first names fresh fresh dpb tests.from_tools (inside_itself fresh) tests.dpb_replaced.0 tests.dpb_replaced.1
       (λ s t w ends agree empty. there.dpb t empty.size (reads tests.early_numbers tests.from_dpb tests.early_load tests.dpb_stands follows ends agree sps_max_sublayers_minus1 refl refl))
-      (copied_first fresh tools tests.from_timing tests.tools_taken.0 tests.tools_taken.1 tests.tools_taken.2 from_timing)
+      (copied_first names fresh tools tests.from_timing tests.tools_taken.0 tests.tools_taken.1 tests.tools_taken.2 from_timing)
 
-  from_picture : Onward tests.unset tests.from_picture last (picture_items source shape ++ (dpb_items source shape.dpb ++ (timing_items source ++ [])))
+  from_picture : Onward names tests.unset tests.from_picture last (picture_items source shape ++ (dpb_items source shape.dpb ++ (timing_items source ++ [])))
   unfolding fresh
-  from_picture = replaced_first tests.unset fresh picture tests.from_counts (inside_nothing tests.unset) tests.picture_replaced.0 tests.picture_replaced.1
+  from_picture = replaced_first names tests.unset fresh picture tests.from_counts (inside_nothing tests.unset) tests.picture_replaced.0 tests.picture_replaced.1
       (λ s t w ends agree empty. there.picture t empty (reads tests.early_numbers tests.from_picture tests.early_load tests.picture_stands follows ends agree sps_log2_ctu_size_minus5 refl refl))
-      (copied_first fresh counts tests.from_dpb tests.counts_taken.0 tests.counts_taken.1 tests.counts_taken.2 from_dpb)
+      (copied_first names fresh counts tests.from_dpb tests.counts_taken.0 tests.counts_taken.1 tests.counts_taken.2 from_dpb)
 
-  from_profile : Onward tests.unset tests.from_profile last (profile_items source shape.level ++ (picture_items source shape ++ (dpb_items source shape.dpb ++ (timing_items source ++ []))))
+  from_profile : Onward names tests.unset tests.from_profile last (profile_items source shape.level ++ (picture_items source shape ++ (dpb_items source shape.dpb ++ (timing_items source ++ []))))
   unfolding fresh
-  from_profile = replaced_first tests.unset tests.unset profile tests.from_resampling (inside_itself tests.unset) tests.profile_replaced.0 tests.profile_unset
+  from_profile = replaced_first names tests.unset tests.unset profile tests.from_resampling (inside_itself tests.unset) tests.profile_replaced.0 tests.profile_unset
       (λ s t w ends agree empty. there.profile t empty.size (reads tests.early_numbers tests.from_profile tests.early_load tests.profile_stands follows ends agree sps_max_sublayers_minus1 refl refl))
-      (copied_first tests.unset resampling tests.from_picture tests.resampling_taken.0 tests.resampling_taken.1 tests.resampling_taken.3 from_picture)
+      (copied_first names tests.unset resampling tests.from_picture tests.resampling_taken.0 tests.resampling_taken.1 tests.resampling_taken.3 from_picture)
 
-  from_ids : Onward tests.unset sps_sections last (id_items shape.id ++ (profile_items source shape.level ++ (picture_items source shape ++ (dpb_items source shape.dpb ++ (timing_items source ++ [])))))
-  from_ids = replaced_first tests.unset tests.unset ids tests.from_start (inside_itself tests.unset) tests.ids_replaced.0 tests.ids_unset
-      (λ s t w ends agree empty. there.ids t empty.size) (copied_first tests.unset start tests.from_profile tests.start_taken.0 tests.start_taken.1 tests.start_taken.3 from_profile)
+  from_ids : Onward names tests.unset sps_sections last (id_items shape.id ++ (profile_items source shape.level ++ (picture_items source shape ++ (dpb_items source shape.dpb ++ (timing_items source ++ [])))))
+  from_ids = replaced_first names tests.unset tests.unset ids tests.from_start (inside_itself tests.unset) tests.ids_replaced.0 tests.ids_unset
+      (λ s t w ends agree empty. there.ids t empty.size) (copied_first names tests.unset start tests.from_profile tests.start_taken.0 tests.start_taken.1 tests.start_taken.3 from_profile)
 
   pub set_rewrites : (items : List Item) × IsReshaped source shape items
   set_rewrites =

@@ -2,8 +2,8 @@
 pub mod Counted
 pub mod Bounded
 pub mod Written
-pub mod Groups
-pub mod Tests
+pub mod Stages
+pub mod Rows
 pub mod Chain
 pub mod Testing
 pub mod Stated

@@ -23,7 +23,8 @@ use Rattle.vx_sps.specs.Structure.{dpb, timed, timing, sps_sections, sps_form}
 use Rattle.vx_sps.specs.Reshaped.{item, where_so, dpb_items, timing_items, rate_items}
 use Rattle.vx_sps.specs.declared.tables.TheConstants.{SUBLAYER_DPB, SUBLAYER_CPB}
 use Rattle.vx_ptl.specs.declared.tables.TheConstants.{DPB, NO_TIMING, TIMING, SUBLAYER_TIMING}
-use Rattle.vx_sps.proofs.Groups.{agree_given, takes_at, TakesTo, Meets, stage_at, groups_take_to, no_more_to, where_to, there_to, table_to}
+use Rattle.vx_table.proofs.Groups.{agree_given, takes_at}
+use Rattle.vx_sps.proofs.Stages.{TakesTo, Meets, stage_at, groups_take_to, no_more_to, where_to, there_to, table_to}
 use Rattle.vx_sps.proofs.Testing.{owed, tested, all_tested, at_end, they_take, values_take_to}
 use Rattle.vx_sps.proofs.Stated.{below, one_long}
 

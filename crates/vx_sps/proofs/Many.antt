@@ -37,7 +37,8 @@ use Rattle.vx_table.proofs.Rewrites.{tables_leave, turns_take}
 use Rattle.vx_sps.specs.declared.tables.TheConstants.{SUBPICTURES, PLACE, SUBPIC_IDS}
 use Rattle.vx_sps.specs.Structure.{with_subpictures}
 use Rattle.vx_sps.specs.Reshaped.{item, where_so, place_items, places_items, many_items, id_bits}
-use Rattle.vx_sps.proofs.Groups.{agree_given, takes_at, TakesTo, Meets, stage_at, groups_take_to, groups_beside, field_to, field_where, nowhere, then_to, there_to, absent_to, no_more_to}
+use Rattle.vx_table.proofs.Groups.{agree_given, takes_at}
+use Rattle.vx_sps.proofs.Stages.{TakesTo, Meets, stage_at, groups_take_to, groups_beside, field_to, field_where, nowhere, then_to, there_to, absent_to, no_more_to}
 use Rattle.vx_sps.proofs.Testing.{Anywhere, owed, tested, all_tested, at_end, they_take, values_take_to}
 use Rattle.vx_sps.proofs.Picture.{block, block_at, block_given, within_range}
 

@@ -25,7 +25,8 @@ use Rattle.vx_table.specs.Rewrites.{Takes}
 use Rattle.vx_sps.specs.declared.tables.TheConstants.{SIZE, CTUS, SUBPICTURES, PLACE, SUBPIC_IDS}
 use Rattle.vx_sps.specs.Structure.{picture, with_subpictures}
 use Rattle.vx_sps.specs.Reshaped.{item, where_so, has_window, window_items, size_items, mapping_items, subpic_items, IsSize}
-use Rattle.vx_sps.proofs.Groups.{agree_given, takes_at, TakesTo, Meets, stage_at, groups_take_to}
+use Rattle.vx_table.proofs.Groups.{agree_given, takes_at}
+use Rattle.vx_sps.proofs.Stages.{TakesTo, Meets, stage_at, groups_take_to}
 use Rattle.vx_sps.proofs.Testing.{owed, tested, all_tested, at_end, they_take, values_take_to}
 use Rattle.vx_sps.proofs.Limits.{coded_at}
 

@@ -28,7 +28,8 @@ use Rattle.vx_sps.specs.Subpictures.{subpics_of, numbers_of, corner_at, size_at,
 use Rattle.vx_sps.specs.Depends.{kept}
 use Rattle.vx_sps.specs.Reshaped.{item, same, where_so, place_items, id_items, profile_items, size_items, window_items, has_window, mapping_items, one_items, places_items, many_items, id_bits, subpic_items, picture_items, dpb_items, rate_items, timing_items, stated, AreParts, IsSize, IsPlan, IsShape, IsReshaped}
 use Rattle.vx_sps.specs.Reread.{count_in, rect_in, id_in, Says, ReshapedSays, ReshapedKeeps}
-use Rattle.vx_sps.proofs.Groups.{knows_all, inside_nothing}
+use Rattle.vx_table.proofs.Groups.{inside_nothing}
+use Rattle.vx_sps.proofs.Stages.{knows_all}
 use Rattle.vx_sps.proofs.Stated.{below}
 use Rattle.vx_sps.proofs.Exists.{few_units}
 use Rattle.vx_sps.proofs.With.{with_field, number_with, others_with, Passing, passing_append, passing_where, passing_times, passing_turns, lacks, with_first, with_second}
@@ -71,9 +72,11 @@ dpb_beside source numbers = passing_append beside _ _ (passing_where beside (is_
 rate_beside : (source : List Item) → Passing beside (rate_items source)
 rate_beside source =
     let general = is_set (number source timing.fixed_pic_rate_general_flag) in
-    let within = is_set (number source timing.fixed_pic_rate_within_cvs_flag) in
-    (refl, passing_append beside (where_so (not general) (same source timing.fixed_pic_rate_within_cvs_flag ∷ [])) (where_so (general || within) (same source timing.elemental_duration_in_tc_minus1 ∷ []))
-    (passing_where beside (not general) _ (refl, tt)) (passing_where beside (general || within) _ (refl, tt)))
+    let within = is_set (number source timing.fixed_pic_rate_within_cvs_flag) in (
+      refl,
+      passing_append beside (where_so (not general) (same source timing.fixed_pic_rate_within_cvs_flag ∷ [])) (where_so (general || within) (same source timing.elemental_duration_in_tc_minus1 ∷ []))
+          (passing_where beside (not general) _ (refl, tt)) (passing_where beside (general || within) _ (refl, tt)),
+    )
 
 timing_beside : (source : List Item) → Passing beside (timing_items source)
 timing_beside source =
@@ -233,8 +236,8 @@ module _ (columns rows : ℕ) where
       ∙ ap (λ l. own (corners (length rects) columns (λ i. (rect_at rects i).x)) (corners (length rects) rows (λ i. (rect_at rects i).y)) (sizes (length rects) columns (λ i. (rect_at rects i).w)) l i) hs
       ∙ same_rect _ _ _ _ (rect_at rects i) x y (rw x w) (rw y h)
     where
-    same_rect : (a b c d : ℕ) (r : Rect) → a ≡ r.x → b ≡ r.y → c ≡ r.w → d ≡ r.h → record { x = a; y = b; w = c; h = d } ≡ r
-    same_rect a b c d r e f g h = rw (e, f, g, h) refl
+      same_rect : (a b c d : ℕ) (r : Rect) → a ≡ r.x → b ≡ r.y → c ≡ r.w → d ≡ r.h → record { x = a; y = b; w = c; h = d } ≡ r
+      same_rect a b c d r e f g h = rw (e, f, g, h) refl
 
 own_same : {c d r s : ℕ} {xs ys ws hs x' y' w' h' : List ℕ} (i : ℕ) → c ≡ d → r ≡ s → xs ≡ x' → ys ≡ y' → ws ≡ w' → hs ≡ h' → own c r xs ys ws hs i ≡ own d s x' y' w' h' i
 own_same i a b e f g h = rw (a, b, e, f, g, h) refl

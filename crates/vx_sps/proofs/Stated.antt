@@ -19,7 +19,7 @@ use Rattle.vx_table.proofs.Loading.{number_below, sections_stay_below}
 use Rattle.vx_table.proofs.Rewrites.{values_take}
 use Rattle.vx_sps.specs.Structure.{ids, profile, dpb, timing, sps_sections, sps_form}
 use Rattle.vx_sps.specs.Reshaped.{item, id_items, profile_items, dpb_items, timing_items}
-use Rattle.vx_sps.proofs.Groups.{agree_given, takes_at}
+use Rattle.vx_table.proofs.Groups.{agree_given, takes_at}
 use Rattle.vx_sps.proofs.Testing.{owed, tested, all_tested, at_end, they_take}
 
 -- a scope with one number has as many numbers as one without

@@ -11,7 +11,7 @@ use Rattle.vx_table.specs.Spelling.{HasCode, fault_of, items_along}
 use Rattle.vx_table.specs.Values.{IsValueOf, Follows, to_end, through}
 use Rattle.vx_table.specs.Rewrites.{Takes}
 use Rattle.vx_bits.specs.declared.list.Item.{Item}
-use Rattle.vx_sps.proofs.Groups.{TakesTo}
+use Rattle.vx_sps.proofs.Stages.{TakesTo}
 
 abbrev pub is_zero : ℤ → Bool
 is_zero (pos zero) = true

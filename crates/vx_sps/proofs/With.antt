@@ -22,22 +22,22 @@ with_field of items = filter (λ item. item.field == of) items
 pub number_with : (of : ℕ) (items : List Item) → number items of ≡ number (with_field of items) of
 number_with of items = go fresh fresh items refl refl
   where
-  go : (s t : List ℕ) (items : List Item) → length s ≡ length t → slice_index s of ≡ slice_index t of → slice_index (loaded s items) of ≡ slice_index (loaded t (with_field of items)) of
-  go s t [] size same = same
-  go s t (item ∷ items) size same = elim (cases_Bool (item.field == of)) [
-    | inl is ↦ rw is
-        (go (slice_set s item.field (natural item.value)) (slice_set t item.field (natural item.value)) items (length-set s item.field (natural item.value) ∙ size ∙ sym (length-set t item.field (natural item.value)))
-        (both s t item.field (natural item.value) (eqb-true item.field of is) size same))
-    | inr other ↦ rw other
-        (go (slice_set s item.field (natural item.value)) t items (length-set s item.field (natural item.value) ∙ size)
-        (get_or-set_other s item.field of (natural item.value) 0 (λ e. false≢true (sym other ∙ eq-eqb item.field of (sym e))) ∙ same))
-  ]
-    where
-    both : (s t : List ℕ) (n v : ℕ) → n ≡ of → length s ≡ length t → slice_index s of ≡ slice_index t of → slice_index (slice_set s n v) of ≡ slice_index (slice_set t n v) of
-    both s t n v is size same = elim (cases_lt n (length s)) [
-      | inl within ↦ get_or-set_at s n of v 0 (sym is) within ∙ sym (get_or-set_at t n of v 0 (sym is) (omega (arith, size)))
-      | inr past ↦ rw (set_past s n v past, set_past t n v (omega (arith, size))) same
+    go : (s t : List ℕ) (items : List Item) → length s ≡ length t → slice_index s of ≡ slice_index t of → slice_index (loaded s items) of ≡ slice_index (loaded t (with_field of items)) of
+    go s t [] size same = same
+    go s t (item ∷ items) size same = elim (cases_Bool (item.field == of)) [
+      | inl is ↦ rw is
+          (go (slice_set s item.field (natural item.value)) (slice_set t item.field (natural item.value)) items (length-set s item.field (natural item.value) ∙ size ∙ sym (length-set t item.field (natural item.value)))
+          (both s t item.field (natural item.value) (eqb-true item.field of is) size same))
+      | inr other ↦ rw other
+          (go (slice_set s item.field (natural item.value)) t items (length-set s item.field (natural item.value) ∙ size)
+          (get_or-set_other s item.field of (natural item.value) 0 (λ e. false≢true (sym other ∙ eq-eqb item.field of (sym e))) ∙ same))
     ]
+      where
+        both : (s t : List ℕ) (n v : ℕ) → n ≡ of → length s ≡ length t → slice_index s of ≡ slice_index t of → slice_index (slice_set s n v) of ≡ slice_index (slice_set t n v) of
+        both s t n v is size same = elim (cases_lt n (length s)) [
+          | inl within ↦ get_or-set_at s n of v 0 (sym is) within ∙ sym (get_or-set_at t n of v 0 (sym is) (omega (arith, size)))
+          | inr past ↦ rw (set_past s n v past, set_past t n v (omega (arith, size))) same
+        ]
 
 -- items of a field that isn't one of some names are those of the others
 pub others_with : (names : List ℕ) (of : ℕ) (items : List Item) → IsFalse (has names of) → with_field of (other_items names items) ≡ with_field of items

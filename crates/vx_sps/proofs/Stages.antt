@@ -1,4 +1,4 @@
--- How a structure of tables is rewritten, group by group, and how what stands in place of a group goes through it.
+-- What stands in place of a group of tables goes through it: stage by stage, and row by row where conditions don't compute.
 use Rattle.std.proofs.Common.{◌≡◌, ◌≢◌, inl, inr, ℕ, ℤ, zero, suc, ◌+◌, ◌<◌, ◌≤◌, true, false, cond, not, ◌&&◌, ◌==◌, IsTrue, IsFalse, List, [], ◌∷◌, ◌++◌, length, slice_index, slice_set, replicate, None, refl, ap, sym, subst, ◌∙◌, arith}
 use Rattle.std.specs.Prelude.{Bool, take, drop}
 use Rattle.std.proofs.Math.Path.{fun_ext}
@@ -31,69 +31,11 @@ use Rattle.vx_table.proofs.Dependence.{inside_with_all}
 use Rattle.vx_table.proofs.Again.{follows_again, sections_show}
 use Rattle.vx_table.proofs.Joined.{parted, joined, items_joined}
 use Rattle.vx_table.proofs.Loading.{number_of_none, sections_load}
+use Rattle.vx_table.proofs.Groups.{AgreeOn, agree_given, takes_at, groups_take}
 use Rattle.vx_sps.specs.Reshaped.{where_so}
 use Rattle.vx_table.proofs.Rewrites.{leaves_agree, sections_leave, sections_together, copied_rewrites, replaced_rewrites, rewrites_together, takes_again, takes_together}
 
--- ---- groups
-
--- a structure cut in two
-pub cut : (first more : List Section) (s : List ℕ) {values : List ℤ} {end : List ℕ} → Follows (sections_form (first ++ more) s) values end
-    → Parted (sections_form first s) (sections_form more) values end
-cut first more s {values} {end} follows = parted (sections_form first s) (sections_form more) (subst (λ f. Follows f values end) (sections_together first more s) follows)
-
--- a group whose fields are all taken over
-pub copied_group : (names none : List ℕ) (sections : List Section) {s : List ℕ} {values : List ℤ} {end : List ℕ} → sections_chain names names sections ≡ true
-    → sections_pass (shows_row names) sections ≡ true → Follows (sections_form sections s) values end → Rewrites names none (sections_form sections) s values end []
-copied_group names none sections {s} {values} {end} chain shows follows =
-    copied_rewrites names none names (behind_sections names names sections) (sections_form sections) s values end (inside_itself names) (sections_carry names names sections chain)
-    (sections_show names sections shows) follows
-
--- one whose fields are all replaced
-pub replaced_group : (names none : List ℕ) (sections : List Section) {s : List ℕ} {values : List ℤ} {end : List ℕ} {here : List Item} → sections_hide names sections ≡ true
-    → Follows (sections_form sections s) values end → ((t : List ℕ) → Agree names s t → Agree none fresh t → Takes (sections_form sections t) here)
-    → Rewrites names none (sections_form sections) s values end here
-replaced_group names none sections {s} {values} {end} {here} hide follows takes = replaced_rewrites names none (sections_form sections) s values end here (sections_leave names sections hide) follows takes
-
--- one group behind another, before which some names have no number that the first leaves alone
-pub groups_rewrite : (names none later : List ℕ) (first more : List Section) {s : List ℕ} {values : List ℤ} {end : List ℕ} {here others : List Item} → Inside later none
-    → sections_hide later first ≡ true
-    → (parts : Parted (sections_form first s) (sections_form more) values end) → Rewrites names none (sections_form first) s parts.front parts.mid here
-    → Rewrites names later (sections_form more) parts.mid parts.others end others → Rewrites names none (sections_form (first ++ more)) s values end (here ++ others)
-groups_rewrite names none later first more {s} {values} {end} {here} {others} inside hide parts before behind =
-    subst (λ form. Rewrites names none form s values end (here ++ others)) (fun_ext (λ t. sym (sections_together first more t)))
-    (rewrites_together names none later (sections_form first) (sections_form more) s values end here others parts inside (sections_leave later first hide) before behind)
-
--- ---- scopes that agree
-
--- two scopes give each of these names the same number
-abbrev pub AgreeOn : List ℕ → List ℕ → List ℕ → Type 0
-AgreeOn [] s t = Unit {0}
-AgreeOn (n ∷ more) s t = (slice_index s n ≡ slice_index t n) × AgreeOn more s t
-
-nothing_has : (n : ℕ) → IsTrue (has fresh n) → ⊥
-nothing_has n h = both_ways _ (ap is_set (number_of_none n [] (All-nil (λ item. (item.field == n) ≡ false)))) h
-
-pub inside_nothing : (names : List ℕ) → Inside fresh names
-inside_nothing names = record { has_too = λ n h. absurd (nothing_has n h) }
-
-agree_nothing : (s t : List ℕ) → length s ≡ length t → Agree fresh s t
-agree_nothing s t size = record { size = size; same = λ n h. absurd (nothing_has n h) }
-
-agree_more : {names s t : List ℕ} (n : ℕ) → Agree names s t → slice_index s n ≡ slice_index t n → Agree (slice_set names n 1) s t
-agree_more {names} {s} {t} n agree same = record {
-  size = agree.size;
-  same = λ m h. elim (cases_eq m n) [
-    | inl is ↦ ap (λ x. slice_index s x) is ∙ same ∙ ap (λ x. slice_index t x) (sym is)
-    | inr is_not ↦ agree.same m (ap is_set (sym (get_or-set_other names n m 1 0 is_not)) ∙ h)
-  ];
-}
-
-agree_all : {names s t : List ℕ} (given : List ℕ) → Agree names s t → AgreeOn given s t → Agree (with_all names given) s t
-agree_all [] agree same = agree
-agree_all (n ∷ more) agree same = agree_all more (agree_more n agree same.0) same.1
-
-pub agree_given : (given : List ℕ) {s t : List ℕ} → length s ≡ length t → AgreeOn given s t → Agree (set_of given) s t
-agree_given given {s} {t} size same = agree_all given (agree_nothing s t size) same
+-- ---- numbers of the source
 
 -- The numbers of a set's items, at each scope before the rest of a set: of names that the rest leaves alone, and that are taken over.
 pub standing : (given names : List ℕ) (whole rest : List Section) {values others : List ℤ} {s end t : List ℕ} → sections_name_none given whole ≡ true → sections_hide given rest ≡ true
@@ -104,22 +46,6 @@ standing given names whole rest {values} {others} {s} {end} loads hide follows b
     ∙ sym (((sections_load given whole loads).at fresh values end follows).same n is_given)
 
 -- ---- what goes through a group
-
--- What goes through at one scope goes through at each that agrees with it on the numbers that a group reads.
-pub takes_at : (given : List ℕ) (sections : List Section) (s t : List ℕ) {items : List Item} → sections_depend_only_on given (named_by_all sections) sections ≡ true
-    → sections_pass (shows_row (with_all (set_of given) (named_by_all sections))) sections ≡ true → Agree (set_of given) s t → Takes (sections_form sections s) items
-    → Takes (sections_form sections t) items
-takes_at given sections s t {items} depends shows agree takes =
-    let shown : List ℕ = with_all (set_of given) (named_by_all sections) in
-    let alike = (structure_depends_only_on given (named_by_all sections) sections depends).alike s t agree in
-    let all = sections_show shown sections shows in
-    takes_again shown (set_of given) (sections_form sections s) (sections_form sections t) items alike (all.at s) (all.at t) takes
-
--- one group behind another
-pub groups_take : (first more : List Section) (s : List ℕ) {here others : List Item} → (before : Takes (sections_form first s) here) → Takes (sections_form more before.end) others
-    → Takes (sections_form (first ++ more) s) (here ++ others)
-groups_take first more s {here} {others} before rest =
-    subst (λ f. Takes f (here ++ others)) (sym (sections_together first more s)) (takes_together (sections_form first s) (sections_form more) here others before rest)
 
 -- One group beside another, which reads numbers that the first leaves alone: what goes through each at one scope.
 pub groups_beside : (given : List ℕ) (first more : List Section) (s : List ℕ) {here others : List Item} → sections_hide (set_of given) first ≡ true
