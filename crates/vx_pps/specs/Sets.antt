@@ -5,7 +5,6 @@ use Rattle.vx_bits.specs.declared.refusal.ReadError.{ReadError}
 use Rattle.vx_bits.specs.declared.refusal.ReadError.TheVariants as errors
 use Rattle.vx_fields.specs.declared.pps.TheConstants as pps
 use Rattle.vx_fields.specs.declared.names.pps.TheConstants.{LIST, OFFSET, PARTITIONED, HAS_DBF_INFO, IS_WEIGHTED, HAS_WP_INFO}
-use Rattle.vx_table.specs.declared.rows.Cell.{Cell}
 use Rattle.vx_table.specs.Depends.{has, set_of, DependsOnlyOn}
 use Rattle.vx_table.specs.EachField.{EachField}
 use Rattle.vx_table.specs.Parts.{sections_form}
