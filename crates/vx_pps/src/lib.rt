@@ -34,7 +34,8 @@ pub use laws::{
     list_gives_slices, lists_fall_into_groups, slices_are_read_back,
 };
 pub use laws_sets::{
-    kept_and_others_tell, kept_depends_on_kept, no_proper_prefix, written_is_read,
+    kept_and_others_tell, kept_depends_on_kept, no_proper_prefix, tiles_are_in_limits,
+    written_is_read,
 };
 pub use list::Listed;
 pub use partition::Partition;
