@@ -1,6 +1,6 @@
 -- A picture parameter set cut in its front, its tiles and slices, and its tools; and the numbers that its items give its fields.
-use Rattle.std.proofs.Common.{◌≡◌, ◌≢◌, ℕ, ℤ, ◌+◌, ◌<◌, ◌≤◌, ltb, ◌&&◌, ◌||◌, Bool, true, false, not, IsTrue, IsFalse, List, [], ◌∷◌, ◌++◌, slice_index, slice_set, sym, ap, ◌∙◌, subst, inl, inr, arith, refl}
-use Rattle.std.specs.Prelude.{All, filter}
+use Rattle.std.proofs.Common.{◌≡◌, ◌≢◌, ℕ, ℤ, ◌<◌, ◌≤◌, ltb, ◌&&◌, ◌||◌, Bool, true, false, IsTrue, IsFalse, List, [], ◌∷◌, ◌++◌, slice_index, slice_set, sym, ap, ◌∙◌, subst, inl, inr, arith, refl}
+use Rattle.std.specs.Prelude.{filter}
 use Rattle.std.proofs.lemmas.Bool.{and_parts, both_ways, cases_Bool, cases_eq, false_from_ne_true, ltb-true, not-true, or_cases}
 use Rattle.std.proofs.lemmas.List.{append-nil, get_or-set_other}
 use Rattle.std.proofs.lemmas.List.Elements.{filter-append}
@@ -17,7 +17,7 @@ use Rattle.vx_table.specs.declared.rows.Row.{Row}
 use Rattle.vx_table.specs.declared.rows.Row.TheVariants.{Field}
 use Rattle.vx_table.specs.Claims.{hides_row}
 use Rattle.vx_table.specs.Depends.{Agree, has, set_of, with_all}
-use Rattle.vx_table.specs.Loaded.{StaysBelow, number, row_below}
+use Rattle.vx_table.specs.Loaded.{StaysBelow, number}
 use Rattle.vx_table.specs.Rewritten.{other_items}
 use Rattle.vx_table.specs.Scope.{fresh, is_set, loaded, value}
 use Rattle.vx_table.specs.Shown.{shown_items}
@@ -28,12 +28,12 @@ use Rattle.vx_table.proofs.Joined.{items_joined, parted}
 use Rattle.vx_table.proofs.Loading.{loaded_then, number_below, number_of_shown, sections_load, sections_stay_below}
 use Rattle.vx_table.proofs.Rewriting.{no_other_here, other_here}
 use Rattle.vx_table.proofs.Rewrites.{leaves_agree, sections_leave, sections_together}
-use Rattle.vx_table.proofs.Shown.{hidden_here, scopes_follow_items, shown_here}
+use Rattle.vx_table.proofs.Shown.{hidden_here, scopes_follow_items}
 use Rattle.vx_pps.specs.declared.partition.Partition.{Partition}
 use Rattle.vx_pps.specs.Pps.{front, partition_at, pps_form, tools}
 use Rattle.vx_pps.specs.Written.{Gives}
 use Rattle.vx_pps.proofs.Division.{IsDividing, each_division}
-use Rattle.vx_pps.proofs.Giving.{gives_done, gives_end, gives_then}
+use Rattle.vx_pps.proofs.Giving.{gives_end, gives_then}
 use Rattle.vx_pps.proofs.Testing.{IsFlag, before_control, dbf_control, early, from_dbf, front_numbered, numbered, override, override_stands, override_unshown, tools_early, tools_numbered}
 use Rattle.vx_pps.proofs.Tooled.{control_loads}
 use Rattle.vx_pps.specs.declared.tables.TheConstants as tables

@@ -1,8 +1,7 @@
 -- The tiles and slices of a picture parameter set: which fields they have, and that what is stated of a shape's goes through.
-use Rattle.std.proofs.Common.{◌≡◌, ◌==◌, ℕ, pos, zero, suc, ◌+◌, ◌-◌, ◌*◌, ◌^◌, ◌<◌, ◌≤◌, eqb, leb, ltb, min, Bool, true, false, cond, IsFalse, List, [], ◌∷◌, ◌++◌, length, Option, Some, None, is_some, sym, ap, ◌∙◌, subst, inl, inr, arith, refl}
+use Rattle.std.proofs.Common.{◌≡◌, ℕ, pos, zero, suc, ◌+◌, ◌-◌, ◌*◌, ◌^◌, ◌<◌, ◌≤◌, eqb, leb, ltb, Bool, true, false, cond, List, [], ◌∷◌, ◌++◌, length, Some, None, is_some, sym, ap, ◌∙◌, subst, inl, inr, arith, refl}
 use Rattle.std.specs.Int.{div_ceil}
 use Rattle.std.proofs.lemmas.Bool.{cases_Bool, cases_lt, eq-eqb, le-leb, le-ltb, lt-ltb, ltb-true, ne_eqb, true≢false}
-use Rattle.std.proofs.lemmas.List.{append-nil}
 use Rattle.vx_bits.specs.declared.list.Item.{Item}
 use Rattle.vx_fields.specs.declared.pps.TheConstants as pps
 use Rattle.vx_layout.specs.declared.rect.Rect.{Rect}
@@ -21,11 +20,10 @@ use Rattle.vx_table.specs.Values.{Follows, to_end, through}
 use Rattle.vx_table.proofs.EachField.{each_then}
 use Rattle.vx_bits.specs.declared.rules.TheConstants.{TOO_MANY_SLICES, RASTER_SCAN_SLICES}
 use Rattle.vx_pps.specs.declared.list.Listed.{Listed}
-use Rattle.vx_pps.specs.declared.partition.Partition.{Partition}
 use Rattle.vx_pps.specs.declared.shape.PpsShape.{PpsShape}
 use Rattle.vx_pps.specs.declared.tiles.Tiles.{Tiles}
 use Rattle.vx_pps.specs.Tiles.{IsGrid, across, block, column, down, row, tile, tile_behind}
-use Rattle.vx_pps.specs.Groups.{Group, InGroups, IsList, spells_height}
+use Rattle.vx_pps.specs.Groups.{InGroups, IsList, spells_height}
 use Rattle.vx_pps.specs.Partition.{across_flag, counted, ctu_size, ctus, deltas_flag, divided, fixed, flag, impossible_flag, last_slice, listed_slices, partition, sizes_of, slices_among, subpicture_slices, tile_flags, tiles_among, undivided}
 use Rattle.vx_pps.specs.Reshaped.{CanBeDivided, Divides, divided_items, has_deltas, slice_items, tile_flag_items, tile_items, where_so}
 use Rattle.vx_pps.specs.Slices.{all_slices, below, delta, goes_on, height_in_tiles, list_from, may_be_cut, none_listed, number, sizes_from, slices_at, slices_in_tile, spells_delta, strips_from, tile_after, turn, turns_from, width_in_tiles}
@@ -312,30 +310,28 @@ gives_ctu log2 low = gives_fixed pps.pps_log2_ctu_size_minus5 2 log2 (below 3) (
 pub grid_of : (shape : PpsShape) → CanBeDivided shape → IsGrid shape.tiles
 grid_of shape can = (layouts_are shape.tiles shape.slices can.layout can.listable).grid
 
--- a picture's tiles and slices
-pub record Division (shape : PpsShape) : Type 0 where
-  pub items : List Item
-  pub divides : Divides shape items
-  pub gives : Gives (divided shape.width shape.height) items (record { tiles = shape.tiles; slices = Some shape.slices })
+-- items that say what is said of tiles and slices: there are some, and they go through, to an end that has these
+pub a_division : (shape : PpsShape) → CanBeDivided shape → (items : List Item) × Divides shape items
+a_division shape can =
+    let is = layouts_are shape.tiles shape.slices can.layout can.listable in
+    let groups = groups_for shape.tiles shape.slices is (omega (arith, can.layout.limits.slices.0)) in
+    (divided_items shape (groups.group ∷ groups.groups), record { groups = groups; same = refl })
 
-pub can_be : (shape : PpsShape) → CanBeDivided shape → Division shape
+pub division_gives : (shape : PpsShape) (items : List Item) → CanBeDivided shape → Divides shape items → Gives (divided shape.width shape.height) items (record { tiles = shape.tiles; slices = Some shape.slices })
 unfolding divided slices_among
-can_be shape can =
+division_gives shape items can d =
     let is = layouts_are shape.tiles shape.slices can.layout can.listable in
     let limits = can.layout.limits in
-    let groups = groups_for shape.tiles shape.slices is (omega (arith, limits.slices.0)) in
     let log2 : ℕ = can.ctb.0 in
     let columns_are : ctus shape.width log2 ≡ last shape.tiles.columns = ctus_are shape.width log2 shape.ctb (last shape.tiles.columns) can.ctb.2 can.columns limits.columns.1 in
     let rows_are : ctus shape.height log2 ≡ last shape.tiles.rows = ctus_are shape.height log2 shape.ctb (last shape.tiles.rows) can.ctb.2 can.rows limits.rows.1 in
     let log2_is : powers_below 32 shape.ctb - 5 ≡ log2 = ap (λ n. powers_below 32 n - 5) can.ctb.2 ∙ log2_of log2 can.ctb.1 in
     let tiles = gives_tiles shape.tiles can.layout.columns can.layout.rows limits.columns.0 limits.rows.0 limits.columns.1 limits.rows.1 in
-    let listed = gives_listed shape is (omega (arith, limits.slices.0)) limits.slices.1 groups in
-    record {
-      items = divided_items shape (groups.group ∷ groups.groups);
-      divides = record { groups = groups; same = refl };
-      gives = gives_then _ (subst (λ n. Gives ctu_size (item pps.pps_log2_ctu_size_minus5 (pos n)) log2) (sym log2_is) (gives_ctu log2 can.ctb.1))
-          (gives_then _ (subst (λ c. Gives (tiles_among c (ctus shape.height log2)) (tile_items shape) shape.tiles) (sym columns_are) (subst (λ r. Gives (tiles_among (last shape.tiles.columns) r) (tile_items shape) shape.tiles) (sym rows_are) tiles))
-          (gives_then _ (gives_tile_flags shape)
-          (gives_then _ (gives_fixed pps.pps_single_slice_per_subpic_flag 1 0 (below 2) (omega arith) (omega arith) (below_allows 0 2 (omega arith)))
-          (gives_end (λ slices. record { tiles = shape.tiles; slices = slices }) listed))));
-    }
+    let listed = gives_listed shape is (omega (arith, limits.slices.0)) limits.slices.1 d.groups in
+    let all : Gives (divided shape.width shape.height) (divided_items shape (d.groups.group ∷ d.groups.groups)) (record { tiles = shape.tiles; slices = Some shape.slices })
+    = gives_then _ (subst (λ n. Gives ctu_size (item pps.pps_log2_ctu_size_minus5 (pos n)) log2) (sym log2_is) (gives_ctu log2 can.ctb.1))
+    (gives_then _ (subst (λ c. Gives (tiles_among c (ctus shape.height log2)) (tile_items shape) shape.tiles) (sym columns_are) (subst (λ r. Gives (tiles_among (last shape.tiles.columns) r) (tile_items shape) shape.tiles) (sym rows_are) tiles))
+    (gives_then _ (gives_tile_flags shape)
+    (gives_then _ (gives_fixed pps.pps_single_slice_per_subpic_flag 1 0 (below 2) (omega arith) (omega arith) (below_allows 0 2 (omega arith)))
+    (gives_end (λ slices. record { tiles = shape.tiles; slices = slices }) listed)))) in
+    subst (λ xs. Gives (divided shape.width shape.height) xs (record { tiles = shape.tiles; slices = Some shape.slices })) (sym d.same) all

@@ -1,18 +1,15 @@
 -- The front of a picture parameter set, rewritten: ids, size and whether it is partitioned are stated, the rest is taken over.
-use Rattle.std.proofs.Common.{◌≡◌, ◌==◌, ℕ, ℤ, pos, zero, suc, ◌+◌, ◌-◌, ◌%◌, ◌^◌, ◌<◌, ◌≤◌, eqb, min, Bool, true, false, cond, List, [], ◌∷◌, ◌++◌, length, Option, Some, None, IfSome, slice_index, sym, ap, ◌∙◌, subst, inl, inr, arith, refl}
+use Rattle.std.proofs.Common.{◌≡◌, ℕ, ℤ, pos, zero, suc, ◌+◌, ◌%◌, ◌^◌, ◌<◌, ◌≤◌, min, Bool, List, [], ◌∷◌, ◌++◌, Option, Some, None, IfSome, arith, refl}
 use Rattle.std.proofs.lemmas.Bool.{eq-eqb, le-leb}
-use Rattle.std.proofs.lemmas.List.{append-nil}
-use Rattle.vx_bits.specs.declared.list.Item.{Item}
 use Rattle.vx_fields.specs.declared.pps.TheConstants as pps
 use Rattle.vx_table.specs.declared.rows.Fault.{Fault}
 use Rattle.vx_table.specs.declared.rows.Limits.TheVariants.{Any, Multiple, Within}
-use Rattle.vx_table.specs.Scope.{capped, fresh, most, natural, value}
-use Rattle.vx_table.specs.Forms.{Form, after, coding_at, form_of, has_value, limits_at, one_field, part, present, turns}
+use Rattle.vx_table.specs.Scope.{capped, fresh, natural, value}
+use Rattle.vx_table.specs.Forms.{after, coding_at, form_of, has_value, limits_at, one_field, part, present, turns}
 use Rattle.vx_table.specs.Parts.{sections_form}
 use Rattle.vx_table.specs.Spelling.{HasCode, fault_of, item_of, items_along}
 use Rattle.vx_table.specs.Values.{Follows}
-use Rattle.vx_table.specs.Depends.{Agree, set_of}
-use Rattle.vx_table.specs.Rewrites.{AreValues, Goes, Takes}
+use Rattle.vx_table.specs.Rewrites.{Goes, Takes}
 use Rattle.vx_table.specs.Shown.{shown_items}
 use Rattle.vx_table.proofs.Agreeing.{agree_itself, inside_itself}
 use Rattle.vx_table.proofs.Groups.{Onward, agree_given, copied_first, replaced_first, replaced_group, takes_at}

@@ -6,6 +6,7 @@ mod Turning
 mod Told
 mod Sets
 mod Spelling
+mod Limits
 pub mod Blocks
 pub mod Runs
 pub mod Grouping

@@ -1,5 +1,5 @@
 -- What the range of a field says of its number.
-use Rattle.std.proofs.Common.{◌≡◌, ◌&&◌, ℕ, ℤ, pos, negsuc, suc, ◌+◌, ◌-◌, ◌*◌, ◌^◌, ◌<◌, ◌≤◌, min, Bool, true, false, cond, None, Some, Result, Ok, Err, IfOk, inl, inr, refl, sym, arith, leb, ltb}
+use Rattle.std.proofs.Common.{◌≡◌, ◌&&◌, ℕ, ℤ, pos, negsuc, ◌+◌, ◌-◌, ◌^◌, ◌<◌, ◌≤◌, min, Bool, true, false, cond, None, Some, Result, Ok, Err, IfOk, inl, inr, refl, sym, arith, leb, ltb}
 use Rattle.std.proofs.Math.Pow.{pow_mono}
 use Rattle.std.proofs.lemmas.Option.{none-some}
 use Rattle.std.proofs.lemmas.Bool.{cases_Bool, leb-true, ltb-true}
@@ -7,12 +7,10 @@ use Rattle.std.specs.Int.{div_ceil, saturate_to_bits}
 use Rattle.vx_table.specs.declared.rows.Fault.{Fault}
 use Rattle.vx_table.specs.declared.rows.Fault.TheVariants.{OutOfRange}
 use Rattle.vx_table.specs.declared.rows.Limits.TheVariants.{Below}
-use Rattle.vx_table.specs.declared.rows.Cell.{Cell}
 use Rattle.vx_table.specs.declared.rows.Coding.TheVariants.{Fixed, Golomb}
 use Rattle.vx_table.specs.declared.rows.Limits.{Limits}
 use Rattle.vx_table.specs.Scope.{natural}
 use Rattle.vx_table.specs.Spelling.{HasCode, fault_of}
-use Rattle.vx_table.specs.Values.{IsValueOf}
 use Rattle.vx_pps.specs.Slices.{below, height_limits}
 
 -- a number of ue(v) is its value

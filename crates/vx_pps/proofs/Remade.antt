@@ -1,25 +1,25 @@
 -- A set that a rewriter puts together of the items of some fields and of those of the others.
-use Rattle.std.proofs.Common.{◌≡◌, ℕ, ℤ, ◌-◌, length, take, arith, List, [], ◌∷◌, ◌++◌, Result, Ok, Err, Option, Some, None, refl, sym, ap, subst, ◌∙◌, append_assoc}
+use Rattle.std.proofs.Common.{◌≡◌, ℕ, ℤ, ◌-◌, length, take, arith, List, [], ◌∷◌, ◌++◌, Result, Ok, Err, Option, Some, None, sym, ap, subst, ◌∙◌, append_assoc}
 use Rattle.std.proofs.lemmas.List.{append-nil, take_all}
 use Rattle.vx_bits.specs.declared.list.Item.{Item}
 use Rattle.vx_table.specs.declared.writer.SpellError.{SpellError}
 use Rattle.vx_table.specs.declared.writer.SpellError.TheVariants as spellings
-use Rattle.vx_table.specs.Forms.{Form, done, field}
+use Rattle.vx_table.specs.Forms.{Form, field}
 use Rattle.vx_table.specs.Rewritten.{IsRewritten, RewritesField, Sources}
 use Rattle.vx_table.specs.Shown.{shown_items}
 use Rattle.vx_table.specs.Spelling.{item_of, items_along}
 use Rattle.vx_table.specs.Values.{Follows, to_end, through}
 use Rattle.vx_table.proofs.Rewriting.{makes, rewrites}
 use Rattle.vx_pps.specs.declared.halt.Halt.{Halt}
-use Rattle.vx_pps.specs.declared.halt.Halt.TheVariants.{Memory, Refused}
+use Rattle.vx_pps.specs.declared.halt.Halt.TheVariants.{Refused}
 use Rattle.vx_pps.specs.declared.partition.Partition.{Partition}
 use Rattle.vx_pps.specs.declared.shape.PpsShape.{PpsShape}
 use Rattle.vx_pps.specs.Partition.{undivided}
 use Rattle.vx_pps.specs.Pps.{IsItems, IsPps, pps_form}
 use Rattle.vx_pps.specs.Reshaped.{IsReshaped, IsShape, taken}
 use Rattle.vx_pps.specs.inner.Stated.{PutsTogether, StatesAll}
-use Rattle.vx_pps.specs.inner.Walked.{Walked, coded, ended, refused}
-use Rattle.vx_pps.proofs.Reshaping.{reshapes}
+use Rattle.vx_pps.specs.inner.Walked.{Walked, coded, ended}
+use Rattle.vx_pps.proofs.Reshaping.{division_of, reshapes, stated as stated_items}
 use Rattle.vx_pps.proofs.Walking.{to_end as end_of, to_refusal}
 
 -- what it takes to the end are items of values
@@ -65,10 +65,11 @@ whole_sources names shown others a b n m r is is_a is_b size long =
 pub remade : (source : List Item) (shape : PpsShape) (others : List Item) (set : Option (List Item)) → IsItems source → IsShape source shape → StatesAll source shape others
     → PutsTogether (taken shape) (shown_items (taken shape) source) others set → (items : List Item) × IsReshaped source shape items × (set ≡ Some items)
 remade source shape others set is_set is stated puts_ =
-    let r = reshapes source is_set.end shape is_set.set is in
-    let same : r.others ≡ others = r.stated.all ∙ sym (stated.all r.stated.division r.stated.divides) in
+    let d = division_of source shape is in
+    let r = reshapes source is_set.end shape d.0 is_set.set is d.1 in
+    let same : stated_items source shape d.0 ≡ others = sym (stated.all d.0 d.1) in
     let rewritten : IsRewritten pps_form (taken shape) (shown_items (taken shape) source) others r.items = subst (λ xs. IsRewritten pps_form (taken shape) (shown_items (taken shape) source) xs r.items) same r.rewritten in
-    (r.items, record { others = r.others; stated = r.stated; rewritten = r.rewritten }, there set r.items rewritten puts_)
+    (r.items, record { others = others; stated = record { division = d.0; divides = d.1; all = sym same }; rewritten = rewritten }, there set r.items rewritten puts_)
 
 pub remade_from : (source fields : List Item) (shape : PpsShape) (names : List ℕ) (shown others : List Item) (set : Option (List Item)) → IsItems fields → fields ≡ source → IsShape source shape → names ≡ taken shape → shown ≡ shown_items names fields
     → StatesAll source shape others → PutsTogether names shown others set → (items : List Item) × IsReshaped source shape items × (set ≡ Some items)

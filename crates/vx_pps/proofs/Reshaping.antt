@@ -1,8 +1,7 @@
 -- That a rewritten picture parameter set exists: its parts go through, one behind another.
-use Rattle.std.proofs.Common.{◌≡◌, ℕ, ℤ, pos, zero, suc, ◌+◌, ◌^◌, ◌<◌, ◌≤◌, ◌≤ℤ◌, eqb, Bool, true, false, cond, neg_ℤ, IsTrue, IsFalse, List, [], ◌∷◌, ◌++◌, length, Option, Some, None, IfSome, slice_index, sym, ap, ◌∙◌, subst, inl, inr, arith, refl}
+use Rattle.std.proofs.Common.{◌≡◌, ℕ, ℤ, pos, zero, suc, ◌<◌, ◌≤ℤ◌, eqb, Bool, true, false, cond, neg_ℤ, IsFalse, List, [], ◌∷◌, ◌++◌, length, Option, Some, None, slice_index, sym, ap, ◌∙◌, subst, arith, refl}
 use Rattle.std.specs.Prelude.{◌==◌, All, filter, not}
 use Rattle.std.proofs.lemmas.Bool.{ne_eqb}
-use Rattle.std.proofs.lemmas.List.{append-nil}
 use Rattle.std.proofs.lemmas.List.Elements.{All-cons, All-nil, filter-append}
 use Rattle.vx_bits.specs.declared.list.Item.{Item}
 use Rattle.vx_fields.specs.declared.pps.TheConstants as pps
@@ -12,7 +11,7 @@ use Rattle.vx_table.specs.Spelling.{items_along}
 use Rattle.vx_table.specs.Depends.{Agree, has, set_of}
 use Rattle.vx_table.specs.Loaded.{number}
 use Rattle.vx_table.specs.Rewritten.{IsRewritten, other_items}
-use Rattle.vx_table.specs.Scope.{fresh, is_set, loaded, natural}
+use Rattle.vx_table.specs.Scope.{fresh, is_set}
 use Rattle.vx_table.specs.Shown.{shown_items}
 use Rattle.vx_table.proofs.Again.{sections_show}
 use Rattle.vx_table.proofs.Groups.{agree_given}
@@ -21,14 +20,16 @@ use Rattle.vx_table.proofs.Rewrites.{leaves_agree, sections_leave}
 use Rattle.vx_pps.specs.declared.partition.Partition.{Partition}
 use Rattle.vx_pps.specs.declared.shape.PpsShape.{PpsShape}
 use Rattle.vx_pps.specs.declared.shape.TheConstants.{TAKEN, TAKEN_FOR_FRAME}
-use Rattle.vx_pps.specs.Partition.{divided, partition, undivided}
-use Rattle.vx_pps.specs.Pps.{front, partition_at, pps_form, tools}
-use Rattle.vx_pps.specs.Reshaped.{CanBeDivided, IsDivision, IsReshaped, IsShape, IsSize, IsStated, frame_tool_items, front_items, id_items, taken, tool_items, where_so, whole_flag}
+use Rattle.vx_pps.specs.Partition.{partition, undivided}
+use Rattle.vx_pps.specs.Pps.{front, partition_at, partition_of, pps_form, tools}
+use Rattle.vx_pps.specs.Reshaped.{CanBeDivided, IsDivision, IsShape, IsSize, ReshapedHasItsTiles, frame_tool_items, front_items, id_items, taken, tool_items, where_so, whole_flag}
 use Rattle.vx_pps.specs.Written.{Gives, item}
-use Rattle.vx_pps.proofs.Cutting.{Clear, Parts, clear_from, cut_parts, division_unshown, flag_below, front_loads, none_other, number_by_others, numbers_before, numbers_told, override_told, put_parts}
-use Rattle.vx_pps.proofs.Division.{can_be}
+use Rattle.vx_pps.proofs.Cutting.{Clear, Parts, clear_from, cut_parts, division_unshown, flag_below, none_other, number_by_others, numbers_before, numbers_told, override_told, put_parts}
+use Rattle.vx_pps.proofs.Division.{a_division, division_gives}
 use Rattle.vx_pps.proofs.Fronts.{HasFront, front_goes}
 use Rattle.vx_pps.proofs.Giving.{gives_done, natural_is}
+use Rattle.vx_table.proofs.Rewriting.{apart}
+use Rattle.vx_pps.proofs.Told.{partition_is}
 use Rattle.vx_pps.proofs.Testing.{flags_are, front_numbered, names, numbered, override, override_stands, tools_read, whole}
 use Rattle.vx_pps.proofs.Tooled.{HasFlags, frame_tools, tools_again}
 
@@ -137,20 +138,22 @@ front_gone merged whole_ shape {source} {scope} has_ gives =
 
 -- ---- tiles and slices
 
-pub record Divided (whole_ : ℕ) (shape : PpsShape) : Type 0 where
-  pub items : List Item
+pub record Divided (whole_ : ℕ) (shape : PpsShape) (items : List Item) : Type 0 where
   pub end : Partition
-  pub is : IsDivision (is_set whole_) shape items
   pub gives : Gives (partition whole_ shape.width shape.height) items end
   pub end_is : whole_ ≡ 0 → end ≡ record { tiles = shape.tiles; slices = Some shape.slices }
 
-divide : (whole_ : ℕ) (shape : PpsShape) → whole_ < 2 → (whole_ ≡ 0 → CanBeDivided shape) → Divided whole_ shape
+divide : (whole_ : ℕ) (shape : PpsShape) (items : List Item) → whole_ < 2 → (whole_ ≡ 0 → CanBeDivided shape) → IsDivision (is_set whole_) shape items → Divided whole_ shape items
 unfolding partition
-divide zero shape low can =
-    let d = can_be shape (can refl) in
-    record { items = d.items; end = record { tiles = shape.tiles; slices = Some shape.slices }; is = d.divides; gives = d.gives; end_is = λ e. refl }
-divide (suc zero) shape low can = record { items = []; end = undivided; is = refl; gives = gives_done undivided; end_is = λ e. absurd (omega (arith, e)) }
-divide (suc (suc n)) shape low can = absurd (omega arith)
+divide zero shape items low can d = record { end = record { tiles = shape.tiles; slices = Some shape.slices }; gives = division_gives shape items (can refl) d; end_is = λ e. refl }
+divide (suc zero) shape items low can none = record { end = undivided; gives = subst (λ xs. Gives (done undivided) xs undivided) (sym none) (gives_done undivided); end_is = λ e. absurd (omega (arith, e)) }
+divide (suc (suc n)) shape items low can d = absurd (omega arith)
+
+some_division : (whole_ : ℕ) (shape : PpsShape) → (whole_ ≡ 0 → CanBeDivided shape) → (items : List Item) × IsDivision (is_set whole_) shape items
+some_division zero shape can = a_division shape (can refl)
+some_division (suc n) shape can =
+    let other : eqb (suc n) 0 ≡ false = ne_eqb (suc n) 0 (λ e. omega (arith, e)) in
+    ([], rw other refl)
 
 -- ---- the tools
 
@@ -201,31 +204,33 @@ tools_gone false {source} p qp t low high agree long whole_is =
 three_parts : (f : Item → Bool) (a b c : List Item) → filter f (a ++ (b ++ c)) ≡ filter f a ++ (filter f b ++ filter f c)
 three_parts f a b c = filter-append f a (b ++ c) ∙ ap (λ xs. filter f a ++ xs) (filter-append f b c)
 
+-- all that is stated, with these items of tiles and slices
+abbrev pub stated : List Item → PpsShape → List Item → List Item
+stated source shape division = front_items (whole_flag source shape) shape ++ (division ++ tool_items source shape)
+
 -- a rewritten set, and its tiles and slices
-pub record Reshapes (source : List Item) (shape : PpsShape) : Type 0 where
+pub record Reshapes (source : List Item) (shape : PpsShape) (division : List Item) : Type 0 where
   pub items : List Item
-  pub others : List Item
-  pub stated : IsStated source shape others
-  pub rewritten : IsRewritten pps_form (taken shape) (shown_items (taken shape) source) others items
+  pub rewritten : IsRewritten pps_form (taken shape) (shown_items (taken shape) source) (stated source shape division) items
   pub divided_as : whole_flag source shape ≡ 0 → rewritten.end ≡ record { tiles = shape.tiles; slices = Some shape.slices }
 
 whole_low : (merged : Bool) (n : ℕ) → n < 2 → cond merged 0 n < 2
 whole_low true n low = omega arith
 whole_low false n low = low
 
-pub reshapes : (source : List Item) (end : Partition) (shape : PpsShape) → Gives pps_form source end → IsShape source shape → Reshapes source shape
-reshapes source end shape gives is =
+pub reshapes : (source : List Item) (end : Partition) (shape : PpsShape) (division : List Item) → Gives pps_form source end → IsShape source shape → IsDivision (is_set (whole_flag source shape)) shape division → Reshapes source shape division
+reshapes source end shape division gives is divides =
     let p = cut_parts source end gives in
     let set : List ℕ = names shape.merged in
     let whole_ : ℕ = whole_flag source shape in
     let low : whole_ < 2 = whole_low shape.merged (number source pps.pps_no_pic_partition_flag) (flag_below p pps.pps_no_pic_partition_flag flags_are.0 (λ l h. omega (arith, l))) in
     let has_ : HasFront whole_ shape = record { whole_is = low; id = is.id; sps_id = is.sps_id; width = is.width; height = is.height; subpic_id = is.subpic_id } in
     let f = front_gone shape.merged whole_ shape has_ p.first in
-    let d = divide whole_ shape low is.divided in
+    let d = divide whole_ shape division low is.divided divides in
     let t = tools_gone shape.merged p shape.init_qp f.last is.init_qp.0 is.init_qp.1 f.agree f.long f.whole_is in
-    let there : Gives (partition_at f.last) d.items d.end = subst (λ n. Gives (partition n (slice_index f.last pps.pps_pic_width_in_luma_samples) (slice_index f.last pps.pps_pic_height_in_luma_samples)) d.items d.end) (sym f.whole_is)
-    (subst (λ n. Gives (partition whole_ n (slice_index f.last pps.pps_pic_height_in_luma_samples)) d.items d.end) (sym f.width_is)
-    (subst (λ n. Gives (partition whole_ shape.width n) d.items d.end) (sym f.height_is) d.gives)) in
+    let there : Gives (partition_at f.last) division d.end = subst (λ n. Gives (partition n (slice_index f.last pps.pps_pic_width_in_luma_samples) (slice_index f.last pps.pps_pic_height_in_luma_samples)) division d.end) (sym f.whole_is)
+    (subst (λ n. Gives (partition whole_ n (slice_index f.last pps.pps_pic_height_in_luma_samples)) division d.end) (sym f.width_is)
+    (subst (λ n. Gives (partition whole_ shape.width n) division d.end) (sym f.height_is) d.gives)) in
     let all = put_parts f.gives there t.gives in
     let clear = names_clear shape.merged in
     let old = division_unshown set p.scope clear p.second in
@@ -233,21 +238,37 @@ reshapes source end shape gives is =
     let shown : Item → Bool = λ item. has set item.field in
     let hidden : Item → Bool = λ item. not (has set item.field) in
     record {
-      items = f.items ++ (d.items ++ t.items);
-      others = front_items whole_ shape ++ (d.items ++ tool_items source shape);
-      stated = record { division = d.items; divides = d.is; all = refl };
+      items = f.items ++ (division ++ t.items);
       rewritten = record {
         values = all.values;
         end = d.end;
         follows = all.follows;
         all = sym all.given;
-        shown_ones = three_parts shown f.items d.items t.items ∙ ap (λ xs. xs ++ (shown_items set d.items ++ shown_items set t.items)) f.shown
+        shown_ones = three_parts shown f.items division t.items ∙ ap (λ xs. xs ++ (shown_items set division ++ shown_items set t.items)) f.shown
             ∙ ap (λ xs. shown_items set p.front_items ++ (xs ++ shown_items set t.items)) (new.0 ∙ sym old.0)
             ∙ ap (λ xs. shown_items set p.front_items ++ (shown_items set p.division ++ xs)) t.shown
             ∙ sym (ap (λ xs. shown_items set xs) p.all ∙ three_parts shown p.front_items p.division p.tool_items);
-        other_ones = three_parts hidden f.items d.items t.items ∙ ap (λ xs. xs ++ (other_items set d.items ++ other_items set t.items)) f.others
+        other_ones = three_parts hidden f.items division t.items ∙ ap (λ xs. xs ++ (other_items set division ++ other_items set t.items)) f.others
             ∙ ap (λ xs. front_items whole_ shape ++ (xs ++ other_items set t.items)) new.1
-            ∙ ap (λ xs. front_items whole_ shape ++ (d.items ++ xs)) t.others;
+            ∙ ap (λ xs. front_items whole_ shape ++ (division ++ xs)) t.others;
       };
       divided_as = d.end_is;
     }
+
+-- there is one
+pub division_of : (source : List Item) (shape : PpsShape) → IsShape source shape → (division : List Item) × IsDivision (is_set (whole_flag source shape)) shape division
+division_of source shape is = some_division (whole_flag source shape) shape is.divided
+
+-- ---- its tiles and slices
+
+pub has_its_tiles : ReshapedHasItsTiles
+has_its_tiles source items shape set is re partitioned =
+    let r = reshapes source set.end shape re.stated.division set.set is re.stated.divides in
+    let a = re.rewritten in
+    let b = r.rewritten in
+    let shown = ap (λ xs. shown_items (taken shape) xs) (sym a.all) ∙ a.shown_ones ∙ sym b.shown_ones ∙ ap (λ xs. shown_items (taken shape) xs) b.all in
+    let others = ap (λ xs. other_items (taken shape) xs) (sym a.all) ∙ a.other_ones ∙ re.stated.all ∙ sym b.other_ones ∙ ap (λ xs. other_items (taken shape) xs) b.all in
+    let values = (apart (taken shape) [] [] [] [] a.follows b.follows (ap (λ xs. xs ++ []) shown) (ap (λ xs. xs ++ []) others)).0 in
+    let same : items_along pps_form b.values ≡ items = ap (λ w. items_along pps_form w) (sym values) ∙ sym a.all in
+    let told : partition_of items ≡ record { tiles = shape.tiles; slices = Some shape.slices } = partition_is items b.end (record { values = b.values; follows = b.follows; given = same }) ∙ r.divided_as partitioned in
+    (ap (λ (d : Partition). d.tiles.columns) told, ap (λ (d : Partition). d.tiles.rows) told, ap (λ (d : Partition). d.slices) told)

@@ -1,8 +1,7 @@
 -- A picture parameter set that was read, written or sifted.
-use Rattle.std.proofs.Common.{◌≡◌, inl, inr, ℕ, ℤ, ◌+◌, ◌-◌, ◌*◌, ◌%◌, Bool, List, [], ◌∷◌, ◌++◌, length, take, drop, Result, Ok, Err, refl, sym, ap, subst, ◌∙◌, arith}
+use Rattle.std.proofs.Common.{◌≡◌, inl, inr, ℕ, ℤ, ◌+◌, ◌-◌, ◌%◌, Bool, List, [], ◌++◌, length, take, Result, Ok, Err, refl, sym, ap, subst, ◌∙◌, arith}
 use Rattle.std.proofs.lemmas.List.{append-nil, take_all, length-append}
 use Rattle.vx_bits.specs.declared.list.Item.{Item}
-use Rattle.vx_bits.specs.declared.refusal.Refusal.{Refusal}
 use Rattle.vx_bits.specs.declared.refusal.ReadError.{ReadError}
 use Rattle.vx_bits.specs.declared.refusal.ReadError.TheVariants as errors
 use Rattle.vx_bits.specs.Place.{Place}
@@ -10,7 +9,7 @@ use Rattle.vx_table.specs.Claims.{comes_always}
 use Rattle.vx_table.specs.Forms.{Form, done, field, ◌>>=◌}
 use Rattle.vx_table.specs.Kept.{KeepsField, kept_along}
 use Rattle.vx_table.specs.Parts.{sections_form}
-use Rattle.vx_table.specs.Reading.{IsCutShort, Reads, ReadsField, ReadsValue, at_front}
+use Rattle.vx_table.specs.Reading.{Reads, ReadsField, ReadsValue, at_front}
 use Rattle.vx_table.specs.Scope.{fresh}
 use Rattle.vx_table.specs.Spelling.{at_end, here, items_along}
 use Rattle.vx_table.specs.Trailing.{ends_in_trailing, is_trailing, sections_end_in_trailing}
@@ -24,7 +23,7 @@ use Rattle.vx_table.proofs.Keepings.{keeps}
 use Rattle.vx_table.proofs.Readings as readings
 use Rattle.vx_table.proofs.Writings as writings
 use Rattle.vx_pps.specs.declared.halt.Halt.{Halt}
-use Rattle.vx_pps.specs.declared.halt.Halt.TheVariants.{Memory, Refused}
+use Rattle.vx_pps.specs.declared.halt.Halt.TheVariants.{Refused}
 use Rattle.vx_pps.specs.declared.partition.Partition.{Partition}
 use Rattle.vx_pps.specs.Partition.{undivided}
 use Rattle.vx_pps.specs.Pps.{IsItems, IsPps, front, kept_of, partition_at, pps_form, tools}

@@ -1,5 +1,5 @@
 -- How picture parameter sets are spelled: what is written is read again, and no spelling begins another.
-use Rattle.std.proofs.Common.{◌≡◌, inl, inr, ℕ, ℤ, ◌+◌, ◌*◌, Bool, List, [], ◌∷◌, ◌++◌, length, Result, Ok, Err, refl, sym, ap, subst, ◌∙◌, arith}
+use Rattle.std.proofs.Common.{◌≡◌, inl, inr, ℕ, ℤ, ◌+◌, ◌*◌, List, [], ◌∷◌, ◌++◌, length, Ok, Err, refl, sym, ap, subst, ◌∙◌, arith}
 use Rattle.std.proofs.lemmas.List.{append-nil}
 use Rattle.vx_bits.specs.Codes.{bits_of}
 use Rattle.vx_bits.specs.declared.list.Item.{Item}
@@ -17,7 +17,7 @@ use Rattle.vx_table.proofs.Spelled.{apart_at, spelled_at}
 use Rattle.vx_pps.specs.Pps.{IsSpelling, front, partition_at, pps_form, tools}
 use Rattle.vx_pps.specs.Sets.{NoProperPrefix, WrittenIsRead}
 use Rattle.vx_pps.proofs.Cutting.{each_weaker}
-use Rattle.vx_pps.proofs.Division.{IsDividing, each_division}
+use Rattle.vx_pps.proofs.Division.{each_division}
 
 -- ---- its trailing comes last
 

@@ -1,5 +1,5 @@
 -- The tests over the rows of the tables: what a rewritten set takes over, what it leaves alone, and what tables read.
-use Rattle.std.proofs.Common.{◌≡◌, ℕ, ℤ, Bool, true, false, cond, List, [], ◌∷◌, ◌++◌, refl}
+use Rattle.std.proofs.Common.{◌≡◌, ℕ, Bool, true, false, cond, List, [], ◌∷◌, ◌++◌, refl}
 use Rattle.vx_fields.specs.declared.pps.TheConstants as pps
 use Rattle.vx_table.specs.Scope.{fresh}
 use Rattle.vx_table.specs.Forms.{has_value}

@@ -1,16 +1,15 @@
 -- What items tell of values that go through a form.
-use Rattle.std.proofs.Common.{◌≡◌, ℕ, ℤ, suc, pos, ◌+◌, ◌-◌, ◌<◌, ◌≤◌, ◌==◌, Bool, true, false, cond, List, [], ◌∷◌, ◌++◌, length, drop, map, filter, get_or, Option, Some, None, refl, sym, ap, subst, ◌∙◌, arith, inl, inr, eq-eqb, drop-cons, add-one}
+use Rattle.std.proofs.Common.{◌≡◌, ℕ, ℤ, suc, pos, ◌+◌, ◌-◌, ◌<◌, ◌≤◌, ◌==◌, true, false, List, [], ◌∷◌, length, drop, get_or, Some, refl, sym, ap, subst, ◌∙◌, arith, inl, inr, eq-eqb, drop-cons, add-one}
 use Rattle.std.proofs.Math.ListN.{drop_of_length-le}
 use Rattle.std.proofs.lemmas.Bool.{cases_Bool, ne_eqb}
 use Rattle.vx_bits.specs.declared.list.Item.{Item}
-use Rattle.vx_table.specs.declared.rows.Cell.{Cell}
-use Rattle.vx_table.specs.Forms.{Form, done, field, has_value}
+use Rattle.vx_table.specs.Forms.{Form, has_value}
 use Rattle.vx_table.specs.Scope.{natural}
 use Rattle.vx_table.specs.Spelling.{item_of, items_along}
 use Rattle.vx_table.specs.Values.{Follows, to_end, through}
 use Rattle.vx_table.proofs.Items.{gap_value}
 use Rattle.vx_pps.specs.declared.partition.Partition.{Partition}
-use Rattle.vx_pps.specs.Items.{end_along, numbers_of, values_in, with_next}
+use Rattle.vx_pps.specs.Items.{end_along, numbers_of, values_in}
 use Rattle.vx_pps.specs.Pps.{IsPps, or_none, partition_of, pps_form}
 
 -- the values that their items give

@@ -1,5 +1,5 @@
 -- The tools of a picture parameter set, rewritten: for a region all are taken over, for a frame some are stated.
-use Rattle.std.proofs.Common.{◌≡◌, ◌≢◌, ℕ, ℤ, pos, negsuc, leb, ◌≤◌, zero, suc, ◌+◌, ◌^◌, ◌<◌, ◌≤ℤ◌, ◌||◌, ◌&&◌, Bool, true, false, cond, neg_ℤ, IsTrue, List, [], ◌∷◌, ◌++◌, length, slice_index, slice_set, sym, ap, ◌∙◌, subst, inl, inr, arith, refl, None}
+use Rattle.std.proofs.Common.{◌≡◌, ◌≢◌, ℕ, ℤ, pos, negsuc, leb, ◌≤◌, zero, suc, ◌<◌, ◌≤ℤ◌, ◌||◌, ◌&&◌, Bool, true, neg_ℤ, IsTrue, List, [], ◌∷◌, ◌++◌, length, slice_index, slice_set, sym, ap, ◌∙◌, subst, inl, inr, arith, refl, None}
 use Rattle.std.proofs.lemmas.Bool.{cases_lt, le-leb}
 use Rattle.std.proofs.lemmas.Int.{ints}
 use Rattle.std.proofs.lemmas.List.{append-nil, get_or-set_other, get_or-set_same, get_or_past, length-set, set_past}
@@ -16,17 +16,17 @@ use Rattle.vx_table.specs.Loaded.{number}
 use Rattle.vx_table.specs.Parts.{Section, sections_form}
 use Rattle.vx_table.specs.Spelling.{HasCode, fault_of, item_of, items_along}
 use Rattle.vx_table.specs.Values.{Follows, through}
-use Rattle.vx_table.specs.Depends.{Agree, has, set_of}
-use Rattle.vx_table.specs.Rewrites.{Rewrites, Takes}
+use Rattle.vx_table.specs.Depends.{Agree, has}
+use Rattle.vx_table.specs.Rewrites.{Takes}
 use Rattle.vx_table.proofs.Again.{follows_again, sections_show}
-use Rattle.vx_table.proofs.Agreeing.{agree_itself, inside_itself}
+use Rattle.vx_table.proofs.Agreeing.{inside_itself}
 use Rattle.vx_table.proofs.Chains.{structure_depends_only_on}
 use Rattle.vx_table.proofs.Groups.{Onward, agree_given, copied_first, copied_group, replaced_first, takes_at}
 use Rattle.vx_table.proofs.Loading.{tables_load}
 use Rattle.vx_table.proofs.Shown.{scopes_follow_items}
 use Rattle.vx_table.proofs.Rewrites.{leaves_agree, sections_leave, values_take}
 use Rattle.vx_pps.specs.Pps.{tools}
-use Rattle.vx_pps.specs.Reshaped.{frame_tool_items, has_weights, info_items, same, where_so}
+use Rattle.vx_pps.specs.Reshaped.{frame_tool_items, info_items, same, where_so}
 use Rattle.vx_pps.specs.Written.{item}
 use Rattle.vx_pps.proofs.Testing.{block_loads, control_block, dbf_given, dbf_control, dbf_control_taken, dbf_info, dbf_info_read, dbf_info_replaced, dbf_offsets, dbf_offsets_taken, end, end_taken, header_info, header_info_read, header_info_replaced, info_given, init_qp, init_qp_read, init_qp_replaced, names, numbered, prediction, prediction_taken, qp_offsets, qp_offsets_taken, tool_names, tools_read, tools_shown, override, override_stands, from_dbf, from_info, info_stands, whole}
 use Rattle.vx_pps.specs.declared.shape.TheConstants.{TAKEN}

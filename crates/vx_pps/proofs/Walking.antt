@@ -1,8 +1,6 @@
 -- A walk that may also end where memory runs out, put together of its steps.
-use Rattle.std.proofs.Common.{◌≡◌, ℕ, ℤ, List, pos, Result, Ok, Err, refl, None}
-use Rattle.vx_table.specs.declared.rows.Cell.{Cell}
-use Rattle.vx_table.specs.Forms.{Form, done, field, ◌>>=◌}
-use Rattle.vx_table.specs.Scope.{natural}
+use Rattle.std.proofs.Common.{Result, Ok, Err}
+use Rattle.vx_table.specs.Forms.{Form, done, ◌>>=◌}
 use Rattle.vx_table.specs.Walks.{Step, Walks, leaving}
 use Rattle.vx_table.specs.Walks as walks
 use Rattle.vx_pps.specs.declared.halt.Halt.{Halt}

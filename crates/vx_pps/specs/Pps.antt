@@ -1,5 +1,5 @@
 -- A picture parameter set: its form, and what its items tell (H.266 7.3.2.5, 7.4.3.5).
-use Rattle.std.specs.Prelude.{◌≡◌, ℕ, not, Bool, List, [], ◌∷◌, ◌++◌, Option, Some, None, slice_index}
+use Rattle.std.specs.Prelude.{◌≡◌, ℕ, not, Bool, List, [], ◌∷◌, Option, Some, None, slice_index}
 use Rattle.vx_bits.specs.declared.list.Item.{Item}
 use Rattle.vx_bits.specs.Codes.{bits_of}
 use Rattle.vx_fields.specs.declared.pps.TheConstants as pps

@@ -4,7 +4,6 @@ use Rattle.std.specs.Prelude.{List, [], ◌∷◌, ◌++◌, length, Option, Som
 use Rattle.std.specs.Int.{div_ceil}
 use Rattle.vx_bits.specs.declared.list.Item.{Item}
 use Rattle.vx_fields.specs.declared.pps.TheConstants as pps
-use Rattle.vx_layout.specs.declared.rect.Rect.{Rect}
 use Rattle.vx_layout.specs.Bounds.{last, sizes_between}
 use Rattle.vx_layout.specs.Layouts.{HasLayout}
 use Rattle.vx_layout.specs.Shapes.{AreListable}
@@ -15,11 +14,10 @@ use Rattle.vx_table.specs.Scope.{is_set, one_if, powers_below}
 use Rattle.vx_table.specs.Shown.{shown_items}
 use Rattle.vx_pps.specs.declared.shape.PpsShape.{PpsShape}
 use Rattle.vx_pps.specs.declared.shape.TheConstants.{TAKEN, TAKEN_FOR_FRAME}
-use Rattle.vx_pps.specs.declared.tiles.Tiles.{Tiles}
 use Rattle.vx_pps.specs.Tiles.{across, down}
 use Rattle.vx_pps.specs.Groups.{Group, InGroups}
 use Rattle.vx_pps.specs.Laws.{picture_of}
-use Rattle.vx_pps.specs.Pps.{pps_form}
+use Rattle.vx_pps.specs.Pps.{IsItems, columns_of, pps_form, rows_of, slices_of}
 use Rattle.vx_pps.specs.Written.{item, list_items, size_items}
 
 -- ---- what is stated, in the order of the syntax
@@ -167,3 +165,10 @@ pub record IsReshaped (source : List Item) (shape : PpsShape) (items : List Item
   pub others : List Item
   pub stated : IsStated source shape others
   pub rewritten : IsRewritten pps_form (taken shape) (shown_items (taken shape) source) others items
+
+-- Of a rewritten set that is partitioned the tile columns, the tile rows and the slices are exactly the shape's.
+abbrev pub ReshapedHasItsTiles : Type 0
+ReshapedHasItsTiles =
+    (source items : List Item) (shape : PpsShape) → IsItems source → IsShape source shape → IsReshaped source shape items
+    → whole_flag source shape ≡ 0
+    → (columns_of items ≡ shape.tiles.columns) × (rows_of items ≡ shape.tiles.rows) × (slices_of items ≡ Some shape.slices)

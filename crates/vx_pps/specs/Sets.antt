@@ -1,11 +1,10 @@
 -- What holds of picture parameter sets: how they are spelled, and what their kept fields depend on.
-use Rattle.std.specs.Prelude.{◌≡◌, ◌⊎◌, ℕ, not, false, List, [], ◌∷◌, ◌++◌, filter, Result, Ok, Err}
+use Rattle.std.specs.Prelude.{◌≡◌, ◌⊎◌, ◌≤◌, ℕ, not, true, false, List, [], ◌∷◌, ◌++◌, filter, Result, Ok, Err}
 use Rattle.vx_bits.specs.declared.list.Item.{Item}
 use Rattle.vx_bits.specs.declared.refusal.ReadError.{ReadError}
 use Rattle.vx_bits.specs.declared.refusal.ReadError.TheVariants as errors
 use Rattle.vx_fields.specs.declared.pps.TheConstants as pps
 use Rattle.vx_fields.specs.declared.names.pps.TheConstants.{LIST, OFFSET, PARTITIONED, HAS_DBF_INFO, IS_WEIGHTED, HAS_WP_INFO}
-use Rattle.vx_table.specs.declared.rows.Cell.{Cell}
 use Rattle.vx_table.specs.Depends.{has, set_of, DependsOnlyOn}
 use Rattle.vx_table.specs.EachField.{EachField}
 use Rattle.vx_table.specs.Parts.{sections_form}
@@ -13,8 +12,12 @@ use Rattle.vx_table.specs.Reading.{ReadsValue}
 use Rattle.vx_table.specs.Rewritten.{other_items}
 use Rattle.vx_table.specs.Shown.{shown_items, KeepsOnly}
 use Rattle.vx_pps.specs.declared.shape.TheConstants.{TAKEN, TAKEN_FOR_FRAME}
+use Rattle.vx_layout.specs.Bounds.{Rises, last}
+use Rattle.vx_pps.specs.declared.partition.Partition.{Partition}
+use Rattle.vx_pps.specs.declared.tiles.Tiles.{Tiles}
+use Rattle.vx_pps.specs.Tiles.{IsGrid}
 use Rattle.vx_pps.specs.Partition.{partition}
-use Rattle.vx_pps.specs.Pps.{IsItems, IsSpelling, front, pps_form, tools}
+use Rattle.vx_pps.specs.Pps.{IsItems, IsPps, IsSpelling, front, is_partitioned, pps_form, tools}
 
 -- ---- spelling
 
@@ -58,3 +61,16 @@ abbrev pub KeptAndOthersTell : Type 0
 KeptAndOthersTell =
     (items others : List Item) → IsItems items → IsItems others → shown_items (set_of kept) items ≡ shown_items (set_of kept) others
     → other_items (set_of kept) items ≡ other_items (set_of kept) others → items ≡ others
+
+-- ---- tiles
+
+-- tiles as a layout takes them: at least one, and not more CTUs than a picture has
+pub record AreTilesInLimits (g : Tiles) : Type 0 where
+  pub grid : IsGrid g
+  pub columns : Rises g.columns × (last g.columns ≤ 512)
+  pub rows : Rises g.rows × (last g.rows ≤ 512)
+
+-- those of a partitioned picture are
+abbrev pub TilesAreInLimits : Type 0
+TilesAreInLimits =
+    (items : List Item) (end : Partition) → IsPps items end → is_partitioned items ≡ true → AreTilesInLimits end.tiles

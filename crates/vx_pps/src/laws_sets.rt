@@ -1,5 +1,5 @@
 //! Laws of picture parameter sets: functions that do nothing, each with a law as its contract.
-ghost use Rattle.vx_pps.specs.Sets.{WrittenIsRead, NoProperPrefix, StarsTellKept, KeptDependsOnKept, KeptAndOthersTell};
+ghost use Rattle.vx_pps.specs.Sets.{WrittenIsRead, NoProperPrefix, StarsTellKept, KeptDependsOnKept, KeptAndOthersTell, TilesAreInLimits};
 
 /// What is written of a set is read as it.
 pub fn written_is_read()
@@ -20,4 +20,9 @@ pub fn kept_depends_on_kept()
 /// Kept fields and the others tell the set.
 pub fn kept_and_others_tell()
     ensures { KeptAndOthersTell }
+{}
+
+/// The tiles of a partitioned picture are in the limits of a layout.
+pub fn tiles_are_in_limits()
+    ensures { TilesAreInLimits }
 {}

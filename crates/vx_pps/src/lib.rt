@@ -9,6 +9,7 @@ mod grid;
 mod groups;
 mod halt;
 mod laws;
+mod laws_reshaped;
 mod laws_sets;
 mod list;
 mod list_items;
@@ -25,6 +26,8 @@ mod tables;
 mod tests;
 #[cfg(test)]
 mod tests_list_items;
+#[cfg(test)]
+mod tests_reshape;
 mod tiles;
 #[cfg(test)]
 mod vectors;
@@ -34,8 +37,10 @@ pub use laws::{
     bounds_are_read_back, few_are_read_back, few_fall_into_groups, layouts_are_lists,
     list_gives_slices, lists_fall_into_groups, slices_are_read_back,
 };
+pub use laws_reshaped::reshaped_has_its_tiles;
 pub use laws_sets::{
-    kept_and_others_tell, kept_depends_on_kept, no_proper_prefix, written_is_read,
+    kept_and_others_tell, kept_depends_on_kept, no_proper_prefix, tiles_are_in_limits,
+    written_is_read,
 };
 pub use list::Listed;
 pub use partition::Partition;

@@ -29,7 +29,7 @@ fn has(names: &Scope, field: u16) -> bool
 }
 
 /// The items of a set's fields, in order.
-fn items_of(alloc: Global, items: &Fields, names: &Scope) -> Result<Fields, AllocError>
+pub(crate) fn items_of(alloc: Global, items: &Fields, names: &Scope) -> Result<Fields, AllocError>
     ensures { IfOk result (λ shown. shown ≡ shown_items names.now items.now) }
 {
     let mut shown = Fields::new(alloc);

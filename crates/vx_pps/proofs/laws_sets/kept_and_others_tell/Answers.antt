@@ -1,5 +1,4 @@
 use Rattle.std.proofs.Common.{◌++◌, [], ap, sym, ◌∙◌}
-use Rattle.std.proofs.lemmas.List.{append-nil}
 use Rattle.vx_table.specs.Depends.{set_of}
 use Rattle.vx_table.specs.Rewritten.{other_items}
 use Rattle.vx_table.specs.Shown.{shown_items}

@@ -1,4 +1,4 @@
-use Rattle.std.proofs.Common.{◌≡◌, false, ◌+◌, ◌∙◌, sym, subst}
+use Rattle.std.proofs.Common.{◌≡◌, false, ◌∙◌, sym, subst}
 use Rattle.vx_pps.specs.Slices.{may_be_cut}
 use Rattle.vx_pps.specs.inner.Walked.{halted}
 use Rattle.vx_pps.proofs.Turning.{cut-not, slices-whole}

@@ -1,5 +1,5 @@
 use Rattle.std.proofs.Common.{◌+◌, ◌-◌}
-use Rattle.vx_pps.proofs.Turning.{strips-even, strips-rest}
+use Rattle.vx_pps.proofs.Turning.{strips-rest}
 use Rattle.vx_pps.proofs.list.push_strips.Goals as goal
 
 pub returns-in_ok-push : goal.returns-in_ok-push

@@ -1,4 +1,3 @@
-use Rattle.std.proofs.Common.{◌≡◌, ◌==◌, not, sym}
 use Rattle.vx_pps.specs.Partition.{listed_slices}
 use Rattle.vx_pps.specs.inner.Walked.{ended}
 use Rattle.vx_pps.proofs.Walking.{then}
