@@ -10,8 +10,6 @@ mod tables;
 #[cfg(test)]
 mod tests;
 mod under_sets;
-#[cfg(test)]
-mod vectors;
 mod walk;
 mod write;
 

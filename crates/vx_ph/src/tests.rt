@@ -1,10 +1,7 @@
 //! Cases by a model of the syntax that isn't ours, a header of a merged stream, and the ends of ranges.
 ghost use Rattle.std.specs.Prelude.{◌≤◌, length};
 
-use crate::vectors::{HEADERS, PPS, SPS};
-use crate::{
-    PictureHeader, both_sets, read_header_at, read_ph, read_pps_id, write_ph, write_unit_at,
-};
+use crate::{PictureHeader, read_header_at, read_ph, write_ph, write_unit_at};
 use std::alloc::{AllocError, Global};
 use std::test::Fail;
 use vx_bits::{BitReader, BitWriter, Fields, Item, ReadError, Refusal};
@@ -141,51 +138,6 @@ fn both_ways(
     let text = header_text(alloc, &header)?;
     let unit = write_unit_at(alloc, &header, table, scope)?;
     Ok((text, unit))
-}
-
-/// A text of a table, or none.
-fn text_at<'a>(texts: &[&'a str], index: usize) -> &'a str {
-    texts.get(index).copied().unwrap_or("")
-}
-
-#[test]
-fn reads_and_writes(rt: HostRuntime) -> Result<(), Fail> {
-    for (sps, pps, inside, digits, wanted) in HEADERS {
-        let rbsp = bytes(rt.alloc(), text_at(&SPS, sps))?;
-        let unit = bytes(rt.alloc(), digits)?;
-        assert!(rt; rbsp.len() <= 2000);
-        assert!(rt; unit.len() <= 4000);
-        let sps = read(rt.alloc(), &rbsp)?;
-        let mut bits = behind(&unit, inside);
-        let scope = both_sets(
-            sps.scope(),
-            &loaded(text_at(&PPS, pps)),
-            sps.extra_ph_bits(),
-        );
-        let (text, written) = both_ways(rt.alloc(), sps.table(), &scope, &mut bits)?;
-        assert_eq!(rt; text.as_str(), wanted, "{digits}");
-        assert_eq!(rt; inside || written == unit, true, "{digits}");
-    }
-    Ok(())
-}
-
-/// The item of an id among others, as text.
-fn id_text(alloc: Global, id: u8) -> Result<String, AllocError> {
-    let mut text = String::new(alloc);
-    write!(text, " 605={id} ")?;
-    Ok(text)
-}
-
-#[test]
-fn reads_ids(rt: HostRuntime) -> Result<(), Fail> {
-    for (_, _, inside, digits, wanted) in HEADERS {
-        let unit = bytes(rt.alloc(), digits)?;
-        assert!(rt; unit.len() <= 4000);
-        let id = read_pps_id(&mut behind(&unit, inside)).unwrap_or(64);
-        let item = id_text(rt.alloc(), id)?;
-        assert_eq!(rt; wanted.contains(item.as_str()), true, "{digits}");
-    }
-    Ok(())
 }
 
 /// Numbers of the sets in force, a header, and its items or its refusal, worked by hand.
