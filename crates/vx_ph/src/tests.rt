@@ -1,11 +1,11 @@
 //! Cases by a model of the syntax that isn't ours, a header of a merged stream, and the ends of ranges.
 ghost use Rattle.std.specs.Prelude.{◌≤◌, length};
 
-use crate::vectors::{HEADERS, PPS, SPS};
-use crate::{PictureHeader, both_sets, read_header_at, read_pps_id, write_unit_at};
+use crate::{PictureHeader, read_header_at, read_ph, write_ph, write_unit_at};
 use std::alloc::{AllocError, Global};
 use std::test::Fail;
 use vx_bits::{BitReader, BitWriter, Fields, Item, ReadError, Refusal};
+use vx_pps::{Pps, read_pps};
 use vx_rpl::{RefEntry, RefList, RplTable, StructureList};
 use vx_sps::{Sps, read_sps};
 use vx_table::{Scope, natural};
@@ -130,44 +130,14 @@ fn told(
 /// What is read of a header, as text, and the unit that is written of it.
 fn both_ways(
     alloc: Global,
-    bits: &mut BitReader<'_>,
     table: &RplTable,
     scope: &Scope,
+    bits: &mut BitReader<'_>,
 ) -> Result<(String, Vec<u8>), ReadError> {
     let header = read_header_at(alloc, bits, table, scope)?;
     let text = header_text(alloc, &header)?;
     let unit = write_unit_at(alloc, &header, table, scope)?;
     Ok((text, unit))
-}
-
-#[test]
-fn reads_and_writes(rt: HostRuntime) -> Result<(), Fail> {
-    for (sps, pps, inside, digits, wanted) in HEADERS {
-        let rbsp = bytes(rt.alloc(), SPS[sps])?;
-        let unit = bytes(rt.alloc(), digits)?;
-        assert!(rt; rbsp.len() <= 2000);
-        assert!(rt; unit.len() <= 4000);
-        let sps = read(rt.alloc(), &rbsp)?;
-        let scope = both_sets(sps.scope(), &loaded(PPS[pps]), sps.extra_ph_bits());
-        let mut bits = behind(&unit, inside);
-        let (text, written) = both_ways(rt.alloc(), &mut bits, sps.table(), &scope)?;
-        assert_eq!(rt; text.as_str(), wanted, "{digits}");
-        assert_eq!(rt; inside || written == unit, true, "{digits}");
-    }
-    Ok(())
-}
-
-#[test]
-fn reads_ids(rt: HostRuntime) -> Result<(), Fail> {
-    for (_, _, inside, digits, wanted) in HEADERS {
-        let unit = bytes(rt.alloc(), digits)?;
-        assert!(rt; unit.len() <= 4000);
-        let id = read_pps_id(&mut behind(&unit, inside)).unwrap_or(64);
-        let mut item = String::new(rt.alloc());
-        write!(item, " 605={id} ")?;
-        assert_eq!(rt; wanted.contains(item.as_str()), true, "{digits}");
-    }
-    Ok(())
 }
 
 /// Numbers of the sets in force, a header, and its items or its refusal, worked by hand.
@@ -257,18 +227,72 @@ fn extended(alloc: Global, length: u32) -> Result<Vec<u8>, AllocError>
 
 #[test]
 fn reads_extensions(rt: HostRuntime) -> Result<(), Fail> {
-    let table = no_structures(rt.alloc());
-    let scope = loaded("467=1");
     let unit = extended(rt.alloc(), 256)?;
     assert!(rt; unit.len() <= 4000);
-    let mut bits = behind(&unit, false);
-    let header = read_header_at(rt.alloc(), &mut bits, &table, &scope)?;
-    assert_eq!(rt; header.fields.len(), 6 + 1 + 256);
-    assert_eq!(rt; bits.at(), 9 + 17 + 8 * 256);
-    assert_eq!(rt; write_unit_at(rt.alloc(), &header, &table, &scope)?, unit);
+    let table = no_structures(rt.alloc());
+    let (text, written) = both_ways(
+        rt.alloc(),
+        &table,
+        &loaded("467=1"),
+        &mut behind(&unit, false),
+    )?;
+    assert_eq!(rt;
+        text.starts_with("600=1 601=0 602=0 603=0 605=0 606=0 654=256 655=165 "),
+        true
+    );
+    assert_eq!(rt; written, unit);
+    Ok(())
+}
+
+#[test]
+fn refuses_long_extensions(rt: HostRuntime) -> Result<(), Fail> {
     let unit = extended(rt.alloc(), 257)?;
     assert!(rt; unit.len() <= 4000);
-    let answer = told(rt.alloc(), &mut behind(&unit, false), &table, &scope)?;
+    let table = no_structures(rt.alloc());
+    let answer = told(
+        rt.alloc(),
+        &mut behind(&unit, false),
+        &table,
+        &loaded("467=1"),
+    )?;
     assert_eq!(rt; answer.as_str(), "field=654 bit=9 cause=OutOfRange");
+    Ok(())
+}
+
+/// A PPS from an RBSP of at most 2,000 bytes.
+fn read_picture_set(alloc: Global, rbsp: &[u8]) -> Result<Pps, ReadError>
+    requires { length rbsp.now ≤ 2000 }
+{
+    read_pps(alloc, rbsp)
+}
+
+/// What is read under two sets, as text, and what is written of it.
+fn under_sets(
+    alloc: Global,
+    sps: &Sps,
+    pps: &Pps,
+    bits: &mut BitReader<'_>,
+) -> Result<(String, Vec<u8>), ReadError> {
+    let header = read_ph(alloc, bits, sps, pps)?;
+    let text = header_text(alloc, &header)?;
+    let unit = write_ph(alloc, &header, sps, pps)?;
+    Ok((text, unit))
+}
+
+#[test]
+fn reads_a_merged_header(rt: HostRuntime) -> Result<(), Fail> {
+    let sps = bytes(rt.alloc(), "00030233800000408105534007bc00600c100020")?;
+    let pps = bytes(rt.alloc(), "0000204082057a530801")?;
+    assert!(rt; sps.len() <= 2000);
+    assert!(rt; pps.len() <= 2000);
+    let sps = read(rt.alloc(), &sps)?;
+    let pps = read_picture_set(rt.alloc(), &pps)?;
+    let mut bits = BitReader::new(&[0x88, 0x40]);
+    let (text, written) = under_sets(rt.alloc(), &sps, &pps, &mut bits)?;
+    assert_eq!(rt; text.as_str(), "600=1 601=0 602=0 603=0 605=0 606=0 -|-");
+    assert_eq!(rt;
+        (written.as_slice(), bits.at()),
+        ([0x88, 0x40].as_slice(), 9)
+    );
     Ok(())
 }
