@@ -68,10 +68,10 @@ for line in open(sys.argv[1]):
         continue
     kind = int(unit[2:4], 16) >> 3
     if answer.startswith("set ok") and kind in (15, 16):
-        known, field = (sps, 100) if kind == 15 else (pps, 400)
-        if rbsp(unit) not in known:
-            known.append(rbsp(unit))
-        sets[kind, number(answer, field)] = known.index(rbsp(unit)), answer
+        known, field, text = (sps, 100, rbsp(unit)) if kind == 15 else (pps, 400, answer[7:])
+        if text not in known:
+            known.append(text)
+        sets[kind, number(answer, field)] = known.index(text), answer
     items = answer[7:] if answer.startswith("header ") else answer.partition(" | header ")[2]
     if items:
         pps_at, of_pps = sets[16, number(items, 605)]
@@ -80,13 +80,13 @@ for line in open(sys.argv[1]):
         told = lists[stream][picture] if has_lists else "-|-"
         inside = "true" if kind < 14 else "false"
         headers.append(f"        {sps_at},\n        {pps_at},\n        {inside},\n        {literal(rbsp(unit))},\n"
-                       f"        {literal(items)},\n        {literal(told)},\n")
+                       f"        {literal(items + ' ' + told)},\n")
         picture += 1
 print("//! Picture headers by a model of the syntax that isn't ours. Written by scripts/ph-vectors.py.")
-for name, what, known in (("SPS", "sequence", sps), ("PPS", "picture", pps)):
-    print(f"\n/// RBSPs of {what} parameter sets.\npub(crate) const {name}: [&str; {len(known)}] = [")
+for name, what, known in (("SPS", "RBSPs of sequence", sps), ("PPS", "Items of picture", pps)):
+    print(f"\n/// {what} parameter sets.\npub(crate) const {name}: [&str; {len(known)}] = [")
     print("".join(f"    {literal(one)},\n" for one in known) + "];")
-print("\n/// Headers: the places of their sets, whether each stands in a slice header behind its first bit, the RBSP, the items, and\n"
-      "/// the lists.")
-print(f"pub(crate) const HEADERS: [(usize, usize, bool, &str, &str, &str); {len(headers)}] = [")
+print("\n/// Headers: the places of their sets, whether each stands in a slice header behind its first bit, the RBSP, and the items\n"
+      "/// and lists.")
+print(f"pub(crate) const HEADERS: [(usize, usize, bool, &str, &str); {len(headers)}] = [")
 print("".join(f"    (\n{one}    ),\n" for one in headers) + "];")

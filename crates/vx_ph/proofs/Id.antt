@@ -35,6 +35,7 @@ use Rattle.vx_fields.specs.declared.names.ph.TheConstants.{HAS_WEIGHTS}
 use Rattle.vx_rpl.specs.declared.entry.RplTable.{RplTable}
 use Rattle.vx_rpl.specs.Lists.{lists_form, weights, weights_form}
 use Rattle.vx_rpl.proofs.Passing.{lists_leave}
+use Rattle.vx_ph.proofs.Spelling.{spells_follow}
 use Rattle.vx_ph.specs.Header.{front, lists_if_present, middle, weights_if_present, back, before_weights, header_form}
 use Rattle.vx_ph.specs.Id.{to_id, id_form, HeaderHasId}
 
@@ -54,10 +55,6 @@ id_at_end values end follows = (
 
 the_id : List ℕ
 the_id = set_of (ph_pic_parameter_set_id ∷ [])
-
-spells_follow : {A : Type 0} {total : ℕ} {form : Form A} {w : List ℤ} {left rest : List Bool} → Spells total form w left rest → (a : A) × Follows form w a
-spells_follow (at_end {a}) = (a, to_end)
-spells_follow (behind stands more) = let on = spells_follow more in (on.0, through (is_value stands) on.1)
 
 left_shown : (names s : List ℕ) {f : Form (List ℕ)} {w : List ℤ} {a : List ℕ} → IsLeft names s f → Follows f w a → shown_items names (items_along f w) ≡ []
 left_shown names s left to_end = refl

@@ -1,7 +1,7 @@
 -- Lemmas on the form of a picture header, and on the sets in force.
-mod Carrying
-mod Id
-mod Passing
+pub mod Carrying
+pub mod Passing
 mod Rewriting
-mod Sets
+pub mod Sets
 mod Spelling
+mod Id

@@ -40,7 +40,7 @@ flags_counted : (names : List ℕ) (of : ℕ) (items : List Item) → IsTrue (ha
 flags_counted names of items there =
     sym (length-filter (is_flag of) items) ∙ ap length (flags_shown names of items there) ∙ length-filter (is_flag of) (shown_items names items)
 
-same_flags : (names : List ℕ) (of : ℕ) (items others : List Item) → IsTrue (has names of) → shown_items names items ≡ shown_items names others
+pub same_flags : (names : List ℕ) (of : ℕ) (items others : List Item) → IsTrue (has names of) → shown_items names items ≡ shown_items names others
     → set_flags of items ≡ set_flags of others
 unfolding is_flag
 same_flags names of items others there same =

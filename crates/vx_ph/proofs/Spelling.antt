@@ -3,7 +3,10 @@ use Rattle.std.proofs.Common.{◌≡◌, ℕ, ℤ, pos, ◌+◌, ◌-◌, ◌%�
 use Rattle.std.proofs.lemmas.List.{append-nil, take_all}
 use Rattle.vx_bits.specs.declared.list.Item.{Item}
 use Rattle.vx_table.specs.Forms.{Form, coding_at, limits_at, has_value, after, one_field, part, form_of}
-use Rattle.vx_table.specs.Spelling.{HasCode, fault_of, item_of, items_along}
+use Rattle.vx_bits.specs.Place.{Place}
+use Rattle.vx_table.specs.Reading.{Reads}
+use Rattle.vx_table.proofs.Spelled.{is_value}
+use Rattle.vx_table.specs.Spelling.{Spells, at_end, behind, HasCode, fault_of, item_of, items_along}
 use Rattle.vx_table.specs.Values.{Follows, to_end, through, bits_along}
 use Rattle.vx_table.specs.Writing.{Writes}
 use Rattle.vx_table.specs.declared.writer.SpellError.TheVariants.{NoValue}
@@ -14,6 +17,22 @@ use Rattle.vx_rpl.specs.declared.entry.RplTable.{RplTable}
 use Rattle.vx_ph.specs.declared.tables.TheConstants.{TRAILING}
 use Rattle.vx_ph.specs.Header.{header_form}
 use Rattle.vx_ph.specs.Picture.{AreFields, unit_form}
+
+-- ---- what is read
+
+-- what the bits spell goes through the form
+pub spells_follow : {A : Type 0} {total : ℕ} {form : Form A} {w : List ℤ} {left rest : List Bool} → Spells total form w left rest → (a : A) × Follows form w a
+spells_follow (at_end {a}) = (a, to_end)
+spells_follow (behind stands more) = let on = spells_follow more in (on.0, through (is_value stands) on.1)
+
+pub read_is : {B : Type 0} (table : RplTable) (s : List ℕ) (old new : Place) (items : List Item) (b : B)
+    → Reads (header_form table s) old [] (Ok b) new items → AreFields table s items
+read_is table s old new items b reads =
+    let found = reads.is in
+    let on = spells_follow found.spelled in
+    record { values = found.values; end = on.0; follows = on.1; all = found.gained }
+
+-- ---- what is written
 
 -- all items from the first on
 pub from_all : (n : ℕ) (items : List Item) → n ≡ length items → take (n - 0) items ≡ items

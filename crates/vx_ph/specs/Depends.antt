@@ -30,8 +30,8 @@ of_header = named_by_all front ++ (named_by_all middle ++ (named_by_all back ++ 
 
 -- the fields with a star, and what is named for them alone: the id of the PPS, the filter, LMCS and scaling lists, the QP
 abbrev pub starred : List ℕ
-starred = ph.ph_pic_parameter_set_id ∷ FILTER_SET ∷ (alf.ALL ++ (ph.ph_lmcs_enabled_flag ∷ ph.ph_lmcs_aps_id ∷ ph.ph_chroma_residual_scale_flag
-    ∷ ph.ph_explicit_scaling_list_enabled_flag ∷ ph.ph_scaling_list_aps_id ∷ ph.ph_qp_delta ∷ []))
+starred = ph.ph_pic_parameter_set_id ∷ FILTER_SET ∷ (alf.ALL ++ (ph.ph_lmcs_enabled_flag ∷ ph.ph_lmcs_aps_id
+    ∷ ph.ph_chroma_residual_scale_flag ∷ ph.ph_explicit_scaling_list_enabled_flag ∷ ph.ph_scaling_list_aps_id ∷ ph.ph_qp_delta ∷ []))
 
 -- all others are kept
 abbrev pub kept : List ℕ

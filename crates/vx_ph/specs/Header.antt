@@ -10,7 +10,8 @@ use Rattle.vx_fields.specs.declared.pps.TheConstants.{pps_alf_info_in_ph_flag, p
 use Rattle.vx_fields.specs.declared.names.ph.TheConstants.{HAS_WEIGHTS}
 use Rattle.vx_rpl.specs.declared.entry.RplTable.{RplTable}
 use Rattle.vx_rpl.specs.Lists.{lists_form, weights_form}
-use Rattle.vx_ph.specs.declared.tables.TheConstants.{PICTURE, PPS_ID, ORDER_COUNT, ALF, LMCS_AND_SCALING, OUTPUT, INTRA, INTER, QP, FILTERS}
+use Rattle.vx_ph.specs.declared.tables.TheConstants.{PICTURE, PPS_ID, ORDER_COUNT, ALF, LMCS_AND_SCALING, OUTPUT}
+use Rattle.vx_ph.specs.declared.tables.TheConstants.{INTRA, INTER, QP, FILTERS}
 
 -- before the lists: the filter where the SPS has it and the PPS says that it stands here
 abbrev pub front : List Section

@@ -25,6 +25,6 @@ IsId place id = (values : List ℤ) (rest : List Bool) → Spells place.total id
 
 -- It is the id of each header that they begin with, whatever the sets.
 abbrev pub HeaderHasId : Type 0
-HeaderHasId = (table : RplTable) (s : List ℕ) (place : Place) (id : ℕ) (values : List ℤ) (rest : List Bool) → length s ≡ 1024 → IsId place id
-    → Spells place.total (header_form table s) values place.left rest
+HeaderHasId = (table : RplTable) (s : List ℕ) (place : Place) (id : ℕ) (values : List ℤ) (rest : List Bool)
+    → length s ≡ 1024 → IsId place id → Spells place.total (header_form table s) values place.left rest
     → number (items_along (header_form table s) values) ph_pic_parameter_set_id ≡ id

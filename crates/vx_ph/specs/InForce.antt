@@ -7,7 +7,9 @@ use Rattle.vx_table.specs.Shown.{shown_items}
 use Rattle.vx_fields.specs.declared.sps.TheConstants.{sps_extra_ph_bit_present_flag}
 use Rattle.vx_fields.specs.declared.pps.TheConstants.{pps_pic_parameter_set_id}
 use Rattle.vx_fields.specs.declared.names.ph.TheConstants.{EXTRA_PH_BITS}
-use Rattle.vx_sps.specs.Set.{extra_ph_bits_of}
+use Rattle.vx_rpl.specs.declared.entry.RplTable.{RplTable}
+use Rattle.vx_rpl.specs.Resolved.{table_of}
+use Rattle.vx_sps.specs.Set.{extra_ph_bits_of, is_weighted}
 
 -- the numbers of an SPS, which are below the first field of a PPS, those of a PPS from there on, and the number of extra bits
 unfoldable pub both_sets : List ℕ → List ℕ → ℕ → List ℕ
@@ -16,6 +18,10 @@ both_sets sps pps extra = slice_set (joined pps_pic_parameter_set_id sps pps) EX
 -- The scope of the sets in force: the SPS's numbers, the PPS's, and how many extra bits there are (7.4.3.4, NumExtraPhBits).
 unfoldable pub in_force : List Item → List Item → List ℕ
 in_force sps pps = both_sets (loaded fresh sps) (loaded fresh pps) (extra_ph_bits_of sps)
+
+-- the SPS's structures of reference picture lists
+abbrev pub structures : List Item → RplTable
+structures sps = table_of (is_weighted sps) sps
 
 -- Sets that have the same items of some fields give scopes that agree on these, and on all names.
 abbrev pub SetsAgree : Type 0

@@ -42,7 +42,8 @@ pub record IsSpelling (table : RplTable) (s : List ℕ) (header : PictureHeader)
 -- or of a front of it.
 abbrev pub IsFront : RplTable → List ℕ → PictureHeader → List Bool → List Bool → Type 0
 IsFront table s header old new =
-    (cell : Cell ℕ) × ((left : List Item) × HaltsAt (header_form table s) (bits_along (header_form table s) (length old)) old header.fields new left cell)
+    (cell : Cell ℕ) × ((left : List Item)
+    × HaltsAt (header_form table s) (bits_along (header_form table s) (length old)) old header.fields new left cell)
 
 -- picture_header_rbsp( ) (7.3.2.7): the header, and a trailing
 unfoldable pub unit_form : RplTable → List ℕ → Form (List ℕ)

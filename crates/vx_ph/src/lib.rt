@@ -2,25 +2,31 @@
 #![tactic(auto)]
 
 mod header;
-mod in_force;
 mod laws;
 mod pps_id;
 mod read;
+mod scope;
 mod tables;
+#[cfg(test)]
+mod tests;
+mod under_sets;
+#[cfg(test)]
+mod vectors;
 mod walk;
 mod write;
 
 pub use header::PictureHeader;
-pub use in_force::both_sets;
 pub use laws::{
     fields_are_coded_once, header_depends, header_has_id, header_keeps, header_read_again,
     header_rewrites, sets_agree,
 };
 pub use pps_id::read_pps_id;
 pub use read::read_header_at;
+pub use scope::{both_sets, in_force};
 pub use tables::{
     ALF, FILTERS, INTER, INTRA, LMCS_AND_SCALING, ORDER_COUNT, OUTPUT, PICTURE, PPS_ID, QP,
     TRAILING,
 };
+pub use under_sets::{read_ph, write_header, write_ph};
 pub use walk::code_header;
 pub use write::{write_header_at, write_unit_at};

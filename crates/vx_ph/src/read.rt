@@ -1,8 +1,8 @@
 //! Reading a picture header.
-ghost use Rattle.std.specs.Prelude.{◌≡◌};
+ghost use Rattle.std.specs.Prelude.{◌≡◌, IfOk};
 ghost use Rattle.vx_table.specs.Reading.{Reads};
 ghost use Rattle.vx_ph.specs.Header.{header_form};
-ghost use Rattle.vx_ph.specs.Picture.{ReadsHeader};
+ghost use Rattle.vx_ph.specs.Picture.{IsHeader, ReadsHeader};
 
 use crate::header::PictureHeader;
 use crate::walk::code_header;
@@ -35,7 +35,8 @@ pub fn read_header_at(
     table: &RplTable,
     scope: &Scope,
 ) -> Result<PictureHeader, ReadError>
-    ensures { ReadsHeader table.now scope.now bits.old result bits.new }
+    ensures answer { ReadsHeader table.now scope.now bits.old result bits.new }
+    ensures value { IfOk result (λ header. IsHeader table.now scope.now header) }
 {
     let mut fields = Fields::new(alloc);
     read_fields(bits, table, *scope, &mut fields)?;

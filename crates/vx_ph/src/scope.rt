@@ -1,9 +1,11 @@
 //! The scope of the sets in force.
 ghost use Rattle.std.specs.Prelude.{◌≡◌};
-ghost use Rattle.vx_ph.specs.InForce.{both_sets};
+ghost use Rattle.vx_ph.specs.InForce.{both_sets, in_force};
 
 use vx_fields::names::ph::EXTRA_PH_BITS;
 use vx_fields::pps::pps_pic_parameter_set_id;
+use vx_pps::Pps;
+use vx_sps::Sps;
 use vx_table::Scope;
 
 /// The scope that headers are read and written at, from that of the SPS, that of the PPS, and the number of extra bits of
@@ -16,4 +18,12 @@ pub fn both_sets(sps: &Scope, pps: &Scope, extra_ph_bits: u32) -> Scope
     scope.take_over(pps, pps_pic_parameter_set_id);
     scope.set(EXTRA_PH_BITS, extra_ph_bits);
     scope
+}
+
+/// The scope of the sets in force, which headers are read and written at.
+#[tactic(auto, unfolding(crate::specs::InForce::in_force))]
+pub fn in_force(sps: &Sps, pps: &Pps) -> Scope
+    ensures { result ≡ in_force sps.now pps.now }
+{
+    both_sets(sps.scope(), pps.scope(), sps.extra_ph_bits())
 }
