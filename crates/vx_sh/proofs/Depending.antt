@@ -49,12 +49,12 @@ rest_carries table points shown a b c d behind_lists e f test_a is_b at is_c tes
     let second : Carries shown c d (sections_form before_lists) = rw (sym is_d) (sections_carry shown c before_lists test_c) in
     let front : Carries shown a d (front_form points) = carries_together shown a c d (address_form points) (sections_form before_lists) address second in
     let with_lists = carries_together shown a d d (front_form points) (lists_here table) front
-        (carries_present shown d behind_lists (When (Plain (Latest HAS_LISTS))) (lists_form table) knows_d lists) in
+    (carries_present shown d behind_lists (When (Plain (Latest HAS_LISTS))) (lists_form table) knows_d lists) in
     let third : Carries shown d e (sections_form between) = rw (sym is_e) (sections_carry shown d between test_d) in
     let before : Carries shown a e (before_weights table points)
     = carries_together shown a d e (λ s. front_form points s >>= lists_here table) (sections_form between) with_lists third in
     let with_weights = carries_together shown a e e (before_weights table points) weights_here before
-        (carries_present shown e (behind_sections shown e weights) (When (Plain (Latest HAS_WEIGHTS))) weights_form knows_e (sections_carry shown e weights weights_test)) in
+    (carries_present shown e (behind_sections shown e weights) (When (Plain (Latest HAS_WEIGHTS))) weights_form knows_e (sections_carry shown e weights weights_test)) in
     let last : Carries shown e f (sections_form behind_weights) = rw (sym is_f) (sections_carry shown e behind_weights test_e) in
     carries_together shown a e f (λ s. before_weights table points s >>= weights_here) (sections_form behind_weights) with_weights last
 

@@ -9,3 +9,6 @@ mod Stopped
 mod Sized
 mod Written
 mod Told
+mod Writable
+mod Closed
+pub mod Scopes

@@ -116,12 +116,14 @@ rest_adds table points t uses delta takes_uses takes_delta =
 pub slices_rewrite : SlicesRewrite
 slices_rewrite table points s t values end uses delta agree follows takes_uses takes_delta =
     let adds = rest_adds table points t uses delta takes_uses takes_delta in
-    let is = refilled ((kept_depend table points).alike s t agree) (adds.admits t (agree_itself uses_read t)) follows in
-    (items_along (rest_form table points t) is.values, record {
-      values = is.values;
-      end = is.end;
-      follows = is.follows;
-      all = refl;
-      shown_ones = is.shown_ones;
-      other_ones = is.other_ones;
-    })
+    let is = refilled ((kept_depend table points).alike s t agree) (adds.admits t (agree_itself uses_read t)) follows in (
+      items_along (rest_form table points t) is.values,
+      record {
+        values = is.values;
+        end = is.end;
+        follows = is.follows;
+        all = refl;
+        shown_ones = is.shown_ones;
+        other_ones = is.other_ones;
+      },
+    )

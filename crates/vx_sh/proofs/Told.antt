@@ -277,11 +277,11 @@ id_leaves_inside ids layout = leaves_together only_inside (id_form ids layout) (
 left_less : {names more : List ℕ} (s : List ℕ) (f : Form (List ℕ)) → Inside names more → IsLeft more s f → IsLeft names s f
 left_less s (done t) inside left = agree_less inside left
 left_less {names} s (field cell goes) inside left = (
-  elim (cases_Bool (has names cell.field)) [ | inl is ↦ absurd (both_ways _ left.0 (inside.has_too cell.field is)) | inr is_not ↦ is_not ],
+  elim (cases_Bool (has names cell.field)) [ inl is ↦ absurd (both_ways _ left.0 (inside.has_too cell.field is)) | inr is_not ↦ is_not ],
   λ v. left_less s (goes v) inside (left.1 v),
 )
 
-behind_leaves_inside : (table : RplTable) (ids : List ℕ) (layout : Numbers) → Leaves only_inside (behind_header table ids layout)
+pub behind_leaves_inside : (table : RplTable) (ids : List ℕ) (layout : Numbers) → Leaves only_inside (behind_header table ids layout)
 unfolding behind_header
 behind_leaves_inside table ids layout = leaves_together only_inside (subpic_form ids layout) (there table layout) (id_leaves_inside ids layout)
     record { at = λ s. left_less s (there table layout s) (inside_with_all only_inside (sh_subpic_id ∷ SUBPIC ∷ [])) ((there_leaves table layout).at s) }

@@ -4,4 +4,5 @@ pub mod Depends
 pub mod Again
 pub mod Whole
 pub mod Value
+pub mod InForce
 pub mod inner

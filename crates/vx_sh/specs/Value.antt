@@ -1,5 +1,5 @@
 -- A slice header as a value: what is read and what is written of it.
-use Rattle.std.specs.Prelude.{◌≡◌, ℕ, ℤ, ◌+◌, ◌*◌, Bool, List, [], ◌++◌, length, take, slice_index, Result, Ok, Err}
+use Rattle.std.specs.Prelude.{◌≡◌, ℕ, ℤ, ◌+◌, ◌*◌, Bool, true, false, List, [], ◌++◌, length, take, drop, slice_index, Result, Ok, Err}
 use Rattle.vx_bits.specs.declared.list.Item.{Item}
 use Rattle.vx_bits.specs.declared.refusal.Refusal.{Refusal}
 use Rattle.vx_bits.specs.declared.refusal.ReadError.{ReadError}
@@ -14,6 +14,7 @@ use Rattle.vx_table.specs.Reading.{at_front, Passes}
 use Rattle.vx_fields.specs.declared.sh.TheConstants.{sh_picture_header_in_slice_header_flag, sh_subpic_id, sh_slice_address}
 use Rattle.vx_fields.specs.declared.names.sh.TheConstants.{SUBPIC}
 use Rattle.vx_rpl.specs.HeaderLists.{lists_of}
+use Rattle.vx_ph.specs.Header.{header_form}
 use Rattle.vx_sh.specs.declared.header.SliceHeader.{SliceHeader}
 use Rattle.vx_sh.specs.declared.tables.TheConstants.{HEADER_INSIDE}
 use Rattle.vx_table.specs.Loaded.{number}
@@ -89,3 +90,14 @@ pub record AreTold (n : At) (fields : List Item) (end : List ℕ) : Type 0 where
 abbrev pub NumbersAreTold : Type 0
 NumbersAreTold = (n : At) (fields : List Item) (inside : List ℤ) (f : AreFields n fields inside) → length n.slice ≡ 1024
     → AreTold n fields f.end
+
+-- What was read can be written: with any picture header where none stands inside, else with the one that the bits behind the first
+-- spell.
+pub record CanBeWritten (n : At) (rbsp : List ℕ) (header : SliceHeader) : Type 0 where
+  pub apart : header.inside ≡ false → (others : List Item) → IsSliceOf n header.fields others
+  pub inside : header.inside ≡ true → (values : List ℤ) (rest : List Bool)
+      → Spells (8 * length rbsp) (header_form n.table n.sets) values (drop 1 (bits_of rbsp)) rest
+      → IsSliceOf n header.fields (items_along (header_form n.table n.sets) values)
+
+abbrev pub ReadCanBeWritten : Type 0
+ReadCanBeWritten = (n : At) (rbsp : List ℕ) (header : SliceHeader) (size : ℕ) → BeginsSlice n rbsp header size → CanBeWritten n rbsp header

@@ -8,7 +8,7 @@ use vx_table::Scope;
 
 /// What a slice header reads of the sets, the picture header and the place of the slice.
 #[derive(Clone, Copy)]
-pub struct Context<'a> {
+pub(crate) struct Context<'a> {
     /// The numbers of the SPS and the PPS, at which a picture header inside is read.
     pub sets: &'a Scope,
     /// These, with those of the picture header in force, and the type of the NAL unit.

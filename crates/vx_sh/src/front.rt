@@ -10,9 +10,7 @@ use crate::walk::{EntryPoints, code_rest};
 use vx_bits::IdList;
 use vx_fields::names::sh::{NUM_SLICES, NUM_SUBPICS, SUBPIC};
 use vx_fields::sh::{sh_picture_header_in_slice_header_flag, sh_subpic_id};
-use vx_fields::sps::{
-    sps_entropy_coding_sync_enabled_flag, sps_entry_point_offsets_present_flag,
-};
+use vx_fields::sps::{sps_entropy_coding_sync_enabled_flag, sps_entry_point_offsets_present_flag};
 use vx_layout::Layout;
 use vx_ph::code_header;
 use vx_table::{Coder, Scope, code_table};

@@ -1,7 +1,8 @@
 //! Laws of slice headers: functions that do nothing, each with a law as its contract.
 ghost use Rattle.vx_sh.specs.Depends.{KeptDepend, AllDepend, AllAreShown, KeptAreShown};
 ghost use Rattle.vx_sh.specs.Again.{SlicesReadAgain, SlicesRewrite};
-ghost use Rattle.vx_sh.specs.Value.{NumbersAreTold};
+ghost use Rattle.vx_sh.specs.InForce.{SliceScopesAgree};
+ghost use Rattle.vx_sh.specs.Value.{NumbersAreTold, ReadCanBeWritten, SpellingIsRead};
 
 /// The kept fields of a slice header behind the id of its subpicture depend on kept fields alone, and the other fields on a
 /// few with a star beside these.
@@ -26,4 +27,19 @@ pub fn slices_go_again()
 /// The items of a slice header tell whether the picture header stands inside, its subpicture and its address.
 pub fn numbers_are_told()
     ensures { NumbersAreTold }
+{}
+
+/// What was read of a slice header can be written.
+pub fn read_can_be_written()
+    ensures { ReadCanBeWritten }
+{}
+
+/// What is written of a slice header is read as it, whatever payload follows.
+pub fn spelling_is_read()
+    ensures { SpellingIsRead }
+{}
+
+/// Slices under sets and picture headers with the same items of some fields are read at scopes that agree on these.
+pub fn slice_scopes_agree()
+    ensures { SliceScopesAgree }
 {}

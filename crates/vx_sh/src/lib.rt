@@ -5,20 +5,20 @@ mod context;
 mod front;
 mod header;
 mod laws;
+mod numbers;
 mod read;
 mod tables;
 mod walk;
 mod write;
 
-pub use context::Context;
 pub use header::SliceHeader;
 pub use laws::{
-    numbers_are_told, slices_depend, slices_go_again, slices_keep,
+    numbers_are_told, read_can_be_written, slice_scopes_agree, slices_depend, slices_go_again,
+    slices_keep, spelling_is_read,
 };
-pub use read::read_slice_at;
+pub use numbers::{SliceNumbers, read_sh, write_sh};
 pub use tables::{
-    ACTIVE, ADDRESS, ALIGNMENT, CHROMA_QP_AND_FILTERS, END, FILTER_HERE, HEADER_INSIDE, INTER, KNOWN_SUBPIC,
-    LISTS_HERE, LMCS_AND_SCALING, QP, SUBPIC_ID, TYPE,
+    ACTIVE, ADDRESS, ALIGNMENT, CHROMA_QP_AND_FILTERS, END, FILTER_HERE, HEADER_INSIDE, INTER,
+    KNOWN_SUBPIC, LISTS_HERE, LMCS_AND_SCALING, QP, SUBPIC_ID, TYPE,
 };
 pub use walk::{EntryPoints, code_rest};
-pub use write::write_slice_at;

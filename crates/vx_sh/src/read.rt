@@ -16,11 +16,7 @@ use vx_rpl::resolve_lists;
 use vx_table::{Scope, code_table};
 
 /// Passes over the picture header, where it stands inside.
-fn pass_inside(
-    n: &Context<'_>,
-    scope: &Scope,
-    bits: &mut BitReader<'_>,
-) -> Result<(), ReadError>
+fn pass_inside(n: &Context<'_>, scope: &Scope, bits: &mut BitReader<'_>) -> Result<(), ReadError>
     ensures { IsPassed (header_inside n.now.table.now n.now.sets.now scope.now) scope.now bits.old result bits.new }
 {
     match code_inside(n, scope, bits, &mut ()) {
@@ -52,7 +48,7 @@ fn read_fields(
 ///
 /// The first refusal: of a field, of the id of a subpicture that there is none of, or of the picture header inside. Want of
 /// memory.
-pub fn read_slice_at(
+pub(crate) fn read_slice_at(
     alloc: Global,
     rbsp: &[u8],
     n: &Context<'_>,

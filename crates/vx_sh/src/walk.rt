@@ -5,8 +5,8 @@ ghost use Rattle.vx_table.specs.Parts.{sections_form};
 ghost use Rattle.vx_sh.specs.Slice.{with_entry_points, address_form, before_lists, lists_here, between, weights_here, behind_weights, front_form, before_weights, rest_form};
 
 use crate::tables::{
-    ACTIVE, ALIGNMENT, ADDRESS, CHROMA_QP_AND_FILTERS, END, FILTER_HERE, INTER, LISTS_HERE, LMCS_AND_SCALING,
-    QP, TYPE,
+    ACTIVE, ADDRESS, ALIGNMENT, CHROMA_QP_AND_FILTERS, END, FILTER_HERE, INTER, LISTS_HERE,
+    LMCS_AND_SCALING, QP, TYPE,
 };
 use vx_fields::names::sh::{HAS_ALF, HAS_LISTS, HAS_WEIGHTS, NUM_ENTRY_POINTS};
 use vx_fields::sh::sh_slice_address;
@@ -112,7 +112,12 @@ fn code_behind_weights<I, C: Coder<I>>(
 ) -> Result<(), C::Fault>
     ensures { Walks C.step (sections_form behind_weights scope.old) coder.old items.old (leaving scope.new result) coder.new items.new }
 {
-    code_parts(&parts![QP, CHROMA_QP_AND_FILTERS, END, ALIGNMENT], scope, coder, items)
+    code_parts(
+        &parts![QP, CHROMA_QP_AND_FILTERS, END, ALIGNMENT],
+        scope,
+        coder,
+        items,
+    )
 }
 
 /// Codes what stands before the lists.

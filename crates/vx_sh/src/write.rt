@@ -37,7 +37,7 @@ fn write_fields(
 /// # Errors
 ///
 /// Where memory runs out.
-pub fn write_slice_at(
+pub(crate) fn write_slice_at(
     alloc: Global,
     header: &SliceHeader,
     inside: &Fields,

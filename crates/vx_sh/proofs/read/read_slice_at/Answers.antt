@@ -17,7 +17,7 @@ returns c =
     let rest = c.read_fields.new.bits.left in
     let spelled : Spells (8 * length rbsp) (slice_form n) (values_of read.fields) (bits_of rbsp) rest = rw (← c.new-bits.ensures.total, ← c.new-bits.ensures.left) read.spelled in
     let size = sized n rbsp (values_of read.fields) read.fields.end rest c.at.result spelled (all_follow n c.read_fields.new.into read.inside read.fields)
-        (c.at.ensures.within ∙ read.total ∙ c.new-bits.ensures.total) in
+    (c.at.ensures.within ∙ read.total ∙ c.new-bits.ensures.total) in
     record {
       inside = read.inside;
       fields = read.fields;

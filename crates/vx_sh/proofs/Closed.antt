@@ -1,0 +1,129 @@
+-- Anything may follow a slice header; and what is written of it is read again.
+use Rattle.std.proofs.Common.{◌≡◌, ℕ, ℤ, ◌+◌, ◌*◌, Bool, true, false, not, List, [], ◌∷◌, ◌++◌, length, refl, ap, sym, subst, ◌∙◌, arith}
+use Rattle.std.proofs.lemmas.Bool.{not-true}
+use Rattle.std.proofs.lemmas.List.{length-append}
+use Rattle.vx_bits.specs.declared.list.Item.{Item}
+use Rattle.vx_bits.specs.Codes.{bits_of}
+use Rattle.vx_bits.proofs.Bits.{length-bits_of, bits_of-append}
+use Rattle.vx_table.specs.declared.rows.Term.TheVariants.{Latest}
+use Rattle.vx_table.specs.declared.rows.Formula.{Formula}
+use Rattle.vx_table.specs.declared.rows.Formula.TheVariants.{Plain}
+use Rattle.vx_table.specs.declared.rows.Coding.{Coding}
+use Rattle.vx_table.specs.declared.rows.Coding.TheVariants.{Fixed, Golomb, SignedGolomb, Zeros, OneAndZeros, Trailing, Absent, Refused}
+use Rattle.vx_table.specs.declared.rows.Cell.{Cell}
+use Rattle.vx_table.specs.declared.rows.Presence.TheVariants.{When}
+use Rattle.vx_table.specs.declared.rows.Row.{Row}
+use Rattle.vx_table.specs.declared.rows.Row.TheVariants.{Field, Block, Name}
+use Rattle.vx_table.specs.Forms.{Form, done, field, ◌>>=◌, coding_at, cell_at, form_of}
+use Rattle.vx_table.specs.Spelling.{MayEnd, Spells, code_of, items_along}
+use Rattle.vx_table.specs.Values.{Follows, to_end, through, bits_along, Closes}
+use Rattle.vx_table.specs.EachField.{EachField}
+use Rattle.vx_table.specs.Trailing.{is_trailing}
+use Rattle.vx_table.proofs.Apart.{reads_one_way}
+use Rattle.vx_table.proofs.EachField.{each_then, each_present, each_of_rows, each_of_sections}
+use Rattle.vx_table.proofs.Joined.{joined}
+use Rattle.vx_table.proofs.Spelled.{reads_back}
+use Rattle.vx_fields.specs.declared.sh.TheConstants.{sh_picture_header_in_slice_header_flag}
+use Rattle.vx_rpl.specs.declared.entry.RplTable.{RplTable}
+use Rattle.vx_rpl.specs.Lists.{weights}
+use Rattle.vx_rpl.proofs.Passing.{lists_each}
+use Rattle.vx_ph.specs.Header.{header_form}
+use Rattle.vx_ph.proofs.Passing.{header_each}
+use Rattle.vx_sh.specs.declared.tables.TheConstants.{HEADER_INSIDE, SUBPIC_ID, KNOWN_SUBPIC, ADDRESS}
+use Rattle.vx_sh.specs.Slice.{before_lists, between, behind_weights, rest_form}
+use Rattle.vx_sh.specs.Whole.{At, located, id_form, subpic_form, points_of, there, behind_header, header_inside, slice_form}
+use Rattle.vx_sh.specs.Value.{AreFields, values_of, IsSpelling, BeginsSlice, SpellingIsRead}
+use Rattle.vx_sh.proofs.Depending.{rest_each}
+use Rattle.vx_sh.proofs.Sized.{all_follow}
+
+-- ---- anything may follow
+
+abbrev Opens : Cell ℕ → Type 0
+Opens cell = (rest : List Bool) → MayEnd cell.coding rest
+
+closes : {A : Type 0} (form : Form A) (place : ℕ) (values : List ℤ) (rest : List Bool) → EachField Opens form → Closes form place values rest
+closes (done a) place values rest is = tt
+closes (field cell goes) place [] rest is = tt
+closes (field cell goes) place (v ∷ w) rest is =
+    (is.0 (bits_along (goes v) (place + length (code_of cell.coding place v)) w ++ rest), closes (goes v) (place + length (code_of cell.coding place v)) w rest (is.1 v))
+
+row_opens : Row → Bool
+row_opens (Field c) = not (is_trailing c.coding)
+row_opens (Block presence n) = true
+row_opens (Name name formula) = true
+
+coding_opens : (s : List ℕ) (coding : Coding Formula) → is_trailing coding ≡ false → (rest : List Bool) → MayEnd (coding_at s coding) rest
+unfolding is_trailing coding_at MayEnd
+coding_opens s (Fixed width) is rest = tt
+coding_opens s Golomb is rest = tt
+coding_opens s SignedGolomb is rest = tt
+coding_opens s Zeros is rest = tt
+coding_opens s OneAndZeros is rest = tt
+coding_opens s Trailing is rest = absurd (cc)
+coding_opens s Absent is rest = tt
+coding_opens s Refused is rest = tt
+
+sound : (c : Cell Formula) (s : List ℕ) → row_opens (Field c) ≡ true → Opens (cell_at s c)
+unfolding row_opens
+sound c s is = coding_opens s c.coding (not-true (is_trailing c.coding) is)
+
+rest_opens : (table : RplTable) (points : ℕ → ℕ) (s : List ℕ) → EachField Opens (rest_form table points s)
+unfolding row_opens is_trailing
+rest_opens table points s = rest_each Opens table points (λ t. each_of_rows Opens row_opens sound ADDRESS t refl) (λ t. each_of_sections Opens row_opens sound before_lists t refl)
+    (λ t. lists_each Opens row_opens sound table t refl) (λ t. each_of_sections Opens row_opens sound between t refl) (λ t. each_of_sections Opens row_opens sound weights t refl)
+    (λ t. each_of_sections Opens row_opens sound behind_weights t refl) s
+
+inside_opens : (table : RplTable) (sets s : List ℕ) → EachField Opens (header_inside table sets s)
+unfolding row_opens is_trailing
+inside_opens table sets s =
+    each_present Opens (When (Plain (Latest sh_picture_header_in_slice_header_flag))) (λ t. header_form table sets >>= λ u. done t) s
+    (λ t. each_then Opens (header_form table sets) (λ u. done t)
+    (header_each Opens row_opens sound table sets (record { front = refl; lists = refl; middle = refl; weights = refl; back = refl })) (λ u. tt))
+
+slice_opens : (n : At) → EachField Opens (slice_form n)
+unfolding row_opens is_trailing slice_form behind_header subpic_form id_form
+slice_opens n =
+    let id : (t : List ℕ) → EachField Opens (id_form n.ids n.layout t) = λ t.
+    each_then Opens (form_of SUBPIC_ID t) (λ u. done (located n.ids n.layout u)) (each_of_rows Opens row_opens sound SUBPIC_ID t refl) (λ u. tt) in
+    let subpic : (t : List ℕ) → EachField Opens (subpic_form n.ids n.layout t) = λ t.
+    each_then Opens (id_form n.ids n.layout t) (form_of KNOWN_SUBPIC) (id t) (λ u. each_of_rows Opens row_opens sound KNOWN_SUBPIC u refl) in
+    each_then Opens (form_of HEADER_INSIDE n.slice >>= header_inside n.table n.sets) (behind_header n.table n.ids n.layout)
+    (each_then Opens (form_of HEADER_INSIDE n.slice) (header_inside n.table n.sets) (each_of_rows Opens row_opens sound HEADER_INSIDE n.slice refl) (inside_opens n.table n.sets))
+    (λ t. each_then Opens (subpic_form n.ids n.layout t) (there n.table n.layout) (subpic t) (λ u. rest_opens n.table (points_of n.layout u) u))
+
+-- ---- read again
+
+-- the bytes begin the slice header, whatever payload follows
+spelled_again : (n : At) (fields header : List Item) (bytes payload : List ℕ) (is : IsSpelling n fields header bytes)
+    → Spells (8 * length (bytes ++ payload)) (slice_form n) (values_of is.is.slice) (bits_of (bytes ++ payload)) (bits_of payload)
+spelled_again n fields header bytes payload is =
+    let f = is.is.slice in
+    let values = values_of f in
+    let bits = bits_along (slice_form n) 0 values in
+    let all : bits ++ bits_of payload ≡ bits_of (bytes ++ payload) = ap (λ x. x ++ bits_of payload) (sym is.bits) ∙ sym (bits_of-append bytes payload) in
+    let total : 0 + length (bits ++ bits_of payload) ≡ 8 * length (bytes ++ payload) = omega (arith, ap length all, length-bits_of (bytes ++ payload)) in
+    rw (← total, ← all) (reads_back (slice_form n) 0 values f.end (bits_of payload) (all_follow n fields is.is.inside f) (closes (slice_form n) 0 values (bits_of payload) (slice_opens n)))
+
+-- values of one form in front of others, in two ways, are the same
+fronts_apart : {A : Type 0} {f : Form A} {v w x y : List ℤ} {a b : A} → Follows f v a → Follows f w b → v ++ x ≡ w ++ y → (v ≡ w) × (x ≡ y) × (a ≡ b)
+fronts_apart to_end to_end same = (refl, same, refl)
+fronts_apart {f = field cell goes} {x} {y} {b} (through {v} {w} value more) (through {v = u} {w = z} other others) same =
+    let first : v ≡ u = cc in
+    let behind : w ++ x ≡ z ++ y = cc in
+    let rest = fronts_apart more (subst (λ k. Follows (goes k) z b) (sym first) others) behind in
+    (rw (first, rest.0) refl, rest.1, rest.2)
+
+same_fields : (n : At) (fields others : List Item) (inside within : List ℤ) (f : AreFields n fields inside) (g : AreFields n others within) → values_of f ≡ values_of g → fields ≡ others
+same_fields n fields others inside within f g same =
+    let one = fronts_apart (joined (header_inside n.table n.sets) f.begins f.goes_on) (joined (header_inside n.table n.sets) g.begins g.goes_on) same in
+    let two = fronts_apart f.begins g.begins one.0 in
+    f.all ∙ ap (λ v. items_along (form_of HEADER_INSIDE n.slice) v ++ items_along (behind_header n.table n.ids n.layout f.at) f.behind) two.0
+    ∙ ap (λ w. items_along (form_of HEADER_INSIDE n.slice) g.first ++ items_along (behind_header n.table n.ids n.layout f.at) w) one.1
+    ∙ ap (λ s. items_along (form_of HEADER_INSIDE n.slice) g.first ++ items_along (behind_header n.table n.ids n.layout s) g.behind) two.2 ∙ sym g.all
+
+pub spelling_is_read : SpellingIsRead
+spelling_is_read n fields header bytes payload read size is begins =
+    let one = reads_one_way (slice_form n) (8 * length (bytes ++ payload)) (values_of begins.fields) (values_of is.is.slice) (bits_of (bytes ++ payload)) begins.rest (bits_of payload) begins.spelled (spelled_again n fields header bytes payload is) in (
+      same_fields n read.fields fields begins.inside is.is.inside begins.fields is.is.slice one.0,
+      omega (arith, begins.size, ap length one.1, length-bits_of payload, length-append bytes payload),
+    )

@@ -1,0 +1,117 @@
+//! Slice headers by the sets, the picture header and the layout in force.
+ghost use Rattle.std.specs.Prelude.{◌≡◌, ◌^◌, ◌≤◌, length, IfOk};
+ghost use Rattle.vx_sh.specs.Value.{ReadsSlice, IsSliceOf, IsSpelling};
+ghost use Rattle.vx_sh.specs.InForce as scopes;
+ghost use Rattle.vx_sh.specs.InForce.{in_force_at};
+
+use crate::context::Context;
+use crate::header::SliceHeader;
+use crate::read::read_slice_at;
+use crate::write::write_slice_at;
+use std::alloc::{AllocError, Global};
+use vx_bits::{IdList, ReadError};
+use vx_fields::names::rpl::{ENTRIES_0, ENTRIES_1};
+use vx_fields::names::sh::{DEFAULT_ACTIVE_0, DEFAULT_ACTIVE_1, EXTRA_SH_BITS, NAL_TYPE};
+use vx_layout::Layout;
+use vx_ph::{PictureHeader, in_force};
+use vx_pps::Pps;
+use vx_sps::Sps;
+use vx_table::Scope;
+
+/// What is in force at a slice.
+#[derive(Clone, Copy)]
+pub struct SliceNumbers<'a> {
+    /// The type of its NAL unit.
+    pub nal_type: u8,
+    /// The SPS.
+    pub sps: &'a Sps,
+    /// The PPS.
+    pub pps: &'a Pps,
+    /// The picture header.
+    pub header: &'a PictureHeader,
+    /// The layout of the picture.
+    pub layout: &'a Layout,
+    /// The ids of its subpictures, one for each.
+    pub ids: &'a IdList,
+}
+
+/// The scope of a slice, from that of the sets.
+pub(crate) fn slice_scope(
+    nal_type: u8,
+    sps: &Sps,
+    pps: &Pps,
+    header: &PictureHeader,
+    sets: &Scope,
+) -> Scope
+    ensures { result ≡ scopes.slice_scope nal_type sps.now pps.now header.now sets.now }
+{
+    let mut scope = *sets;
+    scope.load(&header.fields);
+    scope.set(ENTRIES_0, header.lists.first.len() as u32);
+    scope.set(ENTRIES_1, header.lists.second.len() as u32);
+    scope.set(NAL_TYPE, u32::from(nal_type));
+    scope.set(EXTRA_SH_BITS, sps.extra_sh_bits());
+    scope.set(DEFAULT_ACTIVE_0, pps.default_active_0());
+    scope.set(DEFAULT_ACTIVE_1, pps.default_active_1());
+    scope
+}
+
+/// Reads the slice header that an RBSP begins with, `slice_header()`, clause 7.3.7, and answers how many bytes it takes. The
+/// picture header that may stand inside is passed over.
+///
+/// # Errors
+///
+/// The first refusal: of a field, of the id of a subpicture that there is none of, or of the picture header inside. Want of
+/// memory.
+pub fn read_sh(
+    alloc: Global,
+    rbsp: &[u8],
+    numbers: &SliceNumbers<'_>,
+) -> Result<(SliceHeader, usize), ReadError>
+    requires size { length rbsp.now ≤ 2 ^ 23 }
+    requires few { length numbers.now.ids.now ≤ 1000 }
+    requires one_each { length numbers.now.ids.now ≡ length numbers.now.layout.now.subpics }
+    ensures { ReadsSlice (in_force_at numbers.now) rbsp.now result }
+{
+    let (sps, pps) = (numbers.sps, numbers.pps);
+    let sets = in_force(sps, pps);
+    let slice = slice_scope(numbers.nal_type, sps, pps, numbers.header, &sets);
+    let context = Context {
+        sets: &sets,
+        slice: &slice,
+        table: sps.table(),
+        layout: numbers.layout,
+        ids: numbers.ids,
+    };
+    let read = read_slice_at(alloc, rbsp, &context)?;
+    Ok(read)
+}
+
+/// The bytes of a slice header, `slice_header()`, clause 7.3.7, with the picture header of the numbers where it stands inside.
+///
+/// # Errors
+///
+/// Where memory runs out.
+pub fn write_sh(
+    alloc: Global,
+    header: &SliceHeader,
+    numbers: &SliceNumbers<'_>,
+) -> Result<Vec<u8>, AllocError>
+    requires slice { IsSliceOf (in_force_at numbers.now) header.now.fields numbers.now.header.now.fields }
+    requires few { length numbers.now.ids.now ≤ 1000 }
+    requires one_each { length numbers.now.ids.now ≡ length numbers.now.layout.now.subpics }
+    ensures { IfOk result (λ bytes. IsSpelling (in_force_at numbers.now) header.now.fields numbers.now.header.now.fields bytes.items) }
+{
+    let (sps, pps) = (numbers.sps, numbers.pps);
+    let sets = in_force(sps, pps);
+    let slice = slice_scope(numbers.nal_type, sps, pps, numbers.header, &sets);
+    let context = Context {
+        sets: &sets,
+        slice: &slice,
+        table: sps.table(),
+        layout: numbers.layout,
+        ids: numbers.ids,
+    };
+    let bytes = write_slice_at(alloc, header, &numbers.header.fields, &context)?;
+    Ok(bytes)
+}
