@@ -204,11 +204,11 @@ fn answer_text(alloc: Global, reading: &Reading) -> Result<String, AllocError> {
     }
 }
 
-/// All of it.
+/// Its items and its answer.
 fn reading_text(alloc: Global, reading: &Reading) -> Result<String, AllocError> {
     let items = items_text(alloc, &reading.items)?;
     let answer = answer_text(alloc, reading)?;
-    format!(in alloc; "{} {items}= {answer}", reading.at)
+    format!(in alloc; "{items}= {answer}")
 }
 
 /// The bytes that the items of lists are written as, with a one and zeros behind them.
@@ -251,23 +251,32 @@ fn entries_told(text: &str) -> usize {
     text.split(',').count()
 }
 
-/// Reads the lists of a header.
+/// The items of lists and the entries that they come to, where all bits but the last are read.
 fn header_read(
     rt: &impl Abort,
     alloc: Global,
     numbers: &RplNumbers,
     table: &RplTable,
     bytes: &[u8],
-    told: &str,
-) -> Result<(), Fail> {
+    bits: usize,
+) -> Result<String, AllocError> {
     let reading = lists_read(rt, alloc, numbers, table, bytes);
-    let text = reading_text(alloc, &reading)?;
-    let (_, text) = text.split_once(' ').ok_or("no place")?;
-    assert_eq!(rt; text, told);
-    let (_, lists) = told.split_once(" = ").ok_or("no lists")?;
+    assert_eq!(rt; reading.at as usize, bits);
+    reading_text(alloc, &reading)
+}
+
+/// Whether the walk over lists finds as many entries as the text has.
+fn header_counted(
+    rt: &impl Abort,
+    numbers: &RplNumbers,
+    table: &RplTable,
+    bytes: &[u8],
+    lists: &str,
+) -> Result<(), Fail> {
     let (first, second) = lists.split_once('|').ok_or("no list 1")?;
-    let walked = entries_walked(rt, numbers, table, bytes)?;
-    assert_eq!(rt; walked, (entries_told(first), entries_told(second)));
+    let (in_first, in_second) = entries_walked(rt, numbers, table, bytes)?;
+    assert_eq!(rt; in_first, entries_told(first));
+    assert_eq!(rt; in_second, entries_told(second));
     Ok(())
 }
 
@@ -280,10 +289,12 @@ fn header(
     row: &str,
 ) -> Result<(), Fail> {
     let (bits, told) = row.split_once(' ').ok_or("no items")?;
+    let (items, lists) = told.split_once(" = ").ok_or("no lists")?;
     let bytes = bytes(alloc, bits)?;
-    header_read(rt, alloc, numbers, table, &bytes, told)?;
-    let (told, _) = told.split_once(" = ").ok_or("no lists")?;
-    let written = lists_written(rt, alloc, numbers, table, told)?;
+    let text = header_read(rt, alloc, numbers, table, &bytes, bits.len())?;
+    assert_eq!(rt; text.as_str(), told);
+    header_counted(rt, numbers, table, &bytes, lists)?;
+    let written = lists_written(rt, alloc, numbers, table, items)?;
     assert_eq!(rt; written.as_slice(), bytes.as_slice());
     Ok(())
 }
@@ -332,7 +343,7 @@ fn refuses_an_index_that_leads_past(rt: HostRuntime) -> Result<(), Fail> {
     for (second, wanted) in cases {
         let text = taken_over(&rt, rt.alloc(), &in_force, second)?;
         let (told, answer) = text.split_once(" = ").ok_or("no answer")?;
-        assert_eq!(rt; told, "8 307=1 308=2 310=0 310=0 310=0 310=0 310=0");
+        assert_eq!(rt; told, "307=1 308=2 310=0 310=0 310=0 310=0 310=0");
         assert_eq!(rt; answer, wanted);
     }
     Ok(())
@@ -350,6 +361,7 @@ fn taken_over(
     let set = format!(in alloc; "{first} {second}")?;
     let set = table(alloc, in_force, set.as_str())?;
     let reading = lists_read(rt, alloc, in_force, &set, &[0b1_10_00000]);
+    assert_eq!(rt; reading.at, 8);
     Ok(reading_text(alloc, &reading)?)
 }
 
