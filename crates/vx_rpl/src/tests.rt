@@ -1,6 +1,4 @@
 //! Structures, lists and weights: rows worked by hand, and cases from an independent model.
-ghost use Rattle.std.specs.Prelude.{◌≤◌};
-
 use crate::cases::{HEADERS, TABLES, WEIGHTS};
 use crate::{
     RefEntry, RefList, RefLists, RplNumbers, RplTable, Structure, StructureList, WeightNumbers,
@@ -139,17 +137,19 @@ fn table(alloc: Global, numbers: &RplNumbers, set: &str) -> Result<RplTable, Fai
     Ok(RplTable::new(alloc, numbers, &set, 0, set.len())?)
 }
 
+/// The structures that a set's items tell, as text.
+fn set_text(alloc: Global, weighted: bool, set: &str) -> Result<String, Fail> {
+    let numbers = RplNumbers { weighted, ..PLAIN };
+    let table = table(alloc, &numbers, set)?;
+    table_text(alloc, &table)
+}
+
 #[test]
 fn tells_the_structures_of_sets(rt: HostRuntime) -> Result<(), Fail> {
     for row in TABLES.lines() {
         let (set, wanted) = row.split_once(" = ").ok_or("no structures")?;
         let (weighted, set) = set.split_once(' ').ok_or("no items")?;
-        let numbers = RplNumbers {
-            weighted: weighted == "1",
-            ..PLAIN
-        };
-        let table = table(rt.alloc(), &numbers, set)?;
-        let text = table_text(rt.alloc(), &table)?;
+        let text = set_text(rt.alloc(), weighted == "1", set)?;
         assert_eq!(rt; text.as_str(), wanted);
     }
     Ok(())
@@ -168,30 +168,47 @@ fn numbers(text: &str) -> Result<RplNumbers, Fail> {
     })
 }
 
-/// The answer to lists, or the error.
-fn answer_text(alloc: Global, answer: &Result<RefLists, ReadError>) -> Result<String, AllocError> {
-    match answer {
-        Ok(lists) => lists_text(alloc, lists),
-        Err(error) => format!(in alloc; "{error:?}"),
-    }
+/// What reading lists comes to: where it ends, the items that it gains, and its answer.
+#[derive(Drop)]
+struct Reading {
+    at: u32,
+    items: Fields,
+    answer: Result<RefLists, ReadError>,
 }
 
-/// What reading lists answers: where it ends, the items that it gains, and the entries or the error.
+/// Reads lists.
 fn lists_read(
     rt: &impl Abort,
     alloc: Global,
     numbers: &RplNumbers,
     table: &RplTable,
     bytes: &[u8],
-) -> Result<String, Fail> {
+) -> Reading {
     assert!(rt; bytes.len() <= 1 << 23);
     assert!(rt; 4 <= numbers.lsb_bits && numbers.lsb_bits <= 16);
     let mut bits = BitReader::new(bytes);
-    let mut gained = Fields::new(alloc);
-    let answer = read_lists(alloc, &mut bits, numbers, table, &mut gained);
-    let answer = answer_text(alloc, &answer)?;
-    let items = items_text(alloc, &gained)?;
-    Ok(format!(in alloc; "{} {items}= {answer}", bits.at())?)
+    let mut items = Fields::new(alloc);
+    let answer = read_lists(alloc, &mut bits, numbers, table, &mut items);
+    Reading {
+        at: bits.at(),
+        items,
+        answer,
+    }
+}
+
+/// Its answer as text: the entries, or the error.
+fn answer_text(alloc: Global, reading: &Reading) -> Result<String, AllocError> {
+    match &reading.answer {
+        Ok(lists) => lists_text(alloc, lists),
+        Err(error) => format!(in alloc; "{error:?}"),
+    }
+}
+
+/// Its items and its answer.
+fn reading_text(alloc: Global, reading: &Reading) -> Result<String, AllocError> {
+    let items = items_text(alloc, &reading.items)?;
+    let answer = answer_text(alloc, reading)?;
+    format!(in alloc; "{items}= {answer}")
 }
 
 /// The bytes that the items of lists are written as, with a one and zeros behind them.
@@ -234,6 +251,35 @@ fn entries_told(text: &str) -> usize {
     text.split(',').count()
 }
 
+/// The items of lists and the entries that they come to, where all bits but the last are read.
+fn header_read(
+    rt: &impl Abort,
+    alloc: Global,
+    numbers: &RplNumbers,
+    table: &RplTable,
+    bytes: &[u8],
+    bits: usize,
+) -> Result<String, AllocError> {
+    let reading = lists_read(rt, alloc, numbers, table, bytes);
+    assert_eq!(rt; reading.at as usize, bits);
+    reading_text(alloc, &reading)
+}
+
+/// Whether the walk over lists finds as many entries as the text has.
+fn header_counted(
+    rt: &impl Abort,
+    numbers: &RplNumbers,
+    table: &RplTable,
+    bytes: &[u8],
+    lists: &str,
+) -> Result<(), Fail> {
+    let (first, second) = lists.split_once('|').ok_or("no list 1")?;
+    let (in_first, in_second) = entries_walked(rt, numbers, table, bytes)?;
+    assert_eq!(rt; in_first, entries_told(first));
+    assert_eq!(rt; in_second, entries_told(second));
+    Ok(())
+}
+
 /// Reads the lists of a header, and writes what was read.
 fn header(
     rt: &impl Abort,
@@ -243,15 +289,12 @@ fn header(
     row: &str,
 ) -> Result<(), Fail> {
     let (bits, told) = row.split_once(' ').ok_or("no items")?;
+    let (items, lists) = told.split_once(" = ").ok_or("no lists")?;
     let bytes = bytes(alloc, bits)?;
-    let text = lists_read(rt, alloc, numbers, table, &bytes)?;
-    let (_, text) = text.split_once(' ').ok_or("no place")?;
-    assert_eq!(rt; text, told);
-    let (told, lists) = told.split_once(" = ").ok_or("no lists")?;
-    let (first, second) = lists.split_once('|').ok_or("no list 1")?;
-    let walked = entries_walked(rt, numbers, table, &bytes)?;
-    assert_eq!(rt; walked, (entries_told(first), entries_told(second)));
-    let written = lists_written(rt, alloc, numbers, table, told)?;
+    let text = header_read(rt, alloc, numbers, table, &bytes, bits.len())?;
+    assert_eq!(rt; text.as_str(), told);
+    header_counted(rt, numbers, table, &bytes, lists)?;
+    let written = lists_written(rt, alloc, numbers, table, items)?;
     assert_eq!(rt; written.as_slice(), bytes.as_slice());
     Ok(())
 }
@@ -281,16 +324,6 @@ fn no_structures(alloc: Global) -> RplTable {
     }
 }
 
-#[test]
-fn reads_and_writes_no_entries(rt: HostRuntime) -> Result<(), Fail> {
-    let set = no_structures(rt.alloc());
-    let text = lists_read(&rt, rt.alloc(), &PLAIN, &set, &[0xC0])?;
-    assert_eq!(rt; text.as_str(), "2 301=0 301=0 = -|-");
-    let written = lists_written(&rt, rt.alloc(), &PLAIN, &set, "301=0 301=0")?;
-    assert_eq!(rt; written.as_slice(), [0b11_100000].as_slice());
-    Ok(())
-}
-
 /// List 0 has structure 2 of 3, with five long-term entries, and list 1 takes its index over.
 #[test]
 fn refuses_an_index_that_leads_past(rt: HostRuntime) -> Result<(), Fail> {
@@ -310,7 +343,7 @@ fn refuses_an_index_that_leads_past(rt: HostRuntime) -> Result<(), Fail> {
     for (second, wanted) in cases {
         let text = taken_over(&rt, rt.alloc(), &in_force, second)?;
         let (told, answer) = text.split_once(" = ").ok_or("no answer")?;
-        assert_eq!(rt; told, "8 307=1 308=2 310=0 310=0 310=0 310=0 310=0");
+        assert_eq!(rt; told, "307=1 308=2 310=0 310=0 310=0 310=0 310=0");
         assert_eq!(rt; answer, wanted);
     }
     Ok(())
@@ -327,7 +360,9 @@ fn taken_over(
         "179=3 301=0 301=0 301=5 302=0 303=0 306=1 303=0 306=2 303=0 306=3 303=0 306=4 303=0 306=5";
     let set = format!(in alloc; "{first} {second}")?;
     let set = table(alloc, in_force, set.as_str())?;
-    lists_read(rt, alloc, in_force, &set, &[0b1_10_00000])
+    let reading = lists_read(rt, alloc, in_force, &set, &[0b1_10_00000]);
+    assert_eq!(rt; reading.at, 8);
+    Ok(reading_text(alloc, &reading)?)
 }
 
 /// What reading a structure answers.
@@ -468,17 +503,23 @@ fn weights_written(alloc: Global, numbers: &WeightNumbers, told: &str) -> Result
     Ok(bits.close()?)
 }
 
+/// Reads weights, and writes what was read.
+fn weights(rt: &impl Abort, alloc: Global, numbers: &WeightNumbers, row: &str) -> Result<(), Fail> {
+    let (bits, told) = row.split_once(' ').ok_or("no items")?;
+    let bytes = bytes(alloc, bits)?;
+    let text = weights_read(rt, alloc, numbers, &bytes)?;
+    assert_eq!(rt; text.as_str().trim_end(), told);
+    let written = weights_written(alloc, numbers, told)?;
+    assert_eq!(rt; written.as_slice(), bytes.as_slice());
+    Ok(())
+}
+
 #[test]
 fn reads_and_writes_weights(rt: HostRuntime) -> Result<(), Fail> {
     for row in WEIGHTS.lines() {
         let (text, row) = row.split_once(" = ").ok_or("no numbers")?;
         let numbers = weight_numbers(&rt, rt.alloc(), text)?;
-        let (bits, told) = row.split_once(' ').ok_or("no items")?;
-        let bytes = bytes(rt.alloc(), bits)?;
-        let text = weights_read(&rt, rt.alloc(), &numbers, &bytes)?;
-        assert_eq!(rt; text.as_str().trim_end(), told);
-        let written = weights_written(rt.alloc(), &numbers, told)?;
-        assert_eq!(rt; written.as_slice(), bytes.as_slice());
+        weights(&rt, rt.alloc(), &numbers, row)?;
     }
     Ok(())
 }
@@ -517,7 +558,10 @@ fn push_short(fields: &mut Fields) -> Result<(), AllocError> {
 }
 
 /// Whether the lists are these.
-fn are_longest(lists: &RefLists) -> bool {
+fn are_longest(reading: &Reading) -> bool {
+    let Ok(lists) = &reading.answer else {
+        return false;
+    };
     if lists.first.len() != 29 || lists.second.len() != 29 {
         return false;
     }
@@ -537,33 +581,31 @@ fn are_longest(lists: &RefLists) -> bool {
     true
 }
 
-/// The bytes that items of lists without structures of an SPS are written as.
-fn longest(alloc: Global, told: &Fields, numbers: &RplNumbers) -> Result<Vec<u8>, Fail>
-    requires { (4 ≤ numbers.now.lsb_bits) × (numbers.now.lsb_bits ≤ 16) }
-{
+/// Long-term entries, and no weights.
+const LONG_TERM: RplNumbers = RplNumbers {
+    long_term: true,
+    weighted: false,
+    lsb_bits: 16,
+    rpl1_idx_present: true,
+};
+
+/// The bytes of these lists.
+fn longest(alloc: Global) -> Result<Vec<u8>, Fail> {
+    let mut told = Fields::new(alloc);
+    push_long(&mut told)?;
+    push_short(&mut told)?;
     let set = no_structures(alloc);
     let mut bits = BitWriter::new(alloc);
-    write_lists(&mut bits, told, 0, told.len(), numbers, &set)?;
+    write_lists(&mut bits, &told, 0, told.len(), &LONG_TERM, &set)?;
     Ok(bits.close()?)
 }
 
 #[test]
 fn reads_the_longest_lists(rt: HostRuntime) -> Result<(), Fail> {
-    let in_force = RplNumbers {
-        long_term: true,
-        lsb_bits: 16,
-        ..PLAIN
-    };
-    let mut told = Fields::new(rt.alloc());
-    push_long(&mut told)?;
-    push_short(&mut told)?;
-    let bytes = longest(rt.alloc(), &told, &in_force)?;
-    assert!(rt; bytes.len() <= 1 << 23);
+    let bytes = longest(rt.alloc())?;
     let set = no_structures(rt.alloc());
-    let mut gained = Fields::new(rt.alloc());
-    let mut bits = BitReader::new(&bytes);
-    let lists = read_lists(rt.alloc(), &mut bits, &in_force, &set, &mut gained)?;
-    assert!(rt; are_longest(&lists));
+    let reading = lists_read(&rt, rt.alloc(), &LONG_TERM, &set, &bytes);
+    assert!(rt; are_longest(&reading));
     Ok(())
 }
 
