@@ -3,3 +3,5 @@ pub mod Going
 pub mod Stream
 pub mod Placed
 pub mod Counting
+pub mod Fitting
+pub mod Again

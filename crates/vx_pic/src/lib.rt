@@ -4,11 +4,15 @@
 //! come of that, and the rule that ends them. The laws say what follows of it, whatever sets and headers are read as.
 #![tactic(auto)]
 
+mod count;
 mod kind;
 mod laws;
 mod sets;
+#[cfg(test)]
+mod tests;
 mod unit_types;
 
+pub use count::{CountFields, PrevTid0, picture_order_count};
 pub use kind::Kind;
 pub use laws::{
     alike_is_next, pictures_are_unique, pictures_exist, pictures_stay, previous_by_places,
