@@ -1,26 +1,32 @@
 -- The units of a plan are read as the plan says.
-use Rattle.std.proofs.Common.{◌≡◌, ◌≢◌, ℕ, zero, suc, ◌+◌, ◌<◌, ◌≤◌, Bool, true, false, not, cond, ◌&&◌, ◌||◌, List, [], ◌∷◌, ◌++◌, length, map, sum_by, refl, sym, ◌∙◌, ap, subst, inl, inr, arith}
-use Rattle.std.proofs.Common.{option_to_list, ok_or, Option, Some, None, Result, Ok, Err, length-append}
+use Rattle.std.proofs.Common.{◌≡◌, ℕ, ◌+◌, ◌<◌, ◌≤◌, Bool, true, false, not, cond, ◌&&◌, List, [], ◌∷◌, ◌++◌, length, map, sum_by, refl}
+use Rattle.std.proofs.Common.{sym, ◌∙◌, ap, subst, inl, inr, arith}
+use Rattle.std.proofs.Common.{option_to_list, Option, Some, None, Ok, length-append}
 use Rattle.std.specs.Prelude.{◌==◌, nat_le, nat_lt, is_none}
 use Rattle.std.specs.List.{AllByRecursion}
 use Rattle.std.proofs.lemmas.Bool.{not-true}
 use Rattle.std.proofs.lemmas.Bool.Decides.{nat_tests, eqb_tells}
 use Rattle.std.proofs.lemmas.List.{append_assoc, append-nil}
 use Rattle.std.proofs.lemmas.List.Sums.{sum_by-cons, sum_by_push}
-use Rattle.vx_bits.specs.declared.refusal.Refusal.{Refusal}
 use Rattle.vx_annexb.specs.NalUnit.{nal_unit_type, nuh_layer_id}
-use Rattle.vx_sei.specs.declared.message.Message.{Message}
 use Rattle.vx_sei.specs.Sei.{spelled_length}
 use Rattle.vx_pic.specs.declared.kind.Kind.{Kind}
 use Rattle.vx_pic.specs.Answers.{◌>>=◌}
-use Rattle.vx_pic.specs.Units.{is_reserved, temporal_id, rbsp_of, has_header_inside, is_irap_or_gdr, Class, sps_unit, pps_unit, prefix_aps, header_unit, slice_unit, sei_unit, end_unit, class_of}
-use Rattle.vx_pic.specs.Sets.{SliceHeader, Slot, sps_id, pps_id, referred_sps, same_size, place_of, names_of, slice_qp, is_qp}
-use Rattle.vx_pic.specs.Readings.{Begun, Slice, Reading, sps_read, pps_read, aps_read, messages_read, header_read, first_slice, next_slice, sequence_ended, stored_sps, stored_pps, stored_aps, is_ended, gathered, Picture, messages_of, is_whole, Current, nothing, headed, going, with_slice, current, is_open, is_within, whole_part, pictures}
-use Rattle.vx_pic.specs.Counts.{fits_count, is_empty, begins_anew, kind_of, is_changed}
-use Rattle.vx_pic.specs.Rules.{Readers, are_stored, unit_size, size_of, picture_limit, message_limit, kind_at, starts_elsewhere, opened_as, opens, opened, begins, joins, first, follows, alone, reads_as, reads}
-use Rattle.vx_pic.specs.Streams.{Outcome, all_read, one_more, read_on, unless_refused}
+use Rattle.vx_pic.specs.Units.{is_reserved, temporal_id, has_header_inside, is_irap_or_gdr, Class, sps_unit, pps_unit, prefix_aps}
+use Rattle.vx_pic.specs.Units.{header_unit, slice_unit, sei_unit, end_unit, class_of}
+use Rattle.vx_pic.specs.Sets.{Slot, pps_id, referred_sps, place_of, names_of}
+use Rattle.vx_pic.specs.Readings.{Begun, Slice, Reading, messages_read, header_read, first_slice, next_slice, sequence_ended}
+use Rattle.vx_pic.specs.Readings.{stored_sps, stored_pps, is_ended, gathered, Picture, is_whole, Current, nothing, headed, going}
+use Rattle.vx_pic.specs.Readings.{with_slice, current, is_open, is_within, whole_part, pictures}
+use Rattle.vx_pic.specs.Counts.{fits_count, begins_anew, kind_of, is_changed}
+use Rattle.vx_pic.specs.Rules.{Readers, are_stored, unit_size, size_of, picture_limit, message_limit, kind_at, starts_elsewhere}
+use Rattle.vx_pic.specs.Rules.{opened_as, opens, opened, begins, joins, first, follows, alone, reads_as, reads}
+use Rattle.vx_pic.specs.Streams.{all_read, one_more, read_on, unless_refused}
 use Rattle.vx_pic.specs.Alike.{IsNext}
-use Rattle.vx_pic.specs.Written.{Set, an_sps, a_pps, an_aps, set_reading, SetUnit, SeiUnit, Plan, slices_of, sei_messages, eos_unit, eos_units, sei_units, units_of, eos_readings, set_readings, sei_readings, header_readings, slice_readings, readings_of, after, before_header, before_slices, planned, Rests, IsPlain, AreInOrder, AreInForce, Says, HeaderReads, HeadReads, SliceReads, SeiReads, IsWritten, ReadsAgain, PlanReadsAgain}
+use Rattle.vx_pic.specs.Written.{Set, an_sps, a_pps, an_aps, set_reading, SetUnit, SeiUnit, Plan, slices_of, sei_messages, eos_unit}
+use Rattle.vx_pic.specs.Written.{eos_units, sei_units, eos_readings, set_readings, sei_readings, header_readings, slice_readings}
+use Rattle.vx_pic.specs.Written.{readings_of, after, before_slices, planned, Rests, IsPlain, AreInOrder, AreInForce, Says, HeaderReads}
+use Rattle.vx_pic.specs.Written.{HeadReads, SliceReads, SeiReads, PlanReadsAgain}
 use Rattle.vx_pic.proofs.Going.{goes_on}
 
 -- ---- tests
@@ -40,7 +46,7 @@ both false b h = refl
 
 -- ---- readings behind others
 
-after_append : (before rs ss : List Reading) → after before (rs ++ ss) ≡ after (after before rs) ss
+pub after_append : (before rs ss : List Reading) → after before (rs ++ ss) ≡ after (after before rs) ss
 after_append before [] ss = refl
 after_append before (r ∷ rs) ss = after_append (r ∷ before) rs ss
 
@@ -169,19 +175,19 @@ picture_opens : (before : List Reading) (earlier : List Picture) (b : Begun) (u 
     → is_ended before ≡ k.after_eos → nal_unit_type u ≡ k.nal_type → temporal_id u ≡ k.temporal_id → IsNext earlier b k → opens before b u ≡ Ok k
 picture_opens before earlier b u k pics ended type tid next =
     let kind : kind_at before b u ≡ k =
-        ap (λ ps. kind_of ps (is_ended before) b (nal_unit_type u) (temporal_id u)) pics
-        ∙ ap (λ e. kind_of earlier e b (nal_unit_type u) (temporal_id u)) ended
-        ∙ ap (λ t. kind_of earlier k.after_eos b t (temporal_id u)) type
-        ∙ ap (kind_of earlier k.after_eos b k.nal_type) tid
-        ∙ sym next.kind in
+    ap (λ ps. kind_of ps (is_ended before) b (nal_unit_type u) (temporal_id u)) pics
+    ∙ ap (λ e. kind_of earlier e b (nal_unit_type u) (temporal_id u)) ended
+    ∙ ap (λ t. kind_of earlier k.after_eos b t (temporal_id u)) type
+    ∙ ap (kind_of earlier k.after_eos b k.nal_type) tid
+    ∙ sym next.kind in
     let starts : starts_elsewhere before u ≡ false =
-        ap (λ ps. begins_anew ps (is_ended before) && not (is_irap_or_gdr (nal_unit_type u))) pics
-        ∙ ap (λ e. begins_anew earlier e && not (is_irap_or_gdr (nal_unit_type u))) ended
-        ∙ ap (λ t. begins_anew earlier k.after_eos && not (is_irap_or_gdr t)) type
-        ∙ both (begins_anew earlier k.after_eos) (not (is_irap_or_gdr k.nal_type)) (λ h. ap not (next.begins h)) in
+    ap (λ ps. begins_anew ps (is_ended before) && not (is_irap_or_gdr (nal_unit_type u))) pics
+    ∙ ap (λ e. begins_anew earlier e && not (is_irap_or_gdr (nal_unit_type u))) ended
+    ∙ ap (λ t. begins_anew earlier k.after_eos && not (is_irap_or_gdr t)) type
+    ∙ both (begins_anew earlier k.after_eos) (not (is_irap_or_gdr k.nal_type)) (λ h. ap not (next.begins h)) in
     let same : (not k.clvss && is_changed (pictures before) b.sps) ≡ false =
-        ap (λ ps. not k.clvss && is_changed ps b.sps) pics
-        ∙ both (not k.clvss) (is_changed earlier b.sps) (λ h. next.same (not-true k.clvss h)) in
+    ap (λ ps. not k.clvss && is_changed ps b.sps) pics
+    ∙ both (not k.clvss) (is_changed earlier b.sps) (λ h. next.same (not-true k.clvss h)) in
     ap (opened_as (starts_elsewhere before u) (is_changed (pictures before) b.sps)) kind
     ∙ opened_ok (starts_elsewhere before u) (is_changed (pictures before) b.sps) k starts same next.fits
 
@@ -256,17 +262,152 @@ slices_read R before p q (s ∷ more) earlier cur pics ended none each outside o
     let read = further_read R before p s each.0.plain outside.0 cur part joins_it in
     let P : ℕ → Type 0 = λ n. AreInOrder p.begun n more in
     let rest = slices_read R (next_slice s ∷ before) grown q more earlier
-        (ap (with_slice s) cur)
-        (ap (λ c. whole_part (with_slice s c) ++ pictures before) cur
-        ∙ ap (λ ps. whole_part (going grown) ++ ps) (pics ∙ ap (λ b. cond b (p ∷ []) [] ++ earlier) part))
-        refl refl each.1 outside.1 (subst P (sym longer) order.1) bodies.1
-        (omega (arith, longer, all))
-        (omega (arith, size, sizes, pushed))
-        (is ∙ ap (λ ss. record p { slices = ss }) (sym (append_assoc p.slices (s ∷ []) more))) in
+    (ap (with_slice s) cur)
+    (ap (λ c. whole_part (with_slice s c) ++ pictures before) cur
+    ∙ ap (λ ps. whole_part (going grown) ++ ps) (pics ∙ ap (λ b. cond b (p ∷ []) [] ++ earlier) part))
+    refl refl each.1 outside.1 (subst P (sym longer) order.1) bodies.1
+    (omega (arith, longer, all))
+    (omega (arith, size, sizes, pushed))
+    (is ∙ ap (λ ss. record p { slices = ss }) (sym (append_assoc p.slices (s ∷ []) more))) in
     record {
       read = read_one R before s.unit (map (λ t. t.unit) more) (next_slice s) (map next_slice more) read rest.read;
       cur = rest.cur;
       pics = rest.pics;
       ended = rest.ended;
       none = rest.none;
+    }
+
+-- ---- a plan
+
+-- What holds before the header of a plan.
+record Ready (b : List Reading) (earlier : List Picture) (p : Plan) : Type 0 where
+  closed : is_open (current b) ≡ false
+  pics : pictures b ≡ earlier
+  ended : is_ended b ≡ p.kind.after_eos
+  messages : gathered b ≡ sei_messages p.sei
+
+-- one picture more
+abbrev done : List Reading → Plan → Picture
+done b p = record { begun = p.begun; kind = p.kind; before = b; slices = slices_of p }
+
+whole : (b : List Reading) (p : Plan) → length (slices_of p) ≡ length p.begun.layout.slices → is_whole (done b p) ≡ true
+whole b p all = elim (eqb_tells (length (slices_of p)) (length p.begun.layout.slices)) [ inl same ↦ same.0 | inr other ↦ absurd (other.1 all) ]
+
+-- the slices, behind the readings `b`, where the first one is read
+tail_read : (R : Readers) (b : List Reading) (p : Plan) (earlier : List Picture) → pictures b ≡ earlier
+    → reads R b p.first.unit ≡ Ok (first_slice p.begun p.kind p.first)
+    → AllByRecursion (SliceReads R p.begun p.kind.nal_type) (slices_of p) → AllByRecursion (λ s. has_header_inside s.unit ≡ false) p.more
+    → AreInOrder p.begun 0 (slices_of p) → AllByRecursion (λ s. AreInForce b (names_of p.begun.pps p.begun.header s.header)) (slices_of p)
+    → length (slices_of p) ≡ length p.begun.layout.slices → unit_size p.begun.unit + sum_by (λ s. length s.unit) (slices_of p) ≤ picture_limit
+    → Grown R b (map (λ s. s.unit) (slices_of p)) (slice_readings p) (done b p) earlier
+tail_read R b p earlier pics read each outside order bodies all size =
+    let one : Picture = record { begun = p.begun; kind = p.kind; before = b; slices = p.first ∷ [] } in
+    let sizes = sum_by-cons (λ (t : Slice). length t.unit) p.first p.more in
+    let rest = slices_read R (first_slice p.begun p.kind p.first ∷ b) one (done b p) p.more earlier refl
+    (ap (λ ps. whole_part (going one) ++ ps) pics)
+    refl refl each.1 outside order.1 bodies.1 (omega (arith, all)) (omega (arith, size, sizes)) refl in
+    record {
+      read = read_one R b p.first.unit (map (λ t. t.unit) p.more) (first_slice p.begun p.kind p.first) (map next_slice p.more) read rest.read;
+      cur = rest.cur;
+      pics = rest.pics;
+      ended = rest.ended;
+      none = rest.none;
+    }
+
+-- the header and the slices, behind the readings `b`
+head_read : (R : Readers) (b : List Reading) (p : Plan) (earlier : List Picture) (unit : Option (List ℕ)) → p.begun.unit ≡ unit → Ready b earlier p
+    → stored_pps (pps_id p.begun.pps) b ≡ Some p.begun.pps → stored_sps (referred_sps p.begun.pps) b ≡ Some p.begun.sps
+    → HeadReads R unit p.begun p.first
+    → AllByRecursion (SliceReads R p.begun p.kind.nal_type) (slices_of p) → AllByRecursion (λ s. has_header_inside s.unit ≡ false) p.more
+    → AreInOrder p.begun 0 (slices_of p) → AllByRecursion (λ s. AreInForce b (names_of p.begun.pps p.begun.header s.header)) (slices_of p)
+    → length (slices_of p) ≡ length p.begun.layout.slices → unit_size p.begun.unit + sum_by (λ s. length s.unit) (slices_of p) ≤ picture_limit
+    → p.kind.temporal_id ≡ p.begun.temporal_id → IsNext earlier p.begun p.kind
+    → Grown R b (option_to_list unit ++ map (λ s. s.unit) (slices_of p)) (header_readings unit p.begun ++ slice_readings p)
+    (done (after b (header_readings unit p.begun)) p) earlier
+head_read R b p earlier None is ready pps sps head each outside order bodies all size tid next =
+    let opens_it = picture_opens b earlier p.begun p.first.unit p.kind ready.pics ready.ended each.0.type (each.0.tid ∙ sym tid) next in
+    let sizes = sum_by-cons (λ (t : Slice). length t.unit) p.first p.more in
+    let joins_it = slice_joins R (opened b p.begun p.kind) p.first each.0 order.0 bodies.0 (omega (arith, size, sizes)) in
+    let begun = header_begins R b p.first.unit None p.begun head.0 is pps sps in
+    let read = first_alone R b p.begun p.first.unit (first_slice p.begun p.kind p.first) each.0.plain head.1 ready.closed begun head.2
+    (first_read R b p.begun p.kind p.first opens_it joins_it) in
+    tail_read R b p earlier ready.pics read each outside order bodies all size
+head_read R b p earlier (Some u) is ready pps sps head each outside order bodies all size tid next =
+    let begun = header_begins R b u (Some u) p.begun head.1 is pps sps in
+    let header : reads R b u ≡ Ok (header_read p.begun) = plain R b u header_unit head.0 ∙ rw (ready.closed, begun) refl in
+    let h : List Reading = header_read p.begun ∷ b in
+    let opens_it = picture_opens h earlier p.begun p.first.unit p.kind ready.pics ready.ended each.0.type (each.0.tid ∙ sym tid) next in
+    let sizes = sum_by-cons (λ (t : Slice). length t.unit) p.first p.more in
+    let joins_it = slice_joins R (opened h p.begun p.kind) p.first each.0 order.0 bodies.0 (omega (arith, size, sizes)) in
+    let read = first_follows R h p.begun p.first.unit (first_slice p.begun p.kind p.first) each.0.plain head.2 refl
+    (first_read R h p.begun p.kind p.first opens_it joins_it) in
+    let rest = tail_read R h p earlier ready.pics read each outside order bodies all size in
+    record {
+      read = read_one R b u (map (λ t. t.unit) (slices_of p)) (header_read p.begun) (slice_readings p) header rest.read;
+      cur = rest.cur;
+      pics = rest.pics;
+      ended = rest.ended;
+      none = rest.none;
+    }
+
+eos_ready : (before : List Reading) (e : Bool) → Rests before → (is_open (current (after before (eos_readings e))) ≡ false)
+    × (pictures (after before (eos_readings e)) ≡ pictures before) × (is_ended (after before (eos_readings e)) ≡ e)
+    × (gathered (after before (eos_readings e)) ≡ [])
+eos_ready before true rests = (rests.closed, refl, refl, rests.none)
+eos_ready before false rests = (rests.closed, refl, rests.goes_on, rests.none)
+
+sei_ready : (b : List Reading) (sei : Option SeiUnit) → gathered b ≡ [] → (is_open (current (after b (sei_readings sei))) ≡ is_open (current b))
+    × (pictures (after b (sei_readings sei)) ≡ pictures b) × (is_ended (after b (sei_readings sei)) ≡ is_ended b)
+    × (gathered (after b (sei_readings sei)) ≡ sei_messages sei)
+sei_ready b None none = (refl, refl, refl, none)
+sei_ready b (Some s) none = (refl, refl, refl, ap (λ ms. ms ++ s.messages) none)
+
+header_keeps : (b : List Reading) (unit : Option (List ℕ)) (begun : Begun) → gathered (after b (header_readings unit begun)) ≡ gathered b
+header_keeps b None begun = refl
+header_keeps b (Some u) begun = refl
+
+pub plan_reads_again : (R : Readers) → PlanReadsAgain R
+plan_reads_again R before p rests is =
+    let b1 = after before (eos_readings p.kind.after_eos) in
+    let b2 = after b1 (set_readings p.sent) in
+    let b3 = after b2 (sei_readings p.sei) in
+    let eos = eos_ready before p.kind.after_eos rests in
+    let sets = sets_keep b1 p.sent in
+    let closed : is_open (current b2) ≡ false = ap is_open sets.current ∙ eos.0 in
+    let none : gathered b2 ≡ [] = sets.gathered ∙ eos.3 in
+    let sei = sei_ready b2 p.sei none in
+    let ready : Ready b3 (pictures before) p = record {
+      closed = sei.0 ∙ closed;
+      pics = sei.1 ∙ sets.pictures ∙ eos.1;
+      ended = sei.2 ∙ sets.ended ∙ eos.2;
+      messages = sei.3;
+    } in
+    let head = head_read R b3 p (pictures before) p.begun.unit refl ready is.pps is.sps is.head is.slices is.outside is.order is.bodies is.all
+    is.size is.tid is.next in
+    let eos_units_read = eos_read R before p.kind.after_eos rests.closed in
+    let sets_units_read = sets_read R b1 p.sent (closed_within (current b1) eos.0) is.sets in
+    let sei_units_read = sei_read R b2 p.sei (closed_within (current b2) closed) none is.sei in
+    let behind_sei = read_append R b2 (sei_units p.sei) (option_to_list p.begun.unit ++ map (λ s. s.unit) (slices_of p))
+    (sei_readings p.sei) (header_readings p.begun.unit p.begun ++ slice_readings p) sei_units_read head.read in
+    let behind_sets = read_append R b1 (map (λ x. x.unit) p.sent) (sei_units p.sei ++ (option_to_list p.begun.unit ++ map (λ s. s.unit) (slices_of p)))
+    (set_readings p.sent) (sei_readings p.sei ++ (header_readings p.begun.unit p.begun ++ slice_readings p)) sets_units_read behind_sei in
+    let read = read_append R before (eos_units p.kind.after_eos)
+    (map (λ x. x.unit) p.sent ++ (sei_units p.sei ++ (option_to_list p.begun.unit ++ map (λ s. s.unit) (slices_of p))))
+    (eos_readings p.kind.after_eos) (set_readings p.sent ++ (sei_readings p.sei ++ (header_readings p.begun.unit p.begun ++ slice_readings p)))
+    eos_units_read behind_sets in
+    let tail = header_readings p.begun.unit p.begun ++ slice_readings p in
+    let at : after before (readings_of p) ≡ after b3 tail =
+    after_append before (eos_readings p.kind.after_eos) (set_readings p.sent ++ (sei_readings p.sei ++ tail))
+    ∙ after_append b1 (set_readings p.sent) (sei_readings p.sei ++ tail)
+    ∙ after_append b2 (sei_readings p.sei) tail in
+    let all = whole (before_slices before p) p is.all in
+    record {
+      read = read;
+      one_more = ap pictures at ∙ head.pics ∙ ap (λ b. cond b (planned before p ∷ []) [] ++ pictures before) all;
+      messages = header_keeps b3 p.begun.unit p.begun ∙ ready.messages;
+      rests = record {
+        closed = ap (λ b. is_open (current b)) at ∙ ap is_open head.cur ∙ ap not all;
+        goes_on = ap is_ended at ∙ head.ended;
+        none = ap gathered at ∙ head.none;
+      };
     }

@@ -1,5 +1,5 @@
 -- Counts that have 32 bits.
-use Rattle.std.proofs.Common.{◌≡◌, ℕ, ◌^◌, ◌<◌, ◌≤◌, ℤ, pos, negsuc, neg_ℤ, ◌≤ℤ◌, ◌<ℤ◌, FitsSigned, w32, Bool, true, false, cond, int_le, int_lt, ◌&&◌, refl, sym, ◌∙◌, ap, arith, Ok, Err, Result, inl, inr}
+use Rattle.std.proofs.Common.{◌≡◌, ℤ, pos, negsuc, FitsSigned, w32, Bool, true, cond, sym, ◌∙◌, ap, arith, Ok, Err, Result, inl, inr}
 use Rattle.std.proofs.lemmas.Bool.{cases_Bool}
 use Rattle.std.proofs.lemmas.Bool.Decides.{nat_tests}
 use Rattle.vx_bits.specs.declared.refusal.Refusal.{Refusal}

@@ -5,3 +5,4 @@ pub mod Placed
 pub mod Counting
 pub mod Fitting
 pub mod Again
+pub mod Sent

@@ -10,4 +10,5 @@ pub mod Streams
 pub mod Bytes
 pub mod Alike
 pub mod Written
+pub mod Resident
 pub mod Laws

@@ -1,5 +1,5 @@
 -- A picture as units that are written, and what is asked of them so that they are read as that picture.
-use Rattle.std.specs.Prelude.{◌≡◌, ℕ, ◌+◌, ◌==◌, ◌&&◌, ◌≤◌, ◌<◌, Bool, true, false, cond, List, [], ◌∷◌, ◌++◌, length, map, sum_by, option_to_list}
+use Rattle.std.specs.Prelude.{◌≡◌, ℕ, ◌+◌, ◌≤◌, ◌<◌, Bool, true, false, cond, List, [], ◌∷◌, ◌++◌, length, map, sum_by, option_to_list}
 use Rattle.std.specs.Prelude.{Option, Some, None, is_none, Ok}
 use Rattle.std.specs.List.{AllByRecursion}
 use Rattle.vx_bits.specs.declared.list.Item.{Item}
@@ -8,11 +8,14 @@ use Rattle.vx_aps.specs.declared.aps.Aps.{Aps}
 use Rattle.vx_sei.specs.declared.message.Message.{Message}
 use Rattle.vx_sei.specs.Sei.{spelled_length}
 use Rattle.vx_pic.specs.declared.kind.Kind.{Kind}
-use Rattle.vx_pic.specs.Units.{is_reserved, temporal_id, rbsp_of, has_header_inside, Class, sps_unit, pps_unit, prefix_aps, header_unit, slice_unit, sei_unit, class_of}
-use Rattle.vx_pic.specs.Sets.{SliceHeader, Slot, sps_id, pps_id, referred_sps, same_size, place_of, names_of, slice_qp, is_qp}
-use Rattle.vx_pic.specs.Readings.{Begun, Slice, Reading, sps_read, pps_read, aps_read, messages_read, header_read, first_slice, next_slice, sequence_ended, stored_sps, stored_pps, stored_aps, is_ended, gathered, Picture, messages_of, current, is_open, pictures}
+use Rattle.vx_pic.specs.Units.{is_reserved, temporal_id, rbsp_of, has_header_inside, Class, sps_unit, pps_unit, prefix_aps, header_unit}
+use Rattle.vx_pic.specs.Units.{slice_unit, sei_unit, class_of}
+use Rattle.vx_pic.specs.Sets.{Slot, sps_id, pps_id, referred_sps, same_size, place_of, names_of, slice_qp, is_qp}
+use Rattle.vx_pic.specs.Readings.{Begun, Slice, Reading, sps_read, pps_read, aps_read, messages_read, header_read, first_slice}
+use Rattle.vx_pic.specs.Readings.{next_slice, sequence_ended, stored_sps, stored_pps, stored_aps, is_ended, gathered, Picture}
+use Rattle.vx_pic.specs.Readings.{messages_of, current, is_open, pictures}
 use Rattle.vx_pic.specs.Rules.{Readers, unit_size, picture_limit, message_limit}
-use Rattle.vx_pic.specs.Streams.{Outcome, all_read, read_on}
+use Rattle.vx_pic.specs.Streams.{all_read, read_on}
 use Rattle.vx_pic.specs.Alike.{IsNext}
 
 -- ---- sets

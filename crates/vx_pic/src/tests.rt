@@ -55,6 +55,12 @@ fn counts_with_a_cycle(rt: HostRuntime) {
         kind: 0,
         id: 0,
     };
-    assert_eq!(rt; picture_order_count(&told(32_767, 65_535), false, none), Ok(2_147_483_647));
-    assert_eq!(rt; picture_order_count(&told(32_768, 0), false, none), Err(refused));
+    assert_eq!(rt;
+        picture_order_count(&told(32_767, 65_535), false, none),
+        Ok(2_147_483_647)
+    );
+    assert_eq!(rt;
+        picture_order_count(&told(32_768, 0), false, none),
+        Err(refused)
+    );
 }
