@@ -208,12 +208,12 @@ first_follows R before b u r is outside cur read =
     ∙ read
 
 first_alone : (R : Readers) (before : List Reading) (b : Begun) (u : List ℕ) (r : Reading) → IsPlain u slice_unit → has_header_inside u ≡ true
-    → is_open (current before) ≡ false → begins R before u None ≡ Ok b → length b.layout.slices ≡ 1 → first R before b u ≡ Ok r
+    → is_open (current before) ≡ false → begins R before u None ≡ Ok b → length b.layout.slices ≤ 1 → first R before b u ≡ Ok r
     → reads R before u ≡ Ok r
 first_alone R before b u r is inside closed begun one read =
     plain R before u slice_unit is
     ∙ ap (λ i. cond i (alone R before u) (follows R before (current before) u)) inside
-    ∙ rw (closed, begun, over 1 (length b.layout.slices) (omega (arith, one))) read
+    ∙ rw (closed, begun, over 1 (length b.layout.slices) one) read
 
 further_read : (R : Readers) (before : List Reading) (p : Picture) (s : Slice) → IsPlain s.unit slice_unit → has_header_inside s.unit ≡ false
     → current before ≡ going p → is_whole p ≡ false → joins R p s.unit ≡ Ok s → reads R before s.unit ≡ Ok (next_slice s)

@@ -6,3 +6,5 @@ pub mod Counting
 pub mod Fitting
 pub mod Again
 pub mod Sent
+pub mod Finishing
+pub mod Editing

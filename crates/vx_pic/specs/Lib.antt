@@ -11,4 +11,6 @@ pub mod Bytes
 pub mod Alike
 pub mod Written
 pub mod Resident
+pub mod Finished
+pub mod Edited
 pub mod Laws

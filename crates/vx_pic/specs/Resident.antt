@@ -56,12 +56,14 @@ pub record Sends (done : List Plan) (p : Plan) : Type 0 where
   pub needed : List SetUnit
   pub slots : HaveOwnSlots needed
   pub resident : SetUnit → Bool
-  pub is_resident : (x : SetUnit) → resident x ≡ true → IsStored (after [] (set_readings (kept_for p.kind.nal_type (history_of done)))) x.set
+  pub is_resident : (x : SetUnit) → resident x ≡ true
+      → IsStored (after [] (set_readings (kept_for p.kind.nal_type (history_of done)))) x.set
   pub sent : p.sent ≡ filter (λ x. not (resident x)) needed
 
 -- Each set that a picture needs is in force for its header.
 abbrev pub NeededIsStored : Type 0
-NeededIsStored = (done : List Plan) (p : Plan) (s : Sends done p) → AllByRecursion (λ x. IsStored (before_header (read_of done) p) x.set) s.needed
+NeededIsStored = (done : List Plan) (p : Plan) (s : Sends done p)
+    → AllByRecursion (λ x. IsStored (before_header (read_of done) p) x.set) s.needed
 
 -- ---- all plans
 

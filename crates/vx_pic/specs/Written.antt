@@ -168,7 +168,7 @@ module _ (R : Readers) where
   -- from its PH unit, or from its only slice
   abbrev pub HeadReads : Option (List ℕ) → Begun → Slice → Type 0
   HeadReads (Some u) b first = IsPlain u header_unit × HeaderReads false u b × (has_header_inside first.unit ≡ false)
-  HeadReads None b first = HeaderReads true first.unit b × (has_header_inside first.unit ≡ true) × (length b.layout.slices ≡ 1)
+  HeadReads None b first = HeaderReads true first.unit b × (has_header_inside first.unit ≡ true) × (length b.layout.slices ≤ 1)
 
   -- the slice is read under the header, in a picture of this type
   pub record SliceReads (b : Begun) (t : ℕ) (s : Slice) : Type 0 where

@@ -1,6 +1,8 @@
 //! Laws of the pictures of a stream: functions that do nothing, each with a law as its contract. They hold whatever sets and
 //! headers are read as.
 ghost use Rattle.vx_pic.specs.Alike.{AlikeIsNext};
+ghost use Rattle.vx_pic.specs.Edited.{EditsArePlanned};
+ghost use Rattle.vx_pic.specs.Finished.{PicturesAreFinished};
 ghost use Rattle.vx_pic.specs.Resident.{NeededIsStored, NeededIsBody, WrittenReadsAgain};
 ghost use Rattle.vx_pic.specs.Laws.{ReadingGoesOn, PicturesStay, PicturesAreUnique, PicturesExist, SeenPicturesStay};
 ghost use Rattle.vx_pic.specs.Laws.{StoredByPlaces, PreviousByPlaces, PlansReadAgain, WrittenHasPictures};
@@ -69,4 +71,14 @@ pub fn written_reads_again()
 /// Units that are written to a stream have in it the pictures that their list has.
 pub fn written_has_pictures()
     ensures { WrittenHasPictures }
+{}
+
+/// What is asked of a picture that is written holds of each picture that was read.
+pub fn pictures_are_finished()
+    ensures { PicturesAreFinished }
+{}
+
+/// Plans that take the places of pictures that were read are as plans have to be, and their pictures have the same counts.
+pub fn edits_are_planned()
+    ensures { EditsArePlanned }
 {}

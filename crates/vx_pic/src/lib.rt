@@ -15,9 +15,10 @@ mod unit_types;
 pub use count::{CountFields, PrevTid0, picture_order_count};
 pub use kind::Kind;
 pub use laws::{
-    alike_is_next, needed_is_body, needed_is_stored, pictures_are_unique, pictures_exist,
-    pictures_stay, plans_read_again, previous_by_places, reading_goes_on, seen_pictures_stay,
-    stored_by_places, written_has_pictures, written_reads_again,
+    alike_is_next, edits_are_planned, needed_is_body, needed_is_stored, pictures_are_finished,
+    pictures_are_unique, pictures_exist, pictures_stay, plans_read_again, previous_by_places,
+    reading_goes_on, seen_pictures_stay, stored_by_places, written_has_pictures,
+    written_reads_again,
 };
 pub use sets::{PPS, SPS};
 pub use unit_types::{

@@ -1,4 +1,5 @@
 //! Worked rows.
+ghost use Rattle.std.specs.Prelude.{◌≡◌};
 
 use crate::count::{CountFields, PrevTid0, picture_order_count};
 use std::test::Fail;
@@ -6,7 +7,9 @@ use vx_bits::Refusal;
 use vx_bits::rules::POC_RANGE;
 
 /// A count of which so many low bits are spelled, and no high ones.
-const fn low(lsb_bits: u32, lsb: u32) -> CountFields {
+fn low(lsb_bits: u32, lsb: u32) -> CountFields
+    ensures { result.lsb_bits ≡ lsb_bits }
+{
     CountFields {
         lsb_bits,
         lsb,
