@@ -3,3 +3,8 @@ pub mod Going
 pub mod Stream
 pub mod Placed
 pub mod Counting
+pub mod Fitting
+pub mod Again
+pub mod Sent
+pub mod Finishing
+pub mod Editing

@@ -1,14 +1,16 @@
 -- The pictures of bytes: there are some, and no others, and those that are seen stay.
+use Rattle.std.specs.Prelude.{true, None}
 use Rattle.std.proofs.Common.{◌≡◌, [], ◌++◌, refl, sym, ◌∙◌, ap}
 use Rattle.std.proofs.lemmas.List.{map-append}
 use Rattle.vx_annexb.specs.ByteStream.{unit_bytes}
 use Rattle.vx_annexb.proofs.Unique.{stream_unique, stream_goes_on}
 use Rattle.vx_annexb.proofs.Exists.{stream_exists}
 use Rattle.vx_annexb.proofs.Unseen.{seen_stays}
+use Rattle.vx_annexb.proofs.Written.{written_is_stream}
 use Rattle.vx_pic.specs.Readings.{pictures}
 use Rattle.vx_pic.specs.Streams.{read_on, pictures_of}
 use Rattle.vx_pic.specs.Bytes.{ending_by, units_at}
-use Rattle.vx_pic.specs.Laws.{PicturesAreUnique, PicturesExist, SeenPicturesStay}
+use Rattle.vx_pic.specs.Laws.{PicturesAreUnique, PicturesExist, SeenPicturesStay, WrittenHasPictures}
 use Rattle.vx_pic.proofs.Going.{pictures_stay}
 
 pub pictures_unique : PicturesAreUnique
@@ -37,3 +39,14 @@ seen_pictures_stay R b more all ps qs e seen is =
     ap (units_at (b ++ more)) went.0.1 ∙ map-append (unit_bytes (b ++ more)) s.places later ∙ ap (λ us. us ++ units_at (b ++ more) later) kept in
     let stay = pictures_stay R (units_at b s.places) (units_at (b ++ more) later) in
     (stay.0, is.done ∙ ap (pictures_of R) units ∙ stay.1 ∙ ap (λ ps. stay.0 ++ ps) (sym s.done))
+
+pub written_has_pictures : WrittenHasPictures
+written_has_pictures R units stand =
+    let s = written_is_stream units stand in
+    record {
+      places = s.0;
+      framing = None;
+      stream = s.1;
+      done = ap (pictures_of R) (sym s.2);
+      ends = ap (λ us. ending_by true None (read_on R [] us)) (sym s.2);
+    }

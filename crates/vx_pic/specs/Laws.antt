@@ -1,10 +1,12 @@
 -- What the definition of pictures comes to, whatever sets and headers are read as.
-use Rattle.std.specs.Prelude.{◌≡◌, ℕ, ◌<◌, Bool, true, false, List, ◌++◌, slice_get, Option, Some, None}
+use Rattle.std.specs.Prelude.{◌≡◌, ℕ, ◌<◌, Bool, true, false, List, ◌++◌, [], All, slice_get, Option, Some, None}
 use Rattle.vx_pic.specs.Readings.{Reading, latest, sps_in, pps_in, aps_in, Picture}
 use Rattle.vx_pic.specs.Counts.{is_tid0_picture, counts_of, no_counts, previous}
 use Rattle.vx_pic.specs.Rules.{Readers}
 use Rattle.vx_pic.specs.Streams.{read_on, unless_refused, pictures_of}
-use Rattle.vx_pic.specs.Bytes.{Ending, ArePictures, AreSeenPictures}
+use Rattle.vx_pic.specs.Bytes.{Ending, ending_by, ArePictures, AreSeenPictures}
+use Rattle.vx_pic.specs.Written.{PlanReadsAgain}
+use Rattle.vx_annexb.specs.Laws.{CanStand, written}
 
 -- ---- units
 
@@ -18,6 +20,10 @@ ReadingGoesOn = (R : Readers) (before : List Reading) (units more : List (List �
 abbrev pub PicturesStay : Type 0
 PicturesStay = (R : Readers) (units more : List (List ℕ))
     → (later : List Picture) × (pictures_of R (units ++ more) ≡ later ++ pictures_of R units)
+
+-- a plan that is written where a stream can go on is read again
+abbrev pub PlansReadAgain : Type 0
+PlansReadAgain = (R : Readers) → PlanReadsAgain R
 
 -- ---- bytes
 
@@ -34,6 +40,11 @@ PicturesExist = (R : Readers) (b : List ℕ) (all : Bool) → (ps : List Picture
 abbrev pub SeenPicturesStay : Type 0
 SeenPicturesStay = (R : Readers) (b more : List ℕ) (all : Bool) (ps qs : List Picture) (e : Option Ending)
     → AreSeenPictures R b ps → ArePictures R (b ++ more) all qs e → (later : List Picture) × (qs ≡ later ++ ps)
+
+-- units that are written one behind another, and can stand in a stream, have in it the pictures of the list of units
+abbrev pub WrittenHasPictures : Type 0
+WrittenHasPictures = (R : Readers) (units : List (List ℕ)) → All CanStand units
+    → ArePictures R (written units) true (pictures_of R units) (ending_by true None (read_on R [] units))
 
 -- ---- places
 

@@ -86,12 +86,15 @@ abbrev pub starts_elsewhere : List Reading → List ℕ → Bool
 starts_elsewhere before u = begins_anew (pictures before) (is_ended before) && not (is_irap_or_gdr (nal_unit_type u))
 
 -- a picture begins: where a coded layer video sequence may, with the SPS of that sequence, and a count of 32 bits
+abbrev pub opened_as : Bool → Bool → Kind → Result Kind Refusal
+opened_as elsewhere changed k = do
+  _ ← refuse_if elsewhere (structure rules.STARTS_ELSEWHERE)
+  _ ← refuse_if (not k.clvss && changed) (structure rules.SPS_CHANGED)
+  _ ← refuse_if (not (fits_count k.poc)) (structure rules.POC_RANGE)
+  Ok k
+
 abbrev pub opens : List Reading → Begun → List ℕ → Result Kind Refusal
-opens before b u = do
-  _ ← refuse_if (starts_elsewhere before u) (structure rules.STARTS_ELSEWHERE)
-  _ ← refuse_if (not (kind_at before b u).clvss && is_changed (pictures before) b.sps) (structure rules.SPS_CHANGED)
-  _ ← refuse_if (not (fits_count (kind_at before b u).poc)) (structure rules.POC_RANGE)
-  Ok (kind_at before b u)
+opens before b u = opened_as (starts_elsewhere before u) (is_changed (pictures before) b.sps) (kind_at before b u)
 
 -- before its first slice
 abbrev pub opened : List Reading → Begun → Kind → Picture

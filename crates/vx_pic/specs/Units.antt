@@ -42,7 +42,7 @@ is_slice_type t = nat_le t types.RASL_NUT || is_irap_or_gdr t
 abbrev pub is_end_type : ℕ → Bool
 is_end_type t = t == types.EOS_NUT || t == types.EOB_NUT
 
-abbrev pub class_of : ℕ → Class
+unfoldable pub class_of : ℕ → Class
 class_of t =
     cond (t == types.VPS_NUT) vps_unit
     (cond (t == types.SPS_NUT) sps_unit

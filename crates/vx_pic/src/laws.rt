@@ -1,7 +1,11 @@
 //! Laws of the pictures of a stream: functions that do nothing, each with a law as its contract. They hold whatever sets and
 //! headers are read as.
 ghost use Rattle.vx_pic.specs.Alike.{AlikeIsNext};
-ghost use Rattle.vx_pic.specs.Laws.{ReadingGoesOn, PicturesStay, PicturesAreUnique, PicturesExist, SeenPicturesStay, StoredByPlaces, PreviousByPlaces};
+ghost use Rattle.vx_pic.specs.Edited.{EditsArePlanned};
+ghost use Rattle.vx_pic.specs.Finished.{PicturesAreFinished};
+ghost use Rattle.vx_pic.specs.Resident.{NeededIsStored, NeededIsBody, WrittenReadsAgain};
+ghost use Rattle.vx_pic.specs.Laws.{ReadingGoesOn, PicturesStay, PicturesAreUnique, PicturesExist, SeenPicturesStay};
+ghost use Rattle.vx_pic.specs.Laws.{StoredByPlaces, PreviousByPlaces, PlansReadAgain, WrittenHasPictures};
 
 /// More units are read behind those before them, unless one of these is refused.
 pub fn reading_goes_on()
@@ -42,4 +46,39 @@ pub fn previous_by_places()
 /// its kind.
 pub fn alike_is_next()
     ensures { AlikeIsNext }
+{}
+
+/// The units of a picture that is written where a stream can go on are read as that picture.
+pub fn plans_read_again()
+    ensures { PlansReadAgain }
+{}
+
+/// Each set that a written picture needs, and that is sent unless it is resident, is in force for its header,
+pub fn needed_is_stored()
+    ensures { NeededIsStored }
+{}
+
+/// and each adaptation parameter set is one of the picture that is read again.
+pub fn needed_is_body()
+    ensures { NeededIsBody }
+{}
+
+/// Pictures that are written one behind another are read again: exactly these, and all whole.
+pub fn written_reads_again()
+    ensures { WrittenReadsAgain }
+{}
+
+/// Units that are written to a stream have in it the pictures that their list has.
+pub fn written_has_pictures()
+    ensures { WrittenHasPictures }
+{}
+
+/// What is asked of a picture that is written holds of each picture that was read.
+pub fn pictures_are_finished()
+    ensures { PicturesAreFinished }
+{}
+
+/// Plans that take the places of pictures that were read are as plans have to be, and their pictures have the same counts.
+pub fn edits_are_planned()
+    ensures { EditsArePlanned }
 {}

@@ -4,15 +4,21 @@
 //! come of that, and the rule that ends them. The laws say what follows of it, whatever sets and headers are read as.
 #![tactic(auto)]
 
+mod count;
 mod kind;
 mod laws;
 mod sets;
+#[cfg(test)]
+mod tests;
 mod unit_types;
 
+pub use count::{CountFields, PrevTid0, picture_order_count};
 pub use kind::Kind;
 pub use laws::{
-    alike_is_next, pictures_are_unique, pictures_exist, pictures_stay, previous_by_places,
-    reading_goes_on, seen_pictures_stay, stored_by_places,
+    alike_is_next, edits_are_planned, needed_is_body, needed_is_stored, pictures_are_finished,
+    pictures_are_unique, pictures_exist, pictures_stay, plans_read_again, previous_by_places,
+    reading_goes_on, seen_pictures_stay, stored_by_places, written_has_pictures,
+    written_reads_again,
 };
 pub use sets::{PPS, SPS};
 pub use unit_types::{

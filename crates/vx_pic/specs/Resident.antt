@@ -1,0 +1,120 @@
+-- Pictures that are written one behind another: which sets are sent with each, and that all are read again.
+use Rattle.std.specs.Prelude.{◌≡◌, ◌⊎◌, ℕ, ◌+◌, ◌==◌, ◌&&◌, ◌≤◌, Bool, true, false, not, cond, List, [], ◌∷◌, ◌++◌, length, filter}
+use Rattle.std.specs.Prelude.{sum_by, Some}
+use Rattle.std.specs.List.{AllByRecursion}
+use Rattle.vx_aps.specs.declared.aps.Aps.{Aps}
+use Rattle.vx_pic.specs.Units.{has_header_inside, is_irap_or_gdr}
+use Rattle.vx_pic.specs.Sets.{Slot, sps_id, pps_id, referred_sps, names_of}
+use Rattle.vx_pic.specs.Readings.{Reading, Picture, aps_of, pictures}
+use Rattle.vx_pic.specs.Rules.{Readers, unit_size, picture_limit}
+use Rattle.vx_pic.specs.Streams.{all_read, read_on}
+use Rattle.vx_pic.specs.Alike.{IsNext}
+use Rattle.vx_pic.specs.Written.{Set, an_sps, a_pps, an_aps, IsStored, SetUnit, Plan, slices_of, units_of, set_readings, readings_of}
+use Rattle.vx_pic.specs.Written.{after, before_header, planned, Rests, AreInOrder, Says, HeadReads, SliceReads, SeiReads}
+
+-- ---- plans one behind another, the last one first
+
+-- what their units are read as
+abbrev pub read_of : List Plan → List Reading
+read_of [] = []
+read_of (p ∷ done) = after (read_of done) (readings_of p)
+
+abbrev pub units_written : List Plan → List (List ℕ)
+units_written [] = []
+units_written (p ∷ done) = units_written done ++ units_of p
+
+-- the pictures
+abbrev pub planned_of : List Plan → List Picture
+planned_of [] = []
+planned_of (p ∷ done) = planned (read_of done) p ∷ planned_of done
+
+-- ---- sets that are sent
+
+-- both have one type and one id
+abbrev pub same_slot : Set → Set → Bool
+same_slot (an_sps s) (an_sps t) = sps_id s == sps_id t
+same_slot (a_pps s) (a_pps t) = pps_id s == pps_id t
+same_slot (an_aps a) (an_aps b) = (a.kind == b.kind) && (a.id == b.id)
+same_slot _ _ = false
+
+-- before an IRAP or GDR picture no set counts as sent: a receiver may begin there
+abbrev pub kept_for : ℕ → List SetUnit → List SetUnit
+kept_for t history = cond (is_irap_or_gdr t) [] history
+
+-- the sets sent since the last such picture was begun
+abbrev pub history_of : List Plan → List SetUnit
+history_of [] = []
+history_of (p ∷ done) = kept_for p.kind.nal_type (history_of done) ++ p.sent
+
+-- no two of these have one type and one id
+abbrev pub HaveOwnSlots : List SetUnit → Type 0
+HaveOwnSlots [] = Unit {0}
+HaveOwnSlots (x ∷ more) = AllByRecursion (λ y. same_slot x.set y.set ≡ false) more × HaveOwnSlots more
+
+-- Of the sets that a picture needs, those are sent that aren't resident: the last one of their type and id in what counts as sent.
+pub record Sends (done : List Plan) (p : Plan) : Type 0 where
+  pub needed : List SetUnit
+  pub slots : HaveOwnSlots needed
+  pub resident : SetUnit → Bool
+  pub is_resident : (x : SetUnit) → resident x ≡ true
+      → IsStored (after [] (set_readings (kept_for p.kind.nal_type (history_of done)))) x.set
+  pub sent : p.sent ≡ filter (λ x. not (resident x)) needed
+
+-- Each set that a picture needs is in force for its header.
+abbrev pub NeededIsStored : Type 0
+NeededIsStored = (done : List Plan) (p : Plan) (s : Sends done p)
+    → AllByRecursion (λ x. IsStored (before_header (read_of done) p) x.set) s.needed
+
+-- ---- all plans
+
+-- one of them is this set
+abbrev pub HasSet : List SetUnit → Set → Type 0
+HasSet [] s = ⊥
+HasSet (x ∷ more) s = (x.set ≡ s) ⊎ HasSet more s
+
+-- each adaptation parameter set that is named is among them
+abbrev pub HaveNamed : List SetUnit → List Slot → Type 0
+HaveNamed needed slots = AllByRecursion (λ slot. (a : Aps) × (a.kind ≡ slot.kind) × (a.id ≡ slot.id) × HasSet needed (an_aps a)) slots
+
+module _ (R : Readers) where
+  -- What is asked of a plan that is written behind others.
+  pub record IsPlanned (done : List Plan) (p : Plan) : Type 0 where
+    pub sets : AllByRecursion (λ x. Says R x.unit x.set) p.sent
+    pub sends : Sends done p
+    pub pps : HasSet sends.needed (a_pps p.begun.pps)
+    pub sps : HasSet sends.needed (an_sps p.begun.sps)
+    pub refers : referred_sps p.begun.pps ≡ sps_id p.begun.sps
+    pub bodies : AllByRecursion (λ s. HaveNamed sends.needed (names_of p.begun.pps p.begun.header s.header)) (slices_of p)
+    pub sei : SeiReads R p.sei
+    pub head : HeadReads R p.begun.unit p.begun p.first
+    pub slices : AllByRecursion (SliceReads R p.begun p.kind.nal_type) (slices_of p)
+    pub outside : AllByRecursion (λ s. has_header_inside s.unit ≡ false) p.more
+    pub order : AreInOrder p.begun 0 (slices_of p)
+    pub all : length (slices_of p) ≡ length p.begun.layout.slices
+    pub size : unit_size p.begun.unit + sum_by (λ s. length s.unit) (slices_of p) ≤ picture_limit
+    pub tid : p.kind.temporal_id ≡ p.begun.temporal_id
+    pub next : IsNext (planned_of done) p.begun p.kind
+
+  abbrev pub AreAllPlanned : List Plan → Type 0
+  AreAllPlanned [] = Unit {0}
+  AreAllPlanned (p ∷ done) = IsPlanned done p × AreAllPlanned done
+
+  -- Their units are read, and the pictures are the planned ones, all whole.
+  pub record AllReadAgain (done : List Plan) : Type 0 where
+    pub read : read_on R [] (units_written done) ≡ all_read (read_of done)
+    pub planned : pictures (read_of done) ≡ planned_of done
+    pub rests : Rests (read_of done)
+
+-- Plans that are written are read again.
+abbrev pub WrittenReadsAgain : Type 0
+WrittenReadsAgain = (R : Readers) (done : List Plan) → AreAllPlanned R done → AllReadAgain R done
+
+-- an adaptation parameter set is one of the picture
+abbrev pub IsBodyOf : Picture → Set → Type 0
+IsBodyOf p (an_sps s) = Unit {0}
+IsBodyOf p (a_pps s) = Unit {0}
+IsBodyOf p (an_aps a) = aps_of p a.kind a.id ≡ Some a
+
+-- Each one that a picture needs is one of the picture that is read again.
+abbrev pub NeededIsBody : Type 0
+NeededIsBody = (done : List Plan) (p : Plan) (s : Sends done p) → AllByRecursion (λ x. IsBodyOf (planned (read_of done) p) x.set) s.needed
