@@ -18,8 +18,6 @@ mod partition;
 mod pps;
 mod read;
 mod reshape;
-#[cfg(test)]
-mod rows;
 mod shape;
 mod tables;
 #[cfg(test)]
@@ -29,8 +27,6 @@ mod tests_list_items;
 #[cfg(test)]
 mod tests_reshape;
 mod tiles;
-#[cfg(test)]
-mod vectors;
 mod walk;
 
 pub use laws::{

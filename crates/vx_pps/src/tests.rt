@@ -1,17 +1,14 @@
-//! Cases by a model of the syntax that isn't ours, sets of whole streams, and cases worked by hand.
+//! Sets of whole streams, and tiles worked by hand from the format.
 ghost use Rattle.std.specs.Prelude.{◌≤◌, length};
 
-use crate::rows::{PAST, WORKED};
-use crate::vectors::{REFUSED, SETS};
 use crate::{
     Pps, Tiles, keep_pps, kept_and_others_tell, kept_depends_on_kept, no_proper_prefix, read_pps,
     write_pps, written_is_read,
 };
 use std::alloc::{AllocError, Global};
-use std::process::Abort;
 use std::test::Fail;
-use vx_bits::{BitWriter, Fields, Item, ReadError, Refusal};
-use vx_layout::{Bounds, Rect, RectList, tile_bounds};
+use vx_bits::{Fields, Item, ReadError};
+use vx_layout::{Bounds, Rect, tile_bounds};
 
 /// The value of a hexadecimal digit.
 fn digit(digit: u8) -> u8
@@ -42,20 +39,6 @@ fn items(alloc: Global, fields: &Fields) -> Result<String, AllocError> {
         let Item { field, value } = fields.item(i);
         let space = if i == 0 { "" } else { " " };
         write!(text, "{space}{field}={value}")?;
-    }
-    Ok(text)
-}
-
-/// A refusal as text.
-fn refusal(alloc: Global, refusal: Refusal) -> Result<String, AllocError> {
-    let mut text = String::new(alloc);
-    match refusal {
-        Refusal::Syntax { field, bit, cause } => {
-            write!(text, "Y field={field} bit={bit} cause={cause:?}")?;
-        }
-        Refusal::Profile { code } => write!(text, "P code={code}")?,
-        Refusal::Limit { code } => write!(text, "L code={code}")?,
-        _ => {}
     }
     Ok(text)
 }
@@ -100,56 +83,6 @@ fn meaning(alloc: Global, pps: &Pps) -> Result<String, AllocError> {
     Ok(text)
 }
 
-/// Reads a set, which has these items, tiles and slices, and writes it again.
-fn goes_through(
-    rt: &impl Abort,
-    alloc: Global,
-    (digits, wanted, told): (&str, &str, &str),
-) -> Result<(), Fail> {
-    let rbsp = bytes(alloc, digits)?;
-    assert!(rt; rbsp.len() <= 20000);
-    let pps = read(alloc, rbsp.as_slice())?;
-    assert_eq!(rt; items(alloc, pps.fields())?.as_str(), wanted);
-    assert_eq!(rt; meaning(alloc, &pps)?.as_str(), told);
-    assert_eq!(rt; write_pps(alloc, &pps)?.as_slice(), rbsp.as_slice());
-    Ok(())
-}
-
-/// What a refused set is refused for.
-fn refused(alloc: Global, digits: &str) -> Result<String, Fail> {
-    let rbsp = bytes(alloc, digits)?;
-    if rbsp.len() <= 20000
-        && let Err(ReadError::Refused(refused)) = read(alloc, rbsp.as_slice())
-    {
-        return Ok(refusal(alloc, refused)?);
-    }
-    Ok(String::new(alloc))
-}
-
-#[test]
-fn reads_and_writes_sets(rt: HostRuntime) -> Result<(), Fail> {
-    written_is_read();
-    no_proper_prefix();
-    for set in SETS {
-        goes_through(&rt, rt.alloc(), set)?;
-    }
-    for set in WORKED {
-        goes_through(&rt, rt.alloc(), set)?;
-    }
-    Ok(())
-}
-
-#[test]
-fn refuses_sets(rt: HostRuntime) -> Result<(), Fail> {
-    for (digits, wanted) in REFUSED {
-        assert_eq!(rt; refused(rt.alloc(), digits)?.as_str(), wanted, "{digits}");
-    }
-    for (digits, wanted) in PAST {
-        assert_eq!(rt; refused(rt.alloc(), digits)?.as_str(), wanted, "{digits}");
-    }
-    Ok(())
-}
-
 /// Sets of whole streams behind their unit headers: of one tile, of one tile with another QP, of two sources side by side,
 /// and of one of these again.
 const STREAMS: [(&str, &str); 4] = [
@@ -164,6 +97,8 @@ const STREAMS: [(&str, &str); 4] = [
 
 #[test]
 fn reads_and_writes_sets_of_streams(rt: HostRuntime) -> Result<(), Fail> {
+    written_is_read();
+    no_proper_prefix();
     for (digits, told) in STREAMS {
         let rbsp = bytes(rt.alloc(), digits)?;
         assert!(rt; rbsp.len() <= 20000);
@@ -198,81 +133,6 @@ fn keeps_what_says_where_fields_stand(rt: HostRuntime) -> Result<(), Fail> {
         let kept = keep_pps(rt.alloc(), &pps)?;
         assert_eq!(rt; items(rt.alloc(), &kept)?.as_str(), wanted);
     }
-    Ok(())
-}
-
-/// A picture of 500 times 440 CTUs in 20 times 22 tiles of 25 times 20: the first 280 tiles have slices of 7, 7 and 6 CTU
-/// rows, and the others are a slice each.
-fn longest(alloc: Global) -> Result<Vec<u8>, AllocError> {
-    let mut bits = BitWriter::new(alloc);
-    bits.u(10, 0)?;
-    bits.u(1, 0)?;
-    bits.ue(16000)?;
-    bits.ue(14080)?;
-    // From the conformance window to subpicture ids: all are 0. CTUs of 32.
-    bits.u(5, 0)?;
-    bits.u(2, 0)?;
-    bits.ue(0)?;
-    bits.ue(0)?;
-    bits.ue(24)?;
-    bits.ue(19)?;
-    bits.u(3, 0b010)?;
-    bits.ue(999)?;
-    bits.u(1, 1)?;
-    for tile in 0..439 {
-        if tile % 20 != 19 {
-            bits.ue(0)?;
-        }
-        if tile / 20 != 21 {
-            bits.ue(0)?;
-        }
-        if tile < 280 {
-            bits.ue(1)?;
-            bits.ue(6)?;
-        } else {
-            bits.ue(0)?;
-        }
-        bits.se(1)?;
-    }
-    // The tools are those of no set above: no flag is 1.
-    bits.u(2, 0)?;
-    bits.ue(0)?;
-    bits.ue(0)?;
-    bits.u(4, 0)?;
-    bits.se(0)?;
-    bits.u(10, 0)?;
-    bits.close()
-}
-
-#[test]
-fn reads_the_longest_list(rt: HostRuntime) -> Result<(), Fail> {
-    let rbsp = longest(rt.alloc())?;
-    assert!(rt; rbsp.len() <= 20000);
-    let pps = read(rt.alloc(), rbsp.as_slice())?;
-    assert_eq!(rt; (pps.columns().len(), pps.rows().len()), (21, 23));
-    let mut wanted = RectList::new(rt.alloc());
-    for tile in 0..440 {
-        let (x, y) = (tile % 20 * 25, tile / 20 * 20);
-        let cuts: &[(u32, u32)] = if tile < 280 {
-            &[(0, 7), (7, 7), (14, 6)]
-        } else {
-            &[(0, 20)]
-        };
-        for (from, h) in cuts {
-            wanted.push(Rect {
-                x,
-                y: y.saturating_add(*from),
-                w: 25,
-                h: *h,
-            })?;
-        }
-    }
-    assert_eq!(rt; wanted.len(), 1000);
-    match pps.slices() {
-        Some(slices) => assert_eq!(rt; slices.as_slice(), wanted.as_slice()),
-        None => assert!(rt; false),
-    }
-    assert_eq!(rt; write_pps(rt.alloc(), &pps)?.as_slice(), rbsp.as_slice());
     Ok(())
 }
 
