@@ -4,8 +4,8 @@
 usage: scripts/sps-vectors.py SETS MEANINGS > crates/vx_sps/src/tests_vectors.rt, and rt fmt in crates/vx_sps
 
 A line of SETS has an RBSP in hexadecimal, and `ok` with its items or `refused` with the refusal's parts; one of MEANINGS has
-an RBSP and what the set tells. Items and meaning stand in the test as one number, by FNV-1a: as text they would take longer to
-check than all else.
+an RBSP and what the set tells. Answers stand in the tests as hashes, FNV-1a: as text they would take longer to check
+than all else.
 """
 import sys
 
@@ -32,7 +32,7 @@ sets = [line.rstrip("\n").split(" ", 2) for line in open(sys.argv[1])]
 meanings = dict(line.rstrip("\n").split(" ", 1) for line in open(sys.argv[2]))
 print("""//! Cases by a model of the syntax that isn't ours. Written by scripts/sps-vectors.py.
 
-use crate::tests::{is_written_as, read, refusal, told_hash};
+use crate::tests::{is_written_as, read, refusal_hash, told_hash};
 use std::test::Fail;
 
 /// RBSPs, each with a hash of its items and what they tell.
@@ -48,13 +48,13 @@ print("""    for (rbsp, wanted) in sets {
     Ok(())
 }
 
-/// RBSPs, each with its refusal.
+/// RBSPs, each with a hash of its refusal.
 #[test]
 fn refuses_sets(rt: HostRuntime) -> Result<(), Fail> {""")
-table("sets", "&str", [(rbsp, f'"{answer}"') for rbsp, kind, answer in sets if kind == "refused"])
+table("sets", "u64", [(rbsp, hashed(answer)) for rbsp, kind, answer in sets if kind == "refused"])
 print("""    for (rbsp, wanted) in sets {
         assert!(rt; rbsp.len() <= 50000);
-        assert_eq!(rt; refusal(rt.alloc(), rbsp)?.as_str(), wanted, "{rbsp:?}");
+        assert_eq!(rt; refusal_hash(rt.alloc(), rbsp)?, wanted, "{rbsp:?}");
     }
     Ok(())
 }""")

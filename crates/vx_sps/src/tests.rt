@@ -157,8 +157,8 @@ fn answer(alloc: Global, rbsp: &[u8]) -> Result<(), ReadError>
     Ok(())
 }
 
-/// The refusal of an RBSP as text; none of one that is read.
-pub(crate) fn refusal(alloc: Global, rbsp: &[u8]) -> Result<String, AllocError>
+/// A hash of the refusal of an RBSP, as text; that of none where it is read.
+pub(crate) fn refusal_hash(alloc: Global, rbsp: &[u8]) -> Result<u64, AllocError>
     requires { length rbsp.now ≤ 50000 }
 {
     let mut text = String::new(alloc);
@@ -170,7 +170,7 @@ pub(crate) fn refusal(alloc: Global, rbsp: &[u8]) -> Result<String, AllocError>
         Err(ReadError::Refused(Limit { code })) => write!(text, "L code={code}")?,
         _ => {}
     }
-    Ok(text)
+    Ok(hash(text.as_str()))
 }
 
 /// A refused set.
