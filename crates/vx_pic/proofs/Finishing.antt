@@ -234,10 +234,10 @@ header_begun R before u unit b is =
     let told : Begun = record { sps = sps.0; pps = pps.0; layout = layout.0; header = header.0; temporal_id = temporal_id u; unit = unit } in
     let same : told ≡ b = let e = header.2 in cc in
     let has_pps : id.0 ≡ pps_id pps.0 = given_by (pps_in id.0) (λ p. id.0 ≡ pps_id p) (pps_given id.0) before pps.0
-        (or_missing (stored_pps id.0 before) (missing sets.PPS id.0) pps.0 pps.1) in
+    (or_missing (stored_pps id.0 before) (missing sets.PPS id.0) pps.0 pps.1) in
     let has_sps : referred_sps pps.0 ≡ sps_id sps.0 =
-        given_by (sps_in (referred_sps pps.0)) (λ s. referred_sps pps.0 ≡ sps_id s) (sps_given (referred_sps pps.0)) before sps.0
-        (or_missing (stored_sps (referred_sps pps.0) before) (missing sets.SPS (referred_sps pps.0)) sps.0 sps.1) in
+    given_by (sps_in (referred_sps pps.0)) (λ s. referred_sps pps.0 ≡ sps_id s) (sps_given (referred_sps pps.0)) before sps.0
+    (or_missing (stored_sps (referred_sps pps.0) before) (missing sets.SPS (referred_sps pps.0)) sps.0 sps.1) in
     let P : Begun → Type 0 = HeaderBegun R u unit in
     subst P same (record {
       unit_is = refl;
@@ -400,9 +400,9 @@ further_known R before p u s k cur part plain outside j =
       earlier = k.earlier;
       all = k.all;
       pics =
-        ap (λ c. whole_part (with_slice s c) ++ pictures before) cur
-        ∙ ap (λ ps. whole_part (going grown) ++ ps) (k.pics ∙ ap (λ c. whole_part c ++ k.earlier) cur ∙ ap (λ b. cond b (p ∷ []) [] ++ k.earlier) part)
-        ∙ ap (λ c. whole_part (with_slice s c) ++ k.earlier) (sym cur);
+          ap (λ c. whole_part (with_slice s c) ++ pictures before) cur
+          ∙ ap (λ ps. whole_part (going grown) ++ ps) (k.pics ∙ ap (λ c. whole_part c ++ k.earlier) cur ∙ ap (λ b. cond b (p ∷ []) [] ++ k.earlier) part)
+          ∙ ap (λ c. whole_part (with_slice s c) ++ k.earlier) (sym cur);
       here = subst P (sym (ap (with_slice s) cur)) (further_sound R k.earlier p u s (subst P cur k.here) plain outside j);
       few = no_messages;
     }
@@ -450,7 +450,7 @@ alone_known R before u r k plain inside is =
     let j = joined R (opened before b.0 kind.0) u s.0 s.1 in
     let head = head_inside R b.0.unit u b.0 s.0 h.unit_is h.reads j.unit inside (at_most 1 (length b.0.layout.slices) one.0) in
     read_as {R = R} {before = before} (first_slice b.0 kind.0 s.0) r s.2
-        (first_known R before b.0 kind.0 u s.0 k plain head h.refers (picture_opened before b.0 u kind.0 kind.1) j)
+    (first_known R before b.0 kind.0 u s.0 k plain head h.refers (picture_opened before b.0 u kind.0 kind.1) j)
 
 follows_known : (R : Readers) (before : List Reading) (c : Current) (u : List ℕ) (r : Reading) → Known R before → current before ≡ c
     → IsPlain u slice_unit → has_header_inside u ≡ false → follows R before c u ≡ Ok r → Known R (r ∷ before)
@@ -463,12 +463,12 @@ follows_known R before (headed b) u r k cur plain outside is =
     let j = joined R (opened before b kind.0) u s.0 s.1 in
     let head = head_outside R b.unit h.unit u b s.0 h.unit_is h.plain h.reads j.unit outside in
     read_as {R = R} {before = before} (first_slice b kind.0 s.0) r s.2
-        (first_known R before b kind.0 u s.0 k plain head h.refers (picture_opened before b u kind.0 kind.1) j)
+    (first_known R before b kind.0 u s.0 k plain head h.refers (picture_opened before b u kind.0 kind.1) j)
 follows_known R before (going p) u r k cur plain outside is =
     let part = passed (is_whole p) _ _ r is in
     let s = then_told (joins R p u) _ r part.1 in
     read_as {R = R} {before = before} (next_slice s.0) r s.2
-        (further_known R before p u s.0 k cur part.0 plain outside (joined R p u s.0 s.1))
+    (further_known R before p u s.0 k cur part.0 plain outside (joined R p u s.0 s.1))
 
 class_known : (R : Readers) (before : List Reading) (u : List ℕ) (r : Reading) (c : Class) → Known R before → IsPlain u c → reads_as R c before u ≡ Ok r
     → Known R (r ∷ before)
@@ -510,7 +510,7 @@ class_known R before u r sei_unit k plain is =
           let ms : List Message = R.sei (rbsp_of u) in
           let p = passed (nat_lt message_limit (spelled_length (gathered before ++ ms))) _ _ r h.1 in
           read_as {R = R} {before = before} (messages_read ms) r p.1
-            (messages_known R before ms k (at_most message_limit (spelled_length (gathered before ++ ms)) p.0))
+          (messages_known R before ms k (at_most message_limit (spelled_length (gathered before ++ ms)) p.0))
     ]
 
 by_layer : (reserved other : Bool) (x : Result Reading Refusal) (q : Refusal) (r : Reading) → cond reserved (Ok dropped) (cond other (Err q) x) ≡ Ok r
@@ -524,7 +524,7 @@ unit_known R before u r k is =
     elim (by_layer (is_reserved u) (not (nuh_layer_id u == 0)) (reads_as R (class_of (nal_unit_type u)) before u) (Profile rules.SEVERAL_LAYERS) r is) [
       | inl h ↦ read_as {R = R} {before = before} dropped r h (dropped_stays R before k)
       | inr h ↦ class_known R before u r (class_of (nal_unit_type u)) k
-            (record { reserved = h.0; layer = equal (nuh_layer_id u) 0 h.1; class = refl }) h.2
+          (record { reserved = h.0; layer = equal (nuh_layer_id u) 0 h.1; class = refl }) h.2
     ]
 
 one_known : (R : Readers) (before : List Reading) (x : Result Reading Refusal) (f : List Reading → Outcome)
