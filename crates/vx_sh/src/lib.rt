@@ -8,6 +8,8 @@ mod laws;
 mod numbers;
 mod read;
 mod tables;
+#[cfg(test)]
+mod tests;
 mod walk;
 mod write;
 
