@@ -1,38 +1,60 @@
 #!/usr/bin/env python3
-"""Writes crates/vx_pps/src/vectors.rt from cases of picture parameter sets.
+"""Writes crates/vx_pps/src/tests_vectors.rt from cases of picture parameter sets.
 
-usage: scripts/pps-vectors.py SETS MEANINGS > crates/vx_pps/src/vectors.rt
+usage: scripts/pps-vectors.py SETS MEANINGS > crates/vx_pps/src/tests_vectors.rt, and rt fmt in crates/vx_pps
 
 A line of SETS has an RBSP in hexadecimal, and `ok` with its items or `refused` with the refusal's parts; one of MEANINGS has
-an RBSP and what the set tells.
+an RBSP and what the set tells. Answers stand in the tests as hashes, FNV-1a: as text they would take longer to check
+than all else.
 """
 import sys
 
 
-def literal(text, width=116):
-    """A string literal, broken at blanks or anywhere, with line continuations."""
-    lines = []
-    while len(text) > width:
-        cut = text.rfind(" ", 1, width)
-        cut = width if cut < 1 else cut
-        lines.append(text[:cut])
-        text = text[cut:]
-        if text[0] == " ":
-            lines[-1] += " "
-            text = text[1:]
-    lines.append(text)
-    return '"' + "\\\n         ".join(lines) + '"'
+def hashed(text):
+    number = 0xCBF29CE484222325
+    for byte in text.encode():
+        number = (number ^ byte) * 0x100000001B3 % 2**64
+    return f"0x{number:016x}"
 
 
-def table(name, doc, rows):
-    print(f"\n/// {doc}\npub(crate) const {name}: [({', '.join(['&str'] * len(rows[0]))}); {len(rows)}] = [")
-    for row in rows:
-        print("    (\n" + "".join(f"        {literal(cell)},\n" for cell in row) + "    ),")
-    print("];")
+def bytes_of(rbsp):
+    return 'b"' + "".join("\\x" + rbsp[i : i + 2] for i in range(0, len(rbsp.replace("-", "")), 2)) + '"'
+
+
+def table(name, wanted, rows):
+    print(f"    let {name}: [(&[u8], {wanted}); {len(rows)}] = [")
+    for rbsp, answer in rows:
+        print(f"        ({bytes_of(rbsp)}, {answer}),")
+    print("    ];")
 
 
 sets = [line.rstrip("\n").split(" ", 2) for line in open(sys.argv[1])]
 meanings = dict(line.rstrip("\n").split(" ", 1) for line in open(sys.argv[2]))
-print("//! Picture parameter sets by a model of the syntax that isn't ours. Written by scripts/pps-vectors.py.")
-table("SETS", "RBSPs, each with its items and what these tell.", [(r, a, meanings[r]) for r, kind, a in sets if kind == "ok"])
-table("REFUSED", "RBSPs, each with its refusal.", [(r.replace("-", ""), a) for r, kind, a in sets if kind == "refused"])
+print("""//! Cases by a model of the syntax that isn't ours. Written by scripts/pps-vectors.py.
+
+use crate::tests::{is_written_as, read, refusal_hash, told_hash};
+use std::test::Fail;
+
+/// RBSPs, each with a hash of its items and what they tell.
+#[test]
+fn reads_and_writes_sets(rt: HostRuntime) -> Result<(), Fail> {""")
+table("sets", "u64", [(rbsp, hashed(f"{answer} {meanings[rbsp]}")) for rbsp, kind, answer in sets if kind == "ok"])
+print("""    for (rbsp, wanted) in sets {
+        assert!(rt; rbsp.len() <= 20000);
+        let pps = read(rt.alloc(), rbsp)?;
+        assert_eq!(rt; told_hash(rt.alloc(), &pps)?, wanted, "{rbsp:?}");
+        assert!(rt; is_written_as(rt.alloc(), &pps, rbsp)?);
+    }
+    Ok(())
+}
+
+/// RBSPs, each with a hash of its refusal.
+#[test]
+fn refuses_sets(rt: HostRuntime) -> Result<(), Fail> {""")
+table("sets", "u64", [(rbsp, hashed(answer)) for rbsp, kind, answer in sets if kind == "refused"])
+print("""    for (rbsp, wanted) in sets {
+        assert!(rt; rbsp.len() <= 20000);
+        assert_eq!(rt; refusal_hash(rt.alloc(), rbsp)?, wanted, "{rbsp:?}");
+    }
+    Ok(())
+}""")

@@ -1,14 +1,15 @@
-//! Sets of whole streams, and tiles worked by hand from the format.
+//! Sets of whole streams, the longest slice list, and tiles worked by hand from the format.
 ghost use Rattle.std.specs.Prelude.{◌≤◌, length};
 
 use crate::{
     Pps, Tiles, keep_pps, kept_and_others_tell, kept_depends_on_kept, no_proper_prefix, read_pps,
-    write_pps, written_is_read,
+    tiles_are_in_limits, write_pps, written_is_read,
 };
 use std::alloc::{AllocError, Global};
 use std::test::Fail;
-use vx_bits::{Fields, Item, ReadError};
-use vx_layout::{Bounds, Rect, tile_bounds};
+use vx_bits::Refusal::{Limit, Profile, Syntax};
+use vx_bits::{BitWriter, Fields, Item, ReadError};
+use vx_layout::{Bounds, Rect, RectList, tile_bounds};
 
 /// The value of a hexadecimal digit.
 fn digit(digit: u8) -> u8
@@ -32,6 +33,15 @@ fn bytes(alloc: Global, digits: &str) -> Result<Vec<u8>, AllocError> {
     Ok(bytes)
 }
 
+/// A hash of text, FNV-1a.
+fn hash(text: &str) -> u64 {
+    let mut hash = 0xcbf2_9ce4_8422_2325_u64;
+    for byte in text.as_bytes() {
+        hash = (hash ^ u64::from(*byte)).wrapping_mul(0x0100_0000_01b3);
+    }
+    hash
+}
+
 /// Items as text.
 fn items(alloc: Global, fields: &Fields) -> Result<String, AllocError> {
     let mut text = String::new(alloc);
@@ -44,7 +54,7 @@ fn items(alloc: Global, fields: &Fields) -> Result<String, AllocError> {
 }
 
 /// A set from an RBSP of at most 20,000 bytes.
-fn read(alloc: Global, rbsp: &[u8]) -> Result<Pps, ReadError>
+pub(crate) fn read(alloc: Global, rbsp: &[u8]) -> Result<Pps, ReadError>
     requires { length rbsp.now ≤ 20000 }
 {
     read_pps(alloc, rbsp)
@@ -60,7 +70,7 @@ fn bounds(text: &mut String, bounds: &Bounds) -> Result<(), AllocError> {
 }
 
 /// The tiles and slices of a set as text.
-fn meaning(alloc: Global, pps: &Pps) -> Result<String, AllocError> {
+pub(crate) fn meaning(alloc: Global, pps: &Pps) -> Result<String, AllocError> {
     let mut text = String::new(alloc);
     if !pps.partitioned() {
         text.push_str("unpartitioned")?;
@@ -83,6 +93,44 @@ fn meaning(alloc: Global, pps: &Pps) -> Result<String, AllocError> {
     Ok(text)
 }
 
+/// A hash of a set's items and what they tell, as text.
+pub(crate) fn told_hash(alloc: Global, pps: &Pps) -> Result<u64, AllocError> {
+    let mut text = items(alloc, pps.fields())?;
+    let told = meaning(alloc, pps)?;
+    write!(text, " {told}")?;
+    Ok(hash(text.as_str()))
+}
+
+/// What a reader answers to an RBSP of at most 20,000 bytes.
+pub(crate) fn answer(alloc: Global, rbsp: &[u8]) -> Result<(), ReadError>
+    requires { length rbsp.now ≤ 20000 }
+{
+    read_pps(alloc, rbsp)?;
+    Ok(())
+}
+
+/// A hash of a refusal, as text.
+pub(crate) fn refusal_hash(alloc: Global, rbsp: &[u8]) -> Result<u64, AllocError>
+    requires { length rbsp.now ≤ 20000 }
+{
+    let mut text = String::new(alloc);
+    match answer(alloc, rbsp) {
+        Err(ReadError::Refused(Syntax { field, bit, cause })) => {
+            write!(text, "Y field={field} bit={bit} cause={cause:?}")?;
+        }
+        Err(ReadError::Refused(Profile { code })) => write!(text, "P code={code}")?,
+        Err(ReadError::Refused(Limit { code })) => write!(text, "L code={code}")?,
+        _ => {}
+    }
+    Ok(hash(text.as_str()))
+}
+
+/// Whether a set is written as these bytes.
+pub(crate) fn is_written_as(alloc: Global, pps: &Pps, rbsp: &[u8]) -> Result<bool, AllocError> {
+    let written = write_pps(alloc, pps)?;
+    Ok(written.as_slice() == rbsp)
+}
+
 /// Sets of whole streams behind their unit headers: of one tile, of one tile with another QP, of two sources side by side,
 /// and of one of these again.
 const STREAMS: [(&str, &str); 4] = [
@@ -99,6 +147,7 @@ const STREAMS: [(&str, &str); 4] = [
 fn reads_and_writes_sets_of_streams(rt: HostRuntime) -> Result<(), Fail> {
     written_is_read();
     no_proper_prefix();
+    tiles_are_in_limits();
     for (digits, told) in STREAMS {
         let rbsp = bytes(rt.alloc(), digits)?;
         assert!(rt; rbsp.len() <= 20000);
@@ -133,6 +182,81 @@ fn keeps_what_says_where_fields_stand(rt: HostRuntime) -> Result<(), Fail> {
         let kept = keep_pps(rt.alloc(), &pps)?;
         assert_eq!(rt; items(rt.alloc(), &kept)?.as_str(), wanted);
     }
+    Ok(())
+}
+
+/// A picture of 500 times 440 CTUs in 20 times 22 tiles of 25 times 20: the first 280 tiles have slices of 7, 7 and 6 CTU
+/// rows, and the others are a slice each.
+fn longest(alloc: Global) -> Result<Vec<u8>, AllocError> {
+    let mut bits = BitWriter::new(alloc);
+    bits.u(10, 0)?;
+    bits.u(1, 0)?;
+    bits.ue(16000)?;
+    bits.ue(14080)?;
+    // From the conformance window to subpicture ids: all are 0. CTUs of 32.
+    bits.u(5, 0)?;
+    bits.u(2, 0)?;
+    bits.ue(0)?;
+    bits.ue(0)?;
+    bits.ue(24)?;
+    bits.ue(19)?;
+    bits.u(3, 0b010)?;
+    bits.ue(999)?;
+    bits.u(1, 1)?;
+    for tile in 0..439 {
+        if tile % 20 != 19 {
+            bits.ue(0)?;
+        }
+        if tile / 20 != 21 {
+            bits.ue(0)?;
+        }
+        if tile < 280 {
+            bits.ue(1)?;
+            bits.ue(6)?;
+        } else {
+            bits.ue(0)?;
+        }
+        bits.se(1)?;
+    }
+    // The tools are those of no set above: no flag is 1.
+    bits.u(2, 0)?;
+    bits.ue(0)?;
+    bits.ue(0)?;
+    bits.u(4, 0)?;
+    bits.se(0)?;
+    bits.u(10, 0)?;
+    bits.close()
+}
+
+#[test]
+fn reads_the_longest_list(rt: HostRuntime) -> Result<(), Fail> {
+    let rbsp = longest(rt.alloc())?;
+    assert!(rt; rbsp.len() <= 20000);
+    let pps = read(rt.alloc(), rbsp.as_slice())?;
+    assert_eq!(rt; (pps.columns().len(), pps.rows().len()), (21, 23));
+    let mut wanted = RectList::new(rt.alloc());
+    for tile in 0..440 {
+        let (x, y) = (tile % 20 * 25, tile / 20 * 20);
+        let cuts: &[(u32, u32)] = if tile < 280 {
+            &[(0, 7), (7, 7), (14, 6)]
+        } else {
+            &[(0, 20)]
+        };
+        for (from, h) in cuts {
+            wanted.push(Rect {
+                x,
+                y: y.saturating_add(*from),
+                w: 25,
+                h: *h,
+            })?;
+        }
+    }
+    assert_eq!(rt; wanted.len(), 1000);
+    match pps.slices() {
+        Some(slices) => assert_eq!(rt; slices.as_slice(), wanted.as_slice()),
+        None => assert!(rt; false),
+    }
+    assert_eq!(rt; write_pps(rt.alloc(), &pps)?.as_slice(), rbsp.as_slice());
     Ok(())
 }
 
