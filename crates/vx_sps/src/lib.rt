@@ -16,6 +16,8 @@ mod tables;
 #[cfg(test)]
 mod tests;
 #[cfg(test)]
+mod tests_reshaped;
+#[cfg(test)]
 mod tests_vectors;
 mod walk;
 
