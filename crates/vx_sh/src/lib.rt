@@ -10,6 +10,8 @@ mod read;
 mod tables;
 #[cfg(test)]
 mod tests;
+#[cfg(test)]
+mod tests_sets;
 mod walk;
 mod write;
 
