@@ -23,7 +23,7 @@ in_force sps pps = both_sets (loaded fresh sps) (loaded fresh pps) (extra_ph_bit
 abbrev pub structures : List Item → RplTable
 structures sps = table_of (is_weighted sps) sps
 
--- Sets that have the same items of some fields give scopes that agree on these, and on all names.
+-- Sets that have the same items of some fields give scopes that agree on these.
 abbrev pub SetsAgree : Type 0
 SetsAgree = (names : List ℕ) (sps other_sps pps other_pps : List Item) → IsTrue (has names sps_extra_ph_bit_present_flag)
     → shown_items names sps ≡ shown_items names other_sps → shown_items names pps ≡ shown_items names other_pps

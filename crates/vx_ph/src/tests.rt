@@ -1,4 +1,4 @@
-//! Cases by a model of the syntax that isn't ours, a header of a merged stream, and the ends of ranges.
+//! Rows worked by hand, a header of a merged stream, and the ends of ranges.
 ghost use Rattle.std.specs.Prelude.{◌≤◌, length};
 
 use crate::{PictureHeader, read_header_at, read_ph, write_ph, write_unit_at};

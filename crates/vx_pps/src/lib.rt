@@ -1,7 +1,9 @@
 //! The picture parameter set and its slice list (H.266 7.3.2.5, 6.5.1).
 //!
-//! [`Tiles`] names tiles by their index. The laws say of which groups the slices of a picture are that a slice list can
-//! name: slices of whole tiles, and the slices of one tile.
+//! [`read_pps`] reads a set, [`write_pps`] writes it, [`keep_pps`] gives its kept items, and [`Pps`] has what headers,
+//! layouts and rewriting ask of it. [`reshape_pps`] gives the set that is sent for a region or a frame, which [`PpsShape`]
+//! tells. [`Tiles`] names tiles by their index. The laws say of which groups the slices of a picture are that a slice list
+//! can name: slices of whole tiles, and the slices of one tile.
 #![tactic(auto)]
 #![allow(non_upper_case_globals)]
 

@@ -39,7 +39,7 @@ in_force_at n = record {
 }
 
 -- Sets and picture headers that have the same items of some fields, and lists of the same lengths, give the slices of one type scopes
--- that agree on these fields, and on all names.
+-- that agree on these fields.
 abbrev pub SliceScopesAgree : Type 0
 SliceScopesAgree = (names : List ℕ) (nal_type : ℕ) (sps other_sps pps other_pps : List Item) (header other : PictureHeader)
     → IsTrue (has names sps_extra_ph_bit_present_flag) → IsTrue (has names sps_extra_sh_bit_present_flag)

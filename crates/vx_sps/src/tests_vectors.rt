@@ -1,4 +1,4 @@
-//! Cases by a model of the syntax that isn't ours. Written by scripts/sps-vectors.py.
+//! Cases by a model of the syntax that isn't ours. Written by scripts/set-vectors.py.
 
 use crate::tests::{is_written_as, read, refusal_hash, told_hash};
 use std::test::Fail;

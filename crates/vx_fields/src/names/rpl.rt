@@ -24,7 +24,7 @@ pub const MAY_WEIGHT: u16 = 849;
 pub const ENTRY: u16 = 850;
 /// Whether the distance of an entry may be 0.
 pub const MAY_BE_0: u16 = 851;
-/// Whether the distance of an entry isn't 0.
+/// Whether the distance of an entry can't be 0, so that it has a sign.
 pub const HAS_SIGN: u16 = 852;
 /// Whether an entry is a long-term one.
 pub const IS_LONG: u16 = 853;

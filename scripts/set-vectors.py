@@ -1,7 +1,7 @@
 #!/usr/bin/env python3
-"""Writes crates/vx_pps/src/tests_vectors.rt from cases of picture parameter sets.
+"""Writes tests_vectors.rt of vx_sps or vx_pps from cases of sequence or picture parameter sets.
 
-usage: scripts/pps-vectors.py SETS MEANINGS > crates/vx_pps/src/tests_vectors.rt, and rt fmt in crates/vx_pps
+usage: scripts/set-vectors.py sps|pps SETS MEANINGS > crates/vx_SET/src/tests_vectors.rt, and rt fmt in that crate
 
 A line of SETS has an RBSP in hexadecimal, and `ok` with its items or `refused` with the refusal's parts; one of MEANINGS has
 an RBSP and what the set tells. Answers stand in the tests as hashes, FNV-1a: as text they would take longer to check
@@ -28,9 +28,13 @@ def table(name, wanted, rows):
     print("    ];")
 
 
-sets = [line.rstrip("\n").split(" ", 2) for line in open(sys.argv[1])]
-meanings = dict(line.rstrip("\n").split(" ", 1) for line in open(sys.argv[2]))
-print("""//! Cases by a model of the syntax that isn't ours. Written by scripts/pps-vectors.py.
+# the set, and more bytes than a case has
+which = sys.argv[1]
+most = {"sps": 50000, "pps": 20000}[which]
+
+sets = [line.rstrip("\n").split(" ", 2) for line in open(sys.argv[2])]
+meanings = dict(line.rstrip("\n").split(" ", 1) for line in open(sys.argv[3]))
+print("""//! Cases by a model of the syntax that isn't ours. Written by scripts/set-vectors.py.
 
 use crate::tests::{is_written_as, read, refusal_hash, told_hash};
 use std::test::Fail;
@@ -39,22 +43,22 @@ use std::test::Fail;
 #[test]
 fn reads_and_writes_sets(rt: HostRuntime) -> Result<(), Fail> {""")
 table("sets", "u64", [(rbsp, hashed(f"{answer} {meanings[rbsp]}")) for rbsp, kind, answer in sets if kind == "ok"])
-print("""    for (rbsp, wanted) in sets {
-        assert!(rt; rbsp.len() <= 20000);
-        let pps = read(rt.alloc(), rbsp)?;
-        assert_eq!(rt; told_hash(rt.alloc(), &pps)?, wanted, "{rbsp:?}");
-        assert!(rt; is_written_as(rt.alloc(), &pps, rbsp)?);
-    }
+print(f"""    for (rbsp, wanted) in sets {{
+        assert!(rt; rbsp.len() <= {most});
+        let {which} = read(rt.alloc(), rbsp)?;
+        assert_eq!(rt; told_hash(rt.alloc(), &{which})?, wanted, "{{rbsp:?}}");
+        assert!(rt; is_written_as(rt.alloc(), &{which}, rbsp)?);
+    }}
     Ok(())
-}
+}}
 
 /// RBSPs, each with a hash of its refusal.
 #[test]
-fn refuses_sets(rt: HostRuntime) -> Result<(), Fail> {""")
+fn refuses_sets(rt: HostRuntime) -> Result<(), Fail> {{""")
 table("sets", "u64", [(rbsp, hashed(answer)) for rbsp, kind, answer in sets if kind == "refused"])
-print("""    for (rbsp, wanted) in sets {
-        assert!(rt; rbsp.len() <= 20000);
-        assert_eq!(rt; refusal_hash(rt.alloc(), rbsp)?, wanted, "{rbsp:?}");
-    }
+print(f"""    for (rbsp, wanted) in sets {{
+        assert!(rt; rbsp.len() <= {most});
+        assert_eq!(rt; refusal_hash(rt.alloc(), rbsp)?, wanted, "{{rbsp:?}}");
+    }}
     Ok(())
-}""")
+}}""")
