@@ -1,7 +1,7 @@
 -- A structure has as many entries as its number of them says.
-use Rattle.std.proofs.Common.{◌≡◌, inl, inr, ℕ, ℤ, pos, ◌+◌, ◌<◌, ◌≤◌, ◌==◌, Bool, true, List, [], ◌∷◌, ◌++◌, length, drop, take, count_by, slice_index, slice_set, refl, ap, sym, subst, ◌∙◌, arith}
+use Rattle.std.proofs.Common.{◌≡◌, inl, inr, ℕ, ℤ, pos, ◌<◌, ◌≤◌, ◌==◌, Bool, true, List, [], ◌∷◌, ◌++◌, length, drop, take, count_by, slice_index, slice_set, refl, ap, sym, subst, ◌∙◌, arith}
 use Rattle.std.proofs.lemmas.Bool.{cases_Bool, eqb-true}
-use Rattle.std.proofs.lemmas.List.{append_assoc, append-nil, take_all, get_or-set_same, length-set}
+use Rattle.std.proofs.lemmas.List.{append-nil, take_all, get_or-set_same, length-set}
 use Rattle.vx_bits.specs.declared.list.Item.{Item}
 use Rattle.vx_table.specs.declared.rows.Term.TheVariants.{Number, Latest}
 use Rattle.vx_table.specs.declared.rows.Formula.TheVariants.{Plain, Both, Either}
@@ -18,7 +18,7 @@ use Rattle.vx_table.specs.Forms.{Form, done, field, ◌>>=◌, has_value, coding
 use Rattle.vx_table.specs.EachField.{EachField}
 use Rattle.vx_table.specs.Loaded.{StaysBelow, row_below, code_below, range_below}
 use Rattle.vx_table.specs.Spelling.{item_of, items_along}
-use Rattle.vx_table.specs.Values.{Follows, to_end, through}
+use Rattle.vx_table.specs.Values.{Follows, to_end}
 use Rattle.vx_table.specs.Depends.{set_of, Agree}
 use Rattle.vx_table.specs.Claims.{hides_counter, hides_row}
 use Rattle.vx_table.proofs.Blocks.{form-field}
