@@ -222,7 +222,7 @@ held {A} f sets (p ∷ done) a is =
 
 sps_sets : (id : ℕ) → LooksAtSets (sps_in id)
 sps_sets id dropped h = refl
-sps_sets id vps_read h = refl
+sps_sets id (vps_read v) h = refl
 sps_sets id (sps_read s) h = absurd (cc)
 sps_sets id (pps_read s) h = refl
 sps_sets id (aps_read s) h = refl
@@ -234,7 +234,7 @@ sps_sets id sequence_ended h = refl
 
 pps_sets : (id : ℕ) → LooksAtSets (pps_in id)
 pps_sets id dropped h = refl
-pps_sets id vps_read h = refl
+pps_sets id (vps_read v) h = refl
 pps_sets id (sps_read s) h = refl
 pps_sets id (pps_read s) h = absurd (cc)
 pps_sets id (aps_read s) h = refl
@@ -246,7 +246,7 @@ pps_sets id sequence_ended h = refl
 
 aps_sets : (kind id : ℕ) → LooksAtSets (aps_in kind id)
 aps_sets kind id dropped h = refl
-aps_sets kind id vps_read h = refl
+aps_sets kind id (vps_read v) h = refl
 aps_sets kind id (sps_read s) h = refl
 aps_sets kind id (pps_read s) h = refl
 aps_sets kind id (aps_read s) h = absurd (cc)
