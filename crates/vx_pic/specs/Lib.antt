@@ -18,3 +18,4 @@ pub mod PictureLayout
 pub mod UnderSets
 pub mod H266
 pub mod Told
+pub mod inner
