@@ -194,7 +194,7 @@ sps_given id (sps_read t) s is =
     let told = test_told (sps_id t == id) t s is in
     sym (equal (sps_id t) id (ap not told.0)) ∙ ap sps_id told.1
 sps_given id dropped s is = absurd (cc)
-sps_given id vps_read s is = absurd (cc)
+sps_given id (vps_read v) s is = absurd (cc)
 sps_given id (pps_read t) s is = absurd (cc)
 sps_given id (aps_read t) s is = absurd (cc)
 sps_given id (messages_read t) s is = absurd (cc)
@@ -208,7 +208,7 @@ pps_given id (pps_read t) s is =
     let told = test_told (pps_id t == id) t s is in
     sym (equal (pps_id t) id (ap not told.0)) ∙ ap pps_id told.1
 pps_given id dropped s is = absurd (cc)
-pps_given id vps_read s is = absurd (cc)
+pps_given id (vps_read v) s is = absurd (cc)
 pps_given id (sps_read t) s is = absurd (cc)
 pps_given id (aps_read t) s is = absurd (cc)
 pps_given id (messages_read t) s is = absurd (cc)
@@ -344,8 +344,8 @@ Stays r = (R : Readers) (before : List Reading) → Known R before → Known R (
 dropped_stays : Stays dropped
 dropped_stays R before k = record { earlier = k.earlier; all = k.all; pics = k.pics; here = k.here; few = k.few }
 
-vps_stays : Stays vps_read
-vps_stays R before k = record { earlier = k.earlier; all = k.all; pics = k.pics; here = k.here; few = k.few }
+vps_stays : (v : List Item) → Stays (vps_read v)
+vps_stays v R before k = record { earlier = k.earlier; all = k.all; pics = k.pics; here = k.here; few = k.few }
 
 sps_stays : (s : List Item) → Stays (sps_read s)
 sps_stays s R before k = record { earlier = k.earlier; all = k.all; pics = k.pics; here = k.here; few = k.few }
@@ -475,7 +475,7 @@ class_known : (R : Readers) (before : List Reading) (u : List ℕ) (r : Reading)
 class_known R before u r other_unit k plain is = read_as {R = R} {before = before} dropped r is (dropped_stays R before k)
 class_known R before u r vps_unit k plain is =
     let t = then_told (R.vps (rbsp_of u)) _ r is in
-    read_as {R = R} {before = before} vps_read r t.2 (vps_stays R before k)
+    read_as {R = R} {before = before} (vps_read t.0) r t.2 (vps_stays t.0 R before k)
 class_known R before u r sps_unit k plain is =
     let p = passed (is_within (current before)) _ _ r is in
     let t = then_told (R.sps (rbsp_of u)) _ r p.1 in

@@ -14,3 +14,8 @@ pub mod Resident
 pub mod Finished
 pub mod Edited
 pub mod Laws
+pub mod PictureLayout
+pub mod UnderSets
+pub mod H266
+pub mod Told
+pub mod inner

@@ -28,7 +28,7 @@ pub record Slice : Type 0 where
 pub data Reading : Type 0 where
   -- it is dropped
   dropped : Reading
-  vps_read : Reading
+  vps_read : List Item → Reading
   sps_read : List Item → Reading
   pps_read : List Item → Reading
   aps_read : Aps → Reading

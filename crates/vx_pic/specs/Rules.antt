@@ -23,7 +23,7 @@ use Rattle.vx_pic.specs.Counts.{fits_count, begins_anew, kind_of, is_changed}
 
 -- What RBSPs and units are read as: structures, or the first refusal in them.
 pub record Readers : Type 0 where
-  pub vps : List ℕ → Result (Unit {0}) Refusal
+  pub vps : List ℕ → Result (List Item) Refusal
   pub sps : List ℕ → Result (List Item) Refusal
   pub pps : List ℕ → Result (List Item) Refusal
   -- None: a type that isn't stored
@@ -163,8 +163,8 @@ module _ (R : Readers) where
   abbrev pub reads_as : Class → List Reading → List ℕ → Result Reading Refusal
   reads_as other_unit before u = Ok dropped
   reads_as vps_unit before u = do
-    _ ← R.vps (rbsp_of u)
-    Ok vps_read
+    v ← R.vps (rbsp_of u)
+    Ok (vps_read v)
   reads_as sps_unit before u = do
     _ ← refuse_if (is_within (current before)) (structure rules.SET_INSIDE_PICTURE)
     s ← R.sps (rbsp_of u)

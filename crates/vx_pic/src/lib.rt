@@ -4,6 +4,7 @@
 //! come of that, and the rule that ends them. The laws say what follows of it, whatever sets and headers are read as.
 #![tactic(auto)]
 
+mod accepted;
 mod count;
 mod kind;
 mod laws;
@@ -12,6 +13,7 @@ mod sets;
 mod tests;
 mod unit_types;
 
+pub use accepted::Accepted;
 pub use count::{CountFields, PrevTid0, picture_order_count};
 pub use kind::Kind;
 pub use laws::{

@@ -1,0 +1,23 @@
+-- What slices are read at, from the picture header and the sets in force.
+use Rattle.std.specs.Prelude.{ℕ, List}
+use Rattle.vx_rpl.specs.HeaderLists.{lists_of}
+use Rattle.vx_ph.specs.declared.header.PictureHeader.{PictureHeader}
+use Rattle.vx_ph.specs.InForce.{in_force, structures}
+use Rattle.vx_sh.specs.InForce.{slice_scope}
+use Rattle.vx_sh.specs.Whole.{At}
+use Rattle.vx_pic.specs.Readings.{Begun}
+use Rattle.vx_pic.specs.PictureLayout.{ids_of}
+
+-- the picture header, with the lists that its items come to
+abbrev pub header_of : Begun → PictureHeader
+header_of b = record { fields = b.header; lists = lists_of (structures b.sps) (in_force b.sps b.pps) b.header }
+
+-- the place of a slice of this type in the picture
+abbrev pub slice_at : ℕ → Begun → At
+slice_at nal_type b = record {
+  table = structures b.sps;
+  sets = in_force b.sps b.pps;
+  slice = slice_scope nal_type b.sps b.pps (header_of b) (in_force b.sps b.pps);
+  ids = ids_of b.sps b.pps;
+  layout = b.layout;
+}
