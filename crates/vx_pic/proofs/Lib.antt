@@ -8,3 +8,9 @@ pub mod Again
 pub mod Sent
 pub mod Finishing
 pub mod Editing
+pub mod Listed
+pub mod Sizes
+pub mod Determined
+pub mod Deciding
+pub mod Distinct
+pub mod Answering

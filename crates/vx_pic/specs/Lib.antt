@@ -17,5 +17,6 @@ pub mod Laws
 pub mod PictureLayout
 pub mod UnderSets
 pub mod H266
+pub mod H266Laws
 pub mod Told
 pub mod inner

@@ -8,6 +8,8 @@ mod accepted;
 mod count;
 mod kind;
 mod laws;
+mod laws_readers;
+mod layouts;
 mod sets;
 #[cfg(test)]
 mod tests;
@@ -22,6 +24,8 @@ pub use laws::{
     reading_goes_on, seen_pictures_stay, stored_by_places, written_has_pictures,
     written_reads_again,
 };
+pub use laws_readers::readers_are_unique;
+pub use layouts::{CTU_SIZE_FAULT, IDS_FAULT, picture_ids, picture_layout};
 pub use sets::{PPS, SPS};
 pub use unit_types::{
     CRA_NUT, EOB_NUT, EOS_NUT, GDR_NUT, IDR_N_LP, IDR_W_RADL, PH_NUT, PPS_NUT, PREFIX_APS_NUT,
