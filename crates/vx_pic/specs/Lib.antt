@@ -19,3 +19,4 @@ pub mod UnderSets
 pub mod Parts
 pub mod H266
 pub mod Told
+pub mod inner
