@@ -14,3 +14,6 @@ pub mod Determined
 pub mod Deciding
 pub mod Distinct
 pub mod Answering
+pub mod ApsLists
+pub mod StoredSets
+pub mod Spans

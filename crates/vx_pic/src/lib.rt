@@ -5,17 +5,20 @@
 #![tactic(auto)]
 
 mod accepted;
+mod aps_list;
 mod count;
 mod kind;
 mod laws;
 mod laws_readers;
 mod layouts;
+mod picture;
 mod sets;
 #[cfg(test)]
 mod tests;
 mod unit_types;
 
 pub use accepted::Accepted;
+pub use aps_list::ApsList;
 pub use count::{CountFields, PrevTid0, picture_order_count};
 pub use kind::Kind;
 pub use laws::{
@@ -26,6 +29,7 @@ pub use laws::{
 };
 pub use laws_readers::readers_are_unique;
 pub use layouts::{CTU_SIZE_FAULT, IDS_FAULT, picture_ids, picture_layout};
+pub use picture::{Picture, PictureParts, SliceSlot, SliceSlots, SliceView};
 pub use sets::{PPS, SPS};
 pub use unit_types::{
     CRA_NUT, EOB_NUT, EOS_NUT, GDR_NUT, IDR_N_LP, IDR_W_RADL, PH_NUT, PPS_NUT, PREFIX_APS_NUT,
