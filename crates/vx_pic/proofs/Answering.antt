@@ -4,7 +4,7 @@ use Rattle.vx_bits.specs.declared.list.Item.{Item}
 use Rattle.vx_bits.specs.declared.refusal.ReadError.{ReadError}
 use Rattle.vx_bits.specs.declared.refusal.ReadError.TheVariants.{Memory, Refused}
 use Rattle.vx_layout.specs.declared.numbers.Numbers.{Numbers}
-use Rattle.std.specs.Prelude.{unwrap_or, IfSome}
+use Rattle.std.specs.Prelude.{unwrap_or, IfOk, IfSome}
 use Rattle.std.proofs.lemmas.Bool.{cases_Bool}
 use Rattle.std.proofs.lemmas.List.FromFn.{length-map-range_with_len}
 use Rattle.vx_layout.specs.declared.rect.Rect.{Rect}
@@ -71,3 +71,7 @@ in_limits tells s p set other = record { columns = columns_fit tells s p set oth
 
 pub limits_of : SetsTellPartitions → (s p : List Item) (n : Numbers) → sps.IsItems s → pps.IsItems p → n ≡ numbers_in s p → IsInLimits n
 limits_of tells s p n set other is = subst IsInLimits (sym is) (in_limits tells s p set other)
+
+pub limits_made : (n : Numbers) (result : Result Numbers ReadError) → IsInLimits n → IsLayoutOf n result → IfOk result IsInLimits
+limits_made n (Ok made) limits layout = subst IsInLimits (sym layout.1) limits
+limits_made n (Err e) limits layout = tt

@@ -190,7 +190,7 @@ splits columns rows s =
     let P : ℕ → ℕ → ℕ → ℕ → Type 0 = λ x y w h. IsTile columns rows (at x y w h) → TileAgrees (at x y w h) s in
     same_as
     (λ all t is. all t.x (bound_below columns t.x is.across.begins) t.y (bound_below rows t.y is.down.begins)
-        t.w (shorter t.x t.w (above columns) (bound_below columns (t.x + t.w) is.across.ends)) t.h (shorter t.y t.h (above rows) (bound_below rows (t.y + t.h) is.down.ends)) is)
+    t.w (shorter t.x t.w (above columns) (bound_below columns (t.x + t.w) is.across.ends)) t.h (shorter t.y t.h (above rows) (bound_below rows (t.y + t.h) is.down.ends)) is)
     (λ all x wide y high w narrow h low is. all (at x y w h) is)
     (all_below (above columns) (λ x. (y : ℕ) → y < above rows → (w : ℕ) → w < above columns → (h : ℕ) → h < above rows → P x y w h)
     (λ x. all_below (above rows) (λ y. (w : ℕ) → w < above columns → (h : ℕ) → h < above rows → P x y w h)
@@ -226,51 +226,76 @@ HasFault n = (k : ℕ) × IsLowestFault n k
 
 no_subpics : (n : Numbers) → ¬ SubpicsCover n → IsLowestFault n subpics_fault
 no_subpics n not_so = record {
-  from = omega arith; upto = omega arith;
-  breaks_subpics = λ e. not_so; keeps_subpics = λ h. absurd (omega (arith, h));
-  breaks_tiles = λ e. absurd (omega (arith, e)); keeps_tiles = λ h. absurd (omega (arith, h));
-  breaks_slices = λ e. absurd (omega (arith, e)); keeps_slices = λ h. absurd (omega (arith, h));
-  breaks_split = λ e. absurd (omega (arith, e)); keeps_split = λ h. absurd (omega (arith, h));
+  from = omega arith;
+  upto = omega arith;
+  breaks_subpics = λ e. not_so;
+  keeps_subpics = λ h. absurd (omega (arith, h));
+  breaks_tiles = λ e. absurd (omega (arith, e));
+  keeps_tiles = λ h. absurd (omega (arith, h));
+  breaks_slices = λ e. absurd (omega (arith, e));
+  keeps_slices = λ h. absurd (omega (arith, h));
+  breaks_split = λ e. absurd (omega (arith, e));
+  keeps_split = λ h. absurd (omega (arith, h));
   breaks_order = λ e. absurd (omega (arith, e));
 }
 
 no_tiles : (n : Numbers) → SubpicsCover n → ¬ TilesSplit n → IsLowestFault n tile_split_fault
 no_tiles n subpics not_so = record {
-  from = omega arith; upto = omega arith;
-  breaks_subpics = λ e. absurd (omega (arith, e)); keeps_subpics = λ h. subpics;
-  breaks_tiles = λ e. not_so; keeps_tiles = λ h. absurd (omega (arith, h));
-  breaks_slices = λ e. absurd (omega (arith, e)); keeps_slices = λ h. absurd (omega (arith, h));
-  breaks_split = λ e. absurd (omega (arith, e)); keeps_split = λ h. absurd (omega (arith, h));
+  from = omega arith;
+  upto = omega arith;
+  breaks_subpics = λ e. absurd (omega (arith, e));
+  keeps_subpics = λ h. subpics;
+  breaks_tiles = λ e. not_so;
+  keeps_tiles = λ h. absurd (omega (arith, h));
+  breaks_slices = λ e. absurd (omega (arith, e));
+  keeps_slices = λ h. absurd (omega (arith, h));
+  breaks_split = λ e. absurd (omega (arith, e));
+  keeps_split = λ h. absurd (omega (arith, h));
   breaks_order = λ e. absurd (omega (arith, e));
 }
 
 no_slices : (n : Numbers) → SubpicsCover n → TilesSplit n → ¬ SlicesCover n → IsLowestFault n slice_cover_fault
 no_slices n subpics tiles not_so = record {
-  from = omega arith; upto = omega arith;
-  breaks_subpics = λ e. absurd (omega (arith, e)); keeps_subpics = λ h. subpics;
-  breaks_tiles = λ e. absurd (omega (arith, e)); keeps_tiles = λ h. tiles;
-  breaks_slices = λ e. not_so; keeps_slices = λ h. absurd (omega (arith, h));
-  breaks_split = λ e. absurd (omega (arith, e)); keeps_split = λ h. absurd (omega (arith, h));
+  from = omega arith;
+  upto = omega arith;
+  breaks_subpics = λ e. absurd (omega (arith, e));
+  keeps_subpics = λ h. subpics;
+  breaks_tiles = λ e. absurd (omega (arith, e));
+  keeps_tiles = λ h. tiles;
+  breaks_slices = λ e. not_so;
+  keeps_slices = λ h. absurd (omega (arith, h));
+  breaks_split = λ e. absurd (omega (arith, e));
+  keeps_split = λ h. absurd (omega (arith, h));
   breaks_order = λ e. absurd (omega (arith, e));
 }
 
 no_split : (n : Numbers) → SubpicsCover n → TilesSplit n → SlicesCover n → ¬ SlicesFit n → IsLowestFault n slice_split_fault
 no_split n subpics tiles slices not_so = record {
-  from = omega arith; upto = omega arith;
-  breaks_subpics = λ e. absurd (omega (arith, e)); keeps_subpics = λ h. subpics;
-  breaks_tiles = λ e. absurd (omega (arith, e)); keeps_tiles = λ h. tiles;
-  breaks_slices = λ e. absurd (omega (arith, e)); keeps_slices = λ h. slices;
-  breaks_split = λ e. not_so; keeps_split = λ h. absurd (omega (arith, h));
+  from = omega arith;
+  upto = omega arith;
+  breaks_subpics = λ e. absurd (omega (arith, e));
+  keeps_subpics = λ h. subpics;
+  breaks_tiles = λ e. absurd (omega (arith, e));
+  keeps_tiles = λ h. tiles;
+  breaks_slices = λ e. absurd (omega (arith, e));
+  keeps_slices = λ h. slices;
+  breaks_split = λ e. not_so;
+  keeps_split = λ h. absurd (omega (arith, h));
   breaks_order = λ e. absurd (omega (arith, e));
 }
 
 no_order : (n : Numbers) → SubpicsCover n → TilesSplit n → SlicesCover n → SlicesFit n → ¬ SlicesInOrder n → IsLowestFault n order_fault
 no_order n subpics tiles slices split not_so = record {
-  from = omega arith; upto = omega arith;
-  breaks_subpics = λ e. absurd (omega (arith, e)); keeps_subpics = λ h. subpics;
-  breaks_tiles = λ e. absurd (omega (arith, e)); keeps_tiles = λ h. tiles;
-  breaks_slices = λ e. absurd (omega (arith, e)); keeps_slices = λ h. slices;
-  breaks_split = λ e. absurd (omega (arith, e)); keeps_split = λ h. split;
+  from = omega arith;
+  upto = omega arith;
+  breaks_subpics = λ e. absurd (omega (arith, e));
+  keeps_subpics = λ h. subpics;
+  breaks_tiles = λ e. absurd (omega (arith, e));
+  keeps_tiles = λ h. tiles;
+  breaks_slices = λ e. absurd (omega (arith, e));
+  keeps_slices = λ h. slices;
+  breaks_split = λ e. absurd (omega (arith, e));
+  keeps_split = λ h. split;
   breaks_order = λ e. not_so;
 }
 

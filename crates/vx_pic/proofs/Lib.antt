@@ -13,6 +13,8 @@ pub mod Sizes
 pub mod Determined
 pub mod Deciding
 pub mod Distinct
+pub mod Existing
+pub mod Ids
 pub mod Answering
 pub mod ApsLists
 pub mod StoredSets

@@ -1,11 +1,9 @@
 -- What holds of the readers of H.266: their answers are determined, and there are such readers.
-use Rattle.std.specs.Prelude.{◌≡◌, ◌⊎◌, ℕ, Bool, List, Option, Result}
+use Rattle.std.specs.Prelude.{◌≡◌, ℕ, Bool, List, Option, Result}
 use Rattle.vx_bits.specs.declared.list.Item.{Item}
 use Rattle.vx_bits.specs.declared.refusal.Refusal.{Refusal}
 use Rattle.vx_aps.specs.declared.aps.Aps.{Aps}
 use Rattle.vx_aps.specs.Aps as aps
-use Rattle.vx_layout.specs.declared.numbers.Numbers.{Numbers}
-use Rattle.vx_layout.specs.Faults.{IsLayout, IsLowestFault}
 use Rattle.vx_ph.specs.InForce.{in_force, structures}
 use Rattle.vx_pps.specs.Pps.{pps_form}
 use Rattle.vx_ptl.specs.Structures.{vps}
@@ -36,9 +34,6 @@ pub record HaveOneAnswer : Type 0 where
       → AtMostOne (AnswersAt (form_in inside (structures s) (in_force s p)) (header_place inside rbsp))
   pub slice : (nal_type : ℕ) (b : Begun) (unit : List ℕ) → AtMostOne (IsSliceAnswer nal_type b unit)
 
--- There are readers of H.266, where it is decided which numbers are a layout, and which fault the others have.
-abbrev pub LayoutsAreDecided : Type 0
-LayoutsAreDecided = (n : Numbers) → IsLayout n ⊎ ((k : ℕ) × IsLowestFault n k)
-
+-- There are readers of H.266.
 abbrev pub ThereAreReaders : Type 0
-ThereAreReaders = LayoutsAreDecided → (R : Readers) × AreOfH266 R
+ThereAreReaders = (R : Readers) × AreOfH266 R

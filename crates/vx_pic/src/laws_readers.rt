@@ -1,5 +1,5 @@
 //! Laws of the readers of H.266: functions that do nothing, each with a law as its contract.
-ghost use Rattle.vx_pic.specs.H266Laws.{HaveOneAnswer};
+ghost use Rattle.vx_pic.specs.H266Laws.{HaveOneAnswer, ThereAreReaders};
 
 use vx_aps::one_answer;
 
@@ -9,3 +9,8 @@ pub fn readers_are_unique()
 {
     one_answer();
 }
+
+/// There are readers of H.266: each list of bytes, and any two sets, have an answer.
+pub fn readers_exist()
+    ensures { ThereAreReaders }
+{}

@@ -1,5 +1,5 @@
 //! The layout of a picture and the ids of its subpictures, from its two sets (H.266 6.3.1, 6.5.1, 7.4.3.4, 7.4.3.5).
-ghost use Rattle.std.specs.Prelude.{◌≡◌, ◌<◌, map, IfOk};
+ghost use Rattle.std.specs.Prelude.{◌≡◌, ◌<◌, false, length, map, IfOk};
 ghost use Rattle.std.specs.Bool.{OnTrue, OnFalse};
 ghost use Rattle.std.specs.BTreeSet as sorted;
 ghost use Rattle.std.specs.List.{range_with_len};
@@ -103,8 +103,10 @@ fn ids_under(alloc: Global, sps: &Sps, pps: &Pps) -> Result<IdList, AllocError>
 ///
 /// Want of memory.
 pub fn picture_ids(alloc: Global, sps: &Sps, pps: &Pps) -> Result<IdList, AllocError>
-    ensures { IfOk result (λ ids. ids ≡ spec.ids_of sps.now pps.now) }
+    ensures ids { IfOk result (λ ids. ids ≡ spec.ids_of sps.now pps.now) }
+    ensures one_each { spec.ids_misplaced sps.now pps.now ≡ false → IfOk result (λ ids. length ids ≡ subpics_of sps.now) }
 {
+    let _set = pps.fields();
     let ids = ids_under(alloc, sps, pps)?;
     Ok(ids)
 }
@@ -313,7 +315,8 @@ fn layout_of(alloc: Global, numbers: Numbers) -> Result<Layout, ReadError>
 ///
 /// The lowest fault: [`CTU_SIZE_FAULT`], [`IDS_FAULT`], or one of those of a layout; want of memory.
 pub fn picture_layout(alloc: Global, sps: &Sps, pps: &Pps) -> Result<Layout, ReadError>
-    ensures { spec.AnswersLayout sps.now pps.now result }
+    ensures answer { spec.AnswersLayout sps.now pps.now result }
+    ensures limits { IfOk result IsInLimits }
 {
     if ctu_sizes_differ(sps, pps) {
         return Err(fault(CTU_SIZE_FAULT));

@@ -27,7 +27,7 @@ pub use laws::{
     reading_goes_on, seen_pictures_stay, stored_by_places, written_has_pictures,
     written_reads_again,
 };
-pub use laws_readers::readers_are_unique;
+pub use laws_readers::{readers_are_unique, readers_exist};
 pub use layouts::{CTU_SIZE_FAULT, IDS_FAULT, picture_ids, picture_layout};
 pub use picture::{Picture, PictureParts, SliceSlot, SliceSlots, SliceView};
 pub use sets::{PPS, SPS};
