@@ -8,3 +8,14 @@ pub mod Again
 pub mod Sent
 pub mod Finishing
 pub mod Editing
+pub mod Listed
+pub mod Sizes
+pub mod Determined
+pub mod Deciding
+pub mod Distinct
+pub mod Existing
+pub mod Ids
+pub mod Answering
+pub mod ApsLists
+pub mod StoredSets
+pub mod Spans

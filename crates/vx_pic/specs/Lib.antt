@@ -16,6 +16,8 @@ pub mod Edited
 pub mod Laws
 pub mod PictureLayout
 pub mod UnderSets
+pub mod Parts
 pub mod H266
+pub mod H266Laws
 pub mod Told
 pub mod inner
