@@ -19,3 +19,10 @@ pub mod Answering
 pub mod ApsLists
 pub mod StoredSets
 pub mod Spans
+pub mod Ranges
+pub mod Bodies
+pub mod KeptFields
+pub mod Shown
+pub mod Comparing
+pub mod FieldByField
+pub mod PartByPart
