@@ -1,5 +1,5 @@
 -- Inputs that are compared part by part.
-use Rattle.std.proofs.Common.{◌≡◌, ◌⊎◌, ℕ, ◌+◌, List, [], ◌∷◌, ◌++◌, inl, inr, refl}
+use Rattle.std.proofs.Common.{◌≡◌, ℕ, ◌+◌, List, [], ◌∷◌, ◌++◌, inl, inr, refl}
 use Rattle.vx_pic.specs.declared.compare.Difference.{Difference}
 use Rattle.vx_pic.specs.Inputs.{Input}
 use Rattle.vx_pic.specs.Differences.{Part, parts_in_headers, parts_in_force, DiffersFirst}

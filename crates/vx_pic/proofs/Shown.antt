@@ -1,5 +1,5 @@
 -- The decoding input of a slice as callers see it is that of the picture of the stream.
-use Rattle.std.proofs.Common.{◌≡◌, ℕ, List, map, slice_get, Some, IfSome, refl, sym, subst, ap, ◌∙◌}
+use Rattle.std.proofs.Common.{◌≡◌, ℕ, map, slice_get, Some, IfSome, subst, ap, ◌∙◌}
 use Rattle.std.specs.Prelude.{option_map}
 use Rattle.std.proofs.lemmas.Option.{slice_get-map}
 use Rattle.vx_pic.specs.Readings.{Slice, Picture}

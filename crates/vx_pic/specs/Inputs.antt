@@ -1,7 +1,7 @@
 -- The decoding input of a slice: all that decoding it depends on but for the pictures that it refers to, told without ids and places
 -- in the frame, so that two slices whose inputs are equal decode alike.
 use Rattle.std.specs.Prelude.{ℕ, ℤ, ◌+◌, ◌-◌, ◌*◌, ◌==◌, ◌&&◌, ◌||◌, min, nat_lt, Bool, cond, List, [], ◌∷◌, ◌++◌, length, map, filter}
-use Rattle.std.specs.Prelude.{drop, Option, Some, None, option_map, option_and_then, option_to_list}
+use Rattle.std.specs.Prelude.{drop, Option, None, option_map, option_and_then, option_to_list}
 use Rattle.vx_bits.specs.declared.list.Item.{Item}
 use Rattle.vx_bits.specs.Fields.{first_value}
 use Rattle.vx_table.specs.Scope.{natural, is_set}
@@ -25,7 +25,7 @@ use Rattle.vx_sh.specs.declared.header.SliceHeader.{SliceHeader as SliceValue}
 use Rattle.vx_sh.specs.Depends as slice_kept
 use Rattle.vx_pic.specs.declared.kind.Kind.{Kind}
 use Rattle.vx_pic.specs.declared.place.Place.{Place}
-use Rattle.vx_pic.specs.Sets.{SliceHeader, Slot, named, filter_items, slice_qp}
+use Rattle.vx_pic.specs.Sets.{Slot, named, filter_items, slice_qp}
 use Rattle.vx_pic.specs.Readings.{Slice, Picture}
 use Rattle.vx_pic.specs.Parts.{SlicePart, Parts, aps_at, read_of, parts_of, slice_part}
 

@@ -1,5 +1,5 @@
 -- Decoding inputs of the code, in the words of their definition.
-use Rattle.std.specs.Prelude.{◌≡◌, Bool, List, map, Option, option_map, option_copied}
+use Rattle.std.specs.Prelude.{map, option_map, option_copied}
 use Rattle.vx_pic.specs.declared.in_force.AlfInForce.{AlfInForce}
 use Rattle.vx_pic.specs.declared.input.DecodingInput.{DecodingInput}
 use Rattle.vx_pic.specs.Inputs.{Alf, Input}

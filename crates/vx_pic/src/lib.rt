@@ -21,6 +21,8 @@ mod place;
 mod sets;
 #[cfg(test)]
 mod tests;
+#[cfg(test)]
+mod tests_inputs;
 mod unit_types;
 
 pub use accepted::Accepted;
