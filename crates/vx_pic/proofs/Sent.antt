@@ -2,15 +2,17 @@
 use Rattle.std.proofs.Common.{◌≡◌, ℕ, Bool, true, false, not, cond, ◌&&◌, List, [], ◌∷◌, ◌++◌, map, filter, refl, sym, ◌∙◌, ap, subst}
 use Rattle.std.proofs.Common.{inl, inr}
 use Rattle.std.proofs.Common.{Option, Some, None}
-use Rattle.std.specs.Prelude.{◌==◌, is_none}
+use Rattle.std.specs.Prelude.{◌==◌, nat_le, is_none}
+use Rattle.std.specs.Ordering.{int_eq}
 use Rattle.std.specs.Option.{option_or}
 use Rattle.std.specs.List.{AllByRecursion}
 use Rattle.std.proofs.lemmas.Bool.{cases_Bool}
-use Rattle.std.proofs.lemmas.Bool.Decides.{eqb_tells}
+use Rattle.std.proofs.lemmas.Bool.Decides.{eqb_tells, Decides-int_eq}
 use Rattle.std.proofs.lemmas.Option.{none-some}
+use Rattle.vx_bits.specs.declared.list.Item.{Item}
 use Rattle.vx_aps.specs.declared.aps.Aps.{Aps}
-use Rattle.vx_pic.specs.Sets.{Slot, sps_id, pps_id, names_of}
-use Rattle.vx_pic.specs.Units.{is_irap_or_gdr}
+use Rattle.vx_pic.specs.Sets.{Slot, sps_id, pps_id, same_item, same_items, names_of}
+use Rattle.vx_pic.specs.Units.{temporal_id, is_irap_or_gdr}
 use Rattle.vx_pic.specs.Readings.{Reading, dropped, vps_read, sps_read, pps_read, aps_read, messages_read, header_read, first_slice}
 use Rattle.vx_pic.specs.Readings.{next_slice, sequence_ended, Begun, Slice, Picture, latest, sps_in, pps_in, aps_in, stored_sps}
 use Rattle.vx_pic.specs.Readings.{stored_pps, stored_aps, pictures}
@@ -21,6 +23,7 @@ use Rattle.vx_pic.specs.Written.{Set, an_sps, a_pps, an_aps, set_reading, IsStor
 use Rattle.vx_pic.specs.Written.{eos_readings, set_readings, sei_readings, header_readings, slice_readings, readings_of, after}
 use Rattle.vx_pic.specs.Written.{before_header, planned, AreInForce, IsWritten}
 use Rattle.vx_pic.specs.Resident.{read_of, units_written, planned_of, same_slot, kept_for, history_of, HaveOwnSlots, NeededIsStored}
+use Rattle.vx_pic.specs.Resident.{same_bytes, same_set, last_of, serves, is_resident, sent_before}
 use Rattle.vx_pic.specs.Resident.{HasSet, HaveNamed, IsPlanned, WrittenReadsAgain, IsBodyOf, NeededIsBody}
 use Rattle.vx_pic.proofs.Going.{goes_on}
 use Rattle.vx_pic.proofs.Again.{after_append, plan_reads_again}
@@ -115,6 +118,92 @@ sent_stored resident b (x ∷ more) slots known = elim (cases_Bool (resident x))
         sent_stored resident (set_reading x.set ∷ b) more slots.1 (still_known resident b x.set more slots.0 known.1),
       )
 ]
+
+-- ---- what is resident is stored
+
+both : (a b : Bool) → (a && b) ≡ true → (a ≡ true) × (b ≡ true)
+both true b is = (refl, is)
+both false b is = absurd (cc)
+
+same_number : (a b : ℕ) → (a == b) ≡ true → a ≡ b
+same_number a b is = elim (eqb_tells a b) [ inl same ↦ same.1 | inr other ↦ let e : true ≡ false = sym is ∙ other.0 in absurd (cc) ]
+
+item_is : (a b : Item) → same_item a b ≡ true → a ≡ b
+item_is a b is =
+    let parts = both (a.field == b.field) (int_eq a.value b.value) is in
+    rw (same_number a.field b.field parts.0, (Decides-int_eq a.value b.value).0 parts.1) refl
+
+pub items_are : (a b : List Item) → same_items a b ≡ true → a ≡ b
+items_are [] [] is = refl
+items_are [] (b ∷ others) is = absurd (cc)
+items_are (a ∷ items) [] is = absurd (cc)
+items_are (a ∷ items) (b ∷ others) is =
+    let parts = both (same_item a b) (same_items items others) is in
+    rw (item_is a b parts.0, items_are items others parts.1) refl
+
+bytes_are : (a b : List ℕ) → same_bytes a b ≡ true → a ≡ b
+bytes_are [] [] is = refl
+bytes_are [] (b ∷ others) is = absurd (cc)
+bytes_are (a ∷ bytes) [] is = absurd (cc)
+bytes_are (a ∷ bytes) (b ∷ others) is =
+    let parts = both (a == b) (same_bytes bytes others) is in
+    rw (same_number a b parts.0, bytes_are bytes others parts.1) refl
+
+aps_is : (a b : Aps) → a.kind ≡ b.kind → a.id ≡ b.id → a.body ≡ b.body → a ≡ b
+aps_is a b kind id body = rw (kind, id, body) refl
+
+set_is : (s t : Set) → same_set s t ≡ true → s ≡ t
+set_is (an_sps s) (an_sps t) is = ap an_sps (items_are s t is)
+set_is (an_sps s) (a_pps t) is = absurd (cc)
+set_is (an_sps s) (an_aps t) is = absurd (cc)
+set_is (a_pps s) (an_sps t) is = absurd (cc)
+set_is (a_pps s) (a_pps t) is = ap a_pps (items_are s t is)
+set_is (a_pps s) (an_aps t) is = absurd (cc)
+set_is (an_aps s) (an_sps t) is = absurd (cc)
+set_is (an_aps s) (a_pps t) is = absurd (cc)
+set_is (an_aps a) (an_aps b) is =
+    let kind = both (a.kind == b.kind) ((a.id == b.id) && same_bytes a.body b.body) is in
+    let id = both (a.id == b.id) (same_bytes a.body b.body) kind.1 in
+    ap an_aps (aps_is a b (same_number a.kind b.kind kind.0) (same_number a.id b.id id.0) (bytes_are a.body b.body id.1))
+
+-- behind the last unit for a slot stand those of other slots
+none_alike : (s : Set) (xs : List SetUnit) → last_of s xs ≡ None → AreOthers s xs
+none_alike s [] is = tt
+none_alike s (x ∷ more) is = by (none_alike s more) (last_of s more) refl is
+  where
+    differs : (t : Bool) → cond t (Some x) None ≡ None → t ≡ false
+    differs true e = absurd (none-some x (sym e))
+    differs false e = refl
+
+    by : (last_of s more ≡ None → AreOthers s more) → (o : Option SetUnit) → last_of s more ≡ o
+        → option_or o (cond (same_slot x.set s) (Some x) None) ≡ None → AreOthers s (x ∷ more)
+    by rest (Some y) at e = absurd (none-some y (sym e))
+    by rest None at e = (slots_flipped s x.set ∙ differs (same_slot x.set s) e, rest at)
+
+last_stored : (s : Set) (b : List Reading) (xs : List SetUnit) (x : SetUnit) → last_of s xs ≡ Some x → x.set ≡ s
+    → IsStored (after b (set_readings xs)) s
+last_stored s b [] x is same = absurd (none-some x is)
+last_stored s b (y ∷ more) x is same = by (λ at. last_stored s (set_reading y.set ∷ b) more x at same) (last_of s more) refl is
+  where
+    here : (t : Bool) → cond t (Some y) None ≡ Some x → y ≡ x
+    here true e = (cc)
+    here false e = absurd (none-some x e)
+
+    by : (last_of s more ≡ Some x → IsStored (after (set_reading y.set ∷ b) (set_readings more)) s) → (o : Option SetUnit)
+        → last_of s more ≡ o → option_or o (cond (same_slot y.set s) (Some y) None) ≡ Some x
+        → IsStored (after (set_reading y.set ∷ b) (set_readings more)) s
+    by rest (Some z) at e = rest (at ∙ e)
+    by rest None at e =
+        let is_it : y.set ≡ s = ap (λ u. u.set) (here (same_slot y.set s) e) ∙ same in
+        past_others (set_reading y.set ∷ b) s more (none_alike s more at)
+        (subst (λ t. IsStored (set_reading y.set ∷ b) t) is_it (own b y.set))
+
+resident_is : (t : ℕ) (history : List SetUnit) (s : Set) → serves t s (last_of s history) ≡ true → IsStored (after [] (set_readings history)) s
+resident_is t history s is = by (last_of s history) refl is
+  where
+    by : (o : Option SetUnit) → last_of s history ≡ o → serves t s o ≡ true → IsStored (after [] (set_readings history)) s
+    by None at e = absurd (cc)
+    by (Some x) at e = last_stored s [] history x at (set_is x.set s (both (same_set x.set s) (nat_le (temporal_id x.unit) t) e).0)
 
 -- ---- what looks at sets alone
 
@@ -299,9 +388,10 @@ every step (x ∷ xs) = (step x, every step xs)
 pub needed_is_stored : NeededIsStored
 needed_is_stored done p s =
     let b1 = after (read_of done) (eos_readings p.kind.after_eos) in
-    let known = every {Q = λ x. s.resident x ≡ true → IsStored b1 x.set}
-    (λ x h. resident_stored done p.kind.after_eos p.kind.nal_type x.set (s.is_resident x h)) s.needed in
-    let stored = sent_stored s.resident b1 s.needed s.slots known in
+    let resident = is_resident p.kind.temporal_id (sent_before done p) in
+    let known = every {Q = λ x. resident x ≡ true → IsStored b1 x.set}
+    (λ x h. resident_stored done p.kind.after_eos p.kind.nal_type x.set (resident_is p.kind.temporal_id (sent_before done p) x.set h)) s.needed in
+    let stored = sent_stored resident b1 s.needed s.slots known in
     let P : List SetUnit → Type 0 = λ xs. AllByRecursion (λ x. IsStored (after b1 (set_readings xs)) x.set) s.needed in
     each {Q = λ x. IsStored (before_header (read_of done) p) x.set} (λ x is. behind_sei (after b1 (set_readings p.sent)) p.sei x.set is) s.needed
     (subst P (sym s.sent) stored)

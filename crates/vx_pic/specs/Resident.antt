@@ -1,10 +1,11 @@
 -- Pictures that are written one behind another: which sets are sent with each, and that all are read again.
 use Rattle.std.specs.Prelude.{◌≡◌, ◌⊎◌, ℕ, ◌+◌, ◌==◌, ◌&&◌, ◌≤◌, Bool, true, false, not, cond, List, [], ◌∷◌, ◌++◌, length, filter}
-use Rattle.std.specs.Prelude.{sum_by, Some}
+use Rattle.std.specs.Prelude.{sum_by, nat_le, Option, Some, None}
+use Rattle.std.specs.Option.{option_or}
 use Rattle.std.specs.List.{AllByRecursion}
 use Rattle.vx_aps.specs.declared.aps.Aps.{Aps}
-use Rattle.vx_pic.specs.Units.{has_header_inside, is_irap_or_gdr}
-use Rattle.vx_pic.specs.Sets.{Slot, sps_id, pps_id, referred_sps, names_of}
+use Rattle.vx_pic.specs.Units.{temporal_id, has_header_inside, is_irap_or_gdr}
+use Rattle.vx_pic.specs.Sets.{Slot, sps_id, pps_id, referred_sps, same_items, names_of}
 use Rattle.vx_pic.specs.Readings.{Reading, Picture, aps_of, pictures}
 use Rattle.vx_pic.specs.Rules.{Readers, unit_size, picture_limit}
 use Rattle.vx_pic.specs.Streams.{all_read, read_on}
@@ -51,14 +52,43 @@ abbrev pub HaveOwnSlots : List SetUnit → Type 0
 HaveOwnSlots [] = Unit {0}
 HaveOwnSlots (x ∷ more) = AllByRecursion (λ y. same_slot x.set y.set ≡ false) more × HaveOwnSlots more
 
--- Of the sets that a picture needs, those are sent that aren't resident: the last one of their type and id in what counts as sent.
+-- the same bytes
+abbrev pub same_bytes : List ℕ → List ℕ → Bool
+same_bytes [] [] = true
+same_bytes (a ∷ bytes) (b ∷ others) = (a == b) && same_bytes bytes others
+same_bytes [] (b ∷ others) = false
+same_bytes (a ∷ bytes) [] = false
+
+-- the same set
+abbrev pub same_set : Set → Set → Bool
+same_set (an_sps s) (an_sps t) = same_items s t
+same_set (a_pps s) (a_pps t) = same_items s t
+same_set (an_aps a) (an_aps b) = (a.kind == b.kind) && ((a.id == b.id) && same_bytes a.body b.body)
+same_set _ _ = false
+
+-- the last of these units with the type and the id of a set
+abbrev pub last_of : Set → List SetUnit → Option SetUnit
+last_of s [] = None
+last_of s (x ∷ more) = option_or (last_of s more) (cond (same_slot x.set s) (Some x) None)
+
+-- that unit is of the same set, and can be decoded with pictures of a TemporalId: its own isn't above it (7.4.2.2)
+abbrev pub serves : ℕ → Set → Option SetUnit → Bool
+serves t s None = false
+serves t s (Some x) = same_set x.set s && nat_le (temporal_id x.unit) t
+
+-- a set is resident behind sets that count as sent, for a picture of this TemporalId
+abbrev pub is_resident : ℕ → List SetUnit → SetUnit → Bool
+is_resident t history x = serves t x.set (last_of x.set history)
+
+-- what counts as sent for a plan behind others
+abbrev pub sent_before : List Plan → Plan → List SetUnit
+sent_before done p = kept_for p.kind.nal_type (history_of done)
+
+-- Of the sets that a picture needs, exactly those are sent that aren't resident, in order.
 pub record Sends (done : List Plan) (p : Plan) : Type 0 where
   pub needed : List SetUnit
   pub slots : HaveOwnSlots needed
-  pub resident : SetUnit → Bool
-  pub is_resident : (x : SetUnit) → resident x ≡ true
-      → IsStored (after [] (set_readings (kept_for p.kind.nal_type (history_of done)))) x.set
-  pub sent : p.sent ≡ filter (λ x. not (resident x)) needed
+  pub sent : p.sent ≡ filter (λ x. not (is_resident p.kind.temporal_id (sent_before done p) x)) needed
 
 -- Each set that a picture needs is in force for its header.
 abbrev pub NeededIsStored : Type 0
