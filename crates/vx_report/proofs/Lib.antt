@@ -1,1 +1,2 @@
 mod PictureText
+pub mod Refused
