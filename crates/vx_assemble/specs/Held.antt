@@ -1,0 +1,74 @@
+-- An assembler, as its callers see it: by these words, and by the relation `Stands` between it and what the units that it took were
+-- read as. That relation begins with no units; `Takes` says what it is worth.
+use Rattle.std.specs.Prelude.{◌≡◌, List, [], ◌∷◌, Option, Some, None, Result, Ok, Err}
+use Rattle.vx_bits.specs.declared.list.Item.{Item}
+use Rattle.vx_bits.specs.declared.refusal.Refusal.{Refusal}
+use Rattle.vx_pic.specs.declared.accepted.Accepted.{Accepted}
+use Rattle.vx_pic.specs.declared.accepted.Accepted.TheVariants as accepted
+use Rattle.vx_pic.specs.Readings.{Reading, vps_read, sps_read, pps_read, aps_read}
+use Rattle.vx_pic.specs.Streams.{lacks_slice}
+use Rattle.vx_pic.specs.Told.{told_of}
+use Rattle.vx_assemble.specs.declared.fault.AssembleFault.{AssembleFault}
+use Rattle.vx_assemble.specs.declared.fault.AssembleFault.TheVariants as faults
+use Rattle.vx_assemble.specs.declared.fault.First.{First}
+use Rattle.vx_assemble.specs.declared.fault.First.TheVariants as firsts
+use Rattle.vx_assemble.specs.inner.Held.{IsHeld}
+pub use Rattle.vx_assemble.specs.inner.Held.{Held, aps_items}
+
+-- what was told of the last unit that was handed in; nothing of one that wasn't taken
+abbrev pub told : Held → Accepted
+told h = h.told
+
+-- it holds a picture: the last unit was the last slice of one
+abbrev pub HasPicture : Held → Type 0
+HasPicture h = told h ≡ accepted.PictureDone
+
+-- what first kept a unit from being taken
+abbrev pub first_fault : Held → Option First
+first_fault h = h.first
+
+-- what an answer says of that
+abbrev pub first_of : AssembleFault → First
+first_of faults.Memory = firsts.Memory
+first_of (faults.Refused r) = firsts.Refused r
+first_of (faults.Stopped f) = f
+
+-- what is told of the latest unit
+abbrev pub last_told : List Reading → Accepted
+last_told [] = accepted.Nothing
+last_told (r ∷ before) = told_of r before
+
+-- It has taken units that were read as these, the latest first, and refused none.
+pub record Stands (h : Held) (before : List Reading) : Type 0 where
+  pub state : IsHeld h.state before
+  pub told : told h ≡ last_told before
+  pub first : first_fault h ≡ None
+
+-- The unit was read so behind those before it, and taken.
+pub record Took (answer : Result Reading Refusal) (before : List Reading) (new : Held) (what : Accepted) : Type 0 where
+  pub reading : Reading
+  pub reads : answer ≡ Ok reading
+  pub stands : Stands new (reading ∷ before)
+  pub told : what ≡ told_of reading before
+
+-- The answer of a call that takes a unit behind these, and what is held then.
+abbrev pub Takes : Result Reading Refusal → List Reading → Held → Result Accepted AssembleFault → Type 0
+Takes answer before new (Ok what) = Took answer before new what
+Takes answer before new (Err faults.Memory) = Unit {0}
+Takes answer before new (Err (faults.Refused r)) = answer ≡ Err r
+Takes answer before new (Err (faults.Stopped f)) = ⊥
+
+-- The answer of a call that ends the units: a picture lacks a slice, or none does.
+abbrev pub Ends : List Reading → Result (Unit {0}) AssembleFault → Type 0
+Ends before (Ok done) = lacks_slice before ≡ None
+Ends before (Err faults.Memory) = ⊥
+Ends before (Err (faults.Refused r)) = lacks_slice before ≡ Some r
+Ends before (Err (faults.Stopped f)) = ⊥
+
+-- The items of a set that was read, and of an adaptation parameter set its type and its id.
+abbrev pub items_of : Reading → Option (List Item)
+items_of (vps_read v) = Some v
+items_of (sps_read s) = Some s
+items_of (pps_read p) = Some p
+items_of (aps_read a) = Some (aps_items a)
+items_of _ = None
