@@ -5,3 +5,4 @@ pub mod Classes
 pub mod Headers
 pub mod Takes
 pub mod Changes
+pub mod Feed

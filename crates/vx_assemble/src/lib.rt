@@ -7,6 +7,7 @@
 mod assembler;
 mod current;
 mod fault;
+mod feed;
 mod in_force;
 mod keep;
 mod readers;
@@ -18,4 +19,5 @@ mod unit;
 
 pub use assembler::Assembler;
 pub use fault::{AssembleFault, First};
+pub use feed::{Feed, FeedFault, Taken};
 pub use vx_pic::Accepted;

@@ -1,2 +1,1 @@
 mod PictureText
-pub mod Refused
