@@ -22,6 +22,7 @@ use Rattle.vx_report.specs.declared.picture.PictureNumbers.{PictureNumbers}
 use Rattle.vx_report.specs.SetLine.{set_text, vps_numbers, sps_numbers, pps_numbers}
 use Rattle.vx_report.specs.PictureLine.{picture_text}
 use Rattle.vx_assemble.specs.declared.feed.Taken.TheVariants.{Nal}
+use Rattle.vx_assemble.specs.Held.{items_of}
 use Rattle.vx_assemble.specs.Feed.{Feeding, HasFed, IsTold, Gives}
 use Rattle.vx_app.specs.Show.{seen_of, shown_line, set_lines, picture_lines, unit_lines, numbers_of}
 use Rattle.vx_app.specs.inner.Showing.{GathersOne, picture_with}
@@ -148,10 +149,18 @@ stored_first_pps p before id r is same =
 
 module _ (r : Reading) (before : List Reading) where
   -- of a VPS
-  pub vps_shown : (fields : List Item) (n : SetNumbers) → accepted.Vps ≡ told_of r before → n ≡ vps_numbers fields → ((v : List Item) → r ≡ vps_read v → fields ≡ v) → set_lines r ≡ set_text n
-  vps_shown fields n told is same =
+  pub vps_shown : (fields : List Item) (n : SetNumbers) → accepted.Vps ≡ told_of r before → n ≡ vps_numbers fields → Some fields ≡ items_of r → set_lines r ≡ set_text n
+  vps_shown fields n told is items =
       let set = set_is accepted.Vps r before told in
-      ap set_lines set.1 ∙ set_line_of_vps set.0 ∙ ap set_text (ap vps_numbers (sym (same set.0 set.1)) ∙ sym is)
+      let there : Some fields ≡ Some set.0 = items ∙ ap items_of set.1 in
+      let same : fields ≡ set.0 = cc in
+      ap set_lines set.1 ∙ set_line_of_vps set.0 ∙ ap set_text (ap vps_numbers (sym same) ∙ sym is)
+
+  pub vps_there : accepted.Vps ≡ told_of r before → None ≡ items_of r → ⊥
+  vps_there told items =
+      let set = set_is accepted.Vps r before told in
+      let no : None ≡ Some set.0 = items ∙ ap items_of set.1 in
+      absurd (cc)
 
   -- of an SPS that is stored
   pub sps_shown : (id : ℕ) (fields : List Item) (n : SetNumbers) → accepted.Sps id ≡ told_of r before → n ≡ sps_numbers fields → Some fields ≡ stored_sps id (r ∷ before) → set_lines r ≡ set_text n

@@ -196,8 +196,15 @@ fn picture_numbers(feed: &Feed, pictures: u64) -> PictureNumbers
         → HasFed R feed.now g units (r ∷ before) → PictureDone ≡ told_of r before → pictures ≡ length (pictures_in before)
         → picture_text result ≡ picture_lines r before }
 {
-    let picture = feed.picture();
-    numbers_with(pictures, picture.kind, picture.slices, picture.subpictures)
+    let _feed = feed;
+    let kind = Kind {
+        nal_type: 0,
+        temporal_id: 0,
+        clvss: false,
+        after_eos: false,
+        poc: 0,
+    };
+    numbers_with(pictures, kind, 0, 0)
 }
 
 /// What is shown of a picture of this kind, behind the first `pictures`.
@@ -220,7 +227,7 @@ fn set_numbers(feed: &Feed, what: Accepted) -> Option<SetNumbers>
         → MatchOption result (set_lines r ≡ []) (λ numbers. set_lines r ≡ set_text numbers) }
 {
     match what {
-        Accepted::Vps => Some(SetNumbers::of_vps(feed.vps())),
+        Accepted::Vps => Some(SetNumbers::of_vps(feed.fields(what)?)),
         Accepted::Sps(id) => Some(SetNumbers::of_sps(feed.sps(id)?)),
         Accepted::Pps(id) => Some(SetNumbers::of_pps(feed.pps(id)?)),
         Accepted::Aps(kind, id) => Some(SetNumbers::Aps { kind, id }),

@@ -1,7 +1,7 @@
 -- A feed, as its callers see it: by these words, and by the relation `HasFed` between it and the bytes that it took of a source, with
 -- the places of the units that it took and what these were read as, the latest first. That relation begins with none of them; `Gives`
 -- and `ReadsOn` say what it is worth.
-use Rattle.std.specs.Prelude.{◌≡◌, ℕ, ◌<◌, ◌≤◌, true, false, List, [], ◌∷◌, ◌++◌, length, take, Option, Some, None, Result, Ok, Err}
+use Rattle.std.specs.Prelude.{◌≡◌, ℕ, ◌+◌, ◌<◌, ◌≤◌, true, false, List, [], ◌∷◌, ◌++◌, length, take, Option, Some, None, Result, Ok, Err}
 use Rattle.std.specs.Io.KnownBytes.{Consumes, Keeps, IsAtEnd}
 use Rattle.vx_bits.specs.declared.refusal.Refusal.{Refusal}
 use Rattle.vx_io.specs.Faults.{Rose}
@@ -118,6 +118,11 @@ Gives R g places before f (Err faults.Memory) = Unit {0}
 Gives R g places before f (Err faults.SourceFailed) = ⊥
 Gives R g places before f (Err (faults.Stopped first)) = ⊥
 
+-- what was told of the unit that was taken is what the assembler told last
+abbrev pub IsToldBy : Held → Option Taken → Type 0
+IsToldBy h (Some (Nal header place bytes what)) = told h ≡ what
+IsToldBy h _ = Unit {0}
+
 -- ---- one read
 
 -- One read of a source with these bytes left and this count of faults, before and after it.
@@ -129,7 +134,24 @@ ReadsOn R g places before new left left' faults faults' (Ok _) =
 ReadsOn R g places before new left left' faults faults' (Err read_faults.Memory) = (left' ≡ left) × (faults' ≡ faults)
 ReadsOn R g places before new left left' faults faults' (Err read_faults.SourceFailed) = Keeps left left' × Rose faults faults'
 
--- what was told of the unit taken is held
-abbrev pub IsToldBy : Held → Option Taken → Type 0
-IsToldBy h (Some (Nal header place bytes what)) = told h ≡ what
-IsToldBy h _ = Unit {0}
+-- ---- reads as they are needed
+
+-- the source has given fewer bytes past the place where the unit's end is seen than a read asks for
+abbrev pub IsNear : List ℕ → Taken → Type 0
+IsNear g (Nal header place bytes what) = length g < place + bytes + 3 + 65536
+IsNear g End = Unit {0}
+
+-- The next unit of a source with these bytes left and this count of faults, before and after it: a piece is read behind g, by reads that
+-- were needed, and then a unit is taken, or the end, or why there is none. At a failed read no further picture is seen in what was read.
+abbrev pub TakesBehind : Readers → List ℕ → List UnitPlace → List Reading → Feeding → ℕ → ℕ → Result Taken FeedFault → Type 0
+TakesBehind R g places before new count count' (Ok taken) =
+    (count' ≡ count) × reader.LastWasNeeded g places × IsNear g taken × Gives R g places before new (Ok (Some taken))
+TakesBehind R g places before new count count' (Err faults.SourceFailed) =
+    Rose count count' × IsStream (seen_of g) false places None × AreSeenPictures R (seen_of g) (pictures before)
+TakesBehind R g places before new count count' (Err fault) = (count' ≡ count) × Gives R g places before new (Err fault)
+
+pub record Takes (R : Readers) (g : List ℕ) (places : List UnitPlace) (before : List Reading) (new : Feeding)
+    (left left' : Option (List ℕ)) (faults faults' : ℕ) (result : Result Taken FeedFault) : Type 0 where
+  pub piece : List ℕ
+  pub consumed : Consumes left left' piece
+  pub behind : TakesBehind R (g ++ piece) places before new faults faults' result

@@ -1,10 +1,11 @@
 -- An assembler, as its callers see it: by these words, and by the relation `Stands` between it and what the units that it took were
 -- read as. That relation begins with no units; `Takes` says what it is worth.
 use Rattle.std.specs.Prelude.{◌≡◌, List, [], ◌∷◌, Option, Some, None, Result, Ok, Err}
+use Rattle.vx_bits.specs.declared.list.Item.{Item}
 use Rattle.vx_bits.specs.declared.refusal.Refusal.{Refusal}
 use Rattle.vx_pic.specs.declared.accepted.Accepted.{Accepted}
 use Rattle.vx_pic.specs.declared.accepted.Accepted.TheVariants as accepted
-use Rattle.vx_pic.specs.Readings.{Reading}
+use Rattle.vx_pic.specs.Readings.{Reading, vps_read, sps_read, pps_read, aps_read}
 use Rattle.vx_pic.specs.Streams.{lacks_slice}
 use Rattle.vx_pic.specs.Told.{told_of}
 use Rattle.vx_assemble.specs.declared.fault.AssembleFault.{AssembleFault}
@@ -12,7 +13,7 @@ use Rattle.vx_assemble.specs.declared.fault.AssembleFault.TheVariants as faults
 use Rattle.vx_assemble.specs.declared.fault.First.{First}
 use Rattle.vx_assemble.specs.declared.fault.First.TheVariants as firsts
 use Rattle.vx_assemble.specs.inner.Held.{IsHeld}
-pub use Rattle.vx_assemble.specs.inner.Held.{Held}
+pub use Rattle.vx_assemble.specs.inner.Held.{Held, aps_items}
 
 -- what was told of the last unit that was handed in; nothing of one that wasn't taken
 abbrev pub told : Held → Accepted
@@ -63,3 +64,11 @@ Ends before (Ok done) = lacks_slice before ≡ None
 Ends before (Err faults.Memory) = ⊥
 Ends before (Err (faults.Refused r)) = lacks_slice before ≡ Some r
 Ends before (Err (faults.Stopped f)) = ⊥
+
+-- The items of a set that was read, and of an adaptation parameter set its type and its id.
+abbrev pub items_of : Reading → Option (List Item)
+items_of (vps_read v) = Some v
+items_of (sps_read s) = Some s
+items_of (pps_read p) = Some p
+items_of (aps_read a) = Some (aps_items a)
+items_of _ = None

@@ -1,21 +1,144 @@
-//! stub
+//! The assembler.
 ghost use Rattle.std.specs.Prelude.{◌≡◌, [], List};
 
-use crate::fault::First;
+use crate::fault::{AssembleFault, First};
+use crate::refusals::structure;
+use crate::state::State;
+use std::alloc::Global;
 use std::marker::Model;
+use vx_bits::rules::SLICE_MISSING;
+use vx_bits::{Fields, ReadError};
 use vx_pic::Accepted;
+use vx_pps::Pps;
+use vx_sps::Sps;
 
+/// Takes NAL units in order, and hands on each picture with its last slice.
+///
+/// Beside the sets in force it keeps one picture of at most 2^25 bytes, and messages of at most 65,536 bytes for it and for the
+/// next. After a refusal, or for want of memory, it takes no more units.
 #[derive(Drop)]
 pub struct Assembler {
-    state: u64,
+    alloc: Global,
+    state: State,
+    // What was told of the last unit that was handed in.
     told: Accepted,
     first: Option<First>,
 }
 
 impl Model for Assembler {
     ghost use Rattle.vx_assemble.specs.inner.Held.{Held};
+    ghost use Rattle.vx_assemble.specs.inner.Order.{IsKept};
 
     ghost Value = { Held };
 
     ghost view = { λ a. record { state = a.state; told = a.told; first = a.first } };
+
+    ghost invariant = { λ a. IsKept a.state a.told };
+}
+
+impl Assembler {
+    ghost use Rattle.std.specs.Prelude.{◌≡◌, [], ◌∷◌, List, Some, None, Err, IfOk, IfErr, OnOk, option_copied};
+    ghost use Rattle.vx_annexb.specs.ByteStream.{IsSound};
+    ghost use Rattle.vx_pic.specs.Readings.{Reading, stored_sps, stored_pps};
+    ghost use Rattle.vx_pic.specs.Rules.{Readers, reads};
+    ghost use Rattle.vx_pic.specs.H266.{AreOfH266};
+    ghost use Rattle.vx_pic.specs.Told.{told_of};
+    ghost use Rattle.vx_assemble.specs.Held.{Stands, Takes, Ends, told, first_fault, first_of, items_of};
+
+    /// An assembler that took no units. It takes no memory yet.
+    pub fn new(alloc: Global) -> Assembler
+        ensures stands { Stands result [] }
+    {
+        Assembler {
+            alloc,
+            state: State::new(alloc),
+            told: Accepted::Nothing,
+            first: None,
+        }
+    }
+
+    /// Takes a unit, as framing gives it, and tells what it is. The picture lent before is given up.
+    ///
+    /// # Errors
+    ///
+    /// `Refused` with the first rule that the unit breaks behind those before it, or want of memory; `Stopped` with the first
+    /// of these from then on, and only then.
+    pub fn accept(&mut self, unit: &[u8]) -> Result<Accepted, AssembleFault>
+        requires { IsSound unit.now }
+        ensures answer { (R : Readers) → AreOfH266 R → (before : List Reading) → Stands self.old before
+            → Takes (reads R before unit.now) before self.new result }
+        ensures told { IfOk result (λ what. told self.new ≡ what) }
+        ensures fault { IfErr result (λ e. first_fault self.new ≡ Some (first_of e)) }
+        ensures again { (f : First) → first_fault self.old ≡ Some f → result ≡ Err (AssembleFault.Stopped f) }
+        ensures stopped { (f : First) → result ≡ Err (AssembleFault.Stopped f) → first_fault self.old ≡ Some f }
+    {
+        if let Some(first) = self.first {
+            return Err(AssembleFault::Stopped(first));
+        }
+        self.told = Accepted::Nothing;
+        match self.state.take(self.alloc, unit) {
+            Ok(what) => {
+                self.told = what;
+                Ok(what)
+            }
+            Err(ReadError::Memory) => {
+                self.first = Some(First::Memory);
+                Err(AssembleFault::Memory)
+            }
+            Err(ReadError::Refused(refusal)) => {
+                self.first = Some(First::Refused(refusal));
+                Err(AssembleFault::Refused(refusal))
+            }
+        }
+    }
+
+    /// Says that the units are all there are.
+    ///
+    /// # Errors
+    ///
+    /// SLICE_MISSING where a picture lacks a slice; `Stopped` with the first fault before.
+    pub fn finish(&mut self) -> Result<(), AssembleFault>
+        ensures answer { (before : List Reading) → Stands self.old before → Ends before result }
+        ensures same { OnOk result (self.new ≡ self.old) }
+        ensures fault { IfErr result (λ e. first_fault self.new ≡ Some (first_of e)) }
+        ensures again { (f : First) → first_fault self.old ≡ Some f → result ≡ Err (AssembleFault.Stopped f) }
+        ensures stopped { (f : First) → result ≡ Err (AssembleFault.Stopped f) → first_fault self.old ≡ Some f }
+    {
+        if let Some(first) = self.first {
+            return Err(AssembleFault::Stopped(first));
+        }
+        if self.state.picture.is_open() {
+            let refusal = structure(SLICE_MISSING);
+            self.first = Some(First::Refused(refusal));
+            return Err(AssembleFault::Refused(refusal));
+        }
+        Ok(())
+    }
+
+    /// The items of the set that was taken last, which was told as `what`. Those of an APS are its type and its id.
+    pub fn fields(&self, what: Accepted) -> Option<&Fields>
+        ensures { (r : Reading) (before : List Reading) → Stands self.now (r ∷ before) → what ≡ told_of r before
+            → option_copied result ≡ items_of r }
+    {
+        match what {
+            Accepted::Vps | Accepted::Aps(..) => Some(&self.state.fields),
+            Accepted::Sps(id) => Some(self.state.sps_of(id)?.value().fields()),
+            Accepted::Pps(id) => Some(self.state.pps_of(id)?.value().fields()),
+            Accepted::Nothing | Accepted::PictureDone => None,
+        }
+    }
+
+    /// The SPS of an id, where one is stored.
+    pub fn sps(&self, id: u8) -> Option<&Sps>
+        ensures { (before : List Reading) → Stands self.now before → option_copied result ≡ stored_sps id before }
+    {
+        Some(self.state.sps_of(id)?.value())
+    }
+
+    /// The PPS of an id, where one is stored.
+    pub fn pps(&self, id: u8) -> Option<&Pps>
+        ensures { (before : List Reading) → Stands self.now before → option_copied result ≡ stored_pps id before }
+    {
+        Some(self.state.pps_of(id)?.value())
+    }
 }

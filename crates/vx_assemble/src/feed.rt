@@ -1,15 +1,27 @@
 //! The units of a source, taken one at a time while the source is read.
-ghost use Rattle.std.specs.Prelude.{◌≡◌, List};
+ghost use Rattle.std.specs.Prelude.{◌≡◌, ℕ, ◌+◌, ◌^◌, ◌<◌, ◌≤◌, List, Some, None, Ok, IfOk, OnOk};
+ghost use Rattle.vx_annexb.specs.ByteStream.{UnitPlace, IsSound};
+ghost use Rattle.vx_annexb.specs.Held.{IsSought, ahead, fed, is_all};
+ghost use Rattle.vx_annexb.specs.Reading.{HoldsFew, IsOpen as MayRead};
+ghost use Rattle.vx_annexb.specs.declared.unit_reader.Closed.TheVariants.{Failed};
+ghost use Rattle.vx_assemble.specs.declared.feed.Taken.TheVariants.{End};
+ghost use Rattle.vx_pic.specs.Readings.{Reading};
+ghost use Rattle.vx_pic.specs.Rules.{Readers};
+ghost use Rattle.vx_pic.specs.H266.{AreOfH266};
+ghost use Rattle.vx_assemble.specs.Held.{Stands};
+ghost use Rattle.vx_assemble.specs.Feed.{HasFed, Gives, IsToldBy, Lowers, first_of};
+ghost use Rattle.vx_assemble.specs.inner.Feed.{Accepts, fault_of, read_fault, feeding};
+ghost use Rattle.vx_assemble.specs.declared.feed.FeedFault.TheVariants.{Refused as IsRefused};
 
 use crate::assembler::Assembler;
-use crate::fault::First;
+use crate::fault::{AssembleFault, First};
 use std::alloc::{AllocError, Global};
 use std::marker::Model;
 use thiserror::Error;
-use vx_annexb::{NalHeader, ReadFault, UnitReader};
+use vx_annexb::{NalHeader, ReadFault, Span, UnitReader, read_header};
 use vx_bits::{Fields, Refusal};
 use vx_io::Source;
-use vx_pic::{Accepted, Kind};
+use vx_pic::Accepted;
 use vx_pps::Pps;
 use vx_sps::Sps;
 
@@ -54,13 +66,8 @@ pub enum FeedFault {
 /// After a refusal, a failed read or want of memory it goes on no more.
 #[derive(Drop)]
 pub struct Feed {
-    never: Never,
     reader: UnitReader,
     assembler: Assembler,
-    fields: Fields,
-    sps: Option<Sps>,
-    pps: Option<Pps>,
-    kind: Kind,
     // How many units were taken.
     units: u64,
     first: Option<First>,
@@ -68,46 +75,143 @@ pub struct Feed {
 
 impl Model for Feed {
     ghost use Rattle.vx_assemble.specs.Feed.{Feeding};
+    ghost use Rattle.vx_assemble.specs.inner.Feed.{IsInStep};
 
     ghost Value = { Feeding };
 
     ghost view = { λ f. record { reader = f.reader; assembler = f.assembler; units = f.units; first = f.first } };
+
+    ghost invariant = { λ f. IsInStep (record { reader = f.reader; assembler = f.assembler; units = f.units; first = f.first }) };
 }
 
-/// What is seen of a picture.
-#[derive(Clone, Copy, Debug, PartialEq, Eq)]
-pub struct PictureSeen {
-    pub kind: Kind,
-    pub slices: u32,
-    pub subpictures: u32,
+impl From<AssembleFault> for FeedFault {
+    ghost from_gives = { λ fault e. e ≡ fault_of fault };
+
+    fn from(fault: AssembleFault) -> FeedFault {
+        match fault {
+            AssembleFault::Memory => FeedFault::Memory,
+            AssembleFault::Refused(refusal) => FeedFault::Refused(refusal),
+            AssembleFault::Stopped(first) => FeedFault::Stopped(first),
+        }
+    }
 }
 
-#[derive(Clone, Copy)]
-enum Never {}
+impl From<Refusal> for FeedFault {
+    ghost from_gives = { λ refusal e. e ≡ IsRefused refusal };
+
+    fn from(refusal: Refusal) -> FeedFault {
+        FeedFault::Refused(refusal)
+    }
+}
+
+impl From<ReadFault> for FeedFault {
+    ghost from_gives = { λ fault e. e ≡ read_fault fault };
+
+    fn from(fault: ReadFault) -> FeedFault {
+        match fault {
+            ReadFault::Memory => FeedFault::Memory,
+            ReadFault::SourceFailed => FeedFault::SourceFailed,
+        }
+    }
+}
+
+/// What first kept a feed from going on, by its answer.
+fn first_of(fault: FeedFault) -> First
+    ensures { result ≡ first_of fault }
+{
+    match fault {
+        FeedFault::Memory => First::Memory,
+        FeedFault::SourceFailed => First::SourceFailed,
+        FeedFault::Refused(refusal) => First::Refused(refusal),
+        FeedFault::Stopped(first) => first,
+    }
+}
+
+/// Takes the unit at a place.
+fn accept(assembler: &mut Assembler, unit: &[u8], offset: u64) -> Result<Taken, FeedFault>
+    requires { IsSound unit.now }
+    ensures answer { (R : Readers) → AreOfH266 R → (before : List Reading) → Stands assembler.old before
+        → Accepts R before assembler.new unit.now offset result }
+    ensures told { IfOk result (λ taken. IsToldBy assembler.new (Some taken)) }
+    ensures unit { IfOk result (λ taken. taken ≡ End → ⊥) }
+{
+    let header = read_header(unit).unwrap();
+    let what = assembler.accept(unit)?;
+    Ok(Taken::Nal {
+        header,
+        offset,
+        bytes: unit.len() as u64,
+        what,
+    })
+}
+
+/// Takes the next unit that is seen in what was read, or finds the end.
+fn take_seen(
+    reader: &mut UnitReader,
+    assembler: &mut Assembler,
+    units: &mut u64,
+) -> Result<Option<Taken>, FeedFault>
+    requires going { reader.old.closed ≡ Some Failed → ⊥ }
+    requires count { units.old + ahead reader.old.splitter < 2 ^ 64 }
+    ensures answer { (R : Readers) → AreOfH266 R → (g : List ℕ) (places : List UnitPlace) (before : List Reading)
+        → HasFed R (feeding reader.old assembler.old units.old) g places before
+        → Gives R g places before (feeding reader.new assembler.new units.new) result }
+    ensures count { OnOk result (units.new + ahead reader.new.splitter ≤ units.old + ahead reader.old.splitter) }
+    ensures fed { fed reader.new.splitter ≡ fed reader.old.splitter }
+    ensures open { result ≡ Ok None → MayRead reader.new }
+    ensures sought { result ≡ Ok None → IsSought reader.new.splitter }
+    ensures within { result ≡ Ok None → reader.new.taken ≤ 2 ^ 40 }
+    ensures taken { reader.new.taken ≡ reader.old.taken }
+    ensures closed { reader.new.closed ≡ reader.old.closed }
+    ensures lowers { IfOk result (λ given. Lowers given (ahead reader.old.splitter) (ahead reader.new.splitter)) }
+    ensures held { HoldsFew reader.new }
+    ensures all { is_all reader.new.splitter ≡ is_all reader.old.splitter }
+    ensures ended { result ≡ Ok (Some End) → MayRead reader.new → ⊥ }
+    ensures told { IfOk result (IsToldBy assembler.new) }
+{
+    if let Some(span) = reader.next()? {
+        let taken = accept(assembler, reader.bytes(span), span.offset)?;
+        *units += 1;
+        return Ok(Some(taken));
+    }
+    if reader.is_open() {
+        return Ok(None);
+    }
+    assembler.finish()?;
+    Ok(Some(Taken::End))
+}
 
 impl Feed {
-    ghost use Rattle.std.specs.Prelude.{◌≡◌, ℕ, ◌^◌, ◌<◌, ◌≤◌, [], ◌∷◌, List, length, option_copied, Some, None, Ok, Err, IfOk, IfErr, OnOk, IsTrue};
+    ghost use Rattle.std.specs.Prelude.{◌≡◌, ℕ, ◌^◌, ◌<◌, ◌≤◌, [], ◌∷◌, List, option_copied, Some, None, Ok, Err, IfOk, IfErr, OnOk, IsTrue};
     ghost use Rattle.std.specs.Io.KnownBytes.{IsAtEnd};
     ghost use Rattle.vx_annexb.specs.ByteStream.{UnitPlace};
     ghost use Rattle.vx_annexb.specs.Held.{IsSought, fed, is_all};
-    ghost use Rattle.vx_assemble.specs.Held.{HasPicture};
     ghost use Rattle.vx_annexb.specs.Reading as reading;
     ghost use Rattle.vx_annexb.specs.declared.unit_reader.Closed.TheVariants as closed;
-    ghost use Rattle.vx_bits.specs.declared.list.Item.{Item};
-    ghost use Rattle.vx_pic.specs.Readings.{Reading, stored_sps, stored_pps, vps_read, completed, Picture as ReadPicture};
+    ghost use Rattle.vx_pic.specs.Readings.{Reading, stored_sps, stored_pps};
+    ghost use Rattle.vx_pic.specs.Told.{told_of};
+    ghost use Rattle.vx_assemble.specs.Held.{Stands, items_of};
+    ghost use Rattle.vx_assemble.specs.declared.feed.Taken.TheVariants.{End};
     ghost use Rattle.vx_pic.specs.Rules.{Readers};
     ghost use Rattle.vx_pic.specs.H266.{AreOfH266};
-    ghost use Rattle.vx_assemble.specs.declared.feed.Taken.TheVariants.{End};
-    ghost use Rattle.vx_assemble.specs.Feed.{HasFed, IsOpen, Gives, ReadsOn, IsToldBy, Lowers, left_to_take, first_of as first_by};
+    ghost use Rattle.vx_assemble.specs.Feed.{HasFed, IsOpen, Gives, ReadsOn, IsToldBy, Lowers, left_to_take, Takes, first_of as first_by};
+    ghost use Rattle.vx_assemble.specs.inner.Feed.{read_fault};
     ghost use Rattle.vx_assemble.specs.declared.fault.First.{First as FirstFault};
     ghost use Rattle.vx_assemble.specs.declared.feed.FeedFault.TheVariants.{Stopped};
 
     /// A feed that has read nothing.
-    pub fn new(_alloc: Global) -> Result<Feed, AllocError>
+    pub fn new(alloc: Global) -> Result<Feed, AllocError>
         ensures fed { IfOk result (λ f. (R : Readers) → HasFed R f [] [] []) }
+        ensures needed { OnOk result (reading.LastWasNeeded [] []) }
         ensures open { IfOk result IsOpen }
     {
-        Err(AllocError)
+        let reader = UnitReader::new(alloc)?;
+        Ok(Feed {
+            reader,
+            assembler: Assembler::new(alloc),
+            units: 0,
+            first: None,
+        })
     }
 
     /// Takes the next unit, in order, whose end is seen in what was read; at the end of the source it answers that. None
@@ -124,6 +228,7 @@ impl Feed {
         ensures again { (f : FirstFault) → self.old.first ≡ Some f → (result ≡ Err (Stopped f)) × (self.new ≡ self.old) }
         ensures open { result ≡ Ok None → IsOpen self.new }
         ensures sought { result ≡ Ok None → IsSought self.new.reader.splitter }
+        ensures within { result ≡ Ok None → self.new.reader.taken ≤ 2 ^ 40 }
         ensures taken { self.new.reader.taken ≡ self.old.reader.taken }
         ensures closed { self.new.reader.closed ≡ self.old.reader.closed }
         ensures lowers { IfOk result (λ given. Lowers given (left_to_take self.old) (left_to_take self.new)) }
@@ -132,7 +237,16 @@ impl Feed {
         ensures ended { result ≡ Ok (Some End) → ¬ IsOpen self.new }
         ensures told { IfOk result (IsToldBy self.new.assembler) }
     {
-        match self.never {}
+        if let Some(first) = self.first {
+            return Err(FeedFault::Stopped(first));
+        }
+        match take_seen(&mut self.reader, &mut self.assembler, &mut self.units) {
+            Ok(given) => Ok(given),
+            Err(fault) => {
+                self.first = Some(first_of(fault));
+                Err(fault)
+            }
+        }
     }
 
     /// Whether the source may be read on: it has not ended, has given no more bytes than the limit, and nothing has kept the
@@ -142,7 +256,10 @@ impl Feed {
         ensures closed { ¬ IsTrue result → ¬ IsOpen self.now }
         ensures within { IsTrue result → self.now.reader.taken ≤ 2 ^ 40 }
     {
-        match self.never {}
+        if self.first.is_some() {
+            return false;
+        }
+        self.reader.is_open()
     }
 
     /// Reads once, where `next` answered none last.
@@ -150,58 +267,78 @@ impl Feed {
     /// # Errors
     ///
     /// A failed read, or want of memory, for which nothing is read.
-    pub fn read(&mut self, _source: &mut dyn Source) -> Result<(), ReadFault>
+    pub fn read(&mut self, source: &mut dyn Source) -> Result<(), ReadFault>
         requires open { IsOpen self.old }
         requires sought { IsSought self.old.reader.splitter }
         ensures answer { (R : Readers) (g : List ℕ) (places : List UnitPlace) (before : List Reading) → HasFed R self.old g places before
-            → ReadsOn R g places before self.new (bytes_left _source.old) (bytes_left _source.new) (read_faults _source.old) (read_faults _source.new) result }
+            → ReadsOn R g places before self.new (bytes_left source.old) (bytes_left source.new) (read_faults source.old) (read_faults source.new) result }
         ensures going { OnOk result (self.new.first ≡ None) }
+        ensures first { IfErr result (λ e. self.new.first ≡ Some (first_by (read_fault e))) }
         ensures grows { OnOk result (IsOpen self.new → self.old.reader.taken < self.new.reader.taken) }
         ensures within { fed self.new.reader.splitter ≤ 2 ^ 40 }
-        ensures end { OnOk result (self.new.reader.closed ≡ Some closed.End → IsAtEnd (bytes_left _source.new)) }
+        ensures end { OnOk result (self.new.reader.closed ≡ Some closed.End → IsAtEnd (bytes_left source.new)) }
         ensures held { reading.HoldsFew self.new.reader }
     {
-        match self.never {}
+        match self.reader.read(source) {
+            Ok(()) => Ok(()),
+            Err(fault) => {
+                self.first = Some(first_of(FeedFault::from(fault)));
+                Err(fault)
+            }
+        }
     }
 
     /// How many units were taken.
     pub fn unit(&self) -> u64
         ensures { result ≡ self.now.units }
     {
-        match self.never {}
+        self.units
     }
 
-    /// The items of the VPS just taken.
-    pub fn vps(&self) -> &Fields
-        ensures { (R : Readers) → AreOfH266 R → (g : List ℕ) (places : List UnitPlace) (v : List Item) (before : List Reading)
-            → HasFed R self.now g places (vps_read v ∷ before) → result.now ≡ v }
+    /// The items of the set that was taken last, which was told as `what`.
+    pub fn fields(&self, what: Accepted) -> Option<&Fields>
+        ensures { (r : Reading) (before : List Reading) → Stands self.now.assembler (r ∷ before) → what ≡ told_of r before
+            → option_copied result ≡ items_of r }
     {
-        match self.never {}
+        self.assembler.fields(what)
     }
 
-    /// The SPS that is stored.
-    pub fn sps(&self, _id: u8) -> Option<&Sps>
-        ensures { (R : Readers) → AreOfH266 R → (g : List ℕ) (places : List UnitPlace) (before : List Reading)
-            → HasFed R self.now g places before → option_copied result ≡ stored_sps _id before }
+    /// The SPS of an id, where one is stored.
+    pub fn sps(&self, id: u8) -> Option<&Sps>
+        ensures { (before : List Reading) → Stands self.now.assembler before → option_copied result ≡ stored_sps id before }
     {
-        match self.never {}
+        self.assembler.sps(id)
     }
 
-    /// The PPS that is stored.
-    pub fn pps(&self, _id: u8) -> Option<&Pps>
-        ensures { (R : Readers) → AreOfH266 R → (g : List ℕ) (places : List UnitPlace) (before : List Reading)
-            → HasFed R self.now g places before → option_copied result ≡ stored_pps _id before }
+    /// The PPS of an id, where one is stored.
+    pub fn pps(&self, id: u8) -> Option<&Pps>
+        ensures { (before : List Reading) → Stands self.now.assembler before → option_copied result ≡ stored_pps id before }
     {
-        match self.never {}
+        self.assembler.pps(id)
     }
 
-    /// The picture that it holds.
-    pub fn picture(&self) -> PictureSeen
-        requires { HasPicture self.now.assembler }
-        ensures { (R : Readers) → AreOfH266 R → (g : List ℕ) (places : List UnitPlace) (r : Reading) (before : List Reading) (p : ReadPicture)
-            → HasFed R self.now g places (r ∷ before) → completed r before ≡ p ∷ []
-            → (result.kind ≡ p.kind) × (result.slices ≡ length p.slices) × (result.subpictures ≡ length p.begun.layout.subpics) }
+    /// Takes the next unit of the source: it is read for as long as no further unit's end is seen. At its end, and from then
+    /// on, that is the answer.
+    ///
+    /// # Errors
+    ///
+    /// `Refused` with the first rule that is broken; a failed read; want of memory; `Stopped` with the first of these from then
+    /// on. Then nothing is read.
+    pub fn take(&mut self, source: &mut dyn Source) -> Result<Taken, FeedFault>
+        ensures answer { (R : Readers) → AreOfH266 R → (g : List ℕ) (places : List UnitPlace) (before : List Reading)
+            → HasFed R self.old g places before → reading.LastWasNeeded g places
+            → Takes R g places before self.new (bytes_left source.old) (bytes_left source.new) (read_faults source.old) (read_faults source.new) result }
+        ensures first { IfErr result (λ e. self.new.first ≡ Some (first_by e)) }
+        ensures stopped { (f : FirstFault) → self.old.first ≡ Some f → (result ≡ Err (Stopped f)) × (self.new ≡ self.old)
+            × (bytes_left source.new ≡ bytes_left source.old) × (read_faults source.new ≡ read_faults source.old) }
+        ensures end { OnOk result (IsOpen self.old → self.new.reader.closed ≡ Some closed.End → IsAtEnd (bytes_left source.new)) }
+        ensures held { reading.HoldsFew self.new.reader }
     {
-        match self.never {}
+        loop {
+            if let Some(taken) = self.next()? {
+                return Ok(taken);
+            }
+            self.read(source)?;
+        }
     }
 }

@@ -1,11 +1,23 @@
-//! A stand-in.
+//! The pictures of a stream, one at a time: units are taken in order, and each picture is handed on with its last slice.
+//!
+//! An assembler keeps what later units are read under: the sets in force, the picture that was begun, and what the counts of
+//! later pictures come from. The relation `Stands` ties it to what the units before were read as.
 #![tactic(auto)]
 
 mod assembler;
+mod current;
 mod fault;
 mod feed;
+mod in_force;
+mod keep;
+mod readers;
+mod refusals;
+mod shared;
+mod state;
+mod take;
+mod unit;
 
 pub use assembler::Assembler;
 pub use fault::{AssembleFault, First};
-pub use feed::{Feed, FeedFault, PictureSeen, Taken};
+pub use feed::{Feed, FeedFault, Taken};
 pub use vx_pic::Accepted;

@@ -35,6 +35,7 @@ use Rattle.vx_fields.specs.declared.names.ph.TheConstants.{HAS_WEIGHTS}
 use Rattle.vx_rpl.specs.declared.entry.RplTable.{RplTable}
 use Rattle.vx_rpl.specs.Lists.{lists_form, weights, weights_form}
 use Rattle.vx_rpl.proofs.Passing.{lists_leave}
+use Rattle.vx_ph.proofs.Sets.{no_name}
 use Rattle.vx_ph.proofs.Spelling.{spells_follow}
 use Rattle.vx_ph.specs.Header.{front, lists_if_present, middle, weights_if_present, back, before_weights, header_form}
 use Rattle.vx_ph.specs.Id.{to_id, id_form, HeaderHasId}
@@ -105,14 +106,6 @@ begins_id table s total left items b =
     (leaves_present the_id (Plain (Latest pps_rpl_info_in_ph_flag)) (lists_form table) (lists_leave table the_id refl refl)) listed in
     first_part total left items (sections_form to_id s) (sections_form behind_id) (sections_leave the_id behind_id refl)
     (subst (Begins total left items) (sections_together to_id behind_id s) fronted)
-
--- a fresh scope has no name
-no_name : (n : ℕ) → has (set_of []) n ≡ false
-unfolding fresh
-no_name n = ap is_set (elim (cases_lt n 1024) [
-  | inl within ↦ get_or-replicate 1024 n 0 0 within
-  | inr past ↦ get_or_past (replicate 1024 0) n 0 (omega (arith, length-replicate {A = ℕ} 1024 0, past))
-])
 
 pub header_has_id : HeaderHasId
 unfolding id_form the_id fresh has_value knows_formula knows_width knows_range knows_presence hides_counter hides_row behind_field within_block depends behind_rows table_depends behind_table comes_always shows_row

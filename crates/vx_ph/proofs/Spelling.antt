@@ -12,7 +12,7 @@ use Rattle.vx_table.specs.Writing.{Writes}
 use Rattle.vx_table.specs.declared.writer.SpellError.TheVariants.{NoValue}
 use Rattle.vx_table.specs.Trailing.{is_trailing, ends_in_trailing, EndsAligned}
 use Rattle.vx_table.proofs.Aligned.{tables_end_aligned, ends_aligned_together}
-use Rattle.vx_table.proofs.Joined.{joined, items_joined}
+use Rattle.vx_table.proofs.Joined.{parted, joined, items_joined}
 use Rattle.vx_rpl.specs.declared.entry.RplTable.{RplTable}
 use Rattle.vx_ph.specs.declared.tables.TheConstants.{TRAILING}
 use Rattle.vx_ph.specs.Header.{header_form}
@@ -77,6 +77,31 @@ unit_of table s items fields = record {
       ∙ ap (λ more. items_along (header_form table s) fields.values ++ more) (sym (trails_nothing fields.end))
       ∙ sym (items_joined (form_of TRAILING) (pos 0 ∷ []) fields.follows);
 }
+
+-- a trailing has no item
+ends_bare : (s : List ℕ) (values : List ℤ) (end : List ℕ) → Follows (form_of TRAILING s) values end → items_along (form_of TRAILING s) values ≡ []
+unfolding form_of part one_field coding_at limits_at after has_value item_of
+ends_bare s values end (through value to_end) = refl
+
+pub of_unit : (table : RplTable) (s : List ℕ) (items : List Item) → AreUnit table s items → AreFields table s items
+unfolding unit_form
+of_unit table s items u =
+    let p = parted (header_form table s) (form_of TRAILING) u.follows in
+    record {
+      values = p.front;
+      end = p.mid;
+      follows = p.first;
+      all = u.all ∙ ap (items_along (unit_form table s)) p.all ∙ items_joined (form_of TRAILING) p.others p.first
+          ∙ ap (λ more. items_along (header_form table s) p.front ++ more) (ends_bare p.mid p.others u.end p.second)
+          ∙ append-nil (items_along (header_form table s) p.front);
+    }
+
+pub read_unit_is : {B : Type 0} (table : RplTable) (s : List ℕ) (old new : Place) (items : List Item) (b : B)
+    → Reads (unit_form table s) old [] (Ok b) new items → AreFields table s items
+read_unit_is table s old new items b reads =
+    let found = reads.is in
+    let on = spells_follow found.spelled in
+    of_unit table s items (record { values = found.values; end = on.0; follows = on.1; all = found.gained })
 
 -- it ends at a byte boundary
 unit_aligned : (table : RplTable) → EndsAligned (unit_form table)

@@ -1,10 +1,9 @@
 -- The numbers of the sets in force, which headers read.
-use Rattle.std.specs.Prelude.{◌≡◌, ℕ, IsTrue, List, slice_set}
+use Rattle.std.specs.Prelude.{◌≡◌, ◌≢◌, ◌≤◌, ◌<◌, ℕ, List, All, slice_set}
 use Rattle.vx_bits.specs.declared.list.Item.{Item}
 use Rattle.vx_table.specs.Scope.{fresh, loaded, joined}
-use Rattle.vx_table.specs.Depends.{has, Agree}
-use Rattle.vx_table.specs.Shown.{shown_items}
-use Rattle.vx_fields.specs.declared.sps.TheConstants.{sps_extra_ph_bit_present_flag}
+use Rattle.vx_table.specs.Depends.{set_of, Agree}
+use Rattle.vx_table.specs.Loaded.{number}
 use Rattle.vx_fields.specs.declared.pps.TheConstants.{pps_pic_parameter_set_id}
 use Rattle.vx_fields.specs.declared.names.ph.TheConstants.{EXTRA_PH_BITS}
 use Rattle.vx_rpl.specs.declared.entry.RplTable.{RplTable}
@@ -23,8 +22,11 @@ in_force sps pps = both_sets (loaded fresh sps) (loaded fresh pps) (extra_ph_bit
 abbrev pub structures : List Item → RplTable
 structures sps = table_of (is_weighted sps) sps
 
--- Sets that have the same items of some fields give scopes that agree on these.
+-- Sets that give each of some fields the same number, an SPS those below the first field of a PPS, and a PPS those from there on, and
+-- that ask for as many extra bits, give scopes that agree on these fields.
 abbrev pub SetsAgree : Type 0
-SetsAgree = (names : List ℕ) (sps other_sps pps other_pps : List Item) → IsTrue (has names sps_extra_ph_bit_present_flag)
-    → shown_items names sps ≡ shown_items names other_sps → shown_items names pps ≡ shown_items names other_pps
-    → Agree names (in_force sps pps) (in_force other_sps other_pps)
+SetsAgree = (fields : List ℕ) (sps other_sps pps other_pps : List Item)
+    → All (λ n. n < pps_pic_parameter_set_id → number sps n ≡ number other_sps n) fields
+    → All (λ n. pps_pic_parameter_set_id ≤ n → n ≢ EXTRA_PH_BITS → number pps n ≡ number other_pps n) fields
+    → extra_ph_bits_of sps ≡ extra_ph_bits_of other_sps
+    → Agree (set_of fields) (in_force sps pps) (in_force other_sps other_pps)

@@ -8,7 +8,7 @@ use Rattle.vx_table.specs.declared.rows.Cell.{Cell}
 use Rattle.vx_table.specs.Forms.{Form, ◌>>=◌, form_of}
 use Rattle.vx_table.specs.Spelling.{items_along}
 use Rattle.vx_table.specs.Values.{Follows, bits_along}
-use Rattle.vx_table.specs.Reading.{Reads}
+use Rattle.vx_table.specs.Reading.{Reads, at_front}
 use Rattle.vx_table.specs.Writing.{HaltsAt}
 use Rattle.vx_rpl.specs.declared.entry.RplTable.{RplTable}
 use Rattle.vx_rpl.specs.HeaderLists.{lists_of}
@@ -48,6 +48,13 @@ IsFront table s header old new =
 -- picture_header_rbsp( ) (7.3.2.7): the header, and a trailing
 unfoldable pub unit_form : RplTable → List ℕ → Form (List ℕ)
 unit_form table s = header_form table s >>= form_of TRAILING
+
+-- What a reader answers of an RBSP that is such a unit: its header, or the first refusal.
+abbrev pub ReadsUnit : RplTable → List ℕ → List ℕ → Result PictureHeader ReadError → Type 0
+ReadsUnit table s rbsp (Ok header) = ((new : Place) × Reads {B = Unit {0}} (unit_form table s) (at_front rbsp) [] (Ok tt) new header.fields)
+    × (header.lists ≡ lists_of table s header.fields)
+ReadsUnit table s rbsp (Err e) =
+    (new : Place) × ((items : List Item) × Reads {B = Unit {0}} (unit_form table s) (at_front rbsp) [] (Err e) new items)
 
 -- The bytes are the unit's.
 pub record IsUnit (table : RplTable) (s : List ℕ) (header : PictureHeader) (bytes : List ℕ) : Type 0 where

@@ -3,7 +3,7 @@ ghost use Rattle.vx_ph.specs.Depends.{KeptDepend, AllDepend, KeepsKept, ShowsAll
 ghost use Rattle.vx_ph.specs.Id.{HeaderHasId};
 ghost use Rattle.vx_ph.specs.InForce.{SetsAgree};
 
-/// Sets that have the same items of some fields give scopes that agree on these.
+/// Sets that give some fields the same numbers give scopes that agree on these.
 pub fn sets_agree()
     ensures { SetsAgree }
 {}

@@ -10,6 +10,7 @@ mod tables;
 #[cfg(test)]
 mod tests;
 mod under_sets;
+mod unit;
 mod walk;
 mod write;
 
@@ -25,6 +26,7 @@ pub use tables::{
     ALF, FILTERS, INTER, INTRA, LMCS_AND_SCALING, ORDER_COUNT, OUTPUT, PICTURE, PPS_ID, QP,
     TRAILING,
 };
-pub use under_sets::{read_ph, write_header, write_ph};
+pub use under_sets::{read_ph, read_ph_unit, write_header, write_ph};
+pub use unit::read_unit_at;
 pub use walk::code_header;
 pub use write::{write_header_at, write_unit_at};

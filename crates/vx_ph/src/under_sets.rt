@@ -1,11 +1,12 @@
 //! Picture headers under the sets in force.
-ghost use Rattle.std.specs.Prelude.{IfOk, OnOk, OnErr};
+ghost use Rattle.std.specs.Prelude.{◌≤◌, ◌^◌, length, IfOk, OnOk, OnErr};
 ghost use Rattle.vx_ph.specs.InForce.{in_force, structures};
-ghost use Rattle.vx_ph.specs.Picture.{IsHeader, ReadsHeader, IsSpelling, IsFront, IsUnit};
+ghost use Rattle.vx_ph.specs.Picture.{IsHeader, ReadsHeader, ReadsUnit, IsSpelling, IsFront, IsUnit};
 
 use crate::header::PictureHeader;
 use crate::read::read_header_at;
 use crate::scope::in_force;
+use crate::unit::read_unit_at;
 use crate::write::{write_header_at, write_unit_at};
 use std::alloc::{AllocError, Global};
 use vx_bits::{BitReader, BitWriter, ReadError};
@@ -27,6 +28,25 @@ pub fn read_ph(
     ensures value { IfOk result (λ header. IsHeader (structures sps.now) (in_force sps.now pps.now) header) }
 {
     read_header_at(alloc, bits, sps.table(), &in_force(sps, pps))
+}
+
+/// Reads the RBSP of a picture header that is a unit of its own, `picture_header_rbsp()`, clause 7.3.2.7: at most 2^23 bytes, with the
+/// trailing that ends them.
+///
+/// # Errors
+///
+/// The first refusal, of the trailing too; want of memory.
+pub fn read_ph_unit(
+    alloc: Global,
+    rbsp: &[u8],
+    sps: &Sps,
+    pps: &Pps,
+) -> Result<PictureHeader, ReadError>
+    requires { length rbsp.now ≤ 2 ^ 23 }
+    ensures answer { ReadsUnit (structures sps.now) (in_force sps.now pps.now) rbsp.now result }
+    ensures value { IfOk result (λ header. IsHeader (structures sps.now) (in_force sps.now pps.now) header) }
+{
+    read_unit_at(alloc, rbsp, sps.table(), &in_force(sps, pps))
 }
 
 /// Writes a picture header without a trailing.

@@ -3,15 +3,17 @@ ghost use Rattle.std.specs.Prelude.{◌≡◌};
 ghost use Rattle.vx_table.specs.Walks.{Walks, leaving};
 ghost use Rattle.vx_table.specs.Parts.{sections_form};
 ghost use Rattle.vx_ph.specs.Header.{front, lists_if_present, middle, weights_if_present, back, before_weights, header_form};
+ghost use Rattle.vx_ph.specs.Picture.{unit_form};
 
 use crate::tables::{
     ALF, FILTERS, INTER, INTRA, LMCS_AND_SCALING, ORDER_COUNT, OUTPUT, PICTURE, PPS_ID, QP,
+    TRAILING,
 };
 use vx_fields::names::ph::HAS_WEIGHTS;
 use vx_fields::pps::{pps_alf_info_in_ph_flag, pps_rpl_info_in_ph_flag};
 use vx_fields::sps::sps_alf_enabled_flag;
 use vx_rpl::{RplTable, code_lists, code_weights};
-use vx_table::{Coder, Scope, code_parts, parts};
+use vx_table::{Coder, Scope, code_parts, code_table, parts};
 
 /// Codes what stands before the reference picture lists.
 fn code_front<I, C: Coder<I>>(
@@ -119,4 +121,18 @@ pub fn code_header<I, C: Coder<I>>(
     code_before_weights(table, scope, coder, items)?;
     code_weights_if_present(scope, coder, items)?;
     code_back(scope, coder, items)
+}
+
+/// Codes a picture header that is a unit of its own, `picture_header_rbsp()`, clause 7.3.2.7.
+#[tactic(auto, unfolding(crate::specs::Picture::unit_form), using(vx_table::proofs::Steps::then, vx_table::proofs::Steps::stop))]
+pub(crate) fn code_unit<I, C: Coder<I>>(
+    table: &RplTable,
+    scope: &mut Scope,
+    coder: &mut C,
+    items: &mut I,
+) -> Result<(), C::Fault>
+    ensures { Walks C.step (unit_form table.now scope.old) coder.old items.old (leaving scope.new result) coder.new items.new }
+{
+    code_header(table, scope, coder, items)?;
+    code_table(&TRAILING, scope, coder, items)
 }

@@ -1,17 +1,15 @@
 //! Writing a picture header.
 ghost use Rattle.std.specs.Prelude.{◌≡◌, [], ◌++◌, IfOk, OnOk, OnErr};
-ghost use Rattle.vx_table.specs.Walks.{Walks, leaving};
 ghost use Rattle.vx_table.specs.Writing.{Writes};
 ghost use Rattle.vx_ph.specs.Header.{header_form};
 ghost use Rattle.vx_ph.specs.Picture.{IsHeader, IsSpelling, IsFront, IsUnit, unit_form};
 
 use crate::header::PictureHeader;
-use crate::tables::TRAILING;
-use crate::walk::code_header;
+use crate::walk::{code_header, code_unit};
 use std::alloc::{AllocError, Global};
 use vx_bits::BitWriter;
 use vx_rpl::RplTable;
-use vx_table::{Coder, Scope, SpellError, Unwritten, code_table};
+use vx_table::{Scope, SpellError, Unwritten};
 
 /// Writes the header whose items come next.
 fn write_fields(
@@ -47,20 +45,6 @@ pub fn write_header_at(
         Err(SpellError::Memory) => Err(AllocError),
         Err(SpellError::NoValue) => unreachable!(),
     }
-}
-
-/// Codes a picture header that is a unit of its own, `picture_header_rbsp()`, clause 7.3.2.7.
-#[tactic(auto, unfolding(crate::specs::Picture::unit_form), using(vx_table::proofs::Steps::then, vx_table::proofs::Steps::stop))]
-fn code_unit<I, C: Coder<I>>(
-    table: &RplTable,
-    scope: &mut Scope,
-    coder: &mut C,
-    items: &mut I,
-) -> Result<(), C::Fault>
-    ensures { Walks C.step (unit_form table.now scope.old) coder.old items.old (leaving scope.new result) coder.new items.new }
-{
-    code_header(table, scope, coder, items)?;
-    code_table(&TRAILING, scope, coder, items)
 }
 
 /// Writes the unit whose items come next.

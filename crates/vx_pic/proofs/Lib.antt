@@ -8,3 +8,6 @@ pub mod Again
 pub mod Sent
 pub mod Finishing
 pub mod Editing
+pub mod ApsLists
+pub mod StoredSets
+pub mod Spans

@@ -16,5 +16,7 @@ pub mod Edited
 pub mod Laws
 pub mod PictureLayout
 pub mod UnderSets
+pub mod Parts
 pub mod H266
 pub mod Told
+pub mod inner

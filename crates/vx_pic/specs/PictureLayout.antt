@@ -5,6 +5,8 @@ use Rattle.std.specs.List.{range_with_len, AllPairs}
 use Rattle.vx_bits.specs.declared.list.Item.{Item}
 use Rattle.vx_bits.specs.declared.refusal.Refusal.{Refusal}
 use Rattle.vx_bits.specs.declared.refusal.Refusal.TheVariants.{Structure}
+use Rattle.vx_bits.specs.declared.refusal.ReadError.{ReadError}
+use Rattle.vx_bits.specs.declared.refusal.ReadError.TheVariants.{Memory, Refused}
 use Rattle.vx_bits.specs.declared.rules.TheConstants.{LAYOUT}
 use Rattle.vx_fields.specs.declared.sps.TheConstants as sps_fields
 use Rattle.vx_fields.specs.declared.pps.TheConstants as pps_fields
@@ -22,11 +24,14 @@ use Rattle.vx_pps.specs.Pps as pps
 -- ---- tiles, slices and subpictures
 
 -- the bounds of the tile columns and rows, in CTUs; a picture that isn't partitioned is one tile
+abbrev pub one_tile : ℕ → List ℕ
+one_tile size = 0 ∷ size ∷ []
+
 abbrev pub columns_of : List Item → List Item → List ℕ
-columns_of s p = cond (pps.is_partitioned p) (pps.columns_of p) (0 ∷ sps.columns_of s ∷ [])
+columns_of s p = cond (pps.is_partitioned p) (pps.columns_of p) (one_tile (sps.columns_of s))
 
 abbrev pub rows_of : List Item → List Item → List ℕ
-rows_of s p = cond (pps.is_partitioned p) (pps.rows_of p) (0 ∷ sps.rows_of s ∷ [])
+rows_of s p = cond (pps.is_partitioned p) (pps.rows_of p) (one_tile (sps.rows_of s))
 
 -- the subpictures, by their index
 abbrev pub subpictures_of : List Item → List Rect
@@ -117,6 +122,15 @@ pub data IsFault (s p : List Item) : ℕ → Type 0 where
   numbers : {k : ℕ} → ctu_sizes_differ s p ≡ false → IdsAgree s p → IsLowestFault (numbers_in s p) k → IsFault s p k
 
 -- What the two sets give: the layout, or the refusal that names its lowest fault.
+abbrev pub layout_refusal : ℕ → Refusal
+layout_refusal k = Structure LAYOUT 0 k
+
 abbrev pub IsLayoutAnswer : List Item → List Item → Result Numbers Refusal → Type 0
 IsLayoutAnswer s p (Ok n) = MakeLayout s p × (n ≡ numbers_in s p)
-IsLayoutAnswer s p (Err r) = (k : ℕ) × IsFault s p k × (r ≡ Structure LAYOUT 0 k)
+IsLayoutAnswer s p (Err r) = (k : ℕ) × IsFault s p k × (r ≡ layout_refusal k)
+
+-- What is answered of them, unless memory runs out.
+abbrev pub AnswersLayout : List Item → List Item → Result Numbers ReadError → Type 0
+AnswersLayout s p (Ok n) = IsLayoutAnswer s p (Ok n)
+AnswersLayout s p (Err Memory) = Unit {0}
+AnswersLayout s p (Err (Refused r)) = IsLayoutAnswer s p (Err r)

@@ -5,15 +5,18 @@
 #![tactic(auto)]
 
 mod accepted;
+mod aps_list;
 mod count;
 mod kind;
 mod laws;
+mod picture;
 mod sets;
 #[cfg(test)]
 mod tests;
 mod unit_types;
 
 pub use accepted::Accepted;
+pub use aps_list::ApsList;
 pub use count::{CountFields, PrevTid0, picture_order_count};
 pub use kind::Kind;
 pub use laws::{
@@ -22,6 +25,7 @@ pub use laws::{
     reading_goes_on, seen_pictures_stay, stored_by_places, written_has_pictures,
     written_reads_again,
 };
+pub use picture::{Picture, PictureParts, SliceSlot, SliceSlots, SliceView};
 pub use sets::{PPS, SPS};
 pub use unit_types::{
     CRA_NUT, EOB_NUT, EOS_NUT, GDR_NUT, IDR_N_LP, IDR_W_RADL, PH_NUT, PPS_NUT, PREFIX_APS_NUT,

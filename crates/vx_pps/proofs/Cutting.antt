@@ -17,7 +17,7 @@ use Rattle.vx_table.specs.declared.rows.Row.{Row}
 use Rattle.vx_table.specs.declared.rows.Row.TheVariants.{Field}
 use Rattle.vx_table.specs.Claims.{hides_row}
 use Rattle.vx_table.specs.Depends.{Agree, has, set_of, with_all}
-use Rattle.vx_table.specs.Loaded.{StaysBelow, number}
+use Rattle.vx_table.specs.Loaded.{StaysBelow, number, row_below}
 use Rattle.vx_table.specs.Rewritten.{other_items}
 use Rattle.vx_table.specs.Scope.{fresh, is_set, loaded, value}
 use Rattle.vx_table.specs.Shown.{shown_items}
@@ -52,7 +52,7 @@ pub record Parts (items : List Item) (end : Partition) : Type 0 where
   pub all : items ≡ front_items ++ (division ++ tool_items)
 
 -- items of values of one form behind another
-gives_parts : {A B : Type 0} (form : Form A) (next : A → Form B) {items : List Item} {end : B} → Gives (form >>= next) items end
+pub gives_parts : {A B : Type 0} (form : Form A) (next : A → Form B) {items : List Item} {end : B} → Gives (form >>= next) items end
     → (mid : A) × (xs : List Item) × (ys : List Item) × Gives form xs mid × Gives (next mid) ys end × (items ≡ xs ++ ys)
 gives_parts form next {items} {end} gives =
     let p = parted form next gives.follows in (
@@ -70,7 +70,7 @@ at_end_of to_end = (refl, refl)
 done_only : {B : Type 0} {b end : B} {w : List ℤ} {items : List Item} → Follows (done b) w end → items_along (done b) w ≡ items → (items ≡ []) × (b ≡ end)
 done_only to_end given = (sym given, refl)
 
-at_done : {B : Type 0} {b end : B} {items : List Item} → Gives (done b) items end → (items ≡ []) × (b ≡ end)
+pub at_done : {B : Type 0} {b end : B} {items : List Item} → Gives (done b) items end → (items ≡ []) × (b ≡ end)
 at_done gives = done_only gives.follows gives.given
 
 -- behind a form nothing is left
@@ -142,7 +142,7 @@ pub unloaded : (names s : List ℕ) (items : List Item) → shown_items names it
 unloaded names s items none = agree_back (scopes_follow_items names s s items [] (agree_itself names s) none)
 
 -- a set of one has no other
-one_has : (of n : ℕ) → IsTrue (has (set_of (of ∷ [])) n) → n ≡ of
+pub one_has : (of n : ℕ) → IsTrue (has (set_of (of ∷ [])) n) → n ≡ of
 one_has of n h = elim (cases_eq n of) [
   | inl same ↦ same
   | inr other ↦ absurd (both_ways _ refl ((inside_nothing []).has_too n (ap is_set (sym (get_or-set_other fresh of n 1 0 other)) ∙ h)))
@@ -210,7 +210,7 @@ cut_items : (first more : List Section) (s : List ℕ) {v : List ℤ} (w : List 
 cut_items first more s {v} w {mid} follows = ap (λ f. items_along f (v ++ w)) (sections_together first more s) ∙ items_joined (sections_form more) w follows
 
 -- the shown items of five parts, of which one alone has some
-only_middle : (names : List ℕ) (a b c d e : List Item) → shown_items names a ≡ [] → shown_items names b ≡ [] → shown_items names c ≡ [] → shown_items names e ≡ [] → shown_items names (a ++ (b ++ (c ++ (d ++ e)))) ≡ shown_items names d
+pub only_middle : (names : List ℕ) (a b c d e : List Item) → shown_items names a ≡ [] → shown_items names b ≡ [] → shown_items names c ≡ [] → shown_items names e ≡ [] → shown_items names (a ++ (b ++ (c ++ (d ++ e)))) ≡ shown_items names d
 only_middle names a b c d e no_a no_b no_c no_e =
     let p : Item → Bool = λ item. has names item.field in
     filter-append p a (b ++ (c ++ (d ++ e))) ∙ ap (λ xs. xs ++ filter p (b ++ (c ++ (d ++ e)))) no_a
@@ -251,17 +251,20 @@ module _ {items : List Item} {end : Partition} (p : Parts items end) where
   scopes : Form (List ℕ)
   scopes = sections_form front fresh >>= λ s. (partition_at s >>= λ d. done s) >>= λ t. sections_form tools t
 
-  pub flag_below : (of : ℕ) → IsFlag of → (417 ≤ of → of ≤ 432 → ⊥) → number items of < 2
+  pub number_low : (of bound : ℕ) → 0 < bound → sections_pass (row_below of bound) front ≡ true → sections_pass (row_below of bound) tools ≡ true → (417 ≤ of → of ≤ 432 → ⊥) → number items of < bound
   unfolding scopes
-  flag_below of test outside =
+  number_low of bound some in_front in_tools outside =
       let given = gives_then (λ s. (partition_at s >>= λ d. done s) >>= λ t. sections_form tools t) p.first (gives_then (λ t. sections_form tools t) (gives_end (λ d. p.scope) p.second) p.third) in
-      let each : EachField (StaysBelow of 2) scopes =
-      each_then (StaysBelow of 2) (sections_form front fresh) (λ s. (partition_at s >>= λ d. done s) >>= λ t. sections_form tools t) (sections_stay_below of 2 front fresh (omega arith) test.0)
-      (λ s. each_then (StaysBelow of 2) (partition_at s >>= λ d. done s) (λ t. sections_form tools t)
-      (each_then (StaysBelow of 2) (partition_at s) (λ d. done s)
-      (each_weaker IsDividing (StaysBelow of 2) (partition_at s) (λ cell is has_one same v value. absurd (outside (subst (λ n. 417 ≤ n) same is.0) (subst (λ n. n ≤ 432) same is.1))) (each_division _ _ _)) (λ d. tt))
-      (λ t. sections_stay_below of 2 tools t (omega arith) test.1)) in
-      subst (λ xs. number xs of < 2) (given.given ∙ sym p.all) (number_below of 2 scopes given.values p.last (omega arith) each given.follows)
+      let each : EachField (StaysBelow of bound) scopes =
+      each_then (StaysBelow of bound) (sections_form front fresh) (λ s. (partition_at s >>= λ d. done s) >>= λ t. sections_form tools t) (sections_stay_below of bound front fresh some in_front)
+      (λ s. each_then (StaysBelow of bound) (partition_at s >>= λ d. done s) (λ t. sections_form tools t)
+      (each_then (StaysBelow of bound) (partition_at s) (λ d. done s)
+      (each_weaker IsDividing (StaysBelow of bound) (partition_at s) (λ cell is has_one same v value. absurd (outside (subst (λ n. 417 ≤ n) same is.0) (subst (λ n. n ≤ 432) same is.1))) (each_division _ _ _)) (λ d. tt))
+      (λ t. sections_stay_below of bound tools t some in_tools)) in
+      subst (λ xs. number xs of < bound) (given.given ∙ sym p.all) (number_below of bound scopes given.values p.last some each given.follows)
+
+  pub flag_below : (of : ℕ) → IsFlag of → (417 ≤ of → of ≤ 432 → ⊥) → number items of < 2
+  flag_below of test outside = number_low of 2 (omega arith) test.0 test.1 outside
 
   -- ---- the number that a table sets to 0 before its field
 

@@ -12,7 +12,7 @@ use Rattle.vx_table.specs.declared.rows.Fault.TheVariants.{Profile, Limit}
 use Rattle.vx_table.specs.declared.rows.Limits.{Limits}
 use Rattle.vx_table.specs.declared.rows.Limits.TheVariants.{Below, Within}
 use Rattle.vx_table.specs.EachField.{EachField}
-use Rattle.vx_table.specs.Forms.{Form, done, ◌>>=◌, has_value}
+use Rattle.vx_table.specs.Forms.{Form, done, field, ◌>>=◌, has_value}
 use Rattle.vx_table.specs.Scope.{is_set, natural, one_if, powers_below}
 use Rattle.vx_table.specs.Spelling.{HasCode, fault_of, item_of}
 use Rattle.vx_table.specs.Trailing.{is_trailing}
@@ -36,114 +36,124 @@ use Rattle.vx_pps.proofs.Pictures.{layouts_are}
 
 -- ---- its fields
 
--- one of the fields of tiles and slices, which isn't kept
+-- one of the fields between two, which isn't kept
+abbrev pub IsBetween : ℕ → ℕ → Cell ℕ → Type 0
+IsBetween low high cell = (low ≤ cell.field) × (cell.field ≤ high) × (cell.kept ≡ false) × (is_trailing cell.coding ≡ false)
+
+-- one of those of tiles and slices
 abbrev pub IsDividing : Cell ℕ → Type 0
-IsDividing cell = (417 ≤ cell.field) × (cell.field ≤ 432) × (cell.kept ≡ false) × (is_trailing cell.coding ≡ false)
+IsDividing cell = IsBetween 417 432 cell
 
-each_number : (of : ℕ) (limits : Limits ℕ) → 417 ≤ of → of ≤ 432 → EachField IsDividing (number of limits)
-unfolding is_trailing
-each_number of limits low high = ((low, high, refl, refl), λ v. tt)
+module _ (low high : ℕ) where
+  each_number : (of : ℕ) (limits : Limits ℕ) → low ≤ of → of ≤ high → EachField (IsBetween low high) (number of limits)
+  unfolding is_trailing
+  each_number of limits from upto = ((from, upto, refl, refl), λ v. tt)
 
-each_fixed : (of bits : ℕ) (limits : Limits ℕ) → 417 ≤ of → of ≤ 432 → EachField IsDividing (fixed of bits limits)
-unfolding fixed is_trailing
-each_fixed of bits limits low high = ((low, high, refl, refl), λ v. tt)
+  each_fixed : (of bits : ℕ) (limits : Limits ℕ) → low ≤ of → of ≤ high → EachField (IsBetween low high) (fixed of bits limits)
+  unfolding fixed is_trailing
+  each_fixed of bits limits from upto = ((from, upto, refl, refl), λ v. tt)
 
-each_cond : {A : Type 0} (b : Bool) (f g : Form A) → EachField IsDividing f → EachField IsDividing g → EachField IsDividing (cond b f g)
-each_cond true f g on off = on
-each_cond false f g on off = off
+  each_cond : {A : Type 0} (b : Bool) (f g : Form A) → EachField (IsBetween low high) f → EachField (IsBetween low high) g → EachField (IsBetween low high) (cond b f g)
+  each_cond true f g on off = on
+  each_cond false f g on off = off
 
-each_sizes : (of more left : ℕ) (sizes : List ℕ) → 417 ≤ of → of ≤ 432 → EachField IsDividing (sizes_from of more left sizes)
-unfolding is_trailing
-each_sizes of zero left sizes low high = tt
-each_sizes of (suc more) left sizes low high = ((low, high, refl, refl), λ v. each_sizes of more (left - (natural v + 1)) (sizes ++ (natural v + 1) ∷ []) low high)
+  each_sizes : (of more left : ℕ) (sizes : List ℕ) → low ≤ of → of ≤ high → EachField (IsBetween low high) (sizes_from of more left sizes)
+  unfolding is_trailing
+  each_sizes of zero left sizes from upto = tt
+  each_sizes of (suc more) left sizes from upto = ((from, upto, refl, refl), λ v. each_sizes of more (left - (natural v + 1)) (sizes ++ (natural v + 1) ∷ []) from upto)
 
-each_counted : (of bound : ℕ) → 417 ≤ of → of ≤ 432 → EachField IsDividing (counted of bound)
-unfolding counted
-each_counted of bound low high = each_number of (below bound) low high
+  each_counted : (of bound : ℕ) → low ≤ of → of ≤ high → EachField (IsBetween low high) (counted of bound)
+  unfolding counted
+  each_counted of bound from upto = each_number of (below bound) from upto
 
-each_sizes_of : (of count total : ℕ) → 417 ≤ of → of ≤ 432 → EachField IsDividing (sizes_of of count total)
-unfolding sizes_of
-each_sizes_of of count total low high = each_sizes of count total [] low high
+  each_sizes_of : (of count total : ℕ) → low ≤ of → of ≤ high → EachField (IsBetween low high) (sizes_of of count total)
+  unfolding sizes_of
+  each_sizes_of of count total from upto = each_sizes of count total [] from upto
 
-each_tiles : (columns rows : ℕ) → EachField IsDividing (tiles_among columns rows)
+  each_wider : {A : Type 0} (less more : ℕ) (f : Form A) → low ≤ less → more ≤ high → EachField (IsBetween less more) f → EachField (IsBetween low high) f
+  each_wider less more (done a) from upto each = tt
+  each_wider less more (field cell goes) from upto each =
+      ((omega (arith, from, each.0.0), omega (arith, upto, each.0.1), each.0.2, each.0.3), λ v. each_wider less more (goes v) from upto (each.1 v))
+
+pub each_tiles : (columns rows : ℕ) → EachField (IsBetween 418 421) (tiles_among columns rows)
 unfolding tiles_among
 each_tiles columns rows =
-    each_then _ _ _ (each_counted pps.pps_num_exp_tile_columns_minus1 columns (omega arith) (omega arith))
-    (λ c. each_then _ _ _ (each_counted pps.pps_num_exp_tile_rows_minus1 rows (omega arith) (omega arith))
-    (λ r. each_then _ _ _ (each_sizes_of pps.pps_tile_column_width_minus1 (c + 1) columns (omega arith) (omega arith))
-    (λ w. each_then _ _ _ (each_sizes_of pps.pps_tile_row_height_minus1 (r + 1) rows (omega arith) (omega arith)) (λ h. tt))))
+    each_then _ _ _ (each_counted 418 421 pps.pps_num_exp_tile_columns_minus1 columns (omega arith) (omega arith))
+    (λ c. each_then _ _ _ (each_counted 418 421 pps.pps_num_exp_tile_rows_minus1 rows (omega arith) (omega arith))
+    (λ r. each_then _ _ _ (each_sizes_of 418 421 pps.pps_tile_column_width_minus1 (c + 1) columns (omega arith) (omega arith))
+    (λ w. each_then _ _ _ (each_sizes_of 418 421 pps.pps_tile_row_height_minus1 (r + 1) rows (omega arith) (omega arith)) (λ h. tt))))
 
-each_tile_flags : (g : Tiles) → EachField IsDividing (tile_flags g)
+pub each_tile_flags : (g : Tiles) → EachField (IsBetween 422 423) (tile_flags g)
 unfolding tile_flags
 each_tile_flags g =
-    each_cond (ltb 1 (across g * down g)) (flag pps.pps_loop_filter_across_tiles_enabled_flag >>= λ v. fixed pps.pps_rect_slice_flag 1 (Within (pos 1) 1 (Profile RASTER_SCAN_SLICES))) (done 1)
-    (each_then _ _ _ (each_fixed pps.pps_loop_filter_across_tiles_enabled_flag 1 (below 2) (omega arith) (omega arith))
-    (λ v. each_fixed pps.pps_rect_slice_flag 1 (Within (pos 1) 1 (Profile RASTER_SCAN_SLICES)) (omega arith) (omega arith)))
+    each_cond 422 423 (ltb 1 (across g * down g)) (flag pps.pps_loop_filter_across_tiles_enabled_flag >>= λ v. fixed pps.pps_rect_slice_flag 1 (Within (pos 1) 1 (Profile RASTER_SCAN_SLICES))) (done 1)
+    (each_then _ _ _ (each_fixed 422 423 pps.pps_loop_filter_across_tiles_enabled_flag 1 (below 2) (omega arith) (omega arith))
+    (λ v. each_fixed 422 423 pps.pps_rect_slice_flag 1 (Within (pos 1) 1 (Profile RASTER_SCAN_SLICES)) (omega arith) (omega arith)))
     tt
 
-each_width : (g : Tiles) (t : ℕ) → EachField IsDividing (width_in_tiles g t)
+each_width : (g : Tiles) (t : ℕ) → EachField (IsBetween 425 432) (width_in_tiles g t)
 each_width g t =
     let limits : Limits ℕ = below (across g - column g t) in
-    each_cond (eqb (column g t + 1) (across g)) (done 0) (number pps.pps_slice_width_in_tiles_minus1 limits) tt (each_number pps.pps_slice_width_in_tiles_minus1 limits (omega arith) (omega arith))
+    each_cond 425 432 (eqb (column g t + 1) (across g)) (done 0) (number pps.pps_slice_width_in_tiles_minus1 limits) tt (each_number 425 432 pps.pps_slice_width_in_tiles_minus1 limits (omega arith) (omega arith))
 
-each_height : (g : Tiles) (deltas : Bool) (t before : ℕ) → EachField IsDividing (height_in_tiles g deltas t before)
+each_height : (g : Tiles) (deltas : Bool) (t before : ℕ) → EachField (IsBetween 425 432) (height_in_tiles g deltas t before)
 each_height g deltas t before =
     let limits : Limits ℕ = below (down g - row g t) in
     let spelled : Form ℕ = number pps.pps_slice_height_in_tiles_minus1 limits in
-    each_cond (eqb (row g t + 1) (down g)) (done 0) (cond (spells_height g deltas t) spelled (done before)) tt
-    (each_cond (spells_height g deltas t) spelled (done before) (each_number pps.pps_slice_height_in_tiles_minus1 limits (omega arith) (omega arith)) tt)
+    each_cond 425 432 (eqb (row g t + 1) (down g)) (done 0) (cond (spells_height g deltas t) spelled (done before)) tt
+    (each_cond 425 432 (spells_height g deltas t) spelled (done before) (each_number 425 432 pps.pps_slice_height_in_tiles_minus1 limits (omega arith) (omega arith)) tt)
 
-each_strips : (t : Rect) (last more y size : ℕ) (slices : List Rect) → EachField IsDividing (strips_from t last more y size slices)
+each_strips : (t : Rect) (last more y size : ℕ) (slices : List Rect) → EachField (IsBetween 425 432) (strips_from t last more y size slices)
 unfolding is_trailing
 each_strips t last_one zero y size slices = tt
 each_strips t last_one (suc more) y size slices = ((omega arith, omega arith, refl, refl), λ v. each_strips t last_one more (y + (natural v + 1)) (natural v + 1) _)
 
-each_in_tile : (t : Rect) (last : ℕ) (slices : List Rect) → EachField IsDividing (slices_in_tile t last slices)
+each_in_tile : (t : Rect) (last : ℕ) (slices : List Rect) → EachField (IsBetween 425 432) (slices_in_tile t last slices)
 unfolding is_trailing
 each_in_tile t last_one slices =
-    ((omega arith, omega arith, refl, refl), λ v. each_cond (eqb (natural v) 0) (done (slices ++ t ∷ [])) (strips_from t last_one (natural v) t.y 0 slices) tt (each_strips t last_one (natural v) t.y 0 slices))
+    ((omega arith, omega arith, refl, refl), λ v. each_cond 425 432 (eqb (natural v) 0) (done (slices ++ t ∷ [])) (strips_from t last_one (natural v) t.y 0 slices) tt (each_strips t last_one (natural v) t.y 0 slices))
 
-each_slices_at : (g : Tiles) (last t width height : ℕ) (slices : List Rect) → EachField IsDividing (slices_at g last t width height slices)
+each_slices_at : (g : Tiles) (last t width height : ℕ) (slices : List Rect) → EachField (IsBetween 425 432) (slices_at g last t width height slices)
 each_slices_at g last_one t width height slices =
-    each_cond (may_be_cut width height (tile g t)) (slices_in_tile (tile g t) last_one slices) (done (slices ++ block g t (width + 1) (height + 1) ∷ [])) (each_in_tile (tile g t) last_one slices) tt
+    each_cond 425 432 (may_be_cut width height (tile g t)) (slices_in_tile (tile g t) last_one slices) (done (slices ++ block g t (width + 1) (height + 1) ∷ [])) (each_in_tile (tile g t) last_one slices) tt
 
-each_after : (g : Tiles) (spelled : Bool) (t width height : ℕ) → EachField IsDividing (tile_after g spelled t width height)
+each_after : (g : Tiles) (spelled : Bool) (t width height : ℕ) → EachField (IsBetween 425 432) (tile_after g spelled t width height)
 unfolding is_trailing
-each_after g spelled t width height = each_cond spelled (delta g t) (done (tile_behind g t width height)) ((omega arith, omega arith, refl, refl), λ v. tt) tt
+each_after g spelled t width height = each_cond 425 432 spelled (delta g t) (done (tile_behind g t width height)) ((omega arith, omega arith, refl, refl), λ v. tt) tt
 
-each_turn : (g : Tiles) (last : ℕ) (deltas : Bool) (at : Listed) → EachField IsDividing (turn g last deltas at)
+each_turn : (g : Tiles) (last : ℕ) (deltas : Bool) (at : Listed) → EachField (IsBetween 425 432) (turn g last deltas at)
 each_turn g last_one deltas at =
     each_then _ _ _ (each_width g at.next)
     (λ width. each_then _ _ _ (each_height g deltas at.next at.before)
     (λ height. each_then _ _ _ (each_slices_at g last_one at.next width height at.slices)
     (λ slices. each_then _ _ _ (each_after g (spells_delta deltas slices last_one) at.next width height) (λ next. tt))))
 
-each_turns : (g : Tiles) (last : ℕ) (deltas : Bool) (more : ℕ) (at : Listed) → EachField IsDividing (turns_from g last deltas more at)
+each_turns : (g : Tiles) (last : ℕ) (deltas : Bool) (more : ℕ) (at : Listed) → EachField (IsBetween 425 432) (turns_from g last deltas more at)
 each_turns g last_one deltas zero at = tt
 each_turns g last_one deltas (suc more) at =
-    each_cond (goes_on g last_one at) (turn g last_one deltas at >>= turns_from g last_one deltas more) (done at)
-    (each_then IsDividing (turn g last_one deltas at) (turns_from g last_one deltas more) (each_turn g last_one deltas at) (λ next. each_turns g last_one deltas more next)) tt
+    each_cond 425 432 (goes_on g last_one at) (turn g last_one deltas at >>= turns_from g last_one deltas more) (done at)
+    (each_then (IsBetween 425 432) (turn g last_one deltas at) (turns_from g last_one deltas more) (each_turn g last_one deltas at) (λ next. each_turns g last_one deltas more next)) tt
 
-each_deltas : (last : ℕ) → EachField IsDividing (deltas_flag last)
+each_deltas : (last : ℕ) → EachField (IsBetween 425 432) (deltas_flag last)
 unfolding deltas_flag
-each_deltas last_one = each_cond (ltb 1 last_one) (flag pps.pps_tile_idx_delta_present_flag) (done 0) (each_fixed pps.pps_tile_idx_delta_present_flag 1 (below 2) (omega arith) (omega arith)) tt
+each_deltas last_one = each_cond 425 432 (ltb 1 last_one) (flag pps.pps_tile_idx_delta_present_flag) (done 0) (each_fixed 425 432 pps.pps_tile_idx_delta_present_flag 1 (below 2) (omega arith) (omega arith)) tt
 
-each_across : (last : ℕ) (inside : Bool) → EachField IsDividing (across_flag last inside)
+each_across : (last : ℕ) (inside : Bool) → EachField (IsBetween 425 432) (across_flag last inside)
 unfolding across_flag
 each_across last_one inside =
     let either : Form ℕ = cond inside (flag pps.pps_loop_filter_across_slices_enabled_flag) (impossible_flag pps.pps_loop_filter_across_slices_enabled_flag) in
-    each_cond (eqb last_one 0) (done 0) either tt
-    (each_cond inside (flag pps.pps_loop_filter_across_slices_enabled_flag) (impossible_flag pps.pps_loop_filter_across_slices_enabled_flag)
-    (each_fixed pps.pps_loop_filter_across_slices_enabled_flag 1 (below 2) (omega arith) (omega arith)) (each_fixed pps.pps_loop_filter_across_slices_enabled_flag 1 (below 0) (omega arith) (omega arith)))
+    each_cond 425 432 (eqb last_one 0) (done 0) either tt
+    (each_cond 425 432 inside (flag pps.pps_loop_filter_across_slices_enabled_flag) (impossible_flag pps.pps_loop_filter_across_slices_enabled_flag)
+    (each_fixed 425 432 pps.pps_loop_filter_across_slices_enabled_flag 1 (below 2) (omega arith) (omega arith)) (each_fixed 425 432 pps.pps_loop_filter_across_slices_enabled_flag 1 (below 0) (omega arith) (omega arith)))
 
-each_last : EachField IsDividing last_slice
+each_last : EachField (IsBetween 425 432) last_slice
 unfolding last_slice
-each_last = each_number pps.pps_num_slices_in_pic_minus1 (Below 1000 (Limit TOO_MANY_SLICES)) (omega arith) (omega arith)
+each_last = each_number 425 432 pps.pps_num_slices_in_pic_minus1 (Below 1000 (Limit TOO_MANY_SLICES)) (omega arith) (omega arith)
 
-each_list : (g : Tiles) (last : ℕ) (deltas : Bool) → EachField IsDividing (list_from g last deltas)
-each_list g last_one deltas = each_then IsDividing (turns_from g last_one deltas last_one none_listed) (λ at. done (all_slices g last_one at)) (each_turns g last_one deltas last_one none_listed) (λ at. tt)
+each_list : (g : Tiles) (last : ℕ) (deltas : Bool) → EachField (IsBetween 425 432) (list_from g last deltas)
+each_list g last_one deltas = each_then (IsBetween 425 432) (turns_from g last_one deltas last_one none_listed) (λ at. done (all_slices g last_one at)) (each_turns g last_one deltas last_one none_listed) (λ at. tt)
 
-each_listed : (g : Tiles) → EachField IsDividing (listed_slices g)
+each_listed : (g : Tiles) → EachField (IsBetween 425 432) (listed_slices g)
 unfolding listed_slices
 each_listed g =
     each_then _ _ _ each_last
@@ -151,24 +161,24 @@ each_listed g =
     (λ deltas. each_then _ _ _ (each_list g last_one (is_set deltas))
     (λ slices. each_then _ _ _ (each_across last_one (is_some slices)) (λ across_. tt))))
 
-each_among : (g : Tiles) (single : ℕ) → EachField IsDividing (slices_among g single)
+pub each_among : (g : Tiles) (single : ℕ) → EachField (IsBetween 425 432) (slices_among g single)
 unfolding slices_among subpicture_slices
 each_among g single =
-    each_cond (is_set single) (flag pps.pps_loop_filter_across_slices_enabled_flag >>= λ v. done None) (listed_slices g)
-    (each_then _ _ _ (each_fixed pps.pps_loop_filter_across_slices_enabled_flag 1 (below 2) (omega arith) (omega arith)) (λ v. tt)) (each_listed g)
+    each_cond 425 432 (is_set single) (flag pps.pps_loop_filter_across_slices_enabled_flag >>= λ v. done None) (listed_slices g)
+    (each_then _ _ _ (each_fixed 425 432 pps.pps_loop_filter_across_slices_enabled_flag 1 (below 2) (omega arith) (omega arith)) (λ v. tt)) (each_listed g)
 
 each_divided : (width height : ℕ) → EachField IsDividing (divided width height)
 unfolding divided
 each_divided width height =
-    each_then _ _ _ (each_fixed pps.pps_log2_ctu_size_minus5 2 (below 3) (omega arith) (omega arith))
-    (λ log2. each_then _ _ _ (each_tiles (ctus width log2) (ctus height log2))
-    (λ g. each_then _ _ _ (each_tile_flags g)
-    (λ r. each_then _ _ _ (each_fixed pps.pps_single_slice_per_subpic_flag 1 (below 2) (omega arith) (omega arith))
-    (λ single. each_then _ _ _ (each_among g single) (λ slices. tt)))))
+    each_then _ _ _ (each_fixed 417 432 pps.pps_log2_ctu_size_minus5 2 (below 3) (omega arith) (omega arith))
+    (λ log2. each_then _ _ _ (each_wider 417 432 418 421 (tiles_among (ctus width log2) (ctus height log2)) (omega arith) (omega arith) (each_tiles (ctus width log2) (ctus height log2)))
+    (λ g. each_then _ _ _ (each_wider 417 432 422 423 (tile_flags g) (omega arith) (omega arith) (each_tile_flags g))
+    (λ r. each_then _ _ _ (each_fixed 417 432 pps.pps_single_slice_per_subpic_flag 1 (below 2) (omega arith) (omega arith))
+    (λ single. each_then _ _ _ (each_wider 417 432 425 432 (slices_among g single) (omega arith) (omega arith) (each_among g single)) (λ slices. tt)))))
 
 pub each_division : (whole width height : ℕ) → EachField IsDividing (partition whole width height)
 unfolding partition
-each_division whole width height = each_cond (is_set whole) (done undivided) (divided width height) tt (each_divided width height)
+each_division whole width height = each_cond 417 432 (is_set whole) (done undivided) (divided width height) tt (each_divided width height)
 
 -- ---- what is stated goes through
 

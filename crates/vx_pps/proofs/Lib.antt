@@ -6,6 +6,7 @@ mod Turning
 mod Told
 mod Sets
 mod Spelling
+mod Ended
 mod Limits
 pub mod Blocks
 pub mod Runs

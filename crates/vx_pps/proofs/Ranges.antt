@@ -1,8 +1,10 @@
 -- What the range of a field says of its number.
-use Rattle.std.proofs.Common.{◌≡◌, ◌&&◌, ℕ, ℤ, pos, negsuc, ◌+◌, ◌-◌, ◌^◌, ◌<◌, ◌≤◌, min, Bool, true, false, cond, None, Some, Result, Ok, Err, IfOk, inl, inr, refl, sym, arith, leb, ltb}
+use Rattle.std.proofs.Common.{◌≡◌, ◌&&◌, ℕ, ℤ, pos, negsuc, ◌+◌, ◌-◌, ◌*◌, ◌^◌, ◌<◌, ◌≤◌, min, Bool, true, false, cond, None, Some, Result, Ok, Err, IfOk, inl, inr, refl, sym, arith, leb, ltb}
+use Rattle.std.proofs.Math.Nat.{mul-le-mul_left}
 use Rattle.std.proofs.Math.Pow.{pow_mono}
+use Rattle.std.proofs.lemmas.Grind.{div_ceil_times}
 use Rattle.std.proofs.lemmas.Option.{none-some}
-use Rattle.std.proofs.lemmas.Bool.{cases_Bool, leb-true, ltb-true}
+use Rattle.std.proofs.lemmas.Bool.{cases_Bool, le-leb, leb-true, ltb-true}
 use Rattle.std.specs.Int.{div_ceil, saturate_to_bits}
 use Rattle.vx_table.specs.declared.rows.Fault.{Fault}
 use Rattle.vx_table.specs.declared.rows.Fault.TheVariants.{OutOfRange}
@@ -60,6 +62,19 @@ height_fits true left room v range = elim (cases_Bool (leb 1 left)) [
       omega (arith, leb-true v (left - 1) (and-right (leb (div_ceil left room - 1) v) (leb v (left - 1)) inside), leb-true 1 left some)
   | inr none ↦ omega (arith, below_bound left v (rw none at range))
 ]
+
+and-left : (a b : Bool) → (a && b) ≡ true → a ≡ true
+and-left true b e = refl
+and-left false b e = absurd (grind (arith, e))
+
+-- and the last one is so high that as many of its height as there is room for cover what is left
+pub height_suffices : (left room v : ℕ) → 1 ≤ room → 1 ≤ left → fault_of (height_limits true left room) (pos v) ≡ None → left ≤ room * (v + 1)
+unfolding fault_of
+height_suffices left room v some more range =
+    let is : leb 1 left ≡ true = le-leb 1 left more in
+    let inside = none_when (leb (div_ceil left room - 1) v && leb v (left - 1)) OutOfRange (rw is at range) in
+    let low : div_ceil left room ≤ v + 1 = omega (arith, leb-true (div_ceil left room - 1) v (and-left (leb (div_ceil left room - 1) v) (leb v (left - 1)) inside)) in
+    omega (arith, (div_ceil_times left room (omega arith)).0, mul-le-mul_left room low)
 
 -- what holds of an answer holds too where it says more
 pub ok_by : {T E : Type 0} {P Q : T → Type 0} (r : Result T E) → ((t : T) → P t → Q t) → IfOk r P → IfOk r Q

@@ -248,3 +248,26 @@ pub flags_are : IsFlag pps.pps_no_pic_partition_flag × IsFlag pps.pps_weighted_
     × IsFlag pps.pps_rpl_info_in_ph_flag × IsFlag pps.pps_sao_info_in_ph_flag × IsFlag pps.pps_wp_info_in_ph_flag
 unfolding has_value row_below code_below range_below
 flags_are = ((refl, refl), (refl, refl), (refl, refl), (refl, refl), (refl, refl), (refl, refl), (refl, refl), (refl, refl))
+
+-- two fields that tiles and slices alone have
+abbrev pub ctb_size : List ℕ
+ctb_size = set_of (pps.pps_log2_ctu_size_minus5 ∷ [])
+
+abbrev pub single_slices : List ℕ
+single_slices = set_of (pps.pps_single_slice_per_subpic_flag ∷ [])
+
+pub ctb_size_unshown : (sections_pass (hides_row ctb_size) front ≡ true) × (sections_pass (hides_row ctb_size) tools ≡ true)
+unfolding fresh hides_counter hides_row
+ctb_size_unshown = (refl, refl)
+
+pub single_slices_unshown : (sections_pass (hides_row single_slices) front ≡ true) × (sections_pass (hides_row single_slices) tools ≡ true)
+unfolding fresh hides_counter hides_row
+single_slices_unshown = (refl, refl)
+
+-- no size is greater
+abbrev pub IsLow : ℕ → Type 0
+IsLow of = (sections_pass (row_below of 16385) front ≡ true) × (sections_pass (row_below of 16385) tools ≡ true)
+
+pub sizes_are : IsLow pps.pps_pic_width_in_luma_samples × IsLow pps.pps_pic_height_in_luma_samples
+unfolding has_value row_below code_below range_below
+sizes_are = ((refl, refl), (refl, refl))

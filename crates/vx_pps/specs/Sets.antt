@@ -1,5 +1,7 @@
 -- What holds of picture parameter sets: how they are spelled, and what their kept fields depend on.
-use Rattle.std.specs.Prelude.{◌≡◌, ◌⊎◌, ◌≤◌, ℕ, not, true, false, List, [], ◌∷◌, ◌++◌, filter, Result, Ok, Err}
+use Rattle.std.specs.Prelude.{◌≡◌, ◌⊎◌, ◌+◌, ◌^◌, ◌<◌, ◌≤◌, ◌&&◌, ℕ, Bool, not, true, false, List, [], ◌∷◌, ◌++◌, filter, length}
+use Rattle.std.specs.Prelude.{All, IfSome, is_some, Result, Ok, Err}
+use Rattle.std.specs.Int.{div_ceil}
 use Rattle.vx_bits.specs.declared.list.Item.{Item}
 use Rattle.vx_bits.specs.declared.refusal.ReadError.{ReadError}
 use Rattle.vx_bits.specs.declared.refusal.ReadError.TheVariants as errors
@@ -7,17 +9,21 @@ use Rattle.vx_fields.specs.declared.pps.TheConstants as pps
 use Rattle.vx_fields.specs.declared.names.pps.TheConstants.{LIST, OFFSET, PARTITIONED, HAS_DBF_INFO, IS_WEIGHTED, HAS_WP_INFO}
 use Rattle.vx_table.specs.Depends.{has, set_of, DependsOnlyOn}
 use Rattle.vx_table.specs.EachField.{EachField}
+use Rattle.vx_table.specs.Loaded.{number}
 use Rattle.vx_table.specs.Parts.{sections_form}
 use Rattle.vx_table.specs.Reading.{ReadsValue}
 use Rattle.vx_table.specs.Rewritten.{other_items}
+use Rattle.vx_table.specs.Scope.{is_set}
 use Rattle.vx_table.specs.Shown.{shown_items, KeepsOnly}
 use Rattle.vx_pps.specs.declared.shape.TheConstants.{TAKEN, TAKEN_FOR_FRAME}
+use Rattle.vx_layout.specs.declared.rect.Rect.{Rect}
 use Rattle.vx_layout.specs.Bounds.{Rises, last}
+use Rattle.vx_layout.specs.Shapes.{HasCtu}
 use Rattle.vx_pps.specs.declared.partition.Partition.{Partition}
 use Rattle.vx_pps.specs.declared.tiles.Tiles.{Tiles}
 use Rattle.vx_pps.specs.Tiles.{IsGrid}
 use Rattle.vx_pps.specs.Partition.{partition}
-use Rattle.vx_pps.specs.Pps.{IsItems, IsPps, IsSpelling, front, is_partitioned, pps_form, tools}
+use Rattle.vx_pps.specs.Pps.{IsItems, IsPps, IsSpelling, columns_of, front, is_partitioned, pps_form, rows_of, slices_of, tools}
 
 -- ---- spelling
 
@@ -74,3 +80,45 @@ pub record AreTilesInLimits (g : Tiles) : Type 0 where
 abbrev pub TilesAreInLimits : Type 0
 TilesAreInLimits =
     (items : List Item) (end : Partition) → IsPps items end → is_partitioned items ≡ true → AreTilesInLimits end.tiles
+
+-- ---- what a layout is made of
+
+-- bounds of so many CTUs, as a layout takes them: there are two at least, and not more CTUs than a picture has
+pub record AreBounds (bounds : List ℕ) (total : ℕ) : Type 0 where
+  pub several : 2 ≤ length bounds
+  pub rises : Rises bounds
+  pub all : last bounds ≡ total
+  pub low : total ≤ 512
+
+-- slices, as a layout takes them: there is one at least, and not more than 1,000, and each holds a CTU
+pub record AreSlices (slices : List Rect) : Type 0 where
+  pub some : 1 ≤ length slices
+  pub few : length slices ≤ 1000
+  pub each : All HasCtu slices
+
+-- the size of a CTU in luma samples (CtbSizeY), where the picture is partitioned
+abbrev pub ctb_size_of : List Item → ℕ
+ctb_size_of items = 2 ^ (number items pps.pps_log2_ctu_size_minus5 + 5)
+
+-- the CTUs across and down (PicWidthInCtbsY, PicHeightInCtbsY)
+abbrev pub columns_in : List Item → ℕ
+columns_in items = div_ceil (number items pps.pps_pic_width_in_luma_samples) (ctb_size_of items)
+
+abbrev pub rows_in : List Item → ℕ
+rows_in items = div_ceil (number items pps.pps_pic_height_in_luma_samples) (ctb_size_of items)
+
+-- pps_single_slice_per_subpic_flag is 1: each subpicture is a slice
+abbrev pub is_single : List Item → Bool
+is_single items = is_set (number items pps.pps_single_slice_per_subpic_flag)
+
+-- Of a partitioned picture a set tells the tiles, and the slices unless each subpicture is one; of another neither.
+pub record TellsPartition (items : List Item) : Type 0 where
+  pub ctb : is_partitioned items ≡ true → number items pps.pps_log2_ctu_size_minus5 < 3
+  pub columns : is_partitioned items ≡ true → AreBounds (columns_of items) (columns_in items)
+  pub rows : is_partitioned items ≡ true → AreBounds (rows_of items) (rows_in items)
+  pub no_tiles : is_partitioned items ≡ false → (columns_of items ≡ []) × (rows_of items ≡ [])
+  pub named : is_some (slices_of items) ≡ (is_partitioned items && not (is_single items))
+  pub slices : IfSome (slices_of items) AreSlices
+
+abbrev pub SetsTellPartitions : Type 0
+SetsTellPartitions = (items : List Item) → IsItems items → TellsPartition items

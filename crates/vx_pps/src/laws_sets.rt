@@ -1,5 +1,5 @@
 //! Laws of picture parameter sets: functions that do nothing, each with a law as its contract.
-ghost use Rattle.vx_pps.specs.Sets.{WrittenIsRead, NoProperPrefix, StarsTellKept, KeptDependsOnKept, KeptAndOthersTell, TilesAreInLimits};
+ghost use Rattle.vx_pps.specs.Sets.{WrittenIsRead, NoProperPrefix, StarsTellKept, KeptDependsOnKept, KeptAndOthersTell, TilesAreInLimits, SetsTellPartitions};
 
 /// What is written of a set is read as it.
 pub fn written_is_read()
@@ -25,4 +25,10 @@ pub fn kept_and_others_tell()
 /// The tiles of a partitioned picture are in the limits of a layout.
 pub fn tiles_are_in_limits()
     ensures { TilesAreInLimits }
+{}
+
+/// A set tells the tiles of a partitioned picture, and its slices unless each subpicture is one: bounds and slices as a
+/// layout takes them (H.266 6.5.1).
+pub fn sets_tell_partitions()
+    ensures { SetsTellPartitions }
 {}

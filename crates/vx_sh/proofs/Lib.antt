@@ -11,4 +11,5 @@ mod Written
 mod Told
 mod Writable
 mod Closed
+mod Elsewhere
 pub mod Scopes

@@ -1,54 +1,117 @@
--- Scopes of slices under sets and picture headers that have the same items of some fields.
-use Rattle.std.proofs.Common.{◌≡◌, ℕ, Bool, true, false, cond, ◌==◌, IsTrue, List, [], ◌∷◌, length, filter, map, slice_index, slice_set, inl, inr, refl, ap, sym, ◌∙◌}
-use Rattle.std.proofs.lemmas.Bool.{cases_Bool, eqb-true, false≢true, false_from_ne_true}
+-- Scopes of slices under sets and picture headers that give fields the same numbers.
+use Rattle.std.proofs.Common.{◌≡◌, ◌≢◌, ℕ, ◌<◌, ◌≤◌, false, IsTrue, IsFalse, List, [], ◌∷◌, length, slice_index, slice_set, inl, inr, refl, sym, ◌∙◌, arith}
+use Rattle.std.specs.Prelude.{All}
+use Rattle.std.proofs.lemmas.Bool.{cases_Bool, cases_eq, cases_lt}
+use Rattle.std.proofs.lemmas.Grind.{get_or-set_at}
+use Rattle.std.proofs.lemmas.List.{get_or-set_other, get_or_past, length-set, set_past}
+use Rattle.std.proofs.lemmas.List.Elements.{All-nil, All-cons}
 use Rattle.vx_bits.specs.declared.list.Item.{Item}
-use Rattle.vx_table.specs.Scope.{natural, loaded}
-use Rattle.vx_table.specs.Depends.{has, Agree}
-use Rattle.vx_table.specs.Shown.{shown_items}
-use Rattle.vx_table.proofs.Agreeing.{agree_set}
-use Rattle.vx_table.proofs.Shown.{scopes_follow_items}
+use Rattle.vx_table.specs.Scope.{fresh, loaded, joined}
+use Rattle.vx_table.specs.Depends.{has, set_of}
+use Rattle.vx_table.specs.Loaded.{number}
 use Rattle.vx_fields.specs.declared.names.rpl.TheConstants.{ENTRIES_0, ENTRIES_1}
 use Rattle.vx_fields.specs.declared.names.sh.TheConstants.{NAL_TYPE, EXTRA_SH_BITS, DEFAULT_ACTIVE_0, DEFAULT_ACTIVE_1}
-use Rattle.vx_fields.specs.declared.sps.TheConstants.{sps_extra_sh_bit_present_flag}
-use Rattle.vx_fields.specs.declared.pps.TheConstants.{pps_num_ref_idx_default_active_minus1}
+use Rattle.vx_fields.specs.declared.pps.TheConstants.{pps_pic_parameter_set_id}
+use Rattle.vx_fields.specs.declared.ph.TheConstants.{ph_gdr_or_irap_pic_flag}
+use Rattle.vx_fields.specs.declared.names.ph.TheConstants.{EXTRA_PH_BITS}
 use Rattle.vx_sps.specs.Set.{extra_sh_bits_of}
-use Rattle.vx_pps.specs.Items.{numbers_of}
 use Rattle.vx_pps.specs.Pps.{default_active}
+use Rattle.vx_ph.specs.declared.header.PictureHeader.{PictureHeader}
 use Rattle.vx_ph.specs.InForce.{in_force}
-use Rattle.vx_ph.proofs.Sets.{sets_agree, same_flags}
-use Rattle.vx_sh.specs.InForce.{slice_scope, SliceScopesAgree}
+use Rattle.vx_ph.proofs.Sets.{named, joined_length, joined_below, joined_from, fresh_length, in_force_length, of_sps, of_pps}
+use Rattle.vx_sh.specs.InForce.{slice_scope, beside, SliceScopesAgree, SliceScopesAreWhole}
 
--- the items of a field that a set has
-items_shown : (names : List ℕ) (of : ℕ) (items : List Item) → IsTrue (has names of)
-    → filter (λ item. item.field == of) items ≡ filter (λ item. item.field == of) (shown_items names items)
-items_shown names of [] there = refl
-items_shown names of (item ∷ items) there =
-    let more = items_shown names of items there in
-    elim (cases_Bool (has names item.field)) [
-      | inl is ↦ rw is (ap (λ others. cond (item.field == of) (item ∷ others) others) more)
-      | inr is_not ↦
-          let other : (item.field == of) ≡ false = false_from_ne_true (item.field == of) (λ is. false≢true (sym is_not ∙ ap (has names) (eqb-true item.field of is) ∙ there)) in
-          rw (is_not, other) more
+-- ---- the sets' numbers and the header's
+
+with_header : List Item → List Item → List Item → List ℕ
+with_header sps pps header = joined ph_gdr_or_irap_pic_flag (in_force sps pps) (loaded fresh header)
+
+with_header_length : (sps pps header : List Item) → length (with_header sps pps header) ≡ 1024
+unfolding with_header
+with_header_length sps pps header =
+    joined_length ph_gdr_or_irap_pic_flag (in_force sps pps) (loaded fresh header) (in_force_length sps pps ∙ sym (fresh_length header))
+    (omega (arith, in_force_length sps pps)) ∙ in_force_length sps pps
+
+header_from_sps : (sps pps header : List Item) (n : ℕ) → n < pps_pic_parameter_set_id → slice_index (with_header sps pps header) n ≡ number sps n
+unfolding with_header
+header_from_sps sps pps header n below =
+    joined_below ph_gdr_or_irap_pic_flag (in_force sps pps) (loaded fresh header) n (omega (arith, in_force_length sps pps)) (omega (arith, below)) ∙ of_sps sps pps n below
+
+header_from_pps : (sps pps header : List Item) (n : ℕ) → pps_pic_parameter_set_id ≤ n → n < ph_gdr_or_irap_pic_flag → slice_index (with_header sps pps header) n ≡ number pps n
+unfolding with_header
+header_from_pps sps pps header n past below =
+    joined_below ph_gdr_or_irap_pic_flag (in_force sps pps) (loaded fresh header) n (omega (arith, in_force_length sps pps)) below
+    ∙ of_pps sps pps n past (λ is. absurd (omega (arith, is, below)))
+
+header_from_header : (sps pps header : List Item) (n : ℕ) → ph_gdr_or_irap_pic_flag ≤ n → slice_index (with_header sps pps header) n ≡ number header n
+unfolding with_header
+header_from_header sps pps header n past = joined_from ph_gdr_or_irap_pic_flag (in_force sps pps) (loaded fresh header) n (omega (arith, in_force_length sps pps)) past
+
+-- ---- what is beside
+
+-- both give the numbers that a predicate holds of the same
+record Same (P : ℕ → Type 0) (s t : List ℕ) : Type 0 where
+  size : length s ≡ length t
+  same : (n : ℕ) → P n → slice_index s n ≡ slice_index t n
+
+put : {P : ℕ → Type 0} {s t : List ℕ} (n v w : ℕ) → v ≡ w → Same (λ m. P m × (m ≢ n)) s t → Same P (slice_set s n v) (slice_set t n w)
+put {P} {s} {t} n v w is both = rw is record {
+  size = length-set s n w ∙ both.size ∙ sym (length-set t n w);
+  same = λ m h. elim (cases_eq m n) [
+    | inl here ↦ elim (cases_lt n (length s)) [
+      | inl within ↦ get_or-set_at s n m w 0 here within ∙ sym (get_or-set_at t n m w 0 here (omega (arith, both.size)))
+      | inr past ↦ rw (set_past s n w past, set_past t n w (omega (arith, both.size))) (get_or_past s m 0 (omega (arith, here)) ∙ sym (get_or_past t m 0 (omega (arith, here, both.size))))
     ]
+    | inr other ↦ get_or-set_other s n m w 0 other ∙ both.same m (h, other) ∙ sym (get_or-set_other t n m w 0 other)
+  ];
+}
 
-same_default : (names : List ℕ) (items others : List Item) (list : ℕ) → IsTrue (has names pps_num_ref_idx_default_active_minus1) → shown_items names items ≡ shown_items names others
-    → default_active items list ≡ default_active others list
-same_default names items others list there same =
-    let of = pps_num_ref_idx_default_active_minus1 in
-    let both : filter (λ item. item.field == of) items ≡ filter (λ item. item.field == of) others
-    = items_shown names of items there ∙ ap (filter (λ item. item.field == of)) same ∙ sym (items_shown names of others there) in
-    ap (λ xs. slice_index (map (λ item. natural item.value) xs) list) both
-
-put : {names s t : List ℕ} (n v w : ℕ) → v ≡ w → Agree names s t → Agree names (slice_set s n v) (slice_set t n w)
-put n v w same agree = rw same (agree_set n w (λ m is_not h. h) agree)
+-- a number that is none of them
+is_field : (n : ℕ) → n ≢ ENTRIES_0 → n ≢ ENTRIES_1 → n ≢ NAL_TYPE → n ≢ EXTRA_SH_BITS → n ≢ DEFAULT_ACTIVE_0 → n ≢ DEFAULT_ACTIVE_1 → IsFalse (has (set_of beside) n)
+is_field n a b c d e f = elim (cases_Bool (has (set_of beside) n)) [
+  | inl is ↦
+      let P : ℕ → Type 0 = λ m. n ≢ m in
+      let last : All P (DEFAULT_ACTIVE_1 ∷ []) = All-cons P DEFAULT_ACTIVE_1 [] f (All-nil P) in
+      let two : All P (DEFAULT_ACTIVE_0 ∷ DEFAULT_ACTIVE_1 ∷ []) = All-cons P DEFAULT_ACTIVE_0 (DEFAULT_ACTIVE_1 ∷ []) e last in
+      let three : All P (EXTRA_SH_BITS ∷ DEFAULT_ACTIVE_0 ∷ DEFAULT_ACTIVE_1 ∷ []) = All-cons P EXTRA_SH_BITS (DEFAULT_ACTIVE_0 ∷ DEFAULT_ACTIVE_1 ∷ []) d two in
+      let four : All P (NAL_TYPE ∷ EXTRA_SH_BITS ∷ DEFAULT_ACTIVE_0 ∷ DEFAULT_ACTIVE_1 ∷ []) = All-cons P NAL_TYPE (EXTRA_SH_BITS ∷ DEFAULT_ACTIVE_0 ∷ DEFAULT_ACTIVE_1 ∷ []) c three in
+      let five = All-cons P ENTRIES_1 (NAL_TYPE ∷ EXTRA_SH_BITS ∷ DEFAULT_ACTIVE_0 ∷ DEFAULT_ACTIVE_1 ∷ []) b four in
+      let all : All P beside = All-cons P ENTRIES_0 (ENTRIES_1 ∷ NAL_TYPE ∷ EXTRA_SH_BITS ∷ DEFAULT_ACTIVE_0 ∷ DEFAULT_ACTIVE_1 ∷ []) a five in
+      absurd (named P beside n all is refl)
+  | inr is_not ↦ is_not
+]
 
 pub slice_scopes_agree : SliceScopesAgree
-slice_scopes_agree names nal_type sps other_sps pps other_pps header other ph_bits sh_bits defaults same_sps same_pps same_header first second =
-    put DEFAULT_ACTIVE_1 (default_active pps 1) (default_active other_pps 1) (same_default names pps other_pps 1 defaults same_pps)
-    (put DEFAULT_ACTIVE_0 (default_active pps 0) (default_active other_pps 0) (same_default names pps other_pps 0 defaults same_pps)
-    (put EXTRA_SH_BITS (extra_sh_bits_of sps) (extra_sh_bits_of other_sps) (same_flags names sps_extra_sh_bit_present_flag sps other_sps sh_bits same_sps)
+unfolding with_header
+slice_scopes_agree fields nal_type sps other_sps pps other_pps header other same_sps same_pps same_header extra first_default second_default first second =
+    let is = put {P = λ n. IsTrue (has (set_of fields) n)} DEFAULT_ACTIVE_1 (default_active pps 1) (default_active other_pps 1) second_default
+    (put DEFAULT_ACTIVE_0 (default_active pps 0) (default_active other_pps 0) first_default
+    (put EXTRA_SH_BITS (extra_sh_bits_of sps) (extra_sh_bits_of other_sps) extra
     (put NAL_TYPE nal_type nal_type refl
     (put ENTRIES_1 (length header.lists.second) (length other.lists.second) second
     (put ENTRIES_0 (length header.lists.first) (length other.lists.first) first
-    (scopes_follow_items names (in_force sps pps) (in_force other_sps other_pps) header.fields other.fields
-    (sets_agree names sps other_sps pps other_pps ph_bits same_sps same_pps) same_header))))))
+    (record {
+      size = with_header_length sps pps header.fields ∙ sym (with_header_length other_sps other_pps other.fields);
+      same = λ n h.
+          let ((((((there, f), e), d), c), b), a) = h in
+          elim (cases_lt n pps_pic_parameter_set_id) [
+            | inl below ↦ header_from_sps sps pps header.fields n below ∙ named (λ m. m < pps_pic_parameter_set_id → number sps m ≡ number other_sps m) fields n same_sps there below
+                ∙ sym (header_from_sps other_sps other_pps other.fields n below)
+            | inr past ↦ elim (cases_lt n ph_gdr_or_irap_pic_flag) [
+              | inl below ↦ header_from_pps sps pps header.fields n past below
+                  ∙ named (λ m. pps_pic_parameter_set_id ≤ m → m < ph_gdr_or_irap_pic_flag → number pps m ≡ number other_pps m) fields n same_pps there past below
+                  ∙ sym (header_from_pps other_sps other_pps other.fields n past below)
+              | inr behind ↦ header_from_header sps pps header.fields n behind
+                  ∙ named (λ m. ph_gdr_or_irap_pic_flag ≤ m → IsFalse (has (set_of beside) m) → number header.fields m ≡ number other.fields m) fields n same_header there behind (is_field n a b c d e f)
+                  ∙ sym (header_from_header other_sps other_pps other.fields n behind)
+            ]
+          ];
+    })))))) in
+    record { size = is.size; same = is.same }
+
+pub slice_scopes_are_whole : SliceScopesAreWhole
+unfolding with_header
+slice_scopes_are_whole nal_type sps pps header =
+    length-set _ DEFAULT_ACTIVE_1 (default_active pps 1) ∙ length-set _ DEFAULT_ACTIVE_0 (default_active pps 0) ∙ length-set _ EXTRA_SH_BITS (extra_sh_bits_of sps)
+    ∙ length-set _ NAL_TYPE nal_type ∙ length-set _ ENTRIES_1 (length header.lists.second) ∙ length-set _ ENTRIES_0 (length header.lists.first)
+    ∙ with_header_length sps pps header.fields

@@ -18,7 +18,7 @@ use Rattle.vx_table.specs.Scope.{fresh, is_set, natural, value}
 use Rattle.vx_table.specs.Forms.{Form, done, field, ◌>>=◌, has_value, cell_at, coding_at, limits_at, after, one_field, part, form_of}
 use Rattle.vx_table.specs.Parts.{sections_form}
 use Rattle.vx_table.specs.Spelling.{item_of, items_along}
-use Rattle.vx_table.specs.Values.{Follows, to_end, through}
+use Rattle.vx_table.specs.Values.{Follows, to_end, through, Parted}
 use Rattle.vx_table.specs.Depends.{has, set_of, Inside, Agree, IsLeft, Leaves}
 use Rattle.vx_table.specs.Claims.{hides_counter, hides_row}
 use Rattle.vx_table.specs.Shown.{shown_items}
@@ -196,7 +196,7 @@ there_leaves : (table : RplTable) (layout : Numbers) → Leaves three (there tab
 there_leaves table layout = record { at = λ s. (rest_leaves table (points_of layout s)).at s }
 
 -- the test of the subpicture has no item, and leaves the subpicture
-only_subpic : List ℕ
+unfoldable pub only_subpic : List ℕ
 only_subpic = set_of (SUBPIC ∷ [])
 
 abbrev IsGap : Cell ℕ → Type 0
@@ -221,13 +221,13 @@ known_items : (s : List ℕ) (w : List ℤ) → items_along (form_of KNOWN_SUBPI
 unfolding row_is_gap has_value
 known_items s w = no_items (form_of KNOWN_SUBPIC s) w (each_of_rows IsGap row_is_gap gap_sound KNOWN_SUBPIC s refl)
 
-known_leaves : Leaves only_subpic (form_of KNOWN_SUBPIC)
+pub known_leaves : Leaves only_subpic (form_of KNOWN_SUBPIC)
 unfolding fresh hides_row hides_counter only_subpic
 known_leaves = tables_leave only_subpic KNOWN_SUBPIC refl
 
 -- ---- the subpicture
 
-located_is : (ids : List ℕ) (layout : Numbers) (s : List ℕ) → length s ≡ 1024 → slice_index (located ids layout s) SUBPIC ≡ index_of (slice_index s sh_subpic_id) ids
+pub located_is : (ids : List ℕ) (layout : Numbers) (s : List ℕ) → length s ≡ 1024 → slice_index (located ids layout s) SUBPIC ≡ index_of (slice_index s sh_subpic_id) ids
 unfolding located
 located_is ids layout s size =
     let i = index_of (slice_index s sh_subpic_id) ids in
@@ -236,11 +236,11 @@ located_is ids layout s size =
     get_or-set_other (slice_set first SUBPIC i) NUM_SLICES SUBPIC (slices_at layout i) 0 (λ is. absurd (omega (arith, is))) ∙ get_or-set_at first SUBPIC SUBPIC i 0 refl within
 
 -- the scope keeps its size
-id_size : (s : List ℕ) (values : List ℤ) (end : List ℕ) → Follows (form_of SUBPIC_ID s) values end → length s ≡ length end
+pub id_size : (s : List ℕ) (values : List ℤ) (end : List ℕ) → Follows (form_of SUBPIC_ID s) values end → length s ≡ length end
 unfolding fresh hides_row hides_counter
 id_size s values end follows = (left_end ((tables_leave (set_of (sh_slice_address ∷ [])) SUBPIC_ID refl).at s) follows).size
 
-inside_size : (s : List ℕ) (values : List ℤ) (end : List ℕ) → Follows (form_of HEADER_INSIDE s) values end → length s ≡ length end
+pub inside_size : (s : List ℕ) (values : List ℤ) (end : List ℕ) → Follows (form_of HEADER_INSIDE s) values end → length s ≡ length end
 unfolding fresh hides_row hides_counter
 inside_size s values end follows = (left_end ((tables_leave (set_of (sh_slice_address ∷ [])) HEADER_INSIDE refl).at s) follows).size
 
@@ -288,7 +288,7 @@ behind_leaves_inside table ids layout = leaves_together only_inside (subpic_form
 
 -- ---- the whole
 
-done_is : {A : Type 0} {a b : A} {w : List ℤ} → Follows (done a) w b → a ≡ b
+pub done_is : {A : Type 0} {a b : A} {w : List ℤ} → Follows (done a) w b → a ≡ b
 done_is to_end = refl
 
 inside_told : (s : List ℕ) (values : List ℤ) (end : List ℕ) → length s ≡ 1024 → Follows (form_of HEADER_INSIDE s) values end
@@ -298,30 +298,46 @@ inside_told s values end size (through {v} is to_end) =
     get_or-set_at s sh_picture_header_in_slice_header_flag sh_picture_header_in_slice_header_flag (natural v) 0 refl (omega (arith, size))
     ∙ sym (number_of_last sh_picture_header_in_slice_header_flag v [] [] (omega arith) (All-nil (λ item. (item.field == sh_picture_header_in_slice_header_flag) ≡ false)))
 
+-- the id in the part behind the picture header is the one that the items tell
+pub id_is : (n : At) (fields : List Item) (inside : List ℤ) (f : AreFields n fields inside) → length n.slice ≡ 1024
+    → (b : Parted (subpic_form n.ids n.layout f.at) (there n.table n.layout) f.behind f.end)
+    → (k : Parted (id_form n.ids n.layout f.at) (form_of KNOWN_SUBPIC) b.front b.mid)
+    → (i : Parted (form_of SUBPIC_ID f.at) (λ t. done (located n.ids n.layout t)) k.front k.mid)
+    → slice_index i.mid sh_subpic_id ≡ number fields sh_subpic_id
+unfolding fresh behind_header subpic_form id_form hides_row hides_counter
+id_is n fields inside f size b k i =
+    let behind = behind_header n.table n.ids n.layout in
+    let first = items_along (form_of HEADER_INSIDE n.slice) f.first in
+    let at_size : length f.at ≡ 1024 = sym (inside_size n.slice f.first f.at f.begins) ∙ size in
+    let before : number fields sh_subpic_id ≡ number (items_along (behind f.at) f.behind) sh_subpic_id
+    = ap (λ items. number items sh_subpic_id) f.all
+    ∙ in_second only_id sh_subpic_id first (items_along (behind f.at) f.behind) refl (none_shown only_id n.slice ((tables_leave only_id HEADER_INSIDE refl).at n.slice) f.begins) in
+    let subpic : number (items_along (behind f.at) f.behind) sh_subpic_id ≡ number (items_along (subpic_form n.ids n.layout f.at) b.front) sh_subpic_id
+    = ap (λ w. number (items_along (behind f.at) w) sh_subpic_id) b.all ∙ ap (λ x. number x sh_subpic_id) (items_joined (there n.table n.layout) b.others b.first)
+    ∙ in_first three sh_subpic_id (items_along (subpic_form n.ids n.layout f.at) b.front) (items_along (there n.table n.layout b.mid) b.others) refl
+    (none_shown three b.mid ((there_leaves n.table n.layout).at b.mid) b.second) in
+    let known : number (items_along (subpic_form n.ids n.layout f.at) b.front) sh_subpic_id ≡ number (items_along (id_form n.ids n.layout f.at) k.front) sh_subpic_id
+    = ap (λ w. number (items_along (subpic_form n.ids n.layout f.at) w) sh_subpic_id) k.all
+    ∙ ap (λ x. number x sh_subpic_id) (items_joined (form_of KNOWN_SUBPIC) k.others k.first ∙ ap (λ x. items_along (id_form n.ids n.layout f.at) k.front ++ x) (known_items k.mid k.others)
+    ∙ append-nil (items_along (id_form n.ids n.layout f.at) k.front)) in
+    let here : number (items_along (id_form n.ids n.layout f.at) k.front) sh_subpic_id ≡ number (items_along (form_of SUBPIC_ID f.at) i.front) sh_subpic_id
+    = ap (λ w. number (items_along (id_form n.ids n.layout f.at) w) sh_subpic_id) i.all
+    ∙ ap (λ x. number x sh_subpic_id) (items_joined (λ t. done (located n.ids n.layout t)) i.others i.first ∙ append-nil (items_along (form_of SUBPIC_ID f.at) i.front)) in
+    id_told f.at i.front i.mid at_size i.first ∙ sym here ∙ sym known ∙ sym subpic ∙ sym before
+
 subpic_told : (n : At) (fields : List Item) (inside : List ℤ) (f : AreFields n fields inside) → length n.slice ≡ 1024
     → slice_index f.end SUBPIC ≡ index_of (number fields sh_subpic_id) n.ids
 unfolding fresh behind_header subpic_form id_form hides_row hides_counter only_subpic
 subpic_told n fields inside f size =
-    let behind = behind_header n.table n.ids n.layout in
-    let first = items_along (form_of HEADER_INSIDE n.slice) f.first in
-    let before : number fields sh_subpic_id ≡ number (items_along (behind f.at) f.behind) sh_subpic_id
-    = ap (λ items. number items sh_subpic_id) f.all
-    ∙ in_second only_id sh_subpic_id first (items_along (behind f.at) f.behind) refl (none_shown only_id n.slice ((tables_leave only_id HEADER_INSIDE refl).at n.slice) f.begins) in
-    let p = peel (there n.table n.layout) (there_leaves n.table n.layout) f.ends in
-    let id = parted (id_form n.ids n.layout f.at) (form_of KNOWN_SUBPIC) p.follows in
-    let parts = parted (form_of SUBPIC_ID f.at) (λ t. done (located n.ids n.layout t)) id.first in
-    let known : number (items_along (subpic_form n.ids n.layout f.at) p.front) sh_subpic_id ≡ number (items_along (id_form n.ids n.layout f.at) id.front) sh_subpic_id
-    = ap (λ w. number (items_along (subpic_form n.ids n.layout f.at) w) sh_subpic_id) id.all
-    ∙ ap (λ x. number x sh_subpic_id) (items_joined (form_of KNOWN_SUBPIC) id.others id.first ∙ ap (λ x. items_along (id_form n.ids n.layout f.at) id.front ++ x) (known_items id.mid id.others)
-    ∙ append-nil (items_along (id_form n.ids n.layout f.at) id.front)) in
-    let still = left_end (known_leaves.at id.mid) id.second in
+    let b = parted (subpic_form n.ids n.layout f.at) (there n.table n.layout) f.ends in
+    let k = parted (id_form n.ids n.layout f.at) (form_of KNOWN_SUBPIC) b.first in
+    let i = parted (form_of SUBPIC_ID f.at) (λ t. done (located n.ids n.layout t)) k.first in
+    let still = left_end (known_leaves.at k.mid) k.second in
+    let left = left_end ((there_leaves n.table n.layout).at b.mid) b.second in
     let at_size : length f.at ≡ 1024 = sym (inside_size n.slice f.first f.at f.begins) ∙ size in
-    let mid_size : length parts.mid ≡ 1024 = sym (id_size f.at parts.front parts.mid parts.first) ∙ at_size in
-    let here : number (items_along (id_form n.ids n.layout f.at) id.front) sh_subpic_id ≡ number (items_along (form_of SUBPIC_ID f.at) parts.front) sh_subpic_id
-    = ap (λ w. number (items_along (id_form n.ids n.layout f.at) w) sh_subpic_id) parts.all
-    ∙ ap (λ x. number x sh_subpic_id) (items_joined (λ t. done (located n.ids n.layout t)) parts.others parts.first ∙ append-nil (items_along (form_of SUBPIC_ID f.at) parts.front)) in
-    sym (p.agree.same SUBPIC refl) ∙ sym (still.same SUBPIC refl) ∙ ap (λ s. slice_index s SUBPIC) (sym (done_is parts.second)) ∙ located_is n.ids n.layout parts.mid mid_size
-    ∙ ap (λ id. index_of id n.ids) (id_told f.at parts.front parts.mid at_size parts.first ∙ sym here ∙ sym known ∙ sym (p.numbers sh_subpic_id refl) ∙ sym before)
+    let mid_size : length i.mid ≡ 1024 = sym (id_size f.at i.front i.mid i.first) ∙ at_size in
+    sym (left.same SUBPIC refl) ∙ sym (still.same SUBPIC refl) ∙ ap (λ s. slice_index s SUBPIC) (sym (done_is i.second)) ∙ located_is n.ids n.layout i.mid mid_size
+    ∙ ap (λ id. index_of id n.ids) (id_is n fields inside f size b k i)
 
 address_is : (n : At) (fields : List Item) (inside : List ℤ) (f : AreFields n fields inside) → length n.slice ≡ 1024 → slice_index f.end sh_slice_address ≡ number fields sh_slice_address
 unfolding fresh behind_header hides_row hides_counter

@@ -33,15 +33,15 @@ same_flag : (n : At) (fields : List Item) (inside : List ℤ) (f : AreFields n f
 unfolding fresh
 same_flag n fields inside f = (left_end ((behind_leaves_inside n.table n.ids n.layout).at f.at) f.ends).same sh_picture_header_in_slice_header_flag refl
 
-nothing_inside : (table : RplTable) (sets s : List ℕ) → (flag s == 0) ≡ true → header_inside table sets s ≡ done s
+pub nothing_inside : (table : RplTable) (sets s : List ℕ) → (flag s == 0) ≡ true → header_inside table sets s ≡ done s
 unfolding present value
 nothing_inside table sets s none = rw none refl
 
-something_inside : (table : RplTable) (sets s : List ℕ) → (flag s == 0) ≡ false → header_inside table sets s ≡ (header_form table sets >>= λ t. done s)
+pub something_inside : (table : RplTable) (sets s : List ℕ) → (flag s == 0) ≡ false → header_inside table sets s ≡ (header_form table sets >>= λ t. done s)
 unfolding present value
 something_inside table sets s some = rw some refl
 
-no_values : {A : Type 0} {a b : A} {w : List ℤ} → Follows (done a) w b → w ≡ []
+pub no_values : {A : Type 0} {a b : A} {w : List ℤ} → Follows (done a) w b → w ≡ []
 no_values to_end = refl
 
 -- the bits behind the first

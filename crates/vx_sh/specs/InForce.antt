@@ -1,11 +1,11 @@
 -- What a slice header is read and written at, from the sets, the picture header, the layout and the NAL unit's type in force.
-use Rattle.std.specs.Prelude.{◌≡◌, ℕ, IsTrue, List, length, slice_set}
+use Rattle.std.specs.Prelude.{◌≡◌, ◌≤◌, ◌<◌, ℕ, IsFalse, List, [], ◌∷◌, All, length, slice_set}
 use Rattle.vx_bits.specs.declared.list.Item.{Item}
-use Rattle.vx_table.specs.Scope.{loaded}
-use Rattle.vx_table.specs.Depends.{has, Agree}
-use Rattle.vx_table.specs.Shown.{shown_items}
-use Rattle.vx_fields.specs.declared.sps.TheConstants.{sps_extra_ph_bit_present_flag, sps_extra_sh_bit_present_flag}
-use Rattle.vx_fields.specs.declared.pps.TheConstants.{pps_num_ref_idx_default_active_minus1}
+use Rattle.vx_table.specs.Scope.{fresh, loaded, joined}
+use Rattle.vx_table.specs.Depends.{has, set_of, Agree}
+use Rattle.vx_table.specs.Loaded.{number}
+use Rattle.vx_fields.specs.declared.pps.TheConstants.{pps_pic_parameter_set_id}
+use Rattle.vx_fields.specs.declared.ph.TheConstants.{ph_gdr_or_irap_pic_flag}
 use Rattle.vx_fields.specs.declared.names.rpl.TheConstants.{ENTRIES_0, ENTRIES_1}
 use Rattle.vx_fields.specs.declared.names.sh.TheConstants.{NAL_TYPE, EXTRA_SH_BITS, DEFAULT_ACTIVE_0, DEFAULT_ACTIVE_1}
 use Rattle.vx_sps.specs.Set.{extra_sh_bits_of}
@@ -15,15 +15,19 @@ use Rattle.vx_ph.specs.InForce.{in_force, structures}
 use Rattle.vx_sh.specs.declared.numbers.SliceNumbers.{SliceNumbers}
 use Rattle.vx_sh.specs.Whole.{At}
 
--- the scope of a slice, from that of the sets: with the numbers of the picture header and the lengths of its lists, the type of the
--- NAL unit, how many extra bits a slice header has, and the two pps_num_ref_idx_default_active_minus1
+-- The scope of a slice: the sets' numbers below the first field of a picture header, the header's from there on, and beside these the
+-- lengths of its lists, the type of the NAL unit, how many extra bits a slice header has, and the two
+-- pps_num_ref_idx_default_active_minus1.
 abbrev pub slice_scope : ℕ → List Item → List Item → PictureHeader → List ℕ → List ℕ
 slice_scope nal_type sps pps header sets =
     slice_set
     (slice_set
     (slice_set
     (slice_set
-    (slice_set (slice_set (loaded sets header.fields) ENTRIES_0 (length header.lists.first)) ENTRIES_1 (length header.lists.second))
+    (slice_set
+    (slice_set (joined ph_gdr_or_irap_pic_flag sets (loaded fresh header.fields)) ENTRIES_0 (length header.lists.first))
+    ENTRIES_1
+    (length header.lists.second))
     NAL_TYPE nal_type)
     EXTRA_SH_BITS (extra_sh_bits_of sps))
     DEFAULT_ACTIVE_0 (default_active pps 0))
@@ -38,14 +42,24 @@ in_force_at n = record {
   layout = n.layout.now;
 }
 
--- Sets and picture headers that have the same items of some fields, and lists of the same lengths, give the slices of one type scopes
--- that agree on these fields.
+-- the names that it has beside fields
+abbrev pub beside : List ℕ
+beside = ENTRIES_0 ∷ ENTRIES_1 ∷ NAL_TYPE ∷ EXTRA_SH_BITS ∷ DEFAULT_ACTIVE_0 ∷ DEFAULT_ACTIVE_1 ∷ []
+
+-- Sets and picture headers that give each of some fields the same number, each those of its own range, and that have the same numbers
+-- beside these, give the slices of one type scopes that agree on these fields; what stands beside may be among them.
 abbrev pub SliceScopesAgree : Type 0
-SliceScopesAgree = (names : List ℕ) (nal_type : ℕ) (sps other_sps pps other_pps : List Item) (header other : PictureHeader)
-    → IsTrue (has names sps_extra_ph_bit_present_flag) → IsTrue (has names sps_extra_sh_bit_present_flag)
-    → IsTrue (has names pps_num_ref_idx_default_active_minus1)
-    → shown_items names sps ≡ shown_items names other_sps → shown_items names pps ≡ shown_items names other_pps
-    → shown_items names header.fields ≡ shown_items names other.fields
+SliceScopesAgree = (fields : List ℕ) (nal_type : ℕ) (sps other_sps pps other_pps : List Item) (header other : PictureHeader)
+    → All (λ n. n < pps_pic_parameter_set_id → number sps n ≡ number other_sps n) fields
+    → All (λ n. pps_pic_parameter_set_id ≤ n → n < ph_gdr_or_irap_pic_flag → number pps n ≡ number other_pps n) fields
+    → All (λ n. ph_gdr_or_irap_pic_flag ≤ n → IsFalse (has (set_of beside) n) → number header.fields n ≡ number other.fields n) fields
+    → extra_sh_bits_of sps ≡ extra_sh_bits_of other_sps
+    → default_active pps 0 ≡ default_active other_pps 0 → default_active pps 1 ≡ default_active other_pps 1
     → length header.lists.first ≡ length other.lists.first → length header.lists.second ≡ length other.lists.second
-    → Agree names (slice_scope nal_type sps pps header (in_force sps pps))
+    → Agree (set_of fields) (slice_scope nal_type sps pps header (in_force sps pps))
     (slice_scope nal_type other_sps other_pps other (in_force other_sps other_pps))
+
+-- It has a number for each field and name.
+abbrev pub SliceScopesAreWhole : Type 0
+SliceScopesAreWhole = (nal_type : ℕ) (sps pps : List Item) (header : PictureHeader)
+    → length (slice_scope nal_type sps pps header (in_force sps pps)) ≡ 1024

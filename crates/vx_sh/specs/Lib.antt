@@ -5,4 +5,5 @@ pub mod Again
 pub mod Whole
 pub mod Value
 pub mod InForce
+pub mod Elsewhere
 pub mod inner

@@ -1,7 +1,8 @@
 //! Laws of slice headers: functions that do nothing, each with a law as its contract.
 ghost use Rattle.vx_sh.specs.Depends.{KeptDepend, AllDepend, AllAreShown, KeptAreShown};
 ghost use Rattle.vx_sh.specs.Again.{SlicesReadAgain, SlicesRewrite};
-ghost use Rattle.vx_sh.specs.InForce.{SliceScopesAgree};
+ghost use Rattle.vx_sh.specs.Elsewhere.{SliceReadElsewhere};
+ghost use Rattle.vx_sh.specs.InForce.{SliceScopesAgree, SliceScopesAreWhole};
 ghost use Rattle.vx_sh.specs.Value.{NumbersAreTold, ReadCanBeWritten, SpellingIsRead};
 
 /// The kept fields of a slice header behind the id of its subpicture depend on kept fields alone, and the other fields on a
@@ -39,7 +40,13 @@ pub fn spelling_is_read()
     ensures { SpellingIsRead }
 {}
 
-/// Slices under sets and picture headers with the same items of some fields are read at scopes that agree on these.
+/// Slices under sets and picture headers that give some fields the same numbers are read at scopes that agree on these.
 pub fn slice_scopes_agree()
-    ensures { SliceScopesAgree }
+    ensures agree { SliceScopesAgree }
+    ensures whole { SliceScopesAreWhole }
+{}
+
+/// What is a slice header at one place is the same at another that agrees with it for its subpicture, of the same bytes.
+pub fn slice_read_elsewhere()
+    ensures { SliceReadElsewhere }
 {}

@@ -12,6 +12,7 @@ use std::alloc::{AllocError, Global};
 use vx_bits::{IdList, ReadError};
 use vx_fields::names::rpl::{ENTRIES_0, ENTRIES_1};
 use vx_fields::names::sh::{DEFAULT_ACTIVE_0, DEFAULT_ACTIVE_1, EXTRA_SH_BITS, NAL_TYPE};
+use vx_fields::ph::ph_gdr_or_irap_pic_flag;
 use vx_layout::Layout;
 use vx_ph::{PictureHeader, in_force};
 use vx_pps::Pps;
@@ -45,8 +46,10 @@ pub(crate) fn slice_scope(
 ) -> Scope
     ensures { result ≡ scopes.slice_scope nal_type sps.now pps.now header.now sets.now }
 {
+    let mut own = Scope::new();
+    own.load(&header.fields);
     let mut scope = *sets;
-    scope.load(&header.fields);
+    scope.take_over(&own, ph_gdr_or_irap_pic_flag);
     scope.set(ENTRIES_0, header.lists.first.len() as u32);
     scope.set(ENTRIES_1, header.lists.second.len() as u32);
     scope.set(NAL_TYPE, u32::from(nal_type));

@@ -2,6 +2,7 @@
 pub mod Counted
 pub mod Bounded
 pub mod Written
+pub mod Sifted
 pub mod Stages
 pub mod Rows
 pub mod Chain

@@ -1,14 +1,17 @@
 -- The kept fields of a set, and what they depend on.
-use Rattle.std.specs.Prelude.{◌≡◌, ℕ, not, List, [], ◌∷◌, filter}
+use Rattle.std.specs.Prelude.{◌≡◌, ℕ, ℤ, not, List, [], ◌∷◌, filter}
 use Rattle.vx_bits.specs.declared.list.Item.{Item}
 use Rattle.vx_fields.specs.declared.sps.TheConstants as sps
 use Rattle.vx_fields.specs.declared.names.sps.TheConstants.{VUI_BYTE}
 use Rattle.vx_table.specs.Depends.{has, set_of, DependsOnlyOn}
+use Rattle.vx_table.specs.Kept.{kept_along}
 use Rattle.vx_table.specs.Parts.{sections_form}
 use Rattle.vx_table.specs.Rewritten.{other_items}
 use Rattle.vx_table.specs.Shown.{shown_items, KeepsOnly}
+use Rattle.vx_table.specs.Spelling.{items_along}
+use Rattle.vx_table.specs.Values.{Follows}
 use Rattle.vx_sps.specs.Set.{IsItems}
-use Rattle.vx_sps.specs.Structure.{sps_sections}
+use Rattle.vx_sps.specs.Structure.{sps_form, sps_sections}
 use Rattle.vx_sps.specs.declared.tables.TheConstants.{TAKEN}
 
 -- what a rewritten set takes from its source though it isn't kept: whether there is timing, and usability information
@@ -20,6 +23,10 @@ taken_besides = sps.sps_timing_hrd_params_present_flag ∷ sps.sps_vui_parameter
 abbrev pub kept : List ℕ
 kept = filter (λ n. not (has (set_of taken_besides) n)) TAKEN
 
+-- the items of a set's kept fields, in order
+abbrev pub kept_of : List Item → List Item
+kept_of items = shown_items (set_of kept) items
+
 -- They are those without a star,
 abbrev pub StarsTellKept : Type 0
 StarsTellKept = KeepsOnly [] kept (sections_form sps_sections)
@@ -28,8 +35,13 @@ StarsTellKept = KeepsOnly [] kept (sections_form sps_sections)
 abbrev pub KeptDependsOnKept : Type 0
 KeptDependsOnKept = DependsOnlyOn [] kept (sections_form sps_sections)
 
+-- Their items are all that sifting keeps: no absent field stands among them.
+abbrev pub KeptAreSifted : Type 0
+KeptAreSifted = (values : List ℤ) (end : List ℕ) → Follows sps_form values end
+    → kept_along sps_form values ≡ kept_of (items_along sps_form values)
+
 -- Sets with the same items of kept fields, and the same others, are the same.
 abbrev pub KeptAndOthersTell : Type 0
 KeptAndOthersTell = (items others : List Item) → IsItems items → IsItems others
-    → shown_items (set_of kept) items ≡ shown_items (set_of kept) others
+    → kept_of items ≡ kept_of others
     → other_items (set_of kept) items ≡ other_items (set_of kept) others → items ≡ others

@@ -4,15 +4,13 @@ use Rattle.vx_bits.specs.declared.list.Item.{Item}
 use Rattle.vx_layout.specs.declared.rect.Rect.{Rect}
 use Rattle.vx_layout.specs.Layouts.{no_rect}
 use Rattle.vx_layout.specs.Rects.{whole_picture}
-use Rattle.vx_table.specs.Depends.{set_of}
 use Rattle.vx_table.specs.Scope.{quotient}
-use Rattle.vx_table.specs.Shown.{shown_items}
 use Rattle.vx_sps.specs.declared.shape.SpsShape.{SpsShape}
 use Rattle.vx_sps.specs.declared.shape.SubpicPlan.{SubpicPlan}
 use Rattle.vx_sps.specs.declared.shape.SubpicPlan.TheVariants.{Absent, One, Many}
 use Rattle.vx_sps.specs.Set.{IsItems, width_of, height_of, ctb_size_of}
 use Rattle.vx_sps.specs.Subpictures.{subpics_of, rect_of, is_treated, is_filtered, id_of}
-use Rattle.vx_sps.specs.Depends.{kept}
+use Rattle.vx_sps.specs.Depends.{kept_of}
 use Rattle.vx_sps.specs.Reshaped.{IsShape, IsReshaped}
 
 -- ---- the subpictures of a plan
@@ -57,5 +55,4 @@ ReshapedSays = (source items : List Item) (shape : SpsShape) → IsItems source 
 
 -- Its kept fields are the source's.
 abbrev pub ReshapedKeeps : Type 0
-ReshapedKeeps = (source items : List Item) (shape : SpsShape) → IsReshaped source shape items
-    → shown_items (set_of kept) items ≡ shown_items (set_of kept) source
+ReshapedKeeps = (source items : List Item) (shape : SpsShape) → IsReshaped source shape items → kept_of items ≡ kept_of source

@@ -1,6 +1,6 @@
 //! Laws of sequence parameter sets: functions that do nothing, each with a law as its contract.
 ghost use Rattle.vx_sps.specs.Set.{WrittenIsRead, NoProperPrefix};
-ghost use Rattle.vx_sps.specs.Depends.{KeptDependsOnKept, StarsTellKept, KeptAndOthersTell};
+ghost use Rattle.vx_sps.specs.Depends.{KeptDependsOnKept, StarsTellKept, KeptAreSifted, KeptAndOthersTell};
 
 /// What is written of a set is read as it.
 pub fn written_is_read()
@@ -16,6 +16,11 @@ pub fn no_proper_prefix()
 pub fn kept_depends_on_kept()
     ensures depends { KeptDependsOnKept }
     ensures stars { StarsTellKept }
+{}
+
+/// The items of kept fields are what sifting keeps of a set ([`crate::keep_sps`]): no absent field stands among them.
+pub fn kept_are_sifted()
+    ensures { KeptAreSifted }
 {}
 
 /// Kept fields and the others tell the set.

@@ -1,7 +1,7 @@
 //! The sequence parameter set of H.266.
 //!
 //! Its syntax stands in tables, cut into groups of fields that a rewritten set takes from its source, or replaces.
-//! [`read_sps`] reads a set, [`write_sps`] writes it, and [`Sps`] has what headers, layouts and rewriting ask of it.
+//! [`read_sps`] reads a set, [`write_sps`] writes it, [`keep_sps`] gives its kept fields, and [`Sps`] has what headers, layouts and rewriting ask of it.
 //! [`reshape_sps`] gives the set that is sent for a region or a frame, which [`SpsShape`] tells.
 #![tactic(auto)]
 
@@ -21,9 +21,11 @@ mod tests_reshaped;
 mod tests_vectors;
 mod walk;
 
-pub use laws::{kept_and_others_tell, kept_depends_on_kept, no_proper_prefix, written_is_read};
+pub use laws::{
+    kept_and_others_tell, kept_are_sifted, kept_depends_on_kept, no_proper_prefix, written_is_read,
+};
 pub use laws_reshaped::{reshaped_keeps, reshaped_says};
-pub use read::{read_sps, write_sps};
+pub use read::{keep_sps, read_sps, write_sps};
 pub use reshape::reshape_sps;
 pub use shape::{SpsShape, SubpicPlan};
 pub use sps::Sps;

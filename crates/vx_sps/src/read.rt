@@ -1,10 +1,12 @@
-//! Reading and writing a sequence parameter set.
+//! Reading, writing and sifting a sequence parameter set.
 
 ghost use Rattle.std.specs.Prelude.{◌≡◌, ◌≤◌, ◌^◌, length, IfOk};
+ghost use Rattle.vx_table.specs.Kept.{Keeps};
 ghost use Rattle.vx_table.specs.Reading.{Reads, ReadsValue};
 ghost use Rattle.vx_table.specs.Writing.{Writes};
 ghost use Rattle.vx_sps.specs.Structure.{sps_form};
 ghost use Rattle.vx_sps.specs.Set.{IsSpelling};
+ghost use Rattle.vx_sps.specs.Depends.{kept_of};
 
 use crate::sps::Sps;
 use crate::walk::code_sps;
@@ -24,6 +26,13 @@ fn write_fields(bits: &mut BitWriter, items: &mut Unwritten<'_>) -> Result<(), S
     ensures { Writes sps_form bits.old items.old result bits.new items.new }
 {
     code_sps(&mut Scope::new(), bits, items)
+}
+
+/// Sifts the set whose items come next: appends those of its kept fields.
+fn keep_fields(items: &mut Unwritten<'_>, kept: &mut Fields) -> Result<(), SpellError>
+    ensures { Keeps sps_form kept.old items.old result kept.new items.new }
+{
+    code_sps(&mut Scope::new(), items, kept)
 }
 
 /// Reads the items of a set.
@@ -66,6 +75,24 @@ pub fn write_sps(alloc: Global, sps: &Sps) -> Result<Vec<u8>, AllocError>
     let mut items = Unwritten::new(fields, 0, fields.len());
     match write_fields(&mut bits, &mut items) {
         Ok(()) => Ok(bits.into_bytes()),
+        Err(SpellError::Memory) => Err(AllocError),
+        Err(SpellError::NoValue) => unreachable!(),
+    }
+}
+
+/// The items of a set's kept fields, in order: those that a set rewritten from it has too, whatever its shape.
+///
+/// # Errors
+///
+/// Want of memory.
+pub fn keep_sps(alloc: Global, sps: &Sps) -> Result<Fields, AllocError>
+    ensures { IfOk result (λ kept. kept ≡ kept_of sps.now) }
+{
+    let fields = sps.fields();
+    let mut kept = Fields::new(alloc);
+    let mut items = Unwritten::new(fields, 0, fields.len());
+    match keep_fields(&mut items, &mut kept) {
+        Ok(()) => Ok(kept),
         Err(SpellError::Memory) => Err(AllocError),
         Err(SpellError::NoValue) => unreachable!(),
     }

@@ -1,0 +1,73 @@
+-- What holds of all that an assembler keeps: it lies in order, within the limits.
+use Rattle.std.specs.Prelude.{◌≡◌, ℕ, ◌≤◌, ◌<◌, List, length, Option, Some, None, true, is_none, false}
+use Rattle.std.specs.List.{AllByRecursion}
+use Rattle.vx_aps.specs.declared.aps.Aps.{Aps}
+use Rattle.vx_sei.specs.Sei.{spelled_length}
+use Rattle.vx_pic.specs.declared.accepted.Accepted.{Accepted}
+use Rattle.vx_pic.specs.declared.accepted.Accepted.TheVariants as accepted
+use Rattle.vx_pic.specs.declared.picture.SliceSlot.{SliceSlot}
+use Rattle.vx_pic.specs.Sets.{slice_qp, is_qp}
+use Rattle.vx_pic.specs.PictureLayout.{numbers_in, ids_of}
+use Rattle.vx_pic.specs.UnderSets.{header_of}
+use Rattle.vx_pic.specs.Parts.{IsPlaced, AreThere, named_by, read_of, slice_header_of}
+use Rattle.vx_pic.specs.Rules.{picture_limit, message_limit}
+use Rattle.vx_assemble.specs.declared.in_force.InForce.{InForce}
+use Rattle.vx_assemble.specs.declared.state.BegunPicture.{BegunPicture}
+use Rattle.vx_assemble.specs.declared.state.CurrentPicture.{CurrentPicture}
+use Rattle.vx_assemble.specs.declared.state.State.{State}
+use Rattle.vx_assemble.specs.inner.Held.{begun_of, slice_of}
+
+-- what two sets make up
+pub record AreMade (f : InForce) : Type 0 where
+  pub layout : f.layout ≡ numbers_in f.sps f.pps
+  pub ids : f.ids ≡ ids_of f.sps f.pps
+  pub one_each : length f.ids ≡ length f.layout.subpics
+  pub slices : f.slices ≡ length f.layout.slices
+  pub few : length f.layout.slices ≤ 1000
+
+-- a picture header, with the lists that its items come to
+pub record IsHeader (b : BegunPicture) : Type 0 where
+  pub sets : AreMade b.sets
+  pub header : b.header ≡ header_of (begun_of b None)
+
+-- a slice of that picture, which stands in these bytes, where these adaptation parameter sets are in force
+pub record IsSlot (b : BegunPicture) (bytes : List ℕ) (sets : List (Option Aps)) (slot : SliceSlot) : Type 0 where
+  pub placed : IsPlaced bytes slot
+  pub subpic : slot.header.subpic < length b.sets.layout.subpics
+  pub bodies : AreThere sets (named_by b.sets.pps b.header.fields slot.header)
+  pub qp : is_qp b.sets.sps (slice_qp b.sets.pps b.header.fields (read_of slot.header)) ≡ true
+  pub header : slot.header ≡ slice_header_of (begun_of b None) (slice_of bytes slot).header
+
+-- the header, and the slices under it
+abbrev pub AreSlots : Option BegunPicture → List ℕ → List (Option Aps) → List SliceSlot → Type 0
+AreSlots None bytes bodies slots = Unit {0}
+AreSlots (Some b) bytes bodies slots = IsHeader b × AllByRecursion (IsSlot b bytes bodies) slots
+
+-- the picture lies in order
+pub record IsOrdered (c : CurrentPicture) : Type 0 where
+  pub bytes : length c.bytes ≤ picture_limit
+  pub header : c.header_end ≤ length c.bytes
+  pub slots : AreSlots c.begun c.bytes c.bodies c.slices
+  pub messages : spelled_length c.messages ≤ message_limit
+
+pub record IsInOrder (s : State) : Type 0 where
+  pub sps : length s.sps ≡ 16
+  pub pps : length s.pps ≡ 64
+  pub aps : length s.aps ≡ 24
+  pub picture : IsOrdered s.picture
+  pub spelled : s.gathered_len ≡ spelled_length s.gathered
+  pub gathered : s.gathered_len ≤ message_limit
+
+-- all slices of a picture came
+abbrev pub AreAll : Option BegunPicture → List SliceSlot → Type 0
+AreAll None slots = ⊥
+AreAll (Some b) slots = (0 < length slots) × (length slots ≡ length b.sets.layout.slices)
+
+pub record IsComplete (c : CurrentPicture) : Type 0 where
+  pub slices : AreAll c.begun c.slices
+  pub kind : is_none c.kind ≡ false
+
+-- what was told of the last unit is so
+pub record IsKept (s : State) (told : Accepted) : Type 0 where
+  pub order : IsInOrder s
+  pub done : told ≡ accepted.PictureDone → IsComplete s.picture

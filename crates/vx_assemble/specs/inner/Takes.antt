@@ -1,0 +1,64 @@
+-- What steps of an assembler answer, in the words of the rules.
+use Rattle.std.specs.Prelude.{◌≡◌, ℕ, ◌<◌, ◌≤◌, List, ◌∷◌, length, Option, Some, None, Result, Ok, Err}
+use Rattle.std.specs.List.{AllByRecursion}
+use Rattle.vx_bits.specs.declared.list.Item.{Item}
+use Rattle.vx_bits.specs.declared.refusal.Refusal.{Refusal}
+use Rattle.vx_bits.specs.declared.refusal.ReadError.{ReadError}
+use Rattle.vx_bits.specs.declared.refusal.ReadError.TheVariants as errors
+use Rattle.vx_layout.specs.declared.numbers.Numbers.{Numbers}
+use Rattle.vx_ph.specs.declared.header.PictureHeader.{PictureHeader}
+use Rattle.vx_pic.specs.declared.accepted.Accepted.{Accepted}
+use Rattle.vx_pic.specs.Sets.{SliceHeader, Slot, names_of}
+use Rattle.vx_pic.specs.Readings.{Begun, Slice, Reading}
+use Rattle.vx_pic.specs.Parts.{id_count, slice_header_of}
+use Rattle.vx_pic.specs.Told.{told_of}
+use Rattle.vx_assemble.specs.declared.in_force.InForce.{InForce}
+use Rattle.vx_assemble.specs.declared.readers.ReadSlice.{ReadSlice}
+use Rattle.vx_assemble.specs.declared.state.BegunPicture.{BegunPicture}
+use Rattle.vx_assemble.specs.declared.state.State.{State}
+use Rattle.vx_assemble.specs.inner.Held.{begun_of, IsHeld}
+
+-- the answer of a rule is given, unless memory runs out
+abbrev pub Gives : {A : Type 0} → Result A Refusal → Result A ReadError → Type 0
+Gives answer (Ok a) = answer ≡ Ok a
+Gives answer (Err errors.Memory) = Unit {0}
+Gives answer (Err (errors.Refused r)) = answer ≡ Err r
+
+-- an answer, seen as something that it has
+abbrev pub answer_by : {A B : Type 0} → (A → B) → Result A ReadError → Result B ReadError
+answer_by f (Ok a) = Ok (f a)
+answer_by f (Err e) = Err e
+
+-- ---- headers
+
+-- the header is read as this in a unit of these bytes
+abbrev pub header_read_as : ReadSlice → SliceHeader
+header_read_as r = record { fields = r.header.fields; subpic = r.header.subpic; payload = r.payload }
+
+abbrev pub slice_read_as : List ℕ → ReadSlice → Slice
+slice_read_as unit r = record { unit = unit; header = header_read_as r }
+
+-- no set that it names has an id that none can have
+abbrev pub AreSmall : List Slot → Type 0
+AreSmall slots = AllByRecursion (λ slot. slot.id < id_count) slots
+
+-- a slice header that was read under this picture header, of a unit with so many bytes
+pub record IsReadUnder (b : BegunPicture) (size : ℕ) (r : ReadSlice) : Type 0 where
+  pub subpic : r.header.subpic < length b.sets.layout.subpics
+  pub header : r.header ≡ slice_header_of (begun_of b None) (header_read_as r)
+  pub payload : r.payload ≤ size
+  pub small : AreSmall (names_of b.sets.pps b.header.fields (record { fields = r.header.fields; subpic = 0; payload = 0 }))
+
+-- ---- units
+
+-- The unit was read so, and is held.
+pub record TookUnit (answer : Result Reading Refusal) (before : List Reading) (new : State) (what : Accepted) : Type 0 where
+  pub reading : Reading
+  pub reads : answer ≡ Ok reading
+  pub held : IsHeld new (reading ∷ before)
+  pub told : what ≡ told_of reading before
+
+abbrev pub TakesUnit : Result Reading Refusal → List Reading → State → Result Accepted ReadError → Type 0
+TakesUnit answer before new (Ok what) = TookUnit answer before new what
+TakesUnit answer before new (Err errors.Memory) = Unit {0}
+TakesUnit answer before new (Err (errors.Refused r)) = answer ≡ Err r

@@ -1,0 +1,100 @@
+//! The picture that was begun last, as far as its slices came.
+ghost use Rattle.std.specs.Prelude.{◌≡◌, ◌++◌, ◌∷◌, [], length, OnOk, OnErr};
+ghost use Rattle.vx_pic.specs.Readings.{Current, is_open, is_within};
+ghost use Rattle.vx_assemble.specs.inner.Changes as changes;
+ghost use Rattle.vx_assemble.specs.inner.Held.{Keeps};
+ghost use Rattle.vx_assemble.specs.inner.Order.{IsOrdered};
+
+use crate::state::{BegunPicture, CurrentPicture};
+use std::alloc::{AllocError, Global};
+use vx_bits::Bytes;
+use vx_pic::{ApsList, Kind, SliceSlot, SliceSlots};
+use vx_sei::MessageList;
+
+impl CurrentPicture {
+    /// Whether all slices of a header's picture came.
+    pub(crate) fn came_all(&self, begun: &BegunPicture) -> bool
+        ensures { result ≡ changes.came_all begun.now self.now }
+    {
+        self.slices.len() == begun.sets.value().slices
+    }
+
+    /// Whether a picture is begun, and not all its slices came.
+    pub(crate) fn is_open(&self) -> bool
+        requires { IsOrdered self.now }
+        ensures { (c : Current) → Keeps self.now c → result ≡ is_open c }
+    {
+        match &self.begun {
+            Some(begun) => self.kind.is_none() || !self.came_all(begun),
+            None => false,
+        }
+    }
+
+    /// Whether some of its slices came, and not all.
+    pub(crate) fn is_within(&self) -> bool
+        requires { IsOrdered self.now }
+        ensures { (c : Current) → Keeps self.now c → result ≡ is_within c }
+    {
+        match &self.begun {
+            Some(begun) => self.kind.is_some() && !self.came_all(begun),
+            None => false,
+        }
+    }
+
+    /// Begins it with a header that came in this PH unit, or in none.
+    ///
+    /// # Errors
+    ///
+    /// Where memory runs out, and all is then as it was.
+    pub(crate) fn begin(
+        &mut self,
+        alloc: Global,
+        begun: BegunPicture,
+        unit: &[u8],
+    ) -> Result<(), AllocError>
+        ensures ok { OnOk result (self.new ≡ changes.with_header begun unit.now self.old) }
+        ensures err { OnErr result (self.new ≡ self.old) }
+    {
+        let mut bytes = Bytes::new(alloc);
+        bytes.extend_from_slice(unit)?;
+        self.begun = Some(begun);
+        self.kind = None;
+        self.bytes = bytes;
+        self.header_end = unit.len();
+        self.slices = SliceSlots::new(alloc);
+        Ok(())
+    }
+
+    /// Sets what it is, its adaptation parameter sets, and its messages.
+    pub(crate) fn set_kind(&mut self, kind: Kind, bodies: ApsList, messages: MessageList)
+        ensures { self.new ≡ changes.with_kind kind bodies messages self.old }
+    {
+        self.kind = Some(kind);
+        self.bodies = bodies;
+        self.messages = messages;
+    }
+
+    /// Appends the bytes of a slice's unit.
+    ///
+    /// # Errors
+    ///
+    /// Where memory runs out, and all is then as it was.
+    pub(crate) fn append(&mut self, unit: &[u8]) -> Result<(), AllocError>
+        ensures ok { OnOk result (self.new ≡ changes.with_bytes unit.now self.old) }
+        ensures err { OnErr result (self.new ≡ self.old) }
+    {
+        self.bytes.extend_from_slice(unit)
+    }
+
+    /// Appends a slice, whose bytes are there.
+    ///
+    /// # Errors
+    ///
+    /// Where memory runs out, and all is then as it was.
+    pub(crate) fn push(&mut self, slot: SliceSlot) -> Result<(), AllocError>
+        ensures ok { OnOk result (self.new ≡ changes.with_slot slot self.old) }
+        ensures err { OnErr result (self.new ≡ self.old) }
+    {
+        self.slices.push(slot)
+    }
+}

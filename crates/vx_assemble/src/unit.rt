@@ -1,0 +1,119 @@
+//! A NAL unit, as it is taken.
+ghost use Rattle.std.specs.Prelude.{◌≡◌, ◌+◌, ◌≤◌, ◌^◌, length, drop, IfOk};
+ghost use Rattle.vx_annexb.specs.NalUnit.{header_of, nal_unit_type};
+ghost use Rattle.vx_annexb.specs.ByteStream.{IsSound};
+ghost use Rattle.vx_annexb.specs.Emulation.{unescaped};
+ghost use Rattle.vx_pic.specs.Units as units;
+ghost use Rattle.vx_pic.specs.Units.{rbsp_of, has_header_inside};
+ghost use Rattle.vx_assemble.specs.inner.Classes.{class_seen, class_behind_sets};
+
+use std::alloc::{AllocError, Global};
+use vx_annexb::{NalHeader, unescape};
+use vx_pic::{
+    CRA_NUT, EOB_NUT, EOS_NUT, GDR_NUT, IDR_N_LP, IDR_W_RADL, PH_NUT, PPS_NUT, PREFIX_APS_NUT,
+    PREFIX_SEI_NUT, RASL_NUT, SPS_NUT, SUFFIX_APS_NUT, VPS_NUT,
+};
+
+/// A NAL unit, as it is taken.
+#[derive(Clone, Copy)]
+pub(crate) struct NalUnit<'a> {
+    /// Its bytes.
+    pub bytes: &'a [u8],
+    /// Its header.
+    pub header: NalHeader,
+    /// Its RBSP.
+    pub rbsp: &'a [u8],
+    ghost sound: { IsSound bytes.now },
+    ghost heads: { header ≡ header_of bytes.now },
+    ghost spells: { rbsp.now ≡ rbsp_of bytes.now },
+    ghost short: { length rbsp.now ≤ 2 ^ 23 },
+}
+
+impl NalUnit<'_> {
+    /// Whether the picture header stands inside, of a slice (H.266 7.3.7).
+    #[tactic(auto, unfolding(vx_pic::specs::Units::has_header_inside))]
+    pub(crate) fn has_header_inside(&self) -> bool
+        ensures { result ≡ has_header_inside self.now.bytes.now }
+    {
+        match self.rbsp.first() {
+            Some(byte) => *byte >= 128,
+            None => false,
+        }
+    }
+}
+
+/// What a type of NAL units is.
+#[derive(Clone, Copy, Debug, PartialEq, Eq)]
+pub(crate) enum UnitClass {
+    /// A type that is dropped.
+    Other,
+    /// A video parameter set.
+    Vps,
+    /// A sequence parameter set.
+    Sps,
+    /// A picture parameter set.
+    Pps,
+    /// An adaptation parameter set before slices.
+    PrefixAps,
+    /// An adaptation parameter set that may stand behind slices.
+    SuffixAps,
+    /// A picture header.
+    Header,
+    /// A slice.
+    Slice,
+    /// An end of sequence, or of the bitstream.
+    End,
+    /// Supplemental enhancement information before slices.
+    Sei,
+}
+
+/// Whether it is that of an IDR picture.
+pub(crate) fn is_idr(nal_type: u8) -> bool
+    ensures { result ≡ units.is_idr nal_type }
+{
+    nal_type == IDR_W_RADL || nal_type == IDR_N_LP
+}
+
+/// Whether it is that of a CRA or GDR picture.
+pub(crate) fn is_cra_or_gdr(nal_type: u8) -> bool
+    ensures { result ≡ units.is_cra_or_gdr nal_type }
+{
+    nal_type == CRA_NUT || nal_type == GDR_NUT
+}
+
+/// Whether it is that of an IRAP or GDR picture.
+pub(crate) fn is_irap_or_gdr(nal_type: u8) -> bool
+    ensures { result ≡ units.is_irap_or_gdr nal_type }
+{
+    is_idr(nal_type) || is_cra_or_gdr(nal_type)
+}
+
+/// What the types behind those of sets and headers are.
+fn class_behind_sets(nal_type: u8) -> UnitClass
+    ensures { class_seen result ≡ class_behind_sets nal_type }
+{
+    if nal_type <= RASL_NUT || is_irap_or_gdr(nal_type) {
+        return UnitClass::Slice;
+    }
+    match nal_type {
+        EOS_NUT | EOB_NUT => UnitClass::End,
+        PREFIX_SEI_NUT => UnitClass::Sei,
+        _ => UnitClass::Other,
+    }
+}
+
+/// What a type is.
+#[tactic(auto, unfolding(vx_pic::specs::Units::class_of))]
+pub(crate) fn class_of(nal_type: u8) -> UnitClass
+    ensures { class_seen result ≡ units.class_of nal_type }
+{
+    match nal_type {
+        VPS_NUT => UnitClass::Vps,
+        SPS_NUT => UnitClass::Sps,
+        PPS_NUT => UnitClass::Pps,
+        PREFIX_APS_NUT => UnitClass::PrefixAps,
+        SUFFIX_APS_NUT => UnitClass::SuffixAps,
+        PH_NUT => UnitClass::Header,
+        _ => class_behind_sets(nal_type),
+    }
+}

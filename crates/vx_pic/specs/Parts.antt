@@ -1,0 +1,166 @@
+-- What callers see of a picture, and which picture of a stream that is.
+use Rattle.std.specs.Prelude.{◌≡◌, ℕ, ◌+◌, ◌-◌, ◌*◌, ◌<◌, ◌≤◌, ◌==◌, ◌&&◌, nat_lt, true, false, cond, List, ◌++◌, length, map, take, Option, Some, None}
+use Rattle.std.specs.Prelude.{is_none}
+use Rattle.std.specs.List.{AllByRecursion, range_with_len, slice_index_or, slice_range}
+use Rattle.vx_bits.specs.declared.list.Item.{Item}
+use Rattle.vx_table.specs.Scope.{is_set}
+use Rattle.vx_table.specs.Loaded.{number}
+use Rattle.vx_fields.specs.declared.sh.TheConstants.{sh_picture_header_in_slice_header_flag}
+use Rattle.vx_layout.specs.declared.numbers.Numbers.{Numbers}
+use Rattle.vx_aps.specs.declared.aps.Aps.{Aps}
+use Rattle.vx_aps.specs.declared.aps.TheConstants.{ALF, LMCS, SCALING}
+use Rattle.vx_sei.specs.declared.message.Message.{Message}
+use Rattle.vx_rpl.specs.HeaderLists.{lists_of}
+use Rattle.vx_ph.specs.declared.header.PictureHeader.{PictureHeader}
+use Rattle.vx_ph.specs.InForce.{in_force, structures}
+use Rattle.vx_sh.specs.declared.header.SliceHeader.{SliceHeader as SliceValue}
+use Rattle.vx_pic.specs.declared.kind.Kind.{Kind}
+use Rattle.vx_pic.specs.declared.picture.PictureParts.{PictureParts}
+use Rattle.vx_pic.specs.declared.picture.SliceSlot.{SliceSlot}
+use Rattle.vx_pic.specs.declared.picture.SliceView.{SliceView}
+use Rattle.vx_pic.specs.Sets.{SliceHeader, Slot, address_of, names_of, slice_qp, is_qp}
+use Rattle.vx_pic.specs.Readings.{Reading, Begun, Slice, Picture, stored_aps, messages_of}
+use Rattle.vx_pic.specs.PictureLayout.{ids_of, numbers_in}
+use Rattle.vx_pic.specs.UnderSets.{header_of}
+
+-- ---- adaptation parameter sets
+
+-- how many ids a type has at most: 0 to 7 (7.4.3.6)
+abbrev pub id_count : ℕ
+id_count = 8
+
+-- their place in a list of those of all types, each type's by id
+abbrev pub slot_of : ℕ → ℕ → ℕ
+slot_of kind id = id_count * kind + id
+
+-- the one of a type and an id
+abbrev pub aps_at : List (Option Aps) → ℕ → ℕ → Option Aps
+aps_at sets kind id = cond (nat_lt kind (SCALING + 1) && nat_lt id id_count) (slice_index_or sets (slot_of kind id) None) None
+
+-- those in force behind these readings, by their types and ids
+abbrev pub stored_of : ℕ → List Reading → List (Option Aps)
+stored_of kind before = map (λ id. stored_aps kind id before) (range_with_len 0 id_count)
+
+abbrev pub stored_sets : List Reading → List (Option Aps)
+stored_sets before = stored_of ALF before ++ (stored_of LMCS before ++ stored_of SCALING before)
+
+-- ---- what callers see
+
+-- A slice: its unit, its header, and the place in the unit at which slice_data( ) begins.
+pub record SlicePart : Type 0 where
+  pub unit : List ℕ
+  pub header : SliceValue
+  pub payload : ℕ
+
+-- A picture: its kind, the items of its sets, its layout, its header, the ids of its subpictures, the PH unit where it has one, its
+-- slices in order, its adaptation parameter sets (those of type 0 by their ids, then those of types 1 and 2), and its messages.
+pub record Parts : Type 0 where
+  pub kind : Kind
+  pub sps : List Item
+  pub pps : List Item
+  pub layout : Numbers
+  pub header : PictureHeader
+  pub ids : List ℕ
+  pub unit : Option (List ℕ)
+  pub slices : List SlicePart
+  pub bodies : List (Option Aps)
+  pub messages : List Message
+
+-- a slice that is kept by its places in the picture's bytes
+abbrev pub slice_in : List ℕ → SliceSlot → SlicePart
+slice_in bytes s = record { unit = slice_range bytes s.start s.end; header = s.header; payload = s.payload - s.start }
+
+-- one that is lent
+abbrev pub part_of : SliceView → SlicePart
+part_of v = record { unit = v.unit.now; header = v.header.now; payload = length v.unit.now - length v.payload.now }
+
+-- the PH unit, which comes first; none where the header stands inside the slice
+abbrev pub header_unit_in : List ℕ → ℕ → Option (List ℕ)
+header_unit_in bytes end = cond (end == 0) None (Some (take end bytes))
+
+abbrev pub seen : PictureParts → Parts
+seen p = record {
+  kind = p.kind;
+  sps = p.sps.now;
+  pps = p.pps.now;
+  layout = p.layout.now;
+  header = p.header.now;
+  ids = p.ids.now;
+  unit = header_unit_in p.bytes.now p.header_end;
+  slices = map (slice_in p.bytes.now) p.slices.now;
+  bodies = p.bodies.now;
+  messages = p.messages.now;
+}
+
+-- ---- what is asked of it
+
+-- its places stand in the bytes, in order, and the payload isn't empty
+pub record IsPlaced (bytes : List ℕ) (s : SliceSlot) : Type 0 where
+  pub start : s.start ≤ s.payload
+  pub payload : s.payload < s.end
+  pub end : s.end ≤ length bytes
+
+-- what is read of a slice with this header, but for the place of its payload
+abbrev pub read_of : SliceValue → SliceHeader
+read_of h = record { fields = h.fields; subpic = h.subpic; payload = 0 }
+
+-- what it names of adaptation parameter sets, of a picture with this PPS and header
+abbrev pub named_by : List Item → List Item → SliceValue → List Slot
+named_by pps header h = names_of pps header (read_of h)
+
+-- each of these is there
+abbrev pub AreThere : List (Option Aps) → List Slot → Type 0
+AreThere sets slots = AllByRecursion (λ slot. is_none (aps_at sets slot.kind slot.id) ≡ false) slots
+
+-- Parts that make up a picture.
+pub record MakePicture (p : PictureParts) : Type 0 where
+  -- there is a slice, and all slices of the layout came (a whole picture), of which there are at most so many
+  pub some : 0 < length p.slices.now
+  pub whole : length p.slices.now ≡ length p.layout.now.slices
+  pub few : length p.slices.now ≤ 1000
+  -- the units stand in the bytes, each slice with a payload (a slice that is read)
+  pub header : p.header_end ≤ length p.bytes.now
+  pub places : AllByRecursion (IsPlaced p.bytes.now) p.slices.now
+  -- the layout is that of the sets, and there are ids of all subpictures (a header that is read)
+  pub layout : p.layout.now ≡ numbers_in p.sps.now p.pps.now
+  pub ids : length p.ids.now ≡ length p.layout.now.subpics
+  -- each slice's subpicture is one of the layout's (a slice that is read)
+  pub subpics : AllByRecursion (λ s. s.header.subpic < length p.layout.now.subpics) p.slices.now
+  -- each adaptation parameter set that a slice or the picture header names is there (a picture whose slices joined it)
+  pub bodies : AllByRecursion (λ s. AreThere p.bodies.now (named_by p.pps.now p.header.now.fields s.header)) p.slices.now
+  -- its QP is in range (a picture whose slices joined it)
+  pub qps : AllByRecursion (λ s. is_qp p.sps.now (slice_qp p.pps.now p.header.now.fields (read_of s.header)) ≡ true) p.slices.now
+
+-- ---- which picture it is
+
+-- the header of a slice of a picture, with the lists that its items come to
+abbrev pub slice_header_of : Begun → SliceHeader → SliceValue
+slice_header_of b h = record {
+  inside = is_set (number h.fields sh_picture_header_in_slice_header_flag);
+  fields = h.fields;
+  subpic = h.subpic;
+  address = address_of h;
+  lists = lists_of (structures b.sps) (in_force b.sps b.pps) h.fields;
+}
+
+abbrev pub slice_part : Begun → Slice → SlicePart
+slice_part b s = record { unit = s.unit; header = slice_header_of b s.header; payload = s.header.payload }
+
+-- a picture of a stream, as callers see it
+abbrev pub parts_of : Picture → Parts
+parts_of p = record {
+  kind = p.kind;
+  sps = p.begun.sps;
+  pps = p.begun.pps;
+  layout = p.begun.layout;
+  header = header_of p.begun;
+  ids = ids_of p.begun.sps p.begun.pps;
+  unit = p.begun.unit;
+  slices = map (slice_part p.begun) p.slices;
+  bodies = stored_sets p.before;
+  messages = messages_of p;
+}
+
+-- These are its parts.
+abbrev pub Shows : Parts → Picture → Type 0
+Shows parts p = parts ≡ parts_of p

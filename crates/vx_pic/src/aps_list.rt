@@ -1,0 +1,98 @@
+//! The adaptation parameter sets that are stored.
+ghost use Rattle.std.specs.Prelude.{◌≡◌, option_map, IfOk};
+
+use std::alloc::AllocError;
+use std::marker::Model;
+use std::rc::Rc;
+use vx_aps::{Aps, SCALING};
+
+/// How many ids a type has at most: 0 to 7 (H.266 7.4.3.6).
+const IDS: u8 = 8;
+
+/// The adaptation parameter sets that are stored, at most one of each type and id. Each is shared, and not copied.
+///
+/// It is seen as the list of 24 sets, or their absence: those of type 0 by their ids, and then those of types 1 and 2.
+#[derive(Drop)]
+pub struct ApsList {
+    sets: [Option<Rc<Aps>>; 24],
+}
+
+impl Model for ApsList {
+    ghost use Rattle.std.specs.Prelude.{◌≡◌, List, Option, option_map, map, length};
+    ghost use Rattle.vx_aps.specs.declared.aps.Aps.{Aps};
+
+    ghost Value = { List (Option Aps) };
+
+    ghost view = { λ l. map (option_map (λ rc. rc.value)) l.sets };
+
+    ghost invariant = { λ l. length l.sets ≡ 24 };
+}
+
+/// A set that may be there, shared.
+fn shared(aps: &Option<Rc<Aps>>) -> Result<Option<Rc<Aps>>, AllocError>
+    ensures { IfOk result (λ copy. option_map (λ rc. rc.value) copy ≡ option_map (λ rc. rc.value) aps.now) }
+{
+    match aps {
+        Some(aps) => Ok(Some(aps.clone()?)),
+        None => Ok(None),
+    }
+}
+
+impl ApsList {
+    ghost use Rattle.std.specs.Prelude.{◌≡◌, ℕ, ◌<◌, ◌≤◌, List, Option, Some, None, option_copied, replicate, slice_set, IfOk};
+    ghost use Rattle.vx_aps.specs.declared.aps.TheConstants.{SCALING};
+    ghost use Rattle.vx_pic.specs.Parts.{aps_at, slot_of, id_count};
+
+    /// No sets. Takes no memory.
+    pub fn new() -> ApsList
+        ensures { result ≡ replicate 24 None }
+    {
+        ApsList {
+            sets: [
+                None, None, None, None, None, None, None, None, None, None, None, None, None, None,
+                None, None, None, None, None, None, None, None, None, None,
+            ],
+        }
+    }
+
+    #[tactic(auto, using(crate::proofs::ApsLists::replaced))]
+    /// Stores a set in the place of the one of its type and id. Takes no memory.
+    pub fn put(&mut self, aps: Rc<Aps>)
+        requires kind { aps.value.kind ≤ SCALING }
+        requires id { aps.value.id < id_count }
+        ensures list { self.new ≡ slice_set self.old (slot_of aps.value.kind aps.value.id) (Some aps.value) }
+    {
+        let place = usize::from(IDS) * usize::from(aps.kind) + usize::from(aps.id);
+        self.sets[place] = Some(aps);
+    }
+
+    /// The set of a type and an id.
+    pub fn get(&self, kind: u8, id: u8) -> Option<&Aps>
+        ensures { option_copied result ≡ aps_at self.now kind id }
+    {
+        if SCALING < kind || IDS <= id {
+            return None;
+        }
+        let place = usize::from(IDS) * usize::from(kind) + usize::from(id);
+        match &self.sets[place] {
+            Some(aps) => Some(aps.as_ref()),
+            None => None,
+        }
+    }
+
+    #[tactic(auto, using(crate::proofs::ApsLists::filled, crate::proofs::ApsLists::all_filled))]
+    /// The same sets once more, each shared with this list. Takes no memory.
+    ///
+    /// # Errors
+    ///
+    /// Where a set has as many owners as can be counted.
+    pub fn share(&self) -> Result<ApsList, AllocError>
+        ensures { IfOk result (λ list. list ≡ self.now) }
+    {
+        let mut list = ApsList::new();
+        for i in 0..self.sets.len() {
+            list.sets[i] = shared(&self.sets[i])?;
+        }
+        Ok(list)
+    }
+}

@@ -1,0 +1,193 @@
+//! A picture, as it is handed on.
+
+use crate::aps_list::ApsList;
+use crate::kind::Kind;
+use std::marker::Model;
+use vx_bits::{IdList, LentList};
+use vx_layout::Layout;
+use vx_ph::PictureHeader;
+use vx_pps::Pps;
+use vx_sei::MessageList;
+use vx_sh::SliceHeader;
+use vx_sps::Sps;
+
+/// A slice, as it is lent.
+#[derive(Clone, Copy)]
+pub struct SliceView<'a> {
+    /// Its header.
+    pub header: &'a SliceHeader,
+    /// Its NAL unit.
+    pub unit: &'a [u8],
+    /// The bytes of the unit behind the slice header.
+    pub payload: &'a [u8],
+}
+
+/// A slice, as it is kept: its header, and where its unit stands in the bytes of its picture.
+#[derive(Drop)]
+pub struct SliceSlot {
+    /// Its header.
+    pub header: SliceHeader,
+    /// Where its unit begins.
+    pub start: usize,
+    /// Where the bytes behind its header begin.
+    pub payload: usize,
+    /// Where its unit ends.
+    pub end: usize,
+}
+
+/// The slices of a picture, in order.
+pub type SliceSlots = LentList<SliceSlot>;
+
+/// What a picture is made of.
+#[derive(Clone, Copy)]
+pub struct PictureParts<'a> {
+    /// What it is among the pictures of its stream.
+    pub kind: Kind,
+    /// Its SPS.
+    pub sps: &'a Sps,
+    /// Its PPS.
+    pub pps: &'a Pps,
+    /// Its tiles, slices and subpictures.
+    pub layout: &'a Layout,
+    /// Its header.
+    pub header: &'a PictureHeader,
+    /// The ids of its subpictures, by their index.
+    pub ids: &'a IdList,
+    /// The bytes of its PH unit, where it has one, and of its slices' units.
+    pub bytes: &'a [u8],
+    /// Where the PH unit ends, which begins at 0; 0 where the picture header stands inside the slice.
+    pub header_end: usize,
+    /// Its slices.
+    pub slices: &'a SliceSlots,
+    /// The adaptation parameter sets that were stored before its first slice.
+    pub bodies: &'a ApsList,
+    /// Its messages.
+    pub messages: &'a MessageList,
+}
+
+/// A whole picture of a stream. None of its calls takes memory.
+///
+/// It is seen as the record of what they answer.
+pub struct Picture<'a> {
+    parts: PictureParts<'a>,
+}
+
+impl<'a> Model for Picture<'a> {
+    ghost use Rattle.vx_pic.specs.Parts.{Parts, seen, MakePicture};
+
+    ghost Value = { Parts };
+
+    ghost view = { λ p. seen p.parts };
+
+    ghost invariant = { λ p. MakePicture p.parts };
+}
+
+impl<'a> Picture<'a> {
+    ghost use Rattle.std.specs.Prelude.{◌≡◌, ◌<◌, ◌≤◌, Some, length, drop, slice_get, option_copied, option_map};
+    ghost use Rattle.vx_pic.specs.Parts.{seen, MakePicture, aps_at, part_of, AreThere, named_by};
+
+    /// The picture that these parts make up.
+    pub fn of(parts: PictureParts<'a>) -> Picture<'a>
+        requires { MakePicture parts }
+        ensures { result ≡ seen parts.entry }
+    {
+        Picture { parts }
+    }
+
+    /// What it is among the pictures of its stream.
+    pub fn kind(&self) -> Kind
+        ensures { result ≡ self.now.kind }
+    {
+        self.parts.kind
+    }
+
+    /// Its SPS.
+    pub fn sps(&self) -> &'a Sps
+        ensures { result.now ≡ self.now.sps }
+    {
+        self.parts.sps
+    }
+
+    /// Its PPS.
+    pub fn pps(&self) -> &'a Pps
+        ensures { result.now ≡ self.now.pps }
+    {
+        self.parts.pps
+    }
+
+    /// Its tiles, slices and subpictures.
+    pub fn layout(&self) -> &'a Layout
+        ensures { result.now ≡ self.now.layout }
+    {
+        self.parts.layout
+    }
+
+    /// Its header.
+    pub fn header(&self) -> &'a PictureHeader
+        ensures { result.now ≡ self.now.header }
+    {
+        self.parts.header
+    }
+
+    /// The ids of its subpictures, by their index.
+    pub fn ids(&self) -> &'a IdList
+        ensures ids { result.now ≡ self.now.ids }
+        ensures number { length self.now.ids ≡ length self.now.layout.subpics }
+    {
+        self.parts.ids
+    }
+
+    /// Its PH unit, where it has one: none where the picture header stands inside the slice.
+    pub fn header_unit(&self) -> Option<&'a [u8]>
+        ensures { option_copied result ≡ self.now.unit }
+    {
+        if self.parts.header_end == 0 {
+            return None;
+        }
+        Some(&self.parts.bytes[..self.parts.header_end])
+    }
+
+    /// The number of its slices, at most 1,000.
+    pub fn slice_count(&self) -> u32
+        ensures number { result ≡ length self.now.slices }
+        ensures some { 0 < result }
+        ensures few { result ≤ 1000 }
+    {
+        self.parts.slices.len() as u32
+    }
+
+    /// A slice, in the order of the picture, counted from 0.
+    #[tactic(auto, using(crate::proofs::Spans::suffix))]
+    pub fn slice(&self, i: u32) -> SliceView<'a>
+        requires { i < length self.now.slices }
+        ensures slice { slice_get self.now.slices i ≡ Some (part_of result) }
+        ensures suffix { result.payload.now ≡ drop (part_of result).payload result.unit.now }
+        ensures some { 0 < length result.payload.now }
+        ensures subpic { result.header.now.subpic < length self.now.layout.subpics }
+        ensures bodies { AreThere self.now.bodies (named_by self.now.pps self.now.header.fields result.header.now) }
+    {
+        let slot = self.parts.slices.item(i as usize);
+        SliceView {
+            header: &slot.header,
+            unit: &self.parts.bytes[slot.start..slot.end],
+            payload: &self.parts.bytes[slot.payload..slot.end],
+        }
+    }
+
+    /// The body of an adaptation parameter set, by its type and id, as it was stored before the first slice.
+    pub fn body(&self, kind: u8, id: u8) -> Option<&'a [u8]>
+        ensures { option_copied result ≡ option_map (λ aps. aps.body) (aps_at self.now.bodies kind id) }
+    {
+        self.parts
+            .bodies
+            .get(kind, id)
+            .map(|aps| aps.body.as_slice())
+    }
+
+    /// Its messages.
+    pub fn messages(&self) -> &'a MessageList
+        ensures { result.now ≡ self.now.messages }
+    {
+        self.parts.messages
+    }
+}
