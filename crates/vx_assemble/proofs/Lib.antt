@@ -1,3 +1,4 @@
 -- Lemmas of this crate.
 pub mod Feeding
 pub mod Seeking
+pub mod Advancing

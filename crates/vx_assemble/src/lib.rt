@@ -19,5 +19,5 @@ mod unit;
 
 pub use assembler::Assembler;
 pub use fault::{AssembleFault, First};
-pub use feed::{Feed, FeedFault, Taken};
+pub use feed::{Feed, FeedFault, Step, Taken};
 pub use vx_pic::Accepted;
