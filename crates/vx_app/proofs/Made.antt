@@ -13,6 +13,7 @@ use Rattle.vx_pic.specs.declared.kind.Kind.{Kind}
 use Rattle.vx_pic.specs.Sets.{sps_id, pps_id}
 use Rattle.vx_pic.specs.Readings.{Begun, Slice, Reading, dropped, vps_read, sps_read, pps_read, aps_read, messages_read, header_read, first_slice, next_slice, sequence_ended}
 use Rattle.vx_pic.specs.Readings.{stored_sps, stored_pps, Picture, Current, nothing, headed, going, current, is_whole, whole_part, completed, pictures}
+use Rattle.vx_sps.specs.Subpictures.{subpics_of}
 use Rattle.vx_pic.specs.Rules.{Readers}
 use Rattle.vx_pic.specs.Told.{told_of, done_or_not}
 use Rattle.vx_aps.specs.declared.aps.Aps.{Aps}
@@ -204,7 +205,7 @@ module _ (r : Reading) (before : List Reading) where
   done_shown told = set_is accepted.PictureDone r before told
 
   -- of a picture, from its parts
-  pub numbers_same : (p : Picture) (n : ℕ) (kind : Kind) (slices subpictures : ℕ) → n ≡ length (pictures before) → kind ≡ p.kind → slices ≡ length p.slices → subpictures ≡ length p.begun.layout.subpics
+  pub numbers_same : (p : Picture) (n : ℕ) (kind : Kind) (slices subpictures : ℕ) → n ≡ length (pictures before) → kind ≡ p.kind → slices ≡ length p.slices → subpictures ≡ subpics_of p.begun.sps
       → picture_with n kind slices subpictures ≡ numbers_of (length (pictures before)) p
   numbers_same p n kind slices subpictures a b c d = rw (a, b, c, d) refl
 

@@ -11,6 +11,7 @@ use Rattle.vx_pic.specs.Rules.{Readers, reads}
 use Rattle.vx_pic.specs.Streams.{read_on, all_read}
 use Rattle.vx_pic.specs.Bytes.{Ending, units_at, ending_by}
 use Rattle.vx_pic.specs.H266.{AreOfH266}
+use Rattle.vx_sps.specs.Subpictures.{subpics_of}
 use Rattle.vx_report.specs.declared.refusal.Where.{Where}
 use Rattle.vx_report.specs.declared.picture.PictureNumbers.{PictureNumbers}
 use Rattle.vx_report.specs.declared.set.SetNumbers.TheVariants.{Aps}
@@ -53,7 +54,7 @@ numbers_of n p = record {
   clvss = p.kind.clvss;
   poc = p.kind.poc;
   slices = length p.slices;
-  subpictures = length p.begun.layout.subpics;
+  subpictures = subpics_of p.begun.sps;
 }
 
 -- the line of the picture that this reading completes behind those before it, the latest first

@@ -20,7 +20,7 @@ ghost use Rattle.vx_app.specs.inner.Showing.{ReadsOn, GathersNext, Gathers, Show
 use crate::stop::Stop;
 use std::alloc::{AllocError, Global};
 use vx_annexb::{NalHeader, ReadFault};
-use vx_assemble::{Accepted, Feed, FeedFault, Taken};
+use vx_assemble::{Accepted, Feed, FeedFault, PictureSeen, Taken};
 use vx_io::{Sink, Source, write_all};
 use vx_pic::Kind;
 use vx_report::{PictureNumbers, SetNumbers, Where, picture_line, set_line, unit_line};
@@ -189,6 +189,19 @@ fn told_line(
     }
 }
 
+/// Stands for a picture where there is none.
+const NO_PICTURE: PictureSeen = PictureSeen {
+    kind: Kind {
+        nal_type: 0,
+        temporal_id: 0,
+        clvss: false,
+        after_eos: false,
+        poc: 0,
+    },
+    slices: 0,
+    subpictures: 0,
+};
+
 /// What is shown of the picture that was done, behind the first `pictures`.
 fn picture_numbers(feed: &Feed, pictures: u64) -> PictureNumbers
     requires { HasPicture feed.now.assembler }
@@ -196,15 +209,8 @@ fn picture_numbers(feed: &Feed, pictures: u64) -> PictureNumbers
         → HasFed R feed.now g units (r ∷ before) → PictureDone ≡ told_of r before → pictures ≡ length (pictures_in before)
         → picture_text result ≡ picture_lines r before }
 {
-    let _feed = feed;
-    let kind = Kind {
-        nal_type: 0,
-        temporal_id: 0,
-        clvss: false,
-        after_eos: false,
-        poc: 0,
-    };
-    numbers_with(pictures, kind, 0, 0)
+    let picture = feed.picture_seen().unwrap_or(NO_PICTURE);
+    numbers_with(pictures, picture.kind, picture.slices, picture.subpictures)
 }
 
 /// What is shown of a picture of this kind, behind the first `pictures`.

@@ -21,15 +21,15 @@ use Rattle.vx_annexb.proofs.Unseen.{seen_stays}
 use Rattle.vx_annexb.proofs.Unique.{follow_front}
 use Rattle.vx_pic.specs.Readings.{Reading, pictures}
 use Rattle.vx_pic.specs.Rules.{Readers, reads}
-use Rattle.vx_pic.specs.Streams.{Outcome, read_on, all_read, stopped, one_more, unless_refused, lacks_slice}
-use Rattle.vx_pic.specs.Bytes.{Ending, units_at, ending_by, ArePictures}
+use Rattle.vx_pic.specs.Streams.{Outcome, read_on, all_read, stopped, one_more, unless_refused}
+use Rattle.vx_pic.specs.Bytes.{units_at, ending_by, ArePictures}
 use Rattle.vx_pic.proofs.Going.{goes_on}
 use Rattle.vx_assemble.specs.Held.{Held, Stands, Ends}
 use Rattle.vx_assemble.specs.declared.fault.AssembleFault.{AssembleFault}
 use Rattle.vx_assemble.specs.declared.fault.AssembleFault.TheVariants as assembler
 use Rattle.vx_assemble.specs.declared.fault.First.{First}
 use Rattle.vx_assemble.specs.declared.feed.FeedFault.{FeedFault}
-use Rattle.vx_assemble.specs.Feed.{Feeding, seen_of, HasFed, UnitIsRefused, EndIsRefused, IsRefusedFor, by_bytes, by_unit, at_end, EndsThere, IsTold, Gives, ReadsOn}
+use Rattle.vx_assemble.specs.Feed.{Feeding, seen_of, HasFed, UnitIsRefused, IsRefusedFor, by_bytes, by_unit, at_end, EndsThere, Gives, ReadsOn}
 use Rattle.vx_assemble.specs.inner.Feed.{Accepts, fault_of, feeding}
 use Rattle.vx_assemble.specs.declared.feed.FeedFault.TheVariants as faults
 use Rattle.vx_assemble.specs.declared.feed.Taken.{Taken}

@@ -1,3 +1,5 @@
 -- Lemmas of this crate.
 pub mod Feeding
 pub mod Seeking
+pub mod Advancing
+pub mod DonePicture

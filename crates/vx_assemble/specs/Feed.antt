@@ -6,7 +6,7 @@ use Rattle.std.specs.Io.KnownBytes.{Consumes, Keeps, IsAtEnd}
 use Rattle.vx_bits.specs.declared.refusal.Refusal.{Refusal}
 use Rattle.vx_io.specs.Faults.{Rose}
 use Rattle.vx_annexb.specs.NalUnit.{header_of}
-use Rattle.vx_annexb.specs.ByteStream.{source_limit, UnitPlace, unit_bytes, IsStream, FollowsFrom}
+use Rattle.vx_annexb.specs.ByteStream.{source_limit, UnitPlace, unit_bytes, IsStream, FollowsFrom, end_of}
 use Rattle.vx_annexb.specs.Held.{is_all, ahead}
 use Rattle.vx_annexb.specs.Reading as reader
 use Rattle.vx_annexb.specs.declared.header.NalHeader.{NalHeader}
@@ -14,15 +14,17 @@ use Rattle.vx_annexb.specs.declared.unit_reader.Closed.TheVariants as closed
 use Rattle.vx_annexb.specs.declared.unit_reader.ReadFault.{ReadFault}
 use Rattle.vx_annexb.specs.declared.unit_reader.ReadFault.TheVariants as read_faults
 use Rattle.vx_pic.specs.declared.accepted.Accepted.{Accepted}
-use Rattle.vx_pic.specs.Readings.{Reading, pictures}
+use Rattle.vx_pic.specs.Readings.{Reading, Picture, pictures}
 use Rattle.vx_pic.specs.Rules.{Readers, reads}
 use Rattle.vx_pic.specs.Streams.{read_on, all_read, lacks_slice}
-use Rattle.vx_pic.specs.Bytes.{Ending, units_at, ArePictures, AreSeenPictures}
+use Rattle.vx_pic.specs.Bytes.{units_at, ArePictures, AreSeenPictures}
 use Rattle.vx_pic.specs.Told.{told_of}
 use Rattle.vx_assemble.specs.declared.fault.First.{First}
 use Rattle.vx_assemble.specs.declared.fault.First.TheVariants as firsts
 use Rattle.vx_assemble.specs.declared.feed.FeedFault.{FeedFault}
 use Rattle.vx_assemble.specs.declared.feed.FeedFault.TheVariants as faults
+use Rattle.vx_assemble.specs.declared.feed.Step.{Step}
+use Rattle.vx_assemble.specs.declared.feed.Step.TheVariants.{Picture as ToPicture, End as ToEnd}
 use Rattle.vx_assemble.specs.declared.feed.Taken.{Taken}
 use Rattle.vx_assemble.specs.declared.feed.Taken.TheVariants.{Nal, End}
 use Rattle.vx_assemble.specs.Held.{Held, Stands, told}
@@ -65,6 +67,11 @@ left_to_take f = ahead f.reader.splitter
 abbrev pub Lowers : Option Taken → ℕ → ℕ → Type 0
 Lowers (Some (Nal header place bytes what)) old new = new < old
 Lowers _ old new = new ≤ old
+
+-- a unit that is taken is one more
+abbrev pub Counts : Taken → ℕ → ℕ → Type 0
+Counts (Nal header place bytes what) old new = new ≡ old + 1
+Counts End old new = Unit {0}
 
 -- ---- what stands behind the units
 
@@ -155,3 +162,39 @@ pub record Takes (R : Readers) (g : List ℕ) (places : List UnitPlace) (before 
   pub piece : List ℕ
   pub consumed : Consumes left left' piece
   pub behind : TakesBehind R (g ++ piece) places before new faults faults' result
+
+-- ---- pictures
+
+-- Behind the units at these places, read as these, more were taken: at later places, read as `readings`, the latest first.
+pub record HasGone (R : Readers) (f : Feeding) (g : List ℕ) (places : List UnitPlace) (before readings : List Reading) : Type 0 where
+  pub later : List UnitPlace
+  pub fed : HasFed R f g (places ++ later) (readings ++ before)
+  pub needed : reader.LastWasNeeded g (places ++ later)
+
+-- the source has given fewer bytes past the place where the end of the last of these units is seen than a read asks for
+abbrev pub IsNearEnd : List ℕ → List UnitPlace → Type 0
+IsNearEnd g places = length g < end_of 0 places + 3 + 65536
+
+-- The next picture of a source: the one that is done with the last of the units taken, and none is done before; or the end; or the first
+-- refusal in what was read. At a failed read no further picture is seen there.
+abbrev pub AdvancesBehind : Readers → List ℕ → List UnitPlace → List Reading → Feeding → ℕ → ℕ → Result Step FeedFault → Type 0
+AdvancesBehind R g places before new count count' (Ok ToPicture) =
+    (count' ≡ count)
+    × ((readings : List Reading) × (h : HasGone R new g places before readings)
+    × ((p : Picture) × (pictures (readings ++ before) ≡ p ∷ pictures before)) × IsNearEnd g (places ++ h.later))
+AdvancesBehind R g places before new count count' (Ok ToEnd) =
+    (count' ≡ count)
+    × ((readings : List Reading) × (h : HasGone R new g places before readings) × (pictures (readings ++ before) ≡ pictures before))
+    × ArePictures R (seen_of g) true (pictures before) None
+AdvancesBehind R g places before new count count' (Err faults.Memory) = count' ≡ count
+AdvancesBehind R g places before new count count' (Err faults.SourceFailed) = Rose count count' × AreSeenPictures R (seen_of g) (pictures before)
+AdvancesBehind R g places before new count count' (Err (faults.Refused r)) =
+    (count' ≡ count)
+    × ((n : ℕ) × ArePictures R (seen_of g) (is_all new.reader.splitter) (pictures before) (Some (record { units = n; refusal = r })))
+AdvancesBehind R g places before new count count' (Err (faults.Stopped first)) = ⊥
+
+pub record Advances (R : Readers) (g : List ℕ) (places : List UnitPlace) (before : List Reading) (new : Feeding)
+    (left left' : Option (List ℕ)) (faults faults' : ℕ) (result : Result Step FeedFault) : Type 0 where
+  pub piece : List ℕ
+  pub consumed : Consumes left left' piece
+  pub behind : AdvancesBehind R (g ++ piece) places before new faults faults' result

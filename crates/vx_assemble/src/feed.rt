@@ -1,5 +1,5 @@
 //! The units of a source, taken one at a time while the source is read.
-ghost use Rattle.std.specs.Prelude.{◌≡◌, ℕ, ◌+◌, ◌^◌, ◌<◌, ◌≤◌, List, Some, None, Ok, IfOk, OnOk};
+ghost use Rattle.std.specs.Prelude.{◌≡◌, ℕ, ◌+◌, ◌^◌, ◌<◌, ◌≤◌, List, Some, None, Ok, IfOk, IfSome, OnOk};
 ghost use Rattle.vx_annexb.specs.ByteStream.{UnitPlace, IsSound};
 ghost use Rattle.vx_annexb.specs.Held.{IsSought, ahead, fed, is_all};
 ghost use Rattle.vx_annexb.specs.Reading.{HoldsFew, IsOpen as MayRead};
@@ -9,12 +9,13 @@ ghost use Rattle.vx_pic.specs.Readings.{Reading};
 ghost use Rattle.vx_pic.specs.Rules.{Readers};
 ghost use Rattle.vx_pic.specs.H266.{AreOfH266};
 ghost use Rattle.vx_assemble.specs.Held.{Stands};
-ghost use Rattle.vx_assemble.specs.Feed.{HasFed, Gives, IsToldBy, Lowers, first_of};
-ghost use Rattle.vx_assemble.specs.inner.Feed.{Accepts, fault_of, read_fault, feeding};
+ghost use Rattle.vx_assemble.specs.Feed.{HasFed, Gives, IsToldBy, Lowers, Counts, first_of};
+ghost use Rattle.vx_assemble.specs.inner.Feed.{Accepts, fault_of, read_fault, feeding, step_by};
 ghost use Rattle.vx_assemble.specs.declared.feed.FeedFault.TheVariants.{Refused as IsRefused};
 
 use crate::assembler::Assembler;
 use crate::fault::{AssembleFault, First};
+use crate::seen::PictureSeen;
 use std::alloc::{AllocError, Global};
 use std::marker::Model;
 use thiserror::Error;
@@ -39,6 +40,15 @@ pub enum Taken {
         /// What it was.
         what: Accepted,
     },
+    /// The end of the source.
+    End,
+}
+
+/// What a feed advanced to.
+#[derive(Clone, Copy, Debug, PartialEq, Eq)]
+pub enum Step {
+    /// A picture, with its last slice.
+    Picture,
     /// The end of the source.
     End,
 }
@@ -164,6 +174,8 @@ fn take_seen(
     ensures taken { reader.new.taken ≡ reader.old.taken }
     ensures closed { reader.new.closed ≡ reader.old.closed }
     ensures lowers { IfOk result (λ given. Lowers given (ahead reader.old.splitter) (ahead reader.new.splitter)) }
+    ensures units { IfOk result (λ given. IfSome given (λ taken. Counts taken units.old units.new)) }
+    ensures none { result ≡ Ok None → units.new ≡ units.old }
     ensures held { HoldsFew reader.new }
     ensures all { is_all reader.new.splitter ≡ is_all reader.old.splitter }
     ensures ended { result ≡ Ok (Some End) → MayRead reader.new → ⊥ }
@@ -181,20 +193,33 @@ fn take_seen(
     Ok(Some(Taken::End))
 }
 
+/// Where a feed comes to that took this; None where it is a unit that completes no picture.
+fn step_of(taken: Taken) -> Option<Step>
+    ensures { result ≡ step_by taken }
+{
+    match taken {
+        Taken::End => Some(Step::End),
+        Taken::Nal { what, .. } => match what {
+            Accepted::PictureDone => Some(Step::Picture),
+            _ => None,
+        },
+    }
+}
+
 impl Feed {
-    ghost use Rattle.std.specs.Prelude.{◌≡◌, ℕ, ◌^◌, ◌<◌, ◌≤◌, [], ◌∷◌, List, option_copied, Some, None, Ok, Err, IfOk, IfErr, OnOk, IsTrue};
+    ghost use Rattle.std.specs.Prelude.{◌≡◌, ℕ, ◌^◌, ◌<◌, ◌≤◌, [], ◌∷◌, List, option_copied, Some, None, Ok, Err, IfOk, IfErr, IfSome, OnOk, IsTrue};
     ghost use Rattle.std.specs.Io.KnownBytes.{IsAtEnd};
     ghost use Rattle.vx_annexb.specs.ByteStream.{UnitPlace};
     ghost use Rattle.vx_annexb.specs.Held.{IsSought, fed, is_all};
     ghost use Rattle.vx_annexb.specs.Reading as reading;
     ghost use Rattle.vx_annexb.specs.declared.unit_reader.Closed.TheVariants as closed;
-    ghost use Rattle.vx_pic.specs.Readings.{Reading, stored_sps, stored_pps};
+    ghost use Rattle.vx_pic.specs.Readings.{Reading, Picture, completed, stored_sps, stored_pps};
     ghost use Rattle.vx_pic.specs.Told.{told_of};
-    ghost use Rattle.vx_assemble.specs.Held.{Stands, items_of};
+    ghost use Rattle.vx_assemble.specs.Held.{Stands, items_of, seen_picture};
     ghost use Rattle.vx_assemble.specs.declared.feed.Taken.TheVariants.{End};
     ghost use Rattle.vx_pic.specs.Rules.{Readers};
     ghost use Rattle.vx_pic.specs.H266.{AreOfH266};
-    ghost use Rattle.vx_assemble.specs.Feed.{HasFed, IsOpen, Gives, ReadsOn, IsToldBy, Lowers, left_to_take, Takes, first_of as first_by};
+    ghost use Rattle.vx_assemble.specs.Feed.{HasFed, IsOpen, Gives, ReadsOn, IsToldBy, Lowers, Counts, left_to_take, Takes, Advances, first_of as first_by};
     ghost use Rattle.vx_assemble.specs.inner.Feed.{read_fault};
     ghost use Rattle.vx_assemble.specs.declared.fault.First.{First as FirstFault};
     ghost use Rattle.vx_assemble.specs.declared.feed.FeedFault.TheVariants.{Stopped};
@@ -232,6 +257,9 @@ impl Feed {
         ensures taken { self.new.reader.taken ≡ self.old.reader.taken }
         ensures closed { self.new.reader.closed ≡ self.old.reader.closed }
         ensures lowers { IfOk result (λ given. Lowers given (left_to_take self.old) (left_to_take self.new)) }
+        ensures counts { IfOk result (λ given. IfSome given (λ taken. Counts taken self.old.units self.new.units)) }
+        ensures units { result ≡ Ok None → self.new.units ≡ self.old.units }
+        ensures few { OnOk result (self.new.units ≤ 2 ^ 40) }
         ensures held { reading.HoldsFew self.new.reader }
         ensures all { is_all self.new.reader.splitter ≡ is_all self.old.reader.splitter }
         ensures ended { result ≡ Ok (Some End) → ¬ IsOpen self.new }
@@ -274,6 +302,7 @@ impl Feed {
             → ReadsOn R g places before self.new (bytes_left source.old) (bytes_left source.new) (read_faults source.old) (read_faults source.new) result }
         ensures going { OnOk result (self.new.first ≡ None) }
         ensures first { IfErr result (λ e. self.new.first ≡ Some (first_by (read_fault e))) }
+        ensures units { self.new.units ≡ self.old.units }
         ensures grows { OnOk result (IsOpen self.new → self.old.reader.taken < self.new.reader.taken) }
         ensures within { fed self.new.reader.splitter ≤ 2 ^ 40 }
         ensures end { OnOk result (self.new.reader.closed ≡ Some closed.End → IsAtEnd (bytes_left source.new)) }
@@ -288,19 +317,12 @@ impl Feed {
         }
     }
 
-    /// How many units were taken.
-    pub fn unit(&self) -> u64
-        ensures { result ≡ self.now.units }
+    /// What is told of the picture that was done last.
+    pub fn picture_seen(&self) -> Option<PictureSeen>
+        ensures { (r : Reading) (before : List Reading) (p : Picture) → Stands self.now.assembler (r ∷ before) → completed r before ≡ p ∷ []
+            → result ≡ Some (seen_picture p) }
     {
-        self.units
-    }
-
-    /// The items of the set that was taken last, which was told as `what`.
-    pub fn fields(&self, what: Accepted) -> Option<&Fields>
-        ensures { (r : Reading) (before : List Reading) → Stands self.now.assembler (r ∷ before) → what ≡ told_of r before
-            → option_copied result ≡ items_of r }
-    {
-        self.assembler.fields(what)
+        self.assembler.picture_seen()
     }
 
     /// The SPS of an id, where one is stored.
@@ -331,6 +353,8 @@ impl Feed {
         ensures first { IfErr result (λ e. self.new.first ≡ Some (first_by e)) }
         ensures stopped { (f : FirstFault) → self.old.first ≡ Some f → (result ≡ Err (Stopped f)) × (self.new ≡ self.old)
             × (bytes_left source.new ≡ bytes_left source.old) × (read_faults source.new ≡ read_faults source.old) }
+        ensures counts { IfOk result (λ taken. Counts taken self.old.units self.new.units) }
+        ensures few { OnOk result (self.new.units ≤ 2 ^ 40) }
         ensures end { OnOk result (IsOpen self.old → self.new.reader.closed ≡ Some closed.End → IsAtEnd (bytes_left source.new)) }
         ensures held { reading.HoldsFew self.new.reader }
     {
@@ -340,5 +364,42 @@ impl Feed {
             }
             self.read(source)?;
         }
+    }
+
+    /// Takes units of the source until one completes a picture, or to the end.
+    ///
+    /// # Errors
+    ///
+    /// Those of `take`.
+    pub fn advance(&mut self, source: &mut dyn Source) -> Result<Step, FeedFault>
+        ensures answer { (R : Readers) → AreOfH266 R → (g : List ℕ) (places : List UnitPlace) (before : List Reading)
+            → HasFed R self.old g places before → reading.LastWasNeeded g places
+            → Advances R g places before self.new (bytes_left source.old) (bytes_left source.new) (read_faults source.old) (read_faults source.new) result }
+        ensures first { IfErr result (λ e. self.new.first ≡ Some (first_by e)) }
+        ensures stopped { (f : FirstFault) → self.old.first ≡ Some f → (result ≡ Err (Stopped f)) × (self.new ≡ self.old)
+            × (bytes_left source.new ≡ bytes_left source.old) × (read_faults source.new ≡ read_faults source.old) }
+        ensures held { reading.HoldsFew self.new.reader }
+    {
+        loop {
+            let taken = self.take(source)?;
+            if let Some(step) = step_of(taken) {
+                return Ok(step);
+            }
+        }
+    }
+
+    /// How many units were taken.
+    pub fn unit(&self) -> u64
+        ensures { result ≡ self.now.units }
+    {
+        self.units
+    }
+
+    /// The items of the set that was taken last, which was told as `what`. Those of an APS are its type and its id.
+    pub fn fields(&self, what: Accepted) -> Option<&Fields>
+        ensures { (r : Reading) (before : List Reading) → Stands self.now.assembler (r ∷ before) → what ≡ told_of r before
+            → option_copied result ≡ items_of r }
+    {
+        self.assembler.fields(what)
     }
 }

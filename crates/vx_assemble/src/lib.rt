@@ -12,6 +12,7 @@ mod in_force;
 mod keep;
 mod readers;
 mod refusals;
+mod seen;
 mod shared;
 mod state;
 mod take;
@@ -19,5 +20,6 @@ mod unit;
 
 pub use assembler::Assembler;
 pub use fault::{AssembleFault, First};
-pub use feed::{Feed, FeedFault, Taken};
+pub use feed::{Feed, FeedFault, Step, Taken};
+pub use seen::PictureSeen;
 pub use vx_pic::Accepted;

@@ -9,18 +9,21 @@ use Rattle.vx_annexb.specs.declared.unit_reader.ReadFault.{ReadFault}
 use Rattle.vx_annexb.specs.declared.unit_reader.ReadFault.TheVariants as read_faults
 use Rattle.std.specs.Io.KnownBytes.{Consumes, IsAtEnd}
 use Rattle.vx_annexb.specs.ByteStream.{UnitPlace}
-use Rattle.vx_pic.specs.Readings.{Reading}
+use Rattle.vx_pic.specs.declared.accepted.Accepted.TheVariants as accepted
+use Rattle.vx_pic.specs.Readings.{Reading, pictures}
 use Rattle.vx_pic.specs.H266.{AreOfH266}
 use Rattle.vx_pic.specs.Rules.{Readers, reads}
 use Rattle.vx_assemble.specs.declared.fault.AssembleFault.{AssembleFault}
 use Rattle.vx_assemble.specs.declared.fault.AssembleFault.TheVariants as assembler
 use Rattle.vx_assemble.specs.declared.feed.FeedFault.{FeedFault}
 use Rattle.vx_assemble.specs.declared.feed.FeedFault.TheVariants as faults
+use Rattle.vx_assemble.specs.declared.feed.Step.{Step}
+use Rattle.vx_assemble.specs.declared.feed.Step.TheVariants as steps
 use Rattle.vx_assemble.specs.declared.feed.Taken.{Taken}
 use Rattle.vx_assemble.specs.declared.feed.Taken.TheVariants.{Nal, End}
 use Rattle.vx_assemble.specs.Held.{Held, Took}
 use Rattle.vx_assemble.specs.declared.fault.First.{First}
-use Rattle.vx_assemble.specs.Feed.{Feeding, IsOpen, HasFed}
+use Rattle.vx_assemble.specs.Feed.{Feeding, IsOpen, HasFed, HasGone}
 
 -- each unit has a byte of its own, and once a read failed the feed doesn't go on
 pub record IsInStep (f : Feeding) : Type 0 where
@@ -67,4 +70,29 @@ pub record Seeks (old f : Feeding) (left left' : Option (List ℕ)) (faults faul
   pub seeks : (R : Readers) → AreOfH266 R → (g : List ℕ) (places : List UnitPlace) (before : List Reading) → HasFed R old g places before
       → reader.LastWasNeeded g places → (faults' ≡ faults) × HasSought R g places before f left left'
   pub end : IsOpen old → f.reader.closed ≡ Some Ended → IsAtEnd left'
+  pub stopped : (first : First) → old.first ≡ Some first → (f ≡ old) × (left' ≡ left) × (faults' ≡ faults)
+  pub units : f.units ≡ old.units
+
+-- where a feed comes to that took this; None where it is a unit that completes no picture
+abbrev pub step_by : Taken → Option Step
+step_by End = Some steps.End
+step_by (Nal header place bytes accepted.PictureDone) = Some steps.Picture
+step_by (Nal header place bytes accepted.Nothing) = None
+step_by (Nal header place bytes accepted.Vps) = None
+step_by (Nal header place bytes (accepted.Sps id)) = None
+step_by (Nal header place bytes (accepted.Pps id)) = None
+step_by (Nal header place bytes (accepted.Aps kind id)) = None
+
+-- A feed that began to seek the next picture as `old` still seeks it: units were taken, and none of them completed one.
+pub record HasPassed (R : Readers) (g : List ℕ) (places : List UnitPlace) (before : List Reading) (f : Feeding) (left left' : Option (List ℕ))
+    : Type 0 where
+  pub piece : List ℕ
+  pub consumed : Consumes left left' piece
+  pub readings : List Reading
+  pub gone : HasGone R f (g ++ piece) places before readings
+  pub same : pictures (readings ++ before) ≡ pictures before
+
+pub record Passes (old f : Feeding) (left left' : Option (List ℕ)) (faults faults' : ℕ) : Type 0 where
+  pub passes : (R : Readers) → AreOfH266 R → (g : List ℕ) (places : List UnitPlace) (before : List Reading) → HasFed R old g places before
+      → reader.LastWasNeeded g places → (faults' ≡ faults) × HasPassed R g places before f left left'
   pub stopped : (first : First) → old.first ≡ Some first → (f ≡ old) × (left' ≡ left) × (faults' ≡ faults)

@@ -4,6 +4,10 @@ use Rattle.vx_assemble.specs.Feed.{IsOpen}
 use Rattle.vx_app.proofs.Showing.{new_sought, reads_less, HasShown-none, HasReached-read, HasShown-later, Shows-done, Shows-read, Shows-stopped}
 use Rattle.vx_app.proofs.show.show.Goals as goal
 
+pub loop-alloc-init : goal.loop-alloc-init
+loop-alloc-init g c =
+    (λ going. new_sought c.in_ok-feed.feed c.in_ok-feed.ensures.fed, λ R of. HasShown-none _ _ _ _ R _ _ c.in_ok-feed.feed c.in_ok-feed.ensures.open (c.in_ok-feed.ensures.fed R))
+
 pub returns-in_err-read_on-clause-shows : goal.returns-in_err-read_on-clause-shows
 returns-in_err-read_on-clause-shows g c R of =
     let p = err_from_is_err_and c.from_residual-in_err-read_on.result c.from_residual-in_err-read_on.ensures.1 in

@@ -33,6 +33,9 @@ returns-in-Some-clause-stopped g c first is =
 pub returns-in-Some-clause-end : goal.returns-in-Some-clause-end
 returns-in-Some-clause-end g c going end = c.loop-taken.invariant.end going (sym c.next.ensures.closed ∙ end)
 
+pub returns-in-Some-clause-counts : goal.returns-in-Some-clause-counts
+returns-in-Some-clause-counts g c = let counts = rw c.in-Some.is at c.in_ok-taken.ensures.counts in rw (sym c.loop-taken.invariant.units) counts
+
 pub returns-in_err-read-clause-answer : goal.returns-in_err-read-clause-answer
 returns-in_err-read-clause-answer g c R of bytes places before fed needed =
     let p = err_from_is_err_and c.from_residual-in_err-read.result c.from_residual-in_err-read.ensures.1 in
@@ -46,9 +49,11 @@ returns-in_err-read-clause-stopped g c first is =
 
 pub loop-taken-preserved : goal.loop-taken-preserved
 loop-taken-preserved g c =
+    let units : c.next.new.self.units ≡ c.loop-taken.self.units = search rules in
     let going : IsOpen c.next.new.self = search rules in
     seeks_more _ _ _ _ _ _ _ c.loop-taken.invariant (rw c.in_default.is at c.in_ok-taken.ensures.answer) going.reader _ _ _ c.in_ok-read.ensures.answer
     c.in_ok-read.ensures.end (λ first is. let e = (c.in_ok-taken.ensures.again first is).0 in absurd (cc))
+    units c.read.ensures.units
 
 pub loop-taken-smaller : goal.loop-taken-smaller
 loop-taken-smaller g c =
