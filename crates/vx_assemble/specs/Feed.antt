@@ -27,7 +27,7 @@ use Rattle.vx_assemble.specs.declared.feed.Step.{Step}
 use Rattle.vx_assemble.specs.declared.feed.Step.TheVariants.{Picture as ToPicture, End as ToEnd}
 use Rattle.vx_assemble.specs.declared.feed.Taken.{Taken}
 use Rattle.vx_assemble.specs.declared.feed.Taken.TheVariants.{Nal, End}
-use Rattle.vx_assemble.specs.Held.{Held, Stands}
+use Rattle.vx_assemble.specs.Held.{Held, Stands, told}
 
 -- a feed: its reader and its assembler, how many units it took, and what first kept it from going on
 pub record Feeding : Type 0 where
@@ -83,7 +83,8 @@ pub record UnitIsRefused (R : Readers) (f : reader.Reading) (g : List ℕ) (plac
   pub refused : reads R before (unit_bytes (seen_of g) unit) ≡ Err r
 
 -- all units were taken, and the last picture lacks a slice
-pub record EndIsRefused (g : List ℕ) (places : List UnitPlace) (before : List Reading) (r : Refusal) : Type 0 where
+pub record EndIsRefused (f : reader.Reading) (g : List ℕ) (places : List UnitPlace) (before : List Reading) (r : Refusal) : Type 0 where
+  pub ended : f.closed ≡ Some closed.End
   pub stream : IsStream (seen_of g) true places None
   pub lacks : lacks_slice before ≡ Some r
 
@@ -93,7 +94,7 @@ pub data IsRefusedFor (R : Readers) (f : reader.Reading) (g : List ℕ) (places 
     : Type 0 where
   by_bytes : reader.IsRefusedBy g places f r → IsRefusedFor R f g places before r
   by_unit : UnitIsRefused R f g places before r → IsRefusedFor R f g places before r
-  at_end : EndIsRefused g places before r → IsRefusedFor R f g places before r
+  at_end : EndIsRefused f g places before r → IsRefusedFor R f g places before r
 
 -- the pictures of what is read are those of these units, and it ends behind them for this refusal
 abbrev pub EndsThere : Readers → reader.Reading → List ℕ → List UnitPlace → List Reading → Refusal → Type 0
@@ -103,7 +104,8 @@ EndsThere R f g places before r =
 -- ---- one unit
 
 -- the header, the place, the length and the kind of the unit at a place, which was read as this behind those before it
-pub record IsTold (g : List ℕ) (u : UnitPlace) (r : Reading) (before : List Reading) (h : NalHeader) (place n : ℕ) (a : Accepted) : Type 0 where
+pub record IsTold (g : List ℕ) (u : UnitPlace) (r : Reading) (before : List Reading) (h : NalHeader) (place n : ℕ) (a : Accepted)
+    : Type 0 where
   pub header : h ≡ header_of (unit_bytes (seen_of g) u)
   pub offset : place ≡ u.start
   pub bytes : n ≡ length (unit_bytes (seen_of g) u)
@@ -115,13 +117,20 @@ Gives R g places before f (Ok (Some (Nal header place bytes what))) =
     (u : UnitPlace) × (r : Reading) × HasFed R f g (places ++ u ∷ []) (r ∷ before) × IsTold g u r before header place bytes what
 Gives R g places before f (Ok (Some End)) =
     HasFed R f g places before × IsStream (seen_of g) true places None × ArePictures R (seen_of g) true (pictures before) None
+    × (f.reader.closed ≡ Some closed.End) × (lacks_slice before ≡ None)
 Gives R g places before f (Ok None) =
     HasFed R f g places before × IsStream (seen_of g) false places None × AreSeenPictures R (seen_of g) (pictures before)
 Gives R g places before f (Err (faults.Refused r)) =
     IsRefusedFor R f.reader g places before r × EndsThere R f.reader g places before r
+    × ((later : List UnitPlace) × reader.HasRead f.reader g (places ++ later))
 Gives R g places before f (Err faults.Memory) = Unit {0}
 Gives R g places before f (Err faults.SourceFailed) = ⊥
 Gives R g places before f (Err (faults.Stopped first)) = ⊥
+
+-- what was told of the unit that was taken is what the assembler told last
+abbrev pub IsToldBy : Held → Option Taken → Type 0
+IsToldBy h (Some (Nal header place bytes what)) = told h ≡ what
+IsToldBy h _ = Unit {0}
 
 -- ---- one read
 
@@ -180,7 +189,8 @@ AdvancesBehind R g places before new count count' (Ok ToEnd) =
     × ((readings : List Reading) × (h : HasGone R new g places before readings) × (pictures (readings ++ before) ≡ pictures before))
     × ArePictures R (seen_of g) true (pictures before) None
 AdvancesBehind R g places before new count count' (Err faults.Memory) = count' ≡ count
-AdvancesBehind R g places before new count count' (Err faults.SourceFailed) = Rose count count' × AreSeenPictures R (seen_of g) (pictures before)
+AdvancesBehind R g places before new count count' (Err faults.SourceFailed) =
+    Rose count count' × AreSeenPictures R (seen_of g) (pictures before)
 AdvancesBehind R g places before new count count' (Err (faults.Refused r)) =
     (count' ≡ count)
     × ((n : ℕ) × ArePictures R (seen_of g) (is_all new.reader.splitter) (pictures before) (Some (record { units = n; refusal = r })))

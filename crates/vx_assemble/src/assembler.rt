@@ -9,6 +9,8 @@ use std::marker::Model;
 use vx_bits::rules::SLICE_MISSING;
 use vx_bits::{Fields, ReadError};
 use vx_pic::Accepted;
+use vx_pps::Pps;
+use vx_sps::Sps;
 
 /// Takes NAL units in order, and hands on each picture with its last slice.
 ///
@@ -37,7 +39,7 @@ impl Model for Assembler {
 impl Assembler {
     ghost use Rattle.std.specs.Prelude.{◌≡◌, [], ◌∷◌, List, Some, None, Err, IfOk, IfErr, OnOk, option_copied};
     ghost use Rattle.vx_annexb.specs.ByteStream.{IsSound};
-    ghost use Rattle.vx_pic.specs.Readings.{Reading};
+    ghost use Rattle.vx_pic.specs.Readings.{Reading, stored_sps, stored_pps};
     ghost use Rattle.vx_pic.specs.Rules.{Readers, reads};
     ghost use Rattle.vx_pic.specs.H266.{AreOfH266};
     ghost use Rattle.vx_pic.specs.Told.{told_of};
@@ -124,5 +126,19 @@ impl Assembler {
             Accepted::Pps(id) => Some(self.state.pps_of(id)?.value().fields()),
             Accepted::Nothing | Accepted::PictureDone => None,
         }
+    }
+
+    /// The SPS of an id, where one is stored.
+    pub fn sps(&self, id: u8) -> Option<&Sps>
+        ensures { (before : List Reading) → Stands self.now before → option_copied result ≡ stored_sps id before }
+    {
+        Some(self.state.sps_of(id)?.value())
+    }
+
+    /// The PPS of an id, where one is stored.
+    pub fn pps(&self, id: u8) -> Option<&Pps>
+        ensures { (before : List Reading) → Stands self.now before → option_copied result ≡ stored_pps id before }
+    {
+        Some(self.state.pps_of(id)?.value())
     }
 }

@@ -1,14 +1,15 @@
 //! The units of a source, taken one at a time while the source is read.
-ghost use Rattle.std.specs.Prelude.{◌≡◌, ℕ, ◌+◌, ◌^◌, ◌<◌, ◌≤◌, List, Some, None, Ok, IfOk, IfSome, OnOk};
+ghost use Rattle.std.specs.Prelude.{◌≡◌, ℕ, ◌+◌, ◌^◌, ◌<◌, ◌≤◌, List, Some, None, Ok, IfOk, IfSome, OnOk, OnErr};
 ghost use Rattle.vx_annexb.specs.ByteStream.{UnitPlace, IsSound};
-ghost use Rattle.vx_annexb.specs.Held.{IsSought, ahead, fed};
+ghost use Rattle.vx_annexb.specs.Held.{IsSought, ahead, fed, is_all};
 ghost use Rattle.vx_annexb.specs.Reading.{HoldsFew, IsOpen as MayRead};
 ghost use Rattle.vx_annexb.specs.declared.unit_reader.Closed.TheVariants.{Failed};
+ghost use Rattle.vx_assemble.specs.declared.feed.Taken.TheVariants.{End};
 ghost use Rattle.vx_pic.specs.Readings.{Reading};
 ghost use Rattle.vx_pic.specs.Rules.{Readers};
 ghost use Rattle.vx_pic.specs.H266.{AreOfH266};
 ghost use Rattle.vx_assemble.specs.Held.{Stands};
-ghost use Rattle.vx_assemble.specs.Feed.{HasFed, Gives, Lowers, Counts, first_of};
+ghost use Rattle.vx_assemble.specs.Feed.{HasFed, Gives, IsToldBy, Lowers, Counts, first_of};
 ghost use Rattle.vx_assemble.specs.inner.Feed.{Accepts, fault_of, read_fault, feeding, step_by};
 ghost use Rattle.vx_assemble.specs.declared.feed.FeedFault.TheVariants.{Refused as IsRefused};
 
@@ -21,6 +22,8 @@ use vx_annexb::{NalHeader, ReadFault, Span, UnitReader, read_header};
 use vx_bits::{Fields, Refusal};
 use vx_io::Source;
 use vx_pic::Accepted;
+use vx_pps::Pps;
+use vx_sps::Sps;
 
 /// What a feed took.
 #[derive(Clone, Copy, Debug, PartialEq, Eq)]
@@ -136,8 +139,10 @@ fn first_of(fault: FeedFault) -> First
 /// Takes the unit at a place.
 fn accept(assembler: &mut Assembler, unit: &[u8], offset: u64) -> Result<Taken, FeedFault>
     requires { IsSound unit.now }
-    ensures { (R : Readers) → AreOfH266 R → (before : List Reading) → Stands assembler.old before
+    ensures answer { (R : Readers) → AreOfH266 R → (before : List Reading) → Stands assembler.old before
         → Accepts R before assembler.new unit.now offset result }
+    ensures told { IfOk result (λ taken. IsToldBy assembler.new (Some taken)) }
+    ensures nal { result ≡ Ok End → ⊥ }
 {
     let header = read_header(unit).unwrap();
     let what = assembler.accept(unit)?;
@@ -170,7 +175,11 @@ fn take_seen(
     ensures lowers { IfOk result (λ given. Lowers given (ahead reader.old.splitter) (ahead reader.new.splitter)) }
     ensures units { IfOk result (λ given. IfSome given (λ taken. Counts taken units.old units.new)) }
     ensures none { result ≡ Ok None → units.new ≡ units.old }
+    ensures kept { OnErr result (units.new ≡ units.old) }
     ensures held { HoldsFew reader.new }
+    ensures all { is_all reader.new.splitter ≡ is_all reader.old.splitter }
+    ensures ended { result ≡ Ok (Some End) → MayRead reader.new → ⊥ }
+    ensures told { IfOk result (IsToldBy assembler.new) }
 {
     if let Some(span) = reader.next()? {
         let taken = accept(assembler, reader.bytes(span), span.offset)?;
@@ -198,18 +207,19 @@ fn step_of(taken: Taken) -> Option<Step>
 }
 
 impl Feed {
-    ghost use Rattle.std.specs.Prelude.{◌≡◌, ℕ, ◌^◌, ◌<◌, ◌≤◌, [], ◌∷◌, List, option_copied, Some, None, Ok, Err, IfOk, IfErr, IfSome, OnOk, IsTrue};
+    ghost use Rattle.std.specs.Prelude.{◌≡◌, ℕ, ◌^◌, ◌<◌, ◌≤◌, [], ◌∷◌, List, option_copied, Some, None, Ok, Err, IfOk, IfErr, IfSome, OnOk, OnErr, IsTrue};
     ghost use Rattle.std.specs.Io.KnownBytes.{IsAtEnd};
     ghost use Rattle.vx_annexb.specs.ByteStream.{UnitPlace};
-    ghost use Rattle.vx_annexb.specs.Held.{IsSought, fed};
+    ghost use Rattle.vx_annexb.specs.Held.{IsSought, fed, is_all};
     ghost use Rattle.vx_annexb.specs.Reading as reading;
     ghost use Rattle.vx_annexb.specs.declared.unit_reader.Closed.TheVariants as closed;
-    ghost use Rattle.vx_pic.specs.Readings.{Reading};
-    ghost use Rattle.vx_pic.specs.Rules.{Readers};
-    ghost use Rattle.vx_pic.specs.H266.{AreOfH266};
-    ghost use Rattle.vx_assemble.specs.Feed.{HasFed, IsOpen, Gives, ReadsOn, Lowers, Counts, left_to_take, Takes, Advances, first_of as first_by};
+    ghost use Rattle.vx_pic.specs.Readings.{Reading, stored_sps, stored_pps};
     ghost use Rattle.vx_pic.specs.Told.{told_of};
     ghost use Rattle.vx_assemble.specs.Held.{Stands, items_of};
+    ghost use Rattle.vx_assemble.specs.declared.feed.Taken.TheVariants.{End};
+    ghost use Rattle.vx_pic.specs.Rules.{Readers};
+    ghost use Rattle.vx_pic.specs.H266.{AreOfH266};
+    ghost use Rattle.vx_assemble.specs.Feed.{HasFed, IsOpen, Gives, ReadsOn, IsToldBy, Lowers, Counts, left_to_take, Takes, Advances, first_of as first_by};
     ghost use Rattle.vx_assemble.specs.inner.Feed.{read_fault};
     ghost use Rattle.vx_assemble.specs.declared.fault.First.{First as FirstFault};
     ghost use Rattle.vx_assemble.specs.declared.feed.FeedFault.TheVariants.{Stopped};
@@ -249,8 +259,12 @@ impl Feed {
         ensures lowers { IfOk result (λ given. Lowers given (left_to_take self.old) (left_to_take self.new)) }
         ensures counts { IfOk result (λ given. IfSome given (λ taken. Counts taken self.old.units self.new.units)) }
         ensures units { result ≡ Ok None → self.new.units ≡ self.old.units }
+        ensures kept { OnErr result (self.new.units ≡ self.old.units) }
         ensures few { OnOk result (self.new.units ≤ 2 ^ 40) }
         ensures held { reading.HoldsFew self.new.reader }
+        ensures all { is_all self.new.reader.splitter ≡ is_all self.old.reader.splitter }
+        ensures ended { result ≡ Ok (Some End) → ¬ IsOpen self.new }
+        ensures told { IfOk result (IsToldBy self.new.assembler) }
     {
         if let Some(first) = self.first {
             return Err(FeedFault::Stopped(first));
@@ -293,6 +307,7 @@ impl Feed {
         ensures grows { OnOk result (IsOpen self.new → self.old.reader.taken < self.new.reader.taken) }
         ensures within { fed self.new.reader.splitter ≤ 2 ^ 40 }
         ensures end { OnOk result (self.new.reader.closed ≡ Some closed.End → IsAtEnd (bytes_left source.new)) }
+        ensures unended { OnErr result (self.new.reader.closed ≡ Some closed.End → ⊥) }
         ensures held { reading.HoldsFew self.new.reader }
     {
         match self.reader.read(source) {
@@ -302,6 +317,35 @@ impl Feed {
                 Err(fault)
             }
         }
+    }
+
+    /// How many units were taken.
+    pub fn unit(&self) -> u64
+        ensures { result ≡ self.now.units }
+    {
+        self.units
+    }
+
+    /// The items of the set that was taken last, which was told as `what`.
+    pub fn fields(&self, what: Accepted) -> Option<&Fields>
+        ensures { (r : Reading) (before : List Reading) → Stands self.now.assembler (r ∷ before) → what ≡ told_of r before
+            → option_copied result ≡ items_of r }
+    {
+        self.assembler.fields(what)
+    }
+
+    /// The SPS of an id, where one is stored.
+    pub fn sps(&self, id: u8) -> Option<&Sps>
+        ensures { (before : List Reading) → Stands self.now.assembler before → option_copied result ≡ stored_sps id before }
+    {
+        self.assembler.sps(id)
+    }
+
+    /// The PPS of an id, where one is stored.
+    pub fn pps(&self, id: u8) -> Option<&Pps>
+        ensures { (before : List Reading) → Stands self.now.assembler before → option_copied result ≡ stored_pps id before }
+    {
+        self.assembler.pps(id)
     }
 
     /// Takes the next unit of the source: it is read for as long as no further unit's end is seen. At its end, and from then
@@ -320,7 +364,8 @@ impl Feed {
             × (bytes_left source.new ≡ bytes_left source.old) × (read_faults source.new ≡ read_faults source.old) }
         ensures counts { IfOk result (λ taken. Counts taken self.old.units self.new.units) }
         ensures few { OnOk result (self.new.units ≤ 2 ^ 40) }
-        ensures end { OnOk result (IsOpen self.old → self.new.reader.closed ≡ Some closed.End → IsAtEnd (bytes_left source.new)) }
+        ensures kept { OnErr result (self.new.units ≡ self.old.units) }
+        ensures end { IsOpen self.old → self.new.reader.closed ≡ Some closed.End → IsAtEnd (bytes_left source.new) }
         ensures held { reading.HoldsFew self.new.reader }
     {
         loop {
@@ -351,20 +396,5 @@ impl Feed {
                 return Ok(step);
             }
         }
-    }
-
-    /// How many units were taken.
-    pub fn unit(&self) -> u64
-        ensures { result ≡ self.now.units }
-    {
-        self.units
-    }
-
-    /// The items of the set that was taken last, which was told as `what`. Those of an APS are its type and its id.
-    pub fn fields(&self, what: Accepted) -> Option<&Fields>
-        ensures { (r : Reading) (before : List Reading) → Stands self.now.assembler (r ∷ before) → what ≡ told_of r before
-            → option_copied result ≡ items_of r }
-    {
-        self.assembler.fields(what)
     }
 }
