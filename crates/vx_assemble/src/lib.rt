@@ -15,6 +15,8 @@ mod refusals;
 mod shared;
 mod state;
 mod take;
+#[cfg(test)]
+mod tests_feed;
 mod unit;
 
 pub use assembler::Assembler;
