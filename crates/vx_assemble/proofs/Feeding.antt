@@ -2,7 +2,7 @@
 use Rattle.std.proofs.Common.{◌≡◌, ℕ, ◌+◌, List, [], ◌∷◌, ◌++◌, ◌∙◌, Option, Some, None, Result, Ok, Err, Bool, true, false, length, inl, inr, sym, ap, refl, subst, arith, length-append, append_assoc, option_map, IsSome}
 use Rattle.std.specs.Prelude.{slice_range, take, min, ◌-◌, ◌≤◌}
 use Rattle.std.proofs.Math.Seq.{take_all}
-use Rattle.std.proofs.lemmas.List.{map-append, length-map}
+use Rattle.std.proofs.lemmas.List.{map-append, length-map, append-nil}
 use Rattle.vx_bits.specs.declared.refusal.Refusal.{Refusal}
 use Rattle.vx_bits.specs.declared.refusal.Refusal.TheVariants.{Limit}
 use Rattle.vx_bits.specs.declared.rules.TheConstants.{LONG_SOURCE}
@@ -135,12 +135,13 @@ ends_behind R b all places before framing r readings stream ends = record {
 pub refused_by_bytes : (R : Readers) (g : List ℕ) (places : List UnitPlace) (before : List Reading) (old new : Feeding) (r : Refusal) → HasFed R old g places before
     → reader.Finds g places new.reader (Err r) → Gives R g places before new (Err (faults.Refused r))
 refused_by_bytes R g places before old new r fed (read, inl stream) =
-    (by_bytes (inl stream), ends_behind R (seen_of g) (is_all new.reader.splitter) places before (Some r) r fed.readings stream refl)
+    (by_bytes (inl stream), ends_behind R (seen_of g) (is_all new.reader.splitter) places before (Some r) r fed.readings stream refl, ([], rw append-nil read))
 refused_by_bytes R g places before old new r fed (read, inr (stream, long, is)) =
     let going : is_all new.reader.splitter ≡ false = (subst (λ closed. reader.ClosesAt closed new.reader.splitter new.reader.taken) long read.closes).0 in
     let ends = ends_behind R (seen_of g) false places before None (Limit LONG_SOURCE) fed.readings stream refl in (
       by_bytes (inr (stream, long, is)),
       rw (going, is) ends,
+      ([], rw append-nil read),
     )
 
 -- by a unit
@@ -157,7 +158,7 @@ refused_by_unit R g places before old new span unit (faults.Refused r) fed finds
       follows = finds.0.stands.given;
       refused = ap (reads R before) (finds.1 ∙ sym lends) ∙ accepts;
     } in
-    (by_unit refused, ends_at_unit R new.reader g places before r fed.readings (read_all R (seen_of g) places before fed.readings) refused)
+    (by_unit refused, ends_at_unit R new.reader g places before r fed.readings (read_all R (seen_of g) places before fed.readings) refused, (place_of span ∷ [], finds.0))
 
 -- of a feed that goes on
 pub still_gives : (R : Readers) (g : List ℕ) (places : List UnitPlace) (before : List Reading) (r : reader.Reading) (a : Held) (n : ℕ) (f : Option First) (given : Option Taken) → f ≡ None → Gives R g places before (feeding r a n) (Ok given)
@@ -170,7 +171,7 @@ pub still_refused : (R : Readers) (g : List ℕ) (places : List UnitPlace) (befo
 still_refused R g places before f f' faults.Memory same gives = tt
 still_refused R g places before f f' faults.SourceFailed same gives = absurd gives
 still_refused R g places before f f' (faults.Stopped first) same gives = absurd gives
-still_refused R g places before f f' (faults.Refused r) same gives = subst (λ a. IsRefusedFor R a g places before r × EndsThere R a g places before r) (sym same) gives
+still_refused R g places before f f' (faults.Refused r) same gives = subst (λ a. IsRefusedFor R a g places before r × EndsThere R a g places before r × ((later : List UnitPlace) × reader.HasRead a g (places ++ later))) (sym same) gives
 
 -- ---- no further unit
 
@@ -232,6 +233,7 @@ refused_at_end R g places before old new (assembler.Refused r) fed finds some fa
     let end = at_the_end g places new.reader finds some failed in (
       at_end (record { ended = by_closed new.reader.closed some finds.2 failed; stream = end.1; lacks = ends }),
       rw end.0 (ends_behind R (seen_of g) true places before None r fed.readings end.1 (ap (option_map (λ r. record { units = length before; refusal = r })) ends)),
+      ([], rw append-nil finds.0),
     )
 
 -- ---- one read
@@ -274,3 +276,8 @@ reads_none R g places before old new left left' faults faults' SourceFailed fed 
 
 pub feeds_first : (R : Readers) (f : Feeding) → reader.HasRead f.reader [] [] → Stands f.assembler [] → f.units ≡ 0 → f.first ≡ None → HasFed R f [] [] []
 feeds_first R f read stands units first = record { read = read; readings = refl; stands = stands; count = units; going = first }
+
+-- ---- a read that failed, or found no memory, isn't the end
+pub unended : (old new : reader.Reading) (fault : ReadFault) → reader.IsOpen old → (fault ≡ Memory → new ≡ old) → (fault ≡ SourceFailed → new.closed ≡ Some Failed) → new.closed ≡ Some closes.End → ⊥
+unended old new Memory open_ memory failed end = let same = ap (λ (x : reader.Reading). x.closed) (memory refl) in absurd (cc)
+unended old new SourceFailed open_ memory failed end = let is = failed refl in absurd (cc)

@@ -104,7 +104,8 @@ EndsThere R f g places before r =
 -- ---- one unit
 
 -- the header, the place, the length and the kind of the unit at a place, which was read as this behind those before it
-pub record IsTold (g : List ℕ) (u : UnitPlace) (r : Reading) (before : List Reading) (h : NalHeader) (place n : ℕ) (a : Accepted) : Type 0 where
+pub record IsTold (g : List ℕ) (u : UnitPlace) (r : Reading) (before : List Reading) (h : NalHeader) (place n : ℕ) (a : Accepted)
+    : Type 0 where
   pub header : h ≡ header_of (unit_bytes (seen_of g) u)
   pub offset : place ≡ u.start
   pub bytes : n ≡ length (unit_bytes (seen_of g) u)
@@ -121,6 +122,7 @@ Gives R g places before f (Ok None) =
     HasFed R f g places before × IsStream (seen_of g) false places None × AreSeenPictures R (seen_of g) (pictures before)
 Gives R g places before f (Err (faults.Refused r)) =
     IsRefusedFor R f.reader g places before r × EndsThere R f.reader g places before r
+    × ((later : List UnitPlace) × reader.HasRead f.reader g (places ++ later))
 Gives R g places before f (Err faults.Memory) = Unit {0}
 Gives R g places before f (Err faults.SourceFailed) = ⊥
 Gives R g places before f (Err (faults.Stopped first)) = ⊥
@@ -187,7 +189,8 @@ AdvancesBehind R g places before new count count' (Ok ToEnd) =
     × ((readings : List Reading) × (h : HasGone R new g places before readings) × (pictures (readings ++ before) ≡ pictures before))
     × ArePictures R (seen_of g) true (pictures before) None
 AdvancesBehind R g places before new count count' (Err faults.Memory) = count' ≡ count
-AdvancesBehind R g places before new count count' (Err faults.SourceFailed) = Rose count count' × AreSeenPictures R (seen_of g) (pictures before)
+AdvancesBehind R g places before new count count' (Err faults.SourceFailed) =
+    Rose count count' × AreSeenPictures R (seen_of g) (pictures before)
 AdvancesBehind R g places before new count count' (Err (faults.Refused r)) =
     (count' ≡ count)
     × ((n : ℕ) × ArePictures R (seen_of g) (is_all new.reader.splitter) (pictures before) (Some (record { units = n; refusal = r })))

@@ -1,5 +1,5 @@
 //! The units of a source, taken one at a time while the source is read.
-ghost use Rattle.std.specs.Prelude.{◌≡◌, ℕ, ◌+◌, ◌^◌, ◌<◌, ◌≤◌, List, Some, None, Ok, IfOk, IfSome, OnOk};
+ghost use Rattle.std.specs.Prelude.{◌≡◌, ℕ, ◌+◌, ◌^◌, ◌<◌, ◌≤◌, List, Some, None, Ok, IfOk, IfSome, OnOk, OnErr};
 ghost use Rattle.vx_annexb.specs.ByteStream.{UnitPlace, IsSound};
 ghost use Rattle.vx_annexb.specs.Held.{IsSought, ahead, fed, is_all};
 ghost use Rattle.vx_annexb.specs.Reading.{HoldsFew, IsOpen as MayRead};
@@ -143,7 +143,7 @@ fn accept(assembler: &mut Assembler, unit: &[u8], offset: u64) -> Result<Taken, 
     ensures answer { (R : Readers) → AreOfH266 R → (before : List Reading) → Stands assembler.old before
         → Accepts R before assembler.new unit.now offset result }
     ensures told { IfOk result (λ taken. IsToldBy assembler.new (Some taken)) }
-    ensures unit { IfOk result (λ taken. taken ≡ End → ⊥) }
+    ensures nal { result ≡ Ok End → ⊥ }
 {
     let header = read_header(unit).unwrap();
     let what = assembler.accept(unit)?;
@@ -176,6 +176,7 @@ fn take_seen(
     ensures lowers { IfOk result (λ given. Lowers given (ahead reader.old.splitter) (ahead reader.new.splitter)) }
     ensures units { IfOk result (λ given. IfSome given (λ taken. Counts taken units.old units.new)) }
     ensures none { result ≡ Ok None → units.new ≡ units.old }
+    ensures kept { OnErr result (units.new ≡ units.old) }
     ensures held { HoldsFew reader.new }
     ensures all { is_all reader.new.splitter ≡ is_all reader.old.splitter }
     ensures ended { result ≡ Ok (Some End) → MayRead reader.new → ⊥ }
@@ -207,7 +208,7 @@ fn step_of(taken: Taken) -> Option<Step>
 }
 
 impl Feed {
-    ghost use Rattle.std.specs.Prelude.{◌≡◌, ℕ, ◌^◌, ◌<◌, ◌≤◌, [], ◌∷◌, List, option_copied, Some, None, Ok, Err, IfOk, IfErr, IfSome, OnOk, IsTrue};
+    ghost use Rattle.std.specs.Prelude.{◌≡◌, ℕ, ◌^◌, ◌<◌, ◌≤◌, [], ◌∷◌, List, option_copied, Some, None, Ok, Err, IfOk, IfErr, IfSome, OnOk, OnErr, IsTrue};
     ghost use Rattle.std.specs.Io.KnownBytes.{IsAtEnd};
     ghost use Rattle.vx_annexb.specs.ByteStream.{UnitPlace};
     ghost use Rattle.vx_annexb.specs.Held.{IsSought, fed, is_all};
@@ -259,6 +260,7 @@ impl Feed {
         ensures lowers { IfOk result (λ given. Lowers given (left_to_take self.old) (left_to_take self.new)) }
         ensures counts { IfOk result (λ given. IfSome given (λ taken. Counts taken self.old.units self.new.units)) }
         ensures units { result ≡ Ok None → self.new.units ≡ self.old.units }
+        ensures kept { OnErr result (self.new.units ≡ self.old.units) }
         ensures few { OnOk result (self.new.units ≤ 2 ^ 40) }
         ensures held { reading.HoldsFew self.new.reader }
         ensures all { is_all self.new.reader.splitter ≡ is_all self.old.reader.splitter }
@@ -306,6 +308,7 @@ impl Feed {
         ensures grows { OnOk result (IsOpen self.new → self.old.reader.taken < self.new.reader.taken) }
         ensures within { fed self.new.reader.splitter ≤ 2 ^ 40 }
         ensures end { OnOk result (self.new.reader.closed ≡ Some closed.End → IsAtEnd (bytes_left source.new)) }
+        ensures unended { OnErr result (self.new.reader.closed ≡ Some closed.End → ⊥) }
         ensures held { reading.HoldsFew self.new.reader }
     {
         match self.reader.read(source) {
@@ -315,6 +318,21 @@ impl Feed {
                 Err(fault)
             }
         }
+    }
+
+    /// How many units were taken.
+    pub fn unit(&self) -> u64
+        ensures { result ≡ self.now.units }
+    {
+        self.units
+    }
+
+    /// The items of the set that was taken last, which was told as `what`.
+    pub fn fields(&self, what: Accepted) -> Option<&Fields>
+        ensures { (r : Reading) (before : List Reading) → Stands self.now.assembler (r ∷ before) → what ≡ told_of r before
+            → option_copied result ≡ items_of r }
+    {
+        self.assembler.fields(what)
     }
 
     /// What is told of the picture that was done last.
@@ -355,7 +373,8 @@ impl Feed {
             × (bytes_left source.new ≡ bytes_left source.old) × (read_faults source.new ≡ read_faults source.old) }
         ensures counts { IfOk result (λ taken. Counts taken self.old.units self.new.units) }
         ensures few { OnOk result (self.new.units ≤ 2 ^ 40) }
-        ensures end { OnOk result (IsOpen self.old → self.new.reader.closed ≡ Some closed.End → IsAtEnd (bytes_left source.new)) }
+        ensures kept { OnErr result (self.new.units ≡ self.old.units) }
+        ensures end { IsOpen self.old → self.new.reader.closed ≡ Some closed.End → IsAtEnd (bytes_left source.new) }
         ensures held { reading.HoldsFew self.new.reader }
     {
         loop {
@@ -386,20 +405,5 @@ impl Feed {
                 return Ok(step);
             }
         }
-    }
-
-    /// How many units were taken.
-    pub fn unit(&self) -> u64
-        ensures { result ≡ self.now.units }
-    {
-        self.units
-    }
-
-    /// The items of the set that was taken last, which was told as `what`. Those of an APS are its type and its id.
-    pub fn fields(&self, what: Accepted) -> Option<&Fields>
-        ensures { (r : Reading) (before : List Reading) → Stands self.now.assembler (r ∷ before) → what ≡ told_of r before
-            → option_copied result ≡ items_of r }
-    {
-        self.assembler.fields(what)
     }
 }

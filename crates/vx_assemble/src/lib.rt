@@ -16,6 +16,8 @@ mod seen;
 mod shared;
 mod state;
 mod take;
+#[cfg(test)]
+mod tests_feed;
 mod unit;
 
 pub use assembler::Assembler;

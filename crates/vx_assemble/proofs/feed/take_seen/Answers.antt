@@ -43,4 +43,4 @@ returns-in_err-finish-clause-answer c R of g places before fed =
     (c.in_err-finish.ensures.answer before fed.stands))
 
 pub returns-in-Some-clause-ended : goal.returns-in-Some-clause-ended
-returns-in-Some-clause-ended c is going = c.in_ok-taken.ensures.unit cc
+returns-in-Some-clause-ended c end open_ = c.in_ok-taken.ensures.nal (let e = end in cc)

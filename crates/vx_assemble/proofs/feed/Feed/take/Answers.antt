@@ -61,3 +61,20 @@ loop-taken-smaller g c =
     let within : c.next.new.self.reader.taken ≤ 1099511627776 = search rules in
     fewer_reads _ _ _ _ (sym c.next.ensures.closed ∙ going.reader) (rw c.next.ensures.taken at within)
     (λ open_. rw c.next.ensures.taken at (c.in_ok-read.ensures.grows (record { reader = open_; going = c.in_ok-read.ensures.going })))
+
+pub returns-in_err-taken-clause-end : goal.returns-in_err-taken-clause-end
+returns-in_err-taken-clause-end g c going end = c.loop-taken.invariant.end going (sym c.next.ensures.closed ∙ end)
+
+pub returns-in_err-taken-clause-kept : goal.returns-in_err-taken-clause-kept
+returns-in_err-taken-clause-kept g c =
+    let p = err_from_is_err_and c.from_residual.result c.from_residual.ensures.1 in
+    rw p.1 (c.in_err-taken.ensures.kept ∙ c.loop-taken.invariant.units)
+
+pub returns-in_err-read-clause-end : goal.returns-in_err-read-clause-end
+returns-in_err-read-clause-end g c going end = absurd (c.in_err-read.ensures.unended end)
+
+pub returns-in_err-read-clause-kept : goal.returns-in_err-read-clause-kept
+returns-in_err-read-clause-kept g c =
+    let p = err_from_is_err_and c.from_residual-in_err-read.result c.from_residual-in_err-read.ensures.1 in
+    let units : c.next.new.self.units ≡ c.loop-taken.self.units = search rules in
+    rw p.1 (c.read.ensures.units ∙ units ∙ c.loop-taken.invariant.units)
