@@ -3,6 +3,8 @@ pub mod Concluding
 pub mod Ending
 pub mod Gained
 pub mod Gathering
+pub mod Lined
+pub mod Made
 pub mod Moved
 pub mod Performing
 pub mod Showing

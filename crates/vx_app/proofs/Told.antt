@@ -1,9 +1,8 @@
 -- What a source has given, and the units of all the bytes that it tells.
-use Rattle.std.proofs.Common.{◌≡◌, ℕ, ◌+◌, ◌-◌, ◌<◌, ◌≤◌, List, [], ◌∷◌, ◌++◌, ◌∙◌, Option, Some, None, Bool, true, false, length, take, drop, slice_range, sym, ap, ap₂, refl, subst, arith, length-append, append-nil, append_assoc, ⊎_elim}
+use Rattle.std.proofs.Common.{◌≡◌, ℕ, ◌+◌, ◌-◌, ◌<◌, ◌≤◌, List, [], ◌∷◌, ◌++◌, ◌∙◌, Option, Some, None, Result, Err, Bool, true, false, length, take, drop, option_map, sym, ap, ap₂, refl, subst, arith, length-append, append-nil, append_assoc, ⊎_elim}
 use Rattle.std.proofs.lemmas.Bool.{cases_lt, le-leb, lt-leb}
-use Rattle.std.proofs.lemmas.List.{drop-append-le, length-drop, take-append-le, length-take-le}
-use Rattle.std.proofs.Math.Seq.{take-append-add, take_all}
-use Rattle.std.specs.List.{flat_map}
+use Rattle.std.proofs.lemmas.List.{take-append-le}
+use Rattle.std.proofs.Math.Seq.{take-append-add, take_all, drop-append_seam}
 use Rattle.vx_annexb.specs.ByteStream.{source_limit, UnitPlace, unit_bytes, IsUnit, SeesNoMore, IsStream, FollowsFrom, end_of}
 use Rattle.vx_annexb.proofs.Places.{end_of_more}
 use Rattle.vx_annexb.proofs.Exists.{stream_exists}
@@ -12,7 +11,12 @@ use Rattle.vx_annexb.proofs.Unique.{stream_unique, stream_goes_on, follow_front}
 use Rattle.vx_bits.specs.declared.refusal.Refusal.{Refusal}
 use Rattle.vx_bits.specs.declared.refusal.Refusal.TheVariants.{Limit}
 use Rattle.vx_bits.specs.declared.rules.TheConstants.{LONG_SOURCE}
-use Rattle.vx_app.specs.Show.{read_len, shown_by, seen_of, is_within, ending_of, line_of_unit, lines_of_units, shown_lines, shown_line, IsShown}
+use Rattle.vx_pic.specs.Readings.{Reading}
+use Rattle.vx_pic.specs.Rules.{Readers, reads}
+use Rattle.vx_pic.specs.Streams.{Outcome, read_on, all_read, stopped, one_more, lacks_slice}
+use Rattle.vx_pic.specs.Bytes.{Ending, units_at, ending_by}
+use Rattle.vx_app.specs.Show.{read_len, shown_by, seen_of, is_within, shown_lines, lines_behind, IsShown}
+use Rattle.vx_app.proofs.Lined.{read_behind, all_length, units_more, lines_more, lines_none, unit_within, units_on, lines_on}
 
 -- ---- bytes that go on
 
@@ -24,24 +28,6 @@ front_goes_on n g more = ⊎_elim
     let split : length g + (n - length g) ≡ n = omega arith in
     (take (n - length g) more, ap (λ k. take k (g ++ more)) (sym split) ∙ take-append-add g more (n - length g) ∙ ap (λ l. l ++ take (n - length g) more) (sym (take_all n g short))))
     (cases_lt n (length g))
-
--- bytes inside a front
-range_on : (b more : List ℕ) (s e : ℕ) → s ≤ e → e ≤ length b → slice_range (b ++ more) s e ≡ slice_range b s e
-range_on b more s e order within =
-    ap (take (e - s)) (drop-append-le s b more (omega arith)) ∙ take-append-le (e - s) (drop s b) more (omega (arith, length-drop s b))
-
--- a unit lies in the bytes
-unit_within : (b : List ℕ) (all : Bool) (p : ℕ) (u : UnitPlace) → IsUnit b all p u → (u.start ≤ u.end) × (u.end ≤ length b) × (p ≤ u.start)
-unit_within b all p u is = (is.ends.order, ⊎_elim (λ m. omega (arith, m.within)) (λ z. z.1.order) is.ends.here, omega (arith, is.starts.prefix))
-
--- the lines of units that follow one another stay, however the bytes go on
-pub lines_on : (b more : List ℕ) (all : Bool) (p : ℕ) (us : List UnitPlace) → FollowsFrom b all p us → lines_of_units (b ++ more) us ≡ lines_of_units b us
-lines_on b more all p [] f = refl
-lines_on b more all p (u ∷ us) f =
-    let at = unit_within b all p u f.0 in
-    ap₂ (λ (l m : List ℕ). l ++ m)
-    (ap (λ unit. shown_line unit u.start) (range_on b more u.start u.end at.0 at.1))
-    (lines_on b more all u.end us f.2)
 
 -- units follow one another upward
 ends_rise : (b : List ℕ) (all : Bool) (p : ℕ) (us : List UnitPlace) → FollowsFrom b all p us → p ≤ end_of p us
@@ -71,10 +57,10 @@ near g piece p u within fits none is =
     omega (arith, seen, fits, length-append g piece)
 
 -- lines that were shown stay, however the source goes on
-pub shown_lines_on : (g piece : List ℕ) (all : Bool) (us : List UnitPlace) → FollowsFrom (seen_of g) all 0 us → shown_lines (g ++ piece) us ≡ shown_lines g us
-shown_lines_on g piece all us f =
+pub shown_lines_on : (R : Readers) (g piece : List ℕ) (all : Bool) (us : List UnitPlace) → FollowsFrom (seen_of g) all 0 us → shown_lines R (g ++ piece) us ≡ shown_lines R g us
+shown_lines_on R g piece all us f =
     let on = front_goes_on source_limit g piece in
-    ap (λ l. lines_of_units l us) on.1 ∙ lines_on (seen_of g) on.0 all 0 us f
+    ap (λ l. lines_behind R l [] us) on.1 ∙ lines_on R (seen_of g) on.0 all 0 [] us f
 
 -- ---- what was given of the bytes that a source tells
 
@@ -98,56 +84,162 @@ all_given b given is =
     (same, le-leb (length b) source_limit (subst (λ (l : List ℕ). length l ≤ source_limit) (sym same) whole.1))
 
 -- the lines of the first units stay
-pub lines_of_given : (b given : List ℕ) (all : Bool) (us : List UnitPlace) → IsGiven b given all → FollowsFrom (seen_of given) all 0 us → shown_lines b us ≡ shown_lines given us
-lines_of_given b given all us is f =
-    ap (λ l. shown_lines l us) is.front ∙ shown_lines_on given is.rest all us f
+pub lines_of_given : (R : Readers) (b given : List ℕ) (all : Bool) (us : List UnitPlace) → IsGiven b given all → FollowsFrom (seen_of given) all 0 us → shown_lines R b us ≡ shown_lines R given us
+lines_of_given R b given all us is f =
+    ap (λ l. shown_lines R l us) is.front ∙ shown_lines_on R given is.rest all us f
+
+-- and their bytes
+pub units_of_given : (b given : List ℕ) (all : Bool) (us : List UnitPlace) → IsGiven b given all → FollowsFrom (seen_of given) all 0 us → units_at (seen_of b) us ≡ units_at (seen_of given) us
+units_of_given b given all us is f =
+    let on = seen_goes_on b given all is in
+    ap (λ l. units_at l us) on.1 ∙ units_on (seen_of given) on.0 all 0 us f
+
+-- Of a source whose units these are, with this ending by framing.
+abbrev pub IsOf : List ℕ → List UnitPlace → Option Refusal → Type 0
+IsOf b vs framing = IsStream (seen_of b) (is_within b) vs framing
 
 -- the units seen in what was given are the first ones
-pub first_of_given : (b given : List ℕ) (all : Bool) (us vs : List UnitPlace) (t : Option Refusal) → IsGiven b given all → FollowsFrom (seen_of given) all 0 us → IsShown b vs t → (more : List UnitPlace) × (vs ≡ us ++ more)
-first_of_given b given true us vs t is f shown =
+pub first_of_given : (b given : List ℕ) (all : Bool) (us vs : List UnitPlace) (t : Option Refusal) → IsGiven b given all → FollowsFrom (seen_of given) all 0 us → IsOf b vs t → (more : List UnitPlace) × (vs ≡ us ++ more)
+first_of_given b given true us vs t is f whole =
     let same = all_given b given is in
     let follow = subst (λ (w : Bool). FollowsFrom (seen_of b) w 0 us) (sym same.1) (subst (λ (l : List ℕ). FollowsFrom (seen_of l) true 0 us) (sym same.0) f) in
-    follow_front (seen_of b) (is_within b) 0 us vs shown.behind follow shown.stream.follow shown.stream.behind
-first_of_given b given false us vs t is f shown =
+    follow_front (seen_of b) (is_within b) 0 us vs t follow whole.follow whole.behind
+first_of_given b given false us vs t is f whole =
     let on = seen_goes_on b given false is in
     let there = stream_exists (seen_of given) false in
     let front = follow_front (seen_of given) false 0 us there.0 there.1 f there.2.follow there.2.behind in
-    let stream = subst (λ (l : List ℕ). IsStream l (is_within b) vs shown.behind) on.1 shown.stream in
-    let later = (stream_goes_on (seen_of given) on.0 (is_within b) there.0 vs there.1 shown.behind there.2 stream).0 in
+    let stream = subst (λ (l : List ℕ). IsStream l (is_within b) vs t) on.1 whole in
+    let later = (stream_goes_on (seen_of given) on.0 (is_within b) there.0 vs there.1 t there.2 stream).0 in
     (front.0 ++ later.0, later.1 ∙ ap (λ l. l ++ later.0) front.1 ∙ append_assoc us front.0 later.0)
 
--- a refusal of what is looked at ends the source
-ending_of-some : (within : Bool) (refusal : Refusal) → ending_of within (Some refusal) ≡ Some refusal
-ending_of-some true refusal = refl
-ending_of-some false refusal = refl
-
--- a refusal in what was given is that of the whole
-pub refused_of_given : (b given : List ℕ) (all : Bool) (us vs : List UnitPlace) (r : Refusal) (t : Option Refusal) → IsGiven b given all → IsStream (seen_of given) all us (Some r) → IsShown b vs t → (vs ≡ us) × (t ≡ Some r)
-refused_of_given b given true us vs r t is stream shown =
+-- a refusal by framing in what was given is that of the whole
+pub refused_of_given : (b given : List ℕ) (all : Bool) (us vs : List UnitPlace) (r : Refusal) (t : Option Refusal) → IsGiven b given all → IsStream (seen_of given) all us (Some r) → IsOf b vs t → (vs ≡ us) × (t ≡ Some r)
+refused_of_given b given true us vs r t is stream whole =
     let same = all_given b given is in
     let here = subst (λ (w : Bool). IsStream (seen_of b) w us (Some r)) (sym same.1) (subst (λ (l : List ℕ). IsStream (seen_of l) true us (Some r)) (sym same.0) stream) in
-    let one = stream_unique (seen_of b) (is_within b) us vs (Some r) shown.behind here shown.stream in
-    (sym one.0, shown.ends ∙ ap (ending_of (is_within b)) (sym one.1) ∙ ending_of-some (is_within b) r)
-refused_of_given b given false us vs r t is stream shown =
+    let one = stream_unique (seen_of b) (is_within b) us vs (Some r) t here whole in
+    (sym one.0, sym one.1)
+refused_of_given b given false us vs r t is stream whole =
     let on = seen_goes_on b given false is in
-    let here = subst (λ (l : List ℕ). IsStream l (is_within b) vs shown.behind) on.1 shown.stream in
-    let one = (stream_goes_on (seen_of given) on.0 (is_within b) us vs (Some r) shown.behind stream here).1 r refl in
-    (one.0, shown.ends ∙ ap (ending_of (is_within b)) one.1 ∙ ending_of-some (is_within b) r)
+    let here = subst (λ (l : List ℕ). IsStream l (is_within b) vs t) on.1 whole in
+    (stream_goes_on (seen_of given) on.0 (is_within b) us vs (Some r) t stream here).1 r refl
 
--- all was given, and no rule is broken
-pub whole_of_given : (b given : List ℕ) (us vs : List UnitPlace) (t : Option Refusal) → IsGiven b given true → IsStream (seen_of given) true us None → IsShown b vs t → (vs ≡ us) × (t ≡ None)
-whole_of_given b given us vs t is stream shown =
+-- all was given, and framing refuses nothing
+pub whole_of_given : (b given : List ℕ) (us vs : List UnitPlace) (t : Option Refusal) → IsGiven b given true → IsStream (seen_of given) true us None → IsOf b vs t → (vs ≡ us) × (t ≡ None)
+whole_of_given b given us vs t is stream whole =
     let same = all_given b given is in
     let here = subst (λ (w : Bool). IsStream (seen_of b) w us None) (sym same.1) (subst (λ (l : List ℕ). IsStream (seen_of l) true us None) (sym same.0) stream) in
-    let one = stream_unique (seen_of b) (is_within b) us vs None shown.behind here shown.stream in
-    (sym one.0, shown.ends ∙ ap (ending_of (is_within b)) (sym one.1) ∙ ap (λ w. ending_of w None) same.1)
+    let one = stream_unique (seen_of b) (is_within b) us vs None t here whole in
+    (sym one.0, sym one.1)
 
--- more was given than the limit, and no rule is broken before it
-pub long_of_given : (b given : List ℕ) (us vs : List UnitPlace) (t : Option Refusal) → IsGiven b given false → length given ≡ source_limit + 1 → IsStream (seen_of given) false us None → IsShown b vs t → (vs ≡ us) × (t ≡ Some (Limit LONG_SOURCE))
-long_of_given b given us vs t is long stream shown =
+-- more was given than the limit, and framing refuses nothing before it
+pub long_of_given : (b given : List ℕ) (us vs : List UnitPlace) (t : Option Refusal) → IsGiven b given false → length given ≡ source_limit + 1 → IsStream (seen_of given) false us None → IsOf b vs t → (vs ≡ us) × (t ≡ None) × (is_within b ≡ false)
+long_of_given b given us vs t is long stream whole =
     let same : seen_of b ≡ seen_of given = ap seen_of is.front ∙ take-append-le source_limit given is.rest (omega arith) in
     let len : length b ≡ length given + length is.rest = ap length is.front ∙ length-append given is.rest in
     let beyond : is_within b ≡ false = lt-leb (length b) source_limit (omega (arith, len, long)) in
     let here = subst (λ (w : Bool). IsStream (seen_of b) w us None) (sym beyond) (subst (λ (l : List ℕ). IsStream l false us None) (sym same) stream) in
-    let one = stream_unique (seen_of b) (is_within b) us vs None shown.behind here shown.stream in
-    (sym one.0, shown.ends ∙ ap (ending_of (is_within b)) (sym one.1) ∙ ap (λ w. ending_of w None) beyond)
+    let one = stream_unique (seen_of b) (is_within b) us vs None t here whole in
+    (sym one.0, sym one.1, beyond)
+
+-- ---- the ending
+
+-- a refusal behind n units
+abbrev pub refused_at : ℕ → Refusal → Option Ending
+refused_at n r = let e : Ending = record { units = n; refusal = r } in Some e
+
+end_lacking : (before : List Reading) (r : Refusal) → lacks_slice before ≡ Some r → ending_by true None (all_read before) ≡ refused_at (length before) r
+end_lacking before r lacks = ap (λ (x : Option Refusal). option_map (λ (y : Refusal). let e : Ending = record { units = length before; refusal = y } in e) x) lacks
+
+end_whole : (before : List Reading) → lacks_slice before ≡ None → ending_by true None (all_read before) ≡ None
+end_whole before none = ap (λ (x : Option Refusal). option_map (λ (y : Refusal). let e : Ending = record { units = length before; refusal = y } in e) x) none
+
+abbrev head_or : List ℕ → List (List ℕ) → List ℕ
+head_or other [] = other
+head_or other (x ∷ xs) = x
+
+-- the last of lists that are the same
+last_same : (xs ys : List (List ℕ)) (x y : List ℕ) → xs ≡ ys → xs ++ x ∷ [] ≡ ys ++ y ∷ [] → x ≡ y
+last_same xs ys x y same is =
+    let drop_front : drop (length xs) (xs ++ x ∷ []) ≡ drop (length ys) (ys ++ y ∷ []) = ap₂ (λ n (l : List (List ℕ)). drop n l) (ap length same) is in
+    ap (head_or []) (sym (drop-append_seam xs (x ∷ [])) ∙ drop_front ∙ drop-append_seam ys (y ∷ []))
+
+module _ (R : Readers) (b given : List ℕ) (us vs : List UnitPlace) (before : List Reading) (ending : Option Ending) (shown : IsShown R b vs ending) where
+  -- by framing
+  pub ends_by_framing : (all : Bool) (r : Refusal) → IsGiven b given all → read_on R [] (units_at (seen_of given) us) ≡ all_read before → IsStream (seen_of given) all us (Some r)
+      → (vs ≡ us) × (ending ≡ refused_at (length us) r)
+  ends_by_framing all r is read stream =
+      let one = refused_of_given b given all us vs r shown.framing is stream shown.stream in
+      let whole : read_on R [] (units_at (seen_of b) vs) ≡ all_read before = ap (λ l. read_on R [] (units_at (seen_of b) l)) one.0 ∙ ap (λ l. read_on R [] l) (units_of_given b given all us is stream.follow) ∙ read in (
+        one.0,
+        shown.ends
+            ∙ ap (λ o. ending_by (is_within b) shown.framing o) whole
+            ∙ ap (λ t. ending_by (is_within b) t (all_read before)) one.1
+            ∙ ap (λ n. refused_at n r) (all_length R (seen_of given) us before read),
+      )
+
+  -- by the number of bytes
+  pub ends_by_length : (r : Refusal) → r ≡ Limit LONG_SOURCE → IsGiven b given false → length given ≡ source_limit + 1 → read_on R [] (units_at (seen_of given) us) ≡ all_read before → IsStream (seen_of given) false us None
+      → (vs ≡ us) × (ending ≡ refused_at (length us) r)
+  ends_by_length r limit is long read stream =
+      let one = long_of_given b given us vs shown.framing is long stream shown.stream in
+      let whole : read_on R [] (units_at (seen_of b) vs) ≡ all_read before = ap (λ l. read_on R [] (units_at (seen_of b) l)) one.0 ∙ ap (λ l. read_on R [] l) (units_of_given b given false us is stream.follow) ∙ read in (
+        one.0,
+        shown.ends
+            ∙ ap (λ o. ending_by (is_within b) shown.framing o) whole
+            ∙ ap (λ t. ending_by (is_within b) t (all_read before)) one.1
+            ∙ ap (λ w. ending_by w None (all_read before)) one.2
+            ∙ ap (λ n. refused_at n (Limit LONG_SOURCE)) (all_length R (seen_of given) us before read)
+            ∙ ap (λ x. refused_at (length us) x) (sym limit),
+      )
+
+  -- where all was given
+  whole_end : IsGiven b given true → read_on R [] (units_at (seen_of given) us) ≡ all_read before → IsStream (seen_of given) true us None
+      → (vs ≡ us) × (ending ≡ ending_by true None (all_read before))
+  whole_end is read stream =
+      let one = whole_of_given b given us vs shown.framing is stream shown.stream in
+      let whole : read_on R [] (units_at (seen_of b) vs) ≡ all_read before = ap (λ l. read_on R [] (units_at (seen_of b) l)) one.0 ∙ ap (λ l. read_on R [] l) (units_of_given b given true us is stream.follow) ∙ read in (
+        one.0,
+        shown.ends
+            ∙ ap (λ o. ending_by (is_within b) shown.framing o) whole
+            ∙ ap (λ t. ending_by (is_within b) t (all_read before)) one.1
+            ∙ ap (λ w. ending_by w None (all_read before)) (all_given b given is).1,
+      )
+
+  -- by a picture that lacks a slice
+  pub ends_lacking : (r : Refusal) → lacks_slice before ≡ Some r → IsGiven b given true → read_on R [] (units_at (seen_of given) us) ≡ all_read before → IsStream (seen_of given) true us None
+      → (vs ≡ us) × (ending ≡ refused_at (length us) r)
+  ends_lacking r lacks is read stream =
+      let one = whole_end is read stream in
+      (one.0, one.1 ∙ end_lacking before r lacks ∙ ap (λ n. refused_at n r) (all_length R (seen_of given) us before read))
+
+  -- by nothing
+  pub ends_whole : lacks_slice before ≡ None → IsGiven b given true → read_on R [] (units_at (seen_of given) us) ≡ all_read before → IsStream (seen_of given) true us None
+      → (vs ≡ us) × (ending ≡ None)
+  ends_whole none is read stream =
+      let one = whole_end is read stream in
+      (one.0, one.1 ∙ end_whole before none)
+
+  -- by a unit that breaks a rule
+  pub ends_by_unit : (all : Bool) (u : UnitPlace) (r : Refusal) → IsGiven b given all → FollowsFrom (seen_of given) all 0 (us ++ u ∷ []) → FollowsFrom (seen_of given) all 0 us → read_on R [] (units_at (seen_of given) us) ≡ all_read before
+      → reads R before (unit_bytes (seen_of given) u) ≡ Err r → (ending ≡ refused_at (length us) r) × (shown_lines R b vs ≡ shown_lines R b us)
+  ends_by_unit all u r is follow front read refused =
+      let first = first_of_given b given all (us ++ u ∷ []) vs shown.framing is follow shown.stream in
+      let split : vs ≡ us ++ u ∷ first.0 = first.1 ∙ append_assoc us (u ∷ []) first.0 in
+      let here : read_on R [] (units_at (seen_of b) us) ≡ all_read before = ap (λ l. read_on R [] l) (units_of_given b given all us is front) ∙ read in
+      let both : units_at (seen_of b) (us ++ u ∷ []) ≡ units_at (seen_of given) (us ++ u ∷ []) = units_of_given b given all (us ++ u ∷ []) is follow in
+      let unit : unit_bytes (seen_of b) u ≡ unit_bytes (seen_of given) u = last_same (units_at (seen_of b) us) (units_at (seen_of given) us) (unit_bytes (seen_of b) u) (unit_bytes (seen_of given) u) (units_of_given b given all us is front) (sym (units_more (seen_of b) us (u ∷ [])) ∙ both ∙ units_more (seen_of given) us (u ∷ [])) in
+      let answer : reads R before (unit_bytes (seen_of b) u) ≡ Err r = ap (reads R before) unit ∙ refused in
+      let whole : read_on R [] (units_at (seen_of b) vs) ≡ stopped before r =
+      ap (λ l. read_on R [] (units_at (seen_of b) l)) split
+      ∙ ap (λ l. read_on R [] l) (units_more (seen_of b) us (u ∷ first.0))
+      ∙ read_behind R (units_at (seen_of b) us) (units_at (seen_of b) (u ∷ first.0)) before here
+      ∙ ap (λ x. one_more x before (λ after. read_on R after (units_at (seen_of b) first.0))) answer in (
+        shown.ends
+            ∙ ap (λ o. ending_by (is_within b) shown.framing o) whole
+            ∙ ap (λ n. refused_at n r) (all_length R (seen_of given) us before read),
+        ap (shown_lines R b) split
+            ∙ lines_more R (seen_of b) [] before us (u ∷ first.0) here
+            ∙ ap (λ l. shown_lines R b us ++ l) (lines_none R (seen_of b) before u first.0 r answer)
+            ∙ append-nil (shown_lines R b us),
+      )

@@ -10,8 +10,10 @@ unfoldable pub help_text : List ℕ
 help_text = concat
     (codes "goosequince: subpictures of VVC byte streams (H.266, Annex B)\n"
     ∷ codes "\n"
-    ∷ codes "  show FILE  a line of JSON for each NAL unit of a byte stream: its length in\n"
-    ∷ codes "             bytes, the place of its first byte, its TemporalId and its type\n"
+    ∷ codes "  show FILE  lines of JSON for a byte stream: for each NAL unit its length in\n"
+    ∷ codes "             bytes, the place of its first byte, its TemporalId and its type,\n"
+    ∷ codes "             then what is read of the parameter set that it is, or of the\n"
+    ∷ codes "             picture that it completes\n"
     ∷ codes "  --help     this text\n"
     ∷ codes "  --version  the name and the version of the program\n"
     ∷ codes "\n"
@@ -26,7 +28,14 @@ help_text = concat
     ∷ codes "\n"
     ∷ codes "  F  framing: F1 a byte outside a unit that is no zero and no start code,\n"
     ∷ codes "     F2 a byte that emulation prevention rules out, F3 a unit's header\n"
-    ∷ codes "  L  limits: L1 a unit of more than 2^23 bytes, L3 a source of more than 2^40\n"
+    ∷ codes "  Y  syntax: a field of a set or of a header, the bit where it begins, and\n"
+    ∷ codes "     why it can't be read\n"
+    ∷ codes "  P  profile: P1 a further layer, P2 to P14 what is out of reach in a set,\n"
+    ∷ codes "     P15 the id of an adaptation parameter set\n"
+    ∷ codes "  S  structure: S1 a set that hasn't come, S2 to S15 what a unit, or the end,\n"
+    ∷ codes "     breaks behind the units before it\n"
+    ∷ codes "  L  limits: L1 a unit of more than 2^23 bytes, L2 a picture of more than 2^25,\n"
+    ∷ codes "     L3 a source of more than 2^40, L5 to L10 what no level allows\n"
     ∷ [])
 
 -- the name and the version

@@ -1,7 +1,7 @@
 -- What came of a command, and how it ends the program: the status, and the line that tells why.
 use Rattle.std.specs.Prelude.{◌≡◌, ℕ, List, [], ◌∷◌, ◌⊎◌, Result, Ok, Err, codes, decimal}
 use Rattle.std.specs.List.{concat}
-use Rattle.vx_report.specs.RefusalLine.{HasLine, refusal_text}
+use Rattle.vx_report.specs.RefusalLine.{refusal_text}
 use Rattle.vx_app.specs.Change.{Change, IsUntouched, Tells}
 use Rattle.vx_app.specs.declared.stop.Stop.{Stop}
 use Rattle.vx_app.specs.declared.stop.Stop.TheVariants.{NotUnderstood, Refused, ReadFault, WriteFault, NoMemory}
@@ -34,10 +34,10 @@ IsMade (ReadFault source) = Unit {0}
 IsMade WriteFault = ⊥
 IsMade NoMemory = ⊥
 
--- the refusal is one that has a line
-abbrev pub IsTellable : Stop → Type 0
-IsTellable (Refused refusal place) = HasLine refusal
-IsTellable _ = Unit {0}
+-- a command that the words ask for stopped
+abbrev pub IsOfCommand : Stop → Type 0
+IsOfCommand NotUnderstood = ⊥
+IsOfCommand _ = Unit {0}
 
 -- the status and the line on `err` are the stop's, or those for want of memory
 pub record Concludes {E : Type 0} (stop : Stop) (status : ℕ) (err : Change E) : Type 0 where

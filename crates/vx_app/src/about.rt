@@ -1,9 +1,8 @@
 //! `--help` and `--version`: what the program tells of itself.
 
-ghost use Rattle.std.specs.Prelude.{◌≡◌, Ok, IfErr};
+ghost use Rattle.std.specs.Prelude.{◌≡◌, Ok};
 ghost use Rattle.vx_app.specs.About.{Writes, help_text, version_text};
 ghost use Rattle.vx_app.specs.Change.{change};
-ghost use Rattle.vx_app.specs.Conclusion.{IsTellable};
 
 use crate::stop::Stop;
 use vx_io::{Sink, write_all};
@@ -15,8 +14,10 @@ pub fn help() -> &'static [u8]
 {
     b"goosequince: subpictures of VVC byte streams (H.266, Annex B)
 
-  show FILE  a line of JSON for each NAL unit of a byte stream: its length in
-             bytes, the place of its first byte, its TemporalId and its type
+  show FILE  lines of JSON for a byte stream: for each NAL unit its length in
+             bytes, the place of its first byte, its TemporalId and its type,
+             then what is read of the parameter set that it is, or of the
+             picture that it completes
   --help     this text
   --version  the name and the version of the program
 
@@ -31,7 +32,14 @@ The letters of the rules:
 
   F  framing: F1 a byte outside a unit that is no zero and no start code,
      F2 a byte that emulation prevention rules out, F3 a unit's header
-  L  limits: L1 a unit of more than 2^23 bytes, L3 a source of more than 2^40
+  Y  syntax: a field of a set or of a header, the bit where it begins, and
+     why it can't be read
+  P  profile: P1 a further layer, P2 to P14 what is out of reach in a set,
+     P15 the id of an adaptation parameter set
+  S  structure: S1 a set that hasn't come, S2 to S15 what a unit, or the end,
+     breaks behind the units before it
+  L  limits: L1 a unit of more than 2^23 bytes, L2 a picture of more than 2^25,
+     L3 a source of more than 2^40, L5 to L10 what no level allows
 "
 }
 
@@ -46,7 +54,6 @@ pub fn version() -> &'static [u8]
 /// Writes a text, and nothing else.
 pub fn write_text<K: Sink>(text: &[u8], out: &mut K) -> Result<(), Stop>
     ensures writes { Writes text.now (change K.bytes_taken K.write_faults out.old out.new) result }
-    ensures tellable { IfErr result IsTellable }
 {
     write_all(out, text)?;
     Ok(())

@@ -2,7 +2,7 @@
 
 ghost use Rattle.std.specs.Prelude.{◌≡◌, IfOk, OnErr};
 ghost use Rattle.vx_app.specs.Change.{Tells, change};
-ghost use Rattle.vx_app.specs.Conclusion.{Concludes, IsTellable, line_of};
+ghost use Rattle.vx_app.specs.Conclusion.{Concludes, line_of};
 ghost use Rattle.vx_app.specs.declared.stop.Stop.TheVariants.{ReadFault, NoMemory};
 
 use crate::stop::Stop;
@@ -13,7 +13,6 @@ use vx_report::refusal_line;
 /// Tells on `err` why a command stopped, and answers its status. A failed
 /// write to `err` changes nothing else.
 pub fn conclude<E: Sink>(alloc: Global, stop: Stop, err: &mut E) -> u8
-    requires { IsTellable stop }
     ensures { Concludes stop result (change E.bytes_taken E.write_faults err.old err.new) }
 {
     match stop {

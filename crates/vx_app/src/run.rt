@@ -1,8 +1,10 @@
 //! The program over words, sources and sinks.
 
-ghost use Rattle.std.specs.Prelude.{◌≡◌, ◌≢◌, ◌↔◌, List, ℕ, Err, vec_len, IfErr};
+ghost use Rattle.std.specs.Prelude.{◌≡◌, ◌≢◌, ◌↔◌, List, ℕ, Err, vec_len};
+ghost use Rattle.vx_pic.specs.Rules.{Readers};
+ghost use Rattle.vx_pic.specs.H266.{AreOfH266};
 ghost use Rattle.vx_app.specs.Change.{HasFault, change, source_at, sources_change};
-ghost use Rattle.vx_app.specs.Conclusion.{Outcome, IsTellable, ExitsWith};
+ghost use Rattle.vx_app.specs.Conclusion.{Outcome, ExitsWith};
 ghost use Rattle.vx_app.specs.Grammar.{show as for_show, AskFor, IsUnderstood, NamesFiles, texts};
 ghost use Rattle.vx_app.specs.Run.{Performs};
 ghost use Rattle.vx_app.specs.Show.{WhereKnown, status_at};
@@ -37,10 +39,10 @@ pub fn run<K: Sink, E: Sink>(
 
     // Which status it is, want of memory and faults aside.
     ensures words { (result ≡ 2) ↔ ¬ IsUnderstood (texts words.now) }
-    ensures exact { (file : List ℕ) → AskFor (texts words.now) (for_show file)
+    ensures exact { (R : Readers) → AreOfH266 R → (file : List ℕ) → AskFor (texts words.now) (for_show file)
         → let source = source_at (sources_change bytes_left read_faults sources.old.items sources.new.items) 0 in
         ¬ HasFault source → ¬ HasFault (change K.bytes_taken K.write_faults out.old out.new)
-        → result ≢ 4 → WhereKnown source (λ b units ending. result ≡ status_at ending) }
+        → result ≢ 4 → WhereKnown R source (λ b units ending. result ≡ status_at ending) }
 {
     match perform(alloc, words, sources, out) {
         Ok(()) => 0,
@@ -60,7 +62,6 @@ fn perform<K: Sink>(
         (sources_change bytes_left read_faults sources.old.items sources.new.items)
         (change K.bytes_taken K.write_faults out.old out.new) result }
     ensures list { vec_len sources.new ≡ vec_len sources.old }
-    ensures tellable { IfErr result IsTellable }
 {
     match command_of(words) {
         Some(Command::Show { .. }) => show(alloc, &mut sources[0], out),

@@ -15,8 +15,11 @@ const GRAY: &[u8] = &[
 ];
 
 const GRAY_LINES: &[u8] = br#"{"bytes":20,"offset":4,"tid":0,"type":15}
+{"ctu":64,"height":64,"sps":0,"subpictures":1,"width":64}
 {"bytes":10,"offset":28,"tid":0,"type":16}
+{"columns":1,"pps":0,"rows":1,"slices":1,"sps":0}
 {"bytes":7,"offset":42,"tid":0,"type":8}
+{"clvss":true,"picture":0,"poc":0,"slices":1,"subpictures":1}
 "#;
 
 /// The same units with start codes of three bytes, zeros before, between and behind them.
@@ -28,8 +31,11 @@ const GRAY_AMONG_ZEROS: &[u8] = &[
 ];
 
 const LINES_AMONG_ZEROS: &[u8] = br#"{"bytes":20,"offset":7,"tid":0,"type":15}
+{"ctu":64,"height":64,"sps":0,"subpictures":1,"width":64}
 {"bytes":10,"offset":30,"tid":0,"type":16}
+{"columns":1,"pps":0,"rows":1,"slices":1,"sps":0}
 {"bytes":7,"offset":46,"tid":0,"type":8}
+{"clvss":true,"picture":0,"poc":0,"slices":1,"subpictures":1}
 "#;
 
 /// What an ordinary encoder wrote for one gray picture.
@@ -43,14 +49,17 @@ const ENCODED: &[u8] = &[
 ];
 
 const ENCODED_LINES: &[u8] = br#"{"bytes":21,"offset":4,"tid":0,"type":15}
+{"ctu":64,"height":64,"sps":0,"subpictures":1,"width":72}
 {"bytes":10,"offset":29,"tid":0,"type":16}
+{"columns":1,"pps":0,"rows":1,"slices":1,"sps":0}
 {"bytes":40,"offset":43,"tid":0,"type":8}
+{"clvss":true,"picture":0,"poc":0,"slices":1,"subpictures":1}
 "#;
 
-/// A unit, and one whose forbidden bit is set.
-const BROKEN: &[u8] = &[0x00, 0x00, 0x01, 0x00, 0x79, 0x00, 0x00, 0x01, 0x80, 0x79];
+/// An access unit delimiter, and a unit whose forbidden bit is set.
+const BROKEN: &[u8] = &[0x00, 0x00, 0x01, 0x00, 0xA1, 0x00, 0x00, 0x01, 0x80, 0x79];
 
-const BROKEN_LINE: &[u8] = br#"{"bytes":2,"offset":3,"tid":0,"type":15}
+const BROKEN_LINE: &[u8] = br#"{"bytes":2,"offset":3,"tid":0,"type":20}
 "#;
 
 /// The words, a memory source and the sinks of a run, and what comes of it.
@@ -89,7 +98,7 @@ const SHOWN: [Row<'static>; 6] = [
     // A byte a write: the call that would fail is the one behind the last.
     Row {
         taken: &[1],
-        failing_writes: &[126],
+        failing_writes: &[296],
         ..SHOW
     },
     Row {
@@ -146,16 +155,114 @@ const REFUSED: [Row<'static>; 5] = [
     },
     // A stray byte behind a unit of the second temporal layer.
     Row {
-        bytes: &[0x00, 0x00, 0x01, 0x05, 0x0A, 0x80, 0x00, 0x00, 0x00, 0x02],
-        out: b"{\"bytes\":3,\"offset\":3,\"tid\":1,\"type\":1}\n",
+        bytes: &[0x00, 0x00, 0x01, 0x00, 0xA2, 0x80, 0x00, 0x00, 0x00, 0x02],
+        out: b"{\"bytes\":3,\"offset\":3,\"tid\":1,\"type\":20}\n",
         err: b"F1 source 0 byte 9\n",
         status: 1,
         ..SHOW
     },
 ];
 
+/// Two of these pictures side by side, each a subpicture: the sets, the picture header
+/// and a slice of each.
+const PAIR_LINES: &[u8] = br#"{"bytes":22,"offset":4,"tid":0,"type":15}
+{"ctu":64,"height":64,"sps":0,"subpictures":2,"width":128}
+{"bytes":12,"offset":30,"tid":0,"type":16}
+{"columns":2,"pps":0,"rows":1,"slices":2,"sps":0}
+{"bytes":4,"offset":46,"tid":0,"type":19}
+{"bytes":6,"offset":54,"tid":0,"type":8}
+"#;
+
+/// Streams whose units break a rule, or lack one at the end.
+const READ: [Row<'static>; 6] = [
+    // The gray picture without its PPS.
+    Row {
+        bytes: &[
+            0x00, 0x00, 0x00, 0x01, 0x00, 0x79, 0x00, 0x03, 0x02, 0x33, 0x80, 0x00, 0x00, 0x82,
+            0x04, 0x12, 0x00, 0x3D, 0xE0, 0x03, 0x00, 0x60, 0x80, 0x01, 0x00, 0x00, 0x00, 0x01,
+            0x00, 0x41, 0xC4, 0x18, 0x5A, 0xA7, 0x80,
+        ],
+        out: br#"{"bytes":20,"offset":4,"tid":0,"type":15}
+{"ctu":64,"height":64,"sps":0,"subpictures":1,"width":64}
+"#,
+        err: b"S1 source 0 unit 1 PPS 0\n",
+        status: 1,
+        ..SHOW
+    },
+    // With no byte behind the slice header.
+    Row {
+        bytes: &[
+            0x00, 0x00, 0x00, 0x01, 0x00, 0x79, 0x00, 0x03, 0x02, 0x33, 0x80, 0x00, 0x00, 0x82,
+            0x04, 0x12, 0x00, 0x3D, 0xE0, 0x03, 0x00, 0x60, 0x80, 0x01, 0x00, 0x00, 0x00, 0x01,
+            0x00, 0x81, 0x00, 0x00, 0x41, 0x02, 0x08, 0x98, 0x40, 0x80, 0x00, 0x00, 0x00, 0x01,
+            0x00, 0x41, 0xC4, 0x18,
+        ],
+        out: br#"{"bytes":20,"offset":4,"tid":0,"type":15}
+{"ctu":64,"height":64,"sps":0,"subpictures":1,"width":64}
+{"bytes":10,"offset":28,"tid":0,"type":16}
+{"columns":1,"pps":0,"rows":1,"slices":1,"sps":0}
+"#,
+        err: b"S11 source 0 unit 2\n",
+        status: 1,
+        ..SHOW
+    },
+    // The pair without its last slice.
+    Row {
+        bytes: &[
+            0x00, 0x00, 0x00, 0x01, 0x00, 0x79, 0x00, 0x03, 0x02, 0x33, 0x80, 0x00, 0x00, 0x40,
+            0x81, 0x05, 0x53, 0x40, 0x07, 0xBC, 0x00, 0x60, 0x0C, 0x10, 0x00, 0x20, 0x00, 0x00,
+            0x00, 0x01, 0x00, 0x81, 0x00, 0x00, 0x20, 0x40, 0x82, 0x05, 0x7A, 0x53, 0x08, 0x01,
+            0x00, 0x00, 0x00, 0x01, 0x00, 0x99, 0x88, 0x40, 0x00, 0x00, 0x00, 0x01, 0x00, 0x41,
+            0x18, 0x5A, 0xA7, 0x80,
+        ],
+        out: PAIR_LINES,
+        err: b"S4 source 0 unit 4\n",
+        status: 1,
+        room: 600,
+        ..SHOW
+    },
+    // Its PPS again, between its slices.
+    Row {
+        bytes: &[
+            0x00, 0x00, 0x00, 0x01, 0x00, 0x79, 0x00, 0x03, 0x02, 0x33, 0x80, 0x00, 0x00, 0x40,
+            0x81, 0x05, 0x53, 0x40, 0x07, 0xBC, 0x00, 0x60, 0x0C, 0x10, 0x00, 0x20, 0x00, 0x00,
+            0x00, 0x01, 0x00, 0x81, 0x00, 0x00, 0x20, 0x40, 0x82, 0x05, 0x7A, 0x53, 0x08, 0x01,
+            0x00, 0x00, 0x00, 0x01, 0x00, 0x99, 0x88, 0x40, 0x00, 0x00, 0x00, 0x01, 0x00, 0x41,
+            0x18, 0x5A, 0xA7, 0x80, 0x00, 0x00, 0x00, 0x01, 0x00, 0x81, 0x00, 0x00, 0x20, 0x40,
+            0x82, 0x05, 0x7A, 0x53, 0x08, 0x01, 0x00, 0x00, 0x00, 0x01, 0x00, 0x41, 0x58, 0x5A,
+            0xA7, 0x80,
+        ],
+        out: PAIR_LINES,
+        err: b"S3 source 0 unit 4\n",
+        status: 1,
+        room: 600,
+        ..SHOW
+    },
+    // A set that is cut.
+    Row {
+        bytes: &[
+            0x00, 0x00, 0x00, 0x01, 0x00, 0x79, 0x00, 0x03, 0x02, 0x33, 0x80, 0x00,
+        ],
+        out: b"",
+        err: b"Y source 0 unit 0 field 22 bit 40 Short\n",
+        status: 1,
+        ..SHOW
+    },
+    // As many subpictures as a number of 32 bits says.
+    Row {
+        bytes: &[
+            0x00, 0x00, 0x00, 0x01, 0x00, 0x79, 0x00, 0x03, 0x02, 0x33, 0x80, 0x00, 0x00, 0x40,
+            0x81, 0x05, 0x00, 0x00, 0x03, 0x00, 0x01, 0xFF, 0xFF, 0xFF, 0xFE,
+        ],
+        out: b"",
+        err: b"L9 source 0 unit 0\n",
+        status: 1,
+        ..SHOW
+    },
+];
+
 /// Of a stream that comes in one piece the lines of the first two units are one
-/// write, and that of the third, which the end shows, is another.
+/// write, and those of the third, which the end shows, are another.
 const ONCE: [Row<'static>; 3] = [
     Row {
         failing_writes: &[2],
@@ -164,7 +271,9 @@ const ONCE: [Row<'static>; 3] = [
     Row {
         failing_writes: &[1],
         out: br#"{"bytes":20,"offset":4,"tid":0,"type":15}
+{"ctu":64,"height":64,"sps":0,"subpictures":1,"width":64}
 {"bytes":10,"offset":28,"tid":0,"type":16}
+{"columns":1,"pps":0,"rows":1,"slices":1,"sps":0}
 "#,
         err: b"write fault\n",
         status: 3,
@@ -181,8 +290,10 @@ const ONCE: [Row<'static>; 3] = [
 
 const HELP: &[u8] = b"goosequince: subpictures of VVC byte streams (H.266, Annex B)
 
-  show FILE  a line of JSON for each NAL unit of a byte stream: its length in
-             bytes, the place of its first byte, its TemporalId and its type
+  show FILE  lines of JSON for a byte stream: for each NAL unit its length in
+             bytes, the place of its first byte, its TemporalId and its type,
+             then what is read of the parameter set that it is, or of the
+             picture that it completes
   --help     this text
   --version  the name and the version of the program
 
@@ -197,7 +308,14 @@ The letters of the rules:
 
   F  framing: F1 a byte outside a unit that is no zero and no start code,
      F2 a byte that emulation prevention rules out, F3 a unit's header
-  L  limits: L1 a unit of more than 2^23 bytes, L3 a source of more than 2^40
+  Y  syntax: a field of a set or of a header, the bit where it begins, and
+     why it can't be read
+  P  profile: P1 a further layer, P2 to P14 what is out of reach in a set,
+     P15 the id of an adaptation parameter set
+  S  structure: S1 a set that hasn't come, S2 to S15 what a unit, or the end,
+     breaks behind the units before it
+  L  limits: L1 a unit of more than 2^23 bytes, L2 a picture of more than 2^25,
+     L3 a source of more than 2^40, L5 to L10 what no level allows
 ";
 
 /// What the program tells of itself. No source is there to be read.
@@ -303,12 +421,12 @@ struct Made<'a> {
 
 /// A unit that ends at byte 65,536.
 const LONG: Made<'static> = Made {
-    head: &[0x00, 0x00, 0x01, 0x00, 0x41],
+    head: &[0x00, 0x00, 0x01, 0x00, 0xA1],
     count: 65_531,
     byte: 0x81,
     tail: &[],
     row: Row {
-        out: b"{\"bytes\":65533,\"offset\":3,\"tid\":0,\"type\":8}\n",
+        out: b"{\"bytes\":65533,\"offset\":3,\"tid\":0,\"type\":20}\n",
         ..SHOW
     },
 };
@@ -318,7 +436,7 @@ const MADE: [Made<'static>; 9] = [
     Made {
         count: 65_530,
         row: Row {
-            out: b"{\"bytes\":65532,\"offset\":3,\"tid\":0,\"type\":8}\n",
+            out: b"{\"bytes\":65532,\"offset\":3,\"tid\":0,\"type\":20}\n",
             ..SHOW
         },
         ..LONG
@@ -326,7 +444,7 @@ const MADE: [Made<'static>; 9] = [
     Made {
         count: 65_532,
         row: Row {
-            out: b"{\"bytes\":65534,\"offset\":3,\"tid\":0,\"type\":8}\n",
+            out: b"{\"bytes\":65534,\"offset\":3,\"tid\":0,\"type\":20}\n",
             ..SHOW
         },
         ..LONG
@@ -334,7 +452,7 @@ const MADE: [Made<'static>; 9] = [
     Made {
         count: 199_998,
         row: Row {
-            out: b"{\"bytes\":200000,\"offset\":3,\"tid\":0,\"type\":8}\n",
+            out: b"{\"bytes\":200000,\"offset\":3,\"tid\":0,\"type\":20}\n",
             ..SHOW
         },
         ..LONG
@@ -342,10 +460,10 @@ const MADE: [Made<'static>; 9] = [
     // A read cuts a start code.
     Made {
         count: 65_529,
-        tail: &[0x00, 0x00, 0x01, 0x00, 0x79],
+        tail: &[0x00, 0x00, 0x01, 0x00, 0xA1],
         row: Row {
-            out: b"{\"bytes\":65531,\"offset\":3,\"tid\":0,\"type\":8}
-{\"bytes\":2,\"offset\":65537,\"tid\":0,\"type\":15}
+            out: b"{\"bytes\":65531,\"offset\":3,\"tid\":0,\"type\":20}
+{\"bytes\":2,\"offset\":65537,\"tid\":0,\"type\":20}
 ",
             ..SHOW
         },
@@ -355,16 +473,16 @@ const MADE: [Made<'static>; 9] = [
     Made {
         count: 8_388_606,
         row: Row {
-            out: b"{\"bytes\":8388608,\"offset\":3,\"tid\":0,\"type\":8}\n",
+            out: b"{\"bytes\":8388608,\"offset\":3,\"tid\":0,\"type\":20}\n",
             ..SHOW
         },
         ..LONG
     },
     Made {
-        head: &[0x00, 0x00, 0x01, 0x00, 0x79, 0x00, 0x00, 0x01, 0x00, 0x41],
+        head: &[0x00, 0x00, 0x01, 0x00, 0xA1, 0x00, 0x00, 0x01, 0x00, 0xA1],
         count: 8_388_607,
         row: Row {
-            out: b"{\"bytes\":2,\"offset\":3,\"tid\":0,\"type\":15}\n",
+            out: b"{\"bytes\":2,\"offset\":3,\"tid\":0,\"type\":20}\n",
             err: b"L1 source 0 unit 1\n",
             status: 1,
             ..SHOW
@@ -384,13 +502,13 @@ const MADE: [Made<'static>; 9] = [
     },
     // 10 MB of zeros between two units.
     Made {
-        head: &[0x00, 0x00, 0x01, 0x00, 0x41, 0x80],
+        head: &[0x00, 0x00, 0x01, 0x00, 0xA1, 0x80],
         count: 10_000_000,
         byte: 0,
-        tail: &[0x01, 0x00, 0x79],
+        tail: &[0x01, 0x00, 0xA1],
         row: Row {
-            out: b"{\"bytes\":3,\"offset\":3,\"tid\":0,\"type\":8}
-{\"bytes\":2,\"offset\":10000007,\"tid\":0,\"type\":15}
+            out: b"{\"bytes\":3,\"offset\":3,\"tid\":0,\"type\":20}
+{\"bytes\":2,\"offset\":10000007,\"tid\":0,\"type\":20}
 ",
             ..SHOW
         },
@@ -405,6 +523,7 @@ fn shows_units(rt: HostRuntime) -> Result<(), Fail> {
     for pieces in &PIECES {
         check_rows(&rt, rt.alloc(), &SHOWN, pieces)?;
         check_rows(&rt, rt.alloc(), &REFUSED, pieces)?;
+        check_rows(&rt, rt.alloc(), &READ, pieces)?;
     }
     check_rows(&rt, rt.alloc(), &ONCE, &[])?;
     check_rows(&rt, rt.alloc(), &ABOUT, &[])?;
@@ -544,7 +663,7 @@ fn len_of_lines(k: usize) -> usize {
     if k < 27 {
         return 0;
     }
-    if k < 41 { 42 } else { 85 }
+    if k < 41 { 100 } else { 193 }
 }
 
 /// A byte a write, and the k-th write fails, or there is room for k bytes: those were written.

@@ -1,2 +1,6 @@
 -- Lemmas of this crate.
 pub mod Answers
+pub mod Feeding
+pub mod Seeking
+pub mod Advancing
+pub mod DonePicture

@@ -1,13 +1,16 @@
 -- An assembler, as its callers see it: by these words, and by the relation `Stands` between it and what the units that it took were
 -- read as. That relation begins with no units; `Takes` says what it is worth.
-use Rattle.std.specs.Prelude.{◌≡◌, List, [], ◌∷◌, Option, Some, None, Result, Ok, Err}
+use Rattle.std.specs.Prelude.{◌≡◌, List, [], ◌∷◌, Option, Some, None, Result, Ok, Err, ℕ, length}
 use Rattle.vx_bits.specs.declared.list.Item.{Item}
 use Rattle.vx_bits.specs.declared.refusal.Refusal.{Refusal}
 use Rattle.vx_pic.specs.declared.accepted.Accepted.{Accepted}
 use Rattle.vx_pic.specs.declared.accepted.Accepted.TheVariants as accepted
-use Rattle.vx_pic.specs.Readings.{Reading, vps_read, sps_read, pps_read, aps_read}
+use Rattle.vx_pic.specs.Readings.{Reading, Picture, vps_read, sps_read, pps_read, aps_read}
 use Rattle.vx_pic.specs.Streams.{lacks_slice}
 use Rattle.vx_pic.specs.Told.{told_of}
+use Rattle.vx_pic.specs.declared.kind.Kind.{Kind}
+use Rattle.vx_sps.specs.Subpictures.{subpics_of}
+use Rattle.vx_assemble.specs.declared.seen.PictureSeen.{PictureSeen}
 use Rattle.vx_assemble.specs.declared.fault.AssembleFault.{AssembleFault}
 use Rattle.vx_assemble.specs.declared.fault.AssembleFault.TheVariants as faults
 use Rattle.vx_assemble.specs.declared.fault.First.{First}
@@ -72,3 +75,10 @@ items_of (sps_read s) = Some s
 items_of (pps_read p) = Some p
 items_of (aps_read a) = Some (aps_items a)
 items_of _ = None
+
+-- what is told of a picture
+abbrev pub seen_with : Kind → ℕ → ℕ → PictureSeen
+seen_with kind slices subpictures = record { kind = kind; slices = slices; subpictures = subpictures }
+
+abbrev pub seen_picture : Picture → PictureSeen
+seen_picture p = seen_with p.kind (length p.slices) (subpics_of p.begun.sps)

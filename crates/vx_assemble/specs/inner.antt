@@ -6,3 +6,4 @@ pub mod Headers
 pub mod Takes
 pub mod Changes
 pub mod Answered
+pub mod Feed

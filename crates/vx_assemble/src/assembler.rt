@@ -3,12 +3,15 @@ ghost use Rattle.std.specs.Prelude.{◌≡◌, [], List};
 
 use crate::fault::{AssembleFault, First};
 use crate::refusals::structure;
+use crate::seen::{PictureSeen, seen_with};
 use crate::state::State;
 use std::alloc::Global;
 use std::marker::Model;
 use vx_bits::rules::SLICE_MISSING;
 use vx_bits::{Fields, ReadError};
 use vx_pic::Accepted;
+use vx_pps::Pps;
+use vx_sps::Sps;
 
 /// Takes NAL units in order, and hands on each picture with its last slice.
 ///
@@ -37,11 +40,11 @@ impl Model for Assembler {
 impl Assembler {
     ghost use Rattle.std.specs.Prelude.{◌≡◌, [], ◌∷◌, List, Some, None, Err, IfOk, IfErr, OnOk, option_copied};
     ghost use Rattle.vx_annexb.specs.ByteStream.{IsSound};
-    ghost use Rattle.vx_pic.specs.Readings.{Reading};
+    ghost use Rattle.vx_pic.specs.Readings.{Reading, Picture, completed, stored_sps, stored_pps};
     ghost use Rattle.vx_pic.specs.Rules.{Readers, reads};
     ghost use Rattle.vx_pic.specs.H266.{AreOfH266};
     ghost use Rattle.vx_pic.specs.Told.{told_of};
-    ghost use Rattle.vx_assemble.specs.Held.{Stands, Takes, Ends, told, first_fault, first_of, items_of};
+    ghost use Rattle.vx_assemble.specs.Held.{Stands, Takes, Ends, told, first_fault, first_of, items_of, seen_picture};
 
     /// An assembler that took no units. It takes no memory yet.
     pub fn new(alloc: Global) -> Assembler
@@ -124,5 +127,30 @@ impl Assembler {
             Accepted::Pps(id) => Some(self.state.pps_of(id)?.value().fields()),
             Accepted::Nothing | Accepted::PictureDone => None,
         }
+    }
+
+    /// The SPS of an id, where one is stored.
+    pub fn sps(&self, id: u8) -> Option<&Sps>
+        ensures { (before : List Reading) → Stands self.now before → option_copied result ≡ stored_sps id before }
+    {
+        Some(self.state.sps_of(id)?.value())
+    }
+
+    /// The PPS of an id, where one is stored.
+    pub fn pps(&self, id: u8) -> Option<&Pps>
+        ensures { (before : List Reading) → Stands self.now before → option_copied result ≡ stored_pps id before }
+    {
+        Some(self.state.pps_of(id)?.value())
+    }
+
+    /// What is told of the picture that was done last.
+    pub fn picture_seen(&self) -> Option<PictureSeen>
+        ensures { (r : Reading) (before : List Reading) (p : Picture) → Stands self.now (r ∷ before) → completed r before ≡ p ∷ []
+            → result ≡ Some (seen_picture p) }
+    {
+        let begun = self.state.picture.begun.as_ref()?;
+        let kind = self.state.picture.kind?;
+        let subpictures = begun.sets.value().sps.value().subpics();
+        Some(seen_with(kind, self.state.picture.slices.len(), subpictures))
     }
 }

@@ -7,15 +7,21 @@
 mod assembler;
 mod current;
 mod fault;
+mod feed;
 mod in_force;
 mod keep;
 mod readers;
 mod refusals;
+mod seen;
 mod shared;
 mod state;
 mod take;
+#[cfg(test)]
+mod tests_feed;
 mod unit;
 
 pub use assembler::Assembler;
 pub use fault::{AssembleFault, First};
+pub use feed::{Feed, FeedFault, Step, Taken};
+pub use seen::PictureSeen;
 pub use vx_pic::Accepted;

@@ -1,10 +1,22 @@
 -- The line of a picture, as `{"clvss":true,"picture":0,"poc":0,"slices":1,"subpictures":1}`.
-use Rattle.std.specs.Prelude.{ℕ, Bool, true, false, List, [], ◌∷◌, ◌++◌, codes, decimal}
+use Rattle.std.specs.Prelude.{ℕ, Bool, true, false, List, [], ◌∷◌, ◌++◌, length, codes, decimal}
 use Rattle.std.specs.Fmt.{signed_decimal}
 use Rattle.std.specs.List.{concat}
 use Rattle.serde_json.specs.Data.{Data, boolean, number, unsigned, object, member, no_members}
 use Rattle.serde_json.specs.Find.{of_integer}
+use Rattle.vx_sps.specs.Subpictures.{subpics_of}
+use Rattle.vx_pic.specs.Parts.{Parts}
 use Rattle.vx_report.specs.declared.picture.PictureNumbers.{PictureNumbers}
+
+-- what is shown of a picture before which so many were done
+abbrev pub picture_numbers : ℕ → Parts → PictureNumbers
+picture_numbers before p = record {
+  picture = before;
+  clvss = p.kind.clvss;
+  poc = p.kind.poc;
+  slices = length p.slices;
+  subpictures = subpics_of p.sps;
+}
 
 -- the picture as a JSON object, its keys in byte order
 abbrev pub picture_object : PictureNumbers → Data

@@ -101,5 +101,6 @@ refusal_text (Syntax field bit cause) place = syntax_text field bit cause place
 refusal_text (Profile code) place = unit_text (codes "P") code place
 refusal_text (Limit code) place = limit_text code place
 refusal_text (Structure code kind id) place = structure_text code kind id place
+-- no source breaks these alone
 refusal_text (Extract code) place = []
 refusal_text (Merge code source field) place = []

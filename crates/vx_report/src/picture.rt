@@ -6,6 +6,7 @@ ghost use Rattle.vx_report.specs.PictureLine.{picture_object, picture_json, pict
 
 use serde_json::{Value, json};
 use std::alloc::{AllocError, Global};
+use vx_pic::Picture;
 
 /// What is shown of a picture.
 #[derive(Clone, Copy, Debug, PartialEq, Eq)]
@@ -20,6 +21,25 @@ pub struct PictureNumbers {
     pub slices: u32,
     /// How many subpictures it has.
     pub subpictures: u32,
+}
+
+impl PictureNumbers {
+    ghost use Rattle.std.specs.Prelude.{◌≡◌};
+    ghost use Rattle.vx_report.specs.PictureLine.{picture_numbers};
+
+    /// What is shown of a picture before which so many were done.
+    pub fn of(before: u64, picture: &Picture<'_>) -> PictureNumbers
+        ensures { result ≡ picture_numbers before picture.now }
+    {
+        let kind = picture.kind();
+        PictureNumbers {
+            picture: before,
+            clvss: kind.clvss,
+            poc: kind.poc,
+            slices: picture.slice_count(),
+            subpictures: picture.sps().subpics(),
+        }
+    }
 }
 
 /// The JSON line of a picture: whether it starts a coded layer video sequence, its number, its

@@ -1,15 +1,14 @@
 //! The line that names a broken rule and its place.
 
-ghost use Rattle.std.specs.Prelude.{◌≡◌, ◌≤◌, codes, string_bytes, IfOk};
-ghost use Rattle.vx_pic.specs.declared.sets.TheConstants as sets;
+ghost use Rattle.std.specs.Prelude.{◌≡◌, codes, string_bytes, IfOk};
 ghost use Rattle.vx_report.specs.RefusalLine as line;
-ghost use Rattle.vx_report.specs.RefusalLine.{HasLine, refusal_text};
+ghost use Rattle.vx_report.specs.RefusalLine.{refusal_text};
 
 use std::alloc::{AllocError, Global};
 use vx_aps::{ALF, LMCS, SCALING};
 use vx_bits::rules::{LAYOUT, LONG_SOURCE, SET_MISSING};
 use vx_bits::{BitCause, Refusal};
-use vx_pic::{PPS, SPS};
+use vx_pic::SPS;
 
 /// Where a rule was broken.
 #[derive(Clone, Copy, Debug, PartialEq, Eq)]
@@ -27,9 +26,9 @@ pub struct Where {
 /// The line of a rule that a source breaks, with its line feed, by the rule's kind:
 /// `F3 source 0 byte 5`, `Y source 0 unit 0 field 22 bit 40 Short`, `P4 source 0 unit 3`,
 /// `L1 source 0 unit 3`, and `L3 source 0` of the whole source, `S4 source 0 unit 3`, with
-/// the set in `S1 source 0 unit 1 PPS 3` and the fault in `S12 source 0 unit 2 layout 3`.
+/// the set in `S1 source 0 unit 1 PPS 3` and the fault in `S12 source 0 unit 2 layout 3`. It is empty
+/// for a rule that no source breaks alone.
 pub fn refusal_line(alloc: Global, refusal: Refusal, place: Where) -> Result<Vec<u8>, AllocError>
-    requires { HasLine refusal }
     ensures { IfOk result (λ line. line.items ≡ refusal_text refusal place) }
 {
     let text = match refusal {
@@ -38,7 +37,7 @@ pub fn refusal_line(alloc: Global, refusal: Refusal, place: Where) -> Result<Vec
         Refusal::Profile { code } => profile_line(alloc, code, place),
         Refusal::Limit { code } => limit_line(alloc, code, place),
         Refusal::Structure { code, kind, id } => structure_line(alloc, code, kind, id, place),
-        Refusal::Extract { .. } | Refusal::Merge { .. } => unreachable!(),
+        Refusal::Extract { .. } | Refusal::Merge { .. } => Ok(String::new(alloc)),
     }?;
     Ok(text.into_bytes())
 }
@@ -112,7 +111,6 @@ fn structure_line(
     id: u8,
     place: Where,
 ) -> Result<String, AllocError>
-    requires { code ≡ SET_MISSING → kind ≤ sets.PPS }
     ensures { IfOk result (λ text. string_bytes text ≡ line.structure_text code kind id place) }
 {
     match code {
@@ -130,7 +128,6 @@ fn order_line(alloc: Global, code: u8, place: Where) -> Result<String, AllocErro
 }
 
 fn missing_line(alloc: Global, kind: u8, id: u8, place: Where) -> Result<String, AllocError>
-    requires { kind ≤ sets.PPS }
     ensures { IfOk result (λ text. string_bytes text ≡ line.missing_text kind id place) }
 {
     let word = set_word(kind);
@@ -142,7 +139,6 @@ fn missing_line(alloc: Global, kind: u8, id: u8, place: Where) -> Result<String,
 
 /// The name of a kind of sets.
 fn set_word(kind: u8) -> &'static str
-    requires { kind ≤ sets.PPS }
     ensures { result.now ≡ line.set_word kind }
 {
     match kind {
@@ -150,8 +146,7 @@ fn set_word(kind: u8) -> &'static str
         LMCS => "LMCS",
         SCALING => "SCALING",
         SPS => "SPS",
-        PPS => "PPS",
-        _ => unreachable!(),
+        _ => "PPS",
     }
 }
 

@@ -1,103 +1,139 @@
--- The steps of `show`: the lines of the units that are seen, gathered and then written, and what the source has given.
+-- The steps of `show`: the lines of the units that are seen, gathered and then written, and what the source has given. `before` are
+-- what the units were read as, the latest first.
 use Rattle.std.specs.Prelude.{◌≡◌, ℕ, ◌+◌, ◌-◌, ◌^◌, ◌<◌, Bool, true, false, List, [], ◌∷◌, ◌++◌, length}
 use Rattle.std.specs.Prelude.{Option, Some, None, Result, Ok, Err}
 use Rattle.std.specs.Io.KnownBytes.{Consumes, IsAtEnd}
-use Rattle.vx_annexb.specs.ByteStream.{UnitPlace, IsUnit, IsStream, FollowsFrom, end_of}
-use Rattle.vx_app.specs.declared.stop.Stop.{Stop}
-use Rattle.vx_app.specs.declared.stop.Stop.TheVariants.{Refused, ReadFault, WriteFault, NoMemory}
-use Rattle.vx_app.specs.Change.{Change, HasNoFault, Gains, GainsFront}
-use Rattle.vx_app.specs.Conclusion.{Outcome}
-use Rattle.vx_app.specs.Show.{seen_of, shown_lines, line_of_unit, behind_unit, shown_by, read_len}
-use Rattle.vx_annexb.specs.Reading.{Reading, HasRead, Reads, IsRefusedBy}
+use Rattle.vx_annexb.specs.ByteStream.{UnitPlace, unit_bytes, IsUnit, IsStream, FollowsFrom, end_of}
 use Rattle.vx_annexb.specs.Held.{is_all}
 use Rattle.vx_annexb.specs.declared.unit_reader.Closed.{Closed}
 use Rattle.vx_annexb.specs.declared.unit_reader.Closed.TheVariants.{End, TooLong, Failed}
 use Rattle.vx_annexb.specs.declared.unit_reader.ReadFault.{ReadFault as ReadAnswer}
 use Rattle.vx_annexb.specs.declared.unit_reader.ReadFault.TheVariants.{Memory, SourceFailed}
+use Rattle.vx_pic.specs.declared.kind.Kind.{Kind}
+use Rattle.vx_pic.specs.Readings.{Reading, pictures}
+use Rattle.vx_pic.specs.Rules.{Readers, reads}
+use Rattle.vx_pic.specs.Streams.{read_on, all_read, lacks_slice}
+use Rattle.vx_pic.specs.Bytes.{units_at}
+use Rattle.vx_report.specs.declared.picture.PictureNumbers.{PictureNumbers}
+use Rattle.vx_assemble.specs.Feed.{Feeding, HasFed, IsRefusedFor, ReadsOn as Reads}
+use Rattle.vx_app.specs.declared.stop.Stop.{Stop}
+use Rattle.vx_app.specs.declared.stop.Stop.TheVariants.{Refused, ReadFault, WriteFault, NoMemory}
+use Rattle.vx_app.specs.Change.{Change, HasNoFault, Gains, GainsFront}
+use Rattle.vx_app.specs.Conclusion.{Outcome}
+use Rattle.vx_app.specs.Show.{seen_of, lines_behind, shown_lines, unit_lines, behind_unit, shown_by, read_len}
+
+-- what is shown of a picture of this kind, behind n others
+abbrev pub picture_with : ℕ → Kind → ℕ → ℕ → PictureNumbers
+picture_with n kind slices subpictures =
+    record { picture = n; clvss = kind.clvss; poc = kind.poc; slices = slices; subpictures = subpictures }
+
+-- more may be read, or all was, and no picture lacks a slice
+abbrev pub EndsBy : Option Closed → List Reading → Type 0
+EndsBy None before = Unit {0}
+EndsBy (Some End) before = lacks_slice before ≡ None
+EndsBy (Some TooLong) before = ⊥
+EndsBy (Some Failed) before = ⊥
 
 -- no further unit's end is seen
-pub record SeesNone (r : Reading) (g : List ℕ) (units : List UnitPlace) : Type 0 where
-  pub read : HasRead r g units
-  pub stream : IsStream (seen_of g) (is_all r.splitter) units None
-  pub within : r.closed ≡ Some TooLong → ⊥
+pub record SeesNone (R : Readers) (f : Feeding) (g : List ℕ) (units : List UnitPlace) (before : List Reading) : Type 0 where
+  pub fed : HasFed R f g units before
+  pub stream : IsStream (seen_of g) (is_all f.reader.splitter) units None
+  pub ends : EndsBy f.reader.closed before
 
 -- one read of a source, with this answer
-abbrev pub ReadsOnce : {A : Type 0} → List ℕ → List UnitPlace → Reading → Change A → Result (Unit {0}) ReadAnswer → Type 0
-ReadsOnce g units r source result =
-    Reads g units r (source.bytes source.old) (source.bytes source.new) (source.faults source.old) (source.faults source.new) result
+abbrev pub ReadsOnce : {A : Type 0} → Readers → List ℕ → List UnitPlace → List Reading → Feeding → Change A → Result (Unit {0}) ReadAnswer → Type 0
+ReadsOnce R g units before f source result =
+    Reads R g units before f (source.bytes source.old) (source.bytes source.new) (source.faults source.old) (source.faults source.new) result
 
 -- one read of a source, or what stopped it
-abbrev pub ReadsOn : {A : Type 0} → List ℕ → List UnitPlace → Reading → Change A → Outcome → Type 0
-ReadsOn g units r source (Ok _) = ReadsOnce g units r source (Ok tt)
-ReadsOn g units r source (Err NoMemory) = ReadsOnce g units r source (Err Memory)
-ReadsOn g units r source (Err (ReadFault k)) = (k ≡ 0) × ReadsOnce g units r source (Err SourceFailed)
-ReadsOn g units r source (Err _) = ⊥
+abbrev pub ReadsOn : {A : Type 0} → Readers → List ℕ → List UnitPlace → List Reading → Feeding → Change A → Outcome → Type 0
+ReadsOn R g units before f source (Ok _) = ReadsOnce R g units before f source (Ok tt)
+ReadsOn R g units before f source (Err NoMemory) = ReadsOnce R g units before f source (Err Memory)
+ReadsOn R g units before f source (Err (ReadFault k)) = (k ≡ 0) × ReadsOnce R g units before f source (Err SourceFailed)
+ReadsOn R g units before f source (Err _) = ⊥
 
 -- how many more bytes may be read of a source
 abbrev pub left_to_read : Option Closed → ℕ → ℕ
 left_to_read None taken = 2 ^ 40 + 1 - taken
 left_to_read (Some closed) taken = 0
 
--- why no further line is gathered behind those of these units, or how many units they are
-abbrev pub EndsGathering : Reading → List ℕ → List UnitPlace → Result ℕ Stop → Type 0
-EndsGathering r g units (Ok n) = SeesNone r g units × (n ≡ length units)
-EndsGathering r g units (Err (Refused refusal place)) = IsRefusedBy g units r refusal × (place ≡ behind_unit (length units))
-EndsGathering r g units (Err NoMemory) = Unit {0}
-EndsGathering r g units (Err _) = ⊥
+-- why no further line is gathered behind those of these units, or how many pictures are done
+abbrev pub EndsGathering : Readers → Feeding → List ℕ → List UnitPlace → List Reading → Result ℕ Stop → Type 0
+EndsGathering R f g units before (Ok n) = SeesNone R f g units before × (n ≡ length (pictures before))
+EndsGathering R f g units before (Err (Refused refusal place)) =
+    IsRefusedFor R f.reader g units before refusal × (place ≡ behind_unit (length units))
+EndsGathering R f g units before (Err NoMemory) = Unit {0}
+EndsGathering R f g units before (Err _) = ⊥
 
--- the line of the next unit was put behind others, or why there is none
-abbrev pub GathersNext : List ℕ → List UnitPlace → Reading → List ℕ → List ℕ → Result Bool Stop → Type 0
-GathersNext g units r old new (Ok true) = (u : UnitPlace) × HasRead r g (units ++ u ∷ []) × (new ≡ old ++ line_of_unit (seen_of g) u)
-GathersNext g units r old new (Ok false) = SeesNone r g units × (new ≡ old)
-GathersNext g units r old new (Err stop) = EndsGathering r g units (Err stop) × (new ≡ old)
+-- the lines of the next unit were put behind others
+pub record GathersOne (R : Readers) (g : List ℕ) (units : List UnitPlace) (before : List Reading) (f : Feeding) (old new : List ℕ) (n : ℕ)
+    : Type 0 where
+  pub place : UnitPlace
+  pub reading : Reading
+  pub fed : HasFed R f g (units ++ place ∷ []) (reading ∷ before)
+  pub lines : new ≡ old ++ unit_lines (seen_of g) place reading before
+  pub count : n ≡ length (pictures (reading ∷ before))
+
+-- they were, or why there are none
+abbrev pub GathersNext : Readers → List ℕ → List UnitPlace → List Reading → Feeding → List ℕ → List ℕ → Result (Option ℕ) Stop → Type 0
+GathersNext R g units before f old new (Ok (Some n)) = GathersOne R g units before f old new n
+GathersNext R g units before f old new (Ok None) = SeesNone R f g units before × (new ≡ old)
+GathersNext R g units before f old new (Err stop) = EndsGathering R f g units before (Err stop) × (new ≡ old)
 
 -- the lines of the units that are seen were put behind others
-pub record Gathers (g : List ℕ) (units : List UnitPlace) (r : Reading) (old new : List ℕ) (result : Result ℕ Stop) : Type 0 where
+pub record Gathers (R : Readers) (g : List ℕ) (units : List UnitPlace) (before : List Reading) (f : Feeding) (old new : List ℕ)
+    (result : Result ℕ Stop) : Type 0 where
   pub later : List UnitPlace
-  pub follow : FollowsFrom (seen_of g) (is_all r.splitter) 0 (units ++ later)
-  pub lines : new ≡ old ++ shown_lines g later
-  pub ends : EndsGathering r g (units ++ later) result
+  pub after : List Reading
+  pub follow : FollowsFrom (seen_of g) (is_all f.reader.splitter) 0 (units ++ later)
+  pub readings : read_on R [] (units_at (seen_of g) (units ++ later)) ≡ all_read after
+  pub lines : new ≡ old ++ lines_behind R (seen_of g) before later
+  pub ends : EndsGathering R f g (units ++ later) after result
 
 -- so far
-pub record HasGathered (g : List ℕ) (units : List UnitPlace) (r : Reading) (old new : List ℕ) (n : ℕ) : Type 0 where
+pub record HasGathered (R : Readers) (g : List ℕ) (units : List UnitPlace) (before : List Reading) (f : Feeding) (old new : List ℕ)
+    (n : ℕ) : Type 0 where
   pub later : List UnitPlace
-  pub read : HasRead r g (units ++ later)
-  pub lines : new ≡ old ++ shown_lines g later
-  pub count : n ≡ length (units ++ later)
+  pub after : List Reading
+  pub fed : HasFed R f g (units ++ later) after
+  pub lines : new ≡ old ++ lines_behind R (seen_of g) before later
+  pub count : n ≡ length (pictures after)
 
 -- they were written, or a front of them where the write failed
-abbrev pub WritesLines : {K : Type 0} → Reading → List ℕ → List UnitPlace → List ℕ → Change K → Result ℕ Stop → Type 0
-WritesLines r g units lines out (Err WriteFault) = GainsFront out lines
-WritesLines r g units lines out result = Gains out lines × EndsGathering r g units result
+abbrev pub WritesLines : {K : Type 0} → Readers → Feeding → List ℕ → List UnitPlace → List Reading → List ℕ → Change K → Result ℕ Stop → Type 0
+WritesLines R f g units before lines out (Err WriteFault) = GainsFront out lines
+WritesLines R f g units before lines out result = Gains out lines × EndsGathering R f g units before result
 
 -- the units that are seen were shown, behind these
-pub record ShowsLater {K : Type 0} (g : List ℕ) (units : List UnitPlace) (r : Reading) (out : Change K) (result : Result ℕ Stop)
-    : Type 0 where
+pub record ShowsLater {K : Type 0} (R : Readers) (g : List ℕ) (units : List UnitPlace) (before : List Reading) (f : Feeding)
+    (out : Change K) (result : Result ℕ Stop) : Type 0 where
   pub later : List UnitPlace
-  pub follow : FollowsFrom (seen_of g) (is_all r.splitter) 0 (units ++ later)
-  pub writes : WritesLines r g (units ++ later) (shown_lines g later) out result
+  pub after : List Reading
+  pub follow : FollowsFrom (seen_of g) (is_all f.reader.splitter) 0 (units ++ later)
+  pub readings : read_on R [] (units_at (seen_of g) (units ++ later)) ≡ all_read after
+  pub writes : WritesLines R f g (units ++ later) after (lines_behind R (seen_of g) before later) out result
 
--- all units that are seen in what the source has given were shown, and there are n of them
-pub record HasShown {A K : Type 0} (source : Change A) (out : Change K) (r : Reading) (n : ℕ) : Type 0 where
+-- all units that are seen in what the source has given were shown, and n pictures are done
+pub record HasShown {A K : Type 0} (R : Readers) (source : Change A) (out : Change K) (f : Feeding) (n : ℕ) : Type 0 where
   pub given : List ℕ
   pub units : List UnitPlace
+  pub before : List Reading
   pub kept : HasNoFault source
   pub gave : Consumes (source.bytes source.old) (source.bytes source.new) given
-  pub none : SeesNone r given units
-  pub lines : Gains out (shown_lines given units)
-  pub count : n ≡ length units
-  pub ended : r.closed ≡ Some End → IsAtEnd (source.bytes source.new)
-  pub going : r.closed ≡ Some Failed → ⊥
+  pub none : SeesNone R f given units before
+  pub lines : Gains out (shown_lines R given units)
+  pub count : n ≡ length (pictures before)
+  pub ended : f.reader.closed ≡ Some End → IsAtEnd (source.bytes source.new)
 
--- more was read of the source behind the n units that were shown, and the end of the next unit lies there
-pub record HasReached {A K : Type 0} (source : Change A) (out : Change K) (r : Reading) (n : ℕ) : Type 0 where
+-- more was read of the source behind the units that were shown, and the end of the next unit lies there
+pub record HasReached {A K : Type 0} (R : Readers) (source : Change A) (out : Change K) (f : Feeding) (n : ℕ) : Type 0 where
   pub given : List ℕ
   pub units : List UnitPlace
+  pub before : List Reading
   pub kept : HasNoFault source
   pub gave : Consumes (source.bytes source.old) (source.bytes source.new) given
-  pub read : HasRead r given units
-  pub lines : Gains out (shown_lines given units)
-  pub count : n ≡ length units
-  pub ended : r.closed ≡ Some End → IsAtEnd (source.bytes source.new)
-  pub going : r.closed ≡ Some Failed → ⊥
+  pub fed : HasFed R f given units before
+  pub lines : Gains out (shown_lines R given units)
+  pub count : n ≡ length (pictures before)
+  pub ended : f.reader.closed ≡ Some End → IsAtEnd (source.bytes source.new)
   pub near : (u : UnitPlace) → IsUnit (seen_of given) false (end_of 0 units) u → length given < shown_by u + read_len

@@ -1,4 +1,4 @@
-use Rattle.std.proofs.Common.{◌≡◌, ℕ, zero, suc, List, get_or, refl, rules}
+use Rattle.std.proofs.Common.{◌≡◌, ℕ, zero, suc, get_or, refl, rules}
 use Rattle.std.specs.Prelude.{Option, None, replicate}
 use Rattle.vx_assemble.proofs.state.State.new.Goals as goal
 

@@ -1,0 +1,40 @@
+use Rattle.std.proofs.Common.{◌∙◌, ap, sym, arith}
+use Rattle.std.proofs.lemmas.Result.{err_from_is_err_and}
+use Rattle.vx_assemble.specs.Feed.{Feeding}
+use Rattle.vx_assemble.proofs.Advancing.{passes_first, passes_by, advances_by, advances_stopped, one_more_taken}
+use Rattle.vx_assemble.proofs.feed.Feed.advance.Goals as goal
+
+pub loop-taken-init : goal.loop-taken-init
+loop-taken-init g c = passes_first c.args.self.now _ _
+
+pub returns-in_err-taken-clause-answer : goal.returns-in_err-taken-clause-answer
+returns-in_err-taken-clause-answer g c R of bytes places before fed needed =
+    let p = err_from_is_err_and c.from_residual.result c.from_residual.ensures.1 in
+    rw (p.1, p.2) (advances_stopped _ _ _ _ _ _ _ _ _ c.loop-taken.invariant _ c.in_err-taken.ensures.answer R of bytes places before fed needed)
+
+pub returns-in_err-taken-clause-stopped : goal.returns-in_err-taken-clause-stopped
+returns-in_err-taken-clause-stopped g c first is =
+    let p = err_from_is_err_and c.from_residual.result c.from_residual.ensures.1 in
+    let same = c.loop-taken.invariant.stopped first is in
+    let again = c.in_err-taken.ensures.stopped first (ap (λ (x : Feeding). x.first) same.0 ∙ is) in
+    (rw (p.1, p.2) (let e = again.0 in cc), again.1 ∙ same.0, again.2 ∙ same.1, again.3 ∙ same.2)
+
+pub returns-in-Some-clause-answer : goal.returns-in-Some-clause-answer
+returns-in-Some-clause-answer g c R of bytes places before fed needed =
+    advances_by _ _ _ _ _ _ _ _ _ c.loop-taken.invariant _ _ (sym c.step_of.ensures ∙ c.in-Some.is) c.in_ok-taken.ensures.answer R of bytes places before fed needed
+
+pub returns-in-Some-clause-stopped : goal.returns-in-Some-clause-stopped
+returns-in-Some-clause-stopped g c first is =
+    let same = c.loop-taken.invariant.stopped first is in
+    let e = (c.in_ok-taken.ensures.stopped first (ap (λ (x : Feeding). x.first) same.0 ∙ is)).0 in
+    absurd (cc)
+
+pub loop-taken-preserved : goal.loop-taken-preserved
+loop-taken-preserved g c =
+    passes_by _ _ _ _ _ _ _ _ _ c.loop-taken.invariant _ (sym c.step_of.ensures ∙ c.in_default.is) c.in_ok-taken.ensures.answer
+    (λ first is. let e = (c.in_ok-taken.ensures.stopped first is).0 in absurd (cc))
+
+pub loop-taken-smaller : goal.loop-taken-smaller
+loop-taken-smaller g c =
+    let more = one_more_taken _ _ _ (sym c.step_of.ensures ∙ c.in_default.is) c.in_ok-taken.ensures.counts in
+    omega (arith, more, c.in_ok-taken.ensures.few)

@@ -1,0 +1,17 @@
+use Rattle.std.proofs.Common.{◌≡◌, None, refl, rules}
+use Rattle.vx_assemble.specs.inner.Feed.{feeding}
+use Rattle.vx_assemble.proofs.Feeding.{still_gives, still_refused}
+use Rattle.vx_assemble.proofs.feed.Feed.next.Goals as goal
+
+pub returns-in-Ok-clause-answer : goal.returns-in-Ok-clause-answer
+returns-in-Ok-clause-answer c R of g places before fed =
+    let first : c.self.inside.first ≡ None = search rules in
+    let old = rw first at (rw (← c.self.view_is) at fed) in
+    still_gives R g places before c.take_seen.new.reader c.take_seen.new.assembler c.take_seen.new.units c.self.inside.first _ first (c.in-Ok.ensures.answer R of g places before old)
+
+pub returns-in-Err-clause-answer : goal.returns-in-Err-clause-answer
+returns-in-Err-clause-answer c R of g places before fed =
+    let first : c.self.inside.first ≡ None = search rules in
+    let old = rw first at (rw (← c.self.view_is) at fed) in
+    let f = feeding c.take_seen.new.reader c.take_seen.new.assembler c.take_seen.new.units in
+    still_refused R g places before f f _ refl (c.in-Err.ensures.answer R of g places before old)

@@ -1,0 +1,409 @@
+//! The units of a source, taken one at a time while the source is read.
+ghost use Rattle.std.specs.Prelude.{◌≡◌, ℕ, ◌+◌, ◌^◌, ◌<◌, ◌≤◌, List, Some, None, Ok, IfOk, IfSome, OnOk, OnErr};
+ghost use Rattle.vx_annexb.specs.ByteStream.{UnitPlace, IsSound};
+ghost use Rattle.vx_annexb.specs.Held.{IsSought, ahead, fed, is_all};
+ghost use Rattle.vx_annexb.specs.Reading.{HoldsFew, IsOpen as MayRead};
+ghost use Rattle.vx_annexb.specs.declared.unit_reader.Closed.TheVariants.{Failed};
+ghost use Rattle.vx_assemble.specs.declared.feed.Taken.TheVariants.{End};
+ghost use Rattle.vx_pic.specs.Readings.{Reading};
+ghost use Rattle.vx_pic.specs.Rules.{Readers};
+ghost use Rattle.vx_pic.specs.H266.{AreOfH266};
+ghost use Rattle.vx_assemble.specs.Held.{Stands};
+ghost use Rattle.vx_assemble.specs.Feed.{HasFed, Gives, IsToldBy, Lowers, Counts, first_of};
+ghost use Rattle.vx_assemble.specs.inner.Feed.{Accepts, fault_of, read_fault, feeding, step_by};
+ghost use Rattle.vx_assemble.specs.declared.feed.FeedFault.TheVariants.{Refused as IsRefused};
+
+use crate::assembler::Assembler;
+use crate::fault::{AssembleFault, First};
+use crate::seen::PictureSeen;
+use std::alloc::{AllocError, Global};
+use std::marker::Model;
+use thiserror::Error;
+use vx_annexb::{NalHeader, ReadFault, Span, UnitReader, read_header};
+use vx_bits::{Fields, Refusal};
+use vx_io::Source;
+use vx_pic::Accepted;
+use vx_pps::Pps;
+use vx_sps::Sps;
+
+/// What a feed took.
+#[derive(Clone, Copy, Debug, PartialEq, Eq)]
+pub enum Taken {
+    /// A NAL unit.
+    Nal {
+        /// Its header.
+        header: NalHeader,
+        /// The place of its first byte in the source.
+        offset: u64,
+        /// Its length.
+        bytes: u64,
+        /// What it was.
+        what: Accepted,
+    },
+    /// The end of the source.
+    End,
+}
+
+/// What a feed advanced to.
+#[derive(Clone, Copy, Debug, PartialEq, Eq)]
+pub enum Step {
+    /// A picture, with its last slice.
+    Picture,
+    /// The end of the source.
+    End,
+}
+
+/// Why a feed takes no unit.
+#[derive(Clone, Copy, Debug, PartialEq, Eq, Error)]
+pub enum FeedFault {
+    /// Memory ran out.
+    #[error("out of memory")]
+    Memory,
+    /// A read of the source failed.
+    #[error("a read failed")]
+    SourceFailed,
+    /// The stream is refused.
+    #[error("refused")]
+    Refused(Refusal),
+    /// It stopped before.
+    #[error("stopped before")]
+    Stopped(First),
+}
+
+/// Takes the NAL units of a source in order, and hands on each picture with its last slice. The source is read only where
+/// no further unit is seen in what was read; each call that reads is given it, and it is to be the same one.
+///
+/// After a refusal, a failed read or want of memory it goes on no more.
+#[derive(Drop)]
+pub struct Feed {
+    reader: UnitReader,
+    assembler: Assembler,
+    // How many units were taken.
+    units: u64,
+    first: Option<First>,
+}
+
+impl Model for Feed {
+    ghost use Rattle.vx_assemble.specs.Feed.{Feeding};
+    ghost use Rattle.vx_assemble.specs.inner.Feed.{IsInStep};
+
+    ghost Value = { Feeding };
+
+    ghost view = { λ f. record { reader = f.reader; assembler = f.assembler; units = f.units; first = f.first } };
+
+    ghost invariant = { λ f. IsInStep (record { reader = f.reader; assembler = f.assembler; units = f.units; first = f.first }) };
+}
+
+impl From<AssembleFault> for FeedFault {
+    ghost from_gives = { λ fault e. e ≡ fault_of fault };
+
+    fn from(fault: AssembleFault) -> FeedFault {
+        match fault {
+            AssembleFault::Memory => FeedFault::Memory,
+            AssembleFault::Refused(refusal) => FeedFault::Refused(refusal),
+            AssembleFault::Stopped(first) => FeedFault::Stopped(first),
+        }
+    }
+}
+
+impl From<Refusal> for FeedFault {
+    ghost from_gives = { λ refusal e. e ≡ IsRefused refusal };
+
+    fn from(refusal: Refusal) -> FeedFault {
+        FeedFault::Refused(refusal)
+    }
+}
+
+impl From<ReadFault> for FeedFault {
+    ghost from_gives = { λ fault e. e ≡ read_fault fault };
+
+    fn from(fault: ReadFault) -> FeedFault {
+        match fault {
+            ReadFault::Memory => FeedFault::Memory,
+            ReadFault::SourceFailed => FeedFault::SourceFailed,
+        }
+    }
+}
+
+/// What first kept a feed from going on, by its answer.
+fn first_of(fault: FeedFault) -> First
+    ensures { result ≡ first_of fault }
+{
+    match fault {
+        FeedFault::Memory => First::Memory,
+        FeedFault::SourceFailed => First::SourceFailed,
+        FeedFault::Refused(refusal) => First::Refused(refusal),
+        FeedFault::Stopped(first) => first,
+    }
+}
+
+/// Takes the unit at a place.
+fn accept(assembler: &mut Assembler, unit: &[u8], offset: u64) -> Result<Taken, FeedFault>
+    requires { IsSound unit.now }
+    ensures answer { (R : Readers) → AreOfH266 R → (before : List Reading) → Stands assembler.old before
+        → Accepts R before assembler.new unit.now offset result }
+    ensures told { IfOk result (λ taken. IsToldBy assembler.new (Some taken)) }
+    ensures nal { result ≡ Ok End → ⊥ }
+{
+    let header = read_header(unit).unwrap();
+    let what = assembler.accept(unit)?;
+    Ok(Taken::Nal {
+        header,
+        offset,
+        bytes: unit.len() as u64,
+        what,
+    })
+}
+
+/// Takes the next unit that is seen in what was read, or finds the end.
+fn take_seen(
+    reader: &mut UnitReader,
+    assembler: &mut Assembler,
+    units: &mut u64,
+) -> Result<Option<Taken>, FeedFault>
+    requires going { reader.old.closed ≡ Some Failed → ⊥ }
+    requires count { units.old + ahead reader.old.splitter < 2 ^ 64 }
+    ensures answer { (R : Readers) → AreOfH266 R → (g : List ℕ) (places : List UnitPlace) (before : List Reading)
+        → HasFed R (feeding reader.old assembler.old units.old) g places before
+        → Gives R g places before (feeding reader.new assembler.new units.new) result }
+    ensures count { OnOk result (units.new + ahead reader.new.splitter ≤ units.old + ahead reader.old.splitter) }
+    ensures fed { fed reader.new.splitter ≡ fed reader.old.splitter }
+    ensures open { result ≡ Ok None → MayRead reader.new }
+    ensures sought { result ≡ Ok None → IsSought reader.new.splitter }
+    ensures within { result ≡ Ok None → reader.new.taken ≤ 2 ^ 40 }
+    ensures taken { reader.new.taken ≡ reader.old.taken }
+    ensures closed { reader.new.closed ≡ reader.old.closed }
+    ensures lowers { IfOk result (λ given. Lowers given (ahead reader.old.splitter) (ahead reader.new.splitter)) }
+    ensures units { IfOk result (λ given. IfSome given (λ taken. Counts taken units.old units.new)) }
+    ensures none { result ≡ Ok None → units.new ≡ units.old }
+    ensures kept { OnErr result (units.new ≡ units.old) }
+    ensures held { HoldsFew reader.new }
+    ensures all { is_all reader.new.splitter ≡ is_all reader.old.splitter }
+    ensures ended { result ≡ Ok (Some End) → MayRead reader.new → ⊥ }
+    ensures told { IfOk result (IsToldBy assembler.new) }
+{
+    if let Some(span) = reader.next()? {
+        let taken = accept(assembler, reader.bytes(span), span.offset)?;
+        *units += 1;
+        return Ok(Some(taken));
+    }
+    if reader.is_open() {
+        return Ok(None);
+    }
+    assembler.finish()?;
+    Ok(Some(Taken::End))
+}
+
+/// Where a feed comes to that took this; None where it is a unit that completes no picture.
+fn step_of(taken: Taken) -> Option<Step>
+    ensures { result ≡ step_by taken }
+{
+    match taken {
+        Taken::End => Some(Step::End),
+        Taken::Nal { what, .. } => match what {
+            Accepted::PictureDone => Some(Step::Picture),
+            _ => None,
+        },
+    }
+}
+
+impl Feed {
+    ghost use Rattle.std.specs.Prelude.{◌≡◌, ℕ, ◌^◌, ◌<◌, ◌≤◌, [], ◌∷◌, List, option_copied, Some, None, Ok, Err, IfOk, IfErr, IfSome, OnOk, OnErr, IsTrue};
+    ghost use Rattle.std.specs.Io.KnownBytes.{IsAtEnd};
+    ghost use Rattle.vx_annexb.specs.ByteStream.{UnitPlace};
+    ghost use Rattle.vx_annexb.specs.Held.{IsSought, fed, is_all};
+    ghost use Rattle.vx_annexb.specs.Reading as reading;
+    ghost use Rattle.vx_annexb.specs.declared.unit_reader.Closed.TheVariants as closed;
+    ghost use Rattle.vx_pic.specs.Readings.{Reading, Picture, completed, stored_sps, stored_pps};
+    ghost use Rattle.vx_pic.specs.Told.{told_of};
+    ghost use Rattle.vx_assemble.specs.Held.{Stands, items_of, seen_picture};
+    ghost use Rattle.vx_assemble.specs.declared.feed.Taken.TheVariants.{End};
+    ghost use Rattle.vx_pic.specs.Rules.{Readers};
+    ghost use Rattle.vx_pic.specs.H266.{AreOfH266};
+    ghost use Rattle.vx_assemble.specs.Feed.{HasFed, IsOpen, Gives, ReadsOn, IsToldBy, Lowers, Counts, left_to_take, Takes, Advances, first_of as first_by};
+    ghost use Rattle.vx_assemble.specs.inner.Feed.{read_fault};
+    ghost use Rattle.vx_assemble.specs.declared.fault.First.{First as FirstFault};
+    ghost use Rattle.vx_assemble.specs.declared.feed.FeedFault.TheVariants.{Stopped};
+
+    /// A feed that has read nothing.
+    pub fn new(alloc: Global) -> Result<Feed, AllocError>
+        ensures fed { IfOk result (λ f. (R : Readers) → HasFed R f [] [] []) }
+        ensures needed { OnOk result (reading.LastWasNeeded [] []) }
+        ensures open { IfOk result IsOpen }
+    {
+        let reader = UnitReader::new(alloc)?;
+        Ok(Feed {
+            reader,
+            assembler: Assembler::new(alloc),
+            units: 0,
+            first: None,
+        })
+    }
+
+    /// Takes the next unit, in order, whose end is seen in what was read; at the end of the source it answers that. None
+    /// where neither a further unit's end nor a byte that is no start code was read. It reads nothing.
+    ///
+    /// # Errors
+    ///
+    /// `Refused` with the first rule that is broken; want of memory; `Stopped` with the first fault from then on.
+    pub fn next(&mut self) -> Result<Option<Taken>, FeedFault>
+        ensures answer { (R : Readers) → AreOfH266 R → (g : List ℕ) (places : List UnitPlace) (before : List Reading)
+            → HasFed R self.old g places before → Gives R g places before self.new result }
+        ensures going { OnOk result (self.new.first ≡ None) }
+        ensures first { IfErr result (λ e. self.new.first ≡ Some (first_by e)) }
+        ensures again { (f : FirstFault) → self.old.first ≡ Some f → (result ≡ Err (Stopped f)) × (self.new ≡ self.old) }
+        ensures open { result ≡ Ok None → IsOpen self.new }
+        ensures sought { result ≡ Ok None → IsSought self.new.reader.splitter }
+        ensures within { result ≡ Ok None → self.new.reader.taken ≤ 2 ^ 40 }
+        ensures taken { self.new.reader.taken ≡ self.old.reader.taken }
+        ensures closed { self.new.reader.closed ≡ self.old.reader.closed }
+        ensures lowers { IfOk result (λ given. Lowers given (left_to_take self.old) (left_to_take self.new)) }
+        ensures counts { IfOk result (λ given. IfSome given (λ taken. Counts taken self.old.units self.new.units)) }
+        ensures units { result ≡ Ok None → self.new.units ≡ self.old.units }
+        ensures kept { OnErr result (self.new.units ≡ self.old.units) }
+        ensures few { OnOk result (self.new.units ≤ 2 ^ 40) }
+        ensures held { reading.HoldsFew self.new.reader }
+        ensures all { is_all self.new.reader.splitter ≡ is_all self.old.reader.splitter }
+        ensures ended { result ≡ Ok (Some End) → ¬ IsOpen self.new }
+        ensures told { IfOk result (IsToldBy self.new.assembler) }
+    {
+        if let Some(first) = self.first {
+            return Err(FeedFault::Stopped(first));
+        }
+        match take_seen(&mut self.reader, &mut self.assembler, &mut self.units) {
+            Ok(given) => Ok(given),
+            Err(fault) => {
+                self.first = Some(first_of(fault));
+                Err(fault)
+            }
+        }
+    }
+
+    /// Whether the source may be read on: it has not ended, has given no more bytes than the limit, and nothing has kept the
+    /// feed from going on.
+    pub fn is_open(&self) -> bool
+        ensures open { IsTrue result → IsOpen self.now }
+        ensures closed { ¬ IsTrue result → ¬ IsOpen self.now }
+        ensures within { IsTrue result → self.now.reader.taken ≤ 2 ^ 40 }
+    {
+        if self.first.is_some() {
+            return false;
+        }
+        self.reader.is_open()
+    }
+
+    /// Reads once, where `next` answered none last.
+    ///
+    /// # Errors
+    ///
+    /// A failed read, or want of memory, for which nothing is read.
+    pub fn read(&mut self, source: &mut dyn Source) -> Result<(), ReadFault>
+        requires open { IsOpen self.old }
+        requires sought { IsSought self.old.reader.splitter }
+        ensures answer { (R : Readers) (g : List ℕ) (places : List UnitPlace) (before : List Reading) → HasFed R self.old g places before
+            → ReadsOn R g places before self.new (bytes_left source.old) (bytes_left source.new) (read_faults source.old) (read_faults source.new) result }
+        ensures going { OnOk result (self.new.first ≡ None) }
+        ensures first { IfErr result (λ e. self.new.first ≡ Some (first_by (read_fault e))) }
+        ensures units { self.new.units ≡ self.old.units }
+        ensures grows { OnOk result (IsOpen self.new → self.old.reader.taken < self.new.reader.taken) }
+        ensures within { fed self.new.reader.splitter ≤ 2 ^ 40 }
+        ensures end { OnOk result (self.new.reader.closed ≡ Some closed.End → IsAtEnd (bytes_left source.new)) }
+        ensures unended { OnErr result (self.new.reader.closed ≡ Some closed.End → ⊥) }
+        ensures held { reading.HoldsFew self.new.reader }
+    {
+        match self.reader.read(source) {
+            Ok(()) => Ok(()),
+            Err(fault) => {
+                self.first = Some(first_of(FeedFault::from(fault)));
+                Err(fault)
+            }
+        }
+    }
+
+    /// How many units were taken.
+    pub fn unit(&self) -> u64
+        ensures { result ≡ self.now.units }
+    {
+        self.units
+    }
+
+    /// The items of the set that was taken last, which was told as `what`.
+    pub fn fields(&self, what: Accepted) -> Option<&Fields>
+        ensures { (r : Reading) (before : List Reading) → Stands self.now.assembler (r ∷ before) → what ≡ told_of r before
+            → option_copied result ≡ items_of r }
+    {
+        self.assembler.fields(what)
+    }
+
+    /// What is told of the picture that was done last.
+    pub fn picture_seen(&self) -> Option<PictureSeen>
+        ensures { (r : Reading) (before : List Reading) (p : Picture) → Stands self.now.assembler (r ∷ before) → completed r before ≡ p ∷ []
+            → result ≡ Some (seen_picture p) }
+    {
+        self.assembler.picture_seen()
+    }
+
+    /// The SPS of an id, where one is stored.
+    pub fn sps(&self, id: u8) -> Option<&Sps>
+        ensures { (before : List Reading) → Stands self.now.assembler before → option_copied result ≡ stored_sps id before }
+    {
+        self.assembler.sps(id)
+    }
+
+    /// The PPS of an id, where one is stored.
+    pub fn pps(&self, id: u8) -> Option<&Pps>
+        ensures { (before : List Reading) → Stands self.now.assembler before → option_copied result ≡ stored_pps id before }
+    {
+        self.assembler.pps(id)
+    }
+
+    /// Takes the next unit of the source: it is read for as long as no further unit's end is seen. At its end, and from then
+    /// on, that is the answer.
+    ///
+    /// # Errors
+    ///
+    /// `Refused` with the first rule that is broken; a failed read; want of memory; `Stopped` with the first of these from then
+    /// on. Then nothing is read.
+    pub fn take(&mut self, source: &mut dyn Source) -> Result<Taken, FeedFault>
+        ensures answer { (R : Readers) → AreOfH266 R → (g : List ℕ) (places : List UnitPlace) (before : List Reading)
+            → HasFed R self.old g places before → reading.LastWasNeeded g places
+            → Takes R g places before self.new (bytes_left source.old) (bytes_left source.new) (read_faults source.old) (read_faults source.new) result }
+        ensures first { IfErr result (λ e. self.new.first ≡ Some (first_by e)) }
+        ensures stopped { (f : FirstFault) → self.old.first ≡ Some f → (result ≡ Err (Stopped f)) × (self.new ≡ self.old)
+            × (bytes_left source.new ≡ bytes_left source.old) × (read_faults source.new ≡ read_faults source.old) }
+        ensures counts { IfOk result (λ taken. Counts taken self.old.units self.new.units) }
+        ensures few { OnOk result (self.new.units ≤ 2 ^ 40) }
+        ensures kept { OnErr result (self.new.units ≡ self.old.units) }
+        ensures end { IsOpen self.old → self.new.reader.closed ≡ Some closed.End → IsAtEnd (bytes_left source.new) }
+        ensures held { reading.HoldsFew self.new.reader }
+    {
+        loop {
+            if let Some(taken) = self.next()? {
+                return Ok(taken);
+            }
+            self.read(source)?;
+        }
+    }
+
+    /// Takes units of the source until one completes a picture, or to the end.
+    ///
+    /// # Errors
+    ///
+    /// Those of `take`.
+    pub fn advance(&mut self, source: &mut dyn Source) -> Result<Step, FeedFault>
+        ensures answer { (R : Readers) → AreOfH266 R → (g : List ℕ) (places : List UnitPlace) (before : List Reading)
+            → HasFed R self.old g places before → reading.LastWasNeeded g places
+            → Advances R g places before self.new (bytes_left source.old) (bytes_left source.new) (read_faults source.old) (read_faults source.new) result }
+        ensures first { IfErr result (λ e. self.new.first ≡ Some (first_by e)) }
+        ensures stopped { (f : FirstFault) → self.old.first ≡ Some f → (result ≡ Err (Stopped f)) × (self.new ≡ self.old)
+            × (bytes_left source.new ≡ bytes_left source.old) × (read_faults source.new ≡ read_faults source.old) }
+        ensures held { reading.HoldsFew self.new.reader }
+    {
+        loop {
+            let taken = self.take(source)?;
+            if let Some(step) = step_of(taken) {
+                return Ok(step);
+            }
+        }
+    }
+}
