@@ -5,7 +5,8 @@ use Rattle.vx_bits.specs.declared.list.Item.{Item}
 use Rattle.vx_bits.specs.declared.refusal.Refusal.{Refusal}
 use Rattle.vx_pic.specs.declared.accepted.Accepted.{Accepted}
 use Rattle.vx_pic.specs.declared.accepted.Accepted.TheVariants as accepted
-use Rattle.vx_pic.specs.Readings.{Reading, vps_read, sps_read, pps_read, aps_read}
+use Rattle.vx_pic.specs.Parts.{Parts, Shows}
+use Rattle.vx_pic.specs.Readings.{Reading, vps_read, sps_read, pps_read, aps_read, Picture}
 use Rattle.vx_pic.specs.Streams.{lacks_slice}
 use Rattle.vx_pic.specs.Told.{told_of}
 use Rattle.vx_assemble.specs.declared.fault.AssembleFault.{AssembleFault}
@@ -72,3 +73,8 @@ items_of (sps_read s) = Some s
 items_of (pps_read p) = Some p
 items_of (aps_read a) = Some (aps_items a)
 items_of _ = None
+
+-- They are those of the latest of these pictures.
+abbrev pub ShowsLatest : Parts → List Picture → Type 0
+ShowsLatest parts [] = ⊥
+ShowsLatest parts (p ∷ earlier) = Shows parts p

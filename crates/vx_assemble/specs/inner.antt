@@ -4,4 +4,10 @@ pub mod Order
 pub mod Classes
 pub mod Headers
 pub mod Takes
+pub mod Joining
+pub mod Places
+pub mod Beginning
+pub mod Opening
 pub mod Changes
+pub mod Slices
+pub mod Lent

@@ -8,7 +8,7 @@ use std::alloc::Global;
 use std::marker::Model;
 use vx_bits::rules::SLICE_MISSING;
 use vx_bits::{Fields, ReadError};
-use vx_pic::Accepted;
+use vx_pic::{Accepted, Picture};
 
 /// Takes NAL units in order, and hands on each picture with its last slice.
 ///
@@ -41,7 +41,8 @@ impl Assembler {
     ghost use Rattle.vx_pic.specs.Rules.{Readers, reads};
     ghost use Rattle.vx_pic.specs.H266.{AreOfH266};
     ghost use Rattle.vx_pic.specs.Told.{told_of};
-    ghost use Rattle.vx_assemble.specs.Held.{Stands, Takes, Ends, told, first_fault, first_of, items_of};
+    ghost use Rattle.vx_assemble.specs.Held.{Stands, Takes, Ends, told, HasPicture, ShowsLatest, first_fault, first_of, items_of};
+    ghost use Rattle.vx_pic.specs.Readings.{pictures};
 
     /// An assembler that took no units. It takes no memory yet.
     pub fn new(alloc: Global) -> Assembler
@@ -124,5 +125,13 @@ impl Assembler {
             Accepted::Pps(id) => Some(self.state.pps_of(id)?.value().fields()),
             Accepted::Nothing | Accepted::PictureDone => None,
         }
+    }
+
+    /// The picture whose last slice was taken last. It takes no memory.
+    pub fn picture(&self) -> Picture<'_>
+        requires { HasPicture self.now }
+        ensures { (before : List Reading) → Stands self.now before → ShowsLatest result (pictures before) }
+    {
+        self.state.picture.lend()
     }
 }

@@ -5,16 +5,21 @@
 #![tactic(auto)]
 
 mod assembler;
+mod begin;
 mod current;
 mod fault;
+mod first_slice;
 mod in_force;
+mod join;
 mod keep;
+mod numbers;
 mod readers;
 mod refusals;
 mod shared;
+mod slices;
 mod state;
-mod take;
 mod unit;
+mod units;
 
 pub use assembler::Assembler;
 pub use fault::{AssembleFault, First};
