@@ -87,17 +87,17 @@ ShowsLater-cut g units r lines out result gathered front = record {
 
 -- a refusal of a byte stream has a line
 unit_has_line : (unit : List ℕ) (place : ℕ) (r : Refusal) → RefusesUnit unit place r → HasLine r
-unit_has_line unit place r (inl header) = rw header.1 (inr (inr refl))
-unit_has_line unit place r (inr (inl emulation)) = rw emulation.1.2 (inr (inl refl))
-unit_has_line unit place r (inr (inr size)) = rw size.3 (inl refl)
+unit_has_line unit place r (inl header) = rw header.1 tt
+unit_has_line unit place r (inr (inl emulation)) = rw emulation.1.2 tt
+unit_has_line unit place r (inr (inr size)) = rw size.3 tt
 
 has_line : (g : List ℕ) (all : Bool) (p : ℕ) (r : Refusal) → Refuses g all p r → HasLine r
-has_line g all p r (inl stray) = rw stray.2 (inl refl)
+has_line g all p r (inl stray) = rw stray.2 tt
 has_line g all p r (inr unit) = unit_has_line (unit_bytes g unit.0) unit.0.start r unit.2
 
 refused_has_line : (g : List ℕ) (units : List UnitPlace) (r : Reading) (x : Refusal) → IsRefusedBy g units r x → HasLine x
 refused_has_line g units r x (inl stream) = has_line (seen_of g) (is_all r.splitter) (end_of 0 units) x stream.behind
-refused_has_line g units r x (inr long) = rw long.2 (inr refl)
+refused_has_line g units r x (inr long) = rw long.2 tt
 
 -- what stops it can be told
 pub tellable : {K : Type 0} (g : List ℕ) (units : List UnitPlace) (r : Reading) (out : Change K) (stop : Stop) → ShowsLater g units r out (Err stop) → IsTellable stop

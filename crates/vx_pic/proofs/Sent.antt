@@ -128,7 +128,7 @@ both false b is = absurd (cc)
 same_number : (a b : ℕ) → (a == b) ≡ true → a ≡ b
 same_number a b is = elim (eqb_tells a b) [ inl same ↦ same.1 | inr other ↦ let e : true ≡ false = sym is ∙ other.0 in absurd (cc) ]
 
-item_is : (a b : Item) → same_item a b ≡ true → a ≡ b
+pub item_is : (a b : Item) → same_item a b ≡ true → a ≡ b
 item_is a b is =
     let parts = both (a.field == b.field) (int_eq a.value b.value) is in
     rw (same_number a.field b.field parts.0, (Decides-int_eq a.value b.value).0 parts.1) refl

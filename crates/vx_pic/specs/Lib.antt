@@ -17,6 +17,10 @@ pub mod Laws
 pub mod PictureLayout
 pub mod UnderSets
 pub mod Parts
+pub mod Inputs
+pub mod Seen
+pub mod Differences
 pub mod H266
+pub mod H266Laws
 pub mod Told
 pub mod inner

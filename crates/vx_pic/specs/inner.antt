@@ -1,2 +1,4 @@
 -- What serves bodies and proofs alone: nothing that a caller has to believe.
 pub mod Layout
+pub mod Bodies
+pub mod Compared

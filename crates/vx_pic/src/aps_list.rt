@@ -70,11 +70,17 @@ impl ApsList {
     pub fn get(&self, kind: u8, id: u8) -> Option<&Aps>
         ensures { option_copied result ≡ aps_at self.now kind id }
     {
-        if SCALING < kind || IDS <= id {
+        self.at(kind, u32::from(id))
+    }
+
+    /// The set of a type and an id of any size.
+    pub(crate) fn at(&self, kind: u8, id: u32) -> Option<&Aps>
+        ensures { option_copied result ≡ aps_at self.now kind id }
+    {
+        if SCALING < kind || u32::from(IDS) <= id {
             return None;
         }
-        let place = usize::from(IDS) * usize::from(kind) + usize::from(id);
-        match &self.sets[place] {
+        match &self.sets[usize::from(IDS) * usize::from(kind) + id as usize] {
             Some(aps) => Some(aps.as_ref()),
             None => None,
         }

@@ -6,10 +6,18 @@
 
 mod accepted;
 mod aps_list;
+mod compare;
 mod count;
+mod in_force;
+mod input;
+mod kept_fields;
 mod kind;
 mod laws;
+mod laws_readers;
+mod layouts;
+mod lender;
 mod picture;
+mod place;
 mod sets;
 #[cfg(test)]
 mod tests;
@@ -17,7 +25,10 @@ mod unit_types;
 
 pub use accepted::Accepted;
 pub use aps_list::ApsList;
+pub use compare::{Difference, same_input};
 pub use count::{CountFields, PrevTid0, picture_order_count};
+pub use in_force::AlfInForce;
+pub use input::{DecodingInput, decoding_input};
 pub use kind::Kind;
 pub use laws::{
     alike_is_next, edits_are_planned, needed_is_body, needed_is_stored, pictures_are_finished,
@@ -25,7 +36,11 @@ pub use laws::{
     reading_goes_on, seen_pictures_stay, stored_by_places, written_has_pictures,
     written_reads_again,
 };
+pub use laws_readers::{readers_are_unique, readers_exist};
+pub use layouts::{CTU_SIZE_FAULT, IDS_FAULT, picture_ids, picture_layout};
+pub use lender::Lender;
 pub use picture::{Picture, PictureParts, SliceSlot, SliceSlots, SliceView};
+pub use place::Place;
 pub use sets::{PPS, SPS};
 pub use unit_types::{
     CRA_NUT, EOB_NUT, EOS_NUT, GDR_NUT, IDR_N_LP, IDR_W_RADL, PH_NUT, PPS_NUT, PREFIX_APS_NUT,

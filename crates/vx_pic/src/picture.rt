@@ -3,8 +3,8 @@
 use crate::aps_list::ApsList;
 use crate::kind::Kind;
 use std::marker::Model;
-use vx_bits::{IdList, LentList};
-use vx_layout::Layout;
+use vx_bits::{Fields, IdList, LentList};
+use vx_layout::{Layout, Rect};
 use vx_ph::PictureHeader;
 use vx_pps::Pps;
 use vx_sei::MessageList;
@@ -83,8 +83,12 @@ impl<'a> Model for Picture<'a> {
 }
 
 impl<'a> Picture<'a> {
-    ghost use Rattle.std.specs.Prelude.{◌≡◌, ◌<◌, ◌≤◌, Some, length, drop, slice_get, option_copied, option_map};
-    ghost use Rattle.vx_pic.specs.Parts.{seen, MakePicture, aps_at, part_of, AreThere, named_by};
+    ghost use Rattle.std.specs.Prelude.{◌≡◌, ◌<◌, ◌≤◌, true, Some, length, drop, slice_get, option_copied, option_map};
+    ghost use Rattle.vx_sps.specs.Set.{IsItems};
+    ghost use Rattle.vx_sps.specs.Subpictures.{rect_of};
+    ghost use Rattle.vx_pic.specs.Sets.{is_qp, slice_qp};
+    ghost use Rattle.vx_pic.specs.Parts.{seen, MakePicture, aps_at, part_of, AreThere, named_by, read_of};
+    ghost use Rattle.vx_pic.specs.Inputs.{body_of};
 
     /// The picture that these parts make up.
     pub fn of(parts: PictureParts<'a>) -> Picture<'a>
@@ -165,6 +169,7 @@ impl<'a> Picture<'a> {
         ensures some { 0 < length result.payload.now }
         ensures subpic { result.header.now.subpic < length self.now.layout.subpics }
         ensures bodies { AreThere self.now.bodies (named_by self.now.pps self.now.header.fields result.header.now) }
+        ensures qp { is_qp self.now.sps (slice_qp self.now.pps self.now.header.fields (read_of result.header.now)) ≡ true }
     {
         let slot = self.parts.slices.item(i as usize);
         SliceView {
@@ -182,6 +187,33 @@ impl<'a> Picture<'a> {
             .bodies
             .get(kind, id)
             .map(|aps| aps.body.as_slice())
+    }
+
+    /// The body of an adaptation parameter set, by its type and an id of any size.
+    pub(crate) fn body_of(&self, kind: u8, id: u32) -> Option<&'a [u8]>
+        ensures { option_copied result ≡ body_of self.now kind id }
+    {
+        self.parts
+            .bodies
+            .at(kind, id)
+            .map(|aps| aps.body.as_slice())
+    }
+
+    /// The items of its SPS.
+    pub(crate) fn sps_fields(&self) -> &'a Fields
+        ensures items { result.now ≡ self.now.sps }
+        ensures set { IsItems result.now }
+    {
+        self.parts.sps.fields()
+    }
+
+    /// The rectangle of a subpicture, in CTUs.
+    #[tactic(auto, using(crate::proofs::Ranges::within_sps))]
+    pub(crate) fn rect(&self, subpic: u32) -> Rect
+        requires { subpic < length self.now.layout.subpics }
+        ensures { result ≡ rect_of self.now.sps subpic }
+    {
+        self.parts.sps.rect(subpic)
     }
 
     /// Its messages.

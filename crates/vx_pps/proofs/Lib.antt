@@ -7,6 +7,7 @@ mod Told
 mod Sets
 mod Spelling
 mod Ended
+mod Wide
 mod Limits
 pub mod Blocks
 pub mod Runs
@@ -20,6 +21,8 @@ pub mod Pushing
 pub mod Division
 pub mod Testing
 pub mod Fronts
+pub mod Alike
+pub mod Keeping
 pub mod Tooled
 pub mod Cutting
 pub mod Reshaping

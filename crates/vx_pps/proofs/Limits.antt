@@ -22,7 +22,8 @@ use Rattle.vx_table.specs.Depends.{has, set_of}
 use Rattle.vx_table.specs.EachField.{EachField, sections_pass}
 use Rattle.vx_table.specs.Forms.{Form, done, has_value}
 use Rattle.vx_table.specs.Loaded as loading
-use Rattle.vx_table.specs.Scope.{fresh, is_set, natural}
+use Rattle.vx_table.specs.Scope.{fresh, is_set, loaded, natural}
+use Rattle.vx_table.specs.Parts.{sections_form}
 use Rattle.vx_table.specs.Shown.{shown_items}
 use Rattle.vx_table.specs.Spelling.{item_of, items_along}
 use Rattle.vx_table.specs.Values.{Follows, IsValueOf, to_end, through}
@@ -32,17 +33,18 @@ use Rattle.vx_pps.specs.declared.partition.Partition.{Partition}
 use Rattle.vx_pps.specs.declared.tiles.Tiles.{Tiles}
 use Rattle.vx_pps.specs.Partition.{across_flag, counted, ctu_size, ctus, deltas_flag, divided, fixed, flag, impossible_flag, last_slice, listed_slices, partition, sizes_of, slices_among, subpicture_slices, tile_flags, tiles_among, tiles_of, undivided}
 use Rattle.vx_pps.specs.Pps.{IsPps, columns_of, front, is_partitioned, partition_of, rows_of, tools}
-use Rattle.vx_pps.specs.Sets.{AreBounds, AreSlices, AreTilesInLimits, SetsTellPartitions, TellsPartition, TilesAreInLimits, is_single}
+use Rattle.vx_pps.specs.Sets.{AreBounds, AreSlices, AreTilesInLimits, IsWide, SetsTellPartitions, TellsPartition, TilesAreInLimits, is_single}
 use Rattle.vx_pps.specs.Slices.{below, list_from, sizes_from}
 use Rattle.vx_pps.specs.Tiles.{IsGrid}
 use Rattle.vx_pps.specs.Written.{Gives, item}
-use Rattle.vx_pps.proofs.Cutting.{Parts, at_done, cut_parts, each_weaker, gives_parts, none_shown, number_low, numbers_before, one_has, only_middle, sections_unshown}
+use Rattle.vx_pps.proofs.Cutting.{Parts, at_done, cut_parts, each_weaker, gives_parts, none_shown, number_low, front_loads, numbers_before, one_has, only_middle, sections_unshown}
 use Rattle.vx_pps.proofs.Division.{IsBetween, each_among, each_tile_flags, each_tiles}
 use Rattle.vx_pps.proofs.Ended.{list_end, one_inside}
 use Rattle.vx_pps.proofs.Ranges.{below_bound, fixed_range, golomb_range, limited_bound}
 use Rattle.vx_pps.proofs.Sizing.{sizes_grid}
 use Rattle.vx_pps.proofs.Testing.{ctb_size, ctb_size_unshown, single_slices, single_slices_unshown, sizes_are}
 use Rattle.vx_pps.proofs.Told.{partition_is}
+use Rattle.vx_pps.proofs.Wide.{front_wide}
 
 -- ---- tiles
 
@@ -293,6 +295,17 @@ unpartitioned items end is whole =
 pub tiles_in_limits : TilesAreInLimits
 tiles_in_limits items end is whole = (partitioned items end is whole).1.tiles.limits
 
+wide : (items : List Item) (end : Partition) → IsPps items end → IsWide (loading.number items pps.pps_pic_width_in_luma_samples) × IsWide (loading.number items pps.pps_pic_height_in_luma_samples)
+unfolding fresh
+wide items end is =
+    let p = cut_parts items end is in
+    let sizes = front_wide p.first.follows in
+    let width : slice_index (loaded fresh (items_along (sections_form front fresh) p.first.values)) pps.pps_pic_width_in_luma_samples ≡ loading.number items pps.pps_pic_width_in_luma_samples =
+    ap (λ xs. slice_index (loaded fresh xs) pps.pps_pic_width_in_luma_samples) p.first.given ∙ (front_loads p).same pps.pps_pic_width_in_luma_samples refl ∙ numbers_before p pps.pps_pic_width_in_luma_samples refl refl in
+    let height : slice_index (loaded fresh (items_along (sections_form front fresh) p.first.values)) pps.pps_pic_height_in_luma_samples ≡ loading.number items pps.pps_pic_height_in_luma_samples =
+    ap (λ xs. slice_index (loaded fresh xs) pps.pps_pic_height_in_luma_samples) p.first.given ∙ (front_loads p).same pps.pps_pic_height_in_luma_samples refl ∙ numbers_before p pps.pps_pic_height_in_luma_samples refl refl in
+    (subst IsWide width sizes.0, subst IsWide height sizes.1)
+
 tells_parts : (items : List Item) (end : Partition) → IsPps items end → partition_of items ≡ end → is_partitioned items ≡ true → TellsPartition items
 unfolding fresh SlicesAre
 tells_parts items end is same whole =
@@ -311,6 +324,8 @@ tells_parts items end is same whole =
     let down : AreBounds end.tiles.rows (div_ceil (loading.number items pps.pps_pic_height_in_luma_samples) (2 ^ (natural d.log2 + 5))) =
     reach_bounds end.tiles.rows _ limits.grid.rows.0 limits.rows.0 limits.rows.1 (d.tiles.down ∙ rows) in
     record {
+      width = (wide items end is).0;
+      height = (wide items end is).1;
       ctb = λ _. subst (λ n. n < 3) (sym ctb) d.low;
       columns = λ _. subst (λ n. AreBounds (columns_of items) (div_ceil (loading.number items pps.pps_pic_width_in_luma_samples) (2 ^ (n + 5)))) (sym ctb)
           (subst (λ (q : Partition). AreBounds q.tiles.columns (div_ceil (loading.number items pps.pps_pic_width_in_luma_samples) (2 ^ (natural d.log2 + 5)))) (sym same) across);
@@ -326,6 +341,8 @@ tells_none : (items : List Item) (end : Partition) → IsPps items end → parti
 tells_none items end is same whole =
     let none : partition_of items ≡ undivided = same ∙ unpartitioned items end is whole in
     record {
+      width = (wide items end is).0;
+      height = (wide items end is).1;
       ctb = λ there. absurd (true≢false (sym there ∙ whole));
       columns = λ there. absurd (true≢false (sym there ∙ whole));
       rows = λ there. absurd (true≢false (sym there ∙ whole));

@@ -1,19 +1,23 @@
 -- That a rewritten picture parameter set exists: its parts go through, one behind another.
 use Rattle.std.proofs.Common.{◌≡◌, ℕ, ℤ, pos, zero, suc, ◌<◌, ◌≤ℤ◌, eqb, Bool, true, false, cond, neg_ℤ, IsFalse, List, [], ◌∷◌, ◌++◌, length, Option, Some, None, slice_index, sym, ap, ◌∙◌, subst, arith, refl}
 use Rattle.std.specs.Prelude.{◌==◌, All, filter, not}
-use Rattle.std.proofs.lemmas.Bool.{ne_eqb}
+use Rattle.std.proofs.lemmas.Bool.{ne_eqb, true≢false}
 use Rattle.std.proofs.lemmas.List.Elements.{All-cons, All-nil, filter-append}
 use Rattle.vx_bits.specs.declared.list.Item.{Item}
 use Rattle.vx_fields.specs.declared.pps.TheConstants as pps
-use Rattle.vx_table.specs.Forms.{done}
+use Rattle.vx_table.specs.Forms.{Form, done}
+use Rattle.vx_table.specs.Kept.{kept_along}
 use Rattle.vx_table.specs.Parts.{sections_form}
 use Rattle.vx_table.specs.Spelling.{items_along}
 use Rattle.vx_table.specs.Depends.{Agree, has, set_of}
 use Rattle.vx_table.specs.Loaded.{number}
 use Rattle.vx_table.specs.Rewritten.{IsRewritten, other_items}
 use Rattle.vx_table.specs.Scope.{fresh, is_set}
-use Rattle.vx_table.specs.Shown.{shown_items}
+use Rattle.vx_table.specs.Shown.{KeepsShown, shown_items}
 use Rattle.vx_table.proofs.Again.{sections_show}
+use Rattle.vx_table.proofs.Agreeing.{inside_itself}
+use Rattle.vx_table.proofs.Keeping.{rewritten_keeps, sections_fill_none}
+use Rattle.vx_table.proofs.Starred.{structure_keeps_only}
 use Rattle.vx_table.proofs.Groups.{agree_given}
 use Rattle.vx_table.proofs.Loading.{number_of_last, sections_load}
 use Rattle.vx_table.proofs.Rewrites.{leaves_agree, sections_leave}
@@ -21,17 +25,18 @@ use Rattle.vx_pps.specs.declared.partition.Partition.{Partition}
 use Rattle.vx_pps.specs.declared.shape.PpsShape.{PpsShape}
 use Rattle.vx_pps.specs.declared.shape.TheConstants.{TAKEN, TAKEN_FOR_FRAME}
 use Rattle.vx_pps.specs.Partition.{partition, undivided}
-use Rattle.vx_pps.specs.Pps.{front, partition_at, partition_of, pps_form, tools}
-use Rattle.vx_pps.specs.Reshaped.{CanBeDivided, IsDivision, IsShape, IsSize, ReshapedHasItsTiles, frame_tool_items, front_items, id_items, taken, tool_items, where_so, whole_flag}
+use Rattle.vx_pps.specs.Pps.{front, kept_of, partition_at, partition_of, pps_form, tools}
+use Rattle.vx_pps.specs.Reshaped.{CanBeDivided, IsDivision, IsReshaped, IsShape, IsSize, RegionKeeps, ReshapedHasItsTiles, frame_tool_items, front_items, id_items, taken, tool_items, where_so, whole_flag}
 use Rattle.vx_pps.specs.Written.{Gives, item}
 use Rattle.vx_pps.proofs.Cutting.{Clear, Parts, clear_from, cut_parts, division_unshown, flag_below, none_other, number_by_others, numbers_before, numbers_told, override_told, put_parts}
 use Rattle.vx_pps.proofs.Division.{a_division, division_gives}
 use Rattle.vx_pps.proofs.Fronts.{HasFront, front_goes}
+use Rattle.vx_pps.proofs.Keeping.{kept_put}
 use Rattle.vx_pps.proofs.Giving.{gives_done, natural_is}
 use Rattle.vx_table.proofs.Rewriting.{apart}
 use Rattle.vx_pps.proofs.Told.{partition_is}
-use Rattle.vx_pps.proofs.Testing.{flags_are, front_numbered, names, numbered, override, override_stands, tools_read, whole}
-use Rattle.vx_pps.proofs.Tooled.{HasFlags, frame_tools, tools_again}
+use Rattle.vx_pps.proofs.Testing.{flags_are, front_fills, front_numbered, front_starred, names, numbered, override, override_stands, tools_read, whole}
+use Rattle.vx_pps.proofs.Tooled.{HasFlags, frame_tools, tools_again, tools_keep}
 
 -- ---- the numbers that the stated front gives
 
@@ -157,12 +162,13 @@ some_division (suc n) shape can =
 
 -- ---- the tools
 
-pub record ToolsGone (merged : Bool) (source : List Item) (qp : ℤ) (t : List ℕ) (tool_items_ : List Item) : Type 0 where
+pub record ToolsGone (merged : Bool) (source : List Item) (qp : ℤ) (t : List ℕ) (tool_items_ kept : List Item) : Type 0 where
   pub items : List Item
   pub last : List ℕ
   pub gives : Gives (sections_form tools t) items last
   pub shown : shown_items (names merged) items ≡ shown_items (names merged) tool_items_
   pub others : other_items (names merged) items ≡ where_so merged (frame_tool_items source qp)
+  pub keeps : merged ≡ false → kept_along (sections_form tools t) gives.values ≡ kept
 
 flags_of : {source : List Item} {end : Partition} → Parts source end → HasFlags source
 flags_of p = record {
@@ -176,7 +182,7 @@ flags_of p = record {
 }
 
 tools_gone : (merged : Bool) {source : List Item} {end : Partition} (p : Parts source end) (qp : ℤ) (t : List ℕ) → neg_ℤ (pos 38) ≤ℤ qp → qp ≤ℤ pos 37 → Agree (names merged) p.scope t → length fresh ≡ length t
-    → slice_index t pps.pps_no_pic_partition_flag ≡ cond merged 0 (number source pps.pps_no_pic_partition_flag) → ToolsGone merged source qp t p.tool_items
+    → slice_index t pps.pps_no_pic_partition_flag ≡ cond merged 0 (number source pps.pps_no_pic_partition_flag) → ToolsGone merged source qp t p.tool_items (kept_along (sections_form tools p.scope) p.third.values)
 unfolding fresh
 tools_gone true {source} p qp t low high agree long whole_is =
     let empty : Agree whole fresh t = agree_given (pps.pps_no_pic_partition_flag ∷ []) long (sym whole_is, tt) in
@@ -187,6 +193,7 @@ tools_gone true {source} p qp t low high agree long whole_is =
       gives = record { values = goes.values; follows = goes.follows; given = refl };
       shown = goes.shown_ones ∙ ap (λ xs. shown_items (names true) xs) p.third.given;
       others = goes.other_ones;
+      keeps = λ e. absurd (true≢false e);
     }
 tools_gone false {source} p qp t low high agree long whole_is =
     let same : Agree whole p.scope t = agree_given (pps.pps_no_pic_partition_flag ∷ []) agree.size (numbers_before p pps.pps_no_pic_partition_flag refl refl ∙ sym whole_is, tt) in
@@ -197,6 +204,7 @@ tools_gone false {source} p qp t low high agree long whole_is =
       gives = record { values = p.third.values; follows = again.follows; given = refl };
       shown = ap (λ xs. shown_items (names false) xs) (again.items ∙ p.third.given);
       others = none_other (names false) ((sections_show (names false) tools tools_read.2).at t) again.follows;
+      keeps = λ e. sym (tools_keep same p.third.follows again.follows);
     }
 
 -- ---- the set
@@ -212,7 +220,22 @@ stated source shape division = front_items (whole_flag source shape) shape ++ (d
 pub record Reshapes (source : List Item) (shape : PpsShape) (division : List Item) : Type 0 where
   pub items : List Item
   pub rewritten : IsRewritten pps_form (taken shape) (shown_items (taken shape) source) (stated source shape division) items
+  pub keeps : shape.merged ≡ false → kept_of items ≡ kept_of source
   pub divided_as : whole_flag source shape ≡ 0 → rewritten.end ≡ record { tiles = shape.tiles; slices = Some shape.slices }
+
+-- the front keeps those of its fields that are taken over
+front_keeps_shown : (merged : Bool) → KeepsShown (names merged) (sections_form front fresh)
+front_keeps_shown true = (structure_keeps_only [] TAKEN_FOR_FRAME front (front_starred true)).keeps fresh
+front_keeps_shown false = (structure_keeps_only [] TAKEN front (front_starred false)).keeps fresh
+
+front_keeps : (merged : Bool) {xs ys : List Item} {s t : List ℕ} (f : Gives (sections_form front fresh) xs s) (g : Gives (sections_form front fresh) ys t) → shown_items (names merged) xs ≡ shown_items (names merged) ys
+    → kept_along (sections_form front fresh) f.values ≡ kept_along (sections_form front fresh) g.values
+front_keeps merged {xs} {ys} {s} {t} f g same =
+    let keeps = front_keeps_shown merged in
+    let fills = sections_fill_none front fresh front_fills in
+    let form : Form (List ℕ) = sections_form front fresh in
+    let shown : shown_items (names merged) (items_along form f.values) ≡ shown_items (names merged) (items_along form g.values) = ap (λ x. shown_items (names merged) x) f.given ∙ same ∙ ap (λ x. shown_items (names merged) x) (sym g.given) in
+    rewritten_keeps (names merged) (names merged) form form f.values g.values s t (inside_itself (names merged)) keeps keeps fills fills f.follows g.follows shown
 
 whole_low : (merged : Bool) (n : ℕ) → n < 2 → cond merged 0 n < 2
 whole_low true n low = omega arith
@@ -252,6 +275,10 @@ reshapes source end shape division gives is divides =
             ∙ ap (λ xs. front_items whole_ shape ++ (xs ++ other_items set t.items)) new.1
             ∙ ap (λ xs. front_items whole_ shape ++ (division ++ xs)) t.others;
       };
+      keeps = λ region. kept_put f.gives there t.gives
+          ∙ ap (λ xs. xs ++ kept_along (sections_form tools f.last) t.gives.values) (front_keeps shape.merged f.gives p.first f.shown)
+          ∙ ap (λ xs. kept_along (sections_form front fresh) p.first.values ++ xs) (t.keeps region)
+          ∙ sym (ap kept_of p.all ∙ kept_put p.first p.second p.third);
       divided_as = d.end_is;
     }
 
@@ -259,16 +286,27 @@ reshapes source end shape division gives is divides =
 pub division_of : (source : List Item) (shape : PpsShape) → IsShape source shape → (division : List Item) × IsDivision (is_set (whole_flag source shape)) shape division
 division_of source shape is = some_division (whole_flag source shape) shape is.divided
 
--- ---- its tiles and slices
-
-pub has_its_tiles : ReshapedHasItsTiles
-has_its_tiles source items shape set is re partitioned =
-    let r = reshapes source set.end shape re.stated.division set.set is re.stated.divides in
+-- and no other
+same_set : (source items : List Item) (shape : PpsShape) (re : IsReshaped source shape items) → (r : Reshapes source shape re.stated.division) → r.items ≡ items
+same_set source items shape re r =
     let a = re.rewritten in
     let b = r.rewritten in
     let shown = ap (λ xs. shown_items (taken shape) xs) (sym a.all) ∙ a.shown_ones ∙ sym b.shown_ones ∙ ap (λ xs. shown_items (taken shape) xs) b.all in
     let others = ap (λ xs. other_items (taken shape) xs) (sym a.all) ∙ a.other_ones ∙ re.stated.all ∙ sym b.other_ones ∙ ap (λ xs. other_items (taken shape) xs) b.all in
     let values = (apart (taken shape) [] [] [] [] a.follows b.follows (ap (λ xs. xs ++ []) shown) (ap (λ xs. xs ++ []) others)).0 in
-    let same : items_along pps_form b.values ≡ items = ap (λ w. items_along pps_form w) (sym values) ∙ sym a.all in
+    b.all ∙ ap (λ w. items_along pps_form w) (sym values) ∙ sym a.all
+
+-- ---- what it tells and keeps
+
+pub has_its_tiles : ReshapedHasItsTiles
+has_its_tiles source items shape set is re partitioned =
+    let r = reshapes source set.end shape re.stated.division set.set is re.stated.divides in
+    let b = r.rewritten in
+    let same : items_along pps_form b.values ≡ items = sym b.all ∙ same_set source items shape re r in
     let told : partition_of items ≡ record { tiles = shape.tiles; slices = Some shape.slices } = partition_is items b.end (record { values = b.values; follows = b.follows; given = same }) ∙ r.divided_as partitioned in
     (ap (λ (d : Partition). d.tiles.columns) told, ap (λ (d : Partition). d.tiles.rows) told, ap (λ (d : Partition). d.slices) told)
+
+pub region_keeps : RegionKeeps
+region_keeps source items shape set is re region =
+    let r = reshapes source set.end shape re.stated.division set.set is re.stated.divides in
+    ap kept_of (sym (same_set source items shape re r)) ∙ r.keeps region

@@ -8,9 +8,13 @@ use Rattle.std.specs.Prelude.{drop}
 use Rattle.vx_table.specs.declared.rows.Row.{Row}
 use Rattle.vx_table.specs.EachField.{rows_pass, sections_pass}
 use Rattle.vx_table.specs.Depends.{set_of, with_all}
+use Rattle.vx_table.specs.Bounds.{tells_range}
 use Rattle.vx_table.specs.Claims.{knows_formula, knows_width, knows_range, knows_presence, hides_counter, hides_row, behind_field, within_block, depends, behind_rows, table_depends, behind_table, comes_always, sections_chain, sections_hide, sections_depend_only_on}
 use Rattle.vx_table.specs.Again.{shows_row}
 use Rattle.vx_table.specs.Loaded.{names_none, row_below, code_below, range_below, sections_name_none}
+use Rattle.vx_table.specs.Kept.{stands_for_field}
+use Rattle.vx_table.specs.Rewritten.{fills_none}
+use Rattle.vx_table.specs.Shown.{sections_stars_tell, star_tells}
 use Rattle.vx_table.specs.Named.{named_by_all}
 use Rattle.vx_pps.specs.declared.shape.TheConstants.{TAKEN, TAKEN_FOR_FRAME}
 use Rattle.vx_pps.specs.declared.tables.TheConstants as tables
@@ -264,10 +268,24 @@ pub single_slices_unshown : (sections_pass (hides_row single_slices) front ≡ t
 unfolding fresh hides_counter hides_row
 single_slices_unshown = (refl, refl)
 
--- no size is greater
+-- no size is greater, and none is 0
 abbrev pub IsLow : ℕ → Type 0
 IsLow of = (sections_pass (row_below of 16385) front ≡ true) × (sections_pass (row_below of 16385) tools ≡ true)
 
 pub sizes_are : IsLow pps.pps_pic_width_in_luma_samples × IsLow pps.pps_pic_height_in_luma_samples
 unfolding has_value row_below code_below range_below
 sizes_are = ((refl, refl), (refl, refl))
+
+pub widths_lie : (sections_pass (tells_range pps.pps_pic_width_in_luma_samples 1 16384) front ≡ true) × (sections_pass (tells_range pps.pps_pic_height_in_luma_samples 1 16384) front ≡ true)
+unfolding has_value
+widths_lie = (refl, refl)
+
+-- the front keeps what is taken over, and fills in nothing
+pub front_starred : (merged : Bool) → sections_stars_tell (names merged) front ≡ true
+unfolding fresh star_tells stands_for_field
+front_starred true = refl
+front_starred false = refl
+
+pub front_fills : sections_pass fills_none front ≡ true
+unfolding fills_none stands_for_field has_value
+front_fills = refl

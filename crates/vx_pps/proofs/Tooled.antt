@@ -12,6 +12,7 @@ use Rattle.vx_table.specs.Again.{GoesToo}
 use Rattle.vx_table.specs.Claims.{sections_hide}
 use Rattle.vx_table.specs.Scope.{fresh, is_set, loaded, natural, value}
 use Rattle.vx_table.specs.Forms.{after, coding_at, form_of, has_value, limits_at, one_field, part, present, turns}
+use Rattle.vx_table.specs.Kept.{kept_along}
 use Rattle.vx_table.specs.Loaded.{number}
 use Rattle.vx_table.specs.Parts.{Section, sections_form}
 use Rattle.vx_table.specs.Spelling.{HasCode, fault_of, item_of, items_along}
@@ -28,6 +29,7 @@ use Rattle.vx_table.proofs.Rewrites.{leaves_agree, sections_leave, values_take}
 use Rattle.vx_pps.specs.Pps.{tools}
 use Rattle.vx_pps.specs.Reshaped.{frame_tool_items, info_items, same, where_so}
 use Rattle.vx_pps.specs.Written.{item}
+use Rattle.vx_pps.proofs.Alike.{kept_alike}
 use Rattle.vx_pps.proofs.Testing.{block_loads, control_block, dbf_given, dbf_control, dbf_control_taken, dbf_info, dbf_info_read, dbf_info_replaced, dbf_offsets, dbf_offsets_taken, end, end_taken, header_info, header_info_read, header_info_replaced, info_given, init_qp, init_qp_read, init_qp_replaced, names, numbered, prediction, prediction_taken, qp_offsets, qp_offsets_taken, tool_names, tools_read, tools_shown, override, override_stands, from_dbf, from_info, info_stands, whole}
 use Rattle.vx_pps.specs.declared.shape.TheConstants.{TAKEN}
 use Rattle.vx_pps.specs.declared.tables.TheConstants as tables
@@ -40,6 +42,14 @@ tools_again {s} {t} {values} {last} agree follows =
     let alike = (structure_depends_only_on (pps.pps_no_pic_partition_flag ∷ []) (tool_names ++ TAKEN) tools tools_read.0).alike s t agree in
     let all = sections_show tools_shown tools tools_read.1 in
     follows_again tools_shown whole (sections_form tools s) (sections_form tools t) values last alike (all.at s) (all.at t) follows
+
+-- and they keep the same
+pub tools_keep : {s t : List ℕ} {values : List ℤ} {last other : List ℕ} → Agree whole s t → Follows (sections_form tools s) values last → Follows (sections_form tools t) values other
+    → kept_along (sections_form tools s) values ≡ kept_along (sections_form tools t) values
+tools_keep {s} {t} {values} {last} {other} agree follows again =
+    let alike = (structure_depends_only_on (pps.pps_no_pic_partition_flag ∷ []) (tool_names ++ TAKEN) tools tools_read.0).alike s t agree in
+    let all = sections_show tools_shown tools tools_read.1 in
+    kept_alike alike (all.at s) (all.at t) follows again
 
 -- ---- of a frame: what stands in place of its fields
 

@@ -17,7 +17,7 @@ use Rattle.vx_pps.specs.declared.shape.TheConstants.{TAKEN, TAKEN_FOR_FRAME}
 use Rattle.vx_pps.specs.Tiles.{across, down}
 use Rattle.vx_pps.specs.Groups.{Group, InGroups}
 use Rattle.vx_pps.specs.Laws.{picture_of}
-use Rattle.vx_pps.specs.Pps.{IsItems, columns_of, pps_form, rows_of, slices_of}
+use Rattle.vx_pps.specs.Pps.{IsItems, columns_of, kept_of, pps_form, rows_of, slices_of}
 use Rattle.vx_pps.specs.Written.{item, list_items, size_items}
 
 -- ---- what is stated, in the order of the syntax
@@ -172,3 +172,9 @@ ReshapedHasItsTiles =
     (source items : List Item) (shape : PpsShape) → IsItems source → IsShape source shape → IsReshaped source shape items
     → whole_flag source shape ≡ 0
     → (columns_of items ≡ shape.tiles.columns) × (rows_of items ≡ shape.tiles.rows) × (slices_of items ≡ Some shape.slices)
+
+-- The set for a region keeps what its source keeps, in the place of absent fields too.
+abbrev pub RegionKeeps : Type 0
+RegionKeeps =
+    (source items : List Item) (shape : PpsShape) → IsItems source → IsShape source shape → IsReshaped source shape items
+    → shape.merged ≡ false → kept_of items ≡ kept_of source

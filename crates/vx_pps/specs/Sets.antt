@@ -96,6 +96,11 @@ pub record AreSlices (slices : List Rect) : Type 0 where
   pub few : length slices ≤ 1000
   pub each : All HasCtu slices
 
+-- a width or height that isn't 0, and no greater than 512 CTUs of the least size
+pub record IsWide (samples : ℕ) : Type 0 where
+  pub some : 0 < samples
+  pub most : samples ≤ 16384
+
 -- the size of a CTU in luma samples (CtbSizeY), where the picture is partitioned
 abbrev pub ctb_size_of : List Item → ℕ
 ctb_size_of items = 2 ^ (number items pps.pps_log2_ctu_size_minus5 + 5)
@@ -111,8 +116,11 @@ rows_in items = div_ceil (number items pps.pps_pic_height_in_luma_samples) (ctb_
 abbrev pub is_single : List Item → Bool
 is_single items = is_set (number items pps.pps_single_slice_per_subpic_flag)
 
--- Of a partitioned picture a set tells the tiles, and the slices unless each subpicture is one; of another neither.
+-- A set tells the size of a picture; of a partitioned one its tiles, and its slices unless each subpicture is one; of another
+-- neither.
 pub record TellsPartition (items : List Item) : Type 0 where
+  pub width : IsWide (number items pps.pps_pic_width_in_luma_samples)
+  pub height : IsWide (number items pps.pps_pic_height_in_luma_samples)
   pub ctb : is_partitioned items ≡ true → number items pps.pps_log2_ctu_size_minus5 < 3
   pub columns : is_partitioned items ≡ true → AreBounds (columns_of items) (columns_in items)
   pub rows : is_partitioned items ≡ true → AreBounds (rows_of items) (rows_in items)

@@ -1,3 +1,5 @@
 -- What the contracts of this crate cite.
+pub mod PictureLine
 pub mod RefusalLine
+pub mod SetLine
 pub mod UnitLine

@@ -1,16 +1,44 @@
--- The lines of the refusals that a byte stream meets.
-use Rattle.std.specs.Prelude.{◌≡◌, ℕ, ◌==◌, List, [], ◌∷◌, ◌⊎◌, codes, decimal, if◌then◌else◌}
+-- The lines of the refusals that a source meets: a word for each kind of line, by the letter of its rules.
+use Rattle.std.specs.Prelude.{◌≡◌, ℕ, ◌≤◌, ◌==◌, cond, List, [], ◌∷◌, codes, decimal}
 use Rattle.std.specs.List.{concat}
+use Rattle.vx_bits.specs.declared.refusal.BitCause.{BitCause}
+use Rattle.vx_bits.specs.declared.refusal.BitCause.TheVariants.{Short, LongCode, BadTrailing, BadAlignment, OutOfRange}
 use Rattle.vx_bits.specs.declared.refusal.Refusal.{Refusal}
-use Rattle.vx_bits.specs.declared.refusal.Refusal.TheVariants.{Framing, Limit}
-use Rattle.vx_bits.specs.declared.rules.TheConstants.{NOT_A_START_CODE, BAD_EMULATION, BAD_HEADER, LONG_UNIT, LONG_SOURCE}
+use Rattle.vx_bits.specs.declared.refusal.Refusal.TheVariants.{Framing, Syntax, Profile, Limit, Structure, Extract, Merge}
+use Rattle.vx_bits.specs.declared.rules.TheConstants.{LONG_SOURCE, SET_MISSING, LAYOUT}
+use Rattle.vx_aps.specs.declared.aps.TheConstants as aps
+use Rattle.vx_pic.specs.declared.sets.TheConstants as sets
 use Rattle.vx_report.specs.declared.refusal.Where.{Where}
 
--- a rule on a byte stream: F1 to F3 on its framing, L1 and L3 on lengths
+-- a rule that a source breaks; one on a missing set names a kind of sets
 abbrev pub HasLine : Refusal → Type 0
-HasLine (Framing code byte) = (code ≡ NOT_A_START_CODE) ⊎ (code ≡ BAD_EMULATION) ⊎ (code ≡ BAD_HEADER)
-HasLine (Limit code) = (code ≡ LONG_UNIT) ⊎ (code ≡ LONG_SOURCE)
-HasLine _ = ⊥
+HasLine (Framing code byte) = Unit {0}
+HasLine (Syntax field bit cause) = Unit {0}
+HasLine (Profile code) = Unit {0}
+HasLine (Limit code) = Unit {0}
+HasLine (Structure code kind id) = code ≡ SET_MISSING → kind ≤ sets.PPS
+HasLine (Extract code) = ⊥
+HasLine (Merge code source field) = ⊥
+
+-- ---- words
+
+-- a cause, by its name
+abbrev pub cause_word : BitCause → List ℕ
+cause_word Short = codes "Short"
+cause_word LongCode = codes "LongCode"
+cause_word BadTrailing = codes "BadTrailing"
+cause_word BadAlignment = codes "BadAlignment"
+cause_word OutOfRange = codes "OutOfRange"
+
+-- a kind of sets
+abbrev pub set_word : ℕ → List ℕ
+set_word kind =
+    cond (kind == aps.ALF) (codes "ALF")
+    (cond (kind == aps.LMCS) (codes "LMCS")
+    (cond (kind == aps.SCALING) (codes "SCALING")
+    (cond (kind == sets.SPS) (codes "SPS") (codes "PPS"))))
+
+-- ---- lines, each with its line feed
 
 -- `F3 source 0 byte 5`
 abbrev pub framing_text : ℕ → ℕ → Where → List ℕ
@@ -19,20 +47,59 @@ framing_text code byte place = concat
     ∷ codes " source " ∷ decimal place.source
     ∷ codes " byte " ∷ decimal byte ∷ codes "\n" ∷ [])
 
+-- `Y source 0 unit 0 field 22 bit 40 Short`
+abbrev pub syntax_text : ℕ → ℕ → BitCause → Where → List ℕ
+syntax_text of bit cause place = concat
+    (codes "Y source " ∷ decimal place.source
+    ∷ codes " unit " ∷ decimal place.unit
+    ∷ codes " field " ∷ decimal of
+    ∷ codes " bit " ∷ decimal bit
+    ∷ codes " " ∷ cause_word cause ∷ codes "\n" ∷ [])
+
 -- `L3 source 0`
 abbrev pub source_limit_text : ℕ → Where → List ℕ
 source_limit_text code place = concat
     (codes "L" ∷ decimal code ∷ codes " source " ∷ decimal place.source ∷ codes "\n" ∷ [])
 
--- `L1 source 0 unit 3`
-abbrev pub unit_limit_text : ℕ → Where → List ℕ
-unit_limit_text code place = concat
-    (codes "L" ∷ decimal code
+-- `P4 source 0 unit 3`, and with other letters `L1 source 0 unit 3`, `S4 source 0 unit 3`
+abbrev pub unit_text : List ℕ → ℕ → Where → List ℕ
+unit_text letter code place = concat
+    (letter ∷ decimal code
     ∷ codes " source " ∷ decimal place.source
     ∷ codes " unit " ∷ decimal place.unit ∷ codes "\n" ∷ [])
 
--- the line of a refusal, with its line feed
+-- `S1 source 0 unit 1 PPS 3`
+abbrev pub missing_text : ℕ → ℕ → Where → List ℕ
+missing_text kind id place = concat
+    (codes "S" ∷ decimal SET_MISSING
+    ∷ codes " source " ∷ decimal place.source
+    ∷ codes " unit " ∷ decimal place.unit
+    ∷ codes " " ∷ set_word kind
+    ∷ codes " " ∷ decimal id ∷ codes "\n" ∷ [])
+
+-- `S12 source 0 unit 2 layout 3`
+abbrev pub layout_text : ℕ → Where → List ℕ
+layout_text fault place = concat
+    (codes "S" ∷ decimal LAYOUT
+    ∷ codes " source " ∷ decimal place.source
+    ∷ codes " unit " ∷ decimal place.unit
+    ∷ codes " layout " ∷ decimal fault ∷ codes "\n" ∷ [])
+
+-- ---- the line of a refusal
+
+abbrev pub limit_text : ℕ → Where → List ℕ
+limit_text code place = cond (code == LONG_SOURCE) (source_limit_text code place) (unit_text (codes "L") code place)
+
+abbrev pub structure_text : ℕ → ℕ → ℕ → Where → List ℕ
+structure_text code kind id place =
+    cond (code == SET_MISSING) (missing_text kind id place)
+    (cond (code == LAYOUT) (layout_text id place) (unit_text (codes "S") code place))
+
 abbrev pub refusal_text : Refusal → Where → List ℕ
 refusal_text (Framing code byte) place = framing_text code byte place
-refusal_text (Limit code) place = (if code == LONG_SOURCE then source_limit_text code place else unit_limit_text code place)
-refusal_text _ place = []
+refusal_text (Syntax field bit cause) place = syntax_text field bit cause place
+refusal_text (Profile code) place = unit_text (codes "P") code place
+refusal_text (Limit code) place = limit_text code place
+refusal_text (Structure code kind id) place = structure_text code kind id place
+refusal_text (Extract code) place = []
+refusal_text (Merge code source field) place = []

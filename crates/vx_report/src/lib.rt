@@ -1,10 +1,14 @@
 //! The lines that the program prints: what it shows, and what it refuses.
 #![tactic(auto)]
 
+mod picture;
 mod refusal;
+mod set;
 #[cfg(test)]
 mod tests;
 mod unit;
 
+pub use picture::{PictureNumbers, picture_line};
 pub use refusal::{Where, refusal_line};
+pub use set::{SetNumbers, set_line};
 pub use unit::unit_line;

@@ -1,11 +1,15 @@
 //! The line that names a broken rule and its place.
 
-ghost use Rattle.std.specs.Prelude.{◌≡◌, string_bytes, IfOk};
-ghost use Rattle.vx_report.specs.RefusalLine.{HasLine, framing_text, source_limit_text, unit_limit_text, refusal_text};
+ghost use Rattle.std.specs.Prelude.{◌≡◌, ◌≤◌, codes, string_bytes, IfOk};
+ghost use Rattle.vx_pic.specs.declared.sets.TheConstants as sets;
+ghost use Rattle.vx_report.specs.RefusalLine as line;
+ghost use Rattle.vx_report.specs.RefusalLine.{HasLine, refusal_text};
 
 use std::alloc::{AllocError, Global};
-use vx_bits::Refusal;
-use vx_bits::rules::LONG_SOURCE;
+use vx_aps::{ALF, LMCS, SCALING};
+use vx_bits::rules::{LAYOUT, LONG_SOURCE, SET_MISSING};
+use vx_bits::{BitCause, Refusal};
+use vx_pic::{PPS, SPS};
 
 /// Where a rule was broken.
 #[derive(Clone, Copy, Debug, PartialEq, Eq)]
@@ -20,36 +24,142 @@ pub struct Where {
     pub written: bool,
 }
 
-/// The line of a rule on a byte stream, with its line feed: `F3 source 0 byte 5`
-/// for one on its framing, `L1 source 0 unit 3` for a unit that is too long,
-/// `L3 source 0` for a source that is.
+/// The line of a rule that a source breaks, with its line feed, by the rule's kind:
+/// `F3 source 0 byte 5`, `Y source 0 unit 0 field 22 bit 40 Short`, `P4 source 0 unit 3`,
+/// `L1 source 0 unit 3`, and `L3 source 0` of the whole source, `S4 source 0 unit 3`, with
+/// the set in `S1 source 0 unit 1 PPS 3` and the fault in `S12 source 0 unit 2 layout 3`.
 pub fn refusal_line(alloc: Global, refusal: Refusal, place: Where) -> Result<Vec<u8>, AllocError>
     requires { HasLine refusal }
     ensures { IfOk result (λ line. line.items ≡ refusal_text refusal place) }
 {
     let text = match refusal {
         Refusal::Framing { code, byte } => framing_line(alloc, code, byte, place),
-        Refusal::Limit { code: LONG_SOURCE } => source_limit_line(alloc, LONG_SOURCE, place),
-        Refusal::Limit { code } => unit_limit_line(alloc, code, place),
-        _ => unreachable!(),
+        Refusal::Syntax { field, bit, cause } => syntax_line(alloc, field, bit, cause, place),
+        Refusal::Profile { code } => profile_line(alloc, code, place),
+        Refusal::Limit { code } => limit_line(alloc, code, place),
+        Refusal::Structure { code, kind, id } => structure_line(alloc, code, kind, id, place),
+        Refusal::Extract { .. } | Refusal::Merge { .. } => unreachable!(),
     }?;
     Ok(text.into_bytes())
 }
 
 fn framing_line(alloc: Global, code: u8, byte: u64, place: Where) -> Result<String, AllocError>
-    ensures { IfOk result (λ text. string_bytes text ≡ framing_text code byte place) }
+    ensures { IfOk result (λ text. string_bytes text ≡ line.framing_text code byte place) }
 {
     format!(in alloc; "F{code} source {} byte {byte}\n", place.source)
 }
 
+fn syntax_line(
+    alloc: Global,
+    field: u16,
+    bit: u32,
+    cause: BitCause,
+    place: Where,
+) -> Result<String, AllocError>
+    ensures { IfOk result (λ text. string_bytes text ≡ line.syntax_text field bit cause place) }
+{
+    let cause = cause_word(cause);
+    format!(in alloc;
+        "Y source {} unit {} field {field} bit {bit} {cause}\n",
+        place.source, place.unit
+    )
+}
+
+/// The name of a cause.
+fn cause_word(cause: BitCause) -> &'static str
+    ensures { result.now ≡ line.cause_word cause }
+{
+    match cause {
+        BitCause::Short => "Short",
+        BitCause::LongCode => "LongCode",
+        BitCause::BadTrailing => "BadTrailing",
+        BitCause::BadAlignment => "BadAlignment",
+        BitCause::OutOfRange => "OutOfRange",
+    }
+}
+
+fn profile_line(alloc: Global, code: u8, place: Where) -> Result<String, AllocError>
+    ensures { IfOk result (λ text. string_bytes text ≡ line.unit_text (codes "P") code place) }
+{
+    format!(in alloc; "P{code} source {} unit {}\n", place.source, place.unit)
+}
+
+fn limit_line(alloc: Global, code: u8, place: Where) -> Result<String, AllocError>
+    ensures { IfOk result (λ text. string_bytes text ≡ line.limit_text code place) }
+{
+    match code {
+        LONG_SOURCE => source_limit_line(alloc, code, place),
+        _ => unit_limit_line(alloc, code, place),
+    }
+}
+
 fn source_limit_line(alloc: Global, code: u8, place: Where) -> Result<String, AllocError>
-    ensures { IfOk result (λ text. string_bytes text ≡ source_limit_text code place) }
+    ensures { IfOk result (λ text. string_bytes text ≡ line.source_limit_text code place) }
 {
     format!(in alloc; "L{code} source {}\n", place.source)
 }
 
 fn unit_limit_line(alloc: Global, code: u8, place: Where) -> Result<String, AllocError>
-    ensures { IfOk result (λ text. string_bytes text ≡ unit_limit_text code place) }
+    ensures { IfOk result (λ text. string_bytes text ≡ line.unit_text (codes "L") code place) }
 {
     format!(in alloc; "L{code} source {} unit {}\n", place.source, place.unit)
+}
+
+fn structure_line(
+    alloc: Global,
+    code: u8,
+    kind: u8,
+    id: u8,
+    place: Where,
+) -> Result<String, AllocError>
+    requires { code ≡ SET_MISSING → kind ≤ sets.PPS }
+    ensures { IfOk result (λ text. string_bytes text ≡ line.structure_text code kind id place) }
+{
+    match code {
+        SET_MISSING => missing_line(alloc, kind, id, place),
+        LAYOUT => layout_line(alloc, id, place),
+        _ => order_line(alloc, code, place),
+    }
+}
+
+/// The line of a rule on how units follow one another.
+fn order_line(alloc: Global, code: u8, place: Where) -> Result<String, AllocError>
+    ensures { IfOk result (λ text. string_bytes text ≡ line.unit_text (codes "S") code place) }
+{
+    format!(in alloc; "S{code} source {} unit {}\n", place.source, place.unit)
+}
+
+fn missing_line(alloc: Global, kind: u8, id: u8, place: Where) -> Result<String, AllocError>
+    requires { kind ≤ sets.PPS }
+    ensures { IfOk result (λ text. string_bytes text ≡ line.missing_text kind id place) }
+{
+    let word = set_word(kind);
+    format!(in alloc;
+        "S{SET_MISSING} source {} unit {} {word} {id}\n",
+        place.source, place.unit
+    )
+}
+
+/// The name of a kind of sets.
+fn set_word(kind: u8) -> &'static str
+    requires { kind ≤ sets.PPS }
+    ensures { result.now ≡ line.set_word kind }
+{
+    match kind {
+        ALF => "ALF",
+        LMCS => "LMCS",
+        SCALING => "SCALING",
+        SPS => "SPS",
+        PPS => "PPS",
+        _ => unreachable!(),
+    }
+}
+
+fn layout_line(alloc: Global, fault: u8, place: Where) -> Result<String, AllocError>
+    ensures { IfOk result (λ text. string_bytes text ≡ line.layout_text fault place) }
+{
+    format!(in alloc;
+        "S{LAYOUT} source {} unit {} layout {fault}\n",
+        place.source, place.unit
+    )
 }

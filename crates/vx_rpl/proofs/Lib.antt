@@ -10,3 +10,5 @@ pub mod Passing
 pub mod Following
 mod Written
 pub mod Anywhere
+mod Turns
+mod Lengths

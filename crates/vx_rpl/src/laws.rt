@@ -1,5 +1,6 @@
 //! Laws of lists, structures and weights: functions that do nothing, each with a law as its contract.
 ghost use Rattle.vx_rpl.specs.Depends.{ListsDepend, StructureDepends, WeightsDepend, FieldsAreCodedOnce, ListsCarry, ListsShow, ListsKeep, ListsLeave, ListsFollowItems, TablesFollowItems};
+ghost use Rattle.vx_rpl.specs.Lengths.{EntriesAreCounted};
 ghost use Rattle.vx_rpl.specs.Written.{StructuresWrittenAlike};
 
 /// Whatever structures the SPS has, lists read five numbers of the parameter sets.
@@ -48,4 +49,9 @@ pub fn tables_follow_items()
 /// A structure's items are written as the structure, whatever its index and count were when it was read.
 pub fn structures_written_alike()
     ensures { StructuresWrittenAlike }
+{}
+
+/// A structure's items come to as many entries as num_ref_entries says, and to as many long-term ones as a walk counts.
+pub fn entries_are_counted()
+    ensures { EntriesAreCounted }
 {}

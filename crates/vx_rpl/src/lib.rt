@@ -17,8 +17,8 @@ mod write;
 
 pub use entry::{RefEntry, RefList, RefLists, RplTable, Structure, StructureList};
 pub use laws::{
-    fields_are_coded_once, lists_carry, lists_depend, lists_follow_items, lists_pass,
-    structure_depends, structures_written_alike, tables_follow_items, weights_depend,
+    entries_are_counted, fields_are_coded_once, lists_carry, lists_depend, lists_follow_items,
+    lists_pass, structure_depends, structures_written_alike, tables_follow_items, weights_depend,
 };
 pub use lists::resolve_lists;
 pub use numbers::{RplNumbers, WeightNumbers};

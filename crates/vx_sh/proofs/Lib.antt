@@ -3,10 +3,10 @@ pub mod Depending
 pub mod Kept
 mod Admitting
 pub mod Rewritten
-mod Passing
+pub mod Passing
 mod Parts
-mod Stopped
-mod Sized
+pub mod Stopped
+pub mod Sized
 mod Written
 mod Told
 mod Writable

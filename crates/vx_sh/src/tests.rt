@@ -9,7 +9,9 @@ use vx_bits::{BitReader, BitWriter, Fields};
 use vx_fields::names::rpl::ENTRIES_0;
 use vx_fields::names::sh::{NAL_TYPE, NUM_SLICES};
 use vx_fields::ph::ph_inter_slice_allowed_flag;
-use vx_fields::pps::{pps_rpl_info_in_ph_flag, pps_slice_header_extension_present_flag};
+use vx_fields::pps::{
+    pps_rpl_info_in_ph_flag, pps_slice_header_extension_present_flag, pps_weighted_pred_flag,
+};
 use vx_rpl::{RplTable, StructureList};
 use vx_table::Scope;
 
@@ -72,6 +74,17 @@ fn read_codes(
         push(rt, &mut bits, *code)?;
     }
     let bytes = bits.close()?;
+    read_bytes(rt, alloc, numbers, points, bytes.as_slice())
+}
+
+/// The same of bytes.
+fn read_bytes(
+    rt: &impl Abort,
+    alloc: Global,
+    numbers: &[(u16, u32)],
+    points: u32,
+    bytes: &[u8],
+) -> Result<String, Fail> {
     assert!(rt; bytes.len() <= 1000);
     let mut scope = Scope::new();
     scope.set(pps_rpl_info_in_ph_flag, 1);
@@ -83,7 +96,7 @@ fn read_codes(
         second: StructureList::new(alloc),
     };
     let mut items = Fields::new(alloc);
-    let mut bits = BitReader::new(bytes.as_slice());
+    let mut bits = BitReader::new(bytes);
     let read = code_rest(&table, &Points(points), &mut scope, &mut bits, &mut items);
     match read {
         Ok(()) => Ok(format!(in alloc; "{}", items.len())?),
@@ -144,6 +157,49 @@ fn keeps_to_the_ends_of_ranges(rt: HostRuntime) -> Result<(), Fail> {
     ];
     for (numbers, points, codes, wanted) in rows {
         let text = read_codes(&rt, rt.alloc(), numbers, points, codes)?;
+        assert_eq!(rt; text.as_str(), wanted);
+    }
+    Ok(())
+}
+
+#[test]
+fn refuses_each_cause(rt: HostRuntime) -> Result<(), Fail> {
+    let rows: [(&[(u16, u32)], &[u8], &str); 6] = [
+        (
+            &[],
+            b"",
+            "Refused(Syntax { field: 713, bit: 0, cause: Short })",
+        ),
+        (
+            &[],
+            b"\x00\x00\x00\x00\x00",
+            "Refused(Syntax { field: 713, bit: 0, cause: LongCode })",
+        ),
+        (
+            &[],
+            b"\xff",
+            "Refused(Syntax { field: 735, bit: 1, cause: BadAlignment })",
+        ),
+        // The QP ends with the last byte.
+        (
+            &[(NAL_TYPE, 8)],
+            b"\x88",
+            "Refused(Syntax { field: 735, bit: 8, cause: Short })",
+        ),
+        // An absent type is I, and no list has active entries; list 0 of a P slice has one, and so one flag of weights.
+        (&[(ENTRIES_0, 2)], b"\xc0", "1"),
+        (
+            &[
+                (ph_inter_slice_allowed_flag, 1),
+                (ENTRIES_0, 2),
+                (pps_weighted_pred_flag, 1),
+            ],
+            b"\x5d\x80",
+            "6",
+        ),
+    ];
+    for (numbers, bytes, wanted) in rows {
+        let text = read_bytes(&rt, rt.alloc(), numbers, 0, bytes)?;
         assert_eq!(rt; text.as_str(), wanted);
     }
     Ok(())

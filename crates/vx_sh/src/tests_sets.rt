@@ -17,14 +17,14 @@ use vx_sps::{Sps, read_sps};
 
 /// The sets and the picture header of a stream.
 #[derive(Drop)]
-struct Sets {
-    sps: Sps,
-    pps: Pps,
-    header: PictureHeader,
+pub(crate) struct Sets {
+    pub sps: Sps,
+    pub pps: Pps,
+    pub header: PictureHeader,
 }
 
 /// Reads the sets and the picture header of a stream.
-fn read_sets(
+pub(crate) fn read_sets(
     rt: &impl Abort,
     alloc: Global,
     sps: &[u8],
@@ -99,22 +99,34 @@ fn assert_limits(rt: &impl Abort, n: &Numbers)
     assert!(rt; n.subpics.len() <= 1000);
 }
 
-/// The layout of a picture of so many CTUs side by side, each a tile, a slice and a subpicture with one of these ids.
-fn layout_of(rt: &impl Abort, alloc: Global, count: u32, ids: &IdList) -> Result<Layout, Fail>
+/// The layout of these numbers, with an id for each subpicture.
+pub(crate) fn layout_with(
+    rt: &impl Abort,
+    alloc: Global,
+    numbers: Numbers,
+    ids: &IdList,
+) -> Result<Layout, Fail>
     ensures { IfOk result (λ layout. length ids.now ≡ length layout.subpics) }
 {
-    let numbers = numbers_of(rt, alloc, count)?;
     assert_limits(rt, &numbers);
     assert!(rt; ids.len() == numbers.subpics.len());
     Ok(Layout::new(alloc, numbers)?)
 }
 
+/// The layout of a picture of so many CTUs side by side, each a tile, a slice and a subpicture with one of these ids.
+fn layout_of(rt: &impl Abort, alloc: Global, count: u32, ids: &IdList) -> Result<Layout, Fail>
+    ensures { IfOk result (λ layout. length ids.now ≡ length layout.subpics) }
+{
+    let numbers = numbers_of(rt, alloc, count)?;
+    layout_with(rt, alloc, numbers, ids)
+}
+
 /// What is in force at the slices of a stream.
 #[derive(Drop)]
-struct Stream {
-    sets: Sets,
-    layout: Layout,
-    ids: IdList,
+pub(crate) struct Stream {
+    pub sets: Sets,
+    pub layout: Layout,
+    pub ids: IdList,
 }
 
 /// The stream of one CTU.
@@ -189,7 +201,7 @@ fn refuses(rt: &impl Abort, alloc: Global, stream: &Stream, rbsp: &[u8]) -> bool
 }
 
 /// The bytes of a slice header that was read, whose picture header stands apart.
-fn write_apart(
+pub(crate) fn write_apart(
     alloc: Global,
     rbsp: &[u8],
     numbers: &SliceNumbers<'_>,

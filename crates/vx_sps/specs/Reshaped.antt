@@ -52,7 +52,8 @@ profile_items source level =
 
 -- the window's offsets, left, right, top and bottom, where one isn't 0
 abbrev pub has_window : List ℕ → Bool
-has_window window = (is_set (slice_index window 0) || is_set (slice_index window 1)) || (is_set (slice_index window 2) || is_set (slice_index window 3))
+has_window window =
+    (is_set (slice_index window 0) || is_set (slice_index window 1)) || (is_set (slice_index window 2) || is_set (slice_index window 3))
 
 abbrev pub window_items : List ℕ → List Item
 window_items window =
@@ -96,8 +97,8 @@ id_bits n = max (powers_below 32 n) 1
 -- one subpicture, whose id is mapped
 abbrev pub one_items : ℕ → Option ℕ → List Item
 one_items id_len id =
-    item sps.sps_num_subpics_minus1 0 ∷ item sps.sps_subpic_id_len_minus1 id_len ∷ item sps.sps_subpic_id_mapping_explicitly_signalled_flag 1
-    ∷ mapping_items id
+    item sps.sps_num_subpics_minus1 0 ∷ item sps.sps_subpic_id_len_minus1 id_len
+    ∷ item sps.sps_subpic_id_mapping_explicitly_signalled_flag 1 ∷ mapping_items id
 
 -- subpictures whose ids are their indices
 abbrev pub many_items : ℕ → ℕ → List Rect → List Item

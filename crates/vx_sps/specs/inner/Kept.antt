@@ -11,7 +11,8 @@ use Rattle.vx_sps.specs.Set.{IsItems, columns_of, rows_of, is_weighted, extra_ph
 use Rattle.vx_sps.specs.Subpictures.{subpics_of, numbers_of, rect_of, is_treated, is_filtered, id_of}
 
 -- The numbers are what the items tell of the subpictures, field by field, in a picture of so many columns and rows.
-pub record IsTold (items : List Item) (across down : ℕ) (same : Bool) (xs ys ws hs treated_ones filtered_ones all_ids : List ℕ) : Type 0 where
+pub record IsTold (items : List Item) (across down : ℕ) (same : Bool) (xs ys ws hs treated_ones filtered_ones all_ids : List ℕ)
+    : Type 0 where
   pub columns : across ≡ columns_of items
   pub rows : down ≡ rows_of items
   pub same_size : same ≡ is_set (number items sps.sps_subpic_same_size_flag)

@@ -10,4 +10,5 @@ use Rattle.vx_sps.specs.Structure.{sps_form}
 
 -- the set with these items of the fields that are taken over, and those of the others, where there is one
 abbrev pub MakesSet : List Item → List Item → Result (Unit {0}) SpellError → List Item → Type 0
-MakesSet taken others result after = (items : List Item) → IsRewritten sps_form (set_of TAKEN) taken others items → IsWritten result (after ≡ items)
+MakesSet taken others result after = (items : List Item) → IsRewritten sps_form (set_of TAKEN) taken others items
+    → IsWritten result (after ≡ items)

@@ -1,0 +1,8 @@
+use Rattle.vx_pic.proofs.KeptFields.{slice_marked}
+use Rattle.vx_pic.proofs.kept_fields.slice_fields.Goals as goal
+
+pub returns : goal.returns
+returns c =
+    slice_marked c.mark-4.new.scope c.mark-3.new.scope c.mark-2.new.scope c.mark_but-2.new.scope c.mark_but.new.scope c.new-kept.result
+    c.mark.new.scope c.new-others.result c.mark-4.ensures c.mark-3.ensures c.mark-2.ensures c.mark_but-2.ensures c.mark_but.ensures
+    c.new-kept.ensures c.mark.ensures c.new-others.ensures

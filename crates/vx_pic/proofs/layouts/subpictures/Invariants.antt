@@ -1,0 +1,7 @@
+use Rattle.std.proofs.Common.{◌≡◌, map}
+use Rattle.std.specs.List.{range_with_len}
+use Rattle.vx_sps.specs.Subpictures.{rect_of}
+use Rattle.vx_pic.proofs.layouts.subpictures.Given as goal
+
+abbrev pub invariant-loop-i : goal.invariant-loop-i
+invariant-loop-i l = l.rects ≡ map (rect_of l.sps) (range_with_len 0 l.i)

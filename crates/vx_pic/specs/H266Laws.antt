@@ -1,0 +1,39 @@
+-- What holds of the readers of H.266: their answers are determined, and there are such readers.
+use Rattle.std.specs.Prelude.{◌≡◌, ℕ, Bool, List, Option, Result}
+use Rattle.vx_bits.specs.declared.list.Item.{Item}
+use Rattle.vx_bits.specs.declared.refusal.Refusal.{Refusal}
+use Rattle.vx_aps.specs.declared.aps.Aps.{Aps}
+use Rattle.vx_aps.specs.Aps as aps
+use Rattle.vx_ph.specs.InForce.{in_force, structures}
+use Rattle.vx_pps.specs.Pps.{pps_form}
+use Rattle.vx_ptl.specs.Structures.{vps}
+use Rattle.vx_sei.specs.declared.message.Message.{Message}
+use Rattle.vx_sei.specs.Sei.{Carries}
+use Rattle.vx_sps.specs.Structure.{sps_form}
+use Rattle.vx_table.specs.Reading.{ReadsValue, as_read}
+use Rattle.vx_pic.specs.Sets.{SliceHeader}
+use Rattle.vx_pic.specs.Readings.{Begun}
+use Rattle.vx_pic.specs.Rules.{Readers}
+use Rattle.vx_pic.specs.PictureLayout.{IsLayoutAnswer}
+use Rattle.vx_pic.specs.H266.{AnswersAt, header_place, form_in, IsReferredPps, IsSliceAnswer, AreOfH266}
+
+-- at most one answer
+abbrev pub AtMostOne : {A : Type 0} → (A → Type 0) → Type 0
+AtMostOne {A} P = (x y : A) → P x → P y → x ≡ y
+
+-- Bytes and sets have one answer at most.
+pub record HaveOneAnswer : Type 0 where
+  pub vps : (rbsp : List ℕ) → AtMostOne (λ (x : Result (List Item) Refusal). ReadsValue vps rbsp (as_read x))
+  pub sps : (rbsp : List ℕ) → AtMostOne (λ (x : Result (List Item) Refusal). ReadsValue sps_form rbsp (as_read x))
+  pub pps : (rbsp : List ℕ) → AtMostOne (λ (x : Result (List Item) Refusal). ReadsValue pps_form rbsp (as_read x))
+  pub aps : (rbsp : List ℕ) → AtMostOne (aps.IsAnswer rbsp)
+  pub sei : (rbsp : List ℕ) → AtMostOne (Carries rbsp)
+  pub layout : (s p : List Item) → AtMostOne (IsLayoutAnswer s p)
+  pub referred_pps : (inside : Bool) (rbsp : List ℕ) → AtMostOne (IsReferredPps inside rbsp)
+  pub header : (inside : Bool) (s p : List Item) (rbsp : List ℕ)
+      → AtMostOne (AnswersAt (form_in inside (structures s) (in_force s p)) (header_place inside rbsp))
+  pub slice : (nal_type : ℕ) (b : Begun) (unit : List ℕ) → AtMostOne (IsSliceAnswer nal_type b unit)
+
+-- There are readers of H.266.
+abbrev pub ThereAreReaders : Type 0
+ThereAreReaders = (R : Readers) × AreOfH266 R

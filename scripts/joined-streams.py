@@ -1,0 +1,56 @@
+#!/usr/bin/env python3
+"""Joins the streams of an independent model to one, with what `show` is to write of it: the stored run of the program.
+
+usage: scripts/joined-streams.py STREAMS SHOW FOLDER
+
+Between two streams stands an end of sequence, so that the second is as it is by itself, but for the places of its units and the
+numbers of its pictures; a stream whose first picture isn't one from which others are counted is left out, since the next one would be
+counted from the stream before. FOLDER gets `data/streams.266` and `stdout`. STREAMS and SHOW are as scripts/show-vectors.py has them.
+"""
+import json
+import sys
+
+
+def parts(path):
+    """What stands behind each line `stream ..`, by the stream's number."""
+    found = {}
+    for line in open(path):
+        if line.startswith("stream "):
+            lines = found[int(line.split()[1])] = []
+        elif line.strip():
+            lines.append(line.rstrip("\n"))
+    return found
+
+
+def counts_others(units):
+    """Whether the first picture has TemporalId 0 and ph_non_ref_pic_flag 0."""
+    first = next(unit for unit in units if "header " in unit)
+    return int(first[2:4], 16) % 8 == 1 and " 601=1" not in first
+
+
+def as_line(value):
+    return json.dumps(value, separators=(",", ":"), sort_keys=True) + "\n"
+
+
+END = b"\0\xa9"
+streams, shown = parts(sys.argv[1]), parts(sys.argv[2])
+stream, lines, pictures = b"", [], 0
+for number, units in streams.items():
+    if not counts_others(units):
+        continue
+    if stream:
+        lines.append(as_line({"bytes": 2, "offset": len(stream) + 4, "tid": 0, "type": 21}))
+        stream += b"\0\0\0\1" + END
+    place, before = len(stream), pictures
+    for line in shown[number]:
+        value = json.loads(line)
+        if "offset" in value:
+            value["offset"] += place
+        if "picture" in value:
+            value["picture"] += before
+            pictures += 1
+        lines.append(as_line(value))
+    stream += b"".join(b"\0\0\0\1" + bytes.fromhex(unit.split()[0]) for unit in units)
+open(f"{sys.argv[3]}/data/streams.266", "wb").write(stream)
+open(f"{sys.argv[3]}/stdout", "w").write("".join(lines))
+print(f"{len(streams)} streams, {len(stream)} bytes, {pictures} pictures, {len(lines)} lines")
