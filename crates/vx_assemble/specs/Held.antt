@@ -5,7 +5,8 @@ use Rattle.vx_bits.specs.declared.list.Item.{Item}
 use Rattle.vx_bits.specs.declared.refusal.Refusal.{Refusal}
 use Rattle.vx_pic.specs.declared.accepted.Accepted.{Accepted}
 use Rattle.vx_pic.specs.declared.accepted.Accepted.TheVariants as accepted
-use Rattle.vx_pic.specs.Readings.{Reading, Picture, vps_read, sps_read, pps_read, aps_read}
+use Rattle.vx_pic.specs.Parts.{Parts, Shows}
+use Rattle.vx_pic.specs.Readings.{Reading, vps_read, sps_read, pps_read, aps_read, Picture}
 use Rattle.vx_pic.specs.Streams.{lacks_slice}
 use Rattle.vx_pic.specs.Told.{told_of}
 use Rattle.vx_pic.specs.declared.kind.Kind.{Kind}
@@ -82,3 +83,7 @@ seen_with kind slices subpictures = record { kind = kind; slices = slices; subpi
 
 abbrev pub seen_picture : Picture → PictureSeen
 seen_picture p = seen_with p.kind (length p.slices) (subpics_of p.begun.sps)
+-- They are those of the latest of these pictures.
+abbrev pub ShowsLatest : Parts → List Picture → Type 0
+ShowsLatest parts [] = ⊥
+ShowsLatest parts (p ∷ earlier) = Shows parts p

@@ -4,6 +4,12 @@ pub mod Order
 pub mod Classes
 pub mod Headers
 pub mod Takes
+pub mod Joining
+pub mod Places
+pub mod Beginning
+pub mod Opening
 pub mod Changes
 pub mod Answered
 pub mod Feed
+pub mod Slices
+pub mod Lent

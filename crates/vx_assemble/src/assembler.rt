@@ -9,9 +9,9 @@ use std::alloc::Global;
 use std::marker::Model;
 use vx_bits::rules::SLICE_MISSING;
 use vx_bits::{Fields, ReadError};
-use vx_pic::Accepted;
 use vx_pps::Pps;
 use vx_sps::Sps;
+use vx_pic::{Accepted, Picture};
 
 /// Takes NAL units in order, and hands on each picture with its last slice.
 ///
@@ -44,7 +44,8 @@ impl Assembler {
     ghost use Rattle.vx_pic.specs.Rules.{Readers, reads};
     ghost use Rattle.vx_pic.specs.H266.{AreOfH266};
     ghost use Rattle.vx_pic.specs.Told.{told_of};
-    ghost use Rattle.vx_assemble.specs.Held.{Stands, Takes, Ends, told, first_fault, first_of, items_of, seen_picture};
+    ghost use Rattle.vx_assemble.specs.Held.{Stands, Takes, Ends, told, HasPicture, ShowsLatest, first_fault, first_of, items_of, seen_picture};
+    ghost use Rattle.vx_pic.specs.Readings.{pictures};
 
     /// An assembler that took no units. It takes no memory yet.
     pub fn new(alloc: Global) -> Assembler
@@ -152,5 +153,13 @@ impl Assembler {
         let kind = self.state.picture.kind?;
         let subpictures = begun.sets.value().sps.value().subpics();
         Some(seen_with(kind, self.state.picture.slices.len(), subpictures))
+    }
+
+    /// The picture whose last slice was taken last. It takes no memory.
+    pub fn picture(&self) -> Picture<'_>
+        requires { HasPicture self.now }
+        ensures { (before : List Reading) → Stands self.now before → ShowsLatest result (pictures before) }
+    {
+        self.state.picture.lend()
     }
 }

@@ -1,14 +1,15 @@
 //! The picture that was begun last, as far as its slices came.
-ghost use Rattle.std.specs.Prelude.{◌≡◌, ◌++◌, ◌∷◌, [], length, OnOk, OnErr};
+ghost use Rattle.std.specs.Prelude.{◌≡◌, IsTrue, IsSome, OnOk, OnErr};
 ghost use Rattle.vx_pic.specs.Readings.{Current, is_open, is_within};
 ghost use Rattle.vx_assemble.specs.inner.Changes as changes;
 ghost use Rattle.vx_assemble.specs.inner.Held.{Keeps};
-ghost use Rattle.vx_assemble.specs.inner.Order.{IsOrdered};
+ghost use Rattle.vx_assemble.specs.inner.Order.{IsOrdered, IsComplete};
+ghost use Rattle.vx_assemble.specs.inner.Lent.{parts_in};
 
 use crate::state::{BegunPicture, CurrentPicture};
 use std::alloc::{AllocError, Global};
 use vx_bits::Bytes;
-use vx_pic::{ApsList, Kind, SliceSlot, SliceSlots};
+use vx_pic::{ApsList, Kind, Picture, PictureParts, SliceSlot, SliceSlots};
 use vx_sei::MessageList;
 
 impl CurrentPicture {
@@ -22,7 +23,8 @@ impl CurrentPicture {
     /// Whether a picture is begun, and not all its slices came.
     pub(crate) fn is_open(&self) -> bool
         requires { IsOrdered self.now }
-        ensures { (c : Current) → Keeps self.now c → result ≡ is_open c }
+        ensures answer { (c : Current) → Keeps self.now c → result ≡ is_open c }
+        ensures some { IsTrue result → IsSome self.now.begun }
     {
         match &self.begun {
             Some(begun) => self.kind.is_none() || !self.came_all(begun),
@@ -46,7 +48,7 @@ impl CurrentPicture {
     /// # Errors
     ///
     /// Where memory runs out, and all is then as it was.
-    pub(crate) fn begin(
+    pub(crate) fn start(
         &mut self,
         alloc: Global,
         begun: BegunPicture,
@@ -65,11 +67,12 @@ impl CurrentPicture {
         Ok(())
     }
 
-    /// Sets what it is, its adaptation parameter sets, and its messages.
-    pub(crate) fn set_kind(&mut self, kind: Kind, bodies: ApsList, messages: MessageList)
+    /// Sets what it is, its adaptation parameter sets, and its messages, before its first slice.
+    pub(crate) fn open(&mut self, alloc: Global, kind: Kind, bodies: ApsList, messages: MessageList)
         ensures { self.new ≡ changes.with_kind kind bodies messages self.old }
     {
         self.kind = Some(kind);
+        self.slices = SliceSlots::new(alloc);
         self.bodies = bodies;
         self.messages = messages;
     }
@@ -96,5 +99,33 @@ impl CurrentPicture {
         ensures err { OnErr result (self.new ≡ self.old) }
     {
         self.slices.push(slot)
+    }
+
+    /// The picture, all of whose slices came.
+    pub(crate) fn lend(&self) -> Picture<'_>
+        requires order { IsOrdered self.now }
+        requires complete { IsComplete self.now }
+        ensures { result ≡ parts_in self.now }
+    {
+        let Some(begun) = &self.begun else {
+            unreachable!()
+        };
+        let Some(kind) = self.kind else {
+            unreachable!()
+        };
+        let sets = begun.sets.value();
+        Picture::of(PictureParts {
+            kind,
+            sps: sets.sps.value(),
+            pps: sets.pps.value(),
+            layout: &sets.layout,
+            header: &begun.header,
+            ids: &sets.ids,
+            bytes: self.bytes.as_slice(),
+            header_end: self.header_end,
+            slices: &self.slices,
+            bodies: &self.bodies,
+            messages: &self.messages,
+        })
     }
 }

@@ -1,7 +1,18 @@
 //! The sets in force for a picture.
+ghost use Rattle.std.specs.Prelude.{◌≡◌, length, IfOk};
+ghost use Rattle.vx_pic.specs.Sets.{same_size};
+ghost use Rattle.vx_pic.specs.Rules.{Readers};
+ghost use Rattle.vx_pic.specs.H266.{AreOfH266};
+ghost use Rattle.vx_pic.specs.PictureLayout.{numbers_in};
+ghost use Rattle.vx_assemble.specs.inner.Takes.{Gives, answer_by};
+ghost use Rattle.vx_assemble.specs.inner.Beginning.{layout_under, AreOf};
 
+use crate::readers::{ids_of, layout_of};
+use crate::refusals::structure;
 use crate::shared::Shared;
-use vx_bits::IdList;
+use std::alloc::Global;
+use vx_bits::rules::SIZE_DIFFERS;
+use vx_bits::{IdList, ReadError};
 use vx_layout::Layout;
 use vx_pps::Pps;
 use vx_sps::Sps;
@@ -19,4 +30,55 @@ pub(crate) struct InForce {
     pub ids: IdList,
     /// The number of slices.
     pub slices: usize,
+}
+
+/// Whether the pictures of both sets have one size.
+#[tactic(auto, unfolding(vx_pic::specs::Sets::same_size))]
+fn have_same_size(sps: &Sps, pps: &Pps) -> bool
+    ensures { result ≡ same_size sps.now pps.now }
+{
+    pps.width() == sps.width() && pps.height() == sps.height()
+}
+
+/// The number of slices of two sets.
+fn slice_count(sps: &Sps, pps: &Pps) -> usize
+    ensures { result ≡ length (numbers_in sps.now pps.now).slices }
+{
+    if !pps.partitioned() {
+        return 1;
+    }
+    match pps.slices() {
+        Some(slices) => slices.len(),
+        None => sps.subpics() as usize,
+    }
+}
+
+impl InForce {
+    /// What two sets make up.
+    ///
+    /// # Errors
+    ///
+    /// SIZE_DIFFERS, or the lowest fault of the layout; want of memory.
+    pub(crate) fn new(
+        alloc: Global,
+        sps: Shared<Sps>,
+        pps: Shared<Pps>,
+    ) -> Result<InForce, ReadError>
+        ensures answer { (R : Readers) → AreOfH266 R → Gives (layout_under R sps pps) (answer_by (λ f. f.layout) result) }
+        ensures sets { IfOk result (AreOf sps pps) }
+    {
+        if !have_same_size(sps.value(), pps.value()) {
+            return Err(ReadError::Refused(structure(SIZE_DIFFERS)));
+        }
+        let layout = layout_of(alloc, sps.value(), pps.value())?;
+        let ids = ids_of(alloc, sps.value(), pps.value())?;
+        let slices = slice_count(sps.value(), pps.value());
+        Ok(InForce {
+            sps,
+            pps,
+            layout,
+            ids,
+            slices,
+        })
+    }
 }

@@ -5,20 +5,25 @@
 #![tactic(auto)]
 
 mod assembler;
+mod begin;
 mod current;
 mod fault;
 mod feed;
+mod first_slice;
 mod in_force;
+mod join;
 mod keep;
+mod numbers;
 mod readers;
 mod refusals;
 mod seen;
 mod shared;
+mod slices;
 mod state;
-mod take;
 #[cfg(test)]
 mod tests_feed;
 mod unit;
+mod units;
 
 pub use assembler::Assembler;
 pub use fault::{AssembleFault, First};

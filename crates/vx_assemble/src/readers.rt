@@ -10,6 +10,7 @@ ghost use Rattle.vx_pic.specs.Units.{rbsp_of};
 ghost use Rattle.vx_assemble.specs.inner.Answered.{slice_seen, AreOfBegun};
 ghost use Rattle.vx_assemble.specs.inner.Held.{begun_of};
 ghost use Rattle.vx_assemble.specs.inner.Headers.{IsHeaderUnder};
+ghost use Rattle.vx_assemble.specs.inner.Order.{IsHeader};
 ghost use Rattle.vx_assemble.specs.inner.Takes.{Gives, answer_by, header_read_as, IsReadUnder};
 
 use crate::state::BegunPicture;
@@ -175,9 +176,10 @@ pub(crate) fn slice_of(
     _begun: &BegunPicture,
     _unit: NalUnit<'_>,
 ) -> Result<ReadSlice, ReadError>
+    requires { IsHeader _begun.now }
     ensures answer { (R : Readers) → AreOfH266 R → (unit : Option (List ℕ))
         → Gives (R.slice _nal_type (begun_of _begun.now unit) _unit.entry.bytes.now) (answer_by header_read_as result) }
-    ensures made { IfOk result (IsReadUnder _begun.now (length _unit.entry.bytes.now)) }
+    ensures made { IfOk result (IsReadUnder _begun.now) }
 {
     Err(ReadError::Memory)
 }

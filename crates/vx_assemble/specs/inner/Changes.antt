@@ -44,9 +44,9 @@ with_end s = record s { ended = true }
 abbrev pub with_header : BegunPicture → List ℕ → CurrentPicture → CurrentPicture
 with_header b unit c = record c { begun = Some b; kind = None; bytes = unit; header_end = length unit; slices = [] }
 
--- before the first slice: what the picture is, its adaptation parameter sets, and the messages gathered for it
+-- before the first slice: what the picture is, its adaptation parameter sets, and the messages gathered for it; no slice came
 abbrev pub with_kind : Kind → List (Option Aps) → List Message → CurrentPicture → CurrentPicture
-with_kind k sets messages c = record c { kind = Some k; bodies = sets; messages = messages }
+with_kind k sets messages c = record c { kind = Some k; slices = []; bodies = sets; messages = messages }
 
 -- a slice behind so many bytes
 abbrev pub slot_behind : ℕ → List ℕ → ReadSlice → SliceSlot

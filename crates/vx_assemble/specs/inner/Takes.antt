@@ -42,11 +42,10 @@ slice_read_as unit r = record { unit = unit; header = header_read_as r }
 abbrev pub AreSmall : List Slot → Type 0
 AreSmall slots = AllByRecursion (λ slot. slot.id < id_count) slots
 
--- a slice header that was read under this picture header, of a unit with so many bytes
-pub record IsReadUnder (b : BegunPicture) (size : ℕ) (r : ReadSlice) : Type 0 where
+-- a slice header that was read under this picture header
+pub record IsReadUnder (b : BegunPicture) (r : ReadSlice) : Type 0 where
   pub subpic : r.header.subpic < length b.sets.layout.subpics
   pub header : r.header ≡ slice_header_of (begun_of b None) (header_read_as r)
-  pub payload : r.payload ≤ size
   pub small : AreSmall (names_of b.sets.pps b.header.fields (record { fields = r.header.fields; subpic = 0; payload = 0 }))
 
 -- ---- units

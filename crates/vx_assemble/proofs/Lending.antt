@@ -1,0 +1,147 @@
+-- The picture that is lent is the latest one.
+use Rattle.std.proofs.Common.{◌≡◌, ℕ, ◌<◌, ◌≤◌, List, [], ◌∷◌, ◌++◌, length, map, Bool, true, false, cond, refl, sym, ◌∙◌, ap, subst}
+use Rattle.std.specs.Prelude.{Option, Some, None, is_none}
+use Rattle.std.specs.List.{AllByRecursion}
+use Rattle.vx_aps.specs.declared.aps.Aps.{Aps}
+use Rattle.vx_pic.specs.declared.accepted.Accepted.TheVariants as accepted
+use Rattle.vx_pic.specs.declared.kind.Kind.{Kind}
+use Rattle.vx_pic.specs.declared.picture.SliceSlot.{SliceSlot}
+use Rattle.vx_pic.specs.Sets.{SliceHeader, address_of, is_qp, slice_qp}
+use Rattle.vx_pic.specs.PictureLayout.{ids_of}
+use Rattle.vx_pic.specs.UnderSets.{header_of}
+use Rattle.vx_pic.specs.Parts.{Parts, IsPlaced, AreThere, named_by, read_of, header_unit_in, slice_in, slice_header_of, slice_part, parts_of, Shows, stored_sets}
+use Rattle.vx_pic.specs.Told.{done_or_not}
+use Rattle.vx_pic.specs.Sets.{sps_id, pps_id}
+use Rattle.vx_pic.specs.Readings.{Begun, Slice, Picture, Reading, dropped, vps_read, sps_read, pps_read, aps_read, messages_read, header_read}
+use Rattle.vx_pic.specs.Readings.{first_slice, next_slice, sequence_ended, is_slice, Current, nothing, headed, going, current, is_whole, pictures}
+use Rattle.vx_assemble.specs.Held.{Held, last_told, Stands, HasPicture, ShowsLatest}
+use Rattle.vx_assemble.specs.declared.state.BegunPicture.{BegunPicture}
+use Rattle.vx_assemble.specs.declared.state.CurrentPicture.{CurrentPicture}
+use Rattle.vx_assemble.specs.inner.Held.{begun_of, begun_in, slice_of, IsGoing, Keeps}
+use Rattle.vx_assemble.specs.inner.Order.{IsHeader, IsSlot, AreSlots, IsOrdered}
+use Rattle.vx_assemble.specs.inner.Lent.{parts_by, parts_in}
+use Rattle.vx_assemble.proofs.Steps.{same_some}
+use Rattle.vx_assemble.proofs.KeptPicture.{begun_is, header_is, no_begun}
+
+-- ---- slices
+
+same_under : (k : BegunPicture) (x : Option (List ℕ)) (h : SliceHeader) → slice_header_of (begun_of k None) h ≡ slice_header_of (begun_of k x) h
+same_under k x h = refl
+
+slice_shown : (k : BegunPicture) (x : Option (List ℕ)) (bytes : List ℕ) (sets : List (Option Aps)) (slot : SliceSlot) → IsSlot k bytes sets slot
+    → slice_in bytes slot ≡ slice_part (begun_of k x) (slice_of bytes slot)
+slice_shown k x bytes sets slot s = rw s.header refl
+
+slices_shown : (k : BegunPicture) (x : Option (List ℕ)) (bytes : List ℕ) (sets : List (Option Aps)) (slots : List SliceSlot)
+    → AllByRecursion (IsSlot k bytes sets) slots → map (slice_in bytes) slots ≡ map (slice_part (begun_of k x)) (map (slice_of bytes) slots)
+slices_shown k x bytes sets [] all = refl
+slices_shown k x bytes sets (slot ∷ slots) all =
+    ap (λ y. y ∷ map (slice_in bytes) slots) (slice_shown k x bytes sets slot all.0)
+    ∙ ap (λ l. slice_part (begun_of k x) (slice_of bytes slot) ∷ l) (slices_shown k x bytes sets slots all.1)
+
+pub slots_of : (c : CurrentPicture) (k : BegunPicture) → c.begun ≡ Some k → IsOrdered c → AllByRecursion (IsSlot k c.bytes c.bodies) c.slices
+slots_of c k is o = let slots : AreSlots (Some k) c.bytes c.bodies c.slices = subst (λ x. AreSlots x c.bytes c.bodies c.slices) is o.slots in slots.1
+
+-- ---- what is asked of parts
+
+pub each_placed : (k : BegunPicture) (bytes : List ℕ) (sets : List (Option Aps)) (slots : List SliceSlot) → AllByRecursion (IsSlot k bytes sets) slots
+    → AllByRecursion (IsPlaced bytes) slots
+each_placed k bytes sets [] all = tt
+each_placed k bytes sets (slot ∷ slots) all = (all.0.placed, each_placed k bytes sets slots all.1)
+
+pub each_subpic : (k : BegunPicture) (bytes : List ℕ) (sets : List (Option Aps)) (slots : List SliceSlot) → AllByRecursion (IsSlot k bytes sets) slots
+    → AllByRecursion (λ s. s.header.subpic < length k.sets.layout.subpics) slots
+each_subpic k bytes sets [] all = tt
+each_subpic k bytes sets (slot ∷ slots) all = (all.0.subpic, each_subpic k bytes sets slots all.1)
+
+pub each_there : (k : BegunPicture) (bytes : List ℕ) (sets : List (Option Aps)) (slots : List SliceSlot) → AllByRecursion (IsSlot k bytes sets) slots
+    → AllByRecursion (λ s. AreThere sets (named_by k.sets.pps k.header.fields s.header)) slots
+each_there k bytes sets [] all = tt
+each_there k bytes sets (slot ∷ slots) all = (all.0.bodies, each_there k bytes sets slots all.1)
+
+pub each_qp : (k : BegunPicture) (bytes : List ℕ) (sets : List (Option Aps)) (slots : List SliceSlot) → AllByRecursion (IsSlot k bytes sets) slots
+    → AllByRecursion (λ s. is_qp k.sets.sps (slice_qp k.sets.pps k.header.fields (read_of s.header)) ≡ true) slots
+each_qp k bytes sets [] all = tt
+each_qp k bytes sets (slot ∷ slots) all = (all.0.qp, each_qp k bytes sets slots all.1)
+
+-- ---- the picture
+
+pub going_shows : (c : CurrentPicture) (k : BegunPicture) (kind : Kind) (p : Picture) → IsOrdered c → c.begun ≡ Some k → c.kind ≡ Some kind → IsGoing c p
+    → Shows (parts_by (Some k) (Some kind) c) p
+going_shows c k kind p o begun kind_is goes =
+    let x = header_unit_in c.bytes c.header_end in
+    let b : begun_of k x ≡ p.begun = begun_is c k p.begun begun goes.begun in
+    let head = header_is c k begun o in
+    let slices : map (slice_in c.bytes) c.slices ≡ map (slice_part p.begun) p.slices =
+    slices_shown k x c.bytes c.bodies c.slices (slots_of c k begun o)
+    ∙ ap (λ y. map (slice_part y) (map (slice_of c.bytes) c.slices)) b
+    ∙ ap (λ l. map (slice_part p.begun) l) goes.slices in
+    let kinds : kind ≡ p.kind = same_some kind p.kind (sym kind_is ∙ goes.kind) in
+    let header : k.header ≡ header_of p.begun = head.header ∙ ap header_of b in
+    let ids : k.sets.ids ≡ ids_of p.begun.sps p.begun.pps = head.sets.ids ∙ ap (λ y. ids_of y.sps y.pps) b in
+    let sps : k.sets.sps ≡ p.begun.sps = ap (λ y. y.sps) b in
+    let pps : k.sets.pps ≡ p.begun.pps = ap (λ y. y.pps) b in
+    let layout : k.sets.layout ≡ p.begun.layout = ap (λ y. y.layout) b in
+    let unit : x ≡ p.begun.unit = ap (λ y. y.unit) b in
+    rw (kinds, sps, pps, layout, header, ids, unit, slices, goes.bodies, goes.messages) refl
+
+-- ---- the latest picture
+
+-- a picture is done
+record IsDone (c : Current) : Type 0 where
+  p : Picture
+  now : c ≡ going p
+  whole : is_whole p ≡ true
+
+done_by : (p : Picture) (w : Bool) → is_whole p ≡ w → cond w accepted.PictureDone accepted.Nothing ≡ accepted.PictureDone → IsDone (going p)
+done_by p true is done = record { p = p; now = refl; whole = is }
+done_by p false is done = absurd (let e : accepted.Nothing ≡ accepted.PictureDone = done in cc)
+
+done_going : (c : Current) → done_or_not c ≡ accepted.PictureDone → IsDone c
+done_going nothing done = absurd (let e : accepted.Nothing ≡ accepted.PictureDone = done in cc)
+done_going (headed b) done = absurd (let e : accepted.Nothing ≡ accepted.PictureDone = done in cc)
+done_going (going p) done = done_by p (is_whole p) refl done
+
+-- it is the latest one
+pub record IsLatest (before : List Reading) : Type 0 where
+  pub p : Picture
+  pub earlier : List Picture
+  pub now : current before ≡ going p
+  pub all : pictures before ≡ p ∷ earlier
+
+latest_of : (r : Reading) (before : List Reading) → is_slice r ≡ true → IsDone (current (r ∷ before)) → IsLatest (r ∷ before)
+latest_of r before slice done = record {
+  p = done.p;
+  earlier = pictures before;
+  now = done.now;
+  all = rw (slice, done.now, done.whole) refl;
+}
+
+pub told_latest : (before : List Reading) → last_told before ≡ accepted.PictureDone → IsLatest before
+told_latest [] done = absurd (let e : accepted.Nothing ≡ accepted.PictureDone = done in cc)
+told_latest (dropped ∷ before) done = absurd (let e : accepted.Nothing ≡ accepted.PictureDone = done in cc)
+told_latest (vps_read v ∷ before) done = absurd (let e : accepted.Vps ≡ accepted.PictureDone = done in cc)
+told_latest (sps_read s ∷ before) done = absurd (let e : accepted.Sps (sps_id s) ≡ accepted.PictureDone = done in cc)
+told_latest (pps_read s ∷ before) done = absurd (let e : accepted.Pps (pps_id s) ≡ accepted.PictureDone = done in cc)
+told_latest (aps_read a ∷ before) done = absurd (let e : accepted.Aps a.kind a.id ≡ accepted.PictureDone = done in cc)
+told_latest (messages_read m ∷ before) done = absurd (let e : accepted.Nothing ≡ accepted.PictureDone = done in cc)
+told_latest (header_read b ∷ before) done = absurd (let e : accepted.Nothing ≡ accepted.PictureDone = done in cc)
+told_latest (first_slice b k s ∷ before) done = latest_of (first_slice b k s) before refl (done_going (current (first_slice b k s ∷ before)) done)
+told_latest (next_slice s ∷ before) done = latest_of (next_slice s) before refl (done_going (current (next_slice s ∷ before)) done)
+told_latest (sequence_ended ∷ before) done = absurd (let e : accepted.Nothing ≡ accepted.PictureDone = done in cc)
+
+-- ---- both
+
+shows_by : (c : CurrentPicture) (o : Option BegunPicture) (k : Option Kind) (p : Picture) → IsOrdered c → c.begun ≡ o → c.kind ≡ k → IsGoing c p
+    → Shows (parts_by o k c) p
+shows_by c None k p ordered begun kind goes = absurd (no_begun c p.begun begun goes.begun)
+shows_by c (Some b) None p ordered begun kind goes = absurd (let e : None ≡ Some p.kind = sym kind ∙ goes.kind in cc)
+shows_by c (Some b) (Some k) p ordered begun kind goes = going_shows c b k p ordered begun kind goes
+
+pub lent_latest : (h : Held) (before : List Reading) → IsOrdered h.state.picture → Stands h before → HasPicture h
+    → ShowsLatest (parts_in h.state.picture) (pictures before)
+lent_latest h before ordered stands has =
+    let l = told_latest before (sym stands.told ∙ has) in
+    let c = h.state.picture in
+    let goes : IsGoing c l.p = subst (λ q. Keeps c q) l.now stands.state.picture in
+    subst (λ ps. ShowsLatest (parts_in c) ps) (sym l.all) (shows_by c c.begun c.kind l.p ordered refl refl goes)

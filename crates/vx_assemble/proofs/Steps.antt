@@ -1,0 +1,34 @@
+-- Steps that answer a value or a refusal, and what of them is given.
+use Rattle.std.proofs.Common.{◌≡◌, refl, sym, ◌∙◌, ap, subst, Result, Ok, Err}
+use Rattle.std.specs.Prelude.{Some}
+use Rattle.vx_bits.specs.declared.refusal.Refusal.{Refusal}
+use Rattle.vx_bits.specs.declared.refusal.ReadError.{ReadError}
+use Rattle.vx_bits.specs.declared.refusal.ReadError.TheVariants as errors
+use Rattle.vx_pic.specs.Answers.{◌>>=◌}
+use Rattle.vx_assemble.specs.inner.Takes.{Gives}
+
+pub bind_assoc : {A B C : Type 0} (m : Result A Refusal) (f : A → Result B Refusal) (k : B → Result C Refusal)
+    → ((m >>= f) >>= k) ≡ (m >>= λ x. f x >>= k)
+bind_assoc (Ok a) f k = refl
+bind_assoc (Err r) f k = refl
+
+pub bind_same : {A B : Type 0} (m : Result A Refusal) (f g : A → Result B Refusal) → ((a : A) → f a ≡ g a) → (m >>= f) ≡ (m >>= g)
+bind_same (Ok a) f g same = same a
+bind_same (Err r) f g same = refl
+
+pub same_some : {A : Type 0} (a b : A) → Some a ≡ Some b → a ≡ b
+same_some a b is = cc
+
+-- the first step gives an error
+pub gives_first : {A B : Type 0} (m : Result A Refusal) (f : A → Result B Refusal) (e : ReadError) → Gives m (Err e) → Gives (m >>= f) (Err e)
+gives_first m f errors.Memory is = tt
+gives_first m f (errors.Refused r) is = ap (λ x. x >>= f) is
+
+-- the first step gives a value
+pub gives_then : {A B : Type 0} (m : Result A Refusal) (f : A → Result B Refusal) (a : A) (y : Result B ReadError) → m ≡ Ok a → Gives (f a) y
+    → Gives (m >>= f) y
+gives_then m f a y is then = subst (λ x. Gives (x >>= f) y) (sym is) then
+
+-- of two answers that are the same
+pub gives_same : {A : Type 0} (m n : Result A Refusal) (y : Result A ReadError) → m ≡ n → Gives n y → Gives m y
+gives_same m n y same is = subst (λ x. Gives x y) (sym same) is

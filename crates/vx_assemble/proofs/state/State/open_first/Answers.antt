@@ -1,0 +1,23 @@
+use Rattle.std.proofs.Common.{ap, refl}
+use Rattle.vx_pic.specs.Rules.{opened}
+use Rattle.vx_assemble.specs.inner.Takes.{slice_read_as}
+use Rattle.vx_assemble.proofs.Slicing.{fresh_at, join_refused, first_reads}
+use Rattle.vx_assemble.proofs.state.State.open_first.Goals as goal
+
+pub returns-in-Err-join-clause-answer : goal.returns-in-Err-join-clause-answer
+returns-in-Err-join-clause-answer c R h before held b fresh =
+    let u = c.args.unit in
+    let s = c.args.self.now in
+    join_refused R s before c.args.begun.now b u.bytes.now u.header.nal_type u.header.temporal_id c.in-Ok.kind c.in-Err-join.error held fresh
+    (ap (λ x. x.nal_type) u.heads) (ap (λ x. x.temporal_id) u.heads) c.in-Ok.ensures
+    (c.in-Err-join.ensures.answer R h (opened before b c.in-Ok.kind)
+    (fresh_at _ s.picture before b c.in-Ok.kind s.aps fresh held.aps c.in_ok-bodies.ensures refl c.len.ensures c.len-2.ensures))
+
+pub returns-clause-answer : goal.returns-clause-answer
+returns-clause-answer c R h before held b fresh =
+    let u = c.args.unit in
+    let s = c.args.self.now in
+    first_reads R s before c.args.begun.now b u.bytes.now u.header.nal_type u.header.temporal_id c.in-Ok.kind (slice_read_as u.bytes.now c.in-Ok-join.read)
+    held fresh (ap (λ x. x.nal_type) u.heads) (ap (λ x. x.temporal_id) u.heads) c.in-Ok.ensures
+    (c.in-Ok-join.ensures.answer R h (opened before b c.in-Ok.kind)
+    (fresh_at _ s.picture before b c.in-Ok.kind s.aps fresh held.aps c.in_ok-bodies.ensures refl c.len.ensures c.len-2.ensures))

@@ -1,0 +1,39 @@
+use Rattle.vx_assemble.specs.declared.unit.UnitClass.TheVariants as classes
+use Rattle.vx_assemble.proofs.Taking.{as_class}
+use Rattle.vx_assemble.proofs.state.State.take_class.Goals as goal
+
+pub returns-in-Vps-clause-answer : goal.returns-in-Vps-clause-answer
+returns-in-Vps-clause-answer c R h before held =
+    as_class R c.args.class classes.Vps before c.args.unit.bytes.now c.take_vps.new.self c.take_vps.result c.in-Vps.is (c.take_vps.ensures.answer R h before held)
+
+pub returns-in-Sps-clause-answer : goal.returns-in-Sps-clause-answer
+returns-in-Sps-clause-answer c R h before held =
+    as_class R c.args.class classes.Sps before c.args.unit.bytes.now c.take_sps.new.self c.take_sps.result c.in-Sps.is (c.take_sps.ensures.answer R h before held)
+
+pub returns-in-Pps-clause-answer : goal.returns-in-Pps-clause-answer
+returns-in-Pps-clause-answer c R h before held =
+    as_class R c.args.class classes.Pps before c.args.unit.bytes.now c.take_pps.new.self c.take_pps.result c.in-Pps.is (c.take_pps.ensures.answer R h before held)
+
+pub returns-in-PrefixAps-clause-answer : goal.returns-in-PrefixAps-clause-answer
+returns-in-PrefixAps-clause-answer c R h before held =
+    as_class R c.args.class classes.PrefixAps before c.args.unit.bytes.now c.take_prefix_aps.new.self c.take_prefix_aps.result c.in-PrefixAps.is (c.take_prefix_aps.ensures.answer R h before held)
+
+pub returns-in-SuffixAps-clause-answer : goal.returns-in-SuffixAps-clause-answer
+returns-in-SuffixAps-clause-answer c R h before held =
+    as_class R c.args.class classes.SuffixAps before c.args.unit.bytes.now c.take_suffix_aps.new.self c.take_suffix_aps.result c.in-SuffixAps.is (c.take_suffix_aps.ensures.answer R h before held)
+
+pub returns-in-Header-clause-answer : goal.returns-in-Header-clause-answer
+returns-in-Header-clause-answer c R h before held =
+    as_class R c.args.class classes.Header before c.args.unit.bytes.now c.take_header.new.self c.take_header.result c.in-Header.is (c.take_header.ensures.answer R h before held)
+
+pub returns-in-Slice-clause-answer : goal.returns-in-Slice-clause-answer
+returns-in-Slice-clause-answer c R h before held =
+    as_class R c.args.class classes.Slice before c.args.unit.bytes.now c.take_slice.new.self c.take_slice.result c.in-Slice.is (c.take_slice.ensures.answer R h before held)
+
+pub returns-in-End-clause-answer : goal.returns-in-End-clause-answer
+returns-in-End-clause-answer c R h before held =
+    as_class R c.args.class classes.End before c.args.unit.bytes.now c.take_end.new.self c.take_end.result c.in-End.is (c.take_end.ensures.answer R c.args.unit.bytes.now h before held)
+
+pub returns-in-Sei-clause-answer : goal.returns-in-Sei-clause-answer
+returns-in-Sei-clause-answer c R h before held =
+    as_class R c.args.class classes.Sei before c.args.unit.bytes.now c.take_sei.new.self c.take_sei.result c.in-Sei.is (c.take_sei.ensures.answer R h before held)

@@ -1,0 +1,23 @@
+use Rattle.std.proofs.Common.{◌<◌, ◌∙◌, sym, ap, subst, Err}
+use Rattle.vx_pic.specs.Readings.{current}
+use Rattle.vx_assemble.specs.inner.Changes.{with_pps}
+use Rattle.vx_assemble.proofs.Taking.{pps_within, failed_pps, took_pps}
+use Rattle.vx_assemble.proofs.state.State.take_pps.Goals as goal
+
+pub returns-then-is_within-clause-answer : goal.returns-then-is_within-clause-answer
+returns-then-is_within-clause-answer c R h before held =
+    pps_within R before c.args.unit.bytes.now c.is_within.result (c.is_within.ensures (current before) held.picture) c.if-is_within.true
+    ∙ ap Err (sym c.structure.ensures)
+
+pub returns-in-Err-clause-answer : goal.returns-in-Err-clause-answer
+returns-in-Err-clause-answer c R h before held =
+    failed_pps R c.args.self.now before c.args.unit.bytes.now c.args.unit.rbsp.now c.in-Err.error c.is_within.result
+    (c.is_within.ensures (current before) held.picture) c.if-is_within.false c.args.unit.spells (c.in-Err.ensures R h)
+
+pub returns-clause-answer : goal.returns-clause-answer
+returns-clause-answer c R h before held =
+    let id = c.pps_id-id.result in
+    took_pps R c.args.self.now c.keep_pps.new.self before c.args.unit.bytes.now c.args.unit.rbsp.now c.in-Ok.pps id c.is_within.result
+    (c.is_within.ensures (current before) held.picture) c.if-is_within.false c.args.unit.spells (c.in-Ok.ensures R h) c.pps_id-id.ensures.value
+    (subst (λ n. id < n) (sym c.requires.pps) c.pps_id-id.ensures.few) held
+    (c.keep_pps.ensures ∙ ap (λ x. with_pps id x c.args.self.now) c.in_ok-pps.ensures)

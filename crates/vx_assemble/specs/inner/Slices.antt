@@ -1,0 +1,60 @@
+-- Slices, as they are put to what is kept.
+use Rattle.std.specs.Prelude.{◌≡◌, ℕ, cond, List, [], length, Option, Some, None}
+use Rattle.vx_pic.specs.declared.accepted.Accepted.{Accepted}
+use Rattle.vx_pic.specs.declared.accepted.Accepted.TheVariants as accepted
+use Rattle.vx_pic.specs.declared.kind.Kind.{Kind}
+use Rattle.vx_pic.specs.Readings.{Begun, Reading, first_slice}
+use Rattle.vx_pic.specs.Rules.{unit_size}
+use Rattle.vx_assemble.specs.declared.readers.ReadSlice.{ReadSlice}
+use Rattle.vx_assemble.specs.declared.slices.Opened.{Opened}
+use Rattle.vx_assemble.specs.declared.slices.Whole.{Whole}
+use Rattle.vx_assemble.specs.declared.state.BegunPicture.{BegunPicture}
+use Rattle.vx_assemble.specs.declared.state.CurrentPicture.{CurrentPicture}
+use Rattle.vx_assemble.specs.declared.state.State.{State}
+use Rattle.vx_assemble.specs.inner.Held.{begun_of}
+use Rattle.vx_assemble.specs.inner.Takes.{slice_read_as}
+use Rattle.vx_assemble.specs.inner.Joining.{IsJoined}
+use Rattle.vx_assemble.specs.inner.Changes.{with_kind, with_slice, with_begun_picture, counts_behind, came_all, settled}
+
+-- a picture of which no slice came
+pub record IsFresh (c : CurrentPicture) (k : BegunPicture) (b : Begun) : Type 0 where
+  pub begun : begun_of k b.unit ≡ b
+  pub slices : c.slices ≡ []
+  pub size : length c.bytes ≡ unit_size b.unit
+
+-- the first slice as it is read
+abbrev pub first_read_as : Begun → List ℕ → Opened → Reading
+first_read_as b unit o = first_slice b o.kind (slice_read_as unit o.read)
+
+-- a slice has joined the picture
+abbrev pub HasJoined : CurrentPicture → ℕ → ReadSlice → Type 0
+HasJoined c size r = (k : BegunPicture) → c.begun ≡ Some k → IsJoined k c.bodies size r
+
+abbrev pub HasJoinedFirst : CurrentPicture → ℕ → Opened → Type 0
+HasJoinedFirst c size o = (k : BegunPicture) → c.begun ≡ Some k → IsJoined k o.bodies size o.read
+
+-- with what a picture begins with
+abbrev pub with_first : List ℕ → Opened → State → State
+with_first unit o s = with_begun_picture (with_slice unit o.read (with_kind o.kind o.bodies s.gathered s.picture)) s
+
+-- whether a picture is done is told, and kept
+abbrev pub told_settled : BegunPicture → CurrentPicture → Accepted
+told_settled k c = cond (came_all k c) accepted.PictureDone accepted.Nothing
+
+pub record IsSettled (old new : State) (what : Accepted) : Type 0 where
+  pub begun : BegunPicture
+  pub kind : Kind
+  pub begun_is : old.picture.begun ≡ Some begun
+  pub kind_is : old.picture.kind ≡ Some kind
+  pub new_is : new ≡ settled begun kind old
+  pub told : what ≡ told_settled begun old.picture
+
+-- what later pictures come to behind the picture that was begun, where all its slices came
+pub record IsWholeOf (s : State) (given : Option Whole) : Type 0 where
+  pub begun : BegunPicture
+  pub kind : Kind
+  pub begun_is : s.picture.begun ≡ Some begun
+  pub kind_is : s.picture.kind ≡ Some kind
+  pub given_is :
+      given
+      ≡ cond (came_all begun s.picture) (Some (record { sets = begun.sets; previous = counts_behind begun kind s.previous })) None

@@ -1,0 +1,284 @@
+//! Units taken, by their type.
+ghost use Rattle.std.specs.Prelude.{◌≡◌, ◌<◌, ℕ, List, drop, IfOk};
+ghost use Rattle.vx_annexb.specs.ByteStream.{IsSound};
+ghost use Rattle.vx_pic.specs.declared.accepted.Accepted.TheVariants.{PictureDone};
+ghost use Rattle.vx_pic.specs.Readings.{Reading};
+ghost use Rattle.vx_pic.specs.Rules.{Readers, reads, reads_as};
+ghost use Rattle.vx_pic.specs.Units as units;
+ghost use Rattle.vx_pic.specs.Sets as sets;
+ghost use Rattle.vx_pic.specs.H266.{AreOfH266};
+ghost use Rattle.vx_assemble.specs.inner.Held.{IsHeld};
+ghost use Rattle.vx_assemble.specs.inner.Held as held;
+ghost use Rattle.vx_assemble.specs.inner.Order.{IsInOrder, IsComplete};
+ghost use Rattle.vx_assemble.specs.inner.Takes.{TakesUnit};
+ghost use Rattle.vx_assemble.specs.inner.Classes.{class_seen};
+
+use crate::readers::{aps_of, messages_of, pps_of, sps_of, vps_of};
+use crate::refusals::structure;
+use crate::shared::Shared;
+use crate::state::State;
+use crate::unit::{NalUnit, UnitClass, class_of};
+use std::alloc::{AllocError, Global};
+use std::rc::Rc;
+use vx_annexb::{read_header, unescape};
+use vx_aps::Aps;
+use vx_bits::rules::{SET_INSIDE_PICTURE, SEVERAL_LAYERS, SLICE_MISSING};
+use vx_bits::{Fields, Item, ReadError, Refusal};
+use vx_fields::aps::{aps_adaptation_parameter_set_id, aps_params_type};
+use vx_fields::pps::pps_pic_parameter_set_id;
+use vx_fields::sps::sps_seq_parameter_set_id;
+use vx_pic::Accepted;
+use vx_pps::Pps;
+use vx_sps::Sps;
+
+/// The items that tell an APS: its type and its id.
+fn aps_items(alloc: Global, aps: &Aps) -> Result<Fields, AllocError>
+    ensures { IfOk result (λ items. items ≡ held.aps_items aps.now) }
+{
+    let mut items = Fields::new(alloc);
+    items.push(Item {
+        field: aps_params_type,
+        value: i64::from(aps.kind),
+    })?;
+    items.push(Item {
+        field: aps_adaptation_parameter_set_id,
+        value: i64::from(aps.id),
+    })?;
+    Ok(items)
+}
+
+/// The id of an SPS.
+#[tactic(auto, using(crate::proofs::Ids::sps_below), unfolding(vx_pic::specs::Sets::sps_id))]
+fn sps_id(sps: &Sps) -> u8
+    ensures value { result ≡ sets.sps_id sps.now }
+    ensures few { result < 16 }
+{
+    let _fields = sps.fields();
+    sps.scope().latest(sps_seq_parameter_set_id) as u8
+}
+
+/// The id of a PPS.
+#[tactic(auto, using(crate::proofs::Ids::pps_below), unfolding(vx_pic::specs::Sets::pps_id))]
+fn pps_id(pps: &Pps) -> u8
+    ensures value { result ≡ sets.pps_id pps.now }
+    ensures few { result < 64 }
+{
+    let _fields = pps.fields();
+    pps.scope().latest(pps_pic_parameter_set_id) as u8
+}
+
+/// The bytes behind the header.
+fn behind_header(bytes: &[u8]) -> &[u8]
+    ensures { result.now ≡ drop 2 bytes.now }
+{
+    if bytes.len() < 2 { &[] } else { &bytes[2..] }
+}
+
+impl State {
+    /// Takes a VPS.
+    #[tactic(auto, using(crate::proofs::Taking::took_vps, crate::proofs::Taking::failed_vps))]
+    fn take_vps(&mut self, alloc: Global, unit: NalUnit<'_>) -> Result<Accepted, ReadError>
+        requires { IsInOrder self.old }
+        ensures answer { (R : Readers) → AreOfH266 R → (before : List Reading) → IsHeld self.old before
+            → TakesUnit (reads_as R units.vps_unit before unit.entry.bytes.now) before self.new result }
+        ensures order { IsInOrder self.new }
+        ensures quiet { IfOk result (λ what. what ≡ PictureDone → ⊥) }
+    {
+        let items = vps_of(alloc, unit.rbsp)?;
+        self.keep_items(items);
+        Ok(Accepted::Vps)
+    }
+
+    /// Takes an SPS.
+    #[tactic(auto, using(crate::proofs::Taking::took_sps, crate::proofs::Taking::failed_sps, crate::proofs::Taking::sps_within))]
+    fn take_sps(&mut self, alloc: Global, unit: NalUnit<'_>) -> Result<Accepted, ReadError>
+        requires { IsInOrder self.old }
+        ensures answer { (R : Readers) → AreOfH266 R → (before : List Reading) → IsHeld self.old before
+            → TakesUnit (reads_as R units.sps_unit before unit.entry.bytes.now) before self.new result }
+        ensures order { IsInOrder self.new }
+        ensures quiet { IfOk result (λ what. what ≡ PictureDone → ⊥) }
+    {
+        if self.picture.is_within() {
+            return Err(ReadError::Refused(structure(SET_INSIDE_PICTURE)));
+        }
+        let sps = match sps_of(alloc, unit.rbsp) {
+            Ok(sps) => sps,
+            Err(error) => return Err(error),
+        };
+        let id = sps_id(&sps);
+        let sps = Shared::new(alloc, sps)?;
+        self.keep_sps(id, sps);
+        Ok(Accepted::Sps(id))
+    }
+
+    /// Takes a PPS.
+    #[tactic(auto, using(crate::proofs::Taking::took_pps, crate::proofs::Taking::failed_pps, crate::proofs::Taking::pps_within))]
+    fn take_pps(&mut self, alloc: Global, unit: NalUnit<'_>) -> Result<Accepted, ReadError>
+        requires { IsInOrder self.old }
+        ensures answer { (R : Readers) → AreOfH266 R → (before : List Reading) → IsHeld self.old before
+            → TakesUnit (reads_as R units.pps_unit before unit.entry.bytes.now) before self.new result }
+        ensures order { IsInOrder self.new }
+        ensures quiet { IfOk result (λ what. what ≡ PictureDone → ⊥) }
+    {
+        if self.picture.is_within() {
+            return Err(ReadError::Refused(structure(SET_INSIDE_PICTURE)));
+        }
+        let pps = match pps_of(alloc, unit.rbsp) {
+            Ok(pps) => pps,
+            Err(error) => return Err(error),
+        };
+        let id = pps_id(&pps);
+        let pps = Shared::new(alloc, pps)?;
+        self.keep_pps(id, pps);
+        Ok(Accepted::Pps(id))
+    }
+
+    /// Takes an APS, wherever it may stand.
+    #[tactic(auto, using(crate::proofs::Taking::took_aps, crate::proofs::Taking::failed_aps, crate::proofs::Taking::dropped_aps))]
+    fn take_suffix_aps(&mut self, alloc: Global, unit: NalUnit<'_>) -> Result<Accepted, ReadError>
+        requires { IsInOrder self.old }
+        ensures answer { (R : Readers) → AreOfH266 R → (before : List Reading) → IsHeld self.old before
+            → TakesUnit (reads_as R units.suffix_aps before unit.entry.bytes.now) before self.new result }
+        ensures order { IsInOrder self.new }
+        ensures quiet { IfOk result (λ what. what ≡ PictureDone → ⊥) }
+    {
+        let Some(aps) = aps_of(alloc, unit.rbsp)? else {
+            return Ok(Accepted::Nothing);
+        };
+        let items = aps_items(alloc, &aps)?;
+        let told = Accepted::Aps(aps.kind, aps.id);
+        let Ok(aps) = Rc::new(alloc, aps) else {
+            return Err(ReadError::Memory);
+        };
+        self.keep_aps(aps, items);
+        Ok(told)
+    }
+
+    /// Takes an APS that has to stand before slices.
+    #[tactic(auto, using(crate::proofs::Taking::took_prefix, crate::proofs::Taking::aps_within))]
+    fn take_prefix_aps(&mut self, alloc: Global, unit: NalUnit<'_>) -> Result<Accepted, ReadError>
+        requires { IsInOrder self.old }
+        ensures answer { (R : Readers) → AreOfH266 R → (before : List Reading) → IsHeld self.old before
+            → TakesUnit (reads_as R units.prefix_aps before unit.entry.bytes.now) before self.new result }
+        ensures order { IsInOrder self.new }
+        ensures quiet { IfOk result (λ what. what ≡ PictureDone → ⊥) }
+    {
+        if self.picture.is_within() {
+            return Err(ReadError::Refused(structure(SET_INSIDE_PICTURE)));
+        }
+        self.take_suffix_aps(alloc, unit)
+    }
+
+    /// Takes the end of a sequence, or of the bitstream.
+    #[tactic(auto, using(crate::proofs::Taking::took_end, crate::proofs::Taking::end_open))]
+    fn take_end(&mut self) -> Result<Accepted, ReadError>
+        requires { IsInOrder self.old }
+        ensures answer { (R : Readers) (u : List ℕ) → AreOfH266 R → (before : List Reading) → IsHeld self.old before
+            → TakesUnit (reads_as R units.end_unit before u) before self.new result }
+        ensures order { IsInOrder self.new }
+        ensures quiet { IfOk result (λ what. what ≡ PictureDone → ⊥) }
+    {
+        if self.picture.is_open() {
+            return Err(ReadError::Refused(structure(SLICE_MISSING)));
+        }
+        self.keep_end();
+        Ok(Accepted::Nothing)
+    }
+
+    /// Takes a PH unit.
+    #[tactic(auto, using(crate::proofs::Taking::took_header, crate::proofs::Taking::failed_header, crate::proofs::Taking::header_open))]
+    fn take_header(&mut self, alloc: Global, unit: NalUnit<'_>) -> Result<Accepted, ReadError>
+        requires { IsInOrder self.old }
+        ensures answer { (R : Readers) → AreOfH266 R → (before : List Reading) → IsHeld self.old before
+            → TakesUnit (reads_as R units.header_unit before unit.entry.bytes.now) before self.new result }
+        ensures order { IsInOrder self.new }
+        ensures quiet { IfOk result (λ what. what ≡ PictureDone → ⊥) }
+    {
+        if self.picture.is_open() {
+            return Err(ReadError::Refused(structure(SLICE_MISSING)));
+        }
+        let begun = match self.begin(alloc, unit, false) {
+            Ok(begun) => begun,
+            Err(error) => return Err(error),
+        };
+        self.picture.start(alloc, begun, unit.bytes)?;
+        Ok(Accepted::Nothing)
+    }
+
+    /// Takes supplemental enhancement information.
+    fn take_sei(&mut self, _alloc: Global, unit: NalUnit<'_>) -> Result<Accepted, ReadError>
+        requires { IsInOrder self.old }
+        ensures answer { (R : Readers) → AreOfH266 R → (before : List Reading) → IsHeld self.old before
+            → TakesUnit (reads_as R units.sei_unit before unit.entry.bytes.now) before self.new result }
+        ensures order { IsInOrder self.new }
+        ensures quiet { IfOk result (λ what. what ≡ PictureDone → ⊥) }
+    {
+        let _ = unit;
+        Err(ReadError::Memory)
+    }
+
+    /// Takes a unit of a class.
+    fn take_class(
+        &mut self,
+        alloc: Global,
+        class: UnitClass,
+        unit: NalUnit<'_>,
+    ) -> Result<Accepted, ReadError>
+        requires { IsInOrder self.old }
+        ensures answer { (R : Readers) → AreOfH266 R → (before : List Reading) → IsHeld self.old before
+            → TakesUnit (reads_as R (class_seen class) before unit.entry.bytes.now) before self.new result }
+        ensures order { IsInOrder self.new }
+        ensures done { IfOk result (λ what. what ≡ PictureDone → IsComplete self.new.picture) }
+    {
+        match class {
+            UnitClass::Other => Ok(Accepted::Nothing),
+            UnitClass::Vps => self.take_vps(alloc, unit),
+            UnitClass::Sps => self.take_sps(alloc, unit),
+            UnitClass::Pps => self.take_pps(alloc, unit),
+            UnitClass::PrefixAps => self.take_prefix_aps(alloc, unit),
+            UnitClass::SuffixAps => self.take_suffix_aps(alloc, unit),
+            UnitClass::Header => self.take_header(alloc, unit),
+            UnitClass::Slice => self.take_slice(alloc, unit),
+            UnitClass::End => self.take_end(),
+            UnitClass::Sei => self.take_sei(alloc, unit),
+        }
+    }
+
+    /// Takes a unit.
+    ///
+    /// # Errors
+    ///
+    /// The rule that it breaks behind those before it; want of memory.
+    #[tactic(auto, unfolding(vx_pic::specs::Units::rbsp_of, vx_pic::specs::Units::is_reserved))]
+    pub(crate) fn take(&mut self, alloc: Global, unit: &[u8]) -> Result<Accepted, ReadError>
+        requires order { IsInOrder self.old }
+        requires sound { IsSound unit.now }
+        ensures answer { (R : Readers) → AreOfH266 R → (before : List Reading) → IsHeld self.old before
+            → TakesUnit (reads R before unit.now) before self.new result }
+        ensures order { IsInOrder self.new }
+        ensures done { IfOk result (λ what. what ≡ PictureDone → IsComplete self.new.picture) }
+    {
+        let Some(header) = read_header(unit) else {
+            unreachable!()
+        };
+        if header.reserved {
+            return Ok(Accepted::Nothing);
+        }
+        if header.layer_id != 0 {
+            return Err(ReadError::Refused(Refusal::Profile {
+                code: SEVERAL_LAYERS,
+            }));
+        }
+        let class = class_of(header.nal_type);
+        if class == UnitClass::Other {
+            return Ok(Accepted::Nothing);
+        }
+        let bytes = unescape(alloc, unit)?;
+        let read = NalUnit {
+            bytes: unit,
+            header,
+            rbsp: behind_header(&bytes),
+        };
+        self.take_class(alloc, class, read)
+    }
+}
