@@ -16,3 +16,8 @@ pub mod Slots
 pub mod Settling
 pub mod Slicing
 pub mod Lending
+pub mod Answers
+pub mod Gathered
+pub mod Messages
+pub mod Small
+pub mod ReadUnder

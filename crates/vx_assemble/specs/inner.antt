@@ -11,3 +11,4 @@ pub mod Opening
 pub mod Changes
 pub mod Slices
 pub mod Lent
+pub mod Answered

@@ -9,6 +9,7 @@ mod begin;
 mod current;
 mod fault;
 mod first_slice;
+mod gather;
 mod in_force;
 mod join;
 mod keep;

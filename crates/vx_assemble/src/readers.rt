@@ -1,26 +1,43 @@
 //! Sets and headers read.
-ghost use Rattle.std.specs.Prelude.{◌≡◌, ◌≤◌, ◌^◌, length, List, ℕ, Option, IfOk, IfSome};
+ghost use Rattle.std.specs.Prelude.{◌≡◌, ◌+◌, ◌≤◌, ◌^◌, ◌∷◌, [], drop, length, List, ℕ, Option, IsTrue, IfOk, IfSome};
+ghost use Rattle.vx_rpl.specs.HeaderLists.{lists_of};
+ghost use Rattle.vx_ph.specs.InForce.{in_force, structures};
+ghost use Rattle.vx_pic.specs.Sets as sets;
+ghost use Rattle.vx_assemble.specs.inner.Headers.{as_told};
+ghost use Rattle.vx_assemble.specs.inner.Takes.{AreSmall};
+ghost use Rattle.vx_assemble.specs.inner.Joining.{names_in};
 ghost use Rattle.vx_aps.specs.Aps.{IsValid};
 ghost use Rattle.vx_pic.specs.PictureLayout as pictures;
 ghost use Rattle.vx_pic.specs.PictureLayout.{numbers_in};
 ghost use Rattle.vx_pic.specs.Rules.{Readers};
-ghost use Rattle.vx_pic.specs.H266.{AreOfH266};
+ghost use Rattle.vx_pic.specs.H266.{AreOfH266, header_place};
+ghost use Rattle.vx_pic.specs.Readings.{Begun};
+ghost use Rattle.vx_pic.specs.Units.{rbsp_of};
+ghost use Rattle.vx_assemble.specs.inner.Answered.{slice_seen, AreOfBegun};
 ghost use Rattle.vx_assemble.specs.inner.Held.{begun_of};
 ghost use Rattle.vx_assemble.specs.inner.Headers.{IsHeaderUnder};
 ghost use Rattle.vx_assemble.specs.inner.Order.{IsHeader};
 ghost use Rattle.vx_assemble.specs.inner.Takes.{Gives, answer_by, header_read_as, IsReadUnder};
 
+use crate::numbers::number;
 use crate::state::BegunPicture;
 use crate::unit::NalUnit;
 use std::alloc::{AllocError, Global};
-use vx_aps::Aps;
-use vx_bits::{Fields, IdList, ReadError};
+use vx_annexb::unit_place;
+use vx_aps::{ALF, Aps, LMCS, SCALING, one_answer, read_aps};
+use vx_bits::{BitReader, Fields, IdList, Item, ReadError};
+use vx_fields::alf::{alf_aps_id_chroma, alf_aps_id_luma, alf_cc_cb_aps_id, alf_cc_cr_aps_id};
+use vx_fields::ph::{ph_lmcs_aps_id, ph_scaling_list_aps_id};
+use vx_fields::sh::{sh_picture_header_in_slice_header_flag, sh_slice_address};
 use vx_layout::Layout;
-use vx_ph::PictureHeader;
-use vx_pps::Pps;
-use vx_sei::MessageList;
-use vx_sh::SliceHeader;
-use vx_sps::Sps;
+use vx_ph::{PictureHeader, read_ph, read_ph_unit, read_pps_id};
+use vx_pic::{picture_ids, picture_layout};
+use vx_pps::{Pps, read_pps};
+use vx_ptl::read_vps;
+use vx_sei::{MessageList, read_sei};
+use vx_sh::{SliceHeader, SliceNumbers, read_sh};
+use vx_sps::{Sps, read_sps};
+use vx_table::natural;
 
 /// A slice header, and the place in its unit behind it.
 #[derive(Drop)]
@@ -32,98 +49,264 @@ pub(crate) struct ReadSlice {
 }
 
 /// The items of a VPS.
-pub(crate) fn vps_of(_alloc: Global, _rbsp: &[u8]) -> Result<Fields, ReadError>
-    requires { length _rbsp.now ≤ 2 ^ 23 }
-    ensures { (R : Readers) → AreOfH266 R → Gives (R.vps _rbsp.now) result }
+pub(crate) fn vps_of(alloc: Global, rbsp: &[u8]) -> Result<Fields, ReadError>
+    requires { length rbsp.now ≤ 2 ^ 23 }
+    ensures { (R : Readers) → AreOfH266 R → Gives (R.vps rbsp.now) result }
 {
-    Err(ReadError::Memory)
+    read_vps(alloc, rbsp)
 }
 
 /// An SPS.
-pub(crate) fn sps_of(_alloc: Global, _rbsp: &[u8]) -> Result<Sps, ReadError>
-    requires { length _rbsp.now ≤ 2 ^ 23 }
-    ensures { (R : Readers) → AreOfH266 R → Gives (R.sps _rbsp.now) result }
+pub(crate) fn sps_of(alloc: Global, rbsp: &[u8]) -> Result<Sps, ReadError>
+    requires { length rbsp.now ≤ 2 ^ 23 }
+    ensures { (R : Readers) → AreOfH266 R → Gives (R.sps rbsp.now) result }
 {
-    Err(ReadError::Memory)
+    read_sps(alloc, rbsp)
 }
 
 /// A PPS.
-pub(crate) fn pps_of(_alloc: Global, _rbsp: &[u8]) -> Result<Pps, ReadError>
-    requires { length _rbsp.now ≤ 2 ^ 23 }
-    ensures { (R : Readers) → AreOfH266 R → Gives (R.pps _rbsp.now) result }
+pub(crate) fn pps_of(alloc: Global, rbsp: &[u8]) -> Result<Pps, ReadError>
+    requires { length rbsp.now ≤ 2 ^ 23 }
+    ensures { (R : Readers) → AreOfH266 R → Gives (R.pps rbsp.now) result }
 {
-    Err(ReadError::Memory)
+    read_pps(alloc, rbsp)
 }
 
 /// An APS, or none where it is of a type that is dropped.
-pub(crate) fn aps_of(_alloc: Global, _rbsp: &[u8]) -> Result<Option<Aps>, ReadError>
-    requires { length _rbsp.now ≤ 2 ^ 23 }
-    ensures answer { (R : Readers) → AreOfH266 R → Gives (R.aps _rbsp.now) result }
+pub(crate) fn aps_of(alloc: Global, rbsp: &[u8]) -> Result<Option<Aps>, ReadError>
+    requires { length rbsp.now ≤ 2 ^ 23 }
+    ensures answer { (R : Readers) → AreOfH266 R → Gives (R.aps rbsp.now) result }
     ensures valid { IfOk result (λ aps. IfSome aps IsValid) }
 {
-    Err(ReadError::Memory)
+    one_answer();
+    read_aps(alloc, rbsp)
 }
 
 /// The messages of an SEI RBSP that are carried.
-pub(crate) fn messages_of(_alloc: Global, _rbsp: &[u8]) -> Result<MessageList, AllocError>
-    requires { length _rbsp.now ≤ 2 ^ 23 }
-    ensures { (R : Readers) → AreOfH266 R → IfOk result (λ messages. messages ≡ R.sei _rbsp.now) }
+pub(crate) fn messages_of(alloc: Global, rbsp: &[u8]) -> Result<MessageList, AllocError>
+    requires { length rbsp.now ≤ 2 ^ 23 }
+    ensures { (R : Readers) → AreOfH266 R → IfOk result (λ messages. messages ≡ R.sei rbsp.now) }
 {
-    Err(AllocError)
+    let carried = read_sei(alloc, rbsp)?;
+    Ok(carried.unwrap_or(MessageList::new(alloc)))
 }
 
 /// The layout that two sets make up.
-pub(crate) fn layout_of(_alloc: Global, _sps: &Sps, _pps: &Pps) -> Result<Layout, ReadError>
-    ensures answer { (R : Readers) → AreOfH266 R → Gives (R.layout _sps.now _pps.now) result }
-    ensures numbers { IfOk result (λ layout. layout ≡ numbers_in _sps.now _pps.now) }
+pub(crate) fn layout_of(alloc: Global, sps: &Sps, pps: &Pps) -> Result<Layout, ReadError>
+    ensures answer { (R : Readers) → AreOfH266 R → Gives (R.layout sps.now pps.now) result }
+    ensures numbers { IfOk result (λ layout. layout ≡ numbers_in sps.now pps.now) }
     ensures few { IfOk result (λ layout. length layout.slices ≤ 1000) }
 {
-    Err(ReadError::Memory)
+    picture_layout(alloc, sps, pps)
 }
 
 /// The ids of the subpictures of two sets.
-pub(crate) fn ids_of(_alloc: Global, _sps: &Sps, _pps: &Pps) -> Result<IdList, AllocError>
-    ensures ids { IfOk result (λ ids. ids ≡ pictures.ids_of _sps.now _pps.now) }
-    ensures one_each { IfOk result (λ ids. length ids ≡ length (numbers_in _sps.now _pps.now).subpics) }
+#[tactic(auto, using(crate::proofs::Small::one_each))]
+pub(crate) fn ids_of(alloc: Global, sps: &Sps, pps: &Pps) -> Result<IdList, AllocError>
+    ensures ids { IfOk result (λ ids. ids ≡ pictures.ids_of sps.now pps.now) }
+    ensures one_each { IfOk result (λ ids. length ids ≡ length (numbers_in sps.now pps.now).subpics) }
 {
-    Err(AllocError)
+    let ids = picture_ids(alloc, sps, pps)?;
+    if ids.len() != sps.subpics() as usize {
+        // no two sets that make up a layout
+        return Err(AllocError);
+    }
+    Ok(ids)
+}
+
+/// Takes the bit that comes next, where there is one.
+fn skip_bit(bits: &mut BitReader<'_>)
+    ensures left { bits.new.left ≡ drop 1 bits.old.left }
+    ensures total { bits.new.total ≡ bits.old.total }
+{
+    let _bit = bits.u(1);
+}
+
+/// The bits from a picture header on, which in a slice stands behind the first bit (H.266 7.3.7).
+#[tactic(auto, using(crate::proofs::Answers::behind_bit, crate::proofs::Answers::at_first))]
+fn header_bits(inside: bool, rbsp: &[u8]) -> BitReader<'_>
+    requires { length rbsp.now ≤ 2 ^ 23 }
+    ensures { result ≡ header_place inside rbsp.now }
+{
+    let mut bits = BitReader::new(rbsp);
+    if inside {
+        skip_bit(&mut bits);
+    }
+    bits
 }
 
 /// ph_pic_parameter_set_id of a picture header, which may stand inside a slice.
-pub(crate) fn referred_pps(_inside: bool, _rbsp: &[u8]) -> Result<u8, ReadError>
-    requires { length _rbsp.now ≤ 2 ^ 23 }
-    ensures { (R : Readers) → AreOfH266 R → Gives (R.referred_pps _inside _rbsp.now) result }
+pub(crate) fn referred_pps(inside: bool, rbsp: &[u8]) -> Result<u8, ReadError>
+    requires { length rbsp.now ≤ 2 ^ 23 }
+    ensures { (R : Readers) → AreOfH266 R → Gives (R.referred_pps inside rbsp.now) result }
 {
-    Err(ReadError::Memory)
+    let mut bits = header_bits(inside, rbsp);
+    match read_pps_id(&mut bits) {
+        Ok(id) => Ok(id),
+        Err(refusal) => Err(ReadError::Refused(refusal)),
+    }
 }
 
 /// A picture header, which may stand inside a slice, under its sets.
 pub(crate) fn header_of(
-    _alloc: Global,
-    _inside: bool,
-    _sps: &Sps,
-    _pps: &Pps,
-    _rbsp: &[u8],
+    alloc: Global,
+    inside: bool,
+    sps: &Sps,
+    pps: &Pps,
+    rbsp: &[u8],
 ) -> Result<PictureHeader, ReadError>
-    requires { length _rbsp.now ≤ 2 ^ 23 }
+    requires { length rbsp.now ≤ 2 ^ 23 }
     ensures answer { (R : Readers) → AreOfH266 R
-        → Gives (R.header _inside _sps.now _pps.now _rbsp.now) (answer_by (λ header. header.fields) result) }
-    ensures made { IfOk result (IsHeaderUnder _sps.now _pps.now) }
+        → Gives (R.header inside sps.now pps.now rbsp.now) (answer_by (λ header. header.fields) result) }
+    ensures made { IfOk result (IsHeaderUnder sps.now pps.now) }
 {
-    Err(ReadError::Memory)
+    if !inside {
+        return read_ph_unit(alloc, rbsp, sps, pps);
+    }
+    let mut bits = header_bits(true, rbsp);
+    read_ph(alloc, &mut bits, sps, pps)
+}
+
+/// The header of a slice, whose unit has this RBSP, and the place in the unit behind it.
+pub(crate) fn read_slice(
+    alloc: Global,
+    unit: &[u8],
+    rbsp: &[u8],
+    numbers: &SliceNumbers<'_>,
+) -> Result<(SliceHeader, usize), ReadError>
+    requires spells { rbsp.now ≡ rbsp_of unit.now }
+    requires size { length rbsp.now ≤ 2 ^ 23 }
+    requires few { length numbers.now.ids.now ≤ 1000 }
+    requires one_each { length numbers.now.ids.now ≡ length numbers.now.layout.now.subpics }
+    ensures answer { (R : Readers) → AreOfH266 R → (b : Begun) → AreOfBegun numbers.now b
+        → Gives (R.slice numbers.now.nal_type b unit.now) (answer_by slice_seen result) }
+    ensures lists { IfOk result (λ read. read.0.lists ≡ lists_of (structures numbers.now.sps.now) (in_force numbers.now.sps.now numbers.now.pps.now) read.0.fields) }
+{
+    let (header, size) = read_sh(alloc, rbsp, numbers)?;
+    let payload = unit_place(unit, 2 + size);
+    Ok((header, payload))
+}
+
+/// Whether the set that an item names, where it is of this field, has an id that one can have.
+#[tactic(auto, using(crate::proofs::Small::small_other, crate::proofs::Small::small_here))]
+fn is_small(_kind: u8, field: u16, item: Item) -> bool
+    ensures { IsTrue result → AreSmall (sets.named _kind field (item ∷ [])) }
+{
+    if item.field != field {
+        return true;
+    }
+    natural(item.value) < 8
+}
+
+/// Whether no set that a field names has an id that none can have.
+#[tactic(auto, using(crate::proofs::Small::small_none, crate::proofs::Small::small_more, crate::proofs::Small::small_all))]
+fn are_small(kind: u8, field: u16, fields: &Fields) -> bool
+    ensures { IsTrue result → AreSmall (sets.named kind field fields.now) }
+{
+    for i in 0..fields.len() {
+        let item = fields.item(i);
+        if !is_small(kind, field, item) {
+            return false;
+        }
+    }
+    true
+}
+
+/// Whether no filter that items name has such an id.
+#[tactic(auto, using(crate::proofs::Small::small_filters))]
+fn have_small_filters(items: &Fields) -> bool
+    ensures { IsTrue result → AreSmall (sets.named_filters items.now) }
+{
+    if !are_small(ALF, alf_aps_id_luma, items) {
+        return false;
+    }
+    if !are_small(ALF, alf_aps_id_chroma, items) {
+        return false;
+    }
+    if !are_small(ALF, alf_cc_cb_aps_id, items) {
+        return false;
+    }
+    are_small(ALF, alf_cc_cr_aps_id, items)
+}
+
+/// Whether no set that a slice names has such an id.
+#[tactic(auto, using(crate::proofs::Small::small_names))]
+fn have_small_names(pps: &Pps, header: &Fields, slice: &Fields) -> bool
+    ensures { IsTrue result → AreSmall (names_in pps.now header.now slice.now) }
+{
+    if !have_small_filters(header) {
+        return false;
+    }
+    if !have_small_filters(slice) {
+        return false;
+    }
+    if !are_small(LMCS, ph_lmcs_aps_id, header) {
+        return false;
+    }
+    are_small(SCALING, ph_scaling_list_aps_id, header)
+}
+
+/// A slice header as its items tell it, with these lists.
+#[tactic(auto, unfolding(vx_pic::specs::Sets::address_of))]
+fn told(header: SliceHeader) -> SliceHeader
+    ensures { result ≡ as_told header }
+{
+    let inside = number(&header.fields, sh_picture_header_in_slice_header_flag) != 0;
+    let address = number(&header.fields, sh_slice_address);
+    SliceHeader {
+        inside,
+        fields: header.fields,
+        subpic: header.subpic,
+        address,
+        lists: header.lists,
+    }
 }
 
 /// The header of a slice of a picture, whose first slice is of this type.
+///
+/// # Errors
+///
+/// The first refusal; want of memory.
 pub(crate) fn slice_of(
-    _alloc: Global,
-    _nal_type: u8,
-    _begun: &BegunPicture,
-    _unit: NalUnit<'_>,
+    alloc: Global,
+    nal_type: u8,
+    begun: &BegunPicture,
+    unit: NalUnit<'_>,
 ) -> Result<ReadSlice, ReadError>
-    requires { IsHeader _begun.now }
-    ensures answer { (R : Readers) → AreOfH266 R → (unit : Option (List ℕ))
-        → Gives (R.slice _nal_type (begun_of _begun.now unit) _unit.entry.bytes.now) (answer_by header_read_as result) }
-    ensures made { IfOk result (IsReadUnder _begun.now) }
+    requires { IsHeader begun.now }
+    ensures answer { (R : Readers) → AreOfH266 R → (head : Option (List ℕ))
+        → Gives (R.slice nal_type (begun_of begun.now head) unit.entry.bytes.now) (answer_by header_read_as result) }
+    ensures made { IfOk result (IsReadUnder begun.now) }
 {
-    Err(ReadError::Memory)
+    let sets = begun.sets.value();
+    let sps = sets.sps.value();
+    let pps = sets.pps.value();
+    let numbers = SliceNumbers {
+        nal_type,
+        sps,
+        pps,
+        header: &begun.header,
+        layout: &sets.layout,
+        ids: &sets.ids,
+    };
+    if sets.ids.len() > 1000 {
+        // no layout has as many
+        return Err(ReadError::Memory);
+    }
+    let (header, payload) = match read_slice(alloc, unit.bytes, unit.rbsp, &numbers) {
+        Ok((header, payload)) => (header, payload),
+        Err(error) => return Err(error),
+    };
+    if header.subpic as usize >= sets.ids.len() {
+        // each id that is read is one of these
+        return Err(ReadError::Memory);
+    }
+    if !have_small_names(pps, &begun.header.fields, &header.fields) {
+        // ids have three bits
+        return Err(ReadError::Memory);
+    }
+    Ok(ReadSlice {
+        header: told(header),
+        payload,
+    })
 }
