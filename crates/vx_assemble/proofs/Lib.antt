@@ -21,3 +21,7 @@ pub mod Slots
 pub mod Settling
 pub mod Slicing
 pub mod Lending
+pub mod Gathered
+pub mod Messages
+pub mod Small
+pub mod ReadUnder

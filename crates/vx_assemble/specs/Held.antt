@@ -1,12 +1,14 @@
 -- An assembler, as its callers see it: by these words, and by the relation `Stands` between it and what the units that it took were
 -- read as. That relation begins with no units; `Takes` says what it is worth.
-use Rattle.std.specs.Prelude.{◌≡◌, List, [], ◌∷◌, Option, Some, None, Result, Ok, Err, ℕ, length}
+use Rattle.std.specs.Prelude.{◌≡◌, ◌≤◌, ℕ, length, List, [], ◌∷◌, Option, Some, None, Result, Ok, Err}
 use Rattle.vx_bits.specs.declared.list.Item.{Item}
 use Rattle.vx_bits.specs.declared.refusal.Refusal.{Refusal}
+use Rattle.vx_sei.specs.Sei.{spelled_length}
 use Rattle.vx_pic.specs.declared.accepted.Accepted.{Accepted}
 use Rattle.vx_pic.specs.declared.accepted.Accepted.TheVariants as accepted
 use Rattle.vx_pic.specs.Parts.{Parts, Shows}
 use Rattle.vx_pic.specs.Readings.{Reading, vps_read, sps_read, pps_read, aps_read, Picture}
+use Rattle.vx_pic.specs.Rules.{picture_limit, message_limit}
 use Rattle.vx_pic.specs.Streams.{lacks_slice}
 use Rattle.vx_pic.specs.Told.{told_of}
 use Rattle.vx_pic.specs.declared.kind.Kind.{Kind}
@@ -87,3 +89,12 @@ seen_picture p = seen_with p.kind (length p.slices) (subpics_of p.begun.sps)
 abbrev pub ShowsLatest : Parts → List Picture → Type 0
 ShowsLatest parts [] = ⊥
 ShowsLatest parts (p ∷ earlier) = Shows parts p
+
+-- It keeps a picture of at most 2^25 bytes, messages of at most 65,536 bytes for it and for the next one, and at most so many sets.
+pub record IsBounded (h : Held) : Type 0 where
+  pub bytes : length h.state.picture.bytes ≤ picture_limit
+  pub messages : spelled_length h.state.picture.messages ≤ message_limit
+  pub gathered : spelled_length h.state.gathered ≤ message_limit
+  pub sps : length h.state.sps ≡ 16
+  pub pps : length h.state.pps ≡ 64
+  pub aps : length h.state.aps ≡ 24

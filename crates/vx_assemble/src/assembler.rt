@@ -40,16 +40,17 @@ impl Model for Assembler {
 impl Assembler {
     ghost use Rattle.std.specs.Prelude.{◌≡◌, [], ◌∷◌, List, Some, None, Err, IfOk, IfErr, OnOk, option_copied};
     ghost use Rattle.vx_annexb.specs.ByteStream.{IsSound};
-    ghost use Rattle.vx_pic.specs.Readings.{Reading, Picture, completed, stored_sps, stored_pps};
+    ghost use Rattle.vx_pic.specs.Readings.{Reading, Picture as StreamPicture, completed, stored_sps, stored_pps};
     ghost use Rattle.vx_pic.specs.Rules.{Readers, reads};
     ghost use Rattle.vx_pic.specs.H266.{AreOfH266};
     ghost use Rattle.vx_pic.specs.Told.{told_of};
-    ghost use Rattle.vx_assemble.specs.Held.{Stands, Takes, Ends, told, HasPicture, ShowsLatest, first_fault, first_of, items_of, seen_picture};
+    ghost use Rattle.vx_assemble.specs.Held.{Stands, Takes, Ends, told, HasPicture, IsBounded, ShowsLatest, first_fault, first_of, items_of, seen_picture};
     ghost use Rattle.vx_pic.specs.Readings.{pictures};
 
     /// An assembler that took no units. It takes no memory yet.
     pub fn new(alloc: Global) -> Assembler
         ensures stands { Stands result [] }
+        ensures bounded { IsBounded result }
     {
         Assembler {
             alloc,
@@ -70,14 +71,16 @@ impl Assembler {
         ensures answer { (R : Readers) → AreOfH266 R → (before : List Reading) → Stands self.old before
             → Takes (reads R before unit.now) before self.new result }
         ensures told { IfOk result (λ what. told self.new ≡ what) }
+        ensures none { IfErr result (λ _. ¬ HasPicture self.new) }
+        ensures bounded { IsBounded self.new }
         ensures fault { IfErr result (λ e. first_fault self.new ≡ Some (first_of e)) }
         ensures again { (f : First) → first_fault self.old ≡ Some f → result ≡ Err (AssembleFault.Stopped f) }
         ensures stopped { (f : First) → result ≡ Err (AssembleFault.Stopped f) → first_fault self.old ≡ Some f }
     {
+        self.told = Accepted::Nothing;
         if let Some(first) = self.first {
             return Err(AssembleFault::Stopped(first));
         }
-        self.told = Accepted::Nothing;
         match self.state.take(self.alloc, unit) {
             Ok(what) => {
                 self.told = what;
@@ -146,7 +149,7 @@ impl Assembler {
 
     /// What is told of the picture that was done last.
     pub fn picture_seen(&self) -> Option<PictureSeen>
-        ensures { (r : Reading) (before : List Reading) (p : Picture) → Stands self.now (r ∷ before) → completed r before ≡ p ∷ []
+        ensures { (r : Reading) (before : List Reading) (p : StreamPicture) → Stands self.now (r ∷ before) → completed r before ≡ p ∷ []
             → result ≡ Some (seen_picture p) }
     {
         let begun = self.state.picture.begun.as_ref()?;

@@ -10,6 +10,7 @@ mod current;
 mod fault;
 mod feed;
 mod first_slice;
+mod gather;
 mod in_force;
 mod join;
 mod keep;

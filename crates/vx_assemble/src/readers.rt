@@ -1,5 +1,11 @@
 //! Sets and headers read.
-ghost use Rattle.std.specs.Prelude.{◌≡◌, ◌+◌, ◌≤◌, ◌^◌, drop, length, List, ℕ, Option, IfOk, IfSome};
+ghost use Rattle.std.specs.Prelude.{◌≡◌, ◌+◌, ◌≤◌, ◌^◌, ◌∷◌, [], drop, length, List, ℕ, Option, IsTrue, IfOk, IfSome};
+ghost use Rattle.vx_rpl.specs.HeaderLists.{lists_of};
+ghost use Rattle.vx_ph.specs.InForce.{in_force, structures};
+ghost use Rattle.vx_pic.specs.Sets as sets;
+ghost use Rattle.vx_assemble.specs.inner.Headers.{as_told};
+ghost use Rattle.vx_assemble.specs.inner.Takes.{AreSmall};
+ghost use Rattle.vx_assemble.specs.inner.Joining.{names_in};
 ghost use Rattle.vx_aps.specs.Aps.{IsValid};
 ghost use Rattle.vx_pic.specs.PictureLayout as pictures;
 ghost use Rattle.vx_pic.specs.PictureLayout.{numbers_in};
@@ -13,20 +19,25 @@ ghost use Rattle.vx_assemble.specs.inner.Headers.{IsHeaderUnder};
 ghost use Rattle.vx_assemble.specs.inner.Order.{IsHeader};
 ghost use Rattle.vx_assemble.specs.inner.Takes.{Gives, answer_by, header_read_as, IsReadUnder};
 
+use crate::numbers::number;
 use crate::state::BegunPicture;
 use crate::unit::NalUnit;
 use std::alloc::{AllocError, Global};
 use vx_annexb::unit_place;
-use vx_aps::{Aps, one_answer, read_aps};
-use vx_bits::{BitReader, Fields, IdList, ReadError};
+use vx_aps::{ALF, Aps, LMCS, SCALING, one_answer, read_aps};
+use vx_bits::{BitReader, Fields, IdList, Item, ReadError};
+use vx_fields::alf::{alf_aps_id_chroma, alf_aps_id_luma, alf_cc_cb_aps_id, alf_cc_cr_aps_id};
+use vx_fields::ph::{ph_lmcs_aps_id, ph_scaling_list_aps_id};
+use vx_fields::sh::{sh_picture_header_in_slice_header_flag, sh_slice_address};
 use vx_layout::Layout;
 use vx_ph::{PictureHeader, read_ph, read_ph_unit, read_pps_id};
-use vx_pic::picture_layout;
+use vx_pic::{picture_ids, picture_layout};
 use vx_pps::{Pps, read_pps};
 use vx_ptl::read_vps;
 use vx_sei::{MessageList, read_sei};
 use vx_sh::{SliceHeader, SliceNumbers, read_sh};
 use vx_sps::{Sps, read_sps};
+use vx_table::natural;
 
 /// A slice header, and the place in its unit behind it.
 #[derive(Drop)]
@@ -90,11 +101,17 @@ pub(crate) fn layout_of(alloc: Global, sps: &Sps, pps: &Pps) -> Result<Layout, R
 }
 
 /// The ids of the subpictures of two sets.
-pub(crate) fn ids_of(_alloc: Global, _sps: &Sps, _pps: &Pps) -> Result<IdList, AllocError>
-    ensures ids { IfOk result (λ ids. ids ≡ pictures.ids_of _sps.now _pps.now) }
-    ensures one_each { IfOk result (λ ids. length ids ≡ length (numbers_in _sps.now _pps.now).subpics) }
+#[tactic(auto, using(crate::proofs::Small::one_each))]
+pub(crate) fn ids_of(alloc: Global, sps: &Sps, pps: &Pps) -> Result<IdList, AllocError>
+    ensures ids { IfOk result (λ ids. ids ≡ pictures.ids_of sps.now pps.now) }
+    ensures one_each { IfOk result (λ ids. length ids ≡ length (numbers_in sps.now pps.now).subpics) }
 {
-    Err(AllocError)
+    let ids = picture_ids(alloc, sps, pps)?;
+    if ids.len() != sps.subpics() as usize {
+        // no two sets that make up a layout
+        return Err(AllocError);
+    }
+    Ok(ids)
 }
 
 /// Takes the bit that comes next, where there is one.
@@ -161,25 +178,135 @@ pub(crate) fn read_slice(
     requires size { length rbsp.now ≤ 2 ^ 23 }
     requires few { length numbers.now.ids.now ≤ 1000 }
     requires one_each { length numbers.now.ids.now ≡ length numbers.now.layout.now.subpics }
-    ensures { (R : Readers) → AreOfH266 R → (b : Begun) → AreOfBegun numbers.now b
+    ensures answer { (R : Readers) → AreOfH266 R → (b : Begun) → AreOfBegun numbers.now b
         → Gives (R.slice numbers.now.nal_type b unit.now) (answer_by slice_seen result) }
+    ensures lists { IfOk result (λ read. read.0.lists ≡ lists_of (structures numbers.now.sps.now) (in_force numbers.now.sps.now numbers.now.pps.now) read.0.fields) }
 {
     let (header, size) = read_sh(alloc, rbsp, numbers)?;
     let payload = unit_place(unit, 2 + size);
     Ok((header, payload))
 }
 
-/// The header of a slice of a picture, whose first slice is of this type.
-pub(crate) fn slice_of(
-    _alloc: Global,
-    _nal_type: u8,
-    _begun: &BegunPicture,
-    _unit: NalUnit<'_>,
-) -> Result<ReadSlice, ReadError>
-    requires { IsHeader _begun.now }
-    ensures answer { (R : Readers) → AreOfH266 R → (unit : Option (List ℕ))
-        → Gives (R.slice _nal_type (begun_of _begun.now unit) _unit.entry.bytes.now) (answer_by header_read_as result) }
-    ensures made { IfOk result (IsReadUnder _begun.now) }
+/// Whether the set that an item names, where it is of this field, has an id that one can have.
+#[tactic(auto, using(crate::proofs::Small::small_other, crate::proofs::Small::small_here))]
+fn is_small(_kind: u8, field: u16, item: Item) -> bool
+    ensures { IsTrue result → AreSmall (sets.named _kind field (item ∷ [])) }
 {
-    Err(ReadError::Memory)
+    if item.field != field {
+        return true;
+    }
+    natural(item.value) < 8
+}
+
+/// Whether no set that a field names has an id that none can have.
+#[tactic(auto, using(crate::proofs::Small::small_none, crate::proofs::Small::small_more, crate::proofs::Small::small_all))]
+fn are_small(kind: u8, field: u16, fields: &Fields) -> bool
+    ensures { IsTrue result → AreSmall (sets.named kind field fields.now) }
+{
+    for i in 0..fields.len() {
+        let item = fields.item(i);
+        if !is_small(kind, field, item) {
+            return false;
+        }
+    }
+    true
+}
+
+/// Whether no filter that items name has such an id.
+#[tactic(auto, using(crate::proofs::Small::small_filters))]
+fn have_small_filters(items: &Fields) -> bool
+    ensures { IsTrue result → AreSmall (sets.named_filters items.now) }
+{
+    if !are_small(ALF, alf_aps_id_luma, items) {
+        return false;
+    }
+    if !are_small(ALF, alf_aps_id_chroma, items) {
+        return false;
+    }
+    if !are_small(ALF, alf_cc_cb_aps_id, items) {
+        return false;
+    }
+    are_small(ALF, alf_cc_cr_aps_id, items)
+}
+
+/// Whether no set that a slice names has such an id.
+#[tactic(auto, using(crate::proofs::Small::small_names))]
+fn have_small_names(pps: &Pps, header: &Fields, slice: &Fields) -> bool
+    ensures { IsTrue result → AreSmall (names_in pps.now header.now slice.now) }
+{
+    if !have_small_filters(header) {
+        return false;
+    }
+    if !have_small_filters(slice) {
+        return false;
+    }
+    if !are_small(LMCS, ph_lmcs_aps_id, header) {
+        return false;
+    }
+    are_small(SCALING, ph_scaling_list_aps_id, header)
+}
+
+/// A slice header as its items tell it, with these lists.
+#[tactic(auto, unfolding(vx_pic::specs::Sets::address_of))]
+fn told(header: SliceHeader) -> SliceHeader
+    ensures { result ≡ as_told header }
+{
+    let inside = number(&header.fields, sh_picture_header_in_slice_header_flag) != 0;
+    let address = number(&header.fields, sh_slice_address);
+    SliceHeader {
+        inside,
+        fields: header.fields,
+        subpic: header.subpic,
+        address,
+        lists: header.lists,
+    }
+}
+
+/// The header of a slice of a picture, whose first slice is of this type.
+///
+/// # Errors
+///
+/// The first refusal; want of memory.
+pub(crate) fn slice_of(
+    alloc: Global,
+    nal_type: u8,
+    begun: &BegunPicture,
+    unit: NalUnit<'_>,
+) -> Result<ReadSlice, ReadError>
+    requires { IsHeader begun.now }
+    ensures answer { (R : Readers) → AreOfH266 R → (head : Option (List ℕ))
+        → Gives (R.slice nal_type (begun_of begun.now head) unit.entry.bytes.now) (answer_by header_read_as result) }
+    ensures made { IfOk result (IsReadUnder begun.now) }
+{
+    let sets = begun.sets.value();
+    let sps = sets.sps.value();
+    let pps = sets.pps.value();
+    let numbers = SliceNumbers {
+        nal_type,
+        sps,
+        pps,
+        header: &begun.header,
+        layout: &sets.layout,
+        ids: &sets.ids,
+    };
+    if sets.ids.len() > 1000 {
+        // no layout has as many
+        return Err(ReadError::Memory);
+    }
+    let (header, payload) = match read_slice(alloc, unit.bytes, unit.rbsp, &numbers) {
+        Ok((header, payload)) => (header, payload),
+        Err(error) => return Err(error),
+    };
+    if header.subpic as usize >= sets.ids.len() {
+        // each id that is read is one of these
+        return Err(ReadError::Memory);
+    }
+    if !have_small_names(pps, &begun.header.fields, &header.fields) {
+        // ids have three bits
+        return Err(ReadError::Memory);
+    }
+    Ok(ReadSlice {
+        header: told(header),
+        payload,
+    })
 }

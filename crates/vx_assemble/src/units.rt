@@ -22,7 +22,7 @@ use std::alloc::{AllocError, Global};
 use std::rc::Rc;
 use vx_annexb::{read_header, unescape};
 use vx_aps::Aps;
-use vx_bits::rules::{SET_INSIDE_PICTURE, SEVERAL_LAYERS, SLICE_MISSING};
+use vx_bits::rules::{LONG_MESSAGES, SET_INSIDE_PICTURE, SEVERAL_LAYERS, SLICE_MISSING};
 use vx_bits::{Fields, Item, ReadError, Refusal};
 use vx_fields::aps::{aps_adaptation_parameter_set_id, aps_params_type};
 use vx_fields::pps::pps_pic_parameter_set_id;
@@ -206,15 +206,24 @@ impl State {
     }
 
     /// Takes supplemental enhancement information.
-    fn take_sei(&mut self, _alloc: Global, unit: NalUnit<'_>) -> Result<Accepted, ReadError>
+    fn take_sei(&mut self, alloc: Global, unit: NalUnit<'_>) -> Result<Accepted, ReadError>
         requires { IsInOrder self.old }
         ensures answer { (R : Readers) → AreOfH266 R → (before : List Reading) → IsHeld self.old before
             → TakesUnit (reads_as R units.sei_unit before unit.entry.bytes.now) before self.new result }
         ensures order { IsInOrder self.new }
         ensures quiet { IfOk result (λ what. what ≡ PictureDone → ⊥) }
     {
-        let _ = unit;
-        Err(ReadError::Memory)
+        if self.picture.is_within() {
+            return Ok(Accepted::Nothing);
+        }
+        let messages = messages_of(alloc, unit.rbsp)?;
+        let kept = self.gather(alloc, &messages)?;
+        if !kept {
+            return Err(ReadError::Refused(Refusal::Limit {
+                code: LONG_MESSAGES,
+            }));
+        }
+        Ok(Accepted::Nothing)
     }
 
     /// Takes a unit of a class.

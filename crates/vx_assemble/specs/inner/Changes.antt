@@ -1,5 +1,5 @@
 -- What an assembler keeps, with one thing more.
-use Rattle.std.specs.Prelude.{ℕ, ◌+◌, ◌==◌, cond, List, [], ◌∷◌, ◌++◌, length, Option, Some, None, slice_set, Bool, true, false}
+use Rattle.std.specs.Prelude.{◌≡◌, ◌<◌, ℕ, ◌+◌, ◌==◌, cond, List, [], ◌∷◌, ◌++◌, length, Option, Some, None, slice_set, Bool, true, false}
 use Rattle.vx_bits.specs.declared.list.Item.{Item}
 use Rattle.vx_aps.specs.declared.aps.Aps.{Aps}
 use Rattle.vx_sei.specs.declared.message.Message.{Message}
@@ -9,6 +9,7 @@ use Rattle.vx_pic.specs.declared.count.PrevTid0.{PrevTid0}
 use Rattle.vx_pic.specs.declared.picture.SliceSlot.{SliceSlot}
 use Rattle.vx_pic.specs.Sets.{lsb_of}
 use Rattle.vx_pic.specs.Counts.{is_tid0}
+use Rattle.vx_pic.specs.Rules.{message_limit}
 use Rattle.vx_pic.specs.Parts.{slot_of}
 use Rattle.vx_assemble.specs.declared.readers.ReadSlice.{ReadSlice}
 use Rattle.vx_assemble.specs.declared.state.BegunPicture.{BegunPicture}
@@ -82,3 +83,8 @@ came_all b c = length c.slices == b.sets.slices
 
 abbrev pub settled : BegunPicture → Kind → State → State
 settled b k s = cond (came_all b s.picture) (with_whole b k s) s
+
+-- messages are gathered, or would pass the limit
+abbrev pub Gathers : Bool → List Message → State → State → Type 0
+Gathers true messages old new = new ≡ with_messages messages old
+Gathers false messages old new = (new ≡ old) × (message_limit < old.gathered_len + spelled_length messages)

@@ -7,8 +7,8 @@ use Rattle.vx_assemble.specs.inner.Answered.{AreOfBegun}
 use Rattle.vx_assemble.proofs.Answers.{gives_slice, gives_slice_error, slice_fits}
 use Rattle.vx_assemble.proofs.readers.read_slice.Goals as goal
 
-pub returns-in_err-header : goal.returns-in_err-header
-returns-in_err-header c = λ (R : Readers) (are : AreOfH266 R) (b : Begun) (of : AreOfBegun c.args.numbers.now b).
+pub returns-in_err-header-clause-answer : goal.returns-in_err-header-clause-answer
+returns-in_err-header-clause-answer c = λ (R : Readers) (are : AreOfH266 R) (b : Begun) (of : AreOfBegun c.args.numbers.now b).
     let p = err_from_is_err_and c.from_residual.result c.from_residual.ensures.1 in
     let read = rw c.in_err-header.was at c.read_sh.ensures in
     rw (p.1, p.2) (gives_slice_error c.args.numbers.now b c.args.unit.now c.args.rbsp.now (R.slice c.args.numbers.now.nal_type b c.args.unit.now) _ of c.requires.spells
@@ -19,8 +19,13 @@ unit_place-payload-requires c =
     let read = rw c.in_ok-header.was at c.read_sh.ensures in
     slice_fits (in_force_at c.args.numbers.now) c.args.unit.now c.args.rbsp.now c.in_ok-header.header c.in_ok-header.size c.requires.spells read
 
-pub returns : goal.returns
-returns c = λ (R : Readers) (are : AreOfH266 R) (b : Begun) (of : AreOfBegun c.args.numbers.now b).
+pub returns-clause-answer : goal.returns-clause-answer
+returns-clause-answer c = λ (R : Readers) (are : AreOfH266 R) (b : Begun) (of : AreOfBegun c.args.numbers.now b).
     let read = rw c.in_ok-header.was at c.read_sh.ensures in
     gives_slice c.args.numbers.now b c.args.unit.now c.args.rbsp.now (R.slice c.args.numbers.now.nal_type b c.args.unit.now) c.in_ok-header.header c.in_ok-header.size c.unit_place-payload.result of c.requires.spells
     (are.slice c.args.numbers.now.nal_type b c.args.unit.now) read c.unit_place-payload.ensures.first
+
+pub returns-clause-lists : goal.returns-clause-lists
+returns-clause-lists c =
+    let read = rw c.in_ok-header.was at c.read_sh.ensures in
+    read.numbers.lists
