@@ -85,6 +85,7 @@ seen_with kind slices subpictures = record { kind = kind; slices = slices; subpi
 
 abbrev pub seen_picture : Picture → PictureSeen
 seen_picture p = seen_with p.kind (length p.slices) (subpics_of p.begun.sps)
+
 -- They are those of the latest of these pictures.
 abbrev pub ShowsLatest : Parts → List Picture → Type 0
 ShowsLatest parts [] = ⊥

@@ -9,9 +9,9 @@ use std::alloc::Global;
 use std::marker::Model;
 use vx_bits::rules::SLICE_MISSING;
 use vx_bits::{Fields, ReadError};
+use vx_pic::{Accepted, Picture};
 use vx_pps::Pps;
 use vx_sps::Sps;
-use vx_pic::{Accepted, Picture};
 
 /// Takes NAL units in order, and hands on each picture with its last slice.
 ///
