@@ -66,7 +66,7 @@ abbrev is_golomb : Coding Formula → Bool
 is_golomb Golomb = true
 is_golomb coding = false
 
-golomb_row : ℕ → Row → Bool
+pub golomb_row : ℕ → Row → Bool
 golomb_row of (Field c) = not (has_value c.coding && c.field == of) || is_golomb c.coding
 golomb_row of (Block presence n) = true
 golomb_row of (Name name formula) = true
@@ -87,7 +87,7 @@ golomb_stays : (of : ℕ) (c : Cell Formula) (s : List ℕ) → golomb_row of (F
 unfolding golomb_row
 golomb_stays of c s test = λ has same v is. golomb_below c.coding s v (rw (sym (valued s c.coding) ∙ has, eq-eqb c.field of same) at test) is.code
 
-coded_number : (of : ℕ) {values : List ℤ} {last : List ℕ} → sections_pass (golomb_row of) sps_sections ≡ true → Follows sps_form values last → IsCodeNumber (number (items_along sps_form values) of)
+pub coded_number : (of : ℕ) {values : List ℤ} {last : List ℕ} → sections_pass (golomb_row of) sps_sections ≡ true → Follows sps_form values last → IsCodeNumber (number (items_along sps_form values) of)
 coded_number of {values} {last} test follows =
     let less = number_below of 4294967295 sps_form values last (omega arith) (each_of_sections (StaysBelow of 4294967295) (golomb_row of) (λ c s h. golomb_stays of c s h) sps_sections fresh test) follows in
     omega (arith, less)
