@@ -1,0 +1,74 @@
+-- An extractor, as its callers see it: by these words, and by the relation `Stands` between it and the pictures that it has written.
+use Rattle.std.specs.Prelude.{◌≡◌, ℕ, ◌<◌, Bool, true, false, List, [], ◌∷◌, length, Option, Some, None, Result, Ok, Err}
+use Rattle.std.specs.Io.KnownBytes.{Appends}
+use Rattle.vx_bits.specs.declared.refusal.Refusal.{Refusal}
+use Rattle.vx_io.specs.Faults.{Rose}
+use Rattle.vx_io.specs.Written.{AppendsFront}
+use Rattle.vx_annexb.specs.Laws.{written}
+use Rattle.vx_pic.specs.Parts.{Parts}
+use Rattle.vx_pic.specs.Written.{Set, SetUnit, Plan, units_of}
+use Rattle.vx_pic.specs.Resident.{history_of, last_of, serves}
+use Rattle.vx_extract.specs.declared.fault.WriteError.{WriteError}
+use Rattle.vx_extract.specs.declared.fault.WriteError.TheVariants as errors
+use Rattle.vx_extract.specs.declared.fault.WriteFirst.{WriteFirst}
+use Rattle.vx_extract.specs.declared.fault.WriteFirst.TheVariants as firsts
+use Rattle.vx_extract.specs.Rules.{is_kept, refusal_of}
+use Rattle.vx_extract.specs.Written.{slices_in, IsExtracted}
+use Rattle.vx_extract.specs.inner.Slots.{Sent, held_serves}
+
+-- an extractor: the subpicture, the level that is asked for, the highest TemporalId that is kept, the sets that were sent since the last
+-- IRAP or GDR picture, one of each slot, and what first kept it from going on
+pub record Extracting : Type 0 where
+  pub target : ℕ
+  pub level : Option ℕ
+  pub tid : ℕ
+  pub slots : List Sent
+  pub first : Option WriteFirst
+
+-- it has written these pictures, the latest first, and goes on
+pub record Stands (x : Extracting) (done : List Plan) : Type 0 where
+  pub slots : (t : ℕ) (s : Set) → held_serves t s x.slots ≡ serves t s (last_of s (history_of done))
+  pub going : x.first ≡ None
+
+-- what an answer says of what first kept it from going on
+abbrev pub first_of : WriteError → WriteFirst
+first_of errors.Memory = firsts.Memory
+first_of errors.SinkFailed = firsts.SinkFailed
+first_of (errors.Refused r) = firsts.Refused r
+first_of (errors.Stopped f) = f
+
+-- what stays whatever it answers: what was asked for
+pub record SameTask (old new : Extracting) : Type 0 where
+  pub target : new.target ≡ old.target
+  pub level : new.level ≡ old.level
+  pub tid : new.tid ≡ old.tid
+
+-- the picture has a slice of the subpicture, as each picture of a stream has of each of its subpictures
+abbrev pub HasSlice : ℕ → Parts → Type 0
+HasSlice target q = 0 < length (slices_in q target)
+
+-- A sink with these bytes and this count of faults, before and after a picture was written to it, or left out.
+abbrev pub WritesKept : Bool → Parts → List Plan → Extracting → Option (List ℕ) → Option (List ℕ) → Type 0
+WritesKept true q done new bytes bytes' =
+    HasSlice new.target q → (p : Plan) × IsExtracted new.target new.level q done p × Appends bytes bytes' (written (units_of p)) × Stands new (p ∷ done)
+WritesKept false q done new bytes bytes' = (bytes' ≡ bytes) × Stands new done
+
+-- The answer for a picture behind these: it breaks no rule, and was written or left out; it breaks a rule; memory ran out before a byte
+-- was written; or a write failed, and a front of it is written.
+abbrev pub Writes : Parts → List Plan → Extracting → Option (List ℕ) → Option (List ℕ) → ℕ → ℕ → Result (Unit {0}) WriteError → Type 0
+Writes q done new bytes bytes' faults faults' (Ok _) =
+    (refusal_of new.target new.tid q ≡ None) × (faults' ≡ faults) × WritesKept (is_kept new.tid q) q done new bytes bytes'
+Writes q done new bytes bytes' faults faults' (Err (errors.Refused r)) =
+    (refusal_of new.target new.tid q ≡ Some r) × (bytes' ≡ bytes) × (faults' ≡ faults)
+Writes q done new bytes bytes' faults faults' (Err errors.Memory) =
+    (refusal_of new.target new.tid q ≡ None) × (bytes' ≡ bytes) × (faults' ≡ faults)
+Writes q done new bytes bytes' faults faults' (Err errors.SinkFailed) =
+    (refusal_of new.target new.tid q ≡ None) × (is_kept new.tid q ≡ true) × Rose faults faults'
+    × (HasSlice new.target q → (p : Plan) × IsExtracted new.target new.level q done p × AppendsFront bytes bytes' (written (units_of p)))
+Writes q done new bytes bytes' faults faults' (Err (errors.Stopped f)) = ⊥
+
+-- The same verdict without a byte written.
+abbrev pub Checks : Parts → Extracting → Result (Unit {0}) WriteError → Type 0
+Checks q x (Ok _) = refusal_of x.target x.tid q ≡ None
+Checks q x (Err (errors.Refused r)) = refusal_of x.target x.tid q ≡ Some r
+Checks q x (Err _) = ⊥

@@ -1,0 +1,6 @@
+-- What the contracts of this crate cite.
+pub mod Extracting
+pub mod Rules
+pub mod Shapes
+pub mod Written
+pub mod inner

@@ -1,0 +1,123 @@
+-- What is written for a subpicture of each picture of a stream.
+use Rattle.std.specs.Prelude.{◌≡◌, ℕ, ◌+◌, ◌*◌, ◌==◌, ◌&&◌, not, true, false, Bool, cond, List, [], ◌∷◌, ◌++◌, filter, map, flat_map, Option, Some, None}
+use Rattle.std.specs.List.{AllByRecursion, any_by, range_with_len}
+use Rattle.vx_bits.specs.declared.list.Item.{Item}
+use Rattle.vx_annexb.specs.Emulation.{IsEscaped}
+use Rattle.vx_annexb.specs.Laws.{written}
+use Rattle.vx_aps.specs.declared.aps.Aps.{Aps}
+use Rattle.vx_aps.specs.declared.aps.TheConstants.{ALF, LMCS, SCALING}
+use Rattle.vx_aps.specs.Aps.{spelled}
+use Rattle.vx_sei.specs.declared.message.Message.{Message}
+use Rattle.vx_sei.specs.Sei.{IsSei}
+use Rattle.vx_sps.specs.Set as sps_set
+use Rattle.vx_sps.specs.Reshaped as sps_reshaped
+use Rattle.vx_pps.specs.Pps as pps_set
+use Rattle.vx_pps.specs.Reshaped as pps_reshaped
+use Rattle.vx_layout.specs.Regions.{region_of}
+use Rattle.vx_pic.specs.declared.unit_types.TheConstants as types
+use Rattle.vx_pic.specs.Sets.{Slot}
+use Rattle.vx_pic.specs.Readings.{Slice}
+use Rattle.vx_pic.specs.Parts.{Parts, SlicePart, aps_at, id_count, named_by}
+use Rattle.vx_pic.specs.Written.{Set, an_sps, a_pps, an_aps, SetUnit, SeiUnit, Plan, slices_of}
+use Rattle.vx_pic.specs.Resident.{is_resident, sent_before, units_written}
+use Rattle.vx_extract.specs.Shapes.{sps_shape, pps_shape}
+
+-- ---- units
+
+-- the header of a unit of layer 0 (7.3.1.2)
+abbrev pub header_bytes : (nal_type temporal_id : ℕ) → List ℕ
+header_bytes nal_type temporal_id = 0 ∷ (nal_type * 8 + (temporal_id + 1)) ∷ []
+
+-- a unit of this type and TemporalId, with this RBSP (7.3.1.1)
+abbrev pub IsUnitOf : (nal_type temporal_id : ℕ) → List ℕ → List ℕ → Type 0
+IsUnitOf nal_type temporal_id rbsp unit = IsEscaped (header_bytes nal_type temporal_id ++ rbsp) unit
+
+-- the unit of a set for a picture of this TemporalId: an SPS has TemporalId 0 (7.4.2.2)
+abbrev pub IsSetUnit : ℕ → Set → List ℕ → Type 0
+IsSetUnit tid (an_sps items) unit = (rbsp : List ℕ) × sps_set.IsSpelling items rbsp × IsUnitOf types.SPS_NUT 0 rbsp unit
+IsSetUnit tid (a_pps items) unit = (rbsp : List ℕ) × pps_set.IsSpelling items rbsp × IsUnitOf types.PPS_NUT tid rbsp unit
+IsSetUnit tid (an_aps a) unit = IsUnitOf types.PREFIX_APS_NUT tid (spelled a.kind a.id a.body) unit
+
+-- one SEI unit with the messages, where there are any
+abbrev pub IsSeiUnit : ℕ → List Message → Option SeiUnit → Type 0
+IsSeiUnit tid [] sei = sei ≡ None
+IsSeiUnit tid (m ∷ more) None = ⊥
+IsSeiUnit tid (m ∷ more) (Some s) =
+    (s.messages ≡ m ∷ more) × ((rbsp : List ℕ) × IsSei rbsp (m ∷ more) × IsUnitOf types.PREFIX_SEI_NUT tid rbsp s.unit)
+
+-- ---- slices
+
+-- those of the subpicture, in order
+abbrev pub parts_in : Parts → ℕ → List SlicePart
+parts_in q target = filter (λ s. s.header.subpic == target) q.slices
+
+-- a slice as it stands, of the one subpicture
+abbrev pub slice_alone : SlicePart → Slice
+slice_alone s = record { unit = s.unit; header = record { fields = s.header.fields; subpic = 0; payload = s.payload } }
+
+abbrev pub slices_in : Parts → ℕ → List Slice
+slices_in q target = map slice_alone (parts_in q target)
+
+-- ---- sets
+
+-- all types and ids of adaptation parameter sets, by rising type and then by rising id
+abbrev pub slots_of : ℕ → List Slot
+slots_of kind = map (λ id. record { kind = kind; id = id }) (range_with_len 0 id_count)
+
+abbrev pub all_slots : List Slot
+all_slots = slots_of ALF ++ (slots_of LMCS ++ slots_of SCALING)
+
+abbrev pub same_slot : Slot → Slot → Bool
+same_slot a b = (a.kind == b.kind) && (a.id == b.id)
+
+-- what the slices of the subpicture name: filters, and what the picture header names
+abbrev pub named_in : Parts → ℕ → List Slot
+named_in q target = flat_map (λ s. named_by q.pps q.header.fields s.header) (parts_in q target)
+
+abbrev pub is_named : Parts → ℕ → Slot → Bool
+is_named q target slot = any_by (same_slot slot) (named_in q target)
+
+-- the sets that are named
+abbrev pub aps_of_slot : Parts → Slot → List Set
+aps_of_slot q slot = option_sets (aps_at q.bodies slot.kind slot.id)
+  where
+  abbrev option_sets : Option Aps → List Set
+  option_sets None = []
+  option_sets (Some a) = an_aps (record { kind = slot.kind; id = slot.id; body = a.body }) ∷ []
+
+abbrev pub needed_aps : Parts → ℕ → List Set
+needed_aps q target = flat_map (aps_of_slot q) (filter (is_named q target) all_slots)
+
+-- the sets that the picture needs, where it has these two: the SPS, the PPS, and those by rising type and id
+abbrev pub needed_sets : Parts → ℕ → (sps pps : List Item) → List Set
+needed_sets q target sps pps = an_sps sps ∷ a_pps pps ∷ needed_aps q target
+
+-- ---- pictures
+
+-- A picture is written so behind others: rewritten sets, of which those are sent that aren't resident; its messages; its header and
+-- the slices of the subpicture as they stand, of which there is one at least.
+pub record IsExtracted (target : ℕ) (level : Option ℕ) (q : Parts) (done : List Plan) (p : Plan) : Type 0 where
+  pub sps : sps_reshaped.IsReshaped q.sps (sps_shape q target level) p.begun.sps
+  pub pps : pps_reshaped.IsReshaped q.pps (pps_shape q target) p.begun.pps
+  pub layout : p.begun.layout ≡ region_of q.layout target
+  pub header : p.begun.header ≡ q.header.fields
+  pub temporal_id : p.begun.temporal_id ≡ q.kind.temporal_id
+  pub unit : p.begun.unit ≡ q.unit
+  pub kind : p.kind ≡ q.kind
+  pub slices : slices_of p ≡ slices_in q target
+  pub needed : List SetUnit
+  pub sets : map (λ x. x.set) needed ≡ needed_sets q target p.begun.sps p.begun.pps
+  pub units : AllByRecursion (λ x. IsSetUnit q.kind.temporal_id x.set x.unit) needed
+  pub sent : p.sent ≡ filter (λ x. not (is_resident q.kind.temporal_id (sent_before done p) x)) needed
+  pub sei : IsSeiUnit q.kind.temporal_id q.messages p.sei
+
+-- Pictures, the latest first, are written as these plans.
+abbrev pub AreExtracted : ℕ → Option ℕ → List Parts → List Plan → Type 0
+AreExtracted target level [] [] = Unit {0}
+AreExtracted target level (q ∷ qs) (p ∷ done) = IsExtracted target level q done p × AreExtracted target level qs done
+AreExtracted target level [] (p ∷ done) = ⊥
+AreExtracted target level (q ∷ qs) [] = ⊥
+
+-- The bytes that are written for the subpicture of pictures, the latest first.
+abbrev pub IsExtraction : ℕ → Option ℕ → List Parts → List ℕ → Type 0
+IsExtraction target level qs bytes = (done : List Plan) × AreExtracted target level qs done × (bytes ≡ written (units_written done))
