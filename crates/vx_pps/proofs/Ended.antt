@@ -37,7 +37,7 @@ one_more last slices r stood room some = record {
   few = omega (arith, room, length-append slices (r ∷ []));
 }
 
-at_done : {A : Type 0} {a end : A} {w : List ℤ} → Follows (done a) w end → a ≡ end
+pub at_done : {A : Type 0} {a end : A} {w : List ℤ} → Follows (done a) w end → a ≡ end
 at_done to_end = refl
 
 -- ---- the slices of a tile
@@ -55,7 +55,7 @@ rest_some rest = elim (cases_Bool (rest == 0)) [
       rw some (All-cons (λ h. 1 ≤ h) rest [] more (All-nil (λ h. 1 ≤ h)))
 ]
 
-repeated_some : (size left : ℕ) → 1 ≤ size → All (λ h. 1 ≤ h) (repeated_sizes size left)
+pub repeated_some : (size left : ℕ) → 1 ≤ size → All (λ h. 1 ≤ h) (repeated_sizes size left)
 repeated_some size left some = All-append (λ h. 1 ≤ h) (replicate (left / size) size) _ (All-replicate (λ h. 1 ≤ h) (left / size) size some) (rest_some (left % size))
 
 rest_few : (rest : ℕ) → rest ≡ 0 → length (cond (rest == 0) [] (rest ∷ [])) ≤ 0
@@ -138,14 +138,14 @@ block_some g t wide high grid rises_columns rises_rows some_wide some_high in_co
   omega (arith, Rises-apart g.rows (row g t) (row g t + high) rises_rows (omega (arith, some_high)) (omega (arith, in_rows, grid.rows))),
 )
 
-column_inside : (g : Tiles) (t : ℕ) → IsGrid g → column g t < across g
+pub column_inside : (g : Tiles) (t : ℕ) → IsGrid g → column g t < across g
 column_inside g t grid = omega (arith, grid.columns)
 
 -- the width and the height, less 1, stay in the picture
 number_end : (of bound : ℕ) {w : List ℤ} {n : ℕ} → Follows (number of (below bound)) w n → n < bound
 number_end of bound (through {v} is to_end) = below_bound bound (natural v) (golomb_range (below bound) v is.code is.range)
 
-width_end : (g : Tiles) (t : ℕ) {w : List ℤ} {width : ℕ} → IsGrid g → Follows (width_in_tiles g t) w width → column g t + width < across g
+pub width_end : (g : Tiles) (t : ℕ) {w : List ℤ} {width : ℕ} → IsGrid g → Follows (width_in_tiles g t) w width → column g t + width < across g
 width_end g t {w} {width} grid follows = elim (cases_Bool (eqb (column g t + 1) (across g))) [
   | inl end ↦ omega (arith, eqb-true _ _ end, at_done (rw end at follows))
   | inr more ↦ omega (arith, column_inside g t grid, number_end pps.pps_slice_width_in_tiles_minus1 (across g - column g t) (rw more at follows))
@@ -155,7 +155,7 @@ width_end g t {w} {width} grid follows = elim (cases_Bool (eqb (column g t + 1) 
 abbrev pub Level : Tiles → Bool → ℕ → ℕ → Type 0
 Level g deltas t before = spells_height g deltas t ≡ false → row g t + before < down g
 
-height_end : (g : Tiles) (deltas : Bool) (t before : ℕ) {w : List ℤ} {height : ℕ} → t < across g * down g → Level g deltas t before → Follows (height_in_tiles g deltas t before) w height → row g t + height < down g
+pub height_end : (g : Tiles) (deltas : Bool) (t before : ℕ) {w : List ℤ} {height : ℕ} → t < across g * down g → Level g deltas t before → Follows (height_in_tiles g deltas t before) w height → row g t + height < down g
 height_end g deltas t before inside level follows =
     let low : row g t < down g = row_inside g t inside in
     elim (cases_Bool (eqb (row g t + 1) (down g))) [
@@ -210,7 +210,7 @@ after_level : (g : Tiles) (deltas : Bool) (slices : List Rect) (last t width hei
 after_level g true slices last t width height grid in_columns in_rows follows = λ e. absurd (grind (arith, e))
 after_level g false slices last t width height grid in_columns in_rows follows = subst (λ n. Level g false n height) (at_done follows) (behind_level g false t width height grid in_columns in_rows)
 
-turn_end : (g : Tiles) (last : ℕ) (deltas : Bool) (at : Listed) {w : List ℤ} {next : Listed} → IsGrid g → Rises g.columns → Rises g.rows → goes_on g last at ≡ true → Listing g last deltas at → Follows (turn g last deltas at) w next → Listing g last deltas next
+pub turn_end : (g : Tiles) (last : ℕ) (deltas : Bool) (at : Listed) {w : List ℤ} {next : Listed} → IsGrid g → Rises g.columns → Rises g.rows → goes_on g last at ≡ true → Listing g last deltas at → Follows (turn g last deltas at) w next → Listing g last deltas next
 turn_end g last deltas at {next} grid rises_columns rises_rows goes is follows =
     let more = and_parts (ltb (length at.slices) last) (ltb at.next (across g * down g)) goes in
     let one = parted (width_in_tiles g at.next) _ follows in
@@ -240,7 +240,7 @@ first_inside g grid =
     let low : 0 * across g + 0 < across g * down g = place_in_grid (across g) (down g) 0 0 (omega (arith, grid.columns)) (omega (arith, grid.rows)) in
     omega (arith, low)
 
-none_listing : (g : Tiles) (last : ℕ) (deltas : Bool) → IsGrid g → Listing g last deltas none_listed
+pub none_listing : (g : Tiles) (last : ℕ) (deltas : Bool) → IsGrid g → Listing g last deltas none_listed
 none_listing g last deltas grid = record {
   stood = record { each = All-nil HasCtu; few = omega arith };
   level = λ e. omega (arith, grid.rows, row_inside g 0 (first_inside g grid));

@@ -21,7 +21,7 @@ abbrev pub below : Rect → ℕ
 below r = r.y + r.h
 
 -- no bound stands between two neighbours
-between : (bs : List ℕ) (i b : ℕ) → Rises bs → i + 1 < length bs → get_or bs i 0 < b → b < get_or bs (i + 1) 0 → Contains bs b → ⊥
+pub between : (bs : List ℕ) (i b : ℕ) → Rises bs → i + 1 < length bs → get_or bs i 0 < b → b < get_or bs (i + 1) 0 → Contains bs b → ⊥
 between bs i b rises short above under inside =
     let at = bound_at bs b inside in
     let low = before_index bs i at.0 rises (omega arith) (omega (arith, at.2)) in

@@ -7,6 +7,8 @@ mod Told
 mod Sets
 mod Spelling
 mod Ended
+mod Named
+mod Listable
 mod Wide
 mod Limits
 pub mod Blocks

@@ -32,14 +32,16 @@ use Rattle.vx_table.proofs.Loading.{number_of_last, number_of_shown}
 use Rattle.vx_pps.specs.declared.partition.Partition.{Partition}
 use Rattle.vx_pps.specs.declared.tiles.Tiles.{Tiles}
 use Rattle.vx_pps.specs.Partition.{across_flag, counted, ctu_size, ctus, deltas_flag, divided, fixed, flag, impossible_flag, last_slice, listed_slices, partition, sizes_of, slices_among, subpicture_slices, tile_flags, tiles_among, tiles_of, undivided}
-use Rattle.vx_pps.specs.Pps.{IsPps, columns_of, front, is_partitioned, partition_of, rows_of, tools}
-use Rattle.vx_pps.specs.Sets.{AreBounds, AreSlices, AreTilesInLimits, IsWide, SetsTellPartitions, TellsPartition, TilesAreInLimits, is_single}
+use Rattle.vx_pps.specs.Pps.{IsItems, IsPps, columns_of, front, is_partitioned, partition_of, rows_of, slices_of, tools}
+use Rattle.vx_pps.specs.Sets.{AreBounds, AreSlices, AreTilesInLimits, IsWide, ReadSlicesAreListable, SetsTellPartitions, TellsPartition, TilesAreInLimits, is_single}
 use Rattle.vx_pps.specs.Slices.{below, list_from, sizes_from}
 use Rattle.vx_pps.specs.Tiles.{IsGrid}
 use Rattle.vx_pps.specs.Written.{Gives, item}
 use Rattle.vx_pps.proofs.Cutting.{Parts, at_done, cut_parts, each_weaker, gives_parts, none_shown, number_low, front_loads, numbers_before, one_has, only_middle, sections_unshown}
 use Rattle.vx_pps.proofs.Division.{IsBetween, each_among, each_tile_flags, each_tiles}
 use Rattle.vx_pps.proofs.Ended.{list_end, one_inside}
+use Rattle.vx_pps.proofs.Listable.{named_listable}
+use Rattle.vx_pps.proofs.Named.{Named, list_named}
 use Rattle.vx_pps.proofs.Ranges.{below_bound, fixed_range, golomb_range, limited_bound}
 use Rattle.vx_pps.proofs.Sizing.{sizes_grid}
 use Rattle.vx_pps.proofs.Testing.{ctb_size, ctb_size_unshown, single_slices, single_slices_unshown, sizes_are}
@@ -150,10 +152,10 @@ none_end g last deltas {v} grid list flag_ = elim (cases_Bool (eqb last 0)) [
 ]
 
 -- the slices, unless each subpicture is one
-SlicesAre : ℕ → Option (List Rect) → Type 0
-SlicesAre single slices = (is_some slices ≡ not (is_set single)) × IfSome slices AreSlices
+SlicesAre : Tiles → ℕ → Option (List Rect) → Type 0
+SlicesAre g single slices = (is_some slices ≡ not (is_set single)) × IfSome slices AreSlices × IfSome slices (Named g)
 
-listed_end : (g : Tiles) {w : List ℤ} {slices : Option (List Rect)} → AreTilesInLimits g → Follows (listed_slices g) w slices → (all : List Rect) × (slices ≡ Some all) × AreSlices all
+listed_end : (g : Tiles) {w : List ℤ} {slices : Option (List Rect)} → AreTilesInLimits g → Follows (listed_slices g) w slices → (all : List Rect) × (slices ≡ Some all) × AreSlices all × Named g all
 unfolding listed_slices
 listed_end g {w} {slices} limits follows =
     let one = parted last_slice _ follows in
@@ -165,20 +167,25 @@ listed_end g {w} {slices} limits follows =
     elim (cases_option three.mid) [
       | inl none ↦ absurd (none_end g one.mid (is_set two.mid) limits.grid (subst (λ s. Follows (list_from g one.mid (is_set two.mid)) three.front s) none three.first) (subst (λ s. Follows (across_flag one.mid (is_some s)) four.front four.mid) none four.first))
       | inr (all, is) ↦
-          let ended = list_end g one.mid (is_set two.mid) limits.grid limits.columns.0 limits.rows.0 (subst (λ s. Follows (list_from g one.mid (is_set two.mid)) three.front s) is three.first) in
-          (all, sym same ∙ is, record { some = ended.0; few = omega (arith, few, ended.1.few); each = ended.1.each })
+          let list : Follows (list_from g one.mid (is_set two.mid)) three.front (Some all) = subst (λ s. Follows (list_from g one.mid (is_set two.mid)) three.front s) is three.first in
+          let ended = list_end g one.mid (is_set two.mid) limits.grid limits.columns.0 limits.rows.0 list in (
+            all,
+            sym same ∙ is,
+            record { some = ended.0; few = omega (arith, few, ended.1.few); each = ended.1.each },
+            list_named g one.mid (is_set two.mid) limits.grid limits.columns.0 limits.rows.0 list,
+          )
     ]
 
-slices_are : (g : Tiles) (single : ℕ) {w : List ℤ} {slices : Option (List Rect)} → AreTilesInLimits g → Follows (slices_among g single) w slices → SlicesAre single slices
+slices_are : (g : Tiles) (single : ℕ) {w : List ℤ} {slices : Option (List Rect)} → AreTilesInLimits g → Follows (slices_among g single) w slices → SlicesAre g single slices
 unfolding slices_among subpicture_slices SlicesAre
 slices_are g single {w} {slices} limits follows = elim (cases_Bool (is_set single)) [
   | inl each ↦
       let one = parted (flag pps.pps_loop_filter_across_slices_enabled_flag) (λ v. done None) (rw each at follows) in
       let none : None ≡ slices = at_end one.second in
-      rw each (subst (λ s. (is_some s ≡ false) × IfSome s AreSlices) none (refl, tt))
+      rw each (subst (λ s. (is_some s ≡ false) × IfSome s AreSlices × IfSome s (Named g)) none (refl, tt, tt))
   | inr listed ↦
       let end = listed_end g limits (rw listed at follows) in
-      rw listed (subst (λ s. (is_some s ≡ true) × IfSome s AreSlices) (sym end.1) (refl, end.2))
+      rw listed (subst (λ s. (is_some s ≡ true) × IfSome s AreSlices × IfSome s (Named g)) (sym end.1) (refl, end.2, end.3))
 ]
 
 -- ---- the numbers of two fields that tiles and slices alone have
@@ -213,7 +220,7 @@ record Divided (width height : ℕ) (items : List Item) (end : Partition) : Type
   pub single : ℤ
   pub low : natural log2 < 3
   pub tiles : TilesReach (ctus width (natural log2)) (ctus height (natural log2)) end.tiles
-  pub slices : SlicesAre (natural single) end.slices
+  pub slices : SlicesAre end.tiles (natural single) end.slices
   pub ctb_shown : shown_items ctb_size items ≡ item pps.pps_log2_ctu_size_minus5 log2
   pub single_shown : shown_items single_slices items ≡ item pps.pps_single_slice_per_subpic_flag single
 
@@ -249,7 +256,7 @@ divided_parts width height {items} {end} gives =
       single = single_is.0;
       low = subst (λ n. n < 3) log2_is low;
       tiles = subst (λ (q : Partition). TilesReach (ctus width (natural log2.0)) (ctus height (natural log2.0)) q.tiles) last_end (at (natural log2.0) log2_is);
-      slices = subst (λ (q : Partition). SlicesAre (natural single_is.0) q.slices) last_end (subst (λ n. SlicesAre n five.0) (sym single_is.2) slices);
+      slices = subst (λ (q : Partition). SlicesAre q.tiles (natural single_is.0) q.slices) last_end (subst (λ n. SlicesAre two.0 n five.0) (sym single_is.2) slices);
       ctb_shown = ap (λ xs. shown_items ctb_size xs) all ∙ only_middle ctb_size [] [] [] one.1 (two.1 ++ (three.1 ++ (four.1 ++ four.2))) refl refl refl rest_ctb ∙ ap (λ xs. shown_items ctb_size xs) log2.1 ∙ shown_item ctb_size pps.pps_log2_ctu_size_minus5 log2.0 refl;
       single_shown = ap (λ xs. shown_items single_slices xs) all ∙ only_middle single_slices one.1 two.1 three.1 four.1 four.2
           (ap (λ xs. shown_items single_slices xs) log2.1)
@@ -357,4 +364,24 @@ tells_partitions items is =
     elim (cases_Bool (is_partitioned items)) [
       | inl whole ↦ tells_parts items is.end is.set same whole
       | inr none ↦ tells_none items is.end is.set same none
+    ]
+
+-- ---- slices that a list named
+
+none_listed : (items : List Item) (slices : List Rect) → TellsPartition items → is_partitioned items ≡ false → slices_of items ≡ Some slices → ⊥
+none_listed items slices told_ none is =
+    true≢false (ap is_some (sym is) ∙ told_.named ∙ ap (λ b. b && not (is_single items)) none)
+
+pub listable : ReadSlicesAreListable
+unfolding SlicesAre
+listable items slices is named once =
+    let same = partition_is items is.end is.set in
+    let tells = tells_partitions items is in
+    elim (cases_Bool (is_partitioned items)) [
+      | inr none ↦ absurd (none_listed items slices tells none named)
+      | inl whole ↦
+          let d = (partitioned items is.end is.set whole).1 in
+          let limits : AreTilesInLimits (partition_of items).tiles = subst (λ (q : Partition). AreTilesInLimits q.tiles) (sym same) d.tiles.limits in
+          let groups : IfSome (slices_of items) (Named (partition_of items).tiles) = subst (λ (q : Partition). IfSome q.slices (Named q.tiles)) (sym same) d.slices.2 in
+          named_listable (partition_of items).tiles slices (record { grid = limits.grid; columns = limits.columns.0; rows = limits.rows.0 }) (rw named at groups) (rw named at tells.slices).each once
     ]

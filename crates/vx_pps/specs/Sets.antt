@@ -1,6 +1,6 @@
 -- What holds of picture parameter sets: how they are spelled, and what their kept fields depend on.
 use Rattle.std.specs.Prelude.{◌≡◌, ◌⊎◌, ◌+◌, ◌^◌, ◌<◌, ◌≤◌, ◌&&◌, ℕ, Bool, not, true, false, List, [], ◌∷◌, ◌++◌, filter, length}
-use Rattle.std.specs.Prelude.{All, IfSome, is_some, Result, Ok, Err}
+use Rattle.std.specs.Prelude.{All, IfSome, is_some, Result, Ok, Err, Some}
 use Rattle.std.specs.Int.{div_ceil}
 use Rattle.vx_bits.specs.declared.list.Item.{Item}
 use Rattle.vx_bits.specs.declared.refusal.ReadError.{ReadError}
@@ -18,7 +18,8 @@ use Rattle.vx_table.specs.Shown.{shown_items, KeepsOnly}
 use Rattle.vx_pps.specs.declared.shape.TheConstants.{TAKEN, TAKEN_FOR_FRAME}
 use Rattle.vx_layout.specs.declared.rect.Rect.{Rect}
 use Rattle.vx_layout.specs.Bounds.{Rises, last}
-use Rattle.vx_layout.specs.Shapes.{HasCtu}
+use Rattle.vx_layout.specs.Rects.{CoversOnce}
+use Rattle.vx_layout.specs.Shapes.{AreListable, HasCtu}
 use Rattle.vx_pps.specs.declared.partition.Partition.{Partition}
 use Rattle.vx_pps.specs.declared.tiles.Tiles.{Tiles}
 use Rattle.vx_pps.specs.Tiles.{IsGrid}
@@ -130,3 +131,9 @@ pub record TellsPartition (items : List Item) : Type 0 where
 
 abbrev pub SetsTellPartitions : Type 0
 SetsTellPartitions = (items : List Item) → IsItems items → TellsPartition items
+
+-- The slices that a slice list names can be listed again, where they cover the picture once.
+abbrev pub ReadSlicesAreListable : Type 0
+ReadSlicesAreListable =
+    (items : List Item) (slices : List Rect) → IsItems items → slices_of items ≡ Some slices
+    → CoversOnce slices (last (columns_of items)) (last (rows_of items)) → AreListable (columns_of items) (rows_of items) slices

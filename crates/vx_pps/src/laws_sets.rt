@@ -1,5 +1,5 @@
 //! Laws of picture parameter sets: functions that do nothing, each with a law as its contract.
-ghost use Rattle.vx_pps.specs.Sets.{WrittenIsRead, NoProperPrefix, StarsTellKept, KeptDependsOnKept, KeptAndOthersTell, TilesAreInLimits, SetsTellPartitions};
+ghost use Rattle.vx_pps.specs.Sets.{WrittenIsRead, NoProperPrefix, StarsTellKept, KeptDependsOnKept, KeptAndOthersTell, TilesAreInLimits, SetsTellPartitions, ReadSlicesAreListable};
 
 /// What is written of a set is read as it.
 pub fn written_is_read()
@@ -31,4 +31,10 @@ pub fn tiles_are_in_limits()
 /// layout takes them (H.266 6.5.1).
 pub fn sets_tell_partitions()
     ensures { SetsTellPartitions }
+{}
+
+/// The slices that a slice list names are whole tiles or whole rows of one tile, and those in one tile stand next to one
+/// another, where they cover the picture once: they can be listed again (H.266 6.3.1, 7.3.2.5).
+pub fn read_slices_are_listable()
+    ensures { ReadSlicesAreListable }
 {}

@@ -41,8 +41,8 @@ pub use laws::{
 };
 pub use laws_reshaped::{region_keeps, reshaped_has_its_tiles};
 pub use laws_sets::{
-    kept_and_others_tell, kept_depends_on_kept, no_proper_prefix, sets_tell_partitions,
-    tiles_are_in_limits, written_is_read,
+    kept_and_others_tell, kept_depends_on_kept, no_proper_prefix, read_slices_are_listable,
+    sets_tell_partitions, tiles_are_in_limits, written_is_read,
 };
 pub use list::Listed;
 pub use partition::Partition;
