@@ -205,7 +205,7 @@ one_table rows s {w} {e} follows =
     )
 
 -- the items of a structure cut in two
-cut_items : (first more : List Section) (s : List ℕ) {v : List ℤ} (w : List ℤ) {mid : List ℕ} → Follows (sections_form first s) v mid
+pub cut_items : (first more : List Section) (s : List ℕ) {v : List ℤ} (w : List ℤ) {mid : List ℕ} → Follows (sections_form first s) v mid
     → items_along (sections_form (first ++ more) s) (v ++ w) ≡ items_along (sections_form first s) v ++ items_along (sections_form more mid) w
 cut_items first more s {v} w {mid} follows = ap (λ f. items_along f (v ++ w)) (sections_together first more s) ∙ items_joined (sections_form more) w follows
 

@@ -5,11 +5,12 @@ use Rattle.vx_bits.specs.declared.list.Item.{Item}
 use Rattle.vx_table.specs.EachField.{EachField}
 use Rattle.vx_table.specs.Forms.{Form, done, ◌>>=◌}
 use Rattle.vx_table.specs.Kept.{kept_along, kept_item}
-use Rattle.vx_table.specs.Parts.{sections_form}
+use Rattle.vx_table.specs.Parts.{Section, sections_form}
 use Rattle.vx_table.specs.Scope.{fresh}
 use Rattle.vx_table.specs.Spelling.{items_along}
 use Rattle.vx_table.specs.Values.{Follows, to_end, through}
 use Rattle.vx_table.proofs.Joined.{items_joined, joined}
+use Rattle.vx_table.proofs.Rewrites.{sections_together}
 use Rattle.vx_table.proofs.Starred.{not_kept}
 use Rattle.vx_pps.specs.declared.partition.Partition.{Partition}
 use Rattle.vx_pps.specs.Items.{values_in}
@@ -23,6 +24,11 @@ use Rattle.vx_pps.proofs.Told.{values_back}
 kept_joined : {A B : Type 0} {f : Form A} (next : A → Form B) {v : List ℤ} (w : List ℤ) {a : A} → Follows f v a → kept_along (f >>= next) (v ++ w) ≡ kept_along f v ++ kept_along (next a) w
 kept_joined next w to_end = refl
 kept_joined next w (through {cell} {goes} {v} {w = more} value on) = ap (λ x. kept_item cell v ++ x) (kept_joined next w on) ∙ sym (append_assoc (kept_item cell v) (kept_along (goes v) more) _)
+
+-- what a structure cut in two keeps
+pub cut_kept : (first more : List Section) (s : List ℕ) {v : List ℤ} (w : List ℤ) {mid : List ℕ} → Follows (sections_form first s) v mid
+    → kept_along (sections_form (first ++ more) s) (v ++ w) ≡ kept_along (sections_form first s) v ++ kept_along (sections_form more mid) w
+cut_kept first more s {v} w follows = ap (λ f. kept_along f (v ++ w)) (sections_together first more s) ∙ kept_joined (sections_form more) w follows
 
 -- a form that keeps no field
 kept_none : {A : Type 0} {f : Form A} {w : List ℤ} {a : A} → EachField (λ cell. cell.kept ≡ false) f → Follows f w a → kept_along f w ≡ []

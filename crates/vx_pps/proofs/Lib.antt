@@ -28,4 +28,5 @@ pub mod Keeping
 pub mod Tooled
 pub mod Cutting
 pub mod Reshaping
+pub mod Framing
 pub mod Remade

@@ -32,7 +32,7 @@ use Rattle.vx_table.proofs.Loading.{number_of_last, number_of_shown}
 use Rattle.vx_pps.specs.declared.partition.Partition.{Partition}
 use Rattle.vx_pps.specs.declared.tiles.Tiles.{Tiles}
 use Rattle.vx_pps.specs.Partition.{across_flag, counted, ctu_size, ctus, deltas_flag, divided, fixed, flag, impossible_flag, last_slice, listed_slices, partition, sizes_of, slices_among, subpicture_slices, tile_flags, tiles_among, tiles_of, undivided}
-use Rattle.vx_pps.specs.Pps.{IsItems, IsPps, columns_of, front, is_partitioned, partition_of, rows_of, slices_of, tools}
+use Rattle.vx_pps.specs.Pps.{IsPps, columns_of, front, is_partitioned, partition_of, rows_of, slices_of, tools}
 use Rattle.vx_pps.specs.Sets.{AreBounds, AreSlices, AreTilesInLimits, IsWide, ReadSlicesAreListable, SetsTellPartitions, TellsPartition, TilesAreInLimits, is_single}
 use Rattle.vx_pps.specs.Slices.{below, list_from, sizes_from}
 use Rattle.vx_pps.specs.Tiles.{IsGrid}

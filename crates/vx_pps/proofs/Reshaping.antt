@@ -44,14 +44,14 @@ use Rattle.vx_pps.proofs.Tooled.{HasFlags, frame_tools, tools_again, tools_keep}
 abbrev pub NoneOf : ℕ → List Item → Type 0
 NoneOf of items = All (λ item. (item.field == of) ≡ false) items
 
-no_item : (of n : ℕ) (v : ℤ) (items : List Item) → of < n → NoneOf of items → NoneOf of (item n v ++ items)
+pub no_item : (of n : ℕ) (v : ℤ) (items : List Item) → of < n → NoneOf of items → NoneOf of (item n v ++ items)
 no_item of n v items less none = All-cons (λ item. (item.field == of) ≡ false) (record { field = n; value = v }) items (ne_eqb n of (λ e. omega (arith, e, less))) none
 
-none_where : (of n : ℕ) (v : ℤ) (b : Bool) (items : List Item) → of < n → NoneOf of items → NoneOf of (where_so b (item n v) ++ items)
+pub none_where : (of n : ℕ) (v : ℤ) (b : Bool) (items : List Item) → of < n → NoneOf of items → NoneOf of (where_so b (item n v) ++ items)
 none_where of n v true items less none = no_item of n v items less none
 none_where of n v false items less none = none
 
-no_more : (of : ℕ) → NoneOf of []
+pub no_more : (of : ℕ) → NoneOf of []
 no_more of = All-nil (λ item. (item.field == of) ≡ false)
 
 none_ids : (of whole_ : ℕ) (id : Option (ℕ × ℕ)) → of < 413 → NoneOf of (id_items whole_ id)
@@ -170,7 +170,7 @@ pub record ToolsGone (merged : Bool) (source : List Item) (qp : ℤ) (t : List �
   pub others : other_items (names merged) items ≡ where_so merged (frame_tool_items source qp)
   pub keeps : merged ≡ false → kept_along (sections_form tools t) gives.values ≡ kept
 
-flags_of : {source : List Item} {end : Partition} → Parts source end → HasFlags source
+pub flags_of : {source : List Item} {end : Partition} → Parts source end → HasFlags source
 flags_of p = record {
   weighted = flag_below p pps.pps_weighted_pred_flag flags_are.1 (λ low high. omega (arith, high));
   biweighted = flag_below p pps.pps_weighted_bipred_flag flags_are.2 (λ low high. omega (arith, high));

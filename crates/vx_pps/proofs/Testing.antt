@@ -1,13 +1,13 @@
 -- The tests over the rows of the tables: what a rewritten set takes over, what it leaves alone, and what tables read.
-use Rattle.std.proofs.Common.{◌≡◌, ℕ, Bool, true, false, cond, List, [], ◌∷◌, ◌++◌, refl}
+use Rattle.std.proofs.Common.{◌≡◌, ◌&&◌, ℕ, Bool, true, false, cond, List, [], ◌∷◌, ◌++◌, refl}
 use Rattle.vx_fields.specs.declared.pps.TheConstants as pps
 use Rattle.vx_table.specs.Scope.{fresh}
 use Rattle.vx_table.specs.Forms.{has_value}
 use Rattle.vx_table.specs.Parts.{Section, always}
-use Rattle.std.specs.Prelude.{drop}
+use Rattle.std.specs.Prelude.{drop, filter, nat_lt}
 use Rattle.vx_table.specs.declared.rows.Row.{Row}
 use Rattle.vx_table.specs.EachField.{rows_pass, sections_pass}
-use Rattle.vx_table.specs.Depends.{set_of, with_all}
+use Rattle.vx_table.specs.Depends.{has, set_of, with_all}
 use Rattle.vx_table.specs.Bounds.{tells_range}
 use Rattle.vx_table.specs.Claims.{knows_formula, knows_width, knows_range, knows_presence, hides_counter, hides_row, behind_field, within_block, depends, behind_rows, table_depends, behind_table, comes_always, sections_chain, sections_hide, sections_depend_only_on}
 use Rattle.vx_table.specs.Again.{shows_row}
@@ -289,3 +289,84 @@ front_starred false = refl
 pub front_fills : sections_pass fills_none front ≡ true
 unfolding fills_none stands_for_field has_value
 front_fills = refl
+
+-- ---- what the set for a frame keeps
+
+-- each of some fields is in a set
+abbrev pub is_inside : List ℕ → List ℕ → Bool
+is_inside more [] = true
+is_inside more (x ∷ xs) = has more x && is_inside more xs
+
+-- tables that keep exactly these fields, all taken over, and fill in nothing
+abbrev pub IsRun : List ℕ → List Section → Type 0
+IsRun fields group = (is_inside (names true) fields ≡ true) × (sections_stars_tell (set_of fields) group ≡ true) × (sections_pass fills_none group ≡ true)
+
+-- tables with no field of a set
+abbrev pub IsAside : List ℕ → List Section → Type 0
+IsAside set group = sections_pass (hides_row set) group ≡ true
+
+abbrev pub before_dbf : List Section
+before_dbf = before_control ++ dbf_control
+
+abbrev pub front_fields : List ℕ
+front_fields = filter (λ n. nat_lt n 417) TAKEN_FOR_FRAME
+
+abbrev pub early_fields : List ℕ
+early_fields = filter (λ n. nat_lt 432 n && nat_lt n 455) TAKEN_FOR_FRAME
+
+abbrev pub offsets_fields : List ℕ
+offsets_fields = filter (λ n. nat_lt 455 n && nat_lt n 462) TAKEN_FOR_FRAME
+
+abbrev pub end_fields : List ℕ
+end_fields = filter (λ n. nat_lt 466 n) TAKEN_FOR_FRAME
+
+-- the flags that stand in the place of absent ones too
+abbrev pub dbf_flag : List ℕ
+dbf_flag = set_of (pps.pps_dbf_info_in_ph_flag ∷ [])
+
+abbrev pub info_flags : List ℕ
+info_flags = set_of (pps.pps_rpl_info_in_ph_flag ∷ pps.pps_sao_info_in_ph_flag ∷ pps.pps_wp_info_in_ph_flag ∷ [])
+
+pub front_run : IsRun front_fields front
+unfolding fresh star_tells stands_for_field fills_none has_value
+front_run = (refl, refl, refl)
+
+pub early_run : IsRun early_fields before_dbf
+unfolding fresh star_tells stands_for_field fills_none has_value
+early_run = (refl, refl, refl)
+
+pub offsets_run : IsRun offsets_fields dbf_offsets
+unfolding fresh star_tells stands_for_field fills_none has_value
+offsets_run = (refl, refl, refl)
+
+pub end_run : IsRun end_fields end
+unfolding fresh star_tells stands_for_field fills_none has_value
+end_run = (refl, refl, refl)
+
+pub front_aside : IsAside (set_of front_fields) tools
+unfolding fresh hides_counter hides_row
+front_aside = refl
+
+pub early_aside : IsAside (set_of early_fields) front × IsAside (set_of early_fields) from_dbf
+unfolding fresh hides_counter hides_row
+early_aside = (refl, refl)
+
+pub offsets_aside : IsAside (set_of offsets_fields) front × IsAside (set_of offsets_fields) before_dbf × IsAside (set_of offsets_fields) dbf_info × IsAside (set_of offsets_fields) from_info
+unfolding fresh hides_counter hides_row
+offsets_aside = (refl, refl, refl, refl)
+
+pub end_aside : IsAside (set_of end_fields) front × IsAside (set_of end_fields) before_dbf × IsAside (set_of end_fields) dbf_info × IsAside (set_of end_fields) dbf_offsets × IsAside (set_of end_fields) header_info
+unfolding fresh hides_counter hides_row
+end_aside = (refl, refl, refl, refl, refl)
+
+pub dbf_aside : IsAside dbf_flag front × IsAside dbf_flag before_dbf × IsAside dbf_flag (dbf_offsets ++ from_info)
+unfolding fresh hides_counter hides_row
+dbf_aside = (refl, refl, refl)
+
+pub info_aside : IsAside info_flags front × IsAside info_flags before_dbf × IsAside info_flags dbf_info × IsAside info_flags dbf_offsets × IsAside info_flags end
+unfolding fresh hides_counter hides_row
+info_aside = (refl, refl, refl, refl, refl)
+
+pub dbf_stands : sections_hide numbered from_dbf ≡ true
+unfolding fresh hides_counter hides_row
+dbf_stands = refl

@@ -178,3 +178,9 @@ abbrev pub RegionKeeps : Type 0
 RegionKeeps =
     (source items : List Item) (shape : PpsShape) → IsItems source → IsShape source shape → IsReshaped source shape items
     → shape.merged ≡ false → kept_of items ≡ kept_of source
+
+-- So does the set for a frame.
+abbrev pub FrameKeeps : Type 0
+FrameKeeps =
+    (source items : List Item) (shape : PpsShape) → IsItems source → IsReshaped source shape items → shape.merged ≡ true
+    → kept_of items ≡ kept_of source

@@ -39,7 +39,7 @@ pub use laws::{
     bounds_are_read_back, few_are_read_back, few_fall_into_groups, layouts_are_lists,
     list_gives_slices, lists_fall_into_groups, slices_are_read_back,
 };
-pub use laws_reshaped::{region_keeps, reshaped_has_its_tiles};
+pub use laws_reshaped::{frame_keeps, region_keeps, reshaped_has_its_tiles};
 pub use laws_sets::{
     kept_and_others_tell, kept_depends_on_kept, no_proper_prefix, read_slices_are_listable,
     sets_tell_partitions, tiles_are_in_limits, written_is_read,

@@ -1,0 +1,546 @@
+-- The set for a frame keeps what its source keeps: what is taken over, and four flags of picture headers by their numbers.
+use Rattle.std.proofs.Common.{◌≡◌, ℕ, ℤ, pos, negsuc, zero, suc, ◌+◌, ◌<◌, ◌||◌, ◌&&◌, Bool, true, false, IsTrue, IsFalse, List, [], ◌∷◌, ◌++◌, length, slice_index, slice_set, sym, ap, ◌∙◌, subst, inl, inr, arith, refl, append_assoc}
+use Rattle.std.specs.Prelude.{not}
+use Rattle.std.proofs.lemmas.Bool.{and_parts, cases_Bool, cases_eq, ne_eqb, true≢false}
+use Rattle.std.proofs.lemmas.List.{append-nil, get_or-set_other}
+use Rattle.std.proofs.lemmas.List.Elements.{filter-append}
+use Rattle.vx_bits.specs.declared.list.Item.{Item}
+use Rattle.vx_fields.specs.declared.pps.TheConstants as pps
+use Rattle.vx_table.specs.declared.rows.Coding.TheVariants.{Fixed}
+use Rattle.vx_table.specs.Claims.{hides_row}
+use Rattle.vx_table.specs.Depends.{Agree, Inside, has, set_of, with_all}
+use Rattle.vx_table.specs.EachField.{sections_pass}
+use Rattle.vx_table.specs.Forms.{after, coding_at, form_of, has_value, limits_at, one_field, part, present, turns}
+use Rattle.vx_table.specs.Kept.{kept_along, stands_for_field}
+use Rattle.vx_table.specs.Loaded.{number}
+use Rattle.vx_table.specs.Named.{named_by_all}
+use Rattle.vx_table.specs.Parts.{Section, sections_form}
+use Rattle.vx_table.specs.Rewritten.{other_items}
+use Rattle.vx_table.specs.Scope.{fresh, is_set, natural, value}
+use Rattle.vx_table.specs.Shown.{shown_items}
+use Rattle.vx_table.specs.Spelling.{HasCode, item_of, items_along}
+use Rattle.vx_table.specs.Values.{Follows, Parted, to_end, through}
+use Rattle.vx_table.proofs.Again.{follows_again, sections_show}
+use Rattle.vx_table.proofs.Agreeing.{inside_itself}
+use Rattle.vx_table.proofs.Chains.{structure_depends_only_on}
+use Rattle.vx_table.proofs.Groups.{agree_given, cut, inside_nothing}
+use Rattle.vx_table.proofs.Keeping.{rewritten_keeps, sections_fill_none, shown_of_shown}
+use Rattle.vx_table.proofs.Loading.{number_of_last, number_of_shown}
+use Rattle.vx_table.proofs.Rewrites.{leaves_agree, sections_leave}
+use Rattle.vx_table.proofs.Starred.{structure_keeps_only}
+use Rattle.vx_pps.specs.declared.partition.Partition.{Partition}
+use Rattle.vx_pps.specs.declared.shape.PpsShape.{PpsShape}
+use Rattle.vx_pps.specs.Pps.{front, kept_of, tools}
+use Rattle.vx_pps.specs.Reshaped.{FrameKeeps, frame_tool_items, front_items, has_weights, where_so, whole_flag}
+use Rattle.vx_pps.specs.Written.{item}
+use Rattle.vx_pps.proofs.Alike.{kept_alike}
+use Rattle.vx_pps.proofs.Cutting.{Clear, Parts, clear_from, cut_items, cut_parts, division_unshown, flag_below, none_shown, number_by_others, numbers_told, override_told, sections_unshown}
+use Rattle.vx_pps.proofs.Giving.{natural_is}
+use Rattle.vx_pps.proofs.Keeping.{cut_kept, kept_put}
+use Rattle.vx_pps.proofs.Reshaping.{NoneOf, flags_of, no_item, no_more, none_where}
+use Rattle.vx_pps.proofs.Testing.{IsAside, IsRun, ReadsOnly, before_dbf, dbf_aside, dbf_flag, dbf_given, dbf_info, dbf_info_read, dbf_offsets, dbf_stands, early, early_aside, early_fields, early_run, end, end_aside, end_fields, end_run, flags_are, from_dbf, from_info, front_aside, front_fields, front_run, header_info, header_info_read, info_aside, info_flags, info_given, info_stands, is_inside, names, numbered, offsets_aside, offsets_fields, offsets_run, override, override_stands, tools_early}
+
+-- ---- one set within another
+
+inside_one : (base more : List ℕ) (x : ℕ) → Inside base more → has more x ≡ true → Inside (slice_set base x 1) more
+inside_one base more x inside is = record {
+  has_too = λ n h. elim (cases_eq n x) [
+    | inl same ↦ subst (λ m. IsTrue (has more m)) (sym same) is
+    | inr other ↦ inside.has_too n (ap is_set (sym (get_or-set_other base x n 1 0 other)) ∙ h)
+  ];
+}
+
+inside_all : (base more xs : List ℕ) → Inside base more → is_inside more xs ≡ true → Inside (with_all base xs) more
+inside_all base more [] inside is = inside
+inside_all base more (x ∷ xs) inside is =
+    let parts = and_parts (has more x) (is_inside more xs) is in
+    inside_all (slice_set base x 1) more xs (inside_one base more x inside parts.0) parts.1
+
+-- ---- shown items of parts
+
+unshown_first : (set : List ℕ) (a b : List Item) → shown_items set a ≡ [] → shown_items set (a ++ b) ≡ shown_items set b
+unshown_first set a b none = filter-append (λ x. has set x.field) a b ∙ ap (λ xs. xs ++ shown_items set b) none
+
+unshown_behind : (set : List ℕ) (a b : List Item) → shown_items set b ≡ [] → shown_items set (a ++ b) ≡ shown_items set a
+unshown_behind set a b none = filter-append (λ x. has set x.field) a b ∙ ap (λ xs. shown_items set a ++ xs) none ∙ append-nil (shown_items set a)
+
+-- ---- the number of a flag that stands in the place of an absent one too
+
+flag_is : (v : ℤ) → HasCode (Fixed 1) v → pos (natural v) ≡ v
+unfolding HasCode natural
+flag_is (pos n) code = let same : natural (pos n) ≡ n = omega (arith, code) in ap pos same
+flag_is (negsuc n) code = absurd code
+
+-- whether the deblocking filter's parameters stand in picture headers: where it can't be overridden they don't
+record DbfKept (n : ℕ) (items kept : List Item) : Type 0 where
+  pub kept_is : kept ≡ item pps.pps_dbf_info_in_ph_flag (pos (number items pps.pps_dbf_info_in_ph_flag))
+  pub none : n ≡ 0 → number items pps.pps_dbf_info_in_ph_flag ≡ 0
+
+dbf_at : ℕ → ℕ → List ℕ
+dbf_at p n = slice_set (slice_set fresh pps.pps_no_pic_partition_flag p) pps.pps_deblocking_filter_override_enabled_flag n
+
+dbf_here : (p n : ℕ) {w : List ℤ} {last : List ℕ} → p < 2 → n < 2 → Follows (sections_form dbf_info (dbf_at p n)) w last
+    → DbfKept n (items_along (sections_form dbf_info (dbf_at p n)) w) (kept_along (sections_form dbf_info (dbf_at p n)) w)
+unfolding dbf_at fresh sections_form form_of part one_field after present turns value natural coding_at limits_at has_value HasCode stands_for_field item_of
+dbf_here zero zero low few (through {v} is to_end) = record { kept_is = ap (item pps.pps_dbf_info_in_ph_flag) is.code; none = λ e. refl }
+dbf_here zero (suc zero) low few (through {v} is to_end) = record { kept_is = ap (item pps.pps_dbf_info_in_ph_flag) (sym (flag_is v is.code)); none = λ e. absurd (omega (arith, e)) }
+dbf_here (suc zero) zero low few (through {v} is to_end) = record { kept_is = ap (item pps.pps_dbf_info_in_ph_flag) is.code; none = λ e. refl }
+dbf_here (suc zero) (suc zero) low few (through {v} is to_end) = record { kept_is = ap (item pps.pps_dbf_info_in_ph_flag) is.code; none = λ e. refl }
+dbf_here (suc (suc p)) n low few on = absurd (omega (arith, low))
+dbf_here zero (suc (suc n)) low few on = absurd (omega (arith, few))
+dbf_here (suc zero) (suc (suc n)) low few on = absurd (omega (arith, few))
+
+-- what else stands there: weights where there are some, and lists stand there
+abbrev flag_items : ℕ → ℕ → ℕ → List Item
+flag_items lists sao weights = item pps.pps_rpl_info_in_ph_flag (pos lists) ++ (item pps.pps_sao_info_in_ph_flag (pos sao) ++ item pps.pps_wp_info_in_ph_flag (pos weights))
+
+record InfoKept (a b : ℕ) (items kept : List Item) : Type 0 where
+  pub kept_is : kept ≡ flag_items (number items pps.pps_rpl_info_in_ph_flag) (number items pps.pps_sao_info_in_ph_flag) (number items pps.pps_wp_info_in_ph_flag)
+  pub none : ((is_set a || is_set b) && is_set (number items pps.pps_rpl_info_in_ph_flag)) ≡ false → number items pps.pps_wp_info_in_ph_flag ≡ 0
+
+info_at : ℕ → ℕ → ℕ → List ℕ
+info_at p a b = slice_set (slice_set (slice_set fresh pps.pps_no_pic_partition_flag p) pps.pps_weighted_pred_flag a) pps.pps_weighted_bipred_flag b
+
+three : (u v w x y z : ℤ) → u ≡ x → v ≡ y → w ≡ z
+    → item pps.pps_rpl_info_in_ph_flag u ++ (item pps.pps_sao_info_in_ph_flag v ++ item pps.pps_wp_info_in_ph_flag w) ≡ item pps.pps_rpl_info_in_ph_flag x ++ (item pps.pps_sao_info_in_ph_flag y ++ item pps.pps_wp_info_in_ph_flag z)
+three u v w x y z e f g =
+    ap (λ n. item pps.pps_rpl_info_in_ph_flag n ++ (item pps.pps_sao_info_in_ph_flag v ++ item pps.pps_wp_info_in_ph_flag w)) e
+    ∙ ap (λ n. item pps.pps_rpl_info_in_ph_flag x ++ (item pps.pps_sao_info_in_ph_flag n ++ item pps.pps_wp_info_in_ph_flag w)) f
+    ∙ ap (λ n. item pps.pps_rpl_info_in_ph_flag x ++ (item pps.pps_sao_info_in_ph_flag y ++ item pps.pps_wp_info_in_ph_flag n)) g
+
+info_here : (p a b : ℕ) {w : List ℤ} {last : List ℕ} → p < 2 → a < 2 → b < 2 → Follows (sections_form header_info (info_at p a b)) w last
+    → InfoKept a b (items_along (sections_form header_info (info_at p a b)) w) (kept_along (sections_form header_info (info_at p a b)) w)
+unfolding info_at fresh sections_form form_of part one_field after present turns value natural coding_at limits_at has_value HasCode stands_for_field item_of
+info_here (suc zero) a b low la lb (through {v = l} is_l (through {v = s} is_s (through {v = w} is_w to_end))) = record {
+  kept_is = three l s w (pos 0) (pos 0) (pos 0) is_l.code is_s.code is_w.code;
+  none = λ e. refl;
+}
+info_here zero zero zero low la lb (through {v = l} is_l (through {v = s} is_s (through is_f (through {v = w} is_w (through is_q to_end))))) = record {
+  kept_is = three l s w (pos (natural l)) (pos (natural s)) (pos 0) (sym (flag_is l is_l.code)) (sym (flag_is s is_s.code)) is_w.code;
+  none = λ e. refl;
+}
+info_here zero zero (suc zero) low la lb (through {v = pos zero} is_l (through {v = s} is_s (through is_f (through {v = w} is_w (through is_q to_end))))) = record {
+  kept_is = three (pos 0) s w (pos 0) (pos (natural s)) (pos 0) refl (sym (flag_is s is_s.code)) is_w.code;
+  none = λ e. refl;
+}
+info_here zero zero (suc zero) low la lb (through {v = pos (suc zero)} is_l (through {v = s} is_s (through is_f (through {v = w} is_w (through is_q to_end))))) = record {
+  kept_is = three (pos 1) s w (pos 1) (pos (natural s)) (pos (natural w)) refl (sym (flag_is s is_s.code)) (sym (flag_is w is_w.code));
+  none = λ e. absurd (true≢false e);
+}
+info_here zero zero (suc zero) low la lb (through {v = pos (suc (suc n))} is_l on) = absurd (omega (arith, is_l.code))
+info_here zero zero (suc zero) low la lb (through {v = negsuc n} is_l on) = absurd is_l.code
+info_here zero (suc zero) zero low la lb (through {v = pos zero} is_l (through {v = s} is_s (through is_f (through {v = w} is_w (through is_q to_end))))) = record {
+  kept_is = three (pos 0) s w (pos 0) (pos (natural s)) (pos 0) refl (sym (flag_is s is_s.code)) is_w.code;
+  none = λ e. refl;
+}
+info_here zero (suc zero) zero low la lb (through {v = pos (suc zero)} is_l (through {v = s} is_s (through is_f (through {v = w} is_w (through is_q to_end))))) = record {
+  kept_is = three (pos 1) s w (pos 1) (pos (natural s)) (pos (natural w)) refl (sym (flag_is s is_s.code)) (sym (flag_is w is_w.code));
+  none = λ e. absurd (true≢false e);
+}
+info_here zero (suc zero) zero low la lb (through {v = pos (suc (suc n))} is_l on) = absurd (omega (arith, is_l.code))
+info_here zero (suc zero) zero low la lb (through {v = negsuc n} is_l on) = absurd is_l.code
+info_here zero (suc zero) (suc zero) low la lb (through {v = pos zero} is_l (through {v = s} is_s (through is_f (through {v = w} is_w (through is_q to_end))))) = record {
+  kept_is = three (pos 0) s w (pos 0) (pos (natural s)) (pos 0) refl (sym (flag_is s is_s.code)) is_w.code;
+  none = λ e. refl;
+}
+info_here zero (suc zero) (suc zero) low la lb (through {v = pos (suc zero)} is_l (through {v = s} is_s (through is_f (through {v = w} is_w (through is_q to_end))))) = record {
+  kept_is = three (pos 1) s w (pos 1) (pos (natural s)) (pos (natural w)) refl (sym (flag_is s is_s.code)) (sym (flag_is w is_w.code));
+  none = λ e. absurd (true≢false e);
+}
+info_here zero (suc zero) (suc zero) low la lb (through {v = pos (suc (suc n))} is_l on) = absurd (omega (arith, is_l.code))
+info_here zero (suc zero) (suc zero) low la lb (through {v = negsuc n} is_l on) = absurd is_l.code
+info_here zero (suc (suc a)) b low la lb on = absurd (omega (arith, la))
+info_here zero zero (suc (suc b)) low la lb on = absurd (omega (arith, lb))
+info_here zero (suc zero) (suc (suc b)) low la lb on = absurd (omega (arith, lb))
+info_here (suc (suc p)) a b low la lb on = absurd (omega (arith, low))
+
+-- ---- these at any scope
+
+-- what a table reads tells what it keeps
+alike_there : (given : List ℕ) (group : List Section) {s t : List ℕ} {w : List ℤ} {last : List ℕ} → ReadsOnly given group → Agree (set_of given) s t → Follows (sections_form group s) w last
+    → (e : List ℕ) × Follows (sections_form group t) w e × (items_along (sections_form group t) w ≡ items_along (sections_form group s) w) × (kept_along (sections_form group s) w ≡ kept_along (sections_form group t) w)
+alike_there given group {s} {t} {w} {last} reads agree follows =
+    let shown : List ℕ = with_all (set_of given) (named_by_all group) in
+    let alike = (structure_depends_only_on given (named_by_all group) group reads.0).alike s t agree in
+    let all = sections_show shown group reads.1 in
+    let again = follows_again shown (set_of given) (sections_form group s) (sections_form group t) w last alike (all.at s) (all.at t) follows in
+    (again.last, again.follows, again.items, kept_alike alike (all.at s) (all.at t) follows again.follows)
+
+dbf_kept : (s : List ℕ) {w : List ℤ} {last : List ℕ} → length fresh ≡ length s → slice_index s pps.pps_no_pic_partition_flag < 2 → slice_index s pps.pps_deblocking_filter_override_enabled_flag < 2
+    → Follows (sections_form dbf_info s) w last
+    → DbfKept (slice_index s pps.pps_deblocking_filter_override_enabled_flag) (items_along (sections_form dbf_info s) w) (kept_along (sections_form dbf_info s) w)
+unfolding fresh dbf_at
+dbf_kept s {w} long low few follows =
+    let p : ℕ = slice_index s pps.pps_no_pic_partition_flag in
+    let n : ℕ = slice_index s pps.pps_deblocking_filter_override_enabled_flag in
+    let there = alike_there dbf_given dbf_info {t = dbf_at p n} dbf_info_read (agree_given dbf_given (sym long) (refl, (refl, tt))) follows in
+    subst (λ k. DbfKept n (items_along (sections_form dbf_info s) w) k) (sym there.3)
+    (subst (λ i. DbfKept n i (kept_along (sections_form dbf_info (dbf_at p n)) w)) there.2 (dbf_here p n low few there.1))
+
+info_kept : (s : List ℕ) {w : List ℤ} {last : List ℕ} → length fresh ≡ length s → slice_index s pps.pps_no_pic_partition_flag < 2 → slice_index s pps.pps_weighted_pred_flag < 2
+    → slice_index s pps.pps_weighted_bipred_flag < 2 → Follows (sections_form header_info s) w last
+    → InfoKept (slice_index s pps.pps_weighted_pred_flag) (slice_index s pps.pps_weighted_bipred_flag) (items_along (sections_form header_info s) w) (kept_along (sections_form header_info s) w)
+unfolding fresh info_at
+info_kept s {w} long low la lb follows =
+    let p : ℕ = slice_index s pps.pps_no_pic_partition_flag in
+    let a : ℕ = slice_index s pps.pps_weighted_pred_flag in
+    let b : ℕ = slice_index s pps.pps_weighted_bipred_flag in
+    let there = alike_there info_given header_info {t = info_at p a b} header_info_read (agree_given info_given (sym long) (refl, (refl, (refl, tt)))) follows in
+    subst (λ k. InfoKept a b (items_along (sections_form header_info s) w) k) (sym there.3)
+    (subst (λ i. InfoKept a b i (kept_along (sections_form header_info (info_at p a b)) w)) there.2 (info_here p a b low la lb there.1))
+
+-- ---- a structure cut in two: what it shows and keeps
+
+module _ (first more : List Section) (s : List ℕ) {values : List ℤ} {last : List ℕ} (q : Parted (sections_form first s) (sections_form more) values last) where
+  both_items : items_along (sections_form (first ++ more) s) values ≡ items_along (sections_form first s) q.front ++ items_along (sections_form more q.mid) q.others
+  both_items = ap (items_along (sections_form (first ++ more) s)) q.all ∙ cut_items first more s q.others q.first
+
+  both_kept : kept_along (sections_form (first ++ more) s) values ≡ kept_along (sections_form first s) q.front ++ kept_along (sections_form more q.mid) q.others
+  both_kept = ap (kept_along (sections_form (first ++ more) s)) q.all ∙ cut_kept first more s q.others q.first
+
+  shows_first : (set : List ℕ) → sections_pass (hides_row set) more ≡ true → shown_items set (items_along (sections_form (first ++ more) s) values) ≡ shown_items set (items_along (sections_form first s) q.front)
+  shows_first set hides =
+      ap (shown_items set) both_items
+      ∙ unshown_behind set (items_along (sections_form first s) q.front) (items_along (sections_form more q.mid) q.others) (none_shown set (sections_unshown set more q.mid hides) q.second)
+
+  shows_more : (set : List ℕ) → sections_pass (hides_row set) first ≡ true → shown_items set (items_along (sections_form (first ++ more) s) values) ≡ shown_items set (items_along (sections_form more q.mid) q.others)
+  shows_more set hides =
+      ap (shown_items set) both_items
+      ∙ unshown_first set (items_along (sections_form first s) q.front) (items_along (sections_form more q.mid) q.others) (none_shown set (sections_unshown set first s hides) q.first)
+
+-- ---- the parts of a set
+
+flags_clear : Clear dbf_flag × Clear info_flags
+flags_clear = (clear_from (pps.pps_dbf_info_in_ph_flag ∷ []) refl, clear_from (pps.pps_rpl_info_in_ph_flag ∷ pps.pps_sao_info_in_ph_flag ∷ pps.pps_wp_info_in_ph_flag ∷ []) refl)
+
+module _ {items : List Item} {end_ : Partition} (p : Parts items end_) where
+  from_front : (set : List ℕ) → Clear set → sections_pass (hides_row set) tools ≡ true → shown_items set items ≡ shown_items set (items_along (sections_form front fresh) p.first.values)
+  from_front set clear hides =
+      let none_division = (division_unshown set p.scope clear p.second).0 in
+      let none_tools : shown_items set p.tool_items ≡ [] = ap (shown_items set) (sym p.third.given) ∙ none_shown set (sections_unshown set tools p.scope hides) p.third.follows in
+      ap (shown_items set) p.all ∙ unshown_behind set p.front_items (p.division ++ p.tool_items) (unshown_first set p.division p.tool_items none_division ∙ none_tools) ∙ ap (shown_items set) (sym p.first.given)
+
+  from_tools : (set : List ℕ) → Clear set → sections_pass (hides_row set) front ≡ true → shown_items set items ≡ shown_items set (items_along (sections_form tools p.scope) p.third.values)
+  from_tools set clear hides =
+      let none_division = (division_unshown set p.scope clear p.second).0 in
+      let none_front : shown_items set p.front_items ≡ [] = ap (shown_items set) (sym p.first.given) ∙ none_shown set (sections_unshown set front fresh hides) p.first.follows in
+      ap (shown_items set) p.all ∙ unshown_first set p.front_items (p.division ++ p.tool_items) none_front ∙ unshown_first set p.division p.tool_items none_division ∙ ap (shown_items set) (sym p.third.given)
+
+  -- the tools cut before and behind each of the two tables
+  at_dbf : Parted (sections_form before_dbf p.scope) (sections_form from_dbf) p.third.values p.last
+  at_dbf = cut before_dbf from_dbf p.scope p.third.follows
+
+  at_offsets : Parted (sections_form dbf_info at_dbf.mid) (sections_form (dbf_offsets ++ from_info)) at_dbf.others p.last
+  at_offsets = cut dbf_info (dbf_offsets ++ from_info) at_dbf.mid at_dbf.second
+
+  at_info : Parted (sections_form dbf_offsets at_offsets.mid) (sections_form from_info) at_offsets.others p.last
+  at_info = cut dbf_offsets from_info at_offsets.mid at_offsets.second
+
+  at_end : Parted (sections_form header_info at_info.mid) (sections_form end) at_info.others p.last
+  at_end = cut header_info end at_info.mid at_info.second
+
+  kept_runs : kept_along (sections_form tools p.scope) p.third.values
+      ≡ kept_along (sections_form before_dbf p.scope) at_dbf.front ++ (kept_along (sections_form dbf_info at_dbf.mid) at_offsets.front ++ (kept_along (sections_form dbf_offsets at_offsets.mid) at_info.front
+      ++ (kept_along (sections_form header_info at_info.mid) at_end.front ++ kept_along (sections_form end at_end.mid) at_end.others)))
+  kept_runs =
+      both_kept before_dbf from_dbf p.scope at_dbf
+      ∙ ap (λ k. kept_along (sections_form before_dbf p.scope) at_dbf.front ++ k) (both_kept dbf_info (dbf_offsets ++ from_info) at_dbf.mid at_offsets
+      ∙ ap (λ k. kept_along (sections_form dbf_info at_dbf.mid) at_offsets.front ++ k) (both_kept dbf_offsets from_info at_offsets.mid at_info
+      ∙ ap (λ k. kept_along (sections_form dbf_offsets at_offsets.mid) at_info.front ++ k) (both_kept header_info end at_info.mid at_end)))
+
+  -- a set's shown items, by the run that has them
+  from_early : (set : List ℕ) → Clear set → IsAside set front → IsAside set from_dbf → shown_items set items ≡ shown_items set (items_along (sections_form before_dbf p.scope) at_dbf.front)
+  from_early set clear a b = from_tools set clear a ∙ shows_first before_dbf from_dbf p.scope at_dbf set b
+
+  from_table : (set : List ℕ) → Clear set → IsAside set front → IsAside set before_dbf → shown_items set items ≡ shown_items set (items_along (sections_form from_dbf at_dbf.mid) at_dbf.others)
+  from_table set clear a b = from_tools set clear a ∙ shows_more before_dbf from_dbf p.scope at_dbf set b
+
+  from_rest : (set : List ℕ) → Clear set → IsAside set front → IsAside set before_dbf → IsAside set dbf_info
+      → shown_items set items ≡ shown_items set (items_along (sections_form (dbf_offsets ++ from_info) at_offsets.mid) at_offsets.others)
+  from_rest set clear a b c = from_table set clear a b ∙ shows_more dbf_info (dbf_offsets ++ from_info) at_dbf.mid at_offsets set c
+
+  from_headers : (set : List ℕ) → Clear set → IsAside set front → IsAside set before_dbf → IsAside set dbf_info → IsAside set dbf_offsets
+      → shown_items set items ≡ shown_items set (items_along (sections_form from_info at_info.mid) at_info.others)
+  from_headers set clear a b c d = from_rest set clear a b c ∙ shows_more dbf_offsets from_info at_offsets.mid at_info set d
+
+  -- ---- the numbers of the flags, in their tables
+
+  dbf_number : number items pps.pps_dbf_info_in_ph_flag ≡ number (items_along (sections_form dbf_info at_dbf.mid) at_offsets.front) pps.pps_dbf_info_in_ph_flag
+  unfolding fresh
+  dbf_number =
+      let of : ℕ = pps.pps_dbf_info_in_ph_flag in
+      let here : List Item = items_along (sections_form dbf_info at_dbf.mid) at_offsets.front in
+      let shown : shown_items dbf_flag items ≡ shown_items dbf_flag here = from_table dbf_flag flags_clear.0 dbf_aside.0 dbf_aside.1 ∙ shows_first dbf_info (dbf_offsets ++ from_info) at_dbf.mid at_offsets dbf_flag dbf_aside.2 in
+      number_of_shown dbf_flag of items refl ∙ ap (λ xs. number xs of) shown ∙ sym (number_of_shown dbf_flag of here refl)
+
+  info_number : (of : ℕ) → IsTrue (has info_flags of) → number items of ≡ number (items_along (sections_form header_info at_info.mid) at_end.front) of
+  info_number of is =
+      let here : List Item = items_along (sections_form header_info at_info.mid) at_end.front in
+      let shown : shown_items info_flags items ≡ shown_items info_flags here =
+      from_headers info_flags flags_clear.1 info_aside.0 info_aside.1 info_aside.2 info_aside.3 ∙ shows_first header_info end at_info.mid at_end info_flags info_aside.4 in
+      number_of_shown info_flags of items is ∙ ap (λ xs. number xs of) shown ∙ sym (number_of_shown info_flags of here is)
+
+  -- ---- and the scopes that the tables read
+
+  all_long : length fresh ≡ length p.last
+  all_long = (leaves_agree override (sections_form front) fresh p.first.values p.scope (sections_leave override front override_stands.0) p.first.follows).size
+      ∙ (leaves_agree early (sections_form tools) p.scope p.third.values p.last (sections_leave early tools tools_early) p.third.follows).size
+
+  dbf_scope : Agree numbered at_dbf.mid p.last
+  dbf_scope = leaves_agree numbered (sections_form from_dbf) at_dbf.mid at_dbf.others p.last (sections_leave numbered from_dbf dbf_stands) at_dbf.second
+
+  info_scope : Agree numbered at_info.mid p.last
+  info_scope = leaves_agree numbered (sections_form from_info) at_info.mid at_info.others p.last (sections_leave numbered from_info info_stands) at_info.second
+
+  dbf_keeps : (kept_along (sections_form dbf_info at_dbf.mid) at_offsets.front ≡ item pps.pps_dbf_info_in_ph_flag (pos (number items pps.pps_dbf_info_in_ph_flag)))
+      × (number items pps.pps_deblocking_filter_override_enabled_flag ≡ 0 → number items pps.pps_dbf_info_in_ph_flag ≡ 0)
+  unfolding fresh
+  dbf_keeps =
+      let whole_is : slice_index at_dbf.mid pps.pps_no_pic_partition_flag ≡ number items pps.pps_no_pic_partition_flag = dbf_scope.same pps.pps_no_pic_partition_flag refl ∙ numbers_told p pps.pps_no_pic_partition_flag refl in
+      let over : slice_index at_dbf.mid pps.pps_deblocking_filter_override_enabled_flag ≡ number items pps.pps_deblocking_filter_override_enabled_flag =
+      (leaves_agree override (sections_form from_dbf) at_dbf.mid at_dbf.others p.last (sections_leave override from_dbf override_stands.2) at_dbf.second).same pps.pps_deblocking_filter_override_enabled_flag refl ∙ override_told p in
+      let k = dbf_kept at_dbf.mid (all_long ∙ sym dbf_scope.size) (subst (λ n. n < 2) (sym whole_is) (flag_below p pps.pps_no_pic_partition_flag flags_are.0 (λ low high. omega (arith, low))))
+      (subst (λ n. n < 2) (sym over) (flag_below p pps.pps_deblocking_filter_override_enabled_flag flags_are.3 (λ low high. omega (arith, high)))) at_offsets.first in
+      (k.kept_is ∙ ap (λ n. item pps.pps_dbf_info_in_ph_flag (pos n)) (sym dbf_number), λ none. dbf_number ∙ k.none (over ∙ none))
+
+  info_keeps : (kept_along (sections_form header_info at_info.mid) at_end.front ≡ flag_items (number items pps.pps_rpl_info_in_ph_flag) (number items pps.pps_sao_info_in_ph_flag) (number items pps.pps_wp_info_in_ph_flag))
+      × (has_weights items ≡ false → number items pps.pps_wp_info_in_ph_flag ≡ 0)
+  unfolding fresh
+  info_keeps =
+      let whole_is : slice_index at_info.mid pps.pps_no_pic_partition_flag ≡ number items pps.pps_no_pic_partition_flag = info_scope.same pps.pps_no_pic_partition_flag refl ∙ numbers_told p pps.pps_no_pic_partition_flag refl in
+      let a : slice_index at_info.mid pps.pps_weighted_pred_flag ≡ number items pps.pps_weighted_pred_flag = info_scope.same pps.pps_weighted_pred_flag refl ∙ numbers_told p pps.pps_weighted_pred_flag refl in
+      let b : slice_index at_info.mid pps.pps_weighted_bipred_flag ≡ number items pps.pps_weighted_bipred_flag = info_scope.same pps.pps_weighted_bipred_flag refl ∙ numbers_told p pps.pps_weighted_bipred_flag refl in
+      let lists = info_number pps.pps_rpl_info_in_ph_flag refl in
+      let sao = info_number pps.pps_sao_info_in_ph_flag refl in
+      let weights = info_number pps.pps_wp_info_in_ph_flag refl in
+      let k = info_kept at_info.mid (all_long ∙ sym info_scope.size) (subst (λ n. n < 2) (sym whole_is) (flag_below p pps.pps_no_pic_partition_flag flags_are.0 (λ low high. omega (arith, low))))
+      (subst (λ n. n < 2) (sym a) (flag_below p pps.pps_weighted_pred_flag flags_are.1 (λ low high. omega (arith, high))))
+      (subst (λ n. n < 2) (sym b) (flag_below p pps.pps_weighted_bipred_flag flags_are.2 (λ low high. omega (arith, high)))) at_end.first in (
+        k.kept_is ∙ sym (ap (λ n. flag_items n (number items pps.pps_sao_info_in_ph_flag) (number items pps.pps_wp_info_in_ph_flag)) lists
+            ∙ ap (λ n. flag_items (number (items_along (sections_form header_info at_info.mid) at_end.front) pps.pps_rpl_info_in_ph_flag) n (number items pps.pps_wp_info_in_ph_flag)) sao
+            ∙ ap (λ n. flag_items (number (items_along (sections_form header_info at_info.mid) at_end.front) pps.pps_rpl_info_in_ph_flag) (number (items_along (sections_form header_info at_info.mid) at_end.front) pps.pps_sao_info_in_ph_flag) n) weights),
+        λ none. weights ∙ k.none (ap (λ n. (is_set (slice_index at_info.mid pps.pps_weighted_pred_flag) || is_set (slice_index at_info.mid pps.pps_weighted_bipred_flag)) && is_set n) (sym lists)
+            ∙ ap (λ n. (is_set n || is_set (slice_index at_info.mid pps.pps_weighted_bipred_flag)) && is_set (number items pps.pps_rpl_info_in_ph_flag)) a
+            ∙ ap (λ n. (is_set (number items pps.pps_weighted_pred_flag) || is_set n) && is_set (number items pps.pps_rpl_info_in_ph_flag)) b ∙ none),
+      )
+
+-- ---- two sets
+
+runs_clear : Clear (set_of front_fields) × Clear (set_of early_fields) × Clear (set_of offsets_fields) × Clear (set_of end_fields)
+runs_clear = (clear_from front_fields refl, clear_from early_fields refl, clear_from offsets_fields refl, clear_from end_fields refl)
+
+-- tables that are taken over keep the same
+run_keeps : (fields : List ℕ) (group : List Section) (s t : List ℕ) {v w : List ℤ} {a b : List ℕ} → IsRun fields group → Follows (sections_form group s) v a → Follows (sections_form group t) w b
+    → shown_items (set_of fields) (items_along (sections_form group s) v) ≡ shown_items (set_of fields) (items_along (sections_form group t) w) → kept_along (sections_form group s) v ≡ kept_along (sections_form group t) w
+run_keeps fields group s t {v} {w} {a} {b} run on along same =
+    let set : List ℕ = set_of fields in
+    let keeps = (structure_keeps_only [] fields group run.1).keeps in
+    rewritten_keeps set set (sections_form group s) (sections_form group t) v w a b (inside_itself set) (keeps s) (keeps t) (sections_fill_none group s run.2) (sections_fill_none group t run.2) on along same
+
+module _ {xs ys : List Item} {c d : Partition} (p : Parts xs c) (q : Parts ys d) (same : shown_items (names true) xs ≡ shown_items (names true) ys) where
+  -- a set of fewer shows the same
+  less : (fields : List ℕ) → is_inside (names true) fields ≡ true → shown_items (set_of fields) xs ≡ shown_items (set_of fields) ys
+  less fields is =
+      let inside : Inside (set_of fields) (names true) = inside_all fresh (names true) fields (inside_nothing (names true)) is in
+      sym (shown_of_shown (set_of fields) (names true) xs inside) ∙ ap (shown_items (set_of fields)) same ∙ shown_of_shown (set_of fields) (names true) ys inside
+
+  front_same : kept_along (sections_form front fresh) p.first.values ≡ kept_along (sections_form front fresh) q.first.values
+  front_same =
+      let set : List ℕ = set_of front_fields in
+      run_keeps front_fields front fresh fresh front_run p.first.follows q.first.follows (sym (from_front p set runs_clear.0 front_aside) ∙ less front_fields front_run.0 ∙ from_front q set runs_clear.0 front_aside)
+
+  early_same : kept_along (sections_form before_dbf p.scope) (at_dbf p).front ≡ kept_along (sections_form before_dbf q.scope) (at_dbf q).front
+  early_same =
+      let set : List ℕ = set_of early_fields in
+      run_keeps early_fields before_dbf p.scope q.scope early_run (at_dbf p).first (at_dbf q).first
+      (sym (from_early p set runs_clear.1 early_aside.0 early_aside.1) ∙ less early_fields early_run.0 ∙ from_early q set runs_clear.1 early_aside.0 early_aside.1)
+
+  offsets_same : kept_along (sections_form dbf_offsets (at_offsets p).mid) (at_info p).front ≡ kept_along (sections_form dbf_offsets (at_offsets q).mid) (at_info q).front
+  offsets_same =
+      let set : List ℕ = set_of offsets_fields in
+      let t = offsets_aside in
+      run_keeps offsets_fields dbf_offsets (at_offsets p).mid (at_offsets q).mid offsets_run (at_info p).first (at_info q).first
+      (sym (from_rest p set runs_clear.2 t.0 t.1 t.2 ∙ shows_first dbf_offsets from_info (at_offsets p).mid (at_info p) set t.3) ∙ less offsets_fields offsets_run.0
+      ∙ from_rest q set runs_clear.2 t.0 t.1 t.2 ∙ shows_first dbf_offsets from_info (at_offsets q).mid (at_info q) set t.3)
+
+  end_same : kept_along (sections_form end (at_end p).mid) (at_end p).others ≡ kept_along (sections_form end (at_end q).mid) (at_end q).others
+  end_same =
+      let set : List ℕ = set_of end_fields in
+      let t = end_aside in
+      run_keeps end_fields end (at_end p).mid (at_end q).mid end_run (at_end p).second (at_end q).second
+      (sym (from_headers p set runs_clear.3 t.0 t.1 t.2 t.3 ∙ shows_more header_info end (at_info p).mid (at_end p) set t.4) ∙ less end_fields end_run.0
+      ∙ from_headers q set runs_clear.3 t.0 t.1 t.2 t.3 ∙ shows_more header_info end (at_info q).mid (at_end q) set t.4)
+
+  -- sets with what a frame takes over, and the four flags, keep the same
+  same_kept : number xs pps.pps_dbf_info_in_ph_flag ≡ number ys pps.pps_dbf_info_in_ph_flag → number xs pps.pps_rpl_info_in_ph_flag ≡ number ys pps.pps_rpl_info_in_ph_flag
+      → number xs pps.pps_sao_info_in_ph_flag ≡ number ys pps.pps_sao_info_in_ph_flag → number xs pps.pps_wp_info_in_ph_flag ≡ number ys pps.pps_wp_info_in_ph_flag → kept_of xs ≡ kept_of ys
+  same_kept dbf lists sao weights =
+      let a = early_same in
+      let b : kept_along (sections_form dbf_info (at_dbf p).mid) (at_offsets p).front ≡ kept_along (sections_form dbf_info (at_dbf q).mid) (at_offsets q).front =
+      (dbf_keeps p).0 ∙ ap (λ n. item pps.pps_dbf_info_in_ph_flag (pos n)) dbf ∙ sym (dbf_keeps q).0 in
+      let e : kept_along (sections_form header_info (at_info p).mid) (at_end p).front ≡ kept_along (sections_form header_info (at_info q).mid) (at_end q).front =
+      (info_keeps p).0 ∙ ap (λ n. flag_items n (number xs pps.pps_sao_info_in_ph_flag) (number xs pps.pps_wp_info_in_ph_flag)) lists
+      ∙ ap (λ n. flag_items (number ys pps.pps_rpl_info_in_ph_flag) n (number xs pps.pps_wp_info_in_ph_flag)) sao
+      ∙ ap (λ n. flag_items (number ys pps.pps_rpl_info_in_ph_flag) (number ys pps.pps_sao_info_in_ph_flag) n) weights ∙ sym (info_keeps q).0 in
+      let kept_tools : kept_along (sections_form tools p.scope) p.third.values ≡ kept_along (sections_form tools q.scope) q.third.values =
+      kept_runs p
+      ∙ ap (λ k. k ++ (kept_along (sections_form dbf_info (at_dbf p).mid) (at_offsets p).front ++ (kept_along (sections_form dbf_offsets (at_offsets p).mid) (at_info p).front
+      ++ (kept_along (sections_form header_info (at_info p).mid) (at_end p).front ++ kept_along (sections_form end (at_end p).mid) (at_end p).others)))) a
+      ∙ ap (λ k. kept_along (sections_form before_dbf q.scope) (at_dbf q).front ++ k)
+      (ap (λ k. k ++ (kept_along (sections_form dbf_offsets (at_offsets p).mid) (at_info p).front
+      ++ (kept_along (sections_form header_info (at_info p).mid) (at_end p).front ++ kept_along (sections_form end (at_end p).mid) (at_end p).others))) b
+      ∙ ap (λ k. kept_along (sections_form dbf_info (at_dbf q).mid) (at_offsets q).front ++ k)
+      (ap (λ k. k ++ (kept_along (sections_form header_info (at_info p).mid) (at_end p).front ++ kept_along (sections_form end (at_end p).mid) (at_end p).others)) offsets_same
+      ∙ ap (λ k. kept_along (sections_form dbf_offsets (at_offsets q).mid) (at_info q).front ++ k)
+      (ap (λ k. k ++ kept_along (sections_form end (at_end p).mid) (at_end p).others) e ∙ ap (λ k. kept_along (sections_form header_info (at_info q).mid) (at_end q).front ++ k) end_same)))
+      ∙ sym (kept_runs q) in
+      ap kept_of p.all ∙ kept_put p.first p.second p.third ∙ ap (λ k. k ++ kept_along (sections_form tools p.scope) p.third.values) front_same
+      ∙ ap (λ k. kept_along (sections_form front fresh) q.first.values ++ k) kept_tools ∙ sym (ap kept_of q.all ∙ kept_put q.first q.second q.third)
+
+-- ---- the numbers that a frame's set states
+
+moved : (of : ℕ) (x a b : List Item) → number (x ++ (a ++ b)) of ≡ number ((x ++ a) ++ b) of
+moved of x a b = ap (λ xs. number xs of) (sym (append_assoc x a b))
+
+-- the items behind one of them are of later fields
+none_weights : (of : ℕ) (weighted : Bool) (weights : ℤ) → of < 465 → NoneOf of (where_so weighted (item pps.pps_wp_info_in_ph_flag weights) ++ item pps.pps_qp_delta_info_in_ph_flag (pos 0))
+none_weights of weighted weights low =
+    none_where of pps.pps_wp_info_in_ph_flag weights weighted (item pps.pps_qp_delta_info_in_ph_flag (pos 0)) low (no_item of pps.pps_qp_delta_info_in_ph_flag (pos 0) [] (omega (arith, low)) (no_more of))
+
+abbrev behind_sao : Bool → ℤ → List Item
+behind_sao weighted weights = item pps.pps_alf_info_in_ph_flag (pos 0) ++ (where_so weighted (item pps.pps_wp_info_in_ph_flag weights) ++ item pps.pps_qp_delta_info_in_ph_flag (pos 0))
+
+none_alf : (of : ℕ) (weighted : Bool) (weights : ℤ) → of < 464 → NoneOf of (behind_sao weighted weights)
+none_alf of weighted weights low =
+    no_item of pps.pps_alf_info_in_ph_flag (pos 0) (where_so weighted (item pps.pps_wp_info_in_ph_flag weights) ++ item pps.pps_qp_delta_info_in_ph_flag (pos 0)) low (none_weights of weighted weights (omega (arith, low)))
+
+abbrev behind_lists : Bool → ℤ → ℤ → List Item
+behind_lists weighted sao weights = item pps.pps_sao_info_in_ph_flag sao ++ behind_sao weighted weights
+
+none_sao : (of : ℕ) (weighted : Bool) (sao weights : ℤ) → of < 463 → NoneOf of (behind_lists weighted sao weights)
+none_sao of weighted sao weights low = no_item of pps.pps_sao_info_in_ph_flag sao (behind_sao weighted weights) low (none_alf of weighted weights (omega (arith, low)))
+
+abbrev all_info : Bool → ℤ → ℤ → ℤ → List Item
+all_info weighted lists sao weights = item pps.pps_rpl_info_in_ph_flag lists ++ behind_lists weighted sao weights
+
+none_lists : (of : ℕ) (weighted : Bool) (lists sao weights : ℤ) → of < 462 → NoneOf of (all_info weighted lists sao weights)
+none_lists of weighted lists sao weights low = no_item of pps.pps_rpl_info_in_ph_flag lists (behind_lists weighted sao weights) low (none_sao of weighted sao weights (omega (arith, low)))
+
+-- the numbers, behind whatever
+module _ (x : List Item) (weighted : Bool) (lists sao weights : ℤ) where
+  lists_stated : number (x ++ all_info weighted lists sao weights) pps.pps_rpl_info_in_ph_flag ≡ natural lists
+  lists_stated = number_of_last pps.pps_rpl_info_in_ph_flag lists x (behind_lists weighted sao weights) (omega arith) (none_sao pps.pps_rpl_info_in_ph_flag weighted sao weights (omega arith))
+
+  sao_stated : number (x ++ all_info weighted lists sao weights) pps.pps_sao_info_in_ph_flag ≡ natural sao
+  sao_stated =
+      let of : ℕ = pps.pps_sao_info_in_ph_flag in
+      let y : List Item = x ++ item pps.pps_rpl_info_in_ph_flag lists in
+      moved of x (item pps.pps_rpl_info_in_ph_flag lists) (behind_lists weighted sao weights) ∙ number_of_last of sao y (behind_sao weighted weights) (omega arith) (none_alf of weighted weights (omega arith))
+
+weights_stated : (x : List Item) (lists sao weights : ℤ) → number (x ++ all_info true lists sao weights) pps.pps_wp_info_in_ph_flag ≡ natural weights
+weights_stated x lists sao weights =
+    let of : ℕ = pps.pps_wp_info_in_ph_flag in
+    let a : List Item = item pps.pps_rpl_info_in_ph_flag lists in
+    let b : List Item = item pps.pps_sao_info_in_ph_flag sao in
+    let e : List Item = item pps.pps_alf_info_in_ph_flag (pos 0) in
+    let behind : List Item = item pps.pps_qp_delta_info_in_ph_flag (pos 0) in
+    moved of x a (behind_lists true sao weights) ∙ moved of (x ++ a) b (behind_sao true weights) ∙ moved of ((x ++ a) ++ b) e (item of weights ++ behind)
+    ∙ number_of_last of weights (((x ++ a) ++ b) ++ e) behind (omega arith) (no_item of pps.pps_qp_delta_info_in_ph_flag (pos 0) [] (omega arith) (no_more of))
+
+-- all that is stated of a frame's tools, behind whatever
+abbrev is_overridden : List Item → Bool
+is_overridden source = is_set (number source pps.pps_deblocking_filter_override_enabled_flag)
+
+abbrev stated_tools : ℤ → Bool → ℤ → Bool → ℤ → ℤ → ℤ → List Item
+stated_tools qp over dbf weighted lists sao weights = item pps.pps_init_qp_minus26 qp ++ (where_so over (item pps.pps_dbf_info_in_ph_flag dbf) ++ all_info weighted lists sao weights)
+
+module _ (x : List Item) (qp : ℤ) (over : Bool) (dbf : ℤ) (weighted : Bool) (lists sao weights : ℤ) where
+  info_behind : (of : ℕ) → number (x ++ stated_tools qp over dbf weighted lists sao weights) of
+      ≡ number (((x ++ item pps.pps_init_qp_minus26 qp) ++ where_so over (item pps.pps_dbf_info_in_ph_flag dbf)) ++ all_info weighted lists sao weights) of
+  info_behind of = moved of x (item pps.pps_init_qp_minus26 qp) (where_so over (item pps.pps_dbf_info_in_ph_flag dbf) ++ all_info weighted lists sao weights)
+      ∙ moved of (x ++ item pps.pps_init_qp_minus26 qp) (where_so over (item pps.pps_dbf_info_in_ph_flag dbf)) (all_info weighted lists sao weights)
+
+dbf_stated : (x : List Item) (qp dbf : ℤ) (weighted : Bool) (lists sao weights : ℤ) → number (x ++ stated_tools qp true dbf weighted lists sao weights) pps.pps_dbf_info_in_ph_flag ≡ natural dbf
+dbf_stated x qp dbf weighted lists sao weights =
+    let of : ℕ = pps.pps_dbf_info_in_ph_flag in
+    moved of x (item pps.pps_init_qp_minus26 qp) (item of dbf ++ all_info weighted lists sao weights)
+    ∙ number_of_last of dbf (x ++ item pps.pps_init_qp_minus26 qp) (all_info weighted lists sao weights) (omega arith) (none_lists of weighted lists sao weights (omega arith))
+
+-- ---- the set for a frame
+
+-- the others' numbers are those of the items
+module _ {items source : List Item} {c d : Partition} (p : Parts items c) (q : Parts source d) (shape : PpsShape) (front_ : List Item)
+    (same : shown_items (names true) items ≡ shown_items (names true) source) (others : other_items (names true) items ≡ front_ ++ frame_tool_items source shape.init_qp) where
+  told_by_others : (of : ℕ) → IsTrue (has (set_of (of ∷ [])) of) → IsFalse (has (names true) of) → number items of ≡ number (front_ ++ frame_tool_items source shape.init_qp) of
+  told_by_others of is out = number_by_others (names true) of items is out ∙ ap (λ xs. number xs of) others
+
+  told_by_shown : (of : ℕ) → IsTrue (has (names true) of) → number items of ≡ number source of
+  told_by_shown of is = number_of_shown (names true) of items is ∙ ap (λ xs. number xs of) same ∙ sym (number_of_shown (names true) of source is)
+
+  lists_same : number items pps.pps_rpl_info_in_ph_flag ≡ number source pps.pps_rpl_info_in_ph_flag
+  unfolding fresh
+  lists_same =
+      let of : ℕ = pps.pps_rpl_info_in_ph_flag in
+      let flags = flags_of q in
+      told_by_others of refl refl
+      ∙ info_behind front_ shape.init_qp (is_overridden source) (pos (number source pps.pps_dbf_info_in_ph_flag)) (has_weights source) (pos (number source of)) (pos (number source pps.pps_sao_info_in_ph_flag)) (pos (number source pps.pps_wp_info_in_ph_flag)) of
+      ∙ lists_stated ((front_ ++ item pps.pps_init_qp_minus26 shape.init_qp) ++ where_so (is_overridden source) (item pps.pps_dbf_info_in_ph_flag (pos (number source pps.pps_dbf_info_in_ph_flag)))) (has_weights source) (pos (number source of)) (pos (number source pps.pps_sao_info_in_ph_flag)) (pos (number source pps.pps_wp_info_in_ph_flag)) ∙ natural_is (number source of) (omega (arith, flags.lists))
+
+  sao_same : number items pps.pps_sao_info_in_ph_flag ≡ number source pps.pps_sao_info_in_ph_flag
+  unfolding fresh
+  sao_same =
+      let of : ℕ = pps.pps_sao_info_in_ph_flag in
+      let flags = flags_of q in
+      told_by_others of refl refl
+      ∙ info_behind front_ shape.init_qp (is_overridden source) (pos (number source pps.pps_dbf_info_in_ph_flag)) (has_weights source) (pos (number source pps.pps_rpl_info_in_ph_flag)) (pos (number source of)) (pos (number source pps.pps_wp_info_in_ph_flag)) of
+      ∙ sao_stated ((front_ ++ item pps.pps_init_qp_minus26 shape.init_qp) ++ where_so (is_overridden source) (item pps.pps_dbf_info_in_ph_flag (pos (number source pps.pps_dbf_info_in_ph_flag)))) (has_weights source) (pos (number source pps.pps_rpl_info_in_ph_flag)) (pos (number source of)) (pos (number source pps.pps_wp_info_in_ph_flag)) ∙ natural_is (number source of) (omega (arith, flags.sao))
+
+  dbf_same : number items pps.pps_dbf_info_in_ph_flag ≡ number source pps.pps_dbf_info_in_ph_flag
+  unfolding fresh
+  dbf_same =
+      let of : ℕ = pps.pps_dbf_info_in_ph_flag in
+      let flags = flags_of q in
+      elim (cases_eq (number source pps.pps_deblocking_filter_override_enabled_flag) 0) [
+        | inl none ↦ (dbf_keeps p).1 (told_by_shown pps.pps_deblocking_filter_override_enabled_flag refl ∙ none) ∙ sym ((dbf_keeps q).1 none)
+        | inr some ↦
+            let is : is_overridden source ≡ true = ap not (ne_eqb (number source pps.pps_deblocking_filter_override_enabled_flag) 0 some) in
+            told_by_others of refl refl
+            ∙ ap (λ b. number (front_ ++ stated_tools shape.init_qp b (pos (number source of)) (has_weights source) (pos (number source pps.pps_rpl_info_in_ph_flag)) (pos (number source pps.pps_sao_info_in_ph_flag)) (pos (number source pps.pps_wp_info_in_ph_flag))) of) is
+            ∙ dbf_stated front_ shape.init_qp (pos (number source of)) (has_weights source) (pos (number source pps.pps_rpl_info_in_ph_flag)) (pos (number source pps.pps_sao_info_in_ph_flag)) (pos (number source pps.pps_wp_info_in_ph_flag))
+            ∙ natural_is (number source of) (omega (arith, flags.dbf))
+      ]
+
+  weighted_same : has_weights items ≡ has_weights source
+  unfolding fresh
+  weighted_same =
+      ap (λ n. (is_set n || is_set (number items pps.pps_weighted_bipred_flag)) && is_set (number items pps.pps_rpl_info_in_ph_flag)) (told_by_shown pps.pps_weighted_pred_flag refl)
+      ∙ ap (λ n. (is_set (number source pps.pps_weighted_pred_flag) || is_set n) && is_set (number items pps.pps_rpl_info_in_ph_flag)) (told_by_shown pps.pps_weighted_bipred_flag refl)
+      ∙ ap (λ n. (is_set (number source pps.pps_weighted_pred_flag) || is_set (number source pps.pps_weighted_bipred_flag)) && is_set n) lists_same
+
+  weights_same : number items pps.pps_wp_info_in_ph_flag ≡ number source pps.pps_wp_info_in_ph_flag
+  unfolding fresh
+  weights_same =
+      let of : ℕ = pps.pps_wp_info_in_ph_flag in
+      let flags = flags_of q in
+      elim (cases_Bool (has_weights source)) [
+        | inr none ↦ (info_keeps p).1 (weighted_same ∙ none) ∙ sym ((info_keeps q).1 none)
+        | inl some ↦
+            told_by_others of refl refl
+            ∙ ap (λ b. number (front_ ++ stated_tools shape.init_qp (is_overridden source) (pos (number source pps.pps_dbf_info_in_ph_flag)) b (pos (number source pps.pps_rpl_info_in_ph_flag)) (pos (number source pps.pps_sao_info_in_ph_flag)) (pos (number source of))) of) some
+            ∙ info_behind front_ shape.init_qp (is_overridden source) (pos (number source pps.pps_dbf_info_in_ph_flag)) true (pos (number source pps.pps_rpl_info_in_ph_flag)) (pos (number source pps.pps_sao_info_in_ph_flag)) (pos (number source of)) of
+            ∙ weights_stated ((front_ ++ item pps.pps_init_qp_minus26 shape.init_qp) ++ where_so (is_overridden source) (item pps.pps_dbf_info_in_ph_flag (pos (number source pps.pps_dbf_info_in_ph_flag)))) (pos (number source pps.pps_rpl_info_in_ph_flag)) (pos (number source pps.pps_sao_info_in_ph_flag)) (pos (number source of)) ∙ natural_is (number source of) (omega (arith, flags.weights))
+      ]
+
+  keeps_all : kept_of items ≡ kept_of source
+  keeps_all = same_kept p q same dbf_same lists_same sao_same weights_same
+
+pub frame_keeps : FrameKeeps
+frame_keeps source items shape set re merged =
+    let r = re.rewritten in
+    let begins : List Item = front_items (whole_flag source shape) shape in
+    let division : List Item = re.stated.division in
+    let shown : shown_items (names true) items ≡ shown_items (names true) source = subst (λ b. shown_items (names b) items ≡ shown_items (names b) source) merged r.shown_ones in
+    let others : other_items (names true) items ≡ re.others = subst (λ b. other_items (names b) items ≡ re.others) merged r.other_ones in
+    let all : re.others ≡ (begins ++ division) ++ frame_tool_items source shape.init_qp = re.stated.all
+    ∙ ap (λ b. begins ++ (division ++ where_so b (frame_tool_items source shape.init_qp))) merged ∙ sym (append_assoc begins division (frame_tool_items source shape.init_qp)) in
+    keeps_all (cut_parts items r.end (record { values = r.values; follows = r.follows; given = sym r.all })) (cut_parts source set.end set.set) shape (begins ++ division) shown (others ∙ all)
