@@ -18,9 +18,9 @@ use Rattle.vx_pic.specs.declared.kind.Kind.{Kind}
 use Rattle.vx_pic.specs.declared.picture.PictureParts.{PictureParts}
 use Rattle.vx_pic.specs.declared.picture.SliceSlot.{SliceSlot}
 use Rattle.vx_pic.specs.declared.picture.SliceView.{SliceView}
-use Rattle.vx_pic.specs.Sets.{SliceHeader, Slot, address_of, names_of, slice_qp, is_qp}
+use Rattle.vx_pic.specs.Sets.{SliceHeader, Slot, same_size, address_of, names_of, slice_qp, is_qp}
 use Rattle.vx_pic.specs.Readings.{Reading, Begun, Slice, Picture, stored_aps, messages_of}
-use Rattle.vx_pic.specs.PictureLayout.{ids_of, numbers_in}
+use Rattle.vx_pic.specs.PictureLayout.{ids_of, numbers_in, MakeLayout}
 use Rattle.vx_pic.specs.UnderSets.{header_of}
 
 -- ---- adaptation parameter sets
@@ -121,9 +121,12 @@ pub record MakePicture (p : PictureParts) : Type 0 where
   -- the units stand in the bytes, each slice with a payload (a slice that is read)
   pub header : p.header_end ≤ length p.bytes.now
   pub places : AllByRecursion (IsPlaced p.bytes.now) p.slices.now
-  -- the layout is that of the sets, and there are ids of all subpictures (a header that is read)
+  -- both sets have one size, and make up the layout and the ids, one of each subpicture (a header that is read)
+  pub size : same_size p.sps.now p.pps.now ≡ true
+  pub sets : MakeLayout p.sps.now p.pps.now
   pub layout : p.layout.now ≡ numbers_in p.sps.now p.pps.now
-  pub ids : length p.ids.now ≡ length p.layout.now.subpics
+  pub ids : p.ids.now ≡ ids_of p.sps.now p.pps.now
+  pub one_each : length p.ids.now ≡ length p.layout.now.subpics
   -- each slice's subpicture is one of the layout's (a slice that is read)
   pub subpics : AllByRecursion (λ s. s.header.subpic < length p.layout.now.subpics) p.slices.now
   -- each adaptation parameter set that a slice or the picture header names is there (a picture whose slices joined it)

@@ -2,3 +2,4 @@
 pub mod Layout
 pub mod Bodies
 pub mod Compared
+pub mod ApsLists

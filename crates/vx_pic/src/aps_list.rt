@@ -9,7 +9,7 @@ use vx_aps::{Aps, SCALING};
 /// How many ids a type has at most: 0 to 7 (H.266 7.4.3.6).
 const IDS: u8 = 8;
 
-/// The adaptation parameter sets that are stored, at most one of each type and id. Each is shared, and not copied.
+/// The adaptation parameter sets that are stored, at most one of each type and id. Each is valid, and shared, not copied.
 ///
 /// It is seen as the list of 24 sets, or their absence: those of type 0 by their ids, and then those of types 1 and 2.
 #[derive(Drop)]
@@ -20,12 +20,13 @@ pub struct ApsList {
 impl Model for ApsList {
     ghost use Rattle.std.specs.Prelude.{◌≡◌, List, Option, option_map, map, length};
     ghost use Rattle.vx_aps.specs.declared.aps.Aps.{Aps};
+    ghost use Rattle.vx_pic.specs.inner.ApsLists.{AreValid};
 
     ghost Value = { List (Option Aps) };
 
     ghost view = { λ l. map (option_map (λ rc. rc.value)) l.sets };
 
-    ghost invariant = { λ l. length l.sets ≡ 24 };
+    ghost invariant = { λ l. (length l.sets ≡ 24) × AreValid (map (option_map (λ rc. rc.value)) l.sets) };
 }
 
 /// A set that may be there, shared.
@@ -39,9 +40,9 @@ fn shared(aps: &Option<Rc<Aps>>) -> Result<Option<Rc<Aps>>, AllocError>
 }
 
 impl ApsList {
-    ghost use Rattle.std.specs.Prelude.{◌≡◌, ℕ, ◌<◌, ◌≤◌, List, Option, Some, None, option_copied, replicate, slice_set, IfOk};
-    ghost use Rattle.vx_aps.specs.declared.aps.TheConstants.{SCALING};
-    ghost use Rattle.vx_pic.specs.Parts.{aps_at, slot_of, id_count};
+    ghost use Rattle.std.specs.Prelude.{◌≡◌, ℕ, ◌<◌, ◌≤◌, List, Option, Some, None, option_copied, replicate, slice_set, IfOk, IfSome};
+    ghost use Rattle.vx_aps.specs.Aps.{IsValid};
+    ghost use Rattle.vx_pic.specs.Parts.{aps_at, slot_of};
 
     /// No sets. Takes no memory.
     pub fn new() -> ApsList
@@ -58,8 +59,7 @@ impl ApsList {
     #[tactic(auto, using(crate::proofs::ApsLists::replaced))]
     /// Stores a set in the place of the one of its type and id. Takes no memory.
     pub fn put(&mut self, aps: Rc<Aps>)
-        requires kind { aps.value.kind ≤ SCALING }
-        requires id { aps.value.id < id_count }
+        requires { IsValid aps.value }
         ensures list { self.new ≡ slice_set self.old (slot_of aps.value.kind aps.value.id) (Some aps.value) }
     {
         let place = usize::from(IDS) * usize::from(aps.kind) + usize::from(aps.id);
@@ -68,14 +68,16 @@ impl ApsList {
 
     /// The set of a type and an id.
     pub fn get(&self, kind: u8, id: u8) -> Option<&Aps>
-        ensures { option_copied result ≡ aps_at self.now kind id }
+        ensures set { option_copied result ≡ aps_at self.now kind id }
+        ensures valid { IfSome result (λ aps. IsValid aps.now) }
     {
         self.at(kind, u32::from(id))
     }
 
     /// The set of a type and an id of any size.
     pub(crate) fn at(&self, kind: u8, id: u32) -> Option<&Aps>
-        ensures { option_copied result ≡ aps_at self.now kind id }
+        ensures set { option_copied result ≡ aps_at self.now kind id }
+        ensures valid { IfSome result (λ aps. IsValid aps.now) }
     {
         if SCALING < kind || u32::from(IDS) <= id {
             return None;

@@ -83,10 +83,12 @@ impl<'a> Model for Picture<'a> {
 }
 
 impl<'a> Picture<'a> {
-    ghost use Rattle.std.specs.Prelude.{◌≡◌, ◌<◌, ◌≤◌, true, Some, length, drop, slice_get, option_copied, option_map};
+    ghost use Rattle.std.specs.Prelude.{◌≡◌, ◌<◌, ◌≤◌, true, Some, length, drop, slice_get, option_copied, option_map, IfSome};
     ghost use Rattle.vx_sps.specs.Set.{IsItems};
     ghost use Rattle.vx_sps.specs.Subpictures.{rect_of};
-    ghost use Rattle.vx_pic.specs.Sets.{is_qp, slice_qp};
+    ghost use Rattle.vx_bits.specs.Codes.{EndsInNoZero};
+    ghost use Rattle.vx_pic.specs.Sets.{is_qp, same_size, slice_qp};
+    ghost use Rattle.vx_pic.specs.PictureLayout.{MakeLayout, ids_of, numbers_in};
     ghost use Rattle.vx_pic.specs.Parts.{seen, MakePicture, aps_at, part_of, AreThere, named_by, read_of};
     ghost use Rattle.vx_pic.specs.Inputs.{body_of};
 
@@ -119,9 +121,12 @@ impl<'a> Picture<'a> {
         self.parts.pps
     }
 
-    /// Its tiles, slices and subpictures.
+    /// Its tiles, slices and subpictures, as its two sets make them up.
     pub fn layout(&self) -> &'a Layout
-        ensures { result.now ≡ self.now.layout }
+        ensures value { result.now ≡ self.now.layout }
+        ensures sets { self.now.layout ≡ numbers_in self.now.sps self.now.pps }
+        ensures made { MakeLayout self.now.sps self.now.pps }
+        ensures size { same_size self.now.sps self.now.pps ≡ true }
     {
         self.parts.layout
     }
@@ -136,6 +141,7 @@ impl<'a> Picture<'a> {
     /// The ids of its subpictures, by their index.
     pub fn ids(&self) -> &'a IdList
         ensures ids { result.now ≡ self.now.ids }
+        ensures sets { self.now.ids ≡ ids_of self.now.sps self.now.pps }
         ensures number { length self.now.ids ≡ length self.now.layout.subpics }
     {
         self.parts.ids
@@ -181,12 +187,14 @@ impl<'a> Picture<'a> {
 
     /// The body of an adaptation parameter set, by its type and id, as it was stored before the first slice.
     pub fn body(&self, kind: u8, id: u8) -> Option<&'a [u8]>
-        ensures { option_copied result ≡ option_map (λ aps. aps.body) (aps_at self.now.bodies kind id) }
+        ensures body { option_copied result ≡ option_map (λ aps. aps.body) (aps_at self.now.bodies kind id) }
+        ensures some { IfSome result (λ body. 0 < length body.now) }
+        ensures ends { IfSome result (λ body. EndsInNoZero body.now) }
     {
-        self.parts
-            .bodies
-            .get(kind, id)
-            .map(|aps| aps.body.as_slice())
+        match self.parts.bodies.get(kind, id) {
+            Some(aps) => Some(aps.body.as_slice()),
+            None => None,
+        }
     }
 
     /// The body of an adaptation parameter set, by its type and an id of any size.
