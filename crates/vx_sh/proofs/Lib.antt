@@ -9,6 +9,7 @@ pub mod Stopped
 pub mod Sized
 mod Written
 mod Told
+mod Addressed
 mod Writable
 mod Closed
 mod Elsewhere

@@ -97,12 +97,12 @@ address_told s values end size follows =
 
 -- ---- one part in front of another that leaves names alone
 
-record Peeled (names : List ℕ) (form : Form (List ℕ)) (items : List Item) (end : List ℕ) : Type 0 where
-  front : List ℤ
-  mid : List ℕ
-  follows : Follows form front mid
-  numbers : (of : ℕ) → IsTrue (has names of) → number items of ≡ number (items_along form front) of
-  agree : Agree names mid end
+pub record Peeled (names : List ℕ) (form : Form (List ℕ)) (items : List Item) (end : List ℕ) : Type 0 where
+  pub front : List ℤ
+  pub mid : List ℕ
+  pub follows : Follows form front mid
+  pub numbers : (of : ℕ) → IsTrue (has names of) → number items of ≡ number (items_along form front) of
+  pub agree : Agree names mid end
 
 peel : {names : List ℕ} {f : Form (List ℕ)} (next : List ℕ → Form (List ℕ)) {values : List ℤ} {end : List ℕ} → Leaves names next → Follows (f >>= next) values end
     → Peeled names f (items_along (f >>= next) values) end
@@ -162,7 +162,7 @@ unfolding fresh hides_row hides_counter
 behind_weights_leave_four = sections_leave four behind_weights refl
 
 -- the address's items are all that tell of these names
-rest_peeled : (table : RplTable) (points : ℕ → ℕ) (s : List ℕ) (values : List ℤ) (end : List ℕ) → Follows (rest_form table points s) values end
+pub rest_peeled : (table : RplTable) (points : ℕ → ℕ) (s : List ℕ) (values : List ℤ) (end : List ℕ) → Follows (rest_form table points s) values end
     → Peeled four (form_of ADDRESS s) (items_along (rest_form table points s) values) end
 unfolding address_form front_form before_weights rest_form
 rest_peeled table points s values end follows =

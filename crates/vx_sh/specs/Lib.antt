@@ -4,6 +4,7 @@ pub mod Depends
 pub mod Again
 pub mod Whole
 pub mod Value
+pub mod Addresses
 pub mod InForce
 pub mod Elsewhere
 pub mod inner

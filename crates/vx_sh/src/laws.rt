@@ -1,4 +1,5 @@
 //! Laws of slice headers: functions that do nothing, each with a law as its contract.
+ghost use Rattle.vx_sh.specs.Addresses.{AddressesAreBelow};
 ghost use Rattle.vx_sh.specs.Depends.{KeptDepend, AllDepend, AllAreShown, KeptAreShown};
 ghost use Rattle.vx_sh.specs.Again.{SlicesReadAgain, SlicesRewrite};
 ghost use Rattle.vx_sh.specs.Elsewhere.{SliceReadElsewhere};
@@ -28,6 +29,11 @@ pub fn slices_go_again()
 /// The items of a slice header tell whether the picture header stands inside, its subpicture and its address.
 pub fn numbers_are_told()
     ensures { NumbersAreTold }
+{}
+
+/// The address of a slice is below the number of slices of its subpicture.
+pub fn addresses_are_below()
+    ensures { AddressesAreBelow }
 {}
 
 /// What was read of a slice header can be written.
