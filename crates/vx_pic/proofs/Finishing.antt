@@ -30,11 +30,11 @@ use Rattle.vx_pic.specs.Finished.{IsSound, AreFinished, PicturesAreFinished}
 
 -- ---- what an answer tells of the steps
 
-then_told : {A B : Type 0} (x : Result A Refusal) (f : A → Result B Refusal) (y : B) → (x >>= f) ≡ Ok y → (a : A) × (x ≡ Ok a) × (f a ≡ Ok y)
+pub then_told : {A B : Type 0} (x : Result A Refusal) (f : A → Result B Refusal) (y : B) → (x >>= f) ≡ Ok y → (a : A) × (x ≡ Ok a) × (f a ≡ Ok y)
 then_told (Ok a) f y is = (a, refl, is)
 then_told (Err r) f y is = absurd (cc)
 
-passed : {B : Type 0} (b : Bool) (r : Refusal) (f : Unit {0} → Result B Refusal) (y : B) → (refuse_if b r >>= f) ≡ Ok y → (b ≡ false) × (f tt ≡ Ok y)
+pub passed : {B : Type 0} (b : Bool) (r : Refusal) (f : Unit {0} → Result B Refusal) (y : B) → (refuse_if b r >>= f) ≡ Ok y → (b ≡ false) × (f tt ≡ Ok y)
 passed true r f y is = absurd (cc)
 passed false r f y is = (refl, is)
 
@@ -174,12 +174,12 @@ or_missing : {A : Type 0} (x : Option A) (r : Refusal) (a : A) → ok_or x r ≡
 or_missing None r a is = absurd (cc)
 or_missing (Some b) r a is = cc
 
-test_told : {A : Type 0} (b : Bool) (x y : A) → cond b (Some x) None ≡ Some y → (b ≡ true) × (x ≡ y)
+pub test_told : {A : Type 0} (b : Bool) (x y : A) → cond b (Some x) None ≡ Some y → (b ≡ true) × (x ≡ y)
 test_told true x y is = (refl, cc)
 test_told false x y is = absurd (cc)
 
 -- what is found was given by some reading
-first_or : {A : Type 0} (x y : Option A) (a : A) (P : A → Type 0) → ((b : A) → x ≡ Some b → P b) → (y ≡ Some a → P a) → option_or x y ≡ Some a → P a
+pub first_or : {A : Type 0} (x y : Option A) (a : A) (P : A → Type 0) → ((b : A) → x ≡ Some b → P b) → (y ≡ Some a → P a) → option_or x y ≡ Some a → P a
 first_or None y a P here later is = later is
 first_or (Some b) y a P here later is = here a is
 
@@ -217,13 +217,15 @@ pps_given id (first_slice b k t) s is = absurd (cc)
 pps_given id (next_slice t) s is = absurd (cc)
 pps_given id sequence_ended s is = absurd (cc)
 
-record HeaderBegun (R : Readers) (u : List ℕ) (unit : Option (List ℕ)) (b : Begun) : Type 0 where
-  unit_is : b.unit ≡ unit
-  reads : HeaderReads R (is_none unit) u b
-  refers : referred_sps b.pps ≡ sps_id b.sps
+pub record HeaderBegun (R : Readers) (before : List Reading) (u : List ℕ) (unit : Option (List ℕ)) (b : Begun) : Type 0 where
+  pub unit_is : b.unit ≡ unit
+  pub reads : HeaderReads R (is_none unit) u b
+  pub refers : referred_sps b.pps ≡ sps_id b.sps
+  pub sps : stored_sps (referred_sps b.pps) before ≡ Some b.sps
+  pub pps : stored_pps (pps_id b.pps) before ≡ Some b.pps
 
-header_begun : (R : Readers) (before : List Reading) (u : List ℕ) (unit : Option (List ℕ)) (b : Begun) → begins R before u unit ≡ Ok b
-    → HeaderBegun R u unit b
+pub header_begun : (R : Readers) (before : List Reading) (u : List ℕ) (unit : Option (List ℕ)) (b : Begun) → begins R before u unit ≡ Ok b
+    → HeaderBegun R before u unit b
 header_begun R before u unit b is =
     let id = then_told (R.referred_pps (is_none unit) (rbsp_of u)) _ b is in
     let pps = then_told (ok_or (stored_pps id.0 before) (missing sets.PPS id.0)) _ b id.2 in
@@ -233,12 +235,12 @@ header_begun R before u unit b is =
     let header = then_told (R.header (is_none unit) sps.0 pps.0 (rbsp_of u)) _ b layout.2 in
     let told : Begun = record { sps = sps.0; pps = pps.0; layout = layout.0; header = header.0; temporal_id = temporal_id u; unit = unit } in
     let same : told ≡ b = let e = header.2 in cc in
-    let has_pps : id.0 ≡ pps_id pps.0 = given_by (pps_in id.0) (λ p. id.0 ≡ pps_id p) (pps_given id.0) before pps.0
-    (or_missing (stored_pps id.0 before) (missing sets.PPS id.0) pps.0 pps.1) in
+    let this_pps : stored_pps id.0 before ≡ Some pps.0 = or_missing (stored_pps id.0 before) (missing sets.PPS id.0) pps.0 pps.1 in
+    let this_sps : stored_sps (referred_sps pps.0) before ≡ Some sps.0 = or_missing (stored_sps (referred_sps pps.0) before) (missing sets.SPS (referred_sps pps.0)) sps.0 sps.1 in
+    let has_pps : id.0 ≡ pps_id pps.0 = given_by (pps_in id.0) (λ p. id.0 ≡ pps_id p) (pps_given id.0) before pps.0 this_pps in
     let has_sps : referred_sps pps.0 ≡ sps_id sps.0 =
-    given_by (sps_in (referred_sps pps.0)) (λ s. referred_sps pps.0 ≡ sps_id s) (sps_given (referred_sps pps.0)) before sps.0
-    (or_missing (stored_sps (referred_sps pps.0) before) (missing sets.SPS (referred_sps pps.0)) sps.0 sps.1) in
-    let P : Begun → Type 0 = HeaderBegun R u unit in
+    given_by (sps_in (referred_sps pps.0)) (λ s. referred_sps pps.0 ≡ sps_id s) (sps_given (referred_sps pps.0)) before sps.0 this_sps in
+    let P : Begun → Type 0 = HeaderBegun R before u unit in
     subst P same (record {
       unit_is = refl;
       reads = record {
@@ -249,6 +251,8 @@ header_begun R before u unit b is =
         tid = refl;
       };
       refers = has_sps;
+      sps = this_sps;
+      pps = subst (λ n. stored_pps n before ≡ Some pps.0) has_pps this_pps;
     })
 
 -- ---- one slice more
@@ -364,7 +368,7 @@ messages_known : (R : Readers) (before : List Reading) (ms : List Message) → K
     → Known R (messages_read ms ∷ before)
 messages_known R before ms k few = record { earlier = k.earlier; all = k.all; pics = k.pics; here = k.here; few = few }
 
-header_known : (R : Readers) (before : List Reading) (u : List ℕ) (b : Begun) → Known R before → IsPlain u header_unit → HeaderBegun R u (Some u) b
+header_known : (R : Readers) (before : List Reading) (u : List ℕ) (b : Begun) → Known R before → IsPlain u header_unit → HeaderBegun R before u (Some u) b
     → Known R (header_read b ∷ before)
 header_known R before u b k plain h = record {
   earlier = whole_part (current before) ++ k.earlier;
@@ -409,11 +413,11 @@ further_known R before p u s k cur part plain outside j =
 
 -- ---- each unit keeps it
 
-chosen : (b : Bool) (x y : Result Reading Refusal) (r : Reading) → cond b x y ≡ Ok r → ((b ≡ true) × (x ≡ Ok r)) ⊎ ((b ≡ false) × (y ≡ Ok r))
+pub chosen : (b : Bool) (x y : Result Reading Refusal) (r : Reading) → cond b x y ≡ Ok r → ((b ≡ true) × (x ≡ Ok r)) ⊎ ((b ≡ false) × (y ≡ Ok r))
 chosen true x y r is = inl (refl, is)
 chosen false x y r is = inr (refl, is)
 
-abbrev answered : Reading → Result Reading Refusal
+abbrev pub answered : Reading → Result Reading Refusal
 answered r = Ok r
 
 -- what is read is this
@@ -513,7 +517,7 @@ class_known R before u r sei_unit k plain is =
           (messages_known R before ms k (at_most message_limit (spelled_length (gathered before ++ ms)) p.0))
     ]
 
-by_layer : (reserved other : Bool) (x : Result Reading Refusal) (q : Refusal) (r : Reading) → cond reserved (Ok dropped) (cond other (Err q) x) ≡ Ok r
+pub by_layer : (reserved other : Bool) (x : Result Reading Refusal) (q : Refusal) (r : Reading) → cond reserved (Ok dropped) (cond other (Err q) x) ≡ Ok r
     → (answered dropped ≡ answered r) ⊎ ((reserved ≡ false) × (other ≡ false) × (x ≡ Ok r))
 by_layer true other x q r is = inl is
 by_layer false true x q r is = absurd (cc)

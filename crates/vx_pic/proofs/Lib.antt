@@ -14,6 +14,9 @@ pub mod Determined
 pub mod Deciding
 pub mod Distinct
 pub mod Existing
+pub mod ReadSets
+pub mod SliceCounts
+pub mod ByAddress
 pub mod Ids
 pub mod Answering
 pub mod ApsLists

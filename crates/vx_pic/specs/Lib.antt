@@ -22,5 +22,6 @@ pub mod Seen
 pub mod Differences
 pub mod H266
 pub mod H266Laws
+pub mod Whole
 pub mod Told
 pub mod inner

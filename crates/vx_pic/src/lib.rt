@@ -14,6 +14,7 @@ mod kept_fields;
 mod kind;
 mod laws;
 mod laws_readers;
+mod laws_whole;
 mod layouts;
 mod lender;
 mod picture;
@@ -39,6 +40,7 @@ pub use laws::{
     written_reads_again,
 };
 pub use laws_readers::{readers_are_unique, readers_exist};
+pub use laws_whole::{pictures_have_sets, subpictures_have_slices};
 pub use layouts::{CTU_SIZE_FAULT, IDS_FAULT, picture_ids, picture_layout};
 pub use lender::Lender;
 pub use picture::{Picture, PictureParts, SliceSlot, SliceSlots, SliceView};
