@@ -1,15 +1,17 @@
--- How many ids a picture has: one for each subpicture, where its sets agree on them.
+-- How many ids a picture has: one for each subpicture, where its sets agree on them; and how large those of its PPS are.
 use Rattle.std.proofs.Common.{◌≡◌, ◌≢◌, inl, inr, ℕ, ℤ, pos, negsuc, zero, suc, ◌+◌, ◌<◌, ◌≤◌, ◌==◌, ◌&&◌, ◌||◌, not, Bool, true, false, cond, List, [], ◌∷◌, ◌++◌, length, map, slice_index, slice_set, refl, ap, sym, subst, ◌∙◌, arith, append_assoc, length-append}
-use Rattle.std.specs.Prelude.{filter, drop, All}
-use Rattle.std.proofs.lemmas.Bool.{cases_Bool, ne_eqb, not-true, eqb-true, true≢false}
+use Rattle.std.proofs.Math.Pow.{pow_mono}
+use Rattle.std.specs.Prelude.{filter, drop, All, ◌-◌, ◌^◌, min}
+use Rattle.std.proofs.lemmas.Bool.{and_parts, cases_Bool, eq-eqb, ne_eqb, not-true, eqb-true, true≢false}
 use Rattle.std.proofs.lemmas.List.{append-nil, map-append}
 use Rattle.std.proofs.lemmas.List.Elements.{All-append, All-cons, All-head, All-nil, All-tail, filter-append}
 use Rattle.std.proofs.lemmas.List.FromFn.{length-map-range_with_len}
 use Rattle.std.proofs.Math.Path.{fun_ext}
 use Rattle.std.proofs.lemmas.List.{get_or-set_other, get_or-set_same, length-set, length-replicate}
 use Rattle.vx_bits.specs.declared.list.Item.{Item}
-use Rattle.vx_table.specs.declared.rows.Coding.TheVariants.{Golomb}
-use Rattle.vx_table.specs.declared.rows.Formula.TheVariants.{Equal}
+use Rattle.vx_table.specs.declared.rows.Coding.TheVariants.{Fixed, Golomb}
+use Rattle.vx_table.specs.declared.rows.Formula.TheVariants.{Equal, Plus}
+use Rattle.vx_table.specs.declared.rows.Limits.TheVariants.{Any}
 use Rattle.vx_table.specs.declared.rows.Term.TheVariants.{Latest, Number}
 use Rattle.vx_table.specs.Spelling.{HasCode}
 use Rattle.vx_fields.specs.declared.sps.TheConstants as sps_fields
@@ -26,7 +28,7 @@ use Rattle.vx_table.specs.Parts.{Section, always, sections_form}
 use Rattle.vx_table.specs.Scope.{capped, fresh, is_set, natural, value}
 use Rattle.vx_table.specs.Spelling.{item_of, one_item, items_along}
 use Rattle.vx_table.specs.Values.{Follows, to_end, through}
-use Rattle.vx_table.proofs.EachField.{each_of_sections}
+use Rattle.vx_table.proofs.EachField.{each_of_rows, each_of_sections}
 use Rattle.vx_table.proofs.Groups.{cut}
 use Rattle.vx_table.proofs.Joined.{items_joined, parted}
 use Rattle.vx_table.proofs.Loading.{number_of_last, number_of_none}
@@ -43,7 +45,7 @@ use Rattle.vx_pic.specs.PictureLayout.{are_in_pps, ids_of, ids_misplaced, ids_un
 
 -- ---- items of other fields
 
-abbrev Lacks : ℕ → List Item → Type 0
+abbrev pub Lacks : ℕ → List Item → Type 0
 Lacks of items = All (λ (item : Item). (item.field == of) ≡ false) items
 
 one_lacks : (of : ℕ) (cell : Cell ℕ) (v : ℤ) (b : Bool) → has_value cell.coding ≡ b → (cell.field == of) ≡ false → Lacks of (item_of cell v)
@@ -51,35 +53,74 @@ unfolding item_of
 one_lacks of cell v true is other = rw is (All-cons (λ (item : Item). (item.field == of) ≡ false) (record { field = cell.field; value = v }) [] other (All-nil (λ (item : Item). (item.field == of) ≡ false)))
 one_lacks of cell v false is other = rw is (All-nil (λ (item : Item). (item.field == of) ≡ false))
 
-items_lack : {A : Type 0} (of : ℕ) {f : Form A} {w : List ℤ} {a : A} → EachField (λ cell. (cell.field == of) ≡ false) f → Follows f w a → Lacks of (items_along f w)
+pub items_lack : {A : Type 0} (of : ℕ) {f : Form A} {w : List ℤ} {a : A} → EachField (λ cell. (cell.field == of) ≡ false) f → Follows f w a → Lacks of (items_along f w)
 items_lack of each to_end = All-nil (λ (item : Item). (item.field == of) ≡ false)
 items_lack of each (through {cell} {goes} {v} {w} is more) =
     All-append (λ (item : Item). (item.field == of) ≡ false) (item_of cell v) (items_along (goes v) w) (one_lacks of cell v (has_value cell.coding) refl each.0) (items_lack of (each.1 v) more)
 
-other_row : ℕ → Row → Bool
+unfoldable pub other_row : ℕ → Row → Bool
 other_row of (Field c) = not (c.field == of)
 other_row of (Block presence n) = true
 other_row of (Name name formula) = true
 
-other_sound : (of : ℕ) (c : Cell Formula) (s : List ℕ) → other_row of (Field c) ≡ true → (c.field == of) ≡ false
+pub other_sound : (of : ℕ) (c : Cell Formula) (s : List ℕ) → other_row of (Field c) ≡ true → (c.field == of) ≡ false
 unfolding other_row
 other_sound of c s is = not-true (c.field == of) is
 
-sections_lack : (of : ℕ) (sections : List Section) (s : List ℕ) {w : List ℤ} {e : List ℕ} → sections_pass (other_row of) sections ≡ true → Follows (sections_form sections s) w e
+pub sections_lack : (of : ℕ) (sections : List Section) (s : List ℕ) {w : List ℤ} {e : List ℕ} → sections_pass (other_row of) sections ≡ true → Follows (sections_form sections s) w e
     → Lacks of (items_along (sections_form sections s) w)
 sections_lack of sections s test follows = items_lack of (each_of_sections (λ cell. (cell.field == of) ≡ false) (other_row of) (other_sound of) sections s test) follows
 
-numbers_joined : (of : ℕ) (xs ys : List Item) → numbers_of (xs ++ ys) of ≡ numbers_of xs of ++ numbers_of ys of
+pub numbers_joined : (of : ℕ) (xs ys : List Item) → numbers_of (xs ++ ys) of ≡ numbers_of xs of ++ numbers_of ys of
 numbers_joined of xs ys =
     ap (map (λ (item : Item). natural item.value)) (filter-append (λ (item : Item). item.field == of) xs ys)
     ∙ map-append (λ (item : Item). natural item.value) (filter (λ (item : Item). item.field == of) xs) (filter (λ (item : Item). item.field == of) ys)
 
-numbers_none : (of : ℕ) (items : List Item) → Lacks of items → numbers_of items of ≡ []
+pub numbers_none : (of : ℕ) (items : List Item) → Lacks of items → numbers_of items of ≡ []
 numbers_none of [] lacks = refl
 numbers_none of (item ∷ items) lacks =
     let here : (item.field == of) ≡ false = All-head (λ (x : Item). (x.field == of) ≡ false) item items lacks in
     let rest = numbers_none of items (All-tail (λ (x : Item). (x.field == of) ≡ false) item items lacks) in
     rw here rest
+
+-- ---- ids of so many bits
+
+-- numbers of so many bits
+abbrev pub Low : ℕ → List ℕ → Type 0
+Low bits numbers = All (λ n. n < 2 ^ bits) numbers
+
+id_low : (len : ℕ) (v : ℤ) → HasCode (Fixed (min (capped (len + 1)) 32)) v → natural v < 2 ^ (len + 1)
+unfolding HasCode natural
+id_low len (pos n) code =
+    let fewer : min (capped (len + 1)) 32 ≤ len + 1 = omega arith in
+    let most : 2 ^ min (capped (len + 1)) 32 ≤ 2 ^ (len + 1) = pow_mono fewer in
+    omega (arith, code, most)
+id_low len (negsuc n) code = absurd code
+
+-- the row of an id, whose bits another field gives, less 1
+abbrev pub id_row : ℕ → ℕ → Row
+id_row of len = Field (record { field = of; kept = false; coding = Fixed (Plus (Latest len) (Number 1)); limits = Any })
+
+pub low_turns : (of len counter turn times : ℕ) (s : List ℕ) {w : List ℤ} {e : List ℕ} → len ≢ of → len ≢ counter → Follows (turns (form_of (id_row of len ∷ [])) counter turn times s) w e
+    → Low (slice_index s len + 1) (numbers_of (items_along (turns (form_of (id_row of len ∷ [])) counter turn times s) w) of)
+unfolding turns form_of part one_field after has_value coding_at limits_at item_of value
+low_turns of len counter turn zero s not_of not_counter to_end = All-nil (λ (n : ℕ). n < 2 ^ (slice_index s len + 1))
+low_turns of len counter turn (suc times) s not_of not_counter (through {v} {w} is more) =
+    let r : List ℕ = slice_set s counter turn in
+    let t : List ℕ = slice_set r of (natural v) in
+    let before : slice_index r len ≡ slice_index s len = get_or-set_other s counter len turn 0 not_counter in
+    let behind : slice_index t len ≡ slice_index s len = get_or-set_other r of len (natural v) 0 not_of ∙ before in
+    let here : natural v < 2 ^ (slice_index s len + 1) = subst (λ n. natural v < 2 ^ (n + 1)) before (id_low (slice_index r len) v is.code) in
+    let rest = low_turns of len counter (turn + 1) times t not_of not_counter more in
+    rw (eq-eqb of of refl) (All-cons (λ (n : ℕ). n < 2 ^ (slice_index s len + 1)) (natural v) _ here (rw behind at rest))
+
+-- The bits of ids, less 1, and items of which the ids have so many bits.
+pub record LengthAndLow (of len : ℕ) (items : List Item) : Type 0 where
+  pub length_of : ℤ
+  pub ids : List Item
+  pub low : Low (natural length_of + 1) (numbers_of ids of)
+  pub no_length : Lacks len ids
+  pub all : items ≡ record { field = len; value = length_of } ∷ ids
 
 -- ---- the table of ids
 
@@ -111,11 +152,11 @@ unfolding turns form_of part one_field after has_value coding_at limits_at item_
 turns_of_ids turn zero s to_end = no_more_ids
 turns_of_ids turn (suc times) s (through {v} {w} is more) = one_more_id times v _ (turns_of_ids (turn + 1) times _ more)
 
-at_end_nothing : {s : List ℕ} {w : List ℤ} {e : List ℕ} → Follows (done s) w e → w ≡ []
+pub at_end_nothing : {s : List ℕ} {w : List ℤ} {e : List ℕ} → Follows (done s) w e → w ≡ []
 at_end_nothing to_end = refl
 
 -- nothing follows
-bind_nothing : (f : Form (List ℕ)) (next : List ℕ → Form (List ℕ)) → ((s : List ℕ) → next s ≡ done s) → (f >>= next) ≡ f
+pub bind_nothing : (f : Form (List ℕ)) (next : List ℕ → Form (List ℕ)) → ((s : List ℕ) → next s ≡ done s) → (f >>= next) ≡ f
 bind_nothing (done s) next ends = ends s
 bind_nothing (field cell goes) next ends = ap (λ g. field cell g) (fun_ext (λ v. bind_nothing (goes v) next ends))
 
@@ -136,21 +177,34 @@ ids_behind s follows = rw (id_rows_are s) (turns_of_ids 0 (capped (slice_index s
 abbrev item : ℕ → ℤ → Item
 item of v = record { field = of; value = v }
 
+abbrev length_of_ids : ℕ
+length_of_ids = pps.pps_subpic_id_len_minus1
+
+low_ids : (s : List ℕ) {w : List ℤ} {e : List ℕ} → Follows (form_of id_rows s) w e → Low (slice_index s length_of_ids + 1) (numbers_of (items_along (form_of id_rows s) w) pps.pps_subpic_id)
+low_ids s follows =
+    rw (id_rows_are s) (low_turns pps.pps_subpic_id length_of_ids SUBPIC 0 (capped (slice_index s count_of_ids + 1)) s (omega arith) (omega arith) (rw (id_rows_are s) at follows))
+
+no_length_behind : (s : List ℕ) {w : List ℤ} {e : List ℕ} → Follows (form_of id_rows s) w e → Lacks length_of_ids (items_along (form_of id_rows s) w)
+unfolding other_row
+no_length_behind s follows = items_lack length_of_ids (each_of_rows (λ cell. (cell.field == length_of_ids) ≡ false) (other_row length_of_ids) (other_sound length_of_ids) id_rows s refl) follows
+
 -- a length, and so many ids
 record LengthAndIds (n : ℕ) (items : List Item) : Type 0 where
-  length_of : ℤ
-  ids : List Item
-  are : AreIds n ids
-  all : items ≡ item pps.pps_subpic_id_len_minus1 length_of ∷ ids
+  low : LengthAndLow pps.pps_subpic_id length_of_ids items
+  are : AreIds n low.ids
 
-length_and_ids : (s : List ℕ) {w : List ℤ} {e : List ℕ} → Follows (form_of (drop 6 tables.SUBPIC_IDS) s) w e
+length_and_ids : (s : List ℕ) {w : List ℤ} {e : List ℕ} → length s ≡ 1024 → Follows (form_of (drop 6 tables.SUBPIC_IDS) s) w e
     → LengthAndIds (capped (slice_index s count_of_ids + 1)) (items_along (form_of (drop 6 tables.SUBPIC_IDS) s) w)
 unfolding form_of part one_field after has_value coding_at limits_at item_of
-length_and_ids s (through {v} {w} is more) =
+length_and_ids s size (through {v} {w} is more) =
     let t : List ℕ = slice_set s pps.pps_subpic_id_len_minus1 (natural v) in
     let other : slice_index t count_of_ids ≡ slice_index s count_of_ids = get_or-set_other s pps.pps_subpic_id_len_minus1 count_of_ids (natural v) 0 (omega arith) in
     let are : AreIds (capped (slice_index t count_of_ids + 1)) (items_along (form_of id_rows t) w) = ids_behind t more in
-    record { length_of = v; ids = items_along (form_of id_rows t) w; are = rw other at are; all = refl }
+    let told : slice_index t length_of_ids ≡ natural v = get_or-set_same s length_of_ids (natural v) 0 (omega (arith, size)) in
+    record {
+      low = record { length_of = v; ids = items_along (form_of id_rows t) w; low = rw told at (low_ids t more); no_length = no_length_behind t more; all = refl };
+      are = rw other at are;
+    }
 
 -- the count, where it is spelled, before them
 data CountAndIds : List Item → Type 0 where
@@ -168,14 +222,14 @@ spelled_count s size (through {v} {w} is more) =
     let t : List ℕ = slice_set s count_of_ids (natural v) in
     let told : slice_index t count_of_ids ≡ natural v = get_or-set_same s count_of_ids (natural v) 0 (omega (arith, size)) in
     let many : capped (slice_index t count_of_ids + 1) ≡ natural v + 1 = ap (λ n. capped (n + 1)) told ∙ count_few v is.code in
-    counted_ids v (items_along (form_of (drop 6 tables.SUBPIC_IDS) t) w) (rw many at (length_and_ids t more))
+    counted_ids v (items_along (form_of (drop 6 tables.SUBPIC_IDS) t) w) (rw many at (length_and_ids t (length-set s count_of_ids (natural v) ∙ size) more))
 
 count_and_ids : (s : List ℕ) (b : Bool) {w : List ℤ} {e : List ℕ} → length s ≡ 1024 → slice_index s count_of_ids ≡ 0 → (value s (Equal (Latest pps.pps_no_pic_partition_flag) (Number 0)) == 0) ≡ b
     → Follows (form_of (drop 4 tables.SUBPIC_IDS) s) w e → CountAndIds (items_along (form_of (drop 4 tables.SUBPIC_IDS) s) w)
 unfolding form_of part one_field after has_value coding_at limits_at item_of present
 count_and_ids s true {w} {e} size zero_count is follows =
     let more : Follows (form_of (drop 6 tables.SUBPIC_IDS) s) w e = rw is at follows in
-    rw is (one_id (rw zero_count at (length_and_ids s more)))
+    rw is (one_id (rw zero_count at (length_and_ids s size more)))
 count_and_ids s false {w} size zero_count is follows = rw is (spelled_count s size (rw is at follows))
 
 -- what the table's items are
@@ -212,27 +266,27 @@ number_between : (of : ℕ) (v : ℤ) (a front behind : List Item) → of < 1024
 number_between of v a front behind small lacks =
     ap (λ xs. number xs of) (sym (append_assoc a front (item of v ∷ behind))) ∙ number_of_last of v (a ++ front) behind small lacks
 
-lacks_more : (of : ℕ) (x : Item) (items : List Item) → (x.field == of) ≡ false → Lacks of items → Lacks of (x ∷ items)
+pub lacks_more : (of : ℕ) (x : Item) (items : List Item) → (x.field == of) ≡ false → Lacks of items → Lacks of (x ∷ items)
 lacks_more of x items other lacks = All-cons (λ (y : Item). (y.field == of) ≡ false) x items other lacks
 
-lacks_both : (of : ℕ) (a b : List Item) → Lacks of a → Lacks of b → Lacks of (a ++ b)
+pub lacks_both : (of : ℕ) (a b : List Item) → Lacks of a → Lacks of b → Lacks of (a ++ b)
 lacks_both of a b one two = All-append (λ (y : Item). (y.field == of) ≡ false) a b one two
 
 -- so many ids stand behind their length
 many_ids : (n : ℕ) (items b : List Item) → LengthAndIds n items → Lacks pps.pps_subpic_id b → length (numbers_of (items ++ b) pps.pps_subpic_id) ≡ n
 many_ids n items b told none =
-    let here : numbers_of items pps.pps_subpic_id ≡ numbers_of told.ids pps.pps_subpic_id = ap (λ xs. numbers_of xs pps.pps_subpic_id) told.all in
-    let all : numbers_of (items ++ b) pps.pps_subpic_id ≡ numbers_of told.ids pps.pps_subpic_id
+    let here : numbers_of items pps.pps_subpic_id ≡ numbers_of told.low.ids pps.pps_subpic_id = ap (λ xs. numbers_of xs pps.pps_subpic_id) told.low.all in
+    let all : numbers_of (items ++ b) pps.pps_subpic_id ≡ numbers_of told.low.ids pps.pps_subpic_id
     = numbers_joined pps.pps_subpic_id items b ∙ ap (λ xs. numbers_of items pps.pps_subpic_id ++ xs) (numbers_none pps.pps_subpic_id b none) ∙ append-nil (numbers_of items pps.pps_subpic_id) ∙ here in
     ap length all ∙ told.are.many
 
 no_flag_in : (n : ℕ) (items : List Item) → LengthAndIds n items → Lacks flag_of_ids items
-no_flag_in n items told = rw told.all (lacks_more flag_of_ids _ told.ids refl told.are.no_flag)
+no_flag_in n items told = rw told.low.all (lacks_more flag_of_ids _ told.low.ids refl told.are.no_flag)
 
 no_count_in : (n : ℕ) (items : List Item) → LengthAndIds n items → Lacks count_of_ids items
-no_count_in n items told = rw told.all (lacks_more count_of_ids _ told.ids refl told.are.no_count)
+no_count_in n items told = rw told.low.all (lacks_more count_of_ids _ told.low.ids refl told.are.no_count)
 
-front_none : (a rest : List Item) → Lacks pps.pps_subpic_id a → numbers_of (a ++ rest) pps.pps_subpic_id ≡ numbers_of rest pps.pps_subpic_id
+pub front_none : (a rest : List Item) → Lacks pps.pps_subpic_id a → numbers_of (a ++ rest) pps.pps_subpic_id ≡ numbers_of rest pps.pps_subpic_id
 front_none a rest none = numbers_joined pps.pps_subpic_id a rest ∙ ap (λ xs. xs ++ numbers_of rest pps.pps_subpic_id) (numbers_none pps.pps_subpic_id a none)
 
 ids_told : (a b t : List Item) → HasIds t → Lacks count_of_ids a → Lacks pps.pps_subpic_id a → Lacks flag_of_ids b → Lacks count_of_ids b → Lacks pps.pps_subpic_id b
@@ -253,12 +307,51 @@ ids_told a b t (with_ids v u items (counted_ids n more told)) count_a id_a flag_
     (lacks_both count_of_ids more b (no_count_in (natural n + 1) more told) count_b) in
     ap length (front_none a rest id_a) ∙ many_ids (natural n + 1) more b told id_b ∙ ap (λ k. k + 1) (sym count)
 
+-- items none of which has the field of ids
+abbrev no_id_among : List Item → Bool
+no_id_among [] = true
+no_id_among (x ∷ items) = not (x.field == pps.pps_subpic_id) && no_id_among items
+
+other_fields : (items : List Item) → no_id_among items ≡ true → Lacks pps.pps_subpic_id items
+other_fields [] none = All-nil (λ (x : Item). (x.field == pps.pps_subpic_id) ≡ false)
+other_fields (x ∷ items) none =
+    let parts = and_parts (not (x.field == pps.pps_subpic_id)) (no_id_among items) none in
+    lacks_more pps.pps_subpic_id x items (not-true (x.field == pps.pps_subpic_id) parts.0) (other_fields items parts.1)
+
+-- ids behind their length, among other items
+pub low_told : (of len : ℕ) (a items b : List Item) → len < 1024 → (len == of) ≡ false → LengthAndLow of len items → Lacks of a → Lacks of b → Lacks len b
+    → Low (number (a ++ (items ++ b)) len + 1) (numbers_of (a ++ (items ++ b)) of)
+low_told of len a items b small apart told none_a none_b no_length =
+    let rest : List Item = told.ids ++ b in
+    let count : number (a ++ (item len told.length_of ∷ rest)) len ≡ natural told.length_of = number_of_last len told.length_of a rest small (lacks_both len told.ids b told.no_length no_length) in
+    let here : numbers_of (item len told.length_of ∷ rest) of ≡ numbers_of rest of = rw apart refl in
+    let all : numbers_of (a ++ (item len told.length_of ∷ rest)) of ≡ numbers_of told.ids of
+    = numbers_joined of a (item len told.length_of ∷ rest) ∙ ap (λ xs. xs ++ numbers_of (item len told.length_of ∷ rest) of) (numbers_none of a none_a) ∙ here
+    ∙ numbers_joined of told.ids b ∙ ap (λ xs. numbers_of told.ids of ++ xs) (numbers_none of b none_b) ∙ append-nil (numbers_of told.ids of) in
+    rw (told.all, count, all) told.low
+
+-- those of the table
+low_of_table : (a b t : List Item) → HasIds t → Lacks pps.pps_subpic_id a → Lacks flag_of_ids b → Lacks length_of_ids b → Lacks pps.pps_subpic_id b
+    → is_set (number (a ++ (t ++ b)) flag_of_ids) ≡ true → Low (number (a ++ (t ++ b)) length_of_ids + 1) (numbers_of (a ++ (t ++ b)) pps.pps_subpic_id)
+low_of_table a b t (no_ids v u none) id_a flag_b length_b id_b flagged =
+    let told : number (a ++ (item pps.pps_no_pic_partition_flag v ∷ item flag_of_ids u ∷ b)) flag_of_ids ≡ 0
+    = number_between flag_of_ids u a (item pps.pps_no_pic_partition_flag v ∷ []) b (omega arith) flag_b ∙ none in
+    absurd (true≢false (sym flagged ∙ ap is_set told))
+low_of_table a b t (with_ids v u items (one_id told)) id_a flag_b length_b id_b flagged =
+    let flags : List Item = item pps.pps_no_pic_partition_flag v ∷ item flag_of_ids u ∷ [] in
+    rw (← (append_assoc a flags (items ++ b)))
+    (low_told pps.pps_subpic_id length_of_ids (a ++ flags) items b (omega arith) refl told.low (lacks_both pps.pps_subpic_id a flags id_a (other_fields flags refl)) id_b length_b)
+low_of_table a b t (with_ids v u items (counted_ids n more told)) id_a flag_b length_b id_b flagged =
+    let flags : List Item = item pps.pps_no_pic_partition_flag v ∷ item flag_of_ids u ∷ item count_of_ids n ∷ [] in
+    rw (← (append_assoc a flags (more ++ b)))
+    (low_told pps.pps_subpic_id length_of_ids (a ++ flags) more b (omega arith) refl told.low (lacks_both pps.pps_subpic_id a flags id_a (other_fields flags refl)) id_b length_b)
+
 -- ---- a whole PPS
 
 abbrev before_ids : List Section
 before_ids = always tables.IDS ∷ always tables.NAL_TYPES ∷ always tables.SIZE ∷ always tables.OUTPUT ∷ []
 
-fresh_size : length fresh ≡ 1024
+pub fresh_size : length fresh ≡ 1024
 unfolding fresh
 fresh_size = length-replicate {A = ℕ} 1024 0
 
@@ -321,13 +414,26 @@ ids_of_pps items set flagged =
     rw all (ids_told a b t (table_ids f.mid f.size f.second) (sections_lack count_of_ids before_ids fresh refl f.first) (sections_lack pps.pps_subpic_id before_ids fresh refl f.first)
     (behind_lacks flag_of_ids items set.end p (omega arith) refl) (behind_lacks count_of_ids items set.end p (omega arith) refl) (behind_lacks pps.pps_subpic_id items set.end p (omega arith) refl) flag)
 
+low_ids_of_pps : (items : List Item) → IsItems items → is_set (number items flag_of_ids) ≡ true → Low (number items length_of_ids + 1) (numbers_of items pps.pps_subpic_id)
+unfolding other_row
+low_ids_of_pps items set flagged =
+    let p = cut_parts items set.end set.set in
+    let f = front_parts p.front_items p.first.values p.scope p.first.follows p.first.given in
+    let a : List Item = items_along (sections_form before_ids fresh) f.values in
+    let t : List Item = items_along (form_of tables.SUBPIC_IDS f.mid) f.table in
+    let b : List Item = p.division ++ p.tool_items in
+    let all : items ≡ a ++ (t ++ b) = p.all ∙ ap (λ xs. xs ++ b) f.all ∙ append_assoc a t b in
+    let flag : is_set (number (a ++ (t ++ b)) flag_of_ids) ≡ true = subst (λ xs. is_set (number xs flag_of_ids) ≡ true) all flagged in
+    rw all (low_of_table a b t (table_ids f.mid f.size f.second) (sections_lack pps.pps_subpic_id before_ids fresh refl f.first)
+    (behind_lacks flag_of_ids items set.end p (omega arith) refl) (behind_lacks length_of_ids items set.end p (omega arith) refl) (behind_lacks pps.pps_subpic_id items set.end p (omega arith) refl) flag)
+
 -- ---- both sets
 
-or_false : (a b : Bool) → (a || b) ≡ false → (a ≡ false) × (b ≡ false)
+pub or_false : (a b : Bool) → (a || b) ≡ false → (a ≡ false) × (b ≡ false)
 or_false true b e = absurd (true≢false e)
 or_false false b e = (refl, e)
 
-and_set : (a b : Bool) → a ≡ true → (a && b) ≡ false → b ≡ false
+pub and_set : (a b : Bool) → a ≡ true → (a && b) ≡ false → b ≡ false
 and_set true b is e = e
 and_set false b is e = absurd (true≢false (sym is))
 
@@ -335,7 +441,7 @@ both_true : (a b : Bool) → (a && b) ≡ true → b ≡ true
 both_true true b e = e
 both_true false b e = absurd (true≢false (sym e))
 
-not_false : (b : Bool) → not b ≡ false → b ≡ true
+pub not_false : (b : Bool) → not b ≡ false → b ≡ true
 not_false true e = refl
 not_false false e = absurd (true≢false e)
 
@@ -352,3 +458,15 @@ ids_count s p set agree = elim (cases_Bool (are_in_pps s p)) [
       rw here (ids_of_pps p set flagged ∙ ap (λ n. n + 1) count)
   | inr none ↦ rw none (length-map-range_with_len (id_of s) 0 (subpics_of s))
 ]
+
+-- ids that stand in the PPS have as many bits as the SPS says
+pub ids_low_in_pps : (s p : List Item) → IsItems p → ids_misplaced s p ≡ false → are_in_pps s p ≡ true → Low (number s sps_fields.sps_subpic_id_len_minus1 + 1) (ids_of s p)
+unfolding ids_of ids_misplaced
+ids_low_in_pps s p set agree here =
+    let flagged : is_set (number p flag_of_ids) ≡ true = both_true (is_set (number s sps_fields.sps_subpic_id_mapping_explicitly_signalled_flag)) (is_set (number p flag_of_ids)) here in
+    let others = or_false (not (same_flag (is_set (number p flag_of_ids)) (needs_ids s))) ((is_set (number p flag_of_ids) && ids_unlike s p) || ids_too_short s) agree in
+    let alike = or_false (is_set (number p flag_of_ids) && ids_unlike s p) (ids_too_short s) others.1 in
+    let same = or_false (not (number p count_of_ids == number s sps_fields.sps_num_subpics_minus1)) (not (number p length_of_ids == number s sps_fields.sps_subpic_id_len_minus1))
+    (and_set (is_set (number p flag_of_ids)) (ids_unlike s p) flagged alike.0) in
+    let bits = eqb-true (number p length_of_ids) (number s sps_fields.sps_subpic_id_len_minus1) (not_false (number p length_of_ids == number s sps_fields.sps_subpic_id_len_minus1) same.1) in
+    rw here (rw bits at (low_ids_of_pps p set flagged))

@@ -18,6 +18,7 @@ pub mod ReadSets
 pub mod SliceCounts
 pub mod ByAddress
 pub mod Ids
+pub mod IdBits
 pub mod Answering
 pub mod ApsLists
 pub mod StoredSets

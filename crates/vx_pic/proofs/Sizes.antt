@@ -3,12 +3,12 @@ use Rattle.std.proofs.Common.{◌≡◌, ℕ, ℤ, pos, negsuc, zero, suc, ◌+�
 use Rattle.std.specs.Int.{div_ceil}
 use Rattle.std.proofs.Math.Pow.{pow_mono}
 use Rattle.std.proofs.Math.Nat.{mul-le-mul_right}
-use Rattle.std.proofs.lemmas.Bool.{cases_lt, ne_eqb}
+use Rattle.std.proofs.lemmas.Bool.{cases_lt, eqb-true, leb-true, ne_eqb}
 use Rattle.vx_table.specs.EachField.{sections_pass}
 use Rattle.std.proofs.lemmas.Grind.{div_ceil_times}
 use Rattle.std.proofs.lemmas.List.{length-replicate, length-set, get_or-set_same, get_or-set_other}
 use Rattle.std.proofs.lemmas.Option.{none-some}
-use Rattle.std.specs.Prelude.{drop, IsTrue}
+use Rattle.std.specs.Prelude.{drop, int_le, IsTrue}
 use Rattle.vx_bits.specs.declared.list.Item.{Item}
 use Rattle.vx_fields.specs.declared.sps.TheConstants as sps
 use Rattle.vx_table.specs.declared.rows.Fault.{Fault}
@@ -21,6 +21,7 @@ use Rattle.vx_table.specs.Parts.{Section, always, sections_form}
 use Rattle.vx_table.specs.Scope.{fresh, natural, loaded, quotient}
 use Rattle.vx_table.specs.Spelling.{fault_of}
 use Rattle.vx_table.specs.Values.{Follows, through}
+use Rattle.vx_table.proofs.Bounds.{unbroken_multiple}
 use Rattle.vx_table.proofs.Groups.{cut}
 use Rattle.vx_table.proofs.Loading.{number_below, sections_load, sections_stay_below}
 use Rattle.vx_table.specs.Forms.{present}
@@ -53,12 +54,20 @@ one_tile_rises size some = (refl, (some, tt))
 
 -- ---- the size of a picture
 
--- a number that is 8, 16, 24 .. is above 0
+-- a number that is 8, 16, 24 .. is above 0, and whole times 8
 multiple_some : (v : ℤ) (fault : Fault) → fault_of (Multiple 8 16384 fault) v ≡ None → 0 < natural v
 unfolding fault_of natural
 multiple_some (pos zero) fault range = absurd (none-some _ (sym range))
 multiple_some (pos (suc n)) fault range = omega arith
 multiple_some (negsuc n) fault range = absurd (none-some _ (sym range))
+
+multiple_whole : (v : ℤ) (fault : Fault) → fault_of (Multiple 8 16384 fault) v ≡ None → natural v % 8 ≡ 0
+unfolding fault_of natural
+multiple_whole (pos zero) fault range = refl
+multiple_whole (pos (suc n)) fault range =
+    let both = unbroken_multiple (int_le (pos (suc n)) (pos 16384)) (suc n % 8 == 0) fault range in
+    omega (arith, leb-true (suc n) 16384 both.0, eqb-true (suc n % 8) 0 both.1)
+multiple_whole (negsuc n) fault range = refl
 
 -- the fields of the size
 abbrev sides : List ℕ
@@ -67,30 +76,33 @@ sides = set_of (sps.sps_pic_width_max_in_luma_samples ∷ sps.sps_pic_height_max
 record HasSize (s : List ℕ) : Type 0 where
   wide : 0 < slice_index s sps.sps_pic_width_max_in_luma_samples
   high : 0 < slice_index s sps.sps_pic_height_max_in_luma_samples
+  wide_whole : slice_index s sps.sps_pic_width_max_in_luma_samples % 8 ≡ 0
+  high_whole : slice_index s sps.sps_pic_height_max_in_luma_samples % 8 ≡ 0
 
 same_size : (s t : List ℕ) → Agree sides s t → HasSize s → HasSize t
 unfolding fresh
 same_size s t agree size = record {
   wide = rw (← (agree.same sps.sps_pic_width_max_in_luma_samples refl)) size.wide;
   high = rw (← (agree.same sps.sps_pic_height_max_in_luma_samples refl)) size.high;
+  wide_whole = rw (← (agree.same sps.sps_pic_width_max_in_luma_samples refl)) size.wide_whole;
+  high_whole = rw (← (agree.same sps.sps_pic_height_max_in_luma_samples refl)) size.high_whole;
 }
 
 -- behind the first two rows of its table it is told
-set_both : (s : List ℕ) (w h : ℕ) → length s ≡ 1024 → 0 < w → 0 < h → HasSize (slice_set (slice_set s sps.sps_pic_width_max_in_luma_samples w) sps.sps_pic_height_max_in_luma_samples h)
-set_both s w h size some more =
+set_both : (s : List ℕ) (w h : ℕ) → length s ≡ 1024 → 0 < w → 0 < h → w % 8 ≡ 0 → h % 8 ≡ 0 → HasSize (slice_set (slice_set s sps.sps_pic_width_max_in_luma_samples w) sps.sps_pic_height_max_in_luma_samples h)
+set_both s w h size some more whole all =
     let first = slice_set s sps.sps_pic_width_max_in_luma_samples w in
     let same : length first ≡ 1024 = length-set s sps.sps_pic_width_max_in_luma_samples w ∙ size in
-    record {
-      wide = rw (get_or-set_other first sps.sps_pic_height_max_in_luma_samples sps.sps_pic_width_max_in_luma_samples h 0 (omega arith), get_or-set_same s sps.sps_pic_width_max_in_luma_samples w 0 (omega (arith, size))) some;
-      high = rw (get_or-set_same first sps.sps_pic_height_max_in_luma_samples h 0 (omega (arith, same))) more;
-    }
+    let wide = get_or-set_other first sps.sps_pic_height_max_in_luma_samples sps.sps_pic_width_max_in_luma_samples h 0 (omega arith) ∙ get_or-set_same s sps.sps_pic_width_max_in_luma_samples w 0 (omega (arith, size)) in
+    let high = get_or-set_same first sps.sps_pic_height_max_in_luma_samples h 0 (omega (arith, same)) in
+    record { wide = rw wide some; high = rw high more; wide_whole = rw wide whole; high_whole = rw high all }
 
 table_sizes : (s : List ℕ) {w : List ℤ} {e : List ℕ} → length s ≡ 1024 → Follows (form_of SIZE s) w e → HasSize e
 unfolding fresh form_of part one_field after has_value coding_at limits_at hides_row hides_counter
 table_sizes s {e} size (through {v} first (through {v = u} {w} second more)) =
     let at : List ℕ = slice_set (slice_set s sps.sps_pic_width_max_in_luma_samples (natural v)) sps.sps_pic_height_max_in_luma_samples (natural u) in
     same_size at e (leaves_agree sides (form_of (drop 2 SIZE)) at w e (tables_leave sides (drop 2 SIZE) refl) more)
-    (set_both s (natural v) (natural u) size (multiple_some v _ first.range) (multiple_some u _ second.range))
+    (set_both s (natural v) (natural u) size (multiple_some v _ first.range) (multiple_some u _ second.range) (multiple_whole v _ first.range) (multiple_whole u _ second.range))
 
 -- the tables before that of the size, and those behind it
 abbrev before : List Section
@@ -111,10 +123,12 @@ form_sizes {e} follows =
     let q = parted (form_of SIZE p.mid) (sections_form behind) p.second in
     same_size q.mid e (leaves_agree sides (sections_form behind) q.mid q.others e (sections_leave sides behind refl) q.second) (table_sizes p.mid (sym size ∙ fresh_size) q.first)
 
--- pictures have a size
+-- pictures have a size, in whole blocks of 8 luma samples
 pub record HasSides (items : List Item) : Type 0 where
   pub wide : 0 < width_of items
   pub high : 0 < height_of items
+  pub wide_whole : width_of items % 8 ≡ 0
+  pub high_whole : height_of items % 8 ≡ 0
 
 pub has_sides : (items : List Item) → IsItems items → HasSides items
 unfolding fresh names_none hides_counter
@@ -124,6 +138,8 @@ has_sides items set =
     record {
       wide = rw (set.all, loads.same sps.sps_pic_width_max_in_luma_samples refl) size.wide;
       high = rw (set.all, loads.same sps.sps_pic_height_max_in_luma_samples refl) size.high;
+      wide_whole = rw (set.all, loads.same sps.sps_pic_width_max_in_luma_samples refl) size.wide_whole;
+      high_whole = rw (set.all, loads.same sps.sps_pic_height_max_in_luma_samples refl) size.high_whole;
     }
 
 positive : (k unit : ℕ) → 0 < k * unit → 0 < k
@@ -144,7 +160,7 @@ units n unit some few large =
     let times = div_ceil_times n unit (omega arith) in
     (positive (div_ceil n unit) unit (omega (arith, times.0, some)), at_most (div_ceil n unit) unit (omega (arith, times.1, few)) large)
 
-quotient_is : (n unit : ℕ) → 32 ≤ unit → quotient n unit ≡ div_ceil n unit
+pub quotient_is : (n unit : ℕ) → 32 ≤ unit → quotient n unit ≡ div_ceil n unit
 quotient_is n zero large = absurd (omega arith)
 quotient_is n (suc unit) large = let other = ne_eqb (suc unit) 0 (omega arith) in rw other refl
 
@@ -153,7 +169,8 @@ pub record HasCtus (items : List Item) : Type 0 where
   pub columns : (0 < columns_of items) × (columns_of items ≤ 512)
   pub rows : (0 < rows_of items) × (rows_of items ≤ 512)
 
-side_below : (of : ℕ) (items : List Item) (set : IsItems items) → sections_pass (row_below of 16385) sps_sections ≡ true → number items of < 16385
+-- a number of at most 16,384
+pub side_below : (of : ℕ) (items : List Item) (set : IsItems items) → sections_pass (row_below of 16385) sps_sections ≡ true → number items of < 16385
 side_below of items set test = subst (λ x. number x of < 16385) (sym set.all)
     (number_below of 16385 sps_form set.values set.end (omega arith) (sections_stay_below of 16385 sps_sections fresh (omega arith) test) set.follows)
 

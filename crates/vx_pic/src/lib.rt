@@ -44,7 +44,7 @@ pub use laws_whole::{pictures_have_sets, subpictures_have_slices};
 pub use layouts::{CTU_SIZE_FAULT, IDS_FAULT, picture_ids, picture_layout};
 pub use lender::Lender;
 pub use picture::{Picture, PictureParts, SliceSlot, SliceSlots, SliceView};
-pub use place::Place;
+pub use place::{Place, luma_size_of};
 pub use sets::{PPS, SPS};
 pub use unit_types::{
     CRA_NUT, EOB_NUT, EOS_NUT, GDR_NUT, IDR_N_LP, IDR_W_RADL, PH_NUT, PPS_NUT, PREFIX_APS_NUT,

@@ -28,7 +28,7 @@ pub struct Place {
 }
 
 /// The luma samples of `size` CTUs from `from` on, in a picture of `total` samples.
-fn luma_size_of(from: u32, size: u32, ctb: u32, total: u32) -> u32
+pub fn luma_size_of(from: u32, size: u32, ctb: u32, total: u32) -> u32
     ensures { result ≡ luma_size from size ctb total }
 {
     let end = (u64::from(from) + u64::from(size)).saturating_mul(u64::from(ctb));
