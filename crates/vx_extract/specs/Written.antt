@@ -1,6 +1,6 @@
 -- What is written for a subpicture of each picture of a stream.
 use Rattle.std.specs.Prelude.{◌≡◌, ℕ, ◌+◌, ◌*◌, ◌==◌, ◌&&◌, not, true, false, Bool, cond, List, [], ◌∷◌, ◌++◌, filter, map, flat_map, Option, Some, None}
-use Rattle.std.specs.List.{AllByRecursion, any_by, range_with_len}
+use Rattle.std.specs.List.{AllByRecursion, list_any, range_with_len}
 use Rattle.vx_bits.specs.declared.list.Item.{Item}
 use Rattle.vx_annexb.specs.Emulation.{IsEscaped}
 use Rattle.vx_annexb.specs.Laws.{written}
@@ -75,7 +75,7 @@ abbrev pub named_in : Parts → ℕ → List Slot
 named_in q target = flat_map (λ s. named_by q.pps q.header.fields s.header) (parts_in q target)
 
 abbrev pub is_named : Parts → ℕ → Slot → Bool
-is_named q target slot = any_by (same_slot slot) (named_in q target)
+is_named q target slot = list_any (same_slot slot) (named_in q target)
 
 -- the sets that are named
 abbrev pub aps_of_slot : Parts → Slot → List Set
