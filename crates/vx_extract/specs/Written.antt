@@ -77,13 +77,14 @@ named_in q target = flat_map (λ s. named_by q.pps q.header.fields s.header) (pa
 abbrev pub is_named : Parts → ℕ → Slot → Bool
 is_named q target slot = list_any (same_slot slot) (named_in q target)
 
+-- the set of a type and an id, where there is one
+abbrev pub set_of_slot : Slot → Option Aps → List Set
+set_of_slot slot None = []
+set_of_slot slot (Some a) = an_aps (record { kind = slot.kind; id = slot.id; body = a.body }) ∷ []
+
 -- the sets that are named
 abbrev pub aps_of_slot : Parts → Slot → List Set
-aps_of_slot q slot = option_sets (aps_at q.bodies slot.kind slot.id)
-  where
-  abbrev option_sets : Option Aps → List Set
-  option_sets None = []
-  option_sets (Some a) = an_aps (record { kind = slot.kind; id = slot.id; body = a.body }) ∷ []
+aps_of_slot q slot = set_of_slot slot (aps_at q.bodies slot.kind slot.id)
 
 abbrev pub needed_aps : Parts → ℕ → List Set
 needed_aps q target = flat_map (aps_of_slot q) (filter (is_named q target) all_slots)
