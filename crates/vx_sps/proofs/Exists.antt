@@ -66,7 +66,7 @@ abbrev is_golomb : Coding Formula → Bool
 is_golomb Golomb = true
 is_golomb coding = false
 
-pub golomb_row : ℕ → Row → Bool
+unfoldable pub golomb_row : ℕ → Row → Bool
 golomb_row of (Field c) = not (has_value c.coding && c.field == of) || is_golomb c.coding
 golomb_row of (Block presence n) = true
 golomb_row of (Name name formula) = true
