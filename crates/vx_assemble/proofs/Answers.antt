@@ -24,7 +24,7 @@ use Rattle.vx_ph.specs.InForce.{in_force, structures}
 use Rattle.vx_ph.specs.Picture.{ReadsHeader, ReadsUnit, unit_form}
 use Rattle.vx_sei.specs.declared.message.Message.{Message}
 use Rattle.vx_sei.specs.Sei.{Carries, IsSei, carried}
-use Rattle.std.specs.Prelude.{MatchOption, unwrap_or, IfErr, IfOk, IfSome, OnErr, ◌^◌}
+use Rattle.std.specs.Prelude.{MatchOption, unwrap_or, IfErr, IfOk, IfSome, OnErr, OnOk, ◌^◌}
 use Rattle.vx_sh.specs.declared.header.SliceHeader.{SliceHeader as SliceValue}
 use Rattle.vx_sh.specs.declared.numbers.SliceNumbers.{SliceNumbers}
 use Rattle.vx_sh.specs.InForce.{in_force_at, slice_scope}
@@ -38,7 +38,7 @@ use Rattle.vx_pic.specs.Units.{rbsp_of}
 use Rattle.vx_pic.specs.Sets.{SliceHeader}
 use Rattle.vx_pic.specs.Readings.{Begun}
 use Rattle.vx_layout.specs.Faults.{IsInLimits}
-use Rattle.vx_pic.specs.PictureLayout.{AnswersLayout, IsLayoutAnswer, numbers_in}
+use Rattle.vx_pic.specs.PictureLayout.{AnswersLayout, MakeLayout, IsLayoutAnswer, numbers_in}
 use Rattle.vx_pic.specs.UnderSets.{slice_at}
 use Rattle.vx_pic.specs.H266.{AnswersAt, header_place, form_in, IsReferredPps, IsSliceAnswer}
 use Rattle.vx_pic.proofs.Determined.{one_at, one_carried, one_id, one_layout, one_slice, one_value}
@@ -73,6 +73,10 @@ gives_layout s p answer (Err (Refused r)) is read = one_layout s p answer (Err r
 pub layout_numbers : (s p : List Item) (result : Result Numbers ReadError) → AnswersLayout s p result → IfOk result (λ n. n ≡ numbers_in s p)
 layout_numbers s p (Ok n) read = read.1
 layout_numbers s p (Err e) read = tt
+
+pub layout_made : (s p : List Item) (result : Result Numbers ReadError) → AnswersLayout s p result → OnOk result (MakeLayout s p)
+layout_made s p (Ok n) read = read.0
+layout_made s p (Err e) read = tt
 
 pub few_slices : (result : Result Numbers ReadError) → IfOk result IsInLimits → IfOk result (λ n. length n.slices ≤ 1000)
 few_slices (Ok n) limits = limits.slices.1

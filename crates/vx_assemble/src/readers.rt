@@ -1,5 +1,5 @@
 //! Sets and headers read.
-ghost use Rattle.std.specs.Prelude.{◌≡◌, ◌+◌, ◌≤◌, ◌^◌, ◌∷◌, [], drop, length, List, ℕ, Option, IsTrue, IfOk, IfSome};
+ghost use Rattle.std.specs.Prelude.{◌≡◌, ◌+◌, ◌≤◌, ◌^◌, ◌∷◌, [], drop, length, List, ℕ, Option, IsTrue, IfOk, IfSome, OnOk};
 ghost use Rattle.vx_rpl.specs.HeaderLists.{lists_of};
 ghost use Rattle.vx_ph.specs.InForce.{in_force, structures};
 ghost use Rattle.vx_pic.specs.Sets as sets;
@@ -8,7 +8,7 @@ ghost use Rattle.vx_assemble.specs.inner.Takes.{AreSmall};
 ghost use Rattle.vx_assemble.specs.inner.Joining.{names_in};
 ghost use Rattle.vx_aps.specs.Aps.{IsValid};
 ghost use Rattle.vx_pic.specs.PictureLayout as pictures;
-ghost use Rattle.vx_pic.specs.PictureLayout.{numbers_in};
+ghost use Rattle.vx_pic.specs.PictureLayout.{numbers_in, MakeLayout};
 ghost use Rattle.vx_pic.specs.Rules.{Readers};
 ghost use Rattle.vx_pic.specs.H266.{AreOfH266, header_place};
 ghost use Rattle.vx_pic.specs.Readings.{Begun};
@@ -95,6 +95,7 @@ pub(crate) fn messages_of(alloc: Global, rbsp: &[u8]) -> Result<MessageList, All
 pub(crate) fn layout_of(alloc: Global, sps: &Sps, pps: &Pps) -> Result<Layout, ReadError>
     ensures answer { (R : Readers) → AreOfH266 R → Gives (R.layout sps.now pps.now) result }
     ensures numbers { IfOk result (λ layout. layout ≡ numbers_in sps.now pps.now) }
+    ensures make { OnOk result (MakeLayout sps.now pps.now) }
     ensures few { IfOk result (λ layout. length layout.slices ≤ 1000) }
 {
     picture_layout(alloc, sps, pps)

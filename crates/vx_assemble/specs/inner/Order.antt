@@ -6,8 +6,8 @@ use Rattle.vx_sei.specs.Sei.{spelled_length}
 use Rattle.vx_pic.specs.declared.accepted.Accepted.{Accepted}
 use Rattle.vx_pic.specs.declared.accepted.Accepted.TheVariants as accepted
 use Rattle.vx_pic.specs.declared.picture.SliceSlot.{SliceSlot}
-use Rattle.vx_pic.specs.Sets.{slice_qp, is_qp}
-use Rattle.vx_pic.specs.PictureLayout.{numbers_in, ids_of}
+use Rattle.vx_pic.specs.Sets.{same_size, slice_qp, is_qp}
+use Rattle.vx_pic.specs.PictureLayout.{numbers_in, ids_of, MakeLayout}
 use Rattle.vx_pic.specs.UnderSets.{header_of}
 use Rattle.vx_pic.specs.Parts.{IsPlaced, AreThere, named_by, read_of, slice_header_of}
 use Rattle.vx_pic.specs.Rules.{picture_limit, message_limit}
@@ -19,6 +19,8 @@ use Rattle.vx_assemble.specs.inner.Held.{begun_of, slice_of}
 
 -- what two sets make up
 pub record AreMade (f : InForce) : Type 0 where
+  pub size : same_size f.sps f.pps ≡ true
+  pub make : MakeLayout f.sps f.pps
   pub layout : f.layout ≡ numbers_in f.sps f.pps
   pub ids : f.ids ≡ ids_of f.sps f.pps
   pub one_each : length f.ids ≡ length f.layout.subpics
