@@ -68,6 +68,7 @@ pub struct PictureParts<'a> {
 /// A whole picture of a stream. None of its calls takes memory.
 ///
 /// It is seen as the record of what they answer.
+#[derive(Drop)]
 pub struct Picture<'a> {
     parts: PictureParts<'a>,
 }
