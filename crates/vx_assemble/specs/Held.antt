@@ -19,6 +19,7 @@ use Rattle.vx_assemble.specs.declared.fault.AssembleFault.TheVariants as faults
 use Rattle.vx_assemble.specs.declared.fault.First.{First}
 use Rattle.vx_assemble.specs.declared.fault.First.TheVariants as firsts
 use Rattle.vx_assemble.specs.inner.Held.{IsHeld}
+use Rattle.vx_assemble.specs.inner.Lent.{parts_in}
 pub use Rattle.vx_assemble.specs.inner.Held.{Held, aps_items}
 
 -- what was told of the last unit that was handed in; nothing of one that wasn't taken
@@ -28,6 +29,10 @@ told h = h.told
 -- it holds a picture: the last unit was the last slice of one
 abbrev pub HasPicture : Held → Type 0
 HasPicture h = told h ≡ accepted.PictureDone
+
+-- that picture, as its callers see it
+abbrev pub lent_by : Held → Parts
+lent_by h = parts_in h.state.picture
 
 -- what first kept a unit from being taken
 abbrev pub first_fault : Held → Option First

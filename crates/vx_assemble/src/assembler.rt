@@ -9,7 +9,7 @@ use std::alloc::Global;
 use std::marker::Model;
 use vx_bits::rules::SLICE_MISSING;
 use vx_bits::{Fields, ReadError};
-use vx_pic::{Accepted, Picture};
+use vx_pic::{Accepted, Lender, Picture};
 use vx_pps::Pps;
 use vx_sps::Sps;
 
@@ -44,7 +44,7 @@ impl Assembler {
     ghost use Rattle.vx_pic.specs.Rules.{Readers, reads};
     ghost use Rattle.vx_pic.specs.H266.{AreOfH266};
     ghost use Rattle.vx_pic.specs.Told.{told_of};
-    ghost use Rattle.vx_assemble.specs.Held.{Stands, Takes, Ends, told, HasPicture, IsBounded, ShowsLatest, first_fault, first_of, items_of, seen_picture};
+    ghost use Rattle.vx_assemble.specs.Held.{Stands, Takes, Ends, told, HasPicture, IsBounded, ShowsLatest, lent_by, first_fault, first_of, items_of, seen_picture};
     ghost use Rattle.vx_pic.specs.Readings.{pictures};
 
     /// An assembler that took no units. It takes no memory yet.
@@ -161,8 +161,27 @@ impl Assembler {
     /// The picture whose last slice was taken last. It takes no memory.
     pub fn picture(&self) -> Picture<'_>
         requires { HasPicture self.now }
-        ensures { (before : List Reading) → Stands self.now before → ShowsLatest result (pictures before) }
+        ensures lent { result ≡ lent_by self.now }
+        ensures shows { (before : List Reading) → Stands self.now before → ShowsLatest result (pictures before) }
     {
         self.state.picture.lend()
+    }
+}
+
+impl Lender for Assembler {
+    ghost use Rattle.std.specs.Prelude.{◌≡◌, List};
+    ghost use Rattle.vx_pic.specs.Readings.{Reading, pictures};
+    ghost use Rattle.vx_assemble.specs.Held.{Stands, HasPicture, ShowsLatest, lent_by};
+
+    ghost holds = { HasPicture };
+
+    ghost lent = { lent_by };
+
+    fn picture(&self) -> Picture<'_>
+        requires { HasPicture self.now }
+        ensures lent { result ≡ lent_by self.now }
+        ensures shows { (before : List Reading) → Stands self.now before → ShowsLatest result (pictures before) }
+    {
+        Assembler::picture(self)
     }
 }

@@ -22,7 +22,7 @@ use thiserror::Error;
 use vx_annexb::{NalHeader, ReadFault, Span, UnitReader, read_header};
 use vx_bits::{Fields, Refusal};
 use vx_io::Source;
-use vx_pic::Accepted;
+use vx_pic::{Accepted, Lender, Picture};
 use vx_pps::Pps;
 use vx_sps::Sps;
 
@@ -214,9 +214,9 @@ impl Feed {
     ghost use Rattle.vx_annexb.specs.Held.{IsSought, fed, is_all};
     ghost use Rattle.vx_annexb.specs.Reading as reading;
     ghost use Rattle.vx_annexb.specs.declared.unit_reader.Closed.TheVariants as closed;
-    ghost use Rattle.vx_pic.specs.Readings.{Reading, Picture, completed, stored_sps, stored_pps};
+    ghost use Rattle.vx_pic.specs.Readings.{Reading, Picture as StreamPicture, completed, pictures, stored_sps, stored_pps};
     ghost use Rattle.vx_pic.specs.Told.{told_of};
-    ghost use Rattle.vx_assemble.specs.Held.{Stands, items_of, seen_picture};
+    ghost use Rattle.vx_assemble.specs.Held.{Stands, HasPicture, ShowsLatest, lent_by, items_of, seen_picture};
     ghost use Rattle.vx_assemble.specs.declared.feed.Taken.TheVariants.{End};
     ghost use Rattle.vx_pic.specs.Rules.{Readers};
     ghost use Rattle.vx_pic.specs.H266.{AreOfH266};
@@ -337,10 +337,20 @@ impl Feed {
 
     /// What is told of the picture that was done last.
     pub fn picture_seen(&self) -> Option<PictureSeen>
-        ensures { (r : Reading) (before : List Reading) (p : Picture) → Stands self.now.assembler (r ∷ before) → completed r before ≡ p ∷ []
+        ensures { (r : Reading) (before : List Reading) (p : StreamPicture) → Stands self.now.assembler (r ∷ before) → completed r before ≡ p ∷ []
             → result ≡ Some (seen_picture p) }
     {
         self.assembler.picture_seen()
+    }
+
+    /// The picture whose last slice was the last unit taken. It takes no memory.
+    pub fn picture(&self) -> Picture<'_>
+        requires { HasPicture self.now.assembler }
+        ensures lent { result ≡ lent_by self.now.assembler }
+        ensures shows { (R : Readers) (g : List ℕ) (places : List UnitPlace) (before : List Reading) → HasFed R self.now g places before
+            → ShowsLatest result (pictures before) }
+    {
+        self.assembler.picture()
     }
 
     /// The SPS of an id, where one is stored.
@@ -405,5 +415,27 @@ impl Feed {
                 return Ok(step);
             }
         }
+    }
+}
+
+impl Lender for Feed {
+    ghost use Rattle.std.specs.Prelude.{◌≡◌, ℕ, List};
+    ghost use Rattle.vx_annexb.specs.ByteStream.{UnitPlace};
+    ghost use Rattle.vx_pic.specs.Readings.{Reading, pictures};
+    ghost use Rattle.vx_pic.specs.Rules.{Readers};
+    ghost use Rattle.vx_assemble.specs.Held.{HasPicture, ShowsLatest, lent_by};
+    ghost use Rattle.vx_assemble.specs.Feed.{HasFed};
+
+    ghost holds = { λ f. HasPicture f.assembler };
+
+    ghost lent = { λ f. lent_by f.assembler };
+
+    fn picture(&self) -> Picture<'_>
+        requires { HasPicture self.now.assembler }
+        ensures lent { result ≡ lent_by self.now.assembler }
+        ensures shows { (R : Readers) (g : List ℕ) (places : List UnitPlace) (before : List Reading) → HasFed R self.now g places before
+            → ShowsLatest result (pictures before) }
+    {
+        Feed::picture(self)
     }
 }
