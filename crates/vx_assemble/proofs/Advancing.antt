@@ -15,7 +15,8 @@ use Rattle.vx_pic.specs.Rules.{Readers}
 use Rattle.vx_pic.specs.H266.{AreOfH266}
 use Rattle.vx_pic.specs.Bytes.{ArePictures, AreSeenPictures}
 use Rattle.vx_pic.specs.Told.{done_or_not, told_of}
-use Rattle.vx_assemble.specs.Feed.{Feeding, seen_of, HasFed, Takes, TakesBehind, AdvancesBehind, Advances, Counts}
+use Rattle.vx_assemble.specs.Held.{Held, HasPicture}
+use Rattle.vx_assemble.specs.Feed.{Feeding, EndsAtEnd, seen_of, HasFed, Takes, TakesBehind, AdvancesBehind, Advances, Counts, IsToldBy}
 use Rattle.vx_assemble.specs.inner.Feed.{Passes, step_by}
 use Rattle.vx_assemble.specs.declared.fault.First.{First}
 use Rattle.vx_assemble.specs.declared.feed.FeedFault.{FeedFault}
@@ -81,6 +82,7 @@ passes_first f left faults = record {
       let Q : List ℕ → Type 0 = λ xs. HasFed R f xs (places ++ []) before × reader.LastWasNeeded xs (places ++ []) in
       let both = subst Q (sym (append-nil g)) (subst P (sym (append-nil places)) (fed, needed)) in
       (refl, record { piece = []; consumed = Consumes-nil left; readings = []; gone = record { later = []; fed = both.0; needed = both.1 }; same = refl });
+  end = λ ends. ends;
   stopped = λ first is. (refl, refl, refl);
 }
 
@@ -88,9 +90,10 @@ module _ (old f f1 : Feeding) (left0 left left1 : Option (List ℕ)) (f0 n n1 : 
   -- a unit that completes no picture was taken
   pub passes_more : (header : NalHeader) (place bytes : ℕ) (what : Accepted) → (what ≡ accepted.PictureDone → ⊥)
       → ((R : Readers) → AreOfH266 R → (g : List ℕ) (places : List UnitPlace) (before : List Reading) → HasFed R f g places before → reader.LastWasNeeded g places → Takes R g places before f1 left left1 n n1 (Ok (Nal header place bytes what)))
+      → (EndsAtEnd f left → EndsAtEnd f1 left1)
       → ((first : First) → f.first ≡ Some first → ⊥)
       → Passes old f1 left0 left1 f0 n1
-  passes_more header place bytes what other takes fine = record {
+  passes_more header place bytes what other takes end fine = record {
     passes = λ R of g places before fed needed.
         let to = t.passes R of g places before fed needed in
         let h = to.1 in
@@ -113,6 +116,7 @@ module _ (old f f1 : Feeding) (left0 left left1 : Option (List ℕ)) (f0 n n1 : 
             same = unit_not_done r (h.readings ++ before) not_ ∙ h.same;
           },
         );
+    end = λ ends. end (t.end ends);
     stopped = λ first is. let was = t.stopped first is in absurd (fine first (ap (λ (x : Feeding). x.first) was.0 ∙ is));
   }
 
@@ -161,33 +165,32 @@ module _ (old f f1 : Feeding) (left0 left left1 : Option (List ℕ)) (f0 n n1 : 
       record {
         piece = h.piece ++ took.piece;
         consumed = Consumes-trans left0 left left1 h.piece took.piece h.consumed took.consumed;
-        behind = (took.behind.0 ∙ to.0, (h.readings, record { later = h.gone.later; fed = here.0; needed = here.1 }, h.same), here.2);
+        behind = (took.behind.0 ∙ to.0, (h.readings, record { later = h.gone.later; fed = here.0; needed = here.1 }, h.same), here.2, gives.3);
       }
 
   -- what stops it
-  stops_behind : (fault : FeedFault) (R : Readers) (g' : List ℕ) (places places1 : List UnitPlace) (before before1 : List Reading) → pictures before1 ≡ pictures before → n ≡ f0
+  stops_behind : (fault : FeedFault) (R : Readers) (g' : List ℕ) (places places1 : List UnitPlace) (before before1 : List Reading) → pictures before1 ≡ pictures before → f1.units ≡ length places1 → n ≡ f0
       → TakesBehind R g' places1 before1 f1 n n1 (Err fault) → AdvancesBehind R g' places before f1 f0 n1 (Err fault)
-  stops_behind faults.Memory R g' places places1 before before1 same kept took = took.0 ∙ kept
-  stops_behind faults.SourceFailed R g' places places1 before before1 same kept took =
+  stops_behind faults.Memory R g' places places1 before before1 same units kept took = took.0 ∙ kept
+  stops_behind faults.SourceFailed R g' places places1 before before1 same units kept took =
       let rose : Rose f0 n1 = rw kept at took.0 in
       (rose, subst (λ (ps : List Picture). AreSeenPictures R (seen_of g') ps) same took.2)
-  stops_behind (faults.Refused r) R g' places places1 before before1 same kept took = (
+  stops_behind (faults.Refused r) R g' places places1 before before1 same units kept took = (
     took.0 ∙ kept,
-    (
-      length places1,
-      subst (λ (ps : List Picture). ArePictures R (seen_of g') (is_all f1.reader.splitter) ps (Some (record { units = length places1; refusal = r }))) same took.1.1,
-    ),
+    subst (λ (k : ℕ). ArePictures R (seen_of g') (is_all f1.reader.splitter) (pictures before) (Some (record { units = k; refusal = r }))) (sym units)
+        (subst (λ (ps : List Picture). ArePictures R (seen_of g') (is_all f1.reader.splitter) ps (Some (record { units = length places1; refusal = r }))) same took.1.1),
   )
-  stops_behind (faults.Stopped first) R g' places places1 before before1 same kept took = absurd took.1
+  stops_behind (faults.Stopped first) R g' places places1 before before1 same units kept took = absurd took.1
 
   pub advances_stopped : (fault : FeedFault)
       → ((R : Readers) → AreOfH266 R → (g : List ℕ) (places : List UnitPlace) (before : List Reading) → HasFed R f g places before → reader.LastWasNeeded g places → Takes R g places before f1 left left1 n n1 (Err fault))
+      → f1.units ≡ f.units
       → (R : Readers) → AreOfH266 R → (g : List ℕ) (places : List UnitPlace) (before : List Reading) → HasFed R old g places before → reader.LastWasNeeded g places → Advances R g places before f1 left0 left1 f0 n1 (Err fault)
-  advances_stopped fault takes R of g places before fed needed =
+  advances_stopped fault takes same R of g places before fed needed =
       let to = t.passes R of g places before fed needed in
       let h = to.1 in
       let took = takes R of (g ++ h.piece) (places ++ h.gone.later) (h.readings ++ before) h.gone.fed h.gone.needed in
-      let stop = stops_behind fault R ((g ++ h.piece) ++ took.piece) places (places ++ h.gone.later) before (h.readings ++ before) h.same to.0 took.behind in
+      let stop = stops_behind fault R ((g ++ h.piece) ++ took.piece) places (places ++ h.gone.later) before (h.readings ++ before) h.same (same ∙ h.gone.fed.count) to.0 took.behind in
       record {
         piece = h.piece ++ took.piece;
         consumed = Consumes-trans left0 left left1 h.piece took.piece h.consumed took.consumed;
@@ -210,16 +213,26 @@ module _ (old f f1 : Feeding) (left0 left left1 : Option (List ℕ)) (f0 n n1 : 
 
   pub passes_by : (taken : Taken) → step_by taken ≡ None
       → ((R : Readers) → AreOfH266 R → (g : List ℕ) (places : List UnitPlace) (before : List Reading) → HasFed R f g places before → reader.LastWasNeeded g places → Takes R g places before f1 left left1 n n1 (Ok taken))
-      → ((first : First) → f.first ≡ Some first → ⊥) → Passes old f1 left0 left1 f0 n1
-  passes_by End is takes fine = absurd (cc)
-  passes_by (Nal header place bytes accepted.PictureDone) is takes fine = absurd (cc)
-  passes_by (Nal header place bytes accepted.Nothing) is takes fine = passes_more header place bytes accepted.Nothing (λ e. absurd (cc)) takes fine
-  passes_by (Nal header place bytes accepted.Vps) is takes fine = passes_more header place bytes accepted.Vps (λ e. absurd (cc)) takes fine
-  passes_by (Nal header place bytes (accepted.Sps id)) is takes fine = passes_more header place bytes (accepted.Sps id) (λ e. absurd (cc)) takes fine
-  passes_by (Nal header place bytes (accepted.Pps id)) is takes fine = passes_more header place bytes (accepted.Pps id) (λ e. absurd (cc)) takes fine
-  passes_by (Nal header place bytes (accepted.Aps kind id)) is takes fine = passes_more header place bytes (accepted.Aps kind id) (λ e. absurd (cc)) takes fine
+      → (EndsAtEnd f left → EndsAtEnd f1 left1) → ((first : First) → f.first ≡ Some first → ⊥) → Passes old f1 left0 left1 f0 n1
+  passes_by End is takes end fine = absurd (cc)
+  passes_by (Nal header place bytes accepted.PictureDone) is takes end fine = absurd (cc)
+  passes_by (Nal header place bytes accepted.Nothing) is takes end fine = passes_more header place bytes accepted.Nothing (λ e. absurd (cc)) takes end fine
+  passes_by (Nal header place bytes accepted.Vps) is takes end fine = passes_more header place bytes accepted.Vps (λ e. absurd (cc)) takes end fine
+  passes_by (Nal header place bytes (accepted.Sps id)) is takes end fine = passes_more header place bytes (accepted.Sps id) (λ e. absurd (cc)) takes end fine
+  passes_by (Nal header place bytes (accepted.Pps id)) is takes end fine = passes_more header place bytes (accepted.Pps id) (λ e. absurd (cc)) takes end fine
+  passes_by (Nal header place bytes (accepted.Aps kind id)) is takes end fine = passes_more header place bytes (accepted.Aps kind id) (λ e. absurd (cc)) takes end fine
 
 -- each unit that completes no picture is one more
 pub one_more_taken : (taken : Taken) (old new : ℕ) → step_by taken ≡ None → Counts taken old new → new ≡ old + 1
 one_more_taken End old new is counts = absurd (cc)
 one_more_taken (Nal header place bytes what) old new is counts = counts
+
+-- a unit that completes a picture was told so
+pub has_picture : (taken : Taken) (h : Held) → step_by taken ≡ Some steps.Picture → IsToldBy h (Some taken) → HasPicture h
+has_picture End h is told = absurd (cc)
+has_picture (Nal header place bytes accepted.PictureDone) h is told = told
+has_picture (Nal header place bytes accepted.Nothing) h is told = absurd (cc)
+has_picture (Nal header place bytes accepted.Vps) h is told = absurd (cc)
+has_picture (Nal header place bytes (accepted.Sps id)) h is told = absurd (cc)
+has_picture (Nal header place bytes (accepted.Pps id)) h is told = absurd (cc)
+has_picture (Nal header place bytes (accepted.Aps kind id)) h is told = absurd (cc)

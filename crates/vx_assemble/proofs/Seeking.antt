@@ -2,13 +2,11 @@
 use Rattle.std.proofs.Common.{◌≡◌, ℕ, ◌+◌, ◌≤◌, List, [], ◌∷◌, ◌++◌, ◌∙◌, Option, Some, None, Ok, Err, Bool, length, ap, refl, subst, arith, append_assoc, ⊎_elim}
 use Rattle.std.proofs.lemmas.List.{append-nil}
 use Rattle.std.specs.Prelude.{slice_range}
-use Rattle.std.specs.Io.KnownBytes.{IsAtEnd}
 use Rattle.std.proofs.KnownBytes.{Consumes-nil, Consumes-trans, Consumes-kept}
 use Rattle.vx_io.specs.Faults.{Rose}
 use Rattle.vx_annexb.specs.ByteStream.{UnitPlace, IsUnit, FollowsFrom, end_of}
 use Rattle.vx_annexb.specs.Held.{is_all}
 use Rattle.vx_annexb.specs.Reading as reader
-use Rattle.vx_annexb.specs.declared.unit_reader.Closed.TheVariants as closes
 use Rattle.vx_annexb.specs.declared.unit_reader.ReadFault.{ReadFault}
 use Rattle.vx_annexb.specs.declared.unit_reader.ReadFault.TheVariants.{Memory, SourceFailed}
 use Rattle.vx_annexb.proofs.Needed.{needed_near, needed_piece}
@@ -16,7 +14,7 @@ use Rattle.vx_annexb.proofs.Places.{length-slice}
 use Rattle.vx_pic.specs.Readings.{Reading}
 use Rattle.vx_pic.specs.Rules.{Readers}
 use Rattle.vx_pic.specs.H266.{AreOfH266}
-use Rattle.vx_assemble.specs.Feed.{Feeding, seen_of, HasFed, Gives, ReadsOn, IsNear, Takes}
+use Rattle.vx_assemble.specs.Feed.{Feeding, EndsAtEnd, seen_of, HasFed, Gives, ReadsOn, IsNear, Takes}
 use Rattle.vx_assemble.specs.inner.Feed.{Seeks, read_fault}
 use Rattle.vx_assemble.specs.declared.fault.First.{First}
 use Rattle.vx_assemble.specs.declared.feed.FeedFault.{FeedFault}
@@ -53,7 +51,7 @@ is_near R g places before f (Nal header place bytes what) needed gives =
 pub seeks_first : (f : Feeding) (left : Option (List ℕ)) (faults : ℕ) → Seeks f f left left faults faults
 seeks_first f left faults = record {
   seeks = λ R of g places before fed needed. (refl, record { piece = []; consumed = Consumes-nil left; fed = rw append-nil fed; needed = rw append-nil needed });
-  end = λ going end. let no = going.reader in absurd (cc);
+  end = λ ends. ends;
   stopped = λ first is. (refl, refl, refl);
   units = refl;
 }
@@ -107,7 +105,7 @@ module _ (old f f1 : Feeding) (left0 left : Option (List ℕ)) (f0 n : ℕ) (t :
     -- and more was read
     pub seeks_more : reader.IsOpen f1.reader → (f2 : Feeding) (left2 : Option (List ℕ)) (n2 : ℕ)
         → ((R : Readers) (g : List ℕ) (places : List UnitPlace) (before : List Reading) → HasFed R f1 g places before → ReadsOn R g places before f2 left left2 n n2 (Ok tt))
-        → (f2.reader.closed ≡ Some closes.End → IsAtEnd left2) → ((first : First) → f.first ≡ Some first → ⊥) → f1.units ≡ f.units → f2.units ≡ f1.units
+        → EndsAtEnd f2 left2 → ((first : First) → f.first ≡ Some first → ⊥) → f1.units ≡ f.units → f2.units ≡ f1.units
         → Seeks old f2 left0 left2 f0 n2
     seeks_more open_ f2 left2 n2 reads end going same same2 = record {
       seeks = λ R of g places before fed needed.
@@ -121,7 +119,7 @@ module _ (old f f1 : Feeding) (left0 left : Option (List ℕ)) (f0 n : ℕ) (t :
           let P : List ℕ → Type 0 = λ xs. HasFed R f2 xs places before × reader.LastWasNeeded xs places in
           let both = subst P join (was.4, needed_piece (g ++ to.1.piece) was.0 places was.2 few found.1) in
           (was.3 ∙ to.0, record { piece = to.1.piece ++ was.0; consumed = Consumes-trans left0 left left2 to.1.piece was.0 to.1.consumed was.1; fed = both.0; needed = both.1 });
-      end = λ open_ is. end is;
+      end = λ ends. end;
       stopped = λ first is. let was = t.stopped first is in absurd (going first (ap (λ (x : Feeding). x.first) was.0 ∙ is));
       units = same2 ∙ same ∙ t.units;
     }

@@ -41,6 +41,10 @@ pub record IsOpen (f : Feeding) : Type 0 where
   pub reader : reader.IsOpen f.reader
   pub going : f.first ≡ None
 
+-- where it found the end of its source, that has no bytes left
+abbrev pub EndsAtEnd : Feeding → Option (List ℕ) → Type 0
+EndsAtEnd f left = f.reader.closed ≡ Some closed.End → IsAtEnd left
+
 -- what an answer says of what first kept it from going on
 abbrev pub first_of : FeedFault → First
 first_of faults.Memory = firsts.Memory
@@ -188,12 +192,13 @@ AdvancesBehind R g places before new count count' (Ok ToEnd) =
     (count' ≡ count)
     × ((readings : List Reading) × (h : HasGone R new g places before readings) × (pictures (readings ++ before) ≡ pictures before))
     × ArePictures R (seen_of g) true (pictures before) None
+    × (new.reader.closed ≡ Some closed.End)
 AdvancesBehind R g places before new count count' (Err faults.Memory) = count' ≡ count
 AdvancesBehind R g places before new count count' (Err faults.SourceFailed) =
     Rose count count' × AreSeenPictures R (seen_of g) (pictures before)
 AdvancesBehind R g places before new count count' (Err (faults.Refused r)) =
     (count' ≡ count)
-    × ((n : ℕ) × ArePictures R (seen_of g) (is_all new.reader.splitter) (pictures before) (Some (record { units = n; refusal = r })))
+    × ArePictures R (seen_of g) (is_all new.reader.splitter) (pictures before) (Some (record { units = new.units; refusal = r }))
 AdvancesBehind R g places before new count count' (Err (faults.Stopped first)) = ⊥
 
 pub record Advances (R : Readers) (g : List ℕ) (places : List UnitPlace) (before : List Reading) (new : Feeding)

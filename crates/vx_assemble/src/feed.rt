@@ -209,7 +209,6 @@ fn step_of(taken: Taken) -> Option<Step>
 
 impl Feed {
     ghost use Rattle.std.specs.Prelude.{◌≡◌, ℕ, ◌^◌, ◌<◌, ◌≤◌, [], ◌∷◌, List, option_copied, Some, None, Ok, Err, IfOk, IfErr, IfSome, OnOk, OnErr, IsTrue};
-    ghost use Rattle.std.specs.Io.KnownBytes.{IsAtEnd};
     ghost use Rattle.vx_annexb.specs.ByteStream.{UnitPlace};
     ghost use Rattle.vx_annexb.specs.Held.{IsSought, fed, is_all};
     ghost use Rattle.vx_annexb.specs.Reading as reading;
@@ -218,9 +217,10 @@ impl Feed {
     ghost use Rattle.vx_pic.specs.Told.{told_of};
     ghost use Rattle.vx_assemble.specs.Held.{Stands, HasPicture, ShowsLatest, lent_by, items_of, seen_picture};
     ghost use Rattle.vx_assemble.specs.declared.feed.Taken.TheVariants.{End};
+    ghost use Rattle.vx_assemble.specs.declared.feed.Step.TheVariants as steps;
     ghost use Rattle.vx_pic.specs.Rules.{Readers};
     ghost use Rattle.vx_pic.specs.H266.{AreOfH266};
-    ghost use Rattle.vx_assemble.specs.Feed.{HasFed, IsOpen, Gives, ReadsOn, IsToldBy, Lowers, Counts, left_to_take, Takes, Advances, first_of as first_by};
+    ghost use Rattle.vx_assemble.specs.Feed.{HasFed, IsOpen, EndsAtEnd, Gives, ReadsOn, IsToldBy, Lowers, Counts, left_to_take, Takes, Advances, first_of as first_by};
     ghost use Rattle.vx_assemble.specs.inner.Feed.{read_fault};
     ghost use Rattle.vx_assemble.specs.declared.fault.First.{First as FirstFault};
     ghost use Rattle.vx_assemble.specs.declared.feed.FeedFault.TheVariants.{Stopped};
@@ -307,7 +307,7 @@ impl Feed {
         ensures units { self.new.units ≡ self.old.units }
         ensures grows { OnOk result (IsOpen self.new → self.old.reader.taken < self.new.reader.taken) }
         ensures within { fed self.new.reader.splitter ≤ 2 ^ 40 }
-        ensures end { OnOk result (self.new.reader.closed ≡ Some closed.End → IsAtEnd (bytes_left source.new)) }
+        ensures end { OnOk result (EndsAtEnd self.new (bytes_left source.new)) }
         ensures unended { OnErr result (self.new.reader.closed ≡ Some closed.End → ⊥) }
         ensures held { reading.HoldsFew self.new.reader }
     {
@@ -384,7 +384,9 @@ impl Feed {
         ensures counts { IfOk result (λ taken. Counts taken self.old.units self.new.units) }
         ensures few { OnOk result (self.new.units ≤ 2 ^ 40) }
         ensures kept { OnErr result (self.new.units ≡ self.old.units) }
-        ensures end { IsOpen self.old → self.new.reader.closed ≡ Some closed.End → IsAtEnd (bytes_left source.new) }
+        ensures going { OnOk result (self.new.first ≡ None) }
+        ensures told { IfOk result (λ taken. IsToldBy self.new.assembler (Some taken)) }
+        ensures end { EndsAtEnd self.old (bytes_left source.old) → EndsAtEnd self.new (bytes_left source.new) }
         ensures held { reading.HoldsFew self.new.reader }
     {
         loop {
@@ -404,6 +406,10 @@ impl Feed {
         ensures answer { (R : Readers) → AreOfH266 R → (g : List ℕ) (places : List UnitPlace) (before : List Reading)
             → HasFed R self.old g places before → reading.LastWasNeeded g places
             → Advances R g places before self.new (bytes_left source.old) (bytes_left source.new) (read_faults source.old) (read_faults source.new) result }
+        ensures picture { result ≡ Ok steps.Picture → HasPicture self.new.assembler }
+        ensures end { EndsAtEnd self.old (bytes_left source.old) → EndsAtEnd self.new (bytes_left source.new) }
+        ensures going { OnOk result (self.new.first ≡ None) }
+        ensures few { OnOk result (self.new.units ≤ 2 ^ 40) }
         ensures first { IfErr result (λ e. self.new.first ≡ Some (first_by e)) }
         ensures stopped { (f : FirstFault) → self.old.first ≡ Some f → (result ≡ Err (Stopped f)) × (self.new ≡ self.old)
             × (bytes_left source.new ≡ bytes_left source.old) × (read_faults source.new ≡ read_faults source.old) }

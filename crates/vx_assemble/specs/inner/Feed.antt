@@ -4,10 +4,10 @@ use Rattle.vx_annexb.specs.NalUnit.{header_of}
 use Rattle.vx_annexb.specs.Held.{ahead, fed}
 use Rattle.vx_annexb.specs.Reading as reader
 use Rattle.vx_annexb.specs.Reading.{HoldsFew}
-use Rattle.vx_annexb.specs.declared.unit_reader.Closed.TheVariants.{Failed, End as Ended}
+use Rattle.vx_annexb.specs.declared.unit_reader.Closed.TheVariants.{Failed}
 use Rattle.vx_annexb.specs.declared.unit_reader.ReadFault.{ReadFault}
 use Rattle.vx_annexb.specs.declared.unit_reader.ReadFault.TheVariants as read_faults
-use Rattle.std.specs.Io.KnownBytes.{Consumes, IsAtEnd}
+use Rattle.std.specs.Io.KnownBytes.{Consumes}
 use Rattle.vx_annexb.specs.ByteStream.{UnitPlace}
 use Rattle.vx_pic.specs.declared.accepted.Accepted.TheVariants as accepted
 use Rattle.vx_pic.specs.Readings.{Reading, pictures}
@@ -23,7 +23,7 @@ use Rattle.vx_assemble.specs.declared.feed.Taken.{Taken}
 use Rattle.vx_assemble.specs.declared.feed.Taken.TheVariants.{Nal, End}
 use Rattle.vx_assemble.specs.Held.{Held, Took}
 use Rattle.vx_assemble.specs.declared.fault.First.{First}
-use Rattle.vx_assemble.specs.Feed.{Feeding, IsOpen, HasFed, HasGone}
+use Rattle.vx_assemble.specs.Feed.{Feeding, EndsAtEnd, HasFed, HasGone}
 
 -- each unit has a byte of its own, and once a read failed the feed doesn't go on
 pub record IsInStep (f : Feeding) : Type 0 where
@@ -69,7 +69,7 @@ pub record HasSought (R : Readers) (g : List ℕ) (places : List UnitPlace) (bef
 pub record Seeks (old f : Feeding) (left left' : Option (List ℕ)) (faults faults' : ℕ) : Type 0 where
   pub seeks : (R : Readers) → AreOfH266 R → (g : List ℕ) (places : List UnitPlace) (before : List Reading) → HasFed R old g places before
       → reader.LastWasNeeded g places → (faults' ≡ faults) × HasSought R g places before f left left'
-  pub end : IsOpen old → f.reader.closed ≡ Some Ended → IsAtEnd left'
+  pub end : EndsAtEnd old left → EndsAtEnd f left'
   pub stopped : (first : First) → old.first ≡ Some first → (f ≡ old) × (left' ≡ left) × (faults' ≡ faults)
   pub units : f.units ≡ old.units
 
@@ -95,4 +95,5 @@ pub record HasPassed (R : Readers) (g : List ℕ) (places : List UnitPlace) (bef
 pub record Passes (old f : Feeding) (left left' : Option (List ℕ)) (faults faults' : ℕ) : Type 0 where
   pub passes : (R : Readers) → AreOfH266 R → (g : List ℕ) (places : List UnitPlace) (before : List Reading) → HasFed R old g places before
       → reader.LastWasNeeded g places → (faults' ≡ faults) × HasPassed R g places before f left left'
+  pub end : EndsAtEnd old left → EndsAtEnd f left'
   pub stopped : (first : First) → old.first ≡ Some first → (f ≡ old) × (left' ≡ left) × (faults' ≡ faults)

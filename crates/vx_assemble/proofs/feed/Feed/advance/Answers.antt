@@ -1,7 +1,8 @@
-use Rattle.std.proofs.Common.{◌∙◌, ap, sym, arith}
+use Rattle.std.proofs.Common.{◌≡◌, ◌∙◌, Some, ap, sym, arith}
 use Rattle.std.proofs.lemmas.Result.{err_from_is_err_and}
 use Rattle.vx_assemble.specs.Feed.{Feeding}
-use Rattle.vx_assemble.proofs.Advancing.{passes_first, passes_by, advances_by, advances_stopped, one_more_taken}
+use Rattle.vx_assemble.specs.declared.feed.Step.TheVariants as steps
+use Rattle.vx_assemble.proofs.Advancing.{passes_first, passes_by, advances_by, advances_stopped, one_more_taken, has_picture}
 use Rattle.vx_assemble.proofs.feed.Feed.advance.Goals as goal
 
 pub loop-taken-init : goal.loop-taken-init
@@ -10,7 +11,7 @@ loop-taken-init g c = passes_first c.args.self.now _ _
 pub returns-in_err-taken-clause-answer : goal.returns-in_err-taken-clause-answer
 returns-in_err-taken-clause-answer g c R of bytes places before fed needed =
     let p = err_from_is_err_and c.from_residual.result c.from_residual.ensures.1 in
-    rw (p.1, p.2) (advances_stopped _ _ _ _ _ _ _ _ _ c.loop-taken.invariant _ c.in_err-taken.ensures.answer R of bytes places before fed needed)
+    rw (p.1, p.2) (advances_stopped _ _ _ _ _ _ _ _ _ c.loop-taken.invariant _ c.in_err-taken.ensures.answer c.in_err-taken.ensures.kept R of bytes places before fed needed)
 
 pub returns-in_err-taken-clause-stopped : goal.returns-in_err-taken-clause-stopped
 returns-in_err-taken-clause-stopped g c first is =
@@ -31,10 +32,21 @@ returns-in-Some-clause-stopped g c first is =
 
 pub loop-taken-preserved : goal.loop-taken-preserved
 loop-taken-preserved g c =
-    passes_by _ _ _ _ _ _ _ _ _ c.loop-taken.invariant _ (sym c.step_of.ensures ∙ c.in_default.is) c.in_ok-taken.ensures.answer
+    passes_by _ _ _ _ _ _ _ _ _ c.loop-taken.invariant _ (sym c.step_of.ensures ∙ c.in_default.is) c.in_ok-taken.ensures.answer c.in_ok-taken.ensures.end
     (λ first is. let e = (c.in_ok-taken.ensures.stopped first is).0 in absurd (cc))
 
 pub loop-taken-smaller : goal.loop-taken-smaller
 loop-taken-smaller g c =
     let more = one_more_taken _ _ _ (sym c.step_of.ensures ∙ c.in_default.is) c.in_ok-taken.ensures.counts in
     omega (arith, more, c.in_ok-taken.ensures.few)
+
+pub returns-in-Some-clause-picture : goal.returns-in-Some-clause-picture
+returns-in-Some-clause-picture g c is =
+    let same : c.in-Some.step ≡ steps.Picture = cc in
+    has_picture c.in_ok-taken.taken c.take.new.self.assembler (sym c.step_of.ensures ∙ c.in-Some.is ∙ ap Some same) c.in_ok-taken.ensures.told
+
+pub returns-in-Some-clause-end : goal.returns-in-Some-clause-end
+returns-in-Some-clause-end g c ends = c.in_ok-taken.ensures.end (c.loop-taken.invariant.end ends)
+
+pub returns-in_err-taken-clause-end : goal.returns-in_err-taken-clause-end
+returns-in_err-taken-clause-end g c ends = c.in_err-taken.ensures.end (c.loop-taken.invariant.end ends)

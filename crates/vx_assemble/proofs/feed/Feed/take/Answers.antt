@@ -78,3 +78,6 @@ returns-in_err-read-clause-kept g c =
     let p = err_from_is_err_and c.from_residual-in_err-read.result c.from_residual-in_err-read.ensures.1 in
     let units : c.next.new.self.units ≡ c.loop-taken.self.units = search rules in
     rw p.1 (c.read.ensures.units ∙ units ∙ c.loop-taken.invariant.units)
+
+pub returns-in-Some-clause-told : goal.returns-in-Some-clause-told
+returns-in-Some-clause-told g c = rw c.in-Some.is at c.in_ok-taken.ensures.told
