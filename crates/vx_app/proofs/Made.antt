@@ -1,5 +1,6 @@
 -- What is told of a unit, and the lines that it has.
 use Rattle.std.proofs.Common.{◌≡◌, ℕ, ◌+◌, ◌<◌, ◌≤◌, ◌==◌, List, [], ◌∷◌, ◌++◌, ◌∙◌, Option, Some, None, Result, Ok, Err, Bool, true, false, cond, length, sym, ap, ap₂, refl, subst, arith, length-append, append-nil, eq-eqb}
+use Rattle.std.proofs.lemmas.List.{length-map}
 use Rattle.std.specs.Option.{option_or}
 use Rattle.std.specs.List.{flat_map}
 use Rattle.vx_bits.specs.declared.list.Item.{Item}
@@ -9,11 +10,10 @@ use Rattle.vx_annexb.specs.ByteStream.{UnitPlace, unit_bytes}
 use Rattle.vx_report.specs.UnitLine.{unit_text}
 use Rattle.vx_pic.specs.declared.accepted.Accepted.{Accepted}
 use Rattle.vx_pic.specs.declared.accepted.Accepted.TheVariants as accepted
-use Rattle.vx_pic.specs.declared.kind.Kind.{Kind}
 use Rattle.vx_pic.specs.Sets.{sps_id, pps_id}
 use Rattle.vx_pic.specs.Readings.{Begun, Slice, Reading, dropped, vps_read, sps_read, pps_read, aps_read, messages_read, header_read, first_slice, next_slice, sequence_ended}
 use Rattle.vx_pic.specs.Readings.{stored_sps, stored_pps, Picture, Current, nothing, headed, going, current, is_whole, whole_part, completed, pictures}
-use Rattle.vx_sps.specs.Subpictures.{subpics_of}
+use Rattle.vx_pic.specs.Parts.{Parts, slice_part, parts_of}
 use Rattle.vx_pic.specs.Rules.{Readers}
 use Rattle.vx_pic.specs.Told.{told_of, done_or_not}
 use Rattle.vx_aps.specs.declared.aps.Aps.{Aps}
@@ -21,12 +21,12 @@ use Rattle.vx_report.specs.declared.set.SetNumbers.{SetNumbers}
 use Rattle.vx_report.specs.declared.set.SetNumbers.TheVariants as numbers
 use Rattle.vx_report.specs.declared.picture.PictureNumbers.{PictureNumbers}
 use Rattle.vx_report.specs.SetLine.{set_text, vps_numbers, sps_numbers, pps_numbers}
-use Rattle.vx_report.specs.PictureLine.{picture_text}
+use Rattle.vx_report.specs.PictureLine.{picture_text, picture_numbers}
 use Rattle.vx_assemble.specs.declared.feed.Taken.TheVariants.{Nal}
-use Rattle.vx_assemble.specs.Held.{items_of}
+use Rattle.vx_assemble.specs.Held.{items_of, ShowsLatest}
 use Rattle.vx_assemble.specs.Feed.{Feeding, HasFed, IsTold, Gives}
 use Rattle.vx_app.specs.Show.{seen_of, shown_line, set_lines, picture_lines, unit_lines, numbers_of}
-use Rattle.vx_app.specs.inner.Showing.{GathersOne, picture_with}
+use Rattle.vx_app.specs.inner.Showing.{GathersOne}
 use Rattle.vx_app.proofs.Lined.{all_length, few_pictures}
 
 -- ---- the lines of a reading, by what it is
@@ -205,9 +205,11 @@ module _ (r : Reading) (before : List Reading) where
   done_shown told = set_is accepted.PictureDone r before told
 
   -- of a picture, from its parts
-  pub numbers_same : (p : Picture) (n : ℕ) (kind : Kind) (slices subpictures : ℕ) → n ≡ length (pictures before) → kind ≡ p.kind → slices ≡ length p.slices → subpictures ≡ subpics_of p.begun.sps
-      → picture_with n kind slices subpictures ≡ numbers_of (length (pictures before)) p
-  numbers_same p n kind slices subpictures a b c d = rw (a, b, c, d) refl
+  pub numbers_same : (p : Picture) (n : ℕ) (parts : Parts) → n ≡ length (pictures before) → completed r before ≡ p ∷ [] → ShowsLatest parts (pictures (r ∷ before))
+      → picture_numbers n parts ≡ numbers_of (length (pictures before)) p
+  numbers_same p n parts count done shows =
+      let is : parts ≡ parts_of p = subst (λ (ps : List Picture). ShowsLatest parts (ps ++ pictures before)) done shows in
+      rw (count, is, length-map p.slices (slice_part p.begun)) refl
 
   pub picture_shown : (n : PictureNumbers) → accepted.PictureDone ≡ told_of r before → ((p : Picture) → completed r before ≡ p ∷ [] → n ≡ numbers_of (length (pictures before)) p) → picture_text n ≡ picture_lines r before
   picture_shown n told is =

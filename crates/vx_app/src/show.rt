@@ -15,14 +15,13 @@ ghost use Rattle.vx_assemble.specs.Feed.{HasFed, IsOpen, IsTold, left_to_take};
 ghost use Rattle.vx_app.specs.Change.{change};
 ghost use Rattle.vx_app.specs.Conclusion.{IsOfCommand};
 ghost use Rattle.vx_app.specs.Show.{ShowsBy, seen_of, set_lines, picture_lines, unit_lines, behind_unit as place_behind};
-ghost use Rattle.vx_app.specs.inner.Showing.{ReadsOn, GathersNext, Gathers, ShowsLater, picture_with};
+ghost use Rattle.vx_app.specs.inner.Showing.{ReadsOn, GathersNext, Gathers, ShowsLater};
 
 use crate::stop::Stop;
 use std::alloc::{AllocError, Global};
 use vx_annexb::{NalHeader, ReadFault};
-use vx_assemble::{Accepted, Feed, FeedFault, PictureSeen, Taken};
+use vx_assemble::{Accepted, Feed, FeedFault, Taken};
 use vx_io::{Sink, Source, write_all};
-use vx_pic::Kind;
 use vx_report::{PictureNumbers, SetNumbers, Where, picture_line, set_line, unit_line};
 
 /// Writes lines for each NAL unit of a source, in order: of the unit, of the set that
@@ -189,19 +188,6 @@ fn told_line(
     }
 }
 
-/// Stands for a picture where there is none.
-const NO_PICTURE: PictureSeen = PictureSeen {
-    kind: Kind {
-        nal_type: 0,
-        temporal_id: 0,
-        clvss: false,
-        after_eos: false,
-        poc: 0,
-    },
-    slices: 0,
-    subpictures: 0,
-};
-
 /// What is shown of the picture that was done, behind the first `pictures`.
 fn picture_numbers(feed: &Feed, pictures: u64) -> PictureNumbers
     requires { HasPicture feed.now.assembler }
@@ -209,21 +195,7 @@ fn picture_numbers(feed: &Feed, pictures: u64) -> PictureNumbers
         → HasFed R feed.now g units (r ∷ before) → PictureDone ≡ told_of r before → pictures ≡ length (pictures_in before)
         → picture_text result ≡ picture_lines r before }
 {
-    let picture = feed.picture_seen().unwrap_or(NO_PICTURE);
-    numbers_with(pictures, picture.kind, picture.slices, picture.subpictures)
-}
-
-/// What is shown of a picture of this kind, behind the first `pictures`.
-fn numbers_with(pictures: u64, kind: Kind, slices: u32, subpictures: u32) -> PictureNumbers
-    ensures { result ≡ picture_with pictures kind slices subpictures }
-{
-    PictureNumbers {
-        picture: pictures,
-        clvss: kind.clvss,
-        poc: kind.poc,
-        slices,
-        subpictures,
-    }
+    PictureNumbers::of(pictures, &feed.picture())
 }
 
 /// What is shown of the set that was taken last.

@@ -3,7 +3,6 @@ pub mod Answers
 pub mod Feeding
 pub mod Seeking
 pub mod Advancing
-pub mod DonePicture
 pub mod Steps
 pub mod Holding
 pub mod Ordering

@@ -1,6 +1,6 @@
 -- An assembler, as its callers see it: by these words, and by the relation `Stands` between it and what the units that it took were
 -- read as. That relation begins with no units; `Takes` says what it is worth.
-use Rattle.std.specs.Prelude.{◌≡◌, ◌≤◌, ℕ, length, List, [], ◌∷◌, Option, Some, None, Result, Ok, Err}
+use Rattle.std.specs.Prelude.{◌≡◌, ◌≤◌, length, List, [], ◌∷◌, Option, Some, None, Result, Ok, Err}
 use Rattle.vx_bits.specs.declared.list.Item.{Item}
 use Rattle.vx_bits.specs.declared.refusal.Refusal.{Refusal}
 use Rattle.vx_sei.specs.Sei.{spelled_length}
@@ -11,9 +11,6 @@ use Rattle.vx_pic.specs.Readings.{Reading, vps_read, sps_read, pps_read, aps_rea
 use Rattle.vx_pic.specs.Rules.{picture_limit, message_limit}
 use Rattle.vx_pic.specs.Streams.{lacks_slice}
 use Rattle.vx_pic.specs.Told.{told_of}
-use Rattle.vx_pic.specs.declared.kind.Kind.{Kind}
-use Rattle.vx_sps.specs.Subpictures.{subpics_of}
-use Rattle.vx_assemble.specs.declared.seen.PictureSeen.{PictureSeen}
 use Rattle.vx_assemble.specs.declared.fault.AssembleFault.{AssembleFault}
 use Rattle.vx_assemble.specs.declared.fault.AssembleFault.TheVariants as faults
 use Rattle.vx_assemble.specs.declared.fault.First.{First}
@@ -83,13 +80,6 @@ items_of (sps_read s) = Some s
 items_of (pps_read p) = Some p
 items_of (aps_read a) = Some (aps_items a)
 items_of _ = None
-
--- what is told of a picture
-abbrev pub seen_with : Kind → ℕ → ℕ → PictureSeen
-seen_with kind slices subpictures = record { kind = kind; slices = slices; subpictures = subpictures }
-
-abbrev pub seen_picture : Picture → PictureSeen
-seen_picture p = seen_with p.kind (length p.slices) (subpics_of p.begun.sps)
 
 -- They are those of the latest of these pictures.
 abbrev pub ShowsLatest : Parts → List Picture → Type 0

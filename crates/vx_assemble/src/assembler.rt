@@ -3,7 +3,6 @@ ghost use Rattle.std.specs.Prelude.{◌≡◌, [], List};
 
 use crate::fault::{AssembleFault, First};
 use crate::refusals::structure;
-use crate::seen::{PictureSeen, seen_with};
 use crate::state::State;
 use std::alloc::Global;
 use std::marker::Model;
@@ -40,11 +39,11 @@ impl Model for Assembler {
 impl Assembler {
     ghost use Rattle.std.specs.Prelude.{◌≡◌, [], ◌∷◌, List, Some, None, Err, IfOk, IfErr, OnOk, option_copied};
     ghost use Rattle.vx_annexb.specs.ByteStream.{IsSound};
-    ghost use Rattle.vx_pic.specs.Readings.{Reading, Picture as StreamPicture, completed, stored_sps, stored_pps};
+    ghost use Rattle.vx_pic.specs.Readings.{Reading, stored_sps, stored_pps};
     ghost use Rattle.vx_pic.specs.Rules.{Readers, reads};
     ghost use Rattle.vx_pic.specs.H266.{AreOfH266};
     ghost use Rattle.vx_pic.specs.Told.{told_of};
-    ghost use Rattle.vx_assemble.specs.Held.{Stands, Takes, Ends, told, HasPicture, IsBounded, ShowsLatest, lent_by, first_fault, first_of, items_of, seen_picture};
+    ghost use Rattle.vx_assemble.specs.Held.{Stands, Takes, Ends, told, HasPicture, IsBounded, ShowsLatest, lent_by, first_fault, first_of, items_of};
     ghost use Rattle.vx_pic.specs.Readings.{pictures};
 
     /// An assembler that took no units. It takes no memory yet.
@@ -145,17 +144,6 @@ impl Assembler {
         ensures { (before : List Reading) → Stands self.now before → option_copied result ≡ stored_pps id before }
     {
         Some(self.state.pps_of(id)?.value())
-    }
-
-    /// What is told of the picture that was done last.
-    pub fn picture_seen(&self) -> Option<PictureSeen>
-        ensures { (r : Reading) (before : List Reading) (p : StreamPicture) → Stands self.now (r ∷ before) → completed r before ≡ p ∷ []
-            → result ≡ Some (seen_picture p) }
-    {
-        let begun = self.state.picture.begun.as_ref()?;
-        let kind = self.state.picture.kind?;
-        let subpictures = begun.sets.value().sps.value().subpics();
-        Some(seen_with(kind, self.state.picture.slices.len(), subpictures))
     }
 
     /// The picture whose last slice was taken last. It takes no memory.

@@ -15,7 +15,6 @@ ghost use Rattle.vx_assemble.specs.declared.feed.FeedFault.TheVariants.{Refused 
 
 use crate::assembler::Assembler;
 use crate::fault::{AssembleFault, First};
-use crate::seen::PictureSeen;
 use std::alloc::{AllocError, Global};
 use std::marker::Model;
 use thiserror::Error;
@@ -213,9 +212,9 @@ impl Feed {
     ghost use Rattle.vx_annexb.specs.Held.{IsSought, fed, is_all};
     ghost use Rattle.vx_annexb.specs.Reading as reading;
     ghost use Rattle.vx_annexb.specs.declared.unit_reader.Closed.TheVariants as closed;
-    ghost use Rattle.vx_pic.specs.Readings.{Reading, Picture as StreamPicture, completed, pictures, stored_sps, stored_pps};
+    ghost use Rattle.vx_pic.specs.Readings.{Reading, pictures, stored_sps, stored_pps};
     ghost use Rattle.vx_pic.specs.Told.{told_of};
-    ghost use Rattle.vx_assemble.specs.Held.{Stands, HasPicture, ShowsLatest, lent_by, items_of, seen_picture};
+    ghost use Rattle.vx_assemble.specs.Held.{Stands, HasPicture, ShowsLatest, lent_by, items_of};
     ghost use Rattle.vx_assemble.specs.declared.feed.Taken.TheVariants.{End};
     ghost use Rattle.vx_assemble.specs.declared.feed.Step.TheVariants as steps;
     ghost use Rattle.vx_pic.specs.Rules.{Readers};
@@ -333,14 +332,6 @@ impl Feed {
             → option_copied result ≡ items_of r }
     {
         self.assembler.fields(what)
-    }
-
-    /// What is told of the picture that was done last.
-    pub fn picture_seen(&self) -> Option<PictureSeen>
-        ensures { (r : Reading) (before : List Reading) (p : StreamPicture) → Stands self.now.assembler (r ∷ before) → completed r before ≡ p ∷ []
-            → result ≡ Some (seen_picture p) }
-    {
-        self.assembler.picture_seen()
     }
 
     /// The picture whose last slice was the last unit taken. It takes no memory.

@@ -9,23 +9,16 @@ use Rattle.vx_annexb.specs.declared.unit_reader.Closed.{Closed}
 use Rattle.vx_annexb.specs.declared.unit_reader.Closed.TheVariants.{End, TooLong, Failed}
 use Rattle.vx_annexb.specs.declared.unit_reader.ReadFault.{ReadFault as ReadAnswer}
 use Rattle.vx_annexb.specs.declared.unit_reader.ReadFault.TheVariants.{Memory, SourceFailed}
-use Rattle.vx_pic.specs.declared.kind.Kind.{Kind}
 use Rattle.vx_pic.specs.Readings.{Reading, pictures}
 use Rattle.vx_pic.specs.Rules.{Readers, reads}
 use Rattle.vx_pic.specs.Streams.{read_on, all_read, lacks_slice}
 use Rattle.vx_pic.specs.Bytes.{units_at}
-use Rattle.vx_report.specs.declared.picture.PictureNumbers.{PictureNumbers}
 use Rattle.vx_assemble.specs.Feed.{Feeding, HasFed, IsRefusedFor, ReadsOn as Reads}
 use Rattle.vx_app.specs.declared.stop.Stop.{Stop}
 use Rattle.vx_app.specs.declared.stop.Stop.TheVariants.{Refused, ReadFault, WriteFault, NoMemory}
 use Rattle.vx_app.specs.Change.{Change, HasNoFault, Gains, GainsFront}
 use Rattle.vx_app.specs.Conclusion.{Outcome}
 use Rattle.vx_app.specs.Show.{seen_of, lines_behind, shown_lines, unit_lines, behind_unit, shown_by, read_len}
-
--- what is shown of a picture of this kind, behind n others
-abbrev pub picture_with : ℕ → Kind → ℕ → ℕ → PictureNumbers
-picture_with n kind slices subpictures =
-    record { picture = n; clvss = kind.clvss; poc = kind.poc; slices = slices; subpictures = subpictures }
 
 -- more may be read, or all was, and no picture lacks a slice
 abbrev pub EndsBy : Option Closed → List Reading → Type 0
