@@ -11,7 +11,7 @@ use Rattle.vx_annexb.specs.declared.unit_reader.Closed.{Closed}
 use Rattle.vx_annexb.specs.declared.unit_reader.Closed.TheVariants.{TooLong, Failed}
 use Rattle.vx_annexb.specs.declared.unit_reader.Closed.TheVariants as closes
 use Rattle.vx_annexb.specs.ByteStream.{source_limit, UnitPlace, unit_bytes, IsStream, FollowsFrom}
-use Rattle.vx_annexb.specs.Held.{is_all, lent, place_of}
+use Rattle.vx_annexb.specs.Held.{is_all, held, lent, place_of}
 use Rattle.vx_annexb.specs.Reading as reader
 use Rattle.vx_annexb.specs.declared.unit_reader.ReadFault.{ReadFault}
 use Rattle.vx_annexb.specs.declared.unit_reader.ReadFault.TheVariants.{Memory, SourceFailed}
@@ -20,11 +20,11 @@ use Rattle.vx_annexb.proofs.Taking.{source_limit-is, seen_front}
 use Rattle.vx_annexb.proofs.Unseen.{seen_stays}
 use Rattle.vx_annexb.proofs.Unique.{follow_front}
 use Rattle.vx_pic.specs.Readings.{Reading, pictures}
-use Rattle.vx_pic.specs.Rules.{Readers, reads}
+use Rattle.vx_pic.specs.Rules.{Readers, reads, picture_limit}
 use Rattle.vx_pic.specs.Streams.{Outcome, read_on, all_read, stopped, one_more, unless_refused}
 use Rattle.vx_pic.specs.Bytes.{units_at, ending_by, ArePictures}
 use Rattle.vx_pic.proofs.Going.{goes_on}
-use Rattle.vx_assemble.specs.Held.{Held, Stands, Ends}
+use Rattle.vx_assemble.specs.Held.{Held, Stands, Ends, IsBounded}
 use Rattle.vx_assemble.specs.declared.fault.AssembleFault.{AssembleFault}
 use Rattle.vx_assemble.specs.declared.fault.AssembleFault.TheVariants as assembler
 use Rattle.vx_assemble.specs.declared.fault.First.{First}
@@ -281,3 +281,9 @@ feeds_first R f read stands units first = record { read = read; readings = refl;
 pub unended : (old new : reader.Reading) (fault : ReadFault) → reader.IsOpen old → (fault ≡ Memory → new ≡ old) → (fault ≡ SourceFailed → new.closed ≡ Some Failed) → new.closed ≡ Some closes.End → ⊥
 unended old new Memory open_ memory failed end = let same = ap (λ (x : reader.Reading). x.closed) (memory refl) in absurd (cc)
 unended old new SourceFailed open_ memory failed end = let is = failed refl in absurd (cc)
+
+-- ---- what it holds
+
+pub few_bytes : (r : reader.Reading) (h : Held) → reader.HoldsFew r → IsBounded h → held r.splitter + length h.state.picture.bytes ≤ 42008578
+unfolding picture_limit
+few_bytes r h few bounded = omega (arith, few, bounded.bytes)

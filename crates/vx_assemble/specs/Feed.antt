@@ -7,7 +7,7 @@ use Rattle.vx_bits.specs.declared.refusal.Refusal.{Refusal}
 use Rattle.vx_io.specs.Faults.{Rose}
 use Rattle.vx_annexb.specs.NalUnit.{header_of}
 use Rattle.vx_annexb.specs.ByteStream.{source_limit, UnitPlace, unit_bytes, IsStream, FollowsFrom, end_of}
-use Rattle.vx_annexb.specs.Held.{is_all, ahead}
+use Rattle.vx_annexb.specs.Held.{is_all, ahead, held}
 use Rattle.vx_annexb.specs.Reading as reader
 use Rattle.vx_annexb.specs.declared.header.NalHeader.{NalHeader}
 use Rattle.vx_annexb.specs.declared.unit_reader.Closed.TheVariants as closed
@@ -71,6 +71,10 @@ left_to_take f = ahead f.reader.splitter
 abbrev pub Lowers : Option Taken → ℕ → ℕ → Type 0
 Lowers (Some (Nal header place bytes what)) old new = new < old
 Lowers _ old new = new ≤ old
+
+-- how many bytes of its source it holds: those behind the last unit taken, and those of the picture that was begun last
+abbrev pub bytes_held : Feeding → ℕ
+bytes_held f = held f.reader.splitter + length f.assembler.state.picture.bytes
 
 -- a unit that is taken is one more
 abbrev pub Counts : Taken → ℕ → ℕ → Type 0

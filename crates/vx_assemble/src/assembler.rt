@@ -104,6 +104,7 @@ impl Assembler {
     pub fn finish(&mut self) -> Result<(), AssembleFault>
         ensures answer { (before : List Reading) → Stands self.old before → Ends before result }
         ensures same { OnOk result (self.new ≡ self.old) }
+        ensures bounded { IsBounded self.new }
         ensures fault { IfErr result (λ e. first_fault self.new ≡ Some (first_of e)) }
         ensures again { (f : First) → first_fault self.old ≡ Some f → result ≡ Err (AssembleFault.Stopped f) }
         ensures stopped { (f : First) → result ≡ Err (AssembleFault.Stopped f) → first_fault self.old ≡ Some f }

@@ -8,7 +8,7 @@ ghost use Rattle.vx_assemble.specs.declared.feed.Taken.TheVariants.{End};
 ghost use Rattle.vx_pic.specs.Readings.{Reading};
 ghost use Rattle.vx_pic.specs.Rules.{Readers};
 ghost use Rattle.vx_pic.specs.H266.{AreOfH266};
-ghost use Rattle.vx_assemble.specs.Held.{Stands};
+ghost use Rattle.vx_assemble.specs.Held.{Stands, IsBounded};
 ghost use Rattle.vx_assemble.specs.Feed.{HasFed, Gives, IsToldBy, Lowers, Counts, first_of};
 ghost use Rattle.vx_assemble.specs.inner.Feed.{Accepts, fault_of, read_fault, feeding, step_by};
 ghost use Rattle.vx_assemble.specs.declared.feed.FeedFault.TheVariants.{Refused as IsRefused};
@@ -142,6 +142,7 @@ fn accept(assembler: &mut Assembler, unit: &[u8], offset: u64) -> Result<Taken, 
     ensures answer { (R : Readers) → AreOfH266 R → (before : List Reading) → Stands assembler.old before
         → Accepts R before assembler.new unit.now offset result }
     ensures told { IfOk result (λ taken. IsToldBy assembler.new (Some taken)) }
+    ensures bounded { IsBounded assembler.new }
     ensures nal { result ≡ Ok End → ⊥ }
 {
     let header = read_header(unit).unwrap();
@@ -162,6 +163,7 @@ fn take_seen(
 ) -> Result<Option<Taken>, FeedFault>
     requires going { reader.old.closed ≡ Some Failed → ⊥ }
     requires count { units.old + ahead reader.old.splitter < 2 ^ 64 }
+    requires bounded { IsBounded assembler.old }
     ensures answer { (R : Readers) → AreOfH266 R → (g : List ℕ) (places : List UnitPlace) (before : List Reading)
         → HasFed R (feeding reader.old assembler.old units.old) g places before
         → Gives R g places before (feeding reader.new assembler.new units.new) result }
@@ -177,6 +179,7 @@ fn take_seen(
     ensures none { result ≡ Ok None → units.new ≡ units.old }
     ensures kept { OnErr result (units.new ≡ units.old) }
     ensures held { HoldsFew reader.new }
+    ensures bounded { IsBounded assembler.new }
     ensures all { is_all reader.new.splitter ≡ is_all reader.old.splitter }
     ensures ended { result ≡ Ok (Some End) → MayRead reader.new → ⊥ }
     ensures told { IfOk result (IsToldBy assembler.new) }
@@ -207,7 +210,7 @@ fn step_of(taken: Taken) -> Option<Step>
 }
 
 impl Feed {
-    ghost use Rattle.std.specs.Prelude.{◌≡◌, ℕ, ◌^◌, ◌<◌, ◌≤◌, [], ◌∷◌, List, option_copied, Some, None, Ok, Err, IfOk, IfErr, IfSome, OnOk, OnErr, IsTrue};
+    ghost use Rattle.std.specs.Prelude.{◌≡◌, ℕ, ◌+◌, ◌^◌, ◌<◌, ◌≤◌, [], ◌∷◌, List, option_copied, Some, None, Ok, Err, IfOk, IfErr, IfSome, OnOk, OnErr, IsTrue};
     ghost use Rattle.vx_annexb.specs.ByteStream.{UnitPlace};
     ghost use Rattle.vx_annexb.specs.Held.{IsSought, fed, is_all};
     ghost use Rattle.vx_annexb.specs.Reading as reading;
@@ -219,7 +222,7 @@ impl Feed {
     ghost use Rattle.vx_assemble.specs.declared.feed.Step.TheVariants as steps;
     ghost use Rattle.vx_pic.specs.Rules.{Readers};
     ghost use Rattle.vx_pic.specs.H266.{AreOfH266};
-    ghost use Rattle.vx_assemble.specs.Feed.{HasFed, IsOpen, EndsAtEnd, Gives, ReadsOn, IsToldBy, Lowers, Counts, left_to_take, Takes, Advances, first_of as first_by};
+    ghost use Rattle.vx_assemble.specs.Feed.{HasFed, IsOpen, EndsAtEnd, Gives, ReadsOn, IsToldBy, Lowers, Counts, left_to_take, bytes_held, Takes, Advances, first_of as first_by};
     ghost use Rattle.vx_assemble.specs.inner.Feed.{read_fault};
     ghost use Rattle.vx_assemble.specs.declared.fault.First.{First as FirstFault};
     ghost use Rattle.vx_assemble.specs.declared.feed.FeedFault.TheVariants.{Stopped};
@@ -262,6 +265,7 @@ impl Feed {
         ensures kept { OnErr result (self.new.units ≡ self.old.units) }
         ensures few { OnOk result (self.new.units ≤ 2 ^ 40) }
         ensures held { reading.HoldsFew self.new.reader }
+        ensures bytes { bytes_held self.new ≤ 2 ^ 25 + 2 ^ 23 + 65538 }
         ensures all { is_all self.new.reader.splitter ≡ is_all self.old.reader.splitter }
         ensures ended { result ≡ Ok (Some End) → ¬ IsOpen self.new }
         ensures told { IfOk result (IsToldBy self.new.assembler) }
@@ -309,6 +313,7 @@ impl Feed {
         ensures end { OnOk result (EndsAtEnd self.new (bytes_left source.new)) }
         ensures unended { OnErr result (self.new.reader.closed ≡ Some closed.End → ⊥) }
         ensures held { reading.HoldsFew self.new.reader }
+        ensures bytes { bytes_held self.new ≤ 2 ^ 25 + 2 ^ 23 + 65538 }
     {
         match self.reader.read(source) {
             Ok(()) => Ok(()),
@@ -379,6 +384,7 @@ impl Feed {
         ensures told { IfOk result (λ taken. IsToldBy self.new.assembler (Some taken)) }
         ensures end { EndsAtEnd self.old (bytes_left source.old) → EndsAtEnd self.new (bytes_left source.new) }
         ensures held { reading.HoldsFew self.new.reader }
+        ensures bytes { bytes_held self.new ≤ 2 ^ 25 + 2 ^ 23 + 65538 }
     {
         loop {
             if let Some(taken) = self.next()? {
@@ -405,6 +411,7 @@ impl Feed {
         ensures stopped { (f : FirstFault) → self.old.first ≡ Some f → (result ≡ Err (Stopped f)) × (self.new ≡ self.old)
             × (bytes_left source.new ≡ bytes_left source.old) × (read_faults source.new ≡ read_faults source.old) }
         ensures held { reading.HoldsFew self.new.reader }
+        ensures bytes { bytes_held self.new ≤ 2 ^ 25 + 2 ^ 23 + 65538 }
     {
         loop {
             let taken = self.take(source)?;

@@ -21,7 +21,7 @@ use Rattle.vx_assemble.specs.declared.feed.Step.{Step}
 use Rattle.vx_assemble.specs.declared.feed.Step.TheVariants as steps
 use Rattle.vx_assemble.specs.declared.feed.Taken.{Taken}
 use Rattle.vx_assemble.specs.declared.feed.Taken.TheVariants.{Nal, End}
-use Rattle.vx_assemble.specs.Held.{Held, Took}
+use Rattle.vx_assemble.specs.Held.{Held, Took, IsBounded}
 use Rattle.vx_assemble.specs.declared.fault.First.{First}
 use Rattle.vx_assemble.specs.Feed.{Feeding, EndsAtEnd, HasFed, HasGone}
 
@@ -31,6 +31,7 @@ pub record IsInStep (f : Feeding) : Type 0 where
   pub fed : fed f.reader.splitter ≤ 2 ^ 40
   pub failed : f.reader.closed ≡ Some Failed → IsSome f.first
   pub held : HoldsFew f.reader
+  pub bounded : IsBounded f.assembler
 
 -- a feed of these parts that goes on
 abbrev pub feeding : reader.Reading → Held → ℕ → Feeding

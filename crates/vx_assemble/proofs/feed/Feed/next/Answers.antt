@@ -1,6 +1,6 @@
 use Rattle.std.proofs.Common.{◌≡◌, None, refl, rules}
 use Rattle.vx_assemble.specs.inner.Feed.{feeding}
-use Rattle.vx_assemble.proofs.Feeding.{still_gives, still_refused}
+use Rattle.vx_assemble.proofs.Feeding.{few_bytes, still_gives, still_refused}
 use Rattle.vx_assemble.proofs.feed.Feed.next.Goals as goal
 
 pub returns-in-Ok-clause-answer : goal.returns-in-Ok-clause-answer
@@ -15,3 +15,12 @@ returns-in-Err-clause-answer c R of g places before fed =
     let old = rw first at (rw (← c.self.view_is) at fed) in
     let f = feeding c.take_seen.new.reader c.take_seen.new.assembler c.take_seen.new.units in
     still_refused R g places before f f _ refl (c.in-Err.ensures.answer R of g places before old)
+
+pub returns-in-Some-clause-bytes : goal.returns-in-Some-clause-bytes
+returns-in-Some-clause-bytes c = rw (← c.self.view_is) (few_bytes c.self.inside.reader c.self.inside.assembler c.self.invariant.held c.self.invariant.bounded)
+
+pub returns-in-Ok-clause-bytes : goal.returns-in-Ok-clause-bytes
+returns-in-Ok-clause-bytes c = few_bytes c.take_seen.new.reader c.take_seen.new.assembler c.in-Ok.ensures.held c.in-Ok.ensures.bounded
+
+pub returns-in-Err-clause-bytes : goal.returns-in-Err-clause-bytes
+returns-in-Err-clause-bytes c = few_bytes c.take_seen.new.reader c.take_seen.new.assembler c.in-Err.ensures.held c.in-Err.ensures.bounded

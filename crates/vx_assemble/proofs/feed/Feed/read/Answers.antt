@@ -1,5 +1,5 @@
 use Rattle.std.proofs.Common.{Err, refl, ap}
-use Rattle.vx_assemble.proofs.Feeding.{reads_more, unended}
+use Rattle.vx_assemble.proofs.Feeding.{few_bytes, reads_more, unended}
 use Rattle.vx_annexb.specs.declared.unit_reader.ReadFault.{ReadFault}
 use Rattle.vx_assemble.proofs.feed.Feed.read.Goals as goal
 
@@ -12,3 +12,9 @@ pub returns-in-Err-clause-unended : goal.returns-in-Err-clause-unended
 returns-in-Err-clause-unended g c =
     let open_ = rw (← c.self.view_is) at c.requires.open in
     unended _ _ c.in-Err.fault open_.reader (λ e. c.in-Err.ensures.memory (ap (λ (f : ReadFault). Err f) e)) (λ e. c.in-Err.ensures.failed (ap (λ (f : ReadFault). Err f) e))
+
+pub returns-in-Ok-clause-bytes : goal.returns-in-Ok-clause-bytes
+returns-in-Ok-clause-bytes g c = few_bytes c.read.new.self c.self.inside.assembler c.in-Ok.ensures.held c.self.invariant.bounded
+
+pub returns-in-Err-clause-bytes : goal.returns-in-Err-clause-bytes
+returns-in-Err-clause-bytes g c = few_bytes c.read.new.self c.self.inside.assembler c.in-Err.ensures.held c.self.invariant.bounded
