@@ -1,5 +1,5 @@
 -- What the sets say that are sent for a subpicture of a picture (H.266 7.4.3.4, 7.4.3.5).
-use Rattle.std.specs.Prelude.{ℕ, pos, ◌+◌, ◌==◌, not, Bool, false, cond, List, [], ◌∷◌, slice_index, Option, Some, None, unwrap_or}
+use Rattle.std.specs.Prelude.{ℕ, pos, ◌+◌, ◌==◌, Bool, false, cond, List, [], ◌∷◌, slice_index, Option, Some, None, unwrap_or}
 use Rattle.vx_bits.specs.declared.list.Item.{Item}
 use Rattle.vx_fields.specs.declared.ptl.TheConstants.{general_level_idc}
 use Rattle.vx_fields.specs.declared.dpb.TheConstants as dpb
