@@ -5,5 +5,6 @@
 #![tactic(auto)]
 
 mod fault;
+mod shapes;
 
 pub use fault::{WriteError, WriteFirst};
