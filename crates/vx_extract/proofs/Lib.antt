@@ -5,3 +5,4 @@ pub mod ShapesIdBits
 pub mod ShapesSps
 pub mod ShapesRegions
 pub mod ShapesPps
+pub mod Ending

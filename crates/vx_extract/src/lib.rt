@@ -6,5 +6,8 @@
 
 mod fault;
 mod shapes;
+#[cfg(test)]
+mod tests_units;
+mod units;
 
 pub use fault::{WriteError, WriteFirst};
