@@ -6,3 +6,4 @@ pub mod ShapesSps
 pub mod ShapesRegions
 pub mod ShapesPps
 pub mod Ending
+pub mod Naming

@@ -1,3 +1,4 @@
 -- What serves bodies and proofs alone: nothing that a caller has to believe.
+pub mod Needed
 pub mod Slots
 pub mod ShapeFacts

@@ -6,6 +6,7 @@
 
 mod fault;
 mod shapes;
+mod needed;
 #[cfg(test)]
 mod tests_units;
 mod units;
