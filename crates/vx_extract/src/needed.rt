@@ -1,6 +1,7 @@
 //! The adaptation parameter sets that a subpicture of a picture needs: those that its slices name.
 ghost use Rattle.std.specs.Prelude.{◌≡◌, ℕ, ◌+◌, ◌<◌, ◌++◌, false, List, length, replicate, IfSome};
 ghost use Rattle.std.specs.List.{slice_index_or};
+ghost use Rattle.vx_bits.specs.Codes.{EndsInNoZero};
 ghost use Rattle.vx_pic.specs.Sets.{named, named_filters};
 ghost use Rattle.vx_extract.specs.inner.Needed.{slot_at, slot_count, NamesOf, needed_to, lent_set, marked, all_marked, own_names, header_filters, header_names};
 
@@ -166,6 +167,8 @@ pub(crate) fn needed_at<'a>(
     ensures needed { (target : ℕ) → NamesOf picture.now target named.now → needed_to picture.now target (place + 1) ≡ needed_to picture.now target place ++ lent_set result }
     ensures kind { IfSome result (λ a. a.kind < 8) }
     ensures id { IfSome result (λ a. a.id < 32) }
+    ensures some { IfSome result (λ a. 0 < length a.body.now) }
+    ensures ends { IfSome result (λ a. EndsInNoZero a.body.now) }
 {
     if !named.has(place) {
         return None;
