@@ -1,6 +1,6 @@
 -- The slices of a whole picture come subpicture by subpicture, those of each in the order of their addresses.
-use Rattle.std.proofs.Common.{◌≡◌, ◌⊎◌, inl, inr, ℕ, zero, suc, ◌+◌, ◌-◌, ◌<◌, ◌≤◌, ◌==◌, min, max, Bool, true, false, cond, List, [], ◌∷◌, length, map, take, slice_index, ℤ, refl, ap, sym, subst, ◌∙◌, arith}
-use Rattle.std.specs.Prelude.{filter, nat_lt, unwrap_or, IfSome, Option, Some, None, Result, Ok}
+use Rattle.std.proofs.Common.{◌≡◌, ◌⊎◌, inl, inr, ℕ, suc, ◌+◌, ◌-◌, ◌<◌, ◌≤◌, ◌==◌, min, max, Bool, true, false, cond, List, [], ◌∷◌, length, map, slice_index, ℤ, refl, ap, sym, subst, ◌∙◌, arith}
+use Rattle.std.specs.Prelude.{filter, unwrap_or, IfSome, Option, Some, None, Result, Ok}
 use Rattle.std.specs.List.{All, AllByRecursion, range_with_len}
 use Rattle.std.proofs.lemmas.Bool.{cases_Bool, cases_eq, cases_lt, eq-eqb, ne_eqb, lt-ltb, eqb-true}
 use Rattle.std.proofs.lemmas.List.{length-map, take_all}
@@ -8,7 +8,6 @@ use Rattle.std.proofs.lemmas.List.Elements.{All-cons, All-nil, All-weaker}
 use Rattle.std.proofs.lemmas.List.FromFn.{length-range_with_len}
 use Rattle.vx_bits.specs.declared.list.Item.{Item}
 use Rattle.vx_bits.specs.declared.refusal.Refusal.{Refusal}
-use Rattle.vx_fields.specs.declared.sh.TheConstants.{sh_slice_address}
 use Rattle.vx_fields.specs.declared.names.sh.TheConstants.{SUBPIC}
 use Rattle.vx_layout.specs.declared.numbers.Numbers.{Numbers}
 use Rattle.vx_layout.specs.declared.rect.Rect.{Rect}
@@ -17,9 +16,8 @@ use Rattle.vx_layout.specs.Layouts.{slices_in}
 use Rattle.vx_layout.specs.Rects.{IsPart, in_order}
 use Rattle.vx_layout.specs.Shapes.{HasCtu}
 use Rattle.vx_table.specs.Forms.{Form}
-use Rattle.vx_table.specs.Loaded.{number}
 use Rattle.vx_table.specs.Reading.{ReadsValue, as_read, IsFound, at_front}
-use Rattle.vx_table.specs.Spelling.{Spells, at_end, behind, items_along}
+use Rattle.vx_table.specs.Spelling.{Spells, at_end, behind}
 use Rattle.vx_table.specs.Values.{Follows, to_end, through}
 use Rattle.vx_table.proofs.Spelled.{is_value}
 use Rattle.vx_sps.specs.Set as sps
@@ -31,7 +29,7 @@ use Rattle.vx_sh.specs.InForce.{SliceScopesAreWhole}
 use Rattle.vx_sh.specs.Whole as sh
 use Rattle.vx_pic.specs.Sets.{SliceHeader, address_of, place_of}
 use Rattle.vx_pic.specs.Readings.{Begun, Slice, Picture, is_whole}
-use Rattle.vx_pic.specs.PictureLayout.{MakeLayout, IsLayoutAnswer, numbers_in, slices_of, subpictures_of}
+use Rattle.vx_pic.specs.PictureLayout.{IsLayoutAnswer, numbers_in, slices_of, subpictures_of}
 use Rattle.vx_pic.specs.UnderSets.{header_of, slice_at}
 use Rattle.vx_pic.specs.Rules.{Readers}
 use Rattle.vx_pic.specs.Streams.{pictures_of}

@@ -1,7 +1,6 @@
 -- The sets in force for the pictures of units were read.
-use Rattle.std.proofs.Common.{◌≡◌, ℕ, Bool, true, false, not, cond, List, [], ◌∷◌, ◌++◌, length, Option, Some, None, ok_or, Result, Ok, Err, refl, sym, ◌∙◌, ap, subst, inl, inr}
-use Rattle.std.specs.Prelude.{◌==◌, nat_lt, is_none}
-use Rattle.std.specs.Option.{option_or}
+use Rattle.std.proofs.Common.{◌≡◌, ℕ, true, false, not, cond, List, [], ◌∷◌, ◌++◌, length, Option, Some, None, Result, Ok, Err, refl, subst, inl, inr}
+use Rattle.std.specs.Prelude.{◌==◌, nat_lt}
 use Rattle.std.specs.List.{AllByRecursion}
 use Rattle.vx_bits.specs.declared.list.Item.{Item}
 use Rattle.vx_bits.specs.declared.refusal.Refusal.{Refusal}
@@ -10,12 +9,11 @@ use Rattle.vx_bits.specs.declared.rules.TheConstants as rules
 use Rattle.vx_aps.specs.declared.aps.Aps.{Aps}
 use Rattle.vx_annexb.specs.NalUnit.{nal_unit_type, nuh_layer_id}
 use Rattle.vx_layout.proofs.Parts.{Each-append}
-use Rattle.vx_pic.specs.declared.sets.TheConstants as sets
 use Rattle.vx_sei.specs.Sei.{spelled_length}
-use Rattle.vx_pic.specs.Units.{is_reserved, temporal_id, rbsp_of, has_header_inside, Class, other_unit, vps_unit, sps_unit, pps_unit, prefix_aps, suffix_aps, header_unit, slice_unit, end_unit, sei_unit, class_of}
-use Rattle.vx_pic.specs.Sets.{sps_id, pps_id, referred_sps, same_size}
-use Rattle.vx_pic.specs.Readings.{Begun, Slice, Reading, dropped, vps_read, sps_read, pps_read, aps_read, messages_read, header_read, first_slice, next_slice, sequence_ended, latest, sps_in, pps_in, stored_sps, stored_pps, gathered, Picture, is_whole, Current, nothing, headed, going, with_slice, current, is_open, is_within, whole_part, is_slice, pictures}
-use Rattle.vx_pic.specs.Rules.{Readers, missing, message_limit, aps_reading, opens, opened, gathers, begins, joins, follows, alone, reads_as, reads}
+use Rattle.vx_pic.specs.Units.{is_reserved, rbsp_of, has_header_inside, Class, other_unit, vps_unit, sps_unit, pps_unit, prefix_aps, suffix_aps, header_unit, slice_unit, end_unit, sei_unit, class_of}
+use Rattle.vx_pic.specs.Sets.{sps_id, pps_id, referred_sps}
+use Rattle.vx_pic.specs.Readings.{Begun, Slice, Reading, dropped, vps_read, sps_read, pps_read, aps_read, messages_read, header_read, first_slice, next_slice, sequence_ended, latest, sps_in, pps_in, gathered, Picture, is_whole, Current, nothing, headed, going, with_slice, current, is_open, is_within, whole_part, is_slice, pictures}
+use Rattle.vx_pic.specs.Rules.{Readers, message_limit, aps_reading, opens, opened, gathers, begins, joins, follows, alone, reads_as, reads}
 use Rattle.vx_pic.specs.Streams.{Outcome, one_more, read_on}
 use Rattle.vx_pic.specs.Whole.{HasSets, PicturesHaveSets}
 use Rattle.vx_pic.proofs.Finishing.{then_told, passed, test_told, first_or, header_begun, chosen, answered, by_layer}

@@ -1,10 +1,9 @@
 -- The address of a slice is below the number of slices of its subpicture.
-use Rattle.std.proofs.Common.{◌≡◌, ◌⊎◌, inl, inr, ℕ, ℤ, pos, negsuc, ◌<◌, ◌≤◌, Bool, true, false, None, List, [], ◌∷◌, length, refl, ap, sym, subst, ◌∙◌, arith}
-use Rattle.std.specs.Prelude.{◌&&◌, nat_lt, int_le, int_lt, drop, slice_index, slice_set}
+use Rattle.std.proofs.Common.{◌≡◌, ◌⊎◌, inl, inr, ℕ, ℤ, pos, negsuc, ◌<◌, None, List, [], ◌∷◌, length, refl, ap, sym, subst, ◌∙◌, arith}
+use Rattle.std.specs.Prelude.{nat_lt, int_le, int_lt, drop, slice_index, slice_set}
 use Rattle.std.proofs.lemmas.Bool.{and_parts, cases_Bool, ltb-true}
 use Rattle.std.proofs.lemmas.Grind.{get_or-set_at}
 use Rattle.std.proofs.lemmas.List.{length-set, get_or-set_other}
-use Rattle.vx_bits.specs.declared.list.Item.{Item}
 use Rattle.vx_table.specs.declared.rows.Fault.{Fault}
 use Rattle.vx_table.specs.declared.rows.Limits.TheVariants.{Below}
 use Rattle.vx_table.specs.Scope.{fresh, natural, value}
@@ -21,8 +20,7 @@ use Rattle.vx_fields.specs.declared.sh.TheConstants.{sh_subpic_id, sh_slice_addr
 use Rattle.vx_fields.specs.declared.names.sh.TheConstants.{NUM_SUBPICS, SUBPIC, NUM_SLICES}
 use Rattle.vx_layout.specs.declared.numbers.Numbers.{Numbers}
 use Rattle.vx_sh.specs.declared.tables.TheConstants.{SUBPIC_ID, KNOWN_SUBPIC, ADDRESS}
-use Rattle.vx_sh.specs.Whole.{At, index_of, slices_at, located, id_form, subpic_form, points_of, there, behind_header}
-use Rattle.vx_sh.specs.Value.{AreFields}
+use Rattle.vx_sh.specs.Whole.{index_of, slices_at, located, id_form, subpic_form, points_of, there, behind_header}
 use Rattle.vx_sh.specs.Addresses.{AddressesAreBelow}
 use Rattle.vx_sh.proofs.Told.{done_is, id_is, id_size, inside_size, rest_peeled, numbers_are_told}
 

@@ -1,5 +1,5 @@
 -- The addresses of slices (H.266 7.4.8, sh_slice_address).
-use Rattle.std.specs.Prelude.{◌≡◌, ◌⊎◌, ℕ, ℤ, ◌<◌, List, length, slice_index}
+use Rattle.std.specs.Prelude.{◌≡◌, ◌⊎◌, ℤ, ◌<◌, List, length, slice_index}
 use Rattle.vx_bits.specs.declared.list.Item.{Item}
 use Rattle.vx_table.specs.Loaded.{number}
 use Rattle.vx_fields.specs.declared.sh.TheConstants.{sh_slice_address}
