@@ -1,4 +1,4 @@
-use Rattle.std.proofs.Common.{◌∙◌}
+use Rattle.std.proofs.Common.{◌∷◌, ◌∙◌}
 use Rattle.vx_app.proofs.Made.{picture_shown, numbers_same}
 use Rattle.vx_app.proofs.show.picture_numbers.Goals as goal
 
