@@ -22,6 +22,8 @@ mod slices;
 mod state;
 #[cfg(test)]
 mod tests_feed;
+#[cfg(test)]
+mod tests_pictures;
 mod unit;
 mod units;
 
