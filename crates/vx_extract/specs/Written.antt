@@ -108,7 +108,7 @@ pub record IsExtracted (target : ℕ) (level : Option ℕ) (q : Parts) (done : L
   pub slices : slices_of p ≡ slices_in q target
   pub needed : List SetUnit
   pub sets : map (λ x. x.set) needed ≡ needed_sets q target p.begun.sps p.begun.pps
-  pub units : AllByRecursion (λ x. IsSetUnit q.kind.temporal_id x.set x.unit) needed
+  pub units : AllByRecursion (λ x. IsSetUnit q.kind.temporal_id x.set x.unit) p.sent
   pub sent : p.sent ≡ filter (λ x. not (is_resident q.kind.temporal_id (sent_before done p) x)) needed
   pub sei : IsSeiUnit q.kind.temporal_id q.messages p.sei
 
