@@ -319,7 +319,7 @@ names_some q target flags new some i past is far gains =
 slot_is : (i : ℕ) (d : Slot) → i < slot_count → get_or all_slots i d ≡ slot_at i
 slot_is i d within = get_or-map-range_with_len slot_at 0 24 i i d within (omega arith)
 
-needed_more : (q : Parts) (target i : ℕ) → i < slot_count
+pub needed_more : (q : Parts) (target i : ℕ) → i < slot_count
     → needed_to q target (i + 1) ≡ needed_to q target i ++ flat_map (aps_of_slot q) (cond (is_named q target (slot_at i)) (slot_at i ∷ []) [])
 unfolding needed_to
 needed_more q target i within =
