@@ -7,3 +7,8 @@ pub mod ShapesRegions
 pub mod ShapesPps
 pub mod Ending
 pub mod Naming
+pub mod Held
+pub mod Tids
+pub mod Sending
+pub mod Writing
+pub mod Extracted

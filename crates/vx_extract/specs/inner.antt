@@ -1,4 +1,7 @@
 -- What serves bodies and proofs alone: nothing that a caller has to believe.
 pub mod Needed
+pub mod Sending
+pub mod Sets
 pub mod Slots
 pub mod ShapeFacts
+pub mod Writing

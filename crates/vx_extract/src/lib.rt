@@ -4,11 +4,20 @@
 //! sets are sent where a receiver doesn't have them.
 #![tactic(auto)]
 
+mod extractor;
 mod fault;
 mod shapes;
 mod needed;
+mod output;
+mod rules;
+mod send;
+mod shapes;
+mod slots;
+mod task;
 #[cfg(test)]
 mod tests_units;
 mod units;
+mod written;
 
+pub use extractor::Extractor;
 pub use fault::{WriteError, WriteFirst};

@@ -1,0 +1,116 @@
+//! A subpicture of picture after picture.
+
+use crate::fault::{WriteError, WriteFirst};
+use crate::rules::refusal_of;
+use crate::slots::Slots;
+use crate::task::{Task, first_of, write};
+use std::alloc::Global;
+use std::marker::Model;
+use vx_io::Sink;
+use vx_pic::Picture;
+
+/// The highest TemporalId of all (H.266 7.4.2.2).
+const ALL: u8 = 6;
+
+/// Writes a subpicture of picture after picture, as a stream of its own.
+///
+/// After a refusal, want of memory or a failed write it answers [`WriteError::Stopped`], and writes nothing more.
+#[derive(Drop)]
+pub struct Extractor {
+    alloc: Global,
+    task: Task,
+    slots: Slots,
+    first: Option<WriteFirst>,
+}
+
+impl Model for Extractor {
+    ghost use Rattle.std.specs.Prelude.{◌≤◌};
+    ghost use Rattle.vx_extract.specs.Extracting.{Extracting};
+
+    ghost Value = { Extracting };
+
+    ghost view = { λ e. record { target = e.task.target; level = e.task.level; tid = e.task.tid; slots = e.slots; first = e.first } };
+
+    ghost invariant = { λ e. e.task.tid ≤ 6 };
+}
+
+impl Extractor {
+    ghost use Rattle.std.specs.Prelude.{◌≡◌, ◌≤◌, List, [], Some, None, Err, IfErr, OnOk};
+    ghost use Rattle.vx_pic.specs.Written.{Plan};
+    ghost use Rattle.vx_extract.specs.declared.fault.WriteFirst.{WriteFirst as First};
+    ghost use Rattle.vx_extract.specs.declared.fault.WriteError.TheVariants.{Stopped};
+    ghost use Rattle.vx_extract.specs.Extracting as extracting;
+    ghost use Rattle.vx_extract.specs.Extracting.{Stands, Writes, Checks, SameTask};
+
+    /// An extractor of the subpicture of this index, with a level of its own or the source's, of all sublayers.
+    pub fn new(alloc: Global, target: u32, level: Option<u8>) -> Extractor
+        ensures task { (result.target ≡ target) × (result.level ≡ level) × (result.tid ≡ 6) }
+        ensures stands { Stands result [] }
+    {
+        Extractor::limited(alloc, target, level, ALL)
+    }
+
+    /// An extractor of the subpicture of this index, with a level of its own or the source's, of the sublayers up to a TemporalId.
+    pub fn limited(alloc: Global, target: u32, level: Option<u8>, tid: u8) -> Extractor
+        requires { tid ≤ 6 }
+        ensures task { (result.target ≡ target) × (result.level ≡ level) × (result.tid ≡ tid) }
+        ensures stands { Stands result [] }
+    {
+        Extractor {
+            alloc,
+            task: Task { target, level, tid },
+            slots: Slots::new(alloc),
+            first: None,
+        }
+    }
+
+    /// Writes the subpicture of a picture, behind those of the pictures before it, or leaves the picture out with its sublayer.
+    ///
+    /// # Errors
+    ///
+    /// The rule that the picture breaks, or want of memory, and nothing of it is then written; or a failed write, and a front of it
+    /// is then written. All later pictures are answered with the first of these.
+    pub fn picture<K: Sink>(&mut self, picture: &Picture<'_>, out: &mut K) -> Result<(), WriteError>
+        ensures answer { (done : List Plan) → Stands self.old done
+            → Writes picture.now done self.new (K.bytes_taken out.old) (K.bytes_taken out.new) (K.write_faults out.old) (K.write_faults out.new) result }
+        ensures task { SameTask self.old self.new }
+        ensures first { IfErr result (λ e. self.new.first ≡ Some (extracting.first_of e)) }
+        ensures stopped { (f : First) → self.old.first ≡ Some f → (result ≡ Err (Stopped f)) × (self.new ≡ self.old) × (out.new ≡ out.old) }
+    {
+        if let Some(first) = self.first {
+            return Err(WriteError::Stopped(first));
+        }
+        match write(self.alloc, self.task, &mut self.slots, picture, out) {
+            Ok(()) => Ok(()),
+            Err(error) => {
+                self.first = Some(first_of(error));
+                Err(error)
+            }
+        }
+    }
+
+    /// Whether the subpicture of a picture can be extracted: what [`Extractor::picture`] answers, unless memory runs out or a write
+    /// fails. It writes nothing, and takes no memory.
+    ///
+    /// # Errors
+    ///
+    /// The rule that the picture breaks. All later pictures are answered with the first one.
+    pub fn check(&mut self, picture: &Picture<'_>) -> Result<(), WriteError>
+        ensures answer { self.old.first ≡ None → Checks picture.now self.old result }
+        ensures task { SameTask self.old self.new }
+        ensures first { IfErr result (λ e. self.new.first ≡ Some (extracting.first_of e)) }
+        ensures stopped { (f : First) → self.old.first ≡ Some f → (result ≡ Err (Stopped f)) × (self.new ≡ self.old) }
+        ensures stays { OnOk result (self.new ≡ self.old) }
+    {
+        if let Some(first) = self.first {
+            return Err(WriteError::Stopped(first));
+        }
+        match refusal_of(picture, self.task.target, self.task.tid) {
+            None => Ok(()),
+            Some(refusal) => {
+                self.first = Some(WriteFirst::Refused(refusal));
+                Err(WriteError::Refused(refusal))
+            }
+        }
+    }
+}

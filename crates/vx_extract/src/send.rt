@@ -1,0 +1,181 @@
+//! The units of the sets that a picture needs.
+ghost use Rattle.std.specs.Prelude.{◌≡◌, ℕ, ◌+◌, ◌<◌, List, [], ◌∷◌, ◌++◌, map, option_copied, option_map, IfOk};
+ghost use Rattle.vx_bits.specs.declared.list.Item.{Item};
+ghost use Rattle.vx_sps.specs.Subpictures.{subpics_of};
+ghost use Rattle.vx_pic.specs.Written.{Set, an_sps, a_pps, SetUnit, Plan};
+ghost use Rattle.vx_pic.specs.Resident.{kept_for, history_of};
+ghost use Rattle.vx_extract.specs.Written.{needed_sets};
+ghost use Rattle.vx_extract.specs.inner.Sets.{set_lent, CanBeWritten};
+ghost use Rattle.vx_extract.specs.inner.Slots.{AreLastOf};
+ghost use Rattle.vx_extract.specs.inner.Sending.{AreSent, AreOthers, sets_to, IsMade};
+ghost use Rattle.vx_extract.specs.inner.Needed.{NamesOf};
+
+use crate::needed::{APS_SLOTS, NamedAps, named_aps, needed_at};
+use crate::rules::is_irap_or_gdr;
+use crate::shapes::{rewritten_pps, rewritten_sps};
+use crate::slots::Slots;
+use crate::units::sei_unit;
+use crate::written::{NeededSet, tid_of_unit, unit_of};
+use std::alloc::{AllocError, Global};
+use vx_pic::Picture;
+use vx_pps::Pps;
+use vx_sps::Sps;
+
+/// What is made of a picture: all that is written of it beside its own units.
+#[derive(Drop)]
+pub(crate) struct Made {
+    /// The units of the sets that are sent.
+    pub(crate) sets: Vec<Vec<u8>>,
+    /// The SEI unit.
+    pub(crate) sei: Option<Vec<u8>>,
+}
+
+impl Made {
+    /// The SEI unit.
+    pub(crate) fn sei_unit(&self) -> Option<&[u8]>
+        ensures { option_copied result ≡ option_map (λ unit. unit.items) self.now.sei }
+    {
+        self.sei.as_deref()
+    }
+}
+
+/// Makes the unit of a set, unless the set is resident.
+///
+/// # Errors
+///
+/// Want of memory.
+fn send(
+    alloc: Global,
+    slots: &mut Slots,
+    units: &mut Vec<Vec<u8>>,
+    set: NeededSet<'_>,
+    temporal_id: u8,
+) -> Result<(), AllocError>
+    requires tid { temporal_id < 7 }
+    requires set { CanBeWritten (set_lent set) }
+    ensures { (before : List SetUnit) (sets : List Set) → AreSent temporal_id before sets slots.old (map (λ unit. unit.items) units.old.items)
+        → AreOthers (set_lent set.entry) sets
+        → IfOk result (λ _. AreSent temporal_id before (sets ++ set_lent set.entry ∷ []) slots.new (map (λ unit. unit.items) units.new.items)) }
+{
+    if slots.serves(temporal_id, set) {
+        return Ok(());
+    }
+    let unit = unit_of(alloc, set, temporal_id)?;
+    units.push(unit)?;
+    slots.put(alloc, set, tid_of_unit(set, temporal_id))?;
+    Ok(())
+}
+
+/// Makes the unit of the adaptation parameter set at a place, where the subpicture names it.
+///
+/// # Errors
+///
+/// Want of memory.
+fn send_aps(
+    alloc: Global,
+    slots: &mut Slots,
+    units: &mut Vec<Vec<u8>>,
+    picture: &Picture<'_>,
+    named: &NamedAps,
+    place: u8,
+) -> Result<(), AllocError>
+    requires tid { picture.now.kind.temporal_id < 7 }
+    requires place { place < 24 }
+    ensures { (target : ℕ) (before : List SetUnit) (sps pps : List Item) → NamesOf picture.now target named.now
+        → AreSent picture.now.kind.temporal_id before (sets_to picture.now target sps pps place) slots.old (map (λ unit. unit.items) units.old.items)
+        → IfOk result (λ _. AreSent picture.now.kind.temporal_id before (sets_to picture.now target sps pps (place + 1))
+        slots.new (map (λ unit. unit.items) units.new.items)) }
+{
+    let temporal_id = picture.kind().temporal_id;
+    match needed_at(picture, named, place) {
+        Some(aps) => send(alloc, slots, units, NeededSet::Aps(aps), temporal_id),
+        None => Ok(()),
+    }
+}
+
+/// Makes the units of the adaptation parameter sets that the subpicture names, by rising type and id.
+///
+/// # Errors
+///
+/// Want of memory.
+fn send_named(
+    alloc: Global,
+    slots: &mut Slots,
+    units: &mut Vec<Vec<u8>>,
+    picture: &Picture<'_>,
+    target: u32,
+) -> Result<(), AllocError>
+    requires { picture.now.kind.temporal_id < 7 }
+    ensures { (before : List SetUnit) (sps pps : List Item)
+        → AreSent picture.now.kind.temporal_id before (an_sps sps ∷ a_pps pps ∷ []) slots.old (map (λ unit. unit.items) units.old.items)
+        → IfOk result (λ _. AreSent picture.now.kind.temporal_id before (needed_sets picture.now target sps pps)
+        slots.new (map (λ unit. unit.items) units.new.items)) }
+{
+    let named = named_aps(picture, target);
+    for place in 0..APS_SLOTS {
+        send_aps(alloc, slots, units, picture, &named, place)?;
+    }
+    Ok(())
+}
+
+/// Makes the units of the sets that the subpicture needs, of those that aren't resident.
+///
+/// # Errors
+///
+/// Want of memory.
+fn send_needed(
+    alloc: Global,
+    slots: &mut Slots,
+    picture: &Picture<'_>,
+    target: u32,
+    sps: &Sps,
+    pps: &Pps,
+) -> Result<Vec<Vec<u8>>, AllocError>
+    requires { picture.now.kind.temporal_id < 7 }
+    ensures { (before : List SetUnit) → AreLastOf before slots.old
+        → IfOk result (λ units. AreSent picture.now.kind.temporal_id before (needed_sets picture.now target sps.now pps.now)
+        slots.new (map (λ unit. unit.items) units.items)) }
+{
+    let temporal_id = picture.kind().temporal_id;
+    let mut units = Vec::new(alloc);
+    send(alloc, slots, &mut units, NeededSet::Sps(sps), temporal_id)?;
+    send(alloc, slots, &mut units, NeededSet::Pps(pps), temporal_id)?;
+    send_named(alloc, slots, &mut units, picture, target)?;
+    Ok(units)
+}
+
+/// Forgets what was sent, before a picture of an IRAP or GDR type: a receiver may begin there.
+fn forget_before(slots: &mut Slots, nal_type: u8)
+    ensures { (history : List SetUnit) → AreLastOf history slots.old → AreLastOf (kept_for nal_type history) slots.new }
+{
+    if !is_irap_or_gdr(nal_type) {
+        return;
+    }
+    slots.clear();
+}
+
+/// Makes what is written of a picture beside its own units.
+///
+/// # Errors
+///
+/// Want of memory.
+pub(crate) fn make(
+    alloc: Global,
+    slots: &mut Slots,
+    picture: &Picture<'_>,
+    target: u32,
+    level: Option<u8>,
+) -> Result<Made, AllocError>
+    requires tid { picture.now.kind.temporal_id < 7 }
+    requires target { target < subpics_of picture.now.sps }
+    ensures { (done : List Plan) → AreLastOf (history_of done) slots.old
+        → IfOk result (λ made. IsMade target level picture.now done (map (λ unit. unit.items) made.sets.items) (option_map (λ unit. unit.items) made.sei) slots.new) }
+{
+    let kind = picture.kind();
+    forget_before(slots, kind.nal_type);
+    let sps = rewritten_sps(alloc, picture, target, level)?;
+    let pps = rewritten_pps(alloc, picture, target)?;
+    let sets = send_needed(alloc, slots, picture, target, &sps, &pps)?;
+    let sei = sei_unit(alloc, picture.messages(), kind.temporal_id)?;
+    Ok(Made { sets, sei })
+}

@@ -1,0 +1,80 @@
+//! A picture that is written as it is asked for.
+ghost use Rattle.std.specs.Prelude.{◌≡◌, ◌≤◌, List, None};
+ghost use Rattle.vx_pic.specs.Written.{Plan};
+ghost use Rattle.vx_pic.specs.Resident.{history_of};
+ghost use Rattle.vx_extract.specs.Extracting as extracting;
+ghost use Rattle.vx_extract.specs.Extracting.{Writes};
+ghost use Rattle.vx_extract.specs.inner.Slots.{AreLastOf};
+ghost use Rattle.vx_extract.specs.declared.fault.WriteError.TheVariants as errors;
+
+use crate::fault::{WriteError, WriteFirst};
+use crate::output::write_picture;
+use crate::rules::{is_kept, refusal_of};
+use crate::send::make;
+use crate::slots::Slots;
+use std::alloc::{AllocError, Global};
+use vx_io::{Sink, SinkFailed};
+use vx_pic::Picture;
+
+impl From<AllocError> for WriteError {
+    ghost from_gives = { λ _ e. e ≡ errors.Memory };
+
+    fn from(_error: AllocError) -> WriteError {
+        WriteError::Memory
+    }
+}
+
+impl From<SinkFailed> for WriteError {
+    ghost from_gives = { λ _ e. e ≡ errors.SinkFailed };
+
+    fn from(_error: SinkFailed) -> WriteError {
+        WriteError::SinkFailed
+    }
+}
+
+/// What is asked of an extractor.
+#[derive(Clone, Copy)]
+pub(crate) struct Task {
+    /// The index of the subpicture.
+    pub(crate) target: u32,
+    /// The level that is asked for.
+    pub(crate) level: Option<u8>,
+    /// The highest TemporalId that is kept.
+    pub(crate) tid: u8,
+}
+
+/// What is answered later, where this kept a picture from being written.
+pub(crate) fn first_of(error: WriteError) -> WriteFirst
+    ensures { result ≡ extracting.first_of error }
+{
+    match error {
+        WriteError::Memory => WriteFirst::Memory,
+        WriteError::SinkFailed => WriteFirst::SinkFailed,
+        WriteError::Refused(refusal) => WriteFirst::Refused(refusal),
+        WriteError::Stopped(first) => first,
+    }
+}
+
+/// Writes the subpicture of a picture, behind those of others, where its sublayer is kept.
+pub(crate) fn write<K: Sink>(
+    alloc: Global,
+    task: Task,
+    slots: &mut Slots,
+    picture: &Picture<'_>,
+    out: &mut K,
+) -> Result<(), WriteError>
+    requires { task.tid ≤ 6 }
+    ensures { (done : List Plan) → AreLastOf (history_of done) slots.old
+        → Writes picture.now done (record { target = task.target; level = task.level; tid = task.tid; slots = slots.new; first = None })
+        (K.bytes_taken out.old) (K.bytes_taken out.new) (K.write_faults out.old) (K.write_faults out.new) result }
+{
+    if let Some(refusal) = refusal_of(picture, task.target, task.tid) {
+        return Err(WriteError::Refused(refusal));
+    }
+    if !is_kept(picture, task.tid) {
+        return Ok(());
+    }
+    let made = make(alloc, slots, picture, task.target, task.level)?;
+    write_picture(out, picture, task.target, &made)?;
+    Ok(())
+}
