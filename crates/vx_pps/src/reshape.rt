@@ -29,7 +29,7 @@ fn has(names: &Scope, field: u16) -> bool
 }
 
 /// The items of a set's fields, in order.
-pub(crate) fn items_of(alloc: Global, items: &Fields, names: &Scope) -> Result<Fields, AllocError>
+fn items_of(alloc: Global, items: &Fields, names: &Scope) -> Result<Fields, AllocError>
     ensures { IfOk result (λ shown. shown ≡ shown_items names.now items.now) }
 {
     let mut shown = Fields::new(alloc);
@@ -239,7 +239,7 @@ fn taken(merged: bool) -> Scope
 }
 
 /// Puts a set together of the items of some fields and of those of all others, where there is one that has both.
-pub(crate) fn put_together(
+fn put_together(
     alloc: Global,
     names: Scope,
     shown: &Fields,
