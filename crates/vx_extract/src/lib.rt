@@ -6,7 +6,6 @@
 
 mod extractor;
 mod fault;
-mod shapes;
 mod needed;
 mod output;
 mod rules;
