@@ -1,7 +1,7 @@
 -- The spelling of a set ends in rbsp_trailing_bits( ), so that its last byte isn't 00, and units can be made of it.
-use Rattle.std.proofs.Common.{◌≡◌, ℕ, ℤ, zero, suc, ◌+◌, ◌<◌, ◌≤◌, Bool, true, List, [], ◌∷◌, ◌++◌, length, take, drop, Some, refl, sym, ap, subst, ◌∙◌, arith}
+use Rattle.std.proofs.Common.{◌≡◌, ℕ, ℤ, zero, suc, ◌+◌, ◌<◌, ◌≤◌, Bool, List, [], ◌∷◌, ◌++◌, length, take, drop, Some, refl, sym, ap, subst, ◌∙◌, arith}
 use Rattle.std.proofs.lemmas.List.{length-append, append-nil, append_assoc}
-use Rattle.vx_bits.specs.Codes.{bits_of, one_from, EndsInNoZero}
+use Rattle.vx_bits.specs.Codes.{one_from, EndsInNoZero}
 use Rattle.vx_bits.specs.declared.list.Item.{Item}
 use Rattle.vx_table.specs.declared.rows.Formula.{Formula}
 use Rattle.vx_table.specs.declared.rows.Coding.TheVariants.{Trailing}
@@ -10,7 +10,7 @@ use Rattle.vx_table.specs.declared.rows.Presence.{Presence}
 use Rattle.vx_table.specs.declared.rows.Row.{Row}
 use Rattle.vx_table.specs.declared.rows.Row.TheVariants.{Field, Block}
 use Rattle.vx_table.specs.Scope.{fresh}
-use Rattle.vx_table.specs.Forms.{Form, done, field, ◌>>=◌, coding_at, cell_at, one_field, part, present, form_of}
+use Rattle.vx_table.specs.Forms.{Form, done, field, ◌>>=◌, coding_at, one_field, part, present, form_of}
 use Rattle.vx_table.specs.Parts.{Section, always, sections_form}
 use Rattle.vx_table.specs.Spelling.{code_of}
 use Rattle.vx_table.specs.Values.{Follows, through, bits_along}

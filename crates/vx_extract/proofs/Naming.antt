@@ -1,7 +1,7 @@
 -- The adaptation parameter sets that the slices of a subpicture name, as they are marked one by one.
-use Rattle.std.proofs.Common.{◌≡◌, ◌≢◌, ℕ, zero, suc, ◌+◌, ◌*◌, ◌/◌, ◌%◌, ◌<◌, ◌≤◌, ◌⊎◌, inl, inr, Bool, true, false, cond, List, [], ◌∷◌, ◌++◌, length, take, map, get_or, refl, sym, ap, subst, ◌∙◌, arith}
+use Rattle.std.proofs.Common.{◌≡◌, ◌≢◌, ℕ, ◌+◌, ◌/◌, ◌%◌, ◌<◌, ◌≤◌, inl, inr, Bool, true, false, cond, List, [], ◌∷◌, ◌++◌, length, take, map, get_or, refl, sym, ap, subst, ◌∙◌, arith}
 use Rattle.std.specs.Prelude.{◌==◌, ◌&&◌, ◌||◌, nat_lt, filter, flat_map, replicate, slice_get, set, Option, Some, None, option_map, is_none}
-use Rattle.std.specs.List.{AllByRecursion, fold, list_any, range_with_len}
+use Rattle.std.specs.List.{list_any}
 use Rattle.std.proofs.Math.Bool.{or_assoc, or-true, or-false}
 use Rattle.std.proofs.lemmas.Bool.{cases_Bool, and_parts, ltb-true, lt-ltb, eqb-true, eq-eqb, ne_eqb}
 use Rattle.std.proofs.lemmas.Grind.{flat_map-append}
@@ -22,7 +22,7 @@ use Rattle.vx_aps.specs.declared.aps.TheConstants as aps
 use Rattle.vx_sh.specs.declared.header.SliceHeader.{SliceHeader}
 use Rattle.vx_pic.specs.Sets.{Slot, named, named_filters, names_of}
 use Rattle.vx_pic.specs.Parts.{Parts, SlicePart, AreThere, aps_at, id_count, slot_of, named_by}
-use Rattle.vx_pic.specs.Written.{Set, an_aps}
+use Rattle.vx_pic.specs.Written.{an_aps}
 use Rattle.vx_extract.specs.Written.{same_slot, aps_of_slot, all_slots, parts_in, named_in, is_named}
 use Rattle.vx_extract.specs.inner.Needed.{slot_count, slot_at, NamesOf, needed_to, marked, all_marked, own_names, header_filters, header_names, parts_to, some_part, WalkedTo}
 
@@ -191,9 +191,6 @@ same_tells : (i : ℕ) (s : Slot) → same_slot (slot_at i) s ≡ true → (i / 
 same_tells i s same =
     let parts = and_parts (i / id_count == s.kind) (i % id_count == s.id) same in
     (eqb-true (i / id_count) s.kind parts.0, eqb-true (i % id_count) s.id parts.1)
-
-has_place : List Bool → Slot → Bool
-has_place flags s = nat_lt s.kind (aps.SCALING + 1) && nat_lt s.id id_count
 
 marked_here : (flags : List Bool) (s : Slot) (i : ℕ) → length flags ≡ slot_count → i < slot_count → i / id_count ≡ s.kind → i % id_count ≡ s.id
     → get_or (marked flags s) i false ≡ true
