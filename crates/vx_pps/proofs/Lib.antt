@@ -28,5 +28,6 @@ pub mod Keeping
 pub mod Tooled
 pub mod Cutting
 pub mod Reshaping
+pub mod Flags
 pub mod Framing
 pub mod Remade
