@@ -1,12 +1,10 @@
 -- What is written of a picture is its subpicture.
-use Rattle.std.proofs.Common.{◌≡◌, ℕ, ◌+◌, ◌<◌, Bool, true, false, List, [], ◌∷◌, ◌++◌, length, map, Option, Some, None, Result, Ok, Err, refl, sym, ap, subst, ◌∙◌, arith}
+use Rattle.std.proofs.Common.{◌≡◌, ℕ, ◌<◌, Bool, true, false, List, [], ◌∷◌, ◌++◌, length, map, Option, Some, None, Ok, Err, refl, sym, ap, subst, ◌∙◌, arith}
 use Rattle.std.specs.Prelude.{option_map, option_to_list}
 use Rattle.std.specs.Io.KnownBytes.{Appends}
 use Rattle.vx_io.specs.declared.write.SinkFailed.{SinkFailed}
 use Rattle.vx_io.specs.Written.{AppendsFront}
-use Rattle.vx_bits.specs.declared.refusal.Refusal.{Refusal}
 use Rattle.vx_annexb.specs.Laws.{written}
-use Rattle.vx_sei.specs.declared.message.Message.{Message}
 use Rattle.vx_layout.specs.Regions.{region_of}
 use Rattle.vx_pic.specs.Parts.{Parts}
 use Rattle.vx_pic.specs.Readings.{Slice}
@@ -17,10 +15,10 @@ use Rattle.vx_extract.specs.declared.fault.WriteError.TheVariants as errors
 use Rattle.vx_extract.specs.declared.fault.WriteFirst.{WriteFirst}
 use Rattle.vx_extract.specs.Rules.{is_kept, refusal_of}
 use Rattle.vx_extract.specs.Written.{slices_in, IsExtracted}
-use Rattle.vx_extract.specs.Extracting.{Extracting, Stands, HasSlice, WritesKept, Writes}
+use Rattle.vx_extract.specs.Extracting.{Extracting, HasSlice, WritesKept, Writes}
 use Rattle.vx_extract.specs.inner.Slots.{Sent, AreLastOf}
 use Rattle.vx_extract.specs.inner.Sending.{unsent, IsMade}
-use Rattle.vx_extract.specs.inner.Writing.{Takes, slice_units, units_with}
+use Rattle.vx_extract.specs.inner.Writing.{Takes, units_with}
 
 abbrev asked : ℕ → Option ℕ → ℕ → List Sent → Option WriteFirst → Extracting
 asked target level tid slots first = record { target = target; level = level; tid = tid; slots = slots; first = first }

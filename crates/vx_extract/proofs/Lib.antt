@@ -9,6 +9,7 @@ pub mod Ending
 pub mod Naming
 pub mod Held
 pub mod Tids
+pub mod Rewriting
 pub mod Sending
 pub mod Writing
 pub mod Extracted

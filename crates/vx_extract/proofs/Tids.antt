@@ -1,8 +1,8 @@
 -- The TemporalId of a unit that is made.
-use Rattle.std.proofs.Common.{◌≡◌, ℕ, zero, suc, ◌+◌, ◌-◌, ◌*◌, ◌<◌, ◌%◌, Bool, List, [], ◌∷◌, ◌++◌, length, refl, sym, ap, ◌∙◌, inl, inr, arith}
+use Rattle.std.proofs.Common.{◌≡◌, ℕ, zero, suc, ◌+◌, ◌*◌, ◌<◌, ◌%◌, Bool, List, [], ◌∷◌, ◌++◌, length, refl, ap, ◌∙◌, inl, inr, arith}
 use Rattle.std.specs.Prelude.{slice_index, if◌then◌else◌}
 use Rattle.std.proofs.lemmas.Bool.{cases_Bool}
-use Rattle.vx_annexb.specs.Emulation.{is_emulation, unescaped_to, IsEscaped}
+use Rattle.vx_annexb.specs.Emulation.{is_emulation, unescaped_to}
 use Rattle.vx_pic.specs.declared.unit_types.TheConstants as types
 use Rattle.vx_pic.specs.Units.{temporal_id}
 use Rattle.vx_pic.specs.Written.{Set, an_sps, a_pps, an_aps}

@@ -1,12 +1,11 @@
 -- An extractor, as its callers see it: by these words, and by the relation `Stands` between it and the pictures that it has written.
-use Rattle.std.specs.Prelude.{◌≡◌, ℕ, ◌<◌, Bool, true, false, List, [], ◌∷◌, length, Option, Some, None, Result, Ok, Err}
+use Rattle.std.specs.Prelude.{◌≡◌, ℕ, ◌<◌, Bool, true, false, List, ◌∷◌, length, Option, Some, None, Result, Ok, Err}
 use Rattle.std.specs.Io.KnownBytes.{Appends}
-use Rattle.vx_bits.specs.declared.refusal.Refusal.{Refusal}
 use Rattle.vx_io.specs.Faults.{Rose}
 use Rattle.vx_io.specs.Written.{AppendsFront}
 use Rattle.vx_annexb.specs.Laws.{written}
 use Rattle.vx_pic.specs.Parts.{Parts}
-use Rattle.vx_pic.specs.Written.{Set, SetUnit, Plan, units_of}
+use Rattle.vx_pic.specs.Written.{Set, Plan, units_of}
 use Rattle.vx_pic.specs.Resident.{history_of, last_of, serves}
 use Rattle.vx_extract.specs.declared.fault.WriteError.{WriteError}
 use Rattle.vx_extract.specs.declared.fault.WriteError.TheVariants as errors

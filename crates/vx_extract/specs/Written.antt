@@ -1,5 +1,5 @@
 -- What is written for a subpicture of each picture of a stream.
-use Rattle.std.specs.Prelude.{◌≡◌, ℕ, ◌+◌, ◌*◌, ◌==◌, ◌&&◌, not, true, false, Bool, cond, List, [], ◌∷◌, ◌++◌, filter, map, flat_map, Option, Some, None}
+use Rattle.std.specs.Prelude.{◌≡◌, ℕ, ◌+◌, ◌*◌, ◌==◌, ◌&&◌, not, Bool, List, [], ◌∷◌, ◌++◌, filter, map, flat_map, Option, Some, None}
 use Rattle.std.specs.List.{AllByRecursion, list_any, range_with_len}
 use Rattle.vx_bits.specs.declared.list.Item.{Item}
 use Rattle.vx_annexb.specs.Emulation.{IsEscaped}

@@ -1,6 +1,7 @@
 //! A subpicture of picture after picture.
 
 use crate::fault::{WriteError, WriteFirst};
+use crate::rewritten::Rewritten;
 use crate::rules::refusal_of;
 use crate::slots::Slots;
 use crate::task::{Task, first_of, write};
@@ -20,18 +21,20 @@ pub struct Extractor {
     alloc: Global,
     task: Task,
     slots: Slots,
+    kept: Option<Rewritten>,
     first: Option<WriteFirst>,
 }
 
 impl Model for Extractor {
-    ghost use Rattle.std.specs.Prelude.{◌≤◌};
+    ghost use Rattle.std.specs.Prelude.{◌≤◌, IfSome};
+    ghost use Rattle.vx_extract.specs.inner.Rewritings.{IsRewriting};
     ghost use Rattle.vx_extract.specs.Extracting.{Extracting};
 
     ghost Value = { Extracting };
 
     ghost view = { λ e. record { target = e.task.target; level = e.task.level; tid = e.task.tid; slots = e.slots; first = e.first } };
 
-    ghost invariant = { λ e. e.task.tid ≤ 6 };
+    ghost invariant = { λ e. (e.task.tid ≤ 6) × IfSome e.kept (IsRewriting e.task.target e.task.level) };
 }
 
 impl Extractor {
@@ -60,6 +63,7 @@ impl Extractor {
             alloc,
             task: Task { target, level, tid },
             slots: Slots::new(alloc),
+            kept: None,
             first: None,
         }
     }
@@ -80,7 +84,8 @@ impl Extractor {
         if let Some(first) = self.first {
             return Err(WriteError::Stopped(first));
         }
-        match write(self.alloc, self.task, &mut self.slots, picture, out) {
+        let (alloc, task) = (self.alloc, self.task);
+        match write(alloc, task, &mut self.slots, &mut self.kept, picture, out) {
             Ok(()) => Ok(()),
             Err(error) => {
                 self.first = Some(first_of(error));

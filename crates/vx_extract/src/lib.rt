@@ -8,6 +8,7 @@ mod extractor;
 mod fault;
 mod needed;
 mod output;
+mod rewritten;
 mod rules;
 mod send;
 mod shapes;

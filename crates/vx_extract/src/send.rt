@@ -1,5 +1,5 @@
 //! The units of the sets that a picture needs.
-ghost use Rattle.std.specs.Prelude.{◌≡◌, ℕ, ◌+◌, ◌<◌, List, [], ◌∷◌, ◌++◌, map, option_copied, option_map, IfOk};
+ghost use Rattle.std.specs.Prelude.{◌≡◌, ℕ, ◌+◌, ◌<◌, List, [], ◌∷◌, ◌++◌, map, option_copied, option_map, IfOk, IfSome};
 ghost use Rattle.vx_bits.specs.declared.list.Item.{Item};
 ghost use Rattle.vx_sps.specs.Subpictures.{subpics_of};
 ghost use Rattle.vx_pic.specs.Written.{Set, an_sps, a_pps, SetUnit, Plan};
@@ -8,11 +8,12 @@ ghost use Rattle.vx_extract.specs.Written.{needed_sets};
 ghost use Rattle.vx_extract.specs.inner.Sets.{set_lent, CanBeWritten};
 ghost use Rattle.vx_extract.specs.inner.Slots.{AreLastOf};
 ghost use Rattle.vx_extract.specs.inner.Sending.{AreSent, AreOthers, sets_to, IsMade};
+ghost use Rattle.vx_extract.specs.inner.Rewritings.{IsRewriting};
 ghost use Rattle.vx_extract.specs.inner.Needed.{NamesOf};
 
 use crate::needed::{APS_SLOTS, NamedAps, named_aps, needed_at};
+use crate::rewritten::{Rewritten, rewrite};
 use crate::rules::is_irap_or_gdr;
-use crate::shapes::{rewritten_pps, rewritten_sps};
 use crate::slots::Slots;
 use crate::units::sei_unit;
 use crate::written::{NeededSet, tid_of_unit, unit_of};
@@ -154,7 +155,7 @@ fn forget_before(slots: &mut Slots, nal_type: u8)
     slots.clear();
 }
 
-/// Makes what is written of a picture beside its own units.
+/// Makes what is written of a picture beside its own units. The rewritten sets are kept for the next picture.
 ///
 /// # Errors
 ///
@@ -162,20 +163,30 @@ fn forget_before(slots: &mut Slots, nal_type: u8)
 pub(crate) fn make(
     alloc: Global,
     slots: &mut Slots,
+    kept: &mut Option<Rewritten>,
     picture: &Picture<'_>,
     target: u32,
     level: Option<u8>,
 ) -> Result<Made, AllocError>
     requires tid { picture.now.kind.temporal_id < 7 }
     requires target { target < subpics_of picture.now.sps }
-    ensures { (done : List Plan) → AreLastOf (history_of done) slots.old
+    requires kept { IfSome kept.old (IsRewriting target level) }
+    ensures kept { IfSome kept.new (IsRewriting target level) }
+    ensures made { (done : List Plan) → AreLastOf (history_of done) slots.old
         → IfOk result (λ made. IsMade target level picture.now done (map (λ unit. unit.items) made.sets.items) (option_map (λ unit. unit.items) made.sei) slots.new) }
 {
     let kind = picture.kind();
     forget_before(slots, kind.nal_type);
-    let sps = rewritten_sps(alloc, picture, target, level)?;
-    let pps = rewritten_pps(alloc, picture, target)?;
-    let sets = send_needed(alloc, slots, picture, target, &sps, &pps)?;
+    let rewritten = rewrite(alloc, kept.take(), picture, target, level)?;
+    let sets = send_needed(
+        alloc,
+        slots,
+        picture,
+        target,
+        &rewritten.sps,
+        &rewritten.pps,
+    )?;
+    *kept = Some(rewritten);
     let sei = sei_unit(alloc, picture.messages(), kind.temporal_id)?;
     Ok(Made { sets, sei })
 }

@@ -1,14 +1,16 @@
 //! A picture that is written as it is asked for.
-ghost use Rattle.std.specs.Prelude.{◌≡◌, ◌≤◌, List, None};
+ghost use Rattle.std.specs.Prelude.{◌≡◌, ◌≤◌, List, None, IfSome};
 ghost use Rattle.vx_pic.specs.Written.{Plan};
 ghost use Rattle.vx_pic.specs.Resident.{history_of};
 ghost use Rattle.vx_extract.specs.Extracting as extracting;
 ghost use Rattle.vx_extract.specs.Extracting.{Writes};
+ghost use Rattle.vx_extract.specs.inner.Rewritings.{IsRewriting};
 ghost use Rattle.vx_extract.specs.inner.Slots.{AreLastOf};
 ghost use Rattle.vx_extract.specs.declared.fault.WriteError.TheVariants as errors;
 
 use crate::fault::{WriteError, WriteFirst};
 use crate::output::write_picture;
+use crate::rewritten::Rewritten;
 use crate::rules::{is_kept, refusal_of};
 use crate::send::make;
 use crate::slots::Slots;
@@ -60,11 +62,14 @@ pub(crate) fn write<K: Sink>(
     alloc: Global,
     task: Task,
     slots: &mut Slots,
+    kept: &mut Option<Rewritten>,
     picture: &Picture<'_>,
     out: &mut K,
 ) -> Result<(), WriteError>
-    requires { task.tid ≤ 6 }
-    ensures { (done : List Plan) → AreLastOf (history_of done) slots.old
+    requires tid { task.tid ≤ 6 }
+    requires kept { IfSome kept.old (IsRewriting task.target task.level) }
+    ensures kept { IfSome kept.new (IsRewriting task.target task.level) }
+    ensures answer { (done : List Plan) → AreLastOf (history_of done) slots.old
         → Writes picture.now done (record { target = task.target; level = task.level; tid = task.tid; slots = slots.new; first = None })
         (K.bytes_taken out.old) (K.bytes_taken out.new) (K.write_faults out.old) (K.write_faults out.new) result }
 {
@@ -74,7 +79,7 @@ pub(crate) fn write<K: Sink>(
     if !is_kept(picture, task.tid) {
         return Ok(());
     }
-    let made = make(alloc, slots, picture, task.target, task.level)?;
+    let made = make(alloc, slots, kept, picture, task.target, task.level)?;
     write_picture(out, picture, task.target, &made)?;
     Ok(())
 }

@@ -38,7 +38,7 @@ pub(crate) enum NeededSet<'a> {
 }
 
 /// Whether two lists of items are the same.
-fn same_items(a: &[Item], b: &[Item]) -> bool
+pub(crate) fn same_items(a: &[Item], b: &[Item]) -> bool
     ensures { result ≡ sets.same_items a.now b.now }
 {
     a == b
@@ -52,7 +52,11 @@ fn same_bytes(a: &[u8], b: &[u8]) -> bool
 }
 
 /// Items once more.
-fn copied(alloc: Global, items: &Fields) -> Result<Fields, AllocError>
+///
+/// # Errors
+///
+/// Want of memory.
+pub(crate) fn copied(alloc: Global, items: &Fields) -> Result<Fields, AllocError>
     ensures { IfOk result (λ copy. copy ≡ items.now) }
 {
     let mut copy = Fields::new(alloc);

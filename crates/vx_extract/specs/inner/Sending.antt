@@ -5,7 +5,7 @@ use Rattle.vx_bits.specs.declared.list.Item.{Item}
 use Rattle.vx_sps.specs.Reshaped as sps_reshaped
 use Rattle.vx_pps.specs.Reshaped as pps_reshaped
 use Rattle.vx_pic.specs.Parts.{Parts}
-use Rattle.vx_pic.specs.Written.{Set, an_sps, a_pps, SetUnit, SeiUnit, Plan}
+use Rattle.vx_pic.specs.Written.{Set, an_sps, a_pps, SetUnit, Plan}
 use Rattle.vx_pic.specs.Resident as resident
 use Rattle.vx_pic.specs.Resident.{is_resident, kept_for, history_of}
 use Rattle.vx_extract.specs.Shapes.{sps_shape, pps_shape}

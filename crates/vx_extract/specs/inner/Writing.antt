@@ -1,5 +1,5 @@
 -- Units that are written one behind another.
-use Rattle.std.specs.Prelude.{◌≡◌, ℕ, ◌==◌, List, ◌++◌, map, filter, slice_get, Option, option_to_list, Result, OnOk, OnErr}
+use Rattle.std.specs.Prelude.{ℕ, ◌==◌, List, ◌++◌, map, filter, slice_get, Option, option_to_list, Result, OnOk, OnErr}
 use Rattle.std.specs.Io.KnownBytes.{Appends}
 use Rattle.vx_io.specs.Faults.{CountsFault}
 use Rattle.vx_io.specs.Written.{AppendsFront}

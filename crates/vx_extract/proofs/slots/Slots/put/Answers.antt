@@ -1,4 +1,3 @@
-use Rattle.std.proofs.Common.{sym, ◌∙◌}
 use Rattle.vx_extract.specs.inner.Slots.{Sent}
 use Rattle.vx_extract.specs.inner.Sets.{set_lent}
 use Rattle.vx_extract.proofs.Held.{put_there, put_behind}

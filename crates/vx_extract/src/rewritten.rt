@@ -1,0 +1,99 @@
+//! The sets that are sent for pictures, kept for the next picture with the same two sets.
+ghost use Rattle.std.specs.Prelude.{◌≡◌, ◌<◌, ◌&&◌, IfOk, IfSome};
+ghost use Rattle.vx_sps.specs.Subpictures.{subpics_of};
+ghost use Rattle.vx_pic.specs.PictureLayout.{ids_of, numbers_in};
+ghost use Rattle.vx_pic.specs.Sets as sets;
+ghost use Rattle.vx_extract.specs.inner.Rewritings.{IsRewriting, IsRewritingOf};
+
+use crate::shapes::{rewritten_pps, rewritten_sps};
+use crate::written::{copied, same_items};
+use std::alloc::{AllocError, Global};
+use vx_bits::Fields;
+use vx_pic::Picture;
+use vx_pps::Pps;
+use vx_sps::Sps;
+
+/// The two sets that are sent for a subpicture of pictures with two sets.
+#[derive(Drop)]
+pub(crate) struct Rewritten {
+    /// The items of the SPS of the pictures.
+    source_sps: Fields,
+    /// The items of their PPS.
+    source_pps: Fields,
+    /// The SPS that is sent.
+    pub(crate) sps: Sps,
+    /// The PPS that is sent.
+    pub(crate) pps: Pps,
+}
+
+/// The two sets of a picture tell its layout and the ids of its subpictures.
+fn sets_tell(picture: &Picture<'_>)
+    ensures layout { picture.now.layout ≡ numbers_in picture.now.sps picture.now.pps }
+    ensures ids { picture.now.ids ≡ ids_of picture.now.sps picture.now.pps }
+{
+    let _layout = picture.layout();
+    let _ids = picture.ids();
+}
+
+/// The sets that are sent for a picture.
+///
+/// # Errors
+///
+/// Want of memory.
+fn rewritten_for(
+    alloc: Global,
+    picture: &Picture<'_>,
+    target: u32,
+    level: Option<u8>,
+) -> Result<Rewritten, AllocError>
+    requires { target < subpics_of picture.now.sps }
+    ensures { IfOk result (λ made. IsRewritingOf target level picture.now made) }
+{
+    sets_tell(picture);
+    let source_sps = copied(alloc, picture.sps().fields())?;
+    let source_pps = copied(alloc, picture.pps().fields())?;
+    let sps = rewritten_sps(alloc, picture, target, level)?;
+    let pps = rewritten_pps(alloc, picture, target)?;
+    Ok(Rewritten {
+        source_sps,
+        source_pps,
+        sps,
+        pps,
+    })
+}
+
+/// Whether these sets are those of a picture with the same two sets.
+fn is_of(kept: &Rewritten, picture: &Picture<'_>) -> bool
+    ensures { result ≡ (sets.same_items kept.now.source_sps picture.now.sps && sets.same_items kept.now.source_pps picture.now.pps) }
+{
+    same_items(
+        kept.source_sps.as_slice(),
+        picture.sps().fields().as_slice(),
+    ) && same_items(
+        kept.source_pps.as_slice(),
+        picture.pps().fields().as_slice(),
+    )
+}
+
+/// The sets that are sent for a picture: the kept ones, where the picture has the same two sets.
+///
+/// # Errors
+///
+/// Want of memory.
+pub(crate) fn rewrite(
+    alloc: Global,
+    kept: Option<Rewritten>,
+    picture: &Picture<'_>,
+    target: u32,
+    level: Option<u8>,
+) -> Result<Rewritten, AllocError>
+    requires target { target < subpics_of picture.now.sps }
+    requires kept { IfSome kept (IsRewriting target level) }
+    ensures { IfOk result (λ made. IsRewritingOf target level picture.now made) }
+{
+    sets_tell(picture);
+    match kept {
+        Some(kept) if is_of(&kept, picture) => Ok(kept),
+        _ => rewritten_for(alloc, picture, target, level),
+    }
+}
