@@ -13,3 +13,7 @@ pub mod Rewriting
 pub mod Sending
 pub mod Writing
 pub mod Extracted
+pub mod AgainPps
+pub mod AgainAbsent
+pub mod AgainSps
+pub mod AgainRegion

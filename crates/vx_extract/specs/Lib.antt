@@ -1,4 +1,5 @@
 -- What the contracts of this crate cite.
+pub mod Again
 pub mod Extracting
 pub mod Rules
 pub mod Shapes

@@ -6,6 +6,7 @@
 
 mod extractor;
 mod fault;
+mod laws;
 mod needed;
 mod output;
 mod rewritten;
@@ -21,3 +22,4 @@ mod written;
 
 pub use extractor::Extractor;
 pub use fault::{WriteError, WriteFirst};
+pub use laws::rewritten_make_region;

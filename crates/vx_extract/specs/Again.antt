@@ -1,0 +1,46 @@
+-- What is written is read again: what the rewritten sets of a picture's subpicture make up.
+use Rattle.std.specs.Prelude.{◌≡◌, ℕ, ◌<◌, true, false, List, [], ◌∷◌, Option}
+use Rattle.vx_bits.specs.declared.list.Item.{Item}
+use Rattle.vx_layout.specs.Regions.{region_of}
+use Rattle.vx_sps.specs.Subpictures.{subpics_of, is_treated, is_filtered}
+use Rattle.vx_sps.specs.Reshaped as sps_reshaped
+use Rattle.vx_pps.specs.Reshaped as pps_reshaped
+use Rattle.vx_pic.specs.Sets.{sps_id, pps_id, referred_sps, same_size}
+use Rattle.vx_pic.specs.PictureLayout.{MakeLayout, ids_of, numbers_in}
+use Rattle.vx_pic.specs.Parts.{Parts}
+use Rattle.vx_extract.specs.Shapes.{id_in, sps_shape, pps_shape}
+use Rattle.vx_extract.specs.inner.ShapeFacts.{AreInForce}
+
+-- ---- the rewritten sets
+
+-- The sets that are rewritten for a subpicture of a picture, at a level or at its own.
+pub record AreRewritten (target : ℕ) (level : Option ℕ) (q : Parts) (sps pps : List Item) : Type 0 where
+  pub of_sps : sps_reshaped.IsReshaped q.sps (sps_shape q target level) sps
+  pub of_pps : pps_reshaped.IsReshaped q.pps (pps_shape q target) pps
+
+-- They make up a picture that is the region of the subpicture: its one subpicture has the id, is treated as a picture, and isn't
+-- filtered across.
+pub record MakeRegion (target : ℕ) (q : Parts) (sps pps : List Item) : Type 0 where
+  pub size : same_size sps pps ≡ true
+  pub numbers : numbers_in sps pps ≡ region_of q.layout target
+  pub made : MakeLayout sps pps
+  pub ids : ids_of sps pps ≡ id_in q target ∷ []
+  pub alone : subpics_of sps ≡ 1
+  pub treated : is_treated sps 0 ≡ true
+  pub filtered : is_filtered sps 0 ≡ false
+
+abbrev pub RewrittenMakeRegion : Type 0
+RewrittenMakeRegion =
+    (target : ℕ) (level : Option ℕ) (q : Parts) (sps pps : List Item) → AreInForce q → target < subpics_of q.sps
+    → AreRewritten target level q sps pps → MakeRegion target q sps pps
+
+-- They have the ids of the sets that they stand for.
+pub record KeepIds (q : Parts) (sps pps : List Item) : Type 0 where
+  pub of_sps : sps_id sps ≡ sps_id q.sps
+  pub of_pps : pps_id pps ≡ pps_id q.pps
+  pub referred : referred_sps pps ≡ referred_sps q.pps
+
+abbrev pub RewrittenKeepIds : Type 0
+RewrittenKeepIds =
+    (target : ℕ) (level : Option ℕ) (q : Parts) (sps pps : List Item) → AreInForce q → target < subpics_of q.sps
+    → AreRewritten target level q sps pps → KeepIds q sps pps
