@@ -16,7 +16,7 @@ use Rattle.vx_extract.specs.Written.{slices_in, IsExtracted}
 use Rattle.vx_extract.specs.inner.Slots.{Sent, held_serves}
 
 -- an extractor: the subpicture, the level that is asked for, the highest TemporalId that is kept, the sets that were sent since the last
--- IRAP or GDR picture, one of each slot, and what first kept it from going on
+-- IRAP or GDR picture, the last of each type and id, and what first kept it from going on
 pub record Extracting : Type 0 where
   pub target : ℕ
   pub level : Option ℕ
@@ -60,11 +60,19 @@ Writes q done new bytes bytes' faults faults' (Ok _) =
 Writes q done new bytes bytes' faults faults' (Err (errors.Refused r)) =
     (refusal_of new.target new.tid q ≡ Some r) × (bytes' ≡ bytes) × (faults' ≡ faults)
 Writes q done new bytes bytes' faults faults' (Err errors.Memory) =
-    (refusal_of new.target new.tid q ≡ None) × (bytes' ≡ bytes) × (faults' ≡ faults)
+    (refusal_of new.target new.tid q ≡ None) × (is_kept new.tid q ≡ true) × (bytes' ≡ bytes) × (faults' ≡ faults)
 Writes q done new bytes bytes' faults faults' (Err errors.SinkFailed) =
     (refusal_of new.target new.tid q ≡ None) × (is_kept new.tid q ≡ true) × Rose faults faults'
     × (HasSlice new.target q → (p : Plan) × IsExtracted new.target new.level q done p × AppendsFront bytes bytes' (written (units_of p)))
 Writes q done new bytes bytes' faults faults' (Err (errors.Stopped f)) = ⊥
+
+-- Whatever was written before, it is refused exactly for the first rule that the picture breaks.
+abbrev pub JudgesSo : Parts → Extracting → Result (Unit {0}) WriteError → Type 0
+JudgesSo q x (Ok _) = refusal_of x.target x.tid q ≡ None
+JudgesSo q x (Err (errors.Refused r)) = refusal_of x.target x.tid q ≡ Some r
+JudgesSo q x (Err errors.Memory) = refusal_of x.target x.tid q ≡ None
+JudgesSo q x (Err errors.SinkFailed) = refusal_of x.target x.tid q ≡ None
+JudgesSo q x (Err (errors.Stopped f)) = ⊥
 
 -- The same verdict without a byte written.
 abbrev pub Checks : Parts → Extracting → Result (Unit {0}) WriteError → Type 0

@@ -12,15 +12,15 @@ use Rattle.vx_pic.specs.Parts.{Parts}
 abbrev pub is_kept : ℕ → Parts → Bool
 is_kept tid q = nat_le q.kind.temporal_id tid
 
--- of a picture that is kept: it has the subpicture, which is treated as a picture, and in-loop filters don't cross its borders
--- (7.4.3.4, sps_subpic_treated_as_pic_flag, sps_loop_filter_across_subpic_enabled_flag)
+-- that a kept picture breaks: it lacks the subpicture; that isn't treated as a picture; or in-loop filters cross its borders (7.4.3.4,
+-- sps_subpic_treated_as_pic_flag, sps_loop_filter_across_subpic_enabled_flag)
 abbrev pub rule_of_kept : ℕ → Parts → Option ℕ
 rule_of_kept target q =
     cond (not (nat_lt target (subpics_of q.sps))) (Some rules.NO_SUCH_SUBPICTURE)
     (cond (not (is_treated q.sps target)) (Some rules.NOT_TREATED_AS_PICTURE)
     (cond (is_filtered q.sps target) (Some rules.FILTERED_ACROSS) None))
 
--- of one that is left out: it is no IRAP or GDR picture, behind which a sequence would begin elsewhere
+-- that one breaks which is left out: it is an IRAP or GDR picture, and those behind it couldn't be decoded
 abbrev pub rule_of_dropped : Parts → Option ℕ
 rule_of_dropped q = cond (is_irap_or_gdr q.kind.nal_type) (Some rules.IRAP_DROPPED) None
 

@@ -85,7 +85,8 @@ sps_shape q target level = record {
 abbrev pub id_in_pps : Parts → ℕ → Option (ℕ × ℕ)
 id_in_pps q target = cond (needs_ids q.sps) (Some (number q.sps sps.sps_subpic_id_len_minus1, id_in q target)) None
 
--- tiles and slices are the subpicture's; whether loop filters cross their borders is the source's
+-- tiles and slices are the subpicture's, and whether loop filters cross their borders is the source's; where the source has
+-- pps_no_pic_partition_flag 1 nothing is said of them, and the QP is said of a frame alone
 abbrev pub pps_shape : Parts → ℕ → PpsShape
 pps_shape q target = record {
   id = pps_id q.pps;

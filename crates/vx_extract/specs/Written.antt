@@ -60,7 +60,7 @@ slices_in q target = map slice_alone (parts_in q target)
 
 -- ---- sets
 
--- all types and ids of adaptation parameter sets, by rising type and then by rising id
+-- the types of adaptation parameter sets with eight ids each (LMCS has but 0 to 3, 7.4.3.6), by rising type and then by rising id
 abbrev pub slots_of : ℕ → List Slot
 slots_of kind = map (λ id. record { kind = kind; id = id }) (range_with_len 0 id_count)
 
@@ -77,7 +77,7 @@ named_in q target = flat_map (λ s. named_by q.pps q.header.fields s.header) (pa
 abbrev pub is_named : Parts → ℕ → Slot → Bool
 is_named q target slot = list_any (same_slot slot) (named_in q target)
 
--- the set of a type and an id, where there is one
+-- the picture's set of a type and an id, where it has one
 abbrev pub set_of_slot : Slot → Option Aps → List Set
 set_of_slot slot None = []
 set_of_slot slot (Some a) = an_aps (record { kind = slot.kind; id = slot.id; body = a.body }) ∷ []
@@ -89,14 +89,14 @@ aps_of_slot q slot = set_of_slot slot (aps_at q.bodies slot.kind slot.id)
 abbrev pub needed_aps : Parts → ℕ → List Set
 needed_aps q target = flat_map (aps_of_slot q) (filter (is_named q target) all_slots)
 
--- the sets that the picture needs, where it has these two: the SPS, the PPS, and those by rising type and id
+-- the sets that the picture needs: these two, and then adaptation parameter sets by rising type and id
 abbrev pub needed_sets : Parts → ℕ → (sps pps : List Item) → List Set
 needed_sets q target sps pps = an_sps sps ∷ a_pps pps ∷ needed_aps q target
 
 -- ---- pictures
 
--- A picture is written so behind others: rewritten sets, of which those are sent that aren't resident; its messages; its header and
--- the slices of the subpicture as they stand, of which there is one at least.
+-- A picture is written so behind others: rewritten sets, of which those are sent that aren't resident (of a set that isn't sent the
+-- unit is any); its messages; its header and the slices of the subpicture as they stand, of which there is one at least.
 pub record IsExtracted (target : ℕ) (level : Option ℕ) (q : Parts) (done : List Plan) (p : Plan) : Type 0 where
   pub sps : sps_reshaped.IsReshaped q.sps (sps_shape q target level) p.begun.sps
   pub pps : pps_reshaped.IsReshaped q.pps (pps_shape q target) p.begun.pps

@@ -43,7 +43,7 @@ impl Extractor {
     ghost use Rattle.vx_extract.specs.declared.fault.WriteFirst.{WriteFirst as First};
     ghost use Rattle.vx_extract.specs.declared.fault.WriteError.TheVariants.{Stopped};
     ghost use Rattle.vx_extract.specs.Extracting as extracting;
-    ghost use Rattle.vx_extract.specs.Extracting.{Stands, Writes, Checks, SameTask};
+    ghost use Rattle.vx_extract.specs.Extracting.{Stands, Writes, Checks, JudgesSo, SameTask};
 
     /// An extractor of the subpicture of this index, with a level of its own or the source's, of all sublayers.
     pub fn new(alloc: Global, target: u32, level: Option<u8>) -> Extractor
@@ -77,6 +77,7 @@ impl Extractor {
     pub fn picture<K: Sink>(&mut self, picture: &Picture<'_>, out: &mut K) -> Result<(), WriteError>
         ensures answer { (done : List Plan) → Stands self.old done
             → Writes picture.now done self.new (K.bytes_taken out.old) (K.bytes_taken out.new) (K.write_faults out.old) (K.write_faults out.new) result }
+        ensures verdict { self.old.first ≡ None → JudgesSo picture.now self.new result }
         ensures task { SameTask self.old self.new }
         ensures first { IfErr result (λ e. self.new.first ≡ Some (extracting.first_of e)) }
         ensures stopped { (f : First) → self.old.first ≡ Some f → (result ≡ Err (Stopped f)) × (self.new ≡ self.old) × (out.new ≡ out.old) }

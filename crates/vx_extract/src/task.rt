@@ -3,7 +3,7 @@ ghost use Rattle.std.specs.Prelude.{◌≡◌, ◌≤◌, List, None, IfSome};
 ghost use Rattle.vx_pic.specs.Written.{Plan};
 ghost use Rattle.vx_pic.specs.Resident.{history_of};
 ghost use Rattle.vx_extract.specs.Extracting as extracting;
-ghost use Rattle.vx_extract.specs.Extracting.{Writes};
+ghost use Rattle.vx_extract.specs.Extracting.{JudgesSo, Writes};
 ghost use Rattle.vx_extract.specs.inner.Rewritings.{IsRewriting};
 ghost use Rattle.vx_extract.specs.inner.Slots.{AreLastOf};
 ghost use Rattle.vx_extract.specs.declared.fault.WriteError.TheVariants as errors;
@@ -69,6 +69,7 @@ pub(crate) fn write<K: Sink>(
     requires tid { task.tid ≤ 6 }
     requires kept { IfSome kept.old (IsRewriting task.target task.level) }
     ensures kept { IfSome kept.new (IsRewriting task.target task.level) }
+    ensures verdict { JudgesSo picture.now (record { target = task.target; level = task.level; tid = task.tid; slots = slots.new; first = None }) result }
     ensures answer { (done : List Plan) → AreLastOf (history_of done) slots.old
         → Writes picture.now done (record { target = task.target; level = task.level; tid = task.tid; slots = slots.new; first = None })
         (K.bytes_taken out.old) (K.bytes_taken out.new) (K.write_faults out.old) (K.write_faults out.new) result }
