@@ -23,7 +23,7 @@ const ONE: &[u8] = &[0x00, 0x41, 0xC4, 0x18, 0x5A, 0xA7, 0x80];
 
 const FIVE: &[u8] = &[0x00, 0x41, 0xC5, 0x58, 0x5A, 0xA7, 0x80];
 
-/// The sets of a picture of two such subpictures side by side, its header, and its slices.
+/// The sets of a picture of two such subpictures side by side, its header, and its slices; the first of a trailing picture.
 const TWO_SPS: &[u8] = &[
     0x00, 0x79, 0x00, 0x03, 0x02, 0x33, 0x80, 0x00, 0x00, 0x40, 0x81, 0x05, 0x53, 0x40, 0x07, 0xBC,
     0x00, 0x60, 0x0C, 0x10, 0x00, 0x20,
@@ -38,6 +38,8 @@ const HEADER: &[u8] = &[0x00, 0x99, 0x88, 0x40];
 const LEFT: &[u8] = &[0x00, 0x41, 0x18, 0x5A, 0xA7, 0x80];
 
 const RIGHT: &[u8] = &[0x00, 0x41, 0x58, 0x5A, 0xA7, 0x80];
+
+const TRAILING: &[u8] = &[0x00, 0x01, 0x18, 0x5A, 0xA7, 0x80];
 
 /// An end of sequence.
 const EOS: &[u8] = &[0x00, 0xA9];
@@ -62,7 +64,7 @@ fn source_of(alloc: Global, units: &[&[u8]]) -> Result<MemorySource, AllocError>
 }
 
 /// Advances to the end of these units, or to the tenth picture.
-fn came(alloc: Global, units: &[&[u8]]) -> Result<Came, AllocError> {
+fn advanced(alloc: Global, units: &[&[u8]]) -> Result<Came, AllocError> {
     let mut source = source_of(alloc, units)?;
     let mut feed = Feed::new(alloc)?;
     let mut poc = 0;
@@ -133,7 +135,7 @@ fn takes_pictures(rt: HostRuntime) -> Result<(), Fail> {
             poc,
             refused: None,
         };
-        assert_eq!(rt; came(rt.alloc(), units)?, wanted);
+        assert_eq!(rt; advanced(rt.alloc(), units)?, wanted);
     }
     Ok(())
 }
@@ -240,11 +242,11 @@ fn refuses_units(rt: HostRuntime) -> Result<(), Fail> {
     for (units, refusal) in rows {
         let wanted = Came {
             pictures: 0,
-            units: units.len() as u64 - 1,
+            units: units.len().saturating_sub(1) as u64,
             poc: 0,
             refused: Some(FeedFault::Refused(refusal)),
         };
-        assert_eq!(rt; came(rt.alloc(), units)?, wanted);
+        assert_eq!(rt; advanced(rt.alloc(), units)?, wanted);
     }
     Ok(())
 }
@@ -252,7 +254,6 @@ fn refuses_units(rt: HostRuntime) -> Result<(), Fail> {
 /// Streams that break a rule behind a picture, or at their end.
 #[test]
 fn refuses_behind_pictures(rt: HostRuntime) -> Result<(), Fail> {
-    let trailing: &[u8] = &[0x00, 0x01, 0x18, 0x5A, 0xA7, 0x80];
     let rows: [(&[&[u8]], u32, u64, u8); 5] = [
         (
             &[TWO_SPS, TWO_PPS, HEADER, LEFT, RIGHT, LEFT],
@@ -262,13 +263,13 @@ fn refuses_behind_pictures(rt: HostRuntime) -> Result<(), Fail> {
         ),
         // A trailing picture of another SPS, and one behind an end of sequence.
         (
-            &[ONE_SPS, ONE_PPS, ONE, TWO_SPS, TWO_PPS, HEADER, trailing],
+            &[ONE_SPS, ONE_PPS, ONE, TWO_SPS, TWO_PPS, HEADER, TRAILING],
             1,
             6,
             SPS_CHANGED,
         ),
         (
-            &[TWO_SPS, TWO_PPS, HEADER, LEFT, RIGHT, EOS, HEADER, trailing],
+            &[TWO_SPS, TWO_PPS, HEADER, LEFT, RIGHT, EOS, HEADER, TRAILING],
             1,
             7,
             STARTS_ELSEWHERE,
@@ -289,7 +290,7 @@ fn refuses_behind_pictures(rt: HostRuntime) -> Result<(), Fail> {
             poc: 0,
             refused: Some(FeedFault::Refused(structure(code))),
         };
-        assert_eq!(rt; came(rt.alloc(), units)?, wanted);
+        assert_eq!(rt; advanced(rt.alloc(), units)?, wanted);
     }
     Ok(())
 }
