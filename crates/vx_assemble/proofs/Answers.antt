@@ -82,6 +82,10 @@ pub few_slices : (result : Result Numbers ReadError) → IfOk result IsInLimits 
 few_slices (Ok n) limits = limits.slices.1
 few_slices (Err e) limits = tt
 
+pub few_subpics : (result : Result Numbers ReadError) → IfOk result IsInLimits → IfOk result (λ n. length n.subpics ≤ 1000)
+few_subpics (Ok n) limits = limits.subpics.1
+few_subpics (Err e) limits = tt
+
 pub gives_messages : (rbsp : List ℕ) (answer given : List Message) → Carries rbsp answer → Carries rbsp given → given ≡ answer
 gives_messages rbsp answer given is read = one_carried rbsp given answer read is
 

@@ -18,8 +18,8 @@ use Rattle.vx_assemble.specs.inner.Takes.{AreSmall}
 use Rattle.vx_assemble.specs.inner.Joining.{items_only, names_in}
 use Rattle.vx_assemble.proofs.Named.{named_cons}
 
-pub one_each : (s p : List Item) (ids : List ℕ) (n : ℕ) → n ≡ subpics_of s → length ids ≡ n → length ids ≡ length (numbers_in s p).subpics
-one_each s p ids n is long = long ∙ is ∙ sym (length-map-range_with_len (rect_of s) 0 (subpics_of s))
+pub one_each : (s p : List Item) (ids : List ℕ) → length ids ≡ subpics_of s → length ids ≡ length (numbers_in s p).subpics
+one_each s p ids long = long ∙ sym (length-map-range_with_len (rect_of s) 0 (subpics_of s))
 
 -- ---- ids
 

@@ -97,21 +97,19 @@ pub(crate) fn layout_of(alloc: Global, sps: &Sps, pps: &Pps) -> Result<Layout, R
     ensures numbers { IfOk result (λ layout. layout ≡ numbers_in sps.now pps.now) }
     ensures make { OnOk result (MakeLayout sps.now pps.now) }
     ensures few { IfOk result (λ layout. length layout.slices ≤ 1000) }
+    ensures few_subpics { IfOk result (λ layout. length layout.subpics ≤ 1000) }
 {
     picture_layout(alloc, sps, pps)
 }
 
-/// The ids of the subpictures of two sets.
+/// The ids of the subpictures of two sets that make up a layout.
 #[tactic(auto, using(crate::proofs::Small::one_each))]
 pub(crate) fn ids_of(alloc: Global, sps: &Sps, pps: &Pps) -> Result<IdList, AllocError>
+    requires { MakeLayout sps.now pps.now }
     ensures ids { IfOk result (λ ids. ids ≡ pictures.ids_of sps.now pps.now) }
     ensures one_each { IfOk result (λ ids. length ids ≡ length (numbers_in sps.now pps.now).subpics) }
 {
     let ids = picture_ids(alloc, sps, pps)?;
-    if ids.len() != sps.subpics() as usize {
-        // no two sets that make up a layout
-        return Err(AllocError);
-    }
     Ok(ids)
 }
 
@@ -290,10 +288,6 @@ pub(crate) fn slice_of(
         layout: &sets.layout,
         ids: &sets.ids,
     };
-    if sets.ids.len() > 1000 {
-        // no layout has as many
-        return Err(ReadError::Memory);
-    }
     let (header, payload) = match read_slice(alloc, unit.bytes, unit.rbsp, &numbers) {
         Ok((header, payload)) => (header, payload),
         Err(error) => return Err(error),

@@ -26,6 +26,7 @@ pub record AreMade (f : InForce) : Type 0 where
   pub one_each : length f.ids ≡ length f.layout.subpics
   pub slices : f.slices ≡ length f.layout.slices
   pub few : length f.layout.slices ≤ 1000
+  pub few_subpics : length f.layout.subpics ≤ 1000
 
 -- a picture header, with the lists that its items come to
 pub record IsHeader (b : BegunPicture) : Type 0 where
