@@ -33,7 +33,7 @@ use Rattle.vx_sh.specs.declared.tables.TheConstants.{HEADER_INSIDE, SUBPIC_ID, K
 use Rattle.vx_sh.specs.Slice.{before_lists, between, behind_weights, rest_form}
 use Rattle.vx_sh.specs.Whole.{At, located, id_form, subpic_form, points_of, there, behind_header, header_inside, slice_form}
 use Rattle.vx_sh.specs.Value.{AreFields, values_of, IsSpelling, BeginsSlice, SpellingIsRead}
-use Rattle.vx_sh.proofs.Depending.{rest_each}
+use Rattle.vx_sh.proofs.Depending.{Pass, behind_each}
 use Rattle.vx_sh.proofs.Sized.{all_follow}
 
 -- ---- anything may follow
@@ -67,12 +67,6 @@ sound : (c : Cell Formula) (s : List ℕ) → row_opens (Field c) ≡ true → O
 unfolding row_opens
 sound c s is = coding_opens s c.coding (not-true (is_trailing c.coding) is)
 
-rest_opens : (table : RplTable) (points : ℕ → ℕ) (s : List ℕ) → EachField Opens (rest_form table points s)
-unfolding row_opens is_trailing
-rest_opens table points s = rest_each Opens table points (λ t. each_of_rows Opens row_opens sound ADDRESS t refl) (λ t. each_of_sections Opens row_opens sound before_lists t refl)
-    (λ t. lists_each Opens row_opens sound table t refl) (λ t. each_of_sections Opens row_opens sound between t refl) (λ t. each_of_sections Opens row_opens sound weights t refl)
-    (λ t. each_of_sections Opens row_opens sound behind_weights t refl) s
-
 inside_opens : (table : RplTable) (sets s : List ℕ) → EachField Opens (header_inside table sets s)
 unfolding row_opens is_trailing
 inside_opens table sets s =
@@ -81,15 +75,12 @@ inside_opens table sets s =
     (header_each Opens row_opens sound table sets (record { front = refl; lists = refl; middle = refl; weights = refl; back = refl })) (λ u. tt))
 
 slice_opens : (n : At) → EachField Opens (slice_form n)
-unfolding row_opens is_trailing slice_form behind_header subpic_form id_form
+unfolding row_opens is_trailing slice_form
 slice_opens n =
-    let id : (t : List ℕ) → EachField Opens (id_form n.ids n.layout t) = λ t.
-    each_then Opens (form_of SUBPIC_ID t) (λ u. done (located n.ids n.layout u)) (each_of_rows Opens row_opens sound SUBPIC_ID t refl) (λ u. tt) in
-    let subpic : (t : List ℕ) → EachField Opens (subpic_form n.ids n.layout t) = λ t.
-    each_then Opens (id_form n.ids n.layout t) (form_of KNOWN_SUBPIC) (id t) (λ u. each_of_rows Opens row_opens sound KNOWN_SUBPIC u refl) in
+    let behind : Pass row_opens = record { id = refl; known = refl; address = refl; before_lists = refl; lists = refl; between = refl; weights = refl; behind_weights = refl } in
     each_then Opens (form_of HEADER_INSIDE n.slice >>= header_inside n.table n.sets) (behind_header n.table n.ids n.layout)
     (each_then Opens (form_of HEADER_INSIDE n.slice) (header_inside n.table n.sets) (each_of_rows Opens row_opens sound HEADER_INSIDE n.slice refl) (inside_opens n.table n.sets))
-    (λ t. each_then Opens (subpic_form n.ids n.layout t) (there n.table n.layout) (subpic t) (λ u. rest_opens n.table (points_of n.layout u) u))
+    (λ t. behind_each Opens row_opens sound n.table n.ids n.layout t behind)
 
 -- ---- read again
 

@@ -1,24 +1,31 @@
 -- What is known goes along a slice header behind the id, part by part.
 use Rattle.std.proofs.Common.{◌≡◌, ℕ, Bool, true, IsTrue, List, slice_index, slice_set, ap, sym}
 use Rattle.vx_table.specs.declared.rows.Cell.{Cell}
+use Rattle.vx_table.specs.declared.rows.Formula.{Formula}
+use Rattle.vx_table.specs.declared.rows.Row.{Row}
+use Rattle.vx_table.specs.declared.rows.Row.TheVariants.{Field}
 use Rattle.vx_table.specs.declared.rows.Term.TheVariants.{Latest}
 use Rattle.vx_table.specs.declared.rows.Formula.TheVariants.{Plain}
 use Rattle.vx_table.specs.declared.rows.Presence.TheVariants.{When}
-use Rattle.vx_table.specs.Forms.{Form, done, ◌>>=◌, present, form_of}
+use Rattle.vx_table.specs.Forms.{Form, done, ◌>>=◌, present, cell_at, form_of}
 use Rattle.vx_table.specs.Parts.{sections_form}
-use Rattle.vx_table.specs.EachField.{EachField}
+use Rattle.vx_table.specs.EachField.{EachField, rows_pass, sections_pass}
 use Rattle.vx_table.specs.Depends.{has, at_ends, Carries}
 use Rattle.vx_table.specs.Claims.{knows_formula, knows_presence, within_block, grown, table_depends, behind_table, sections_chain, behind_sections}
 use Rattle.vx_table.proofs.Agreeing.{inside_grown, grows}
 use Rattle.vx_table.proofs.Dependence.{agree_grown}
-use Rattle.vx_table.proofs.EachField.{each_then, each_present}
+use Rattle.vx_table.proofs.EachField.{each_then, each_present, each_of_rows, each_of_sections}
 use Rattle.vx_table.proofs.Chains.{table_carries, sections_carry, carries_together, carries_present}
 use Rattle.vx_fields.specs.declared.sh.TheConstants.{sh_slice_address}
+use Rattle.vx_layout.specs.declared.numbers.Numbers.{Numbers}
 use Rattle.vx_fields.specs.declared.names.sh.TheConstants.{NUM_ENTRY_POINTS, HAS_LISTS, HAS_WEIGHTS}
 use Rattle.vx_rpl.specs.declared.entry.RplTable.{RplTable}
 use Rattle.vx_rpl.specs.Lists.{lists_form, weights, weights_form}
-use Rattle.vx_sh.specs.declared.tables.TheConstants.{ADDRESS}
+use Rattle.vx_rpl.specs.Depends.{lists_pass}
+use Rattle.vx_rpl.proofs.Passing.{lists_each}
+use Rattle.vx_sh.specs.declared.tables.TheConstants.{SUBPIC_ID, KNOWN_SUBPIC, ADDRESS}
 use Rattle.vx_sh.specs.Slice.{with_entry_points, address_form, before_lists, lists_here, between, weights_here, behind_weights, front_form, before_weights, rest_form}
+use Rattle.vx_sh.specs.Whole.{located, id_form, subpic_form, points_of, there, behind_header}
 
 -- where the address is known, so is the number of entry points
 pub points_carry : (points : ℕ → ℕ) (shown known : List ℕ) → IsTrue (has known sh_slice_address)
@@ -72,3 +79,27 @@ rest_each P table points address second lists third weights_each last s =
     let in_weights : EachField P (before_weights table points s >>= weights_here)
     = each_then P (before_weights table points s) weights_here in_before (λ t. each_present P (When (Plain (Latest HAS_WEIGHTS))) weights_form t weights_each) in
     each_then P (before_weights table points s >>= weights_here) (sections_form behind_weights) in_weights last
+
+-- a test of all rows behind a picture header
+pub record Pass (test : Row → Bool) : Type 0 where
+  pub id : rows_pass test SUBPIC_ID ≡ true
+  pub known : rows_pass test KNOWN_SUBPIC ≡ true
+  pub address : rows_pass test ADDRESS ≡ true
+  pub before_lists : sections_pass test before_lists ≡ true
+  pub lists : lists_pass test ≡ true
+  pub between : sections_pass test between ≡ true
+  pub weights : sections_pass test weights ≡ true
+  pub behind_weights : sections_pass test behind_weights ≡ true
+
+pub behind_each : (P : Cell ℕ → Type 0) (test : Row → Bool) (sound : (c : Cell Formula) (s : List ℕ) → test (Field c) ≡ true → P (cell_at s c)) (table : RplTable) (ids : List ℕ) (layout : Numbers) (s : List ℕ)
+    → Pass test → EachField P (behind_header table ids layout s)
+unfolding behind_header subpic_form id_form
+behind_each P test sound table ids layout s pass =
+    let id : (t : List ℕ) → EachField P (id_form ids layout t) = λ t.
+    each_then P (form_of SUBPIC_ID t) (λ u. done (located ids layout u)) (each_of_rows P test sound SUBPIC_ID t pass.id) (λ u. tt) in
+    let subpic : EachField P (subpic_form ids layout s) = each_then P (id_form ids layout s) (form_of KNOWN_SUBPIC) (id s) (λ u. each_of_rows P test sound KNOWN_SUBPIC u pass.known) in
+    let rest : (t : List ℕ) → EachField P (there table layout t) = λ t.
+    rest_each P table (points_of layout t) (λ u. each_of_rows P test sound ADDRESS u pass.address) (λ u. each_of_sections P test sound before_lists u pass.before_lists)
+    (λ u. lists_each P test sound table u pass.lists) (λ u. each_of_sections P test sound between u pass.between) (λ u. each_of_sections P test sound weights u pass.weights)
+    (λ u. each_of_sections P test sound behind_weights u pass.behind_weights) t in
+    each_then P (subpic_form ids layout s) (there table layout) subpic rest

@@ -43,7 +43,7 @@ use Rattle.vx_sh.specs.Whole.{At, index_of, slices_at, located, id_form, subpic_
 use Rattle.vx_sh.specs.Value.{AreFields, values_of, HasNumbers, BeginsSlice}
 use Rattle.vx_sh.specs.Elsewhere.{given, HaveSubpicture, AgreeAt, IsSameSlice, SliceReadElsewhere}
 use Rattle.vx_sh.proofs.Kept.{all_depend, all_are_shown}
-use Rattle.vx_sh.proofs.Told.{done_is, known_leaves, only_subpic, id_is, id_size, inside_size, located_is, numbers_are_told}
+use Rattle.vx_sh.proofs.Told.{done_is, known_leaves, only_subpic, id_is, id_size, inside_size, located_is, count_is, refused, numbers_are_told}
 use Rattle.vx_sh.proofs.Writable.{nothing_inside, something_inside}
 
 -- ---- values that go on
@@ -224,17 +224,6 @@ found : (s : List ℕ) → nat_le (slice_index s NUM_SUBPICS) (slice_index s SUB
 unfolding form_of part present value
 found s is_not = rw is_not refl
 
-no_value : (f : Fault) (v : ℤ) → v ≡ pos 0 → fault_of (Below 0 f) v ≡ None → ⊥
-unfolding fault_of
-no_value f v is none = absurd (let broken = rw is at none in cc)
-
-first_value : {A : Type 0} {cell : Cell ℕ} {goes : ℤ → Form A} {w : List ℤ} {a : A} → Follows (field cell goes) w a → (v : ℤ) × IsValueOf cell v
-first_value (through {v} value on) = (v, value)
-
-refused : (s : List ℕ) (w : List ℤ) (u : List ℕ) → nat_le (slice_index s NUM_SUBPICS) (slice_index s SUBPIC) ≡ true → Follows (form_of KNOWN_SUBPIC s) w u → ⊥
-unfolding form_of part present value one_field coding_at limits_at has_value HasCode
-refused s w u is on = let first = first_value (rw is at on) in no_value _ first.0 first.1.code first.1.range
-
 goes_known : (s t : List ℕ) (w : List ℤ) (u : List ℕ) → Agree known_3 s t → slice_index t SUBPIC < slice_index t NUM_SUBPICS → Follows (form_of KNOWN_SUBPIC s) w u
     → GoesOn known_3 (form_of KNOWN_SUBPIC s) (form_of KNOWN_SUBPIC t) w u
 goes_known s t w u agree known on =
@@ -243,14 +232,6 @@ goes_known s t w u agree known on =
       | inl is ↦ absurd (refused s w u is on)
       | inr is_not ↦ let here = found s is_not in rw (here, there) (alike_goes {shown = known_3} (at_ends agree) tt tt (rw here at on))
     ]
-
-count_is : (ids : List ℕ) (layout : Numbers) (s : List ℕ) → length s ≡ 1024 → slice_index (located ids layout s) NUM_SUBPICS ≡ length ids
-unfolding located
-count_is ids layout s size =
-    let i = index_of (slice_index s sh_subpic_id) ids in
-    let first = slice_set s NUM_SUBPICS (length ids) in
-    get_or-set_other (slice_set first SUBPIC i) NUM_SLICES NUM_SUBPICS (slices_at layout i) 0 (λ is. absurd (omega (arith, is)))
-    ∙ get_or-set_other first SUBPIC NUM_SUBPICS i 0 (λ is. absurd (omega (arith, is))) ∙ get_or-set_at s NUM_SUBPICS NUM_SUBPICS (length ids) 0 refl (omega (arith, size))
 
 index_is : (ids : List ℕ) (layout : Numbers) (s at : List ℕ) (w : List ℤ) (u : List ℕ) → length s ≡ 1024 → located ids layout s ≡ at → Follows (form_of KNOWN_SUBPIC at) w u
     → slice_index u SUBPIC ≡ index_of (slice_index s sh_subpic_id) ids

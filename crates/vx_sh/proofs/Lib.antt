@@ -8,9 +8,10 @@ mod Parts
 pub mod Stopped
 pub mod Sized
 mod Written
-mod Told
+pub mod Told
 mod Addressed
 mod Writable
 mod Closed
 mod Elsewhere
 pub mod Scopes
+pub mod Small

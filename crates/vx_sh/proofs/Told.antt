@@ -1,7 +1,7 @@
 -- The items of a slice header tell whether the picture header stands inside, the subpicture and the address.
-use Rattle.std.proofs.Common.{◌≡◌, ◌≢◌, inl, inr, ℕ, ℤ, ◌<◌, ◌≤◌, true, false, List, [], ◌∷◌, ◌++◌, length, drop, slice_index, slice_set, refl, ap, sym, ◌∙◌, arith}
+use Rattle.std.proofs.Common.{◌≡◌, ◌≢◌, inl, inr, ℕ, ℤ, pos, ◌<◌, ◌≤◌, nat_le, true, false, None, List, [], ◌∷◌, ◌++◌, length, drop, slice_index, slice_set, refl, ap, sym, subst, ◌∙◌, arith}
 use Rattle.std.specs.Prelude.{Bool, not, IsTrue, IsFalse, ◌==◌, All, filter, replicate}
-use Rattle.std.proofs.lemmas.Bool.{both_ways, cases_Bool, cases_lt, not-true}
+use Rattle.std.proofs.lemmas.Bool.{both_ways, cases_Bool, cases_lt, le-leb, not-true}
 use Rattle.std.proofs.lemmas.Grind.{get_or-set_at}
 use Rattle.std.proofs.lemmas.List.{append-nil, length-set, length-replicate, get_or-replicate, get_or_past, get_or-set_other}
 use Rattle.std.proofs.lemmas.List.Elements.{filter-append, All-nil}
@@ -10,15 +10,17 @@ use Rattle.vx_table.specs.declared.rows.Term.TheVariants.{Latest}
 use Rattle.vx_table.specs.declared.rows.Formula.{Formula}
 use Rattle.vx_table.specs.declared.rows.Formula.TheVariants.{Plain}
 use Rattle.vx_table.specs.declared.rows.Cell.{Cell}
+use Rattle.vx_table.specs.declared.rows.Fault.{Fault}
+use Rattle.vx_table.specs.declared.rows.Limits.TheVariants.{Below}
 use Rattle.vx_table.specs.declared.rows.Row.{Row}
 use Rattle.vx_table.specs.declared.rows.Row.TheVariants.{Field, Block, Name}
 use Rattle.vx_table.specs.EachField.{EachField}
 use Rattle.vx_table.proofs.EachField.{each_of_rows}
 use Rattle.vx_table.specs.Scope.{fresh, is_set, natural, value}
-use Rattle.vx_table.specs.Forms.{Form, done, field, ◌>>=◌, has_value, cell_at, coding_at, limits_at, after, one_field, part, form_of}
+use Rattle.vx_table.specs.Forms.{Form, done, field, ◌>>=◌, has_value, cell_at, coding_at, limits_at, after, one_field, part, present, form_of}
 use Rattle.vx_table.specs.Parts.{sections_form}
-use Rattle.vx_table.specs.Spelling.{item_of, items_along}
-use Rattle.vx_table.specs.Values.{Follows, to_end, through, Parted}
+use Rattle.vx_table.specs.Spelling.{HasCode, fault_of, item_of, items_along}
+use Rattle.vx_table.specs.Values.{IsValueOf, Follows, to_end, through, Parted}
 use Rattle.vx_table.specs.Depends.{has, set_of, Inside, Agree, IsLeft, Leaves}
 use Rattle.vx_table.specs.Claims.{hides_counter, hides_row}
 use Rattle.vx_table.specs.Shown.{shown_items}
@@ -235,6 +237,33 @@ located_is ids layout s size =
     let within : SUBPIC < length first = omega (arith, length-set s NUM_SUBPICS (length ids), size) in
     get_or-set_other (slice_set first SUBPIC i) NUM_SLICES SUBPIC (slices_at layout i) 0 (λ is. absurd (omega (arith, is))) ∙ get_or-set_at first SUBPIC SUBPIC i 0 refl within
 
+-- how many there are
+pub count_is : (ids : List ℕ) (layout : Numbers) (s : List ℕ) → length s ≡ 1024 → slice_index (located ids layout s) NUM_SUBPICS ≡ length ids
+unfolding located
+count_is ids layout s size =
+    let i = index_of (slice_index s sh_subpic_id) ids in
+    let first = slice_set s NUM_SUBPICS (length ids) in
+    get_or-set_other (slice_set first SUBPIC i) NUM_SLICES NUM_SUBPICS (slices_at layout i) 0 (λ is. absurd (omega (arith, is)))
+    ∙ get_or-set_other first SUBPIC NUM_SUBPICS i 0 (λ is. absurd (omega (arith, is))) ∙ get_or-set_at s NUM_SUBPICS NUM_SUBPICS (length ids) 0 refl (omega (arith, size))
+
+-- it is refused where it is none of them
+no_value : (f : Fault) (v : ℤ) → v ≡ pos 0 → fault_of (Below 0 f) v ≡ None → ⊥
+unfolding fault_of
+no_value f v is none = absurd (let broken = rw is at none in cc)
+
+first_value : {A : Type 0} {cell : Cell ℕ} {goes : ℤ → Form A} {w : List ℤ} {a : A} → Follows (field cell goes) w a → (v : ℤ) × IsValueOf cell v
+first_value (through {v} value on) = (v, value)
+
+pub refused : (s : List ℕ) (w : List ℤ) (u : List ℕ) → nat_le (slice_index s NUM_SUBPICS) (slice_index s SUBPIC) ≡ true → Follows (form_of KNOWN_SUBPIC s) w u → ⊥
+unfolding form_of part present value one_field coding_at limits_at has_value HasCode
+refused s w u is on = let first = first_value (rw is at on) in no_value _ first.0 first.1.code first.1.range
+
+known_below : (s : List ℕ) (w : List ℤ) (u : List ℕ) → Follows (form_of KNOWN_SUBPIC s) w u → slice_index s SUBPIC < slice_index s NUM_SUBPICS
+known_below s w u on = elim (cases_lt (slice_index s SUBPIC) (slice_index s NUM_SUBPICS)) [
+  | inl below ↦ below
+  | inr past ↦ absurd (refused s w u (le-leb (slice_index s NUM_SUBPICS) (slice_index s SUBPIC) past) on)
+]
+
 -- the scope keeps its size
 pub id_size : (s : List ℕ) (values : List ℤ) (end : List ℕ) → Follows (form_of SUBPIC_ID s) values end → length s ≡ length end
 unfolding fresh hides_row hides_counter
@@ -339,6 +368,20 @@ subpic_told n fields inside f size =
     sym (left.same SUBPIC refl) ∙ sym (still.same SUBPIC refl) ∙ ap (λ s. slice_index s SUBPIC) (sym (done_is i.second)) ∙ located_is n.ids n.layout i.mid mid_size
     ∙ ap (λ id. index_of id n.ids) (id_is n fields inside f size b k i)
 
+subpic_known : (n : At) (fields : List Item) (inside : List ℤ) (f : AreFields n fields inside) → length n.slice ≡ 1024 → slice_index f.end SUBPIC < length n.ids
+unfolding fresh behind_header subpic_form id_form hides_row hides_counter only_subpic
+subpic_known n fields inside f size =
+    let b = parted (subpic_form n.ids n.layout f.at) (there n.table n.layout) f.ends in
+    let k = parted (id_form n.ids n.layout f.at) (form_of KNOWN_SUBPIC) b.first in
+    let i = parted (form_of SUBPIC_ID f.at) (λ t. done (located n.ids n.layout t)) k.first in
+    let still = left_end (known_leaves.at k.mid) k.second in
+    let left = left_end ((there_leaves n.table n.layout).at b.mid) b.second in
+    let at_size : length f.at ≡ 1024 = sym (inside_size n.slice f.first f.at f.begins) ∙ size in
+    let mid_size : length i.mid ≡ 1024 = sym (id_size f.at i.front i.mid i.first) ∙ at_size in
+    let same : slice_index k.mid SUBPIC ≡ slice_index f.end SUBPIC = still.same SUBPIC refl ∙ left.same SUBPIC refl in
+    let count : slice_index k.mid NUM_SUBPICS ≡ length n.ids = ap (λ s. slice_index s NUM_SUBPICS) (sym (done_is i.second)) ∙ count_is n.ids n.layout i.mid mid_size in
+    subst (λ m. slice_index f.end SUBPIC < m) count (subst (λ x. x < slice_index k.mid NUM_SUBPICS) same (known_below k.mid k.others b.mid k.second))
+
 address_is : (n : At) (fields : List Item) (inside : List ℤ) (f : AreFields n fields inside) → length n.slice ≡ 1024 → slice_index f.end sh_slice_address ≡ number fields sh_slice_address
 unfolding fresh behind_header hides_row hides_counter
 address_is n fields inside f size =
@@ -368,4 +411,9 @@ inside_is n fields inside f size =
     sym ((left_end left f.ends).same sh_picture_header_in_slice_header_flag refl) ∙ inside_told n.slice f.first f.at size f.begins ∙ sym items
 
 pub numbers_are_told : NumbersAreTold
-numbers_are_told n fields inside f size = record { inside = inside_is n fields inside f size; subpic = subpic_told n fields inside f size; address = address_is n fields inside f size }
+numbers_are_told n fields inside f size = record {
+  inside = inside_is n fields inside f size;
+  subpic = subpic_told n fields inside f size;
+  known = subpic_known n fields inside f size;
+  address = address_is n fields inside f size;
+}

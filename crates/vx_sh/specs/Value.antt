@@ -1,5 +1,5 @@
 -- A slice header as a value: what is read and what is written of it.
-use Rattle.std.specs.Prelude.{◌≡◌, ℕ, ℤ, ◌+◌, ◌*◌, Bool, true, false, List, [], ◌++◌, length, take, drop, slice_index, Result, Ok, Err}
+use Rattle.std.specs.Prelude.{◌≡◌, ℕ, ℤ, ◌+◌, ◌*◌, ◌<◌, Bool, true, false, List, [], ◌++◌, length, take, drop, slice_index, Result, Ok, Err}
 use Rattle.vx_bits.specs.declared.list.Item.{Item}
 use Rattle.vx_bits.specs.declared.refusal.Refusal.{Refusal}
 use Rattle.vx_bits.specs.declared.refusal.ReadError.{ReadError}
@@ -81,10 +81,11 @@ SpellingIsRead = (n : At) (fields header : List Item) (bytes payload : List ℕ)
     → IsSpelling n fields header bytes → BeginsSlice n (bytes ++ payload) read size → (read.fields ≡ fields) × (size ≡ length bytes)
 
 -- The scope at the end of a slice header has the numbers that its items tell: whether the picture header stands inside, the index of
--- the id, and the address.
+-- the id, which is one of those of the subpictures, and the address.
 pub record AreTold (n : At) (fields : List Item) (end : List ℕ) : Type 0 where
   pub inside : slice_index end sh_picture_header_in_slice_header_flag ≡ number fields sh_picture_header_in_slice_header_flag
   pub subpic : slice_index end SUBPIC ≡ index_of (number fields sh_subpic_id) n.ids
+  pub known : slice_index end SUBPIC < length n.ids
   pub address : slice_index end sh_slice_address ≡ number fields sh_slice_address
 
 abbrev pub NumbersAreTold : Type 0
