@@ -25,6 +25,8 @@ use Rattle.vx_ph.specs.Picture.{ReadsHeader, ReadsUnit, unit_form}
 use Rattle.vx_sei.specs.declared.message.Message.{Message}
 use Rattle.vx_sei.specs.Sei.{Carries, IsSei, carried}
 use Rattle.std.specs.Prelude.{MatchOption, unwrap_or, IfErr, IfOk, IfSome, OnErr, OnOk, ◌^◌}
+use Rattle.vx_sh.proofs.Told.{numbers_are_told}
+use Rattle.vx_sh.proofs.Scopes.{slice_scopes_are_whole}
 use Rattle.vx_sh.specs.declared.header.SliceHeader.{SliceHeader as SliceValue}
 use Rattle.vx_sh.specs.declared.numbers.SliceNumbers.{SliceNumbers}
 use Rattle.vx_sh.specs.InForce.{in_force_at, slice_scope}
@@ -180,6 +182,11 @@ gives_no_slice n b unit rbsp answer r are spells is read =
 
 pub slice_fits : (at : At) (unit rbsp : List ℕ) (value : SliceValue) (size : ℕ) → rbsp ≡ rbsp_of unit → ReadsSlice at rbsp (Ok (value, size)) → 2 + size ≤ length (unescaped unit)
 slice_fits at unit rbsp value size spells read = fits_unit at unit value size (subst (λ xs. BeginsSlice at xs value size) spells read)
+
+pub subpic_below : (n : SliceNumbers) (rbsp : List ℕ) (value : SliceValue) (size : ℕ) → ReadsSlice (in_force_at n) rbsp (Ok (value, size)) → value.subpic < length n.ids.now
+subpic_below n rbsp value size read =
+    let told = numbers_are_told (in_force_at n) value.fields read.inside read.fields (slice_scopes_are_whole n.nal_type n.sps.now n.pps.now n.header.now) in
+    subst (λ x. x < length n.ids.now) (sym read.numbers.subpic) told.known
 
 pub gives_slice_error : (n : SliceNumbers) (b : Begun) (unit rbsp : List ℕ) (answer : Result SliceHeader Refusal) (e : ReadError) → AreOfBegun n b → rbsp ≡ rbsp_of unit → IsSliceAnswer n.nal_type b unit answer
     → ReadsSlice (in_force_at n) rbsp (Err e) → Gives answer (Err e)

@@ -28,13 +28,13 @@ told_under : (b : Begun) (h : SliceValue) (payload : ℕ) → h.lists ≡ lists_
 unfolding address_of
 told_under b h payload lists = rw lists refl
 
-pub read_under : (b : BegunPicture) (h told : SliceValue) (payload n : ℕ) → IsHeader b → told ≡ as_told h → n ≡ length b.sets.ids → h.subpic < n
+pub read_under : (b : BegunPicture) (h told : SliceValue) (payload : ℕ) → IsHeader b → told ≡ as_told h → h.subpic < length b.sets.ids
     → h.lists ≡ lists_of (structures b.sets.sps) (in_force b.sets.sps b.sets.pps) h.fields
     → AreSmall (names_in b.sets.pps b.header.fields h.fields) → IsReadUnder b (record { header = told; payload = payload })
-read_under b h told payload n is same count low lists small =
+read_under b h told payload is same low lists small =
     subst (λ x. IsReadUnder b (record { header = x; payload = payload })) (sym same)
     (record {
-      subpic = subst (λ m. h.subpic < m) (count ∙ is.sets.one_each) low;
+      subpic = subst (λ m. h.subpic < m) is.sets.one_each low;
       header = told_under (begun_of b None) h payload lists;
       small = small;
     })

@@ -1,11 +1,8 @@
 //! Sets and headers read.
-ghost use Rattle.std.specs.Prelude.{◌≡◌, ◌+◌, ◌≤◌, ◌^◌, ◌∷◌, [], drop, length, List, ℕ, Option, IsTrue, IfOk, IfSome, OnOk};
+ghost use Rattle.std.specs.Prelude.{◌≡◌, ◌+◌, ◌<◌, ◌≤◌, ◌^◌, drop, length, List, ℕ, Option, IfOk, IfSome, OnOk};
 ghost use Rattle.vx_rpl.specs.HeaderLists.{lists_of};
 ghost use Rattle.vx_ph.specs.InForce.{in_force, structures};
-ghost use Rattle.vx_pic.specs.Sets as sets;
 ghost use Rattle.vx_assemble.specs.inner.Headers.{as_told};
-ghost use Rattle.vx_assemble.specs.inner.Takes.{AreSmall};
-ghost use Rattle.vx_assemble.specs.inner.Joining.{names_in};
 ghost use Rattle.vx_aps.specs.Aps.{IsValid};
 ghost use Rattle.vx_pic.specs.PictureLayout as pictures;
 ghost use Rattle.vx_pic.specs.PictureLayout.{numbers_in, MakeLayout};
@@ -17,17 +14,15 @@ ghost use Rattle.vx_assemble.specs.inner.Answered.{slice_seen, AreOfBegun};
 ghost use Rattle.vx_assemble.specs.inner.Held.{begun_of};
 ghost use Rattle.vx_assemble.specs.inner.Headers.{IsHeaderUnder};
 ghost use Rattle.vx_assemble.specs.inner.Order.{IsHeader};
-ghost use Rattle.vx_assemble.specs.inner.Takes.{Gives, answer_by, header_read_as, IsReadUnder};
+ghost use Rattle.vx_assemble.specs.inner.Takes.{Gives, answer_by, header_read_as, NamesSmall, IsReadUnder};
 
 use crate::numbers::number;
 use crate::state::BegunPicture;
 use crate::unit::NalUnit;
 use std::alloc::{AllocError, Global};
 use vx_annexb::unit_place;
-use vx_aps::{ALF, Aps, LMCS, SCALING, one_answer, read_aps};
-use vx_bits::{BitReader, Fields, IdList, Item, ReadError};
-use vx_fields::alf::{alf_aps_id_chroma, alf_aps_id_luma, alf_cc_cb_aps_id, alf_cc_cr_aps_id};
-use vx_fields::ph::{ph_lmcs_aps_id, ph_scaling_list_aps_id};
+use vx_aps::{Aps, one_answer, read_aps};
+use vx_bits::{BitReader, Fields, IdList, ReadError};
 use vx_fields::sh::{sh_picture_header_in_slice_header_flag, sh_slice_address};
 use vx_layout::Layout;
 use vx_ph::{PictureHeader, read_ph, read_ph_unit, read_pps_id};
@@ -37,7 +32,6 @@ use vx_ptl::read_vps;
 use vx_sei::{MessageList, read_sei};
 use vx_sh::{SliceHeader, SliceNumbers, read_sh};
 use vx_sps::{Sps, read_sps};
-use vx_table::natural;
 
 /// A slice header, and the place in its unit behind it.
 #[derive(Drop)]
@@ -147,6 +141,7 @@ pub(crate) fn referred_pps(inside: bool, rbsp: &[u8]) -> Result<u8, ReadError>
 }
 
 /// A picture header, which may stand inside a slice, under its sets.
+#[tactic(auto, using(crate::proofs::Small::header_small))]
 pub(crate) fn header_of(
     alloc: Global,
     inside: bool,
@@ -158,6 +153,7 @@ pub(crate) fn header_of(
     ensures answer { (R : Readers) → AreOfH266 R
         → Gives (R.header inside sps.now pps.now rbsp.now) (answer_by (λ header. header.fields) result) }
     ensures made { IfOk result (IsHeaderUnder sps.now pps.now) }
+    ensures small { IfOk result (λ header. NamesSmall header.fields) }
 {
     if !inside {
         return read_ph_unit(alloc, rbsp, sps, pps);
@@ -179,70 +175,13 @@ pub(crate) fn read_slice(
     requires one_each { length numbers.now.ids.now ≡ length numbers.now.layout.now.subpics }
     ensures answer { (R : Readers) → AreOfH266 R → (b : Begun) → AreOfBegun numbers.now b
         → Gives (R.slice numbers.now.nal_type b unit.now) (answer_by slice_seen result) }
+    ensures subpic { IfOk result (λ read. read.0.subpic < length numbers.now.ids.now) }
+    ensures small { IfOk result (λ read. NamesSmall read.0.fields) }
     ensures lists { IfOk result (λ read. read.0.lists ≡ lists_of (structures numbers.now.sps.now) (in_force numbers.now.sps.now numbers.now.pps.now) read.0.fields) }
 {
     let (header, size) = read_sh(alloc, rbsp, numbers)?;
     let payload = unit_place(unit, 2 + size);
     Ok((header, payload))
-}
-
-/// Whether the set that an item names, where it is of this field, has an id that one can have.
-#[tactic(auto, using(crate::proofs::Small::small_other, crate::proofs::Small::small_here))]
-fn is_small(_kind: u8, field: u16, item: Item) -> bool
-    ensures { IsTrue result → AreSmall (sets.named _kind field (item ∷ [])) }
-{
-    if item.field != field {
-        return true;
-    }
-    natural(item.value) < 8
-}
-
-/// Whether no set that a field names has an id that none can have.
-#[tactic(auto, using(crate::proofs::Small::small_none, crate::proofs::Small::small_more, crate::proofs::Small::small_all))]
-fn are_small(kind: u8, field: u16, fields: &Fields) -> bool
-    ensures { IsTrue result → AreSmall (sets.named kind field fields.now) }
-{
-    for i in 0..fields.len() {
-        let item = fields.item(i);
-        if !is_small(kind, field, item) {
-            return false;
-        }
-    }
-    true
-}
-
-/// Whether no filter that items name has such an id.
-#[tactic(auto, using(crate::proofs::Small::small_filters))]
-fn have_small_filters(items: &Fields) -> bool
-    ensures { IsTrue result → AreSmall (sets.named_filters items.now) }
-{
-    if !are_small(ALF, alf_aps_id_luma, items) {
-        return false;
-    }
-    if !are_small(ALF, alf_aps_id_chroma, items) {
-        return false;
-    }
-    if !are_small(ALF, alf_cc_cb_aps_id, items) {
-        return false;
-    }
-    are_small(ALF, alf_cc_cr_aps_id, items)
-}
-
-/// Whether no set that a slice names has such an id.
-#[tactic(auto, using(crate::proofs::Small::small_names))]
-fn have_small_names(pps: &Pps, header: &Fields, slice: &Fields) -> bool
-    ensures { IsTrue result → AreSmall (names_in pps.now header.now slice.now) }
-{
-    if !have_small_filters(header) {
-        return false;
-    }
-    if !have_small_filters(slice) {
-        return false;
-    }
-    if !are_small(LMCS, ph_lmcs_aps_id, header) {
-        return false;
-    }
-    are_small(SCALING, ph_scaling_list_aps_id, header)
 }
 
 /// A slice header as its items tell it, with these lists.
@@ -292,14 +231,6 @@ pub(crate) fn slice_of(
         Ok((header, payload)) => (header, payload),
         Err(error) => return Err(error),
     };
-    if header.subpic as usize >= sets.ids.len() {
-        // each id that is read is one of these
-        return Err(ReadError::Memory);
-    }
-    if !have_small_names(pps, &begun.header.fields, &header.fields) {
-        // ids have three bits
-        return Err(ReadError::Memory);
-    }
     Ok(ReadSlice {
         header: told(header),
         payload,

@@ -16,6 +16,7 @@ use Rattle.vx_assemble.specs.declared.state.BegunPicture.{BegunPicture}
 use Rattle.vx_assemble.specs.declared.state.CurrentPicture.{CurrentPicture}
 use Rattle.vx_assemble.specs.declared.state.State.{State}
 use Rattle.vx_assemble.specs.inner.Held.{begun_of, slice_of}
+use Rattle.vx_assemble.specs.inner.Takes.{NamesSmall}
 
 -- what two sets make up
 pub record AreMade (f : InForce) : Type 0 where
@@ -28,10 +29,11 @@ pub record AreMade (f : InForce) : Type 0 where
   pub few : length f.layout.slices ≤ 1000
   pub few_subpics : length f.layout.subpics ≤ 1000
 
--- a picture header, with the lists that its items come to
+-- a picture header, with the lists that its items come to, and ids that there are
 pub record IsHeader (b : BegunPicture) : Type 0 where
   pub sets : AreMade b.sets
   pub header : b.header ≡ header_of (begun_of b None)
+  pub small : NamesSmall b.header.fields
 
 -- a slice of that picture, which stands in these bytes, where these adaptation parameter sets are in force
 pub record IsSlot (b : BegunPicture) (bytes : List ℕ) (sets : List (Option Aps)) (slot : SliceSlot) : Type 0 where

@@ -8,7 +8,9 @@ use Rattle.vx_bits.specs.declared.refusal.ReadError.TheVariants as errors
 use Rattle.vx_layout.specs.declared.numbers.Numbers.{Numbers}
 use Rattle.vx_ph.specs.declared.header.PictureHeader.{PictureHeader}
 use Rattle.vx_pic.specs.declared.accepted.Accepted.{Accepted}
-use Rattle.vx_pic.specs.Sets.{SliceHeader, Slot, names_of}
+use Rattle.vx_aps.specs.declared.aps.TheConstants as aps
+use Rattle.vx_fields.specs.declared.ph.TheConstants as ph
+use Rattle.vx_pic.specs.Sets.{SliceHeader, Slot, named, named_filters, names_of}
 use Rattle.vx_pic.specs.Readings.{Begun, Slice, Reading}
 use Rattle.vx_pic.specs.Parts.{id_count, slice_header_of}
 use Rattle.vx_pic.specs.Told.{told_of}
@@ -41,6 +43,12 @@ slice_read_as unit r = record { unit = unit; header = header_read_as r }
 -- no set that it names has an id that none can have
 abbrev pub AreSmall : List Slot → Type 0
 AreSmall slots = AllByRecursion (λ slot. slot.id < id_count) slots
+
+-- those that the items of a picture header, or of a slice header, name: filters, LMCS and scaling lists
+pub record NamesSmall (items : List Item) : Type 0 where
+  pub filters : AreSmall (named_filters items)
+  pub lmcs : AreSmall (named aps.LMCS ph.ph_lmcs_aps_id items)
+  pub scaling : AreSmall (named aps.SCALING ph.ph_scaling_list_aps_id items)
 
 -- a slice header that was read under this picture header
 pub record IsReadUnder (b : BegunPicture) (r : ReadSlice) : Type 0 where

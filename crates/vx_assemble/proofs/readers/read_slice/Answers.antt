@@ -4,7 +4,8 @@ use Rattle.vx_pic.specs.Readings.{Begun}
 use Rattle.vx_pic.specs.Rules.{Readers}
 use Rattle.vx_pic.specs.H266.{AreOfH266}
 use Rattle.vx_assemble.specs.inner.Answered.{AreOfBegun}
-use Rattle.vx_assemble.proofs.Answers.{gives_slice, gives_slice_error, slice_fits}
+use Rattle.vx_assemble.proofs.Answers.{gives_slice, gives_slice_error, slice_fits, subpic_below}
+use Rattle.vx_assemble.proofs.Small.{slice_small}
 use Rattle.vx_assemble.proofs.readers.read_slice.Goals as goal
 
 pub returns-in_err-header-clause-answer : goal.returns-in_err-header-clause-answer
@@ -29,3 +30,13 @@ pub returns-clause-lists : goal.returns-clause-lists
 returns-clause-lists c =
     let read = rw c.in_ok-header.was at c.read_sh.ensures in
     read.numbers.lists
+
+pub returns-clause-subpic : goal.returns-clause-subpic
+returns-clause-subpic c =
+    let read = rw c.in_ok-header.was at c.read_sh.ensures in
+    subpic_below c.args.numbers.now c.args.rbsp.now c.in_ok-header.header c.in_ok-header.size read
+
+pub returns-clause-small : goal.returns-clause-small
+returns-clause-small c =
+    let read = rw c.in_ok-header.was at c.read_sh.ensures in
+    slice_small (in_force_at c.args.numbers.now) c.args.rbsp.now c.in_ok-header.header c.in_ok-header.size read
