@@ -1,4 +1,4 @@
--- The lines of the refusals that a source meets: a word for each kind of line, by the letter of its rules.
+-- The lines of refusals: a word for each kind of line, by the letter of its rules.
 use Rattle.std.specs.Prelude.{◌≡◌, ℕ, ◌≤◌, ◌==◌, cond, List, [], ◌∷◌, codes, decimal}
 use Rattle.std.specs.List.{concat}
 use Rattle.vx_bits.specs.declared.refusal.BitCause.{BitCause}
@@ -10,14 +10,14 @@ use Rattle.vx_aps.specs.declared.aps.TheConstants as aps
 use Rattle.vx_pic.specs.declared.sets.TheConstants as sets
 use Rattle.vx_report.specs.declared.refusal.Where.{Where}
 
--- a rule that a source breaks; one on a missing set names a kind of sets
+-- a rule that a source breaks, or an extraction from one; one on a missing set names a kind of sets
 abbrev pub HasLine : Refusal → Type 0
 HasLine (Framing code byte) = Unit {0}
 HasLine (Syntax field bit cause) = Unit {0}
 HasLine (Profile code) = Unit {0}
 HasLine (Limit code) = Unit {0}
 HasLine (Structure code kind id) = code ≡ SET_MISSING → kind ≤ sets.PPS
-HasLine (Extract code) = ⊥
+HasLine (Extract code) = Unit {0}
 HasLine (Merge code source field) = ⊥
 
 -- ---- words
@@ -85,6 +85,10 @@ layout_text fault place = concat
     ∷ codes " unit " ∷ decimal place.unit
     ∷ codes " layout " ∷ decimal fault ∷ codes "\n" ∷ [])
 
+-- `E2 picture 5`
+abbrev pub extract_text : ℕ → Where → List ℕ
+extract_text code place = concat (codes "E" ∷ decimal code ∷ codes " picture " ∷ decimal place.picture ∷ codes "\n" ∷ [])
+
 -- ---- the line of a refusal
 
 abbrev pub limit_text : ℕ → Where → List ℕ
@@ -101,6 +105,6 @@ refusal_text (Syntax field bit cause) place = syntax_text field bit cause place
 refusal_text (Profile code) place = unit_text (codes "P") code place
 refusal_text (Limit code) place = limit_text code place
 refusal_text (Structure code kind id) place = structure_text code kind id place
+refusal_text (Extract code) place = extract_text code place
 -- no source breaks these alone
-refusal_text (Extract code) place = []
 refusal_text (Merge code source field) place = []

@@ -26,8 +26,8 @@ pub struct Where {
 /// The line of a rule that a source breaks, with its line feed, by the rule's kind:
 /// `F3 source 0 byte 5`, `Y source 0 unit 0 field 22 bit 40 Short`, `P4 source 0 unit 3`,
 /// `L1 source 0 unit 3`, and `L3 source 0` of the whole source, `S4 source 0 unit 3`, with
-/// the set in `S1 source 0 unit 1 PPS 3` and the fault in `S12 source 0 unit 2 layout 3`. It is empty
-/// for a rule that no source breaks alone.
+/// the set in `S1 source 0 unit 1 PPS 3` and the fault in `S12 source 0 unit 2 layout 3`; and of a rule
+/// that an extraction breaks, `E2 picture 5`. It is empty for a rule that no source breaks alone.
 pub fn refusal_line(alloc: Global, refusal: Refusal, place: Where) -> Result<Vec<u8>, AllocError>
     ensures { IfOk result (λ line. line.items ≡ refusal_text refusal place) }
 {
@@ -37,7 +37,8 @@ pub fn refusal_line(alloc: Global, refusal: Refusal, place: Where) -> Result<Vec
         Refusal::Profile { code } => profile_line(alloc, code, place),
         Refusal::Limit { code } => limit_line(alloc, code, place),
         Refusal::Structure { code, kind, id } => structure_line(alloc, code, kind, id, place),
-        Refusal::Extract { .. } | Refusal::Merge { .. } => Ok(String::new(alloc)),
+        Refusal::Extract { code } => extract_line(alloc, code, place),
+        Refusal::Merge { .. } => Ok(String::new(alloc)),
     }?;
     Ok(text.into_bytes())
 }
@@ -157,4 +158,10 @@ fn layout_line(alloc: Global, fault: u8, place: Where) -> Result<String, AllocEr
         "S{LAYOUT} source {} unit {} layout {fault}\n",
         place.source, place.unit
     )
+}
+
+fn extract_line(alloc: Global, code: u8, place: Where) -> Result<String, AllocError>
+    ensures { IfOk result (λ text. string_bytes text ≡ line.extract_text code place) }
+{
+    format!(in alloc; "E{code} picture {}\n", place.picture)
 }

@@ -157,6 +157,21 @@ fn structure_lines(rt: HostRuntime) -> Result<(), Fail> {
 }
 
 #[test]
+fn extract_lines(rt: HostRuntime) -> Result<(), Fail> {
+    for (code, line) in [
+        (rules::NO_PICTURE, "E1 picture 5\n"),
+        (rules::NO_SUCH_SUBPICTURE, "E2 picture 5\n"),
+        (rules::NOT_TREATED_AS_PICTURE, "E3 picture 5\n"),
+        (rules::FILTERED_ACROSS, "E4 picture 5\n"),
+        (rules::IRAP_DROPPED, "E5 picture 5\n"),
+    ] {
+        let made = refusal_line(rt.alloc(), Refusal::Extract { code }, somewhere())?;
+        assert_eq!(rt; made.as_slice(), line.as_bytes());
+    }
+    Ok(())
+}
+
+#[test]
 fn vps_lines(rt: HostRuntime) -> Result<(), Fail> {
     for (rbsp, line) in [
         (
