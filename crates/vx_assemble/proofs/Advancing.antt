@@ -169,18 +169,19 @@ module _ (old f f1 : Feeding) (left0 left left1 : Option (List ℕ)) (f0 n n1 : 
       }
 
   -- what stops it
-  stops_behind : (fault : FeedFault) (R : Readers) (g' : List ℕ) (places places1 : List UnitPlace) (before before1 : List Reading) → pictures before1 ≡ pictures before → f1.units ≡ length places1 → n ≡ f0
-      → TakesBehind R g' places1 before1 f1 n n1 (Err fault) → AdvancesBehind R g' places before f1 f0 n1 (Err fault)
-  stops_behind faults.Memory R g' places places1 before before1 same units kept took = took.0 ∙ kept
-  stops_behind faults.SourceFailed R g' places places1 before before1 same units kept took =
+  stops_behind : (fault : FeedFault) (R : Readers) (g' : List ℕ) (places later : List UnitPlace) (before readings : List Reading) → pictures (readings ++ before) ≡ pictures before → f1.units ≡ length (places ++ later) → n ≡ f0
+      → TakesBehind R g' (places ++ later) (readings ++ before) f1 n n1 (Err fault) → AdvancesBehind R g' places before f1 f0 n1 (Err fault)
+  stops_behind faults.Memory R g' places later before readings same units kept took = took.0 ∙ kept
+  stops_behind faults.SourceFailed R g' places later before readings same units kept took =
       let rose : Rose f0 n1 = rw kept at took.0 in
       (rose, subst (λ (ps : List Picture). AreSeenPictures R (seen_of g') ps) same took.2)
-  stops_behind (faults.Refused r) R g' places places1 before before1 same units kept took = (
+  stops_behind (faults.Refused r) R g' places later before readings same units kept took = (
     took.0 ∙ kept,
     subst (λ (k : ℕ). ArePictures R (seen_of g') (is_all f1.reader.splitter) (pictures before) (Some (record { units = k; refusal = r }))) (sym units)
-        (subst (λ (ps : List Picture). ArePictures R (seen_of g') (is_all f1.reader.splitter) ps (Some (record { units = length places1; refusal = r }))) same took.1.1),
+    (subst (λ (ps : List Picture). ArePictures R (seen_of g') (is_all f1.reader.splitter) ps (Some (record { units = length (places ++ later); refusal = r }))) same took.1.1),
+    record { later = later; readings = readings; same = same; were = took.1.3; count = units; refused = took.1.0; more = took.1.2.0; read = took.1.2.1 },
   )
-  stops_behind (faults.Stopped first) R g' places places1 before before1 same units kept took = absurd took.1
+  stops_behind (faults.Stopped first) R g' places later before readings same units kept took = absurd took.1
 
   pub advances_stopped : (fault : FeedFault)
       → ((R : Readers) → AreOfH266 R → (g : List ℕ) (places : List UnitPlace) (before : List Reading) → HasFed R f g places before → reader.LastWasNeeded g places → Takes R g places before f1 left left1 n n1 (Err fault))
@@ -190,7 +191,7 @@ module _ (old f f1 : Feeding) (left0 left left1 : Option (List ℕ)) (f0 n n1 : 
       let to = t.passes R of g places before fed needed in
       let h = to.1 in
       let took = takes R of (g ++ h.piece) (places ++ h.gone.later) (h.readings ++ before) h.gone.fed h.gone.needed in
-      let stop = stops_behind fault R ((g ++ h.piece) ++ took.piece) places (places ++ h.gone.later) before (h.readings ++ before) h.same (same ∙ h.gone.fed.count) to.0 took.behind in
+      let stop = stops_behind fault R ((g ++ h.piece) ++ took.piece) places h.gone.later before h.readings h.same (same ∙ h.gone.fed.count) to.0 took.behind in
       record {
         piece = h.piece ++ took.piece;
         consumed = Consumes-trans left0 left left1 h.piece took.piece h.consumed took.consumed;

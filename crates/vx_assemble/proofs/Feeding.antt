@@ -135,13 +135,14 @@ ends_behind R b all places before framing r readings stream ends = record {
 pub refused_by_bytes : (R : Readers) (g : List ℕ) (places : List UnitPlace) (before : List Reading) (old new : Feeding) (r : Refusal) → HasFed R old g places before
     → reader.Finds g places new.reader (Err r) → Gives R g places before new (Err (faults.Refused r))
 refused_by_bytes R g places before old new r fed (read, inl stream) =
-    (by_bytes (inl stream), ends_behind R (seen_of g) (is_all new.reader.splitter) places before (Some r) r fed.readings stream refl, ([], rw append-nil read))
+    (by_bytes (inl stream), ends_behind R (seen_of g) (is_all new.reader.splitter) places before (Some r) r fed.readings stream refl, ([], rw append-nil read), fed.readings)
 refused_by_bytes R g places before old new r fed (read, inr (stream, long, is)) =
     let going : is_all new.reader.splitter ≡ false = (subst (λ closed. reader.ClosesAt closed new.reader.splitter new.reader.taken) long read.closes).0 in
     let ends = ends_behind R (seen_of g) false places before None (Limit LONG_SOURCE) fed.readings stream refl in (
       by_bytes (inr (stream, long, is)),
       rw (going, is) ends,
       ([], rw append-nil read),
+      fed.readings,
     )
 
 -- by a unit
@@ -158,7 +159,7 @@ refused_by_unit R g places before old new span unit (faults.Refused r) fed finds
       follows = finds.0.stands.given;
       refused = ap (reads R before) (finds.1 ∙ sym lends) ∙ accepts;
     } in
-    (by_unit refused, ends_at_unit R new.reader g places before r fed.readings (read_all R (seen_of g) places before fed.readings) refused, (place_of span ∷ [], finds.0))
+    (by_unit refused, ends_at_unit R new.reader g places before r fed.readings (read_all R (seen_of g) places before fed.readings) refused, (place_of span ∷ [], finds.0), fed.readings)
 
 -- of a feed that goes on
 pub still_gives : (R : Readers) (g : List ℕ) (places : List UnitPlace) (before : List Reading) (r : reader.Reading) (a : Held) (n : ℕ) (f : Option First) (given : Option Taken) → f ≡ None → Gives R g places before (feeding r a n) (Ok given)
@@ -171,7 +172,7 @@ pub still_refused : (R : Readers) (g : List ℕ) (places : List UnitPlace) (befo
 still_refused R g places before f f' faults.Memory same gives = tt
 still_refused R g places before f f' faults.SourceFailed same gives = absurd gives
 still_refused R g places before f f' (faults.Stopped first) same gives = absurd gives
-still_refused R g places before f f' (faults.Refused r) same gives = subst (λ a. IsRefusedFor R a g places before r × EndsThere R a g places before r × ((later : List UnitPlace) × reader.HasRead a g (places ++ later))) (sym same) gives
+still_refused R g places before f f' (faults.Refused r) same gives = subst (λ a. IsRefusedFor R a g places before r × EndsThere R a g places before r × ((later : List UnitPlace) × reader.HasRead a g (places ++ later)) × (read_on R [] (units_at (seen_of g) places) ≡ all_read before)) (sym same) gives
 
 -- ---- no further unit
 
@@ -234,6 +235,7 @@ refused_at_end R g places before old new (assembler.Refused r) fed finds some fa
       at_end (record { ended = by_closed new.reader.closed some finds.2 failed; stream = end.1; lacks = ends }),
       rw end.0 (ends_behind R (seen_of g) true places before None r fed.readings end.1 (ap (option_map (λ r. record { units = length before; refusal = r })) ends)),
       ([], rw append-nil finds.0),
+      fed.readings,
     )
 
 -- ---- one read

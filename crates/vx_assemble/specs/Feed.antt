@@ -130,7 +130,7 @@ Gives R g places before f (Ok None) =
     HasFed R f g places before × IsStream (seen_of g) false places None × AreSeenPictures R (seen_of g) (pictures before)
 Gives R g places before f (Err (faults.Refused r)) =
     IsRefusedFor R f.reader g places before r × EndsThere R f.reader g places before r
-    × ((later : List UnitPlace) × reader.HasRead f.reader g (places ++ later))
+    × ((later : List UnitPlace) × reader.HasRead f.reader g (places ++ later)) × (read_on R [] (units_at (seen_of g) places) ≡ all_read before)
 Gives R g places before f (Err faults.Memory) = Unit {0}
 Gives R g places before f (Err faults.SourceFailed) = ⊥
 Gives R g places before f (Err (faults.Stopped first)) = ⊥
@@ -181,6 +181,17 @@ pub record HasGone (R : Readers) (f : Feeding) (g : List ℕ) (places : List Uni
   pub fed : HasFed R f g (places ++ later) (readings ++ before)
   pub needed : reader.LastWasNeeded g (places ++ later)
 
+-- Behind the units at these places, read as these, more were taken, which complete no picture; and what follows is refused for this.
+pub record IsStopped (R : Readers) (f : Feeding) (g : List ℕ) (places : List UnitPlace) (before : List Reading) (r : Refusal) : Type 0 where
+  pub later : List UnitPlace
+  pub readings : List Reading
+  pub same : pictures (readings ++ before) ≡ pictures before
+  pub were : read_on R [] (units_at (seen_of g) (places ++ later)) ≡ all_read (readings ++ before)
+  pub count : f.units ≡ length (places ++ later)
+  pub refused : IsRefusedFor R f.reader g (places ++ later) (readings ++ before) r
+  pub more : List UnitPlace
+  pub read : reader.HasRead f.reader g ((places ++ later) ++ more)
+
 -- the source has given fewer bytes past the place where the end of the last of these units is seen than a read asks for
 abbrev pub IsNearEnd : List ℕ → List UnitPlace → Type 0
 IsNearEnd g places = length g < end_of 0 places + 3 + 65536
@@ -203,6 +214,7 @@ AdvancesBehind R g places before new count count' (Err faults.SourceFailed) =
 AdvancesBehind R g places before new count count' (Err (faults.Refused r)) =
     (count' ≡ count)
     × ArePictures R (seen_of g) (is_all new.reader.splitter) (pictures before) (Some (record { units = new.units; refusal = r }))
+    × IsStopped R new g places before r
 AdvancesBehind R g places before new count count' (Err (faults.Stopped first)) = ⊥
 
 pub record Advances (R : Readers) (g : List ℕ) (places : List UnitPlace) (before : List Reading) (new : Feeding)
