@@ -32,8 +32,8 @@ use Rattle.vx_pic.specs.declared.unit_types.TheConstants as types
 use Rattle.vx_extract.specs.Written.{IsUnitOf, IsSeiUnit}
 
 -- Wherever a form begins, its bits end in a one and zeros up to a byte boundary.
-record EndsInStop {A : Type 0} (form : Form A) : Type 0 where
-  at : (place : ℕ) (values : List ℤ) (end : A) → Follows form values end → EndsWithStop place (bits_along form place values)
+pub record EndsInStop {A : Type 0} (form : Form A) : Type 0 where
+  pub at : (place : ℕ) (values : List ℤ) (end : A) → Follows form values end → EndsWithStop place (bits_along form place values)
 
 -- ---- one form behind another
 
@@ -108,7 +108,7 @@ sps_end = stops_field _ _ (stops_field _ _ (stops_block _ _ _ (omega arith) (sto
 abbrev before_end : List Section
 before_end = sps.ids ++ (sps.start ++ (sps.profile ++ (sps.resampling ++ (sps.picture ++ (sps.counts ++ (sps.dpb ++ (sps.tools ++ sps.timing)))))))
 
-sps_stops : EndsInStop sps.sps_form
+pub sps_stops : EndsInStop sps.sps_form
 sps_stops = stops_sections before_end sps.end (stops_section sps_tables.END sps_end) fresh
 
 pub sps_ends : (items : List Item) (bytes : List ℕ) → sps_set.IsSpelling items bytes → EndsInNoZero bytes
@@ -125,7 +125,7 @@ before_pps_end =
 tools_stop : (s : List ℕ) → EndsInStop (sections_form pps.tools s)
 tools_stop = stops_sections before_pps_end (always pps_tables.END ∷ []) (stops_section pps_tables.END pps_end)
 
-pps_stops : EndsInStop pps_form
+pub pps_stops : EndsInStop pps_form
 unfolding pps_form
 pps_stops =
     stops_behind (sections_form pps.front fresh) (λ s. pps.partition_at s >>= λ p. sections_form pps.tools s >>= λ t. done p)

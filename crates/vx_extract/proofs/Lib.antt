@@ -17,3 +17,4 @@ pub mod AgainPps
 pub mod AgainAbsent
 pub mod AgainSps
 pub mod AgainRegion
+pub mod Spelled

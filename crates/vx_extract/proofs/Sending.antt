@@ -17,13 +17,14 @@ use Rattle.vx_pic.specs.Resident as resident
 use Rattle.vx_pic.specs.Resident.{last_of, serves, is_resident}
 use Rattle.vx_sei.specs.declared.message.Message.{Message}
 use Rattle.vx_extract.specs.Written.{IsSetUnit, IsSeiUnit, same_slot, is_named, set_of_slot, aps_of_slot, all_slots, needed_sets}
-use Rattle.vx_extract.specs.inner.Sets.{unit_tid}
+use Rattle.vx_extract.specs.inner.Sets.{unit_tid, CanBeWritten}
 use Rattle.vx_extract.specs.inner.Slots.{Sent, held_serves, AnswerAlike, AreLastOf}
 use Rattle.vx_extract.specs.inner.Sending.{unsent, AreSent, AreOthers, sets_to}
 use Rattle.vx_extract.specs.inner.Needed.{slot_at, slot_count, needed_to}
 use Rattle.vx_extract.proofs.Held.{both, last_append, one_sent}
 use Rattle.vx_extract.proofs.Naming.{needed_more}
 use Rattle.vx_extract.proofs.Tids.{tid_is}
+use Rattle.vx_extract.proofs.Spelled.{has_unit}
 
 -- ---- one set
 
@@ -61,53 +62,52 @@ sets_more : (needed : List SetUnit) (x : SetUnit) (sets : List Set) (s : Set) �
     → map (λ x. x.set) (needed ++ x ∷ []) ≡ sets ++ s ∷ []
 sets_more needed x sets s are is = map-append (λ x. x.set) needed (x ∷ []) ∙ rw (are, is) refl
 
--- a set that is resident
-pub kept_more : (t : ℕ) (before : List SetUnit) (sets : List Set) (slots : List Sent) (units : List (List ℕ)) (s : Set)
-    → AreSent t before sets slots units → AreOthers s sets → held_serves t s slots ≡ true → AreSent t before (sets ++ s ∷ []) slots units
-kept_more t before sets slots units s sent others is =
-    let x : SetUnit = record { unit = []; set = s } in
-    let same : unsent t before (sent.needed ++ x ∷ []) ≡ unsent t before sent.needed =
-    unsent_more t before sent.needed x true (sym (before_all t before sets slots units s sent others) ∙ is) ∙ append-nil (unsent t before sent.needed) in
-    let P : List SetUnit → Type 0 = λ xs. (units ≡ map (λ x. x.unit) xs) × AllByRecursion (λ x. IsSetUnit t x.set x.unit) xs × AreLastOf (before ++ xs) slots in
-    let all : P (unsent t before (sent.needed ++ x ∷ [])) = subst P (sym same) (sent.made, sent.spelled, sent.held) in
-    record {
-      needed = sent.needed ++ x ∷ [];
-      of = sets_more sent.needed x sets s sent.of refl;
-      made = all.0;
-      spelled = all.1;
-      held = all.2;
-    }
-
 spelled_more : (t : ℕ) (xs : List SetUnit) (x : SetUnit) → AllByRecursion (λ x. IsSetUnit t x.set x.unit) xs → IsSetUnit t x.set x.unit
     → AllByRecursion (λ x. IsSetUnit t x.set x.unit) (xs ++ x ∷ [])
 spelled_more t [] x all one = (one, tt)
 spelled_more t (y ∷ xs) x all one = (all.0, spelled_more t xs x all.1 one)
 
+-- a set that is resident
+pub kept_more : (t : ℕ) (before : List SetUnit) (sets : List Set) (slots : List Sent) (units : List (List ℕ)) (s : Set)
+    → AreSent t before sets slots units → AreOthers s sets → held_serves t s slots ≡ true → CanBeWritten s → AreSent t before (sets ++ s ∷ []) slots units
+kept_more t before sets slots units s sent others is can =
+    let unit = has_unit t s can in
+    let x : SetUnit = record { unit = unit.0; set = s } in
+    let same : unsent t before (sent.needed ++ x ∷ []) ≡ unsent t before sent.needed =
+    unsent_more t before sent.needed x true (sym (before_all t before sets slots units s sent others) ∙ is) ∙ append-nil (unsent t before sent.needed) in
+    let P : List SetUnit → Type 0 = λ xs. (units ≡ map (λ x. x.unit) xs) × AreLastOf (before ++ xs) slots in
+    let all : P (unsent t before (sent.needed ++ x ∷ [])) = subst P (sym same) (sent.made, sent.held) in
+    record {
+      needed = sent.needed ++ x ∷ [];
+      of = sets_more sent.needed x sets s sent.of refl;
+      made = all.0;
+      spelled = spelled_more t sent.needed x sent.spelled unit.1;
+      held = all.1;
+    }
+
 -- a set that isn't, and is sent
 pub sent_more : (t : ℕ) (before : List SetUnit) (sets : List Set) (slots others_slots : List Sent) (units more : List (List ℕ)) (s : Set) (unit : List ℕ) (y : Sent) → t < 7
     → AreSent t before sets slots units → AreOthers s sets → held_serves t s slots ≡ false → IsSetUnit t s unit
-    → y.set ≡ s → y.temporal_id ≡ unit_tid t s → AnswerAlike others_slots (y ∷ slots)
-    → more ≡ units ++ unit ∷ []
+    → y.set ≡ s → y.temporal_id ≡ unit_tid t s → AnswerAlike others_slots (y ∷ slots) → more ≡ units ++ unit ∷ []
     → AreSent t before (sets ++ s ∷ []) others_slots more
 sent_more t before sets slots others_slots units more s unit y small sent others isn't spells set tid alike gained =
     let x : SetUnit = record { unit = unit; set = s } in
     let xs = unsent t before sent.needed in
     let same : unsent t before (sent.needed ++ x ∷ []) ≡ xs ++ x ∷ [] =
     unsent_more t before sent.needed x false (sym (before_all t before sets slots units s sent others) ∙ isn't) in
-    let P : List SetUnit → Type 0 = λ xs. (more ≡ map (λ x. x.unit) xs) × AllByRecursion (λ x. IsSetUnit t x.set x.unit) xs × AreLastOf (before ++ xs) others_slots in
+    let P : List SetUnit → Type 0 = λ xs. (more ≡ map (λ x. x.unit) xs) × AreLastOf (before ++ xs) others_slots in
     let units_are : more ≡ map (λ x. x.unit) (xs ++ x ∷ []) =
     gained ∙ ap (λ us. us ++ unit ∷ []) sent.made ∙ sym (map-append (λ x. x.unit) xs (x ∷ [])) in
     let last : AreLastOf ((before ++ xs) ++ x ∷ []) others_slots =
     one_sent (before ++ xs) slots others_slots x y sent.held set (tid ∙ tid_is t s unit small spells) alike in
     let Q : List SetUnit → Type 0 = λ history. AreLastOf history others_slots in
-    let all : P (unsent t before (sent.needed ++ x ∷ [])) =
-    subst P (sym same) (units_are, spelled_more t xs x sent.spelled spells, subst Q (append_assoc before xs (x ∷ [])) last) in
+    let all : P (unsent t before (sent.needed ++ x ∷ [])) = subst P (sym same) (units_are, subst Q (append_assoc before xs (x ∷ [])) last) in
     record {
       needed = sent.needed ++ x ∷ [];
       of = sets_more sent.needed x sets s sent.of refl;
       made = all.0;
-      spelled = all.1;
-      held = all.2;
+      spelled = spelled_more t sent.needed x sent.spelled spells;
+      held = all.1;
     }
 
 -- no set

@@ -95,8 +95,8 @@ needed_sets q target sps pps = an_sps sps ∷ a_pps pps ∷ needed_aps q target
 
 -- ---- pictures
 
--- A picture is written so behind others: rewritten sets, of which those are sent that aren't resident (of a set that isn't sent the
--- unit is any); its messages; its header and the slices of the subpicture as they stand, of which there is one at least.
+-- A picture is written so behind others: rewritten sets, of which those are sent that aren't resident; its messages; its header and
+-- the slices of the subpicture as they stand, of which there is one at least.
 pub record IsExtracted (target : ℕ) (level : Option ℕ) (q : Parts) (done : List Plan) (p : Plan) : Type 0 where
   pub sps : sps_reshaped.IsReshaped q.sps (sps_shape q target level) p.begun.sps
   pub pps : pps_reshaped.IsReshaped q.pps (pps_shape q target) p.begun.pps
@@ -108,7 +108,7 @@ pub record IsExtracted (target : ℕ) (level : Option ℕ) (q : Parts) (done : L
   pub slices : slices_of p ≡ slices_in q target
   pub needed : List SetUnit
   pub sets : map (λ x. x.set) needed ≡ needed_sets q target p.begun.sps p.begun.pps
-  pub units : AllByRecursion (λ x. IsSetUnit q.kind.temporal_id x.set x.unit) p.sent
+  pub units : AllByRecursion (λ x. IsSetUnit q.kind.temporal_id x.set x.unit) needed
   pub sent : p.sent ≡ filter (λ x. not (is_resident q.kind.temporal_id (sent_before done p) x)) needed
   pub sei : IsSeiUnit q.kind.temporal_id q.messages p.sei
 

@@ -1,7 +1,9 @@
 //! The units of the sets that a picture needs.
 ghost use Rattle.std.specs.Prelude.{◌≡◌, ℕ, ◌+◌, ◌<◌, List, [], ◌∷◌, ◌++◌, map, option_copied, option_map, IfOk, IfSome};
 ghost use Rattle.vx_bits.specs.declared.list.Item.{Item};
+ghost use Rattle.vx_sps.specs.Set as sps_set;
 ghost use Rattle.vx_sps.specs.Subpictures.{subpics_of};
+ghost use Rattle.vx_pps.specs.Pps as pps_set;
 ghost use Rattle.vx_pic.specs.Written.{Set, an_sps, a_pps, SetUnit, Plan};
 ghost use Rattle.vx_pic.specs.Resident.{kept_for, history_of};
 ghost use Rattle.vx_extract.specs.Written.{needed_sets};
@@ -132,7 +134,9 @@ fn send_needed(
     sps: &Sps,
     pps: &Pps,
 ) -> Result<Vec<Vec<u8>>, AllocError>
-    requires { picture.now.kind.temporal_id < 7 }
+    requires tid { picture.now.kind.temporal_id < 7 }
+    requires sps { sps_set.IsItems sps.now }
+    requires pps { pps_set.IsItems pps.now }
     ensures { (before : List SetUnit) → AreLastOf before slots.old
         → IfOk result (λ units. AreSent picture.now.kind.temporal_id before (needed_sets picture.now target sps.now pps.now)
         slots.new (map (λ unit. unit.items) units.items)) }

@@ -22,7 +22,7 @@ pub record AreSent (t : ℕ) (before : List SetUnit) (sets : List Set) (slots : 
   pub needed : List SetUnit
   pub of : map (λ x. x.set) needed ≡ sets
   pub made : units ≡ map (λ x. x.unit) (unsent t before needed)
-  pub spelled : AllByRecursion (λ x. IsSetUnit t x.set x.unit) (unsent t before needed)
+  pub spelled : AllByRecursion (λ x. IsSetUnit t x.set x.unit) needed
   pub held : AreLastOf (before ++ unsent t before needed) slots
 
 -- all are of other types or ids

@@ -1,6 +1,8 @@
 -- Sets as the code holds them.
 use Rattle.std.specs.Prelude.{ℕ, ◌<◌, length}
 use Rattle.vx_bits.specs.Codes.{EndsInNoZero}
+use Rattle.vx_sps.specs.Set as sps_set
+use Rattle.vx_pps.specs.Pps as pps_set
 use Rattle.vx_pic.specs.Sets.{sps_id, pps_id}
 use Rattle.vx_pic.specs.Written.{Set, an_sps, a_pps, an_aps}
 use Rattle.vx_extract.specs.declared.written.NeededSet.{NeededSet}
@@ -32,8 +34,9 @@ unit_tid t (an_sps items) = 0
 unit_tid t (a_pps items) = t
 unit_tid t (an_aps a) = t
 
--- it can be written: an adaptation parameter set has a type and an id that fit, and a body that can end a unit
+-- it can be written: the items are those of a set; an adaptation parameter set has a type and an id that fit, and a body that can
+-- end a unit
 abbrev pub CanBeWritten : Set → Type 0
-CanBeWritten (an_sps items) = Unit {0}
-CanBeWritten (a_pps items) = Unit {0}
+CanBeWritten (an_sps items) = sps_set.IsItems items
+CanBeWritten (a_pps items) = pps_set.IsItems items
 CanBeWritten (an_aps a) = (a.kind < 8) × (a.id < 32) × (0 < length a.body) × EndsInNoZero a.body

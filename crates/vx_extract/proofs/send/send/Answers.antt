@@ -7,7 +7,7 @@ use Rattle.vx_extract.proofs.send.send.Goals as goal
 pub returns-then-serves : goal.returns-then-serves
 returns-then-serves c before sets sent others =
     let is : held_serves c.args.temporal_id (set_lent c.args.set) c.args.slots.now ≡ true = cc in
-    kept_more c.args.temporal_id before sets c.args.slots.now _ (set_lent c.args.set) sent others is
+    kept_more c.args.temporal_id before sets c.args.slots.now _ (set_lent c.args.set) sent others is c.requires.set
 
 pub returns : goal.returns
 returns c before sets sent others =
