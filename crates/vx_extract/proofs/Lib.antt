@@ -18,3 +18,4 @@ pub mod AgainAbsent
 pub mod AgainSps
 pub mod AgainRegion
 pub mod Spelled
+pub mod AgainAgree

@@ -2,9 +2,18 @@
 use Rattle.std.specs.Prelude.{◌≡◌, ℕ, ◌<◌, true, false, List, [], ◌∷◌, Option}
 use Rattle.vx_bits.specs.declared.list.Item.{Item}
 use Rattle.vx_layout.specs.Regions.{region_of}
+use Rattle.vx_table.specs.Depends.{Agree, set_of}
+use Rattle.vx_rpl.specs.HeaderLists.{lists_of}
+use Rattle.vx_sps.specs.Depends as sps_kept
 use Rattle.vx_sps.specs.Subpictures.{subpics_of, is_treated, is_filtered}
 use Rattle.vx_sps.specs.Reshaped as sps_reshaped
 use Rattle.vx_pps.specs.Reshaped as pps_reshaped
+use Rattle.vx_pps.specs.Pps as pps_kept
+use Rattle.vx_ph.specs.declared.header.PictureHeader.{PictureHeader}
+use Rattle.vx_ph.specs.Depends.{all_of_sets}
+use Rattle.vx_ph.specs.InForce.{in_force, structures}
+use Rattle.vx_sh.specs.Elsewhere.{given}
+use Rattle.vx_sh.specs.InForce.{slice_scope}
 use Rattle.vx_pic.specs.Sets.{sps_id, pps_id, referred_sps, same_size}
 use Rattle.vx_pic.specs.PictureLayout.{MakeLayout, ids_of, numbers_in}
 use Rattle.vx_pic.specs.Parts.{Parts}
@@ -44,3 +53,30 @@ abbrev pub RewrittenKeepIds : Type 0
 RewrittenKeepIds =
     (target : ℕ) (level : Option ℕ) (q : Parts) (sps pps : List Item) → AreInForce q → target < subpics_of q.sps
     → AreRewritten target level q sps pps → KeepIds q sps pps
+
+-- ---- what stays
+
+-- Their kept fields are the source's.
+pub record KeepFields (q : Parts) (sps pps : List Item) : Type 0 where
+  pub of_sps : sps_kept.kept_of sps ≡ sps_kept.kept_of q.sps
+  pub of_pps : pps_kept.kept_of pps ≡ pps_kept.kept_of q.pps
+
+abbrev pub RewrittenKeepFields : Type 0
+RewrittenKeepFields =
+    (target : ℕ) (level : Option ℕ) (q : Parts) (sps pps : List Item) → AreInForce q → target < subpics_of q.sps
+    → AreRewritten target level q sps pps → KeepFields q sps pps
+
+-- All that a picture header or a slice header finds in them is the source's: the structures of reference picture lists, and the lists
+-- that a header comes to; the numbers that picture headers depend on, and those that slice headers do.
+pub record AgreeForHeaders (q : Parts) (sps pps : List Item) : Type 0 where
+  pub same_structures : structures sps ≡ structures q.sps
+  pub lists : (header : List Item)
+      → lists_of (structures sps) (in_force sps pps) header ≡ lists_of (structures q.sps) (in_force q.sps q.pps) header
+  pub sets : Agree (set_of all_of_sets) (in_force q.sps q.pps) (in_force sps pps)
+  pub slices : (nal_type : ℕ) (h : PictureHeader)
+      → Agree (set_of given) (slice_scope nal_type q.sps q.pps h (in_force q.sps q.pps)) (slice_scope nal_type sps pps h (in_force sps pps))
+
+abbrev pub RewrittenAgree : Type 0
+RewrittenAgree =
+    (target : ℕ) (level : Option ℕ) (q : Parts) (sps pps : List Item) → AreInForce q → AreRewritten target level q sps pps
+    → AgreeForHeaders q sps pps

@@ -1,9 +1,14 @@
 //! Laws of what is written: functions that do nothing, each with a law as its contract.
-ghost use Rattle.vx_extract.specs.Again.{RewrittenKeepIds, RewrittenMakeRegion};
+ghost use Rattle.vx_extract.specs.Again.{RewrittenAgree, RewrittenKeepFields, RewrittenKeepIds, RewrittenMakeRegion};
 
 use vx_layout::{region_is_layout, region_is_listable};
-use vx_pps::{read_slices_are_listable, reshaped_has_its_tiles, sets_tell_partitions};
-use vx_sps::reshaped_says;
+use vx_ph::sets_agree;
+use vx_pps::{
+    read_slices_are_listable, region_keeps, reshaped_has_its_tiles, sets_tell_partitions,
+};
+use vx_rpl::{lists_follow_items, tables_follow_items};
+use vx_sh::slice_scopes_agree;
+use vx_sps::{reshaped_keeps, reshaped_says};
 
 /// The sets that are rewritten for a subpicture make up its region, a picture of one subpicture that has its id
 /// (H.266 7.4.3.4, 7.4.3.5), and have the ids of the sets that they stand for.
@@ -17,4 +22,26 @@ pub fn rewritten_make_region()
     region_is_listable();
     reshaped_says();
     reshaped_has_its_tiles();
+}
+
+/// They have the kept fields of these sets.
+pub fn rewritten_keep_fields()
+    ensures { RewrittenKeepFields }
+{
+    sets_tell_partitions();
+    read_slices_are_listable();
+    region_is_layout();
+    region_is_listable();
+    reshaped_keeps();
+    region_keeps();
+}
+
+/// Headers find in them all that they find in these sets.
+pub fn rewritten_agree()
+    ensures { RewrittenAgree }
+{
+    sets_agree();
+    slice_scopes_agree();
+    tables_follow_items();
+    lists_follow_items();
 }

@@ -22,4 +22,4 @@ mod written;
 
 pub use extractor::Extractor;
 pub use fault::{WriteError, WriteFirst};
-pub use laws::rewritten_make_region;
+pub use laws::{rewritten_agree, rewritten_keep_fields, rewritten_make_region};
