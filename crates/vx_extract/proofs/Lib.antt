@@ -19,3 +19,5 @@ pub mod AgainSps
 pub mod AgainRegion
 pub mod Spelled
 pub mod AgainAgree
+pub mod AgainHeaders
+pub mod AgainSlices

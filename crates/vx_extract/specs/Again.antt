@@ -1,5 +1,5 @@
 -- What is written is read again: what the rewritten sets of a picture's subpicture make up.
-use Rattle.std.specs.Prelude.{◌≡◌, ℕ, ◌<◌, true, false, List, [], ◌∷◌, Option}
+use Rattle.std.specs.Prelude.{◌≡◌, ℕ, ◌<◌, Bool, true, false, List, [], ◌∷◌, Option, Ok}
 use Rattle.vx_bits.specs.declared.list.Item.{Item}
 use Rattle.vx_layout.specs.Regions.{region_of}
 use Rattle.vx_table.specs.Depends.{Agree, set_of}
@@ -14,9 +14,12 @@ use Rattle.vx_ph.specs.Depends.{all_of_sets}
 use Rattle.vx_ph.specs.InForce.{in_force, structures}
 use Rattle.vx_sh.specs.Elsewhere.{given}
 use Rattle.vx_sh.specs.InForce.{slice_scope}
-use Rattle.vx_pic.specs.Sets.{sps_id, pps_id, referred_sps, same_size}
+use Rattle.vx_pic.specs.Sets.{SliceHeader, sps_id, pps_id, referred_sps, same_size}
 use Rattle.vx_pic.specs.PictureLayout.{MakeLayout, ids_of, numbers_in}
 use Rattle.vx_pic.specs.Parts.{Parts}
+use Rattle.vx_pic.specs.Readings.{Begun}
+use Rattle.vx_pic.specs.Rules.{Readers}
+use Rattle.vx_pic.specs.H266.{AreOfH266}
 use Rattle.vx_extract.specs.Shapes.{id_in, sps_shape, pps_shape}
 use Rattle.vx_extract.specs.inner.ShapeFacts.{AreInForce}
 
@@ -80,3 +83,43 @@ abbrev pub RewrittenAgree : Type 0
 RewrittenAgree =
     (target : ℕ) (level : Option ℕ) (q : Parts) (sps pps : List Item) → AreInForce q → AreRewritten target level q sps pps
     → AgreeForHeaders q sps pps
+
+-- ---- what is read under them
+
+-- what stands before the slices of a picture, and of the subpicture with these sets
+abbrev pub begun_in : Parts → Begun
+begun_in q = record {
+  sps = q.sps;
+  pps = q.pps;
+  layout = q.layout;
+  header = q.header.fields;
+  temporal_id = q.kind.temporal_id;
+  unit = q.unit;
+}
+
+abbrev pub begun_alone : ℕ → Parts → List Item → List Item → Begun
+begun_alone target q sps pps = record {
+  sps = sps;
+  pps = pps;
+  layout = region_of q.layout target;
+  header = q.header.fields;
+  temporal_id = q.kind.temporal_id;
+  unit = q.unit;
+}
+
+-- a slice header of the one subpicture
+abbrev pub alone : SliceHeader → SliceHeader
+alone h = record { fields = h.fields; subpic = 0; payload = h.payload }
+
+-- The same units are read under the sets: the layout is the region; picture headers are read alike, or refused alike; and each slice of
+-- the subpicture is read with the same fields, at the same place.
+pub record ReadUnder (R : Readers) (target : ℕ) (q : Parts) (sps pps : List Item) : Type 0 where
+  pub layout : R.layout sps pps ≡ Ok (region_of q.layout target)
+  pub header : (inside : Bool) (rbsp : List ℕ) → R.header inside sps pps rbsp ≡ R.header inside q.sps q.pps rbsp
+  pub slice : (nal_type : ℕ) (unit : List ℕ) (h : SliceHeader) → h.subpic ≡ target
+      → R.slice nal_type (begun_in q) unit ≡ Ok h → R.slice nal_type (begun_alone target q sps pps) unit ≡ Ok (alone h)
+
+abbrev pub RewrittenReadAlike : Type 0
+RewrittenReadAlike =
+    (R : Readers) (target : ℕ) (level : Option ℕ) (q : Parts) (sps pps : List Item) → AreOfH266 R → AreInForce q
+    → target < subpics_of q.sps → AreRewritten target level q sps pps → ReadUnder R target q sps pps

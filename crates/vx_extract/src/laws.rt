@@ -1,13 +1,14 @@
 //! Laws of what is written: functions that do nothing, each with a law as its contract.
-ghost use Rattle.vx_extract.specs.Again.{RewrittenAgree, RewrittenKeepFields, RewrittenKeepIds, RewrittenMakeRegion};
+ghost use Rattle.vx_extract.specs.Again.{RewrittenAgree, RewrittenKeepFields, RewrittenKeepIds, RewrittenMakeRegion, RewrittenReadAlike};
 
-use vx_layout::{region_is_layout, region_is_listable};
+use vx_layout::{region_is_layout, region_is_listable, region_keeps_slices, regions_nest};
 use vx_ph::sets_agree;
+use vx_pic::readers_are_unique;
 use vx_pps::{
     read_slices_are_listable, region_keeps, reshaped_has_its_tiles, sets_tell_partitions,
 };
 use vx_rpl::{lists_follow_items, tables_follow_items};
-use vx_sh::slice_scopes_agree;
+use vx_sh::{numbers_are_told, slice_read_elsewhere, slice_scopes_agree};
 use vx_sps::{reshaped_keeps, reshaped_says};
 
 /// The sets that are rewritten for a subpicture make up its region, a picture of one subpicture that has its id
@@ -44,4 +45,20 @@ pub fn rewritten_agree()
     slice_scopes_agree();
     tables_follow_items();
     lists_follow_items();
+}
+
+/// Under them the units of the picture are read as they are under its own sets: the picture header, and each slice of the
+/// subpicture.
+pub fn rewritten_read_alike()
+    ensures { RewrittenReadAlike }
+{
+    rewritten_make_region();
+    rewritten_agree();
+    region_is_layout();
+    region_keeps_slices();
+    regions_nest();
+    slice_read_elsewhere();
+    slice_scopes_agree();
+    numbers_are_told();
+    readers_are_unique();
 }

@@ -22,4 +22,6 @@ mod written;
 
 pub use extractor::Extractor;
 pub use fault::{WriteError, WriteFirst};
-pub use laws::{rewritten_agree, rewritten_keep_fields, rewritten_make_region};
+pub use laws::{
+    rewritten_agree, rewritten_keep_fields, rewritten_make_region, rewritten_read_alike,
+};
