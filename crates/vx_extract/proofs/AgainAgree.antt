@@ -181,10 +181,10 @@ module _ (target : ℕ) (level : Option ℕ) (q : Parts) (s p : List Item) (are 
 
   -- ---- the PPS
 
-  pps_with : (of : ℕ) → IsTrue (has (set_of TAKEN_OF_PPS) of) → with_field of q.pps ≡ with_field of p
+  pub pps_with : (of : ℕ) → IsTrue (has (set_of TAKEN_OF_PPS) of) → with_field of q.pps ≡ with_field of p
   pps_with of is = same_with (set_of TAKEN_OF_PPS) of q.pps p is (sym re.of_pps.rewritten.shown_ones)
 
-  pps_taken : (of : ℕ) → IsTrue (has (set_of TAKEN_OF_PPS) of) → number q.pps of ≡ number p of
+  pub pps_taken : (of : ℕ) → IsTrue (has (set_of TAKEN_OF_PPS) of) → number q.pps of ≡ number p of
   pps_taken of is = number_of_shown (set_of TAKEN_OF_PPS) of q.pps is ∙ ap (λ xs. number xs of) (sym re.of_pps.rewritten.shown_ones) ∙ sym (number_of_shown (set_of TAKEN_OF_PPS) of p is)
 
   pps_number : (n : ℕ) → of_pps n ≡ true → 400 ≤ n → n < ph_fields.ph_gdr_or_irap_pic_flag → number q.pps n ≡ number p n

@@ -21,3 +21,4 @@ pub mod Spelled
 pub mod AgainAgree
 pub mod AgainHeaders
 pub mod AgainSlices
+pub mod AgainUnits

@@ -1,4 +1,5 @@
 -- What is written is read again: what the rewritten sets of a picture's subpicture make up.
+use Rattle.std.specs.List.{AllByRecursion}
 use Rattle.std.specs.Prelude.{◌≡◌, ℕ, ◌<◌, Bool, true, false, List, [], ◌∷◌, Option, Ok}
 use Rattle.vx_bits.specs.declared.list.Item.{Item}
 use Rattle.vx_layout.specs.Regions.{region_of}
@@ -16,10 +17,14 @@ use Rattle.vx_sh.specs.Elsewhere.{given}
 use Rattle.vx_sh.specs.InForce.{slice_scope}
 use Rattle.vx_pic.specs.Sets.{SliceHeader, sps_id, pps_id, referred_sps, same_size}
 use Rattle.vx_pic.specs.PictureLayout.{MakeLayout, ids_of, numbers_in}
-use Rattle.vx_pic.specs.Parts.{Parts}
-use Rattle.vx_pic.specs.Readings.{Begun}
+use Rattle.vx_pic.specs.Parts.{Parts, parts_of}
+use Rattle.vx_pic.specs.Units.{has_header_inside}
+use Rattle.vx_pic.specs.Readings.{Begun, Picture, is_whole}
+use Rattle.vx_pic.specs.Finished.{IsSound}
+use Rattle.vx_pic.specs.Written.{HeadReads, Plan, SliceReads, slices_of}
 use Rattle.vx_pic.specs.Rules.{Readers}
 use Rattle.vx_pic.specs.H266.{AreOfH266}
+use Rattle.vx_extract.specs.Written.{IsExtracted}
 use Rattle.vx_extract.specs.Shapes.{id_in, sps_shape, pps_shape}
 use Rattle.vx_extract.specs.inner.ShapeFacts.{AreInForce}
 
@@ -123,3 +128,20 @@ abbrev pub RewrittenReadAlike : Type 0
 RewrittenReadAlike =
     (R : Readers) (target : ℕ) (level : Option ℕ) (q : Parts) (sps pps : List Item) → AreOfH266 R → AreInForce q
     → target < subpics_of q.sps → AreRewritten target level q sps pps → ReadUnder R target q sps pps
+
+-- ---- pictures of a stream
+
+-- The header of what is written, and its slices, are read as it says: under its sets, of which the one refers to the other.
+pub record UnitsAreRead (R : Readers) (p : Plan) : Type 0 where
+  pub head : HeadReads R p.begun.unit p.begun p.first
+  pub slices : AllByRecursion (SliceReads R p.begun p.kind.nal_type) (slices_of p)
+  pub outside : AllByRecursion (λ s. has_header_inside s.unit ≡ false) p.more
+  pub refers : referred_sps p.begun.pps ≡ sps_id p.begun.sps
+  pub tid : p.kind.temporal_id ≡ p.begun.temporal_id
+
+-- So it is with what is written for a whole picture that was read.
+abbrev pub ExtractedUnitsAreRead : Type 0
+ExtractedUnitsAreRead =
+    (R : Readers) (target : ℕ) (level : Option ℕ) (earlier : List Picture) (picture : Picture) (done : List Plan) (p : Plan)
+    → AreOfH266 R → IsSound R earlier picture → is_whole picture ≡ true → AreInForce (parts_of picture)
+    → target < subpics_of picture.begun.sps → IsExtracted target level (parts_of picture) done p → UnitsAreRead R p

@@ -1,5 +1,5 @@
 //! Laws of what is written: functions that do nothing, each with a law as its contract.
-ghost use Rattle.vx_extract.specs.Again.{RewrittenAgree, RewrittenKeepFields, RewrittenKeepIds, RewrittenMakeRegion, RewrittenReadAlike};
+ghost use Rattle.vx_extract.specs.Again.{ExtractedUnitsAreRead, RewrittenAgree, RewrittenKeepFields, RewrittenKeepIds, RewrittenMakeRegion, RewrittenReadAlike};
 
 use vx_layout::{region_is_layout, region_is_listable, region_keeps_slices, regions_nest};
 use vx_ph::sets_agree;
@@ -61,4 +61,12 @@ pub fn rewritten_read_alike()
     slice_scopes_agree();
     numbers_are_told();
     readers_are_unique();
+}
+
+/// The header and the slices of what is written for a picture of a stream are read again as it says.
+pub fn extracted_units_are_read()
+    ensures { ExtractedUnitsAreRead }
+{
+    rewritten_make_region();
+    rewritten_read_alike();
 }

@@ -23,5 +23,6 @@ mod written;
 pub use extractor::Extractor;
 pub use fault::{WriteError, WriteFirst};
 pub use laws::{
-    rewritten_agree, rewritten_keep_fields, rewritten_make_region, rewritten_read_alike,
+    extracted_units_are_read, rewritten_agree, rewritten_keep_fields, rewritten_make_region,
+    rewritten_read_alike,
 };
