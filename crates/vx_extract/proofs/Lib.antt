@@ -22,3 +22,4 @@ pub mod AgainAgree
 pub mod AgainHeaders
 pub mod AgainSlices
 pub mod AgainUnits
+pub mod AgainOrder

@@ -1,6 +1,6 @@
 -- What is written is read again: what the rewritten sets of a picture's subpicture make up.
 use Rattle.std.specs.List.{AllByRecursion}
-use Rattle.std.specs.Prelude.{◌≡◌, ℕ, ◌<◌, Bool, true, false, List, [], ◌∷◌, Option, Ok}
+use Rattle.std.specs.Prelude.{◌≡◌, ℕ, ◌+◌, ◌<◌, ◌≤◌, Bool, true, false, List, [], ◌∷◌, length, sum_by, Option, Ok}
 use Rattle.vx_bits.specs.declared.list.Item.{Item}
 use Rattle.vx_layout.specs.Regions.{region_of}
 use Rattle.vx_table.specs.Depends.{Agree, set_of}
@@ -21,8 +21,9 @@ use Rattle.vx_pic.specs.Parts.{Parts, parts_of}
 use Rattle.vx_pic.specs.Units.{has_header_inside}
 use Rattle.vx_pic.specs.Readings.{Begun, Picture, is_whole}
 use Rattle.vx_pic.specs.Finished.{IsSound}
-use Rattle.vx_pic.specs.Written.{HeadReads, Plan, SliceReads, slices_of}
-use Rattle.vx_pic.specs.Rules.{Readers}
+use Rattle.vx_pic.specs.Written.{AreInOrder, HeadReads, Plan, SliceReads, slices_of}
+use Rattle.vx_pic.specs.Rules.{Readers, picture_limit, size_of, unit_size}
+use Rattle.vx_pic.specs.Whole.{HasAllInOrder}
 use Rattle.vx_pic.specs.H266.{AreOfH266}
 use Rattle.vx_extract.specs.Written.{IsExtracted}
 use Rattle.vx_extract.specs.Shapes.{id_in, sps_shape, pps_shape}
@@ -145,3 +146,16 @@ ExtractedUnitsAreRead =
     (R : Readers) (target : ℕ) (level : Option ℕ) (earlier : List Picture) (picture : Picture) (done : List Plan) (p : Plan)
     → AreOfH266 R → IsSound R earlier picture → is_whole picture ≡ true → AreInForce (parts_of picture)
     → target < subpics_of picture.begun.sps → IsExtracted target level (parts_of picture) done p → UnitsAreRead R p
+
+-- Its slices are those of the region, in order, and all units have no more bytes than a picture may have.
+pub record IsWholePlan (p : Plan) : Type 0 where
+  pub order : AreInOrder p.begun 0 (slices_of p)
+  pub all : length (slices_of p) ≡ length p.begun.layout.slices
+  pub size : unit_size p.begun.unit + sum_by (λ s. length s.unit) (slices_of p) ≤ picture_limit
+
+-- So it is with what is written for a picture that has all slices of its subpictures.
+abbrev pub ExtractedIsWhole : Type 0
+ExtractedIsWhole =
+    (target : ℕ) (level : Option ℕ) (picture : Picture) (done : List Plan) (p : Plan) → HasAllInOrder picture
+    → size_of picture ≤ picture_limit → target < length picture.begun.layout.subpics
+    → IsExtracted target level (parts_of picture) done p → IsWholePlan p

@@ -1,5 +1,5 @@
 //! Laws of what is written: functions that do nothing, each with a law as its contract.
-ghost use Rattle.vx_extract.specs.Again.{ExtractedUnitsAreRead, RewrittenAgree, RewrittenKeepFields, RewrittenKeepIds, RewrittenMakeRegion, RewrittenReadAlike};
+ghost use Rattle.vx_extract.specs.Again.{ExtractedIsWhole, ExtractedUnitsAreRead, RewrittenAgree, RewrittenKeepFields, RewrittenKeepIds, RewrittenMakeRegion, RewrittenReadAlike};
 
 use vx_layout::{region_is_layout, region_is_listable, region_keeps_slices, regions_nest};
 use vx_ph::sets_agree;
@@ -70,3 +70,8 @@ pub fn extracted_units_are_read()
     rewritten_make_region();
     rewritten_read_alike();
 }
+
+/// It has all slices of the region, in order, and no more bytes than a picture may have.
+pub fn extracted_is_whole()
+    ensures { ExtractedIsWhole }
+{}
