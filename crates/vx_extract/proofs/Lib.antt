@@ -23,3 +23,4 @@ pub mod AgainHeaders
 pub mod AgainSlices
 pub mod AgainUnits
 pub mod AgainOrder
+pub mod AgainSets

@@ -1,9 +1,12 @@
 -- What is written is read again: what the rewritten sets of a picture's subpicture make up.
 use Rattle.std.specs.List.{AllByRecursion}
-use Rattle.std.specs.Prelude.{◌≡◌, ℕ, ◌+◌, ◌<◌, ◌≤◌, Bool, true, false, List, [], ◌∷◌, length, sum_by, Option, Ok}
+use Rattle.std.specs.Prelude.{◌≡◌, ℕ, ◌+◌, ◌<◌, ◌≤◌, Bool, true, false, IsTrue, List, [], ◌∷◌, length, sum_by, All, Option, Ok}
 use Rattle.vx_bits.specs.declared.list.Item.{Item}
 use Rattle.vx_layout.specs.Regions.{region_of}
 use Rattle.vx_table.specs.Depends.{Agree, set_of}
+use Rattle.vx_aps.specs.Aps.{IsValid}
+use Rattle.vx_sei.specs.declared.message.Message.{Message}
+use Rattle.vx_sei.specs.Sei.{is_carried, spelled_length}
 use Rattle.vx_rpl.specs.HeaderLists.{lists_of}
 use Rattle.vx_sps.specs.Depends as sps_kept
 use Rattle.vx_sps.specs.Subpictures.{subpics_of, is_treated, is_filtered}
@@ -21,11 +24,11 @@ use Rattle.vx_pic.specs.Parts.{Parts, parts_of}
 use Rattle.vx_pic.specs.Units.{has_header_inside}
 use Rattle.vx_pic.specs.Readings.{Begun, Picture, is_whole}
 use Rattle.vx_pic.specs.Finished.{IsSound}
-use Rattle.vx_pic.specs.Written.{AreInOrder, HeadReads, Plan, SliceReads, slices_of}
-use Rattle.vx_pic.specs.Rules.{Readers, picture_limit, size_of, unit_size}
+use Rattle.vx_pic.specs.Written.{AreInOrder, HeadReads, Plan, Says, SeiReads, SeiUnit, Set, SliceReads, a_pps, an_aps, an_sps, slices_of}
+use Rattle.vx_pic.specs.Rules.{Readers, message_limit, picture_limit, size_of, unit_size}
 use Rattle.vx_pic.specs.Whole.{HasAllInOrder}
 use Rattle.vx_pic.specs.H266.{AreOfH266}
-use Rattle.vx_extract.specs.Written.{IsExtracted}
+use Rattle.vx_extract.specs.Written.{IsExtracted, IsSeiUnit, IsSetUnit}
 use Rattle.vx_extract.specs.Shapes.{id_in, sps_shape, pps_shape}
 use Rattle.vx_extract.specs.inner.ShapeFacts.{AreInForce}
 
@@ -129,6 +132,27 @@ abbrev pub RewrittenReadAlike : Type 0
 RewrittenReadAlike =
     (R : Readers) (target : ℕ) (level : Option ℕ) (q : Parts) (sps pps : List Item) → AreOfH266 R → AreInForce q
     → target < subpics_of q.sps → AreRewritten target level q sps pps → ReadUnder R target q sps pps
+
+-- ---- units of sets and messages
+
+-- a set that can be read again, where its unit is written
+abbrev pub IsReadable : Set → Type 0
+IsReadable (an_sps items) = Unit {0}
+IsReadable (a_pps items) = Unit {0}
+IsReadable (an_aps a) = IsValid a
+
+-- The unit of a set is read as the set,
+abbrev pub SetUnitsAreRead : Type 0
+SetUnitsAreRead =
+    (R : Readers) (tid : ℕ) (set : Set) (unit : List ℕ) → AreOfH266 R → tid < 7 → IsReadable set → IsSetUnit tid set unit
+    → Says R unit set
+
+-- and that of messages that are carried as these.
+abbrev pub SeiUnitsAreRead : Type 0
+SeiUnitsAreRead =
+    (R : Readers) (tid : ℕ) (messages : List Message) (unit : Option SeiUnit) → AreOfH266 R → tid < 7
+    → All (λ m. IsTrue (is_carried m.kind)) messages → spelled_length messages ≤ message_limit → IsSeiUnit tid messages unit
+    → SeiReads R unit
 
 -- ---- pictures of a stream
 

@@ -1,6 +1,7 @@
 //! Laws of what is written: functions that do nothing, each with a law as its contract.
-ghost use Rattle.vx_extract.specs.Again.{ExtractedIsWhole, ExtractedUnitsAreRead, RewrittenAgree, RewrittenKeepFields, RewrittenKeepIds, RewrittenMakeRegion, RewrittenReadAlike};
+ghost use Rattle.vx_extract.specs.Again.{ExtractedIsWhole, ExtractedUnitsAreRead, RewrittenAgree, RewrittenKeepFields, RewrittenKeepIds, RewrittenMakeRegion, RewrittenReadAlike, SeiUnitsAreRead, SetUnitsAreRead};
 
+use vx_aps::spelled_is_aps;
 use vx_layout::{region_is_layout, region_is_listable, region_keeps_slices, regions_nest};
 use vx_ph::sets_agree;
 use vx_pic::readers_are_unique;
@@ -75,3 +76,15 @@ pub fn extracted_units_are_read()
 pub fn extracted_is_whole()
     ensures { ExtractedIsWhole }
 {}
+
+/// The units of sets and of messages are read as these.
+pub fn set_units_are_read()
+    ensures sets { SetUnitsAreRead }
+    ensures messages { SeiUnitsAreRead }
+{
+    vx_sps::written_is_read();
+    vx_pps::written_is_read();
+    vx_sei::written_is_read();
+    spelled_is_aps();
+    readers_are_unique();
+}

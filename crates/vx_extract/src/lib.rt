@@ -24,5 +24,5 @@ pub use extractor::Extractor;
 pub use fault::{WriteError, WriteFirst};
 pub use laws::{
     extracted_is_whole, extracted_units_are_read, rewritten_agree, rewritten_keep_fields,
-    rewritten_make_region, rewritten_read_alike,
+    rewritten_make_region, rewritten_read_alike, set_units_are_read,
 };
