@@ -24,3 +24,4 @@ pub mod AgainSlices
 pub mod AgainUnits
 pub mod AgainOrder
 pub mod AgainSets
+pub mod AgainSent

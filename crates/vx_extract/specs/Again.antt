@@ -24,6 +24,8 @@ use Rattle.vx_pic.specs.Parts.{Parts, parts_of}
 use Rattle.vx_pic.specs.Units.{has_header_inside}
 use Rattle.vx_pic.specs.Readings.{Begun, Picture, is_whole}
 use Rattle.vx_pic.specs.Finished.{IsSound}
+use Rattle.vx_pic.specs.Alike.{AlikeForCounts}
+use Rattle.vx_pic.specs.Resident.{HasSet, Sends}
 use Rattle.vx_pic.specs.Written.{AreInOrder, HeadReads, Plan, Says, SeiReads, SeiUnit, Set, SliceReads, a_pps, an_aps, an_sps, slices_of}
 use Rattle.vx_pic.specs.Rules.{Readers, message_limit, picture_limit, size_of, unit_size}
 use Rattle.vx_pic.specs.Whole.{HasAllInOrder}
@@ -183,3 +185,19 @@ ExtractedIsWhole =
     (target : ℕ) (level : Option ℕ) (picture : Picture) (done : List Plan) (p : Plan) → HasAllInOrder picture
     → size_of picture ≤ picture_limit → target < length picture.begun.layout.subpics
     → IsExtracted target level (parts_of picture) done p → IsWholePlan p
+
+-- Of the sets that it needs, each of a type and an id of its own, among them its SPS and its PPS, those are sent that aren't resident.
+pub record SendsItsSets (done : List Plan) (p : Plan) : Type 0 where
+  pub sends : Sends done p
+  pub sps : HasSet sends.needed (an_sps p.begun.sps)
+  pub pps : HasSet sends.needed (a_pps p.begun.pps)
+
+abbrev pub ExtractedSendsItsSets : Type 0
+ExtractedSendsItsSets =
+    (target : ℕ) (level : Option ℕ) (q : Parts) (done : List Plan) (p : Plan) → IsExtracted target level q done p → SendsItsSets done p
+
+-- Its header tells the same of counts as the picture's.
+abbrev pub ExtractedIsAlike : Type 0
+ExtractedIsAlike =
+    (target : ℕ) (level : Option ℕ) (picture : Picture) (done : List Plan) (p : Plan)
+    → IsExtracted target level (parts_of picture) done p → AlikeForCounts picture.begun p.begun

@@ -1,5 +1,5 @@
 //! Laws of what is written: functions that do nothing, each with a law as its contract.
-ghost use Rattle.vx_extract.specs.Again.{ExtractedIsWhole, ExtractedUnitsAreRead, RewrittenAgree, RewrittenKeepFields, RewrittenKeepIds, RewrittenMakeRegion, RewrittenReadAlike, SeiUnitsAreRead, SetUnitsAreRead};
+ghost use Rattle.vx_extract.specs.Again.{ExtractedIsAlike, ExtractedIsWhole, ExtractedSendsItsSets, ExtractedUnitsAreRead, RewrittenAgree, RewrittenKeepFields, RewrittenKeepIds, RewrittenMakeRegion, RewrittenReadAlike, SeiUnitsAreRead, SetUnitsAreRead};
 
 use vx_aps::spelled_is_aps;
 use vx_layout::{region_is_layout, region_is_listable, region_keeps_slices, regions_nest};
@@ -88,3 +88,10 @@ pub fn set_units_are_read()
     spelled_is_aps();
     readers_are_unique();
 }
+
+/// Of the sets that a written picture needs no two have one type and id, and exactly those are sent that aren't resident; and its
+/// header tells the same of counts as that of the picture that it is written for.
+pub fn extracted_sends_its_sets()
+    ensures sets { ExtractedSendsItsSets }
+    ensures counts { ExtractedIsAlike }
+{}
