@@ -117,16 +117,16 @@ own_units : (units : List SetUnit) → HaveOwn (map (λ u. u.set) units) → Hav
 own_units [] own = tt
 own_units (u ∷ units) own = (others_of u.set units own.0, own_units units own.1)
 
-abbrev IsAmong : List Set → Set → Type 0
+abbrev pub IsAmong : List Set → Set → Type 0
 IsAmong [] s = ⊥
 IsAmong (x ∷ sets) s = (x ≡ s) ⊎ IsAmong sets s
 
-has_set : (units : List SetUnit) (s : Set) → IsAmong (map (λ u. u.set) units) s → HasSet units s
+pub has_set : (units : List SetUnit) (s : Set) → IsAmong (map (λ u. u.set) units) s → HasSet units s
 has_set [] s is = is
 has_set (u ∷ units) s (inl is) = inl is
 has_set (u ∷ units) s (inr more) = inr (has_set units s more)
 
-pub sends_again : (target : ℕ) (level : Option ℕ) (q : Parts) (done : List Plan) (p : Plan) → IsExtracted target level q done p → SendsItsSets done p
+pub sends_again : (target : ℕ) (level : Option ℕ) (q : Parts) (done : List Plan) (p : Plan) → (ex : IsExtracted target level q done p) → SendsItsSets ex.needed done p
 sends_again target level q done p ex =
     let tid : q.kind.temporal_id ≡ p.kind.temporal_id = ap (λ k. k.temporal_id) (sym ex.kind) in
     let sets : needed_sets q target p.begun.sps p.begun.pps ≡ map (λ u. u.set) ex.needed = sym ex.sets in
@@ -136,6 +136,7 @@ sends_again target level q done p ex =
         slots = own_units ex.needed (subst HaveOwn sets (own_sets q target p.begun.sps p.begun.pps));
         sent = ex.sent ∙ ap (λ t. filter (λ x. not (is_resident t (sent_before done p) x)) ex.needed) tid;
       };
+      same = refl;
       sps = has_set ex.needed (an_sps p.begun.sps) (subst (λ xs. IsAmong xs (an_sps p.begun.sps)) sets (inl refl));
       pps = has_set ex.needed (a_pps p.begun.pps) (subst (λ xs. IsAmong xs (a_pps p.begun.pps)) sets (inr (inl refl)));
     }

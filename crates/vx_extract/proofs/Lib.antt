@@ -25,3 +25,4 @@ pub mod AgainUnits
 pub mod AgainOrder
 pub mod AgainSets
 pub mod AgainSent
+pub mod AgainBodies

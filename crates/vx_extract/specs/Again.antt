@@ -1,9 +1,10 @@
 -- What is written is read again: what the rewritten sets of a picture's subpicture make up.
 use Rattle.std.specs.List.{AllByRecursion}
-use Rattle.std.specs.Prelude.{◌≡◌, ℕ, ◌+◌, ◌<◌, ◌≤◌, Bool, true, false, IsTrue, List, [], ◌∷◌, length, sum_by, All, Option, Ok}
+use Rattle.std.specs.Prelude.{◌≡◌, ℕ, ◌+◌, ◌<◌, ◌≤◌, Bool, true, false, IsTrue, List, [], ◌∷◌, length, sum_by, All, Option, Some, Ok}
 use Rattle.vx_bits.specs.declared.list.Item.{Item}
 use Rattle.vx_layout.specs.Regions.{region_of}
 use Rattle.vx_table.specs.Depends.{Agree, set_of}
+use Rattle.vx_aps.specs.declared.aps.Aps.{Aps}
 use Rattle.vx_aps.specs.Aps.{IsValid}
 use Rattle.vx_sei.specs.declared.message.Message.{Message}
 use Rattle.vx_sei.specs.Sei.{is_carried, spelled_length}
@@ -18,19 +19,19 @@ use Rattle.vx_ph.specs.Depends.{all_of_sets}
 use Rattle.vx_ph.specs.InForce.{in_force, structures}
 use Rattle.vx_sh.specs.Elsewhere.{given}
 use Rattle.vx_sh.specs.InForce.{slice_scope}
-use Rattle.vx_pic.specs.Sets.{SliceHeader, sps_id, pps_id, referred_sps, same_size}
+use Rattle.vx_pic.specs.Sets.{SliceHeader, Slot, names_of, sps_id, pps_id, referred_sps, same_size}
 use Rattle.vx_pic.specs.PictureLayout.{MakeLayout, ids_of, numbers_in}
-use Rattle.vx_pic.specs.Parts.{Parts, parts_of}
+use Rattle.vx_pic.specs.Parts.{AreThere, Parts, aps_at, parts_of}
 use Rattle.vx_pic.specs.Units.{has_header_inside}
 use Rattle.vx_pic.specs.Readings.{Begun, Picture, is_whole}
 use Rattle.vx_pic.specs.Finished.{IsSound}
 use Rattle.vx_pic.specs.Alike.{AlikeForCounts}
-use Rattle.vx_pic.specs.Resident.{HasSet, Sends}
-use Rattle.vx_pic.specs.Written.{AreInOrder, HeadReads, Plan, Says, SeiReads, SeiUnit, Set, SliceReads, a_pps, an_aps, an_sps, slices_of}
+use Rattle.vx_pic.specs.Resident.{HasSet, HaveNamed, Sends}
+use Rattle.vx_pic.specs.Written.{AreInOrder, HeadReads, Plan, Says, SeiReads, SeiUnit, Set, SetUnit, SliceReads, a_pps, an_aps, an_sps, slices_of}
 use Rattle.vx_pic.specs.Rules.{Readers, message_limit, picture_limit, size_of, unit_size}
 use Rattle.vx_pic.specs.Whole.{HasAllInOrder}
 use Rattle.vx_pic.specs.H266.{AreOfH266}
-use Rattle.vx_extract.specs.Written.{IsExtracted, IsSeiUnit, IsSetUnit}
+use Rattle.vx_extract.specs.Written.{IsExtracted, IsSeiUnit, IsSetUnit, named_in}
 use Rattle.vx_extract.specs.Shapes.{id_in, sps_shape, pps_shape}
 use Rattle.vx_extract.specs.inner.ShapeFacts.{AreInForce}
 
@@ -187,14 +188,31 @@ ExtractedIsWhole =
     → IsExtracted target level (parts_of picture) done p → IsWholePlan p
 
 -- Of the sets that it needs, each of a type and an id of its own, among them its SPS and its PPS, those are sent that aren't resident.
-pub record SendsItsSets (done : List Plan) (p : Plan) : Type 0 where
+pub record SendsItsSets (needed : List SetUnit) (done : List Plan) (p : Plan) : Type 0 where
   pub sends : Sends done p
+  pub same : sends.needed ≡ needed
   pub sps : HasSet sends.needed (an_sps p.begun.sps)
   pub pps : HasSet sends.needed (a_pps p.begun.pps)
 
 abbrev pub ExtractedSendsItsSets : Type 0
 ExtractedSendsItsSets =
-    (target : ℕ) (level : Option ℕ) (q : Parts) (done : List Plan) (p : Plan) → IsExtracted target level q done p → SendsItsSets done p
+    (target : ℕ) (level : Option ℕ) (q : Parts) (done : List Plan) (p : Plan) → (ex : IsExtracted target level q done p)
+    → SendsItsSets ex.needed done p
+
+-- Each adaptation parameter set of a picture can be written, as its type and id have it.
+abbrev pub HasReadableSets : Parts → Type 0
+HasReadableSets q = (slot : Slot) (a : Aps) → aps_at q.bodies slot.kind slot.id ≡ Some a
+    → IsValid (record { kind = slot.kind; id = slot.id; body = a.body })
+
+-- The sets that are needed can be read again, and among them are all that the slices name.
+pub record HasItsBodies (needed : List SetUnit) (p : Plan) : Type 0 where
+  pub readable : AllByRecursion (λ x. IsReadable x.set) needed
+  pub bodies : AllByRecursion (λ s. HaveNamed needed (names_of p.begun.pps p.begun.header s.header)) (slices_of p)
+
+abbrev pub ExtractedHasItsBodies : Type 0
+ExtractedHasItsBodies =
+    (target : ℕ) (level : Option ℕ) (q : Parts) (done : List Plan) (p : Plan) → AreInForce q → HasReadableSets q
+    → AreThere q.bodies (named_in q target) → (ex : IsExtracted target level q done p) → HasItsBodies ex.needed p
 
 -- Its header tells the same of counts as the picture's.
 abbrev pub ExtractedIsAlike : Type 0

@@ -1,5 +1,5 @@
 //! Laws of what is written: functions that do nothing, each with a law as its contract.
-ghost use Rattle.vx_extract.specs.Again.{ExtractedIsAlike, ExtractedIsWhole, ExtractedSendsItsSets, ExtractedUnitsAreRead, RewrittenAgree, RewrittenKeepFields, RewrittenKeepIds, RewrittenMakeRegion, RewrittenReadAlike, SeiUnitsAreRead, SetUnitsAreRead};
+ghost use Rattle.vx_extract.specs.Again.{ExtractedHasItsBodies, ExtractedIsAlike, ExtractedIsWhole, ExtractedSendsItsSets, ExtractedUnitsAreRead, RewrittenAgree, RewrittenKeepFields, RewrittenKeepIds, RewrittenMakeRegion, RewrittenReadAlike, SeiUnitsAreRead, SetUnitsAreRead};
 
 use vx_aps::spelled_is_aps;
 use vx_layout::{region_is_layout, region_is_listable, region_keeps_slices, regions_nest};
@@ -94,4 +94,9 @@ pub fn set_units_are_read()
 pub fn extracted_sends_its_sets()
     ensures sets { ExtractedSendsItsSets }
     ensures counts { ExtractedIsAlike }
+{}
+
+/// The adaptation parameter sets that it needs can be read again, and all that its slices name are among them.
+pub fn extracted_has_its_bodies()
+    ensures { ExtractedHasItsBodies }
 {}
