@@ -26,3 +26,5 @@ pub mod AgainOrder
 pub mod AgainSets
 pub mod AgainSent
 pub mod AgainBodies
+pub mod AgainSame
+pub mod AgainPlanned

@@ -38,7 +38,7 @@ in_pps_where_needed s p agree needed =
     let signalled = (and_parts (is_set (number s sps_fields.sps_subpic_id_mapping_explicitly_signalled_flag)) (not (is_set (number s sps_fields.sps_subpic_id_mapping_present_flag))) needed).0 in
     rw (signalled, flags_agree s p agree) needed
 
-not_in_pps_elsewhere : (s p : List Item) → ids_misplaced s p ≡ false → needs_ids s ≡ false → are_in_pps s p ≡ false
+pub not_in_pps_elsewhere : (s p : List Item) → ids_misplaced s p ≡ false → needs_ids s ≡ false → are_in_pps s p ≡ false
 not_in_pps_elsewhere s p agree none =
     and_false (is_set (number s sps_fields.sps_subpic_id_mapping_explicitly_signalled_flag)) (is_set (number p pps_fields.pps_subpic_id_mapping_present_flag)) (flags_agree s p agree ∙ none)
 

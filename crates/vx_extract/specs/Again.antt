@@ -1,6 +1,6 @@
 -- What is written is read again: what the rewritten sets of a picture's subpicture make up.
 use Rattle.std.specs.List.{AllByRecursion}
-use Rattle.std.specs.Prelude.{◌≡◌, ℕ, ◌+◌, ◌<◌, ◌≤◌, Bool, true, false, IsTrue, List, [], ◌∷◌, length, sum_by, All, Option, Some, Ok}
+use Rattle.std.specs.Prelude.{◌≡◌, ℕ, ◌+◌, ◌<◌, ◌≤◌, Bool, true, false, IsTrue, List, [], ◌∷◌, length, map, sum_by, All, Option, Some, Ok}
 use Rattle.vx_bits.specs.declared.list.Item.{Item}
 use Rattle.vx_layout.specs.Regions.{region_of}
 use Rattle.vx_table.specs.Depends.{Agree, set_of}
@@ -23,15 +23,15 @@ use Rattle.vx_pic.specs.Sets.{SliceHeader, Slot, names_of, sps_id, pps_id, refer
 use Rattle.vx_pic.specs.PictureLayout.{MakeLayout, ids_of, numbers_in}
 use Rattle.vx_pic.specs.Parts.{AreThere, Parts, aps_at, parts_of}
 use Rattle.vx_pic.specs.Units.{has_header_inside}
-use Rattle.vx_pic.specs.Readings.{Begun, Picture, is_whole}
-use Rattle.vx_pic.specs.Finished.{IsSound}
-use Rattle.vx_pic.specs.Alike.{AlikeForCounts}
-use Rattle.vx_pic.specs.Resident.{HasSet, HaveNamed, Sends}
+use Rattle.vx_pic.specs.Readings.{Begun, Picture, is_whole, messages_of}
+use Rattle.vx_pic.specs.Finished.{AreFinished, IsSound}
+use Rattle.vx_pic.specs.Alike.{AlikeForCounts, AreAlike}
+use Rattle.vx_pic.specs.Resident.{AreAllPlanned, HasSet, HaveNamed, Sends, planned_of}
 use Rattle.vx_pic.specs.Written.{AreInOrder, HeadReads, Plan, Says, SeiReads, SeiUnit, Set, SetUnit, SliceReads, a_pps, an_aps, an_sps, slices_of}
 use Rattle.vx_pic.specs.Rules.{Readers, message_limit, picture_limit, size_of, unit_size}
 use Rattle.vx_pic.specs.Whole.{HasAllInOrder}
 use Rattle.vx_pic.specs.H266.{AreOfH266}
-use Rattle.vx_extract.specs.Written.{IsExtracted, IsSeiUnit, IsSetUnit, named_in}
+use Rattle.vx_extract.specs.Written.{AreExtracted, IsExtracted, IsSeiUnit, IsSetUnit, named_in}
 use Rattle.vx_extract.specs.Shapes.{id_in, sps_shape, pps_shape}
 use Rattle.vx_extract.specs.inner.ShapeFacts.{AreInForce}
 
@@ -219,3 +219,24 @@ abbrev pub ExtractedIsAlike : Type 0
 ExtractedIsAlike =
     (target : ℕ) (level : Option ℕ) (picture : Picture) (done : List Plan) (p : Plan)
     → IsExtracted target level (parts_of picture) done p → AlikeForCounts picture.begun p.begun
+
+-- ---- all of them
+
+-- What is known of a picture of a stream, of which the subpicture is written: the facts of its sets; it has the subpicture, and all
+-- slices of each; its adaptation parameter sets can be written, and those that the subpicture's slices name are there; and its messages
+-- are carried.
+pub record IsReady (target : ℕ) (picture : Picture) : Type 0 where
+  pub in_force : AreInForce (parts_of picture)
+  pub has : target < subpics_of picture.begun.sps
+  pub each : HasAllInOrder picture
+  pub readable : HasReadableSets (parts_of picture)
+  pub there : AreThere (parts_of picture).bodies (named_in (parts_of picture) target)
+  pub carried : All (λ m. IsTrue (is_carried m.kind)) (messages_of picture)
+
+-- What is written for whole pictures that were read is as plans have to be, so that it is read again, and has the counts of these
+-- pictures.
+abbrev pub ExtractedArePlanned : Type 0
+ExtractedArePlanned =
+    (R : Readers) (target : ℕ) (level : Option ℕ) (pictures : List Picture) (done : List Plan) → AreOfH266 R → AreFinished R pictures
+    → AllByRecursion (IsReady target) pictures → AreExtracted target level (map parts_of pictures) done
+    → AreAllPlanned R done × AreAlike pictures (planned_of done)
