@@ -1,7 +1,7 @@
 -- Headers find under the rewritten sets what they find under the source's.
-use Rattle.std.proofs.Common.{◌≡◌, ◌≢◌, ◌⊎◌, ℕ, zero, suc, ◌+◌, ◌<◌, ◌≤◌, ◌==◌, ◌&&◌, ◌||◌, true, false, cond, not, Bool, IsFalse, IsTrue, List, [], ◌∷◌, length, map, slice_index, Option, None, Some, refl, ap, sym, subst, ◌∙◌, inl, inr, arith}
-use Rattle.std.specs.Prelude.{All, count_by, filter, nat_le, nat_lt}
-use Rattle.std.proofs.lemmas.Bool.{and_parts, cases_Bool, eq-eqb, eqb-true, false≢true, leb-true, ltb-true, not-false, or_cases, true≢false}
+use Rattle.std.proofs.Common.{◌≡◌, ◌≢◌, ℕ, zero, suc, ◌<◌, ◌≤◌, ◌==◌, ◌&&◌, ◌||◌, true, false, cond, Bool, IsFalse, IsTrue, List, [], ◌∷◌, map, slice_index, Option, refl, ap, sym, subst, ◌∙◌, inl, inr, arith}
+use Rattle.std.specs.Prelude.{All, nat_le, nat_lt}
+use Rattle.std.proofs.lemmas.Bool.{and_parts, cases_Bool, eqb-true, false≢true, leb-true, ltb-true, not-false, or_cases}
 use Rattle.std.proofs.lemmas.List.Elements.{All-cons, All-nil}
 use Rattle.vx_bits.specs.declared.list.Item.{Item}
 use Rattle.vx_fields.specs.declared.sps.TheConstants as sps_fields
@@ -21,15 +21,11 @@ use Rattle.vx_rpl.specs.HeaderLists.{lists_of}
 use Rattle.vx_rpl.specs.Resolved.{table_of}
 use Rattle.vx_sps.specs.declared.shape.SubpicPlan.TheVariants.{Absent, One}
 use Rattle.vx_sps.specs.declared.tables.TheConstants.{TAKEN}
-use Rattle.vx_sps.specs.Set.{IsItems, extra_ph_bits_of, extra_sh_bits_of, is_weighted, set_flags}
-use Rattle.vx_sps.specs.Depends as sps_kept
-use Rattle.vx_sps.specs.Reread.{ReshapedKeeps}
+use Rattle.vx_sps.specs.Set.{extra_ph_bits_of, extra_sh_bits_of, is_weighted, set_flags}
 use Rattle.vx_sps.proofs.Stated.{below}
 use Rattle.vx_sps.proofs.With.{with_field}
 use Rattle.vx_pps.specs.declared.shape.TheConstants.{TAKEN as TAKEN_OF_PPS}
-use Rattle.vx_pps.specs.Pps as pps_kept
 use Rattle.vx_pps.specs.Pps.{default_active}
-use Rattle.vx_pps.specs.Reshaped.{RegionKeeps}
 use Rattle.vx_ph.specs.declared.header.PictureHeader.{PictureHeader}
 use Rattle.vx_ph.specs.Depends.{all_of_sets}
 use Rattle.vx_ph.specs.InForce.{SetsAgree, in_force, structures}

@@ -1,21 +1,20 @@
 -- The adaptation parameter sets that a written picture needs can be read again, and all that its slices name are among them.
-use Rattle.std.proofs.Common.{◌≡◌, ◌⊎◌, ℕ, zero, suc, ◌+◌, ◌<◌, ◌≤◌, ◌==◌, ◌&&◌, ◌||◌, Bool, true, false, cond, not, List, [], ◌∷◌, ◌++◌, length, map, Option, Some, None, refl, ap, sym, subst, ◌∙◌, inl, inr, arith}
+use Rattle.std.proofs.Common.{◌≡◌, ◌⊎◌, ℕ, zero, suc, ◌+◌, ◌<◌, ◌≤◌, ◌&&◌, Bool, true, false, cond, List, [], ◌∷◌, ◌++◌, map, Option, Some, None, refl, ap, sym, subst, ◌∙◌, inl, inr, arith}
 use Rattle.std.specs.Prelude.{filter, flat_map, is_none, nat_lt, slice_index_or}
 use Rattle.std.specs.List.{AllByRecursion, list_any, range_with_len}
 use Rattle.std.proofs.lemmas.Bool.{and_parts, cases_Bool, cases_eq, eq-eqb, ltb-true, true≢false}
-use Rattle.vx_bits.specs.declared.list.Item.{Item}
 use Rattle.vx_aps.specs.declared.aps.Aps.{Aps}
 use Rattle.vx_aps.specs.declared.aps.TheConstants.{ALF, LMCS, SCALING}
 use Rattle.vx_aps.specs.Aps.{IsValid}
 use Rattle.vx_fields.specs.declared.pps.TheConstants as pps_fields
 use Rattle.vx_table.specs.Loaded.{number}
 use Rattle.vx_table.specs.Scope.{fresh}
-use Rattle.vx_pic.specs.Sets.{Slot, SliceHeader, names_of}
-use Rattle.vx_pic.specs.Parts.{AreThere, Parts, SlicePart, aps_at, id_count, named_by, read_of, slot_of}
-use Rattle.vx_pic.specs.Written.{Plan, Set, SetUnit, an_aps, slices_of}
+use Rattle.vx_pic.specs.Sets.{Slot, names_of}
+use Rattle.vx_pic.specs.Parts.{AreThere, Parts, SlicePart, aps_at, id_count, named_by, slot_of}
+use Rattle.vx_pic.specs.Written.{Plan, Set, SetUnit, an_aps}
 use Rattle.vx_pic.specs.Resident.{HasSet, HaveNamed}
-use Rattle.vx_extract.specs.Written.{IsExtracted, all_slots, aps_of_slot, is_named, named_in, needed_aps, needed_sets, parts_in, same_slot, set_of_slot, slice_alone, slots_of}
-use Rattle.vx_extract.specs.Again.{AreRewritten, HasItsBodies, HasReadableSets, IsReadable}
+use Rattle.vx_extract.specs.Written.{IsExtracted, all_slots, aps_of_slot, is_named, named_in, needed_aps, parts_in, same_slot, set_of_slot, slice_alone, slots_of}
+use Rattle.vx_extract.specs.Again.{HasItsBodies, HasReadableSets, IsReadable}
 use Rattle.vx_extract.specs.inner.ShapeFacts.{AreInForce}
 use Rattle.vx_extract.proofs.AgainAgree.{pps_taken}
 use Rattle.vx_extract.proofs.AgainSent.{IsAmong, has_set}

@@ -1,5 +1,5 @@
 -- Picture headers are read under the rewritten sets as under the source's.
-use Rattle.std.proofs.Common.{◌≡◌, ℕ, Bool, true, false, IsFalse, IsTrue, List, [], ◌∷◌, Result, Ok, Err, refl, ap, sym, subst, ◌∙◌}
+use Rattle.std.proofs.Common.{◌≡◌, ℕ, Bool, true, false, IsTrue, List, [], ◌∷◌, Result, Ok, Err, refl, sym, subst}
 use Rattle.std.proofs.lemmas.Bool.{both_ways}
 use Rattle.vx_bits.specs.declared.list.Item.{Item}
 use Rattle.vx_bits.specs.declared.refusal.Refusal.{Refusal}
@@ -9,8 +9,7 @@ use Rattle.vx_fields.specs.declared.ph.TheConstants.{ph_rbsp_trailing_bits}
 use Rattle.vx_table.specs.Again.{AllShown, shows_row}
 use Rattle.vx_table.specs.Claims.{behind_field, behind_rows, behind_table, depends, hides_row, knows_range, knows_width, table_depends}
 use Rattle.vx_table.specs.Depends.{Agree, Alike, Inside, at_ends, both, has, hidden_left, hidden_right, set_of, with_all}
-use Rattle.vx_table.specs.EachField.{EachField}
-use Rattle.vx_table.specs.Forms.{Form, ◌>>=◌, done, field, form_of, has_value}
+use Rattle.vx_table.specs.Forms.{Form, form_of, has_value}
 use Rattle.vx_table.specs.Reading.{Reads}
 use Rattle.vx_table.specs.Scope.{fresh}
 use Rattle.vx_table.proofs.Again.{answers_again, tables_show}

@@ -1,13 +1,13 @@
 -- What is written for a picture of a stream is whole, in order, and no larger than a picture may be.
-use Rattle.std.proofs.Common.{◌≡◌, ℕ, zero, suc, ◌+◌, ◌<◌, ◌≤◌, ◌==◌, Bool, true, false, cond, List, [], ◌∷◌, length, map, Option, Some, None, refl, ap, sym, subst, ◌∙◌, inl, inr, arith}
-use Rattle.std.specs.Prelude.{filter, sum_by}
+use Rattle.std.proofs.Common.{◌≡◌, ℕ, zero, suc, ◌+◌, ◌<◌, ◌≤◌, ◌==◌, List, [], ◌∷◌, length, map, Option, ap, sym, subst, ◌∙◌, inl, inr, arith}
+use Rattle.std.specs.Prelude.{sum_by}
 use Rattle.std.specs.List.{range_with_len}
 use Rattle.std.proofs.lemmas.Bool.{cases_Bool}
 use Rattle.std.proofs.lemmas.List.{length-map}
 use Rattle.std.proofs.lemmas.List.FromFn.{length-range_with_len}
 use Rattle.std.proofs.lemmas.List.Sums.{sum_by-cons}
 use Rattle.vx_layout.specs.Layouts.{slices_in, subpic_at}
-use Rattle.vx_layout.specs.Regions.{counted_from, region_of}
+use Rattle.vx_layout.specs.Regions.{counted_from}
 use Rattle.vx_pic.specs.Sets.{SliceHeader, address_of, place_of}
 use Rattle.vx_pic.specs.Readings.{Begun, Picture, Slice}
 use Rattle.vx_pic.specs.Parts.{parts_of}

@@ -1,26 +1,24 @@
 -- What is written for the pictures of a stream is as plans have to be, so that it is read again.
-use Rattle.std.proofs.Common.{◌≡◌, ℕ, ◌-◌, ◌%◌, ◌<◌, ◌==◌, ◌&&◌, Bool, true, not, List, [], ◌∷◌, map, Option, inl, inr, refl, ap, sym, subst, ◌∙◌, arith}
+use Rattle.std.proofs.Common.{◌≡◌, ℕ, ◌<◌, Bool, true, not, List, [], ◌∷◌, map, Option, inl, inr, refl, sym, subst, arith}
 use Rattle.std.specs.Prelude.{filter}
 use Rattle.std.specs.List.{AllByRecursion}
 use Rattle.std.proofs.lemmas.Bool.{cases_Bool, eq-eqb}
 use Rattle.std.proofs.lemmas.Bool.Decides.{Decides-int_eq}
 use Rattle.vx_bits.specs.declared.list.Item.{Item}
 use Rattle.vx_pps.specs.Sets.{SetsTellPartitions}
-use Rattle.vx_pic.specs.Units.{temporal_id}
-use Rattle.vx_pic.specs.Sets.{Slot, names_of, same_item, same_items}
+use Rattle.vx_pic.specs.Sets.{names_of, same_items}
 use Rattle.vx_pic.specs.Readings.{Picture, Slice, is_whole, messages_of}
 use Rattle.vx_pic.specs.Alike.{AreAlike, IsNext, KeepsSps}
-use Rattle.vx_pic.specs.Parts.{Parts, parts_of}
+use Rattle.vx_pic.specs.Parts.{parts_of}
 use Rattle.vx_pic.specs.Rules.{Readers}
 use Rattle.vx_pic.specs.H266.{AreOfH266}
 use Rattle.vx_pic.specs.Finished.{AreFinished, IsSound}
-use Rattle.vx_pic.specs.Edited.{AreEdits, EditsArePlanned, IsEdit}
+use Rattle.vx_pic.specs.Edited.{AreEdits, EditsArePlanned}
 use Rattle.vx_pic.specs.Written.{Plan, Says, SetUnit, SliceReads, slices_of}
-use Rattle.vx_pic.specs.Resident.{AreAllPlanned, HasSet, HaveNamed, IsPlanned, is_resident, planned_of, sent_before}
+use Rattle.vx_pic.specs.Resident.{AreAllPlanned, HaveNamed, IsPlanned, is_resident, planned_of, sent_before}
 use Rattle.vx_pic.proofs.Sent.{items_are}
 use Rattle.vx_extract.specs.Written.{AreExtracted, IsExtracted, IsSetUnit}
 use Rattle.vx_extract.specs.Again.{ExtractedHasItsBodies, ExtractedIsAlike, ExtractedIsWhole, ExtractedSendsItsSets, ExtractedUnitsAreRead, IsReadable, IsReady, SeiUnitsAreRead, SetUnitsAreRead}
-use Rattle.vx_extract.specs.inner.ShapeFacts.{AreInForce}
 use Rattle.vx_extract.proofs.AgainSame.{same_again}
 use Rattle.vx_extract.proofs.ShapesSizes.{subpics_count}
 

@@ -1,5 +1,5 @@
 -- One SPS is rewritten one way for a subpicture, whatever the picture has besides.
-use Rattle.std.proofs.Common.{◌≡◌, ℕ, ◌+◌, ◌<◌, ◌==◌, ◌&&◌, Bool, true, false, cond, not, List, [], ◌∷◌, map, slice_index, Option, Some, None, refl, ap, sym, subst, ◌∙◌, inl, inr, arith}
+use Rattle.std.proofs.Common.{◌≡◌, ℕ, ◌<◌, false, cond, List, map, slice_index, Option, Some, None, refl, ap, subst, ◌∙◌, inl, inr, arith}
 use Rattle.std.specs.List.{range_with_len}
 use Rattle.std.proofs.lemmas.Bool.{cases_Bool}
 use Rattle.std.proofs.lemmas.List.FromFn.{get_or-map-range_with_len}
@@ -12,7 +12,6 @@ use Rattle.vx_table.specs.Scope.{is_set}
 use Rattle.vx_table.specs.Shown.{shown_items}
 use Rattle.vx_table.proofs.Rewriting.{rewrites_one_way}
 use Rattle.vx_sps.specs.declared.shape.SpsShape.{SpsShape}
-use Rattle.vx_sps.specs.declared.shape.SubpicPlan.{SubpicPlan}
 use Rattle.vx_sps.specs.declared.shape.SubpicPlan.TheVariants.{Absent, One}
 use Rattle.vx_sps.specs.declared.tables.TheConstants.{TAKEN}
 use Rattle.vx_sps.specs.Structure.{sps_form}
@@ -25,7 +24,7 @@ use Rattle.vx_pic.specs.Inputs.{luma_size}
 use Rattle.vx_pic.specs.Sets.{sps_id}
 use Rattle.vx_pic.specs.Parts.{Parts}
 use Rattle.vx_pic.specs.PictureLayout.{ids_of, needs_ids}
-use Rattle.vx_extract.specs.Shapes.{dpb_of, id_in, level_of, plan_of, sps_shape, window_of}
+use Rattle.vx_extract.specs.Shapes.{dpb_of, id_in, level_of, sps_shape, window_of}
 use Rattle.vx_extract.specs.inner.ShapeFacts.{AreInForce}
 use Rattle.vx_extract.proofs.ShapesIdBits.{not_in_pps_elsewhere}
 use Rattle.vx_extract.proofs.ShapesSizes.{has_size}

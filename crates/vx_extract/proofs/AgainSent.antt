@@ -6,16 +6,15 @@ use Rattle.std.proofs.lemmas.Bool.{and_parts, cases_Bool, not-true}
 use Rattle.vx_bits.specs.declared.list.Item.{Item}
 use Rattle.vx_aps.specs.declared.aps.Aps.{Aps}
 use Rattle.vx_fields.specs.declared.sps.TheConstants as sps_fields
-use Rattle.vx_table.specs.Loaded.{number}
 use Rattle.vx_table.specs.Scope.{fresh}
 use Rattle.vx_pic.specs.Sets.{Slot, is_non_ref, lsb_of, max_lsb, msb_cycle}
-use Rattle.vx_pic.specs.Readings.{Begun, Picture}
+use Rattle.vx_pic.specs.Readings.{Picture}
 use Rattle.vx_pic.specs.Alike.{AlikeForCounts}
 use Rattle.vx_pic.specs.Parts.{Parts, aps_at, parts_of}
 use Rattle.vx_pic.specs.Written.{Plan, Set, SetUnit, a_pps, an_aps, an_sps}
 use Rattle.vx_pic.specs.Resident as resident
 use Rattle.vx_pic.specs.Resident.{HasSet, HaveOwnSlots, Sends, is_resident, sent_before}
-use Rattle.vx_extract.specs.Written.{IsExtracted, all_slots, aps_of_slot, is_named, needed_aps, needed_sets, same_slot, set_of_slot}
+use Rattle.vx_extract.specs.Written.{IsExtracted, all_slots, aps_of_slot, is_named, needed_sets, same_slot, set_of_slot}
 use Rattle.vx_extract.specs.Again.{SendsItsSets}
 use Rattle.vx_extract.proofs.AgainSps.{sps_taken}
 

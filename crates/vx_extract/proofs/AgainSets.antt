@@ -1,15 +1,13 @@
 -- The units of sets and messages that are written are read as these.
-use Rattle.std.proofs.Common.{◌≡◌, ◌⊎◌, ℕ, zero, suc, ◌+◌, ◌*◌, ◌/◌, ◌%◌, ◌<◌, ◌≤◌, ◌==◌, Bool, true, false, cond, IsTrue, List, [], ◌∷◌, ◌++◌, length, drop, slice_index, Option, Some, None, Result, Ok, Err, refl, ap, sym, subst, ◌∙◌, inl, inr, arith}
+use Rattle.std.proofs.Common.{◌≡◌, ◌⊎◌, ℕ, zero, suc, ◌+◌, ◌*◌, ◌/◌, ◌%◌, ◌<◌, ◌≤◌, ◌==◌, IsTrue, List, [], ◌∷◌, ◌++◌, length, drop, slice_index, Option, Some, None, Result, Ok, Err, refl, ap, sym, subst, ◌∙◌, inl, inr, arith}
 use Rattle.std.specs.Prelude.{All}
 use Rattle.std.proofs.lemmas.Bool.{cases_Bool}
 use Rattle.vx_bits.specs.declared.list.Item.{Item}
 use Rattle.vx_bits.specs.declared.refusal.Refusal.{Refusal}
-use Rattle.vx_bits.specs.declared.refusal.ReadError.{ReadError}
 use Rattle.vx_bits.specs.declared.refusal.ReadError.TheVariants as errors
-use Rattle.vx_annexb.specs.Emulation.{IsEscaped, is_emulation, unescaped, unescaped_to}
-use Rattle.vx_annexb.specs.NalUnit.{nal_unit_type, nuh_layer_id, nuh_reserved_zero_bit}
-use Rattle.vx_aps.specs.declared.aps.Aps.{Aps}
-use Rattle.vx_aps.specs.Aps.{IsAnswer, IsValid, spelled}
+use Rattle.vx_annexb.specs.Emulation.{IsEscaped, is_emulation, unescaped_to}
+use Rattle.vx_annexb.specs.NalUnit.{nal_unit_type}
+use Rattle.vx_aps.specs.Aps.{spelled}
 use Rattle.vx_aps.specs.Laws.{SpelledIsAps}
 use Rattle.vx_sei.specs.declared.message.Message.{Message}
 use Rattle.vx_sei.specs.Sei.{IsSei, is_carried, spelled_length}
@@ -23,7 +21,7 @@ use Rattle.vx_pic.specs.Rules.{Readers, message_limit}
 use Rattle.vx_pic.specs.H266.{AreOfH266}
 use Rattle.vx_pic.specs.H266Laws.{HaveOneAnswer}
 use Rattle.vx_pic.specs.Written.{IsPlain, Says, SeiReads, SeiUnit, Set, a_pps, an_aps, an_sps}
-use Rattle.vx_extract.specs.Written.{IsSeiUnit, IsSetUnit, IsUnitOf, header_bytes}
+use Rattle.vx_extract.specs.Written.{IsSeiUnit, IsSetUnit, IsUnitOf}
 use Rattle.vx_extract.specs.Again.{IsReadable}
 
 -- ---- the header of a unit

@@ -1,5 +1,5 @@
 -- Slices are read under the rewritten sets as under the source's, as those of the one subpicture.
-use Rattle.std.proofs.Common.{◌≡◌, ◌⊎◌, ℕ, zero, suc, ◌+◌, ◌-◌, ◌*◌, ◌<◌, ◌≤◌, ◌==◌, ◌&&◌, Bool, true, false, cond, List, [], ◌∷◌, ◌++◌, length, length-append, map, slice_index, Result, Ok, Err, refl, ap, sym, subst, ◌∙◌, inl, inr, arith}
+use Rattle.std.proofs.Common.{◌≡◌, ◌⊎◌, ℕ, zero, suc, ◌+◌, ◌-◌, ◌*◌, ◌<◌, ◌≤◌, ◌==◌, ◌&&◌, Bool, true, false, cond, List, [], ◌∷◌, length, length-append, map, slice_index, Ok, refl, ap, sym, subst, ◌∙◌, inl, inr, arith}
 use Rattle.std.specs.Prelude.{filter, nat_lt, slice_index_or}
 use Rattle.std.proofs.lemmas.Bool.{cases_Bool, cases_eq, eq-eqb, eqb-true, lt-ltb, ltb-true, true≢false}
 use Rattle.std.proofs.lemmas.List.{length-map}
@@ -19,11 +19,8 @@ use Rattle.vx_layout.specs.Scan.{entries}
 use Rattle.vx_layout.proofs.Entries.{entries-empty, entries-is, rows_met}
 use Rattle.vx_layout.proofs.Holding.{fits_tells}
 use Rattle.vx_layout.proofs.Moving.{last-cut}
-use Rattle.vx_rpl.specs.declared.entry.RefLists.{RefLists}
-use Rattle.vx_ph.specs.declared.header.PictureHeader.{PictureHeader}
-use Rattle.vx_ph.specs.InForce.{in_force, structures}
+use Rattle.vx_ph.specs.InForce.{in_force}
 use Rattle.vx_sps.specs.Subpictures.{subpics_of}
-use Rattle.vx_sh.specs.declared.header.SliceHeader.{SliceHeader as SliceValue}
 use Rattle.vx_sh.specs.Elsewhere.{AgreeAt, HaveSubpicture, SliceReadElsewhere, given}
 use Rattle.vx_sh.specs.InForce.{SliceScopesAreWhole, slice_scope}
 use Rattle.vx_sh.specs.Value.{NumbersAreTold}

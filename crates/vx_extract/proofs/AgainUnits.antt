@@ -1,5 +1,5 @@
 -- The units of what is written for a picture of a stream are read again as the plan says.
-use Rattle.std.proofs.Common.{◌≡◌, ℕ, pos, zero, suc, ◌+◌, ◌*◌, ◌<◌, ◌≤◌, ◌==◌, ◌&&◌, Bool, true, false, cond, List, [], ◌∷◌, length, map, Option, Some, None, Ok, refl, ap, sym, subst, ◌∙◌, inl, inr, arith}
+use Rattle.std.proofs.Common.{◌≡◌, ℕ, pos, ◌+◌, ◌≤◌, ◌==◌, Bool, true, false, List, [], ◌∷◌, length, map, Option, Some, None, Ok, refl, ap, sym, subst, ◌∙◌, inl, inr, arith}
 use Rattle.std.specs.Prelude.{filter, find, option_map, unwrap_or}
 use Rattle.std.specs.List.{AllByRecursion}
 use Rattle.std.proofs.lemmas.Bool.{cases_Bool, eqb-true}
@@ -7,22 +7,18 @@ use Rattle.std.proofs.lemmas.List.{length-map}
 use Rattle.vx_bits.specs.declared.list.Item.{Item}
 use Rattle.vx_fields.specs.declared.sps.TheConstants as sps_fields
 use Rattle.vx_fields.specs.declared.pps.TheConstants as pps_fields
-use Rattle.vx_table.specs.Depends.{has, set_of}
 use Rattle.vx_table.specs.Loaded.{number}
-use Rattle.vx_table.specs.Scope.{fresh, is_set}
+use Rattle.vx_table.specs.Scope.{fresh}
 use Rattle.vx_layout.specs.Layouts.{slices_in, subpic_at}
 use Rattle.vx_layout.specs.Rects.{fits}
-use Rattle.vx_layout.specs.Regions.{counted_from, region_of}
+use Rattle.vx_layout.specs.Regions.{counted_from}
 use Rattle.vx_layout.specs.declared.rect.Rect.{Rect}
-use Rattle.vx_pps.specs.declared.shape.TheConstants.{TAKEN as TAKEN_OF_PPS}
 use Rattle.vx_sps.proofs.With.{with_field}
-use Rattle.vx_sps.specs.Subpictures.{subpics_of}
-use Rattle.vx_pic.specs.Units.{has_header_inside, rbsp_of, temporal_id}
-use Rattle.vx_pic.specs.Sets.{SliceHeader, is_qp, pps_id, qp_delta, referred_sps, signed, slice_qp, sps_id}
+use Rattle.vx_pic.specs.Units.{has_header_inside, rbsp_of}
+use Rattle.vx_pic.specs.Sets.{SliceHeader, is_qp, signed, slice_qp}
 use Rattle.vx_pic.specs.Readings.{Begun, Picture, Slice, is_whole}
-use Rattle.vx_pic.specs.Parts.{Parts, SlicePart, parts_of, slice_part}
+use Rattle.vx_pic.specs.Parts.{SlicePart, parts_of, slice_part}
 use Rattle.vx_pic.specs.Rules.{Readers}
-use Rattle.vx_pic.specs.H266.{AreOfH266}
 use Rattle.vx_pic.specs.Finished.{IsSound}
 use Rattle.vx_pic.specs.Written.{HeadReads, HeaderReads, Plan, SliceReads, slices_of}
 use Rattle.vx_extract.specs.Written.{IsExtracted, slice_alone}
