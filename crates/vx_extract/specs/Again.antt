@@ -26,7 +26,7 @@ use Rattle.vx_pic.specs.Units.{has_header_inside}
 use Rattle.vx_pic.specs.Readings.{Begun, Picture, is_whole, messages_of}
 use Rattle.vx_pic.specs.Finished.{AreFinished, IsSound}
 use Rattle.vx_pic.specs.Alike.{AlikeForCounts, AreAlike}
-use Rattle.vx_pic.specs.Resident.{AreAllPlanned, HasSet, HaveNamed, Sends, planned_of}
+use Rattle.vx_pic.specs.Resident.{AllReadAgain, AreAllPlanned, HasSet, HaveNamed, Sends, planned_of}
 use Rattle.vx_pic.specs.Written.{AreInOrder, HeadReads, Plan, Says, SeiReads, SeiUnit, Set, SetUnit, SliceReads, a_pps, an_aps, an_sps, slices_of}
 use Rattle.vx_pic.specs.Rules.{Readers, message_limit, picture_limit, size_of, unit_size}
 use Rattle.vx_pic.specs.Whole.{HasAllInOrder}
@@ -240,3 +240,9 @@ ExtractedArePlanned =
     (R : Readers) (target : ℕ) (level : Option ℕ) (pictures : List Picture) (done : List Plan) → AreOfH266 R → AreFinished R pictures
     → AllByRecursion (IsReady target) pictures → AreExtracted target level (map parts_of pictures) done
     → AreAllPlanned R done × AreAlike pictures (planned_of done)
+
+-- So their units are read, and the pictures are those that were written, all whole.
+abbrev pub ExtractedReadsAgain : Type 0
+ExtractedReadsAgain =
+    (R : Readers) (target : ℕ) (level : Option ℕ) (pictures : List Picture) (done : List Plan) → AreOfH266 R → AreFinished R pictures
+    → AllByRecursion (IsReady target) pictures → AreExtracted target level (map parts_of pictures) done → AllReadAgain R done

@@ -1,10 +1,10 @@
 //! Laws of what is written: functions that do nothing, each with a law as its contract.
-ghost use Rattle.vx_extract.specs.Again.{ExtractedArePlanned, ExtractedHasItsBodies, ExtractedIsAlike, ExtractedIsWhole, ExtractedSendsItsSets, ExtractedUnitsAreRead, RewrittenAgree, RewrittenKeepFields, RewrittenKeepIds, RewrittenMakeRegion, RewrittenReadAlike, SeiUnitsAreRead, SetUnitsAreRead};
+ghost use Rattle.vx_extract.specs.Again.{ExtractedArePlanned, ExtractedHasItsBodies, ExtractedIsAlike, ExtractedIsWhole, ExtractedReadsAgain, ExtractedSendsItsSets, ExtractedUnitsAreRead, RewrittenAgree, RewrittenKeepFields, RewrittenKeepIds, RewrittenMakeRegion, RewrittenReadAlike, SeiUnitsAreRead, SetUnitsAreRead};
 
 use vx_aps::spelled_is_aps;
 use vx_layout::{region_is_layout, region_is_listable, region_keeps_slices, regions_nest};
 use vx_ph::sets_agree;
-use vx_pic::{edits_are_planned, readers_are_unique};
+use vx_pic::{edits_are_planned, readers_are_unique, written_reads_again};
 use vx_pps::{
     read_slices_are_listable, region_keeps, reshaped_has_its_tiles, sets_tell_partitions,
 };
@@ -101,8 +101,7 @@ pub fn extracted_has_its_bodies()
     ensures { ExtractedHasItsBodies }
 {}
 
-/// What is written for the pictures of a stream is as plans have to be: so it is read again as the subpicture of these pictures,
-/// with their counts ([`vx_pic::written_reads_again`]).
+/// What is written for the pictures of a stream is as plans have to be, and has the counts of these pictures.
 pub fn extracted_are_planned()
     ensures { ExtractedArePlanned }
 {
@@ -113,4 +112,12 @@ pub fn extracted_are_planned()
     extracted_has_its_bodies();
     set_units_are_read();
     edits_are_planned();
+}
+
+/// So it is read again: exactly the pictures that were written, and all whole.
+pub fn extracted_reads_again()
+    ensures { ExtractedReadsAgain }
+{
+    extracted_are_planned();
+    written_reads_again();
 }
