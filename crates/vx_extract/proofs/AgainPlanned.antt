@@ -58,8 +58,10 @@ module _ (R : Readers) (of : AreOfH266 R) (target : ℕ) (tells : SetsTellPartit
         let low = low_tid earlier pic sound in
         let can : AllByRecursion (λ (u : SetUnit). IsReadable u.set) p.sent =
         subst (λ xs. AllByRecursion (λ (u : SetUnit). IsReadable u.set) xs) (sym ex.sent) (fewer_units (λ (u : SetUnit). IsReadable u.set) (λ x. not (is_resident pic.kind.temporal_id (sent_before done p) x)) ex.needed own.readable) in
+        let written : AllByRecursion (λ (u : SetUnit). IsSetUnit pic.kind.temporal_id u.set u.unit) p.sent =
+        subst (λ xs. AllByRecursion (λ (u : SetUnit). IsSetUnit pic.kind.temporal_id u.set u.unit) xs) (sym ex.sent) (fewer_units (λ (u : SetUnit). IsSetUnit pic.kind.temporal_id u.set u.unit) (λ x. not (is_resident pic.kind.temporal_id (sent_before done p) x)) ex.needed ex.units) in
         record {
-          sets = all_say pic.kind.temporal_id p.sent low can ex.units;
+          sets = all_say pic.kind.temporal_id p.sent low can written;
           sends = sent.sends;
           pps = sent.pps;
           sps = sent.sps;
