@@ -119,7 +119,7 @@ size_stated log2 shape items low ctb can d =
 
 -- ---- the front
 
-ids_pass : (test : ℕ → Bool) → test 413 ≡ true → test 414 ≡ true → test 415 ≡ true → test 416 ≡ true → (whole : ℕ) (id : Option (ℕ × ℕ)) → Passing test (id_items whole id)
+pub ids_pass : (test : ℕ → Bool) → test 413 ≡ true → test 414 ≡ true → test 415 ≡ true → test 416 ≡ true → (whole : ℕ) (id : Option (ℕ × ℕ)) → Passing test (id_items whole id)
 ids_pass test a b c d whole None = (a, tt)
 ids_pass test a b c d whole (Some (bits, id)) = (a, passing_append test (where_so (whole == 0) (item 414 (pos 0))) (item 415 (pos bits) ++ item 416 (pos id)) (passing_where test (whole == 0) (item 414 (pos 0)) (b, tt)) (c, (d, tt)))
 
@@ -185,7 +185,7 @@ module _ (q : Parts) (target : ℕ) (items : List Item) (set : IsItems q.pps) (i
   abbrev shape_of : PpsShape
   shape_of = pps_shape q target
 
-  stated_with : (of : ℕ) → IsFalse (has (set_of TAKEN) of) → with_field of items ≡ with_field of (front_items whole_flag_of shape_of ++ re.stated.division)
+  pub stated_with : (of : ℕ) → IsFalse (has (set_of TAKEN) of) → with_field of items ≡ with_field of (front_items whole_flag_of shape_of ++ re.stated.division)
   stated_with of outside =
       sym (others_with (set_of TAKEN) of items outside) ∙ ap (λ xs. with_field of xs) (re.rewritten.other_ones ∙ re.stated.all)
       ∙ ap (λ xs. with_field of (front_items whole_flag_of shape_of ++ xs)) (append-nil re.stated.division)

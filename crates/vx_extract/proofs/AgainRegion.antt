@@ -77,7 +77,7 @@ whole_fits n k is one within =
     ]
 
 -- so its region has one slice
-one_slice : (n : Numbers) (k : ℕ) → IsLayout n → n.slices ≡ whole_picture (width n) (height n) ∷ [] → k < length n.subpics
+pub one_slice : (n : Numbers) (k : ℕ) → IsLayout n → n.slices ≡ whole_picture (width n) (height n) ∷ [] → k < length n.subpics
     → (region_of n k).slices ≡ whole_picture (subpic_at n k).w (subpic_at n k).h ∷ []
 one_slice n k is one within =
     let s : Rect = subpic_at n k in
@@ -139,10 +139,10 @@ module _ (tells : SetsTellPartitions) (reads : ReadSlicesAreListable) (listables
   sps_fits : sps_reshaped.IsShape (sps.ctb_size_of q.sps) (sps_shape q target level)
   sps_fits = sps_is_shape tells q target level are within
 
-  pps_fits : pps_reshaped.IsShape q.pps (pps_shape q target)
+  pub pps_fits : pps_reshaped.IsShape q.pps (pps_shape q target)
   pps_fits = pps_is_shape tells reads listables regions q target are within
 
-  said : Says q.sps (sps_shape q target level) s
+  pub said : Says q.sps (sps_shape q target level) s
   said = says q.sps s (sps_shape q target level) are.sps sps_fits re.of_sps
 
   abbrev rect : Rect
@@ -151,7 +151,7 @@ module _ (tells : SetsTellPartitions) (reads : ReadSlicesAreListable) (listables
   here : target < length q.layout.subpics
   here = let count = subpics_count q are in omega (arith, within, count)
 
-  sides : HasSides q target
+  pub sides : HasSides q target
   sides = has_sides_in tells q target are within
 
   large : 32 ≤ sps.ctb_size_of q.sps
@@ -189,25 +189,27 @@ module _ (tells : SetsTellPartitions) (reads : ReadSlicesAreListable) (listables
   first_only : 0 < count_in (plan_of q target)
   first_only = let one = counted in omega (arith, one)
 
+  pub rect_is : rect_of s 0 ≡ whole_picture rect.w rect.h
+  rect_is =
+      said.rect 0 first_only ∙ rect_alone (quotient (width_in q target) (sps.ctb_size_of q.sps)) (quotient (height_in q target) (sps.ctb_size_of q.sps)) (plan_of q target) (plan_alone q target)
+      ∙ ap (λ w. whole_picture w (quotient (height_in q target) (sps.ctb_size_of q.sps))) across ∙ ap (λ h. whole_picture rect.w h) down
+
   subpictures : subpictures_of s ≡ whole_picture rect.w rect.h ∷ []
-  subpictures =
-      ap (λ n. map (rect_of s) (range_with_len 0 n)) alone
-      ∙ ap (λ r. r ∷ []) (said.rect 0 first_only ∙ rect_alone (quotient (width_in q target) (sps.ctb_size_of q.sps)) (quotient (height_in q target) (sps.ctb_size_of q.sps)) (plan_of q target) (plan_alone q target)
-      ∙ ap (λ w. whole_picture w (quotient (height_in q target) (sps.ctb_size_of q.sps))) across ∙ ap (λ h. whole_picture rect.w h) down)
+  subpictures = ap (λ n. map (rect_of s) (range_with_len 0 n)) alone ∙ ap (λ r. r ∷ []) rect_is
 
   -- ---- tiles and slices
 
   still : pps.is_partitioned p ≡ pps.is_partitioned q.pps
   still = ap (λ n. not (is_set n)) (pps_whole q target p are.pps pps_fits re.of_pps)
 
-  corner : subpic_at q.layout target ≡ rect
+  pub corner : subpic_at q.layout target ≡ rect
   corner = subpic_is q target are within
 
   part : IsPart (width q.layout) (height q.layout) rect
   part = part_of q target are within
 
   module _ (is : pps.is_partitioned q.pps ≡ true) where
-    whole : number q.pps pps_fields.pps_no_pic_partition_flag ≡ 0
+    pub whole : number q.pps pps_fields.pps_no_pic_partition_flag ≡ 0
     whole = partitioned (number q.pps pps_fields.pps_no_pic_partition_flag) is
 
     its : (pps.columns_of p ≡ (region_of q.layout target).columns) × (pps.rows_of p ≡ (region_of q.layout target).rows) × (pps.slices_of p ≡ Some (region_of q.layout target).slices)
@@ -235,15 +237,15 @@ module _ (tells : SetsTellPartitions) (reads : ReadSlicesAreListable) (listables
     old_rows : q.layout.rows ≡ one_tile (sps.rows_of q.sps)
     old_rows = ap (λ n. n.rows) are.numbers ∙ rw none refl
 
-    old_slices : q.layout.slices ≡ whole_picture (width q.layout) (height q.layout) ∷ []
+    pub old_slices : q.layout.slices ≡ whole_picture (width q.layout) (height q.layout) ∷ []
     old_slices = ap (λ n. n.slices) are.numbers ∙ rw (none, old_columns, old_rows) refl
 
-    new_columns : (region_of q.layout target).columns ≡ one_tile rect.w
+    pub new_columns : (region_of q.layout target).columns ≡ one_tile rect.w
     new_columns =
         let fit : rect.x + rect.w ≤ sps.columns_of q.sps = rw old_columns at part.across in
         ap (λ r. cut q.layout.columns r.x r.w) corner ∙ ap (λ c. cut c rect.x rect.w) old_columns ∙ cut_one (sps.columns_of q.sps) rect.x rect.w fit
 
-    new_rows : (region_of q.layout target).rows ≡ one_tile rect.h
+    pub new_rows : (region_of q.layout target).rows ≡ one_tile rect.h
     new_rows =
         let fit : rect.y + rect.h ≤ sps.rows_of q.sps = rw old_rows at part.down in
         ap (λ r. cut q.layout.rows r.y r.h) corner ∙ ap (λ c. cut c rect.y rect.h) old_rows ∙ cut_one (sps.rows_of q.sps) rect.y rect.h fit

@@ -41,7 +41,7 @@ use Rattle.vx_extract.proofs.ShapesSizes.{subpics_count}
 
 -- ---- entry points
 
-cut_length : (bounds : List ℕ) (from size : ℕ) → length (cut bounds from size) ≡ length (inner bounds from size) + 2
+pub cut_length : (bounds : List ℕ) (from size : ℕ) → length (cut bounds from size) ≡ length (inner bounds from size) + 2
 cut_length bounds from size = omega (arith, length-append (map (λ b. b - from) (inner bounds from size)) (size ∷ []), length-map (inner bounds from size) (λ b. b - from))
 
 -- as many bounds pass through a rectangle of a region

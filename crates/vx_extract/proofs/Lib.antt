@@ -28,3 +28,5 @@ pub mod AgainSent
 pub mod AgainBodies
 pub mod AgainSame
 pub mod AgainPlanned
+pub mod KeptFlags
+pub mod KeptPlace

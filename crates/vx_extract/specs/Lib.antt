@@ -1,6 +1,7 @@
 -- What the contracts of this crate cite.
 pub mod Again
 pub mod Extracting
+pub mod Kept
 pub mod Rules
 pub mod Shapes
 pub mod Written

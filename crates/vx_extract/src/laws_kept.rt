@@ -1,0 +1,20 @@
+//! Laws of what stays: functions that do nothing, each with a law as its contract.
+ghost use Rattle.vx_extract.specs.Kept.{RewrittenKeepPlaces};
+
+use vx_layout::{region_is_layout, region_is_listable, regions_nest};
+use vx_pps::{read_slices_are_listable, reshaped_has_its_tiles, sets_tell_partitions};
+use vx_sps::reshaped_says;
+
+/// The place of a slice in the region, under the rewritten sets, is its place in the subpicture: width and height, tiles and
+/// slices, and whether in-loop filters cross their borders (H.266 7.4.3.5).
+pub fn rewritten_keep_places()
+    ensures { RewrittenKeepPlaces }
+{
+    sets_tell_partitions();
+    read_slices_are_listable();
+    region_is_layout();
+    region_is_listable();
+    regions_nest();
+    reshaped_says();
+    reshaped_has_its_tiles();
+}
