@@ -21,20 +21,20 @@ use Rattle.vx_extract.proofs.AgainSent.{IsAmong, has_set}
 
 -- ---- slots in lists
 
-abbrev Has : List Slot → Slot → Type 0
+abbrev pub Has : List Slot → Slot → Type 0
 Has [] s = ⊥
 Has (t ∷ slots) s = (t ≡ s) ⊎ Has slots s
 
-has_first : (xs ys : List Slot) (s : Slot) → Has xs s → Has (xs ++ ys) s
+pub has_first : (xs ys : List Slot) (s : Slot) → Has xs s → Has (xs ++ ys) s
 has_first [] ys s is = absurd is
 has_first (x ∷ xs) ys s (inl same) = inl same
 has_first (x ∷ xs) ys s (inr more) = inr (has_first xs ys s more)
 
-has_second : (xs ys : List Slot) (s : Slot) → Has ys s → Has (xs ++ ys) s
+pub has_second : (xs ys : List Slot) (s : Slot) → Has ys s → Has (xs ++ ys) s
 has_second [] ys s is = is
 has_second (x ∷ xs) ys s is = inr (has_second xs ys s is)
 
-has_all : (P : Slot → Type 0) (slots : List Slot) (s : Slot) → AllByRecursion P slots → Has slots s → P s
+pub has_all : (P : Slot → Type 0) (slots : List Slot) (s : Slot) → AllByRecursion P slots → Has slots s → P s
 has_all P [] s all is = absurd is
 has_all P (t ∷ slots) s all (inl same) = subst P same all.0
 has_all P (t ∷ slots) s all (inr more) = has_all P slots s all.1 more
@@ -75,7 +75,7 @@ among_second : (xs ys : List Set) (s : Set) → IsAmong ys s → IsAmong (xs ++ 
 among_second [] ys s is = is
 among_second (x ∷ xs) ys s is = inr (among_second xs ys s is)
 
-abbrev set_at : Slot → Aps → Set
+abbrev pub set_at : Slot → Aps → Set
 set_at s a = an_aps (record { kind = s.kind; id = s.id; body = a.body })
 
 among_found : (s : Slot) (found : Option Aps) (a : Aps) → found ≡ Some a → IsAmong (set_of_slot s found) (set_at s a)
@@ -113,17 +113,17 @@ readable_units (u ∷ units) all = (all.0, readable_units units all.1)
 
 -- ---- a set that is there
 
-record IsThere (sets : List (Option Aps)) (s : Slot) : Type 0 where
-  aps : Aps
-  found : aps_at sets s.kind s.id ≡ Some aps
-  kind : s.kind < 3
-  id : s.id < id_count
+pub record IsThere (sets : List (Option Aps)) (s : Slot) : Type 0 where
+  pub aps : Aps
+  pub found : aps_at sets s.kind s.id ≡ Some aps
+  pub kind : s.kind < 3
+  pub id : s.id < id_count
 
 some_of : (o : Option Aps) → is_none o ≡ false → (a : Aps) × (o ≡ Some a)
 some_of None none = absurd (true≢false none)
 some_of (Some a) is = (a, refl)
 
-is_there : (sets : List (Option Aps)) (s : Slot) → is_none (aps_at sets s.kind s.id) ≡ false → IsThere sets s
+pub is_there : (sets : List (Option Aps)) (s : Slot) → is_none (aps_at sets s.kind s.id) ≡ false → IsThere sets s
 is_there sets s some =
     let test : Bool = nat_lt s.kind (SCALING + 1) && nat_lt s.id id_count in
     let found = some_of (aps_at sets s.kind s.id) some in
@@ -143,11 +143,17 @@ module _ (target : ℕ) (level : Option ℕ) (q : Parts) (done : List Plan) (p :
       rw (flag, ex.header) refl
 
   -- each set that is named
-  one_named : (s : Slot) → Has (named_in q target) s → (a : Aps) × (a.kind ≡ s.kind) × (a.id ≡ s.id) × HasSet ex.needed (an_aps a)
-  one_named s is =
-      let at = is_there q.bodies s (has_all (λ t. is_none (aps_at q.bodies t.kind t.id) ≡ false) (named_in q target) s there is) in
+  pub there_of : (s : Slot) → Has (named_in q target) s → IsThere q.bodies s
+  there_of s is = is_there q.bodies s (has_all (λ t. is_none (aps_at q.bodies t.kind t.id) ≡ false) (named_in q target) s there is)
+
+  pub body_needed : (s : Slot) (is : Has (named_in q target) s) → HasSet ex.needed (set_at s (there_of s is).aps)
+  body_needed s is =
+      let at = there_of s is in
       let among : IsAmong (needed_aps q target) (set_at s at.aps) = among_named q (is_named q target) all_slots s at.aps (in_all s.kind s.id at.kind at.id) (any_has (named_in q target) s is) at.found in
-      (record { kind = s.kind; id = s.id; body = at.aps.body }, refl, refl, has_set ex.needed (set_at s at.aps) (subst (λ xs. IsAmong xs (set_at s at.aps)) (sym ex.sets) (inr (inr among))))
+      has_set ex.needed (set_at s at.aps) (subst (λ xs. IsAmong xs (set_at s at.aps)) (sym ex.sets) (inr (inr among)))
+
+  one_named : (s : Slot) → Has (named_in q target) s → (a : Aps) × (a.kind ≡ s.kind) × (a.id ≡ s.id) × HasSet ex.needed (an_aps a)
+  one_named s is = (record { kind = s.kind; id = s.id; body = (there_of s is).aps.body }, refl, refl, body_needed s is)
 
   all_named : (slots : List Slot) → ((s : Slot) → Has slots s → Has (named_in q target) s) → HaveNamed ex.needed slots
   all_named [] inside = tt

@@ -86,16 +86,25 @@ found_with of (x ∷ items) = elim (cases_Bool (x.field == of)) [
   | inr off ↦ rw off (found_with of items)
 ]
 
-same_signed : (of : ℕ) (items others : List Item) → with_field of items ≡ with_field of others → signed items of ≡ signed others of
+pub same_signed : (of : ℕ) (items others : List Item) → with_field of items ≡ with_field of others → signed items of ≡ signed others of
 same_signed of items others same =
     ap (λ o. unwrap_or (option_map (λ (x : Item). x.value) o) (pos 0))
     (found_with of items ∙ ap (λ xs. find (λ (x : Item). x.field == of) xs) same ∙ sym (found_with of others))
 
+-- that of a slice is told by what is taken over
+module _ (target : ℕ) (level : Option ℕ) (pic : Picture) (done : List Plan) (p : Plan) (are : AreInForce (parts_of pic)) (ex : IsExtracted target level (parts_of pic) done p) where
+  pub qp_same : (h : SliceHeader) → slice_qp p.begun.pps p.begun.header (alone h) ≡ slice_qp pic.begun.pps pic.begun.header h
+  unfolding slice_qp fresh
+  qp_same h =
+      let re : AreRewritten target level (parts_of pic) p.begun.sps p.begun.pps = record { of_sps = ex.sps; of_pps = ex.pps } in
+      let init : signed p.begun.pps pps_fields.pps_init_qp_minus26 ≡ signed pic.begun.pps pps_fields.pps_init_qp_minus26 =
+      same_signed pps_fields.pps_init_qp_minus26 p.begun.pps pic.begun.pps (sym (pps_with target level (parts_of pic) p.begun.sps p.begun.pps are re pps_fields.pps_init_qp_minus26 refl)) in
+      let flag : number p.begun.pps pps_fields.pps_qp_delta_info_in_ph_flag ≡ number pic.begun.pps pps_fields.pps_qp_delta_info_in_ph_flag =
+      sym (pps_taken target level (parts_of pic) p.begun.sps p.begun.pps are re pps_fields.pps_qp_delta_info_in_ph_flag refl) in
+      rw (init, flag, ex.header) refl
+
 module _ (R : Readers) (target : ℕ) (level : Option ℕ) (earlier : List Picture) (pic : Picture) (done : List Plan) (p : Plan) (sound : IsSound R earlier pic) (whole : is_whole pic ≡ true) (are : AreInForce (parts_of pic))
     (ex : IsExtracted target level (parts_of pic) done p) (make : MakeRegion target (parts_of pic) p.begun.sps p.begun.pps) (keep : KeepIds (parts_of pic) p.begun.sps p.begun.pps) (under : ReadUnder R target (parts_of pic) p.begun.sps p.begun.pps) where
-  re : AreRewritten target level (parts_of pic) p.begun.sps p.begun.pps
-  re = record { of_sps = ex.sps; of_pps = ex.pps }
-
   old_begun : begun_in (parts_of pic) ≡ pic.begun
   old_begun = ap (λ t. record { sps = pic.begun.sps; pps = pic.begun.pps; layout = pic.begun.layout; header = pic.begun.header; temporal_id = t; unit = pic.begun.unit }) sound.tid
 
@@ -114,20 +123,11 @@ module _ (R : Readers) (target : ℕ) (level : Option ℕ) (earlier : List Pictu
 
   -- ---- slices
 
-  qp_same : (h : SliceHeader) → slice_qp p.begun.pps p.begun.header (alone h) ≡ slice_qp pic.begun.pps pic.begun.header h
-  unfolding slice_qp fresh
-  qp_same h =
-      let init : signed p.begun.pps pps_fields.pps_init_qp_minus26 ≡ signed pic.begun.pps pps_fields.pps_init_qp_minus26 =
-      same_signed pps_fields.pps_init_qp_minus26 p.begun.pps pic.begun.pps (sym (pps_with target level (parts_of pic) p.begun.sps p.begun.pps are re pps_fields.pps_init_qp_minus26 refl)) in
-      let flag : number p.begun.pps pps_fields.pps_qp_delta_info_in_ph_flag ≡ number pic.begun.pps pps_fields.pps_qp_delta_info_in_ph_flag =
-      sym (pps_taken target level (parts_of pic) p.begun.sps p.begun.pps are re pps_fields.pps_qp_delta_info_in_ph_flag refl) in
-      rw (init, flag, ex.header) refl
-
   qp_fits : (h : SliceHeader) → is_qp pic.begun.sps (slice_qp pic.begun.pps pic.begun.header h) ≡ true → is_qp p.begun.sps (slice_qp p.begun.pps p.begun.header (alone h)) ≡ true
   unfolding is_qp fresh
   qp_fits h fits_in =
       let bits : number p.begun.sps sps_fields.sps_bitdepth_minus8 ≡ number pic.begun.sps sps_fields.sps_bitdepth_minus8 = sps_taken (parts_of pic) target level p.begun.sps ex.sps sps_fields.sps_bitdepth_minus8 refl in
-      rw (bits, qp_same h) fits_in
+      rw (bits, qp_same target level pic done p are ex h) fits_in
 
   slice_again : (s : Slice) → s.header.subpic ≡ target → SliceReads R pic.begun pic.kind.nal_type s → SliceReads R p.begun p.kind.nal_type (short s)
   slice_again s mine reads = record {

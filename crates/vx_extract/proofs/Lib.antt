@@ -30,3 +30,5 @@ pub mod AgainSame
 pub mod AgainPlanned
 pub mod KeptFlags
 pub mod KeptPlace
+pub mod KeptBodies
+pub mod KeptInputs

@@ -1,7 +1,9 @@
 //! Laws of what stays: functions that do nothing, each with a law as its contract.
-ghost use Rattle.vx_extract.specs.Kept.{RewrittenKeepPlaces};
+ghost use Rattle.vx_extract.specs.Kept.{ExtractedKeepsBodies, ExtractedKeepsInputs, RewrittenKeepPlaces};
 
+use crate::laws::{extracted_sends_its_sets, rewritten_agree, rewritten_keep_fields};
 use vx_layout::{region_is_layout, region_is_listable, regions_nest};
+use vx_pic::needed_is_body;
 use vx_pps::{read_slices_are_listable, reshaped_has_its_tiles, sets_tell_partitions};
 use vx_sps::reshaped_says;
 
@@ -17,4 +19,22 @@ pub fn rewritten_keep_places()
     regions_nest();
     reshaped_says();
     reshaped_has_its_tiles();
+}
+
+/// The adaptation parameter sets that the subpicture's slices name have the picture's bodies in what is read again.
+pub fn extracted_keeps_bodies()
+    ensures { ExtractedKeepsBodies }
+{
+    needed_is_body();
+    extracted_sends_its_sets();
+}
+
+/// The slices of the picture that is read again have the decoding inputs of the subpicture's slices.
+pub fn extracted_keeps_inputs()
+    ensures { ExtractedKeepsInputs }
+{
+    rewritten_agree();
+    rewritten_keep_fields();
+    rewritten_keep_places();
+    extracted_keeps_bodies();
 }
