@@ -32,3 +32,4 @@ pub mod KeptFlags
 pub mod KeptPlace
 pub mod KeptBodies
 pub mod KeptInputs
+pub mod KeptMessages

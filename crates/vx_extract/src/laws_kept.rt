@@ -1,7 +1,9 @@
 //! Laws of what stays: functions that do nothing, each with a law as its contract.
-ghost use Rattle.vx_extract.specs.Kept.{ExtractedKeepsBodies, ExtractedKeepsInputs, RewrittenKeepPlaces};
+ghost use Rattle.vx_extract.specs.Kept.{AllKeepInputs, AllKeepMessages, ExtractedKeepsBodies, ExtractedKeepsInputs, ExtractedKeepsMessages, RewrittenKeepPlaces};
 
-use crate::laws::{extracted_sends_its_sets, rewritten_agree, rewritten_keep_fields};
+use crate::laws::{
+    extracted_reads_again, extracted_sends_its_sets, rewritten_agree, rewritten_keep_fields,
+};
 use vx_layout::{region_is_layout, region_is_listable, regions_nest};
 use vx_pic::needed_is_body;
 use vx_pps::{read_slices_are_listable, reshaped_has_its_tiles, sets_tell_partitions};
@@ -37,4 +39,20 @@ pub fn extracted_keeps_inputs()
     rewritten_keep_fields();
     rewritten_keep_places();
     extracted_keeps_bodies();
+}
+
+/// It has the messages of the picture.
+pub fn extracted_keeps_messages()
+    ensures { ExtractedKeepsMessages }
+{}
+
+/// So all pictures that are read again have the decoding inputs of the subpicture in the pictures of the source, in order, and their
+/// messages.
+pub fn all_keep_inputs()
+    ensures inputs { AllKeepInputs }
+    ensures messages { AllKeepMessages }
+{
+    extracted_keeps_inputs();
+    extracted_keeps_messages();
+    extracted_reads_again();
 }

@@ -28,4 +28,7 @@ pub use laws::{
     extracted_sends_its_sets, extracted_units_are_read, rewritten_agree, rewritten_keep_fields,
     rewritten_make_region, rewritten_read_alike, set_units_are_read,
 };
-pub use laws_kept::{extracted_keeps_bodies, extracted_keeps_inputs, rewritten_keep_places};
+pub use laws_kept::{
+    all_keep_inputs, extracted_keeps_bodies, extracted_keeps_inputs, extracted_keeps_messages,
+    rewritten_keep_places,
+};
