@@ -33,3 +33,4 @@ pub mod KeptPlace
 pub mod KeptBodies
 pub mod KeptInputs
 pub mod KeptMessages
+pub mod ReadyLayout

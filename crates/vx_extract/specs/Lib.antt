@@ -2,6 +2,7 @@
 pub mod Again
 pub mod Extracting
 pub mod Kept
+pub mod Ready
 pub mod Rules
 pub mod Shapes
 pub mod Written

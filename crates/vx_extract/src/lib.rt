@@ -8,6 +8,7 @@ mod extractor;
 mod fault;
 mod laws;
 mod laws_kept;
+mod laws_ready;
 mod needed;
 mod output;
 mod rewritten;
@@ -32,3 +33,4 @@ pub use laws_kept::{
     all_keep_inputs, extracted_keeps_bodies, extracted_keeps_inputs, extracted_keeps_messages,
     rewritten_keep_places,
 };
+pub use laws_ready::pictures_are_in_force;
