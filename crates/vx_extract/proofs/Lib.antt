@@ -34,3 +34,4 @@ pub mod KeptBodies
 pub mod KeptInputs
 pub mod KeptMessages
 pub mod ReadyLayout
+pub mod ReadyReadings

@@ -1,5 +1,5 @@
 //! Laws of the pictures of a stream of which a subpicture is written: functions that do nothing, each with a law as its contract.
-ghost use Rattle.vx_extract.specs.Ready.{PicturesAreInForce};
+ghost use Rattle.vx_extract.specs.Ready.{PicturesAreInForce, PicturesHaveTheirReadings};
 
 use vx_pic::{pictures_are_finished, pictures_have_sets};
 use vx_pps::sets_tell_partitions;
@@ -11,4 +11,12 @@ pub fn pictures_are_in_force()
     sets_tell_partitions();
     pictures_are_finished();
     pictures_have_sets();
+}
+
+/// The adaptation parameter sets of each picture were read, so that they can be written, those that its slices name are there, and
+/// its messages are carried.
+pub fn pictures_have_their_readings()
+    ensures { PicturesHaveTheirReadings }
+{
+    pictures_are_finished();
 }
