@@ -35,3 +35,4 @@ pub mod KeptInputs
 pub mod KeptMessages
 pub mod ReadyLayout
 pub mod ReadyReadings
+pub mod ReadyPictures

@@ -1,7 +1,7 @@
 //! Laws of the pictures of a stream of which a subpicture is written: functions that do nothing, each with a law as its contract.
-ghost use Rattle.vx_extract.specs.Ready.{PicturesAreInForce, PicturesHaveTheirReadings};
+ghost use Rattle.vx_extract.specs.Ready.{PicturesAreInForce, PicturesAreReady, PicturesHaveTheirReadings};
 
-use vx_pic::{pictures_are_finished, pictures_have_sets};
+use vx_pic::{pictures_are_finished, pictures_have_sets, subpictures_have_slices};
 use vx_pps::sets_tell_partitions;
 
 /// The sets in force for each picture were read, and make up its layout.
@@ -19,4 +19,13 @@ pub fn pictures_have_their_readings()
     ensures { PicturesHaveTheirReadings }
 {
     pictures_are_finished();
+}
+
+/// So a subpicture that each picture of a stream has can be written, and is read again.
+pub fn pictures_are_ready()
+    ensures { PicturesAreReady }
+{
+    pictures_are_in_force();
+    pictures_have_their_readings();
+    subpictures_have_slices();
 }

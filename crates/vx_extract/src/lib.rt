@@ -33,4 +33,4 @@ pub use laws_kept::{
     all_keep_inputs, extracted_keeps_bodies, extracted_keeps_inputs, extracted_keeps_messages,
     rewritten_keep_places,
 };
-pub use laws_ready::{pictures_are_in_force, pictures_have_their_readings};
+pub use laws_ready::{pictures_are_in_force, pictures_are_ready, pictures_have_their_readings};
