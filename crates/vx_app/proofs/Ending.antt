@@ -1,13 +1,21 @@
--- What the status tells of what came of `show`.
-use Rattle.std.proofs.Common.{◌≡◌, ◌≢◌, ℕ, List, Ok, Err, inl, inr, sym, ap, subst, arith, ◌∙◌}
+-- What the status tells of what came of a command.
+use Rattle.std.proofs.Common.{◌≡◌, ◌≢◌, ℕ, List, [], ◌∷◌, ◌++◌, length, Option, Some, None, Ok, Err, inl, inr, refl, sym, ap, subst, arith, ◌∙◌}
+use Rattle.vx_bits.specs.declared.refusal.Refusal.{Refusal}
+use Rattle.vx_report.specs.declared.refusal.Where.{Where}
 use Rattle.vx_app.specs.declared.stop.Stop.{Stop}
 use Rattle.vx_app.specs.declared.stop.Stop.TheVariants.{NotUnderstood, Refused, ReadFault, WriteFault, NoMemory}
 use Rattle.vx_app.specs.Change.{Change, Sources, source_at, HasFault}
 use Rattle.vx_app.specs.About.{help_text, version_text, Writes}
 use Rattle.vx_app.specs.Conclusion.{Concludes, IsOfCommand, IsMade, status_of}
-use Rattle.vx_app.specs.Grammar.{Command, show, help, version, AskFor, IsUnderstood}
-use Rattle.vx_app.specs.Run.{Does, Performs}
+use Rattle.vx_app.specs.declared.extract.Task.{Task}
+use Rattle.vx_app.specs.Extract.{BreakNoRule, Refuses, by_stream, by_picture, without, IsExtractable, IsStatus, WhereTold, ExtractsBy, ChecksBy, task_of}
+use Rattle.vx_app.specs.Grammar.{Command, show, extract, check_extract, help, version, AskFor, IsUnderstood}
+use Rattle.vx_app.specs.Run.{Does, Performs, task_in}
+use Rattle.vx_pic.specs.Readings.{Picture}
 use Rattle.vx_pic.specs.Rules.{Readers}
+use Rattle.vx_pic.specs.Bytes.{Ending}
+use Rattle.vx_pic.specs.Parts.{parts_of}
+use Rattle.vx_extract.specs.Rules.{refusal_of}
 use Rattle.vx_pic.specs.H266.{AreOfH266}
 use Rattle.vx_app.specs.Show.{ShowsBy, WhereKnown, status_at}
 
@@ -32,6 +40,75 @@ module _ (R : Readers) (of : AreOfH266 R) where
       → Performs words sources out (Err stop) → Concludes stop status err → AskFor words (show file) → ¬ HasFault (source_at sources 0) → ¬ HasFault out → status ≢ 4 → WhereKnown R (source_at sources 0) (λ b units ending. status ≡ status_at ending)
   exact-stopped words sources out err stop status file performs ends spelled = stopped (source_at sources 0) out err stop status ((performs.command (show file) spelled).1 R of) ends
 
+-- ---- extractions
+
+no_rule_of : (t : Task) (later before : List Picture) (p : Picture) → BreakNoRule t (later ++ p ∷ before) → refusal_of t.target t.tid (parts_of p) ≡ None
+no_rule_of t [] before p none = none.0
+no_rule_of t (q ∷ later) before p none = no_rule_of t later before p none.1
+
+-- what is refused can't be extracted
+refuses-not : (t : Task) (ps : List Picture) (ending : Option Ending) (before : List Picture) (r : Refusal) (place : Where) → Refuses t ps ending before r place → IsExtractable t ps ending → ⊥
+refuses-not t ps ending before r place (by_stream all rules told) fine = let none = sym told.is ∙ fine.whole in absurd (cc)
+refuses-not t ps ending before r place (by_picture broken at) fine =
+    let none = no_rule_of t broken.later before broken.picture (subst (λ (l : List Picture). BreakNoRule t l) broken.place fine.rules) in
+    let some = broken.broken in
+    absurd (cc)
+refuses-not t ps ending before r place (without all empty whole is at) fine = omega (arith, fine.some, ap (λ (l : List Picture). length l) empty)
+
+status-done : (t : Task) (ps : List Picture) (ending : Option Ending) → IsExtractable t ps ending → IsStatus t ps ending 0
+status-done t ps ending fine = record { done = (λ zero_. fine, λ is. refl); refused = (λ one. absurd (omega (arith, one)), λ not_. absurd (not_ fine)) }
+
+status-refused : (t : Task) (ps : List Picture) (ending : Option Ending) (status : ℕ) → (IsExtractable t ps ending → ⊥) → status ≡ 1 → IsStatus t ps ending status
+status-refused t ps ending status not_ one = record { done = (λ zero_. absurd (omega (arith, one, zero_)), λ fine. absurd (not_ fine)); refused = (λ is. not_, λ is. one) }
+
+module _ {A K E : Type 0} (R : Readers) (t : Task) (source : Change A) (out : Change K) (err : Change E) where
+  extract-stopped : (stop : Stop) (status : ℕ) → ExtractsBy R t source out (Err stop) → Concludes stop status err → ¬ HasFault source → ¬ HasFault out → status ≢ 4 → WhereTold R source (λ ps ending. IsStatus t ps ending status)
+  extract-stopped (Refused r place) status does ends read write fits b ps ending told are =
+      let is = does.3 b ps ending told are in
+      elim ends.ended [ inl p ↦ status-refused t ps ending status (refuses-not t ps ending is.0 r place is.1) p.0 | inr p ↦ absurd (fits p.1) ]
+  extract-stopped (ReadFault k) status does ends read write fits b ps ending told are = absurd (read does.0)
+  extract-stopped WriteFault status does ends read write fits b ps ending told are = absurd (write does.1)
+  extract-stopped NoMemory status does ends read write fits b ps ending told are =
+      elim ends.ended [ inl p ↦ absurd (fits p.0) | inr p ↦ absurd p.0 ]
+  extract-stopped NotUnderstood status does ends read write fits b ps ending told are = absurd does
+
+  check-stopped : (stop : Stop) (status : ℕ) → ChecksBy R t source out (Err stop) → Concludes stop status err → ¬ HasFault source → ¬ HasFault out → status ≢ 4 → WhereTold R source (λ ps ending. IsStatus t ps ending status)
+  check-stopped (Refused r place) status does ends read write fits b ps ending told are =
+      let is = does.3 b ps ending told are in
+      elim ends.ended [ inl p ↦ status-refused t ps ending status (refuses-not t ps ending is.0 r place is.1) p.0 | inr p ↦ absurd (fits p.1) ]
+  check-stopped (ReadFault k) status does ends read write fits b ps ending told are = absurd (read does.0)
+  check-stopped WriteFault status does ends read write fits b ps ending told are = absurd (write does.1)
+  check-stopped NoMemory status does ends read write fits b ps ending told are =
+      elim ends.ended [ inl p ↦ absurd (fits p.0) | inr p ↦ absurd p.0 ]
+  check-stopped NotUnderstood status does ends read write fits b ps ending told are = absurd does
+
+same_task : (t u : Task) → (let o : Option Task = Some t in o) ≡ Some u → t ≡ u
+same_task t u is = cc
+
+module _ {A K : Type 0} (R : Readers) (of : AreOfH266 R) (words : List (List ℕ)) (sources : Sources A) (out : Change K) where
+  -- the status of an extraction that is done
+  pub extracts-done : (command : Command) (t : Task) → Performs words sources out (Ok tt) → AskFor words command → task_in command ≡ Some t → WhereTold R (source_at sources 0) (λ ps ending. IsStatus t ps ending 0)
+  extracts-done (extract tid level index file) t performs spelled is b ps ending told are =
+      subst (λ (u : Task). IsStatus u ps ending 0) (same_task (task_of tid level index) t is) (status-done (task_of tid level index) ps ending (((performs.command (extract tid level index file) spelled).1 R of).4 b ps ending told are).0)
+  extracts-done (check_extract tid index file) t performs spelled is b ps ending told are =
+      subst (λ (u : Task). IsStatus u ps ending 0) (same_task (task_of tid None index) t is) (status-done (task_of tid None index) ps ending (((performs.command (check_extract tid index file) spelled).1 R of).4 b ps ending told are).0)
+  extracts-done (show file) t performs spelled is b ps ending told are = absurd (cc)
+  extracts-done help t performs spelled is b ps ending told are = absurd (cc)
+  extracts-done version t performs spelled is b ps ending told are = absurd (cc)
+
+  -- and of one that stopped
+  pub extracts-stopped : {E : Type 0} (err : Change E) (stop : Stop) (status : ℕ) (command : Command) (t : Task) → Performs words sources out (Err stop) → Concludes stop status err → AskFor words command → task_in command ≡ Some t
+      → ¬ HasFault (source_at sources 0) → ¬ HasFault out → status ≢ 4 → WhereTold R (source_at sources 0) (λ ps ending. IsStatus t ps ending status)
+  extracts-stopped err stop status (extract tid level index file) t performs ends spelled is =
+      subst (λ (u : Task). ¬ HasFault (source_at sources 0) → ¬ HasFault out → status ≢ 4 → WhereTold R (source_at sources 0) (λ ps ending. IsStatus u ps ending status)) (same_task (task_of tid level index) t is)
+      (extract-stopped R (task_of tid level index) (source_at sources 0) out err stop status ((performs.command (extract tid level index file) spelled).1 R of) ends)
+  extracts-stopped err stop status (check_extract tid index file) t performs ends spelled is =
+      subst (λ (u : Task). ¬ HasFault (source_at sources 0) → ¬ HasFault out → status ≢ 4 → WhereTold R (source_at sources 0) (λ ps ending. IsStatus u ps ending status)) (same_task (task_of tid None index) t is)
+      (check-stopped R (task_of tid None index) (source_at sources 0) out err stop status ((performs.command (check_extract tid index file) spelled).1 R of) ends)
+  extracts-stopped err stop status (show file) t performs ends spelled is = absurd (cc)
+  extracts-stopped err stop status help t performs ends spelled is = absurd (cc)
+  extracts-stopped err stop status version t performs ends spelled is = absurd (cc)
+
 -- ---- status 2
 
 writes_of_command : {K : Type 0} (text : List ℕ) (out : Change K) (stop : Stop) → Writes text out (Err stop) → IsOfCommand stop
@@ -43,6 +120,8 @@ writes_of_command text out NoMemory writes = tt
 
 does_of_command : {A K : Type 0} (command : Command) (sources : Sources A) (out : Change K) (stop : Stop) → Does command sources out (Err stop) → IsOfCommand stop
 does_of_command (show file) sources out stop does = does.0
+does_of_command (extract tid level index file) sources out stop does = does.0
+does_of_command (check_extract tid index file) sources out stop does = does.0
 does_of_command help sources out stop does = writes_of_command help_text out stop does.1
 does_of_command version sources out stop does = writes_of_command version_text out stop does.1
 

@@ -1,4 +1,4 @@
--- `show` of a source of a list is that of the source alone.
+-- What is done to a source of a list is what is done to the source alone.
 use Rattle.std.proofs.Common.{◌≡◌, ℕ, ◌<◌, List, Option, Some, Ok, Err, sym, refl, length, get_or, slice_get, slice_set}
 use Rattle.std.proofs.Math.ListN.{length-set}
 use Rattle.std.proofs.lemmas.List.{get_or-set_same}
@@ -8,6 +8,8 @@ use Rattle.vx_app.specs.Change.{Change, change, sources_change, source_at}
 use Rattle.vx_app.specs.Conclusion.{Outcome}
 use Rattle.vx_pic.specs.Rules.{Readers}
 use Rattle.vx_app.specs.Show.{Shows, ShowsBy, ShowsSeen, ShowsFront}
+use Rattle.vx_app.specs.declared.extract.Task.{Task}
+use Rattle.vx_app.specs.Extract.{Extracts, ExtractsBy, Checks, ChecksBy}
 
 -- the source at k of a list was shown
 shows-moved : {S K : Type 0} (R : Readers) (bytes : S → Option (List ℕ)) (faults : S → ℕ) (k : ℕ) (s s' : S) (l l' : List S) (out : Change K) (outcome : Outcome) → slice_get l k ≡ Some s → slice_get l' k ≡ Some s'
@@ -42,3 +44,56 @@ pub Shows-at : {S K : Type 0} (bytes : S → Option (List ℕ)) (faults : S → 
 Shows-at bytes faults k s s' l out outcome within is shows =
     let there : k < length (slice_set l k s') = rw (length-set l k s') within in
     (shows.0, λ R of. shows-moved R bytes faults k s s' l (slice_set l k s') out outcome (slice_get_read l (length l) k s refl within is) (slice_get_read (slice_set l k s') (length (slice_set l k s')) k s' refl there (sym (get_or-set_same l k s' s' within))) (shows.1 R of))
+
+-- a subpicture of the source at k of a list was extracted
+extracts-moved : {S K : Type 0} (R : Readers) (bytes : S → Option (List ℕ)) (faults : S → ℕ) (k : ℕ) (t : Task) (s s' : S) (l l' : List S) (out : Change K) (outcome : Outcome) → slice_get l k ≡ Some s → slice_get l' k ≡ Some s'
+    → ExtractsBy R t (change bytes faults s s') out outcome → ExtractsBy R t (source_at (sources_change bytes faults l l') k) out outcome
+extracts-moved R bytes faults k t s s' l l' out (Ok _) old new does = rw (old, new) does
+extracts-moved R bytes faults k t s s' l l' out (Err (Refused refusal place)) old new does = rw (old, new) does
+extracts-moved R bytes faults k t s s' l l' out (Err (ReadFault j)) old new does =
+    let seen = does.2.1 in
+    (rw (old, new) does.0, does.1, (does.2.0, record { given = seen.given; gave = rw (old, new) seen.gave; seen = seen.seen; rules = seen.rules }, does.2.2))
+extracts-moved R bytes faults k t s s' l l' out (Err WriteFault) old new does =
+    let front = does.2 in (
+      rw (old, new) does.0,
+      does.1,
+      record {
+        given = front.given;
+        units = front.units;
+        readings = front.readings;
+        ended = front.ended;
+        gave = rw (old, new) front.gave;
+        follow = front.follow;
+        read = front.read;
+        rules = front.rules;
+        front = front.front;
+        near = front.near;
+      },
+      λ b ps ending told are. does.3 b ps ending (rw old at told) are,
+    )
+extracts-moved R bytes faults k t s s' l l' out (Err NoMemory) old new does = rw (old, new) does
+extracts-moved R bytes faults k t s s' l l' out (Err NotUnderstood) old new does = does
+
+-- or was found to be there
+checks-moved : {S K : Type 0} (R : Readers) (bytes : S → Option (List ℕ)) (faults : S → ℕ) (k : ℕ) (t : Task) (s s' : S) (l l' : List S) (out : Change K) (outcome : Outcome) → slice_get l k ≡ Some s → slice_get l' k ≡ Some s'
+    → ChecksBy R t (change bytes faults s s') out outcome → ChecksBy R t (source_at (sources_change bytes faults l l') k) out outcome
+checks-moved R bytes faults k t s s' l l' out (Ok _) old new does = rw (old, new) does
+checks-moved R bytes faults k t s s' l l' out (Err (Refused refusal place)) old new does = rw (old, new) does
+checks-moved R bytes faults k t s s' l l' out (Err (ReadFault j)) old new does =
+    let seen = does.3.1 in
+    (rw (old, new) does.0, does.1, does.2, (does.3.0, record { given = seen.given; gave = rw (old, new) seen.gave; seen = seen.seen; rules = seen.rules }))
+checks-moved R bytes faults k t s s' l l' out (Err WriteFault) old new does = rw (old, new) does
+checks-moved R bytes faults k t s s' l l' out (Err NoMemory) old new does = rw (old, new) does
+checks-moved R bytes faults k t s s' l l' out (Err NotUnderstood) old new does = does
+
+module _ {S K : Type 0} (bytes : S → Option (List ℕ)) (faults : S → ℕ) (k : ℕ) (t : Task) (s s' : S) (l : List S) (out : Change K) (outcome : Outcome) (within : k < length l) (is : s ≡ get_or l k s) where
+  there : slice_get (slice_set l k s') k ≡ Some s'
+  there =
+      let fits : k < length (slice_set l k s') = rw (length-set l k s') within in
+      slice_get_read (slice_set l k s') (length (slice_set l k s')) k s' refl fits (sym (get_or-set_same l k s' s' within))
+
+  pub Extracts-at : Extracts t (change bytes faults s s') out outcome → Extracts t (source_at (sources_change bytes faults l (slice_set l k s')) k) out outcome
+  Extracts-at does = (does.0, λ R of. extracts-moved R bytes faults k t s s' l (slice_set l k s') out outcome (slice_get_read l (length l) k s refl within is) there (does.1 R of))
+
+  pub Checks-at : Checks t (change bytes faults s s') out outcome → Checks t (source_at (sources_change bytes faults l (slice_set l k s')) k) out outcome
+  Checks-at does = (does.0, λ R of. checks-moved R bytes faults k t s s' l (slice_set l k s') out outcome (slice_get_read l (length l) k s refl within is) there (does.1 R of))

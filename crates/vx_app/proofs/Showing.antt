@@ -39,7 +39,7 @@ is_end (Some TooLong) r closes all = absurd (cc)
 is_end (Some Failed) r closes all = absurd (cc)
 
 -- where the source has ended, it does
-has_ended : (r : ReaderState) (g : List ℕ) (units : List UnitPlace) → HasRead r g units → r.closed ≡ Some End → is_all r.splitter ≡ true
+pub has_ended : (r : ReaderState) (g : List ℕ) (units : List UnitPlace) → HasRead r g units → r.closed ≡ Some End → is_all r.splitter ≡ true
 has_ended r g units read end = (subst (λ closed. ClosesAt closed r.splitter r.taken) end read.closes).0
 
 -- while it may read on, the source has given no more bytes than the limit, and not all of them
@@ -50,14 +50,14 @@ is_going r g units read going =
     (at.0, subst (λ n. n ≤ source_limit) (sym read.taken) at.1)
 
 -- a source that is too long has given one byte more than the limit
-is_long : (r : ReaderState) (g : List ℕ) (units : List UnitPlace) → HasRead r g units → r.closed ≡ Some TooLong → (is_all r.splitter ≡ false) × (length g ≡ source_limit + 1)
+pub is_long : (r : ReaderState) (g : List ℕ) (units : List UnitPlace) → HasRead r g units → r.closed ≡ Some TooLong → (is_all r.splitter ≡ false) × (length g ≡ source_limit + 1)
 unfolding source_limit
 is_long r g units read long =
     let at = subst (λ closed. ClosesAt closed r.splitter r.taken) long read.closes in
     (at.0, read.taken ∙ at.1)
 
 -- of a source that tells its bytes
-is_given : (b given : List ℕ) (units : List UnitPlace) (r : ReaderState) (left left' : Option (List ℕ)) → left ≡ Some b → Consumes left left' given → HasRead r given units → (r.closed ≡ Some End → IsAtEnd left') → IsGiven b given (is_all r.splitter)
+pub is_given : (b given : List ℕ) (units : List UnitPlace) (r : ReaderState) (left left' : Option (List ℕ)) → left ≡ Some b → Consumes left left' given → HasRead r given units → (r.closed ≡ Some End → IsAtEnd left') → IsGiven b given (is_all r.splitter)
 is_given b given units r None left' told gave read ended = absurd (cc)
 is_given b given units r (Some b') None told gave read ended = absurd gave
 is_given b given units r (Some b') (Some rest) told gave read ended = record {
@@ -116,7 +116,7 @@ reads_less None None taken taken' going within grows = omega (arith, grows refl,
 reads_less None (Some c) taken taken' going within grows = omega (arith, within)
 
 -- a refusal at its place
-told_at : (ending : Option Ending) (n : ℕ) (refusal : Refusal) → ending ≡ refused_at n refusal → IsToldAt ending refusal (behind_unit n)
+pub told_at : (ending : Option Ending) (n : ℕ) (refusal : Refusal) → ending ≡ refused_at n refusal → IsToldAt ending refusal (behind_unit n)
 told_at ending n refusal is = record { first = record { units = n; refusal = refusal }; is = is; refusal = refl; place = refl }
 
 -- ---- the lines of the units of a source that tells its bytes

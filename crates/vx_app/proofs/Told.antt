@@ -77,7 +77,7 @@ seen_goes_on b given all is =
     (on.0, ap seen_of is.front ∙ on.1)
 
 -- all that there is
-all_given : (b given : List ℕ) → IsGiven b given true → (b ≡ given) × (is_within b ≡ true)
+pub all_given : (b given : List ℕ) → IsGiven b given true → (b ≡ given) × (is_within b ≡ true)
 all_given b given is =
     let whole = is.whole refl in
     let same : b ≡ given = is.front ∙ ap (λ l. given ++ l) whole.0 ∙ append-nil given in
@@ -222,7 +222,7 @@ module _ (R : Readers) (b given : List ℕ) (us vs : List UnitPlace) (before : L
 
   -- by a unit that breaks a rule
   pub ends_by_unit : (all : Bool) (u : UnitPlace) (r : Refusal) → IsGiven b given all → FollowsFrom (seen_of given) all 0 (us ++ u ∷ []) → FollowsFrom (seen_of given) all 0 us → read_on R [] (units_at (seen_of given) us) ≡ all_read before
-      → reads R before (unit_bytes (seen_of given) u) ≡ Err r → (ending ≡ refused_at (length us) r) × (shown_lines R b vs ≡ shown_lines R b us)
+      → reads R before (unit_bytes (seen_of given) u) ≡ Err r → (ending ≡ refused_at (length us) r) × (shown_lines R b vs ≡ shown_lines R b us) × (read_on R [] (units_at (seen_of b) vs) ≡ stopped before r)
   ends_by_unit all u r is follow front read refused =
       let first = first_of_given b given all (us ++ u ∷ []) vs shown.framing is follow shown.stream in
       let split : vs ≡ us ++ u ∷ first.0 = first.1 ∙ append_assoc us (u ∷ []) first.0 in
@@ -242,4 +242,5 @@ module _ (R : Readers) (b given : List ℕ) (us vs : List UnitPlace) (before : L
             ∙ lines_more R (seen_of b) [] before us (u ∷ first.0) here
             ∙ ap (λ l. shown_lines R b us ++ l) (lines_none R (seen_of b) before u first.0 r answer)
             ∙ append-nil (shown_lines R b us),
+        whole,
       )

@@ -14,6 +14,12 @@ help_text = concat
     ∷ codes "             bytes, the place of its first byte, its TemporalId and its type,\n"
     ∷ codes "             then what is read of the parameter set that it is, or of the\n"
     ∷ codes "             picture that it completes\n"
+    ∷ codes "  extract [--tid T] [--level N] INDEX FILE\n"
+    ∷ codes "             the subpicture of an index, from 0, of each picture, as a byte stream\n"
+    ∷ codes "             of its own; of the pictures with a TemporalId of at most T, and with N\n"
+    ∷ codes "             as its general_level_idc\n"
+    ∷ codes "  check extract [--tid T] INDEX FILE\n"
+    ∷ codes "             whether that can be done, and for how many pictures\n"
     ∷ codes "  --help     this text\n"
     ∷ codes "  --version  the name and the version of the program\n"
     ∷ codes "\n"
@@ -36,6 +42,9 @@ help_text = concat
     ∷ codes "     breaks behind the units before it\n"
     ∷ codes "  L  limits: L1 a unit of more than 2^23 bytes, L2 a picture of more than 2^25,\n"
     ∷ codes "     L3 a source of more than 2^40, L5 to L10 what no level allows\n"
+    ∷ codes "  E  extraction: E1 a stream without pictures, E2 a picture without the\n"
+    ∷ codes "     subpicture, E3 it isn't treated as a picture, E4 in-loop filters cross its\n"
+    ∷ codes "     borders, E5 an IRAP or GDR picture has a TemporalId above T\n"
     ∷ [])
 
 -- the name and the version

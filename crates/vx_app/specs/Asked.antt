@@ -1,9 +1,11 @@
 -- The command that the program has read from its words.
 use Rattle.vx_app.specs.declared.words.Command.{Command}
-use Rattle.vx_app.specs.declared.words.Command.TheVariants.{Show, Help, Version}
+use Rattle.vx_app.specs.declared.words.Command.TheVariants.{Show, Extract, CheckExtract, Help, Version}
 use Rattle.vx_app.specs.Grammar as grammar
 
 abbrev pub asked : Command → grammar.Command
 asked (Show file) = grammar.show file.now
+asked (Extract tid level index file) = grammar.extract tid level index file.now
+asked (CheckExtract tid index file) = grammar.check_extract tid index file.now
 asked Help = grammar.help
 asked Version = grammar.version

@@ -1,5 +1,5 @@
 -- The grammar of the program's words. A word is the list of its bytes.
-use Rattle.std.specs.Prelude.{◌≡◌, ◌≢◌, ℕ, List, [], ◌∷◌, map, length, codes, String, string_bytes}
+use Rattle.std.specs.Prelude.{◌≡◌, ◌≢◌, ℕ, ◌≤◌, List, [], ◌∷◌, ◌++◌, map, length, codes, decimal, Option, Some, None, IfSome, String, string_bytes}
 
 -- the bytes of each word
 abbrev pub texts : {A : Type 0} → List (String A) → List (List ℕ)
@@ -8,18 +8,45 @@ texts words = map string_bytes words
 -- what the words ask for
 pub data Command : Type 0 where
   show : List ℕ → Command
+  extract : (tid level : Option ℕ) (index : ℕ) → List ℕ → Command
+  check_extract : (tid : Option ℕ) (index : ℕ) → List ℕ → Command
   help : Command
   version : Command
 
--- `show FILE`, `--help`, `--version`
+-- an option with its number, where there is one: `--tid T`
+abbrev pub option_words : List ℕ → Option ℕ → List (List ℕ)
+option_words name None = []
+option_words name (Some n) = name ∷ decimal n ∷ []
+
+abbrev pub tid_words : Option ℕ → List (List ℕ)
+tid_words tid = option_words (codes "--tid") tid
+
+abbrev pub level_words : Option ℕ → List (List ℕ)
+level_words level = option_words (codes "--level") level
+
+-- `show FILE`, `extract [--tid T] [--level N] INDEX FILE`, `check extract [--tid T] INDEX FILE`, `--help`, `--version`
 abbrev pub spelling : Command → List (List ℕ)
 spelling (show file) = codes "show" ∷ file ∷ []
+spelling (extract tid level index file) = codes "extract" ∷ (tid_words tid ++ (level_words level ++ (decimal index ∷ file ∷ [])))
+spelling (check_extract tid index file) = codes "check" ∷ codes "extract" ∷ (tid_words tid ++ (decimal index ∷ file ∷ []))
 spelling help = codes "--help" ∷ []
 spelling version = codes "--version" ∷ []
 
--- a file's name has a byte
+-- a TemporalId (7.4.2.2), a level (general_level_idc, 7.4.4.1), and the index of a subpicture (sps_num_subpics_minus1, 7.4.3.4)
+abbrev pub IsTid : Option ℕ → Type 0
+IsTid tid = IfSome tid (λ t. t ≤ 6)
+
+abbrev pub IsLevel : Option ℕ → Type 0
+IsLevel level = IfSome level (λ n. n ≤ 255)
+
+abbrev pub IsIndex : ℕ → Type 0
+IsIndex index = index ≤ 999
+
+-- a file's name has a byte, and numbers are in their ranges
 abbrev pub IsWellNamed : Command → Type 0
 IsWellNamed (show file) = file ≢ []
+IsWellNamed (extract tid level index file) = IsTid tid × IsLevel level × IsIndex index × (file ≢ [])
+IsWellNamed (check_extract tid index file) = IsTid tid × IsIndex index × (file ≢ [])
 IsWellNamed help = Unit {0}
 IsWellNamed version = Unit {0}
 
@@ -35,6 +62,8 @@ IsUnderstood words = (command : Command) × AskFor words command
 -- the files that a command names, in order
 abbrev pub files_of : Command → List (List ℕ)
 files_of (show file) = file ∷ []
+files_of (extract tid level index file) = file ∷ []
+files_of (check_extract tid index file) = file ∷ []
 files_of help = []
 files_of version = []
 

@@ -3,6 +3,7 @@ pub mod About
 pub mod Asked
 pub mod Change
 pub mod Conclusion
+pub mod Extract
 pub mod Grammar
 pub mod Run
 pub mod Show

@@ -1,15 +1,19 @@
 -- What `run` does to its sources and to `out`, by the command that its words ask for.
-use Rattle.std.specs.Prelude.{◌≡◌, ℕ, List, Err}
+use Rattle.std.specs.Prelude.{◌≡◌, ℕ, List, Option, Some, None, Err}
 use Rattle.vx_app.specs.declared.stop.Stop.TheVariants.{NotUnderstood}
 use Rattle.vx_app.specs.About.{help_text, version_text, Writes}
 use Rattle.vx_app.specs.Change.{Change, Sources, source_at, IsUntouched, AreUntouched}
 use Rattle.vx_app.specs.Conclusion.{Outcome}
-use Rattle.vx_app.specs.Grammar.{Command, show, help, version, AskFor, IsUnderstood}
+use Rattle.vx_app.specs.declared.extract.Task.{Task}
+use Rattle.vx_app.specs.Extract.{task_of, Extracts, Checks}
+use Rattle.vx_app.specs.Grammar.{Command, show, extract, check_extract, help, version, AskFor, IsUnderstood}
 use Rattle.vx_app.specs.Show.{Shows}
 
 -- what a command did to its sources and to `out`, by what came of it
 abbrev pub Does : {A K : Type 0} → Command → Sources A → Change K → Outcome → Type 0
 Does (show file) sources out outcome = Shows (source_at sources 0) out outcome
+Does (extract tid level index file) sources out outcome = Extracts (task_of tid level index) (source_at sources 0) out outcome
+Does (check_extract tid index file) sources out outcome = Checks (task_of tid None index) (source_at sources 0) out outcome
 Does help sources out outcome = AreUntouched sources × Writes help_text out outcome
 Does version sources out outcome = AreUntouched sources × Writes version_text out outcome
 
@@ -17,3 +21,9 @@ Does version sources out outcome = AreUntouched sources × Writes version_text o
 pub record Performs {A K : Type 0} (words : List (List ℕ)) (sources : Sources A) (out : Change K) (outcome : Outcome) : Type 0 where
   pub command : (command : Command) → AskFor words command → Does command sources out outcome
   pub other : ¬ IsUnderstood words → (outcome ≡ Err NotUnderstood) × AreUntouched sources × IsUntouched out
+
+-- what is asked of an extraction
+abbrev pub task_in : Command → Option Task
+task_in (extract tid level index file) = Some (task_of tid level index)
+task_in (check_extract tid index file) = Some (task_of tid None index)
+task_in _ = None

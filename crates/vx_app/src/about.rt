@@ -18,6 +18,12 @@ pub fn help() -> &'static [u8]
              bytes, the place of its first byte, its TemporalId and its type,
              then what is read of the parameter set that it is, or of the
              picture that it completes
+  extract [--tid T] [--level N] INDEX FILE
+             the subpicture of an index, from 0, of each picture, as a byte stream
+             of its own; of the pictures with a TemporalId of at most T, and with N
+             as its general_level_idc
+  check extract [--tid T] INDEX FILE
+             whether that can be done, and for how many pictures
   --help     this text
   --version  the name and the version of the program
 
@@ -40,6 +46,9 @@ The letters of the rules:
      breaks behind the units before it
   L  limits: L1 a unit of more than 2^23 bytes, L2 a picture of more than 2^25,
      L3 a source of more than 2^40, L5 to L10 what no level allows
+  E  extraction: E1 a stream without pictures, E2 a picture without the
+     subpicture, E3 it isn't treated as a picture, E4 in-loop filters cross its
+     borders, E5 an IRAP or GDR picture has a TemporalId above T
 "
 }
 

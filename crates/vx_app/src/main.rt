@@ -3,11 +3,14 @@
 
 mod about;
 mod conclude;
+mod extract;
 mod run;
 mod show;
 mod stop;
 #[cfg(test)]
 mod tests;
+#[cfg(test)]
+mod tests_extract;
 mod words;
 
 pub use run::run;

@@ -1,16 +1,19 @@
 //! The program over words, sources and sinks.
 
-ghost use Rattle.std.specs.Prelude.{◌≡◌, ◌≢◌, ◌↔◌, List, ℕ, Err, vec_len};
+ghost use Rattle.std.specs.Prelude.{◌≡◌, ◌≢◌, ◌↔◌, ◌≤◌, List, ℕ, Some, Err, vec_len};
 ghost use Rattle.vx_pic.specs.Rules.{Readers};
 ghost use Rattle.vx_pic.specs.H266.{AreOfH266};
 ghost use Rattle.vx_app.specs.Change.{HasFault, change, source_at, sources_change};
 ghost use Rattle.vx_app.specs.Conclusion.{Outcome, ExitsWith};
-ghost use Rattle.vx_app.specs.Grammar.{show as for_show, AskFor, IsUnderstood, NamesFiles, texts};
-ghost use Rattle.vx_app.specs.Run.{Performs};
+ghost use Rattle.vx_app.specs.declared.extract.Task.{Task as TaskAsked};
+ghost use Rattle.vx_app.specs.Extract.{WhereTold, IsStatus, task_of as task_by};
+ghost use Rattle.vx_app.specs.Grammar.{Command as Asked, show as for_show, AskFor, IsTid, IsUnderstood, NamesFiles, texts};
+ghost use Rattle.vx_app.specs.Run.{Performs, task_in};
 ghost use Rattle.vx_app.specs.Show.{WhereKnown, status_at};
 
 use crate::about::{help, version, write_text};
 use crate::conclude::conclude;
+use crate::extract::{Task, check_extract, extract};
 use crate::show::show;
 use crate::stop::Stop;
 use crate::words::{Command, command_of};
@@ -43,6 +46,11 @@ pub fn run<K: Sink, E: Sink>(
         → let source = source_at (sources_change bytes_left read_faults sources.old.items sources.new.items) 0 in
         ¬ HasFault source → ¬ HasFault (change K.bytes_taken K.write_faults out.old out.new)
         → result ≢ 4 → WhereKnown R source (λ b units ending. result ≡ status_at ending) }
+    ensures extracts { (R : Readers) → AreOfH266 R → (command : Asked) (task : TaskAsked) → AskFor (texts words.now) command
+        → task_in command ≡ Some task
+        → let source = source_at (sources_change bytes_left read_faults sources.old.items sources.new.items) 0 in
+        ¬ HasFault source → ¬ HasFault (change K.bytes_taken K.write_faults out.old out.new)
+        → result ≢ 4 → WhereTold R source (λ ps ending. IsStatus task ps ending result) }
 {
     match perform(alloc, words, sources, out) {
         Ok(()) => 0,
@@ -65,8 +73,34 @@ fn perform<K: Sink>(
 {
     match command_of(words) {
         Some(Command::Show { .. }) => show(alloc, &mut sources[0], out),
+        Some(
+            Command::Extract {
+                tid,
+                level,
+                index,
+                ..
+            },
+        ) => extract(alloc, task_of(tid, level, index), &mut sources[0], out),
+        Some(Command::CheckExtract { tid, index, .. }) => {
+            check_extract(alloc, task_of(tid, None, index), &mut sources[0], out)
+        }
         Some(Command::Help) => write_text(help(), out),
         Some(Command::Version) => write_text(version(), out),
         None => Err(Stop::NotUnderstood),
+    }
+}
+
+/// The highest TemporalId of all.
+const ALL: u8 = 6;
+
+/// What is asked of an extraction.
+fn task_of(tid: Option<u8>, level: Option<u8>, index: u16) -> Task
+    ensures task { result ≡ task_by tid level index }
+    ensures tid { IsTid tid → result.tid ≤ 6 }
+{
+    Task {
+        target: u32::from(index),
+        level,
+        tid: tid.unwrap_or(ALL),
     }
 }

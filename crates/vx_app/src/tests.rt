@@ -7,7 +7,7 @@ use std::test::Fail;
 use vx_io::{MemorySink, MemorySource, Source};
 
 /// A parameter set of a sequence, one of a picture, and a slice: a gray picture of 64 by 64 samples.
-const GRAY: &[u8] = &[
+pub(crate) const GRAY: &[u8] = &[
     0x00, 0x00, 0x00, 0x01, 0x00, 0x79, 0x00, 0x03, 0x02, 0x33, 0x80, 0x00, 0x00, 0x82, 0x04, 0x12,
     0x00, 0x3D, 0xE0, 0x03, 0x00, 0x60, 0x80, 0x01, 0x00, 0x00, 0x00, 0x01, 0x00, 0x81, 0x00, 0x00,
     0x41, 0x02, 0x08, 0x98, 0x40, 0x80, 0x00, 0x00, 0x00, 0x01, 0x00, 0x41, 0xC4, 0x18, 0x5A, 0xA7,
@@ -64,21 +64,21 @@ const BROKEN_LINE: &[u8] = br#"{"bytes":2,"offset":3,"tid":0,"type":20}
 
 /// The words, a memory source and the sinks of a run, and what comes of it.
 #[derive(Clone, Copy)]
-struct Row<'a> {
-    words: &'a [&'a str],
-    bytes: &'a [u8],
-    pieces: &'a [u32],
-    failing_reads: &'a [u64],
-    room: usize,
-    taken: &'a [u32],
-    failing_writes: &'a [u64],
-    failing_tells: &'a [u64],
-    out: &'a [u8],
-    err: &'a [u8],
-    status: u8,
+pub(crate) struct Row<'a> {
+    pub(crate) words: &'a [&'a str],
+    pub(crate) bytes: &'a [u8],
+    pub(crate) pieces: &'a [u32],
+    pub(crate) failing_reads: &'a [u64],
+    pub(crate) room: usize,
+    pub(crate) taken: &'a [u32],
+    pub(crate) failing_writes: &'a [u64],
+    pub(crate) failing_tells: &'a [u64],
+    pub(crate) out: &'a [u8],
+    pub(crate) err: &'a [u8],
+    pub(crate) status: u8,
 }
 
-const SHOW: Row<'static> = Row {
+pub(crate) const SHOW: Row<'static> = Row {
     words: &["show", "a.266"],
     bytes: GRAY,
     pieces: &[],
@@ -294,6 +294,12 @@ const HELP: &[u8] = b"goosequince: subpictures of VVC byte streams (H.266, Annex
              bytes, the place of its first byte, its TemporalId and its type,
              then what is read of the parameter set that it is, or of the
              picture that it completes
+  extract [--tid T] [--level N] INDEX FILE
+             the subpicture of an index, from 0, of each picture, as a byte stream
+             of its own; of the pictures with a TemporalId of at most T, and with N
+             as its general_level_idc
+  check extract [--tid T] INDEX FILE
+             whether that can be done, and for how many pictures
   --help     this text
   --version  the name and the version of the program
 
@@ -316,13 +322,16 @@ The letters of the rules:
      breaks behind the units before it
   L  limits: L1 a unit of more than 2^23 bytes, L2 a picture of more than 2^25,
      L3 a source of more than 2^40, L5 to L10 what no level allows
+  E  extraction: E1 a stream without pictures, E2 a picture without the
+     subpicture, E3 it isn't treated as a picture, E4 in-loop filters cross its
+     borders, E5 an IRAP or GDR picture has a TemporalId above T
 ";
 
 /// What the program tells of itself. No source is there to be read.
 const ABOUT: [Row<'static>; 4] = [
     Row {
         words: &["--help"],
-        room: 2000,
+        room: 3000,
         out: HELP,
         ..SHOW
     },
@@ -348,63 +357,45 @@ const ABOUT: [Row<'static>; 4] = [
     },
 ];
 
+/// Words that are no command: nothing is read.
+pub(crate) const ABSENT: Row<'static> = Row {
+    words: &[],
+    out: b"",
+    err: b"words not understood\n",
+    status: 2,
+    ..SHOW
+};
+
 /// Words that are no command.
 const NOT_UNDERSTOOD: [Row<'static>; 8] = [
-    Row {
-        words: &[],
-        out: b"",
-        err: b"words not understood\n",
-        status: 2,
-        ..SHOW
-    },
+    ABSENT,
     Row {
         words: &["show"],
-        out: b"",
-        err: b"words not understood\n",
-        status: 2,
-        ..SHOW
+        ..ABSENT
     },
     Row {
         words: &["show", ""],
-        out: b"",
-        err: b"words not understood\n",
-        status: 2,
-        ..SHOW
+        ..ABSENT
     },
     Row {
         words: &["show", "a.266", "b.266"],
-        out: b"",
-        err: b"words not understood\n",
-        status: 2,
-        ..SHOW
+        ..ABSENT
     },
     Row {
         words: &["Show", "a.266"],
-        out: b"",
-        err: b"words not understood\n",
-        status: 2,
-        ..SHOW
+        ..ABSENT
     },
     Row {
         words: &["a.266", "show"],
-        out: b"",
-        err: b"words not understood\n",
-        status: 2,
-        ..SHOW
+        ..ABSENT
     },
     Row {
         words: &["--help", "show"],
-        out: b"",
-        err: b"words not understood\n",
-        status: 2,
-        ..SHOW
+        ..ABSENT
     },
     Row {
         words: &["-version"],
-        out: b"",
-        err: b"words not understood\n",
-        status: 2,
-        ..SHOW
+        ..ABSENT
     },
 ];
 
@@ -530,7 +521,7 @@ fn shows_units(rt: HostRuntime) -> Result<(), Fail> {
     check_rows(&rt, rt.alloc(), &NOT_UNDERSTOOD, &[])
 }
 
-fn check_rows(
+pub(crate) fn check_rows(
     rt: &impl Abort,
     alloc: Global,
     rows: &[Row<'_>],
@@ -543,7 +534,12 @@ fn check_rows(
 }
 
 /// Runs the program as the row says, and compares what it wrote and answered.
-fn check_row(rt: &impl Abort, alloc: Global, at: usize, row: &Row<'_>) -> Result<(), Fail> {
+pub(crate) fn check_row(
+    rt: &impl Abort,
+    alloc: Global,
+    at: usize,
+    row: &Row<'_>,
+) -> Result<(), Fail> {
     check_bytes(rt, alloc, at, row, Vec::from_slice(alloc, row.bytes)?)
 }
 

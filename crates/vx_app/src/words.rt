@@ -1,24 +1,58 @@
 //! The grammar of the program's words, without the program's name.
 
-ghost use Rattle.std.specs.Prelude.{◌≡◌, None, IfSome, IfNone, slice_get, option_copied};
+ghost use Rattle.std.specs.Prelude.{◌≡◌, ◌≤◌, ◌∷◌, [], ℕ, List, Option as OptionOf, true, false, decimal, codes, None, IfSome, IfNone, MatchOption, slice_get, option_copied};
 ghost use Rattle.vx_app.specs.Asked.{asked};
-ghost use Rattle.vx_app.specs.Grammar.{Command as Asked, AskFor, IsUnderstood, NamesFiles, files_of, texts};
+ghost use Rattle.vx_app.specs.Grammar.{Command as Asked, extract, check_extract, spelling, IsWellNamed, AskFor, IsUnderstood, NamesFiles, files_of, texts};
+ghost use Rattle.vx_app.specs.inner.Words.{BeginsNot, IsNumberFirst, IsOptionFirst, is_extraction};
 
 /// What the words ask for, with what they name.
 #[derive(Clone, Copy)]
 pub enum Command<'a> {
     /// `show FILE`
-    Show { file: &'a str },
+    Show {
+        file: &'a str,
+    },
+    /// `extract [--tid T] [--level N] INDEX FILE`
+    Extract {
+        tid: Option<u8>,
+        level: Option<u8>,
+        index: u16,
+        file: &'a str,
+    },
+    /// `check extract [--tid T] INDEX FILE`
+    CheckExtract {
+        tid: Option<u8>,
+        index: u16,
+        file: &'a str,
+    },
     /// `--help`
     Help,
     /// `--version`
     Version,
 }
 
+/// The greatest TemporalId, level and index of a subpicture that words may name.
+const MOST_TID: u8 = 6;
+
+const MOST_LEVEL: u8 = 255;
+
+const MOST_INDEX: u16 = 999;
+
 /// The command that the words spell.
 pub fn command_of(words: &[String]) -> Option<Command<'_>>
     ensures some { IfSome result (λ command. AskFor (texts words.now) (asked command)) }
     ensures none { IfNone result (¬ IsUnderstood (texts words.now)) }
+{
+    if let Some(command) = plain_of(words) {
+        return Some(command);
+    }
+    extraction_of(words)
+}
+
+/// The command, but for extractions.
+fn plain_of(words: &[String]) -> Option<Command<'_>>
+    ensures some { IfSome result (λ command. AskFor (texts words.now) (asked command)) }
+    ensures none { IfNone result ((command : Asked) → is_extraction command ≡ false → AskFor (texts words.now) command → ⊥) }
 {
     match words {
         [name, file] if name.as_str() == "show" && !file.is_empty() => {
@@ -32,14 +66,120 @@ pub fn command_of(words: &[String]) -> Option<Command<'_>>
     }
 }
 
+/// The command, where it is an extraction.
+fn extraction_of(words: &[String]) -> Option<Command<'_>>
+    ensures some { IfSome result (λ command. AskFor (texts words.now) (asked command)) }
+    ensures none { IfNone result ((command : Asked) → is_extraction command ≡ true → AskFor (texts words.now) command → ⊥) }
+{
+    if let Some(rest) = behind(words, "extract") {
+        return extract_of(rest);
+    }
+    let rest = behind(words, "check")?;
+    check_extract_of(behind(rest, "extract")?)
+}
+
+/// `[--tid T] [--level N] INDEX FILE`
+fn extract_of(words: &[String]) -> Option<Command<'_>>
+    ensures some { IfSome result (λ command. AskFor (codes "extract" ∷ texts words.now) (asked command)) }
+    ensures none { IfNone result ((tid level : OptionOf ℕ) (index : ℕ) (file : List ℕ)
+        → AskFor (codes "extract" ∷ texts words.now) (extract tid level index file) → ⊥) }
+{
+    let (tid, rest) = option(words, "--tid", MOST_TID)?;
+    let (level, rest) = option(rest, "--level", MOST_LEVEL)?;
+    let (index, rest) = number_first(rest, MOST_INDEX)?;
+    let file = file_alone(rest)?;
+    Some(Command::Extract {
+        tid,
+        level,
+        index,
+        file,
+    })
+}
+
+/// `[--tid T] INDEX FILE`
+fn check_extract_of(words: &[String]) -> Option<Command<'_>>
+    ensures some { IfSome result (λ command. AskFor (codes "check" ∷ codes "extract" ∷ texts words.now) (asked command)) }
+    ensures none { IfNone result ((tid : OptionOf ℕ) (index : ℕ) (file : List ℕ)
+        → AskFor (codes "check" ∷ codes "extract" ∷ texts words.now) (check_extract tid index file) → ⊥) }
+{
+    let (tid, rest) = option(words, "--tid", MOST_TID)?;
+    let (index, rest) = number_first(rest, MOST_INDEX)?;
+    let file = file_alone(rest)?;
+    Some(Command::CheckExtract { tid, index, file })
+}
+
+/// The words behind this one, where it comes first.
+fn behind<'a>(words: &'a [String], name: &str) -> Option<&'a [String]>
+    ensures { MatchOption result (BeginsNot name.now (texts words.now)) (λ rest. texts words.now ≡ name.now ∷ texts rest.now) }
+{
+    if words.is_empty() {
+        return None;
+    }
+    if words[0].as_str() != name {
+        return None;
+    }
+    Some(&words[1..])
+}
+
+/// The number of an option, where that comes first, and the words behind it. None where
+/// its number is missing.
+fn option<'a>(words: &'a [String], name: &str, most: u8) -> Option<(Option<u8>, &'a [String])>
+    ensures { MatchOption result
+        ((n : OptionOf ℕ) (rest : List (List ℕ)) → IsOptionFirst name.now most (texts words.now) n rest → ⊥)
+        (λ r. IsOptionFirst name.now most (texts words.now) r.0 (texts r.1.now)) }
+{
+    let Some(rest) = behind(words, name) else {
+        return Some((None, words));
+    };
+    let (n, rest) = number_first(rest, u16::from(most))?;
+    Some((Some(n as u8), rest))
+}
+
+/// The number that comes first, and the words behind it.
+fn number_first(words: &[String], most: u16) -> Option<(u16, &[String])>
+    ensures { MatchOption result
+        ((n : ℕ) (rest : List (List ℕ)) → IsNumberFirst most (texts words.now) n rest → ⊥)
+        (λ r. IsNumberFirst most (texts words.now) r.0 (texts r.1.now)) }
+{
+    if words.is_empty() {
+        return None;
+    }
+    let n = number(words[0].as_str(), most)?;
+    Some((n, &words[1..]))
+}
+
+/// The number that a word is, of at most so much. `parse` takes a plus and further zeros
+/// before it, which are no part of a number here.
+fn number(word: &str, most: u16) -> Option<u16>
+    ensures { MatchOption result ((n : ℕ) → n ≤ most → word.now ≡ decimal n → ⊥) (λ n. (word.now ≡ decimal n) × (n ≤ most)) }
+{
+    let bytes = word.as_bytes();
+    if bytes.len() > 1 && bytes[0] < b'1' {
+        return None;
+    }
+    let Ok(n) = word.parse::<u16>() else {
+        return None;
+    };
+    (n <= most).then_some(n)
+}
+
+/// The file, where it is the only word.
+fn file_alone(words: &[String]) -> Option<&str>
+    ensures { MatchOption result
+        ((file : List ℕ) → texts words.now ≡ file ∷ [] → file ≡ [])
+        (λ file. (texts words.now ≡ file.now ∷ []) × (file.now ≡ [] → ⊥)) }
+{
+    match words {
+        [file] if !file.is_empty() => Some(file.as_str()),
+        _ => None,
+    }
+}
+
 /// How many files the words name; none where they are no command.
 pub fn file_count(words: &[String]) -> usize
     ensures { NamesFiles (texts words.now) result }
 {
-    match command_of(words) {
-        Some(Command::Show { .. }) => 1,
-        Some(Command::Help | Command::Version) | None => 0,
-    }
+    usize::from(file_of(words).is_some())
 }
 
 /// The `k`-th file that the words name, from 0.
@@ -48,8 +188,21 @@ pub fn file_word(words: &[String], k: usize) -> Option<&str>
         → option_copied result ≡ slice_get (files_of command) k }
     ensures none { ¬ IsUnderstood (texts words.now) → result ≡ None }
 {
-    match command_of(words) {
-        Some(Command::Show { file }) if k == 0 => Some(file),
-        _ => None,
+    if k > 0 {
+        return None;
+    }
+    file_of(words)
+}
+
+/// The file that the words name.
+fn file_of(words: &[String]) -> Option<&str>
+    ensures file { (command : Asked) → AskFor (texts words.now) command → option_copied result ≡ slice_get (files_of command) 0 }
+    ensures none { ¬ IsUnderstood (texts words.now) → result ≡ None }
+{
+    match command_of(words)? {
+        Command::Show { file }
+        | Command::Extract { file, .. }
+        | Command::CheckExtract { file, .. } => Some(file),
+        Command::Help | Command::Version => None,
     }
 }

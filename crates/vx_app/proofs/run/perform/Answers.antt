@@ -1,12 +1,12 @@
-use Rattle.std.proofs.Common.{◌<◌, length, arith, refl}
-use Rattle.vx_app.specs.Grammar.{help, version}
-use Rattle.vx_app.proofs.Performing.{names-file, performs, performs-show}
+use Rattle.std.proofs.Common.{◌<◌, length, arith, refl, None}
+use Rattle.vx_app.specs.Grammar.{show, extract, check_extract, help, version}
+use Rattle.vx_app.proofs.Performing.{names-file, performs, performs-show, performs-extract, performs-check}
 use Rattle.vx_app.proofs.run.perform.Goals as goal
 
 pub returns-in-Some-Show-clause-performs : goal.returns-in-Some-Show-clause-performs
 returns-in-Some-Show-clause-performs g c =
     let spelled = rw c.in-Some-Show.field-0-is at c.in-Some-Show.ensures.some in
-    let named = names-file _ _ c.requires _ spelled in
+    let named = names-file _ _ c.requires (show _) spelled (omega arith) in
     let within : 0 < length c.args.sources.now.items = omega arith in
     performs-show _ _ _ c.index_mut.result.now c.show.new.source c.args.sources.now.items _ c.show.result _ spelled within c.index_mut.ensures.value (c.show.ensures.stop, c.show.ensures.shows)
 
@@ -17,3 +17,19 @@ returns-in-Some-Help-clause-performs g c =
 pub returns-in-Some-Version-clause-performs : goal.returns-in-Some-Version-clause-performs
 returns-in-Some-Version-clause-performs g c =
     performs _ _ _ _ version (rw c.in-Some-Version.field-0-is at c.in-Some-Version.ensures.some) (refl, rw c.version.ensures at c.write_text-in-Some-Version.ensures.writes)
+
+pub returns-in-Some-Extract-clause-performs : goal.returns-in-Some-Extract-clause-performs
+returns-in-Some-Extract-clause-performs g c =
+    let spelled = rw c.in-Some-Extract.field-0-is at c.in-Some-Extract.ensures.some in
+    let named = names-file _ _ c.requires (extract _ _ _ _) spelled (omega arith) in
+    let within : 0 < length c.args.sources.now.items = omega arith in
+    performs-extract _ _ _ c.index_mut-in-Some-Extract.result.now c.extract.new.source c.args.sources.now.items _ c.extract.result _ _ _ _ spelled within c.index_mut-in-Some-Extract.ensures.value
+    (c.extract.ensures.stop, rw c.task_of.ensures.task at c.extract.ensures.extracts)
+
+pub returns-in-Some-CheckExtract-clause-performs : goal.returns-in-Some-CheckExtract-clause-performs
+returns-in-Some-CheckExtract-clause-performs g c =
+    let spelled = rw c.in-Some-CheckExtract.field-0-is at c.in-Some-CheckExtract.ensures.some in
+    let named = names-file _ _ c.requires (check_extract _ _ _) spelled (omega arith) in
+    let within : 0 < length c.args.sources.now.items = omega arith in
+    performs-check _ _ _ c.index_mut-in-Some-CheckExtract.result.now c.check_extract.new.source c.args.sources.now.items _ c.check_extract.result _ _ _ spelled within c.index_mut-in-Some-CheckExtract.ensures.value
+    (c.check_extract.ensures.stop, rw c.task_of-in-Some-CheckExtract.ensures.task at c.check_extract.ensures.checks)

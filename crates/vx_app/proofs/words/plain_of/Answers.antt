@@ -1,6 +1,6 @@
 use Rattle.std.proofs.Common.{rules, ◌≡◌, ℕ, ◌<◌, ◌≤◌, length, List, [], ◌∷◌, slice_index_or, string_bytes, String, arith}
 use Rattle.vx_app.specs.Grammar.{texts}
-use Rattle.vx_app.proofs.words.command_of.Goals as goal
+use Rattle.vx_app.proofs.words.plain_of.Goals as goal
 
 -- two words by their bytes
 two_texts : {A : Type 0} (words : List (String A)) (name file : String A) (n f : List ℕ) → 2 ≤ length words → length words < 3 → name ≡ slice_index_or words 0 name → file ≡ slice_index_or words 1 file → string_bytes name ≡ n → string_bytes file ≡ f → texts words ≡ n ∷ f ∷ []

@@ -1,0 +1,163 @@
+-- What `extract` and `check extract` find in the pictures of a source, and what they write. Lists of pictures have the latest first.
+use Rattle.std.specs.Prelude.{◌≡◌, ◌↔◌, ℕ, ◌<◌, nat_le, Bool, false, List, [], ◌∷◌, ◌++◌, length, filter, map, codes, decimal}
+use Rattle.std.specs.Prelude.{Option, Some, None, unwrap_or, Result, Ok, Err, IfErr}
+use Rattle.std.specs.List.{AllByRecursion, concat}
+use Rattle.std.specs.Io.KnownBytes.{Consumes, IsAtEnd}
+use Rattle.vx_bits.specs.declared.refusal.Refusal.{Refusal}
+use Rattle.vx_bits.specs.declared.refusal.Refusal.TheVariants.{Extract}
+use Rattle.vx_bits.specs.declared.rules.TheConstants.{NO_PICTURE}
+use Rattle.vx_annexb.specs.ByteStream.{UnitPlace, FollowsFrom}
+use Rattle.vx_pic.specs.Readings.{Reading, Picture, pictures}
+use Rattle.vx_pic.specs.Rules.{Readers}
+use Rattle.vx_pic.specs.Streams.{read_on, all_read}
+use Rattle.vx_pic.specs.Bytes.{Ending, units_at, AreSourcePictures, AreSeenPictures}
+use Rattle.vx_pic.specs.H266.{AreOfH266}
+use Rattle.vx_pic.specs.Parts.{parts_of}
+use Rattle.vx_report.specs.declared.refusal.Where.{Where}
+use Rattle.vx_assemble.specs.Feed.{seen_of, IsNearEnd}
+use Rattle.vx_extract.specs.Rules.{refusal_of}
+use Rattle.vx_extract.specs.Written.{IsExtraction}
+use Rattle.vx_app.specs.declared.stop.Stop.TheVariants.{NotUnderstood, Refused, ReadFault, WriteFault, NoMemory}
+use Rattle.vx_app.specs.declared.extract.Task.{Task}
+use Rattle.vx_app.specs.Change.{Change, IsUntouched, HasNoFault, HasFault, GivesFront, Gains, GainsFront}
+use Rattle.vx_app.specs.Conclusion.{Outcome, IsOfCommand}
+use Rattle.vx_app.specs.Show.{IsToldAt}
+
+-- what is asked for: the subpicture of this index, at a level, and without the pictures of a TemporalId above one; 6 is the highest
+abbrev pub task_of : (tid level : Option ℕ) (index : ℕ) → Task
+task_of tid level index = record { target = index; level = level; tid = unwrap_or tid 6 }
+
+-- ---- pictures
+
+-- those that are kept (C.6)
+abbrev pub at_most : ℕ → List Picture → List Picture
+at_most tid ps = filter (λ p. nat_le p.kind.temporal_id tid) ps
+
+-- none breaks a rule
+abbrev pub BreakNoRule : Task → List Picture → Type 0
+BreakNoRule t ps = AllByRecursion (λ p. refusal_of t.target t.tid (parts_of p) ≡ None) ps
+
+-- behind these pictures comes the first that breaks a rule, which is refused so
+pub record BreaksBehind (t : Task) (ps before : List Picture) (r : Refusal) : Type 0 where
+  pub later : List Picture
+  pub picture : Picture
+  pub place : ps ≡ later ++ picture ∷ before
+  pub kept : BreakNoRule t before
+  pub broken : refusal_of t.target t.tid (parts_of picture) ≡ Some r
+
+-- the subpicture can be extracted: the stream is whole, it has a picture, and none breaks a rule
+pub record IsExtractable (t : Task) (ps : List Picture) (ending : Option Ending) : Type 0 where
+  pub whole : ending ≡ None
+  pub some : 0 < length ps
+  pub rules : BreakNoRule t ps
+
+-- the n-th picture of the first source, from 0
+abbrev pub at_picture : ℕ → Where
+at_picture n = record { source = 0; unit = 0; picture = n; written = false }
+
+-- What is refused behind these pictures, and at which place: what ends the stream; a picture that breaks a rule; or that there is none.
+pub data Refuses (t : Task) (ps : List Picture) (ending : Option Ending) (before : List Picture) (r : Refusal) (place : Where) : Type 0 where
+  by_stream : before ≡ ps → BreakNoRule t ps → IsToldAt ending r place → Refuses t ps ending before r place
+  by_picture : BreaksBehind t ps before r → place ≡ at_picture (length before) → Refuses t ps ending before r place
+  without : before ≡ ps → ps ≡ [] → ending ≡ None → r ≡ Extract NO_PICTURE → place ≡ at_picture 0 → Refuses t ps ending before r place
+
+-- of the bytes that a source tells, their pictures and their ending
+abbrev pub WhereTold : {A : Type 0} → Readers → Change A → (List Picture → Option Ending → Type 0) → Type 0
+WhereTold R source P =
+    (b : List ℕ) (ps : List Picture) (ending : Option Ending)
+    → source.bytes source.old ≡ Some b → AreSourcePictures R b ps ending → P ps ending
+
+-- these are the first of them
+abbrev pub BeginsWith : List Picture → List Picture → Type 0
+BeginsWith ps first = (later : List Picture) × (ps ≡ later ++ first)
+
+-- A read failed: these are the pictures that are seen in what the source has given, however that goes on, and none breaks a rule.
+pub record HasSeen {A : Type 0} (R : Readers) (t : Task) (source : Change A) (ps : List Picture) : Type 0 where
+  pub given : List ℕ
+  pub gave : Consumes (source.bytes source.old) (source.bytes source.new) given
+  pub seen : AreSeenPictures R (seen_of given) ps
+  pub rules : BreakNoRule t ps
+
+-- 0 exactly where the subpicture can be extracted, and else 1
+pub record IsStatus (t : Task) (ps : List Picture) (ending : Option Ending) (status : ℕ) : Type 0 where
+  pub done : (status ≡ 0) ↔ IsExtractable t ps ending
+  pub refused : (status ≡ 1) ↔ ¬ IsExtractable t ps ending
+
+-- ---- `extract`
+
+-- what is written of these pictures
+abbrev pub AreWritten : Task → List Picture → List ℕ → Type 0
+AreWritten t ps bytes = IsExtraction t.target t.level (map parts_of (at_most t.tid ps)) bytes
+
+-- `out` gained it, or a front of it where a write failed
+abbrev pub GainsExtraction : {K : Type 0} → Task → List Picture → Change K → Type 0
+GainsExtraction t ps out = (bytes : List ℕ) × AreWritten t ps bytes × Gains out bytes
+
+abbrev pub GainsExtractionFront : {K : Type 0} → Task → List Picture → Change K → Type 0
+GainsExtractionFront t ps out = (bytes : List ℕ) × AreWritten t ps bytes × GainsFront out bytes
+
+-- A write failed: `out` gained a front of what is written of the pictures up to one, the last that was taken. The source has given
+-- fewer bytes past the place where the end of the last unit taken is seen than a read asks for.
+pub record ExtractsFront {A K : Type 0} (R : Readers) (t : Task) (source : Change A) (out : Change K) : Type 0 where
+  pub given : List ℕ
+  pub units : List UnitPlace
+  pub readings : List Reading
+  pub ended : Bool
+  pub gave : Consumes (source.bytes source.old) (source.bytes source.new) given
+  pub follow : FollowsFrom (seen_of given) ended 0 units
+  pub read : read_on R [] (units_at (seen_of given) units) ≡ all_read readings
+  pub rules : BreakNoRule t (pictures readings)
+  pub front : GainsExtractionFront t (pictures readings) out
+  pub near : IsNearEnd given units
+
+-- What `extract` did to its source and to `out`, by what came of it. Where it was done or refused, `out` gained what is written of the
+-- pictures before the ending, and for want of memory of the first of them.
+abbrev pub ExtractsBy : {A K : Type 0} → Readers → Task → Change A → Change K → Outcome → Type 0
+ExtractsBy R t source out (Ok _) =
+    HasNoFault source × HasNoFault out × GivesFront source × IsAtEnd (source.bytes source.new)
+    × WhereTold R source (λ ps ending. IsExtractable t ps ending × GainsExtraction t ps out)
+ExtractsBy R t source out (Err (Refused r place)) =
+    HasNoFault source × HasNoFault out × GivesFront source
+    × WhereTold R source (λ ps ending. (before : List Picture) × Refuses t ps ending before r place × GainsExtraction t before out)
+ExtractsBy R t source out (Err (ReadFault k)) =
+    HasFault source × (k ≡ 0) × ((ps : List Picture) × HasSeen R t source ps × GainsExtraction t ps out)
+ExtractsBy R t source out (Err WriteFault) =
+    HasNoFault source × HasFault out × ExtractsFront R t source out
+    × WhereTold R source (λ ps ending. (first : List Picture) × BeginsWith ps first × GainsExtractionFront t first out)
+ExtractsBy R t source out (Err NoMemory) =
+    HasNoFault source × HasNoFault out × GivesFront source
+    × WhereTold R source (λ ps ending. (first : List Picture) × BeginsWith ps first × GainsExtraction t first out)
+ExtractsBy R t source out (Err NotUnderstood) = ⊥
+
+-- that is so by the readers of H.266; and the words were understood
+abbrev pub Extracts : {A K : Type 0} → Task → Change A → Change K → Outcome → Type 0
+Extracts t source out outcome = IfErr outcome IsOfCommand × ((R : Readers) → AreOfH266 R → ExtractsBy R t source out outcome)
+
+-- ---- `check extract`
+
+-- `ok pictures 2`
+abbrev pub ok_text : ℕ → List ℕ
+ok_text n = concat (codes "ok pictures " ∷ decimal n ∷ codes "\n" ∷ [])
+
+-- how many pictures are kept
+abbrev pub ok_line : Task → List Picture → List ℕ
+ok_line t ps = ok_text (length (at_most t.tid ps))
+
+-- What `check extract` did to them: it says what `extract` would come to, and writes that line alone.
+abbrev pub ChecksBy : {A K : Type 0} → Readers → Task → Change A → Change K → Outcome → Type 0
+ChecksBy R t source out (Ok _) =
+    HasNoFault source × HasNoFault out × GivesFront source × IsAtEnd (source.bytes source.new)
+    × WhereTold R source (λ ps ending. IsExtractable t ps ending × Gains out (ok_line t ps))
+ChecksBy R t source out (Err (Refused r place)) =
+    HasNoFault source × IsUntouched out × GivesFront source
+    × WhereTold R source (λ ps ending. (before : List Picture) × Refuses t ps ending before r place)
+ChecksBy R t source out (Err (ReadFault k)) =
+    HasFault source × (k ≡ 0) × IsUntouched out × ((ps : List Picture) × HasSeen R t source ps)
+ChecksBy R t source out (Err WriteFault) =
+    HasNoFault source × HasFault out × GivesFront source × IsAtEnd (source.bytes source.new)
+    × WhereTold R source (λ ps ending. IsExtractable t ps ending × GainsFront out (ok_line t ps))
+ChecksBy R t source out (Err NoMemory) = HasNoFault source × IsUntouched out × GivesFront source
+ChecksBy R t source out (Err NotUnderstood) = ⊥
+
+abbrev pub Checks : {A K : Type 0} → Task → Change A → Change K → Outcome → Type 0
+Checks t source out outcome = IfErr outcome IsOfCommand × ((R : Readers) → AreOfH266 R → ChecksBy R t source out outcome)

@@ -1,0 +1,25 @@
+-- Words, read from the front on.
+use Rattle.std.specs.Prelude.{◌≡◌, ℕ, ◌≤◌, List, [], ◌∷◌, decimal, Bool, true, false, Option, Some, None}
+use Rattle.vx_app.specs.Grammar.{Command, show, extract, check_extract, help, version}
+
+-- another word, or none, comes first
+abbrev pub BeginsNot : List ℕ → List (List ℕ) → Type 0
+BeginsNot name words = (rest : List (List ℕ)) → words ≡ name ∷ rest → ⊥
+
+-- a number of at most so much comes first, and then these words
+pub record IsNumberFirst (most : ℕ) (words : List (List ℕ)) (n : ℕ) (rest : List (List ℕ)) : Type 0 where
+  pub spelled : words ≡ decimal n ∷ rest
+  pub within : n ≤ most
+
+-- an option of this name, with such a number, or another word; and then these words
+abbrev pub IsOptionFirst : List ℕ → ℕ → List (List ℕ) → Option ℕ → List (List ℕ) → Type 0
+IsOptionFirst name most words None rest = (rest ≡ words) × BeginsNot name words
+IsOptionFirst name most words (Some n) rest = (after : List (List ℕ)) × (words ≡ name ∷ after) × IsNumberFirst most after n rest
+
+-- the command extracts a subpicture, or asks whether it can be
+abbrev pub is_extraction : Command → Bool
+is_extraction (show file) = false
+is_extraction (extract tid level index file) = true
+is_extraction (check_extract tid index file) = true
+is_extraction help = false
+is_extraction version = false

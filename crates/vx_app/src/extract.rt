@@ -1,0 +1,258 @@
+//! `extract` and `check extract`: a subpicture of each picture of a byte stream, as a stream of its own.
+
+ghost use Rattle.std.specs.Prelude.{◌≡◌, ◌+◌, ◌<◌, ◌≤◌, ◌∷◌, ◌^◌, nat_le, List, ℕ, true, cond, Ok, None, IfOk, IfErr, OnOk};
+ghost use Rattle.vx_annexb.specs.ByteStream.{UnitPlace};
+ghost use Rattle.vx_annexb.specs.Reading.{LastWasNeeded};
+ghost use Rattle.vx_pic.specs.Readings.{Reading, Picture as StreamPicture, pictures as pictures_in};
+ghost use Rattle.vx_pic.specs.Rules.{Readers};
+ghost use Rattle.vx_pic.specs.H266.{AreOfH266};
+ghost use Rattle.vx_pic.specs.Written.{Plan};
+ghost use Rattle.vx_assemble.specs.Held.{HasPicture, ShowsLatest};
+ghost use Rattle.vx_assemble.specs.Feed.{HasFed, EndsAtEnd, Advances};
+ghost use Rattle.vx_assemble.specs.declared.feed.Step.TheVariants as steps;
+ghost use Rattle.vx_extract.specs.Extracting.{Stands, SameTask};
+ghost use Rattle.vx_app.specs.Change.{change};
+ghost use Rattle.vx_app.specs.Conclusion.{IsOfCommand};
+ghost use Rattle.vx_app.specs.Show.{behind_unit as place_behind};
+ghost use Rattle.vx_app.specs.Extract.{ExtractsBy, ChecksBy, at_picture as place_at, ok_text};
+ghost use Rattle.vx_bits.specs.declared.refusal.Refusal.TheVariants.{Extract};
+ghost use Rattle.vx_app.specs.inner.Extracting.{AdvancesOn, ExtractsOne, ChecksOne, CountsBy, stop_by, stop_at};
+ghost use Rattle.vx_app.specs.declared.stop.Stop.TheVariants as stops;
+
+use crate::stop::Stop;
+use std::alloc::{AllocError, Global};
+use vx_assemble::{Feed, FeedFault, Step};
+use vx_bits::Refusal;
+use vx_bits::rules::NO_PICTURE;
+use vx_extract::{Extractor, WriteError};
+use vx_io::{Sink, Source, write_all};
+use vx_pic::{Picture, subpictures_have_slices};
+use vx_report::Where;
+
+/// What is asked of an extraction.
+#[derive(Clone, Copy, Debug, PartialEq, Eq)]
+pub struct Task {
+    /// The index of the subpicture.
+    pub target: u32,
+    /// The level that is told; that of the source where there is none.
+    pub level: Option<u8>,
+    /// The highest TemporalId of the pictures that are kept.
+    pub tid: u8,
+}
+
+/// Writes the subpicture of each picture of a source that is kept, with the sets that it needs.
+pub fn extract<K: Sink>(
+    alloc: Global,
+    task: Task,
+    source: &mut Box<dyn Source>,
+    out: &mut K,
+) -> Result<(), Stop>
+    requires { task.tid ≤ 6 }
+    ensures extracts { (R : Readers) → AreOfH266 R → ExtractsBy R task (change bytes_left read_faults source.old source.new)
+        (change K.bytes_taken K.write_faults out.old out.new) result }
+    ensures stop { IfErr result IsOfCommand }
+{
+    subpictures_have_slices();
+    let mut feed = Feed::new(alloc)?;
+    let mut extractor = Extractor::limited(alloc, task.target, task.level, task.tid);
+    let mut pictures = 0;
+    while advance(&mut feed, source)? {
+        extract_picture(&feed, &mut extractor, pictures, out)?;
+        pictures = one_more(pictures, feed.unit());
+    }
+    some_picture(pictures)
+}
+
+/// Says how many pictures of a source are kept, where the subpicture can be extracted.
+pub fn check_extract<K: Sink>(
+    alloc: Global,
+    task: Task,
+    source: &mut Box<dyn Source>,
+    out: &mut K,
+) -> Result<(), Stop>
+    requires { task.tid ≤ 6 }
+    ensures checks { (R : Readers) → AreOfH266 R → ChecksBy R task (change bytes_left read_faults source.old source.new)
+        (change K.bytes_taken K.write_faults out.old out.new) result }
+    ensures stop { IfErr result IsOfCommand }
+{
+    let kept = count_kept(alloc, task, source)?;
+    let line = ok_line(alloc, kept)?;
+    write_all(out, &line)?;
+    Ok(())
+}
+
+/// How many pictures of a source are kept, where the subpicture can be extracted.
+fn count_kept(alloc: Global, task: Task, source: &mut Box<dyn Source>) -> Result<u64, Stop>
+    requires { task.tid ≤ 6 }
+    ensures counts { (R : Readers) → AreOfH266 R → CountsBy R task (change bytes_left read_faults source.old source.new) result }
+    ensures stop { IfErr result IsOfCommand }
+{
+    let mut feed = Feed::new(alloc)?;
+    let mut extractor = Extractor::limited(alloc, task.target, task.level, task.tid);
+    let mut pictures = 0;
+    let mut kept = 0;
+    while advance(&mut feed, source)? {
+        let picture = feed.picture();
+        check_picture(&picture, &mut extractor, pictures)?;
+        pictures = one_more(pictures, feed.unit());
+        kept = kept_with(&picture, task.tid, kept, pictures);
+    }
+    some_picture(pictures)?;
+    Ok(kept)
+}
+
+/// Comes to the next picture of the first source, if there is one.
+fn advance(feed: &mut Feed, source: &mut Box<dyn Source>) -> Result<bool, Stop>
+    ensures answer { (R : Readers) → AreOfH266 R → (g : List ℕ) (units : List UnitPlace) (readings : List Reading)
+        → HasFed R feed.old g units readings → LastWasNeeded g units
+        → AdvancesOn R g units readings feed.new (bytes_left source.old) (bytes_left source.new) (read_faults source.old) (read_faults source.new) result }
+    ensures picture { result ≡ Ok true → HasPicture feed.new.assembler }
+    ensures end { EndsAtEnd feed.old (bytes_left source.old) → EndsAtEnd feed.new (bytes_left source.new) }
+    ensures few { OnOk result (feed.new.units ≤ 2 ^ 40) }
+    ensures stop { IfErr result IsOfCommand }
+{
+    match step(feed, source) {
+        Ok(Step::Picture) => Ok(true),
+        Ok(Step::End) => Ok(false),
+        Err(fault) => Err(stop_of(fault, feed.unit())),
+    }
+}
+
+/// Advances on the source.
+fn step(feed: &mut Feed, source: &mut Box<dyn Source>) -> Result<Step, FeedFault>
+    ensures answer { (R : Readers) → AreOfH266 R → (g : List ℕ) (units : List UnitPlace) (readings : List Reading)
+        → HasFed R feed.old g units readings → LastWasNeeded g units
+        → Advances R g units readings feed.new (bytes_left source.old) (bytes_left source.new) (read_faults source.old) (read_faults source.new) result }
+    ensures picture { result ≡ Ok steps.Picture → HasPicture feed.new.assembler }
+    ensures end { EndsAtEnd feed.old (bytes_left source.old) → EndsAtEnd feed.new (bytes_left source.new) }
+    ensures few { OnOk result (feed.new.units ≤ 2 ^ 40) }
+{
+    feed.advance(&mut **source)
+}
+
+/// What stops a command where a feed stops behind its n-th unit.
+fn stop_of(fault: FeedFault, n: u64) -> Stop
+    ensures { result ≡ stop_by fault n }
+{
+    match fault {
+        FeedFault::Refused(refusal) => Stop::Refused {
+            refusal,
+            place: behind_unit(n),
+        },
+        FeedFault::SourceFailed => Stop::ReadFault { source: 0 },
+        FeedFault::Memory | FeedFault::Stopped(_) => Stop::NoMemory,
+    }
+}
+
+/// Writes the subpicture of the picture that was done last, behind so many others, or leaves it out.
+fn extract_picture<K: Sink>(
+    feed: &Feed,
+    extractor: &mut Extractor,
+    pictures: u64,
+    out: &mut K,
+) -> Result<(), Stop>
+    requires { HasPicture feed.now.assembler }
+    ensures answer { (R : Readers) (g : List ℕ) (units : List UnitPlace) (readings : List Reading) (p : StreamPicture)
+        (ps : List StreamPicture) (done : List Plan)
+        → HasFed R feed.now g units readings → pictures_in readings ≡ p ∷ ps → Stands extractor.old done
+        → ExtractsOne p done extractor.new (K.bytes_taken out.old) (K.bytes_taken out.new) (K.write_faults out.old) (K.write_faults out.new) pictures result }
+    ensures task { SameTask extractor.old extractor.new }
+    ensures stop { IfErr result IsOfCommand }
+{
+    match extractor.picture(&feed.picture(), out) {
+        Ok(()) => Ok(()),
+        Err(error) => Err(stop_of_picture(error, pictures)),
+    }
+}
+
+/// Whether the subpicture of a picture behind so many others can be extracted.
+fn check_picture(
+    picture: &Picture<'_>,
+    extractor: &mut Extractor,
+    pictures: u64,
+) -> Result<(), Stop>
+    ensures answer { extractor.old.first ≡ None → ChecksOne picture.now extractor.old pictures result }
+    ensures stays { OnOk result (extractor.new ≡ extractor.old) }
+    ensures stop { IfErr result IsOfCommand }
+{
+    match extractor.check(picture) {
+        Ok(()) => Ok(()),
+        Err(error) => Err(stop_of_picture(error, pictures)),
+    }
+}
+
+/// What stops a command where the n-th picture isn't written.
+fn stop_of_picture(error: WriteError, n: u64) -> Stop
+    ensures { result ≡ stop_at error n }
+{
+    match error {
+        WriteError::Refused(refusal) => Stop::Refused {
+            refusal,
+            place: at_picture(n),
+        },
+        WriteError::SinkFailed => Stop::WriteFault,
+        WriteError::Memory | WriteError::Stopped(_) => Stop::NoMemory,
+    }
+}
+
+/// One more than a count that is below `most`.
+fn one_more(count: u64, most: u64) -> u64
+    ensures { count < most → result ≡ count + 1 }
+{
+    most.min(count.saturating_add(1))
+}
+
+/// How many pictures are kept with this one, and with `kept` before it, where there are so many in all.
+fn kept_with(picture: &Picture<'_>, tid: u8, kept: u64, pictures: u64) -> u64
+    ensures { kept < pictures → result ≡ cond (nat_le picture.now.kind.temporal_id tid) (kept + 1) kept }
+{
+    if picture.kind().temporal_id <= tid {
+        return one_more(kept, pictures);
+    }
+    kept
+}
+
+/// There has to be a picture.
+fn some_picture(pictures: u64) -> Result<(), Stop>
+    ensures some { OnOk result (0 < pictures) }
+    ensures none { IfErr result (λ stop. (pictures ≡ 0) × (stop ≡ stops.Refused (Extract NO_PICTURE) (place_at 0))) }
+{
+    if pictures > 0 {
+        return Ok(());
+    }
+    Err(Stop::Refused {
+        refusal: Refusal::Extract { code: NO_PICTURE },
+        place: at_picture(0),
+    })
+}
+
+/// `ok pictures 2`
+fn ok_line(alloc: Global, kept: u64) -> Result<Vec<u8>, AllocError>
+    ensures { IfOk result (λ line. line.items ≡ ok_text kept) }
+{
+    Ok(format!(in alloc; "ok pictures {kept}\n")?.into_bytes())
+}
+
+/// The place in the first source behind its n-th unit.
+fn behind_unit(n: u64) -> Where
+    ensures { result ≡ place_behind n }
+{
+    Where {
+        source: 0,
+        unit: n,
+        picture: 0,
+        written: false,
+    }
+}
+
+/// The n-th picture of the first source.
+fn at_picture(n: u64) -> Where
+    ensures { result ≡ place_at n }
+{
+    Where {
+        source: 0,
+        unit: 0,
+        picture: n,
+        written: false,
+    }
+}
