@@ -27,21 +27,22 @@ same_itself [] = refl
 same_itself (x ∷ items) = rw (eq-eqb x.field x.field refl, (Decides-int_eq x.value x.value).1 refl) (same_itself items)
 
 -- those that are sent
-fewer_units : (P : SetUnit → Type 0) (test : SetUnit → Bool) (units : List SetUnit) → AllByRecursion P units → AllByRecursion P (filter test units)
+pub fewer_units : (P : SetUnit → Type 0) (test : SetUnit → Bool) (units : List SetUnit) → AllByRecursion P units → AllByRecursion P (filter test units)
 fewer_units P test [] all = tt
 fewer_units P test (u ∷ units) all = elim (cases_Bool (test u)) [
   | inl on ↦ rw on (all.0, fewer_units P test units all.1)
   | inr off ↦ rw off (fewer_units P test units all.1)
 ]
 
+-- TemporalId of a picture that was read
+pub low_tid : (R : Readers) (earlier : List Picture) (pic : Picture) → IsSound R earlier pic → pic.kind.temporal_id < 7
+low_tid R earlier pic sound =
+    let each = subst (λ xs. AllByRecursion (SliceReads R pic.begun pic.kind.nal_type) xs) sound.slices sound.each in
+    let at = each.0.tid in
+    omega (arith, at, sound.tid)
+
 module _ (R : Readers) (of : AreOfH266 R) (target : ℕ) (tells : SetsTellPartitions) (units_read : ExtractedUnitsAreRead) (wholes : ExtractedIsWhole) (sends : ExtractedSendsItsSets) (alikes : ExtractedIsAlike) (bodies : ExtractedHasItsBodies)
     (sets_read : SetUnitsAreRead) (sei_reads : SeiUnitsAreRead) (level : Option ℕ) where
-  low_tid : (earlier : List Picture) (pic : Picture) → IsSound R earlier pic → pic.kind.temporal_id < 7
-  low_tid earlier pic sound =
-      let each = subst (λ xs. AllByRecursion (SliceReads R pic.begun pic.kind.nal_type) xs) sound.slices sound.each in
-      let at = each.0.tid in
-      omega (arith, at, sound.tid)
-
   all_say : (tid : ℕ) (units : List SetUnit) → tid < 7 → AllByRecursion (λ (u : SetUnit). IsReadable u.set) units → AllByRecursion (λ (u : SetUnit). IsSetUnit tid u.set u.unit) units → AllByRecursion (λ (u : SetUnit). Says R u.unit u.set) units
   all_say tid [] low can are = tt
   all_say tid (u ∷ units) low can are = (sets_read R tid u.set u.unit of low can.0 are.0, all_say tid units low can.1 are.1)
@@ -55,7 +56,7 @@ module _ (R : Readers) (of : AreOfH266 R) (target : ℕ) (tells : SetsTellPartit
         let full = wholes target level pic done p ready.each sound.size (omega (arith, count, has)) ex in
         let sent = sends target level (parts_of pic) done p ex in
         let own = bodies target level (parts_of pic) done p ready.in_force ready.readable ready.there ex in
-        let low = low_tid earlier pic sound in
+        let low = low_tid R earlier pic sound in
         let can : AllByRecursion (λ (u : SetUnit). IsReadable u.set) p.sent =
         subst (λ xs. AllByRecursion (λ (u : SetUnit). IsReadable u.set) xs) (sym ex.sent) (fewer_units (λ (u : SetUnit). IsReadable u.set) (λ x. not (is_resident pic.kind.temporal_id (sent_before done p) x)) ex.needed own.readable) in
         let written : AllByRecursion (λ (u : SetUnit). IsSetUnit pic.kind.temporal_id u.set u.unit) p.sent =

@@ -63,7 +63,7 @@ front_by_length first second rbsp n (suc (suc more)) many is =
       behind = ap (λ xs. drop 2 xs) (sym is.is);
     }
 
-front_of : (first second : ℕ) (rbsp n : List ℕ) → IsEscaped (first ∷ second ∷ rbsp) n → HasFront first second rbsp n
+pub front_of : (first second : ℕ) (rbsp n : List ℕ) → IsEscaped (first ∷ second ∷ rbsp) n → HasFront first second rbsp n
 front_of first second rbsp n is = front_by_length first second rbsp n (length n) refl is
 
 -- a unit of a type is plain

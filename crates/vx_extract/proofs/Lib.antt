@@ -36,3 +36,6 @@ pub mod KeptMessages
 pub mod ReadyLayout
 pub mod ReadyReadings
 pub mod ReadyPictures
+pub mod WholeUnits
+pub mod WholeSource
+pub mod WholeBytes

@@ -5,5 +5,6 @@ pub mod Kept
 pub mod Ready
 pub mod Rules
 pub mod Shapes
+pub mod Whole
 pub mod Written
 pub mod inner

@@ -9,6 +9,7 @@ mod fault;
 mod laws;
 mod laws_kept;
 mod laws_ready;
+mod laws_whole;
 mod needed;
 mod output;
 mod rewritten;
@@ -34,3 +35,4 @@ pub use laws_kept::{
     rewritten_keep_places,
 };
 pub use laws_ready::{pictures_are_in_force, pictures_are_ready, pictures_have_their_readings};
+pub use laws_whole::{extracted_units_read_again, extraction_reads_again};

@@ -1,0 +1,28 @@
+//! Laws of what is written for a whole stream: functions that do nothing, each with a law as its contract.
+ghost use Rattle.vx_extract.specs.Whole.{ExtractedUnitsReadAgain, ExtractionReadsAgain};
+
+use crate::laws::{extracted_reads_again, rewritten_make_region};
+use crate::laws_kept::all_keep_inputs;
+use crate::laws_ready::pictures_are_ready;
+use vx_pic::{pictures_are_finished, written_has_pictures};
+
+/// The units that are written for a subpicture that each picture of a stream has are read again: exactly its pictures, with the decoding
+/// inputs and the messages of the source, and they end well.
+pub fn extracted_units_read_again()
+    ensures { ExtractedUnitsReadAgain }
+{
+    rewritten_make_region();
+    pictures_are_finished();
+    pictures_are_ready();
+    extracted_reads_again();
+    all_keep_inputs();
+}
+
+/// So are the bytes: where no unit that is written is longer than a unit may be, they have exactly these pictures, and no rule refuses them.
+pub fn extraction_reads_again()
+    ensures { ExtractionReadsAgain }
+{
+    pictures_are_finished();
+    written_has_pictures();
+    extracted_units_read_again();
+}
