@@ -5,10 +5,10 @@ use Rattle.std.specs.List.{AllByRecursion, list_any, range_with_len}
 use Rattle.std.proofs.lemmas.Bool.{and_parts, cases_Bool, cases_eq, eq-eqb, ltb-true, true≢false}
 use Rattle.vx_aps.specs.declared.aps.Aps.{Aps}
 use Rattle.vx_aps.specs.declared.aps.TheConstants.{ALF, LMCS, SCALING}
-use Rattle.vx_aps.specs.Aps.{IsValid}
 use Rattle.vx_fields.specs.declared.pps.TheConstants as pps_fields
 use Rattle.vx_table.specs.Loaded.{number}
 use Rattle.vx_table.specs.Scope.{fresh}
+use Rattle.vx_layout.proofs.Parts.{Each-append}
 use Rattle.vx_pic.specs.Sets.{Slot, names_of}
 use Rattle.vx_pic.specs.Parts.{AreThere, Parts, SlicePart, aps_at, id_count, named_by, slot_of}
 use Rattle.vx_pic.specs.Written.{Plan, Set, SetUnit, an_aps}
@@ -94,22 +94,19 @@ among_named q named (t ∷ slots) s a (inr more) on there =
       | inr no_ ↦ rw no_ rest
     ]
 
-readable_joined : (xs ys : List Set) → AllByRecursion IsReadable xs → AllByRecursion IsReadable ys → AllByRecursion IsReadable (xs ++ ys)
-readable_joined [] ys first second = second
-readable_joined (x ∷ xs) ys first second = (first.0, readable_joined xs ys first.1 second)
+-- what holds of each set that is named
+found_hold : (Q : Set → Type 0) (s : Slot) (found : Option Aps) → ((a : Aps) → found ≡ Some a → Q (set_at s a)) → AllByRecursion Q (set_of_slot s found)
+found_hold Q s None each = tt
+found_hold Q s (Some a) each = (each a refl, tt)
 
-readable_found : (s : Slot) (found : Option Aps) → ((a : Aps) → found ≡ Some a → IsValid (record { kind = s.kind; id = s.id; body = a.body })) → AllByRecursion IsReadable (set_of_slot s found)
-readable_found s None valid = tt
-readable_found s (Some a) valid = (valid a refl, tt)
+pub slots_hold : (Q : Set → Type 0) (q : Parts) → ((s : Slot) (a : Aps) → aps_at q.bodies s.kind s.id ≡ Some a → Q (set_at s a)) → (slots : List Slot) → AllByRecursion Q (flat_map (aps_of_slot q) slots)
+slots_hold Q q each [] = tt
+slots_hold Q q each (s ∷ slots) =
+    Each-append Q (aps_of_slot q s) (flat_map (aps_of_slot q) slots) (found_hold Q s (aps_at q.bodies s.kind s.id) (λ a is. each s a is)) (slots_hold Q q each slots)
 
-readable_slots : (q : Parts) → HasReadableSets q → (slots : List Slot) → AllByRecursion IsReadable (flat_map (aps_of_slot q) slots)
-readable_slots q valid [] = tt
-readable_slots q valid (s ∷ slots) =
-    readable_joined (aps_of_slot q s) (flat_map (aps_of_slot q) slots) (readable_found s (aps_at q.bodies s.kind s.id) (λ a is. valid s a is)) (readable_slots q valid slots)
-
-readable_units : (units : List SetUnit) → AllByRecursion IsReadable (map (λ u. u.set) units) → AllByRecursion (λ (u : SetUnit). IsReadable u.set) units
-readable_units [] all = tt
-readable_units (u ∷ units) all = (all.0, readable_units units all.1)
+pub units_hold : (Q : Set → Type 0) (units : List SetUnit) → AllByRecursion Q (map (λ u. u.set) units) → AllByRecursion (λ (u : SetUnit). Q u.set) units
+units_hold Q [] all = tt
+units_hold Q (u ∷ units) all = (all.0, units_hold Q units all.1)
 
 -- ---- a set that is there
 
@@ -171,6 +168,6 @@ module _ (target : ℕ) (level : Option ℕ) (q : Parts) (done : List Plan) (p :
 
   pub bodies_again : HasItsBodies ex.needed p
   bodies_again = record {
-    readable = readable_units ex.needed (subst (λ xs. AllByRecursion IsReadable xs) (sym ex.sets) (tt, (tt, readable_slots q valid (filter (is_named q target) all_slots))));
+    readable = units_hold IsReadable ex.needed (subst (λ xs. AllByRecursion IsReadable xs) (sym ex.sets) (tt, (tt, slots_hold IsReadable q valid (filter (is_named q target) all_slots))));
     bodies = subst (λ xs. AllByRecursion (λ s. HaveNamed ex.needed (names_of p.begun.pps p.begun.header s.header)) xs) (sym ex.slices) (each_named (parts_in q target) (λ s is. is));
   }

@@ -27,7 +27,7 @@ use Rattle.vx_extract.specs.Again.{IsReadable}
 -- ---- the header of a unit
 
 -- the first two bytes of a unit are no emulation bytes
-front_stays : (n : List ℕ) (more : ℕ) → (tail : List ℕ) × (unescaped_to n (suc (suc more)) ≡ slice_index n 0 ∷ slice_index n 1 ∷ tail)
+pub front_stays : (n : List ℕ) (more : ℕ) → (tail : List ℕ) × (unescaped_to n (suc (suc more)) ≡ slice_index n 0 ∷ slice_index n 1 ∷ tail)
 front_stays n zero = ([], refl)
 front_stays n (suc more) =
     let before = front_stays n more in

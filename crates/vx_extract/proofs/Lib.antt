@@ -38,4 +38,5 @@ pub mod ReadyReadings
 pub mod ReadyPictures
 pub mod WholeUnits
 pub mod WholeSource
+pub mod WholeSizes
 pub mod WholeBytes

@@ -60,32 +60,40 @@ gathered_carried (pps_read p ∷ before) all = gathered_carried before all.1
 gathered_carried (aps_read a ∷ before) all = gathered_carried before all.1
 gathered_carried (sequence_ended ∷ before) all = gathered_carried before all.1
 
--- a set of a type and an id that can be written
-record IsOf (kind id : ℕ) (a : Aps) : Type 0 where
+-- something holds of each set that was read
+abbrev pub SetsHold : (Aps → Type 0) → List Reading → Type 0
+SetsHold Q before = AllByRecursion (λ r. (b : Aps) → r ≡ aps_read b → Q b) before
+
+fits_hold : (before : List Reading) → AreFit before → SetsHold IsValid before
+fits_hold [] all = tt
+fits_hold (r ∷ before) all = ((λ b is. subst IsFit is all.0), fits_hold before all.1)
+
+-- a set of a type and an id of which it holds
+record IsOf (Q : Aps → Type 0) (kind id : ℕ) (a : Aps) : Type 0 where
   same_kind : a.kind ≡ kind
   same_id : a.id ≡ id
-  valid : IsValid a
+  holds : Q a
 
-aps_is_of : (kind id : ℕ) (r : Reading) (a : Aps) → IsFit r → aps_in kind id r ≡ Some a → IsOf kind id a
-aps_is_of kind id (aps_read b) a fit is =
+aps_is_of : (Q : Aps → Type 0) (kind id : ℕ) (r : Reading) (a : Aps) → ((b : Aps) → r ≡ aps_read b → Q b) → aps_in kind id r ≡ Some a → IsOf Q kind id a
+aps_is_of Q kind id (aps_read b) a fit is =
     let told = test_told ((b.kind == kind) && (b.id == id)) b a is in
     let both = and_parts (b.kind == kind) (b.id == id) told.0 in
-    let here : IsOf kind id b = record { same_kind = eqb-true b.kind kind both.0; same_id = eqb-true b.id id both.1; valid = fit } in
-    subst (IsOf kind id) told.1 here
-aps_is_of kind id dropped a fit is = absurd (cc)
-aps_is_of kind id (vps_read v) a fit is = absurd (cc)
-aps_is_of kind id (sps_read t) a fit is = absurd (cc)
-aps_is_of kind id (pps_read t) a fit is = absurd (cc)
-aps_is_of kind id (messages_read t) a fit is = absurd (cc)
-aps_is_of kind id (header_read t) a fit is = absurd (cc)
-aps_is_of kind id (first_slice b k t) a fit is = absurd (cc)
-aps_is_of kind id (next_slice t) a fit is = absurd (cc)
-aps_is_of kind id sequence_ended a fit is = absurd (cc)
+    let here : IsOf Q kind id b = record { same_kind = eqb-true b.kind kind both.0; same_id = eqb-true b.id id both.1; holds = fit b refl } in
+    subst (IsOf Q kind id) told.1 here
+aps_is_of Q kind id dropped a fit is = absurd (cc)
+aps_is_of Q kind id (vps_read v) a fit is = absurd (cc)
+aps_is_of Q kind id (sps_read t) a fit is = absurd (cc)
+aps_is_of Q kind id (pps_read t) a fit is = absurd (cc)
+aps_is_of Q kind id (messages_read t) a fit is = absurd (cc)
+aps_is_of Q kind id (header_read t) a fit is = absurd (cc)
+aps_is_of Q kind id (first_slice b k t) a fit is = absurd (cc)
+aps_is_of Q kind id (next_slice t) a fit is = absurd (cc)
+aps_is_of Q kind id sequence_ended a fit is = absurd (cc)
 
-stored_is_of : (kind id : ℕ) (before : List Reading) → AreFit before → (a : Aps) → stored_aps kind id before ≡ Some a → IsOf kind id a
-stored_is_of kind id [] all a is = absurd (cc)
-stored_is_of kind id (r ∷ before) all a is =
-    first_or (aps_in kind id r) (latest (aps_in kind id) before) a (IsOf kind id) (λ b. aps_is_of kind id r b all.0) (stored_is_of kind id before all.1 a) is
+stored_is_of : (Q : Aps → Type 0) (kind id : ℕ) (before : List Reading) → SetsHold Q before → (a : Aps) → stored_aps kind id before ≡ Some a → IsOf Q kind id a
+stored_is_of Q kind id [] all a is = absurd (cc)
+stored_is_of Q kind id (r ∷ before) all a is =
+    first_or (aps_in kind id r) (latest (aps_in kind id) before) a (IsOf Q kind id) (λ b. aps_is_of Q kind id r b all.0) (stored_is_of Q kind id before all.1 a) is
 
 -- ---- the picture that was begun last
 
@@ -239,23 +247,27 @@ id_low a valid = elim (cases_Bool (a.kind == LMCS)) [
 none_some : (a : Aps) → None ≡ Some a → ⊥
 none_some a is = absurd (cc)
 
+-- it holds of the sets that a picture has
+pub held_at : (Q : Aps → Type 0) (before : List Reading) → SetsHold Q before → (slot : Slot) (a : Aps) → aps_at (stored_sets before) slot.kind slot.id ≡ Some a → Q (record { kind = slot.kind; id = slot.id; body = a.body })
+held_at Q before all slot a is = elim (cases_Bool (nat_lt slot.kind (SCALING + 1) && nat_lt slot.id id_count)) [
+  | inl on ↦
+      let parts = and_parts (nat_lt slot.kind (SCALING + 1)) (nat_lt slot.id id_count) on in
+      let place = at_place before slot.kind slot.id (ltb-true slot.kind (SCALING + 1) parts.0) (ltb-true slot.id id_count parts.1) in
+      let own = stored_is_of Q slot.kind slot.id before all a (sym place ∙ is) in
+      subst (λ i. Q (record { kind = slot.kind; id = i; body = a.body })) own.same_id (subst (λ k. Q (record { kind = k; id = a.id; body = a.body })) own.same_kind own.holds)
+  | inr off ↦ absurd (none_some a (sym (ap (λ b. cond b (slice_index_or (stored_sets before) (slot_of slot.kind slot.id) None) None) off) ∙ is))
+]
+
 module _ (p : Picture) (fit : AreFit p.before) where
   readable_at : (slot : Slot) (a : Aps) → aps_at (stored_sets p.before) slot.kind slot.id ≡ Some a → IsValid (record { kind = slot.kind; id = slot.id; body = a.body })
-  readable_at slot a is = elim (cases_Bool (nat_lt slot.kind (SCALING + 1) && nat_lt slot.id id_count)) [
-    | inl on ↦
-        let parts = and_parts (nat_lt slot.kind (SCALING + 1)) (nat_lt slot.id id_count) on in
-        let place = at_place p.before slot.kind slot.id (ltb-true slot.kind (SCALING + 1) parts.0) (ltb-true slot.id id_count parts.1) in
-        let own = stored_is_of slot.kind slot.id p.before fit a (sym place ∙ is) in
-        subst (λ i. IsValid (record { kind = slot.kind; id = i; body = a.body })) own.same_id (subst (λ k. IsValid (record { kind = k; id = a.id; body = a.body })) own.same_kind own.valid)
-    | inr off ↦ absurd (none_some a (sym (ap (λ b. cond b (slice_index_or (stored_sets p.before) (slot_of slot.kind slot.id) None) None) off) ∙ is))
-  ]
+  readable_at slot a is = held_at IsValid p.before (fits_hold p.before fit) slot a is
 
   there_at : (slot : Slot) (o : Option Aps) → stored_aps slot.kind slot.id p.before ≡ o → is_none o ≡ false → is_none (aps_at (stored_sets p.before) slot.kind slot.id) ≡ false
   there_at slot None is some = absurd (true≢false some)
   there_at slot (Some a) is some =
-      let own = stored_is_of slot.kind slot.id p.before fit a is in
-      let few = own.valid.kind in
-      let low = id_low a own.valid in
+      let own = stored_is_of IsValid slot.kind slot.id p.before (fits_hold p.before fit) a is in
+      let few = own.holds.kind in
+      let low = id_low a own.holds in
       ap is_none (at_place p.before slot.kind slot.id (omega (arith, few, own.same_kind)) (omega (arith, low, own.same_id)) ∙ is)
 
   all_there : (slots : List Slot) → AreInForce p.before slots → AreThere (stored_sets p.before) slots

@@ -1,45 +1,44 @@
 -- The units that are written for a whole stream can stand in one.
-use Rattle.std.proofs.Common.{◌≡◌, ◌⊎◌, ℕ, zero, suc, ◌+◌, ◌*◌, ◌/◌, ◌%◌, ◌<◌, ◌≤◌, ◌==◌, true, false, not, cond, IsTrue, List, [], ◌∷◌, ◌++◌, length, map, slice_index, Option, Some, None, refl, ap, sym, subst, ◌∙◌, inl, inr, arith}
+use Rattle.std.proofs.Common.{◌≡◌, ℕ, zero, suc, ◌+◌, ◌*◌, ◌/◌, ◌%◌, ◌<◌, ◌≤◌, ◌==◌, true, false, not, List, [], ◌∷◌, ◌++◌, length, map, slice_index, Option, Some, None, refl, ap, sym, subst, ◌∙◌, inl, inr, arith}
 use Rattle.std.specs.Prelude.{Bool, filter, option_map, option_to_list}
 use Rattle.std.specs.List.{AllByRecursion}
 use Rattle.std.proofs.lemmas.Bool.{cases_Bool, true≢false}
+use Rattle.std.proofs.lemmas.List.{length_push}
 use Rattle.std.proofs.lemmas.List.Elements.{All-from_recursion, recursion_from_All}
 use Rattle.vx_annexb.specs.Emulation.{BreaksRule, IsEscaped, unescaped_to}
-use Rattle.vx_annexb.specs.ByteStream.{IsSound as IsSoundUnit, unit_limit}
-use Rattle.vx_annexb.specs.NalUnit.{HasHeader}
-use Rattle.vx_annexb.specs.Laws.{CanStand, written}
+use Rattle.vx_annexb.specs.ByteStream.{unit_limit}
+use Rattle.vx_annexb.specs.Laws.{CanStand, EscapedIsUnique, EscapedSplits, written}
 use Rattle.vx_aps.specs.Aps.{spelled}
 use Rattle.vx_layout.proofs.Parts.{Each-append}
 use Rattle.vx_sei.specs.declared.message.Message.{Message}
+use Rattle.vx_sei.specs.Sei.{IsSei, sei_messages, spelled_length}
 use Rattle.vx_pic.specs.declared.unit_types.TheConstants as types
 use Rattle.vx_pic.specs.Readings.{Begun, Picture, Slice, messages_of}
 use Rattle.vx_pic.specs.Parts.{SlicePart, parts_of, slice_part}
-use Rattle.vx_pic.specs.Rules.{Readers}
+use Rattle.vx_pic.specs.Rules.{Readers, message_limit}
+use Rattle.vx_pic.specs.Units.{rbsp_of}
 use Rattle.vx_pic.specs.Streams.{Outcome, ending_of, pictures_of, read_on}
-use Rattle.vx_pic.specs.Bytes.{ArePictures, Ending, ending_by}
+use Rattle.vx_pic.specs.Bytes.{ArePictures, ending_by}
 use Rattle.vx_pic.specs.Finished.{AreFinished, IsSound, PicturesAreFinished}
 use Rattle.vx_pic.specs.Laws.{WrittenHasPictures}
 use Rattle.vx_pic.specs.Written.{Plan, SeiUnit, Set, SetUnit, a_pps, an_aps, an_sps, eos_unit, eos_units, sei_units, slices_of, units_of}
 use Rattle.vx_pic.specs.Resident.{is_resident, sent_before, units_written}
-use Rattle.vx_extract.specs.Written.{AreExtracted, IsExtracted, IsSeiUnit, IsSetUnit, IsUnitOf, slice_alone, slices_in}
-use Rattle.vx_extract.specs.Whole.{ExtractedUnitsReadAgain, ExtractionReadsAgain}
+use Rattle.vx_extract.specs.Written.{AreExtracted, IsExtracted, IsSeiUnit, IsSetUnit, IsUnitOf, all_slots, is_named, slice_alone}
+use Rattle.vx_extract.specs.Whole.{ExtractedUnitsReadAgain, ExtractionReadsAgain, HaveShortSets, IsShort}
+use Rattle.vx_extract.proofs.AgainBodies.{slots_hold, units_hold}
 use Rattle.vx_extract.proofs.AgainPlanned.{fewer_units, low_tid}
 use Rattle.vx_extract.proofs.AgainSets.{front_of}
-use Rattle.vx_extract.proofs.WholeSource.{OfPicture, OfUnit, OfSlices, have_units}
+use Rattle.vx_extract.proofs.WholeSizes.{as_long, twice_at_most}
+use Rattle.vx_extract.proofs.WholeSource.{OfPicture, OfSet, OfSlices, OfUnit, have_units, sets_have}
 
 abbrev AllStand : List (List ℕ) → Type 0
 AllStand units = AllByRecursion CanStand units
 
-abbrev AreShort : List (List ℕ) → Type 0
-AreShort units = AllByRecursion (λ u. length u ≤ unit_limit) units
-
-front_short : (xs ys : List (List ℕ)) → AreShort (xs ++ ys) → AreShort xs
-front_short [] ys short = tt
-front_short (x ∷ xs) ys short = (short.0, front_short xs ys short.1)
-
-rest_short : (xs ys : List (List ℕ)) → AreShort (xs ++ ys) → AreShort ys
-rest_short [] ys short = short
-rest_short (x ∷ xs) ys short = rest_short xs ys short.1
+-- the source has a unit of the set
+abbrev HasSource : Set → Type 0
+HasSource (an_sps items) = Unit {0}
+HasSource (a_pps items) = Unit {0}
+HasSource (an_aps a) = OfSet CanStand a
 
 -- ---- one unit
 
@@ -99,10 +98,32 @@ eos_stands = record {
   };
 }
 
-set_stands : (tid : ℕ) (s : Set) (unit : List ℕ) → tid < 7 → IsSetUnit tid s unit → length unit ≤ unit_limit → CanStand unit
-set_stands tid (an_sps items) unit low (rbsp, spelling, is) short = unit_stands types.SPS_NUT 0 rbsp unit (omega arith) is short
-set_stands tid (a_pps items) unit low (rbsp, spelling, is) short = unit_stands types.PPS_NUT tid rbsp unit low is short
-set_stands tid (an_aps a) unit low is short = unit_stands types.PREFIX_APS_NUT tid (spelled a.kind a.id a.body) unit low is short
+-- the unit of an adaptation parameter set is as long as the source's
+as_source : EscapedSplits → EscapedIsUnique → (tid : ℕ) (rbsp unit u : List ℕ) → IsUnitOf types.PREFIX_APS_NUT tid rbsp unit → CanStand u → rbsp_of u ≡ rbsp → length unit ≡ length u
+as_source splits unique tid rbsp unit u is stands same =
+    let front = front_of 0 (types.PREFIX_APS_NUT * 8 + (tid + 1)) rbsp unit is in
+    let at = front.at_1 in
+    let header = stands.sound.header.temporal in
+    as_long splits unique unit u
+    (record { two = two_bytes 0 (types.PREFIX_APS_NUT * 8 + (tid + 1)) rbsp unit (length unit) refl is; last = omega (arith, at); escaped = record { rules = is.rules; last = is.last; is = refl } })
+    (record { two = stands.sound.header.bytes; last = omega (arith, header); escaped = record { rules = stands.sound.emulation; last = stands.last; is = refl } })
+    (front.behind ∙ sym same)
+
+set_stands : EscapedSplits → EscapedIsUnique → (tid : ℕ) (s : Set) (unit : List ℕ) → tid < 7 → IsSetUnit tid s unit → HasSource s → IsShort s unit → CanStand unit
+set_stands splits unique tid (an_sps items) unit low (rbsp, spelling, is) from short = unit_stands types.SPS_NUT 0 rbsp unit (omega arith) is short
+set_stands splits unique tid (a_pps items) unit low (rbsp, spelling, is) from short = unit_stands types.PPS_NUT tid rbsp unit low is short
+set_stands splits unique tid (an_aps a) unit low is (u, stands, same) short =
+    let size = as_source splits unique tid (spelled a.kind a.id a.body) unit u is stands same in
+    let few = stands.sound.size in
+    unit_stands types.PREFIX_APS_NUT tid (spelled a.kind a.id a.body) unit low is (omega (arith, size, few))
+
+-- that of messages is short
+sei_short : (tid : ℕ) (rbsp unit : List ℕ) (ms : List Message) → IsSei rbsp ms → spelled_length ms ≤ message_limit → IsUnitOf types.PREFIX_SEI_NUT tid rbsp unit → length unit ≤ unit_limit
+unfolding message_limit
+sei_short tid rbsp unit ms are few is =
+    let twice = twice_at_most (0 ∷ (types.PREFIX_SEI_NUT * 8 + (tid + 1)) ∷ rbsp) unit is in
+    let long = ap (λ xs. length xs) are.bytes ∙ length_push (sei_messages ms) 128 in
+    omega (arith, twice, long, few)
 
 -- ---- the units of a picture
 
@@ -110,14 +131,15 @@ ended_stand : (ends : Bool) → AllStand (eos_units ends)
 ended_stand true = (eos_stands, tt)
 ended_stand false = tt
 
-sets_stand : (tid : ℕ) (sent : List SetUnit) → tid < 7 → AllByRecursion (λ (x : SetUnit). IsSetUnit tid x.set x.unit) sent → AreShort (map (λ x. x.unit) sent) → AllStand (map (λ x. x.unit) sent)
-sets_stand tid [] low are short = tt
-sets_stand tid (x ∷ sent) low are short = (set_stands tid x.set x.unit low are.0 short.0, sets_stand tid sent low are.1 short.1)
+sets_stand : EscapedSplits → EscapedIsUnique → (tid : ℕ) (sent : List SetUnit) → tid < 7 → AllByRecursion (λ (x : SetUnit). IsSetUnit tid x.set x.unit) sent
+    → AllByRecursion (λ (x : SetUnit). HasSource x.set) sent → AllByRecursion (λ (x : SetUnit). IsShort x.set x.unit) sent → AllStand (map (λ x. x.unit) sent)
+sets_stand splits unique tid [] low are from short = tt
+sets_stand splits unique tid (x ∷ sent) low are from short = (set_stands splits unique tid x.set x.unit low are.0 from.0 short.0, sets_stand splits unique tid sent low are.1 from.1 short.1)
 
-sei_stands : (tid : ℕ) (ms : List Message) (sei : Option SeiUnit) → tid < 7 → IsSeiUnit tid ms sei → AreShort (sei_units sei) → AllStand (sei_units sei)
-sei_stands tid ms None low is short = tt
-sei_stands tid [] (Some s) low is short = absurd (cc)
-sei_stands tid (m ∷ ms) (Some s) low (same, (rbsp, are, is)) short = (unit_stands types.PREFIX_SEI_NUT tid rbsp s.unit low is short.0, tt)
+sei_stands : (tid : ℕ) (ms : List Message) (sei : Option SeiUnit) → tid < 7 → spelled_length ms ≤ message_limit → IsSeiUnit tid ms sei → AllStand (sei_units sei)
+sei_stands tid ms None low few is = tt
+sei_stands tid [] (Some s) low few is = absurd (cc)
+sei_stands tid (m ∷ ms) (Some s) low few (same, (rbsp, are, is)) = (unit_stands types.PREFIX_SEI_NUT tid rbsp s.unit low is (sei_short tid rbsp s.unit (m ∷ ms) are few is), tt)
 
 header_stands : (unit : Option (List ℕ)) → OfUnit CanStand unit → AllStand (option_to_list unit)
 header_stands None stands = tt
@@ -131,48 +153,55 @@ slices_stand b target (s ∷ slices) stand = elim (cases_Bool (s.header.subpic =
   | inr off ↦ rw off (slices_stand b target slices stand.1)
 ]
 
-picture_stands : (R : Readers) (target : ℕ) (level : Option ℕ) (earlier : List Picture) (pic : Picture) (done : List Plan) (p : Plan) → IsSound R earlier pic
-    → IsExtracted target level (parts_of pic) done p → OfPicture CanStand pic → AreShort (units_of p) → AllStand (units_of p)
-picture_stands R target level earlier pic done p sound ex stand short =
-    let eos : List (List ℕ) = eos_units p.kind.after_eos in
-    let sets : List (List ℕ) = map (λ (x : SetUnit). x.unit) p.sent in
-    let sei : List (List ℕ) = sei_units p.sei in
-    let header : List (List ℕ) = option_to_list p.begun.unit in
-    let slices : List (List ℕ) = map (λ (s : Slice). s.unit) (slices_of p) in
-    let low = low_tid R earlier pic sound in
-    let behind_eos = rest_short eos (sets ++ (sei ++ (header ++ slices))) short in
-    let behind_sets = rest_short sets (sei ++ (header ++ slices)) behind_eos in
-    let are : AllByRecursion (λ (x : SetUnit). IsSetUnit pic.kind.temporal_id x.set x.unit) p.sent =
-    subst (λ xs. AllByRecursion (λ (x : SetUnit). IsSetUnit pic.kind.temporal_id x.set x.unit) xs) (sym ex.sent) (fewer_units (λ (x : SetUnit). IsSetUnit pic.kind.temporal_id x.set x.unit) (λ x. not (is_resident pic.kind.temporal_id (sent_before done p) x)) ex.needed ex.units) in
-    let own_header : AllStand header = header_stands p.begun.unit (subst (OfUnit CanStand) (sym ex.unit) stand.0) in
-    let own_slices : AllStand slices = subst (λ xs. AllStand (map (λ (s : Slice). s.unit) xs)) (sym ex.slices) (slices_stand pic.begun target pic.slices stand.1) in
-    let own_sei = sei_stands pic.kind.temporal_id (messages_of pic) p.sei low ex.sei (front_short sei (header ++ slices) behind_sets) in
-    let own_sets = sets_stand pic.kind.temporal_id p.sent low are (front_short sets (sei ++ (header ++ slices)) behind_eos) in
-    Each-append CanStand eos (sets ++ (sei ++ (header ++ slices))) (ended_stand p.kind.after_eos)
-    (Each-append CanStand sets (sei ++ (header ++ slices)) own_sets
-    (Each-append CanStand sei (header ++ slices) own_sei
-    (Each-append CanStand header slices own_header own_slices)))
+module _ (splits : EscapedSplits) (unique : EscapedIsUnique) (R : Readers) (target : ℕ) (level : Option ℕ) where
+  module _ (earlier : List Picture) (pic : Picture) (done : List Plan) (p : Plan) (sound : IsSound R earlier pic) (ex : IsExtracted target level (parts_of pic) done p)
+      (stand : OfPicture CanStand pic) (short : AllByRecursion (λ (x : SetUnit). IsShort x.set x.unit) p.sent) where
+    abbrev are_sent : SetUnit → Bool
+    are_sent x = not (is_resident pic.kind.temporal_id (sent_before done p) x)
 
--- ---- all of them
+    -- what holds of those that are needed holds of those that are sent
+    sent_hold : (Q : SetUnit → Type 0) → AllByRecursion Q ex.needed → AllByRecursion Q p.sent
+    sent_hold Q all = subst (λ xs. AllByRecursion Q xs) (sym ex.sent) (fewer_units Q are_sent ex.needed all)
 
-all_stand : (R : Readers) (target : ℕ) (level : Option ℕ) (pics : List Picture) (done : List Plan) → AreFinished R pics → AllByRecursion (OfPicture CanStand) pics
-    → AreExtracted target level (map parts_of pics) done → AreShort (units_written done) → AllStand (units_written done)
-all_stand R target level [] [] finished stand were short = tt
-all_stand R target level [] (p ∷ done) finished stand were short = absurd were
-all_stand R target level (pic ∷ pics) [] finished stand were short = absurd were
-all_stand R target level (pic ∷ pics) (p ∷ done) (sound, whole, finished) (one, stand) (ex, were) short =
-    Each-append CanStand (units_written done) (units_of p)
-    (all_stand R target level pics done finished stand were (front_short (units_written done) (units_of p) short))
-    (picture_stands R target level pics pic done p sound ex one (rest_short (units_written done) (units_of p) short))
+    each_source : AllByRecursion (λ (x : SetUnit). HasSource x.set) ex.needed
+    each_source = units_hold HasSource ex.needed (subst (λ xs. AllByRecursion HasSource xs) (sym ex.sets)
+        (tt, (tt, slots_hold HasSource (parts_of pic) (λ slot a is. sets_have CanStand pic stand slot a is) (filter (is_named (parts_of pic) target) all_slots))))
+
+    picture_stands : AllStand (units_of p)
+    picture_stands =
+        let eos : List (List ℕ) = eos_units p.kind.after_eos in
+        let sets : List (List ℕ) = map (λ (x : SetUnit). x.unit) p.sent in
+        let sei : List (List ℕ) = sei_units p.sei in
+        let header : List (List ℕ) = option_to_list p.begun.unit in
+        let slices : List (List ℕ) = map (λ (s : Slice). s.unit) (slices_of p) in
+        let low = low_tid R earlier pic sound in
+        let own_sets = sets_stand splits unique pic.kind.temporal_id p.sent low (sent_hold (λ (x : SetUnit). IsSetUnit pic.kind.temporal_id x.set x.unit) ex.units) (sent_hold (λ (x : SetUnit). HasSource x.set) each_source) short in
+        let own_sei = sei_stands pic.kind.temporal_id (messages_of pic) p.sei low sound.messages ex.sei in
+        let own_header : AllStand header = header_stands p.begun.unit (subst (OfUnit CanStand) (sym ex.unit) stand.0) in
+        let own_slices : AllStand slices = subst (λ xs. AllStand (map (λ (s : Slice). s.unit) xs)) (sym ex.slices) (slices_stand pic.begun target pic.slices stand.1) in
+        Each-append CanStand eos (sets ++ (sei ++ (header ++ slices))) (ended_stand p.kind.after_eos)
+        (Each-append CanStand sets (sei ++ (header ++ slices)) own_sets
+        (Each-append CanStand sei (header ++ slices) own_sei
+        (Each-append CanStand header slices own_header own_slices)))
+
+  -- ---- all of them
+
+  all_stand : (pics : List Picture) (done : List Plan) → AreFinished R pics → AllByRecursion (OfPicture CanStand) pics
+      → AreExtracted target level (map parts_of pics) done → HaveShortSets done → AllStand (units_written done)
+  all_stand [] [] finished stand were short = tt
+  all_stand [] (p ∷ done) finished stand were short = absurd were
+  all_stand (pic ∷ pics) [] finished stand were short = absurd were
+  all_stand (pic ∷ pics) (p ∷ done) (sound, whole, finished) (one, stand) (ex, were) (few, short) =
+      Each-append CanStand (units_written done) (units_of p) (all_stand pics done finished stand were short) (picture_stands pics pic done p sound ex one few)
 
 ends_well : (o : Outcome) → ending_of o ≡ None → ending_by true None o ≡ None
 ends_well o none = ap (λ r. option_map (λ x. record { units = length o.before; refusal = x }) r) none
 
-pub reads_again : PicturesAreFinished → WrittenHasPictures → ExtractedUnitsReadAgain → ExtractionReadsAgain
-reads_again finished has_pictures reads R units target level done of has were sources short =
+pub reads_again : EscapedSplits → EscapedIsUnique → PicturesAreFinished → WrittenHasPictures → ExtractedUnitsReadAgain → ExtractionReadsAgain
+reads_again splits unique finished has_pictures reads R units target level done of sources has were short =
     let pics : List Picture = pictures_of R units in
-    let own = have_units CanStand R units (recursion_from_All CanStand units sources) in
-    let stand = all_stand R target level pics done (finished R units) own were (recursion_from_All (λ u. length u ≤ unit_limit) (units_written done) short) in
+    let own = have_units CanStand R units of (recursion_from_All CanStand units sources) in
+    let stand = all_stand splits unique R target level pics done (finished R units) own were short in
     let again = reads R units target level done of has were in
     let are = has_pictures R (units_written done) (All-from_recursion CanStand (units_written done) stand) in
     let ends = ends_well (read_on R [] (units_written done)) again.ends in

@@ -1,21 +1,25 @@
--- The units of the pictures of units are among these: what holds of the units holds of each PH unit and of each slice.
-use Rattle.std.proofs.Common.{◌≡◌, ℕ, ◌+◌, ◌==◌, true, false, not, cond, List, [], ◌∷◌, ◌++◌, length, Option, Some, None, Result, Ok, Err, refl, ap, sym, subst, ◌∙◌, inl, inr}
+-- The units of the pictures of units are among these: what holds of the units holds of each PH unit and of each slice, and of a unit of
+-- each adaptation parameter set.
+use Rattle.std.proofs.Common.{◌≡◌, ℕ, ◌+◌, ◌==◌, true, false, not, cond, List, [], ◌∷◌, ◌++◌, length, Option, Some, None, Result, Ok, Err, refl, ap, sym, subst, inl, inr}
 use Rattle.std.specs.Prelude.{nat_le, nat_lt}
 use Rattle.std.specs.List.{AllByRecursion}
-use Rattle.std.proofs.lemmas.Bool.{cases_Bool}
 use Rattle.vx_annexb.specs.NalUnit.{nal_unit_type, nuh_layer_id}
 use Rattle.vx_bits.specs.declared.refusal.Refusal.{Refusal}
 use Rattle.vx_bits.specs.declared.refusal.Refusal.TheVariants.{Profile}
 use Rattle.vx_bits.specs.declared.rules.TheConstants as rules
 use Rattle.vx_aps.specs.declared.aps.Aps.{Aps}
+use Rattle.vx_aps.specs.Aps.{IsAnswer, spelled}
 use Rattle.vx_layout.proofs.Parts.{Each-append}
 use Rattle.vx_sei.specs.Sei.{spelled_length}
 use Rattle.vx_pic.specs.Units.{Class, class_of, end_unit, has_header_inside, header_unit, is_reserved, other_unit, pps_unit, prefix_aps, rbsp_of, sei_unit, slice_unit, sps_unit, suffix_aps, temporal_id, vps_unit}
-use Rattle.vx_pic.specs.Sets.{SliceHeader, is_qp, names_of, place_of, slice_qp}
-use Rattle.vx_pic.specs.Readings.{Begun, Current, Picture, Reading, Slice, aps_read, current, dropped, first_slice, gathered, going, header_read, headed, is_open, is_slice, is_whole, is_within, messages_read, next_slice, nothing, pictures, pps_read, sequence_ended, sps_read, vps_read, whole_part, with_slice}
+use Rattle.vx_pic.specs.Sets.{SliceHeader, Slot, is_qp, names_of, place_of, slice_qp}
+use Rattle.vx_pic.specs.Readings.{Current, Picture, Reading, Slice, aps_read, current, dropped, first_slice, gathered, going, header_read, headed, is_open, is_slice, is_whole, is_within, messages_read, next_slice, nothing, pictures, pps_read, sequence_ended, sps_read, vps_read, whole_part, with_slice}
 use Rattle.vx_pic.specs.Rules.{Readers, alone, aps_reading, are_stored, begins, follows, gathers, joins, message_limit, opened, opens, picture_limit, reads, reads_as, size_of}
 use Rattle.vx_pic.specs.Streams.{Outcome, one_more, pictures_of, read_on}
+use Rattle.vx_pic.specs.H266.{AreOfH266}
+use Rattle.vx_pic.specs.Parts.{aps_at, stored_sets}
 use Rattle.vx_pic.proofs.Finishing.{answered, by_layer, chosen, header_begun, passed, then_told}
+use Rattle.vx_extract.proofs.ReadyReadings.{SetsHold, held_at}
 
 module _ (P : List ℕ → Type 0) where
   abbrev pub OfUnit : Option (List ℕ) → Type 0
@@ -25,12 +29,13 @@ module _ (P : List ℕ → Type 0) where
   abbrev pub OfSlices : List Slice → Type 0
   OfSlices slices = AllByRecursion (λ (s : Slice). P s.unit) slices
 
-  -- the PH unit of a picture, where it has one, and its slices
-  abbrev pub OfPicture : Picture → Type 0
-  OfPicture p = OfUnit p.begun.unit × OfSlices p.slices
+  -- a unit says the set
+  abbrev pub OfSet : Aps → Type 0
+  OfSet a = (u : List ℕ) × P u × (rbsp_of u ≡ spelled a.kind a.id a.body)
 
-  -- those that a reading has
+  -- the units that a reading has
   abbrev OfReading : Reading → Type 0
+  OfReading (aps_read a) = OfSet a
   OfReading (header_read b) = OfUnit b.unit
   OfReading (first_slice b k s) = OfUnit b.unit × P s.unit
   OfReading (next_slice s) = P s.unit
@@ -39,15 +44,19 @@ module _ (P : List ℕ → Type 0) where
   abbrev OfReadings : List Reading → Type 0
   OfReadings before = AllByRecursion OfReading before
 
+  -- the PH unit of a picture, where it has one, its slices, and those before them
+  abbrev pub OfPicture : Picture → Type 0
+  OfPicture p = OfUnit p.begun.unit × OfSlices p.slices × OfReadings p.before
+
   reading_is : (a r : Reading) → answered a ≡ answered r → OfReading a → OfReading r
   reading_is a r is held =
       let same : a ≡ r = cc in
       let Q : Reading → Type 0 = OfReading in
       subst Q same held
 
-  aps_has : (a : Option Aps) → OfReading (aps_reading a)
-  aps_has None = tt
-  aps_has (Some a) = tt
+  aps_has : (u : List ℕ) (a : Option Aps) → P u → IsAnswer (rbsp_of u) (Ok a) → OfReading (aps_reading a)
+  aps_has u None has is = tt
+  aps_has u (Some a) has is = (u, has, is.bytes)
 
   -- ---- the picture that was begun last
 
@@ -59,12 +68,12 @@ module _ (P : List ℕ → Type 0) where
   slice_more : (s : Slice) (c : Current) → P s.unit → OfCurrent c → OfCurrent (with_slice s c)
   slice_more s nothing one held = held
   slice_more s (headed b) one held = held
-  slice_more s (going p) one held = (held.0, Each-append (λ (t : Slice). P t.unit) p.slices (s ∷ []) held.1 (one, tt))
+  slice_more s (going p) one held = (held.0, Each-append (λ (t : Slice). P t.unit) p.slices (s ∷ []) held.1 (one, tt), held.2)
 
   current_has : (before : List Reading) → OfReadings before → OfCurrent (current before)
   current_has [] all = tt
   current_has (header_read b ∷ before) all = all.0
-  current_has (first_slice b k s ∷ before) all = (all.0.0, (all.0.1, tt))
+  current_has (first_slice b k s ∷ before) all = (all.0.0, (all.0.1, tt), all.1)
   current_has (next_slice s ∷ before) all = slice_more s (current before) all.0 (current_has before all.1)
   current_has (dropped ∷ before) all = current_has before all.1
   current_has (vps_read v ∷ before) all = current_has before all.1
@@ -76,7 +85,7 @@ module _ (P : List ℕ → Type 0) where
 
   -- ---- each unit
 
-  module _ (R : Readers) where
+  module _ (R : Readers) (of : AreOfH266 R) where
     slice_unit_is : (p : Picture) (u : List ℕ) (s : Slice) → joins R p u ≡ Ok s → s.unit ≡ u
     slice_unit_is p u s is =
         let tid = passed (not (temporal_id u == p.begun.temporal_id)) _ _ s is in
@@ -133,10 +142,10 @@ module _ (P : List ℕ → Type 0) where
       class_has prefix_aps is =
           let p = passed (is_within (current before)) _ _ r is in
           let t = then_told (R.aps (rbsp_of u)) _ r p.1 in
-          reading_is (aps_reading t.0) r t.2 (aps_has t.0)
+          reading_is (aps_reading t.0) r t.2 (aps_has u t.0 has (subst (λ x. IsAnswer (rbsp_of u) x) t.1 (of.aps (rbsp_of u))))
       class_has suffix_aps is =
           let t = then_told (R.aps (rbsp_of u)) _ r is in
-          reading_is (aps_reading t.0) r t.2 (aps_has t.0)
+          reading_is (aps_reading t.0) r t.2 (aps_has u t.0 has (subst (λ x. IsAnswer (rbsp_of u) x) t.1 (of.aps (rbsp_of u))))
       class_has header_unit is =
           let p = passed (is_open (current before)) _ _ r is in
           let b = then_told (begins R before u (Some u)) _ r p.1 in
@@ -193,5 +202,13 @@ module _ (P : List ℕ → Type 0) where
       = elim (is_slice r) as (λ b. OfPictures (cond b (whole_part c) [])) [ true ↦ whole_has c (current_has (r ∷ before) all) | false ↦ tt ] in
       Each-append OfPicture (cond (is_slice r) (whole_part c) []) (pictures before) here (pictures_have before all.1)
 
-  pub have_units : (R : Readers) (units : List (List ℕ)) → AllByRecursion P units → AllByRecursion OfPicture (pictures_of R units)
-  have_units R units has = pictures_have (read_on R [] units).before (units_have R [] units has tt)
+  pub have_units : (R : Readers) (units : List (List ℕ)) → AreOfH266 R → AllByRecursion P units → AllByRecursion OfPicture (pictures_of R units)
+  have_units R units of has = pictures_have (read_on R [] units).before (units_have R of [] units has tt)
+
+  sets_hold : (before : List Reading) → OfReadings before → SetsHold OfSet before
+  sets_hold [] all = tt
+  sets_hold (r ∷ before) all = ((λ b is. subst OfReading is all.0), sets_hold before all.1)
+
+  -- a unit says each adaptation parameter set of a picture
+  pub sets_have : (p : Picture) → OfPicture p → (slot : Slot) (a : Aps) → aps_at (stored_sets p.before) slot.kind slot.id ≡ Some a → OfSet (record { kind = slot.kind; id = slot.id; body = a.body })
+  sets_have p held slot a is = held_at OfSet p.before (sets_hold p.before held.2) slot a is

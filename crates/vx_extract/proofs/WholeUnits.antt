@@ -1,5 +1,5 @@
 -- The units that are written for a whole stream are read again.
-use Rattle.std.proofs.Common.{◌≡◌, ℕ, ◌<◌, cond, List, [], ◌∷◌, map, Option, Some, None, refl, ap, sym, subst, ◌∙◌}
+use Rattle.std.proofs.Common.{◌≡◌, ℕ, cond, List, [], ◌∷◌, map, Option, Some, None, refl, ap, sym, subst, ◌∙◌}
 use Rattle.std.specs.List.{AllByRecursion}
 use Rattle.vx_bits.specs.declared.rules.TheConstants.{SLICE_MISSING}
 use Rattle.vx_sps.specs.Subpictures.{subpics_of}
@@ -8,7 +8,7 @@ use Rattle.vx_pic.specs.Readings.{Picture, pictures}
 use Rattle.vx_pic.specs.Parts.{parts_of}
 use Rattle.vx_pic.specs.Written.{Plan}
 use Rattle.vx_pic.specs.Resident.{AllReadAgain, planned_of, units_written}
-use Rattle.vx_pic.specs.Rules.{Readers, structure}
+use Rattle.vx_pic.specs.Rules.{structure}
 use Rattle.vx_pic.specs.Streams.{ending_of, pictures_of}
 use Rattle.vx_pic.specs.Finished.{AreFinished, PicturesAreFinished}
 use Rattle.vx_extract.specs.Written.{AreExtracted}

@@ -7,7 +7,7 @@ use Rattle.vx_sps.specs.Subpictures.{subpics_of}
 use Rattle.vx_pic.specs.Readings.{Picture, messages_of}
 use Rattle.vx_pic.specs.Parts.{parts_of}
 use Rattle.vx_pic.specs.Inputs.{inputs_of}
-use Rattle.vx_pic.specs.Written.{Plan}
+use Rattle.vx_pic.specs.Written.{Plan, Set, a_pps, an_aps, an_sps}
 use Rattle.vx_pic.specs.Resident.{units_written}
 use Rattle.vx_pic.specs.Rules.{Readers}
 use Rattle.vx_pic.specs.Streams.{ending_of, pictures_of, read_on}
@@ -36,12 +36,19 @@ ExtractedUnitsReadAgain =
     → AreExtracted target level (map parts_of (pictures_of R units)) done
     → UnitsAreOfSubpicture R target (pictures_of R units) (units_written done)
 
--- In the bytes that are written of a stream, whose units can stand in one, these are the pictures, and no rule refuses the bytes: where
--- none of the units that are written is longer than a unit may be.
+-- The rewritten sets that are sent have no unit that is longer than a unit may be.
+abbrev pub IsShort : Set → List ℕ → Type 0
+IsShort (an_sps items) unit = length unit ≤ unit_limit
+IsShort (a_pps items) unit = length unit ≤ unit_limit
+IsShort (an_aps a) unit = Unit {0}
+
+abbrev pub HaveShortSets : List Plan → Type 0
+HaveShortSets done = AllByRecursion (λ p. AllByRecursion (λ x. IsShort x.set x.unit) p.sent) done
+
+-- In the bytes that are written of a stream, whose units can stand in one, these are the pictures, and no rule refuses the bytes.
 abbrev pub ExtractionReadsAgain : Type 0
 ExtractionReadsAgain =
-    (R : Readers) (units : List (List ℕ)) (target : ℕ) (level : Option ℕ) (done : List Plan) → AreOfH266 R
+    (R : Readers) (units : List (List ℕ)) (target : ℕ) (level : Option ℕ) (done : List Plan) → AreOfH266 R → All CanStand units
     → AllByRecursion (λ p. target < subpics_of p.begun.sps) (pictures_of R units)
-    → AreExtracted target level (map parts_of (pictures_of R units)) done
-    → All CanStand units → All (λ u. length u ≤ unit_limit) (units_written done)
+    → AreExtracted target level (map parts_of (pictures_of R units)) done → HaveShortSets done
     → (qs : List Picture) × ArePictures R (written (units_written done)) true qs None × AreOfSubpicture target (pictures_of R units) qs

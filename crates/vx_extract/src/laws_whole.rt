@@ -4,6 +4,7 @@ ghost use Rattle.vx_extract.specs.Whole.{ExtractedUnitsReadAgain, ExtractionRead
 use crate::laws::{extracted_reads_again, rewritten_make_region};
 use crate::laws_kept::all_keep_inputs;
 use crate::laws_ready::pictures_are_ready;
+use vx_annexb::{escaped_is_unique, escaped_splits};
 use vx_pic::{pictures_are_finished, written_has_pictures};
 
 /// The units that are written for a subpicture that each picture of a stream has are read again: exactly its pictures, with the decoding
@@ -18,10 +19,13 @@ pub fn extracted_units_read_again()
     all_keep_inputs();
 }
 
-/// So are the bytes: where no unit that is written is longer than a unit may be, they have exactly these pictures, and no rule refuses them.
+/// So are the bytes: they have exactly these pictures, and no rule refuses them, where no unit of a rewritten set is longer than a unit
+/// may be.
 pub fn extraction_reads_again()
     ensures { ExtractionReadsAgain }
 {
+    escaped_is_unique();
+    escaped_splits();
     pictures_are_finished();
     written_has_pictures();
     extracted_units_read_again();
