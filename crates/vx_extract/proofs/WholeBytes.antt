@@ -198,11 +198,13 @@ ends_well : (o : Outcome) → ending_of o ≡ None → ending_by true None o ≡
 ends_well o none = ap (λ r. option_map (λ x. record { units = length o.before; refusal = x }) r) none
 
 pub reads_again : EscapedSplits → EscapedIsUnique → PicturesAreFinished → WrittenHasPictures → ExtractedUnitsReadAgain → ExtractionReadsAgain
-reads_again splits unique finished has_pictures reads R units target level done of sources has were short =
+reads_again splits unique finished has_pictures reads R units target level bytes of sources has (done, were, same) short =
     let pics : List Picture = pictures_of R units in
     let own = have_units CanStand R units of (recursion_from_All CanStand units sources) in
     let stand = all_stand splits unique R target level pics done (finished R units) own were short in
     let again = reads R units target level done of has were in
+    let qs : List Picture = pictures_of R (units_written done) in
     let are = has_pictures R (units_written done) (All-from_recursion CanStand (units_written done) stand) in
     let ends = ends_well (read_on R [] (units_written done)) again.ends in
-    (pictures_of R (units_written done), subst (λ e. ArePictures R (written (units_written done)) true (pictures_of R (units_written done)) e) ends are, again.pictures)
+    let well : ArePictures R (written (units_written done)) true qs None = subst (λ e. ArePictures R (written (units_written done)) true qs e) ends are in
+    (qs, subst (λ b. ArePictures R b true qs None) (sym same) well, again.pictures)

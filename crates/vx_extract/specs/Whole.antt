@@ -2,7 +2,7 @@
 use Rattle.std.specs.List.{AllByRecursion}
 use Rattle.std.specs.Prelude.{◌≡◌, ℕ, ◌<◌, ◌≤◌, true, List, [], length, map, All, Option, None}
 use Rattle.vx_annexb.specs.ByteStream.{unit_limit}
-use Rattle.vx_annexb.specs.Laws.{CanStand, written}
+use Rattle.vx_annexb.specs.Laws.{CanStand}
 use Rattle.vx_sps.specs.Subpictures.{subpics_of}
 use Rattle.vx_pic.specs.Readings.{Picture, messages_of}
 use Rattle.vx_pic.specs.Parts.{parts_of}
@@ -13,7 +13,7 @@ use Rattle.vx_pic.specs.Rules.{Readers}
 use Rattle.vx_pic.specs.Streams.{ending_of, pictures_of, read_on}
 use Rattle.vx_pic.specs.Bytes.{ArePictures}
 use Rattle.vx_pic.specs.H266.{AreOfH266}
-use Rattle.vx_extract.specs.Written.{AreExtracted}
+use Rattle.vx_extract.specs.Written.{AreExtracted, IsExtraction}
 
 -- The pictures `qs` are those of a subpicture of pictures: one for each, in order, of its kind and with its messages. Each has one
 -- subpicture, whose slices have the decoding inputs of the target's.
@@ -45,10 +45,10 @@ IsShort (an_aps a) unit = Unit {0}
 abbrev pub HaveShortSets : List Plan → Type 0
 HaveShortSets done = AllByRecursion (λ p. AllByRecursion (λ x. IsShort x.set x.unit) p.sent) done
 
--- In the bytes that are written of a stream, whose units can stand in one, these are the pictures, and no rule refuses the bytes.
+-- The bytes that are written of a stream, whose units can stand in one, have such pictures, and no rule refuses them.
 abbrev pub ExtractionReadsAgain : Type 0
 ExtractionReadsAgain =
-    (R : Readers) (units : List (List ℕ)) (target : ℕ) (level : Option ℕ) (done : List Plan) → AreOfH266 R → All CanStand units
+    (R : Readers) (units : List (List ℕ)) (target : ℕ) (level : Option ℕ) (bytes : List ℕ) → AreOfH266 R → All CanStand units
     → AllByRecursion (λ p. target < subpics_of p.begun.sps) (pictures_of R units)
-    → AreExtracted target level (map parts_of (pictures_of R units)) done → HaveShortSets done
-    → (qs : List Picture) × ArePictures R (written (units_written done)) true qs None × AreOfSubpicture target (pictures_of R units) qs
+    → (extraction : IsExtraction target level (map parts_of (pictures_of R units)) bytes) → HaveShortSets extraction.0
+    → (qs : List Picture) × ArePictures R bytes true qs None × AreOfSubpicture target (pictures_of R units) qs

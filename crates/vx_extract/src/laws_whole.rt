@@ -19,8 +19,8 @@ pub fn extracted_units_read_again()
     all_keep_inputs();
 }
 
-/// So are the bytes: they have exactly these pictures, and no rule refuses them, where no unit of a rewritten set is longer than a unit
-/// may be.
+/// So are the bytes: they have exactly these pictures, and no rule refuses them. It is asked that no unit of a rewritten set is longer
+/// than a unit may be.
 pub fn extraction_reads_again()
     ensures { ExtractionReadsAgain }
 {
