@@ -178,7 +178,7 @@ module _ (old f f1 : Feeding) (left0 left left1 : Option (List ℕ)) (f0 n n1 : 
   stops_behind (faults.Refused r) R g' places later before readings same units kept took = (
     took.0 ∙ kept,
     subst (λ (k : ℕ). ArePictures R (seen_of g') (is_all f1.reader.splitter) (pictures before) (Some (record { units = k; refusal = r }))) (sym units)
-    (subst (λ (ps : List Picture). ArePictures R (seen_of g') (is_all f1.reader.splitter) ps (Some (record { units = length (places ++ later); refusal = r }))) same took.1.1),
+        (subst (λ (ps : List Picture). ArePictures R (seen_of g') (is_all f1.reader.splitter) ps (Some (record { units = length (places ++ later); refusal = r }))) same took.1.1),
     record { later = later; readings = readings; same = same; were = took.1.3; count = units; refused = took.1.0; more = took.1.2.0; read = took.1.2.1 },
   )
   stops_behind (faults.Stopped first) R g' places later before readings same units kept took = absurd took.1
