@@ -27,8 +27,8 @@ use Rattle.vx_report.specs.declared.refusal.Where.{Where}
 use Rattle.vx_assemble.specs.Feed.{Feeding, EndsAtEnd, HasFed}
 use Rattle.vx_assemble.specs.Held.{ShowsLatest}
 use Rattle.vx_extract.specs.Extracting.{Extracting, Stands, HasSlice, Writes, WritesKept, Checks as ExtractorChecks}
-use Rattle.vx_extract.specs.declared.fault.WriteError.{WriteError}
-use Rattle.vx_extract.specs.declared.fault.WriteError.TheVariants as errors
+use Rattle.vx_write.specs.declared.fault.WriteError.{WriteError}
+use Rattle.vx_write.specs.declared.fault.WriteError.TheVariants as errors
 use Rattle.vx_extract.specs.Rules.{is_kept, refusal_of}
 use Rattle.vx_extract.specs.Written.{AreExtracted, IsExtracted, IsExtraction}
 use Rattle.vx_app.specs.declared.extract.Task.{Task}

@@ -17,7 +17,8 @@ use Rattle.vx_pic.specs.Edited.{AreEdits, EditsArePlanned}
 use Rattle.vx_pic.specs.Written.{Plan, Says, SetUnit, SliceReads, slices_of}
 use Rattle.vx_pic.specs.Resident.{AreAllPlanned, HaveNamed, IsPlanned, is_resident, planned_of, sent_before}
 use Rattle.vx_pic.proofs.Sent.{items_are}
-use Rattle.vx_extract.specs.Written.{AreExtracted, IsExtracted, IsSetUnit}
+use Rattle.vx_write.specs.Units.{IsSetUnit}
+use Rattle.vx_extract.specs.Written.{AreExtracted, IsExtracted}
 use Rattle.vx_extract.specs.Again.{ExtractedHasItsBodies, ExtractedIsAlike, ExtractedIsWhole, ExtractedSendsItsSets, ExtractedUnitsAreRead, IsReadable, IsReady, SeiUnitsAreRead, SetUnitsAreRead}
 use Rattle.vx_extract.proofs.AgainSame.{same_again}
 use Rattle.vx_extract.proofs.ShapesSizes.{subpics_count}

@@ -21,7 +21,7 @@ use Rattle.vx_pic.specs.Rules.{Readers, message_limit}
 use Rattle.vx_pic.specs.H266.{AreOfH266}
 use Rattle.vx_pic.specs.H266Laws.{HaveOneAnswer}
 use Rattle.vx_pic.specs.Written.{IsPlain, Says, SeiReads, SeiUnit, Set, a_pps, an_aps, an_sps}
-use Rattle.vx_extract.specs.Written.{IsSeiUnit, IsSetUnit, IsUnitOf}
+use Rattle.vx_write.specs.Units.{IsSeiUnit, IsSetUnit, IsUnitOf}
 use Rattle.vx_extract.specs.Again.{IsReadable}
 
 -- ---- the header of a unit

@@ -10,15 +10,17 @@ use Rattle.vx_pic.specs.Parts.{Parts}
 use Rattle.vx_pic.specs.Readings.{Slice}
 use Rattle.vx_pic.specs.Written.{Plan, SeiUnit, units_of, eos_units, sei_units}
 use Rattle.vx_pic.specs.Resident.{history_of, kept_for}
-use Rattle.vx_extract.specs.declared.fault.WriteError.{WriteError}
-use Rattle.vx_extract.specs.declared.fault.WriteError.TheVariants as errors
-use Rattle.vx_extract.specs.declared.fault.WriteFirst.{WriteFirst}
+use Rattle.vx_write.specs.declared.fault.WriteError.{WriteError}
+use Rattle.vx_write.specs.declared.fault.WriteError.TheVariants as errors
+use Rattle.vx_write.specs.declared.fault.WriteFirst.{WriteFirst}
 use Rattle.vx_extract.specs.Rules.{is_kept, refusal_of}
 use Rattle.vx_extract.specs.Written.{slices_in, IsExtracted}
 use Rattle.vx_extract.specs.Extracting.{Extracting, HasSlice, WritesKept, Writes}
-use Rattle.vx_extract.specs.inner.Slots.{Sent, AreLastOf}
-use Rattle.vx_extract.specs.inner.Sending.{unsent, IsMade}
-use Rattle.vx_extract.specs.inner.Writing.{Takes, units_with}
+use Rattle.vx_write.specs.Slots.{Sent, AreLastOf}
+use Rattle.vx_write.specs.Sending.{unsent}
+use Rattle.vx_extract.specs.inner.Sending.{IsMade}
+use Rattle.vx_write.specs.Writing.{Takes}
+use Rattle.vx_extract.specs.inner.Writing.{units_with}
 
 abbrev asked : ℕ → Option ℕ → ℕ → List Sent → Option WriteFirst → Extracting
 asked target level tid slots first = record { target = target; level = level; tid = tid; slots = slots; first = first }

@@ -5,7 +5,7 @@ use Rattle.vx_pic.specs.Readings.{Begun, Picture, Reading, gathered, messages_of
 use Rattle.vx_pic.specs.Inputs.{Input, inputs_of}
 use Rattle.vx_pic.specs.Written.{SeiUnit, Set, SetUnit, a_pps, after, an_aps, an_sps, eos_readings, header_readings, sei_messages, sei_readings, set_reading, set_readings}
 use Rattle.vx_pic.specs.Resident.{planned_of, read_of}
-use Rattle.vx_extract.specs.Written.{IsSeiUnit}
+use Rattle.vx_write.specs.Units.{IsSeiUnit}
 use Rattle.vx_extract.specs.Again.{ExtractedReadsAgain}
 use Rattle.vx_extract.specs.Kept.{AllKeepInputs, AllKeepMessages, ExtractedKeepsInputs, ExtractedKeepsMessages}
 

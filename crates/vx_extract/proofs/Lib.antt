@@ -5,10 +5,7 @@ pub mod ShapesIdBits
 pub mod ShapesSps
 pub mod ShapesRegions
 pub mod ShapesPps
-pub mod Ending
 pub mod Naming
-pub mod Held
-pub mod Tids
 pub mod Rewriting
 pub mod Sending
 pub mod Writing
@@ -17,7 +14,6 @@ pub mod AgainPps
 pub mod AgainAbsent
 pub mod AgainSps
 pub mod AgainRegion
-pub mod Spelled
 pub mod AgainAgree
 pub mod AgainHeaders
 pub mod AgainSlices

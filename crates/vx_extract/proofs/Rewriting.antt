@@ -13,7 +13,7 @@ use Rattle.vx_pic.proofs.Sent.{items_are}
 use Rattle.vx_extract.specs.declared.rewritten.Rewritten.{Rewritten}
 use Rattle.vx_extract.specs.Shapes.{sps_shape, pps_shape}
 use Rattle.vx_extract.specs.inner.Rewritings.{IsRewritingOf, IsRewriting}
-use Rattle.vx_extract.proofs.Held.{both}
+use Rattle.vx_write.proofs.Held.{both}
 
 -- a picture with these
 abbrev with : Parts → List Item → List Item → List ℕ → Numbers → Parts

@@ -23,7 +23,8 @@ use Rattle.vx_pic.specs.Finished.{AreFinished, IsSound, PicturesAreFinished}
 use Rattle.vx_pic.specs.Laws.{WrittenHasPictures}
 use Rattle.vx_pic.specs.Written.{Plan, SeiUnit, Set, SetUnit, a_pps, an_aps, an_sps, eos_unit, eos_units, sei_units, slices_of, units_of}
 use Rattle.vx_pic.specs.Resident.{is_resident, sent_before, units_written}
-use Rattle.vx_extract.specs.Written.{AreExtracted, IsExtracted, IsSeiUnit, IsSetUnit, IsUnitOf, all_slots, is_named, slice_alone}
+use Rattle.vx_write.specs.Units.{IsSeiUnit, IsSetUnit, IsUnitOf}
+use Rattle.vx_extract.specs.Written.{AreExtracted, IsExtracted, all_slots, is_named, slice_alone}
 use Rattle.vx_extract.specs.Whole.{ExtractedUnitsReadAgain, ExtractionReadsAgain, HaveShortSets, IsShort}
 use Rattle.vx_extract.proofs.AgainBodies.{slots_hold, units_hold}
 use Rattle.vx_extract.proofs.AgainPlanned.{fewer_units, low_tid}

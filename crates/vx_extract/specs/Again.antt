@@ -31,7 +31,8 @@ use Rattle.vx_pic.specs.Written.{AreInOrder, HeadReads, Plan, Says, SeiReads, Se
 use Rattle.vx_pic.specs.Rules.{Readers, message_limit, picture_limit, size_of, unit_size}
 use Rattle.vx_pic.specs.Whole.{HasAllInOrder}
 use Rattle.vx_pic.specs.H266.{AreOfH266}
-use Rattle.vx_extract.specs.Written.{AreExtracted, IsExtracted, IsSeiUnit, IsSetUnit, named_in}
+use Rattle.vx_write.specs.Units.{IsSeiUnit, IsSetUnit}
+use Rattle.vx_extract.specs.Written.{AreExtracted, IsExtracted, named_in}
 use Rattle.vx_extract.specs.Shapes.{id_in, sps_shape, pps_shape}
 use Rattle.vx_extract.specs.inner.ShapeFacts.{AreInForce}
 

@@ -7,13 +7,12 @@ use Rattle.vx_annexb.specs.Laws.{written}
 use Rattle.vx_pic.specs.Parts.{Parts}
 use Rattle.vx_pic.specs.Written.{Set, Plan, units_of}
 use Rattle.vx_pic.specs.Resident.{history_of, last_of, serves}
-use Rattle.vx_extract.specs.declared.fault.WriteError.{WriteError}
-use Rattle.vx_extract.specs.declared.fault.WriteError.TheVariants as errors
-use Rattle.vx_extract.specs.declared.fault.WriteFirst.{WriteFirst}
-use Rattle.vx_extract.specs.declared.fault.WriteFirst.TheVariants as firsts
+use Rattle.vx_write.specs.declared.fault.WriteError.{WriteError}
+use Rattle.vx_write.specs.declared.fault.WriteError.TheVariants as errors
+use Rattle.vx_write.specs.declared.fault.WriteFirst.{WriteFirst}
 use Rattle.vx_extract.specs.Rules.{is_kept, refusal_of}
 use Rattle.vx_extract.specs.Written.{slices_in, IsExtracted}
-use Rattle.vx_extract.specs.inner.Slots.{Sent, held_serves}
+use Rattle.vx_write.specs.Slots.{Sent, held_serves}
 
 -- an extractor: the subpicture, the level that is asked for, the highest TemporalId that is kept, the sets that were sent since the last
 -- IRAP or GDR picture, the last of each type and id, and what first kept it from going on
@@ -28,13 +27,6 @@ pub record Extracting : Type 0 where
 pub record Stands (x : Extracting) (done : List Plan) : Type 0 where
   pub slots : (t : ℕ) (s : Set) → held_serves t s x.slots ≡ serves t s (last_of s (history_of done))
   pub going : x.first ≡ None
-
--- what an answer says of what first kept it from going on
-abbrev pub first_of : WriteError → WriteFirst
-first_of errors.Memory = firsts.Memory
-first_of errors.SinkFailed = firsts.SinkFailed
-first_of (errors.Refused r) = firsts.Refused r
-first_of (errors.Stopped f) = f
 
 -- what stays whatever it answers: what was asked for
 pub record SameTask (old new : Extracting) : Type 0 where

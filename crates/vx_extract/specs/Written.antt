@@ -1,49 +1,20 @@
 -- What is written for a subpicture of each picture of a stream.
-use Rattle.std.specs.Prelude.{◌≡◌, ℕ, ◌+◌, ◌*◌, ◌==◌, ◌&&◌, not, Bool, List, [], ◌∷◌, ◌++◌, filter, map, flat_map, Option, Some, None}
+use Rattle.std.specs.Prelude.{◌≡◌, ℕ, ◌==◌, ◌&&◌, not, Bool, List, [], ◌∷◌, ◌++◌, filter, map, flat_map, Option, Some, None}
 use Rattle.std.specs.List.{AllByRecursion, list_any, range_with_len}
 use Rattle.vx_bits.specs.declared.list.Item.{Item}
-use Rattle.vx_annexb.specs.Emulation.{IsEscaped}
 use Rattle.vx_annexb.specs.Laws.{written}
 use Rattle.vx_aps.specs.declared.aps.Aps.{Aps}
 use Rattle.vx_aps.specs.declared.aps.TheConstants.{ALF, LMCS, SCALING}
-use Rattle.vx_aps.specs.Aps.{spelled}
-use Rattle.vx_sei.specs.declared.message.Message.{Message}
-use Rattle.vx_sei.specs.Sei.{IsSei}
-use Rattle.vx_sps.specs.Set as sps_set
 use Rattle.vx_sps.specs.Reshaped as sps_reshaped
-use Rattle.vx_pps.specs.Pps as pps_set
 use Rattle.vx_pps.specs.Reshaped as pps_reshaped
 use Rattle.vx_layout.specs.Regions.{region_of}
-use Rattle.vx_pic.specs.declared.unit_types.TheConstants as types
 use Rattle.vx_pic.specs.Sets.{Slot}
 use Rattle.vx_pic.specs.Readings.{Slice}
 use Rattle.vx_pic.specs.Parts.{Parts, SlicePart, aps_at, id_count, named_by}
-use Rattle.vx_pic.specs.Written.{Set, an_sps, a_pps, an_aps, SetUnit, SeiUnit, Plan, slices_of}
+use Rattle.vx_pic.specs.Written.{Set, an_sps, a_pps, an_aps, SetUnit, Plan, slices_of}
 use Rattle.vx_pic.specs.Resident.{is_resident, sent_before, units_written}
+use Rattle.vx_write.specs.Units.{IsSetUnit, IsSeiUnit}
 use Rattle.vx_extract.specs.Shapes.{sps_shape, pps_shape}
-
--- ---- units
-
--- the header of a unit of layer 0 (7.3.1.2)
-abbrev pub header_bytes : (nal_type temporal_id : ℕ) → List ℕ
-header_bytes nal_type temporal_id = 0 ∷ (nal_type * 8 + (temporal_id + 1)) ∷ []
-
--- a unit of this type and TemporalId, with this RBSP (7.3.1.1)
-abbrev pub IsUnitOf : (nal_type temporal_id : ℕ) → List ℕ → List ℕ → Type 0
-IsUnitOf nal_type temporal_id rbsp unit = IsEscaped (header_bytes nal_type temporal_id ++ rbsp) unit
-
--- the unit of a set for a picture of this TemporalId: an SPS has TemporalId 0 (7.4.2.2)
-abbrev pub IsSetUnit : ℕ → Set → List ℕ → Type 0
-IsSetUnit tid (an_sps items) unit = (rbsp : List ℕ) × sps_set.IsSpelling items rbsp × IsUnitOf types.SPS_NUT 0 rbsp unit
-IsSetUnit tid (a_pps items) unit = (rbsp : List ℕ) × pps_set.IsSpelling items rbsp × IsUnitOf types.PPS_NUT tid rbsp unit
-IsSetUnit tid (an_aps a) unit = IsUnitOf types.PREFIX_APS_NUT tid (spelled a.kind a.id a.body) unit
-
--- one SEI unit with the messages, where there are any
-abbrev pub IsSeiUnit : ℕ → List Message → Option SeiUnit → Type 0
-IsSeiUnit tid [] sei = sei ≡ None
-IsSeiUnit tid (m ∷ more) None = ⊥
-IsSeiUnit tid (m ∷ more) (Some s) =
-    (s.messages ≡ m ∷ more) × ((rbsp : List ℕ) × IsSei rbsp (m ∷ more) × IsUnitOf types.PREFIX_SEI_NUT tid rbsp s.unit)
 
 -- ---- slices
 

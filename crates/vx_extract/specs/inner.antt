@@ -2,7 +2,5 @@
 pub mod Needed
 pub mod Rewritings
 pub mod Sending
-pub mod Sets
-pub mod Slots
 pub mod ShapeFacts
 pub mod Writing

@@ -1,14 +1,13 @@
 //! A subpicture of picture after picture.
 
-use crate::fault::{WriteError, WriteFirst};
 use crate::rewritten::Rewritten;
 use crate::rules::refusal_of;
-use crate::slots::Slots;
-use crate::task::{Task, first_of, write};
+use crate::task::{Task, write};
 use std::alloc::Global;
 use std::marker::Model;
 use vx_io::Sink;
 use vx_pic::Picture;
+use vx_write::{Slots, WriteError, WriteFirst, first_of};
 
 /// The highest TemporalId of all (H.266 7.4.2.2).
 const ALL: u8 = 6;
@@ -40,9 +39,9 @@ impl Model for Extractor {
 impl Extractor {
     ghost use Rattle.std.specs.Prelude.{◌≡◌, ◌≤◌, List, [], Some, None, Err, IfErr, OnOk};
     ghost use Rattle.vx_pic.specs.Written.{Plan};
-    ghost use Rattle.vx_extract.specs.declared.fault.WriteFirst.{WriteFirst as First};
-    ghost use Rattle.vx_extract.specs.declared.fault.WriteError.TheVariants.{Stopped};
-    ghost use Rattle.vx_extract.specs.Extracting as extracting;
+    ghost use Rattle.vx_write.specs.declared.fault.WriteFirst.{WriteFirst as First};
+    ghost use Rattle.vx_write.specs.declared.fault.WriteError.TheVariants.{Stopped};
+    ghost use Rattle.vx_write.specs.Faults as faults;
     ghost use Rattle.vx_extract.specs.Extracting.{Stands, Writes, Checks, JudgesSo, SameTask};
 
     /// An extractor of the subpicture of this index, with a level of its own or the source's, of all sublayers.
@@ -79,7 +78,7 @@ impl Extractor {
             → Writes picture.now done self.new (K.bytes_taken out.old) (K.bytes_taken out.new) (K.write_faults out.old) (K.write_faults out.new) result }
         ensures verdict { self.old.first ≡ None → JudgesSo picture.now self.new result }
         ensures task { SameTask self.old self.new }
-        ensures first { IfErr result (λ e. self.new.first ≡ Some (extracting.first_of e)) }
+        ensures first { IfErr result (λ e. self.new.first ≡ Some (faults.first_of e)) }
         ensures stopped { (f : First) → self.old.first ≡ Some f → (result ≡ Err (Stopped f)) × (self.new ≡ self.old) × (out.new ≡ out.old) }
     {
         if let Some(first) = self.first {
@@ -104,7 +103,7 @@ impl Extractor {
     pub fn check(&mut self, picture: &Picture<'_>) -> Result<(), WriteError>
         ensures answer { self.old.first ≡ None → Checks picture.now self.old result }
         ensures task { SameTask self.old self.new }
-        ensures first { IfErr result (λ e. self.new.first ≡ Some (extracting.first_of e)) }
+        ensures first { IfErr result (λ e. self.new.first ≡ Some (faults.first_of e)) }
         ensures stopped { (f : First) → self.old.first ≡ Some f → (result ≡ Err (Stopped f)) × (self.new ≡ self.old) }
         ensures stays { OnOk result (self.new ≡ self.old) }
     {

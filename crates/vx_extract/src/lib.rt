@@ -5,7 +5,6 @@
 #![tactic(auto)]
 
 mod extractor;
-mod fault;
 mod laws;
 mod laws_kept;
 mod laws_ready;
@@ -16,15 +15,9 @@ mod rewritten;
 mod rules;
 mod send;
 mod shapes;
-mod slots;
 mod task;
-#[cfg(test)]
-mod tests_units;
-mod units;
-mod written;
 
 pub use extractor::Extractor;
-pub use fault::{WriteError, WriteFirst};
 pub use laws::{
     extracted_are_planned, extracted_has_its_bodies, extracted_is_whole, extracted_reads_again,
     extracted_sends_its_sets, extracted_units_are_read, rewritten_agree, rewritten_keep_fields,
@@ -36,3 +29,4 @@ pub use laws_kept::{
 };
 pub use laws_ready::{pictures_are_in_force, pictures_are_ready, pictures_have_their_readings};
 pub use laws_whole::{extracted_units_read_again, extraction_reads_again};
+pub use vx_write::{WriteError, WriteFirst};

@@ -37,17 +37,6 @@ impl Model for NamedAps {
     ghost invariant = { λ n. length n.flags ≡ 24 };
 }
 
-/// A set that is needed: its type, its id and its body.
-#[derive(Clone, Copy)]
-pub(crate) struct NeededAps<'a> {
-    /// aps_params_type
-    pub kind: u8,
-    /// aps_adaptation_parameter_set_id
-    pub id: u8,
-    /// The bytes of the RBSP behind the first.
-    pub body: &'a [u8],
-}
-
 impl NamedAps {
     ghost use Rattle.std.specs.Prelude.{◌≡◌, ◌<◌, ◌++◌, false, replicate};
     ghost use Rattle.std.specs.List.{slice_index_or};

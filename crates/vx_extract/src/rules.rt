@@ -1,19 +1,11 @@
 //! The rules by which a subpicture can't be extracted.
 ghost use Rattle.std.specs.Prelude.{◌≡◌};
-ghost use Rattle.vx_pic.specs.Units as units;
 ghost use Rattle.vx_extract.specs.Rules as rules;
 
 use vx_bits::Refusal;
 use vx_bits::rules::{FILTERED_ACROSS, IRAP_DROPPED, NO_SUCH_SUBPICTURE, NOT_TREATED_AS_PICTURE};
-use vx_pic::{CRA_NUT, GDR_NUT, IDR_N_LP, IDR_W_RADL, Picture};
-
-/// Whether it is the type of an IRAP or GDR picture.
-pub(crate) fn is_irap_or_gdr(nal_type: u8) -> bool
-    ensures { result ≡ units.is_irap_or_gdr nal_type }
-{
-    let is_idr = nal_type == IDR_W_RADL || nal_type == IDR_N_LP;
-    is_idr || nal_type == CRA_NUT || nal_type == GDR_NUT
-}
+use vx_pic::Picture;
+use vx_write::is_irap_or_gdr;
 
 /// Whether a picture belongs to a sublayer that is kept.
 pub(crate) fn is_kept(picture: &Picture<'_>, tid: u8) -> bool

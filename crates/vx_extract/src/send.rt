@@ -1,28 +1,25 @@
 //! The units of the sets that a picture needs.
-ghost use Rattle.std.specs.Prelude.{◌≡◌, ℕ, ◌+◌, ◌<◌, List, [], ◌∷◌, ◌++◌, map, option_copied, option_map, IfOk, IfSome};
+ghost use Rattle.std.specs.Prelude.{◌≡◌, ℕ, ◌+◌, ◌<◌, List, [], ◌∷◌, map, option_copied, option_map, IfOk, IfSome};
 ghost use Rattle.vx_bits.specs.declared.list.Item.{Item};
 ghost use Rattle.vx_sps.specs.Set as sps_set;
 ghost use Rattle.vx_sps.specs.Subpictures.{subpics_of};
 ghost use Rattle.vx_pps.specs.Pps as pps_set;
-ghost use Rattle.vx_pic.specs.Written.{Set, an_sps, a_pps, SetUnit, Plan};
-ghost use Rattle.vx_pic.specs.Resident.{kept_for, history_of};
+ghost use Rattle.vx_pic.specs.Written.{an_sps, a_pps, SetUnit, Plan};
+ghost use Rattle.vx_pic.specs.Resident.{history_of};
 ghost use Rattle.vx_extract.specs.Written.{needed_sets};
-ghost use Rattle.vx_extract.specs.inner.Sets.{set_lent, CanBeWritten};
-ghost use Rattle.vx_extract.specs.inner.Slots.{AreLastOf};
-ghost use Rattle.vx_extract.specs.inner.Sending.{AreSent, AreOthers, sets_to, IsMade};
+ghost use Rattle.vx_write.specs.Slots.{AreLastOf};
+ghost use Rattle.vx_write.specs.Sending.{AreSent};
+ghost use Rattle.vx_extract.specs.inner.Sending.{sets_to, IsMade};
 ghost use Rattle.vx_extract.specs.inner.Rewritings.{IsRewriting};
 ghost use Rattle.vx_extract.specs.inner.Needed.{NamesOf};
 
 use crate::needed::{APS_SLOTS, NamedAps, named_aps, needed_at};
 use crate::rewritten::{Rewritten, rewrite};
-use crate::rules::is_irap_or_gdr;
-use crate::slots::Slots;
-use crate::units::sei_unit;
-use crate::written::{NeededSet, tid_of_unit, unit_of};
 use std::alloc::{AllocError, Global};
 use vx_pic::Picture;
 use vx_pps::Pps;
 use vx_sps::Sps;
+use vx_write::{NeededSet, Slots, forget_before, sei_unit, send};
 
 /// What is made of a picture: all that is written of it beside its own units.
 #[derive(Drop)]
@@ -40,33 +37,6 @@ impl Made {
     {
         self.sei.as_deref()
     }
-}
-
-/// Makes the unit of a set, unless the set is resident.
-///
-/// # Errors
-///
-/// Want of memory.
-fn send(
-    alloc: Global,
-    slots: &mut Slots,
-    units: &mut Vec<Vec<u8>>,
-    set: NeededSet<'_>,
-    temporal_id: u8,
-) -> Result<(), AllocError>
-    requires tid { temporal_id < 7 }
-    requires set { CanBeWritten (set_lent set) }
-    ensures { (before : List SetUnit) (sets : List Set) → AreSent temporal_id before sets slots.old (map (λ unit. unit.items) units.old.items)
-        → AreOthers (set_lent set.entry) sets
-        → IfOk result (λ _. AreSent temporal_id before (sets ++ set_lent set.entry ∷ []) slots.new (map (λ unit. unit.items) units.new.items)) }
-{
-    if slots.serves(temporal_id, set) {
-        return Ok(());
-    }
-    let unit = unit_of(alloc, set, temporal_id)?;
-    units.push(unit)?;
-    slots.put(alloc, set, tid_of_unit(set, temporal_id))?;
-    Ok(())
 }
 
 /// Makes the unit of the adaptation parameter set at a place, where the subpicture names it.
@@ -147,16 +117,6 @@ fn send_needed(
     send(alloc, slots, &mut units, NeededSet::Pps(pps), temporal_id)?;
     send_named(alloc, slots, &mut units, picture, target)?;
     Ok(units)
-}
-
-/// Forgets what was sent, before a picture of an IRAP or GDR type: a receiver may begin there.
-fn forget_before(slots: &mut Slots, nal_type: u8)
-    ensures { (history : List SetUnit) → AreLastOf history slots.old → AreLastOf (kept_for nal_type history) slots.new }
-{
-    if !is_irap_or_gdr(nal_type) {
-        return;
-    }
-    slots.clear();
 }
 
 /// Makes what is written of a picture beside its own units. The rewritten sets are kept for the next picture.

@@ -2,37 +2,18 @@
 ghost use Rattle.std.specs.Prelude.{◌≡◌, ◌≤◌, List, None, IfSome};
 ghost use Rattle.vx_pic.specs.Written.{Plan};
 ghost use Rattle.vx_pic.specs.Resident.{history_of};
-ghost use Rattle.vx_extract.specs.Extracting as extracting;
 ghost use Rattle.vx_extract.specs.Extracting.{JudgesSo, Writes};
 ghost use Rattle.vx_extract.specs.inner.Rewritings.{IsRewriting};
-ghost use Rattle.vx_extract.specs.inner.Slots.{AreLastOf};
-ghost use Rattle.vx_extract.specs.declared.fault.WriteError.TheVariants as errors;
+ghost use Rattle.vx_write.specs.Slots.{AreLastOf};
 
-use crate::fault::{WriteError, WriteFirst};
 use crate::output::write_picture;
 use crate::rewritten::Rewritten;
 use crate::rules::{is_kept, refusal_of};
 use crate::send::make;
-use crate::slots::Slots;
-use std::alloc::{AllocError, Global};
-use vx_io::{Sink, SinkFailed};
+use std::alloc::Global;
+use vx_io::Sink;
 use vx_pic::Picture;
-
-impl From<AllocError> for WriteError {
-    ghost from_gives = { λ _ e. e ≡ errors.Memory };
-
-    fn from(_error: AllocError) -> WriteError {
-        WriteError::Memory
-    }
-}
-
-impl From<SinkFailed> for WriteError {
-    ghost from_gives = { λ _ e. e ≡ errors.SinkFailed };
-
-    fn from(_error: SinkFailed) -> WriteError {
-        WriteError::SinkFailed
-    }
-}
+use vx_write::{Slots, WriteError};
 
 /// What is asked of an extractor.
 #[derive(Clone, Copy)]
@@ -43,18 +24,6 @@ pub(crate) struct Task {
     pub(crate) level: Option<u8>,
     /// The highest TemporalId that is kept.
     pub(crate) tid: u8,
-}
-
-/// What is answered later, where this kept a picture from being written.
-pub(crate) fn first_of(error: WriteError) -> WriteFirst
-    ensures { result ≡ extracting.first_of error }
-{
-    match error {
-        WriteError::Memory => WriteFirst::Memory,
-        WriteError::SinkFailed => WriteFirst::SinkFailed,
-        WriteError::Refused(refusal) => WriteFirst::Refused(refusal),
-        WriteError::Stopped(first) => first,
-    }
 }
 
 /// Writes the subpicture of a picture, behind those of others, where its sublayer is kept.

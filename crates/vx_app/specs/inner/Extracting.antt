@@ -16,8 +16,8 @@ use Rattle.vx_assemble.specs.declared.feed.FeedFault.{FeedFault}
 use Rattle.vx_assemble.specs.declared.feed.FeedFault.TheVariants as feed
 use Rattle.vx_assemble.specs.declared.feed.Step.TheVariants as steps
 use Rattle.vx_assemble.specs.Feed.{Feeding, EndsAtEnd, HasFed, IsNearEnd, Advances}
-use Rattle.vx_extract.specs.declared.fault.WriteError.{WriteError}
-use Rattle.vx_extract.specs.declared.fault.WriteError.TheVariants as errors
+use Rattle.vx_write.specs.declared.fault.WriteError.{WriteError}
+use Rattle.vx_write.specs.declared.fault.WriteError.TheVariants as errors
 use Rattle.vx_extract.specs.Extracting.{Extracting, Stands, HasSlice, Writes}
 use Rattle.vx_extract.specs.Rules.{refusal_of}
 use Rattle.vx_extract.specs.Written.{AreExtracted}

@@ -10,7 +10,7 @@ use Rattle.vx_aps.specs.declared.aps.TheConstants as aps
 use Rattle.vx_pic.specs.Sets.{Slot, named, named_filters}
 use Rattle.vx_pic.specs.Parts.{Parts, SlicePart, AreThere, id_count, slot_of, named_by}
 use Rattle.vx_pic.specs.Written.{Set, an_aps}
-use Rattle.vx_extract.specs.declared.needed.NeededAps.{NeededAps}
+use Rattle.vx_write.specs.declared.written.NeededAps.{NeededAps}
 use Rattle.vx_extract.specs.Written.{aps_of_slot, all_slots, is_named, named_in}
 
 -- ---- places

@@ -1,5 +1,5 @@
 use Rattle.std.proofs.lemmas.Result.{err_from_is_err_and}
-use Rattle.vx_extract.proofs.Writing.{takes_then, takes_cut}
+use Rattle.vx_write.proofs.Writing.{takes_then, takes_cut}
 use Rattle.vx_extract.proofs.output.write_picture.Goals as goal
 
 pub returns-in_err-write_all_of : goal.returns-in_err-write_all_of

@@ -1,6 +1,7 @@
 use Rattle.std.proofs.Common.{◌≤◌, ◌<◌, length, arith, Ok}
 use Rattle.std.proofs.lemmas.Result.{err_from_is_err_and}
-use Rattle.vx_extract.proofs.Writing.{units_split, units_step, units_past, takes_then, takes_stop}
+use Rattle.vx_write.proofs.Writing.{takes_then, takes_stop}
+use Rattle.vx_extract.proofs.Writing.{units_split, units_step, units_past}
 use Rattle.vx_extract.proofs.output.write_slices.Goals as goal
 
 pub returns-in_err-write_slice : goal.returns-in_err-write_slice

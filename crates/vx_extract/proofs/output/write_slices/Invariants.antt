@@ -1,5 +1,5 @@
 use Rattle.std.proofs.Common.{Ok}
-use Rattle.vx_extract.specs.inner.Writing.{Takes}
+use Rattle.vx_write.specs.Writing.{Takes}
 use Rattle.vx_extract.proofs.Writing.{units_to}
 use Rattle.vx_extract.proofs.output.write_slices.Given as goal
 

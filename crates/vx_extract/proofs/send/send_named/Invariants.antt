@@ -1,7 +1,8 @@
 use Rattle.std.proofs.Common.{◌∷◌, [], map, List}
 use Rattle.vx_bits.specs.declared.list.Item.{Item}
 use Rattle.vx_pic.specs.Written.{SetUnit, an_sps, a_pps}
-use Rattle.vx_extract.specs.inner.Sending.{AreSent, sets_to}
+use Rattle.vx_write.specs.Sending.{AreSent}
+use Rattle.vx_extract.specs.inner.Sending.{sets_to}
 use Rattle.vx_extract.proofs.send.send_named.Given as goal
 
 -- the sets of the first places were sent

@@ -1,0 +1,8 @@
+-- What the contracts of this crate cite.
+pub mod Faults
+pub mod Sending
+pub mod Sets
+pub mod Slots
+pub mod Units
+pub mod Writing
+pub mod inner

@@ -1,0 +1,22 @@
+-- The sets that were sent, as they are kept: the last one of each type and id.
+use Rattle.std.specs.Prelude.{◌≡◌, ℕ, ◌&&◌, nat_le, Bool, false, cond, List, [], ◌∷◌}
+use Rattle.vx_pic.specs.Written.{Set, SetUnit}
+use Rattle.vx_pic.specs.Resident.{same_slot, same_set, last_of, serves}
+
+-- a set that was sent, with its TemporalId
+pub record Sent : Type 0 where
+  pub set : Set
+  pub temporal_id : ℕ
+
+-- the one of a set's type and id is the same set, and can be decoded with pictures of this TemporalId
+abbrev pub held_serves : ℕ → Set → List Sent → Bool
+held_serves t s [] = false
+held_serves t s (x ∷ more) = cond (same_slot x.set s) (same_set x.set s && nat_le x.temporal_id t) (held_serves t s more)
+
+-- they answer alike
+abbrev pub AnswerAlike : List Sent → List Sent → Type 0
+AnswerAlike slots others = (t : ℕ) (s : Set) → held_serves t s slots ≡ held_serves t s others
+
+-- they are the last ones of these units
+abbrev pub AreLastOf : List SetUnit → List Sent → Type 0
+AreLastOf history slots = (t : ℕ) (s : Set) → held_serves t s slots ≡ serves t s (last_of s history)

@@ -1,0 +1,19 @@
+//! What writing subpictures as streams of their own and merging them have in common: units of parameter sets and of messages, which sets
+//! a receiver has, and units that are written one behind another (H.266 7.4.2, Annex B).
+#![tactic(auto)]
+
+mod fault;
+mod output;
+mod sending;
+mod slots;
+#[cfg(test)]
+mod tests_units;
+mod units;
+mod written;
+
+pub use fault::{WriteError, WriteFirst, first_of};
+pub use output::{write_all_of, write_end, write_one, write_some};
+pub use sending::{forget_before, is_irap_or_gdr, send};
+pub use slots::Slots;
+pub use units::{aps_unit, pps_unit, sei_unit, sps_unit};
+pub use written::{NeededAps, NeededSet, copied, same_items, tid_of_unit, unit_of};

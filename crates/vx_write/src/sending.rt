@@ -1,0 +1,58 @@
+//! Sets that are sent where a receiver doesn't have them.
+ghost use Rattle.std.specs.Prelude.{◌≡◌, ◌<◌, List, [], ◌∷◌, ◌++◌, map, IfOk};
+ghost use Rattle.vx_pic.specs.Units as units;
+ghost use Rattle.vx_pic.specs.Written.{Set, SetUnit};
+ghost use Rattle.vx_pic.specs.Resident.{kept_for};
+ghost use Rattle.vx_write.specs.Sets.{set_lent, CanBeWritten};
+ghost use Rattle.vx_write.specs.Slots.{AreLastOf};
+ghost use Rattle.vx_write.specs.Sending.{AreSent, AreOthers};
+
+use crate::slots::Slots;
+use crate::written::{NeededSet, tid_of_unit, unit_of};
+use std::alloc::{AllocError, Global};
+use vx_pic::{CRA_NUT, GDR_NUT, IDR_N_LP, IDR_W_RADL};
+
+/// Whether it is the type of an IRAP or GDR picture.
+pub fn is_irap_or_gdr(nal_type: u8) -> bool
+    ensures { result ≡ units.is_irap_or_gdr nal_type }
+{
+    let is_idr = nal_type == IDR_W_RADL || nal_type == IDR_N_LP;
+    is_idr || nal_type == CRA_NUT || nal_type == GDR_NUT
+}
+
+/// Makes the unit of a set, unless the set is resident.
+///
+/// # Errors
+///
+/// Want of memory.
+pub fn send(
+    alloc: Global,
+    slots: &mut Slots,
+    units: &mut Vec<Vec<u8>>,
+    set: NeededSet<'_>,
+    temporal_id: u8,
+) -> Result<(), AllocError>
+    requires tid { temporal_id < 7 }
+    requires set { CanBeWritten (set_lent set) }
+    ensures { (before : List SetUnit) (sets : List Set) → AreSent temporal_id before sets slots.old (map (λ unit. unit.items) units.old.items)
+        → AreOthers (set_lent set.entry) sets
+        → IfOk result (λ _. AreSent temporal_id before (sets ++ set_lent set.entry ∷ []) slots.new (map (λ unit. unit.items) units.new.items)) }
+{
+    if slots.serves(temporal_id, set) {
+        return Ok(());
+    }
+    let unit = unit_of(alloc, set, temporal_id)?;
+    units.push(unit)?;
+    slots.put(alloc, set, tid_of_unit(set, temporal_id))?;
+    Ok(())
+}
+
+/// Forgets what was sent, before a picture of an IRAP or GDR type: a receiver may begin there.
+pub fn forget_before(slots: &mut Slots, nal_type: u8)
+    ensures { (history : List SetUnit) → AreLastOf history slots.old → AreLastOf (kept_for nal_type history) slots.new }
+{
+    if !is_irap_or_gdr(nal_type) {
+        return;
+    }
+    slots.clear();
+}

@@ -1,0 +1,149 @@
+//! The sets that were sent: the last one of each type and id.
+ghost use Rattle.std.specs.Prelude.{◌≡◌, ◌<◌, [], ◌∷◌, length, slice_set, IfOk};
+ghost use Rattle.vx_write.specs.inner.Kept.{set_kept};
+ghost use Rattle.vx_write.specs.Sets.{set_lent, id_of};
+ghost use Rattle.vx_write.specs.inner.Places.{IsPlace};
+ghost use Rattle.vx_write.specs.Slots.{held_serves, AnswerAlike};
+ghost use Rattle.vx_pic.specs.Resident as resident;
+
+use crate::written::{NeededSet, WrittenSet, id_of_set, kept, same_set, same_slot};
+use std::alloc::{AllocError, Global};
+use std::marker::Model;
+
+/// A set that was sent, with its id and the TemporalId of its unit.
+#[derive(Drop)]
+struct SentSet {
+    set: WrittenSet,
+    id: u32,
+    temporal_id: u8,
+}
+
+impl Model for SentSet {
+    ghost use Rattle.std.specs.Prelude.{◌≡◌};
+    ghost use Rattle.vx_write.specs.inner.Kept.{set_kept};
+    ghost use Rattle.vx_write.specs.Sets.{id_of};
+    ghost use Rattle.vx_write.specs.Slots.{Sent};
+
+    ghost Value = { Sent };
+
+    ghost view = { λ s. record { set = set_kept s.set; temporal_id = s.temporal_id } };
+
+    ghost invariant = { λ s. s.id ≡ id_of (set_kept s.set) };
+}
+
+impl SentSet {
+    ghost use Rattle.std.specs.Prelude.{◌≡◌, ◌&&◌, nat_le, IfOk};
+
+    /// A set that is sent, in a unit of this TemporalId.
+    fn new(alloc: Global, set: NeededSet<'_>, temporal_id: u8) -> Result<SentSet, AllocError>
+        ensures { IfOk result (λ sent. sent ≡ record { set = set_lent set.entry; temporal_id = temporal_id }) }
+    {
+        let id = id_of_set(set);
+        let set = kept(alloc, set)?;
+        Ok(SentSet {
+            set,
+            id,
+            temporal_id,
+        })
+    }
+
+    /// Whether it is of the type and the id of another.
+    fn is_of(&self, set: NeededSet<'_>) -> bool
+        ensures { result ≡ resident.same_slot self.now.set (set_lent set.entry) }
+    {
+        same_slot(&self.set, self.id, set)
+    }
+
+    /// Whether it is the same as another, and can be decoded with pictures of this TemporalId.
+    fn serves(&self, temporal_id: u8, set: NeededSet<'_>) -> bool
+        ensures { result ≡ (resident.same_set self.now.set (set_lent set.entry) && nat_le self.now.temporal_id temporal_id) }
+    {
+        same_set(&self.set, set) && self.temporal_id <= temporal_id
+    }
+}
+
+/// Puts a set in the place of another.
+fn replace(sets: &mut Vec<SentSet>, i: usize, sent: SentSet)
+    requires { i < length sets.old.items }
+    ensures { sets.new.items ≡ slice_set sets.old.items i sent }
+{
+    sets[i] = sent;
+}
+
+/// The sets that were sent: the last one of each type and id.
+///
+/// It is seen as the list of them.
+#[derive(Drop)]
+pub struct Slots {
+    sets: Vec<SentSet>,
+}
+
+impl Model for Slots {
+    ghost use Rattle.std.specs.Prelude.{List};
+    ghost use Rattle.vx_write.specs.Slots.{Sent};
+
+    ghost Value = { List Sent };
+
+    ghost view = { λ s. s.sets.items };
+}
+
+impl Slots {
+    /// None. Takes no memory.
+    pub fn new(alloc: Global) -> Slots
+        ensures { result ≡ [] }
+    {
+        Slots {
+            sets: Vec::new(alloc),
+        }
+    }
+
+    /// Forgets all.
+    pub fn clear(&mut self)
+        ensures { self.new ≡ [] }
+    {
+        self.sets.clear();
+    }
+
+    /// Where the one of a set's type and id stands.
+    fn place_of(&self, set: NeededSet<'_>) -> Option<usize>
+        ensures { IsPlace (set_lent set.entry) self.now result }
+    {
+        for i in 0..self.sets.len() {
+            if self.sets[i].is_of(set) {
+                return Some(i);
+            }
+        }
+        None
+    }
+
+    /// Whether the one of a set's type and id is the same set, and can be decoded with pictures of this TemporalId.
+    pub fn serves(&self, temporal_id: u8, set: NeededSet<'_>) -> bool
+        ensures { result ≡ held_serves temporal_id (set_lent set.entry) self.now }
+    {
+        match self.place_of(set) {
+            Some(i) => self.sets[i].serves(temporal_id, set),
+            None => false,
+        }
+    }
+
+    /// Puts a set, sent in a unit of this TemporalId, into the place of the one of its type and id.
+    ///
+    /// # Errors
+    ///
+    /// Want of memory.
+    pub fn put(
+        &mut self,
+        alloc: Global,
+        set: NeededSet<'_>,
+        temporal_id: u8,
+    ) -> Result<(), AllocError>
+        ensures { IfOk result (λ _. AnswerAlike self.new (record { set = set_lent set.entry; temporal_id = temporal_id } ∷ self.old)) }
+    {
+        let sent = SentSet::new(alloc, set, temporal_id)?;
+        match self.place_of(set) {
+            Some(i) => replace(&mut self.sets, i, sent),
+            None => self.sets.push(sent)?,
+        }
+        Ok(())
+    }
+}
