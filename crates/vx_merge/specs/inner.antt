@@ -1,0 +1,1 @@
+-- What serves bodies and proofs alone: nothing that a caller has to believe.
