@@ -1,0 +1,68 @@
+-- The pictures from which slices predict motion (H.266 7.4.8, sh_collocated_ref_idx): the same one for all slices of a picture that name
+-- one. A list tells it by its order count, as a distance from the picture's own or by its low bits, so that slices of pictures with one
+-- order count are compared by what their lists tell.
+use Rattle.std.specs.Prelude.{ℕ, ℤ, pos, neg_ℤ, ◌+◌, ◌+ℤ◌, ◌==◌, ◌&&◌, not, Bool, cond, List, [], ◌∷◌, map, filter, take, slice_get}
+use Rattle.std.specs.Prelude.{Option, Some, None, unwrap_or}
+use Rattle.vx_bits.specs.declared.list.Item.{Item}
+use Rattle.vx_bits.specs.Fields.{first_value}
+use Rattle.vx_fields.specs.declared.pps.TheConstants as pps
+use Rattle.vx_fields.specs.declared.ph.TheConstants as ph
+use Rattle.vx_fields.specs.declared.sh.TheConstants as sh
+use Rattle.vx_table.specs.Scope.{natural, is_set}
+use Rattle.vx_table.specs.Loaded.{number}
+use Rattle.vx_rpl.specs.declared.entry.RefEntry.{RefEntry}
+use Rattle.vx_rpl.specs.declared.entry.RefEntry.TheVariants.{Short, Long}
+use Rattle.vx_pic.specs.Inputs.{lists_in_force}
+use Rattle.vx_pic.specs.Parts.{Parts, SlicePart}
+
+-- What an entry of a list tells of its picture (8.3.2): how far its order count is from the picture's own; its low bits, and where they
+-- are told the high ones; or that there is no such entry.
+pub data Collocated : Type 0 where
+  nearby : ℤ → Collocated
+  distant : ℕ → Option ℕ → Collocated
+  absent : Collocated
+
+-- DeltaPocValSt (7.4.11) of a short-term entry
+abbrev pub delta_of : RefEntry → ℤ
+delta_of (Short abs sign) = cond sign (neg_ℤ (pos abs)) (pos abs)
+delta_of (Long lsb msb) = pos 0
+
+-- the sum of those of entries, each of which counts from the one before
+abbrev pub delta_to : List RefEntry → ℤ
+delta_to [] = pos 0
+delta_to (entry ∷ entries) = delta_of entry +ℤ delta_to entries
+
+abbrev pub entry_tells : List RefEntry → Option RefEntry → Collocated
+entry_tells upto (Some (Short abs sign)) = nearby (delta_to upto)
+entry_tells upto (Some (Long lsb msb)) = distant lsb msb
+entry_tells upto None = absent
+
+-- the picture of an entry of a list
+abbrev pub told_at : List RefEntry → ℕ → Collocated
+told_at entries i = entry_tells (take (i + 1) entries) (slice_get entries i)
+
+-- ---- of a slice
+
+-- the number of a field of its header, and another where it is absent
+abbrev pub number_or : ℕ → List Item → ℕ → ℕ
+number_or absent items of = natural (unwrap_or (first_value items of) (pos absent))
+
+-- A P or B slice names one where ph_temporal_mvp_enabled_flag is 1 and lists stand in slice headers: type 2 is I, which an absent one is.
+abbrev pub names_collocated : Parts → SlicePart → Bool
+names_collocated q s =
+    (is_set (number q.header.fields ph.ph_temporal_mvp_enabled_flag) && not (is_set (number q.pps pps.pps_rpl_info_in_ph_flag)))
+    && not (number_or 2 s.header.fields sh.sh_slice_type == 2)
+
+-- it stands in list 0 unless sh_collocated_from_l0_flag is 0, at sh_collocated_ref_idx
+abbrev pub list_of : Parts → SlicePart → List RefEntry
+list_of q s =
+    cond (is_set (number_or 1 s.header.fields sh.sh_collocated_from_l0_flag))
+    (lists_in_force q s.header).first
+    (lists_in_force q s.header).second
+
+abbrev pub collocated_of : Parts → SlicePart → Collocated
+collocated_of q s = told_at (list_of q s) (number_or 0 s.header.fields sh.sh_collocated_ref_idx)
+
+-- those that slices of a picture name, in order
+abbrev pub collocated : Parts → List Collocated
+collocated q = map (collocated_of q) (filter (names_collocated q) q.slices)
