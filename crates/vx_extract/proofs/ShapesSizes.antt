@@ -2,30 +2,22 @@
 use Rattle.std.proofs.Common.{◌≡◌, ℕ, suc, zero, ◌+◌, ◌%◌, ◌^◌, ◌<◌, ◌≤◌, ◌==◌, not, true, false, List, length, refl, ap, sym, subst, ◌∙◌, inl, inr, arith}
 use Rattle.std.specs.Prelude.{slice_index_or}
 use Rattle.std.specs.Int.{div_ceil}
-use Rattle.std.proofs.Math.Pow.{pow_mono}
-use Rattle.std.proofs.lemmas.Bool.{and_parts, cases_Bool, eqb-true}
 use Rattle.std.proofs.lemmas.List.FromFn.{get_or-map-range_with_len, length-map-range_with_len}
 use Rattle.vx_bits.specs.declared.list.Item.{Item}
 use Rattle.vx_fields.specs.declared.sps.TheConstants as sps_fields
 use Rattle.vx_fields.specs.declared.pps.TheConstants as pps_fields
-use Rattle.vx_table.specs.Forms.{has_value}
-use Rattle.vx_table.specs.Loaded.{number, code_below, range_below, row_below}
-use Rattle.vx_layout.specs.Bounds.{last}
+use Rattle.vx_table.specs.Loaded.{number}
 use Rattle.vx_layout.specs.Faults.{height, width}
 use Rattle.vx_layout.specs.Layouts.{no_rect, subpic_at}
 use Rattle.vx_layout.specs.Rects.{IsPart}
 use Rattle.vx_sps.specs.Set as sps
 use Rattle.vx_sps.specs.Subpictures.{rect_of, subpics_of}
 use Rattle.vx_sps.proofs.Bounded.{ctu_below}
-use Rattle.vx_pps.specs.Pps as pps
-use Rattle.vx_pps.specs.Sets.{SetsTellPartitions, columns_in, rows_in}
-use Rattle.vx_pps.specs.Sets as pps_sets
-use Rattle.vx_pic.specs.Sets.{same_size}
+use Rattle.vx_pps.specs.Sets.{SetsTellPartitions}
 use Rattle.vx_pic.specs.Inputs.{luma_size}
 use Rattle.vx_pic.specs.Parts.{Parts}
-use Rattle.vx_pic.specs.PictureLayout.{columns_of, ctu_sizes_differ, rows_of}
-use Rattle.vx_pic.proofs.Ids.{and_set, not_false}
-use Rattle.vx_pic.proofs.Sizes.{has_sides, quotient_is, side_below}
+use Rattle.vx_pic.proofs.PictureSizes.{across, both_sizes, down, small_sides}
+use Rattle.vx_pic.proofs.Sizes.{has_sides}
 use Rattle.vx_extract.specs.Shapes.{height_in, width_in}
 use Rattle.vx_extract.specs.inner.ShapeFacts.{AreInForce}
 
@@ -66,39 +58,6 @@ pub record HasSize (q : Parts) : Type 0 where
   pub width : number q.pps pps_fields.pps_pic_width_in_luma_samples ≡ sps.width_of q.sps
   pub height : number q.pps pps_fields.pps_pic_height_in_luma_samples ≡ sps.height_of q.sps
 
--- the CTU size is 32 at least
-large : (s : List Item) → 32 ≤ sps.ctb_size_of s
-large s = let more : 5 ≤ number s sps_fields.sps_log2_ctu_size_minus5 + 5 = omega arith in let most : 2 ^ 5 ≤ sps.ctb_size_of s = pow_mono more in most
-
--- of a partitioned picture both sets have one
-same_ctus : (s p : List Item) → ctu_sizes_differ s p ≡ false → pps.is_partitioned p ≡ true → pps_sets.ctb_size_of p ≡ sps.ctb_size_of s
-unfolding ctu_sizes_differ
-same_ctus s p same is =
-    let one = eqb-true (number p pps_fields.pps_log2_ctu_size_minus5) (number s sps_fields.sps_log2_ctu_size_minus5)
-    (not_false (number p pps_fields.pps_log2_ctu_size_minus5 == number s sps_fields.sps_log2_ctu_size_minus5)
-    (and_set (pps.is_partitioned p) (not (number p pps_fields.pps_log2_ctu_size_minus5 == number s sps_fields.sps_log2_ctu_size_minus5)) is same)) in
-    ap (λ n. 2 ^ (n + 5)) one
-
-both_sizes : (s p : List Item) → same_size s p ≡ true → (number p pps_fields.pps_pic_width_in_luma_samples ≡ sps.width_of s) × (number p pps_fields.pps_pic_height_in_luma_samples ≡ sps.height_of s)
-unfolding same_size
-both_sizes s p same =
-    let parts = and_parts (number p pps_fields.pps_pic_width_in_luma_samples == sps.width_of s) (number p pps_fields.pps_pic_height_in_luma_samples == sps.height_of s) same in
-    (eqb-true _ (sps.width_of s) parts.0, eqb-true _ (sps.height_of s) parts.1)
-
-across : SetsTellPartitions → (s p : List Item) → pps.IsItems p → ctu_sizes_differ s p ≡ false → number p pps_fields.pps_pic_width_in_luma_samples ≡ sps.width_of s
-    → last (columns_of s p) ≡ div_ceil (number p pps_fields.pps_pic_width_in_luma_samples) (sps.ctb_size_of s)
-across tells s p set ctus same = elim (cases_Bool (pps.is_partitioned p)) [
-  | inl is ↦ rw is (((tells p set).columns is).all ∙ ap (λ n. div_ceil (number p pps_fields.pps_pic_width_in_luma_samples) n) (same_ctus s p ctus is))
-  | inr none ↦ rw none (quotient_is (sps.width_of s) (sps.ctb_size_of s) (large s) ∙ ap (λ n. div_ceil n (sps.ctb_size_of s)) (sym same))
-]
-
-down : SetsTellPartitions → (s p : List Item) → pps.IsItems p → ctu_sizes_differ s p ≡ false → number p pps_fields.pps_pic_height_in_luma_samples ≡ sps.height_of s
-    → last (rows_of s p) ≡ div_ceil (number p pps_fields.pps_pic_height_in_luma_samples) (sps.ctb_size_of s)
-down tells s p set ctus same = elim (cases_Bool (pps.is_partitioned p)) [
-  | inl is ↦ rw is (((tells p set).rows is).all ∙ ap (λ n. div_ceil (number p pps_fields.pps_pic_height_in_luma_samples) n) (same_ctus s p ctus is))
-  | inr none ↦ rw none (quotient_is (sps.height_of s) (sps.ctb_size_of s) (large s) ∙ ap (λ n. div_ceil n (sps.ctb_size_of s)) (sym same))
-]
-
 pub has_size : SetsTellPartitions → (q : Parts) → AreInForce q → HasSize q
 has_size tells q are =
     let both = both_sizes q.sps q.pps are.size in
@@ -129,10 +88,6 @@ part_of q k are within =
 pub record HasSides (q : Parts) (k : ℕ) : Type 0 where
   pub wide : IsSide (width_in q k) (rect_of q.sps k).w (sps.ctb_size_of q.sps)
   pub high : IsSide (height_in q k) (rect_of q.sps k).h (sps.ctb_size_of q.sps)
-
-small_sides : (s : List Item) → sps.IsItems s → (sps.width_of s < 16385) × (sps.height_of s < 16385)
-unfolding has_value code_below range_below row_below
-small_sides s set = (side_below sps_fields.sps_pic_width_max_in_luma_samples s set refl, side_below sps_fields.sps_pic_height_max_in_luma_samples s set refl)
 
 pub has_sides_in : SetsTellPartitions → (q : Parts) (k : ℕ) → AreInForce q → k < subpics_of q.sps → HasSides q k
 has_sides_in tells q k are within =

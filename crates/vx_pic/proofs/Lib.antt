@@ -10,6 +10,7 @@ pub mod Finishing
 pub mod Editing
 pub mod Listed
 pub mod Sizes
+pub mod PictureSizes
 pub mod Determined
 pub mod Deciding
 pub mod Distinct

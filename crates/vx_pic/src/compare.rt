@@ -23,9 +23,10 @@ pub struct Difference {
     pub field: u16,
 }
 
-/// The field at the first place where two lists of items differ.
+/// The field at the first place where two lists of items differ: the first list's there, or the second's where the first has ended;
+/// `None` where they are the same. It takes no memory.
 #[tactic(auto, using(crate::proofs::Comparing::item_alike, crate::proofs::Comparing::item_differs))]
-fn differing_field(items: &[Item], others: &[Item]) -> Option<u16>
+pub fn differing_field(items: &[Item], others: &[Item]) -> Option<u16>
     ensures { result ≡ differences.differing_field items.now others.now }
 {
     let (mut left, mut behind) = (items, others);
@@ -47,8 +48,8 @@ fn same_bytes(a: &[u8], b: &[u8]) -> bool
     a == b
 }
 
-/// Whether two bodies are the same.
-fn same_body(a: Option<&[u8]>, b: Option<&[u8]>) -> bool
+/// Whether two bodies are the same, or both are absent.
+pub fn same_body(a: Option<&[u8]>, b: Option<&[u8]>) -> bool
     ensures same { OnTrue result (option_copied a.entry ≡ option_copied b.entry) }
     ensures other { OnFalse result (¬ (option_copied a.entry ≡ option_copied b.entry)) }
 {
@@ -190,9 +191,9 @@ fn same_rects(a: &RectList, b: &RectList) -> bool
     true
 }
 
-/// Whether both have the same reference picture lists.
+/// Whether both have the same reference picture lists. It takes no memory.
 #[tactic(auto, using(crate::proofs::FieldByField::lists_alike, crate::proofs::FieldByField::lists_first, crate::proofs::FieldByField::lists_second))]
-fn same_lists(a: &RefLists, b: &RefLists) -> bool
+pub fn same_lists(a: &RefLists, b: &RefLists) -> bool
     ensures same { OnTrue result (a.now ≡ b.now) }
     ensures other { OnFalse result (¬ (a.now ≡ b.now)) }
 {

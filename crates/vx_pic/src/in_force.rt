@@ -53,8 +53,9 @@ pub struct AlfInForce<'a> {
     pub cc_cr: Option<&'a [u8]>,
 }
 
-/// The body of the set of a type that a field names, where the field is present.
-fn body_named<'a>(picture: &Picture<'a>, kind: u8, field: u16, items: &Fields) -> Option<&'a [u8]>
+/// The body of the adaptation parameter set of a type that a field among these items names, where the field is present. It takes no
+/// memory.
+pub fn body_named<'a>(picture: &Picture<'a>, kind: u8, field: u16, items: &Fields) -> Option<&'a [u8]>
     ensures { option_copied result ≡ named_body picture.now kind field items.now }
 {
     match items.first(field) {
@@ -122,7 +123,7 @@ fn alf_in<'a>(
 /// # Errors
 ///
 /// Want of memory.
-pub(crate) fn alf_in_force<'a>(
+pub fn alf_in_force<'a>(
     alloc: Global,
     picture: &Picture<'a>,
     slice: &SliceHeader,

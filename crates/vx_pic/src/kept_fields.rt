@@ -137,8 +137,12 @@ pub(crate) fn kept_of_pps(alloc: Global, pps: &Pps) -> Result<Kept, AllocError>
     keep_all(alloc, &keep_pps(alloc, pps)?)
 }
 
-/// The kept fields of a picture header.
-pub(crate) fn kept_of_header(alloc: Global, items: &Fields) -> Result<Kept, AllocError>
+/// The kept fields of a picture header, in order: those without a star, which a header that is rewritten has as its source.
+///
+/// # Errors
+///
+/// Want of memory.
+pub fn kept_of_header(alloc: Global, items: &Fields) -> Result<Kept, AllocError>
     ensures { IfOk result (λ kept. kept ≡ inputs.header_fields items.now) }
 {
     keep(alloc, items, &header_fields())

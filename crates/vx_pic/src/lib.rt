@@ -28,10 +28,11 @@ mod unit_types;
 
 pub use accepted::Accepted;
 pub use aps_list::ApsList;
-pub use compare::{Difference, same_input};
+pub use compare::{Difference, differing_field, same_body, same_input, same_lists};
 pub use count::{CountFields, PrevTid0, picture_order_count};
-pub use in_force::AlfInForce;
+pub use in_force::{AlfInForce, alf_in_force, body_named};
 pub use input::{DecodingInput, decoding_input};
+pub use kept_fields::kept_of_header;
 pub use kind::Kind;
 pub use laws::{
     alike_is_next, edits_are_planned, needed_is_body, needed_is_stored, pictures_are_finished,
@@ -44,7 +45,7 @@ pub use laws_whole::{pictures_have_sets, subpictures_have_slices};
 pub use layouts::{CTU_SIZE_FAULT, IDS_FAULT, picture_ids, picture_layout};
 pub use lender::Lender;
 pub use picture::{Picture, PictureParts, SliceSlot, SliceSlots, SliceView};
-pub use place::{Place, luma_size_of};
+pub use place::{Place, luma_size_of, several_slices, several_tiles};
 pub use sets::{PPS, SPS};
 pub use unit_types::{
     CRA_NUT, EOB_NUT, EOS_NUT, GDR_NUT, IDR_N_LP, IDR_W_RADL, PH_NUT, PPS_NUT, PREFIX_APS_NUT,

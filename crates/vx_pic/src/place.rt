@@ -37,14 +37,14 @@ pub fn luma_size_of(from: u32, size: u32, ctb: u32, total: u32) -> u32
 }
 
 /// Whether a layout has several tiles.
-fn several_tiles(layout: &Numbers) -> bool
+pub fn several_tiles(layout: &Numbers) -> bool
     ensures { result ≡ has_several_tiles layout.now }
 {
     layout.columns.len() > 2 || layout.rows.len() > 2
 }
 
 /// Whether a layout has several slices.
-fn several_slices(layout: &Numbers) -> bool
+pub fn several_slices(layout: &Numbers) -> bool
     ensures { result ≡ has_several_slices layout.now }
 {
     layout.slices.len() > 1
