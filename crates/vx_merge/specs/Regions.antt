@@ -34,6 +34,9 @@ ctb_of round = ctb_size_of (picture_at round 0).sps
 abbrev pub corners_in : List Corner → List Parts → List Rect
 corners_in corners round = map (in_ctus (ctb_of round)) (placed_in corners round)
 
--- the layouts of the pictures, each of one subpicture
+-- the layout of a picture's one subpicture
+abbrev pub layout_of : Parts → Numbers
+layout_of q = region_of q.layout 0
+
 abbrev pub layouts_in : List Parts → List Numbers
-layouts_in round = map (λ q. region_of q.layout 0) round
+layouts_in round = map layout_of round

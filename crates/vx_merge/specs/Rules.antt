@@ -27,7 +27,7 @@ use Rattle.vx_pic.specs.Parts.{Parts}
 use Rattle.vx_merge.specs.declared.corner.Corner.{Corner}
 use Rattle.vx_merge.specs.Bodies.{filters_in, has_lmcs, has_scaling, is_chroma_scaled, lmcs_body, once, scaling_body}
 use Rattle.vx_merge.specs.Collocated.{collocated}
-use Rattle.vx_merge.specs.Regions.{corners_in, ctb_of, layouts_in, placed_in}
+use Rattle.vx_merge.specs.Regions.{corners_in, ctb_of, layout_of, layouts_in, placed_in}
 use Rattle.vx_merge.specs.Rounds.{SomeUnlikeFirst, UnlikeFirst, UnlikeLowest, picture_at}
 use Rattle.vx_merge.specs.Verdict.{Rule}
 
@@ -151,6 +151,12 @@ too_many_filters round =
     of_source rules.TOO_MANY_ALF (λ k. most_filters < length (once (flat_map filters_in (take (k + 1) round))))
 
 -- M13: it has several tiles, or several slices, and in-loop filters cross their borders otherwise than in the lowest source with several.
+abbrev pub has_tiles : Parts → Bool
+has_tiles q = has_several_tiles (layout_of q)
+
+abbrev pub has_slices : Parts → Bool
+has_slices q = has_several_slices (layout_of q)
+
 abbrev pub crosses_tiles : Parts → Bool
 crosses_tiles q = is_set (number q.pps pps.pps_loop_filter_across_tiles_enabled_flag)
 
@@ -159,8 +165,7 @@ crosses_slices q = is_set (number q.pps pps.pps_loop_filter_across_slices_enable
 
 abbrev pub filter_flags : List Parts → Rule
 filter_flags round = of_source rules.FILTER_FLAGS
-    (λ k. UnlikeLowest (λ q. has_several_tiles q.layout) crosses_tiles round k
-    ⊎ UnlikeLowest (λ q. has_several_slices q.layout) crosses_slices round k)
+    (λ k. UnlikeLowest has_tiles crosses_tiles round k ⊎ UnlikeLowest has_slices crosses_slices round k)
 
 -- M16: one of its slices names another collocated picture than the first slice of all that names one (7.4.8).
 abbrev pub collocated_pictures : List Parts → Rule
