@@ -34,7 +34,7 @@ use Rattle.vx_sh.specs.InForce.{SliceScopesAgree, beside, slice_scope}
 use Rattle.vx_pic.specs.Parts.{Parts}
 use Rattle.vx_extract.specs.Again.{AgreeForHeaders, AreRewritten}
 use Rattle.vx_extract.specs.Shapes.{id_in_sps, plan_of}
-use Rattle.vx_extract.specs.inner.ShapeFacts.{AreInForce}
+use Rattle.vx_write.specs.InForce.{AreInForce}
 use Rattle.vx_extract.proofs.AgainAbsent.{length_only, undescribed}
 use Rattle.vx_extract.proofs.AgainPps.{no_number}
 use Rattle.vx_extract.proofs.AgainSps.{described_is, length_is, no_length, not_described_is, sps_taken}

@@ -15,7 +15,7 @@ use Rattle.vx_pic.specs.Written.{Plan, Set, SetUnit, an_aps}
 use Rattle.vx_pic.specs.Resident.{HasSet, HaveNamed}
 use Rattle.vx_extract.specs.Written.{IsExtracted, all_slots, aps_of_slot, is_named, named_in, needed_aps, parts_in, same_slot, set_of_slot, slice_alone, slots_of}
 use Rattle.vx_extract.specs.Again.{HasItsBodies, HasReadableSets, IsReadable}
-use Rattle.vx_extract.specs.inner.ShapeFacts.{AreInForce}
+use Rattle.vx_write.specs.InForce.{AreInForce}
 use Rattle.vx_extract.proofs.AgainAgree.{pps_taken}
 use Rattle.vx_extract.proofs.AgainSent.{IsAmong, has_set}
 

@@ -21,7 +21,7 @@ use Rattle.vx_write.specs.Units.{IsSetUnit}
 use Rattle.vx_extract.specs.Written.{AreExtracted, IsExtracted}
 use Rattle.vx_extract.specs.Again.{ExtractedHasItsBodies, ExtractedIsAlike, ExtractedIsWhole, ExtractedSendsItsSets, ExtractedUnitsAreRead, IsReadable, IsReady, SeiUnitsAreRead, SetUnitsAreRead}
 use Rattle.vx_extract.proofs.AgainSame.{same_again}
-use Rattle.vx_extract.proofs.ShapesSizes.{subpics_count}
+use Rattle.vx_write.proofs.Sizes.{subpics_count}
 
 same_itself : (items : List Item) → same_items items items ≡ true
 same_itself [] = refl

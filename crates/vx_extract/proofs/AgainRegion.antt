@@ -37,11 +37,12 @@ use Rattle.vx_pic.specs.PictureLayout.{AreDistinct, IdsAgree, are_in_pps, ctu_si
 use Rattle.vx_pic.proofs.Sizes.{id_length_below, quotient_is}
 use Rattle.vx_extract.specs.Shapes.{height_in, id_in, id_in_pps, id_in_sps, plan_of, pps_shape, sps_shape, width_in}
 use Rattle.vx_extract.specs.Again.{AreRewritten, KeepIds, MakeRegion}
-use Rattle.vx_extract.specs.inner.ShapeFacts.{AreInForce}
+use Rattle.vx_write.specs.InForce.{AreInForce}
 use Rattle.vx_extract.proofs.ShapesIdBits.{id_low_in_pps}
-use Rattle.vx_extract.proofs.ShapesIds.{sps_id_below}
+use Rattle.vx_write.proofs.Ids.{sps_id_below}
 use Rattle.vx_extract.proofs.ShapesPps.{pps_is_shape}
-use Rattle.vx_extract.proofs.ShapesSizes.{HasSides, has_sides_in, part_of, subpic_is, subpics_count}
+use Rattle.vx_write.proofs.Sizes.{part_of, subpic_is, subpics_count}
+use Rattle.vx_extract.proofs.ShapesSizes.{HasSides, has_sides_in}
 use Rattle.vx_extract.proofs.ShapesSps.{sps_is_shape}
 use Rattle.vx_extract.proofs.AgainAbsent.{count_only, ids_only, signal_only, undescribed}
 use Rattle.vx_extract.proofs.AgainPps.{no_number, pps_count, pps_height, pps_id_length, pps_ids, pps_mapping, pps_no_mapping, pps_own_id, pps_referred, pps_size, pps_whole, pps_width}

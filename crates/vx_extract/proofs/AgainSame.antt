@@ -25,9 +25,9 @@ use Rattle.vx_pic.specs.Sets.{sps_id}
 use Rattle.vx_pic.specs.Parts.{Parts}
 use Rattle.vx_pic.specs.PictureLayout.{ids_of, needs_ids}
 use Rattle.vx_extract.specs.Shapes.{dpb_of, id_in, level_of, sps_shape, window_of}
-use Rattle.vx_extract.specs.inner.ShapeFacts.{AreInForce}
+use Rattle.vx_write.specs.InForce.{AreInForce}
 use Rattle.vx_extract.proofs.ShapesIdBits.{not_in_pps_elsewhere}
-use Rattle.vx_extract.proofs.ShapesSizes.{has_size}
+use Rattle.vx_write.proofs.Sizes.{has_size}
 
 -- what is written of the SPS alone, of pictures of the size that it says
 abbrev id_from : List Item → ℕ → Option ℕ

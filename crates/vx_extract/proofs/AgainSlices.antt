@@ -36,8 +36,8 @@ use Rattle.vx_pic.specs.H266Laws.{HaveOneAnswer}
 use Rattle.vx_pic.proofs.Ids.{ids_count}
 use Rattle.vx_extract.specs.Again.{AgreeForHeaders, MakeRegion, alone, begun_alone, begun_in}
 use Rattle.vx_extract.specs.Shapes.{id_in}
-use Rattle.vx_extract.specs.inner.ShapeFacts.{AreInForce}
-use Rattle.vx_extract.proofs.ShapesSizes.{subpics_count}
+use Rattle.vx_write.specs.InForce.{AreInForce}
+use Rattle.vx_write.proofs.Sizes.{subpics_count}
 
 -- ---- entry points
 

@@ -23,7 +23,7 @@ use Rattle.vx_pic.specs.Finished.{IsSound}
 use Rattle.vx_pic.specs.Written.{HeadReads, HeaderReads, Plan, SliceReads, slices_of}
 use Rattle.vx_extract.specs.Written.{IsExtracted, slice_alone}
 use Rattle.vx_extract.specs.Again.{AreRewritten, KeepIds, MakeRegion, ReadUnder, UnitsAreRead, alone, begun_alone, begun_in}
-use Rattle.vx_extract.specs.inner.ShapeFacts.{AreInForce}
+use Rattle.vx_write.specs.InForce.{AreInForce}
 use Rattle.vx_extract.proofs.AgainAgree.{pps_taken, pps_with}
 use Rattle.vx_extract.proofs.AgainSps.{sps_taken}
 

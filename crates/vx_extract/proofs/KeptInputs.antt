@@ -26,7 +26,7 @@ use Rattle.vx_pic.specs.Resident.{read_of}
 use Rattle.vx_extract.specs.Written.{IsExtracted, named_in}
 use Rattle.vx_extract.specs.Again.{AgreeForHeaders, AreRewritten, IsReady, KeepFields, RewrittenAgree, RewrittenKeepFields, alone}
 use Rattle.vx_extract.specs.Kept.{ExtractedKeepsBodies, RewrittenKeepPlaces}
-use Rattle.vx_extract.specs.inner.ShapeFacts.{AreInForce}
+use Rattle.vx_write.specs.InForce.{AreInForce}
 use Rattle.vx_extract.proofs.AgainAgree.{pps_taken}
 use Rattle.vx_extract.proofs.AgainBodies.{Has, has_all, has_first, has_second}
 use Rattle.vx_extract.proofs.AgainUnits.{qp_same, short, slices_shown, those_of}

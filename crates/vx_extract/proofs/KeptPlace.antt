@@ -25,12 +25,12 @@ use Rattle.vx_pic.specs.Parts.{Parts}
 use Rattle.vx_extract.specs.Shapes.{height_in, pps_shape, width_in}
 use Rattle.vx_extract.specs.Again.{AreRewritten}
 use Rattle.vx_extract.specs.Kept.{region_in}
-use Rattle.vx_extract.specs.inner.ShapeFacts.{AreInForce}
+use Rattle.vx_write.specs.InForce.{AreInForce}
 use Rattle.vx_extract.proofs.AgainPps.{pps_height, pps_width}
 use Rattle.vx_extract.proofs.AgainRegion.{new_columns, new_rows, old_slices, one_slice, pps_fits, rect_is, said, whole}
 use Rattle.vx_extract.proofs.AgainSlices.{cut_length}
 use Rattle.vx_extract.proofs.KeptFlags.{pps_across_slices, pps_across_tiles}
-use Rattle.vx_extract.proofs.ShapesSizes.{subpics_count}
+use Rattle.vx_write.proofs.Sizes.{subpics_count}
 
 same_place : (a b : Place) → a.width ≡ b.width → a.height ≡ b.height → a.layout ≡ b.layout → a.address ≡ b.address → a.across_tiles ≡ b.across_tiles → a.across_slices ≡ b.across_slices → a ≡ b
 same_place a b width height layout address tiles slices =

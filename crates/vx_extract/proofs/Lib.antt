@@ -1,9 +1,7 @@
 -- Lemmas of this crate.
-pub mod ShapesIds
 pub mod ShapesSizes
 pub mod ShapesIdBits
 pub mod ShapesSps
-pub mod ShapesRegions
 pub mod ShapesPps
 pub mod Naming
 pub mod Rewriting

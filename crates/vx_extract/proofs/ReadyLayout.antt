@@ -29,7 +29,7 @@ use Rattle.vx_pic.specs.Whole.{HasSets, PicturesHaveSets}
 use Rattle.vx_pic.proofs.Answering.{limits_of}
 use Rattle.vx_pic.proofs.Sizes.{has_ctus, one_tile_rises}
 use Rattle.vx_extract.specs.Ready.{PicturesAreInForce}
-use Rattle.vx_extract.specs.inner.ShapeFacts.{AreInForce}
+use Rattle.vx_write.specs.InForce.{AreInForce}
 
 -- ---- sets that were read
 

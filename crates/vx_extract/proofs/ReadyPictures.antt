@@ -8,7 +8,7 @@ use Rattle.vx_pic.specs.Streams.{pictures_of}
 use Rattle.vx_pic.specs.Whole.{HasAllInOrder, SubpicturesAreWhole}
 use Rattle.vx_extract.specs.Again.{IsReady}
 use Rattle.vx_extract.specs.Ready.{HasItsReadings, PicturesAreInForce, PicturesAreReady, PicturesHaveTheirReadings}
-use Rattle.vx_extract.specs.inner.ShapeFacts.{AreInForce}
+use Rattle.vx_write.specs.InForce.{AreInForce}
 
 each_ready : (target : ℕ) (ps : List Picture) → AllByRecursion (λ p. AreInForce (parts_of p)) ps → AllByRecursion HasItsReadings ps → AllByRecursion HasAllInOrder ps
     → AllByRecursion (λ p. target < subpics_of p.begun.sps) ps → AllByRecursion (IsReady target) ps

@@ -12,7 +12,7 @@ use Rattle.vx_pic.specs.PictureLayout.{are_in_pps, ids_misplaced, ids_of, ids_to
 use Rattle.vx_pic.proofs.Ids.{ids_count, ids_low_in_pps, not_false, or_false}
 use Rattle.vx_pic.proofs.IdBits.{ids_low_in_sps}
 use Rattle.vx_extract.specs.Shapes.{id_in}
-use Rattle.vx_extract.specs.inner.ShapeFacts.{AreInForce}
+use Rattle.vx_write.specs.InForce.{AreInForce}
 
 same_flag_is : (a b : Bool) → same_flag a b ≡ true → a ≡ b
 same_flag_is true true is = refl

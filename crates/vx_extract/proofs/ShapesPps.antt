@@ -1,23 +1,20 @@
 -- The shape of the PPS is one that a set can have.
-use Rattle.std.proofs.Common.{◌≡◌, ℕ, ◌+◌, ◌<◌, ◌≤◌, ◌^◌, true, not, cond, List, [], ◌∷◌, length, Option, Some, None, refl, ap, sym, subst, ◌∙◌, inl, inr, arith}
+use Rattle.std.proofs.Common.{◌≡◌, ℕ, ◌+◌, ◌<◌, ◌≤◌, ◌^◌, true, not, [], ◌∷◌, length, refl, ap, sym, subst, ◌∙◌, inl, inr, arith}
 use Rattle.std.proofs.lemmas.Int.{ints}
-use Rattle.std.specs.Prelude.{IfSome, unwrap_or}
+use Rattle.std.specs.Prelude.{IfSome}
 use Rattle.std.proofs.lemmas.Bool.{cases_Bool}
 use Rattle.vx_fields.specs.declared.sps.TheConstants as sps_fields
 use Rattle.vx_fields.specs.declared.pps.TheConstants as pps_fields
 use Rattle.vx_layout.specs.declared.numbers.Numbers.{Numbers}
-use Rattle.vx_layout.specs.declared.rect.Rect.{Rect}
 use Rattle.vx_layout.specs.Bounds.{last}
 use Rattle.vx_layout.specs.Laws.{RegionIsListable}
 use Rattle.vx_layout.specs.Layouts.{HasLayout, subpic_at}
-use Rattle.vx_layout.specs.Rects.{CoversOnce, whole_picture}
+use Rattle.vx_layout.specs.Rects.{whole_picture}
 use Rattle.vx_layout.specs.Regions.{cut, region_of}
-use Rattle.vx_layout.specs.Shapes.{AreListable}
 use Rattle.vx_layout.proofs.Moving.{last-cut}
 use Rattle.vx_layout.proofs.Nested.{same_numbers}
 use Rattle.vx_table.specs.Loaded.{number}
 use Rattle.vx_table.specs.Scope.{is_set}
-use Rattle.vx_sps.specs.Set as sps
 use Rattle.vx_sps.specs.Subpictures.{subpics_of}
 use Rattle.vx_sps.proofs.Bounded.{ctu_below}
 use Rattle.vx_pps.specs.Laws.{picture_of}
@@ -25,15 +22,16 @@ use Rattle.vx_pps.specs.Pps as pps
 use Rattle.vx_pps.specs.Reshaped.{CanBeDivided, IsShape, IsSize}
 use Rattle.vx_pps.specs.Sets.{ReadSlicesAreListable, SetsTellPartitions}
 use Rattle.vx_pic.specs.Parts.{Parts}
-use Rattle.vx_pic.specs.PictureLayout.{needs_ids, subpictures_of}
+use Rattle.vx_pic.specs.PictureLayout.{needs_ids}
 use Rattle.vx_pic.specs.Sets.{pps_id, referred_sps}
 use Rattle.vx_pic.proofs.Sizes.{id_length_below}
 use Rattle.vx_extract.specs.Shapes.{id_in_pps, pps_shape}
-use Rattle.vx_extract.specs.inner.ShapeFacts.{AreInForce}
-use Rattle.vx_extract.proofs.ShapesIds.{pps_id_below, referred_below}
+use Rattle.vx_write.specs.InForce.{AreInForce}
+use Rattle.vx_write.proofs.Ids.{pps_id_below, referred_below}
 use Rattle.vx_extract.proofs.ShapesIdBits.{id_low_in_pps}
-use Rattle.vx_extract.proofs.ShapesRegions.{subpics_listable}
-use Rattle.vx_extract.proofs.ShapesSizes.{IsSide, has_sides_in, subpic_is, subpics_count}
+use Rattle.vx_write.proofs.Listable.{listable}
+use Rattle.vx_write.proofs.Sizes.{IsSide, subpic_is, subpics_count}
+use Rattle.vx_extract.proofs.ShapesSizes.{has_sides_in}
 
 size_from : (n ctus ctb : ℕ) → IsSide n ctus ctb → IsSize n
 size_from n ctus ctb side = record { some = side.some; small = side.small; whole = side.whole }
@@ -45,35 +43,6 @@ id_fits q k are within = elim (cases_Bool (needs_ids q.sps)) [
       rw needed (omega (arith, few), id_low_in_pps q k are within needed)
   | inr none ↦ rw none tt
 ]
-
--- the slices of a picture that is partitioned, of which each is a subpicture where the PPS lists none
-listed : (q : Parts) (rects : List Rect) → AreInForce q → pps.is_partitioned q.pps ≡ true → pps.slices_of q.pps ≡ Some rects → q.layout.slices ≡ rects
-listed q rects are is some =
-    ap (λ n. n.slices) are.numbers ∙ ap (λ b. cond b (unwrap_or (pps.slices_of q.pps) (subpictures_of q.sps)) (whole_picture (sps.columns_of q.sps) (sps.rows_of q.sps) ∷ [])) is
-    ∙ ap (λ o. unwrap_or o (subpictures_of q.sps)) some
-
-unlisted : (q : Parts) → AreInForce q → pps.is_partitioned q.pps ≡ true → pps.slices_of q.pps ≡ None → q.layout.slices ≡ q.layout.subpics
-unlisted q are is none =
-    ap (λ n. n.slices) are.numbers ∙ ap (λ b. cond b (unwrap_or (pps.slices_of q.pps) (subpictures_of q.sps)) (whole_picture (sps.columns_of q.sps) (sps.rows_of q.sps) ∷ [])) is
-    ∙ ap (λ o. unwrap_or o (subpictures_of q.sps)) none ∙ sym (ap (λ n. n.subpics) are.numbers)
-
-columns_are : (q : Parts) → AreInForce q → pps.is_partitioned q.pps ≡ true → q.layout.columns ≡ pps.columns_of q.pps
-columns_are q are is = ap (λ n. n.columns) are.numbers ∙ rw is refl
-
-rows_are : (q : Parts) → AreInForce q → pps.is_partitioned q.pps ≡ true → q.layout.rows ≡ pps.rows_of q.pps
-rows_are q are is = ap (λ n. n.rows) are.numbers ∙ rw is refl
-
--- the region's slices can be listed
-listable : ReadSlicesAreListable → RegionIsListable → (q : Parts) (k : ℕ) → AreInForce q → k < length q.layout.subpics → pps.is_partitioned q.pps ≡ true
-    → (o : Option (List Rect)) → pps.slices_of q.pps ≡ o → AreListable (region_of q.layout k).columns (region_of q.layout k).rows (region_of q.layout k).slices
-listable reads regions q k are within is (Some rects) some =
-    let slices = listed q rects are is some in
-    let columns = columns_are q are is in
-    let rows = rows_are q are is in
-    let cover : CoversOnce rects (last (pps.columns_of q.pps)) (last (pps.rows_of q.pps)) = rw (← slices, ← columns, ← rows) are.layout.faultless.slices in
-    let all = reads q.pps rects are.pps some cover in
-    regions q.layout k are.layout within (rw (columns, rows, slices) all)
-listable reads regions q k are within is None none = subpics_listable q.layout k are.layout (unlisted q are is none) within
 
 -- the region as a picture of its own
 region_is : (n : Numbers) (k : ℕ) → picture_of (record { columns = (region_of n k).columns; rows = (region_of n k).rows }) (region_of n k).slices ≡ region_of n k

@@ -21,10 +21,11 @@ use Rattle.vx_pic.specs.PictureLayout.{needs_ids}
 use Rattle.vx_pic.specs.Sets.{sps_id}
 use Rattle.vx_pic.proofs.Sizes.{id_length_below}
 use Rattle.vx_extract.specs.Shapes.{dpb_of, offset, plan_of, sps_shape, window_of}
-use Rattle.vx_extract.specs.inner.ShapeFacts.{AreInForce}
-use Rattle.vx_extract.proofs.ShapesIds.{coded, sps_id_below}
+use Rattle.vx_write.specs.InForce.{AreInForce}
+use Rattle.vx_write.proofs.Ids.{coded, sps_id_below}
 use Rattle.vx_extract.proofs.ShapesIdBits.{id_low_in_sps}
-use Rattle.vx_extract.proofs.ShapesSizes.{IsSide, has_sides_in}
+use Rattle.vx_write.proofs.Sizes.{IsSide}
+use Rattle.vx_extract.proofs.ShapesSizes.{has_sides_in}
 
 size_from : (n ctus ctb : ℕ) → IsSide n ctus ctb → IsSize n
 size_from n ctus ctb side = record { some = side.some; small = side.small; whole = side.whole }

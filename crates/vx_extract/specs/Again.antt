@@ -34,7 +34,7 @@ use Rattle.vx_pic.specs.H266.{AreOfH266}
 use Rattle.vx_write.specs.Units.{IsSeiUnit, IsSetUnit}
 use Rattle.vx_extract.specs.Written.{AreExtracted, IsExtracted, named_in}
 use Rattle.vx_extract.specs.Shapes.{id_in, sps_shape, pps_shape}
-use Rattle.vx_extract.specs.inner.ShapeFacts.{AreInForce}
+use Rattle.vx_write.specs.InForce.{AreInForce}
 
 -- ---- the rewritten sets
 

@@ -14,7 +14,7 @@ use Rattle.vx_pic.specs.Finished.{AreFinished}
 use Rattle.vx_pic.specs.H266.{AreOfH266}
 use Rattle.vx_extract.specs.Written.{AreExtracted, IsExtracted, named_in}
 use Rattle.vx_extract.specs.Again.{AreRewritten, IsReady}
-use Rattle.vx_extract.specs.inner.ShapeFacts.{AreInForce}
+use Rattle.vx_write.specs.InForce.{AreInForce}
 
 -- ---- places
 

@@ -10,7 +10,7 @@ use Rattle.vx_pic.specs.Streams.{pictures_of}
 use Rattle.vx_pic.specs.H266.{AreOfH266}
 use Rattle.vx_extract.specs.Written.{named_in}
 use Rattle.vx_extract.specs.Again.{HasReadableSets, IsReady}
-use Rattle.vx_extract.specs.inner.ShapeFacts.{AreInForce}
+use Rattle.vx_write.specs.InForce.{AreInForce}
 
 -- The sets in force for each picture make up its layout.
 abbrev pub PicturesAreInForce : Type 0

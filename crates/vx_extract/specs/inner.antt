@@ -2,5 +2,4 @@
 pub mod Needed
 pub mod Rewritings
 pub mod Sending
-pub mod ShapeFacts
 pub mod Writing

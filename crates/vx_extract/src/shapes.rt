@@ -1,7 +1,5 @@
 //! The sets that are sent for a subpicture of a picture, and what they say (H.266 7.4.3.4, 7.4.3.5).
 ghost use Rattle.std.specs.Prelude.{◌≡◌, ◌==◌, ◌+◌, ◌<◌, IfOk};
-ghost use Rattle.vx_fields.specs.declared.ptl.TheConstants as ptl_fields;
-ghost use Rattle.vx_table.specs.Loaded.{number};
 ghost use Rattle.vx_sps.specs.Set.{ctb_size_of};
 ghost use Rattle.vx_sps.specs.Subpictures.{rect_of, subpics_of};
 ghost use Rattle.vx_sps.specs.Reshaped as sps_reshaped;
@@ -9,7 +7,6 @@ ghost use Rattle.vx_pps.specs.Reshaped as pps_reshaped;
 ghost use Rattle.vx_pic.specs.PictureLayout as layout;
 ghost use Rattle.vx_pic.specs.Sets as sets;
 ghost use Rattle.vx_extract.specs.Shapes as spec;
-ghost use Rattle.vx_extract.specs.inner.ShapeFacts.{AreInForce};
 
 use std::alloc::{AllocError, Global};
 use vx_fields::dpb::{
@@ -19,7 +16,6 @@ use vx_fields::pps::{
     pps_loop_filter_across_slices_enabled_flag, pps_loop_filter_across_tiles_enabled_flag,
     pps_pic_parameter_set_id, pps_seq_parameter_set_id,
 };
-use vx_fields::ptl::general_level_idc;
 use vx_fields::sps::{
     sps_conf_win_bottom_offset, sps_conf_win_left_offset, sps_conf_win_right_offset,
     sps_conf_win_top_offset, sps_seq_parameter_set_id, sps_subpic_id_len_minus1,
@@ -31,35 +27,12 @@ use vx_pic::{Picture, luma_size_of};
 use vx_pps::{Pps, PpsShape, Tiles, read_slices_are_listable, reshape_pps, sets_tell_partitions};
 use vx_sps::{Sps, SpsShape, SubpicPlan, reshape_sps};
 use vx_table::quotient;
-
-/// What is known of the sets of a picture. Does nothing.
-fn sets_in_force(picture: &Picture<'_>)
-    ensures { AreInForce picture.now }
-{
-    let _sps = picture.sps().fields();
-    let _pps = picture.pps().fields();
-    let _ids = picture.ids();
-    let _first = picture.layout().slice_count(0);
-}
+use vx_write::{in_pps, in_sps, own_level, sets_in_force};
 
 // ---- numbers of the sets
 
-/// The number that the SPS of a picture gives a field.
-fn in_sps(picture: &Picture<'_>, field: u16) -> u32
-    ensures { result ≡ number picture.now.sps field }
-{
-    picture.sps().scope().latest(field)
-}
-
-/// The number that its PPS gives a field.
-fn in_pps(picture: &Picture<'_>, field: u16) -> u32
-    ensures { result ≡ number picture.now.pps field }
-{
-    picture.pps().scope().latest(field)
-}
-
 /// The id of its SPS.
-#[tactic(auto, using(crate::proofs::ShapesIds::sps_id_below), unfolding(vx_pic::specs::Sets::sps_id))]
+#[tactic(auto, using(vx_write::proofs::Ids::sps_id_below), unfolding(vx_pic::specs::Sets::sps_id))]
 fn sps_id(picture: &Picture<'_>) -> u8
     ensures value { result ≡ sets.sps_id picture.now.sps }
     ensures low { result < 16 }
@@ -69,7 +42,7 @@ fn sps_id(picture: &Picture<'_>) -> u8
 }
 
 /// The id of its PPS.
-#[tactic(auto, using(crate::proofs::ShapesIds::pps_id_below), unfolding(vx_pic::specs::Sets::pps_id))]
+#[tactic(auto, using(vx_write::proofs::Ids::pps_id_below), unfolding(vx_pic::specs::Sets::pps_id))]
 fn pps_id(picture: &Picture<'_>) -> u8
     ensures value { result ≡ sets.pps_id picture.now.pps }
     ensures low { result < 64 }
@@ -79,22 +52,13 @@ fn pps_id(picture: &Picture<'_>) -> u8
 }
 
 /// The id of the SPS that its PPS refers to.
-#[tactic(auto, using(crate::proofs::ShapesIds::referred_below), unfolding(vx_pic::specs::Sets::referred_sps))]
+#[tactic(auto, using(vx_write::proofs::Ids::referred_below), unfolding(vx_pic::specs::Sets::referred_sps))]
 fn referred_sps(picture: &Picture<'_>) -> u8
     ensures value { result ≡ sets.referred_sps picture.now.pps }
     ensures low { result < 16 }
 {
     let _set = picture.pps().fields();
     in_pps(picture, pps_seq_parameter_set_id) as u8
-}
-
-/// The level of its SPS.
-#[tactic(auto, using(crate::proofs::ShapesIds::level_below))]
-fn own_level(picture: &Picture<'_>) -> u8
-    ensures { result ≡ number picture.now.sps ptl_fields.general_level_idc }
-{
-    let _set = picture.sps().fields();
-    in_sps(picture, general_level_idc) as u8
 }
 
 // ---- the subpicture

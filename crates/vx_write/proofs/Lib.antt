@@ -1,4 +1,8 @@
 -- Lemmas of this crate.
+pub mod Ids
+pub mod Sizes
+pub mod Regions
+pub mod Listable
 pub mod Ending
 pub mod Held
 pub mod Tids

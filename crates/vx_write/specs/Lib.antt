@@ -1,5 +1,6 @@
 -- What the contracts of this crate cite.
 pub mod Faults
+pub mod InForce
 pub mod Sending
 pub mod Sets
 pub mod Slots

@@ -3,6 +3,7 @@
 #![tactic(auto)]
 
 mod fault;
+mod in_force;
 mod output;
 mod sending;
 mod slots;
@@ -12,6 +13,7 @@ mod units;
 mod written;
 
 pub use fault::{WriteError, WriteFirst, first_of};
+pub use in_force::{in_pps, in_sps, own_level, sets_in_force};
 pub use output::{write_all_of, write_end, write_one, write_some};
 pub use sending::{forget_before, is_irap_or_gdr, send};
 pub use slots::Slots;

@@ -2,7 +2,7 @@ use Rattle.std.proofs.Common.{rules, ◌≡◌, arith, sym, subst}
 use Rattle.vx_pps.specs.Reshaped.{IsShape}
 use Rattle.vx_extract.specs.Shapes.{pps_shape}
 use Rattle.vx_extract.proofs.ShapesPps.{pps_is_shape}
-use Rattle.vx_extract.proofs.ShapesSizes.{subpics_count}
+use Rattle.vx_write.proofs.Sizes.{subpics_count}
 use Rattle.vx_extract.proofs.shapes.pps_shape.Goals as goal
 
 pub region-requires : goal.region-requires
