@@ -17,7 +17,7 @@ use Rattle.vx_sh.specs.declared.header.SliceHeader.{SliceHeader as SliceValue}
 use Rattle.vx_sh.specs.Whole.{At}
 use Rattle.vx_sh.specs.Value.{ReadsSlice}
 use Rattle.vx_sh.proofs.Small as headers
-use Rattle.vx_sh.proofs.Small.{IsBelow}
+use Rattle.vx_table.specs.Loaded.{IsBelow}
 use Rattle.vx_fields.specs.declared.alf.TheConstants as alf
 use Rattle.vx_fields.specs.declared.ph.TheConstants as ph
 use Rattle.vx_pic.specs.Sets.{Slot, named, named_filters, filter_items, names_of}

@@ -10,8 +10,8 @@ use Rattle.vx_table.specs.Spelling.{Spells, at_end, behind, HasCode, fault_of, i
 use Rattle.vx_table.specs.Values.{Follows, to_end, through, bits_along}
 use Rattle.vx_table.specs.Writing.{Writes}
 use Rattle.vx_table.specs.declared.writer.SpellError.TheVariants.{NoValue}
-use Rattle.vx_table.specs.Trailing.{is_trailing, ends_in_trailing, EndsAligned}
-use Rattle.vx_table.proofs.Aligned.{tables_end_aligned, ends_aligned_together}
+use Rattle.vx_table.specs.Trailing.{is_stop, ends_in_stop, EndsInStop}
+use Rattle.vx_table.proofs.Stopped.{at_boundary, stops_behind, tables_stop}
 use Rattle.vx_table.proofs.Joined.{parted, joined, items_joined}
 use Rattle.vx_rpl.specs.declared.entry.RplTable.{RplTable}
 use Rattle.vx_ph.specs.declared.tables.TheConstants.{TRAILING}
@@ -103,13 +103,13 @@ read_unit_is table s old new items b reads =
     let on = spells_follow found.spelled in
     of_unit table s items (record { values = found.values; end = on.0; follows = on.1; all = found.gained })
 
--- it ends at a byte boundary
-unit_aligned : (table : RplTable) → EndsAligned (unit_form table)
-unfolding unit_form is_trailing ends_in_trailing
-unit_aligned table = ends_aligned_together (header_form table) (form_of TRAILING) (tables_end_aligned TRAILING refl)
+-- it ends in rbsp_trailing_bits( ), at a byte boundary
+unit_stops : (table : RplTable) (s : List ℕ) → EndsInStop (unit_form table s)
+unfolding unit_form is_stop ends_in_stop
+unit_stops table s = stops_behind (header_form table s) (form_of TRAILING) (λ t. tables_stop TRAILING t refl)
 
 pub is_aligned : (table : RplTable) (s : List ℕ) (values : List ℤ) (end : List ℕ) (bits : List Bool) → Follows (unit_form table s) values end
     → bits ≡ [] ++ bits_along (unit_form table s) 0 values → length bits % 8 ≡ 0
 is_aligned table s values end bits follows is =
     let whole : 0 + length (bits_along (unit_form table s) 0 values) ≡ length (bits_along (unit_form table s) 0 values) = omega arith in
-    rw is (rw whole at ((unit_aligned table).at s 0 values end follows))
+    rw is (rw whole at (at_boundary 0 (bits_along (unit_form table s) 0 values) ((unit_stops table s).at 0 values end follows)))

@@ -4,7 +4,7 @@ mod Walking
 mod Sizing
 mod Turning
 mod Told
-mod Sets
+pub mod Sets
 mod Spelling
 mod Ended
 mod Named

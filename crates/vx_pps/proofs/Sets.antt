@@ -12,12 +12,12 @@ use Rattle.vx_table.specs.Parts.{sections_form}
 use Rattle.vx_table.specs.Reading.{Reads, ReadsField, ReadsValue, at_front}
 use Rattle.vx_table.specs.Scope.{fresh}
 use Rattle.vx_table.specs.Spelling.{at_end, here, items_along}
-use Rattle.vx_table.specs.Trailing.{ends_in_trailing, is_trailing, sections_end_in_trailing}
+use Rattle.vx_table.specs.Trailing.{EndsInStop, ends_in_stop, is_stop, sections_end_in_stop}
 use Rattle.vx_table.specs.Values.{Follows, bits_along}
 use Rattle.vx_table.specs.Writing.{AreItemsOf, WritesField}
 use Rattle.vx_table.specs.declared.writer.SpellError.{SpellError}
 use Rattle.vx_table.specs.declared.writer.SpellError.TheVariants as spellings
-use Rattle.vx_table.proofs.Aligned.{sections_end_aligned}
+use Rattle.vx_table.proofs.Stopped.{at_boundary, sections_stop, stops_behind, stops_end}
 use Rattle.vx_table.proofs.Joined.{bits_joined, parted}
 use Rattle.vx_table.proofs.Keepings.{keeps}
 use Rattle.vx_table.proofs.Readings as readings
@@ -59,43 +59,22 @@ read_is bytes end new items walked =
 
 -- ---- what is written
 
--- wherever a form begins, its bits end at a byte boundary
-Aligned : {A : Type 0} → Form A → Type 0
-Aligned {A} form = (place : ℕ) (values : List ℤ) (end : A) → Follows form values end → (place + length (bits_along form place values)) % 8 ≡ 0
+tools_stop : (s : List ℕ) → EndsInStop (sections_form tools s)
+unfolding is_stop ends_in_stop sections_end_in_stop comes_always
+tools_stop s = sections_stop tools s refl
 
--- and so they do behind another form
-aligned_behind : {A B : Type 0} (form : Form A) (next : A → Form B) → ((a : A) → Aligned (next a)) → Aligned (form >>= next)
-unfolding Aligned
-aligned_behind form next ends place values end follows =
-    let parts = parted form next follows in
-    let first : List Bool = bits_along form place parts.front in
-    let second : List Bool = bits_along (next parts.mid) (place + length first) parts.others in
-    let bits : bits_along (form >>= next) place values ≡ first ++ second = ap (bits_along (form >>= next) place) parts.all ∙ bits_joined next place parts.others parts.first in
-    let size : length (first ++ second) ≡ length first + length second = length-append first second in
-    let aligned = ends parts.mid (place + length first) parts.others end parts.second in
-    rw bits (omega (arith, size, aligned))
+-- a set ends in rbsp_trailing_bits( )
+pub pps_stops : EndsInStop pps_form
+unfolding pps_form
+pps_stops =
+    stops_behind (sections_form front fresh) (λ s. partition_at s >>= λ p. sections_form tools s >>= λ t. done p)
+    (λ s. stops_behind (partition_at s) (λ p. sections_form tools s >>= λ t. done p) (λ p. stops_end (sections_form tools s) (λ t. p) (tools_stop s)))
 
--- one at whose end nothing more is read
-aligned_end : {A B : Type 0} (form : Form A) (end : A → B) → Aligned form → Aligned (form >>= λ a. done (end a))
-unfolding Aligned
-aligned_end form end aligned place values b follows =
-    let parts = parted form (λ a. done (end a)) follows in
-    let first : List Bool = bits_along form place parts.front in
-    let bits : bits_along (form >>= λ a. done (end a)) place values ≡ first ++ [] = ap (bits_along (form >>= λ a. done (end a)) place) parts.all ∙ bits_joined (λ a. done (end a)) place parts.others parts.first in
-    rw (bits, append-nil first) (aligned place parts.front parts.mid parts.first)
-
-tools_aligned : (s : List ℕ) → Aligned (sections_form tools s)
-unfolding Aligned is_trailing ends_in_trailing sections_end_in_trailing comes_always
-tools_aligned s place values end follows = (sections_end_aligned tools refl).at s place values end follows
-
--- so a set ends at a byte boundary
+-- so it ends at a byte boundary
 ends_aligned : (values : List ℤ) (end : Partition) → Follows pps_form values end → length (bits_along pps_form 0 values) % 8 ≡ 0
-unfolding Aligned pps_form
 ends_aligned values end follows =
     let whole : 0 + length (bits_along pps_form 0 values) ≡ length (bits_along pps_form 0 values) = omega arith in
-    let behind : (s : List ℕ) → Aligned (partition_at s >>= λ p. sections_form tools s >>= λ t. done p)
-    = λ s. aligned_behind (partition_at s) (λ p. sections_form tools s >>= λ t. done p) (λ p. aligned_end (sections_form tools s) (λ t. p) (tools_aligned s)) in
-    let aligned = aligned_behind (sections_form front fresh) (λ s. partition_at s >>= λ p. sections_form tools s >>= λ t. done p) behind 0 values end follows in
+    let aligned = at_boundary 0 (bits_along pps_form 0 values) (pps_stops.at 0 values end follows) in
     omega (arith, whole, aligned)
 
 -- the items of a set, as its values have them

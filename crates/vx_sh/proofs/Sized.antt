@@ -1,5 +1,5 @@
 -- How many bytes a slice header takes.
-use Rattle.std.proofs.Common.{◌≡◌, ℕ, ℤ, ◌+◌, ◌-◌, ◌*◌, ◌/◌, ◌%◌, ◌≤◌, Bool, List, ◌++◌, length, take, sym, ap, ◌∙◌, arith}
+use Rattle.std.proofs.Common.{◌≡◌, ℕ, ℤ, ◌+◌, ◌-◌, ◌*◌, ◌/◌, ◌%◌, ◌≤◌, Bool, List, ◌++◌, length, take, sym, subst, ap, ◌∙◌, arith}
 use Rattle.std.proofs.lemmas.List.{length-append, take_at}
 use Rattle.vx_bits.specs.declared.list.Item.{Item}
 use Rattle.vx_bits.specs.Codes.{bits_of, EndsInNoZero}
@@ -10,9 +10,11 @@ use Rattle.vx_table.specs.Spelling.{Spells}
 use Rattle.vx_table.specs.Values.{Follows, bits_along}
 use Rattle.vx_table.proofs.Joined.{joined}
 use Rattle.vx_table.proofs.Spelled.{both_ways}
+use Rattle.vx_table.proofs.Stopped.{at_boundary, last_byte}
+use Rattle.vx_table.specs.Trailing.{EndsWithStop}
 use Rattle.vx_sh.specs.Whole.{At, behind_header, header_inside, slice_form}
 use Rattle.vx_sh.specs.Value.{AreFields, values_of}
-use Rattle.vx_sh.proofs.Stopped.{slice_ends, whole_bytes, last_byte}
+use Rattle.vx_sh.proofs.Stopped.{slice_ends}
 
 pub all_follow : (n : At) (items : List Item) (inside : List ℤ) (f : AreFields n items inside) → Follows (slice_form n) (values_of f) f.end
 unfolding slice_form
@@ -30,8 +32,8 @@ sized n rbsp values end rest at spelled follows is =
     let all : bits_of rbsp ≡ bits ++ rest = rw from_front at told.2 in
     let ends = slice_ends n values end follows in
     let size : at ≡ length bits = omega (arith, is, ap length all, length-append bits rest, length-bits_of rbsp) in
-    let whole : 8 * (at / 8) ≡ at = omega (arith, size, whole_bytes bits ends) in
+    let whole : 8 * (at / 8) ≡ at = omega (arith, size, at_boundary 0 bits ends) in
     let few : at / 8 ≤ length rbsp = omega (arith, whole, is) in
     let front : bits_of (take (at / 8) rbsp) ≡ bits
     = sym (take-bits_of (at / 8) rbsp few) ∙ ap (take (8 * (at / 8))) all ∙ take_at bits rest (8 * (at / 8)) (omega (arith, whole, size)) in
-    (omega (arith, whole, is), last_byte (take (at / 8) rbsp) bits front ends)
+    (omega (arith, whole, is), last_byte (take (at / 8) rbsp) (subst (EndsWithStop 0) (sym front) ends))

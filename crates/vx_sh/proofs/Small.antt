@@ -12,9 +12,9 @@ use Rattle.vx_table.specs.Forms.{Form, has_value, cell_at, one_field, part, form
 use Rattle.vx_table.specs.EachField.{EachField, rows_pass}
 use Rattle.vx_table.specs.Spelling.{item_of, items_along}
 use Rattle.vx_table.specs.Values.{Follows, to_end, through}
-use Rattle.vx_table.specs.Loaded.{StaysBelow, code_below, range_below, row_below}
+use Rattle.vx_table.specs.Loaded.{IsBelow, StaysBelow, code_below, range_below, row_below}
 use Rattle.vx_table.proofs.EachField.{each_of_rows}
-use Rattle.vx_table.proofs.Loading.{tables_stay_below}
+use Rattle.vx_table.proofs.Loading.{below, tables_stay_below}
 use Rattle.vx_fields.specs.declared.alf.TheConstants as alf
 use Rattle.vx_fields.specs.declared.ph.TheConstants as ph
 use Rattle.vx_rpl.specs.declared.entry.RplTable.{RplTable}
@@ -25,21 +25,6 @@ use Rattle.vx_sh.specs.declared.tables.TheConstants.{HEADER_INSIDE}
 use Rattle.vx_sh.specs.Whole.{At, behind_header}
 use Rattle.vx_sh.specs.Value.{AreFields}
 use Rattle.vx_sh.proofs.Depending.{Pass, behind_each}
-
--- ---- items below a bound
-
-abbrev pub IsBelow : ℕ → ℕ → Item → Type 0
-IsBelow of bound item = item.field ≡ of → natural item.value < bound
-
-below : {A : Type 0} (of bound : ℕ) {form : Form A} {w : List ℤ} {a : A} → EachField (StaysBelow of bound) form → Follows form w a → All (IsBelow of bound) (items_along form w)
-unfolding item_of
-below of bound each to_end = All-nil (IsBelow of bound)
-below of bound each (through {cell} {goes} {v} {w} value on) =
-    let more = below of bound (each.1 v) on in
-    elim (cases_Bool (has_value cell.coding)) [
-      | inl is ↦ rw is (All-cons (IsBelow of bound) (record { field = cell.field; value = v }) (items_along (goes v) w) (λ same. each.0 is same v value) more)
-      | inr none ↦ rw none more
-    ]
 
 -- a row that passes the test
 row_stays : (of : ℕ) (c : Cell Formula) (s : List ℕ) → row_below of 8 (Field c) ≡ true → StaysBelow of 8 (cell_at s c)

@@ -14,10 +14,10 @@ use Rattle.vx_table.specs.Spelling.{Spells, items_along}
 use Rattle.vx_table.specs.Values.{Follows, bits_along, Closes}
 use Rattle.vx_table.specs.Reading.{ReadsValue}
 use Rattle.vx_table.specs.Writing.{Writes}
-use Rattle.vx_table.specs.Trailing.{is_trailing, has_trailing, trails_last, ends_in_trailing, sections_end_in_trailing, parts_trail_last}
+use Rattle.vx_table.specs.Trailing.{is_stop, is_trailing, has_trailing, trails_last, ends_in_stop, sections_end_in_stop, parts_trail_last, EndsInStop}
 use Rattle.vx_table.specs.Claims.{comes_always}
 use Rattle.vx_table.proofs.Closing.{parts_close_at_the_end}
-use Rattle.vx_table.proofs.Aligned.{sections_end_aligned}
+use Rattle.vx_table.proofs.Stopped.{sections_stop, at_boundary}
 use Rattle.vx_table.proofs.Spelled.{both_ways, reads_back, spells_apart}
 use Rattle.vx_sps.specs.Structure.{sps_sections, sps_form}
 use Rattle.vx_sps.specs.Set.{IsItems, IsSpelling, WrittenIsRead, NoProperPrefix}
@@ -33,12 +33,16 @@ read_is_set bytes items (place, reading) =
 
 -- ---- what is written
 
--- it ends at a byte boundary
+-- it ends in rbsp_trailing_bits( )
+pub sps_stops : EndsInStop sps_form
+unfolding is_stop ends_in_stop sections_end_in_stop comes_always
+sps_stops = sections_stop sps_sections fresh refl
+
+-- and so at a byte boundary
 pub ends_aligned : (values : List ℤ) (end : List ℕ) → Follows sps_form values end → length (bits_along sps_form 0 values) % 8 ≡ 0
-unfolding is_trailing ends_in_trailing sections_end_in_trailing comes_always
 ends_aligned values end follows =
     let whole : 0 + length (bits_along sps_form 0 values) ≡ length (bits_along sps_form 0 values) = omega arith in
-    let aligned = (sections_end_aligned sps_sections refl).at fresh 0 values end follows in
+    let aligned = at_boundary 0 (bits_along sps_form 0 values) (sps_stops.at 0 values end follows) in
     omega (arith, whole, aligned)
 
 -- what the writer of a set's items has written

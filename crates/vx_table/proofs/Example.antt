@@ -1,22 +1,20 @@
 -- The tests' structure of a table, a direct part and a table: what it depends on, and that it can be rewritten.
-use Rattle.std.proofs.Common.{◌≡◌, ℕ, ℤ, zero, suc, ◌+◌, ◌-◌, ◌<◌, ◌≤◌, Bool, true, false, IsTrue, IsFalse, List, [], ◌∷◌, ◌++◌, slice_index, Result, Ok, Err, refl, ap, sym, subst, ◌∙◌, arith}
+use Rattle.std.proofs.Common.{◌≡◌, ℕ, zero, suc, ◌+◌, ◌-◌, ◌<◌, ◌≤◌, IsTrue, IsFalse, List, [], ◌++◌, slice_index, Ok, Err, refl, subst, arith}
 use Rattle.std.proofs.lemmas.List.{append-nil}
-use Rattle.vx_bits.specs.declared.list.Item.{Item}
 use Rattle.vx_table.specs.declared.rows.Row.{Row}
 use Rattle.vx_table.specs.Scope.{fresh, natural}
-use Rattle.vx_table.specs.Forms.{Form, done, field, ◌>>=◌, form_of}
+use Rattle.vx_table.specs.Forms.{Form, ◌>>=◌, form_of}
 use Rattle.vx_table.specs.Walks.{Step, Walks}
 use Rattle.vx_table.specs.Spelling.{items_along}
-use Rattle.vx_table.specs.Values.{Follows, Parted}
-use Rattle.vx_table.specs.Depends.{has, Inside, Agree, Alike, at_ends, both, set_of, Carries, IsLeft, Leaves}
+use Rattle.vx_table.specs.Values.{Parted}
+use Rattle.vx_table.specs.Depends.{has, Agree, Alike, at_ends, both, Carries, IsLeft, Leaves}
 use Rattle.vx_table.specs.Shown.{shown_items}
 use Rattle.vx_table.specs.Again.{AlwaysShown}
 use Rattle.vx_table.specs.Rewritten.{IsRewritten}
-use Rattle.vx_table.specs.Rewrites.{Takes}
-use Rattle.vx_table.specs.inner.Composite.{share, one_share, shares, shares_of, composite, of_tables, CompositeIsRewritten}
+use Rattle.vx_table.specs.inner.Composite.{one_share, shares, shares_of, composite, of_tables, CompositeIsRewritten}
 use Rattle.vx_table.proofs.Agreeing.{inside_itself, agree_itself}
 use Rattle.vx_table.proofs.Steps.{Leads, leads-then, leads-stop, leads-end}
-use Rattle.vx_table.proofs.Joined.{parted, joined}
+use Rattle.vx_table.proofs.Joined.{parted}
 use Rattle.vx_table.proofs.Rewrites.{copied_rewrites, replaced_rewrites, rewrites_together, what_goes_is_rewritten}
 
 -- ---- the walk

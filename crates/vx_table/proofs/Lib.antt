@@ -15,7 +15,8 @@ pub mod Rewrites
 pub mod Loading
 pub mod Agreeing
 pub mod Closing
-pub mod Aligned
+pub mod Stopped
+pub mod Sizes
 pub mod Codings
 pub mod Items
 pub mod Numbers

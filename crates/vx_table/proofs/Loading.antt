@@ -4,7 +4,7 @@ use Rattle.std.specs.Prelude.{All, slice_index, int_le, int_lt, replicate}
 use Rattle.std.proofs.lemmas.Bool.{and_parts, or_cases, cases_Bool, cases_eq, cases_lt, not-true, false≢true, eq-eqb, leb-true, ltb-true}
 use Rattle.std.proofs.lemmas.List.{length-set, length-replicate, get_or-set_other, get_or_past, get_or-replicate, set_past}
 use Rattle.std.proofs.lemmas.Grind.{get_or-set_at}
-use Rattle.std.proofs.lemmas.List.Elements.{All-head, All-tail}
+use Rattle.std.proofs.lemmas.List.Elements.{All-cons, All-head, All-nil, All-tail}
 use Rattle.vx_bits.specs.declared.list.Item.{Item}
 use Rattle.vx_table.specs.declared.rows.Term.TheVariants.{Number}
 use Rattle.vx_table.specs.declared.rows.Formula.{Formula}
@@ -26,7 +26,7 @@ use Rattle.vx_table.specs.Spelling.{HasCode, fault_of, is_multiple, item_of, ite
 use Rattle.vx_table.specs.Values.{Follows, to_end, through}
 use Rattle.vx_table.specs.Depends.{has, Agree}
 use Rattle.vx_table.specs.Claims.{hides_counter}
-use Rattle.vx_table.specs.Loaded.{NumberOfLast, NumberOfNone, NumberOfShown, LoadsTogether, names_none, sections_name_none, TablesLoad, SectionsLoad, StaysBelow, NumberBelow, code_below, range_below, row_below, TablesStayBelow, SectionsStayBelow}
+use Rattle.vx_table.specs.Loaded.{NumberOfLast, NumberOfNone, NumberOfShown, LoadsTogether, names_none, sections_name_none, TablesLoad, SectionsLoad, StaysBelow, IsBelow, ItemsBelow, NumberBelow, code_below, range_below, row_below, TablesStayBelow, SectionsStayBelow}
 use Rattle.vx_table.proofs.Agreeing.{agree_itself, agree_on, agree_set, agree_outside, valued}
 use Rattle.vx_table.proofs.Bounds.{unbroken, unbroken_multiple}
 use Rattle.vx_table.proofs.EachField.{each_of_rows, each_of_sections}
@@ -35,7 +35,7 @@ use Rattle.vx_table.proofs.Shown.{loaded_shown}
 
 -- ---- loading
 
-no_number : (n of : ℕ) → slice_index (replicate n 0) of ≡ 0
+pub no_number : (n of : ℕ) → slice_index (replicate n 0) of ≡ 0
 no_number n of = elim (cases_lt of n) [
   | inl within ↦ get_or-replicate n of 0 0 within
   | inr past ↦ get_or_past (replicate n 0) of 0 (omega (arith, length-replicate {A = ℕ} n 0, past))
@@ -178,7 +178,7 @@ loads_together names first more before behind = record {
 -- ---- bounds
 
 -- numbers that stay below a bound
-set_below : (s : List ℕ) (n of v bound : ℕ) → (n ≡ of → v < bound) → slice_index s of < bound → slice_index (slice_set s n v) of < bound
+pub set_below : (s : List ℕ) (n of v bound : ℕ) → (n ≡ of → v < bound) → slice_index s of < bound → slice_index (slice_set s n v) of < bound
 set_below s n of v bound is below = elim (cases_eq of n) [
   | inl same ↦ elim (cases_lt n (length s)) [
     | inl within ↦ rw (get_or-set_at s n of v 0 same within) (is (sym same))
@@ -196,16 +196,30 @@ stay_below of bound s each (through {cell} {goes} {v} {w} value on) below = elim
   | inr none ↦ rw none (stay_below of bound s (each.1 v) on below)
 ]
 
+-- items below a bound
+pub below : {A : Type 0} (of bound : ℕ) {form : Form A} {w : List ℤ} {a : A} → EachField (StaysBelow of bound) form → Follows form w a → All (IsBelow of bound) (items_along form w)
+unfolding item_of
+below of bound each to_end = All-nil (IsBelow of bound)
+below of bound each (through {cell} {goes} {v} {w} value on) =
+    let more = below of bound (each.1 v) on in
+    elim (cases_Bool (has_value cell.coding)) [
+      | inl is ↦ rw is (All-cons (IsBelow of bound) (record { field = cell.field; value = v }) (items_along (goes v) w) (λ same. each.0 is same v value) more)
+      | inr none ↦ rw none more
+    ]
+
+pub items_below : ItemsBelow
+items_below of bound form values end each follows = below of bound each follows
+
 pub number_below : NumberBelow
 unfolding fresh
 number_below of bound form values end some each follows = stay_below of bound (replicate 1024 0) each follows (rw (no_number 1024 of) some)
 
-natural_most : (v : ℤ) → natural v ≤ most
+pub natural_most : (v : ℤ) → natural v ≤ most
 unfolding natural
 natural_most (pos n) = omega arith
 natural_most (negsuc n) = omega arith
 
-natural_small : (n v : ℕ) → v < n → natural (pos v) < n
+pub natural_small : (n v : ℕ) → v < n → natural (pos v) < n
 unfolding natural
 natural_small n v small = omega arith
 
@@ -215,17 +229,17 @@ code_gives bound (Fixed (Plain (Number n))) s (pos v) test has = let few = leb-t
 code_gives bound (Fixed (Plain (Number n))) s (negsuc v) test has = absurd has
 code_gives bound coding s v test has = let large = ltb-true most bound test in omega (arith, natural_most v, large)
 
-inside_below : (low v : ℤ) (high bound : ℕ) → (int_le low v && int_le v (pos high)) ≡ true → high < bound → natural v < bound
+pub inside_below : (low v : ℤ) (high bound : ℕ) → (int_le low v && int_le v (pos high)) ≡ true → high < bound → natural v < bound
 unfolding natural
 inside_below low (pos n) high bound test small = let parts = and_parts (int_le low (pos n)) (int_le (pos n) (pos high)) test in let few = leb-true n high parts.1 in omega (arith, few)
 inside_below low (negsuc n) high bound test small = omega arith
 
-before_below : (v : ℤ) (end bound : ℕ) → (int_le (pos 0) v && int_lt v (pos end)) ≡ true → end ≤ bound → natural v < bound
+pub before_below : (v : ℤ) (end bound : ℕ) → (int_le (pos 0) v && int_lt v (pos end)) ≡ true → end ≤ bound → natural v < bound
 unfolding natural
 before_below (pos n) end bound test small = let parts = and_parts (int_le (pos 0) (pos n)) (int_lt (pos n) (pos end)) test in let few = ltb-true n end parts.1 in omega (arith, few)
 before_below (negsuc n) end bound test small = let parts = and_parts (int_le (pos 0) (negsuc n)) (int_lt (negsuc n) (pos end)) test in absurd (cc)
 
-multiple_below : (v : ℤ) (high bound : ℕ) → 0 < bound → int_le v (pos high) ≡ true → high < bound → natural v < bound
+pub multiple_below : (v : ℤ) (high bound : ℕ) → 0 < bound → int_le v (pos high) ≡ true → high < bound → natural v < bound
 unfolding natural
 multiple_below (pos n) high bound some test small = let few = leb-true n high test in omega (arith, few)
 multiple_below (negsuc n) high bound some test small = some

@@ -19,6 +19,7 @@ pub mod Values
 pub mod Writing
 pub mod Kept
 pub mod Shown
+pub mod Sizes
 pub mod Rewritten
 pub mod Rewrites
 pub mod Loaded

@@ -73,7 +73,15 @@ SectionsLoad = (names : List ℕ) (sections : List Section) → sections_name_no
 abbrev pub StaysBelow : ℕ → ℕ → Cell ℕ → Type 0
 StaysBelow of bound cell = IsTrue (has_value cell.coding) → cell.field ≡ of → (v : ℤ) → IsValueOf cell v → natural v < bound
 
--- then so is the field's number
+-- then so are the field's items,
+abbrev pub IsBelow : ℕ → ℕ → Item → Type 0
+IsBelow of bound item = item.field ≡ of → natural item.value < bound
+
+abbrev pub ItemsBelow : Type 0
+ItemsBelow = (of bound : ℕ) (form : Form (List ℕ)) (values : List ℤ) (end : List ℕ) → EachField (StaysBelow of bound) form
+    → Follows form values end → All (IsBelow of bound) (items_along form values)
+
+-- and the field's number
 abbrev pub NumberBelow : Type 0
 NumberBelow = (of bound : ℕ) (form : Form (List ℕ)) (values : List ℤ) (end : List ℕ) → 0 < bound → EachField (StaysBelow of bound) form
     → Follows form values end → number (items_along form values) of < bound

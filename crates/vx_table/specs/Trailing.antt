@@ -1,7 +1,8 @@
--- What may follow the values of a table: anything where it has no trailing, nothing where it ends in one, which is at a byte boundary.
-use Rattle.std.specs.Prelude.{◌≡◌, ℕ, ℤ, ◌+◌, ◌%◌, Bool, true, false, ◌||◌, ◌&&◌, not, nat_lt, List, [], ◌∷◌, length}
+-- What may follow the values of a table: anything where it has no trailing, nothing where it ends in one; and what structures end in.
+use Rattle.std.specs.Prelude.{◌≡◌, ℕ, ℤ, ◌+◌, ◌%◌, Bool, true, false, ◌||◌, ◌&&◌, not, nat_lt, List, [], ◌∷◌, ◌++◌, length}
+use Rattle.vx_bits.specs.Codes.{bits_of, one_from, EndsInNoZero}
 use Rattle.vx_table.specs.declared.rows.Coding.{Coding}
-use Rattle.vx_table.specs.declared.rows.Coding.TheVariants.{Trailing}
+use Rattle.vx_table.specs.declared.rows.Coding.TheVariants.{OneAndZeros, Trailing}
 use Rattle.vx_table.specs.declared.rows.Row.{Row}
 use Rattle.vx_table.specs.declared.rows.Row.TheVariants.{Field, Block, Name}
 use Rattle.vx_table.specs.declared.rows.Presence.{Presence}
@@ -62,33 +63,49 @@ abbrev pub PartsCloseAtTheEnd : Type 0
 PartsCloseAtTheEnd = (parts : List Part) (s : List ℕ) (place : ℕ) (values : List ℤ) → parts_trail_last parts ≡ true
     → Closes (parts_form parts s) place values []
 
--- ---- where a trailing ends
+-- ---- what structures end in
 
--- Wherever a structure begins, it ends at a byte boundary.
-pub record EndsAligned (form : List ℕ → Form (List ℕ)) : Type 0 where
-  pub at : (s : List ℕ) (place : ℕ) (values : List ℤ) (end : List ℕ) → Follows (form s) values end
-      → (place + length (bits_along (form s) place values)) % 8 ≡ 0
+-- A one stands last in the bits, which begin at this place, but for zeros up to the byte boundary.
+pub record EndsWithStop (place : ℕ) (bits : List Bool) : Type 0 where
+  pub front : List Bool
+  pub all : bits ≡ front ++ one_from (place + length front)
 
--- so does a table whose last row is a trailing, in no block,
-unfoldable pub ends_in_trailing : List Row → Bool
-ends_in_trailing [] = false
-ends_in_trailing (Field c ∷ []) = is_trailing c.coding
-ends_in_trailing (Field c ∷ row ∷ rows) = ends_in_trailing (row ∷ rows)
-ends_in_trailing (Block presence n ∷ rows) = nat_lt n (length rows) && ends_in_trailing rows
-ends_in_trailing (Name name formula ∷ rows) = ends_in_trailing rows
+-- Wherever a structure begins, its bits end so.
+pub record EndsInStop {A : Type 0} (form : Form A) : Type 0 where
+  pub at : (place : ℕ) (values : List ℤ) (end : A) → Follows form values end → EndsWithStop place (bits_along form place values)
 
-abbrev pub TablesEndAligned : Type 0
-TablesEndAligned = (rows : List Row) → ends_in_trailing rows ≡ true → EndsAligned (form_of rows)
+-- So do those of a table whose last row, in no block, is a one and zeros, be it a trailing,
+unfoldable pub is_stop : {N : Type 0} → Coding N → Bool
+is_stop OneAndZeros = true
+is_stop Trailing = true
+is_stop coding = false
 
--- a structure whose last table, which is always there, is one,
-unfoldable pub sections_end_in_trailing : List Section → Bool
-sections_end_in_trailing [] = false
-sections_end_in_trailing (section ∷ []) = comes_always section.presence && ends_in_trailing section.rows
-sections_end_in_trailing (section ∷ next ∷ more) = sections_end_in_trailing (next ∷ more)
+unfoldable pub ends_in_stop : List Row → Bool
+ends_in_stop [] = false
+ends_in_stop (Field c ∷ []) = is_stop c.coding
+ends_in_stop (Field c ∷ row ∷ rows) = ends_in_stop (row ∷ rows)
+ends_in_stop (Block presence n ∷ rows) = nat_lt n (length rows) && ends_in_stop rows
+ends_in_stop (Name name formula ∷ rows) = ends_in_stop rows
 
-abbrev pub SectionsEndAligned : Type 0
-SectionsEndAligned = (sections : List Section) → sections_end_in_trailing sections ≡ true → EndsAligned (sections_form sections)
+abbrev pub TablesStop : Type 0
+TablesStop = (rows : List Row) (s : List ℕ) → ends_in_stop rows ≡ true → EndsInStop (form_of rows s)
 
--- and one that ends in one that does
-abbrev pub EndsAlignedTogether : Type 0
-EndsAlignedTogether = (first more : List ℕ → Form (List ℕ)) → EndsAligned more → EndsAligned (λ s. first s >>= more)
+-- of a structure whose last table, which is always there, is one,
+unfoldable pub sections_end_in_stop : List Section → Bool
+sections_end_in_stop [] = false
+sections_end_in_stop (section ∷ []) = comes_always section.presence && ends_in_stop section.rows
+sections_end_in_stop (section ∷ next ∷ more) = sections_end_in_stop (next ∷ more)
+
+abbrev pub SectionsStop : Type 0
+SectionsStop = (sections : List Section) (s : List ℕ) → sections_end_in_stop sections ≡ true → EndsInStop (sections_form sections s)
+
+-- and of one that ends in one that does.
+abbrev pub StopsTogether : Type 0
+StopsTogether = (form : Form (List ℕ)) (next : List ℕ → Form (List ℕ)) → ((s : List ℕ) → EndsInStop (next s)) → EndsInStop (form >>= next)
+
+-- Such bits end at a byte boundary, and the last of their bytes isn't 00.
+abbrev pub StopsAtBoundary : Type 0
+StopsAtBoundary = (place : ℕ) (bits : List Bool) → EndsWithStop place bits → (place + length bits) % 8 ≡ 0
+
+abbrev pub StopsInNoZero : Type 0
+StopsInNoZero = (bytes : List ℕ) → EndsWithStop 0 (bits_of bytes) → EndsInNoZero bytes

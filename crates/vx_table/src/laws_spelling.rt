@@ -1,7 +1,7 @@
 //! Laws of spelling, which hold of all tables: functions that do nothing, each with a law as its contract.
 ghost use Rattle.vx_table.specs.Laws.{ReadsOneWay, AnswersOneWay, AnswersAlways, SpellsBothWays, ReachesBothWays, ReadsBack, SpellsApart, ItemsApart, FollowsTogether, ItemsTogether, BitsTogether, SpellsTogether};
 ghost use Rattle.vx_table.specs.Bounds.{LieInRange, PartsLieInRange};
-ghost use Rattle.vx_table.specs.Trailing.{ClosesWithoutTrailing, ClosesAtTheEnd, PartsCloseWithoutTrailing, PartsCloseAtTheEnd, TablesEndAligned, SectionsEndAligned, EndsAlignedTogether};
+ghost use Rattle.vx_table.specs.Trailing.{ClosesWithoutTrailing, ClosesAtTheEnd, PartsCloseWithoutTrailing, PartsCloseAtTheEnd, TablesStop, SectionsStop, StopsTogether, StopsAtBoundary, StopsInNoZero};
 
 /// Bits that begin with a spelling tell the values and what follows.
 pub fn one_reading()
@@ -61,9 +61,12 @@ pub fn items_in_range()
     ensures parts { PartsLieInRange }
 {}
 
-/// A structure that ends in a trailing ends at a byte boundary.
-pub fn ends_aligned()
-    ensures table { TablesEndAligned }
-    ensures sections { SectionsEndAligned }
-    ensures together { EndsAlignedTogether }
+/// A structure whose last field is a one and zeros up to a byte boundary, or a trailing, ends in these: at the boundary, and its last
+/// byte isn't 00.
+pub fn ends_in_stop()
+    ensures table { TablesStop }
+    ensures sections { SectionsStop }
+    ensures together { StopsTogether }
+    ensures boundary { StopsAtBoundary }
+    ensures last { StopsInNoZero }
 {}

@@ -19,6 +19,7 @@ mod laws_loaded;
 mod laws_numbers;
 mod laws_rewritten;
 mod laws_rows;
+mod laws_sizes;
 mod laws_spelling;
 mod macros;
 mod parts;
@@ -53,8 +54,9 @@ pub use laws_rewritten::{
     rewritten_keeps, sections_together, what_goes_is_rewritten,
 };
 pub use laws_rows::first_row_first;
+pub use laws_sizes::bits_at_most;
 pub use laws_spelling::{
-    ends_aligned, every_answer, items_in_range, no_proper_prefix, one_answer, one_behind_another,
+    ends_in_stop, every_answer, items_in_range, no_proper_prefix, one_answer, one_behind_another,
     one_reading, one_writing, read_back, spelled_both_ways, what_may_follow,
 };
 pub use parts::{Part, code_parts, read_parts, write_parts};

@@ -5,7 +5,7 @@ use Rattle.vx_bits.specs.declared.list.Item.{Item}
 use Rattle.vx_bits.specs.Codes.{number, bits_of, to_boundary, one_from, EndsInNoZero}
 use Rattle.vx_bits.proofs.Bits.{fixed_of}
 use Rattle.vx_table.specs.Values.{bits_along}
-use Rattle.vx_sh.proofs.Stopped.{EndsWithStop}
+use Rattle.vx_table.specs.Trailing.{EndsWithStop}
 use Rattle.vx_annexb.proofs.EscapedBytes.{escaped_exists}
 use Rattle.vx_sps.specs.declared.shape.SpsShape.{SpsShape}
 use Rattle.vx_sps.specs.Structure.{sps_form}
@@ -19,7 +19,9 @@ use Rattle.vx_pic.specs.declared.unit_types.TheConstants as types
 use Rattle.vx_pic.specs.Written.{Set, an_sps, a_pps, an_aps}
 use Rattle.vx_write.specs.Units.{IsUnitOf, IsSetUnit}
 use Rattle.vx_write.specs.Sets.{CanBeWritten}
-use Rattle.vx_write.proofs.Ending.{sps_stops, sps_ends, pps_stops, pps_ends, header_ends, body_ends}
+use Rattle.vx_sps.proofs.Written.{sps_stops}
+use Rattle.vx_pps.proofs.Sets.{pps_stops}
+use Rattle.vx_write.proofs.Ending.{sps_ends, pps_ends, header_ends, body_ends}
 
 -- bits of whole bytes are those of bytes
 packed : (m : ℕ) (bits : List Bool) → length bits ≡ 8 * m → (bytes : List ℕ) × (bits_of bytes ≡ bits)
