@@ -1,5 +1,5 @@
 -- That a set can be rewritten: the groups one behind another, some taken over and the others replaced.
-use Rattle.std.proofs.Common.{◌≡◌, ℕ, ℤ, true, IsTrue, List, [], ◌∷◌, ◌++◌, length, slice_index, refl, ap, sym, subst, ◌∙◌, arith}
+use Rattle.std.proofs.Common.{◌≡◌, ℕ, ℤ, true, IsTrue, List, [], ◌++◌, length, slice_index, refl, subst}
 use Rattle.std.proofs.lemmas.List.{append-nil}
 use Rattle.vx_bits.specs.declared.list.Item.{Item}
 use Rattle.vx_fields.specs.declared.sps.TheConstants.{sps_max_sublayers_minus1, sps_log2_ctu_size_minus5, sps_timing_hrd_params_present_flag}
@@ -7,12 +7,10 @@ use Rattle.vx_table.specs.Scope.{fresh}
 use Rattle.vx_table.specs.Parts.{Section, sections_form}
 use Rattle.vx_table.specs.Spelling.{items_along}
 use Rattle.vx_table.specs.Values.{Follows}
-use Rattle.vx_table.specs.EachField.{sections_pass}
-use Rattle.vx_table.specs.Again.{shows_row}
-use Rattle.vx_table.specs.Depends.{has, Inside, set_of, Agree}
-use Rattle.vx_table.specs.Claims.{sections_chain, sections_hide}
+use Rattle.vx_table.specs.Depends.{has, set_of, Agree}
+use Rattle.vx_table.specs.Claims.{sections_hide}
 use Rattle.vx_table.specs.Loaded.{number, sections_name_none}
-use Rattle.vx_table.specs.Rewrites.{Takes, Rewrites}
+use Rattle.vx_table.specs.Rewrites.{Takes}
 use Rattle.vx_table.specs.Rewritten.{IsRewritten}
 use Rattle.vx_table.specs.Shown.{shown_items}
 use Rattle.vx_table.proofs.Agreeing.{agree_itself, inside_itself}
@@ -20,7 +18,7 @@ use Rattle.vx_table.proofs.Rewrites.{what_goes_is_rewritten}
 use Rattle.vx_sps.specs.declared.shape.SpsShape.{SpsShape}
 use Rattle.vx_sps.specs.declared.tables.TheConstants.{TAKEN}
 use Rattle.vx_sps.specs.Structure.{ids, start, profile, resampling, picture, counts, dpb, tools, timing, end, sps_sections, sps_form}
-use Rattle.vx_sps.specs.Reshaped.{id_items, profile_items, picture_items, dpb_items, timing_items, stated, IsReshaped}
+use Rattle.vx_sps.specs.Reshaped.{id_items, profile_items, picture_items, dpb_items, timing_items, IsReshaped}
 use Rattle.vx_table.proofs.Groups.{copied_group, inside_nothing, Onward, copied_first, replaced_first}
 use Rattle.vx_sps.proofs.Stages.{standing}
 use Rattle.vx_sps.proofs.Rows as tests

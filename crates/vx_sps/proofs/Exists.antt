@@ -1,9 +1,8 @@
 -- There is a rewritten set for each source and shape, and a rewriter makes it.
-use Rattle.std.proofs.Common.{◌≡◌, ◌≢◌, ◌||◌, ◌&&◌, negsuc, inl, inr, ℕ, ℤ, pos, zero, suc, ◌+◌, ◌-◌, ◌<◌, ◌≤◌, ◌^◌, take, drop, true, false, cond, not, ◌==◌, List, [], ◌∷◌, ◌++◌, length, slice_index, Option, Some, None, Result, Ok, Err, refl, ap, sym, subst, ◌∙◌, arith}
+use Rattle.std.proofs.Common.{◌≡◌, ◌≢◌, ◌||◌, ◌&&◌, negsuc, inl, inr, ℕ, ℤ, pos, zero, suc, ◌+◌, ◌-◌, ◌<◌, ◌≤◌, ◌^◌, take, drop, true, false, not, ◌==◌, List, [], ◌∷◌, ◌++◌, length, slice_index, Some, None, Result, Ok, Err, refl, ap, sym, subst, ◌∙◌, arith}
 use Rattle.std.specs.Prelude.{Bool, All, IfOk}
 use Rattle.std.proofs.lemmas.Bool.Decides.{eqb_tells}
 use Rattle.std.proofs.lemmas.List.{take_all}
-use Rattle.std.proofs.Math.Nat.{div-le_self}
 use Rattle.vx_bits.specs.Codes.{IsCodeNumber}
 use Rattle.vx_layout.specs.declared.rect.Rect.{Rect}
 use Rattle.vx_bits.specs.declared.list.Item.{Item}
@@ -17,7 +16,7 @@ use Rattle.vx_table.specs.declared.rows.Coding.TheVariants.{Fixed, Golomb, Signe
 use Rattle.vx_table.specs.declared.rows.Cell.{Cell}
 use Rattle.vx_table.specs.declared.rows.Row.{Row}
 use Rattle.vx_table.specs.declared.rows.Row.TheVariants.{Field, Block, Name}
-use Rattle.vx_table.specs.Scope.{fresh, natural, is_set, quotient}
+use Rattle.vx_table.specs.Scope.{fresh, natural, quotient}
 use Rattle.vx_table.specs.EachField.{sections_pass}
 use Rattle.vx_table.specs.Forms.{has_value, coding_at, cell_at}
 use Rattle.vx_table.specs.Parts.{sections_form}
@@ -41,7 +40,7 @@ use Rattle.vx_sps.specs.declared.shape.SubpicPlan.TheVariants.{Absent, One, Many
 use Rattle.vx_sps.specs.declared.tables.TheConstants.{TAKEN}
 use Rattle.vx_sps.specs.Set.{IsItems, ctb_size_of}
 use Rattle.vx_sps.specs.Structure.{picture, timing, sps_sections, sps_form}
-use Rattle.vx_sps.specs.Reshaped.{size_items, subpic_items, picture_items, timing_items, stated, one_items, many_items, AreParts, IsSize, IsPlan, IsShape, IsReshaped}
+use Rattle.vx_sps.specs.Reshaped.{size_items, subpic_items, timing_items, stated, one_items, many_items, AreParts, IsSize, IsPlan, IsShape, IsReshaped}
 use Rattle.vx_sps.specs.inner.Makes.{MakesSet}
 use Rattle.vx_sps.proofs.Chain.{Replaces, set_rewrites}
 use Rattle.vx_sps.proofs.Stated.{below, ids_take, profile_take}

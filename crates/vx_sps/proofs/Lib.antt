@@ -16,3 +16,4 @@ pub mod Exists
 pub mod With
 pub mod Places
 pub mod Says
+pub mod Short

@@ -1,32 +1,28 @@
 -- DPB parameters and timing that are stated go through their groups.
-use Rattle.std.proofs.Common.{inl, inr, lit<, ◌≡◌, ℕ, ℤ, pos, zero, suc, ◌+◌, ◌<◌, ◌^◌, true, false, cond, not, ◌==◌, ◌||◌, ◌&&◌, List, [], ◌∷◌, ◌++◌, length, slice_index, slice_set, replicate, refl, ap, sym, subst, ◌∙◌, arith}
+use Rattle.std.proofs.Common.{inl, inr, lit<, ◌≡◌, ℕ, pos, zero, suc, ◌<◌, ◌^◌, true, false, not, ◌==◌, ◌||◌, List, [], ◌∷◌, ◌++◌, length, slice_index, slice_set, refl, sym, arith}
 use Rattle.std.specs.Prelude.{Bool, All}
 use Rattle.std.proofs.lemmas.Bool.{cases_lt}
-use Rattle.std.proofs.lemmas.List.{length-set, get_or_past}
+use Rattle.std.proofs.lemmas.List.{get_or_past}
 use Rattle.std.proofs.lemmas.List.Elements.{All-get_or}
 use Rattle.vx_bits.specs.Codes.{IsCodeNumber}
 use Rattle.vx_bits.specs.declared.list.Item.{Item}
 use Rattle.vx_fields.specs.declared.dpb.TheConstants as dpb_fields
 use Rattle.vx_fields.specs.declared.timing.TheConstants as timing_fields
 use Rattle.vx_fields.specs.declared.sps.TheConstants as sps
-use Rattle.vx_table.specs.declared.rows.Cell.{Cell}
 use Rattle.vx_table.specs.Scope.{fresh, value, natural, is_set}
-use Rattle.vx_table.specs.Forms.{Form, has_value, coding_at, limits_at, one_field, turns, present, part, form_of, after}
+use Rattle.vx_table.specs.Forms.{has_value, coding_at, limits_at, one_field, turns, present, part, form_of, after}
 use Rattle.vx_table.specs.Parts.{always, sections_form}
-use Rattle.vx_table.specs.Spelling.{HasCode, fault_of, item_of, items_along}
-use Rattle.vx_table.specs.Values.{Follows}
+use Rattle.vx_table.specs.Spelling.{HasCode, fault_of, item_of}
 use Rattle.vx_table.specs.Claims.{knows_formula, knows_width, knows_range, knows_presence, hides_counter, hides_row, behind_field, within_block, depends, behind_rows, table_depends, behind_table, comes_always}
 use Rattle.vx_table.specs.Again.{shows_row}
-use Rattle.vx_table.specs.Loaded.{number, row_below, code_below, range_below}
 use Rattle.vx_table.specs.Rewrites.{Takes}
-use Rattle.vx_sps.specs.Structure.{dpb, timed, timing, sps_sections, sps_form}
-use Rattle.vx_sps.specs.Reshaped.{item, where_so, dpb_items, timing_items, rate_items}
+use Rattle.vx_sps.specs.Structure.{dpb, timed, timing}
+use Rattle.vx_sps.specs.Reshaped.{item, where_so}
 use Rattle.vx_sps.specs.declared.tables.TheConstants.{SUBLAYER_DPB, SUBLAYER_CPB}
 use Rattle.vx_ptl.specs.declared.tables.TheConstants.{DPB, NO_TIMING, TIMING, SUBLAYER_TIMING}
 use Rattle.vx_table.proofs.Groups.{agree_given, takes_at}
 use Rattle.vx_sps.proofs.Stages.{TakesTo, Meets, stage_at, groups_take_to, no_more_to, where_to, there_to, table_to}
 use Rattle.vx_sps.proofs.Testing.{owed, tested, all_tested, at_end, they_take, values_take_to}
-use Rattle.vx_sps.proofs.Stated.{below, one_long}
 
 -- ---- DPB parameters
 

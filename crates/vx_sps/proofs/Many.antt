@@ -1,11 +1,10 @@
 -- Several subpictures go through: their flags, their places turn by turn, and the length of their ids.
-use Rattle.std.proofs.Common.{◌≡◌, inl, inr, lit<, ℕ, ℤ, pos, zero, suc, ◌+◌, ◌-◌, ◌<◌, ◌≤◌, ◌^◌, min, max, true, false, cond, not, ◌==◌, ◌||◌, ◌&&◌, List, [], ◌∷◌, ◌++◌, length, slice_index, slice_set, None, refl, ap, sym, subst, ◌∙◌, arith}
+use Rattle.std.proofs.Common.{◌≡◌, inl, inr, ℕ, pos, ◌+◌, ◌-◌, ◌<◌, ◌≤◌, ◌^◌, min, true, false, not, ◌==◌, ◌&&◌, List, [], ◌∷◌, ◌++◌, length, slice_set, refl, ap, sym, subst, ◌∙◌, arith}
 use Rattle.std.specs.Prelude.{Bool, All, nat_lt, slice_index_or, drop}
-use Rattle.std.proofs.lemmas.Bool.{cases_Bool, cases_lt, lt-ltb}
+use Rattle.std.proofs.lemmas.Bool.{lt-ltb}
 use Rattle.std.proofs.lemmas.Bool.Decides.{eqb_tells}
-use Rattle.std.proofs.lemmas.List.{append_assoc, append-nil}
+use Rattle.std.proofs.lemmas.List.{append-nil}
 use Rattle.std.proofs.lemmas.List.Elements.{All-get_or}
-use Rattle.vx_bits.specs.declared.list.Item.{Item}
 use Rattle.vx_fields.specs.declared.sps.TheConstants as sps
 use Rattle.vx_fields.specs.declared.names.sps.TheConstants as names
 use Rattle.vx_layout.specs.declared.rect.Rect.{Rect}
@@ -18,11 +17,10 @@ use Rattle.vx_table.specs.declared.rows.Limits.TheVariants.{Any}
 use Rattle.vx_table.specs.declared.rows.Formula.{Formula}
 use Rattle.vx_table.specs.declared.rows.Formula.TheVariants.{Plain, Below, Both, Equal}
 use Rattle.vx_table.specs.declared.rows.Presence.TheVariants.{When}
-use Rattle.vx_table.specs.Scope.{most, fresh, value, natural, capped, is_set, one_if, quotient, powers_below}
-use Rattle.vx_table.specs.Forms.{Form, has_value, coding_at, limits_at, one_field, turns, present, part, form_of, after}
+use Rattle.vx_table.specs.Scope.{most, fresh, value, natural, is_set, one_if, powers_below}
+use Rattle.vx_table.specs.Forms.{has_value, coding_at, limits_at, one_field, turns, present, part, form_of, after}
 use Rattle.vx_table.specs.Parts.{Section, in_turns, sections_form}
-use Rattle.vx_table.specs.Spelling.{HasCode, fault_of, item_of, items_along}
-use Rattle.vx_table.specs.Values.{IsValueOf}
+use Rattle.vx_table.specs.Spelling.{HasCode, fault_of, item_of}
 use Rattle.vx_table.specs.Depends.{set_of, with_all, Agree}
 use Rattle.vx_table.specs.Claims.{knows_formula, knows_width, knows_range, knows_presence, hides_counter, hides_row, behind_field, within_block, depends, behind_rows, table_depends, behind_table, comes_always}
 use Rattle.vx_table.specs.Named.{named_by}
@@ -36,11 +34,11 @@ use Rattle.vx_table.proofs.Numbers.{powers_least}
 use Rattle.vx_table.proofs.Rewrites.{tables_leave, turns_take}
 use Rattle.vx_sps.specs.declared.tables.TheConstants.{SUBPICTURES, PLACE, SUBPIC_IDS}
 use Rattle.vx_sps.specs.Structure.{with_subpictures}
-use Rattle.vx_sps.specs.Reshaped.{item, where_so, place_items, places_items, many_items, id_bits}
+use Rattle.vx_sps.specs.Reshaped.{item, where_so, place_items, many_items, id_bits}
 use Rattle.vx_table.proofs.Groups.{agree_given, takes_at}
-use Rattle.vx_sps.proofs.Stages.{TakesTo, Meets, stage_at, groups_take_to, groups_beside, field_to, field_where, nowhere, then_to, there_to, absent_to, no_more_to}
+use Rattle.vx_sps.proofs.Stages.{TakesTo, Meets, groups_take_to, groups_beside, field_to, field_where, nowhere, then_to, there_to, absent_to, no_more_to}
 use Rattle.vx_sps.proofs.Testing.{Anywhere, owed, tested, all_tested, at_end, they_take, values_take_to}
-use Rattle.vx_sps.proofs.Picture.{block, block_at, block_given, within_range}
+use Rattle.vx_sps.proofs.Picture.{block, block_at, within_range}
 
 -- ---- one subpicture
 

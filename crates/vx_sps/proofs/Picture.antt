@@ -1,30 +1,26 @@
 -- The picture's size goes through, and behind it the subpictures: none, or one.
-use Rattle.std.proofs.Common.{◌≡◌, ◌≢◌, inl, inr, lit<, ℕ, ℤ, pos, zero, suc, ◌+◌, ◌-◌, ◌*◌, ◌/◌, ◌%◌, ◌<◌, ◌≤◌, ◌^◌, min, true, false, cond, not, ◌==◌, ◌||◌, ◌&&◌, List, [], ◌∷◌, ◌++◌, length, slice_index, slice_set, replicate, Option, Some, None, refl, ap, sym, subst, ◌∙◌, arith}
-use Rattle.std.specs.Prelude.{Bool, All, nat_lt, int_le}
-use Rattle.std.proofs.Math.Nat.{div-le_self}
-use Rattle.std.proofs.lemmas.Bool.{cases_Bool, cases_lt, eq-eqb, le-leb, lt-ltb}
+use Rattle.std.proofs.Common.{◌≡◌, inl, inr, ℕ, pos, zero, suc, ◌+◌, ◌%◌, ◌<◌, ◌≤◌, ◌^◌, min, true, cond, List, [], ◌∷◌, ◌++◌, slice_index, slice_set, Some, None, refl, sym, subst, arith}
+use Rattle.std.specs.Prelude.{All, nat_lt}
+use Rattle.std.proofs.lemmas.Bool.{cases_Bool, eq-eqb, le-leb, lt-ltb}
 use Rattle.vx_table.specs.declared.rows.Term.TheVariants.{Latest}
 use Rattle.vx_table.specs.declared.rows.Formula.TheVariants.{Plain}
-use Rattle.std.proofs.lemmas.Bool.Decides.{eqb_tells}
-use Rattle.std.proofs.lemmas.List.{append_assoc}
 use Rattle.vx_bits.specs.Codes.{IsCodeNumber}
 use Rattle.vx_bits.specs.declared.list.Item.{Item}
 use Rattle.vx_fields.specs.declared.sps.TheConstants as sps
 use Rattle.vx_fields.specs.declared.names.sps.TheConstants as names
 use Rattle.vx_table.specs.declared.rows.Fault.{Fault}
 use Rattle.vx_table.specs.declared.rows.Limits.TheVariants.{Within, Multiple}
-use Rattle.vx_table.specs.declared.rows.Cell.{Cell}
-use Rattle.vx_table.specs.Scope.{most, fresh, value, natural, capped, is_set, one_if, quotient, powers_below}
-use Rattle.vx_table.specs.Forms.{Form, has_value, coding_at, limits_at, one_field, turns, present, part, form_of, after}
+use Rattle.vx_table.specs.Scope.{most, fresh, value, natural, capped, one_if, quotient, powers_below}
+use Rattle.vx_table.specs.Forms.{has_value, coding_at, limits_at, one_field, turns, present, part, form_of, after}
 use Rattle.vx_table.specs.Parts.{Section, always, in_turns, sections_form}
-use Rattle.vx_table.specs.Spelling.{HasCode, fault_of, item_of, items_along}
+use Rattle.vx_table.specs.Spelling.{HasCode, fault_of, item_of}
 use Rattle.vx_table.specs.Depends.{set_of, Agree}
 use Rattle.vx_table.specs.Claims.{knows_formula, knows_width, knows_range, knows_presence, hides_counter, hides_row, behind_field, within_block, depends, behind_rows, table_depends, behind_table, comes_always}
 use Rattle.vx_table.specs.Again.{shows_row}
 use Rattle.vx_table.specs.Rewrites.{Takes}
 use Rattle.vx_sps.specs.declared.tables.TheConstants.{SIZE, CTUS, SUBPICTURES, PLACE, SUBPIC_IDS}
 use Rattle.vx_sps.specs.Structure.{picture, with_subpictures}
-use Rattle.vx_sps.specs.Reshaped.{item, where_so, has_window, window_items, size_items, mapping_items, subpic_items, IsSize}
+use Rattle.vx_sps.specs.Reshaped.{item, has_window, size_items, mapping_items, IsSize}
 use Rattle.vx_table.proofs.Groups.{agree_given, takes_at}
 use Rattle.vx_sps.proofs.Stages.{TakesTo, Meets, stage_at, groups_take_to}
 use Rattle.vx_sps.proofs.Testing.{owed, tested, all_tested, at_end, they_take, values_take_to}

@@ -1,15 +1,14 @@
 -- The rectangles that are stated are read back: corners and sizes of each axis, from the items of their fields.
-use Rattle.std.proofs.Common.{◌≡◌, inl, inr, ℕ, ℤ, pos, zero, suc, ◌+◌, ◌-◌, ◌<◌, ◌≤◌, min, true, false, cond, not, ◌==◌, ◌&&◌, List, [], ◌∷◌, ◌++◌, length, map, slice_index, refl, ap, sym, subst, ◌∙◌, arith}
-use Rattle.std.specs.Prelude.{Bool, All, filter, nat_lt, slice_index_or}
-use Rattle.std.proofs.lemmas.Bool.{cases_Bool, cases_lt, lt-ltb, le-ltb, ltb-true, ltb-false, and_parts}
+use Rattle.std.proofs.Common.{◌≡◌, inl, inr, ℕ, pos, zero, suc, ◌+◌, ◌-◌, ◌<◌, ◌≤◌, true, false, cond, ◌==◌, ◌&&◌, List, [], ◌∷◌, ◌++◌, length, map, slice_index, refl, ap, sym, ◌∙◌, arith}
+use Rattle.std.specs.Prelude.{Bool, nat_lt, slice_index_or}
+use Rattle.std.proofs.lemmas.Bool.{cases_Bool, cases_lt, lt-ltb, le-ltb, ltb-true, ltb-false}
 use Rattle.std.proofs.lemmas.Bool.Decides.{eqb_tells}
 use Rattle.std.proofs.lemmas.List.Elements.{All-get_or}
 use Rattle.vx_bits.specs.declared.list.Item.{Item}
-use Rattle.vx_fields.specs.declared.sps.TheConstants as sps
 use Rattle.vx_layout.specs.declared.rect.Rect.{Rect}
 use Rattle.vx_layout.specs.Layouts.{no_rect}
 use Rattle.vx_layout.specs.Rects.{IsPart}
-use Rattle.vx_table.specs.Scope.{natural, capped, is_set}
+use Rattle.vx_table.specs.Scope.{natural, is_set}
 use Rattle.vx_table.specs.Rewrites.{in_all_turns}
 use Rattle.vx_sps.specs.Subpictures.{numbers_of, corner_at, size_at}
 use Rattle.vx_sps.specs.Reshaped.{item, where_so, place_items, places_items, AreParts}

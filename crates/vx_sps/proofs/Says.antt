@@ -1,6 +1,6 @@
 -- What a rewritten set says, from the items that are stated; and that it keeps what its source has.
-use Rattle.std.proofs.Common.{◌≡◌, ◌⊎◌, inl, inr, ℕ, ℤ, pos, zero, suc, ◌+◌, ◌-◌, ◌<◌, ◌≤◌, ◌^◌, min, true, false, cond, not, ◌==◌, ◌&&◌, ◌||◌, IsTrue, IsFalse, List, [], ◌∷◌, ◌++◌, length, map, slice_index, slice_set, Option, Some, None, refl, ap, sym, subst, ◌∙◌, arith}
-use Rattle.std.specs.Prelude.{Bool, filter, nat_lt, slice_index_or}
+use Rattle.std.proofs.Common.{◌≡◌, ◌⊎◌, inl, inr, ℕ, pos, zero, suc, ◌+◌, ◌-◌, ◌<◌, ◌≤◌, ◌^◌, min, true, false, cond, not, ◌==◌, ◌||◌, IsFalse, List, [], ◌∷◌, ◌++◌, length, map, Some, None, refl, ap, sym, subst, ◌∙◌, arith}
+use Rattle.std.specs.Prelude.{Bool, nat_lt, slice_index_or}
 use Rattle.std.proofs.Math.Pow.{pow_mono}
 use Rattle.std.proofs.lemmas.Bool.{and_parts, cases_Bool, cases_eq}
 use Rattle.std.proofs.lemmas.List.{get_or-set_other}
@@ -9,7 +9,6 @@ use Rattle.vx_bits.specs.declared.list.Item.{Item}
 use Rattle.vx_fields.specs.declared.sps.TheConstants as sps
 use Rattle.vx_fields.specs.declared.timing.TheConstants as timing
 use Rattle.vx_layout.specs.declared.rect.Rect.{Rect}
-use Rattle.vx_layout.specs.Layouts.{no_rect}
 use Rattle.vx_layout.specs.Rects.{whole_picture}
 use Rattle.vx_table.specs.Scope.{fresh, natural, is_set, quotient}
 use Rattle.vx_table.specs.Depends.{has, Inside, with_all, set_of}
@@ -24,9 +23,9 @@ use Rattle.vx_sps.specs.declared.shape.SubpicPlan.{SubpicPlan}
 use Rattle.vx_sps.specs.declared.shape.SubpicPlan.TheVariants.{Absent, One, Many}
 use Rattle.vx_sps.specs.declared.tables.TheConstants.{TAKEN}
 use Rattle.vx_sps.specs.Set.{IsItems, width_of, height_of, ctb_size_of, columns_of, rows_of}
-use Rattle.vx_sps.specs.Subpictures.{subpics_of, numbers_of, corner_at, size_at, own_rect, on_grid, rect_of, is_treated, is_filtered, id_of}
+use Rattle.vx_sps.specs.Subpictures.{numbers_of, corner_at, size_at, own_rect, on_grid, rect_of}
 use Rattle.vx_sps.specs.Depends.{kept}
-use Rattle.vx_sps.specs.Reshaped.{item, same, where_so, place_items, id_items, profile_items, size_items, window_items, has_window, mapping_items, one_items, places_items, many_items, id_bits, subpic_items, picture_items, dpb_items, rate_items, timing_items, stated, AreParts, IsSize, IsPlan, IsShape, IsReshaped}
+use Rattle.vx_sps.specs.Reshaped.{item, same, where_so, place_items, id_items, profile_items, size_items, window_items, has_window, places_items, id_bits, subpic_items, picture_items, dpb_items, rate_items, timing_items, stated, IsPlan, IsShape, IsReshaped}
 use Rattle.vx_sps.specs.Reread.{count_in, rect_in, id_in, Says, ReshapedSays, ReshapedKeeps}
 use Rattle.vx_table.proofs.Groups.{inside_nothing}
 use Rattle.vx_sps.proofs.Stages.{knows_all}

@@ -1,10 +1,8 @@
 -- What stands in place of a group of tables goes through it: stage by stage, and row by row where conditions don't compute.
-use Rattle.std.proofs.Common.{◌≡◌, ◌≢◌, inl, inr, ℕ, ℤ, zero, suc, ◌+◌, ◌<◌, ◌≤◌, true, false, cond, not, ◌&&◌, ◌==◌, IsTrue, IsFalse, List, [], ◌∷◌, ◌++◌, length, slice_index, slice_set, replicate, None, refl, ap, sym, subst, ◌∙◌, arith}
-use Rattle.std.specs.Prelude.{Bool, take, drop}
-use Rattle.std.proofs.Math.Path.{fun_ext}
-use Rattle.std.proofs.lemmas.Bool.{and_parts, both_ways, cases_eq}
-use Rattle.std.proofs.lemmas.List.{append-nil, length-set, get_or-set_other}
-use Rattle.std.proofs.lemmas.List.Elements.{All-nil}
+use Rattle.std.proofs.Common.{◌≡◌, ℕ, ℤ, true, false, cond, not, ◌&&◌, ◌==◌, IsTrue, IsFalse, List, [], ◌∷◌, ◌++◌, length, slice_index, slice_set, None, refl, ap, sym, subst, ◌∙◌}
+use Rattle.std.specs.Prelude.{Bool}
+use Rattle.std.proofs.lemmas.Bool.{and_parts}
+use Rattle.std.proofs.lemmas.List.{append-nil, length-set}
 use Rattle.vx_bits.specs.declared.list.Item.{Item}
 use Rattle.vx_table.specs.declared.rows.Term.TheVariants.{Number}
 use Rattle.vx_table.specs.declared.rows.Formula.{Formula}
@@ -12,28 +10,27 @@ use Rattle.vx_table.specs.declared.rows.Formula.TheVariants.{Plain}
 use Rattle.vx_table.specs.declared.rows.Cell.{Cell}
 use Rattle.vx_table.specs.declared.rows.Presence.TheVariants.{When}
 use Rattle.vx_table.specs.declared.rows.Row.{Row}
-use Rattle.vx_table.specs.declared.rows.Row.TheVariants.{Field, Block, Name}
-use Rattle.vx_table.specs.Scope.{fresh, value, natural, is_set, loaded}
+use Rattle.vx_table.specs.Scope.{fresh, value, natural}
 use Rattle.vx_table.specs.Forms.{Form, done, field, ◌>>=◌, cell_at, one_field, has_value, after, present, form_of}
 use Rattle.vx_table.specs.Parts.{Section, always, sections_form}
 use Rattle.vx_table.specs.Spelling.{HasCode, fault_of, item_of, items_along}
-use Rattle.vx_table.specs.Values.{IsValueOf, Follows, to_end, through, Parted}
+use Rattle.vx_table.specs.Values.{IsValueOf, Follows, to_end, through}
 use Rattle.vx_table.specs.EachField.{sections_pass}
-use Rattle.vx_table.specs.Depends.{has, Inside, with_all, set_of, Agree, Alike, DependsOnlyOn, Leaves}
+use Rattle.vx_table.specs.Depends.{has, with_all, set_of, Agree}
 use Rattle.vx_table.specs.Claims.{knows_formula, knows_cell, sections_chain, behind_sections, sections_depend_only_on, sections_hide}
 use Rattle.vx_table.specs.Named.{named_by_all}
-use Rattle.vx_table.specs.Again.{AlwaysShown, shows_row}
+use Rattle.vx_table.specs.Again.{shows_row}
 use Rattle.vx_table.specs.Loaded.{number, sections_name_none}
-use Rattle.vx_table.specs.Rewrites.{Takes, Rewrites}
-use Rattle.vx_table.proofs.Agreeing.{inside_itself, agree_itself, agree_back, agree_on, agree_outside, same_value, same_cell}
-use Rattle.vx_table.proofs.Chains.{sections_carry, structure_depends_only_on}
+use Rattle.vx_table.specs.Rewrites.{Takes}
+use Rattle.vx_table.proofs.Agreeing.{agree_outside, same_value, same_cell}
+use Rattle.vx_table.proofs.Chains.{sections_carry}
 use Rattle.vx_table.proofs.Dependence.{inside_with_all}
 use Rattle.vx_table.proofs.Again.{follows_again, sections_show}
-use Rattle.vx_table.proofs.Joined.{parted, joined, items_joined}
-use Rattle.vx_table.proofs.Loading.{number_of_none, sections_load}
+use Rattle.vx_table.proofs.Joined.{joined, items_joined}
+use Rattle.vx_table.proofs.Loading.{sections_load}
 use Rattle.vx_table.proofs.Groups.{AgreeOn, agree_given, takes_at, groups_take}
 use Rattle.vx_sps.specs.Reshaped.{where_so}
-use Rattle.vx_table.proofs.Rewrites.{leaves_agree, sections_leave, sections_together, copied_rewrites, replaced_rewrites, rewrites_together, takes_again, takes_together}
+use Rattle.vx_table.proofs.Rewrites.{leaves_agree, sections_leave}
 
 -- ---- numbers of the source
 

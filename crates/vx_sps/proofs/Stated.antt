@@ -1,26 +1,25 @@
 -- What is stated goes through the replaced groups: ids, and profile, tier and level.
-use Rattle.std.proofs.Common.{◌≡◌, ℕ, ℤ, pos, zero, suc, ◌+◌, ◌<◌, ◌^◌, true, false, cond, not, ◌==◌, List, [], ◌∷◌, ◌++◌, length, slice_index, slice_set, replicate, refl, ap, sym, subst, ◌∙◌, arith}
+use Rattle.std.proofs.Common.{◌≡◌, ℕ, ℤ, pos, zero, suc, ◌<◌, true, List, [], ◌∷◌, ◌++◌, length, slice_index, slice_set, replicate, refl, sym, ◌∙◌, arith}
 use Rattle.std.proofs.lemmas.List.{length-set}
 use Rattle.vx_bits.specs.declared.list.Item.{Item}
 use Rattle.vx_fields.specs.declared.ptl.TheConstants as ptl
 use Rattle.vx_fields.specs.declared.sps.TheConstants as sps
-use Rattle.vx_table.specs.declared.rows.Cell.{Cell}
 use Rattle.vx_table.specs.Scope.{fresh, value, natural}
-use Rattle.vx_table.specs.Forms.{Form, has_value, coding_at, limits_at, one_field, turns, present, part, form_of, after}
+use Rattle.vx_table.specs.Forms.{has_value, coding_at, limits_at, one_field, turns, present, part, form_of, after}
 use Rattle.vx_table.specs.Parts.{sections_form}
 use Rattle.vx_table.specs.EachField.{sections_pass}
 use Rattle.vx_table.specs.Spelling.{HasCode, fault_of, item_of, items_along}
-use Rattle.vx_table.specs.Values.{IsValueOf, Follows}
+use Rattle.vx_table.specs.Values.{Follows}
 use Rattle.vx_table.specs.Claims.{knows_formula, knows_width, knows_range, knows_presence, hides_counter, hides_row, behind_field, within_block, depends, behind_rows, table_depends, behind_table, comes_always}
 use Rattle.vx_table.specs.Again.{shows_row}
 use Rattle.vx_table.specs.Loaded.{number, row_below, code_below, range_below}
-use Rattle.vx_table.specs.Rewrites.{Takes, AreValues}
+use Rattle.vx_table.specs.Rewrites.{Takes}
 use Rattle.vx_table.proofs.Loading.{number_below, sections_stay_below}
 use Rattle.vx_table.proofs.Rewrites.{values_take}
-use Rattle.vx_sps.specs.Structure.{ids, profile, dpb, timing, sps_sections, sps_form}
-use Rattle.vx_sps.specs.Reshaped.{item, id_items, profile_items, dpb_items, timing_items}
+use Rattle.vx_sps.specs.Structure.{ids, profile, sps_sections, sps_form}
+use Rattle.vx_sps.specs.Reshaped.{item, id_items, profile_items}
 use Rattle.vx_table.proofs.Groups.{agree_given, takes_at}
-use Rattle.vx_sps.proofs.Testing.{owed, tested, all_tested, at_end, they_take}
+use Rattle.vx_sps.proofs.Testing.{owed, all_tested, they_take}
 
 -- a scope with one number has as many numbers as one without
 pub one_long : (n v : ℕ) (t : List ℕ) → length fresh ≡ length t → length (slice_set fresh n v) ≡ length t

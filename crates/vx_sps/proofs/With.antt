@@ -1,9 +1,9 @@
 -- The items of one field: of those that are rewritten, and of lists that are put together.
-use Rattle.std.proofs.Common.{◌≡◌, inl, inr, ℕ, ℤ, pos, zero, suc, ◌+◌, ◌-◌, ◌<◌, ◌≤◌, min, true, false, cond, not, ◌==◌, ◌&&◌, IsTrue, IsFalse, List, [], ◌∷◌, ◌++◌, length, map, slice_index, slice_set, replicate, refl, ap, sym, subst, ◌∙◌, arith}
+use Rattle.std.proofs.Common.{◌≡◌, inl, inr, ℕ, pos, zero, suc, ◌+◌, ◌<◌, ◌≤◌, true, false, ◌==◌, IsFalse, List, [], ◌∷◌, ◌++◌, length, map, slice_index, slice_set, replicate, refl, ap, sym, ◌∙◌, arith}
 use Rattle.std.specs.Prelude.{Bool, filter}
 use Rattle.std.proofs.lemmas.Bool.{cases_Bool, cases_lt, eq-eqb, eqb-true, false≢true}
 use Rattle.std.proofs.lemmas.Grind.{get_or-set_at}
-use Rattle.std.proofs.lemmas.List.{append-nil, append_assoc, map-append, length-set, get_or-set_other, get_or_past, set_past}
+use Rattle.std.proofs.lemmas.List.{append-nil, map-append, length-set, get_or-set_other, set_past}
 use Rattle.std.proofs.lemmas.List.Elements.{filter-append}
 use Rattle.vx_bits.specs.declared.list.Item.{Item}
 use Rattle.vx_table.specs.Scope.{fresh, natural, loaded}

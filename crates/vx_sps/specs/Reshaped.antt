@@ -1,5 +1,5 @@
 -- The rewritten sequence parameter set: what it takes over from its source, and what it states (H.266 clause 7.3.2.4).
-use Rattle.std.specs.Prelude.{◌≡◌, ℕ, pos, ◌+◌, ◌-◌, ◌*◌, ◌^◌, ◌<◌, ◌≤◌, ◌%◌, max, Bool, cond, not, ◌&&◌, ◌||◌, ◌==◌, nat_lt, All}
+use Rattle.std.specs.Prelude.{◌≡◌, ℕ, pos, ◌+◌, ◌-◌, ◌^◌, ◌<◌, ◌≤◌, ◌%◌, max, Bool, cond, not, ◌&&◌, ◌||◌, nat_lt, All}
 use Rattle.std.specs.Prelude.{List, [], ◌∷◌, ◌++◌, length, replicate, slice_index, slice_index_or, Option, Some, None, IfSome}
 use Rattle.vx_bits.specs.Codes.{IsCodeNumber}
 use Rattle.vx_bits.specs.declared.list.Item.{Item}
@@ -11,10 +11,9 @@ use Rattle.vx_layout.specs.declared.rect.Rect.{Rect}
 use Rattle.vx_layout.specs.Borders.{Begins, Ends}
 use Rattle.vx_layout.specs.Layouts.{no_rect}
 use Rattle.vx_layout.specs.Rects.{IsPart}
-use Rattle.vx_table.specs.Scope.{one_if, is_set, quotient, powers_below, fresh}
+use Rattle.vx_table.specs.Scope.{one_if, is_set, quotient, powers_below}
 use Rattle.vx_table.specs.Depends.{set_of}
 use Rattle.vx_table.specs.Loaded.{number}
-use Rattle.vx_table.specs.Parts.{sections_form}
 use Rattle.vx_table.specs.Rewrites.{in_all_turns}
 use Rattle.vx_table.specs.Rewritten.{IsRewritten}
 use Rattle.vx_table.specs.Shown.{shown_items}

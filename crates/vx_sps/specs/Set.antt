@@ -1,6 +1,6 @@
 -- A sequence parameter set as its items, what these tell of its pictures, and how it is spelled.
-use Rattle.std.specs.Prelude.{◌≡◌, ◌⊎◌, ℕ, ℤ, ◌+◌, ◌^◌, Bool, ◌&&◌, ◌||◌, ◌==◌, List}
-use Rattle.std.specs.Prelude.{[], ◌++◌, count_by, Result, Ok, Err}
+use Rattle.std.specs.Prelude.{◌≡◌, ◌⊎◌, ℕ, ℤ, ◌+◌, ◌^◌, Bool, ◌&&◌, ◌||◌, ◌==◌, ◌≤◌, List}
+use Rattle.std.specs.Prelude.{[], ◌++◌, count_by, length, Result, Ok, Err}
 use Rattle.vx_bits.specs.Codes.{bits_of}
 use Rattle.vx_bits.specs.declared.list.Item.{Item}
 use Rattle.vx_bits.specs.declared.refusal.ReadError.{ReadError}
@@ -73,3 +73,10 @@ WrittenIsRead = (items : List Item) (bytes : List ℕ) (result : Result (List It
 abbrev pub NoProperPrefix : Type 0
 NoProperPrefix = (items others : List Item) (bytes more : List ℕ) → IsSpelling items bytes → IsSpelling others (bytes ++ more)
     → (items ≡ others) × (more ≡ [])
+
+-- No set is long: its spelling has at most this many bytes.
+abbrev pub sps_limit : ℕ
+sps_limit = 2 ^ 17
+
+abbrev pub SpellingIsShort : Type 0
+SpellingIsShort = (items : List Item) (bytes : List ℕ) → IsSpelling items bytes → length bytes ≤ sps_limit

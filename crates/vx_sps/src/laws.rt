@@ -1,5 +1,5 @@
 //! Laws of sequence parameter sets: functions that do nothing, each with a law as its contract.
-ghost use Rattle.vx_sps.specs.Set.{WrittenIsRead, NoProperPrefix};
+ghost use Rattle.vx_sps.specs.Set.{WrittenIsRead, NoProperPrefix, SpellingIsShort};
 ghost use Rattle.vx_sps.specs.Depends.{KeptDependsOnKept, StarsTellKept, KeptAreSifted, KeptAndOthersTell};
 
 /// What is written of a set is read as it.
@@ -10,6 +10,11 @@ pub fn written_is_read()
 /// No spelling of a set is a proper prefix of another's.
 pub fn no_proper_prefix()
     ensures { NoProperPrefix }
+{}
+
+/// The spelling of a set has at most 2^17 bytes, by the ranges of the fields that count others.
+pub fn spelling_is_short()
+    ensures { SpellingIsShort }
 {}
 
 /// The kept fields of a set are those without a star, and depend on kept fields alone.

@@ -22,7 +22,8 @@ mod tests_vectors;
 mod walk;
 
 pub use laws::{
-    kept_and_others_tell, kept_are_sifted, kept_depends_on_kept, no_proper_prefix, written_is_read,
+    kept_and_others_tell, kept_are_sifted, kept_depends_on_kept, no_proper_prefix,
+    spelling_is_short, written_is_read,
 };
 pub use laws_reshaped::{reshaped_keeps, reshaped_says};
 pub use read::{keep_sps, read_sps, write_sps};

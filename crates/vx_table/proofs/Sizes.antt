@@ -29,6 +29,7 @@ use Rattle.vx_table.specs.Spelling.{HasCode, fault_of, is_multiple, code_of}
 use Rattle.vx_table.specs.Values.{IsValueOf, Follows, to_end, through, bits_along}
 use Rattle.vx_table.specs.Sizes.{EachSpelling, Bound, greatest, IsWithin, greatest_term, greatest_value, greatest_coded, greatest_ranged, presence_keeps, row_keeps, sections_keep, code_bits, most_turns, part_bits, table_bits, sections_bits, IsShort, TablesAreShort, SectionsAreShort}
 use Rattle.vx_table.proofs.Joined.{parted, bits_joined}
+use Rattle.vx_table.proofs.Agreeing.{valued}
 use Rattle.vx_table.proofs.Bounds.{unbroken, unbroken_multiple}
 use Rattle.vx_table.proofs.Loading.{set_below, no_number, natural_most, natural_small, inside_below, before_below, multiple_below}
 
@@ -91,14 +92,14 @@ stop_most : (place : ℕ) → length (one_from place) ≤ 8
 stop_most place = omega (arith, zeros_most (place + 1))
 
 -- the bits of a code, whatever the value
-pub coded_bits : Coding ℕ → ℕ
+abbrev pub coded_bits : Coding ℕ → ℕ
 coded_bits (Fixed n) = n
 coded_bits Golomb = 63
 coded_bits SignedGolomb = 63
 coded_bits coding = 8
 
 pub coded_most : (coding : Coding ℕ) (place : ℕ) (v : ℤ) → length (code_of coding place v) ≤ coded_bits coding
-unfolding code_of coded_bits
+unfolding code_of
 coded_most (Fixed n) place v = omega (arith, length-fixed n (unsigned_abs v))
 coded_most Golomb place v = golomb_most (unsigned_abs v)
 coded_most SignedGolomb place v = golomb_most (code_number v)
@@ -198,18 +199,18 @@ module _ (bounds : List Bound) where
   pub after_within : (s : List ℕ) (c : Cell Formula) (v : ℤ) → row_keeps bounds (Field c) ≡ true → IsWithin bounds s → IsValueOf (cell_at s c) v → IsWithin bounds (after s (cell_at s c) v)
   unfolding after row_keeps
   after_within s c v keeps within is =
-      let test = leb-true (min (greatest_coded bounds c.coding) (greatest_ranged bounds c.limits)) (greatest bounds c.field) keeps in
-      let by_code = coded_within s c.coding v within is.code in
-      let by_range = ranged_within s c.limits v within is.range in
-      let set = within_set s c.field (natural v) within (omega (arith, test, by_code, by_range)) in
-      elim (cases_Bool (has_value (coding_at s c.coding))) [
-        | inl has ↦ rw has set
-        | inr none ↦ rw none within
+      elim (cases_Bool (has_value c.coding)) [
+        | inl has ↦
+            let test = leb-true (min (greatest_coded bounds c.coding) (greatest_ranged bounds c.limits)) (greatest bounds c.field) (rw has at keeps) in
+            let by_code = coded_within s c.coding v within is.code in
+            let by_range = ranged_within s c.limits v within is.range in
+            rw (valued s c.coding ∙ has) (within_set s c.field (natural v) within (omega (arith, test, by_code, by_range)))
+        | inr none ↦ rw (valued s c.coding ∙ none) within
       ]
 
   -- ---- tables
 
-  code_within : (s : List ℕ) (coding : Coding Formula) (place : ℕ) (v : ℤ) → IsWithin bounds s → length (code_of (coding_at s coding) place v) ≤ code_bits bounds coding
+  pub code_within : (s : List ℕ) (coding : Coding Formula) (place : ℕ) (v : ℤ) → IsWithin bounds s → length (code_of (coding_at s coding) place v) ≤ code_bits bounds coding
   unfolding coding_at code_of code_bits
   code_within s (Fixed width) place v within = let few = value_within s width within in omega (arith, few, length-fixed (min (value s width) 32) (unsigned_abs v))
   code_within s Golomb place v within = golomb_most (unsigned_abs v)

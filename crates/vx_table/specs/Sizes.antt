@@ -1,6 +1,6 @@
 -- How many bits the values of a structure have at most, computed over its rows: each field's code has some at most, and the turns of
 -- a block are bounded by the numbers that fields and names may have.
-use Rattle.std.specs.Prelude.{◌≡◌, ℕ, ℤ, zero, suc, ◌+◌, ◌-◌, ◌*◌, ◌^◌, ◌≤◌, min, Bool, true, ◌&&◌, ◌==◌, cond, nat_le, List, [], ◌∷◌}
+use Rattle.std.specs.Prelude.{◌≡◌, ℕ, ℤ, zero, suc, ◌+◌, ◌-◌, ◌*◌, ◌^◌, ◌≤◌, min, Bool, true, not, ◌&&◌, ◌||◌, ◌==◌, cond, nat_le, List, [], ◌∷◌}
 use Rattle.std.specs.Prelude.{length, slice_index}
 use Rattle.vx_table.specs.declared.rows.Term.{Term}
 use Rattle.vx_table.specs.declared.rows.Term.TheVariants.{Number, Latest}
@@ -16,7 +16,7 @@ use Rattle.vx_table.specs.declared.rows.Presence.TheVariants.{When, Repeat}
 use Rattle.vx_table.specs.declared.rows.Row.{Row}
 use Rattle.vx_table.specs.declared.rows.Row.TheVariants.{Field, Block, Name}
 use Rattle.vx_table.specs.Scope.{most, capped}
-use Rattle.vx_table.specs.Forms.{Form, form_of}
+use Rattle.vx_table.specs.Forms.{Form, has_value, form_of}
 use Rattle.vx_table.specs.Parts.{Section, sections_form}
 use Rattle.vx_table.specs.EachField.{rows_pass}
 use Rattle.vx_table.specs.Values.{Follows, bits_along}
@@ -79,7 +79,8 @@ presence_keeps bounds (When holds) = true
 presence_keeps bounds (Repeat counter times) = nat_le (greatest_value bounds times) (greatest bounds counter)
 
 unfoldable pub row_keeps : List Bound → Row → Bool
-row_keeps bounds (Field c) = nat_le (min (greatest_coded bounds c.coding) (greatest_ranged bounds c.limits)) (greatest bounds c.field)
+row_keeps bounds (Field c) =
+    not (has_value c.coding) || nat_le (min (greatest_coded bounds c.coding) (greatest_ranged bounds c.limits)) (greatest bounds c.field)
 row_keeps bounds (Block presence n) = presence_keeps bounds presence
 row_keeps bounds (Name name formula) = nat_le (greatest_value bounds formula) (greatest bounds name)
 
