@@ -1,11 +1,11 @@
 -- A slice header ends in a one and zeros up to a byte boundary: so its bytes are whole, and the last isn't 00.
-use Rattle.std.proofs.Common.{ℕ, ℤ, List, [], ◌∷◌, ◌++◌, refl}
+use Rattle.std.proofs.Common.{◌≡◌, Bool, ℕ, ℤ, ◌%◌, List, [], ◌∷◌, ◌++◌, length, refl, arith}
 use Rattle.vx_table.specs.Claims.{comes_always}
 use Rattle.vx_table.specs.Forms.{◌>>=◌, form_of}
 use Rattle.vx_table.specs.Parts.{sections_form}
 use Rattle.vx_table.specs.Trailing.{EndsWithStop, EndsInStop, is_stop, ends_in_stop, sections_end_in_stop}
 use Rattle.vx_table.specs.Values.{Follows, bits_along}
-use Rattle.vx_table.proofs.Stopped.{sections_stop, stops_behind}
+use Rattle.vx_table.proofs.Stopped.{at_boundary, sections_stop, stops_behind}
 use Rattle.vx_sh.specs.declared.tables.TheConstants.{HEADER_INSIDE}
 use Rattle.vx_rpl.specs.declared.entry.RplTable.{RplTable}
 use Rattle.vx_sh.specs.Slice.{behind_weights, weights_here, before_weights, rest_form}
@@ -26,3 +26,7 @@ slice_stops n = stops_behind (form_of HEADER_INSIDE n.slice >>= header_inside n.
 
 pub slice_ends : (n : At) (values : List ℤ) (end : List ℕ) → Follows (slice_form n) values end → EndsWithStop 0 (bits_along (slice_form n) 0 values)
 slice_ends n values end follows = (slice_stops n).at 0 values end follows
+
+-- bits that end so are those of whole bytes
+pub whole_bytes : (bits : List Bool) → EndsWithStop 0 bits → length bits % 8 ≡ 0
+whole_bytes bits ends = omega (arith, at_boundary 0 bits ends)

@@ -1,8 +1,8 @@
 use Rattle.std.proofs.Common.{subst, sym, ◌∙◌}
 use Rattle.vx_sh.specs.Whole.{at_of}
 use Rattle.vx_sh.proofs.Sized.{all_follow}
-use Rattle.vx_sh.proofs.Stopped.{slice_ends}
-use Rattle.vx_table.proofs.Stopped.{at_boundary, last_byte}
+use Rattle.vx_sh.proofs.Stopped.{slice_ends, whole_bytes}
+use Rattle.vx_table.proofs.Stopped.{last_byte}
 use Rattle.vx_table.specs.Trailing.{EndsWithStop}
 use Rattle.vx_sh.proofs.write.write_slice_at.Goals as goal
 
@@ -10,7 +10,7 @@ pub into_bytes-requires : goal.into_bytes-requires
 into_bytes-requires c =
     let written = rw c.in-Ok.is at c.write_fields.ensures in
     let f = written.0.slice in
-    rw (written.1) (at_boundary 0 _ (slice_ends (at_of c.args.n.now) _ f.end (all_follow (at_of c.args.n.now) _ _ f)))
+    rw (written.1) (whole_bytes _ (slice_ends (at_of c.args.n.now) _ f.end (all_follow (at_of c.args.n.now) _ _ f)))
 
 pub returns-in-Ok : goal.returns-in-Ok
 returns-in-Ok c =
