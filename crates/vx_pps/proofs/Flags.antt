@@ -1,5 +1,5 @@
 -- Flags of picture headers that a picture parameter set keeps in the place of absent ones too, by their numbers.
-use Rattle.std.proofs.Common.{◌≡◌, ℕ, ℤ, pos, negsuc, zero, suc, ◌+◌, ◌<◌, ◌||◌, ◌&&◌, true, false, List, ◌++◌, length, slice_index, slice_set, sym, ap, ◌∙◌, subst, arith, refl}
+use Rattle.std.proofs.Common.{◌≡◌, ℕ, ℤ, pos, negsuc, zero, suc, ◌<◌, ◌||◌, ◌&&◌, false, List, ◌++◌, length, slice_index, slice_set, sym, ap, ◌∙◌, subst, arith, refl}
 use Rattle.std.proofs.lemmas.Bool.{true≢false}
 use Rattle.vx_bits.specs.declared.list.Item.{Item}
 use Rattle.vx_fields.specs.declared.pps.TheConstants as pps

@@ -5,6 +5,7 @@ mod Sizing
 mod Turning
 mod Told
 pub mod Sets
+pub mod Short
 mod Spelling
 mod Ended
 mod Named

@@ -1,6 +1,6 @@
 -- A picture parameter set that was read, written or sifted.
-use Rattle.std.proofs.Common.{◌≡◌, inl, inr, ℕ, ℤ, ◌+◌, ◌-◌, ◌%◌, Bool, List, [], ◌++◌, length, take, Result, Ok, Err, refl, sym, ap, subst, ◌∙◌, arith}
-use Rattle.std.proofs.lemmas.List.{append-nil, take_all, length-append}
+use Rattle.std.proofs.Common.{◌≡◌, inl, inr, ℕ, ℤ, ◌+◌, ◌-◌, ◌%◌, Bool, List, [], length, take, Result, Ok, Err, refl, sym, ap, subst, ◌∙◌, arith}
+use Rattle.std.proofs.lemmas.List.{append-nil, take_all}
 use Rattle.vx_bits.specs.declared.list.Item.{Item}
 use Rattle.vx_bits.specs.declared.refusal.ReadError.{ReadError}
 use Rattle.vx_bits.specs.declared.refusal.ReadError.TheVariants as errors
@@ -18,7 +18,6 @@ use Rattle.vx_table.specs.Writing.{AreItemsOf, WritesField}
 use Rattle.vx_table.specs.declared.writer.SpellError.{SpellError}
 use Rattle.vx_table.specs.declared.writer.SpellError.TheVariants as spellings
 use Rattle.vx_table.proofs.Stopped.{at_boundary, sections_stop, stops_behind, stops_end}
-use Rattle.vx_table.proofs.Joined.{bits_joined, parted}
 use Rattle.vx_table.proofs.Keepings.{keeps}
 use Rattle.vx_table.proofs.Readings as readings
 use Rattle.vx_table.proofs.Writings as writings

@@ -40,6 +40,13 @@ NoProperPrefix =
     (items others : List Item) (bytes more : List ℕ) → IsSpelling items bytes → IsSpelling others (bytes ++ more)
     → (items ≡ others) × (more ≡ [])
 
+-- No set is long: its spelling has at most this many bytes.
+abbrev pub pps_limit : ℕ
+pps_limit = 2 ^ 16
+
+abbrev pub SpellingIsShort : Type 0
+SpellingIsShort = (items : List Item) (bytes : List ℕ) → IsSpelling items bytes → length bytes ≤ pps_limit
+
 -- ---- kept fields
 
 -- those that a region's set takes over, but for the QP and what is written anew of picture headers

@@ -1,5 +1,5 @@
 //! Laws of picture parameter sets: functions that do nothing, each with a law as its contract.
-ghost use Rattle.vx_pps.specs.Sets.{WrittenIsRead, NoProperPrefix, StarsTellKept, KeptDependsOnKept, KeptAndOthersTell, TilesAreInLimits, SetsTellPartitions, ReadSlicesAreListable};
+ghost use Rattle.vx_pps.specs.Sets.{WrittenIsRead, NoProperPrefix, SpellingIsShort, StarsTellKept, KeptDependsOnKept, KeptAndOthersTell, TilesAreInLimits, SetsTellPartitions, ReadSlicesAreListable};
 
 /// What is written of a set is read as it.
 pub fn written_is_read()
@@ -9,6 +9,11 @@ pub fn written_is_read()
 /// No spelling of a set is a proper prefix of another's.
 pub fn no_proper_prefix()
     ensures { NoProperPrefix }
+{}
+
+/// The spelling of a set has at most 2^16 bytes, by its limits on tiles and slices and the ranges of the fields that count others.
+pub fn spelling_is_short()
+    ensures { SpellingIsShort }
 {}
 
 /// The kept fields of a set are those without a star, and depend on kept fields and on pps_no_pic_partition_flag alone.
