@@ -8,6 +8,7 @@ pub mod Again
 pub mod Sent
 pub mod Finishing
 pub mod Editing
+pub mod Sublayers
 pub mod Listed
 pub mod Sizes
 pub mod PictureSizes

@@ -13,6 +13,7 @@ pub mod Written
 pub mod Resident
 pub mod Finished
 pub mod Edited
+pub mod Sublayers
 pub mod Laws
 pub mod PictureLayout
 pub mod UnderSets

@@ -14,6 +14,7 @@ mod kept_fields;
 mod kind;
 mod laws;
 mod laws_readers;
+mod laws_sublayers;
 mod laws_whole;
 mod layouts;
 mod lender;
@@ -41,6 +42,7 @@ pub use laws::{
     written_reads_again,
 };
 pub use laws_readers::{readers_are_unique, readers_exist};
+pub use laws_sublayers::{all_are_kept, kept_are_finished};
 pub use laws_whole::{pictures_have_sets, subpictures_have_slices};
 pub use layouts::{CTU_SIZE_FAULT, IDS_FAULT, picture_ids, picture_layout};
 pub use lender::Lender;
