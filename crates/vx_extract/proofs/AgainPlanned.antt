@@ -1,8 +1,7 @@
 -- What is written for the pictures of a stream is as plans have to be, so that it is read again.
-use Rattle.std.proofs.Common.{◌≡◌, ℕ, ◌<◌, Bool, true, not, List, [], ◌∷◌, map, Option, inl, inr, refl, sym, subst, arith}
-use Rattle.std.specs.Prelude.{filter}
+use Rattle.std.proofs.Common.{◌≡◌, ℕ, ◌<◌, true, not, List, [], ◌∷◌, map, Option, refl, sym, subst, arith}
 use Rattle.std.specs.List.{AllByRecursion}
-use Rattle.std.proofs.lemmas.Bool.{cases_Bool, eq-eqb}
+use Rattle.std.proofs.lemmas.Bool.{eq-eqb}
 use Rattle.std.proofs.lemmas.Bool.Decides.{Decides-int_eq}
 use Rattle.vx_bits.specs.declared.list.Item.{Item}
 use Rattle.vx_pps.specs.Sets.{SetsTellPartitions}
@@ -14,33 +13,20 @@ use Rattle.vx_pic.specs.Rules.{Readers}
 use Rattle.vx_pic.specs.H266.{AreOfH266}
 use Rattle.vx_pic.specs.Finished.{AreFinished, IsSound}
 use Rattle.vx_pic.specs.Edited.{AreEdits, EditsArePlanned}
-use Rattle.vx_pic.specs.Written.{Plan, Says, SetUnit, SliceReads, slices_of}
+use Rattle.vx_pic.specs.Written.{Plan, Says, SetUnit, slices_of}
 use Rattle.vx_pic.specs.Resident.{AreAllPlanned, HaveNamed, IsPlanned, is_resident, planned_of, sent_before}
 use Rattle.vx_pic.proofs.Sent.{items_are}
+use Rattle.vx_pic.proofs.Sublayers.{low_tid}
 use Rattle.vx_write.specs.Units.{IsSetUnit}
 use Rattle.vx_extract.specs.Written.{AreExtracted, IsExtracted}
 use Rattle.vx_extract.specs.Again.{ExtractedHasItsBodies, ExtractedIsAlike, ExtractedIsWhole, ExtractedSendsItsSets, ExtractedUnitsAreRead, IsReadable, IsReady, SeiUnitsAreRead, SetUnitsAreRead}
 use Rattle.vx_extract.proofs.AgainSame.{same_again}
+use Rattle.vx_extract.proofs.ReadyPictures.{each_passing}
 use Rattle.vx_write.proofs.Sizes.{subpics_count}
 
 same_itself : (items : List Item) → same_items items items ≡ true
 same_itself [] = refl
 same_itself (x ∷ items) = rw (eq-eqb x.field x.field refl, (Decides-int_eq x.value x.value).1 refl) (same_itself items)
-
--- those that are sent
-pub fewer_units : (P : SetUnit → Type 0) (test : SetUnit → Bool) (units : List SetUnit) → AllByRecursion P units → AllByRecursion P (filter test units)
-fewer_units P test [] all = tt
-fewer_units P test (u ∷ units) all = elim (cases_Bool (test u)) [
-  | inl on ↦ rw on (all.0, fewer_units P test units all.1)
-  | inr off ↦ rw off (fewer_units P test units all.1)
-]
-
--- TemporalId of a picture that was read
-pub low_tid : (R : Readers) (earlier : List Picture) (pic : Picture) → IsSound R earlier pic → pic.kind.temporal_id < 7
-low_tid R earlier pic sound =
-    let each = subst (λ xs. AllByRecursion (SliceReads R pic.begun pic.kind.nal_type) xs) sound.slices sound.each in
-    let at = each.0.tid in
-    omega (arith, at, sound.tid)
 
 module _ (R : Readers) (of : AreOfH266 R) (target : ℕ) (tells : SetsTellPartitions) (units_read : ExtractedUnitsAreRead) (wholes : ExtractedIsWhole) (sends : ExtractedSendsItsSets) (alikes : ExtractedIsAlike) (bodies : ExtractedHasItsBodies)
     (sets_read : SetUnitsAreRead) (sei_reads : SeiUnitsAreRead) (level : Option ℕ) where
@@ -59,9 +45,9 @@ module _ (R : Readers) (of : AreOfH266 R) (target : ℕ) (tells : SetsTellPartit
         let own = bodies target level (parts_of pic) done p ready.in_force ready.readable ready.there ex in
         let low = low_tid R earlier pic sound in
         let can : AllByRecursion (λ (u : SetUnit). IsReadable u.set) p.sent =
-        subst (λ xs. AllByRecursion (λ (u : SetUnit). IsReadable u.set) xs) (sym ex.sent) (fewer_units (λ (u : SetUnit). IsReadable u.set) (λ x. not (is_resident pic.kind.temporal_id (sent_before done p) x)) ex.needed own.readable) in
+        subst (λ xs. AllByRecursion (λ (u : SetUnit). IsReadable u.set) xs) (sym ex.sent) (each_passing (λ (u : SetUnit). IsReadable u.set) (λ x. not (is_resident pic.kind.temporal_id (sent_before done p) x)) ex.needed own.readable) in
         let written : AllByRecursion (λ (u : SetUnit). IsSetUnit pic.kind.temporal_id u.set u.unit) p.sent =
-        subst (λ xs. AllByRecursion (λ (u : SetUnit). IsSetUnit pic.kind.temporal_id u.set u.unit) xs) (sym ex.sent) (fewer_units (λ (u : SetUnit). IsSetUnit pic.kind.temporal_id u.set u.unit) (λ x. not (is_resident pic.kind.temporal_id (sent_before done p) x)) ex.needed ex.units) in
+        subst (λ xs. AllByRecursion (λ (u : SetUnit). IsSetUnit pic.kind.temporal_id u.set u.unit) xs) (sym ex.sent) (each_passing (λ (u : SetUnit). IsSetUnit pic.kind.temporal_id u.set u.unit) (λ x. not (is_resident pic.kind.temporal_id (sent_before done p) x)) ex.needed ex.units) in
         record {
           sets = all_say pic.kind.temporal_id p.sent low can written;
           sends = sent.sends;

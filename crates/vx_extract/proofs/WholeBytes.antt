@@ -20,15 +20,17 @@ use Rattle.vx_pic.specs.Units.{rbsp_of}
 use Rattle.vx_pic.specs.Streams.{Outcome, ending_of, pictures_of, read_on}
 use Rattle.vx_pic.specs.Bytes.{ArePictures, ending_by}
 use Rattle.vx_pic.specs.Finished.{AreFinished, IsSound, PicturesAreFinished}
+use Rattle.vx_pic.specs.Sublayers.{KeptAreFinished, at_most}
 use Rattle.vx_pic.specs.Laws.{WrittenHasPictures}
 use Rattle.vx_pic.specs.Written.{Plan, SeiUnit, Set, SetUnit, a_pps, an_aps, an_sps, eos_unit, eos_units, sei_units, slices_of, units_of}
 use Rattle.vx_pic.specs.Resident.{is_resident, sent_before, units_written}
+use Rattle.vx_pic.proofs.Sublayers.{low_tid}
 use Rattle.vx_write.specs.Units.{IsSeiUnit, IsSetUnit, IsUnitOf}
 use Rattle.vx_extract.specs.Written.{AreExtracted, IsExtracted, all_slots, is_named, slice_alone}
 use Rattle.vx_extract.specs.Whole.{ExtractedUnitsReadAgain, ExtractionReadsAgain, HaveShortSets, IsShort}
 use Rattle.vx_extract.proofs.AgainBodies.{slots_hold, units_hold}
-use Rattle.vx_extract.proofs.AgainPlanned.{fewer_units, low_tid}
 use Rattle.vx_extract.proofs.AgainSets.{front_of}
+use Rattle.vx_extract.proofs.ReadyPictures.{each_kept, each_passing}
 use Rattle.vx_extract.proofs.WholeSizes.{as_long, twice_at_most}
 use Rattle.vx_extract.proofs.WholeSource.{OfPicture, OfSet, OfSlices, OfUnit, have_units, sets_have}
 
@@ -162,7 +164,7 @@ module _ (splits : EscapedSplits) (unique : EscapedIsUnique) (R : Readers) (targ
 
     -- what holds of those that are needed holds of those that are sent
     sent_hold : (Q : SetUnit → Type 0) → AllByRecursion Q ex.needed → AllByRecursion Q p.sent
-    sent_hold Q all = subst (λ xs. AllByRecursion Q xs) (sym ex.sent) (fewer_units Q are_sent ex.needed all)
+    sent_hold Q all = subst (λ xs. AllByRecursion Q xs) (sym ex.sent) (each_passing Q are_sent ex.needed all)
 
     each_source : AllByRecursion (λ (x : SetUnit). HasSource x.set) ex.needed
     each_source = units_hold HasSource ex.needed (subst (λ xs. AllByRecursion HasSource xs) (sym ex.sets)
@@ -198,12 +200,13 @@ module _ (splits : EscapedSplits) (unique : EscapedIsUnique) (R : Readers) (targ
 ends_well : (o : Outcome) → ending_of o ≡ None → ending_by true None o ≡ None
 ends_well o none = ap (λ r. option_map (λ x. record { units = length o.before; refusal = x }) r) none
 
-pub reads_again : EscapedSplits → EscapedIsUnique → PicturesAreFinished → WrittenHasPictures → ExtractedUnitsReadAgain → ExtractionReadsAgain
-reads_again splits unique finished has_pictures reads R units target level bytes of sources has (done, were, same) short =
-    let pics : List Picture = pictures_of R units in
-    let own = have_units CanStand R units of (recursion_from_All CanStand units sources) in
-    let stand = all_stand splits unique R target level pics done (finished R units) own were short in
-    let again = reads R units target level done of has were in
+pub reads_again : EscapedSplits → EscapedIsUnique → PicturesAreFinished → KeptAreFinished → WrittenHasPictures → ExtractedUnitsReadAgain → ExtractionReadsAgain
+reads_again splits unique finished kept has_pictures reads R units target tid level bytes of sources fit (done, were, same) short =
+    let all : List Picture = pictures_of R units in
+    let pics : List Picture = at_most tid all in
+    let own = each_kept (OfPicture CanStand) tid all (have_units CanStand R units of (recursion_from_All CanStand units sources)) in
+    let stand = all_stand splits unique R target level pics done (kept R tid all (finished R units) fit.starts) own were short in
+    let again = reads R units target tid level done of fit were in
     let qs : List Picture = pictures_of R (units_written done) in
     let are = has_pictures R (units_written done) (All-from_recursion CanStand (units_written done) stand) in
     let ends = ends_well (read_on R [] (units_written done)) again.ends in

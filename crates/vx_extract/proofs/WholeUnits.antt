@@ -11,6 +11,7 @@ use Rattle.vx_pic.specs.Resident.{AllReadAgain, planned_of, units_written}
 use Rattle.vx_pic.specs.Rules.{structure}
 use Rattle.vx_pic.specs.Streams.{ending_of, pictures_of}
 use Rattle.vx_pic.specs.Finished.{AreFinished, PicturesAreFinished}
+use Rattle.vx_pic.specs.Sublayers.{KeptAreFinished, at_most}
 use Rattle.vx_extract.specs.Written.{AreExtracted}
 use Rattle.vx_extract.specs.Again.{AreRewritten, ExtractedReadsAgain, IsReady, RewrittenMakeRegion}
 use Rattle.vx_extract.specs.Kept.{AllKeepInputs, AllKeepMessages}
@@ -35,11 +36,11 @@ each_alone regions target level (pic ∷ pics) (p ∷ done) (ready, all) (ex, we
     let made = regions target level (parts_of pic) p.begun.sps p.begun.pps ready.in_force ready.has re in
     (made.alone, each_alone regions target level pics done all were)
 
-pub units_read_again : RewrittenMakeRegion → PicturesAreFinished → PicturesAreReady → ExtractedReadsAgain → AllKeepInputs → AllKeepMessages → ExtractedUnitsReadAgain
-units_read_again regions finished readies reads inputs messages R units target level done of has were =
-    let pics : List Picture = pictures_of R units in
-    let ready = readies R target units of has in
-    let ends : AreFinished R pics = finished R units in
+pub units_read_again : RewrittenMakeRegion → PicturesAreFinished → KeptAreFinished → PicturesAreReady → ExtractedReadsAgain → AllKeepInputs → AllKeepMessages → ExtractedUnitsReadAgain
+units_read_again regions finished kept readies reads inputs messages R units target tid level done of fit were =
+    let pics : List Picture = at_most tid (pictures_of R units) in
+    let ready = readies R target tid units of fit.has in
+    let ends : AreFinished R pics = kept R tid (pictures_of R units) (finished R units) fit.starts in
     let again : AllReadAgain R done = reads R target level pics done of ends ready were in
     let same : planned_of done ≡ pictures_of R (units_written done) = sym (ap (λ o. pictures o.before) again.read ∙ again.planned) in
     let are : AreOfSubpicture target pics (planned_of done) = record {

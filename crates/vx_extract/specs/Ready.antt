@@ -1,10 +1,11 @@
--- The pictures of a stream: a subpicture of each can be written so that it is read again.
+-- The pictures of a stream: a subpicture of each that is kept can be written so that it is read again.
 use Rattle.std.specs.List.{AllByRecursion}
 use Rattle.std.specs.Prelude.{ℕ, ◌<◌, IsTrue, List, All}
 use Rattle.vx_sei.specs.Sei.{is_carried}
 use Rattle.vx_sps.specs.Subpictures.{subpics_of}
 use Rattle.vx_pic.specs.Readings.{Picture, messages_of}
 use Rattle.vx_pic.specs.Parts.{AreThere, parts_of}
+use Rattle.vx_pic.specs.Sublayers.{at_most}
 use Rattle.vx_pic.specs.Rules.{Readers}
 use Rattle.vx_pic.specs.Streams.{pictures_of}
 use Rattle.vx_pic.specs.H266.{AreOfH266}
@@ -25,8 +26,9 @@ pub record HasItsReadings (p : Picture) : Type 0 where
 abbrev pub PicturesHaveTheirReadings : Type 0
 PicturesHaveTheirReadings = (R : Readers) (units : List (List ℕ)) → AreOfH266 R → AllByRecursion HasItsReadings (pictures_of R units)
 
--- So a subpicture that each picture has can be written.
+-- So a subpicture that each picture up to a TemporalId has can be written.
 abbrev pub PicturesAreReady : Type 0
 PicturesAreReady =
-    (R : Readers) (target : ℕ) (units : List (List ℕ)) → AreOfH266 R
-    → AllByRecursion (λ p. target < subpics_of p.begun.sps) (pictures_of R units) → AllByRecursion (IsReady target) (pictures_of R units)
+    (R : Readers) (target tid : ℕ) (units : List (List ℕ)) → AreOfH266 R
+    → AllByRecursion (λ p. target < subpics_of p.begun.sps) (at_most tid (pictures_of R units))
+    → AllByRecursion (IsReady target) (at_most tid (pictures_of R units))

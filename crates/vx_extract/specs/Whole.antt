@@ -1,4 +1,4 @@
--- What is written for a subpicture of a whole stream, read again.
+-- What is written for a subpicture of a whole stream, or of its pictures up to a TemporalId, read again.
 use Rattle.std.specs.List.{AllByRecursion}
 use Rattle.std.specs.Prelude.{◌≡◌, ℕ, ◌<◌, ◌≤◌, true, List, [], length, map, All, Option, None}
 use Rattle.vx_annexb.specs.ByteStream.{unit_limit}
@@ -11,6 +11,7 @@ use Rattle.vx_pic.specs.Written.{Plan, Set, a_pps, an_aps, an_sps}
 use Rattle.vx_pic.specs.Resident.{units_written}
 use Rattle.vx_pic.specs.Rules.{Readers}
 use Rattle.vx_pic.specs.Streams.{ending_of, pictures_of, read_on}
+use Rattle.vx_pic.specs.Sublayers.{KeepsStarts, at_most}
 use Rattle.vx_pic.specs.Bytes.{ArePictures}
 use Rattle.vx_pic.specs.H266.{AreOfH266}
 use Rattle.vx_extract.specs.Written.{AreExtracted, IsExtraction}
@@ -28,13 +29,19 @@ pub record UnitsAreOfSubpicture (R : Readers) (target : ℕ) (source : List Pict
   pub pictures : AreOfSubpicture target source (pictures_of R units)
   pub ends : ending_of (read_on R [] units) ≡ None
 
--- So it is with those that are written for a subpicture that each picture of a stream has.
+-- A subpicture can be written of the pictures up to a TemporalId (C.6): each of them has it, and no IRAP or GDR picture is left out. Up
+-- to 6 these are all pictures.
+pub record AreKeptWith (target tid : ℕ) (pictures : List Picture) : Type 0 where
+  pub has : AllByRecursion (λ p. target < subpics_of p.begun.sps) (at_most tid pictures)
+  pub starts : KeepsStarts tid pictures
+
+-- So it is with those that are written for a subpicture of the pictures of a stream up to a TemporalId.
 abbrev pub ExtractedUnitsReadAgain : Type 0
 ExtractedUnitsReadAgain =
-    (R : Readers) (units : List (List ℕ)) (target : ℕ) (level : Option ℕ) (done : List Plan) → AreOfH266 R
-    → AllByRecursion (λ p. target < subpics_of p.begun.sps) (pictures_of R units)
-    → AreExtracted target level (map parts_of (pictures_of R units)) done
-    → UnitsAreOfSubpicture R target (pictures_of R units) (units_written done)
+    (R : Readers) (units : List (List ℕ)) (target tid : ℕ) (level : Option ℕ) (done : List Plan) → AreOfH266 R
+    → AreKeptWith target tid (pictures_of R units)
+    → AreExtracted target level (map parts_of (at_most tid (pictures_of R units))) done
+    → UnitsAreOfSubpicture R target (at_most tid (pictures_of R units)) (units_written done)
 
 -- The rewritten sets that are sent have no unit that is longer than a unit may be.
 abbrev pub IsShort : Set → List ℕ → Type 0
@@ -48,7 +55,7 @@ HaveShortSets done = AllByRecursion (λ p. AllByRecursion (λ x. IsShort x.set x
 -- The bytes that are written of a stream, whose units can stand in one, have such pictures, and no rule refuses them.
 abbrev pub ExtractionReadsAgain : Type 0
 ExtractionReadsAgain =
-    (R : Readers) (units : List (List ℕ)) (target : ℕ) (level : Option ℕ) (bytes : List ℕ) → AreOfH266 R → All CanStand units
-    → AllByRecursion (λ p. target < subpics_of p.begun.sps) (pictures_of R units)
-    → (extraction : IsExtraction target level (map parts_of (pictures_of R units)) bytes) → HaveShortSets extraction.0
-    → (qs : List Picture) × ArePictures R bytes true qs None × AreOfSubpicture target (pictures_of R units) qs
+    (R : Readers) (units : List (List ℕ)) (target tid : ℕ) (level : Option ℕ) (bytes : List ℕ) → AreOfH266 R → All CanStand units
+    → AreKeptWith target tid (pictures_of R units)
+    → (extraction : IsExtraction target level (map parts_of (at_most tid (pictures_of R units))) bytes) → HaveShortSets extraction.0
+    → (qs : List Picture) × ArePictures R bytes true qs None × AreOfSubpicture target (at_most tid (pictures_of R units)) qs

@@ -21,7 +21,7 @@ pub fn pictures_have_their_readings()
     pictures_are_finished();
 }
 
-/// So a subpicture that each picture of a stream has can be written, and is read again.
+/// So a subpicture that each picture of a stream up to a TemporalId has can be written, and is read again.
 pub fn pictures_are_ready()
     ensures { PicturesAreReady }
 {
