@@ -1,16 +1,16 @@
 -- The lines of refusals: a word for each kind of line, by the letter of its rules.
-use Rattle.std.specs.Prelude.{◌≡◌, ℕ, ◌≤◌, ◌==◌, cond, List, [], ◌∷◌, codes, decimal}
+use Rattle.std.specs.Prelude.{◌≡◌, ℕ, ◌≤◌, ◌==◌, ◌||◌, Bool, cond, List, [], ◌∷◌, codes, decimal}
 use Rattle.std.specs.List.{concat}
 use Rattle.vx_bits.specs.declared.refusal.BitCause.{BitCause}
 use Rattle.vx_bits.specs.declared.refusal.BitCause.TheVariants.{Short, LongCode, BadTrailing, BadAlignment, OutOfRange}
 use Rattle.vx_bits.specs.declared.refusal.Refusal.{Refusal}
 use Rattle.vx_bits.specs.declared.refusal.Refusal.TheVariants.{Framing, Syntax, Profile, Limit, Structure, Extract, Merge}
-use Rattle.vx_bits.specs.declared.rules.TheConstants.{LONG_SOURCE, SET_MISSING, LAYOUT}
+use Rattle.vx_bits.specs.declared.rules.TheConstants.{LONG_SOURCE, TOO_MANY_SOURCES, SET_MISSING, LAYOUT, SPS_TOOLS, PPS_TOOLS, PICTURE_HEADER}
 use Rattle.vx_aps.specs.declared.aps.TheConstants as aps
 use Rattle.vx_pic.specs.declared.sets.TheConstants as sets
 use Rattle.vx_report.specs.declared.refusal.Where.{Where}
 
--- a rule that a source breaks, or an extraction from one; one on a missing set names a kind of sets
+-- a rule that a source breaks, or an extraction from one, or a merge of several; one on a missing set names a kind of sets
 abbrev pub HasLine : Refusal → Type 0
 HasLine (Framing code byte) = Unit {0}
 HasLine (Syntax field bit cause) = Unit {0}
@@ -18,7 +18,7 @@ HasLine (Profile code) = Unit {0}
 HasLine (Limit code) = Unit {0}
 HasLine (Structure code kind id) = code ≡ SET_MISSING → kind ≤ sets.PPS
 HasLine (Extract code) = Unit {0}
-HasLine (Merge code source field) = ⊥
+HasLine (Merge code source field) = Unit {0}
 
 -- ---- words
 
@@ -61,6 +61,14 @@ abbrev pub source_limit_text : ℕ → Where → List ℕ
 source_limit_text code place = concat
     (codes "L" ∷ decimal code ∷ codes " source " ∷ decimal place.source ∷ codes "\n" ∷ [])
 
+-- `L4`, for what the words name
+abbrev pub words_limit_text : ℕ → List ℕ
+words_limit_text code = concat (codes "L" ∷ decimal code ∷ codes "\n" ∷ [])
+
+-- `L6 picture 5`, for what is to be written
+abbrev pub written_limit_text : ℕ → Where → List ℕ
+written_limit_text code place = concat (codes "L" ∷ decimal code ∷ codes " picture " ∷ decimal place.picture ∷ codes "\n" ∷ [])
+
 -- `P4 source 0 unit 3`, and with other letters `L1 source 0 unit 3`, `S4 source 0 unit 3`
 abbrev pub unit_text : List ℕ → ℕ → Where → List ℕ
 unit_text letter code place = concat
@@ -89,15 +97,43 @@ layout_text fault place = concat
 abbrev pub extract_text : ℕ → Where → List ℕ
 extract_text code place = concat (codes "E" ∷ decimal code ∷ codes " picture " ∷ decimal place.picture ∷ codes "\n" ∷ [])
 
+-- `M3 picture 5 source 1`
+abbrev pub round_text : ℕ → ℕ → Where → List ℕ
+round_text code source place = concat
+    (codes "M" ∷ decimal code
+    ∷ codes " picture " ∷ decimal place.picture
+    ∷ codes " source " ∷ decimal source ∷ codes "\n" ∷ [])
+
+-- `M7 picture 5 source 1 field 439`
+abbrev pub round_field_text : ℕ → ℕ → ℕ → Where → List ℕ
+round_field_text code source of place = concat
+    (codes "M" ∷ decimal code
+    ∷ codes " picture " ∷ decimal place.picture
+    ∷ codes " source " ∷ decimal source
+    ∷ codes " field " ∷ decimal of ∷ codes "\n" ∷ [])
+
 -- ---- the line of a refusal
 
+abbrev pub source_or_unit_text : ℕ → Where → List ℕ
+source_or_unit_text code place = cond (code == LONG_SOURCE) (source_limit_text code place) (unit_text (codes "L") code place)
+
+-- a limit on what the words name, on what is to be written, or on what is read
 abbrev pub limit_text : ℕ → Where → List ℕ
-limit_text code place = cond (code == LONG_SOURCE) (source_limit_text code place) (unit_text (codes "L") code place)
+limit_text code place =
+    cond (code == TOO_MANY_SOURCES) (words_limit_text code)
+    (cond place.written (written_limit_text code place) (source_or_unit_text code place))
 
 abbrev pub structure_text : ℕ → ℕ → ℕ → Where → List ℕ
 structure_text code kind id place =
     cond (code == SET_MISSING) (missing_text kind id place)
     (cond (code == LAYOUT) (layout_text id place) (unit_text (codes "S") code place))
+
+-- the rules of a merge that compare fields
+abbrev pub names_field : ℕ → Bool
+names_field code = (code == SPS_TOOLS) || ((code == PPS_TOOLS) || (code == PICTURE_HEADER))
+
+abbrev pub merge_text : ℕ → ℕ → ℕ → Where → List ℕ
+merge_text code source of place = cond (names_field code) (round_field_text code source of place) (round_text code source place)
 
 abbrev pub refusal_text : Refusal → Where → List ℕ
 refusal_text (Framing code byte) place = framing_text code byte place
@@ -106,5 +142,4 @@ refusal_text (Profile code) place = unit_text (codes "P") code place
 refusal_text (Limit code) place = limit_text code place
 refusal_text (Structure code kind id) place = structure_text code kind id place
 refusal_text (Extract code) place = extract_text code place
--- no source breaks these alone
-refusal_text (Merge code source field) place = []
+refusal_text (Merge code source field) place = merge_text code source field place

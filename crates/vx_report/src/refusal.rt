@@ -6,7 +6,9 @@ ghost use Rattle.vx_report.specs.RefusalLine.{refusal_text};
 
 use std::alloc::{AllocError, Global};
 use vx_aps::{ALF, LMCS, SCALING};
-use vx_bits::rules::{LAYOUT, LONG_SOURCE, SET_MISSING};
+use vx_bits::rules::{
+    LAYOUT, LONG_SOURCE, PICTURE_HEADER, PPS_TOOLS, SET_MISSING, SPS_TOOLS, TOO_MANY_SOURCES,
+};
 use vx_bits::{BitCause, Refusal};
 use vx_pic::SPS;
 
@@ -26,8 +28,10 @@ pub struct Where {
 /// The line of a rule that a source breaks, with its line feed, by the rule's kind:
 /// `F3 source 0 byte 5`, `Y source 0 unit 0 field 22 bit 40 Short`, `P4 source 0 unit 3`,
 /// `L1 source 0 unit 3`, and `L3 source 0` of the whole source, `S4 source 0 unit 3`, with
-/// the set in `S1 source 0 unit 1 PPS 3` and the fault in `S12 source 0 unit 2 layout 3`; and of a rule
-/// that an extraction breaks, `E2 picture 5`. It is empty for a rule that no source breaks alone.
+/// the set in `S1 source 0 unit 1 PPS 3` and the fault in `S12 source 0 unit 2 layout 3`; of a rule
+/// that an extraction breaks, `E2 picture 5`; of one that the pictures of a merge break, `M3 picture 5 source 1`,
+/// with the field in `M7 picture 5 source 1 field 439`; and of a limit on what is to be written, `L6 picture 5`, or on
+/// what the words name, `L4`.
 pub fn refusal_line(alloc: Global, refusal: Refusal, place: Where) -> Result<Vec<u8>, AllocError>
     ensures { IfOk result (λ line. line.items ≡ refusal_text refusal place) }
 {
@@ -38,7 +42,11 @@ pub fn refusal_line(alloc: Global, refusal: Refusal, place: Where) -> Result<Vec
         Refusal::Limit { code } => limit_line(alloc, code, place),
         Refusal::Structure { code, kind, id } => structure_line(alloc, code, kind, id, place),
         Refusal::Extract { code } => extract_line(alloc, code, place),
-        Refusal::Merge { .. } => Ok(String::new(alloc)),
+        Refusal::Merge {
+            code,
+            source,
+            field,
+        } => merge_line(alloc, code, source, field, place),
     }?;
     Ok(text.into_bytes())
 }
@@ -87,10 +95,28 @@ fn profile_line(alloc: Global, code: u8, place: Where) -> Result<String, AllocEr
 fn limit_line(alloc: Global, code: u8, place: Where) -> Result<String, AllocError>
     ensures { IfOk result (λ text. string_bytes text ≡ line.limit_text code place) }
 {
+    if code == TOO_MANY_SOURCES {
+        return words_limit_line(alloc, code);
+    }
+    if place.written {
+        return written_limit_line(alloc, code, place);
+    }
     match code {
         LONG_SOURCE => source_limit_line(alloc, code, place),
         _ => unit_limit_line(alloc, code, place),
     }
+}
+
+fn words_limit_line(alloc: Global, code: u8) -> Result<String, AllocError>
+    ensures { IfOk result (λ text. string_bytes text ≡ line.words_limit_text code) }
+{
+    format!(in alloc; "L{code}\n")
+}
+
+fn written_limit_line(alloc: Global, code: u8, place: Where) -> Result<String, AllocError>
+    ensures { IfOk result (λ text. string_bytes text ≡ line.written_limit_text code place) }
+{
+    format!(in alloc; "L{code} picture {}\n", place.picture)
 }
 
 fn source_limit_line(alloc: Global, code: u8, place: Where) -> Result<String, AllocError>
@@ -164,4 +190,47 @@ fn extract_line(alloc: Global, code: u8, place: Where) -> Result<String, AllocEr
     ensures { IfOk result (λ text. string_bytes text ≡ line.extract_text code place) }
 {
     format!(in alloc; "E{code} picture {}\n", place.picture)
+}
+
+fn merge_line(
+    alloc: Global,
+    code: u8,
+    source: u16,
+    field: u16,
+    place: Where,
+) -> Result<String, AllocError>
+    ensures { IfOk result (λ text. string_bytes text ≡ line.merge_text code source field place) }
+{
+    if names_field(code) {
+        return round_field_line(alloc, code, source, field, place);
+    }
+    round_line(alloc, code, source, place)
+}
+
+/// Whether the rule compares fields.
+fn names_field(code: u8) -> bool
+    ensures { result ≡ line.names_field code }
+{
+    matches!(code, SPS_TOOLS | PPS_TOOLS | PICTURE_HEADER)
+}
+
+fn round_line(alloc: Global, code: u8, source: u16, place: Where) -> Result<String, AllocError>
+    ensures { IfOk result (λ text. string_bytes text ≡ line.round_text code source place) }
+{
+    format!(in alloc; "M{code} picture {} source {source}\n", place.picture)
+}
+
+fn round_field_line(
+    alloc: Global,
+    code: u8,
+    source: u16,
+    field: u16,
+    place: Where,
+) -> Result<String, AllocError>
+    ensures { IfOk result (λ text. string_bytes text ≡ line.round_field_text code source field place) }
+{
+    format!(in alloc;
+        "M{code} picture {} source {source} field {field}\n",
+        place.picture
+    )
 }

@@ -172,6 +172,58 @@ fn extract_lines(rt: HostRuntime) -> Result<(), Fail> {
 }
 
 #[test]
+fn merge_lines(rt: HostRuntime) -> Result<(), Fail> {
+    for (code, field, line) in [
+        (rules::SEVERAL_SUBPICTURES, 0, "M1 picture 5 source 63\n"),
+        (rules::SPS_TOOLS, 130, "M2 picture 5 source 63 field 130\n"),
+        (rules::GEOMETRY, 0, "M3 picture 5 source 63\n"),
+        (rules::PPS_TOOLS, 439, "M7 picture 5 source 63 field 439\n"),
+        (
+            rules::PICTURE_HEADER,
+            65_535,
+            "M8 picture 5 source 63 field 65535\n",
+        ),
+        (rules::SHARED_SETS, 613, "M9 picture 5 source 63\n"),
+        (rules::LENGTH, 0, "M14 picture 5 source 63\n"),
+        (rules::COLLOCATED, 0, "M16 picture 5 source 63\n"),
+    ] {
+        let refusal = Refusal::Merge {
+            code,
+            source: 63,
+            field,
+        };
+        let made = refusal_line(rt.alloc(), refusal, somewhere())?;
+        assert_eq!(rt; made.as_slice(), line.as_bytes());
+    }
+    Ok(())
+}
+
+#[test]
+fn limit_lines_of_a_merge(rt: HostRuntime) -> Result<(), Fail> {
+    let place = Where {
+        source: 0,
+        unit: 0,
+        picture: 18_446_744_073_709_551_615,
+        written: true,
+    };
+    for (code, line) in [
+        (rules::LONG_UNIT, "L1 picture 18446744073709551615\n"),
+        (rules::LONG_PICTURE, "L2 picture 18446744073709551615\n"),
+        (rules::LONG_SOURCE, "L3 picture 18446744073709551615\n"),
+        (rules::TOO_MANY_SOURCES, "L4\n"),
+        (rules::TOO_MANY_SLICES, "L5 picture 18446744073709551615\n"),
+        (rules::TOO_LARGE, "L6 picture 18446744073709551615\n"),
+    ] {
+        let made = refusal_line(rt.alloc(), Refusal::Limit { code }, place)?;
+        assert_eq!(rt; made.as_slice(), line.as_bytes());
+    }
+    let code = rules::TOO_MANY_SOURCES;
+    let made = refusal_line(rt.alloc(), Refusal::Limit { code }, somewhere())?;
+    assert_eq!(rt; made.as_slice(), b"L4\n".as_slice());
+    Ok(())
+}
+
+#[test]
 fn vps_lines(rt: HostRuntime) -> Result<(), Fail> {
     for (rbsp, line) in [
         (
