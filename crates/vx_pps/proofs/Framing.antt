@@ -45,7 +45,7 @@ inside_one base more x inside is = record {
   ];
 }
 
-inside_all : (base more xs : List ℕ) → Inside base more → is_inside more xs ≡ true → Inside (with_all base xs) more
+pub inside_all : (base more xs : List ℕ) → Inside base more → is_inside more xs ≡ true → Inside (with_all base xs) more
 inside_all base more [] inside is = inside
 inside_all base more (x ∷ xs) inside is =
     let parts = and_parts (has more x) (is_inside more xs) is in
@@ -53,10 +53,10 @@ inside_all base more (x ∷ xs) inside is =
 
 -- ---- shown items of parts
 
-unshown_first : (set : List ℕ) (a b : List Item) → shown_items set a ≡ [] → shown_items set (a ++ b) ≡ shown_items set b
+pub unshown_first : (set : List ℕ) (a b : List Item) → shown_items set a ≡ [] → shown_items set (a ++ b) ≡ shown_items set b
 unshown_first set a b none = filter-append (λ x. has set x.field) a b ∙ ap (λ xs. xs ++ shown_items set b) none
 
-unshown_behind : (set : List ℕ) (a b : List Item) → shown_items set b ≡ [] → shown_items set (a ++ b) ≡ shown_items set a
+pub unshown_behind : (set : List ℕ) (a b : List Item) → shown_items set b ≡ [] → shown_items set (a ++ b) ≡ shown_items set a
 unshown_behind set a b none = filter-append (λ x. has set x.field) a b ∙ ap (λ xs. shown_items set a ++ xs) none ∙ append-nil (shown_items set a)
 
 -- ---- a structure cut in two: what it shows and keeps
@@ -68,12 +68,12 @@ module _ (first more : List Section) (s : List ℕ) {values : List ℤ} {last : 
   both_kept : kept_along (sections_form (first ++ more) s) values ≡ kept_along (sections_form first s) q.front ++ kept_along (sections_form more q.mid) q.others
   both_kept = ap (kept_along (sections_form (first ++ more) s)) q.all ∙ cut_kept first more s q.others q.first
 
-  shows_first : (set : List ℕ) → sections_pass (hides_row set) more ≡ true → shown_items set (items_along (sections_form (first ++ more) s) values) ≡ shown_items set (items_along (sections_form first s) q.front)
+  pub shows_first : (set : List ℕ) → sections_pass (hides_row set) more ≡ true → shown_items set (items_along (sections_form (first ++ more) s) values) ≡ shown_items set (items_along (sections_form first s) q.front)
   shows_first set hides =
       ap (shown_items set) both_items
       ∙ unshown_behind set (items_along (sections_form first s) q.front) (items_along (sections_form more q.mid) q.others) (none_shown set (sections_unshown set more q.mid hides) q.second)
 
-  shows_more : (set : List ℕ) → sections_pass (hides_row set) first ≡ true → shown_items set (items_along (sections_form (first ++ more) s) values) ≡ shown_items set (items_along (sections_form more q.mid) q.others)
+  pub shows_more : (set : List ℕ) → sections_pass (hides_row set) first ≡ true → shown_items set (items_along (sections_form (first ++ more) s) values) ≡ shown_items set (items_along (sections_form more q.mid) q.others)
   shows_more set hides =
       ap (shown_items set) both_items
       ∙ unshown_first set (items_along (sections_form first s) q.front) (items_along (sections_form more q.mid) q.others) (none_shown set (sections_unshown set first s hides) q.first)
@@ -84,7 +84,7 @@ flags_clear : Clear dbf_flag × Clear info_flags
 flags_clear = (clear_from (pps.pps_dbf_info_in_ph_flag ∷ []) refl, clear_from (pps.pps_rpl_info_in_ph_flag ∷ pps.pps_sao_info_in_ph_flag ∷ pps.pps_wp_info_in_ph_flag ∷ []) refl)
 
 module _ {items : List Item} {end_ : Partition} (p : Parts items end_) where
-  from_front : (set : List ℕ) → Clear set → sections_pass (hides_row set) tools ≡ true → shown_items set items ≡ shown_items set (items_along (sections_form front fresh) p.first.values)
+  pub from_front : (set : List ℕ) → Clear set → sections_pass (hides_row set) tools ≡ true → shown_items set items ≡ shown_items set (items_along (sections_form front fresh) p.first.values)
   from_front set clear hides =
       let none_division = (division_unshown set p.scope clear p.second).0 in
       let none_tools : shown_items set p.tool_items ≡ [] = ap (shown_items set) (sym p.third.given) ∙ none_shown set (sections_unshown set tools p.scope hides) p.third.follows in
@@ -97,19 +97,19 @@ module _ {items : List Item} {end_ : Partition} (p : Parts items end_) where
       ap (shown_items set) p.all ∙ unshown_first set p.front_items (p.division ++ p.tool_items) none_front ∙ unshown_first set p.division p.tool_items none_division ∙ ap (shown_items set) (sym p.third.given)
 
   -- the tools cut before and behind each of the two tables
-  at_dbf : Parted (sections_form before_dbf p.scope) (sections_form from_dbf) p.third.values p.last
+  pub at_dbf : Parted (sections_form before_dbf p.scope) (sections_form from_dbf) p.third.values p.last
   at_dbf = cut before_dbf from_dbf p.scope p.third.follows
 
-  at_offsets : Parted (sections_form dbf_info at_dbf.mid) (sections_form (dbf_offsets ++ from_info)) at_dbf.others p.last
+  pub at_offsets : Parted (sections_form dbf_info at_dbf.mid) (sections_form (dbf_offsets ++ from_info)) at_dbf.others p.last
   at_offsets = cut dbf_info (dbf_offsets ++ from_info) at_dbf.mid at_dbf.second
 
-  at_info : Parted (sections_form dbf_offsets at_offsets.mid) (sections_form from_info) at_offsets.others p.last
+  pub at_info : Parted (sections_form dbf_offsets at_offsets.mid) (sections_form from_info) at_offsets.others p.last
   at_info = cut dbf_offsets from_info at_offsets.mid at_offsets.second
 
-  at_end : Parted (sections_form header_info at_info.mid) (sections_form end) at_info.others p.last
+  pub at_end : Parted (sections_form header_info at_info.mid) (sections_form end) at_info.others p.last
   at_end = cut header_info end at_info.mid at_info.second
 
-  kept_runs : kept_along (sections_form tools p.scope) p.third.values
+  pub kept_runs : kept_along (sections_form tools p.scope) p.third.values
       ≡ kept_along (sections_form before_dbf p.scope) at_dbf.front ++ (kept_along (sections_form dbf_info at_dbf.mid) at_offsets.front ++ (kept_along (sections_form dbf_offsets at_offsets.mid) at_info.front
       ++ (kept_along (sections_form header_info at_info.mid) at_end.front ++ kept_along (sections_form end at_end.mid) at_end.others)))
   kept_runs =
@@ -119,17 +119,17 @@ module _ {items : List Item} {end_ : Partition} (p : Parts items end_) where
       ∙ ap (λ k. kept_along (sections_form dbf_offsets at_offsets.mid) at_info.front ++ k) (both_kept header_info end at_info.mid at_end)))
 
   -- a set's shown items, by the run that has them
-  from_early : (set : List ℕ) → Clear set → IsAside set front → IsAside set from_dbf → shown_items set items ≡ shown_items set (items_along (sections_form before_dbf p.scope) at_dbf.front)
+  pub from_early : (set : List ℕ) → Clear set → IsAside set front → IsAside set from_dbf → shown_items set items ≡ shown_items set (items_along (sections_form before_dbf p.scope) at_dbf.front)
   from_early set clear a b = from_tools set clear a ∙ shows_first before_dbf from_dbf p.scope at_dbf set b
 
   from_table : (set : List ℕ) → Clear set → IsAside set front → IsAside set before_dbf → shown_items set items ≡ shown_items set (items_along (sections_form from_dbf at_dbf.mid) at_dbf.others)
   from_table set clear a b = from_tools set clear a ∙ shows_more before_dbf from_dbf p.scope at_dbf set b
 
-  from_rest : (set : List ℕ) → Clear set → IsAside set front → IsAside set before_dbf → IsAside set dbf_info
+  pub from_rest : (set : List ℕ) → Clear set → IsAside set front → IsAside set before_dbf → IsAside set dbf_info
       → shown_items set items ≡ shown_items set (items_along (sections_form (dbf_offsets ++ from_info) at_offsets.mid) at_offsets.others)
   from_rest set clear a b c = from_table set clear a b ∙ shows_more dbf_info (dbf_offsets ++ from_info) at_dbf.mid at_offsets set c
 
-  from_headers : (set : List ℕ) → Clear set → IsAside set front → IsAside set before_dbf → IsAside set dbf_info → IsAside set dbf_offsets
+  pub from_headers : (set : List ℕ) → Clear set → IsAside set front → IsAside set before_dbf → IsAside set dbf_info → IsAside set dbf_offsets
       → shown_items set items ≡ shown_items set (items_along (sections_form from_info at_info.mid) at_info.others)
   from_headers set clear a b c d = from_rest set clear a b c ∙ shows_more dbf_offsets from_info at_offsets.mid at_info set d
 
@@ -162,7 +162,7 @@ module _ {items : List Item} {end_ : Partition} (p : Parts items end_) where
   info_scope : Agree numbered at_info.mid p.last
   info_scope = leaves_agree numbered (sections_form from_info) at_info.mid at_info.others p.last (sections_leave numbered from_info info_stands) at_info.second
 
-  dbf_keeps : (kept_along (sections_form dbf_info at_dbf.mid) at_offsets.front ≡ item pps.pps_dbf_info_in_ph_flag (pos (number items pps.pps_dbf_info_in_ph_flag)))
+  pub dbf_keeps : (kept_along (sections_form dbf_info at_dbf.mid) at_offsets.front ≡ item pps.pps_dbf_info_in_ph_flag (pos (number items pps.pps_dbf_info_in_ph_flag)))
       × (number items pps.pps_deblocking_filter_override_enabled_flag ≡ 0 → number items pps.pps_dbf_info_in_ph_flag ≡ 0)
   unfolding fresh
   dbf_keeps =
@@ -173,7 +173,7 @@ module _ {items : List Item} {end_ : Partition} (p : Parts items end_) where
       (subst (λ n. n < 2) (sym over) (flag_below p pps.pps_deblocking_filter_override_enabled_flag flags_are.3 (λ low high. omega (arith, high)))) at_offsets.first in
       (k.kept_is ∙ ap (λ n. item pps.pps_dbf_info_in_ph_flag (pos n)) (sym dbf_number), λ none. dbf_number ∙ k.none (over ∙ none))
 
-  info_keeps : (kept_along (sections_form header_info at_info.mid) at_end.front ≡ flag_items (number items pps.pps_rpl_info_in_ph_flag) (number items pps.pps_sao_info_in_ph_flag) (number items pps.pps_wp_info_in_ph_flag))
+  pub info_keeps : (kept_along (sections_form header_info at_info.mid) at_end.front ≡ flag_items (number items pps.pps_rpl_info_in_ph_flag) (number items pps.pps_sao_info_in_ph_flag) (number items pps.pps_wp_info_in_ph_flag))
       × (has_weights items ≡ false → number items pps.pps_wp_info_in_ph_flag ≡ 0)
   unfolding fresh
   info_keeps =
@@ -196,7 +196,7 @@ module _ {items : List Item} {end_ : Partition} (p : Parts items end_) where
 
 -- ---- two sets
 
-runs_clear : Clear (set_of front_fields) × Clear (set_of early_fields) × Clear (set_of offsets_fields) × Clear (set_of end_fields)
+pub runs_clear : Clear (set_of front_fields) × Clear (set_of early_fields) × Clear (set_of offsets_fields) × Clear (set_of end_fields)
 runs_clear = (clear_from front_fields refl, clear_from early_fields refl, clear_from offsets_fields refl, clear_from end_fields refl)
 
 -- tables that are taken over keep the same

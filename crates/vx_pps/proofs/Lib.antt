@@ -32,3 +32,5 @@ pub mod Reshaping
 pub mod Flags
 pub mod Framing
 pub mod Remade
+pub mod Fields
+mod Numbered

@@ -1,6 +1,6 @@
 -- What holds of picture parameter sets: how they are spelled, and what their kept fields depend on.
 use Rattle.std.specs.Prelude.{◌≡◌, ◌⊎◌, ◌+◌, ◌^◌, ◌<◌, ◌≤◌, ◌&&◌, ℕ, Bool, not, true, false, List, [], ◌∷◌, ◌++◌, filter, length}
-use Rattle.std.specs.Prelude.{All, IfSome, is_some, Result, Ok, Err, Some}
+use Rattle.std.specs.Prelude.{All, IfSome, is_some, IsTrue, Result, Ok, Err, Some}
 use Rattle.std.specs.Int.{div_ceil}
 use Rattle.vx_bits.specs.declared.list.Item.{Item}
 use Rattle.vx_bits.specs.declared.refusal.ReadError.{ReadError}
@@ -24,7 +24,7 @@ use Rattle.vx_pps.specs.declared.partition.Partition.{Partition}
 use Rattle.vx_pps.specs.declared.tiles.Tiles.{Tiles}
 use Rattle.vx_pps.specs.Tiles.{IsGrid}
 use Rattle.vx_pps.specs.Partition.{partition}
-use Rattle.vx_pps.specs.Pps.{IsItems, IsPps, IsSpelling, columns_of, front, is_partitioned, pps_form, rows_of, slices_of, tools}
+use Rattle.vx_pps.specs.Pps.{IsItems, IsPps, IsSpelling, columns_of, default_active, front, is_partitioned, kept_of, pps_form, rows_of, slices_of, tools}
 
 -- ---- spelling
 
@@ -75,6 +75,16 @@ abbrev pub KeptAndOthersTell : Type 0
 KeptAndOthersTell =
     (items others : List Item) → IsItems items → IsItems others → shown_items (set_of kept) items ≡ shown_items (set_of kept) others
     → other_items (set_of kept) items ≡ other_items (set_of kept) others → items ≡ others
+
+-- Two sets give each kept field the same number, and have the same numbers of active entries.
+pub record GiveSame (items others : List Item) : Type 0 where
+  pub numbers : (n : ℕ) → IsTrue (has (set_of kept) n) → number items n ≡ number others n
+  pub active : (list : ℕ) → default_active items list ≡ default_active others list
+
+-- So do sets with the same kept items, those among them that stand for absent fields.
+abbrev pub KeptTellsNumbers : Type 0
+KeptTellsNumbers =
+    (items others : List Item) → IsItems items → IsItems others → kept_of items ≡ kept_of others → GiveSame items others
 
 -- ---- tiles
 

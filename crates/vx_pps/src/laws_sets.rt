@@ -1,5 +1,5 @@
 //! Laws of picture parameter sets: functions that do nothing, each with a law as its contract.
-ghost use Rattle.vx_pps.specs.Sets.{WrittenIsRead, NoProperPrefix, SpellingIsShort, StarsTellKept, KeptDependsOnKept, KeptAndOthersTell, TilesAreInLimits, SetsTellPartitions, ReadSlicesAreListable};
+ghost use Rattle.vx_pps.specs.Sets.{WrittenIsRead, NoProperPrefix, SpellingIsShort, StarsTellKept, KeptDependsOnKept, KeptAndOthersTell, KeptTellsNumbers, TilesAreInLimits, SetsTellPartitions, ReadSlicesAreListable};
 
 /// What is written of a set is read as it.
 pub fn written_is_read()
@@ -25,6 +25,11 @@ pub fn kept_depends_on_kept()
 /// Kept fields and the others tell the set.
 pub fn kept_and_others_tell()
     ensures { KeptAndOthersTell }
+{}
+
+/// Sets with the same kept items, those among them that stand for absent fields, give each kept field the same number.
+pub fn kept_tells_numbers()
+    ensures { KeptTellsNumbers }
 {}
 
 /// The tiles of a partitioned picture are in the limits of a layout.

@@ -41,8 +41,9 @@ pub use laws::{
 };
 pub use laws_reshaped::{frame_keeps, region_keeps, reshaped_has_its_tiles};
 pub use laws_sets::{
-    kept_and_others_tell, kept_depends_on_kept, no_proper_prefix, read_slices_are_listable,
-    sets_tell_partitions, spelling_is_short, tiles_are_in_limits, written_is_read,
+    kept_and_others_tell, kept_depends_on_kept, kept_tells_numbers, no_proper_prefix,
+    read_slices_are_listable, sets_tell_partitions, spelling_is_short, tiles_are_in_limits,
+    written_is_read,
 };
 pub use list::Listed;
 pub use partition::Partition;
