@@ -13,7 +13,7 @@ use Rattle.vx_pic.specs.Parts.{Parts, aps_at}
 use Rattle.vx_pic.specs.Written.{Set, an_sps, a_pps, an_aps}
 use Rattle.vx_write.specs.Sending.{AreOthers}
 use Rattle.vx_write.proofs.Held.{both}
-use Rattle.vx_write.proofs.Sending.{append_others}
+use Rattle.vx_write.proofs.SetBySet.{append_others}
 use Rattle.vx_extract.specs.Written.{same_slot, is_named, set_of_slot, aps_of_slot, all_slots, needed_sets}
 use Rattle.vx_extract.specs.inner.Sending.{sets_to}
 use Rattle.vx_extract.specs.inner.Needed.{slot_at, slot_count, needed_to}

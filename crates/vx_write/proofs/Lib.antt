@@ -7,5 +7,5 @@ pub mod Ending
 pub mod Held
 pub mod Tids
 pub mod Spelled
-pub mod Sending
+pub mod SetBySet
 pub mod Writing

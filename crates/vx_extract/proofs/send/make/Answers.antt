@@ -1,6 +1,6 @@
 use Rattle.vx_pic.specs.Resident.{history_of, kept_for}
 use Rattle.vx_extract.specs.Shapes.{sps_shape, pps_shape}
-use Rattle.vx_write.proofs.Sending.{sei_again}
+use Rattle.vx_write.proofs.SetBySet.{sei_again}
 use Rattle.vx_write.proofs.Spelled.{sps_items, pps_items}
 use Rattle.vx_extract.proofs.send.make.Goals as goal
 

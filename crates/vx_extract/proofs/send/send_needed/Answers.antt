@@ -1,6 +1,6 @@
 use Rattle.std.proofs.Common.{[], ◌∷◌, refl}
 use Rattle.vx_pic.specs.Written.{an_sps}
-use Rattle.vx_write.proofs.Sending.{none_more}
+use Rattle.vx_write.proofs.SetBySet.{none_more}
 use Rattle.vx_extract.proofs.send.send_needed.Goals as goal
 
 pub returns : goal.returns

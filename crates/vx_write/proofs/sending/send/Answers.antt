@@ -1,7 +1,7 @@
 use Rattle.std.proofs.Common.{◌≡◌, true, false, refl}
 use Rattle.vx_write.specs.Sets.{set_lent}
 use Rattle.vx_write.specs.Slots.{Sent, held_serves}
-use Rattle.vx_write.proofs.Sending.{kept_more, sent_more, pushed}
+use Rattle.vx_write.proofs.SetBySet.{kept_more, sent_more, pushed}
 use Rattle.vx_write.proofs.sending.send.Goals as goal
 
 pub returns-then-serves : goal.returns-then-serves
