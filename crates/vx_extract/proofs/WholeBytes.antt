@@ -1,5 +1,5 @@
 -- The units that are written for a whole stream can stand in one.
-use Rattle.std.proofs.Common.{◌≡◌, ℕ, zero, suc, ◌+◌, ◌*◌, ◌/◌, ◌%◌, ◌<◌, ◌≤◌, ◌==◌, true, false, not, List, [], ◌∷◌, ◌++◌, length, map, slice_index, Option, Some, None, refl, ap, sym, subst, ◌∙◌, inl, inr, arith}
+use Rattle.std.proofs.Common.{◌≡◌, ℕ, zero, suc, ◌+◌, ◌*◌, ◌/◌, ◌%◌, ◌^◌, ◌<◌, ◌≤◌, ◌==◌, true, false, not, List, [], ◌∷◌, ◌++◌, length, map, slice_index, Option, Some, None, refl, ap, sym, subst, ◌∙◌, inl, inr, arith}
 use Rattle.std.specs.Prelude.{Bool, filter, option_map, option_to_list}
 use Rattle.std.specs.List.{AllByRecursion}
 use Rattle.std.proofs.lemmas.Bool.{cases_Bool, true≢false}
@@ -10,6 +10,8 @@ use Rattle.vx_annexb.specs.ByteStream.{unit_limit}
 use Rattle.vx_annexb.specs.Laws.{CanStand, EscapedIsUnique, EscapedSplits, written}
 use Rattle.vx_aps.specs.Aps.{spelled}
 use Rattle.vx_layout.proofs.Parts.{Each-append}
+use Rattle.vx_sps.specs.Set as sps
+use Rattle.vx_pps.specs.Sets as pps
 use Rattle.vx_sei.specs.declared.message.Message.{Message}
 use Rattle.vx_sei.specs.Sei.{IsSei, sei_messages, spelled_length}
 use Rattle.vx_pic.specs.declared.unit_types.TheConstants as types
@@ -27,7 +29,7 @@ use Rattle.vx_pic.specs.Resident.{is_resident, sent_before, units_written}
 use Rattle.vx_pic.proofs.Sublayers.{low_tid}
 use Rattle.vx_write.specs.Units.{IsSeiUnit, IsSetUnit, IsUnitOf}
 use Rattle.vx_extract.specs.Written.{AreExtracted, IsExtracted, all_slots, is_named, slice_alone}
-use Rattle.vx_extract.specs.Whole.{ExtractedUnitsReadAgain, ExtractionReadsAgain, HaveShortSets, IsShort}
+use Rattle.vx_extract.specs.Whole.{ExtractedUnitsReadAgain, ExtractionReadsAgain}
 use Rattle.vx_extract.proofs.AgainBodies.{slots_hold, units_hold}
 use Rattle.vx_extract.proofs.AgainSets.{front_of}
 use Rattle.vx_extract.proofs.ReadyPictures.{each_kept, each_passing}
@@ -112,10 +114,20 @@ as_source splits unique tid rbsp unit u is stands same =
     (record { two = stands.sound.header.bytes; last = omega (arith, header); escaped = record { rules = stands.sound.emulation; last = stands.last; is = refl } })
     (front.behind ∙ sym same)
 
-set_stands : EscapedSplits → EscapedIsUnique → (tid : ℕ) (s : Set) (unit : List ℕ) → tid < 7 → IsSetUnit tid s unit → HasSource s → IsShort s unit → CanStand unit
-set_stands splits unique tid (an_sps items) unit low (rbsp, spelling, is) from short = unit_stands types.SPS_NUT 0 rbsp unit (omega arith) is short
-set_stands splits unique tid (a_pps items) unit low (rbsp, spelling, is) from short = unit_stands types.PPS_NUT tid rbsp unit low is short
-set_stands splits unique tid (an_aps a) unit low is (u, stands, same) short =
+-- that of a set is short, since its spelling is
+set_short : (nal_type tid : ℕ) (rbsp unit : List ℕ) → length rbsp ≤ 2 ^ 17 → IsUnitOf nal_type tid rbsp unit → length unit ≤ unit_limit
+set_short nal_type tid rbsp unit few is =
+    let twice = twice_at_most (0 ∷ (nal_type * 8 + (tid + 1)) ∷ rbsp) unit is in
+    omega (arith, twice, few)
+
+set_stands : EscapedSplits → EscapedIsUnique → sps.SpellingIsShort → pps.SpellingIsShort → (tid : ℕ) (s : Set) (unit : List ℕ) → tid < 7 → IsSetUnit tid s unit → HasSource s → CanStand unit
+set_stands splits unique few_sps few_pps tid (an_sps items) unit low (rbsp, spelling, is) from =
+    let few = few_sps items rbsp spelling in
+    unit_stands types.SPS_NUT 0 rbsp unit (omega arith) is (set_short types.SPS_NUT 0 rbsp unit (omega (arith, few)) is)
+set_stands splits unique few_sps few_pps tid (a_pps items) unit low (rbsp, spelling, is) from =
+    let few = few_pps items rbsp spelling in
+    unit_stands types.PPS_NUT tid rbsp unit low is (set_short types.PPS_NUT tid rbsp unit (omega (arith, few)) is)
+set_stands splits unique few_sps few_pps tid (an_aps a) unit low is (u, stands, same) =
     let size = as_source splits unique tid (spelled a.kind a.id a.body) unit u is stands same in
     let few = stands.sound.size in
     unit_stands types.PREFIX_APS_NUT tid (spelled a.kind a.id a.body) unit low is (omega (arith, size, few))
@@ -134,10 +146,10 @@ ended_stand : (ends : Bool) → AllStand (eos_units ends)
 ended_stand true = (eos_stands, tt)
 ended_stand false = tt
 
-sets_stand : EscapedSplits → EscapedIsUnique → (tid : ℕ) (sent : List SetUnit) → tid < 7 → AllByRecursion (λ (x : SetUnit). IsSetUnit tid x.set x.unit) sent
-    → AllByRecursion (λ (x : SetUnit). HasSource x.set) sent → AllByRecursion (λ (x : SetUnit). IsShort x.set x.unit) sent → AllStand (map (λ x. x.unit) sent)
-sets_stand splits unique tid [] low are from short = tt
-sets_stand splits unique tid (x ∷ sent) low are from short = (set_stands splits unique tid x.set x.unit low are.0 from.0 short.0, sets_stand splits unique tid sent low are.1 from.1 short.1)
+sets_stand : EscapedSplits → EscapedIsUnique → sps.SpellingIsShort → pps.SpellingIsShort → (tid : ℕ) (sent : List SetUnit) → tid < 7 → AllByRecursion (λ (x : SetUnit). IsSetUnit tid x.set x.unit) sent
+    → AllByRecursion (λ (x : SetUnit). HasSource x.set) sent → AllStand (map (λ x. x.unit) sent)
+sets_stand splits unique few_sps few_pps tid [] low are from = tt
+sets_stand splits unique few_sps few_pps tid (x ∷ sent) low are from = (set_stands splits unique few_sps few_pps tid x.set x.unit low are.0 from.0, sets_stand splits unique few_sps few_pps tid sent low are.1 from.1)
 
 sei_stands : (tid : ℕ) (ms : List Message) (sei : Option SeiUnit) → tid < 7 → spelled_length ms ≤ message_limit → IsSeiUnit tid ms sei → AllStand (sei_units sei)
 sei_stands tid ms None low few is = tt
@@ -156,9 +168,9 @@ slices_stand b target (s ∷ slices) stand = elim (cases_Bool (s.header.subpic =
   | inr off ↦ rw off (slices_stand b target slices stand.1)
 ]
 
-module _ (splits : EscapedSplits) (unique : EscapedIsUnique) (R : Readers) (target : ℕ) (level : Option ℕ) where
+module _ (splits : EscapedSplits) (unique : EscapedIsUnique) (few_sps : sps.SpellingIsShort) (few_pps : pps.SpellingIsShort) (R : Readers) (target : ℕ) (level : Option ℕ) where
   module _ (earlier : List Picture) (pic : Picture) (done : List Plan) (p : Plan) (sound : IsSound R earlier pic) (ex : IsExtracted target level (parts_of pic) done p)
-      (stand : OfPicture CanStand pic) (short : AllByRecursion (λ (x : SetUnit). IsShort x.set x.unit) p.sent) where
+      (stand : OfPicture CanStand pic) where
     abbrev are_sent : SetUnit → Bool
     are_sent x = not (is_resident pic.kind.temporal_id (sent_before done p) x)
 
@@ -178,7 +190,7 @@ module _ (splits : EscapedSplits) (unique : EscapedIsUnique) (R : Readers) (targ
         let header : List (List ℕ) = option_to_list p.begun.unit in
         let slices : List (List ℕ) = map (λ (s : Slice). s.unit) (slices_of p) in
         let low = low_tid R earlier pic sound in
-        let own_sets = sets_stand splits unique pic.kind.temporal_id p.sent low (sent_hold (λ (x : SetUnit). IsSetUnit pic.kind.temporal_id x.set x.unit) ex.units) (sent_hold (λ (x : SetUnit). HasSource x.set) each_source) short in
+        let own_sets = sets_stand splits unique few_sps few_pps pic.kind.temporal_id p.sent low (sent_hold (λ (x : SetUnit). IsSetUnit pic.kind.temporal_id x.set x.unit) ex.units) (sent_hold (λ (x : SetUnit). HasSource x.set) each_source) in
         let own_sei = sei_stands pic.kind.temporal_id (messages_of pic) p.sei low sound.messages ex.sei in
         let own_header : AllStand header = header_stands p.begun.unit (subst (OfUnit CanStand) (sym ex.unit) stand.0) in
         let own_slices : AllStand slices = subst (λ xs. AllStand (map (λ (s : Slice). s.unit) xs)) (sym ex.slices) (slices_stand pic.begun target pic.slices stand.1) in
@@ -190,22 +202,22 @@ module _ (splits : EscapedSplits) (unique : EscapedIsUnique) (R : Readers) (targ
   -- ---- all of them
 
   all_stand : (pics : List Picture) (done : List Plan) → AreFinished R pics → AllByRecursion (OfPicture CanStand) pics
-      → AreExtracted target level (map parts_of pics) done → HaveShortSets done → AllStand (units_written done)
-  all_stand [] [] finished stand were short = tt
-  all_stand [] (p ∷ done) finished stand were short = absurd were
-  all_stand (pic ∷ pics) [] finished stand were short = absurd were
-  all_stand (pic ∷ pics) (p ∷ done) (sound, whole, finished) (one, stand) (ex, were) (few, short) =
-      Each-append CanStand (units_written done) (units_of p) (all_stand pics done finished stand were short) (picture_stands pics pic done p sound ex one few)
+      → AreExtracted target level (map parts_of pics) done → AllStand (units_written done)
+  all_stand [] [] finished stand were = tt
+  all_stand [] (p ∷ done) finished stand were = absurd were
+  all_stand (pic ∷ pics) [] finished stand were = absurd were
+  all_stand (pic ∷ pics) (p ∷ done) (sound, whole, finished) (one, stand) (ex, were) =
+      Each-append CanStand (units_written done) (units_of p) (all_stand pics done finished stand were) (picture_stands pics pic done p sound ex one)
 
 ends_well : (o : Outcome) → ending_of o ≡ None → ending_by true None o ≡ None
 ends_well o none = ap (λ r. option_map (λ x. record { units = length o.before; refusal = x }) r) none
 
-pub reads_again : EscapedSplits → EscapedIsUnique → PicturesAreFinished → KeptAreFinished → WrittenHasPictures → ExtractedUnitsReadAgain → ExtractionReadsAgain
-reads_again splits unique finished kept has_pictures reads R units target tid level bytes of sources fit (done, were, same) short =
+pub reads_again : EscapedSplits → EscapedIsUnique → PicturesAreFinished → KeptAreFinished → WrittenHasPictures → ExtractedUnitsReadAgain → sps.SpellingIsShort → pps.SpellingIsShort → ExtractionReadsAgain
+reads_again splits unique finished kept has_pictures reads few_sps few_pps R units target tid level bytes of sources fit (done, were, same) =
     let all : List Picture = pictures_of R units in
     let pics : List Picture = at_most tid all in
     let own = each_kept (OfPicture CanStand) tid all (have_units CanStand R units of (recursion_from_All CanStand units sources)) in
-    let stand = all_stand splits unique R target level pics done (kept R tid all (finished R units) fit.starts) own were short in
+    let stand = all_stand splits unique few_sps few_pps R target level pics done (kept R tid all (finished R units) fit.starts) own were in
     let again = reads R units target tid level done of fit were in
     let qs : List Picture = pictures_of R (units_written done) in
     let are = has_pictures R (units_written done) (All-from_recursion CanStand (units_written done) stand) in

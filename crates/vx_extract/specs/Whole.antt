@@ -1,13 +1,12 @@
 -- What is written for a subpicture of a whole stream, or of its pictures up to a TemporalId, read again.
 use Rattle.std.specs.List.{AllByRecursion}
-use Rattle.std.specs.Prelude.{◌≡◌, ℕ, ◌<◌, ◌≤◌, true, List, [], length, map, All, Option, None}
-use Rattle.vx_annexb.specs.ByteStream.{unit_limit}
+use Rattle.std.specs.Prelude.{◌≡◌, ℕ, ◌<◌, true, List, [], map, All, Option, None}
 use Rattle.vx_annexb.specs.Laws.{CanStand}
 use Rattle.vx_sps.specs.Subpictures.{subpics_of}
 use Rattle.vx_pic.specs.Readings.{Picture, messages_of}
 use Rattle.vx_pic.specs.Parts.{parts_of}
 use Rattle.vx_pic.specs.Inputs.{inputs_of}
-use Rattle.vx_pic.specs.Written.{Plan, Set, a_pps, an_aps, an_sps}
+use Rattle.vx_pic.specs.Written.{Plan}
 use Rattle.vx_pic.specs.Resident.{units_written}
 use Rattle.vx_pic.specs.Rules.{Readers}
 use Rattle.vx_pic.specs.Streams.{ending_of, pictures_of, read_on}
@@ -43,19 +42,10 @@ ExtractedUnitsReadAgain =
     → AreExtracted target level (map parts_of (at_most tid (pictures_of R units))) done
     → UnitsAreOfSubpicture R target (at_most tid (pictures_of R units)) (units_written done)
 
--- The rewritten sets that are sent have no unit that is longer than a unit may be.
-abbrev pub IsShort : Set → List ℕ → Type 0
-IsShort (an_sps items) unit = length unit ≤ unit_limit
-IsShort (a_pps items) unit = length unit ≤ unit_limit
-IsShort (an_aps a) unit = Unit {0}
-
-abbrev pub HaveShortSets : List Plan → Type 0
-HaveShortSets done = AllByRecursion (λ p. AllByRecursion (λ x. IsShort x.set x.unit) p.sent) done
-
 -- The bytes that are written of a stream, whose units can stand in one, have such pictures, and no rule refuses them.
 abbrev pub ExtractionReadsAgain : Type 0
 ExtractionReadsAgain =
     (R : Readers) (units : List (List ℕ)) (target tid : ℕ) (level : Option ℕ) (bytes : List ℕ) → AreOfH266 R → All CanStand units
     → AreKeptWith target tid (pictures_of R units)
-    → (extraction : IsExtraction target level (map parts_of (at_most tid (pictures_of R units))) bytes) → HaveShortSets extraction.0
+    → IsExtraction target level (map parts_of (at_most tid (pictures_of R units))) bytes
     → (qs : List Picture) × ArePictures R bytes true qs None × AreOfSubpicture target (at_most tid (pictures_of R units)) qs

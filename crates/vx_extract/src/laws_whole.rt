@@ -21,8 +21,7 @@ pub fn extracted_units_read_again()
     all_keep_inputs();
 }
 
-/// So are the bytes: they have exactly these pictures, and no rule refuses them. It is asked that no unit of a rewritten set is longer
-/// than a unit may be.
+/// So are the bytes: they have exactly these pictures, and no rule refuses them.
 pub fn extraction_reads_again()
     ensures { ExtractionReadsAgain }
 {
@@ -32,4 +31,6 @@ pub fn extraction_reads_again()
     kept_are_finished();
     written_has_pictures();
     extracted_units_read_again();
+    vx_sps::spelling_is_short();
+    vx_pps::spelling_is_short();
 }
