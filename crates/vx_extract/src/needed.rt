@@ -14,6 +14,7 @@ use vx_fields::pps::pps_alf_info_in_ph_flag;
 use vx_pic::Picture;
 use vx_pps::Pps;
 use vx_table::natural;
+use vx_write::NeededAps;
 
 /// How many ids a type has at most: 0 to 7 (H.266 7.4.3.6).
 const IDS: u8 = 8;
