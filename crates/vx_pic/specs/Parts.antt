@@ -1,5 +1,5 @@
 -- What callers see of a picture, and which picture of a stream that is.
-use Rattle.std.specs.Prelude.{◌≡◌, ℕ, ◌+◌, ◌-◌, ◌*◌, ◌<◌, ◌≤◌, ◌==◌, ◌&&◌, nat_lt, true, false, cond, List, ◌++◌, length, map, take}
+use Rattle.std.specs.Prelude.{◌≡◌, ℕ, ℤ, ◌+◌, ◌-◌, ◌*◌, ◌<◌, ◌≤◌, ◌==◌, ◌&&◌, nat_lt, true, false, cond, List, ◌++◌, length, map, take}
 use Rattle.std.specs.Prelude.{Option, Some, None, is_none}
 use Rattle.std.specs.List.{AllByRecursion, range_with_len, slice_index_or, slice_range}
 use Rattle.vx_bits.specs.declared.list.Item.{Item}
@@ -13,6 +13,9 @@ use Rattle.vx_sei.specs.declared.message.Message.{Message}
 use Rattle.vx_rpl.specs.HeaderLists.{lists_of}
 use Rattle.vx_ph.specs.declared.header.PictureHeader.{PictureHeader}
 use Rattle.vx_ph.specs.InForce.{in_force, structures}
+use Rattle.vx_ph.specs.Picture.{IsHeader}
+use Rattle.vx_sh.specs.Value.{AreFields, HasNumbers}
+use Rattle.vx_sh.specs.Whole.{At}
 use Rattle.vx_sh.specs.declared.header.SliceHeader.{SliceHeader as SliceValue}
 use Rattle.vx_pic.specs.declared.kind.Kind.{Kind}
 use Rattle.vx_pic.specs.declared.picture.PictureParts.{PictureParts}
@@ -21,7 +24,7 @@ use Rattle.vx_pic.specs.declared.picture.SliceView.{SliceView}
 use Rattle.vx_pic.specs.Sets.{SliceHeader, Slot, same_size, address_of, names_of, slice_qp, is_qp}
 use Rattle.vx_pic.specs.Readings.{Reading, Begun, Slice, Picture, stored_aps, messages_of}
 use Rattle.vx_pic.specs.PictureLayout.{ids_of, numbers_in, MakeLayout}
-use Rattle.vx_pic.specs.UnderSets.{header_of}
+use Rattle.vx_pic.specs.UnderSets.{at_sets, header_of}
 
 -- ---- adaptation parameter sets
 
@@ -112,6 +115,12 @@ named_by pps header h = names_of pps header (read_of h)
 abbrev pub AreThere : List (Option Aps) → List Slot → Type 0
 AreThere sets slots = AllByRecursion (λ slot. is_none (aps_at sets slot.kind slot.id) ≡ false) slots
 
+-- A slice header is one that is read at this place: it has such fields, and the numbers that these come to.
+pub record IsReadAt (n : At) (h : SliceValue) : Type 0 where
+  pub inside : List ℤ
+  pub fields : AreFields n h.fields inside
+  pub numbers : HasNumbers n h fields.end
+
 -- Parts that make up a picture.
 pub record MakePicture (p : PictureParts) : Type 0 where
   -- there is a slice, and all slices of the layout came (a whole picture), of which there are at most so many
@@ -127,6 +136,10 @@ pub record MakePicture (p : PictureParts) : Type 0 where
   pub layout : p.layout.now ≡ numbers_in p.sps.now p.pps.now
   pub ids : p.ids.now ≡ ids_of p.sps.now p.pps.now
   pub one_each : length p.ids.now ≡ length p.layout.now.subpics
+  -- the picture header is one under both sets, and each slice header one under these and it (headers that are read)
+  pub read : IsHeader (structures p.sps.now) (in_force p.sps.now p.pps.now) p.header.now
+  pub slices_read : AllByRecursion
+      (λ s. IsReadAt (at_sets p.kind.nal_type p.sps.now p.pps.now p.header.now p.ids.now p.layout.now) s.header) p.slices.now
   -- each slice's subpicture is one of the layout's (a slice that is read)
   pub subpics : AllByRecursion (λ s. s.header.subpic < length p.layout.now.subpics) p.slices.now
   -- each adaptation parameter set that a slice or the picture header names is there (a picture whose slices joined it)

@@ -90,7 +90,10 @@ impl<'a> Picture<'a> {
     ghost use Rattle.vx_bits.specs.Codes.{EndsInNoZero};
     ghost use Rattle.vx_pic.specs.Sets.{is_qp, same_size, slice_qp};
     ghost use Rattle.vx_pic.specs.PictureLayout.{MakeLayout, ids_of, numbers_in};
-    ghost use Rattle.vx_pic.specs.Parts.{seen, MakePicture, aps_at, part_of, AreThere, named_by, read_of};
+    ghost use Rattle.vx_ph.specs.InForce.{in_force, structures};
+    ghost use Rattle.vx_ph.specs.Picture.{IsHeader};
+    ghost use Rattle.vx_pic.specs.UnderSets.{at_sets};
+    ghost use Rattle.vx_pic.specs.Parts.{seen, MakePicture, IsReadAt, aps_at, part_of, AreThere, named_by, read_of};
     ghost use Rattle.vx_pic.specs.Inputs.{body_of};
 
     /// The picture that these parts make up.
@@ -134,7 +137,8 @@ impl<'a> Picture<'a> {
 
     /// Its header.
     pub fn header(&self) -> &'a PictureHeader
-        ensures { result.now ≡ self.now.header }
+        ensures value { result.now ≡ self.now.header }
+        ensures read { IsHeader (structures self.now.sps) (in_force self.now.sps self.now.pps) self.now.header }
     {
         self.parts.header
     }
@@ -177,6 +181,7 @@ impl<'a> Picture<'a> {
         ensures subpic { result.header.now.subpic < length self.now.layout.subpics }
         ensures bodies { AreThere self.now.bodies (named_by self.now.pps self.now.header.fields result.header.now) }
         ensures qp { is_qp self.now.sps (slice_qp self.now.pps self.now.header.fields (read_of result.header.now)) ≡ true }
+        ensures read { IsReadAt (at_sets self.now.kind.nal_type self.now.sps self.now.pps self.now.header self.now.ids self.now.layout) result.header.now }
     {
         let slot = self.parts.slices.item(i as usize);
         SliceView {

@@ -32,7 +32,7 @@ pub returns : goal.returns
 returns c =
     let past : length c.args.picture.now.slices ≤ c.loop-i.i = omega arith in
     let some : c.loop-i.found ≡ true = search rules in
-    let header : c.header.result.now.fields ≡ c.args.picture.now.header.fields = ap (λ h. h.fields) c.header.ensures in
+    let header : c.header.result.now.fields ≡ c.args.picture.now.header.fields = ap (λ h. h.fields) c.header.ensures.value in
     names_some c.args.picture.now c.args.target c.loop-i.named c.mark_header.new.self c.loop-i.found c.loop-i.i past some c.loop-i.invariant
     (c.mark_header.ensures ∙ ap (λ p. all_marked c.loop-i.named (header_names p c.header.result.now.fields)) c.pps-2.ensures
     ∙ ap (λ items. all_marked c.loop-i.named (header_names c.args.picture.now.pps items)) header)
