@@ -1,5 +1,5 @@
 -- What is answered of the layout of two sets.
-use Rattle.std.proofs.Common.{◌≡◌, ◌≢◌, ◌⊎◌, inl, inr, ℕ, ◌<◌, ◌≤◌, ◌==◌, Bool, true, false, cond, List, [], ◌∷◌, length, map, Option, Some, None, Result, Ok, Err, refl, ap, sym, subst, ◌∙◌, arith}
+use Rattle.std.proofs.Common.{◌≡◌, inl, inr, ℕ, ◌≤◌, true, false, List, length, Option, Some, None, Result, Ok, Err, refl, sym, subst, ◌∙◌, arith}
 use Rattle.vx_bits.specs.declared.list.Item.{Item}
 use Rattle.vx_bits.specs.declared.refusal.ReadError.{ReadError}
 use Rattle.vx_bits.specs.declared.refusal.ReadError.TheVariants.{Memory, Refused}
@@ -17,7 +17,7 @@ use Rattle.vx_pps.specs.Pps as pps
 use Rattle.vx_pps.specs.Sets.{AreSlices, SetsTellPartitions}
 use Rattle.vx_pic.proofs.Sizes.{has_ctus}
 use Rattle.vx_pic.specs.inner.Layout.{IsLayoutOf}
-use Rattle.vx_pic.specs.PictureLayout.{ctu_sizes_differ, IdsAgree, MakeLayout, IsFault, ctu_sizes, ids, numbers, numbers_in, columns_of, rows_of, slices_of, subpictures_of, AnswersLayout, layout_refusal, ctu_size_fault, ids_fault}
+use Rattle.vx_pic.specs.PictureLayout.{ctu_sizes_differ, IdsAgree, ctu_sizes, ids, numbers, numbers_in, columns_of, rows_of, slices_of, subpictures_of, AnswersLayout, layout_refusal, ctu_size_fault, ids_fault}
 
 pub sizes_differ : (s p : List Item) → ctu_sizes_differ s p ≡ true → AnswersLayout s p (Err (Refused (layout_refusal ctu_size_fault)))
 sizes_differ s p differ = (ctu_size_fault, ctu_sizes differ, refl)

@@ -1,14 +1,14 @@
 -- It is decided which numbers are a layout, and which fault the others have: all that is asked of them is asked of numbers below
 -- bounds.
-use Rattle.std.proofs.Common.{◌≡◌, ◌≢◌, ◌⊎◌, inl, inr, ℕ, zero, suc, ◌+◌, ◌<◌, ◌≤◌, ◌&&◌, leb, ltb, Bool, true, false, List, [], ◌∷◌, length, get_or, refl, ap, sym, subst, ◌∙◌, arith}
+use Rattle.std.proofs.Common.{◌≡◌, ◌⊎◌, inl, inr, ℕ, zero, suc, ◌+◌, ◌<◌, ◌≤◌, ◌&&◌, leb, ltb, Bool, true, false, List, [], ◌∷◌, length, get_or, refl, sym, subst, arith}
 use Rattle.std.specs.Prelude.{All, Any, Contains, count_by, sum}
 use Rattle.std.specs.List.{AllPairs}
-use Rattle.std.proofs.lemmas.Bool.{and_parts, cases_Bool, cases_eq, cases_lt, leb-true, ltb-true, true≢false}
+use Rattle.std.proofs.lemmas.Bool.{and_parts, cases_eq, cases_lt, ltb-true, true≢false}
 use Rattle.std.proofs.lemmas.List.Sums.{sum_by-cons}
 use Rattle.std.proofs.lemmas.List.Elements.{All-cons, All-head, All-nil, All-tail}
 use Rattle.vx_layout.specs.declared.numbers.Numbers.{Numbers}
 use Rattle.vx_layout.specs.declared.rect.Rect.{Rect}
-use Rattle.vx_layout.specs.Faults.{IsLayout, IsLowestFault, IsSpan, IsTile, LiesIn, Meet, NoneBetween, SameSides, SlicesCover, SlicesFit, SlicesInOrder, SplitsWell, SubpicsCover, TileAgrees, TilesSplit, height, order_fault, slice_cover_fault, slice_split_fault, subpics_fault, tile_split_fault, width}
+use Rattle.vx_layout.specs.Faults.{IsLayout, IsLowestFault, IsSpan, IsTile, LiesIn, Meet, NoneBetween, SlicesCover, SlicesFit, SlicesInOrder, SplitsWell, SubpicsCover, TileAgrees, TilesSplit, height, order_fault, slice_cover_fault, slice_split_fault, subpics_fault, tile_split_fault, width}
 use Rattle.vx_layout.specs.Layouts.{no_rect}
 use Rattle.vx_layout.specs.Rects.{CoversOnce, IsPart, Precedes, fits, holds, in_order}
 

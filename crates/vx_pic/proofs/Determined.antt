@@ -1,5 +1,5 @@
 -- Bytes and sets have one answer at most.
-use Rattle.std.proofs.Common.{◌≡◌, ◌⊎◌, inl, inr, ℕ, ℤ, ◌+◌, ◌*◌, ◌<◌, ◌≤◌, Bool, true, false, List, [], ◌∷◌, ◌++◌, length, slice_index, Option, Result, Ok, Err, refl, ap, sym, subst, ◌∙◌, arith}
+use Rattle.std.proofs.Common.{◌≡◌, inl, inr, ℕ, ℤ, ◌+◌, ◌*◌, Bool, List, [], ◌++◌, length, slice_index, Result, Ok, Err, refl, ap, sym, subst, ◌∙◌, arith}
 use Rattle.std.proofs.lemmas.Bool.{cases_lt}
 use Rattle.vx_bits.specs.declared.list.Item.{Item}
 use Rattle.vx_bits.specs.declared.refusal.Refusal.{Refusal}
@@ -8,21 +8,18 @@ use Rattle.vx_bits.specs.Codes.{bits_of}
 use Rattle.vx_bits.specs.Place.{Place}
 use Rattle.vx_annexb.specs.Places.{IsFirstFrom}
 use Rattle.vx_annexb.specs.Emulation.{unescaped_to}
-use Rattle.vx_aps.specs.declared.aps.Aps.{Aps}
 use Rattle.vx_aps.specs.Laws.{OneAnswer}
 use Rattle.vx_fields.specs.declared.ph.TheConstants.{ph_pic_parameter_set_id}
 use Rattle.vx_fields.specs.declared.names.sh.TheConstants.{SUBPIC}
 use Rattle.vx_layout.specs.declared.numbers.Numbers.{Numbers}
 use Rattle.vx_layout.proofs.Lowest.{layout-faultless, lowest-one}
-use Rattle.vx_table.specs.declared.rows.Cell.{Cell}
-use Rattle.vx_table.specs.Forms.{Form, done, field, form_of}
+use Rattle.vx_table.specs.Forms.{Form, field, form_of}
 use Rattle.vx_table.specs.Loaded.{number}
-use Rattle.vx_table.specs.Reading.{Reads, ReadsValue, as_read, at_front, IsFound, IsFirstRefusal}
-use Rattle.vx_table.specs.Spelling.{Spells, items_along}
+use Rattle.vx_table.specs.Reading.{Reads, ReadsValue, as_read, IsFound, IsFirstRefusal}
+use Rattle.vx_table.specs.Spelling.{items_along}
 use Rattle.vx_table.specs.Values.{Follows, to_end, through}
 use Rattle.vx_table.proofs.Apart.{reads_one_way}
 use Rattle.vx_table.proofs.Joined.{joined}
-use Rattle.vx_sei.specs.declared.message.Message.{Message}
 use Rattle.vx_sei.specs.Sei.{Carries, carried}
 use Rattle.vx_sei.proofs.Messages.{sei_unique}
 use Rattle.vx_sh.specs.declared.header.SliceHeader.{SliceHeader as SliceValue}
@@ -33,7 +30,7 @@ use Rattle.vx_sh.proofs.Sized.{all_follow}
 use Rattle.vx_pic.specs.Units.{rbsp_of}
 use Rattle.vx_pic.specs.Sets.{SliceHeader}
 use Rattle.vx_pic.specs.Readings.{Begun}
-use Rattle.vx_pic.specs.PictureLayout.{IdsAgree, IsFault, ctu_sizes, ids, numbers, IsLayoutAnswer, layout_refusal, ctu_sizes_differ, MakeLayout}
+use Rattle.vx_pic.specs.PictureLayout.{IsFault, ctu_sizes, ids, numbers, IsLayoutAnswer, layout_refusal, MakeLayout}
 use Rattle.vx_pic.specs.UnderSets.{slice_at}
 use Rattle.vx_pic.specs.H266.{AnswersAt, IsReferredPps, IsSlice, IsSliceAnswer}
 use Rattle.vx_pic.specs.H266Laws.{AtMostOne, HaveOneAnswer}

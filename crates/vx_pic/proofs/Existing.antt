@@ -1,5 +1,5 @@
 -- There are readers of H.266: each list of bytes has an answer.
-use Rattle.std.proofs.Common.{◌≡◌, ◌≢◌, ◌⊎◌, inl, inr, ℕ, ℤ, zero, suc, ◌+◌, ◌-◌, ◌*◌, ◌/◌, ◌%◌, ◌<◌, ◌≤◌, Bool, true, false, List, [], ◌∷◌, ◌++◌, length, take, drop, replicate, slice_index, Option, Some, None, Result, Ok, Err, refl, ap, sym, subst, ◌∙◌, arith, append_assoc, length-append}
+use Rattle.std.proofs.Common.{◌≡◌, ◌⊎◌, inl, inr, ℕ, ℤ, zero, suc, ◌+◌, ◌-◌, ◌*◌, ◌/◌, ◌%◌, ◌<◌, ◌≤◌, Bool, true, false, List, [], ◌∷◌, ◌++◌, length, take, drop, replicate, slice_index, Option, Some, None, Result, Ok, Err, refl, ap, sym, subst, ◌∙◌, arith, append_assoc, length-append}
 use Rattle.std.proofs.Math.Nat.{div-add-mod}
 use Rattle.std.proofs.lemmas.Bool.{cases_Bool, cases_lt, cases_eq, ne_eqb}
 use Rattle.vx_table.specs.Values.{bits_along}
@@ -22,19 +22,18 @@ use Rattle.vx_layout.specs.declared.numbers.Numbers.{Numbers}
 use Rattle.vx_ph.specs.Header.{header_form}
 use Rattle.vx_ph.specs.Id.{id_form}
 use Rattle.vx_ph.specs.InForce.{in_force, structures}
-use Rattle.vx_pps.specs.declared.partition.Partition.{Partition}
 use Rattle.vx_pps.specs.Partition.{undivided}
 use Rattle.vx_pps.specs.Pps.{pps_form}
 use Rattle.vx_ptl.specs.Structures.{vps}
 use Rattle.vx_rpl.specs.declared.entry.RplTable.{RplTable}
 use Rattle.vx_rpl.specs.HeaderLists.{lists_of}
 use Rattle.vx_sei.specs.declared.message.Message.{Message}
-use Rattle.vx_sei.specs.Sei.{Carries, IsSei, carried, ff_coded, sei_message, sei_messages}
+use Rattle.vx_sei.specs.Sei.{Carries, carried, ff_coded, sei_message}
 use Rattle.vx_sei.specs.inner.Front.{BeginsWithMessage}
-use Rattle.vx_sei.proofs.Messages.{HasTaken, all_taken, ff_front, message_front, message_size, no_size, not_ended, run_tells, take_turn, too_short}
+use Rattle.vx_sei.proofs.Messages.{HasTaken, all_taken, ff_front, message_front, message_size, no_size, not_ended, take_turn, too_short}
 use Rattle.vx_sh.specs.declared.header.SliceHeader.{SliceHeader as SliceValue}
 use Rattle.vx_sh.specs.declared.tables.TheConstants.{HEADER_INSIDE}
-use Rattle.vx_sh.specs.Value.{AreFields, BeginsSlice, ReadsSlice, values_of}
+use Rattle.vx_sh.specs.Value.{AreFields, BeginsSlice, values_of}
 use Rattle.vx_sh.specs.Whole.{At, behind_header, header_inside, slice_form}
 use Rattle.vx_sh.proofs.Passing.{walk_refused}
 use Rattle.vx_sh.proofs.Sized.{sized}
@@ -43,7 +42,7 @@ use Rattle.vx_sps.specs.Structure.{sps_form}
 use Rattle.vx_table.specs.declared.rows.Cell.{Cell}
 use Rattle.vx_table.specs.Forms.{Form, done, field, ◌>>=◌, form_of, present}
 use Rattle.vx_table.specs.Loaded.{number}
-use Rattle.vx_table.specs.Reading.{Reads, ReadsField, ReadsValue, as_read, at_front}
+use Rattle.vx_table.specs.Reading.{ReadsField, ReadsValue, as_read}
 use Rattle.vx_table.specs.Scope.{is_set, value}
 use Rattle.vx_table.specs.Spelling.{Spells, at_end, behind, Reaches, here, later, IsRefused, item_of, items_along}
 use Rattle.vx_table.specs.Values.{Follows, to_end, through}
@@ -57,9 +56,9 @@ use Rattle.vx_pic.specs.Units.{rbsp_of}
 use Rattle.vx_pic.specs.Sets.{SliceHeader}
 use Rattle.vx_pic.specs.Readings.{Begun}
 use Rattle.vx_pic.specs.Rules.{Readers}
-use Rattle.vx_pic.specs.PictureLayout.{ctu_sizes_differ, AreDistinct, ids_misplaced, ids_of, IdsAgree, MakeLayout, ctu_sizes, ids, numbers, ctu_size_fault, ids_fault, numbers_in, IsLayoutAnswer, layout_refusal}
+use Rattle.vx_pic.specs.PictureLayout.{ctu_sizes_differ, ids_misplaced, ids_of, IdsAgree, ctu_sizes, ids, numbers, ctu_size_fault, ids_fault, numbers_in, IsLayoutAnswer, layout_refusal}
 use Rattle.vx_pic.specs.UnderSets.{slice_at}
-use Rattle.vx_pic.specs.H266.{AnswersAt, header_place, form_in, IsReferredPps, IsSliceAnswer, AreOfH266}
+use Rattle.vx_pic.specs.H266.{AnswersAt, header_place, form_in, IsReferredPps, IsSliceAnswer}
 use Rattle.vx_pic.specs.H266Laws.{ThereAreReaders}
 use Rattle.vx_pic.proofs.Deciding.{layouts_are_decided}
 use Rattle.vx_pic.proofs.Distinct.{distinct_or_not}

@@ -1,9 +1,9 @@
 -- The ids of subpictures that an SPS gives have as many bits as it says.
-use Rattle.std.proofs.Common.{◌≡◌, ◌≢◌, ◌⊎◌, inl, inr, ℕ, ℤ, zero, suc, ◌+◌, ◌<◌, ◌≤◌, ◌^◌, ◌==◌, ◌&&◌, ◌||◌, not, Bool, true, false, cond, List, [], ◌∷◌, ◌++◌, length, map, slice_index, slice_set, refl, ap, sym, subst, ◌∙◌, arith}
+use Rattle.std.proofs.Common.{◌≡◌, ◌⊎◌, inl, inr, ℕ, ℤ, ◌+◌, ◌<◌, ◌≤◌, ◌^◌, ◌==◌, ◌&&◌, ◌||◌, not, Bool, true, false, List, [], ◌∷◌, ◌++◌, length, map, slice_index, slice_set, refl, ap, sym, subst, ◌∙◌, arith}
 use Rattle.std.specs.Prelude.{drop, take, nat_lt, slice_index_or}
 use Rattle.std.specs.List.{range_with_len}
-use Rattle.std.proofs.lemmas.Bool.{cases_Bool, cases_lt, ltb-false, true≢false}
-use Rattle.std.proofs.lemmas.List.{append-nil, get_or_past, get_or-set_other, get_or-set_same, length-set}
+use Rattle.std.proofs.lemmas.Bool.{cases_lt, ltb-false}
+use Rattle.std.proofs.lemmas.List.{get_or_past, get_or-set_other, get_or-set_same}
 use Rattle.std.proofs.lemmas.List.Elements.{All-nil}
 use Rattle.std.proofs.lemmas.List.FromFn.{get_or-map-range_with_len}
 use Rattle.vx_bits.specs.declared.list.Item.{Item}
@@ -14,13 +14,12 @@ use Rattle.vx_table.specs.declared.rows.Formula.TheVariants.{Plain}
 use Rattle.vx_table.specs.declared.rows.Presence.TheVariants.{When}
 use Rattle.vx_table.specs.declared.rows.Term.TheVariants.{Latest}
 use Rattle.vx_table.specs.Claims.{hides_counter, hides_row}
-use Rattle.vx_table.specs.EachField.{sections_pass, rows_pass}
-use Rattle.vx_table.specs.Forms.{Form, done, ◌>>=◌, has_value, form_of, part, one_field, after, coding_at, limits_at, present, turns}
+use Rattle.vx_table.specs.Forms.{Form, done, has_value, form_of, part, one_field, after, coding_at, limits_at, present, turns}
 use Rattle.vx_table.specs.Loaded.{number}
-use Rattle.vx_table.specs.Parts.{Section, always, sections_form}
+use Rattle.vx_table.specs.Parts.{Section, sections_form}
 use Rattle.vx_table.specs.Scope.{capped, fresh, is_set, natural, value}
 use Rattle.vx_table.specs.Spelling.{item_of, items_along}
-use Rattle.vx_table.specs.Values.{Follows, to_end, through}
+use Rattle.vx_table.specs.Values.{Follows, through}
 use Rattle.vx_table.proofs.EachField.{each_of_rows}
 use Rattle.vx_table.proofs.Groups.{cut}
 use Rattle.vx_table.proofs.Joined.{items_joined, parted}
@@ -31,7 +30,7 @@ use Rattle.vx_sps.specs.Structure.{sps_form, sps_sections}
 use Rattle.vx_sps.specs.Set.{IsItems}
 use Rattle.vx_sps.specs.Subpictures.{id_of, numbers_of, subpics_of}
 use Rattle.vx_pic.specs.PictureLayout.{are_in_pps, ids_of, ids_misplaced, ids_unlike, ids_too_short, needs_ids, same_flag}
-use Rattle.vx_pic.proofs.Ids.{Lacks, LengthAndLow, Low, and_set, at_end_nothing, bind_nothing, fresh_size, items_lack, lacks_both, lacks_more, low_told, low_turns, numbers_joined, numbers_none, or_false, other_row, other_sound, sections_lack}
+use Rattle.vx_pic.proofs.Ids.{Lacks, LengthAndLow, Low, and_set, at_end_nothing, bind_nothing, fresh_size, items_lack, lacks_both, low_told, low_turns, numbers_none, or_false, other_row, other_sound, sections_lack}
 
 -- ---- the table
 

@@ -1,7 +1,7 @@
 -- How many ids a picture has: one for each subpicture, where its sets agree on them; and how large those of its PPS are.
-use Rattle.std.proofs.Common.{◌≡◌, ◌≢◌, inl, inr, ℕ, ℤ, pos, negsuc, zero, suc, ◌+◌, ◌<◌, ◌≤◌, ◌==◌, ◌&&◌, ◌||◌, not, Bool, true, false, cond, List, [], ◌∷◌, ◌++◌, length, map, slice_index, slice_set, refl, ap, sym, subst, ◌∙◌, arith, append_assoc, length-append}
+use Rattle.std.proofs.Common.{◌≡◌, ◌≢◌, inl, inr, ℕ, ℤ, pos, negsuc, zero, suc, ◌+◌, ◌<◌, ◌≤◌, ◌==◌, ◌&&◌, ◌||◌, not, Bool, true, false, List, [], ◌∷◌, ◌++◌, length, map, slice_index, slice_set, refl, ap, sym, subst, ◌∙◌, arith, append_assoc}
 use Rattle.std.proofs.Math.Pow.{pow_mono}
-use Rattle.std.specs.Prelude.{filter, drop, All, ◌-◌, ◌^◌, min}
+use Rattle.std.specs.Prelude.{filter, drop, All, ◌^◌, min}
 use Rattle.std.proofs.lemmas.Bool.{and_parts, cases_Bool, eq-eqb, ne_eqb, not-true, eqb-true, true≢false}
 use Rattle.std.proofs.lemmas.List.{append-nil, map-append}
 use Rattle.std.proofs.lemmas.List.Elements.{All-append, All-cons, All-head, All-nil, All-tail, filter-append}
@@ -22,15 +22,15 @@ use Rattle.vx_table.specs.declared.rows.Formula.{Formula}
 use Rattle.vx_table.specs.declared.rows.Row.{Row}
 use Rattle.vx_table.specs.declared.rows.Row.TheVariants.{Field, Block, Name}
 use Rattle.vx_table.specs.EachField.{EachField, sections_pass}
-use Rattle.vx_table.specs.Forms.{Form, done, field, ◌>>=◌, cell_at, has_value, form_of, part, one_field, after, coding_at, limits_at, present, turns}
+use Rattle.vx_table.specs.Forms.{Form, done, field, ◌>>=◌, has_value, form_of, part, one_field, after, coding_at, limits_at, present, turns}
 use Rattle.vx_table.specs.Loaded.{number}
 use Rattle.vx_table.specs.Parts.{Section, always, sections_form}
 use Rattle.vx_table.specs.Scope.{capped, fresh, is_set, natural, value}
-use Rattle.vx_table.specs.Spelling.{item_of, one_item, items_along}
+use Rattle.vx_table.specs.Spelling.{item_of, items_along}
 use Rattle.vx_table.specs.Values.{Follows, to_end, through}
 use Rattle.vx_table.proofs.EachField.{each_of_rows, each_of_sections}
 use Rattle.vx_table.proofs.Groups.{cut}
-use Rattle.vx_table.proofs.Joined.{items_joined, parted}
+use Rattle.vx_table.proofs.Joined.{items_joined}
 use Rattle.vx_table.proofs.Loading.{number_of_last, number_of_none}
 use Rattle.vx_table.specs.Claims.{hides_counter, hides_row}
 use Rattle.vx_table.proofs.Rewrites.{leaves_agree, sections_leave, sections_together}

@@ -1,5 +1,5 @@
 -- The sizes of pictures and of ids that an SPS has.
-use Rattle.std.proofs.Common.{◌≡◌, ℕ, ℤ, pos, negsuc, zero, suc, ◌+◌, ◌-◌, ◌*◌, ◌/◌, ◌%◌, ◌^◌, ◌<◌, ◌≤◌, ◌==◌, min, Bool, true, false, cond, List, [], ◌∷◌, ◌++◌, length, slice_index, slice_set, Option, Some, None, refl, ap, sym, subst, ◌∙◌, arith, inl, inr}
+use Rattle.std.proofs.Common.{◌≡◌, ℕ, ℤ, pos, negsuc, zero, suc, ◌+◌, ◌*◌, ◌%◌, ◌^◌, ◌<◌, ◌≤◌, ◌==◌, true, List, [], ◌∷◌, ◌++◌, length, slice_index, slice_set, None, refl, sym, subst, ◌∙◌, arith, inl, inr}
 use Rattle.std.specs.Int.{div_ceil}
 use Rattle.std.proofs.Math.Pow.{pow_mono}
 use Rattle.std.proofs.Math.Nat.{mul-le-mul_right}
@@ -8,17 +8,17 @@ use Rattle.vx_table.specs.EachField.{sections_pass}
 use Rattle.std.proofs.lemmas.Grind.{div_ceil_times}
 use Rattle.std.proofs.lemmas.List.{length-replicate, length-set, get_or-set_same, get_or-set_other}
 use Rattle.std.proofs.lemmas.Option.{none-some}
-use Rattle.std.specs.Prelude.{drop, int_le, IsTrue}
+use Rattle.std.specs.Prelude.{drop, int_le}
 use Rattle.vx_bits.specs.declared.list.Item.{Item}
 use Rattle.vx_fields.specs.declared.sps.TheConstants as sps
 use Rattle.vx_table.specs.declared.rows.Fault.{Fault}
 use Rattle.vx_table.specs.declared.rows.Limits.TheVariants.{Multiple}
-use Rattle.vx_table.specs.Claims.{hides_counter, hides_row, hides}
+use Rattle.vx_table.specs.Claims.{hides_counter, hides_row}
 use Rattle.vx_table.specs.Depends.{Agree, set_of}
 use Rattle.vx_table.specs.Forms.{has_value, form_of, part, one_field, after, coding_at, limits_at}
 use Rattle.vx_table.specs.Loaded.{number, code_below, range_below, row_below, names_none}
 use Rattle.vx_table.specs.Parts.{Section, always, sections_form}
-use Rattle.vx_table.specs.Scope.{fresh, natural, loaded, quotient}
+use Rattle.vx_table.specs.Scope.{fresh, natural, quotient}
 use Rattle.vx_table.specs.Spelling.{fault_of}
 use Rattle.vx_table.specs.Values.{Follows, through}
 use Rattle.vx_table.proofs.Bounds.{unbroken_multiple}
@@ -29,11 +29,10 @@ use Rattle.vx_table.specs.Scope.{value}
 use Rattle.vx_table.proofs.Joined.{parted}
 use Rattle.vx_table.proofs.Rewrites.{leaves_agree, sections_leave, tables_leave}
 use Rattle.vx_layout.specs.Bounds.{Rises}
-use Rattle.vx_sps.specs.declared.tables.TheConstants.{SIZE, CTUS, SUBPIC_IDS, SUBPICTURES, PLACE}
+use Rattle.vx_sps.specs.declared.tables.TheConstants.{SIZE}
 use Rattle.vx_sps.specs.Structure as structure
 use Rattle.vx_sps.specs.Structure.{sps_sections, sps_form}
 use Rattle.vx_sps.specs.Set.{IsItems, width_of, height_of, ctb_size_of, columns_of, rows_of}
-use Rattle.vx_sps.proofs.Bounded.{ctu_below}
 
 -- ids have 16 bits at most
 pub id_length_below : (items : List Item) → IsItems items → number items sps.sps_subpic_id_len_minus1 < 16

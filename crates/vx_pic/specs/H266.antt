@@ -1,5 +1,5 @@
 -- Readers of sets and headers that answer what their bytes spell (H.266 7.3), or the first refusal in them.
-use Rattle.std.specs.Prelude.{◌≡◌, ℕ, ◌+◌, ◌*◌, Bool, true, false, List, [], length, drop, Option, Result, Ok, Err}
+use Rattle.std.specs.Prelude.{◌≡◌, ℕ, ◌+◌, ◌*◌, Bool, true, false, List, [], length, drop, Result, Ok, Err}
 use Rattle.vx_annexb.specs.Places.{IsFirstFrom}
 use Rattle.vx_bits.specs.declared.list.Item.{Item}
 use Rattle.vx_bits.specs.declared.refusal.Refusal.{Refusal}

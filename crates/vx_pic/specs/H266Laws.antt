@@ -1,17 +1,14 @@
 -- What holds of the readers of H.266: their answers are determined, and there are such readers.
-use Rattle.std.specs.Prelude.{◌≡◌, ℕ, Bool, List, Option, Result}
+use Rattle.std.specs.Prelude.{◌≡◌, ℕ, Bool, List, Result}
 use Rattle.vx_bits.specs.declared.list.Item.{Item}
 use Rattle.vx_bits.specs.declared.refusal.Refusal.{Refusal}
-use Rattle.vx_aps.specs.declared.aps.Aps.{Aps}
 use Rattle.vx_aps.specs.Aps as aps
 use Rattle.vx_ph.specs.InForce.{in_force, structures}
 use Rattle.vx_pps.specs.Pps.{pps_form}
 use Rattle.vx_ptl.specs.Structures.{vps}
-use Rattle.vx_sei.specs.declared.message.Message.{Message}
 use Rattle.vx_sei.specs.Sei.{Carries}
 use Rattle.vx_sps.specs.Structure.{sps_form}
 use Rattle.vx_table.specs.Reading.{ReadsValue, as_read}
-use Rattle.vx_pic.specs.Sets.{SliceHeader}
 use Rattle.vx_pic.specs.Readings.{Begun}
 use Rattle.vx_pic.specs.Rules.{Readers}
 use Rattle.vx_pic.specs.PictureLayout.{IsLayoutAnswer}

@@ -10,7 +10,7 @@ use Rattle.vx_pic.specs.Readings.{Reading, Picture, aps_of, pictures}
 use Rattle.vx_pic.specs.Rules.{Readers, unit_size, picture_limit}
 use Rattle.vx_pic.specs.Streams.{all_read, read_on}
 use Rattle.vx_pic.specs.Alike.{IsNext}
-use Rattle.vx_pic.specs.Written.{Set, an_sps, a_pps, an_aps, IsStored, SetUnit, Plan, slices_of, units_of, set_readings, readings_of}
+use Rattle.vx_pic.specs.Written.{Set, an_sps, a_pps, an_aps, IsStored, SetUnit, Plan, slices_of, units_of, readings_of}
 use Rattle.vx_pic.specs.Written.{after, before_header, planned, Rests, AreInOrder, Says, HeadReads, SliceReads, SeiReads}
 
 -- ---- plans one behind another, the last one first

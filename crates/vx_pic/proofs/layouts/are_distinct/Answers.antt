@@ -1,8 +1,5 @@
-use Rattle.std.proofs.Common.{rules, ◌≡◌, length, sym, ap, ◌∙◌}
+use Rattle.std.proofs.Common.{sym, ◌∙◌}
 use Rattle.std.proofs.lemmas.Bool.{OnTrue_from, OnFalse_from, eqb-true, eqb-false}
-use Rattle.std.specs.BTreeSet as sorted
-use Rattle.std.specs.BTreeSet.{btree_set_len}
-use Rattle.std.specs.Ordering.{nat_cmp}
 use Rattle.vx_pic.proofs.Distinct.{as_many, fewer}
 use Rattle.vx_pic.proofs.layouts.are_distinct.Goals as goal
 

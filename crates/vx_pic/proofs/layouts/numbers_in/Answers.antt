@@ -1,4 +1,4 @@
-use Rattle.std.proofs.Common.{rules, ◌≡◌, sym, subst}
+use Rattle.std.proofs.Common.{rules}
 use Rattle.vx_sps.specs.Set as set
 use Rattle.vx_pps.specs.Pps as pps
 use Rattle.vx_pic.proofs.Answering.{limits_of}

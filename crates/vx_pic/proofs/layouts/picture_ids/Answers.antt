@@ -1,4 +1,4 @@
-use Rattle.std.proofs.Common.{◌≡◌, ◌∙◌, length, ap}
+use Rattle.std.proofs.Common.{◌∙◌, length, ap}
 use Rattle.vx_pps.specs.Pps.{IsItems}
 use Rattle.vx_pic.proofs.Ids.{ids_count}
 use Rattle.vx_pic.proofs.layouts.picture_ids.Goals as goal

@@ -1,7 +1,5 @@
-use Rattle.std.proofs.Common.{rules, ◌≡◌, ◌∙◌, sym, true, false, Err, ap}
+use Rattle.std.proofs.Common.{◌∙◌, sym}
 use Rattle.std.proofs.lemmas.Bool.{OnFalse_at, OnTrue_at}
-use Rattle.vx_bits.specs.declared.refusal.ReadError.{ReadError}
-use Rattle.vx_pic.specs.PictureLayout as spec
 use Rattle.vx_pic.proofs.Answering.{sizes_differ, ids_disagree, layout_answered, limits_made}
 use Rattle.vx_pic.proofs.layouts.picture_layout.Goals as goal
 
