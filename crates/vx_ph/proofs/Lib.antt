@@ -2,6 +2,8 @@
 pub mod Carrying
 pub mod Passing
 mod Rewriting
+pub mod Admitting
+pub mod Gathering
 pub mod Sets
 mod Spelling
 mod Id

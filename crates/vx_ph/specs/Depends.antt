@@ -1,25 +1,27 @@
 -- What a picture header depends on, which of its fields are kept, and that it is read again and rewritten.
-use Rattle.std.specs.Prelude.{◌≤◌, ℕ, ℤ, pos, not, List, [], ◌∷◌, ◌++◌, filter, Result}
+use Rattle.std.specs.Prelude.{◌≡◌, ◌≤◌, ℕ, ℤ, pos, not, List, [], ◌∷◌, ◌++◌, filter, slice_index, Result}
 use Rattle.vx_bits.specs.declared.list.Item.{Item}
 use Rattle.vx_bits.specs.declared.refusal.ReadError.{ReadError}
 use Rattle.vx_bits.specs.Place.{Place}
 use Rattle.vx_table.specs.Forms.{form_of}
+use Rattle.vx_table.specs.Spelling.{items_along}
 use Rattle.vx_table.specs.Values.{Follows}
 use Rattle.vx_table.specs.Reading.{Reads}
 use Rattle.vx_table.specs.Depends.{has, with_all, set_of, Agree, DependsOnlyOn}
 use Rattle.vx_table.specs.Named.{named_by_all, CodedOnce}
-use Rattle.vx_table.specs.Shown.{KeepsOnly}
+use Rattle.vx_table.specs.Shown.{shown_items, KeepsOnly}
 use Rattle.vx_table.specs.Again.{AlwaysShown}
-use Rattle.vx_table.specs.Rewrites.{Takes, Rewrites}
+use Rattle.vx_table.specs.Rewritten.{IsRewritten}
+use Rattle.vx_table.specs.Rewrites.{Takes}
 use Rattle.vx_fields.specs.declared.sps.TheConstants as sps
 use Rattle.vx_fields.specs.declared.pps.TheConstants as pps
 use Rattle.vx_fields.specs.declared.ph.TheConstants as ph
-use Rattle.vx_fields.specs.declared.alf.TheConstants as alf
 use Rattle.vx_fields.specs.declared.names.ph.TheConstants.{EXTRA_PH_BITS, FILTER_SET}
 use Rattle.vx_rpl.specs.declared.entry.RplTable.{RplTable}
 use Rattle.vx_rpl.specs.Lists.{weights}
 use Rattle.vx_rpl.specs.Depends.{of_lists}
 use Rattle.vx_ph.specs.declared.tables.TheConstants.{PICTURE, PPS_ID, ORDER_COUNT, ALF, LMCS_AND_SCALING, OUTPUT, INTRA, INTER, QP, FILTERS}
+use Rattle.vx_ph.specs.declared.tables.TheConstants.{STARRED}
 use Rattle.vx_ph.specs.Header.{front, middle, back, header_form}
 
 -- ---- fields
@@ -28,10 +30,9 @@ use Rattle.vx_ph.specs.Header.{front, middle, back, header_form}
 abbrev pub of_header : List ℕ
 of_header = named_by_all front ++ (named_by_all middle ++ (named_by_all back ++ (of_lists ++ named_by_all weights)))
 
--- the fields with a star, and what is named for them alone: the id of the PPS, the filter, LMCS and scaling lists, the QP
+-- the fields with a star, and what is named for them alone
 abbrev pub starred : List ℕ
-starred = ph.ph_pic_parameter_set_id ∷ FILTER_SET ∷ (alf.ALL ++ (ph.ph_lmcs_enabled_flag ∷ ph.ph_lmcs_aps_id
-    ∷ ph.ph_chroma_residual_scale_flag ∷ ph.ph_explicit_scaling_list_enabled_flag ∷ ph.ph_scaling_list_aps_id ∷ ph.ph_qp_delta ∷ []))
+starred = FILTER_SET ∷ STARRED
 
 -- all others are kept
 abbrev pub kept : List ℕ
@@ -94,14 +95,12 @@ HeaderReadAgain = (table : RplTable) (s t : List ℕ) (old new : Place) (items a
 
 -- ---- rewritten
 
--- what a header of other sets takes over: the kept fields, and with them what agrees of the sets
-abbrev pub taken : List ℕ
-taken = kept_for_starred ++ kept
-
--- A header goes again with another id of the PPS, another LMCS and scaling part, and neither filter nor QP, under sets that agree on what
--- is taken over, and whose PPS has both in slice headers.
+-- A header goes again under other sets that agree on what kept fields depend on, and whose PPS has filter and QP in slice headers: with
+-- its kept fields, another id of the PPS, and other LMCS and scaling lists that go through there.
 abbrev pub HeaderRewrites : Type 0
-HeaderRewrites = (table : RplTable) (s : List ℕ) (values : List ℤ) (end : List ℕ) (id : ℕ) (maps : List Item)
-    → Follows (header_form table s) values end → id ≤ 63 → Takes (form_of LMCS_AND_SCALING s) maps
-    → Rewrites (set_of taken) (set_of starred_of_sets) (header_form table) s values end
-    (record { field = ph.ph_pic_parameter_set_id; value = pos id } ∷ maps)
+HeaderRewrites = (table : RplTable) (s t : List ℕ) (values : List ℤ) (end : List ℕ) (id : ℕ) (maps : List Item)
+    → Agree (set_of kept_of_sets) s t → slice_index t pps.pps_alf_info_in_ph_flag ≡ 0 → slice_index t pps.pps_qp_delta_info_in_ph_flag ≡ 0
+    → Follows (header_form table s) values end → id ≤ 63 → Takes (form_of LMCS_AND_SCALING t) maps
+    → (items : List Item)
+    × IsRewritten (header_form table t) (set_of kept) (shown_items (set_of kept) (items_along (header_form table s) values))
+    (record { field = ph.ph_pic_parameter_set_id; value = pos id } ∷ maps) items

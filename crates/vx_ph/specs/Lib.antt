@@ -4,3 +4,5 @@ pub mod Id
 pub mod InForce
 pub mod Depends
 pub mod Picture
+pub mod Reshaped
+pub mod inner

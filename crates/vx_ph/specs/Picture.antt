@@ -63,3 +63,8 @@ pub record IsUnit (table : RplTable) (s : List ℕ) (header : PictureHeader) (by
   pub follows : Follows (unit_form table s) values end
   pub all : header.fields ≡ items_along (unit_form table s) values
   pub bits : bits_of bytes ≡ bits_along (unit_form table s) 0 values
+
+-- The bytes of a unit are read as its header.
+abbrev pub UnitIsRead : Type 0
+UnitIsRead = (table : RplTable) (s : List ℕ) (header : PictureHeader) (bytes : List ℕ) → IsHeader table s header
+    → IsUnit table s header bytes → ReadsUnit table s bytes (Ok header)

@@ -2,6 +2,8 @@
 ghost use Rattle.vx_ph.specs.Depends.{KeptDepend, AllDepend, KeepsKept, ShowsAll, FieldsAreCodedOnce, HeaderReadAgain, HeaderRewrites};
 ghost use Rattle.vx_ph.specs.Id.{HeaderHasId};
 ghost use Rattle.vx_ph.specs.InForce.{SetsAgree};
+ghost use Rattle.vx_ph.specs.Picture.{UnitIsRead};
+ghost use Rattle.vx_ph.specs.Reshaped.{SameKeptAgree};
 
 /// Sets that give some fields the same numbers give scopes that agree on these.
 pub fn sets_agree()
@@ -31,7 +33,8 @@ pub fn header_read_again()
     ensures { HeaderReadAgain }
 {}
 
-/// A header goes again under sets of a merge, with another id of the PPS and another LMCS and scaling part.
+/// A header goes again under other sets that keep what kept fields depend on, with its kept fields, another id of the PPS, and other
+/// LMCS and scaling lists.
 pub fn header_rewrites()
     ensures { HeaderRewrites }
 {}
@@ -39,4 +42,14 @@ pub fn header_rewrites()
 /// The id that stands in the bits is that of each header that they begin with, whatever the sets.
 pub fn header_has_id()
     ensures { HeaderHasId }
+{}
+
+/// Sets with the same kept fields are the same for headers.
+pub fn same_kept_agree()
+    ensures { SameKeptAgree }
+{}
+
+/// What is written of a unit is read as its header.
+pub fn unit_is_read()
+    ensures { UnitIsRead }
 {}

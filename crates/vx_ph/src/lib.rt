@@ -5,7 +5,9 @@ mod header;
 mod laws;
 mod pps_id;
 mod read;
+mod reshape;
 mod scope;
+mod shape;
 mod tables;
 #[cfg(test)]
 mod tests;
@@ -17,14 +19,16 @@ mod write;
 pub use header::PictureHeader;
 pub use laws::{
     fields_are_coded_once, header_depends, header_has_id, header_keeps, header_read_again,
-    header_rewrites, sets_agree,
+    header_rewrites, same_kept_agree, sets_agree, unit_is_read,
 };
 pub use pps_id::read_pps_id;
 pub use read::read_header_at;
+pub use reshape::{others_of, reshape_ph};
 pub use scope::{both_sets, in_force};
+pub use shape::{LmcsShape, PhShape};
 pub use tables::{
     ALF, FILTERS, INTER, INTRA, LMCS_AND_SCALING, ORDER_COUNT, OUTPUT, PICTURE, PPS_ID, QP,
-    TRAILING,
+    STARRED, TRAILING,
 };
 pub use under_sets::{read_ph, read_ph_unit, write_header, write_ph};
 pub use unit::read_unit_at;

@@ -195,3 +195,25 @@ pub const FILTERS: [Row; 25] = table! {
 
 /// What ends a picture header that is a unit of its own (clause 7.3.2.7).
 pub const TRAILING: [Row; 1] = table! { trailing ph_rbsp_trailing_bits; };
+
+/// The fields with a star, each of which a merged stream states anew: the id of the PPS, the filter, LMCS and scaling lists, and
+/// the QP.
+pub const STARRED: [u16; 17] = [
+    ph_pic_parameter_set_id,
+    alf_enabled_flag,
+    num_alf_aps_ids_luma,
+    alf_aps_id_luma,
+    alf_cb_enabled_flag,
+    alf_cr_enabled_flag,
+    alf_aps_id_chroma,
+    alf_cc_cb_enabled_flag,
+    alf_cc_cb_aps_id,
+    alf_cc_cr_enabled_flag,
+    alf_cc_cr_aps_id,
+    ph_lmcs_enabled_flag,
+    ph_lmcs_aps_id,
+    ph_chroma_residual_scale_flag,
+    ph_explicit_scaling_list_enabled_flag,
+    ph_scaling_list_aps_id,
+    ph_qp_delta,
+];

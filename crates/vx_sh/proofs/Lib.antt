@@ -1,7 +1,6 @@
 -- Lemmas on slice headers.
 pub mod Depending
 pub mod Kept
-mod Admitting
 pub mod Rewritten
 pub mod Passing
 mod Parts

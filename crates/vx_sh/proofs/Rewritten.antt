@@ -30,7 +30,7 @@ use Rattle.vx_sh.specs.Slice.{with_entry_points, address_form, own, before_lists
 use Rattle.vx_sh.specs.Depends.{starred_given, starred_fields}
 use Rattle.vx_sh.specs.Again.{kept, SlicesReadAgain, SlicesRewrite}
 use Rattle.vx_sh.proofs.Kept.{kept_depend, all_depend, all_are_shown}
-use Rattle.vx_sh.proofs.Admitting.{Adds, adds_none, adds_all, adds_then, adds_before, adds_sections, refilled}
+use Rattle.vx_ph.proofs.Admitting.{Adds, adds_none, adds_all, adds_then, adds_before, adds_sections, refilled}
 
 pub slices_read_again : SlicesReadAgain
 slices_read_again table points s t old new items after result agree reads =

@@ -16,6 +16,7 @@ use Rattle.vx_fields.specs.declared.sps.TheConstants as sps
 use Rattle.vx_fields.specs.declared.pps.TheConstants as pps
 use Rattle.vx_fields.specs.declared.ph.TheConstants as ph
 use Rattle.vx_rpl.specs.declared.entry.RplTable.{RplTable}
+use Rattle.vx_sh.specs.declared.tables.TheConstants.{STARRED}
 use Rattle.vx_sh.specs.Slice.{rest_form}
 
 -- ---- what is read of the sets, the picture header and the place of the slice
@@ -67,9 +68,7 @@ all_fields = of_lists ++ (FILTER_SET ∷ alf.ALL ++ (sh.ALL ++ names_sh.ALL))
 
 -- fields with a star, and the names that their rows alone read
 abbrev pub starred_fields : List ℕ
-starred_fields = FILTER_SET ∷ HAS_ALF ∷ alf.ALL
-    ++ (sh.sh_picture_header_in_slice_header_flag ∷ sh.sh_subpic_id ∷ sh.sh_lmcs_used_flag ∷ sh.sh_explicit_scaling_list_used_flag
-    ∷ sh.sh_qp_delta ∷ [])
+starred_fields = FILTER_SET ∷ HAS_ALF ∷ STARRED
 
 abbrev pub kept_fields : List ℕ
 kept_fields = filter (λ n. not (has (set_of starred_fields) n)) all_fields

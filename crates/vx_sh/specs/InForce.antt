@@ -8,6 +8,7 @@ use Rattle.vx_fields.specs.declared.pps.TheConstants.{pps_pic_parameter_set_id}
 use Rattle.vx_fields.specs.declared.ph.TheConstants.{ph_gdr_or_irap_pic_flag}
 use Rattle.vx_fields.specs.declared.names.rpl.TheConstants.{ENTRIES_0, ENTRIES_1}
 use Rattle.vx_fields.specs.declared.names.sh.TheConstants.{NAL_TYPE, EXTRA_SH_BITS, DEFAULT_ACTIVE_0, DEFAULT_ACTIVE_1}
+use Rattle.vx_layout.specs.declared.numbers.Numbers.{Numbers}
 use Rattle.vx_sps.specs.Set.{extra_sh_bits_of}
 use Rattle.vx_pps.specs.Pps.{default_active}
 use Rattle.vx_ph.specs.declared.header.PictureHeader.{PictureHeader}
@@ -33,14 +34,18 @@ slice_scope nal_type sps pps header sets =
     DEFAULT_ACTIVE_0 (default_active pps 0))
     DEFAULT_ACTIVE_1 (default_active pps 1)
 
-abbrev pub in_force_at : SliceNumbers → At
-in_force_at n = record {
-  table = structures n.sps.now;
-  sets = in_force n.sps.now n.pps.now;
-  slice = slice_scope n.nal_type n.sps.now n.pps.now n.header.now (in_force n.sps.now n.pps.now);
-  ids = n.ids.now;
-  layout = n.layout.now;
+-- what is in force under these sets and this picture header
+abbrev pub at_sets : ℕ → List Item → List Item → PictureHeader → List ℕ → Numbers → At
+at_sets nal_type sps pps header ids layout = record {
+  table = structures sps;
+  sets = in_force sps pps;
+  slice = slice_scope nal_type sps pps header (in_force sps pps);
+  ids = ids;
+  layout = layout;
 }
+
+abbrev pub in_force_at : SliceNumbers → At
+in_force_at n = at_sets n.nal_type n.sps.now n.pps.now n.header.now n.ids.now n.layout.now
 
 -- the names that it has beside fields
 abbrev pub beside : List ℕ

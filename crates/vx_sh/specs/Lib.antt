@@ -7,4 +7,5 @@ pub mod Value
 pub mod Addresses
 pub mod InForce
 pub mod Elsewhere
+pub mod Reshaped
 pub mod inner

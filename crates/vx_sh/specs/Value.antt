@@ -92,6 +92,18 @@ abbrev pub NumbersAreTold : Type 0
 NumbersAreTold = (n : At) (fields : List Item) (inside : List ℤ) (f : AreFields n fields inside) → length n.slice ≡ 1024
     → AreTold n fields f.end
 
+-- The numbers beside the items are those that these tell.
+pub record TellsNumbers (n : At) (header : SliceHeader) : Type 0 where
+  pub inside : header.inside ≡ is_set (number header.fields sh_picture_header_in_slice_header_flag)
+  pub subpic : header.subpic ≡ index_of (number header.fields sh_subpic_id) n.ids
+  pub address : header.address ≡ number header.fields sh_slice_address
+  pub lists : header.lists ≡ lists_of n.table n.sets header.fields
+
+-- What is written of such a slice header begins an RBSP, whatever payload follows.
+abbrev pub SpellingBegins : Type 0
+SpellingBegins = (n : At) (header : SliceHeader) (others : List Item) (bytes payload : List ℕ) → length n.slice ≡ 1024
+    → TellsNumbers n header → IsSpelling n header.fields others bytes → BeginsSlice n (bytes ++ payload) header (length bytes)
+
 -- What was read can be written: with any picture header where none stands inside, else with the one that the bits behind the first
 -- spell.
 pub record CanBeWritten (n : At) (rbsp : List ℕ) (header : SliceHeader) : Type 0 where

@@ -86,3 +86,7 @@ at_of n = record { table = n.table.now; sets = n.sets.now; slice = n.slice.now; 
 -- slice_header( ), with its alignment
 unfoldable pub slice_form : At → Form (List ℕ)
 slice_form n = (form_of HEADER_INSIDE n.slice >>= header_inside n.table n.sets) >>= behind_header n.table n.ids n.layout
+
+-- with the picture header apart
+unfoldable pub apart_form : RplTable → List ℕ → Numbers → List ℕ → Form (List ℕ)
+apart_form table ids layout s = form_of HEADER_INSIDE s >>= behind_header table ids layout

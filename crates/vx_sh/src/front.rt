@@ -2,10 +2,10 @@
 ghost use Rattle.std.specs.Prelude.{◌≡◌, ◌≤◌, length};
 ghost use Rattle.vx_table.specs.Walks.{Walks, leaving};
 ghost use Rattle.vx_sh.specs.Whole as whole;
-ghost use Rattle.vx_sh.specs.Whole.{located, points_at, points_of, subpic_form, behind_header, header_inside};
+ghost use Rattle.vx_sh.specs.Whole.{located, points_at, points_of, subpic_form, behind_header, header_inside, apart_form};
 
 use crate::context::Context;
-use crate::tables::{KNOWN_SUBPIC, SUBPIC_ID};
+use crate::tables::{HEADER_INSIDE, KNOWN_SUBPIC, SUBPIC_ID};
 use crate::walk::{EntryPoints, code_rest};
 use vx_bits::IdList;
 use vx_fields::names::sh::{NUM_SLICES, NUM_SUBPICS, SUBPIC};
@@ -56,7 +56,7 @@ impl<'a> EntryPoints for SubpicPoints<'a> {
 }
 
 /// The place of an id among the ids of the subpictures; past the last one where it is none of them.
-fn index_of(id: u32, ids: &IdList) -> u32
+pub(crate) fn index_of(id: u32, ids: &IdList) -> u32
     requires { length ids.now ≤ 1000 }
     ensures { result ≡ whole.index_of id ids.now }
 {
@@ -143,6 +143,20 @@ pub(crate) fn code_behind<I, C: Coder<I>>(
 {
     code_subpic(n, scope, coder, items)?;
     code_there(n, scope, coder, items)
+}
+
+/// Codes a slice header whose picture header stands apart.
+#[tactic(auto, unfolding(crate::specs::Whole::apart_form), using(vx_table::proofs::Steps::then, vx_table::proofs::Steps::stop))]
+pub(crate) fn code_apart<I, C: Coder<I>>(
+    n: &Context<'_>,
+    scope: &mut Scope,
+    coder: &mut C,
+    items: &mut I,
+) -> Result<(), C::Fault>
+    ensures { Walks C.step (apart_form n.now.table.now n.now.ids.now n.now.layout.now scope.old) coder.old items.old (leaving scope.new result) coder.new items.new }
+{
+    code_table(&HEADER_INSIDE, scope, coder, items)?;
+    code_behind(n, scope, coder, items)
 }
 
 /// Codes the picture header, where it stands inside.

@@ -4,7 +4,8 @@ ghost use Rattle.vx_sh.specs.Depends.{KeptDepend, AllDepend, AllAreShown, KeptAr
 ghost use Rattle.vx_sh.specs.Again.{SlicesReadAgain, SlicesRewrite};
 ghost use Rattle.vx_sh.specs.Elsewhere.{SliceReadElsewhere};
 ghost use Rattle.vx_sh.specs.InForce.{SliceScopesAgree, SliceScopesAreWhole};
-ghost use Rattle.vx_sh.specs.Value.{NumbersAreTold, ReadCanBeWritten, SpellingIsRead};
+ghost use Rattle.vx_sh.specs.Reshaped.{SlicesAgreeOnKept};
+ghost use Rattle.vx_sh.specs.Value.{NumbersAreTold, ReadCanBeWritten, SpellingBegins, SpellingIsRead};
 
 /// The kept fields of a slice header behind the id of its subpicture depend on kept fields alone, and the other fields on a
 /// few with a star beside these.
@@ -43,7 +44,8 @@ pub fn read_can_be_written()
 
 /// What is written of a slice header is read as it, whatever payload follows.
 pub fn spelling_is_read()
-    ensures { SpellingIsRead }
+    ensures read { SpellingIsRead }
+    ensures begins { SpellingBegins }
 {}
 
 /// Slices under sets and picture headers that give some fields the same numbers are read at scopes that agree on these.
@@ -55,4 +57,9 @@ pub fn slice_scopes_agree()
 /// What is a slice header at one place is the same at another that agrees with it for its subpicture, of the same bytes.
 pub fn slice_read_elsewhere()
     ensures { SliceReadElsewhere }
+{}
+
+/// Slices under sets and picture headers with the same kept fields find the same numbers in them.
+pub fn slices_agree_on_kept()
+    ensures { SlicesAgreeOnKept }
 {}

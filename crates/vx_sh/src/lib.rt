@@ -7,6 +7,8 @@ mod header;
 mod laws;
 mod numbers;
 mod read;
+mod reshape;
+mod shape;
 mod tables;
 #[cfg(test)]
 mod tests;
@@ -18,11 +20,13 @@ mod write;
 pub use header::SliceHeader;
 pub use laws::{
     addresses_are_below, numbers_are_told, read_can_be_written, slice_read_elsewhere,
-    slice_scopes_agree, slices_depend, slices_go_again, slices_keep, spelling_is_read,
+    slice_scopes_agree, slices_agree_on_kept, slices_depend, slices_go_again, slices_keep, spelling_is_read,
 };
 pub use numbers::{SliceNumbers, read_sh, write_sh};
+pub use reshape::reshape_sh;
+pub use shape::ShShape;
 pub use tables::{
     ACTIVE, ADDRESS, ALIGNMENT, CHROMA_QP_AND_FILTERS, END, FILTER_HERE, HEADER_INSIDE, INTER,
-    KNOWN_SUBPIC, LISTS_HERE, LMCS_AND_SCALING, QP, SUBPIC_ID, TYPE,
+    KNOWN_SUBPIC, LISTS_HERE, LMCS_AND_SCALING, QP, STARRED, SUBPIC_ID, TYPE,
 };
 pub use walk::{EntryPoints, code_rest};

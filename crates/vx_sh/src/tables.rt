@@ -3,6 +3,7 @@
 //! Fields with a star that a merged stream states anew stand in tables of their own: the id of the subpicture, what the slice
 //! uses of the picture's adaptation sets, and the QP.
 use vx_bits::rules::UNKNOWN_SUBPIC_ID;
+use vx_fields::alf::*;
 use vx_fields::names::rpl::{ACTIVE_0, ACTIVE_1, ENTRIES_0, ENTRIES_1};
 use vx_fields::names::sh::*;
 use vx_fields::ph::{
@@ -190,3 +191,23 @@ pub const END: [Row; 19] = table! {
 
 /// The alignment.
 pub const ALIGNMENT: [Row; 1] = table! { one_and_zeros sh_byte_alignment; };
+
+/// The fields with a star, each of which a merged stream states anew: whether the picture header stands inside, the id of the
+/// subpicture, the filter, the uses of LMCS and scaling lists, and the QP.
+pub const STARRED: [u16; 15] = [
+    sh_picture_header_in_slice_header_flag,
+    sh_subpic_id,
+    alf_enabled_flag,
+    num_alf_aps_ids_luma,
+    alf_aps_id_luma,
+    alf_cb_enabled_flag,
+    alf_cr_enabled_flag,
+    alf_aps_id_chroma,
+    alf_cc_cb_enabled_flag,
+    alf_cc_cb_aps_id,
+    alf_cc_cr_enabled_flag,
+    alf_cc_cr_aps_id,
+    sh_lmcs_used_flag,
+    sh_explicit_scaling_list_used_flag,
+    sh_qp_delta,
+];

@@ -1,0 +1,101 @@
+-- The rewritten picture header: what it takes over from its source, and what it states (H.266 7.3.2.8).
+use Rattle.std.specs.Prelude.{◌≡◌, ℕ, ◌<◌, List, [], ◌∷◌, ◌++◌, Option, Some, None, IfSome}
+use Rattle.vx_bits.specs.declared.list.Item.{Item}
+use Rattle.vx_table.specs.Scope.{is_set, one_if}
+use Rattle.vx_table.specs.Depends.{set_of, Agree}
+use Rattle.vx_table.specs.Loaded.{number}
+use Rattle.vx_table.specs.Rewritten.{IsRewritten}
+use Rattle.vx_table.specs.Shown.{shown_items}
+use Rattle.vx_fields.specs.declared.sps.TheConstants as sps_fields
+use Rattle.vx_fields.specs.declared.pps.TheConstants as pps_fields
+use Rattle.vx_fields.specs.declared.ph.TheConstants as ph
+use Rattle.vx_rpl.specs.HeaderLists.{lists_of}
+use Rattle.vx_sps.specs.Depends as sps_set
+use Rattle.vx_sps.specs.Reshaped.{item, where_so}
+use Rattle.vx_pps.specs.Pps as pps_set
+use Rattle.vx_ph.specs.declared.header.PictureHeader.{PictureHeader}
+use Rattle.vx_ph.specs.declared.shape.LmcsShape.{LmcsShape}
+use Rattle.vx_ph.specs.declared.shape.PhShape.{PhShape}
+use Rattle.vx_ph.specs.Header.{header_form}
+use Rattle.vx_ph.specs.InForce.{in_force, structures}
+use Rattle.vx_ph.specs.Depends.{kept, kept_for_starred}
+use Rattle.vx_ph.specs.Picture.{IsHeader}
+
+-- ---- what is stated, in the order of the syntax
+
+-- luma mapping with chroma scaling, off or on: its set, and, but for pictures of luma alone, whether chroma residuals are scaled
+abbrev pub lmcs_said : List Item → Option LmcsShape → List Item
+lmcs_said sps None = item ph.ph_lmcs_enabled_flag 0 ∷ []
+lmcs_said sps (Some lmcs) =
+    item ph.ph_lmcs_enabled_flag 1 ∷ item ph.ph_lmcs_aps_id lmcs.id
+    ∷ where_so (is_set (number sps sps_fields.sps_chroma_format_idc))
+    (item ph.ph_chroma_residual_scale_flag (one_if lmcs.scales_chroma) ∷ [])
+
+-- scaling lists, off or on: their set
+abbrev pub scaling_said : Option ℕ → List Item
+scaling_said None = item ph.ph_explicit_scaling_list_enabled_flag 0 ∷ []
+scaling_said (Some id) = item ph.ph_explicit_scaling_list_enabled_flag 1 ∷ item ph.ph_scaling_list_aps_id id ∷ []
+
+-- each where the SPS has it
+abbrev pub map_items : List Item → PhShape → List Item
+map_items sps shape =
+    where_so (is_set (number sps sps_fields.sps_lmcs_enabled_flag)) (lmcs_said sps shape.lmcs)
+    ++ where_so (is_set (number sps sps_fields.sps_explicit_scaling_list_enabled_flag)) (scaling_said shape.scaling)
+
+-- all that is stated: the PPS, and these; neither filter nor QP, which stand in slice headers
+abbrev pub stated : List Item → PhShape → List Item
+stated sps shape = item ph.ph_pic_parameter_set_id shape.pps_id ∷ map_items sps shape
+
+-- numbers that a header can have
+pub record IsShape (shape : PhShape) : Type 0 where
+  pub pps_id : shape.pps_id < 64
+  pub lmcs : IfSome shape.lmcs (λ lmcs. lmcs.id < 4)
+  pub scaling : IfSome shape.scaling (λ id. id < 8)
+
+-- ---- where a header goes again
+
+-- Two pairs of an SPS and a PPS with the same kept fields.
+pub record HaveSameKept (sps pps other_sps other_pps : List Item) : Type 0 where
+  pub of_sps : sps_set.kept_of other_sps ≡ sps_set.kept_of sps
+  pub of_pps : pps_set.kept_of other_pps ≡ pps_set.kept_of pps
+  pub is_pps : pps_set.IsItems pps
+  pub is_other : pps_set.IsItems other_pps
+
+-- A PPS that has the filter and the QP in slice headers.
+pub record IsApart (pps : List Item) : Type 0 where
+  pub filter : number pps pps_fields.pps_alf_info_in_ph_flag ≡ 0
+  pub qp : number pps pps_fields.pps_qp_delta_info_in_ph_flag ≡ 0
+
+-- A header that was read under sets whose kept fields these are, of which the PPS has the filter and the QP in slice headers.
+pub record GoesUnder (source : PictureHeader) (sps pps : List Item) : Type 0 where
+  pub own_sps : List Item
+  pub own_pps : List Item
+  pub header : IsHeader (structures own_sps) (in_force own_sps own_pps) source
+  pub same : HaveSameKept own_sps own_pps sps pps
+  pub apart : IsApart pps
+
+-- ---- the rewritten header
+
+-- The items are those of a header under the sets. Those of kept fields are the source's, and the others are exactly what is stated.
+abbrev pub AreReshaped : List Item → PhShape → List Item → List Item → List Item → Type 0
+AreReshaped source shape sps pps items = IsRewritten (header_form (structures sps) (in_force sps pps)) (set_of kept)
+    (shown_items (set_of kept) source) (stated sps shape) items
+
+-- And its reference picture lists are the source's.
+pub record IsReshaped (source : PictureHeader) (shape : PhShape) (sps pps : List Item) (written : PictureHeader) : Type 0 where
+  pub fields : AreReshaped source.fields shape sps pps written.fields
+  pub lists : written.lists ≡ source.lists
+
+-- ---- sets with the same kept fields
+
+-- Headers find the same in them: the structures of lists, the numbers of all kept fields that picture headers read, and the lists that
+-- the same items of a header come to.
+pub record AgreeOnKept (sps pps other_sps other_pps : List Item) : Type 0 where
+  pub structures : structures sps ≡ structures other_sps
+  pub numbers : Agree (set_of kept_for_starred) (in_force sps pps) (in_force other_sps other_pps)
+  pub lists : (items others : List Item) → shown_items (set_of kept) items ≡ shown_items (set_of kept) others
+      → lists_of (structures sps) (in_force sps pps) items ≡ lists_of (structures other_sps) (in_force other_sps other_pps) others
+
+abbrev pub SameKeptAgree : Type 0
+SameKeptAgree = (sps pps other_sps other_pps : List Item) → HaveSameKept sps pps other_sps other_pps
+    → AgreeOnKept sps pps other_sps other_pps

@@ -1,0 +1,202 @@
+//! The picture header that is sent for a frame of several sources, put together of a source's fields and stated ones.
+ghost use Rattle.std.specs.Prelude.{◌≡◌, [], ◌∷◌, ◌++◌, OnOk, IfOk};
+ghost use Rattle.vx_table.specs.Depends as sets;
+ghost use Rattle.vx_table.specs.Loaded as loading;
+ghost use Rattle.vx_table.specs.Rewritten.{other_items};
+ghost use Rattle.vx_sps.specs.Reshaped as reshaped;
+ghost use Rattle.vx_sps.specs.Reshaped.{where_so};
+ghost use Rattle.vx_ph.specs.declared.tables.TheConstants as tables;
+ghost use Rattle.vx_ph.specs.Header.{header_form};
+ghost use Rattle.vx_ph.specs.InForce.{in_force, structures};
+ghost use Rattle.vx_ph.specs.Picture.{IsHeader};
+ghost use Rattle.vx_ph.specs.Reshaped.{lmcs_said, scaling_said, map_items, stated, IsShape, GoesUnder, AreReshaped, IsReshaped};
+ghost use Rattle.vx_ph.specs.inner.Makes.{Makes};
+
+use crate::header::PictureHeader;
+use crate::scope::in_force;
+use crate::shape::{LmcsShape, PhShape};
+use crate::tables::STARRED;
+use crate::walk::code_header;
+use std::alloc::{AllocError, Global};
+use vx_bits::{Fields, Item};
+use vx_fields::ph::{
+    ph_chroma_residual_scale_flag, ph_explicit_scaling_list_enabled_flag, ph_lmcs_aps_id,
+    ph_lmcs_enabled_flag, ph_pic_parameter_set_id, ph_scaling_list_aps_id,
+};
+use vx_fields::sps::{
+    sps_chroma_format_idc, sps_explicit_scaling_list_enabled_flag, sps_lmcs_enabled_flag,
+};
+use vx_pps::Pps;
+use vx_rpl::{RplTable, resolve_lists};
+use vx_sps::Sps;
+use vx_table::{Rewriter, Scope, SpellError, Unwritten, set_of};
+
+/// Whether a field is one of a set.
+fn has(names: &Scope, field: u16) -> bool
+    ensures { result ≡ sets.has names.now field }
+{
+    names.latest(field) != 0
+}
+
+/// The items of all fields but those of a set, in order.
+///
+/// # Errors
+///
+/// Where memory runs out.
+#[tactic(auto, using(crate::proofs::Gathering::other_more, crate::proofs::Gathering::other_passed))]
+pub fn others_of(alloc: Global, items: &Fields, names: &Scope) -> Result<Fields, AllocError>
+    ensures { IfOk result (λ others. others ≡ other_items names.now items.now) }
+{
+    let mut others = Fields::new(alloc);
+    for i in 0..items.len() {
+        let item = items.item(i);
+        if !has(names, item.field) {
+            others.push(item)?;
+        }
+    }
+    Ok(others)
+}
+
+/// An item of a field.
+fn item(field: u16, number: u32) -> Item
+    ensures { result ≡ reshaped.item field number }
+{
+    Item {
+        field,
+        value: i64::from(number),
+    }
+}
+
+/// The number that a set's last item of a field gives it.
+fn number(sps: &Sps, field: u16) -> u32
+    ensures { result ≡ loading.number sps.now field }
+{
+    sps.scope().latest(field)
+}
+
+/// Appends an item that stands only where something holds.
+fn push_where(holds: bool, item: Item, into: &mut Fields) -> Result<(), AllocError>
+    ensures { OnOk result (into.new ≡ into.old ++ where_so holds (item ∷ [])) }
+{
+    if holds { into.push(item) } else { Ok(()) }
+}
+
+/// Luma mapping with chroma scaling.
+fn push_lmcs(sps: &Sps, lmcs: Option<LmcsShape>, into: &mut Fields) -> Result<(), AllocError>
+    ensures { OnOk result (into.new ≡ into.old ++ lmcs_said sps.now lmcs) }
+{
+    let Some(lmcs) = lmcs else {
+        return into.push(item(ph_lmcs_enabled_flag, 0));
+    };
+    into.extend_from_slice(&[
+        item(ph_lmcs_enabled_flag, 1),
+        item(ph_lmcs_aps_id, u32::from(lmcs.id)),
+    ])?;
+    let scales = item(ph_chroma_residual_scale_flag, u32::from(lmcs.scales_chroma));
+    push_where(number(sps, sps_chroma_format_idc) != 0, scales, into)
+}
+
+/// Scaling lists.
+fn push_scaling(scaling: Option<u8>, into: &mut Fields) -> Result<(), AllocError>
+    ensures { OnOk result (into.new ≡ into.old ++ scaling_said scaling) }
+{
+    let Some(id) = scaling else {
+        return into.push(item(ph_explicit_scaling_list_enabled_flag, 0));
+    };
+    into.extend_from_slice(&[
+        item(ph_explicit_scaling_list_enabled_flag, 1),
+        item(ph_scaling_list_aps_id, u32::from(id)),
+    ])
+}
+
+/// Both, each where the SPS has it.
+fn push_maps(sps: &Sps, shape: &PhShape, into: &mut Fields) -> Result<(), AllocError>
+    ensures { OnOk result (into.new ≡ into.old ++ map_items sps.now shape.now) }
+{
+    if number(sps, sps_lmcs_enabled_flag) != 0 {
+        push_lmcs(sps, shape.lmcs, into)?;
+    }
+    if number(sps, sps_explicit_scaling_list_enabled_flag) != 0 {
+        push_scaling(shape.scaling, into)?;
+    }
+    Ok(())
+}
+
+/// All that is stated, in order.
+fn stated_items(alloc: Global, sps: &Sps, shape: &PhShape) -> Result<Fields, AllocError>
+    ensures { IfOk result (λ items. items ≡ stated sps.now shape.now) }
+{
+    let mut into = Fields::new(alloc);
+    into.push(item(ph_pic_parameter_set_id, u32::from(shape.pps_id)))?;
+    push_maps(sps, shape, &mut into)?;
+    Ok(into)
+}
+
+/// Appends the header that has these items of the fields with a star, and those of the others.
+///
+/// # Errors
+///
+/// `NoValue` where there is none; want of memory.
+fn put_together(
+    stated: &Fields,
+    kept: &Fields,
+    table: &RplTable,
+    mut scope: Scope,
+    into: &mut Fields,
+) -> Result<(), SpellError>
+    requires { into.old ≡ [] }
+    ensures { Makes (header_form table.now scope) tables.STARRED stated.now kept.now result into.new }
+{
+    let mut rewriter = Rewriter::new(
+        set_of(&STARRED),
+        Unwritten::new(stated, 0, stated.len()),
+        Unwritten::new(kept, 0, kept.len()),
+    );
+    code_header(table, &mut scope, &mut rewriter, into)
+}
+
+/// The items of the header.
+fn reshaped_items(
+    alloc: Global,
+    source: &PictureHeader,
+    shape: &PhShape,
+    sps: &Sps,
+    pps: &Pps,
+) -> Result<Fields, AllocError>
+    requires shape { IsShape shape.now }
+    requires source { GoesUnder source.now sps.now pps.now }
+    ensures { IfOk result (λ items. AreReshaped source.now.fields shape.now sps.now pps.now items) }
+{
+    let kept = others_of(alloc, &source.fields, &set_of(&STARRED))?;
+    let stated = stated_items(alloc, sps, shape)?;
+    let mut items = Fields::new(alloc);
+    match put_together(&stated, &kept, sps.table(), in_force(sps, pps), &mut items) {
+        Ok(()) => Ok(items),
+        Err(SpellError::Memory) => Err(AllocError),
+        Err(SpellError::NoValue) => unreachable!(),
+    }
+}
+
+/// The picture header that says what `shape` says, and all else as its source: its kept fields are the source's. It is one under `sps`
+/// and `pps`, whose kept fields are those of the sets under which the source was read.
+///
+/// # Errors
+///
+/// Where memory runs out.
+pub fn reshape_ph(
+    alloc: Global,
+    source: &PictureHeader,
+    shape: &PhShape,
+    sps: &Sps,
+    pps: &Pps,
+) -> Result<PictureHeader, AllocError>
+    requires shape { IsShape shape.now }
+    requires source { GoesUnder source.now sps.now pps.now }
+    ensures reshaped { IfOk result (λ header. IsReshaped source.now shape.now sps.now pps.now header) }
+    // It is a header under the sets, which can be written.
+    ensures header { IfOk result (λ header. IsHeader (structures sps.now) (in_force sps.now pps.now) header) }
+{
+    let fields = reshaped_items(alloc, source, shape, sps, pps)?;
+    let lists = resolve_lists(alloc, sps.table(), &in_force(sps, pps), fields.as_slice())?;
+    Ok(PictureHeader { fields, lists })
+}
