@@ -16,7 +16,7 @@ use Rattle.vx_rpl.specs.Lists.{lists_form, weights, weights_form}
 use Rattle.vx_rpl.specs.Depends.{list_chains, behind_list, first_chains, behind_first, second_chains, behind_second, lists_chain, behind_lists}
 use Rattle.vx_rpl.proofs.Carrying.{lists_carry}
 use Rattle.vx_ph.specs.Header.{front, lists_if_present, middle, weights_if_present, back, before_weights, header_form}
-use Rattle.vx_ph.specs.Depends.{of_header, all_of_sets, AllDepend}
+use Rattle.vx_ph.specs.Depends.{of_header, kept, kept_of_sets, all_of_sets, KeptDepend, AllDepend}
 
 -- Along a header it goes where the tests of its parts hold; a, b, c are what is known before it, before the lists and before the weights.
 pub header_carries : (table : RplTable) (shown a b c : List ℕ) → sections_chain shown a front ≡ true → behind_sections shown a front ≡ b
@@ -41,3 +41,8 @@ pub all_depend : AllDepend
 unfolding fresh has_value knows_formula knows_width knows_range knows_presence hides_counter hides_row behind_field within_block depends behind_rows table_depends behind_table comes_always list_chains behind_list first_chains behind_first second_chains behind_second lists_chain behind_lists
 all_depend table = chains_depend all_of_sets of_header _ (header_form table)
     (header_carries table (with_all (set_of all_of_sets) of_header) (set_of all_of_sets) _ _ refl refl refl refl refl refl refl refl refl)
+
+pub kept_depend : KeptDepend
+unfolding fresh has_value knows_formula knows_width knows_range knows_presence hides_counter hides_row behind_field within_block depends behind_rows table_depends behind_table comes_always list_chains behind_list first_chains behind_first second_chains behind_second lists_chain behind_lists
+kept_depend table = chains_depend kept_of_sets kept _ (header_form table)
+    (header_carries table (with_all (set_of kept_of_sets) kept) (set_of kept_of_sets) _ _ refl refl refl refl refl refl refl refl refl)

@@ -4,6 +4,12 @@ pub mod Passing
 mod Rewriting
 pub mod Admitting
 pub mod Gathering
+pub mod Telling
 pub mod Sets
+pub mod Same
+pub mod Opening
+pub mod Making
+mod Maps
+mod Reshaping
 mod Spelling
 mod Id

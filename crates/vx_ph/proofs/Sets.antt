@@ -1,40 +1,17 @@
 -- Scopes of sets that give fields the same numbers.
-use Rattle.std.proofs.Common.{◌≡◌, ◌≢◌, ℕ, ◌<◌, ◌≤◌, false, IsTrue, List, [], ◌∷◌, length, ◌-◌, take, drop, replicate, slice_index, slice_set, inl, inr, refl, ap, sym, ◌∙◌, arith}
+use Rattle.std.proofs.Common.{◌≡◌, ◌≢◌, ℕ, ◌<◌, ◌≤◌, List, [], ◌∷◌, length, ◌-◌, take, drop, replicate, slice_index, slice_set, inl, inr, refl, ap, sym, ◌∙◌, arith}
 use Rattle.std.specs.Prelude.{All}
-use Rattle.std.proofs.lemmas.Bool.{cases_eq, cases_lt, false≢true}
+use Rattle.std.proofs.lemmas.Bool.{cases_eq, cases_lt}
 use Rattle.std.proofs.lemmas.Grind.{get_or-set_at}
-use Rattle.std.proofs.lemmas.List.{get_or_append_left, get_or-append_right, get_or-take, get_or-drop, get_or-set_other, get_or-replicate, get_or_past, length-append, length-take, length-drop, length-set, length-replicate}
-use Rattle.std.proofs.lemmas.List.Elements.{All-head, All-tail}
+use Rattle.std.proofs.lemmas.List.{get_or_append_left, get_or-append_right, get_or-take, get_or-drop, get_or-set_other, length-append, length-take, length-drop, length-set, length-replicate}
 use Rattle.vx_bits.specs.declared.list.Item.{Item}
-use Rattle.vx_table.specs.Scope.{natural, is_set, fresh, loaded, joined}
-use Rattle.vx_table.specs.Depends.{has, with_all, set_of}
+use Rattle.vx_table.specs.Scope.{natural, fresh, loaded, joined}
 use Rattle.vx_table.specs.Loaded.{number}
 use Rattle.vx_fields.specs.declared.pps.TheConstants.{pps_pic_parameter_set_id}
 use Rattle.vx_fields.specs.declared.names.ph.TheConstants.{EXTRA_PH_BITS}
 use Rattle.vx_sps.specs.Set.{extra_ph_bits_of}
+use Rattle.vx_pps.proofs.Fields.{named}
 use Rattle.vx_ph.specs.InForce.{both_sets, in_force, SetsAgree}
-
--- ---- sets of names
-
--- a fresh scope has no name
-pub no_name : (n : ℕ) → has (set_of []) n ≡ false
-unfolding fresh
-no_name n = ap is_set (elim (cases_lt n 1024) [
-  | inl within ↦ get_or-replicate 1024 n 0 0 within
-  | inr past ↦ get_or_past (replicate 1024 0) n 0 (omega (arith, length-replicate {A = ℕ} 1024 0, past))
-])
-
-named_more : (P : ℕ → Type 0) (names more : List ℕ) (n : ℕ) → All P more → (IsTrue (has names n) → P n) → IsTrue (has (with_all names more) n) → P n
-named_more P names [] n all here is = here is
-named_more P names (m ∷ more) n all here is =
-    named_more P (slice_set names m 1) more n (All-tail P m more all) (λ there. elim (cases_eq n m) [
-      | inl same ↦ rw same (All-head P m more all)
-      | inr other ↦ here (ap is_set (sym (get_or-set_other names m n 1 0 other)) ∙ there)
-    ]) is
-
--- what holds of each of some names holds of each name of their set
-pub named : (P : ℕ → Type 0) (names : List ℕ) (n : ℕ) → All P names → IsTrue (has (set_of names) n) → P n
-named P names n all is = named_more P fresh names n all (λ there. absurd (false≢true (sym (no_name n) ∙ there))) is
 
 -- ---- two scopes joined
 

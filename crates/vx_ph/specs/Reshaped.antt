@@ -11,6 +11,7 @@ use Rattle.vx_fields.specs.declared.pps.TheConstants as pps_fields
 use Rattle.vx_fields.specs.declared.ph.TheConstants as ph
 use Rattle.vx_rpl.specs.HeaderLists.{lists_of}
 use Rattle.vx_sps.specs.Depends as sps_set
+use Rattle.vx_sps.specs.Set as sps_items
 use Rattle.vx_sps.specs.Reshaped.{item, where_so}
 use Rattle.vx_pps.specs.Pps as pps_set
 use Rattle.vx_ph.specs.declared.header.PictureHeader.{PictureHeader}
@@ -23,13 +24,12 @@ use Rattle.vx_ph.specs.Picture.{IsHeader}
 
 -- ---- what is stated, in the order of the syntax
 
--- luma mapping with chroma scaling, off or on: its set, and, but for pictures of luma alone, whether chroma residuals are scaled
-abbrev pub lmcs_said : List Item → Option LmcsShape → List Item
-lmcs_said sps None = item ph.ph_lmcs_enabled_flag 0 ∷ []
-lmcs_said sps (Some lmcs) =
+-- luma mapping with chroma scaling, off or on: its set, and, where there is chroma, whether its residuals are scaled
+abbrev pub lmcs_said : (chroma : ℕ) → Option LmcsShape → List Item
+lmcs_said chroma None = item ph.ph_lmcs_enabled_flag 0 ∷ []
+lmcs_said chroma (Some lmcs) =
     item ph.ph_lmcs_enabled_flag 1 ∷ item ph.ph_lmcs_aps_id lmcs.id
-    ∷ where_so (is_set (number sps sps_fields.sps_chroma_format_idc))
-    (item ph.ph_chroma_residual_scale_flag (one_if lmcs.scales_chroma) ∷ [])
+    ∷ where_so (is_set chroma) (item ph.ph_chroma_residual_scale_flag (one_if lmcs.scales_chroma) ∷ [])
 
 -- scaling lists, off or on: their set
 abbrev pub scaling_said : Option ℕ → List Item
@@ -39,7 +39,7 @@ scaling_said (Some id) = item ph.ph_explicit_scaling_list_enabled_flag 1 ∷ ite
 -- each where the SPS has it
 abbrev pub map_items : List Item → PhShape → List Item
 map_items sps shape =
-    where_so (is_set (number sps sps_fields.sps_lmcs_enabled_flag)) (lmcs_said sps shape.lmcs)
+    where_so (is_set (number sps sps_fields.sps_lmcs_enabled_flag)) (lmcs_said (number sps sps_fields.sps_chroma_format_idc) shape.lmcs)
     ++ where_so (is_set (number sps sps_fields.sps_explicit_scaling_list_enabled_flag)) (scaling_said shape.scaling)
 
 -- all that is stated: the PPS, and these; neither filter nor QP, which stand in slice headers
@@ -58,6 +58,7 @@ pub record IsShape (shape : PhShape) : Type 0 where
 pub record HaveSameKept (sps pps other_sps other_pps : List Item) : Type 0 where
   pub of_sps : sps_set.kept_of other_sps ≡ sps_set.kept_of sps
   pub of_pps : pps_set.kept_of other_pps ≡ pps_set.kept_of pps
+  pub is_sps : sps_items.IsItems sps
   pub is_pps : pps_set.IsItems pps
   pub is_other : pps_set.IsItems other_pps
 
@@ -91,7 +92,7 @@ pub record IsReshaped (source : PictureHeader) (shape : PhShape) (sps pps : List
 -- Headers find the same in them: the structures of lists, the numbers of all kept fields that picture headers read, and the lists that
 -- the same items of a header come to.
 pub record AgreeOnKept (sps pps other_sps other_pps : List Item) : Type 0 where
-  pub structures : structures sps ≡ structures other_sps
+  pub same_structures : structures sps ≡ structures other_sps
   pub numbers : Agree (set_of kept_for_starred) (in_force sps pps) (in_force other_sps other_pps)
   pub lists : (items others : List Item) → shown_items (set_of kept) items ≡ shown_items (set_of kept) others
       → lists_of (structures sps) (in_force sps pps) items ≡ lists_of (structures other_sps) (in_force other_sps other_pps) others

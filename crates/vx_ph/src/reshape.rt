@@ -82,8 +82,8 @@ fn push_where(holds: bool, item: Item, into: &mut Fields) -> Result<(), AllocErr
 }
 
 /// Luma mapping with chroma scaling.
-fn push_lmcs(sps: &Sps, lmcs: Option<LmcsShape>, into: &mut Fields) -> Result<(), AllocError>
-    ensures { OnOk result (into.new ≡ into.old ++ lmcs_said sps.now lmcs) }
+fn push_lmcs(chroma: u32, lmcs: Option<LmcsShape>, into: &mut Fields) -> Result<(), AllocError>
+    ensures { OnOk result (into.new ≡ into.old ++ lmcs_said chroma lmcs) }
 {
     let Some(lmcs) = lmcs else {
         return into.push(item(ph_lmcs_enabled_flag, 0));
@@ -93,7 +93,7 @@ fn push_lmcs(sps: &Sps, lmcs: Option<LmcsShape>, into: &mut Fields) -> Result<()
         item(ph_lmcs_aps_id, u32::from(lmcs.id)),
     ])?;
     let scales = item(ph_chroma_residual_scale_flag, u32::from(lmcs.scales_chroma));
-    push_where(number(sps, sps_chroma_format_idc) != 0, scales, into)
+    push_where(chroma != 0, scales, into)
 }
 
 /// Scaling lists.
@@ -114,7 +114,7 @@ fn push_maps(sps: &Sps, shape: &PhShape, into: &mut Fields) -> Result<(), AllocE
     ensures { OnOk result (into.new ≡ into.old ++ map_items sps.now shape.now) }
 {
     if number(sps, sps_lmcs_enabled_flag) != 0 {
-        push_lmcs(sps, shape.lmcs, into)?;
+        push_lmcs(number(sps, sps_chroma_format_idc), shape.lmcs, into)?;
     }
     if number(sps, sps_explicit_scaling_list_enabled_flag) != 0 {
         push_scaling(shape.scaling, into)?;

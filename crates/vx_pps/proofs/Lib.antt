@@ -33,4 +33,4 @@ pub mod Flags
 pub mod Framing
 pub mod Remade
 pub mod Fields
-mod Numbered
+pub mod Numbered

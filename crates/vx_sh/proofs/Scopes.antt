@@ -18,7 +18,8 @@ use Rattle.vx_sps.specs.Set.{extra_sh_bits_of}
 use Rattle.vx_pps.specs.Pps.{default_active}
 use Rattle.vx_ph.specs.declared.header.PictureHeader.{PictureHeader}
 use Rattle.vx_ph.specs.InForce.{in_force}
-use Rattle.vx_ph.proofs.Sets.{named, joined_length, joined_below, joined_from, fresh_length, in_force_length, of_sps, of_pps}
+use Rattle.vx_pps.proofs.Fields.{named}
+use Rattle.vx_ph.proofs.Sets.{joined_length, joined_below, joined_from, fresh_length, in_force_length, of_sps, of_pps}
 use Rattle.vx_sh.specs.InForce.{slice_scope, beside, SliceScopesAgree, SliceScopesAreWhole}
 
 -- ---- the sets' numbers and the header's

@@ -1,0 +1,13 @@
+-- What is made is the rewritten header, and it never comes that there is none.
+use Rattle.vx_ph.proofs.Reshaping.{reshapes}
+use Rattle.vx_ph.proofs.reshape.reshaped_items.Goals as goal
+
+pub returns-in-Ok : goal.returns-in-Ok
+returns-in-Ok c =
+    rw c.in-Ok.is at (reshapes c.args.source.now c.args.shape.now c.args.sps.now c.args.pps.now c.requires.shape c.requires.source c.put_together.new.into c.put_together.result (rw c.set_of.ensures at c.in_ok-kept.ensures) c.in_ok-stated.ensures c.in_force.ensures
+    (rw c.table.ensures at c.put_together.ensures))
+
+pub unreachable-requires : goal.unreachable-requires
+unreachable-requires c =
+    rw (c.in-Err-NoValue.is, c.in-Err-NoValue.field-0-is) at (reshapes c.args.source.now c.args.shape.now c.args.sps.now c.args.pps.now c.requires.shape c.requires.source c.put_together.new.into c.put_together.result (rw c.set_of.ensures at c.in_ok-kept.ensures)
+    c.in_ok-stated.ensures c.in_force.ensures (rw c.table.ensures at c.put_together.ensures))
