@@ -91,9 +91,10 @@ module _ (source : PictureHeader) (shape : PhShape) (sps pps : List Item) (is : 
 
   -- and its lists are the source's
   pub lists_are : (written : PictureHeader) → AreReshaped source.fields shape sps pps written.fields → IsHeader (structures sps) (in_force sps pps) written → IsReshaped source shape sps pps written
+  unfolding fresh
   lists_are written re header =
       let on = agree_on_kept goes.own_sps goes.own_pps sps pps goes.same in
-      record { fields = re; lists = header.lists ∙ sym (on.lists source.fields written.fields (sym re.shown_ones)) ∙ sym goes.header.lists }
+      record { fields = re; lists = header.lists ∙ sym (on.lists (set_of kept) source.fields written.fields refl (sym re.shown_ones)) ∙ sym goes.header.lists }
 
 pub are_fields : (source : PictureHeader) (shape : PhShape) (sps pps items : List Item) → AreReshaped source.fields shape sps pps items → AreFields (structures sps) (in_force sps pps) items
 are_fields source shape sps pps items re = record { values = re.values; end = re.end; follows = re.follows; all = re.all }

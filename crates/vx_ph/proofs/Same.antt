@@ -9,7 +9,6 @@ use Rattle.vx_fields.specs.declared.names.ph.TheConstants.{EXTRA_PH_BITS}
 use Rattle.vx_table.specs.Depends.{Agree, has, set_of}
 use Rattle.vx_table.specs.Loaded.{number}
 use Rattle.vx_table.specs.Scope.{capped, fresh, is_set, natural}
-use Rattle.vx_table.specs.Shown.{shown_items}
 use Rattle.vx_table.proofs.Loading.{number_of_shown}
 use Rattle.vx_layout.proofs.Counting.{count_by-filter_all}
 use Rattle.vx_rpl.specs.HeaderLists.{lists_of}
@@ -21,7 +20,7 @@ use Rattle.vx_pps.specs.Pps.{default_active}
 use Rattle.vx_pps.specs.Sets as pps_set
 use Rattle.vx_pps.proofs.Fields.{all_pass, passes, same_with, with_field}
 use Rattle.vx_pps.proofs.Numbered.{kept_tells_numbers}
-use Rattle.vx_ph.specs.Depends.{kept, kept_for_starred}
+use Rattle.vx_ph.specs.Depends.{kept_for_starred}
 use Rattle.vx_ph.specs.InForce.{in_force, structures}
 use Rattle.vx_ph.specs.Reshaped.{AgreeOnKept, HaveSameKept, SameKeptAgree}
 use Rattle.vx_ph.proofs.Sets.{sets_agree}
@@ -72,7 +71,7 @@ module _ (sps pps other_sps other_pps : List Item) (same : HaveSameKept sps pps 
   ]
 
   gives : pps_set.GiveSame pps other_pps
-  gives = kept_tells_numbers pps other_pps same.is_pps same.is_other (sym same.of_pps)
+  gives = kept_tells_numbers pps other_pps same.is_pps same.is_other_pps (sym same.of_pps)
 
   pub pps_numbers : (n : ℕ) → of_pps n ≡ true → 400 ≤ n → n < 600 → number pps n ≡ number other_pps n
   pps_numbers n pass from upto = elim (or_cases (nat_lt n 400 || nat_le 600 n) (has (set_of pps_set.kept) n) pass) [
@@ -120,8 +119,8 @@ module _ (sps pps other_sps other_pps : List Item) (same : HaveSameKept sps pps 
   agree_on_kept = record {
     same_structures = same_tables;
     numbers = numbers_agree;
-    lists = λ items others alike.
-        lists_follow_items (structures sps) (set_of kept_for_starred) (in_force sps pps) (in_force other_sps other_pps) (set_of kept) items others numbers_agree refl refl refl refl refl alike
+    lists = λ names items others run alike.
+        lists_follow_items (structures sps) (set_of kept_for_starred) (in_force sps pps) (in_force other_sps other_pps) names items others numbers_agree refl refl refl refl run alike
         ∙ ap (λ t. lists_of t (in_force other_sps other_pps) others) same_tables;
   }
 

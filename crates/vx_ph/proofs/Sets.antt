@@ -1,17 +1,26 @@
 -- Scopes of sets that give fields the same numbers.
-use Rattle.std.proofs.Common.{◌≡◌, ◌≢◌, ℕ, ◌<◌, ◌≤◌, List, [], ◌∷◌, length, ◌-◌, take, drop, replicate, slice_index, slice_set, inl, inr, refl, ap, sym, ◌∙◌, arith}
+use Rattle.std.proofs.Common.{◌≡◌, ◌≢◌, ℕ, ◌<◌, ◌≤◌, false, List, [], ◌∷◌, length, ◌-◌, take, drop, replicate, slice_index, slice_set, inl, inr, refl, ap, sym, ◌∙◌, arith}
 use Rattle.std.specs.Prelude.{All}
-use Rattle.std.proofs.lemmas.Bool.{cases_eq, cases_lt}
+use Rattle.std.proofs.lemmas.Bool.{both_ways, cases_Bool, cases_eq, cases_lt}
 use Rattle.std.proofs.lemmas.Grind.{get_or-set_at}
 use Rattle.std.proofs.lemmas.List.{get_or_append_left, get_or-append_right, get_or-take, get_or-drop, get_or-set_other, length-append, length-take, length-drop, length-set, length-replicate}
 use Rattle.vx_bits.specs.declared.list.Item.{Item}
 use Rattle.vx_table.specs.Scope.{natural, fresh, loaded, joined}
+use Rattle.vx_table.specs.Depends.{has, set_of}
 use Rattle.vx_table.specs.Loaded.{number}
+use Rattle.vx_table.proofs.Groups.{inside_nothing}
 use Rattle.vx_fields.specs.declared.pps.TheConstants.{pps_pic_parameter_set_id}
 use Rattle.vx_fields.specs.declared.names.ph.TheConstants.{EXTRA_PH_BITS}
 use Rattle.vx_sps.specs.Set.{extra_ph_bits_of}
 use Rattle.vx_pps.proofs.Fields.{named}
 use Rattle.vx_ph.specs.InForce.{both_sets, in_force, SetsAgree}
+
+-- a fresh scope has no name
+pub no_name : (n : ℕ) → has (set_of []) n ≡ false
+no_name n = elim (cases_Bool (has (set_of []) n)) [
+  | inl is ↦ absurd (both_ways _ refl ((inside_nothing []).has_too n is))
+  | inr is_not ↦ is_not
+]
 
 -- ---- two scopes joined
 

@@ -1,5 +1,5 @@
 -- The rewritten picture header: what it takes over from its source, and what it states (H.266 7.3.2.8).
-use Rattle.std.specs.Prelude.{◌≡◌, ℕ, ◌<◌, List, [], ◌∷◌, ◌++◌, Option, Some, None, IfSome}
+use Rattle.std.specs.Prelude.{◌≡◌, ℕ, ◌<◌, true, List, [], ◌∷◌, ◌++◌, Option, Some, None, IfSome}
 use Rattle.vx_bits.specs.declared.list.Item.{Item}
 use Rattle.vx_table.specs.Scope.{is_set, one_if}
 use Rattle.vx_table.specs.Depends.{set_of, Agree}
@@ -9,6 +9,8 @@ use Rattle.vx_table.specs.Shown.{shown_items}
 use Rattle.vx_fields.specs.declared.sps.TheConstants as sps_fields
 use Rattle.vx_fields.specs.declared.pps.TheConstants as pps_fields
 use Rattle.vx_fields.specs.declared.ph.TheConstants as ph
+use Rattle.vx_fields.specs.declared.rpl.TheConstants.{num_ref_entries}
+use Rattle.vx_rpl.specs.Depends.{has_run}
 use Rattle.vx_rpl.specs.HeaderLists.{lists_of}
 use Rattle.vx_sps.specs.Depends as sps_set
 use Rattle.vx_sps.specs.Set as sps_items
@@ -59,8 +61,9 @@ pub record HaveSameKept (sps pps other_sps other_pps : List Item) : Type 0 where
   pub of_sps : sps_set.kept_of other_sps ≡ sps_set.kept_of sps
   pub of_pps : pps_set.kept_of other_pps ≡ pps_set.kept_of pps
   pub is_sps : sps_items.IsItems sps
+  pub is_other_sps : sps_items.IsItems other_sps
   pub is_pps : pps_set.IsItems pps
-  pub is_other : pps_set.IsItems other_pps
+  pub is_other_pps : pps_set.IsItems other_pps
 
 -- A PPS that has the filter and the QP in slice headers.
 pub record IsApart (pps : List Item) : Type 0 where
@@ -90,11 +93,12 @@ pub record IsReshaped (source : PictureHeader) (shape : PhShape) (sps pps : List
 -- ---- sets with the same kept fields
 
 -- Headers find the same in them: the structures of lists, the numbers of all kept fields that picture headers read, and the lists that
--- the same items of a header come to.
+-- the same items of a header's lists come to.
 pub record AgreeOnKept (sps pps other_sps other_pps : List Item) : Type 0 where
   pub same_structures : structures sps ≡ structures other_sps
   pub numbers : Agree (set_of kept_for_starred) (in_force sps pps) (in_force other_sps other_pps)
-  pub lists : (items others : List Item) → shown_items (set_of kept) items ≡ shown_items (set_of kept) others
+  pub lists : (names : List ℕ) (items others : List Item) → has_run names num_ref_entries 11 ≡ true
+      → shown_items names items ≡ shown_items names others
       → lists_of (structures sps) (in_force sps pps) items ≡ lists_of (structures other_sps) (in_force other_sps other_pps) others
 
 abbrev pub SameKeptAgree : Type 0

@@ -1,9 +1,10 @@
 -- Anything may follow a slice header; and what is written of it is read again.
 use Rattle.std.proofs.Common.{◌≡◌, ℕ, ℤ, ◌+◌, ◌*◌, Bool, true, false, not, List, [], ◌∷◌, ◌++◌, length, refl, ap, sym, subst, ◌∙◌, arith}
 use Rattle.std.proofs.lemmas.Bool.{not-true}
-use Rattle.std.proofs.lemmas.List.{length-append}
+use Rattle.std.proofs.lemmas.List.{length-append, take_at}
 use Rattle.vx_bits.specs.declared.list.Item.{Item}
-use Rattle.vx_bits.specs.Codes.{bits_of}
+use Rattle.vx_bits.specs.Codes.{bits_of, EndsInNoZero}
+use Rattle.vx_table.specs.Scope.{is_set}
 use Rattle.vx_bits.proofs.Bits.{length-bits_of, bits_of-append}
 use Rattle.vx_table.specs.declared.rows.Term.TheVariants.{Latest}
 use Rattle.vx_table.specs.declared.rows.Formula.{Formula}
@@ -28,18 +29,16 @@ use Rattle.vx_rpl.specs.declared.entry.RplTable.{RplTable}
 use Rattle.vx_rpl.specs.Lists.{weights}
 use Rattle.vx_rpl.proofs.Passing.{lists_each}
 use Rattle.vx_ph.specs.Header.{header_form}
-use Rattle.vx_ph.proofs.Passing.{header_each}
+use Rattle.vx_ph.proofs.Opening.{Opens, header_opens, row_is_open, row_opens}
 use Rattle.vx_sh.specs.declared.tables.TheConstants.{HEADER_INSIDE, SUBPIC_ID, KNOWN_SUBPIC, ADDRESS}
 use Rattle.vx_sh.specs.Slice.{before_lists, between, behind_weights, rest_form}
 use Rattle.vx_sh.specs.Whole.{At, located, id_form, subpic_form, points_of, there, behind_header, header_inside, slice_form}
-use Rattle.vx_sh.specs.Value.{AreFields, values_of, IsSpelling, BeginsSlice, SpellingIsRead}
+use Rattle.vx_sh.specs.Value.{AreFields, values_of, IsSpelling, BeginsSlice, SpellingIsRead, SpellingBegins}
 use Rattle.vx_sh.proofs.Depending.{Pass, behind_each}
 use Rattle.vx_sh.proofs.Sized.{all_follow}
+use Rattle.vx_sh.proofs.Told.{numbers_are_told}
 
 -- ---- anything may follow
-
-abbrev Opens : Cell ℕ → Type 0
-Opens cell = (rest : List Bool) → MayEnd cell.coding rest
 
 closes : {A : Type 0} (form : Form A) (place : ℕ) (values : List ℤ) (rest : List Bool) → EachField Opens form → Closes form place values rest
 closes (done a) place values rest is = tt
@@ -47,40 +46,19 @@ closes (field cell goes) place [] rest is = tt
 closes (field cell goes) place (v ∷ w) rest is =
     (is.0 (bits_along (goes v) (place + length (code_of cell.coding place v)) w ++ rest), closes (goes v) (place + length (code_of cell.coding place v)) w rest (is.1 v))
 
-row_opens : Row → Bool
-row_opens (Field c) = not (is_trailing c.coding)
-row_opens (Block presence n) = true
-row_opens (Name name formula) = true
-
-coding_opens : (s : List ℕ) (coding : Coding Formula) → is_trailing coding ≡ false → (rest : List Bool) → MayEnd (coding_at s coding) rest
-unfolding is_trailing coding_at MayEnd
-coding_opens s (Fixed width) is rest = tt
-coding_opens s Golomb is rest = tt
-coding_opens s SignedGolomb is rest = tt
-coding_opens s Zeros is rest = tt
-coding_opens s OneAndZeros is rest = tt
-coding_opens s Trailing is rest = absurd (cc)
-coding_opens s Absent is rest = tt
-coding_opens s Refused is rest = tt
-
-sound : (c : Cell Formula) (s : List ℕ) → row_opens (Field c) ≡ true → Opens (cell_at s c)
-unfolding row_opens
-sound c s is = coding_opens s c.coding (not-true (is_trailing c.coding) is)
-
 inside_opens : (table : RplTable) (sets s : List ℕ) → EachField Opens (header_inside table sets s)
-unfolding row_opens is_trailing
 inside_opens table sets s =
     each_present Opens (When (Plain (Latest sh_picture_header_in_slice_header_flag))) (λ t. header_form table sets >>= λ u. done t) s
     (λ t. each_then Opens (header_form table sets) (λ u. done t)
-    (header_each Opens row_opens sound table sets (record { front = refl; lists = refl; middle = refl; weights = refl; back = refl })) (λ u. tt))
+    (header_opens table sets) (λ u. tt))
 
 slice_opens : (n : At) → EachField Opens (slice_form n)
 unfolding row_opens is_trailing slice_form
 slice_opens n =
     let behind : Pass row_opens = record { id = refl; known = refl; address = refl; before_lists = refl; lists = refl; between = refl; weights = refl; behind_weights = refl } in
     each_then Opens (form_of HEADER_INSIDE n.slice >>= header_inside n.table n.sets) (behind_header n.table n.ids n.layout)
-    (each_then Opens (form_of HEADER_INSIDE n.slice) (header_inside n.table n.sets) (each_of_rows Opens row_opens sound HEADER_INSIDE n.slice refl) (inside_opens n.table n.sets))
-    (λ t. behind_each Opens row_opens sound n.table n.ids n.layout t behind)
+    (each_then Opens (form_of HEADER_INSIDE n.slice) (header_inside n.table n.sets) (each_of_rows Opens row_opens row_is_open HEADER_INSIDE n.slice refl) (inside_opens n.table n.sets))
+    (λ t. behind_each Opens row_opens row_is_open n.table n.ids n.layout t behind)
 
 -- ---- read again
 
@@ -118,3 +96,24 @@ spelling_is_read n fields header bytes payload read size is begins =
       same_fields n read.fields fields begins.inside is.is.inside begins.fields is.is.slice one.0,
       omega (arith, begins.size, ap length one.1, length-bits_of payload, length-append bytes payload),
     )
+
+-- ---- written in front of a payload
+
+pub spelling_begins : SpellingBegins
+spelling_begins n header others bytes payload size tells is =
+    let f = is.is.slice in
+    let told = numbers_are_told n header.fields is.is.inside f size in
+    record {
+      inside = is.is.inside;
+      fields = f;
+      rest = bits_of payload;
+      spelled = spelled_again n header.fields others bytes payload is;
+      numbers = record {
+        inside = tells.inside ∙ ap is_set (sym told.inside);
+        subpic = tells.subpic ∙ sym told.subpic;
+        address = tells.address ∙ sym told.address;
+        lists = tells.lists;
+      };
+      size = omega (arith, length-append bytes payload, length-bits_of payload);
+      last = subst EndsInNoZero (sym (take_at bytes payload (length bytes) refl)) is.last;
+    }

@@ -14,3 +14,6 @@ mod Closed
 mod Elsewhere
 pub mod Scopes
 pub mod Small
+pub mod SameScopes
+mod Stating
+mod Reshaping

@@ -24,27 +24,27 @@ use Rattle.vx_sh.specs.InForce.{slice_scope, beside, SliceScopesAgree, SliceScop
 
 -- ---- the sets' numbers and the header's
 
-with_header : List Item → List Item → List Item → List ℕ
+pub with_header : List Item → List Item → List Item → List ℕ
 with_header sps pps header = joined ph_gdr_or_irap_pic_flag (in_force sps pps) (loaded fresh header)
 
-with_header_length : (sps pps header : List Item) → length (with_header sps pps header) ≡ 1024
+pub with_header_length : (sps pps header : List Item) → length (with_header sps pps header) ≡ 1024
 unfolding with_header
 with_header_length sps pps header =
     joined_length ph_gdr_or_irap_pic_flag (in_force sps pps) (loaded fresh header) (in_force_length sps pps ∙ sym (fresh_length header))
     (omega (arith, in_force_length sps pps)) ∙ in_force_length sps pps
 
-header_from_sps : (sps pps header : List Item) (n : ℕ) → n < pps_pic_parameter_set_id → slice_index (with_header sps pps header) n ≡ number sps n
+pub header_from_sps : (sps pps header : List Item) (n : ℕ) → n < pps_pic_parameter_set_id → slice_index (with_header sps pps header) n ≡ number sps n
 unfolding with_header
 header_from_sps sps pps header n below =
     joined_below ph_gdr_or_irap_pic_flag (in_force sps pps) (loaded fresh header) n (omega (arith, in_force_length sps pps)) (omega (arith, below)) ∙ of_sps sps pps n below
 
-header_from_pps : (sps pps header : List Item) (n : ℕ) → pps_pic_parameter_set_id ≤ n → n < ph_gdr_or_irap_pic_flag → slice_index (with_header sps pps header) n ≡ number pps n
+pub header_from_pps : (sps pps header : List Item) (n : ℕ) → pps_pic_parameter_set_id ≤ n → n < ph_gdr_or_irap_pic_flag → slice_index (with_header sps pps header) n ≡ number pps n
 unfolding with_header
 header_from_pps sps pps header n past below =
     joined_below ph_gdr_or_irap_pic_flag (in_force sps pps) (loaded fresh header) n (omega (arith, in_force_length sps pps)) below
     ∙ of_pps sps pps n past (λ is. absurd (omega (arith, is, below)))
 
-header_from_header : (sps pps header : List Item) (n : ℕ) → ph_gdr_or_irap_pic_flag ≤ n → slice_index (with_header sps pps header) n ≡ number header n
+pub header_from_header : (sps pps header : List Item) (n : ℕ) → ph_gdr_or_irap_pic_flag ≤ n → slice_index (with_header sps pps header) n ≡ number header n
 unfolding with_header
 header_from_header sps pps header n past = joined_from ph_gdr_or_irap_pic_flag (in_force sps pps) (loaded fresh header) n (omega (arith, in_force_length sps pps)) past
 

@@ -44,18 +44,18 @@ use Rattle.vx_sh.specs.Value.{AreFields, AreTold, NumbersAreTold}
 
 -- ---- items of one part
 
-none_shown : (names s : List ℕ) {f : Form (List ℕ)} {w : List ℤ} {a : List ℕ} → IsLeft names s f → Follows f w a → shown_items names (items_along f w) ≡ []
+pub none_shown : (names s : List ℕ) {f : Form (List ℕ)} {w : List ℤ} {a : List ℕ} → IsLeft names s f → Follows f w a → shown_items names (items_along f w) ≡ []
 none_shown names s left to_end = refl
 none_shown names s left (through {cell} {goes} {v} {w} value on) = hidden_here names cell v (items_along (goes v) w) left.0 ∙ none_shown names s (left.1 v) on
 
 -- a field's number is that of the part that alone has items of it
-in_first : (names : List ℕ) (of : ℕ) (here behind : List Item) → IsTrue (has names of) → shown_items names behind ≡ [] → number (here ++ behind) of ≡ number here of
+pub in_first : (names : List ℕ) (of : ℕ) (here behind : List Item) → IsTrue (has names of) → shown_items names behind ≡ [] → number (here ++ behind) of ≡ number here of
 in_first names of here behind is none =
     let shown : shown_items names (here ++ behind) ≡ shown_items names here
     = filter-append (λ item. has names item.field) here behind ∙ ap (λ x. shown_items names here ++ x) none ∙ append-nil (shown_items names here) in
     number_of_shown names of (here ++ behind) is ∙ ap (λ x. number x of) shown ∙ sym (number_of_shown names of here is)
 
-in_second : (names : List ℕ) (of : ℕ) (front here : List Item) → IsTrue (has names of) → shown_items names front ≡ [] → number (front ++ here) of ≡ number here of
+pub in_second : (names : List ℕ) (of : ℕ) (front here : List Item) → IsTrue (has names of) → shown_items names front ≡ [] → number (front ++ here) of ≡ number here of
 in_second names of front here is none =
     let shown : shown_items names (front ++ here) ≡ shown_items names here
     = filter-append (λ item. has names item.field) front here ∙ ap (λ x. x ++ shown_items names here) none in
@@ -133,7 +133,7 @@ peel_on next leaves p =
 
 -- ---- behind the id
 
-abbrev three : List ℕ
+abbrev pub three : List ℕ
 three = set_of (sh_picture_header_in_slice_header_flag ∷ sh_subpic_id ∷ SUBPIC ∷ [])
 
 abbrev four : List ℕ
@@ -181,7 +181,7 @@ unfolding fresh hides_row hides_counter address_form with_entry_points
 address_leaves points = leaves_together three (form_of ADDRESS) (λ t. done (with_entry_points points t)) (tables_leave three ADDRESS refl)
     record { at = λ t. agree_outside three t NUM_ENTRY_POINTS (points (slice_index t sh_slice_address)) refl }
 
-rest_leaves : (table : RplTable) (points : ℕ → ℕ) → Leaves three (rest_form table points)
+pub rest_leaves : (table : RplTable) (points : ℕ → ℕ) → Leaves three (rest_form table points)
 unfolding fresh hides_row hides_counter front_form before_weights rest_form
 rest_leaves table points =
     leaves_together three (λ s. before_weights table points s >>= weights_here) (sections_form behind_weights)
@@ -219,7 +219,7 @@ gap_sound : (c : Cell Formula) (s : List ℕ) → row_is_gap (Field c) ≡ true 
 unfolding row_is_gap
 gap_sound c s is = valued s c.coding ∙ not-true (has_value c.coding) is
 
-known_items : (s : List ℕ) (w : List ℤ) → items_along (form_of KNOWN_SUBPIC s) w ≡ []
+pub known_items : (s : List ℕ) (w : List ℤ) → items_along (form_of KNOWN_SUBPIC s) w ≡ []
 unfolding row_is_gap has_value
 known_items s w = no_items (form_of KNOWN_SUBPIC s) w (each_of_rows IsGap row_is_gap gap_sound KNOWN_SUBPIC s refl)
 
@@ -276,13 +276,13 @@ inside_size s values end follows = (left_end ((tables_leave (set_of (sh_slice_ad
 abbrev only_address : List ℕ
 only_address = set_of (sh_slice_address ∷ [])
 
-abbrev only_id : List ℕ
+abbrev pub only_id : List ℕ
 only_id = set_of (sh_subpic_id ∷ [])
 
-abbrev only_inside : List ℕ
+abbrev pub only_inside : List ℕ
 only_inside = set_of (sh_picture_header_in_slice_header_flag ∷ [])
 
-located_leaves : (names : List ℕ) (ids : List ℕ) (layout : Numbers) → IsFalse (has names NUM_SUBPICS) → IsFalse (has names SUBPIC) → IsFalse (has names NUM_SLICES)
+pub located_leaves : (names : List ℕ) (ids : List ℕ) (layout : Numbers) → IsFalse (has names NUM_SUBPICS) → IsFalse (has names SUBPIC) → IsFalse (has names NUM_SLICES)
     → Leaves names (λ t. done (located ids layout t))
 unfolding located
 located_leaves names ids layout subpics subpic slices = record {

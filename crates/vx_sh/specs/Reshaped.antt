@@ -18,7 +18,8 @@ use Rattle.vx_sps.specs.Reshaped.{item, where_so}
 use Rattle.vx_ph.specs.declared.header.PictureHeader.{PictureHeader}
 use Rattle.vx_ph.specs.declared.tables.TheConstants.{ALF}
 use Rattle.vx_ph.specs.Depends as ph_kept
-use Rattle.vx_ph.specs.InForce.{in_force}
+use Rattle.vx_ph.specs.InForce.{in_force, structures}
+use Rattle.vx_ph.specs.Picture.{IsHeader}
 use Rattle.vx_ph.specs.Reshaped.{HaveSameKept, IsApart}
 use Rattle.vx_sh.specs.declared.header.SliceHeader.{SliceHeader}
 use Rattle.vx_sh.specs.declared.numbers.SliceNumbers.{SliceNumbers}
@@ -83,7 +84,8 @@ pub record AreSameForSlices (header other : PictureHeader) : Type 0 where
   pub second : length other.lists.second ≡ length header.lists.second
 
 -- A slice header that was read, in a unit of the same type, under sets and a picture header whose kept fields these are, and in a
--- subpicture that has the slices of the one with this id; the PPS has the filter and the QP in slice headers.
+-- subpicture that has the slices of the one with this id; the picture header is one under these sets, and the PPS has the filter and
+-- the QP in slice headers.
 pub record GoesAt (source : SliceHeader) (id : ℕ) (n : SliceNumbers) : Type 0 where
   pub sps : List Item
   pub pps : List Item
@@ -95,15 +97,18 @@ pub record GoesAt (source : SliceHeader) (id : ℕ) (n : SliceNumbers) : Type 0 
   pub numbers : HasNumbers (at_sets n.nal_type sps pps header ids layout) source fields.end
   pub same : HaveSameKept sps pps n.sps.now n.pps.now
   pub apart : IsApart n.pps.now
+  pub is_header : IsHeader (structures n.sps.now) (in_force n.sps.now n.pps.now) n.header.now
   pub same_header : AreSameForSlices header n.header.now
   pub same_slices : HaveSameSlices layout source.subpic n.layout.now (index_of id n.ids.now)
 
 -- ---- the rewritten slice header
 
--- The items are those of a slice header there that has the picture header apart. Those of kept fields are the source's, and the others
--- are exactly what is stated.
+-- The items are those of a slice header there that has the picture header apart, with the stated id. Those of kept fields are the
+-- source's, and the others are exactly what is stated.
 pub record AreReshaped (source : List Item) (shape : ShShape) (n : SliceNumbers) (items : List Item) : Type 0 where
   pub fields : AreFields (in_force_at n) items []
+  pub apart : number items sh.sh_picture_header_in_slice_header_flag ≡ 0
+  pub id : number items sh.sh_subpic_id ≡ shape.subpic_id
   pub kept : shown_items (set_of kept_fields) items ≡ shown_items (set_of kept_fields) source
   pub others : other_items (set_of kept_fields) items ≡ stated n shape
 
