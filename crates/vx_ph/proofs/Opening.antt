@@ -29,7 +29,7 @@ use Rattle.vx_ph.proofs.Passing.{header_each}
 abbrev pub Opens : Cell ℕ → Type 0
 Opens cell = (rest : List Bool) → MayEnd cell.coding rest
 
-pub row_opens : Row → Bool
+unfoldable pub row_opens : Row → Bool
 row_opens (Field c) = not (is_trailing c.coding)
 row_opens (Block presence n) = true
 row_opens (Name name formula) = true

@@ -40,7 +40,7 @@ alike_items p q each (through {cell} {goes} {v} {w} value on) =
     ]
 
 -- the test over rows
-pub tells : (p q : ℕ → Bool) → Row → Bool
+unfoldable pub tells : (p q : ℕ → Bool) → Row → Bool
 tells p q (Field c) = cond (p c.field) (q c.field) (not (q c.field))
 tells p q (Block presence n) = true
 tells p q (Name name formula) = true

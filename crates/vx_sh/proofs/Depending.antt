@@ -91,15 +91,24 @@ pub record Pass (test : Row → Bool) : Type 0 where
   pub weights : sections_pass test weights ≡ true
   pub behind_weights : sections_pass test behind_weights ≡ true
 
+-- of the rows behind the id
+pub rest_passes : (P : Cell ℕ → Type 0) (test : Row → Bool) (sound : (c : Cell Formula) (s : List ℕ) → test (Field c) ≡ true → P (cell_at s c)) (table : RplTable) (points : ℕ → ℕ) (s : List ℕ)
+    → Pass test → EachField P (rest_form table points s)
+rest_passes P test sound table points s pass =
+    rest_each P table points (λ u. each_of_rows P test sound ADDRESS u pass.address) (λ u. each_of_sections P test sound before_lists u pass.before_lists)
+    (λ u. lists_each P test sound table u pass.lists) (λ u. each_of_sections P test sound between u pass.between) (λ u. each_of_sections P test sound weights u pass.weights)
+    (λ u. each_of_sections P test sound behind_weights u pass.behind_weights) s
+
+-- of the id
+pub subpic_passes : (P : Cell ℕ → Type 0) (test : Row → Bool) (sound : (c : Cell Formula) (s : List ℕ) → test (Field c) ≡ true → P (cell_at s c)) (ids : List ℕ) (layout : Numbers) (s : List ℕ)
+    → rows_pass test SUBPIC_ID ≡ true → rows_pass test KNOWN_SUBPIC ≡ true → EachField P (subpic_form ids layout s)
+unfolding subpic_form id_form
+subpic_passes P test sound ids layout s id known =
+    each_then P (id_form ids layout s) (form_of KNOWN_SUBPIC)
+    (each_then P (form_of SUBPIC_ID s) (λ u. done (located ids layout u)) (each_of_rows P test sound SUBPIC_ID s id) (λ u. tt)) (λ u. each_of_rows P test sound KNOWN_SUBPIC u known)
+
 pub behind_each : (P : Cell ℕ → Type 0) (test : Row → Bool) (sound : (c : Cell Formula) (s : List ℕ) → test (Field c) ≡ true → P (cell_at s c)) (table : RplTable) (ids : List ℕ) (layout : Numbers) (s : List ℕ)
     → Pass test → EachField P (behind_header table ids layout s)
-unfolding behind_header subpic_form id_form
+unfolding behind_header
 behind_each P test sound table ids layout s pass =
-    let id : (t : List ℕ) → EachField P (id_form ids layout t) = λ t.
-    each_then P (form_of SUBPIC_ID t) (λ u. done (located ids layout u)) (each_of_rows P test sound SUBPIC_ID t pass.id) (λ u. tt) in
-    let subpic : EachField P (subpic_form ids layout s) = each_then P (id_form ids layout s) (form_of KNOWN_SUBPIC) (id s) (λ u. each_of_rows P test sound KNOWN_SUBPIC u pass.known) in
-    let rest : (t : List ℕ) → EachField P (there table layout t) = λ t.
-    rest_each P table (points_of layout t) (λ u. each_of_rows P test sound ADDRESS u pass.address) (λ u. each_of_sections P test sound before_lists u pass.before_lists)
-    (λ u. lists_each P test sound table u pass.lists) (λ u. each_of_sections P test sound between u pass.between) (λ u. each_of_sections P test sound weights u pass.weights)
-    (λ u. each_of_sections P test sound behind_weights u pass.behind_weights) t in
-    each_then P (subpic_form ids layout s) (there table layout) subpic rest
+    each_then P (subpic_form ids layout s) (there table layout) (subpic_passes P test sound ids layout s pass.id pass.known) (λ t. rest_passes P test sound table (points_of layout t) t pass)

@@ -17,3 +17,4 @@ pub mod Small
 pub mod SameScopes
 mod Stating
 mod Reshaping
+mod Reshaped

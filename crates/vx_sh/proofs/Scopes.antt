@@ -24,7 +24,7 @@ use Rattle.vx_sh.specs.InForce.{slice_scope, beside, SliceScopesAgree, SliceScop
 
 -- ---- the sets' numbers and the header's
 
-pub with_header : List Item → List Item → List Item → List ℕ
+unfoldable pub with_header : List Item → List Item → List Item → List ℕ
 with_header sps pps header = joined ph_gdr_or_irap_pic_flag (in_force sps pps) (loaded fresh header)
 
 pub with_header_length : (sps pps header : List Item) → length (with_header sps pps header) ≡ 1024
