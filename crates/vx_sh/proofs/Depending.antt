@@ -92,8 +92,16 @@ pub record Pass (test : Row → Bool) : Type 0 where
   pub behind_weights : sections_pass test behind_weights ≡ true
 
 -- of the rows behind the id
+pub record RestPass (test : Row → Bool) : Type 0 where
+  pub address : rows_pass test ADDRESS ≡ true
+  pub before_lists : sections_pass test before_lists ≡ true
+  pub lists : lists_pass test ≡ true
+  pub between : sections_pass test between ≡ true
+  pub weights : sections_pass test weights ≡ true
+  pub behind_weights : sections_pass test behind_weights ≡ true
+
 pub rest_passes : (P : Cell ℕ → Type 0) (test : Row → Bool) (sound : (c : Cell Formula) (s : List ℕ) → test (Field c) ≡ true → P (cell_at s c)) (table : RplTable) (points : ℕ → ℕ) (s : List ℕ)
-    → Pass test → EachField P (rest_form table points s)
+    → RestPass test → EachField P (rest_form table points s)
 rest_passes P test sound table points s pass =
     rest_each P table points (λ u. each_of_rows P test sound ADDRESS u pass.address) (λ u. each_of_sections P test sound before_lists u pass.before_lists)
     (λ u. lists_each P test sound table u pass.lists) (λ u. each_of_sections P test sound between u pass.between) (λ u. each_of_sections P test sound weights u pass.weights)
@@ -111,4 +119,5 @@ pub behind_each : (P : Cell ℕ → Type 0) (test : Row → Bool) (sound : (c : 
     → Pass test → EachField P (behind_header table ids layout s)
 unfolding behind_header
 behind_each P test sound table ids layout s pass =
-    each_then P (subpic_form ids layout s) (there table layout) (subpic_passes P test sound ids layout s pass.id pass.known) (λ t. rest_passes P test sound table (points_of layout t) t pass)
+    each_then P (subpic_form ids layout s) (there table layout) (subpic_passes P test sound ids layout s pass.id pass.known) (λ t. rest_passes P test sound table (points_of layout t) t
+    (record { address = pass.address; before_lists = pass.before_lists; lists = pass.lists; between = pass.between; weights = pass.weights; behind_weights = pass.behind_weights }))

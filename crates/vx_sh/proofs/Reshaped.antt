@@ -20,7 +20,8 @@ use Rattle.vx_fields.specs.declared.sps.TheConstants.{sps_alf_enabled_flag, sps_
 use Rattle.vx_fields.specs.declared.pps.TheConstants.{pps_alf_info_in_ph_flag, pps_qp_delta_info_in_ph_flag}
 use Rattle.vx_fields.specs.declared.ph.TheConstants.{ph_explicit_scaling_list_enabled_flag, ph_lmcs_enabled_flag}
 use Rattle.vx_fields.specs.declared.sh.TheConstants.{sh_slice_address, sh_subpic_id}
-use Rattle.vx_rpl.specs.declared.entry.RefLists.{RefLists}
+use Rattle.vx_layout.specs.declared.numbers.Numbers.{Numbers}
+use Rattle.vx_rpl.specs.declared.entry.RplTable.{RplTable}
 use Rattle.vx_rpl.specs.HeaderLists.{lists_of}
 use Rattle.vx_sps.proofs.Stated.{below}
 use Rattle.vx_ph.specs.declared.header.PictureHeader.{PictureHeader}
@@ -42,6 +43,7 @@ use Rattle.vx_sh.specs.Reshaped.{AreReshaped, GoesAt, HaveSameSlices, IsReshaped
 use Rattle.vx_sh.specs.Value.{IsSliceOf, TellsNumbers}
 use Rattle.vx_sh.specs.Whole.{At, apart_form, behind_header, header_inside, index_of}
 use Rattle.vx_sh.proofs.Reshaping as core
+use Rattle.vx_sh.proofs.Reshaping.{kept_there}
 use Rattle.vx_sh.proofs.SameScopes.{header_told, pps_told, slices_agree_on_kept, sps_told}
 use Rattle.vx_sh.proofs.Scopes.{slice_scopes_are_whole}
 use Rattle.vx_sh.proofs.Stating.{no_items}
@@ -93,7 +95,7 @@ module _ (source : SliceHeader) (shape : ShShape) (n : SliceNumbers) (is : IsSha
   stated_is = rw (of_set sps_subpic_info_present_flag (omega arith), of_set sps_alf_enabled_flag (omega arith), of_header ph_lmcs_enabled_flag (omega arith) (omega arith), of_header ph_explicit_scaling_list_enabled_flag (omega arith) (omega arith)) refl
 
   there : (items : List Item) × core.Made (in_force_at n) source.fields shape.subpic_id (core.said_at (in_force_at n).slice shape.subpic_id shape.filter.now shape.uses_lmcs shape.uses_scaling shape.qp_delta) items
-  unfolding core.in_force
+  unfolding kept_there
   there =
       let p = at_sets n.nal_type goes.sps goes.pps goes.header goes.ids goes.layout in
       let m = in_force_at n in
@@ -133,12 +135,12 @@ module _ (source : SliceHeader) (shape : ShShape) (n : SliceNumbers) (is : IsSha
         other_ones = sym (core.kept_has_no_star m items [] f) ∙ re.kept ∙ core.kept_has_no_star (at_sets n.nal_type goes.sps goes.pps goes.header goes.ids goes.layout) source.fields goes.inside goes.fields;
       }
 
-  pub reshapes : {others stated_ones : List Item} (m : At) (after : List Item) (result : Result (Unit {0}) SpellError) → others ≡ other_items (set_of STARRED) source.fields → stated_ones ≡ stated n shape
-      → m.table ≡ structures n.sps.now → m.slice ≡ slice_scope n.nal_type n.sps.now n.pps.now n.header.now (in_force n.sps.now n.pps.now) → m.ids ≡ n.ids.now → m.layout ≡ n.layout.now
-      → Makes (apart_form m.table m.ids m.layout m.slice) STARRED stated_ones others result after → IsWritten result (AreReshaped source.fields shape n after)
-  reshapes m after result kept_are stated_are table slice ids layout make =
+  pub reshapes : {others stated_ones : List Item} {table : RplTable} {ids : List ℕ} {layout : Numbers} {slice : List ℕ} (after : List Item) (result : Result (Unit {0}) SpellError) → others ≡ other_items (set_of STARRED) source.fields
+      → stated_ones ≡ stated n shape → table ≡ structures n.sps.now → slice ≡ slice_scope n.nal_type n.sps.now n.pps.now n.header.now (in_force n.sps.now n.pps.now) → ids ≡ n.ids.now → layout ≡ n.layout.now
+      → Makes (apart_form table ids layout slice) STARRED stated_ones others result after → IsWritten result (AreReshaped source.fields shape n after)
+  reshapes after result kept_are stated_are at_table at_slice at_ids at_layout make =
       let one = reshaped_is in
-      made (AreReshaped source.fields shape n) result after one.0 one.1 (make one.0 (rw (kept_are, stated_are, table, slice, ids, layout) (starred_ones one.0 one.1)))
+      made (AreReshaped source.fields shape n) result after one.0 one.1 (make one.0 (rw (kept_are, stated_are, at_table, at_slice, at_ids, at_layout) (starred_ones one.0 one.1)))
 
   -- its numbers
   lists_are : (items : List Item) → AreReshaped source.fields shape n items → lists_of (structures n.sps.now) (in_force n.sps.now n.pps.now) items ≡ source.lists
@@ -153,16 +155,17 @@ module _ (source : SliceHeader) (shape : ShShape) (n : SliceNumbers) (is : IsSha
       ∙ number_of_shown (set_of kept_fields) sh_slice_address source.fields refl ∙ ap (λ xs. number xs sh_slice_address) (sym re.kept) ∙ sym (number_of_shown (set_of kept_fields) sh_slice_address items refl)
 
   pub is_reshaped : (h : SliceHeader) → AreReshaped source.fields shape n h.fields → h.inside ≡ false → h.subpic ≡ index_of shape.subpic_id n.ids.now → h.address ≡ source.address
-      → h.lists ≡ lists_of (structures n.sps.now) (in_force n.sps.now n.pps.now) h.fields → IsReshaped source shape n h × TellsNumbers (in_force_at n) h
-  is_reshaped h re inside subpic address lists = (
-    record { fields = re; inside = inside; subpic = subpic; address = address; lists = lists ∙ lists_are h.fields re },
-    record {
-      inside = inside ∙ ap is_set (sym re.apart);
-      subpic = subpic ∙ ap (λ k. index_of k n.ids.now) (sym re.id);
-      address = address ∙ address_is h.fields re;
-      lists = lists;
-    },
-  )
+      → h.lists ≡ lists_of (structures n.sps.now) (in_force n.sps.now n.pps.now) h.fields → IsReshaped source shape n h
+  is_reshaped h re inside subpic address lists = record { fields = re; inside = inside; subpic = subpic; address = address; lists = lists ∙ lists_are h.fields re }
+
+  pub tells_numbers : (h : SliceHeader) → AreReshaped source.fields shape n h.fields → h.inside ≡ false → h.subpic ≡ index_of shape.subpic_id n.ids.now → h.address ≡ source.address
+      → h.lists ≡ lists_of (structures n.sps.now) (in_force n.sps.now n.pps.now) h.fields → TellsNumbers (in_force_at n) h
+  tells_numbers h re inside subpic address lists = record {
+    inside = inside ∙ ap is_set (sym re.apart);
+    subpic = subpic ∙ ap (λ k. index_of k n.ids.now) (sym re.id);
+    address = address ∙ address_is h.fields re;
+    lists = lists;
+  }
 
 -- it can be written
 pub can_be_written : (source : List Item) (shape : ShShape) (n : SliceNumbers) (items : List Item) → AreReshaped source shape n items → IsSliceOf (in_force_at n) items n.header.now.fields

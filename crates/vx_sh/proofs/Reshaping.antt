@@ -50,7 +50,7 @@ use Rattle.vx_sh.specs.Value.{AreFields, values_of}
 use Rattle.vx_sh.specs.Depends.{kept_fields, kept_given}
 use Rattle.vx_sh.specs.Again.{kept}
 use Rattle.vx_sh.specs.Reshaped.{HaveSameSlices, kept_in_force, qp_items}
-use Rattle.vx_sh.proofs.Depending.{Pass, behind_each, rest_passes, subpic_passes}
+use Rattle.vx_sh.proofs.Depending.{Pass, RestPass, behind_each, rest_passes, subpic_passes}
 use Rattle.vx_sh.proofs.Rewritten.{slices_rewrite}
 use Rattle.vx_sh.proofs.Stating.{apart_items, apart_there, id_there, known_there, no_items, own_takes, qp_takes}
 use Rattle.vx_sh.proofs.Told.{count_is, done_is, id_is, id_size, in_first, in_second, inside_size, known_items, located_is, located_leaves, only_id, only_inside, rest_leaves}
@@ -89,28 +89,28 @@ module _ (n : At) (fields : List Item) (inside : List ℤ) (f : AreFields n fiel
       (record { id = refl; known = refl; address = refl; before_lists = refl; lists = refl; between = refl; weights = refl; behind_weights = refl }) n fields inside f
 
 -- what kept fields depend on has none of them besides, behind the id
-rest_alike : (p q : ℕ → Bool) → Pass (tells p q) → (table : RplTable) (points : ℕ → ℕ) (s : List ℕ) {w : List ℤ} {a : List ℕ} → Follows (rest_form table points s) w a
+rest_alike : (p q : ℕ → Bool) → RestPass (tells p q) → (table : RplTable) (points : ℕ → ℕ) (s : List ℕ) {w : List ℤ} {a : List ℕ} → Follows (rest_form table points s) w a
     → of_fields p (items_along (rest_form table points s) w) ≡ of_fields q (items_along (rest_form table points s) w)
 rest_alike p q pass table points s on = alike_items p q (rest_passes (Alike p q) (tells p q) (told p q) table points s pass) on
 
 module _ (table : RplTable) (points : ℕ → ℕ) (s : List ℕ) {w : List ℤ} {a : List ℕ} (on : Follows (rest_form table points s) w a) where
   given_is_kept : of_fields in_given (items_along (rest_form table points s) w) ≡ of_fields in_kept (items_along (rest_form table points s) w)
   unfolding fresh tells
-  given_is_kept = rest_alike in_given in_kept (record { id = refl; known = refl; address = refl; before_lists = refl; lists = refl; between = refl; weights = refl; behind_weights = refl }) table points s on
+  given_is_kept = rest_alike in_given in_kept (record { address = refl; before_lists = refl; lists = refl; between = refl; weights = refl; behind_weights = refl }) table points s on
 
   not_given_is_not_kept : of_fields (λ k. not (in_given k)) (items_along (rest_form table points s) w) ≡ of_fields (λ k. not (in_kept k)) (items_along (rest_form table points s) w)
   unfolding fresh tells
   not_given_is_not_kept = rest_alike (λ k. not (in_given k)) (λ k. not (in_kept k))
-      (record { id = refl; known = refl; address = refl; before_lists = refl; lists = refl; between = refl; weights = refl; behind_weights = refl }) table points s on
+      (record { address = refl; before_lists = refl; lists = refl; between = refl; weights = refl; behind_weights = refl }) table points s on
 
 -- ---- what stands before the part behind the id
 
-unfoldable pub in_force : List ℕ
-in_force = set_of kept_in_force
+unfoldable pub kept_there : List ℕ
+kept_there = set_of kept_in_force
 
-first_leaves : Leaves in_force (form_of HEADER_INSIDE)
-unfolding fresh hides_counter hides_row in_force
-first_leaves = tables_leave in_force HEADER_INSIDE refl
+first_leaves : Leaves kept_there (form_of HEADER_INSIDE)
+unfolding fresh hides_counter hides_row kept_there
+first_leaves = tables_leave kept_there HEADER_INSIDE refl
 
 subpic_leaves : (names : List ℕ) (ids : List ℕ) (layout : Numbers) → Leaves names (form_of SUBPIC_ID) → Leaves names (form_of KNOWN_SUBPIC) → IsFalse (has names NUM_SUBPICS) → IsFalse (has names SUBPIC)
     → IsFalse (has names NUM_SLICES) → Leaves names (subpic_form ids layout)
@@ -118,9 +118,9 @@ unfolding id_form subpic_form
 subpic_leaves names ids layout id known a b c = leaves_together names (id_form ids layout) (form_of KNOWN_SUBPIC)
     (leaves_together names (form_of SUBPIC_ID) (λ t. done (located ids layout t)) id (located_leaves names ids layout a b c)) known
 
-in_force_left : (ids : List ℕ) (layout : Numbers) → Leaves in_force (subpic_form ids layout)
-unfolding fresh hides_counter hides_row in_force
-in_force_left ids layout = subpic_leaves in_force ids layout (tables_leave in_force SUBPIC_ID refl) (tables_leave in_force KNOWN_SUBPIC refl) refl refl refl
+in_force_left : (ids : List ℕ) (layout : Numbers) → Leaves kept_there (subpic_form ids layout)
+unfolding fresh hides_counter hides_row kept_there
+in_force_left ids layout = subpic_leaves kept_there ids layout (tables_leave kept_there SUBPIC_ID refl) (tables_leave kept_there KNOWN_SUBPIC refl) refl refl refl
 
 -- what is read of fields with a star
 abbrev of_starred : List ℕ
@@ -170,7 +170,7 @@ subpic_hidden : (names : List ℕ) (ids : List ℕ) (layout : Numbers) (s : List
     → Follows (subpic_form ids layout s) w a → shown_items names (items_along (subpic_form ids layout s) w) ≡ []
 subpic_hidden names ids layout s id known on = none_shown names (subpic_passes (λ cell. IsFalse (has names cell.field)) (hides_row names) (hidden_row names) ids layout s id known) on
 
-rest_hidden : (names : List ℕ) (table : RplTable) (points : ℕ → ℕ) (s : List ℕ) {w : List ℤ} {a : List ℕ} → Pass (hides_row names) → Follows (rest_form table points s) w a
+rest_hidden : (names : List ℕ) (table : RplTable) (points : ℕ → ℕ) (s : List ℕ) {w : List ℤ} {a : List ℕ} → RestPass (hides_row names) → Follows (rest_form table points s) w a
     → shown_items names (items_along (rest_form table points s) w) ≡ []
 rest_hidden names table points s pass on = none_shown names (rest_passes (λ cell. IsFalse (has names cell.field)) (hides_row names) (hidden_row names) table points s pass) on
 
@@ -181,7 +181,7 @@ record Source (p : At) (fields : List Item) : Type 0 where
   values : List ℤ
   end : List ℕ
   follows : Follows (there p.table p.layout mid) values end
-  agree : Agree in_force p.slice mid
+  agree : Agree kept_there p.slice mid
   subpic : slice_index mid SUBPIC ≡ index_of (number fields sh_subpic_id) p.ids
   slices : slice_index mid NUM_SLICES ≡ slices_at p.layout (index_of (number fields sh_subpic_id) p.ids)
   kept_ones : shown_items (set_of kept_fields) fields ≡ shown_items (set_of kept_fields) (items_along (there p.table p.layout mid) values)
@@ -208,7 +208,7 @@ source_of p fields inside f size =
       values = b.others;
       end = f.end;
       follows = b.second;
-      agree = agree_on (leaves_agree in_force (form_of HEADER_INSIDE) p.slice f.first f.at first_leaves f.begins) (leaves_agree in_force (subpic_form p.ids p.layout) f.at b.front b.mid (in_force_left p.ids p.layout) b.first);
+      agree = agree_on (leaves_agree kept_there (form_of HEADER_INSIDE) p.slice f.first f.at first_leaves f.begins) (leaves_agree kept_there (subpic_form p.ids p.layout) f.at b.front b.mid (in_force_left p.ids p.layout) b.first);
       subpic = sym (left.same SUBPIC refl) ∙ ap (λ s. slice_index s SUBPIC) (sym same) ∙ located_is p.ids p.layout i.mid mid_size ∙ ap (λ n. index_of n p.ids) id;
       slices = sym (left.same NUM_SLICES refl) ∙ ap (λ s. slice_index s NUM_SLICES) (sym same) ∙ slices_is p.ids p.layout i.mid mid_size ∙ ap (λ n. slices_at p.layout (index_of n p.ids)) id;
       kept_ones = ap (λ xs. shown_items set xs) f.all ∙ filter-append (λ item. has set item.field) a (items_along (behind_header p.table p.ids p.layout f.at) f.behind)
@@ -225,7 +225,7 @@ record Target (n : At) (id : ℕ) : Type 0 where
   front : List ℤ
   follows : Follows (subpic_form n.ids n.layout (at_first n)) front mid
   items : items_along (subpic_form n.ids n.layout (at_first n)) front ≡ where_so (is_set (slice_index n.slice sps_subpic_info_present_flag)) (item sh_subpic_id id ∷ [])
-  agree : Agree in_force n.slice mid
+  agree : Agree kept_there n.slice mid
   starred : Agree starred_read n.slice mid
   apart : slice_index mid sh_picture_header_in_slice_header_flag ≡ 0
   subpic : slice_index mid SUBPIC ≡ index_of id n.ids
@@ -260,7 +260,7 @@ target_of n id size narrow spelled unspelled known =
       follows = both;
       items = items_joined (form_of KNOWN_SUBPIC) [] one ∙ ap (λ xs. items_along (id_form n.ids n.layout t) (d.values ++ []) ++ xs) (no_items (form_of KNOWN_SUBPIC v)) ∙ append-nil (items_along (id_form n.ids n.layout t) (d.values ++ []))
           ∙ items_joined step [] d.follows ∙ append-nil (items_along (form_of SUBPIC_ID t) d.values) ∙ d.items ∙ ap (λ k. where_so (is_set k) (item sh_subpic_id id ∷ [])) (sym info);
-      agree = agree_on (leaves_agree in_force (form_of HEADER_INSIDE) n.slice (pos 0 ∷ []) t first_leaves (apart_there n.slice)) (leaves_agree in_force (subpic_form n.ids n.layout) t ((d.values ++ []) ++ []) v (in_force_left n.ids n.layout) both);
+      agree = agree_on (leaves_agree kept_there (form_of HEADER_INSIDE) n.slice (pos 0 ∷ []) t first_leaves (apart_there n.slice)) (leaves_agree kept_there (subpic_form n.ids n.layout) t ((d.values ++ []) ++ []) v (in_force_left n.ids n.layout) both);
       starred = agree_on still still_v;
       apart = sym (left_v.same first refl) ∙ get_or-set_at n.slice first first 0 0 refl (omega (arith, size));
       subpic = at;
@@ -271,10 +271,10 @@ target_of n id size narrow spelled unspelled known =
 -- ---- both
 
 abbrev known_given : ℕ → Bool
-known_given k = k == NUM_SLICES || has in_force k
+known_given k = k == NUM_SLICES || has kept_there k
 
 all_given : passes known_given kept_given ≡ true
-unfolding fresh in_force
+unfolding fresh kept_there
 all_given = refl
 
 -- all that is stated, at a scope
@@ -293,7 +293,7 @@ pub record Made (n : At) (source : List Item) (id : ℕ) (others items : List It
   pub kept_ones : shown_items (set_of kept_fields) items ≡ shown_items (set_of kept_fields) source
   pub other_ones : other_items (set_of kept_fields) items ≡ others
 
-module _ (p n : At) (source : List Item) (inside : List ℤ) (f : AreFields p source inside) (size : length p.slice ≡ 1024) (long : length n.slice ≡ 1024) (agree : Agree in_force p.slice n.slice) (tables : p.table ≡ n.table)
+module _ (p n : At) (source : List Item) (inside : List ℤ) (f : AreFields p source inside) (size : length p.slice ≡ 1024) (long : length n.slice ≡ 1024) (agree : Agree kept_there p.slice n.slice) (tables : p.table ≡ n.table)
     (id : ℕ) (known : index_of id n.ids < length n.ids) (same : HaveSameSlices p.layout (index_of (number source sh_subpic_id) p.ids) n.layout (index_of id n.ids))
     (narrow : slice_index n.slice sps_subpic_id_len_minus1 < 16)
     (spelled : is_set (slice_index n.slice sps_subpic_info_present_flag) ≡ true → id < 2 ^ (slice_index n.slice sps_subpic_id_len_minus1 + 1))
@@ -310,11 +310,11 @@ module _ (p n : At) (source : List Item) (inside : List ℤ) (f : AreFields p so
   tgt : Target n id
   tgt = target_of n id long narrow spelled unspelled known
 
-  between : Agree in_force src.mid tgt.mid
+  between : Agree kept_there src.mid tgt.mid
   between = agree_on (agree_back src.agree) (agree_on agree tgt.agree)
 
   same_points : points_of p.layout src.mid ≡ points_of n.layout tgt.mid
-  unfolding fresh in_force
+  unfolding fresh kept_there
   same_points = fun_ext (λ a.
       let entry : is_set (slice_index src.mid sps_entry_point_offsets_present_flag) ≡ is_set (slice_index tgt.mid sps_entry_point_offsets_present_flag) = ap is_set (between.same sps_entry_point_offsets_present_flag refl) in
       let sync : is_set (slice_index src.mid sps_entropy_coding_sync_enabled_flag) ≡ is_set (slice_index tgt.mid sps_entropy_coding_sync_enabled_flag) = ap is_set (between.same sps_entropy_coding_sync_enabled_flag refl) in
@@ -325,7 +325,7 @@ module _ (p n : At) (source : List Item) (inside : List ℤ) (f : AreFields p so
       ∙ ap (λ k. points_at n.layout (is_set (slice_index tgt.mid sps_entry_point_offsets_present_flag)) (is_set (slice_index tgt.mid sps_entropy_coding_sync_enabled_flag)) k a) (sym tgt.subpic))
 
   at_number : (k : ℕ) → known_given k ≡ true → slice_index src.mid k ≡ slice_index tgt.mid k
-  at_number k is = elim (or_cases (k == NUM_SLICES) (has in_force k) is) [
+  at_number k is = elim (or_cases (k == NUM_SLICES) (has kept_there k) is) [
     | inl slices ↦ subst (λ m. slice_index src.mid m ≡ slice_index tgt.mid m) (sym (eqb-true k NUM_SLICES slices)) (src.slices ∙ same.slices ∙ sym tgt.slices)
     | inr there_ ↦ between.same k there_
   ]
@@ -348,7 +348,7 @@ module _ (p n : At) (source : List Item) (inside : List ℤ) (f : AreFields p so
       ++ (where_so (is_set (slice_index n.slice ph_lmcs_enabled_flag)) (item sh_lmcs_used_flag (one_if lmcs) ∷ []) ++ where_so (is_set (slice_index n.slice ph_explicit_scaling_list_enabled_flag)) (item sh_explicit_scaling_list_used_flag (one_if scaling) ∷ []))
 
   uses_go : Takes (sections_form own tgt.mid) used
-  unfolding fresh in_force starred_read used
+  unfolding fresh kept_there starred_read used
   uses_go =
       let t = tgt.mid in
       let star : (k : ℕ) → IsTrue (has starred_read k) → slice_index n.slice k ≡ slice_index t k = λ k is. tgt.starred.same k is in
@@ -421,18 +421,17 @@ module _ (p n : At) (source : List Item) (inside : List ℤ) (f : AreFields p so
       below_power m k below few = omega (arith, below, pow_le k 16 few)
 
   pub made_there : (items : List Item) × Made n source id (said_at n.slice id filter lmcs scaling delta) items
-  unfolding fresh hides_row hides_counter points id_part used
+  unfolding fresh natural hides_row hides_counter points id_part used
   made_there =
       let r = rest.1 in
       let set = set_of kept_fields in
       let first : Item = item sh_picture_header_in_slice_header_flag 0 in
-      let rest_form_ = rest_form n.table points tgt.mid in
       let behind_first : shown_items only_inside (id_part ++ rest.0) ≡ []
       = filter-append (λ x. has only_inside x.field) id_part rest.0 ∙ rw (id_hidden only_inside refl, r.all) (rest_hidden only_inside n.table points tgt.mid
-      (record { id = refl; known = refl; address = refl; before_lists = refl; lists = refl; between = refl; weights = refl; behind_weights = refl }) r.follows) in
+      (record { address = refl; before_lists = refl; lists = refl; between = refl; weights = refl; behind_weights = refl }) r.follows) in
       let behind_id : shown_items only_id rest.0 ≡ []
       = ap (λ xs. shown_items only_id xs) r.all ∙ rest_hidden only_id n.table points tgt.mid
-      (record { id = refl; known = refl; address = refl; before_lists = refl; lists = refl; between = refl; weights = refl; behind_weights = refl }) r.follows in
+      (record { address = refl; before_lists = refl; lists = refl; between = refl; weights = refl; behind_weights = refl }) r.follows in
       let follows_source = subst (λ g. Follows g src.values src.end) form_is src.follows in
       let kept_rest : shown_items set rest.0 ≡ shown_items set (items_along (rest_form n.table points src.mid) src.values)
       = ap (λ xs. shown_items set xs) r.all ∙ sym (given_is_kept n.table points tgt.mid r.follows) ∙ ap (λ xs. shown_items kept xs) (sym r.all) ∙ r.shown_ones ∙ given_is_kept n.table points src.mid follows_source in
