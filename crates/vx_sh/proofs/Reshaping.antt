@@ -436,11 +436,13 @@ module _ (p n : At) (source : List Item) (inside : List ℤ) (f : AreFields p so
       let kept_rest : shown_items set rest.0 ≡ shown_items set (items_along (rest_form n.table points src.mid) src.values)
       = ap (λ xs. shown_items set xs) r.all ∙ sym (given_is_kept n.table points tgt.mid r.follows) ∙ ap (λ xs. shown_items kept xs) (sym r.all) ∙ r.shown_ones ∙ given_is_kept n.table points src.mid follows_source in
       let other_rest : other_items set rest.0 ≡ used ++ qp_items delta
-      = ap (λ xs. other_items set xs) r.all ∙ sym (not_given_is_not_kept n.table points tgt.mid r.follows) ∙ ap (λ xs. other_items kept xs) (sym r.all) ∙ r.other_ones in
-      (item sh_picture_header_in_slice_header_flag 0 ∷ (id_part ++ rest.0), record {
-        fields = are_fields;
-        apart = in_first only_inside sh_picture_header_in_slice_header_flag (first ∷ []) (id_part ++ rest.0) refl behind_first;
-        id_told = in_second only_id sh_subpic_id (first ∷ []) (id_part ++ rest.0) refl refl ∙ in_first only_id sh_subpic_id id_part rest.0 refl behind_id ∙ id_number;
-        kept_ones = filter-append (λ x. has set x.field) id_part rest.0 ∙ rw (id_hidden set refl) (kept_rest ∙ ap (λ g. shown_items set (items_along g src.values)) (sym form_is) ∙ sym src.kept_ones);
-        other_ones = ap (λ xs. first ∷ xs) (filter-append (λ x. not (has set x.field)) id_part rest.0 ∙ rw (id_other set refl, other_rest) refl);
-      })
+      = ap (λ xs. other_items set xs) r.all ∙ sym (not_given_is_not_kept n.table points tgt.mid r.follows) ∙ ap (λ xs. other_items kept xs) (sym r.all) ∙ r.other_ones in (
+        item sh_picture_header_in_slice_header_flag 0 ∷ (id_part ++ rest.0),
+        record {
+          fields = are_fields;
+          apart = in_first only_inside sh_picture_header_in_slice_header_flag (first ∷ []) (id_part ++ rest.0) refl behind_first;
+          id_told = in_second only_id sh_subpic_id (first ∷ []) (id_part ++ rest.0) refl refl ∙ in_first only_id sh_subpic_id id_part rest.0 refl behind_id ∙ id_number;
+          kept_ones = filter-append (λ x. has set x.field) id_part rest.0 ∙ rw (id_hidden set refl) (kept_rest ∙ ap (λ g. shown_items set (items_along g src.values)) (sym form_is) ∙ sym src.kept_ones);
+          other_ones = ap (λ xs. first ∷ xs) (filter-append (λ x. not (has set x.field)) id_part rest.0 ∙ rw (id_other set refl, other_rest) refl);
+        },
+      )

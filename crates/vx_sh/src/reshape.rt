@@ -107,7 +107,12 @@ fn stated_items(
     let mut into = Fields::new(alloc);
     push_id(numbers.sps, shape.subpic_id, &mut into)?;
     push_filter(numbers.sps, shape.filter, &mut into)?;
-    push_uses(numbers.header, shape.uses_lmcs, shape.uses_scaling, &mut into)?;
+    push_uses(
+        numbers.header,
+        shape.uses_lmcs,
+        shape.uses_scaling,
+        &mut into,
+    )?;
     into.push(Item {
         field: sh_qp_delta,
         value: i64::from(shape.qp_delta),
