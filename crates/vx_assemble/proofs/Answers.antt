@@ -1,6 +1,6 @@
 -- What code reads is what the readers of H.266 answer: bytes have one answer at most.
-use Rattle.std.proofs.Common.{◌≡◌, ◌⊎◌, inl, inr, ℕ, zero, suc, ◌+◌, ◌*◌, ◌<◌, ◌≤◌, Bool, true, false, List, [], ◌∷◌, ◌++◌, length, drop, Option, Some, None, Result, Ok, Err, refl, ap, sym, subst, ◌∙◌, arith}
-use Rattle.std.proofs.lemmas.List.{drop_at, length-drop}
+use Rattle.std.proofs.Common.{◌≡◌, inl, inr, ℕ, ◌+◌, ◌*◌, ◌<◌, ◌≤◌, Bool, true, false, List, [], ◌∷◌, length, drop, Option, Some, None, Result, Ok, Err, refl, ap, sym, subst, ◌∙◌, arith}
+use Rattle.std.proofs.lemmas.List.{drop_at}
 use Rattle.vx_bits.specs.declared.list.Item.{Item}
 use Rattle.vx_bits.specs.declared.refusal.Refusal.{Refusal}
 use Rattle.vx_bits.specs.declared.refusal.ReadError.{ReadError}
@@ -9,7 +9,7 @@ use Rattle.vx_bits.specs.Codes.{bits_of, fixed}
 use Rattle.vx_bits.specs.declared.refusal.BitCause.{BitCause}
 use Rattle.vx_bits.specs.declared.refusal.BitCause.TheVariants.{Short}
 use Rattle.vx_bits.specs.Place.{Place, Takes}
-use Rattle.vx_bits.proofs.Bits.{length-bits_of, length-fixed}
+use Rattle.vx_bits.proofs.Bits.{length-fixed}
 use Rattle.vx_annexb.specs.Places.{IsFirstFrom}
 use Rattle.vx_annexb.specs.Emulation.{unescaped, unescaped_to}
 use Rattle.vx_aps.specs.declared.aps.Aps.{Aps}
@@ -29,7 +29,7 @@ use Rattle.vx_sh.proofs.Told.{numbers_are_told}
 use Rattle.vx_sh.proofs.Scopes.{slice_scopes_are_whole}
 use Rattle.vx_sh.specs.declared.header.SliceHeader.{SliceHeader as SliceValue}
 use Rattle.vx_sh.specs.declared.numbers.SliceNumbers.{SliceNumbers}
-use Rattle.vx_sh.specs.InForce.{in_force_at, slice_scope}
+use Rattle.vx_sh.specs.InForce.{in_force_at}
 use Rattle.vx_sh.specs.Value.{BeginsSlice, ReadsSlice}
 use Rattle.vx_sh.specs.Whole.{At}
 use Rattle.vx_table.specs.Forms.{Form}

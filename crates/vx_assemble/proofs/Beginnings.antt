@@ -1,7 +1,7 @@
 -- A picture header that is read step by step.
-use Rattle.std.proofs.Common.{◌≡◌, ℕ, List, Bool, true, false, not, refl, sym, ◌∙◌, ap, subst, Result, Ok, Err}
+use Rattle.std.proofs.Common.{◌≡◌, ℕ, List, Bool, true, false, not, refl, sym, ◌∙◌, ap, Result, Ok, Err}
 use Rattle.std.proofs.Math.Path.{fun_ext}
-use Rattle.std.specs.Prelude.{Option, Some, None, ok_or, is_none}
+use Rattle.std.specs.Prelude.{Option, ok_or, is_none}
 use Rattle.vx_bits.specs.declared.list.Item.{Item}
 use Rattle.vx_bits.specs.declared.refusal.Refusal.{Refusal}
 use Rattle.vx_bits.specs.declared.rules.TheConstants as rules
@@ -18,8 +18,9 @@ use Rattle.vx_bits.specs.declared.refusal.ReadError.{ReadError}
 use Rattle.vx_assemble.specs.declared.state.BegunPicture.{BegunPicture}
 use Rattle.vx_assemble.specs.inner.Held.{begun_of, IsApart}
 use Rattle.vx_assemble.specs.inner.Takes.{Gives}
-use Rattle.vx_assemble.specs.inner.Beginning.{layout_under, sets_at, pps_kept, sps_kept, sets_kept, unit_in, header_under, begins_at}
-use Rattle.vx_assemble.proofs.Steps.{bind_assoc, bind_same, gives_first, gives_then, gives_same}
+use Rattle.vx_assemble.specs.inner.Beginning.{layout_under, sets_at, pps_kept, sps_kept, sets_kept, layout_kept, unit_in, header_under, begins_at}
+use Rattle.vx_assemble.proofs.Steps.{bind_assoc, bind_same, gives_first, gives_same}
+use Rattle.vx_assemble.proofs.InForce.{gives_within}
 
 -- the sets first, and then what they make up
 sets_first : (f g : ℕ → Option (List Item)) (id : ℕ) (k : SetPair → Result Begun Refusal)
@@ -86,10 +87,10 @@ sets_step R s before inside u rbsp id held spells read =
     id_step R s before inside u rbsp held spells ∙ ap (λ x. x >>= λ i. from_id R s inside u i) read
 
 pub sets_refused : (R : Readers) (s : State) (before : List Reading) (inside : Bool) (u rbsp : List ℕ) (id : ℕ) (e : ReadError) → IsApart s before
-    → rbsp ≡ rbsp_of u → R.referred_pps inside rbsp ≡ Ok id → Gives (sets_kept s id) (Err e) → Gives (begins R before u (unit_in inside u)) (Err e)
+    → rbsp ≡ rbsp_of u → R.referred_pps inside rbsp ≡ Ok id → Gives (layout_kept R s id) (Err e) → Gives (begins R before u (unit_in inside u)) (Err e)
 sets_refused R s before inside u rbsp id e held spells read bad =
     gives_same (begins R before u (unit_in inside u)) _ (Err e) (sets_step R s before inside u rbsp id held spells read)
-    (gives_first (sets_kept s id) (λ pair. layout_under R pair.sps pair.pps >>= λ layout. header_under R pair.sps pair.pps layout u (unit_in inside u)) e bad)
+    (gives_within (sets_kept s id) (λ pair. layout_under R pair.sps pair.pps) (λ pair layout. header_under R pair.sps pair.pps layout u (unit_in inside u)) e bad)
 
 layout_step : (R : Readers) (s : State) (before : List Reading) (inside : Bool) (u rbsp : List ℕ) (id : ℕ) (pair : SetPair) → IsApart s before
     → rbsp ≡ rbsp_of u → R.referred_pps inside rbsp ≡ Ok id → sets_kept s id ≡ Ok pair
@@ -97,13 +98,6 @@ layout_step : (R : Readers) (s : State) (before : List Reading) (inside : Bool) 
 layout_step R s before inside u rbsp id pair held spells read found =
     sets_step R s before inside u rbsp id held spells read
     ∙ ap (λ x. x >>= λ y. layout_under R y.sps y.pps >>= λ layout. header_under R y.sps y.pps layout u (unit_in inside u)) found
-
-pub layout_refused : (R : Readers) (s : State) (before : List Reading) (inside : Bool) (u rbsp : List ℕ) (id : ℕ) (pair : SetPair) (e : ReadError)
-    → IsApart s before → rbsp ≡ rbsp_of u → R.referred_pps inside rbsp ≡ Ok id → sets_kept s id ≡ Ok pair
-    → Gives (layout_under R pair.sps pair.pps) (Err e) → Gives (begins R before u (unit_in inside u)) (Err e)
-layout_refused R s before inside u rbsp id pair e held spells read found bad =
-    gives_same (begins R before u (unit_in inside u)) _ (Err e) (layout_step R s before inside u rbsp id pair held spells read found)
-    (gives_first (layout_under R pair.sps pair.pps) (λ layout. header_under R pair.sps pair.pps layout u (unit_in inside u)) e bad)
 
 header_is : (R : Readers) (sps pps : List Item) (layout : Numbers) (inside : Bool) (u rbsp : List ℕ) → rbsp ≡ rbsp_of u
     → header_under R sps pps layout u (unit_in inside u)

@@ -1,20 +1,19 @@
 -- What is kept behind one unit more.
-use Rattle.std.proofs.Common.{◌≡◌, ℕ, ◌<◌, ◌≤◌, List, ◌∷◌, ◌++◌, length, take, get_or, set, refl, sym, ◌∙◌, ap, subst, inl, inr, arith, cond, false}
-use Rattle.std.specs.Prelude.{◌==◌, Option, Some, None, is_none}
+use Rattle.std.proofs.Common.{◌≡◌, ℕ, ◌<◌, ◌≤◌, List, ◌∷◌, ◌++◌, length, get_or, set, refl, sym, ◌∙◌, ap, inl, inr, arith, cond, false}
+use Rattle.std.specs.Prelude.{◌==◌, Option, Some, None}
 use Rattle.std.specs.Option.{option_or}
 use Rattle.std.proofs.lemmas.Bool.Decides.{eqb_tells, nat_tests}
 use Rattle.std.proofs.lemmas.Grind.{get_or-set_at}
 use Rattle.std.proofs.lemmas.List.{get_or-set_other, take_all}
 use Rattle.vx_bits.specs.declared.list.Item.{Item}
-use Rattle.vx_aps.specs.declared.aps.Aps.{Aps}
 use Rattle.vx_sei.specs.declared.message.Message.{Message}
 use Rattle.vx_pic.specs.Sets.{sps_id, pps_id}
 use Rattle.vx_pic.specs.Parts.{header_unit_in}
 use Rattle.vx_pic.specs.Readings.{Reading, dropped, vps_read, sps_read, pps_read, messages_read, header_read, sequence_ended}
 use Rattle.vx_assemble.specs.declared.state.BegunPicture.{BegunPicture}
 use Rattle.vx_assemble.specs.declared.state.State.{State}
-use Rattle.vx_assemble.specs.inner.Held.{begun_of, IsApart, IsHeaded, IsHeld}
-use Rattle.vx_assemble.specs.inner.Changes.{with_items, with_sps, with_pps, with_messages, with_end, with_header, with_picture}
+use Rattle.vx_assemble.specs.inner.Held.{begun_of, IsHeld}
+use Rattle.vx_assemble.specs.inner.Changes.{with_items, with_sps, with_pps, with_messages, with_end, with_begun}
 
 -- one of a table is replaced
 placed : {A : Type 0} (xs : List (Option A)) (at i : ℕ) (x : A) (old : Option A) → at < length xs → get_or xs i None ≡ old
@@ -122,7 +121,7 @@ unit_whole : (u : List ℕ) → 2 ≤ length u → header_unit_in u (length u) �
 unit_whole u some = let e : (length u == 0) ≡ false = grind (arith, nat_tests) in rw (e, take_all (length u) u (omega arith)) refl
 
 pub header_held : (s : State) (before : List Reading) (b : BegunPicture) (u : List ℕ) → IsHeld s before → 2 ≤ length u
-    → IsHeld (with_picture (with_header b u s.picture) s) (header_read (begun_of b (Some u)) ∷ before)
+    → IsHeld (with_begun b u s) (header_read (begun_of b (Some u)) ∷ before)
 header_held s before b u h some = record {
   apart = record {
     sps = h.apart.sps;

@@ -1,6 +1,6 @@
 -- A slice that joins a picture, step by step.
-use Rattle.std.proofs.Common.{◌≡◌, ℕ, ◌+◌, List, [], ◌∷◌, ◌++◌, length, not, refl, sym, ◌∙◌, ap, subst, Result, Ok, Err}
-use Rattle.std.specs.Prelude.{◌==◌, nat_le, nat_lt, Option, None}
+use Rattle.std.proofs.Common.{◌≡◌, ℕ, ◌+◌, List, length, not, refl, sym, ◌∙◌, ap, subst, Result, Ok, Err}
+use Rattle.std.specs.Prelude.{◌==◌, nat_le, nat_lt, None}
 use Rattle.vx_bits.specs.declared.list.Item.{Item}
 use Rattle.vx_bits.specs.declared.refusal.Refusal.{Refusal}
 use Rattle.vx_bits.specs.declared.refusal.Refusal.TheVariants.{Limit}
@@ -10,16 +10,15 @@ use Rattle.vx_annexb.specs.NalUnit.{nal_unit_type}
 use Rattle.vx_pic.specs.Answers.{◌>>=◌, refuse_if}
 use Rattle.vx_pic.specs.Units.{temporal_id}
 use Rattle.vx_pic.specs.Sets.{SliceHeader, place_of, names_of, slice_qp, is_qp}
-use Rattle.vx_pic.specs.Readings.{Begun, Slice, Picture}
+use Rattle.vx_pic.specs.Readings.{Slice, Picture}
 use Rattle.vx_pic.specs.Rules.{Readers, structure, are_stored, size_of, picture_limit, joins}
 use Rattle.vx_pic.specs.Parts.{stored_sets}
 use Rattle.vx_assemble.specs.declared.join.Place.{Place}
-use Rattle.vx_assemble.specs.declared.readers.ReadSlice.{ReadSlice}
 use Rattle.vx_assemble.specs.inner.Held.{begun_of}
-use Rattle.vx_assemble.specs.inner.Takes.{Gives, AreSmall, header_read_as, slice_read_as}
-use Rattle.vx_assemble.specs.inner.Joining.{same_picture, all_there, next_slice, names_in, qp_in, qp_checked, in_limits, checked}
+use Rattle.vx_assemble.specs.inner.Takes.{Gives, AreSmall}
+use Rattle.vx_assemble.specs.inner.Joining.{same_picture, all_there, next_slice, names_in, qp_in, qp_checked, checked}
 use Rattle.vx_assemble.specs.inner.Places.{IsAt}
-use Rattle.vx_assemble.proofs.Steps.{bind_assoc, bind_same, gives_first, gives_then, gives_same}
+use Rattle.vx_assemble.proofs.Steps.{bind_assoc, bind_same, gives_first, gives_same}
 use Rattle.vx_assemble.proofs.Stored.{kinds_names, stored_there}
 
 names_are : (p header : List Item) (h : SliceHeader) → names_of p header h ≡ names_in p header h.fields

@@ -1,12 +1,12 @@
 -- The picture that was begun last, as it is kept.
-use Rattle.std.proofs.Common.{◌≡◌, ℕ, List, length, map, Bool, true, false, not, ◌&&◌, ◌||◌, refl, sym, ◌∙◌, ap, subst}
-use Rattle.std.specs.Prelude.{◌==◌, Option, Some, None, is_none, option_map}
+use Rattle.std.proofs.Common.{◌≡◌, length, false, not, ◌&&◌, ◌||◌, refl, sym, ◌∙◌, ap, subst}
+use Rattle.std.specs.Prelude.{Some, None, is_none, option_map}
 use Rattle.std.proofs.lemmas.List.{length-map}
 use Rattle.vx_pic.specs.Parts.{header_unit_in}
 use Rattle.vx_pic.specs.Readings.{Begun, Picture, is_whole, Current, nothing, headed, going, is_open, is_within}
 use Rattle.vx_assemble.specs.declared.state.BegunPicture.{BegunPicture}
 use Rattle.vx_assemble.specs.declared.state.CurrentPicture.{CurrentPicture}
-use Rattle.vx_assemble.specs.inner.Held.{begun_of, begun_in, slice_of, Keeps, IsGoing, IsHeaded}
+use Rattle.vx_assemble.specs.inner.Held.{begun_of, begun_in, slice_of, Keeps, IsGoing}
 use Rattle.vx_assemble.specs.inner.Order.{IsHeader, AreSlots, IsOrdered}
 use Rattle.vx_assemble.specs.inner.Changes.{came_all}
 use Rattle.vx_assemble.proofs.Steps.{same_some}

@@ -1,24 +1,26 @@
 -- The picture that is lent is the latest one.
-use Rattle.std.proofs.Common.{◌≡◌, ℕ, ◌<◌, ◌≤◌, List, [], ◌∷◌, ◌++◌, length, map, Bool, true, false, cond, refl, sym, ◌∙◌, ap, subst}
-use Rattle.std.specs.Prelude.{Option, Some, None, is_none}
+use Rattle.std.proofs.Common.{◌≡◌, ℕ, ◌<◌, List, [], ◌∷◌, length, map, Bool, true, false, cond, refl, sym, ◌∙◌, ap, subst}
+use Rattle.std.specs.Prelude.{Option, Some, None}
 use Rattle.std.specs.List.{AllByRecursion}
 use Rattle.vx_aps.specs.declared.aps.Aps.{Aps}
 use Rattle.vx_pic.specs.declared.accepted.Accepted.TheVariants as accepted
 use Rattle.vx_pic.specs.declared.kind.Kind.{Kind}
+use Rattle.vx_pic.specs.declared.picture.PictureParts.{PictureParts}
 use Rattle.vx_pic.specs.declared.picture.SliceSlot.{SliceSlot}
-use Rattle.vx_pic.specs.Sets.{SliceHeader, address_of, is_qp, slice_qp}
+use Rattle.vx_pic.specs.Sets.{SliceHeader, is_qp, slice_qp}
 use Rattle.vx_pic.specs.PictureLayout.{ids_of}
 use Rattle.vx_pic.specs.UnderSets.{header_of}
-use Rattle.vx_pic.specs.Parts.{Parts, IsPlaced, AreThere, named_by, read_of, header_unit_in, slice_in, slice_header_of, slice_part, parts_of, Shows, stored_sets}
+use Rattle.vx_pic.specs.Parts.{MakePicture, IsPlaced, IsReadAt, AreThere, named_by, read_of, header_unit_in, slice_in, slice_header_of, slice_part, Shows}
 use Rattle.vx_pic.specs.Told.{done_or_not}
 use Rattle.vx_pic.specs.Sets.{sps_id, pps_id}
-use Rattle.vx_pic.specs.Readings.{Begun, Slice, Picture, Reading, dropped, vps_read, sps_read, pps_read, aps_read, messages_read, header_read}
+use Rattle.vx_pic.specs.Readings.{Picture, Reading, dropped, vps_read, sps_read, pps_read, aps_read, messages_read, header_read}
 use Rattle.vx_pic.specs.Readings.{first_slice, next_slice, sequence_ended, is_slice, Current, nothing, headed, going, current, is_whole, pictures}
 use Rattle.vx_assemble.specs.Held.{Held, last_told, Stands, HasPicture, ShowsLatest}
 use Rattle.vx_assemble.specs.declared.state.BegunPicture.{BegunPicture}
 use Rattle.vx_assemble.specs.declared.state.CurrentPicture.{CurrentPicture}
-use Rattle.vx_assemble.specs.inner.Held.{begun_of, begun_in, slice_of, IsGoing, Keeps}
-use Rattle.vx_assemble.specs.inner.Order.{IsHeader, IsSlot, AreSlots, IsOrdered}
+use Rattle.vx_assemble.specs.inner.Held.{begun_of, slice_of, IsGoing, Keeps}
+use Rattle.vx_assemble.specs.inner.Order.{IsSlot, AreSlots, AreRead, IsOrdered, AreAll, IsComplete}
+use Rattle.vx_assemble.specs.inner.Takes.{at_begun}
 use Rattle.vx_assemble.specs.inner.Lent.{parts_by, parts_in}
 use Rattle.vx_assemble.proofs.Steps.{same_some}
 use Rattle.vx_assemble.proofs.KeptPicture.{begun_is, header_is, no_begun}
@@ -63,6 +65,37 @@ pub each_qp : (k : BegunPicture) (bytes : List ℕ) (sets : List (Option Aps)) (
     → AllByRecursion (λ s. is_qp k.sets.sps (slice_qp k.sets.pps k.header.fields (read_of s.header)) ≡ true) slots
 each_qp k bytes sets [] all = tt
 each_qp k bytes sets (slot ∷ slots) all = (all.0.qp, each_qp k bytes sets slots all.1)
+
+pub each_read : (c : CurrentPicture) (k : BegunPicture) (kind : Kind) → c.begun ≡ Some k → c.kind ≡ Some kind → IsOrdered c
+    → AllByRecursion (λ s. IsReadAt (at_begun kind.nal_type k) s.header) c.slices
+each_read c k kind begun is o =
+    subst (λ x. AreRead (Some k) x c.slices) is (subst (λ x. AreRead x c.kind c.slices) begun o.read)
+
+-- the parts of an ordered picture, all of whose slices came, make up a picture
+pub makes_picture : (p : PictureParts) (c : CurrentPicture) (b : BegunPicture) (k : Kind) → IsOrdered c → IsComplete c → c.begun ≡ Some b → c.kind ≡ Some k
+    → p.kind ≡ k → p.sps.now ≡ b.sets.sps → p.pps.now ≡ b.sets.pps → p.layout.now ≡ b.sets.layout → p.header.now ≡ b.header → p.ids.now ≡ b.sets.ids
+    → p.bytes.now ≡ c.bytes → p.header_end ≡ c.header_end → p.slices.now ≡ c.slices → p.bodies.now ≡ c.bodies → MakePicture p
+makes_picture p c b k order complete begun kind of_kind sps pps layout header ids bytes end slices bodies =
+    let slots = slots_of c b begun order in
+    let head = header_is c b begun order in
+    let all : (0 < length c.slices) × (length c.slices ≡ length b.sets.layout.slices) = subst (λ x. AreAll x c.slices) begun complete.slices in
+    record {
+      some = rw slices all.0;
+      whole = rw (slices, layout) all.1;
+      few = rw (slices, all.1) head.sets.few;
+      header = rw (end, bytes) order.header;
+      places = rw (slices, bytes) (each_placed b c.bytes c.bodies c.slices slots);
+      size = rw (sps, pps) head.sets.size;
+      sets = rw (sps, pps) head.sets.make;
+      layout = rw (layout, sps, pps) head.sets.layout;
+      ids = rw (ids, sps, pps) head.sets.ids;
+      one_each = rw (ids, layout) head.sets.one_each;
+      read = rw (sps, pps, header) head.read;
+      slices_read = rw (slices, of_kind, sps, pps, header, ids, layout) (each_read c b k begun kind order);
+      subpics = rw (slices, layout) (each_subpic b c.bytes c.bodies c.slices slots);
+      bodies = rw (slices, bodies, pps, header) (each_there b c.bytes c.bodies c.slices slots);
+      qps = rw (slices, sps, pps, header) (each_qp b c.bytes c.bodies c.slices slots);
+    }
 
 -- ---- the picture
 

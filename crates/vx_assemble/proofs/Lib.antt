@@ -4,7 +4,10 @@ pub mod Feeding
 pub mod Seeking
 pub mod Advancing
 pub mod Steps
+pub mod Fronts
 pub mod Holding
+pub mod Again
+pub mod InForce
 pub mod Ordering
 pub mod KeptPicture
 pub mod FieldNumbers

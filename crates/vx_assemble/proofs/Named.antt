@@ -1,7 +1,6 @@
 -- The adaptation parameter sets that headers name.
-use Rattle.std.proofs.Common.{◌≡◌, ℕ, ℤ, ◌+◌, ◌≤◌, Bool, true, false, cond, List, [], ◌∷◌, ◌++◌, length, map, take, drop, refl, sym, ◌∙◌, ap, subst, arith, Result, Ok, Err}
-use Rattle.std.specs.Prelude.{◌==◌, Option, Some, slice_get, is_none, filter}
-use Rattle.std.specs.List.{AllByRecursion}
+use Rattle.std.proofs.Common.{◌≡◌, ℕ, ℤ, ◌+◌, ◌≤◌, Bool, true, false, List, [], ◌∷◌, ◌++◌, length, drop, refl, sym, ◌∙◌, ap, subst, Result, Ok, Err}
+use Rattle.std.specs.Prelude.{◌==◌, Option, Some, slice_get, is_none}
 use Rattle.std.proofs.lemmas.Bool.{cases_Bool}
 use Rattle.std.proofs.Common.{inl, inr}
 use Rattle.vx_bits.specs.declared.list.Item.{Item}
@@ -10,7 +9,7 @@ use Rattle.vx_aps.specs.declared.aps.Aps.{Aps}
 use Rattle.vx_pic.specs.Answers.{◌>>=◌}
 use Rattle.vx_fields.specs.declared.alf.TheConstants as alf
 use Rattle.vx_fields.specs.declared.ph.TheConstants as ph
-use Rattle.vx_pic.specs.Sets.{Slot, SliceHeader, named, named_filters, filter_items, names_of, slice_qp, is_qp}
+use Rattle.vx_pic.specs.Sets.{Slot, named, named_filters, filter_items, names_of, slice_qp, is_qp}
 use Rattle.vx_bits.specs.declared.rules.TheConstants as rules
 use Rattle.vx_pic.specs.Rules.{missing, structure}
 use Rattle.vx_pic.specs.Parts.{aps_at, AreThere, named_by, read_of}

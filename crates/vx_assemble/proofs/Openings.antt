@@ -1,11 +1,11 @@
 -- A picture that begins, by what is kept.
-use Rattle.std.proofs.Common.{◌≡◌, ℕ, List, [], ◌∷◌, Bool, true, false, not, refl, sym, ◌∙◌, ap}
+use Rattle.std.proofs.Common.{◌≡◌, ℕ, List, [], ◌∷◌, refl, sym, ◌∙◌, ap}
 use Rattle.std.specs.Prelude.{Option, Some, None, is_none, option_map}
 use Rattle.vx_bits.specs.declared.list.Item.{Item}
 use Rattle.vx_annexb.specs.NalUnit.{nal_unit_type}
 use Rattle.vx_pic.specs.Units.{temporal_id}
-use Rattle.vx_pic.specs.Readings.{Begun, Reading, Picture, is_ended, pictures}
-use Rattle.vx_pic.specs.Counts.{is_empty, is_changed, previous}
+use Rattle.vx_pic.specs.Readings.{Begun, Reading, Picture, pictures}
+use Rattle.vx_pic.specs.Counts.{is_empty, is_changed}
 use Rattle.vx_pic.specs.Rules.{opens}
 use Rattle.vx_assemble.specs.declared.in_force.InForce.{InForce}
 use Rattle.vx_assemble.specs.declared.state.BegunPicture.{BegunPicture}

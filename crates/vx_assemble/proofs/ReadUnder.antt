@@ -3,17 +3,22 @@ use Rattle.std.proofs.Common.{◌≡◌, ℕ, ◌<◌, List, length, refl, sym, 
 use Rattle.std.specs.Prelude.{Option, None}
 use Rattle.vx_rpl.specs.HeaderLists.{lists_of}
 use Rattle.vx_ph.specs.InForce.{in_force, structures}
+use Rattle.vx_table.specs.Scope.{is_set}
+use Rattle.vx_sh.specs.Whole.{At}
+use Rattle.vx_sh.proofs.Told.{numbers_are_told}
+use Rattle.vx_sh.proofs.Scopes.{slice_scopes_are_whole}
 use Rattle.vx_sh.specs.declared.header.SliceHeader.{SliceHeader as SliceValue}
 use Rattle.vx_sh.specs.declared.numbers.SliceNumbers.{SliceNumbers}
+use Rattle.vx_layout.specs.declared.numbers.Numbers.{Numbers}
+use Rattle.vx_bits.specs.declared.list.Item.{Item}
 use Rattle.vx_pic.specs.Sets.{address_of}
+use Rattle.vx_pic.specs.UnderSets.{at_sets}
 use Rattle.vx_pic.specs.Readings.{Begun}
-use Rattle.vx_pic.specs.Parts.{slice_header_of}
-use Rattle.vx_assemble.specs.declared.in_force.InForce.{InForce}
-use Rattle.vx_assemble.specs.declared.readers.ReadSlice.{ReadSlice}
+use Rattle.vx_pic.specs.Parts.{IsReadAt, slice_header_of}
 use Rattle.vx_assemble.specs.declared.state.BegunPicture.{BegunPicture}
 use Rattle.vx_assemble.specs.inner.Held.{begun_of}
 use Rattle.vx_assemble.specs.inner.Order.{IsHeader}
-use Rattle.vx_assemble.specs.inner.Takes.{AreSmall, IsReadUnder}
+use Rattle.vx_assemble.specs.inner.Takes.{AreSmall, IsReadUnder, at_begun}
 use Rattle.vx_assemble.specs.inner.Joining.{names_in}
 use Rattle.vx_assemble.specs.inner.Headers.{as_told}
 use Rattle.vx_assemble.specs.inner.Answered.{AreOfBegun}
@@ -28,12 +33,29 @@ told_under : (b : Begun) (h : SliceValue) (payload : ℕ) → h.lists ≡ lists_
 unfolding address_of
 told_under b h payload lists = rw lists refl
 
-pub read_under : (b : BegunPicture) (h told : SliceValue) (payload : ℕ) → IsHeader b → told ≡ as_told h → h.subpic < length b.sets.ids
+-- what is read is read so as its items tell it
+told_read : (n : At) (h : SliceValue) → length n.slice ≡ 1024 → IsReadAt n h → IsReadAt n (as_told h)
+told_read n h whole read =
+    let told = numbers_are_told n h.fields read.inside read.fields whole in
+    record {
+      inside = read.inside;
+      fields = read.fields;
+      numbers = record { inside = ap is_set (sym told.inside); subpic = read.numbers.subpic; address = sym told.address; lists = read.numbers.lists };
+    }
+
+pub at_read : (t : ℕ) (sps pps : List Item) (ids : List ℕ) (layout : Numbers) (b : BegunPicture) (h : SliceValue) → sps ≡ b.sets.sps → pps ≡ b.sets.pps
+    → layout ≡ b.sets.layout → ids ≡ b.sets.ids → IsReadAt (at_sets t sps pps b.header ids layout) h → IsReadAt (at_begun t b) h
+at_read t sps pps ids layout b h of_sps of_pps of_layout of_ids read =
+    let same : at_sets t sps pps b.header ids layout ≡ at_begun t b = rw (of_sps, of_pps, of_layout, of_ids) refl in
+    subst (λ n. IsReadAt n h) same read
+
+pub read_under : (b : BegunPicture) (t : ℕ) (h told : SliceValue) (payload : ℕ) → IsHeader b → told ≡ as_told h → h.subpic < length b.sets.ids
     → h.lists ≡ lists_of (structures b.sets.sps) (in_force b.sets.sps b.sets.pps) h.fields
-    → AreSmall (names_in b.sets.pps b.header.fields h.fields) → IsReadUnder b (record { header = told; payload = payload })
-read_under b h told payload is same low lists small =
-    subst (λ x. IsReadUnder b (record { header = x; payload = payload })) (sym same)
+    → AreSmall (names_in b.sets.pps b.header.fields h.fields) → IsReadAt (at_begun t b) h → IsReadUnder b t (record { header = told; payload = payload })
+read_under b t h told payload is same low lists small read =
+    subst (λ x. IsReadUnder b t (record { header = x; payload = payload })) (sym same)
     (record {
+      read = told_read (at_begun t b) h (slice_scopes_are_whole t b.sets.sps b.sets.pps b.header) read;
       subpic = subst (λ m. h.subpic < m) is.sets.one_each low;
       header = told_under (begun_of b None) h payload lists;
       small = small;

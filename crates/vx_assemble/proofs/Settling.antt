@@ -1,35 +1,31 @@
 -- What is kept behind a slice.
-use Rattle.std.proofs.Common.{◌≡◌, ℕ, ◌+◌, ◌<◌, ◌≤◌, ℤ, List, [], ◌∷◌, ◌++◌, length, map, Bool, true, false, cond, not, refl, sym, ◌∙◌, ap, subst, inl, inr, arith, take, drop, length-append, ◌-◌, pos, ◌-ℤ◌}
-use Rattle.std.specs.Prelude.{◌==◌, Option, Some, None, is_none, option_map, sum_by, find}
+use Rattle.std.proofs.Common.{◌≡◌, ℕ, ◌+◌, ◌<◌, ◌≤◌, List, [], ◌∷◌, ◌++◌, length, map, Bool, true, false, cond, refl, sym, ◌∙◌, ap, subst, arith, take, drop, length-append, ◌-◌}
+use Rattle.std.specs.Prelude.{◌==◌, Option, Some, None, option_map, sum_by}
 use Rattle.std.specs.List.{AllByRecursion, slice_index_or, slice_range}
-use Rattle.std.proofs.Math.Seq.{take-append_seam, drop-append_seam}
-use Rattle.std.proofs.lemmas.Bool.{cases_Bool}
+use Rattle.std.proofs.Math.Seq.{drop-append_seam}
 use Rattle.std.proofs.lemmas.List.{map-append, take-append-le, drop-append-le, length-drop, take_all}
 use Rattle.std.proofs.lemmas.List.Sums.{sum_by-cons, sum_by_push}
 use Rattle.vx_aps.specs.declared.aps.Aps.{Aps}
-use Rattle.vx_sei.specs.declared.message.Message.{Message}
-use Rattle.vx_pic.specs.declared.accepted.Accepted.{Accepted}
 use Rattle.vx_pic.specs.declared.accepted.Accepted.TheVariants as accepted
 use Rattle.vx_pic.specs.declared.kind.Kind.{Kind}
 use Rattle.vx_pic.specs.Counted.{previous_of}
-use Rattle.vx_pic.specs.Counts.{is_tid0, is_tid0_picture, previous, counts_or_none}
+use Rattle.vx_pic.specs.Counts.{is_tid0, is_tid0_picture, previous}
 use Rattle.vx_pic.specs.declared.count.PrevTid0.{PrevTid0}
 use Rattle.vx_pic.specs.declared.picture.SliceSlot.{SliceSlot}
 use Rattle.vx_pic.specs.Sets.{lsb_of}
-use Rattle.vx_pic.specs.Rules.{unit_size, size_of}
+use Rattle.vx_pic.specs.Rules.{unit_size}
 use Rattle.vx_pic.specs.Parts.{stored_sets, header_unit_in, IsPlaced}
-use Rattle.vx_pic.specs.Readings.{Begun, Slice, Reading, first_slice, next_slice, stored_sps, stored_pps, is_ended, gathered, Picture, is_whole}
-use Rattle.vx_pic.specs.Readings.{Current, going, with_slice as with_one, current, whole_part, pictures}
+use Rattle.vx_pic.specs.Readings.{Begun, Reading, first_slice, next_slice, stored_sps, stored_pps, is_ended, gathered, Picture, is_whole}
+use Rattle.vx_pic.specs.Readings.{going, with_slice as with_one, current, whole_part, pictures}
 use Rattle.vx_pic.specs.Told.{done_or_not}
 use Rattle.vx_assemble.specs.declared.state.BegunPicture.{BegunPicture}
-use Rattle.vx_assemble.specs.declared.state.CurrentPicture.{CurrentPicture}
 use Rattle.vx_assemble.specs.declared.state.State.{State}
 use Rattle.vx_assemble.specs.declared.readers.ReadSlice.{ReadSlice}
 use Rattle.vx_assemble.specs.declared.slices.Opened.{Opened}
 use Rattle.vx_assemble.specs.inner.Order.{IsSlot, AreSlots, IsOrdered}
-use Rattle.vx_assemble.specs.inner.Held.{begun_of, begun_in, slice_of, IsHeaded, IsGoing, Keeps, last_sps, IsApart, IsHeld, AreItems}
+use Rattle.vx_assemble.specs.inner.Held.{begun_of, slice_of, IsHeaded, IsGoing, Keeps, last_sps, IsApart, IsHeld, AreItems}
 use Rattle.vx_assemble.specs.inner.Takes.{slice_read_as}
-use Rattle.vx_assemble.specs.inner.Changes.{counts_behind, slot_behind, with_slice, with_begun_picture, with_whole, came_all, settled}
+use Rattle.vx_assemble.specs.inner.Changes.{counts_behind, slot_behind, with_slice, with_begun_picture, came_all, settled}
 use Rattle.vx_assemble.specs.inner.Slices.{told_settled, with_first}
 
 -- what is kept behind a slice, before it is settled: the pictures are these, and the one that goes on where it is whole

@@ -1,11 +1,10 @@
 -- Slices that are taken.
-use Rattle.std.proofs.Common.{◌≡◌, ℕ, ◌+◌, ◌<◌, ◌≤◌, List, [], ◌∷◌, ◌++◌, length, Bool, true, false, not, cond, refl, sym, ◌∙◌, ap, subst, arith, add-zero, Result, Ok, Err}
-use Rattle.std.specs.Prelude.{◌==◌, nat_lt, Option, Some, None, sum_by, IsSome}
+use Rattle.std.proofs.Common.{◌≡◌, ℕ, ◌<◌, ◌≤◌, List, [], ◌∷◌, ◌++◌, length, Bool, true, false, not, cond, refl, sym, ◌∙◌, ap, subst, arith, add-zero, Result, Ok, Err}
+use Rattle.std.specs.Prelude.{nat_lt, Option, Some, None, IsSome}
 use Rattle.std.proofs.lemmas.Bool.Decides.{nat_tests}
 use Rattle.std.proofs.lemmas.List.{length-map}
 use Rattle.vx_bits.specs.declared.refusal.Refusal.{Refusal}
 use Rattle.vx_bits.specs.declared.refusal.ReadError.{ReadError}
-use Rattle.vx_bits.specs.declared.refusal.ReadError.TheVariants as errors
 use Rattle.vx_bits.specs.declared.rules.TheConstants as rules
 use Rattle.vx_annexb.specs.NalUnit.{nal_unit_type}
 use Rattle.vx_aps.specs.declared.aps.Aps.{Aps}
@@ -14,7 +13,7 @@ use Rattle.vx_pic.specs.declared.kind.Kind.{Kind}
 use Rattle.vx_pic.specs.Answers.{◌>>=◌, refuse_if}
 use Rattle.vx_pic.specs.Units.{temporal_id, has_header_inside, slice_unit}
 use Rattle.vx_pic.specs.Readings.{Begun, Slice, Reading, first_slice, next_slice, Picture, is_whole, Current, nothing, headed, going, current, is_open, pictures}
-use Rattle.vx_pic.specs.Rules.{Readers, structure, unit_size, size_of, opens, opened, joins, begins, first, further, follows, alone, reads_as}
+use Rattle.vx_pic.specs.Rules.{Readers, structure, unit_size, opens, opened, joins, begins, first, further, follows, alone, reads_as}
 use Rattle.vx_pic.specs.Parts.{stored_sets, header_unit_in}
 use Rattle.vx_pic.specs.Told.{done_or_not}
 use Rattle.vx_assemble.specs.declared.join.Place.{Place}
@@ -23,14 +22,14 @@ use Rattle.vx_assemble.specs.declared.slices.Opened.{Opened}
 use Rattle.vx_assemble.specs.declared.state.BegunPicture.{BegunPicture}
 use Rattle.vx_assemble.specs.declared.state.CurrentPicture.{CurrentPicture}
 use Rattle.vx_assemble.specs.declared.state.State.{State}
-use Rattle.vx_assemble.specs.inner.Held.{begun_of, begun_in, slice_of, IsHeaded, IsGoing, Keeps, IsApart, IsHeld}
+use Rattle.vx_assemble.specs.inner.Held.{begun_of, slice_of, IsHeaded, IsGoing, Keeps, IsApart, IsHeld}
 use Rattle.vx_assemble.specs.inner.Order.{IsOrdered}
 use Rattle.vx_assemble.specs.inner.Takes.{Gives, slice_read_as, TookUnit, TakesUnit}
 use Rattle.vx_assemble.specs.inner.Opening.{opened_in}
 use Rattle.vx_assemble.specs.inner.Places.{IsAt}
-use Rattle.vx_assemble.specs.inner.Changes.{with_slice, with_begun_picture, with_header, with_picture, came_all}
+use Rattle.vx_assemble.specs.inner.Changes.{with_slice, with_begun_picture, with_header, with_begun}
 use Rattle.vx_assemble.specs.inner.Slices.{IsFresh, first_read_as, with_first, IsSettled}
-use Rattle.vx_assemble.proofs.Steps.{gives_first, gives_then, gives_same, same_some}
+use Rattle.vx_assemble.proofs.Steps.{gives_first, gives_same, same_some}
 use Rattle.vx_assemble.proofs.KeptPicture.{begun_is, going_whole}
 use Rattle.vx_assemble.proofs.Openings.{opens_are}
 use Rattle.vx_assemble.proofs.Settling.{IsUnsettled, settled_held, settled_told, first_unsettled, further_unsettled}
@@ -247,8 +246,8 @@ alone_first R before u b n w said is begun count few =
     alone_begun R before u b w said is begun ∙ rw under refl
 
 -- the state behind the header
-header_apart : (s : State) (before : List Reading) (c : CurrentPicture) → IsApart s before → IsApart (with_picture c s) before
-header_apart s before c held = record {
+header_apart : (s : State) (before : List Reading) (k : BegunPicture) → IsApart s before → IsApart (with_begun k [] s) before
+header_apart s before k held = record {
   sps = held.sps;
   pps = held.pps;
   aps = held.aps;
@@ -263,12 +262,12 @@ header_headed c k = record { begun = refl; kind = refl; slices = refl; size = re
 
 pub took_alone : (R : Readers) (s mid new : State) (before : List Reading) (u : List ℕ) (k : BegunPicture) (n : ℕ) (y : Result Accepted ReadError) (w : Bool)
     → IsHeld s before → w ≡ is_open (current before) → w ≡ false → begins R before u None ≡ Ok (begun_of k None)
-    → n ≡ length k.sets.layout.slices → n ≤ 1 → mid ≡ with_picture (with_header k [] s.picture) s
+    → n ≡ length k.sets.layout.slices → n ≤ 1 → mid ≡ with_begun k [] s
     → (IsApart mid before → (b : Begun) → IsHeaded mid.picture b → TakesUnit (first R before b u) before new y)
     → TakesUnit (alone R before u) before new y
 took_alone R s mid new before u k n y w held said is begun count few mid_is takes =
     let first_takes = takes
-    (subst (λ m. IsApart m before) (sym mid_is) (header_apart s before (with_header k [] s.picture) held.apart))
+    (subst (λ m. IsApart m before) (sym mid_is) (header_apart s before k held.apart))
     (begun_of k None)
     (subst (λ m. IsHeaded m.picture (begun_of k None)) (sym mid_is) (header_headed s.picture k)) in
     subst (λ x. TakesUnit x before new y) (sym (alone_first R before u (begun_of k None) n w said is begun count few)) first_takes

@@ -1,5 +1,5 @@
 -- Steps that answer a value or a refusal, and what of them is given.
-use Rattle.std.proofs.Common.{◌≡◌, refl, sym, ◌∙◌, ap, subst, Result, Ok, Err}
+use Rattle.std.proofs.Common.{◌≡◌, refl, sym, ap, subst, Result, Ok, Err}
 use Rattle.std.specs.Prelude.{Some}
 use Rattle.vx_bits.specs.declared.refusal.Refusal.{Refusal}
 use Rattle.vx_bits.specs.declared.refusal.ReadError.{ReadError}
@@ -15,6 +15,12 @@ bind_assoc (Err r) f k = refl
 pub bind_same : {A B : Type 0} (m : Result A Refusal) (f g : A → Result B Refusal) → ((a : A) → f a ≡ g a) → (m >>= f) ≡ (m >>= g)
 bind_same (Ok a) f g same = same a
 bind_same (Err r) f g same = refl
+
+-- the same value is come to where each step has its value again
+pub bind_on : {A B : Type 0} (m n : Result A Refusal) (f g : A → Result B Refusal) (b : B) → ((a : A) → m ≡ Ok a → n ≡ Ok a)
+    → ((a : A) → f a ≡ Ok b → g a ≡ Ok b) → (m >>= f) ≡ Ok b → (n >>= g) ≡ Ok b
+bind_on (Ok a) n f g b first next is = rw (first a refl) (next a is)
+bind_on (Err r) n f g b first next is = absurd (cc)
 
 pub same_some : {A : Type 0} (a b : A) → Some a ≡ Some b → a ≡ b
 same_some a b is = cc

@@ -1,6 +1,6 @@
 -- Units that are taken, by their class.
-use Rattle.std.proofs.Common.{◌≡◌, ℕ, ◌<◌, ◌≤◌, List, ◌∷◌, ◌++◌, length, Bool, true, false, cond, refl, sym, ◌∙◌, ap, subst, arith, Result, Ok, Err}
-use Rattle.std.specs.Prelude.{◌==◌, not, Option, Some, None, slice_set}
+use Rattle.std.proofs.Common.{◌≡◌, ℕ, ◌<◌, ◌≤◌, List, ◌∷◌, length, Bool, true, false, cond, refl, sym, ◌∙◌, ap, subst, arith, Result, Ok, Err}
+use Rattle.std.specs.Prelude.{◌==◌, not, Some, None, slice_set}
 use Rattle.vx_aps.specs.declared.aps.TheConstants.{LMCS}
 use Rattle.vx_annexb.specs.declared.header.NalHeader.{NalHeader}
 use Rattle.vx_annexb.specs.NalUnit.{header_of}
@@ -16,17 +16,17 @@ use Rattle.vx_pic.specs.declared.accepted.Accepted.TheVariants as accepted
 use Rattle.vx_pic.specs.Answers.{◌>>=◌, refuse_if}
 use Rattle.vx_pic.specs.Units.{rbsp_of, is_reserved, class_of, Class, other_unit, vps_unit, sps_unit, pps_unit, prefix_aps, suffix_aps, header_unit, end_unit}
 use Rattle.vx_pic.specs.Sets.{sps_id, pps_id}
-use Rattle.vx_pic.specs.Readings.{Begun, Reading, dropped, vps_read, sps_read, pps_read, aps_read, header_read, sequence_ended, current, is_open, is_within}
+use Rattle.vx_pic.specs.Readings.{Reading, dropped, vps_read, sps_read, pps_read, aps_read, header_read, sequence_ended, current, is_open, is_within}
 use Rattle.vx_pic.specs.Rules.{Readers, structure, aps_reading, begins, reads_as, reads}
-use Rattle.vx_pic.specs.Parts.{slot_of, stored_sets}
+use Rattle.vx_pic.specs.Parts.{slot_of}
 use Rattle.vx_pic.proofs.StoredSets.{set_stored}
 use Rattle.vx_assemble.specs.declared.state.BegunPicture.{BegunPicture}
 use Rattle.vx_assemble.specs.declared.state.State.{State}
-use Rattle.vx_assemble.specs.inner.Held.{begun_of, aps_items, IsHeld}
+use Rattle.vx_assemble.specs.inner.Held.{begun_of, IsHeld}
 use Rattle.vx_assemble.specs.declared.unit.UnitClass.{UnitClass}
 use Rattle.vx_assemble.specs.inner.Classes.{class_seen}
 use Rattle.vx_assemble.specs.inner.Takes.{Gives, TookUnit, TakesUnit}
-use Rattle.vx_assemble.specs.inner.Changes.{with_items, with_sps, with_pps, with_aps, with_end, with_header, with_picture}
+use Rattle.vx_assemble.specs.inner.Changes.{with_items, with_sps, with_pps, with_aps, with_end, with_begun}
 use Rattle.vx_assemble.proofs.Steps.{gives_first, gives_same}
 use Rattle.vx_assemble.proofs.Holding.{dropped_held, vps_held, sps_held, pps_held, end_held, header_held}
 
@@ -62,13 +62,13 @@ failed_vps R new before u rbsp e spells bad =
 -- ---- sets that don't stand within a picture
 
 -- such a set, by what it is read as
-abbrev outside : {A : Type 0} → List Reading → Result A Refusal → (A → Reading) → Result Reading Refusal
+abbrev pub outside : {A : Type 0} → List Reading → Result A Refusal → (A → Reading) → Result Reading Refusal
 outside before read as_reading = do
   _ ← refuse_if (is_within (current before)) (structure rules.SET_INSIDE_PICTURE)
   v ← read
   Ok (as_reading v)
 
-outside_is : {A : Type 0} (before : List Reading) (read : Result A Refusal) (f : A → Reading) → is_within (current before) ≡ false
+pub outside_is : {A : Type 0} (before : List Reading) (read : Result A Refusal) (f : A → Reading) → is_within (current before) ≡ false
     → outside before read f ≡ (read >>= λ v. Ok (f v))
 outside_is before read f closed = rw closed refl
 
@@ -209,7 +209,7 @@ failed_header R new before u e w said is bad =
 
 pub took_header : (R : Readers) (s new : State) (before : List Reading) (u : List ℕ) (b : BegunPicture) (w : Bool) → w ≡ is_open (current before)
     → w ≡ false → begins R before u (Some u) ≡ Ok (begun_of b (Some u)) → 2 ≤ length u → IsHeld s before
-    → new ≡ with_picture (with_header b u s.picture) s → TookUnit (reads_as R header_unit before u) before new accepted.Nothing
+    → new ≡ with_begun b u s → TookUnit (reads_as R header_unit before u) before new accepted.Nothing
 took_header R s new before u b w said is begun some held kept = record {
   reading = header_read (begun_of b (Some u));
   reads = header_reads R before u (sym said ∙ is) ∙ ap (λ x. x >>= λ y. Ok (header_read y)) begun;

@@ -1,7 +1,10 @@
 -- What serves bodies and proofs alone.
 pub mod Held
 pub mod Order
+pub mod Stored
+pub mod SentAgain
 pub mod Classes
+pub mod Fronts
 pub mod Headers
 pub mod Takes
 pub mod Joining

@@ -1,21 +1,23 @@
 //! A picture header, with what is in force for it.
-ghost use Rattle.std.specs.Prelude.{◌≡◌, List, ℕ, Option, IfOk};
+ghost use Rattle.std.specs.Prelude.{◌≡◌, List, ℕ, Option, None, Err, IfOk, IfErr, IfSome, OnOk, OnErr};
 ghost use Rattle.vx_pic.specs.Sets.{referred_sps};
 ghost use Rattle.vx_pic.specs.Readings.{Reading};
 ghost use Rattle.vx_pic.specs.Rules.{Readers, begins};
 ghost use Rattle.vx_pic.specs.H266.{AreOfH266};
 ghost use Rattle.vx_assemble.specs.inner.Held.{begun_of, IsApart};
-ghost use Rattle.vx_assemble.specs.inner.Order.{IsHeader};
+ghost use Rattle.vx_assemble.specs.inner.Order.{IsHeader, IsInOrder};
 ghost use Rattle.vx_assemble.specs.inner.Takes.{Gives, answer_by};
-ghost use Rattle.vx_assemble.specs.inner.Beginning.{sets_kept, unit_in};
+ghost use Rattle.vx_assemble.specs.inner.Beginning.{AreInForce, layout_kept, sets_kept, unit_in};
+ghost use Rattle.vx_assemble.specs.inner.Changes as changes;
 
 use crate::in_force::InForce;
 use crate::readers::{header_of, referred_pps};
 use crate::refusals::missing;
 use crate::shared::Shared;
-use crate::state::{BegunPicture, State};
-use crate::unit::NalUnit;
-use std::alloc::Global;
+use crate::state::{BegunPicture, MadeSets, State};
+use crate::unit::{NalUnit, SliceUnit};
+use std::alloc::{AllocError, Global};
+use vx_annexb::unescape;
 use vx_bits::ReadError;
 use vx_fields::pps::pps_seq_parameter_set_id;
 use vx_pic::{PPS, SPS};
@@ -52,13 +54,50 @@ impl State {
         let Some(pps) = self.pps_of(id) else {
             return Err(ReadError::Refused(missing(PPS, id)));
         };
-        let sps_id = referred_sps(pps.value());
+        let sps_id = referred_sps(pps.set().value());
         let Some(sps) = self.sps_of(sps_id) else {
             return Err(ReadError::Refused(missing(SPS, sps_id)));
         };
-        let sps = sps.share()?;
-        let pps = pps.share()?;
+        let sps = sps.set().share()?;
+        let pps = pps.set().share()?;
         Ok(SetPair { sps, pps })
+    }
+
+    /// The sets that a PPS id refers to, where what they make up is kept.
+    fn made_of(&self, id: u8) -> Option<&Shared<InForce>>
+        requires { IsInOrder self.now }
+        ensures { IfSome result (λ sets. AreInForce self.now id sets.now) }
+    {
+        match &self.made {
+            Some(made) if made.id == id => Some(&made.sets),
+            _ => None,
+        }
+    }
+
+    /// The sets that a PPS id refers to, and what they make up: as it is kept, or made anew.
+    ///
+    /// # Errors
+    ///
+    /// The first set that isn't stored is missing; SIZE_DIFFERS, or the lowest fault of the layout; want of memory.
+    fn in_force(&self, alloc: Global, id: u8) -> Result<Shared<InForce>, ReadError>
+        requires { IsInOrder self.now }
+        ensures sets { IfOk result (AreInForce self.now id) }
+        ensures answer { (R : Readers) → AreOfH266 R → IfErr result (λ e. Gives (layout_kept R self.now id) (Err e)) }
+    {
+        if let Some(sets) = self.made_of(id) {
+            let sets = sets.share()?;
+            return Ok(sets);
+        }
+        let pair = match self.sets_of(id) {
+            Ok(pair) => pair,
+            Err(error) => return Err(error),
+        };
+        let sets = match InForce::new(alloc, pair.sps, pair.pps) {
+            Ok(sets) => sets,
+            Err(error) => return Err(error),
+        };
+        let shared = Shared::new(alloc, sets)?;
+        Ok(shared)
     }
 
     /// The picture header of a PH unit, or of a slice that has it inside, with what is in force for it.
@@ -72,33 +111,77 @@ impl State {
         unit: NalUnit<'_>,
         inside: bool,
     ) -> Result<BegunPicture, ReadError>
+        requires { IsInOrder self.now }
         ensures answer { (R : Readers) → AreOfH266 R → (before : List Reading) → IsApart self.now before
             → Gives (begins R before unit.entry.bytes.now (unit_in inside unit.entry.bytes.now)) (answer_by (λ b. begun_of b (unit_in inside unit.entry.bytes.now)) result) }
         ensures header { IfOk result IsHeader }
+        ensures stored { IfOk result (λ b. AreInForce self.now b.pps_id b.sets) }
     {
         let id = match referred_pps(inside, unit.rbsp) {
             Ok(id) => id,
             Err(error) => return Err(error),
         };
-        let pair = match self.sets_of(id) {
-            Ok(pair) => pair,
-            Err(error) => return Err(error),
-        };
-        let sets = match InForce::new(alloc, pair.sps, pair.pps) {
+        let sets = match self.in_force(alloc, id) {
             Ok(sets) => sets,
             Err(error) => return Err(error),
         };
-        let sps = sets.sps.value();
-        let pps = sets.pps.value();
+        let made = sets.value();
+        let sps = made.sps.value();
+        let pps = made.pps.value();
         let header = match header_of(alloc, inside, sps, pps, unit.rbsp) {
             Ok(header) => header,
             Err(error) => return Err(error),
         };
-        let shared = Shared::new(alloc, sets)?;
         Ok(BegunPicture {
-            sets: shared,
+            pps_id: id,
+            sets,
             header,
             temporal_id: unit.header.temporal_id,
         })
+    }
+
+    /// The picture header inside a slice, with what is in force for it.
+    ///
+    /// # Errors
+    ///
+    /// The first rule that it breaks; want of memory.
+    pub(crate) fn begin_alone(
+        &self,
+        alloc: Global,
+        unit: SliceUnit<'_>,
+    ) -> Result<BegunPicture, ReadError>
+        requires { IsInOrder self.now }
+        ensures answer { (R : Readers) → AreOfH266 R → (before : List Reading) → IsApart self.now before
+            → Gives (begins R before unit.entry.bytes.now None) (answer_by (λ b. begun_of b None) result) }
+        ensures header { IfOk result IsHeader }
+        ensures stored { IfOk result (λ b. AreInForce self.now b.pps_id b.sets) }
+    {
+        if let Ok(begun) = self.begin(alloc, unit.front, true) {
+            return Ok(begun);
+        }
+        let bytes = unescape(alloc, unit.bytes)?;
+        let whole = unit.whole(&bytes);
+        self.begin(alloc, whole, true)
+    }
+
+    /// Begins a picture with a header that came in this PH unit, or in none, and keeps what is in force for it.
+    ///
+    /// # Errors
+    ///
+    /// Where memory runs out, and all is then as it was.
+    pub(crate) fn start(
+        &mut self,
+        alloc: Global,
+        begun: BegunPicture,
+        unit: &[u8],
+    ) -> Result<(), AllocError>
+        ensures ok { OnOk result (self.new ≡ changes.with_begun begun unit.now self.old) }
+        ensures err { OnErr result (self.new ≡ self.old) }
+    {
+        let id = begun.pps_id;
+        let sets = begun.sets.share()?;
+        self.picture.start(alloc, begun, unit)?;
+        self.made = Some(MadeSets { id, sets });
+        Ok(())
     }
 }

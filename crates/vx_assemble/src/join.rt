@@ -13,10 +13,10 @@ ghost use Rattle.vx_assemble.specs.inner.Joining.{same_picture, all_there, next_
 ghost use Rattle.vx_assemble.specs.inner.Places.{IsAt};
 
 use crate::numbers::{number, signed};
-use crate::readers::{ReadSlice, slice_of};
+use crate::readers::{ReadSlice, slice_header_of};
 use crate::refusals::{missing, structure};
 use crate::state::BegunPicture;
-use crate::unit::NalUnit;
+use crate::unit::SliceUnit;
 use std::alloc::Global;
 use vx_annexb::NalHeader;
 use vx_aps::{ALF, LMCS, SCALING};
@@ -223,9 +223,9 @@ fn check_place(place: Place<'_>, read: &ReadSlice) -> Result<(), Refusal>
 fn check_slice(place: Place<'_>, read: &ReadSlice, more: usize) -> Result<(), Refusal>
     requires old { place.size ≤ picture_limit }
     requires more { more ≤ 2 ^ 23 }
-    requires read { IsReadUnder place.begun.now read.now }
+    requires read { IsReadUnder place.begun.now place.kind.nal_type read.now }
     ensures answer { result ≡ checked (begun_of place.entry.begun.now None) place.entry.bodies.now place.entry.count place.entry.size more (header_read_as read.now) }
-    ensures joined { OnOk result (IsJoined place.entry.begun.now place.entry.bodies.now more read.now) }
+    ensures joined { OnOk result (IsJoined place.entry.begun.now place.entry.kind.nal_type place.entry.bodies.now more read.now) }
     ensures size { OnOk result (place.entry.size + more ≤ picture_limit) }
 {
     check_place(place, read)?;
@@ -244,20 +244,20 @@ fn check_slice(place: Place<'_>, read: &ReadSlice, more: usize) -> Result<(), Re
 /// The first rule that it breaks; want of memory.
 pub(crate) fn join(
     alloc: Global,
-    unit: NalUnit<'_>,
+    unit: SliceUnit<'_>,
     place: Place<'_>,
 ) -> Result<ReadSlice, ReadError>
     requires size { place.size ≤ picture_limit }
     requires header { IsHeader place.begun.now }
     ensures answer { (R : Readers) → AreOfH266 R → (p : Picture) → IsAt place.entry p
         → Gives (joins R p unit.entry.bytes.now) (answer_by (slice_read_as unit.entry.bytes.now) result) }
-    ensures joined { IfOk result (IsJoined place.entry.begun.now place.entry.bodies.now (length unit.entry.bytes.now)) }
+    ensures joined { IfOk result (IsJoined place.entry.begun.now place.entry.kind.nal_type place.entry.bodies.now (length unit.entry.bytes.now)) }
     ensures size { OnOk result (place.entry.size + length unit.entry.bytes.now ≤ picture_limit) }
 {
     if let Err(refusal) = check_kind(place, unit.header) {
         return Err(ReadError::Refused(refusal));
     }
-    let read = match slice_of(alloc, place.kind.nal_type, place.begun, unit) {
+    let read = match slice_header_of(alloc, place.kind.nal_type, place.begun, unit) {
         Ok(read) => read,
         Err(error) => return Err(error),
     };

@@ -5,13 +5,11 @@ ghost use Rattle.vx_aps.specs.Aps.{IsValid};
 ghost use Rattle.vx_assemble.specs.inner.Held.{aps_items};
 ghost use Rattle.vx_assemble.specs.inner.Changes as changes;
 
-use crate::shared::Shared;
+use crate::sets::{StoredPps, StoredSps};
 use crate::state::State;
 use std::rc::Rc;
 use vx_aps::Aps;
 use vx_bits::Fields;
-use vx_pps::Pps;
-use vx_sps::Sps;
 
 impl State {
     /// Keeps the items of a unit that has no place in a table.
@@ -22,19 +20,21 @@ impl State {
     }
 
     /// Keeps an SPS, in the place of the one of its id.
-    pub(crate) fn keep_sps(&mut self, id: u8, sps: Shared<Sps>)
+    pub(crate) fn keep_sps(&mut self, id: u8, sps: StoredSps)
         requires { id < 16 }
         ensures { self.new ≡ changes.with_sps id sps self.old }
     {
         self.sps[id as usize] = Some(sps);
+        self.made = None;
     }
 
     /// Keeps a PPS, in the place of the one of its id.
-    pub(crate) fn keep_pps(&mut self, id: u8, pps: Shared<Pps>)
+    pub(crate) fn keep_pps(&mut self, id: u8, pps: StoredPps)
         requires { id < 64 }
         ensures { self.new ≡ changes.with_pps id pps self.old }
     {
         self.pps[id as usize] = Some(pps);
+        self.made = None;
     }
 
     /// Keeps an APS of these items, in the place of the one of its type and id.
@@ -55,7 +55,7 @@ impl State {
     }
 
     /// The SPS of an id.
-    pub(crate) fn sps_of(&self, id: u8) -> Option<&Shared<Sps>>
+    pub(crate) fn sps_of(&self, id: u8) -> Option<&StoredSps>
         ensures { option_copied result ≡ slice_index_or self.now.sps id None }
     {
         match self.sps.get(id as usize) {
@@ -65,7 +65,7 @@ impl State {
     }
 
     /// The PPS of an id.
-    pub(crate) fn pps_of(&self, id: u8) -> Option<&Shared<Pps>>
+    pub(crate) fn pps_of(&self, id: u8) -> Option<&StoredPps>
         ensures { option_copied result ≡ slice_index_or self.now.pps id None }
     {
         match self.pps.get(id as usize) {

@@ -17,6 +17,7 @@ mod keep;
 mod numbers;
 mod readers;
 mod refusals;
+mod sets;
 mod shared;
 mod slices;
 mod state;

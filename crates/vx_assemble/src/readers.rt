@@ -2,6 +2,9 @@
 ghost use Rattle.std.specs.Prelude.{◌≡◌, ◌+◌, ◌<◌, ◌≤◌, ◌^◌, drop, length, List, ℕ, Option, IfOk, IfSome, OnOk};
 ghost use Rattle.vx_rpl.specs.HeaderLists.{lists_of};
 ghost use Rattle.vx_ph.specs.InForce.{in_force, structures};
+ghost use Rattle.vx_ph.specs.Picture as picture;
+ghost use Rattle.vx_sh.specs.InForce.{in_force_at};
+ghost use Rattle.vx_pic.specs.Parts.{IsReadAt};
 ghost use Rattle.vx_assemble.specs.inner.Headers.{as_told};
 ghost use Rattle.vx_aps.specs.Aps.{IsValid};
 ghost use Rattle.vx_pic.specs.PictureLayout as pictures;
@@ -18,9 +21,9 @@ ghost use Rattle.vx_assemble.specs.inner.Takes.{Gives, answer_by, header_read_as
 
 use crate::numbers::number;
 use crate::state::BegunPicture;
-use crate::unit::NalUnit;
+use crate::unit::{NalUnit, SliceUnit};
 use std::alloc::{AllocError, Global};
-use vx_annexb::unit_place;
+use vx_annexb::{unescape, unit_place};
 use vx_aps::{Aps, one_answer, read_aps};
 use vx_bits::{BitReader, Fields, IdList, ReadError};
 use vx_fields::sh::{sh_picture_header_in_slice_header_flag, sh_slice_address};
@@ -153,6 +156,7 @@ pub(crate) fn header_of(
     ensures answer { (R : Readers) → AreOfH266 R
         → Gives (R.header inside sps.now pps.now rbsp.now) (answer_by (λ header. header.fields) result) }
     ensures made { IfOk result (IsHeaderUnder sps.now pps.now) }
+    ensures read { IfOk result (picture.IsHeader (structures sps.now) (in_force sps.now pps.now)) }
     ensures small { IfOk result (λ header. NamesSmall header.fields) }
 {
     if !inside {
@@ -175,8 +179,10 @@ pub(crate) fn read_slice(
     requires one_each { length numbers.now.ids.now ≡ length numbers.now.layout.now.subpics }
     ensures answer { (R : Readers) → AreOfH266 R → (b : Begun) → AreOfBegun numbers.now b
         → Gives (R.slice numbers.now.nal_type b unit.now) (answer_by slice_seen result) }
+    ensures read { IfOk result (λ read. IsReadAt (in_force_at numbers.now) read.0) }
     ensures subpic { IfOk result (λ read. read.0.subpic < length numbers.now.ids.now) }
     ensures small { IfOk result (λ read. NamesSmall read.0.fields) }
+    ensures within { IfOk result (λ read. read.1 ≤ length unit.now) }
     ensures lists { IfOk result (λ read. read.0.lists ≡ lists_of (structures numbers.now.sps.now) (in_force numbers.now.sps.now numbers.now.pps.now) read.0.fields) }
 {
     let (header, size) = read_sh(alloc, rbsp, numbers)?;
@@ -200,12 +206,12 @@ fn told(header: SliceHeader) -> SliceHeader
     }
 }
 
-/// The header of a slice of a picture, whose first slice is of this type.
+/// The header of a slice of a picture, whose first slice is of this type, from the RBSP of its unit.
 ///
 /// # Errors
 ///
 /// The first refusal; want of memory.
-pub(crate) fn slice_of(
+fn slice_of(
     alloc: Global,
     nal_type: u8,
     begun: &BegunPicture,
@@ -214,7 +220,8 @@ pub(crate) fn slice_of(
     requires { IsHeader begun.now }
     ensures answer { (R : Readers) → AreOfH266 R → (head : Option (List ℕ))
         → Gives (R.slice nal_type (begun_of begun.now head) unit.entry.bytes.now) (answer_by header_read_as result) }
-    ensures made { IfOk result (IsReadUnder begun.now) }
+    ensures made { IfOk result (IsReadUnder begun.now nal_type) }
+    ensures within { IfOk result (λ read. read.payload ≤ length unit.entry.bytes.now) }
 {
     let sets = begun.sets.value();
     let sps = sets.sps.value();
@@ -235,4 +242,28 @@ pub(crate) fn slice_of(
         header: told(header),
         payload,
     })
+}
+
+/// The header of a slice of a picture, whose first slice is of this type.
+///
+/// # Errors
+///
+/// The first refusal; want of memory.
+pub(crate) fn slice_header_of(
+    alloc: Global,
+    nal_type: u8,
+    begun: &BegunPicture,
+    unit: SliceUnit<'_>,
+) -> Result<ReadSlice, ReadError>
+    requires { IsHeader begun.now }
+    ensures answer { (R : Readers) → AreOfH266 R → (head : Option (List ℕ))
+        → Gives (R.slice nal_type (begun_of begun.now head) unit.entry.bytes.now) (answer_by header_read_as result) }
+    ensures made { IfOk result (IsReadUnder begun.now nal_type) }
+{
+    if let Ok(read) = slice_of(alloc, nal_type, begun, unit.front) {
+        return Ok(read);
+    }
+    let bytes = unescape(alloc, unit.bytes)?;
+    let whole = unit.whole(&bytes);
+    slice_of(alloc, nal_type, begun, whole)
 }

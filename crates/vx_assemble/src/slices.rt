@@ -19,7 +19,7 @@ use crate::readers::ReadSlice;
 use crate::refusals::structure;
 use crate::shared::Shared;
 use crate::state::{BegunPicture, State};
-use crate::unit::NalUnit;
+use crate::unit::SliceUnit;
 use std::alloc::{AllocError, Global};
 use std::mem::replace;
 use vx_bits::ReadError;
@@ -57,13 +57,13 @@ impl State {
         &self,
         alloc: Global,
         begun: &BegunPicture,
-        unit: NalUnit<'_>,
+        unit: SliceUnit<'_>,
     ) -> Result<Opened, ReadError>
         requires size { length self.now.picture.bytes ≤ picture_limit }
         requires header { IsHeader begun.now }
         ensures answer { (R : Readers) → AreOfH266 R → (before : List Reading) → IsApart self.now before → (b : Begun) → IsFresh self.now.picture begun.now b
             → Gives (first R before b unit.entry.bytes.now) (answer_by (first_read_as b unit.entry.bytes.now) result) }
-        ensures joined { IfOk result (λ o. IsJoined begun.now o.bodies (length unit.entry.bytes.now) o.read) }
+        ensures joined { IfOk result (λ o. IsJoined begun.now o.kind.nal_type o.bodies (length unit.entry.bytes.now) o.read) }
         ensures bodies { IfOk result (λ o. o.bodies ≡ self.now.aps) }
         ensures size { OnOk result (length self.now.picture.bytes + length unit.entry.bytes.now ≤ picture_limit) }
     {
@@ -184,7 +184,7 @@ impl State {
     }
 
     /// Takes the first slice of the picture whose header came.
-    fn take_first(&mut self, alloc: Global, unit: NalUnit<'_>) -> Result<Accepted, ReadError>
+    fn take_first(&mut self, alloc: Global, unit: SliceUnit<'_>) -> Result<Accepted, ReadError>
         requires order { IsInOrder self.old }
         requires begun { IsSome self.old.picture.begun }
         ensures answer { (R : Readers) → AreOfH266 R → (before : List Reading) → IsApart self.old before → (b : Begun) → IsHeaded self.old.picture b
@@ -204,7 +204,7 @@ impl State {
     }
 
     /// Takes a further slice of the picture that was begun.
-    fn take_further(&mut self, alloc: Global, unit: NalUnit<'_>) -> Result<Accepted, ReadError>
+    fn take_further(&mut self, alloc: Global, unit: SliceUnit<'_>) -> Result<Accepted, ReadError>
         requires order { IsInOrder self.old }
         requires begun { IsSome self.old.picture.begun }
         requires kind { IsSome self.old.picture.kind }
@@ -235,7 +235,7 @@ impl State {
     }
 
     /// Takes a slice whose picture header came before it.
-    fn take_following(&mut self, alloc: Global, unit: NalUnit<'_>) -> Result<Accepted, ReadError>
+    fn take_following(&mut self, alloc: Global, unit: SliceUnit<'_>) -> Result<Accepted, ReadError>
         requires { IsInOrder self.old }
         ensures answer { (R : Readers) → AreOfH266 R → (before : List Reading) → IsHeld self.old before
             → TakesUnit (follows R before (current before) unit.entry.bytes.now) before self.new result }
@@ -252,7 +252,7 @@ impl State {
     }
 
     /// Takes a slice with the picture header inside.
-    fn take_alone(&mut self, alloc: Global, unit: NalUnit<'_>) -> Result<Accepted, ReadError>
+    fn take_alone(&mut self, alloc: Global, unit: SliceUnit<'_>) -> Result<Accepted, ReadError>
         requires { IsInOrder self.old }
         ensures answer { (R : Readers) → AreOfH266 R → (before : List Reading) → IsHeld self.old before
             → TakesUnit (alone R before unit.entry.bytes.now) before self.new result }
@@ -262,14 +262,14 @@ impl State {
         if self.picture.is_open() {
             return Err(ReadError::Refused(structure(SLICE_MISSING)));
         }
-        let begun = match self.begin(alloc, unit, true) {
+        let begun = match self.begin_alone(alloc, unit) {
             Ok(begun) => begun,
             Err(error) => return Err(error),
         };
         if begun.sets.value().slices > 1 {
             return Err(ReadError::Refused(structure(HEADER_INSIDE_OF_SEVERAL)));
         }
-        self.picture.start(alloc, begun, &[])?;
+        self.start(alloc, begun, &[])?;
         self.take_first(alloc, unit)
     }
 
@@ -277,7 +277,7 @@ impl State {
     pub(crate) fn take_slice(
         &mut self,
         alloc: Global,
-        unit: NalUnit<'_>,
+        unit: SliceUnit<'_>,
     ) -> Result<Accepted, ReadError>
         requires { IsInOrder self.old }
         ensures answer { (R : Readers) → AreOfH266 R → (before : List Reading) → IsHeld self.old before

@@ -4,18 +4,19 @@ ghost use Rattle.vx_assemble.specs.inner.Held.{IsHeld};
 ghost use Rattle.vx_assemble.specs.inner.Order.{IsInOrder};
 
 use crate::in_force::InForce;
+use crate::sets::{StoredPps, StoredSps};
 use crate::shared::Shared;
 use std::alloc::Global;
 use vx_bits::{Bytes, Fields};
 use vx_ph::PictureHeader;
 use vx_pic::{ApsList, Kind, PrevTid0, SliceSlots};
-use vx_pps::Pps;
 use vx_sei::MessageList;
-use vx_sps::Sps;
 
 /// A picture header, with what is in force for it.
 #[derive(Drop)]
 pub(crate) struct BegunPicture {
+    /// ph_pic_parameter_set_id.
+    pub pps_id: u8,
     /// The sets that it refers to.
     pub sets: Shared<InForce>,
     /// The header.
@@ -43,13 +44,24 @@ pub(crate) struct CurrentPicture {
     pub messages: MessageList,
 }
 
+/// The sets that a PPS id refers to, and what they make up.
+#[derive(Drop)]
+pub(crate) struct MadeSets {
+    /// The id.
+    pub id: u8,
+    /// The sets.
+    pub sets: Shared<InForce>,
+}
+
 /// What is kept of the units that were taken.
 #[derive(Drop)]
 pub(crate) struct State {
     /// The SPSs that are stored, by their ids.
-    pub sps: [Option<Shared<Sps>>; 16],
+    pub sps: [Option<StoredSps>; 16],
     /// The PPSs that are stored, by their ids.
-    pub pps: [Option<Shared<Pps>>; 64],
+    pub pps: [Option<StoredPps>; 64],
+    /// The sets of the latest picture header, where they are stored still.
+    pub made: Option<MadeSets>,
     /// The adaptation parameter sets that are stored.
     pub aps: ApsList,
     /// The items of the last unit that is told by items of its own.
@@ -86,6 +98,7 @@ impl State {
                 None, None, None, None, None, None, None, None, None, None, None, None, None, None,
                 None, None, None, None, None, None, None, None,
             ],
+            made: None,
             aps: ApsList::new(),
             fields: Fields::new(alloc),
             picture: CurrentPicture {

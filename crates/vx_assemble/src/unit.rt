@@ -6,6 +6,7 @@ ghost use Rattle.vx_annexb.specs.Emulation.{unescaped};
 ghost use Rattle.vx_pic.specs.Units as units;
 ghost use Rattle.vx_pic.specs.Units.{rbsp_of, has_header_inside};
 ghost use Rattle.vx_assemble.specs.inner.Classes.{class_seen, class_behind_sets};
+ghost use Rattle.vx_assemble.specs.inner.Fronts.{IsFront};
 
 use std::alloc::{AllocError, Global};
 use vx_annexb::{NalHeader, unescape};
@@ -29,16 +30,85 @@ pub(crate) struct NalUnit<'a> {
     ghost short: { length rbsp.now ≤ 2 ^ 23 },
 }
 
-impl NalUnit<'_> {
+impl<'a> NalUnit<'a> {
     /// Whether the picture header stands inside, of a slice (H.266 7.3.7).
     #[tactic(auto, unfolding(vx_pic::specs::Units::has_header_inside))]
-    pub(crate) fn has_header_inside(&self) -> bool
+    fn has_header_inside(&self) -> bool
         ensures { result ≡ has_header_inside self.now.bytes.now }
     {
         match self.rbsp.first() {
             Some(byte) => *byte >= 128,
             None => false,
         }
+    }
+
+    /// It as a slice's.
+    pub(crate) fn as_slice(self) -> SliceUnit<'a>
+        ensures { result.bytes.now ≡ self.entry.bytes.now }
+    {
+        SliceUnit {
+            bytes: self.bytes,
+            header: self.header,
+            front: self,
+        }
+    }
+}
+
+/// The most bytes of a slice's unit that its headers are read from, where they end there.
+const FRONT: usize = 512;
+
+/// The first bytes of a unit, which are a unit too.
+#[tactic(auto, using(crate::proofs::Fronts::front_is, crate::proofs::Fronts::front_sound, crate::proofs::Fronts::front_header))]
+pub(crate) fn front_of(unit: &[u8]) -> &[u8]
+    requires { IsSound unit.now }
+    ensures front { IsFront result.now unit.now }
+    ensures sound { IsSound result.now }
+    ensures header { header_of result.now ≡ header_of unit.now }
+{
+    &unit[..unit.len().min(FRONT)]
+}
+
+/// The bytes behind the header.
+pub(crate) fn behind_header(bytes: &[u8]) -> &[u8]
+    ensures { result.now ≡ drop 2 bytes.now }
+{
+    if bytes.len() < 2 { &[] } else { &bytes[2..] }
+}
+
+/// A slice's NAL unit. Its payload isn't passed: the headers are read from the front, where they end there.
+#[derive(Clone, Copy)]
+pub(crate) struct SliceUnit<'a> {
+    /// Its bytes.
+    pub bytes: &'a [u8],
+    /// Its header.
+    pub header: NalHeader,
+    /// The unit of its first bytes.
+    pub front: NalUnit<'a>,
+    ghost sound: { IsSound bytes.now },
+    ghost heads: { header ≡ header_of bytes.now },
+    ghost begins: { IsFront front.bytes.now bytes.now },
+}
+
+impl<'a> SliceUnit<'a> {
+    /// The whole unit, which has these bytes without its emulation bytes.
+    #[tactic(auto, unfolding(vx_pic::specs::Units::rbsp_of))]
+    pub(crate) fn whole(&self, bytes: &'a [u8]) -> NalUnit<'a>
+        requires value { bytes.now ≡ unescaped self.now.bytes.now }
+        requires size { length bytes.now ≤ length self.now.bytes.now }
+        ensures { result.bytes.now ≡ self.now.bytes.now }
+    {
+        NalUnit {
+            bytes: self.bytes,
+            header: self.header,
+            rbsp: behind_header(bytes),
+        }
+    }
+
+    /// Whether the picture header stands inside (H.266 7.3.7).
+    pub(crate) fn has_header_inside(&self) -> bool
+        ensures { result ≡ has_header_inside self.now.bytes.now }
+    {
+        self.front.has_header_inside()
     }
 }
 

@@ -1,5 +1,6 @@
 //! Units taken, by their type.
-ghost use Rattle.std.specs.Prelude.{◌≡◌, ◌<◌, ℕ, List, drop, IfOk};
+ghost use Rattle.std.specs.Prelude.{◌≡◌, ◌<◌, ℕ, List, IfOk, IfSome};
+ghost use Rattle.vx_annexb.specs.NalUnit.{header_of};
 ghost use Rattle.vx_annexb.specs.ByteStream.{IsSound};
 ghost use Rattle.vx_pic.specs.declared.accepted.Accepted.TheVariants.{PictureDone};
 ghost use Rattle.vx_pic.specs.Readings.{Reading};
@@ -11,16 +12,17 @@ ghost use Rattle.vx_assemble.specs.inner.Held.{IsHeld};
 ghost use Rattle.vx_assemble.specs.inner.Held as held;
 ghost use Rattle.vx_assemble.specs.inner.Order.{IsInOrder, IsComplete};
 ghost use Rattle.vx_assemble.specs.inner.Takes.{TakesUnit};
+ghost use Rattle.vx_assemble.specs.inner.SentAgain.{IsSpsAgain, IsPpsAgain};
 ghost use Rattle.vx_assemble.specs.inner.Classes.{class_seen};
 
 use crate::readers::{aps_of, messages_of, pps_of, sps_of, vps_of};
 use crate::refusals::structure;
-use crate::shared::Shared;
+use crate::sets::{StoredPps, StoredSps};
 use crate::state::State;
-use crate::unit::{NalUnit, UnitClass, class_of};
+use crate::unit::{NalUnit, SliceUnit, UnitClass, behind_header, class_of, front_of};
 use std::alloc::{AllocError, Global};
 use std::rc::Rc;
-use vx_annexb::{read_header, unescape};
+use vx_annexb::{NalHeader, read_header, unescape};
 use vx_aps::Aps;
 use vx_bits::rules::{LONG_MESSAGES, SET_INSIDE_PICTURE, SEVERAL_LAYERS, SLICE_MISSING};
 use vx_bits::{Fields, Item, ReadError, Refusal};
@@ -67,13 +69,6 @@ fn pps_id(pps: &Pps) -> u8
     pps.scope().latest(pps_pic_parameter_set_id) as u8
 }
 
-/// The bytes behind the header.
-fn behind_header(bytes: &[u8]) -> &[u8]
-    ensures { result.now ≡ drop 2 bytes.now }
-{
-    if bytes.len() < 2 { &[] } else { &bytes[2..] }
-}
-
 impl State {
     /// Takes a VPS.
     #[tactic(auto, using(crate::proofs::Taking::took_vps, crate::proofs::Taking::failed_vps))]
@@ -89,6 +84,22 @@ impl State {
         Ok(Accepted::Vps)
     }
 
+    /// The id of an SPS that is stored, and was read from this RBSP: it is sent again.
+    #[tactic(auto, using(crate::proofs::Again::sps_is_again))]
+    fn sps_again(&self, rbsp: &[u8]) -> Option<u8>
+        ensures { IfSome result (IsSpsAgain self.now rbsp.now) }
+    {
+        let id = *rbsp.first()? >> 4;
+        let stored = self.sps_of(id)?;
+        if !stored.is_of(rbsp) {
+            return None;
+        }
+        if sps_id(stored.set().value()) != id {
+            return None;
+        }
+        Some(id)
+    }
+
     /// Takes an SPS.
     #[tactic(auto, using(crate::proofs::Taking::took_sps, crate::proofs::Taking::failed_sps, crate::proofs::Taking::sps_within))]
     fn take_sps(&mut self, alloc: Global, unit: NalUnit<'_>) -> Result<Accepted, ReadError>
@@ -101,14 +112,33 @@ impl State {
         if self.picture.is_within() {
             return Err(ReadError::Refused(structure(SET_INSIDE_PICTURE)));
         }
+        if let Some(id) = self.sps_again(unit.rbsp) {
+            return Ok(Accepted::Sps(id));
+        }
         let sps = match sps_of(alloc, unit.rbsp) {
             Ok(sps) => sps,
             Err(error) => return Err(error),
         };
         let id = sps_id(&sps);
-        let sps = Shared::new(alloc, sps)?;
+        let sps = StoredSps::new(alloc, sps, unit.rbsp)?;
         self.keep_sps(id, sps);
         Ok(Accepted::Sps(id))
+    }
+
+    /// The id of a PPS that is stored, and was read from this RBSP: it is sent again.
+    #[tactic(auto, using(crate::proofs::Again::pps_is_again))]
+    fn pps_again(&self, rbsp: &[u8]) -> Option<u8>
+        ensures { IfSome result (IsPpsAgain self.now rbsp.now) }
+    {
+        let id = *rbsp.first()? >> 2;
+        let stored = self.pps_of(id)?;
+        if !stored.is_of(rbsp) {
+            return None;
+        }
+        if pps_id(stored.set().value()) != id {
+            return None;
+        }
+        Some(id)
     }
 
     /// Takes a PPS.
@@ -123,12 +153,15 @@ impl State {
         if self.picture.is_within() {
             return Err(ReadError::Refused(structure(SET_INSIDE_PICTURE)));
         }
+        if let Some(id) = self.pps_again(unit.rbsp) {
+            return Ok(Accepted::Pps(id));
+        }
         let pps = match pps_of(alloc, unit.rbsp) {
             Ok(pps) => pps,
             Err(error) => return Err(error),
         };
         let id = pps_id(&pps);
-        let pps = Shared::new(alloc, pps)?;
+        let pps = StoredPps::new(alloc, pps, unit.rbsp)?;
         self.keep_pps(id, pps);
         Ok(Accepted::Pps(id))
     }
@@ -201,7 +234,7 @@ impl State {
             Ok(begun) => begun,
             Err(error) => return Err(error),
         };
-        self.picture.start(alloc, begun, unit.bytes)?;
+        self.start(alloc, begun, unit.bytes)?;
         Ok(Accepted::Nothing)
     }
 
@@ -247,10 +280,67 @@ impl State {
             UnitClass::PrefixAps => self.take_prefix_aps(alloc, unit),
             UnitClass::SuffixAps => self.take_suffix_aps(alloc, unit),
             UnitClass::Header => self.take_header(alloc, unit),
-            UnitClass::Slice => self.take_slice(alloc, unit),
+            UnitClass::Slice => self.take_slice(alloc, unit.as_slice()),
             UnitClass::End => self.take_end(),
             UnitClass::Sei => self.take_sei(alloc, unit),
         }
+    }
+
+    /// Takes a slice, of which the bytes are passed no further than its header goes.
+    #[tactic(auto, unfolding(vx_pic::specs::Units::rbsp_of))]
+    fn take_slice_unit(
+        &mut self,
+        alloc: Global,
+        unit: &[u8],
+        header: NalHeader,
+    ) -> Result<Accepted, ReadError>
+        requires order { IsInOrder self.old }
+        requires sound { IsSound unit.now }
+        requires header { header ≡ header_of unit.now }
+        ensures answer { (R : Readers) → AreOfH266 R → (before : List Reading) → IsHeld self.old before
+            → TakesUnit (reads_as R units.slice_unit before unit.now) before self.new result }
+        ensures order { IsInOrder self.new }
+        ensures done { IfOk result (λ what. what ≡ PictureDone → IsComplete self.new.picture) }
+    {
+        let front = front_of(unit);
+        let bytes = unescape(alloc, front)?;
+        let first = NalUnit {
+            bytes: front,
+            header,
+            rbsp: behind_header(&bytes),
+        };
+        let slice = SliceUnit {
+            bytes: unit,
+            header,
+            front: first,
+        };
+        self.take_slice(alloc, slice)
+    }
+
+    /// Takes a unit of a class, of which all bytes are passed.
+    #[tactic(auto, unfolding(vx_pic::specs::Units::rbsp_of))]
+    fn take_whole_unit(
+        &mut self,
+        alloc: Global,
+        class: UnitClass,
+        unit: &[u8],
+        header: NalHeader,
+    ) -> Result<Accepted, ReadError>
+        requires order { IsInOrder self.old }
+        requires sound { IsSound unit.now }
+        requires header { header ≡ header_of unit.now }
+        ensures answer { (R : Readers) → AreOfH266 R → (before : List Reading) → IsHeld self.old before
+            → TakesUnit (reads_as R (class_seen class) before unit.now) before self.new result }
+        ensures order { IsInOrder self.new }
+        ensures done { IfOk result (λ what. what ≡ PictureDone → IsComplete self.new.picture) }
+    {
+        let bytes = unescape(alloc, unit)?;
+        let read = NalUnit {
+            bytes: unit,
+            header,
+            rbsp: behind_header(&bytes),
+        };
+        self.take_class(alloc, class, read)
     }
 
     /// Takes a unit.
@@ -282,12 +372,9 @@ impl State {
         if class == UnitClass::Other {
             return Ok(Accepted::Nothing);
         }
-        let bytes = unescape(alloc, unit)?;
-        let read = NalUnit {
-            bytes: unit,
-            header,
-            rbsp: behind_header(&bytes),
-        };
-        self.take_class(alloc, class, read)
+        if let UnitClass::Slice = class {
+            return self.take_slice_unit(alloc, unit, header);
+        }
+        self.take_whole_unit(alloc, class, unit, header)
     }
 }

@@ -1,5 +1,5 @@
 -- The rules on a picture header, in the steps in which they are tried.
-use Rattle.std.specs.Prelude.{◌≡◌, ℕ, not, Bool, cond, List, Option, Some, None, ok_or, is_none, Result, Ok, Err}
+use Rattle.std.specs.Prelude.{◌≡◌, ℕ, not, Bool, cond, List, Option, Some, None, ok_or, is_none, Result, Ok}
 use Rattle.std.specs.List.{slice_index_or}
 use Rattle.vx_bits.specs.declared.list.Item.{Item}
 use Rattle.vx_bits.specs.declared.refusal.Refusal.{Refusal}
@@ -43,6 +43,17 @@ sps_kept s id = slice_index_or s.sps id None
 
 abbrev pub sets_kept : State → ℕ → Result SetPair Refusal
 sets_kept s id = sets_at (pps_kept s) (sps_kept s) id
+
+-- what they make up
+abbrev pub layout_kept : Readers → State → ℕ → Result Numbers Refusal
+layout_kept R s id = do
+  pair ← sets_kept s id
+  layout_under R pair.sps pair.pps
+
+-- the two sets are those that a PPS id refers to, with what they make up
+pub record AreInForce (s : State) (id : ℕ) (f : InForce) : Type 0 where
+  pub found : sets_kept s id ≡ Ok (record { sps = f.sps; pps = f.pps })
+  pub made : AreMade f
 
 -- the PH unit of a header that doesn't stand inside a slice
 abbrev pub unit_in : Bool → List ℕ → Option (List ℕ)

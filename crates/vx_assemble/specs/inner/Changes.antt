@@ -23,10 +23,10 @@ abbrev pub with_items : List Item → State → State
 with_items items s = record s { fields = items }
 
 abbrev pub with_sps : ℕ → List Item → State → State
-with_sps id sps s = record s { sps = slice_set s.sps id (Some sps) }
+with_sps id sps s = record s { sps = slice_set s.sps id (Some sps); made = None }
 
 abbrev pub with_pps : ℕ → List Item → State → State
-with_pps id pps s = record s { pps = slice_set s.pps id (Some pps) }
+with_pps id pps s = record s { pps = slice_set s.pps id (Some pps); made = None }
 
 abbrev pub with_aps : Aps → State → State
 with_aps a s = record s { aps = slice_set s.aps (slot_of a.kind a.id) (Some a); fields = aps_items a }
@@ -65,6 +65,10 @@ with_slice unit r c = with_slot (slot_behind (length c.bytes) unit r) (with_byte
 -- of all that is kept the picture changes
 abbrev pub with_picture : CurrentPicture → State → State
 with_picture c s = record s { picture = c }
+
+-- a picture begins with such a header, and what is in force for it is kept
+abbrev pub with_begun : BegunPicture → List ℕ → State → State
+with_begun b unit s = record s { made = Some (record { id = b.pps_id; sets = b.sets }); picture = with_header b unit s.picture }
 
 -- and no messages are gathered then, and no sequence has ended
 abbrev pub with_begun_picture : CurrentPicture → State → State

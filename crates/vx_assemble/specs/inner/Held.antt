@@ -9,8 +9,8 @@ use Rattle.vx_pic.specs.declared.picture.SliceSlot.{SliceSlot}
 use Rattle.vx_pic.specs.Counted.{previous_of}
 use Rattle.vx_pic.specs.Counts.{previous}
 use Rattle.vx_pic.specs.Parts.{header_unit_in, stored_sets}
-use Rattle.vx_pic.specs.Readings.{Begun, Slice, Reading, dropped, vps_read, sps_read, pps_read, aps_read, messages_read, header_read}
-use Rattle.vx_pic.specs.Readings.{first_slice, next_slice, sequence_ended, stored_sps, stored_pps, is_ended, gathered}
+use Rattle.vx_pic.specs.Readings.{Begun, Slice, Reading, vps_read, aps_read}
+use Rattle.vx_pic.specs.Readings.{stored_sps, stored_pps, is_ended, gathered}
 use Rattle.vx_pic.specs.Readings.{Picture, messages_of, Current, nothing, headed, going, current, pictures}
 use Rattle.vx_pic.specs.Rules.{unit_size, size_of}
 use Rattle.vx_assemble.specs.declared.fault.First.{First}

@@ -6,16 +6,15 @@ use Rattle.vx_bits.specs.declared.refusal.Refusal.TheVariants.{Limit}
 use Rattle.vx_bits.specs.declared.rules.TheConstants as rules
 use Rattle.vx_layout.specs.declared.numbers.Numbers.{Numbers}
 use Rattle.vx_aps.specs.declared.aps.Aps.{Aps}
-use Rattle.vx_pic.specs.declared.kind.Kind.{Kind}
 use Rattle.vx_pic.specs.Answers.{◌>>=◌, refuse_if}
 use Rattle.vx_pic.specs.Sets.{SliceHeader, Slot, place_of, names_of, slice_qp, is_qp}
 use Rattle.vx_pic.specs.Readings.{Begun, Slice, Picture}
 use Rattle.vx_pic.specs.Rules.{Readers, structure, missing, size_of, picture_limit}
-use Rattle.vx_pic.specs.Parts.{aps_at, stored_sets, slice_header_of, named_by, read_of, AreThere}
+use Rattle.vx_pic.specs.Parts.{IsReadAt, aps_at, stored_sets, slice_header_of, named_by, read_of, AreThere}
 use Rattle.vx_assemble.specs.declared.readers.ReadSlice.{ReadSlice}
 use Rattle.vx_assemble.specs.declared.state.BegunPicture.{BegunPicture}
 use Rattle.vx_assemble.specs.inner.Held.{begun_of}
-use Rattle.vx_assemble.specs.inner.Takes.{header_read_as}
+use Rattle.vx_assemble.specs.inner.Takes.{at_begun, header_read_as}
 
 -- a unit of this type and TemporalId is one of a picture of such a header and type
 abbrev pub same_picture : ℕ → ℕ → ℕ → ℕ → Result (Unit {0}) Refusal
@@ -69,8 +68,9 @@ joins_in_steps R p u t tid = do
   _ ← checked p.begun (stored_sets p.before) (length p.slices) (size_of p) (length u) h
   Ok (record { unit = u; header = h })
 
--- what is known of a slice that has joined
-pub record IsJoined (b : BegunPicture) (sets : List (Option Aps)) (size : ℕ) (r : ReadSlice) : Type 0 where
+-- what is known of a slice that has joined a picture of this type
+pub record IsJoined (b : BegunPicture) (t : ℕ) (sets : List (Option Aps)) (size : ℕ) (r : ReadSlice) : Type 0 where
+  pub read : IsReadAt (at_begun t b) r.header
   pub subpic : r.header.subpic < length b.sets.layout.subpics
   pub header : r.header ≡ slice_header_of (begun_of b None) (header_read_as r)
   pub payload : r.payload < size

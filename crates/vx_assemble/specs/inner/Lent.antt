@@ -1,5 +1,5 @@
 -- The picture that is lent.
-use Rattle.std.specs.Prelude.{pos, false, List, [], map, Option, Some, None}
+use Rattle.std.specs.Prelude.{pos, false, [], map, Option, Some, None}
 use Rattle.vx_pic.specs.declared.kind.Kind.{Kind}
 use Rattle.vx_pic.specs.Parts.{Parts, header_unit_in, slice_in}
 use Rattle.vx_assemble.specs.declared.state.BegunPicture.{BegunPicture}

@@ -1,22 +1,27 @@
 -- What holds of all that an assembler keeps: it lies in order, within the limits.
 use Rattle.std.specs.Prelude.{◌≡◌, ℕ, ◌≤◌, ◌<◌, List, length, Option, Some, None, true, is_none, false}
-use Rattle.std.specs.List.{AllByRecursion}
+use Rattle.std.specs.List.{AllByRecursion, slice_index_or}
+use Rattle.vx_bits.specs.declared.list.Item.{Item}
 use Rattle.vx_aps.specs.declared.aps.Aps.{Aps}
 use Rattle.vx_sei.specs.Sei.{spelled_length}
+use Rattle.vx_ph.specs.InForce.{in_force, structures}
+use Rattle.vx_ph.specs.Picture as picture
+use Rattle.vx_pic.specs.declared.kind.Kind.{Kind}
 use Rattle.vx_pic.specs.declared.accepted.Accepted.{Accepted}
 use Rattle.vx_pic.specs.declared.accepted.Accepted.TheVariants as accepted
 use Rattle.vx_pic.specs.declared.picture.SliceSlot.{SliceSlot}
-use Rattle.vx_pic.specs.Sets.{same_size, slice_qp, is_qp}
+use Rattle.vx_pic.specs.Sets.{same_size, slice_qp, is_qp, referred_sps}
 use Rattle.vx_pic.specs.PictureLayout.{numbers_in, ids_of, MakeLayout}
 use Rattle.vx_pic.specs.UnderSets.{header_of}
-use Rattle.vx_pic.specs.Parts.{IsPlaced, AreThere, named_by, read_of, slice_header_of}
+use Rattle.vx_pic.specs.Parts.{IsPlaced, IsReadAt, AreThere, named_by, read_of, slice_header_of}
 use Rattle.vx_pic.specs.Rules.{picture_limit, message_limit}
 use Rattle.vx_assemble.specs.declared.in_force.InForce.{InForce}
 use Rattle.vx_assemble.specs.declared.state.BegunPicture.{BegunPicture}
 use Rattle.vx_assemble.specs.declared.state.CurrentPicture.{CurrentPicture}
+use Rattle.vx_assemble.specs.declared.state.MadeSets.{MadeSets}
 use Rattle.vx_assemble.specs.declared.state.State.{State}
 use Rattle.vx_assemble.specs.inner.Held.{begun_of, slice_of}
-use Rattle.vx_assemble.specs.inner.Takes.{NamesSmall}
+use Rattle.vx_assemble.specs.inner.Takes.{NamesSmall, at_begun}
 
 -- what two sets make up
 pub record AreMade (f : InForce) : Type 0 where
@@ -29,10 +34,22 @@ pub record AreMade (f : InForce) : Type 0 where
   pub few : length f.layout.slices ≤ 1000
   pub few_subpics : length f.layout.subpics ≤ 1000
 
+-- two stored sets, to which a PPS id refers, and what they make up
+pub record AreStored (sps pps : List (Option (List Item))) (m : MadeSets) : Type 0 where
+  pub pps_stored : slice_index_or pps m.id None ≡ Some m.sets.pps
+  pub sps_stored : slice_index_or sps (referred_sps m.sets.pps) None ≡ Some m.sets.sps
+  pub made : AreMade m.sets
+
+-- such sets are kept, or none
+abbrev pub AreKept : List (Option (List Item)) → List (Option (List Item)) → Option MadeSets → Type 0
+AreKept sps pps None = Unit {0}
+AreKept sps pps (Some m) = AreStored sps pps m
+
 -- a picture header, with the lists that its items come to, and ids that there are
 pub record IsHeader (b : BegunPicture) : Type 0 where
   pub sets : AreMade b.sets
   pub header : b.header ≡ header_of (begun_of b None)
+  pub read : picture.IsHeader (structures b.sets.sps) (in_force b.sets.sps b.sets.pps) b.header
   pub small : NamesSmall b.header.fields
 
 -- a slice of that picture, which stands in these bytes, where these adaptation parameter sets are in force
@@ -48,17 +65,25 @@ abbrev pub AreSlots : Option BegunPicture → List ℕ → List (Option Aps) →
 AreSlots None bytes bodies slots = Unit {0}
 AreSlots (Some b) bytes bodies slots = IsHeader b × AllByRecursion (IsSlot b bytes bodies) slots
 
+-- the slices were read under the header, as those of a picture of this kind
+abbrev pub AreRead : Option BegunPicture → Option Kind → List SliceSlot → Type 0
+AreRead None k slots = Unit {0}
+AreRead (Some b) None slots = Unit {0}
+AreRead (Some b) (Some k) slots = AllByRecursion (λ s. IsReadAt (at_begun k.nal_type b) s.header) slots
+
 -- the picture lies in order
 pub record IsOrdered (c : CurrentPicture) : Type 0 where
   pub bytes : length c.bytes ≤ picture_limit
   pub header : c.header_end ≤ length c.bytes
   pub slots : AreSlots c.begun c.bytes c.bodies c.slices
+  pub read : AreRead c.begun c.kind c.slices
   pub messages : spelled_length c.messages ≤ message_limit
 
 pub record IsInOrder (s : State) : Type 0 where
   pub sps : length s.sps ≡ 16
   pub pps : length s.pps ≡ 64
   pub aps : length s.aps ≡ 24
+  pub made : AreKept s.sps s.pps s.made
   pub picture : IsOrdered s.picture
   pub spelled : s.gathered_len ≡ spelled_length s.gathered
   pub gathered : s.gathered_len ≤ message_limit

@@ -28,10 +28,10 @@ first_read_as b unit o = first_slice b o.kind (slice_read_as unit o.read)
 
 -- a slice has joined the picture
 abbrev pub HasJoined : CurrentPicture → ℕ → ReadSlice → Type 0
-HasJoined c size r = (k : BegunPicture) → c.begun ≡ Some k → IsJoined k c.bodies size r
+HasJoined c size r = (k : BegunPicture) → c.begun ≡ Some k → (kind : Kind) × (c.kind ≡ Some kind) × IsJoined k kind.nal_type c.bodies size r
 
 abbrev pub HasJoinedFirst : CurrentPicture → ℕ → Opened → Type 0
-HasJoinedFirst c size o = (k : BegunPicture) → c.begun ≡ Some k → IsJoined k o.bodies size o.read
+HasJoinedFirst c size o = (k : BegunPicture) → c.begun ≡ Some k → IsJoined k o.kind.nal_type o.bodies size o.read
 
 -- with what a picture begins with
 abbrev pub with_first : List ℕ → Opened → State → State

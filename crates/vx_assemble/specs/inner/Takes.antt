@@ -1,20 +1,19 @@
 -- What steps of an assembler answer, in the words of the rules.
-use Rattle.std.specs.Prelude.{◌≡◌, ℕ, ◌<◌, ◌≤◌, List, ◌∷◌, length, Option, Some, None, Result, Ok, Err}
+use Rattle.std.specs.Prelude.{◌≡◌, ℕ, ◌<◌, List, ◌∷◌, length, None, Result, Ok, Err}
 use Rattle.std.specs.List.{AllByRecursion}
 use Rattle.vx_bits.specs.declared.list.Item.{Item}
 use Rattle.vx_bits.specs.declared.refusal.Refusal.{Refusal}
 use Rattle.vx_bits.specs.declared.refusal.ReadError.{ReadError}
 use Rattle.vx_bits.specs.declared.refusal.ReadError.TheVariants as errors
-use Rattle.vx_layout.specs.declared.numbers.Numbers.{Numbers}
-use Rattle.vx_ph.specs.declared.header.PictureHeader.{PictureHeader}
 use Rattle.vx_pic.specs.declared.accepted.Accepted.{Accepted}
 use Rattle.vx_aps.specs.declared.aps.TheConstants as aps
 use Rattle.vx_fields.specs.declared.ph.TheConstants as ph
 use Rattle.vx_pic.specs.Sets.{SliceHeader, Slot, named, named_filters, names_of}
-use Rattle.vx_pic.specs.Readings.{Begun, Slice, Reading}
-use Rattle.vx_pic.specs.Parts.{id_count, slice_header_of}
+use Rattle.vx_pic.specs.Readings.{Slice, Reading}
+use Rattle.vx_sh.specs.Whole.{At}
+use Rattle.vx_pic.specs.UnderSets.{at_sets}
+use Rattle.vx_pic.specs.Parts.{IsReadAt, id_count, slice_header_of}
 use Rattle.vx_pic.specs.Told.{told_of}
-use Rattle.vx_assemble.specs.declared.in_force.InForce.{InForce}
 use Rattle.vx_assemble.specs.declared.readers.ReadSlice.{ReadSlice}
 use Rattle.vx_assemble.specs.declared.state.BegunPicture.{BegunPicture}
 use Rattle.vx_assemble.specs.declared.state.State.{State}
@@ -50,8 +49,13 @@ pub record NamesSmall (items : List Item) : Type 0 where
   pub lmcs : AreSmall (named aps.LMCS ph.ph_lmcs_aps_id items)
   pub scaling : AreSmall (named aps.SCALING ph.ph_scaling_list_aps_id items)
 
--- a slice header that was read under this picture header
-pub record IsReadUnder (b : BegunPicture) (r : ReadSlice) : Type 0 where
+-- what a slice of this type is read at under this picture header
+abbrev pub at_begun : ℕ → BegunPicture → At
+at_begun t b = at_sets t b.sets.sps b.sets.pps b.header b.sets.ids b.sets.layout
+
+-- a slice header that was read under this picture header, as one of this type
+pub record IsReadUnder (b : BegunPicture) (t : ℕ) (r : ReadSlice) : Type 0 where
+  pub read : IsReadAt (at_begun t b) r.header
   pub subpic : r.header.subpic < length b.sets.layout.subpics
   pub header : r.header ≡ slice_header_of (begun_of b None) (header_read_as r)
   pub small : AreSmall (names_of b.sets.pps b.header.fields (record { fields = r.header.fields; subpic = 0; payload = 0 }))

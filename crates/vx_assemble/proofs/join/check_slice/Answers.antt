@@ -7,6 +7,7 @@ returns-clause-joined c =
     let b = c.args.place.begun.now in
     let h = c.args.read.now.header in
     on_ok_weaker c.check_limits.result (λ less. record {
+      read = c.requires.read.read;
       subpic = c.requires.read.subpic;
       header = c.requires.read.header;
       payload = less;

@@ -40,3 +40,8 @@ pub returns-clause-small : goal.returns-clause-small
 returns-clause-small c =
     let read = rw c.in_ok-header.was at c.read_sh.ensures in
     slice_small (in_force_at c.args.numbers.now) c.args.rbsp.now c.in_ok-header.header c.in_ok-header.size read
+
+pub returns-clause-read : goal.returns-clause-read
+returns-clause-read c =
+    let read = rw c.in_ok-header.was at c.read_sh.ensures in
+    record { inside = read.inside; fields = read.fields; numbers = read.numbers }

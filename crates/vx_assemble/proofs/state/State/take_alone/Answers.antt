@@ -2,7 +2,6 @@ use Rattle.std.proofs.Common.{◌∙◌, sym, ap, Err}
 use Rattle.std.specs.Prelude.{None}
 use Rattle.vx_pic.specs.Readings.{current}
 use Rattle.vx_assemble.specs.inner.Held.{begun_of}
-use Rattle.vx_assemble.specs.inner.Changes.{with_picture}
 use Rattle.vx_assemble.proofs.Slicing.{alone_open, alone_fails, alone_several, took_alone}
 use Rattle.vx_assemble.proofs.state.State.take_alone.Goals as goal
 
@@ -25,8 +24,8 @@ returns-then-value-gt1-clause-answer c R h before held =
 
 pub returns-clause-answer : goal.returns-clause-answer
 returns-clause-answer c R h before held =
-    took_alone R c.args.self.now (with_picture c.start.new.self c.args.self.now) c.take_first.new.self before c.args.unit.bytes.now c.in-Ok.begun
+    took_alone R c.args.self.now c.start.new.self c.take_first.new.self before c.args.unit.bytes.now c.in-Ok.begun
     c.value.result.now.slices c.take_first.result c.is_open.result held (c.is_open.ensures.answer (current before) held.picture) c.if-is_open.false
     (c.in-Ok.ensures.answer R h before held.apart) (ap (λ s. s.slices) c.value.ensures ∙ c.in-Ok.ensures.header.sets.slices) c.if-value-gt1.false
-    (ap (λ p. with_picture p c.args.self.now) c.in_ok-start.ensures.ok)
+    c.in_ok-start.ensures.ok
     (λ apart b head. c.take_first.ensures.answer R h before apart b head)

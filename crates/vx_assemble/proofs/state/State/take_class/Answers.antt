@@ -1,3 +1,7 @@
+use Rattle.std.proofs.Common.{subst}
+use Rattle.vx_pic.specs.Units.{slice_unit}
+use Rattle.vx_pic.specs.Rules.{reads_as}
+use Rattle.vx_assemble.specs.inner.Takes.{TakesUnit}
 use Rattle.vx_assemble.specs.declared.unit.UnitClass.TheVariants as classes
 use Rattle.vx_assemble.proofs.Taking.{as_class}
 use Rattle.vx_assemble.proofs.state.State.take_class.Goals as goal
@@ -28,7 +32,9 @@ returns-in-Header-clause-answer c R h before held =
 
 pub returns-in-Slice-clause-answer : goal.returns-in-Slice-clause-answer
 returns-in-Slice-clause-answer c R h before held =
-    as_class R c.args.class classes.Slice before c.args.unit.bytes.now c.take_slice.new.self c.take_slice.result c.in-Slice.is (c.take_slice.ensures.answer R h before held)
+    as_class R c.args.class classes.Slice before c.args.unit.bytes.now c.take_slice.new.self c.take_slice.result c.in-Slice.is
+    (subst (λ u. TakesUnit (reads_as R slice_unit before u) before c.take_slice.new.self c.take_slice.result) c.as_slice.ensures
+    (c.take_slice.ensures.answer R h before held))
 
 pub returns-in-End-clause-answer : goal.returns-in-End-clause-answer
 returns-in-End-clause-answer c R h before held =

@@ -1,7 +1,6 @@
 use Rattle.std.proofs.Common.{◌∙◌, sym, ap, Err}
 use Rattle.vx_pic.specs.Readings.{current}
-use Rattle.vx_assemble.specs.inner.Changes.{with_picture}
-use Rattle.vx_assemble.proofs.Ordering.{picture_ordered}
+use Rattle.vx_assemble.proofs.Ordering.{start_ordered}
 use Rattle.vx_assemble.proofs.Slots.{header_ordered, unit_short}
 use Rattle.vx_assemble.proofs.Taking.{header_open, failed_header, took_header}
 use Rattle.vx_assemble.proofs.state.State.take_header.Goals as goal
@@ -18,13 +17,13 @@ returns-in-Err-clause-answer c R h before held =
 
 pub returns-clause-answer : goal.returns-clause-answer
 returns-clause-answer c R h before held =
-    took_header R c.args.self.now (with_picture c.start.new.self c.args.self.now) before c.args.unit.bytes.now c.in-Ok.begun c.is_open.result
+    took_header R c.args.self.now c.start.new.self before c.args.unit.bytes.now c.in-Ok.begun c.is_open.result
     (c.is_open.ensures.answer (current before) held.picture) c.if-is_open.false (c.in-Ok.ensures.answer R h before held.apart)
-    c.args.unit.sound.header.bytes held (ap (λ p. with_picture p c.args.self.now) c.in_ok-start.ensures.ok)
+    c.args.unit.sound.header.bytes held c.in_ok-start.ensures.ok
 
 pub returns-clause-order : goal.returns-clause-order
 returns-clause-order c =
-    picture_ordered c.start.new.self c.args.self.now c.requires
-    (rw c.in_ok-start.ensures.ok
+    rw c.in_ok-start.ensures.ok
+    (start_ordered c.in-Ok.begun c.args.unit.bytes.now c.args.self.now c.requires c.in-Ok.ensures.stored
     (header_ordered c.in-Ok.begun c.args.unit.bytes.now c.args.self.now.picture c.requires.picture c.in-Ok.ensures.header
     (unit_short c.args.unit.bytes.now c.args.unit.sound)))
