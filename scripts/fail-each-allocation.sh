@@ -1,8 +1,9 @@
 #!/bin/bash
 # Has each allocation fail in turn, in every test and in runs of the program, and counts what comes of it. Contracts
 # leave open when memory runs out; this shows that then nothing else changes. A test must fail for want of memory, and
-# `show` must answer 4 behind the lines of whole units, or each as ever, where it can do without. What is neither is
-# printed, and makes the status 1. No test of the gate: only how the C library is called is looked at.
+# `show` must answer 4 behind the lines of whole units, `extract` behind what is written of whole pictures, and `check
+# extract` without its line; or each as ever, where it can do without. What is neither is printed, and makes the status 1.
+# No test of the gate: only how the C library is called is looked at.
 # Usage: scripts/fail-each-allocation.sh [CRATE..]   (from the top of the repository; all crates and the program if none
 # is named; proves what it runs first, and needs cc; LAST=N stops behind the first N allocations, 20,000 if left out)
 set -euo pipefail
@@ -52,6 +53,14 @@ program_wants() {
     && { [ ! -s "$work/err" ] || [ "$(cat "$work/err")" = "no memory" ]; }
 }
 
+# Whether `extract` did, each of whose pictures has as many bytes as the first: status 4 behind whole pictures.
+stream_wants() {
+  local length
+  length=$(stat -c %s "$work/out")
+  [ "$status" = 4 ] && cmp -s -n "$length" "$work/out" "$work/whole" && [ $((length % picture)) = 0 ] \
+    && { [ ! -s "$work/err" ] || [ "$(cat "$work/err")" = "no memory" ]; }
+}
+
 # Has each allocation of a command fail. WANTS judges what came of it.
 fail_each() {
   local name=$1 wants=$2 memory=0 ever=0 usual count; shift 2
@@ -81,11 +90,18 @@ for crate in ${*:-$(grep -rl '#\[test\]' crates/*/src | cut -d/ -f2 | sort -u)};
 done
 
 [ $# = 0 ] || exit "$neither"
-# The program: a stored stream, and one that is refused behind the same units.
+# The program: a stored stream, and one that is refused behind the same units; a subpicture of a stored merge three
+# times over, of one that is refused behind it, and whether it can be extracted.
 (cd crates/vx_app && rt run -- show data/a.266 > "$work/log" 2>&1) || { tail -40 "$work/log"; exit 1; }
 program=$PWD/crates/vx_app/out/vx_app
 cp crates/vx_app/data/a.266 "$work/stored.266"
 { cat "$work/stored.266"; printf '\0\0\1\x80\x79'; } > "$work/refused.266"
 fail_each "show, a stored stream" program_wants "$program" show "$work/stored.266"
 fail_each "show, a refused stream" program_wants "$program" show "$work/refused.266"
+cat crates/vx_app/data/m.266 crates/vx_app/data/m.266 crates/vx_app/data/m.266 > "$work/merge.266"
+{ cat "$work/merge.266"; printf '\0\0\1\x80\x79'; } > "$work/cut.266"
+picture=$("$program" extract 1 crates/vx_app/data/m.266 | wc -c)
+fail_each "extract, a stored merge" stream_wants "$program" extract 1 "$work/merge.266"
+fail_each "extract, a refused one" stream_wants "$program" extract 1 "$work/cut.266"
+fail_each "check extract, a stored merge" program_wants "$program" check extract 1 "$work/merge.266"
 exit "$neither"

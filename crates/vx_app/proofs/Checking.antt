@@ -10,7 +10,7 @@ use Rattle.vx_pic.specs.Readings.{Reading, Picture, pictures}
 use Rattle.vx_pic.specs.Rules.{Readers}
 use Rattle.vx_pic.specs.Bytes.{Ending, AreSeenPictures}
 use Rattle.vx_pic.specs.Parts.{Parts, parts_of}
-use Rattle.vx_assemble.specs.Held.{ShowsLatest}
+use Rattle.vx_assemble.specs.Held.{HasPicture, ShowsLatest}
 use Rattle.vx_assemble.specs.Feed.{Feeding, EndsAtEnd, HasFed}
 use Rattle.vx_extract.specs.Extracting.{Extracting}
 use Rattle.vx_extract.specs.Rules.{refusal_of}
@@ -19,11 +19,12 @@ use Rattle.vx_app.specs.declared.stop.Stop.{Stop}
 use Rattle.vx_app.specs.declared.stop.Stop.TheVariants.{NotUnderstood, Refused, ReadFault, WriteFault, NoMemory}
 use Rattle.vx_app.specs.Change.{Change, change, HasNoFault, HasFault, GivesFront, Gains, GainsFront}
 use Rattle.vx_app.specs.Show.{behind_unit, seen_of}
-use Rattle.vx_app.specs.Extract.{at_most, BreakNoRule, IsExtractable, at_picture, Refuses, by_stream, by_picture, without, WhereTold, BeginsWith, HasSeen, ok_text, ChecksBy}
+use Rattle.vx_pic.specs.Sublayers.{at_most}
+use Rattle.vx_app.specs.Extract.{BreakNoRule, IsExtractable, at_picture, Refuses, by_stream, by_picture, without, WhereTold, BeginsWith, HasSeen, ok_text, ChecksBy}
 use Rattle.vx_app.specs.inner.Extracting.{HasTaken, HasTakenOne, IsTask, HasChecked, AdvancesOn, ChecksOne, CountsBy}
 use Rattle.vx_app.proofs.Extracting.{no_pictures, refusal_so}
 use Rattle.vx_app.proofs.Showing.{told_at}
-use Rattle.vx_app.proofs.Taking.{taken_first, taken_below, takes_one, takes_end, takes_refused, takes_unread, takes_none, takes_units}
+use Rattle.vx_app.proofs.Taking.{taken_first, taken_stops, taken_below, takes_one, takes_end, takes_refused, takes_unread, takes_none, takes_units}
 use Rattle.vx_app.proofs.Told.{refused_at}
 
 -- one more is kept, or left out
@@ -68,7 +69,7 @@ module _ {A : Type 0} (left : A → Option (List ℕ)) (reads : A → ℕ) (R : 
         (one.taken.given, one.taken.gave),
         λ b qs ending told are.
             let first = taken_first left reads R s s'' f' (one.picture ∷ e.ps) one.taken b qs ending told are in
-            (e.ps, by_picture (record { later = first.0; picture = one.picture; place = first.1; kept = e.rules; broken = broken }) (ap at_picture e.count)),
+            (e.ps, by_picture (record { later = first.0; picture = one.picture; place = first.1; kept = e.rules; broken = broken }) (taken_stops left reads R s s'' f' e.ps one) (ap at_picture e.count)),
       )
 
     -- ---- what ends it
@@ -95,7 +96,7 @@ module _ {A : Type 0} (left : A → Option (List ℕ)) (reads : A → ℕ) (R : 
       λ b qs ending told are.
           let is = end.3 b qs ending told are in
           let empty : e.ps ≡ [] = no_pictures e.ps (omega (arith, none, e.count)) in
-          (e.ps, without (sym is.0) (is.0 ∙ empty) is.1 refl refl),
+          (e.ps, without (sym is.0) (is.0 ∙ empty) is.1 end.2 refl refl),
     )
 
     -- what follows is refused
@@ -149,9 +150,9 @@ module _ {A : Type 0} (left : A → Option (List ℕ)) (reads : A → ℕ) (R : 
   pub count_units : Advanced (Ok true) → f.units < f'.units
   count_units advanced = takes_units left reads R s s' s'' f f' e.ps e.taken (came (Ok true) advanced)
 
-  module _ (ended : EndsAtEnd f' (left s'')) (advanced : Advanced (Ok true)) where
+  module _ (ended : EndsAtEnd f' (left s'')) (has : HasPicture f'.assembler) (advanced : Advanced (Ok true)) where
     one : HasTakenOne R (change left reads s s'') f' e.ps
-    one = takes_one left reads R s s' s'' f f' e.ps e.taken ended (came (Ok true) advanced)
+    one = takes_one left reads R s s' s'' f f' e.ps e.taken ended has (came (Ok true) advanced)
 
     pub count_below : n < f'.units
     count_below = omega (arith, e.count, taken_below left reads R s s'' f' e.ps one)

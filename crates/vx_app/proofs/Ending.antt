@@ -47,13 +47,13 @@ no_rule_of t [] before p none = none.0
 no_rule_of t (q ∷ later) before p none = no_rule_of t later before p none.1
 
 -- what is refused can't be extracted
-refuses-not : (t : Task) (ps : List Picture) (ending : Option Ending) (before : List Picture) (r : Refusal) (place : Where) → Refuses t ps ending before r place → IsExtractable t ps ending → ⊥
-refuses-not t ps ending before r place (by_stream all rules told) fine = let none = sym told.is ∙ fine.whole in absurd (cc)
-refuses-not t ps ending before r place (by_picture broken at) fine =
+refuses-not : {A : Type 0} (R : Readers) (t : Task) (source : Change A) (ps : List Picture) (ending : Option Ending) (before : List Picture) (r : Refusal) (place : Where) → Refuses R t source ps ending before r place → IsExtractable t ps ending → ⊥
+refuses-not R t source ps ending before r place (by_stream all rules told) fine = let none = sym told.is ∙ fine.whole in absurd (cc)
+refuses-not R t source ps ending before r place (by_picture broken stops at) fine =
     let none = no_rule_of t broken.later before broken.picture (subst (λ (l : List Picture). BreakNoRule t l) broken.place fine.rules) in
     let some = broken.broken in
     absurd (cc)
-refuses-not t ps ending before r place (without all empty whole is at) fine = omega (arith, fine.some, ap (λ (l : List Picture). length l) empty)
+refuses-not R t source ps ending before r place (without all empty whole end is at) fine = omega (arith, fine.some, ap (λ (l : List Picture). length l) empty)
 
 status-done : (t : Task) (ps : List Picture) (ending : Option Ending) → IsExtractable t ps ending → IsStatus t ps ending 0
 status-done t ps ending fine = record { done = (λ zero_. fine, λ is. refl); refused = (λ one. absurd (omega (arith, one)), λ not_. absurd (not_ fine)) }
@@ -65,7 +65,7 @@ module _ {A K E : Type 0} (R : Readers) (t : Task) (source : Change A) (out : Ch
   extract-stopped : (stop : Stop) (status : ℕ) → ExtractsBy R t source out (Err stop) → Concludes stop status err → ¬ HasFault source → ¬ HasFault out → status ≢ 4 → WhereTold R source (λ ps ending. IsStatus t ps ending status)
   extract-stopped (Refused r place) status does ends read write fits b ps ending told are =
       let is = does.3 b ps ending told are in
-      elim ends.ended [ inl p ↦ status-refused t ps ending status (refuses-not t ps ending is.0 r place is.1) p.0 | inr p ↦ absurd (fits p.1) ]
+      elim ends.ended [ inl p ↦ status-refused t ps ending status (refuses-not R t source ps ending is.0 r place is.1) p.0 | inr p ↦ absurd (fits p.1) ]
   extract-stopped (ReadFault k) status does ends read write fits b ps ending told are = absurd (read does.0)
   extract-stopped WriteFault status does ends read write fits b ps ending told are = absurd (write does.1)
   extract-stopped NoMemory status does ends read write fits b ps ending told are =
@@ -75,7 +75,7 @@ module _ {A K E : Type 0} (R : Readers) (t : Task) (source : Change A) (out : Ch
   check-stopped : (stop : Stop) (status : ℕ) → ChecksBy R t source out (Err stop) → Concludes stop status err → ¬ HasFault source → ¬ HasFault out → status ≢ 4 → WhereTold R source (λ ps ending. IsStatus t ps ending status)
   check-stopped (Refused r place) status does ends read write fits b ps ending told are =
       let is = does.3 b ps ending told are in
-      elim ends.ended [ inl p ↦ status-refused t ps ending status (refuses-not t ps ending is.0 r place is.1) p.0 | inr p ↦ absurd (fits p.1) ]
+      elim ends.ended [ inl p ↦ status-refused t ps ending status (refuses-not R t source ps ending is.0 r place is.1) p.0 | inr p ↦ absurd (fits p.1) ]
   check-stopped (ReadFault k) status does ends read write fits b ps ending told are = absurd (read does.0)
   check-stopped WriteFault status does ends read write fits b ps ending told are = absurd (write does.1)
   check-stopped NoMemory status does ends read write fits b ps ending told are =

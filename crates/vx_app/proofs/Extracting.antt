@@ -1,21 +1,18 @@
 -- What was written of the pictures that were taken, and what that comes to when `extract` ends.
-use Rattle.std.proofs.Common.{◌≡◌, ℕ, ◌+◌, ◌<◌, ◌≤◌, List, [], ◌∷◌, ◌++◌, ◌∙◌, nat_le, nat_lt, not, Option, Some, None, option_map, Result, Ok, Err, Bool, true, false, cond, length, filter, map, inl, inr, sym, ap, ap₂, refl, subst, arith, append_assoc, append-nil}
+use Rattle.std.proofs.Common.{◌≡◌, ℕ, ◌+◌, ◌<◌, ◌≤◌, List, [], ◌∷◌, ◌++◌, ◌∙◌, Option, Some, None, Result, Ok, Err, Bool, true, false, cond, length, filter, map, inl, inr, sym, ap, ap₂, refl, subst, arith, append_assoc, append-nil}
 use Rattle.std.specs.Prelude.{OnOk, IfErr}
 use Rattle.std.specs.List.{AllByRecursion}
 use Rattle.std.specs.Io.KnownBytes.{Consumes, IsAtEnd, Appends}
 use Rattle.std.proofs.lemmas.Grind.{flat_map-append}
-use Rattle.std.proofs.KnownBytes.{Consumes-nil}
+use Rattle.std.proofs.KnownBytes.{Consumes-nil, Appends-trans}
 use Rattle.vx_bits.specs.declared.refusal.Refusal.{Refusal}
 use Rattle.vx_bits.specs.declared.refusal.Refusal.TheVariants.{Extract}
 use Rattle.vx_bits.specs.declared.rules.TheConstants.{NO_PICTURE}
 use Rattle.vx_io.specs.Faults.{Rose}
 use Rattle.vx_io.specs.Written.{AppendsFront}
-use borrow.Author.Tests.{ltb-true}
 use Rattle.vx_annexb.specs.ByteStream.{UnitPlace, long_start_code}
 use Rattle.vx_annexb.specs.Reading.{LastWasNeeded}
-use Rattle.vx_annexb.specs.Held.{is_all}
 use Rattle.vx_annexb.specs.Laws.{written}
-use Rattle.vx_sps.specs.Subpictures.{subpics_of}
 use Rattle.vx_pic.specs.Readings.{Reading, Picture, pictures}
 use Rattle.vx_pic.specs.Rules.{Readers}
 use Rattle.vx_pic.specs.Bytes.{Ending, AreSeenPictures}
@@ -25,23 +22,26 @@ use Rattle.vx_pic.specs.Written.{Plan, units_of}
 use Rattle.vx_pic.specs.Resident.{units_written}
 use Rattle.vx_report.specs.declared.refusal.Where.{Where}
 use Rattle.vx_assemble.specs.Feed.{Feeding, EndsAtEnd, HasFed}
-use Rattle.vx_assemble.specs.Held.{ShowsLatest}
+use Rattle.vx_assemble.specs.Held.{HasPicture, ShowsLatest}
 use Rattle.vx_extract.specs.Extracting.{Extracting, Stands, HasSlice, Writes, WritesKept, Checks as ExtractorChecks}
 use Rattle.vx_write.specs.declared.fault.WriteError.{WriteError}
 use Rattle.vx_write.specs.declared.fault.WriteError.TheVariants as errors
 use Rattle.vx_extract.specs.Rules.{is_kept, refusal_of}
-use Rattle.vx_extract.specs.Written.{AreExtracted, IsExtracted, IsExtraction}
+use Rattle.vx_extract.specs.Written.{AreExtracted, IsExtracted}
 use Rattle.vx_app.specs.declared.extract.Task.{Task}
 use Rattle.vx_app.specs.declared.stop.Stop.{Stop}
 use Rattle.vx_app.specs.declared.stop.Stop.TheVariants.{NotUnderstood, Refused, ReadFault, WriteFault, NoMemory}
 use Rattle.vx_app.specs.Conclusion.{Outcome}
-use Rattle.vx_app.specs.Change.{Change, change, HasNoFault, HasFault, GivesFront, Gains, GainsFront}
+use Rattle.vx_app.specs.Change.{Change, change, HasNoFault, HasFault, GivesFront, Gains}
 use Rattle.vx_app.specs.Show.{behind_unit, seen_of}
-use Rattle.vx_app.specs.Extract.{at_most, BreakNoRule, BreaksBehind, IsExtractable, at_picture, Refuses, by_stream, by_picture, without, WhereTold, BeginsWith, HasSeen, AreWritten, GainsExtraction, GainsExtractionFront, ExtractsFront, ExtractsBy}
-use Rattle.vx_app.specs.inner.Extracting.{stop_at, ChecksOne, HaveSlices, HasTaken, HasTakenOne, IsTask, HasExtracted, AdvancesOn, ExtractsOne}
-use Rattle.vx_app.proofs.Gained.{Gains-nothing, Gains-still, Gains-then, GainsFront-then}
+use Rattle.vx_pic.specs.Sublayers.{at_most}
+use Rattle.vx_app.specs.Extract.{BreakNoRule, BreaksBehind, IsExtractable, at_picture, Refuses, by_stream, by_picture, without, WhereTold, BeginsWith, HasSeen, GainsExtraction, BreaksOff, ExtractsFront, ExtractsBy}
+use Rattle.vx_app.specs.ReadAgain.{IsReadAgain}
+use Rattle.vx_app.specs.inner.Extracting.{stop_at, ChecksOne, HaveSlices, HasTaken, HasTakenOne, IsTask, TakenIsReadAgain, HasExtracted, AdvancesOn, ExtractsOne}
+use Rattle.vx_app.proofs.Gained.{Gains-nothing, Gains-then}
+use Rattle.vx_app.proofs.ReadAgain.{has_subpicture}
 use Rattle.vx_app.proofs.Showing.{told_at}
-use Rattle.vx_app.proofs.Taking.{taken_first, taken_below, taken_slice, takes_one, takes_end, takes_refused, takes_unread, takes_none, takes_units}
+use Rattle.vx_app.proofs.Taking.{taken_first, taken_stops, taken_below, taken_slice, takes_one, takes_end, takes_refused, takes_unread, takes_none, takes_units}
 use Rattle.vx_app.proofs.Told.{refused_at}
 
 -- ---- one more picture, written or left out
@@ -90,14 +90,21 @@ module _ {K : Type 0} (taken : K → Option (List ℕ)) (writes : K → ℕ) (t 
   }
 
   -- or a front of it
-  goes_front : (p : Picture) (kept : List Picture) (x : Extracting) (o o' o'' : K) (done : List Plan) → IsTask t x → AreExtracted t.target t.level (map parts_of kept) done → Gains (Out o o') (written (units_written done))
-      → Rose (writes o') (writes o'') → (q : Plan) × IsExtracted x.target x.level (parts_of p) done q × AppendsFront (taken o') (taken o'') (written (units_of q))
-      → (bytes : List ℕ) × IsExtraction t.target t.level (map parts_of (p ∷ kept)) bytes × GainsFront (Out o o'') bytes
-  goes_front p kept x o o' o'' done task plans gained rose wrote = (
-    written (units_written (wrote.0 ∷ done)),
-    (wrote.0 ∷ done, (extracted_so t x (parts_of p) done wrote.0 task wrote.1, plans), refl),
-    subst (λ (l : List ℕ). GainsFront (Out o o'') l) (sym (written_more wrote.0 done)) (GainsFront-then taken writes o o' o'' (written (units_written done)) (written (units_of wrote.0)) gained (record { failed = rose; gained = wrote.2 })),
-  )
+  goes_front : (R : Readers) (p : Picture) (before : List Picture) (x : Extracting) (o o' o'' : K) (done : List Plan) → IsTask t x → AreExtracted t.target t.level (map parts_of (at_most t.tid before)) done → Gains (Out o o') (written (units_written done))
+      → IsReadAgain R t before (written (units_written done)) → is_kept t.tid (parts_of p) ≡ true → (q : Plan) × IsExtracted x.target x.level (parts_of p) done q × AppendsFront (taken o') (taken o'') (written (units_of q))
+      → BreaksOff R t p before (Out o o'')
+  goes_front R p before x o o' o'' done task plans gained again kept wrote = record {
+    done = done;
+    plan = wrote.0;
+    others = plans;
+    again = again;
+    kept = kept;
+    extracted = extracted_so t x (parts_of p) done wrote.0 task wrote.1;
+    front = wrote.2.front;
+    of_picture = wrote.2.of_piece;
+    short = wrote.2.short;
+    gained = Appends-trans (taken o) (taken o') (taken o'') (written (units_written done)) wrote.2.front gained.gained wrote.2.gained;
+  }
 
 pub no_pictures : (ps : List Picture) → length ps ≡ 0 → ps ≡ []
 no_pictures [] none = refl
@@ -113,8 +120,8 @@ module _ {A K : Type 0} (left : A → Option (List ℕ)) (reads : A → ℕ) (ta
   Sink = change taken writes
 
   -- none was
-  pub HasExtracted-none : (s : A) (o : K) (f : Feeding) (x : Extracting) → HasTaken R (Source s s) f [] → Stands x [] → HasExtracted R t (Source s s) (Sink o o) f x 0
-  HasExtracted-none s o f x first stands = record {
+  pub HasExtracted-none : TakenIsReadAgain A R t → (s : A) (o : K) (f : Feeding) (x : Extracting) → HasTaken R (Source s s) f [] → Stands x [] → HasExtracted R t (Source s s) (Sink o o) f x 0
+  HasExtracted-none reads_again s o f x first stands = record {
     ps = [];
     taken = first;
     rules = tt;
@@ -123,29 +130,30 @@ module _ {A K : Type 0} (left : A → Option (List ℕ)) (reads : A → ℕ) (ta
     stands = stands;
     plans = tt;
     gained = Gains-nothing taken writes o o refl;
+    again = reads_again (Source s s) f [] first tt [] tt;
   }
 
   -- nor was there memory to begin
-  pub Extracts-unmade : (s : A) (o : K) → ExtractsBy R t (Source s s) (Sink o o) (Err NoMemory)
-  Extracts-unmade s o = (
+  pub Extracts-unmade : IsReadAgain R t [] [] → (s : A) (o : K) → ExtractsBy R t (Source s s) (Sink o o) (Err NoMemory)
+  Extracts-unmade again s o = (
     refl,
     refl,
     ([], Consumes-nil (left s)),
-    λ b qs ending told are. ([], (qs, sym (append-nil qs)), ([], ([], tt, refl), Gains-nothing taken writes o o refl)),
+    λ b qs ending told are. ([], (qs, sym (append-nil qs)), tt, ([], ([], tt, refl), Gains-nothing taken writes o o refl, again)),
   )
 
   module _ (s s' s'' : A) (o o' : K) (f f' : Feeding) (x : Extracting) (n : ℕ) (e : HasExtracted R t (Source s s') (Sink o o') f x n) where
     -- what is written of those that were taken
-    gains_so_far : GainsExtraction t e.ps (Sink o o')
-    gains_so_far = (written (units_written e.done), (e.done, e.plans, refl), e.gained)
+    gains_so_far : GainsExtraction R t e.ps (Sink o o')
+    gains_so_far = (written (units_written e.done), (e.done, e.plans, refl), e.gained, e.again)
 
     module _ (x' : Extracting) (o'' : K) (task : IsTask t x') (one : HasTakenOne R (Source s s'') f' e.ps) (slice : refusal_of t.target t.tid (parts_of one.picture) ≡ None → is_kept t.tid (parts_of one.picture) ≡ true → HasSlice t.target (parts_of one.picture)) where
       abbrev q : Parts
       q = parts_of one.picture
 
       -- it is written, or left out
-      pub HasExtracted-more : Writes q e.done x' (taken o') (taken o'') (writes o') (writes o'') (Ok tt) → HasExtracted R t (Source s s'') (Sink o o'') f' x' (n + 1)
-      HasExtracted-more wrote =
+      pub HasExtracted-more : TakenIsReadAgain A R t → Writes q e.done x' (taken o') (taken o'') (writes o') (writes o'') (Ok tt) → HasExtracted R t (Source s s'') (Sink o o'') f' x' (n + 1)
+      HasExtracted-more reads_again wrote =
           let fine : refusal_of t.target t.tid q ≡ None = sym (refusal_so t x' q task) ∙ wrote.0 in
           let kept = subst (λ (k : ℕ). WritesKept (is_kept k q) q e.done x' (taken o') (taken o'')) task.tid wrote.2 in
           let goes = goes_on taken writes t (is_kept t.tid q) one.picture (at_most t.tid e.ps) x' o o' o'' e.done task e.plans e.gained wrote.1 (slice fine) kept in
@@ -158,6 +166,7 @@ module _ {A K : Type 0} (left : A → Option (List ℕ)) (reads : A → ℕ) (ta
             stands = goes.stands;
             plans = goes.plans;
             gained = goes.gained;
+            again = reads_again (Source s s'') f' (one.picture ∷ e.ps) one.taken (fine, e.rules) goes.done goes.plans;
           }
 
       -- it breaks a rule
@@ -171,8 +180,8 @@ module _ {A K : Type 0} (left : A → Option (List ℕ)) (reads : A → ℕ) (ta
             λ b qs ending told are.
                 let first = taken_first left reads R s s'' f' (one.picture ∷ e.ps) one.taken b qs ending told are in (
                   e.ps,
-                  by_picture (record { later = first.0; picture = one.picture; place = first.1; kept = e.rules; broken = broken }) (ap at_picture e.count),
-                  (written (units_written e.done), (e.done, e.plans, refl), gained),
+                  by_picture (record { later = first.0; picture = one.picture; place = first.1; kept = e.rules; broken = broken }) (taken_stops left reads R s s'' f' e.ps one) (ap at_picture e.count),
+                  (written (units_written e.done), (e.done, e.plans, refl), gained, e.again),
                 ),
           )
 
@@ -187,7 +196,8 @@ module _ {A K : Type 0} (left : A → Option (List ℕ)) (reads : A → ℕ) (ta
                 let first = taken_first left reads R s s'' f' (one.picture ∷ e.ps) one.taken b qs ending told are in (
                   e.ps,
                   (first.0 ++ one.picture ∷ [], first.1 ∙ sym (append_assoc first.0 (one.picture ∷ []) e.ps)),
-                  (written (units_written e.done), (e.done, e.plans, refl), gained),
+                  e.rules,
+                  (written (units_written e.done), (e.done, e.plans, refl), gained, e.again),
                 ),
           )
 
@@ -196,26 +206,17 @@ module _ {A K : Type 0} (left : A → Option (List ℕ)) (reads : A → ℕ) (ta
       Extracts-cut wrote =
           let fine : refusal_of t.target t.tid q ≡ None = sym (refusal_so t x' q task) ∙ wrote.0 in
           let kept : is_kept t.tid q ≡ true = subst (λ (k : ℕ). is_kept k q ≡ true) task.tid wrote.1 in
-          let plan = wrote.3 (subst (λ (k : ℕ). HasSlice k q) (sym task.target) (slice fine kept)) in
-          let parts = goes_front taken writes t one.picture (at_most t.tid e.ps) x' o o' o'' e.done task e.plans e.gained wrote.2 plan in
-          let front : GainsExtractionFront t (one.picture ∷ e.ps) (Sink o o'') = (parts.0, subst (λ (k : Bool). IsExtraction t.target t.level (kept_with k one.picture (at_most t.tid e.ps)) parts.0) (sym kept) parts.1, parts.2) in (
+          let plan = wrote.3 (subst (λ (k : ℕ). HasSlice k q) (sym task.target) (slice fine kept)) in (
             one.taken.kept,
-            parts.2.failed,
+            subst (λ (n : ℕ). Rose n (writes o'')) e.gained.kept wrote.2,
             record {
-              given = one.taken.given;
-              units = one.taken.units;
-              readings = one.taken.readings;
-              ended = is_all f'.reader.splitter;
-              gave = one.taken.gave;
-              follow = one.taken.fed.read.stands.given;
-              read = one.taken.fed.readings;
-              rules = subst (λ (l : List Picture). BreakNoRule t l) (sym one.taken.done) (fine, e.rules);
-              front = subst (λ (l : List Picture). GainsExtractionFront t l (Sink o o'')) (sym one.taken.done) front;
-              near = one.near;
+              picture = one.picture;
+              before = e.ps;
+              stops = taken_stops left reads R s s'' f' e.ps one;
+              rules = (fine, e.rules);
+              first = taken_first left reads R s s'' f' (one.picture ∷ e.ps) one.taken;
+              breaks = goes_front taken writes t R one.picture e.ps x' o o' o'' e.done task e.plans e.gained e.again kept plan;
             },
-            λ b qs ending told are.
-                let first = taken_first left reads R s s'' f' (one.picture ∷ e.ps) one.taken b qs ending told are in
-                (one.picture ∷ e.ps, first, front),
           )
 
     -- ---- what ends it
@@ -230,7 +231,7 @@ module _ {A K : Type 0} (left : A → Option (List ℕ)) (reads : A → ℕ) (ta
       λ b qs ending told are.
           let is = end.3 b qs ending told are in (
             record { whole = is.1; some = subst (λ (l : List Picture). 0 < length l) (sym is.0) (omega (arith, some, e.count)); rules = subst (λ (l : List Picture). BreakNoRule t l) (sym is.0) e.rules },
-            subst (λ (l : List Picture). GainsExtraction t l (Sink o o')) (sym is.0) gains_so_far,
+            subst (λ (l : List Picture). GainsExtraction R t l (Sink o o')) (sym is.0) gains_so_far,
           ),
     )
 
@@ -244,7 +245,7 @@ module _ {A K : Type 0} (left : A → Option (List ℕ)) (reads : A → ℕ) (ta
       λ b qs ending told are.
           let is = end.3 b qs ending told are in
           let empty : e.ps ≡ [] = no_pictures e.ps (omega (arith, none, e.count)) in
-          (e.ps, without (sym is.0) (is.0 ∙ empty) is.1 refl refl, gains_so_far),
+          (e.ps, without (sym is.0) (is.0 ∙ empty) is.1 end.2 refl refl, gains_so_far),
     )
 
     -- what follows is refused
@@ -269,7 +270,7 @@ module _ {A K : Type 0} (left : A → Option (List ℕ)) (reads : A → ℕ) (ta
 
     -- there was no memory to go on
     pub Extracts-no_room : HasNoFault (Source s s'') × GivesFront (Source s s'') × WhereTold R (Source s s'') (λ qs ending. BeginsWith qs e.ps) → ExtractsBy R t (Source s s'') (Sink o o') (Err NoMemory)
-    Extracts-no_room end = (end.0, e.gained.kept, end.1, λ b qs ending told are. (e.ps, end.2 b qs ending told are, gains_so_far))
+    Extracts-no_room end = (end.0, e.gained.kept, end.1, λ b qs ending told are. (e.ps, end.2 b qs ending told are, e.rules, gains_so_far))
 
 -- ---- what an answer comes to
 
@@ -290,15 +291,6 @@ checked_by q x n errors.Memory by = absurd by
 checked_by q x n (errors.Stopped f) by = absurd by
 
 -- ---- a turn of the loop
-
--- a picture that is kept and breaks no rule has the subpicture
-has_it : (k a : Bool) (r d : Option ℕ) (n : ℕ) → option_map Extract (cond k (cond (not a) (Some n) r) d) ≡ None → k ≡ true → a ≡ true
-has_it true true r d n none kept = refl
-has_it true false r d n none kept = absurd (cc)
-has_it false a r d n none kept = absurd (cc)
-
-has_subpicture : (target tid : ℕ) (q : Parts) → refusal_of target tid q ≡ None → is_kept tid q ≡ true → target < subpics_of q.sps
-has_subpicture target tid q none kept = ltb-true target (subpics_of q.sps) (has_it (is_kept tid q) (nat_lt target (subpics_of q.sps)) _ _ _ none kept)
 
 module _ {A K : Type 0} (left : A → Option (List ℕ)) (reads : A → ℕ) (taken : K → Option (List ℕ)) (writes : K → ℕ) (R : Readers) (have : HaveSlices R) (t : Task) (s s' s'' : A) (o o' : K) (f f' : Feeding) (x : Extracting) (n : ℕ)
     (e : HasExtracted R t (change left reads s s') (change taken writes o o') f x n) where
@@ -336,9 +328,9 @@ module _ {A K : Type 0} (left : A → Option (List ℕ)) (reads : A → ℕ) (ta
   pub more_units : Advanced (Ok true) → f.units < f'.units
   more_units advanced = takes_units left reads R s s' s'' f f' e.ps e.taken (came (Ok true) advanced)
 
-  module _ (ended : EndsAtEnd f' (left s'')) (advanced : Advanced (Ok true)) where
+  module _ (ended : EndsAtEnd f' (left s'')) (has : HasPicture f'.assembler) (advanced : Advanced (Ok true)) where
     one : HasTakenOne R (change left reads s s'') f' e.ps
-    one = takes_one left reads R s s' s'' f f' e.ps e.taken ended (came (Ok true) advanced)
+    one = takes_one left reads R s s' s'' f f' e.ps e.taken ended has (came (Ok true) advanced)
 
     pub pictures_below : n < f'.units
     pictures_below = omega (arith, e.count, taken_below left reads R s s'' f' e.ps one)
@@ -355,8 +347,8 @@ module _ {A K : Type 0} (left : A → Option (List ℕ)) (reads : A → ℕ) (ta
       did outcome wrote = wrote one.taken.given one.taken.units one.taken.readings one.picture e.ps e.done one.taken.fed one.taken.done e.stands
 
       -- which was written, or left out
-      pub extract_more : Wrote (Ok tt) → HasExtracted R t (change left reads s s'') (change taken writes o o'') f' x' (n + 1)
-      extract_more wrote = HasExtracted-more left reads taken writes R t s s' s'' o o' f f' x n e x' o'' task one slice (did (Ok tt) wrote)
+      pub extract_more : TakenIsReadAgain A R t → Wrote (Ok tt) → HasExtracted R t (change left reads s s'') (change taken writes o o'') f' x' (n + 1)
+      extract_more reads_again wrote = HasExtracted-more left reads taken writes R t s s' s'' o o' f f' x n e x' o'' task one slice reads_again (did (Ok tt) wrote)
 
       -- or wasn't
       pub extract_cut : (stop : Stop) → Wrote (Err stop) → ExtractsBy R t (change left reads s s'') (change taken writes o o'') (Err stop)

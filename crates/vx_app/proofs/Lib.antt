@@ -10,6 +10,7 @@ pub mod Made
 pub mod Moved
 pub mod Numbering
 pub mod Performing
+pub mod ReadAgain
 pub mod Showing
 pub mod Taking
 pub mod Told

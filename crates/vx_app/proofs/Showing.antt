@@ -31,7 +31,7 @@ use Rattle.vx_app.proofs.Told.{IsGiven, IsOf, near, last_beyond, follows_behind,
 -- ---- what a reader tells of its source
 
 -- it holds all bytes exactly where the source has ended
-is_end : (closed : Option Closed) (r : ReaderState) → ClosesAt closed r.splitter r.taken → is_all r.splitter ≡ true → (closed ≡ Some End) × (r.taken ≤ source_limit)
+pub is_end : (closed : Option Closed) (r : ReaderState) → ClosesAt closed r.splitter r.taken → is_all r.splitter ≡ true → (closed ≡ Some End) × (r.taken ≤ source_limit)
 unfolding source_limit
 is_end None r closes all = absurd (cc)
 is_end (Some End) r closes all = (refl, closes.1)

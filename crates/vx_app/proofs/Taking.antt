@@ -1,5 +1,5 @@
 -- Pictures of a source that are taken one by one, and all the pictures of the bytes that it tells.
-use Rattle.std.proofs.Common.{◌≡◌, ℕ, ◌+◌, ◌<◌, ◌≤◌, List, [], ◌∷◌, ◌++◌, ◌∙◌, nat_le, Option, Some, None, Result, Ok, Err, Bool, true, false, length, inl, inr, sym, ap, refl, subst, arith, length-append}
+use Rattle.std.proofs.Common.{◌≡◌, ℕ, ◌+◌, ◌<◌, ◌≤◌, List, [], ◌∷◌, ◌++◌, ◌∙◌, nat_le, Option, Some, None, Result, Ok, Err, Bool, true, false, length, drop, inl, inr, sym, ap, refl, subst, arith, length-append}
 use Rattle.std.specs.Io.KnownBytes.{Consumes, IsAtEnd}
 use Rattle.std.proofs.KnownBytes.{Consumes-nil, Consumes-trans}
 use Rattle.vx_bits.specs.declared.refusal.Refusal.{Refusal}
@@ -8,6 +8,7 @@ use Rattle.vx_annexb.specs.ByteStream.{source_limit, UnitPlace, IsStream, Follow
 use Rattle.vx_annexb.specs.Held.{is_all}
 use Rattle.vx_annexb.specs.Reading.{Reading as ReaderState, HasRead, LastWasNeeded}
 use Rattle.vx_annexb.specs.declared.unit_reader.Closed.TheVariants.{End, TooLong}
+use Rattle.vx_pic.specs.declared.accepted.Accepted.TheVariants as accepted
 use Rattle.vx_pic.specs.Readings.{Begun, Slice, Reading, Picture, pictures}
 use Rattle.vx_pic.specs.Rules.{Readers}
 use Rattle.vx_pic.specs.Streams.{Outcome, read_on, all_read, stopped, pictures_of}
@@ -33,13 +34,15 @@ use Rattle.vx_assemble.specs.declared.feed.FeedFault.TheVariants as faults
 use Rattle.vx_assemble.specs.declared.feed.Step.{Step}
 use Rattle.vx_assemble.specs.declared.feed.Step.TheVariants as steps
 use Rattle.vx_assemble.specs.Feed.{Feeding, EndsAtEnd, HasFed, IsRefusedFor, by_bytes, by_unit, at_end, Advances}
+use Rattle.vx_assemble.specs.Held.{HasPicture, last_told}
+use Rattle.vx_assemble.proofs.Advancing.{unit_done}
 use Rattle.vx_app.specs.Change.{Change, change, HasNoFault, HasFault, GivesFront}
 use Rattle.vx_app.specs.Show.{seen_of, IsShown}
-use Rattle.vx_app.specs.Extract.{WhereTold, BeginsWith}
+use Rattle.vx_app.specs.Extract.{StopsBehind, WhereTold, BeginsWith}
 use Rattle.vx_app.specs.inner.Extracting.{stop_by, AdvancesOn, HaveSlices, HasTaken, HasTakenOne}
 use Rattle.vx_app.proofs.Lined.{all_length, few_pictures, units_more}
 use Rattle.vx_app.proofs.Told.{IsGiven, all_given, first_of_given, units_of_given, refused_at, ends_by_framing, ends_by_length, ends_lacking, ends_by_unit}
-use Rattle.vx_app.proofs.Showing.{has_ended, is_long, is_given}
+use Rattle.vx_app.proofs.Showing.{is_end, has_ended, is_long, is_given}
 
 -- the first of units that follow one another do
 follows_front : (b : List ℕ) (all : Bool) (p : ℕ) (us vs : List UnitPlace) → FollowsFrom b all p (us ++ vs) → FollowsFrom b all p us
@@ -140,6 +143,12 @@ some_readings : (later before : List Reading) (p : Picture) → pictures (later 
 some_readings [] before p is = absurd (omega (arith, ap (λ (l : List Picture). length l) is))
 some_readings (r ∷ later) before p is = omega arith
 
+-- where a unit was told to complete a picture, it was the last one that completed the latest
+completed_last : (readings : List Reading) (p : Picture) (ps : List Picture) → last_told readings ≡ accepted.PictureDone → pictures readings ≡ p ∷ ps
+    → (last : Reading) × (earlier : List Reading) × (readings ≡ last ∷ earlier) × (pictures earlier ≡ ps)
+completed_last [] p ps done are = absurd (let e : accepted.Nothing ≡ accepted.PictureDone = done in cc)
+completed_last (r ∷ earlier) p ps done are = (r, earlier, refl, ap (λ (l : List Picture). drop 1 l) (sym (unit_done r earlier done).1 ∙ are))
+
 module _ {A : Type 0} (left : A → Option (List ℕ)) (reads : A → ℕ) (R : Readers) where
   abbrev Source : A → A → Change A
   Source = change left reads
@@ -164,6 +173,25 @@ module _ {A : Type 0} (left : A → Option (List ℕ)) (reads : A → ℕ) (R : 
       let given = is_given b t.given t.units f.reader (left s) (left s') told t.gave t.fed.read t.ended in
       subst (λ (l : List Picture). BeginsWith qs l) t.done (begins_with R b t.given t.units t.readings qs e are (is_all f.reader.splitter) given t.fed.read.stands.given t.fed.readings)
 
+  -- the last unit completed the last one
+  pub taken_stops : (s s' : A) (f : Feeding) (ps : List Picture) (one : HasTakenOne R (Source s s') f ps) → StopsBehind R (Source s s') one.picture ps
+  taken_stops s s' f ps one =
+      let t = one.taken in
+      record {
+        given = t.given;
+        units = t.units;
+        last = one.last;
+        earlier = one.earlier;
+        ended = is_all f.reader.splitter;
+        gave = t.gave;
+        follow = t.fed.read.stands.given;
+        read = t.fed.readings ∙ ap (λ (l : List Reading). all_read l) one.latest;
+        done = ap (λ (l : List Reading). pictures l) (sym one.latest) ∙ t.done;
+        others = one.others;
+        whole = λ all. t.ended (is_end f.reader.closed f.reader t.fed.read.closes all).0;
+        near = one.near;
+      }
+
   -- no more were than units
   pub taken_below : (s s' : A) (f : Feeding) (ps : List Picture) → HasTakenOne R (Source s s') f ps → length ps < f.units
   taken_below s s' f ps one =
@@ -181,10 +209,11 @@ module _ {A : Type 0} (left : A → Option (List ℕ)) (reads : A → ℕ) (R : 
 
   module _ (s s' s'' : A) (f f' : Feeding) (ps : List Picture) (t : HasTaken R (Source s s') f ps) where
     -- one more was
-    pub takes_one : EndsAtEnd f' (left s'') → Advances R t.given t.units t.readings f' (left s') (left s'') (reads s') (reads s'') (Ok steps.Picture) → HasTakenOne R (Source s s'') f' ps
-    takes_one ended step =
+    pub takes_one : EndsAtEnd f' (left s'') → HasPicture f'.assembler → Advances R t.given t.units t.readings f' (left s') (left s'') (reads s') (reads s'') (Ok steps.Picture) → HasTakenOne R (Source s s'') f' ps
+    takes_one ended has step =
         let at = step.behind in
         let new = at.1 in
+        let last = completed_last (new.0 ++ t.readings) new.2.0 (pictures t.readings) (sym new.1.fed.stands.told ∙ has) new.2.1 in
         record {
           picture = new.2.0;
           taken = record {
@@ -198,6 +227,10 @@ module _ {A : Type 0} (left : A → Option (List ℕ)) (reads : A → ℕ) (R : 
             done = new.2.1 ∙ ap (λ l. new.2.0 ∷ l) t.done;
             ended = ended;
           };
+          last = last.0;
+          earlier = last.1;
+          latest = last.2;
+          others = last.3 ∙ t.done;
           near = new.3;
         }
 

@@ -41,10 +41,12 @@ help_text = concat
     ∷ codes "  S  structure: S1 a set that hasn't come, S2 to S15 what a unit, or the end,\n"
     ∷ codes "     breaks behind the units before it\n"
     ∷ codes "  L  limits: L1 a unit of more than 2^23 bytes, L2 a picture of more than 2^25,\n"
-    ∷ codes "     L3 a source of more than 2^40, L5 to L10 what no level allows\n"
+    ∷ codes "     L3 a source of more than 2^40, L5 to L10 what no level, or this program,\n"
+    ∷ codes "     allows\n"
     ∷ codes "  E  extraction: E1 a stream without pictures, E2 a picture without the\n"
-    ∷ codes "     subpicture, E3 it isn't treated as a picture, E4 in-loop filters cross its\n"
-    ∷ codes "     borders, E5 an IRAP or GDR picture has a TemporalId above T\n"
+    ∷ codes "     subpicture, E3 the subpicture isn't treated as a picture, E4 in-loop\n"
+    ∷ codes "     filters cross the borders of the subpicture, E5 an IRAP or GDR picture has\n"
+    ∷ codes "     a TemporalId above T\n"
     ∷ [])
 
 -- the name and the version

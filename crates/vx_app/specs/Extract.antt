@@ -1,26 +1,32 @@
 -- What `extract` and `check extract` find in the pictures of a source, and what they write. Lists of pictures have the latest first.
-use Rattle.std.specs.Prelude.{◌≡◌, ◌↔◌, ℕ, ◌<◌, nat_le, Bool, false, List, [], ◌∷◌, ◌++◌, length, filter, map, codes, decimal}
+use Rattle.std.specs.Prelude.{◌≡◌, ◌↔◌, ℕ, ◌<◌, Bool, true, false, List, [], ◌∷◌, ◌++◌, length, map, codes, decimal}
 use Rattle.std.specs.Prelude.{Option, Some, None, unwrap_or, Result, Ok, Err, IfErr}
 use Rattle.std.specs.List.{AllByRecursion, concat}
-use Rattle.std.specs.Io.KnownBytes.{Consumes, IsAtEnd}
+use Rattle.std.specs.Io.{StartsWith}
+use Rattle.std.specs.Io.KnownBytes.{Appends, Consumes, IsAtEnd}
 use Rattle.vx_bits.specs.declared.refusal.Refusal.{Refusal}
 use Rattle.vx_bits.specs.declared.refusal.Refusal.TheVariants.{Extract}
 use Rattle.vx_bits.specs.declared.rules.TheConstants.{NO_PICTURE}
 use Rattle.vx_annexb.specs.ByteStream.{UnitPlace, FollowsFrom}
+use Rattle.vx_annexb.specs.Laws.{written}
 use Rattle.vx_pic.specs.Readings.{Reading, Picture, pictures}
 use Rattle.vx_pic.specs.Rules.{Readers}
 use Rattle.vx_pic.specs.Streams.{read_on, all_read}
+use Rattle.vx_pic.specs.Sublayers.{at_most}
 use Rattle.vx_pic.specs.Bytes.{Ending, units_at, AreSourcePictures, AreSeenPictures}
 use Rattle.vx_pic.specs.H266.{AreOfH266}
 use Rattle.vx_pic.specs.Parts.{parts_of}
+use Rattle.vx_pic.specs.Written.{Plan, units_of}
+use Rattle.vx_pic.specs.Resident.{units_written}
 use Rattle.vx_report.specs.declared.refusal.Where.{Where}
 use Rattle.vx_assemble.specs.Feed.{seen_of, IsNearEnd}
-use Rattle.vx_extract.specs.Rules.{refusal_of}
-use Rattle.vx_extract.specs.Written.{IsExtraction}
+use Rattle.vx_extract.specs.Rules.{is_kept, refusal_of}
+use Rattle.vx_extract.specs.Written.{AreExtracted, IsExtracted, IsExtraction}
 use Rattle.vx_app.specs.declared.stop.Stop.TheVariants.{NotUnderstood, Refused, ReadFault, WriteFault, NoMemory}
 use Rattle.vx_app.specs.declared.extract.Task.{Task}
 use Rattle.vx_app.specs.Change.{Change, IsUntouched, HasNoFault, HasFault, GivesFront, Gains, GainsFront}
 use Rattle.vx_app.specs.Conclusion.{Outcome, IsOfCommand}
+use Rattle.vx_app.specs.ReadAgain.{IsReadAgain}
 use Rattle.vx_app.specs.Show.{IsToldAt}
 
 -- what is asked for: the subpicture of this index, at a level, and without the pictures of a TemporalId above one; 6 is the highest
@@ -28,10 +34,6 @@ abbrev pub task_of : (tid level : Option ℕ) (index : ℕ) → Task
 task_of tid level index = record { target = index; level = level; tid = unwrap_or tid 6 }
 
 -- ---- pictures
-
--- those that are kept (C.6)
-abbrev pub at_most : ℕ → List Picture → List Picture
-at_most tid ps = filter (λ p. nat_le p.kind.temporal_id tid) ps
 
 -- none breaks a rule
 abbrev pub BreakNoRule : Task → List Picture → Type 0
@@ -55,11 +57,31 @@ pub record IsExtractable (t : Task) (ps : List Picture) (ending : Option Ending)
 abbrev pub at_picture : ℕ → Where
 at_picture n = record { source = 0; unit = 0; picture = n; written = false }
 
--- What is refused behind these pictures, and at which place: what ends the stream; a picture that breaks a rule; or that there is none.
-pub data Refuses (t : Task) (ps : List Picture) (ending : Option Ending) (before : List Picture) (r : Refusal) (place : Where) : Type 0 where
-  by_stream : before ≡ ps → BreakNoRule t ps → IsToldAt ending r place → Refuses t ps ending before r place
-  by_picture : BreaksBehind t ps before r → place ≡ at_picture (length before) → Refuses t ps ending before r place
-  without : before ≡ ps → ps ≡ [] → ending ≡ None → r ≡ Extract NO_PICTURE → place ≡ at_picture 0 → Refuses t ps ending before r place
+-- The last unit that was taken of a source completed this picture, behind these. The source has given fewer bytes past the place where
+-- the end of that unit is seen than a read asks for.
+pub record StopsBehind {A : Type 0} (R : Readers) (source : Change A) (picture : Picture) (before : List Picture) : Type 0 where
+  pub given : List ℕ
+  pub units : List UnitPlace
+  pub last : Reading
+  pub earlier : List Reading
+  pub ended : Bool
+  pub gave : Consumes (source.bytes source.old) (source.bytes source.new) given
+  pub follow : FollowsFrom (seen_of given) ended 0 units
+  pub read : read_on R [] (units_at (seen_of given) units) ≡ all_read (last ∷ earlier)
+  pub done : pictures (last ∷ earlier) ≡ picture ∷ before
+  pub others : pictures earlier ≡ before
+  pub whole : ended ≡ true → IsAtEnd (source.bytes source.new)
+  pub near : IsNearEnd given units
+
+-- What is refused behind these pictures, and at which place: what ends the stream; a picture that breaks a rule, the last that was taken;
+-- or that there is none.
+pub data Refuses {A : Type 0} (R : Readers) (t : Task) (source : Change A) (ps : List Picture) (ending : Option Ending)
+    (before : List Picture) (r : Refusal) (place : Where) : Type 0 where
+  by_stream : before ≡ ps → BreakNoRule t ps → IsToldAt ending r place → Refuses R t source ps ending before r place
+  by_picture : (broken : BreaksBehind t ps before r) → StopsBehind R source broken.picture before → place ≡ at_picture (length before)
+      → Refuses R t source ps ending before r place
+  without : before ≡ ps → ps ≡ [] → ending ≡ None → IsAtEnd (source.bytes source.new) → r ≡ Extract NO_PICTURE → place ≡ at_picture 0
+      → Refuses R t source ps ending before r place
 
 -- of the bytes that a source tells, their pictures and their ending
 abbrev pub WhereTold : {A : Type 0} → Readers → Change A → (List Picture → Option Ending → Type 0) → Type 0
@@ -89,44 +111,48 @@ pub record IsStatus (t : Task) (ps : List Picture) (ending : Option Ending) (sta
 abbrev pub AreWritten : Task → List Picture → List ℕ → Type 0
 AreWritten t ps bytes = IsExtraction t.target t.level (map parts_of (at_most t.tid ps)) bytes
 
--- `out` gained it, or a front of it where a write failed
-abbrev pub GainsExtraction : {K : Type 0} → Task → List Picture → Change K → Type 0
-GainsExtraction t ps out = (bytes : List ℕ) × AreWritten t ps bytes × Gains out bytes
+-- `out` gained it, and it is read again as the subpicture of these pictures
+abbrev pub GainsExtraction : {K : Type 0} → Readers → Task → List Picture → Change K → Type 0
+GainsExtraction R t ps out = (bytes : List ℕ) × AreWritten t ps bytes × Gains out bytes × IsReadAgain R t ps bytes
 
-abbrev pub GainsExtractionFront : {K : Type 0} → Task → List Picture → Change K → Type 0
-GainsExtractionFront t ps out = (bytes : List ℕ) × AreWritten t ps bytes × GainsFront out bytes
+-- A write of a picture failed: `out` gained all that is written of the pictures before it, which is read again as above, and behind that a
+-- front of what is written of it, and not all of that.
+pub record BreaksOff {K : Type 0} (R : Readers) (t : Task) (picture : Picture) (before : List Picture) (out : Change K) : Type 0 where
+  pub done : List Plan
+  pub plan : Plan
+  pub others : AreExtracted t.target t.level (map parts_of (at_most t.tid before)) done
+  pub again : IsReadAgain R t before (written (units_written done))
+  pub kept : is_kept t.tid (parts_of picture) ≡ true
+  pub extracted : IsExtracted t.target t.level (parts_of picture) done plan
+  pub front : List ℕ
+  pub of_picture : StartsWith (written (units_of plan)) front
+  pub short : length front < length (written (units_of plan))
+  pub gained : Appends (out.bytes out.old) (out.bytes out.new) (written (units_written done) ++ front)
 
--- A write failed: `out` gained a front of what is written of the pictures up to one, the last that was taken. The source has given
--- fewer bytes past the place where the end of the last unit taken is seen than a read asks for.
+-- A write of a picture failed: the last that was taken. Neither it nor those before it, the first of the source, break a rule.
 pub record ExtractsFront {A K : Type 0} (R : Readers) (t : Task) (source : Change A) (out : Change K) : Type 0 where
-  pub given : List ℕ
-  pub units : List UnitPlace
-  pub readings : List Reading
-  pub ended : Bool
-  pub gave : Consumes (source.bytes source.old) (source.bytes source.new) given
-  pub follow : FollowsFrom (seen_of given) ended 0 units
-  pub read : read_on R [] (units_at (seen_of given) units) ≡ all_read readings
-  pub rules : BreakNoRule t (pictures readings)
-  pub front : GainsExtractionFront t (pictures readings) out
-  pub near : IsNearEnd given units
+  pub picture : Picture
+  pub before : List Picture
+  pub stops : StopsBehind R source picture before
+  pub rules : BreakNoRule t (picture ∷ before)
+  pub first : WhereTold R source (λ ps ending. BeginsWith ps (picture ∷ before))
+  pub breaks : BreaksOff R t picture before out
 
 -- What `extract` did to its source and to `out`, by what came of it. Where it was done or refused, `out` gained what is written of the
--- pictures before the ending, and for want of memory of the first of them.
+-- pictures before the ending, and for want of memory of the first of them, which break no rule.
 abbrev pub ExtractsBy : {A K : Type 0} → Readers → Task → Change A → Change K → Outcome → Type 0
 ExtractsBy R t source out (Ok _) =
     HasNoFault source × HasNoFault out × GivesFront source × IsAtEnd (source.bytes source.new)
-    × WhereTold R source (λ ps ending. IsExtractable t ps ending × GainsExtraction t ps out)
+    × WhereTold R source (λ ps ending. IsExtractable t ps ending × GainsExtraction R t ps out)
 ExtractsBy R t source out (Err (Refused r place)) =
     HasNoFault source × HasNoFault out × GivesFront source
-    × WhereTold R source (λ ps ending. (before : List Picture) × Refuses t ps ending before r place × GainsExtraction t before out)
+    × WhereTold R source (λ ps ending. (before : List Picture) × Refuses R t source ps ending before r place × GainsExtraction R t before out)
 ExtractsBy R t source out (Err (ReadFault k)) =
-    HasFault source × (k ≡ 0) × ((ps : List Picture) × HasSeen R t source ps × GainsExtraction t ps out)
-ExtractsBy R t source out (Err WriteFault) =
-    HasNoFault source × HasFault out × ExtractsFront R t source out
-    × WhereTold R source (λ ps ending. (first : List Picture) × BeginsWith ps first × GainsExtractionFront t first out)
+    HasFault source × (k ≡ 0) × ((ps : List Picture) × HasSeen R t source ps × GainsExtraction R t ps out)
+ExtractsBy R t source out (Err WriteFault) = HasNoFault source × HasFault out × ExtractsFront R t source out
 ExtractsBy R t source out (Err NoMemory) =
     HasNoFault source × HasNoFault out × GivesFront source
-    × WhereTold R source (λ ps ending. (first : List Picture) × BeginsWith ps first × GainsExtraction t first out)
+    × WhereTold R source (λ ps ending. (first : List Picture) × BeginsWith ps first × BreakNoRule t first × GainsExtraction R t first out)
 ExtractsBy R t source out (Err NotUnderstood) = ⊥
 
 -- that is so by the readers of H.266; and the words were understood
@@ -150,7 +176,7 @@ ChecksBy R t source out (Ok _) =
     × WhereTold R source (λ ps ending. IsExtractable t ps ending × Gains out (ok_line t ps))
 ChecksBy R t source out (Err (Refused r place)) =
     HasNoFault source × IsUntouched out × GivesFront source
-    × WhereTold R source (λ ps ending. (before : List Picture) × Refuses t ps ending before r place)
+    × WhereTold R source (λ ps ending. (before : List Picture) × Refuses R t source ps ending before r place)
 ChecksBy R t source out (Err (ReadFault k)) =
     HasFault source × (k ≡ 0) × IsUntouched out × ((ps : List Picture) × HasSeen R t source ps)
 ChecksBy R t source out (Err WriteFault) =

@@ -1,12 +1,15 @@
 //! How a command that is not done ends: its status, and the line that tells why.
 
-ghost use Rattle.std.specs.Prelude.{◌≡◌, IfOk, OnErr};
-ghost use Rattle.vx_app.specs.Change.{Tells, change};
+ghost use Rattle.std.specs.Prelude.{◌≡◌, ◌≤◌, ◌⊎◌, [], IfOk, OnErr};
+ghost use Rattle.std.specs.Io.Buffered.{writer_buffer, writer_contents};
+ghost use Rattle.std.specs.Io.KnownBytes.{Keeps};
+ghost use Rattle.vx_app.specs.Change.{IsUntouched, Tells, change};
 ghost use Rattle.vx_app.specs.Conclusion.{Concludes, line_of};
-ghost use Rattle.vx_app.specs.declared.stop.Stop.TheVariants.{ReadFault, NoMemory};
+ghost use Rattle.vx_app.specs.declared.stop.Stop.TheVariants.{ReadFault, WriteFault, NoMemory};
 
 use crate::stop::Stop;
 use std::alloc::{AllocError, Global};
+use std::io::{BufWriter, Write};
 use vx_io::{Sink, write_all};
 use vx_report::refusal_line;
 
@@ -30,6 +33,26 @@ pub fn conclude<E: Sink>(alloc: Global, stop: Stop, err: &mut E) -> u8
             tell(err, b"no memory\n");
             4
         }
+    }
+}
+
+/// Writes what was gathered and not yet written, at the end of a command of this status. Where that
+/// fails, and no fault or want of memory was told before, it is a write fault.
+pub fn finish<W: Write + Drop, E: Sink>(
+    alloc: Global,
+    status: u8,
+    gathered: &mut BufWriter<W>,
+    err: &mut E,
+) -> u8
+    ensures status { ((result ≡ status) × IsUntouched (change E.bytes_taken E.write_faults err.old err.new))
+        ⊎ ((status ≤ 1) × Concludes WriteFault result (change E.bytes_taken E.write_faults err.old err.new)) }
+    ensures written { result ≤ 1 → writer_buffer gathered.new ≡ [] }
+    ensures bytes { Keeps (writer_contents W.contents gathered.old) (writer_contents W.contents gathered.new) }
+{
+    match gathered.flush() {
+        Ok(()) => status,
+        Err(_) if status > 1 => status,
+        Err(_) => conclude(alloc, Stop::WriteFault, err),
     }
 }
 

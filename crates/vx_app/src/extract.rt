@@ -21,10 +21,11 @@ ghost use Rattle.vx_app.specs.declared.stop.Stop.TheVariants as stops;
 
 use crate::stop::Stop;
 use std::alloc::{AllocError, Global};
+use vx_annexb::units_can_stand;
 use vx_assemble::{Feed, FeedFault, Step};
 use vx_bits::Refusal;
 use vx_bits::rules::NO_PICTURE;
-use vx_extract::{Extractor, WriteError};
+use vx_extract::{Extractor, WriteError, extraction_reads_again};
 use vx_io::{Sink, Source, write_all};
 use vx_pic::{Picture, subpictures_have_slices};
 use vx_report::Where;
@@ -53,6 +54,8 @@ pub fn extract<K: Sink>(
     ensures stop { IfErr result IsOfCommand }
 {
     subpictures_have_slices();
+    units_can_stand();
+    extraction_reads_again();
     let mut feed = Feed::new(alloc)?;
     let mut extractor = Extractor::limited(alloc, task.target, task.level, task.tid);
     let mut pictures = 0;

@@ -11,13 +11,18 @@ mod stop;
 mod tests;
 #[cfg(test)]
 mod tests_extract;
+#[cfg(test)]
+mod tests_faults;
+#[cfg(test)]
+mod tests_limits;
 mod words;
 
+use conclude::finish;
 pub use run::run;
 use std::alloc::AllocError;
 use std::env;
 use std::fs::File;
-use std::io::{self, ErrorKind};
+use std::io::{self, BufWriter, ErrorKind};
 use std::process::ExitCode;
 use vx_io::{ClosedSource, FileSource, Source, WriterSink};
 pub use words::{file_count, file_word};
@@ -43,6 +48,15 @@ fn words_of(rt: &HostRuntime) -> io::Result<Vec<String>> {
     Ok(args.collect(rt.alloc())?)
 }
 
+/// How many bytes are gathered for one write. The lines that `show` writes between two reads are
+/// one write, and stand there before the next one.
+fn write_len(words: &[String]) -> usize {
+    match words.first() {
+        Some(word) if word.as_str() == "show" => 0,
+        _ => 8192,
+    }
+}
+
 /// Runs the program on the files that the words name.
 fn run_on_files(rt: &HostRuntime, words: &[String]) -> Result<u8, AllocError> {
     let mut sources: Vec<Box<dyn Source>> = Vec::new(rt.alloc());
@@ -53,9 +67,14 @@ fn run_on_files(rt: &HostRuntime, words: &[String]) -> Result<u8, AllocError> {
         };
         sources.push(source)?;
     }
-    let mut out = WriterSink::new(rt.stdout());
+    let Ok(mut gathered) = BufWriter::with_capacity(rt.alloc(), write_len(words), rt.stdout())
+    else {
+        return Err(AllocError);
+    };
     let mut err = WriterSink::new(rt.stderr());
-    Ok(run(rt.alloc(), words, &mut sources, &mut out, &mut err))
+    let mut out = WriterSink::new(&mut gathered);
+    let status = run(rt.alloc(), words, &mut sources, &mut out, &mut err);
+    Ok(finish(rt.alloc(), status, &mut gathered, &mut err))
 }
 
 /// The k-th file that the words name, if it can be opened.

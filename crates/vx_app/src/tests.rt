@@ -321,10 +321,12 @@ The letters of the rules:
   S  structure: S1 a set that hasn't come, S2 to S15 what a unit, or the end,
      breaks behind the units before it
   L  limits: L1 a unit of more than 2^23 bytes, L2 a picture of more than 2^25,
-     L3 a source of more than 2^40, L5 to L10 what no level allows
+     L3 a source of more than 2^40, L5 to L10 what no level, or this program,
+     allows
   E  extraction: E1 a stream without pictures, E2 a picture without the
-     subpicture, E3 it isn't treated as a picture, E4 in-loop filters cross its
-     borders, E5 an IRAP or GDR picture has a TemporalId above T
+     subpicture, E3 the subpicture isn't treated as a picture, E4 in-loop
+     filters cross the borders of the subpicture, E5 an IRAP or GDR picture has
+     a TemporalId above T
 ";
 
 /// What the program tells of itself. No source is there to be read.
@@ -588,7 +590,7 @@ fn words_of(alloc: Global, words: &[&str]) -> Result<Vec<String>, AllocError> {
     Ok(all)
 }
 
-fn sink(
+pub(crate) fn sink(
     alloc: Global,
     room: usize,
     pieces: &[u32],

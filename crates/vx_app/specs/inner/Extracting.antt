@@ -9,6 +9,7 @@ use Rattle.vx_pic.specs.Readings.{Reading, Picture, pictures}
 use Rattle.vx_sps.specs.Subpictures.{subpics_of}
 use Rattle.vx_pic.specs.Rules.{Readers}
 use Rattle.vx_pic.specs.Streams.{pictures_of}
+use Rattle.vx_pic.specs.Sublayers.{at_most}
 use Rattle.vx_pic.specs.Parts.{Parts, parts_of}
 use Rattle.vx_pic.specs.Written.{Plan}
 use Rattle.vx_pic.specs.Resident.{units_written}
@@ -27,7 +28,8 @@ use Rattle.vx_app.specs.declared.stop.Stop.TheVariants.{Refused, ReadFault, Writ
 use Rattle.vx_app.specs.Change.{Change, HasNoFault, HasFault, GivesFront, Gains}
 use Rattle.vx_app.specs.Conclusion.{Outcome}
 use Rattle.vx_app.specs.Show.{behind_unit}
-use Rattle.vx_app.specs.Extract.{BreakNoRule, IsExtractable, Refuses, HasSeen, WhereTold, at_most, at_picture}
+use Rattle.vx_app.specs.ReadAgain.{IsReadAgain}
+use Rattle.vx_app.specs.Extract.{BreakNoRule, IsExtractable, Refuses, HasSeen, WhereTold, at_picture}
 
 -- these pictures of a source were taken, the latest first
 pub record HasTaken {A : Type 0} (R : Readers) (source : Change A) (f : Feeding) (ps : List Picture) : Type 0 where
@@ -41,10 +43,14 @@ pub record HasTaken {A : Type 0} (R : Readers) (source : Change A) (f : Feeding)
   pub done : pictures readings ≡ ps
   pub ended : EndsAtEnd f (source.bytes source.new)
 
--- and one more, with the last unit
+-- and one more, which the last unit completed
 pub record HasTakenOne {A : Type 0} (R : Readers) (source : Change A) (f : Feeding) (ps : List Picture) : Type 0 where
   pub picture : Picture
   pub taken : HasTaken R source f (picture ∷ ps)
+  pub last : Reading
+  pub earlier : List Reading
+  pub latest : taken.readings ≡ last ∷ earlier
+  pub others : pictures earlier ≡ ps
   pub near : IsNearEnd taken.given taken.units
 
 -- the extractor does this task
@@ -106,6 +112,13 @@ abbrev pub HaveSlices : Readers → Type 0
 HaveSlices R = (units : List (List ℕ))
     → AllByRecursion (λ p. (k : ℕ) → k < subpics_of p.begun.sps → HasSlice k (parts_of p)) (pictures_of R units)
 
+-- what is written of pictures that were taken, and break no rule, is read again
+abbrev pub TakenIsReadAgain : Type 0 → Readers → Task → Type 0
+TakenIsReadAgain A R t =
+    (source : Change A) (f : Feeding) (ps : List Picture) → HasTaken R source f ps → BreakNoRule t ps
+    → (done : List Plan) → AreExtracted t.target t.level (map parts_of (at_most t.tid ps)) done
+    → IsReadAgain R t ps (written (units_written done))
+
 -- n pictures were taken, and what is written of those that are kept
 pub record HasExtracted {A K : Type 0} (R : Readers) (t : Task) (source : Change A) (out : Change K) (f : Feeding) (x : Extracting) (n : ℕ)
     : Type 0 where
@@ -117,6 +130,7 @@ pub record HasExtracted {A K : Type 0} (R : Readers) (t : Task) (source : Change
   pub stands : Stands x done
   pub plans : AreExtracted t.target t.level (map parts_of (at_most t.tid ps)) done
   pub gained : Gains out (written (units_written done))
+  pub again : IsReadAgain R t ps (written (units_written done))
 
 -- n pictures were taken, and k of them are kept
 pub record HasChecked {A : Type 0} (R : Readers) (t : Task) (source : Change A) (f : Feeding) (n k : ℕ) : Type 0 where
@@ -133,7 +147,7 @@ CountsBy R t source (Ok k) =
     × WhereTold R source (λ ps ending. IsExtractable t ps ending × (k ≡ length (at_most t.tid ps)))
 CountsBy R t source (Err (Refused r place)) =
     HasNoFault source × GivesFront source
-    × WhereTold R source (λ ps ending. (before : List Picture) × Refuses t ps ending before r place)
+    × WhereTold R source (λ ps ending. (before : List Picture) × Refuses R t source ps ending before r place)
 CountsBy R t source (Err (ReadFault k)) = HasFault source × (k ≡ 0) × ((ps : List Picture) × HasSeen R t source ps)
 CountsBy R t source (Err NoMemory) = HasNoFault source × GivesFront source
 CountsBy R t source (Err _) = ⊥

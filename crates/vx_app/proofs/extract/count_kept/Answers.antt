@@ -1,4 +1,4 @@
-use Rattle.std.proofs.Common.{◌≡◌, ◌<◌, ◌∙◌, arith}
+use Rattle.std.proofs.Common.{◌≡◌, ◌<◌, ◌∙◌, ap, Ok, arith}
 use Rattle.std.proofs.lemmas.Result.{err_from_is_err_and}
 use Rattle.vx_pic.proofs.Existing.{there_are_readers}
 use Rattle.vx_app.proofs.Checking.{HasChecked-none, count_stopped, count_done, count_none, count_cut, count_more, count_units, count_below, kept_below}
@@ -24,7 +24,7 @@ returns-in_err-check_picture-clause-counts g c R of =
     let p = err_from_is_err_and c.from_residual-in_err-check_picture.result c.from_residual-in_err-check_picture.ensures.1 in
     let e = c.loop-extractor.invariant.2 R of in
     rw (p.1, p.2) (count_cut _ _ R c.args.task c.args.source.now c.loop-extractor.source c.advance.new.source c.loop-extractor.feed c.advance.new.feed c.loop-extractor.pictures c.loop-extractor.kept e (c.advance.ensures.end e.taken.ended)
-    (rw c.if-branch.true at c.in_ok-advance.ensures.answer R of) c.loop-extractor.extractor c.picture-picture.result c.loop-extractor.invariant.0 (c.picture-picture.ensures.shows R) _ (c.in_err-check_picture.ensures.answer c.loop-extractor.invariant.1))
+    (c.in_ok-advance.ensures.picture (ap Ok c.if-branch.true)) (rw c.if-branch.true at c.in_ok-advance.ensures.answer R of) c.loop-extractor.extractor c.picture-picture.result c.loop-extractor.invariant.0 (c.picture-picture.ensures.shows R) _ (c.in_err-check_picture.ensures.answer c.loop-extractor.invariant.1))
 
 pub loop-extractor-smaller : goal.loop-extractor-smaller
 loop-extractor-smaller g c =
@@ -42,13 +42,14 @@ loop-extractor-preserved g c =
       λ R of.
           let e = c.loop-extractor.invariant.2 R of in
           let ended = c.advance.ensures.end e.taken.ended in
+          let has = c.in_ok-advance.ensures.picture (ap Ok c.if-branch.true) in
           let came = rw c.if-branch.true at c.in_ok-advance.ensures.answer R of in
-          let below = count_below _ _ R c.args.task c.args.source.now c.loop-extractor.source c.advance.new.source c.loop-extractor.feed c.advance.new.feed c.loop-extractor.pictures c.loop-extractor.kept e ended came in
-          let few = kept_below _ _ R c.args.task c.args.source.now c.loop-extractor.source c.advance.new.source c.loop-extractor.feed c.advance.new.feed c.loop-extractor.pictures c.loop-extractor.kept e ended came in
+          let below = count_below _ _ R c.args.task c.args.source.now c.loop-extractor.source c.advance.new.source c.loop-extractor.feed c.advance.new.feed c.loop-extractor.pictures c.loop-extractor.kept e ended has came in
+          let few = kept_below _ _ R c.args.task c.args.source.now c.loop-extractor.source c.advance.new.source c.loop-extractor.feed c.advance.new.feed c.loop-extractor.pictures c.loop-extractor.kept e ended has came in
           let one = c.one_more-pictures.ensures (rw c.unit.ensures below) in
           let kept = c.kept_with-kept.ensures (omega (arith, one, few)) in
           rw (one, kept)
-          (count_more _ _ R c.args.task c.args.source.now c.loop-extractor.source c.advance.new.source c.loop-extractor.feed c.advance.new.feed c.loop-extractor.pictures c.loop-extractor.kept e ended came c.loop-extractor.extractor c.picture-picture.result c.loop-extractor.invariant.0 (c.picture-picture.ensures.shows R) (c.in_ok-check_picture.ensures.answer c.loop-extractor.invariant.1)),
+          (count_more _ _ R c.args.task c.args.source.now c.loop-extractor.source c.advance.new.source c.loop-extractor.feed c.advance.new.feed c.loop-extractor.pictures c.loop-extractor.kept e ended has came c.loop-extractor.extractor c.picture-picture.result c.loop-extractor.invariant.0 (c.picture-picture.ensures.shows R) (c.in_ok-check_picture.ensures.answer c.loop-extractor.invariant.1)),
     )
 
 pub returns-in_err-some_picture-clause-counts : goal.returns-in_err-some_picture-clause-counts

@@ -1,4 +1,4 @@
-use Rattle.std.proofs.Common.{◌≡◌, ◌∙◌, ℕ, Ok, Err, arith}
+use Rattle.std.proofs.Common.{◌≡◌, ◌∙◌, ap, ℕ, Ok, Err, arith}
 use Rattle.std.specs.Prelude.{IfErr}
 use Rattle.std.proofs.lemmas.Result.{err_from_is_err_and}
 use Rattle.vx_pic.proofs.Existing.{there_are_readers}
@@ -9,6 +9,7 @@ use Rattle.vx_app.specs.Conclusion.{Outcome, IsOfCommand}
 use Rattle.vx_app.specs.Extract.{at_picture}
 use Rattle.vx_app.specs.inner.Extracting.{IsTask}
 use Rattle.vx_app.proofs.Extracting.{HasExtracted-none, Extracts-unmade, extract_stopped, extract_end, extract_cut, extract_more, more_units, pictures_below}
+use Rattle.vx_app.proofs.ReadAgain.{none_again, taken_again}
 use Rattle.vx_app.proofs.Taking.{taken_none, have_slices}
 use Rattle.vx_app.proofs.extract.extract.Goals as goal
 
@@ -21,13 +22,13 @@ pub loop-extractor-init : goal.loop-extractor-init
 loop-extractor-init g c =
     let task = c.limited-extractor.ensures.task in (
       record { target = task.0; level = task.1; tid = task.2 },
-      λ R of. HasExtracted-none _ _ _ _ R c.args.task _ _ c.in_ok-feed.feed c.limited-extractor.result (taken_none _ _ R _ c.in_ok-feed.feed c.in_ok-feed.ensures.open.reader (c.in_ok-feed.ensures.fed R) c.in_ok-feed.ensures.needed) c.limited-extractor.ensures.stands,
+      λ R of. HasExtracted-none _ _ _ _ R c.args.task (taken_again c.extraction_reads_again.ensures R of c.args.task c.units_can_stand.ensures) _ _ c.in_ok-feed.feed c.limited-extractor.result (taken_none _ _ R _ c.in_ok-feed.feed c.in_ok-feed.ensures.open.reader (c.in_ok-feed.ensures.fed R) c.in_ok-feed.ensures.needed) c.limited-extractor.ensures.stands,
     )
 
 pub returns-in_err-feed-clause-extracts : goal.returns-in_err-feed-clause-extracts
 returns-in_err-feed-clause-extracts g c R of =
     let p = err_from_is_err_and c.from_residual.result c.from_residual.ensures.1 in
-    rw (p.1, p.2) (Extracts-unmade (λ s. (goal.Source-dyn g (s.vtable, s.value)).bytes_left s.value) (λ s. (goal.Source-dyn g (s.vtable, s.value)).read_faults s.value) g.K.Sink.bytes_taken g.K.Sink.write_faults R c.args.task c.args.source.now c.args.out.now)
+    rw (p.1, p.2) (Extracts-unmade (λ s. (goal.Source-dyn g (s.vtable, s.value)).bytes_left s.value) (λ s. (goal.Source-dyn g (s.vtable, s.value)).read_faults s.value) g.K.Sink.bytes_taken g.K.Sink.write_faults R c.args.task (none_again c.extraction_reads_again.ensures R of c.args.task) c.args.source.now c.args.out.now)
 
 pub returns-in_err-advance-clause-extracts : goal.returns-in_err-advance-clause-extracts
 returns-in_err-advance-clause-extracts g c R of =
@@ -45,7 +46,7 @@ returns-in_err-extract_picture-clause-extracts g c R of =
     let same = c.extract_picture.ensures.task in
     let task : IsTask c.args.task c.extract_picture.new.extractor = record { target = same.target ∙ was.target; level = same.level ∙ was.level; tid = same.tid ∙ was.tid } in
     rw (p.1, p.2) (extract_cut _ _ _ _ R (have_slices law.some law.shown R of) c.args.task c.args.source.now c.loop-extractor.source c.advance.new.source c.args.out.now c.loop-extractor.out c.loop-extractor.feed c.advance.new.feed c.loop-extractor.extractor c.loop-extractor.pictures e (c.advance.ensures.end e.taken.ended)
-    (rw c.if-branch.true at c.in_ok-advance.ensures.answer R of) c.extract_picture.new.extractor c.extract_picture.new.out task _ (c.in_err-extract_picture.ensures.answer R))
+    (c.in_ok-advance.ensures.picture (ap Ok c.if-branch.true)) (rw c.if-branch.true at c.in_ok-advance.ensures.answer R of) c.extract_picture.new.extractor c.extract_picture.new.out task _ (c.in_err-extract_picture.ensures.answer R))
 
 pub loop-extractor-preserved : goal.loop-extractor-preserved
 loop-extractor-preserved g c =
@@ -58,10 +59,12 @@ loop-extractor-preserved g c =
           let have = have_slices law.some law.shown R of in
           let e = c.loop-extractor.invariant.1 R of in
           let ended = c.advance.ensures.end e.taken.ended in
+          let has = c.in_ok-advance.ensures.picture (ap Ok c.if-branch.true) in
           let came = rw c.if-branch.true at c.in_ok-advance.ensures.answer R of in
-          let below = pictures_below _ _ _ _ R have c.args.task c.args.source.now c.loop-extractor.source c.advance.new.source c.args.out.now c.loop-extractor.out c.loop-extractor.feed c.advance.new.feed c.loop-extractor.extractor c.loop-extractor.pictures e ended came in
+          let below = pictures_below _ _ _ _ R have c.args.task c.args.source.now c.loop-extractor.source c.advance.new.source c.args.out.now c.loop-extractor.out c.loop-extractor.feed c.advance.new.feed c.loop-extractor.extractor c.loop-extractor.pictures e ended has came in
           rw (c.one_more-pictures.ensures (rw c.unit.ensures below))
-          (extract_more _ _ _ _ R have c.args.task c.args.source.now c.loop-extractor.source c.advance.new.source c.args.out.now c.loop-extractor.out c.loop-extractor.feed c.advance.new.feed c.loop-extractor.extractor c.loop-extractor.pictures e ended came c.extract_picture.new.extractor c.extract_picture.new.out task (c.in_ok-extract_picture.ensures.answer R)),
+          (extract_more _ _ _ _ R have c.args.task c.args.source.now c.loop-extractor.source c.advance.new.source c.args.out.now c.loop-extractor.out c.loop-extractor.feed c.advance.new.feed c.loop-extractor.extractor c.loop-extractor.pictures e ended has came c.extract_picture.new.extractor c.extract_picture.new.out task
+          (taken_again c.extraction_reads_again.ensures R of c.args.task c.units_can_stand.ensures) (c.in_ok-extract_picture.ensures.answer R)),
     )
 
 pub loop-extractor-smaller : goal.loop-extractor-smaller
