@@ -14,7 +14,7 @@ use Rattle.vx_fit.specs.Lowest.{IsLowest}
 use Rattle.vx_fit.specs.Placing.{FitTogether, IsFilled, IsOnGrid, Overlap}
 use Rattle.vx_fit.proofs.Together.{apart_none, grid_none, order_none}
 
-lowest_one : (count : ℕ) (Breaks : ℕ → Type 0) (j k : ℕ) → IsLowest count Breaks j → IsLowest count Breaks k → j ≡ k
+pub lowest_one : (count : ℕ) (Breaks : ℕ → Type 0) (j k : ℕ) → IsLowest count Breaks j → IsLowest count Breaks k → j ≡ k
 lowest_one count Breaks j k first second =
     elim (cases_order j k) [
       | inl same ↦ same

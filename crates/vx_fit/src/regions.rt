@@ -4,7 +4,8 @@ ghost use Rattle.std.specs.Bool.{OnTrue, OnFalse};
 ghost use Rattle.std.specs.List.{AllPairs};
 ghost use Rattle.vx_fit.specs.FitFaults.{ComesTooEarly, HasGap, IsFitFault, IsOffGrid, OverlapsLower};
 ghost use Rattle.vx_fit.specs.Placing.{FitTogether, IsFilled, IsInRange, Overlap, frame_height, frame_width, greatest_size};
-ghost use Rattle.vx_fit.specs.inner.Searches.{IsLowestAnswer, areas};
+ghost use Rattle.vx_fit.specs.Lowest.{IsLowestAnswer};
+ghost use Rattle.vx_fit.specs.inner.Searches.{areas};
 
 use crate::placed::{FitFault, GREATEST_SIZE, Placed};
 

@@ -1,7 +1,7 @@
 -- The pictures from which slices predict motion (H.266 7.4.8, sh_collocated_ref_idx): the same one for all slices of a picture that name
 -- one. A list tells it by its order count, as a distance from the picture's own or by its low bits, so that slices of pictures with one
 -- order count are compared by what their lists tell.
-use Rattle.std.specs.Prelude.{ℕ, ℤ, pos, neg_ℤ, ◌+◌, ◌+ℤ◌, ◌==◌, ◌&&◌, not, Bool, cond, List, [], ◌∷◌, map, filter, take, slice_get}
+use Rattle.std.specs.Prelude.{ℕ, ℤ, pos, neg_ℤ, ◌+◌, ◌+ℤ◌, ◌==◌, ◌&&◌, not, Bool, cond, List, [], ◌∷◌, flat_map, take, slice_get}
 use Rattle.std.specs.Prelude.{Option, Some, None, unwrap_or}
 use Rattle.vx_bits.specs.declared.list.Item.{Item}
 use Rattle.vx_bits.specs.Fields.{first_value}
@@ -12,15 +12,11 @@ use Rattle.vx_table.specs.Scope.{natural, is_set}
 use Rattle.vx_table.specs.Loaded.{number}
 use Rattle.vx_rpl.specs.declared.entry.RefEntry.{RefEntry}
 use Rattle.vx_rpl.specs.declared.entry.RefEntry.TheVariants.{Short, Long}
+use Rattle.vx_sh.specs.declared.header.SliceHeader.{SliceHeader}
 use Rattle.vx_pic.specs.Inputs.{lists_in_force}
 use Rattle.vx_pic.specs.Parts.{Parts, SlicePart}
-
--- What an entry of a list tells of its picture (8.3.2): how far its order count is from the picture's own; its low bits, and where they
--- are told the high ones; or that there is no such entry.
-pub data Collocated : Type 0 where
-  nearby : ℤ → Collocated
-  distant : ℕ → Option ℕ → Collocated
-  absent : Collocated
+use Rattle.vx_merge.specs.declared.collocated.Collocated.{Collocated}
+use Rattle.vx_merge.specs.declared.collocated.Collocated.TheVariants.{Nearby, Distant, Absent}
 
 -- DeltaPocValSt (7.4.11) of a short-term entry
 abbrev pub delta_of : RefEntry → ℤ
@@ -33,9 +29,9 @@ delta_to [] = pos 0
 delta_to (entry ∷ entries) = delta_of entry +ℤ delta_to entries
 
 abbrev pub entry_tells : List RefEntry → Option RefEntry → Collocated
-entry_tells upto (Some (Short abs sign)) = nearby (delta_to upto)
-entry_tells upto (Some (Long lsb msb)) = distant lsb msb
-entry_tells upto None = absent
+entry_tells upto (Some (Short abs sign)) = Nearby (delta_to upto)
+entry_tells upto (Some (Long lsb msb)) = Distant lsb msb
+entry_tells upto None = Absent
 
 -- the picture of an entry of a list
 abbrev pub told_at : List RefEntry → ℕ → Collocated
@@ -47,22 +43,26 @@ told_at entries i = entry_tells (take (i + 1) entries) (slice_get entries i)
 abbrev pub number_or : ℕ → List Item → ℕ → ℕ
 number_or absent items of = natural (unwrap_or (first_value items of) (pos absent))
 
--- A P or B slice names one where ph_temporal_mvp_enabled_flag is 1 and lists stand in slice headers: type 2 is I, which an absent one is.
-abbrev pub names_collocated : Parts → SlicePart → Bool
-names_collocated q s =
-    (is_set (number q.header.fields ph.ph_temporal_mvp_enabled_flag) && not (is_set (number q.pps pps.pps_rpl_info_in_ph_flag)))
-    && not (number_or 2 s.header.fields sh.sh_slice_type == 2)
+-- Slices may name one where ph_temporal_mvp_enabled_flag is 1 and lists stand in slice headers; those of type 2 don't, which are I slices,
+-- as those of no type.
+abbrev pub may_name : Parts → Bool
+may_name q = not (is_set (number q.pps pps.pps_rpl_info_in_ph_flag)) && is_set (number q.header.fields ph.ph_temporal_mvp_enabled_flag)
+
+abbrev pub names_one : SliceHeader → Bool
+names_one h = not (number_or 2 h.fields sh.sh_slice_type == 2)
 
 -- it stands in list 0 unless sh_collocated_from_l0_flag is 0, at sh_collocated_ref_idx
-abbrev pub list_of : Parts → SlicePart → List RefEntry
-list_of q s =
-    cond (is_set (number_or 1 s.header.fields sh.sh_collocated_from_l0_flag))
-    (lists_in_force q s.header).first
-    (lists_in_force q s.header).second
+abbrev pub list_of : Parts → SliceHeader → List RefEntry
+list_of q h =
+    cond (is_set (number_or 1 h.fields sh.sh_collocated_from_l0_flag)) (lists_in_force q h).first (lists_in_force q h).second
 
-abbrev pub collocated_of : Parts → SlicePart → Collocated
-collocated_of q s = told_at (list_of q s) (number_or 0 s.header.fields sh.sh_collocated_ref_idx)
+abbrev pub collocated_of : Parts → SliceHeader → Collocated
+collocated_of q h = told_at (list_of q h) (number_or 0 h.fields sh.sh_collocated_ref_idx)
+
+-- what a slice names, where it does
+abbrev pub named_by : Parts → SlicePart → List Collocated
+named_by q s = cond (may_name q && names_one s.header) (collocated_of q s.header ∷ []) []
 
 -- those that slices of a picture name, in order
 abbrev pub collocated : Parts → List Collocated
-collocated q = map (collocated_of q) (filter (names_collocated q) q.slices)
+collocated q = flat_map (named_by q) q.slices

@@ -1,8 +1,9 @@
 -- Which sources have ended, by their index.
-use Rattle.std.specs.Prelude.{◌≡◌, ℕ, ◌<◌, true, false, Bool, List, length, slice_index_or}
+use Rattle.std.specs.Prelude.{◌≡◌, ℕ, ◌<◌, true, false, Bool, List, length}
+use Rattle.std.specs.List.{slice_index_or}
 use Rattle.vx_fit.specs.Lowest.{IsLowest}
-use Rattle.vx_merge.specs.declared.lengths.Lengths.{Lengths}
-use Rattle.vx_merge.specs.declared.lengths.Lengths.TheVariants.{AllGo, AllEnded, Differ}
+use Rattle.vx_merge.specs.declared.ended.Lengths.{Lengths}
+use Rattle.vx_merge.specs.declared.ended.Lengths.TheVariants.{AllGo, AllEnded, Differ}
 
 -- source k has ended, or goes on
 abbrev pub HasEnded : List Bool → ℕ → Type 0

@@ -1,6 +1,6 @@
 -- A round: a picture of each source, in order. Each is to be a subpicture of one picture.
-use Rattle.std.specs.Prelude.{◌≡◌, ◌≢◌, ◌×◌, ℕ, pos, ◌<◌, Bool, true, false, IsTrue, List, [], ◌∷◌, length, map, flat_map, slice_get, Option, Some, None}
-use Rattle.std.specs.List.{slice_index_or}
+use Rattle.std.specs.Prelude.{◌≡◌, ◌≢◌, ℕ, pos, Bool, false, IsTrue, List, [], length, flat_map, slice_get, Option, Some, None}
+use Rattle.std.specs.List.{AllByRecursion, slice_index_or}
 use Rattle.vx_fit.specs.FrameLines.{no_numbers}
 use Rattle.vx_fit.specs.Lowest.{IsLowest}
 use Rattle.vx_pic.specs.Parts.{Parts}
@@ -36,7 +36,10 @@ UnlikeLowest has f round k =
     IsTrue (has (picture_at round k))
     × ((j : ℕ) × IsLowest (length round) (λ i. IsTrue (has (picture_at round i))) j × (f (picture_at round k) ≢ f (picture_at round j)))
 
--- one of several of source k is another than the first of all in the round, by source and then in order
+-- not all of these are the first one of all
+abbrev pub SomeUnlike : {A : Type 0} → List A → Option A → Type 0
+SomeUnlike xs first = ¬ AllByRecursion (λ x. first ≡ Some x) xs
+
+-- not all of source k are the first one of the round, by source and then in order
 abbrev pub SomeUnlikeFirst : {A : Type 0} → (Parts → List A) → List Parts → ℕ → Type 0
-SomeUnlikeFirst {A} f round k =
-    (i : ℕ) × ((x : A) × (slice_get (f (picture_at round k)) i ≡ Some x) × (slice_get (flat_map f round) 0 ≢ Some x))
+SomeUnlikeFirst f round k = SomeUnlike (f (picture_at round k)) (slice_get (flat_map f round) 0)

@@ -1,6 +1,6 @@
 -- The rules by which the pictures of a round can't become one picture, with their corners in luma samples. Source 0 is the one that others
 -- are compared with, unless said.
-use Rattle.std.specs.Prelude.{◌≡◌, ◌≢◌, ◌⊎◌, ℕ, ℤ, ◌+◌, ◌<◌, ◌&&◌, Bool, List, [], ◌∷◌, ◌++◌, length, map, flat_map, take, sum_by, unwrap_or, Option}
+use Rattle.std.specs.Prelude.{◌≡◌, ◌≢◌, ◌⊎◌, ℕ, ℤ, ◌+◌, ◌<◌, ◌==◌, Bool, cond, List, [], ◌∷◌, ◌++◌, length, map, flat_map, take, sum_by, unwrap_or, Option, Some, None}
 use Rattle.std.specs.Option.{option_or}
 use Rattle.vx_bits.specs.declared.list.Item.{Item}
 use Rattle.vx_bits.specs.declared.refusal.Refusal.{Refusal}
@@ -11,12 +11,13 @@ use Rattle.vx_fields.specs.declared.ptl.TheConstants as ptl
 use Rattle.vx_fields.specs.declared.pps.TheConstants as pps
 use Rattle.vx_fields.specs.declared.ph.TheConstants as ph
 use Rattle.vx_fields.specs.declared.sh.TheConstants as sh
-use Rattle.vx_table.specs.Depends.{set_of}
 use Rattle.vx_table.specs.Loaded.{number}
 use Rattle.vx_table.specs.Scope.{is_set}
-use Rattle.vx_table.specs.Shown.{shown_items}
+use Rattle.vx_layout.specs.declared.numbers.Numbers.{Numbers}
+use Rattle.vx_layout.specs.declared.rect.Rect.{Rect}
 use Rattle.vx_rpl.specs.declared.entry.RefLists.{RefLists}
 use Rattle.vx_sps.specs.Subpictures.{subpics_of}
+use Rattle.vx_fit.specs.declared.placed.Placed.{Placed}
 use Rattle.vx_fit.specs.declared.placed.FitFault.TheVariants.{TooLarge, Geometry, Order}
 use Rattle.vx_fit.specs.FitFaults.{IsFitFault}
 use Rattle.vx_fit.specs.FrameLines.{IsLinesFault}
@@ -29,7 +30,7 @@ use Rattle.vx_merge.specs.Bodies.{filters_in, has_lmcs, has_scaling, is_chroma_s
 use Rattle.vx_merge.specs.Collocated.{collocated}
 use Rattle.vx_merge.specs.Regions.{corners_in, ctb_of, layout_of, layouts_in, placed_in}
 use Rattle.vx_merge.specs.Rounds.{SomeUnlikeFirst, UnlikeFirst, UnlikeLowest, picture_at}
-use Rattle.vx_merge.specs.Verdict.{Rule}
+use Rattle.vx_merge.specs.Verdict.{Rule, IsVerdict}
 
 -- ---- what is told of a broken rule
 
@@ -59,41 +60,56 @@ kept_sps q = inputs.sps_fields q.sps
 abbrev pub profile_fields : List ℕ
 profile_fields = ptl.general_profile_idc ∷ ptl.general_tier_flag ∷ ptl.ptl_frame_only_constraint_flag ∷ ptl.ptl_multilayer_enabled_flag ∷ []
 
-abbrev pub profile_of : Parts → List Item
-profile_of q = shown_items (set_of profile_fields) q.sps
+abbrev pub profile_of : Parts → List ℕ
+profile_of q = map (number q.sps) profile_fields
+
+-- the first of some fields of which two structures have other numbers
+abbrev pub differing_number : List ℕ → List Item → List Item → Option ℕ
+differing_number [] items others = None
+differing_number (of ∷ more) items others = cond (number items of == number others of) (differing_number more items others) (Some of)
+
+abbrev pub differing_profile : List Parts → ℕ → Option ℕ
+differing_profile round k = differing_number profile_fields (picture_at round k).sps (picture_at round 0).sps
 
 -- the field at which two pictures differ in something
 abbrev pub differing_in : (Parts → List Item) → List Parts → ℕ → Option ℕ
 differing_in f round k = differing_field (f (picture_at round k)) (f (picture_at round 0))
 
+abbrev pub sps_field : List Parts → ℕ → ℕ
+sps_field round k = unwrap_or (option_or (differing_in kept_sps round k) (differing_profile round k)) 0
+
 abbrev pub sps_tools : List Parts → Rule
-sps_tools round = of_field rules.SPS_TOOLS
-    (λ k. UnlikeFirst kept_sps round k ⊎ UnlikeFirst profile_of round k)
-    (λ k. unwrap_or (option_or (differing_in kept_sps round k) (differing_in profile_of round k)) 0)
+sps_tools round = of_field rules.SPS_TOOLS (λ k. UnlikeFirst kept_sps round k ⊎ UnlikeFirst profile_of round k) (sps_field round)
 
 -- M7: the kept fields of its PPS are others.
 abbrev pub kept_pps : Parts → List Item
 kept_pps q = inputs.pps_fields q.pps
 
+abbrev pub pps_field : List Parts → ℕ → ℕ
+pps_field round k = unwrap_or (differing_in kept_pps round k) 0
+
 abbrev pub pps_tools : List Parts → Rule
-pps_tools round = of_field rules.PPS_TOOLS (UnlikeFirst kept_pps round) (λ k. unwrap_or (differing_in kept_pps round k) 0)
+pps_tools round = of_field rules.PPS_TOOLS (UnlikeFirst kept_pps round) (pps_field round)
 
 -- ---- the frame
 
 -- L6: it is too large.
-abbrev pub too_large : List Corner → List Parts → Rule
-too_large corners round = of_limit rules.TOO_LARGE (IsFitFault (placed_in corners round) (ctb_of round) TooLarge)
+abbrev pub too_large : List Placed → ℕ → Rule
+too_large placed ctb = of_limit rules.TOO_LARGE (IsFitFault placed ctb TooLarge)
 
 -- M3: a region is off the grid of CTUs, overlaps another, or leaves a gap. M4: a region comes too early.
-abbrev pub geometry : List Corner → List Parts → Rule
-geometry corners round = of_source rules.GEOMETRY (λ k. IsFitFault (placed_in corners round) (ctb_of round) (Geometry k))
+abbrev pub geometry : List Placed → ℕ → Rule
+geometry placed ctb = of_source rules.GEOMETRY (λ k. IsFitFault placed ctb (Geometry k))
 
-abbrev pub region_order : List Corner → List Parts → Rule
-region_order corners round = of_source rules.REGION_ORDER (λ k. IsFitFault (placed_in corners round) (ctb_of round) (Order k))
+abbrev pub region_order : List Placed → ℕ → Rule
+region_order placed ctb = of_source rules.REGION_ORDER (λ k. IsFitFault placed ctb (Order k))
 
--- M5: tile lines of the frame don't pass through a region exactly as its own do.
-abbrev pub tile_lines : List Corner → List Parts → Rule
-tile_lines corners round = of_source rules.TILE_LINES (IsLinesFault (corners_in corners round) (layouts_in round))
+abbrev pub rules_of_fit : List Placed → ℕ → List Rule
+rules_of_fit placed ctb = too_large placed ctb ∷ geometry placed ctb ∷ region_order placed ctb ∷ []
+
+-- M5: tile lines of the frame don't pass through a region exactly as its own do; the regions are in CTUs.
+abbrev pub tile_lines : List Rect → List Numbers → Rule
+tile_lines regions layouts = of_source rules.TILE_LINES (IsLinesFault regions layouts)
 
 -- L5: all together have too many slices.
 abbrev pub most_slices : ℕ
@@ -116,10 +132,13 @@ picture_kind round = of_source rules.PICTURE_KIND (UnlikeFirst shared_kind round
 abbrev pub kept_header : Parts → List Item
 kept_header q = inputs.header_fields q.header.fields
 
+abbrev pub header_field : List Parts → ℕ → ℕ
+header_field round k = unwrap_or (differing_in kept_header round k) ph.ph_chroma_residual_scale_flag
+
 abbrev pub picture_header : List Parts → Rule
 picture_header round = of_field rules.PICTURE_HEADER
     (λ k. UnlikeFirst kept_header round k ⊎ UnlikeLowest has_lmcs is_chroma_scaled round k)
-    (λ k. unwrap_or (differing_in kept_header round k) ph.ph_chroma_residual_scale_flag)
+    (header_field round)
 
 -- M9: it has LMCS or scaling lists, and other ones than the lowest source that has them.
 abbrev pub shared_sets : List Parts → Rule
@@ -173,10 +192,13 @@ collocated_pictures round = of_source rules.COLLOCATED (SomeUnlikeFirst collocat
 
 -- ---- all of them
 
+abbrev pub rules_of_frame : List Corner → List Parts → List Rule
+rules_of_frame corners round =
+    rules_of_fit (placed_in corners round) (ctb_of round) ++ tile_lines (corners_in corners round) (layouts_in round) ∷ []
+
 abbrev pub rules_of_sets : List Corner → List Parts → List Rule
 rules_of_sets corners round =
-    several_subpictures round ∷ sps_tools round ∷ too_large corners round ∷ geometry corners round ∷ region_order corners round
-    ∷ tile_lines corners round ∷ too_many_slices round ∷ []
+    several_subpictures round ∷ sps_tools round ∷ (rules_of_frame corners round ++ too_many_slices round ∷ [])
 
 abbrev pub rules_of_pictures : List Parts → List Rule
 rules_of_pictures round =
@@ -189,3 +211,8 @@ rules_of_slices round =
 -- The rules in their order.
 abbrev pub rules_of : List Corner → List Parts → List Rule
 rules_of corners round = rules_of_sets corners round ++ (rules_of_pictures round ++ rules_of_slices round)
+
+-- There is one verdict at most by them on a number of sources.
+abbrev pub VerdictIsOne : Type 0
+VerdictIsOne = (corners : List Corner) (round : List Parts) (n : ℕ) (a b : Option Refusal)
+    → IsVerdict n (rules_of corners round) a → IsVerdict n (rules_of corners round) b → a ≡ b

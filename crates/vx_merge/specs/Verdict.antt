@@ -15,7 +15,3 @@ IsVerdict n [] answer = answer ≡ None
 IsVerdict n (rule ∷ rules) answer =
     (((k : ℕ) → k < n → ¬ rule.breaks k) × IsVerdict n rules answer)
     ⊎ ((k : ℕ) × IsLowest n rule.breaks k × (answer ≡ Some (rule.tells k)))
-
--- There is one verdict at most.
-abbrev pub VerdictIsOne : Type 0
-VerdictIsOne = (n : ℕ) (rules : List Rule) (a b : Option Refusal) → IsVerdict n rules a → IsVerdict n rules b → a ≡ b

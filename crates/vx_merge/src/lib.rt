@@ -1,6 +1,27 @@
 //! Several streams put together as one: each picture of the result has one picture of each source as a subpicture (H.266 6.3.1).
+//!
+//! [`Merger::check`] tells of a round of pictures, one of each source, whether they can be put together, and else the first rule that
+//! they break. The rules are defined in the folder `specs`. [`lengths`] tells which sources have ended.
 #![tactic(auto)]
 
-mod lengths;
+mod collocated;
+mod corner;
+mod ended;
+mod ending;
+mod filters;
+mod frame;
+mod headers;
+mod laws;
+mod merger;
+mod sets;
+mod slices;
+mod told;
+mod verdict;
 
-pub use lengths::{Lengths, lengths};
+pub use collocated::Collocated;
+pub use corner::Corner;
+pub use ended::Lengths;
+pub use ending::lengths;
+pub use laws::verdict_is_one;
+pub use merger::Merger;
+pub use vx_write::{WriteError, WriteFirst};

@@ -1,13 +1,7 @@
 -- What the searches through a list of regions answer.
-use Rattle.std.specs.Prelude.{ℕ, ◌+◌, ◌*◌, ◌<◌, Bool, ◌&&◌, nat_lt, max, min, Option, None, Some, List}
+use Rattle.std.specs.Prelude.{ℕ, ◌+◌, ◌*◌, Bool, ◌&&◌, nat_lt, max, min, List}
 use Rattle.std.specs.List.{sum_by}
 use Rattle.vx_fit.specs.declared.placed.Placed.{Placed}
-use Rattle.vx_fit.specs.Lowest.{IsLowest}
-
--- the lowest index below `count` that breaks the rule, or none where none does
-abbrev pub IsLowestAnswer : ℕ → (ℕ → Type 0) → Option ℕ → Type 0
-IsLowestAnswer count Breaks None = (k : ℕ) → k < count → ¬ Breaks k
-IsLowestAnswer count Breaks (Some k) = IsLowest count Breaks k
 
 -- whether two regions overlap, by their borders
 unfoldable pub overlaps : Placed → Placed → Bool

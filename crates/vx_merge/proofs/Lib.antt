@@ -1,0 +1,11 @@
+-- Lemmas of this crate.
+pub mod Verdicts
+pub mod Differing
+pub mod Reading
+pub mod Gathered
+pub mod Sized
+pub mod Fitted
+pub mod Deltas
+pub mod Framing
+pub mod Layouts
+pub mod Judging

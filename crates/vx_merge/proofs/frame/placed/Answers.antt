@@ -1,0 +1,30 @@
+use Rattle.std.proofs.Common.{◌≡◌, ◌∷◌, [], ◌++◌, ap, sym, ◌∙◌, subst, length, take, arith}
+use Rattle.std.proofs.lemmas.List.{take_all}
+use Rattle.std.proofs.lemmas.List.Elements.{All-push}
+use Rattle.std.specs.Prelude.{All}
+use Rattle.vx_fit.specs.Placing.{IsInRange}
+use Rattle.vx_merge.specs.Regions.{placed_in}
+use Rattle.vx_merge.proofs.Sized.{placed_length, placed_more}
+use Rattle.vx_merge.proofs.frame.placed.Goals as goal
+
+pub placed_at-requires : goal.placed_at-requires
+placed_at-requires c = c.requires.corners c.loop-k.k _ (omega (arith, c.requires.same))
+
+pub loop-k-preserved : goal.loop-k-preserved
+loop-k-preserved c =
+    let corners = c.args.corners.now in
+    let round = c.args.round.now in
+    let k = c.loop-k.k in (
+      c.in_ok-push.ensures ∙ (ap (λ ps. ps ++ c.placed_at.result ∷ []) c.loop-k.invariant.0
+          ∙ (ap (λ p. take k (placed_in corners round) ++ p ∷ []) c.placed_at.ensures.placed
+          ∙ sym (placed_more corners round k _ c.index-round-k.result c.requires.same c.loop-k-test.true c.index-round-k.is))),
+      subst (All IsInRange) (sym c.in_ok-push.ensures) (All-push IsInRange _ c.placed_at.result c.loop-k.invariant.1 c.placed_at.ensures.range),
+    )
+
+pub returns-clause-placed : goal.returns-clause-placed
+returns-clause-placed c =
+    let size = placed_length c.args.corners.now c.args.round.now c.requires.same in
+    c.loop-k.invariant.0 ∙ take_all c.loop-k.k (placed_in c.args.corners.now c.args.round.now) (omega (arith, size))
+
+pub returns-clause-range : goal.returns-clause-range
+returns-clause-range c = c.loop-k.invariant.1

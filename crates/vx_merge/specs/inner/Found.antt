@@ -1,0 +1,53 @@
+-- What the searches for broken rules answer.
+use Rattle.std.specs.Prelude.{◌≡◌, ℕ, ◌<◌, List, flat_map, slice_get, option_to_list, Option, Some, None, Result, Ok, Err}
+use Rattle.vx_bits.specs.declared.refusal.Refusal.{Refusal}
+use Rattle.vx_bits.specs.declared.refusal.Refusal.TheVariants.{Limit, Merge}
+use Rattle.vx_bits.specs.declared.rules.TheConstants as rules
+use Rattle.vx_fit.specs.declared.placed.FitFault.{FitFault}
+use Rattle.vx_fit.specs.declared.placed.FitFault.TheVariants.{TooLarge, Geometry, Order}
+use Rattle.vx_fit.specs.Lowest.{IsLowest, IsLowestAnswer}
+use Rattle.vx_write.specs.declared.fault.WriteError.{WriteError}
+use Rattle.vx_write.specs.declared.fault.WriteError.TheVariants as errors
+use Rattle.vx_merge.specs.declared.told.Differing.{Differing}
+use Rattle.vx_merge.specs.Verdict.{Rule, IsVerdict}
+
+-- the verdict by some rules
+pub record Finds (n : ℕ) (rules : List Rule) (answer : Option Refusal) : Type 0 where
+  pub verdict : IsVerdict n rules answer
+
+-- the lowest source that breaks a rule, and the field in which it differs
+abbrev pub IsLowestField : ℕ → (ℕ → Type 0) → (ℕ → ℕ) → Option Differing → Type 0
+IsLowestField n breaks field None = (k : ℕ) → k < n → ¬ breaks k
+IsLowestField n breaks field (Some d) = IsLowest n breaks d.source × (d.field ≡ field d.source)
+
+-- whether source k breaks a rule, by the field in which it differs
+abbrev pub TellsAt : Type 0 → ℕ → Option ℕ → Type 0
+TellsAt Breaks field None = ¬ Breaks
+TellsAt Breaks field (Some told) = Breaks × (told ≡ field)
+
+abbrev pub TellsField : (ℕ → Type 0) → (ℕ → ℕ) → ℕ → Option ℕ → Type 0
+TellsField breaks field k answer = TellsAt (breaks k) (field k) answer
+
+-- what is told of a source, and of a field in it
+abbrev pub told_source : ℕ → Option ℕ → Option Refusal
+told_source code None = None
+told_source code (Some k) = Some (Merge code k 0)
+
+abbrev pub told_field : ℕ → Option Differing → Option Refusal
+told_field code None = None
+told_field code (Some d) = Some (Merge code d.source d.field)
+
+-- what is told of regions that don't fit together
+abbrev pub fit_refusal : FitFault → Refusal
+fit_refusal TooLarge = Limit rules.TOO_LARGE
+fit_refusal (Geometry k) = Merge rules.GEOMETRY k 0
+fit_refusal (Order k) = Merge rules.REGION_ORDER k 0
+
+-- what one item of a list adds to what is gathered of all
+abbrev pub piece_at : {A B : Type 0} → (A → List B) → List A → ℕ → List B
+piece_at f xs i = flat_map f (option_to_list (slice_get xs i))
+
+-- what is answered of a verdict
+abbrev pub judgement : Option Refusal → Result (Unit {0}) WriteError
+judgement None = Ok tt
+judgement (Some r) = Err (errors.Refused r)

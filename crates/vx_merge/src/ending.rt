@@ -1,0 +1,45 @@
+//! Sources that end together.
+ghost use Rattle.std.specs.Prelude.{ℕ, ◌<◌, ◌≤◌, length};
+ghost use Rattle.std.specs.Bool.{OnTrue, OnFalse};
+ghost use Rattle.vx_fit.specs.Lowest.{IsLowestAnswer};
+ghost use Rattle.vx_merge.specs.Ends.{GoesOn, HasEnded, IsLengths};
+
+use crate::ended::Lengths;
+
+/// The lowest source that has ended.
+fn lowest_ended(ended: &[bool]) -> Option<u16>
+    requires { length ended.now ≤ 65536 }
+    ensures { IsLowestAnswer (length ended.now) (HasEnded ended.now) result }
+{
+    for k in 0..ended.len() {
+        if ended[k] {
+            return Some(k as u16);
+        }
+    }
+    None
+}
+
+/// Whether a source goes on.
+fn some_goes_on(ended: &[bool]) -> bool
+    ensures some { OnTrue result ((j : ℕ) × ((j < length ended.now) × GoesOn ended.now j)) }
+    ensures none { OnFalse result ((k : ℕ) → k < length ended.now → HasEnded ended.now k) }
+{
+    for k in 0..ended.len() {
+        if !ended[k] {
+            return true;
+        }
+    }
+    false
+}
+
+/// Which sources have ended, by their index. It takes no memory.
+pub fn lengths(ended: &[bool]) -> Lengths
+    requires { (0 < length ended.now) × (length ended.now ≤ 65536) }
+    ensures { IsLengths ended.now result }
+{
+    match lowest_ended(ended) {
+        None => Lengths::AllGo,
+        Some(k) if some_goes_on(ended) => Lengths::Differ(k),
+        Some(_) => Lengths::AllEnded,
+    }
+}

@@ -1,0 +1,232 @@
+//! The rules on the frame that regions make up.
+ghost use Rattle.std.specs.Prelude.{◌≡◌, ℕ, ◌<◌, ◌≤◌, ◌∷◌, [], true, All, length, map, sum_by, IfOk, OnOk, None};
+ghost use Rattle.std.specs.List.{AllZip};
+ghost use Rattle.vx_fit.specs.FitFaults.{IsFitFault};
+ghost use Rattle.vx_fit.specs.FrameLines.{IsLinesFault};
+ghost use Rattle.vx_fit.specs.Lowest.{IsLowestAnswer};
+ghost use Rattle.vx_fit.specs.Placing as placing;
+ghost use Rattle.vx_fit.specs.Placing.{FitTogether, IsInRange};
+ghost use Rattle.vx_fit.specs.Sources.{IsFitted, IsSized};
+ghost use Rattle.vx_sps.specs.Subpictures.{subpics_of};
+ghost use Rattle.vx_write.specs.InForce.{AreInForce};
+ghost use Rattle.vx_merge.specs.Merging.{IsCorner};
+ghost use Rattle.vx_merge.specs.Regions as regions;
+ghost use Rattle.vx_merge.specs.Rounds.{picture_at};
+ghost use Rattle.vx_merge.specs.Rules as rules;
+ghost use Rattle.vx_merge.specs.inner.Found as found;
+ghost use Rattle.vx_merge.specs.inner.Found.{Finds};
+
+use crate::corner::Corner;
+use crate::told::of_source;
+use std::alloc::{AllocError, Global};
+use vx_bits::Refusal;
+use vx_bits::rules::{GEOMETRY, REGION_ORDER, TILE_LINES, TOO_LARGE, TOO_MANY_SLICES};
+use vx_fit::{
+    FitFault, LineError, Placed, fit_fault_is_one, fit_lines, fit_regions, lines_are_one,
+};
+use vx_layout::{Numbers, Rect};
+use vx_pic::Picture;
+use vx_write::sets_in_force;
+
+/// The most slices of a picture.
+const MOST_SLICES: u32 = 1000;
+
+// ---- regions
+
+/// The region of a picture with its upper left corner here, as its sets have it.
+fn region_at(corner: Corner, picture: &Picture<'_>) -> Placed
+    ensures { result ≡ regions.placed_at corner picture.now }
+{
+    let pps = picture.pps();
+    Placed {
+        x: corner.x,
+        y: corner.y,
+        w: pps.width(),
+        h: pps.height(),
+    }
+}
+
+/// The region of a picture with its upper left corner here.
+fn placed_at(corner: Corner, picture: &Picture<'_>) -> Placed
+    requires { IsCorner corner }
+    ensures placed { result ≡ regions.placed_at corner picture.now }
+    ensures range { IsInRange result }
+{
+    sets_in_force(picture);
+    region_at(corner, picture)
+}
+
+/// The regions of the pictures at their corners.
+///
+/// # Errors
+///
+/// Want of memory.
+pub(crate) fn placed(
+    alloc: Global,
+    corners: &[Corner],
+    round: &[Picture<'_>],
+) -> Result<Vec<Placed>, AllocError>
+    requires same { length corners.now ≡ length round.now }
+    requires corners { All IsCorner corners.now }
+    ensures placed { IfOk result (λ placed. placed.items ≡ regions.placed_in corners.now round.now) }
+    ensures range { IfOk result (λ placed. All IsInRange placed.items) }
+{
+    let mut placed = Vec::new(alloc);
+    for k in 0..round.len() {
+        placed.push(placed_at(corners[k], &round[k]))?;
+    }
+    Ok(placed)
+}
+
+/// What is told of a frame's regions that don't fit together.
+fn fit_refusal(fault: FitFault) -> Refusal
+    ensures { result ≡ found.fit_refusal fault }
+{
+    match fault {
+        FitFault::TooLarge => Refusal::Limit { code: TOO_LARGE },
+        FitFault::Geometry(source) => Refusal::Merge {
+            code: GEOMETRY,
+            source,
+            field: 0,
+        },
+        FitFault::Order(source) => Refusal::Merge {
+            code: REGION_ORDER,
+            source,
+            field: 0,
+        },
+    }
+}
+
+/// Whether the regions don't fit together, for CTUs of `ctb` times `ctb` samples.
+pub(crate) fn misfit(placed: &[Placed], ctb: u32) -> Option<Refusal>
+    requires count { (0 < length placed.now) × (length placed.now ≤ 64) }
+    requires numbers { All IsInRange placed.now }
+    requires ctb { 1 ≤ ctb }
+    ensures found { Finds (length placed.now) (rules.rules_of_fit placed.now ctb) result }
+    ensures fit { result ≡ None → FitTogether placed.now ctb }
+{
+    fit_fault_is_one();
+    match fit_regions(placed, ctb) {
+        Ok(_) => None,
+        Err(fault) => Some(fit_refusal(fault)),
+    }
+}
+
+/// The regions in CTUs.
+///
+/// # Errors
+///
+/// Want of memory.
+pub(crate) fn in_ctus(alloc: Global, placed: &[Placed], ctb: u32) -> Result<Vec<Rect>, AllocError>
+    requires { 1 ≤ ctb }
+    ensures { IfOk result (λ corners. corners.items ≡ map (placing.in_ctus ctb) placed.now) }
+{
+    placed.iter().map(|p| p.in_ctus(ctb)).collect(alloc)
+}
+
+// ---- tile lines
+
+/// The layout of a picture's first subpicture.
+///
+/// # Errors
+///
+/// Want of memory.
+fn layout_of(alloc: Global, picture: &Picture<'_>) -> Result<Numbers, AllocError>
+    ensures layout { IfOk result (λ layout. layout ≡ regions.layout_of picture.now) }
+    ensures sets { AreInForce picture.now }
+{
+    sets_in_force(picture);
+    picture.layout().region(alloc, 0)
+}
+
+/// The layouts of the pictures.
+///
+/// # Errors
+///
+/// Want of memory.
+pub(crate) fn layouts(alloc: Global, round: &[Picture<'_>]) -> Result<Vec<Numbers>, AllocError>
+    ensures layouts { IfOk result (λ layouts. layouts.items ≡ regions.layouts_in round.now) }
+    ensures sets { OnOk result (All AreInForce round.now) }
+{
+    let mut layouts = Vec::new(alloc);
+    for k in 0..round.len() {
+        let layout = layout_of(alloc, &round[k])?;
+        layouts.push(layout)?;
+    }
+    Ok(layouts)
+}
+
+/// The lowest region through which tile lines don't pass as they should.
+///
+/// # Errors
+///
+/// Want of memory.
+fn lowest_crossed(
+    alloc: Global,
+    corners: &[Rect],
+    parts: &[Numbers],
+) -> Result<Option<u16>, AllocError>
+    requires count { (1 ≤ length corners.now) × (length corners.now ≤ 64) }
+    requires sized { AllZip IsSized corners.now parts.now }
+    requires fitted { IsFitted corners.now }
+    ensures { IfOk result (IsLowestAnswer (length corners.now) (IsLinesFault corners.now parts.now)) }
+{
+    lines_are_one();
+    match fit_lines(alloc, corners, parts) {
+        Ok(_) => Ok(None),
+        Err(error) => match error {
+            LineError::Lines(k) => Ok(Some(k)),
+            LineError::Memory => Err(AllocError),
+        },
+    }
+}
+
+/// Whether tile lines of the frame don't pass through a region as its own do.
+///
+/// # Errors
+///
+/// Want of memory.
+pub(crate) fn tile_lines(
+    alloc: Global,
+    placed: &[Placed],
+    ctb: u32,
+    layouts: &[Numbers],
+) -> Result<Option<Refusal>, AllocError>
+    requires count { (0 < length placed.now) × (length placed.now ≤ 64) }
+    requires ctb { 1 ≤ ctb }
+    requires fit { FitTogether placed.now ctb }
+    requires sized { AllZip IsSized (map (placing.in_ctus ctb) placed.now) layouts.now }
+    ensures { IfOk result (Finds (length placed.now) (rules.tile_lines (map (placing.in_ctus ctb) placed.now) layouts.now ∷ [])) }
+{
+    let made = in_ctus(alloc, placed, ctb)?;
+    let corners = made.as_slice();
+    let lowest = lowest_crossed(alloc, corners, layouts)?;
+    Ok(of_source(TILE_LINES, lowest))
+}
+
+// ---- slices
+
+/// How many slices all pictures have together.
+fn slice_count(round: &[Picture<'_>]) -> u32
+    requires { length round.now ≤ 64 }
+    ensures { result ≡ sum_by (λ q. length q.slices) round.now }
+{
+    let mut count = 0;
+    for k in 0..round.len() {
+        count += round[k].slice_count();
+    }
+    count
+}
+
+/// Whether all pictures together have more slices than a picture may have.
+pub(crate) fn too_many_slices(round: &[Picture<'_>]) -> Option<Refusal>
+    requires { (0 < length round.now) × (length round.now ≤ 64) }
+    ensures { Finds (length round.now) (rules.too_many_slices round.now ∷ []) result }
+{
+    if MOST_SLICES < slice_count(round) {
+        return Some(Refusal::Limit {
+            code: TOO_MANY_SLICES,
+        });
+    }
+    None
+}

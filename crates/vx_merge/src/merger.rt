@@ -1,0 +1,136 @@
+//! Round after round of pictures that are put together.
+ghost use Rattle.std.specs.Prelude.{◌≡◌, All, map, IfOk};
+ghost use Rattle.vx_merge.specs.inner.Found as words;
+
+use crate::corner::Corner;
+use crate::verdict::verdict;
+use std::alloc::{AllocError, Global};
+use std::marker::Model;
+use vx_bits::Refusal;
+use vx_pic::{Lender, Picture};
+use vx_write::{WriteError, WriteFirst, first_of};
+
+/// Puts together round after round, a round being one picture of each source.
+///
+/// After a refusal or want of memory it answers [`WriteError::Stopped`].
+#[derive(Drop)]
+pub struct Merger {
+    alloc: Global,
+    corners: Vec<Corner>,
+    level: Option<u8>,
+    first: Option<WriteFirst>,
+}
+
+impl Model for Merger {
+    ghost use Rattle.vx_merge.specs.Merging.{Merging, AreCorners};
+
+    ghost Value = { Merging };
+
+    ghost view = { λ m. record { corners = m.corners.items; level = m.level; first = m.first } };
+
+    ghost invariant = { λ m. AreCorners m.corners.items };
+}
+
+/// What is answered of a verdict.
+fn judgement(found: Option<Refusal>) -> Result<(), WriteError>
+    ensures { result ≡ words.judgement found }
+{
+    match found {
+        None => Ok(()),
+        Some(refusal) => Err(WriteError::Refused(refusal)),
+    }
+}
+
+/// The pictures that are lent.
+///
+/// # Errors
+///
+/// Want of memory.
+fn lent<L: Lender>(alloc: Global, lenders: &[L]) -> Result<Vec<Picture<'_>>, AllocError>
+    requires { All L.holds lenders.now }
+    ensures { IfOk result (λ round. round.items ≡ map L.lent lenders.now) }
+{
+    let mut round = Vec::new(alloc);
+    for lender in lenders {
+        round.push(lender.picture())?;
+    }
+    Ok(round)
+}
+
+impl Merger {
+    ghost use Rattle.std.specs.Prelude.{◌≡◌, All, map, length, Some, None, Err, IfErr, IfOk, OnOk};
+    ghost use Rattle.vx_write.specs.Faults as faults;
+    ghost use Rattle.vx_write.specs.declared.fault.WriteFirst.{WriteFirst as First};
+    ghost use Rattle.vx_write.specs.declared.fault.WriteError.TheVariants.{Stopped};
+    ghost use Rattle.vx_merge.specs.Merging.{AreCorners, Checks, Judges, SameTask};
+
+    /// A merger of regions with these upper left corners, in luma samples, with a level of its own or the sources' highest.
+    ///
+    /// # Errors
+    ///
+    /// Want of memory.
+    pub fn new(alloc: Global, corners: &[Corner], level: Option<u8>) -> Result<Merger, AllocError>
+        requires { AreCorners corners.now }
+        ensures { IfOk result (λ m. (m.corners ≡ corners.now) × (m.level ≡ level) × (m.first ≡ None)) }
+    {
+        let mut own = Vec::new(alloc);
+        own.extend_from_slice(corners)?;
+        Ok(Merger {
+            alloc,
+            corners: own,
+            level,
+            first: None,
+        })
+    }
+
+    /// The verdict on a round.
+    fn verdict_on<L: Lender>(&self, lenders: &[L]) -> Result<Option<Refusal>, AllocError>
+        requires count { length lenders.now ≡ length self.now.corners }
+        requires holds { All L.holds lenders.now }
+        ensures { IfOk result (Judges self.now (map L.lent lenders.now)) }
+    {
+        let made = lent(self.alloc, lenders)?;
+        let (corners, round) = (self.corners.as_slice(), made.as_slice());
+        let found = verdict(self.alloc, corners, round)?;
+        Ok(found)
+    }
+
+    /// What is answered of a round, where nothing stopped the merger before.
+    fn judged<L: Lender>(&self, lenders: &[L]) -> Result<(), WriteError>
+        requires count { length lenders.now ≡ length self.now.corners }
+        requires holds { All L.holds lenders.now }
+        ensures { Checks self.now (map L.lent lenders.now) result }
+    {
+        match self.verdict_on(lenders) {
+            Ok(found) => judgement(found),
+            Err(_) => Err(WriteError::Memory),
+        }
+    }
+
+    /// Whether the pictures of a round can be put together: as many lenders as corners, each holding its picture. It writes nothing.
+    ///
+    /// # Errors
+    ///
+    /// The first rule that the pictures break, with the lowest source that breaks it, or want of memory. All later rounds are answered
+    /// with the first of these.
+    pub fn check<L: Lender>(&mut self, lenders: &[L]) -> Result<(), WriteError>
+        requires count { length lenders.now ≡ length self.old.corners }
+        requires holds { All L.holds lenders.now }
+        ensures answer { self.old.first ≡ None → Checks self.old (map L.lent lenders.now) result }
+        ensures task { SameTask self.old self.new }
+        ensures first { IfErr result (λ e. self.new.first ≡ Some (faults.first_of e)) }
+        ensures stopped { (f : First) → self.old.first ≡ Some f → (result ≡ Err (Stopped f)) × (self.new ≡ self.old) }
+        ensures stays { OnOk result (self.new ≡ self.old) }
+    {
+        if let Some(first) = self.first {
+            return Err(WriteError::Stopped(first));
+        }
+        match self.judged(lenders) {
+            Ok(()) => Ok(()),
+            Err(error) => {
+                self.first = Some(first_of(error));
+                Err(error)
+            }
+        }
+    }
+}
