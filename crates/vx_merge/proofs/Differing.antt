@@ -29,11 +29,11 @@ number_none (f ∷ fields) a b is =
       | inr other ↦ absurd (none-some f (sym is ∙ ap (λ t. cond t (differing_number fields a b) (Some f)) other))
     ]
 
-first_number : List ℕ → ℕ
+abbrev first_number : List ℕ → ℕ
 first_number [] = 0
 first_number (n ∷ ns) = n
 
-rest : List ℕ → List ℕ
+abbrev rest : List ℕ → List ℕ
 rest [] = []
 rest (n ∷ ns) = ns
 
@@ -73,9 +73,9 @@ tells_one X (Some f) absent tells = (tells, refl)
 
 pub tells_two : (X Y : Type 0) (first second : Option ℕ) (absent : ℕ) → Tells X first → Tells Y second
     → TellsAt (X ⊎ Y) (unwrap_or (option_or first second) absent) (option_or first second)
-tells_two X Y None None absent no none = λ either. elim either [ inl x ↦ no x | inr y ↦ none y ]
-tells_two X Y None (Some g) absent no is = (inr is, refl)
-tells_two X Y (Some f) second absent is other = (inl is, refl)
+tells_two X Y None None absent left right = λ either. elim either [ inl x ↦ left x | inr y ↦ right y ]
+tells_two X Y None (Some g) absent left right = (inr right, refl)
+tells_two X Y (Some f) second absent left right = (inl left, refl)
 
 -- ---- the rules
 

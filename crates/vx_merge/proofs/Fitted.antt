@@ -1,14 +1,20 @@
 -- What is told of regions that fit together, and of those that don't.
-use Rattle.std.proofs.Common.{◌≡◌, ℕ, ◌<◌, List, [], ◌∷◌, length, Some, None, ap, refl, inl, inr, arith}
+use Rattle.std.proofs.Common.{◌≡◌, ℕ, ◌<◌, List, [], ◌∷◌, length, Option, Some, None, ap, sym, subst, refl, inl, inr, arith}
 use Rattle.vx_fit.specs.declared.placed.FitFault.{FitFault}
 use Rattle.vx_fit.specs.declared.placed.FitFault.TheVariants.{TooLarge, Geometry, Order}
 use Rattle.vx_fit.specs.declared.placed.Placed.{Placed}
 use Rattle.vx_fit.specs.FitFaults.{IsGeometryFault}
-use Rattle.vx_fit.specs.FitLaws.{FitFaultIsOne, FittingHasNoFault}
+use Rattle.vx_layout.specs.declared.numbers.Numbers.{Numbers}
+use Rattle.vx_layout.specs.declared.rect.Rect.{Rect}
+use Rattle.vx_fit.specs.declared.lines.LineError.{LineError}
+use Rattle.vx_fit.specs.declared.lines.LineError.TheVariants.{Memory, Lines}
+use Rattle.vx_fit.specs.FitLaws.{FitFaultIsOne, FittingHasNoFault, LinesFaultIsOne}
+use Rattle.vx_fit.specs.FrameLines.{IfLines, IsLinesFault}
+use Rattle.vx_fit.specs.Lowest.{IsLowest, IsLowestAnswer}
 use Rattle.vx_fit.specs.FitFaults.{IsFitFault}
 use Rattle.vx_fit.specs.Placing.{FitTogether}
 use Rattle.vx_merge.specs.Rules.{rules_of_fit}
-use Rattle.vx_merge.specs.inner.Found.{Finds, fit_refusal}
+use Rattle.vx_merge.specs.inner.Found.{Finds, Names, fit_refusal}
 
 pub fits_found : (placed : List Placed) (ctb : ℕ) → FittingHasNoFault → FitTogether placed ctb → Finds (length placed) (rules_of_fit placed ctb) None
 fits_found placed ctb none fit = record {
@@ -16,12 +22,12 @@ fits_found placed ctb none fit = record {
 }
 
 -- which kind of fault it is, and of which region
-kind_of : FitFault → ℕ
+abbrev kind_of : FitFault → ℕ
 kind_of TooLarge = 0
 kind_of (Geometry k) = 1
 kind_of (Order k) = 2
 
-region_in : FitFault → ℕ
+abbrev region_in : FitFault → ℕ
 region_in TooLarge = 0
 region_in (Geometry k) = k
 region_in (Order k) = k
@@ -71,3 +77,16 @@ misfit_found placed ctb (Order k) some one is =
         ),
       );
     }
+
+-- ---- lines
+
+pub named_lowest : (corners : List Rect) (parts : List Numbers) (error : LineError) (lowest : Option ℕ) → LinesFaultIsOne → IfLines error (IsLinesFault corners parts)
+    → Names error lowest → IsLowestAnswer (length corners) (IsLinesFault corners parts) lowest
+named_lowest corners parts Memory lowest one fault names = absurd names
+named_lowest corners parts (Lines k) lowest one fault names =
+    let here : IsLowest (length corners) (IsLinesFault corners parts) k = record {
+      in_range = fault.in_range;
+      breaks = fault;
+      lower = λ j less other. let same : j ≡ k = one corners parts j k other fault in omega (arith, same, less);
+    } in
+    subst (IsLowestAnswer (length corners) (IsLinesFault corners parts)) (sym names) here

@@ -71,7 +71,7 @@ piece_is f xs i x at = ap (λ o. flat_map f (option_to_list o)) at ∙ flat_one 
 pub piece_more : {A B : Type 0} (f : A → List B) (xs : List A) (i : ℕ) → flat_map f (take (i + 1) xs) ≡ flat_map f (take i xs) ++ piece_at f xs i
 piece_more f xs i =
     elim (slice_get_cases xs i).1 [
-      | inl p ↦ flat_more f xs i p.0 p.2.0 ∙ ap (λ ys. flat_map f (take i xs) ++ ys) (sym (piece_is f xs i p.0 p.2.0))
+      | inl p ↦ flat_more f xs i p.0 p.2 ∙ ap (λ ys. flat_map f (take i xs) ++ ys) (sym (piece_is f xs i p.0 p.2))
       | inr p ↦
           let none : piece_at f xs i ≡ [] = ap (λ o. flat_map f (option_to_list o)) p.1 in
           flat_all f xs (i + 1) (omega (arith, p.0))
@@ -144,18 +144,22 @@ once_more xs ys = with_more [] xs ys
 
 -- a body among those from a place on
 among_at : (body : List ℕ) (xs : List (List ℕ)) (i : ℕ) (x : List ℕ) → slice_get xs i ≡ Some x
-    → is_among body (drop i xs) ≡ (same_bytes x body || is_among body (drop (i + 1) xs))
+    → is_among body (drop i xs) ≡ (same_bytes x body || is_among body (drop (suc i) xs))
 among_at body [] i x at = absurd (none-some x at)
 among_at body (y ∷ xs) zero x at = ap (λ z. same_bytes z body || is_among body xs) (ap (λ o. unwrap_or o y) at)
 among_at body (y ∷ xs) (suc i) x at = among_at body xs i x at
 
 pub among_found : (body : List ℕ) (xs : List (List ℕ)) (i : ℕ) (x : List ℕ) → slice_get xs i ≡ Some x → same_bytes x body ≡ true
     → is_among body (drop i xs) ≡ is_among body xs → is_among body xs ≡ true
-among_found body xs i x at same is = sym is ∙ (among_at body xs i x at ∙ ap (λ t. t || is_among body (drop (i + 1) xs)) same)
+among_found body xs i x at same is = sym is ∙ (among_at body xs i x at ∙ ap (λ t. t || is_among body (drop (suc i) xs)) same)
 
 pub among_passed : (body : List ℕ) (xs : List (List ℕ)) (i : ℕ) (x : List ℕ) → slice_get xs i ≡ Some x → same_bytes x body ≡ false
     → is_among body (drop i xs) ≡ is_among body xs → is_among body (drop (i + 1) xs) ≡ is_among body xs
-among_passed body xs i x at other is = sym (ap (λ t. t || is_among body (drop (i + 1) xs)) other) ∙ (sym (among_at body xs i x at) ∙ is)
+among_passed body xs i x at other is =
+    let next : suc i ≡ i + 1 = omega arith in
+    let here : is_among body (drop (suc i) xs) ≡ is_among body xs =
+    sym (ap (λ t. t || is_among body (drop (suc i) xs)) other) ∙ (sym (among_at body xs i x at) ∙ is) in
+    subst (λ n. is_among body (drop n xs) ≡ is_among body xs) next here
 
 pub among_none : (body : List ℕ) (xs : List (List ℕ)) (i : ℕ) → length xs ≤ i → is_among body (drop i xs) ≡ is_among body xs → is_among body xs ≡ false
 among_none body xs i past is = sym is ∙ ap (is_among body) (drop_all i xs past)

@@ -23,10 +23,13 @@ abbrev pub delta_of : RefEntry → ℤ
 delta_of (Short abs sign) = cond sign (neg_ℤ (pos abs)) (pos abs)
 delta_of (Long lsb msb) = pos 0
 
--- the sum of those of entries, each of which counts from the one before
+-- how far the last of some entries is, each of which counts from the one before
+abbrev pub delta_from : ℤ → List RefEntry → ℤ
+delta_from base [] = base
+delta_from base (entry ∷ entries) = delta_from (base +ℤ delta_of entry) entries
+
 abbrev pub delta_to : List RefEntry → ℤ
-delta_to [] = pos 0
-delta_to (entry ∷ entries) = delta_of entry +ℤ delta_to entries
+delta_to entries = delta_from (pos 0) entries
 
 abbrev pub entry_tells : List RefEntry → Option RefEntry → Collocated
 entry_tells upto (Some (Short abs sign)) = Nearby (delta_to upto)

@@ -71,10 +71,7 @@ fn told_at(list: &RefList, i: u32) -> Collocated
 fn number_or(absent: u32, items: &Fields, field: u16) -> u32
     ensures { result ≡ words.number_or absent items.now field }
 {
-    match items.first(field) {
-        Some(value) => natural(value),
-        None => absent,
-    }
+    natural(items.first(field).unwrap_or(i64::from(absent)))
 }
 
 /// Whether slices of a picture may name a collocated picture.

@@ -156,6 +156,16 @@ pub(crate) fn layouts(alloc: Global, round: &[Picture<'_>]) -> Result<Vec<Number
     Ok(layouts)
 }
 
+/// The region that an error names.
+fn named_region(error: LineError) -> Result<Option<u16>, AllocError>
+    ensures { IfOk result (found.Names error) }
+{
+    match error {
+        LineError::Lines(k) => Ok(Some(k)),
+        LineError::Memory => Err(AllocError),
+    }
+}
+
 /// The lowest region through which tile lines don't pass as they should.
 ///
 /// # Errors
@@ -174,10 +184,7 @@ fn lowest_crossed(
     lines_are_one();
     match fit_lines(alloc, corners, parts) {
         Ok(_) => Ok(None),
-        Err(error) => match error {
-            LineError::Lines(k) => Ok(Some(k)),
-            LineError::Memory => Err(AllocError),
-        },
+        Err(error) => named_region(error),
     }
 }
 

@@ -5,6 +5,8 @@ use Rattle.vx_bits.specs.declared.refusal.Refusal.TheVariants.{Limit, Merge}
 use Rattle.vx_bits.specs.declared.rules.TheConstants as rules
 use Rattle.vx_fit.specs.declared.placed.FitFault.{FitFault}
 use Rattle.vx_fit.specs.declared.placed.FitFault.TheVariants.{TooLarge, Geometry, Order}
+use Rattle.vx_fit.specs.declared.lines.LineError.{LineError}
+use Rattle.vx_fit.specs.declared.lines.LineError.TheVariants.{Memory, Lines}
 use Rattle.vx_fit.specs.Lowest.{IsLowest, IsLowestAnswer}
 use Rattle.vx_write.specs.declared.fault.WriteError.{WriteError}
 use Rattle.vx_write.specs.declared.fault.WriteError.TheVariants as errors
@@ -51,3 +53,8 @@ piece_at f xs i = flat_map f (option_to_list (slice_get xs i))
 abbrev pub judgement : Option Refusal → Result (Unit {0}) WriteError
 judgement None = Ok tt
 judgement (Some r) = Err (errors.Refused r)
+
+-- the region that an error names
+abbrev pub Names : LineError → Option ℕ → Type 0
+Names Memory lowest = ⊥
+Names (Lines k) lowest = lowest ≡ Some k

@@ -1,4 +1,4 @@
-use Rattle.std.proofs.Common.{◌≡◌, ◌×◌, ℕ, ◌<◌, map, take}
+use Rattle.std.proofs.Common.{◌≡◌, ℕ, ◌<◌, map, take}
 use Rattle.std.specs.Prelude.{flat_map}
 use Rattle.vx_merge.specs.Bodies.{filters_in, once}
 use Rattle.vx_merge.specs.Rules.{too_many_filters}

@@ -11,7 +11,7 @@ loop-k-preserved c =
     let round = c.args.round.now in
     let k = c.loop-k.k in
     let q = c.index-round-k.result in (
-      c.in_ok-push.ensures ∙ (ap (λ ls. ls ++ c.in_ok-layout.layout ∷ []) c.loop-k.invariant.0
+      c.in_ok-push.ensures.items ∙ (ap (λ ls. ls ++ c.in_ok-layout.layout ∷ []) c.loop-k.invariant.0
           ∙ (ap (λ l. take k (layouts_in round) ++ l ∷ []) c.in_ok-layout.ensures ∙ sym (layouts_more round k q c.loop-k-test.true c.index-round-k.is))),
       sets_more round k q c.loop-k-test.true c.index-round-k.is c.loop-k.invariant.1 c.layout_of.ensures.sets,
     )

@@ -1,4 +1,4 @@
-use Rattle.std.proofs.Common.{ap, sym, ◌∙◌, subst, refl, inl, Some}
+use Rattle.std.proofs.Common.{length, ap, sym, ◌∙◌, subst, refl, inl, Some}
 use Rattle.std.proofs.lemmas.Option.{none-some}
 use Rattle.vx_merge.specs.Rules.{rules_of_fit}
 use Rattle.vx_merge.specs.inner.Found.{Finds}
@@ -10,5 +10,5 @@ returns-in-Ok-clause-found c = fits_found c.args.placed.now c.args.ctb c.fit_fau
 
 pub returns-in-Err-clause-found : goal.returns-in-Err-clause-found
 returns-in-Err-clause-found c =
-    subst (λ r. Finds _ (rules_of_fit c.args.placed.now c.args.ctb) (Some r)) (sym c.fit_refusal.ensures)
+    subst (λ r. Finds (length c.args.placed.now) (rules_of_fit c.args.placed.now c.args.ctb) (Some r)) (sym c.fit_refusal.ensures)
     (misfit_found c.args.placed.now c.args.ctb c.in-Err.fault c.requires.count.0 c.fit_fault_is_one.ensures.one c.in-Err.ensures.fault)

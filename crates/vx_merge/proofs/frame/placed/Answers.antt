@@ -15,10 +15,10 @@ loop-k-preserved c =
     let corners = c.args.corners.now in
     let round = c.args.round.now in
     let k = c.loop-k.k in (
-      c.in_ok-push.ensures ∙ (ap (λ ps. ps ++ c.placed_at.result ∷ []) c.loop-k.invariant.0
+      c.in_ok-push.ensures.items ∙ (ap (λ ps. ps ++ c.placed_at.result ∷ []) c.loop-k.invariant.0
           ∙ (ap (λ p. take k (placed_in corners round) ++ p ∷ []) c.placed_at.ensures.placed
           ∙ sym (placed_more corners round k _ c.index-round-k.result c.requires.same c.loop-k-test.true c.index-round-k.is))),
-      subst (All IsInRange) (sym c.in_ok-push.ensures) (All-push IsInRange _ c.placed_at.result c.loop-k.invariant.1 c.placed_at.ensures.range),
+      subst (All IsInRange) (sym c.in_ok-push.ensures.items) (All-push IsInRange _ c.placed_at.result c.loop-k.invariant.1 c.placed_at.ensures.range),
     )
 
 pub returns-clause-placed : goal.returns-clause-placed

@@ -1,4 +1,4 @@
-use Rattle.std.proofs.Common.{◌≡◌, ◌×◌, take}
+use Rattle.std.proofs.Common.{◌≡◌, take}
 use Rattle.std.specs.Prelude.{All}
 use Rattle.vx_fit.specs.Placing.{IsInRange}
 use Rattle.vx_merge.specs.Regions.{placed_in}

@@ -9,7 +9,7 @@ pub loop-k-preserved : goal.loop-k-preserved
 loop-k-preserved c =
     let more = sum_by_more (λ (q : Parts). length q.slices) c.args.round.now c.loop-k.k c.index-round-k.result c.loop-k-test.true in
     let size = ap (λ (q : Parts). length q.slices) c.index-round-k.is in
-    (omega (arith, more, size, c.loop-k.invariant.0, c.slice_count.ensures.number), omega (arith, c.loop-k.invariant.1, c.slice_count.ensures.few))
+    (omega (arith, more, size, c.loop-k.invariant.0, c.slice_count-count.ensures.number), omega (arith, c.loop-k.invariant.1, c.slice_count-count.ensures.few))
 
 pub returns : goal.returns
 returns c = c.loop-k.invariant.0 ∙ ap (sum_by (λ (q : Parts). length q.slices)) (take_all c.loop-k.k c.args.round.now (omega arith))
