@@ -1,5 +1,5 @@
 -- Sums of the deltas of entries.
-use Rattle.std.proofs.Common.{◌≡◌, ℕ, ℤ, pos, zero, suc, ◌+◌, ◌+ℤ◌, List, [], ◌∷◌, ◌++◌, take, slice_get, get_or, Some, ap, sym, ◌∙◌, refl, arith}
+use Rattle.std.proofs.Common.{◌≡◌, ℕ, ℤ, pos, ◌+◌, ◌+ℤ◌, List, [], ◌∷◌, ◌++◌, take, slice_get, get_or, Some, ap, ◌∙◌, refl}
 use Rattle.std.proofs.lemmas.List.{take_more}
 use Rattle.std.proofs.lemmas.Option.{get_or_from_slice_get, slice_get_within}
 use Rattle.vx_rpl.specs.declared.entry.RefEntry.{RefEntry}

@@ -1,5 +1,5 @@
 -- Fields in which sources differ.
-use Rattle.std.proofs.Common.{◌≡◌, ℕ, ◌==◌, ◌<◌, Bool, true, false, cond, List, [], ◌∷◌, length, get_or, map, Option, Some, None, unwrap_or, refl, ap, sym, ◌∙◌, inl, inr}
+use Rattle.std.proofs.Common.{◌≡◌, ℕ, ◌==◌, ◌<◌, cond, List, [], ◌∷◌, length, get_or, map, Option, Some, None, unwrap_or, refl, ap, sym, ◌∙◌, inl, inr}
 use Rattle.std.specs.Prelude.{◌⊎◌}
 use Rattle.std.specs.Option.{option_or}
 use Rattle.std.proofs.lemmas.Bool.{cases_Bool, eqb-true}
@@ -12,7 +12,7 @@ use Rattle.vx_pic.specs.Inputs as inputs
 use Rattle.vx_pic.specs.Parts.{Parts}
 use Rattle.vx_pic.proofs.Comparing.{none_differs, some_differs}
 use Rattle.vx_merge.specs.Rounds.{UnlikeFirst, picture_at}
-use Rattle.vx_merge.specs.Rules.{differing_in, differing_number, differing_profile, header_field, kept_header, kept_pps, kept_sps, pps_field, pps_tools, profile_fields, profile_of, sps_field, sps_tools}
+use Rattle.vx_merge.specs.Rules.{differing_in, differing_number, differing_profile, header_field, kept_header, kept_pps, kept_sps, pps_field, profile_fields, profile_of, sps_field}
 use Rattle.vx_merge.specs.inner.Found.{TellsAt}
 use Rattle.vx_merge.proofs.Reading.{picture_read}
 

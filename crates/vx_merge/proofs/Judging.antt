@@ -1,6 +1,6 @@
 -- What is answered of a verdict on a round.
 use Rattle.std.proofs.Common.{◌≡◌, List, Option, Some, None, sym, subst}
-use Rattle.std.specs.Prelude.{Result, Ok, Err}
+use Rattle.std.specs.Prelude.{Result}
 use Rattle.vx_bits.specs.declared.refusal.Refusal.{Refusal}
 use Rattle.vx_pic.specs.Parts.{Parts}
 use Rattle.vx_write.specs.declared.fault.WriteError.{WriteError}

@@ -1,5 +1,5 @@
 -- The regions of pictures in CTUs, and their layouts, are of one size.
-use Rattle.std.proofs.Common.{◌≡◌, ℕ, zero, suc, ◌+◌, ◌-◌, ◌^◌, ◌<◌, ◌≤◌, List, [], ◌∷◌, ◌++◌, length, get_or, map, take, refl, ap, sym, subst, ◌∙◌, arith}
+use Rattle.std.proofs.Common.{◌≡◌, ℕ, zero, suc, ◌+◌, ◌-◌, ◌^◌, ◌<◌, List, [], ◌∷◌, ◌++◌, length, get_or, map, take, refl, ap, sym, subst, ◌∙◌, arith}
 use Rattle.std.specs.Int.{div_ceil}
 use Rattle.std.proofs.lemmas.List.{take_more}
 use Rattle.std.specs.List.{AllPairs, AllZip}
@@ -9,7 +9,6 @@ use Rattle.vx_table.specs.Depends.{set_of}
 use Rattle.vx_table.specs.Loaded.{number}
 use Rattle.vx_table.specs.Scope.{fresh}
 use Rattle.vx_table.proofs.Loading.{number_of_shown}
-use Rattle.vx_layout.specs.declared.numbers.Numbers.{Numbers}
 use Rattle.vx_layout.specs.declared.rect.Rect.{Rect}
 use Rattle.vx_layout.specs.Borders.{Ends}
 use Rattle.vx_layout.specs.Faults.{height, width}

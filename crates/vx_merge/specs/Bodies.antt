@@ -1,5 +1,5 @@
 -- The adaptation parameter sets that are in force in pictures, by their bodies.
-use Rattle.std.specs.Prelude.{ℕ, Bool, true, false, ◌||◌, cond, List, [], ◌∷◌, ◌++◌, length, flat_map, Option, option_to_list}
+use Rattle.std.specs.Prelude.{ℕ, Bool, false, ◌||◌, cond, List, [], ◌∷◌, ◌++◌, flat_map, Option, option_to_list}
 use Rattle.vx_fields.specs.declared.ph.TheConstants as ph
 use Rattle.vx_table.specs.Scope.{is_set}
 use Rattle.vx_table.specs.Loaded.{number}

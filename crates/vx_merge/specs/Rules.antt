@@ -1,6 +1,6 @@
 -- The rules by which the pictures of a round can't become one picture, with their corners in luma samples. Source 0 is the one that others
 -- are compared with, unless said.
-use Rattle.std.specs.Prelude.{◌≡◌, ◌≢◌, ◌⊎◌, ℕ, ℤ, ◌+◌, ◌<◌, ◌==◌, Bool, cond, List, [], ◌∷◌, ◌++◌, length, map, flat_map, take, sum_by, unwrap_or, Option, Some, None}
+use Rattle.std.specs.Prelude.{◌≡◌, ◌⊎◌, ℕ, ℤ, ◌+◌, ◌<◌, ◌==◌, Bool, cond, List, [], ◌∷◌, ◌++◌, length, map, flat_map, take, sum_by, unwrap_or, Option, Some, None}
 use Rattle.std.specs.Option.{option_or}
 use Rattle.vx_bits.specs.declared.list.Item.{Item}
 use Rattle.vx_bits.specs.declared.refusal.Refusal.{Refusal}

@@ -1,11 +1,9 @@
 //! The bodies of adaptive loop filters that slices have in force.
-ghost use Rattle.std.specs.Prelude.{◌≡◌, ℕ, ◌+◌, ◌<◌, ◌≤◌, ◌∷◌, [], List, length, map, flat_map, take, option_copied, option_to_list, IfOk, OnOk};
+ghost use Rattle.std.specs.Prelude.{◌≡◌, ◌<◌, ◌≤◌, ◌∷◌, [], length, map, option_copied, option_to_list, IfOk, OnOk};
 ghost use Rattle.std.specs.Bool.{OnTrue, OnFalse};
 ghost use Rattle.vx_fit.specs.Lowest.{IsLowestAnswer};
-ghost use Rattle.vx_pic.specs.Parts.{part_of};
 ghost use Rattle.vx_pic.specs.Resident as resident;
 ghost use Rattle.vx_merge.specs.Bodies as words;
-ghost use Rattle.vx_merge.specs.Rounds.{picture_at};
 ghost use Rattle.vx_merge.specs.Rules as rules;
 ghost use Rattle.vx_merge.specs.inner.Found.{Finds, piece_at};
 

@@ -1,17 +1,14 @@
 //! The rules on the frame that regions make up.
-ghost use Rattle.std.specs.Prelude.{◌≡◌, ℕ, ◌<◌, ◌≤◌, ◌∷◌, [], true, All, length, map, sum_by, IfOk, OnOk, None};
+ghost use Rattle.std.specs.Prelude.{◌≡◌, ◌<◌, ◌≤◌, ◌∷◌, [], All, length, map, sum_by, IfOk, OnOk, None};
 ghost use Rattle.std.specs.List.{AllZip};
-ghost use Rattle.vx_fit.specs.FitFaults.{IsFitFault};
 ghost use Rattle.vx_fit.specs.FrameLines.{IsLinesFault};
 ghost use Rattle.vx_fit.specs.Lowest.{IsLowestAnswer};
 ghost use Rattle.vx_fit.specs.Placing as placing;
 ghost use Rattle.vx_fit.specs.Placing.{FitTogether, IsInRange};
 ghost use Rattle.vx_fit.specs.Sources.{IsFitted, IsSized};
-ghost use Rattle.vx_sps.specs.Subpictures.{subpics_of};
 ghost use Rattle.vx_write.specs.InForce.{AreInForce};
 ghost use Rattle.vx_merge.specs.Merging.{IsCorner};
 ghost use Rattle.vx_merge.specs.Regions as regions;
-ghost use Rattle.vx_merge.specs.Rounds.{picture_at};
 ghost use Rattle.vx_merge.specs.Rules as rules;
 ghost use Rattle.vx_merge.specs.inner.Found as found;
 ghost use Rattle.vx_merge.specs.inner.Found.{Finds};

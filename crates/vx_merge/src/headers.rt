@@ -1,10 +1,8 @@
 //! The rules on pictures and their headers.
-ghost use Rattle.std.specs.Prelude.{◌≡◌, ◌≢◌, ℕ, ◌<◌, ◌≤◌, ◌∷◌, [], IsTrue, length, IfOk, IfSome, option_copied};
+ghost use Rattle.std.specs.Prelude.{◌≡◌, ◌≢◌, ◌<◌, ◌≤◌, ◌∷◌, [], IsTrue, length, IfOk, option_copied};
 ghost use Rattle.std.specs.Bool.{OnTrue, OnFalse};
-ghost use Rattle.vx_fields.specs.declared.ph.TheConstants as ph;
 ghost use Rattle.vx_fit.specs.Lowest.{IsLowestAnswer};
 ghost use Rattle.vx_table.specs.Loaded as loaded;
-ghost use Rattle.vx_sh.specs.declared.header.SliceHeader.{SliceHeader as SliceValue};
 ghost use Rattle.vx_pic.specs.Differences.{differing_field as differing};
 ghost use Rattle.vx_pic.specs.Inputs as inputs;
 ghost use Rattle.vx_merge.specs.Bodies as bodies;

@@ -1,7 +1,6 @@
 //! The rules on parameter sets.
-ghost use Rattle.std.specs.Prelude.{◌≡◌, ℕ, ◌<◌, ◌≤◌, ◌∷◌, [], length, IfOk, unwrap_or};
+ghost use Rattle.std.specs.Prelude.{◌≡◌, ◌<◌, ◌≤◌, ◌∷◌, [], length, IfOk};
 ghost use Rattle.std.specs.Option.{option_or};
-ghost use Rattle.vx_bits.specs.declared.rules.TheConstants as codes;
 ghost use Rattle.vx_fit.specs.Lowest.{IsLowestAnswer};
 ghost use Rattle.vx_sps.specs.Subpictures.{subpics_of};
 ghost use Rattle.vx_pic.specs.Differences as differences;

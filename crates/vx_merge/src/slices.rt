@@ -1,9 +1,7 @@
 //! The rules on slices.
-ghost use Rattle.std.specs.Prelude.{◌≡◌, ℕ, ◌<◌, ◌≤◌, ◌∷◌, [], IsTrue, Some, cond, length, flat_map, slice_get, option_to_list};
+ghost use Rattle.std.specs.Prelude.{◌≡◌, ◌<◌, ◌≤◌, ◌∷◌, [], IsTrue, Some, cond, length, flat_map, slice_get, option_to_list};
 ghost use Rattle.std.specs.Bool.{OnTrue, OnFalse};
 ghost use Rattle.std.specs.List.{AllByRecursion};
-ghost use Rattle.vx_bits.specs.Fields.{first_value};
-ghost use Rattle.vx_fields.specs.declared.sh.TheConstants as sh;
 ghost use Rattle.vx_fit.specs.Lowest.{IsLowestAnswer};
 ghost use Rattle.vx_merge.specs.Collocated as words;
 ghost use Rattle.vx_merge.specs.Regions as regions;

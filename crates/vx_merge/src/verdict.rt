@@ -1,5 +1,5 @@
 //! The verdict on a round.
-ghost use Rattle.std.specs.Prelude.{◌≡◌, ℕ, ◌<◌, ◌≤◌, ◌∷◌, [], All, length, None, IfOk};
+ghost use Rattle.std.specs.Prelude.{◌≡◌, ◌<◌, ◌≤◌, ◌∷◌, [], All, length, None, IfOk};
 ghost use Rattle.vx_write.specs.InForce.{AreInForce};
 ghost use Rattle.vx_merge.specs.Merging.{AreCorners};
 ghost use Rattle.vx_merge.specs.Regions as regions;

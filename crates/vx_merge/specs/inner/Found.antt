@@ -7,7 +7,7 @@ use Rattle.vx_fit.specs.declared.placed.FitFault.{FitFault}
 use Rattle.vx_fit.specs.declared.placed.FitFault.TheVariants.{TooLarge, Geometry, Order}
 use Rattle.vx_fit.specs.declared.lines.LineError.{LineError}
 use Rattle.vx_fit.specs.declared.lines.LineError.TheVariants.{Memory, Lines}
-use Rattle.vx_fit.specs.Lowest.{IsLowest, IsLowestAnswer}
+use Rattle.vx_fit.specs.Lowest.{IsLowest}
 use Rattle.vx_write.specs.declared.fault.WriteError.{WriteError}
 use Rattle.vx_write.specs.declared.fault.WriteError.TheVariants as errors
 use Rattle.vx_merge.specs.declared.told.Differing.{Differing}

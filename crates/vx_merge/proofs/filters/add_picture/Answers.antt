@@ -1,4 +1,4 @@
-use Rattle.std.proofs.Common.{◌≡◌, ◌++◌, ap, sym, ◌∙◌, take, arith}
+use Rattle.std.proofs.Common.{ap, sym, ◌∙◌, take, arith}
 use Rattle.std.specs.Prelude.{flat_map}
 use Rattle.vx_merge.specs.Bodies.{filters_of, with_bodies}
 use Rattle.vx_merge.specs.inner.Found.{piece_at}

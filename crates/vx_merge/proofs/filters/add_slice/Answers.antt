@@ -1,4 +1,4 @@
-use Rattle.std.proofs.Common.{◌≡◌, ℕ, Bor, List, map, ap, sym, ◌∙◌}
+use Rattle.std.proofs.Common.{ℕ, Bor, List, map, ap, sym, ◌∙◌}
 use Rattle.vx_pic.specs.Parts.{part_of}
 use Rattle.vx_pic.specs.Seen.{alf_seen}
 use Rattle.vx_merge.specs.Bodies.{bodies_in, filters_of, with_bodies}

@@ -1,5 +1,4 @@
-use Rattle.std.proofs.Common.{length, ap, sym, ◌∙◌, subst, refl, inl, Some}
-use Rattle.std.proofs.lemmas.Option.{none-some}
+use Rattle.std.proofs.Common.{length, sym, subst, Some}
 use Rattle.vx_merge.specs.Rules.{rules_of_fit}
 use Rattle.vx_merge.specs.inner.Found.{Finds}
 use Rattle.vx_merge.proofs.Fitted.{fits_found, misfit_found}

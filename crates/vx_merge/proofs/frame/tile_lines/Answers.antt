@@ -1,7 +1,6 @@
 use Rattle.std.proofs.Common.{◌≡◌, ap, sym, ◌∙◌, subst, length, map, arith}
 use Rattle.std.proofs.lemmas.List.{length-map}
 use Rattle.std.specs.List.{AllZip}
-use Rattle.vx_layout.specs.declared.rect.Rect.{Rect}
 use Rattle.vx_fit.specs.FrameLines.{IsLinesFault}
 use Rattle.vx_fit.specs.Lowest.{IsLowestAnswer}
 use Rattle.vx_fit.specs.Placing.{in_ctus}

@@ -1,4 +1,4 @@
-use Rattle.std.proofs.Common.{ap, sym, ◌∙◌, ◌∷◌, [], arith}
+use Rattle.std.proofs.Common.{ap, sym, ◌∙◌, ◌∷◌, []}
 use Rattle.vx_pic.specs.Inputs.{lists_in_force}
 use Rattle.vx_pic.specs.Parts.{SlicePart, part_of}
 use Rattle.vx_rpl.specs.declared.entry.RefLists.{RefLists}

@@ -1,4 +1,4 @@
-use Rattle.std.proofs.Common.{◌≡◌, Some, None, ap, sym, ◌∙◌, inl, inr, unwrap_or}
+use Rattle.std.proofs.Common.{ap, sym, ◌∙◌, inl, inr, unwrap_or}
 use Rattle.vx_merge.proofs.Differing.{header_alike, header_differs, header_read}
 use Rattle.vx_merge.proofs.headers.header_field.Goals as goal
 

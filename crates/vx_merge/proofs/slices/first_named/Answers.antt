@@ -1,4 +1,4 @@
-use Rattle.std.proofs.Common.{◌≡◌, Some, None, ap, sym, ◌∙◌, slice_get, arith}
+use Rattle.std.proofs.Common.{ap, sym, ◌∙◌, slice_get, arith}
 use Rattle.std.specs.Prelude.{option_to_list}
 use Rattle.vx_merge.specs.Collocated.{named_by}
 use Rattle.vx_merge.proofs.Gathered.{none_of_all, piece_first, piece_none}

@@ -1,4 +1,4 @@
-use Rattle.std.proofs.Common.{◌≡◌, Some, None, ap, sym, ◌∙◌, slice_get, arith}
+use Rattle.std.proofs.Common.{sym, ◌∙◌, arith}
 use Rattle.vx_merge.specs.Collocated.{collocated}
 use Rattle.vx_merge.proofs.Gathered.{first_found, flat_read, none_first, none_of_all, none_read}
 use Rattle.vx_merge.proofs.slices.first_of_all.Goals as goal

@@ -1,4 +1,4 @@
-use Rattle.std.proofs.Common.{◌≡◌, Some, take, ap, sym, subst, unwrap_or, length, arith}
+use Rattle.std.proofs.Common.{◌≡◌, Some, ap, sym, subst, unwrap_or, length, arith}
 use Rattle.std.proofs.lemmas.List.{length-map, take_all}
 use Rattle.std.specs.List.{AllByRecursion}
 use Rattle.vx_bits.specs.Fields.{first_value}

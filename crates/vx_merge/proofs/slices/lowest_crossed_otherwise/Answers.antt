@@ -1,4 +1,4 @@
-use Rattle.std.proofs.Common.{below_more, inl, inr, arith}
+use Rattle.std.proofs.Common.{below_more, inl, inr}
 use Rattle.vx_merge.specs.Rules.{filter_flags}
 use Rattle.vx_merge.proofs.slices.lowest_crossed_otherwise.Goals as goal
 

@@ -1,6 +1,4 @@
-use Rattle.std.proofs.Common.{◌≡◌, Some, below_more, subst, ap, sym, ◌∙◌, slice_get, arith}
-use Rattle.std.specs.List.{AllByRecursion}
-use Rattle.std.specs.Prelude.{flat_map}
+use Rattle.std.proofs.Common.{below_more, arith}
 use Rattle.vx_merge.specs.Collocated.{collocated}
 use Rattle.vx_merge.specs.Rounds.{SomeUnlikeFirst}
 use Rattle.vx_merge.proofs.Reading.{some_alike_read, some_unlike_read}

@@ -1,4 +1,4 @@
-use Rattle.std.proofs.Common.{◌≡◌, Some, below_more, sym, arith}
+use Rattle.std.proofs.Common.{Some, below_more, sym, arith}
 use Rattle.vx_merge.specs.Rounds.{SomeUnlikeFirst}
 use Rattle.vx_merge.specs.Rules.{outputs_of}
 use Rattle.vx_merge.proofs.Reading.{first_read, some_alike_read, some_unlike_read}

@@ -1,7 +1,6 @@
-use Rattle.std.proofs.Common.{◌≡◌, ap, sym, ◌∙◌, cond, ◌∷◌, []}
+use Rattle.std.proofs.Common.{ap, sym, ◌∙◌, cond, ◌∷◌, []}
 use Rattle.std.specs.Prelude.{◌&&◌}
 use Rattle.vx_pic.specs.Parts.{part_of}
-use Rattle.vx_merge.specs.declared.collocated.Collocated.{Collocated}
 use Rattle.vx_merge.specs.Collocated.{collocated_of, named_by, names_one}
 use Rattle.vx_merge.proofs.Gathered.{piece_is}
 use Rattle.vx_merge.proofs.slices.named_at.Goals as goal

@@ -1,6 +1,5 @@
-use Rattle.std.proofs.Common.{◌≡◌, Some, take, subst, sym, arith}
+use Rattle.std.proofs.Common.{◌≡◌, Some, subst, sym, arith}
 use Rattle.std.specs.List.{AllByRecursion}
-use Rattle.std.specs.Prelude.{flat_map}
 use Rattle.vx_merge.specs.Collocated.{named_by}
 use Rattle.vx_merge.proofs.Gathered.{all_pieces, piece_all, piece_joins}
 use Rattle.vx_merge.proofs.slices.names_other.Goals as goal

@@ -1,4 +1,4 @@
-use Rattle.std.proofs.Common.{◌≡◌, Some, ap, sym, ◌∙◌}
+use Rattle.std.proofs.Common.{Some, ap, sym, ◌∙◌}
 use Rattle.std.specs.Prelude.{option_map}
 use Rattle.std.proofs.lemmas.Option.{slice_get-map}
 use Rattle.vx_bits.specs.Fields.{first_value}
