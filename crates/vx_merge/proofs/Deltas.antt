@@ -1,5 +1,6 @@
 -- Sums of the deltas of entries.
-use Rattle.std.proofs.Common.{◌≡◌, ℕ, ℤ, pos, ◌+◌, ◌+ℤ◌, List, [], ◌∷◌, ◌++◌, take, slice_get, get_or, Some, ap, ◌∙◌, refl}
+use Rattle.std.proofs.Common.{◌≡◌, ℕ, ℤ, pos, neg_ℤ, ◌+◌, ◌+ℤ◌, ◌≤ℤ◌, List, [], ◌∷◌, ◌++◌, take, slice_get, get_or, Some, ap, ◌∙◌, refl, arith}
+use Rattle.std.proofs.lemmas.Grind.{common_steps}
 use Rattle.std.proofs.lemmas.List.{take_more}
 use Rattle.std.proofs.lemmas.Option.{get_or_from_slice_get, slice_get_within}
 use Rattle.vx_rpl.specs.declared.entry.RefEntry.{RefEntry}
@@ -14,3 +15,11 @@ delta_more entries i x at =
     let is : get_or entries i x ≡ x = get_or_from_slice_get entries i x x at in
     ap delta_to (take_more entries i x (slice_get_within entries i x at))
     ∙ (delta_push (pos 0) (take i entries) (get_or entries i x) ∙ ap (λ y. delta_to (take i entries) +ℤ delta_of y) is)
+
+-- ---- how large a sum is
+
+pub low_sum : (a b : ℕ) (s d : ℤ) → neg_ℤ (pos a) ≤ℤ s → neg_ℤ (pos b) ≤ℤ d → neg_ℤ (pos (a + b)) ≤ℤ (s +ℤ d)
+low_sum a b s d l m = grind (arith, common_steps)
+
+pub high_sum : (a b : ℕ) (s d : ℤ) → s ≤ℤ pos a → d ≤ℤ pos b → (s +ℤ d) ≤ℤ pos (a + b)
+high_sum a b s d l m = grind (arith, common_steps)

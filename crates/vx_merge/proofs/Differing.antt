@@ -42,7 +42,7 @@ number_some [] a b of is same = absurd (none-some of is)
 number_some (f ∷ fields) a b of is same =
     let front : number a f ≡ number b f = ap first_number same in
     elim (eqb_tells (number a f) (number b f)) [
-      | inl e ↦ number_some fields a b of (sym (ap (λ t. cond t (differing_number fields a b) (Some f)) e.1) ∙ is) (ap rest same)
+      | inl e ↦ number_some fields a b of (sym (ap (λ t. cond t (differing_number fields a b) (Some f)) e.0) ∙ is) (ap rest same)
       | inr e ↦ absurd (e.1 front)
     ]
 

@@ -179,10 +179,10 @@ fn lowest_crossed(
     ensures { IfOk result (IsLowestAnswer (length corners.now) (IsLinesFault corners.now parts.now)) }
 {
     lines_are_one();
-    match fit_lines(alloc, corners, parts) {
-        Ok(_) => Ok(None),
-        Err(error) => named_region(error),
+    if let Err(error) = fit_lines(alloc, corners, parts) {
+        return named_region(error);
     }
+    Ok(None)
 }
 
 /// Whether tile lines of the frame don't pass through a region as its own do.

@@ -12,8 +12,8 @@ loop-k-preserved c =
     let k = c.loop-k.k in
     let q = c.index-round-k.result in (
       c.in_ok-push.ensures.items ∙ (ap (λ ls. ls ++ c.in_ok-layout.layout ∷ []) c.loop-k.invariant.0
-          ∙ (ap (λ l. take k (layouts_in round) ++ l ∷ []) c.in_ok-layout.ensures ∙ sym (layouts_more round k q c.loop-k-test.true c.index-round-k.is))),
-      sets_more round k q c.loop-k-test.true c.index-round-k.is c.loop-k.invariant.1 c.layout_of.ensures.sets,
+          ∙ (ap (λ l. take k (layouts_in round) ++ l ∷ []) c.in_ok-layout.ensures.layout ∙ sym (layouts_more round k q c.loop-k-test.true c.index-round-k.is))),
+      sets_more round k q c.loop-k-test.true c.index-round-k.is c.loop-k.invariant.1 c.in_ok-layout.ensures.sets,
     )
 
 pub returns-clause-layouts : goal.returns-clause-layouts
