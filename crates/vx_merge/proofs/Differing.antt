@@ -1,5 +1,5 @@
 -- Fields in which sources differ.
-use Rattle.std.proofs.Common.{◌≡◌, ℕ, ◌==◌, ◌<◌, cond, List, [], ◌∷◌, length, get_or, map, Option, Some, None, unwrap_or, refl, ap, sym, ◌∙◌, inl, inr}
+use Rattle.std.proofs.Common.{◌≡◌, ℕ, ◌==◌, ◌<◌, cond, List, [], ◌∷◌, length, get_or, map, Option, Some, None, unwrap_or, refl, ap, sym, ◌∙◌, inl, inr, true, subst}
 use Rattle.std.specs.Prelude.{◌⊎◌}
 use Rattle.std.specs.Option.{option_or}
 use Rattle.std.proofs.lemmas.Bool.{cases_Bool, eqb-true}
@@ -10,7 +10,9 @@ use Rattle.vx_table.specs.Loaded.{number}
 use Rattle.vx_pic.specs.Differences.{differing_field}
 use Rattle.vx_pic.specs.Inputs as inputs
 use Rattle.vx_pic.specs.Parts.{Parts}
-use Rattle.vx_pic.proofs.Comparing.{none_differs, some_differs}
+use Rattle.vx_pic.specs.Sets.{same_items}
+use Rattle.vx_pic.proofs.Comparing.{item_alike, none_differs, some_differs}
+use Rattle.vx_pic.proofs.Sent.{items_are}
 use Rattle.vx_merge.specs.Rounds.{UnlikeFirst, picture_at}
 use Rattle.vx_merge.specs.Rules.{differing_in, differing_number, differing_profile, header_field, kept_header, kept_pps, kept_sps, pps_field, profile_fields, profile_of, sps_field}
 use Rattle.vx_merge.specs.inner.Found.{TellsAt}
@@ -76,6 +78,31 @@ pub tells_two : (X Y : Type 0) (first second : Option ℕ) (absent : ℕ) → Te
 tells_two X Y None None absent left right = λ either. elim either [ inl x ↦ left x | inr y ↦ right y ]
 tells_two X Y None (Some g) absent left right = (inr right, refl)
 tells_two X Y (Some f) second absent left right = (inl left, refl)
+
+-- ---- nothing differs from itself
+
+field_self : (items : List Item) → differing_field items items ≡ None
+field_self [] = refl
+field_self (a ∷ items) = item_alike items items a a refl ∙ field_self items
+
+number_self : (fields : List ℕ) (items : List Item) → differing_number fields items items ≡ None
+number_self [] items = refl
+number_self (f ∷ fields) items =
+    elim (eqb_tells (number items f) (number items f)) [
+      | inl e ↦ ap (λ t. cond t (differing_number fields items items) (Some f)) e.0 ∙ number_self fields items
+      | inr e ↦ absurd (e.1 refl)
+    ]
+
+pub alike_sps : (s t : List Item) → same_items s t ≡ true
+    → None ≡ option_or (differing_field (inputs.sps_fields s) (inputs.sps_fields t)) (differing_number profile_fields s t)
+alike_sps s t same =
+    subst (λ x. None ≡ option_or (differing_field (inputs.sps_fields s) (inputs.sps_fields x)) (differing_number profile_fields s x)) (items_are s t same)
+    (sym (ap (λ o. option_or o (differing_number profile_fields s s)) (field_self (inputs.sps_fields s)) ∙ number_self profile_fields s))
+
+pub alike_pps : (s t kept : List Item) → kept ≡ inputs.pps_fields t → same_items s t ≡ true → None ≡ differing_field (inputs.pps_fields s) kept
+alike_pps s t kept is same =
+    let e : kept ≡ inputs.pps_fields s = is ∙ ap inputs.pps_fields (sym (items_are s t same)) in
+    subst (λ x. None ≡ differing_field (inputs.pps_fields s) x) (sym e) (sym (field_self (inputs.pps_fields s)))
 
 -- ---- the rules
 

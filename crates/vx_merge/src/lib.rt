@@ -15,6 +15,8 @@ mod laws;
 mod merger;
 mod sets;
 mod slices;
+#[cfg(test)]
+mod tests;
 mod told;
 mod verdict;
 

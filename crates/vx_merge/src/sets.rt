@@ -20,6 +20,7 @@ use vx_fields::ptl::{
 use vx_pic::{Picture, differing_field};
 use vx_pps::{Pps, keep_pps};
 use vx_sps::{Sps, keep_sps};
+use vx_write::same_items;
 
 /// The fields of a profile that sources have to share: profile, tier, and whether there are frames alone and one layer alone.
 const PROFILE: [u16; 4] = [
@@ -84,6 +85,9 @@ fn sps_field(
     requires { kept.now ≡ inputs.sps_fields first.now }
     ensures { IfOk result (λ field. field ≡ option_or (differences.differing_field (inputs.sps_fields sps.now) (inputs.sps_fields first.now)) (rules.differing_number rules.profile_fields sps.now first.now)) }
 {
+    if same_items(sps.fields().as_slice(), first.fields().as_slice()) {
+        return Ok(None);
+    }
     let own = keep_sps(alloc, sps)?;
     match differing_field(own.as_slice(), kept.as_slice()) {
         Some(field) => Ok(Some(field)),
@@ -139,9 +143,18 @@ pub(crate) fn sps_tools(alloc: Global, round: &[Picture<'_>]) -> Result<Option<R
 // ---- tools of pictures
 
 /// The field in which a PPS differs from another, of which these are the kept fields.
-fn pps_field(alloc: Global, pps: &Pps, kept: &Fields) -> Result<Option<u16>, AllocError>
+fn pps_field(
+    alloc: Global,
+    pps: &Pps,
+    first: &Pps,
+    kept: &Fields,
+) -> Result<Option<u16>, AllocError>
+    requires { kept.now ≡ inputs.pps_fields first.now }
     ensures { IfOk result (λ field. field ≡ differences.differing_field (inputs.pps_fields pps.now) kept.now) }
 {
+    if same_items(pps.fields().as_slice(), first.fields().as_slice()) {
+        return Ok(None);
+    }
     let own = keep_pps(alloc, pps)?;
     Ok(differing_field(own.as_slice(), kept.as_slice()))
 }
@@ -157,7 +170,7 @@ fn pps_field_at(
     requires kept { kept.now ≡ rules.kept_pps (picture_at round.now 0) }
     ensures { IfOk result (TellsField (rules.pps_tools round.now).breaks (rules.pps_field round.now) k) }
 {
-    let field = pps_field(alloc, round[k].pps(), kept)?;
+    let field = pps_field(alloc, round[k].pps(), round[0].pps(), kept)?;
     Ok(field)
 }
 

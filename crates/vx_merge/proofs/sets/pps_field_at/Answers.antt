@@ -1,10 +1,14 @@
-use Rattle.std.proofs.Common.{ap, ◌∙◌}
+use Rattle.std.proofs.Common.{ap, sym, ◌∙◌, arith}
 use Rattle.vx_pic.specs.Differences.{differing_field}
 use Rattle.vx_pic.specs.Inputs as inputs
 use Rattle.vx_merge.specs.Rounds.{picture_at}
 use Rattle.vx_merge.proofs.Differing.{tells_pps}
 use Rattle.vx_merge.proofs.Reading.{picture_read}
 use Rattle.vx_merge.proofs.sets.pps_field_at.Goals as goal
+
+pub pps_field-requires : goal.pps_field-requires
+pps_field-requires c =
+    c.requires.kept ∙ sym (ap inputs.pps_fields (c.pps-2.ensures ∙ ap (λ q. q.pps) (picture_read c.args.round.now 0 c.index-round-0.result (omega (arith, c.requires.k)) c.index-round-0.is)))
 
 pub returns : goal.returns
 returns c =
