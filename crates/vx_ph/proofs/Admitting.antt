@@ -1,5 +1,5 @@
 -- What a form admits of fields outside a set, part by part; and that it is then rewritten.
-use Rattle.std.proofs.Common.{◌≡◌, ℕ, ℤ, IsTrue, List, [], ◌∷◌, ◌++◌, refl, ap, sym, ◌∙◌}
+use Rattle.std.proofs.Common.{◌≡◌, ℕ, ℤ, List, [], ◌∷◌, ◌++◌, refl, ap, sym, ◌∙◌}
 use Rattle.std.proofs.lemmas.Bool.{both_ways}
 use Rattle.std.proofs.lemmas.List.{append-nil, append_assoc}
 use Rattle.vx_bits.specs.declared.list.Item.{Item}
@@ -7,7 +7,7 @@ use Rattle.vx_table.specs.Forms.{Form, done, field, ◌>>=◌}
 use Rattle.vx_table.specs.Parts.{Section, sections_form}
 use Rattle.vx_table.specs.Spelling.{item_of, items_along}
 use Rattle.vx_table.specs.Values.{Follows, to_end, through}
-use Rattle.vx_table.specs.Depends.{has, Agree, Alike, at_ends, both, hidden_left, hidden_right, IsLeft, Leaves}
+use Rattle.vx_table.specs.Depends.{Agree, Alike, at_ends, both, hidden_left, hidden_right, IsLeft, Leaves}
 use Rattle.vx_table.specs.Shown.{shown_items}
 use Rattle.vx_table.specs.Again.{AllShown, AlwaysShown}
 use Rattle.vx_table.specs.Rewritten.{other_items}

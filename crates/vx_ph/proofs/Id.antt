@@ -1,7 +1,7 @@
 -- The id of the PPS in a picture header.
-use Rattle.std.proofs.Common.{◌≡◌, ℕ, ℤ, ◌<◌, Bool, false, inl, inr, replicate, List, [], ◌∷◌, ◌++◌, drop, slice_index, Ok, Err, refl, sym, ap, subst, ◌∙◌, arith}
-use Rattle.std.proofs.lemmas.List.{append-nil, length-replicate, get_or-replicate, get_or_past}
-use Rattle.std.proofs.lemmas.Bool.{cases_lt, false≢true}
+use Rattle.std.proofs.Common.{◌≡◌, ℕ, ℤ, ◌<◌, Bool, List, [], ◌∷◌, ◌++◌, drop, slice_index, Ok, Err, refl, sym, ap, subst, ◌∙◌, arith}
+use Rattle.std.proofs.lemmas.List.{append-nil, length-replicate}
+use Rattle.std.proofs.lemmas.Bool.{false≢true}
 use Rattle.std.proofs.lemmas.List.Elements.{filter-append}
 use Rattle.vx_bits.specs.declared.list.Item.{Item}
 use Rattle.vx_bits.specs.declared.refusal.Refusal.{Refusal}
@@ -9,10 +9,10 @@ use Rattle.vx_bits.specs.declared.refusal.ReadError.TheVariants.{Refused}
 use Rattle.vx_bits.specs.Place.{Place}
 use Rattle.vx_table.specs.declared.rows.Term.TheVariants.{Latest}
 use Rattle.vx_table.specs.declared.rows.Formula.TheVariants.{Plain}
-use Rattle.vx_table.specs.Scope.{fresh, is_set}
+use Rattle.vx_table.specs.Scope.{fresh}
 use Rattle.vx_table.specs.Forms.{Form, ◌>>=◌, has_value}
 use Rattle.vx_table.specs.Parts.{Section, sections_form}
-use Rattle.vx_table.specs.Spelling.{Spells, at_end, behind, items_along}
+use Rattle.vx_table.specs.Spelling.{Spells, items_along}
 use Rattle.vx_table.specs.Values.{Follows, to_end, through}
 use Rattle.vx_table.specs.Depends.{has, with_all, set_of, Agree, IsLeft, Leaves}
 use Rattle.vx_table.specs.Claims.{knows_formula, knows_width, knows_range, knows_presence, hides_counter, hides_row, behind_field, within_block, depends, behind_rows, table_depends, behind_table, comes_always}
@@ -28,7 +28,6 @@ use Rattle.vx_table.proofs.Loading.{number_of_shown, number_below, sections_load
 use Rattle.vx_table.proofs.Readings.{reads_error}
 use Rattle.vx_table.proofs.Rewrites.{sections_leave, leaves_present, sections_together}
 use Rattle.vx_table.proofs.Shown.{hidden_here}
-use Rattle.vx_table.proofs.Spelled.{is_value}
 use Rattle.vx_fields.specs.declared.ph.TheConstants.{ph_pic_parameter_set_id}
 use Rattle.vx_fields.specs.declared.pps.TheConstants.{pps_rpl_info_in_ph_flag}
 use Rattle.vx_fields.specs.declared.names.ph.TheConstants.{HAS_WEIGHTS}

@@ -9,6 +9,8 @@ pub mod Sets
 pub mod Same
 pub mod Opening
 pub mod Making
+pub mod Renaming
+pub mod Filtering
 mod Maps
 mod Reshaping
 mod Spelling

@@ -7,7 +7,7 @@ use Rattle.vx_table.specs.declared.writer.SpellError.TheVariants as errors
 use Rattle.vx_table.specs.Forms.{Form}
 use Rattle.vx_table.specs.Walks.{Walks, leaving}
 use Rattle.vx_table.specs.Depends.{set_of}
-use Rattle.vx_table.specs.Rewritten.{IsRewritten, Sources, RewritesField, RewritesInto}
+use Rattle.vx_table.specs.Rewritten.{Sources, RewritesField, RewritesInto}
 use Rattle.vx_table.specs.Writing.{IsWritten}
 use Rattle.vx_table.proofs.Rewriting.{makes_rewritten, rewrites}
 use Rattle.vx_ph.specs.inner.Makes.{Makes}

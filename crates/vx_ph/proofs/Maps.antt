@@ -1,12 +1,11 @@
 -- LMCS and scaling lists that are stated go through their table.
-use Rattle.std.proofs.Common.{◌≡◌, ℕ, pos, zero, suc, ◌<◌, ◌^◌, Bool, true, false, List, [], ◌∷◌, ◌++◌, length, slice_index, slice_set, Option, Some, None, replicate, refl, sym, ◌∙◌, arith}
+use Rattle.std.proofs.Common.{◌≡◌, ℕ, pos, zero, suc, ◌<◌, Bool, true, false, List, [], ◌∷◌, ◌++◌, length, slice_index, slice_set, Option, Some, None, refl, sym, arith}
 use Rattle.std.specs.Prelude.{IfSome}
-use Rattle.std.proofs.lemmas.List.{length-replicate, length-set}
 use Rattle.vx_bits.specs.declared.list.Item.{Item}
 use Rattle.vx_table.specs.Scope.{fresh, is_set, natural, one_if, value}
 use Rattle.vx_table.specs.Forms.{after, coding_at, form_of, has_value, limits_at, one_field, part, present}
 use Rattle.vx_table.specs.Spelling.{HasCode, fault_of, item_of}
-use Rattle.vx_table.specs.Values.{IsValueOf, to_end, through}
+use Rattle.vx_table.specs.Values.{to_end, through}
 use Rattle.vx_table.specs.Depends.{Agree, set_of, with_all}
 use Rattle.vx_table.specs.Claims.{behind_field, behind_rows, behind_table, depends, hides_counter, hides_row, knows_formula, knows_presence, knows_range, knows_width, table_depends, within_block}
 use Rattle.vx_table.specs.Named.{named_by}

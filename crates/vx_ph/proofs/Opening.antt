@@ -1,5 +1,5 @@
 -- Anything may follow a picture header, and what is written of a unit is read as its header.
-use Rattle.std.proofs.Common.{◌≡◌, ℕ, ℤ, ◌+◌, ◌*◌, Bool, true, false, not, List, [], ◌∷◌, ◌++◌, length, Ok, refl, ap, sym, subst, ◌∙◌, arith}
+use Rattle.std.proofs.Common.{◌≡◌, ℕ, ℤ, ◌+◌, ◌*◌, Bool, true, false, not, List, [], ◌∷◌, ◌++◌, length, refl, ap, sym, ◌∙◌, arith}
 use Rattle.std.proofs.lemmas.Bool.{not-true}
 use Rattle.std.proofs.lemmas.List.{append-nil}
 use Rattle.vx_bits.specs.Codes.{bits_of}
@@ -12,7 +12,7 @@ use Rattle.vx_table.specs.declared.rows.Row.{Row}
 use Rattle.vx_table.specs.declared.rows.Row.TheVariants.{Field, Block, Name}
 use Rattle.vx_table.specs.Forms.{Form, done, field, ◌>>=◌, coding_at, limits_at, cell_at, after, one_field, part, form_of, has_value}
 use Rattle.vx_table.specs.Spelling.{MayEnd, Spells, code_of, items_along}
-use Rattle.vx_table.specs.Values.{Follows, bits_along, Closes}
+use Rattle.vx_table.specs.Values.{bits_along, Closes}
 use Rattle.vx_table.specs.EachField.{EachField}
 use Rattle.vx_table.specs.Trailing.{is_trailing}
 use Rattle.vx_table.proofs.Apart.{reads_one_way, answers_one_way}

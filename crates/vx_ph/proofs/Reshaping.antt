@@ -1,5 +1,5 @@
 -- There is a rewritten picture header, and it is what is made.
-use Rattle.std.proofs.Common.{◌≡◌, ℕ, ◌<◌, ◌≤◌, true, IsTrue, not, List, [], ◌∷◌, ◌++◌, slice_index, Result, Ok, Err, refl, ap, sym, subst, ◌∙◌, arith}
+use Rattle.std.proofs.Common.{◌≡◌, ℕ, ◌<◌, true, IsTrue, List, slice_index, Result, refl, ap, sym, subst, ◌∙◌, arith}
 use Rattle.vx_bits.specs.declared.list.Item.{Item}
 use Rattle.vx_table.specs.declared.writer.SpellError.{SpellError}
 use Rattle.vx_table.specs.Scope.{fresh}
@@ -10,7 +10,6 @@ use Rattle.vx_table.specs.Loaded.{code_below, number, range_below, row_below}
 use Rattle.vx_table.specs.Rewritten.{IsRewritten, other_items}
 use Rattle.vx_table.specs.Rewrites.{Takes}
 use Rattle.vx_table.specs.Shown.{shown_items}
-use Rattle.vx_table.specs.Spelling.{items_along}
 use Rattle.vx_table.specs.Writing.{IsWritten}
 use Rattle.vx_fields.specs.declared.sps.TheConstants.{sps_chroma_format_idc, sps_explicit_scaling_list_enabled_flag, sps_lmcs_enabled_flag}
 use Rattle.vx_fields.specs.declared.pps.TheConstants.{pps_alf_info_in_ph_flag, pps_qp_delta_info_in_ph_flag}

@@ -1,5 +1,5 @@
 -- A picture header goes again with its kept fields, another id of the PPS, other LMCS and scaling lists, and neither filter nor QP.
-use Rattle.std.proofs.Common.{◌≡◌, ℕ, ℤ, pos, ◌≤◌, Bool, true, false, ◌&&◌, ◌==◌, List, [], ◌∷◌, ◌++◌, slice_index, refl, sym, ◌∙◌, arith}
+use Rattle.std.proofs.Common.{◌≡◌, ℕ, pos, ◌≤◌, Bool, true, false, ◌&&◌, ◌==◌, List, [], ◌∷◌, ◌++◌, slice_index, refl, sym, ◌∙◌, arith}
 use Rattle.std.specs.Prelude.{IsTrue, int_le}
 use Rattle.std.proofs.lemmas.Bool.{le-leb}
 use Rattle.std.proofs.lemmas.List.{append-nil}
@@ -86,10 +86,10 @@ no_filter : (b : Bool) → (one_if (b && false) == 0) ≡ true
 no_filter true = refl
 no_filter false = refl
 
-filter_if : List ℕ → Form (List ℕ)
+unfoldable pub filter_if : List ℕ → Form (List ℕ)
 filter_if = present (When (Both (Latest sps_alf_enabled_flag) (Latest pps_alf_info_in_ph_flag))) (form_of ALF)
 
-filter_section : Section
+abbrev pub filter_section : Section
 filter_section = provided (Both (Latest sps_alf_enabled_flag) (Latest pps_alf_info_in_ph_flag)) ALF
 
 filter_leaves : (set : List ℕ) → hides set ALF ≡ true → Leaves set filter_if
@@ -128,7 +128,7 @@ maps_add t maps takes = adds_all (once LMCS_AND_SCALING) maps (once_leaves names
 
 front_adds : (t : List ℕ) (id : ℕ) (maps : List Item) → id ≤ 63 → Takes (form_of LMCS_AND_SCALING t) maps → slice_index t pps_alf_info_in_ph_flag ≡ 0
     → Adds names read t (sections_form front) (id_item id ∷ (maps ++ []))
-unfolding sections_form once filter_if filter_section names read fresh hides_counter hides_row shows_row
+unfolding sections_form once filter_if names read fresh hides_counter hides_row shows_row
 front_adds t id maps small takes apart =
     let last = adds_none (sections_form (always OUTPUT ∷ [])) (sections_show names (always OUTPUT ∷ []) refl) (sections_leave read (always OUTPUT ∷ []) refl) in
     adds_then (once PICTURE) (sections_form (always PPS_ID ∷ always ORDER_COUNT ∷ filter_section ∷ always LMCS_AND_SCALING ∷ always OUTPUT ∷ [])) [] (id_item id ∷ (maps ++ [])) (once_adds t PICTURE refl refl)

@@ -5,4 +5,5 @@ pub mod InForce
 pub mod Depends
 pub mod Picture
 pub mod Reshaped
+pub mod Filter
 pub mod inner

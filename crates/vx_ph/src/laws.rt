@@ -1,5 +1,6 @@
 //! Laws of picture headers: functions that do nothing, each with a law as its contract.
 ghost use Rattle.vx_ph.specs.Depends.{KeptDepend, AllDepend, KeepsKept, ShowsAll, FieldsAreCodedOnce, HeaderReadAgain, HeaderRewrites};
+ghost use Rattle.vx_ph.specs.Filter.{FilterGoesAgain, HeaderHasFilter};
 ghost use Rattle.vx_ph.specs.Id.{HeaderHasId};
 ghost use Rattle.vx_ph.specs.InForce.{SetsAgree};
 ghost use Rattle.vx_ph.specs.Picture.{UnitIsRead};
@@ -52,4 +53,10 @@ pub fn same_kept_agree()
 /// What is written of a unit is read as its header.
 pub fn unit_is_read()
     ensures { UnitIsRead }
+{}
+
+/// A filter goes through again with other ids of its sets; that of a picture header goes through.
+pub fn filter_goes_again()
+    ensures again { FilterGoesAgain }
+    ensures header { HeaderHasFilter }
 {}
