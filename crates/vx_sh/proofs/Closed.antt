@@ -1,39 +1,29 @@
 -- Anything may follow a slice header; and what is written of it is read again.
-use Rattle.std.proofs.Common.{◌≡◌, ℕ, ℤ, ◌+◌, ◌*◌, Bool, true, false, not, List, [], ◌∷◌, ◌++◌, length, refl, ap, sym, subst, ◌∙◌, arith}
-use Rattle.std.proofs.lemmas.Bool.{not-true}
+use Rattle.std.proofs.Common.{◌≡◌, ℕ, ℤ, ◌+◌, ◌*◌, Bool, List, [], ◌∷◌, ◌++◌, length, refl, ap, sym, subst, ◌∙◌, arith}
 use Rattle.std.proofs.lemmas.List.{length-append, take_at}
 use Rattle.vx_bits.specs.declared.list.Item.{Item}
 use Rattle.vx_bits.specs.Codes.{bits_of, EndsInNoZero}
 use Rattle.vx_table.specs.Scope.{is_set}
 use Rattle.vx_bits.proofs.Bits.{length-bits_of, bits_of-append}
 use Rattle.vx_table.specs.declared.rows.Term.TheVariants.{Latest}
-use Rattle.vx_table.specs.declared.rows.Formula.{Formula}
 use Rattle.vx_table.specs.declared.rows.Formula.TheVariants.{Plain}
-use Rattle.vx_table.specs.declared.rows.Coding.{Coding}
-use Rattle.vx_table.specs.declared.rows.Coding.TheVariants.{Fixed, Golomb, SignedGolomb, Zeros, OneAndZeros, Trailing, Absent, Refused}
-use Rattle.vx_table.specs.declared.rows.Cell.{Cell}
 use Rattle.vx_table.specs.declared.rows.Presence.TheVariants.{When}
-use Rattle.vx_table.specs.declared.rows.Row.{Row}
-use Rattle.vx_table.specs.declared.rows.Row.TheVariants.{Field, Block, Name}
-use Rattle.vx_table.specs.Forms.{Form, done, field, ◌>>=◌, coding_at, cell_at, form_of}
-use Rattle.vx_table.specs.Spelling.{MayEnd, Spells, code_of, items_along}
+use Rattle.vx_table.specs.Forms.{Form, done, field, ◌>>=◌, form_of}
+use Rattle.vx_table.specs.Spelling.{Spells, code_of, items_along}
 use Rattle.vx_table.specs.Values.{Follows, to_end, through, bits_along, Closes}
 use Rattle.vx_table.specs.EachField.{EachField}
 use Rattle.vx_table.specs.Trailing.{is_trailing}
 use Rattle.vx_table.proofs.Apart.{reads_one_way}
-use Rattle.vx_table.proofs.EachField.{each_then, each_present, each_of_rows, each_of_sections}
+use Rattle.vx_table.proofs.EachField.{each_then, each_present, each_of_rows}
 use Rattle.vx_table.proofs.Joined.{joined}
 use Rattle.vx_table.proofs.Spelled.{reads_back}
 use Rattle.vx_fields.specs.declared.sh.TheConstants.{sh_picture_header_in_slice_header_flag}
 use Rattle.vx_rpl.specs.declared.entry.RplTable.{RplTable}
-use Rattle.vx_rpl.specs.Lists.{weights}
-use Rattle.vx_rpl.proofs.Passing.{lists_each}
 use Rattle.vx_ph.specs.Header.{header_form}
 use Rattle.vx_ph.proofs.Opening.{Opens, header_opens, row_is_open, row_opens}
-use Rattle.vx_sh.specs.declared.tables.TheConstants.{HEADER_INSIDE, SUBPIC_ID, KNOWN_SUBPIC, ADDRESS}
-use Rattle.vx_sh.specs.Slice.{before_lists, between, behind_weights, rest_form}
-use Rattle.vx_sh.specs.Whole.{At, located, id_form, subpic_form, points_of, there, behind_header, header_inside, slice_form}
-use Rattle.vx_sh.specs.Value.{AreFields, values_of, IsSpelling, BeginsSlice, SpellingIsRead, SpellingBegins}
+use Rattle.vx_sh.specs.declared.tables.TheConstants.{HEADER_INSIDE}
+use Rattle.vx_sh.specs.Whole.{At, behind_header, header_inside, slice_form}
+use Rattle.vx_sh.specs.Value.{AreFields, values_of, IsSpelling, SpellingIsRead, SpellingBegins}
 use Rattle.vx_sh.proofs.Depending.{Pass, behind_each}
 use Rattle.vx_sh.proofs.Sized.{all_follow}
 use Rattle.vx_sh.proofs.Told.{numbers_are_told}

@@ -1,5 +1,5 @@
 -- What is known goes along a slice header behind the id, part by part.
-use Rattle.std.proofs.Common.{◌≡◌, ℕ, Bool, true, IsTrue, List, slice_index, slice_set, ap, sym}
+use Rattle.std.proofs.Common.{◌≡◌, ℕ, Bool, true, IsTrue, List, slice_index, ap, sym}
 use Rattle.vx_table.specs.declared.rows.Cell.{Cell}
 use Rattle.vx_table.specs.declared.rows.Formula.{Formula}
 use Rattle.vx_table.specs.declared.rows.Row.{Row}
@@ -7,7 +7,7 @@ use Rattle.vx_table.specs.declared.rows.Row.TheVariants.{Field}
 use Rattle.vx_table.specs.declared.rows.Term.TheVariants.{Latest}
 use Rattle.vx_table.specs.declared.rows.Formula.TheVariants.{Plain}
 use Rattle.vx_table.specs.declared.rows.Presence.TheVariants.{When}
-use Rattle.vx_table.specs.Forms.{Form, done, ◌>>=◌, present, cell_at, form_of}
+use Rattle.vx_table.specs.Forms.{done, ◌>>=◌, cell_at, form_of}
 use Rattle.vx_table.specs.Parts.{sections_form}
 use Rattle.vx_table.specs.EachField.{EachField, rows_pass, sections_pass}
 use Rattle.vx_table.specs.Depends.{has, at_ends, Carries}

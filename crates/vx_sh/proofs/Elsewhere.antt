@@ -1,19 +1,15 @@
 -- A slice header is read at another place that agrees with its own.
-use Rattle.std.proofs.Common.{◌≡◌, ◌≢◌, inl, inr, ℕ, ℤ, pos, negsuc, ◌<◌, ◌*◌, Bool, true, false, cond, ◌==◌, nat_le, IsTrue, None, Some, List, [], ◌∷◌, ◌++◌, length, slice_index, slice_set, refl, ap, sym, subst, ◌∙◌, arith}
+use Rattle.std.proofs.Common.{◌≡◌, inl, inr, ℕ, ℤ, ◌<◌, ◌*◌, Bool, false, ◌==◌, nat_le, List, [], ◌∷◌, ◌++◌, length, slice_index, slice_set, refl, ap, sym, subst, ◌∙◌}
 use Rattle.std.proofs.lemmas.Bool.{cases_Bool, lt-leb}
-use Rattle.std.proofs.lemmas.Grind.{get_or-set_at}
-use Rattle.std.proofs.lemmas.List.{append-nil, length-set, get_or-set_other}
+use Rattle.std.proofs.lemmas.List.{get_or-set_other}
 use Rattle.vx_bits.specs.declared.list.Item.{Item}
 use Rattle.vx_bits.specs.Codes.{bits_of}
-use Rattle.vx_table.specs.declared.rows.Fault.{Fault}
-use Rattle.vx_table.specs.declared.rows.Limits.TheVariants.{Below}
 use Rattle.vx_table.specs.Scope.{fresh, is_set, value}
-use Rattle.vx_table.specs.declared.rows.Cell.{Cell}
-use Rattle.vx_table.specs.Forms.{Form, done, field, ◌>>=◌, has_value, coding_at, limits_at, one_field, part, present, form_of}
+use Rattle.vx_table.specs.Forms.{Form, done, ◌>>=◌, has_value, part, present, form_of}
 use Rattle.vx_table.specs.Parts.{sections_form}
-use Rattle.vx_table.specs.Spelling.{HasCode, fault_of, Spells, items_along}
-use Rattle.vx_table.specs.Values.{IsValueOf, Follows, to_end, through, Parted}
-use Rattle.vx_table.specs.Depends.{has, with_all, set_of, Inside, Agree, Alike, at_ends}
+use Rattle.vx_table.specs.Spelling.{Spells, items_along}
+use Rattle.vx_table.specs.Values.{Follows, Parted}
+use Rattle.vx_table.specs.Depends.{with_all, set_of, Inside, Agree, Alike, at_ends}
 use Rattle.vx_table.specs.Claims.{knows_formula, knows_width, knows_range, knows_presence, hides_counter, hides_row, behind_field, within_block, depends, table_depends, behind_rows, behind_table}
 use Rattle.vx_table.specs.Again.{AllShown, shows_row}
 use Rattle.vx_table.specs.Loaded.{number}
@@ -37,11 +33,11 @@ use Rattle.vx_ph.proofs.Carrying as ph_carrying
 use Rattle.vx_ph.proofs.Passing as ph_passing
 use Rattle.vx_sh.specs.declared.header.SliceHeader.{SliceHeader}
 use Rattle.vx_sh.specs.declared.tables.TheConstants.{HEADER_INSIDE, SUBPIC_ID, KNOWN_SUBPIC, ADDRESS}
-use Rattle.vx_sh.specs.Depends.{all_given, all_fields}
+use Rattle.vx_sh.specs.Depends.{all_given}
 use Rattle.vx_sh.specs.Slice.{with_entry_points, address_form, before_lists, lists_here, between, weights_here, behind_weights, front_form, before_weights, rest_form}
-use Rattle.vx_sh.specs.Whole.{At, index_of, slices_at, located, id_form, subpic_form, points_at, points_of, there, behind_header, header_inside, slice_form}
-use Rattle.vx_sh.specs.Value.{AreFields, values_of, HasNumbers, BeginsSlice}
-use Rattle.vx_sh.specs.Elsewhere.{given, HaveSubpicture, AgreeAt, IsSameSlice, SliceReadElsewhere}
+use Rattle.vx_sh.specs.Whole.{At, index_of, slices_at, located, id_form, subpic_form, points_of, there, behind_header, header_inside, slice_form}
+use Rattle.vx_sh.specs.Value.{AreFields, values_of, BeginsSlice}
+use Rattle.vx_sh.specs.Elsewhere.{given, HaveSubpicture, IsSameSlice, SliceReadElsewhere}
 use Rattle.vx_sh.proofs.Kept.{all_depend, all_are_shown}
 use Rattle.vx_sh.proofs.Told.{done_is, known_leaves, only_subpic, id_is, id_size, inside_size, located_is, count_is, refused, numbers_are_told}
 use Rattle.vx_sh.proofs.Writable.{nothing_inside, something_inside}

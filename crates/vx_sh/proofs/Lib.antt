@@ -18,3 +18,4 @@ pub mod SameScopes
 mod Stating
 mod Reshaping
 mod Reshaped
+mod Filtering

@@ -1,18 +1,15 @@
 -- A slice header rewritten under what is in force.
-use Rattle.std.proofs.Common.{◌≡◌, ℕ, ℤ, pos, ◌<◌, ◌≤◌, Bool, true, false, not, IsTrue, List, [], ◌∷◌, ◌++◌, length, slice_index, Result, refl, ap, sym, subst, ◌∙◌, arith}
+use Rattle.std.proofs.Common.{◌≡◌, ℕ, ◌<◌, ◌≤◌, true, false, List, [], ◌∷◌, ◌++◌, length, slice_index, Result, refl, ap, sym, subst, ◌∙◌, arith}
 use Rattle.vx_bits.specs.declared.list.Item.{Item}
 use Rattle.vx_table.specs.declared.rows.Cell.{Cell}
 use Rattle.vx_table.specs.declared.rows.Formula.{Formula}
 use Rattle.vx_table.specs.declared.rows.Row.TheVariants.{Field}
 use Rattle.vx_table.specs.declared.writer.SpellError.{SpellError}
-use Rattle.vx_table.specs.Scope.{fresh, is_set, one_if}
-use Rattle.vx_table.specs.Forms.{cell_at, has_value, one_field, part, form_of, ◌>>=◌}
-use Rattle.vx_table.specs.Parts.{sections_form}
-use Rattle.vx_table.specs.Spelling.{items_along}
-use Rattle.vx_table.specs.Depends.{Agree, has, set_of}
+use Rattle.vx_table.specs.Scope.{fresh, is_set}
+use Rattle.vx_table.specs.Forms.{cell_at, has_value, one_field, part, form_of}
+use Rattle.vx_table.specs.Depends.{set_of}
 use Rattle.vx_table.specs.Loaded.{StaysBelow, code_below, number, range_below, row_below}
 use Rattle.vx_table.specs.Rewritten.{IsRewritten, other_items}
-use Rattle.vx_table.specs.Shown.{shown_items}
 use Rattle.vx_table.specs.Writing.{IsWritten}
 use Rattle.vx_table.proofs.Joined.{items_joined, joined}
 use Rattle.vx_table.proofs.Loading.{number_below, number_of_shown, tables_stay_below}
@@ -41,7 +38,7 @@ use Rattle.vx_sh.specs.Depends.{kept_fields}
 use Rattle.vx_sh.specs.InForce.{at_sets, in_force_at, slice_scope}
 use Rattle.vx_sh.specs.Reshaped.{AreReshaped, GoesAt, HaveSameSlices, IsReshaped, IsShape, stated}
 use Rattle.vx_sh.specs.Value.{IsSliceOf, TellsNumbers}
-use Rattle.vx_sh.specs.Whole.{At, apart_form, behind_header, header_inside, index_of}
+use Rattle.vx_sh.specs.Whole.{apart_form, behind_header, header_inside, index_of}
 use Rattle.vx_sh.proofs.Reshaping as core
 use Rattle.vx_sh.proofs.Reshaping.{kept_there}
 use Rattle.vx_sh.proofs.SameScopes.{header_told, pps_told, slices_agree_on_kept, sps_told}

@@ -1,5 +1,5 @@
 -- There is a rewritten slice header, and it is what is made.
-use Rattle.std.proofs.Common.{◌≡◌, ℕ, ℤ, pos, ◌+◌, ◌<◌, ◌≤◌, ◌^◌, ◌==◌, ◌||◌, Bool, true, false, cond, not, IsFalse, IsTrue, List, [], ◌∷◌, ◌++◌, length, slice_index, slice_set, inl, inr, Result, refl, ap, sym, subst, ◌∙◌, arith}
+use Rattle.std.proofs.Common.{◌≡◌, ℕ, ℤ, pos, ◌+◌, ◌<◌, ◌≤◌, ◌^◌, ◌==◌, ◌||◌, Bool, true, false, not, IsFalse, IsTrue, List, [], ◌∷◌, ◌++◌, length, slice_index, slice_set, inl, inr, refl, ap, sym, subst, ◌∙◌, arith}
 use Rattle.std.proofs.Math.Path.{fun_ext}
 use Rattle.std.proofs.lemmas.Bool.{cases_Bool, eqb-true, not-true, or_cases}
 use Rattle.std.proofs.lemmas.Grind.{get_or-set_at}
@@ -10,31 +10,27 @@ use Rattle.vx_bits.specs.declared.list.Item.{Item}
 use Rattle.vx_bits.proofs.Bits.{pow_le}
 use Rattle.vx_table.specs.declared.rows.Cell.{Cell}
 use Rattle.vx_table.specs.declared.rows.Formula.{Formula}
-use Rattle.vx_table.specs.declared.rows.Row.{Row}
 use Rattle.vx_table.specs.declared.rows.Row.TheVariants.{Field}
-use Rattle.vx_table.specs.declared.writer.SpellError.{SpellError}
 use Rattle.vx_table.specs.Scope.{fresh, is_set, natural, one_if}
-use Rattle.vx_table.specs.Forms.{Form, done, ◌>>=◌, form_of}
-use Rattle.vx_table.specs.EachField.{EachField, rows_pass}
+use Rattle.vx_table.specs.Forms.{Form, done, form_of}
+use Rattle.vx_table.specs.EachField.{rows_pass}
 use Rattle.vx_table.specs.Parts.{sections_form}
 use Rattle.vx_table.specs.Spelling.{items_along}
-use Rattle.vx_table.specs.Values.{Follows, Parted, to_end}
+use Rattle.vx_table.specs.Values.{Follows, to_end}
 use Rattle.vx_table.specs.Claims.{hides_counter, hides_row}
-use Rattle.vx_table.specs.Depends.{Agree, Leaves, has, set_of, with_all}
+use Rattle.vx_table.specs.Depends.{Agree, Leaves, has, set_of}
 use Rattle.vx_table.specs.Loaded.{number}
 use Rattle.vx_table.specs.Rewritten.{IsRewritten, other_items}
 use Rattle.vx_table.specs.Rewrites.{Takes}
 use Rattle.vx_table.specs.Shown.{shown_items}
-use Rattle.vx_table.specs.Writing.{IsWritten}
 use Rattle.vx_table.proofs.Agreeing.{agree_back, agree_on}
-use Rattle.vx_table.proofs.EachField.{each_of_rows, each_then}
+use Rattle.vx_table.proofs.EachField.{each_of_rows}
 use Rattle.vx_table.proofs.Joined.{items_joined, joined, parted}
-use Rattle.vx_table.proofs.Loading.{number_of_shown}
 use Rattle.vx_table.proofs.Rewrites.{leaves_agree, leaves_together, tables_leave}
 use Rattle.vx_fields.specs.declared.sps.TheConstants.{sps_alf_enabled_flag, sps_ccalf_enabled_flag, sps_chroma_format_idc, sps_entropy_coding_sync_enabled_flag, sps_entry_point_offsets_present_flag, sps_subpic_id_len_minus1, sps_subpic_info_present_flag}
 use Rattle.vx_fields.specs.declared.pps.TheConstants.{pps_alf_info_in_ph_flag, pps_qp_delta_info_in_ph_flag}
 use Rattle.vx_fields.specs.declared.ph.TheConstants.{ph_explicit_scaling_list_enabled_flag, ph_lmcs_enabled_flag}
-use Rattle.vx_fields.specs.declared.sh.TheConstants.{sh_explicit_scaling_list_used_flag, sh_lmcs_used_flag, sh_picture_header_in_slice_header_flag, sh_slice_address, sh_subpic_id}
+use Rattle.vx_fields.specs.declared.sh.TheConstants.{sh_explicit_scaling_list_used_flag, sh_lmcs_used_flag, sh_picture_header_in_slice_header_flag, sh_subpic_id}
 use Rattle.vx_fields.specs.declared.names.sh.TheConstants.{NUM_SLICES, NUM_SUBPICS, SUBPIC}
 use Rattle.vx_layout.specs.declared.numbers.Numbers.{Numbers}
 use Rattle.vx_rpl.specs.declared.entry.RplTable.{RplTable}
@@ -45,15 +41,15 @@ use Rattle.vx_ph.specs.declared.tables.TheConstants.{ALF}
 use Rattle.vx_ph.proofs.Telling.{Alike, alike_items, of_fields, tells, told}
 use Rattle.vx_sh.specs.declared.tables.TheConstants.{HEADER_INSIDE, KNOWN_SUBPIC, STARRED, SUBPIC_ID}
 use Rattle.vx_sh.specs.Slice.{own, qp, rest_form}
-use Rattle.vx_sh.specs.Whole.{At, apart_form, behind_header, header_inside, id_form, index_of, located, points_at, points_of, slices_at, subpic_form, there}
-use Rattle.vx_sh.specs.Value.{AreFields, values_of}
+use Rattle.vx_sh.specs.Whole.{At, behind_header, header_inside, id_form, index_of, located, points_at, points_of, slices_at, subpic_form, there}
+use Rattle.vx_sh.specs.Value.{AreFields}
 use Rattle.vx_sh.specs.Depends.{kept_fields, kept_given}
 use Rattle.vx_sh.specs.Again.{kept}
 use Rattle.vx_sh.specs.Reshaped.{HaveSameSlices, kept_in_force, qp_items}
 use Rattle.vx_sh.proofs.Depending.{Pass, RestPass, behind_each, rest_passes, subpic_passes}
 use Rattle.vx_sh.proofs.Rewritten.{slices_rewrite}
 use Rattle.vx_sh.proofs.Stating.{apart_items, apart_there, id_there, known_there, no_items, own_takes, qp_takes}
-use Rattle.vx_sh.proofs.Told.{count_is, done_is, id_is, id_size, in_first, in_second, inside_size, known_items, located_is, located_leaves, only_id, only_inside, rest_leaves}
+use Rattle.vx_sh.proofs.Told.{count_is, done_is, id_is, id_size, in_first, in_second, inside_size, located_is, located_leaves, only_id, only_inside}
 use Rattle.vx_sh.proofs.Writable.{nothing_inside}
 
 -- ---- items of slice headers whose fields two tests tell alike
@@ -112,7 +108,7 @@ first_leaves : Leaves kept_there (form_of HEADER_INSIDE)
 unfolding fresh hides_counter hides_row kept_there
 first_leaves = tables_leave kept_there HEADER_INSIDE refl
 
-subpic_leaves : (names : List ℕ) (ids : List ℕ) (layout : Numbers) → Leaves names (form_of SUBPIC_ID) → Leaves names (form_of KNOWN_SUBPIC) → IsFalse (has names NUM_SUBPICS) → IsFalse (has names SUBPIC)
+pub subpic_leaves : (names : List ℕ) (ids : List ℕ) (layout : Numbers) → Leaves names (form_of SUBPIC_ID) → Leaves names (form_of KNOWN_SUBPIC) → IsFalse (has names NUM_SUBPICS) → IsFalse (has names SUBPIC)
     → IsFalse (has names NUM_SLICES) → Leaves names (subpic_form ids layout)
 unfolding id_form subpic_form
 subpic_leaves names ids layout id known a b c = leaves_together names (id_form ids layout) (form_of KNOWN_SUBPIC)

@@ -6,10 +6,10 @@ use Rattle.vx_table.specs.declared.rows.Term.TheVariants.{Latest}
 use Rattle.vx_table.specs.declared.rows.Formula.TheVariants.{Plain}
 use Rattle.vx_table.specs.declared.rows.Presence.TheVariants.{When}
 use Rattle.vx_table.specs.Scope.{fresh}
-use Rattle.vx_table.specs.Forms.{Form, done, ◌>>=◌, has_value, form_of}
+use Rattle.vx_table.specs.Forms.{done, ◌>>=◌, has_value, form_of}
 use Rattle.vx_table.specs.Parts.{Section, always, sections_form}
 use Rattle.vx_table.specs.Spelling.{items_along}
-use Rattle.vx_table.specs.Depends.{has, with_all, set_of, Agree, Leaves}
+use Rattle.vx_table.specs.Depends.{has, with_all, set_of}
 use Rattle.vx_table.specs.Claims.{knows_formula, knows_width, knows_range, knows_presence, hides_counter, hides_row, behind_field, within_block, depends, table_depends, behind_rows, behind_table, comes_always, behind_sections}
 use Rattle.vx_table.specs.Again.{shows_row}
 use Rattle.vx_table.specs.Rewrites.{Takes}

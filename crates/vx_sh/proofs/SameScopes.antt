@@ -1,5 +1,5 @@
 -- Slices under sets and picture headers with the same kept fields find the same numbers in them.
-use Rattle.std.proofs.Common.{◌≡◌, ◌≢◌, ℕ, ◌<◌, ◌≤◌, ◌||◌, true, Bool, IsFalse, IsTrue, List, length, slice_index, slice_set, inl, inr, refl, ap, sym, ◌∙◌, arith}
+use Rattle.std.proofs.Common.{◌≡◌, ℕ, ◌<◌, ◌≤◌, ◌||◌, true, Bool, IsFalse, List, length, slice_index, inl, inr, refl, ap, sym, ◌∙◌, arith}
 use Rattle.std.specs.Prelude.{nat_lt}
 use Rattle.std.proofs.lemmas.Bool.{both_ways, ltb-true, or_cases}
 use Rattle.std.proofs.lemmas.List.{get_or-set_other}
@@ -16,7 +16,6 @@ use Rattle.vx_pps.proofs.Fields.{all_pass, passes}
 use Rattle.vx_ph.specs.declared.header.PictureHeader.{PictureHeader}
 use Rattle.vx_ph.specs.Depends as ph
 use Rattle.vx_ph.specs.InForce.{in_force}
-use Rattle.vx_ph.specs.Reshaped.{HaveSameKept}
 use Rattle.vx_ph.proofs.Same.{active, extra_sh, of_pps, of_sps, pps_numbers, sps_numbers}
 use Rattle.vx_sh.specs.InForce.{beside, slice_scope}
 use Rattle.vx_sh.specs.Reshaped.{AreSameForSlices, SlicesAgreeOnKept, kept_in_force}

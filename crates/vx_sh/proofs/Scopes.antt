@@ -1,5 +1,5 @@
 -- Scopes of slices under sets and picture headers that give fields the same numbers.
-use Rattle.std.proofs.Common.{◌≡◌, ◌≢◌, ℕ, ◌<◌, ◌≤◌, false, IsTrue, IsFalse, List, [], ◌∷◌, length, slice_index, slice_set, inl, inr, refl, sym, ◌∙◌, arith}
+use Rattle.std.proofs.Common.{◌≡◌, ◌≢◌, ℕ, ◌<◌, ◌≤◌, IsTrue, IsFalse, List, [], ◌∷◌, length, slice_index, slice_set, inl, inr, refl, sym, ◌∙◌, arith}
 use Rattle.std.specs.Prelude.{All}
 use Rattle.std.proofs.lemmas.Bool.{cases_Bool, cases_eq, cases_lt}
 use Rattle.std.proofs.lemmas.Grind.{get_or-set_at}
@@ -13,14 +13,12 @@ use Rattle.vx_fields.specs.declared.names.rpl.TheConstants.{ENTRIES_0, ENTRIES_1
 use Rattle.vx_fields.specs.declared.names.sh.TheConstants.{NAL_TYPE, EXTRA_SH_BITS, DEFAULT_ACTIVE_0, DEFAULT_ACTIVE_1}
 use Rattle.vx_fields.specs.declared.pps.TheConstants.{pps_pic_parameter_set_id}
 use Rattle.vx_fields.specs.declared.ph.TheConstants.{ph_gdr_or_irap_pic_flag}
-use Rattle.vx_fields.specs.declared.names.ph.TheConstants.{EXTRA_PH_BITS}
 use Rattle.vx_sps.specs.Set.{extra_sh_bits_of}
 use Rattle.vx_pps.specs.Pps.{default_active}
-use Rattle.vx_ph.specs.declared.header.PictureHeader.{PictureHeader}
 use Rattle.vx_ph.specs.InForce.{in_force}
 use Rattle.vx_pps.proofs.Fields.{named}
 use Rattle.vx_ph.proofs.Sets.{joined_length, joined_below, joined_from, fresh_length, in_force_length, of_sps, of_pps}
-use Rattle.vx_sh.specs.InForce.{slice_scope, beside, SliceScopesAgree, SliceScopesAreWhole}
+use Rattle.vx_sh.specs.InForce.{beside, SliceScopesAgree, SliceScopesAreWhole}
 
 -- ---- the sets' numbers and the header's
 

@@ -1,9 +1,8 @@
 -- How many bytes a slice header takes.
-use Rattle.std.proofs.Common.{◌≡◌, ℕ, ℤ, ◌+◌, ◌-◌, ◌*◌, ◌/◌, ◌%◌, ◌≤◌, Bool, List, ◌++◌, length, take, sym, subst, ap, ◌∙◌, arith}
+use Rattle.std.proofs.Common.{◌≡◌, ℕ, ℤ, ◌+◌, ◌-◌, ◌*◌, ◌/◌, ◌≤◌, Bool, List, ◌++◌, length, take, sym, subst, ap, ◌∙◌, arith}
 use Rattle.std.proofs.lemmas.List.{length-append, take_at}
 use Rattle.vx_bits.specs.declared.list.Item.{Item}
 use Rattle.vx_bits.specs.Codes.{bits_of, EndsInNoZero}
-use Rattle.vx_bits.specs.Place.{Place}
 use Rattle.vx_bits.proofs.Bits.{length-bits_of}
 use Rattle.vx_bits.proofs.EightBytes.{take-bits_of}
 use Rattle.vx_table.specs.Spelling.{Spells}

@@ -1,24 +1,20 @@
 -- The fields of picture headers and slice headers that name adaptation parameter sets have at most three bits.
-use Rattle.std.proofs.Common.{◌≡◌, inl, inr, ℕ, ℤ, ◌<◌, true, List, [], ◌∷◌, ◌++◌, refl, sym, subst, arith}
+use Rattle.std.proofs.Common.{◌≡◌, ℕ, ℤ, true, List, [], ◌∷◌, refl, sym, subst, arith}
 use Rattle.std.specs.Prelude.{All}
-use Rattle.std.proofs.lemmas.Bool.{cases_Bool}
-use Rattle.std.proofs.lemmas.List.Elements.{All-nil, All-cons, All-append}
+use Rattle.std.proofs.lemmas.List.Elements.{All-append}
 use Rattle.vx_bits.specs.declared.list.Item.{Item}
 use Rattle.vx_table.specs.declared.rows.Formula.{Formula}
 use Rattle.vx_table.specs.declared.rows.Cell.{Cell}
 use Rattle.vx_table.specs.declared.rows.Row.TheVariants.{Field}
-use Rattle.vx_table.specs.Scope.{natural}
-use Rattle.vx_table.specs.Forms.{Form, has_value, cell_at, one_field, part, form_of}
-use Rattle.vx_table.specs.EachField.{EachField, rows_pass}
-use Rattle.vx_table.specs.Spelling.{item_of, items_along}
-use Rattle.vx_table.specs.Values.{Follows, to_end, through}
+use Rattle.vx_table.specs.Forms.{has_value, cell_at, one_field, part, form_of}
+use Rattle.vx_table.specs.EachField.{rows_pass}
+use Rattle.vx_table.specs.Spelling.{items_along}
 use Rattle.vx_table.specs.Loaded.{IsBelow, StaysBelow, code_below, range_below, row_below}
 use Rattle.vx_table.proofs.EachField.{each_of_rows}
 use Rattle.vx_table.proofs.Loading.{below, tables_stay_below}
 use Rattle.vx_fields.specs.declared.alf.TheConstants as alf
 use Rattle.vx_fields.specs.declared.ph.TheConstants as ph
 use Rattle.vx_rpl.specs.declared.entry.RplTable.{RplTable}
-use Rattle.vx_ph.specs.Header.{header_form}
 use Rattle.vx_ph.specs.Picture as picture
 use Rattle.vx_ph.proofs.Passing as header
 use Rattle.vx_sh.specs.declared.tables.TheConstants.{HEADER_INSIDE}

@@ -1,6 +1,6 @@
 -- What is stated of a slice header goes through.
-use Rattle.std.proofs.Common.{◌≡◌, ℕ, ℤ, pos, zero, suc, ◌+◌, ◌<◌, ◌≤◌, ◌^◌, ◌==◌, Bool, true, false, cond, not, nat_le, List, [], ◌∷◌, ◌++◌, length, slice_index, slice_set, min, inl, inr, refl, ap, sym, subst, ◌∙◌, arith}
-use Rattle.std.proofs.lemmas.Bool.{cases_Bool, not-true, not-false, eqb-true, lt-leb}
+use Rattle.std.proofs.Common.{◌≡◌, ℕ, ℤ, pos, zero, suc, ◌+◌, ◌<◌, ◌≤◌, ◌^◌, ◌==◌, Bool, true, false, not, nat_le, List, [], ◌∷◌, ◌++◌, length, slice_index, slice_set, min, inl, inr, refl, ap, sym, subst, ◌∙◌, arith}
+use Rattle.std.proofs.lemmas.Bool.{cases_Bool, lt-leb}
 use Rattle.std.proofs.lemmas.Grind.{get_or-set_at}
 use Rattle.std.proofs.lemmas.List.{append-nil, get_or-set_other, length-set}
 use Rattle.vx_bits.specs.Codes.{IsCodeNumber, code_number}
@@ -28,10 +28,11 @@ use Rattle.vx_table.proofs.Rewrites.{leaves_agree, leaves_present, tables_leave,
 use Rattle.vx_fields.specs.declared.sps.TheConstants.{sps_alf_enabled_flag, sps_ccalf_enabled_flag, sps_chroma_format_idc, sps_subpic_id_len_minus1, sps_subpic_info_present_flag}
 use Rattle.vx_fields.specs.declared.pps.TheConstants.{pps_alf_info_in_ph_flag, pps_qp_delta_info_in_ph_flag}
 use Rattle.vx_fields.specs.declared.ph.TheConstants.{ph_explicit_scaling_list_enabled_flag, ph_lmcs_enabled_flag}
-use Rattle.vx_fields.specs.declared.sh.TheConstants.{sh_explicit_scaling_list_used_flag, sh_lmcs_used_flag, sh_picture_header_in_slice_header_flag, sh_qp_delta, sh_subpic_id}
+use Rattle.vx_fields.specs.declared.sh.TheConstants.{sh_explicit_scaling_list_used_flag, sh_lmcs_used_flag, sh_picture_header_in_slice_header_flag, sh_subpic_id}
 use Rattle.vx_fields.specs.declared.names.sh.TheConstants.{HAS_ALF, NUM_SUBPICS, SUBPIC}
 use Rattle.vx_sps.specs.Reshaped.{item, where_so}
 use Rattle.vx_ph.specs.declared.tables.TheConstants.{ALF}
+use Rattle.vx_ph.proofs.Renaming.{filter_again}
 use Rattle.vx_sh.specs.declared.tables.TheConstants.{FILTER_HERE, HEADER_INSIDE, KNOWN_SUBPIC, LMCS_AND_SCALING, SUBPIC_ID}
 use Rattle.vx_sh.specs.Reshaped.{qp_items}
 use Rattle.vx_sh.specs.Slice.{own, qp}
@@ -126,18 +127,6 @@ filter_here t apart =
     let there : slice_index (slice_set t HAS_ALF (slice_index t sps_alf_enabled_flag)) pps_alf_info_in_ph_flag ≡ 0
     = get_or-set_other t HAS_ALF pps_alf_info_in_ph_flag (slice_index t sps_alf_enabled_flag) 0 (λ e. absurd (omega (arith, e))) ∙ apart in
     rw there to_end
-
-abbrev of_filter : List ℕ
-of_filter = sps_chroma_format_idc ∷ sps_ccalf_enabled_flag ∷ []
-
-filter_again : (s t : List ℕ) (filter : List Item) → length s ≡ length t → slice_index s sps_chroma_format_idc ≡ slice_index t sps_chroma_format_idc → slice_index s sps_ccalf_enabled_flag ≡ slice_index t sps_ccalf_enabled_flag
-    → Takes (form_of ALF s) filter → Takes (form_of ALF t) filter
-unfolding fresh has_value knows_formula knows_width knows_range knows_presence hides_counter hides_row behind_field within_block depends behind_rows table_depends behind_table shows_row
-filter_again s t filter size chroma cross takes =
-    let shown : List ℕ = with_all (set_of of_filter) (named_by ALF) in
-    let carries = table_carries shown (set_of of_filter) ALF refl in
-    let all = tables_show shown ALF refl in
-    takes_again shown _ (form_of ALF s) (form_of ALF t) filter (carries.alike (inside_with_all (set_of of_filter) (named_by ALF)) s t (agree_given of_filter size (chroma, (cross, tt)))) (all.at s) (all.at t) takes
 
 -- the uses, at a scope that has what they read
 small : ℕ → ℕ → List ℕ

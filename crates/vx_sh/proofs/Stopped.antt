@@ -1,5 +1,5 @@
 -- A slice header ends in a one and zeros up to a byte boundary: so its bytes are whole, and the last isn't 00.
-use Rattle.std.proofs.Common.{◌≡◌, Bool, ℕ, ℤ, ◌%◌, List, [], ◌∷◌, ◌++◌, length, refl, arith}
+use Rattle.std.proofs.Common.{◌≡◌, Bool, ℕ, ℤ, ◌%◌, List, length, refl, arith}
 use Rattle.vx_table.specs.Claims.{comes_always}
 use Rattle.vx_table.specs.Forms.{◌>>=◌, form_of}
 use Rattle.vx_table.specs.Parts.{sections_form}

@@ -1,6 +1,6 @@
 -- The items of a slice header tell whether the picture header stands inside, the subpicture and the address.
-use Rattle.std.proofs.Common.{◌≡◌, ◌≢◌, inl, inr, ℕ, ℤ, pos, ◌<◌, ◌≤◌, nat_le, true, false, None, List, [], ◌∷◌, ◌++◌, length, drop, slice_index, slice_set, refl, ap, sym, subst, ◌∙◌, arith}
-use Rattle.std.specs.Prelude.{Bool, not, IsTrue, IsFalse, ◌==◌, All, filter, replicate}
+use Rattle.std.proofs.Common.{◌≡◌, inl, inr, ℕ, ℤ, pos, ◌<◌, nat_le, true, false, None, List, [], ◌∷◌, ◌++◌, length, drop, slice_index, slice_set, refl, ap, sym, subst, ◌∙◌, arith}
+use Rattle.std.specs.Prelude.{Bool, not, IsTrue, IsFalse, ◌==◌, replicate}
 use Rattle.std.proofs.lemmas.Bool.{both_ways, cases_Bool, cases_lt, le-leb, not-true}
 use Rattle.std.proofs.lemmas.Grind.{get_or-set_at}
 use Rattle.std.proofs.lemmas.List.{append-nil, length-set, length-replicate, get_or-replicate, get_or_past, get_or-set_other}
@@ -40,7 +40,7 @@ use Rattle.vx_rpl.proofs.Passing.{lists_leave}
 use Rattle.vx_sh.specs.declared.tables.TheConstants.{HEADER_INSIDE, SUBPIC_ID, KNOWN_SUBPIC, ADDRESS}
 use Rattle.vx_sh.specs.Slice.{with_entry_points, address_form, before_lists, lists_here, between, weights_here, behind_weights, front_form, before_weights, rest_form}
 use Rattle.vx_sh.specs.Whole.{At, index_of, slices_at, located, id_form, subpic_form, points_of, there, behind_header}
-use Rattle.vx_sh.specs.Value.{AreFields, AreTold, NumbersAreTold}
+use Rattle.vx_sh.specs.Value.{AreFields, NumbersAreTold}
 
 -- ---- items of one part
 

@@ -1,15 +1,12 @@
 -- What was read of a slice header can be written.
-use Rattle.std.proofs.Common.{◌≡◌, ℕ, ℤ, ◌*◌, Bool, true, false, cond, ◌==◌, not, List, [], ◌∷◌, ◌++◌, length, drop, slice_index, refl, ap, sym, subst, ◌∙◌}
+use Rattle.std.proofs.Common.{◌≡◌, ℕ, ℤ, ◌*◌, Bool, true, false, ◌==◌, List, [], length, drop, slice_index, refl, ap, sym, subst, ◌∙◌}
 use Rattle.std.specs.Int.RustNames.{unsigned_abs}
 use Rattle.std.proofs.lemmas.Bool.{not-true, not-false}
 use Rattle.std.proofs.lemmas.List.{append-nil, drop_at}
 use Rattle.vx_bits.specs.declared.list.Item.{Item}
 use Rattle.vx_bits.specs.Codes.{fixed, bits_of}
 use Rattle.vx_bits.proofs.Bits.{length-fixed}
-use Rattle.vx_table.specs.declared.rows.Term.TheVariants.{Latest}
-use Rattle.vx_table.specs.declared.rows.Formula.TheVariants.{Plain}
-use Rattle.vx_table.specs.declared.rows.Presence.TheVariants.{When}
-use Rattle.vx_table.specs.Scope.{fresh, is_set, value}
+use Rattle.vx_table.specs.Scope.{fresh, value}
 use Rattle.vx_table.specs.Forms.{Form, done, ◌>>=◌, coding_at, limits_at, after, has_value, one_field, part, present, form_of}
 use Rattle.vx_table.specs.Spelling.{Spells, at_end, behind, code_of, items_along}
 use Rattle.vx_table.specs.Values.{Follows, to_end}
@@ -22,7 +19,7 @@ use Rattle.vx_ph.specs.Header.{header_form}
 use Rattle.vx_sh.specs.declared.tables.TheConstants.{HEADER_INSIDE}
 use Rattle.vx_sh.specs.declared.header.SliceHeader.{SliceHeader}
 use Rattle.vx_sh.specs.Whole.{At, behind_header, header_inside, slice_form}
-use Rattle.vx_sh.specs.Value.{AreFields, values_of, BeginsSlice, IsSliceOf, ReadCanBeWritten}
+use Rattle.vx_sh.specs.Value.{AreFields, BeginsSlice, IsSliceOf, ReadCanBeWritten}
 use Rattle.vx_sh.proofs.Told.{behind_leaves_inside}
 
 abbrev flag : List ℕ → ℕ

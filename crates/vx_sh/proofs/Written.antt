@@ -1,7 +1,7 @@
 -- A slice header that is written part by part.
-use Rattle.std.proofs.Common.{◌≡◌, ℕ, ℤ, Bool, List, [], ◌∷◌, ◌++◌, length, take, ◌+◌, ◌-◌, Ok, Err, ap, refl, sym, ◌∙◌, arith}
+use Rattle.std.proofs.Common.{◌≡◌, ℕ, ℤ, Bool, List, [], ◌++◌, length, take, ◌+◌, ◌-◌, Ok, Err, ap, sym, ◌∙◌, arith}
 use Rattle.std.specs.Prelude.{Result}
-use Rattle.std.proofs.lemmas.List.{append-nil, append_assoc, length-append, take_all}
+use Rattle.std.proofs.lemmas.List.{append-nil, take_all}
 use Rattle.vx_bits.specs.declared.list.Item.{Item}
 use Rattle.vx_table.specs.declared.writer.SpellError.{SpellError}
 use Rattle.vx_table.specs.declared.writer.SpellError.TheVariants as errors
@@ -14,8 +14,8 @@ use Rattle.vx_table.proofs.Joined.{joined, bits_joined}
 use Rattle.vx_table.proofs.Writings.{writes, leads}
 use Rattle.vx_sh.specs.declared.tables.TheConstants.{HEADER_INSIDE}
 use Rattle.vx_sh.specs.Whole.{At, behind_header, header_inside, slice_form}
-use Rattle.vx_sh.specs.Value.{AreFields, values_of, IsSliceOf}
-use Rattle.vx_sh.specs.inner.Writing.{PartIsWritten, WritesPart, WritesFields}
+use Rattle.vx_sh.specs.Value.{values_of, IsSliceOf}
+use Rattle.vx_sh.specs.inner.Writing.{WritesPart}
 
 -- all items from the first on
 pub from_all : (n : ℕ) (items : List Item) → n ≡ length items → take (n - 0) items ≡ items

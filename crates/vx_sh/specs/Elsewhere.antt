@@ -1,6 +1,6 @@
 -- The same slice header at another place: under sets, a picture header and a layout that agree on what it depends on, where its
 -- subpicture may have another index among others.
-use Rattle.std.specs.Prelude.{◌≡◌, ℕ, ◌<◌, Bool, not, List, [], ◌∷◌, ◌++◌, filter, length}
+use Rattle.std.specs.Prelude.{◌≡◌, ℕ, ◌<◌, Bool, not, List, [], ◌∷◌, filter, length}
 use Rattle.vx_table.specs.Depends.{has, set_of, Agree}
 use Rattle.vx_table.specs.Loaded.{number}
 use Rattle.vx_fields.specs.declared.names.sh.TheConstants.{NUM_SLICES}

@@ -8,4 +8,5 @@ pub mod Addresses
 pub mod InForce
 pub mod Elsewhere
 pub mod Reshaped
+pub mod Filter
 pub mod inner

@@ -3,6 +3,7 @@ ghost use Rattle.vx_sh.specs.Addresses.{AddressesAreBelow};
 ghost use Rattle.vx_sh.specs.Depends.{KeptDepend, AllDepend, AllAreShown, KeptAreShown};
 ghost use Rattle.vx_sh.specs.Again.{SlicesReadAgain, SlicesRewrite};
 ghost use Rattle.vx_sh.specs.Elsewhere.{SliceReadElsewhere};
+ghost use Rattle.vx_sh.specs.Filter.{SliceHasFilter};
 ghost use Rattle.vx_sh.specs.InForce.{SliceScopesAgree, SliceScopesAreWhole};
 ghost use Rattle.vx_sh.specs.Reshaped.{SlicesAgreeOnKept};
 ghost use Rattle.vx_sh.specs.Value.{NumbersAreTold, ReadCanBeWritten, SpellingBegins, SpellingIsRead};
@@ -62,4 +63,9 @@ pub fn slice_read_elsewhere()
 /// Slices under sets and picture headers with the same kept fields find the same numbers in them.
 pub fn slices_agree_on_kept()
     ensures { SlicesAgreeOnKept }
+{}
+
+/// The filter of a slice header goes through under the sets of the slice, where it stands there.
+pub fn slice_has_filter()
+    ensures { SliceHasFilter }
 {}

@@ -1,4 +1,4 @@
-use Rattle.std.proofs.Common.{◌≡◌, ◌≤◌, ◌+◌, length}
+use Rattle.std.proofs.Common.{◌≡◌, ◌+◌, length}
 use Rattle.vx_sh.specs.Whole as whole
 use Rattle.vx_sh.proofs.front.index_of.Given as goal
 

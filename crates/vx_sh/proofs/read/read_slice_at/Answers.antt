@@ -1,4 +1,4 @@
-use Rattle.std.proofs.Common.{rules, ◌≡◌, ◌+◌, ◌*◌, ◌==◌, not, length, slice_index, ap, sym, ◌∙◌}
+use Rattle.std.proofs.Common.{rules, ◌*◌, length, slice_index, ap, sym, ◌∙◌}
 use Rattle.vx_table.specs.Scope.{is_set}
 use Rattle.vx_fields.specs.declared.sh.TheConstants.{sh_picture_header_in_slice_header_flag, sh_slice_address}
 use Rattle.vx_fields.specs.declared.names.sh.TheConstants.{SUBPIC}

@@ -1,4 +1,4 @@
-use Rattle.std.proofs.Common.{Ok, Err, ◌∙◌}
+use Rattle.std.proofs.Common.{◌∙◌}
 use Rattle.std.proofs.lemmas.Result.{err_from_is_err_and}
 use Rattle.vx_sh.specs.Whole.{at_of}
 use Rattle.vx_sh.proofs.Written.{from_all, parts_written, first_written, inside_written, behind_written}
