@@ -40,7 +40,7 @@ left_alike (an_aps a) (an_aps b) (an_aps s) is =
     let parts = both (a.kind == b.kind) (a.id == b.id) is in
     rw (eqb-true a.kind b.kind parts.0, eqb-true a.id b.id parts.1) refl
 
-right_alike : (s a b : Set) → same_slot a b ≡ true → same_slot s a ≡ same_slot s b
+pub right_alike : (s a b : Set) → same_slot a b ≡ true → same_slot s a ≡ same_slot s b
 right_alike (an_sps s) (an_sps a) (an_sps b) is = ap (λ n. sps_id s == n) (eqb-true (sps_id a) (sps_id b) is)
 right_alike (a_pps s) (an_sps a) (an_sps b) is = refl
 right_alike (an_aps s) (an_sps a) (an_sps b) is = refl

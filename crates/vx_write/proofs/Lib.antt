@@ -5,6 +5,7 @@ pub mod Regions
 pub mod Listable
 pub mod Ending
 pub mod Held
+pub mod Vacant
 pub mod Tids
 pub mod Spelled
 pub mod SetBySet

@@ -1,6 +1,7 @@
 -- The sets that were sent, as they are kept: the last one of each type and id.
-use Rattle.std.specs.Prelude.{◌≡◌, ℕ, ◌&&◌, nat_le, Bool, false, cond, List, [], ◌∷◌}
-use Rattle.vx_pic.specs.Written.{Set, SetUnit}
+use Rattle.std.specs.Prelude.{◌≡◌, ℕ, pos, ◌&&◌, nat_le, Bool, true, false, cond, List, [], ◌∷◌}
+use Rattle.vx_fields.specs.declared.pps.TheConstants.{pps_pic_parameter_set_id}
+use Rattle.vx_pic.specs.Written.{Set, a_pps, SetUnit}
 use Rattle.vx_pic.specs.Resident.{same_slot, same_set, last_of, serves}
 
 -- a set that was sent, with its TemporalId
@@ -20,3 +21,12 @@ AnswerAlike slots others = (t : ℕ) (s : Set) → held_serves t s slots ≡ hel
 -- they are the last ones of these units
 abbrev pub AreLastOf : List SetUnit → List Sent → Type 0
 AreLastOf history slots = (t : ℕ) (s : Set) → held_serves t s slots ≡ serves t s (last_of s history)
+
+-- nothing was sent of a set's type and id
+abbrev pub is_vacant : Set → List Sent → Bool
+is_vacant s [] = true
+is_vacant s (x ∷ more) = cond (same_slot x.set s) false (is_vacant s more)
+
+-- a set of an id alone, which stands for all PPSs of it
+abbrev pub a_pps_of : ℕ → Set
+a_pps_of id = a_pps (record { field = pps_pic_parameter_set_id; value = pos id } ∷ [])

@@ -3,7 +3,7 @@ ghost use Rattle.std.specs.Prelude.{◌≡◌, ◌<◌, [], ◌∷◌, length, s
 ghost use Rattle.vx_write.specs.inner.Kept.{set_kept};
 ghost use Rattle.vx_write.specs.Sets.{set_lent, id_of};
 ghost use Rattle.vx_write.specs.inner.Places.{IsPlace};
-ghost use Rattle.vx_write.specs.Slots.{held_serves, AnswerAlike};
+ghost use Rattle.vx_write.specs.Slots.{held_serves, is_vacant, a_pps_of, AnswerAlike};
 ghost use Rattle.vx_pic.specs.Resident as resident;
 
 use crate::written::{NeededSet, WrittenSet, id_of_set, kept, same_set, same_slot};
@@ -59,6 +59,17 @@ impl SentSet {
         ensures { result ≡ (resident.same_set self.now.set (set_lent set.entry) && nat_le self.now.temporal_id temporal_id) }
     {
         same_set(&self.set, set) && self.temporal_id <= temporal_id
+    }
+
+    /// Whether it is a PPS of this id.
+    #[tactic(auto, using(crate::proofs::Vacant::pps_id_of))]
+    fn is_pps(&self, id: u32) -> bool
+        ensures { result ≡ resident.same_slot self.now.set (a_pps_of id) }
+    {
+        match self.set {
+            WrittenSet::Pps(_) => self.id == id,
+            _ => false,
+        }
     }
 }
 
@@ -124,6 +135,28 @@ impl Slots {
             Some(i) => self.sets[i].serves(temporal_id, set),
             None => false,
         }
+    }
+
+    /// Whether nothing was sent of a set's type and id.
+    pub fn is_vacant(&self, set: NeededSet<'_>) -> bool
+        ensures { result ≡ is_vacant (set_lent set.entry) self.now }
+    {
+        match self.place_of(set) {
+            Some(_) => false,
+            None => true,
+        }
+    }
+
+    /// Whether no PPS of this id was sent.
+    pub fn is_pps_vacant(&self, id: u32) -> bool
+        ensures { result ≡ is_vacant (a_pps_of id) self.now }
+    {
+        for i in 0..self.sets.len() {
+            if self.sets[i].is_pps(id) {
+                return false;
+            }
+        }
+        true
     }
 
     /// Puts a set, sent in a unit of this TemporalId, into the place of the one of its type and id.

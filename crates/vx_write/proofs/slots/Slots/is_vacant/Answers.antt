@@ -1,0 +1,10 @@
+use Rattle.std.proofs.Common.{sym}
+use Rattle.vx_write.specs.Sets.{set_lent}
+use Rattle.vx_write.proofs.Vacant.{vacant_from_none, vacant_from_place}
+use Rattle.vx_write.proofs.slots.Slots.is_vacant.Goals as goal
+
+pub returns-in-Some : goal.returns-in-Some
+returns-in-Some c = sym (vacant_from_place (set_lent c.args.set) c.args.self.now _ c.in-Some.ensures)
+
+pub returns-in-None : goal.returns-in-None
+returns-in-None c = sym (vacant_from_none (set_lent c.args.set) c.args.self.now c.in-None.ensures)
