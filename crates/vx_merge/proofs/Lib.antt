@@ -9,3 +9,7 @@ pub mod Deltas
 pub mod Framing
 pub mod Layouts
 pub mod Judging
+pub mod Edging
+pub mod InitQp
+pub mod FrameShaping
+pub mod Assigning

@@ -3,8 +3,11 @@ pub mod Bodies
 pub mod Collocated
 pub mod Ends
 pub mod Merging
+pub mod Needed
 pub mod Regions
 pub mod Rounds
 pub mod Rules
+pub mod Shapes
+pub mod Slots
 pub mod Verdict
 pub mod inner

@@ -11,9 +11,12 @@ mod ending;
 mod filters;
 mod frame;
 mod headers;
+mod ids;
 mod laws;
+mod laws_shapes;
 mod merger;
 mod sets;
+mod shapes;
 mod slices;
 #[cfg(test)]
 mod tests;

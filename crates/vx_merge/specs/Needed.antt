@@ -1,0 +1,73 @@
+-- The sets that the picture of a round needs, with the ids that they take.
+use Rattle.std.specs.Prelude.{ℕ, ◌<◌, ◌==◌, cond, List, [], ◌∷◌, ◌++◌, map, flat_map, filter, length, None, option_to_list}
+use Rattle.std.specs.List.{range_with_len, slice_index_or, zip}
+use Rattle.vx_bits.specs.declared.list.Item.{Item}
+use Rattle.vx_aps.specs.declared.aps.TheConstants as aps
+use Rattle.vx_pps.specs.Reshaped.{IsReshaped}
+use Rattle.vx_layout.specs.declared.numbers.Numbers.{Numbers}
+use Rattle.vx_pic.specs.Parts.{Parts}
+use Rattle.vx_pic.specs.Resident.{same_bytes}
+use Rattle.vx_pic.specs.Written.{Set, an_sps, a_pps, an_aps, SetUnit}
+use Rattle.vx_merge.specs.declared.corner.Corner.{Corner}
+use Rattle.vx_merge.specs.Bodies.{filters_in, has_lmcs, has_scaling, lmcs_body, once, scaling_body}
+use Rattle.vx_merge.specs.Rounds.{picture_at}
+use Rattle.vx_merge.specs.Shapes.{of_lowest, pps_shape}
+use Rattle.vx_merge.specs.Slots.{TakeSlots, alf_slots, lmcs_slots, pps_slots, scaling_slots}
+
+-- ---- bodies of adaptation parameter sets
+
+-- of the adaptive loop filters that are in force in slices, in the order of first use: by source, then by slice, then luma, chroma, Cb and
+-- Cr; of LMCS and of scaling lists, of the lowest source whose picture header has them
+abbrev pub alf_bodies : List Parts → List (List ℕ)
+alf_bodies round = once (flat_map filters_in round)
+
+abbrev pub lmcs_bodies : List Parts → List (List ℕ)
+lmcs_bodies round = option_to_list (of_lowest has_lmcs lmcs_body None round)
+
+abbrev pub scaling_bodies : List Parts → List (List ℕ)
+scaling_bodies round = option_to_list (of_lowest has_scaling scaling_body None round)
+
+-- the set of a type with this id, of the k-th body
+abbrev pub aps_at : ℕ → List (List ℕ) → ℕ → ℕ → Set
+aps_at kind bodies k id = an_aps (record { kind = kind; id = id; body = slice_index_or bodies k [] })
+
+-- ---- ids
+
+-- The ids that the sets of a picture have: that of the PPS, and of the bodies of each type in their order. The SPS has the id 0.
+pub record Ids : Type 0 where
+  pub pps : ℕ
+  pub alf : List ℕ
+  pub lmcs : List ℕ
+  pub scaling : List ℕ
+
+-- The PPS of a frame, as it is with each id.
+pub record HasPpsAt (corners : List Corner) (round : List Parts) (frame : Numbers) (at : ℕ → List Item) : Type 0 where
+  pub reshaped : (id : ℕ) → id < pps_slots → IsReshaped (picture_at round 0).pps (pps_shape corners round frame id) (at id)
+
+-- The sets take these ids, for a picture of this TemporalId behind sets that count as sent.
+pub record TakeIds (round : List Parts) (t : ℕ) (sent : List SetUnit) (pps : ℕ → List Item) (ids : Ids) : Type 0 where
+  pub of_pps : TakeSlots pps_slots 1 t sent (λ k id. a_pps (pps id)) (ids.pps ∷ [])
+  pub of_alf : TakeSlots alf_slots (length (alf_bodies round)) t sent (aps_at aps.ALF (alf_bodies round)) ids.alf
+  pub of_lmcs : TakeSlots lmcs_slots (length (lmcs_bodies round)) t sent (aps_at aps.LMCS (lmcs_bodies round)) ids.lmcs
+  pub of_scaling : TakeSlots scaling_slots (length (scaling_bodies round)) t sent (aps_at aps.SCALING (scaling_bodies round)) ids.scaling
+
+-- the id of a body among these
+abbrev pub id_of : List (List ℕ) → List ℕ → List ℕ → ℕ
+id_of (b ∷ bodies) (id ∷ ids) body = cond (same_bytes b body) id (id_of bodies ids body)
+id_of _ _ body = 0
+
+-- ---- the sets
+
+-- those of a type, by rising id
+abbrev pub with_id : ℕ → List (List ℕ) → List ℕ → ℕ → List Set
+with_id kind bodies ids id = map (λ p. an_aps (record { kind = kind; id = id; body = p.0 })) (filter (λ p. p.1 == id) (zip bodies ids))
+
+abbrev pub by_ids : ℕ → ℕ → List (List ℕ) → List ℕ → List Set
+by_ids kind count bodies ids = flat_map (with_id kind bodies ids) (range_with_len 0 count)
+
+-- all: the SPS, the PPS, and adaptation parameter sets by rising type and id
+abbrev pub needed_sets : List Parts → Ids → (sps pps : List Item) → List Set
+needed_sets round ids sps pps =
+    an_sps sps ∷ a_pps pps
+    ∷ (by_ids aps.ALF alf_slots (alf_bodies round) ids.alf
+    ++ (by_ids aps.LMCS lmcs_slots (lmcs_bodies round) ids.lmcs ++ by_ids aps.SCALING scaling_slots (scaling_bodies round) ids.scaling))

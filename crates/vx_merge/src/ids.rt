@@ -1,0 +1,196 @@
+//! The ids that the bodies of one type of adaptation parameter sets take.
+ghost use Rattle.std.specs.Prelude.{◌≡◌, ◌==◌, ◌<◌, ◌≤◌, List, length, map, IfOk};
+ghost use Rattle.std.specs.List.{list_any};
+ghost use Rattle.vx_fit.specs.Lowest.{IsLowestAnswer};
+ghost use Rattle.vx_pic.specs.Written.{SetUnit};
+ghost use Rattle.vx_write.specs.Slots as sent_sets;
+ghost use Rattle.vx_write.specs.Slots.{AreLastOf};
+ghost use Rattle.vx_merge.specs.Needed.{aps_at};
+ghost use Rattle.vx_merge.specs.Slots.{TakeSlots};
+ghost use Rattle.vx_merge.specs.inner.Taking as taking;
+ghost use Rattle.vx_merge.specs.inner.Taking.{IsHeldBy, AreHeld, an_aps_of};
+
+use std::alloc::{AllocError, Global};
+use vx_bits::BodyList;
+use vx_write::{NeededAps, NeededSet, Slots};
+
+/// Which sets are looked for, for a picture of a TemporalId.
+#[derive(Clone, Copy)]
+pub(crate) struct Search {
+    /// The TemporalId of the picture.
+    pub(crate) temporal_id: u8,
+    /// The type of the sets: `aps_params_type`.
+    pub(crate) kind: u8,
+    /// How many ids it has.
+    pub(crate) count: u8,
+}
+
+/// Whether a body is resident with an id.
+fn is_held(slots: &Slots, search: Search, body: &[u8], id: u8) -> bool
+    ensures { result ≡ taking.is_held slots.now search.temporal_id search.kind body.now id }
+{
+    let kind = search.kind;
+    slots.serves(
+        search.temporal_id,
+        NeededSet::Aps(NeededAps { kind, id, body }),
+    )
+}
+
+/// The lowest id with which a body is resident.
+fn held_id(slots: &Slots, search: Search, body: &[u8]) -> Option<u8>
+    ensures { IsLowestAnswer search.count (IsHeldBy slots.now search.temporal_id search.kind body.now) result }
+{
+    for id in 0..search.count {
+        if is_held(slots, search, body, id) {
+            return Some(id);
+        }
+    }
+    None
+}
+
+/// Those of several bodies.
+fn held_ids(
+    alloc: Global,
+    slots: &Slots,
+    search: Search,
+    bodies: &BodyList<'_>,
+) -> Result<Vec<Option<u8>>, AllocError>
+    ensures { IfOk result (λ held. AreHeld slots.now search.temporal_id search.kind search.count (map (λ b. b.now) bodies.now) held.items) }
+{
+    let mut held = Vec::new(alloc);
+    for k in 0..bodies.len() {
+        held.push(held_id(slots, search, bodies.item(k)))?;
+    }
+    Ok(held)
+}
+
+/// Whether a body that is resident has an id.
+fn has_held(held: &[Option<u8>], id: u8) -> bool
+    ensures { result ≡ list_any (taking.is_id id) held.now }
+{
+    for k in 0..held.len() {
+        if held[k] == Some(id) {
+            return true;
+        }
+    }
+    false
+}
+
+/// Whether an id is among others.
+fn has_id(ids: &[u8], id: u8) -> bool
+    ensures { result ≡ list_any (λ i. i == id) ids.now }
+{
+    for k in 0..ids.len() {
+        if ids[k] == id {
+            return true;
+        }
+    }
+    false
+}
+
+/// Whether an id is taken: by a body that is resident, or by one before.
+fn is_taken(held: &[Option<u8>], ids: &[u8], id: u8) -> bool
+    ensures { result ≡ taking.is_taken held.now ids.now id }
+{
+    has_held(held, id) || has_id(ids, id)
+}
+
+/// Whether nothing was sent with an id.
+fn is_empty(slots: &Slots, search: Search, id: u8) -> bool
+    ensures { result ≡ sent_sets.is_vacant (an_aps_of search.kind id) slots.now }
+{
+    let (kind, body) = (search.kind, &[]);
+    slots.is_vacant(NeededSet::Aps(NeededAps { kind, id, body }))
+}
+
+/// Whether an id can be taken: it isn't, and nothing was sent with it where that is wanted.
+fn is_open(
+    slots: &Slots,
+    search: Search,
+    held: &[Option<u8>],
+    ids: &[u8],
+    empty: bool,
+    id: u8,
+) -> bool
+    ensures { result ≡ taking.is_open slots.now search.kind held.now ids.now empty id }
+{
+    !is_taken(held, ids, id) && (!empty || is_empty(slots, search, id))
+}
+
+/// The lowest id that can be taken.
+fn lowest_open(
+    slots: &Slots,
+    search: Search,
+    held: &[Option<u8>],
+    ids: &[u8],
+    empty: bool,
+) -> Option<u8>
+    ensures { IsLowestAnswer search.count (taking.IsOpen slots.now search.kind held.now ids.now empty) result }
+{
+    for id in 0..search.count {
+        if is_open(slots, search, held, ids, empty, id) {
+            return Some(id);
+        }
+    }
+    None
+}
+
+/// The id of a body that isn't resident: the lowest empty one that isn't taken, or else the lowest that isn't taken.
+fn new_id(slots: &Slots, search: Search, held: &[Option<u8>], ids: &[u8]) -> u8
+    requires few { length held.now ≤ search.count }
+    requires room { taking.HasRoom held.now ids.now }
+    ensures { taking.TakesOpen slots.now search.kind search.count held.now ids.now result }
+{
+    if let Some(id) = lowest_open(slots, search, held, ids, true) {
+        return id;
+    }
+    match lowest_open(slots, search, held, ids, false) {
+        Some(id) => id,
+        None => unreachable!(),
+    }
+}
+
+/// The id of body k, behind those of the bodies before it.
+#[tactic(auto, using(crate::proofs::Assigning::next_held, crate::proofs::Assigning::next_other, crate::proofs::Assigning::room_there))]
+fn next_id(
+    slots: &Slots,
+    search: Search,
+    held: &[Option<u8>],
+    ids: &[u8],
+    k: usize,
+) -> u8
+    requires few { length held.now ≤ search.count }
+    requires next { k < length held.now }
+    requires place { length ids.now ≡ k }
+    requires so_far { taking.AreIds slots.now search.kind search.count held.now ids.now }
+    ensures { taking.IsNextId slots.now search.kind search.count held.now ids.now result }
+{
+    match held[k] {
+        Some(id) => id,
+        None => new_id(slots, search, held, ids),
+    }
+}
+
+/// The ids of bodies of one type, in their order.
+///
+/// # Errors
+///
+/// Want of memory.
+pub(crate) fn take_ids(
+    alloc: Global,
+    slots: &Slots,
+    search: Search,
+    bodies: &BodyList<'_>,
+) -> Result<Vec<u8>, AllocError>
+    requires { length bodies.now ≤ search.count }
+    ensures { (sent : List SetUnit) → AreLastOf sent slots.now
+        → IfOk result (λ ids. TakeSlots search.count (length (map (λ b. b.now) bodies.now)) search.temporal_id sent (aps_at search.kind (map (λ b. b.now) bodies.now)) ids.items) }
+{
+    let held = held_ids(alloc, slots, search, bodies)?;
+    let mut ids = Vec::new(alloc);
+    for k in 0..held.len() {
+        let id = next_id(slots, search, &held, &ids, k);
+        ids.push(id)?;
+    }
+    Ok(ids)
+}
