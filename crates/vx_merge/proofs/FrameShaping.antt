@@ -21,7 +21,7 @@ use Rattle.vx_layout.proofs.FrameSlices.{AllZip-long}
 use Rattle.vx_layout.specs.Layouts.{HasLayout, no_rect}
 use Rattle.vx_fit.specs.declared.placed.Placed.{Placed}
 use Rattle.vx_fit.specs.FitLaws.{FrameOfRegions, IsMerged}
-use Rattle.vx_fit.specs.Placing.{FitTogether, IsOnGrid, IsTooLarge, frame_height, frame_width}
+use Rattle.vx_fit.specs.Placing.{IsOnGrid, IsTooLarge, frame_height, frame_width}
 use Rattle.vx_fit.specs.Placing as placing
 use Rattle.vx_fit.specs.Sources.{IsSource}
 use Rattle.vx_table.specs.Forms.{has_value}
@@ -39,7 +39,7 @@ use Rattle.vx_write.proofs.Ids.{coded}
 use Rattle.vx_merge.specs.declared.corner.Corner.{Corner}
 use Rattle.vx_merge.specs.Regions.{corners_in, ctb_of, layouts_in, placed_in}
 use Rattle.vx_merge.specs.Rounds.{picture_at}
-use Rattle.vx_merge.specs.Shapes.{IsFrame, dpb_of, greatest, latency_of, least, numbers_in, offsets_at, pps_shape, sps_shape, window_of}
+use Rattle.vx_merge.specs.Shapes.{dpb_of, greatest, latency_of, least, numbers_in, offsets_at, pps_shape, sps_shape, window_of}
 use Rattle.vx_merge.specs.inner.Joined.{HasShapes, MakeFrame}
 use Rattle.vx_merge.proofs.InitQp.{init_qp_is}
 

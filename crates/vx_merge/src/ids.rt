@@ -152,13 +152,7 @@ fn new_id(slots: &Slots, search: Search, held: &[Option<u8>], ids: &[u8]) -> u8
 
 /// The id of body k, behind those of the bodies before it.
 #[tactic(auto, using(crate::proofs::Assigning::next_held, crate::proofs::Assigning::next_other, crate::proofs::Assigning::room_there))]
-fn next_id(
-    slots: &Slots,
-    search: Search,
-    held: &[Option<u8>],
-    ids: &[u8],
-    k: usize,
-) -> u8
+fn next_id(slots: &Slots, search: Search, held: &[Option<u8>], ids: &[u8], k: usize) -> u8
     requires few { length held.now ≤ search.count }
     requires next { k < length held.now }
     requires place { length ids.now ≡ k }

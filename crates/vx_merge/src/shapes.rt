@@ -90,12 +90,7 @@ fn least_offset(edge: Edge, field: u16, placed: &[Placed], round: &[Picture<'_>]
 }
 
 /// The conformance window: left, right, top and bottom.
-pub(crate) fn window(
-    placed: &[Placed],
-    round: &[Picture<'_>],
-    width: u32,
-    height: u32,
-) -> [u32; 4]
+pub(crate) fn window(placed: &[Placed], round: &[Picture<'_>], width: u32, height: u32) -> [u32; 4]
     requires same { length placed.now ≡ length round.now }
     requires range { All IsInRange placed.now }
     requires wide { width ≡ frame_width placed.now }
@@ -106,7 +101,12 @@ pub(crate) fn window(
         least_offset(Edge::Left, sps_conf_win_left_offset, placed, round),
         least_offset(Edge::Right(width), sps_conf_win_right_offset, placed, round),
         least_offset(Edge::Top, sps_conf_win_top_offset, placed, round),
-        least_offset(Edge::Bottom(height), sps_conf_win_bottom_offset, placed, round),
+        least_offset(
+            Edge::Bottom(height),
+            sps_conf_win_bottom_offset,
+            placed,
+            round,
+        ),
     ]
 }
 
