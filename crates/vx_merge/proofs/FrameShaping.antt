@@ -246,7 +246,7 @@ first_in_force : (round : List Parts) → 0 < length round → AllByRecursion Ar
 first_in_force [] some are = absurd (omega (arith, some))
 first_in_force (q ∷ round) some are = are.0
 
-positive_ctb : (round : List Parts) → 0 < ctb_of round
+pub positive_ctb : (round : List Parts) → 0 < ctb_of round
 positive_ctb round = let most = large (picture_at round 0).sps in omega (arith, most)
 
 module _ (frames : FrameOfRegions) (corners : List Corner) (round : List Parts) (frame : Numbers) (facts : MakeFrame corners round frame) where

@@ -1,18 +1,19 @@
 -- The frame that the pictures of a round make up.
-use Rattle.std.specs.Prelude.{◌≡◌, ℕ, ◌≤◌, ◌<◌, List, length, sum_by, Option}
+use Rattle.std.specs.Prelude.{◌≡◌, ℕ, ◌≤◌, ◌<◌, List, All, length, sum_by, Option}
 use Rattle.std.specs.List.{AllByRecursion, AllZip}
 use Rattle.vx_layout.specs.declared.numbers.Numbers.{Numbers}
 use Rattle.vx_layout.specs.Faults.{IsInLimits, IsLayout}
 use Rattle.vx_fit.specs.declared.placed.FitFault.{FitFault}
 use Rattle.vx_fit.specs.FitFaults.{IsFitFault}
 use Rattle.vx_fit.specs.FrameLines.{IsLinesFault}
-use Rattle.vx_fit.specs.Placing.{FitTogether}
+use Rattle.vx_fit.specs.Placing.{FitTogether, IsInRange, frame_height, frame_width}
 use Rattle.vx_fit.specs.Sources.{IsSource}
 use Rattle.vx_sps.specs.Reshaped as sps_reshaped
 use Rattle.vx_pps.specs.Reshaped as pps_reshaped
 use Rattle.vx_pic.specs.Parts.{Parts}
 use Rattle.vx_write.specs.InForce.{AreInForce}
 use Rattle.vx_merge.specs.declared.corner.Corner.{Corner}
+use Rattle.vx_merge.specs.declared.joined.Frame.{Frame}
 use Rattle.vx_merge.specs.Merging.{AreCorners}
 use Rattle.vx_merge.specs.Regions.{corners_in, ctb_of, layouts_in, placed_in}
 use Rattle.vx_merge.specs.Rounds.{picture_at}
@@ -46,3 +47,22 @@ pub record HasShapes (corners : List Corner) (round : List Parts) (frame : Numbe
 
 abbrev pub FramesHaveShapes : Type 0
 FramesHaveShapes = (corners : List Corner) (round : List Parts) (frame : Numbers) → MakeFrame corners round frame → HasShapes corners round frame
+
+-- It is that of the round, and what is said of it is what sets can say.
+pub record IsFrameOf (corners : List Corner) (round : List Parts) (frame : Frame) : Type 0 where
+  pub same : length corners ≡ length round
+  pub some : 0 < length round
+  pub placed : frame.placed.items ≡ placed_in corners round
+  pub range : All IsInRange frame.placed.items
+  pub layouts : frame.layouts.items ≡ layouts_in round
+  pub width : frame.width ≡ frame_width (placed_in corners round)
+  pub height : frame.height ≡ frame_height (placed_in corners round)
+  pub is : IsFrame corners round frame.numbers
+  pub shapes : HasShapes corners round frame.numbers
+
+-- A round's corners don't stand in its frame: what is said of it is said for those of which it is the frame.
+abbrev pub IsSomeFrame : List Parts → Frame → Type 0
+IsSomeFrame round frame = (corners : List Corner) × IsFrameOf corners round frame
+
+abbrev pub OfFrame : List Parts → Frame → (List Corner → Type 0) → Type 0
+OfFrame round frame P = (corners : List Corner) → IsFrameOf corners round frame → P corners
