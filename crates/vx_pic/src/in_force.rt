@@ -55,7 +55,12 @@ pub struct AlfInForce<'a> {
 
 /// The body of the adaptation parameter set of a type that a field among these items names, where the field is present. It takes no
 /// memory.
-pub fn body_named<'a>(picture: &Picture<'a>, kind: u8, field: u16, items: &Fields) -> Option<&'a [u8]>
+pub fn body_named<'a>(
+    picture: &Picture<'a>,
+    kind: u8,
+    field: u16,
+    items: &Fields,
+) -> Option<&'a [u8]>
     ensures { option_copied result ≡ named_body picture.now kind field items.now }
 {
     match items.first(field) {
