@@ -1,16 +1,21 @@
 -- What the status tells of what came of a command.
-use Rattle.std.proofs.Common.{◌≡◌, ◌≢◌, ℕ, List, [], ◌∷◌, ◌++◌, length, Option, Some, None, Ok, Err, inl, inr, refl, sym, ap, subst, arith, ◌∙◌}
+use Rattle.std.proofs.Common.{◌≡◌, ◌≢◌, ℕ, List, [], ◌∷◌, ◌++◌, length, Option, Some, None, Result, Ok, Err, inl, inr, refl, sym, ap, subst, arith, ◌<◌, ◌≤◌, ◌∙◌}
 use Rattle.vx_bits.specs.declared.refusal.Refusal.{Refusal}
 use Rattle.vx_report.specs.declared.refusal.Where.{Where}
 use Rattle.vx_app.specs.declared.stop.Stop.{Stop}
 use Rattle.vx_app.specs.declared.stop.Stop.TheVariants.{NotUnderstood, Refused, ReadFault, WriteFault, NoMemory}
 use Rattle.vx_app.specs.Change.{Change, Sources, source_at, HasFault}
 use Rattle.vx_app.specs.About.{help_text, version_text, Writes}
-use Rattle.vx_app.specs.Conclusion.{Concludes, IsOfCommand, IsMade, status_of}
+use Rattle.vx_app.specs.Conclusion.{Outcome, Concludes, IsOfCommand, IsMade, status_of}
 use Rattle.vx_app.specs.declared.extract.Task.{Task}
 use Rattle.vx_app.specs.Extract.{BreakNoRule, Refuses, by_stream, by_picture, without, IsExtractable, IsStatus, WhereTold, ExtractsBy, ChecksBy, task_of}
-use Rattle.vx_app.specs.Grammar.{Command, show, extract, check_extract, help, version, AskFor, IsUnderstood}
+use Rattle.vx_app.specs.Grammar.{Command, Placing, show, extract, check_extract, check_merge, help, version, AskFor, IsUnderstood}
 use Rattle.vx_app.specs.Run.{Does, Performs, task_in}
+use Rattle.vx_bits.specs.declared.refusal.Refusal.TheVariants.{Limit}
+use Rattle.vx_bits.specs.declared.rules.TheConstants.{TOO_MANY_SOURCES}
+use Rattle.std.proofs.lemmas.List.{length-map}
+use Rattle.vx_merge.specs.declared.corner.Corner.{Corner}
+use Rattle.vx_app.specs.Merge.{Stream, Ends, EndsOnce, IsMergeable, IsMergeStatus, WhereAllTold, ChecksMergeBy, corner_of, corners_of, most_sources, too_many, in_round}
 use Rattle.vx_pic.specs.Readings.{Picture}
 use Rattle.vx_pic.specs.Rules.{Readers}
 use Rattle.vx_pic.specs.Bytes.{Ending}
@@ -92,6 +97,7 @@ module _ {A K : Type 0} (R : Readers) (of : AreOfH266 R) (words : List (List ℕ
       subst (λ (u : Task). IsStatus u ps ending 0) (same_task (task_of tid level index) t is) (status-done (task_of tid level index) ps ending (((performs.command (extract tid level index file) spelled).1 R of).4 b ps ending told are).0)
   extracts-done (check_extract tid index file) t performs spelled is b ps ending told are =
       subst (λ (u : Task). IsStatus u ps ending 0) (same_task (task_of tid None index) t is) (status-done (task_of tid None index) ps ending (((performs.command (check_extract tid index file) spelled).1 R of).4 b ps ending told are).0)
+  extracts-done (check_merge placings) t performs spelled is b ps ending told are = absurd (cc)
   extracts-done (show file) t performs spelled is b ps ending told are = absurd (cc)
   extracts-done help t performs spelled is b ps ending told are = absurd (cc)
   extracts-done version t performs spelled is b ps ending told are = absurd (cc)
@@ -105,9 +111,69 @@ module _ {A K : Type 0} (R : Readers) (of : AreOfH266 R) (words : List (List ℕ
   extracts-stopped err stop status (check_extract tid index file) t performs ends spelled is =
       subst (λ (u : Task). ¬ HasFault (source_at sources 0) → ¬ HasFault out → status ≢ 4 → WhereTold R (source_at sources 0) (λ ps ending. IsStatus u ps ending status)) (same_task (task_of tid None index) t is)
       (check-stopped R (task_of tid None index) (source_at sources 0) out err stop status ((performs.command (check_extract tid index file) spelled).1 R of) ends)
+  extracts-stopped err stop status (check_merge placings) t performs ends spelled is = absurd (cc)
   extracts-stopped err stop status (show file) t performs ends spelled is = absurd (cc)
   extracts-stopped err stop status help t performs ends spelled is = absurd (cc)
   extracts-stopped err stop status version t performs ends spelled is = absurd (cc)
+
+-- ---- merges
+
+-- what is refused can't be done
+merge-not : EndsOnce → (corners : List Corner) (ss : List Stream) (n : ℕ) (r : Refusal) (place : Where) → 0 < length ss → Ends corners ss n (Err (r, place)) → IsMergeable corners ss → ⊥
+merge-not once corners ss n r place some ends able =
+    let x : Refusal × Where = (r, place) in
+    let same : (let o : Result (Unit {0}) (Refusal × Where) = Ok tt in o) ≡ Err x = (once corners ss able.0 n (Ok tt) (Err x) some able.1 ends).1 in
+    absurd (cc)
+
+merge-done : (corners : List Corner) (ss : List Stream) → IsMergeable corners ss → IsMergeStatus corners ss 0
+merge-done corners ss able = record { done = (λ zero_. able, λ is. refl); refused = (λ one. absurd (omega (arith, one)), λ not_. absurd (not_ able)) }
+
+merge-refused : (corners : List Corner) (ss : List Stream) (status : ℕ) → (IsMergeable corners ss → ⊥) → status ≡ 1 → IsMergeStatus corners ss status
+merge-refused corners ss status not_ one = record { done = (λ zero_. absurd (omega (arith, one, zero_)), λ able. absurd (not_ able)); refused = (λ is. not_, λ is. one) }
+
+module _ {A K E : Type 0} (once : EndsOnce) (R : Readers) (corners : List Corner) (sources : Sources A) (out : Change K) (err : Change E) (some : 0 < length sources.old) where
+  merge-stopped : (stop : Stop) (status : ℕ) → ChecksMergeBy R corners sources out (Err stop) → Concludes stop status err → ((k : ℕ) → k < length sources.old → ¬ HasFault (source_at sources k)) → ¬ HasFault out → status ≢ 4
+      → WhereAllTold R sources (λ ss. IsMergeStatus corners ss status)
+  merge-stopped (Refused r place) status does ends read write fits ss are =
+      let is = does.3 ss are in
+      elim ends.ended [ inl p ↦ merge-refused corners ss status (merge-not once corners ss is.0 r place (omega (arith, some, are.count)) is.1) p.0 | inr p ↦ absurd (fits p.1) ]
+  merge-stopped (ReadFault k) status does ends read write fits ss are = absurd (read k does.0 does.1)
+  merge-stopped WriteFault status does ends read write fits ss are = absurd (write does.1)
+  merge-stopped NoMemory status does ends read write fits ss are =
+      elim ends.ended [ inl p ↦ absurd (fits p.0) | inr p ↦ absurd p.0 ]
+  merge-stopped NotUnderstood status does ends read write fits ss are = absurd does
+
+too-many_ : {E : Type 0} (err : Change E) (stop : Stop) (status : ℕ) → (let o : Outcome = Err stop in o) ≡ too_many → Concludes stop status err → status ≢ 4 → status ≡ 1
+too-many_ err stop status is ends fits =
+    let same : stop ≡ Refused (Limit TOO_MANY_SOURCES) (in_round 0) = cc in
+    elim ends.ended [ inl p ↦ p.0 ∙ ap status_of same | inr p ↦ absurd (fits p.1) ]
+
+module _ {A K : Type 0} (words : List (List ℕ)) (sources : Sources A) (out : Change K) (placings : List Placing) (spelled : AskFor words (check_merge placings)) where
+  same-count : length (corners_of placings) ≡ length placings
+  same-count = length-map placings corner_of
+
+  -- the status of a merge that is done
+  pub merges-done : (R : Readers) → AreOfH266 R → Performs words sources out (Ok tt) → length placings ≤ most_sources → WhereAllTold R sources (λ ss. IsMergeStatus (corners_of placings) ss 0)
+  merges-done R of performs few ss are =
+      let does = (performs.command (check_merge placings) spelled).checks (omega (arith, few, same-count)) R of in
+      let is = does.2 ss are in
+      merge-done (corners_of placings) ss (is.0, is.1)
+
+  -- and of one that stopped
+  pub merges-stopped : {E : Type 0} (once : EndsOnce) (R : Readers) → AreOfH266 R → (err : Change E) (stop : Stop) (status : ℕ) → 0 < length sources.old → Performs words sources out (Err stop) → Concludes stop status err → length placings ≤ most_sources
+      → ((k : ℕ) → k < length sources.old → ¬ HasFault (source_at sources k)) → ¬ HasFault out → status ≢ 4 → WhereAllTold R sources (λ ss. IsMergeStatus (corners_of placings) ss status)
+  merges-stopped once R of err stop status some performs ends few =
+      merge-stopped once R (corners_of placings) sources out err some stop status ((performs.command (check_merge placings) spelled).checks (omega (arith, few, same-count)) R of) ends
+
+  -- where there are too many sources it isn't done
+  pub many-done : (status : ℕ) → Performs words sources out (Ok tt) → most_sources < length placings → status ≡ 1
+  many-done status performs many =
+      let is = ((performs.command (check_merge placings) spelled).many (omega (arith, many, same-count))).0 in
+      absurd (cc)
+
+  pub many-stopped : {E : Type 0} (err : Change E) (stop : Stop) (status : ℕ) → Performs words sources out (Err stop) → Concludes stop status err → most_sources < length placings → status ≢ 4 → status ≡ 1
+  many-stopped err stop status performs ends many fits =
+      too-many_ err stop status ((performs.command (check_merge placings) spelled).many (omega (arith, many, same-count))).0 ends fits
 
 -- ---- status 2
 
@@ -122,6 +188,7 @@ does_of_command : {A K : Type 0} (command : Command) (sources : Sources A) (out 
 does_of_command (show file) sources out stop does = does.0
 does_of_command (extract tid level index file) sources out stop does = does.0
 does_of_command (check_extract tid index file) sources out stop does = does.0
+does_of_command (check_merge placings) sources out stop does = does.stop
 does_of_command help sources out stop does = writes_of_command help_text out stop does.1
 does_of_command version sources out stop does = writes_of_command version_text out stop does.1
 

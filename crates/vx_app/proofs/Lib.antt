@@ -1,16 +1,23 @@
 -- Lemmas on the steps of `show`, and on how a command ends.
 pub mod Checking
 pub mod Concluding
+pub mod Corners
 pub mod Ending
 pub mod Extracting
 pub mod Gained
 pub mod Gathering
+pub mod Indexed
 pub mod Lined
 pub mod Made
+pub mod Merging
 pub mod Moved
 pub mod Numbering
+pub mod Once
 pub mod Performing
+pub mod Placings
 pub mod ReadAgain
+pub mod Rounds
 pub mod Showing
+pub mod Spelling
 pub mod Taking
 pub mod Told

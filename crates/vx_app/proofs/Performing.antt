@@ -1,65 +1,16 @@
 -- What is performed of the words, by the command that they ask for.
-use Rattle.std.proofs.Common.{◌≡◌, ◌≢◌, ◌∙◌, sym, ap, ℕ, ◌<◌, List, [], ◌∷◌, Option, length, codes, get_or, drop, slice_set, arith, refl, ◌++◌, None}
+use Rattle.std.proofs.Common.{◌≡◌, ℕ, ◌<◌, List, [], ◌∷◌, Option, length, map, get_or, slice_set, arith, refl, None}
+use Rattle.std.specs.Prelude.{String, string_bytes}
+use Rattle.std.proofs.lemmas.List.{length-map}
 use Rattle.vx_app.specs.Change.{Change, Sources, change, sources_change}
 use Rattle.vx_app.specs.Conclusion.{Outcome}
-use Rattle.vx_app.specs.Grammar.{Command, show, extract, check_extract, help, version, spelling, tid_words, files_of, AskFor, NamesFiles}
+use Rattle.vx_app.specs.Grammar.{Command, Placing, show, extract, check_extract, check_merge, files_of, AskFor, NamesFiles, texts}
+use Rattle.vx_app.specs.inner.Placings.{placing_in}
 use Rattle.vx_app.specs.Extract.{task_of, Extracts, Checks}
 use Rattle.vx_app.specs.Run.{Does, Performs}
 use Rattle.vx_app.specs.Show.{Shows}
 use Rattle.vx_app.proofs.Moved.{Shows-at, Extracts-at, Checks-at}
-use Rattle.vx_app.proofs.Numbering.{behind_tid, behind_level, tid_first, only_tid_first, level_first, index_first, option_once, number_once}
-
--- words of two lengths, or of two first words, are not the same
-other_length : (words xs ys : List (List ℕ)) → words ≡ xs → words ≡ ys → length xs ≢ length ys → ⊥
-other_length words xs ys p q other = other (ap length (sym p ∙ q))
-
-other_first : (words : List (List ℕ)) (x y : List ℕ) (xs ys : List (List ℕ)) → words ≡ x ∷ xs → words ≡ y ∷ ys → length x ≢ length y → ⊥
-other_first words x y xs ys p q other = other (ap (λ ws. length (get_or ws 0 [])) (sym p ∙ q))
-
-same_extract : (t u l m : Option ℕ) (i j : ℕ) (f g : List ℕ) → t ≡ u → l ≡ m → i ≡ j → f ≡ g → extract t l i f ≡ extract u m j g
-same_extract t u l m i j f g p q r s = cc
-
-same_check : (t u : Option ℕ) (i j : ℕ) (f g : List ℕ) → t ≡ u → i ≡ j → f ≡ g → check_extract t i f ≡ check_extract u j g
-same_check t u i j f g p q r = cc
-
--- the words spell one command
-pub spelled_once : (words : List (List ℕ)) (c d : Command) → AskFor words c → AskFor words d → c ≡ d
-spelled_once words (show f) (show g) p q = ap (λ ws. show (get_or ws 1 [])) (sym p.spelled ∙ q.spelled)
-spelled_once words (show f) (extract u m j g) p q = absurd (other_first words (codes "show") (codes "extract") (f ∷ []) (tid_words u ++ behind_tid m j g) p.spelled q.spelled (omega arith))
-spelled_once words (show f) (check_extract u j g) p q = absurd (other_first words (codes "show") (codes "check") (f ∷ []) (codes "extract" ∷ (tid_words u ++ behind_level j g)) p.spelled q.spelled (omega arith))
-spelled_once words (show f) help p q = absurd (other_first words (codes "show") (codes "--help") (f ∷ []) [] p.spelled q.spelled (omega arith))
-spelled_once words (show f) version p q = absurd (other_first words (codes "show") (codes "--version") (f ∷ []) [] p.spelled q.spelled (omega arith))
-spelled_once words (extract t l i f) (show g) p q = absurd (other_first words (codes "extract") (codes "show") (tid_words t ++ behind_tid l i f) (g ∷ []) p.spelled q.spelled (omega arith))
-spelled_once words (extract t l i f) (extract u m j g) p q =
-    let words_same : tid_words t ++ behind_tid l i f ≡ tid_words u ++ behind_tid m j g = ap (λ (ws : List (List ℕ)). drop 1 ws) (sym p.spelled ∙ q.spelled) in
-    let tid = option_once (codes "--tid") 6 (tid_words t ++ behind_tid l i f) t u (behind_tid l i f) (behind_tid m j g) (omega arith) (tid_first t l i f p.named.0 p.named.2) (rw words_same (tid_first u m j g q.named.0 q.named.2)) in
-    let level = option_once (codes "--level") 255 (behind_tid l i f) l m (behind_level i f) (behind_level j g) (omega arith) (level_first l i f p.named.1 p.named.2) (rw tid.1 (level_first m j g q.named.1 q.named.2)) in
-    let index = number_once 999 (behind_level i f) i j (f ∷ []) (g ∷ []) (omega arith) (index_first i f p.named.2) (rw level.1 (index_first j g q.named.2)) in
-    let file : f ≡ g = ap (λ (ws : List (List ℕ)). get_or ws 0 []) index.1 in
-    same_extract t u l m i j f g tid.0 level.0 index.0 file
-spelled_once words (extract t l i f) (check_extract u j g) p q = absurd (other_first words (codes "extract") (codes "check") (tid_words t ++ behind_tid l i f) (codes "extract" ∷ (tid_words u ++ behind_level j g)) p.spelled q.spelled (omega arith))
-spelled_once words (extract t l i f) help p q = absurd (other_first words (codes "extract") (codes "--help") (tid_words t ++ behind_tid l i f) [] p.spelled q.spelled (omega arith))
-spelled_once words (extract t l i f) version p q = absurd (other_first words (codes "extract") (codes "--version") (tid_words t ++ behind_tid l i f) [] p.spelled q.spelled (omega arith))
-spelled_once words (check_extract t i f) (show g) p q = absurd (other_first words (codes "check") (codes "show") (codes "extract" ∷ (tid_words t ++ behind_level i f)) (g ∷ []) p.spelled q.spelled (omega arith))
-spelled_once words (check_extract t i f) (extract u m j g) p q = absurd (other_first words (codes "check") (codes "extract") (codes "extract" ∷ (tid_words t ++ behind_level i f)) (tid_words u ++ behind_tid m j g) p.spelled q.spelled (omega arith))
-spelled_once words (check_extract t i f) (check_extract u j g) p q =
-    let words_same : tid_words t ++ behind_level i f ≡ tid_words u ++ behind_level j g = ap (λ (ws : List (List ℕ)). drop 2 ws) (sym p.spelled ∙ q.spelled) in
-    let tid = option_once (codes "--tid") 6 (tid_words t ++ behind_level i f) t u (behind_level i f) (behind_level j g) (omega arith) (only_tid_first t i f p.named.0 p.named.1) (rw words_same (only_tid_first u j g q.named.0 q.named.1)) in
-    let index = number_once 999 (behind_level i f) i j (f ∷ []) (g ∷ []) (omega arith) (index_first i f p.named.1) (rw tid.1 (index_first j g q.named.1)) in
-    let file : f ≡ g = ap (λ (ws : List (List ℕ)). get_or ws 0 []) index.1 in
-    same_check t u i j f g tid.0 index.0 file
-spelled_once words (check_extract t i f) help p q = absurd (other_first words (codes "check") (codes "--help") (codes "extract" ∷ (tid_words t ++ behind_level i f)) [] p.spelled q.spelled (omega arith))
-spelled_once words (check_extract t i f) version p q = absurd (other_first words (codes "check") (codes "--version") (codes "extract" ∷ (tid_words t ++ behind_level i f)) [] p.spelled q.spelled (omega arith))
-spelled_once words help (show g) p q = absurd (other_first words (codes "--help") (codes "show") [] (g ∷ []) p.spelled q.spelled (omega arith))
-spelled_once words help (extract u m j g) p q = absurd (other_first words (codes "--help") (codes "extract") [] (tid_words u ++ behind_tid m j g) p.spelled q.spelled (omega arith))
-spelled_once words help (check_extract u j g) p q = absurd (other_first words (codes "--help") (codes "check") [] (codes "extract" ∷ (tid_words u ++ behind_level j g)) p.spelled q.spelled (omega arith))
-spelled_once words help help p q = refl
-spelled_once words help version p q = absurd (other_first words (codes "--help") (codes "--version") [] [] p.spelled q.spelled (omega arith))
-spelled_once words version (show g) p q = absurd (other_first words (codes "--version") (codes "show") [] (g ∷ []) p.spelled q.spelled (omega arith))
-spelled_once words version (extract u m j g) p q = absurd (other_first words (codes "--version") (codes "extract") [] (tid_words u ++ behind_tid m j g) p.spelled q.spelled (omega arith))
-spelled_once words version (check_extract u j g) p q = absurd (other_first words (codes "--version") (codes "check") [] (codes "extract" ∷ (tid_words u ++ behind_level j g)) p.spelled q.spelled (omega arith))
-spelled_once words version help p q = absurd (other_first words (codes "--version") (codes "--help") [] [] p.spelled q.spelled (omega arith))
-spelled_once words version version p q = refl
+use Rattle.vx_app.proofs.Spelling.{spelled_once}
 
 -- a command that the words ask for is the one that was done
 pub performs : {A K : Type 0} (words : List (List ℕ)) (sources : Sources A) (out : Change K) (outcome : Outcome) (command : Command) → AskFor words command → Does command sources out outcome → Performs words sources out outcome
@@ -89,3 +40,25 @@ performs-check words bytes faults s s' l out outcome tid index file spelled with
 -- words that ask for a command with a file name one
 pub names-file : (words : List (List ℕ)) (n : ℕ) → NamesFiles words n → (command : Command) → AskFor words command → 0 < length (files_of command) → 0 < n
 names-file words n names command spelled some = let one = names.command command spelled in omega arith
+
+-- ---- `check merge`
+
+some_placings : {A : Type 0} (words : List (String A)) → (map placing_in (texts words) ≡ [] → ⊥) → 0 < length words
+some_placings [] some = absurd (some refl)
+some_placings (w ∷ words) some = omega arith
+
+some_files : (placings : List Placing) → (placings ≡ [] → ⊥) → 0 < length placings
+some_files [] some = absurd (some refl)
+some_files (p ∷ placings) some = omega arith
+
+-- as many files are named as words place some
+pub merge_count : {A : Type 0} (words : List (List ℕ)) (n : ℕ) (placings : List (String A)) → NamesFiles words n → AskFor words (check_merge (map placing_in (texts placings))) → (0 < length placings) × (n ≡ length placings)
+merge_count {A = A} words n placings names asks =
+    let count = names.command (check_merge (map placing_in (texts placings))) asks in (
+      some_placings placings asks.named.0,
+      omega (arith, count, length-map (map placing_in (texts placings)) (λ (p : Placing). p.file), length-map (texts placings) placing_in, length-map placings (string_bytes {Z = A})),
+    )
+
+-- some are
+pub merge_some : (words : List (List ℕ)) (n : ℕ) (placings : List Placing) → NamesFiles words n → AskFor words (check_merge placings) → 0 < n
+merge_some words n placings names asks = omega (arith, names.command (check_merge placings) asks, length-map placings (λ (p : Placing). p.file), some_files placings asks.named.0)

@@ -1,15 +1,23 @@
 -- The grammar of the program's words. A word is the list of its bytes.
 use Rattle.std.specs.Prelude.{◌≡◌, ◌≢◌, ℕ, ◌≤◌, List, [], ◌∷◌, ◌++◌, map, length, codes, decimal, Option, Some, None, IfSome, String, string_bytes}
+use Rattle.std.specs.List.{AllByRecursion}
 
 -- the bytes of each word
 abbrev pub texts : {A : Type 0} → List (String A) → List (List ℕ)
 texts words = map string_bytes words
+
+-- a file, and the upper left corner of its region in a frame, in luma samples
+pub record Placing : Type 0 where
+  pub x : ℕ
+  pub y : ℕ
+  pub file : List ℕ
 
 -- what the words ask for
 pub data Command : Type 0 where
   show : List ℕ → Command
   extract : (tid level : Option ℕ) (index : ℕ) → List ℕ → Command
   check_extract : (tid : Option ℕ) (index : ℕ) → List ℕ → Command
+  check_merge : List Placing → Command
   help : Command
   version : Command
 
@@ -24,11 +32,16 @@ tid_words tid = option_words (codes "--tid") tid
 abbrev pub level_words : Option ℕ → List (List ℕ)
 level_words level = option_words (codes "--level") level
 
--- `show FILE`, `extract [--tid T] [--level N] INDEX FILE`, `check extract [--tid T] INDEX FILE`, `--help`, `--version`
+-- `X,Y=FILE`: the file's name begins behind the first `=`
+abbrev pub placing_word : Placing → List ℕ
+placing_word p = decimal p.x ++ (codes "," ++ (decimal p.y ++ (codes "=" ++ p.file)))
+
+-- `show FILE`, `extract [--tid T] [--level N] INDEX FILE`, `check extract [--tid T] INDEX FILE`, `check merge X,Y=FILE ..`, `--help`, `--version`
 abbrev pub spelling : Command → List (List ℕ)
 spelling (show file) = codes "show" ∷ file ∷ []
 spelling (extract tid level index file) = codes "extract" ∷ (tid_words tid ++ (level_words level ++ (decimal index ∷ file ∷ [])))
 spelling (check_extract tid index file) = codes "check" ∷ codes "extract" ∷ (tid_words tid ++ (decimal index ∷ file ∷ []))
+spelling (check_merge placings) = codes "check" ∷ codes "merge" ∷ map placing_word placings
 spelling help = codes "--help" ∷ []
 spelling version = codes "--version" ∷ []
 
@@ -42,11 +55,16 @@ IsLevel level = IfSome level (λ n. n ≤ 255)
 abbrev pub IsIndex : ℕ → Type 0
 IsIndex index = index ≤ 999
 
--- a file's name has a byte, and numbers are in their ranges
+-- a corner within the greatest frame
+abbrev pub IsPlacing : Placing → Type 0
+IsPlacing p = (p.x ≤ 16383) × (p.y ≤ 16383) × (p.file ≢ [])
+
+-- a file's name has a byte, numbers are in their ranges, and a merge has a file
 abbrev pub IsWellNamed : Command → Type 0
 IsWellNamed (show file) = file ≢ []
 IsWellNamed (extract tid level index file) = IsTid tid × IsLevel level × IsIndex index × (file ≢ [])
 IsWellNamed (check_extract tid index file) = IsTid tid × IsIndex index × (file ≢ [])
+IsWellNamed (check_merge placings) = (placings ≢ []) × AllByRecursion IsPlacing placings
 IsWellNamed help = Unit {0}
 IsWellNamed version = Unit {0}
 
@@ -64,6 +82,7 @@ abbrev pub files_of : Command → List (List ℕ)
 files_of (show file) = file ∷ []
 files_of (extract tid level index file) = file ∷ []
 files_of (check_extract tid index file) = file ∷ []
+files_of (check_merge placings) = map (λ p. p.file) placings
 files_of help = []
 files_of version = []
 

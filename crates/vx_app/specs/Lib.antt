@@ -5,6 +5,7 @@ pub mod Change
 pub mod Conclusion
 pub mod Extract
 pub mod Grammar
+pub mod Merge
 pub mod ReadAgain
 pub mod Run
 pub mod Show

@@ -6,7 +6,8 @@ use Rattle.vx_app.specs.Change.{Change, Sources, source_at, IsUntouched, AreUnto
 use Rattle.vx_app.specs.Conclusion.{Outcome}
 use Rattle.vx_app.specs.declared.extract.Task.{Task}
 use Rattle.vx_app.specs.Extract.{task_of, Extracts, Checks}
-use Rattle.vx_app.specs.Grammar.{Command, show, extract, check_extract, help, version, AskFor, IsUnderstood}
+use Rattle.vx_app.specs.Grammar.{Command, show, extract, check_extract, check_merge, help, version, AskFor, IsUnderstood}
+use Rattle.vx_app.specs.Merge.{corners_of, ChecksMerge}
 use Rattle.vx_app.specs.Show.{Shows}
 
 -- what a command did to its sources and to `out`, by what came of it
@@ -14,6 +15,7 @@ abbrev pub Does : {A K : Type 0} → Command → Sources A → Change K → Outc
 Does (show file) sources out outcome = Shows (source_at sources 0) out outcome
 Does (extract tid level index file) sources out outcome = Extracts (task_of tid level index) (source_at sources 0) out outcome
 Does (check_extract tid index file) sources out outcome = Checks (task_of tid None index) (source_at sources 0) out outcome
+Does (check_merge placings) sources out outcome = ChecksMerge (corners_of placings) sources out outcome
 Does help sources out outcome = AreUntouched sources × Writes help_text out outcome
 Does version sources out outcome = AreUntouched sources × Writes version_text out outcome
 

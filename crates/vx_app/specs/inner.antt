@@ -1,4 +1,6 @@
 -- What serves bodies and proofs alone: nothing that a caller has to believe.
 pub mod Extracting
+pub mod Merging
+pub mod Placings
 pub mod Showing
 pub mod Words

@@ -24,6 +24,10 @@ pub fn help() -> &'static [u8]
              as its general_level_idc
   check extract [--tid T] INDEX FILE
              whether that can be done, and for how many pictures
+  check merge X,Y=FILE ..
+             whether the pictures of up to 64 files can become those of one stream,
+             each with its upper left corner at luma sample X, Y, and for how many
+             pictures
   --help     this text
   --version  the name and the version of the program
 
@@ -45,12 +49,16 @@ The letters of the rules:
   S  structure: S1 a set that hasn't come, S2 to S15 what a unit, or the end,
      breaks behind the units before it
   L  limits: L1 a unit of more than 2^23 bytes, L2 a picture of more than 2^25,
-     L3 a source of more than 2^40, L5 to L10 what no level, or this program,
-     allows
+     L3 a source of more than 2^40, L4 more than 64 files, L5 to L10 what no
+     level, or this program, allows
   E  extraction: E1 a stream without pictures, E2 a picture without the
      subpicture, E3 the subpicture isn't treated as a picture, E4 in-loop
      filters cross the borders of the subpicture, E5 an IRAP or GDR picture has
      a TemporalId above T
+  M  merging: M1 a source with several subpictures, M2, M7, M8 fields of its SPS,
+     PPS or picture header that differ, M3 to M5 regions or tiles that don't fit,
+     M6 another kind of picture, M9 to M13, M16 what its slices use that differs
+     or is too much, M14 an earlier end
 "
 }
 

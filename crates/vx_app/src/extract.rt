@@ -122,7 +122,7 @@ fn advance(feed: &mut Feed, source: &mut Box<dyn Source>) -> Result<bool, Stop>
 }
 
 /// Advances on the source.
-fn step(feed: &mut Feed, source: &mut Box<dyn Source>) -> Result<Step, FeedFault>
+pub fn step(feed: &mut Feed, source: &mut Box<dyn Source>) -> Result<Step, FeedFault>
     ensures answer { (R : Readers) → AreOfH266 R → (g : List ℕ) (units : List UnitPlace) (readings : List Reading)
         → HasFed R feed.old g units readings → LastWasNeeded g units
         → Advances R g units readings feed.new (bytes_left source.old) (bytes_left source.new) (read_faults source.old) (read_faults source.new) result }
@@ -199,7 +199,7 @@ fn stop_of_picture(error: WriteError, n: u64) -> Stop
 }
 
 /// One more than a count that is below `most`.
-fn one_more(count: u64, most: u64) -> u64
+pub fn one_more(count: u64, most: u64) -> u64
     ensures { count < most → result ≡ count + 1 }
 {
     most.min(count.saturating_add(1))
@@ -230,7 +230,7 @@ fn some_picture(pictures: u64) -> Result<(), Stop>
 }
 
 /// `ok pictures 2`
-fn ok_line(alloc: Global, kept: u64) -> Result<Vec<u8>, AllocError>
+pub fn ok_line(alloc: Global, kept: u64) -> Result<Vec<u8>, AllocError>
     ensures { IfOk result (λ line. line.items ≡ ok_text kept) }
 {
     Ok(format!(in alloc; "ok pictures {kept}\n")?.into_bytes())

@@ -4,6 +4,7 @@
 mod about;
 mod conclude;
 mod extract;
+mod merge;
 mod run;
 mod show;
 mod stop;
@@ -15,9 +16,12 @@ mod tests_extract;
 mod tests_faults;
 #[cfg(test)]
 mod tests_limits;
+#[cfg(test)]
+mod tests_merge;
 mod words;
 
 use conclude::finish;
+pub use merge::merge_ends_once;
 pub use run::run;
 use std::alloc::AllocError;
 use std::env;

@@ -1,9 +1,11 @@
 //! The grammar of the program's words, without the program's name.
 
-ghost use Rattle.std.specs.Prelude.{◌≡◌, ◌≤◌, ◌∷◌, [], ℕ, List, Option as OptionOf, true, false, decimal, codes, None, IfSome, IfNone, MatchOption, slice_get, option_copied};
+ghost use Rattle.std.specs.Prelude.{◌≡◌, ◌≤◌, ◌∷◌, ◌↔◌, [], ℕ, List, Option as OptionOf, true, false, decimal, codes, None, IfSome, IfNone, IsTrue, MatchOption, map, slice_get, option_copied};
+ghost use Rattle.std.specs.List.{AllByRecursion};
 ghost use Rattle.vx_app.specs.Asked.{asked};
-ghost use Rattle.vx_app.specs.Grammar.{Command as Asked, extract, check_extract, spelling, IsWellNamed, AskFor, IsUnderstood, NamesFiles, files_of, texts};
-ghost use Rattle.vx_app.specs.inner.Words.{BeginsNot, IsNumberFirst, IsOptionFirst, is_extraction};
+ghost use Rattle.vx_app.specs.Grammar.{Command as Asked, extract, check_extract, check_merge, Placing as PlacingAsked, spelling, IsWellNamed, AskFor, IsUnderstood, NamesFiles, files_of, texts};
+ghost use Rattle.vx_app.specs.inner.Placings.{IsPlacingWord, HasPlacings, Spells, placed, placing_in};
+ghost use Rattle.vx_app.specs.inner.Words.{BeginsNot, IsNumberFirst, IsOptionFirst, is_plain};
 
 /// What the words ask for, with what they name.
 #[derive(Clone, Copy)]
@@ -25,34 +27,53 @@ pub enum Command<'a> {
         index: u16,
         file: &'a str,
     },
+    /// `check merge X,Y=FILE ..`, of which these are the words behind `merge`.
+    CheckMerge {
+        placings: &'a [String],
+    },
     /// `--help`
     Help,
     /// `--version`
     Version,
 }
 
-/// The greatest TemporalId, level and index of a subpicture that words may name.
+/// A file of a merge, and the upper left corner of its region, in luma samples.
+#[derive(Clone, Copy)]
+pub struct Placing<'a> {
+    pub x: u16,
+    pub y: u16,
+    pub file: &'a str,
+}
+
+/// The greatest TemporalId, level, index of a subpicture and place of a corner that words may name.
 const MOST_TID: u8 = 6;
 
 const MOST_LEVEL: u8 = 255;
 
 const MOST_INDEX: u16 = 999;
 
+const MOST_CORNER: u16 = 16_383;
+
 /// The command that the words spell.
 pub fn command_of(words: &[String]) -> Option<Command<'_>>
     ensures some { IfSome result (λ command. AskFor (texts words.now) (asked command)) }
+    ensures placings { IfSome result HasPlacings }
     ensures none { IfNone result (¬ IsUnderstood (texts words.now)) }
 {
     if let Some(command) = plain_of(words) {
         return Some(command);
     }
-    extraction_of(words)
+    if let Some(rest) = behind(words, "extract") {
+        return extract_of(rest);
+    }
+    check_of(behind(words, "check")?)
 }
 
-/// The command, but for extractions.
+/// The command, where it is `show` or one word alone.
 fn plain_of(words: &[String]) -> Option<Command<'_>>
     ensures some { IfSome result (λ command. AskFor (texts words.now) (asked command)) }
-    ensures none { IfNone result ((command : Asked) → is_extraction command ≡ false → AskFor (texts words.now) command → ⊥) }
+    ensures placings { IfSome result HasPlacings }
+    ensures none { IfNone result ((command : Asked) → is_plain command ≡ true → AskFor (texts words.now) command → ⊥) }
 {
     match words {
         [name, file] if name.as_str() == "show" && !file.is_empty() => {
@@ -66,21 +87,22 @@ fn plain_of(words: &[String]) -> Option<Command<'_>>
     }
 }
 
-/// The command, where it is an extraction.
-fn extraction_of(words: &[String]) -> Option<Command<'_>>
-    ensures some { IfSome result (λ command. AskFor (texts words.now) (asked command)) }
-    ensures none { IfNone result ((command : Asked) → is_extraction command ≡ true → AskFor (texts words.now) command → ⊥) }
+/// What is checked.
+fn check_of(words: &[String]) -> Option<Command<'_>>
+    ensures some { IfSome result (λ command. AskFor (codes "check" ∷ texts words.now) (asked command)) }
+    ensures placings { IfSome result HasPlacings }
+    ensures none { IfNone result ((command : Asked) → AskFor (codes "check" ∷ texts words.now) command → ⊥) }
 {
     if let Some(rest) = behind(words, "extract") {
-        return extract_of(rest);
+        return check_extract_of(rest);
     }
-    let rest = behind(words, "check")?;
-    check_extract_of(behind(rest, "extract")?)
+    check_merge_of(behind(words, "merge")?)
 }
 
 /// `[--tid T] [--level N] INDEX FILE`
 fn extract_of(words: &[String]) -> Option<Command<'_>>
     ensures some { IfSome result (λ command. AskFor (codes "extract" ∷ texts words.now) (asked command)) }
+    ensures placings { IfSome result HasPlacings }
     ensures none { IfNone result ((tid level : OptionOf ℕ) (index : ℕ) (file : List ℕ)
         → AskFor (codes "extract" ∷ texts words.now) (extract tid level index file) → ⊥) }
 {
@@ -99,6 +121,7 @@ fn extract_of(words: &[String]) -> Option<Command<'_>>
 /// `[--tid T] INDEX FILE`
 fn check_extract_of(words: &[String]) -> Option<Command<'_>>
     ensures some { IfSome result (λ command. AskFor (codes "check" ∷ codes "extract" ∷ texts words.now) (asked command)) }
+    ensures placings { IfSome result HasPlacings }
     ensures none { IfNone result ((tid : OptionOf ℕ) (index : ℕ) (file : List ℕ)
         → AskFor (codes "check" ∷ codes "extract" ∷ texts words.now) (check_extract tid index file) → ⊥) }
 {
@@ -106,6 +129,48 @@ fn check_extract_of(words: &[String]) -> Option<Command<'_>>
     let (index, rest) = number_first(rest, MOST_INDEX)?;
     let file = file_alone(rest)?;
     Some(Command::CheckExtract { tid, index, file })
+}
+
+/// `X,Y=FILE ..`
+fn check_merge_of(words: &[String]) -> Option<Command<'_>>
+    ensures some { IfSome result (λ command. AskFor (codes "check" ∷ codes "merge" ∷ texts words.now) (asked command)) }
+    ensures placings { IfSome result HasPlacings }
+    ensures none { IfNone result ((placings : List PlacingAsked)
+        → AskFor (codes "check" ∷ codes "merge" ∷ texts words.now) (check_merge placings) → ⊥) }
+{
+    if words.is_empty() {
+        return None;
+    }
+    if !are_placings(words) {
+        return None;
+    }
+    Some(Command::CheckMerge { placings: words })
+}
+
+/// Whether each word is `X,Y=FILE`.
+fn are_placings(words: &[String]) -> bool
+    ensures { IsTrue result ↔ AllByRecursion IsPlacingWord (texts words.now) }
+{
+    for word in words {
+        if placing_of(word.as_str()).is_none() {
+            return false;
+        }
+    }
+    true
+}
+
+/// `X,Y=FILE`
+pub fn placing_of(word: &str) -> Option<Placing<'_>>
+    ensures { MatchOption result (IsPlacingWord word.now → ⊥) (λ p. Spells word.now (placed p)) }
+{
+    let (corner, file) = word.split_once('=')?;
+    let (x, y) = corner.split_once(',')?;
+    let x = number(x, MOST_CORNER)?;
+    let y = number(y, MOST_CORNER)?;
+    if file.is_empty() {
+        return None;
+    }
+    Some(Placing { x, y, file })
 }
 
 /// The words behind this one, where it comes first.
@@ -179,7 +244,11 @@ fn file_alone(words: &[String]) -> Option<&str>
 pub fn file_count(words: &[String]) -> usize
     ensures { NamesFiles (texts words.now) result }
 {
-    usize::from(file_of(words).is_some())
+    match command_of(words) {
+        Some(Command::Show { .. } | Command::Extract { .. } | Command::CheckExtract { .. }) => 1,
+        Some(Command::CheckMerge { placings }) => placings.len(),
+        Some(Command::Help | Command::Version) | None => 0,
+    }
 }
 
 /// The `k`-th file that the words name, from 0.
@@ -188,21 +257,27 @@ pub fn file_word(words: &[String], k: usize) -> Option<&str>
         → option_copied result ≡ slice_get (files_of command) k }
     ensures none { ¬ IsUnderstood (texts words.now) → result ≡ None }
 {
-    if k > 0 {
-        return None;
-    }
-    file_of(words)
-}
-
-/// The file that the words name.
-fn file_of(words: &[String]) -> Option<&str>
-    ensures file { (command : Asked) → AskFor (texts words.now) command → option_copied result ≡ slice_get (files_of command) 0 }
-    ensures none { ¬ IsUnderstood (texts words.now) → result ≡ None }
-{
     match command_of(words)? {
         Command::Show { file }
         | Command::Extract { file, .. }
-        | Command::CheckExtract { file, .. } => Some(file),
+        | Command::CheckExtract { file, .. } => file_alone_at(file, k),
+        Command::CheckMerge { placings } => placed_file(placings, k),
         Command::Help | Command::Version => None,
     }
+}
+
+/// The `k`-th of one file.
+fn file_alone_at(file: &str, k: usize) -> Option<&str>
+    ensures { option_copied result ≡ slice_get (file.now ∷ []) k }
+{
+    (k == 0).then_some(file)
+}
+
+/// The file of the `k`-th of these words.
+fn placed_file(words: &[String], k: usize) -> Option<&str>
+    requires { AllByRecursion IsPlacingWord (texts words.now) }
+    ensures { option_copied result ≡ slice_get (map (λ p. p.file) (map placing_in (texts words.now))) k }
+{
+    let placing = placing_of(words.get(k)?.as_str())?;
+    Some(placing.file)
 }

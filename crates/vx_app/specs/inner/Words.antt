@@ -1,6 +1,6 @@
 -- Words, read from the front on.
-use Rattle.std.specs.Prelude.{◌≡◌, ℕ, ◌≤◌, List, [], ◌∷◌, decimal, Bool, true, false, Option, Some, None}
-use Rattle.vx_app.specs.Grammar.{Command, show, extract, check_extract, help, version}
+use Rattle.std.specs.Prelude.{◌≡◌, ℕ, ◌≤◌, List, ◌∷◌, decimal, Bool, true, false, Option, Some, None}
+use Rattle.vx_app.specs.Grammar.{Command, show, extract, check_extract, check_merge, help, version}
 
 -- another word, or none, comes first
 abbrev pub BeginsNot : List ℕ → List (List ℕ) → Type 0
@@ -16,10 +16,11 @@ abbrev pub IsOptionFirst : List ℕ → ℕ → List (List ℕ) → Option ℕ �
 IsOptionFirst name most words None rest = (rest ≡ words) × BeginsNot name words
 IsOptionFirst name most words (Some n) rest = (after : List (List ℕ)) × (words ≡ name ∷ after) × IsNumberFirst most after n rest
 
--- the command extracts a subpicture, or asks whether it can be
-abbrev pub is_extraction : Command → Bool
-is_extraction (show file) = false
-is_extraction (extract tid level index file) = true
-is_extraction (check_extract tid index file) = true
-is_extraction help = false
-is_extraction version = false
+-- the command is one of a single word, or `show`
+abbrev pub is_plain : Command → Bool
+is_plain (show file) = true
+is_plain (extract tid level index file) = false
+is_plain (check_extract tid index file) = false
+is_plain (check_merge placings) = false
+is_plain help = true
+is_plain version = true

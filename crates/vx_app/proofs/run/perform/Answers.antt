@@ -1,6 +1,7 @@
-use Rattle.std.proofs.Common.{◌<◌, length, arith, refl, None}
-use Rattle.vx_app.specs.Grammar.{show, extract, check_extract, help, version}
-use Rattle.vx_app.proofs.Performing.{names-file, performs, performs-show, performs-extract, performs-check}
+use Rattle.std.proofs.Common.{◌<◌, length, map, arith, refl, None}
+use Rattle.vx_app.specs.Grammar.{show, extract, check_extract, check_merge, help, version, texts}
+use Rattle.vx_app.specs.inner.Placings.{placing_in}
+use Rattle.vx_app.proofs.Performing.{names-file, performs, performs-show, performs-extract, performs-check, merge_count}
 use Rattle.vx_app.proofs.run.perform.Goals as goal
 
 pub returns-in-Some-Show-clause-performs : goal.returns-in-Some-Show-clause-performs
@@ -33,3 +34,15 @@ returns-in-Some-CheckExtract-clause-performs g c =
     let within : 0 < length c.args.sources.now.items = omega arith in
     performs-check _ _ _ c.index_mut-in-Some-CheckExtract.result.now c.check_extract.new.source c.args.sources.now.items _ c.check_extract.result _ _ _ spelled within c.index_mut-in-Some-CheckExtract.ensures.value
     (c.check_extract.ensures.stop, rw c.task_of-in-Some-CheckExtract.ensures.task at c.check_extract.ensures.checks)
+
+-- ---- merges
+
+pub check_merge-requires : goal.check_merge-requires
+check_merge-requires g c =
+    let spelled = rw c.in-Some-CheckMerge.field-0-is at c.in-Some-CheckMerge.ensures.some in
+    let count = merge_count _ _ c.in-Some-CheckMerge.placings.now c.requires spelled in
+    record { words = rw c.in-Some-CheckMerge.field-0-is at c.in-Some-CheckMerge.ensures.placings; some = count.0; count = count.1 }
+
+pub returns-in-Some-CheckMerge-clause-performs : goal.returns-in-Some-CheckMerge-clause-performs
+returns-in-Some-CheckMerge-clause-performs g c =
+    performs _ _ _ _ (check_merge (map placing_in (texts c.in-Some-CheckMerge.placings.now))) (rw c.in-Some-CheckMerge.field-0-is at c.in-Some-CheckMerge.ensures.some) c.check_merge.ensures.checks

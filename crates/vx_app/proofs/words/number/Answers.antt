@@ -1,4 +1,4 @@
-use Rattle.std.proofs.Common.{◌≡◌, ℕ, ◌<◌, ◌≤◌, List, length, get_or, nat_le, ap, refl, subst, arith, ◌∙◌}
+use Rattle.std.proofs.Common.{ℕ, ◌<◌, ◌≤◌, List, length, get_or, nat_le, ap, refl, subst, arith, ◌∙◌}
 use Rattle.std.proofs.lemmas.Fmt.{parse-decimal}
 use Rattle.vx_app.proofs.Numbering.{no_further_zero, number_answer}
 use Rattle.vx_app.proofs.words.number.Goals.{else-bytes-gt1-via-then-bytes-gt1+else-bytes-lt49, else-bytes-gt1-via-else-bytes-gt1}

@@ -1,0 +1,198 @@
+-- What `check merge` finds in the pictures of several sources, and what it writes. A round is one picture of each source. In a round the
+-- sources are gone on with in order; where none is refused and none has ended, the pictures of the round are judged.
+use Rattle.std.specs.Prelude.{◌≡◌, ◌≢◌, ◌↔◌, ◌⊎◌, ℕ, ◌<◌, ◌≤◌, true, false, List, [], ◌∷◌, length, map, reverse, slice_get}
+use Rattle.std.specs.Prelude.{Option, Some, None, option_map, Result, Ok, Err, IfErr}
+use Rattle.std.specs.Io.KnownBytes.{Consumes, IsAtEnd}
+use Rattle.vx_bits.specs.declared.refusal.Refusal.{Refusal}
+use Rattle.vx_bits.specs.declared.refusal.Refusal.TheVariants.{Limit, Merge}
+use Rattle.vx_bits.specs.declared.rules.TheConstants.{TOO_MANY_SOURCES, LENGTH}
+use Rattle.vx_pic.specs.Readings.{Picture}
+use Rattle.vx_pic.specs.Rules.{Readers}
+use Rattle.vx_pic.specs.Bytes.{Ending, AreSourcePictures, AreSeenPictures}
+use Rattle.vx_pic.specs.H266.{AreOfH266}
+use Rattle.vx_pic.specs.Parts.{Parts, parts_of}
+use Rattle.vx_report.specs.declared.refusal.Where.{Where}
+use Rattle.vx_assemble.specs.Feed.{seen_of}
+use Rattle.vx_fit.specs.Lowest.{IsLowest}
+use Rattle.vx_merge.specs.declared.corner.Corner.{Corner}
+use Rattle.vx_merge.specs.Rules.{rules_of}
+use Rattle.vx_merge.specs.Verdict.{IsVerdict}
+use Rattle.vx_app.specs.declared.stop.Stop.TheVariants.{NotUnderstood, Refused, ReadFault, WriteFault, NoMemory}
+use Rattle.vx_app.specs.Change.{Change, Sources, source_at, IsUntouched, AreUntouched, HasNoFault, HasFault, GivesFront, Gains, GainsFront}
+use Rattle.vx_app.specs.Conclusion.{Outcome, IsOfCommand}
+use Rattle.vx_app.specs.Extract.{StopsBehind, ok_text}
+use Rattle.vx_app.specs.Grammar.{Placing}
+
+-- ---- streams
+
+-- what the bytes of a source tell: its pictures, the latest first, and its ending
+pub record Stream : Type 0 where
+  pub pictures : List Picture
+  pub ending : Option Ending
+
+-- its picture n, from 0
+abbrev pub picture_in : ℕ → Stream → Option Picture
+picture_in n s = slice_get (reverse s.pictures) n
+
+-- behind n pictures it goes on with another one; it has ended; or this is what ends it
+abbrev pub GoesOn : ℕ → Stream → Type 0
+GoesOn n s = n < length s.pictures
+
+abbrev pub HasEnded : ℕ → Stream → Type 0
+HasEnded n s = (length s.pictures ≡ n) × (s.ending ≡ None)
+
+abbrev pub IsRefused : ℕ → Ending → Stream → Type 0
+IsRefused n e s = (length s.pictures ≡ n) × (s.ending ≡ Some e)
+
+-- this holds of stream k, or of each of the first ones
+abbrev pub OfStream : List Stream → ℕ → (Stream → Type 0) → Type 0
+OfStream ss k P = (s : Stream) × (slice_get ss k ≡ Some s) × P s
+
+abbrev pub OfFirst : ℕ → List Stream → (Stream → Type 0) → Type 0
+OfFirst k ss P = (j : ℕ) (s : Stream) → j < k → slice_get ss j ≡ Some s → P s
+
+-- ---- rounds
+
+-- the corners of the regions that words place files in
+abbrev pub corner_of : Placing → Corner
+corner_of p = record { x = p.x; y = p.y }
+
+abbrev pub corners_of : List Placing → List Corner
+corners_of placings = map corner_of placings
+
+-- round n: picture n of each stream
+abbrev pub IsRound : List Stream → ℕ → List Parts → Type 0
+IsRound ss n round = map (λ s. option_map parts_of (picture_in n s)) ss ≡ map (λ q. Some q) round
+
+-- this is the verdict on pictures in regions with these corners
+abbrev pub Judges : List Corner → List Parts → Option Refusal → Type 0
+Judges corners round verdict = IsVerdict (length corners) (rules_of corners round) verdict
+
+-- the rounds before n are there, and break no rule
+abbrev pub RoundsPass : List Corner → List Stream → ℕ → Type 0
+RoundsPass corners ss n = (r : ℕ) → r < n → (round : List Parts) × IsRound ss r round × Judges corners round None
+
+-- none of the first k streams is refused in round n
+abbrev pub NoneRefused : ℕ → List Stream → ℕ → Type 0
+NoneRefused k ss n = OfFirst k ss (λ s. GoesOn n s ⊎ HasEnded n s)
+
+-- ---- how a merge ends
+
+-- behind the units of a source, and in a round
+abbrev pub behind_units : ℕ → ℕ → Where
+behind_units k n = record { source = k; unit = n; picture = 0; written = false }
+
+abbrev pub in_round : ℕ → Where
+in_round n = record { source = 0; unit = 0; picture = n; written = true }
+
+-- What is refused in round n: the first stream that is refused there, for what ends it; else, where one goes on, that the lowest of those
+-- that have ended has; else the round, for the first rule that it breaks.
+pub data Refuses (corners : List Corner) (ss : List Stream) (n : ℕ) (r : Refusal) (place : Where) : Type 0 where
+  by_source : (k : ℕ) (e : Ending) → OfStream ss k (IsRefused n e) → NoneRefused k ss n
+      → r ≡ e.refusal → place ≡ behind_units k e.units → Refuses corners ss n r place
+  by_length : (k : ℕ) → NoneRefused (length ss) ss n → IsLowest (length ss) (λ j. OfStream ss j (HasEnded n)) k
+      → ((j : ℕ) × OfStream ss j (GoesOn n)) → r ≡ Merge LENGTH k 0 → place ≡ in_round n → Refuses corners ss n r place
+  by_round : (round : List Parts) → IsRound ss n round → Judges corners round (Some r) → place ≡ in_round n → Refuses corners ss n r place
+
+-- all streams have ended behind n rounds
+abbrev pub AllEnded : List Stream → ℕ → Type 0
+AllEnded ss n = OfFirst (length ss) ss (HasEnded n)
+
+-- it ends behind n rounds that pass: all streams have ended there, or this is refused
+abbrev pub Ends : List Corner → List Stream → ℕ → Result (Unit {0}) (Refusal × Where) → Type 0
+Ends corners ss n (Ok _) = RoundsPass corners ss n × AllEnded ss n
+Ends corners ss n (Err (r, place)) = RoundsPass corners ss n × Refuses corners ss n r place
+
+-- It ends once.
+abbrev pub EndsOnce : Type 0
+EndsOnce = (corners : List Corner) (ss : List Stream) (n m : ℕ) (a b : Result (Unit {0}) (Refusal × Where))
+    → 0 < length ss → Ends corners ss n a → Ends corners ss m b → (n ≡ m) × (a ≡ b)
+
+-- it can be done
+abbrev pub IsMergeable : List Corner → List Stream → Type 0
+IsMergeable corners ss = (n : ℕ) × Ends corners ss n (Ok tt)
+
+-- 0 exactly where it can, and else 1
+pub record IsMergeStatus (corners : List Corner) (ss : List Stream) (status : ℕ) : Type 0 where
+  pub done : (status ≡ 0) ↔ IsMergeable corners ss
+  pub refused : (status ≡ 1) ↔ ¬ IsMergeable corners ss
+
+-- ---- sources
+
+-- each source tells its bytes, and these are their pictures and endings
+pub record AreTold {A : Type 0} (R : Readers) (sources : Sources A) (ss : List Stream) : Type 0 where
+  pub count : length ss ≡ length sources.old
+  pub each : (k : ℕ) (s : Stream) → slice_get ss k ≡ Some s
+      → let c = source_at sources k in (b : List ℕ) × (c.bytes c.old ≡ Some b) × AreSourcePictures R b s.pictures s.ending
+
+-- of the bytes that all sources tell
+abbrev pub WhereAllTold : {A : Type 0} → Readers → Sources A → (List Stream → Type 0) → Type 0
+WhereAllTold R sources P = (ss : List Stream) → AreTold R sources ss → P ss
+
+-- of each source
+abbrev pub OfEach : {A : Type 0} → Sources A → (Change (List A) → Type 0) → Type 0
+OfEach sources P = (k : ℕ) → k < length sources.old → P (source_at sources k)
+
+-- of each source but this one
+abbrev pub OfOthers : {A : Type 0} → ℕ → Sources A → (Change (List A) → Type 0) → Type 0
+OfOthers k sources P = (j : ℕ) → j < length sources.old → j ≢ k → P (source_at sources j)
+
+-- no read failed, and a front of its bytes was given
+abbrev pub IsRead : {A : Type 0} → Change A → Type 0
+IsRead c = HasNoFault c × GivesFront c
+
+-- all of them were given
+abbrev pub IsReadOut : {A : Type 0} → Change A → Type 0
+IsReadOut c = HasNoFault c × GivesFront c × IsAtEnd (c.bytes c.new)
+
+-- it was read no further than it had to be: to its end, not at all, or fewer bytes past the end of its last picture than a read asks for
+abbrev pub Rests : {A : Type 0} → Readers → Change A → Type 0
+Rests R c = IsAtEnd (c.bytes c.new) ⊎ (c.bytes c.new ≡ c.bytes c.old) ⊎ ((p : Picture) × (before : List Picture) × StopsBehind R c p before)
+
+abbrev pub RestsRead : {A : Type 0} → Readers → Change A → Type 0
+RestsRead R c = IsRead c × Rests R c
+
+-- a refusal at this place is one of source k
+abbrev pub IsOfSource : Where → ℕ → Type 0
+IsOfSource place k = (place.written ≡ false) × (place.source ≡ k)
+
+-- n pictures are seen in what it has given, however that goes on
+pub record Sees {A : Type 0} (R : Readers) (c : Change A) (n : ℕ) : Type 0 where
+  pub given : List ℕ
+  pub pictures : List Picture
+  pub gave : Consumes (c.bytes c.old) (c.bytes c.new) given
+  pub seen : AreSeenPictures R (seen_of given) pictures
+  pub count : length pictures ≡ n
+
+-- ---- `check merge`
+
+-- What it did to its sources and to `out`, by what came of it: it says how many rounds there are, and writes that line alone. A failed read
+-- of source k ends it: round n isn't whole, where n pictures of that source are seen, and those before pass.
+abbrev pub ChecksMergeBy : {A K : Type 0} → Readers → List Corner → Sources A → Change K → Outcome → Type 0
+ChecksMergeBy R corners sources out (Ok _) =
+    OfEach sources IsReadOut × HasNoFault out
+    × WhereAllTold R sources (λ ss. (n : ℕ) × Ends corners ss n (Ok tt) × Gains out (ok_text n))
+ChecksMergeBy R corners sources out (Err (Refused r place)) =
+    OfEach sources IsRead × ((k : ℕ) → k < length sources.old → ¬ IsOfSource place k → Rests R (source_at sources k)) × IsUntouched out
+    × WhereAllTold R sources (λ ss. (n : ℕ) × Ends corners ss n (Err (r, place)))
+ChecksMergeBy R corners sources out (Err (ReadFault k)) =
+    (k < length sources.old) × HasFault (source_at sources k) × OfOthers k sources (RestsRead R) × IsUntouched out
+    × ((n : ℕ) × Sees R (source_at sources k) n × WhereAllTold R sources (λ ss. RoundsPass corners ss n × NoneRefused k ss n))
+ChecksMergeBy R corners sources out (Err WriteFault) =
+    OfEach sources IsReadOut × HasFault out
+    × WhereAllTold R sources (λ ss. (n : ℕ) × Ends corners ss n (Ok tt) × GainsFront out (ok_text n))
+ChecksMergeBy R corners sources out (Err NoMemory) = OfEach sources IsRead × IsUntouched out
+ChecksMergeBy R corners sources out (Err NotUnderstood) = ⊥
+
+-- where the words name more sources than a merge may have
+abbrev pub most_sources : ℕ
+most_sources = 64
+
+abbrev pub too_many : Outcome
+too_many = Err (Refused (Limit TOO_MANY_SOURCES) (in_round 0))
+
+-- Nothing is then read or written. Else it is so by the readers of H.266; and the words were understood.
+pub record ChecksMerge {A K : Type 0} (corners : List Corner) (sources : Sources A) (out : Change K) (outcome : Outcome) : Type 0 where
+  pub stop : IfErr outcome IsOfCommand
+  pub many : most_sources < length corners → (outcome ≡ too_many) × AreUntouched sources × IsUntouched out
+  pub checks : length corners ≤ most_sources → (R : Readers) → AreOfH266 R → ChecksMergeBy R corners sources out outcome
