@@ -1,13 +1,10 @@
 //! Rows worked by hand, a header of a merged stream, and the ends of ranges.
-ghost use Rattle.std.specs.Prelude.{◌<◌, ◌≤◌, length};
-ghost use Rattle.vx_ph.specs.Reshaped.{HaveSameKept, IsApart};
+ghost use Rattle.std.specs.Prelude.{◌≤◌, length};
 
-use crate::{PhShape, PictureHeader, read_header_at, read_ph, reshape_ph, write_ph, write_unit_at};
+use crate::{PictureHeader, read_header_at, read_ph, write_ph, write_unit_at};
 use std::alloc::{AllocError, Global};
-use std::process::Abort;
 use std::test::Fail;
 use vx_bits::{BitReader, BitWriter, Fields, Item, ReadError, Refusal};
-use vx_fields::pps::{pps_alf_info_in_ph_flag, pps_qp_delta_info_in_ph_flag};
 use vx_pps::{Pps, read_pps};
 use vx_rpl::{RefEntry, RefList, RplTable, StructureList};
 use vx_sps::{Sps, read_sps};
@@ -282,18 +279,14 @@ fn under_sets(
     Ok((text, unit))
 }
 
-/// The sets of a merged stream.
-fn merged_sets(rt: &impl Abort, alloc: Global) -> Result<(Sps, Pps), Fail> {
-    let sps = bytes(alloc, "00030233800000408105534007bc00600c100020")?;
-    let pps = bytes(alloc, "0000204082057a530801")?;
-    assert!(rt; sps.len() <= 2000);
-    assert!(rt; pps.len() <= 2000);
-    Ok((read(alloc, &sps)?, read_picture_set(alloc, &pps)?))
-}
-
 #[test]
 fn reads_a_merged_header(rt: HostRuntime) -> Result<(), Fail> {
-    let (sps, pps) = merged_sets(&rt, rt.alloc())?;
+    let sps = bytes(rt.alloc(), "00030233800000408105534007bc00600c100020")?;
+    let pps = bytes(rt.alloc(), "0000204082057a530801")?;
+    assert!(rt; sps.len() <= 2000);
+    assert!(rt; pps.len() <= 2000);
+    let sps = read(rt.alloc(), &sps)?;
+    let pps = read_picture_set(rt.alloc(), &pps)?;
     let mut bits = BitReader::new(&[0x88, 0x40]);
     let (text, written) = under_sets(rt.alloc(), &sps, &pps, &mut bits)?;
     assert_eq!(rt; text.as_str(), "600=1 601=0 602=0 603=0 605=0 606=0 -|-");
@@ -301,39 +294,5 @@ fn reads_a_merged_header(rt: HostRuntime) -> Result<(), Fail> {
         (written.as_slice(), bits.at()),
         ([0x88, 0x40].as_slice(), 9)
     );
-    Ok(())
-}
-
-/// The unit of the header that is read, as it is sent with a PPS of another id.
-fn with_pps(
-    alloc: Global,
-    sps: &Sps,
-    pps: &Pps,
-    bits: &mut BitReader<'_>,
-    pps_id: u8,
-) -> Result<Vec<u8>, ReadError>
-    requires small { pps_id < 64 }
-    requires same { HaveSameKept sps.now pps.now sps.now pps.now }
-    requires apart { IsApart pps.now }
-{
-    let source = read_ph(alloc, bits, sps, pps)?;
-    let shape = PhShape {
-        pps_id,
-        lmcs: None,
-        scaling: None,
-    };
-    let header = reshape_ph(alloc, &source, &shape, sps, pps)?;
-    Ok(write_ph(alloc, &header, sps, pps)?)
-}
-
-#[test]
-fn states_another_pps(rt: HostRuntime) -> Result<(), Fail> {
-    let (sps, pps) = merged_sets(&rt, rt.alloc())?;
-    assert!(rt; pps.fields().len() < sps.fields().len());
-    assert!(rt; pps.scope().latest(pps_alf_info_in_ph_flag) == 0);
-    assert!(rt; pps.scope().latest(pps_qp_delta_info_in_ph_flag) == 0);
-    let mut bits = BitReader::new(&[0x88, 0x40]);
-    let unit = with_pps(rt.alloc(), &sps, &pps, &mut bits, 5)?;
-    assert_eq!(rt; unit.as_slice(), [0x83, 0x04].as_slice());
     Ok(())
 }
