@@ -6,7 +6,7 @@ use Rattle.vx_merge.proofs.headers.lowest_other_header.Goals as goal
 
 pub header_field-requires-clause-first : goal.header_field-requires-clause-first
 header_field-requires-clause-first c =
-    c.in_ok-first.ensures ∙ (ap (λ h. inputs.header_fields h.fields) c.header.ensures
+    c.in_ok-first.ensures ∙ (ap (λ h. inputs.header_fields h.fields) c.header.ensures.value
     ∙ ap kept_header (picture_read c.args.round.now 0 c.index-round-0.result (omega (arith, c.requires)) c.index-round-0.is))
 
 pub returns-in-Some : goal.returns-in-Some
