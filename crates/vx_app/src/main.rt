@@ -12,12 +12,6 @@ mod stop;
 mod tests;
 #[cfg(test)]
 mod tests_extract;
-#[cfg(test)]
-mod tests_faults;
-#[cfg(test)]
-mod tests_limits;
-#[cfg(test)]
-mod tests_merge;
 mod words;
 
 use conclude::finish;
