@@ -19,7 +19,7 @@ use Rattle.vx_assemble.specs.Held.{Held, last_told, Stands, HasPicture, ShowsLat
 use Rattle.vx_assemble.specs.declared.state.BegunPicture.{BegunPicture}
 use Rattle.vx_assemble.specs.declared.state.CurrentPicture.{CurrentPicture}
 use Rattle.vx_assemble.specs.inner.Held.{begun_of, slice_of, IsGoing, Keeps}
-use Rattle.vx_assemble.specs.inner.Order.{IsSlot, AreSlots, AreRead, IsOrdered, AreAll, IsComplete}
+use Rattle.vx_assemble.specs.inner.Order.{IsOfUnit, IsSlot, AreSlots, AreRead, IsOrdered, AreAll, IsComplete}
 use Rattle.vx_assemble.specs.inner.Takes.{at_begun}
 use Rattle.vx_assemble.specs.inner.Lent.{parts_by, parts_in}
 use Rattle.vx_assemble.proofs.Steps.{same_some}
@@ -78,8 +78,11 @@ pub makes_picture : (p : PictureParts) (c : CurrentPicture) (b : BegunPicture) (
 makes_picture p c b k order complete begun kind of_kind sps pps layout header ids bytes end slices bodies =
     let slots = slots_of c b begun order in
     let head = header_is c b begun order in
+    let of : IsOfUnit (Some k) = subst IsOfUnit kind order.kind in
     let all : (0 < length c.slices) × (length c.slices ≡ length b.sets.layout.slices) = subst (λ x. AreAll x c.slices) begun complete.slices in
     record {
+      type = rw of_kind of.0;
+      tid = rw of_kind of.1;
       some = rw slices all.0;
       whole = rw (slices, layout) all.1;
       few = rw (slices, all.1) head.sets.few;

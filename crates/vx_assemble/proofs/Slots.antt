@@ -17,7 +17,7 @@ use Rattle.vx_assemble.specs.declared.state.BegunPicture.{BegunPicture}
 use Rattle.vx_assemble.specs.declared.state.CurrentPicture.{CurrentPicture}
 use Rattle.vx_assemble.specs.declared.state.State.{State}
 use Rattle.vx_assemble.specs.inner.Held.{begun_of, slice_of}
-use Rattle.vx_assemble.specs.inner.Order.{IsHeader, IsSlot, AreSlots, AreRead, IsOrdered, IsInOrder, AreAll, IsComplete}
+use Rattle.vx_assemble.specs.inner.Order.{IsHeader, IsOfUnit, IsSlot, AreSlots, AreRead, IsOrdered, IsInOrder, AreAll, IsComplete}
 use Rattle.vx_assemble.specs.inner.Takes.{at_begun, header_read_as}
 use Rattle.vx_assemble.specs.declared.slices.Opened.{Opened}
 use Rattle.vx_assemble.specs.inner.Slices.{HasJoined, HasJoinedFirst}
@@ -53,6 +53,7 @@ slots_grow (Some b) bytes more sets slots are = (are.0, all_grow b bytes more se
 
 pub bytes_ordered : (u : List ℕ) (c : CurrentPicture) → IsOrdered c → length c.bytes + length u ≤ picture_limit → IsOrdered (with_bytes u c)
 bytes_ordered u c o fits = record {
+  kind = o.kind;
   bytes = rw (length-append c.bytes u) fits;
   header = let end : c.header_end ≤ length c.bytes = o.header in omega (arith, length-append c.bytes u);
   slots = slots_grow c.begun c.bytes u c.bodies c.slices o.slots;
@@ -109,6 +110,7 @@ slice_ordered u r c o fits joined =
     let grown = bytes_ordered u c o fits in
     let slot = slot_behind (length c.bytes) u r in
     record {
+      kind = o.kind;
       bytes = grown.bytes;
       header = grown.header;
       slots = slots_push c.begun (c.bytes ++ u) c.bodies c.slices slot grown.slots
@@ -121,7 +123,7 @@ slice_ordered u r c o fits joined =
 
 pub header_ordered : (b : BegunPicture) (u : List ℕ) (c : CurrentPicture) → IsOrdered c → IsHeader b → length u ≤ picture_limit
     → IsOrdered (with_header b u c)
-header_ordered b u c o is fits = record { bytes = fits; header = omega arith; slots = (is, tt); read = tt; messages = o.messages }
+header_ordered b u c o is fits = record { kind = tt; bytes = fits; header = omega arith; slots = (is, tt); read = tt; messages = o.messages }
 
 no_slots : (o : Option BegunPicture) (bytes : List ℕ) (sets others : List (Option Aps)) (slots : List SliceSlot) → AreSlots o bytes sets slots
     → AreSlots o bytes others []
@@ -133,8 +135,9 @@ none_read None k = tt
 none_read (Some b) k = tt
 
 pub kind_ordered : (k : Kind) (sets : List (Option Aps)) (m : List Message) (c : CurrentPicture) → IsOrdered c
-    → spelled_length m ≤ message_limit → IsOrdered (with_kind k sets m c)
-kind_ordered k sets m c o few = record {
+    → IsOfUnit (Some k) → spelled_length m ≤ message_limit → IsOrdered (with_kind k sets m c)
+kind_ordered k sets m c o of few = record {
+  kind = of;
   bytes = o.bytes;
   header = o.header;
   slots = no_slots c.begun c.bytes c.bodies sets c.slices o.slots;

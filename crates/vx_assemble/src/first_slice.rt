@@ -1,5 +1,5 @@
 //! A picture that begins with its first slice.
-ghost use Rattle.std.specs.Prelude.{◌≡◌, ◌^◌, ◌<◌, ◌≤◌, option_map};
+ghost use Rattle.std.specs.Prelude.{◌≡◌, ◌^◌, ◌<◌, ◌≤◌, option_map, IfOk};
 ghost use Rattle.vx_pic.specs.Sets as sets;
 ghost use Rattle.vx_assemble.specs.inner.Held.{begun_of};
 ghost use Rattle.vx_assemble.specs.inner.Opening.{held_anew, held_changed, opened_in, IsCountedBy, tid0_by};
@@ -103,7 +103,8 @@ impl State {
     ///
     /// It starts elsewhere than at an IRAP or GDR picture, its SPS has changed, or its count is out of range.
     pub(crate) fn open(&self, begun: &BegunPicture, header: NalHeader) -> Result<Kind, Refusal>
-        ensures { result ≡ opened_in self.now (begun_of begun.now None) header.nal_type header.temporal_id }
+        ensures value { result ≡ opened_in self.now (begun_of begun.now None) header.nal_type header.temporal_id }
+        ensures heads { IfOk result (λ kind. (kind.nal_type ≡ header.nal_type) × (kind.temporal_id ≡ header.temporal_id)) }
     {
         let anew = self.begins_anew();
         if anew && !is_irap_or_gdr(header.nal_type) {

@@ -47,6 +47,13 @@ pub(crate) struct Whole {
     pub previous: PrevTid0,
 }
 
+/// What is known of the header of a unit: the lengths of its fields (H.266 7.3.1.2). Does nothing.
+fn header_is_low(unit: SliceUnit<'_>)
+    ensures { (unit.entry.header.nal_type < 32) × (unit.entry.header.temporal_id < 7) }
+{
+    let _second = unit.bytes[1];
+}
+
 impl State {
     /// What the picture of a header begins with, at this unit.
     ///
@@ -64,9 +71,11 @@ impl State {
         ensures answer { (R : Readers) → AreOfH266 R → (before : List Reading) → IsApart self.now before → (b : Begun) → IsFresh self.now.picture begun.now b
             → Gives (first R before b unit.entry.bytes.now) (answer_by (first_read_as b unit.entry.bytes.now) result) }
         ensures joined { IfOk result (λ o. IsJoined begun.now o.kind.nal_type o.bodies (length unit.entry.bytes.now) o.read) }
+        ensures kind { IfOk result (λ o. (o.kind.nal_type < 32) × (o.kind.temporal_id < 7)) }
         ensures bodies { IfOk result (λ o. o.bodies ≡ self.now.aps) }
         ensures size { OnOk result (length self.now.picture.bytes + length unit.entry.bytes.now ≤ picture_limit) }
     {
+        header_is_low(unit);
         let kind = match self.open(begun, unit.header) {
             Ok(kind) => kind,
             Err(refusal) => return Err(ReadError::Refused(refusal)),
@@ -125,6 +134,7 @@ impl State {
         requires size { length self.old.picture.bytes + length unit.now ≤ picture_limit }
         requires payload { opened.read.payload < length unit.now }
         requires joined { HasJoinedFirst self.old.picture (length unit.now) opened }
+        requires kind { (opened.kind.nal_type < 32) × (opened.kind.temporal_id < 7) }
         ensures ok { OnOk result (self.new ≡ with_first unit.now opened self.old) }
         ensures order { IsInOrder self.new }
     {

@@ -123,6 +123,9 @@ pub record IsReadAt (n : At) (h : SliceValue) : Type 0 where
 
 -- Parts that make up a picture.
 pub record MakePicture (p : PictureParts) : Type 0 where
+  -- its type and its TemporalId are those of a NAL unit (the first slice's)
+  pub type : p.kind.nal_type < 32
+  pub tid : p.kind.temporal_id < 7
   -- there is a slice, and all slices of the layout came (a whole picture), of which there are at most so many
   pub some : 0 < length p.slices.now
   pub whole : length p.slices.now ≡ length p.layout.now.slices

@@ -106,7 +106,9 @@ impl<'a> Picture<'a> {
 
     /// What it is among the pictures of its stream.
     pub fn kind(&self) -> Kind
-        ensures { result ≡ self.now.kind }
+        ensures value { result ≡ self.now.kind }
+        ensures nal_type { result.nal_type < 32 }
+        ensures tid { result.temporal_id < 7 }
     {
         self.parts.kind
     }
@@ -162,9 +164,10 @@ impl<'a> Picture<'a> {
         Some(&self.parts.bytes[..self.parts.header_end])
     }
 
-    /// The number of its slices, at most 1,000.
+    /// The number of its slices, at most 1,000: all those of its layout.
     pub fn slice_count(&self) -> u32
         ensures number { result ≡ length self.now.slices }
+        ensures whole { result ≡ length self.now.layout.slices }
         ensures some { 0 < result }
         ensures few { result ≤ 1000 }
     {

@@ -71,8 +71,14 @@ AreRead None k slots = Unit {0}
 AreRead (Some b) None slots = Unit {0}
 AreRead (Some b) (Some k) slots = AllByRecursion (λ s. IsReadAt (at_begun k.nal_type b) s.header) slots
 
+-- what a picture is whose first slice came: its type and its TemporalId are those of a NAL unit
+abbrev pub IsOfUnit : Option Kind → Type 0
+IsOfUnit None = Unit {0}
+IsOfUnit (Some k) = (k.nal_type < 32) × (k.temporal_id < 7)
+
 -- the picture lies in order
 pub record IsOrdered (c : CurrentPicture) : Type 0 where
+  pub kind : IsOfUnit c.kind
   pub bytes : length c.bytes ≤ picture_limit
   pub header : c.header_end ≤ length c.bytes
   pub slots : AreSlots c.begun c.bytes c.bodies c.slices

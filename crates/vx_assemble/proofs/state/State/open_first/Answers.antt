@@ -9,7 +9,7 @@ returns-in-Err-join-clause-answer c R h before held b fresh =
     let u = c.args.unit in
     let s = c.args.self.now in
     join_refused R s before c.args.begun.now b u.bytes.now u.header.nal_type u.header.temporal_id c.in-Ok.kind c.in-Err-join.error held fresh
-    (ap (λ x. x.nal_type) u.heads) (ap (λ x. x.temporal_id) u.heads) c.in-Ok.ensures
+    (ap (λ x. x.nal_type) u.heads) (ap (λ x. x.temporal_id) u.heads) c.in-Ok.ensures.value
     (c.in-Err-join.ensures.answer R h (opened before b c.in-Ok.kind)
     (fresh_at _ s.picture before b c.in-Ok.kind s.aps fresh held.aps c.in_ok-bodies.ensures refl c.len.ensures c.len-2.ensures))
 
@@ -18,6 +18,6 @@ returns-clause-answer c R h before held b fresh =
     let u = c.args.unit in
     let s = c.args.self.now in
     first_reads R s before c.args.begun.now b u.bytes.now u.header.nal_type u.header.temporal_id c.in-Ok.kind (slice_read_as u.bytes.now c.in-Ok-join.read)
-    held fresh (ap (λ x. x.nal_type) u.heads) (ap (λ x. x.temporal_id) u.heads) c.in-Ok.ensures
+    held fresh (ap (λ x. x.nal_type) u.heads) (ap (λ x. x.temporal_id) u.heads) c.in-Ok.ensures.value
     (c.in-Ok-join.ensures.answer R h (opened before b c.in-Ok.kind)
     (fresh_at _ s.picture before b c.in-Ok.kind s.aps fresh held.aps c.in_ok-bodies.ensures refl c.len.ensures c.len-2.ensures))
