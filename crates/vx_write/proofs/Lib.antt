@@ -6,6 +6,7 @@ pub mod Listable
 pub mod Ending
 pub mod Held
 pub mod Vacant
+pub mod Headed
 pub mod Tids
 pub mod Spelled
 pub mod SetBySet

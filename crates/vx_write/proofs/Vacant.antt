@@ -1,5 +1,5 @@
 -- Slots into which nothing was sent.
-use Rattle.std.proofs.Common.{◌≡◌, ℕ, ℤ, zero, suc, pos, ◌+◌, ◌<◌, ◌^◌, Bool, true, false, cond, ◌&&◌, List, [], ◌∷◌, length, take, slice_get, get_or, Option, Some, None, refl, sym, ap, ◌∙◌, inl, inr, arith}
+use Rattle.std.proofs.Common.{◌≡◌, ℕ, ℤ, zero, suc, pos, ◌<◌, ◌^◌, Bool, true, false, cond, ◌&&◌, List, [], ◌∷◌, slice_get, Option, Some, None, refl, sym, ap, ◌∙◌, inl, inr, arith}
 use Rattle.std.specs.Prelude.{◌==◌, nat_le}
 use Rattle.std.specs.Ordering.{int_eq}
 use Rattle.std.specs.Cmp.{int_eq_equiv}
@@ -60,7 +60,7 @@ itself_items : (items : List Item) → same_items items items ≡ true
 itself_items [] = refl
 itself_items (x ∷ items) = rw (same_field x.field, int_same x.value, itself_items items) refl
 
-itself_bytes : (bytes : List ℕ) → same_bytes bytes bytes ≡ true
+pub itself_bytes : (bytes : List ℕ) → same_bytes bytes bytes ≡ true
 itself_bytes [] = refl
 itself_bytes (b ∷ bytes) = rw (same_field b, itself_bytes bytes) refl
 
@@ -74,7 +74,7 @@ own_set (an_sps s) = itself_items s
 own_set (a_pps p) = itself_items p
 own_set (an_aps a) = rw (same_field a.kind, same_field a.id, itself_bytes a.body) refl
 
-last_alike : (a b : Set) (sent : List SetUnit) → same_slot a b ≡ true → last_of a sent ≡ last_of b sent
+pub last_alike : (a b : Set) (sent : List SetUnit) → same_slot a b ≡ true → last_of a sent ≡ last_of b sent
 last_alike a b [] is = refl
 last_alike a b (x ∷ sent) is = rw (last_alike a b sent is, right_alike x.set a b is) refl
 
@@ -90,7 +90,7 @@ last_slot s x (y ∷ sent) is = by (last_of s sent) (λ some. last_slot s x sent
     by None before same = one (same_slot y.set s) refl same
     by (Some z) before same = before same
 
-vacant_alike : (a b : Set) (slots : List Sent) → same_slot a b ≡ true → is_vacant a slots ≡ is_vacant b slots
+pub vacant_alike : (a b : Set) (slots : List Sent) → same_slot a b ≡ true → is_vacant a slots ≡ is_vacant b slots
 vacant_alike a b [] is = refl
 vacant_alike a b (x ∷ slots) is = rw (right_alike x.set a b is, vacant_alike a b slots is) refl
 
@@ -143,29 +143,3 @@ vacant_there sent slots s last none = elim (cases_Bool (is_vacant s slots)) [
       let not : serves y.0.temporal_id y.0.set (last_of y.0.set sent) ≡ false = ap (serves y.0.temporal_id y.0.set) gone in
       absurd (true≢false (sym y.2 ∙ (last y.0.temporal_id y.0.set ∙ not)))
 ]
-
--- ---- one slot more
-
-pub vacant_more : (s : Set) (slots : List Sent) (i : ℕ) (x : Sent) → i < length slots → x ≡ get_or slots i x → same_slot x.set s ≡ false
-    → is_vacant s (take i slots) ≡ true → is_vacant s (take (i + 1) slots) ≡ true
-vacant_more s [] i x within at other before = absurd (omega (arith, within))
-vacant_more s (y ∷ slots) zero x within at other before =
-    let same : y ≡ x = sym at in
-    rw (same, other) refl
-vacant_more s (y ∷ slots) (suc i) x within at other before = let next : suc i + 1 ≡ suc (i + 1) = omega arith in rw next (by (same_slot y.set s) (λ vacant. vacant_more s slots i x (omega (arith, within)) at other vacant) before)
-  where
-    by : (b : Bool) → (is_vacant s (take i slots) ≡ true → is_vacant s (take (i + 1) slots) ≡ true) → cond b false (is_vacant s (take i slots)) ≡ true
-        → cond b false (is_vacant s (take (i + 1) slots)) ≡ true
-    by true later vacant = absurd (true≢false (sym vacant))
-    by false later vacant = later vacant
-
-pub vacant_not : (s : Set) (slots : List Sent) (i : ℕ) (x : Sent) → i < length slots → x ≡ get_or slots i x → same_slot x.set s ≡ true → is_vacant s slots ≡ false
-vacant_not s [] i x within at own = absurd (omega (arith, within))
-vacant_not s (y ∷ slots) zero x within at own =
-    let same : y ≡ x = sym at in
-    rw (same, own) refl
-vacant_not s (y ∷ slots) (suc i) x within at own = by (same_slot y.set s) (vacant_not s slots i x (omega (arith, within)) at own)
-  where
-    by : (b : Bool) → is_vacant s slots ≡ false → cond b false (is_vacant s slots) ≡ false
-    by true rest = refl
-    by false rest = rest

@@ -1,5 +1,6 @@
 -- The sets that were sent, as they are kept: the last one of each type and id.
-use Rattle.std.specs.Prelude.{◌≡◌, ℕ, pos, ◌&&◌, nat_le, Bool, true, false, cond, List, [], ◌∷◌}
+use Rattle.std.specs.Prelude.{◌≡◌, ℕ, pos, ◌&&◌, nat_le, Bool, true, false, cond, List, [], ◌∷◌, drop}
+use Rattle.vx_bits.specs.declared.list.Item.{Item}
 use Rattle.vx_fields.specs.declared.pps.TheConstants.{pps_pic_parameter_set_id}
 use Rattle.vx_pic.specs.Written.{Set, a_pps, SetUnit}
 use Rattle.vx_pic.specs.Resident.{same_slot, same_set, last_of, serves}
@@ -30,3 +31,7 @@ is_vacant s (x ∷ more) = cond (same_slot x.set s) false (is_vacant s more)
 -- a set of an id alone, which stands for all PPSs of it
 abbrev pub a_pps_of : ℕ → Set
 a_pps_of id = a_pps (record { field = pps_pic_parameter_set_id; value = pos id } ∷ [])
+
+-- a PPS with another id, which is its first item (7.3.2.5)
+abbrev pub pps_with_id : ℕ → List Item → List Item
+pps_with_id id items = record { field = pps_pic_parameter_set_id; value = pos id } ∷ drop 1 items

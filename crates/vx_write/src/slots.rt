@@ -3,12 +3,15 @@ ghost use Rattle.std.specs.Prelude.{◌≡◌, ◌<◌, [], ◌∷◌, length, s
 ghost use Rattle.vx_write.specs.inner.Kept.{set_kept};
 ghost use Rattle.vx_write.specs.Sets.{set_lent, id_of};
 ghost use Rattle.vx_write.specs.inner.Places.{IsPlace};
-ghost use Rattle.vx_write.specs.Slots.{held_serves, is_vacant, a_pps_of, AnswerAlike};
+ghost use Rattle.vx_write.specs.Slots.{held_serves, is_vacant, a_pps_of, pps_with_id, AnswerAlike};
 ghost use Rattle.vx_pic.specs.Resident as resident;
+ghost use Rattle.vx_pic.specs.Written.{a_pps};
 
-use crate::written::{NeededSet, WrittenSet, id_of_set, kept, same_set, same_slot};
+use crate::written::{NeededSet, WrittenSet, id_of_set, kept, same_pps_as, same_set, same_slot};
 use std::alloc::{AllocError, Global};
 use std::marker::Model;
+use vx_bits::Item;
+use vx_pps::Pps;
 
 /// A set that was sent, with its id and the TemporalId of its unit.
 #[derive(Drop)]
@@ -70,6 +73,13 @@ impl SentSet {
             WrittenSet::Pps(_) => self.id == id,
             _ => false,
         }
+    }
+
+    /// Whether it is the PPS of these items, but with this id, and can be decoded with pictures of this TemporalId.
+    fn serves_pps_as(&self, temporal_id: u8, pps: &[Item], id: u32) -> bool
+        ensures { result ≡ (resident.same_set self.now.set (a_pps (pps_with_id id pps.now)) && nat_le self.now.temporal_id temporal_id) }
+    {
+        same_pps_as(&self.set, pps, id) && self.temporal_id <= temporal_id
     }
 }
 
@@ -147,16 +157,38 @@ impl Slots {
         }
     }
 
+    /// Where the PPS of an id stands.
+    fn place_of_pps(&self, id: u32) -> Option<usize>
+        ensures { IsPlace (a_pps_of id) self.now result }
+    {
+        for i in 0..self.sets.len() {
+            if self.sets[i].is_pps(id) {
+                return Some(i);
+            }
+        }
+        None
+    }
+
     /// Whether no PPS of this id was sent.
     pub fn is_pps_vacant(&self, id: u32) -> bool
         ensures { result ≡ is_vacant (a_pps_of id) self.now }
     {
-        for i in 0..self.sets.len() {
-            if self.sets[i].is_pps(id) {
-                return false;
-            }
+        match self.place_of_pps(id) {
+            Some(_) => false,
+            None => true,
         }
-        true
+    }
+
+    /// Whether a PPS is resident with another id: the last one sent with that id is the same but for it, and can be decoded with
+    /// pictures of this TemporalId.
+    pub fn serves_pps_as(&self, temporal_id: u8, pps: &Pps, id: u32) -> bool
+        ensures { result ≡ held_serves temporal_id (a_pps (pps_with_id id pps.now)) self.now }
+    {
+        let items = pps.fields();
+        match self.place_of_pps(id) {
+            Some(i) => self.sets[i].serves_pps_as(temporal_id, items.as_slice(), id),
+            None => false,
+        }
     }
 
     /// Puts a set, sent in a unit of this TemporalId, into the place of the one of its type and id.

@@ -12,7 +12,12 @@ use vx_sei::{MessageList, write_sei};
 use vx_sps::{Sps, write_sps};
 
 /// The unit of layer 0 of a type, a TemporalId and an RBSP (H.266 7.3.1).
-fn unit_of(alloc: Global, nal_type: u8, temporal_id: u8, rbsp: &[u8]) -> Result<Vec<u8>, AllocError>
+pub fn plain_unit(
+    alloc: Global,
+    nal_type: u8,
+    temporal_id: u8,
+    rbsp: &[u8],
+) -> Result<Vec<u8>, AllocError>
     requires nal_type { nal_type < 32 }
     requires temporal_id { temporal_id < 7 }
     requires ends { EndsInNoZero rbsp.now }
@@ -30,7 +35,7 @@ pub fn sps_unit(alloc: Global, sps: &Sps) -> Result<Vec<u8>, AllocError>
     ensures { (tid : ℕ) → IfOk result (λ unit. IsSetUnit tid (an_sps sps.now) unit.items) }
 {
     let rbsp = write_sps(alloc, sps)?;
-    let unit = unit_of(alloc, SPS_NUT, 0, &rbsp)?;
+    let unit = plain_unit(alloc, SPS_NUT, 0, &rbsp)?;
     Ok(unit)
 }
 
@@ -40,7 +45,7 @@ pub fn pps_unit(alloc: Global, pps: &Pps, temporal_id: u8) -> Result<Vec<u8>, Al
     ensures { IfOk result (λ unit. IsSetUnit temporal_id (a_pps pps.now) unit.items) }
 {
     let rbsp = write_pps(alloc, pps)?;
-    let unit = unit_of(alloc, PPS_NUT, temporal_id, &rbsp)?;
+    let unit = plain_unit(alloc, PPS_NUT, temporal_id, &rbsp)?;
     Ok(unit)
 }
 
@@ -62,7 +67,7 @@ pub fn aps_unit(
     let mut rbsp = Vec::new(alloc);
     rbsp.push(32 * kind + id)?;
     rbsp.extend_from_slice(body)?;
-    unit_of(alloc, PREFIX_APS_NUT, temporal_id, &rbsp)
+    plain_unit(alloc, PREFIX_APS_NUT, temporal_id, &rbsp)
 }
 
 /// The SEI unit of messages for a picture of this TemporalId; None where there are no messages.
@@ -78,6 +83,6 @@ pub fn sei_unit(
         return Ok(None);
     }
     let rbsp = write_sei(alloc, messages)?;
-    let unit = unit_of(alloc, PREFIX_SEI_NUT, temporal_id, &rbsp)?;
+    let unit = plain_unit(alloc, PREFIX_SEI_NUT, temporal_id, &rbsp)?;
     Ok(Some(unit))
 }

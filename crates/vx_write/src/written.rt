@@ -1,10 +1,12 @@
 //! Sets that are written.
-ghost use Rattle.std.specs.Prelude.{◌≡◌, ◌<◌, IfOk};
+ghost use Rattle.std.specs.Prelude.{◌≡◌, ◌<◌, drop, IfOk};
 ghost use Rattle.vx_pic.specs.Sets as sets;
 ghost use Rattle.vx_pic.specs.Resident as resident;
+ghost use Rattle.vx_pic.specs.Written.{a_pps};
 ghost use Rattle.vx_write.specs.Units.{IsSetUnit};
 ghost use Rattle.vx_write.specs.inner.Kept.{set_kept};
 ghost use Rattle.vx_write.specs.Sets.{set_lent, id_of, unit_tid, CanBeWritten};
+ghost use Rattle.vx_write.specs.Slots.{pps_with_id};
 
 use crate::units::{aps_unit, pps_unit, sps_unit};
 use std::alloc::{AllocError, Global};
@@ -150,6 +152,38 @@ pub(crate) fn same_set(kept: &WrittenSet, set: NeededSet<'_>) -> bool
                 && aps.id == needed.id
                 && same_bytes(aps.body.as_slice(), needed.body)
         }
+        _ => false,
+    }
+}
+
+/// The items behind the first.
+fn behind_first(items: &[Item]) -> &[Item]
+    ensures { result.now ≡ drop 1 items.now }
+{
+    match items.split_first() {
+        Some((_, rest)) => rest,
+        None => items,
+    }
+}
+
+/// Whether items are those of a PPS, but with this id.
+fn same_with_id(items: &[Item], pps: &[Item], id: u32) -> bool
+    ensures { result ≡ sets.same_items items.now (pps_with_id id pps.now) }
+{
+    let Some((first, rest)) = items.split_first() else {
+        return false;
+    };
+    first.field == pps_pic_parameter_set_id
+        && first.value == i64::from(id)
+        && same_items(rest, behind_first(pps))
+}
+
+/// Whether a set that is kept is the PPS of these items, but with this id.
+pub(crate) fn same_pps_as(kept: &WrittenSet, pps: &[Item], id: u32) -> bool
+    ensures { result ≡ resident.same_set (set_kept kept.now) (a_pps (pps_with_id id pps.now)) }
+{
+    match kept {
+        WrittenSet::Pps(items) => same_with_id(items.as_slice(), pps, id),
         _ => false,
     }
 }
