@@ -5,14 +5,14 @@ use Rattle.vx_extract.proofs.output.write_picture.Goals as goal
 pub returns-in_err-write_all_of : goal.returns-in_err-write_all_of
 returns-in_err-write_all_of g c =
     let p = err_from_is_err_and c.from_residual-in_err-write_all_of.result c.from_residual-in_err-write_all_of.ensures.1 in
-    let end = rw c.kind.ensures at c.in_ok-write_end.ensures in
+    let end = rw c.kind.ensures.value at c.in_ok-write_end.ensures in
     let sets = rw c.as_slice.ensures.value at c.in_err-write_all_of.ensures in
     rw p.1 (takes_then _ _ _ _ _ _ _ _ _ end (takes_cut _ _ _ _ _ _ p.0 p.0 sets))
 
 pub returns-in_err-write_some : goal.returns-in_err-write_some
 returns-in_err-write_some g c =
     let p = err_from_is_err_and c.from_residual-in_err-write_some.result c.from_residual-in_err-write_some.ensures.1 in
-    let end = rw c.kind.ensures at c.in_ok-write_end.ensures in
+    let end = rw c.kind.ensures.value at c.in_ok-write_end.ensures in
     let sets = rw c.as_slice.ensures.value at c.in_ok-write_all_of.ensures in
     let sei = rw c.sei_unit.ensures at c.in_err-write_some.ensures in
     rw p.1 (takes_then _ _ _ _ _ _ _ _ _ end (takes_then _ _ _ _ _ _ _ _ _ sets (takes_cut _ _ _ _ _ _ p.0 p.0 sei)))
@@ -20,7 +20,7 @@ returns-in_err-write_some g c =
 pub returns-in_err-write_some-2 : goal.returns-in_err-write_some-2
 returns-in_err-write_some-2 g c =
     let p = err_from_is_err_and c.from_residual-in_err-write_some-2.result c.from_residual-in_err-write_some-2.ensures.1 in
-    let end = rw c.kind.ensures at c.in_ok-write_end.ensures in
+    let end = rw c.kind.ensures.value at c.in_ok-write_end.ensures in
     let sets = rw c.as_slice.ensures.value at c.in_ok-write_all_of.ensures in
     let sei = rw c.sei_unit.ensures at c.in_ok-write_some.ensures in
     let header = rw c.header_unit.ensures at c.in_err-write_some-2.ensures in
@@ -29,7 +29,7 @@ returns-in_err-write_some-2 g c =
 
 pub returns : goal.returns
 returns g c =
-    let end = rw c.kind.ensures at c.in_ok-write_end.ensures in
+    let end = rw c.kind.ensures.value at c.in_ok-write_end.ensures in
     let sets = rw c.as_slice.ensures.value at c.in_ok-write_all_of.ensures in
     let sei = rw c.sei_unit.ensures at c.in_ok-write_some.ensures in
     let header = rw c.header_unit.ensures at c.in_ok-write_some-2.ensures in

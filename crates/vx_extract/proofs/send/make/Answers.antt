@@ -19,6 +19,6 @@ returns-clause-made c done last =
       pps = c.in_ok-rewritten.rewritten.pps;
       sps_is = is.sps;
       pps_is = is.pps;
-      sent = c.in_ok-sets.ensures (kept_for c.args.picture.now.kind.nal_type (history_of done)) (rw c.kind-kind.ensures at cleared);
-      sei_is = sei_again _ c.args.picture.now.kind.temporal_id c.args.picture.now.messages c.in_ok-sei.sei (rw (c.kind-kind.ensures, c.messages.ensures) at c.in_ok-sei.ensures);
+      sent = c.in_ok-sets.ensures (kept_for c.args.picture.now.kind.nal_type (history_of done)) (rw c.kind-kind.ensures.value at cleared);
+      sei_is = sei_again _ c.args.picture.now.kind.temporal_id c.args.picture.now.messages c.in_ok-sei.sei (rw (c.kind-kind.ensures.value, c.messages.ensures) at c.in_ok-sei.ensures);
     }
