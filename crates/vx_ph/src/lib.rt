@@ -11,6 +11,10 @@ mod shape;
 mod tables;
 #[cfg(test)]
 mod tests;
+#[cfg(test)]
+mod tests_reshape;
+#[cfg(test)]
+mod tests_vectors;
 mod under_sets;
 mod unit;
 mod walk;

@@ -3,6 +3,7 @@ ghost use Rattle.std.specs.Prelude.{◌≤◌, length};
 
 use crate::{PictureHeader, read_header_at, read_ph, write_ph, write_unit_at};
 use std::alloc::{AllocError, Global};
+use std::process::Abort;
 use std::test::Fail;
 use vx_bits::{BitReader, BitWriter, Fields, Item, ReadError, Refusal};
 use vx_pps::{Pps, read_pps};
@@ -22,7 +23,7 @@ fn digit(digit: u8) -> u8
 }
 
 /// The bytes that hexadecimal digits name.
-fn bytes(alloc: Global, digits: &str) -> Result<Vec<u8>, AllocError> {
+pub(crate) fn bytes(alloc: Global, digits: &str) -> Result<Vec<u8>, AllocError> {
     let mut bytes = Vec::new(alloc);
     for pair in digits.as_bytes().chunks_exact(2) {
         if let [high, low] = pair {
@@ -95,7 +96,7 @@ fn loaded(items: &str) -> Scope {
 }
 
 /// The bits of at most 4,000 bytes, without the first where it says so.
-fn behind(bytes: &[u8], first: bool) -> BitReader
+pub(crate) fn behind(bytes: &[u8], first: bool) -> BitReader
     requires { length bytes.now ≤ 4000 }
 {
     let mut bits = BitReader::new(bytes);
@@ -277,6 +278,49 @@ fn under_sets(
     let text = header_text(alloc, &header)?;
     let unit = write_ph(alloc, &header, sps, pps)?;
     Ok((text, unit))
+}
+
+/// A hash, FNV-1a, of what stands before, and a line of text.
+fn with_line(mut hash: u64, line: &str) -> u64 {
+    for byte in line.as_bytes() {
+        hash = (hash ^ u64::from(*byte)).wrapping_mul(0x0100_0000_01b3);
+    }
+    (hash ^ 10).wrapping_mul(0x0100_0000_01b3)
+}
+
+/// The items of a header under two sets, as text, and the unit that is written of it.
+fn items_and_unit(
+    alloc: Global,
+    sps: &Sps,
+    pps: &Pps,
+    bits: &mut BitReader<'_>,
+) -> Result<(String, Vec<u8>), ReadError> {
+    let header = read_ph(alloc, bits, sps, pps)?;
+    let text = text_of(alloc, &header.fields)?;
+    let unit = write_ph(alloc, &header, sps, pps)?;
+    Ok((text, unit))
+}
+
+/// A hash of the items of headers, each with whether it stands behind a first bit; the others are units, and written again.
+pub(crate) fn headers_hash(
+    rt: &impl Abort,
+    alloc: Global,
+    sps: &[u8],
+    pps: &[u8],
+    headers: &[(&[u8], bool)],
+) -> Result<u64, ReadError> {
+    assert!(rt; sps.len() <= 2000);
+    assert!(rt; pps.len() <= 2000);
+    let sps = read(alloc, sps)?;
+    let pps = read_picture_set(alloc, pps)?;
+    let mut hash = 0xcbf2_9ce4_8422_2325;
+    for (header, inside) in headers {
+        assert!(rt; header.len() <= 4000);
+        let (text, unit) = items_and_unit(alloc, &sps, &pps, &mut behind(header, *inside))?;
+        assert!(rt; *inside || unit.as_slice() == *header);
+        hash = with_line(hash, text.as_str());
+    }
+    Ok(hash)
 }
 
 #[test]
