@@ -198,7 +198,7 @@ lowest_as : (count : ℕ) (P Q : ℕ → Type 0) (k : ℕ) → ((i : ℕ) → P 
 lowest_as count P Q k there back low = record { in_range = low.in_range; breaks = there k low.breaks; lower = λ j less is. low.lower j less (back j is) }
 
 -- an id is vacant whatever the body
-slot_as : (x : Set) (kind i : ℕ) (body : List ℕ) → same_slot x (an_aps (record { kind = kind; id = i; body = body })) ≡ same_slot x (an_aps_of kind i)
+pub slot_as : (x : Set) (kind i : ℕ) (body : List ℕ) → same_slot x (an_aps (record { kind = kind; id = i; body = body })) ≡ same_slot x (an_aps_of kind i)
 slot_as (an_sps s) kind i body = refl
 slot_as (a_pps p) kind i body = refl
 slot_as (an_aps a) kind i body = refl

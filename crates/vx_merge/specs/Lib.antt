@@ -2,6 +2,7 @@
 pub mod Bodies
 pub mod Collocated
 pub mod Ends
+pub mod Headers
 pub mod Merging
 pub mod Needed
 pub mod Regions
@@ -10,4 +11,5 @@ pub mod Rules
 pub mod Shapes
 pub mod Slots
 pub mod Verdict
+pub mod Written
 pub mod inner

@@ -1,19 +1,36 @@
--- A merger, as its callers see it.
-use Rattle.std.specs.Prelude.{◌≡◌, ℕ, ◌<◌, ◌≤◌, List, All, length, Option, Some, None, Result, Ok, Err}
+-- A merger, as its callers see it: by these words, and by the relation `Stands` between it and the pictures that it has written.
+use Rattle.std.specs.Prelude.{◌≡◌, ◌⊎◌, ℕ, ◌<◌, ◌≤◌, List, ◌∷◌, All, length, Option, Some, None, Result, Ok, Err}
+use Rattle.std.specs.Io.KnownBytes.{Appends}
 use Rattle.vx_bits.specs.declared.refusal.Refusal.{Refusal}
+use Rattle.vx_io.specs.Faults.{Rose}
+use Rattle.vx_io.specs.Written.{AppendsFront}
+use Rattle.vx_annexb.specs.Laws.{written}
 use Rattle.vx_pic.specs.Parts.{Parts}
+use Rattle.vx_pic.specs.Resident.{history_of, units_written}
+use Rattle.vx_pic.specs.Written.{Plan, units_of}
 use Rattle.vx_write.specs.declared.fault.WriteError.{WriteError}
 use Rattle.vx_write.specs.declared.fault.WriteError.TheVariants as errors
 use Rattle.vx_write.specs.declared.fault.WriteFirst.{WriteFirst}
+use Rattle.vx_write.specs.Slots.{AreLastOf, Sent}
 use Rattle.vx_merge.specs.declared.corner.Corner.{Corner}
 use Rattle.vx_merge.specs.Rules.{rules_of}
 use Rattle.vx_merge.specs.Verdict.{IsVerdict}
+use Rattle.vx_merge.specs.Written.{IsMerged, limits_of}
 
--- A merger: the corners of the regions, in luma samples; the level that is asked for; and what first kept it from going on.
+-- A merger: the corners of the regions, in luma samples; the level that is asked for; the sets that were sent since the last IRAP or GDR
+-- picture, the last of each type and id; how many bytes were written; and what first kept it from going on.
 pub record Merging : Type 0 where
   pub corners : List Corner
   pub level : Option ℕ
+  pub slots : List Sent
+  pub bytes : ℕ
   pub first : Option WriteFirst
+
+-- it has written these pictures, the latest first, and goes on
+pub record Stands (m : Merging) (done : List Plan) : Type 0 where
+  pub slots : AreLastOf (history_of done) m.slots
+  pub bytes : m.bytes ≡ length (written (units_written done))
+  pub going : m.first ≡ None
 
 -- a corner that a region of a frame may have
 abbrev pub IsCorner : Corner → Type 0
@@ -41,3 +58,31 @@ Checks m round (Err (errors.Refused r)) = Judges m round (Some r)
 Checks m round (Err errors.Memory) = Unit {0}
 Checks m round (Err errors.SinkFailed) = ⊥
 Checks m round (Err (errors.Stopped f)) = ⊥
+
+-- ---- rounds that are written
+
+-- the round breaks no rule, and is written so behind others, within the limits
+pub record Passes (m : Merging) (round : List Parts) (done : List Plan) (p : Plan) : Type 0 where
+  pub verdict : Judges m round None
+  pub is : IsMerged m.corners m.level round done p
+  pub limits : IsVerdict (length m.corners) (limits_of done p) None
+
+-- it breaks no rule, and what would be written breaks a limit first
+pub record IsTooLong (m : Merging) (round : List Parts) (done : List Plan) (r : Refusal) : Type 0 where
+  pub verdict : Judges m round None
+  pub plan : Plan
+  pub is : IsMerged m.corners m.level round done plan
+  pub limits : IsVerdict (length m.corners) (limits_of done plan) (Some r)
+
+-- What is answered of a round behind others, with the bytes and the count of faults of a sink before and after: it was written; or a rule
+-- or a limit is broken, and nothing was; or memory ran out before a byte was written; or a write failed, and a front of it is written.
+abbrev pub Writes : List Parts → List Plan → Merging → Option (List ℕ) → Option (List ℕ) → ℕ → ℕ → Result (Unit {0}) WriteError → Type 0
+Writes round done new bytes bytes' faults faults' (Ok _) =
+    (faults' ≡ faults)
+    × ((p : Plan) × Passes new round done p × Appends bytes bytes' (written (units_of p)) × Stands new (p ∷ done))
+Writes round done new bytes bytes' faults faults' (Err (errors.Refused r)) =
+    (bytes' ≡ bytes) × (faults' ≡ faults) × (Judges new round (Some r) ⊎ IsTooLong new round done r)
+Writes round done new bytes bytes' faults faults' (Err errors.Memory) = (bytes' ≡ bytes) × (faults' ≡ faults)
+Writes round done new bytes bytes' faults faults' (Err errors.SinkFailed) =
+    Rose faults faults' × ((p : Plan) × Passes new round done p × AppendsFront bytes bytes' (written (units_of p)))
+Writes round done new bytes bytes' faults faults' (Err (errors.Stopped f)) = ⊥

@@ -1,17 +1,15 @@
 -- The sets that the picture of a round needs, with the ids that they take.
-use Rattle.std.specs.Prelude.{ℕ, ◌<◌, ◌==◌, cond, List, [], ◌∷◌, ◌++◌, map, flat_map, filter, length, None, option_to_list}
+use Rattle.std.specs.Prelude.{ℕ, ◌==◌, cond, List, [], ◌∷◌, ◌++◌, map, flat_map, filter, length, None, option_to_list}
 use Rattle.std.specs.List.{range_with_len, slice_index_or, zip}
 use Rattle.vx_bits.specs.declared.list.Item.{Item}
 use Rattle.vx_aps.specs.declared.aps.TheConstants as aps
-use Rattle.vx_pps.specs.Reshaped.{IsReshaped}
-use Rattle.vx_layout.specs.declared.numbers.Numbers.{Numbers}
 use Rattle.vx_pic.specs.Parts.{Parts}
 use Rattle.vx_pic.specs.Resident.{same_bytes}
 use Rattle.vx_pic.specs.Written.{Set, an_sps, a_pps, an_aps, SetUnit}
-use Rattle.vx_merge.specs.declared.corner.Corner.{Corner}
+use Rattle.vx_write.specs.Slots.{pps_with_id}
 use Rattle.vx_merge.specs.Bodies.{filters_in, has_lmcs, has_scaling, lmcs_body, once, scaling_body}
 use Rattle.vx_merge.specs.Rounds.{picture_at}
-use Rattle.vx_merge.specs.Shapes.{of_lowest, pps_shape}
+use Rattle.vx_merge.specs.Shapes.{of_lowest}
 use Rattle.vx_merge.specs.Slots.{TakeSlots, alf_slots, lmcs_slots, pps_slots, scaling_slots}
 
 -- ---- bodies of adaptation parameter sets
@@ -40,13 +38,10 @@ pub record Ids : Type 0 where
   pub lmcs : List ℕ
   pub scaling : List ℕ
 
--- The PPS of a frame, as it is with each id.
-pub record HasPpsAt (corners : List Corner) (round : List Parts) (frame : Numbers) (at : ℕ → List Item) : Type 0 where
-  pub reshaped : (id : ℕ) → id < pps_slots → IsReshaped (picture_at round 0).pps (pps_shape corners round frame id) (at id)
-
--- The sets take these ids, for a picture of this TemporalId behind sets that count as sent.
-pub record TakeIds (round : List Parts) (t : ℕ) (sent : List SetUnit) (pps : ℕ → List Item) (ids : Ids) : Type 0 where
-  pub of_pps : TakeSlots pps_slots 1 t sent (λ k id. a_pps (pps id)) (ids.pps ∷ [])
+-- The sets take these ids, for a picture of this TemporalId behind sets that count as sent. The PPS, here with the id 0, is looked for with
+-- each id.
+pub record TakeIds (round : List Parts) (t : ℕ) (sent : List SetUnit) (pps : List Item) (ids : Ids) : Type 0 where
+  pub of_pps : TakeSlots pps_slots 1 t sent (λ k id. a_pps (pps_with_id id pps)) (ids.pps ∷ [])
   pub of_alf : TakeSlots alf_slots (length (alf_bodies round)) t sent (aps_at aps.ALF (alf_bodies round)) ids.alf
   pub of_lmcs : TakeSlots lmcs_slots (length (lmcs_bodies round)) t sent (aps_at aps.LMCS (lmcs_bodies round)) ids.lmcs
   pub of_scaling : TakeSlots scaling_slots (length (scaling_bodies round)) t sent (aps_at aps.SCALING (scaling_bodies round)) ids.scaling

@@ -56,7 +56,7 @@ window_of placed round =
     ∷ least (offsets_at (λ p. p.y == 0) sps.sps_conf_win_top_offset placed round)
     ∷ least (offsets_at (λ p. p.y + p.h == frame_height placed) sps.sps_conf_win_bottom_offset placed round) ∷ []
 
--- the DPB parameters of the highest sublayer: the greatest of each; no latency is bounded where one isn't (7.4.6.1,
+-- the DPB parameters of the highest sublayer: the greatest of each; no latency is bounded where one isn't (7.4.5,
 -- dpb_max_latency_increase_plus1)
 abbrev pub latency_of : List ℕ → ℕ
 latency_of latencies = cond (list_any (λ n. n == 0) latencies) 0 (greatest latencies)

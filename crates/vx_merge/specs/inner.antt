@@ -1,5 +1,10 @@
 -- What serves bodies and proofs alone: nothing that a caller has to believe.
 pub mod Edges
 pub mod Found
+pub mod Fronts
 pub mod Joined
+pub mod Known
+pub mod Making
+pub mod Ready
+pub mod Sending
 pub mod Taking

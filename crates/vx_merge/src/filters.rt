@@ -17,7 +17,7 @@ use vx_pic::{Picture, alf_in_force};
 const MOST_FILTERS: usize = 8;
 
 /// Whether two byte strings are the same.
-fn same_bytes(a: &[u8], b: &[u8]) -> bool
+pub(crate) fn same_bytes(a: &[u8], b: &[u8]) -> bool
     ensures { result ≡ resident.same_bytes a.now b.now }
 {
     a == b

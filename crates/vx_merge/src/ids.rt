@@ -177,7 +177,8 @@ pub(crate) fn take_ids(
     bodies: &BodyList<'_>,
 ) -> Result<Vec<u8>, AllocError>
     requires { length bodies.now ≤ search.count }
-    ensures { (sent : List SetUnit) → AreLastOf sent slots.now
+    ensures number { IfOk result (λ ids. length ids.items ≡ length bodies.now) }
+    ensures taken { (sent : List SetUnit) → AreLastOf sent slots.now
         → IfOk result (λ ids. TakeSlots search.count (length (map (λ b. b.now) bodies.now)) search.temporal_id sent (aps_at search.kind (map (λ b. b.now) bodies.now)) ids.items) }
 {
     let held = held_ids(alloc, slots, search, bodies)?;

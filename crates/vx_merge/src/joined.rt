@@ -10,7 +10,7 @@ ghost use Rattle.vx_layout.specs.Frames as frames;
 ghost use Rattle.vx_layout.specs.Frames.{Fills};
 ghost use Rattle.vx_layout.specs.Rects.{IsPart};
 ghost use Rattle.vx_layout.specs.Regions.{moved_to};
-ghost use Rattle.vx_merge.specs.inner.Joined.{CanBeJoined, IsFrameOf};
+ghost use Rattle.vx_merge.specs.inner.Joined.{CanBeJoined, IsFrameOf, MakeFrame};
 
 use crate::corner::Corner;
 use crate::frame::{in_ctus, layouts, placed};
@@ -148,7 +148,8 @@ pub(crate) fn join(
     round: &[Picture<'_>],
 ) -> Result<Frame, AllocError>
     requires { CanBeJoined corners.now round.now }
-    ensures { IfOk result (IsFrameOf corners.now round.now) }
+    ensures frame { IfOk result (IsFrameOf corners.now round.now) }
+    ensures made { IfOk result (λ frame. MakeFrame corners.now round.now frame.numbers) }
 {
     frames_have_shapes();
     let placed = placed(alloc, corners, round)?;

@@ -1,6 +1,7 @@
 //! Several streams put together as one: each picture of the result has one picture of each source as a subpicture (H.266 6.3.1).
 //!
-//! [`Merger::check`] tells of a round of pictures, one of each source, whether they can be put together, and else the first rule that
+//! [`Merger::round`] writes what a round of pictures, one of each source, is put together as, behind the rounds before it, or tells the
+//! first rule that they break. [`Merger::check`] tells whether they can be put together, and else the first rule that
 //! they break. The rules are defined in the folder `specs`. [`lengths`] tells which sources have ended.
 #![tactic(auto)]
 
@@ -8,17 +9,26 @@ mod collocated;
 mod corner;
 mod ended;
 mod ending;
+mod facts;
 mod filters;
 mod frame;
 mod frame_sets;
+mod fronts;
 mod headers;
 mod ids;
 mod joined;
 mod laws;
 mod laws_shapes;
+mod limits;
 mod merger;
+mod needed;
+mod output;
+mod picture_header;
+mod round;
+mod send;
 mod sets;
 mod shapes;
+mod slice_shape;
 mod slices;
 #[cfg(test)]
 mod tests;

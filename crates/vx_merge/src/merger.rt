@@ -1,34 +1,45 @@
 //! Round after round of pictures that are put together.
-ghost use Rattle.std.specs.Prelude.{◌≡◌, All, map, IfOk};
+ghost use Rattle.std.specs.Prelude.{◌≡◌, All, List, None, length, map, IfOk};
+ghost use Rattle.vx_annexb.specs.Laws.{written};
+ghost use Rattle.vx_pic.specs.Resident.{history_of, units_written};
+ghost use Rattle.vx_pic.specs.Written.{Plan};
+ghost use Rattle.vx_write.specs.Slots.{AreLastOf};
+ghost use Rattle.vx_merge.specs.Merging.{AreCorners, Writes};
 ghost use Rattle.vx_merge.specs.inner.Found as words;
+ghost use Rattle.vx_merge.specs.inner.Found.{HasHistory};
 
 use crate::corner::Corner;
+use crate::round::write_round;
 use crate::verdict::verdict;
 use std::alloc::{AllocError, Global};
 use std::marker::Model;
 use vx_bits::Refusal;
+use vx_io::Sink;
 use vx_pic::{Lender, Picture};
-use vx_write::{WriteError, WriteFirst, first_of};
+use vx_write::{Slots, WriteError, WriteFirst, first_of};
 
 /// Puts together round after round, a round being one picture of each source.
 ///
-/// After a refusal or want of memory it answers [`WriteError::Stopped`].
+/// After a refusal, want of memory or a failed write it answers [`WriteError::Stopped`], and writes nothing more.
 #[derive(Drop)]
 pub struct Merger {
     alloc: Global,
     corners: Vec<Corner>,
     level: Option<u8>,
+    slots: Slots,
+    bytes: u64,
     first: Option<WriteFirst>,
 }
 
 impl Model for Merger {
     ghost use Rattle.vx_merge.specs.Merging.{Merging, AreCorners};
+    ghost use Rattle.vx_merge.specs.inner.Found.{HasHistory};
 
     ghost Value = { Merging };
 
-    ghost view = { λ m. record { corners = m.corners.items; level = m.level; first = m.first } };
+    ghost view = { λ m. record { corners = m.corners.items; level = m.level; slots = m.slots; bytes = m.bytes; first = m.first } };
 
-    ghost invariant = { λ m. AreCorners m.corners.items };
+    ghost invariant = { λ m. AreCorners m.corners.items × HasHistory m.slots };
 }
 
 /// What is answered of a verdict.
@@ -57,12 +68,36 @@ fn lent<L: Lender>(alloc: Global, lenders: &[L]) -> Result<Vec<Picture<'_>>, All
     Ok(round)
 }
 
+/// Writes a round of lenders, behind so many bytes and the sets that were sent.
+fn write_lent<L: Lender, K: Sink>(
+    alloc: Global,
+    corners: &[Corner],
+    level: Option<u8>,
+    slots: &mut Slots,
+    bytes: &mut u64,
+    lenders: &[L],
+    out: &mut K,
+) -> Result<(), WriteError>
+    requires corners { AreCorners corners.now }
+    requires count { length lenders.now ≡ length corners.now }
+    requires holds { All L.holds lenders.now }
+    requires slots { HasHistory slots.old }
+    ensures kept { HasHistory slots.new }
+    ensures answer { (done : List Plan) → AreLastOf (history_of done) slots.old → bytes.old ≡ length (written (units_written done))
+        → Writes (map L.lent lenders.now) done (record { corners = corners.now; level = level; slots = slots.new; bytes = bytes.new; first = None })
+        (K.bytes_taken out.old) (K.bytes_taken out.new) (K.write_faults out.old) (K.write_faults out.new) result }
+{
+    let made = lent(alloc, lenders)?;
+    write_round(alloc, corners, level, slots, bytes, made.as_slice(), out)
+}
+
 impl Merger {
-    ghost use Rattle.std.specs.Prelude.{◌≡◌, All, map, length, Some, None, Err, IfErr, IfOk, OnOk};
+    ghost use Rattle.std.specs.Prelude.{◌≡◌, All, List, [], map, length, Some, None, Err, IfErr, IfOk, OnOk};
+    ghost use Rattle.vx_pic.specs.Written.{Plan};
     ghost use Rattle.vx_write.specs.Faults as faults;
     ghost use Rattle.vx_write.specs.declared.fault.WriteFirst.{WriteFirst as First};
     ghost use Rattle.vx_write.specs.declared.fault.WriteError.TheVariants.{Stopped};
-    ghost use Rattle.vx_merge.specs.Merging.{AreCorners, Checks, Judges, SameTask};
+    ghost use Rattle.vx_merge.specs.Merging.{AreCorners, Checks, Judges, SameTask, Stands, Writes};
 
     /// A merger of regions with these upper left corners, in luma samples, with a level of its own or the sources' highest.
     ///
@@ -71,7 +106,8 @@ impl Merger {
     /// Want of memory.
     pub fn new(alloc: Global, corners: &[Corner], level: Option<u8>) -> Result<Merger, AllocError>
         requires { AreCorners corners.now }
-        ensures { IfOk result (λ m. (m.corners ≡ corners.now) × (m.level ≡ level) × (m.first ≡ None)) }
+        ensures task { IfOk result (λ m. (m.corners ≡ corners.now) × (m.level ≡ level)) }
+        ensures stands { IfOk result (λ m. Stands m []) }
     {
         let mut own = Vec::new(alloc);
         own.extend_from_slice(corners)?;
@@ -79,6 +115,8 @@ impl Merger {
             alloc,
             corners: own,
             level,
+            slots: Slots::new(alloc),
+            bytes: 0,
             first: None,
         })
     }
@@ -130,6 +168,39 @@ impl Merger {
             Err(error) => {
                 self.first = Some(first_of(error));
                 Err(error)
+            }
+        }
+    }
+    /// Writes what a round is put together as, behind the rounds before it: as many lenders as corners, each holding its picture.
+    ///
+    /// # Errors
+    ///
+    /// The first rule that the pictures break, with the lowest source that breaks it, or else the first limit that what would be
+    /// written doesn't keep, or want of memory, and nothing of the round is then written; or a failed write, and a front of it is
+    /// then written. All later rounds are answered with the first of these.
+    pub fn round<L: Lender, K: Sink>(
+        &mut self,
+        lenders: &[L],
+        out: &mut K,
+    ) -> Result<(), WriteError>
+        requires count { length lenders.now ≡ length self.old.corners }
+        requires holds { All L.holds lenders.now }
+        ensures answer { (done : List Plan) → Stands self.old done
+            → Writes (map L.lent lenders.now) done self.new (K.bytes_taken out.old) (K.bytes_taken out.new) (K.write_faults out.old) (K.write_faults out.new) result }
+        ensures task { SameTask self.old self.new }
+        ensures first { IfErr result (λ e. self.new.first ≡ Some (faults.first_of e)) }
+        ensures stopped { (f : First) → self.old.first ≡ Some f → (result ≡ Err (Stopped f)) × (self.new ≡ self.old) × (out.new ≡ out.old) }
+    {
+        if let Some(first) = self.first {
+            return Err(WriteError::Stopped(first));
+        }
+        let (alloc, level) = (self.alloc, self.level);
+        let (slots, bytes) = (&mut self.slots, &mut self.bytes);
+        match write_lent(alloc, &self.corners, level, slots, bytes, lenders, out) {
+            Ok(()) => Ok(()),
+            Err(failure) => {
+                self.first = Some(first_of(failure));
+                Err(failure)
             }
         }
     }

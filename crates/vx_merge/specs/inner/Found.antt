@@ -8,6 +8,8 @@ use Rattle.vx_fit.specs.declared.placed.FitFault.TheVariants.{TooLarge, Geometry
 use Rattle.vx_fit.specs.declared.lines.LineError.{LineError}
 use Rattle.vx_fit.specs.declared.lines.LineError.TheVariants.{Memory, Lines}
 use Rattle.vx_fit.specs.Lowest.{IsLowest}
+use Rattle.vx_pic.specs.Written.{SetUnit}
+use Rattle.vx_write.specs.Slots.{AreLastOf, Sent}
 use Rattle.vx_write.specs.declared.fault.WriteError.{WriteError}
 use Rattle.vx_write.specs.declared.fault.WriteError.TheVariants as errors
 use Rattle.vx_merge.specs.declared.told.Differing.{Differing}
@@ -58,3 +60,7 @@ judgement (Some r) = Err (errors.Refused r)
 abbrev pub Names : LineError → Option ℕ → Type 0
 Names Memory lowest = ⊥
 Names (Lines k) lowest = lowest ≡ Some k
+
+-- these are the last sets of some that were sent
+abbrev pub HasHistory : List Sent → Type 0
+HasHistory slots = (history : List SetUnit) × AreLastOf history slots

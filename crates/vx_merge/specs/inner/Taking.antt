@@ -1,9 +1,10 @@
--- The ids that bodies of one type take, as they are found one by one.
+-- The ids that sets of one type take, as they are found one by one.
 use Rattle.std.specs.Prelude.{◌≡◌, ◌⊎◌, ℕ, ◌<◌, ◌==◌, ◌||◌, ◌&&◌, not, Bool, true, false, List, [], length, take, slice_get, slice_index, Option, Some, None}
 use Rattle.std.specs.List.{AllZip, list_any}
+use Rattle.vx_bits.specs.declared.list.Item.{Item}
 use Rattle.vx_fit.specs.Lowest.{IsLowest, IsLowestAnswer}
-use Rattle.vx_pic.specs.Written.{Set, an_aps}
-use Rattle.vx_write.specs.Slots.{Sent, held_serves, is_vacant}
+use Rattle.vx_pic.specs.Written.{Set, a_pps, an_aps}
+use Rattle.vx_write.specs.Slots.{Sent, a_pps_of, held_serves, is_vacant, pps_with_id}
 
 -- a set of this type and id
 abbrev pub an_aps_of : ℕ → ℕ → Set
@@ -55,3 +56,13 @@ pub record AreIds (slots : List Sent) (kind count : ℕ) (held : List (Option �
 pub record IsNextId (slots : List Sent) (kind count : ℕ) (held : List (Option ℕ)) (ids : List ℕ) (id : ℕ) : Type 0 where
   pub matched : (i : ℕ) → slice_get held (length ids) ≡ Some (Some i) → id ≡ i
   pub other : slice_get held (length ids) ≡ Some None → TakesOpen slots kind count held ids id
+
+-- ---- the PPS
+
+-- it is resident with this id
+abbrev pub IsHeldAs : List Sent → (t : ℕ) → List Item → ℕ → Type 0
+IsHeldAs slots t pps id = held_serves t (a_pps (pps_with_id id pps)) slots ≡ true
+
+-- none was sent with this id
+abbrev pub IsEmptyPps : List Sent → ℕ → Type 0
+IsEmptyPps slots id = is_vacant (a_pps_of id) slots ≡ true

@@ -16,7 +16,13 @@ loop-k-preserved c =
     let size = length-append c.loop-k.ids.items (c.next_id-id.result ∷ []) in
     rw c.in_ok-push.ensures.items (more, omega (arith, size, c.loop-k.invariant.1))
 
-pub returns : goal.returns
-returns c = λ sent last.
+pub returns-clause-number : goal.returns-clause-number
+returns-clause-number c =
+    let count = held_count c.args.slots.now c.args.search.temporal_id c.args.search.kind c.args.search.count (map (λ b. b.now) c.args.bodies.now) c.in_ok-held.held.items c.in_ok-held.ensures in
+    let bodies = length-map c.args.bodies.now (λ b. b.now) in
+    omega (arith, c.loop-k.invariant.1, c.len-k-end.ensures, count, bodies)
+
+pub returns-clause-taken : goal.returns-clause-taken
+returns-clause-taken c = λ sent last.
     take_slots c.args.slots.now c.args.search.temporal_id c.args.search.kind c.args.search.count (map (λ b. b.now) c.args.bodies.now) c.in_ok-held.held.items c.loop-k.ids.items
     sent last c.in_ok-held.ensures c.loop-k.invariant.0 (omega (arith, c.loop-k.invariant.1, c.len-k-end.ensures))

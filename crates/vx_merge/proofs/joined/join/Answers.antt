@@ -10,7 +10,7 @@ use Rattle.vx_sps.specs.Set.{ctb_size_of}
 use Rattle.vx_pic.proofs.PictureSizes.{large}
 use Rattle.vx_merge.specs.Regions.{corners_in, ctb_of, layouts_in, placed_in}
 use Rattle.vx_merge.specs.Shapes.{IsFrame}
-use Rattle.vx_merge.specs.inner.Joined.{HasShapes}
+use Rattle.vx_merge.specs.inner.Joined.{HasShapes, MakeFrame}
 use Rattle.vx_merge.proofs.Joining.{FillsOwn, corners_count, fills_of, fitted_of, keep_of, layouts_count, lines_made, made_of, parts_of, sized_of}
 use Rattle.vx_merge.proofs.FrameShaping.{placed_count}
 use Rattle.vx_merge.proofs.Reading.{picture_read}
@@ -138,8 +138,8 @@ numbers_of-requires-clause-fill c =
     subst (λ r. AllZip FillsOwn r c.as_slice-parts.result.now) (sym regions_is)
     (subst (λ l. AllZip FillsOwn (corners_in corners round) l) (sym parts_is) (fills_of corners round can c.in_ok-lines.lines.0 c.in_ok-lines.lines.1 lines))
 
-pub returns : goal.returns
-returns c =
+pub returns-clause-frame : goal.returns-clause-frame
+returns-clause-frame c =
     let corners = c.args.corners.now in
     let round = c.args.round.now in
     let can = c.requires in
@@ -164,3 +164,19 @@ returns c =
       is = subst (IsFrame corners round) (sym numbers_is) made.is;
       shapes = subst (HasShapes corners round) (sym numbers_is) shapes;
     }
+
+pub returns-clause-made : goal.returns-clause-made
+returns-clause-made c =
+    let corners = c.args.corners.now in
+    let round = c.args.round.now in
+    let can = c.requires in
+    let placed_is : c.as_slice-areas.result.now ≡ placed_in corners round = c.as_slice-areas.ensures.value ∙ c.in_ok-placed.ensures.placed in
+    let size : c.ctb-ctb.result ≡ ctb_of round = c.ctb-ctb.ensures ∙ (ap ctb_size_of c.sps.ensures ∙ ap (λ q. ctb_size_of q.sps) (picture_read round 0 c.index-round-0.result (omega (arith, can.same, can.are.some)) c.index-round-0.is)) in
+    let fit : FitTogether (placed_in corners round) (ctb_of round) = subst (λ n. FitTogether (placed_in corners round) n) size (subst (λ p. FitTogether p c.ctb-ctb.result) placed_is c.size_of-width.ensures.fit) in
+    let regions_is : c.as_slice-regions.result.now ≡ corners_in corners round = c.as_slice-regions.ensures.value ∙ (c.in_ok-made.ensures ∙ (ap (λ n. map (in_ctus n) c.as_slice-areas.result.now) size ∙ ap (map (in_ctus (ctb_of round))) placed_is)) in
+    let parts_is : c.as_slice-parts.result.now ≡ layouts_in round = c.as_slice-parts.ensures.value ∙ c.in_ok-layouts.ensures.layouts in
+    let lines : HaveLines c.in_ok-lines.lines.0 c.in_ok-lines.lines.1 (corners_in corners round) (layouts_in round) = lines_made c.in_ok-lines.lines.0 c.in_ok-lines.lines.1 _ _ _ _ regions_is parts_is c.in_ok-lines.ensures in
+    let made = made_of corners round can c.in_ok-lines.lines.0 c.in_ok-lines.lines.1 fit lines c.in_ok-layouts.ensures.sets in
+    let numbers_is : c.in_ok-numbers.numbers ≡ frame_of c.in_ok-lines.lines.0 c.in_ok-lines.lines.1 (corners_in corners round) (layouts_in round) =
+    c.in_ok-numbers.ensures ∙ (ap (λ r. frame_of c.in_ok-lines.lines.0 c.in_ok-lines.lines.1 r c.as_slice-parts.result.now) regions_is ∙ ap (frame_of c.in_ok-lines.lines.0 c.in_ok-lines.lines.1 (corners_in corners round)) parts_is) in
+    subst (MakeFrame corners round) (sym numbers_is) made

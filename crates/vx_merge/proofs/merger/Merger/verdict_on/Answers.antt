@@ -6,7 +6,7 @@ use Rattle.vx_merge.specs.Verdict.{IsVerdict}
 use Rattle.vx_merge.proofs.merger.Merger.verdict_on.Goals as goal
 
 pub verdict-requires-clause-corners : goal.verdict-requires-clause-corners
-verdict-requires-clause-corners g c = subst AreCorners (sym c.as_slice-corners.ensures.value) c.self.invariant
+verdict-requires-clause-corners g c = subst AreCorners (sym c.as_slice-corners.ensures.value) c.self.invariant.0
 
 pub verdict-requires-clause-same : goal.verdict-requires-clause-same
 verdict-requires-clause-same g c =

@@ -1,0 +1,6 @@
+use Rattle.std.proofs.Common.{◌≡◌, ◌+◌, map, take}
+use Rattle.vx_merge.specs.inner.Making.{capped, size_of}
+use Rattle.vx_merge.proofs.limits.with_units.Given as goal
+
+abbrev pub invariant-loop-k : goal.invariant-loop-k
+invariant-loop-k l = l.sum ≡ capped (l.total + size_of 4 (take l.k (map (λ u. u.items) l.units)))

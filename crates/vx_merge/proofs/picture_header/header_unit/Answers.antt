@@ -1,0 +1,10 @@
+use Rattle.vx_ph.specs.InForce.{in_force, structures}
+use Rattle.vx_merge.proofs.OneHeader.{unit_ends}
+use Rattle.vx_merge.proofs.picture_header.header_unit.Goals as goal
+
+pub plain_unit-requires-clause-ends : goal.plain_unit-requires-clause-ends
+plain_unit-requires-clause-ends c =
+    let needed = c.args.needed.now in
+    let table = structures needed.sps in
+    let scope = in_force needed.sps needed.pps in
+    rw c.deref.ensures.value (unit_ends table scope c.args.header.now c.in_ok-rbsp.rbsp.items c.in_ok-rbsp.ensures)

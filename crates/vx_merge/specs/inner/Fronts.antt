@@ -1,0 +1,92 @@
+-- What the slices of a round are written at, and what is written of them up to their payloads.
+use Rattle.std.specs.Prelude.{◌≡◌, ℕ, pos, neg_ℤ, ◌+ℤ◌, ◌≤ℤ◌, cond, List, [], map, unwrap_or}
+use Rattle.std.specs.List.{AllZip}
+use Rattle.vx_bits.specs.declared.list.Item.{Item}
+use Rattle.vx_fields.specs.declared.ph.TheConstants as ph
+use Rattle.vx_fields.specs.declared.pps.TheConstants as pps
+use Rattle.vx_fields.specs.declared.sh.TheConstants as sh
+use Rattle.vx_table.specs.Depends.{has}
+use Rattle.vx_table.specs.Scope.{natural}
+use Rattle.vx_layout.specs.declared.numbers.Numbers.{Numbers}
+use Rattle.vx_aps.specs.declared.aps.TheConstants as aps
+use Rattle.vx_ph.specs.declared.header.PictureHeader.{PictureHeader}
+use Rattle.vx_ph.specs.Filter.{filter_of, with_ids}
+use Rattle.vx_ph.specs.InForce.{in_force, structures}
+use Rattle.vx_ph.specs.Picture.{IsHeader}
+use Rattle.vx_ph.specs.Reshaped as ph_reshaped
+use Rattle.vx_sh.specs.declared.header.SliceHeader.{SliceHeader as SliceValue}
+use Rattle.vx_sh.specs.declared.numbers.SliceNumbers.{SliceNumbers}
+use Rattle.vx_sh.specs.declared.shape.ShShape.{ShShape}
+use Rattle.vx_sh.specs.InForce.{in_force_at}
+use Rattle.vx_sh.specs.Reshaped as sh_reshaped
+use Rattle.vx_sh.specs.Value.{IsSpelling}
+use Rattle.vx_pic.specs.Inputs.{body_of, is_used}
+use Rattle.vx_pic.specs.Parts.{Parts, SlicePart, read_of}
+use Rattle.vx_pic.specs.PictureLayout.{ids_of}
+use Rattle.vx_pic.specs.Readings.{Begun}
+use Rattle.vx_pic.specs.Sets.{filter_items, signed, slice_qp}
+use Rattle.vx_pic.specs.UnderSets.{header_of}
+use Rattle.vx_merge.specs.declared.needed.NamedBodies.{NamedBodies}
+use Rattle.vx_merge.specs.declared.needed.RoundSets.{RoundSets}
+use Rattle.vx_merge.specs.Headers.{IsFront, ph_shape}
+use Rattle.vx_merge.specs.Needed.{id_of}
+use Rattle.vx_merge.specs.Rounds.{picture_at}
+use Rattle.vx_merge.specs.inner.Ready.{IsReadyAt, ids_in}
+
+-- ---- the filter of a slice
+
+-- the id that the body takes which a picture has with this id
+abbrev pub new_id : NamedBodies → Parts → ℕ → ℕ
+new_id named q id = id_of (map (λ b. b.now) named.bodies) named.ids.items (unwrap_or (body_of q aps.ALF id) [])
+
+-- an item with it, where its field is one of these
+abbrev pub renamed : List ℕ → NamedBodies → Parts → Item → Item
+renamed naming named q item =
+    cond (has naming item.field) (record { field = item.field; value = pos (new_id named q (natural item.value)) }) item
+
+-- the filter in force of a slice, with the ids that its bodies take
+abbrev pub new_filter : NamedBodies → Parts → SliceValue → List Item
+new_filter named q h = with_ids (new_id named q) (filter_of (filter_items q.pps q.header.fields (read_of h)))
+
+-- ---- what its header says
+
+-- In the subpicture of this id, with this filter, where the first source's picture is the first one here.
+pub record HasShape (first q : Parts) (k : ℕ) (h : SliceValue) (items : List Item) (shape : ShShape) : Type 0 where
+  pub subpic : shape.subpic_id ≡ k
+  pub filter : shape.filter.now ≡ items
+  pub lmcs : shape.uses_lmcs ≡ is_used q.header.fields h ph.ph_lmcs_enabled_flag sh.sh_lmcs_used_flag
+  pub scaling : shape.uses_scaling ≡ is_used q.header.fields h ph.ph_explicit_scaling_list_enabled_flag sh.sh_explicit_scaling_list_used_flag
+  pub qp : (pos 26 +ℤ signed first.pps pps.pps_init_qp_minus26) +ℤ shape.qp_delta ≡ slice_qp q.pps q.header.fields (read_of h)
+  pub low : neg_ℤ (pos 75) ≤ℤ shape.qp_delta
+  pub high : shape.qp_delta ≤ℤ pos 75
+
+-- The bytes of a slice header that says what a shape says, and all else as its source.
+pub record IsWritten (source : SliceValue) (shape : ShShape) (numbers : SliceNumbers) (bytes : List ℕ) : Type 0 where
+  pub header : SliceValue
+  pub reshaped : sh_reshaped.IsReshaped source shape numbers header
+  pub spelled : IsSpelling (in_force_at numbers) header.fields numbers.header.now.fields bytes
+
+-- ---- a round
+
+-- What is in force at its slices: the sets that it needs, its header and its frame.
+pub record IsInForce (round : List Parts) (n : RoundSets) (numbers : SliceNumbers) : Type 0 where
+  pub ready : IsReadyAt round n numbers.layout.now
+  pub type : numbers.nal_type ≡ (picture_at round 0).kind.nal_type
+  pub sps : numbers.sps.now ≡ n.sps
+  pub pps : numbers.pps.now ≡ n.pps
+  pub says : ph_reshaped.IsReshaped (picture_at round 0).header (ph_shape round (ids_in n)) n.sps n.pps numbers.header.now
+  pub is : IsHeader (structures n.sps) (in_force n.sps n.pps) numbers.header.now
+  pub ids : numbers.ids.now ≡ ids_of n.sps n.pps
+
+-- The picture that it is put together as: with these sets, this header and this layout.
+pub record IsBegun (round : List Parts) (n : RoundSets) (said : PictureHeader) (frame : Numbers) (b : Begun) : Type 0 where
+  pub sps : b.sps ≡ n.sps
+  pub pps : b.pps ≡ n.pps
+  pub header : header_of b ≡ said
+  pub layout : b.layout ≡ frame
+  pub temporal_id : b.temporal_id ≡ (picture_at round 0).kind.temporal_id
+
+-- These are its slices up to their payloads.
+abbrev pub AreFronts : List Parts → RoundSets → Begun → List (ℕ × SlicePart) → List (List ℕ) → Type 0
+AreFronts round n b slices fronts =
+    AllZip (λ x front. IsFront round (ids_in n) (picture_at round 0).kind.nal_type b x.0 x.1 front) slices fronts

@@ -1,0 +1,184 @@
+//! The limits of what is to be written, by lengths alone: of a unit, of a picture, and of all.
+ghost use Rattle.std.specs.Prelude.{◌≡◌, ◌+◌, ◌++◌, length, map, option_copied, option_to_list, IfOk, IfErr, OnOk, Some, None};
+ghost use Rattle.std.specs.List.{list_any};
+ghost use Rattle.vx_pic.specs.Written.{eos_units};
+ghost use Rattle.vx_merge.specs.inner.Making as making;
+ghost use Rattle.vx_merge.specs.inner.Making.{HasPayloads};
+
+use crate::output::{Made, SliceUnit};
+use vx_bits::Refusal;
+use vx_bits::rules::{LONG_PICTURE, LONG_SOURCE, LONG_UNIT};
+
+/// The most bytes of a unit.
+const UNIT_LIMIT: u64 = 1 << 23;
+
+/// The most bytes of a picture header and its slices.
+const PICTURE_LIMIT: u64 = 1 << 25;
+
+/// The most bytes of a stream.
+const STREAM_LIMIT: u64 = 1 << 40;
+
+/// How many bytes a start code has.
+const START_CODE: u64 = 4;
+
+// ---- units
+
+/// Whether a unit that comes in two pieces is too long.
+fn is_long(front: &[u8], rest: &[u8]) -> bool
+    ensures { result ≡ making.is_long (front.now ++ rest.now) }
+{
+    (front.len() + rest.len()) as u64 > UNIT_LIMIT
+}
+
+/// Whether one of these units is too long.
+fn has_long(units: &[Vec<u8>]) -> bool
+    ensures { result ≡ list_any making.is_long (map (λ unit. unit.items) units.now) }
+{
+    for k in 0..units.len() {
+        if is_long(units[k].as_slice(), &[]) {
+            return true;
+        }
+    }
+    false
+}
+
+/// Whether there is a unit, and it is too long.
+fn is_some_long(unit: Option<&[u8]>) -> bool
+    ensures { result ≡ list_any making.is_long (option_to_list (option_copied unit.entry)) }
+{
+    match unit {
+        Some(unit) => is_long(unit, &[]),
+        None => false,
+    }
+}
+
+/// Whether the unit of a slice is too long.
+fn has_long_slice(made: &Made<'_>) -> bool
+    requires { HasPayloads made.now }
+    ensures { result ≡ list_any making.is_long (making.slice_units made.now) }
+{
+    for i in 0..made.fronts.len() {
+        let slice = made.slice(i);
+        if is_long(slice.front, slice.payload) {
+            return true;
+        }
+    }
+    false
+}
+
+/// Whether a unit is too long.
+fn has_long_unit(made: &Made<'_>) -> bool
+    requires { HasPayloads made.now }
+    ensures { result ≡ list_any making.is_long (making.units_made made.now) }
+{
+    if has_long(made.sets.as_slice()) {
+        return true;
+    }
+    if is_some_long(made.sei_unit()) {
+        return true;
+    }
+    if is_long(made.header.as_slice(), &[]) {
+        return true;
+    }
+    has_long_slice(made)
+}
+
+// ---- bytes: counts stay at the highest number of 64 bits
+
+/// A count of bytes with a unit and its start code.
+fn with_unit(total: u64, length: usize) -> u64
+    ensures { result ≡ making.capped (total + (4 + length)) }
+{
+    total
+        .saturating_add(START_CODE)
+        .saturating_add(length as u64)
+}
+
+/// With an end of sequence, where there is one.
+fn with_end(total: u64, after_eos: bool) -> u64
+    ensures { result ≡ making.capped (total + making.size_of 4 (eos_units after_eos)) }
+{
+    if after_eos {
+        return with_unit(total, 2);
+    }
+    total
+}
+
+/// With units.
+fn with_units(total: u64, units: &[Vec<u8>]) -> u64
+    ensures { result ≡ making.capped (total + making.size_of 4 (map (λ unit. unit.items) units.now)) }
+{
+    let mut sum = total;
+    for k in 0..units.len() {
+        sum = with_unit(sum, units[k].len());
+    }
+    sum
+}
+
+/// With a unit, where there is one.
+fn with_some(total: u64, unit: Option<&[u8]>) -> u64
+    ensures { result ≡ making.capped (total + making.size_of 4 (option_to_list (option_copied unit.entry))) }
+{
+    match unit {
+        Some(unit) => with_unit(total, unit.len()),
+        None => total,
+    }
+}
+
+/// A count of bytes with those of a slice, and so many more.
+fn with_slice(total: u64, each: u64, slice: SliceUnit<'_>) -> u64
+    ensures { result ≡ making.capped (total + (each + length (slice.entry.front.now ++ slice.entry.payload.now))) }
+{
+    let length = slice.front.len() + slice.payload.len();
+    total.saturating_add(each).saturating_add(length as u64)
+}
+
+/// With those of the slices, and so many more for each.
+fn with_slices(total: u64, each: u64, made: &Made<'_>) -> u64
+    requires { HasPayloads made.now }
+    ensures { result ≡ making.capped (total + making.size_of each (making.slice_units made.now)) }
+{
+    let mut sum = total;
+    for i in 0..made.fronts.len() {
+        sum = with_slice(sum, each, made.slice(i));
+    }
+    sum
+}
+
+/// A count of bytes with all that was made of a round.
+fn with_made(bytes: u64, made: &Made<'_>) -> u64
+    requires { HasPayloads made.now }
+    ensures { result ≡ making.capped (bytes + making.size_of 4 (making.units_made made.now)) }
+{
+    let end = with_end(bytes, made.after_eos);
+    let sets = with_units(end, made.sets.as_slice());
+    let sei = with_some(sets, made.sei_unit());
+    let header = with_unit(sei, made.header.len());
+    with_slices(header, START_CODE, made)
+}
+
+// ---- limits
+
+/// How many bytes are written in all, behind so many, where what was made of a round keeps the limits.
+///
+/// # Errors
+///
+/// The first limit that it doesn't.
+pub(crate) fn bytes_within(made: &Made<'_>, bytes: u64) -> Result<u64, Refusal>
+    requires { HasPayloads made.now }
+    ensures total { IfOk result (λ total. total ≡ bytes + making.size_of 4 (making.units_made made.now)) }
+    ensures within { OnOk result (making.AreLimits made.now bytes None) }
+    ensures broken { IfErr result (λ r. making.AreLimits made.now bytes (Some r)) }
+{
+    if has_long_unit(made) {
+        return Err(Refusal::Limit { code: LONG_UNIT });
+    }
+    if with_slices(made.header.len() as u64, 0, made) > PICTURE_LIMIT {
+        return Err(Refusal::Limit { code: LONG_PICTURE });
+    }
+    let total = with_made(bytes, made);
+    if total > STREAM_LIMIT {
+        return Err(Refusal::Limit { code: LONG_SOURCE });
+    }
+    Ok(total)
+}

@@ -1,0 +1,311 @@
+//! The sets that a round needs.
+ghost use Rattle.std.specs.Prelude.{◌≡◌, ◌<◌, ◌≤◌, ◌∷◌, [], List, None, length, map, option_copied, option_to_list, IfOk};
+ghost use Rattle.std.specs.List.{AllByRecursion};
+ghost use Rattle.vx_aps.specs.declared.aps.TheConstants as types;
+ghost use Rattle.vx_fit.specs.Lowest.{IsLowestAnswer};
+ghost use Rattle.vx_pps.specs.Pps.{IsItems};
+ghost use Rattle.vx_pps.specs.Reshaped.{IsReshaped};
+ghost use Rattle.vx_pic.specs.Written.{SetUnit, a_pps};
+ghost use Rattle.vx_write.specs.Slots.{AreLastOf, pps_with_id};
+ghost use Rattle.vx_merge.specs.Bodies as words;
+ghost use Rattle.vx_merge.specs.Needed.{alf_bodies, lmcs_bodies, scaling_bodies};
+ghost use Rattle.vx_merge.specs.Rounds.{picture_at};
+ghost use Rattle.vx_merge.specs.Shapes.{of_lowest, pps_shape};
+ghost use Rattle.vx_merge.specs.Slots.{TakeSlots, alf_slots, lmcs_slots, pps_slots, scaling_slots};
+ghost use Rattle.vx_merge.specs.inner.Joined.{IsSomeFrame, OfFrame};
+ghost use Rattle.vx_merge.specs.inner.Ready.{AreNeeded};
+ghost use Rattle.vx_merge.specs.inner.Sending.{AreNamed, CanBeSent, HasEnds};
+ghost use Rattle.vx_merge.specs.inner.Taking.{IsEmptyPps, IsHeldAs};
+
+use crate::filters::add_picture;
+use crate::frame_sets::{frame_pps, frame_sps};
+use crate::headers::{has_lmcs, has_scaling, lmcs_body, scaling_body};
+use crate::ids::{Search, take_ids};
+use crate::joined::Frame;
+use std::alloc::{AllocError, Global};
+use vx_aps::{ALF, LMCS, SCALING};
+use vx_bits::BodyList;
+use vx_pic::Picture;
+use vx_pps::Pps;
+use vx_sps::Sps;
+use vx_write::Slots;
+
+/// How many ids PPSs have (H.266 7.4.3.5).
+const PPS_SLOTS: u8 = 64;
+
+/// The bodies of one type of adaptation parameter sets, and the ids that they take, in their order.
+#[derive(Drop)]
+pub(crate) struct NamedBodies<'a> {
+    /// The bodies.
+    pub(crate) bodies: BodyList<'a>,
+    /// Their ids.
+    pub(crate) ids: Vec<u8>,
+}
+
+/// The sets that a round needs, with the ids that they take.
+#[derive(Drop)]
+pub(crate) struct RoundSets<'a> {
+    /// The SPS, of id 0.
+    pub(crate) sps: Sps,
+    /// The PPS.
+    pub(crate) pps: Pps,
+    /// Its id.
+    pub(crate) pps_id: u8,
+    /// Adaptive loop filters.
+    pub(crate) alf: NamedBodies<'a>,
+    /// Luma mapping with chroma scaling, where a source has it.
+    pub(crate) lmcs: NamedBodies<'a>,
+    /// Scaling lists, where a source has them.
+    pub(crate) scaling: NamedBodies<'a>,
+}
+
+// ---- bodies
+
+/// What is known of the bodies of a picture: they can end a unit. Does nothing.
+fn bodies_of(picture: &Picture<'_>)
+    ensures { HasEnds picture.now }
+{
+    for place in 0..24 {
+        let _body = picture.body(place / 8, place % 8);
+    }
+}
+
+/// What is known of those of all pictures. Does nothing.
+fn all_bodies(round: &[Picture<'_>])
+    ensures { AllByRecursion HasEnds round.now }
+{
+    for k in 0..round.len() {
+        bodies_of(&round[k]);
+    }
+}
+
+/// The bodies of the adaptive loop filters in force in the slices, each once.
+fn filters<'a>(alloc: Global, round: &[Picture<'a>]) -> Result<BodyList<'a>, AllocError>
+    ensures { IfOk result (λ found. map (λ b. b.now) found ≡ alf_bodies round.now) }
+{
+    let mut bodies = BodyList::new(alloc);
+    for k in 0..round.len() {
+        add_picture(alloc, &mut bodies, &round[k])?;
+    }
+    Ok(bodies)
+}
+
+/// The body of LMCS of the lowest source that has it.
+fn shared_lmcs<'a>(round: &[Picture<'a>]) -> Option<&'a [u8]>
+    ensures { option_copied result ≡ of_lowest words.has_lmcs words.lmcs_body None round.now }
+{
+    for k in 0..round.len() {
+        if has_lmcs(&round[k]) {
+            return lmcs_body(&round[k]);
+        }
+    }
+    None
+}
+
+/// The body of scaling lists of the lowest source that has them.
+fn shared_scaling<'a>(round: &[Picture<'a>]) -> Option<&'a [u8]>
+    ensures { option_copied result ≡ of_lowest words.has_scaling words.scaling_body None round.now }
+{
+    for k in 0..round.len() {
+        if has_scaling(&round[k]) {
+            return scaling_body(&round[k]);
+        }
+    }
+    None
+}
+
+/// A body as a list, where there is one.
+fn one_or_none<'a>(alloc: Global, body: Option<&'a [u8]>) -> Result<BodyList<'a>, AllocError>
+    ensures { IfOk result (λ found. map (λ b. b.now) found ≡ option_to_list (option_copied body.entry)) }
+{
+    let mut bodies = BodyList::new(alloc);
+    match body {
+        Some(body) => bodies.push(body)?,
+        None => (),
+    }
+    Ok(bodies)
+}
+
+// ---- ids
+
+/// Bodies of one type with the ids that they take.
+fn named<'a>(
+    alloc: Global,
+    slots: &Slots,
+    search: Search,
+    bodies: BodyList<'a>,
+) -> Result<NamedBodies<'a>, AllocError>
+    requires { length bodies ≤ search.count }
+    ensures { IfOk result (AreNamed search.kind search.count search.temporal_id slots.now (map (λ b. b.now) bodies.entry)) }
+{
+    let ids = take_ids(alloc, slots, search, &bodies)?;
+    Ok(NamedBodies { bodies, ids })
+}
+
+/// Where adaptive loop filters are looked for.
+pub(crate) fn of_alf(temporal_id: u8) -> Search
+    ensures { result ≡ record { temporal_id = temporal_id; kind = types.ALF; count = alf_slots } }
+{
+    Search {
+        temporal_id,
+        kind: ALF,
+        count: 8,
+    }
+}
+
+/// Where LMCS is looked for.
+pub(crate) fn of_lmcs(temporal_id: u8) -> Search
+    ensures { result ≡ record { temporal_id = temporal_id; kind = types.LMCS; count = lmcs_slots } }
+{
+    Search {
+        temporal_id,
+        kind: LMCS,
+        count: 4,
+    }
+}
+
+/// Where scaling lists are looked for.
+pub(crate) fn of_scaling(temporal_id: u8) -> Search
+    ensures { result ≡ record { temporal_id = temporal_id; kind = types.SCALING; count = scaling_slots } }
+{
+    Search {
+        temporal_id,
+        kind: SCALING,
+        count: 8,
+    }
+}
+
+/// The adaptive loop filters of a round.
+fn named_filters<'a>(
+    alloc: Global,
+    slots: &Slots,
+    temporal_id: u8,
+    round: &[Picture<'a>],
+) -> Result<NamedBodies<'a>, AllocError>
+    requires { length (alf_bodies round.now) ≤ alf_slots }
+    ensures { IfOk result (AreNamed types.ALF alf_slots temporal_id slots.now (alf_bodies round.now)) }
+{
+    let bodies = filters(alloc, round)?;
+    named(alloc, slots, of_alf(temporal_id), bodies)
+}
+
+/// The LMCS of a round.
+fn named_lmcs<'a>(
+    alloc: Global,
+    slots: &Slots,
+    temporal_id: u8,
+    round: &[Picture<'a>],
+) -> Result<NamedBodies<'a>, AllocError>
+    ensures { IfOk result (AreNamed types.LMCS lmcs_slots temporal_id slots.now (lmcs_bodies round.now)) }
+{
+    let bodies = one_or_none(alloc, shared_lmcs(round))?;
+    named(alloc, slots, of_lmcs(temporal_id), bodies)
+}
+
+/// The scaling lists of a round.
+fn named_scaling<'a>(
+    alloc: Global,
+    slots: &Slots,
+    temporal_id: u8,
+    round: &[Picture<'a>],
+) -> Result<NamedBodies<'a>, AllocError>
+    ensures { IfOk result (AreNamed types.SCALING scaling_slots temporal_id slots.now (scaling_bodies round.now)) }
+{
+    let bodies = one_or_none(alloc, shared_scaling(round))?;
+    named(alloc, slots, of_scaling(temporal_id), bodies)
+}
+
+/// The lowest id with which a PPS is resident.
+fn held_pps_id(slots: &Slots, temporal_id: u8, pps: &Pps) -> Option<u8>
+    ensures { IsLowestAnswer pps_slots (IsHeldAs slots.now temporal_id pps.now) result }
+{
+    for id in 0..PPS_SLOTS {
+        if slots.serves_pps_as(temporal_id, pps, u32::from(id)) {
+            return Some(id);
+        }
+    }
+    None
+}
+
+/// The lowest id with which no PPS was sent.
+fn empty_pps_id(slots: &Slots) -> Option<u8>
+    ensures { IsLowestAnswer pps_slots (IsEmptyPps slots.now) result }
+{
+    for id in 0..PPS_SLOTS {
+        if slots.is_pps_vacant(u32::from(id)) {
+            return Some(id);
+        }
+    }
+    None
+}
+
+/// The id that a PPS takes.
+fn taken_pps_id(slots: &Slots, temporal_id: u8, pps: &Pps) -> u8
+    ensures low { result < pps_slots }
+    ensures taken { (sent : List SetUnit) → AreLastOf sent slots.now
+        → TakeSlots pps_slots 1 temporal_id sent (λ k id. a_pps (pps_with_id id pps.now)) (result ∷ []) }
+{
+    let _items = pps.fields();
+    match held_pps_id(slots, temporal_id, pps) {
+        Some(id) => id,
+        None => empty_pps_id(slots).unwrap_or(0),
+    }
+}
+
+/// The PPS with the id that it takes: made anew, unless that is 0, the id that it has.
+fn renamed(
+    alloc: Global,
+    round: &[Picture<'_>],
+    frame: &Frame,
+    plain: Pps,
+    id: u8,
+) -> Result<Pps, AllocError>
+    requires frame { IsSomeFrame round.now frame.now }
+    requires id { id < 64 }
+    requires plain { OfFrame round.now frame.now (λ corners. IsReshaped (picture_at round.now 0).pps (pps_shape corners round.now frame.now.numbers 0) plain) }
+    ensures { IfOk result (λ pps. OfFrame round.now frame.now (λ corners. IsReshaped (picture_at round.now 0).pps (pps_shape corners round.now frame.now.numbers id) pps)) }
+{
+    if id == 0 {
+        return Ok(plain);
+    }
+    frame_pps(alloc, round, frame, id)
+}
+
+// ---- all
+
+/// The sets that a round needs, with the ids that they take behind the sets that were sent.
+///
+/// # Errors
+///
+/// Want of memory.
+pub(crate) fn needed<'a>(
+    alloc: Global,
+    round: &[Picture<'a>],
+    frame: &Frame,
+    level: Option<u8>,
+    slots: &Slots,
+) -> Result<RoundSets<'a>, AllocError>
+    requires frame { IsSomeFrame round.now frame.now }
+    requires few { length (alf_bodies round.now) ≤ alf_slots }
+    ensures needed { (sent : List SetUnit) → AreLastOf sent slots.now
+        → IfOk result (λ n. OfFrame round.now frame.now (λ corners. AreNeeded corners level round.now frame.now.numbers sent n)) }
+    ensures can { IfOk result CanBeSent }
+{
+    all_bodies(round);
+    let temporal_id = round[0].kind().temporal_id;
+    let sps = frame_sps(alloc, round, frame, level)?;
+    let plain = frame_pps(alloc, round, frame, 0)?;
+    let pps_id = taken_pps_id(slots, temporal_id, &plain);
+    let pps = renamed(alloc, round, frame, plain, pps_id)?;
+    let alf = named_filters(alloc, slots, temporal_id, round)?;
+    let lmcs = named_lmcs(alloc, slots, temporal_id, round)?;
+    let scaling = named_scaling(alloc, slots, temporal_id, round)?;
+    Ok(RoundSets {
+        sps,
+        pps,
+        pps_id,
+        alf,
+        lmcs,
+        scaling,
+    })
+}

@@ -1,0 +1,88 @@
+//! What is made of a round, and writing it.
+ghost use Rattle.std.specs.Prelude.{◌≡◌, ◌<◌, ◌∷◌, [], ◌++◌, length, option_copied, option_map, slice_get, Some};
+ghost use Rattle.vx_write.specs.Writing.{Takes};
+ghost use Rattle.vx_merge.specs.inner.Making as making;
+ghost use Rattle.vx_merge.specs.inner.Making.{HasPayloads};
+
+use vx_annexb::write_unit;
+use vx_bits::BodyList;
+use vx_io::{Sink, SinkFailed};
+use vx_write::{write_all_of, write_end, write_one, write_some};
+
+/// What is made of a round before any of it is written: all that is written of it.
+#[derive(Drop)]
+pub(crate) struct Made<'a> {
+    /// Whether an end of sequence comes first.
+    pub(crate) after_eos: bool,
+    /// The units of the sets that are sent.
+    pub(crate) sets: Vec<Vec<u8>>,
+    /// The SEI unit.
+    pub(crate) sei: Option<Vec<u8>>,
+    /// The PH unit.
+    pub(crate) header: Vec<u8>,
+    /// The units of the slices up to their payloads.
+    pub(crate) fronts: Vec<Vec<u8>>,
+    /// Their payloads.
+    pub(crate) payloads: BodyList<'a>,
+}
+
+/// The unit of a slice, in two pieces.
+#[derive(Clone, Copy)]
+pub(crate) struct SliceUnit<'a> {
+    /// Up to its payload.
+    pub(crate) front: &'a [u8],
+    /// Its payload.
+    pub(crate) payload: &'a [u8],
+}
+
+impl<'a> Made<'a> {
+    /// The SEI unit.
+    pub(crate) fn sei_unit(&self) -> Option<&[u8]>
+        ensures { option_copied result ≡ option_map (λ unit. unit.items) self.now.sei }
+    {
+        self.sei.as_deref()
+    }
+
+    /// The unit of a slice, by source and then by address.
+    pub(crate) fn slice(&self, i: usize) -> SliceUnit<'_>
+        requires payloads { HasPayloads self.now }
+        requires within { i < length self.now.fronts.items }
+        ensures { slice_get (making.slice_units self.now) i ≡ Some (result.front.now ++ result.payload.now) }
+    {
+        SliceUnit {
+            front: self.fronts[i].as_slice(),
+            payload: self.payloads.item(i),
+        }
+    }
+}
+
+/// Writes the unit of a slice.
+fn write_slice<K: Sink>(out: &mut K, slice: SliceUnit<'_>) -> Result<(), SinkFailed>
+    ensures { Takes (K.bytes_taken out.old) (K.bytes_taken out.new) (K.write_faults out.old) (K.write_faults out.new)
+        ((slice.entry.front.now ++ slice.entry.payload.now) ∷ []) result }
+{
+    write_unit(out, slice.front, slice.payload)
+}
+
+/// Writes the slices.
+fn write_slices<K: Sink>(out: &mut K, made: &Made<'_>) -> Result<(), SinkFailed>
+    requires { HasPayloads made.now }
+    ensures { Takes (K.bytes_taken out.old) (K.bytes_taken out.new) (K.write_faults out.old) (K.write_faults out.new) (making.slice_units made.now) result }
+{
+    for i in 0..made.fronts.len() {
+        write_slice(out, made.slice(i))?;
+    }
+    Ok(())
+}
+
+/// Writes all that was made of a round. It takes no memory.
+pub(crate) fn write_made<K: Sink>(out: &mut K, made: &Made<'_>) -> Result<(), SinkFailed>
+    requires { HasPayloads made.now }
+    ensures { Takes (K.bytes_taken out.old) (K.bytes_taken out.new) (K.write_faults out.old) (K.write_faults out.new) (making.units_made made.now) result }
+{
+    write_end(out, made.after_eos)?;
+    write_all_of(out, made.sets.as_slice())?;
+    write_some(out, made.sei_unit())?;
+    write_one(out, made.header.as_slice())?;
+    write_slices(out, made)
+}

@@ -1,0 +1,98 @@
+//! The picture header that is sent for a round.
+ghost use Rattle.std.specs.Prelude.{◌≡◌, ℕ, ◌<◌, List, false, slice_get, option_map, IfOk};
+ghost use Rattle.vx_ph.specs.InForce.{in_force, structures};
+ghost use Rattle.vx_ph.specs.Picture.{IsHeader, IsUnit};
+ghost use Rattle.vx_ph.specs.Reshaped.{IsReshaped};
+ghost use Rattle.vx_pic.specs.declared.unit_types.TheConstants as types;
+ghost use Rattle.vx_write.specs.Units.{IsUnitOf};
+ghost use Rattle.vx_merge.specs.Bodies as bodies;
+ghost use Rattle.vx_merge.specs.Headers as spec;
+ghost use Rattle.vx_merge.specs.Rounds.{picture_at};
+ghost use Rattle.vx_merge.specs.Shapes.{of_lowest};
+ghost use Rattle.vx_merge.specs.inner.Ready.{IsSomeReady, ids_in};
+
+use crate::headers::{has_lmcs, is_chroma_scaled};
+use crate::needed::{NamedBodies, RoundSets};
+use std::alloc::{AllocError, Global};
+use vx_ph::{LmcsShape, PhShape, PictureHeader, reshape_ph, write_ph};
+use vx_pic::{PH_NUT, Picture};
+use vx_write::plain_unit;
+
+/// The id of the first body, where there is one.
+fn first_id(named: &NamedBodies<'_>) -> Option<u8>
+    ensures { result ≡ slice_get named.now.ids.items 0 }
+{
+    named.ids.first().copied()
+}
+
+/// Whether chroma residuals are scaled in the lowest source that has LMCS.
+fn scales_chroma(round: &[Picture<'_>]) -> bool
+    ensures { result ≡ of_lowest bodies.has_lmcs bodies.is_chroma_scaled false round.now }
+{
+    for k in 0..round.len() {
+        if has_lmcs(&round[k]) {
+            return is_chroma_scaled(&round[k]);
+        }
+    }
+    false
+}
+
+/// What the header says of luma mapping with chroma scaling, where a source has it.
+fn lmcs_shape(round: &[Picture<'_>], lmcs: &NamedBodies<'_>) -> Option<LmcsShape>
+    ensures { result ≡ option_map (spec.lmcs_shape round.now) (slice_get lmcs.now.ids.items 0) }
+{
+    let id = first_id(lmcs)?;
+    Some(LmcsShape {
+        id,
+        scales_chroma: scales_chroma(round),
+    })
+}
+
+/// What the header says.
+fn shape_of(round: &[Picture<'_>], needed: &RoundSets<'_>) -> PhShape
+    ensures { result ≡ spec.ph_shape round.now (ids_in needed.now) }
+{
+    PhShape {
+        pps_id: needed.pps_id,
+        lmcs: lmcs_shape(round, &needed.lmcs),
+        scaling: first_id(&needed.scaling),
+    }
+}
+
+/// The picture header of a round, under the sets that are sent for it.
+///
+/// # Errors
+///
+/// Want of memory.
+pub(crate) fn picture_header(
+    alloc: Global,
+    round: &[Picture<'_>],
+    needed: &RoundSets<'_>,
+) -> Result<PictureHeader, AllocError>
+    requires ready { IsSomeReady round.now needed.now }
+    ensures says { IfOk result (λ header. IsReshaped (picture_at round.now 0).header (spec.ph_shape round.now (ids_in needed.now)) needed.now.sps needed.now.pps header) }
+    ensures is { IfOk result (λ header. IsHeader (structures needed.now.sps) (in_force needed.now.sps needed.now.pps) header) }
+{
+    let shape = shape_of(round, needed);
+    reshape_ph(alloc, round[0].header(), &shape, &needed.sps, &needed.pps)
+}
+
+/// The unit of a picture header (H.266 7.3.2.7).
+///
+/// # Errors
+///
+/// Want of memory.
+pub(crate) fn header_unit(
+    alloc: Global,
+    header: &PictureHeader,
+    needed: &RoundSets<'_>,
+    temporal_id: u8,
+) -> Result<Vec<u8>, AllocError>
+    requires tid { temporal_id < 7 }
+    requires is { IsHeader (structures needed.now.sps) (in_force needed.now.sps needed.now.pps) header.now }
+    ensures { IfOk result (λ unit. (rbsp : List ℕ) × IsUnit (structures needed.now.sps) (in_force needed.now.sps needed.now.pps) header.now rbsp × IsUnitOf types.PH_NUT temporal_id rbsp unit.items) }
+{
+    let rbsp = write_ph(alloc, header, &needed.sps, &needed.pps)?;
+    let unit = plain_unit(alloc, PH_NUT, temporal_id, &rbsp)?;
+    Ok(unit)
+}
