@@ -1,5 +1,5 @@
 -- What the status tells of what came of a command.
-use Rattle.std.proofs.Common.{◌≡◌, ◌≢◌, ℕ, List, [], ◌∷◌, ◌++◌, length, Option, Some, None, Result, Ok, Err, inl, inr, refl, sym, ap, subst, arith, ◌<◌, ◌≤◌, ◌∙◌}
+use Rattle.std.proofs.Common.{◌≡◌, ◌≢◌, ◌⊎◌, ℕ, List, [], ◌∷◌, ◌++◌, length, Option, Some, None, Result, Ok, Err, inl, inr, refl, sym, ap, subst, arith, ◌<◌, ◌≤◌, ◌∙◌}
 use Rattle.vx_bits.specs.declared.refusal.Refusal.{Refusal}
 use Rattle.vx_report.specs.declared.refusal.Where.{Where}
 use Rattle.vx_app.specs.declared.stop.Stop.{Stop}
@@ -9,17 +9,20 @@ use Rattle.vx_app.specs.About.{help_text, version_text, Writes}
 use Rattle.vx_app.specs.Conclusion.{Outcome, Concludes, IsOfCommand, IsMade, status_of}
 use Rattle.vx_app.specs.declared.extract.Task.{Task}
 use Rattle.vx_app.specs.Extract.{BreakNoRule, Refuses, by_stream, by_picture, without, IsExtractable, IsStatus, WhereTold, ExtractsBy, ChecksBy, task_of}
-use Rattle.vx_app.specs.Grammar.{Command, Placing, show, extract, check_extract, check_merge, help, version, AskFor, IsUnderstood}
-use Rattle.vx_app.specs.Run.{Does, Performs, task_in}
+use Rattle.vx_app.specs.Grammar.{Command, Placing, show, extract, check_extract, merge, check_merge, help, version, AskFor, IsUnderstood}
+use Rattle.vx_app.specs.Run.{Does, Performs, placings_in, task_in}
 use Rattle.vx_bits.specs.declared.refusal.Refusal.TheVariants.{Limit}
 use Rattle.vx_bits.specs.declared.rules.TheConstants.{TOO_MANY_SOURCES}
+use Rattle.std.proofs.lemmas.Bool.{cases_lt}
 use Rattle.std.proofs.lemmas.List.{length-map}
+use Rattle.std.proofs.lemmas.Option.{same_Some}
 use Rattle.vx_merge.specs.declared.corner.Corner.{Corner}
-use Rattle.vx_app.specs.Merge.{Stream, Ends, EndsOnce, IsMergeable, IsMergeStatus, WhereAllTold, ChecksMergeBy, corner_of, corners_of, most_sources, too_many, in_round}
+use Rattle.vx_app.specs.Merge.{Stream, IsRound, Judges, RoundsPass, AreWritten, Ends, EndsWritten, EndsOnce, IsMergeable, IsMergeStatus, BreaksRule, IsBarred, Refuses as MergeRefuses, by_source, by_length, by_round, MeetsLimit, IsWrittenStatus, WhereAllTold, ChecksMergeBy, MergesBy, corner_of, corners_of, most_sources, too_many, in_round}
 use Rattle.vx_pic.specs.Readings.{Picture}
 use Rattle.vx_pic.specs.Rules.{Readers}
 use Rattle.vx_pic.specs.Bytes.{Ending}
-use Rattle.vx_pic.specs.Parts.{parts_of}
+use Rattle.vx_pic.specs.Parts.{Parts, parts_of}
+use Rattle.vx_pic.specs.Written.{Plan}
 use Rattle.vx_extract.specs.Rules.{refusal_of}
 use Rattle.vx_pic.specs.H266.{AreOfH266}
 use Rattle.vx_app.specs.Show.{ShowsBy, WhereKnown, status_at}
@@ -97,6 +100,7 @@ module _ {A K : Type 0} (R : Readers) (of : AreOfH266 R) (words : List (List ℕ
       subst (λ (u : Task). IsStatus u ps ending 0) (same_task (task_of tid level index) t is) (status-done (task_of tid level index) ps ending (((performs.command (extract tid level index file) spelled).1 R of).4 b ps ending told are).0)
   extracts-done (check_extract tid index file) t performs spelled is b ps ending told are =
       subst (λ (u : Task). IsStatus u ps ending 0) (same_task (task_of tid None index) t is) (status-done (task_of tid None index) ps ending (((performs.command (check_extract tid index file) spelled).1 R of).4 b ps ending told are).0)
+  extracts-done (merge level placings) t performs spelled is b ps ending told are = absurd (cc)
   extracts-done (check_merge placings) t performs spelled is b ps ending told are = absurd (cc)
   extracts-done (show file) t performs spelled is b ps ending told are = absurd (cc)
   extracts-done help t performs spelled is b ps ending told are = absurd (cc)
@@ -111,6 +115,7 @@ module _ {A K : Type 0} (R : Readers) (of : AreOfH266 R) (words : List (List ℕ
   extracts-stopped err stop status (check_extract tid index file) t performs ends spelled is =
       subst (λ (u : Task). ¬ HasFault (source_at sources 0) → ¬ HasFault out → status ≢ 4 → WhereTold R (source_at sources 0) (λ ps ending. IsStatus u ps ending status)) (same_task (task_of tid None index) t is)
       (check-stopped R (task_of tid None index) (source_at sources 0) out err stop status ((performs.command (check_extract tid index file) spelled).1 R of) ends)
+  extracts-stopped err stop status (merge level placings) t performs ends spelled is = absurd (cc)
   extracts-stopped err stop status (check_merge placings) t performs ends spelled is = absurd (cc)
   extracts-stopped err stop status (show file) t performs ends spelled is = absurd (cc)
   extracts-stopped err stop status help t performs ends spelled is = absurd (cc)
@@ -135,7 +140,7 @@ module _ {A K E : Type 0} (once : EndsOnce) (R : Readers) (corners : List Corner
   merge-stopped : (stop : Stop) (status : ℕ) → ChecksMergeBy R corners sources out (Err stop) → Concludes stop status err → ((k : ℕ) → k < length sources.old → ¬ HasFault (source_at sources k)) → ¬ HasFault out → status ≢ 4
       → WhereAllTold R sources (λ ss. IsMergeStatus corners ss status)
   merge-stopped (Refused r place) status does ends read write fits ss are =
-      let is = does.3 ss are in
+      let is = does.2 ss are in
       elim ends.ended [ inl p ↦ merge-refused corners ss status (merge-not once corners ss is.0 r place (omega (arith, some, are.count)) is.1) p.0 | inr p ↦ absurd (fits p.1) ]
   merge-stopped (ReadFault k) status does ends read write fits ss are = absurd (read k does.0 does.1)
   merge-stopped WriteFault status does ends read write fits ss are = absurd (write does.1)
@@ -148,32 +153,112 @@ too-many_ err stop status is ends fits =
     let same : stop ≡ Refused (Limit TOO_MANY_SOURCES) (in_round 0) = cc in
     elim ends.ended [ inl p ↦ p.0 ∙ ap status_of same | inr p ↦ absurd (fits p.1) ]
 
-module _ {A K : Type 0} (words : List (List ℕ)) (sources : Sources A) (out : Change K) (placings : List Placing) (spelled : AskFor words (check_merge placings)) where
-  same-count : length (corners_of placings) ≡ length placings
-  same-count = length-map placings corner_of
+same_count : (placings : List Placing) → length (corners_of placings) ≡ length placings
+same_count placings = length-map placings corner_of
 
-  -- the status of a merge that is done
-  pub merges-done : (R : Readers) → AreOfH266 R → Performs words sources out (Ok tt) → length placings ≤ most_sources → WhereAllTold R sources (λ ss. IsMergeStatus (corners_of placings) ss 0)
-  merges-done R of performs few ss are =
-      let does = (performs.command (check_merge placings) spelled).checks (omega (arith, few, same-count)) R of in
+module _ {A K : Type 0} (words : List (List ℕ)) (sources : Sources A) (out : Change K) (placings : List Placing) (spelled : AskFor words (check_merge placings)) (few : length placings ≤ most_sources) where
+  -- the status of a merge that is checked and can be done
+  pub checks-done : (R : Readers) → AreOfH266 R → Performs words sources out (Ok tt) → WhereAllTold R sources (λ ss. IsMergeStatus (corners_of placings) ss 0)
+  checks-done R of performs ss are =
+      let does = (performs.command (check_merge placings) spelled).few (omega (arith, few, same_count placings)) R of in
       let is = does.2 ss are in
       merge-done (corners_of placings) ss (is.0, is.1)
 
   -- and of one that stopped
-  pub merges-stopped : {E : Type 0} (once : EndsOnce) (R : Readers) → AreOfH266 R → (err : Change E) (stop : Stop) (status : ℕ) → 0 < length sources.old → Performs words sources out (Err stop) → Concludes stop status err → length placings ≤ most_sources
+  pub checks-stopped : {E : Type 0} (once : EndsOnce) (R : Readers) → AreOfH266 R → (err : Change E) (stop : Stop) (status : ℕ) → 0 < length sources.old → Performs words sources out (Err stop) → Concludes stop status err
       → ((k : ℕ) → k < length sources.old → ¬ HasFault (source_at sources k)) → ¬ HasFault out → status ≢ 4 → WhereAllTold R sources (λ ss. IsMergeStatus (corners_of placings) ss status)
-  merges-stopped once R of err stop status some performs ends few =
-      merge-stopped once R (corners_of placings) sources out err some stop status ((performs.command (check_merge placings) spelled).checks (omega (arith, few, same-count)) R of) ends
+  checks-stopped once R of err stop status some performs ends =
+      merge-stopped once R (corners_of placings) sources out err some stop status ((performs.command (check_merge placings) spelled).few (omega (arith, few, same_count placings)) R of) ends
 
-  -- where there are too many sources it isn't done
-  pub many-done : (status : ℕ) → Performs words sources out (Ok tt) → most_sources < length placings → status ≡ 1
-  many-done status performs many =
-      let is = ((performs.command (check_merge placings) spelled).many (omega (arith, many, same-count))).0 in
-      absurd (cc)
+-- ---- merges that are written
 
-  pub many-stopped : {E : Type 0} (err : Change E) (stop : Stop) (status : ℕ) → Performs words sources out (Err stop) → Concludes stop status err → most_sources < length placings → status ≢ 4 → status ≡ 1
-  many-stopped err stop status performs ends many fits =
-      too-many_ err stop status ((performs.command (check_merge placings) spelled).many (omega (arith, many, same-count))).0 ends fits
+-- rounds that are written pass
+written_pass : (corners : List Corner) (level : Option ℕ) (ss : List Stream) (done : List Plan) → AreWritten corners level ss done → RoundsPass corners ss (length done)
+written_pass corners level ss [] plans r before = absurd (omega (arith, before))
+written_pass corners level ss (p ∷ done) plans r before = elim (cases_lt r (length done)) [
+  | inl earlier ↦ written_pass corners level ss done plans.1 r earlier
+  | inr last ↦
+      let same : length done ≡ r = omega (arith, last, before) in
+      let round = plans.0 in
+      subst (λ (i : ℕ). (q : List Parts) × IsRound ss i q × Judges corners q None) same (round.0, round.1, round.2.rules)
+]
+
+written-done : (corners : List Corner) (level : Option ℕ) (ss : List Stream) (done : List Plan) → EndsWritten corners level ss done (Ok tt) → IsWrittenStatus corners level ss 0
+written-done corners level ss done ends = record {
+  one = inl refl;
+  done = λ zero_. (done, ends);
+  refused = λ one. absurd (omega (arith, one));
+  rules = λ not_. absurd (not_ (length done, (written_pass corners level ss done ends.0, ends.1)));
+}
+
+-- what bars a merge is a rule or a limit
+module _ (once : EndsOnce) (corners : List Corner) (level : Option ℕ) (ss : List Stream) (some : 0 < length ss) (done : List Plan) (plans : AreWritten corners level ss done) where
+  by_rules : (r : Refusal) (place : Where) → MergeRefuses (BreaksRule corners) ss (length done) r place → IsMergeable corners ss → ⊥
+  by_rules r place refuses = merge-not once corners ss (length done) r place some (written_pass corners level ss done plans, refuses)
+
+  barred : (r : Refusal) (place : Where) → MergeRefuses (IsBarred corners level done) ss (length done) r place → (¬ IsMergeable corners ss) ⊎ MeetsLimit corners level ss
+  barred r place (by_source k e of none is at) = inl (by_rules r place (by_source k e of none is at))
+  barred r place (by_length k none lowest goes is at) = inl (by_rules r place (by_length k none lowest goes is at))
+  barred r place (by_round round is (inl judged) at) = inl (by_rules r place (by_round round is judged at))
+  barred r place (by_round round is (inr long) at) = inr (done, plans, (round, is, (r, long)))
+
+  written-refused : (r : Refusal) (place : Where) (status : ℕ) → MergeRefuses (IsBarred corners level done) ss (length done) r place → status ≡ 1 → IsWrittenStatus corners level ss status
+  written-refused r place status refuses one = record {
+    one = inr one;
+    done = λ zero_. absurd (omega (arith, one, zero_));
+    refused = λ is. barred r place refuses;
+    rules = λ not_. one;
+  }
+
+module _ {A K E : Type 0} (once : EndsOnce) (R : Readers) (corners : List Corner) (level : Option ℕ) (sources : Sources A) (out : Change K) (err : Change E) (some : 0 < length sources.old) where
+  write-stopped : (stop : Stop) (status : ℕ) → MergesBy R corners level sources out (Err stop) → Concludes stop status err → ((k : ℕ) → k < length sources.old → ¬ HasFault (source_at sources k)) → ¬ HasFault out → status ≢ 4
+      → WhereAllTold R sources (λ ss. IsWrittenStatus corners level ss status)
+  write-stopped (Refused r place) status does ends read write fits ss are =
+      let is = does.2 ss are in
+      elim ends.ended [ inl p ↦ written-refused once corners level ss (omega (arith, some, are.count)) is.0 is.1.0 r place status is.1.1 p.0 | inr p ↦ absurd (fits p.1) ]
+  write-stopped (ReadFault k) status does ends read write fits ss are = absurd (read k does.0 does.1)
+  write-stopped WriteFault status does ends read write fits ss are = absurd (write does.1)
+  write-stopped NoMemory status does ends read write fits ss are =
+      elim ends.ended [ inl p ↦ absurd (fits p.0) | inr p ↦ absurd p.0 ]
+  write-stopped NotUnderstood status does ends read write fits ss are = absurd does
+
+module _ {A K : Type 0} (words : List (List ℕ)) (sources : Sources A) (out : Change K) (level : Option ℕ) (placings : List Placing) (spelled : AskFor words (merge level placings)) (few : length placings ≤ most_sources) where
+  -- the status of a merge that is written whole
+  pub merges-done : (R : Readers) → AreOfH266 R → Performs words sources out (Ok tt) → WhereAllTold R sources (λ ss. IsWrittenStatus (corners_of placings) level ss 0)
+  merges-done R of performs ss are =
+      let does = (performs.command (merge level placings) spelled).few (omega (arith, few, same_count placings)) R of in
+      let is = does.2 ss are in
+      written-done (corners_of placings) level ss is.0 is.1
+
+  -- and of one that stopped
+  pub merges-stopped : {E : Type 0} (once : EndsOnce) (R : Readers) → AreOfH266 R → (err : Change E) (stop : Stop) (status : ℕ) → 0 < length sources.old → Performs words sources out (Err stop) → Concludes stop status err
+      → ((k : ℕ) → k < length sources.old → ¬ HasFault (source_at sources k)) → ¬ HasFault out → status ≢ 4 → WhereAllTold R sources (λ ss. IsWrittenStatus (corners_of placings) level ss status)
+  merges-stopped once R of err stop status some performs ends =
+      write-stopped once R (corners_of placings) level sources out err some stop status ((performs.command (merge level placings) spelled).few (omega (arith, few, same_count placings)) R of) ends
+
+-- ---- too many sources
+
+too_many_of : {A K : Type 0} (sources : Sources A) (out : Change K) (outcome : Outcome) (command : Command) (placings : List Placing) → placings_in command ≡ Some placings → Does command sources out outcome → most_sources < length placings → outcome ≡ too_many
+too_many_of sources out outcome (merge level ps) placings is does many =
+    let same : ps ≡ placings = same_Some ps placings is in
+    (does.many (omega (arith, many, same_count ps, ap (λ (l : List Placing). length l) same))).0
+too_many_of sources out outcome (check_merge ps) placings is does many =
+    let same : ps ≡ placings = same_Some ps placings is in
+    (does.many (omega (arith, many, same_count ps, ap (λ (l : List Placing). length l) same))).0
+too_many_of sources out outcome (show file) placings is does many = absurd (cc)
+too_many_of sources out outcome (extract tid level index file) placings is does many = absurd (cc)
+too_many_of sources out outcome (check_extract tid index file) placings is does many = absurd (cc)
+too_many_of sources out outcome help placings is does many = absurd (cc)
+too_many_of sources out outcome version placings is does many = absurd (cc)
+
+module _ {A K : Type 0} (words : List (List ℕ)) (sources : Sources A) (out : Change K) (command : Command) (placings : List Placing) (spelled : AskFor words command) (is : placings_in command ≡ Some placings) (many : most_sources < length placings) where
+  -- it isn't done
+  pub many-done : (status : ℕ) → Performs words sources out (Ok tt) → status ≡ 1
+  many-done status performs = let stopped = too_many_of sources out (Ok tt) command placings is (performs.command command spelled) many in absurd (cc)
+
+  pub many-stopped : {E : Type 0} (err : Change E) (stop : Stop) (status : ℕ) → Performs words sources out (Err stop) → Concludes stop status err → status ≢ 4 → status ≡ 1
+  many-stopped err stop status performs ends fits =
+      too-many_ err stop status (too_many_of sources out (Err stop) command placings is (performs.command command spelled) many) ends fits
 
 -- ---- status 2
 
@@ -188,6 +273,7 @@ does_of_command : {A K : Type 0} (command : Command) (sources : Sources A) (out 
 does_of_command (show file) sources out stop does = does.0
 does_of_command (extract tid level index file) sources out stop does = does.0
 does_of_command (check_extract tid index file) sources out stop does = does.0
+does_of_command (merge level placings) sources out stop does = does.stop
 does_of_command (check_merge placings) sources out stop does = does.stop
 does_of_command help sources out stop does = writes_of_command help_text out stop does.1
 does_of_command version sources out stop does = writes_of_command version_text out stop does.1

@@ -57,7 +57,8 @@ pub record Goes {K : Type 0} (t : Task) (q : List Parts) (x : Extracting) (out :
   pub plans : AreExtracted t.target t.level q done
   pub gained : Gains out (written (units_written done))
 
-written_more : (p : Plan) (done : List Plan) → written (units_written (p ∷ done)) ≡ written (units_written done) ++ written (units_of p)
+-- the bytes of one more plan
+pub written_more : (p : Plan) (done : List Plan) → written (units_written (p ∷ done)) ≡ written (units_written done) ++ written (units_of p)
 written_more p done = flat_map-append (λ (unit : List ℕ). long_start_code ++ unit) (units_written done) (units_of p)
 
 -- as the task has it
@@ -119,8 +120,15 @@ module _ {A K : Type 0} (left : A → Option (List ℕ)) (reads : A → ℕ) (ta
   abbrev Sink : K → K → Change K
   Sink = change taken writes
 
+  -- what was written of pictures that were taken is read again
+  again_of : TakenIsReadAgain R t → (source : Change A) (f : Feeding) (ps : List Picture) → HasTaken R source f ps → BreakNoRule t ps → (done : List Plan) → AreExtracted t.target t.level (map parts_of (at_most t.tid ps)) done
+      → IsReadAgain R t ps (written (units_written done))
+  again_of reads_again source f ps taken =
+      subst (λ (l : List Picture). BreakNoRule t l → (done : List Plan) → AreExtracted t.target t.level (map parts_of (at_most t.tid l)) done → IsReadAgain R t l (written (units_written done))) taken.done
+      (reads_again taken.given taken.units taken.readings f taken.fed)
+
   -- none was
-  pub HasExtracted-none : TakenIsReadAgain A R t → (s : A) (o : K) (f : Feeding) (x : Extracting) → HasTaken R (Source s s) f [] → Stands x [] → HasExtracted R t (Source s s) (Sink o o) f x 0
+  pub HasExtracted-none : TakenIsReadAgain R t → (s : A) (o : K) (f : Feeding) (x : Extracting) → HasTaken R (Source s s) f [] → Stands x [] → HasExtracted R t (Source s s) (Sink o o) f x 0
   HasExtracted-none reads_again s o f x first stands = record {
     ps = [];
     taken = first;
@@ -130,7 +138,7 @@ module _ {A K : Type 0} (left : A → Option (List ℕ)) (reads : A → ℕ) (ta
     stands = stands;
     plans = tt;
     gained = Gains-nothing taken writes o o refl;
-    again = reads_again (Source s s) f [] first tt [] tt;
+    again = again_of reads_again (Source s s) f [] first tt [] tt;
   }
 
   -- nor was there memory to begin
@@ -152,7 +160,7 @@ module _ {A K : Type 0} (left : A → Option (List ℕ)) (reads : A → ℕ) (ta
       q = parts_of one.picture
 
       -- it is written, or left out
-      pub HasExtracted-more : TakenIsReadAgain A R t → Writes q e.done x' (taken o') (taken o'') (writes o') (writes o'') (Ok tt) → HasExtracted R t (Source s s'') (Sink o o'') f' x' (n + 1)
+      pub HasExtracted-more : TakenIsReadAgain R t → Writes q e.done x' (taken o') (taken o'') (writes o') (writes o'') (Ok tt) → HasExtracted R t (Source s s'') (Sink o o'') f' x' (n + 1)
       HasExtracted-more reads_again wrote =
           let fine : refusal_of t.target t.tid q ≡ None = sym (refusal_so t x' q task) ∙ wrote.0 in
           let kept = subst (λ (k : ℕ). WritesKept (is_kept k q) q e.done x' (taken o') (taken o'')) task.tid wrote.2 in
@@ -166,7 +174,7 @@ module _ {A K : Type 0} (left : A → Option (List ℕ)) (reads : A → ℕ) (ta
             stands = goes.stands;
             plans = goes.plans;
             gained = goes.gained;
-            again = reads_again (Source s s'') f' (one.picture ∷ e.ps) one.taken (fine, e.rules) goes.done goes.plans;
+            again = again_of reads_again (Source s s'') f' (one.picture ∷ e.ps) one.taken (fine, e.rules) goes.done goes.plans;
           }
 
       -- it breaks a rule
@@ -347,7 +355,7 @@ module _ {A K : Type 0} (left : A → Option (List ℕ)) (reads : A → ℕ) (ta
       did outcome wrote = wrote one.taken.given one.taken.units one.taken.readings one.picture e.ps e.done one.taken.fed one.taken.done e.stands
 
       -- which was written, or left out
-      pub extract_more : TakenIsReadAgain A R t → Wrote (Ok tt) → HasExtracted R t (change left reads s s'') (change taken writes o o'') f' x' (n + 1)
+      pub extract_more : TakenIsReadAgain R t → Wrote (Ok tt) → HasExtracted R t (change left reads s s'') (change taken writes o o'') f' x' (n + 1)
       extract_more reads_again wrote = HasExtracted-more left reads taken writes R t s s' s'' o o' f f' x n e x' o'' task one slice reads_again (did (Ok tt) wrote)
 
       -- or wasn't

@@ -9,6 +9,7 @@ pub mod Gathering
 pub mod Indexed
 pub mod Lined
 pub mod Made
+pub mod MergeWords
 pub mod Merging
 pub mod Moved
 pub mod Numbering
@@ -21,3 +22,4 @@ pub mod Showing
 pub mod Spelling
 pub mod Taking
 pub mod Told
+pub mod Working

@@ -14,6 +14,7 @@ use Rattle.vx_pic.specs.Readings.{Reading, Picture, pictures}
 use Rattle.vx_pic.specs.Rules.{Readers}
 use Rattle.vx_pic.specs.Bytes.{Ending}
 use Rattle.vx_pic.specs.Parts.{Parts, parts_of}
+use Rattle.vx_pic.specs.Written.{Plan}
 use Rattle.vx_report.specs.declared.refusal.Where.{Where}
 use Rattle.vx_assemble.specs.Held.{ShowsLatest, lent_by}
 use Rattle.vx_assemble.specs.Feed.{Feeding, EndsAtEnd, HasFed}
@@ -22,18 +23,14 @@ use Rattle.vx_app.specs.declared.stop.Stop.{Stop}
 use Rattle.vx_app.specs.declared.stop.Stop.TheVariants.{Refused, ReadFault, NoMemory}
 use Rattle.vx_app.specs.Change.{Change, Sources, sources_change, source_at, HasFault}
 use Rattle.vx_app.specs.Extract.{WhereTold, BeginsWith}
-use Rattle.vx_app.specs.Merge.{Stream, picture_in, GoesOn, HasEnded, OfFirst, IsRound, Judges, RoundsPass, behind_units, AreTold, IsRead, IsReadOut, Rests, Sees}
+use Rattle.vx_app.specs.Merge.{Stream, picture_in, GoesOn, HasEnded, OfFirst, IsRound, Judges, RoundsPass, IsWritten, AreWritten, behind_units, AreTold, IsRead, IsReadOut, Rests, Sees}
 use Rattle.vx_app.specs.inner.Extracting.{HasTaken, HasTakenOne}
-use Rattle.vx_app.specs.inner.Merging.{OfAll, OfFed, AdvancesOf, LendsLatest, Waits, TakesOne, EndsBehind, Came, AreWaiting, AllTake, so_far}
+use Rattle.vx_app.specs.inner.Merging.{OfAll, OfFed, Begin, AdvancesOf, LendsLatest, Waits, TakesOne, EndsBehind, Came, AreWaiting, AllTake, so_far}
 use Rattle.vx_app.proofs.Indexed.{some_at, same_lists, mapped_at, choose, earlier_stay, latest_at}
 use Rattle.vx_app.proofs.Taking.{taken_first, taken_stops, takes_one, takes_end, takes_refused, takes_unread, takes_none}
 use Rattle.vx_app.proofs.Told.{refused_at}
 
 -- ---- streams that go on as pictures that were taken begin
-
--- each stream begins with these pictures
-abbrev pub Begin : List Stream → List (List Picture) → Type 0
-Begin ss taken = (k : ℕ) (s : Stream) (ps : List Picture) → slice_get ss k ≡ Some s → slice_get taken k ≡ Some ps → BeginsWith s.pictures ps
 
 abbrev part_in : ℕ → Stream → Option Parts
 part_in r s = option_map parts_of (picture_in r s)
@@ -61,6 +58,16 @@ pub rounds_stay : (corners : List Corner) (ss : List Stream) (taken : List (List
     → RoundsPass corners (so_far taken) n → RoundsPass corners ss n
 rounds_stay corners ss taken n count rounds begin pass r before =
     let p = pass r before in (p.0, round_stays ss taken n r count rounds begin before ∙ p.1, p.2)
+
+-- and those that are written are written so there
+pub written_stay : (corners : List Corner) (level : Option ℕ) (ss : List Stream) (taken : List (List Picture)) (n : ℕ) → length ss ≡ length taken → OfAll (λ k ps. length ps ≡ n) taken → Begin ss taken
+    → (done : List Plan) → length done ≤ n → AreWritten corners level (so_far taken) done → AreWritten corners level ss done
+written_stay corners level ss taken n count rounds begin [] few plans = tt
+written_stay corners level ss taken n count rounds begin (p ∷ done) few plans =
+    let round = plans.0 in (
+      (round.0, round_stays ss taken n (length done) count rounds begin (omega arith) ∙ round.1, round.2),
+      written_stay corners level ss taken n count rounds begin done (omega arith) plans.1,
+    )
 
 -- ---- a source of a list
 
@@ -339,3 +346,11 @@ module _ {A : Type 0} (bytes : A → Option (List ℕ)) (faults : A → ℕ) (R 
           let same : n ≡ r = omega (arith, not_, before) in
           subst (λ (i : ℕ). (round : List Parts) × IsRound (so_far h.next) i round × Judges corners round None) same (map (λ (f : Feeding). lent_by f.assembler) feeds, h.round, fine)
     ]
+
+    -- where it is written, all are
+    pub more_written : (corners : List Corner) (level : Option ℕ) (h : HasRound l feeds taken n) (done : List Plan) (p : Plan) → length done ≡ n → AreWritten corners level (so_far taken) done
+        → IsWritten corners level (map (λ (f : Feeding). lent_by f.assembler) feeds) done p → AreWritten corners level (so_far h.next) (p ∷ done)
+    more_written corners level h done p count plans fine = (
+      (map (λ (f : Feeding). lent_by f.assembler) feeds, subst (λ (r : ℕ). IsRound (so_far h.next) r (map (λ (f : Feeding). lent_by f.assembler) feeds)) (sym count) h.round, fine),
+      written_stay corners level (so_far h.next) taken n (omega (arith, h.waiting.taken_count, all.taken_count, length-map h.next stream_of)) all.rounds h.begin done (omega (arith, count)) plans,
+    )

@@ -16,7 +16,7 @@ use Rattle.vx_app.specs.inner.Words.{BeginsNot, IsNumberFirst, IsOptionFirst}
 -- ---- numbers
 
 -- a number begins with a digit,
-first_digit : (n : ℕ) → n < 2 ^ 64 → 48 ≤ get_or (decimal n) 0 0
+pub first_digit : (n : ℕ) → n < 2 ^ 64 → 48 ≤ get_or (decimal n) 0 0
 first_digit zero small = omega (arith, ap (λ (l : List ℕ). get_or l 0 0) (decimal_digit 0 (omega arith)))
 first_digit (suc n) small = omega (arith, first_decimal (suc n) (omega arith) small)
 
@@ -102,7 +102,7 @@ pub option_spelled : (name : List ℕ) (most : ℕ) (words : List (List ℕ)) (o
 option_spelled name most words None rest p = (sym p.0, tt)
 option_spelled name most words (Some n) rest p = (p.1 ∙ ap (λ (ws : List (List ℕ)). name ∷ ws) p.2.spelled, p.2.within)
 
-option_first : (name : List ℕ) (most : ℕ) (o : Option ℕ) (rest : List (List ℕ)) → IfSome o (λ n. n ≤ most) → BeginsNot name rest → IsOptionFirst name most (option_words name o ++ rest) o rest
+pub option_first : (name : List ℕ) (most : ℕ) (o : Option ℕ) (rest : List (List ℕ)) → IfSome o (λ n. n ≤ most) → BeginsNot name rest → IsOptionFirst name most (option_words name o ++ rest) o rest
 option_first name most None rest within other = (refl, other)
 option_first name most (Some n) rest within other = (decimal n ∷ rest, refl, record { spelled = refl; within = within })
 

@@ -14,7 +14,7 @@ use Rattle.vx_report.specs.declared.refusal.Where.{Where}
 use Rattle.vx_fit.specs.Lowest.{IsLowest}
 use Rattle.vx_merge.specs.declared.corner.Corner.{Corner}
 use Rattle.vx_app.proofs.Indexed.{some_at}
-use Rattle.vx_app.specs.Merge.{Stream, picture_in, GoesOn, HasEnded, IsRefused, OfStream, OfFirst, IsRound, Judges, RoundsPass, NoneRefused, behind_units, in_round, Refuses, by_source, by_length, by_round, AllEnded, Ends, EndsOnce}
+use Rattle.vx_app.specs.Merge.{Stream, picture_in, GoesOn, HasEnded, IsRefused, OfStream, OfFirst, IsRound, Judges, BreaksRule, RoundsPass, NoneRefused, behind_units, in_round, Refuses, by_source, by_length, by_round, AllEnded, Ends, EndsOnce}
 
 -- ---- lists
 
@@ -81,7 +81,7 @@ module _ (one : VerdictsAgree) (corners : List Corner) (ss : List Stream) (some 
       one corners round a b judged (subst (λ (l : List Parts). Judges corners l b) (sym same) judges)
 
   -- what ends it behind n rounds comes before any later round
-  refused_before : (n m : ℕ) (r : Refusal) (place : Where) → Refuses corners ss n r place → RoundsPass corners ss m → n < m → ⊥
+  refused_before : (n m : ℕ) (r : Refusal) (place : Where) → Refuses (BreaksRule corners) ss n r place → RoundsPass corners ss m → n < m → ⊥
   refused_before n m r place (by_source k e of none is at) pass before = goes_or_refused n e of.0 (round_goes n m k of.0 pass before of.1) of.2
   refused_before n m r place (by_length k none lowest goes is at) pass before = goes_or_ends n lowest.breaks.0 (round_goes n m k lowest.breaks.0 pass before lowest.breaks.1) lowest.breaks.2
   refused_before n m r place (by_round round is judged at) pass before =
@@ -100,7 +100,7 @@ module _ (one : VerdictsAgree) (corners : List Corner) (ss : List Stream) (some 
   passes n (Err (r, place)) ends = ends.0
 
   -- where all have ended nothing is refused
-  done_or_refused : (n : ℕ) (r : Refusal) (place : Where) → AllEnded ss n → Refuses corners ss n r place → ⊥
+  done_or_refused : (n : ℕ) (r : Refusal) (place : Where) → AllEnded ss n → Refuses (BreaksRule corners) ss n r place → ⊥
   done_or_refused n r place all (by_source k e of none is at) = ends_or_refused n e of.0 (all k of.0 (slice_get_within ss k of.0 of.1) of.1) of.2
   done_or_refused n r place all (by_length k none lowest goes is at) =
       let other = goes.1 in
@@ -125,7 +125,7 @@ module _ (one : VerdictsAgree) (corners : List Corner) (ss : List Stream) (some 
       → (let x : Told = (r, place) in x) ≡ (t, at)
   same_told j k e d r t place at is are p q u v = cc
 
-  refused_once : (n : ℕ) (r t : Refusal) (place at : Where) → Refuses corners ss n r place → Refuses corners ss n t at → (let x : Told = (r, place) in x) ≡ (t, at)
+  refused_once : (n : ℕ) (r t : Refusal) (place at : Where) → Refuses (BreaksRule corners) ss n r place → Refuses (BreaksRule corners) ss n t at → (let x : Told = (r, place) in x) ≡ (t, at)
   refused_once n r t place at (by_source j e of none is here) (by_source k d other first are there) = elim (cases_lt j k) [
     | inl before ↦ absurd (source_first n j k e first of before)
     | inr behind ↦ elim (cases_lt k j) [

@@ -1,5 +1,5 @@
 -- What is performed of the words, by the command that they ask for.
-use Rattle.std.proofs.Common.{◌≡◌, ℕ, ◌<◌, List, [], ◌∷◌, Option, length, map, get_or, slice_set, arith, refl, None}
+use Rattle.std.proofs.Common.{◌≡◌, ℕ, ◌<◌, List, [], ◌∷◌, Option, length, map, get_or, slice_set, arith, refl, ap, None}
 use Rattle.std.specs.Prelude.{String, string_bytes}
 use Rattle.std.proofs.lemmas.List.{length-map}
 use Rattle.vx_app.specs.Change.{Change, Sources, change, sources_change}
@@ -41,7 +41,7 @@ performs-check words bytes faults s s' l out outcome tid index file spelled with
 pub names-file : (words : List (List ℕ)) (n : ℕ) → NamesFiles words n → (command : Command) → AskFor words command → 0 < length (files_of command) → 0 < n
 names-file words n names command spelled some = let one = names.command command spelled in omega arith
 
--- ---- `check merge`
+-- ---- merges
 
 some_placings : {A : Type 0} (words : List (String A)) → (map placing_in (texts words) ≡ [] → ⊥) → 0 < length words
 some_placings [] some = absurd (some refl)
@@ -52,13 +52,21 @@ some_files [] some = absurd (some refl)
 some_files (p ∷ placings) some = omega arith
 
 -- as many files are named as words place some
-pub merge_count : {A : Type 0} (words : List (List ℕ)) (n : ℕ) (placings : List (String A)) → NamesFiles words n → AskFor words (check_merge (map placing_in (texts placings))) → (0 < length placings) × (n ≡ length placings)
-merge_count {A = A} words n placings names asks =
-    let count = names.command (check_merge (map placing_in (texts placings))) asks in (
-      some_placings placings asks.named.0,
-      omega (arith, count, length-map (map placing_in (texts placings)) (λ (p : Placing). p.file), length-map (texts placings) placing_in, length-map placings (string_bytes {Z = A})),
+pub merge_count : {A : Type 0} (words : List (List ℕ)) (n : ℕ) (command : Command) (placings : List (String A)) → files_of command ≡ map (λ p. p.file) (map placing_in (texts placings)) → NamesFiles words n → AskFor words command
+    → (map placing_in (texts placings) ≡ [] → ⊥) → (0 < length placings) × (n ≡ length placings)
+merge_count {A = A} words n command placings files names asks some =
+    let count = names.command command asks in (
+      some_placings placings some,
+      omega (arith, count, ap (λ (l : List (List ℕ)). length l) files, length-map (map placing_in (texts placings)) (λ (p : Placing). p.file), length-map (texts placings) placing_in, length-map placings (string_bytes {Z = A})),
     )
 
+-- and no others
+pub names_placed : {A : Type 0} (words : List (List ℕ)) (command : Command) (placings : List (String A)) → files_of command ≡ map (λ p. p.file) (map placing_in (texts placings)) → AskFor words command → NamesFiles words (length placings)
+names_placed {A = A} words command placings files asks =
+    let count : length placings ≡ length (files_of command) = omega (arith, ap (λ (l : List (List ℕ)). length l) files, length-map (map placing_in (texts placings)) (λ (p : Placing). p.file), length-map (texts placings) placing_in, length-map placings (string_bytes {Z = A})) in
+    record { command = λ other asked. rw (spelled_once words other command asked asks) count; other = λ none. absurd (none (command, asks)) }
+
 -- some are
-pub merge_some : (words : List (List ℕ)) (n : ℕ) (placings : List Placing) → NamesFiles words n → AskFor words (check_merge placings) → 0 < n
-merge_some words n placings names asks = omega (arith, names.command (check_merge placings) asks, length-map placings (λ (p : Placing). p.file), some_files placings asks.named.0)
+pub merge_some : (words : List (List ℕ)) (n : ℕ) (command : Command) (placings : List Placing) → files_of command ≡ map (λ p. p.file) placings → NamesFiles words n → AskFor words command → (placings ≡ [] → ⊥) → 0 < n
+merge_some words n command placings files names asks some =
+    omega (arith, names.command command asks, ap (λ (l : List (List ℕ)). length l) files, length-map placings (λ (p : Placing). p.file), some_files placings some)

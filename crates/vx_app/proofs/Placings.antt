@@ -14,7 +14,7 @@ use Rattle.std.proofs.lemmas.Option.{MatchOption-at_some, MatchOption-at_none, s
 use Rattle.std.proofs.lemmas.Fmt.{decimal_is_IsNumeral}
 use Rattle.std.proofs.lemmas.List.Sums.{position_or_len_is}
 use Rattle.vx_app.specs.Grammar.{Placing, placing_word, IsPlacing, check_merge, AskFor, texts}
-use Rattle.vx_app.specs.inner.Placings.{is_comma, is_equals, placing_in, Spells, IsPlacingWord}
+use Rattle.vx_app.specs.inner.Placings.{is_comma, is_equals, placing_in, Spells, IsPlacingWord, PlaceFiles}
 
 -- ---- the first byte of a kind
 
@@ -160,24 +160,30 @@ pub placings_read : (ps : List Placing) → AllByRecursion IsPlacing ps → map 
 placings_read [] all = refl
 placings_read (p ∷ ps) all = ap (λ (q : Placing). q ∷ map placing_in (map placing_word ps)) (placing_read p all.0) ∙ ap (λ (l : List Placing). p ∷ l) (placings_read ps all.1)
 
-placings_are : (ps : List Placing) → AllByRecursion IsPlacing ps → AllByRecursion IsPlacingWord (map placing_word ps)
-placings_are [] all = tt
-placings_are (p ∷ ps) all = ((p, record { spelled = refl; named = all.0 }), placings_are ps all.1)
+are_words : (ps : List Placing) → AllByRecursion IsPlacing ps → AllByRecursion IsPlacingWord (map placing_word ps)
+are_words [] all = tt
+are_words (p ∷ ps) all = ((p, record { spelled = refl; named = all.0 }), are_words ps all.1)
 
--- words that begin with `check` and `merge` ask for a merge where each that follows is one
-pub asks_for_merge : (words : List (List ℕ)) → 0 < length words → AllByRecursion IsPlacingWord words → AskFor (codes "check" ∷ codes "merge" ∷ words) (check_merge (map placing_in words))
-asks_for_merge [] some all = absurd (omega arith)
-asks_for_merge (w ∷ words) some all =
-    let read = words_read (w ∷ words) all in
-    record { spelled = ap (λ (l : List (List ℕ)). codes "check" ∷ codes "merge" ∷ l) read.0; named = (λ is. absurd (cc), read.1) }
+-- words that spell placings place files
+pub placings_are : (ps : List Placing) → (ps ≡ [] → ⊥) → AllByRecursion IsPlacing ps → PlaceFiles (map placing_word ps)
+placings_are [] some all = absurd (some refl)
+placings_are (p ∷ ps) some all = (omega arith, are_words (p ∷ ps) all)
+
+pub some_placings : (words : List (List ℕ)) → 0 < length words → map placing_in words ≡ [] → ⊥
+some_placings [] some is = omega (arith, some)
+some_placings (w ∷ words) some is = absurd (cc)
+
+-- words that begin with `check` and `merge` ask whether files can be merged where those that follow place them
+pub asks_for_merge : (words : List (List ℕ)) → PlaceFiles words → AskFor (codes "check" ∷ codes "merge" ∷ words) (check_merge (map placing_in words))
+asks_for_merge words place =
+    let read = words_read words place.1 in
+    record { spelled = ap (λ (l : List (List ℕ)). codes "check" ∷ codes "merge" ∷ l) read.0; named = (some_placings words place.0, read.1) }
 
 -- and only then
-pub merge_words : (words : List (List ℕ)) (ps : List Placing) → AskFor (codes "check" ∷ codes "merge" ∷ words) (check_merge ps) → (0 < length words) × AllByRecursion IsPlacingWord words
-merge_words words [] asks = absurd (asks.named.0 refl)
-merge_words words (p ∷ ps) asks =
-    let same : words ≡ map placing_word (p ∷ ps) = ap (λ (l : List (List ℕ)). drop 2 l) asks.spelled in
-    let are = placings_are (p ∷ ps) asks.named.1 in
-    (subst (λ (l : List (List ℕ)). 0 < length l) (sym same) (omega arith), subst (λ (l : List (List ℕ)). AllByRecursion IsPlacingWord l) (sym same) are)
+pub merge_words : (words : List (List ℕ)) (ps : List Placing) → AskFor (codes "check" ∷ codes "merge" ∷ words) (check_merge ps) → PlaceFiles words
+merge_words words ps asks =
+    let same : words ≡ map placing_word ps = ap (λ (l : List (List ℕ)). drop 2 l) asks.spelled in
+    subst PlaceFiles (sym same) (placings_are ps asks.named.0 asks.named.1)
 
 -- ---- word by word
 

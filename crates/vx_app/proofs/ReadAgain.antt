@@ -94,10 +94,9 @@ module _ (law : ExtractionReadsAgain) (R : Readers) (of : AreOfH266 R) (t : Task
   none_again = of_units [] (All-nil CanStand) tt [] tt
 
   -- of pictures that were taken of a source
-  pub taken_again : {A : Type 0} → UnitsCanStand → TakenIsReadAgain A R t
-  taken_again can source f ps taken =
+  pub taken_again : UnitsCanStand → TakenIsReadAgain R t
+  taken_again can g units readings f fed =
       let all : Bool = is_all f.reader.splitter in
-      let units : List (List ℕ) = units_at (seen_of taken.given) taken.units in
-      let stand = units_stand can (seen_of taken.given) all taken.units taken.fed.read.stands.given in
-      let are : pictures_of R units ≡ ps = ap (λ (o : Outcome). pictures o.before) taken.fed.readings ∙ taken.done in
-      subst Again are (of_units units stand)
+      let stand = units_stand can (seen_of g) all units fed.read.stands.given in
+      let are : pictures_of R (units_at (seen_of g) units) ≡ pictures readings = ap (λ (o : Outcome). pictures o.before) fed.readings in
+      subst Again are (of_units (units_at (seen_of g) units) stand)

@@ -1,10 +1,9 @@
--- What the rounds of several sources come to when `check merge` ends.
-use Rattle.std.proofs.Common.{◌≡◌, ◌≢◌, ℕ, zero, suc, ◌+◌, ◌<◌, ◌≤◌, ◌⊎◌, List, [], ◌∷◌, ◌∙◌, Option, Some, None, Result, Ok, Err, Bool, true, false, not, ◌^◌, length, map, get_or, slice_get, slice_set, inl, inr, sym, ap, refl, subst, arith}
+-- What the sources of a merge come to, round by round.
+use Rattle.std.proofs.Common.{◌≡◌, ◌≢◌, ℕ, ◌+◌, ◌<◌, ◌≤◌, ◌⊎◌, List, [], ◌∙◌, Option, Some, Result, Ok, Err, Bool, true, false, not, ◌^◌, length, map, get_or, slice_get, slice_set, inl, inr, sym, ap, refl, subst, arith}
 use Rattle.std.specs.Prelude.{option_and_then}
 use Rattle.std.specs.Option.{option_map_or}
 use Rattle.std.specs.List.{All}
 use Rattle.std.proofs.lemmas.List.{get_or-set_same}
-use Rattle.std.proofs.KnownBytes.{Consumes-nil}
 use Rattle.std.proofs.lemmas.List.{length-map, length-set}
 use Rattle.std.proofs.lemmas.Option.{slice_get_within, slice_get-get_or, slice_get_read, same_Some}
 use Rattle.vx_io.specs.Listed.{bytes_at, faults_at}
@@ -17,24 +16,23 @@ use Rattle.vx_pic.specs.Readings.{Reading, Picture}
 use Rattle.vx_pic.specs.Rules.{Readers}
 use Rattle.vx_pic.specs.Bytes.{Ending}
 use Rattle.vx_pic.specs.Parts.{Parts}
+use Rattle.vx_pic.specs.Written.{Plan}
 use Rattle.vx_report.specs.declared.refusal.Where.{Where}
 use Rattle.vx_assemble.specs.Held.{HasPicture, lent_by}
 use Rattle.vx_assemble.specs.Feed.{Feeding, EndsAtEnd, HasFed}
-use Rattle.vx_fit.specs.Lowest.{IsLowest}
 use Rattle.vx_merge.specs.declared.corner.Corner.{Corner}
 use Rattle.vx_merge.specs.declared.ended.Lengths.TheVariants as lengths
 use Rattle.vx_merge.specs.declared.ended.Lengths.TheVariants.{AllGo, Differ}
 use Rattle.vx_merge.specs.Ends.{IsLengths}
 use Rattle.vx_app.specs.declared.stop.Stop.{Stop}
 use Rattle.vx_app.specs.declared.stop.Stop.TheVariants.{NotUnderstood, Refused, ReadFault, WriteFault, NoMemory}
-use Rattle.vx_app.specs.Change.{Change, Sources, sources_change, source_at, Gains, GainsFront}
-use Rattle.vx_app.specs.Conclusion.{Outcome}
-use Rattle.vx_app.specs.Extract.{WhereTold, BeginsWith, ok_text}
-use Rattle.vx_app.specs.Merge.{Stream, GoesOn, HasEnded, IsRefused, OfStream, Judges, RoundsPass, NoneRefused, in_round, behind_units, by_source, by_length, by_round, AreTold, OfEach, IsRead, Rests, IsOfSource, ChecksMergeBy}
-use Rattle.vx_app.specs.inner.Merging.{OfAll, IsUnfed, LendsLatest, Waits, TakesOne, EndsBehind, Came, AreWaiting, AreAdvancing, AdvancesOf, AllTake, AllEnd, so_far, CountsRounds, GoesBy, AdvancesAll, ChecksRound, HasMerged}
+use Rattle.vx_app.specs.Change.{Change, Sources, sources_change, source_at}
+use Rattle.vx_app.specs.Extract.{WhereTold, BeginsWith}
+use Rattle.vx_app.specs.Merge.{Stream, GoesOn, HasEnded, RoundsPass, NoneRefused, in_round, by_source, by_length, by_round, AreTold, OfEach, IsRead, Rests, AreWritten, AllEnded, Refuses, RestsRead, IsReadOut, Sees}
+use Rattle.vx_app.specs.inner.Merging.{OfAll, IsUnfed, LendsLatest, Waits, TakesOne, Came, AreWaiting, AreAdvancing, AdvancesOf, AllTake, AllEnd, so_far, GoesBy, AdvancesAll, Begin, HaltsBehind}
 use Rattle.vx_app.proofs.Taking.{taken_none, taken_below}
 use Rattle.vx_app.proofs.Indexed.{some_at, mapped_at, any_default, set_there, set_other, get_set_there, get_set_other, where_is}
-use Rattle.vx_app.proofs.Merging.{Begin, Advanced, HasRound, has_round, more_pass, round_stays, rounds_stay, waits_still, came_still, waits_read, waits_rest, waits_begin, takes_read, takes_rest, takes_goes, ends_there, came_read, came_rest, came_begin, came_kept, waits_taken, went, step_takes, step_ends, step_refused, step_unread, step_none, told_of}
+use Rattle.vx_app.proofs.Merging.{Advanced, HasRound, round_stays, rounds_stay, waits_still, came_still, waits_read, waits_rest, waits_begin, takes_read, takes_rest, takes_goes, ends_there, came_read, came_rest, came_begin, came_kept, waits_taken, went, step_takes, step_ends, step_refused, step_unread, step_none, told_of, written_stay}
 use Rattle.vx_app.proofs.Told.{refused_at}
 
 -- what holds at each index does of each element
@@ -53,35 +51,40 @@ module _ {A : Type 0} (bytes : A → Option (List ℕ)) (faults : A → ℕ) (R 
   counted : (l : List A) (ss : List Stream) (taken : List (List Picture)) → AreTold R (Src l) ss → length taken ≡ length first → length ss ≡ length taken
   counted l ss taken are count = are.count ∙ sym count
 
-  begin_told : (l : List A) (taken : List (List Picture)) → OfAll (λ k ps. WhereTold R (At l k) (λ qs e. BeginsWith qs ps)) taken → (ss : List Stream) → AreTold R (Src l) ss → Begin ss taken
+  pub begin_told : (l : List A) (taken : List (List Picture)) → OfAll (λ k ps. WhereTold R (At l k) (λ qs e. BeginsWith qs ps)) taken → (ss : List Stream) → AreTold R (Src l) ss → Begin ss taken
   begin_told l taken each ss are k s ps at there = told_of bytes faults R first l ss k s (λ qs e. BeginsWith qs ps) are at (each k ps there)
 
-  -- those that pass pass there
-  pass_told : (corners : List Corner) (l : List A) (taken : List (List Picture)) (n : ℕ) → length taken ≡ length first → OfAll (λ k ps. length ps ≡ n) taken
-      → OfAll (λ k ps. WhereTold R (At l k) (λ qs e. BeginsWith qs ps)) taken → RoundsPass corners (so_far taken) n → (ss : List Stream) → AreTold R (Src l) ss → RoundsPass corners ss n
-  pass_told corners l taken n count rounds each pass ss are = rounds_stay corners ss taken n (counted l ss taken are count) rounds (begin_told l taken each ss are) pass
+  -- those that pass pass there, and those that are written are written so
+  pub pass_told : (corners : List Corner) (l : List A) (taken : List (List Picture)) (n : ℕ) → length taken ≡ length first → OfAll (λ k ps. length ps ≡ n) taken → RoundsPass corners (so_far taken) n
+      → (ss : List Stream) → AreTold R (Src l) ss → Begin ss taken → RoundsPass corners ss n
+  pass_told corners l taken n count rounds pass ss are begin = rounds_stay corners ss taken n (counted l ss taken are count) rounds begin pass
+
+  pub written_told : (corners : List Corner) (level : Option ℕ) (l : List A) (taken : List (List Picture)) (n : ℕ) → length taken ≡ length first → OfAll (λ k ps. length ps ≡ n) taken → (done : List Plan) → length done ≡ n → AreWritten corners level (so_far taken) done
+      → (ss : List Stream) → AreTold R (Src l) ss → Begin ss taken → AreWritten corners level ss done
+  written_told corners level l taken n count rounds done many plans ss are begin = written_stay corners level ss taken n (counted l ss taken are count) rounds begin done (omega (arith, many)) plans
 
   -- ---- all have ended
 
-  pub counts_done : (corners : List Corner) (l : List A) (taken : List (List Picture)) (n : ℕ) → AllEnd R (Src l) taken n → RoundsPass corners (so_far taken) n → CountsRounds R corners (Src l) (Ok n)
-  counts_done corners l taken n all pass = (
-    λ k within.
+  module _ (l : List A) (taken : List (List Picture)) (n : ℕ) (all : AllEnd R (Src l) taken n) where
+    pub all_out : OfEach (Src l) IsReadOut
+    all_out k within =
         let fits : k < length taken = omega (arith, within, all.taken_count) in
         let ps = some_at taken k fits in
-        (all.each k ps.0 ps.1).read,
-    λ ss are. (
-      pass_told corners l taken n all.taken_count all.rounds (λ k ps there b qs e told is. ([], ((all.each k ps there).told b qs e told is).0)) pass ss are,
-      λ k s within at.
-          let fits : k < length taken = omega (arith, within, counted l ss taken are all.taken_count) in
-          let ps = some_at taken k fits in
-          subst (λ (m : ℕ). HasEnded m s) (all.rounds k ps.0 ps.1)
-          (told_of bytes faults R first l ss k s (λ qs e. HasEnded (length ps.0) (record { pictures = qs; ending = e })) are at (ends_there bytes faults R first l k ps.0 (all.each k ps.0 ps.1))),
-    ),
-  )
+        (all.each k ps.0 ps.1).read
 
-  -- ---- a round that isn't put together
+    pub end_begin : (ss : List Stream) → AreTold R (Src l) ss → Begin ss taken
+    end_begin = begin_told l taken (λ k ps there b qs e told is. ([], ((all.each k ps there).told b qs e told is).0))
 
-  module _ (corners : List Corner) (l : List A) (feeds : List Feeding) (taken : List (List Picture)) (n : ℕ) (all : AllTake R (Src l) feeds taken n) (pass : RoundsPass corners (so_far taken) n) where
+    pub all_ended : (ss : List Stream) → AreTold R (Src l) ss → AllEnded ss n
+    all_ended ss are k s within at =
+        let fits : k < length taken = omega (arith, within, counted l ss taken are all.taken_count) in
+        let ps = some_at taken k fits in
+        subst (λ (m : ℕ). HasEnded m s) (all.rounds k ps.0 ps.1)
+        (told_of bytes faults R first l ss k s (λ qs e. HasEnded (length ps.0) (record { pictures = qs; ending = e })) are at (ends_there bytes faults R first l k ps.0 (all.each k ps.0 ps.1)))
+
+  -- ---- a picture of each was taken
+
+  module _ (l : List A) (feeds : List Feeding) (taken : List (List Picture)) (n : ℕ) (all : AllTake R (Src l) feeds taken n) where
     taker : (k : ℕ) → k < length first → (f : Feeding) × (ps : List Picture) × TakesOne R (At l k) f ps
     taker k within =
         let fits : k < length feeds = omega (arith, within, all.feeds_count) in
@@ -90,32 +93,27 @@ module _ {A : Type 0} (bytes : A → Option (List ℕ)) (faults : A → ℕ) (R 
         let ps = some_at taken k fitting in
         (f.0, ps.0, all.each k f.0 ps.0 f.1 ps.1)
 
-    all_begin : OfAll (λ k ps. WhereTold R (At l k) (λ qs e. BeginsWith qs ps)) taken
-    all_begin k ps there =
-        let fits : k < length feeds = omega (arith, slice_get_within taken k ps there, all.feeds_count, all.taken_count) in
-        let f = some_at feeds k fits in
-        came_begin bytes faults R first l k f.0 ps false (all.each k f.0 ps f.1 there)
+    pub take_begin : (ss : List Stream) → AreTold R (Src l) ss → Begin ss taken
+    take_begin = begin_told l taken taken_begin
+      where
+        taken_begin : OfAll (λ k ps. WhereTold R (At l k) (λ qs e. BeginsWith qs ps)) taken
+        taken_begin k ps there =
+            let fits : k < length feeds = omega (arith, slice_get_within taken k ps there, all.feeds_count, all.taken_count) in
+            let f = some_at feeds k fits in
+            came_begin bytes faults R first l k f.0 ps false (all.each k f.0 ps f.1 there)
 
-    round_refused : (h : HasRound bytes faults R first l feeds taken n) (r : Refusal) (place : Where) → Judges corners (map (λ (f : Feeding). lent_by f.assembler) feeds) (Some r) → place ≡ in_round n → CountsRounds R corners (Src l) (Err (Refused r place))
-    round_refused h r place judged at = (
-      λ k within. let t = taker k within in takes_read bytes faults R first l k t.0 t.1 t.2,
-      λ k within not_. let t = taker k within in takes_rest bytes faults R first l k t.0 t.1 t.2,
-      λ ss are.
-          let count : length ss ≡ length h.next = counted l ss h.next are h.waiting.taken_count in (
-            n,
-            (
-              pass_told corners l taken n all.taken_count all.rounds all_begin pass ss are,
-              by_round (map (λ (f : Feeding). lent_by f.assembler) feeds) (round_stays ss h.next (n + 1) n count h.waiting.rounds (begin_told l h.next h.ahead ss are) (omega arith) ∙ h.round) judged at,
-            ),
-          ),
-    )
+    pub take_read : OfEach (Src l) IsRead
+    take_read k within = let t = taker k within in takes_read bytes faults R first l k t.0 t.1 t.2
 
-    pub round_stopped : (h : HasRound bytes faults R first l feeds taken n) (stop : Stop) → ChecksRound corners (map (λ (f : Feeding). lent_by f.assembler) feeds) n (Err stop) → CountsRounds R corners (Src l) (Err stop)
-    round_stopped h (Refused r place) by = round_refused h r place by.0 by.1
-    round_stopped h NoMemory by = λ k within. let t = taker k within in takes_read bytes faults R first l k t.0 t.1 t.2
-    round_stopped h NotUnderstood by = absurd by
-    round_stopped h (ReadFault j) by = absurd by
-    round_stopped h WriteFault by = absurd by
+    pub take_rest : OfEach (Src l) (RestsRead R)
+    take_rest k within = let t = taker k within in (take_read k within, takes_rest bytes faults R first l k t.0 t.1 t.2)
+
+    -- where the round is barred, that is refused
+    pub round_barred : (h : HasRound bytes faults R first l feeds taken n) (bars : List Parts → Refusal → Type 0) (r : Refusal) (place : Where) → bars (map (λ (f : Feeding). lent_by f.assembler) feeds) r → place ≡ in_round n
+        → (ss : List Stream) → AreTold R (Src l) ss → Refuses bars ss n r place
+    round_barred h bars r place barred at ss are =
+        let count : length ss ≡ length h.next = counted l ss h.next are h.waiting.taken_count in
+        by_round (map (λ (f : Feeding). lent_by f.assembler) feeds) (round_stays ss h.next (n + 1) n count h.waiting.rounds (begin_told l h.next h.ahead ss are) (omega arith) ∙ h.round) barred at
 
   -- ---- all sources were gone on with
 
@@ -191,30 +189,29 @@ module _ {A : Type 0} (bytes : A → Option (List ℕ)) (faults : A → ℕ) (R 
     flag_cases true = inl refl
     flag_cases false = inr refl
 
-    differ : (k : ℕ) → IsLengths ended (Differ k) → (r : Refusal) (place : Where) → r ≡ Merge LENGTH k 0 → place ≡ in_round n → (corners : List Corner) → RoundsPass corners (so_far taken) n → CountsRounds R corners (Src l) (Err (Refused r place))
-    differ k lowest r place is at corners pass = (
-      λ j within. let c = comer j within in came_read bytes faults R first l j c.0 c.1 (get_or ended j false) c.3,
-      λ j within not_. let c = comer j within in came_rest bytes faults R first l j c.0 c.1 (get_or ended j false) c.3,
+    differ : (k : ℕ) → IsLengths ended (Differ k) → (r : Refusal) (place : Where) → r ≡ Merge LENGTH k 0 → place ≡ in_round n → HaltsBehind R (Src l) taken n (Refused r place)
+    differ k lowest r place is at = (
+      (
+        λ j within. let c = comer j within in came_read bytes faults R first l j c.0 c.1 (get_or ended j false) c.3,
+        λ j within not_. let c = comer j within in came_rest bytes faults R first l j c.0 c.1 (get_or ended j false) c.3,
+      ),
       λ ss are.
           let fits : k < length ss = omega (arith, lowest.0.in_range, same, are.count) in
           let s = some_at ss k fits in
           let fitting : lowest.1.0 < length ss = omega (arith, lowest.1.1, same, are.count) in
           let t = some_at ss lowest.1.0 fitting in (
-            n,
-            (
-              pass_told corners l taken n adv.taken_count adv.rounds come_begin pass ss are,
-              by_length k (λ j u before there. stream_keeps ss are j u there)
-                  (record {
-                    in_range = fits;
-                    breaks = (s.0, s.1, stream_ends ss are k s.0 s.1 lowest.0.breaks);
-                    lower = λ j before of. elim (flag_cases (get_or ended j false)) [
-                      | inl end ↦ lowest.0.lower j before end
-                      | inr go ↦ let goes = stream_goes ss are j of.0 of.1 go in omega (arith, goes, of.2.0)
-                    ];
-                  })
-                  (lowest.1.0, (t.0, t.1, stream_goes ss are lowest.1.0 t.0 t.1 (go_flag lowest.1.0 (omega (arith, lowest.1.1, same)) lowest.1.2)))
-                  is at,
-            ),
+            begin_told l taken come_begin ss are,
+            by_length k (λ j u before there. stream_keeps ss are j u there)
+                (record {
+                  in_range = fits;
+                  breaks = (s.0, s.1, stream_ends ss are k s.0 s.1 lowest.0.breaks);
+                  lower = λ j before of. elim (flag_cases (get_or ended j false)) [
+                    | inl end ↦ lowest.0.lower j before end
+                    | inr go ↦ let goes = stream_goes ss are j of.0 of.1 go in omega (arith, goes, of.2.0)
+                  ];
+                })
+                (lowest.1.0, (t.0, t.1, stream_goes ss are lowest.1.0 t.0 t.1 (go_flag lowest.1.0 (omega (arith, lowest.1.1, same)) lowest.1.2)))
+                is at,
           ),
     )
 
@@ -230,31 +227,21 @@ module _ {A : Type 0} (bytes : A → Option (List ℕ)) (faults : A → ℕ) (R 
   -- ---- the rounds that pass
 
   -- none was taken yet
-  pub merged_none : (corners : List Corner) (feeds : List Feeding) → length feeds ≡ length first → OfAll (λ k f. IsUnfed f) feeds → HasMerged R corners (Src first) feeds 0
-  merged_none corners feeds count unfed =
+  pub waiting_none : (feeds : List Feeding) → length feeds ≡ length first → OfAll (λ k f. IsUnfed f) feeds → AreWaiting R (Src first) feeds (map (λ (f : Feeding). let ps : List Picture = [] in ps) feeds) 0
+  waiting_none feeds count unfed =
       let none : Feeding → List Picture = λ f. [] in
       record {
-        taken = map none feeds;
-        waiting = record {
-          feeds_count = count;
-          taken_count = length-map feeds none ∙ count;
-          rounds = λ k ps at. let m = mapped_at none feeds k ps at in ap (λ (l : List Picture). length l) (sym m.2);
-          waits = λ k f ps at there.
-              let m = mapped_at none feeds k ps there in
-              let new = unfed k f at in
-              subst (λ (l : List Picture). Waits R (At first k) f l) m.2
-              (taken_none (λ x. bytes_at bytes x k) (λ x. faults_at faults x k) R first f new.open_.reader (new.fed R) new.needed, refl);
-        };
-        pass = λ r before. absurd (omega (arith, before));
+        feeds_count = count;
+        taken_count = length-map feeds none ∙ count;
+        rounds = λ k ps at. let m = mapped_at none feeds k ps at in ap (λ (l : List Picture). length l) (sym m.2);
+        waits = λ k f ps at there.
+            let m = mapped_at none feeds k ps there in
+            let new = unfed k f at in
+            subst (λ (l : List Picture). Waits R (At first k) f l) m.2
+            (taken_none (λ x. bytes_at bytes x k) (λ x. faults_at faults x k) R first f new.open_.reader (new.fed R) new.needed, refl);
       }
 
   module _ (l : List A) (feeds : List Feeding) (taken : List (List Picture)) (n : ℕ) (all : AllTake R (Src l) feeds taken n) where
-    -- one more passes
-    pub merged_more : (corners : List Corner) → RoundsPass corners (so_far taken) n → Judges corners (map (λ (f : Feeding). lent_by f.assembler) feeds) None → HasMerged R corners (Src l) feeds (n + 1)
-    merged_more corners pass fine =
-        let h = has_round bytes faults R first l feeds taken n all in
-        record { taken = h.next; waiting = h.waiting; pass = more_pass bytes faults R first l feeds taken n all corners h pass fine }
-
     -- there are fewer than units were taken
     pub rounds_below : (f : Feeding) → slice_get feeds 0 ≡ Some f → n < f.units
     rounds_below f at =
@@ -414,50 +401,44 @@ module _ {A : Type 0} (bytes : A → Option (List ℕ)) (faults : A → ℕ) (R 
     k_within : k < length first
     k_within = omega (arith, slice_get_within feeds k f at, adv.feeds_count)
 
-    module _ (corners : List Corner) (pass : RoundsPass corners (so_far taken) n) where
-      stops_refused : EndsAtEnd f' (bytes_at bytes l' k) → (r : Refusal) (place : Where) → Advanced bytes faults R first l l' k f f' ps waits_here (Err (Refused r place)) → CountsRounds R corners (Src l') (Err (Refused r place))
-      stops_refused end r place advanced =
-          let stop = step_refused bytes faults R first l l' k f f' ps waits_here end r place advanced in (
+    stops_refused : EndsAtEnd f' (bytes_at bytes l' k) → (r : Refusal) (place : Where) → Advanced bytes faults R first l l' k f f' ps waits_here (Err (Refused r place)) → HaltsBehind R (Src l') taken n (Refused r place)
+    stops_refused end r place advanced =
+        let stop = step_refused bytes faults R first l l' k f f' ps waits_here end r place advanced in (
+          (
             all_read stop.0,
             λ j within not_. elim (where_is j k) [
               | inl earlier ↦ (other_at j within (λ same. omega (arith, same, earlier))).rests
               | inr (inl same) ↦ absurd (not_ (ap (λ (p : Where). p.written) stop.2, ap (λ (p : Where). p.source) stop.2 ∙ sym same))
               | inr (inr later) ↦ (other_at j within (λ same. omega (arith, same, later))).rests
             ],
-            λ ss are.
-                let fits : k < length ss = omega (arith, k_within, are.count) in
-                let s = some_at ss k fits in
-                let is = told_of bytes faults R first l' ss k s.0 (λ qs e. (qs ≡ ps) × (e ≡ refused_at f'.units r)) are s.1 stop.1 in
-                let ending : Ending = record { units = f'.units; refusal = r } in (
-                  n,
-                  (
-                    pass_told corners l' taken n adv.taken_count adv.rounds begins_all pass ss are,
-                    by_source k ending (s.0, s.1, (ap (λ (x : List Picture). length x) is.0 ∙ adv.rounds k ps there, is.1)) (none_before ss are) refl stop.2,
-                  ),
-                ),
-          )
+          ),
+          λ ss are.
+              let fits : k < length ss = omega (arith, k_within, are.count) in
+              let s = some_at ss k fits in
+              let is = told_of bytes faults R first l' ss k s.0 (λ qs e. (qs ≡ ps) × (e ≡ refused_at f'.units r)) are s.1 stop.1 in
+              let ending : Ending = record { units = f'.units; refusal = r } in (
+                begin_told l' taken begins_all ss are,
+                by_source k ending (s.0, s.1, (ap (λ (x : List Picture). length x) is.0 ∙ adv.rounds k ps there, is.1)) (none_before ss are) refl stop.2,
+              ),
+        )
 
-      stops_unread : (j : ℕ) → Advanced bytes faults R first l l' k f f' ps waits_here (Err (ReadFault j)) → CountsRounds R corners (Src l') (Err (ReadFault j))
-      stops_unread j advanced =
-          let stop = step_unread bytes faults R first l l' k f f' ps waits_here j advanced in
-          subst (λ (i : ℕ). CountsRounds R corners (Src l') (Err (ReadFault i))) (sym stop.2) (
-            k_within,
-            stop.0,
-            λ i within other. let o = other_at i within other in (o.read, o.rests),
-            (
-              length ps,
-              stop.1,
-              subst (λ (m : ℕ). (ss : List Stream) → AreTold R (Src l') ss → RoundsPass corners ss m × NoneRefused k ss m) (sym (adv.rounds k ps there))
-                  (λ ss are. (pass_told corners l' taken n adv.taken_count adv.rounds begins_all pass ss are, none_before ss are)),
-            ),
-          )
+    stops_unread : (j : ℕ) → Advanced bytes faults R first l l' k f f' ps waits_here (Err (ReadFault j)) → HaltsBehind R (Src l') taken n (ReadFault j)
+    stops_unread j advanced =
+        let stop = step_unread bytes faults R first l l' k f f' ps waits_here j advanced in
+        subst (λ (i : ℕ). HaltsBehind R (Src l') taken n (ReadFault i)) (sym stop.2) (
+          k_within,
+          stop.0,
+          λ i within other. let o = other_at i within other in (o.read, o.rests),
+          subst (λ (m : ℕ). Sees R (At l' k) m) (adv.rounds k ps there) stop.1,
+          λ ss are. (begin_told l' taken begins_all ss are, none_before ss are),
+        )
 
-      pub source_stops : EndsAtEnd f' (bytes_at bytes l' k) → (stop : Stop) → Advanced bytes faults R first l l' k f f' ps waits_here (Err stop) → CountsRounds R corners (Src l') (Err stop)
-      source_stops end (Refused r place) advanced = stops_refused end r place advanced
-      source_stops end (ReadFault j) advanced = stops_unread j advanced
-      source_stops end NoMemory advanced = all_read (step_none bytes faults R first l l' k f f' ps waits_here advanced).0
-      source_stops end NotUnderstood advanced = absurd (went bytes faults R first l l' k f f' ps waits_here (Err NotUnderstood) advanced)
-      source_stops end WriteFault advanced = absurd (went bytes faults R first l l' k f f' ps waits_here (Err WriteFault) advanced)
+    pub source_stops : EndsAtEnd f' (bytes_at bytes l' k) → (stop : Stop) → Advanced bytes faults R first l l' k f f' ps waits_here (Err stop) → HaltsBehind R (Src l') taken n stop
+    source_stops end (Refused r place) advanced = stops_refused end r place advanced
+    source_stops end (ReadFault j) advanced = stops_unread j advanced
+    source_stops end NoMemory advanced = (all_read (step_none bytes faults R first l l' k f f' ps waits_here advanced).0, λ ss are. begin_told l' taken begins_all ss are)
+    source_stops end NotUnderstood advanced = absurd (went bytes faults R first l l' k f f' ps waits_here (Err NotUnderstood) advanced)
+    source_stops end WriteFault advanced = absurd (went bytes faults R first l l' k f f' ps waits_here (Err WriteFault) advanced)
 
 -- few units were taken by each
 pub few_more : (feeds : List Feeding) (k : ℕ) (f' : Feeding) → ((j : ℕ) (f : Feeding) → j < k → slice_get feeds j ≡ Some f → f.units ≤ 2 ^ 40) → f'.units ≤ 2 ^ 40
@@ -483,39 +464,3 @@ end_after bytes l k s s' within at f f' ends before =
 
 pub goes_same : (ended flags : List Bool) (n : ℕ) (result : Result Bool Stop) → ended ≡ flags → GoesBy ended n result → GoesBy flags n result
 goes_same ended flags n result same by = subst (λ (l : List Bool). GoesBy l n result) same by
-
-pub checks_same : (corners own : List Corner) (feeds fs : List Feeding) (n : ℕ) (outcome : Outcome) → corners ≡ own → feeds ≡ fs → ChecksRound corners (map (λ (f : Feeding). lent_by f.assembler) feeds) n outcome → ChecksRound own (map (λ (f : Feeding). lent_by f.assembler) fs) n outcome
-checks_same corners own feeds fs n outcome same alike by =
-    subst (λ (l : List Corner). ChecksRound l (map (λ (f : Feeding). lent_by f.assembler) fs) n outcome) same
-    (subst (λ (l : List Feeding). ChecksRound corners (map (λ (f : Feeding). lent_by f.assembler) l) n outcome) alike by)
-
-pub counts_same : {A : Type 0} (R : Readers) (corners own : List Corner) (sources : Sources A) (result : Result ℕ Stop) → corners ≡ own → CountsRounds R corners sources result → CountsRounds R own sources result
-counts_same R corners own sources result same counts = subst (λ (l : List Corner). CountsRounds R l sources result) same counts
-
--- ---- what `check merge` did
-
--- nothing, where no source was read
-pub unread : {A : Type 0} (bytes : A → Option (List ℕ)) (faults : A → ℕ) (l : List A) → OfEach (sources_change bytes faults l l) IsRead
-unread bytes faults l k within = (refl, ([], Consumes-nil (bytes_at bytes l k)))
-
-module _ {A K : Type 0} (R : Readers) (corners : List Corner) (sources : Sources A) (out : Change K) where
-  -- nothing was written where it stopped
-  pub merge_stopped : (stop : Stop) → out.new ≡ out.old → CountsRounds R corners sources (Err stop) → ChecksMergeBy R corners sources out (Err stop)
-  merge_stopped (Refused r place) same counts = (counts.0, counts.1, same, counts.2)
-  merge_stopped (ReadFault k) same counts = (counts.0, counts.1, counts.2, same, counts.3)
-  merge_stopped NoMemory same counts = (counts, same)
-  merge_stopped NotUnderstood same counts = absurd counts
-  merge_stopped WriteFault same counts = absurd counts
-
-  module _ (n : ℕ) (counts : CountsRounds R corners sources (Ok n)) where
-    -- no memory for the line
-    pub merge_unmade : out.new ≡ out.old → ChecksMergeBy R corners sources out (Err NoMemory)
-    merge_unmade same = (λ k within. let r = counts.0 k within in (r.0, r.1), same)
-
-    -- it was written
-    pub merge_done : Gains out (ok_text n) → ChecksMergeBy R corners sources out (Ok tt)
-    merge_done gained = (counts.0, gained.kept, λ ss are. (n, counts.1 ss are, gained))
-
-    -- or a front of it
-    pub merge_cut : GainsFront out (ok_text n) → ChecksMergeBy R corners sources out (Err WriteFault)
-    merge_cut front = (counts.0, front.failed, λ ss are. (n, counts.1 ss are, front))

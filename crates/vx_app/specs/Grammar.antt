@@ -17,6 +17,7 @@ pub data Command : Type 0 where
   show : List ℕ → Command
   extract : (tid level : Option ℕ) (index : ℕ) → List ℕ → Command
   check_extract : (tid : Option ℕ) (index : ℕ) → List ℕ → Command
+  merge : (level : Option ℕ) → List Placing → Command
   check_merge : List Placing → Command
   help : Command
   version : Command
@@ -36,11 +37,13 @@ level_words level = option_words (codes "--level") level
 abbrev pub placing_word : Placing → List ℕ
 placing_word p = decimal p.x ++ (codes "," ++ (decimal p.y ++ (codes "=" ++ p.file)))
 
--- `show FILE`, `extract [--tid T] [--level N] INDEX FILE`, `check extract [--tid T] INDEX FILE`, `check merge X,Y=FILE ..`, `--help`, `--version`
+-- `show FILE`, `extract [--tid T] [--level N] INDEX FILE`, `check extract [--tid T] INDEX FILE`, `merge [--level N] X,Y=FILE ..`,
+-- `check merge X,Y=FILE ..`, `--help`, `--version`
 abbrev pub spelling : Command → List (List ℕ)
 spelling (show file) = codes "show" ∷ file ∷ []
 spelling (extract tid level index file) = codes "extract" ∷ (tid_words tid ++ (level_words level ++ (decimal index ∷ file ∷ [])))
 spelling (check_extract tid index file) = codes "check" ∷ codes "extract" ∷ (tid_words tid ++ (decimal index ∷ file ∷ []))
+spelling (merge level placings) = codes "merge" ∷ (level_words level ++ map placing_word placings)
 spelling (check_merge placings) = codes "check" ∷ codes "merge" ∷ map placing_word placings
 spelling help = codes "--help" ∷ []
 spelling version = codes "--version" ∷ []
@@ -64,6 +67,7 @@ abbrev pub IsWellNamed : Command → Type 0
 IsWellNamed (show file) = file ≢ []
 IsWellNamed (extract tid level index file) = IsTid tid × IsLevel level × IsIndex index × (file ≢ [])
 IsWellNamed (check_extract tid index file) = IsTid tid × IsIndex index × (file ≢ [])
+IsWellNamed (merge level placings) = IsLevel level × (placings ≢ []) × AllByRecursion IsPlacing placings
 IsWellNamed (check_merge placings) = (placings ≢ []) × AllByRecursion IsPlacing placings
 IsWellNamed help = Unit {0}
 IsWellNamed version = Unit {0}
@@ -82,6 +86,7 @@ abbrev pub files_of : Command → List (List ℕ)
 files_of (show file) = file ∷ []
 files_of (extract tid level index file) = file ∷ []
 files_of (check_extract tid index file) = file ∷ []
+files_of (merge level placings) = map (λ p. p.file) placings
 files_of (check_merge placings) = map (λ p. p.file) placings
 files_of help = []
 files_of version = []

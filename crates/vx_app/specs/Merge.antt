@@ -1,22 +1,27 @@
--- What `check merge` finds in the pictures of several sources, and what it writes. A round is one picture of each source. In a round the
--- sources are gone on with in order; where none is refused and none has ended, the pictures of the round are judged.
-use Rattle.std.specs.Prelude.{◌≡◌, ◌≢◌, ◌↔◌, ◌⊎◌, ℕ, ◌<◌, ◌≤◌, true, false, List, [], ◌∷◌, length, map, reverse, slice_get}
+-- What `merge` and `check merge` find in the pictures of several sources, and what they write. A round is one picture of each source. In a
+-- round the sources are gone on with in order; where none is refused and none has ended, the pictures of the round are judged.
+use Rattle.std.specs.Prelude.{◌≡◌, ◌≢◌, ◌↔◌, ◌⊎◌, ℕ, ◌<◌, ◌≤◌, true, false, List, [], ◌∷◌, ◌++◌, length, map, reverse, slice_get}
 use Rattle.std.specs.Prelude.{Option, Some, None, option_map, Result, Ok, Err, IfErr}
-use Rattle.std.specs.Io.KnownBytes.{Consumes, IsAtEnd}
+use Rattle.std.specs.Io.{StartsWith}
+use Rattle.std.specs.Io.KnownBytes.{Appends, Consumes, IsAtEnd}
 use Rattle.vx_bits.specs.declared.refusal.Refusal.{Refusal}
 use Rattle.vx_bits.specs.declared.refusal.Refusal.TheVariants.{Limit, Merge}
 use Rattle.vx_bits.specs.declared.rules.TheConstants.{TOO_MANY_SOURCES, LENGTH}
+use Rattle.vx_annexb.specs.Laws.{written}
 use Rattle.vx_pic.specs.Readings.{Picture}
 use Rattle.vx_pic.specs.Rules.{Readers}
 use Rattle.vx_pic.specs.Bytes.{Ending, AreSourcePictures, AreSeenPictures}
 use Rattle.vx_pic.specs.H266.{AreOfH266}
 use Rattle.vx_pic.specs.Parts.{Parts, parts_of}
+use Rattle.vx_pic.specs.Resident.{units_written}
+use Rattle.vx_pic.specs.Written.{Plan, units_of}
 use Rattle.vx_report.specs.declared.refusal.Where.{Where}
 use Rattle.vx_assemble.specs.Feed.{seen_of}
 use Rattle.vx_fit.specs.Lowest.{IsLowest}
 use Rattle.vx_merge.specs.declared.corner.Corner.{Corner}
 use Rattle.vx_merge.specs.Rules.{rules_of}
 use Rattle.vx_merge.specs.Verdict.{IsVerdict}
+use Rattle.vx_merge.specs.Written.{IsMerged, limits_of}
 use Rattle.vx_app.specs.declared.stop.Stop.TheVariants.{NotUnderstood, Refused, ReadFault, WriteFault, NoMemory}
 use Rattle.vx_app.specs.Change.{Change, Sources, source_at, IsUntouched, AreUntouched, HasNoFault, HasFault, GivesFront, Gains, GainsFront}
 use Rattle.vx_app.specs.Conclusion.{Outcome, IsOfCommand}
@@ -68,6 +73,10 @@ IsRound ss n round = map (λ s. option_map parts_of (picture_in n s)) ss ≡ map
 abbrev pub Judges : List Corner → List Parts → Option Refusal → Type 0
 Judges corners round verdict = IsVerdict (length corners) (rules_of corners round) verdict
 
+-- it breaks this one
+abbrev pub BreaksRule : List Corner → List Parts → Refusal → Type 0
+BreaksRule corners round r = Judges corners round (Some r)
+
 -- the rounds before n are there, and break no rule
 abbrev pub RoundsPass : List Corner → List Stream → ℕ → Type 0
 RoundsPass corners ss n = (r : ℕ) → r < n → (round : List Parts) × IsRound ss r round × Judges corners round None
@@ -75,6 +84,35 @@ RoundsPass corners ss n = (r : ℕ) → r < n → (round : List Parts) × IsRoun
 -- none of the first k streams is refused in round n
 abbrev pub NoneRefused : ℕ → List Stream → ℕ → Type 0
 NoneRefused k ss n = OfFirst k ss (λ s. GoesOn n s ⊎ HasEnded n s)
+
+-- ---- rounds that are written
+
+-- A round breaks no rule, and is written as this plan behind these, within all limits.
+pub record IsWritten (corners : List Corner) (level : Option ℕ) (round : List Parts) (done : List Plan) (p : Plan) : Type 0 where
+  pub rules : Judges corners round None
+  pub merged : IsMerged corners level round done p
+  pub limits : IsVerdict (length corners) (limits_of done p) None
+
+-- It breaks no rule, but what would be written for it behind these breaks this limit.
+pub record IsTooLong (corners : List Corner) (level : Option ℕ) (done : List Plan) (round : List Parts) (r : Refusal) : Type 0 where
+  pub rules : Judges corners round None
+  pub plan : Plan
+  pub merged : IsMerged corners level round done plan
+  pub limit : IsVerdict (length corners) (limits_of done plan) (Some r)
+
+-- it can't be written behind these for this rule, or for this limit
+abbrev pub IsBarred : List Corner → Option ℕ → List Plan → List Parts → Refusal → Type 0
+IsBarred corners level done round r = BreaksRule corners round r ⊎ IsTooLong corners level done round r
+
+-- the first rounds, as many as plans, are there and are written so; the latest plan comes first
+abbrev pub AreWritten : List Corner → Option ℕ → List Stream → List Plan → Type 0
+AreWritten corners level ss [] = Unit {0}
+AreWritten corners level ss (p ∷ done) =
+    ((round : List Parts) × IsRound ss (length done) round × IsWritten corners level round done p) × AreWritten corners level ss done
+
+-- their bytes
+abbrev pub bytes_of : List Plan → List ℕ
+bytes_of done = written (units_written done)
 
 -- ---- how a merge ends
 
@@ -86,22 +124,30 @@ abbrev pub in_round : ℕ → Where
 in_round n = record { source = 0; unit = 0; picture = n; written = true }
 
 -- What is refused in round n: the first stream that is refused there, for what ends it; else, where one goes on, that the lowest of those
--- that have ended has; else the round, for the first rule that it breaks.
-pub data Refuses (corners : List Corner) (ss : List Stream) (n : ℕ) (r : Refusal) (place : Where) : Type 0 where
+-- that have ended has; else the round, for what bars it.
+pub data Refuses (bars : List Parts → Refusal → Type 0) (ss : List Stream) (n : ℕ) (r : Refusal) (place : Where) : Type 0 where
   by_source : (k : ℕ) (e : Ending) → OfStream ss k (IsRefused n e) → NoneRefused k ss n
-      → r ≡ e.refusal → place ≡ behind_units k e.units → Refuses corners ss n r place
+      → r ≡ e.refusal → place ≡ behind_units k e.units → Refuses bars ss n r place
   by_length : (k : ℕ) → NoneRefused (length ss) ss n → IsLowest (length ss) (λ j. OfStream ss j (HasEnded n)) k
-      → ((j : ℕ) × OfStream ss j (GoesOn n)) → r ≡ Merge LENGTH k 0 → place ≡ in_round n → Refuses corners ss n r place
-  by_round : (round : List Parts) → IsRound ss n round → Judges corners round (Some r) → place ≡ in_round n → Refuses corners ss n r place
+      → ((j : ℕ) × OfStream ss j (GoesOn n)) → r ≡ Merge LENGTH k 0 → place ≡ in_round n → Refuses bars ss n r place
+  by_round : (round : List Parts) → IsRound ss n round → bars round r → place ≡ in_round n → Refuses bars ss n r place
 
 -- all streams have ended behind n rounds
 abbrev pub AllEnded : List Stream → ℕ → Type 0
 AllEnded ss n = OfFirst (length ss) ss (HasEnded n)
 
--- it ends behind n rounds that pass: all streams have ended there, or this is refused
+-- behind n rounds all streams have ended, or this is refused
+abbrev pub Stops : (List Parts → Refusal → Type 0) → List Stream → ℕ → Result (Unit {0}) (Refusal × Where) → Type 0
+Stops bars ss n (Ok _) = AllEnded ss n
+Stops bars ss n (Err (r, place)) = Refuses bars ss n r place
+
+-- by the rules alone it ends so, behind n rounds that pass
 abbrev pub Ends : List Corner → List Stream → ℕ → Result (Unit {0}) (Refusal × Where) → Type 0
-Ends corners ss n (Ok _) = RoundsPass corners ss n × AllEnded ss n
-Ends corners ss n (Err (r, place)) = RoundsPass corners ss n × Refuses corners ss n r place
+Ends corners ss n end = RoundsPass corners ss n × Stops (BreaksRule corners) ss n end
+
+-- by the rules and the limits of what is written it ends so, behind rounds that are written as these plans
+abbrev pub EndsWritten : List Corner → Option ℕ → List Stream → List Plan → Result (Unit {0}) (Refusal × Where) → Type 0
+EndsWritten corners level ss done end = AreWritten corners level ss done × Stops (IsBarred corners level done) ss (length done) end
 
 -- It ends once.
 abbrev pub EndsOnce : Type 0
@@ -116,6 +162,22 @@ IsMergeable corners ss = (n : ℕ) × Ends corners ss n (Ok tt)
 pub record IsMergeStatus (corners : List Corner) (ss : List Stream) (status : ℕ) : Type 0 where
   pub done : (status ≡ 0) ↔ IsMergeable corners ss
   pub refused : (status ≡ 1) ↔ ¬ IsMergeable corners ss
+
+-- it can be written
+abbrev pub IsWritable : List Corner → Option ℕ → List Stream → Type 0
+IsWritable corners level ss = (done : List Plan) × EndsWritten corners level ss done (Ok tt)
+
+-- behind rounds that are written a round breaks no rule, but what would be written for it breaks a limit
+abbrev pub MeetsLimit : List Corner → Option ℕ → List Stream → Type 0
+MeetsLimit corners level ss = (done : List Plan) × AreWritten corners level ss done
+    × ((round : List Parts) × IsRound ss (length done) round × ((r : Refusal) × IsTooLong corners level done round r))
+
+-- The status is 0 where it can be written, and 1 where the rules bar it or a limit is met.
+pub record IsWrittenStatus (corners : List Corner) (level : Option ℕ) (ss : List Stream) (status : ℕ) : Type 0 where
+  pub one : (status ≡ 0) ⊎ (status ≡ 1)
+  pub done : status ≡ 0 → IsWritable corners level ss
+  pub refused : status ≡ 1 → (¬ IsMergeable corners ss) ⊎ MeetsLimit corners level ss
+  pub rules : ¬ IsMergeable corners ss → status ≡ 1
 
 -- ---- sources
 
@@ -156,6 +218,10 @@ RestsRead R c = IsRead c × Rests R c
 abbrev pub IsOfSource : Where → ℕ → Type 0
 IsOfSource place k = (place.written ≡ false) × (place.source ≡ k)
 
+-- all were read so, and each rests but one that is refused at this place
+abbrev pub OthersRest : {A : Type 0} → Readers → Where → Sources A → Type 0
+OthersRest R place sources = OfEach sources IsRead × ((k : ℕ) → k < length sources.old → ¬ IsOfSource place k → Rests R (source_at sources k))
+
 -- n pictures are seen in what it has given, however that goes on
 pub record Sees {A : Type 0} (R : Readers) (c : Change A) (n : ℕ) : Type 0 where
   pub given : List ℕ
@@ -173,7 +239,7 @@ ChecksMergeBy R corners sources out (Ok _) =
     OfEach sources IsReadOut × HasNoFault out
     × WhereAllTold R sources (λ ss. (n : ℕ) × Ends corners ss n (Ok tt) × Gains out (ok_text n))
 ChecksMergeBy R corners sources out (Err (Refused r place)) =
-    OfEach sources IsRead × ((k : ℕ) → k < length sources.old → ¬ IsOfSource place k → Rests R (source_at sources k)) × IsUntouched out
+    OthersRest R place sources × IsUntouched out
     × WhereAllTold R sources (λ ss. (n : ℕ) × Ends corners ss n (Err (r, place)))
 ChecksMergeBy R corners sources out (Err (ReadFault k)) =
     (k < length sources.old) × HasFault (source_at sources k) × OfOthers k sources (RestsRead R) × IsUntouched out
@@ -184,6 +250,40 @@ ChecksMergeBy R corners sources out (Err WriteFault) =
 ChecksMergeBy R corners sources out (Err NoMemory) = OfEach sources IsRead × IsUntouched out
 ChecksMergeBy R corners sources out (Err NotUnderstood) = ⊥
 
+-- ---- `merge`
+
+-- A write failed: all of these bytes were gained, and behind them a front of those, and not all of it.
+pub record GainsInto {K : Type 0} (out : Change K) (done next : List ℕ) : Type 0 where
+  pub failed : HasFault out
+  pub front : List ℕ
+  pub of_next : StartsWith next front
+  pub short : length front < length next
+  pub gained : Appends (out.bytes out.old) (out.bytes out.new) (done ++ front)
+
+-- What it did to them: it writes all rounds before it ends. Behind a failed read of source k it has written those before round n, where n
+-- pictures of that source are seen; behind a failed write those before a round, and a front of that; for want of memory the first ones.
+abbrev pub MergesBy : {A K : Type 0} → Readers → List Corner → Option ℕ → Sources A → Change K → Outcome → Type 0
+MergesBy R corners level sources out (Ok _) =
+    OfEach sources IsReadOut × HasNoFault out
+    × WhereAllTold R sources (λ ss. (done : List Plan) × EndsWritten corners level ss done (Ok tt) × Gains out (bytes_of done))
+MergesBy R corners level sources out (Err (Refused r place)) =
+    OthersRest R place sources × HasNoFault out
+    × WhereAllTold R sources (λ ss. (done : List Plan) × EndsWritten corners level ss done (Err (r, place)) × Gains out (bytes_of done))
+MergesBy R corners level sources out (Err (ReadFault k)) =
+    (k < length sources.old) × HasFault (source_at sources k) × OfOthers k sources (RestsRead R) × HasNoFault out
+    × ((n : ℕ) × Sees R (source_at sources k) n × WhereAllTold R sources (λ ss. (done : List Plan) × (length done ≡ n)
+    × AreWritten corners level ss done × NoneRefused k ss n × Gains out (bytes_of done)))
+MergesBy R corners level sources out (Err WriteFault) =
+    OfEach sources (RestsRead R) × HasFault out
+    × WhereAllTold R sources (λ ss. (done : List Plan) × (p : Plan) × AreWritten corners level ss (p ∷ done)
+    × GainsInto out (bytes_of done) (written (units_of p)))
+MergesBy R corners level sources out (Err NoMemory) =
+    OfEach sources IsRead × HasNoFault out
+    × WhereAllTold R sources (λ ss. (done : List Plan) × AreWritten corners level ss done × Gains out (bytes_of done))
+MergesBy R corners level sources out (Err NotUnderstood) = ⊥
+
+-- ---- both
+
 -- where the words name more sources than a merge may have
 abbrev pub most_sources : ℕ
 most_sources = 64
@@ -192,7 +292,14 @@ abbrev pub too_many : Outcome
 too_many = Err (Refused (Limit TOO_MANY_SOURCES) (in_round 0))
 
 -- Nothing is then read or written. Else it is so by the readers of H.266; and the words were understood.
-pub record ChecksMerge {A K : Type 0} (corners : List Corner) (sources : Sources A) (out : Change K) (outcome : Outcome) : Type 0 where
+pub record OfAtMost {A K : Type 0} (count : ℕ) (sources : Sources A) (out : Change K) (outcome : Outcome) (by : Readers → Type 0) : Type 0 where
   pub stop : IfErr outcome IsOfCommand
-  pub many : most_sources < length corners → (outcome ≡ too_many) × AreUntouched sources × IsUntouched out
-  pub checks : length corners ≤ most_sources → (R : Readers) → AreOfH266 R → ChecksMergeBy R corners sources out outcome
+  pub many : most_sources < count → (outcome ≡ too_many) × AreUntouched sources × IsUntouched out
+  pub few : count ≤ most_sources → (R : Readers) → AreOfH266 R → by R
+
+abbrev pub ChecksMerge : {A K : Type 0} → List Corner → Sources A → Change K → Outcome → Type 0
+ChecksMerge corners sources out outcome = OfAtMost (length corners) sources out outcome (λ R. ChecksMergeBy R corners sources out outcome)
+
+abbrev pub Merges : {A K : Type 0} → List Corner → Option ℕ → Sources A → Change K → Outcome → Type 0
+Merges corners level sources out outcome =
+    OfAtMost (length corners) sources out outcome (λ R. MergesBy R corners level sources out outcome)

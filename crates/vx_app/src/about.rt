@@ -24,10 +24,11 @@ pub fn help() -> &'static [u8]
              as its general_level_idc
   check extract [--tid T] INDEX FILE
              whether that can be done, and for how many pictures
+  merge [--level N] X,Y=FILE ..
+             the pictures of up to 64 files as those of one byte stream, each with its
+             upper left corner at luma sample X, Y; with N as its general_level_idc
   check merge X,Y=FILE ..
-             whether the pictures of up to 64 files can become those of one stream,
-             each with its upper left corner at luma sample X, Y, and for how many
-             pictures
+             whether that can be done, by the rules below, and for how many pictures
   --help     this text
   --version  the name and the version of the program
 

@@ -1,13 +1,13 @@
 //! `extract` and `check extract`: a subpicture of each picture of a byte stream, as a stream of its own.
 
-ghost use Rattle.std.specs.Prelude.{◌≡◌, ◌+◌, ◌<◌, ◌≤◌, ◌∷◌, ◌^◌, nat_le, List, ℕ, true, cond, Ok, None, IfOk, IfErr, OnOk};
+ghost use Rattle.std.specs.Prelude.{◌≡◌, ◌+◌, ◌<◌, ◌≤◌, [], ◌∷◌, ◌^◌, List, ℕ, true, cond, Ok, None, IfOk, IfErr, OnOk};
 ghost use Rattle.vx_annexb.specs.ByteStream.{UnitPlace};
 ghost use Rattle.vx_annexb.specs.Reading.{LastWasNeeded};
 ghost use Rattle.vx_pic.specs.Readings.{Reading, Picture as StreamPicture, pictures as pictures_in};
 ghost use Rattle.vx_pic.specs.Rules.{Readers};
 ghost use Rattle.vx_pic.specs.H266.{AreOfH266};
 ghost use Rattle.vx_pic.specs.Written.{Plan};
-ghost use Rattle.vx_assemble.specs.Held.{HasPicture, ShowsLatest};
+ghost use Rattle.vx_assemble.specs.Held.{HasPicture, ShowsLatest, lent_by};
 ghost use Rattle.vx_assemble.specs.Feed.{HasFed, EndsAtEnd, Advances};
 ghost use Rattle.vx_assemble.specs.declared.feed.Step.TheVariants as steps;
 ghost use Rattle.vx_extract.specs.Extracting.{Stands, SameTask};
@@ -16,7 +16,9 @@ ghost use Rattle.vx_app.specs.Conclusion.{IsOfCommand};
 ghost use Rattle.vx_app.specs.Show.{behind_unit as place_behind};
 ghost use Rattle.vx_app.specs.Extract.{ExtractsBy, ChecksBy, at_picture as place_at, ok_text};
 ghost use Rattle.vx_bits.specs.declared.refusal.Refusal.TheVariants.{Extract};
-ghost use Rattle.vx_app.specs.inner.Extracting.{AdvancesOn, ExtractsOne, ChecksOne, CountsBy, stop_by, stop_at};
+ghost use Rattle.vx_app.specs.ReadAgain.{IsReadAgain};
+ghost use Rattle.vx_app.specs.inner.Extracting.{AdvancesOn, ExtractsOne, ExtractsNext, ChecksOne, ChecksLatest, ChecksNext, CountsBy, HasChecked, HasExtracted, HaveSlices, IsTask, TakenIsReadAgain, stop_by, stop_at};
+ghost use Rattle.vx_app.specs.declared.extract.Task.{Task};
 ghost use Rattle.vx_app.specs.declared.stop.Stop.TheVariants as stops;
 
 use crate::stop::Stop;
@@ -53,17 +55,53 @@ pub fn extract<K: Sink>(
         (change K.bytes_taken K.write_faults out.old out.new) result }
     ensures stop { IfErr result IsOfCommand }
 {
-    subpictures_have_slices();
-    units_can_stand();
-    extraction_reads_again();
+    extractions_read_again();
     let mut feed = Feed::new(alloc)?;
     let mut extractor = Extractor::limited(alloc, task.target, task.level, task.tid);
     let mut pictures = 0;
-    while advance(&mut feed, source)? {
-        extract_picture(&feed, &mut extractor, pictures, out)?;
+    while extract_next(&mut feed, &mut extractor, pictures, source, out)? {
         pictures = one_more(pictures, feed.unit());
     }
     some_picture(pictures)
+}
+
+/// What is written of pictures is read again.
+fn extractions_read_again()
+    ensures none { (R : Readers) → AreOfH266 R → (t : Task) → IsReadAgain R t [] [] }
+    ensures taken { (R : Readers) → AreOfH266 R → (t : Task) → TakenIsReadAgain R t }
+{
+    units_can_stand();
+    extraction_reads_again();
+}
+
+/// Each picture of units has a slice of each of its subpictures.
+fn pictures_have_slices()
+    ensures { (R : Readers) → AreOfH266 R → HaveSlices R }
+{
+    subpictures_have_slices();
+}
+
+/// Comes to the next picture of a source, behind so many others, if there is one, and writes its subpicture or leaves it out.
+fn extract_next<K: Sink>(
+    feed: &mut Feed,
+    extractor: &mut Extractor,
+    pictures: u64,
+    source: &mut Box<dyn Source>,
+    out: &mut K,
+) -> Result<bool, Stop>
+    ensures answer { (R : Readers) → AreOfH266 R → (t : Task) → IsTask t extractor.old → TakenIsReadAgain R t → (first : _) (start : _)
+        → HasExtracted R t (change bytes_left read_faults first source.old) (change K.bytes_taken K.write_faults start out.old) feed.old extractor.old pictures
+        → ExtractsNext R t (change bytes_left read_faults first source.new) (change K.bytes_taken K.write_faults start out.new) feed.old feed.new extractor.new pictures result }
+    ensures task { SameTask extractor.old extractor.new }
+    ensures few { OnOk result (feed.new.units ≤ 2 ^ 40) }
+    ensures stop { IfErr result IsOfCommand }
+{
+    pictures_have_slices();
+    if !advance(feed, source)? {
+        return Ok(false);
+    }
+    extract_picture(feed, extractor, pictures, out)?;
+    Ok(true)
 }
 
 /// Says how many pictures of a source are kept, where the subpicture can be extracted.
@@ -94,14 +132,53 @@ fn count_kept(alloc: Global, task: Task, source: &mut Box<dyn Source>) -> Result
     let mut extractor = Extractor::limited(alloc, task.target, task.level, task.tid);
     let mut pictures = 0;
     let mut kept = 0;
-    while advance(&mut feed, source)? {
-        let picture = feed.picture();
-        check_picture(&picture, &mut extractor, pictures)?;
+    while let Some(stays) = check_next(task.tid, &mut feed, &mut extractor, pictures, source)? {
         pictures = one_more(pictures, feed.unit());
-        kept = kept_with(&picture, task.tid, kept, pictures);
+        kept = with_one(stays, kept, pictures);
     }
     some_picture(pictures)?;
     Ok(kept)
+}
+
+/// Comes to the next picture of a source, behind so many others, if there is one, and tells whether it is kept.
+fn check_next(
+    tid: u8,
+    feed: &mut Feed,
+    extractor: &mut Extractor,
+    pictures: u64,
+    source: &mut Box<dyn Source>,
+) -> Result<Option<bool>, Stop>
+    ensures answer { extractor.old.first ≡ None → (R : Readers) → AreOfH266 R → (t : Task) → IsTask t extractor.old → t.tid ≡ tid
+        → (first : _) (kept : ℕ) → HasChecked R t (change bytes_left read_faults first source.old) feed.old pictures kept
+        → ChecksNext R t (change bytes_left read_faults first source.new) feed.old feed.new pictures kept result }
+    ensures stays { OnOk result (extractor.new ≡ extractor.old) }
+    ensures few { OnOk result (feed.new.units ≤ 2 ^ 40) }
+    ensures stop { IfErr result IsOfCommand }
+{
+    if !advance(feed, source)? {
+        return Ok(None);
+    }
+    let kept = check_latest(tid, feed, extractor, pictures)?;
+    Ok(Some(kept))
+}
+
+/// Whether the picture that was done last, behind so many others, is kept, where the subpicture can be extracted.
+fn check_latest(
+    tid: u8,
+    feed: &Feed,
+    extractor: &mut Extractor,
+    pictures: u64,
+) -> Result<bool, Stop>
+    requires { HasPicture feed.now.assembler }
+    ensures shows { (R : Readers) (g : List ℕ) (units : List UnitPlace) (readings : List Reading) → HasFed R feed.now g units readings
+        → ShowsLatest (lent_by feed.now.assembler) (pictures_in readings) }
+    ensures answer { extractor.old.first ≡ None → ChecksLatest tid (lent_by feed.now.assembler) extractor.old pictures result }
+    ensures stays { OnOk result (extractor.new ≡ extractor.old) }
+    ensures stop { IfErr result IsOfCommand }
+{
+    let picture = feed.picture();
+    check_picture(&picture, extractor, pictures)?;
+    Ok(picture.kind().temporal_id <= tid)
 }
 
 /// Comes to the next picture of the first source, if there is one.
@@ -205,14 +282,15 @@ pub fn one_more(count: u64, most: u64) -> u64
     most.min(count.saturating_add(1))
 }
 
-/// How many pictures are kept with this one, and with `kept` before it, where there are so many in all.
-fn kept_with(picture: &Picture<'_>, tid: u8, kept: u64, pictures: u64) -> u64
-    ensures { kept < pictures → result ≡ cond (nat_le picture.now.kind.temporal_id tid) (kept + 1) kept }
+/// A count with one more, where it is counted, which is then below `most`.
+fn with_one(counted: bool, count: u64, most: u64) -> u64
+    ensures { count < most → result ≡ cond counted (count + 1) count }
 {
-    if picture.kind().temporal_id <= tid {
-        return one_more(kept, pictures);
+    if counted {
+        one_more(count, most)
+    } else {
+        count
     }
-    kept
 }
 
 /// There has to be a picture.

@@ -12,6 +12,16 @@ mod stop;
 mod tests;
 #[cfg(test)]
 mod tests_extract;
+#[cfg(test)]
+mod tests_faults;
+#[cfg(test)]
+mod tests_limits;
+#[cfg(test)]
+mod tests_merge;
+#[cfg(test)]
+mod tests_rules;
+#[cfg(test)]
+mod tests_written;
 mod words;
 
 use conclude::finish;

@@ -1,4 +1,4 @@
-//! `check merge`: whether the pictures of several byte streams can become one stream, round by round.
+//! `merge` and `check merge`: the pictures of several byte streams as those of one stream, round by round.
 
 ghost use Rattle.std.specs.Prelude.{◌≡◌, ◌+◌, ◌<◌, ◌≤◌, ◌^◌, List, All, ℕ, true, map, length, vec_len, Ok, Err, None, IfOk, IfErr, OnOk};
 ghost use Rattle.std.specs.List.{AllByRecursion};
@@ -7,14 +7,16 @@ ghost use Rattle.vx_annexb.specs.Reading.{LastWasNeeded};
 ghost use Rattle.vx_pic.specs.Readings.{Reading, Picture as StreamPicture};
 ghost use Rattle.vx_pic.specs.Rules.{Readers};
 ghost use Rattle.vx_pic.specs.H266.{AreOfH266};
+ghost use Rattle.vx_pic.specs.Written.{Plan};
 ghost use Rattle.vx_assemble.specs.Held.{HasPicture, lent_by};
 ghost use Rattle.vx_assemble.specs.Feed.{HasFed, EndsAtEnd};
-ghost use Rattle.vx_merge.specs.Merging.{AreCorners};
+ghost use Rattle.vx_merge.specs.Merging.{AreCorners, SameTask, Stands};
 ghost use Rattle.vx_app.specs.Change.{change, sources_change};
 ghost use Rattle.vx_app.specs.Conclusion.{IsOfCommand};
 ghost use Rattle.vx_app.specs.Grammar.{texts};
-ghost use Rattle.vx_app.specs.Merge.{ChecksMerge, ChecksMergeBy, EndsOnce, corners_of as corners_by, in_round as place_in, behind_units as place_behind, too_many as too_many_sources, most_sources};
-ghost use Rattle.vx_app.specs.inner.Merging.{AdvancesOf, AdvancesAll, AreWaiting, ChecksRound, CountsRounds, OfAll, IsUnfed, LendsLatest, GoesBy, stop_from, stop_in};
+ghost use Rattle.vx_app.specs.declared.merge.Work.TheVariants.{Check as Checked, Write as Written};
+ghost use Rattle.vx_app.specs.Merge.{ChecksMerge, ChecksMergeBy, Merges, MergesBy, EndsOnce, corners_of as corners_by, in_round as place_in, behind_units as place_behind, too_many as too_many_sources, most_sources};
+ghost use Rattle.vx_app.specs.inner.Merging.{AdvancesOf, AdvancesAll, AreWaiting, ChecksRound, WritesRound, TakesRounds, OfAll, IsUnfed, LendsLatest, GoesBy, stop_from, stop_in};
 ghost use Rattle.vx_app.specs.inner.Placings.{IsPlacingWord, placing_in};
 
 use crate::extract::{ok_line, one_more, step};
@@ -30,6 +32,61 @@ use vx_report::Where;
 
 /// How many sources a merge may have.
 const MOST_SOURCES: usize = 64;
+
+/// What is done with each round.
+#[derive(Clone, Copy, PartialEq, Eq)]
+enum Work {
+    /// It is checked.
+    Check,
+    /// It is written.
+    Write,
+}
+
+/// Writes the pictures of the files that these words place as those of one stream, each with its region of the picture that they make up;
+/// with a level of its own or the files' highest.
+pub fn merge<K: Sink>(
+    alloc: Global,
+    level: Option<u8>,
+    placings: &[String],
+    sources: &mut Vec<Box<dyn Source>>,
+    out: &mut K,
+) -> Result<(), Stop>
+    requires words { AllByRecursion IsPlacingWord (texts placings.now) }
+    requires some { 0 < length placings.now }
+    requires count { vec_len sources.old ≡ length placings.now }
+    ensures merges { Merges (corners_by (map placing_in (texts placings.now))) level
+        (sources_change bytes_left read_faults sources.old.items sources.new.items)
+        (change K.bytes_taken K.write_faults out.old out.new) result }
+    ensures list { vec_len sources.new ≡ vec_len sources.old }
+{
+    if placings.len() > MOST_SOURCES {
+        return Err(too_many());
+    }
+    write_rounds(alloc, level, placings, sources, out)
+}
+
+/// Writes all rounds.
+fn write_rounds<K: Sink>(
+    alloc: Global,
+    level: Option<u8>,
+    placings: &[String],
+    sources: &mut Vec<Box<dyn Source>>,
+    out: &mut K,
+) -> Result<(), Stop>
+    requires words { AllByRecursion IsPlacingWord (texts placings.now) }
+    requires some { 0 < length placings.now }
+    requires few { length placings.now ≤ most_sources }
+    requires count { vec_len sources.old ≡ length placings.now }
+    ensures merges { (R : Readers) → AreOfH266 R → MergesBy R (corners_by (map placing_in (texts placings.now))) level
+        (sources_change bytes_left read_faults sources.old.items sources.new.items)
+        (change K.bytes_taken K.write_faults out.old out.new) result }
+    ensures stop { IfErr result IsOfCommand }
+    ensures list { vec_len sources.new ≡ vec_len sources.old }
+{
+    let corners = corners_of(alloc, placings)?;
+    take_rounds(alloc, Work::Write, level, &corners, sources, out)?;
+    Ok(())
+}
 
 /// Says how many rounds of pictures the files have that these words place, where they can become one stream.
 pub fn check_merge<K: Sink>(
@@ -82,7 +139,7 @@ fn check_rounds<K: Sink>(
     ensures list { vec_len sources.new ≡ vec_len sources.old }
 {
     let corners = corners_of(alloc, placings)?;
-    let rounds = count_rounds(alloc, &corners, sources)?;
+    let rounds = take_rounds(alloc, Work::Check, None, &corners, sources, out)?;
     let line = ok_line(alloc, rounds)?;
     write_all(out, &line)?;
     Ok(())
@@ -104,25 +161,29 @@ fn corners_of(alloc: Global, placings: &[String]) -> Result<Vec<Corner>, AllocEr
     Ok(corners)
 }
 
-/// How many rounds of pictures the sources have, where all pass.
-fn count_rounds(
+/// Takes round after round of pictures of the sources, and says how many there are.
+fn take_rounds<K: Sink>(
     alloc: Global,
+    work: Work,
+    level: Option<u8>,
     corners: &[Corner],
     sources: &mut Vec<Box<dyn Source>>,
+    out: &mut K,
 ) -> Result<u64, Stop>
     requires corners { AreCorners corners.now }
     requires count { vec_len sources.old ≡ length corners.now }
-    ensures counts { (R : Readers) → AreOfH266 R → CountsRounds R corners.now
-        (sources_change bytes_left read_faults sources.old.items sources.new.items) result }
+    ensures takes { (R : Readers) → AreOfH266 R → TakesRounds R work corners.now level
+        (sources_change bytes_left read_faults sources.old.items sources.new.items)
+        (change K.bytes_taken K.write_faults out.old out.new) result }
     ensures stop { IfErr result IsOfCommand }
     ensures list { vec_len sources.new ≡ vec_len sources.old }
 {
     let mut feeds = feeds_for(alloc, sources.len())?;
     let mut ended = going(alloc, sources.len())?;
-    let mut merger = Merger::new(alloc, corners, None)?;
+    let mut merger = Merger::new(alloc, corners, level)?;
     let mut rounds = 0;
     while advance_all(&mut feeds, sources, &mut ended, rounds)? {
-        check_round(&mut merger, &feeds, rounds)?;
+        take_round(work, &mut merger, &feeds, rounds, out)?;
         rounds = one_more(rounds, feeds[0].unit());
     }
     Ok(rounds)
@@ -241,6 +302,52 @@ fn stop_of(fault: FeedFault, k: u16, n: u64) -> Stop
     }
 }
 
+/// Checks or writes the round of the pictures that the feeds lend, behind so many rounds.
+fn take_round<K: Sink>(
+    work: Work,
+    merger: &mut Merger,
+    feeds: &[Feed],
+    rounds: u64,
+    out: &mut K,
+) -> Result<(), Stop>
+    requires count { length feeds.now ≡ length merger.old.corners }
+    requires holds { All (λ f. HasPicture f.assembler) feeds.now }
+    ensures checked { work ≡ Checked → merger.old.first ≡ None
+        → ChecksRound merger.old.corners (map (λ f. lent_by f.assembler) feeds.now) rounds result }
+    ensures stays { work ≡ Checked → (out.new ≡ out.old) × OnOk result (merger.new ≡ merger.old) }
+    ensures written { work ≡ Written → (done : List Plan) → Stands merger.old done
+        → WritesRound (map (λ f. lent_by f.assembler) feeds.now) done merger.new
+        (K.bytes_taken out.old) (K.bytes_taken out.new) (K.write_faults out.old) (K.write_faults out.new) rounds result }
+    ensures task { SameTask merger.old merger.new }
+    ensures stop { IfErr result IsOfCommand }
+{
+    match work {
+        Work::Check => check_round(merger, feeds, rounds),
+        Work::Write => write_round(merger, feeds, rounds, out),
+    }
+}
+
+/// Writes the round of the pictures that the feeds lend.
+fn write_round<K: Sink>(
+    merger: &mut Merger,
+    feeds: &[Feed],
+    rounds: u64,
+    out: &mut K,
+) -> Result<(), Stop>
+    requires count { length feeds.now ≡ length merger.old.corners }
+    requires holds { All (λ f. HasPicture f.assembler) feeds.now }
+    ensures answer { (done : List Plan) → Stands merger.old done
+        → WritesRound (map (λ f. lent_by f.assembler) feeds.now) done merger.new
+        (K.bytes_taken out.old) (K.bytes_taken out.new) (K.write_faults out.old) (K.write_faults out.new) rounds result }
+    ensures task { SameTask merger.old merger.new }
+    ensures stop { IfErr result IsOfCommand }
+{
+    match merger.round(feeds, out) {
+        Ok(()) => Ok(()),
+        Err(error) => Err(stop_of_round(error, rounds)),
+    }
+}
+
 /// Whether the pictures that the feeds lend, behind so many rounds, can be put together.
 fn check_round(merger: &mut Merger, feeds: &[Feed], rounds: u64) -> Result<(), Stop>
     requires count { length feeds.now ≡ length merger.old.corners }
@@ -248,6 +355,7 @@ fn check_round(merger: &mut Merger, feeds: &[Feed], rounds: u64) -> Result<(), S
     ensures answer { merger.old.first ≡ None
         → ChecksRound merger.old.corners (map (λ f. lent_by f.assembler) feeds.now) rounds result }
     ensures stays { OnOk result (merger.new ≡ merger.old) }
+    ensures task { SameTask merger.old merger.new }
     ensures stop { IfErr result IsOfCommand }
 {
     match merger.check(feeds) {

@@ -1,21 +1,21 @@
 //! The program over words, sources and sinks.
 
-ghost use Rattle.std.specs.Prelude.{◌≡◌, ◌≢◌, ◌↔◌, ◌<◌, ◌≤◌, List, ℕ, Some, Err, length, vec_len};
+ghost use Rattle.std.specs.Prelude.{◌≡◌, ◌≢◌, ◌↔◌, ◌<◌, ◌≤◌, List, ℕ, Option as OptionOf, Some, Err, length, vec_len};
 ghost use Rattle.vx_pic.specs.Rules.{Readers};
 ghost use Rattle.vx_pic.specs.H266.{AreOfH266};
 ghost use Rattle.vx_app.specs.Change.{HasFault, change, source_at, sources_change};
 ghost use Rattle.vx_app.specs.Conclusion.{Outcome, ExitsWith};
 ghost use Rattle.vx_app.specs.declared.extract.Task.{Task as TaskAsked};
 ghost use Rattle.vx_app.specs.Extract.{WhereTold, IsStatus, task_of as task_by};
-ghost use Rattle.vx_app.specs.Grammar.{Command as Asked, Placing as PlacingAsked, show as for_show, check_merge as for_merge, AskFor, IsTid, IsUnderstood, NamesFiles, texts};
-ghost use Rattle.vx_app.specs.Merge.{WhereAllTold, IsMergeStatus, corners_of, most_sources};
-ghost use Rattle.vx_app.specs.Run.{Performs, task_in};
+ghost use Rattle.vx_app.specs.Grammar.{Command as Asked, Placing as PlacingAsked, show as for_show, merge as for_merge, check_merge as for_check, AskFor, IsTid, IsUnderstood, NamesFiles, texts};
+ghost use Rattle.vx_app.specs.Merge.{WhereAllTold, IsMergeStatus, IsWrittenStatus, corners_of, most_sources};
+ghost use Rattle.vx_app.specs.Run.{Performs, placings_in, task_in};
 ghost use Rattle.vx_app.specs.Show.{WhereKnown, status_at};
 
 use crate::about::{help, version, write_text};
 use crate::conclude::conclude;
 use crate::extract::{Task, check_extract, extract};
-use crate::merge::check_merge;
+use crate::merge::{check_merge, merge};
 use crate::show::show;
 use crate::stop::Stop;
 use crate::words::{Command, command_of};
@@ -53,13 +53,18 @@ pub fn run<K: Sink, E: Sink>(
         → let source = source_at (sources_change bytes_left read_faults sources.old.items sources.new.items) 0 in
         ¬ HasFault source → ¬ HasFault (change K.bytes_taken K.write_faults out.old out.new)
         → result ≢ 4 → WhereTold R source (λ ps ending. IsStatus task ps ending result) }
-    ensures merges { (R : Readers) → AreOfH266 R → (placings : List PlacingAsked) → AskFor (texts words.now) (for_merge placings)
+    ensures checks { (R : Readers) → AreOfH266 R → (placings : List PlacingAsked) → AskFor (texts words.now) (for_check placings)
         → length placings ≤ most_sources
         → let all = sources_change bytes_left read_faults sources.old.items sources.new.items in
         ((k : ℕ) → k < vec_len sources.old → ¬ HasFault (source_at all k)) → ¬ HasFault (change K.bytes_taken K.write_faults out.old out.new)
         → result ≢ 4 → WhereAllTold R all (λ ss. IsMergeStatus (corners_of placings) ss result) }
-    ensures many { (placings : List PlacingAsked) → AskFor (texts words.now) (for_merge placings) → most_sources < length placings
-        → result ≢ 4 → result ≡ 1 }
+    ensures merges { (R : Readers) → AreOfH266 R → (level : OptionOf ℕ) (placings : List PlacingAsked)
+        → AskFor (texts words.now) (for_merge level placings) → length placings ≤ most_sources
+        → let all = sources_change bytes_left read_faults sources.old.items sources.new.items in
+        ((k : ℕ) → k < vec_len sources.old → ¬ HasFault (source_at all k)) → ¬ HasFault (change K.bytes_taken K.write_faults out.old out.new)
+        → result ≢ 4 → WhereAllTold R all (λ ss. IsWrittenStatus (corners_of placings) level ss result) }
+    ensures many { (command : Asked) (placings : List PlacingAsked) → AskFor (texts words.now) command → placings_in command ≡ Some placings
+        → most_sources < length placings → result ≢ 4 → result ≡ 1 }
 {
     match perform(alloc, words, sources, out) {
         Ok(()) => 0,
@@ -93,6 +98,7 @@ fn perform<K: Sink>(
         Some(Command::CheckExtract { tid, index, .. }) => {
             check_extract(alloc, task_of(tid, None, index), &mut sources[0], out)
         }
+        Some(Command::Merge { level, placings }) => merge(alloc, level, placings, sources, out),
         Some(Command::CheckMerge { placings }) => check_merge(alloc, placings, sources, out),
         Some(Command::Help) => write_text(help(), out),
         Some(Command::Version) => write_text(version(), out),

@@ -300,10 +300,11 @@ const HELP: &[u8] = b"goosequince: subpictures of VVC byte streams (H.266, Annex
              as its general_level_idc
   check extract [--tid T] INDEX FILE
              whether that can be done, and for how many pictures
+  merge [--level N] X,Y=FILE ..
+             the pictures of up to 64 files as those of one byte stream, each with its
+             upper left corner at luma sample X, Y; with N as its general_level_idc
   check merge X,Y=FILE ..
-             whether the pictures of up to 64 files can become those of one stream,
-             each with its upper left corner at luma sample X, Y, and for how many
-             pictures
+             whether that can be done, by the rules below, and for how many pictures
   --help     this text
   --version  the name and the version of the program
 
@@ -564,17 +565,37 @@ fn check_bytes(
     let words = words_of(alloc, row.words)?;
     let mut sources: Vec<Box<dyn Source>> = Vec::new(alloc);
     if file_count(&words) == 1 {
-        let source = MemorySource::new(
-            bytes,
-            Vec::from_slice(alloc, row.pieces)?,
-            Vec::from_slice(alloc, row.failing_reads)?,
-        );
-        sources.push(Box::new(alloc, source)?)?;
+        sources.push(Box::new(alloc, source_of(alloc, row, bytes)?)?)?;
     }
-    assert_eq!(rt; sources.len(), file_count(&words));
+    check_sources(rt, alloc, at, row, &words, &mut sources)
+}
+
+/// A source in memory that gives these bytes as the row says.
+pub(crate) fn source_of(
+    alloc: Global,
+    row: &Row<'_>,
+    bytes: Vec<u8>,
+) -> Result<MemorySource, AllocError> {
+    Ok(MemorySource::new(
+        bytes,
+        Vec::from_slice(alloc, row.pieces)?,
+        Vec::from_slice(alloc, row.failing_reads)?,
+    ))
+}
+
+/// Runs it with these words over these sources.
+pub(crate) fn check_sources(
+    rt: &impl Abort,
+    alloc: Global,
+    at: usize,
+    row: &Row<'_>,
+    words: &[String],
+    sources: &mut Vec<Box<dyn Source>>,
+) -> Result<(), Fail> {
+    assert_eq!(rt; sources.len(), file_count(words));
     let mut out = sink(alloc, row.room, row.taken, row.failing_writes)?;
     let mut err = sink(alloc, 400, &[1], row.failing_tells)?;
-    let status = run(alloc, &words, &mut sources, &mut out, &mut err);
+    let status = run(alloc, words, sources, &mut out, &mut err);
     if status == 4 {
         // No row expects it: want of memory, behind the lines of the first units.
         assert!(rt; row.out.starts_with(out.bytes()), "out of row {at}");

@@ -3,8 +3,8 @@
 ghost use Rattle.std.specs.Prelude.{◌≡◌, ◌≤◌, ◌∷◌, ◌↔◌, [], ℕ, List, Option as OptionOf, true, false, decimal, codes, None, IfSome, IfNone, IsTrue, MatchOption, map, slice_get, option_copied};
 ghost use Rattle.std.specs.List.{AllByRecursion};
 ghost use Rattle.vx_app.specs.Asked.{asked};
-ghost use Rattle.vx_app.specs.Grammar.{Command as Asked, extract, check_extract, check_merge, Placing as PlacingAsked, spelling, IsWellNamed, AskFor, IsUnderstood, NamesFiles, files_of, texts};
-ghost use Rattle.vx_app.specs.inner.Placings.{IsPlacingWord, HasPlacings, Spells, placed, placing_in};
+ghost use Rattle.vx_app.specs.Grammar.{Command as Asked, extract, check_extract, merge, check_merge, Placing as PlacingAsked, spelling, IsWellNamed, AskFor, IsUnderstood, NamesFiles, files_of, texts};
+ghost use Rattle.vx_app.specs.inner.Placings.{IsPlacingWord, HasPlacings, PlaceFiles, Spells, placed, placing_in};
 ghost use Rattle.vx_app.specs.inner.Words.{BeginsNot, IsNumberFirst, IsOptionFirst, is_plain};
 
 /// What the words ask for, with what they name.
@@ -26,6 +26,11 @@ pub enum Command<'a> {
         tid: Option<u8>,
         index: u16,
         file: &'a str,
+    },
+    /// `merge [--level N] X,Y=FILE ..`, with the words behind the level.
+    Merge {
+        level: Option<u8>,
+        placings: &'a [String],
     },
     /// `check merge X,Y=FILE ..`, of which these are the words behind `merge`.
     CheckMerge {
@@ -65,6 +70,9 @@ pub fn command_of(words: &[String]) -> Option<Command<'_>>
     }
     if let Some(rest) = behind(words, "extract") {
         return extract_of(rest);
+    }
+    if let Some(rest) = behind(words, "merge") {
+        return merge_of(rest);
     }
     check_of(behind(words, "check")?)
 }
@@ -131,6 +139,23 @@ fn check_extract_of(words: &[String]) -> Option<Command<'_>>
     Some(Command::CheckExtract { tid, index, file })
 }
 
+/// `[--level N] X,Y=FILE ..`
+fn merge_of(words: &[String]) -> Option<Command<'_>>
+    ensures some { IfSome result (λ command. AskFor (codes "merge" ∷ texts words.now) (asked command)) }
+    ensures placings { IfSome result HasPlacings }
+    ensures none { IfNone result ((level : OptionOf ℕ) (placings : List PlacingAsked)
+        → AskFor (codes "merge" ∷ texts words.now) (merge level placings) → ⊥) }
+{
+    let (level, rest) = option(words, "--level", MOST_LEVEL)?;
+    if !place_files(rest) {
+        return None;
+    }
+    Some(Command::Merge {
+        level,
+        placings: rest,
+    })
+}
+
 /// `X,Y=FILE ..`
 fn check_merge_of(words: &[String]) -> Option<Command<'_>>
     ensures some { IfSome result (λ command. AskFor (codes "check" ∷ codes "merge" ∷ texts words.now) (asked command)) }
@@ -138,13 +163,20 @@ fn check_merge_of(words: &[String]) -> Option<Command<'_>>
     ensures none { IfNone result ((placings : List PlacingAsked)
         → AskFor (codes "check" ∷ codes "merge" ∷ texts words.now) (check_merge placings) → ⊥) }
 {
-    if words.is_empty() {
-        return None;
-    }
-    if !are_placings(words) {
+    if !place_files(words) {
         return None;
     }
     Some(Command::CheckMerge { placings: words })
+}
+
+/// Whether there are words, and each is `X,Y=FILE`.
+fn place_files(words: &[String]) -> bool
+    ensures { IsTrue result ↔ PlaceFiles (texts words.now) }
+{
+    if words.is_empty() {
+        return false;
+    }
+    are_placings(words)
 }
 
 /// Whether each word is `X,Y=FILE`.
@@ -246,6 +278,7 @@ pub fn file_count(words: &[String]) -> usize
 {
     match command_of(words) {
         Some(Command::Show { .. } | Command::Extract { .. } | Command::CheckExtract { .. }) => 1,
+        Some(Command::Merge { placings, .. }) => placings.len(),
         Some(Command::CheckMerge { placings }) => placings.len(),
         Some(Command::Help | Command::Version) | None => 0,
     }
@@ -261,6 +294,7 @@ pub fn file_word(words: &[String], k: usize) -> Option<&str>
         Command::Show { file }
         | Command::Extract { file, .. }
         | Command::CheckExtract { file, .. } => file_alone_at(file, k),
+        Command::Merge { placings, .. } => placed_file(placings, k),
         Command::CheckMerge { placings } => placed_file(placings, k),
         Command::Help | Command::Version => None,
     }

@@ -1,7 +1,9 @@
 -- The steps of `extract` and of `check extract`: the pictures that were taken, and what was written of them.
-use Rattle.std.specs.Prelude.{◌≡◌, ℕ, ◌<◌, Bool, true, false, List, [], ◌∷◌, length, map, Option, Some, None, Result, Ok, Err}
+use Rattle.std.specs.Prelude.{◌≡◌, ℕ, ◌+◌, ◌<◌, ◌≤◌, nat_le, cond, Bool, true, false, List, [], ◌∷◌, length, map, Option, Some, None, Result, Ok, Err, OnOk, IfErr}
 use Rattle.std.specs.List.{AllByRecursion}
 use Rattle.std.specs.Io.KnownBytes.{Consumes, IsAtEnd}
+use Rattle.vx_bits.specs.declared.refusal.Refusal.TheVariants.{Extract}
+use Rattle.vx_bits.specs.declared.rules.TheConstants.{NO_PICTURE}
 use Rattle.vx_annexb.specs.ByteStream.{UnitPlace}
 use Rattle.vx_annexb.specs.Laws.{written}
 use Rattle.vx_annexb.specs.Reading.{LastWasNeeded}
@@ -29,7 +31,7 @@ use Rattle.vx_app.specs.Change.{Change, HasNoFault, HasFault, GivesFront, Gains}
 use Rattle.vx_app.specs.Conclusion.{Outcome}
 use Rattle.vx_app.specs.Show.{behind_unit}
 use Rattle.vx_app.specs.ReadAgain.{IsReadAgain}
-use Rattle.vx_app.specs.Extract.{BreakNoRule, IsExtractable, Refuses, HasSeen, WhereTold, at_picture}
+use Rattle.vx_app.specs.Extract.{BreakNoRule, ExtractsBy, IsExtractable, Refuses, HasSeen, WhereTold, at_picture}
 
 -- these pictures of a source were taken, the latest first
 pub record HasTaken {A : Type 0} (R : Readers) (source : Change A) (f : Feeding) (ps : List Picture) : Type 0 where
@@ -105,6 +107,11 @@ ChecksOne q x n (Ok _) = refusal_of x.target x.tid q ≡ None
 ChecksOne q x n (Err (Refused r place)) = (refusal_of x.target x.tid q ≡ Some r) × (place ≡ at_picture n)
 ChecksOne q x n (Err _) = ⊥
 
+-- of the picture that was taken last, and whether it is kept
+abbrev pub ChecksLatest : (tid : ℕ) → Parts → Extracting → ℕ → Result Bool Stop → Type 0
+ChecksLatest tid q x n (Ok kept) = ChecksOne q x n (Ok tt) × (kept ≡ nat_le q.kind.temporal_id tid)
+ChecksLatest tid q x n (Err stop) = ChecksOne q x n (Err stop)
+
 -- ---- step by step
 
 -- each picture of units has a slice of each of its subpictures
@@ -113,11 +120,12 @@ HaveSlices R = (units : List (List ℕ))
     → AllByRecursion (λ p. (k : ℕ) → k < subpics_of p.begun.sps → HasSlice k (parts_of p)) (pictures_of R units)
 
 -- what is written of pictures that were taken, and break no rule, is read again
-abbrev pub TakenIsReadAgain : Type 0 → Readers → Task → Type 0
-TakenIsReadAgain A R t =
-    (source : Change A) (f : Feeding) (ps : List Picture) → HasTaken R source f ps → BreakNoRule t ps
-    → (done : List Plan) → AreExtracted t.target t.level (map parts_of (at_most t.tid ps)) done
-    → IsReadAgain R t ps (written (units_written done))
+abbrev pub TakenIsReadAgain : Readers → Task → Type 0
+TakenIsReadAgain R t =
+    (g : List ℕ) (units : List UnitPlace) (readings : List Reading) (f : Feeding) → HasFed R f g units readings
+    → BreakNoRule t (pictures readings)
+    → (done : List Plan) → AreExtracted t.target t.level (map parts_of (at_most t.tid (pictures readings))) done
+    → IsReadAgain R t (pictures readings) (written (units_written done))
 
 -- n pictures were taken, and what is written of those that are kept
 pub record HasExtracted {A K : Type 0} (R : Readers) (t : Task) (source : Change A) (out : Change K) (f : Feeding) (x : Extracting) (n : ℕ)
@@ -131,6 +139,15 @@ pub record HasExtracted {A K : Type 0} (R : Readers) (t : Task) (source : Change
   pub plans : AreExtracted t.target t.level (map parts_of (at_most t.tid ps)) done
   pub gained : Gains out (written (units_written done))
   pub again : IsReadAgain R t ps (written (units_written done))
+
+-- What became of the next picture behind n pictures: it was written or left out; or there is none, and that is how `extract` ends, where
+-- it is refused for want of a picture if n is 0; or `extract` is stopped.
+abbrev pub ExtractsNext : {A K : Type 0} → Readers → Task → Change A → Change K → Feeding → Feeding → Extracting → ℕ
+    → Result Bool Stop → Type 0
+ExtractsNext R t source out f f' x n (Ok true) = HasExtracted R t source out f' x (n + 1) × (n < f'.units) × (f.units < f'.units)
+ExtractsNext R t source out f f' x n (Ok false) = (outcome : Outcome) → OnOk outcome (0 < n)
+    → IfErr outcome (λ stop. (n ≡ 0) × (stop ≡ Refused (Extract NO_PICTURE) (at_picture 0))) → ExtractsBy R t source out outcome
+ExtractsNext R t source out f f' x n (Err stop) = ExtractsBy R t source out (Err stop)
 
 -- n pictures were taken, and k of them are kept
 pub record HasChecked {A : Type 0} (R : Readers) (t : Task) (source : Change A) (f : Feeding) (n k : ℕ) : Type 0 where
@@ -151,3 +168,12 @@ CountsBy R t source (Err (Refused r place)) =
 CountsBy R t source (Err (ReadFault k)) = HasFault source × (k ≡ 0) × ((ps : List Picture) × HasSeen R t source ps)
 CountsBy R t source (Err NoMemory) = HasNoFault source × GivesFront source
 CountsBy R t source (Err _) = ⊥
+
+-- What became of the next picture behind n, of which k are kept: it breaks no rule, and is kept or not; or there is none, and so many are
+-- kept, or it is refused for want of a picture; or `check extract` is stopped.
+abbrev pub ChecksNext : {A : Type 0} → Readers → Task → Change A → Feeding → Feeding → (n k : ℕ) → Result (Option Bool) Stop → Type 0
+ChecksNext R t source f f' n k (Ok (Some kept)) =
+    HasChecked R t source f' (n + 1) (cond kept (k + 1) k) × (n < f'.units) × (k ≤ n) × (f.units < f'.units)
+ChecksNext R t source f f' n k (Ok None) =
+    (0 < n → CountsBy R t source (Ok k)) × (n ≡ 0 → CountsBy R t source (Err (Refused (Extract NO_PICTURE) (at_picture 0))))
+ChecksNext R t source f f' n k (Err stop) = CountsBy R t source (Err stop)

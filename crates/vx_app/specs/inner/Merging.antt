@@ -1,4 +1,4 @@
--- The steps of `check merge`: the pictures that were taken of each source, and the rounds that pass. Lists of pictures have the latest first.
+-- The steps of `merge` and `check merge`: the pictures that were taken of each source, and the rounds that pass. Lists of pictures have the latest first.
 use Rattle.std.specs.Prelude.{◌≡◌, ℕ, ◌<◌, ◌≤◌, Bool, true, false, List, [], ◌∷◌, length, map, get_or, slice_get}
 use Rattle.std.specs.Prelude.{Option, Some, None, Result, Ok, Err}
 use Rattle.vx_annexb.specs.ByteStream.{UnitPlace}
@@ -6,6 +6,7 @@ use Rattle.vx_annexb.specs.Reading.{LastWasNeeded}
 use Rattle.vx_pic.specs.Readings.{Reading, Picture, pictures}
 use Rattle.vx_pic.specs.Rules.{Readers}
 use Rattle.vx_pic.specs.Parts.{Parts, parts_of}
+use Rattle.vx_pic.specs.Written.{Plan}
 use Rattle.vx_assemble.specs.declared.feed.FeedFault.{FeedFault}
 use Rattle.vx_assemble.specs.declared.feed.FeedFault.TheVariants as feed
 use Rattle.vx_assemble.specs.declared.feed.Step.TheVariants as steps
@@ -13,18 +14,23 @@ use Rattle.vx_assemble.specs.Held.{HasPicture, ShowsLatest, lent_by}
 use Rattle.vx_assemble.specs.Feed.{Feeding, IsOpen, HasFed, Advances}
 use Rattle.vx_write.specs.declared.fault.WriteError.{WriteError}
 use Rattle.vx_write.specs.declared.fault.WriteError.TheVariants as errors
+use Rattle.vx_bits.specs.declared.refusal.Refusal.{Refusal}
 use Rattle.vx_bits.specs.declared.refusal.Refusal.TheVariants.{Merge}
 use Rattle.vx_bits.specs.declared.rules.TheConstants.{LENGTH}
 use Rattle.vx_merge.specs.declared.corner.Corner.{Corner}
 use Rattle.vx_merge.specs.declared.ended.Lengths.TheVariants as lengths
 use Rattle.vx_merge.specs.declared.ended.Lengths.TheVariants.{AllGo, Differ}
 use Rattle.vx_merge.specs.Ends.{IsLengths}
+use Rattle.vx_merge.specs.Merging.{Merging, Stands, Writes}
+use Rattle.vx_app.specs.declared.merge.Work.{Work}
+use Rattle.vx_app.specs.declared.merge.Work.TheVariants.{Check, Write}
 use Rattle.vx_app.specs.declared.stop.Stop.{Stop}
 use Rattle.vx_app.specs.declared.stop.Stop.TheVariants.{Refused, ReadFault, WriteFault, NoMemory}
-use Rattle.vx_app.specs.Change.{Change, Sources, source_at, HasFault}
+use Rattle.vx_app.specs.Change.{Change, Sources, source_at, IsUntouched, HasFault, Gains}
 use Rattle.vx_app.specs.Conclusion.{Outcome}
-use Rattle.vx_app.specs.Extract.{WhereTold}
-use Rattle.vx_app.specs.Merge.{Stream, Judges, RoundsPass, NoneRefused, Ends, in_round, behind_units, OfEach, OfOthers, IsRead, IsReadOut, Rests, RestsRead, IsOfSource, Sees, WhereAllTold}
+use Rattle.vx_app.specs.Extract.{WhereTold, BeginsWith}
+use Rattle.vx_app.specs.Merge.{Stream, Judges, RoundsPass, AreWritten, bytes_of, NoneRefused, Refuses, Ends, in_round, behind_units}
+use Rattle.vx_app.specs.Merge.{OfEach, OfOthers, OthersRest, IsRead, IsReadOut, RestsRead, Sees, WhereAllTold, MergesBy}
 use Rattle.vx_app.specs.inner.Extracting.{HasTaken, HasTakenOne}
 
 -- this holds of each element
@@ -122,6 +128,10 @@ pub record AreAdvancing {A : Type 0} (R : Readers) (sources : Sources A) (feeds 
 abbrev pub so_far : List (List Picture) → List Stream
 so_far taken = map (λ ps. record { pictures = ps; ending = None }) taken
 
+-- each stream begins with these pictures
+abbrev pub Begin : List Stream → List (List Picture) → Type 0
+Begin ss taken = (k : ℕ) (s : Stream) (ps : List Picture) → slice_get ss k ≡ Some s → slice_get taken k ≡ Some ps → BeginsWith s.pictures ps
+
 -- one more picture of each was taken
 pub record AllTake {A : Type 0} (R : Readers) (sources : Sources A) (feeds : List Feeding) (taken : List (List Picture)) (n : ℕ) : Type 0 where
   pub feeds_count : length feeds ≡ length sources.old
@@ -141,13 +151,22 @@ pub record AllEnd {A : Type 0} (R : Readers) (sources : Sources A) (taken : List
 abbrev pub CountsRounds : {A : Type 0} → Readers → List Corner → Sources A → Result ℕ Stop → Type 0
 CountsRounds R corners sources (Ok n) = OfEach sources IsReadOut × WhereAllTold R sources (λ ss. Ends corners ss n (Ok tt))
 CountsRounds R corners sources (Err (Refused r place)) =
-    OfEach sources IsRead × ((k : ℕ) → k < length sources.old → ¬ IsOfSource place k → Rests R (source_at sources k))
-    × WhereAllTold R sources (λ ss. (n : ℕ) × Ends corners ss n (Err (r, place)))
+    OthersRest R place sources × WhereAllTold R sources (λ ss. (n : ℕ) × Ends corners ss n (Err (r, place)))
 CountsRounds R corners sources (Err (ReadFault k)) =
     (k < length sources.old) × HasFault (source_at sources k) × OfOthers k sources (RestsRead R)
     × ((n : ℕ) × Sees R (source_at sources k) n × WhereAllTold R sources (λ ss. RoundsPass corners ss n × NoneRefused k ss n))
 CountsRounds R corners sources (Err NoMemory) = OfEach sources IsRead
 CountsRounds R corners sources (Err _) = ⊥
+
+-- what came of a command whose rounds were taken so
+abbrev pub outcome_of : Result ℕ Stop → Outcome
+outcome_of (Ok n) = Ok tt
+outcome_of (Err stop) = Err stop
+
+-- all rounds were taken, and checked or written
+abbrev pub TakesRounds : {A K : Type 0} → Readers → Work → List Corner → Option ℕ → Sources A → Change K → Result ℕ Stop → Type 0
+TakesRounds R Check corners level sources out result = IsUntouched out × CountsRounds R corners sources result
+TakesRounds R Write corners level sources out result = MergesBy R corners level sources out (outcome_of result)
 
 -- where none has ended, where all have, and else
 abbrev pub GoesBy : List Bool → ℕ → Result Bool Stop → Type 0
@@ -156,13 +175,25 @@ GoesBy ended n (Ok false) = IsLengths ended lengths.AllEnded
 GoesBy ended n (Err (Refused r place)) = (k : ℕ) × IsLengths ended (Differ k) × (r ≡ Merge LENGTH k 0) × (place ≡ in_round n)
 GoesBy ended n (Err _) = ⊥
 
--- all sources were gone on with behind n rounds: one more picture of each was taken; or all have ended; or what `check merge` comes to,
--- where those rounds pass
+-- no round
+abbrev pub bars_none : List Parts → Refusal → Type 0
+bars_none round r = ⊥
+
+-- What stops the command at the sources, behind n rounds of these pictures.
+abbrev pub HaltsBehind : {A : Type 0} → Readers → Sources A → List (List Picture) → ℕ → Stop → Type 0
+HaltsBehind R sources taken n (Refused r place) =
+    OthersRest R place sources × WhereAllTold R sources (λ ss. Begin ss taken × Refuses bars_none ss n r place)
+HaltsBehind R sources taken n (ReadFault k) =
+    (k < length sources.old) × HasFault (source_at sources k) × OfOthers k sources (RestsRead R) × Sees R (source_at sources k) n
+    × WhereAllTold R sources (λ ss. Begin ss taken × NoneRefused k ss n)
+HaltsBehind R sources taken n NoMemory = OfEach sources IsRead × WhereAllTold R sources (λ ss. Begin ss taken)
+HaltsBehind R sources taken n _ = ⊥
+
+-- all sources were gone on with behind n rounds: one more picture of each was taken; or all have ended; or the command is stopped
 abbrev pub AdvancesAll : {A : Type 0} → Readers → Sources A → List Feeding → List (List Picture) → ℕ → Result Bool Stop → Type 0
 AdvancesAll R sources feeds taken n (Ok true) = AllTake R sources feeds taken n
 AdvancesAll R sources feeds taken n (Ok false) = AllEnd R sources taken n
-AdvancesAll R sources feeds taken n (Err stop) =
-    (corners : List Corner) → RoundsPass corners (so_far taken) n → CountsRounds R corners sources (Err stop)
+AdvancesAll R sources feeds taken n (Err stop) = HaltsBehind R sources taken n stop
 
 -- round n, of these pictures, breaks no rule, or one
 abbrev pub ChecksRound : List Corner → List Parts → ℕ → Outcome → Type 0
@@ -171,8 +202,31 @@ ChecksRound corners round n (Err (Refused r place)) = Judges corners round (Some
 ChecksRound corners round n (Err NoMemory) = Unit {0}
 ChecksRound corners round n (Err _) = ⊥
 
--- n rounds pass
-pub record HasMerged {A : Type 0} (R : Readers) (corners : List Corner) (sources : Sources A) (feeds : List Feeding) (n : ℕ) : Type 0 where
+-- round n, of these pictures, was written or wasn't, behind those that are written so, to a sink with these bytes and this count
+abbrev pub WritesRound : List Parts → List Plan → Merging → Option (List ℕ) → Option (List ℕ) → ℕ → ℕ → ℕ → Outcome → Type 0
+WritesRound round done m bytes bytes' faults faults' n (Ok _) = Writes round done m bytes bytes' faults faults' (Ok tt)
+WritesRound round done m bytes bytes' faults faults' n (Err (Refused r place)) =
+    Writes round done m bytes bytes' faults faults' (Err (errors.Refused r)) × (place ≡ in_round n)
+WritesRound round done m bytes bytes' faults faults' n (Err WriteFault) = Writes round done m bytes bytes' faults faults' (Err errors.SinkFailed)
+WritesRound round done m bytes bytes' faults faults' n (Err NoMemory) = Writes round done m bytes bytes' faults faults' (Err errors.Memory)
+WritesRound round done m bytes bytes' faults faults' n (Err _) = ⊥
+
+-- The merger has written n rounds of these pictures.
+pub record HasWritten {K : Type 0} (corners : List Corner) (level : Option ℕ) (out : Change K) (m : Merging) (taken : List (List Picture))
+    (n : ℕ) : Type 0 where
+  pub done : List Plan
+  pub count : length done ≡ n
+  pub stands : Stands m done
+  pub plans : AreWritten corners level (so_far taken) done
+  pub gained : Gains out (bytes_of done)
+
+-- n rounds of these pictures were checked or written
+abbrev pub WasDone : {K : Type 0} → Work → List Corner → Option ℕ → Change K → Merging → List (List Picture) → ℕ → Type 0
+WasDone Check corners level out m taken n = IsUntouched out × (m.first ≡ None) × RoundsPass corners (so_far taken) n
+WasDone Write corners level out m taken n = HasWritten corners level out m taken n
+
+pub record HasDone {A K : Type 0} (R : Readers) (work : Work) (corners : List Corner) (level : Option ℕ) (sources : Sources A) (out : Change K)
+    (feeds : List Feeding) (m : Merging) (n : ℕ) : Type 0 where
   pub taken : List (List Picture)
   pub waiting : AreWaiting R sources feeds taken n
-  pub pass : RoundsPass corners (so_far taken) n
+  pub done : WasDone work corners level out m taken n

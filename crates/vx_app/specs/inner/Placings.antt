@@ -1,9 +1,9 @@
 -- Words `X,Y=FILE`, and their parts.
-use Rattle.std.specs.Prelude.{◌≡◌, ℕ, ◌==◌, List, Bool}
+use Rattle.std.specs.Prelude.{◌≡◌, ℕ, ◌<◌, ◌==◌, List, length, Bool}
 use Rattle.std.specs.List.{AllByRecursion, before_first, after_first}
 use Rattle.std.specs.Str.Parse.{digits_value}
 use Rattle.vx_app.specs.declared.words.Command.{Command}
-use Rattle.vx_app.specs.declared.words.Command.TheVariants.{Show, Extract, CheckExtract, CheckMerge, Help, Version}
+use Rattle.vx_app.specs.declared.words.Command.TheVariants.{Show, Extract, CheckExtract, Merge, CheckMerge, Help, Version}
 use Rattle.vx_app.specs.declared.words.Placing.{Placing as Placed}
 use Rattle.vx_app.specs.Grammar.{Placing, placing_word, IsPlacing, texts}
 
@@ -33,11 +33,16 @@ pub record Spells (word : List ℕ) (p : Placing) : Type 0 where
 abbrev pub IsPlacingWord : List ℕ → Type 0
 IsPlacingWord word = (p : Placing) × Spells word p
 
+-- there are words, and each does
+abbrev pub PlaceFiles : List (List ℕ) → Type 0
+PlaceFiles words = (0 < length words) × AllByRecursion IsPlacingWord words
+
 -- the words of a merge do
 abbrev pub HasPlacings : Command → Type 0
 HasPlacings (Show file) = Unit {0}
 HasPlacings (Extract tid level index file) = Unit {0}
 HasPlacings (CheckExtract tid index file) = Unit {0}
+HasPlacings (Merge level placings) = AllByRecursion IsPlacingWord (texts placings.now)
 HasPlacings (CheckMerge placings) = AllByRecursion IsPlacingWord (texts placings.now)
 HasPlacings Help = Unit {0}
 HasPlacings Version = Unit {0}

@@ -33,7 +33,7 @@ returns-in_err-goes-clause-answer g c R of first taken w =
     let others : (j : ℕ) → j ≢ k → slice_get (slice_set l k s') j ≡ slice_get l j = λ j other. set_other l j k s' other in
     let waits = waits_here _ _ R first l (slice_set l k s') feeds taken c.args.rounds k c.loop-k.ended.items adv f f' ps.0 at ps.1 others in
     let end = end_after _ l k s s' within c.index_mut-in-loop-k.ensures.value f f' c.advance.ensures.end (taken_ended _ _ R first l k f ps.0 waits) in
-    rw (p.1, p.2) (λ corners pass. source_stops _ _ R first l (slice_set l k s') feeds taken c.args.rounds k c.loop-k.ended.items adv f f' ps.0 at ps.1 others corners pass end c.in_err-goes.field-0.0
+    rw (p.1, p.2) (source_stops _ _ R first l (slice_set l k s') feeds taken c.args.rounds k c.loop-k.ended.items adv f f' ps.0 at ps.1 others end c.in_err-goes.field-0.0
     (advanced_at _ _ R first l k s s' within c.index_mut-in-loop-k.ensures.value f f' ps.0 waits (Err c.in_err-goes.field-0.0) (c.in_err-goes.ensures.answer R of)))
 
 pub loop-k-preserved : goal.loop-k-preserved

@@ -6,10 +6,10 @@ use Rattle.vx_app.proofs.merge.check_merge.Goals as goal
 pub returns-then-placings-gt-MOST_SOURCES-clause-checks : goal.returns-then-placings-gt-MOST_SOURCES-clause-checks
 returns-then-placings-gt-MOST_SOURCES-clause-checks g c =
     let count = many_corners c.args.placings.now in
-    record { stop = too_many_stop c.too_many.result c.too_many.ensures; many = λ many. (c.too_many.ensures, refl, refl); checks = λ few. absurd (omega (arith, few, count)) }
+    record { stop = too_many_stop c.too_many.result c.too_many.ensures; many = λ many. (c.too_many.ensures, refl, refl); few = λ few. absurd (omega (arith, few, count)) }
 
 -- or not
 pub returns-clause-checks : goal.returns-clause-checks
 returns-clause-checks g c =
     let count = many_corners c.args.placings.now in
-    record { stop = c.check_rounds.ensures.stop; many = λ many. absurd (omega (arith, many, count)); checks = λ few. c.check_rounds.ensures.checks }
+    record { stop = c.check_rounds.ensures.stop; many = λ many. absurd (omega (arith, many, count)); few = λ few. c.check_rounds.ensures.checks }

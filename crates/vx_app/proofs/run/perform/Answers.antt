@@ -1,5 +1,5 @@
 use Rattle.std.proofs.Common.{◌<◌, length, map, arith, refl, None}
-use Rattle.vx_app.specs.Grammar.{show, extract, check_extract, check_merge, help, version, texts}
+use Rattle.vx_app.specs.Grammar.{show, extract, check_extract, merge, check_merge, help, version, texts}
 use Rattle.vx_app.specs.inner.Placings.{placing_in}
 use Rattle.vx_app.proofs.Performing.{names-file, performs, performs-show, performs-extract, performs-check, merge_count}
 use Rattle.vx_app.proofs.run.perform.Goals as goal
@@ -37,10 +37,20 @@ returns-in-Some-CheckExtract-clause-performs g c =
 
 -- ---- merges
 
+pub merge-requires : goal.merge-requires
+merge-requires g c =
+    let spelled = rw c.in-Some-Merge.field-0-is at c.in-Some-Merge.ensures.some in
+    let count = merge_count _ _ (merge c.in-Some-Merge.level (map placing_in (texts c.in-Some-Merge.placings.now))) c.in-Some-Merge.placings.now refl c.requires spelled spelled.named.1 in
+    record { words = rw c.in-Some-Merge.field-0-is at c.in-Some-Merge.ensures.placings; some = count.0; count = count.1 }
+
+pub returns-in-Some-Merge-clause-performs : goal.returns-in-Some-Merge-clause-performs
+returns-in-Some-Merge-clause-performs g c =
+    performs _ _ _ _ (merge c.in-Some-Merge.level (map placing_in (texts c.in-Some-Merge.placings.now))) (rw c.in-Some-Merge.field-0-is at c.in-Some-Merge.ensures.some) c.merge.ensures.merges
+
 pub check_merge-requires : goal.check_merge-requires
 check_merge-requires g c =
     let spelled = rw c.in-Some-CheckMerge.field-0-is at c.in-Some-CheckMerge.ensures.some in
-    let count = merge_count _ _ c.in-Some-CheckMerge.placings.now c.requires spelled in
+    let count = merge_count _ _ (check_merge (map placing_in (texts c.in-Some-CheckMerge.placings.now))) c.in-Some-CheckMerge.placings.now refl c.requires spelled spelled.named.0 in
     record { words = rw c.in-Some-CheckMerge.field-0-is at c.in-Some-CheckMerge.ensures.placings; some = count.0; count = count.1 }
 
 pub returns-in-Some-CheckMerge-clause-performs : goal.returns-in-Some-CheckMerge-clause-performs

@@ -1,9 +1,10 @@
-use Rattle.vx_app.proofs.Ending.{exact-done, exact-stopped, extracts-done, extracts-stopped, words-stopped, merges-done, merges-stopped, many-done, many-stopped}
+use Rattle.vx_app.proofs.Ending.{exact-done, exact-stopped, extracts-done, extracts-stopped, words-stopped, checks-done, checks-stopped, merges-done, merges-stopped, many-done, many-stopped}
 use Rattle.vx_app.proofs.Once.{ends_once}
 use Rattle.vx_app.proofs.Performing.{merge_some}
 use Rattle.vx_merge.specs.Rules.{rules_of}
 use Rattle.vx_merge.proofs.Verdicts.{verdict_one}
-use Rattle.std.proofs.Common.{◌<◌, length, vec_len, arith}
+use Rattle.std.proofs.Common.{◌<◌, length, vec_len, refl, arith}
+use Rattle.vx_app.specs.Grammar.{merge, check_merge}
 use Rattle.vx_app.specs.Merge.{EndsOnce}
 use Rattle.vx_app.proofs.run.run.Goals as goal
 
@@ -26,17 +27,26 @@ returns-in-Err-clause-extracts g c R of command task spelled is = extracts-stopp
 once : EndsOnce
 once = ends_once (λ corners round a b first second. verdict_one (length corners) (rules_of corners round) a b first second)
 
+pub returns-in-Ok-clause-checks : goal.returns-in-Ok-clause-checks
+returns-in-Ok-clause-checks g c R of placings spelled few read write fits = checks-done _ _ _ placings spelled few R of c.in-Ok.ensures.performs
+
+pub returns-in-Err-clause-checks : goal.returns-in-Err-clause-checks
+returns-in-Err-clause-checks g c R of placings spelled few read =
+    let some : 0 < length c.args.sources.now.items = omega (arith, merge_some _ _ (check_merge placings) placings refl c.requires spelled spelled.named.0) in
+    checks-stopped _ _ _ placings spelled few once R of _ c.in-Err.stop c.conclude.result some c.in-Err.ensures.performs c.conclude.ensures
+    (λ k within. let fits : k < vec_len c.args.sources.now = omega (arith, within) in read k fits)
+
 pub returns-in-Ok-clause-merges : goal.returns-in-Ok-clause-merges
-returns-in-Ok-clause-merges g c R of placings spelled few read write fits = merges-done _ _ _ placings spelled R of c.in-Ok.ensures.performs few
+returns-in-Ok-clause-merges g c R of level placings spelled few read write fits = merges-done _ _ _ level placings spelled few R of c.in-Ok.ensures.performs
 
 pub returns-in-Err-clause-merges : goal.returns-in-Err-clause-merges
-returns-in-Err-clause-merges g c R of placings spelled few read =
-    let some : 0 < length c.args.sources.now.items = omega (arith, merge_some _ _ placings c.requires spelled) in
-    merges-stopped _ _ _ placings spelled once R of _ c.in-Err.stop c.conclude.result some c.in-Err.ensures.performs c.conclude.ensures few
+returns-in-Err-clause-merges g c R of level placings spelled few read =
+    let some : 0 < length c.args.sources.now.items = omega (arith, merge_some _ _ (merge level placings) placings refl c.requires spelled spelled.named.1) in
+    merges-stopped _ _ _ level placings spelled few once R of _ c.in-Err.stop c.conclude.result some c.in-Err.ensures.performs c.conclude.ensures
     (λ k within. let fits : k < vec_len c.args.sources.now = omega (arith, within) in read k fits)
 
 pub returns-in-Ok-clause-many : goal.returns-in-Ok-clause-many
-returns-in-Ok-clause-many g c placings spelled many fits = many-done _ _ _ placings spelled 0 c.in-Ok.ensures.performs many
+returns-in-Ok-clause-many g c command placings spelled is many fits = many-done _ _ _ command placings spelled is many 0 c.in-Ok.ensures.performs
 
 pub returns-in-Err-clause-many : goal.returns-in-Err-clause-many
-returns-in-Err-clause-many g c placings spelled many = many-stopped _ _ _ placings spelled _ c.in-Err.stop c.conclude.result c.in-Err.ensures.performs c.conclude.ensures many
+returns-in-Err-clause-many g c command placings spelled is many = many-stopped _ _ _ command placings spelled is many _ c.in-Err.stop c.conclude.result c.in-Err.ensures.performs c.conclude.ensures
