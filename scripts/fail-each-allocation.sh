@@ -1,11 +1,12 @@
 #!/bin/bash
 # Has each allocation fail in turn, in every test and in runs of the program, and counts what comes of it. Contracts
 # leave open when memory runs out; this shows that then nothing else changes. A test must fail for want of memory, and
-# `show` must answer 4 behind the lines of whole units, `extract` behind what is written of whole pictures, and `check
-# extract` without its line; or each as ever, where it can do without. What is neither is printed, and makes the status 1.
+# `show` must answer 4 behind the lines of whole units, `extract` and `merge` behind what is written of whole pictures,
+# and `check` without its line; or each as ever, where it can do without. What is neither is printed, and makes the status 1.
 # No test of the gate: only how the C library is called is looked at.
-# Usage: scripts/fail-each-allocation.sh [CRATE..]   (from the top of the repository; all crates and the program if none
-# is named; proves what it runs first, and needs cc; LAST=N stops behind the first N allocations, 20,000 if left out)
+# Usage: scripts/fail-each-allocation.sh [CRATE|program ..]   (from the top of the repository; all crates and the program
+# if none is named; proves what it runs first, and needs cc; LAST=N stops behind the first N allocations, 20,000 if left
+# out)
 set -euo pipefail
 work=$(mktemp -d)
 trap 'rm -rf "$work"' EXIT
@@ -81,27 +82,41 @@ fail_each() {
   echo "$name: $count allocations, want of memory at $memory, as ever at $ever"
 }
 
-for crate in ${*:-$(grep -rl '#\[test\]' crates/*/src | cut -d/ -f2 | sort -u)}; do
-  (cd "crates/$crate" && rt test > "$work/log" 2>&1) || { tail -40 "$work/log"; exit 1; }
-  tests=$PWD/crates/$crate/out/${crate}_tests
+# Has each allocation of each test of a crate fail.
+fail_tests() {
+  local tests=$PWD/crates/$1/out/$1_tests test
+  (cd "crates/$1" && rt test > "$work/log" 2>&1) || { tail -40 "$work/log"; exit 1; }
   for test in $("$tests" --list | grep -o '^.*: test$' | cut -d' ' -f1); do
-    fail_each "$crate ${test%:}" test_wants "$tests" "${test%:}"
+    fail_each "$1 ${test%:}" test_wants "$tests" "${test%:}"
   done
-done
+}
 
-[ $# = 0 ] || exit "$neither"
-# The program: a stored stream, and one that is refused behind the same units; a subpicture of a stored merge three
-# times over, of one that is refused behind it, and whether it can be extracted.
-(cd crates/vx_app && rt run -- show data/a.266 > "$work/log" 2>&1) || { tail -40 "$work/log"; exit 1; }
-program=$PWD/crates/vx_app/out/vx_app
-cp crates/vx_app/data/a.266 "$work/stored.266"
-{ cat "$work/stored.266"; printf '\0\0\1\x80\x79'; } > "$work/refused.266"
-fail_each "show, a stored stream" program_wants "$program" show "$work/stored.266"
-fail_each "show, a refused stream" program_wants "$program" show "$work/refused.266"
-cat crates/vx_app/data/m.266 crates/vx_app/data/m.266 crates/vx_app/data/m.266 > "$work/merge.266"
-{ cat "$work/merge.266"; printf '\0\0\1\x80\x79'; } > "$work/cut.266"
-picture=$("$program" extract 1 crates/vx_app/data/m.266 | wc -c)
-fail_each "extract, a stored merge" stream_wants "$program" extract 1 "$work/merge.266"
-fail_each "extract, a refused one" stream_wants "$program" extract 1 "$work/cut.266"
-fail_each "check extract, a stored merge" program_wants "$program" check extract 1 "$work/merge.266"
+# Has each allocation of the program fail: over a stored stream, and one that is refused behind the same units; over a
+# stored merge three times, of which a subpicture is taken, and one that is refused behind it; over two stored streams
+# side by side, that can be put together, or can't.
+fail_program() {
+  local program=$PWD/crates/vx_app/out/vx_app data=crates/vx_app/data
+  (cd crates/vx_app && rt run -- show data/a.266 > "$work/log" 2>&1) || { tail -40 "$work/log"; exit 1; }
+  cp "$data/a.266" "$work/stored.266"
+  { cat "$work/stored.266"; printf '\0\0\1\x80\x79'; } > "$work/refused.266"
+  cat "$data/a.266" "$data/a.266" > "$work/twice.266"
+  cat "$data/m.266" "$data/m.266" "$data/m.266" > "$work/merge.266"
+  { cat "$work/merge.266"; printf '\0\0\1\x80\x79'; } > "$work/cut.266"
+  picture=$("$program" extract 1 "$data/m.266" | wc -c)
+  fail_each "show, a stored stream" program_wants "$program" show "$work/stored.266"
+  fail_each "show, a refused stream" program_wants "$program" show "$work/refused.266"
+  fail_each "extract, a stored merge" stream_wants "$program" extract 1 "$work/merge.266"
+  fail_each "extract, a refused one" stream_wants "$program" extract 1 "$work/cut.266"
+  fail_each "check extract, a stored merge" program_wants "$program" check extract 1 "$work/merge.266"
+  fail_each "check merge, two stored streams" program_wants \
+    "$program" check merge "0,0=$work/twice.266" "64,0=$work/twice.266"
+  fail_each "check merge, one above the other" program_wants \
+    "$program" check merge "0,0=$work/twice.266" "32,0=$work/twice.266"
+  picture=$("$program" merge "0,0=$data/a.266" "64,0=$data/a.266" | wc -c)
+  fail_each "merge, two stored streams" stream_wants "$program" merge "0,0=$work/twice.266" "64,0=$work/twice.266"
+}
+
+for name in ${*:-$(grep -rl '#\[test\]' crates/*/src | cut -d/ -f2 | sort -u) program}; do
+  if [ "$name" = program ]; then fail_program; else fail_tests "$name"; fi
+done
 exit "$neither"
