@@ -8,12 +8,7 @@ header, or `slice ..` with `| header` and those of the picture header inside. An
 """
 import sys
 
-
-def hashed(text):
-    number = 0xCBF29CE484222325
-    for byte in text.encode():
-        number = (number ^ byte) * 0x100000001B3 % 2**64
-    return f"0x{number:016x}"
+from hashes import hashed
 
 
 def bytes_of(rbsp):
