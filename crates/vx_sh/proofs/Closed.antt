@@ -1,6 +1,6 @@
 -- Anything may follow a slice header; and what is written of it is read again.
 use Rattle.std.proofs.Common.{◌≡◌, ℕ, ℤ, ◌+◌, ◌*◌, Bool, List, [], ◌∷◌, ◌++◌, length, refl, ap, sym, subst, ◌∙◌, arith}
-use Rattle.std.proofs.lemmas.List.{length-append, take_at}
+use Rattle.std.proofs.lemmas.List.{append-nil, length-append, take_at}
 use Rattle.vx_bits.specs.declared.list.Item.{Item}
 use Rattle.vx_bits.specs.Codes.{bits_of, EndsInNoZero}
 use Rattle.vx_table.specs.Scope.{is_set}
@@ -17,16 +17,22 @@ use Rattle.vx_table.proofs.Apart.{reads_one_way}
 use Rattle.vx_table.proofs.EachField.{each_then, each_present, each_of_rows}
 use Rattle.vx_table.proofs.Joined.{joined}
 use Rattle.vx_table.proofs.Spelled.{reads_back}
-use Rattle.vx_fields.specs.declared.sh.TheConstants.{sh_picture_header_in_slice_header_flag}
+use Rattle.vx_fields.specs.declared.sh.TheConstants.{sh_picture_header_in_slice_header_flag, sh_slice_address, sh_subpic_id}
+use Rattle.vx_table.specs.Loaded.{number}
+use Rattle.vx_rpl.specs.HeaderLists.{lists_of}
 use Rattle.vx_rpl.specs.declared.entry.RplTable.{RplTable}
 use Rattle.vx_ph.specs.Header.{header_form}
 use Rattle.vx_ph.proofs.Opening.{Opens, header_opens, row_is_open, row_opens}
 use Rattle.vx_sh.specs.declared.tables.TheConstants.{HEADER_INSIDE}
-use Rattle.vx_sh.specs.Whole.{At, behind_header, header_inside, slice_form}
-use Rattle.vx_sh.specs.Value.{AreFields, values_of, IsSpelling, SpellingIsRead, SpellingBegins}
+use Rattle.vx_sh.specs.Whole.{At, behind_header, header_inside, index_of, slice_form}
+use Rattle.vx_sh.specs.declared.header.SliceHeader.{SliceHeader}
+use Rattle.vx_sh.specs.InForce.{in_force_at}
+use Rattle.vx_sh.specs.Reshaped.{ReshapedIsReadAgain}
+use Rattle.vx_sh.specs.Value.{AreFields, values_of, BeginsSlice, IsSpelling, NoProperPrefix, SpellingIsRead, SpellingBegins, TellsNumbers}
 use Rattle.vx_sh.proofs.Depending.{Pass, behind_each}
 use Rattle.vx_sh.proofs.Sized.{all_follow}
 use Rattle.vx_sh.proofs.Told.{numbers_are_told}
+use Rattle.vx_sh.proofs.Scopes.{slice_scopes_are_whole}
 
 -- ---- anything may follow
 
@@ -106,4 +112,47 @@ spelling_begins n header others bytes payload size tells is =
       };
       size = omega (arith, length-append bytes payload, length-bits_of payload);
       last = subst EndsInNoZero (sym (take_at bytes payload (length bytes) refl)) is.last;
+    }
+
+-- ---- no spelling is a proper prefix of another's
+
+none_left : (bytes : List ℕ) → length (bits_of bytes) ≡ 0 → bytes ≡ []
+none_left [] none = refl
+none_left (b ∷ bytes) none = absurd (omega (arith, none, length-bits_of (b ∷ bytes)))
+
+pub no_proper_prefix : NoProperPrefix
+no_proper_prefix n fields others header other bytes more is of =
+    let whole = spelled_again n others other (bytes ++ more) [] of in
+    let one = reads_one_way (slice_form n) (8 * length (bytes ++ more)) (values_of is.is.slice) (values_of of.is.slice) (bits_of (bytes ++ more)) (bits_of more) []
+    (spelled_again n fields header bytes more is) (rw (append-nil (bytes ++ more)) at whole) in
+    (same_fields n fields others is.is.inside of.is.inside is.is.slice of.is.slice one.0, none_left more (ap length one.1))
+
+-- ---- a rewritten slice header
+
+-- slice headers with the same parts are the same
+same_header : (a b : SliceHeader) → a.inside ≡ b.inside → a.fields ≡ b.fields → a.subpic ≡ b.subpic → a.address ≡ b.address → a.lists ≡ b.lists → a ≡ b
+same_header a b inside fields subpic address lists = rw (inside, fields, subpic, address, lists) refl
+
+-- what is read of the spelling of a header whose numbers its items tell is that header
+read_as_written : (n : At) (written read : SliceHeader) (others : List Item) (bytes payload : List ℕ) (size : ℕ) → length n.slice ≡ 1024
+    → TellsNumbers n written → IsSpelling n written.fields others bytes → BeginsSlice n (bytes ++ payload) read size
+    → (read ≡ written) × (size ≡ length bytes)
+read_as_written n written read others bytes payload size whole tells is begins =
+    let one = spelling_is_read n written.fields others bytes payload read size is begins in
+    let told = numbers_are_told n read.fields begins.inside begins.fields whole in
+    let has = begins.numbers in (
+      same_header read written (has.inside ∙ ap is_set (told.inside ∙ ap (λ f. number f sh_picture_header_in_slice_header_flag) one.0) ∙ sym tells.inside) one.0
+          (has.subpic ∙ told.subpic ∙ ap (λ f. index_of (number f sh_subpic_id) n.ids) one.0 ∙ sym tells.subpic)
+          (has.address ∙ told.address ∙ ap (λ f. number f sh_slice_address) one.0 ∙ sym tells.address)
+          (has.lists ∙ ap (lists_of n.table n.sets) one.0 ∙ sym tells.lists),
+      one.1,
+    )
+
+pub reshaped_is_read_again : ReshapedIsReadAgain
+reshaped_is_read_again source written shape n bytes payload reshaped tells is =
+    let whole = slice_scopes_are_whole n.nal_type n.sps.now n.pps.now n.header.now in
+    record {
+      begins = spelling_begins (in_force_at n) written n.header.now.fields bytes payload whole tells is;
+      only = λ read size begins. read_as_written (in_force_at n) written read n.header.now.fields bytes payload size whole tells is begins;
+      kept = reshaped.fields.kept;
     }

@@ -26,8 +26,8 @@ use Rattle.vx_sh.specs.declared.numbers.SliceNumbers.{SliceNumbers}
 use Rattle.vx_sh.specs.declared.shape.ShShape.{ShShape}
 use Rattle.vx_sh.specs.Depends.{kept_fields, kept_given}
 use Rattle.vx_sh.specs.InForce.{at_sets, in_force_at, slice_scope}
-use Rattle.vx_sh.specs.Value.{AreFields, HasNumbers}
-use Rattle.vx_sh.specs.Whole.{index_of, points_at, slices_at}
+use Rattle.vx_sh.specs.Value.{AreFields, BeginsSlice, HasNumbers, IsSpelling, TellsNumbers}
+use Rattle.vx_sh.specs.Whole.{At, index_of, points_at, slices_at}
 
 -- ---- what is stated, in the order of the syntax
 
@@ -119,6 +119,19 @@ pub record IsReshaped (source : SliceHeader) (shape : ShShape) (n : SliceNumbers
   pub subpic : written.subpic ≡ index_of shape.subpic_id n.ids.now
   pub address : written.address ≡ source.address
   pub lists : written.lists ≡ source.lists
+
+-- What is written of it begins an RBSP, whatever payload follows, and is read as nothing but it, of the same bytes; and its kept fields
+-- are the source's.
+pub record IsReadAgain (source written : SliceHeader) (n : At) (bytes payload : List ℕ) : Type 0 where
+  pub begins : BeginsSlice n (bytes ++ payload) written (length bytes)
+  pub only : (read : SliceHeader) (size : ℕ) → BeginsSlice n (bytes ++ payload) read size → (read ≡ written) × (size ≡ length bytes)
+  pub kept : shown_items (set_of kept_fields) written.fields ≡ shown_items (set_of kept_fields) source.fields
+
+abbrev pub ReshapedIsReadAgain : Type 0
+ReshapedIsReadAgain = (source written : SliceHeader) (shape : ShShape) (n : SliceNumbers) (bytes payload : List ℕ)
+    → IsReshaped source shape n written → TellsNumbers (in_force_at n) written
+    → IsSpelling (in_force_at n) written.fields n.header.now.fields bytes
+    → IsReadAgain source written (in_force_at n) bytes payload
 
 -- ---- sets and picture headers with the same kept fields
 

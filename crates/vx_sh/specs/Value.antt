@@ -1,5 +1,5 @@
 -- A slice header as a value: what is read and what is written of it.
-use Rattle.std.specs.Prelude.{◌≡◌, ℕ, ℤ, ◌+◌, ◌*◌, ◌<◌, Bool, true, false, List, ◌++◌, length, take, drop, slice_index, Result, Ok, Err}
+use Rattle.std.specs.Prelude.{◌≡◌, ℕ, ℤ, ◌+◌, ◌*◌, ◌<◌, Bool, true, false, List, [], ◌++◌, length, take, drop, slice_index, Result, Ok, Err}
 use Rattle.vx_bits.specs.declared.list.Item.{Item}
 use Rattle.vx_bits.specs.declared.refusal.ReadError.{ReadError}
 use Rattle.vx_bits.specs.declared.refusal.ReadError.TheVariants as errors
@@ -113,3 +113,8 @@ pub record CanBeWritten (n : At) (rbsp : List ℕ) (header : SliceHeader) : Type
 
 abbrev pub ReadCanBeWritten : Type 0
 ReadCanBeWritten = (n : At) (rbsp : List ℕ) (header : SliceHeader) (size : ℕ) → BeginsSlice n rbsp header size → CanBeWritten n rbsp header
+
+-- No spelling of a slice header is a proper prefix of another's.
+abbrev pub NoProperPrefix : Type 0
+NoProperPrefix = (n : At) (fields others header other : List Item) (bytes more : List ℕ)
+    → IsSpelling n fields header bytes → IsSpelling n others other (bytes ++ more) → (fields ≡ others) × (more ≡ [])

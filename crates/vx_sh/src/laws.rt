@@ -5,8 +5,8 @@ ghost use Rattle.vx_sh.specs.Again.{SlicesReadAgain, SlicesRewrite};
 ghost use Rattle.vx_sh.specs.Elsewhere.{SliceReadElsewhere};
 ghost use Rattle.vx_sh.specs.Filter.{SliceHasFilter};
 ghost use Rattle.vx_sh.specs.InForce.{SliceScopesAgree, SliceScopesAreWhole};
-ghost use Rattle.vx_sh.specs.Reshaped.{SlicesAgreeOnKept};
-ghost use Rattle.vx_sh.specs.Value.{NumbersAreTold, ReadCanBeWritten, SpellingBegins, SpellingIsRead};
+ghost use Rattle.vx_sh.specs.Reshaped.{ReshapedIsReadAgain, SlicesAgreeOnKept};
+ghost use Rattle.vx_sh.specs.Value.{NoProperPrefix, NumbersAreTold, ReadCanBeWritten, SpellingBegins, SpellingIsRead};
 
 /// The kept fields of a slice header behind the id of its subpicture depend on kept fields alone, and the other fields on a
 /// few with a star beside these.
@@ -47,6 +47,16 @@ pub fn read_can_be_written()
 pub fn spelling_is_read()
     ensures read { SpellingIsRead }
     ensures begins { SpellingBegins }
+{}
+
+/// No spelling of a slice header is a proper prefix of another's.
+pub fn no_proper_prefix()
+    ensures { NoProperPrefix }
+{}
+
+/// What is written of a rewritten slice header is read as it, whatever payload follows, and its kept fields are its source's.
+pub fn reshaped_is_read_again()
+    ensures { ReshapedIsReadAgain }
 {}
 
 /// Slices under sets and picture headers that give some fields the same numbers are read at scopes that agree on these.
