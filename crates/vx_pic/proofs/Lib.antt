@@ -2,6 +2,7 @@
 pub mod Going
 pub mod Stream
 pub mod Placed
+pub mod ByPlaces
 pub mod Counting
 pub mod Fitting
 pub mod Again

@@ -1,6 +1,9 @@
 -- What the definition of pictures comes to, whatever sets and headers are read as.
-use Rattle.std.specs.Prelude.{◌≡◌, ℕ, ◌<◌, Bool, true, false, List, ◌++◌, [], All, slice_get, Option, Some, None}
-use Rattle.vx_pic.specs.Readings.{Reading, latest, sps_in, pps_in, aps_in, Picture}
+use Rattle.std.specs.Prelude.{◌≡◌, ℕ, suc, ◌<◌, ◌≤◌, Bool, true, false, List, [], ◌∷◌, ◌++◌, length, take, drop, reverse, flat_map, All}
+use Rattle.std.specs.Prelude.{slice_get, Option, Some, None}
+use Rattle.vx_sei.specs.declared.message.Message.{Message}
+use Rattle.vx_pic.specs.Readings.{Slice, Reading, messages_read, header_read, first_slice, next_slice, latest, sps_in, pps_in, aps_in}
+use Rattle.vx_pic.specs.Readings.{gathered, Picture, is_slice, going, current}
 use Rattle.vx_pic.specs.Counts.{is_tid0_picture, counts_of, no_counts, previous}
 use Rattle.vx_pic.specs.Rules.{Readers}
 use Rattle.vx_pic.specs.Streams.{read_on, unless_refused, pictures_of}
@@ -77,3 +80,45 @@ PreviousByPlaces =
     ((earlier : List Picture) (n : ℕ) (p : Picture) → IsPrevTid0At earlier n p → previous earlier ≡ counts_of p)
     × ((earlier : List Picture) → ((k : ℕ) (q : Picture) → slice_get earlier k ≡ Some q → is_tid0_picture q ≡ false)
     → previous earlier ≡ no_counts)
+
+-- no slice is among the last n, and what stands before these is one, where anything does
+pub record IsSinceSlice (before : List Reading) (n : ℕ) : Type 0 where
+  pub within : n ≤ length before
+  pub later : (k : ℕ) (r : Reading) → k < n → slice_get before k ≡ Some r → is_slice r ≡ false
+  pub slice : (r : Reading) → slice_get before n ≡ Some r → is_slice r ≡ true
+
+-- the messages of a unit, and the further slice that it is
+abbrev pub messages_in : Reading → List Message
+messages_in (messages_read messages) = messages
+messages_in _ = []
+
+abbrev pub further_in : Reading → List Slice
+further_in (next_slice s) = s ∷ []
+further_in _ = []
+
+-- Messages are gathered of the units since the last slice, in the order of the units.
+abbrev pub GatheredByPlaces : Type 0
+GatheredByPlaces = (before : List Reading)
+    → ((n : ℕ) × IsSinceSlice before n)
+    × ((n : ℕ) → IsSinceSlice before n → gathered before ≡ flat_map messages_in (reverse (take n before)))
+
+-- a picture begins
+abbrev pub is_start : Reading → Bool
+is_start (header_read b) = true
+is_start (first_slice b k s) = true
+is_start _ = false
+
+-- The picture's first slice stands at this place, and no other picture began later: its slices are that one and all further ones, in
+-- the order of the units.
+pub record IsPictureAt (before : List Reading) (n : ℕ) (p : Picture) : Type 0 where
+  pub slice : Slice
+  pub here : slice_get before n ≡ Some (first_slice p.begun p.kind slice)
+  pub later : (k : ℕ) (r : Reading) → k < n → slice_get before k ≡ Some r → is_start r ≡ false
+  pub earlier : p.before ≡ drop (suc n) before
+  pub slices : p.slices ≡ slice ∷ flat_map further_in (reverse (take n before))
+
+-- The picture that was begun last, where a slice of it came, is that of the last first slice, behind which no picture began.
+abbrev pub CurrentByPlaces : Type 0
+CurrentByPlaces = (before : List Reading) (p : Picture)
+    → (current before ≡ going p → (n : ℕ) × IsPictureAt before n p)
+    × ((n : ℕ) → IsPictureAt before n p → current before ≡ going p)

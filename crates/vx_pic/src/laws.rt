@@ -5,7 +5,8 @@ ghost use Rattle.vx_pic.specs.Edited.{EditsArePlanned};
 ghost use Rattle.vx_pic.specs.Finished.{PicturesAreFinished};
 ghost use Rattle.vx_pic.specs.Resident.{NeededIsStored, NeededIsBody, WrittenReadsAgain};
 ghost use Rattle.vx_pic.specs.Laws.{ReadingGoesOn, PicturesStay, PicturesAreUnique, PicturesExist, SeenPicturesStay};
-ghost use Rattle.vx_pic.specs.Laws.{StoredByPlaces, PreviousByPlaces, PlansReadAgain, WrittenHasPictures};
+ghost use Rattle.vx_pic.specs.Laws.{StoredByPlaces, GatheredByPlaces, CurrentByPlaces, PreviousByPlaces};
+ghost use Rattle.vx_pic.specs.Laws.{PlansReadAgain, WrittenHasPictures};
 
 /// More units are read behind those before them, unless one of these is refused.
 pub fn reading_goes_on()
@@ -35,6 +36,16 @@ pub fn seen_pictures_stay()
 /// The sets in force are those of the last units of their ids.
 pub fn stored_by_places()
     ensures { StoredByPlaces }
+{}
+
+/// Messages are gathered of the units since the last slice, in the order of the units.
+pub fn gathered_by_places()
+    ensures { GatheredByPlaces }
+{}
+
+/// The picture that was begun last has the slice with which it began, and all slices behind it, in the order of the units.
+pub fn current_by_places()
+    ensures { CurrentByPlaces }
 {}
 
 /// prevTid0Pic is the last picture that can be it (H.266 8.3.1).

@@ -36,10 +36,10 @@ pub use input::{DecodingInput, decoding_input};
 pub use kept_fields::kept_of_header;
 pub use kind::Kind;
 pub use laws::{
-    alike_is_next, edits_are_planned, needed_is_body, needed_is_stored, pictures_are_finished,
-    pictures_are_unique, pictures_exist, pictures_stay, plans_read_again, previous_by_places,
-    reading_goes_on, seen_pictures_stay, stored_by_places, written_has_pictures,
-    written_reads_again,
+    alike_is_next, current_by_places, edits_are_planned, gathered_by_places, needed_is_body,
+    needed_is_stored, pictures_are_finished, pictures_are_unique, pictures_exist, pictures_stay,
+    plans_read_again, previous_by_places, reading_goes_on, seen_pictures_stay, stored_by_places,
+    written_has_pictures, written_reads_again,
 };
 pub use laws_readers::{readers_are_unique, readers_exist};
 pub use laws_sublayers::{all_are_kept, kept_are_finished};
