@@ -140,8 +140,7 @@ module _ {A K E : Type 0} (once : EndsOnce) (R : Readers) (corners : List Corner
   merge-stopped : (stop : Stop) (status : ℕ) → ChecksMergeBy R corners sources out (Err stop) → Concludes stop status err → ((k : ℕ) → k < length sources.old → ¬ HasFault (source_at sources k)) → ¬ HasFault out → status ≢ 4
       → WhereAllTold R sources (λ ss. IsMergeStatus corners ss status)
   merge-stopped (Refused r place) status does ends read write fits ss are =
-      let is = does.2 ss are in
-      elim ends.ended [ inl p ↦ merge-refused corners ss status (merge-not once corners ss is.0 r place (omega (arith, some, are.count)) is.1) p.0 | inr p ↦ absurd (fits p.1) ]
+      elim ends.ended [ inl p ↦ merge-refused corners ss status (merge-not once corners ss does.0 r place (omega (arith, some, are.count)) (does.3 ss are)) p.0 | inr p ↦ absurd (fits p.1) ]
   merge-stopped (ReadFault k) status does ends read write fits ss are = absurd (read k does.0 does.1)
   merge-stopped WriteFault status does ends read write fits ss are = absurd (write does.1)
   merge-stopped NoMemory status does ends read write fits ss are =
@@ -214,10 +213,10 @@ module _ {A K E : Type 0} (once : EndsOnce) (R : Readers) (corners : List Corner
   write-stopped : (stop : Stop) (status : ℕ) → MergesBy R corners level sources out (Err stop) → Concludes stop status err → ((k : ℕ) → k < length sources.old → ¬ HasFault (source_at sources k)) → ¬ HasFault out → status ≢ 4
       → WhereAllTold R sources (λ ss. IsWrittenStatus corners level ss status)
   write-stopped (Refused r place) status does ends read write fits ss are =
-      let is = does.2 ss are in
-      elim ends.ended [ inl p ↦ written-refused once corners level ss (omega (arith, some, are.count)) is.0 is.1.0 r place status is.1.1 p.0 | inr p ↦ absurd (fits p.1) ]
+      let is = does.3 ss are in
+      elim ends.ended [ inl p ↦ written-refused once corners level ss (omega (arith, some, are.count)) is.0 is.2.0 r place status is.2.1 p.0 | inr p ↦ absurd (fits p.1) ]
   write-stopped (ReadFault k) status does ends read write fits ss are = absurd (read k does.0 does.1)
-  write-stopped WriteFault status does ends read write fits ss are = absurd (write does.1)
+  write-stopped WriteFault status does ends read write fits ss are = absurd (write does.2)
   write-stopped NoMemory status does ends read write fits ss are =
       elim ends.ended [ inl p ↦ absurd (fits p.0) | inr p ↦ absurd p.0 ]
   write-stopped NotUnderstood status does ends read write fits ss are = absurd does

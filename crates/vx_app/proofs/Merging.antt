@@ -142,12 +142,12 @@ module _ {A : Type 0} (bytes : A → Option (List ℕ)) (faults : A → ℕ) (R 
     pub waits_read : (f : Feeding) (ps : List Picture) → Waits R (At l k) f ps → IsRead (At l k)
     waits_read f ps w = let t = waits_taken f ps w in (t.kept, (t.given, t.gave))
 
-    one_rests : (f : Feeding) (ps : List Picture) → HasTakenOne R (At l k) f ps → Rests R (At l k)
-    one_rests f ps one = inr (inr (one.picture, ps, taken_stops Left Count R first l f ps one))
+    one_rests : (n : ℕ) (f : Feeding) (ps : List Picture) → length ps ≤ n → HasTakenOne R (At l k) f ps → Rests R n (At l k)
+    one_rests n f ps few one = inr (inl (one.picture, ps, taken_stops Left Count R first l f ps one, few))
 
-    pub waits_rest : (f : Feeding) (ps : List Picture) → Waits R (At l k) f ps → Rests R (At l k)
-    waits_rest f [] w = inr (inl w.1)
-    waits_rest f (p ∷ ps) w = one_rests f ps w.0
+    pub waits_rest : (n : ℕ) (f : Feeding) (ps : List Picture) → length ps ≡ n → Waits R (At l k) f ps → Rests R n (At l k)
+    waits_rest n f [] many w = inl w.1
+    waits_rest n f (p ∷ ps) many w = one_rests n f ps (omega (arith, many)) w.0
 
     pub waits_begin : (f : Feeding) (ps : List Picture) → Waits R (At l k) f ps → WhereTold R (At l k) (λ qs e. BeginsWith qs ps)
     waits_begin f ps w = taken_first Left Count R first l f ps (waits_taken f ps w)
@@ -155,8 +155,8 @@ module _ {A : Type 0} (bytes : A → Option (List ℕ)) (faults : A → ℕ) (R 
     pub takes_read : (f : Feeding) (ps : List Picture) → TakesOne R (At l k) f ps → IsRead (At l k)
     takes_read f ps t = (t.one.taken.kept, (t.one.taken.given, t.one.taken.gave))
 
-    pub takes_rest : (f : Feeding) (ps : List Picture) → TakesOne R (At l k) f ps → Rests R (At l k)
-    takes_rest f ps t = one_rests f ps t.one
+    pub takes_rest : (n : ℕ) (f : Feeding) (ps : List Picture) → length ps ≡ n → TakesOne R (At l k) f ps → Rests R n (At l k)
+    takes_rest n f ps many t = one_rests n f ps (omega (arith, many)) t.one
 
     pub takes_begin : (f : Feeding) (ps : List Picture) (t : TakesOne R (At l k) f ps) → WhereTold R (At l k) (λ qs e. BeginsWith qs (t.one.picture ∷ ps))
     takes_begin f ps t = taken_first Left Count R first l f (t.one.picture ∷ ps) t.one.taken
@@ -164,10 +164,6 @@ module _ {A : Type 0} (bytes : A → Option (List ℕ)) (faults : A → ℕ) (R 
     pub came_read : (f : Feeding) (ps : List Picture) (ended : Bool) → Came R (At l k) f ps ended → IsRead (At l k)
     came_read f ps false came = takes_read f ps came
     came_read f ps true came = (came.read.0, came.read.1)
-
-    pub came_rest : (f : Feeding) (ps : List Picture) (ended : Bool) → Came R (At l k) f ps ended → Rests R (At l k)
-    came_rest f ps false came = takes_rest f ps came
-    came_rest f ps true came = inl came.read.2
 
     -- it begins with those that were taken before
     begin_less : (qs ps : List Picture) (p : Picture) → BeginsWith qs (p ∷ ps) → BeginsWith qs ps
@@ -197,6 +193,11 @@ module _ {A : Type 0} (bytes : A → Option (List ℕ)) (faults : A → ℕ) (R 
 
     pub ends_there : (ps : List Picture) → EndsBehind R (At l k) ps → WhereTold R (At l k) (λ qs e. HasEnded (length ps) (record { pictures = qs; ending = e }))
     ends_there ps ends b qs e told are = let is = ends.told b qs e told are in (ap (λ (x : List Picture). length x) is.0, is.1)
+
+    pub came_rest : (n : ℕ) (f : Feeding) (ps : List Picture) (ended : Bool) → length ps ≡ n → Came R (At l k) f ps ended → Rests R n (At l k)
+    came_rest n f ps false many came = takes_rest n f ps many came
+    came_rest n f ps true many came =
+        inr (inr (came.read.2, λ b qs e told are. subst (λ (m : ℕ). HasEnded m (record { pictures = qs; ending = e })) many (ends_there ps came b qs e told are)))
 
     pub came_kept : (f : Feeding) (ps : List Picture) (ended : Bool) → Came R (At l k) f ps ended
         → WhereTold R (At l k) (λ qs e. let s : Stream = record { pictures = qs; ending = e } in GoesOn (length ps) s ⊎ HasEnded (length ps) s)

@@ -85,13 +85,13 @@ module _ {A : Type 0} (bytes : A → Option (List ℕ)) (faults : A → ℕ) (R 
   -- ---- a picture of each was taken
 
   module _ (l : List A) (feeds : List Feeding) (taken : List (List Picture)) (n : ℕ) (all : AllTake R (Src l) feeds taken n) where
-    taker : (k : ℕ) → k < length first → (f : Feeding) × (ps : List Picture) × TakesOne R (At l k) f ps
+    taker : (k : ℕ) → k < length first → (f : Feeding) × (ps : List Picture) × TakesOne R (At l k) f ps × (length ps ≡ n)
     taker k within =
         let fits : k < length feeds = omega (arith, within, all.feeds_count) in
         let fitting : k < length taken = omega (arith, within, all.taken_count) in
         let f = some_at feeds k fits in
         let ps = some_at taken k fitting in
-        (f.0, ps.0, all.each k f.0 ps.0 f.1 ps.1)
+        (f.0, ps.0, all.each k f.0 ps.0 f.1 ps.1, all.rounds k ps.0 ps.1)
 
     pub take_begin : (ss : List Stream) → AreTold R (Src l) ss → Begin ss taken
     take_begin = begin_told l taken taken_begin
@@ -105,8 +105,8 @@ module _ {A : Type 0} (bytes : A → Option (List ℕ)) (faults : A → ℕ) (R 
     pub take_read : OfEach (Src l) IsRead
     take_read k within = let t = taker k within in takes_read bytes faults R first l k t.0 t.1 t.2
 
-    pub take_rest : OfEach (Src l) (RestsRead R)
-    take_rest k within = let t = taker k within in (take_read k within, takes_rest bytes faults R first l k t.0 t.1 t.2)
+    pub take_rest : OfEach (Src l) (RestsRead R n)
+    take_rest k within = let t = taker k within in (take_read k within, takes_rest bytes faults R first l k n t.0 t.1 t.3 t.2)
 
     -- where the round is barred, that is refused
     pub round_barred : (h : HasRound bytes faults R first l feeds taken n) (bars : List Parts → Refusal → Type 0) (r : Refusal) (place : Where) → bars (map (λ (f : Feeding). lent_by f.assembler) feeds) r → place ≡ in_round n
@@ -193,7 +193,7 @@ module _ {A : Type 0} (bytes : A → Option (List ℕ)) (faults : A → ℕ) (R 
     differ k lowest r place is at = (
       (
         λ j within. let c = comer j within in came_read bytes faults R first l j c.0 c.1 (get_or ended j false) c.3,
-        λ j within not_. let c = comer j within in came_rest bytes faults R first l j c.0 c.1 (get_or ended j false) c.3,
+        λ j within not_. let c = comer j within in came_rest bytes faults R first l j n c.0 c.1 (get_or ended j false) (adv.rounds j c.1 c.2) c.3,
       ),
       λ ss are.
           let fits : k < length ss = omega (arith, lowest.0.in_range, same, are.count) in
@@ -342,7 +342,7 @@ module _ {A : Type 0} (bytes : A → Option (List ℕ)) (faults : A → ℕ) (R 
     -- or it stopped there
     record IsOther (j : ℕ) : Type 0 where
       read : IsRead (At l' j)
-      rests : Rests R (At l' j)
+      rests : Rests R n (At l' j)
       begin : (qs : List Picture) → slice_get taken j ≡ Some qs → WhereTold R (At l' j) (λ ws e. BeginsWith ws qs)
       keeps : j < k → WhereTold R (At l' j) (λ ws e. let s : Stream = record { pictures = ws; ending = e } in GoesOn n s ⊎ HasEnded n s)
 
@@ -358,7 +358,7 @@ module _ {A : Type 0} (bytes : A → Option (List ℕ)) (faults : A → ℕ) (R 
               let came = came_still bytes faults R first l l' j (others j other) g.0 qs.0 (get_or ended j false) (adv.came j g.0 qs.0 g.1 qs.1 earlier) in
               record {
                 read = came_read bytes faults R first l' j g.0 qs.0 (get_or ended j false) came;
-                rests = came_rest bytes faults R first l' j g.0 qs.0 (get_or ended j false) came;
+                rests = came_rest bytes faults R first l' j n g.0 qs.0 (get_or ended j false) (adv.rounds j qs.0 qs.1) came;
                 begin = λ ws was b xs e told are. subst (λ (x : List Picture). BeginsWith xs x) (once ws was) (came_begin bytes faults R first l' j g.0 qs.0 (get_or ended j false) came b xs e told are);
                 keeps = λ before b xs e told are.
                     subst (λ (m : ℕ). let s : Stream = record { pictures = xs; ending = e } in GoesOn m s ⊎ HasEnded m s) (adv.rounds j qs.0 qs.1) (came_kept bytes faults R first l' j g.0 qs.0 (get_or ended j false) came b xs e told are);
@@ -368,7 +368,7 @@ module _ {A : Type 0} (bytes : A → Option (List ℕ)) (faults : A → ℕ) (R 
               let waits = waits_still bytes faults R first l l' j (others j other) g.0 qs.0 (adv.waits j g.0 qs.0 g.1 qs.1 (omega (arith, later))) in
               record {
                 read = waits_read bytes faults R first l' j g.0 qs.0 waits;
-                rests = waits_rest bytes faults R first l' j g.0 qs.0 waits;
+                rests = waits_rest bytes faults R first l' j n g.0 qs.0 (adv.rounds j qs.0 qs.1) waits;
                 begin = λ ws was b xs e told are. subst (λ (x : List Picture). BeginsWith xs x) (once ws was) (waits_begin bytes faults R first l' j g.0 qs.0 waits b xs e told are);
                 keeps = λ before. absurd (omega (arith, before, later));
               }
@@ -428,8 +428,8 @@ module _ {A : Type 0} (bytes : A → Option (List ℕ)) (faults : A → ℕ) (R 
         subst (λ (i : ℕ). HaltsBehind R (Src l') taken n (ReadFault i)) (sym stop.2) (
           k_within,
           stop.0,
-          λ i within other. let o = other_at i within other in (o.read, o.rests),
           subst (λ (m : ℕ). Sees R (At l' k) m) (adv.rounds k ps there) stop.1,
+          λ i within other. let o = other_at i within other in (o.read, o.rests),
           λ ss are. (begin_told l' taken begins_all ss are, none_before ss are),
         )
 

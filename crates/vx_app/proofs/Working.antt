@@ -141,9 +141,9 @@ module _ {A K : Type 0} (bytes : A → Option (List ℕ)) (faults : A → ℕ) (
     -- checked or written, and stopped at the sources
     check_halted : RoundsPass corners (so_far taken) n → (stop : Stop) → HaltsBehind R (Src l) taken n stop → CountsRounds R corners (Src l) (Err stop)
     check_halted pass (Refused r place) halts =
-        (halts.0, λ ss are. let h = halts.1 ss are in (n, (pass_told bytes faults R first corners l taken n count rounds pass ss are h.0, refused_so _ ss n r place h.1)))
+        (n, halts.0, λ ss are. let h = halts.1 ss are in (pass_told bytes faults R first corners l taken n count rounds pass ss are h.0, refused_so _ ss n r place h.1))
     check_halted pass (ReadFault k) halts =
-        (halts.0, halts.1, halts.2, (n, halts.3, λ ss are. let h = halts.4 ss are in (pass_told bytes faults R first corners l taken n count rounds pass ss are h.0, h.1)))
+        (halts.0, halts.1, (n, halts.2, halts.3, λ ss are. let h = halts.4 ss are in (pass_told bytes faults R first corners l taken n count rounds pass ss are h.0, h.1)))
     check_halted pass NoMemory halts = halts.0
     check_halted pass NotUnderstood halts = absurd halts
     check_halted pass WriteFault halts = absurd halts
@@ -154,18 +154,18 @@ module _ {A K : Type 0} (bytes : A → Option (List ℕ)) (faults : A → ℕ) (
 
       write_halted : (stop : Stop) → HaltsBehind R (Src l) taken n stop → MergesBy R corners level (Src l) (Out o') (Err stop)
       write_halted (Refused r place) halts = (
+        n,
         halts.0,
         w.gained.kept,
         λ ss are.
             let h = halts.1 ss are in
-            (w.done, (plans_told ss are h.0, refused_at_length _ ss n (length w.done) r place w.count (refused_so _ ss n r place h.1)), w.gained),
+            (w.done, w.count, (plans_told ss are h.0, refused_at_length _ ss n (length w.done) r place w.count (refused_so _ ss n r place h.1)), w.gained),
       )
       write_halted (ReadFault k) halts = (
         halts.0,
         halts.1,
-        halts.2,
         w.gained.kept,
-        (n, halts.3, λ ss are. let h = halts.4 ss are in (w.done, w.count, plans_told ss are h.0, h.1, w.gained)),
+        (n, halts.2, halts.3, λ ss are. let h = halts.4 ss are in (w.done, w.count, plans_told ss are h.0, h.1, w.gained)),
       )
       write_halted NoMemory halts = (halts.0, w.gained.kept, λ ss are. (w.done, plans_told ss are (halts.1 ss are), w.gained))
       write_halted NotUnderstood halts = absurd halts
@@ -212,13 +212,11 @@ module _ {A K : Type 0} (bytes : A → Option (List ℕ)) (faults : A → ℕ) (
     -- it was checked
     pass_stopped : RoundsPass corners (so_far taken) n → (stop : Stop) → ChecksRound corners round n (Err stop) → CountsRounds R corners (Src l) (Err stop)
     pass_stopped pass (Refused r place) by = (
+      n,
       (take_read bytes faults R first l feeds taken n all, λ k within not_. (take_rest bytes faults R first l feeds taken n all k within).1),
       λ ss are. (
-        n,
-        (
-          pass_told bytes faults R first corners l taken n all.taken_count all.rounds pass ss are (begun ss are),
-          round_barred bytes faults R first l feeds taken n all has (BreaksRule corners) r place by.0 by.1 ss are,
-        ),
+        pass_told bytes faults R first corners l taken n all.taken_count all.rounds pass ss are (begun ss are),
+        round_barred bytes faults R first l feeds taken n all has (BreaksRule corners) r place by.0 by.1 ss are,
       ),
     )
     pass_stopped pass NoMemory by = take_read bytes faults R first l feeds taken n all
@@ -254,19 +252,21 @@ module _ {A K : Type 0} (bytes : A → Option (List ℕ)) (faults : A → ℕ) (
       write_stopped : (stop : Stop) → Wrote (Err stop) → MergesBy R corners level (Src l) (Out o'') (Err stop)
       write_stopped (Refused r place) wrote =
           let gained = gains_still taken_ writes o o' o'' (bytes_of w.done) [] w.gained wrote.0.0 wrote.0.1 in (
+            n,
             (take_read bytes faults R first l feeds taken n all, λ k within not_. (take_rest bytes faults R first l feeds taken n all k within).1),
             gained.kept,
             λ ss are.
                 let barred = barred_so m' corners level corners_same level_same round w.done r wrote.0.2 in
                 let refused = round_barred bytes faults R first l feeds taken n all has (IsBarred corners level w.done) r place barred wrote.1 ss are in
-                (w.done, (told ss are, refused_at_length _ ss n (length w.done) r place w.count refused), gained),
+                (w.done, w.count, (told ss are, refused_at_length _ ss n (length w.done) r place w.count refused), gained),
           )
       write_stopped WriteFault wrote =
           let p = wrote.1.0 in
           let into = gains_into taken_ writes o o' o'' (bytes_of w.done) (written (units_of p)) w.gained wrote.0 wrote.1.2 in (
+            n,
             take_rest bytes faults R first l feeds taken n all,
             into.failed,
-            λ ss are. (w.done, p, told_more p wrote.1.1 ss are, into),
+            λ ss are. (w.done, p, w.count, told_more p wrote.1.1 ss are, into),
           )
       write_stopped NoMemory wrote =
           let gained = gains_still taken_ writes o o' o'' (bytes_of w.done) [] w.gained wrote.0 wrote.1 in
@@ -315,8 +315,8 @@ check_unread bytes faults taken writes R first o corners = (unread bytes faults 
 module _ {A K : Type 0} (R : Readers) (corners : List Corner) (sources : Sources A) (out : Change K) where
   -- nothing was written where it stopped
   pub check_stopped : (stop : Stop) → TakesRounds R Check corners None sources out (Err stop) → ChecksMergeBy R corners sources out (Err stop)
-  check_stopped (Refused r place) takes = (takes.1.0, takes.0, takes.1.1)
-  check_stopped (ReadFault k) takes = (takes.1.0, takes.1.1, takes.1.2, takes.0, takes.1.3)
+  check_stopped (Refused r place) takes = (takes.1.0, takes.1.1, takes.0, takes.1.2)
+  check_stopped (ReadFault k) takes = (takes.1.0, takes.1.1, takes.0, takes.1.2)
   check_stopped NoMemory takes = (takes.1, takes.0)
   check_stopped NotUnderstood takes = absurd takes.1
   check_stopped WriteFault takes = absurd takes.1

@@ -25,7 +25,7 @@ use Rattle.vx_merge.specs.Written.{IsMerged, limits_of}
 use Rattle.vx_app.specs.declared.stop.Stop.TheVariants.{NotUnderstood, Refused, ReadFault, WriteFault, NoMemory}
 use Rattle.vx_app.specs.Change.{Change, Sources, source_at, IsUntouched, AreUntouched, HasNoFault, HasFault, GivesFront, Gains, GainsFront}
 use Rattle.vx_app.specs.Conclusion.{Outcome, IsOfCommand}
-use Rattle.vx_app.specs.Extract.{StopsBehind, ok_text}
+use Rattle.vx_app.specs.Extract.{StopsBehind, WhereTold, ok_text}
 use Rattle.vx_app.specs.Grammar.{Placing}
 
 -- ---- streams
@@ -207,20 +207,24 @@ IsRead c = HasNoFault c × GivesFront c
 abbrev pub IsReadOut : {A : Type 0} → Change A → Type 0
 IsReadOut c = HasNoFault c × GivesFront c × IsAtEnd (c.bytes c.new)
 
--- it was read no further than it had to be: to its end, not at all, or fewer bytes past the end of its last picture than a read asks for
-abbrev pub Rests : {A : Type 0} → Readers → Change A → Type 0
-Rests R c = IsAtEnd (c.bytes c.new) ⊎ (c.bytes c.new ≡ c.bytes c.old) ⊎ ((p : Picture) × (before : List Picture) × StopsBehind R c p before)
+-- For round n it was read no further than it had to be: not at all; fewer bytes past the end of picture n, or of one before it, than a read
+-- asks for; or to its end, where it has ended behind n pictures.
+abbrev pub Rests : {A : Type 0} → Readers → ℕ → Change A → Type 0
+Rests R n c =
+    (c.bytes c.new ≡ c.bytes c.old)
+    ⊎ ((p : Picture) × (before : List Picture) × StopsBehind R c p before × (length before ≤ n))
+    ⊎ (IsAtEnd (c.bytes c.new) × WhereTold R c (λ ps ending. HasEnded n (record { pictures = ps; ending = ending })))
 
-abbrev pub RestsRead : {A : Type 0} → Readers → Change A → Type 0
-RestsRead R c = IsRead c × Rests R c
+abbrev pub RestsRead : {A : Type 0} → Readers → ℕ → Change A → Type 0
+RestsRead R n c = IsRead c × Rests R n c
 
 -- a refusal at this place is one of source k
 abbrev pub IsOfSource : Where → ℕ → Type 0
 IsOfSource place k = (place.written ≡ false) × (place.source ≡ k)
 
--- all were read so, and each rests but one that is refused at this place
-abbrev pub OthersRest : {A : Type 0} → Readers → Where → Sources A → Type 0
-OthersRest R place sources = OfEach sources IsRead × ((k : ℕ) → k < length sources.old → ¬ IsOfSource place k → Rests R (source_at sources k))
+-- all were read so, and each rests for round n but one that is refused at this place
+abbrev pub OthersRest : {A : Type 0} → Readers → ℕ → Where → Sources A → Type 0
+OthersRest R n place sources = OfEach sources IsRead × ((k : ℕ) → k < length sources.old → ¬ IsOfSource place k → Rests R n (source_at sources k))
 
 -- n pictures are seen in what it has given, however that goes on
 pub record Sees {A : Type 0} (R : Readers) (c : Change A) (n : ℕ) : Type 0 where
@@ -239,11 +243,11 @@ ChecksMergeBy R corners sources out (Ok _) =
     OfEach sources IsReadOut × HasNoFault out
     × WhereAllTold R sources (λ ss. (n : ℕ) × Ends corners ss n (Ok tt) × Gains out (ok_text n))
 ChecksMergeBy R corners sources out (Err (Refused r place)) =
-    OthersRest R place sources × IsUntouched out
-    × WhereAllTold R sources (λ ss. (n : ℕ) × Ends corners ss n (Err (r, place)))
+    (n : ℕ) × OthersRest R n place sources × IsUntouched out × WhereAllTold R sources (λ ss. Ends corners ss n (Err (r, place)))
 ChecksMergeBy R corners sources out (Err (ReadFault k)) =
-    (k < length sources.old) × HasFault (source_at sources k) × OfOthers k sources (RestsRead R) × IsUntouched out
-    × ((n : ℕ) × Sees R (source_at sources k) n × WhereAllTold R sources (λ ss. RoundsPass corners ss n × NoneRefused k ss n))
+    (k < length sources.old) × HasFault (source_at sources k) × IsUntouched out
+    × ((n : ℕ) × Sees R (source_at sources k) n × OfOthers k sources (RestsRead R n)
+    × WhereAllTold R sources (λ ss. RoundsPass corners ss n × NoneRefused k ss n))
 ChecksMergeBy R corners sources out (Err WriteFault) =
     OfEach sources IsReadOut × HasFault out
     × WhereAllTold R sources (λ ss. (n : ℕ) × Ends corners ss n (Ok tt) × GainsFront out (ok_text n))
@@ -267,15 +271,17 @@ MergesBy R corners level sources out (Ok _) =
     OfEach sources IsReadOut × HasNoFault out
     × WhereAllTold R sources (λ ss. (done : List Plan) × EndsWritten corners level ss done (Ok tt) × Gains out (bytes_of done))
 MergesBy R corners level sources out (Err (Refused r place)) =
-    OthersRest R place sources × HasNoFault out
-    × WhereAllTold R sources (λ ss. (done : List Plan) × EndsWritten corners level ss done (Err (r, place)) × Gains out (bytes_of done))
+    (n : ℕ) × OthersRest R n place sources × HasNoFault out
+    × WhereAllTold R sources (λ ss. (done : List Plan) × (length done ≡ n) × EndsWritten corners level ss done (Err (r, place))
+    × Gains out (bytes_of done))
 MergesBy R corners level sources out (Err (ReadFault k)) =
-    (k < length sources.old) × HasFault (source_at sources k) × OfOthers k sources (RestsRead R) × HasNoFault out
-    × ((n : ℕ) × Sees R (source_at sources k) n × WhereAllTold R sources (λ ss. (done : List Plan) × (length done ≡ n)
-    × AreWritten corners level ss done × NoneRefused k ss n × Gains out (bytes_of done)))
+    (k < length sources.old) × HasFault (source_at sources k) × HasNoFault out
+    × ((n : ℕ) × Sees R (source_at sources k) n × OfOthers k sources (RestsRead R n)
+    × WhereAllTold R sources (λ ss. (done : List Plan) × (length done ≡ n) × AreWritten corners level ss done × NoneRefused k ss n
+    × Gains out (bytes_of done)))
 MergesBy R corners level sources out (Err WriteFault) =
-    OfEach sources (RestsRead R) × HasFault out
-    × WhereAllTold R sources (λ ss. (done : List Plan) × (p : Plan) × AreWritten corners level ss (p ∷ done)
+    (n : ℕ) × OfEach sources (RestsRead R n) × HasFault out
+    × WhereAllTold R sources (λ ss. (done : List Plan) × (p : Plan) × (length done ≡ n) × AreWritten corners level ss (p ∷ done)
     × GainsInto out (bytes_of done) (written (units_of p)))
 MergesBy R corners level sources out (Err NoMemory) =
     OfEach sources IsRead × HasNoFault out

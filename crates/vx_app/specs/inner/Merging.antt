@@ -151,10 +151,11 @@ pub record AllEnd {A : Type 0} (R : Readers) (sources : Sources A) (taken : List
 abbrev pub CountsRounds : {A : Type 0} → Readers → List Corner → Sources A → Result ℕ Stop → Type 0
 CountsRounds R corners sources (Ok n) = OfEach sources IsReadOut × WhereAllTold R sources (λ ss. Ends corners ss n (Ok tt))
 CountsRounds R corners sources (Err (Refused r place)) =
-    OthersRest R place sources × WhereAllTold R sources (λ ss. (n : ℕ) × Ends corners ss n (Err (r, place)))
+    (n : ℕ) × OthersRest R n place sources × WhereAllTold R sources (λ ss. Ends corners ss n (Err (r, place)))
 CountsRounds R corners sources (Err (ReadFault k)) =
-    (k < length sources.old) × HasFault (source_at sources k) × OfOthers k sources (RestsRead R)
-    × ((n : ℕ) × Sees R (source_at sources k) n × WhereAllTold R sources (λ ss. RoundsPass corners ss n × NoneRefused k ss n))
+    (k < length sources.old) × HasFault (source_at sources k)
+    × ((n : ℕ) × Sees R (source_at sources k) n × OfOthers k sources (RestsRead R n)
+    × WhereAllTold R sources (λ ss. RoundsPass corners ss n × NoneRefused k ss n))
 CountsRounds R corners sources (Err NoMemory) = OfEach sources IsRead
 CountsRounds R corners sources (Err _) = ⊥
 
@@ -182,9 +183,9 @@ bars_none round r = ⊥
 -- What stops the command at the sources, behind n rounds of these pictures.
 abbrev pub HaltsBehind : {A : Type 0} → Readers → Sources A → List (List Picture) → ℕ → Stop → Type 0
 HaltsBehind R sources taken n (Refused r place) =
-    OthersRest R place sources × WhereAllTold R sources (λ ss. Begin ss taken × Refuses bars_none ss n r place)
+    OthersRest R n place sources × WhereAllTold R sources (λ ss. Begin ss taken × Refuses bars_none ss n r place)
 HaltsBehind R sources taken n (ReadFault k) =
-    (k < length sources.old) × HasFault (source_at sources k) × OfOthers k sources (RestsRead R) × Sees R (source_at sources k) n
+    (k < length sources.old) × HasFault (source_at sources k) × Sees R (source_at sources k) n × OfOthers k sources (RestsRead R n)
     × WhereAllTold R sources (λ ss. Begin ss taken × NoneRefused k ss n)
 HaltsBehind R sources taken n NoMemory = OfEach sources IsRead × WhereAllTold R sources (λ ss. Begin ss taken)
 HaltsBehind R sources taken n _ = ⊥
