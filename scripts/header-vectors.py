@@ -3,41 +3,16 @@
 
 usage: scripts/header-vectors.py STREAMS > crates/vx_ph/src/tests_vectors.rt, and rt fmt in that crate
 
-A line of STREAMS has a NAL unit in hexadecimal, and `set ok` with the items of a parameter set, `header` with those of a picture
-header, or `slice ..` with `| header` and those of the picture header inside. Answers stand in the tests as hashes, FNV-1a.
+STREAMS has lines as told.py has them. Answers stand in the tests as hashes, FNV-1a.
 """
 import sys
 
 from hashes import hashed
-
-
-def bytes_of(rbsp):
-    return 'b"' + "".join(f"\\x{byte:02x}" for byte in rbsp) + '"'
-
-
-def rbsp_of(unit):
-    """The RBSP of a unit: its bytes behind the header, without emulation prevention."""
-    rbsp, zeros = bytearray(), 0
-    for byte in unit[2:]:
-        if zeros >= 2 and byte == 3:
-            zeros = 0
-            continue
-        rbsp.append(byte)
-        zeros = zeros + 1 if byte == 0 else 0
-    return bytes(rbsp)
-
-
-def value(items, field):
-    return dict(item.split("=") for item in items.split())[field]
-
+from told import bytes_of, lines_of, value
 
 # by the sets in force: the headers, each with whether it stands behind a first bit, and their items
 headers, sps, pps = {}, {}, {}
-for line in open(sys.argv[1]):
-    unit, _, told = line.rstrip("\n").partition(" ")
-    if not told or unit == "stream":
-        continue
-    rbsp, kind = rbsp_of(bytes.fromhex(unit)), bytes.fromhex(unit)[1] >> 3
+for rbsp, kind, told in lines_of(sys.argv[1]):
     inside = "| header " in told
     if told.startswith("set ok ") and kind == 15:
         sps[value(told[7:], "100")] = rbsp

@@ -13,7 +13,13 @@ mod tables;
 #[cfg(test)]
 mod tests;
 #[cfg(test)]
+mod tests_frames;
+#[cfg(test)]
+mod tests_read;
+#[cfg(test)]
 mod tests_sets;
+#[cfg(test)]
+mod tests_vectors;
 mod walk;
 mod write;
 
