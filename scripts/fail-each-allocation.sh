@@ -92,8 +92,8 @@ fail_tests() {
 }
 
 # Has each allocation of the program fail: over a stored stream, and one that is refused behind the same units; over a
-# stored merge three times, of which a subpicture is taken, and one that is refused behind it; over two stored streams
-# side by side, that can be put together, or can't.
+# stored merge three times, which is shown, and of which a subpicture is taken, and one that is refused behind it; over
+# two stored streams side by side, that can be put together, or can't.
 fail_program() {
   local program=$PWD/crates/vx_app/out/vx_app data=crates/vx_app/data
   (cd crates/vx_app && rt run -- show data/a.266 > "$work/log" 2>&1) || { tail -40 "$work/log"; exit 1; }
@@ -105,6 +105,8 @@ fail_program() {
   picture=$("$program" extract 1 "$data/m.266" | wc -c)
   fail_each "show, a stored stream" program_wants "$program" show "$work/stored.266"
   fail_each "show, a refused stream" program_wants "$program" show "$work/refused.266"
+  fail_each "show, three pictures" program_wants "$program" show "$work/merge.266"
+  fail_each "show, three pictures and a broken unit" program_wants "$program" show "$work/cut.266"
   fail_each "extract, a stored merge" stream_wants "$program" extract 1 "$work/merge.266"
   fail_each "extract, a refused one" stream_wants "$program" extract 1 "$work/cut.266"
   fail_each "check extract, a stored merge" program_wants "$program" check extract 1 "$work/merge.266"
