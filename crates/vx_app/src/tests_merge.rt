@@ -3,7 +3,7 @@
 use crate::tests::{ABSENT, GRAY, Row, SHOW, check_row, check_sources, source_of, words_of};
 use crate::tests_extract::TWICE;
 use crate::{file_count, file_word};
-use std::alloc::Global;
+use std::alloc::{AllocError, Global};
 use std::process::Abort;
 use std::test::Fail;
 use vx_io::{ClosedSource, Source};
@@ -183,20 +183,20 @@ const FAR_1: &[u8] = &[
 
 /// A run over sources, of which those that are `None` can't be read, and what comes of it.
 #[derive(Clone, Copy)]
-pub(crate) struct Merge<'a> {
-    pub(crate) sources: &'a [Option<&'a [u8]>],
-    pub(crate) row: Row<'a>,
+struct Merge<'a> {
+    sources: &'a [Option<&'a [u8]>],
+    row: Row<'a>,
 }
 
 /// Two gray pictures side by side.
-pub(crate) const DONE: Row<'static> = Row {
+const DONE: Row<'static> = Row {
     words: &["check", "merge", "0,0=a", "64,0=b"],
     out: b"ok pictures 1\n",
     ..SHOW
 };
 
 /// What is refused.
-pub(crate) const REFUSED: Row<'static> = Row {
+const REFUSED: Row<'static> = Row {
     out: b"",
     status: 1,
     ..DONE
@@ -205,137 +205,74 @@ pub(crate) const REFUSED: Row<'static> = Row {
 const PAIR: &[Option<&[u8]>] = &[Some(GRAY), Some(GRAY)];
 
 /// Pictures that can be put together.
-const MERGED: [Merge<'static>; 5] = [
-    Merge {
-        sources: PAIR,
-        row: DONE,
-    },
-    Merge {
-        sources: &[Some(TWICE)],
-        row: Row {
-            words: &["check", "merge", "0,0=a=b"],
-            out: b"ok pictures 2\n",
-            ..DONE
-        },
-    },
-    Merge {
-        sources: &[Some(b""), Some(&[0, 0])],
-        row: Row {
-            out: b"ok pictures 0\n",
-            ..DONE
-        },
-    },
-    Merge {
-        sources: &[Some(OTHER_QP), Some(GRAY)],
-        row: DONE,
-    },
-    Merge {
-        sources: &[Some(TWICE), Some(TWICE)],
-        row: Row {
-            out: b"ok pictures 2\n",
-            ..DONE
-        },
-    },
+const MERGED: [(&str, &str); 5] = [
+    ("0,0=gray 64,0=gray", "ok pictures 1\n"),
+    ("0,0=a=b", "ok pictures 2\n"),
+    ("0,0=empty 64,0=zeros", "ok pictures 0\n"),
+    ("0,0=other-qp 64,0=gray", "ok pictures 1\n"),
+    ("0,0=twice 64,0=twice", "ok pictures 2\n"),
+];
+
+/// Their files.
+const MERGED_FILES: [(&str, &[u8]); 6] = [
+    ("gray", GRAY),
+    ("a=b", TWICE),
+    ("empty", b""),
+    ("zeros", &[0, 0]),
+    ("other-qp", OTHER_QP),
+    ("twice", TWICE),
 ];
 
 /// Regions that don't fit together.
-const MISFITS: [Merge<'static>; 5] = [
-    Merge {
-        sources: PAIR,
-        row: Row {
-            words: &["check", "merge", "0,0=a", "32,0=b"],
-            err: b"M3 picture 0 source 1\n",
-            ..REFUSED
-        },
-    },
-    Merge {
-        sources: PAIR,
-        row: Row {
-            words: &["check", "merge", "0,0=a", "128,0=b"],
-            err: b"M3 picture 0 source 0\n",
-            ..REFUSED
-        },
-    },
-    Merge {
-        sources: PAIR,
-        row: Row {
-            words: &["check", "merge", "64,0=a", "0,0=b"],
-            err: b"M4 picture 0 source 0\n",
-            ..REFUSED
-        },
-    },
-    Merge {
-        sources: &[Some(TILES_0), Some(TILES_1), Some(TILES_2), Some(TILES_3)],
-        row: Row {
-            words: &["check", "merge", "0,0=a", "64,0=b", "0,128=c", "0,256=d"],
-            err: b"M5 picture 0 source 2\n",
-            ..REFUSED
-        },
-    },
-    Merge {
-        sources: &[Some(FAR_0), Some(FAR_1)],
-        row: Row {
-            words: &["check", "merge", "0,0=a", "16352,0=b"],
-            err: b"L6 picture 0\n",
-            ..REFUSED
-        },
-    },
+const MISFITS: [(&str, &str); 5] = [
+    ("0,0=gray 32,0=gray", "M3 picture 0 source 1\n"),
+    ("0,0=gray 128,0=gray", "M3 picture 0 source 0\n"),
+    ("64,0=gray 0,0=gray", "M4 picture 0 source 0\n"),
+    (
+        "0,0=tiles-0 64,0=tiles-1 0,128=tiles-2 0,256=tiles-3",
+        "M5 picture 0 source 2\n",
+    ),
+    ("0,0=far-0 16352,0=far-1", "L6 picture 0\n"),
+];
+
+/// Their files.
+const MISFITS_FILES: [(&str, &[u8]); 7] = [
+    ("gray", GRAY),
+    ("tiles-0", TILES_0),
+    ("tiles-1", TILES_1),
+    ("tiles-2", TILES_2),
+    ("tiles-3", TILES_3),
+    ("far-0", FAR_0),
+    ("far-1", FAR_1),
 ];
 
 /// Pictures that differ, and sources that end or break a rule: what comes in an earlier round, or of a lower source, is told.
-const DIFFERING: [Merge<'static>; 7] = [
-    Merge {
-        sources: &[Some(DEPTH_0), Some(DEPTH_1)],
-        row: Row {
-            words: &["check", "merge", "0,0=a", "33,0=b"],
-            err: b"M2 picture 0 source 1 field 102\n",
-            ..REFUSED
-        },
-    },
-    Merge {
-        sources: &[Some(LISTS_0), Some(LISTS_1)],
-        row: Row {
-            words: &["check", "merge", "0,0=a", "128,0=b"],
-            err: b"M10 picture 1 source 1\n",
-            ..REFUSED
-        },
-    },
-    Merge {
-        sources: &[Some(TWICE), Some(GRAY)],
-        row: Row {
-            err: b"M14 picture 1 source 1\n",
-            ..REFUSED
-        },
-    },
-    Merge {
-        sources: &[Some(BROKEN_BEHIND), Some(BROKEN_BEHIND)],
-        row: Row {
-            words: &["check", "merge", "0,0=a", "32,0=b"],
-            err: b"M3 picture 0 source 1\n",
-            ..REFUSED
-        },
-    },
-    Merge {
-        sources: &[Some(BROKEN_BEHIND), Some(BROKEN)],
-        row: Row {
-            err: b"F3 source 1 byte 3\n",
-            ..REFUSED
-        },
-    },
-    Merge {
-        sources: &[Some(GRAY), Some(BROKEN_BEHIND)],
-        row: Row {
-            err: b"F3 source 1 byte 52\n",
-            ..REFUSED
-        },
-    },
-    Merge {
-        sources: &[Some(BROKEN), None],
-        row: Row {
-            err: b"F3 source 0 byte 3\n",
-            ..REFUSED
-        },
-    },
+const DIFFERING: [(&str, &str); 7] = [
+    (
+        "0,0=depth-0 33,0=depth-1",
+        "M2 picture 0 source 1 field 102\n",
+    ),
+    ("0,0=lists-0 128,0=lists-1", "M10 picture 1 source 1\n"),
+    ("0,0=twice 64,0=gray", "M14 picture 1 source 1\n"),
+    (
+        "0,0=broken-behind 32,0=broken-behind",
+        "M3 picture 0 source 1\n",
+    ),
+    ("0,0=broken-behind 64,0=broken", "F3 source 1 byte 3\n"),
+    ("0,0=gray 64,0=broken-behind", "F3 source 1 byte 52\n"),
+    ("0,0=broken 64,0=missing", "F3 source 0 byte 3\n"),
+];
+
+/// Their files.
+const DIFFERING_FILES: [(&str, &[u8]); 8] = [
+    ("depth-0", DEPTH_0),
+    ("depth-1", DEPTH_1),
+    ("lists-0", LISTS_0),
+    ("lists-1", LISTS_1),
+    ("twice", TWICE),
+    ("gray", GRAY),
+    ("broken-behind", BROKEN_BEHIND),
+    ("broken", BROKEN),
 ];
 
 /// A read or a write fails.
@@ -396,21 +333,87 @@ const NOT_UNDERSTOOD: [&[&str]; 12] = [
     &["merge", "check", "0,0=a"],
 ];
 
-/// Runs the program as the rows say, over sources that give all at once, and a byte at a time.
-pub(crate) fn check_merges(
+/// Runs `check merge` with the words of each line, over these files, which give all at once, and a byte at a time.
+pub(crate) fn check_lines(
     rt: &impl Abort,
     alloc: Global,
-    merges: &[Merge<'_>],
+    files: &[(&str, &[u8])],
+    lines: &[(&str, &str)],
 ) -> Result<(), Fail> {
-    for (at, merge) in merges.iter().enumerate() {
-        check_merge(rt, alloc, at, merge)?;
-        let row = Row {
-            pieces: &[1],
-            ..merge.row
-        };
-        check_merge(rt, alloc, at, &Merge { row, ..*merge })?;
+    for (at, (words, told)) in lines.iter().enumerate() {
+        let row = row_of(told);
+        check_line(rt, alloc, at, files, words, &row)?;
+        let pieces = &[1];
+        check_line(rt, alloc, at, files, words, &Row { pieces, ..row })?;
     }
     Ok(())
+}
+
+/// What comes to this line.
+fn row_of(told: &str) -> Row<'_> {
+    let line = told.as_bytes();
+    if told.starts_with("ok") {
+        Row { out: line, ..DONE }
+    } else {
+        Row {
+            err: line,
+            ..REFUSED
+        }
+    }
+}
+
+/// Runs it with these words over these files, which give as the row says, and compares what it wrote and answered.
+fn check_line(
+    rt: &impl Abort,
+    alloc: Global,
+    at: usize,
+    files: &[(&str, &[u8])],
+    placed: &str,
+    row: &Row<'_>,
+) -> Result<(), Fail> {
+    let words = placings_of(alloc, placed)?;
+    let mut sources: Vec<Box<dyn Source>> = Vec::new(alloc);
+    for k in 0..file_count(&words) {
+        let name = file_word(&words, k).unwrap_or("");
+        sources.push(source_named(alloc, files, name, row)?)?;
+    }
+    check_sources(rt, alloc, at, row, &words, &mut sources)
+}
+
+/// `check merge` with these placings.
+fn placings_of(alloc: Global, placed: &str) -> Result<Vec<String>, AllocError> {
+    let mut words = words_of(alloc, &["check", "merge"])?;
+    for word in placed.split_whitespace() {
+        words.push(String::from_str(alloc, word)?)?;
+    }
+    Ok(words)
+}
+
+/// The file of this name, or one that can't be read.
+fn source_named(
+    alloc: Global,
+    files: &[(&str, &[u8])],
+    name: &str,
+    row: &Row<'_>,
+) -> Result<Box<dyn Source>, AllocError> {
+    let source: Box<dyn Source> = match bytes_named(files, name) {
+        Some(bytes) => {
+            let bytes = Vec::from_slice(alloc, bytes)?;
+            Box::new(alloc, source_of(alloc, row, bytes)?)?
+        }
+        None => Box::new(alloc, ClosedSource::new())?,
+    };
+    Ok(source)
+}
+
+/// The bytes of the file of this name.
+fn bytes_named<'a>(files: &[(&str, &'a [u8])], name: &str) -> Option<&'a [u8]> {
+    for (own, bytes) in files {
+        if *own == name {
+            return Some(*bytes);
+        }
+    }
+    None
 }
 
 /// Runs the program as the row says, and compares what it wrote and answered.
@@ -432,17 +435,17 @@ fn check_merge(rt: &impl Abort, alloc: Global, at: usize, merge: &Merge<'_>) -> 
 
 #[test]
 fn merges_pictures(rt: HostRuntime) -> Result<(), Fail> {
-    check_merges(&rt, rt.alloc(), &MERGED)
+    check_lines(&rt, rt.alloc(), &MERGED_FILES, &MERGED)
 }
 
 #[test]
 fn refuses_misfits(rt: HostRuntime) -> Result<(), Fail> {
-    check_merges(&rt, rt.alloc(), &MISFITS)
+    check_lines(&rt, rt.alloc(), &MISFITS_FILES, &MISFITS)
 }
 
 #[test]
 fn refuses_what_differs(rt: HostRuntime) -> Result<(), Fail> {
-    check_merges(&rt, rt.alloc(), &DIFFERING)
+    check_lines(&rt, rt.alloc(), &DIFFERING_FILES, &DIFFERING)
 }
 
 #[test]

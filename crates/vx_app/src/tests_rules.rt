@@ -1,8 +1,8 @@
 //! Runs of `check merge` on small pictures: each rule is broken alone, by a field or a few bytes.
 
-use crate::tests::{GRAY, Row};
+use crate::tests::GRAY;
 use crate::tests_extract::{HIGHER, LEVEL_OUT, PAIR, TWICE};
-use crate::tests_merge::{DONE, Merge, REFUSED, check_merges};
+use crate::tests_merge::check_lines;
 use std::test::Fail;
 
 /// A picture of 1,280 by 128 samples with CTUs of 128,
@@ -239,239 +239,129 @@ const SECOND_BEFORE: &[u8] = &[
 ];
 
 /// Pictures that differ in a field, in their kind, or in how many they are. Their levels may differ.
-const SETS: [Merge<'static>; 11] = [
-    Merge {
-        sources: &[Some(GRAY), Some(LEVEL_OUT)],
-        row: DONE,
-    },
-    Merge {
-        sources: &[Some(GRAY), Some(DEEPER)],
-        row: Row {
-            err: b"M2 picture 0 source 1 field 130\n",
-            ..REFUSED
-        },
-    },
-    Merge {
-        sources: &[Some(GRAY), Some(PROFILED)],
-        row: Row {
-            err: b"M2 picture 0 source 1 field 11\n",
-            ..REFUSED
-        },
-    },
-    Merge {
-        sources: &[Some(GRAY), Some(WITH_TABLES)],
-        row: Row {
-            err: b"M7 picture 0 source 1 field 433\n",
-            ..REFUSED
-        },
-    },
-    Merge {
-        sources: &[Some(GRAY), Some(UNREFERRED)],
-        row: Row {
-            err: b"M8 picture 0 source 1 field 601\n",
-            ..REFUSED
-        },
-    },
-    Merge {
-        sources: &[Some(GRAY), Some(NOT_PUT_OUT)],
-        row: Row {
-            err: b"M11 picture 0 source 1\n",
-            ..REFUSED
-        },
-    },
-    Merge {
-        sources: &[Some(GRAY), Some(LEADING)],
-        row: Row {
-            err: b"M6 picture 0 source 1\n",
-            ..REFUSED
-        },
-    },
-    Merge {
-        sources: &[Some(GRAY), Some(HIGHER)],
-        row: Row {
-            err: b"M6 picture 0 source 1\n",
-            ..REFUSED
-        },
-    },
-    Merge {
-        sources: &[Some(PAIR)],
-        row: Row {
-            words: &["check", "merge", "0,0=a"],
-            err: b"M1 picture 0 source 0\n",
-            ..REFUSED
-        },
-    },
-    Merge {
-        sources: &[Some(GRAY), Some(PAIR)],
-        row: Row {
-            words: &["check", "merge", "64,0=a", "0,0=b"],
-            err: b"M1 picture 0 source 1\n",
-            ..REFUSED
-        },
-    },
-    Merge {
-        sources: &[Some(GRAY), Some(TWICE)],
-        row: Row {
-            err: b"M14 picture 1 source 0\n",
-            ..REFUSED
-        },
-    },
+const SETS: [(&str, &str); 11] = [
+    ("0,0=gray 64,0=level-out", "ok pictures 1\n"),
+    ("0,0=gray 64,0=deeper", "M2 picture 0 source 1 field 130\n"),
+    ("0,0=gray 64,0=profiled", "M2 picture 0 source 1 field 11\n"),
+    (
+        "0,0=gray 64,0=with-tables",
+        "M7 picture 0 source 1 field 433\n",
+    ),
+    (
+        "0,0=gray 64,0=unreferred",
+        "M8 picture 0 source 1 field 601\n",
+    ),
+    ("0,0=gray 64,0=not-put-out", "M11 picture 0 source 1\n"),
+    ("0,0=gray 64,0=leading", "M6 picture 0 source 1\n"),
+    ("0,0=gray 64,0=higher", "M6 picture 0 source 1\n"),
+    ("0,0=pair", "M1 picture 0 source 0\n"),
+    ("64,0=gray 0,0=pair", "M1 picture 0 source 1\n"),
+    ("0,0=gray 64,0=twice", "M14 picture 1 source 0\n"),
+];
+
+/// Their files.
+const SETS_FILES: [(&str, &[u8]); 11] = [
+    ("gray", GRAY),
+    ("level-out", LEVEL_OUT),
+    ("deeper", DEEPER),
+    ("profiled", PROFILED),
+    ("with-tables", WITH_TABLES),
+    ("unreferred", UNREFERRED),
+    ("not-put-out", NOT_PUT_OUT),
+    ("leading", LEADING),
+    ("higher", HIGHER),
+    ("pair", PAIR),
+    ("twice", TWICE),
 ];
 
 /// Regions, and tiles and slices in them. A line between regions of one tile each is left out where it would pass through another.
-const REGIONS: [Merge<'static>; 9] = [
-    Merge {
-        sources: &[Some(WIDE), Some(WIDER)],
-        row: Row {
-            words: &["check", "merge", "0,0=a", "1280,0=b"],
-            ..DONE
-        },
-    },
-    Merge {
-        sources: &[Some(WIDER), Some(WIDE)],
-        row: Row {
-            words: &["check", "merge", "0,0=a", "1288,0=b"],
-            err: b"M3 picture 0 source 1\n",
-            ..REFUSED
-        },
-    },
-    Merge {
-        sources: &[Some(WIDER), Some(WIDE)],
-        row: Row {
-            words: &["check", "merge", "0,0=a", "1408,0=b"],
-            err: b"M3 picture 0 source 0\n",
-            ..REFUSED
-        },
-    },
-    Merge {
-        sources: &[Some(FOUR_TILES), Some(ONE_TILE)],
-        row: Row {
-            words: &["check", "merge", "0,0=a", "128,0=b"],
-            err: b"M5 picture 0 source 1\n",
-            ..REFUSED
-        },
-    },
-    Merge {
-        sources: &[Some(TALL), Some(GRAY), Some(GRAY)],
-        row: Row {
-            words: &["check", "merge", "0,0=a", "64,0=b", "64,64=c"],
-            ..DONE
-        },
-    },
-    Merge {
-        sources: &[Some(TALL), Some(GRAY), Some(GRAY), Some(GRAY), Some(GRAY)],
-        row: Row {
-            words: &[
-                "check", "merge", "0,0=a", "64,0=b", "128,0=c", "64,64=d", "128,64=e",
-            ],
-            err: b"M5 picture 0 source 3\n",
-            ..REFUSED
-        },
-    },
-    Merge {
-        sources: &[Some(TALL), Some(GRAY), Some(GRAY), Some(GRAY), Some(GRAY)],
-        row: Row {
-            words: &[
-                "check", "merge", "0,0=a", "64,0=b", "64,64=c", "128,0=d", "128,64=e",
-            ],
-            ..DONE
-        },
-    },
-    Merge {
-        sources: &[Some(APART), Some(ACROSS)],
-        row: Row {
-            words: &["check", "merge", "0,0=a", "0,64=b"],
-            err: b"M13 picture 0 source 1\n",
-            ..REFUSED
-        },
-    },
-    Merge {
-        sources: &[Some(SLICES_APART), Some(SLICES_ACROSS)],
-        row: Row {
-            err: b"M13 picture 0 source 1\n",
-            ..REFUSED
-        },
-    },
+const REGIONS: [(&str, &str); 9] = [
+    ("0,0=wide 1280,0=wider", "ok pictures 1\n"),
+    ("0,0=wider 1288,0=wide", "M3 picture 0 source 1\n"),
+    ("0,0=wider 1408,0=wide", "M3 picture 0 source 0\n"),
+    ("0,0=four-tiles 128,0=one-tile", "M5 picture 0 source 1\n"),
+    ("0,0=tall 64,0=gray 64,64=gray", "ok pictures 1\n"),
+    (
+        "0,0=tall 64,0=gray 128,0=gray 64,64=gray 128,64=gray",
+        "M5 picture 0 source 3\n",
+    ),
+    (
+        "0,0=tall 64,0=gray 64,64=gray 128,0=gray 128,64=gray",
+        "ok pictures 1\n",
+    ),
+    ("0,0=apart 0,64=across", "M13 picture 0 source 1\n"),
+    (
+        "0,0=slices-apart 64,0=slices-across",
+        "M13 picture 0 source 1\n",
+    ),
+];
+
+/// Their files.
+const REGIONS_FILES: [(&str, &[u8]); 10] = [
+    ("wide", WIDE),
+    ("wider", WIDER),
+    ("four-tiles", FOUR_TILES),
+    ("one-tile", ONE_TILE),
+    ("tall", TALL),
+    ("gray", GRAY),
+    ("apart", APART),
+    ("across", ACROSS),
+    ("slices-apart", SLICES_APART),
+    ("slices-across", SLICES_ACROSS),
 ];
 
 /// What slices use beside the sets: LMCS, scaling lists, up to eight bodies of the adaptive loop filter, and a picture for motion.
-const BODIES: [Merge<'static>; 9] = [
-    Merge {
-        sources: &[Some(MAPPED), Some(UNMAPPED)],
-        row: DONE,
-    },
-    Merge {
-        sources: &[Some(UNMAPPED), Some(MAPPED), Some(MAPPED_ELSE)],
-        row: Row {
-            words: &["check", "merge", "0,0=a", "64,0=b", "128,0=c"],
-            err: b"M9 picture 0 source 2\n",
-            ..REFUSED
-        },
-    },
-    Merge {
-        sources: &[Some(UNMAPPED), Some(MAPPED), Some(MAPPED_CHROMA)],
-        row: Row {
-            words: &["check", "merge", "0,0=a", "64,0=b", "128,0=c"],
-            err: b"M8 picture 0 source 2 field 613\n",
-            ..REFUSED
-        },
-    },
-    Merge {
-        sources: &[Some(UNSCALED), Some(SCALED), Some(SCALED_ELSE)],
-        row: Row {
-            words: &["check", "merge", "0,0=a", "64,0=b", "128,0=c"],
-            err: b"M9 picture 0 source 2\n",
-            ..REFUSED
-        },
-    },
-    Merge {
-        sources: &[Some(CHANGED), Some(KEPT)],
-        row: Row {
-            out: b"ok pictures 2\n",
-            ..DONE
-        },
-    },
-    Merge {
-        sources: &[Some(GROWN), Some(KEPT)],
-        row: Row {
-            err: b"M12 picture 1 source 1\n",
-            ..REFUSED
-        },
-    },
-    Merge {
-        sources: &[Some(GROWN), Some(GROWN)],
-        row: Row {
-            out: b"ok pictures 2\n",
-            ..DONE
-        },
-    },
-    Merge {
-        sources: &[Some(FIRST_BEFORE), Some(FIRST_BEFORE)],
-        row: Row {
-            out: b"ok pictures 2\n",
-            ..DONE
-        },
-    },
-    Merge {
-        sources: &[Some(FIRST_BEFORE), Some(SECOND_BEFORE)],
-        row: Row {
-            err: b"M16 picture 1 source 1\n",
-            ..REFUSED
-        },
-    },
+const BODIES: [(&str, &str); 9] = [
+    ("0,0=mapped 64,0=unmapped", "ok pictures 1\n"),
+    (
+        "0,0=unmapped 64,0=mapped 128,0=mapped-else",
+        "M9 picture 0 source 2\n",
+    ),
+    (
+        "0,0=unmapped 64,0=mapped 128,0=mapped-chroma",
+        "M8 picture 0 source 2 field 613\n",
+    ),
+    (
+        "0,0=unscaled 64,0=scaled 128,0=scaled-else",
+        "M9 picture 0 source 2\n",
+    ),
+    ("0,0=changed 64,0=kept", "ok pictures 2\n"),
+    ("0,0=grown 64,0=kept", "M12 picture 1 source 1\n"),
+    ("0,0=grown 64,0=grown", "ok pictures 2\n"),
+    ("0,0=first-before 64,0=first-before", "ok pictures 2\n"),
+    (
+        "0,0=first-before 64,0=second-before",
+        "M16 picture 1 source 1\n",
+    ),
+];
+
+/// Their files.
+const BODIES_FILES: [(&str, &[u8]); 12] = [
+    ("mapped", MAPPED),
+    ("unmapped", UNMAPPED),
+    ("mapped-else", MAPPED_ELSE),
+    ("mapped-chroma", MAPPED_CHROMA),
+    ("unscaled", UNSCALED),
+    ("scaled", SCALED),
+    ("scaled-else", SCALED_ELSE),
+    ("changed", CHANGED),
+    ("kept", KEPT),
+    ("grown", GROWN),
+    ("first-before", FIRST_BEFORE),
+    ("second-before", SECOND_BEFORE),
 ];
 
 #[test]
 fn keeps_rules_on_sets(rt: HostRuntime) -> Result<(), Fail> {
-    check_merges(&rt, rt.alloc(), &SETS)
+    check_lines(&rt, rt.alloc(), &SETS_FILES, &SETS)
 }
 
 #[test]
 fn keeps_rules_on_regions(rt: HostRuntime) -> Result<(), Fail> {
-    check_merges(&rt, rt.alloc(), &REGIONS)
+    check_lines(&rt, rt.alloc(), &REGIONS_FILES, &REGIONS)
 }
 
 #[test]
 fn keeps_rules_on_bodies(rt: HostRuntime) -> Result<(), Fail> {
-    check_merges(&rt, rt.alloc(), &BODIES)
+    check_lines(&rt, rt.alloc(), &BODIES_FILES, &BODIES)
 }
