@@ -78,6 +78,13 @@ pub(crate) struct Row<'a> {
     pub(crate) status: u8,
 }
 
+/// What `show` writes of bytes, and the line on what is refused, if anything is.
+pub(crate) struct Shown<'a> {
+    pub(crate) bytes: &'a [u8],
+    pub(crate) out: &'a [u8],
+    pub(crate) err: &'a [u8],
+}
+
 pub(crate) const SHOW: Row<'static> = Row {
     words: &["show", "a.266"],
     bytes: GRAY,
@@ -174,9 +181,9 @@ const PAIR_LINES: &[u8] = br#"{"bytes":22,"offset":4,"tid":0,"type":15}
 "#;
 
 /// Streams whose units break a rule, or lack one at the end.
-const READ: [Row<'static>; 6] = [
+const READ: [Shown<'static>; 6] = [
     // The gray picture without its PPS.
-    Row {
+    Shown {
         bytes: &[
             0x00, 0x00, 0x00, 0x01, 0x00, 0x79, 0x00, 0x03, 0x02, 0x33, 0x80, 0x00, 0x00, 0x82,
             0x04, 0x12, 0x00, 0x3D, 0xE0, 0x03, 0x00, 0x60, 0x80, 0x01, 0x00, 0x00, 0x00, 0x01,
@@ -186,11 +193,9 @@ const READ: [Row<'static>; 6] = [
 {"ctu":64,"height":64,"sps":0,"subpictures":1,"width":64}
 "#,
         err: b"S1 source 0 unit 1 PPS 0\n",
-        status: 1,
-        ..SHOW
     },
     // With no byte behind the slice header.
-    Row {
+    Shown {
         bytes: &[
             0x00, 0x00, 0x00, 0x01, 0x00, 0x79, 0x00, 0x03, 0x02, 0x33, 0x80, 0x00, 0x00, 0x82,
             0x04, 0x12, 0x00, 0x3D, 0xE0, 0x03, 0x00, 0x60, 0x80, 0x01, 0x00, 0x00, 0x00, 0x01,
@@ -203,11 +208,9 @@ const READ: [Row<'static>; 6] = [
 {"columns":1,"pps":0,"rows":1,"slices":1,"sps":0}
 "#,
         err: b"S11 source 0 unit 2\n",
-        status: 1,
-        ..SHOW
     },
     // The pair without its last slice.
-    Row {
+    Shown {
         bytes: &[
             0x00, 0x00, 0x00, 0x01, 0x00, 0x79, 0x00, 0x03, 0x02, 0x33, 0x80, 0x00, 0x00, 0x40,
             0x81, 0x05, 0x53, 0x40, 0x07, 0xBC, 0x00, 0x60, 0x0C, 0x10, 0x00, 0x20, 0x00, 0x00,
@@ -217,12 +220,9 @@ const READ: [Row<'static>; 6] = [
         ],
         out: PAIR_LINES,
         err: b"S4 source 0 unit 4\n",
-        status: 1,
-        room: 600,
-        ..SHOW
     },
     // Its PPS again, between its slices.
-    Row {
+    Shown {
         bytes: &[
             0x00, 0x00, 0x00, 0x01, 0x00, 0x79, 0x00, 0x03, 0x02, 0x33, 0x80, 0x00, 0x00, 0x40,
             0x81, 0x05, 0x53, 0x40, 0x07, 0xBC, 0x00, 0x60, 0x0C, 0x10, 0x00, 0x20, 0x00, 0x00,
@@ -234,30 +234,23 @@ const READ: [Row<'static>; 6] = [
         ],
         out: PAIR_LINES,
         err: b"S3 source 0 unit 4\n",
-        status: 1,
-        room: 600,
-        ..SHOW
     },
     // A set that is cut.
-    Row {
+    Shown {
         bytes: &[
             0x00, 0x00, 0x00, 0x01, 0x00, 0x79, 0x00, 0x03, 0x02, 0x33, 0x80, 0x00,
         ],
         out: b"",
         err: b"Y source 0 unit 0 field 22 bit 40 Short\n",
-        status: 1,
-        ..SHOW
     },
     // As many subpictures as a number of 32 bits says.
-    Row {
+    Shown {
         bytes: &[
             0x00, 0x00, 0x00, 0x01, 0x00, 0x79, 0x00, 0x03, 0x02, 0x33, 0x80, 0x00, 0x00, 0x40,
             0x81, 0x05, 0x00, 0x00, 0x03, 0x00, 0x01, 0xFF, 0xFF, 0xFF, 0xFE,
         ],
         out: b"",
         err: b"L9 source 0 unit 0\n",
-        status: 1,
-        ..SHOW
     },
 ];
 
@@ -525,11 +518,33 @@ fn shows_units(rt: HostRuntime) -> Result<(), Fail> {
     for pieces in &PIECES {
         check_rows(&rt, rt.alloc(), &SHOWN, pieces)?;
         check_rows(&rt, rt.alloc(), &REFUSED, pieces)?;
-        check_rows(&rt, rt.alloc(), &READ, pieces)?;
+        check_shown(&rt, rt.alloc(), &READ, pieces)?;
     }
     check_rows(&rt, rt.alloc(), &ONCE, &[])?;
     check_rows(&rt, rt.alloc(), &ABOUT, &[])?;
     check_rows(&rt, rt.alloc(), &NOT_UNDERSTOOD, &[])
+}
+
+/// Runs `show` on the bytes of each row, in such pieces.
+pub(crate) fn check_shown<'a>(
+    rt: &impl Abort,
+    alloc: Global,
+    rows: &[Shown<'a>],
+    pieces: &'a [u32],
+) -> Result<(), Fail> {
+    for (at, shown) in rows.iter().enumerate() {
+        let row = Row {
+            bytes: shown.bytes,
+            pieces,
+            room: 700,
+            out: shown.out,
+            err: shown.err,
+            status: u8::from(!shown.err.is_empty()),
+            ..SHOW
+        };
+        check_row(rt, alloc, at, &row)?;
+    }
+    Ok(())
 }
 
 pub(crate) fn check_rows(
