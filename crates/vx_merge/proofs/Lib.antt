@@ -10,7 +10,6 @@ pub mod Deltas
 pub mod Framing
 pub mod Layouts
 pub mod Joining
-pub mod Judging
 pub mod Edging
 pub mod InitQp
 pub mod FrameShaping

@@ -1,4 +1,4 @@
--- What is answered of a round that was made, where it is written or breaks a limit.
+-- What is answered of a round that was made, where it counts as written, is written, or breaks a limit.
 use Rattle.std.proofs.Common.{◌≡◌, ◌⊎◌, ℕ, ◌+◌, ◌<◌, List, ◌∷◌, ◌++◌, length, Option, Some, None, Ok, Err, refl, sym, ap, subst, ◌∙◌, inl, inr, length-append}
 use Rattle.std.specs.Prelude.{sum_by}
 use Rattle.std.proofs.lemmas.Grind.{flat_map-append}
@@ -12,17 +12,17 @@ use Rattle.vx_pic.specs.Parts.{Parts}
 use Rattle.vx_pic.specs.Resident.{history_of, units_written}
 use Rattle.vx_pic.specs.Rules.{unit_size}
 use Rattle.vx_pic.specs.Written.{Plan, slices_of, units_of}
-use Rattle.vx_write.specs.Slots.{AreLastOf, Sent}
+use Rattle.vx_write.specs.Slots.{Sent}
 use Rattle.vx_write.specs.Writing.{Takes}
 use Rattle.vx_write.specs.declared.fault.WriteError.{WriteError}
 use Rattle.vx_write.specs.declared.fault.WriteError.TheVariants as errors
-use Rattle.vx_write.specs.declared.fault.WriteFirst.{WriteFirst}
 use Rattle.vx_merge.specs.declared.corner.Corner.{Corner}
 use Rattle.vx_merge.specs.declared.output.Made.{Made}
-use Rattle.vx_merge.specs.Merging.{IsTooLong, Judges, Merging, Passes, Writes}
+use Rattle.vx_merge.specs.Merging.{Checks, IsTooLong, Judges, Merging, Passes, Writes}
 use Rattle.vx_merge.specs.Rules.{rules_of}
 use Rattle.vx_merge.specs.Verdict.{IsVerdict}
 use Rattle.vx_merge.specs.Written.{IsMerged, limits_of}
+use Rattle.vx_merge.specs.inner.Counting.{Counts}
 use Rattle.vx_merge.specs.inner.Found.{Finds}
 use Rattle.vx_merge.specs.inner.Making.{AreLimits, IsMade, limits_by, size_of, slice_units, units_made}
 use Rattle.vx_merge.proofs.Limiting.{written_size}
@@ -61,31 +61,44 @@ module _ (corners : List Corner) (level : Option ℕ) (round : List Parts) (done
   passes : (others : List Sent) (total : ℕ) → AreLimits m bytes None → Passes (going corners level others total) round done made.plan
   passes others total are = record { verdict = sound; is = made.is done refl; limits = limits None are }
 
-  pub writes_all : (a b : Option (List ℕ)) (k l total : ℕ) → AreLimits m bytes None → total ≡ bytes + size_of 4 (units_made m) → Takes a b k l (units_made m) (Ok tt)
-      → Writes round done (going corners level slots total) a b k l (Ok tt)
-  writes_all a b k l total are is took = (
-    took.faults,
-    (
-      made.plan,
-      passes slots total are,
-      subst (λ us. Appends a b (written us)) (sym made.units) took.ok,
-      record {
-        slots = made.last;
-        bytes = is ∙ sym (stream_size done made.plan (units_made m) bytes so_far made.units);
-        going = refl;
-      },
-    ),
+  pub counts_all : (total : ℕ) → AreLimits m bytes None → total ≡ bytes + size_of 4 (units_made m)
+      → Counts round done (going corners level slots total) (Ok m)
+  counts_all total are is = (
+    made.plan,
+    passes slots total are,
+    record {
+      slots = made.last;
+      bytes = is ∙ sym (stream_size done made.plan (units_made m) bytes so_far made.units);
+      going = refl;
+    },
+    made.units,
   )
 
-  pub writes_front : (a b : Option (List ℕ)) (k l total : ℕ) (e : SinkFailed) → AreLimits m bytes None → Takes a b k l (units_made m) (Err e)
-      → Writes round done (going corners level slots total) a b k l (Err errors.SinkFailed)
-  writes_front a b k l total e are took =
-      (took.faults, (made.plan, passes slots total are, subst (λ us. AppendsFront a b (written us)) (sym made.units) took.err))
+  pub counts_none : (total : ℕ) (r : Refusal) → AreLimits m bytes (Some r) → Counts round done (going corners level slots total) (Err (errors.Refused r))
+  counts_none total r are = inr (record { verdict = sound; plan = made.plan; is = made.is done refl; limits = limits (Some r) are })
 
-  pub writes_none : (a : Option (List ℕ)) (k total : ℕ) (r : Refusal) → AreLimits m bytes (Some r)
-      → Writes round done (going corners level slots total) a a k k (Err (errors.Refused r))
-  writes_none a k total r are =
-      (refl, refl, inr (record { verdict = sound; plan = made.plan; is = made.is done refl; limits = limits (Some r) are }))
+-- ---- of what counts as written
+
+pub checks_counted : (round : List Parts) (done : List Plan) (x : Merging) (m : Made) → Counts round done x (Ok m) → Checks round done x (Ok tt)
+checks_counted round done x m is = (is.0, is.1, is.2)
+
+pub writes_counted : (round : List Parts) (done : List Plan) (x : Merging) (m : Made) (a b : Option (List ℕ)) (k l : ℕ) → Counts round done x (Ok m)
+    → Takes a b k l (units_made m) (Ok tt) → Writes round done x a b k l (Ok tt)
+writes_counted round done x m a b k l is took =
+    (took.faults, (is.0, is.1, subst (λ us. Appends a b (written us)) (sym is.3) took.ok, is.2))
+
+pub writes_front : (round : List Parts) (done : List Plan) (x : Merging) (m : Made) (a b : Option (List ℕ)) (k l : ℕ) (e : SinkFailed)
+    → Counts round done x (Ok m) → Takes a b k l (units_made m) (Err e) → Writes round done x a b k l (Err errors.SinkFailed)
+writes_front round done x m a b k l e is took =
+    (took.faults, (is.0, is.1, subst (λ us. AppendsFront a b (written us)) (sym is.3) took.err))
+
+-- nothing is written where it is refused
+pub writes_none : (round : List Parts) (done : List Plan) (x : Merging) (a : Option (List ℕ)) (k : ℕ) (e : WriteError) → Checks round done x (Err e)
+    → Writes round done x a a k k (Err e)
+writes_none round done x a k errors.Memory is = (refl, refl)
+writes_none round done x a k errors.SinkFailed is = absurd is
+writes_none round done x a k (errors.Refused r) is = (refl, refl, is)
+writes_none round done x a k (errors.Stopped f) is = is
 
 -- ---- by what was asked for alone
 
@@ -112,7 +125,7 @@ other_refused round done x y r corners level is =
       | inr long ↦ inr (other_long round done x y r corners level long)
     ]
 
--- after an error what was sent doesn't matter, nor how many bytes were written
+-- after an error what counts as sent doesn't matter, nor how many bytes count as written
 pub writes_stopped : (round : List Parts) (done : List Plan) (x y : Merging) (a b : Option (List ℕ)) (k l : ℕ) (e : WriteError)
     → y.corners ≡ x.corners → y.level ≡ x.level → Writes round done x a b k l (Err e) → Writes round done y a b k l (Err e)
 writes_stopped round done x y a b k l errors.Memory corners level is = is
@@ -121,3 +134,10 @@ writes_stopped round done x y a b k l errors.SinkFailed corners level is =
     (is.0, (is.1.0, other_passes round done x y is.1.0 corners level p, is.1.2))
 writes_stopped round done x y a b k l (errors.Refused r) corners level is = (is.0, is.1, other_refused round done x y r corners level is.2)
 writes_stopped round done x y a b k l (errors.Stopped f) corners level is = is
+
+pub checks_stopped : (round : List Parts) (done : List Plan) (x y : Merging) (e : WriteError) → y.corners ≡ x.corners → y.level ≡ x.level
+    → Checks round done x (Err e) → Checks round done y (Err e)
+checks_stopped round done x y errors.Memory corners level is = is
+checks_stopped round done x y errors.SinkFailed corners level is = is
+checks_stopped round done x y (errors.Refused r) corners level is = other_refused round done x y r corners level is
+checks_stopped round done x y (errors.Stopped f) corners level is = is

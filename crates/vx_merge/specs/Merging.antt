@@ -1,4 +1,5 @@
--- A merger, as its callers see it: by these words, and by the relation `Stands` between it and the pictures that it has written.
+-- A merger, as its callers see it: by these words, and by the relation `Stands` between it and the pictures that it has written, or that
+-- have passed its checks: a merger either checks or writes.
 use Rattle.std.specs.Prelude.{◌≡◌, ◌⊎◌, ℕ, ◌<◌, ◌≤◌, List, ◌∷◌, All, length, Option, Some, None, Result, Ok, Err}
 use Rattle.std.specs.Io.KnownBytes.{Appends}
 use Rattle.vx_bits.specs.declared.refusal.Refusal.{Refusal}
@@ -18,7 +19,8 @@ use Rattle.vx_merge.specs.Verdict.{IsVerdict}
 use Rattle.vx_merge.specs.Written.{IsMerged, limits_of}
 
 -- A merger: the corners of the regions, in luma samples; the level that is asked for; the sets that were sent since the last IRAP or GDR
--- picture, the last of each type and id; how many bytes were written; and what first kept it from going on.
+-- picture, the last of each type and id; how many bytes were written; and what first kept it from going on. What passes a check counts as
+-- sent and as written.
 pub record Merging : Type 0 where
   pub corners : List Corner
   pub level : Option ℕ
@@ -26,7 +28,7 @@ pub record Merging : Type 0 where
   pub bytes : ℕ
   pub first : Option WriteFirst
 
--- it has written these pictures, the latest first, and goes on
+-- it has written these pictures, the latest first, or they have passed its checks and count as written; and it goes on
 pub record Stands (m : Merging) (done : List Plan) : Type 0 where
   pub slots : AreLastOf (history_of done) m.slots
   pub bytes : m.bytes ≡ length (written (units_written done))
@@ -51,15 +53,7 @@ pub record SameTask (old new : Merging) : Type 0 where
 abbrev pub Judges : Merging → List Parts → Option Refusal → Type 0
 Judges m round verdict = IsVerdict (length m.corners) (rules_of m.corners round) verdict
 
--- What is answered of a round: that it breaks no rule, or the first rule that it breaks; or that memory ran out.
-abbrev pub Checks : Merging → List Parts → Result (Unit {0}) WriteError → Type 0
-Checks m round (Ok _) = Judges m round None
-Checks m round (Err (errors.Refused r)) = Judges m round (Some r)
-Checks m round (Err errors.Memory) = Unit {0}
-Checks m round (Err errors.SinkFailed) = ⊥
-Checks m round (Err (errors.Stopped f)) = ⊥
-
--- ---- rounds that are written
+-- ---- rounds behind others
 
 -- the round breaks no rule, and is written so behind others, within the limits
 pub record Passes (m : Merging) (round : List Parts) (done : List Plan) (p : Plan) : Type 0 where
@@ -73,6 +67,15 @@ pub record IsTooLong (m : Merging) (round : List Parts) (done : List Plan) (r : 
   pub plan : Plan
   pub is : IsMerged m.corners m.level round done plan
   pub limits : IsVerdict (length m.corners) (limits_of done plan) (Some r)
+
+-- What is answered of a round behind others, which count as written: it passes, and counts so too; or a rule or a limit is broken; or memory
+-- ran out.
+abbrev pub Checks : List Parts → List Plan → Merging → Result (Unit {0}) WriteError → Type 0
+Checks round done new (Ok _) = (p : Plan) × Passes new round done p × Stands new (p ∷ done)
+Checks round done new (Err (errors.Refused r)) = Judges new round (Some r) ⊎ IsTooLong new round done r
+Checks round done new (Err errors.Memory) = Unit {0}
+Checks round done new (Err errors.SinkFailed) = ⊥
+Checks round done new (Err (errors.Stopped f)) = ⊥
 
 -- What is answered of a round behind others, with the bytes and the count of faults of a sink before and after: it was written; or a rule
 -- or a limit is broken, and nothing was; or memory ran out before a byte was written; or a write failed, and a front of it is written.

@@ -1,4 +1,5 @@
 -- What serves bodies and proofs alone: nothing that a caller has to believe.
+pub mod Counting
 pub mod Edges
 pub mod Found
 pub mod Fronts

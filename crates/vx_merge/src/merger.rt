@@ -4,21 +4,19 @@ ghost use Rattle.vx_annexb.specs.Laws.{written};
 ghost use Rattle.vx_pic.specs.Resident.{history_of, units_written};
 ghost use Rattle.vx_pic.specs.Written.{Plan};
 ghost use Rattle.vx_write.specs.Slots.{AreLastOf};
-ghost use Rattle.vx_merge.specs.Merging.{AreCorners, Writes};
-ghost use Rattle.vx_merge.specs.inner.Found as words;
+ghost use Rattle.vx_merge.specs.Merging.{AreCorners, Checks, Writes};
 ghost use Rattle.vx_merge.specs.inner.Found.{HasHistory};
 
 use crate::corner::Corner;
-use crate::round::write_round;
-use crate::verdict::verdict;
+use crate::round::{check_round, write_round};
 use std::alloc::{AllocError, Global};
 use std::marker::Model;
-use vx_bits::Refusal;
 use vx_io::Sink;
 use vx_pic::{Lender, Picture};
 use vx_write::{Slots, WriteError, WriteFirst, first_of};
 
-/// Puts together round after round, a round being one picture of each source.
+/// Puts together round after round, a round being one picture of each source, or checks round after round: what passes a check counts as
+/// written.
 ///
 /// After a refusal, want of memory or a failed write it answers [`WriteError::Stopped`], and writes nothing more.
 #[derive(Drop)]
@@ -42,16 +40,6 @@ impl Model for Merger {
     ghost invariant = { λ m. AreCorners m.corners.items × HasHistory m.slots };
 }
 
-/// What is answered of a verdict.
-fn judgement(found: Option<Refusal>) -> Result<(), WriteError>
-    ensures { result ≡ words.judgement found }
-{
-    match found {
-        None => Ok(()),
-        Some(refusal) => Err(WriteError::Refused(refusal)),
-    }
-}
-
 /// The pictures that are lent.
 ///
 /// # Errors
@@ -66,6 +54,27 @@ fn lent<L: Lender>(alloc: Global, lenders: &[L]) -> Result<Vec<Picture<'_>>, All
         round.push(lender.picture())?;
     }
     Ok(round)
+}
+
+/// Checks a round of lenders, behind so many bytes and the sets that were sent, and counts it as written.
+fn check_lent<L: Lender>(
+    alloc: Global,
+    corners: &[Corner],
+    level: Option<u8>,
+    slots: &mut Slots,
+    bytes: &mut u64,
+    lenders: &[L],
+) -> Result<(), WriteError>
+    requires corners { AreCorners corners.now }
+    requires count { length lenders.now ≡ length corners.now }
+    requires holds { All L.holds lenders.now }
+    requires slots { HasHistory slots.old }
+    ensures kept { HasHistory slots.new }
+    ensures answer { (done : List Plan) → AreLastOf (history_of done) slots.old → bytes.old ≡ length (written (units_written done))
+        → Checks (map L.lent lenders.now) done (record { corners = corners.now; level = level; slots = slots.new; bytes = bytes.new; first = None }) result }
+{
+    let made = lent(alloc, lenders)?;
+    check_round(alloc, corners, level, slots, bytes, made.as_slice())
 }
 
 /// Writes a round of lenders, behind so many bytes and the sets that were sent.
@@ -92,12 +101,12 @@ fn write_lent<L: Lender, K: Sink>(
 }
 
 impl Merger {
-    ghost use Rattle.std.specs.Prelude.{◌≡◌, All, List, [], map, length, Some, None, Err, IfErr, IfOk, OnOk};
+    ghost use Rattle.std.specs.Prelude.{◌≡◌, All, List, [], map, length, Some, Err, IfErr, IfOk};
     ghost use Rattle.vx_pic.specs.Written.{Plan};
     ghost use Rattle.vx_write.specs.Faults as faults;
     ghost use Rattle.vx_write.specs.declared.fault.WriteFirst.{WriteFirst as First};
     ghost use Rattle.vx_write.specs.declared.fault.WriteError.TheVariants.{Stopped};
-    ghost use Rattle.vx_merge.specs.Merging.{AreCorners, Checks, Judges, SameTask, Stands, Writes};
+    ghost use Rattle.vx_merge.specs.Merging.{AreCorners, Checks, SameTask, Stands, Writes};
 
     /// A merger of regions with these upper left corners, in luma samples, with a level of its own or the sources' highest.
     ///
@@ -121,49 +130,27 @@ impl Merger {
         })
     }
 
-    /// The verdict on a round.
-    fn verdict_on<L: Lender>(&self, lenders: &[L]) -> Result<Option<Refusal>, AllocError>
-        requires count { length lenders.now ≡ length self.now.corners }
-        requires holds { All L.holds lenders.now }
-        ensures { IfOk result (Judges self.now (map L.lent lenders.now)) }
-    {
-        let made = lent(self.alloc, lenders)?;
-        let (corners, round) = (self.corners.as_slice(), made.as_slice());
-        let found = verdict(self.alloc, corners, round)?;
-        Ok(found)
-    }
-
-    /// What is answered of a round, where nothing stopped the merger before.
-    fn judged<L: Lender>(&self, lenders: &[L]) -> Result<(), WriteError>
-        requires count { length lenders.now ≡ length self.now.corners }
-        requires holds { All L.holds lenders.now }
-        ensures { Checks self.now (map L.lent lenders.now) result }
-    {
-        match self.verdict_on(lenders) {
-            Ok(found) => judgement(found),
-            Err(_) => Err(WriteError::Memory),
-        }
-    }
-
-    /// Whether the pictures of a round can be put together: as many lenders as corners, each holding its picture. It writes nothing.
+    /// Whether a round can be put together and written, behind the rounds before it: as many lenders as corners, each holding its picture.
+    /// It writes nothing, but a round that passes counts as written: a merger either checks or writes.
     ///
     /// # Errors
     ///
-    /// The first rule that the pictures break, with the lowest source that breaks it, or want of memory. All later rounds are answered
-    /// with the first of these.
+    /// The first rule that the pictures break, with the lowest source that breaks it, or else the first limit that what would be
+    /// written doesn't keep, or want of memory. All later rounds are answered with the first of these.
     pub fn check<L: Lender>(&mut self, lenders: &[L]) -> Result<(), WriteError>
         requires count { length lenders.now ≡ length self.old.corners }
         requires holds { All L.holds lenders.now }
-        ensures answer { self.old.first ≡ None → Checks self.old (map L.lent lenders.now) result }
+        ensures answer { (done : List Plan) → Stands self.old done → Checks (map L.lent lenders.now) done self.new result }
         ensures task { SameTask self.old self.new }
         ensures first { IfErr result (λ e. self.new.first ≡ Some (faults.first_of e)) }
         ensures stopped { (f : First) → self.old.first ≡ Some f → (result ≡ Err (Stopped f)) × (self.new ≡ self.old) }
-        ensures stays { OnOk result (self.new ≡ self.old) }
     {
         if let Some(first) = self.first {
             return Err(WriteError::Stopped(first));
         }
-        match self.judged(lenders) {
+        let (alloc, level) = (self.alloc, self.level);
+        let (slots, bytes) = (&mut self.slots, &mut self.bytes);
+        match check_lent(alloc, &self.corners, level, slots, bytes, lenders) {
             Ok(()) => Ok(()),
             Err(error) => {
                 self.first = Some(first_of(error));
@@ -171,6 +158,7 @@ impl Merger {
             }
         }
     }
+
     /// Writes what a round is put together as, behind the rounds before it: as many lenders as corners, each holding its picture.
     ///
     /// # Errors

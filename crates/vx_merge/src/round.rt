@@ -6,13 +6,14 @@ ghost use Rattle.vx_pic.specs.Written.{Plan, SetUnit};
 ghost use Rattle.vx_annexb.specs.Laws.{written};
 ghost use Rattle.vx_write.specs.Slots.{AreLastOf};
 ghost use Rattle.vx_write.specs.Units.{IsSeiUnit};
-ghost use Rattle.vx_merge.specs.Merging.{AreCorners, Writes};
+ghost use Rattle.vx_merge.specs.Merging.{AreCorners, Checks, Writes};
 ghost use Rattle.vx_merge.specs.Rounds.{picture_at};
 ghost use Rattle.vx_merge.specs.Rules.{rules_of};
 ghost use Rattle.vx_merge.specs.Verdict.{IsVerdict};
 ghost use Rattle.vx_merge.specs.inner.Joined.{IsFrameOf, MakeFrame};
 ghost use Rattle.vx_merge.specs.inner.Found.{HasHistory};
 ghost use Rattle.vx_merge.specs.inner.Making.{AreHeaders, HasPayloads, IsMade, IsPrepared, payload_of, payloads_in};
+ghost use Rattle.vx_merge.specs.inner.Counting.{Counts};
 ghost use Rattle.vx_merge.specs.inner.Ready.{IsReadyAt};
 ghost use Rattle.vx_merge.specs.inner.Sending.{CanBeSent};
 
@@ -202,6 +203,82 @@ fn make<'a>(
     })
 }
 
+/// Makes all that is written of a round, behind so many bytes, and counts it as written.
+fn counted<'a>(
+    alloc: Global,
+    corners: &[Corner],
+    level: Option<u8>,
+    slots: &mut Slots,
+    bytes: &mut u64,
+    round: &[Picture<'a>],
+) -> Result<Made<'a>, WriteError>
+    requires corners { AreCorners corners.now }
+    requires same { length corners.now ≡ length round.now }
+    requires slots { HasHistory slots.old }
+    ensures kept { OnOk result (HasHistory slots.new) }
+    ensures payloads { IfOk result HasPayloads }
+    ensures answer { (done : List Plan) → AreLastOf (history_of done) slots.old → bytes.old ≡ length (written (units_written done))
+        → Counts round.now done (record { corners = corners.now; level = level; slots = slots.new; bytes = bytes.new; first = None }) result }
+{
+    let found = verdict(alloc, corners, round)?;
+    if let Some(refusal) = found {
+        return Err(WriteError::Refused(refusal));
+    }
+    let made = make(alloc, corners, level, slots, round)?;
+    match bytes_within(&made, *bytes) {
+        Ok(total) => {
+            *bytes = total;
+            Ok(made)
+        }
+        Err(refusal) => Err(WriteError::Refused(refusal)),
+    }
+}
+
+/// Checks a round, behind so many bytes, and counts it as written.
+fn check(
+    alloc: Global,
+    corners: &[Corner],
+    level: Option<u8>,
+    slots: &mut Slots,
+    bytes: &mut u64,
+    round: &[Picture<'_>],
+) -> Result<(), WriteError>
+    requires corners { AreCorners corners.now }
+    requires same { length corners.now ≡ length round.now }
+    requires slots { HasHistory slots.old }
+    ensures kept { OnOk result (HasHistory slots.new) }
+    ensures answer { (done : List Plan) → AreLastOf (history_of done) slots.old → bytes.old ≡ length (written (units_written done))
+        → Checks round.now done (record { corners = corners.now; level = level; slots = slots.new; bytes = bytes.new; first = None }) result }
+{
+    let _made = counted(alloc, corners, level, slots, bytes, round)?;
+    Ok(())
+}
+
+/// Checks a round, behind so many bytes and the sets that were sent, and counts it as written. After an error none counts as sent.
+pub(crate) fn check_round(
+    alloc: Global,
+    corners: &[Corner],
+    level: Option<u8>,
+    slots: &mut Slots,
+    bytes: &mut u64,
+    round: &[Picture<'_>],
+) -> Result<(), WriteError>
+    requires corners { AreCorners corners.now }
+    requires same { length corners.now ≡ length round.now }
+    requires slots { HasHistory slots.old }
+    ensures kept { HasHistory slots.new }
+    ensures answer { (done : List Plan) → AreLastOf (history_of done) slots.old → bytes.old ≡ length (written (units_written done))
+        → Checks round.now done (record { corners = corners.now; level = level; slots = slots.new; bytes = bytes.new; first = None }) result }
+{
+    match check(alloc, corners, level, slots, bytes, round) {
+        Ok(()) => Ok(()),
+        Err(error) => {
+            slots.clear();
+            Err(error)
+        }
+    }
+}
+
 /// Writes a round, behind so many bytes.
 fn write<K: Sink>(
     alloc: Global,
@@ -220,19 +297,9 @@ fn write<K: Sink>(
         → Writes round.now done (record { corners = corners.now; level = level; slots = slots.new; bytes = bytes.new; first = None })
         (K.bytes_taken out.old) (K.bytes_taken out.new) (K.write_faults out.old) (K.write_faults out.new) result }
 {
-    let found = verdict(alloc, corners, round)?;
-    if let Some(refusal) = found {
-        return Err(WriteError::Refused(refusal));
-    }
-    let made = make(alloc, corners, level, slots, round)?;
-    match bytes_within(&made, *bytes) {
-        Ok(total) => {
-            write_made(out, &made)?;
-            *bytes = total;
-            Ok(())
-        }
-        Err(refusal) => Err(WriteError::Refused(refusal)),
-    }
+    let made = counted(alloc, corners, level, slots, bytes, round)?;
+    write_made(out, &made)?;
+    Ok(())
 }
 
 /// Writes a round, behind so many bytes and the sets that were sent. After an error none counts as sent.

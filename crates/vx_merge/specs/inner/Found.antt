@@ -1,5 +1,5 @@
 -- What the searches for broken rules answer.
-use Rattle.std.specs.Prelude.{◌≡◌, ℕ, ◌<◌, List, flat_map, slice_get, option_to_list, Option, Some, None, Result, Ok, Err}
+use Rattle.std.specs.Prelude.{◌≡◌, ℕ, ◌<◌, List, flat_map, slice_get, option_to_list, Option, Some, None}
 use Rattle.vx_bits.specs.declared.refusal.Refusal.{Refusal}
 use Rattle.vx_bits.specs.declared.refusal.Refusal.TheVariants.{Limit, Merge}
 use Rattle.vx_bits.specs.declared.rules.TheConstants as rules
@@ -10,8 +10,6 @@ use Rattle.vx_fit.specs.declared.lines.LineError.TheVariants.{Memory, Lines}
 use Rattle.vx_fit.specs.Lowest.{IsLowest}
 use Rattle.vx_pic.specs.Written.{SetUnit}
 use Rattle.vx_write.specs.Slots.{AreLastOf, Sent}
-use Rattle.vx_write.specs.declared.fault.WriteError.{WriteError}
-use Rattle.vx_write.specs.declared.fault.WriteError.TheVariants as errors
 use Rattle.vx_merge.specs.declared.told.Differing.{Differing}
 use Rattle.vx_merge.specs.Verdict.{Rule, IsVerdict}
 
@@ -50,11 +48,6 @@ fit_refusal (Order k) = Merge rules.REGION_ORDER k 0
 -- what one item of a list adds to what is gathered of all
 abbrev pub piece_at : {A B : Type 0} → (A → List B) → List A → ℕ → List B
 piece_at f xs i = flat_map f (option_to_list (slice_get xs i))
-
--- what is answered of a verdict
-abbrev pub judgement : Option Refusal → Result (Unit {0}) WriteError
-judgement None = Ok tt
-judgement (Some r) = Err (errors.Refused r)
 
 -- the region that an error names
 abbrev pub Names : LineError → Option ℕ → Type 0

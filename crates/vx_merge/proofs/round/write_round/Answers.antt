@@ -1,4 +1,4 @@
-use Rattle.std.proofs.Common.{[], None, refl, sym, subst}
+use Rattle.std.proofs.Common.{[], refl, sym, subst}
 use Rattle.vx_merge.specs.inner.Found.{HasHistory}
 use Rattle.vx_merge.proofs.Writing.{going, writes_stopped}
 use Rattle.vx_merge.proofs.round.write_round.Goals as goal

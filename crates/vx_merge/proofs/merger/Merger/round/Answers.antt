@@ -1,4 +1,4 @@
-use Rattle.std.proofs.Common.{Some, None, map, refl, sym, ap, subst, length, ◌∙◌}
+use Rattle.std.proofs.Common.{Some, map, refl, sym, ap, subst, length, ◌∙◌}
 use Rattle.vx_merge.specs.Merging.{AreCorners, Merging}
 use Rattle.vx_merge.proofs.Writing.{going, writes_stopped}
 use Rattle.vx_merge.proofs.merger.Merger.round.Goals as goal
