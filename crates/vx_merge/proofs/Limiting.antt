@@ -14,8 +14,10 @@ use Rattle.vx_bits.specs.declared.refusal.Refusal.TheVariants.{Limit}
 use Rattle.vx_bits.specs.declared.rules.TheConstants as rules
 use Rattle.vx_fit.specs.Lowest.{IsLowest}
 use Rattle.vx_pic.specs.Rules.{picture_limit}
+use Rattle.vx_pic.specs.Written.{eos_units}
 use Rattle.vx_merge.specs.declared.output.Made.{Made}
 use Rattle.vx_merge.specs.Verdict.{IsVerdict}
+use Rattle.vx_merge.specs.Written.{AreBytes}
 use Rattle.vx_merge.specs.inner.Making.{HasPayloads, capped, is_long, joined, limits_by, size_of, slice_units}
 
 neither : (a b : Bool) → (a || b) ≡ false → (a ≡ false) × (b ≡ false)
@@ -31,6 +33,16 @@ next_item xs i x at = take_more xs i x (slice_get_within xs i x at) ∙ ap (λ y
 -- and before those behind it
 pub item_split : {X : Type 0} (xs : List X) (i : ℕ) (x : X) → slice_get xs i ≡ Some x → (rest : List X) × (xs ≡ (take i xs ++ x ∷ []) ++ rest)
 item_split xs i x at = (drop (i + 1) xs, sym (take-append-drop (i + 1) xs) ∙ ap (λ ys. ys ++ drop (i + 1) xs) (next_item xs i x at))
+
+-- ---- bytes
+
+pub all_fit : (bytes : List ℕ) → ((i : ℕ) → get_or bytes i 0 < 256) → AreBytes bytes
+all_fit [] fit = tt
+all_fit (b ∷ bytes) fit = (fit 0, all_fit bytes (λ i. fit (suc i)))
+
+pub eos_bytes : (after_eos : Bool) → AllByRecursion AreBytes (eos_units after_eos)
+eos_bytes true = ((omega arith, (omega arith, tt)), tt)
+eos_bytes false = tt
 
 -- ---- slices
 

@@ -1,7 +1,7 @@
 -- What was made of a round is a picture as it is to be written.
 use Rattle.std.proofs.Common.{◌≡◌, ℕ, Bor, Vec, Global, ◌+◌, ◌<◌, List, take, slice_get, [], ◌∷◌, ◌++◌, length, map, Option, Some, None, refl, sym, ap, subst, ◌∙◌, arith, length-append, not, filter}
 use Rattle.std.specs.Prelude.{flat_map, option_map, option_to_list, sum_by}
-use Rattle.std.specs.List.{AllZip}
+use Rattle.std.specs.List.{AllByRecursion, AllZip}
 use Rattle.std.proofs.lemmas.List.{append_assoc, length-map, map-append}
 use Rattle.std.proofs.lemmas.List.Concat.{flat_map-cons}
 use Rattle.std.proofs.lemmas.List.Sums.{sum_by-cons}
@@ -25,7 +25,7 @@ use Rattle.vx_merge.specs.Headers.{IsFront, IsSlice, sourced}
 use Rattle.vx_merge.specs.Needed.{Ids, TakeIds, needed_sets}
 use Rattle.vx_merge.specs.Rounds.{picture_at}
 use Rattle.vx_merge.specs.Shapes.{IsFrame, pps_shape, sps_shape}
-use Rattle.vx_merge.specs.Written.{IsMerged}
+use Rattle.vx_merge.specs.Written.{AreBytes, IsMerged}
 use Rattle.vx_merge.specs.inner.Making.{AreHeaders, IsMade, joined, payload_of, payloads_in, size_of, slice_units, units_made}
 use Rattle.vx_merge.specs.inner.Ready.{AreNeeded, IsReadyAt, ids_in}
 use Rattle.vx_merge.proofs.Limiting.{next_item}
@@ -166,8 +166,8 @@ module _ (corners : List Corner) (level : Option ℕ) (round : List Parts) (hist
   }
 
   is_merged : (first : Slice) (more : List Slice) → AllZip (λ x w. IsSlice round (ids_in n) own.kind.nal_type made.headers.begun x.0 x.1 w) (sourced 0 round) (first ∷ more)
-      → (done : List Plan) → history_of done ≡ history → IsMerged corners level round done (plan first more)
-  is_merged first more each done same =
+      → (done : List Plan) → history_of done ≡ history → AllByRecursion AreBytes (units_of (plan first more)) → IsMerged corners level round done (plan first more)
+  is_merged first more each done same bytes =
       let b = made.headers.begun in
       let back : kept_for own.kind.nal_type history ≡ kept_for own.kind.nal_type (history_of done) = ap (kept_for own.kind.nal_type) (sym same) in
       let layout = sym made.headers.layout in
@@ -189,6 +189,7 @@ module _ (corners : List Corner) (level : Option ℕ) (round : List Parts) (hist
         units = made.sent.spelled;
         sent = ap (λ h. filter (λ x. not (is_resident own.kind.temporal_id h x)) made.sent.needed) back;
         sei = made.sei;
+        bytes = bytes;
       }
 
   have : HaveFronts round (ids_in n) own.kind.nal_type made.headers.begun (sourced 0 round) (map (λ u. u.items) m.fronts.items)
@@ -197,17 +198,20 @@ module _ (corners : List Corner) (level : Option ℕ) (round : List Parts) (hist
   units_are : map (λ s. s.unit) have.slices ≡ slice_units m
   units_are = have.units ∙ ap (joined (map (λ u. u.items) m.fronts.items)) (all_payloads 0 round ∙ sym made.payloads)
 
+  units_made_of : (first : Slice) (more : List Slice) → map (λ s. s.unit) (first ∷ more) ≡ slice_units m → units_of (plan first more) ≡ units_made m
+  units_made_of first more are =
+      ap (λ e. eos_units e ++ (map (λ x. x.unit) (plan first more).sent ++ (sei_units (sei_of own m) ++ (option_to_list made.headers.begun.unit ++ map (λ s. s.unit) (first ∷ more))))) (sym made.eos)
+      ∙ (ap (λ us. eos_units m.after_eos ++ (us ++ (sei_units (sei_of own m) ++ (option_to_list made.headers.begun.unit ++ map (λ s. s.unit) (first ∷ more))))) (sym made.sent.made)
+      ∙ (ap (λ us. eos_units m.after_eos ++ (map (λ u. u.items) m.sets.items ++ (us ++ (option_to_list made.headers.begun.unit ++ map (λ s. s.unit) (first ∷ more))))) (sei_units_of own m)
+      ∙ (ap (λ o. eos_units m.after_eos ++ (map (λ u. u.items) m.sets.items ++ (option_to_list (option_map (λ u. u.items) m.sei) ++ (option_to_list o ++ map (λ s. s.unit) (first ∷ more))))) made.headers.unit
+      ∙ ap (λ us. eos_units m.after_eos ++ (map (λ u. u.items) m.sets.items ++ (option_to_list (option_map (λ u. u.items) m.sei) ++ (m.header.items ∷ us)))) are)))
+
   plan_made : (first : Slice) (more : List Slice) → AllZip (λ x w. IsSlice round (ids_in n) own.kind.nal_type made.headers.begun x.0 x.1 w) (sourced 0 round) (first ∷ more)
       → map (λ s. s.unit) (first ∷ more) ≡ slice_units m → IsMade corners level round history m slots
   plan_made first more each are = record {
     plan = plan first more;
-    is = is_merged first more each;
-    units =
-        ap (λ e. eos_units e ++ (map (λ x. x.unit) (plan first more).sent ++ (sei_units (sei_of own m) ++ (option_to_list made.headers.begun.unit ++ map (λ s. s.unit) (first ∷ more))))) (sym made.eos)
-        ∙ (ap (λ us. eos_units m.after_eos ++ (us ++ (sei_units (sei_of own m) ++ (option_to_list made.headers.begun.unit ++ map (λ s. s.unit) (first ∷ more))))) (sym made.sent.made)
-        ∙ (ap (λ us. eos_units m.after_eos ++ (map (λ u. u.items) m.sets.items ++ (us ++ (option_to_list made.headers.begun.unit ++ map (λ s. s.unit) (first ∷ more))))) (sei_units_of own m)
-        ∙ (ap (λ o. eos_units m.after_eos ++ (map (λ u. u.items) m.sets.items ++ (option_to_list (option_map (λ u. u.items) m.sei) ++ (option_to_list o ++ map (λ s. s.unit) (first ∷ more))))) made.headers.unit
-        ∙ ap (λ us. eos_units m.after_eos ++ (map (λ u. u.items) m.sets.items ++ (option_to_list (option_map (λ u. u.items) m.sei) ++ (m.header.items ∷ us)))) are)));
+    is = λ done same bytes. is_merged first more each done same (subst (AllByRecursion AreBytes) (sym (units_made_of first more are)) bytes);
+    units = units_made_of first more are;
     size =
         ap (λ o. unit_size o + sum_by (λ s. length s.unit) (first ∷ more)) made.headers.unit
         ∙ ap (λ k. length m.header.items + k) (slice_sizes (first ∷ more) ∙ ap (size_of 0) are);

@@ -2,6 +2,7 @@
 use Rattle.std.proofs.Common.{◌≡◌, ◌⊎◌, ℕ, ◌+◌, ◌<◌, List, ◌∷◌, ◌++◌, length, Option, Some, None, Ok, Err, refl, sym, ap, subst, ◌∙◌, inl, inr, length-append}
 use Rattle.std.specs.Prelude.{sum_by}
 use Rattle.std.proofs.lemmas.Grind.{flat_map-append}
+use Rattle.std.specs.List.{AllByRecursion}
 use Rattle.std.specs.Io.KnownBytes.{Appends}
 use Rattle.vx_bits.specs.declared.refusal.Refusal.{Refusal}
 use Rattle.vx_io.specs.declared.write.SinkFailed.{SinkFailed}
@@ -21,7 +22,7 @@ use Rattle.vx_merge.specs.declared.output.Made.{Made}
 use Rattle.vx_merge.specs.Merging.{Checks, IsTooLong, Judges, Merging, Passes, Writes}
 use Rattle.vx_merge.specs.Rules.{rules_of}
 use Rattle.vx_merge.specs.Verdict.{IsVerdict}
-use Rattle.vx_merge.specs.Written.{IsMerged, limits_of}
+use Rattle.vx_merge.specs.Written.{AreBytes, IsMerged, limits_of}
 use Rattle.vx_merge.specs.inner.Counting.{Counts}
 use Rattle.vx_merge.specs.inner.Found.{Finds}
 use Rattle.vx_merge.specs.inner.Making.{AreLimits, IsMade, limits_by, size_of, slice_units, units_made}
@@ -47,7 +48,7 @@ stream_size done p us bytes so_far are =
 
 module _ (corners : List Corner) (level : Option ℕ) (round : List Parts) (done : List Plan) (m : Made) (slots : List Sent) (bytes : ℕ)
     (some : 0 < length corners) (sound : IsVerdict (length corners) (rules_of corners round) None)
-    (made : IsMade corners level round (history_of done) m slots) (so_far : bytes ≡ length (written (units_written done))) where
+    (made : IsMade corners level round (history_of done) m slots) (all : AllByRecursion AreBytes (units_made m)) (so_far : bytes ≡ length (written (units_written done))) where
   limits : (answer : Option Refusal) → AreLimits m bytes answer → IsVerdict (length corners) (limits_of done made.plan) answer
   limits answer are =
       let n = length corners in
@@ -59,7 +60,7 @@ module _ (corners : List Corner) (level : Option ℕ) (round : List Parts) (done
       (sym (stream_size done made.plan (units_made m) bytes so_far made.units)) (are n some)))
 
   passes : (others : List Sent) (total : ℕ) → AreLimits m bytes None → Passes (going corners level others total) round done made.plan
-  passes others total are = record { verdict = sound; is = made.is done refl; limits = limits None are }
+  passes others total are = record { verdict = sound; is = made.is done refl all; limits = limits None are }
 
   pub counts_all : (total : ℕ) → AreLimits m bytes None → total ≡ bytes + size_of 4 (units_made m)
       → Counts round done (going corners level slots total) (Ok m)
@@ -75,7 +76,7 @@ module _ (corners : List Corner) (level : Option ℕ) (round : List Parts) (done
   )
 
   pub counts_none : (total : ℕ) (r : Refusal) → AreLimits m bytes (Some r) → Counts round done (going corners level slots total) (Err (errors.Refused r))
-  counts_none total r are = inr (record { verdict = sound; plan = made.plan; is = made.is done refl; limits = limits (Some r) are })
+  counts_none total r are = inr (record { verdict = sound; plan = made.plan; is = made.is done refl all; limits = limits (Some r) are })
 
 -- ---- of what counts as written
 

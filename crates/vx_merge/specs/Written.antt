@@ -22,9 +22,13 @@ use Rattle.vx_merge.specs.Verdict.{Rule}
 
 -- ---- pictures
 
+-- bytes
+abbrev pub AreBytes : List ℕ → Type 0
+AreBytes bytes = AllByRecursion (λ b. b < 256) bytes
+
 -- A round is written so behind others, as a picture of source 0's kind. The sets that it needs are the SPS and the PPS of its frame and the
 -- bodies that its slices and its header name; those that aren't resident are sent, with the ids that they take. Then come source 0's
--- messages, one picture header, and the slices of all sources.
+-- messages, one picture header, and the slices of all sources. All units are bytes.
 pub record IsMerged (corners : List Corner) (level : Option ℕ) (round : List Parts) (done : List Plan) (p : Plan) : Type 0 where
   pub kind : p.kind ≡ (picture_at round 0).kind
   pub temporal_id : p.begun.temporal_id ≡ p.kind.temporal_id
@@ -42,6 +46,7 @@ pub record IsMerged (corners : List Corner) (level : Option ℕ) (round : List P
   pub units : AllByRecursion (λ x. IsSetUnit p.kind.temporal_id x.set x.unit) needed
   pub sent : p.sent ≡ filter (λ x. not (is_resident p.kind.temporal_id (sent_before done p) x)) needed
   pub sei : IsSeiUnit p.kind.temporal_id (picture_at round 0).messages p.sei
+  pub bytes : AllByRecursion AreBytes (units_of p)
 
 -- ---- limits of what is to be written
 

@@ -1,11 +1,12 @@
 //! The limits of what is to be written, by lengths alone: of a unit, of a picture, and of all.
 ghost use Rattle.std.specs.Prelude.{◌≡◌, ◌+◌, ◌++◌, length, map, option_copied, option_to_list, IfOk, IfErr, OnOk, Some, None};
-ghost use Rattle.std.specs.List.{list_any};
+ghost use Rattle.std.specs.List.{AllByRecursion, list_any};
 ghost use Rattle.vx_pic.specs.Written.{eos_units};
+ghost use Rattle.vx_merge.specs.Written.{AreBytes};
 ghost use Rattle.vx_merge.specs.inner.Making as making;
 ghost use Rattle.vx_merge.specs.inner.Making.{HasPayloads};
 
-use crate::output::{Made, SliceUnit};
+use crate::output::Made;
 use vx_bits::Refusal;
 use vx_bits::rules::{LONG_PICTURE, LONG_SOURCE, LONG_UNIT};
 
@@ -86,12 +87,13 @@ fn has_long_unit(made: &Made<'_>) -> bool
 // ---- bytes: counts stay at the highest number of 64 bits
 
 /// A count of bytes with a unit and its start code.
-fn with_unit(total: u64, length: usize) -> u64
-    ensures { result ≡ making.capped (total + (4 + length)) }
+fn with_unit(total: u64, unit: &[u8]) -> u64
+    ensures count { result ≡ making.capped (total + (4 + length unit.now)) }
+    ensures bytes { AreBytes unit.now }
 {
     total
         .saturating_add(START_CODE)
-        .saturating_add(length as u64)
+        .saturating_add(unit.len() as u64)
 }
 
 /// With an end of sequence, where there is one.
@@ -99,48 +101,53 @@ fn with_end(total: u64, after_eos: bool) -> u64
     ensures { result ≡ making.capped (total + making.size_of 4 (eos_units after_eos)) }
 {
     if after_eos {
-        return with_unit(total, 2);
+        return total.saturating_add(START_CODE).saturating_add(2);
     }
     total
 }
 
 /// With units.
 fn with_units(total: u64, units: &[Vec<u8>]) -> u64
-    ensures { result ≡ making.capped (total + making.size_of 4 (map (λ unit. unit.items) units.now)) }
+    ensures count { result ≡ making.capped (total + making.size_of 4 (map (λ unit. unit.items) units.now)) }
+    ensures bytes { AllByRecursion AreBytes (map (λ unit. unit.items) units.now) }
 {
     let mut sum = total;
     for k in 0..units.len() {
-        sum = with_unit(sum, units[k].len());
+        sum = with_unit(sum, units[k].as_slice());
     }
     sum
 }
 
 /// With a unit, where there is one.
 fn with_some(total: u64, unit: Option<&[u8]>) -> u64
-    ensures { result ≡ making.capped (total + making.size_of 4 (option_to_list (option_copied unit.entry))) }
+    ensures count { result ≡ making.capped (total + making.size_of 4 (option_to_list (option_copied unit.entry))) }
+    ensures bytes { AllByRecursion AreBytes (option_to_list (option_copied unit.entry)) }
 {
     match unit {
-        Some(unit) => with_unit(total, unit.len()),
+        Some(unit) => with_unit(total, unit),
         None => total,
     }
 }
 
-/// A count of bytes with those of a slice, and so many more.
-fn with_slice(total: u64, each: u64, slice: SliceUnit<'_>) -> u64
-    ensures { result ≡ making.capped (total + (each + length (slice.entry.front.now ++ slice.entry.payload.now))) }
+/// A count of bytes with those of a slice, in two pieces, and so many more.
+fn with_slice(total: u64, each: u64, front: &[u8], payload: &[u8]) -> u64
+    ensures count { result ≡ making.capped (total + (each + length (front.now ++ payload.now))) }
+    ensures bytes { AreBytes (front.now ++ payload.now) }
 {
-    let length = slice.front.len() + slice.payload.len();
+    let length = front.len() + payload.len();
     total.saturating_add(each).saturating_add(length as u64)
 }
 
 /// With those of the slices, and so many more for each.
 fn with_slices(total: u64, each: u64, made: &Made<'_>) -> u64
     requires { HasPayloads made.now }
-    ensures { result ≡ making.capped (total + making.size_of each (making.slice_units made.now)) }
+    ensures count { result ≡ making.capped (total + making.size_of each (making.slice_units made.now)) }
+    ensures bytes { AllByRecursion AreBytes (making.slice_units made.now) }
 {
     let mut sum = total;
     for i in 0..made.fronts.len() {
-        sum = with_slice(sum, each, made.slice(i));
+        let slice = made.slice(i);
+        sum = with_slice(sum, each, slice.front, slice.payload);
     }
     sum
 }
@@ -148,12 +155,13 @@ fn with_slices(total: u64, each: u64, made: &Made<'_>) -> u64
 /// A count of bytes with all that was made of a round.
 fn with_made(bytes: u64, made: &Made<'_>) -> u64
     requires { HasPayloads made.now }
-    ensures { result ≡ making.capped (bytes + making.size_of 4 (making.units_made made.now)) }
+    ensures count { result ≡ making.capped (bytes + making.size_of 4 (making.units_made made.now)) }
+    ensures bytes { AllByRecursion AreBytes (making.units_made made.now) }
 {
     let end = with_end(bytes, made.after_eos);
     let sets = with_units(end, made.sets.as_slice());
     let sei = with_some(sets, made.sei_unit());
-    let header = with_unit(sei, made.header.len());
+    let header = with_unit(sei, made.header.as_slice());
     with_slices(header, START_CODE, made)
 }
 
@@ -169,14 +177,15 @@ pub(crate) fn bytes_within(made: &Made<'_>, bytes: u64) -> Result<u64, Refusal>
     ensures total { IfOk result (λ total. total ≡ bytes + making.size_of 4 (making.units_made made.now)) }
     ensures within { OnOk result (making.AreLimits made.now bytes None) }
     ensures broken { IfErr result (λ r. making.AreLimits made.now bytes (Some r)) }
+    ensures bytes { AllByRecursion AreBytes (making.units_made made.now) }
 {
+    let total = with_made(bytes, made);
     if has_long_unit(made) {
         return Err(Refusal::Limit { code: LONG_UNIT });
     }
     if with_slices(made.header.len() as u64, 0, made) > PICTURE_LIMIT {
         return Err(Refusal::Limit { code: LONG_PICTURE });
     }
-    let total = with_made(bytes, made);
     if total > STREAM_LIMIT {
         return Err(Refusal::Limit { code: LONG_SOURCE });
     }

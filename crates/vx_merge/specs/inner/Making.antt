@@ -19,7 +19,7 @@ use Rattle.vx_merge.specs.Rounds.{picture_at}
 use Rattle.vx_merge.specs.Rules.{of_limit}
 use Rattle.vx_merge.specs.Shapes.{IsFrame}
 use Rattle.vx_merge.specs.Verdict.{IsVerdict, Rule}
-use Rattle.vx_merge.specs.Written.{IsMerged}
+use Rattle.vx_merge.specs.Written.{AreBytes, IsMerged}
 use Rattle.vx_merge.specs.inner.Ready.{AreNeeded, IsReady, ids_in}
 
 -- ---- units
@@ -104,7 +104,7 @@ pub record AreHeaders (round : List Parts) (n : RoundSets) (frame : Numbers) (he
 -- What is made of a round behind sets that were sent: a picture as it is to be written, and its units. These are the last sets then.
 pub record IsMade (corners : List Corner) (level : Option ℕ) (round : List Parts) (history : List SetUnit) (m : Made) (slots : List Sent) : Type 0 where
   pub plan : Plan
-  pub is : (done : List Plan) → history_of done ≡ history → IsMerged corners level round done plan
+  pub is : (done : List Plan) → history_of done ≡ history → AllByRecursion AreBytes (units_made m) → IsMerged corners level round done plan
   pub units : units_of plan ≡ units_made m
   pub size : unit_size plan.begun.unit + sum_by (λ s. length s.unit) (slices_of plan) ≡ length m.header.items + size_of 0 (slice_units m)
   pub last : AreLastOf (kept_for plan.kind.nal_type history ++ plan.sent) slots

@@ -12,7 +12,7 @@ returns-then-has_long_unit-clause-broken c =
 pub returns-then-with_slices-gt-PICTURE_LIMIT-clause-broken : goal.returns-then-with_slices-gt-PICTURE_LIMIT-clause-broken
 unfolding picture_limit
 returns-then-with_slices-gt-PICTURE_LIMIT-clause-broken c =
-    let size = c.with_slices.ensures ∙ ap (λ n. capped (n + size_of 0 (slice_units c.args.made.now))) (c.len.ensures ∙ own_length c.args.made.now.header) in
+    let size = c.with_slices.ensures.count ∙ ap (λ n. capped (n + size_of 0 (slice_units c.args.made.now))) (c.len.ensures ∙ own_length c.args.made.now.header) in
     let over : 2 ^ 25 < capped (length c.args.made.now.header.items + size_of 0 (slice_units c.args.made.now)) = subst (λ n. 2 ^ 25 < n) size c.if-with_slices-gt-PICTURE_LIMIT.true in
     λ n some. breaks_picture n some (units_made c.args.made.now) _ _ (sym c.has_long_unit.ensures ∙ c.if-has_long_unit.false)
     (capped_over _ (2 ^ 25) (omega arith) over)
@@ -20,22 +20,22 @@ returns-then-with_slices-gt-PICTURE_LIMIT-clause-broken c =
 pub returns-then-total-gt-STREAM_LIMIT-clause-broken : goal.returns-then-total-gt-STREAM_LIMIT-clause-broken
 unfolding picture_limit source_limit
 returns-then-total-gt-STREAM_LIMIT-clause-broken c =
-    let size = c.with_slices.ensures ∙ ap (λ n. capped (n + size_of 0 (slice_units c.args.made.now))) (c.len.ensures ∙ own_length c.args.made.now.header) in
+    let size = c.with_slices.ensures.count ∙ ap (λ n. capped (n + size_of 0 (slice_units c.args.made.now))) (c.len.ensures ∙ own_length c.args.made.now.header) in
     let few : capped (length c.args.made.now.header.items + size_of 0 (slice_units c.args.made.now)) ≤ 2 ^ 25 = subst (λ n. n ≤ 2 ^ 25) size c.if-with_slices-gt-PICTURE_LIMIT.false in
-    let over : 2 ^ 40 < capped (c.args.bytes + size_of 4 (units_made c.args.made.now)) = subst (λ n. 2 ^ 40 < n) c.with_made-total.ensures c.if-total-gt-STREAM_LIMIT.true in
+    let over : 2 ^ 40 < capped (c.args.bytes + size_of 4 (units_made c.args.made.now)) = subst (λ n. 2 ^ 40 < n) c.with_made-total.ensures.count c.if-total-gt-STREAM_LIMIT.true in
     λ n some. breaks_stream n some (units_made c.args.made.now) _ _ (sym c.has_long_unit.ensures ∙ c.if-has_long_unit.false)
     (capped_within _ (2 ^ 25) (omega arith) few).0 (capped_over _ (2 ^ 40) (omega arith) over)
 
 pub returns-clause-total : goal.returns-clause-total
 returns-clause-total c =
-    let within : capped (c.args.bytes + size_of 4 (units_made c.args.made.now)) ≤ 2 ^ 40 = subst (λ n. n ≤ 2 ^ 40) c.with_made-total.ensures c.if-total-gt-STREAM_LIMIT.false in
-    c.with_made-total.ensures ∙ (capped_within _ (2 ^ 40) (omega arith) within).1
+    let within : capped (c.args.bytes + size_of 4 (units_made c.args.made.now)) ≤ 2 ^ 40 = subst (λ n. n ≤ 2 ^ 40) c.with_made-total.ensures.count c.if-total-gt-STREAM_LIMIT.false in
+    c.with_made-total.ensures.count ∙ (capped_within _ (2 ^ 40) (omega arith) within).1
 
 pub returns-clause-within : goal.returns-clause-within
 unfolding picture_limit source_limit
 returns-clause-within c =
-    let size = c.with_slices.ensures ∙ ap (λ n. capped (n + size_of 0 (slice_units c.args.made.now))) (c.len.ensures ∙ own_length c.args.made.now.header) in
+    let size = c.with_slices.ensures.count ∙ ap (λ n. capped (n + size_of 0 (slice_units c.args.made.now))) (c.len.ensures ∙ own_length c.args.made.now.header) in
     let few : capped (length c.args.made.now.header.items + size_of 0 (slice_units c.args.made.now)) ≤ 2 ^ 25 = subst (λ n. n ≤ 2 ^ 25) size c.if-with_slices-gt-PICTURE_LIMIT.false in
-    let within : capped (c.args.bytes + size_of 4 (units_made c.args.made.now)) ≤ 2 ^ 40 = subst (λ n. n ≤ 2 ^ 40) c.with_made-total.ensures c.if-total-gt-STREAM_LIMIT.false in
+    let within : capped (c.args.bytes + size_of 4 (units_made c.args.made.now)) ≤ 2 ^ 40 = subst (λ n. n ≤ 2 ^ 40) c.with_made-total.ensures.count c.if-total-gt-STREAM_LIMIT.false in
     λ n some. keeps_limits n some (units_made c.args.made.now) _ _ (sym c.has_long_unit.ensures ∙ c.if-has_long_unit.false)
     (capped_within _ (2 ^ 25) (omega arith) few).0 (capped_within _ (2 ^ 40) (omega arith) within).0

@@ -35,10 +35,10 @@ pub returns-in-Ok-clause-answer : goal.returns-in-Ok-clause-answer
 returns-in-Ok-clause-answer c done last so_far =
     let sound = judged c.args.corners.now c.args.round.now c.in_ok-found.found None c.requires.same c.in_default.is c.in_ok-found.ensures in
     counts_all c.args.corners.now c.args.level c.args.round.now done c.in_ok-made.made c.make.new.slots c.args.bytes.now c.requires.corners.some sound
-    (c.in_ok-made.ensures.made (history_of done) last) so_far c.in-Ok.total c.in-Ok.ensures.within c.in-Ok.ensures.total
+    (c.in_ok-made.ensures.made (history_of done) last) c.in-Ok.ensures.bytes so_far c.in-Ok.total c.in-Ok.ensures.within c.in-Ok.ensures.total
 
 pub returns-clause-answer : goal.returns-clause-answer
 returns-clause-answer c done last so_far =
     let sound = judged c.args.corners.now c.args.round.now c.in_ok-found.found None c.requires.same c.in_default.is c.in_ok-found.ensures in
     counts_none c.args.corners.now c.args.level c.args.round.now done c.in_ok-made.made c.make.new.slots c.args.bytes.now c.requires.corners.some sound
-    (c.in_ok-made.ensures.made (history_of done) last) so_far c.args.bytes.now c.in-Err.refusal c.in-Err.ensures.broken
+    (c.in_ok-made.ensures.made (history_of done) last) c.in-Err.ensures.bytes so_far c.args.bytes.now c.in-Err.refusal c.in-Err.ensures.broken
