@@ -48,6 +48,11 @@ pub record IsMerged (corners : List Corner) (level : Option ℕ) (round : List P
   pub sei : IsSeiUnit p.kind.temporal_id (picture_at round 0).messages p.sei
   pub bytes : AllByRecursion AreBytes (units_of p)
 
+-- A round is written in one way.
+abbrev pub MergedIsOne : Type 0
+MergedIsOne = (corners : List Corner) (level : Option ℕ) (round : List Parts) (done : List Plan) (p q : Plan)
+    → IsMerged corners level round done p → IsMerged corners level round done q → p ≡ q
+
 -- ---- limits of what is to be written
 
 -- L1: a unit of it is too long.

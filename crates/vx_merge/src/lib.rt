@@ -39,6 +39,6 @@ pub use collocated::Collocated;
 pub use corner::Corner;
 pub use ended::Lengths;
 pub use ending::lengths;
-pub use laws::verdict_is_one;
+pub use laws::{merged_is_one, verdict_is_one};
 pub use merger::Merger;
 pub use vx_write::{WriteError, WriteFirst};
