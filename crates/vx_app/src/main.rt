@@ -21,6 +21,8 @@ mod tests_merge;
 #[cfg(test)]
 mod tests_rules;
 #[cfg(test)]
+mod tests_shown;
+#[cfg(test)]
 mod tests_written;
 mod words;
 

@@ -172,7 +172,7 @@ const REFUSED: [Row<'static>; 5] = [
 
 /// Two of these pictures side by side, each a subpicture: the sets, the picture header
 /// and a slice of each.
-const PAIR_LINES: &[u8] = br#"{"bytes":22,"offset":4,"tid":0,"type":15}
+pub(crate) const PAIR_LINES: &[u8] = br#"{"bytes":22,"offset":4,"tid":0,"type":15}
 {"ctu":64,"height":64,"sps":0,"subpictures":2,"width":128}
 {"bytes":12,"offset":30,"tid":0,"type":16}
 {"columns":2,"pps":0,"rows":1,"slices":2,"sps":0}

@@ -67,7 +67,7 @@ fn refuses_what_is_cut(rt: HostRuntime) -> Result<(), Fail> {
 }
 
 /// What the first n bytes of the pair are refused for: nothing, where the payload of its right slice alone is cut.
-fn refusal_of(n: usize) -> &'static [u8] {
+pub(crate) fn refusal_of(n: usize) -> &'static [u8] {
     let mut last: &[u8] = b"";
     for (from, err) in &CUT {
         if *from <= n {
