@@ -181,13 +181,6 @@ const FAR_1: &[u8] = &[
     0x6C, 0x01,
 ];
 
-/// A run over sources, of which those that are `None` can't be read, and what comes of it.
-#[derive(Clone, Copy)]
-struct Merge<'a> {
-    sources: &'a [Option<&'a [u8]>],
-    row: Row<'a>,
-}
-
 /// Two gray pictures side by side.
 const DONE: Row<'static> = Row {
     words: &["check", "merge", "0,0=a", "64,0=b"],
@@ -201,8 +194,6 @@ const REFUSED: Row<'static> = Row {
     status: 1,
     ..DONE
 };
-
-const PAIR: &[Option<&[u8]>] = &[Some(GRAY), Some(GRAY)];
 
 /// Pictures that can be put together.
 const MERGED: [(&str, &str); 5] = [
@@ -273,48 +264,6 @@ const DIFFERING_FILES: [(&str, &[u8]); 8] = [
     ("gray", GRAY),
     ("broken-behind", BROKEN_BEHIND),
     ("broken", BROKEN),
-];
-
-/// A read or a write fails.
-const FAILED: [Merge<'static>; 4] = [
-    Merge {
-        sources: &[Some(GRAY), None, Some(GRAY)],
-        row: Row {
-            words: &["check", "merge", "0,0=a", "64,0=b", "128,0=c"],
-            err: b"read fault source 1\n",
-            status: 3,
-            ..REFUSED
-        },
-    },
-    Merge {
-        sources: &[Some(TWICE), Some(TWICE)],
-        row: Row {
-            words: &["check", "merge", "0,0=a", "32,0=b"],
-            pieces: &[60],
-            failing_reads: &[1],
-            err: b"M3 picture 0 source 1\n",
-            ..REFUSED
-        },
-    },
-    Merge {
-        sources: &[Some(TWICE), Some(TWICE)],
-        row: Row {
-            pieces: &[60],
-            failing_reads: &[1],
-            err: b"read fault source 0\n",
-            status: 3,
-            ..REFUSED
-        },
-    },
-    Merge {
-        sources: PAIR,
-        row: Row {
-            failing_writes: &[0],
-            err: b"write fault\n",
-            status: 3,
-            ..REFUSED
-        },
-    },
 ];
 
 /// Words that are no command.
@@ -416,21 +365,14 @@ fn bytes_named<'a>(files: &[(&str, &'a [u8])], name: &str) -> Option<&'a [u8]> {
     None
 }
 
-/// Runs the program as the row says, and compares what it wrote and answered.
-fn check_merge(rt: &impl Abort, alloc: Global, at: usize, merge: &Merge<'_>) -> Result<(), Fail> {
-    let words = words_of(alloc, merge.row.words)?;
+/// Runs the program with these words over sources that can't be read.
+fn check_closed(rt: &impl Abort, alloc: Global, words: &[&str], row: &Row<'_>) -> Result<(), Fail> {
+    let words = words_of(alloc, words)?;
     let mut sources: Vec<Box<dyn Source>> = Vec::new(alloc);
-    for bytes in merge.sources {
-        let source: Box<dyn Source> = match bytes {
-            Some(bytes) => {
-                let bytes = Vec::from_slice(alloc, bytes)?;
-                Box::new(alloc, source_of(alloc, &merge.row, bytes)?)?
-            }
-            None => Box::new(alloc, ClosedSource::new())?,
-        };
-        sources.push(source)?;
+    for _ in 0..file_count(&words) {
+        sources.push(Box::new(alloc, ClosedSource::new())?)?;
     }
-    check_sources(rt, alloc, at, &merge.row, &words, &mut sources)
+    check_sources(rt, alloc, words.len(), row, &words, &mut sources)
 }
 
 #[test]
@@ -448,12 +390,45 @@ fn refuses_what_differs(rt: HostRuntime) -> Result<(), Fail> {
     check_lines(&rt, rt.alloc(), &DIFFERING_FILES, &DIFFERING)
 }
 
+/// A read or a write fails.
 #[test]
 fn tells_what_fails(rt: HostRuntime) -> Result<(), Fail> {
-    for (at, merge) in FAILED.iter().enumerate() {
-        check_merge(&rt, rt.alloc(), at, merge)?;
-    }
-    Ok(())
+    let files = [("gray", GRAY), ("twice", TWICE)];
+    let failed = Row {
+        status: 3,
+        ..REFUSED
+    };
+    let row = Row {
+        err: b"read fault source 1\n",
+        ..failed
+    };
+    let words = "0,0=gray 64,0=missing 128,0=gray";
+    check_line(&rt, rt.alloc(), 0, &files, words, &row)?;
+    let row = Row {
+        failing_writes: &[0],
+        err: b"write fault\n",
+        ..failed
+    };
+    check_line(&rt, rt.alloc(), 1, &files, "0,0=gray 64,0=gray", &row)
+}
+
+/// The second read of a source fails, behind its first picture.
+#[test]
+fn tells_what_fails_later(rt: HostRuntime) -> Result<(), Fail> {
+    let files = [("twice", TWICE)];
+    let broken = Row {
+        pieces: &[60],
+        failing_reads: &[1],
+        err: b"M3 picture 0 source 1\n",
+        ..REFUSED
+    };
+    check_line(&rt, rt.alloc(), 0, &files, "0,0=twice 32,0=twice", &broken)?;
+    let failed = Row {
+        err: b"read fault source 0\n",
+        status: 3,
+        ..broken
+    };
+    check_line(&rt, rt.alloc(), 1, &files, "0,0=twice 64,0=twice", &failed)
 }
 
 #[test]
@@ -470,25 +445,17 @@ fn refuses_too_many_sources(rt: HostRuntime) -> Result<(), Fail> {
     let mut words = ["0,0=a"; 67];
     words[0] = "check";
     words[1] = "merge";
-    let most = Merge {
-        sources: &[None; 64],
-        row: Row {
-            words: &words[..66],
-            err: b"read fault source 0\n",
-            status: 3,
-            ..REFUSED
-        },
+    let most = Row {
+        err: b"read fault source 0\n",
+        status: 3,
+        ..REFUSED
     };
-    check_merge(&rt, rt.alloc(), 64, &most)?;
-    let more = Merge {
-        sources: &[None; 65],
-        row: Row {
-            words: &words,
-            err: b"L4\n",
-            ..REFUSED
-        },
+    check_closed(&rt, rt.alloc(), &words[..66], &most)?;
+    let more = Row {
+        err: b"L4\n",
+        ..REFUSED
     };
-    check_merge(&rt, rt.alloc(), 65, &more)
+    check_closed(&rt, rt.alloc(), &words, &more)
 }
 
 #[test]

@@ -85,36 +85,81 @@ const MERGED: Row<'static> = Row {
     status: 0,
 };
 
-const ROWS: [Row<'static>; 7] = [
-    Row {
+/// What two sources hold, and what is written of them, and the line on what is refused, if anything is.
+struct Pair<'a> {
+    left: &'a [u8],
+    right: &'a [u8],
+    out: &'a [u8],
+    err: &'a [u8],
+}
+
+const PAIRS: [Pair<'static>; 5] = [
+    Pair {
         left: b"",
         right: b"",
         out: b"",
-        ..MERGED
+        err: b"",
     },
-    MERGED,
-    Row {
-        pieces: &[1],
-        ..MERGED
+    Pair {
+        left: GRAY,
+        right: GRAY,
+        out: PAIR,
+        err: b"",
     },
-    Row {
+    Pair {
+        left: GRAY,
         right: OTHER_QP,
         out: PAIR_OTHER_QP,
-        ..MERGED
+        err: b"",
     },
-    Row {
+    Pair {
+        left: GRAY,
         right: ESCAPED,
         out: PAIR_ESCAPED,
-        ..MERGED
+        err: b"",
     },
-    Row {
+    Pair {
         left: TWICE,
+        right: GRAY,
+        out: PAIR,
         err: b"M14 picture 1 source 1\n",
-        status: 1,
-        ..MERGED
     },
-    // The right source fails behind its first picture.
-    Row {
+];
+
+/// All at once, and a byte at a time.
+#[test]
+fn merges_pictures(rt: HostRuntime) -> Result<(), Fail> {
+    for pieces in &[[].as_slice(), &[1]] {
+        check_pairs(&rt, rt.alloc(), &PAIRS, pieces)?;
+    }
+    Ok(())
+}
+
+fn check_pairs<'a>(
+    rt: &impl Abort,
+    alloc: Global,
+    pairs: &[Pair<'a>],
+    pieces: &'a [u32],
+) -> Result<(), Fail> {
+    for (at, pair) in pairs.iter().enumerate() {
+        let row = Row {
+            left: pair.left,
+            right: pair.right,
+            pieces,
+            out: pair.out,
+            err: pair.err,
+            status: u8::from(!pair.err.is_empty()),
+            ..MERGED
+        };
+        check_row(rt, alloc, at, &row)?;
+    }
+    Ok(())
+}
+
+/// The right source fails behind its first picture.
+#[test]
+fn keeps_what_came_before_a_failed_read(rt: HostRuntime) -> Result<(), Fail> {
+    let row = Row {
         left: TWICE,
         right: TWICE,
         pieces: &[60],
@@ -122,15 +167,8 @@ const ROWS: [Row<'static>; 7] = [
         err: b"read fault source 1\n",
         status: 3,
         ..MERGED
-    },
-];
-
-#[test]
-fn merges_pictures(rt: HostRuntime) -> Result<(), Fail> {
-    for (at, row) in ROWS.iter().enumerate() {
-        check_row(&rt, rt.alloc(), at, row)?;
-    }
-    Ok(())
+    };
+    check_row(&rt, rt.alloc(), 0, &row)
 }
 
 /// A byte a write, and the n-th write fails: what was written before it is there.
