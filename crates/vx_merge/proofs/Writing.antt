@@ -19,7 +19,7 @@ use Rattle.vx_write.specs.declared.fault.WriteError.{WriteError}
 use Rattle.vx_write.specs.declared.fault.WriteError.TheVariants as errors
 use Rattle.vx_merge.specs.declared.corner.Corner.{Corner}
 use Rattle.vx_merge.specs.declared.output.Made.{Made}
-use Rattle.vx_merge.specs.Merging.{Checks, IsTooLong, Judges, Merging, Passes, Writes}
+use Rattle.vx_merge.specs.Merging.{Checks, IsBarred, Merging, Passes, Writes}
 use Rattle.vx_merge.specs.Rules.{rules_of}
 use Rattle.vx_merge.specs.Verdict.{IsVerdict}
 use Rattle.vx_merge.specs.Written.{AreBytes, IsMerged, limits_of}
@@ -59,14 +59,14 @@ module _ (corners : List Corner) (level : Option ℕ) (round : List Parts) (done
       (subst (λ k. IsVerdict n (limits_by (units_made m) (length m.header.items + size_of 0 (slice_units m)) k) answer)
       (sym (stream_size done made.plan (units_made m) bytes so_far made.units)) (are n some)))
 
-  passes : (others : List Sent) (total : ℕ) → AreLimits m bytes None → Passes (going corners level others total) round done made.plan
-  passes others total are = record { verdict = sound; is = made.is done refl all; limits = limits None are }
+  passes : AreLimits m bytes None → Passes corners level round done made.plan
+  passes are = record { verdict = sound; is = made.is done refl all; limits = limits None are }
 
   pub counts_all : (total : ℕ) → AreLimits m bytes None → total ≡ bytes + size_of 4 (units_made m)
       → Counts round done (going corners level slots total) (Ok m)
   counts_all total are is = (
     made.plan,
-    passes slots total are,
+    passes are,
     record {
       slots = made.last;
       bytes = is ∙ sym (stream_size done made.plan (units_made m) bytes so_far made.units);
@@ -103,28 +103,15 @@ writes_none round done x a k (errors.Stopped f) is = is
 
 -- ---- by what was asked for alone
 
-other_passes : (round : List Parts) (done : List Plan) (x y : Merging) (p : Plan) → y.corners ≡ x.corners → y.level ≡ x.level → Passes x round done p → Passes y round done p
-other_passes round done x y p corners level is = record {
-  verdict = subst (λ cs. IsVerdict (length cs) (rules_of cs round) None) (sym corners) is.verdict;
-  is = subst (λ l. IsMerged y.corners l round done p) (sym level) (subst (λ cs. IsMerged cs x.level round done p) (sym corners) is.is);
-  limits = subst (λ cs. IsVerdict (length cs) (limits_of done p) None) (sym corners) is.limits;
-}
-
-other_long : (round : List Parts) (done : List Plan) (x y : Merging) (r : Refusal) → y.corners ≡ x.corners → y.level ≡ x.level → IsTooLong x round done r → IsTooLong y round done r
-other_long round done x y r corners level is = record {
-  verdict = subst (λ cs. IsVerdict (length cs) (rules_of cs round) None) (sym corners) is.verdict;
-  plan = is.plan;
-  is = subst (λ l. IsMerged y.corners l round done is.plan) (sym level) (subst (λ cs. IsMerged cs x.level round done is.plan) (sym corners) is.is);
-  limits = subst (λ cs. IsVerdict (length cs) (limits_of done is.plan) (Some r)) (sym corners) is.limits;
-}
+other_passes : (round : List Parts) (done : List Plan) (x y : Merging) (p : Plan) → y.corners ≡ x.corners → y.level ≡ x.level
+    → Passes x.corners x.level round done p → Passes y.corners y.level round done p
+other_passes round done x y p corners level is =
+    subst (λ l. Passes y.corners l round done p) (sym level) (subst (λ cs. Passes cs x.level round done p) (sym corners) is)
 
 other_refused : (round : List Parts) (done : List Plan) (x y : Merging) (r : Refusal) → y.corners ≡ x.corners → y.level ≡ x.level
-    → Judges x round (Some r) ⊎ IsTooLong x round done r → Judges y round (Some r) ⊎ IsTooLong y round done r
+    → IsBarred x.corners x.level round done r → IsBarred y.corners y.level round done r
 other_refused round done x y r corners level is =
-    elim is [
-      | inl breaks ↦ inl (subst (λ cs. IsVerdict (length cs) (rules_of cs round) (Some r)) (sym corners) breaks)
-      | inr long ↦ inr (other_long round done x y r corners level long)
-    ]
+    subst (λ l. IsBarred y.corners l round done r) (sym level) (subst (λ cs. IsBarred cs x.level round done r) (sym corners) is)
 
 -- after an error what counts as sent doesn't matter, nor how many bytes count as written
 pub writes_stopped : (round : List Parts) (done : List Plan) (x y : Merging) (a b : Option (List ℕ)) (k l : ℕ) (e : WriteError)

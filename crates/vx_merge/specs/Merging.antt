@@ -49,30 +49,36 @@ pub record SameTask (old new : Merging) : Type 0 where
   pub corners : new.corners ≡ old.corners
   pub level : new.level ≡ old.level
 
--- this is the verdict on a round
-abbrev pub Judges : Merging → List Parts → Option Refusal → Type 0
-Judges m round verdict = IsVerdict (length m.corners) (rules_of m.corners round) verdict
+-- ---- a round behind others, in regions with these corners
 
--- ---- rounds behind others
+-- this is the verdict on it
+abbrev pub Judges : List Corner → List Parts → Option Refusal → Type 0
+Judges corners round verdict = IsVerdict (length corners) (rules_of corners round) verdict
 
--- the round breaks no rule, and is written so behind others, within the limits
-pub record Passes (m : Merging) (round : List Parts) (done : List Plan) (p : Plan) : Type 0 where
-  pub verdict : Judges m round None
-  pub is : IsMerged m.corners m.level round done p
-  pub limits : IsVerdict (length m.corners) (limits_of done p) None
+-- it breaks no rule, and is written so behind others, within the limits
+pub record Passes (corners : List Corner) (level : Option ℕ) (round : List Parts) (done : List Plan) (p : Plan) : Type 0 where
+  pub verdict : Judges corners round None
+  pub is : IsMerged corners level round done p
+  pub limits : IsVerdict (length corners) (limits_of done p) None
 
 -- it breaks no rule, and what would be written breaks a limit first
-pub record IsTooLong (m : Merging) (round : List Parts) (done : List Plan) (r : Refusal) : Type 0 where
-  pub verdict : Judges m round None
+pub record IsTooLong (corners : List Corner) (level : Option ℕ) (round : List Parts) (done : List Plan) (r : Refusal) : Type 0 where
+  pub verdict : Judges corners round None
   pub plan : Plan
-  pub is : IsMerged m.corners m.level round done plan
-  pub limits : IsVerdict (length m.corners) (limits_of done plan) (Some r)
+  pub is : IsMerged corners level round done plan
+  pub limits : IsVerdict (length corners) (limits_of done plan) (Some r)
+
+-- it can't be written behind others for this rule, or for this limit
+abbrev pub IsBarred : List Corner → Option ℕ → List Parts → List Plan → Refusal → Type 0
+IsBarred corners level round done r = Judges corners round (Some r) ⊎ IsTooLong corners level round done r
+
+-- ---- what a merger answers
 
 -- What is answered of a round behind others, which count as written: it passes, and counts so too; or a rule or a limit is broken; or memory
 -- ran out.
 abbrev pub Checks : List Parts → List Plan → Merging → Result (Unit {0}) WriteError → Type 0
-Checks round done new (Ok _) = (p : Plan) × Passes new round done p × Stands new (p ∷ done)
-Checks round done new (Err (errors.Refused r)) = Judges new round (Some r) ⊎ IsTooLong new round done r
+Checks round done new (Ok _) = (p : Plan) × Passes new.corners new.level round done p × Stands new (p ∷ done)
+Checks round done new (Err (errors.Refused r)) = IsBarred new.corners new.level round done r
 Checks round done new (Err errors.Memory) = Unit {0}
 Checks round done new (Err errors.SinkFailed) = ⊥
 Checks round done new (Err (errors.Stopped f)) = ⊥
@@ -82,10 +88,10 @@ Checks round done new (Err (errors.Stopped f)) = ⊥
 abbrev pub Writes : List Parts → List Plan → Merging → Option (List ℕ) → Option (List ℕ) → ℕ → ℕ → Result (Unit {0}) WriteError → Type 0
 Writes round done new bytes bytes' faults faults' (Ok _) =
     (faults' ≡ faults)
-    × ((p : Plan) × Passes new round done p × Appends bytes bytes' (written (units_of p)) × Stands new (p ∷ done))
+    × ((p : Plan) × Passes new.corners new.level round done p × Appends bytes bytes' (written (units_of p)) × Stands new (p ∷ done))
 Writes round done new bytes bytes' faults faults' (Err (errors.Refused r)) =
-    (bytes' ≡ bytes) × (faults' ≡ faults) × (Judges new round (Some r) ⊎ IsTooLong new round done r)
+    (bytes' ≡ bytes) × (faults' ≡ faults) × IsBarred new.corners new.level round done r
 Writes round done new bytes bytes' faults faults' (Err errors.Memory) = (bytes' ≡ bytes) × (faults' ≡ faults)
 Writes round done new bytes bytes' faults faults' (Err errors.SinkFailed) =
-    Rose faults faults' × ((p : Plan) × Passes new round done p × AppendsFront bytes bytes' (written (units_of p)))
+    Rose faults faults' × ((p : Plan) × Passes new.corners new.level round done p × AppendsFront bytes bytes' (written (units_of p)))
 Writes round done new bytes bytes' faults faults' (Err (errors.Stopped f)) = ⊥

@@ -9,5 +9,5 @@ use Rattle.vx_merge.specs.inner.Making.{units_made}
 
 -- as of a check, with the units of what passes it
 abbrev pub Counts : List Parts → List Plan → Merging → Result Made WriteError → Type 0
-Counts round done new (Ok m) = (p : Plan) × Passes new round done p × Stands new (p ∷ done) × (units_of p ≡ units_made m)
+Counts round done new (Ok m) = (p : Plan) × Passes new.corners new.level round done p × Stands new (p ∷ done) × (units_of p ≡ units_made m)
 Counts round done new (Err e) = Checks round done new (Err e)
