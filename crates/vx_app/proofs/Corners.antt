@@ -9,21 +9,18 @@ use Rattle.std.proofs.lemmas.Option.{same_Some, MatchOption-at_some}
 use Rattle.vx_annexb.specs.ByteStream.{UnitPlace}
 use Rattle.vx_pic.specs.Readings.{Reading}
 use Rattle.vx_pic.specs.Rules.{Readers}
-use Rattle.vx_pic.specs.Parts.{Parts}
 use Rattle.vx_assemble.specs.declared.feed.FeedFault.{FeedFault}
 use Rattle.vx_assemble.specs.declared.feed.FeedFault.TheVariants as faults
 use Rattle.vx_assemble.specs.Feed.{Feeding, Advances}
-use Rattle.vx_write.specs.declared.fault.WriteError.{WriteError}
-use Rattle.vx_write.specs.declared.fault.WriteError.TheVariants as errors
 use Rattle.vx_merge.specs.declared.corner.Corner.{Corner}
-use Rattle.vx_merge.specs.Merging.{Merging, IsCorner, AreCorners, Checks}
+use Rattle.vx_merge.specs.Merging.{IsCorner, AreCorners}
 use Rattle.vx_app.specs.declared.stop.Stop.{Stop}
 use Rattle.vx_app.specs.declared.stop.Stop.TheVariants.{NotUnderstood, Refused, ReadFault, WriteFault, NoMemory}
 use Rattle.vx_app.specs.declared.words.Placing.{Placing as Placed}
 use Rattle.vx_app.specs.Conclusion.{Outcome, IsOfCommand}
 use Rattle.vx_app.specs.Grammar.{Placing, IsPlacing, texts}
 use Rattle.vx_app.specs.Merge.{corner_of, corners_of, most_sources, too_many}
-use Rattle.vx_app.specs.inner.Merging.{AdvancesOf, ChecksRound, stop_from, stop_in}
+use Rattle.vx_app.specs.inner.Merging.{AdvancesOf, stop_from}
 use Rattle.vx_app.specs.inner.Placings.{placing_in, placed, Spells, IsPlacingWord}
 use Rattle.vx_app.proofs.Placings.{words_read, reads_one}
 
@@ -91,9 +88,3 @@ advanced_from k R g units readings f (faults.Refused r) by = (by, refl)
 advanced_from k R g units readings f faults.SourceFailed by = (by, refl)
 advanced_from k R g units readings f faults.Memory by = by
 advanced_from k R g units readings f (faults.Stopped first) by = absurd by.behind
-
-pub checked_in : (m : Merging) (round : List Parts) (n : ℕ) (error : WriteError) → Checks m round (Err error) → ChecksRound m.corners round n (Err (stop_in error n))
-checked_in m round n (errors.Refused r) by = (by, refl)
-checked_in m round n errors.Memory by = tt
-checked_in m round n errors.SinkFailed by = absurd by
-checked_in m round n (errors.Stopped first) by = absurd by

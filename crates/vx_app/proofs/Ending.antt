@@ -13,15 +13,14 @@ use Rattle.vx_app.specs.Grammar.{Command, Placing, show, extract, check_extract,
 use Rattle.vx_app.specs.Run.{Does, Performs, placings_in, task_in}
 use Rattle.vx_bits.specs.declared.refusal.Refusal.TheVariants.{Limit}
 use Rattle.vx_bits.specs.declared.rules.TheConstants.{TOO_MANY_SOURCES}
-use Rattle.std.proofs.lemmas.Bool.{cases_lt}
 use Rattle.std.proofs.lemmas.List.{length-map}
 use Rattle.std.proofs.lemmas.Option.{same_Some}
 use Rattle.vx_merge.specs.declared.corner.Corner.{Corner}
-use Rattle.vx_app.specs.Merge.{Stream, IsRound, Judges, RoundsPass, AreWritten, Ends, EndsWritten, EndsOnce, IsMergeable, IsMergeStatus, BreaksRule, IsBarred, Refuses as MergeRefuses, by_source, by_length, by_round, MeetsLimit, IsWrittenStatus, WhereAllTold, ChecksMergeBy, MergesBy, corner_of, corners_of, most_sources, too_many, in_round}
+use Rattle.vx_app.specs.Merge.{Stream, EndsWritten, EndsOnce, IsWritable, IsMergeStatus, WhereAllTold, ChecksMergeBy, MergesBy, corner_of, corners_of, most_sources, too_many, in_round}
 use Rattle.vx_pic.specs.Readings.{Picture}
 use Rattle.vx_pic.specs.Rules.{Readers}
 use Rattle.vx_pic.specs.Bytes.{Ending}
-use Rattle.vx_pic.specs.Parts.{Parts, parts_of}
+use Rattle.vx_pic.specs.Parts.{parts_of}
 use Rattle.vx_pic.specs.Written.{Plan}
 use Rattle.vx_extract.specs.Rules.{refusal_of}
 use Rattle.vx_pic.specs.H266.{AreOfH266}
@@ -124,28 +123,47 @@ module _ {A K : Type 0} (R : Readers) (of : AreOfH266 R) (words : List (List ℕ
 -- ---- merges
 
 -- what is refused can't be done
-merge-not : EndsOnce → (corners : List Corner) (ss : List Stream) (n : ℕ) (r : Refusal) (place : Where) → 0 < length ss → Ends corners ss n (Err (r, place)) → IsMergeable corners ss → ⊥
-merge-not once corners ss n r place some ends able =
+merge-not : EndsOnce → (corners : List Corner) (level : Option ℕ) (ss : List Stream) (done : List Plan) (r : Refusal) (place : Where) → 0 < length ss → EndsWritten corners level ss done (Err (r, place))
+    → IsWritable corners level ss → ⊥
+merge-not once corners level ss done r place some ends able =
     let x : Refusal × Where = (r, place) in
-    let same : (let o : Result (Unit {0}) (Refusal × Where) = Ok tt in o) ≡ Err x = (once corners ss able.0 n (Ok tt) (Err x) some able.1 ends).1 in
+    let same : (let o : Result (Unit {0}) (Refusal × Where) = Ok tt in o) ≡ Err x = (once corners level ss able.0 done (Ok tt) (Err x) some able.1 ends).1 in
     absurd (cc)
 
-merge-done : (corners : List Corner) (ss : List Stream) → IsMergeable corners ss → IsMergeStatus corners ss 0
-merge-done corners ss able = record { done = (λ zero_. able, λ is. refl); refused = (λ one. absurd (omega (arith, one)), λ not_. absurd (not_ able)) }
+merge-done : (corners : List Corner) (level : Option ℕ) (ss : List Stream) → IsWritable corners level ss → IsMergeStatus corners level ss 0
+merge-done corners level ss able = record { done = (λ zero_. able, λ is. refl); refused = (λ one. absurd (omega (arith, one)), λ not_. absurd (not_ able)) }
 
-merge-refused : (corners : List Corner) (ss : List Stream) (status : ℕ) → (IsMergeable corners ss → ⊥) → status ≡ 1 → IsMergeStatus corners ss status
-merge-refused corners ss status not_ one = record { done = (λ zero_. absurd (omega (arith, one, zero_)), λ able. absurd (not_ able)); refused = (λ is. not_, λ is. one) }
+merge-refused : (corners : List Corner) (level : Option ℕ) (ss : List Stream) (status : ℕ) → (IsWritable corners level ss → ⊥) → status ≡ 1 → IsMergeStatus corners level ss status
+merge-refused corners level ss status not_ one = record { done = (λ zero_. absurd (omega (arith, one, zero_)), λ able. absurd (not_ able)); refused = (λ is. not_, λ is. one) }
+
+refused-status : {E : Type 0} → EndsOnce → (corners : List Corner) (level : Option ℕ) (ss : List Stream) (done : List Plan) (r : Refusal) (place : Where) (status : ℕ) (err : Change E) → 0 < length ss → EndsWritten corners level ss done (Err (r, place))
+    → Concludes (Refused r place) status err → status ≢ 4 → IsMergeStatus corners level ss status
+refused-status once corners level ss done r place status err some refused ends fits =
+    elim ends.ended [ inl p ↦ merge-refused corners level ss status (merge-not once corners level ss done r place some refused) p.0 | inr p ↦ absurd (fits p.1) ]
+
+no-memory : {E : Type 0} (status : ℕ) (err : Change E) → Concludes NoMemory status err → status ≢ 4 → ⊥
+no-memory status err ends fits = elim ends.ended [ inl p ↦ fits p.0 | inr p ↦ p.0 ]
 
 module _ {A K E : Type 0} (once : EndsOnce) (R : Readers) (corners : List Corner) (sources : Sources A) (out : Change K) (err : Change E) (some : 0 < length sources.old) where
   merge-stopped : (stop : Stop) (status : ℕ) → ChecksMergeBy R corners sources out (Err stop) → Concludes stop status err → ((k : ℕ) → k < length sources.old → ¬ HasFault (source_at sources k)) → ¬ HasFault out → status ≢ 4
-      → WhereAllTold R sources (λ ss. IsMergeStatus corners ss status)
+      → WhereAllTold R sources (λ ss. IsMergeStatus corners None ss status)
   merge-stopped (Refused r place) status does ends read write fits ss are =
-      elim ends.ended [ inl p ↦ merge-refused corners ss status (merge-not once corners ss does.0 r place (omega (arith, some, are.count)) (does.3 ss are)) p.0 | inr p ↦ absurd (fits p.1) ]
+      let is = does.3 ss are in
+      refused-status once corners None ss is.0 r place status err (omega (arith, some, are.count)) is.2 ends fits
   merge-stopped (ReadFault k) status does ends read write fits ss are = absurd (read k does.0 does.1)
   merge-stopped WriteFault status does ends read write fits ss are = absurd (write does.1)
-  merge-stopped NoMemory status does ends read write fits ss are =
-      elim ends.ended [ inl p ↦ absurd (fits p.0) | inr p ↦ absurd p.0 ]
+  merge-stopped NoMemory status does ends read write fits ss are = absurd (no-memory status err ends fits)
   merge-stopped NotUnderstood status does ends read write fits ss are = absurd does
+
+  write-stopped : (level : Option ℕ) (stop : Stop) (status : ℕ) → MergesBy R corners level sources out (Err stop) → Concludes stop status err → ((k : ℕ) → k < length sources.old → ¬ HasFault (source_at sources k)) → ¬ HasFault out → status ≢ 4
+      → WhereAllTold R sources (λ ss. IsMergeStatus corners level ss status)
+  write-stopped level (Refused r place) status does ends read write fits ss are =
+      let is = does.3 ss are in
+      refused-status once corners level ss is.0 r place status err (omega (arith, some, are.count)) is.2 ends fits
+  write-stopped level (ReadFault k) status does ends read write fits ss are = absurd (read k does.0 does.1)
+  write-stopped level WriteFault status does ends read write fits ss are = absurd (write does.2)
+  write-stopped level NoMemory status does ends read write fits ss are = absurd (no-memory status err ends fits)
+  write-stopped level NotUnderstood status does ends read write fits ss are = absurd does
 
 too-many_ : {E : Type 0} (err : Change E) (stop : Stop) (status : ℕ) → (let o : Outcome = Err stop in o) ≡ too_many → Concludes stop status err → status ≢ 4 → status ≡ 1
 too-many_ err stop status is ends fits =
@@ -157,83 +175,33 @@ same_count placings = length-map placings corner_of
 
 module _ {A K : Type 0} (words : List (List ℕ)) (sources : Sources A) (out : Change K) (placings : List Placing) (spelled : AskFor words (check_merge placings)) (few : length placings ≤ most_sources) where
   -- the status of a merge that is checked and can be done
-  pub checks-done : (R : Readers) → AreOfH266 R → Performs words sources out (Ok tt) → WhereAllTold R sources (λ ss. IsMergeStatus (corners_of placings) ss 0)
+  pub checks-done : (R : Readers) → AreOfH266 R → Performs words sources out (Ok tt) → WhereAllTold R sources (λ ss. IsMergeStatus (corners_of placings) None ss 0)
   checks-done R of performs ss are =
       let does = (performs.command (check_merge placings) spelled).few (omega (arith, few, same_count placings)) R of in
       let is = does.2 ss are in
-      merge-done (corners_of placings) ss (is.0, is.1)
+      merge-done (corners_of placings) None ss (is.0, is.1)
 
   -- and of one that stopped
   pub checks-stopped : {E : Type 0} (once : EndsOnce) (R : Readers) → AreOfH266 R → (err : Change E) (stop : Stop) (status : ℕ) → 0 < length sources.old → Performs words sources out (Err stop) → Concludes stop status err
-      → ((k : ℕ) → k < length sources.old → ¬ HasFault (source_at sources k)) → ¬ HasFault out → status ≢ 4 → WhereAllTold R sources (λ ss. IsMergeStatus (corners_of placings) ss status)
+      → ((k : ℕ) → k < length sources.old → ¬ HasFault (source_at sources k)) → ¬ HasFault out → status ≢ 4 → WhereAllTold R sources (λ ss. IsMergeStatus (corners_of placings) None ss status)
   checks-stopped once R of err stop status some performs ends =
       merge-stopped once R (corners_of placings) sources out err some stop status ((performs.command (check_merge placings) spelled).few (omega (arith, few, same_count placings)) R of) ends
 
 -- ---- merges that are written
 
--- rounds that are written pass
-written_pass : (corners : List Corner) (level : Option ℕ) (ss : List Stream) (done : List Plan) → AreWritten corners level ss done → RoundsPass corners ss (length done)
-written_pass corners level ss [] plans r before = absurd (omega (arith, before))
-written_pass corners level ss (p ∷ done) plans r before = elim (cases_lt r (length done)) [
-  | inl earlier ↦ written_pass corners level ss done plans.1 r earlier
-  | inr last ↦
-      let same : length done ≡ r = omega (arith, last, before) in
-      let round = plans.0 in
-      subst (λ (i : ℕ). (q : List Parts) × IsRound ss i q × Judges corners q None) same (round.0, round.1, round.2.rules)
-]
-
-written-done : (corners : List Corner) (level : Option ℕ) (ss : List Stream) (done : List Plan) → EndsWritten corners level ss done (Ok tt) → IsWrittenStatus corners level ss 0
-written-done corners level ss done ends = record {
-  one = inl refl;
-  done = λ zero_. (done, ends);
-  refused = λ one. absurd (omega (arith, one));
-  rules = λ not_. absurd (not_ (length done, (written_pass corners level ss done ends.0, ends.1)));
-}
-
--- what bars a merge is a rule or a limit
-module _ (once : EndsOnce) (corners : List Corner) (level : Option ℕ) (ss : List Stream) (some : 0 < length ss) (done : List Plan) (plans : AreWritten corners level ss done) where
-  by_rules : (r : Refusal) (place : Where) → MergeRefuses (BreaksRule corners) ss (length done) r place → IsMergeable corners ss → ⊥
-  by_rules r place refuses = merge-not once corners ss (length done) r place some (written_pass corners level ss done plans, refuses)
-
-  barred : (r : Refusal) (place : Where) → MergeRefuses (IsBarred corners level done) ss (length done) r place → (¬ IsMergeable corners ss) ⊎ MeetsLimit corners level ss
-  barred r place (by_source k e of none is at) = inl (by_rules r place (by_source k e of none is at))
-  barred r place (by_length k none lowest goes is at) = inl (by_rules r place (by_length k none lowest goes is at))
-  barred r place (by_round round is (inl judged) at) = inl (by_rules r place (by_round round is judged at))
-  barred r place (by_round round is (inr long) at) = inr (done, plans, (round, is, (r, long)))
-
-  written-refused : (r : Refusal) (place : Where) (status : ℕ) → MergeRefuses (IsBarred corners level done) ss (length done) r place → status ≡ 1 → IsWrittenStatus corners level ss status
-  written-refused r place status refuses one = record {
-    one = inr one;
-    done = λ zero_. absurd (omega (arith, one, zero_));
-    refused = λ is. barred r place refuses;
-    rules = λ not_. one;
-  }
-
-module _ {A K E : Type 0} (once : EndsOnce) (R : Readers) (corners : List Corner) (level : Option ℕ) (sources : Sources A) (out : Change K) (err : Change E) (some : 0 < length sources.old) where
-  write-stopped : (stop : Stop) (status : ℕ) → MergesBy R corners level sources out (Err stop) → Concludes stop status err → ((k : ℕ) → k < length sources.old → ¬ HasFault (source_at sources k)) → ¬ HasFault out → status ≢ 4
-      → WhereAllTold R sources (λ ss. IsWrittenStatus corners level ss status)
-  write-stopped (Refused r place) status does ends read write fits ss are =
-      let is = does.3 ss are in
-      elim ends.ended [ inl p ↦ written-refused once corners level ss (omega (arith, some, are.count)) is.0 is.2.0 r place status is.2.1 p.0 | inr p ↦ absurd (fits p.1) ]
-  write-stopped (ReadFault k) status does ends read write fits ss are = absurd (read k does.0 does.1)
-  write-stopped WriteFault status does ends read write fits ss are = absurd (write does.2)
-  write-stopped NoMemory status does ends read write fits ss are =
-      elim ends.ended [ inl p ↦ absurd (fits p.0) | inr p ↦ absurd p.0 ]
-  write-stopped NotUnderstood status does ends read write fits ss are = absurd does
-
 module _ {A K : Type 0} (words : List (List ℕ)) (sources : Sources A) (out : Change K) (level : Option ℕ) (placings : List Placing) (spelled : AskFor words (merge level placings)) (few : length placings ≤ most_sources) where
   -- the status of a merge that is written whole
-  pub merges-done : (R : Readers) → AreOfH266 R → Performs words sources out (Ok tt) → WhereAllTold R sources (λ ss. IsWrittenStatus (corners_of placings) level ss 0)
+  pub merges-done : (R : Readers) → AreOfH266 R → Performs words sources out (Ok tt) → WhereAllTold R sources (λ ss. IsMergeStatus (corners_of placings) level ss 0)
   merges-done R of performs ss are =
       let does = (performs.command (merge level placings) spelled).few (omega (arith, few, same_count placings)) R of in
       let is = does.2 ss are in
-      written-done (corners_of placings) level ss is.0 is.1
+      merge-done (corners_of placings) level ss (is.0, is.1)
 
   -- and of one that stopped
   pub merges-stopped : {E : Type 0} (once : EndsOnce) (R : Readers) → AreOfH266 R → (err : Change E) (stop : Stop) (status : ℕ) → 0 < length sources.old → Performs words sources out (Err stop) → Concludes stop status err
-      → ((k : ℕ) → k < length sources.old → ¬ HasFault (source_at sources k)) → ¬ HasFault out → status ≢ 4 → WhereAllTold R sources (λ ss. IsWrittenStatus (corners_of placings) level ss status)
+      → ((k : ℕ) → k < length sources.old → ¬ HasFault (source_at sources k)) → ¬ HasFault out → status ≢ 4 → WhereAllTold R sources (λ ss. IsMergeStatus (corners_of placings) level ss status)
   merges-stopped once R of err stop status some performs ends =
-      write-stopped once R (corners_of placings) level sources out err some stop status ((performs.command (merge level placings) spelled).few (omega (arith, few, same_count placings)) R of) ends
+      write-stopped once R (corners_of placings) sources out err some level stop status ((performs.command (merge level placings) spelled).few (omega (arith, few, same_count placings)) R of) ends
 
 -- ---- too many sources
 

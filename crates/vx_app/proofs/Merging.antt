@@ -5,7 +5,6 @@ use Rattle.std.specs.Option.{option_map_or}
 use Rattle.std.specs.Io.KnownBytes.{Consumes, IsAtEnd}
 use Rattle.std.proofs.lemmas.List.{length-map}
 use Rattle.std.proofs.lemmas.Option.{slice_get_within, same_Some}
-use Rattle.std.proofs.lemmas.Bool.{cases_lt}
 use Rattle.vx_io.specs.Listed.{bytes_at, faults_at}
 use Rattle.vx_bits.specs.declared.refusal.Refusal.{Refusal}
 use Rattle.vx_annexb.specs.ByteStream.{UnitPlace}
@@ -19,11 +18,12 @@ use Rattle.vx_report.specs.declared.refusal.Where.{Where}
 use Rattle.vx_assemble.specs.Held.{ShowsLatest, lent_by}
 use Rattle.vx_assemble.specs.Feed.{Feeding, EndsAtEnd, HasFed}
 use Rattle.vx_merge.specs.declared.corner.Corner.{Corner}
+use Rattle.vx_merge.specs.Merging.{Passes}
 use Rattle.vx_app.specs.declared.stop.Stop.{Stop}
 use Rattle.vx_app.specs.declared.stop.Stop.TheVariants.{Refused, ReadFault, NoMemory}
 use Rattle.vx_app.specs.Change.{Change, Sources, sources_change, source_at, HasFault}
 use Rattle.vx_app.specs.Extract.{WhereTold, BeginsWith}
-use Rattle.vx_app.specs.Merge.{Stream, picture_in, GoesOn, HasEnded, OfFirst, IsRound, Judges, RoundsPass, IsWritten, AreWritten, behind_units, AreTold, IsRead, IsReadOut, Rests, Sees}
+use Rattle.vx_app.specs.Merge.{Stream, picture_in, GoesOn, HasEnded, OfFirst, IsRound, AreWritten, behind_units, AreTold, IsRead, IsReadOut, Rests, Sees}
 use Rattle.vx_app.specs.inner.Extracting.{HasTaken, HasTakenOne}
 use Rattle.vx_app.specs.inner.Merging.{OfAll, OfFed, Begin, AdvancesOf, LendsLatest, Waits, TakesOne, EndsBehind, Came, AreWaiting, AllTake, so_far}
 use Rattle.vx_app.proofs.Indexed.{some_at, same_lists, mapped_at, choose, earlier_stay, latest_at}
@@ -54,12 +54,7 @@ round_stays ss taken n r count rounds begin within =
     let fits : r < length ps.0 = omega (arith, within, rounds k ps.0 ps.1) in
     sym s.2 ∙ part_stays r s.0 ps.0 fits (begin k s.0 ps.0 s.1 ps.1) ∙ ap (part_in r) ps.2 ∙ t.2)
 
-pub rounds_stay : (corners : List Corner) (ss : List Stream) (taken : List (List Picture)) (n : ℕ) → length ss ≡ length taken → OfAll (λ k ps. length ps ≡ n) taken → Begin ss taken
-    → RoundsPass corners (so_far taken) n → RoundsPass corners ss n
-rounds_stay corners ss taken n count rounds begin pass r before =
-    let p = pass r before in (p.0, round_stays ss taken n r count rounds begin before ∙ p.1, p.2)
-
--- and those that are written are written so there
+-- those that are written are written so there
 pub written_stay : (corners : List Corner) (level : Option ℕ) (ss : List Stream) (taken : List (List Picture)) (n : ℕ) → length ss ≡ length taken → OfAll (λ k ps. length ps ≡ n) taken → Begin ss taken
     → (done : List Plan) → length done ≤ n → AreWritten corners level (so_far taken) done → AreWritten corners level ss done
 written_stay corners level ss taken n count rounds begin [] few plans = tt
@@ -339,18 +334,9 @@ module _ {A : Type 0} (bytes : A → Option (List ℕ)) (faults : A → ℕ) (R 
           next_part;
     }
 
-    -- where it passes, so do all
-    pub more_pass : (corners : List Corner) (h : HasRound l feeds taken n) → RoundsPass corners (so_far taken) n → Judges corners (map (λ (f : Feeding). lent_by f.assembler) feeds) None → RoundsPass corners (so_far h.next) (n + 1)
-    more_pass corners h pass fine r before = elim (cases_lt r n) [
-      | inl earlier ↦ rounds_stay corners (so_far h.next) taken n (omega (arith, h.waiting.taken_count, all.taken_count, length-map h.next stream_of)) all.rounds h.begin pass r earlier
-      | inr not_ ↦
-          let same : n ≡ r = omega (arith, not_, before) in
-          subst (λ (i : ℕ). (round : List Parts) × IsRound (so_far h.next) i round × Judges corners round None) same (map (λ (f : Feeding). lent_by f.assembler) feeds, h.round, fine)
-    ]
-
     -- where it is written, all are
     pub more_written : (corners : List Corner) (level : Option ℕ) (h : HasRound l feeds taken n) (done : List Plan) (p : Plan) → length done ≡ n → AreWritten corners level (so_far taken) done
-        → IsWritten corners level (map (λ (f : Feeding). lent_by f.assembler) feeds) done p → AreWritten corners level (so_far h.next) (p ∷ done)
+        → Passes corners level (map (λ (f : Feeding). lent_by f.assembler) feeds) done p → AreWritten corners level (so_far h.next) (p ∷ done)
     more_written corners level h done p count plans fine = (
       (map (λ (f : Feeding). lent_by f.assembler) feeds, subst (λ (r : ℕ). IsRound (so_far h.next) r (map (λ (f : Feeding). lent_by f.assembler) feeds)) (sym count) h.round, fine),
       written_stay corners level (so_far h.next) taken n (omega (arith, h.waiting.taken_count, all.taken_count, length-map h.next stream_of)) all.rounds h.begin done (omega (arith, count)) plans,

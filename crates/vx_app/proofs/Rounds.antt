@@ -28,11 +28,11 @@ use Rattle.vx_app.specs.declared.stop.Stop.{Stop}
 use Rattle.vx_app.specs.declared.stop.Stop.TheVariants.{NotUnderstood, Refused, ReadFault, WriteFault, NoMemory}
 use Rattle.vx_app.specs.Change.{Change, Sources, sources_change, source_at}
 use Rattle.vx_app.specs.Extract.{WhereTold, BeginsWith}
-use Rattle.vx_app.specs.Merge.{Stream, GoesOn, HasEnded, RoundsPass, NoneRefused, in_round, by_source, by_length, by_round, AreTold, OfEach, IsRead, Rests, AreWritten, AllEnded, Refuses, RestsRead, IsReadOut, Sees}
+use Rattle.vx_app.specs.Merge.{Stream, GoesOn, HasEnded, NoneRefused, in_round, by_source, by_length, by_round, AreTold, OfEach, IsRead, Rests, AreWritten, AllEnded, Refuses, RestsRead, IsReadOut, Sees}
 use Rattle.vx_app.specs.inner.Merging.{OfAll, IsUnfed, LendsLatest, Waits, TakesOne, Came, AreWaiting, AreAdvancing, AdvancesOf, AllTake, AllEnd, so_far, GoesBy, AdvancesAll, Begin, HaltsBehind}
 use Rattle.vx_app.proofs.Taking.{taken_none, taken_below}
 use Rattle.vx_app.proofs.Indexed.{some_at, mapped_at, any_default, set_there, set_other, get_set_there, get_set_other, where_is}
-use Rattle.vx_app.proofs.Merging.{Advanced, HasRound, round_stays, rounds_stay, waits_still, came_still, waits_read, waits_rest, waits_begin, takes_read, takes_rest, takes_goes, ends_there, came_read, came_rest, came_begin, came_kept, waits_taken, went, step_takes, step_ends, step_refused, step_unread, step_none, told_of, written_stay}
+use Rattle.vx_app.proofs.Merging.{Advanced, HasRound, round_stays, waits_still, came_still, waits_read, waits_rest, waits_begin, takes_read, takes_rest, takes_goes, ends_there, came_read, came_rest, came_begin, came_kept, waits_taken, went, step_takes, step_ends, step_refused, step_unread, step_none, told_of, written_stay}
 use Rattle.vx_app.proofs.Told.{refused_at}
 
 -- what holds at each index does of each element
@@ -54,11 +54,7 @@ module _ {A : Type 0} (bytes : A → Option (List ℕ)) (faults : A → ℕ) (R 
   pub begin_told : (l : List A) (taken : List (List Picture)) → OfAll (λ k ps. WhereTold R (At l k) (λ qs e. BeginsWith qs ps)) taken → (ss : List Stream) → AreTold R (Src l) ss → Begin ss taken
   begin_told l taken each ss are k s ps at there = told_of bytes faults R first l ss k s (λ qs e. BeginsWith qs ps) are at (each k ps there)
 
-  -- those that pass pass there, and those that are written are written so
-  pub pass_told : (corners : List Corner) (l : List A) (taken : List (List Picture)) (n : ℕ) → length taken ≡ length first → OfAll (λ k ps. length ps ≡ n) taken → RoundsPass corners (so_far taken) n
-      → (ss : List Stream) → AreTold R (Src l) ss → Begin ss taken → RoundsPass corners ss n
-  pass_told corners l taken n count rounds pass ss are begin = rounds_stay corners ss taken n (counted l ss taken are count) rounds begin pass
-
+  -- those that are written are written so
   pub written_told : (corners : List Corner) (level : Option ℕ) (l : List A) (taken : List (List Picture)) (n : ℕ) → length taken ≡ length first → OfAll (λ k ps. length ps ≡ n) taken → (done : List Plan) → length done ≡ n → AreWritten corners level (so_far taken) done
       → (ss : List Stream) → AreTold R (Src l) ss → Begin ss taken → AreWritten corners level ss done
   written_told corners level l taken n count rounds done many plans ss are begin = written_stay corners level ss taken n (counted l ss taken are count) rounds begin done (omega (arith, many)) plans
@@ -224,7 +220,7 @@ module _ {A : Type 0} (bytes : A → Option (List ℕ)) (faults : A → ℕ) (R 
     goes_so (Err WriteFault) by = absurd by
     goes_so (Err NoMemory) by = absurd by
 
-  -- ---- the rounds that pass
+  -- ---- all sources
 
   -- none was taken yet
   pub waiting_none : (feeds : List Feeding) → length feeds ≡ length first → OfAll (λ k f. IsUnfed f) feeds → AreWaiting R (Src first) feeds (map (λ (f : Feeding). let ps : List Picture = [] in ps) feeds) 0

@@ -1,6 +1,5 @@
 -- What rounds that are checked or written come to.
 use Rattle.std.proofs.Common.{◌≡◌, ℕ, ◌+◌, ◌<◌, ◌≤◌, List, [], ◌∷◌, ◌++◌, ◌∙◌, Option, Some, None, Result, Ok, Err, ◌⊎◌, length, map, inl, inr, sym, ap, refl, subst, arith}
-use Rattle.std.specs.Prelude.{OnOk}
 use Rattle.std.specs.Io.KnownBytes.{Appends}
 use Rattle.std.proofs.KnownBytes.{Appends-trans, Consumes-nil}
 use Rattle.vx_io.specs.Faults.{Rose}
@@ -18,22 +17,20 @@ use Rattle.vx_assemble.specs.Feed.{Feeding}
 use Rattle.vx_write.specs.declared.fault.WriteError.{WriteError}
 use Rattle.vx_write.specs.declared.fault.WriteError.TheVariants as errors
 use Rattle.vx_merge.specs.declared.corner.Corner.{Corner}
-use Rattle.vx_merge.specs.Merging.{Merging, SameTask, Stands, Passes, Judges as MergerJudges, IsTooLong as MergerIsTooLong, Writes}
-use Rattle.vx_merge.specs.Verdict.{IsVerdict}
-use Rattle.vx_merge.specs.Written.{IsMerged, limits_of}
+use Rattle.vx_merge.specs.Merging.{Merging, SameTask, Stands, Passes, IsBarred}
 use Rattle.vx_app.specs.declared.merge.Work.{Work}
 use Rattle.vx_app.specs.declared.merge.Work.TheVariants.{Check, Write}
 use Rattle.vx_app.specs.declared.stop.Stop.{Stop}
 use Rattle.vx_app.specs.declared.stop.Stop.TheVariants.{NotUnderstood, Refused, ReadFault, WriteFault, NoMemory}
-use Rattle.vx_app.specs.Change.{Change, Sources, change, sources_change, HasFault, Gains, GainsFront}
+use Rattle.vx_app.specs.Change.{Change, Sources, change, sources_change, Gains, GainsFront}
 use Rattle.vx_app.specs.Conclusion.{Outcome}
 use Rattle.vx_app.specs.Extract.{ok_text}
-use Rattle.vx_app.specs.Merge.{Stream, AllEnded, Judges, BreaksRule, RoundsPass, IsWritten, IsTooLong, IsBarred, AreWritten, bytes_of, in_round, by_source, by_length, by_round, Refuses, AreTold, OfEach, IsRead, GainsInto, ChecksMergeBy, MergesBy}
-use Rattle.vx_app.specs.inner.Merging.{OfAll, Begin, stop_in, AreWaiting, AllTake, AllEnd, so_far, CountsRounds, TakesRounds, outcome_of, bars_none, HaltsBehind, ChecksRound, WritesRound, HasWritten, WasDone, HasDone}
+use Rattle.vx_app.specs.Merge.{Stream, AllEnded, AreWritten, bytes_of, in_round, by_source, by_length, by_round, Refuses, AreTold, OfEach, IsRead, GainsInto, ChecksMergeBy, MergesBy}
+use Rattle.vx_app.specs.inner.Merging.{OfAll, Begin, stop_in, AreWaiting, AllTake, AllEnd, so_far, Leaves, Keeps, TakesRounds, outcome_of, bars_none, HaltsBehind, DoesRound, TakesRound, HasWritten, HasDone}
 use Rattle.vx_app.proofs.Extracting.{written_more}
 use Rattle.vx_app.proofs.Gained.{Gains-nothing, Gains-then}
-use Rattle.vx_app.proofs.Merging.{HasRound, has_round, more_pass, more_written}
-use Rattle.vx_app.proofs.Rounds.{begin_told, pass_told, written_told, all_out, end_begin, all_ended, take_begin, take_read, take_rest, round_barred}
+use Rattle.vx_app.proofs.Merging.{HasRound, has_round, more_written}
+use Rattle.vx_app.proofs.Rounds.{begin_told, written_told, all_out, end_begin, all_ended, take_begin, take_read, take_rest, round_barred}
 
 -- ---- bytes that are gained
 
@@ -50,35 +47,28 @@ module _ {K : Type 0} (taken : K → Option (List ℕ)) (writes : K → ℕ) (o 
     gained = Appends-trans (taken o) (taken o') (taken o'') xs front.front gained.gained front.gained;
   }
 
+-- nothing was written where rounds are checked, and no write failed else
+keeps : {K : Type 0} (work : Work) (out : Change K) (done : List Plan) → Leaves work out done → Keeps work out
+keeps Check out done leaves = leaves
+keeps Write out done leaves = leaves.kept
+
 -- ---- what a merger says of its regions
 
 module _ (m : Merging) (corners : List Corner) (level : Option ℕ) (same : m.corners ≡ corners) (alike : m.level ≡ level) (round : List Parts) (done : List Plan) where
-  judges_so : (verdict : Option Refusal) → MergerJudges m round verdict → Judges corners round verdict
-  judges_so verdict judged = subst (λ (l : List Corner). Judges l round verdict) same judged
+  passes_so : (p : Plan) → Passes m.corners m.level round done p → Passes corners level round done p
+  passes_so p passes = subst (λ (l : List Corner). Passes l level round done p) same (subst (λ (n : Option ℕ). Passes m.corners n round done p) alike passes)
 
-  merged_so : (p : Plan) → IsMerged m.corners m.level round done p → IsMerged corners level round done p
-  merged_so p merged = subst (λ (l : List Corner). IsMerged l level round done p) same (subst (λ (n : Option ℕ). IsMerged m.corners n round done p) alike merged)
+  barred_so : (r : Refusal) → IsBarred m.corners m.level round done r → IsBarred corners level round done r
+  barred_so r barred = subst (λ (l : List Corner). IsBarred l level round done r) same (subst (λ (n : Option ℕ). IsBarred m.corners n round done r) alike barred)
 
-  limits_so : (p : Plan) (verdict : Option Refusal) → IsVerdict (length m.corners) (limits_of done p) verdict → IsVerdict (length corners) (limits_of done p) verdict
-  limits_so p verdict judged = subst (λ (l : List Corner). IsVerdict (length l) (limits_of done p) verdict) same judged
-
-  written_so : (p : Plan) → Passes m round done p → IsWritten corners level round done p
-  written_so p passes = record { rules = judges_so None passes.verdict; merged = merged_so p passes.is; limits = limits_so p None passes.limits }
-
-  long_so : (r : Refusal) → MergerIsTooLong m round done r → IsTooLong corners level done round r
-  long_so r long = record { rules = judges_so None long.verdict; plan = long.plan; merged = merged_so long.plan long.is; limit = limits_so long.plan (Some r) long.limits }
-
-  barred_so : (r : Refusal) → MergerJudges m round (Some r) ⊎ MergerIsTooLong m round done r → IsBarred corners level done round r
-  barred_so r (inl judged) = inl (judges_so (Some r) judged)
-  barred_so r (inr long) = inr (long_so r long)
-
--- where a round isn't written
-pub wrote_in : (round : List Parts) (done : List Plan) (m : Merging) (bytes bytes' : Option (List ℕ)) (faults faults' n : ℕ) (error : WriteError) → Writes round done m bytes bytes' faults faults' (Err error)
-    → WritesRound round done m bytes bytes' faults faults' n (Err (stop_in error n))
-wrote_in round done m bytes bytes' faults faults' n (errors.Refused r) by = (by, refl)
-wrote_in round done m bytes bytes' faults faults' n errors.SinkFailed by = by
-wrote_in round done m bytes bytes' faults faults' n errors.Memory by = by
-wrote_in round done m bytes bytes' faults faults' n (errors.Stopped f) by = absurd by
+-- where a round isn't checked or written
+pub did_in : {K : Type 0} (work : Work) (round : List Parts) (done : List Plan) (m : Merging) (out : Change K) (n : ℕ) (error : WriteError) → DoesRound work round done m out (Err error)
+    → TakesRound work round done m out n (Err (stop_in error n))
+did_in work round done m out n (errors.Refused r) by = (by, refl)
+did_in work round done m out n errors.SinkFailed by = by
+did_in work round done m out n errors.Memory by = by
+did_in Check round done m out n (errors.Stopped f) by = absurd by.1
+did_in Write round done m out n (errors.Stopped f) by = absurd by
 
 -- what the sources refuse is refused whatever bars rounds
 refused_so : (bars : List Parts → Refusal → Type 0) (ss : List Stream) (n : ℕ) (r : Refusal) (place : Where) → Refuses bars_none ss n r place → Refuses bars ss n r place
@@ -93,14 +83,42 @@ refused_at_length bars ss n m r place same refuses = subst (λ (k : ℕ). Refuse
 
 -- what is answered of it
 pub record Turns {K : Type 0} (taken : K → Option (List ℕ)) (writes : K → ℕ) (n : ℕ) (o o' : K) (m m' : Merging) (work : Work) (outcome : Outcome) (round : List Parts) : Type 0 where
-  pub checked : work ≡ Check → m.first ≡ None → ChecksRound m.corners round n outcome
-  pub stays : work ≡ Check → (o' ≡ o) × OnOk outcome (m' ≡ m)
-  pub written : work ≡ Write → (done : List Plan) → Stands m done → WritesRound round done m' (taken o) (taken o') (writes o) (writes o') n outcome
+  pub takes : (done : List Plan) → Stands m done → TakesRound work round done m' (change taken writes o o') n outcome
   pub task : SameTask m m'
 
 pub turns_same : {K : Type 0} (taken : K → Option (List ℕ)) (writes : K → ℕ) (n : ℕ) (o o' : K) (m m' : Merging) (work : Work) (outcome : Outcome) (feeds fs : List Feeding) → feeds ≡ fs
     → Turns taken writes n o o' m m' work outcome (map (λ (f : Feeding). lent_by f.assembler) feeds) → Turns taken writes n o o' m m' work outcome (map (λ (f : Feeding). lent_by f.assembler) fs)
 turns_same taken writes n o o' m m' work outcome feeds fs same turns = subst (λ (l : List Feeding). Turns taken writes n o o' m m' work outcome (map (λ (f : Feeding). lent_by f.assembler) l)) same turns
+
+-- what `out` gained with it
+module _ {K : Type 0} (taken : K → Option (List ℕ)) (writes : K → ℕ) (o o' o'' : K) (m : Merging) (round : List Parts) (done : List Plan) where
+  abbrev Did : Work → Result (Unit {0}) WriteError → Type 0
+  Did work answer = DoesRound work round done m (change taken writes o' o'') answer
+
+  abbrev Left : Work → K → List Plan → Type 0
+  Left work x plans = Leaves work (change taken writes o x) plans
+
+  did_one : (work : Work) → Left work o' done → Did work (Ok tt) → (p : Plan) × Passes m.corners m.level round done p × Stands m (p ∷ done) × Left work o'' (p ∷ done)
+  did_one Check left did = (did.1.0, did.1.1, did.1.2, did.0 ∙ left)
+  did_one Write left did =
+      let p = did.1.0 in (
+        p,
+        did.1.1,
+        did.1.3,
+        subst (λ (x : List ℕ). Gains (change taken writes o o'') x) (sym (written_more p done)) (Gains-then taken writes o o' o'' (bytes_of done) (written (units_of p)) left (record { kept = did.0; gained = did.1.2 })),
+      )
+
+  did_refuse : (work : Work) (r : Refusal) → Left work o' done → Did work (Err (errors.Refused r)) → Left work o'' done × IsBarred m.corners m.level round done r
+  did_refuse Check r left did = (did.0 ∙ left, did.1)
+  did_refuse Write r left did = (gains_still taken writes o o' o'' (bytes_of done) [] left did.0 did.1, did.2)
+
+  did_nothing : (work : Work) → Left work o' done → Did work (Err errors.Memory) → Left work o'' done
+  did_nothing Check left did = did.0 ∙ left
+  did_nothing Write left did = gains_still taken writes o o' o'' (bytes_of done) [] left did.0 did.1
+
+  did_front : (work : Work) → Left work o' done → Did work (Err errors.SinkFailed) → (work ≡ Write) × ((p : Plan) × Passes m.corners m.level round done p × GainsInto (change taken writes o o'') (bytes_of done) (written (units_of p)))
+  did_front Check left did = absurd did.1
+  did_front Write left did = (refl, (did.1.0, did.1.1, gains_into taken writes o o' o'' (bytes_of done) (written (units_of did.1.0)) left did.0 did.1.2))
 
 -- ---- round by round
 
@@ -116,8 +134,9 @@ module _ {A K : Type 0} (bytes : A → Option (List ℕ)) (faults : A → ℕ) (
 
   -- ---- none yet
 
-  nothing : Gains (Out o) []
-  nothing = Gains-nothing taken_ writes o o refl
+  nothing : (work : Work) → Leaves work (Out o) []
+  nothing Check = refl
+  nothing Write = Gains-nothing taken_ writes o o refl
 
   -- no source was read
   unread : OfEach (Src first) IsRead
@@ -125,180 +144,130 @@ module _ {A K : Type 0} (bytes : A → Option (List ℕ)) (faults : A → ℕ) (
 
   -- there was no memory to begin
   pub work_unmade : (work : Work) → Comes work first o (Err NoMemory)
-  work_unmade Check = (refl, unread)
-  work_unmade Write = (unread, refl, λ ss are. ([], tt, nothing))
-
-  was_none : (work : Work) (m : Merging) (taken : List (List Picture)) → Stands m [] → WasDone work corners level (Out o) m taken 0
-  was_none Check m taken stands = (refl, stands.going, λ r before. absurd (omega (arith, before)))
-  was_none Write m taken stands = record { done = []; count = refl; stands = stands; plans = tt; gained = nothing }
+  work_unmade work = (unread, keeps work (Out o) [] (nothing work), λ ss are. ([], tt, nothing work))
 
   pub work_none : (work : Work) (feeds : List Feeding) (m : Merging) (taken : List (List Picture)) → AreWaiting R (Src first) feeds taken 0 → Stands m [] → HasDone R work corners level (Src first) (Out o) feeds m 0
-  work_none work feeds m taken waiting stands = record { taken = taken; waiting = waiting; done = was_none work m taken stands }
+  work_none work feeds m taken waiting stands = record { taken = taken; waiting = waiting; done = record { done = []; count = refl; stands = stands; plans = tt; leaves = nothing work } }
 
-  -- ---- n rounds of these pictures
+  -- ---- n rounds of these pictures were checked or written
 
-  module _ (l : List A) (taken : List (List Picture)) (n : ℕ) (count : length taken ≡ length first) (rounds : OfAll (λ k ps. length ps ≡ n) taken) (o' : K) (m : Merging) where
-    -- checked or written, and stopped at the sources
-    check_halted : RoundsPass corners (so_far taken) n → (stop : Stop) → HaltsBehind R (Src l) taken n stop → CountsRounds R corners (Src l) (Err stop)
-    check_halted pass (Refused r place) halts =
-        (n, halts.0, λ ss are. let h = halts.1 ss are in (pass_told bytes faults R first corners l taken n count rounds pass ss are h.0, refused_so _ ss n r place h.1))
-    check_halted pass (ReadFault k) halts =
-        (halts.0, halts.1, (n, halts.2, halts.3, λ ss are. let h = halts.4 ss are in (pass_told bytes faults R first corners l taken n count rounds pass ss are h.0, h.1)))
-    check_halted pass NoMemory halts = halts.0
-    check_halted pass NotUnderstood halts = absurd halts
-    check_halted pass WriteFault halts = absurd halts
+  module _ (l : List A) (taken : List (List Picture)) (n : ℕ) (count : length taken ≡ length first) (rounds : OfAll (λ k ps. length ps ≡ n) taken) (o' : K) (m : Merging) (work : Work)
+      (w : HasWritten work corners level (Out o') m taken n) where
+    plans_told : (ss : List Stream) → AreTold R (Src l) ss → Begin ss taken → AreWritten corners level ss w.done
+    plans_told = written_told bytes faults R first corners level l taken n count rounds w.done w.count w.plans
 
-    module _ (w : HasWritten corners level (Out o') m taken n) where
-      plans_told : (ss : List Stream) → AreTold R (Src l) ss → Begin ss taken → AreWritten corners level ss w.done
-      plans_told = written_told bytes faults R first corners level l taken n count rounds w.done w.count w.plans
+    kept : Keeps work (Out o')
+    kept = keeps work (Out o') w.done w.leaves
 
-      write_halted : (stop : Stop) → HaltsBehind R (Src l) taken n stop → MergesBy R corners level (Src l) (Out o') (Err stop)
-      write_halted (Refused r place) halts = (
-        n,
-        halts.0,
-        w.gained.kept,
-        λ ss are.
-            let h = halts.1 ss are in
-            (w.done, w.count, (plans_told ss are h.0, refused_at_length _ ss n (length w.done) r place w.count (refused_so _ ss n r place h.1)), w.gained),
-      )
-      write_halted (ReadFault k) halts = (
-        halts.0,
-        halts.1,
-        w.gained.kept,
-        (n, halts.2, halts.3, λ ss are. let h = halts.4 ss are in (w.done, w.count, plans_told ss are h.0, h.1, w.gained)),
-      )
-      write_halted NoMemory halts = (halts.0, w.gained.kept, λ ss are. (w.done, plans_told ss are (halts.1 ss are), w.gained))
-      write_halted NotUnderstood halts = absurd halts
-      write_halted WriteFault halts = absurd halts
-
-    pub work_halted : (work : Work) → WasDone work corners level (Out o') m taken n → (stop : Stop) → HaltsBehind R (Src l) taken n stop → Comes work l o' (Err stop)
-    work_halted Check done stop halts = (done.0, check_halted done.2 stop halts)
-    work_halted Write done stop halts = write_halted done stop halts
+    -- and it stopped at the sources
+    pub work_halted : (stop : Stop) → HaltsBehind R (Src l) taken n stop → Comes work l o' (Err stop)
+    work_halted (Refused r place) halts = (
+      n,
+      halts.0,
+      kept,
+      λ ss are.
+          let h = halts.1 ss are in
+          (w.done, w.count, (plans_told ss are h.0, refused_at_length _ ss n (length w.done) r place w.count (refused_so _ ss n r place h.1)), w.leaves),
+    )
+    work_halted (ReadFault k) halts = (
+      halts.0,
+      halts.1,
+      kept,
+      (n, halts.2, halts.3, λ ss are. let h = halts.4 ss are in (w.done, w.count, plans_told ss are h.0, h.1, w.leaves)),
+    )
+    work_halted NoMemory halts = (halts.0, kept, λ ss are. (w.done, plans_told ss are (halts.1 ss are), w.leaves))
+    work_halted NotUnderstood halts = absurd halts
+    work_halted WriteFault halts = absurd halts
 
     -- all have ended
-    pub work_done : (work : Work) → WasDone work corners level (Out o') m taken n → AllEnd R (Src l) taken n → Comes work l o' (Ok n)
-    work_done Check done all = (
-      done.0,
-      (
-        all_out bytes faults R first l taken n all,
-        λ ss are. (pass_told bytes faults R first corners l taken n count rounds done.2 ss are (end_begin bytes faults R first l taken n all ss are), all_ended bytes faults R first l taken n all ss are),
-      ),
-    )
-    work_done Write done all = (
+    pub work_done : AllEnd R (Src l) taken n → Comes work l o' (Ok n)
+    work_done all = (
       all_out bytes faults R first l taken n all,
-      done.gained.kept,
+      kept,
       λ ss are. (
-        done.done,
+        w.done,
+        w.count,
         (
-          plans_told done ss are (end_begin bytes faults R first l taken n all ss are),
-          subst (λ (k : ℕ). AllEnded ss k) (sym done.count) (all_ended bytes faults R first l taken n all ss are),
+          plans_told ss are (end_begin bytes faults R first l taken n all ss are),
+          subst (λ (k : ℕ). AllEnded ss k) (sym w.count) (all_ended bytes faults R first l taken n all ss are),
         ),
-        done.gained,
+        w.leaves,
       ),
     )
 
   -- ---- one more round of pictures was taken
 
-  module _ (l : List A) (feeds : List Feeding) (taken : List (List Picture)) (n : ℕ) (all : AllTake R (Src l) feeds taken n) (o' o'' : K) (m m' : Merging) where
+  module _ (l : List A) (feeds : List Feeding) (taken : List (List Picture)) (n : ℕ) (all : AllTake R (Src l) feeds taken n) (o' o'' : K) (m m' : Merging)
+      (corners_same : m.corners ≡ corners) (level_same : m.level ≡ level) (work : Work) (w : HasWritten work corners level (Out o') m taken n) where
     abbrev round : List Parts
     round = map (λ (f : Feeding). lent_by f.assembler) feeds
+
+    abbrev Turned : Outcome → Type 0
+    Turned outcome = Turns taken_ writes n o' o'' m m' work outcome round
 
     has : HasRound bytes faults R first l feeds taken n
     has = has_round bytes faults R first l feeds taken n all
 
-    begun : (ss : List Stream) → AreTold R (Src l) ss → Begin ss taken
-    begun = take_begin bytes faults R first l feeds taken n all
+    told : (ss : List Stream) → AreTold R (Src l) ss → AreWritten corners level ss w.done
+    told ss are = plans_told l taken n all.taken_count all.rounds o' m work w ss are (take_begin bytes faults R first l feeds taken n all ss are)
 
-    -- it was checked
-    pass_stopped : RoundsPass corners (so_far taken) n → (stop : Stop) → ChecksRound corners round n (Err stop) → CountsRounds R corners (Src l) (Err stop)
-    pass_stopped pass (Refused r place) by = (
-      n,
-      (take_read bytes faults R first l feeds taken n all, λ k within not_. (take_rest bytes faults R first l feeds taken n all k within).1),
-      λ ss are. (
-        pass_told bytes faults R first corners l taken n all.taken_count all.rounds pass ss are (begun ss are),
-        round_barred bytes faults R first l feeds taken n all has (BreaksRule corners) r place by.0 by.1 ss are,
-      ),
-    )
-    pass_stopped pass NoMemory by = take_read bytes faults R first l feeds taken n all
-    pass_stopped pass NotUnderstood by = absurd by
-    pass_stopped pass (ReadFault k) by = absurd by
-    pass_stopped pass WriteFault by = absurd by
+    own_passes : SameTask m m' → (p : Plan) → Passes m'.corners m'.level round w.done p → Passes corners level round w.done p
+    own_passes task = passes_so m' corners level (task.corners ∙ corners_same) (task.level ∙ level_same) round w.done
 
-    -- it was written
-    module _ (corners_same : m'.corners ≡ corners) (level_same : m'.level ≡ level) (w : HasWritten corners level (Out o') m taken n) where
-      abbrev Wrote : Outcome → Type 0
-      Wrote outcome = WritesRound round w.done m' (taken_ o') (taken_ o'') (writes o') (writes o'') n outcome
+    more_plans : (p : Plan) → Passes corners level round w.done p → AreWritten corners level (so_far has.next) (p ∷ w.done)
+    more_plans p = more_written bytes faults R first l feeds taken n all corners level has w.done p w.count w.plans
 
-      told : (ss : List Stream) → AreTold R (Src l) ss → AreWritten corners level ss w.done
-      told ss are = plans_told l taken n all.taken_count all.rounds o' m w ss are (begun ss are)
+    told_more : (p : Plan) → Passes corners level round w.done p → (ss : List Stream) → AreTold R (Src l) ss → AreWritten corners level ss (p ∷ w.done)
+    told_more p passes ss are =
+        written_told bytes faults R first corners level l has.next (n + 1) has.waiting.taken_count has.waiting.rounds (p ∷ w.done) (omega (arith, w.count)) (more_plans p passes) ss are
+        (begin_told bytes faults R first l has.next has.ahead ss are)
 
-      -- with it as well
-      told_more : (p : Plan) → Passes m' round w.done p → (ss : List Stream) → AreTold R (Src l) ss → AreWritten corners level ss (p ∷ w.done)
-      told_more p passes ss are =
-          let plans = more_written bytes faults R first l feeds taken n all corners level has w.done p w.count w.plans (written_so m' corners level corners_same level_same round w.done p passes) in
-          written_told bytes faults R first corners level l has.next (n + 1) has.waiting.taken_count has.waiting.rounds (p ∷ w.done) (omega (arith, w.count)) plans ss are (begin_told bytes faults R first l has.next has.ahead ss are)
-
-      wrote_more : Wrote (Ok tt) → HasWritten corners level (Out o'') m' has.next (n + 1)
-      wrote_more wrote =
-          let p = wrote.1.0 in
-          record {
-            done = p ∷ w.done;
-            count = omega (arith, w.count);
-            stands = wrote.1.3;
-            plans = more_written bytes faults R first l feeds taken n all corners level has w.done p w.count w.plans (written_so m' corners level corners_same level_same round w.done p wrote.1.1);
-            gained = subst (λ (x : List ℕ). Gains (Out o'') x) (sym (written_more p w.done)) (Gains-then taken_ writes o o' o'' (bytes_of w.done) (written (units_of p)) w.gained (record { kept = wrote.0; gained = wrote.1.2 }));
-          }
-
-      write_stopped : (stop : Stop) → Wrote (Err stop) → MergesBy R corners level (Src l) (Out o'') (Err stop)
-      write_stopped (Refused r place) wrote =
-          let gained = gains_still taken_ writes o o' o'' (bytes_of w.done) [] w.gained wrote.0.0 wrote.0.1 in (
-            n,
-            (take_read bytes faults R first l feeds taken n all, λ k within not_. (take_rest bytes faults R first l feeds taken n all k within).1),
-            gained.kept,
-            λ ss are.
-                let barred = barred_so m' corners level corners_same level_same round w.done r wrote.0.2 in
-                let refused = round_barred bytes faults R first l feeds taken n all has (IsBarred corners level w.done) r place barred wrote.1 ss are in
-                (w.done, w.count, (told ss are, refused_at_length _ ss n (length w.done) r place w.count refused), gained),
-          )
-      write_stopped WriteFault wrote =
-          let p = wrote.1.0 in
-          let into = gains_into taken_ writes o o' o'' (bytes_of w.done) (written (units_of p)) w.gained wrote.0 wrote.1.2 in (
+    -- it stopped there
+    pub work_stopped : (stop : Stop) → Turned (Err stop) → Comes work l o'' (Err stop)
+    work_stopped (Refused r place) turns =
+        let takes = turns.takes w.done w.stands in
+        let did = did_refuse taken_ writes o o' o'' m' round w.done work r w.leaves takes.0 in
+        let barred = barred_so m' corners level (turns.task.corners ∙ corners_same) (turns.task.level ∙ level_same) round w.done r did.1 in (
+          n,
+          (take_read bytes faults R first l feeds taken n all, λ k within not_. (take_rest bytes faults R first l feeds taken n all k within).1),
+          keeps work (Out o'') w.done did.0,
+          λ ss are.
+              let refused = round_barred bytes faults R first l feeds taken n all has (λ q t. IsBarred corners level q w.done t) r place barred takes.1 ss are in
+              (w.done, w.count, (told ss are, refused_at_length _ ss n (length w.done) r place w.count refused), did.0),
+        )
+    work_stopped WriteFault turns =
+        let did = did_front taken_ writes o o' o'' m' round w.done work w.leaves (turns.takes w.done w.stands) in
+        let p = did.1.0 in (
+          did.0,
+          (
             n,
             take_rest bytes faults R first l feeds taken n all,
-            into.failed,
-            λ ss are. (w.done, p, w.count, told_more p wrote.1.1 ss are, into),
-          )
-      write_stopped NoMemory wrote =
-          let gained = gains_still taken_ writes o o' o'' (bytes_of w.done) [] w.gained wrote.0 wrote.1 in
-          (take_read bytes faults R first l feeds taken n all, gained.kept, λ ss are. (w.done, told ss are, gained))
-      write_stopped NotUnderstood wrote = absurd wrote
-      write_stopped (ReadFault k) wrote = absurd wrote
+            did.1.2.failed,
+            λ ss are. (w.done, p, w.count, told_more p (own_passes turns.task p did.1.1) ss are, did.1.2),
+          ),
+        )
+    work_stopped NoMemory turns =
+        let left = did_nothing taken_ writes o o' o'' m' round w.done work w.leaves (turns.takes w.done w.stands) in
+        (take_read bytes faults R first l feeds taken n all, keeps work (Out o'') w.done left, λ ss are. (w.done, told ss are, left))
+    work_stopped NotUnderstood turns = absurd (turns.takes w.done w.stands)
+    work_stopped (ReadFault k) turns = absurd (turns.takes w.done w.stands)
 
-    abbrev Turned : Work → Outcome → Type 0
-    Turned work outcome = Turns taken_ writes n o' o'' m m' work outcome round
-
-    module _ (corners_same : m.corners ≡ corners) (level_same : m.level ≡ level) where
-      checked_so : (outcome : Outcome) → ChecksRound m.corners round n outcome → ChecksRound corners round n outcome
-      checked_so outcome by = subst (λ (x : List Corner). ChecksRound x round n outcome) corners_same by
-
-      pub work_stopped : (work : Work) → WasDone work corners level (Out o') m taken n → (stop : Stop) → Turned work (Err stop) → Comes work l o'' (Err stop)
-      work_stopped Check done stop turns = (
-        (turns.stays refl).0 ∙ done.0,
-        pass_stopped done.2 stop (checked_so (Err stop) (turns.checked refl done.1)),
-      )
-      work_stopped Write done stop turns = write_stopped (turns.task.corners ∙ corners_same) (turns.task.level ∙ level_same) done stop (turns.written refl done.done done.stands)
-
-      went_on : (work : Work) → WasDone work corners level (Out o') m taken n → Turned work (Ok tt) → WasDone work corners level (Out o'') m' has.next (n + 1)
-      went_on Check done turns =
-          let stays = turns.stays refl in (
-            stays.0 ∙ done.0,
-            ap (λ (x : Merging). x.first) stays.1 ∙ done.1,
-            more_pass bytes faults R first l feeds taken n all corners has done.2 (checked_so (Ok tt) (turns.checked refl done.1)),
-          )
-      went_on Write done turns = wrote_more (turns.task.corners ∙ corners_same) (turns.task.level ∙ level_same) done (turns.written refl done.done done.stands)
-
-      pub work_more : (work : Work) → WasDone work corners level (Out o') m taken n → Turned work (Ok tt) → HasDone R work corners level (Src l) (Out o'') feeds m' (n + 1)
-      work_more work done turns = record { taken = has.next; waiting = has.waiting; done = went_on work done turns }
+    -- or goes on
+    pub work_more : Turned (Ok tt) → HasDone R work corners level (Src l) (Out o'') feeds m' (n + 1)
+    work_more turns =
+        let did = did_one taken_ writes o o' o'' m' round w.done work w.leaves (turns.takes w.done w.stands) in
+        let p = did.0 in
+        record {
+          taken = has.next;
+          waiting = has.waiting;
+          done = record {
+            done = p ∷ w.done;
+            count = omega (arith, w.count);
+            stands = did.2;
+            plans = more_plans p (own_passes turns.task p did.1);
+            leaves = did.3;
+          };
+        }
 
 -- ---- what the commands did
 
@@ -313,18 +282,29 @@ pub check_unread : {A K : Type 0} (bytes : A → Option (List ℕ)) (faults : A 
 check_unread bytes faults taken writes R first o corners = (unread bytes faults taken writes R first o corners None, refl)
 
 module _ {A K : Type 0} (R : Readers) (corners : List Corner) (sources : Sources A) (out : Change K) where
-  -- nothing was written where it stopped
+  -- all rounds were written, or not
+  pub merged : (level : Option ℕ) (result : Result ℕ Stop) → TakesRounds R Write corners level sources out result → MergesBy R corners level sources out (outcome_of result)
+  merged level (Ok n) takes = (takes.0, takes.1, λ ss are. let x = takes.2 ss are in (x.0, x.2, x.3))
+  merged level (Err (Refused r place)) takes = takes
+  merged level (Err (ReadFault k)) takes = takes
+  merged level (Err WriteFault) takes = takes.1
+  merged level (Err NoMemory) takes = takes
+  merged level (Err NotUnderstood) takes = absurd takes
+
+  -- nothing was written where a check stopped
   pub check_stopped : (stop : Stop) → TakesRounds R Check corners None sources out (Err stop) → ChecksMergeBy R corners sources out (Err stop)
-  check_stopped (Refused r place) takes = (takes.1.0, takes.1.1, takes.0, takes.1.2)
-  check_stopped (ReadFault k) takes = (takes.1.0, takes.1.1, takes.0, takes.1.2)
-  check_stopped NoMemory takes = (takes.1, takes.0)
-  check_stopped NotUnderstood takes = absurd takes.1
-  check_stopped WriteFault takes = absurd takes.1
+  check_stopped (Refused r place) takes = (takes.0, takes.1, takes.2, λ ss are. let x = takes.3 ss are in (x.0, x.1, x.2))
+  check_stopped (ReadFault k) takes =
+      let seen = takes.3 in
+      (takes.0, takes.1, takes.2, (seen.0, seen.1, seen.2, λ ss are. let x = seen.3 ss are in (x.0, x.1, x.2, x.3)))
+  check_stopped NoMemory takes = (takes.0, takes.1)
+  check_stopped NotUnderstood takes = absurd takes
+  check_stopped WriteFault takes = let other = takes.0 in absurd (cc)
 
   module _ (n : ℕ) (takes : TakesRounds R Check corners None sources out (Ok n)) where
     -- no memory for the line
     pub check_unmade : ChecksMergeBy R corners sources out (Err NoMemory)
-    check_unmade = (λ k within. let r = takes.1.0 k within in (r.0, r.1), takes.0)
+    check_unmade = (λ k within. let r = takes.0 k within in (r.0, r.1), takes.1)
 
     module _ (o : K) where
       abbrev from : K → Change K
@@ -333,11 +313,11 @@ module _ {A K : Type 0} (R : Readers) (corners : List Corner) (sources : Sources
       -- it was written
       pub check_done : Gains (from out.new) (ok_text n) → ChecksMergeBy R corners sources (from out.old) (Ok tt)
       check_done more =
-          let gained = subst (λ (x : K). Gains (from x) (ok_text n)) takes.0 more in
-          (takes.1.0, gained.kept, λ ss are. (n, takes.1.1 ss are, gained))
+          let gained = subst (λ (x : K). Gains (from x) (ok_text n)) takes.1 more in
+          (takes.0, gained.kept, λ ss are. let x = takes.2 ss are in (x.0, x.2, subst (λ (k : ℕ). Gains (from out.old) (ok_text k)) (sym x.1) gained))
 
       -- or a front of it
       pub check_cut : GainsFront (from out.new) (ok_text n) → ChecksMergeBy R corners sources (from out.old) (Err WriteFault)
       check_cut more =
-          let front = subst (λ (x : K). GainsFront (from x) (ok_text n)) takes.0 more in
-          (takes.1.0, front.failed, λ ss are. (n, takes.1.1 ss are, front))
+          let front = subst (λ (x : K). GainsFront (from x) (ok_text n)) takes.1 more in
+          (takes.0, front.failed, λ ss are. let x = takes.2 ss are in (x.0, x.2, subst (λ (k : ℕ). GainsFront (from out.old) (ok_text k)) (sym x.1) front))

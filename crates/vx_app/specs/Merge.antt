@@ -19,9 +19,7 @@ use Rattle.vx_report.specs.declared.refusal.Where.{Where}
 use Rattle.vx_assemble.specs.Feed.{seen_of}
 use Rattle.vx_fit.specs.Lowest.{IsLowest}
 use Rattle.vx_merge.specs.declared.corner.Corner.{Corner}
-use Rattle.vx_merge.specs.Rules.{rules_of}
-use Rattle.vx_merge.specs.Verdict.{IsVerdict}
-use Rattle.vx_merge.specs.Written.{IsMerged, limits_of}
+use Rattle.vx_merge.specs.Merging.{Passes, IsBarred}
 use Rattle.vx_app.specs.declared.stop.Stop.TheVariants.{NotUnderstood, Refused, ReadFault, WriteFault, NoMemory}
 use Rattle.vx_app.specs.Change.{Change, Sources, source_at, IsUntouched, AreUntouched, HasNoFault, HasFault, GivesFront, Gains, GainsFront}
 use Rattle.vx_app.specs.Conclusion.{Outcome, IsOfCommand}
@@ -69,46 +67,17 @@ corners_of placings = map corner_of placings
 abbrev pub IsRound : List Stream → ℕ → List Parts → Type 0
 IsRound ss n round = map (λ s. option_map parts_of (picture_in n s)) ss ≡ map (λ q. Some q) round
 
--- this is the verdict on pictures in regions with these corners
-abbrev pub Judges : List Corner → List Parts → Option Refusal → Type 0
-Judges corners round verdict = IsVerdict (length corners) (rules_of corners round) verdict
-
--- it breaks this one
-abbrev pub BreaksRule : List Corner → List Parts → Refusal → Type 0
-BreaksRule corners round r = Judges corners round (Some r)
-
--- the rounds before n are there, and break no rule
-abbrev pub RoundsPass : List Corner → List Stream → ℕ → Type 0
-RoundsPass corners ss n = (r : ℕ) → r < n → (round : List Parts) × IsRound ss r round × Judges corners round None
-
 -- none of the first k streams is refused in round n
 abbrev pub NoneRefused : ℕ → List Stream → ℕ → Type 0
 NoneRefused k ss n = OfFirst k ss (λ s. GoesOn n s ⊎ HasEnded n s)
 
 -- ---- rounds that are written
 
--- A round breaks no rule, and is written as this plan behind these, within all limits.
-pub record IsWritten (corners : List Corner) (level : Option ℕ) (round : List Parts) (done : List Plan) (p : Plan) : Type 0 where
-  pub rules : Judges corners round None
-  pub merged : IsMerged corners level round done p
-  pub limits : IsVerdict (length corners) (limits_of done p) None
-
--- It breaks no rule, but what would be written for it behind these breaks this limit.
-pub record IsTooLong (corners : List Corner) (level : Option ℕ) (done : List Plan) (round : List Parts) (r : Refusal) : Type 0 where
-  pub rules : Judges corners round None
-  pub plan : Plan
-  pub merged : IsMerged corners level round done plan
-  pub limit : IsVerdict (length corners) (limits_of done plan) (Some r)
-
--- it can't be written behind these for this rule, or for this limit
-abbrev pub IsBarred : List Corner → Option ℕ → List Plan → List Parts → Refusal → Type 0
-IsBarred corners level done round r = BreaksRule corners round r ⊎ IsTooLong corners level done round r
-
--- the first rounds, as many as plans, are there and are written so; the latest plan comes first
+-- The first rounds, as many as plans, are there, break no rule, and are written so within all limits; the latest plan comes first.
 abbrev pub AreWritten : List Corner → Option ℕ → List Stream → List Plan → Type 0
 AreWritten corners level ss [] = Unit {0}
 AreWritten corners level ss (p ∷ done) =
-    ((round : List Parts) × IsRound ss (length done) round × IsWritten corners level round done p) × AreWritten corners level ss done
+    ((round : List Parts) × IsRound ss (length done) round × Passes corners level round done p) × AreWritten corners level ss done
 
 -- their bytes
 abbrev pub bytes_of : List Plan → List ℕ
@@ -141,43 +110,23 @@ abbrev pub Stops : (List Parts → Refusal → Type 0) → List Stream → ℕ �
 Stops bars ss n (Ok _) = AllEnded ss n
 Stops bars ss n (Err (r, place)) = Refuses bars ss n r place
 
--- by the rules alone it ends so, behind n rounds that pass
-abbrev pub Ends : List Corner → List Stream → ℕ → Result (Unit {0}) (Refusal × Where) → Type 0
-Ends corners ss n end = RoundsPass corners ss n × Stops (BreaksRule corners) ss n end
-
--- by the rules and the limits of what is written it ends so, behind rounds that are written as these plans
+-- It ends so behind rounds that are written as these plans, by the rules and the limits of what is written.
 abbrev pub EndsWritten : List Corner → Option ℕ → List Stream → List Plan → Result (Unit {0}) (Refusal × Where) → Type 0
-EndsWritten corners level ss done end = AreWritten corners level ss done × Stops (IsBarred corners level done) ss (length done) end
+EndsWritten corners level ss done end = AreWritten corners level ss done × Stops (λ round r. IsBarred corners level round done r) ss (length done) end
 
--- It ends once.
+-- It ends once: behind the same rounds, which are written in one way.
 abbrev pub EndsOnce : Type 0
-EndsOnce = (corners : List Corner) (ss : List Stream) (n m : ℕ) (a b : Result (Unit {0}) (Refusal × Where))
-    → 0 < length ss → Ends corners ss n a → Ends corners ss m b → (n ≡ m) × (a ≡ b)
+EndsOnce = (corners : List Corner) (level : Option ℕ) (ss : List Stream) (done other : List Plan) (a b : Result (Unit {0}) (Refusal × Where))
+    → 0 < length ss → EndsWritten corners level ss done a → EndsWritten corners level ss other b → (done ≡ other) × (a ≡ b)
 
--- it can be done
-abbrev pub IsMergeable : List Corner → List Stream → Type 0
-IsMergeable corners ss = (n : ℕ) × Ends corners ss n (Ok tt)
-
--- 0 exactly where it can, and else 1
-pub record IsMergeStatus (corners : List Corner) (ss : List Stream) (status : ℕ) : Type 0 where
-  pub done : (status ≡ 0) ↔ IsMergeable corners ss
-  pub refused : (status ≡ 1) ↔ ¬ IsMergeable corners ss
-
--- it can be written
+-- all rounds can be written
 abbrev pub IsWritable : List Corner → Option ℕ → List Stream → Type 0
 IsWritable corners level ss = (done : List Plan) × EndsWritten corners level ss done (Ok tt)
 
--- behind rounds that are written a round breaks no rule, but what would be written for it breaks a limit
-abbrev pub MeetsLimit : List Corner → Option ℕ → List Stream → Type 0
-MeetsLimit corners level ss = (done : List Plan) × AreWritten corners level ss done
-    × ((round : List Parts) × IsRound ss (length done) round × ((r : Refusal) × IsTooLong corners level done round r))
-
--- The status is 0 where it can be written, and 1 where the rules bar it or a limit is met.
-pub record IsWrittenStatus (corners : List Corner) (level : Option ℕ) (ss : List Stream) (status : ℕ) : Type 0 where
-  pub one : (status ≡ 0) ⊎ (status ≡ 1)
-  pub done : status ≡ 0 → IsWritable corners level ss
-  pub refused : status ≡ 1 → (¬ IsMergeable corners ss) ⊎ MeetsLimit corners level ss
-  pub rules : ¬ IsMergeable corners ss → status ≡ 1
+-- 0 exactly where they can, and else 1
+pub record IsMergeStatus (corners : List Corner) (level : Option ℕ) (ss : List Stream) (status : ℕ) : Type 0 where
+  pub done : (status ≡ 0) ↔ IsWritable corners level ss
+  pub refused : (status ≡ 1) ↔ ¬ IsWritable corners level ss
 
 -- ---- sources
 
@@ -236,21 +185,22 @@ pub record Sees {A : Type 0} (R : Readers) (c : Change A) (n : ℕ) : Type 0 whe
 
 -- ---- `check merge`
 
--- What it did to its sources and to `out`, by what came of it: it says how many rounds there are, and writes that line alone. A failed read
--- of source k ends it: round n isn't whole, where n pictures of that source are seen, and those before pass.
+-- What it did to its sources and to `out`, by what came of it: it says how many rounds could be written, and writes that line alone. A failed
+-- read of source k ends it: round n isn't whole, where n pictures of that source are seen, and those before could be written.
 abbrev pub ChecksMergeBy : {A K : Type 0} → Readers → List Corner → Sources A → Change K → Outcome → Type 0
 ChecksMergeBy R corners sources out (Ok _) =
     OfEach sources IsReadOut × HasNoFault out
-    × WhereAllTold R sources (λ ss. (n : ℕ) × Ends corners ss n (Ok tt) × Gains out (ok_text n))
+    × WhereAllTold R sources (λ ss. (done : List Plan) × EndsWritten corners None ss done (Ok tt) × Gains out (ok_text (length done)))
 ChecksMergeBy R corners sources out (Err (Refused r place)) =
-    (n : ℕ) × OthersRest R n place sources × IsUntouched out × WhereAllTold R sources (λ ss. Ends corners ss n (Err (r, place)))
+    (n : ℕ) × OthersRest R n place sources × IsUntouched out
+    × WhereAllTold R sources (λ ss. (done : List Plan) × (length done ≡ n) × EndsWritten corners None ss done (Err (r, place)))
 ChecksMergeBy R corners sources out (Err (ReadFault k)) =
     (k < length sources.old) × HasFault (source_at sources k) × IsUntouched out
     × ((n : ℕ) × Sees R (source_at sources k) n × OfOthers k sources (RestsRead R n)
-    × WhereAllTold R sources (λ ss. RoundsPass corners ss n × NoneRefused k ss n))
+    × WhereAllTold R sources (λ ss. (done : List Plan) × (length done ≡ n) × AreWritten corners None ss done × NoneRefused k ss n))
 ChecksMergeBy R corners sources out (Err WriteFault) =
     OfEach sources IsReadOut × HasFault out
-    × WhereAllTold R sources (λ ss. (n : ℕ) × Ends corners ss n (Ok tt) × GainsFront out (ok_text n))
+    × WhereAllTold R sources (λ ss. (done : List Plan) × EndsWritten corners None ss done (Ok tt) × GainsFront out (ok_text (length done)))
 ChecksMergeBy R corners sources out (Err NoMemory) = OfEach sources IsRead × IsUntouched out
 ChecksMergeBy R corners sources out (Err NotUnderstood) = ⊥
 

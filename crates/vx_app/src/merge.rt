@@ -1,6 +1,6 @@
 //! `merge` and `check merge`: the pictures of several byte streams as those of one stream, round by round.
 
-ghost use Rattle.std.specs.Prelude.{◌≡◌, ◌+◌, ◌<◌, ◌≤◌, ◌^◌, List, All, ℕ, true, map, length, vec_len, Ok, Err, None, IfOk, IfErr, OnOk};
+ghost use Rattle.std.specs.Prelude.{◌≡◌, ◌+◌, ◌<◌, ◌≤◌, ◌^◌, List, All, ℕ, true, map, length, vec_len, Ok, Err, IfOk, IfErr, OnOk};
 ghost use Rattle.std.specs.List.{AllByRecursion};
 ghost use Rattle.vx_annexb.specs.ByteStream.{UnitPlace};
 ghost use Rattle.vx_annexb.specs.Reading.{LastWasNeeded};
@@ -14,9 +14,8 @@ ghost use Rattle.vx_merge.specs.Merging.{AreCorners, SameTask, Stands};
 ghost use Rattle.vx_app.specs.Change.{change, sources_change};
 ghost use Rattle.vx_app.specs.Conclusion.{IsOfCommand};
 ghost use Rattle.vx_app.specs.Grammar.{texts};
-ghost use Rattle.vx_app.specs.declared.merge.Work.TheVariants.{Check as Checked, Write as Written};
 ghost use Rattle.vx_app.specs.Merge.{ChecksMerge, ChecksMergeBy, Merges, MergesBy, EndsOnce, corners_of as corners_by, in_round as place_in, behind_units as place_behind, too_many as too_many_sources, most_sources};
-ghost use Rattle.vx_app.specs.inner.Merging.{AdvancesOf, AdvancesAll, AreWaiting, ChecksRound, WritesRound, TakesRounds, OfAll, IsUnfed, LendsLatest, GoesBy, stop_from, stop_in};
+ghost use Rattle.vx_app.specs.inner.Merging.{AdvancesOf, AdvancesAll, AreWaiting, DoesRound, TakesRound, TakesRounds, OfAll, IsUnfed, LendsLatest, GoesBy, stop_from, stop_in};
 ghost use Rattle.vx_app.specs.inner.Placings.{IsPlacingWord, placing_in};
 
 use crate::extract::{ok_line, one_more, step};
@@ -88,7 +87,7 @@ fn write_rounds<K: Sink>(
     Ok(())
 }
 
-/// Says how many rounds of pictures the files have that these words place, where they can become one stream.
+/// Says how many rounds of pictures the files have that these words place, where they can be written as one stream.
 pub fn check_merge<K: Sink>(
     alloc: Global,
     placings: &[String],
@@ -312,55 +311,35 @@ fn take_round<K: Sink>(
 ) -> Result<(), Stop>
     requires count { length feeds.now ≡ length merger.old.corners }
     requires holds { All (λ f. HasPicture f.assembler) feeds.now }
-    ensures checked { work ≡ Checked → merger.old.first ≡ None
-        → ChecksRound merger.old.corners (map (λ f. lent_by f.assembler) feeds.now) rounds result }
-    ensures stays { work ≡ Checked → (out.new ≡ out.old) × OnOk result (merger.new ≡ merger.old) }
-    ensures written { work ≡ Written → (done : List Plan) → Stands merger.old done
-        → WritesRound (map (λ f. lent_by f.assembler) feeds.now) done merger.new
-        (K.bytes_taken out.old) (K.bytes_taken out.new) (K.write_faults out.old) (K.write_faults out.new) rounds result }
+    ensures takes { (done : List Plan) → Stands merger.old done
+        → TakesRound work (map (λ f. lent_by f.assembler) feeds.now) done merger.new
+        (change K.bytes_taken K.write_faults out.old out.new) rounds result }
     ensures task { SameTask merger.old merger.new }
     ensures stop { IfErr result IsOfCommand }
 {
-    match work {
-        Work::Check => check_round(merger, feeds, rounds),
-        Work::Write => write_round(merger, feeds, rounds, out),
+    match do_round(work, merger, feeds, out) {
+        Ok(()) => Ok(()),
+        Err(error) => Err(stop_of_round(error, rounds)),
     }
 }
 
-/// Writes the round of the pictures that the feeds lend.
-fn write_round<K: Sink>(
+/// Checks or writes the round of the pictures that the feeds lend.
+fn do_round<K: Sink>(
+    work: Work,
     merger: &mut Merger,
     feeds: &[Feed],
-    rounds: u64,
     out: &mut K,
-) -> Result<(), Stop>
+) -> Result<(), WriteError>
     requires count { length feeds.now ≡ length merger.old.corners }
     requires holds { All (λ f. HasPicture f.assembler) feeds.now }
-    ensures answer { (done : List Plan) → Stands merger.old done
-        → WritesRound (map (λ f. lent_by f.assembler) feeds.now) done merger.new
-        (K.bytes_taken out.old) (K.bytes_taken out.new) (K.write_faults out.old) (K.write_faults out.new) rounds result }
+    ensures does { (done : List Plan) → Stands merger.old done
+        → DoesRound work (map (λ f. lent_by f.assembler) feeds.now) done merger.new
+        (change K.bytes_taken K.write_faults out.old out.new) result }
     ensures task { SameTask merger.old merger.new }
-    ensures stop { IfErr result IsOfCommand }
 {
-    match merger.round(feeds, out) {
-        Ok(()) => Ok(()),
-        Err(error) => Err(stop_of_round(error, rounds)),
-    }
-}
-
-/// Whether the pictures that the feeds lend, behind so many rounds, can be put together.
-fn check_round(merger: &mut Merger, feeds: &[Feed], rounds: u64) -> Result<(), Stop>
-    requires count { length feeds.now ≡ length merger.old.corners }
-    requires holds { All (λ f. HasPicture f.assembler) feeds.now }
-    ensures answer { merger.old.first ≡ None
-        → ChecksRound merger.old.corners (map (λ f. lent_by f.assembler) feeds.now) rounds result }
-    ensures stays { OnOk result (merger.new ≡ merger.old) }
-    ensures task { SameTask merger.old merger.new }
-    ensures stop { IfErr result IsOfCommand }
-{
-    match merger.check(feeds) {
-        Ok(()) => Ok(()),
-        Err(error) => Err(stop_of_round(error, rounds)),
+    match work {
+        Work::Check => merger.check(feeds),
+        Work::Write => merger.round(feeds, out),
     }
 }
 

@@ -1,6 +1,6 @@
 //! The program over words, sources and sinks.
 
-ghost use Rattle.std.specs.Prelude.{◌≡◌, ◌≢◌, ◌↔◌, ◌<◌, ◌≤◌, List, ℕ, Option as OptionOf, Some, Err, length, vec_len};
+ghost use Rattle.std.specs.Prelude.{◌≡◌, ◌≢◌, ◌↔◌, ◌<◌, ◌≤◌, List, ℕ, Option as OptionOf, Some, None, Err, length, vec_len};
 ghost use Rattle.vx_pic.specs.Rules.{Readers};
 ghost use Rattle.vx_pic.specs.H266.{AreOfH266};
 ghost use Rattle.vx_app.specs.Change.{HasFault, change, source_at, sources_change};
@@ -8,7 +8,7 @@ ghost use Rattle.vx_app.specs.Conclusion.{Outcome, ExitsWith};
 ghost use Rattle.vx_app.specs.declared.extract.Task.{Task as TaskAsked};
 ghost use Rattle.vx_app.specs.Extract.{WhereTold, IsStatus, task_of as task_by};
 ghost use Rattle.vx_app.specs.Grammar.{Command as Asked, Placing as PlacingAsked, show as for_show, merge as for_merge, check_merge as for_check, AskFor, IsTid, IsUnderstood, NamesFiles, texts};
-ghost use Rattle.vx_app.specs.Merge.{WhereAllTold, IsMergeStatus, IsWrittenStatus, corners_of, most_sources};
+ghost use Rattle.vx_app.specs.Merge.{WhereAllTold, IsMergeStatus, corners_of, most_sources};
 ghost use Rattle.vx_app.specs.Run.{Performs, placings_in, task_in};
 ghost use Rattle.vx_app.specs.Show.{WhereKnown, status_at};
 
@@ -57,12 +57,12 @@ pub fn run<K: Sink, E: Sink>(
         → length placings ≤ most_sources
         → let all = sources_change bytes_left read_faults sources.old.items sources.new.items in
         ((k : ℕ) → k < vec_len sources.old → ¬ HasFault (source_at all k)) → ¬ HasFault (change K.bytes_taken K.write_faults out.old out.new)
-        → result ≢ 4 → WhereAllTold R all (λ ss. IsMergeStatus (corners_of placings) ss result) }
+        → result ≢ 4 → WhereAllTold R all (λ ss. IsMergeStatus (corners_of placings) None ss result) }
     ensures merges { (R : Readers) → AreOfH266 R → (level : OptionOf ℕ) (placings : List PlacingAsked)
         → AskFor (texts words.now) (for_merge level placings) → length placings ≤ most_sources
         → let all = sources_change bytes_left read_faults sources.old.items sources.new.items in
         ((k : ℕ) → k < vec_len sources.old → ¬ HasFault (source_at all k)) → ¬ HasFault (change K.bytes_taken K.write_faults out.old out.new)
-        → result ≢ 4 → WhereAllTold R all (λ ss. IsWrittenStatus (corners_of placings) level ss result) }
+        → result ≢ 4 → WhereAllTold R all (λ ss. IsMergeStatus (corners_of placings) level ss result) }
     ensures many { (command : Asked) (placings : List PlacingAsked) → AskFor (texts words.now) command → placings_in command ≡ Some placings
         → most_sources < length placings → result ≢ 4 → result ≡ 1 }
 {

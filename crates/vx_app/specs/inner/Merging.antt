@@ -1,4 +1,5 @@
--- The steps of `merge` and `check merge`: the pictures that were taken of each source, and the rounds that pass. Lists of pictures have the latest first.
+-- The steps of `merge` and `check merge`: the pictures that were taken of each source, and the rounds that were checked or written. Lists of
+-- pictures have the latest first.
 use Rattle.std.specs.Prelude.{◌≡◌, ℕ, ◌<◌, ◌≤◌, Bool, true, false, List, [], ◌∷◌, length, map, get_or, slice_get}
 use Rattle.std.specs.Prelude.{Option, Some, None, Result, Ok, Err}
 use Rattle.vx_annexb.specs.ByteStream.{UnitPlace}
@@ -6,7 +7,8 @@ use Rattle.vx_annexb.specs.Reading.{LastWasNeeded}
 use Rattle.vx_pic.specs.Readings.{Reading, Picture, pictures}
 use Rattle.vx_pic.specs.Rules.{Readers}
 use Rattle.vx_pic.specs.Parts.{Parts, parts_of}
-use Rattle.vx_pic.specs.Written.{Plan}
+use Rattle.vx_annexb.specs.Laws.{written}
+use Rattle.vx_pic.specs.Written.{Plan, units_of}
 use Rattle.vx_assemble.specs.declared.feed.FeedFault.{FeedFault}
 use Rattle.vx_assemble.specs.declared.feed.FeedFault.TheVariants as feed
 use Rattle.vx_assemble.specs.declared.feed.Step.TheVariants as steps
@@ -21,16 +23,16 @@ use Rattle.vx_merge.specs.declared.corner.Corner.{Corner}
 use Rattle.vx_merge.specs.declared.ended.Lengths.TheVariants as lengths
 use Rattle.vx_merge.specs.declared.ended.Lengths.TheVariants.{AllGo, Differ}
 use Rattle.vx_merge.specs.Ends.{IsLengths}
-use Rattle.vx_merge.specs.Merging.{Merging, Stands, Writes}
+use Rattle.vx_merge.specs.Merging.{Merging, Stands, Checks, Writes}
 use Rattle.vx_app.specs.declared.merge.Work.{Work}
 use Rattle.vx_app.specs.declared.merge.Work.TheVariants.{Check, Write}
 use Rattle.vx_app.specs.declared.stop.Stop.{Stop}
-use Rattle.vx_app.specs.declared.stop.Stop.TheVariants.{Refused, ReadFault, WriteFault, NoMemory}
-use Rattle.vx_app.specs.Change.{Change, Sources, source_at, IsUntouched, HasFault, Gains}
+use Rattle.vx_app.specs.declared.stop.Stop.TheVariants.{NotUnderstood, Refused, ReadFault, WriteFault, NoMemory}
+use Rattle.vx_app.specs.Change.{Change, Sources, source_at, IsUntouched, HasNoFault, HasFault, Gains}
 use Rattle.vx_app.specs.Conclusion.{Outcome}
 use Rattle.vx_app.specs.Extract.{WhereTold, BeginsWith}
-use Rattle.vx_app.specs.Merge.{Stream, Judges, RoundsPass, AreWritten, bytes_of, NoneRefused, Refuses, Ends, in_round, behind_units}
-use Rattle.vx_app.specs.Merge.{OfEach, OfOthers, OthersRest, IsRead, IsReadOut, RestsRead, Sees, WhereAllTold, MergesBy}
+use Rattle.vx_app.specs.Merge.{Stream, AreWritten, bytes_of, NoneRefused, Refuses, EndsWritten, in_round, behind_units, GainsInto}
+use Rattle.vx_app.specs.Merge.{OfEach, OfOthers, OthersRest, IsRead, IsReadOut, RestsRead, Sees, WhereAllTold}
 use Rattle.vx_app.specs.inner.Extracting.{HasTaken, HasTakenOne}
 
 -- this holds of each element
@@ -147,27 +149,44 @@ pub record AllEnd {A : Type 0} (R : Readers) (sources : Sources A) (taken : List
 
 -- ---- rounds
 
--- how many rounds there are, or what `check merge` would do without writing
-abbrev pub CountsRounds : {A : Type 0} → Readers → List Corner → Sources A → Result ℕ Stop → Type 0
-CountsRounds R corners sources (Ok n) = OfEach sources IsReadOut × WhereAllTold R sources (λ ss. Ends corners ss n (Ok tt))
-CountsRounds R corners sources (Err (Refused r place)) =
-    (n : ℕ) × OthersRest R n place sources × WhereAllTold R sources (λ ss. Ends corners ss n (Err (r, place)))
-CountsRounds R corners sources (Err (ReadFault k)) =
-    (k < length sources.old) × HasFault (source_at sources k)
+-- what `out` gained where these were checked, or written
+abbrev pub Leaves : {K : Type 0} → Work → Change K → List Plan → Type 0
+Leaves Check out done = IsUntouched out
+Leaves Write out done = Gains out (bytes_of done)
+
+-- and that no write failed
+abbrev pub Keeps : {K : Type 0} → Work → Change K → Type 0
+Keeps Check out = IsUntouched out
+Keeps Write out = HasNoFault out
+
+-- How many rounds were checked or written, or what stopped that, and what it did to the sources and to `out`.
+abbrev pub TakesRounds : {A K : Type 0} → Readers → Work → List Corner → Option ℕ → Sources A → Change K → Result ℕ Stop → Type 0
+TakesRounds R work corners level sources out (Ok n) =
+    OfEach sources IsReadOut × Keeps work out
+    × WhereAllTold R sources (λ ss. (done : List Plan) × (length done ≡ n) × EndsWritten corners level ss done (Ok tt) × Leaves work out done)
+TakesRounds R work corners level sources out (Err (Refused r place)) =
+    (n : ℕ) × OthersRest R n place sources × Keeps work out
+    × WhereAllTold R sources (λ ss. (done : List Plan) × (length done ≡ n) × EndsWritten corners level ss done (Err (r, place))
+    × Leaves work out done)
+TakesRounds R work corners level sources out (Err (ReadFault k)) =
+    (k < length sources.old) × HasFault (source_at sources k) × Keeps work out
     × ((n : ℕ) × Sees R (source_at sources k) n × OfOthers k sources (RestsRead R n)
-    × WhereAllTold R sources (λ ss. RoundsPass corners ss n × NoneRefused k ss n))
-CountsRounds R corners sources (Err NoMemory) = OfEach sources IsRead
-CountsRounds R corners sources (Err _) = ⊥
+    × WhereAllTold R sources (λ ss. (done : List Plan) × (length done ≡ n) × AreWritten corners level ss done × NoneRefused k ss n
+    × Leaves work out done))
+TakesRounds R work corners level sources out (Err WriteFault) =
+    (work ≡ Write)
+    × ((n : ℕ) × OfEach sources (RestsRead R n) × HasFault out
+    × WhereAllTold R sources (λ ss. (done : List Plan) × (p : Plan) × (length done ≡ n) × AreWritten corners level ss (p ∷ done)
+    × GainsInto out (bytes_of done) (written (units_of p))))
+TakesRounds R work corners level sources out (Err NoMemory) =
+    OfEach sources IsRead × Keeps work out
+    × WhereAllTold R sources (λ ss. (done : List Plan) × AreWritten corners level ss done × Leaves work out done)
+TakesRounds R work corners level sources out (Err NotUnderstood) = ⊥
 
 -- what came of a command whose rounds were taken so
 abbrev pub outcome_of : Result ℕ Stop → Outcome
 outcome_of (Ok n) = Ok tt
 outcome_of (Err stop) = Err stop
-
--- all rounds were taken, and checked or written
-abbrev pub TakesRounds : {A K : Type 0} → Readers → Work → List Corner → Option ℕ → Sources A → Change K → Result ℕ Stop → Type 0
-TakesRounds R Check corners level sources out result = IsUntouched out × CountsRounds R corners sources result
-TakesRounds R Write corners level sources out result = MergesBy R corners level sources out (outcome_of result)
 
 -- where none has ended, where all have, and else
 abbrev pub GoesBy : List Bool → ℕ → Result Bool Stop → Type 0
@@ -196,38 +215,31 @@ AdvancesAll R sources feeds taken n (Ok true) = AllTake R sources feeds taken n
 AdvancesAll R sources feeds taken n (Ok false) = AllEnd R sources taken n
 AdvancesAll R sources feeds taken n (Err stop) = HaltsBehind R sources taken n stop
 
--- round n, of these pictures, breaks no rule, or one
-abbrev pub ChecksRound : List Corner → List Parts → ℕ → Outcome → Type 0
-ChecksRound corners round n (Ok _) = Judges corners round None
-ChecksRound corners round n (Err (Refused r place)) = Judges corners round (Some r) × (place ≡ in_round n)
-ChecksRound corners round n (Err NoMemory) = Unit {0}
-ChecksRound corners round n (Err _) = ⊥
+-- a round of these pictures was checked or written, behind those that were
+abbrev pub DoesRound : {K : Type 0} → Work → List Parts → List Plan → Merging → Change K → Result (Unit {0}) WriteError → Type 0
+DoesRound Check round done m out answer = IsUntouched out × Checks round done m answer
+DoesRound Write round done m out answer =
+    Writes round done m (out.bytes out.old) (out.bytes out.new) (out.faults out.old) (out.faults out.new) answer
 
--- round n, of these pictures, was written or wasn't, behind those that are written so, to a sink with these bytes and this count
-abbrev pub WritesRound : List Parts → List Plan → Merging → Option (List ℕ) → Option (List ℕ) → ℕ → ℕ → ℕ → Outcome → Type 0
-WritesRound round done m bytes bytes' faults faults' n (Ok _) = Writes round done m bytes bytes' faults faults' (Ok tt)
-WritesRound round done m bytes bytes' faults faults' n (Err (Refused r place)) =
-    Writes round done m bytes bytes' faults faults' (Err (errors.Refused r)) × (place ≡ in_round n)
-WritesRound round done m bytes bytes' faults faults' n (Err WriteFault) = Writes round done m bytes bytes' faults faults' (Err errors.SinkFailed)
-WritesRound round done m bytes bytes' faults faults' n (Err NoMemory) = Writes round done m bytes bytes' faults faults' (Err errors.Memory)
-WritesRound round done m bytes bytes' faults faults' n (Err _) = ⊥
+-- round n was, and what came of it
+abbrev pub TakesRound : {K : Type 0} → Work → List Parts → List Plan → Merging → Change K → ℕ → Outcome → Type 0
+TakesRound work round done m out n (Ok _) = DoesRound work round done m out (Ok tt)
+TakesRound work round done m out n (Err (Refused r place)) = DoesRound work round done m out (Err (errors.Refused r)) × (place ≡ in_round n)
+TakesRound work round done m out n (Err WriteFault) = DoesRound work round done m out (Err errors.SinkFailed)
+TakesRound work round done m out n (Err NoMemory) = DoesRound work round done m out (Err errors.Memory)
+TakesRound work round done m out n (Err _) = ⊥
 
--- The merger has written n rounds of these pictures.
-pub record HasWritten {K : Type 0} (corners : List Corner) (level : Option ℕ) (out : Change K) (m : Merging) (taken : List (List Picture))
-    (n : ℕ) : Type 0 where
+-- The merger has checked or written n rounds of these pictures.
+pub record HasWritten {K : Type 0} (work : Work) (corners : List Corner) (level : Option ℕ) (out : Change K) (m : Merging)
+    (taken : List (List Picture)) (n : ℕ) : Type 0 where
   pub done : List Plan
   pub count : length done ≡ n
   pub stands : Stands m done
   pub plans : AreWritten corners level (so_far taken) done
-  pub gained : Gains out (bytes_of done)
-
--- n rounds of these pictures were checked or written
-abbrev pub WasDone : {K : Type 0} → Work → List Corner → Option ℕ → Change K → Merging → List (List Picture) → ℕ → Type 0
-WasDone Check corners level out m taken n = IsUntouched out × (m.first ≡ None) × RoundsPass corners (so_far taken) n
-WasDone Write corners level out m taken n = HasWritten corners level out m taken n
+  pub leaves : Leaves work out done
 
 pub record HasDone {A K : Type 0} (R : Readers) (work : Work) (corners : List Corner) (level : Option ℕ) (sources : Sources A) (out : Change K)
     (feeds : List Feeding) (m : Merging) (n : ℕ) : Type 0 where
   pub taken : List (List Picture)
   pub waiting : AreWaiting R sources feeds taken n
-  pub done : WasDone work corners level out m taken n
+  pub done : HasWritten work corners level out m taken n

@@ -64,7 +64,7 @@ returns-in_err-take_round-clause-takes g c R of =
     let same : c.deref.result.now ≡ c.advance_all.new.feeds.items = c.deref.ensures.value in
     let a = c.in_err-take_round.ensures in
     rw (p.1, p.2) (work_stopped _ _ _ _ R c.args.sources.now.items c.args.out.now c.args.corners.now c.args.level c.advance_all.new.sources.items c.advance_all.new.feeds.items e.taken c.loop-merger.rounds all c.loop-merger.out c.take_round.new.out c.loop-merger.merger c.take_round.new.merger c.loop-merger.invariant.0.0 c.loop-merger.invariant.0.1 c.args.work e.done
-    c.in_err-take_round.field-0.0 (turns_same _ _ _ _ _ _ _ _ _ _ _ same (record { checked = a.checked; stays = a.stays; written = a.written; task = a.task })))
+    c.in_err-take_round.field-0.0 (turns_same _ _ _ _ _ _ _ _ _ _ _ same (record { takes = a.takes; task = a.task })))
 
 pub loop-merger-preserved : goal.loop-merger-preserved
 loop-merger-preserved g c =
@@ -80,7 +80,7 @@ loop-merger-preserved g c =
           let below = rounds_below _ _ R c.args.sources.now.items c.advance_all.new.sources.items c.advance_all.new.feeds.items e.taken c.loop-merger.rounds all c.index.result.now at in
           rw (c.one_more-rounds.ensures (rw c.unit.ensures below))
           (work_more _ _ _ _ R c.args.sources.now.items c.args.out.now c.args.corners.now c.args.level c.advance_all.new.sources.items c.advance_all.new.feeds.items e.taken c.loop-merger.rounds all c.loop-merger.out c.take_round.new.out c.loop-merger.merger c.take_round.new.merger c.loop-merger.invariant.0.0 c.loop-merger.invariant.0.1 c.args.work e.done
-          (turns_same _ _ _ _ _ _ _ _ _ _ _ same (record { checked = a.checked; stays = a.stays; written = a.written; task = a.task }))),
+          (turns_same _ _ _ _ _ _ _ _ _ _ _ same (record { takes = a.takes; task = a.task }))),
     )
 
 pub returns-clause-takes : goal.returns-clause-takes

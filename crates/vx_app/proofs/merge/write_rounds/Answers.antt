@@ -8,7 +8,7 @@ use Rattle.vx_app.specs.Grammar.{texts}
 use Rattle.vx_app.specs.Merge.{corners_of}
 use Rattle.vx_app.specs.inner.Placings.{placing_in}
 use Rattle.vx_app.proofs.Corners.{are_corners, many_corners}
-use Rattle.vx_app.proofs.Working.{takes_same, work_unmade}
+use Rattle.vx_app.proofs.Working.{takes_same, merged, work_unmade}
 use Rattle.vx_app.proofs.merge.write_rounds.Goals as goal
 
 pub take_rounds-requires-clause-corners : goal.take_rounds-requires-clause-corners
@@ -34,11 +34,11 @@ returns-in_err-take_rounds-clause-merges g c R of =
     let same : c.deref.result.now ≡ corners_of (map placing_in (texts c.args.placings.now)) = c.deref.ensures.value ∙ c.in_ok-corners.ensures in
     let sources = sources_change (λ s. (goal.Source-dyn g (s.vtable, s.value)).bytes_left s.value) (λ s. (goal.Source-dyn g (s.vtable, s.value)).read_faults s.value) c.args.sources.now.items c.take_rounds.new.sources.items in
     let out = change g.K.Sink.bytes_taken g.K.Sink.write_faults c.args.out.now c.take_rounds.new.out in
-    rw (p.1, p.2) (takes_same R Write _ _ c.args.level sources out (Err c.in_err-take_rounds.field-0.0) same (c.in_err-take_rounds.ensures.takes R of))
+    rw (p.1, p.2) (merged R _ sources out c.args.level (Err c.in_err-take_rounds.field-0.0) (takes_same R Write _ _ c.args.level sources out (Err c.in_err-take_rounds.field-0.0) same (c.in_err-take_rounds.ensures.takes R of)))
 
 pub returns-clause-merges : goal.returns-clause-merges
 returns-clause-merges g c R of =
     let same : c.deref.result.now ≡ corners_of (map placing_in (texts c.args.placings.now)) = c.deref.ensures.value ∙ c.in_ok-corners.ensures in
     let sources = sources_change (λ s. (goal.Source-dyn g (s.vtable, s.value)).bytes_left s.value) (λ s. (goal.Source-dyn g (s.vtable, s.value)).read_faults s.value) c.args.sources.now.items c.take_rounds.new.sources.items in
     let out = change g.K.Sink.bytes_taken g.K.Sink.write_faults c.args.out.now c.take_rounds.new.out in
-    takes_same R Write _ _ c.args.level sources out (Ok c.in_ok-take_rounds.field-0) same (c.in_ok-take_rounds.ensures.takes R of)
+    merged R _ sources out c.args.level (Ok c.in_ok-take_rounds.field-0) (takes_same R Write _ _ c.args.level sources out (Ok c.in_ok-take_rounds.field-0) same (c.in_ok-take_rounds.ensures.takes R of))

@@ -1,8 +1,7 @@
 use Rattle.vx_app.proofs.Ending.{exact-done, exact-stopped, extracts-done, extracts-stopped, words-stopped, checks-done, checks-stopped, merges-done, merges-stopped, many-done, many-stopped}
 use Rattle.vx_app.proofs.Once.{ends_once}
 use Rattle.vx_app.proofs.Performing.{merge_some}
-use Rattle.vx_merge.specs.Rules.{rules_of}
-use Rattle.vx_merge.proofs.Verdicts.{verdict_one}
+use Rattle.vx_merge.proofs.OnePlan.{merged_one}
 use Rattle.std.proofs.Common.{◌<◌, length, vec_len, refl, arith}
 use Rattle.vx_app.specs.Grammar.{merge, check_merge}
 use Rattle.vx_app.specs.Merge.{EndsOnce}
@@ -25,7 +24,7 @@ returns-in-Err-clause-extracts g c R of command task spelled is = extracts-stopp
 
 -- a merge ends once
 once : EndsOnce
-once = ends_once (λ corners round a b first second. verdict_one (length corners) (rules_of corners round) a b first second)
+once = ends_once merged_one
 
 pub returns-in-Ok-clause-checks : goal.returns-in-Ok-clause-checks
 returns-in-Ok-clause-checks g c R of placings spelled few read write fits = checks-done _ _ _ placings spelled few R of c.in-Ok.ensures.performs
