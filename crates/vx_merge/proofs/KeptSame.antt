@@ -33,24 +33,24 @@ module _ (level : Option ℕ) (round : List Parts) (frame : Numbers) (sent : Lis
   in_force k short = in_force_at round k short ready.made.are
 
   -- what source 0's sets keep
-  sps_sent : sps_set.kept_of n.sps ≡ sps_set.kept_of (picture_at round 0).sps
-  sps_sent = reshaped_keeps (picture_at round 0).sps n.sps (sps_shape ready.corners round level) ready.needed.sps
+  sps_sent : sps_set.kept_of n.sps.now ≡ sps_set.kept_of (picture_at round 0).sps
+  sps_sent = reshaped_keeps (picture_at round 0).sps n.sps.now (sps_shape ready.corners round level) ready.needed.sps
 
-  pps_sent : pps_set.kept_of n.pps ≡ pps_set.kept_of (picture_at round 0).pps
+  pps_sent : pps_set.kept_of n.pps.now ≡ pps_set.kept_of (picture_at round 0).pps
   pps_sent =
       let shape = pps_shape ready.corners round frame n.pps_id in
-      frame_keeps (picture_at round 0).pps n.pps shape (in_force 0 some_picture).pps ready.needed.pps refl
+      frame_keeps (picture_at round 0).pps n.pps.now shape (in_force 0 some_picture).pps ready.needed.pps refl
 
-  pub kept_same : (k : ℕ) → k < length round → HaveSameKept (picture_at round k).sps (picture_at round k).pps n.sps n.pps
+  pub kept_same : (k : ℕ) → k < length round → HaveSameKept (picture_at round k).sps (picture_at round k).pps n.sps.now n.pps.now
   kept_same k short = record {
     of_sps = sps_sent ∙ sym (sps_alike ready.corners round ready.same ready.passes k short);
     of_pps = pps_sent ∙ sym (pps_alike ready.corners round ready.same ready.passes k short);
     is_sps = (in_force k short).sps;
-    is_other_sps = sps_items (picture_at round 0).sps (sps_shape ready.corners round level) n.sps ready.needed.sps;
+    is_other_sps = sps_items (picture_at round 0).sps (sps_shape ready.corners round level) n.sps.now ready.needed.sps;
     is_pps = (in_force k short).pps;
-    is_other_pps = pps_items (picture_at round 0).pps (pps_shape ready.corners round frame n.pps_id) n.pps ready.needed.pps;
+    is_other_pps = pps_items (picture_at round 0).pps (pps_shape ready.corners round frame n.pps_id) n.pps.now ready.needed.pps;
   }
 
   -- the filter and the QP stand in slice headers
-  pub apart : IsApart n.pps
-  apart = frame_apart (picture_at round 0).pps n.pps (pps_shape ready.corners round frame n.pps_id) ready.needed.pps refl
+  pub apart : IsApart n.pps.now
+  apart = frame_apart (picture_at round 0).pps n.pps.now (pps_shape ready.corners round frame n.pps_id) ready.needed.pps refl

@@ -73,7 +73,7 @@ module _ (level : Option ℕ) (round : List Parts) (frame : Numbers) (sent : Lis
   }
 
   pub goes_under : (source : PictureHeader) (q : Parts) → q ≡ picture_at round 0 → IsHeader (structures q.sps) (in_force q.sps q.pps) source
-      → GoesUnder source n.sps n.pps
+      → GoesUnder source n.sps.now n.pps.now
   goes_under source q is header = record {
     own_sps = (picture_at round 0).sps;
     own_pps = (picture_at round 0).pps;

@@ -13,7 +13,7 @@ use Rattle.vx_merge.specs.Bodies.{filters_in, has_lmcs, has_scaling, is_chroma_s
 use Rattle.vx_merge.specs.Needed.{alf_bodies}
 use Rattle.vx_merge.specs.Regions.{corners_in, ctb_of, layouts_in, placed_in}
 use Rattle.vx_merge.specs.Rounds.{UnlikeLowest, picture_at}
-use Rattle.vx_merge.specs.Rules.{crosses_slices, crosses_tiles, first_lists, has_slices, has_tiles, kept_header, kept_pps, kept_sps, most_filters, profile_of, rules_of, rules_of_fit, rules_of_frame, rules_of_pictures, rules_of_sets, rules_of_slices, several_subpictures, shared_kind, sps_tools, tile_lines, too_many_slices}
+use Rattle.vx_merge.specs.Rules.{crosses_slices, crosses_tiles, filter_flags, first_lists, has_slices, has_tiles, kept_header, kept_pps, kept_sps, most_filters, pps_tools, profile_of, rules_of, rules_of_fit, rules_of_frame, rules_of_pictures, rules_of_sets, rules_of_slices, several_subpictures, shared_kind, sps_tools, tile_lines, too_many_slices}
 use Rattle.vx_merge.specs.Shapes.{of_lowest}
 use Rattle.vx_merge.specs.Verdict.{Rule, IsVerdict}
 use Rattle.vx_merge.specs.inner.Found.{Finds}
@@ -117,6 +117,10 @@ module _ (corners : List Corner) (round : List Parts) (same : length corners ≡
   of_frame : NoneBroken (length corners) (rules_of_frame corners round)
   of_frame = none_front (length corners) (rules_of_frame corners round) (too_many_slices round ∷ []) of_sets.1.1
 
+  -- L6, M3, M4 and M5, as they are found
+  pub frame_found : Finds (length corners) (rules_of_frame corners round) None
+  frame_found = record { verdict = none_found (length corners) (rules_of_frame corners round) of_frame }
+
   -- L6, M3, M4
   pub fit_found : Finds (length corners) (rules_of_fit (placed_in corners round) (ctb_of round)) None
   fit_found =
@@ -140,6 +144,13 @@ module _ (corners : List Corner) (round : List Parts) (same : length corners ≡
 
   pub sps_found : Finds (length corners) (sps_tools round ∷ []) None
   sps_found = record { verdict = inl (of_sets.1.0, refl) }
+
+  -- M7 and M13, as they are found
+  pub pps_found : Finds (length corners) (pps_tools round ∷ []) None
+  pps_found = record { verdict = inl (of_pictures.1.0, refl) }
+
+  pub flags_found : Finds (length corners) (filter_flags round ∷ []) None
+  flags_found = record { verdict = inl (of_slices.1.1.0, refl) }
 
   -- M12: all filters have ids
   pub filters_few : 0 < length round → length (alf_bodies round) ≤ most_filters

@@ -142,7 +142,7 @@ pub record IsDone (corners : List Corner) (level : Option ℕ) (round : List Par
   pub needed : AreNeeded corners level round frame (kept_for (picture_at round 0).kind.nal_type history) n
   pub eos : m.after_eos ≡ (picture_at round 0).kind.after_eos
   pub headers : AreHeaders round n frame m.header.items (map (λ u. u.items) m.fronts.items)
-  pub sent : AreSent (picture_at round 0).kind.temporal_id (kept_for (picture_at round 0).kind.nal_type history) (needed_sets round (ids_in n) n.sps n.pps) slots
+  pub sent : AreSent (picture_at round 0).kind.temporal_id (kept_for (picture_at round 0).kind.nal_type history) (needed_sets round (ids_in n) n.sps.now n.pps.now) slots
       (map (λ u. u.items) m.sets.items)
   pub sei : IsSeiUnit (picture_at round 0).kind.temporal_id (picture_at round 0).messages (option_map (λ u. record { unit = u.items; messages = (picture_at round 0).messages }) m.sei)
   pub payloads : map (λ b. b.now) m.payloads ≡ flat_map payloads_in round
@@ -181,11 +181,11 @@ module _ (corners : List Corner) (level : Option ℕ) (round : List Parts) (hist
         plain_is = subst (λ l. pps_reshaped.IsReshaped own.pps (pps_shape corners round l 0) made.needed.plain) layout made.needed.plain_is;
         taken = subst (λ h. TakeIds round own.kind.temporal_id h made.needed.plain (ids_in n)) back made.needed.taken;
         pps = subst (pps_reshaped.IsReshaped own.pps (pps_shape corners round b.layout n.pps_id)) (sym made.headers.pps)
-            (subst (λ l. pps_reshaped.IsReshaped own.pps (pps_shape corners round l n.pps_id) n.pps) layout made.needed.pps);
+            (subst (λ l. pps_reshaped.IsReshaped own.pps (pps_shape corners round l n.pps_id) n.pps.now) layout made.needed.pps);
         header = made.headers.header;
         slices = each;
         needed = made.sent.needed;
-        sets = made.sent.of ∙ (ap (λ s. needed_sets round (ids_in n) s n.pps) (sym made.headers.sps) ∙ ap (needed_sets round (ids_in n) b.sps) (sym made.headers.pps));
+        sets = made.sent.of ∙ (ap (λ s. needed_sets round (ids_in n) s n.pps.now) (sym made.headers.sps) ∙ ap (needed_sets round (ids_in n) b.sps) (sym made.headers.pps));
         units = made.sent.spelled;
         sent = ap (λ h. filter (λ x. not (is_resident own.kind.temporal_id h x)) made.sent.needed) back;
         sei = made.sei;

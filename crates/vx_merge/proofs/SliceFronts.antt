@@ -139,7 +139,7 @@ record IsAlike (round : List Parts) (n : RoundSets) (q : Parts) : Type 0 where
   kind : shared_kind q ≡ shared_kind (picture_at round 0)
   header : kept_header q ≡ kept_header (picture_at round 0)
   alone : subpics_of q.sps ≡ 1
-  kept : HaveSameKept q.sps q.pps n.sps n.pps
+  kept : HaveSameKept q.sps q.pps n.sps.now n.pps.now
 
 module _ (round : List Parts) (n : RoundSets) (m : SliceNumbers) (are : IsInForce round n m) where
   ready : IsReady are.ready.0 round m.layout.now are.ready.1.0 n
@@ -165,12 +165,12 @@ module _ (round : List Parts) (n : RoundSets) (m : SliceNumbers) (are : IsInForc
   regions_count = ap (λ x. length x.subpics) (sym ready.made.is.pictures) ∙ frame_count ready.corners round m.layout.now ready.made
       ready.shapes
 
-  indices : HaveIndices n.sps n.pps (length round)
+  indices : HaveIndices n.sps.now n.pps.now (length round)
   indices =
       let count = regions_count in
       let few = few_round in
-      subst (HaveIndices n.sps n.pps) regions_count
-      (have_indices (picture_at round 0).sps n.sps n.pps (sps_shape ready.corners round are.ready.0) (corners_in ready.corners round)
+      subst (HaveIndices n.sps.now n.pps.now) regions_count
+      (have_indices (picture_at round 0).sps n.sps.now n.pps.now (sps_shape ready.corners round are.ready.0) (corners_in ready.corners round)
       (picture_all AreInForce round 0 some_round ready.made.are).sps (ready.shapes.sps are.ready.0) ready.needed.sps refl
       (omega (arith, count, few)))
 
@@ -213,11 +213,11 @@ module _ (round : List Parts) (n : RoundSets) (m : SliceNumbers) (are : IsInForc
 
     kept : HaveSameKept q.sps q.pps m.sps.now m.pps.now
     kept = subst (λ s. HaveSameKept q.sps q.pps s m.pps.now) (sym are.sps)
-        (subst (λ p. HaveSameKept q.sps q.pps n.sps p) (sym are.pps) alike_here.kept)
+        (subst (λ p. HaveSameKept q.sps q.pps n.sps.now p) (sym are.pps) alike_here.kept)
 
     is_header : IsHeader (structures m.sps.now) (in_force m.sps.now m.pps.now) m.header.now
     is_header = subst (λ s. IsHeader (structures s) (in_force s m.pps.now) m.header.now) (sym are.sps)
-        (subst (λ p. IsHeader (structures n.sps) (in_force n.sps p) m.header.now) (sym are.pps) are.is)
+        (subst (λ p. IsHeader (structures n.sps.now) (in_force n.sps.now p) m.header.now) (sym are.pps) are.is)
 
     fields_same : shown_items (set_of ph_kept.kept) m.header.now.fields ≡ shown_items (set_of ph_kept.kept) q.header.fields
     fields_same = are.says.fields.shown_ones ∙ sym alike_here.header
@@ -280,7 +280,7 @@ module _ (round : List Parts) (n : RoundSets) (m : SliceNumbers) (are : IsInForc
         known = let count = ids_count in let at : index_of shape.subpic_id m.ids.now ≡ k = ap (λ i. index_of i m.ids.now) has.subpic
             ∙ index_is k short in omega (arith, count, at, short);
         spelled = λ described. subst (λ s. shape.subpic_id < 2 ^ (number s sps_fields.sps_subpic_id_len_minus1 + 1)) (sym are.sps)
-            (subst (λ i. i < 2 ^ (number n.sps sps_fields.sps_subpic_id_len_minus1 + 1)) (sym has.subpic) (indices.bits k short));
+            (subst (λ i. i < 2 ^ (number n.sps.now sps_fields.sps_subpic_id_len_minus1 + 1)) (sym has.subpic) (indices.bits k short));
         unspelled = λ none. absurd (true≢false (sym (ap is_set (ap (λ s. number s sps_fields.sps_subpic_info_present_flag) are.sps
             ∙ indices.described)) ∙ none));
         filter = λ enabled. rw has.filter (filter_takes has_filter (new_id n.alf q) (new_low q) q h m.sps.now m.pps.now kept header read
@@ -314,7 +314,7 @@ module _ (round : List Parts) (n : RoundSets) (m : SliceNumbers) (are : IsInForc
           pps = are.pps ∙ sym begun.pps;
           header = sym begun.header;
           layout = sym begun.layout;
-          ids = are.ids ∙ ap (λ s. ids_of s n.pps) (sym begun.sps) ∙ ap (λ p. ids_of b.sps p) (sym begun.pps);
+          ids = are.ids ∙ ap (λ s. ids_of s n.pps.now) (sym begun.sps) ∙ ap (λ p. ids_of b.sps p) (sym begun.pps);
         };
         shape = shape;
         says = says_slice s is;

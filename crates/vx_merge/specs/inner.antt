@@ -8,4 +8,5 @@ pub mod Known
 pub mod Making
 pub mod Ready
 pub mod Sending
+pub mod Settled
 pub mod Taking

@@ -9,7 +9,7 @@ ghost use Rattle.vx_merge.specs.inner.Joined.{IsSomeFrame, OfFrame};
 use crate::joined::Frame;
 use crate::shapes::{across_slices, across_tiles, dpb, init_qp, level_of, window};
 use std::alloc::{AllocError, Global};
-use vx_layout::{Bounds, RectList};
+use vx_layout::{Bounds, Numbers, RectList};
 use vx_pic::Picture;
 use vx_pps::{Pps, PpsShape, Tiles, reshape_pps};
 use vx_sps::{Sps, SpsShape, SubpicPlan, reshape_sps};
@@ -32,6 +32,26 @@ fn copied_bounds(alloc: Global, bounds: &Bounds) -> Result<Bounds, AllocError>
         copy.push(bounds.item(i))?;
     }
     Ok(copy)
+}
+
+/// The numbers of a frame once more.
+///
+/// # Errors
+///
+/// Want of memory.
+pub(crate) fn copied_numbers(alloc: Global, numbers: &Numbers) -> Result<Numbers, AllocError>
+    ensures { IfOk result (λ copy. copy ≡ numbers.now) }
+{
+    let columns = copied_bounds(alloc, &numbers.columns)?;
+    let rows = copied_bounds(alloc, &numbers.rows)?;
+    let slices = copied(alloc, &numbers.slices)?;
+    let subpics = copied(alloc, &numbers.subpics)?;
+    Ok(Numbers {
+        columns,
+        rows,
+        slices,
+        subpics,
+    })
 }
 
 /// What the SPS says.

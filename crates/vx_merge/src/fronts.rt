@@ -44,7 +44,7 @@ fn written_header(
 fn slice_front(
     alloc: Global,
     round: &[Picture<'_>],
-    needed: &RoundSets<'_>,
+    needed: &RoundSets<'_, '_>,
     numbers: &SliceNumbers<'_>,
     k: usize,
     i: u32,
@@ -71,7 +71,7 @@ fn slice_front(
 fn push_fronts(
     alloc: Global,
     round: &[Picture<'_>],
-    needed: &RoundSets<'_>,
+    needed: &RoundSets<'_, '_>,
     numbers: &SliceNumbers<'_>,
     k: usize,
     fronts: &mut Vec<Vec<u8>>,
@@ -96,22 +96,22 @@ fn push_fronts(
 pub(crate) fn slice_fronts(
     alloc: Global,
     round: &[Picture<'_>],
-    needed: &RoundSets<'_>,
+    needed: &RoundSets<'_, '_>,
     header: &PictureHeader,
     layout: &Layout,
     ids: &IdList,
 ) -> Result<Vec<Vec<u8>>, AllocError>
     requires ready { IsReadyAt round.now needed.now layout.now }
-    requires says { ph_reshaped.IsReshaped (picture_at round.now 0).header (ph_shape round.now (ids_in needed.now)) needed.now.sps needed.now.pps header.now }
-    requires is { IsHeader (structures needed.now.sps) (in_force needed.now.sps needed.now.pps) header.now }
-    requires ids { ids.now ≡ ids_of needed.now.sps needed.now.pps }
+    requires says { ph_reshaped.IsReshaped (picture_at round.now 0).header (ph_shape round.now (ids_in needed.now)) needed.now.sps.now needed.now.pps.now header.now }
+    requires is { IsHeader (structures needed.now.sps.now) (in_force needed.now.sps.now needed.now.pps.now) header.now }
+    requires ids { ids.now ≡ ids_of needed.now.sps.now needed.now.pps.now }
     ensures { (b : Begun) → IsBegun round.now needed.now header.now layout.now b
         → IfOk result (λ fronts. AreFronts round.now needed.now b (sourced 0 round.now) (map (λ f. f.items) fronts.items)) }
 {
     let numbers = SliceNumbers {
         nal_type: round[0].kind().nal_type,
-        sps: &needed.sps,
-        pps: &needed.pps,
+        sps: needed.sps,
+        pps: needed.pps,
         header,
         layout,
         ids,

@@ -27,6 +27,7 @@ mod picture_header;
 mod round;
 mod send;
 mod sets;
+mod settled;
 mod shapes;
 mod slice_shape;
 mod slices;

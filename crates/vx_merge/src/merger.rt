@@ -1,14 +1,16 @@
 //! Round after round of pictures that are put together.
-ghost use Rattle.std.specs.Prelude.{◌≡◌, All, List, None, length, map, IfOk};
+ghost use Rattle.std.specs.Prelude.{◌≡◌, All, List, None, length, map, IfOk, IfSome};
 ghost use Rattle.vx_annexb.specs.Laws.{written};
 ghost use Rattle.vx_pic.specs.Resident.{history_of, units_written};
 ghost use Rattle.vx_pic.specs.Written.{Plan};
 ghost use Rattle.vx_write.specs.Slots.{AreLastOf};
 ghost use Rattle.vx_merge.specs.Merging.{AreCorners, Checks, Writes};
 ghost use Rattle.vx_merge.specs.inner.Found.{HasHistory};
+ghost use Rattle.vx_merge.specs.inner.Settled.{IsSettled};
 
 use crate::corner::Corner;
 use crate::round::{check_round, write_round};
+use crate::settled::Settled;
 use std::alloc::{AllocError, Global};
 use std::marker::Model;
 use vx_io::Sink;
@@ -24,20 +26,23 @@ pub struct Merger {
     alloc: Global,
     corners: Vec<Corner>,
     level: Option<u8>,
+    settled: Option<Settled>,
     slots: Slots,
     bytes: u64,
     first: Option<WriteFirst>,
 }
 
 impl Model for Merger {
+    ghost use Rattle.std.specs.Prelude.{IfSome};
     ghost use Rattle.vx_merge.specs.Merging.{Merging, AreCorners};
     ghost use Rattle.vx_merge.specs.inner.Found.{HasHistory};
+    ghost use Rattle.vx_merge.specs.inner.Settled.{IsSettled};
 
     ghost Value = { Merging };
 
     ghost view = { λ m. record { corners = m.corners.items; level = m.level; slots = m.slots; bytes = m.bytes; first = m.first } };
 
-    ghost invariant = { λ m. AreCorners m.corners.items × HasHistory m.slots };
+    ghost invariant = { λ m. AreCorners m.corners.items × HasHistory m.slots × IfSome m.settled (IsSettled m.corners.items m.level) };
 }
 
 /// The pictures that are lent.
@@ -61,6 +66,7 @@ fn check_lent<L: Lender>(
     alloc: Global,
     corners: &[Corner],
     level: Option<u8>,
+    settled: &mut Option<Settled>,
     slots: &mut Slots,
     bytes: &mut u64,
     lenders: &[L],
@@ -68,13 +74,23 @@ fn check_lent<L: Lender>(
     requires corners { AreCorners corners.now }
     requires count { length lenders.now ≡ length corners.now }
     requires holds { All L.holds lenders.now }
+    requires settled { IfSome settled.old (IsSettled corners.now level) }
     requires slots { HasHistory slots.old }
+    ensures settled { IfSome settled.new (IsSettled corners.now level) }
     ensures kept { HasHistory slots.new }
     ensures answer { (done : List Plan) → AreLastOf (history_of done) slots.old → bytes.old ≡ length (written (units_written done))
         → Checks (map L.lent lenders.now) done (record { corners = corners.now; level = level; slots = slots.new; bytes = bytes.new; first = None }) result }
 {
     let made = lent(alloc, lenders)?;
-    check_round(alloc, corners, level, slots, bytes, made.as_slice())
+    check_round(
+        alloc,
+        corners,
+        level,
+        settled,
+        slots,
+        bytes,
+        made.as_slice(),
+    )
 }
 
 /// Writes a round of lenders, behind so many bytes and the sets that were sent.
@@ -82,6 +98,7 @@ fn write_lent<L: Lender, K: Sink>(
     alloc: Global,
     corners: &[Corner],
     level: Option<u8>,
+    settled: &mut Option<Settled>,
     slots: &mut Slots,
     bytes: &mut u64,
     lenders: &[L],
@@ -90,14 +107,25 @@ fn write_lent<L: Lender, K: Sink>(
     requires corners { AreCorners corners.now }
     requires count { length lenders.now ≡ length corners.now }
     requires holds { All L.holds lenders.now }
+    requires settled { IfSome settled.old (IsSettled corners.now level) }
     requires slots { HasHistory slots.old }
+    ensures settled { IfSome settled.new (IsSettled corners.now level) }
     ensures kept { HasHistory slots.new }
     ensures answer { (done : List Plan) → AreLastOf (history_of done) slots.old → bytes.old ≡ length (written (units_written done))
         → Writes (map L.lent lenders.now) done (record { corners = corners.now; level = level; slots = slots.new; bytes = bytes.new; first = None })
         (K.bytes_taken out.old) (K.bytes_taken out.new) (K.write_faults out.old) (K.write_faults out.new) result }
 {
     let made = lent(alloc, lenders)?;
-    write_round(alloc, corners, level, slots, bytes, made.as_slice(), out)
+    write_round(
+        alloc,
+        corners,
+        level,
+        settled,
+        slots,
+        bytes,
+        made.as_slice(),
+        out,
+    )
 }
 
 impl Merger {
@@ -124,6 +152,7 @@ impl Merger {
             alloc,
             corners: own,
             level,
+            settled: None,
             slots: Slots::new(alloc),
             bytes: 0,
             first: None,
@@ -149,8 +178,8 @@ impl Merger {
             return Err(WriteError::Stopped(first));
         }
         let (alloc, level) = (self.alloc, self.level);
-        let (slots, bytes) = (&mut self.slots, &mut self.bytes);
-        match check_lent(alloc, &self.corners, level, slots, bytes, lenders) {
+        let (settled, slots, bytes) = (&mut self.settled, &mut self.slots, &mut self.bytes);
+        match check_lent(alloc, &self.corners, level, settled, slots, bytes, lenders) {
             Ok(()) => Ok(()),
             Err(error) => {
                 self.first = Some(first_of(error));
@@ -183,8 +212,17 @@ impl Merger {
             return Err(WriteError::Stopped(first));
         }
         let (alloc, level) = (self.alloc, self.level);
-        let (slots, bytes) = (&mut self.slots, &mut self.bytes);
-        match write_lent(alloc, &self.corners, level, slots, bytes, lenders, out) {
+        let (settled, slots, bytes) = (&mut self.settled, &mut self.slots, &mut self.bytes);
+        match write_lent(
+            alloc,
+            &self.corners,
+            level,
+            settled,
+            slots,
+            bytes,
+            lenders,
+            out,
+        ) {
             Ok(()) => Ok(()),
             Err(failure) => {
                 self.first = Some(first_of(failure));

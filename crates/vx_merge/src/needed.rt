@@ -1,27 +1,27 @@
 //! The sets that a round needs.
-ghost use Rattle.std.specs.Prelude.{◌≡◌, ◌<◌, ◌≤◌, ◌∷◌, [], List, None, length, map, option_copied, option_to_list, IfOk};
+ghost use Rattle.std.specs.Prelude.{◌≡◌, ℕ, ◌<◌, ◌≤◌, ◌∷◌, [], List, Option, None, length, map, option_copied, option_to_list, unwrap_or, IfOk};
 ghost use Rattle.std.specs.List.{AllByRecursion};
 ghost use Rattle.vx_aps.specs.declared.aps.TheConstants as types;
 ghost use Rattle.vx_fit.specs.Lowest.{IsLowestAnswer};
 ghost use Rattle.vx_pps.specs.Pps.{IsItems};
-ghost use Rattle.vx_pps.specs.Reshaped.{IsReshaped};
 ghost use Rattle.vx_pic.specs.Written.{SetUnit, a_pps};
 ghost use Rattle.vx_write.specs.Slots.{AreLastOf, pps_with_id};
 ghost use Rattle.vx_merge.specs.Bodies as words;
 ghost use Rattle.vx_merge.specs.Needed.{alf_bodies, lmcs_bodies, scaling_bodies};
 ghost use Rattle.vx_merge.specs.Rounds.{picture_at};
-ghost use Rattle.vx_merge.specs.Shapes.{of_lowest, pps_shape};
+ghost use Rattle.vx_merge.specs.Shapes.{of_lowest};
 ghost use Rattle.vx_merge.specs.Slots.{TakeSlots, alf_slots, lmcs_slots, pps_slots, scaling_slots};
-ghost use Rattle.vx_merge.specs.inner.Joined.{IsSomeFrame, OfFrame};
 ghost use Rattle.vx_merge.specs.inner.Ready.{AreNeeded};
+ghost use Rattle.vx_merge.specs.declared.corner.Corner.{Corner};
+ghost use Rattle.vx_merge.specs.inner.Settled.{HasPps, IsSomeUsed, IsUsedFor};
 ghost use Rattle.vx_merge.specs.inner.Sending.{AreNamed, CanBeSent, HasEnds};
 ghost use Rattle.vx_merge.specs.inner.Taking.{IsEmptyPps, IsHeldAs};
 
 use crate::filters::add_picture;
-use crate::frame_sets::{frame_pps, frame_sps};
+use crate::frame_sets::frame_pps;
 use crate::headers::{has_lmcs, has_scaling, lmcs_body, scaling_body};
 use crate::ids::{Search, take_ids};
-use crate::joined::Frame;
+use crate::settled::Settled;
 use std::alloc::{AllocError, Global};
 use vx_aps::{ALF, LMCS, SCALING};
 use vx_bits::BodyList;
@@ -44,11 +44,11 @@ pub(crate) struct NamedBodies<'a> {
 
 /// The sets that a round needs, with the ids that they take.
 #[derive(Drop)]
-pub(crate) struct RoundSets<'a> {
+pub(crate) struct RoundSets<'s, 'a> {
     /// The SPS, of id 0.
-    pub(crate) sps: Sps,
+    pub(crate) sps: &'s Sps,
     /// The PPS.
-    pub(crate) pps: Pps,
+    pub(crate) pps: &'s Pps,
     /// Its id.
     pub(crate) pps_id: u8,
     /// Adaptive loop filters.
@@ -240,7 +240,7 @@ fn empty_pps_id(slots: &Slots) -> Option<u8>
 }
 
 /// The id that a PPS takes.
-fn taken_pps_id(slots: &Slots, temporal_id: u8, pps: &Pps) -> u8
+pub(crate) fn taken_pps_id(slots: &Slots, temporal_id: u8, pps: &Pps) -> u8
     ensures low { result < pps_slots }
     ensures taken { (sent : List SetUnit) → AreLastOf sent slots.now
         → TakeSlots pps_slots 1 temporal_id sent (λ k id. a_pps (pps_with_id id pps.now)) (result ∷ []) }
@@ -252,56 +252,69 @@ fn taken_pps_id(slots: &Slots, temporal_id: u8, pps: &Pps) -> u8
     }
 }
 
-/// The PPS with the id that it takes: made anew, unless that is 0, the id that it has.
-fn renamed(
-    alloc: Global,
-    round: &[Picture<'_>],
-    frame: &Frame,
-    plain: Pps,
-    id: u8,
-) -> Result<Pps, AllocError>
-    requires frame { IsSomeFrame round.now frame.now }
-    requires id { id < 64 }
-    requires plain { OfFrame round.now frame.now (λ corners. IsReshaped (picture_at round.now 0).pps (pps_shape corners round.now frame.now.numbers 0) plain) }
-    ensures { IfOk result (λ pps. OfFrame round.now frame.now (λ corners. IsReshaped (picture_at round.now 0).pps (pps_shape corners round.now frame.now.numbers id) pps)) }
-{
-    if id == 0 {
-        return Ok(plain);
-    }
-    frame_pps(alloc, round, frame, id)
-}
-
-// ---- all
-
-/// The sets that a round needs, with the ids that they take behind the sets that were sent.
+/// The PPS with the id that it takes, made anew; none where that is 0, the id that it has.
 ///
 /// # Errors
 ///
 /// Want of memory.
-pub(crate) fn needed<'a>(
+pub(crate) fn renamed(
+    alloc: Global,
+    round: &[Picture<'_>],
+    settled: &Settled,
+    id: u8,
+) -> Result<Option<Pps>, AllocError>
+    requires settled { IsSomeUsed round.now settled.now }
+    requires id { id < 64 }
+    ensures { IfOk result (λ other. HasPps round.now settled.now id (unwrap_or other settled.now.plain)) }
+{
+    if id == 0 {
+        return Ok(None);
+    }
+    let pps = frame_pps(alloc, round, &settled.frame, id)?;
+    Ok(Some(pps))
+}
+
+/// The PPS that was made anew, or else the one with the id 0.
+pub(crate) fn pps_among<'a>(plain: &'a Pps, other: &'a Option<Pps>) -> &'a Pps
+    ensures { result.now ≡ unwrap_or other.now plain.now }
+{
+    match other {
+        Some(pps) => pps,
+        None => plain,
+    }
+}
+
+// ---- all
+
+/// The sets that a round needs, with the ids that they take behind the sets that were sent: the PPS is there with its id.
+///
+/// # Errors
+///
+/// Want of memory.
+pub(crate) fn needed<'s, 'a>(
     alloc: Global,
     round: &[Picture<'a>],
-    frame: &Frame,
-    level: Option<u8>,
+    settled: &'s Settled,
+    pps: &'s Pps,
+    pps_id: u8,
     slots: &Slots,
-) -> Result<RoundSets<'a>, AllocError>
-    requires frame { IsSomeFrame round.now frame.now }
-    requires few { length (alf_bodies round.now) ≤ alf_slots }
-    ensures needed { (sent : List SetUnit) → AreLastOf sent slots.now
-        → IfOk result (λ n. OfFrame round.now frame.now (λ corners. AreNeeded corners level round.now frame.now.numbers sent n)) }
+) -> Result<RoundSets<'s, 'a>, AllocError>
+    requires settled { IsSomeUsed round.now settled.now }
+    requires pps { HasPps round.now settled.now pps_id pps.now }
+    requires low { pps_id < pps_slots }
+    requires taken { (sent : List SetUnit) → AreLastOf sent slots.now
+        → TakeSlots pps_slots 1 (picture_at round.now 0).kind.temporal_id sent (λ k id. a_pps (pps_with_id id settled.now.plain)) (pps_id ∷ []) }
+    ensures needed { (corners : List Corner) (level : Option ℕ) (sent : List SetUnit) → IsUsedFor corners level round.now settled.now → AreLastOf sent slots.now
+        → IfOk result (AreNeeded corners level round.now settled.now.frame.numbers sent) }
     ensures can { IfOk result CanBeSent }
 {
     all_bodies(round);
     let temporal_id = round[0].kind().temporal_id;
-    let sps = frame_sps(alloc, round, frame, level)?;
-    let plain = frame_pps(alloc, round, frame, 0)?;
-    let pps_id = taken_pps_id(slots, temporal_id, &plain);
-    let pps = renamed(alloc, round, frame, plain, pps_id)?;
     let alf = named_filters(alloc, slots, temporal_id, round)?;
     let lmcs = named_lmcs(alloc, slots, temporal_id, round)?;
     let scaling = named_scaling(alloc, slots, temporal_id, round)?;
     Ok(RoundSets {
-        sps,
+        sps: &settled.sps,
         pps,
         pps_id,
         alf,

@@ -49,7 +49,7 @@ fn lmcs_shape(round: &[Picture<'_>], lmcs: &NamedBodies<'_>) -> Option<LmcsShape
 }
 
 /// What the header says.
-fn shape_of(round: &[Picture<'_>], needed: &RoundSets<'_>) -> PhShape
+fn shape_of(round: &[Picture<'_>], needed: &RoundSets<'_, '_>) -> PhShape
     ensures { result ≡ spec.ph_shape round.now (ids_in needed.now) }
 {
     PhShape {
@@ -67,14 +67,14 @@ fn shape_of(round: &[Picture<'_>], needed: &RoundSets<'_>) -> PhShape
 pub(crate) fn picture_header(
     alloc: Global,
     round: &[Picture<'_>],
-    needed: &RoundSets<'_>,
+    needed: &RoundSets<'_, '_>,
 ) -> Result<PictureHeader, AllocError>
     requires ready { IsSomeReady round.now needed.now }
-    ensures says { IfOk result (λ header. IsReshaped (picture_at round.now 0).header (spec.ph_shape round.now (ids_in needed.now)) needed.now.sps needed.now.pps header) }
-    ensures is { IfOk result (λ header. IsHeader (structures needed.now.sps) (in_force needed.now.sps needed.now.pps) header) }
+    ensures says { IfOk result (λ header. IsReshaped (picture_at round.now 0).header (spec.ph_shape round.now (ids_in needed.now)) needed.now.sps.now needed.now.pps.now header) }
+    ensures is { IfOk result (λ header. IsHeader (structures needed.now.sps.now) (in_force needed.now.sps.now needed.now.pps.now) header) }
 {
     let shape = shape_of(round, needed);
-    reshape_ph(alloc, round[0].header(), &shape, &needed.sps, &needed.pps)
+    reshape_ph(alloc, round[0].header(), &shape, needed.sps, needed.pps)
 }
 
 /// The unit of a picture header (H.266 7.3.2.7).
@@ -85,14 +85,14 @@ pub(crate) fn picture_header(
 pub(crate) fn header_unit(
     alloc: Global,
     header: &PictureHeader,
-    needed: &RoundSets<'_>,
+    needed: &RoundSets<'_, '_>,
     temporal_id: u8,
 ) -> Result<Vec<u8>, AllocError>
     requires tid { temporal_id < 7 }
-    requires is { IsHeader (structures needed.now.sps) (in_force needed.now.sps needed.now.pps) header.now }
-    ensures { IfOk result (λ unit. (rbsp : List ℕ) × IsUnit (structures needed.now.sps) (in_force needed.now.sps needed.now.pps) header.now rbsp × IsUnitOf types.PH_NUT temporal_id rbsp unit.items) }
+    requires is { IsHeader (structures needed.now.sps.now) (in_force needed.now.sps.now needed.now.pps.now) header.now }
+    ensures { IfOk result (λ unit. (rbsp : List ℕ) × IsUnit (structures needed.now.sps.now) (in_force needed.now.sps.now needed.now.pps.now) header.now rbsp × IsUnitOf types.PH_NUT temporal_id rbsp unit.items) }
 {
-    let rbsp = write_ph(alloc, header, &needed.sps, &needed.pps)?;
+    let rbsp = write_ph(alloc, header, needed.sps, needed.pps)?;
     let unit = plain_unit(alloc, PH_NUT, temporal_id, &rbsp)?;
     Ok(unit)
 }

@@ -1,36 +1,32 @@
 //! A round that is put together as one picture, and written.
-ghost use Rattle.std.specs.Prelude.{◌≡◌, ◌<◌, ◌++◌, List, None, length, map, flat_map, option_map, IfOk, OnOk};
-ghost use Rattle.vx_layout.specs.Faults.{IsInLimits, IsLayout};
+ghost use Rattle.std.specs.Prelude.{◌≡◌, ℕ, ◌<◌, ◌++◌, List, Option, None, length, map, flat_map, option_map, IfOk, IfSome, OnOk};
 ghost use Rattle.vx_pic.specs.Resident.{history_of, units_written};
 ghost use Rattle.vx_pic.specs.Written.{Plan, SetUnit};
 ghost use Rattle.vx_annexb.specs.Laws.{written};
 ghost use Rattle.vx_write.specs.Slots.{AreLastOf};
 ghost use Rattle.vx_write.specs.Units.{IsSeiUnit};
+ghost use Rattle.vx_merge.specs.declared.corner.Corner.{Corner};
 ghost use Rattle.vx_merge.specs.Merging.{AreCorners, Checks, Writes};
 ghost use Rattle.vx_merge.specs.Rounds.{picture_at};
-ghost use Rattle.vx_merge.specs.Rules.{rules_of};
-ghost use Rattle.vx_merge.specs.Verdict.{IsVerdict};
-ghost use Rattle.vx_merge.specs.inner.Joined.{IsFrameOf, MakeFrame};
 ghost use Rattle.vx_merge.specs.inner.Found.{HasHistory};
-ghost use Rattle.vx_merge.specs.inner.Making.{AreHeaders, HasPayloads, IsMade, IsPrepared, payload_of, payloads_in};
+ghost use Rattle.vx_merge.specs.inner.Making.{AreHeaders, HasPayloads, IsMade, payload_of, payloads_in};
 ghost use Rattle.vx_merge.specs.inner.Counting.{Counts};
 ghost use Rattle.vx_merge.specs.inner.Ready.{IsReadyAt};
-ghost use Rattle.vx_merge.specs.inner.Sending.{CanBeSent};
+ghost use Rattle.vx_merge.specs.inner.Settled.{IsSettled, IsSomeUsed, IsUsedFor};
 
 use crate::corner::Corner;
-use crate::facts::facts;
 use crate::fronts::slice_fronts;
-use crate::joined::{Frame, join};
 use crate::limits::bytes_within;
-use crate::needed::{RoundSets, needed};
+use crate::needed::{RoundSets, needed, pps_among, renamed, taken_pps_id};
 use crate::output::{Made, write_made};
 use crate::picture_header::{header_unit, picture_header};
 use crate::send::send_needed;
+use crate::settled::{Settled, kept_for, settle};
 use crate::verdict::verdict;
 use std::alloc::{AllocError, Global};
 use vx_bits::BodyList;
 use vx_io::Sink;
-use vx_layout::{Layout, LayoutError, Numbers};
+use vx_layout::Layout;
 use vx_pic::{Kind, Picture, picture_ids};
 use vx_write::{Slots, WriteError, forget_before, sei_unit};
 
@@ -83,31 +79,6 @@ fn messages_unit(alloc: Global, round: &[Picture<'_>]) -> Result<Option<Vec<u8>>
 
 // ---- headers
 
-/// The frame of a round that breaks no rule.
-fn frame_of(alloc: Global, corners: &[Corner], round: &[Picture<'_>]) -> Result<Frame, AllocError>
-    requires corners { AreCorners corners.now }
-    requires same { length corners.now ≡ length round.now }
-    requires passes { IsVerdict (length corners.now) (rules_of corners.now round.now) None }
-    ensures frame { IfOk result (IsFrameOf corners.now round.now) }
-    ensures made { IfOk result (λ frame. MakeFrame corners.now round.now frame.numbers) }
-{
-    facts(corners, round);
-    join(alloc, corners, round)
-}
-
-/// The layout of a frame.
-fn layout_of(alloc: Global, numbers: Numbers) -> Result<Layout, AllocError>
-    requires layout { IsLayout numbers }
-    requires limits { IsInLimits numbers }
-    ensures { IfOk result (λ layout. layout ≡ numbers) }
-{
-    match Layout::new(alloc, numbers) {
-        Ok(layout) => Ok(layout),
-        Err(LayoutError::Memory) => Err(AllocError),
-        Err(LayoutError::Fault(_)) => unreachable!(),
-    }
-}
-
 /// The units of the headers of a round.
 #[derive(Drop)]
 struct HeaderUnits {
@@ -121,7 +92,7 @@ struct HeaderUnits {
 fn header_units(
     alloc: Global,
     round: &[Picture<'_>],
-    needed: &RoundSets<'_>,
+    needed: &RoundSets<'_, '_>,
     layout: &Layout,
 ) -> Result<HeaderUnits, AllocError>
     requires { IsReadyAt round.now needed.now layout.now }
@@ -140,57 +111,27 @@ fn header_units(
 
 // ---- all of it
 
-/// The sets that a round needs, and its frame.
-#[derive(Drop)]
-struct Prepared<'a> {
-    /// The sets.
-    needed: RoundSets<'a>,
-    /// The frame.
-    layout: Layout,
-}
-
-/// The sets that a round that breaks no rule needs, behind those that were sent, and its frame.
-fn prepare<'a>(
-    alloc: Global,
-    corners: &[Corner],
-    level: Option<u8>,
-    slots: &Slots,
-    round: &[Picture<'a>],
-) -> Result<Prepared<'a>, AllocError>
-    requires corners { AreCorners corners.now }
-    requires same { length corners.now ≡ length round.now }
-    requires passes { IsVerdict (length corners.now) (rules_of corners.now round.now) None }
-    ensures can { IfOk result (λ p. CanBeSent p.needed) }
-    ensures prepared { (sent : List SetUnit) → AreLastOf sent slots.now
-        → IfOk result (λ p. IsPrepared corners.now level round.now sent p.needed p.layout) }
-{
-    let frame = frame_of(alloc, corners, round)?;
-    let needed = needed(alloc, round, &frame, level, slots)?;
-    let layout = layout_of(alloc, frame.numbers)?;
-    Ok(Prepared { needed, layout })
-}
-
 /// Makes all that is written of a round that breaks no rule.
 fn make<'a>(
     alloc: Global,
-    corners: &[Corner],
-    level: Option<u8>,
+    settled: &Settled,
     slots: &mut Slots,
     round: &[Picture<'a>],
 ) -> Result<Made<'a>, AllocError>
-    requires corners { AreCorners corners.now }
-    requires same { length corners.now ≡ length round.now }
-    requires passes { IsVerdict (length corners.now) (rules_of corners.now round.now) None }
+    requires settled { IsSomeUsed round.now settled.now }
     requires slots { HasHistory slots.old }
     ensures payloads { IfOk result HasPayloads }
-    ensures made { (history : List SetUnit) → AreLastOf history slots.old
-        → IfOk result (λ made. IsMade corners.now level round.now history made slots.new) }
+    ensures made { (corners : List Corner) (level : Option ℕ) (history : List SetUnit) → IsUsedFor corners level round.now settled.now → AreLastOf history slots.old
+        → IfOk result (λ made. IsMade corners level round.now history made slots.new) }
 {
     let kind = kind_of(round);
     forget_before(slots, kind.nal_type);
-    let prepared = prepare(alloc, corners, level, slots, round)?;
-    let units = header_units(alloc, round, &prepared.needed, &prepared.layout)?;
-    let sets = send_needed(alloc, slots, &prepared.needed, kind.temporal_id)?;
+    let pps_id = taken_pps_id(slots, kind.temporal_id, &settled.plain);
+    let other = renamed(alloc, round, settled, pps_id)?;
+    let pps = pps_among(&settled.plain, &other);
+    let needed = needed(alloc, round, settled, pps, pps_id, slots)?;
+    let units = header_units(alloc, round, &needed, &settled.layout)?;
+    let sets = send_needed(alloc, slots, &needed, kind.temporal_id)?;
     let sei = messages_unit(alloc, round)?;
     let payloads = payloads(alloc, round)?;
     Ok(Made {
@@ -208,26 +149,32 @@ fn counted<'a>(
     alloc: Global,
     corners: &[Corner],
     level: Option<u8>,
+    settled: &mut Option<Settled>,
     slots: &mut Slots,
     bytes: &mut u64,
     round: &[Picture<'a>],
 ) -> Result<Made<'a>, WriteError>
     requires corners { AreCorners corners.now }
     requires same { length corners.now ≡ length round.now }
+    requires settled { IfSome settled.old (IsSettled corners.now level) }
     requires slots { HasHistory slots.old }
+    ensures settled { IfSome settled.new (IsSettled corners.now level) }
     ensures kept { OnOk result (HasHistory slots.new) }
     ensures payloads { IfOk result HasPayloads }
     ensures answer { (done : List Plan) → AreLastOf (history_of done) slots.old → bytes.old ≡ length (written (units_written done))
         → Counts round.now done (record { corners = corners.now; level = level; slots = slots.new; bytes = bytes.new; first = None }) result }
 {
-    let found = verdict(alloc, corners, round)?;
+    let known = kept_for(settled.take(), round);
+    let found = verdict(alloc, corners, round, known.is_some())?;
     if let Some(refusal) = found {
         return Err(WriteError::Refused(refusal));
     }
-    let made = make(alloc, corners, level, slots, round)?;
+    let own = settle(alloc, corners, level, known, round)?;
+    let made = make(alloc, &own, slots, round)?;
     match bytes_within(&made, *bytes) {
         Ok(total) => {
             *bytes = total;
+            *settled = Some(own);
             Ok(made)
         }
         Err(refusal) => Err(WriteError::Refused(refusal)),
@@ -239,18 +186,21 @@ fn check(
     alloc: Global,
     corners: &[Corner],
     level: Option<u8>,
+    settled: &mut Option<Settled>,
     slots: &mut Slots,
     bytes: &mut u64,
     round: &[Picture<'_>],
 ) -> Result<(), WriteError>
     requires corners { AreCorners corners.now }
     requires same { length corners.now ≡ length round.now }
+    requires settled { IfSome settled.old (IsSettled corners.now level) }
     requires slots { HasHistory slots.old }
+    ensures settled { IfSome settled.new (IsSettled corners.now level) }
     ensures kept { OnOk result (HasHistory slots.new) }
     ensures answer { (done : List Plan) → AreLastOf (history_of done) slots.old → bytes.old ≡ length (written (units_written done))
         → Checks round.now done (record { corners = corners.now; level = level; slots = slots.new; bytes = bytes.new; first = None }) result }
 {
-    let _made = counted(alloc, corners, level, slots, bytes, round)?;
+    let _made = counted(alloc, corners, level, settled, slots, bytes, round)?;
     Ok(())
 }
 
@@ -259,18 +209,21 @@ pub(crate) fn check_round(
     alloc: Global,
     corners: &[Corner],
     level: Option<u8>,
+    settled: &mut Option<Settled>,
     slots: &mut Slots,
     bytes: &mut u64,
     round: &[Picture<'_>],
 ) -> Result<(), WriteError>
     requires corners { AreCorners corners.now }
     requires same { length corners.now ≡ length round.now }
+    requires settled { IfSome settled.old (IsSettled corners.now level) }
     requires slots { HasHistory slots.old }
+    ensures settled { IfSome settled.new (IsSettled corners.now level) }
     ensures kept { HasHistory slots.new }
     ensures answer { (done : List Plan) → AreLastOf (history_of done) slots.old → bytes.old ≡ length (written (units_written done))
         → Checks round.now done (record { corners = corners.now; level = level; slots = slots.new; bytes = bytes.new; first = None }) result }
 {
-    match check(alloc, corners, level, slots, bytes, round) {
+    match check(alloc, corners, level, settled, slots, bytes, round) {
         Ok(()) => Ok(()),
         Err(error) => {
             slots.clear();
@@ -284,6 +237,7 @@ fn write<K: Sink>(
     alloc: Global,
     corners: &[Corner],
     level: Option<u8>,
+    settled: &mut Option<Settled>,
     slots: &mut Slots,
     bytes: &mut u64,
     round: &[Picture<'_>],
@@ -291,13 +245,15 @@ fn write<K: Sink>(
 ) -> Result<(), WriteError>
     requires corners { AreCorners corners.now }
     requires same { length corners.now ≡ length round.now }
+    requires settled { IfSome settled.old (IsSettled corners.now level) }
     requires slots { HasHistory slots.old }
+    ensures settled { IfSome settled.new (IsSettled corners.now level) }
     ensures kept { OnOk result (HasHistory slots.new) }
     ensures answer { (done : List Plan) → AreLastOf (history_of done) slots.old → bytes.old ≡ length (written (units_written done))
         → Writes round.now done (record { corners = corners.now; level = level; slots = slots.new; bytes = bytes.new; first = None })
         (K.bytes_taken out.old) (K.bytes_taken out.new) (K.write_faults out.old) (K.write_faults out.new) result }
 {
-    let made = counted(alloc, corners, level, slots, bytes, round)?;
+    let made = counted(alloc, corners, level, settled, slots, bytes, round)?;
     write_made(out, &made)?;
     Ok(())
 }
@@ -307,6 +263,7 @@ pub(crate) fn write_round<K: Sink>(
     alloc: Global,
     corners: &[Corner],
     level: Option<u8>,
+    settled: &mut Option<Settled>,
     slots: &mut Slots,
     bytes: &mut u64,
     round: &[Picture<'_>],
@@ -314,13 +271,15 @@ pub(crate) fn write_round<K: Sink>(
 ) -> Result<(), WriteError>
     requires corners { AreCorners corners.now }
     requires same { length corners.now ≡ length round.now }
+    requires settled { IfSome settled.old (IsSettled corners.now level) }
     requires slots { HasHistory slots.old }
+    ensures settled { IfSome settled.new (IsSettled corners.now level) }
     ensures kept { HasHistory slots.new }
     ensures answer { (done : List Plan) → AreLastOf (history_of done) slots.old → bytes.old ≡ length (written (units_written done))
         → Writes round.now done (record { corners = corners.now; level = level; slots = slots.new; bytes = bytes.new; first = None })
         (K.bytes_taken out.old) (K.bytes_taken out.new) (K.write_faults out.old) (K.write_faults out.new) result }
 {
-    match write(alloc, corners, level, slots, bytes, round, out) {
+    match write(alloc, corners, level, settled, slots, bytes, round, out) {
         Ok(()) => Ok(()),
         Err(error) => {
             slots.clear();

@@ -90,7 +90,7 @@ fn send_bodies(
     alloc: Global,
     slots: &mut Slots,
     units: &mut Vec<Vec<u8>>,
-    needed: &RoundSets<'_>,
+    needed: &RoundSets<'_, '_>,
     temporal_id: u8,
 ) -> Result<(), AllocError>
     requires tid { temporal_id < 7 }
@@ -114,20 +114,20 @@ fn send_bodies(
 pub(crate) fn send_needed(
     alloc: Global,
     slots: &mut Slots,
-    needed: &RoundSets<'_>,
+    needed: &RoundSets<'_, '_>,
     temporal_id: u8,
 ) -> Result<Vec<Vec<u8>>, AllocError>
     requires tid { temporal_id < 7 }
     requires can { CanBeSent needed.now }
     ensures { (corners : List Corner) (level : Option ℕ) (round : List Parts) (frame : NumberLists) (sent : List SetUnit) → AreLastOf sent slots.old
         → AreNeeded corners level round frame sent needed.now
-        → IfOk result (λ units. AreSent temporal_id sent (needed_sets round (ids_in needed.now) needed.now.sps needed.now.pps)
+        → IfOk result (λ units. AreSent temporal_id sent (needed_sets round (ids_in needed.now) needed.now.sps.now needed.now.pps.now)
         slots.new (map (λ u. u.items) units.items)) }
 {
     let mut units = Vec::new(alloc);
-    let sps = NeededSet::Sps(&needed.sps);
+    let sps = NeededSet::Sps(needed.sps);
     send(alloc, slots, &mut units, sps, temporal_id)?;
-    let pps = NeededSet::Pps(&needed.pps);
+    let pps = NeededSet::Pps(needed.pps);
     send(alloc, slots, &mut units, pps, temporal_id)?;
     send_bodies(alloc, slots, &mut units, needed, temporal_id)?;
     Ok(units)

@@ -1,10 +1,12 @@
 //! The verdict on a round.
 ghost use Rattle.std.specs.Prelude.{◌≡◌, ◌<◌, ◌≤◌, ◌∷◌, [], All, length, None, IfOk};
+ghost use Rattle.std.specs.Bool.{OnTrue};
 ghost use Rattle.vx_write.specs.InForce.{AreInForce};
 ghost use Rattle.vx_merge.specs.Merging.{AreCorners};
 ghost use Rattle.vx_merge.specs.Regions as regions;
 ghost use Rattle.vx_merge.specs.Rules as rules;
 ghost use Rattle.vx_merge.specs.inner.Found.{Finds};
+ghost use Rattle.vx_merge.specs.inner.Settled.{HavePassed};
 
 use crate::corner::Corner;
 use crate::filters::too_many_filters;
@@ -48,12 +50,12 @@ fn verdict_of_frame(
     Ok(crossed)
 }
 
-/// The verdict by the rules on sets, and on what they tell of slices and tiles.
+/// The verdict by the rules on sets that may be new, and on what they tell of slices and tiles.
 ///
 /// # Errors
 ///
 /// Want of memory.
-fn verdict_of_sets(
+fn verdict_of_new(
     alloc: Global,
     corners: &[Corner],
     round: &[Picture<'_>],
@@ -79,19 +81,89 @@ fn verdict_of_sets(
     Ok(too_many_slices(round))
 }
 
+/// The verdict by the rules on sets, and on what they tell of slices and tiles. Sets that are known have passed.
+///
+/// # Errors
+///
+/// Want of memory.
+fn verdict_of_sets(
+    alloc: Global,
+    corners: &[Corner],
+    round: &[Picture<'_>],
+    known: bool,
+) -> Result<Option<Refusal>, AllocError>
+    requires corners { AreCorners corners.now }
+    requires same { length corners.now ≡ length round.now }
+    requires known { OnTrue known (HavePassed corners.now round.now) }
+    ensures { IfOk result (Finds (length round.now) (rules.rules_of_sets corners.now round.now)) }
+{
+    if known {
+        return Ok(too_many_slices(round));
+    }
+    let made = layouts(alloc, round)?;
+    let found = verdict_of_new(alloc, corners, round, made.as_slice())?;
+    Ok(found)
+}
+
+/// The verdict by the rule on PPSs. Those that are known have passed.
+///
+/// # Errors
+///
+/// Want of memory.
+fn verdict_of_pps(
+    alloc: Global,
+    round: &[Picture<'_>],
+    known: bool,
+) -> Result<Option<Refusal>, AllocError>
+    requires count { (0 < length round.now) × (length round.now ≤ 64) }
+    requires known { OnTrue known (Finds (length round.now) (rules.pps_tools round.now ∷ []) None) }
+    ensures { IfOk result (Finds (length round.now) (rules.pps_tools round.now ∷ [])) }
+{
+    if known {
+        return Ok(None);
+    }
+    pps_tools(alloc, round)
+}
+
+/// The verdict by the rule on loop filters. Sets that are known have passed.
+///
+/// # Errors
+///
+/// Want of memory.
+fn verdict_of_flags(
+    alloc: Global,
+    round: &[Picture<'_>],
+    known: bool,
+) -> Result<Option<Refusal>, AllocError>
+    requires count { (0 < length round.now) × (length round.now ≤ 64) }
+    requires known { OnTrue known (Finds (length round.now) (rules.filter_flags round.now ∷ []) None) }
+    ensures { IfOk result (Finds (length round.now) (rules.filter_flags round.now ∷ [])) }
+{
+    if known {
+        return Ok(None);
+    }
+    let made = layouts(alloc, round)?;
+    Ok(filter_flags(round, made.as_slice()))
+}
+
 /// The verdict by the rules on pictures.
 ///
 /// # Errors
 ///
 /// Want of memory.
-fn verdict_of_pictures(alloc: Global, round: &[Picture<'_>]) -> Result<Option<Refusal>, AllocError>
-    requires { (0 < length round.now) × (length round.now ≤ 64) }
+fn verdict_of_pictures(
+    alloc: Global,
+    round: &[Picture<'_>],
+    known: bool,
+) -> Result<Option<Refusal>, AllocError>
+    requires count { (0 < length round.now) × (length round.now ≤ 64) }
+    requires known { OnTrue known (Finds (length round.now) (rules.pps_tools round.now ∷ []) None) }
     ensures { IfOk result (Finds (length round.now) (rules.rules_of_pictures round.now)) }
 {
     if let Some(refusal) = picture_kind(round) {
         return Ok(Some(refusal));
     }
-    let of_pps = pps_tools(alloc, round)?;
+    let of_pps = verdict_of_pps(alloc, round, known)?;
     if let Some(refusal) = of_pps {
         return Ok(Some(refusal));
     }
@@ -113,10 +185,10 @@ fn verdict_of_pictures(alloc: Global, round: &[Picture<'_>]) -> Result<Option<Re
 fn verdict_of_slices(
     alloc: Global,
     round: &[Picture<'_>],
-    layouts: &[Numbers],
+    known: bool,
 ) -> Result<Option<Refusal>, AllocError>
     requires count { (0 < length round.now) × (length round.now ≤ 64) }
-    requires layouts { layouts.now ≡ regions.layouts_in round.now }
+    requires known { OnTrue known (Finds (length round.now) (rules.filter_flags round.now ∷ []) None) }
     ensures { IfOk result (Finds (length round.now) (rules.rules_of_slices round.now)) }
 {
     if let Some(refusal) = output_of_prior(round) {
@@ -126,13 +198,14 @@ fn verdict_of_slices(
     if let Some(refusal) = of_filters {
         return Ok(Some(refusal));
     }
-    if let Some(refusal) = filter_flags(round, layouts) {
+    let of_flags = verdict_of_flags(alloc, round, known)?;
+    if let Some(refusal) = of_flags {
         return Ok(Some(refusal));
     }
     Ok(collocated_pictures(round))
 }
 
-/// The verdict on a round.
+/// The verdict on a round. Sets that are known have passed.
 ///
 /// # Errors
 ///
@@ -141,21 +214,21 @@ pub(crate) fn verdict(
     alloc: Global,
     corners: &[Corner],
     round: &[Picture<'_>],
+    known: bool,
 ) -> Result<Option<Refusal>, AllocError>
     requires corners { AreCorners corners.now }
     requires same { length corners.now ≡ length round.now }
+    requires known { OnTrue known (HavePassed corners.now round.now) }
     ensures { IfOk result (Finds (length round.now) (rules.rules_of corners.now round.now)) }
 {
-    let made = layouts(alloc, round)?;
-    let layouts = made.as_slice();
-    let of_sets = verdict_of_sets(alloc, corners, round, layouts)?;
+    let of_sets = verdict_of_sets(alloc, corners, round, known)?;
     if let Some(refusal) = of_sets {
         return Ok(Some(refusal));
     }
-    let of_pictures = verdict_of_pictures(alloc, round)?;
+    let of_pictures = verdict_of_pictures(alloc, round, known)?;
     if let Some(refusal) = of_pictures {
         return Ok(Some(refusal));
     }
-    let of_slices = verdict_of_slices(alloc, round, layouts)?;
+    let of_slices = verdict_of_slices(alloc, round, known)?;
     Ok(of_slices)
 }

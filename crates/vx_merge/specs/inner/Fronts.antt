@@ -72,16 +72,16 @@ pub record IsWritten (source : SliceValue) (shape : ShShape) (numbers : SliceNum
 pub record IsInForce (round : List Parts) (n : RoundSets) (numbers : SliceNumbers) : Type 0 where
   pub ready : IsReadyAt round n numbers.layout.now
   pub type : numbers.nal_type ≡ (picture_at round 0).kind.nal_type
-  pub sps : numbers.sps.now ≡ n.sps
-  pub pps : numbers.pps.now ≡ n.pps
-  pub says : ph_reshaped.IsReshaped (picture_at round 0).header (ph_shape round (ids_in n)) n.sps n.pps numbers.header.now
-  pub is : IsHeader (structures n.sps) (in_force n.sps n.pps) numbers.header.now
-  pub ids : numbers.ids.now ≡ ids_of n.sps n.pps
+  pub sps : numbers.sps.now ≡ n.sps.now
+  pub pps : numbers.pps.now ≡ n.pps.now
+  pub says : ph_reshaped.IsReshaped (picture_at round 0).header (ph_shape round (ids_in n)) n.sps.now n.pps.now numbers.header.now
+  pub is : IsHeader (structures n.sps.now) (in_force n.sps.now n.pps.now) numbers.header.now
+  pub ids : numbers.ids.now ≡ ids_of n.sps.now n.pps.now
 
 -- The picture that it is put together as: with these sets, this header and this layout.
 pub record IsBegun (round : List Parts) (n : RoundSets) (said : PictureHeader) (frame : Numbers) (b : Begun) : Type 0 where
-  pub sps : b.sps ≡ n.sps
-  pub pps : b.pps ≡ n.pps
+  pub sps : b.sps ≡ n.sps.now
+  pub pps : b.pps ≡ n.pps.now
   pub header : header_of b ≡ said
   pub layout : b.layout ≡ frame
   pub temporal_id : b.temporal_id ≡ (picture_at round 0).kind.temporal_id

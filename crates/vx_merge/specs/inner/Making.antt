@@ -17,10 +17,9 @@ use Rattle.vx_merge.specs.declared.output.Made.{Made}
 use Rattle.vx_merge.specs.Headers.{HasHeader, IsFront, sourced}
 use Rattle.vx_merge.specs.Rounds.{picture_at}
 use Rattle.vx_merge.specs.Rules.{of_limit}
-use Rattle.vx_merge.specs.Shapes.{IsFrame}
 use Rattle.vx_merge.specs.Verdict.{IsVerdict, Rule}
 use Rattle.vx_merge.specs.Written.{AreBytes, IsMerged}
-use Rattle.vx_merge.specs.inner.Ready.{AreNeeded, IsReady, ids_in}
+use Rattle.vx_merge.specs.inner.Ready.{ids_in}
 
 -- ---- units
 
@@ -84,17 +83,11 @@ AreLimits m bytes answer = (n : ℕ) → 0 < n → IsVerdict n (limits_on m byte
 
 -- ---- what is made
 
--- These are the sets that a round that breaks no rule needs behind sets that count as sent, and its frame.
-pub record IsPrepared (corners : List Corner) (level : Option ℕ) (round : List Parts) (sent : List SetUnit) (n : RoundSets) (frame : Numbers) : Type 0 where
-  pub is : IsFrame corners round frame
-  pub needed : AreNeeded corners level round frame sent n
-  pub ready : IsReady level round frame sent n
-
 -- The unit of the picture header, and the units of the slices up to their payloads, under these sets and with this layout.
 pub record AreHeaders (round : List Parts) (n : RoundSets) (frame : Numbers) (header_unit : List ℕ) (fronts : List (List ℕ)) : Type 0 where
   pub begun : Begun
-  pub sps : begun.sps ≡ n.sps
-  pub pps : begun.pps ≡ n.pps
+  pub sps : begun.sps ≡ n.sps.now
+  pub pps : begun.pps ≡ n.pps.now
   pub layout : begun.layout ≡ frame
   pub temporal_id : begun.temporal_id ≡ (picture_at round 0).kind.temporal_id
   pub unit : begun.unit ≡ Some header_unit

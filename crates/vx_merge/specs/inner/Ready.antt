@@ -22,10 +22,10 @@ ids_in n = record { pps = n.pps_id; alf = n.alf.ids.items; lmcs = n.lmcs.ids.ite
 
 -- These are the sets that a round needs behind sets that count as sent, with the ids that they take.
 pub record AreNeeded (corners : List Corner) (level : Option ℕ) (round : List Parts) (frame : Numbers) (sent : List SetUnit) (n : RoundSets) : Type 0 where
-  pub sps : sps_reshaped.IsReshaped (picture_at round 0).sps (sps_shape corners round level) n.sps
+  pub sps : sps_reshaped.IsReshaped (picture_at round 0).sps (sps_shape corners round level) n.sps.now
   pub plain : List Item
   pub plain_is : pps_reshaped.IsReshaped (picture_at round 0).pps (pps_shape corners round frame 0) plain
-  pub pps : pps_reshaped.IsReshaped (picture_at round 0).pps (pps_shape corners round frame n.pps_id) n.pps
+  pub pps : pps_reshaped.IsReshaped (picture_at round 0).pps (pps_shape corners round frame n.pps_id) n.pps.now
   pub pps_id : n.pps_id < pps_slots
   pub alf : map (λ b. b.now) n.alf.bodies ≡ alf_bodies round
   pub lmcs : map (λ b. b.now) n.lmcs.bodies ≡ lmcs_bodies round

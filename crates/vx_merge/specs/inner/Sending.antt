@@ -47,8 +47,8 @@ pub record CanBeNamed (n : NamedBodies) : Type 0 where
 
 -- the sets can be written
 pub record CanBeSent (n : RoundSets) : Type 0 where
-  pub sps : sps_set.IsItems n.sps
-  pub pps : pps_set.IsItems n.pps
+  pub sps : sps_set.IsItems n.sps.now
+  pub pps : pps_set.IsItems n.pps.now
   pub alf : CanBeNamed n.alf
   pub lmcs : CanBeNamed n.lmcs
   pub scaling : CanBeNamed n.scaling

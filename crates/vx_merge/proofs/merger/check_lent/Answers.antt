@@ -1,9 +1,12 @@
-use Rattle.std.proofs.Common.{length, sym, ap, ◌∙◌}
+use Rattle.std.proofs.Common.{length, map, sym, ap, ◌∙◌}
 use Rattle.std.proofs.lemmas.List.{length-map}
 use Rattle.vx_merge.proofs.merger.check_lent.Goals as goal
 
 pub check_round-requires-clause-corners : goal.check_round-requires-clause-corners
 check_round-requires-clause-corners g c = c.requires.corners
+
+pub check_round-requires-clause-settled : goal.check_round-requires-clause-settled
+check_round-requires-clause-settled g c = c.requires.settled
 
 pub check_round-requires-clause-slots : goal.check_round-requires-clause-slots
 check_round-requires-clause-slots g c = c.requires.slots

@@ -1,9 +1,12 @@
-use Rattle.std.proofs.Common.{length, sym, ap, ◌∙◌}
+use Rattle.std.proofs.Common.{length, map, sym, ap, ◌∙◌}
 use Rattle.std.proofs.lemmas.List.{length-map}
 use Rattle.vx_merge.proofs.merger.write_lent.Goals as goal
 
 pub write_round-requires-clause-corners : goal.write_round-requires-clause-corners
 write_round-requires-clause-corners g c = c.requires.corners
+
+pub write_round-requires-clause-settled : goal.write_round-requires-clause-settled
+write_round-requires-clause-settled g c = c.requires.settled
 
 pub write_round-requires-clause-slots : goal.write_round-requires-clause-slots
 write_round-requires-clause-slots g c = c.requires.slots

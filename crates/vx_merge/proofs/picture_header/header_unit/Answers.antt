@@ -5,6 +5,6 @@ use Rattle.vx_merge.proofs.picture_header.header_unit.Goals as goal
 pub plain_unit-requires-clause-ends : goal.plain_unit-requires-clause-ends
 plain_unit-requires-clause-ends c =
     let needed = c.args.needed.now in
-    let table = structures needed.sps in
-    let scope = in_force needed.sps needed.pps in
+    let table = structures needed.sps.now in
+    let scope = in_force needed.sps.now needed.pps.now in
     rw c.deref.ensures.value (unit_ends table scope c.args.header.now c.in_ok-rbsp.rbsp.items c.in_ok-rbsp.ensures)

@@ -24,7 +24,7 @@ reshape_ph-requires-clause-source c =
     let needed = c.args.needed.now in
     let q = c.index-round-0.result in
     let first : q ≡ picture_at round 0 = picture_read round 0 q (some_picture r.0 round r.1.0 r.1.1.0 needed r.1.1.1) c.index-round-0.is in
-    subst (λ h. GoesUnder h needed.sps needed.pps) (sym c.header.ensures.value)
+    subst (λ h. GoesUnder h needed.sps.now needed.pps.now) (sym c.header.ensures.value)
     (goes_under r.0 round r.1.0 r.1.1.0 needed r.1.1.1 q.header q first c.header.ensures.read)
 
 pub returns-clause-says : goal.returns-clause-says
@@ -37,6 +37,6 @@ returns-clause-says c =
     let source : c.header.result.now ≡ (picture_at round 0).header = c.header.ensures.value ∙ ap (λ x. x.header) first in
     IfOk-weaker c.reshape_ph.result _ _
     (λ header says.
-    let shaped = subst (λ s. IsReshaped c.header.result.now s needed.sps needed.pps header) c.shape_of-shape.ensures says in
-    subst (λ s. IsReshaped s (ph_shape round (ids_in needed)) needed.sps needed.pps header) source shaped)
+    let shaped = subst (λ s. IsReshaped c.header.result.now s needed.sps.now needed.pps.now header) c.shape_of-shape.ensures says in
+    subst (λ s. IsReshaped s (ph_shape round (ids_in needed)) needed.sps.now needed.pps.now header) source shaped)
     c.reshape_ph.ensures.reshaped

@@ -7,6 +7,9 @@ counted-requires-clause-corners c = c.requires.corners
 pub counted-requires-clause-same : goal.counted-requires-clause-same
 counted-requires-clause-same c = c.requires.same
 
+pub counted-requires-clause-settled : goal.counted-requires-clause-settled
+counted-requires-clause-settled c = c.requires.settled
+
 pub counted-requires-clause-slots : goal.counted-requires-clause-slots
 counted-requires-clause-slots c = c.requires.slots
 

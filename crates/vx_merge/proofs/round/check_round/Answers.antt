@@ -1,4 +1,4 @@
-use Rattle.std.proofs.Common.{[], refl, sym, subst}
+use Rattle.std.proofs.Common.{[], None, refl, sym, subst}
 use Rattle.vx_merge.specs.inner.Found.{HasHistory}
 use Rattle.vx_merge.proofs.Writing.{checks_stopped, going}
 use Rattle.vx_merge.proofs.round.check_round.Goals as goal
@@ -8,6 +8,9 @@ check-requires-clause-corners c = c.requires.corners
 
 pub check-requires-clause-same : goal.check-requires-clause-same
 check-requires-clause-same c = c.requires.same
+
+pub check-requires-clause-settled : goal.check-requires-clause-settled
+check-requires-clause-settled c = c.requires.settled
 
 pub check-requires-clause-slots : goal.check-requires-clause-slots
 check-requires-clause-slots c = c.requires.slots

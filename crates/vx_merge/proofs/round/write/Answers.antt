@@ -8,6 +8,9 @@ counted-requires-clause-corners g c = c.requires.corners
 pub counted-requires-clause-same : goal.counted-requires-clause-same
 counted-requires-clause-same g c = c.requires.same
 
+pub counted-requires-clause-settled : goal.counted-requires-clause-settled
+counted-requires-clause-settled g c = c.requires.settled
+
 pub counted-requires-clause-slots : goal.counted-requires-clause-slots
 counted-requires-clause-slots g c = c.requires.slots
 

@@ -1,4 +1,4 @@
-use Rattle.std.proofs.Common.{[], refl, sym, subst}
+use Rattle.std.proofs.Common.{[], None, refl, sym, subst}
 use Rattle.vx_merge.specs.inner.Found.{HasHistory}
 use Rattle.vx_merge.proofs.Writing.{going, writes_stopped}
 use Rattle.vx_merge.proofs.round.write_round.Goals as goal
@@ -8,6 +8,9 @@ write-requires-clause-corners g c = c.requires.corners
 
 pub write-requires-clause-same : goal.write-requires-clause-same
 write-requires-clause-same g c = c.requires.same
+
+pub write-requires-clause-settled : goal.write-requires-clause-settled
+write-requires-clause-settled g c = c.requires.settled
 
 pub write-requires-clause-slots : goal.write-requires-clause-slots
 write-requires-clause-slots g c = c.requires.slots

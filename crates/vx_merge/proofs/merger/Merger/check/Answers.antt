@@ -1,5 +1,6 @@
-use Rattle.std.proofs.Common.{Some, map, refl, sym, ap, subst, length, ◌∙◌}
+use Rattle.std.proofs.Common.{IfSome, Some, map, refl, sym, ap, subst, length, ◌∙◌}
 use Rattle.vx_merge.specs.Merging.{AreCorners, Merging}
+use Rattle.vx_merge.specs.inner.Settled.{IsSettled}
 use Rattle.vx_merge.proofs.Writing.{checks_stopped, going}
 use Rattle.vx_merge.proofs.merger.Merger.check.Goals as goal
 
@@ -15,6 +16,10 @@ check_lent-requires-clause-holds g c = c.requires.holds
 
 pub check_lent-requires-clause-slots : goal.check_lent-requires-clause-slots
 check_lent-requires-clause-slots g c = c.self.invariant.1
+
+pub check_lent-requires-clause-settled : goal.check_lent-requires-clause-settled
+check_lent-requires-clause-settled g c =
+    subst (λ cs. IfSome c.self.inside.settled (IsSettled cs c.self.inside.level)) (sym c.deref.ensures.value) c.self.invariant.2
 
 pub returns-in-Ok-clause-answer : goal.returns-in-Ok-clause-answer
 returns-in-Ok-clause-answer g c done stands =

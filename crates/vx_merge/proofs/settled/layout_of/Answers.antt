@@ -2,7 +2,7 @@ use Rattle.std.proofs.Common.{subst}
 use Rattle.std.specs.Prelude.{IfErr}
 use Rattle.vx_layout.specs.Faults.{IfFault, IsLowestFault}
 use Rattle.vx_layout.proofs.Lowest.{layout-faultless}
-use Rattle.vx_merge.proofs.round.layout_of.Goals as goal
+use Rattle.vx_merge.proofs.settled.layout_of.Goals as goal
 
 pub unreachable-requires : goal.unreachable-requires
 unreachable-requires c =

@@ -1,0 +1,363 @@
+-- What the sets of a round alone tell is the same of rounds that have the same sets.
+use Rattle.std.proofs.Common.{◌≡◌, ◌≢◌, ℕ, zero, suc, ◌+◌, ◌<◌, ℤ, Bool, true, false, cond, List, [], ◌∷◌, ◌++◌, map, filter, length, Option, Some, None, is_some, IfSome, refl, sym, ap, ap₂, subst, ◌∙◌, inl, inr, arith}
+use Rattle.std.proofs.Math.Path.{fun_ext}
+use Rattle.std.specs.Prelude.{◌==◌, ◌⊎◌, IsTrue, All, unwrap_or}
+use Rattle.std.specs.List.{AllByRecursion, zip}
+use Rattle.std.specs.Bool.{OnTrue}
+use Rattle.std.specs.Option.{option_or}
+use Rattle.std.proofs.lemmas.Bool.{cases_Bool}
+use Rattle.std.proofs.lemmas.List.{length-map}
+use Rattle.vx_bits.specs.declared.list.Item.{Item}
+use Rattle.vx_bits.specs.declared.refusal.Refusal.{Refusal}
+use Rattle.vx_bits.specs.declared.rules.TheConstants as rules
+use Rattle.vx_fields.specs.declared.dpb.TheConstants as dpb
+use Rattle.vx_fields.specs.declared.ptl.TheConstants.{general_level_idc}
+use Rattle.vx_fields.specs.declared.pps.TheConstants as pps
+use Rattle.vx_fields.specs.declared.sps.TheConstants as sps
+use Rattle.vx_table.specs.Loaded.{number}
+use Rattle.vx_layout.specs.declared.numbers.Numbers.{Numbers}
+use Rattle.vx_layout.specs.declared.rect.Rect.{Rect}
+use Rattle.vx_layout.specs.Frames.{frame_of}
+use Rattle.vx_fit.specs.declared.placed.Placed.{Placed}
+use Rattle.vx_fit.specs.FrameLines.{HaveLines}
+use Rattle.vx_fit.specs.Lowest.{IsLowest}
+use Rattle.vx_fit.specs.Placing.{FitTogether, frame_height, frame_width, in_ctus}
+use Rattle.vx_sps.specs.Set.{ctb_size_of}
+use Rattle.vx_sps.specs.Subpictures.{subpics_of}
+use Rattle.vx_sps.specs.declared.shape.SpsShape.{SpsShape}
+use Rattle.vx_sps.specs.declared.shape.SubpicPlan.TheVariants.{Many}
+use Rattle.vx_sps.specs.Reshaped as sps_reshaped
+use Rattle.vx_pps.specs.declared.shape.PpsShape.{PpsShape}
+use Rattle.vx_pps.specs.Reshaped as pps_reshaped
+use Rattle.vx_pic.specs.Differences.{differing_field}
+use Rattle.vx_pic.specs.Parts.{Parts}
+use Rattle.vx_pic.specs.PictureLayout.{numbers_in}
+use Rattle.vx_pic.specs.Sets.{signed}
+use Rattle.vx_pic.specs.Written.{SetUnit}
+use Rattle.vx_write.specs.InForce.{AreInForce}
+use Rattle.vx_merge.specs.declared.corner.Corner.{Corner}
+use Rattle.vx_merge.specs.declared.joined.Frame.{Frame}
+use Rattle.vx_merge.specs.declared.needed.RoundSets.{RoundSets}
+use Rattle.vx_merge.specs.declared.settled.Settled.{Settled}
+use Rattle.vx_merge.specs.declared.settled.SourceSets.{SourceSets}
+use Rattle.vx_merge.specs.Merging.{AreCorners}
+use Rattle.vx_merge.specs.Regions.{corners_in, ctb_of, layout_of, layouts_in, placed_at, placed_in}
+use Rattle.vx_merge.specs.Rounds.{no_picture, picture_at}
+use Rattle.vx_merge.specs.Rules.{crosses_slices, crosses_tiles, differing_number, filter_flags, has_slices, has_tiles, kept_pps, kept_sps, of_field, of_source, pps_tools, profile_fields, profile_of, rules_of, rules_of_fit, rules_of_frame, rules_of_sets, several_subpictures, sps_tools, tile_lines, too_many_slices}
+use Rattle.vx_merge.specs.Shapes as shapes
+use Rattle.vx_merge.specs.Shapes.{IsFrame, dpb_of, greatest, latency_of, least, level_of, of_lowest, offsets_at, pps_shape, sps_shape, window_of}
+use Rattle.vx_merge.specs.Verdict.{IsVerdict, Rule}
+use Rattle.vx_merge.specs.inner.Found.{Finds}
+use Rattle.vx_merge.specs.inner.Joined.{CanBeJoined, HasShapes, IsFrameOf, MakeFrame}
+use Rattle.vx_merge.specs.inner.Settled.{HasSetsOf, HavePassed, HaveSameSets, IsSettled, IsSettledFor, IsSomeUsed, IsUsedFor, sets_in, sets_of}
+use Rattle.vx_merge.specs.inner.Ready.{AreNeeded, IsReady}
+use Rattle.vx_merge.proofs.Passing.{alone_found, flags_found, frame_found, pps_found, sps_found}
+use Rattle.vx_merge.proofs.Verdicts.{passed, passed_all}
+
+-- ---- of one round, and of its sets alone
+
+at_sets : (round : List Parts) (k : ℕ) → picture_at (map sets_of round) k ≡ sets_of (picture_at round k)
+at_sets [] k = refl
+at_sets (q ∷ round) zero = refl
+at_sets (q ∷ round) (suc k) = at_sets round k
+
+placed_sets : (corners : List Corner) (round : List Parts) → placed_in corners (map sets_of round) ≡ placed_in corners round
+placed_sets [] [] = refl
+placed_sets [] (q ∷ round) = refl
+placed_sets (corner ∷ corners) [] = refl
+placed_sets (corner ∷ corners) (q ∷ round) = ap (λ ps. placed_at corner q ∷ ps) (placed_sets corners round)
+
+layouts_sets : (round : List Parts) → layouts_in (map sets_of round) ≡ layouts_in round
+layouts_sets [] = refl
+layouts_sets (q ∷ round) = ap (λ ls. layout_of q ∷ ls) (layouts_sets round)
+
+numbers_sets : (of : ℕ) (round : List Parts) → shapes.numbers_in (map sets_of round) of ≡ shapes.numbers_in round of
+numbers_sets of [] = refl
+numbers_sets of (q ∷ round) = ap (λ ns. number q.sps of ∷ ns) (numbers_sets of round)
+
+ctb_sets : (round : List Parts) → ctb_of (map sets_of round) ≡ ctb_of round
+ctb_sets round = ap (λ q. ctb_size_of q.sps) (at_sets round 0)
+
+offsets_sets : (touches : Placed → Bool) (of : ℕ) (placed : List Placed) (round : List Parts)
+    → offsets_at touches of placed (map sets_of round) ≡ offsets_at touches of placed round
+offsets_sets touches of [] [] = refl
+offsets_sets touches of [] (q ∷ round) = refl
+offsets_sets touches of (p ∷ placed) [] = refl
+offsets_sets touches of (p ∷ placed) (q ∷ round) =
+    elim (cases_Bool (touches p)) [
+      | inl is ↦ rw is (ap (λ ns. number q.sps of ∷ ns) (offsets_sets touches of placed round))
+      | inr is ↦ rw is (offsets_sets touches of placed round)
+    ]
+
+lowest_sets : {A : Type 0} (has : Parts → Bool) (f : Parts → A) (none : A) → ((q : Parts) → has (sets_of q) ≡ has q) → ((q : Parts) → f (sets_of q) ≡ f q)
+    → (round : List Parts) → of_lowest has f none (map sets_of round) ≡ of_lowest has f none round
+lowest_sets has f none same_has same_f [] = refl
+lowest_sets has f none same_has same_f (q ∷ round) =
+    ap (λ b. cond b (f (sets_of q)) (of_lowest has f none (map sets_of round))) (same_has q)
+    ∙ (ap (λ x. cond (has q) x (of_lowest has f none (map sets_of round))) (same_f q)
+    ∙ ap (λ x. cond (has q) (f q) x) (lowest_sets has f none same_has same_f round))
+
+window_sets : (placed : List Placed) (round : List Parts) → window_of placed (map sets_of round) ≡ window_of placed round
+window_sets placed round =
+    let left = offsets_sets (λ p. p.x == 0) sps.sps_conf_win_left_offset placed round in
+    let right = offsets_sets (λ p. p.x + p.w == frame_width placed) sps.sps_conf_win_right_offset placed round in
+    let top = offsets_sets (λ p. p.y == 0) sps.sps_conf_win_top_offset placed round in
+    let bottom = offsets_sets (λ p. p.y + p.h == frame_height placed) sps.sps_conf_win_bottom_offset placed round in
+    ap₂ (λ (a : ℕ) (b : List ℕ). a ∷ b) (ap least left) (ap₂ (λ (a : ℕ) (b : List ℕ). a ∷ b) (ap least right) (ap₂ (λ (a b : List ℕ). least a ∷ least b ∷ []) top bottom))
+
+dpb_sets : (round : List Parts) → dpb_of (map sets_of round) ≡ dpb_of round
+dpb_sets round =
+    ap₂ (λ (a b : List ℕ). greatest a ∷ b) (numbers_sets dpb.dpb_max_dec_pic_buffering_minus1 round)
+    (ap₂ (λ (a b : List ℕ). greatest a ∷ latency_of b ∷ []) (numbers_sets dpb.dpb_max_num_reorder_pics round) (numbers_sets dpb.dpb_max_latency_increase_plus1 round))
+
+level_sets : (level : Option ℕ) (round : List Parts) → level_of (map sets_of round) level ≡ level_of round level
+level_sets level round = ap (λ ns. unwrap_or level (greatest ns)) (numbers_sets general_level_idc round)
+
+-- ---- of sets that are kept
+
+pub sets_alike : (q : Parts) (x : SourceSets) → x.sps ≡ q.sps → x.pps ≡ q.pps → q.layout ≡ numbers_in q.sps q.pps → sets_in x ≡ sets_of q
+sets_alike q x of_sps of_pps layout =
+    ap₂ (λ (s p : List Item). record no_picture { sps = s; pps = p; layout = numbers_in s p }) of_sps of_pps
+    ∙ ap (λ (n : Numbers). record no_picture { sps = q.sps; pps = q.pps; layout = n }) (sym layout)
+
+-- ---- of two rounds with the same sets
+
+module _ (kept round : List Parts) (same : HaveSameSets kept round) where
+  -- what the sets alone tell
+  told : {A : Type 0} (w : List Parts → A) → ((r : List Parts) → w (map sets_of r) ≡ w r) → w kept ≡ w round
+  told w by = sym (by kept) ∙ (ap w same ∙ by round)
+
+  pub size : length kept ≡ length round
+  size = told length (λ r. length-map r sets_of)
+
+  pub at : (k : ℕ) → sets_of (picture_at kept k) ≡ sets_of (picture_at round k)
+  at k = sym (at_sets kept k) ∙ (ap (λ r. picture_at r k) same ∙ at_sets round k)
+
+  each : ◌≡◌ {A = ℕ → Parts} (λ k. sets_of (picture_at kept k)) (λ k. sets_of (picture_at round k))
+  each = fun_ext at
+
+  placed : (corners : List Corner) → placed_in corners kept ≡ placed_in corners round
+  placed corners = told (placed_in corners) (placed_sets corners)
+
+  ctb : ctb_of kept ≡ ctb_of round
+  ctb = told ctb_of ctb_sets
+
+  layouts : layouts_in kept ≡ layouts_in round
+  layouts = told layouts_in layouts_sets
+
+  regions : (corners : List Corner) → corners_in corners kept ≡ corners_in corners round
+  regions corners = ap₂ (λ (size : ℕ) (ps : List Placed). map (in_ctus size) ps) ctb (placed corners)
+
+  window : (corners : List Corner) → window_of (placed_in corners kept) kept ≡ window_of (placed_in corners round) round
+  window corners = ap (λ ps. window_of ps kept) (placed corners) ∙ told (window_of (placed_in corners round)) (window_sets (placed_in corners round))
+
+  -- ---- shapes
+
+  abbrev sps_by : List Placed → List ℕ → ℕ → List ℕ → List Rect → SpsShape
+  sps_by ps edges level numbers areas =
+      record { id = 0; width = frame_width ps; height = frame_height ps; window = edges; level = level; dpb = numbers; subpics = Many areas }
+
+  sps_same : (corners : List Corner) (level : Option ℕ) → sps_shape corners kept level ≡ sps_shape corners round level
+  sps_same corners level =
+      ap (λ ps. sps_by ps (window_of (placed_in corners kept) kept) (level_of kept level) (dpb_of kept) (corners_in corners kept)) (placed corners)
+      ∙ (ap (λ w. sps_by (placed_in corners round) w (level_of kept level) (dpb_of kept) (corners_in corners kept)) (window corners)
+      ∙ (ap (λ l. sps_by (placed_in corners round) (window_of (placed_in corners round) round) l (dpb_of kept) (corners_in corners kept)) (told (λ r. level_of r level) (level_sets level))
+      ∙ (ap (λ d. sps_by (placed_in corners round) (window_of (placed_in corners round) round) (level_of round level) d (corners_in corners kept)) (told dpb_of dpb_sets)
+      ∙ ap (λ s. sps_by (placed_in corners round) (window_of (placed_in corners round) round) (level_of round level) (dpb_of round) s) (regions corners))))
+
+  abbrev pps_by : Numbers → ℕ → List Placed → ℕ → Bool → Bool → Parts → PpsShape
+  pps_by frame id ps size tiles slices q = record {
+    id = id;
+    sps_id = 0;
+    width = frame_width ps;
+    height = frame_height ps;
+    ctb = size;
+    subpic_id = None;
+    tiles = record { columns = frame.columns; rows = frame.rows };
+    slices = frame.slices;
+    across_tiles = tiles;
+    across_slices = slices;
+    init_qp = signed q.pps pps.pps_init_qp_minus26;
+    merged = true;
+  }
+
+  pps_same : (corners : List Corner) (frame : Numbers) (id : ℕ) → pps_shape corners kept frame id ≡ pps_shape corners round frame id
+  pps_same corners frame id =
+      let tiles : List Parts → Bool = of_lowest has_tiles crosses_tiles false in
+      let slices : List Parts → Bool = of_lowest has_slices crosses_slices false in
+      let by = pps_by frame id in
+      ap (λ ps. by ps (ctb_of kept) (tiles kept) (slices kept) (sets_of (picture_at kept 0))) (placed corners)
+      ∙ (ap (λ n. by (placed_in corners round) n (tiles kept) (slices kept) (sets_of (picture_at kept 0))) ctb
+      ∙ (ap (λ t. by (placed_in corners round) (ctb_of round) t (slices kept) (sets_of (picture_at kept 0))) (told tiles (lowest_sets has_tiles crosses_tiles false (λ q. refl) (λ q. refl)))
+      ∙ (ap (λ s. by (placed_in corners round) (ctb_of round) (tiles round) s (sets_of (picture_at kept 0))) (told slices (lowest_sets has_slices crosses_slices false (λ q. refl) (λ q. refl)))
+      ∙ ap (λ q. by (placed_in corners round) (ctb_of round) (tiles round) (slices round) q) (at 0))))
+
+  first_sps : (picture_at kept 0).sps ≡ (picture_at round 0).sps
+  first_sps = ap (λ q. q.sps) (at 0)
+
+  first_pps : (picture_at kept 0).pps ≡ (picture_at round 0).pps
+  first_pps = ap (λ q. q.pps) (at 0)
+
+  -- ---- the frame
+
+  lines_too : (corners : List Corner) (columns rows : List ℕ) → HaveLines columns rows (corners_in corners kept) (layouts_in kept)
+      → HaveLines columns rows (corners_in corners round) (layouts_in round)
+  lines_too corners columns rows lines =
+      subst (λ l. HaveLines columns rows (corners_in corners round) l) layouts (subst (λ r. HaveLines columns rows r (layouts_in kept)) (regions corners) lines)
+
+  frame_too : (corners : List Corner) (frame : Numbers) → IsFrame corners kept frame → IsFrame corners round frame
+  frame_too corners frame is = record {
+    lines = lines_too corners frame.columns frame.rows is.lines;
+    pictures = is.pictures ∙ ap₂ (frame_of frame.columns frame.rows) (regions corners) layouts;
+  }
+
+  shapes_too : (corners : List Corner) (frame : Numbers) → HasShapes corners kept frame → HasShapes corners round frame
+  shapes_too corners frame has = record {
+    sps = λ level. subst (λ s. sps_reshaped.IsShape (ctb_of round) s) (sps_same corners level) (subst (λ n. sps_reshaped.IsShape n (sps_shape corners kept level)) ctb (has.sps level));
+    pps = λ id low. subst (λ s. pps_reshaped.IsShape (picture_at round 0).pps s) (pps_same corners frame id)
+        (subst (λ p. pps_reshaped.IsShape p (pps_shape corners kept frame id)) first_pps (has.pps id low));
+    layout = has.layout;
+    limits = has.limits;
+  }
+
+  framed_too : (corners : List Corner) (frame : Frame) → IsFrameOf corners kept frame → IsFrameOf corners round frame
+  framed_too corners frame is = record {
+    same = is.same ∙ size;
+    some = let some = is.some in let long = size in omega (arith, some, long);
+    placed = is.placed ∙ placed corners;
+    range = is.range;
+    layouts = is.layouts ∙ layouts;
+    width = is.width ∙ ap frame_width (placed corners);
+    height = is.height ∙ ap frame_height (placed corners);
+    is = frame_too corners frame.numbers is.is;
+    shapes = shapes_too corners frame.numbers is.shapes;
+  }
+
+  fit_too : (corners : List Corner) → FitTogether (placed_in corners kept) (ctb_of kept) → FitTogether (placed_in corners round) (ctb_of round)
+  fit_too corners fit =
+      subst (λ n. FitTogether (placed_in corners round) n) ctb (subst (λ ps. FitTogether ps (ctb_of kept)) (placed corners) fit)
+
+  pub settled_too : (corners : List Corner) (level : Option ℕ) (s : Settled) → CanBeJoined corners round → AllByRecursion AreInForce round
+      → IsSettledFor corners level kept s → IsSettledFor corners level round s
+  settled_too corners level s can are is = record {
+    frame = framed_too corners s.frame is.frame;
+    made = record { can = can; fit = fit_too corners is.made.fit; is = frame_too corners s.frame.numbers is.made.is; are = are };
+    layout = is.layout;
+    sps = subst (λ shape. sps_reshaped.IsReshaped (picture_at round 0).sps shape s.sps) (sps_same corners level)
+        (subst (λ items. sps_reshaped.IsReshaped items (sps_shape corners kept level) s.sps) first_sps is.sps);
+    plain = subst (λ shape. pps_reshaped.IsReshaped (picture_at round 0).pps shape s.plain) (pps_same corners s.frame.numbers 0)
+        (subst (λ items. pps_reshaped.IsReshaped items (pps_shape corners kept s.frame.numbers 0) s.plain) first_pps is.plain);
+  }
+
+  -- ---- rules
+
+  several_same : several_subpictures kept ≡ several_subpictures round
+  several_same = ap (λ (g : ℕ → Parts). of_source rules.SEVERAL_SUBPICTURES (λ k. 1 < subpics_of (g k).sps)) each
+
+  tools_same : sps_tools kept ≡ sps_tools round
+  tools_same =
+      ap (λ (g : ℕ → Parts).
+      of_field rules.SPS_TOOLS (λ k. (kept_sps (g k) ≢ kept_sps (g 0)) ⊎ (profile_of (g k) ≢ profile_of (g 0)))
+      (λ k. unwrap_or (option_or (differing_field (kept_sps (g k)) (kept_sps (g 0))) (differing_number profile_fields (g k).sps (g 0).sps)) 0)) each
+
+  pps_tools_same : pps_tools kept ≡ pps_tools round
+  pps_tools_same =
+      ap (λ (g : ℕ → Parts). of_field rules.PPS_TOOLS (λ k. kept_pps (g k) ≢ kept_pps (g 0)) (λ k. unwrap_or (differing_field (kept_pps (g k)) (kept_pps (g 0))) 0)) each
+
+  frame_same : (corners : List Corner) → rules_of_frame corners kept ≡ rules_of_frame corners round
+  frame_same corners =
+      ap₂ (λ (fit : List Rule) (lines : Rule). fit ++ lines ∷ []) (ap₂ rules_of_fit (placed corners) ctb) (ap₂ tile_lines (regions corners) layouts)
+
+  flags_same : filter_flags kept ≡ filter_flags round
+  flags_same =
+      ap₂ (λ (n : ℕ) (g : ℕ → Parts).
+      of_source rules.FILTER_FLAGS (λ k.
+      (IsTrue (has_tiles (g k)) × ((j : ℕ) × IsLowest n (λ i. IsTrue (has_tiles (g i))) j × (crosses_tiles (g k) ≢ crosses_tiles (g j))))
+      ⊎ (IsTrue (has_slices (g k)) × ((j : ℕ) × IsLowest n (λ i. IsTrue (has_slices (g i))) j × (crosses_slices (g k) ≢ crosses_slices (g j)))))) size each
+
+-- ---- what is kept
+
+pub past_of : (corners : List Corner) (level : Option ℕ) (round : List Parts) (s : Settled) → IsSettled corners level s → HasSetsOf round s → HavePassed corners round
+past_of corners level round s is sets = record { kept = is.kept; count = is.is.count; passes = is.is.passes; same = sym is.sets ∙ sets }
+
+pub past : (corners : List Corner) (level : Option ℕ) (round : List Parts) (known : Option Settled) (there : Bool) → there ≡ is_some known
+    → IfSome known (IsSettled corners level) → IfSome known (HasSetsOf round) → OnTrue there (HavePassed corners round)
+past corners level round None there is settled sets = subst (λ b. OnTrue b (HavePassed corners round)) (sym is) tt
+past corners level round (Some s) there is settled sets = subst (λ b. OnTrue b (HavePassed corners round)) (sym is) (past_of corners level round s settled sets)
+
+pub kept_settled : (corners : List Corner) (level : Option ℕ) (settled known : Option Settled) → IfSome settled (IsSettled corners level)
+    → IfSome known (λ s. settled ≡ Some s) → IfSome known (IsSettled corners level)
+kept_settled corners level settled None is same = tt
+kept_settled corners level settled (Some s) is same = subst (λ o. IfSome o (IsSettled corners level)) same is
+
+-- as many sources
+sources_count : (corners : List Corner) (level : Option ℕ) (s : Settled) → IsSettled corners level s → length s.sources.items ≡ length corners
+sources_count corners level s is =
+    sym (length-map s.sources.items sets_in) ∙ (ap length is.sets ∙ (length-map is.kept sets_of ∙ sym is.is.count))
+
+pub sources_long : (corners : List Corner) (level : Option ℕ) (round : List Parts) (settled : Option Settled) → length corners ≡ length round
+    → IfSome settled (IsSettled corners level) → IfSome settled (λ s. length s.sources.items ≡ length round)
+sources_long corners level round None count is = tt
+sources_long corners level round (Some s) count is = sources_count corners level s is ∙ count
+
+-- a round that has the same sets breaks none of the rules on them
+module _ (corners : List Corner) (round : List Parts) (count : length corners ≡ length round) (past : HavePassed corners round) where
+  as_found : (rule other : Rule) → rule ≡ other → Finds (length corners) (rule ∷ []) None → Finds (length round) (other ∷ []) None
+  as_found rule other same found =
+      subst (λ n. Finds n (other ∷ []) None) count (subst (λ r. Finds (length corners) (r ∷ []) None) same found)
+
+  pub alone_known : Finds (length round) (several_subpictures round ∷ []) None
+  alone_known =
+      as_found (several_subpictures past.kept) (several_subpictures round) (several_same past.kept round past.same) (alone_found corners past.kept past.count past.passes)
+
+  pub sps_known : Finds (length round) (sps_tools round ∷ []) None
+  sps_known = as_found (sps_tools past.kept) (sps_tools round) (tools_same past.kept round past.same) (sps_found corners past.kept past.count past.passes)
+
+  pub pps_known : Finds (length round) (pps_tools round ∷ []) None
+  pps_known = as_found (pps_tools past.kept) (pps_tools round) (pps_tools_same past.kept round past.same) (pps_found corners past.kept past.count past.passes)
+
+  pub flags_known : Finds (length round) (filter_flags round ∷ []) None
+  flags_known = as_found (filter_flags past.kept) (filter_flags round) (flags_same past.kept round past.same) (flags_found corners past.kept past.count past.passes)
+
+  pub frame_known : Finds (length round) (rules_of_frame corners round) None
+  frame_known =
+      subst (λ n. Finds n (rules_of_frame corners round) None) count
+      (subst (λ rs. Finds (length corners) rs None) (frame_same past.kept round past.same corners) (frame_found corners past.kept past.count past.passes))
+
+  -- the rules on sets, of which only the count of slices is to be tried
+  pub few_known : (answer : Option Refusal) → Finds (length round) (too_many_slices round ∷ []) answer → Finds (length round) (rules_of_sets corners round) answer
+  few_known answer found =
+      let frame = rules_of_frame corners round in
+      passed (length round) (several_subpictures round) (sps_tools round ∷ (frame ++ too_many_slices round ∷ [])) answer alone_known
+      (passed (length round) (sps_tools round) (frame ++ too_many_slices round ∷ []) answer sps_known
+      (passed_all (length round) frame (too_many_slices round ∷ []) answer frame_known found))
+
+pub settled_used : (corners : List Corner) (level : Option ℕ) (round : List Parts) (s : Settled) → AreCorners corners → length corners ≡ length round
+    → IsVerdict (length corners) (rules_of corners round) None → CanBeJoined corners round → AllByRecursion AreInForce round → IsSettled corners level s → HasSetsOf round s
+    → IsUsedFor corners level round s
+settled_used corners level round s are count passes can in_force is sets =
+    record { are = are; count = count; passes = passes; is = settled_too is.kept round (sym is.sets ∙ sets) corners level s can in_force is.is.is }
+
+-- ---- what it serves for
+
+pub some_used : (round : List Parts) (s : Settled) → IsSomeUsed round s → 0 < length round
+some_used round s used = used.1.1.is.frame.some
+
+pub frame_there : (corners : List Corner) (level : Option ℕ) (round : List Parts) (s : Settled) → IsUsedFor corners level round s → IsFrame corners round s.layout
+frame_there corners level round s used = subst (IsFrame corners round) (sym used.is.layout) used.is.frame.is
+
+pub needed_there : (corners : List Corner) (level : Option ℕ) (round : List Parts) (s : Settled) (sent : List SetUnit) (n : RoundSets) → IsUsedFor corners level round s
+    → AreNeeded corners level round s.frame.numbers sent n → AreNeeded corners level round s.layout sent n
+needed_there corners level round s sent n used needed = subst (λ l. AreNeeded corners level round l sent n) (sym used.is.layout) needed
+
+pub ready_for : (corners : List Corner) (level : Option ℕ) (round : List Parts) (s : Settled) (sent : List SetUnit) (n : RoundSets) → IsUsedFor corners level round s
+    → AreNeeded corners level round s.frame.numbers sent n → IsReady level round s.layout sent n
+ready_for corners level round s sent n used needed =
+    subst (λ l. IsReady level round l sent n) (sym used.is.layout)
+    (record { corners = corners; same = used.count; passes = used.passes; made = used.is.made; shapes = used.is.frame.shapes; needed = needed })
+
+-- ---- of a flag that is known
+
+pub on_true : {A B : Type 0} (b : Bool) → (A → B) → OnTrue b A → OnTrue b B
+on_true true f a = f a
+on_true false f a = tt

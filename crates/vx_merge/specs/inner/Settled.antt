@@ -1,0 +1,78 @@
+-- What is kept of a round whose sets others have too.
+use Rattle.std.specs.Prelude.{◌≡◌, ℕ, List, length, map, Option, None}
+use Rattle.vx_bits.specs.declared.list.Item.{Item}
+use Rattle.vx_sps.specs.Reshaped as sps_reshaped
+use Rattle.vx_pps.specs.Reshaped as pps_reshaped
+use Rattle.vx_pic.specs.Parts.{Parts}
+use Rattle.vx_pic.specs.PictureLayout.{numbers_in}
+use Rattle.vx_merge.specs.declared.corner.Corner.{Corner}
+use Rattle.vx_merge.specs.declared.settled.Settled.{Settled}
+use Rattle.vx_merge.specs.declared.settled.SourceSets.{SourceSets}
+use Rattle.vx_merge.specs.Merging.{AreCorners}
+use Rattle.vx_merge.specs.Rounds.{no_picture, picture_at}
+use Rattle.vx_merge.specs.Rules.{rules_of}
+use Rattle.vx_merge.specs.Shapes.{pps_shape, sps_shape}
+use Rattle.vx_merge.specs.Verdict.{IsVerdict}
+use Rattle.vx_merge.specs.inner.Joined.{IsFrameOf, MakeFrame}
+
+-- ---- sets
+
+-- a picture's sets and the layout that they give it, and nothing else of it
+abbrev pub sets_of : Parts → Parts
+sets_of q = record no_picture { sps = q.sps; pps = q.pps; layout = q.layout }
+
+-- the same of sets that are kept
+abbrev pub sets_in : SourceSets → Parts
+sets_in x = record no_picture { sps = x.sps; pps = x.pps; layout = numbers_in x.sps x.pps }
+
+-- the pictures of two rounds have the same sets
+abbrev pub HaveSameSets : List Parts → List Parts → Type 0
+HaveSameSets kept round = map sets_of kept ≡ map sets_of round
+
+-- these are the sets of a round
+abbrev pub AreSetsOf : List Parts → List SourceSets → Type 0
+AreSetsOf round sources = map sets_in sources ≡ map sets_of round
+
+abbrev pub HasSetsOf : List Parts → Settled → Type 0
+HasSetsOf round s = AreSetsOf round s.sources.items
+
+-- ---- what is made of them
+
+-- The frame, its layout, its SPS, and its PPS with the id 0 are those of a round.
+pub record IsSettledFor (corners : List Corner) (level : Option ℕ) (round : List Parts) (s : Settled) : Type 0 where
+  pub frame : IsFrameOf corners round s.frame
+  pub made : MakeFrame corners round s.frame.numbers
+  pub layout : s.layout ≡ s.frame.numbers
+  pub sps : sps_reshaped.IsReshaped (picture_at round 0).sps (sps_shape corners round level) s.sps
+  pub plain : pps_reshaped.IsReshaped (picture_at round 0).pps (pps_shape corners round s.frame.numbers 0) s.plain
+
+-- And this breaks no rule.
+pub record IsUsedFor (corners : List Corner) (level : Option ℕ) (round : List Parts) (s : Settled) : Type 0 where
+  pub are : AreCorners corners
+  pub count : length corners ≡ length round
+  pub passes : IsVerdict (length corners) (rules_of corners round) None
+  pub is : IsSettledFor corners level round s
+
+-- Its corners and its level don't stand in it.
+abbrev pub IsSomeUsed : List Parts → Settled → Type 0
+IsSomeUsed round s = (corners : List Corner) × ((level : Option ℕ) × IsUsedFor corners level round s)
+
+-- Its PPS with an id
+abbrev pub HasPps : List Parts → Settled → ℕ → List Item → Type 0
+HasPps round s id items = (corners : List Corner) (level : Option ℕ) → IsUsedFor corners level round s
+    → pps_reshaped.IsReshaped (picture_at round 0).pps (pps_shape corners round s.frame.numbers id) items
+
+-- ---- what is kept of a round
+
+-- It was made of some round, with these sets.
+pub record IsSettled (corners : List Corner) (level : Option ℕ) (s : Settled) : Type 0 where
+  pub kept : List Parts
+  pub sets : HasSetsOf kept s
+  pub is : IsUsedFor corners level kept s
+
+-- A round with the same sets breaks no rule.
+pub record HavePassed (corners : List Corner) (round : List Parts) : Type 0 where
+  pub kept : List Parts
+  pub count : length corners ≡ length kept
+  pub passes : IsVerdict (length corners) (rules_of corners kept) None
+  pub same : HaveSameSets kept round

@@ -1,0 +1,180 @@
+//! What is made of the sets of a round alone, and kept for rounds with the same sets.
+ghost use Rattle.std.specs.Prelude.{◌≡◌, length, map, None, Some, IfOk, IfSome};
+ghost use Rattle.std.specs.Bool.{OnTrue};
+ghost use Rattle.vx_layout.specs.Faults.{IsInLimits, IsLayout};
+ghost use Rattle.vx_merge.specs.Merging.{AreCorners};
+ghost use Rattle.vx_merge.specs.Rules.{rules_of};
+ghost use Rattle.vx_merge.specs.Verdict.{IsVerdict};
+ghost use Rattle.vx_merge.specs.inner.Joined.{CanBeJoined};
+ghost use Rattle.vx_merge.specs.inner.Settled as words;
+ghost use Rattle.vx_merge.specs.inner.Settled.{AreSetsOf, HasSetsOf, IsSettled, IsSettledFor, IsUsedFor};
+
+use crate::corner::Corner;
+use crate::facts::facts;
+use crate::frame_sets::{copied_numbers, frame_pps, frame_sps};
+use crate::joined::{Frame, join};
+use std::alloc::{AllocError, Global};
+use vx_bits::Fields;
+use vx_layout::{Layout, LayoutError, Numbers};
+use vx_pic::Picture;
+use vx_pps::Pps;
+use vx_sps::Sps;
+use vx_write::{copied, same_items};
+
+/// The items of the sets of a source's picture.
+#[derive(Drop)]
+pub(crate) struct SourceSets {
+    /// Of the SPS.
+    pub(crate) sps: Fields,
+    /// Of the PPS.
+    pub(crate) pps: Fields,
+}
+
+/// What is made of the sets of a round alone.
+#[derive(Drop)]
+pub(crate) struct Settled {
+    /// The sets of each source.
+    pub(crate) sources: Vec<SourceSets>,
+    /// The frame.
+    pub(crate) frame: Frame,
+    /// Its layout.
+    pub(crate) layout: Layout,
+    /// Its SPS, of id 0.
+    pub(crate) sps: Sps,
+    /// Its PPS with the id 0.
+    pub(crate) plain: Pps,
+}
+
+// ---- the sets of a round
+
+/// The sets of a picture.
+fn sets_of(alloc: Global, picture: &Picture<'_>) -> Result<SourceSets, AllocError>
+    ensures { IfOk result (λ own. words.sets_in own ≡ words.sets_of picture.now) }
+{
+    let _layout = picture.layout();
+    let sps = copied(alloc, picture.sps().fields())?;
+    let pps = copied(alloc, picture.pps().fields())?;
+    Ok(SourceSets { sps, pps })
+}
+
+/// The sets of each picture.
+fn sources(alloc: Global, round: &[Picture<'_>]) -> Result<Vec<SourceSets>, AllocError>
+    ensures { IfOk result (λ own. AreSetsOf round.now own.items) }
+{
+    let mut sources = Vec::new(alloc);
+    for k in 0..round.len() {
+        sources.push(sets_of(alloc, &round[k])?)?;
+    }
+    Ok(sources)
+}
+
+/// Whether a picture has these sets.
+fn has_sets(picture: &Picture<'_>, own: &SourceSets) -> bool
+    ensures { OnTrue result (words.sets_in own.now ≡ words.sets_of picture.now) }
+{
+    let _layout = picture.layout();
+    if !same_items(own.sps.as_slice(), picture.sps().fields().as_slice()) {
+        return false;
+    }
+    if !same_items(own.pps.as_slice(), picture.pps().fields().as_slice()) {
+        return false;
+    }
+    true
+}
+
+/// Whether the pictures of a round have these sets.
+fn have_sets(round: &[Picture<'_>], sources: &[SourceSets]) -> bool
+    requires { length sources.now ≡ length round.now }
+    ensures { OnTrue result (AreSetsOf round.now sources.now) }
+{
+    for k in 0..round.len() {
+        if !has_sets(&round[k], &sources[k]) {
+            return false;
+        }
+    }
+    true
+}
+
+/// What is kept, where it was made of the sets of a round.
+pub(crate) fn kept_for(settled: Option<Settled>, round: &[Picture<'_>]) -> Option<Settled>
+    requires { IfSome settled (λ s. length s.sources.items ≡ length round.now) }
+    ensures kept { IfSome result (λ s. settled ≡ Some s) }
+    ensures sets { IfSome result (HasSetsOf round.now) }
+{
+    let kept = settled?;
+    if have_sets(round, kept.sources.as_slice()) {
+        return Some(kept);
+    }
+    None
+}
+
+// ---- what is made of them
+
+/// The layout of a frame.
+fn layout_of(alloc: Global, numbers: Numbers) -> Result<Layout, AllocError>
+    requires layout { IsLayout numbers }
+    requires limits { IsInLimits numbers }
+    ensures { IfOk result (λ layout. layout ≡ numbers) }
+{
+    match Layout::new(alloc, numbers) {
+        Ok(layout) => Ok(layout),
+        Err(LayoutError::Memory) => Err(AllocError),
+        Err(LayoutError::Fault(_)) => unreachable!(),
+    }
+}
+
+/// What is made of the sets of a round whose regions and tile lines fit.
+fn made_of(
+    alloc: Global,
+    corners: &[Corner],
+    level: Option<u8>,
+    round: &[Picture<'_>],
+) -> Result<Settled, AllocError>
+    requires { CanBeJoined corners.now round.now }
+    ensures settled { IfOk result (IsSettledFor corners.now level round.now) }
+    ensures sets { IfOk result (HasSetsOf round.now) }
+{
+    let frame = join(alloc, corners, round)?;
+    let sps = frame_sps(alloc, round, &frame, level)?;
+    let plain = frame_pps(alloc, round, &frame, 0)?;
+    let numbers = copied_numbers(alloc, &frame.numbers)?;
+    let layout = layout_of(alloc, numbers)?;
+    let sources = sources(alloc, round)?;
+    Ok(Settled {
+        sources,
+        frame,
+        layout,
+        sps,
+        plain,
+    })
+}
+
+/// What is made of the sets of a round that breaks no rule, unless it is known.
+///
+/// # Errors
+///
+/// Want of memory.
+pub(crate) fn settle(
+    alloc: Global,
+    corners: &[Corner],
+    level: Option<u8>,
+    known: Option<Settled>,
+    round: &[Picture<'_>],
+) -> Result<Settled, AllocError>
+    requires corners { AreCorners corners.now }
+    requires same { length corners.now ≡ length round.now }
+    requires passes { IsVerdict (length corners.now) (rules_of corners.now round.now) None }
+    requires settled { IfSome known (IsSettled corners.now level) }
+    requires sets { IfSome known (HasSetsOf round.now) }
+    ensures used { IfOk result (IsUsedFor corners.now level round.now) }
+    ensures sets { IfOk result (HasSetsOf round.now) }
+{
+    facts(corners, round);
+    match known {
+        Some(kept) => Ok(kept),
+        None => {
+            let own = made_of(alloc, corners, level, round)?;
+            Ok(own)
+        }
+    }
+}
