@@ -56,10 +56,10 @@ def unit_of(kind, bits):
     return bytes([0, kind << 3 | 1]) + re.sub(rb"\0\0(?=[\0-\3])", b"\0\0\3", rbsp)
 
 
-# 2,560 by 1,600 samples, each CTU of 64 by 64 a subpicture of one slice, with ids of 10 bits; one tile
+# 2,560 by 1,600 samples, each CTU of 64 by 64 a subpicture of one slice, with ids of 10 bits; forty tiles, each a column of CTUs
 sps = "0000" "0000" "000" "00" "01" "1" + "0000001" "0" "00110011" "100" "00000" "00000000" + "00" + ue(2560) + ue(1600) + "01"
 sps += ue(999) + "11" + "000000" "00000" + ue(9) + "0" + "10000000000011110111100000000000110000000001100000100000000000000"
-pps = "000000" "0000" "0" + ue(2560) + ue(1600) + "00000" "01" + "1" "1" + ue(39) + ue(24) + "10" + "011000010000000000"
+pps = "000000" "0000" "0" + ue(2560) + ue(1600) + "00000" "01" + "1" "1" + ue(0) + ue(24) + "0110" + "011000010000000000"
 sets = [unit_of(15, sps), unit_of(16, pps)]
 numbered = [unit_of(8, f"0{n:010b}01") + b"\x5a\xa7\x80" for n in range(1000)]
 write("slices", sets + ([bytes.fromhex("00998840")] + numbered) * 10, max(1, copies // 100))
