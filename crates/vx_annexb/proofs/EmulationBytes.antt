@@ -1,7 +1,8 @@
 -- Emulation bytes at places of a list, and the searches for them.
-use Rattle.std.proofs.Common.{◌≡◌, ℕ, zero, suc, ◌+◌, ◌-◌, ◌<◌, ◌≤◌, inl, inr, true, false, List, [], ◌∷◌, ◌++◌, length, take, drop, slice_index, sym, ap, ◌∙◌, arith, refl, ⊎_elim, add-one, append_assoc, length-drop, get_or-drop}
+use Rattle.std.proofs.Common.{◌≡◌, ℕ, zero, suc, ◌+◌, ◌-◌, ◌<◌, ◌≤◌, inl, inr, true, false, List, [], ◌∷◌, ◌++◌, length, take, drop, slice_index, sym, ap, ◌∙◌, subst, arith, refl, ⊎_elim, add-one, append_assoc, length-drop, get_or-drop}
 use Rattle.std.proofs.lemmas.Bool.{cases_lt, cases_Bool, and_parts, and_from, leb-true, le-leb, eqb-true, eq-eqb, false_from_ne_true, false≢true}
 use Rattle.std.proofs.lemmas.List.{get_or_past, length_push, take_more, append-nil}
+use Rattle.vx_bits.specs.Codes.{AreBytes}
 use Rattle.vx_annexb.specs.Places.{IsMark}
 use Rattle.vx_annexb.specs.Emulation.{is_emulation, BreaksRule, unescaped_to}
 use Rattle.vx_annexb.proofs.Places.{index_on, mark_before, mark_wider}
@@ -116,3 +117,26 @@ module _ (n : List ℕ) (at : ℕ) (apart : StandsApart n at) where
       let m = mark_wider 2 3 n (k - 2) (omega arith) b.1 in
       none (k - 2) (apart (k - 2) m (omega (arith, b.0))) (omega (arith, b.0)) m
   no_break stop none k le lt (inr b) = false≢true (sym (no_emulation stop none (k - 1) (omega arith) (omega arith)) ∙ b.2)
+
+-- ---- bytes stay bytes
+
+byte_at : (n : List ℕ) (k : ℕ) → AreBytes n → slice_index n k < 256
+byte_at [] k are = omega arith
+byte_at (x ∷ xs) zero are = are.0
+byte_at (x ∷ xs) (suc k) are = byte_at xs k are.1
+
+push_byte : (bs : List ℕ) (b : ℕ) → AreBytes bs → b < 256 → AreBytes (bs ++ b ∷ [])
+push_byte [] b are last = (last, tt)
+push_byte (x ∷ bs) b are last = (are.0, push_byte bs b are.1 last)
+
+-- without its emulation bytes a unit has bytes
+pub unescaped_bytes : (n : List ℕ) (k : ℕ) → AreBytes n → AreBytes (unescaped_to n k)
+unescaped_bytes n zero are = tt
+unescaped_bytes n (suc k) are =
+    let before = unescaped_bytes n k are in
+    let here = byte_at n k are in
+    elim (cases_Bool (is_emulation n k)) [
+      | inl marked ↦ subst AreBytes (sym (ap (unescaped_to n) (sym (add-one k)) ∙ unescaped_skip n k marked)) before
+      | inr plain ↦ subst AreBytes (sym (ap (unescaped_to n) (sym (add-one k)) ∙ unescaped_keep n k plain))
+          (push_byte (unescaped_to n k) (slice_index n k) before here)
+    ]

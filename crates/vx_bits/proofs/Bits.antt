@@ -5,7 +5,7 @@ use Rattle.std.proofs.Math.Nat.{pow-le-pow_right}
 use Rattle.std.proofs.lemmas.Nat.{pow-add, div-mul-add, mod-mul-add}
 use Rattle.std.proofs.lemmas.List.{append_assoc, length-append, length-take-le, length-drop, take-append-drop, take_at, drop_at}
 use Rattle.std.proofs.lemmas.Bool.Decides.{leb_tells}
-use Rattle.vx_bits.specs.Codes.{number, fixed, bits_of}
+use Rattle.vx_bits.specs.Codes.{AreBytes, number, fixed, bits_of}
 use Rattle.vx_bits.specs.Place.{Place, Takes}
 
 pub two_pow : (n : ℕ) → 2 ^ suc n ≡ 2 * 2 ^ n
@@ -130,3 +130,14 @@ takes_fixed n v old new within is behind total =
     let below : v < 2 ^ n = rw is fits in
     let code : fixed n v ≡ take n old.left = rw is (fixed_of n (take n old.left) size) in
     (below, record { left = rw (code, behind) (sym (take-append-drop n old.left)); total = total })
+
+-- bytes are told by their bits
+pub bytes_one : (a b : List ℕ) → AreBytes a → AreBytes b → bits_of a ≡ bits_of b → a ≡ b
+bytes_one [] [] is of same = refl
+bytes_one [] (y ∷ ys) is of same = absurd (omega (arith, ap length same, length-bits_of (y ∷ ys)))
+bytes_one (x ∷ xs) [] is of same = absurd (omega (arith, ap length same, length-bits_of (x ∷ xs)))
+bytes_one (x ∷ xs) (y ∷ ys) is of same =
+    let parts = same_fronts (fixed 8 x) (fixed 8 y) (bits_of xs) (bits_of ys) (length-fixed 8 x ∙ sym (length-fixed 8 y)) same in
+    let first : x ≡ y = sym (number-fixed 8 x is.0) ∙ (ap number parts.0 ∙ number-fixed 8 y of.0) in
+    let rest = bytes_one xs ys is.1 of.1 parts.1 in
+    λ j. first j ∷ rest j

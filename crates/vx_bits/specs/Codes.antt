@@ -2,6 +2,7 @@
 -- A one is `true`, and the bit that is read first stands first.
 use Rattle.std.specs.Prelude.{◌≡◌, ◌≢◌, ℕ, ◌+◌, ◌-◌, ◌*◌, ◌%◌, ◌^◌, ◌<◌, zero, suc, ℤ, pos, negsuc, nat_le}
 use Rattle.std.specs.Prelude.{Bool, true, false, if◌then◌else◌, List, [], ◌∷◌, ◌++◌, length, replicate, slice_index}
+use Rattle.std.specs.List.{AllByRecursion}
 
 -- the number of which these bits are the binary representation, highest first
 abbrev pub number : List Bool → ℕ
@@ -12,6 +13,10 @@ number (b ∷ bits) = (if b then 2 ^ length bits else 0) + number bits
 unfoldable pub fixed : ℕ → ℕ → List Bool
 fixed zero v = []
 fixed (suc n) v = if nat_le (2 ^ n) v then true ∷ fixed n (v - 2 ^ n) else false ∷ fixed n v
+
+-- bytes, as numbers
+abbrev pub AreBytes : List ℕ → Type 0
+AreBytes bytes = AllByRecursion (λ b. b < 256) bytes
 
 -- the bits of bytes: eight a byte, highest first (clause 7.2)
 abbrev pub bits_of : List ℕ → List Bool

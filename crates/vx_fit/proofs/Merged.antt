@@ -15,7 +15,7 @@ use Rattle.vx_layout.proofs.FrameSlices.{AllZip-long}
 use Rattle.vx_layout.proofs.FrameWhole.{frame-alone, frame-layout, frame-region}
 use Rattle.vx_layout.proofs.TileRuns.{runs-fill}
 use Rattle.vx_fit.specs.declared.placed.Placed.{Placed}
-use Rattle.vx_fit.specs.FitLaws.{IsMerged}
+use Rattle.vx_fit.specs.FitLaws.{IsMergedLayout}
 use Rattle.vx_fit.specs.FrameLines.{HaveLines, no_numbers}
 use Rattle.vx_fit.specs.Placing.{FitTogether, in_ctus}
 use Rattle.vx_fit.specs.Sources.{IsSource}
@@ -28,7 +28,7 @@ all_listable corners parts sources = λ k d short.
     (source_at corners parts k sources (omega (arith, AllZip-long IsSource corners parts sources))).listable
 
 pub frame-merged : (placed : List Placed) (ctb : ℕ) (columns rows : List ℕ) (corners : List Rect) (parts : List Numbers) → 0 < length placed → 0 < ctb → FitTogether placed ctb → corners ≡ map (in_ctus ctb) placed → AllZip IsSource corners parts → HaveLines columns rows corners parts →
-    IsMerged placed ctb columns rows corners parts
+    IsMergedLayout placed ctb columns rows corners parts
 frame-merged placed ctb columns rows corners parts some_placed some fit ctus sources lines =
     let frame : IsFrame placed ctb corners parts columns rows = record { some = some; fit = fit; ctus = ctus; sized = sized_sources corners parts sources; vertical = lines.vertical; horizontal = lines.horizontal } in
     let here : 0 < length corners = omega (arith, long placed ctb corners parts columns rows frame) in

@@ -47,7 +47,7 @@ LinesAreOne =
 -- the frame of these columns, rows and regions, with these pictures in them, is a layout by its regions and as one
 -- subpicture; its slices can be listed tile by tile; its region k is picture k; it has the frame's size in CTUs; and its
 -- first region begins it, and its last one ends it
-pub record IsMerged (placed : List Placed) (ctb : ℕ) (columns rows : List ℕ) (corners : List Rect) (parts : List Numbers) : Type 0 where
+pub record IsMergedLayout (placed : List Placed) (ctb : ℕ) (columns rows : List ℕ) (corners : List Rect) (parts : List Numbers) : Type 0 where
   pub layout : IsLayout (frame_of columns rows corners parts)
   pub alone : IsLayout (with_one_subpic (frame_of columns rows corners parts))
   pub listable : AreListable columns rows (frame_of columns rows corners parts).slices
@@ -62,4 +62,4 @@ abbrev pub FrameOfRegions : Type 0
 FrameOfRegions =
     (placed : List Placed) (ctb : ℕ) (columns rows : List ℕ) (corners : List Rect) (parts : List Numbers)
     → 0 < length placed → 0 < ctb → FitTogether placed ctb → corners ≡ map (in_ctus ctb) placed
-    → AllZip IsSource corners parts → HaveLines columns rows corners parts → IsMerged placed ctb columns rows corners parts
+    → AllZip IsSource corners parts → HaveLines columns rows corners parts → IsMergedLayout placed ctb columns rows corners parts

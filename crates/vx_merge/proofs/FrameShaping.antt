@@ -20,7 +20,7 @@ use Rattle.vx_layout.specs.Shapes.{AreListable}
 use Rattle.vx_layout.proofs.FrameSlices.{AllZip-long}
 use Rattle.vx_layout.specs.Layouts.{HasLayout, no_rect}
 use Rattle.vx_fit.specs.declared.placed.Placed.{Placed}
-use Rattle.vx_fit.specs.FitLaws.{FrameOfRegions, IsMerged}
+use Rattle.vx_fit.specs.FitLaws.{FrameOfRegions, IsMergedLayout}
 use Rattle.vx_fit.specs.Placing.{IsOnGrid, IsTooLarge, frame_height, frame_width}
 use Rattle.vx_fit.specs.Placing as placing
 use Rattle.vx_fit.specs.Sources.{IsSource}
@@ -259,7 +259,7 @@ module _ (frames : FrameOfRegions) (corners : List Corner) (round : List Parts) 
   some_placed : 0 < length (placed_in corners round)
   some_placed = let count = placed_count corners round facts.can.same in omega (arith, count, some_round)
 
-  pub merged : IsMerged (placed_in corners round) (ctb_of round) frame.columns frame.rows (corners_in corners round) (layouts_in round)
+  pub merged : IsMergedLayout (placed_in corners round) (ctb_of round) frame.columns frame.rows (corners_in corners round) (layouts_in round)
   merged = frames (placed_in corners round) (ctb_of round) frame.columns frame.rows (corners_in corners round) (layouts_in round)
       some_placed (positive_ctb round) facts.fit refl facts.can.sources facts.is.lines
 

@@ -32,8 +32,7 @@ pub mod SliceRegions
 pub mod SliceIds
 pub mod SliceFilters
 pub mod SliceFronts
-pub mod OneUnit
 pub mod OneIds
-pub mod OneGrouping
+pub mod OneFrame
 pub mod OneSlice
 pub mod OnePlan

@@ -17,7 +17,7 @@ use Rattle.vx_pic.specs.Rules.{picture_limit}
 use Rattle.vx_pic.specs.Written.{eos_units}
 use Rattle.vx_merge.specs.declared.output.Made.{Made}
 use Rattle.vx_merge.specs.Verdict.{IsVerdict}
-use Rattle.vx_merge.specs.Written.{AreBytes}
+use Rattle.vx_bits.specs.Codes.{AreBytes}
 use Rattle.vx_merge.specs.inner.Making.{HasPayloads, capped, is_long, joined, limits_by, size_of, slice_units}
 
 neither : (a b : Bool) → (a || b) ≡ false → (a ≡ false) × (b ≡ false)

@@ -33,12 +33,16 @@ use Rattle.vx_merge.specs.Needed.{Ids, TakeIds, needed_sets}
 use Rattle.vx_merge.specs.Regions.{corners_in, layouts_in}
 use Rattle.vx_merge.specs.Rounds.{picture_at}
 use Rattle.vx_merge.specs.Shapes.{pps_shape, sps_shape}
-use Rattle.vx_merge.specs.Written.{AreBytes, IsMerged, MergedIsOne}
+use Rattle.vx_bits.specs.Codes.{AreBytes}
+use Rattle.vx_merge.specs.Written.{IsMerged, MergedIsOne}
 use Rattle.vx_merge.proofs.Gathered.{all_back, all_front}
-use Rattle.vx_merge.proofs.OneGrouping.{behind, frame_pps_one, rewritten_one}
+use Rattle.vx_table.proofs.Rewriting.{rewritten_one}
+use Rattle.vx_table.proofs.Writings.{values_one}
+use Rattle.vx_pps.proofs.OneGrouping.{behind}
+use Rattle.vx_merge.proofs.OneFrame.{frame_pps_one}
 use Rattle.vx_merge.proofs.OneIds.{ids_one}
 use Rattle.vx_merge.proofs.OneSlice.{slices_one}
-use Rattle.vx_merge.proofs.OneUnit.{sei_one, set_unit_one, unit_one, values_one}
+use Rattle.vx_write.proofs.OneUnit.{sei_one, set_unit_one, unit_one}
 
 abbrev first_or : {A : Type 0} → A → List A → A
 first_or other [] = other

@@ -25,10 +25,10 @@ use Rattle.vx_pic.specs.Readings.{Begun, Slice}
 use Rattle.vx_pic.specs.UnderSets.{slice_at}
 use Rattle.vx_merge.specs.Headers.{AreNumbers, IsFront, IsSlice, SaysSlice}
 use Rattle.vx_merge.specs.Needed.{Ids}
-use Rattle.vx_merge.specs.Written.{AreBytes}
+use Rattle.vx_bits.specs.Codes.{AreBytes}
 use Rattle.vx_merge.proofs.Gathered.{all_front}
-use Rattle.vx_merge.proofs.OneGrouping.{rewritten_one}
-use Rattle.vx_merge.proofs.OneUnit.{unit_one}
+use Rattle.vx_table.proofs.Rewriting.{rewritten_one}
+use Rattle.vx_write.proofs.OneUnit.{unit_one}
 
 -- ---- a header at one place
 

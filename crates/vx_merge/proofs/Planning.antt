@@ -25,7 +25,8 @@ use Rattle.vx_merge.specs.Headers.{IsFront, IsSlice, sourced}
 use Rattle.vx_merge.specs.Needed.{Ids, TakeIds, needed_sets}
 use Rattle.vx_merge.specs.Rounds.{picture_at}
 use Rattle.vx_merge.specs.Shapes.{IsFrame, pps_shape, sps_shape}
-use Rattle.vx_merge.specs.Written.{AreBytes, IsMerged}
+use Rattle.vx_bits.specs.Codes.{AreBytes}
+use Rattle.vx_merge.specs.Written.{IsMerged}
 use Rattle.vx_merge.specs.inner.Making.{AreHeaders, IsMade, joined, payload_of, payloads_in, size_of, slice_units, units_made}
 use Rattle.vx_merge.specs.inner.Ready.{AreNeeded, IsReadyAt, ids_in}
 use Rattle.vx_merge.proofs.Limiting.{next_item}

@@ -22,7 +22,8 @@ use Rattle.vx_merge.specs.declared.output.Made.{Made}
 use Rattle.vx_merge.specs.Merging.{Checks, IsBarred, Merging, Passes, Writes}
 use Rattle.vx_merge.specs.Rules.{rules_of}
 use Rattle.vx_merge.specs.Verdict.{IsVerdict}
-use Rattle.vx_merge.specs.Written.{AreBytes, IsMerged, limits_of}
+use Rattle.vx_bits.specs.Codes.{AreBytes}
+use Rattle.vx_merge.specs.Written.{IsMerged, limits_of}
 use Rattle.vx_merge.specs.inner.Counting.{Counts}
 use Rattle.vx_merge.specs.inner.Found.{Finds}
 use Rattle.vx_merge.specs.inner.Making.{AreLimits, IsMade, limits_by, size_of, slice_units, units_made}

@@ -1,6 +1,7 @@
 -- What is written for the rounds of several sources.
 use Rattle.std.specs.Prelude.{◌≡◌, ℕ, ◌+◌, ◌<◌, ◌≤◌, not, List, [], ◌∷◌, length, map, filter, sum_by, Option}
 use Rattle.std.specs.List.{AllByRecursion, AllZip}
+use Rattle.vx_bits.specs.Codes.{AreBytes}
 use Rattle.vx_bits.specs.declared.list.Item.{Item}
 use Rattle.vx_bits.specs.declared.rules.TheConstants as rules
 use Rattle.vx_annexb.specs.ByteStream.{source_limit, unit_limit}
@@ -21,10 +22,6 @@ use Rattle.vx_merge.specs.Shapes.{IsFrame, pps_shape, sps_shape}
 use Rattle.vx_merge.specs.Verdict.{Rule}
 
 -- ---- pictures
-
--- bytes
-abbrev pub AreBytes : List ℕ → Type 0
-AreBytes bytes = AllByRecursion (λ b. b < 256) bytes
 
 -- A round is written so behind others, as a picture of source 0's kind. The sets that it needs are the SPS and the PPS of its frame and the
 -- bodies that its slices and its header name; those that aren't resident are sent, with the ids that they take. Then come source 0's

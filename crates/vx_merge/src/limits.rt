@@ -2,7 +2,7 @@
 ghost use Rattle.std.specs.Prelude.{◌≡◌, ◌+◌, ◌++◌, length, map, option_copied, option_to_list, IfOk, IfErr, OnOk, Some, None};
 ghost use Rattle.std.specs.List.{AllByRecursion, list_any};
 ghost use Rattle.vx_pic.specs.Written.{eos_units};
-ghost use Rattle.vx_merge.specs.Written.{AreBytes};
+ghost use Rattle.vx_bits.specs.Codes.{AreBytes};
 ghost use Rattle.vx_merge.specs.inner.Making as making;
 ghost use Rattle.vx_merge.specs.inner.Making.{HasPayloads};
 

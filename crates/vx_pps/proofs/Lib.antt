@@ -34,3 +34,4 @@ pub mod Framing
 pub mod Remade
 pub mod Fields
 pub mod Numbered
+pub mod OneGrouping

@@ -226,6 +226,13 @@ makes form old new items after result made_ is =
     } in
     written_more result (λ p. p.0 ∙ sym is.all) (made_.only is.values is.end left (record { follows = is.follows; taken = taken }))
 
+-- a rewritten structure is the only one
+pub rewritten_one : {A : Type 0} (form : Form A) (names : List ℕ) (shown others a b : List Item) → IsRewritten form names shown others a → IsRewritten form names shown others b → a ≡ b
+rewritten_one form names shown others a b first second =
+    let same_shown = ap (λ x. shown_items names x ++ []) (sym first.all) ∙ (ap (λ x. x ++ []) (first.shown_ones ∙ sym second.shown_ones) ∙ ap (λ x. shown_items names x ++ []) second.all) in
+    let same_others = ap (λ x. other_items names x ++ []) (sym first.all) ∙ (ap (λ x. x ++ []) (first.other_ones ∙ sym second.other_ones) ∙ ap (λ x. other_items names x ++ []) second.all) in
+    first.all ∙ (ap (items_along form) (apart names [] [] [] [] first.follows second.follows same_shown same_others).0 ∙ sym second.all)
+
 pub makes_rewritten : MakesRewritten
 makes_rewritten form old new items after result made_ is = makes form old new items after result made_ is
 

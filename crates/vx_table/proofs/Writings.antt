@@ -86,6 +86,10 @@ apart {form = field cell goes} {b} r s (through {v} {w} is more) (through {v = u
     let tail = on.0 in
     (cc (head, tail), on.1, on.2)
 
+-- items tell the values, and so the bits
+pub values_one : {A : Type 0} (form : Form A) {v w : List ℤ} {x y : A} → Follows form v x → Follows form w y → items_along form v ≡ items_along form w → v ≡ w
+values_one form is of same = (apart [] [] is of (ap (λ items. items ++ []) same)).0
+
 pub items_apart : ItemsApart
 items_apart form v w a b r s follows others same = apart r s follows others same
 

@@ -11,3 +11,4 @@ pub mod Tids
 pub mod Spelled
 pub mod SetBySet
 pub mod Writing
+pub mod OneUnit

@@ -18,7 +18,8 @@ use Rattle.vx_merge.specs.Headers.{HasHeader, IsFront, sourced}
 use Rattle.vx_merge.specs.Rounds.{picture_at}
 use Rattle.vx_merge.specs.Rules.{of_limit}
 use Rattle.vx_merge.specs.Verdict.{IsVerdict, Rule}
-use Rattle.vx_merge.specs.Written.{AreBytes, IsMerged}
+use Rattle.vx_bits.specs.Codes.{AreBytes}
+use Rattle.vx_merge.specs.Written.{IsMerged}
 use Rattle.vx_merge.specs.inner.Ready.{ids_in}
 
 -- ---- units

@@ -1,6 +1,6 @@
 use Rattle.std.proofs.Common.{◌≡◌, ◌+◌, take}
 use Rattle.std.specs.List.{AllByRecursion}
-use Rattle.vx_merge.specs.Written.{AreBytes}
+use Rattle.vx_bits.specs.Codes.{AreBytes}
 use Rattle.vx_merge.specs.inner.Making.{capped, size_of, slice_units}
 use Rattle.vx_merge.proofs.limits.with_slices.Given as goal
 

@@ -1,5 +1,5 @@
 use Rattle.std.proofs.Common.{◌+◌, length, map, ap, subst, ◌∙◌}
-use Rattle.vx_merge.specs.Written.{AreBytes}
+use Rattle.vx_bits.specs.Codes.{AreBytes}
 use Rattle.vx_merge.specs.inner.Making.{capped}
 use Rattle.vx_merge.proofs.Gathered.{all_more}
 use Rattle.vx_merge.proofs.Limiting.{capped_more, mapped_at}

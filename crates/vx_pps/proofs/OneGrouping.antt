@@ -1,4 +1,4 @@
--- The slices of a frame fall into groups in one way, so that one PPS says its tiles and slices.
+-- The slices of a picture fall into groups in one way, so that tiles and slices are said in one way.
 use Rattle.std.proofs.Common.{◌≡◌, ℕ, ◌+◌, ◌-◌, ◌*◌, ◌<◌, ◌≤◌, Bool, List, [], ◌∷◌, ◌++◌, length, slice_index, sum, refl, sym, ap, subst, ◌∙◌, inl, inr, arith, length-append}
 use Rattle.std.specs.List.{All, AllByRecursion, slice_index_or}
 use Rattle.std.proofs.Math.Nat.{div-add-mod, mod-lt}
@@ -6,28 +6,18 @@ use Rattle.std.proofs.lemmas.Bool.{cases_lt}
 use Rattle.std.proofs.lemmas.List.Elements.{All-head, All-tail}
 use Rattle.std.proofs.lemmas.List.Sums.{sum_by-cons}
 use Rattle.vx_bits.specs.declared.list.Item.{Item}
-use Rattle.vx_layout.specs.declared.numbers.Numbers.{Numbers}
 use Rattle.vx_layout.specs.declared.rect.Rect.{Rect}
 use Rattle.vx_layout.specs.Bounds.{Rises}
 use Rattle.vx_layout.specs.Layouts.{no_rect}
 use Rattle.vx_layout.proofs.Rising.{Rises-level}
-use Rattle.vx_table.specs.Forms.{Form}
-use Rattle.vx_table.specs.Rewritten.{IsRewritten, other_items}
-use Rattle.vx_table.specs.Shown.{shown_items}
-use Rattle.vx_table.specs.Spelling.{items_along}
-use Rattle.vx_table.proofs.Rewriting as rewriting
 use Rattle.vx_pps.specs.declared.shape.PpsShape.{PpsShape}
 use Rattle.vx_pps.specs.declared.tiles.Tiles.{Tiles}
 use Rattle.vx_pps.specs.Groups.{Follow, Group, cut, high_of, slices_of, slices_of_all, strips, whole}
-use Rattle.vx_pps.specs.Pps.{pps_form}
-use Rattle.vx_pps.specs.Reshaped.{Divides, IsReshaped, divided_items, front_items, taken, tool_items, whole_flag}
+use Rattle.vx_pps.specs.Reshaped.{Divides, divided_items}
 use Rattle.vx_pps.specs.Tiles.{across, block, column, down, row, tile}
 use Rattle.vx_pps.specs.inner.Found.{LiesInside}
 use Rattle.vx_pps.proofs.Blocks.{row_inside, same_index}
 use Rattle.vx_pps.proofs.Few.{group_some}
-use Rattle.vx_pic.specs.Parts.{Parts}
-use Rattle.vx_merge.specs.declared.corner.Corner.{Corner}
-use Rattle.vx_merge.specs.Shapes.{pps_shape}
 
 -- behind the first
 abbrev pub behind : {A : Type 0} → List A → List A
@@ -164,30 +154,12 @@ module _ (g : Tiles) (columns : Rises g.columns) (rows : Rises g.rows) where
   follow_inside deltas before (group ∷ next ∷ more) follow =
       (record { inside = follow.0.inside; lies = follow.0.lies }, follow_inside deltas (high_of group - 1) (next ∷ more) follow.2)
 
--- ---- the set
+-- ---- the items
 
--- a rewritten set is the only one
-pub rewritten_one : {A : Type 0} (form : Form A) (names : List ℕ) (shown others a b : List Item) → IsRewritten form names shown others a → IsRewritten form names shown others b → a ≡ b
-rewritten_one form names shown others a b first second =
-    let same_shown = ap (λ x. shown_items names x ++ []) (sym first.all) ∙ (ap (λ x. x ++ []) (first.shown_ones ∙ sym second.shown_ones) ∙ ap (λ x. shown_items names x ++ []) second.all) in
-    let same_others = ap (λ x. other_items names x ++ []) (sym first.all) ∙ (ap (λ x. x ++ []) (first.other_ones ∙ sym second.other_ones) ∙ ap (λ x. other_items names x ++ []) second.all) in
-    first.all ∙ (ap (items_along form) (rewriting.apart names [] [] [] [] first.follows second.follows same_shown same_others).0 ∙ sym second.all)
-
-divided_one : (shape : PpsShape) (a b : List Item) → Rises shape.tiles.columns → Rises shape.tiles.rows → Divides shape a → Divides shape b → a ≡ b
+pub divided_one : (shape : PpsShape) (a b : List Item) → Rises shape.tiles.columns → Rises shape.tiles.rows → Divides shape a → Divides shape b → a ≡ b
 divided_one shape a b columns rows first second =
     let is = first.groups in
     let of = second.groups in
     let groups = groups_one shape.tiles columns rows (is.group ∷ is.groups) (of.group ∷ of.groups) (follow_inside shape.tiles columns rows _ 0 (is.group ∷ is.groups) is.follow)
     (follow_inside shape.tiles columns rows _ 0 (of.group ∷ of.groups) of.follow) (is.same ∙ sym of.same) in
     first.same ∙ (ap (divided_items shape) groups ∙ sym second.same)
-
--- that of a frame says one thing
-pub frame_pps_one : (corners : List Corner) (round : List Parts) (frame : Numbers) (id : ℕ) (source a b : List Item) → Rises frame.columns → Rises frame.rows
-    → IsReshaped source (pps_shape corners round frame id) a → IsReshaped source (pps_shape corners round frame id) b → a ≡ b
-frame_pps_one corners round frame id source a b columns rows first second =
-    let shape : PpsShape = pps_shape corners round frame id in
-    let division = divided_one shape first.stated.division second.stated.division columns rows first.stated.divides second.stated.divides in
-    let others : first.others ≡ second.others
-    = first.stated.all ∙ (ap (λ x. front_items (whole_flag source shape) shape ++ (x ++ tool_items source shape)) division ∙ sym second.stated.all) in
-    rewritten_one pps_form (taken shape) (shown_items (taken shape) source) second.others a b
-    (subst (λ x. IsRewritten pps_form (taken shape) (shown_items (taken shape) source) x a) others first.rewritten) second.rewritten
