@@ -20,6 +20,8 @@ mod tests_read;
 mod tests_sets;
 #[cfg(test)]
 mod tests_vectors;
+#[cfg(test)]
+mod tests_whole;
 mod walk;
 mod write;
 

@@ -130,7 +130,7 @@ pub(crate) struct Stream {
 }
 
 /// The stream of one CTU.
-fn one(rt: &impl Abort, alloc: Global) -> Result<Stream, Fail>
+pub(crate) fn one(rt: &impl Abort, alloc: Global) -> Result<Stream, Fail>
     ensures { IfOk result (λ s. length s.ids ≡ length s.layout.subpics) }
 {
     let sets = of_one(rt, alloc)?;
@@ -152,7 +152,7 @@ fn two(rt: &impl Abort, alloc: Global, named: &[u32]) -> Result<Stream, Fail>
 }
 
 /// Reads a slice header of an IDR picture.
-fn read(
+pub(crate) fn read(
     rt: &impl Abort,
     alloc: Global,
     stream: &Stream,
