@@ -21,6 +21,8 @@ mod tests_sets;
 #[cfg(test)]
 mod tests_vectors;
 #[cfg(test)]
+mod tests_vectors_more;
+#[cfg(test)]
 mod tests_whole;
 mod walk;
 mod write;
