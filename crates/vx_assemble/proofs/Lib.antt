@@ -27,3 +27,4 @@ pub mod Gathered
 pub mod Messages
 pub mod Small
 pub mod ReadUnder
+pub mod Bodies

@@ -3,6 +3,7 @@ use Rattle.std.proofs.Common.{ℕ, List, ◌∙◌, length-set}
 use Rattle.std.specs.Prelude.{Some}
 use Rattle.vx_bits.specs.declared.list.Item.{Item}
 use Rattle.vx_aps.specs.declared.aps.Aps.{Aps}
+use Rattle.vx_aps.specs.Aps.{IsValid}
 use Rattle.vx_assemble.specs.declared.state.BegunPicture.{BegunPicture}
 use Rattle.vx_assemble.specs.declared.state.CurrentPicture.{CurrentPicture}
 use Rattle.vx_assemble.specs.declared.state.State.{State}
@@ -10,7 +11,7 @@ use Rattle.vx_assemble.specs.inner.Order.{IsOrdered, IsInOrder}
 use Rattle.vx_assemble.proofs.InForce.{stored}
 use Rattle.vx_assemble.specs.inner.Beginning.{AreInForce}
 use Rattle.vx_assemble.specs.inner.Changes.{with_items, with_sps, with_pps, with_aps, with_end, with_header, with_picture, with_begun}
-use Rattle.vx_pic.specs.Parts.{slot_of}
+use Rattle.vx_assemble.proofs.Bodies.{put_bodies}
 
 pub items_ordered : (items : List Item) (s : State) → IsInOrder s → IsInOrder (with_items items s)
 items_ordered items s o = record { sps = o.sps; pps = o.pps; aps = o.aps; made = o.made; picture = o.picture; spelled = o.spelled; gathered = o.gathered }
@@ -23,11 +24,11 @@ pub pps_ordered : (id : ℕ) (v : List Item) (s : State) → IsInOrder s → IsI
 pps_ordered id v s o =
     record { sps = o.sps; pps = length-set s.pps id (Some v) ∙ o.pps; aps = o.aps; made = tt; picture = o.picture; spelled = o.spelled; gathered = o.gathered }
 
-pub aps_ordered : (a : Aps) (s : State) → IsInOrder s → IsInOrder (with_aps a s)
-aps_ordered a s o = record {
+pub aps_ordered : (a : Aps) (s : State) → IsValid a → IsInOrder s → IsInOrder (with_aps a s)
+aps_ordered a s valid o = record {
   sps = o.sps;
   pps = o.pps;
-  aps = length-set s.aps (slot_of a.kind a.id) (Some a) ∙ o.aps;
+  aps = put_bodies a s.aps valid o.aps;
   made = o.made;
   picture = o.picture;
   spelled = o.spelled;

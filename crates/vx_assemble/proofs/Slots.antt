@@ -17,7 +17,7 @@ use Rattle.vx_assemble.specs.declared.state.BegunPicture.{BegunPicture}
 use Rattle.vx_assemble.specs.declared.state.CurrentPicture.{CurrentPicture}
 use Rattle.vx_assemble.specs.declared.state.State.{State}
 use Rattle.vx_assemble.specs.inner.Held.{begun_of, slice_of}
-use Rattle.vx_assemble.specs.inner.Order.{IsHeader, IsOfUnit, IsSlot, AreSlots, AreRead, IsOrdered, IsInOrder, AreAll, IsComplete}
+use Rattle.vx_assemble.specs.inner.Order.{IsHeader, IsOfUnit, IsSlot, AreSlots, AreRead, AreBodies, IsOrdered, IsInOrder, AreAll, IsComplete}
 use Rattle.vx_assemble.specs.inner.Takes.{at_begun, header_read_as}
 use Rattle.vx_assemble.specs.declared.slices.Opened.{Opened}
 use Rattle.vx_assemble.specs.inner.Slices.{HasJoined, HasJoinedFirst}
@@ -59,6 +59,7 @@ bytes_ordered u c o fits = record {
   slots = slots_grow c.begun c.bytes u c.bodies c.slices o.slots;
   read = o.read;
   messages = o.messages;
+  bodies = o.bodies;
 }
 
 -- ---- one slice more
@@ -117,13 +118,14 @@ slice_ordered u r c o fits joined =
           (λ b is. let j = joined b is in joined_slot b j.0.nal_type c.bytes u c.bodies r j.2);
       read = read_push c.begun c.kind c.slices slot o.read (λ b is. let j = joined b is in (j.0, j.1, j.2.read));
       messages = o.messages;
+      bodies = o.bodies;
     }
 
 -- ---- pictures
 
 pub header_ordered : (b : BegunPicture) (u : List ℕ) (c : CurrentPicture) → IsOrdered c → IsHeader b → length u ≤ picture_limit
     → IsOrdered (with_header b u c)
-header_ordered b u c o is fits = record { kind = tt; bytes = fits; header = omega arith; slots = (is, tt); read = tt; messages = o.messages }
+header_ordered b u c o is fits = record { kind = tt; bytes = fits; header = omega arith; slots = (is, tt); read = tt; messages = o.messages; bodies = o.bodies }
 
 no_slots : (o : Option BegunPicture) (bytes : List ℕ) (sets others : List (Option Aps)) (slots : List SliceSlot) → AreSlots o bytes sets slots
     → AreSlots o bytes others []
@@ -135,14 +137,15 @@ none_read None k = tt
 none_read (Some b) k = tt
 
 pub kind_ordered : (k : Kind) (sets : List (Option Aps)) (m : List Message) (c : CurrentPicture) → IsOrdered c
-    → IsOfUnit (Some k) → spelled_length m ≤ message_limit → IsOrdered (with_kind k sets m c)
-kind_ordered k sets m c o of few = record {
+    → IsOfUnit (Some k) → spelled_length m ≤ message_limit → AreBodies sets → IsOrdered (with_kind k sets m c)
+kind_ordered k sets m c o of few are = record {
   kind = of;
   bytes = o.bytes;
   header = o.header;
   slots = no_slots c.begun c.bytes c.bodies sets c.slices o.slots;
   read = none_read c.begun k;
   messages = few;
+  bodies = are;
 }
 
 pub begun_ordered : (c : CurrentPicture) (s : State) → IsInOrder s → IsOrdered c → IsInOrder (with_begun_picture c s)

@@ -1,12 +1,15 @@
 -- An assembler, as its callers see it: by these words, and by the relation `Stands` between it and what the units that it took were
 -- read as. That relation begins with no units; `Takes` says what it is worth.
-use Rattle.std.specs.Prelude.{◌≡◌, ◌≤◌, length, List, [], ◌∷◌, Option, Some, None, Result, Ok, Err}
+use Rattle.std.specs.Prelude.{◌≡◌, ℕ, ◌≤◌, length, map, List, [], ◌∷◌, Option, Some, None, is_some, Result, Ok, Err}
+use Rattle.std.specs.List.{count_by, range_with_len}
 use Rattle.vx_bits.specs.declared.list.Item.{Item}
 use Rattle.vx_bits.specs.declared.refusal.Refusal.{Refusal}
+use Rattle.vx_aps.specs.declared.aps.Aps.{Aps}
+use Rattle.vx_aps.specs.declared.aps.TheConstants.{ALF, LMCS, SCALING}
 use Rattle.vx_sei.specs.Sei.{spelled_length}
 use Rattle.vx_pic.specs.declared.accepted.Accepted.{Accepted}
 use Rattle.vx_pic.specs.declared.accepted.Accepted.TheVariants as accepted
-use Rattle.vx_pic.specs.Parts.{Parts, Shows}
+use Rattle.vx_pic.specs.Parts.{Parts, Shows, aps_at, id_count}
 use Rattle.vx_pic.specs.Readings.{Reading, vps_read, sps_read, pps_read, aps_read, Picture}
 use Rattle.vx_pic.specs.Rules.{picture_limit, message_limit}
 use Rattle.vx_pic.specs.Streams.{lacks_slice}
@@ -86,11 +89,24 @@ abbrev pub ShowsLatest : Parts → List Picture → Type 0
 ShowsLatest parts [] = ⊥
 ShowsLatest parts (p ∷ earlier) = Shows parts p
 
--- It keeps a picture of at most 2^25 bytes, messages of at most 65,536 bytes for it and for the next one, and at most so many sets.
+-- how many of these adaptation parameter sets are of a type
+abbrev pub count_of : ℕ → List (Option Aps) → ℕ
+count_of kind sets = count_by is_some (map (aps_at sets kind) (range_with_len 0 id_count))
+
+-- There are at most 8 ALF, 4 LMCS and 8 scaling bodies, and no others: each of the three types has eight places.
+pub record AreFewBodies (sets : List (Option Aps)) : Type 0 where
+  pub places : length sets ≡ 24
+  pub alf : count_of ALF sets ≤ 8
+  pub lmcs : count_of LMCS sets ≤ 4
+  pub scaling : count_of SCALING sets ≤ 8
+
+-- It keeps a picture of at most 2^25 bytes, messages of at most 65,536 bytes for it and for the next one, and at most so many sets: those
+-- that are stored, and the bodies that were stored at the picture's first slice.
 pub record IsBounded (h : Held) : Type 0 where
   pub bytes : length h.state.picture.bytes ≤ picture_limit
   pub messages : spelled_length h.state.picture.messages ≤ message_limit
   pub gathered : spelled_length h.state.gathered ≤ message_limit
   pub sps : length h.state.sps ≡ 16
   pub pps : length h.state.pps ≡ 64
-  pub aps : length h.state.aps ≡ 24
+  pub aps : AreFewBodies h.state.aps
+  pub bodies : AreFewBodies h.state.picture.bodies

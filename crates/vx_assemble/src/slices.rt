@@ -6,7 +6,7 @@ ghost use Rattle.vx_pic.specs.Rules.{Readers, first, further, follows, alone, re
 ghost use Rattle.vx_pic.specs.Units as units;
 ghost use Rattle.vx_pic.specs.H266.{AreOfH266};
 ghost use Rattle.vx_assemble.specs.inner.Held.{IsApart, IsHeaded, IsGoing, IsHeld};
-ghost use Rattle.vx_assemble.specs.inner.Order.{IsHeader, IsInOrder, IsComplete};
+ghost use Rattle.vx_assemble.specs.inner.Order.{IsHeader, IsInOrder, AreBodies, IsComplete};
 ghost use Rattle.vx_assemble.specs.inner.Takes.{Gives, answer_by, TakesUnit};
 ghost use Rattle.vx_assemble.specs.inner.Joining.{IsJoined};
 ghost use Rattle.vx_assemble.specs.inner.Changes as changes;
@@ -135,6 +135,7 @@ impl State {
         requires payload { opened.read.payload < length unit.now }
         requires joined { HasJoinedFirst self.old.picture (length unit.now) opened }
         requires kind { (opened.kind.nal_type < 32) × (opened.kind.temporal_id < 7) }
+        requires bodies { AreBodies opened.bodies }
         ensures ok { OnOk result (self.new ≡ with_first unit.now opened self.old) }
         ensures order { IsInOrder self.new }
     {

@@ -81,6 +81,7 @@ pub(crate) struct State {
 }
 
 impl State {
+    #[tactic(auto, using(crate::proofs::Bodies::no_bodies))]
     /// What is kept of no units.
     pub(crate) fn new(alloc: Global) -> State
         ensures held { IsHeld result [] }

@@ -76,6 +76,11 @@ abbrev pub IsOfUnit : Option Kind → Type 0
 IsOfUnit None = Unit {0}
 IsOfUnit (Some k) = (k.nal_type < 32) × (k.temporal_id < 7)
 
+-- Each type has eight places, and those of LMCS from the fifth on are never filled: it has no more ids.
+pub record AreBodies (sets : List (Option Aps)) : Type 0 where
+  pub places : length sets ≡ 24
+  pub lmcs : (i : ℕ) → 12 ≤ i → i < 16 → slice_index_or sets i None ≡ None
+
 -- the picture lies in order
 pub record IsOrdered (c : CurrentPicture) : Type 0 where
   pub kind : IsOfUnit c.kind
@@ -84,11 +89,12 @@ pub record IsOrdered (c : CurrentPicture) : Type 0 where
   pub slots : AreSlots c.begun c.bytes c.bodies c.slices
   pub read : AreRead c.begun c.kind c.slices
   pub messages : spelled_length c.messages ≤ message_limit
+  pub bodies : AreBodies c.bodies
 
 pub record IsInOrder (s : State) : Type 0 where
   pub sps : length s.sps ≡ 16
   pub pps : length s.pps ≡ 64
-  pub aps : length s.aps ≡ 24
+  pub aps : AreBodies s.aps
   pub made : AreKept s.sps s.pps s.made
   pub picture : IsOrdered s.picture
   pub spelled : s.gathered_len ≡ spelled_length s.gathered

@@ -1,7 +1,9 @@
-use Rattle.std.proofs.Common.{◌∙◌, sym, ap, Err}
+use Rattle.std.proofs.Common.{[], ◌∙◌, sym, ap, arith, Err}
 use Rattle.std.specs.Prelude.{None}
 use Rattle.vx_pic.specs.Readings.{current}
 use Rattle.vx_assemble.specs.inner.Held.{begun_of}
+use Rattle.vx_assemble.proofs.Ordering.{start_ordered}
+use Rattle.vx_assemble.proofs.Slots.{header_ordered}
 use Rattle.vx_assemble.proofs.Slicing.{alone_open, alone_fails, alone_several, took_alone}
 use Rattle.vx_assemble.proofs.state.State.take_alone.Goals as goal
 
@@ -29,3 +31,9 @@ returns-clause-answer c R h before held =
     (c.in-Ok.ensures.answer R h before held.apart) (ap (λ s. s.slices) c.value.ensures ∙ c.in-Ok.ensures.header.sets.slices) c.if-value-gt1.false
     c.in_ok-start.ensures.ok
     (λ apart b head. c.take_first.ensures.answer R h before apart b head)
+
+pub take_first-requires-clause-order : goal.take_first-requires-clause-order
+take_first-requires-clause-order c =
+    rw c.in_ok-start.ensures.ok
+    (start_ordered c.in-Ok.begun [] c.args.self.now c.requires c.in-Ok.ensures.stored
+    (header_ordered c.in-Ok.begun [] c.args.self.now.picture c.requires.picture c.in-Ok.ensures.header (omega arith)))
