@@ -1,6 +1,6 @@
 use Rattle.std.proofs.Common.{◌≡◌, ◌≤◌, ◌<◌, ◌^◌, ◌↔◌, ℕ, Result, Ok, Err, length, drop, sym, ap, ◌∙◌, arith}
 use Rattle.std.specs.Prelude.{IfOk, IfErr}
-use Rattle.core.specs.Result.{IsErrOf}
+use Rattle.std.specs.Result.{IsErrOf}
 use Rattle.std.proofs.lemmas.List.{drop_at}
 use Rattle.vx_bits.specs.Codes.{fixed}
 use Rattle.vx_bits.specs.Place.{Place, Takes}
