@@ -17,16 +17,14 @@ done > "$work/crates.txt"
 echo 'bench_headers: vx_bits vx_layout vx_sps vx_pps vx_ph vx_sh anyhow' >> "$work/crates.txt"
 bench=$work/crates/bench_headers
 mkdir -p "$bench/src" "$bench/specs" "$bench/proofs/write"
-echo 'mod write' > "$bench/proofs/Lib.antt"
-touch "$bench/specs/Lib.antt"
+touch "$bench/specs/Lib.antt" "$bench/proofs/Lib.antt"
 
 # What is read can be written.
 cat > "$bench/proofs/write/Answers.antt" <<'ANTT'
-use Rattle.vx_sh.proofs.Writable.{read_can_be_written}
 use Rattle.bench_headers.proofs.write.Goals as goal
 
 pub write_sh-requires-clause-slice : goal.write_sh-requires-clause-slice
-write_sh-requires-clause-slice c = (read_can_be_written _ _ _ _ c.requires.read).apart c.requires.apart _
+write_sh-requires-clause-slice c = (c.read_can_be_written.ensures _ _ _ _ c.requires.read).apart c.requires.apart _
 ANTT
 
 cat > "$bench/src/main.rt" <<'RT'
@@ -44,7 +42,7 @@ use vx_bits::{BitReader, IdList};
 use vx_layout::{Layout, Numbers, Rect, RectList, tile_bounds};
 use vx_ph::{PictureHeader, read_ph, write_ph};
 use vx_pps::{Pps, read_pps};
-use vx_sh::{SliceHeader, SliceNumbers, read_sh, write_sh};
+use vx_sh::{SliceHeader, SliceNumbers, read_can_be_written, read_sh, write_sh};
 use vx_sps::{Sps, read_sps};
 
 const ROUNDS: u32 = 100_000;
@@ -174,6 +172,7 @@ fn write(alloc: Global, rbsp: &[u8], numbers: &SliceNumbers<'_>, slice: &SliceHe
     requires few { length numbers.now.ids.now ≤ 1000 }
     requires one_each { length numbers.now.ids.now ≡ length numbers.now.layout.now.subpics }
 {
+    read_can_be_written();
     write_sh(alloc, slice, numbers)
 }
 
