@@ -3,6 +3,7 @@ ghost use Rattle.std.specs.Prelude.{◌≡◌, ◌≤◌, length};
 
 use crate::tests_frames::{Frame, Picture, frame_of, header_in};
 use crate::tests_sets::write_apart;
+use crate::tests_whole::written_inside;
 use crate::{SliceHeader, SliceNumbers, read_sh};
 use std::alloc::{AllocError, Global};
 use std::process::Abort;
@@ -64,11 +65,14 @@ fn with_slice(
 {
     assert!(rt; rbsp.len() <= 2000);
     let (text, bytes) = both_ways(alloc, rbsp, numbers)?;
-    if let Some(bytes) = bytes {
-        // One byte stands behind the header.
-        assert!(rt; bytes.len() + 1 == rbsp.len());
-        assert!(rt; rbsp.starts_with(bytes.as_slice()));
-    }
+    let bytes = match bytes {
+        Some(bytes) => bytes,
+        None => written_inside(rt, alloc, rbsp, numbers)?,
+    };
+    // One byte stands behind the header.
+    assert!(rt; bytes.len() < rbsp.len());
+    assert!(rt; rbsp.len() - bytes.len() == 1);
+    assert!(rt; rbsp.starts_with(bytes.as_slice()));
     Ok(with_line(hash, text.as_str()))
 }
 

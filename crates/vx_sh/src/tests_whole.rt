@@ -46,7 +46,35 @@ fn write_inside(
     write_sh(alloc, slice, numbers)
 }
 
-/// The bytes that are written of the slice header that is read, with the picture header that is read inside.
+/// The bytes that are written of the slice header that is read, with the picture header that is read inside in place of that of the
+/// numbers.
+pub(crate) fn written_inside(
+    rt: &impl Abort,
+    alloc: Global,
+    rbsp: &[u8],
+    numbers: &SliceNumbers<'_>,
+) -> Result<Vec<u8>, ReadError>
+    requires few { length numbers.now.ids.now ≤ 1000 }
+    requires one_each { length numbers.now.ids.now ≡ length numbers.now.layout.now.subpics }
+{
+    assert!(rt; 1 <= rbsp.len());
+    assert!(rt; rbsp.len() <= 1000);
+    let mut bits = behind_first(rbsp);
+    let header = read_ph(alloc, &mut bits, numbers.sps, numbers.pps)?;
+    let own = SliceNumbers {
+        nal_type: numbers.nal_type,
+        sps: numbers.sps,
+        pps: numbers.pps,
+        header: &header,
+        layout: numbers.layout,
+        ids: numbers.ids,
+    };
+    let (slice, size) = read_sh(alloc, rbsp, &own)?;
+    assert!(rt; slice.inside);
+    Ok(write_inside(alloc, rbsp, &own, &slice, size, &bits)?)
+}
+
+/// The same under the sets of a stream.
 fn rewritten(
     rt: &impl Abort,
     alloc: Global,
@@ -55,22 +83,16 @@ fn rewritten(
 ) -> Result<Vec<u8>, ReadError>
     requires { length stream.now.ids ≡ length stream.now.layout.subpics }
 {
-    assert!(rt; 1 <= rbsp.len());
-    assert!(rt; rbsp.len() <= 1000);
     assert!(rt; stream.ids.len() <= 1000);
-    let mut bits = behind_first(rbsp);
-    let header = read_ph(alloc, &mut bits, &stream.sets.sps, &stream.sets.pps)?;
     let numbers = SliceNumbers {
         nal_type: 8,
         sps: &stream.sets.sps,
         pps: &stream.sets.pps,
-        header: &header,
+        header: &stream.sets.header,
         layout: &stream.layout,
         ids: &stream.ids,
     };
-    let (slice, size) = read_sh(alloc, rbsp, &numbers)?;
-    assert!(rt; slice.inside);
-    Ok(write_inside(alloc, rbsp, &numbers, &slice, size, &bits)?)
+    written_inside(rt, alloc, rbsp, &numbers)
 }
 
 /// Whether a slice header is refused so.
