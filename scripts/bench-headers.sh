@@ -6,20 +6,13 @@ set -euo pipefail
 work=$(mktemp -d)
 trap 'rm -rf "$work"' EXIT
 
-# A copy of the repository with a program of its own, which asks the clock around the calls.
-cp -a HANDLES "$work"
-mkdir "$work/crates"
-below='vx_bits vx_fields vx_table vx_ptl vx_rpl vx_layout vx_sps vx_pps vx_ph vx_sh'
-for name in $below; do
-    cp -a "crates/$name" "$work/crates"
-    grep "^$name:" crates.txt
-done > "$work/crates.txt"
-echo 'bench_headers: vx_bits vx_layout vx_sps vx_pps vx_ph vx_sh anyhow' >> "$work/crates.txt"
-bench=$work/crates/bench_headers
-mkdir -p "$bench/src" "$bench/specs" "$bench/proofs/write"
-touch "$bench/specs/Lib.antt" "$bench/proofs/Lib.antt"
+# A program that asks the clock around the calls.
+. scripts/bench-crate.sh
+bench_crate bench_headers 'vx_bits vx_layout vx_sps vx_pps vx_ph vx_sh anyhow' \
+    vx_bits vx_fields vx_table vx_ptl vx_rpl vx_layout vx_sps vx_pps vx_ph vx_sh
 
 # What is read can be written.
+mkdir "$bench/proofs/write"
 cat > "$bench/proofs/write/Answers.antt" <<'ANTT'
 use Rattle.bench_headers.proofs.write.Goals as goal
 
@@ -256,7 +249,4 @@ fn main(rt: HostRuntime) -> anyhow::Result<()> {
 }
 RT
 
-cd "$bench"
-"${RT:-rt}" run > "$work/times" 2> "$work/log" || { grep -v ': proved' "$work/log" | tail -60; exit 1; }
-uptime
-for _ in 1 2 3; do out/bench_headers; done
+run_bench

@@ -6,17 +6,10 @@ set -euo pipefail
 work=$(mktemp -d)
 trap 'rm -rf "$work"' EXIT
 
-# A copy of the repository with a program of its own, which asks the clock around the calls.
-cp -a HANDLES "$work"
-mkdir "$work/crates"
-below='vx_bits vx_fields vx_table vx_ptl vx_rpl vx_layout vx_sps vx_pps'
-for name in $below; do
-    cp -a "crates/$name" "$work/crates"
-    grep "^$name:" crates.txt
-done > "$work/crates.txt"
-echo 'bench_sets: vx_bits vx_sps vx_pps anyhow' >> "$work/crates.txt"
-mkdir -p "$work/crates/bench_sets/src" "$work/crates/bench_sets/specs" "$work/crates/bench_sets/proofs"
-touch "$work/crates/bench_sets/specs/Lib.antt" "$work/crates/bench_sets/proofs/Lib.antt"
+# A program that asks the clock around the calls.
+. scripts/bench-crate.sh
+bench_crate bench_sets 'vx_bits vx_sps vx_pps anyhow' \
+    vx_bits vx_fields vx_table vx_ptl vx_rpl vx_layout vx_sps vx_pps
 
 # The two functions that time a set of this kind.
 timings() {
@@ -84,9 +77,6 @@ fn main(rt: HostRuntime) -> anyhow::Result<()> {
     time_writing_pps(&rt, pps)
 }
 RT
-} > "$work/crates/bench_sets/src/main.rt"
+} > "$bench/src/main.rt"
 
-cd "$work/crates/bench_sets"
-"${RT:-rt}" run > "$work/times" 2> "$work/log" || { grep -v ': proved' "$work/log" | tail -60; exit 1; }
-uptime
-for _ in 1 2 3; do out/bench_sets; done
+run_bench
