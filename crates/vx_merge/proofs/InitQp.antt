@@ -1,5 +1,5 @@
 -- The QP of a PPS, less 26, is in its range.
-use Rattle.std.proofs.Common.{◌≡◌, ℕ, ℤ, pos, negsuc, neg_ℤ, ◌≤ℤ◌, ◌≤◌, Bool, true, false, ◌&&◌, ◌||◌, not, List, None, refl, subst, inl, inr, arith}
+use Rattle.std.proofs.Common.{◌≡◌, ℕ, ℤ, pos, negsuc, neg_ℤ, ◌≤ℤ◌, Bool, true, false, ◌&&◌, ◌||◌, not, List, None, refl, subst, inl, inr, arith}
 use Rattle.std.specs.Prelude.{◌==◌, int_le, unwrap_or}
 use Rattle.std.proofs.lemmas.Bool.{and_parts, cases_Bool, eqb-true, eq-eqb, leb-true}
 use Rattle.std.proofs.lemmas.Int.{ints}

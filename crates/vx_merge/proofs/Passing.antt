@@ -13,8 +13,9 @@ use Rattle.vx_merge.specs.Bodies.{filters_in, has_lmcs, has_scaling, is_chroma_s
 use Rattle.vx_merge.specs.Needed.{alf_bodies}
 use Rattle.vx_merge.specs.Regions.{corners_in, ctb_of, layouts_in, placed_in}
 use Rattle.vx_merge.specs.Rounds.{UnlikeLowest, picture_at}
-use Rattle.vx_merge.specs.Rules.{crosses_slices, crosses_tiles, filter_flags, first_lists, has_slices, has_tiles, kept_header, kept_pps, kept_sps, most_filters, pps_tools, profile_of, rules_of, rules_of_fit, rules_of_frame, rules_of_pictures, rules_of_sets, rules_of_slices, several_subpictures, shared_kind, sps_tools, tile_lines, too_many_slices}
+use Rattle.vx_merge.specs.Rules.{crosses_slices, crosses_tiles, filter_flags, first_lists, has_slices, has_tiles, kept_header, kept_pps, kept_sps, pps_tools, profile_of, rules_of, rules_of_fit, rules_of_frame, rules_of_pictures, rules_of_sets, rules_of_slices, several_subpictures, shared_kind, sps_tools, tile_lines, too_many_slices}
 use Rattle.vx_merge.specs.Shapes.{of_lowest}
+use Rattle.vx_merge.specs.Slots.{alf_slots}
 use Rattle.vx_merge.specs.Verdict.{Rule, IsVerdict}
 use Rattle.vx_merge.specs.inner.Found.{Finds}
 use Rattle.vx_merge.proofs.Deciding.{IsDecided, alike, flags, lists, numbers, options, pairs, ref_lists}
@@ -153,12 +154,12 @@ module _ (corners : List Corner) (round : List Parts) (same : length corners ≡
   flags_found = record { verdict = inl (of_slices.1.1.0, refl) }
 
   -- M12: all filters have ids
-  pub filters_few : 0 < length round → length (alf_bodies round) ≤ most_filters
+  pub filters_few : 0 < length round → length (alf_bodies round) ≤ alf_slots
   filters_few some =
       let few = of_slices.1.0 (length round - 1) (omega (arith, same, some)) in
       let whole : take (length round - 1 + 1) round ≡ round = take_all (length round - 1 + 1) round (omega (arith, some)) in
-      let all_few : ¬ (most_filters < length (alf_bodies round)) =
-      subst (λ qs. ¬ (most_filters < length (once (flat_map filters_in qs)))) whole few in
+      let all_few : ¬ (alf_slots < length (alf_bodies round)) =
+      subst (λ qs. ¬ (alf_slots < length (once (flat_map filters_in qs)))) whole few in
       omega (arith, all_few)
 
   module _ (k : ℕ) (short : k < length round) where

@@ -14,7 +14,7 @@ use Rattle.vx_pic.specs.Parts.{Parts, SlicePart}
 use Rattle.vx_pic.specs.Readings.{Begun, Slice}
 use Rattle.vx_pic.specs.Resident.{history_of, is_resident, kept_for}
 use Rattle.vx_pic.specs.Rules.{unit_size}
-use Rattle.vx_pic.specs.Written.{Plan, SeiUnit, SetUnit, eos_units, sei_units, slices_of, units_of}
+use Rattle.vx_pic.specs.Written.{Plan, SeiUnit, SetUnit, eos_units, sei_units, units_of}
 use Rattle.vx_write.specs.Sending.{AreSent, unsent}
 use Rattle.vx_write.specs.Slots.{AreLastOf, Sent}
 use Rattle.vx_write.specs.Units.{IsSeiUnit}

@@ -1,11 +1,11 @@
 -- What the sets of a round alone tell is the same of rounds that have the same sets.
-use Rattle.std.proofs.Common.{◌≡◌, ◌≢◌, ℕ, zero, suc, ◌+◌, ◌<◌, ℤ, Bool, true, false, cond, List, [], ◌∷◌, ◌++◌, map, filter, length, Option, Some, None, is_some, IfSome, refl, sym, ap, ap₂, subst, ◌∙◌, inl, inr, arith}
+use Rattle.std.proofs.Common.{◌≡◌, ◌≢◌, ℕ, zero, suc, ◌+◌, ◌<◌, Bool, true, false, cond, List, [], ◌∷◌, ◌++◌, map, length, Option, Some, None, is_some, IfSome, refl, sym, ap, ap₂, subst, ◌∙◌, inl, inr, arith}
 use Rattle.std.proofs.Math.Path.{fun_ext}
-use Rattle.std.specs.Prelude.{◌==◌, ◌⊎◌, IsTrue, All, unwrap_or}
-use Rattle.std.specs.List.{AllByRecursion, zip}
+use Rattle.std.specs.Prelude.{◌==◌, ◌⊎◌, IsTrue, unwrap_or}
+use Rattle.std.specs.List.{AllByRecursion}
 use Rattle.std.specs.Bool.{OnTrue}
 use Rattle.std.specs.Option.{option_or}
-use Rattle.std.proofs.lemmas.Bool.{cases_Bool}
+use Rattle.std.proofs.lemmas.Bool.{cases_Bool, eqb-true, false≢true}
 use Rattle.std.proofs.lemmas.List.{length-map}
 use Rattle.vx_bits.specs.declared.list.Item.{Item}
 use Rattle.vx_bits.specs.declared.refusal.Refusal.{Refusal}
@@ -38,6 +38,7 @@ use Rattle.vx_write.specs.InForce.{AreInForce}
 use Rattle.vx_merge.specs.declared.corner.Corner.{Corner}
 use Rattle.vx_merge.specs.declared.joined.Frame.{Frame}
 use Rattle.vx_merge.specs.declared.needed.RoundSets.{RoundSets}
+use Rattle.vx_merge.specs.declared.settled.RenamedPps.{RenamedPps}
 use Rattle.vx_merge.specs.declared.settled.Settled.{Settled}
 use Rattle.vx_merge.specs.declared.settled.SourceSets.{SourceSets}
 use Rattle.vx_merge.specs.Merging.{AreCorners}
@@ -48,8 +49,8 @@ use Rattle.vx_merge.specs.Shapes as shapes
 use Rattle.vx_merge.specs.Shapes.{IsFrame, dpb_of, greatest, latency_of, least, level_of, of_lowest, offsets_at, pps_shape, sps_shape, window_of}
 use Rattle.vx_merge.specs.Verdict.{IsVerdict, Rule}
 use Rattle.vx_merge.specs.inner.Found.{Finds}
-use Rattle.vx_merge.specs.inner.Joined.{CanBeJoined, HasShapes, IsFrameOf, MakeFrame}
-use Rattle.vx_merge.specs.inner.Settled.{HasSetsOf, HavePassed, HaveSameSets, IsSettled, IsSettledFor, IsSomeUsed, IsUsedFor, sets_in, sets_of}
+use Rattle.vx_merge.specs.inner.Joined.{CanBeJoined, HasShapes, IsFrameOf}
+use Rattle.vx_merge.specs.inner.Settled.{AreSetsOf, HasPps, HasSetsOf, HavePassed, HaveSameSets, IsPpsFor, IsSettled, IsSettledFor, IsSomeUsed, IsUsedFor, ServesAs, is_renamed, renamed_or, sets_in, sets_of}
 use Rattle.vx_merge.specs.inner.Ready.{AreNeeded, IsReady}
 use Rattle.vx_merge.proofs.Passing.{alone_found, flags_found, frame_found, pps_found, sps_found}
 use Rattle.vx_merge.proofs.Verdicts.{passed, passed_all}
@@ -237,6 +238,16 @@ module _ (kept round : List Parts) (same : HaveSameSets kept round) where
   fit_too corners fit =
       subst (λ n. FitTogether (placed_in corners round) n) ctb (subst (λ ps. FitTogether ps (ctb_of kept)) (placed corners) fit)
 
+  pps_too : (corners : List Corner) (frame : Numbers) (id : ℕ) (items : List Item) → IsPpsFor corners kept frame id items → IsPpsFor corners round frame id items
+  pps_too corners frame id items is =
+      subst (λ shape. pps_reshaped.IsReshaped (picture_at round 0).pps shape items) (pps_same corners frame id)
+      (subst (λ first. pps_reshaped.IsReshaped first (pps_shape corners kept frame id) items) first_pps is)
+
+  renamed_too : (corners : List Corner) (frame : Numbers) (renamed : Option RenamedPps) → IfSome renamed (λ r. IsPpsFor corners kept frame r.id r.pps)
+      → IfSome renamed (λ r. IsPpsFor corners round frame r.id r.pps)
+  renamed_too corners frame None is = tt
+  renamed_too corners frame (Some r) is = pps_too corners frame r.id r.pps is
+
   pub settled_too : (corners : List Corner) (level : Option ℕ) (s : Settled) → CanBeJoined corners round → AllByRecursion AreInForce round
       → IsSettledFor corners level kept s → IsSettledFor corners level round s
   settled_too corners level s can are is = record {
@@ -245,8 +256,8 @@ module _ (kept round : List Parts) (same : HaveSameSets kept round) where
     layout = is.layout;
     sps = subst (λ shape. sps_reshaped.IsReshaped (picture_at round 0).sps shape s.sps) (sps_same corners level)
         (subst (λ items. sps_reshaped.IsReshaped items (sps_shape corners kept level) s.sps) first_sps is.sps);
-    plain = subst (λ shape. pps_reshaped.IsReshaped (picture_at round 0).pps shape s.plain) (pps_same corners s.frame.numbers 0)
-        (subst (λ items. pps_reshaped.IsReshaped items (pps_shape corners kept s.frame.numbers 0) s.plain) first_pps is.plain);
+    plain = pps_too corners s.frame.numbers 0 s.plain is.plain;
+    renamed = renamed_too corners s.frame.numbers s.renamed is.renamed;
   }
 
   -- ---- rules
@@ -337,6 +348,33 @@ pub settled_used : (corners : List Corner) (level : Option ℕ) (round : List Pa
     → IsUsedFor corners level round s
 settled_used corners level round s are count passes can in_force is sets =
     record { are = are; count = count; passes = passes; is = settled_too is.kept round (sym is.sets ∙ sets) corners level s can in_force is.is.is }
+
+-- ---- its PPS under an id
+
+pub same_serves : (round : List Parts) (s : Settled) → ServesAs round s s
+same_serves round s = record { sources = refl; plain = refl; used = λ corners level used. used }
+
+pub plain_under : (round : List Parts) (s : Settled) (id : ℕ) → id ≡ 0 → HasPps round id s
+plain_under round s id zero_is = λ corners level used. rw zero_is used.is.plain
+
+named_at : (corners : List Corner) (round : List Parts) (frame : Numbers) (plain : List Item) (renamed : Option RenamedPps) (id : ℕ) → is_renamed renamed id ≡ true
+    → IfSome renamed (λ r. IsPpsFor corners round frame r.id r.pps) → IsPpsFor corners round frame id (renamed_or plain renamed)
+named_at corners round frame plain None id is all = absurd (false≢true is)
+named_at corners round frame plain (Some r) id is all = subst (λ i. IsPpsFor corners round frame i r.pps) (eqb-true r.id id is) all
+
+pub renamed_under : (round : List Parts) (s : Settled) (id : ℕ) → is_renamed s.renamed id ≡ true → HasPps round id s
+renamed_under round s id is = λ corners level used.
+    elim (cases_Bool (id == 0)) [
+      | inl same ↦ plain_under round s id (eqb-true id 0 same) corners level used
+      | inr other ↦ rw other (named_at corners round s.frame.numbers s.plain s.renamed id is used.is.renamed)
+    ]
+
+-- what is kept of the round
+pub settled_next : (corners : List Corner) (level : Option ℕ) (round : List Parts) (own : Settled) (settled : Option Settled) → IsUsedFor corners level round own
+    → HasSetsOf round own → IfSome settled (ServesAs round own) → IfSome settled (IsSettled corners level)
+settled_next corners level round own None used sets serves = tt
+settled_next corners level round own (Some s) used sets serves =
+    record { kept = round; sets = subst (λ x. AreSetsOf round x.items) (sym serves.sources) sets; is = serves.used corners level used }
 
 -- ---- what it serves for
 

@@ -1,5 +1,5 @@
 -- What is answered of a round that was made, where it counts as written, is written, or breaks a limit.
-use Rattle.std.proofs.Common.{◌≡◌, ◌⊎◌, ℕ, ◌+◌, ◌<◌, List, ◌∷◌, ◌++◌, length, Option, Some, None, Ok, Err, refl, sym, ap, subst, ◌∙◌, inl, inr, length-append}
+use Rattle.std.proofs.Common.{◌≡◌, ℕ, ◌+◌, ◌<◌, List, ◌∷◌, ◌++◌, length, Option, Some, None, Ok, Err, refl, sym, ap, subst, ◌∙◌, inr, length-append}
 use Rattle.std.specs.Prelude.{sum_by}
 use Rattle.std.proofs.lemmas.Grind.{flat_map-append}
 use Rattle.std.specs.List.{AllByRecursion}
@@ -23,7 +23,7 @@ use Rattle.vx_merge.specs.Merging.{Checks, IsBarred, Merging, Passes, Writes}
 use Rattle.vx_merge.specs.Rules.{rules_of}
 use Rattle.vx_merge.specs.Verdict.{IsVerdict}
 use Rattle.vx_bits.specs.Codes.{AreBytes}
-use Rattle.vx_merge.specs.Written.{IsMerged, limits_of}
+use Rattle.vx_merge.specs.Written.{limits_of}
 use Rattle.vx_merge.specs.inner.Counting.{Counts}
 use Rattle.vx_merge.specs.inner.Found.{Finds}
 use Rattle.vx_merge.specs.inner.Making.{AreLimits, IsMade, limits_by, size_of, slice_units, units_made}
@@ -95,12 +95,16 @@ writes_front round done x m a b k l e is took =
     (took.faults, (is.0, is.1, subst (λ us. AppendsFront a b (written us)) (sym is.3) took.err))
 
 -- nothing is written where it is refused
-pub writes_none : (round : List Parts) (done : List Plan) (x : Merging) (a : Option (List ℕ)) (k : ℕ) (e : WriteError) → Checks round done x (Err e)
+unwritten : (round : List Parts) (done : List Plan) (x : Merging) (a : Option (List ℕ)) (k : ℕ) (e : WriteError) → Checks round done x (Err e)
     → Writes round done x a a k k (Err e)
-writes_none round done x a k errors.Memory is = (refl, refl)
-writes_none round done x a k errors.SinkFailed is = absurd is
-writes_none round done x a k (errors.Refused r) is = (refl, refl, is)
-writes_none round done x a k (errors.Stopped f) is = is
+unwritten round done x a k errors.Memory is = (refl, refl)
+unwritten round done x a k errors.SinkFailed is = absurd is
+unwritten round done x a k (errors.Refused r) is = (refl, refl, is)
+unwritten round done x a k (errors.Stopped f) is = is
+
+pub writes_none : (round made : List Parts) (done : List Plan) (x : Merging) (a : Option (List ℕ)) (k : ℕ) (e : WriteError) → made ≡ round → Checks made done x (Err e)
+    → Writes round done x a a k k (Err e)
+writes_none round made done x a k e same is = unwritten round done x a k e (subst (λ r. Checks r done x (Err e)) same is)
 
 -- ---- by what was asked for alone
 

@@ -1,5 +1,5 @@
 -- The headers of the picture that a round is put together as: its picture header, and those of its slices (H.266 7.3.2.7, 7.3.7).
-use Rattle.std.specs.Prelude.{◌≡◌, ℕ, ℤ, pos, ◌+ℤ◌, ◌+◌, false, List, [], ◌∷◌, ◌++◌, drop, length, map, slice_get, Option, Some, option_map, unwrap_or}
+use Rattle.std.specs.Prelude.{◌≡◌, ℕ, pos, ◌+ℤ◌, ◌+◌, false, List, [], ◌∷◌, ◌++◌, drop, length, map, slice_get, Some, option_map, unwrap_or}
 use Rattle.vx_bits.specs.declared.list.Item.{Item}
 use Rattle.vx_fields.specs.declared.ph.TheConstants as ph
 use Rattle.vx_fields.specs.declared.pps.TheConstants as pps

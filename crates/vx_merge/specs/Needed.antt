@@ -8,7 +8,6 @@ use Rattle.vx_pic.specs.Resident.{same_bytes}
 use Rattle.vx_pic.specs.Written.{Set, an_sps, a_pps, an_aps, SetUnit}
 use Rattle.vx_write.specs.Slots.{pps_with_id}
 use Rattle.vx_merge.specs.Bodies.{filters_in, has_lmcs, has_scaling, lmcs_body, once, scaling_body}
-use Rattle.vx_merge.specs.Rounds.{picture_at}
 use Rattle.vx_merge.specs.Shapes.{of_lowest}
 use Rattle.vx_merge.specs.Slots.{TakeSlots, alf_slots, lmcs_slots, pps_slots, scaling_slots}
 

@@ -30,6 +30,7 @@ use Rattle.vx_merge.specs.Bodies.{filters_in, has_lmcs, has_scaling, is_chroma_s
 use Rattle.vx_merge.specs.Collocated.{collocated}
 use Rattle.vx_merge.specs.Regions.{corners_in, ctb_of, layout_of, layouts_in, placed_in}
 use Rattle.vx_merge.specs.Rounds.{SomeUnlikeFirst, UnlikeFirst, UnlikeLowest, picture_at}
+use Rattle.vx_merge.specs.Slots.{alf_slots}
 use Rattle.vx_merge.specs.Verdict.{Rule, IsVerdict}
 
 -- ---- what is told of a broken rule
@@ -162,12 +163,9 @@ abbrev pub output_of_prior : List Parts → Rule
 output_of_prior round = of_source rules.OUTPUT_OF_PRIOR (SomeUnlikeFirst outputs_of round)
 
 -- M12: with it and those before it there are more bodies of adaptive loop filters than ids.
-abbrev pub most_filters : ℕ
-most_filters = 8
-
 abbrev pub too_many_filters : List Parts → Rule
 too_many_filters round =
-    of_source rules.TOO_MANY_ALF (λ k. most_filters < length (once (flat_map filters_in (take (k + 1) round))))
+    of_source rules.TOO_MANY_ALF (λ k. alf_slots < length (once (flat_map filters_in (take (k + 1) round))))
 
 -- M13: it has several tiles, or several slices, and in-loop filters cross their borders otherwise than in the lowest source with several.
 abbrev pub has_tiles : Parts → Bool

@@ -6,6 +6,7 @@ pub mod Fronts
 pub mod Joined
 pub mod Known
 pub mod Making
+pub mod Progress
 pub mod Ready
 pub mod Sending
 pub mod Settled

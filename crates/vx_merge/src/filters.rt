@@ -5,6 +5,7 @@ ghost use Rattle.vx_fit.specs.Lowest.{IsLowestAnswer};
 ghost use Rattle.vx_pic.specs.Resident as resident;
 ghost use Rattle.vx_merge.specs.Bodies as words;
 ghost use Rattle.vx_merge.specs.Rules as rules;
+ghost use Rattle.vx_merge.specs.Slots.{alf_slots};
 ghost use Rattle.vx_merge.specs.inner.Found.{Finds, piece_at};
 
 use crate::told::of_source;
@@ -100,8 +101,8 @@ pub(crate) fn add_picture<'a>(
 
 /// Whether there are more of these than ids.
 fn are_too_many(bodies: &BodyList<'_>) -> bool
-    ensures many { OnTrue result (rules.most_filters < length bodies.now) }
-    ensures few { OnFalse result (¬ (rules.most_filters < length bodies.now)) }
+    ensures many { OnTrue result (alf_slots < length bodies.now) }
+    ensures few { OnFalse result (¬ (alf_slots < length bodies.now)) }
 {
     MOST_FILTERS < bodies.len()
 }

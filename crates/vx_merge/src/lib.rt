@@ -24,6 +24,7 @@ mod merger;
 mod needed;
 mod output;
 mod picture_header;
+mod progress;
 mod round;
 mod send;
 mod sets;
@@ -31,8 +32,6 @@ mod settled;
 mod shapes;
 mod slice_shape;
 mod slices;
-#[cfg(test)]
-mod tests;
 mod told;
 mod verdict;
 

@@ -1,16 +1,13 @@
 //! Round after round of pictures that are put together.
-ghost use Rattle.std.specs.Prelude.{◌≡◌, All, List, None, length, map, IfOk, IfSome};
-ghost use Rattle.vx_annexb.specs.Laws.{written};
-ghost use Rattle.vx_pic.specs.Resident.{history_of, units_written};
+ghost use Rattle.std.specs.Prelude.{◌≡◌, All, List, length, map, IfOk, OnOk};
 ghost use Rattle.vx_pic.specs.Written.{Plan};
-ghost use Rattle.vx_write.specs.Slots.{AreLastOf};
-ghost use Rattle.vx_merge.specs.Merging.{AreCorners, Checks, Writes};
-ghost use Rattle.vx_merge.specs.inner.Found.{HasHistory};
-ghost use Rattle.vx_merge.specs.inner.Settled.{IsSettled};
+ghost use Rattle.vx_merge.specs.Merging.{AreCorners, Checks, Stands, Writes};
+ghost use Rattle.vx_merge.specs.inner.Progress.{IsProgress, merging_of};
 
 use crate::corner::Corner;
-use crate::round::{check_round, write_round};
-use crate::settled::Settled;
+use crate::output::write_made;
+use crate::progress::Progress;
+use crate::round::counted;
 use std::alloc::{AllocError, Global};
 use std::marker::Model;
 use vx_io::Sink;
@@ -26,23 +23,20 @@ pub struct Merger {
     alloc: Global,
     corners: Vec<Corner>,
     level: Option<u8>,
-    settled: Option<Settled>,
-    slots: Slots,
-    bytes: u64,
+    progress: Progress,
     first: Option<WriteFirst>,
 }
 
 impl Model for Merger {
-    ghost use Rattle.std.specs.Prelude.{IfSome};
+    ghost use Rattle.std.specs.Prelude.{◌≡◌, None};
     ghost use Rattle.vx_merge.specs.Merging.{Merging, AreCorners};
-    ghost use Rattle.vx_merge.specs.inner.Found.{HasHistory};
-    ghost use Rattle.vx_merge.specs.inner.Settled.{IsSettled};
+    ghost use Rattle.vx_merge.specs.inner.Progress.{IsProgress};
 
     ghost Value = { Merging };
 
-    ghost view = { λ m. record { corners = m.corners.items; level = m.level; slots = m.slots; bytes = m.bytes; first = m.first } };
+    ghost view = { λ m. record { corners = m.corners.items; level = m.level; slots = m.progress.slots; bytes = m.progress.bytes; first = m.first } };
 
-    ghost invariant = { λ m. AreCorners m.corners.items × HasHistory m.slots × IfSome m.settled (IsSettled m.corners.items m.level) };
+    ghost invariant = { λ m. AreCorners m.corners.items × (m.first ≡ None → IsProgress m.corners.items m.level m.progress) };
 }
 
 /// The pictures that are lent.
@@ -61,71 +55,49 @@ fn lent<L: Lender>(alloc: Global, lenders: &[L]) -> Result<Vec<Picture<'_>>, All
     Ok(round)
 }
 
-/// Checks a round of lenders, behind so many bytes and the sets that were sent, and counts it as written.
+/// Checks a round of lenders, and counts it as written.
 fn check_lent<L: Lender>(
     alloc: Global,
     corners: &[Corner],
     level: Option<u8>,
-    settled: &mut Option<Settled>,
-    slots: &mut Slots,
-    bytes: &mut u64,
+    progress: &mut Progress,
     lenders: &[L],
 ) -> Result<(), WriteError>
     requires corners { AreCorners corners.now }
     requires count { length lenders.now ≡ length corners.now }
     requires holds { All L.holds lenders.now }
-    requires settled { IfSome settled.old (IsSettled corners.now level) }
-    requires slots { HasHistory slots.old }
-    ensures settled { IfSome settled.new (IsSettled corners.now level) }
-    ensures kept { HasHistory slots.new }
-    ensures answer { (done : List Plan) → AreLastOf (history_of done) slots.old → bytes.old ≡ length (written (units_written done))
-        → Checks (map L.lent lenders.now) done (record { corners = corners.now; level = level; slots = slots.new; bytes = bytes.new; first = None }) result }
+    requires progress { IsProgress corners.now level progress.old }
+    ensures progress { OnOk result (IsProgress corners.now level progress.new) }
+    ensures answer { (done : List Plan) → Stands (merging_of corners.now level progress.old) done
+        → Checks (map L.lent lenders.now) done (merging_of corners.now level progress.new) result }
 {
-    let made = lent(alloc, lenders)?;
-    check_round(
-        alloc,
-        corners,
-        level,
-        settled,
-        slots,
-        bytes,
-        made.as_slice(),
-    )
+    let round = lent(alloc, lenders)?;
+    let _made = counted(alloc, corners, level, progress, round.as_slice())?;
+    Ok(())
 }
 
-/// Writes a round of lenders, behind so many bytes and the sets that were sent.
+/// Writes a round of lenders.
 fn write_lent<L: Lender, K: Sink>(
     alloc: Global,
     corners: &[Corner],
     level: Option<u8>,
-    settled: &mut Option<Settled>,
-    slots: &mut Slots,
-    bytes: &mut u64,
+    progress: &mut Progress,
     lenders: &[L],
     out: &mut K,
 ) -> Result<(), WriteError>
     requires corners { AreCorners corners.now }
     requires count { length lenders.now ≡ length corners.now }
     requires holds { All L.holds lenders.now }
-    requires settled { IfSome settled.old (IsSettled corners.now level) }
-    requires slots { HasHistory slots.old }
-    ensures settled { IfSome settled.new (IsSettled corners.now level) }
-    ensures kept { HasHistory slots.new }
-    ensures answer { (done : List Plan) → AreLastOf (history_of done) slots.old → bytes.old ≡ length (written (units_written done))
-        → Writes (map L.lent lenders.now) done (record { corners = corners.now; level = level; slots = slots.new; bytes = bytes.new; first = None })
+    requires progress { IsProgress corners.now level progress.old }
+    ensures progress { OnOk result (IsProgress corners.now level progress.new) }
+    ensures answer { (done : List Plan) → Stands (merging_of corners.now level progress.old) done
+        → Writes (map L.lent lenders.now) done (merging_of corners.now level progress.new)
         (K.bytes_taken out.old) (K.bytes_taken out.new) (K.write_faults out.old) (K.write_faults out.new) result }
 {
-    let made = lent(alloc, lenders)?;
-    write_round(
-        alloc,
-        corners,
-        level,
-        settled,
-        slots,
-        bytes,
-        made.as_slice(),
-        out,
-    )
+    let round = lent(alloc, lenders)?;
+    let made = counted(alloc, corners, level, progress, round.as_slice())?;
+    write_made(out, &made)?;
+    Ok(())
 }
 
 impl Merger {
@@ -152,9 +124,11 @@ impl Merger {
             alloc,
             corners: own,
             level,
-            settled: None,
-            slots: Slots::new(alloc),
-            bytes: 0,
+            progress: Progress {
+                settled: None,
+                slots: Slots::new(alloc),
+                bytes: 0,
+            },
             first: None,
         })
     }
@@ -178,8 +152,8 @@ impl Merger {
             return Err(WriteError::Stopped(first));
         }
         let (alloc, level) = (self.alloc, self.level);
-        let (settled, slots, bytes) = (&mut self.settled, &mut self.slots, &mut self.bytes);
-        match check_lent(alloc, &self.corners, level, settled, slots, bytes, lenders) {
+        let progress = &mut self.progress;
+        match check_lent(alloc, &self.corners, level, progress, lenders) {
             Ok(()) => Ok(()),
             Err(error) => {
                 self.first = Some(first_of(error));
@@ -212,17 +186,8 @@ impl Merger {
             return Err(WriteError::Stopped(first));
         }
         let (alloc, level) = (self.alloc, self.level);
-        let (settled, slots, bytes) = (&mut self.settled, &mut self.slots, &mut self.bytes);
-        match write_lent(
-            alloc,
-            &self.corners,
-            level,
-            settled,
-            slots,
-            bytes,
-            lenders,
-            out,
-        ) {
+        let progress = &mut self.progress;
+        match write_lent(alloc, &self.corners, level, progress, lenders, out) {
             Ok(()) => Ok(()),
             Err(failure) => {
                 self.first = Some(first_of(failure));

@@ -1,5 +1,5 @@
 //! The sets that a round needs.
-ghost use Rattle.std.specs.Prelude.{◌≡◌, ℕ, ◌<◌, ◌≤◌, ◌∷◌, [], List, Option, None, length, map, option_copied, option_to_list, unwrap_or, IfOk};
+ghost use Rattle.std.specs.Prelude.{◌≡◌, ℕ, ◌<◌, ◌≤◌, ◌∷◌, [], List, Option, None, length, map, option_copied, option_to_list, IfOk};
 ghost use Rattle.std.specs.List.{AllByRecursion};
 ghost use Rattle.vx_aps.specs.declared.aps.TheConstants as types;
 ghost use Rattle.vx_fit.specs.Lowest.{IsLowestAnswer};
@@ -18,10 +18,9 @@ ghost use Rattle.vx_merge.specs.inner.Sending.{AreNamed, CanBeSent, HasEnds};
 ghost use Rattle.vx_merge.specs.inner.Taking.{IsEmptyPps, IsHeldAs};
 
 use crate::filters::add_picture;
-use crate::frame_sets::frame_pps;
 use crate::headers::{has_lmcs, has_scaling, lmcs_body, scaling_body};
 use crate::ids::{Search, take_ids};
-use crate::settled::Settled;
+use crate::settled::{Settled, pps_under};
 use std::alloc::{AllocError, Global};
 use vx_aps::{ALF, LMCS, SCALING};
 use vx_bits::BodyList;
@@ -252,41 +251,9 @@ pub(crate) fn taken_pps_id(slots: &Slots, temporal_id: u8, pps: &Pps) -> u8
     }
 }
 
-/// The PPS with the id that it takes, made anew; none where that is 0, the id that it has.
-///
-/// # Errors
-///
-/// Want of memory.
-pub(crate) fn renamed(
-    alloc: Global,
-    round: &[Picture<'_>],
-    settled: &Settled,
-    id: u8,
-) -> Result<Option<Pps>, AllocError>
-    requires settled { IsSomeUsed round.now settled.now }
-    requires id { id < 64 }
-    ensures { IfOk result (λ other. HasPps round.now settled.now id (unwrap_or other settled.now.plain)) }
-{
-    if id == 0 {
-        return Ok(None);
-    }
-    let pps = frame_pps(alloc, round, &settled.frame, id)?;
-    Ok(Some(pps))
-}
-
-/// The PPS that was made anew, or else the one with the id 0.
-pub(crate) fn pps_among<'a>(plain: &'a Pps, other: &'a Option<Pps>) -> &'a Pps
-    ensures { result.now ≡ unwrap_or other.now plain.now }
-{
-    match other {
-        Some(pps) => pps,
-        None => plain,
-    }
-}
-
 // ---- all
 
-/// The sets that a round needs, with the ids that they take behind the sets that were sent: the PPS is there with its id.
+/// The sets that a round needs, with the ids that they take behind the sets that were sent.
 ///
 /// # Errors
 ///
@@ -295,12 +262,11 @@ pub(crate) fn needed<'s, 'a>(
     alloc: Global,
     round: &[Picture<'a>],
     settled: &'s Settled,
-    pps: &'s Pps,
     pps_id: u8,
     slots: &Slots,
 ) -> Result<RoundSets<'s, 'a>, AllocError>
     requires settled { IsSomeUsed round.now settled.now }
-    requires pps { HasPps round.now settled.now pps_id pps.now }
+    requires pps { HasPps round.now pps_id settled.now }
     requires low { pps_id < pps_slots }
     requires taken { (sent : List SetUnit) → AreLastOf sent slots.now
         → TakeSlots pps_slots 1 (picture_at round.now 0).kind.temporal_id sent (λ k id. a_pps (pps_with_id id settled.now.plain)) (pps_id ∷ []) }
@@ -315,7 +281,7 @@ pub(crate) fn needed<'s, 'a>(
     let scaling = named_scaling(alloc, slots, temporal_id, round)?;
     Ok(RoundSets {
         sps: &settled.sps,
-        pps,
+        pps: pps_under(settled, pps_id),
         pps_id,
         alf,
         lmcs,

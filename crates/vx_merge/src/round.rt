@@ -1,31 +1,32 @@
 //! A round that is put together as one picture, and written.
-ghost use Rattle.std.specs.Prelude.{◌≡◌, ℕ, ◌<◌, ◌++◌, List, Option, None, length, map, flat_map, option_map, IfOk, IfSome, OnOk};
-ghost use Rattle.vx_pic.specs.Resident.{history_of, units_written};
-ghost use Rattle.vx_pic.specs.Written.{Plan, SetUnit};
-ghost use Rattle.vx_annexb.specs.Laws.{written};
-ghost use Rattle.vx_write.specs.Slots.{AreLastOf};
+ghost use Rattle.std.specs.Prelude.{◌≡◌, ℕ, ◌<◌, ◌∷◌, [], ◌++◌, List, Option, None, length, map, flat_map, option_map, IfOk, IfSome, OnOk};
+ghost use Rattle.vx_pic.specs.Resident.{kept_for as sets_kept_for};
+ghost use Rattle.vx_pic.specs.Written.{Plan, SetUnit, a_pps};
+ghost use Rattle.vx_write.specs.Slots.{AreLastOf, pps_with_id};
 ghost use Rattle.vx_write.specs.Units.{IsSeiUnit};
 ghost use Rattle.vx_merge.specs.declared.corner.Corner.{Corner};
-ghost use Rattle.vx_merge.specs.Merging.{AreCorners, Checks, Writes};
+ghost use Rattle.vx_merge.specs.Merging.{AreCorners, Stands};
 ghost use Rattle.vx_merge.specs.Rounds.{picture_at};
+ghost use Rattle.vx_merge.specs.Slots.{TakeSlots, pps_slots};
 ghost use Rattle.vx_merge.specs.inner.Found.{HasHistory};
 ghost use Rattle.vx_merge.specs.inner.Making.{AreHeaders, HasPayloads, IsMade, payload_of, payloads_in};
 ghost use Rattle.vx_merge.specs.inner.Counting.{Counts};
+ghost use Rattle.vx_merge.specs.inner.Progress.{IsProgress, merging_of};
 ghost use Rattle.vx_merge.specs.inner.Ready.{IsReadyAt};
-ghost use Rattle.vx_merge.specs.inner.Settled.{IsSettled, IsSomeUsed, IsUsedFor};
+ghost use Rattle.vx_merge.specs.inner.Settled.{HasPps, IsSomeUsed, IsUsedFor, ServesAs};
 
 use crate::corner::Corner;
 use crate::fronts::slice_fronts;
 use crate::limits::bytes_within;
-use crate::needed::{RoundSets, needed, pps_among, renamed, taken_pps_id};
-use crate::output::{Made, write_made};
+use crate::needed::{RoundSets, needed, taken_pps_id};
+use crate::output::Made;
 use crate::picture_header::{header_unit, picture_header};
+use crate::progress::Progress;
 use crate::send::send_needed;
-use crate::settled::{Settled, kept_for, settle};
+use crate::settled::{Settled, kept_for, settle, with_pps};
 use crate::verdict::verdict;
 use std::alloc::{AllocError, Global};
 use vx_bits::BodyList;
-use vx_io::Sink;
 use vx_layout::Layout;
 use vx_pic::{Kind, Picture, picture_ids};
 use vx_write::{Slots, WriteError, forget_before, sei_unit};
@@ -111,25 +112,27 @@ fn header_units(
 
 // ---- all of it
 
-/// Makes all that is written of a round that breaks no rule.
+/// Makes all that is written of a round that breaks no rule, with its PPS under the id that it takes.
 fn make<'a>(
     alloc: Global,
     settled: &Settled,
+    pps_id: u8,
     slots: &mut Slots,
     round: &[Picture<'a>],
 ) -> Result<Made<'a>, AllocError>
     requires settled { IsSomeUsed round.now settled.now }
+    requires pps { HasPps round.now pps_id settled.now }
+    requires low { pps_id < pps_slots }
+    requires taken { (sent : List SetUnit) → AreLastOf sent slots.old
+        → TakeSlots pps_slots 1 (picture_at round.now 0).kind.temporal_id sent (λ k id. a_pps (pps_with_id id settled.now.plain)) (pps_id ∷ []) }
     requires slots { HasHistory slots.old }
     ensures payloads { IfOk result HasPayloads }
-    ensures made { (corners : List Corner) (level : Option ℕ) (history : List SetUnit) → IsUsedFor corners level round.now settled.now → AreLastOf history slots.old
+    ensures made { (corners : List Corner) (level : Option ℕ) (history : List SetUnit) → IsUsedFor corners level round.now settled.now
+        → AreLastOf (sets_kept_for (picture_at round.now 0).kind.nal_type history) slots.old
         → IfOk result (λ made. IsMade corners level round.now history made slots.new) }
 {
     let kind = kind_of(round);
-    forget_before(slots, kind.nal_type);
-    let pps_id = taken_pps_id(slots, kind.temporal_id, &settled.plain);
-    let other = renamed(alloc, round, settled, pps_id)?;
-    let pps = pps_among(&settled.plain, &other);
-    let needed = needed(alloc, round, settled, pps, pps_id, slots)?;
+    let needed = needed(alloc, round, settled, pps_id, slots)?;
     let units = header_units(alloc, round, &needed, &settled.layout)?;
     let sets = send_needed(alloc, slots, &needed, kind.temporal_id)?;
     let sei = messages_unit(alloc, round)?;
@@ -144,146 +147,62 @@ fn make<'a>(
     })
 }
 
-/// Makes all that is written of a round, behind so many bytes, and counts it as written.
-fn counted<'a>(
+/// Makes all that is written of a round that breaks no rule, and keeps what was made of its sets alone.
+fn make_next<'a>(
+    alloc: Global,
+    own: Settled,
+    progress: &mut Progress,
+    round: &[Picture<'a>],
+) -> Result<Made<'a>, AllocError>
+    requires used { IsSomeUsed round.now own }
+    requires slots { HasHistory progress.old.slots }
+    ensures settled { OnOk result (IfSome progress.new.settled (ServesAs round.now own)) }
+    ensures bytes { progress.new.bytes ≡ progress.old.bytes }
+    ensures payloads { IfOk result HasPayloads }
+    ensures made { (corners : List Corner) (level : Option ℕ) (history : List SetUnit) → IsUsedFor corners level round.now own → AreLastOf history progress.old.slots
+        → IfOk result (λ made. IsMade corners level round.now history made progress.new.slots) }
+{
+    let kind = kind_of(round);
+    forget_before(&mut progress.slots, kind.nal_type);
+    let pps_id = taken_pps_id(&progress.slots, kind.temporal_id, &own.plain);
+    let settled = with_pps(alloc, own, round, pps_id)?;
+    let made = make(alloc, &settled, pps_id, &mut progress.slots, round)?;
+    progress.settled = Some(settled);
+    Ok(made)
+}
+
+/// Makes all that is written of a round, and counts it as written.
+///
+/// # Errors
+///
+/// The first rule that the round breaks, or else the first limit that what would be written of it passes, or want of memory.
+pub(crate) fn counted<'a>(
     alloc: Global,
     corners: &[Corner],
     level: Option<u8>,
-    settled: &mut Option<Settled>,
-    slots: &mut Slots,
-    bytes: &mut u64,
+    progress: &mut Progress,
     round: &[Picture<'a>],
 ) -> Result<Made<'a>, WriteError>
     requires corners { AreCorners corners.now }
     requires same { length corners.now ≡ length round.now }
-    requires settled { IfSome settled.old (IsSettled corners.now level) }
-    requires slots { HasHistory slots.old }
-    ensures settled { IfSome settled.new (IsSettled corners.now level) }
-    ensures kept { OnOk result (HasHistory slots.new) }
+    requires progress { IsProgress corners.now level progress.old }
+    ensures progress { OnOk result (IsProgress corners.now level progress.new) }
     ensures payloads { IfOk result HasPayloads }
-    ensures answer { (done : List Plan) → AreLastOf (history_of done) slots.old → bytes.old ≡ length (written (units_written done))
-        → Counts round.now done (record { corners = corners.now; level = level; slots = slots.new; bytes = bytes.new; first = None }) result }
+    ensures answer { (done : List Plan) → Stands (merging_of corners.now level progress.old) done
+        → Counts round.now done (merging_of corners.now level progress.new) result }
 {
-    let known = kept_for(settled.take(), round);
+    let known = kept_for(progress.settled.take(), round);
     let found = verdict(alloc, corners, round, known.is_some())?;
     if let Some(refusal) = found {
         return Err(WriteError::Refused(refusal));
     }
     let own = settle(alloc, corners, level, known, round)?;
-    let made = make(alloc, &own, slots, round)?;
-    match bytes_within(&made, *bytes) {
+    let made = make_next(alloc, own, progress, round)?;
+    match bytes_within(&made, progress.bytes) {
         Ok(total) => {
-            *bytes = total;
-            *settled = Some(own);
+            progress.bytes = total;
             Ok(made)
         }
         Err(refusal) => Err(WriteError::Refused(refusal)),
-    }
-}
-
-/// Checks a round, behind so many bytes, and counts it as written.
-fn check(
-    alloc: Global,
-    corners: &[Corner],
-    level: Option<u8>,
-    settled: &mut Option<Settled>,
-    slots: &mut Slots,
-    bytes: &mut u64,
-    round: &[Picture<'_>],
-) -> Result<(), WriteError>
-    requires corners { AreCorners corners.now }
-    requires same { length corners.now ≡ length round.now }
-    requires settled { IfSome settled.old (IsSettled corners.now level) }
-    requires slots { HasHistory slots.old }
-    ensures settled { IfSome settled.new (IsSettled corners.now level) }
-    ensures kept { OnOk result (HasHistory slots.new) }
-    ensures answer { (done : List Plan) → AreLastOf (history_of done) slots.old → bytes.old ≡ length (written (units_written done))
-        → Checks round.now done (record { corners = corners.now; level = level; slots = slots.new; bytes = bytes.new; first = None }) result }
-{
-    let _made = counted(alloc, corners, level, settled, slots, bytes, round)?;
-    Ok(())
-}
-
-/// Checks a round, behind so many bytes and the sets that were sent, and counts it as written. After an error none counts as sent.
-pub(crate) fn check_round(
-    alloc: Global,
-    corners: &[Corner],
-    level: Option<u8>,
-    settled: &mut Option<Settled>,
-    slots: &mut Slots,
-    bytes: &mut u64,
-    round: &[Picture<'_>],
-) -> Result<(), WriteError>
-    requires corners { AreCorners corners.now }
-    requires same { length corners.now ≡ length round.now }
-    requires settled { IfSome settled.old (IsSettled corners.now level) }
-    requires slots { HasHistory slots.old }
-    ensures settled { IfSome settled.new (IsSettled corners.now level) }
-    ensures kept { HasHistory slots.new }
-    ensures answer { (done : List Plan) → AreLastOf (history_of done) slots.old → bytes.old ≡ length (written (units_written done))
-        → Checks round.now done (record { corners = corners.now; level = level; slots = slots.new; bytes = bytes.new; first = None }) result }
-{
-    match check(alloc, corners, level, settled, slots, bytes, round) {
-        Ok(()) => Ok(()),
-        Err(error) => {
-            slots.clear();
-            Err(error)
-        }
-    }
-}
-
-/// Writes a round, behind so many bytes.
-fn write<K: Sink>(
-    alloc: Global,
-    corners: &[Corner],
-    level: Option<u8>,
-    settled: &mut Option<Settled>,
-    slots: &mut Slots,
-    bytes: &mut u64,
-    round: &[Picture<'_>],
-    out: &mut K,
-) -> Result<(), WriteError>
-    requires corners { AreCorners corners.now }
-    requires same { length corners.now ≡ length round.now }
-    requires settled { IfSome settled.old (IsSettled corners.now level) }
-    requires slots { HasHistory slots.old }
-    ensures settled { IfSome settled.new (IsSettled corners.now level) }
-    ensures kept { OnOk result (HasHistory slots.new) }
-    ensures answer { (done : List Plan) → AreLastOf (history_of done) slots.old → bytes.old ≡ length (written (units_written done))
-        → Writes round.now done (record { corners = corners.now; level = level; slots = slots.new; bytes = bytes.new; first = None })
-        (K.bytes_taken out.old) (K.bytes_taken out.new) (K.write_faults out.old) (K.write_faults out.new) result }
-{
-    let made = counted(alloc, corners, level, settled, slots, bytes, round)?;
-    write_made(out, &made)?;
-    Ok(())
-}
-
-/// Writes a round, behind so many bytes and the sets that were sent. After an error none counts as sent.
-pub(crate) fn write_round<K: Sink>(
-    alloc: Global,
-    corners: &[Corner],
-    level: Option<u8>,
-    settled: &mut Option<Settled>,
-    slots: &mut Slots,
-    bytes: &mut u64,
-    round: &[Picture<'_>],
-    out: &mut K,
-) -> Result<(), WriteError>
-    requires corners { AreCorners corners.now }
-    requires same { length corners.now ≡ length round.now }
-    requires settled { IfSome settled.old (IsSettled corners.now level) }
-    requires slots { HasHistory slots.old }
-    ensures settled { IfSome settled.new (IsSettled corners.now level) }
-    ensures kept { HasHistory slots.new }
-    ensures answer { (done : List Plan) → AreLastOf (history_of done) slots.old → bytes.old ≡ length (written (units_written done))
-        → Writes round.now done (record { corners = corners.now; level = level; slots = slots.new; bytes = bytes.new; first = None })
-        (K.bytes_taken out.old) (K.bytes_taken out.new) (K.write_faults out.old) (K.write_faults out.new) result }
-{
-    match write(alloc, corners, level, settled, slots, bytes, round, out) {
-        Ok(()) => Ok(()),
-        Err(error) => {
-            slots.clear();
-            Err(error)
-        }
     }
 }

@@ -1,5 +1,5 @@
 //! What is made of the sets of a round alone, and kept for rounds with the same sets.
-ghost use Rattle.std.specs.Prelude.{◌≡◌, length, map, None, Some, IfOk, IfSome};
+ghost use Rattle.std.specs.Prelude.{◌≡◌, ◌<◌, length, map, None, Some, IfOk, IfSome};
 ghost use Rattle.std.specs.Bool.{OnTrue};
 ghost use Rattle.vx_layout.specs.Faults.{IsInLimits, IsLayout};
 ghost use Rattle.vx_merge.specs.Merging.{AreCorners};
@@ -7,7 +7,7 @@ ghost use Rattle.vx_merge.specs.Rules.{rules_of};
 ghost use Rattle.vx_merge.specs.Verdict.{IsVerdict};
 ghost use Rattle.vx_merge.specs.inner.Joined.{CanBeJoined};
 ghost use Rattle.vx_merge.specs.inner.Settled as words;
-ghost use Rattle.vx_merge.specs.inner.Settled.{AreSetsOf, HasSetsOf, IsSettled, IsSettledFor, IsUsedFor};
+ghost use Rattle.vx_merge.specs.inner.Settled.{AreSetsOf, HasPps, HasSetsOf, IsSettled, IsSettledFor, IsSomeUsed, IsUsedFor, ServesAs};
 
 use crate::corner::Corner;
 use crate::facts::facts;
@@ -30,6 +30,15 @@ pub(crate) struct SourceSets {
     pub(crate) pps: Fields,
 }
 
+/// The frame's PPS with another id than 0.
+#[derive(Drop)]
+pub(crate) struct RenamedPps {
+    /// Its id.
+    pub(crate) id: u8,
+    /// The PPS.
+    pub(crate) pps: Pps,
+}
+
 /// What is made of the sets of a round alone.
 #[derive(Drop)]
 pub(crate) struct Settled {
@@ -43,6 +52,8 @@ pub(crate) struct Settled {
     pub(crate) sps: Sps,
     /// Its PPS with the id 0.
     pub(crate) plain: Pps,
+    /// Its PPS with the last other id that it took.
+    pub(crate) renamed: Option<RenamedPps>,
 }
 
 // ---- the sets of a round
@@ -146,6 +157,7 @@ fn made_of(
         layout,
         sps,
         plain,
+        renamed: None,
     })
 }
 
@@ -176,5 +188,54 @@ pub(crate) fn settle(
             let own = made_of(alloc, corners, level, round)?;
             Ok(own)
         }
+    }
+}
+
+// ---- its PPS under an id
+
+/// Whether this is the PPS with an id.
+fn is_renamed(renamed: &Option<RenamedPps>, id: u8) -> bool
+    ensures { result ≡ words.is_renamed renamed.now id }
+{
+    match renamed {
+        Some(renamed) => renamed.id == id,
+        None => false,
+    }
+}
+
+/// The same with its PPS under an id, made anew unless it is there.
+///
+/// # Errors
+///
+/// Want of memory.
+pub(crate) fn with_pps(
+    alloc: Global,
+    mut own: Settled,
+    round: &[Picture<'_>],
+    id: u8,
+) -> Result<Settled, AllocError>
+    requires used { IsSomeUsed round.now own }
+    requires id { id < 64 }
+    ensures same { IfOk result (ServesAs round.now own) }
+    ensures pps { IfOk result (HasPps round.now id) }
+{
+    if id == 0 || is_renamed(&own.renamed, id) {
+        return Ok(own);
+    }
+    let pps = frame_pps(alloc, round, &own.frame, id)?;
+    own.renamed = Some(RenamedPps { id, pps });
+    Ok(own)
+}
+
+/// Its PPS under an id that it has.
+pub(crate) fn pps_under(settled: &Settled, id: u8) -> &Pps
+    ensures { result.now ≡ words.pps_under settled.now id }
+{
+    if id == 0 {
+        return &settled.plain;
+    }
+    match &settled.renamed {
+        Some(renamed) => &renamed.pps,
+        None => &settled.plain,
     }
 }

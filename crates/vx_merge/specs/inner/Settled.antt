@@ -1,11 +1,13 @@
 -- What is kept of a round whose sets others have too.
-use Rattle.std.specs.Prelude.{◌≡◌, ℕ, List, length, map, Option, None}
+use Rattle.std.specs.Prelude.{◌≡◌, ℕ, ◌==◌, Bool, false, cond, List, length, map, Option, Some, None, IfSome}
 use Rattle.vx_bits.specs.declared.list.Item.{Item}
+use Rattle.vx_layout.specs.declared.numbers.Numbers.{Numbers}
 use Rattle.vx_sps.specs.Reshaped as sps_reshaped
 use Rattle.vx_pps.specs.Reshaped as pps_reshaped
 use Rattle.vx_pic.specs.Parts.{Parts}
 use Rattle.vx_pic.specs.PictureLayout.{numbers_in}
 use Rattle.vx_merge.specs.declared.corner.Corner.{Corner}
+use Rattle.vx_merge.specs.declared.settled.RenamedPps.{RenamedPps}
 use Rattle.vx_merge.specs.declared.settled.Settled.{Settled}
 use Rattle.vx_merge.specs.declared.settled.SourceSets.{SourceSets}
 use Rattle.vx_merge.specs.Merging.{AreCorners}
@@ -38,13 +40,18 @@ HasSetsOf round s = AreSetsOf round s.sources.items
 
 -- ---- what is made of them
 
--- The frame, its layout, its SPS, and its PPS with the id 0 are those of a round.
+-- a PPS with an id for the frame of a round
+abbrev pub IsPpsFor : List Corner → List Parts → Numbers → ℕ → List Item → Type 0
+IsPpsFor corners round frame id items = pps_reshaped.IsReshaped (picture_at round 0).pps (pps_shape corners round frame id) items
+
+-- The frame, its layout, its SPS, its PPS with the id 0, and the one with another id, where there is one, are those of a round.
 pub record IsSettledFor (corners : List Corner) (level : Option ℕ) (round : List Parts) (s : Settled) : Type 0 where
   pub frame : IsFrameOf corners round s.frame
   pub made : MakeFrame corners round s.frame.numbers
   pub layout : s.layout ≡ s.frame.numbers
   pub sps : sps_reshaped.IsReshaped (picture_at round 0).sps (sps_shape corners round level) s.sps
-  pub plain : pps_reshaped.IsReshaped (picture_at round 0).pps (pps_shape corners round s.frame.numbers 0) s.plain
+  pub plain : IsPpsFor corners round s.frame.numbers 0 s.plain
+  pub renamed : IfSome s.renamed (λ r. IsPpsFor corners round s.frame.numbers r.id r.pps)
 
 -- And this breaks no rule.
 pub record IsUsedFor (corners : List Corner) (level : Option ℕ) (round : List Parts) (s : Settled) : Type 0 where
@@ -57,10 +64,29 @@ pub record IsUsedFor (corners : List Corner) (level : Option ℕ) (round : List 
 abbrev pub IsSomeUsed : List Parts → Settled → Type 0
 IsSomeUsed round s = (corners : List Corner) × ((level : Option ℕ) × IsUsedFor corners level round s)
 
--- Its PPS with an id
-abbrev pub HasPps : List Parts → Settled → ℕ → List Item → Type 0
-HasPps round s id items = (corners : List Corner) (level : Option ℕ) → IsUsedFor corners level round s
-    → pps_reshaped.IsReshaped (picture_at round 0).pps (pps_shape corners round s.frame.numbers id) items
+-- Another serves for the round as it does, and was made of the same sets.
+pub record ServesAs (round : List Parts) (s other : Settled) : Type 0 where
+  pub sources : other.sources ≡ s.sources
+  pub plain : other.plain ≡ s.plain
+  pub used : (corners : List Corner) (level : Option ℕ) → IsUsedFor corners level round s → IsUsedFor corners level round other
+
+-- ---- its PPS under an id
+
+-- the one with another id than 0 has this id
+abbrev pub is_renamed : Option RenamedPps → ℕ → Bool
+is_renamed None id = false
+is_renamed (Some r) id = r.id == id
+
+abbrev pub renamed_or : List Item → Option RenamedPps → List Item
+renamed_or plain None = plain
+renamed_or plain (Some r) = r.pps
+
+abbrev pub pps_under : Settled → ℕ → List Item
+pps_under s id = cond (id == 0) s.plain (renamed_or s.plain s.renamed)
+
+-- the PPS with this id is there
+abbrev pub HasPps : List Parts → ℕ → Settled → Type 0
+HasPps round id s = (corners : List Corner) (level : Option ℕ) → IsUsedFor corners level round s → IsPpsFor corners round s.frame.numbers id (pps_under s id)
 
 -- ---- what is kept of a round
 

@@ -39,7 +39,7 @@ returns-clause-needed c = λ corners level sent used last.
       sps = used.is.sps;
       plain = plain;
       plain_is = used.is.plain;
-      pps = c.requires.pps corners level used;
+      pps = rw c.pps_under.ensures (c.requires.pps corners level used);
       pps_id = c.requires.low;
       alf = c.in_ok-alf.ensures.are;
       lmcs = c.in_ok-lmcs.ensures.are;
@@ -58,7 +58,7 @@ returns-clause-can c =
     let ends = λ (bodies : List (List ℕ)). AllByRecursion CanEnd bodies in
     record {
       sps = sps_items first.sps (sps_shape corners round level) settled.sps used.is.sps;
-      pps = pps_items first.pps (pps_shape corners round settled.frame.numbers c.args.pps_id) c.args.pps.now (c.requires.pps corners level used);
+      pps = pps_items first.pps (pps_shape corners round settled.frame.numbers c.args.pps_id) c.pps_under.result.now (rw c.pps_under.ensures (c.requires.pps corners level used));
       alf = record { one_each = c.in_ok-alf.ensures.one_each; ends = subst ends (sym c.in_ok-alf.ensures.are) (ends_alf_bodies round c.all_bodies.ensures) };
       lmcs = record { one_each = c.in_ok-lmcs.ensures.one_each; ends = subst ends (sym c.in_ok-lmcs.ensures.are) (ends_lowest has_lmcs aps.LMCS ph_lmcs_aps_id round c.all_bodies.ensures) };
       scaling = record { one_each = c.in_ok-scaling.ensures.one_each; ends = subst ends (sym c.in_ok-scaling.ensures.are) (ends_lowest has_scaling aps.SCALING ph_scaling_list_aps_id round c.all_bodies.ensures) };

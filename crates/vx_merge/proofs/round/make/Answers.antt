@@ -1,45 +1,31 @@
-use Rattle.std.proofs.Common.{ap, sym, subst}
-use Rattle.vx_pps.specs.Reshaped.{IsReshaped}
+use Rattle.std.proofs.Common.{ap}
 use Rattle.vx_pic.specs.Resident.{kept_for}
 use Rattle.vx_merge.specs.Rounds.{picture_at}
-use Rattle.vx_merge.specs.Shapes.{pps_shape}
-use Rattle.vx_merge.proofs.Planning.{count_of, is_made, kept_last, payload_count}
+use Rattle.vx_merge.proofs.Planning.{count_of, is_made, payload_count}
 use Rattle.vx_merge.proofs.Settling.{frame_there, needed_there, ready_for, some_used}
 use Rattle.vx_merge.proofs.round.make.Goals as goal
 
 pub kind_of-kind-requires : goal.kind_of-kind-requires
 kind_of-kind-requires c = some_used c.args.round.now c.args.settled.now c.requires.settled
 
-pub renamed-requires-clause-settled : goal.renamed-requires-clause-settled
-renamed-requires-clause-settled c = c.requires.settled
-
-pub renamed-requires-clause-id : goal.renamed-requires-clause-id
-renamed-requires-clause-id c = c.taken_pps_id-pps_id.ensures.low
-
 pub needed-requires-clause-settled : goal.needed-requires-clause-settled
 needed-requires-clause-settled c = c.requires.settled
 
 pub needed-requires-clause-pps : goal.needed-requires-clause-pps
-needed-requires-clause-pps c = λ corners level used.
-    subst (IsReshaped (picture_at c.args.round.now 0).pps (pps_shape corners c.args.round.now c.args.settled.now.frame.numbers c.taken_pps_id-pps_id.result))
-    (sym c.pps_among-pps.ensures) (c.in_ok-other.ensures corners level used)
+needed-requires-clause-pps c = c.requires.pps
 
 pub needed-requires-clause-low : goal.needed-requires-clause-low
-needed-requires-clause-low c = c.taken_pps_id-pps_id.ensures.low
+needed-requires-clause-low c = c.requires.low
 
 pub needed-requires-clause-taken : goal.needed-requires-clause-taken
-needed-requires-clause-taken c = λ sent last.
-    rw (ap (λ k. k.temporal_id) c.kind_of-kind.ensures.value) at (c.taken_pps_id-pps_id.ensures.taken sent last)
+needed-requires-clause-taken c = c.requires.taken
 
 pub header_units-requires : goal.header_units-requires
 header_units-requires c =
     let used = c.requires.settled in
-    let round = c.args.round.now in
-    let last = kept_last c.args.slots.now c.forget_before.new.slots c.kind_of-kind.result (picture_at round 0).kind c.requires.slots.0 c.kind_of-kind.ensures.value
-    c.forget_before.ensures c.requires.slots.1 in
-    let sent = kept_for (picture_at round 0).kind.nal_type c.requires.slots.0 in
-    let needed = c.in_ok-needed.ensures.needed used.0 used.1.0 sent used.1.1 last in
-    (used.1.0, (sent, ready_for used.0 used.1.0 round c.args.settled.now sent c.in_ok-needed.needed used.1.1 needed))
+    let sent = c.requires.slots.0 in
+    let needed = c.in_ok-needed.ensures.needed used.0 used.1.0 sent used.1.1 c.requires.slots.1 in
+    (used.1.0, (sent, ready_for used.0 used.1.0 c.args.round.now c.args.settled.now sent c.in_ok-needed.needed used.1.1 needed))
 
 pub send_needed-requires-clause-tid : goal.send_needed-requires-clause-tid
 send_needed-requires-clause-tid c = c.kind_of-kind.ensures.tid
@@ -56,12 +42,11 @@ returns-clause-payloads c =
     count_of c.in_ok-units.units.fronts.items c.in_ok-payloads.payloads count
 
 pub returns-clause-made : goal.returns-clause-made
-returns-clause-made c corners level history used stood =
+returns-clause-made c corners level history used last =
     let round = c.args.round.now in
     let settled = c.args.settled.now in
-    let own = (picture_at round 0).kind in
-    let last = kept_last c.args.slots.now c.forget_before.new.slots c.kind_of-kind.result own history c.kind_of-kind.ensures.value c.forget_before.ensures stood in
-    let needed = needed_there corners level round settled _ c.in_ok-needed.needed used (c.in_ok-needed.ensures.needed corners level _ used last) in
+    let sent = kept_for (picture_at round 0).kind.nal_type history in
+    let needed = needed_there corners level round settled sent c.in_ok-needed.needed used (c.in_ok-needed.ensures.needed corners level sent used last) in
     is_made corners level round history settled.layout c.in_ok-needed.needed _ c.send_needed.new.slots
     (record {
       some = used.is.frame.some;
@@ -70,7 +55,7 @@ returns-clause-made c corners level history used stood =
       needed = needed;
       eos = ap (λ k. k.after_eos) c.kind_of-kind.ensures.value;
       headers = c.in_ok-units.ensures;
-      sent = rw (ap (λ k. k.temporal_id) c.kind_of-kind.ensures.value) at (c.in_ok-sets.ensures corners level round settled.layout _ last needed);
+      sent = rw (ap (λ k. k.temporal_id) c.kind_of-kind.ensures.value) at (c.in_ok-sets.ensures corners level round settled.layout sent last needed);
       sei = c.in_ok-sei.ensures;
       payloads = c.in_ok-payloads.ensures;
     })

@@ -21,4 +21,5 @@ returns-clause-settled c = record {
   layout = c.in_ok-layout.ensures ∙ c.in_ok-numbers.ensures;
   sps = c.in_ok-sps.ensures c.args.corners.now c.in_ok-frame.ensures.frame;
   plain = c.in_ok-plain.ensures c.args.corners.now c.in_ok-frame.ensures.frame;
+  renamed = tt;
 }

@@ -1,6 +1,5 @@
-use Rattle.std.proofs.Common.{◌∷◌, [], ◌++◌, length, sym, subst}
+use Rattle.std.proofs.Common.{subst}
 use Rattle.std.specs.Bool.{OnTrue}
-use Rattle.vx_merge.specs.Rules.{rules_of_frame, several_subpictures, sps_tools, too_many_slices}
 use Rattle.vx_merge.specs.inner.Settled.{HavePassed}
 use Rattle.vx_merge.proofs.Settling.{few_known}
 use Rattle.vx_merge.proofs.verdict.verdict_of_sets.Goals as goal

@@ -1,0 +1,16 @@
+-- What a merger keeps from round to round.
+use Rattle.std.specs.Prelude.{ℕ, List, Option, None, IfSome}
+use Rattle.vx_merge.specs.declared.corner.Corner.{Corner}
+use Rattle.vx_merge.specs.declared.progress.Progress.{Progress}
+use Rattle.vx_merge.specs.Merging.{Merging}
+use Rattle.vx_merge.specs.inner.Found.{HasHistory}
+use Rattle.vx_merge.specs.inner.Settled.{IsSettled}
+
+-- what was made of sets was made of a round with these corners, at this level, and the slots are the last of some sets
+pub record IsProgress (corners : List Corner) (level : Option ℕ) (p : Progress) : Type 0 where
+  pub settled : IfSome p.settled (IsSettled corners level)
+  pub slots : HasHistory p.slots
+
+-- a merger that goes on with it
+abbrev pub merging_of : List Corner → Option ℕ → Progress → Merging
+merging_of corners level p = record { corners = corners; level = level; slots = p.slots; bytes = p.bytes; first = None }
