@@ -1,13 +1,6 @@
 //! The program: reads VVC byte streams, as its words say, and tells how it ended.
 #![tactic(auto)]
 
-mod about;
-mod conclude;
-mod extract;
-mod merge;
-mod run;
-mod show;
-mod stop;
 #[cfg(test)]
 mod tests;
 #[cfg(test)]
@@ -24,18 +17,14 @@ mod tests_rules;
 mod tests_shown;
 #[cfg(test)]
 mod tests_written;
-mod words;
 
-use conclude::finish;
-pub use merge::merge_ends_once;
-pub use run::run;
 use std::alloc::AllocError;
 use std::env;
 use std::fs::File;
 use std::io::{self, BufWriter, ErrorKind};
 use std::process::ExitCode;
 use vx_io::{ClosedSource, FileSource, Source, WriterSink};
-pub use words::{file_count, file_word};
+use vx_run::{file_count, file_word, finish, run};
 
 fn main(rt: HostRuntime) -> ExitCode {
     ExitCode::from(status(&rt))

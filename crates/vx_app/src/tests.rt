@@ -1,10 +1,10 @@
 //! Runs of the program over memory, row by row.
 
-use crate::{file_count, file_word, run};
 use std::alloc::{AllocError, Global};
 use std::process::Abort;
 use std::test::Fail;
 use vx_io::{MemorySink, MemorySource, Source};
+use vx_run::{file_count, file_word, run};
 
 /// A parameter set of a sequence, one of a picture, and a slice: a gray picture of 64 by 64 samples.
 pub(crate) const GRAY: &[u8] = &[
@@ -281,64 +281,8 @@ const ONCE: [Row<'static>; 3] = [
     },
 ];
 
-const HELP: &[u8] = b"goosequince: subpictures of VVC byte streams (H.266, Annex B)
-
-  show FILE  lines of JSON for a byte stream: for each NAL unit its length in
-             bytes, the place of its first byte, its TemporalId and its type,
-             then what is read of the parameter set that it is, or of the
-             picture that it completes
-  extract [--tid T] [--level N] INDEX FILE
-             the subpicture of an index, from 0, of each picture, as a byte stream
-             of its own; of the pictures with a TemporalId of at most T, and with N
-             as its general_level_idc
-  check extract [--tid T] INDEX FILE
-             whether that can be done, and for how many pictures
-  merge [--level N] X,Y=FILE ..
-             the pictures of up to 64 files as those of one byte stream, each with its
-             upper left corner at luma sample X, Y; with N as its general_level_idc
-  check merge X,Y=FILE ..
-             whether that can be done, by the rules below, and for how many pictures
-  --help     this text
-  --version  the name and the version of the program
-
-The status is 0 where all was done. Else a line on standard error says why:
-
-  1  a rule is broken; its letter, number and place
-  2  the words are not understood
-  3  a read or a write failed
-  4  there is no memory
-
-The letters of the rules:
-
-  F  framing: F1 a byte outside a unit that is no zero and no start code,
-     F2 a byte that emulation prevention rules out, F3 a unit's header
-  Y  syntax: a field of a set or of a header, the bit where it begins, and
-     why it can't be read
-  P  profile: P1 a further layer, P2 to P14 what is out of reach in a set,
-     P15 the id of an adaptation parameter set
-  S  structure: S1 a set that hasn't come, S2 to S15 what a unit, or the end,
-     breaks behind the units before it
-  L  limits: L1 a unit of more than 2^23 bytes, L2 a picture of more than 2^25,
-     L3 a source of more than 2^40, L4 more than 64 files, L5 to L10 what no
-     level, or this program, allows
-  E  extraction: E1 a stream without pictures, E2 a picture without the
-     subpicture, E3 the subpicture isn't treated as a picture, E4 in-loop
-     filters cross the borders of the subpicture, E5 an IRAP or GDR picture has
-     a TemporalId above T
-  M  merging: M1 a source with several subpictures, M2, M7, M8 fields of its SPS,
-     PPS or picture header that differ, M3 to M5 regions or tiles that don't fit,
-     M6 another kind of picture, M9 to M13, M16 what its slices use that differs
-     or is too much, M14 an earlier end
-";
-
 /// What the program tells of itself. No source is there to be read.
-const ABOUT: [Row<'static>; 4] = [
-    Row {
-        words: &["--help"],
-        room: 3000,
-        out: HELP,
-        ..SHOW
-    },
+const ABOUT: [Row<'static>; 3] = [
     Row {
         words: &["--version"],
         taken: &[1],

@@ -1,10 +1,10 @@
 //! Runs of `extract` and of `check extract` on streams that are cut anywhere, and with each read and each write failing once.
 
-use crate::conclude::finish;
 use crate::tests::{GRAY, Row, check_row, sink};
 use crate::tests_extract::{CHECK, EXTRACT, LEFT, PAIR, TWICE};
 use std::io::{self, BufWriter, ErrorKind, Write};
 use std::test::Fail;
+use vx_run::finish;
 
 /// What the first bytes of the pair are refused for, from so many of them on.
 const CUT: [(usize, &[u8]); 40] = [

@@ -2,11 +2,12 @@
 
 use crate::tests::{ABSENT, GRAY, Row, SHOW, check_row, check_sources, source_of, words_of};
 use crate::tests_extract::TWICE;
-use crate::{file_count, file_word};
 use std::alloc::{AllocError, Global};
 use std::process::Abort;
 use std::test::Fail;
 use vx_io::{ClosedSource, Source};
+use vx_merge::{Lengths, lengths};
+use vx_run::{file_count, file_word};
 
 /// The gray picture with another quantization parameter in its PPS.
 const OTHER_QP: &[u8] = &[
@@ -465,5 +466,23 @@ fn names_each_file(rt: HostRuntime) -> Result<(), Fail> {
     assert_eq!(rt; file_word(&words, 0), Some("a"));
     assert_eq!(rt; file_word(&words, 1), Some("=b,c"));
     assert_eq!(rt; file_word(&words, 2), None);
+    Ok(())
+}
+
+#[test]
+fn tells_which_sources_have_ended(rt: HostRuntime) -> Result<(), Fail> {
+    let rows: [(&[bool], Lengths); 6] = [
+        (&[false], Lengths::AllGo),
+        (&[true], Lengths::AllEnded),
+        (&[false, false, false], Lengths::AllGo),
+        (&[true, true], Lengths::AllEnded),
+        (&[false, true, true], Lengths::Differ(1)),
+        (&[true, false], Lengths::Differ(0)),
+    ];
+    for (ended, wanted) in rows {
+        assert!(rt; 0 < ended.len());
+        assert!(rt; ended.len() <= 65536);
+        assert_eq!(rt; lengths(ended), wanted);
+    }
     Ok(())
 }

@@ -1,11 +1,11 @@
 //! Runs of `merge` over two sources in memory, side by side, row by row.
 
 use crate::tests::{GRAY, sink, words_of};
-use crate::{file_count, run};
 use std::alloc::{AllocError, Global};
 use std::process::Abort;
 use std::test::Fail;
 use vx_io::{MemorySource, Source};
+use vx_run::{file_count, run};
 
 /// The gray picture twice.
 const TWICE: &[u8] = &[

@@ -1,6 +1,0 @@
-use Rattle.vx_merge.proofs.OnePlan.{merged_one}
-use Rattle.vx_app.proofs.Once.{ends_once}
-use Rattle.vx_app.proofs.merge.merge_ends_once.Goals as goal
-
-pub returns : goal.returns
-returns c = ends_once merged_one

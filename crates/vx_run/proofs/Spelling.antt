@@ -1,0 +1,98 @@
+-- Words spell one command.
+use Rattle.std.proofs.Common.{◌≡◌, ◌≢◌, ◌∙◌, sym, ap, ℕ, List, [], ◌∷◌, ◌++◌, Option, length, map, codes, get_or, drop, arith, refl}
+use Rattle.vx_run.specs.Grammar.{Command, show, extract, check_extract, merge, check_merge, help, version, tid_words, level_words, Placing, placing_word, AskFor}
+use Rattle.vx_run.specs.inner.Placings.{placing_in}
+use Rattle.vx_run.proofs.Numbering.{behind_tid, behind_level, tid_first, only_tid_first, level_first, index_first, option_once, number_once}
+use Rattle.vx_run.proofs.Placings.{placings_read}
+use Rattle.vx_run.proofs.MergeWords.{merge_level}
+
+-- words that begin with two words are not the same
+other_first : (words : List (List ℕ)) (x y : List ℕ) (xs ys : List (List ℕ)) → words ≡ x ∷ xs → words ≡ y ∷ ys → length x ≢ length y → ⊥
+other_first words x y xs ys p q other = other (ap (λ ws. length (get_or ws 0 [])) (sym p ∙ q))
+
+other_letter : (words : List (List ℕ)) (x y : List ℕ) (xs ys : List (List ℕ)) → words ≡ x ∷ xs → words ≡ y ∷ ys → get_or x 0 0 ≢ get_or y 0 0 → ⊥
+other_letter words x y xs ys p q other = other (ap (λ ws. get_or (get_or ws 0 []) 0 0) (sym p ∙ q))
+
+other_second : (words : List (List ℕ)) (x y z w : List ℕ) (xs ys : List (List ℕ)) → words ≡ x ∷ z ∷ xs → words ≡ y ∷ w ∷ ys → length z ≢ length w → ⊥
+other_second words x y z w xs ys p q other = other (ap (λ ws. length (get_or ws 1 [])) (sym p ∙ q))
+
+same_extract : (t u l m : Option ℕ) (i j : ℕ) (f g : List ℕ) → t ≡ u → l ≡ m → i ≡ j → f ≡ g → extract t l i f ≡ extract u m j g
+same_extract t u l m i j f g p q r s = cc
+
+same_check : (t u : Option ℕ) (i j : ℕ) (f g : List ℕ) → t ≡ u → i ≡ j → f ≡ g → check_extract t i f ≡ check_extract u j g
+same_check t u i j f g p q r = cc
+
+same_merge : (l m : Option ℕ) (ps qs : List Placing) → l ≡ m → ps ≡ qs → merge l ps ≡ merge m qs
+same_merge l m ps qs p q = cc
+
+-- what is spelled behind the name of a merge
+abbrev behind_name : Option ℕ → List Placing → List (List ℕ)
+behind_name l ps = level_words l ++ map placing_word ps
+
+-- the words spell one command
+pub spelled_once : (words : List (List ℕ)) (c d : Command) → AskFor words c → AskFor words d → c ≡ d
+spelled_once words (show f) (show g) p q = ap (λ ws. show (get_or ws 1 [])) (sym p.spelled ∙ q.spelled)
+spelled_once words (show f) (extract u m j g) p q = absurd (other_first words (codes "show") (codes "extract") (f ∷ []) (tid_words u ++ behind_tid m j g) p.spelled q.spelled (omega arith))
+spelled_once words (show f) (check_extract u j g) p q = absurd (other_first words (codes "show") (codes "check") (f ∷ []) (codes "extract" ∷ (tid_words u ++ behind_level j g)) p.spelled q.spelled (omega arith))
+spelled_once words (show f) (merge m qs) p q = absurd (other_first words (codes "show") (codes "merge") (f ∷ []) (behind_name m qs) p.spelled q.spelled (omega arith))
+spelled_once words (show f) (check_merge qs) p q = absurd (other_first words (codes "show") (codes "check") (f ∷ []) (codes "merge" ∷ map placing_word qs) p.spelled q.spelled (omega arith))
+spelled_once words (show f) help p q = absurd (other_first words (codes "show") (codes "--help") (f ∷ []) [] p.spelled q.spelled (omega arith))
+spelled_once words (show f) version p q = absurd (other_first words (codes "show") (codes "--version") (f ∷ []) [] p.spelled q.spelled (omega arith))
+spelled_once words (extract t l i f) (show g) p q = absurd (other_first words (codes "extract") (codes "show") (tid_words t ++ behind_tid l i f) (g ∷ []) p.spelled q.spelled (omega arith))
+spelled_once words (extract t l i f) (extract u m j g) p q =
+    let words_same : tid_words t ++ behind_tid l i f ≡ tid_words u ++ behind_tid m j g = ap (λ (ws : List (List ℕ)). drop 1 ws) (sym p.spelled ∙ q.spelled) in
+    let tid = option_once (codes "--tid") 6 (tid_words t ++ behind_tid l i f) t u (behind_tid l i f) (behind_tid m j g) (omega arith) (tid_first t l i f p.named.0 p.named.2) (rw words_same (tid_first u m j g q.named.0 q.named.2)) in
+    let level = option_once (codes "--level") 255 (behind_tid l i f) l m (behind_level i f) (behind_level j g) (omega arith) (level_first l i f p.named.1 p.named.2) (rw tid.1 (level_first m j g q.named.1 q.named.2)) in
+    let index = number_once 999 (behind_level i f) i j (f ∷ []) (g ∷ []) (omega arith) (index_first i f p.named.2) (rw level.1 (index_first j g q.named.2)) in
+    let file : f ≡ g = ap (λ (ws : List (List ℕ)). get_or ws 0 []) index.1 in
+    same_extract t u l m i j f g tid.0 level.0 index.0 file
+spelled_once words (extract t l i f) (check_extract u j g) p q = absurd (other_first words (codes "extract") (codes "check") (tid_words t ++ behind_tid l i f) (codes "extract" ∷ (tid_words u ++ behind_level j g)) p.spelled q.spelled (omega arith))
+spelled_once words (extract t l i f) (merge m qs) p q = absurd (other_first words (codes "extract") (codes "merge") (tid_words t ++ behind_tid l i f) (behind_name m qs) p.spelled q.spelled (omega arith))
+spelled_once words (extract t l i f) (check_merge qs) p q = absurd (other_first words (codes "extract") (codes "check") (tid_words t ++ behind_tid l i f) (codes "merge" ∷ map placing_word qs) p.spelled q.spelled (omega arith))
+spelled_once words (extract t l i f) help p q = absurd (other_first words (codes "extract") (codes "--help") (tid_words t ++ behind_tid l i f) [] p.spelled q.spelled (omega arith))
+spelled_once words (extract t l i f) version p q = absurd (other_first words (codes "extract") (codes "--version") (tid_words t ++ behind_tid l i f) [] p.spelled q.spelled (omega arith))
+spelled_once words (check_extract t i f) (show g) p q = absurd (other_first words (codes "check") (codes "show") (codes "extract" ∷ (tid_words t ++ behind_level i f)) (g ∷ []) p.spelled q.spelled (omega arith))
+spelled_once words (check_extract t i f) (extract u m j g) p q = absurd (other_first words (codes "check") (codes "extract") (codes "extract" ∷ (tid_words t ++ behind_level i f)) (tid_words u ++ behind_tid m j g) p.spelled q.spelled (omega arith))
+spelled_once words (check_extract t i f) (check_extract u j g) p q =
+    let words_same : tid_words t ++ behind_level i f ≡ tid_words u ++ behind_level j g = ap (λ (ws : List (List ℕ)). drop 2 ws) (sym p.spelled ∙ q.spelled) in
+    let tid = option_once (codes "--tid") 6 (tid_words t ++ behind_level i f) t u (behind_level i f) (behind_level j g) (omega arith) (only_tid_first t i f p.named.0 p.named.1) (rw words_same (only_tid_first u j g q.named.0 q.named.1)) in
+    let index = number_once 999 (behind_level i f) i j (f ∷ []) (g ∷ []) (omega arith) (index_first i f p.named.1) (rw tid.1 (index_first j g q.named.1)) in
+    let file : f ≡ g = ap (λ (ws : List (List ℕ)). get_or ws 0 []) index.1 in
+    same_check t u i j f g tid.0 index.0 file
+spelled_once words (check_extract t i f) (merge m qs) p q = absurd (other_letter words (codes "check") (codes "merge") (codes "extract" ∷ (tid_words t ++ behind_level i f)) (behind_name m qs) p.spelled q.spelled (omega arith))
+spelled_once words (check_extract t i f) (check_merge qs) p q = absurd (other_second words (codes "check") (codes "check") (codes "extract") (codes "merge") (tid_words t ++ behind_level i f) (map placing_word qs) p.spelled q.spelled (omega arith))
+spelled_once words (check_extract t i f) help p q = absurd (other_first words (codes "check") (codes "--help") (codes "extract" ∷ (tid_words t ++ behind_level i f)) [] p.spelled q.spelled (omega arith))
+spelled_once words (check_extract t i f) version p q = absurd (other_first words (codes "check") (codes "--version") (codes "extract" ∷ (tid_words t ++ behind_level i f)) [] p.spelled q.spelled (omega arith))
+spelled_once words (merge l ps) (show g) p q = absurd (other_first words (codes "merge") (codes "show") (behind_name l ps) (g ∷ []) p.spelled q.spelled (omega arith))
+spelled_once words (merge l ps) (extract u m j g) p q = absurd (other_first words (codes "merge") (codes "extract") (behind_name l ps) (tid_words u ++ behind_tid m j g) p.spelled q.spelled (omega arith))
+spelled_once words (merge l ps) (check_extract u j g) p q = absurd (other_letter words (codes "merge") (codes "check") (behind_name l ps) (codes "extract" ∷ (tid_words u ++ behind_level j g)) p.spelled q.spelled (omega arith))
+spelled_once words (merge l ps) (merge m qs) p q =
+    let same : behind_name l ps ≡ behind_name m qs = ap (λ (ws : List (List ℕ)). drop 1 ws) (sym p.spelled ∙ q.spelled) in
+    let level = option_once (codes "--level") 255 (behind_name l ps) l m (map placing_word ps) (map placing_word qs) (omega arith) (merge_level l ps p.named.0 p.named.2) (rw same (merge_level m qs q.named.0 q.named.2)) in
+    same_merge l m ps qs level.0 (sym (placings_read ps p.named.2) ∙ ap (λ (ws : List (List ℕ)). map placing_in ws) level.1 ∙ placings_read qs q.named.2)
+spelled_once words (merge l ps) (check_merge qs) p q = absurd (other_letter words (codes "merge") (codes "check") (behind_name l ps) (codes "merge" ∷ map placing_word qs) p.spelled q.spelled (omega arith))
+spelled_once words (merge l ps) help p q = absurd (other_first words (codes "merge") (codes "--help") (behind_name l ps) [] p.spelled q.spelled (omega arith))
+spelled_once words (merge l ps) version p q = absurd (other_first words (codes "merge") (codes "--version") (behind_name l ps) [] p.spelled q.spelled (omega arith))
+spelled_once words (check_merge ps) (show g) p q = absurd (other_first words (codes "check") (codes "show") (codes "merge" ∷ map placing_word ps) (g ∷ []) p.spelled q.spelled (omega arith))
+spelled_once words (check_merge ps) (extract u m j g) p q = absurd (other_first words (codes "check") (codes "extract") (codes "merge" ∷ map placing_word ps) (tid_words u ++ behind_tid m j g) p.spelled q.spelled (omega arith))
+spelled_once words (check_merge ps) (check_extract u j g) p q = absurd (other_second words (codes "check") (codes "check") (codes "merge") (codes "extract") (map placing_word ps) (tid_words u ++ behind_level j g) p.spelled q.spelled (omega arith))
+spelled_once words (check_merge ps) (merge m qs) p q = absurd (other_letter words (codes "check") (codes "merge") (codes "merge" ∷ map placing_word ps) (behind_name m qs) p.spelled q.spelled (omega arith))
+spelled_once words (check_merge ps) (check_merge qs) p q =
+    let same : map placing_word ps ≡ map placing_word qs = ap (λ (ws : List (List ℕ)). drop 2 ws) (sym p.spelled ∙ q.spelled) in
+    ap check_merge (sym (placings_read ps p.named.1) ∙ ap (λ (ws : List (List ℕ)). map placing_in ws) same ∙ placings_read qs q.named.1)
+spelled_once words (check_merge ps) help p q = absurd (other_first words (codes "check") (codes "--help") (codes "merge" ∷ map placing_word ps) ([]) p.spelled q.spelled (omega arith))
+spelled_once words (check_merge ps) version p q = absurd (other_first words (codes "check") (codes "--version") (codes "merge" ∷ map placing_word ps) ([]) p.spelled q.spelled (omega arith))
+spelled_once words help (show g) p q = absurd (other_first words (codes "--help") (codes "show") [] (g ∷ []) p.spelled q.spelled (omega arith))
+spelled_once words help (extract u m j g) p q = absurd (other_first words (codes "--help") (codes "extract") [] (tid_words u ++ behind_tid m j g) p.spelled q.spelled (omega arith))
+spelled_once words help (check_extract u j g) p q = absurd (other_first words (codes "--help") (codes "check") [] (codes "extract" ∷ (tid_words u ++ behind_level j g)) p.spelled q.spelled (omega arith))
+spelled_once words help (merge m qs) p q = absurd (other_first words (codes "--help") (codes "merge") [] (behind_name m qs) p.spelled q.spelled (omega arith))
+spelled_once words help (check_merge qs) p q = absurd (other_first words (codes "--help") (codes "check") ([]) (codes "merge" ∷ map placing_word qs) p.spelled q.spelled (omega arith))
+spelled_once words help help p q = refl
+spelled_once words help version p q = absurd (other_first words (codes "--help") (codes "--version") [] [] p.spelled q.spelled (omega arith))
+spelled_once words version (show g) p q = absurd (other_first words (codes "--version") (codes "show") [] (g ∷ []) p.spelled q.spelled (omega arith))
+spelled_once words version (extract u m j g) p q = absurd (other_first words (codes "--version") (codes "extract") [] (tid_words u ++ behind_tid m j g) p.spelled q.spelled (omega arith))
+spelled_once words version (check_extract u j g) p q = absurd (other_first words (codes "--version") (codes "check") [] (codes "extract" ∷ (tid_words u ++ behind_level j g)) p.spelled q.spelled (omega arith))
+spelled_once words version (merge m qs) p q = absurd (other_first words (codes "--version") (codes "merge") [] (behind_name m qs) p.spelled q.spelled (omega arith))
+spelled_once words version (check_merge qs) p q = absurd (other_first words (codes "--version") (codes "check") ([]) (codes "merge" ∷ map placing_word qs) p.spelled q.spelled (omega arith))
+spelled_once words version help p q = absurd (other_first words (codes "--version") (codes "--help") [] [] p.spelled q.spelled (omega arith))
+spelled_once words version version p q = refl

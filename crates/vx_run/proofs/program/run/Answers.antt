@@ -1,0 +1,51 @@
+use Rattle.vx_run.proofs.Ending.{exact-done, exact-stopped, extracts-done, extracts-stopped, words-stopped, checks-done, checks-stopped, merges-done, merges-stopped, many-done, many-stopped}
+use Rattle.vx_run.proofs.Once.{ends_once}
+use Rattle.vx_run.proofs.Performing.{merge_some}
+use Rattle.vx_merge.proofs.OnePlan.{merged_one}
+use Rattle.std.proofs.Common.{◌<◌, length, vec_len, refl, arith}
+use Rattle.vx_run.specs.Grammar.{merge, check_merge}
+use Rattle.vx_run.specs.Merge.{EndsOnce}
+use Rattle.vx_run.proofs.program.run.Goals as goal
+
+pub returns-in-Ok-clause-exact : goal.returns-in-Ok-clause-exact
+returns-in-Ok-clause-exact g c R of file spelled read write fits = exact-done R of _ _ _ file c.in-Ok.ensures.performs spelled
+
+pub returns-in-Err-clause-exact : goal.returns-in-Err-clause-exact
+returns-in-Err-clause-exact g c R of file spelled = exact-stopped R of _ _ _ _ c.in-Err.stop c.conclude.result file c.in-Err.ensures.performs c.conclude.ensures spelled
+
+pub returns-in-Err-clause-words : goal.returns-in-Err-clause-words
+returns-in-Err-clause-words g c = words-stopped _ _ _ _ c.in-Err.stop c.conclude.result c.in-Err.ensures.performs c.conclude.ensures
+
+pub returns-in-Ok-clause-extracts : goal.returns-in-Ok-clause-extracts
+returns-in-Ok-clause-extracts g c R of command task spelled is read write fits = extracts-done R of _ _ _ command task c.in-Ok.ensures.performs spelled is
+
+pub returns-in-Err-clause-extracts : goal.returns-in-Err-clause-extracts
+returns-in-Err-clause-extracts g c R of command task spelled is = extracts-stopped R of _ _ _ _ c.in-Err.stop c.conclude.result command task c.in-Err.ensures.performs c.conclude.ensures spelled is
+
+-- a merge ends once
+once : EndsOnce
+once = ends_once merged_one
+
+pub returns-in-Ok-clause-checks : goal.returns-in-Ok-clause-checks
+returns-in-Ok-clause-checks g c R of placings spelled few read write fits = checks-done _ _ _ placings spelled few R of c.in-Ok.ensures.performs
+
+pub returns-in-Err-clause-checks : goal.returns-in-Err-clause-checks
+returns-in-Err-clause-checks g c R of placings spelled few read =
+    let some : 0 < length c.args.sources.now.items = omega (arith, merge_some _ _ (check_merge placings) placings refl c.requires spelled spelled.named.0) in
+    checks-stopped _ _ _ placings spelled few once R of _ c.in-Err.stop c.conclude.result some c.in-Err.ensures.performs c.conclude.ensures
+    (λ k within. let fits : k < vec_len c.args.sources.now = omega (arith, within) in read k fits)
+
+pub returns-in-Ok-clause-merges : goal.returns-in-Ok-clause-merges
+returns-in-Ok-clause-merges g c R of level placings spelled few read write fits = merges-done _ _ _ level placings spelled few R of c.in-Ok.ensures.performs
+
+pub returns-in-Err-clause-merges : goal.returns-in-Err-clause-merges
+returns-in-Err-clause-merges g c R of level placings spelled few read =
+    let some : 0 < length c.args.sources.now.items = omega (arith, merge_some _ _ (merge level placings) placings refl c.requires spelled spelled.named.1) in
+    merges-stopped _ _ _ level placings spelled few once R of _ c.in-Err.stop c.conclude.result some c.in-Err.ensures.performs c.conclude.ensures
+    (λ k within. let fits : k < vec_len c.args.sources.now = omega (arith, within) in read k fits)
+
+pub returns-in-Ok-clause-many : goal.returns-in-Ok-clause-many
+returns-in-Ok-clause-many g c command placings spelled is many fits = many-done _ _ _ command placings spelled is many 0 c.in-Ok.ensures.performs
+
+pub returns-in-Err-clause-many : goal.returns-in-Err-clause-many
+returns-in-Err-clause-many g c command placings spelled is many = many-stopped _ _ _ command placings spelled is many _ c.in-Err.stop c.conclude.result c.in-Err.ensures.performs c.conclude.ensures

@@ -1,0 +1,10 @@
+use Rattle.std.proofs.Common.{map, refl}
+use Rattle.vx_run.specs.Grammar.{texts, merge}
+use Rattle.vx_run.specs.inner.Placings.{placing_in}
+use Rattle.vx_run.proofs.Performing.{names_placed}
+use Rattle.vx_run.proofs.words.file_count.Goals as goal
+
+pub returns-in-Some-Merge : goal.returns-in-Some-Merge
+returns-in-Some-Merge c =
+    let spelled = rw c.in-Some-Merge.field-0-is at c.in-Some-Merge.ensures.some in
+    names_placed (texts c.args.words.now) (merge _ (map placing_in (texts c.in-Some-Merge.placings.now))) c.in-Some-Merge.placings.now refl spelled

@@ -1,0 +1,51 @@
+-- What came of a command, and how it ends the program: the status, and the line that tells why.
+use Rattle.std.specs.Prelude.{◌≡◌, ℕ, List, [], ◌∷◌, ◌⊎◌, Result, Ok, Err, codes, decimal}
+use Rattle.std.specs.List.{concat}
+use Rattle.vx_report.specs.RefusalLine.{refusal_text}
+use Rattle.vx_run.specs.Change.{Change, IsUntouched, Tells}
+use Rattle.vx_run.specs.declared.stop.Stop.{Stop}
+use Rattle.vx_run.specs.declared.stop.Stop.TheVariants.{NotUnderstood, Refused, ReadFault, WriteFault, NoMemory}
+
+-- it is done, or it stopped
+abbrev pub Outcome : Type 0
+Outcome = Result (Unit {0}) Stop
+
+-- 1 refused, 2 words, 3 fault, 4 want of memory
+abbrev pub status_of : Stop → ℕ
+status_of NotUnderstood = 2
+status_of (Refused refusal place) = 1
+status_of (ReadFault source) = 3
+status_of WriteFault = 3
+status_of NoMemory = 4
+
+-- the line, with its line feed
+abbrev pub line_of : Stop → List ℕ
+line_of NotUnderstood = codes "words not understood\n"
+line_of (Refused refusal place) = refusal_text refusal place
+line_of (ReadFault source) = concat (codes "read fault source " ∷ decimal source ∷ codes "\n" ∷ [])
+line_of WriteFault = codes "write fault\n"
+line_of NoMemory = codes "no memory\n"
+
+-- a line of these has parts that are made in memory
+abbrev pub IsMade : Stop → Type 0
+IsMade NotUnderstood = ⊥
+IsMade (Refused refusal place) = Unit {0}
+IsMade (ReadFault source) = Unit {0}
+IsMade WriteFault = ⊥
+IsMade NoMemory = ⊥
+
+-- a command that the words ask for stopped
+abbrev pub IsOfCommand : Stop → Type 0
+IsOfCommand NotUnderstood = ⊥
+IsOfCommand _ = Unit {0}
+
+-- the status and the line on `err` are the stop's, or those for want of memory
+pub record Concludes {E : Type 0} (stop : Stop) (status : ℕ) (err : Change E) : Type 0 where
+  pub ended :
+      ((status ≡ status_of stop) × Tells err (line_of stop))
+      ⊎ (IsMade stop × (status ≡ status_of NoMemory) × Tells err (line_of NoMemory))
+
+-- status 0 and no line where the command is done
+abbrev pub ExitsWith : {E : Type 0} → Outcome → ℕ → Change E → Type 0
+ExitsWith (Ok _) status err = (status ≡ 0) × IsUntouched err
+ExitsWith (Err stop) status err = Concludes stop status err

@@ -1,0 +1,38 @@
+-- What `run` does to its sources and to `out`, by the command that its words ask for.
+use Rattle.std.specs.Prelude.{◌≡◌, ℕ, List, Option, Some, None, Err}
+use Rattle.vx_run.specs.declared.stop.Stop.TheVariants.{NotUnderstood}
+use Rattle.vx_run.specs.About.{help_text, version_text, Writes}
+use Rattle.vx_run.specs.Change.{Change, Sources, source_at, IsUntouched, AreUntouched}
+use Rattle.vx_run.specs.Conclusion.{Outcome}
+use Rattle.vx_run.specs.declared.extract.Task.{Task}
+use Rattle.vx_run.specs.Extract.{task_of, Extracts, Checks}
+use Rattle.vx_run.specs.Grammar.{Command, Placing, show, extract, check_extract, merge, check_merge, help, version, AskFor, IsUnderstood}
+use Rattle.vx_run.specs.Merge.{corners_of, ChecksMerge, Merges}
+use Rattle.vx_run.specs.Show.{Shows}
+
+-- what a command did to its sources and to `out`, by what came of it
+abbrev pub Does : {A K : Type 0} → Command → Sources A → Change K → Outcome → Type 0
+Does (show file) sources out outcome = Shows (source_at sources 0) out outcome
+Does (extract tid level index file) sources out outcome = Extracts (task_of tid level index) (source_at sources 0) out outcome
+Does (check_extract tid index file) sources out outcome = Checks (task_of tid None index) (source_at sources 0) out outcome
+Does (merge level placings) sources out outcome = Merges (corners_of placings) level sources out outcome
+Does (check_merge placings) sources out outcome = ChecksMerge (corners_of placings) sources out outcome
+Does help sources out outcome = AreUntouched sources × Writes help_text out outcome
+Does version sources out outcome = AreUntouched sources × Writes version_text out outcome
+
+-- the command that the words ask for was done or stopped; where they ask for none, nothing was read or written
+pub record Performs {A K : Type 0} (words : List (List ℕ)) (sources : Sources A) (out : Change K) (outcome : Outcome) : Type 0 where
+  pub command : (command : Command) → AskFor words command → Does command sources out outcome
+  pub other : ¬ IsUnderstood words → (outcome ≡ Err NotUnderstood) × AreUntouched sources × IsUntouched out
+
+-- what is asked of an extraction
+abbrev pub task_in : Command → Option Task
+task_in (extract tid level index file) = Some (task_of tid level index)
+task_in (check_extract tid index file) = Some (task_of tid None index)
+task_in _ = None
+
+-- the files of a merge, and where they are placed
+abbrev pub placings_in : Command → Option (List Placing)
+placings_in (merge level placings) = Some placings
+placings_in (check_merge placings) = Some placings
+placings_in _ = None

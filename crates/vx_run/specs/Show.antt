@@ -1,0 +1,168 @@
+-- What `show` finds in the bytes of a source, and what it writes.
+use Rattle.std.specs.Prelude.{◌≡◌, ℕ, ◌+◌, ◌<◌, nat_le, Bool, true, false, List, [], ◌∷◌, ◌++◌, length, take}
+use Rattle.std.specs.Prelude.{Option, Some, None, Result, Ok, Err, IfErr}
+use Rattle.std.specs.List.{flat_map}
+use Rattle.std.specs.Io.KnownBytes.{Consumes, IsAtEnd}
+use Rattle.vx_bits.specs.declared.refusal.Refusal.{Refusal}
+use Rattle.vx_annexb.specs.NalUnit.{header_of}
+use Rattle.vx_annexb.specs.ByteStream.{source_limit, UnitPlace, unit_bytes, IsStream, FollowsFrom}
+use Rattle.vx_pic.specs.Readings.{Reading, vps_read, sps_read, pps_read, aps_read, Picture, completed, pictures}
+use Rattle.vx_pic.specs.Rules.{Readers, reads}
+use Rattle.vx_pic.specs.Streams.{read_on, all_read}
+use Rattle.vx_pic.specs.Bytes.{Ending, units_at, ending_by}
+use Rattle.vx_pic.specs.H266.{AreOfH266}
+use Rattle.vx_sps.specs.Subpictures.{subpics_of}
+use Rattle.vx_report.specs.declared.refusal.Where.{Where}
+use Rattle.vx_report.specs.declared.picture.PictureNumbers.{PictureNumbers}
+use Rattle.vx_report.specs.declared.set.SetNumbers.TheVariants.{Aps}
+use Rattle.vx_report.specs.UnitLine.{unit_text}
+use Rattle.vx_report.specs.SetLine.{set_text, vps_numbers, sps_numbers, pps_numbers}
+use Rattle.vx_report.specs.PictureLine.{picture_text}
+use Rattle.vx_run.specs.declared.stop.Stop.TheVariants.{NotUnderstood, Refused, ReadFault, WriteFault, NoMemory}
+use Rattle.vx_run.specs.Change.{Change, HasNoFault, HasFault, GivesFront, Gains, GainsFront}
+use Rattle.vx_run.specs.Conclusion.{Outcome, IsOfCommand}
+
+-- the bytes of a source that are looked at, and whether they are all
+abbrev pub seen_of : List ℕ → List ℕ
+seen_of b = take source_limit b
+
+abbrev pub is_within : List ℕ → Bool
+is_within b = nat_le (length b) source_limit
+
+-- the line of a unit whose first byte stands at this place
+unfoldable pub shown_line : List ℕ → ℕ → List ℕ
+shown_line unit place = unit_text (header_of unit) place (length unit)
+
+-- the line of a unit of these bytes
+abbrev pub line_of_unit : List ℕ → UnitPlace → List ℕ
+line_of_unit b u = shown_line (unit_bytes b u) u.start
+
+-- ---- the lines of a unit that is read
+
+-- the line of a set
+unfoldable pub set_lines : Reading → List ℕ
+set_lines (vps_read v) = set_text (vps_numbers v)
+set_lines (sps_read s) = set_text (sps_numbers s)
+set_lines (pps_read p) = set_text (pps_numbers p)
+set_lines (aps_read a) = set_text (Aps a.kind a.id)
+set_lines _ = []
+
+-- what is shown of the n-th picture, from 0
+abbrev pub numbers_of : ℕ → Picture → PictureNumbers
+numbers_of n p = record {
+  picture = n;
+  clvss = p.kind.clvss;
+  poc = p.kind.poc;
+  slices = length p.slices;
+  subpictures = subpics_of p.begun.sps;
+}
+
+-- the line of the picture that this reading completes behind those before it, the latest first
+unfoldable pub picture_lines : Reading → List Reading → List ℕ
+picture_lines r before = flat_map (λ p. picture_text (numbers_of (length (pictures before)) p)) (completed r before)
+
+-- that of the unit, of the set that it is, and of the picture that it completes
+abbrev pub unit_lines : List ℕ → UnitPlace → Reading → List Reading → List ℕ
+unit_lines b u r before = line_of_unit b u ++ (set_lines r ++ picture_lines r before)
+
+-- ---- the lines of units
+
+-- what a reading gives, and nothing where a rule is broken
+abbrev pub where_read : Result Reading Refusal → (Reading → List ℕ) → List ℕ
+where_read (Ok r) lines = lines r
+where_read (Err refusal) lines = []
+
+-- the lines of these units, each read behind those before it, up to the first that breaks a rule
+abbrev pub lines_behind : Readers → List ℕ → List Reading → List UnitPlace → List ℕ
+lines_behind R b before [] = []
+lines_behind R b before (u ∷ units) =
+    where_read (reads R before (unit_bytes b u)) (λ r. unit_lines b u r before ++ lines_behind R b (r ∷ before) units)
+
+-- what is written of these units of a source's bytes
+abbrev pub shown_lines : Readers → List ℕ → List UnitPlace → List ℕ
+shown_lines R b units = lines_behind R (seen_of b) [] units
+
+-- ---- a source
+
+-- The units of a source's bytes as framing gives them, and the first rule that is broken with the number of units before it. Of a
+-- source that has more bytes than the limit the units are those whose end is seen in that many.
+pub record IsShown (R : Readers) (b : List ℕ) (units : List UnitPlace) (ending : Option Ending) : Type 0 where
+  pub framing : Option Refusal
+  pub stream : IsStream (seen_of b) (is_within b) units framing
+  pub ends : ending ≡ ending_by (is_within b) framing (read_on R [] (units_at (seen_of b) units))
+
+-- 0 where nothing is refused, else 1
+abbrev pub status_at : Option Ending → ℕ
+status_at None = 0
+status_at (Some ending) = 1
+
+-- the place in the first source behind its n-th unit
+abbrev pub behind_unit : ℕ → Where
+behind_unit n = record { source = 0; unit = n; picture = 0; written = false }
+
+-- a refusal is told at its place
+pub record IsToldAt (ending : Option Ending) (r : Refusal) (where_told : Where) : Type 0 where
+  pub first : Ending
+  pub is : ending ≡ Some first
+  pub refusal : r ≡ first.refusal
+  pub place : where_told ≡ behind_unit first.units
+
+-- of the bytes that a source tells, their units and their ending
+abbrev pub WhereKnown : {A : Type 0} → Readers → Change A → (List ℕ → List UnitPlace → Option Ending → Type 0) → Type 0
+WhereKnown R source P =
+    (b : List ℕ) (units : List UnitPlace) (ending : Option Ending)
+    → source.bytes source.old ≡ Some b → IsShown R b units ending → P b units ending
+
+-- how many bytes a read asks for
+abbrev pub read_len : ℕ
+read_len = 65536
+
+-- how many bytes show the end of a unit, where 00 00 00 or 00 00 01 stands behind it
+abbrev pub shown_by : UnitPlace → ℕ
+shown_by u = u.end + 3
+
+-- A read failed: `out` gained the lines of exactly the units whose end is seen in what the source has given, however
+-- that goes on, and no rule is broken there.
+pub record ShowsSeen {A K : Type 0} (R : Readers) (source : Change A) (out : Change K) : Type 0 where
+  pub given : List ℕ
+  pub units : List UnitPlace
+  pub before : List Reading
+  pub gave : Consumes (source.bytes source.old) (source.bytes source.new) given
+  pub seen : IsStream given false units None
+  pub read : read_on R [] (units_at given units) ≡ all_read before
+  pub lines : Gains out (lines_behind R given [] units)
+
+-- A write failed: `out` gained a front of the lines of the units up to one, the last that was taken. The source has ended,
+-- or has given fewer bytes past the place where that unit's end is seen than a read asks for.
+pub record ShowsFront {A K : Type 0} (R : Readers) (source : Change A) (out : Change K) : Type 0 where
+  pub given : List ℕ
+  pub before : List UnitPlace
+  pub last : UnitPlace
+  pub ended : Bool
+  pub gave : Consumes (source.bytes source.old) (source.bytes source.new) given
+  pub follow : FollowsFrom (seen_of given) ended 0 (before ++ last ∷ [])
+  pub lines : GainsFront out (shown_lines R given (before ++ last ∷ []))
+  pub whole : ended ≡ true → IsAtEnd (source.bytes source.new)
+  pub near : ended ≡ false → length given < shown_by last + read_len
+
+-- What `show` did to its source and to `out`, by what came of it. Where it was done or refused, `out` gained the lines of
+-- the units before the ending, and for want of memory those of the first of them, each with all its lines.
+abbrev pub ShowsBy : {A K : Type 0} → Readers → Change A → Change K → Outcome → Type 0
+ShowsBy R source out (Ok _) =
+    HasNoFault source × HasNoFault out × GivesFront source × IsAtEnd (source.bytes source.new)
+    × WhereKnown R source (λ b units ending. (ending ≡ None) × Gains out (shown_lines R b units))
+ShowsBy R source out (Err (Refused refusal place)) =
+    HasNoFault source × HasNoFault out × GivesFront source
+    × WhereKnown R source (λ b units ending. IsToldAt ending refusal place × Gains out (shown_lines R b units))
+ShowsBy R source out (Err (ReadFault k)) = HasFault source × (k ≡ 0) × ShowsSeen R source out
+ShowsBy R source out (Err WriteFault) =
+    HasNoFault source × HasFault out × ShowsFront R source out
+    × WhereKnown R source (λ b units ending. GainsFront out (shown_lines R b units))
+ShowsBy R source out (Err NoMemory) =
+    HasNoFault source × HasNoFault out × GivesFront source
+    × WhereKnown R source (λ b units ending. (n : ℕ) × Gains out (shown_lines R b (take n units)))
+ShowsBy R source out (Err NotUnderstood) = ⊥
+
+-- that is so by the readers of H.266; and the words were understood
+abbrev pub Shows : {A K : Type 0} → Change A → Change K → Outcome → Type 0
+Shows source out outcome = IfErr outcome IsOfCommand × ((R : Readers) → AreOfH266 R → ShowsBy R source out outcome)

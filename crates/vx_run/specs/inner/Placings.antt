@@ -1,0 +1,48 @@
+-- Words `X,Y=FILE`, and their parts.
+use Rattle.std.specs.Prelude.{◌≡◌, ℕ, ◌<◌, ◌==◌, List, length, Bool}
+use Rattle.std.specs.List.{AllByRecursion, before_first, after_first}
+use Rattle.std.specs.Str.Parse.{digits_value}
+use Rattle.vx_run.specs.declared.words.Command.{Command}
+use Rattle.vx_run.specs.declared.words.Command.TheVariants.{Show, Extract, CheckExtract, Merge, CheckMerge, Help, Version}
+use Rattle.vx_run.specs.declared.words.Placing.{Placing as Placed}
+use Rattle.vx_run.specs.Grammar.{Placing, placing_word, IsPlacing, texts}
+
+abbrev pub is_comma : ℕ → Bool
+is_comma b = b == 44
+
+abbrev pub is_equals : ℕ → Bool
+is_equals b = b == 61
+
+-- what stands before and behind the first comma of what stands before the first `=`, and what stands behind that
+abbrev pub placing_in : List ℕ → Placing
+placing_in word = record {
+  x = digits_value 10 (before_first is_comma (before_first is_equals word));
+  y = digits_value 10 (after_first is_comma (before_first is_equals word));
+  file = after_first is_equals word;
+}
+
+abbrev pub placed : Placed → Placing
+placed p = record { x = p.x; y = p.y; file = p.file.now }
+
+-- the word spells this
+pub record Spells (word : List ℕ) (p : Placing) : Type 0 where
+  pub spelled : word ≡ placing_word p
+  pub named : IsPlacing p
+
+-- it spells one
+abbrev pub IsPlacingWord : List ℕ → Type 0
+IsPlacingWord word = (p : Placing) × Spells word p
+
+-- there are words, and each does
+abbrev pub PlaceFiles : List (List ℕ) → Type 0
+PlaceFiles words = (0 < length words) × AllByRecursion IsPlacingWord words
+
+-- the words of a merge do
+abbrev pub HasPlacings : Command → Type 0
+HasPlacings (Show file) = Unit {0}
+HasPlacings (Extract tid level index file) = Unit {0}
+HasPlacings (CheckExtract tid index file) = Unit {0}
+HasPlacings (Merge level placings) = AllByRecursion IsPlacingWord (texts placings.now)
+HasPlacings (CheckMerge placings) = AllByRecursion IsPlacingWord (texts placings.now)
+HasPlacings Help = Unit {0}
+HasPlacings Version = Unit {0}

@@ -1,0 +1,90 @@
+//! How a command that is not done ends: its status, and the line that tells why.
+
+ghost use Rattle.std.specs.Prelude.{◌≡◌, ◌≤◌, ◌⊎◌, [], IfOk, OnErr};
+ghost use Rattle.std.specs.Io.Buffered.{writer_buffer, writer_contents};
+ghost use Rattle.std.specs.Io.KnownBytes.{Keeps};
+ghost use Rattle.vx_run.specs.Change.{IsUntouched, Tells, change};
+ghost use Rattle.vx_run.specs.Conclusion.{Concludes, line_of};
+ghost use Rattle.vx_run.specs.declared.stop.Stop.TheVariants.{ReadFault, WriteFault, NoMemory};
+
+use crate::stop::Stop;
+use std::alloc::{AllocError, Global};
+use std::io::{BufWriter, Write};
+use vx_io::{Sink, write_all};
+use vx_report::refusal_line;
+
+/// Tells on `err` why a command stopped, and answers its status. A failed
+/// write to `err` changes nothing else.
+pub(crate) fn conclude<E: Sink>(alloc: Global, stop: Stop, err: &mut E) -> u8
+    ensures { Concludes stop result (change E.bytes_taken E.write_faults err.old err.new) }
+{
+    match stop {
+        Stop::NotUnderstood => {
+            tell(err, b"words not understood\n");
+            2
+        }
+        Stop::Refused { refusal, place } => end(err, refusal_line(alloc, refusal, place), 1),
+        Stop::ReadFault { source } => end(err, read_fault_line(alloc, source), 3),
+        Stop::WriteFault => {
+            tell(err, b"write fault\n");
+            3
+        }
+        Stop::NoMemory => {
+            tell(err, b"no memory\n");
+            4
+        }
+    }
+}
+
+/// Writes what was gathered and not yet written, at the end of a command of this status. Where that
+/// fails, and no fault or want of memory was told before, it is a write fault.
+pub fn finish<W: Write + Drop, E: Sink>(
+    alloc: Global,
+    status: u8,
+    gathered: &mut BufWriter<W>,
+    err: &mut E,
+) -> u8
+    ensures status { ((result ≡ status) × IsUntouched (change E.bytes_taken E.write_faults err.old err.new))
+        ⊎ ((status ≤ 1) × Concludes WriteFault result (change E.bytes_taken E.write_faults err.old err.new)) }
+    ensures written { result ≤ 1 → writer_buffer gathered.new ≡ [] }
+    ensures bytes { Keeps (writer_contents W.contents gathered.old) (writer_contents W.contents gathered.new) }
+{
+    match gathered.flush() {
+        Ok(()) => status,
+        Err(_) if status > 1 => status,
+        Err(_) => conclude(alloc, Stop::WriteFault, err),
+    }
+}
+
+/// Tells a line that was made, and answers the status that goes with it.
+fn end<E: Sink>(err: &mut E, line: Result<Vec<u8>, AllocError>, status: u8) -> u8
+    ensures made { IfOk line (λ made.
+        (result ≡ status) × Tells (change E.bytes_taken E.write_faults err.old err.new) made.items) }
+    ensures memory { OnErr line
+        ((result ≡ 4) × Tells (change E.bytes_taken E.write_faults err.old err.new) (line_of NoMemory)) }
+{
+    match line {
+        Ok(line) => {
+            tell(err, &line);
+            status
+        }
+        Err(AllocError) => {
+            tell(err, b"no memory\n");
+            4
+        }
+    }
+}
+
+/// Writes one line. Whether it was written changes nothing else.
+fn tell<E: Sink>(err: &mut E, line: &[u8])
+    ensures { Tells (change E.bytes_taken E.write_faults err.old err.new) line.now }
+{
+    let _ = write_all(err, line);
+}
+
+/// `read fault source 0`
+fn read_fault_line(alloc: Global, source: u16) -> Result<Vec<u8>, AllocError>
+    ensures { IfOk result (λ line. line.items ≡ line_of (ReadFault source)) }
+{
+    Ok(format!(in alloc; "read fault source {source}\n")?.into_bytes())
+}

@@ -1,0 +1,327 @@
+//! `extract` and `check extract`: a subpicture of each picture of a byte stream, as a stream of its own.
+
+ghost use Rattle.std.specs.Prelude.{◌≡◌, ◌+◌, ◌<◌, ◌≤◌, [], ◌∷◌, ◌^◌, List, ℕ, true, cond, Ok, None, IfOk, IfErr, OnOk};
+ghost use Rattle.vx_annexb.specs.ByteStream.{UnitPlace};
+ghost use Rattle.vx_annexb.specs.Reading.{LastWasNeeded};
+ghost use Rattle.vx_pic.specs.Readings.{Reading, Picture as StreamPicture, pictures as pictures_in};
+ghost use Rattle.vx_pic.specs.Rules.{Readers};
+ghost use Rattle.vx_pic.specs.H266.{AreOfH266};
+ghost use Rattle.vx_pic.specs.Written.{Plan};
+ghost use Rattle.vx_assemble.specs.Held.{HasPicture, ShowsLatest, lent_by};
+ghost use Rattle.vx_assemble.specs.Feed.{HasFed, EndsAtEnd, Advances};
+ghost use Rattle.vx_assemble.specs.declared.feed.Step.TheVariants as steps;
+ghost use Rattle.vx_extract.specs.Extracting.{Stands, SameTask};
+ghost use Rattle.vx_run.specs.Change.{change};
+ghost use Rattle.vx_run.specs.Conclusion.{IsOfCommand};
+ghost use Rattle.vx_run.specs.Extract.{ExtractsBy, ChecksBy, at_picture as place_at, ok_text};
+ghost use Rattle.vx_bits.specs.declared.refusal.Refusal.TheVariants.{Extract};
+ghost use Rattle.vx_run.specs.ReadAgain.{IsReadAgain};
+ghost use Rattle.vx_run.specs.inner.Extracting.{AdvancesOn, ExtractsOne, ExtractsNext, ChecksOne, ChecksLatest, ChecksNext, CountsBy, HasChecked, HasExtracted, HaveSlices, IsTask, TakenIsReadAgain, stop_by, stop_at};
+ghost use Rattle.vx_run.specs.declared.extract.Task.{Task};
+ghost use Rattle.vx_run.specs.declared.stop.Stop.TheVariants as stops;
+
+use crate::show::behind_unit;
+use crate::stop::Stop;
+use std::alloc::{AllocError, Global};
+use vx_annexb::units_can_stand;
+use vx_assemble::{Feed, FeedFault, Step};
+use vx_bits::Refusal;
+use vx_bits::rules::NO_PICTURE;
+use vx_extract::{Extractor, WriteError, extraction_reads_again};
+use vx_io::{Sink, Source, write_all};
+use vx_pic::{Picture, subpictures_have_slices};
+use vx_report::Where;
+
+/// What is asked of an extraction.
+#[derive(Clone, Copy, Debug, PartialEq, Eq)]
+pub struct Task {
+    /// The index of the subpicture.
+    pub target: u32,
+    /// The level that is told; that of the source where there is none.
+    pub level: Option<u8>,
+    /// The highest TemporalId of the pictures that are kept.
+    pub tid: u8,
+}
+
+/// Writes the subpicture of each picture of a source that is kept, with the sets that it needs.
+pub(crate) fn extract<K: Sink>(
+    alloc: Global,
+    task: Task,
+    source: &mut Box<dyn Source>,
+    out: &mut K,
+) -> Result<(), Stop>
+    requires { task.tid ≤ 6 }
+    ensures extracts { (R : Readers) → AreOfH266 R → ExtractsBy R task (change bytes_left read_faults source.old source.new)
+        (change K.bytes_taken K.write_faults out.old out.new) result }
+    ensures stop { IfErr result IsOfCommand }
+{
+    extractions_read_again();
+    let mut feed = Feed::new(alloc)?;
+    let mut extractor = Extractor::limited(alloc, task.target, task.level, task.tid);
+    let mut pictures = 0;
+    while extract_next(&mut feed, &mut extractor, pictures, source, out)? {
+        pictures = one_more(pictures, feed.unit());
+    }
+    some_picture(pictures)
+}
+
+/// What is written of pictures is read again.
+fn extractions_read_again()
+    ensures none { (R : Readers) → AreOfH266 R → (t : Task) → IsReadAgain R t [] [] }
+    ensures taken { (R : Readers) → AreOfH266 R → (t : Task) → TakenIsReadAgain R t }
+{
+    units_can_stand();
+    extraction_reads_again();
+}
+
+/// Each picture of units has a slice of each of its subpictures.
+fn pictures_have_slices()
+    ensures { (R : Readers) → AreOfH266 R → HaveSlices R }
+{
+    subpictures_have_slices();
+}
+
+/// Comes to the next picture of a source, behind so many others, if there is one, and writes its subpicture or leaves it out.
+fn extract_next<K: Sink>(
+    feed: &mut Feed,
+    extractor: &mut Extractor,
+    pictures: u64,
+    source: &mut Box<dyn Source>,
+    out: &mut K,
+) -> Result<bool, Stop>
+    ensures answer { (R : Readers) → AreOfH266 R → (t : Task) → IsTask t extractor.old → TakenIsReadAgain R t → (first : _) (start : _)
+        → HasExtracted R t (change bytes_left read_faults first source.old) (change K.bytes_taken K.write_faults start out.old) feed.old extractor.old pictures
+        → ExtractsNext R t (change bytes_left read_faults first source.new) (change K.bytes_taken K.write_faults start out.new) feed.old feed.new extractor.new pictures result }
+    ensures task { SameTask extractor.old extractor.new }
+    ensures few { OnOk result (feed.new.units ≤ 2 ^ 40) }
+    ensures stop { IfErr result IsOfCommand }
+{
+    pictures_have_slices();
+    if !advance(feed, source)? {
+        return Ok(false);
+    }
+    extract_picture(feed, extractor, pictures, out)?;
+    Ok(true)
+}
+
+/// Says how many pictures of a source are kept, where the subpicture can be extracted.
+pub(crate) fn check_extract<K: Sink>(
+    alloc: Global,
+    task: Task,
+    source: &mut Box<dyn Source>,
+    out: &mut K,
+) -> Result<(), Stop>
+    requires { task.tid ≤ 6 }
+    ensures checks { (R : Readers) → AreOfH266 R → ChecksBy R task (change bytes_left read_faults source.old source.new)
+        (change K.bytes_taken K.write_faults out.old out.new) result }
+    ensures stop { IfErr result IsOfCommand }
+{
+    let kept = count_kept(alloc, task, source)?;
+    let line = ok_line(alloc, kept)?;
+    write_all(out, &line)?;
+    Ok(())
+}
+
+/// How many pictures of a source are kept, where the subpicture can be extracted.
+fn count_kept(alloc: Global, task: Task, source: &mut Box<dyn Source>) -> Result<u64, Stop>
+    requires { task.tid ≤ 6 }
+    ensures counts { (R : Readers) → AreOfH266 R → CountsBy R task (change bytes_left read_faults source.old source.new) result }
+    ensures stop { IfErr result IsOfCommand }
+{
+    let mut feed = Feed::new(alloc)?;
+    let mut extractor = Extractor::limited(alloc, task.target, task.level, task.tid);
+    let mut pictures = 0;
+    let mut kept = 0;
+    while let Some(stays) = check_next(task.tid, &mut feed, &mut extractor, pictures, source)? {
+        pictures = one_more(pictures, feed.unit());
+        kept = with_one(stays, kept, pictures);
+    }
+    some_picture(pictures)?;
+    Ok(kept)
+}
+
+/// Comes to the next picture of a source, behind so many others, if there is one, and tells whether it is kept.
+fn check_next(
+    tid: u8,
+    feed: &mut Feed,
+    extractor: &mut Extractor,
+    pictures: u64,
+    source: &mut Box<dyn Source>,
+) -> Result<Option<bool>, Stop>
+    ensures answer { extractor.old.first ≡ None → (R : Readers) → AreOfH266 R → (t : Task) → IsTask t extractor.old → t.tid ≡ tid
+        → (first : _) (kept : ℕ) → HasChecked R t (change bytes_left read_faults first source.old) feed.old pictures kept
+        → ChecksNext R t (change bytes_left read_faults first source.new) feed.old feed.new pictures kept result }
+    ensures stays { OnOk result (extractor.new ≡ extractor.old) }
+    ensures few { OnOk result (feed.new.units ≤ 2 ^ 40) }
+    ensures stop { IfErr result IsOfCommand }
+{
+    if !advance(feed, source)? {
+        return Ok(None);
+    }
+    let kept = check_latest(tid, feed, extractor, pictures)?;
+    Ok(Some(kept))
+}
+
+/// Whether the picture that was done last, behind so many others, is kept, where the subpicture can be extracted.
+fn check_latest(
+    tid: u8,
+    feed: &Feed,
+    extractor: &mut Extractor,
+    pictures: u64,
+) -> Result<bool, Stop>
+    requires { HasPicture feed.now.assembler }
+    ensures shows { (R : Readers) (g : List ℕ) (units : List UnitPlace) (readings : List Reading) → HasFed R feed.now g units readings
+        → ShowsLatest (lent_by feed.now.assembler) (pictures_in readings) }
+    ensures answer { extractor.old.first ≡ None → ChecksLatest tid (lent_by feed.now.assembler) extractor.old pictures result }
+    ensures stays { OnOk result (extractor.new ≡ extractor.old) }
+    ensures stop { IfErr result IsOfCommand }
+{
+    let picture = feed.picture();
+    check_picture(&picture, extractor, pictures)?;
+    Ok(picture.kind().temporal_id <= tid)
+}
+
+/// Comes to the next picture of the first source, if there is one.
+fn advance(feed: &mut Feed, source: &mut Box<dyn Source>) -> Result<bool, Stop>
+    ensures answer { (R : Readers) → AreOfH266 R → (g : List ℕ) (units : List UnitPlace) (readings : List Reading)
+        → HasFed R feed.old g units readings → LastWasNeeded g units
+        → AdvancesOn R g units readings feed.new (bytes_left source.old) (bytes_left source.new) (read_faults source.old) (read_faults source.new) result }
+    ensures picture { result ≡ Ok true → HasPicture feed.new.assembler }
+    ensures end { EndsAtEnd feed.old (bytes_left source.old) → EndsAtEnd feed.new (bytes_left source.new) }
+    ensures few { OnOk result (feed.new.units ≤ 2 ^ 40) }
+    ensures stop { IfErr result IsOfCommand }
+{
+    match step(feed, source) {
+        Ok(Step::Picture) => Ok(true),
+        Ok(Step::End) => Ok(false),
+        Err(fault) => Err(stop_of(fault, feed.unit())),
+    }
+}
+
+/// Advances on the source.
+pub(crate) fn step(feed: &mut Feed, source: &mut Box<dyn Source>) -> Result<Step, FeedFault>
+    ensures answer { (R : Readers) → AreOfH266 R → (g : List ℕ) (units : List UnitPlace) (readings : List Reading)
+        → HasFed R feed.old g units readings → LastWasNeeded g units
+        → Advances R g units readings feed.new (bytes_left source.old) (bytes_left source.new) (read_faults source.old) (read_faults source.new) result }
+    ensures picture { result ≡ Ok steps.Picture → HasPicture feed.new.assembler }
+    ensures end { EndsAtEnd feed.old (bytes_left source.old) → EndsAtEnd feed.new (bytes_left source.new) }
+    ensures few { OnOk result (feed.new.units ≤ 2 ^ 40) }
+{
+    feed.advance(&mut **source)
+}
+
+/// What stops a command where a feed stops behind its n-th unit.
+fn stop_of(fault: FeedFault, n: u64) -> Stop
+    ensures { result ≡ stop_by fault n }
+{
+    match fault {
+        FeedFault::Refused(refusal) => Stop::Refused {
+            refusal,
+            place: behind_unit(n),
+        },
+        FeedFault::SourceFailed => Stop::ReadFault { source: 0 },
+        FeedFault::Memory | FeedFault::Stopped(_) => Stop::NoMemory,
+    }
+}
+
+/// Writes the subpicture of the picture that was done last, behind so many others, or leaves it out.
+fn extract_picture<K: Sink>(
+    feed: &Feed,
+    extractor: &mut Extractor,
+    pictures: u64,
+    out: &mut K,
+) -> Result<(), Stop>
+    requires { HasPicture feed.now.assembler }
+    ensures answer { (R : Readers) (g : List ℕ) (units : List UnitPlace) (readings : List Reading) (p : StreamPicture)
+        (ps : List StreamPicture) (done : List Plan)
+        → HasFed R feed.now g units readings → pictures_in readings ≡ p ∷ ps → Stands extractor.old done
+        → ExtractsOne p done extractor.new (K.bytes_taken out.old) (K.bytes_taken out.new) (K.write_faults out.old) (K.write_faults out.new) pictures result }
+    ensures task { SameTask extractor.old extractor.new }
+    ensures stop { IfErr result IsOfCommand }
+{
+    match extractor.picture(&feed.picture(), out) {
+        Ok(()) => Ok(()),
+        Err(error) => Err(stop_of_picture(error, pictures)),
+    }
+}
+
+/// Whether the subpicture of a picture behind so many others can be extracted.
+fn check_picture(
+    picture: &Picture<'_>,
+    extractor: &mut Extractor,
+    pictures: u64,
+) -> Result<(), Stop>
+    ensures answer { extractor.old.first ≡ None → ChecksOne picture.now extractor.old pictures result }
+    ensures stays { OnOk result (extractor.new ≡ extractor.old) }
+    ensures stop { IfErr result IsOfCommand }
+{
+    match extractor.check(picture) {
+        Ok(()) => Ok(()),
+        Err(error) => Err(stop_of_picture(error, pictures)),
+    }
+}
+
+/// What stops a command where the n-th picture isn't written.
+fn stop_of_picture(error: WriteError, n: u64) -> Stop
+    ensures { result ≡ stop_at error n }
+{
+    match error {
+        WriteError::Refused(refusal) => Stop::Refused {
+            refusal,
+            place: at_picture(n),
+        },
+        WriteError::SinkFailed => Stop::WriteFault,
+        WriteError::Memory | WriteError::Stopped(_) => Stop::NoMemory,
+    }
+}
+
+/// One more than a count that is below `most`.
+pub(crate) fn one_more(count: u64, most: u64) -> u64
+    ensures { count < most → result ≡ count + 1 }
+{
+    most.min(count.saturating_add(1))
+}
+
+/// A count with one more, where it is counted, which is then below `most`.
+fn with_one(counted: bool, count: u64, most: u64) -> u64
+    ensures { count < most → result ≡ cond counted (count + 1) count }
+{
+    if counted {
+        one_more(count, most)
+    } else {
+        count
+    }
+}
+
+/// There has to be a picture.
+fn some_picture(pictures: u64) -> Result<(), Stop>
+    ensures some { OnOk result (0 < pictures) }
+    ensures none { IfErr result (λ stop. (pictures ≡ 0) × (stop ≡ stops.Refused (Extract NO_PICTURE) (place_at 0))) }
+{
+    if pictures > 0 {
+        return Ok(());
+    }
+    Err(Stop::Refused {
+        refusal: Refusal::Extract { code: NO_PICTURE },
+        place: at_picture(0),
+    })
+}
+
+/// `ok pictures 2`
+pub(crate) fn ok_line(alloc: Global, kept: u64) -> Result<Vec<u8>, AllocError>
+    ensures { IfOk result (λ line. line.items ≡ ok_text kept) }
+{
+    Ok(format!(in alloc; "ok pictures {kept}\n")?.into_bytes())
+}
+
+/// The n-th picture of the first source.
+fn at_picture(n: u64) -> Where
+    ensures { result ≡ place_at n }
+{
+    Where {
+        source: 0,
+        unit: 0,
+        picture: n,
+        written: false,
+    }
+}

@@ -1,0 +1,20 @@
+//! The program over words, sources and sinks: [`run`] does what the words ask for.
+//!
+//! What it does is defined in the folder `specs`: `Grammar` has the words that are understood, `Run` what each command does.
+#![tactic(auto)]
+
+mod about;
+mod conclude;
+mod extract;
+mod merge;
+mod program;
+mod show;
+mod stop;
+mod words;
+
+pub use conclude::finish;
+pub use extract::Task;
+pub use merge::merge_ends_once;
+pub use program::run;
+pub use stop::Stop;
+pub use words::{file_count, file_word};

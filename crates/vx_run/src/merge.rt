@@ -1,0 +1,387 @@
+//! `merge` and `check merge`: the pictures of several byte streams as those of one stream, round by round.
+
+ghost use Rattle.std.specs.Prelude.{◌≡◌, ◌+◌, ◌<◌, ◌≤◌, ◌^◌, List, All, ℕ, true, map, length, vec_len, Ok, Err, IfOk, IfErr, OnOk};
+ghost use Rattle.std.specs.List.{AllByRecursion};
+ghost use Rattle.vx_annexb.specs.ByteStream.{UnitPlace};
+ghost use Rattle.vx_annexb.specs.Reading.{LastWasNeeded};
+ghost use Rattle.vx_pic.specs.Readings.{Reading, Picture as StreamPicture};
+ghost use Rattle.vx_pic.specs.Rules.{Readers};
+ghost use Rattle.vx_pic.specs.H266.{AreOfH266};
+ghost use Rattle.vx_pic.specs.Written.{Plan};
+ghost use Rattle.vx_assemble.specs.Held.{HasPicture, lent_by};
+ghost use Rattle.vx_assemble.specs.Feed.{HasFed, EndsAtEnd};
+ghost use Rattle.vx_merge.specs.Merging.{AreCorners, SameTask, Stands};
+ghost use Rattle.vx_run.specs.Change.{change, sources_change};
+ghost use Rattle.vx_run.specs.Conclusion.{IsOfCommand};
+ghost use Rattle.vx_run.specs.Grammar.{texts};
+ghost use Rattle.vx_run.specs.Merge.{ChecksMerge, ChecksMergeBy, Merges, MergesBy, EndsOnce, corners_of as corners_by, in_round as place_in, behind_units as place_behind, too_many as too_many_sources, most_sources};
+ghost use Rattle.vx_run.specs.inner.Merging.{AdvancesOf, AdvancesAll, AreWaiting, DoesRound, TakesRound, TakesRounds, OfAll, IsUnfed, LendsLatest, GoesBy, stop_from, stop_in};
+ghost use Rattle.vx_run.specs.inner.Placings.{IsPlacingWord, placing_in};
+
+use crate::extract::{ok_line, one_more, step};
+use crate::stop::Stop;
+use crate::words::placing_of;
+use std::alloc::{AllocError, Global};
+use vx_assemble::{Feed, FeedFault, Step};
+use vx_bits::Refusal;
+use vx_bits::rules::{LENGTH, TOO_MANY_SOURCES};
+use vx_io::{Sink, Source, write_all};
+use vx_merge::{Corner, Lengths, Merger, WriteError, lengths};
+use vx_report::Where;
+
+/// How many sources a merge may have.
+const MOST_SOURCES: usize = 64;
+
+/// What is done with each round.
+#[derive(Clone, Copy, PartialEq, Eq)]
+enum Work {
+    /// It is checked.
+    Check,
+    /// It is written.
+    Write,
+}
+
+/// Writes the pictures of the files that these words place as those of one stream, each with its region of the picture that they make up;
+/// with a level of its own or the files' highest.
+pub(crate) fn merge<K: Sink>(
+    alloc: Global,
+    level: Option<u8>,
+    placings: &[String],
+    sources: &mut Vec<Box<dyn Source>>,
+    out: &mut K,
+) -> Result<(), Stop>
+    requires words { AllByRecursion IsPlacingWord (texts placings.now) }
+    requires some { 0 < length placings.now }
+    requires count { vec_len sources.old ≡ length placings.now }
+    ensures merges { Merges (corners_by (map placing_in (texts placings.now))) level
+        (sources_change bytes_left read_faults sources.old.items sources.new.items)
+        (change K.bytes_taken K.write_faults out.old out.new) result }
+    ensures list { vec_len sources.new ≡ vec_len sources.old }
+{
+    if placings.len() > MOST_SOURCES {
+        return Err(too_many());
+    }
+    write_rounds(alloc, level, placings, sources, out)
+}
+
+/// Writes all rounds.
+fn write_rounds<K: Sink>(
+    alloc: Global,
+    level: Option<u8>,
+    placings: &[String],
+    sources: &mut Vec<Box<dyn Source>>,
+    out: &mut K,
+) -> Result<(), Stop>
+    requires words { AllByRecursion IsPlacingWord (texts placings.now) }
+    requires some { 0 < length placings.now }
+    requires few { length placings.now ≤ most_sources }
+    requires count { vec_len sources.old ≡ length placings.now }
+    ensures merges { (R : Readers) → AreOfH266 R → MergesBy R (corners_by (map placing_in (texts placings.now))) level
+        (sources_change bytes_left read_faults sources.old.items sources.new.items)
+        (change K.bytes_taken K.write_faults out.old out.new) result }
+    ensures stop { IfErr result IsOfCommand }
+    ensures list { vec_len sources.new ≡ vec_len sources.old }
+{
+    let corners = corners_of(alloc, placings)?;
+    take_rounds(alloc, Work::Write, level, &corners, sources, out)?;
+    Ok(())
+}
+
+/// Says how many rounds of pictures the files have that these words place, where they can be written as one stream.
+pub(crate) fn check_merge<K: Sink>(
+    alloc: Global,
+    placings: &[String],
+    sources: &mut Vec<Box<dyn Source>>,
+    out: &mut K,
+) -> Result<(), Stop>
+    requires words { AllByRecursion IsPlacingWord (texts placings.now) }
+    requires some { 0 < length placings.now }
+    requires count { vec_len sources.old ≡ length placings.now }
+    ensures checks { ChecksMerge (corners_by (map placing_in (texts placings.now)))
+        (sources_change bytes_left read_faults sources.old.items sources.new.items)
+        (change K.bytes_taken K.write_faults out.old out.new) result }
+    ensures list { vec_len sources.new ≡ vec_len sources.old }
+{
+    if placings.len() > MOST_SOURCES {
+        return Err(too_many());
+    }
+    check_rounds(alloc, placings, sources, out)
+}
+
+/// More sources are named than a merge may have.
+fn too_many() -> Stop
+    ensures { Err result ≡ too_many_sources }
+{
+    Stop::Refused {
+        refusal: Refusal::Limit {
+            code: TOO_MANY_SOURCES,
+        },
+        place: in_round(0),
+    }
+}
+
+/// Says how many rounds there are.
+fn check_rounds<K: Sink>(
+    alloc: Global,
+    placings: &[String],
+    sources: &mut Vec<Box<dyn Source>>,
+    out: &mut K,
+) -> Result<(), Stop>
+    requires words { AllByRecursion IsPlacingWord (texts placings.now) }
+    requires some { 0 < length placings.now }
+    requires few { length placings.now ≤ most_sources }
+    requires count { vec_len sources.old ≡ length placings.now }
+    ensures checks { (R : Readers) → AreOfH266 R → ChecksMergeBy R (corners_by (map placing_in (texts placings.now)))
+        (sources_change bytes_left read_faults sources.old.items sources.new.items)
+        (change K.bytes_taken K.write_faults out.old out.new) result }
+    ensures stop { IfErr result IsOfCommand }
+    ensures list { vec_len sources.new ≡ vec_len sources.old }
+{
+    let corners = corners_of(alloc, placings)?;
+    let rounds = take_rounds(alloc, Work::Check, None, &corners, sources, out)?;
+    let line = ok_line(alloc, rounds)?;
+    write_all(out, &line)?;
+    Ok(())
+}
+
+/// The corners of the regions in which these words place files.
+fn corners_of(alloc: Global, placings: &[String]) -> Result<Vec<Corner>, AllocError>
+    requires { AllByRecursion IsPlacingWord (texts placings.now) }
+    ensures { IfOk result (λ corners. corners.items ≡ corners_by (map placing_in (texts placings.now))) }
+{
+    let mut corners = Vec::new(alloc);
+    for word in placings {
+        let placing = placing_of(word.as_str()).unwrap();
+        corners.push(Corner {
+            x: u32::from(placing.x),
+            y: u32::from(placing.y),
+        })?;
+    }
+    Ok(corners)
+}
+
+/// Takes round after round of pictures of the sources, and says how many there are.
+fn take_rounds<K: Sink>(
+    alloc: Global,
+    work: Work,
+    level: Option<u8>,
+    corners: &[Corner],
+    sources: &mut Vec<Box<dyn Source>>,
+    out: &mut K,
+) -> Result<u64, Stop>
+    requires corners { AreCorners corners.now }
+    requires count { vec_len sources.old ≡ length corners.now }
+    ensures takes { (R : Readers) → AreOfH266 R → TakesRounds R work corners.now level
+        (sources_change bytes_left read_faults sources.old.items sources.new.items)
+        (change K.bytes_taken K.write_faults out.old out.new) result }
+    ensures stop { IfErr result IsOfCommand }
+    ensures list { vec_len sources.new ≡ vec_len sources.old }
+{
+    let mut feeds = feeds_for(alloc, sources.len())?;
+    let mut ended = going(alloc, sources.len())?;
+    let mut merger = Merger::new(alloc, corners, level)?;
+    let mut rounds = 0;
+    while advance_all(&mut feeds, sources, &mut ended, rounds)? {
+        take_round(work, &mut merger, &feeds, rounds, out)?;
+        rounds = one_more(rounds, feeds[0].unit());
+    }
+    Ok(rounds)
+}
+
+/// A feed for each of so many sources.
+fn feeds_for(alloc: Global, count: usize) -> Result<Vec<Feed>, AllocError>
+    ensures count { IfOk result (λ feeds. vec_len feeds ≡ count) }
+    ensures unfed { IfOk result (λ feeds. OfAll (λ k f. IsUnfed f) feeds.items) }
+{
+    let mut feeds = Vec::new(alloc);
+    for _ in 0..count {
+        let feed = Feed::new(alloc)?;
+        feeds.push(feed)?;
+    }
+    Ok(feeds)
+}
+
+/// That none of so many sources has ended.
+fn going(alloc: Global, count: usize) -> Result<Vec<bool>, AllocError>
+    ensures { IfOk result (λ ended. vec_len ended ≡ count) }
+{
+    let mut ended = Vec::new(alloc);
+    for _ in 0..count {
+        ended.push(false)?;
+    }
+    Ok(ended)
+}
+
+/// Comes to the next picture of each source, in order, behind so many rounds, if they go on.
+fn advance_all(
+    feeds: &mut Vec<Feed>,
+    sources: &mut Vec<Box<dyn Source>>,
+    ended: &mut Vec<bool>,
+    rounds: u64,
+) -> Result<bool, Stop>
+    requires some { 0 < vec_len sources.old }
+    requires few { vec_len sources.old ≤ most_sources }
+    requires feeds { vec_len feeds.old ≡ vec_len sources.old }
+    requires ended { vec_len ended.old ≡ vec_len sources.old }
+    ensures answer { (R : Readers) → AreOfH266 R → (first : List _) (taken : List (List StreamPicture))
+        → AreWaiting R (sources_change bytes_left read_faults first sources.old.items) feeds.old.items taken rounds
+        → AdvancesAll R (sources_change bytes_left read_faults first sources.new.items) feeds.new.items taken rounds result }
+    ensures few { OnOk result (OfAll (λ k f. f.units ≤ 2 ^ 40) feeds.new.items) }
+    ensures stop { IfErr result IsOfCommand }
+    ensures feeds { vec_len feeds.new ≡ vec_len feeds.old }
+    ensures ended { vec_len ended.new ≡ vec_len ended.old }
+    ensures list { vec_len sources.new ≡ vec_len sources.old }
+{
+    for k in 0..feeds.len() {
+        let goes = advance(&mut feeds[k], &mut sources[k], k as u16)?;
+        ended[k] = !goes;
+    }
+    all_go_on(ended, rounds)
+}
+
+/// Whether all sources go on behind so many rounds, or all have ended.
+fn all_go_on(ended: &[bool], rounds: u64) -> Result<bool, Stop>
+    requires { (0 < length ended.now) × (length ended.now ≤ most_sources) }
+    ensures goes { GoesBy ended.now rounds result }
+    ensures stop { IfErr result IsOfCommand }
+{
+    match lengths(ended) {
+        Lengths::AllGo => Ok(true),
+        Lengths::AllEnded => Ok(false),
+        Lengths::Differ(source) => Err(Stop::Refused {
+            refusal: Refusal::Merge {
+                code: LENGTH,
+                source,
+                field: 0,
+            },
+            place: in_round(rounds),
+        }),
+    }
+}
+
+/// Comes to the next picture of source `k`, if there is one.
+fn advance(feed: &mut Feed, source: &mut Box<dyn Source>, k: u16) -> Result<bool, Stop>
+    ensures answer { (R : Readers) → AreOfH266 R → (g : List ℕ) (units : List UnitPlace) (readings : List Reading)
+        → HasFed R feed.old g units readings → LastWasNeeded g units
+        → AdvancesOf k R g units readings feed.new (bytes_left source.old) (bytes_left source.new) (read_faults source.old) (read_faults source.new) result }
+    ensures lent { result ≡ Ok true → LendsLatest feed.new }
+    ensures end { EndsAtEnd feed.old (bytes_left source.old) → EndsAtEnd feed.new (bytes_left source.new) }
+    ensures few { OnOk result (feed.new.units ≤ 2 ^ 40) }
+    ensures stop { IfErr result IsOfCommand }
+{
+    match step(feed, source) {
+        Ok(Step::Picture) => {
+            lends_latest(feed);
+            Ok(true)
+        }
+        Ok(Step::End) => Ok(false),
+        Err(fault) => Err(stop_of(fault, k, feed.unit())),
+    }
+}
+
+/// What a feed lends is the picture that was taken last.
+fn lends_latest(feed: &Feed)
+    requires { HasPicture feed.now.assembler }
+    ensures { LendsLatest feed.now }
+{
+    let _picture = feed.picture();
+}
+
+/// What stops the command where the feed of source `k` stops behind its n-th unit.
+fn stop_of(fault: FeedFault, k: u16, n: u64) -> Stop
+    ensures { result ≡ stop_from k fault n }
+{
+    match fault {
+        FeedFault::Refused(refusal) => Stop::Refused {
+            refusal,
+            place: behind_units(k, n),
+        },
+        FeedFault::SourceFailed => Stop::ReadFault { source: k },
+        FeedFault::Memory | FeedFault::Stopped(_) => Stop::NoMemory,
+    }
+}
+
+/// Checks or writes the round of the pictures that the feeds lend, behind so many rounds.
+fn take_round<K: Sink>(
+    work: Work,
+    merger: &mut Merger,
+    feeds: &[Feed],
+    rounds: u64,
+    out: &mut K,
+) -> Result<(), Stop>
+    requires count { length feeds.now ≡ length merger.old.corners }
+    requires holds { All (λ f. HasPicture f.assembler) feeds.now }
+    ensures takes { (done : List Plan) → Stands merger.old done
+        → TakesRound work (map (λ f. lent_by f.assembler) feeds.now) done merger.new
+        (change K.bytes_taken K.write_faults out.old out.new) rounds result }
+    ensures task { SameTask merger.old merger.new }
+    ensures stop { IfErr result IsOfCommand }
+{
+    match do_round(work, merger, feeds, out) {
+        Ok(()) => Ok(()),
+        Err(error) => Err(stop_of_round(error, rounds)),
+    }
+}
+
+/// Checks or writes the round of the pictures that the feeds lend.
+fn do_round<K: Sink>(
+    work: Work,
+    merger: &mut Merger,
+    feeds: &[Feed],
+    out: &mut K,
+) -> Result<(), WriteError>
+    requires count { length feeds.now ≡ length merger.old.corners }
+    requires holds { All (λ f. HasPicture f.assembler) feeds.now }
+    ensures does { (done : List Plan) → Stands merger.old done
+        → DoesRound work (map (λ f. lent_by f.assembler) feeds.now) done merger.new
+        (change K.bytes_taken K.write_faults out.old out.new) result }
+    ensures task { SameTask merger.old merger.new }
+{
+    match work {
+        Work::Check => merger.check(feeds),
+        Work::Write => merger.round(feeds, out),
+    }
+}
+
+/// What stops the command where round `n` isn't put together.
+fn stop_of_round(error: WriteError, n: u64) -> Stop
+    ensures { result ≡ stop_in error n }
+{
+    match error {
+        WriteError::Refused(refusal) => Stop::Refused {
+            refusal,
+            place: in_round(n),
+        },
+        WriteError::SinkFailed => Stop::WriteFault,
+        WriteError::Memory | WriteError::Stopped(_) => Stop::NoMemory,
+    }
+}
+
+/// The place in source `k` behind its n-th unit.
+fn behind_units(k: u16, n: u64) -> Where
+    ensures { result ≡ place_behind k n }
+{
+    Where {
+        source: k,
+        unit: n,
+        picture: 0,
+        written: false,
+    }
+}
+
+/// Round `n`.
+fn in_round(n: u64) -> Where
+    ensures { result ≡ place_in n }
+{
+    Where {
+        source: 0,
+        unit: 0,
+        picture: n,
+        written: true,
+    }
+}
+
+/// A merge ends once.
+pub fn merge_ends_once()
+    ensures { EndsOnce }
+{}

@@ -1,0 +1,242 @@
+//! `show FILE`: lines for the NAL units, the sets and the pictures of a byte stream.
+
+ghost use Rattle.std.specs.Prelude.{◌≡◌, ◌+◌, ◌<◌, ◌++◌, ◌∷◌, [], List, ℕ, length, Some, None, Ok, Err, IfOk, IfErr, MatchOption, OnOk, OnSome};
+ghost use Rattle.vx_annexb.specs.ByteStream.{UnitPlace};
+ghost use Rattle.vx_annexb.specs.Held.{IsSought, is_all};
+ghost use Rattle.vx_pic.specs.Readings.{Reading, pictures as pictures_in};
+ghost use Rattle.vx_pic.specs.Rules.{Readers};
+ghost use Rattle.vx_pic.specs.H266.{AreOfH266};
+ghost use Rattle.vx_pic.specs.Told.{told_of};
+ghost use Rattle.vx_pic.specs.declared.accepted.Accepted.TheVariants.{PictureDone};
+ghost use Rattle.vx_report.specs.SetLine.{set_text};
+ghost use Rattle.vx_report.specs.PictureLine.{picture_text};
+ghost use Rattle.vx_assemble.specs.Held.{HasPicture};
+ghost use Rattle.vx_assemble.specs.Feed.{HasFed, IsOpen, IsTold, left_to_take};
+ghost use Rattle.vx_run.specs.Change.{change};
+ghost use Rattle.vx_run.specs.Conclusion.{IsOfCommand};
+ghost use Rattle.vx_run.specs.Show.{ShowsBy, seen_of, set_lines, picture_lines, unit_lines, behind_unit as place_behind};
+ghost use Rattle.vx_run.specs.inner.Showing.{ReadsOn, GathersNext, Gathers, ShowsLater};
+
+use crate::stop::Stop;
+use std::alloc::{AllocError, Global};
+use vx_annexb::{NalHeader, ReadFault};
+use vx_assemble::{Accepted, Feed, FeedFault, Taken};
+use vx_io::{Sink, Source, write_all};
+use vx_report::{PictureNumbers, SetNumbers, Where, picture_line, set_line, unit_line};
+
+/// Writes lines for each NAL unit of a source, in order: of the unit, of the set that
+/// it is, and of the picture that it completes. The lines of all units whose end is
+/// seen are written before the source is read on.
+pub(crate) fn show<K: Sink>(
+    alloc: Global,
+    source: &mut Box<dyn Source>,
+    out: &mut K,
+) -> Result<(), Stop>
+    ensures shows { (R : Readers) → AreOfH266 R → ShowsBy R (change bytes_left read_faults source.old source.new)
+        (change K.bytes_taken K.write_faults out.old out.new) result }
+    ensures stop { IfErr result IsOfCommand }
+{
+    let mut feed = Feed::new(alloc)?;
+    let mut lines = Vec::new(alloc);
+    let mut pictures = 0;
+    while feed.is_open() {
+        read_on(&mut feed, source)?;
+        pictures = show_seen(alloc, &mut feed, pictures, &mut lines, out)?;
+    }
+    Ok(())
+}
+
+/// Reads the first source on.
+fn read_on(feed: &mut Feed, source: &mut Box<dyn Source>) -> Result<(), Stop>
+    requires open { IsOpen feed.old }
+    requires sought { IsSought feed.old.reader.splitter }
+    ensures answer { (R : Readers) (g : List ℕ) (units : List UnitPlace) (before : List Reading) → HasFed R feed.old g units before
+        → ReadsOn R g units before feed.new (change bytes_left read_faults source.old source.new) result }
+    ensures grows { OnOk result (IsOpen feed.new → feed.old.reader.taken < feed.new.reader.taken) }
+    ensures going { OnOk result (feed.new.first ≡ None) }
+    ensures stop { IfErr result IsOfCommand }
+{
+    match feed.read(&mut **source) {
+        Ok(()) => Ok(()),
+        Err(ReadFault::Memory) => Err(Stop::NoMemory),
+        Err(ReadFault::SourceFailed) => Err(Stop::ReadFault { source: 0 }),
+    }
+}
+
+/// Shows the units whose end is seen in what was read, with one write, behind the
+/// first `pictures` pictures. Answers how many pictures are shown in all.
+fn show_seen<K: Sink>(
+    alloc: Global,
+    feed: &mut Feed,
+    pictures: u64,
+    lines: &mut Vec<u8>,
+    out: &mut K,
+) -> Result<u64, Stop>
+    ensures answer { (R : Readers) → AreOfH266 R → (g : List ℕ) (units : List UnitPlace) (before : List Reading)
+        → HasFed R feed.old g units before → pictures ≡ length (pictures_in before)
+        → ShowsLater R g units before feed.new (change K.bytes_taken K.write_faults out.old out.new) result }
+    ensures taken { feed.new.reader.taken ≡ feed.old.reader.taken }
+    ensures closed { feed.new.reader.closed ≡ feed.old.reader.closed }
+    ensures all { is_all feed.new.reader.splitter ≡ is_all feed.old.reader.splitter }
+    ensures sought { OnOk result (IsOpen feed.new → IsSought feed.new.reader.splitter) }
+    ensures stop { IfErr result IsOfCommand }
+{
+    lines.clear();
+    let ending = gather(alloc, feed, pictures, lines);
+    write_all(out, lines)?;
+    ending
+}
+
+/// Puts the lines of the units whose end is seen in what was read behind others.
+/// Answers how many pictures there are in all, behind the first `pictures`.
+fn gather(alloc: Global, feed: &mut Feed, pictures: u64, lines: &mut Vec<u8>) -> Result<u64, Stop>
+    ensures answer { (R : Readers) → AreOfH266 R → (g : List ℕ) (units : List UnitPlace) (before : List Reading)
+        → HasFed R feed.old g units before → pictures ≡ length (pictures_in before)
+        → Gathers R g units before feed.new lines.old.items lines.new.items result }
+    ensures taken { feed.new.reader.taken ≡ feed.old.reader.taken }
+    ensures closed { feed.new.reader.closed ≡ feed.old.reader.closed }
+    ensures all { is_all feed.new.reader.splitter ≡ is_all feed.old.reader.splitter }
+    ensures sought { OnOk result (IsOpen feed.new → IsSought feed.new.reader.splitter) }
+    ensures stop { IfErr result IsOfCommand }
+{
+    let mut count = pictures;
+    while let Some(next) = gather_next(alloc, feed, count, lines)? {
+        count = next;
+    }
+    Ok(count)
+}
+
+/// Puts the lines of the next unit behind others. Answers how many pictures there
+/// are then, behind the first `pictures`, if there is a unit.
+fn gather_next(
+    alloc: Global,
+    feed: &mut Feed,
+    pictures: u64,
+    lines: &mut Vec<u8>,
+) -> Result<Option<u64>, Stop>
+    ensures answer { (R : Readers) → AreOfH266 R → (g : List ℕ) (units : List UnitPlace) (before : List Reading)
+        → HasFed R feed.old g units before → pictures ≡ length (pictures_in before)
+        → GathersNext R g units before feed.new lines.old.items lines.new.items result }
+    ensures taken { feed.new.reader.taken ≡ feed.old.reader.taken }
+    ensures closed { feed.new.reader.closed ≡ feed.old.reader.closed }
+    ensures all { is_all feed.new.reader.splitter ≡ is_all feed.old.reader.splitter }
+    ensures sought { result ≡ Ok None → IsOpen feed.new → IsSought feed.new.reader.splitter }
+    ensures falls { IfOk result (λ n. OnSome n (left_to_take feed.new < left_to_take feed.old)) }
+    ensures stop { IfErr result IsOfCommand }
+{
+    let unit = feed.unit();
+    match feed.next() {
+        Ok(
+            Some(
+                Taken::Nal {
+                    header,
+                    offset,
+                    bytes,
+                    what,
+                },
+            ),
+        ) => {
+            let made = lines_of(alloc, feed, header, offset, bytes, what, pictures)?;
+            lines.extend_from_slice(&made)?;
+            Ok(Some(count_with(what, pictures, feed.unit())))
+        }
+        Ok(Some(Taken::End)) => Ok(None),
+        Ok(None) => Ok(None),
+        Err(FeedFault::Refused(refusal)) => Err(Stop::Refused {
+            refusal,
+            place: behind_unit(unit),
+        }),
+        Err(_) => Err(Stop::NoMemory),
+    }
+}
+
+/// The lines of the unit that was taken last, behind the first `pictures` pictures.
+fn lines_of(
+    alloc: Global,
+    feed: &Feed,
+    header: NalHeader,
+    offset: u64,
+    bytes: u64,
+    what: Accepted,
+    pictures: u64,
+) -> Result<Vec<u8>, AllocError>
+    requires { what ≡ PictureDone → HasPicture feed.now.assembler }
+    ensures { (R : Readers) → AreOfH266 R → (g : List ℕ) (units : List UnitPlace) (u : UnitPlace) (r : Reading) (before : List Reading)
+        → HasFed R feed.now g units (r ∷ before) → IsTold g u r before header offset bytes what → pictures ≡ length (pictures_in before)
+        → IfOk result (λ made. made.items ≡ unit_lines (seen_of g) u r before) }
+{
+    let mut lines = unit_line(alloc, header, offset, bytes)?;
+    let told = told_line(alloc, feed, what, pictures)?;
+    lines.extend_from_slice(&told)?;
+    Ok(lines)
+}
+
+/// The line of the set that was taken last, or of the picture that was done; else none.
+fn told_line(
+    alloc: Global,
+    feed: &Feed,
+    what: Accepted,
+    pictures: u64,
+) -> Result<Vec<u8>, AllocError>
+    requires { what ≡ PictureDone → HasPicture feed.now.assembler }
+    ensures { (R : Readers) → AreOfH266 R → (g : List ℕ) (units : List UnitPlace) (r : Reading) (before : List Reading)
+        → HasFed R feed.now g units (r ∷ before) → what ≡ told_of r before → pictures ≡ length (pictures_in before)
+        → IfOk result (λ made. made.items ≡ set_lines r ++ picture_lines r before) }
+{
+    if let Accepted::PictureDone = what {
+        return picture_line(alloc, picture_numbers(feed, pictures));
+    }
+    match set_numbers(feed, what) {
+        Some(numbers) => set_line(alloc, numbers),
+        None => Ok(Vec::new(alloc)),
+    }
+}
+
+/// What is shown of the picture that was done, behind the first `pictures`.
+fn picture_numbers(feed: &Feed, pictures: u64) -> PictureNumbers
+    requires { HasPicture feed.now.assembler }
+    ensures { (R : Readers) → AreOfH266 R → (g : List ℕ) (units : List UnitPlace) (r : Reading) (before : List Reading)
+        → HasFed R feed.now g units (r ∷ before) → PictureDone ≡ told_of r before → pictures ≡ length (pictures_in before)
+        → picture_text result ≡ picture_lines r before }
+{
+    PictureNumbers::of(pictures, &feed.picture())
+}
+
+/// What is shown of the set that was taken last.
+fn set_numbers(feed: &Feed, what: Accepted) -> Option<SetNumbers>
+    ensures { (R : Readers) → AreOfH266 R → (g : List ℕ) (units : List UnitPlace) (r : Reading) (before : List Reading)
+        → HasFed R feed.now g units (r ∷ before) → what ≡ told_of r before
+        → MatchOption result (set_lines r ≡ []) (λ numbers. set_lines r ≡ set_text numbers) }
+{
+    match what {
+        Accepted::Vps => Some(SetNumbers::of_vps(feed.fields(what)?)),
+        Accepted::Sps(id) => Some(SetNumbers::of_sps(feed.sps(id)?)),
+        Accepted::Pps(id) => Some(SetNumbers::of_pps(feed.pps(id)?)),
+        Accepted::Aps(kind, id) => Some(SetNumbers::Aps { kind, id }),
+        Accepted::Nothing | Accepted::PictureDone => None,
+    }
+}
+
+/// How many pictures are done with a unit, behind the first `pictures`. There are no
+/// more than units.
+fn count_with(what: Accepted, pictures: u64, units: u64) -> u64
+    ensures done { what ≡ PictureDone → pictures < units → result ≡ pictures + 1 }
+    ensures other { (what ≡ PictureDone → ⊥) → result ≡ pictures }
+{
+    if let Accepted::PictureDone = what {
+        return units.min(pictures.saturating_add(1));
+    }
+    pictures
+}
+
+/// The place in the first source behind its n-th unit.
+pub(crate) fn behind_unit(n: u64) -> Where
+    ensures { result ≡ place_behind n }
+{
+    Where {
+        source: 0,
+        unit: n,
+        picture: 0,
+        written: false,
+    }
+}

@@ -1,0 +1,317 @@
+//! The grammar of the program's words, without the program's name.
+
+ghost use Rattle.std.specs.Prelude.{◌≡◌, ◌≤◌, ◌∷◌, ◌↔◌, [], ℕ, List, Option as OptionOf, true, false, decimal, codes, None, IfSome, IfNone, IsTrue, MatchOption, map, slice_get, option_copied};
+ghost use Rattle.std.specs.List.{AllByRecursion};
+ghost use Rattle.vx_run.specs.Asked.{asked};
+ghost use Rattle.vx_run.specs.Grammar.{Command as Asked, extract, check_extract, merge, check_merge, Placing as PlacingAsked, spelling, IsWellNamed, AskFor, IsUnderstood, NamesFiles, files_of, texts};
+ghost use Rattle.vx_run.specs.inner.Placings.{IsPlacingWord, HasPlacings, PlaceFiles, Spells, placed, placing_in};
+ghost use Rattle.vx_run.specs.inner.Words.{BeginsNot, IsNumberFirst, IsOptionFirst, is_plain};
+
+/// What the words ask for, with what they name.
+#[derive(Clone, Copy)]
+pub(crate) enum Command<'a> {
+    /// `show FILE`
+    Show {
+        file: &'a str,
+    },
+    /// `extract [--tid T] [--level N] INDEX FILE`
+    Extract {
+        tid: Option<u8>,
+        level: Option<u8>,
+        index: u16,
+        file: &'a str,
+    },
+    /// `check extract [--tid T] INDEX FILE`
+    CheckExtract {
+        tid: Option<u8>,
+        index: u16,
+        file: &'a str,
+    },
+    /// `merge [--level N] X,Y=FILE ..`, with the words behind the level.
+    Merge {
+        level: Option<u8>,
+        placings: &'a [String],
+    },
+    /// `check merge X,Y=FILE ..`, of which these are the words behind `merge`.
+    CheckMerge {
+        placings: &'a [String],
+    },
+    /// `--help`
+    Help,
+    /// `--version`
+    Version,
+}
+
+/// A file of a merge, and the upper left corner of its region, in luma samples.
+#[derive(Clone, Copy)]
+pub(crate) struct Placing<'a> {
+    pub x: u16,
+    pub y: u16,
+    pub file: &'a str,
+}
+
+/// The greatest TemporalId, level, index of a subpicture and place of a corner that words may name.
+const MOST_TID: u8 = 6;
+
+const MOST_LEVEL: u8 = 255;
+
+const MOST_INDEX: u16 = 999;
+
+const MOST_CORNER: u16 = 16_383;
+
+/// The command that the words spell.
+pub(crate) fn command_of(words: &[String]) -> Option<Command<'_>>
+    ensures some { IfSome result (λ command. AskFor (texts words.now) (asked command)) }
+    ensures placings { IfSome result HasPlacings }
+    ensures none { IfNone result (¬ IsUnderstood (texts words.now)) }
+{
+    if let Some(command) = plain_of(words) {
+        return Some(command);
+    }
+    if let Some(rest) = behind(words, "extract") {
+        return extract_of(rest);
+    }
+    if let Some(rest) = behind(words, "merge") {
+        return merge_of(rest);
+    }
+    check_of(behind(words, "check")?)
+}
+
+/// The command, where it is `show` or one word alone.
+fn plain_of(words: &[String]) -> Option<Command<'_>>
+    ensures some { IfSome result (λ command. AskFor (texts words.now) (asked command)) }
+    ensures placings { IfSome result HasPlacings }
+    ensures none { IfNone result ((command : Asked) → is_plain command ≡ true → AskFor (texts words.now) command → ⊥) }
+{
+    match words {
+        [name, file] if name.as_str() == "show" && !file.is_empty() => {
+            Some(Command::Show {
+                file: file.as_str(),
+            })
+        }
+        [word] if word.as_str() == "--help" => Some(Command::Help),
+        [word] if word.as_str() == "--version" => Some(Command::Version),
+        _ => None,
+    }
+}
+
+/// What is checked.
+fn check_of(words: &[String]) -> Option<Command<'_>>
+    ensures some { IfSome result (λ command. AskFor (codes "check" ∷ texts words.now) (asked command)) }
+    ensures placings { IfSome result HasPlacings }
+    ensures none { IfNone result ((command : Asked) → AskFor (codes "check" ∷ texts words.now) command → ⊥) }
+{
+    if let Some(rest) = behind(words, "extract") {
+        return check_extract_of(rest);
+    }
+    check_merge_of(behind(words, "merge")?)
+}
+
+/// `[--tid T] [--level N] INDEX FILE`
+fn extract_of(words: &[String]) -> Option<Command<'_>>
+    ensures some { IfSome result (λ command. AskFor (codes "extract" ∷ texts words.now) (asked command)) }
+    ensures placings { IfSome result HasPlacings }
+    ensures none { IfNone result ((tid level : OptionOf ℕ) (index : ℕ) (file : List ℕ)
+        → AskFor (codes "extract" ∷ texts words.now) (extract tid level index file) → ⊥) }
+{
+    let (tid, rest) = option(words, "--tid", MOST_TID)?;
+    let (level, rest) = option(rest, "--level", MOST_LEVEL)?;
+    let (index, rest) = number_first(rest, MOST_INDEX)?;
+    let file = file_alone(rest)?;
+    Some(Command::Extract {
+        tid,
+        level,
+        index,
+        file,
+    })
+}
+
+/// `[--tid T] INDEX FILE`
+fn check_extract_of(words: &[String]) -> Option<Command<'_>>
+    ensures some { IfSome result (λ command. AskFor (codes "check" ∷ codes "extract" ∷ texts words.now) (asked command)) }
+    ensures placings { IfSome result HasPlacings }
+    ensures none { IfNone result ((tid : OptionOf ℕ) (index : ℕ) (file : List ℕ)
+        → AskFor (codes "check" ∷ codes "extract" ∷ texts words.now) (check_extract tid index file) → ⊥) }
+{
+    let (tid, rest) = option(words, "--tid", MOST_TID)?;
+    let (index, rest) = number_first(rest, MOST_INDEX)?;
+    let file = file_alone(rest)?;
+    Some(Command::CheckExtract { tid, index, file })
+}
+
+/// `[--level N] X,Y=FILE ..`
+fn merge_of(words: &[String]) -> Option<Command<'_>>
+    ensures some { IfSome result (λ command. AskFor (codes "merge" ∷ texts words.now) (asked command)) }
+    ensures placings { IfSome result HasPlacings }
+    ensures none { IfNone result ((level : OptionOf ℕ) (placings : List PlacingAsked)
+        → AskFor (codes "merge" ∷ texts words.now) (merge level placings) → ⊥) }
+{
+    let (level, rest) = option(words, "--level", MOST_LEVEL)?;
+    if !place_files(rest) {
+        return None;
+    }
+    Some(Command::Merge {
+        level,
+        placings: rest,
+    })
+}
+
+/// `X,Y=FILE ..`
+fn check_merge_of(words: &[String]) -> Option<Command<'_>>
+    ensures some { IfSome result (λ command. AskFor (codes "check" ∷ codes "merge" ∷ texts words.now) (asked command)) }
+    ensures placings { IfSome result HasPlacings }
+    ensures none { IfNone result ((placings : List PlacingAsked)
+        → AskFor (codes "check" ∷ codes "merge" ∷ texts words.now) (check_merge placings) → ⊥) }
+{
+    if !place_files(words) {
+        return None;
+    }
+    Some(Command::CheckMerge { placings: words })
+}
+
+/// Whether there are words, and each is `X,Y=FILE`.
+fn place_files(words: &[String]) -> bool
+    ensures { IsTrue result ↔ PlaceFiles (texts words.now) }
+{
+    if words.is_empty() {
+        return false;
+    }
+    are_placings(words)
+}
+
+/// Whether each word is `X,Y=FILE`.
+fn are_placings(words: &[String]) -> bool
+    ensures { IsTrue result ↔ AllByRecursion IsPlacingWord (texts words.now) }
+{
+    for word in words {
+        if placing_of(word.as_str()).is_none() {
+            return false;
+        }
+    }
+    true
+}
+
+/// `X,Y=FILE`
+pub(crate) fn placing_of(word: &str) -> Option<Placing<'_>>
+    ensures { MatchOption result (IsPlacingWord word.now → ⊥) (λ p. Spells word.now (placed p)) }
+{
+    let (corner, file) = word.split_once('=')?;
+    let (x, y) = corner.split_once(',')?;
+    let x = number(x, MOST_CORNER)?;
+    let y = number(y, MOST_CORNER)?;
+    if file.is_empty() {
+        return None;
+    }
+    Some(Placing { x, y, file })
+}
+
+/// The words behind this one, where it comes first.
+fn behind<'a>(words: &'a [String], name: &str) -> Option<&'a [String]>
+    ensures { MatchOption result (BeginsNot name.now (texts words.now)) (λ rest. texts words.now ≡ name.now ∷ texts rest.now) }
+{
+    if words.is_empty() {
+        return None;
+    }
+    if words[0].as_str() != name {
+        return None;
+    }
+    Some(&words[1..])
+}
+
+/// The number of an option, where that comes first, and the words behind it. None where
+/// its number is missing.
+fn option<'a>(words: &'a [String], name: &str, most: u8) -> Option<(Option<u8>, &'a [String])>
+    ensures { MatchOption result
+        ((n : OptionOf ℕ) (rest : List (List ℕ)) → IsOptionFirst name.now most (texts words.now) n rest → ⊥)
+        (λ r. IsOptionFirst name.now most (texts words.now) r.0 (texts r.1.now)) }
+{
+    let Some(rest) = behind(words, name) else {
+        return Some((None, words));
+    };
+    let (n, rest) = number_first(rest, u16::from(most))?;
+    Some((Some(n as u8), rest))
+}
+
+/// The number that comes first, and the words behind it.
+fn number_first(words: &[String], most: u16) -> Option<(u16, &[String])>
+    ensures { MatchOption result
+        ((n : ℕ) (rest : List (List ℕ)) → IsNumberFirst most (texts words.now) n rest → ⊥)
+        (λ r. IsNumberFirst most (texts words.now) r.0 (texts r.1.now)) }
+{
+    if words.is_empty() {
+        return None;
+    }
+    let n = number(words[0].as_str(), most)?;
+    Some((n, &words[1..]))
+}
+
+/// The number that a word is, of at most so much. `parse` takes a plus and further zeros
+/// before it, which are no part of a number here.
+fn number(word: &str, most: u16) -> Option<u16>
+    ensures { MatchOption result ((n : ℕ) → n ≤ most → word.now ≡ decimal n → ⊥) (λ n. (word.now ≡ decimal n) × (n ≤ most)) }
+{
+    let bytes = word.as_bytes();
+    if bytes.len() > 1 && bytes[0] < b'1' {
+        return None;
+    }
+    let Ok(n) = word.parse::<u16>() else {
+        return None;
+    };
+    (n <= most).then_some(n)
+}
+
+/// The file, where it is the only word.
+fn file_alone(words: &[String]) -> Option<&str>
+    ensures { MatchOption result
+        ((file : List ℕ) → texts words.now ≡ file ∷ [] → file ≡ [])
+        (λ file. (texts words.now ≡ file.now ∷ []) × (file.now ≡ [] → ⊥)) }
+{
+    match words {
+        [file] if !file.is_empty() => Some(file.as_str()),
+        _ => None,
+    }
+}
+
+/// How many files the words name; none where they are no command.
+pub fn file_count(words: &[String]) -> usize
+    ensures { NamesFiles (texts words.now) result }
+{
+    match command_of(words) {
+        Some(Command::Show { .. } | Command::Extract { .. } | Command::CheckExtract { .. }) => 1,
+        Some(Command::Merge { placings, .. }) => placings.len(),
+        Some(Command::CheckMerge { placings }) => placings.len(),
+        Some(Command::Help | Command::Version) | None => 0,
+    }
+}
+
+/// The `k`-th file that the words name, from 0.
+pub fn file_word(words: &[String], k: usize) -> Option<&str>
+    ensures files { (command : Asked) → AskFor (texts words.now) command
+        → option_copied result ≡ slice_get (files_of command) k }
+    ensures none { ¬ IsUnderstood (texts words.now) → result ≡ None }
+{
+    match command_of(words)? {
+        Command::Show { file }
+        | Command::Extract { file, .. }
+        | Command::CheckExtract { file, .. } => file_alone_at(file, k),
+        Command::Merge { placings, .. } => placed_file(placings, k),
+        Command::CheckMerge { placings } => placed_file(placings, k),
+        Command::Help | Command::Version => None,
+    }
+}
+
+/// The `k`-th of one file.
+fn file_alone_at(file: &str, k: usize) -> Option<&str>
+    ensures { option_copied result ≡ slice_get (file.now ∷ []) k }
+{
+    (k == 0).then_some(file)
+}
+
+/// The file of the `k`-th of these words.
+fn placed_file(words: &[String], k: usize) -> Option<&str>
+    requires { AllByRecursion IsPlacingWord (texts words.now) }
+    ensures { option_copied result ≡ slice_get (map (λ p. p.file) (map placing_in (texts words.now))) k }
+{
+    let placing = placing_of(words.get(k)?.as_str())?;
+    Some(placing.file)
+}
