@@ -5,14 +5,15 @@ usage: scripts/joined-streams.py STREAMS SHOW FOLDER
 
 Between two streams stands an end of sequence, so that the second is as it is by itself, but for the places of its units and the
 numbers of its pictures; a stream whose first picture isn't one from which others are counted is left out, since the next one would be
-counted from the stream before. FOLDER gets `data/streams.266` and `stdout`. STREAMS and SHOW are as scripts/show-vectors.py has them.
+counted from the stream before. FOLDER gets `data/streams.266` and `stdout`. STREAMS and SHOW are as streams.txt and show.txt of
+scripts/make-cases.py.
 """
 import json
 import sys
 
 
 def parts(path):
-    """What stands behind each line `stream ..`, by the stream's number."""
+    """What stands after each line `stream ..`, by the stream's number."""
     found = {}
     for line in open(path):
         if line.startswith("stream "):

@@ -4,9 +4,13 @@ The bits are written here field by field, in the order of the syntax tables of c
 to three coded layer video sequences of up to five pictures each, with tiles, subpictures and slices that are drawn anew for a sequence;
 sublayers, reference picture lists, weights, adaptation parameter sets of the three types, extensions, entry points, messages, ends of
 sequences, and units that readers drop. One layer, 4:0:0 or 4:2:0, 8 to 10 bits.
+
+`Steady(seed, names)` is a stream of one sequence that can be merged with others of its number: pictures of one subpicture and one
+slice, each with the PPS that is named.
 """
 import math
 import random
+import re
 
 ALF, LMCS, SCALING = 0, 1, 2
 IDR = (7, 8)
@@ -55,7 +59,7 @@ class Writer:
         self.bits += [0] * (-len(self.bits) % 8)
 
     def closed(self):
-        """The bytes, behind a one and zeros."""
+        """The bytes, with a one and zeros after the bits."""
         self.bits.append(1)
         self.zeros()
         text = "".join(map(str, self.bits))
@@ -64,14 +68,7 @@ class Writer:
 
 def escaped(rbsp):
     """The bytes with emulation prevention."""
-    out, zeros = bytearray(), 0
-    for byte in rbsp:
-        if zeros >= 2 and byte <= 3:
-            out.append(3)
-            zeros = 0
-        out.append(byte)
-        zeros = zeros + 1 if byte == 0 else 0
-    return bytes(out)
+    return re.sub(rb"\0\0(?=[\0-\3])", b"\0\0\3", rbsp)
 
 
 def unit(kind, tid, rbsp):
@@ -459,7 +456,7 @@ def write_sps_end(w, s):
 
 
 def write_slice_list(w, p, count):
-    """The slices of a PPS, of which there are several: those behind others by the distance of their tiles, or without."""
+    """The slices of a PPS, of which there are several: those after others by the distance of their tiles, or without."""
     columns = len(p["layout"].columns)
     delta = 1 if not fits_without_delta(p, columns) else w.draw.randrange(2)
     if count > 2:
@@ -496,7 +493,7 @@ def write_slice(w, p, part, delta):
 
 
 def fits_without_delta(p, columns):
-    """Whether each slice begins at the tile behind the slice before, and is as high as it where its height isn't told."""
+    """Whether each slice begins at the tile after the slice before, and is as high as it where its height isn't told."""
     rows, before, height_before = len(p["layout"].rows), None, 1
     for part in p["slices"]:
         x, y, width, height = part.rect
@@ -867,7 +864,7 @@ class Stream:
             self.add(self.draw.choice((21, 22)), 0, b"")
 
     def add(self, kind, tid, rbsp):
-        """Writes a unit behind a start code, with zeros around it."""
+        """Writes a unit after a start code, with zeros around it."""
         added = unit(kind, tid, rbsp)
         self.bytes += bytes(self.draw.choice((0, 1, 1, 4))) + b"\0\0\1" + added
         return added
@@ -923,6 +920,14 @@ class Stream:
             return self.draw.choice(IRAP_OR_GDR)
         return self.draw.choice(IDR if first else (0, 0, 0, 0, 1, 2, 3, 9, 10))
 
+    def tid_of(self, kind):
+        """Its TemporalId."""
+        return 0 if kind in IRAP_OR_GDR else self.draw.randint(0, self.sps[1]["sublayers"])
+
+    def payload(self):
+        """The data of a slice."""
+        return some_bytes(self.draw, 30)
+
     def chosen_pps(self, tid):
         """A PPS that has come, or that is written."""
         number = self.draw.choice((0, 1, 63))
@@ -935,7 +940,7 @@ class Stream:
         """Writes a picture, with sets before it that come again or anew."""
         draw, s = self.draw, self.sps[1]
         kind = self.type_of(first)
-        tid = 0 if kind in IRAP_OR_GDR else draw.randint(0, s["sublayers"])
+        tid = self.tid_of(kind)
         self.add_dropped(0.2)
         if draw.random() < 0.2:
             self.add(15, 0, self.sps[0])
@@ -976,7 +981,7 @@ class Stream:
             self.add_dropped(0.1)
             if at > 0 and draw.random() < 0.1:
                 self.add(23, h["tid"], b"\x90\x04\x03\xe8\x01\x90\x80")
-            h["units"].append(self.add(h["type"], h["tid"], header + some_bytes(draw, 30)))
+            h["units"].append(self.add(h["type"], h["tid"], header + self.payload()))
         if draw.random() < 0.1:
             number = draw.randrange(8)
             self.bodies[ALF].add(number)
@@ -1010,6 +1015,52 @@ class Stream:
         if h["tid"] == 0 and not h["non_ref"] and h["type"] not in LEADING:
             self.before = (h["lsb"], msb)
         return msb + h["lsb"]
+
+
+class Square(Layout):
+    """One CTU, which is one subpicture."""
+
+    def __init__(self, ctu):
+        self.ctu, self.columns, self.rows, self.width, self.height = ctu, [1], [1], ctu, ctu
+        self.areas, self.subpics = [((0, 0, 1, 1), None, 0)], [(0, 0, 1, 1)]
+
+
+class Steady(Stream):
+    """A stream of one sequence, an IDR picture and pictures of type 0 with TemporalId 0; of each the id of its PPS is named. Streams of
+    one number have the same sets and headers. With a size slices have so many bytes of data, each value equally often, and others in
+    streams of another kind of data."""
+
+    def __init__(self, seed, names, size=0, data=0):
+        self.draw, self.bytes, self.pictures = random.Random(seed), b"", []
+        self.bodies = {ALF: set(), LMCS: set(), SCALING: set()}
+        self.before, self.ended, self.messages = (0, 0), False, []
+        self.names, self.size, self.data = names, size, random.Random(data)
+        self.sps = write_sps(self.draw, 0, Square(64))
+        self.add(15, 0, self.sps[0])
+        self.pps = {}
+        for name in sorted(set(names)):
+            rbsp, self.pps[name] = write_pps(self.draw, name, self.sps[1])
+            self.add(16, 0, rbsp)
+        for at in range(len(names)):
+            self.add_picture(at == 0)
+
+    def add_dropped(self, chance):
+        """Writes none."""
+
+    def add_messages(self, tid):
+        """Writes none."""
+
+    def type_of(self, first):
+        return IDR[0] if first else 0
+
+    def tid_of(self, kind):
+        return 0
+
+    def chosen_pps(self, tid):
+        return self.pps[self.names[len(self.pictures)]]
+
+    def payload(self):
+        return self.data.randbytes(self.size - 1) + b"\x80" if self.size else some_bytes(self.draw, 30)
 
 
 def places_of(s, p):

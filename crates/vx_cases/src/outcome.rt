@@ -1,0 +1,118 @@
+//! What a case comes to.
+
+ghost use Rattle.std.specs.Prelude.{◌≡◌, ◌≢◌, IfOk, map};
+ghost use Rattle.vx_run.specs.Grammar.{texts};
+
+use crate::setup::{End, Setup};
+use crate::streams::Streams;
+use anyhow::{Context, Result};
+use std::alloc::{AllocError, Global};
+use vx_io::{ClosedSource, MemorySink, MemorySource, Source};
+use vx_run::{file_count, file_word, run};
+
+/// What the program answered and wrote.
+#[derive(Drop)]
+pub struct Outcome {
+    pub status: u8,
+    pub err: Vec<u8>,
+    pub out: Vec<u8>,
+}
+
+/// Room for what a case may write on `out`, and for its line.
+const OUT_ROOM: usize = 1 << 24;
+
+const LINE_ROOM: usize = 400;
+
+const BLANK: u8 = b' ';
+
+/// Runs the program with these words over named bytes.
+pub fn outcome_of(
+    alloc: Global,
+    streams: &Streams,
+    setup: &Setup,
+    words: &[&str],
+) -> Result<Outcome> {
+    let words = strings_of(alloc, words)?;
+    let mut sources: Vec<Box<dyn Source>> = Vec::new(alloc);
+    for k in 0..file_count(&words) {
+        let source: Box<dyn Source> = if setup.is_closed(k) {
+            Box::new(alloc, ClosedSource::new())?
+        } else {
+            Box::new(alloc, source_of(alloc, streams, setup, &words, k)?)?
+        };
+        sources.push(source)?;
+    }
+    let mut out = sink_of(alloc, setup, End::Out, OUT_ROOM)?;
+    let mut err = sink_of(alloc, setup, End::Err, LINE_ROOM)?;
+    let status = run(alloc, &words, &mut sources, &mut out, &mut err);
+    Ok(Outcome {
+        status,
+        err: Vec::from_slice(alloc, err.bytes())?,
+        out: Vec::from_slice(alloc, out.bytes())?,
+    })
+}
+
+/// The words, each as a string of its own.
+fn strings_of(alloc: Global, words: &[&str]) -> Result<Vec<String>, AllocError>
+    ensures { IfOk result (λ strings. texts strings.items ≡ map (λ word. word.now) words.now) }
+{
+    let mut strings = Vec::new(alloc);
+    for word in words {
+        strings.push(String::from_str(alloc, word)?)?;
+    }
+    Ok(strings)
+}
+
+/// The bytes that the k-th file names, read as the case says.
+fn source_of(
+    alloc: Global,
+    streams: &Streams,
+    setup: &Setup,
+    words: &[String],
+    k: usize,
+) -> Result<MemorySource> {
+    let bytes = streams.get(file_word(words, k).context("no file")?)?;
+    Ok(MemorySource::new(
+        bytes.clone()?,
+        setup.pieces_of(alloc, End::Source(k))?,
+        setup.failing_of(alloc, End::Source(k))?,
+    ))
+}
+
+/// A sink that takes what is written as the case says.
+fn sink_of(alloc: Global, setup: &Setup, end: End, room: usize) -> Result<MemorySink, AllocError> {
+    let pieces = setup.pieces_of(alloc, end)?;
+    MemorySink::new(alloc, room, pieces, setup.failing_of(alloc, end)?)
+}
+
+/// The line that tells of an outcome. What is kept isn't told.
+pub fn told(alloc: Global, outcome: &Outcome, is_kept: bool) -> Result<String, AllocError> {
+    let status = outcome.status;
+    let err = told_err(alloc, &outcome.err)?;
+    let out = match &outcome.out {
+        _ if is_kept => String::from_str(alloc, "kept")?,
+        out if out.is_empty() => String::from_str(alloc, "-")?,
+        out => hex::encode(alloc, out.as_slice())?,
+    };
+    format!(in alloc; "status={status} err={err} out={out}")
+}
+
+/// A line without its line feed, with its blanks as `_`: `-` for none, and `~` behind one that was cut short.
+fn told_err(alloc: Global, line: &[u8]) -> Result<String, AllocError> {
+    if line.is_empty() {
+        return String::from_str(alloc, "-");
+    }
+    let (line, end) = match line.strip_suffix(b"\n") {
+        Some(line) => (line, ""),
+        None => (line, "~"),
+    };
+    let mut text: String = line.iter().map(|byte| told_byte(*byte)).collect(alloc)?;
+    text.push_str(end)?;
+    Ok(text)
+}
+
+fn told_byte(byte: u8) -> char
+    ensures { result ≢ BLANK }
+{
+    if byte == BLANK { '_' } else { char::from(byte) }
+}

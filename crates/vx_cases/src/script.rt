@@ -1,0 +1,56 @@
+//! The lines of the input, one after the other.
+
+use crate::outcome::{outcome_of, told};
+use crate::setup::Setup;
+use crate::streams::Streams;
+use anyhow::{Context, Result};
+use std::alloc::Global;
+use std::mem;
+
+/// What the lines so far have said: the bytes that have names, and how the next case goes.
+#[derive(Drop)]
+pub struct Script {
+    streams: Streams,
+    setup: Setup,
+}
+
+impl Script {
+    pub fn new(alloc: Global) -> Script {
+        Script {
+            streams: Streams::new(alloc),
+            setup: Setup::new(alloc),
+        }
+    }
+
+    /// Does what a line says, and answers the line that its case makes, where it is one.
+    pub fn take(&mut self, alloc: Global, line: &str) -> Result<Option<String>> {
+        let words: Vec<&str> = line.split_ascii_whitespace().collect(alloc)?;
+        let Some((verb, rest)) = words.split_first() else {
+            return Ok(None);
+        };
+        match *verb {
+            "case" => return Ok(Some(self.run(alloc, rest)?)),
+            "stream" => self.name_stream(alloc, rest)?,
+            "#" => (),
+            _ => self.setup.say(alloc, verb, rest)?,
+        }
+        Ok(None)
+    }
+
+    /// `stream NAME PART ..`
+    fn name_stream(&mut self, alloc: Global, words: &[&str]) -> Result<()> {
+        let (name, parts) = words.split_first().context("a stream without a name")?;
+        self.streams.spell(alloc, name, parts)
+    }
+
+    /// `case WORD ..`
+    fn run(&mut self, alloc: Global, words: &[&str]) -> Result<String> {
+        let setup = mem::replace(&mut self.setup, Setup::new(alloc));
+        let outcome = outcome_of(alloc, &self.streams, &setup, words)?;
+        let line = told(alloc, &outcome, setup.kept().is_some())?;
+        if let Some(name) = setup.kept() {
+            self.streams.insert(alloc, name, outcome.out)?;
+        }
+        Ok(line)
+    }
+}

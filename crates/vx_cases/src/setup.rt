@@ -1,0 +1,111 @@
+//! How the calls of a case go.
+
+ghost use Rattle.std.specs.Prelude.{◌≡◌, ◌↔◌, ◌⊎◌, IsTrue, IfOk, Contains};
+ghost use Rattle.vx_cases.specs.Said.{covers, said_of};
+
+use anyhow::{Context, Result, bail};
+use std::alloc::{AllocError, Global};
+
+/// What is read or written: a source by its number, or a sink.
+#[derive(Clone, Copy, PartialEq, Eq)]
+pub enum End {
+    Source(usize),
+    EachSource,
+    Out,
+    Err,
+}
+
+impl End {
+    /// Whether what is said of this end is said of that one.
+    fn covers(self, other: End) -> bool
+        ensures { result ≡ covers self other }
+    {
+        self == other || (self == End::EachSource && matches!(other, End::Source(_)))
+    }
+}
+
+/// What was said of the next case.
+#[derive(Drop)]
+pub struct Setup {
+    pieces: Vec<(End, u32)>,
+    failing: Vec<(End, u64)>,
+    closed: Vec<usize>,
+    kept: Option<String>,
+}
+
+impl Setup {
+    pub fn new(alloc: Global) -> Setup {
+        Setup {
+            pieces: Vec::new(alloc),
+            failing: Vec::new(alloc),
+            closed: Vec::new(alloc),
+            kept: None,
+        }
+    }
+
+    /// Says more of the case: `pieces END NUMBER ..`, `fail END NUMBER ..`, `closed NUMBER` or `keep NAME`.
+    pub fn say(&mut self, alloc: Global, verb: &str, words: &[&str]) -> Result<()> {
+        match (verb, words) {
+            ("pieces", [end, numbers @ ..]) => self.cut(end_of(end)?, numbers),
+            ("fail", [end, numbers @ ..]) => self.fail(end_of(end)?, numbers),
+            ("closed", [source]) => Ok(self.closed.push(source.parse::<usize>()?)?),
+            ("keep", [name]) => {
+                self.kept = Some(String::from_str(alloc, name)?);
+                Ok(())
+            }
+            _ => bail!("not understood"),
+        }
+    }
+
+    fn cut(&mut self, end: End, numbers: &[&str]) -> Result<()> {
+        for number in numbers {
+            self.pieces.push((end, number.parse::<u32>()?))?;
+        }
+        Ok(())
+    }
+
+    fn fail(&mut self, end: End, numbers: &[&str]) -> Result<()> {
+        for number in numbers {
+            self.failing.push((end, number.parse::<u64>()?))?;
+        }
+        Ok(())
+    }
+
+    /// How many bytes the calls of this end take, in turn.
+    pub fn pieces_of(&self, alloc: Global, end: End) -> Result<Vec<u32>, AllocError>
+        ensures { IfOk result (λ pieces. pieces.items ≡ said_of end self.now.pieces.items) }
+    {
+        let pieces = self.pieces.iter().filter(|(said, _)| said.covers(end));
+        pieces.map(|(_, piece)| *piece).collect(alloc)
+    }
+
+    /// The calls of this end that fail.
+    pub fn failing_of(&self, alloc: Global, end: End) -> Result<Vec<u64>, AllocError>
+        ensures { IfOk result (λ calls. calls.items ≡ said_of end self.now.failing.items) }
+    {
+        let failing = self.failing.iter().filter(|(said, _)| said.covers(end));
+        failing.map(|(_, call)| *call).collect(alloc)
+    }
+
+    /// Whether this source always fails.
+    pub fn is_closed(&self, source: usize) -> bool
+        ensures { IsTrue result ↔ Contains self.now.closed.items source }
+    {
+        self.closed.contains(&source)
+    }
+
+    /// The name of what is written on `out`, where it has one.
+    pub fn kept(&self) -> Option<&str> {
+        self.kept.as_ref().map(|name| name.as_str())
+    }
+}
+
+/// `out`, `err`, `all`, or the number of a source.
+fn end_of(word: &str) -> Result<End> {
+    match word {
+        "out" => Ok(End::Out),
+        "err" => Ok(End::Err),
+        "all" => Ok(End::EachSource),
+        _ => Ok(End::Source(word.parse::<usize>().context("no end")?)),
+    }
+}

@@ -1,0 +1,65 @@
+//! Bytes by their names.
+
+ghost use Rattle.std.specs.Prelude.{◌≡◌, Some, OnOk, IfOk};
+ghost use Rattle.std.specs.Io.{StartsWith};
+ghost use Rattle.std.specs.BTreeMap.{get_by_text};
+
+use anyhow::{Context, Result};
+use std::alloc::{AllocError, Global};
+use std::collections::BTreeMap;
+
+/// Bytes by their names.
+#[derive(Drop)]
+pub struct Streams {
+    named: BTreeMap<String, Vec<u8>>,
+}
+
+impl Streams {
+    pub fn new(alloc: Global) -> Streams {
+        Streams {
+            named: BTreeMap::new(alloc),
+        }
+    }
+
+    /// Names bytes. What had this name before has none.
+    pub fn insert(&mut self, alloc: Global, name: &str, bytes: Vec<u8>) -> Result<(), AllocError>
+        ensures { OnOk result (get_by_text self.new.named name.now ≡ Some bytes) }
+    {
+        self.named.insert(String::from_str(alloc, name)?, bytes)?;
+        Ok(())
+    }
+
+    /// Names the bytes that these parts spell.
+    pub fn spell(&mut self, alloc: Global, name: &str, parts: &[&str]) -> Result<()> {
+        let mut bytes = Vec::new(alloc);
+        for part in parts {
+            push_part(alloc, &mut bytes, part)?;
+        }
+        self.insert(alloc, name, bytes)?;
+        Ok(())
+    }
+
+    /// The bytes of this name.
+    pub fn get(&self, name: &str) -> Result<&Vec<u8>>
+        ensures { IfOk result (λ bytes. get_by_text self.now.named name.now ≡ Some bytes.now) }
+    {
+        self.named
+            .get(name)
+            .context(format_args!("no stream {name}"))
+    }
+}
+
+/// Adds the bytes that a part spells: hexadecimal, these a number of times, or `-` for none.
+fn push_part(alloc: Global, bytes: &mut Vec<u8>, part: &str) -> Result<()>
+    ensures { OnOk result (StartsWith bytes.new.items bytes.old.items) }
+{
+    if part == "-" {
+        return Ok(());
+    }
+    let (digits, times) = part.split_once('*').unwrap_or((part, "1"));
+    let once = hex::decode(alloc, digits)?;
+    for _ in 0..times.parse::<u32>()? {
+        bytes.extend_from_slice(&once)?;
+    }
+    Ok(())
+}

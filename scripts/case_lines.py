@@ -1,0 +1,106 @@
+"""The lines of cases that crates/vx_cases reads, and those that it is to write."""
+import os
+import re
+
+SLICES = (0, 1, 2, 3, 7, 8, 9, 10)
+PH = 19
+
+
+def units(stream):
+    """The NAL units of a byte stream."""
+    return [part.rstrip(b"\0") for part in re.split(rb"\0\0\0*\x01", stream)[1:]]
+
+
+def picture_count(stream):
+    """How many pictures a stream has: each has a PH unit, or a slice that begins with a one and a picture header."""
+    types = [(unit[1] >> 3, unit[2:3] >= b"\x80") for unit in units(stream)]
+    return sum(kind == PH or kind in SLICES and inside for kind, inside in types)
+
+
+class Expected:
+    """What a case comes to: the status, the line on `err`, and what `out` gains."""
+
+    def __init__(self, status=0, err="", out=b""):
+        self.status, self.err, self.out = status, err, out
+
+    def verdict(self):
+        """What the check of the same comes to."""
+        out = b"" if self.status else b"ok pictures %d\n" % picture_count(self.out)
+        return Expected(self.status, self.err, out)
+
+    def line(self, kept=False):
+        out = "kept" if kept else self.out.hex() or "-"
+        return f"status={self.status} err={self.err.replace(' ', '_') or '-'} out={out}"
+
+
+def expected_of(line):
+    """What a line `status=S err=LINE out=BYTES` says, or one without `out`."""
+    status, err, out = re.search(r"status=(\d+) err=(\S+)(?: out=(\S*))?", line).groups()
+    return Expected(int(status), "" if err == "-" else err.replace("_", " "), unhex(out or ""))
+
+
+def unhex(word):
+    return bytes.fromhex("" if word == "-" else word)
+
+
+def spelled(stream):
+    """Bytes, or parts of bytes, of which some are a byte and how often it stands, as words."""
+    words = []
+    for part in stream if isinstance(stream, tuple) else (stream,):
+        if isinstance(part, bytes):
+            words.append(part.hex())
+        else:
+            times, rest = divmod(part[1], 1000)
+            words += [f"{(part[0] * 1000).hex()}*{times}", (part[0] * rest).hex()]
+    return " ".join(words) or "-"
+
+
+class Cases:
+    """The lines of the cases, and those that they make."""
+
+    def __init__(self):
+        self.given, self.made, self.names, self.count = [], [], {}, 0
+
+    def about(self, text):
+        """What the cases behind this are of."""
+        self.given += ["", f"# {text}"]
+
+    def name(self, stream):
+        """The name of these bytes, which are told once."""
+        if stream not in self.names:
+            self.names[stream] = f"s{len(self.names)}"
+            self.given.append(f"stream {self.names[stream]} {spelled(stream)}")
+        return self.names[stream]
+
+    def placed(self, corners, sources):
+        """The words that place sources at corners."""
+        return " ".join(f"{corner}={self.name(source)}" for corner, source in zip(corners, sources))
+
+    def case(self, words, expected, *settings, keep=None):
+        """A case, with the lines that hold for it."""
+        settings += (f"keep {keep}",) if keep else ()
+        self.given += [*settings, f"case {words}"]
+        self.made.append(expected.line(keep is not None))
+        self.count += 1
+
+    def checked(self, words, expected, *settings):
+        """A case of a command, and of its check."""
+        self.case(words, expected, *settings)
+        self.case("check " + re.sub(r"--level \d+ ", "", words), expected.verdict(), *settings)
+
+    def merged(self, corners, sources, expected, level=""):
+        """A merge and its check; and where it has pictures, their subpictures, merged again to the same bytes."""
+        words = self.placed(corners, sources)
+        self.checked(f"merge {level}{words}", expected)
+        if expected.status or not expected.out:
+            return
+        self.case(f"merge {level}{words}", expected, keep="whole")
+        for k in range(len(corners)):
+            self.case(f"extract {k} whole", expected, keep=f"part{k}")
+        words = " ".join(f"{corner}=part{k}" for k, corner in enumerate(corners))
+        self.case(f"merge {words}", expected)
+
+    def write(self, folder):
+        for name, lines in [("stdin", self.given), ("stdout", self.made)]:
+            with open(os.path.join(folder, name), "w") as file:
+                file.write("\n".join(lines).lstrip("\n") + "\n")

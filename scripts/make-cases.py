@@ -1,0 +1,110 @@
+#!/usr/bin/env python3
+"""Makes the cases that crates/vx_cases runs, and what each comes to: those of an independent model, of real streams, and worked ones.
+
+usage: scripts/make-cases.py VECTORS STREAMS
+
+It writes crates/vx_cases/stdin and crates/vx_cases/stdout. No expected value is taken from the program: the worked cases stand in
+worked_cases.py, and VECTORS and STREAMS are folders.
+
+In merge.txt of VECTORS a case is a line `case N merge WORDS`, with the number of a source behind each `=`, a line `source BYTES` for each
+source in hexadecimal, and a line `status=S err=LINE out=BYTES` of what `merge` comes to, with blanks of LINE as `_` and `-` for none. In
+streams.txt a stream is a line `stream N` and a line for each NAL unit, which begins with its bytes in hexadecimal; each unit stands after
+00 00 00 01. A line of extract.txt is `stream N WORDS status=S err=LINE out=BYTES`. In show.txt a stream is a line `stream N status=S
+err=LINE`, and the lines that are shown of it. MANIFEST.json of STREAMS names families of streams, with their corners, and the file that
+each is merged to.
+"""
+import json
+import os
+import sys
+
+from case_lines import Cases, Expected, expected_of, unhex, units
+from plain_streams import stream
+from worked_cases import add_worked
+
+CRATE = os.path.join(os.path.dirname(os.path.abspath(__file__)), "..", "crates", "vx_cases")
+
+
+def add_model_merges(cases, path):
+    """The merges of an independent model."""
+    for line in open(path):
+        words = line.split()
+        if words[:1] == ["case"]:
+            cases.about(f"merge {words[1]} of an independent model")
+            level = f"--level {words[4]} " if words[3] == "--level" else ""
+            corners, sources = [word.split("=")[0] for word in words if "=" in word], []
+        elif words[:1] == ["source"]:
+            sources.append(unhex("".join(words[1:])))
+        elif words:
+            cases.merged(corners, sources, expected_of(line), level)
+
+
+def sections(path):
+    """What stands behind each line `stream N ..`, by N: that line, and the others."""
+    found = {}
+    for line in filter(None, open(path).read().split("\n")):
+        if line.startswith("stream "):
+            found[line.split()[1]] = lines = [line]
+        else:
+            lines.append(line)
+    return found
+
+
+def add_model_streams(cases, folder):
+    """What an independent model shows and extracts of its streams."""
+    streams = {number: stream(*(bytes.fromhex(line.split()[0]) for line in lines[1:]))
+               for number, lines in sections(os.path.join(folder, "streams.txt")).items()}
+    shown = sections(os.path.join(folder, "show.txt"))
+    extracted = [line for line in open(os.path.join(folder, "extract.txt")) if line.strip()]
+    for number, source in streams.items():
+        cases.about(f"stream {number} of an independent model: shown, and its subpictures extracted")
+        name = cases.name(source)
+        expected = expected_of(shown[number][0])
+        expected.out = "".join(line + "\n" for line in shown[number][1:]).encode()
+        cases.case(f"show {name}", expected)
+        for line in extracted:
+            words = line.split(" status=")[0].split()
+            if words[1] == number:
+                cases.checked(f"{' '.join(words[2:])} {name}", expected_of(line))
+
+
+# The first fields of an SPS that have to be the same in all sources, with their place in its second byte.
+FIRST_FIELDS = ((102, 5, 7), (103, 3, 3), (104, 1, 3))
+
+
+def first_difference(one, other):
+    """The first of these fields that differs between two streams, each of which begins with an SPS."""
+    byte, another = (units(source)[0][3] for source in (one, other))
+    fields = [field for field, shift, mask in FIRST_FIELDS if (byte ^ another) >> shift & mask]
+    return fields[0] if fields else None
+
+
+def add_families(cases, folder):
+    """Real streams, each family at its corners, and with its last stream exchanged for the first one of another family."""
+
+    def read(name):
+        return open(os.path.join(folder, name), "rb").read()
+
+    families = json.loads(read("MANIFEST.json"))
+    for family in families:
+        cases.about(f"real streams: {family['name']}")
+        corners = [f"{source['x']},{source['y']}" for source in family["sources"]]
+        sources = [read(source["file"]) for source in family["sources"]]
+        cases.merged(corners, sources, Expected(out=read(family["merged"])))
+        for other in (read(other["sources"][0]["file"]) for other in families if other is not family):
+            field = first_difference(sources[0], other)
+            if field:
+                line = f"M2 picture 0 source {len(sources) - 1} field {field}"
+                cases.merged(corners, [*sources[:-1], other], Expected(1, line))
+
+
+def main(vectors, streams):
+    cases = Cases()
+    add_worked(cases)
+    add_families(cases, streams)
+    add_model_merges(cases, os.path.join(vectors, "merge.txt"))
+    add_model_streams(cases, vectors)
+    cases.write(CRATE)
+    print(f"{cases.count} cases, {len(cases.names)} streams")
+
+
+main(*sys.argv[1:])
