@@ -24,13 +24,9 @@ mod state;
 #[cfg(test)]
 mod tests_feed;
 #[cfg(test)]
-mod tests_inputs;
-#[cfg(test)]
 mod tests_pictures;
 #[cfg(test)]
 mod tests_refusals;
-#[cfg(test)]
-mod tests_told;
 mod unit;
 mod units;
 

@@ -46,55 +46,61 @@ const EOS: &[u8] = &[0x00, 0xA9];
 
 /// Where a feed came to: behind how many pictures and units, at which picture order count, and what it was refused for.
 #[derive(Clone, Copy, Debug, PartialEq, Eq)]
-struct Came {
-    pictures: u32,
-    units: u64,
-    poc: i32,
-    refused: Option<FeedFault>,
+pub(crate) struct Came {
+    pub pictures: u32,
+    pub units: u64,
+    pub poc: i32,
+    pub refused: Option<FeedFault>,
 }
 
-/// A source of these units.
-fn source_of(alloc: Global, units: &[&[u8]]) -> Result<MemorySource, AllocError> {
+/// Advances a feed by a picture; false where it goes no further.
+fn goes_on(feed: &mut Feed, source: &mut MemorySource, came: &mut Came) -> bool {
+    match feed.advance(source) {
+        Ok(Step::Picture) => {
+            came.pictures = came.pictures.saturating_add(1);
+            came.poc = feed.picture().kind().poc;
+            true
+        }
+        Ok(Step::End) => false,
+        Err(fault) => {
+            came.refused = Some(fault);
+            false
+        }
+    }
+}
+
+/// Advances a feed to the end of a source, or to the tenth picture.
+fn advance(feed: &mut Feed, source: &mut MemorySource) -> Came {
+    let mut came = Came {
+        pictures: 0,
+        units: 0,
+        poc: 0,
+        refused: None,
+    };
+    for _ in 0..10 {
+        if !goes_on(feed, source, &mut came) {
+            break;
+        }
+    }
+    came.units = feed.unit();
+    came
+}
+
+/// Where a feed comes to on a stream of these bytes.
+pub(crate) fn came_to(alloc: Global, bytes: Vec<u8>) -> Result<Came, AllocError> {
+    let mut source = MemorySource::new(bytes, Vec::new(alloc), Vec::new(alloc));
+    let mut feed = Feed::new(alloc)?;
+    Ok(advance(&mut feed, &mut source))
+}
+
+/// Where a feed comes to on a stream of these units.
+fn advanced(alloc: Global, units: &[&[u8]]) -> Result<Came, AllocError> {
     let mut bytes = Vec::new(alloc);
     for unit in units {
         bytes.extend_from_slice(&[0, 0, 1])?;
         bytes.extend_from_slice(unit)?;
     }
-    Ok(MemorySource::new(bytes, Vec::new(alloc), Vec::new(alloc)))
-}
-
-/// Advances to the end of these units, or to the tenth picture.
-fn advanced(alloc: Global, units: &[&[u8]]) -> Result<Came, AllocError> {
-    let mut source = source_of(alloc, units)?;
-    let mut feed = Feed::new(alloc)?;
-    let mut poc = 0;
-    for pictures in 0..10 {
-        match feed.advance(&mut source) {
-            Ok(Step::Picture) => poc = feed.picture().kind().poc,
-            Ok(Step::End) => {
-                return Ok(Came {
-                    pictures,
-                    units: feed.unit(),
-                    poc,
-                    refused: None,
-                });
-            }
-            Err(fault) => {
-                return Ok(Came {
-                    pictures,
-                    units: feed.unit(),
-                    poc,
-                    refused: Some(fault),
-                });
-            }
-        }
-    }
-    Ok(Came {
-        pictures: 10,
-        units: feed.unit(),
-        poc,
-        refused: None,
-    })
+    came_to(alloc, bytes)
 }
 
 #[test]

@@ -13,8 +13,6 @@ mod tables;
 mod tests;
 #[cfg(test)]
 mod tests_reshape;
-#[cfg(test)]
-mod tests_vectors;
 mod under_sets;
 mod unit;
 mod walk;

@@ -1,13 +1,13 @@
-//! Rows worked by hand, a header of a merged stream, and the ends of ranges.
+//! What no vector shows: presence and the ends of ranges at numbers of the sets, long extensions, and a header of a merged stream. Worked
+//! by hand.
 ghost use Rattle.std.specs.Prelude.{◌≤◌, length};
 
 use crate::{PictureHeader, read_header_at, read_ph, write_ph, write_unit_at};
 use std::alloc::{AllocError, Global};
-use std::process::Abort;
 use std::test::Fail;
 use vx_bits::{BitReader, BitWriter, Fields, Item, ReadError, Refusal};
 use vx_pps::{Pps, read_pps};
-use vx_rpl::{RefEntry, RefList, RplTable, StructureList};
+use vx_rpl::{RplTable, StructureList};
 use vx_sps::{Sps, read_sps};
 use vx_table::{Scope, natural};
 
@@ -41,36 +41,6 @@ fn text_of(alloc: Global, fields: &Fields) -> Result<String, AllocError> {
         let space = if i == 0 { "" } else { " " };
         write!(text, "{space}{field}={value}")?;
     }
-    Ok(text)
-}
-
-/// Appends a list as text.
-fn write_list(text: &mut String, list: &RefList) -> Result<(), AllocError> {
-    if list.len() == 0 {
-        text.push_str("-")?;
-    }
-    for i in 0..list.len() {
-        let comma = if i == 0 { "" } else { "," };
-        match list.item(i) {
-            RefEntry::Short { abs, sign: false } => write!(text, "{comma}s+{abs}")?,
-            RefEntry::Short { abs, sign: true } => write!(text, "{comma}s-{abs}")?,
-            RefEntry::Long { lsb, msb: None } => write!(text, "{comma}l{lsb}")?,
-            RefEntry::Long {
-                lsb,
-                msb: Some(msb),
-            } => write!(text, "{comma}l{lsb}/{msb}")?,
-        }
-    }
-    Ok(())
-}
-
-/// A header as text: its items and its lists.
-fn header_text(alloc: Global, header: &PictureHeader) -> Result<String, AllocError> {
-    let mut text = text_of(alloc, &header.fields)?;
-    text.push_str(" ")?;
-    write_list(&mut text, &header.lists.first)?;
-    text.push_str("|")?;
-    write_list(&mut text, &header.lists.second)?;
     Ok(text)
 }
 
@@ -115,20 +85,26 @@ fn refusal(alloc: Global, error: ReadError) -> Result<String, AllocError> {
     Ok(text)
 }
 
-/// What is read of a header: its items, or its refusal.
-fn told(
-    alloc: Global,
-    bits: &mut BitReader<'_>,
-    table: &RplTable,
-    scope: &Scope,
-) -> Result<String, AllocError> {
-    match read_header_at(alloc, bits, table, scope) {
+/// An SPS without structures of lists.
+fn no_structures(alloc: Global) -> RplTable {
+    RplTable {
+        first: StructureList::new(alloc),
+        second: StructureList::new(alloc),
+    }
+}
+
+/// What is read of a header at numbers of the sets in force: its items, or its refusal.
+fn told(alloc: Global, numbers: &str, bytes: &[u8]) -> Result<String, AllocError>
+    requires { length bytes.now ≤ 4000 }
+{
+    let table = no_structures(alloc);
+    match read_header_at(alloc, &mut behind(bytes, false), &table, &loaded(numbers)) {
         Ok(header) => text_of(alloc, &header.fields),
         Err(error) => refusal(alloc, error),
     }
 }
 
-/// What is read of a header, as text, and the unit that is written of it.
+/// The items of a header as text, and the unit that is written of it.
 fn both_ways(
     alloc: Global,
     table: &RplTable,
@@ -136,9 +112,8 @@ fn both_ways(
     bits: &mut BitReader<'_>,
 ) -> Result<(String, Vec<u8>), ReadError> {
     let header = read_header_at(alloc, bits, table, scope)?;
-    let text = header_text(alloc, &header)?;
     let unit = write_unit_at(alloc, &header, table, scope)?;
-    Ok((text, unit))
+    Ok((text_of(alloc, &header.fields)?, unit))
 }
 
 /// Numbers of the sets in force, a header, and its items or its refusal, worked by hand.
@@ -190,27 +165,13 @@ const ROWS: [(&str, &str, &str); 12] = [
 
 #[test]
 fn reads_rows(rt: HostRuntime) -> Result<(), Fail> {
-    let table = no_structures(rt.alloc());
     for (numbers, digits, wanted) in ROWS {
         let header = bytes(rt.alloc(), digits)?;
         assert!(rt; header.len() <= 4000);
-        let answer = told(
-            rt.alloc(),
-            &mut behind(&header, false),
-            &table,
-            &loaded(numbers),
-        )?;
+        let answer = told(rt.alloc(), numbers, &header)?;
         assert_eq!(rt; answer.as_str(), wanted, "{numbers}: {digits}");
     }
     Ok(())
-}
-
-/// An SPS without structures of lists.
-fn no_structures(alloc: Global) -> RplTable {
-    RplTable {
-        first: StructureList::new(alloc),
-        second: StructureList::new(alloc),
-    }
 }
 
 /// A header with so many bytes of extension.
@@ -231,16 +192,10 @@ fn reads_extensions(rt: HostRuntime) -> Result<(), Fail> {
     let unit = extended(rt.alloc(), 256)?;
     assert!(rt; unit.len() <= 4000);
     let table = no_structures(rt.alloc());
-    let (text, written) = both_ways(
-        rt.alloc(),
-        &table,
-        &loaded("467=1"),
-        &mut behind(&unit, false),
-    )?;
-    assert_eq!(rt;
-        text.starts_with("600=1 601=0 602=0 603=0 605=0 606=0 654=256 655=165 "),
-        true
-    );
+    let mut bits = behind(&unit, false);
+    let (text, written) = both_ways(rt.alloc(), &table, &loaded("467=1"), &mut bits)?;
+    let items = "600=1 601=0 602=0 603=0 605=0 606=0 654=256 655=165 ";
+    assert!(rt; text.starts_with(items));
     assert_eq!(rt; written, unit);
     Ok(())
 }
@@ -249,13 +204,7 @@ fn reads_extensions(rt: HostRuntime) -> Result<(), Fail> {
 fn refuses_long_extensions(rt: HostRuntime) -> Result<(), Fail> {
     let unit = extended(rt.alloc(), 257)?;
     assert!(rt; unit.len() <= 4000);
-    let table = no_structures(rt.alloc());
-    let answer = told(
-        rt.alloc(),
-        &mut behind(&unit, false),
-        &table,
-        &loaded("467=1"),
-    )?;
+    let answer = told(rt.alloc(), "467=1", &unit)?;
     assert_eq!(rt; answer.as_str(), "field=654 bit=9 cause=OutOfRange");
     Ok(())
 }
@@ -267,6 +216,14 @@ fn read_picture_set(alloc: Global, rbsp: &[u8]) -> Result<Pps, ReadError>
     read_pps(alloc, rbsp)
 }
 
+/// The items of a header as text, and how many entries its lists have.
+fn header_text(alloc: Global, header: &PictureHeader) -> Result<String, AllocError> {
+    let mut text = text_of(alloc, &header.fields)?;
+    let (first, second) = (header.lists.first.len(), header.lists.second.len());
+    write!(text, " and {first}, {second}")?;
+    Ok(text)
+}
+
 /// What is read under two sets, as text, and what is written of it.
 fn under_sets(
     alloc: Global,
@@ -275,68 +232,31 @@ fn under_sets(
     bits: &mut BitReader<'_>,
 ) -> Result<(String, Vec<u8>), ReadError> {
     let header = read_ph(alloc, bits, sps, pps)?;
-    let text = header_text(alloc, &header)?;
     let unit = write_ph(alloc, &header, sps, pps)?;
-    Ok((text, unit))
+    Ok((header_text(alloc, &header)?, unit))
 }
 
-/// A hash, FNV-1a, of what stands before, and a line of text.
-fn with_line(mut hash: u64, line: &str) -> u64 {
-    for byte in line.as_bytes() {
-        hash = (hash ^ u64::from(*byte)).wrapping_mul(0x0100_0000_01b3);
-    }
-    (hash ^ 10).wrapping_mul(0x0100_0000_01b3)
-}
-
-/// The items of a header under two sets, as text, and the unit that is written of it.
-fn items_and_unit(
-    alloc: Global,
-    sps: &Sps,
-    pps: &Pps,
-    bits: &mut BitReader<'_>,
-) -> Result<(String, Vec<u8>), ReadError> {
-    let header = read_ph(alloc, bits, sps, pps)?;
-    let text = text_of(alloc, &header.fields)?;
-    let unit = write_ph(alloc, &header, sps, pps)?;
-    Ok((text, unit))
-}
-
-/// A hash of the items of headers, each with whether it stands behind a first bit; the others are units, and written again.
-pub(crate) fn headers_hash(
-    rt: &impl Abort,
-    alloc: Global,
-    sps: &[u8],
-    pps: &[u8],
-    headers: &[(&[u8], bool)],
-) -> Result<u64, ReadError> {
-    assert!(rt; sps.len() <= 2000);
-    assert!(rt; pps.len() <= 2000);
-    let sps = read(alloc, sps)?;
-    let pps = read_picture_set(alloc, pps)?;
-    let mut hash = 0xcbf2_9ce4_8422_2325;
-    for (header, inside) in headers {
-        assert!(rt; header.len() <= 4000);
-        let (text, unit) = items_and_unit(alloc, &sps, &pps, &mut behind(header, *inside))?;
-        assert!(rt; *inside || unit.as_slice() == *header);
-        hash = with_line(hash, text.as_str());
-    }
-    Ok(hash)
+/// The same under the sets of two pictures side by side.
+fn merged(alloc: Global, bits: &mut BitReader<'_>) -> Result<(String, Vec<u8>), ReadError> {
+    let sps = read(
+        alloc,
+        b"\x00\x03\x02\x33\x80\x00\x00\x40\x81\x05\x53\x40\x07\xbc\x00\x60\x0c\x10\x00\x20",
+    )?;
+    let pps = read_picture_set(alloc, b"\x00\x00\x20\x40\x82\x05\x7a\x53\x08\x01")?;
+    under_sets(alloc, &sps, &pps, bits)
 }
 
 #[test]
 fn reads_a_merged_header(rt: HostRuntime) -> Result<(), Fail> {
-    let sps = bytes(rt.alloc(), "00030233800000408105534007bc00600c100020")?;
-    let pps = bytes(rt.alloc(), "0000204082057a530801")?;
-    assert!(rt; sps.len() <= 2000);
-    assert!(rt; pps.len() <= 2000);
-    let sps = read(rt.alloc(), &sps)?;
-    let pps = read_picture_set(rt.alloc(), &pps)?;
-    let mut bits = BitReader::new(&[0x88, 0x40]);
-    let (text, written) = under_sets(rt.alloc(), &sps, &pps, &mut bits)?;
-    assert_eq!(rt; text.as_str(), "600=1 601=0 602=0 603=0 605=0 606=0 -|-");
+    let mut bits = BitReader::new(b"\x88\x40");
+    let (text, written) = merged(rt.alloc(), &mut bits)?;
+    assert_eq!(rt;
+        text.as_str(),
+        "600=1 601=0 602=0 603=0 605=0 606=0 and 0, 0"
+    );
     assert_eq!(rt;
         (written.as_slice(), bits.at()),
-        ([0x88, 0x40].as_slice(), 9)
+        (b"\x88\x40".as_slice(), 9)
     );
     Ok(())
 }

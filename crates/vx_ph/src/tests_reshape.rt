@@ -193,17 +193,28 @@ const ROWS: [Row; 4] = [
     },
 ];
 
-/// The unit that is sent for a row.
-fn sent(rt: &impl Abort, alloc: Global, row: &Row) -> Result<Vec<u8>, ReadError> {
-    let own = sets_of(rt, alloc, row.own)?;
-    let frame = sets_of(rt, alloc, row.frame)?;
-    assert_same_kept(rt, alloc, &own, &frame)?;
+/// The unit that is sent for a row under these sets.
+fn sent_under(
+    rt: &impl Abort,
+    alloc: Global,
+    own: &Sets,
+    frame: &Sets,
+    row: &Row,
+) -> Result<Vec<u8>, ReadError> {
+    assert_same_kept(rt, alloc, own, frame)?;
     assert_apart(rt, &frame.pps);
     assert_shape(rt, &row.shape);
     let header = bytes(alloc, row.header.0)?;
     assert!(rt; header.len() <= 2000);
     let mut bits = behind(&header, row.header.1);
-    unit_of(alloc, &own, &frame, &mut bits, &row.shape)
+    unit_of(alloc, own, frame, &mut bits, &row.shape)
+}
+
+/// The unit that is sent for a row.
+fn sent(rt: &impl Abort, alloc: Global, row: &Row) -> Result<Vec<u8>, ReadError> {
+    let own = sets_of(rt, alloc, row.own)?;
+    let frame = sets_of(rt, alloc, row.frame)?;
+    sent_under(rt, alloc, &own, &frame, row)
 }
 
 #[test]

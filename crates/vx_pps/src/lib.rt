@@ -29,8 +29,6 @@ mod tests_list_items;
 #[cfg(test)]
 mod tests_reshape;
 #[cfg(test)]
-mod tests_vectors;
-#[cfg(test)]
 mod tests_worked;
 mod tiles;
 mod walk;

@@ -1,4 +1,4 @@
-//! Sets of whole streams, the longest slice list, and tiles worked by hand from the format.
+//! What no vector shows: kept items, the longest slice list, and tiles by their index. Worked by hand.
 ghost use Rattle.std.specs.Prelude.{◌≤◌, length};
 
 use crate::{
@@ -7,40 +7,8 @@ use crate::{
 };
 use std::alloc::{AllocError, Global};
 use std::test::Fail;
-use vx_bits::Refusal::{Limit, Profile, Syntax};
 use vx_bits::{BitWriter, Fields, Item, ReadError};
 use vx_layout::{Bounds, Rect, RectList, tile_bounds};
-
-/// The value of a hexadecimal digit.
-fn digit(digit: u8) -> u8
-    ensures { result ≤ 15 }
-{
-    match digit {
-        b'0'..=b'9' => digit - b'0',
-        b'a'..=b'f' => digit - b'a' + 10,
-        _ => 0,
-    }
-}
-
-/// The bytes that hexadecimal digits name.
-fn bytes(alloc: Global, digits: &str) -> Result<Vec<u8>, AllocError> {
-    let mut bytes = Vec::new(alloc);
-    for pair in digits.as_bytes().chunks_exact(2) {
-        if let [high, low] = pair {
-            bytes.push(digit(*high) * 16 + digit(*low))?;
-        }
-    }
-    Ok(bytes)
-}
-
-/// A hash of text, FNV-1a.
-fn hash(text: &str) -> u64 {
-    let mut hash = 0xcbf2_9ce4_8422_2325_u64;
-    for byte in text.as_bytes() {
-        hash = (hash ^ u64::from(*byte)).wrapping_mul(0x0100_0000_01b3);
-    }
-    hash
-}
 
 /// Items as text.
 fn items(alloc: Global, fields: &Fields) -> Result<String, AllocError> {
@@ -93,14 +61,6 @@ pub(crate) fn meaning(alloc: Global, pps: &Pps) -> Result<String, AllocError> {
     Ok(text)
 }
 
-/// A hash of a set's items and what they tell, as text.
-pub(crate) fn told_hash(alloc: Global, pps: &Pps) -> Result<u64, AllocError> {
-    let mut text = items(alloc, pps.fields())?;
-    let told = meaning(alloc, pps)?;
-    write!(text, " {told}")?;
-    Ok(hash(text.as_str()))
-}
-
 /// What a reader answers to an RBSP of at most 20,000 bytes.
 pub(crate) fn answer(alloc: Global, rbsp: &[u8]) -> Result<(), ReadError>
     requires { length rbsp.now ≤ 20000 }
@@ -109,154 +69,156 @@ pub(crate) fn answer(alloc: Global, rbsp: &[u8]) -> Result<(), ReadError>
     Ok(())
 }
 
-/// A hash of a refusal, as text.
-pub(crate) fn refusal_hash(alloc: Global, rbsp: &[u8]) -> Result<u64, AllocError>
-    requires { length rbsp.now ≤ 20000 }
-{
-    let mut text = String::new(alloc);
-    match answer(alloc, rbsp) {
-        Err(ReadError::Refused(Syntax { field, bit, cause })) => {
-            write!(text, "Y field={field} bit={bit} cause={cause:?}")?;
-        }
-        Err(ReadError::Refused(Profile { code })) => write!(text, "P code={code}")?,
-        Err(ReadError::Refused(Limit { code })) => write!(text, "L code={code}")?,
-        _ => {}
-    }
-    Ok(hash(text.as_str()))
-}
-
 /// Whether a set is written as these bytes.
 pub(crate) fn is_written_as(alloc: Global, pps: &Pps, rbsp: &[u8]) -> Result<bool, AllocError> {
     let written = write_pps(alloc, pps)?;
     Ok(written.as_slice() == rbsp)
 }
 
-/// Sets of whole streams behind their unit headers: of one tile, of one tile with another QP, of two sources side by side,
-/// and of one of these again.
-const STREAMS: [(&str, &str); 4] = [
-    ("0000410208984080", "unpartitioned"),
-    ("0000410208980902", "unpartitioned"),
-    (
-        "0000204082057a530801",
-        "columns=0,1,2 rows=0,1 slices=0,0,1,1;1,0,1,1",
-    ),
-    ("00004102081f584008", "columns=0,1 rows=0,1 slices=0,0,1,1"),
-];
+/// The kept items of a set as text.
+fn kept_text(alloc: Global, pps: &Pps) -> Result<String, AllocError> {
+    let kept = keep_pps(alloc, pps)?;
+    items(alloc, &kept)
+}
 
-#[test]
-fn reads_and_writes_sets_of_streams(rt: HostRuntime) -> Result<(), Fail> {
-    written_is_read();
-    no_proper_prefix();
-    tiles_are_in_limits();
-    for (digits, told) in STREAMS {
-        let rbsp = bytes(rt.alloc(), digits)?;
-        assert!(rt; rbsp.len() <= 20000);
-        let pps = read(rt.alloc(), rbsp.as_slice())?;
-        assert_eq!(rt; meaning(rt.alloc(), &pps)?.as_str(), told);
-        assert_eq!(rt; write_pps(rt.alloc(), &pps)?.as_slice(), rbsp.as_slice());
-    }
-    Ok(())
+/// Those of the set of an RBSP.
+fn kept_of(alloc: Global, rbsp: &[u8]) -> Result<String, ReadError>
+    requires { length rbsp.now ≤ 20000 }
+{
+    let pps = read(alloc, rbsp)?;
+    Ok(kept_text(alloc, &pps)?)
 }
 
 #[test]
 fn keeps_what_says_where_fields_stand(rt: HostRuntime) -> Result<(), Fail> {
-    kept_depends_on_kept();
-    kept_and_others_tell();
     // Of a set without partition the flags 455, 462, 463 and 465 are absent, and kept as 0.
-    let cases = [
-        (
-            "0000410208984080",
-            "402=0 410=0 411=0 433=0 434=0 434=0 435=0 436=0 437=0 438=0 440=0 441=0 452=0 455=0 462=0 463=0 465=0 \
-             467=0 468=0 469=0",
-        ),
-        (
-            "0000204082057a530801",
-            "402=0 410=0 411=0 433=0 434=0 434=0 435=0 436=0 437=0 438=0 440=0 441=0 452=0 455=0 462=0 463=0 465=0 \
-             467=0 468=0 469=0",
-        ),
+    let cases: [&[u8]; 2] = [
+        b"\x00\x00\x41\x02\x08\x98\x40\x80",
+        b"\x00\x00\x20\x40\x82\x05\x7a\x53\x08\x01",
     ];
-    for (digits, wanted) in cases {
-        let rbsp = bytes(rt.alloc(), digits)?;
+    for rbsp in cases {
         assert!(rt; rbsp.len() <= 20000);
-        let pps = read(rt.alloc(), rbsp.as_slice())?;
-        let kept = keep_pps(rt.alloc(), &pps)?;
-        assert_eq!(rt; items(rt.alloc(), &kept)?.as_str(), wanted);
+        assert_eq!(rt;
+            kept_of(rt.alloc(), rbsp)?.as_str(),
+            "402=0 410=0 411=0 433=0 434=0 434=0 435=0 436=0 437=0 438=0 440=0 441=0 452=0 455=0 462=0 463=0 465=0 467=0 \
+             468=0 469=0"
+        );
     }
     Ok(())
 }
 
-/// A picture of 500 times 440 CTUs in 20 times 22 tiles of 25 times 20: the first 280 tiles have slices of 7, 7 and 6 CTU
-/// rows, and the others are a slice each.
-fn longest(alloc: Global) -> Result<Vec<u8>, AllocError> {
-    let mut bits = BitWriter::new(alloc);
-    bits.u(10, 0)?;
-    bits.u(1, 0)?;
+/// Ids, the size of a picture of 500 times 440 CTUs of 32, and tiles of 25 times 20. From the conformance window to subpicture ids
+/// all are 0.
+fn push_front(bits: &mut BitWriter) -> Result<(), AllocError> {
+    bits.u(11, 0)?;
     bits.ue(16000)?;
     bits.ue(14080)?;
-    // From the conformance window to subpicture ids: all are 0. CTUs of 32.
-    bits.u(5, 0)?;
-    bits.u(2, 0)?;
+    bits.u(7, 0)?;
     bits.ue(0)?;
     bits.ue(0)?;
     bits.ue(24)?;
-    bits.ue(19)?;
+    bits.ue(19)
+}
+
+/// What stands of a tile before the last: slices of 7, 7 and 6 CTU rows in the first 280, and one in the others.
+fn push_tile(bits: &mut BitWriter, tile: u32) -> Result<(), AllocError> {
+    if tile % 20 != 19 {
+        bits.ue(0)?;
+    }
+    if tile / 20 != 21 {
+        bits.ue(0)?;
+    }
+    if tile < 280 {
+        bits.ue(1)?;
+        bits.ue(6)?;
+    } else {
+        bits.ue(0)?;
+    }
+    bits.se(1)
+}
+
+/// 1,000 slices in 440 tiles.
+fn push_slices(bits: &mut BitWriter) -> Result<(), AllocError> {
     bits.u(3, 0b010)?;
     bits.ue(999)?;
     bits.u(1, 1)?;
     for tile in 0..439 {
-        if tile % 20 != 19 {
-            bits.ue(0)?;
-        }
-        if tile / 20 != 21 {
-            bits.ue(0)?;
-        }
-        if tile < 280 {
-            bits.ue(1)?;
-            bits.ue(6)?;
-        } else {
-            bits.ue(0)?;
-        }
-        bits.se(1)?;
+        push_tile(bits, tile)?;
     }
-    // The tools are those of no set above: no flag is 1.
+    Ok(())
+}
+
+/// The tools: no flag is 1.
+fn push_end(bits: &mut BitWriter) -> Result<(), AllocError> {
     bits.u(2, 0)?;
     bits.ue(0)?;
     bits.ue(0)?;
     bits.u(4, 0)?;
     bits.se(0)?;
-    bits.u(10, 0)?;
+    bits.u(10, 0)
+}
+
+/// The longest list.
+fn longest(alloc: Global) -> Result<Vec<u8>, AllocError> {
+    let mut bits = BitWriter::new(alloc);
+    push_front(&mut bits)?;
+    push_slices(&mut bits)?;
+    push_end(&mut bits)?;
     bits.close()
+}
+
+/// The slices of a tile.
+fn push_rects(rects: &mut RectList, tile: u32) -> Result<(), AllocError> {
+    let (x, y) = (tile % 20 * 25, tile / 20 % 22 * 20);
+    let cuts: &[(u32, u32)] = if tile < 280 {
+        &[(0, 7), (7, 7), (14, 6)]
+    } else {
+        &[(0, 20)]
+    };
+    for (from, h) in cuts {
+        rects.push(Rect {
+            x,
+            y: y.saturating_add(*from),
+            w: 25,
+            h: *h,
+        })?;
+    }
+    Ok(())
+}
+
+/// The slices of all tiles.
+fn longest_rects(alloc: Global) -> Result<RectList, AllocError> {
+    let mut rects = RectList::new(alloc);
+    for tile in 0..440 {
+        push_rects(&mut rects, tile)?;
+    }
+    Ok(rects)
+}
+
+/// Whether a set has the tiles and slices of the longest list.
+fn has_longest(alloc: Global, pps: &Pps) -> Result<bool, AllocError> {
+    let rects = longest_rects(alloc)?;
+    let tiled = (pps.columns().len(), pps.rows().len(), rects.len()) == (21, 23, 1000);
+    match pps.slices() {
+        Some(slices) => Ok(tiled && slices.as_slice() == rects.as_slice()),
+        None => Ok(false),
+    }
+}
+
+/// Whether the set of an RBSP has them, and is written as it.
+fn is_longest(alloc: Global, rbsp: &[u8]) -> Result<bool, ReadError> {
+    if rbsp.len() > 20000 {
+        return Ok(false);
+    }
+    let pps = read(alloc, rbsp)?;
+    let has = has_longest(alloc, &pps)?;
+    Ok(has && is_written_as(alloc, &pps, rbsp)?)
 }
 
 #[test]
 fn reads_the_longest_list(rt: HostRuntime) -> Result<(), Fail> {
     let rbsp = longest(rt.alloc())?;
-    assert!(rt; rbsp.len() <= 20000);
-    let pps = read(rt.alloc(), rbsp.as_slice())?;
-    assert_eq!(rt; (pps.columns().len(), pps.rows().len()), (21, 23));
-    let mut wanted = RectList::new(rt.alloc());
-    for tile in 0..440 {
-        let (x, y) = (tile % 20 * 25, tile / 20 * 20);
-        let cuts: &[(u32, u32)] = if tile < 280 {
-            &[(0, 7), (7, 7), (14, 6)]
-        } else {
-            &[(0, 20)]
-        };
-        for (from, h) in cuts {
-            wanted.push(Rect {
-                x,
-                y: y.saturating_add(*from),
-                w: 25,
-                h: *h,
-            })?;
-        }
-    }
-    assert_eq!(rt; wanted.len(), 1000);
-    match pps.slices() {
-        Some(slices) => assert_eq!(rt; slices.as_slice(), wanted.as_slice()),
-        None => assert!(rt; false),
-    }
-    assert_eq!(rt; write_pps(rt.alloc(), &pps)?.as_slice(), rbsp.as_slice());
+    assert!(rt; is_longest(rt.alloc(), rbsp.as_slice())?);
     Ok(())
 }
 
@@ -276,4 +238,13 @@ fn names_tiles(rt: HostRuntime) -> Result<(), Fail> {
         );
     }
     Ok(())
+}
+
+#[test]
+fn laws_hold() {
+    written_is_read();
+    no_proper_prefix();
+    tiles_are_in_limits();
+    kept_depends_on_kept();
+    kept_and_others_tell();
 }

@@ -5,10 +5,11 @@ ghost use Rattle.vx_layout.specs.Bounds.{bounds_of};
 ghost use Rattle.vx_layout.specs.Rects.{whole_picture};
 ghost use Rattle.vx_pps.specs.Reshaped.{IsShape};
 
-use crate::{PpsShape, Tiles, frame_keeps, read_pps, region_keeps, reshape_pps, write_pps};
+use crate::{Pps, PpsShape, Tiles, frame_keeps, read_pps, region_keeps, reshape_pps, write_pps};
 use std::alloc::{AllocError, Global};
 use std::process::Abort;
 use std::test::Fail;
+use vx_bits::ReadError;
 use vx_fields::pps::*;
 use vx_layout::{Bounds, Layout, Numbers, Rect, RectList, tile_bounds};
 
@@ -147,6 +148,23 @@ fn two_ctus(alloc: Global, id: u8, sps_id: u8, across: bool, init_qp: i32) -> Re
     })
 }
 
+/// What is written of the set that is sent of another.
+fn written(alloc: Global, source: &Pps, shape: &PpsShape) -> Result<Vec<u8>, AllocError>
+    requires { (source : List Item) → IsShape source shape.now }
+{
+    let set = reshape_pps(alloc, source, shape)?;
+    write_pps(alloc, &set)
+}
+
+/// What is sent of the set with these bytes.
+fn sent(alloc: Global, source: &[u8], shape: &PpsShape) -> Result<Vec<u8>, ReadError>
+    requires few { length source.now ≤ 2 ^ 23 }
+    requires shape { (source : List Item) → IsShape source shape.now }
+{
+    let source = read_pps(alloc, source)?;
+    Ok(written(alloc, &source, shape)?)
+}
+
 /// The set that is sent of the one with these bytes has those.
 fn is_sent(
     rt: &impl Abort,
@@ -158,9 +176,7 @@ fn is_sent(
     requires few { length source.now ≤ 2 ^ 23 }
     requires shape { (source : List Item) → IsShape source shape.now }
 {
-    let source = read_pps(alloc, source)?;
-    let set = reshape_pps(alloc, &source, shape)?;
-    let written = write_pps(alloc, &set)?;
+    let written = sent(alloc, source, shape)?;
     assert_eq!(rt; written.as_slice(), bytes);
     Ok(())
 }

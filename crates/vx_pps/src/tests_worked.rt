@@ -1,8 +1,25 @@
 //! Sets worked by hand from the format.
+ghost use Rattle.std.specs.Prelude.{◌≤◌, length};
 
+use crate::Pps;
 use crate::tests::{answer, is_written_as, meaning, read};
+use std::alloc::{AllocError, Global};
 use std::test::Fail;
 use vx_bits::{BitCause, ReadError, Refusal};
+
+/// What a set tells, and whether it is written as these bytes.
+fn told(alloc: Global, pps: &Pps, rbsp: &[u8]) -> Result<(String, bool), AllocError> {
+    let same = is_written_as(alloc, pps, rbsp)?;
+    Ok((meaning(alloc, pps)?, same))
+}
+
+/// The same of the set of an RBSP.
+fn both_ways(alloc: Global, rbsp: &[u8]) -> Result<(String, bool), ReadError>
+    requires { length rbsp.now ≤ 20000 }
+{
+    let pps = read(alloc, rbsp)?;
+    Ok(told(alloc, &pps, rbsp)?)
+}
 
 /// Sets, and their tiles and slices.
 #[test]
@@ -43,9 +60,8 @@ fn reads_and_writes_worked_sets(rt: HostRuntime) -> Result<(), Fail> {
     ];
     for (rbsp, wanted) in sets {
         assert!(rt; rbsp.len() <= 20000);
-        let pps = read(rt.alloc(), rbsp)?;
-        assert_eq!(rt; meaning(rt.alloc(), &pps)?.as_str(), wanted);
-        assert!(rt; is_written_as(rt.alloc(), &pps, rbsp)?);
+        let (told, same) = both_ways(rt.alloc(), rbsp)?;
+        assert_eq!(rt; (told.as_str(), same), (wanted, true));
     }
     Ok(())
 }

@@ -13,16 +13,6 @@ mod tables;
 #[cfg(test)]
 mod tests;
 #[cfg(test)]
-mod tests_frames;
-#[cfg(test)]
-mod tests_read;
-#[cfg(test)]
-mod tests_sets;
-#[cfg(test)]
-mod tests_vectors;
-#[cfg(test)]
-mod tests_vectors_more;
-#[cfg(test)]
 mod tests_whole;
 mod walk;
 mod write;

@@ -17,8 +17,6 @@ mod tables;
 mod tests;
 #[cfg(test)]
 mod tests_reshaped;
-#[cfg(test)]
-mod tests_vectors;
 mod walk;
 
 pub use laws::{

@@ -80,22 +80,31 @@ fn is_shape(shape: &SpsShape, ctb: u32) -> bool
     shape.id < 16 && sizes && codes && is_plan(columns, rows, &shape.subpics)
 }
 
-/// Whether the set of an RBSP, rewritten for a shape that it can have, is written as another RBSP.
+/// Whether a set, rewritten for a shape that it can have, is written as an RBSP.
+fn is_rewritten(
+    alloc: Global,
+    sps: &Sps,
+    shape: &SpsShape,
+    wanted: &[u8],
+) -> Result<bool, AllocError> {
+    if !is_shape(shape, sps.ctb()) {
+        return Ok(false);
+    }
+    let reshaped = reshape_sps(alloc, sps, shape)?;
+    is_written_as(alloc, &reshaped, wanted)
+}
+
+/// The same of the set of an RBSP.
 fn is_reshaped(
     alloc: Global,
     rbsp: &[u8],
     shape: &SpsShape,
     wanted: &[u8],
-) -> Result<bool, ReadError> {
-    if rbsp.len() > 50000 {
-        return Ok(false);
-    }
+) -> Result<bool, ReadError>
+    requires { length rbsp.now ≤ 50000 }
+{
     let sps = read(alloc, rbsp)?;
-    if !is_shape(shape, sps.ctb()) {
-        return Ok(false);
-    }
-    let reshaped = reshape_sps(alloc, &sps, shape)?;
-    Ok(is_written_as(alloc, &reshaped, wanted)?)
+    Ok(is_rewritten(alloc, &sps, shape, wanted)?)
 }
 
 /// A shape of level 51 without a window.
@@ -241,14 +250,23 @@ fn has_thousand(sps: &Sps) -> bool {
     sps.subpics() == 1000
 }
 
-/// Whether a set, written and read, has these subpictures.
-fn has_thousand_again(alloc: Global, sps: &Sps) -> Result<bool, ReadError> {
-    let rbsp = write_sps(alloc, sps)?;
+/// Whether the set of an RBSP has these subpictures.
+fn reads_thousand(alloc: Global, rbsp: &[u8]) -> Result<bool, ReadError> {
     if rbsp.len() > 50000 {
         return Ok(false);
     }
-    let again = read(alloc, rbsp.as_slice())?;
-    Ok(has_thousand(&again))
+    let sps = read(alloc, rbsp)?;
+    Ok(has_thousand(&sps))
+}
+
+/// What is written of a set that is rewritten for a thousand subpictures; nothing where it can't be.
+fn written_for_thousand(alloc: Global, sps: &Sps) -> Result<Vec<u8>, AllocError> {
+    let frame = plain(16000, 256, SubpicPlan::Many(thousand(alloc)?));
+    if !is_shape(&frame, sps.ctb()) {
+        return Ok(Vec::new(alloc));
+    }
+    let wide = reshape_sps(alloc, sps, &frame)?;
+    write_sps(alloc, &wide)
 }
 
 /// Whether the set of an RBSP, rewritten for a thousand subpictures, has these when it is written and read.
@@ -256,12 +274,8 @@ fn is_reshaped_for_thousand(alloc: Global, rbsp: &[u8]) -> Result<bool, ReadErro
     requires { length rbsp.now ≤ 50000 }
 {
     let sps = read(alloc, rbsp)?;
-    let frame = plain(16000, 256, SubpicPlan::Many(thousand(alloc)?));
-    if !is_shape(&frame, sps.ctb()) {
-        return Ok(false);
-    }
-    let wide = reshape_sps(alloc, &sps, &frame)?;
-    has_thousand_again(alloc, &wide)
+    let written = written_for_thousand(alloc, &sps)?;
+    reads_thousand(alloc, written.as_slice())
 }
 
 /// The most subpictures.

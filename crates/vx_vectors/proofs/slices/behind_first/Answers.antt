@@ -7,7 +7,7 @@ use Rattle.vx_bits.specs.Place.{Place, Takes}
 use Rattle.vx_bits.specs.declared.refusal.BitCause.{BitCause}
 use Rattle.vx_bits.specs.declared.refusal.BitCause.TheVariants.{Short}
 use Rattle.vx_bits.proofs.Bits.{length-bits_of, length-fixed}
-use Rattle.vx_sh.proofs.tests_whole.behind_first.Goals as goal
+use Rattle.vx_vectors.proofs.slices.behind_first.Goals as goal
 
 taken_one : (result : Result ℕ BitCause) (old new : Place) → IfOk result (λ v. (v < 2 ^ 1) × Takes (fixed 1 v) old new)
     → (IsErrOf result Short ↔ (length old.left < 1)) → IfErr result (λ cause. cause ≡ Short) → 1 ≤ length old.left
