@@ -1,20 +1,15 @@
 #!/bin/bash
 # How long the largest placement takes: 64 regions of 256 x 16,384 samples at CTUs of 32, each a picture of 8 x 512 tiles
 # of a CTU, and 64 of 2,048 x 2,048. No test: times depend on the machine.
-# Usage: scripts/bench-fit.sh   (from the top of the repository; proves what it runs first)
+# Usage: scripts/bench-fit.sh   (from the top of the repository; proves what it runs first, with the command in RT, or rt)
 set -euo pipefail
 work=$(mktemp -d)
 trap 'rm -rf "$work"' EXIT
 
-# A copy of the repository with a program of its own, which asks the clock around each call.
-cp -a crates.txt HANDLES "$work"
-mkdir "$work/crates"
-cp -a crates/vx_bits crates/vx_layout crates/vx_fit "$work/crates"
-grep -E '^(#|vx_bits:|vx_layout:|vx_fit:)' crates.txt > "$work/crates.txt"
-echo 'bench_fit: vx_layout vx_fit anyhow' >> "$work/crates.txt"
-mkdir -p "$work/crates/bench_fit/src" "$work/crates/bench_fit/specs" "$work/crates/bench_fit/proofs"
-touch "$work/crates/bench_fit/specs/Lib.antt" "$work/crates/bench_fit/proofs/Lib.antt"
-cat > "$work/crates/bench_fit/src/main.rt" <<'RT'
+# A program that asks the clock around the calls.
+. scripts/bench-crate.sh
+bench_crate bench_fit 'vx_layout vx_fit anyhow' vx_bits vx_layout vx_fit
+cat > "$bench/src/main.rt" <<'RT'
 //! Times the calls of `vx_fit`.
 #![tactic(auto)]
 
@@ -163,7 +158,7 @@ fn main(rt: HostRuntime) -> anyhow::Result<()> {
 RT
 
 # The tests' proofs of the functions that are theirs too, and why the regions fit.
-proofs="$work/crates/bench_fit/proofs"
+proofs=$bench/proofs
 for name in are_in_range are_sized; do
     cp -r "crates/vx_fit/proofs/tests/$name" "$proofs"
 done
@@ -183,7 +178,4 @@ fit_lines-requires-clause-fitted c = record {
 }
 ANTT
 
-cd "$work/crates/bench_fit"
-rt run > "$work/times" 2> "$work/log" || { grep -v ': proved' "$work/log" | tail -60; exit 1; }
-uptime
-for _ in 1 2 3; do out/bench_fit; done
+run_bench

@@ -1,20 +1,15 @@
 #!/bin/bash
 # How long the largest layouts take: 512 x 512 CTUs, a bound at each, and 1,000 slices and subpictures.
 # Entry points are counted without sync and then with it. No test: times depend on the machine.
-# Usage: scripts/bench-layout.sh   (from the top of the repository; proves what it runs first)
+# Usage: scripts/bench-layout.sh   (from the top of the repository; proves what it runs first, with the command in RT, or rt)
 set -euo pipefail
 work=$(mktemp -d)
 trap 'rm -rf "$work"' EXIT
 
-# A copy of the repository with a program of its own, which asks the clock around each call.
-cp -a crates.txt HANDLES "$work"
-mkdir "$work/crates"
-cp -a crates/vx_bits crates/vx_layout "$work/crates"
-grep -E '^(#|vx_bits:|vx_layout:)' crates.txt > "$work/crates.txt"
-echo 'bench_layout: vx_bits vx_layout anyhow' >> "$work/crates.txt"
-mkdir -p "$work/crates/bench_layout/src" "$work/crates/bench_layout/specs" "$work/crates/bench_layout/proofs"
-touch "$work/crates/bench_layout/specs/Lib.antt" "$work/crates/bench_layout/proofs/Lib.antt"
-cat > "$work/crates/bench_layout/src/main.rt" <<'RT'
+# A program that asks the clock around the calls.
+. scripts/bench-crate.sh
+bench_crate bench_layout 'vx_bits vx_layout anyhow' vx_bits vx_layout
+cat > "$bench/src/main.rt" <<'RT'
 //! Times the calls of `vx_layout`.
 #![tactic(auto)]
 
@@ -159,7 +154,4 @@ fn main(rt: HostRuntime) -> anyhow::Result<()> {
 }
 RT
 
-cd "$work/crates/bench_layout"
-rt run > "$work/times" 2> "$work/log" || { grep -v ': proved' "$work/log" | tail -40; exit 1; }
-uptime
-for _ in 1 2 3; do out/bench_layout; done
+run_bench

@@ -1,70 +1,71 @@
 #!/bin/bash
-# How fast `merge` puts four streams together, beside `cat` of all of them, and how much memory it has resident at most; and the time a round
-# of streams of tiny pictures: two, sixteen and sixty-four of them.
+# How much processor time `merge` takes to put four streams together, beside `cat` of all of them, and how much memory it has resident at
+# most; the time of a round of streams of tiny pictures, and where it goes; and that of rounds in which the PPS takes another id than 0, and
+# of rounds in which the sets change.
 # No test: times depend on the machine.
-# Usage: scripts/bench-merge.sh PROGRAM FOLDER [MIB]   (PROGRAM is the built program; FOLDER has the streams gray4_0.vvc to gray4_3.vvc; MIB
-# mebibytes of each of four sources, whose slices are made longer to some 64 KiB; default 64)
+# Usage: scripts/bench-merge.sh PROGRAM [MIB]   (PROGRAM is the built program; MIB mebibytes of each of four sources, whose slices have 64 KiB;
+# default 64). Where valgrind is there, it also counts the instructions of each function.
 set -euo pipefail
-program=$1
-folder=$2
-mib=${3:-64}
+[ $# -ge 1 ] || { echo "usage: scripts/bench-merge.sh PROGRAM [MIB]" >&2; exit 2; }
+program=$(realpath "$1")
+mib=${2:-64}
+scripts=$(realpath "$(dirname "$0")")
 work=$(mktemp -d)
 trap 'rm -rf "$work"' EXIT
+rounds=2000
 
-python3 - "$folder" "$work" "$mib" crates/vx_app/data/a.266 <<'PY'
-import random, re, sys
-folder, work, mib, gray = sys.argv[1], sys.argv[2], int(sys.argv[3]), sys.argv[4]
-random.seed(1)
-more = bytes(random.randrange(4, 256) for _ in range(65536))
-def longer(unit):
-    return unit + more if unit[1] >> 3 < 4 or 7 <= unit[1] >> 3 < 11 else unit
-larges = []
-for k in range(4):
-    stream = open(f"{folder}/gray4_{k}.vvc", "rb").read()
-    units = [part.rstrip(b"\0") for part in re.split(rb"\x00\x00\x00*\x01", stream)[1:]]
-    larges.append(b"".join(b"\0\0\0\1" + longer(unit) for unit in units))
+# The sources. `tiny` has an IDR picture of some 50 bytes with its sets each time. Of the others each IDR picture begins a sequence of fifty
+# pictures of one PPS (`same`), of another one from the second on (`other`), or of two in turn (`changing`).
+PYTHONPATH=$scripts python3 - "$work" "$mib" "$rounds" "$scripts/../crates/vx_app/data/a.266" <<'PY'
+import sys
+from long_streams import write
+from small_streams import Steady
+work, mib, rounds, gray = sys.argv[1], int(sys.argv[2]), int(sys.argv[3]), open(sys.argv[4], "rb").read()
+larges = [Steady(11, [0] * 16, 65536, k).bytes for k in range(4)]
 for k, large in enumerate(larges):
-    with open(f"{work}/large{k}", "wb") as file:
-        for _ in range(mib * 1048576 // max(map(len, larges))):
-            file.write(large)
-with open(f"{work}/tiny", "wb") as file:
-    for _ in range(2000):
-        file.write(open(gray, "rb").read())
+    write(f"{work}/large{k}", large, max(1, mib * 1048576 // max(map(len, larges))))
+write(f"{work}/tiny", gray, rounds)
+write(f"{work}/short", gray, 50)
+for name, ids in (("same", [0] * 50), ("other", [0] + [1] * 49), ("changing", [0, 1] * 25)):
+    write(f"{work}/{name}", Steady(11, ids).bytes, rounds // 50)
 PY
 
-cat > "$work/measure.py" <<'PY'
-import resource, subprocess, sys
-name, *command = sys.argv[1:]
-best = None
-for _ in range(3):
-    before = resource.getrusage(resource.RUSAGE_CHILDREN)
-    status = subprocess.run(command, stdout=subprocess.DEVNULL, stderr=subprocess.DEVNULL).returncode
-    after = resource.getrusage(resource.RUSAGE_CHILDREN)
-    took = after.ru_utime + after.ru_stime - before.ru_utime - before.ru_stime
-    best = took if best is None else min(best, took)
-peak = resource.getrusage(resource.RUSAGE_CHILDREN).ru_maxrss
-print(f"{name}: {best * 1000:.0f} ms of processor time, peak {peak} KiB, status {status}")
-PY
+# The words for so many sources of a file, side by side.
+row() {
+  local file=$1 count=$2 k
+  for ((k = 0; k < count; k++)); do echo "$((k * 64)),0=$file"; done
+}
 
-places=$(python3 - "$folder" <<'PY'
-import json, sys
-family = next(f for f in json.load(open(f"{sys.argv[1]}/MANIFEST.json")) if f["name"] == "gray4")
-print(" ".join(f"{s['x']},{s['y']}" for s in family["sources"]))
-PY
-)
-k=0
-large=()
-for place in $places; do
-  large+=("$place=$work/large$k")
-  k=$((k + 1))
-done
-cat "$work"/large? >/dev/null
-python3 "$work/measure.py" "four sources, cat" cat "$work"/large?
-python3 "$work/measure.py" "four sources, check merge" "$program" check merge "${large[@]}"
-python3 "$work/measure.py" "four sources, merge" "$program" merge "${large[@]}"
+four=("0,0=$work/large0" "64,0=$work/large1" "0,64=$work/large2" "64,64=$work/large3")
+size=$(cat "$work"/large? | wc -c)
+"$scripts/measure.py" "four sources, cat" --bytes "$size" -- cat "$work"/large?
+"$scripts/measure.py" "four sources, check merge" --bytes "$size" -- "$program" check merge "${four[@]}"
+"$scripts/measure.py" "four sources, merge" --bytes "$size" -- "$program" merge "${four[@]}"
+
 for count in 2 16 64; do
-  tiny=()
-  for ((i = 0; i < count; i++)); do tiny+=("$((i * 64)),0=$work/tiny"); done
-  python3 "$work/measure.py" "2,000 rounds of $count tiny pictures, check merge" "$program" check merge "${tiny[@]}"
-  python3 "$work/measure.py" "2,000 rounds of $count tiny pictures, merge" "$program" merge "${tiny[@]}"
+  mapfile -t words < <(row "$work/tiny" "$count")
+  "$scripts/measure.py" "$count sources of tiny pictures, check merge" --per "$rounds" round -- "$program" check merge "${words[@]}"
+  "$scripts/measure.py" "$count sources of tiny pictures, merge" --per "$rounds" round -- "$program" merge "${words[@]}"
+done
+
+# Each source read by itself: what of a round goes for units, headers and pictures, with the lines of `show`, or without them.
+for ((k = 0; k < 64; k++)); do cat "$work/tiny"; done > "$work/all"
+"$scripts/measure.py" "the 64 sources one after another, check extract" --per "$rounds" round -- "$program" check extract 0 "$work/all"
+"$scripts/measure.py" "the 64 sources one after another, show" --per "$rounds" round -- "$program" show "$work/all"
+
+for name in same other changing; do
+  mapfile -t words < <(row "$work/$name" 64)
+  "$scripts/measure.py" "64 sources, sets $name, check merge" --per "$rounds" round -- "$program" check merge "${words[@]}"
+  "$scripts/measure.py" "64 sources, sets $name, merge" --per "$rounds" round -- "$program" merge "${words[@]}"
+done
+
+command -v valgrind >/dev/null || exit 0
+for name in short; do
+  mapfile -t words < <(row "$work/$name" 64)
+  valgrind --tool=callgrind --callgrind-out-file="$work/calls" "$program" merge "${words[@]}" >/dev/null 2>"$work/log" \
+    || { tail -5 "$work/log"; exit 1; }
+  echo "instructions of 50 rounds of 64 sources of tiny pictures, by function:"
+  callgrind_annotate "$work/calls" 2>/dev/null | grep -E '^ *[0-9,]+ \(' | head -25
+  echo "with all that each calls:"
+  callgrind_annotate --inclusive=yes "$work/calls" 2>/dev/null | grep -E '^ *[0-9,]+ \(' | head -60
 done

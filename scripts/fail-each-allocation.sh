@@ -1,11 +1,11 @@
 #!/bin/bash
 # Has each allocation fail in turn, in every test and in runs of the program, and counts what comes of it. Contracts
 # leave open when memory runs out; this shows that then nothing else changes. A test must fail for want of memory, and
-# `show` must answer 4 behind the lines of whole units, `extract` and `merge` behind what is written of whole pictures,
+# `show` must answer 4 after the lines of whole units, `extract` and `merge` after what is written of whole pictures,
 # and `check` without its line; or each as ever, where it can do without. What is neither is printed, and makes the status 1.
 # No test of the gate: only how the C library is called is looked at.
 # Usage: scripts/fail-each-allocation.sh [CRATE|program ..]   (from the top of the repository; all crates and the program
-# if none is named; proves what it runs first, and needs cc; LAST=N stops behind the first N allocations, 20,000 if left
+# if none is named; proves what it runs first, and needs cc; LAST=N stops after the first N allocations, 20,000 if left
 # out)
 set -euo pipefail
 work=$(mktemp -d)
@@ -54,7 +54,7 @@ program_wants() {
     && { [ ! -s "$work/err" ] || [ "$(cat "$work/err")" = "no memory" ]; }
 }
 
-# Whether `extract` did, each of whose pictures has as many bytes as the first: status 4 behind whole pictures.
+# Whether `extract` did, each of whose pictures has as many bytes as the first: status 4 after whole pictures.
 stream_wants() {
   local length
   length=$(stat -c %s "$work/out")
@@ -91,8 +91,8 @@ fail_tests() {
   done
 }
 
-# Has each allocation of the program fail: over a stored stream, and one that is refused behind the same units; over a
-# stored merge three times, which is shown, and of which a subpicture is taken, and one that is refused behind it; over
+# Has each allocation of the program fail: over a stored stream, and one that is refused after the same units; over a
+# stored merge three times, which is shown, and of which a subpicture is taken, and one that is refused after it; over
 # two stored streams side by side, that can be put together, or can't.
 fail_program() {
   local program=$PWD/crates/vx_app/out/vx_app data=crates/vx_app/data
