@@ -23,7 +23,7 @@ from long_streams import joined, longer, units_of, write
 merge, work, mib = sys.argv[1], sys.argv[2], int(sys.argv[3])
 units = units_of(open(merge, "rb").read())
 pictures = sum(unit[1] >> 3 == 19 for unit in units)
-for name, part, times in (("large", longer(units, 65536), None), ("tiny", units, 8000)):
+for name, part, times in (("large", longer(units, 65536), None), ("tiny", units, max(1, 16000 // pictures))):
     stream = joined(part)
     times = times or max(1, mib * 1048576 // len(stream))
     write(f"{work}/{name}", stream, times)

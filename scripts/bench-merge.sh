@@ -4,7 +4,7 @@
 # of rounds in which the sets change.
 # No test: times depend on the machine.
 # Usage: scripts/bench-merge.sh PROGRAM [MIB]   (PROGRAM is the built program; MIB mebibytes of each of four sources, whose slices have 64 KiB;
-# default 64). Where valgrind is there, it also counts the instructions of each function.
+# default 64). Where perf and valgrind are there, they tell more of where the time goes.
 set -euo pipefail
 [ $# -ge 1 ] || { echo "usage: scripts/bench-merge.sh PROGRAM [MIB]" >&2; exit 2; }
 program=$(realpath "$1")
@@ -59,13 +59,23 @@ for name in same other changing; do
   "$scripts/measure.py" "64 sources, sets $name, merge" --per "$rounds" round -- "$program" merge "${words[@]}"
 done
 
-command -v valgrind >/dev/null || exit 0
-for name in short; do
-  mapfile -t words < <(row "$work/$name" 64)
+# Which functions take the time of a round of 64 sources of tiny pictures.
+mapfile -t words < <(row "$work/tiny" 64)
+if command -v perf >/dev/null && perf record -q -o "$work/samples" -F 2000 "$program" merge "${words[@]}" >/dev/null 2>&1; then
+  echo "64 sources of tiny pictures, merge, the share of each function:"
+  perf report -i "$work/samples" --stdio --no-children 2>/dev/null | grep -E '^ +[0-9]' | sed -n '1,30s/ *$//p'
+fi
+
+# And which clear and copy memory, how often: a scope of a table has 4 KiB. (Of time its counts of instructions say little: it counts such a
+# call's bytes one by one.)
+mapfile -t words < <(row "$work/short" 64)
+if command -v valgrind >/dev/null; then
   valgrind --tool=callgrind --callgrind-out-file="$work/calls" "$program" merge "${words[@]}" >/dev/null 2>"$work/log" \
     || { tail -5 "$work/log"; exit 1; }
-  echo "instructions of 50 rounds of 64 sources of tiny pictures, by function:"
-  callgrind_annotate "$work/calls" 2>/dev/null | grep -E '^ *[0-9,]+ \(' | head -25
-  echo "with all that each calls:"
-  callgrind_annotate --inclusive=yes "$work/calls" 2>/dev/null | grep -E '^ *[0-9,]+ \(' | head -60
-done
+  for of in memset 'mem(cpy|move)'; do
+    echo "50 rounds of 64 sources of tiny pictures, merge, calls of $of:"
+    callgrind_annotate --tree=caller "$work/calls" 2>/dev/null | awk -v of="__$of" '
+      / < / { sub(/^.* < [^:]*:/, ""); sub(/ *\[.*/, ""); callers = callers $0 "\n" }
+      / \* / { if ($0 ~ of) printf "%s", callers; callers = "" }' | tr -d , | sed -E 's/(.*) \(([0-9]+)x\)/\2 \1/' | sort -rn | sed -n '1,12p'
+  done
+fi

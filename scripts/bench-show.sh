@@ -10,13 +10,13 @@ scripts=$(realpath "$(dirname "$0")")
 work=$(mktemp -d)
 trap 'rm -rf "$work"' EXIT
 
-# Units of 64 KiB: bytes as entropy coding gives them; bytes of which every third begins a pair of zeros. Units of 100 bytes. One unit that
-# never ends.
+# Units of a type that isn't read, of 64 KiB: bytes as entropy coding gives them; bytes of which every third begins a pair of zeros. Units of
+# 100 bytes. One unit that never ends.
 PYTHONPATH=$scripts python3 - "$work" "$mib" <<'PY'
 import random, sys
 from long_streams import ordinary, write
 work, mib = sys.argv[1], int(sys.argv[2])
-head, size, draw = b"\0\0\0\1\0\x41", 65536 - 6, random.Random(1)
+head, size, draw = b"\0\0\0\1\0\xe1", 65536 - 6, random.Random(1)
 kinds = {
     "ordinary": b"".join(head + ordinary(draw, size) for _ in range(16)),
     "pairs": head + b"\0\0\5" * (size // 3) + b"\x80",
