@@ -2,10 +2,13 @@
 ghost use Rattle.std.specs.Prelude.{◌≡◌, ◌≢◌, ℕ, ◌+◌, ◌<◌, ◌≤◌, length, max, slice_index, MatchOption};
 ghost use Rattle.vx_annexb.specs.Places.{AreZeros, IsMark, IsFirstFrom};
 
-use memchr::memchr;
+use memchr::memmem;
 
-/// A zero at fewer bytes from where it is sought is near: more may follow, and steps are then faster than `memchr`.
-const NEAR: usize = 32;
+/// Two zeros at fewer bytes from where they are sought are near: more may follow, and steps are then faster than a search.
+const NEAR: usize = 64;
+
+/// What a mark begins with.
+const ZEROS: [u8; 2] = [0, 0];
 
 /// The first place from `from` on whose byte is no zero, or the end.
 pub(crate) fn skip_zeros(bytes: &[u8], from: usize) -> usize
@@ -20,15 +23,15 @@ pub(crate) fn skip_zeros(bytes: &[u8], from: usize) -> usize
     at
 }
 
-/// The first zero from `from` on. It is a call of its own, so that the search where marks are dense stays small.
+/// The first 00 00 from `from` on. It is a call of its own, so that the search where marks are dense stays small.
 #[inline(never)]
-fn next_zero(bytes: &[u8], from: usize) -> Option<usize>
+fn next_zeros(bytes: &[u8], from: usize) -> Option<usize>
     requires { from ≤ length bytes.now }
     ensures { MatchOption result
-        ((k : ℕ) → from ≤ k → k < length bytes.now → slice_index bytes.now k ≢ 0)
-        (λ place. place < length bytes.now × IsFirstFrom (λ k. slice_index bytes.now k ≡ 0) from place) }
+        ((k : ℕ) → from ≤ k → ¬ AreZeros bytes.now k (k + 2))
+        (λ place. IsFirstFrom (λ k. AreZeros bytes.now k (k + 2)) from place) }
 {
-    let skip = memchr(0, &bytes[from..])?;
+    let skip = memmem::find(&bytes[from..], &ZEROS)?;
     Some(from + skip)
 }
 
@@ -61,16 +64,16 @@ pub(crate) fn find_mark(bytes: &[u8], from: usize, most: u8) -> Option<usize>
         ((k : ℕ) → from ≤ k → ¬ IsMark most bytes.now k)
         (IsFirstFrom (IsMark most bytes.now) from) }
 {
-    let mut zero = from;
+    let mut zeros = from;
     let mut reach = NEAR;
-    while zero < bytes.len() {
-        let stop = zero + reach.min(bytes.len() - zero);
-        let at = step_to_mark(bytes, zero, stop, most);
+    while zeros < bytes.len() {
+        let stop = zeros + reach.min(bytes.len() - zeros);
+        let at = step_to_mark(bytes, zeros, stop, most);
         if at < stop {
             return Some(at);
         }
-        zero = next_zero(bytes, at)?;
-        reach = if zero - at < NEAR { NEAR } else { 1 };
+        zeros = next_zeros(bytes, at)?;
+        reach = if zeros - at < NEAR { NEAR } else { 1 };
     }
     None
 }
