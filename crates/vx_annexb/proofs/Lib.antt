@@ -1,5 +1,6 @@
 -- Lemmas on streams, on emulation bytes, and on the steps of a splitter.
 pub mod Options
+pub mod Buffer
 pub mod Places
 pub mod Zeros
 pub mod Steps

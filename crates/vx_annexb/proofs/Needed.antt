@@ -1,5 +1,5 @@
 -- How far a reader of units reads ahead, and that it refuses the same again.
-use Rattle.std.proofs.Common.{◌≡◌, ℕ, ◌+◌, ◌-◌, ◌<◌, ◌≤◌, inl, inr, Bool, true, false, List, [], ◌∷◌, ◌++◌, Option, Some, None, Result, Ok, Err, length, take, min, sym, ap, subst, ◌∙◌, arith, length-append, refl, append_assoc, IsSome}
+use Rattle.std.proofs.Common.{◌≡◌, ℕ, ◌+◌, ◌-◌, ◌<◌, ◌≤◌, inl, inr, Bool, true, false, List, [], ◌∷◌, ◌++◌, Option, Some, None, Result, Ok, Err, length, take, sym, ap, subst, ◌∙◌, arith, length-append, refl, append_assoc, IsSome}
 use Rattle.std.proofs.Math.Seq.{take_all}
 use Rattle.std.proofs.lemmas.List.{append-nil}
 use Rattle.std.specs.Io.KnownBytes.{IsAtEnd}
@@ -68,7 +68,7 @@ first_before b all p (v ∷ vs) u f = (v, f.0, omega (arith, end_after b all v.e
 pub needed_near : (g : List ℕ) (units : List UnitPlace) (u : UnitPlace) (all : Bool) → LastWasNeeded g units → FollowsFrom (take source_limit g) all 0 (units ++ u ∷ []) → length g < u.end + 3 + 65536
 needed_near g units u all n f =
     let short : length n.before ≤ source_limit = rw source_limit-is n.within in
-    let more : List ℕ = take (min (length n.piece) (source_limit - length n.before)) n.piece in
+    let more : List ℕ = take (source_limit - length n.before) n.piece in
     let whole = take_all source_limit n.before short in
     let cut : take source_limit g ≡ n.before ++ more = ap (take source_limit) n.bytes ∙ sym (seen_front source_limit n.before n.piece short) in
     let units_are : units ++ u ∷ [] ≡ n.given ++ (n.later ++ u ∷ []) = ap (λ xs. xs ++ u ∷ []) n.split ∙ append_assoc n.given n.later (u ∷ []) in

@@ -1,8 +1,6 @@
 -- What a reader of units takes of its source, as far as the limit lets see, and what it then finds.
-use Rattle.std.proofs.Common.{◌≡◌, ℕ, ◌+◌, ◌-◌, ◌≤◌, inl, inr, Bool, false, List, ◌++◌, Option, Some, None, Ok, Err, length, take, min, sym, ap, ◌∙◌, arith, refl, subst}
+use Rattle.std.proofs.Common.{◌≡◌, ℕ, ◌+◌, ◌-◌, ◌≤◌, inl, inr, Bool, false, List, ◌++◌, Option, Some, None, Ok, Err, length, take, sym, ap, ◌∙◌, arith, refl, subst}
 use Rattle.std.proofs.Math.Seq.{take-append-add, take_all}
-use Rattle.std.proofs.lemmas.List.{take_min}
-use Rattle.std.proofs.Math.Nat.{min_comm}
 use Rattle.vx_bits.specs.declared.refusal.Refusal.{Refusal}
 use Rattle.vx_bits.specs.declared.refusal.Refusal.TheVariants.{Limit}
 use Rattle.vx_bits.specs.declared.rules.TheConstants.{LONG_SOURCE}
@@ -18,22 +16,20 @@ pub source_limit-is : source_limit ≡ 1099511627776
 unfolding source_limit
 source_limit-is = refl
 
--- a front of a piece behind g is what the limit lets see of both
+-- the front of a piece behind g is what the limit lets see of both
 module _ (limit : ℕ) (g piece : List ℕ) (within : length g ≤ limit) where
-  pub seen_front : g ++ take (min (length piece) (limit - length g)) piece ≡ take limit (g ++ piece)
+  pub seen_front : g ++ take (limit - length g) piece ≡ take limit (g ++ piece)
   seen_front =
       let k = limit - length g in
       let split : length g + k ≡ limit = omega arith in
-      ap (λ xs. g ++ xs) (ap (λ n. take n piece) (min_comm (length piece) k) ∙ take_min k piece)
-      ∙ sym (take-append-add g piece k)
-      ∙ ap (λ n. take n (g ++ piece)) split
+      sym (take-append-add g piece k) ∙ ap (λ n. take n (g ++ piece)) split
 
-pub seen_of_more : (g piece : List ℕ) (taken seen : ℕ) → length g ≡ taken → taken ≤ 1099511627776 → seen ≡ min (length piece) (1099511627776 - taken)
-    → take source_limit g ++ take seen piece ≡ take source_limit (g ++ piece)
-seen_of_more g piece taken seen len within is =
+pub seen_of_more : (g piece : List ℕ) (taken : ℕ) → length g ≡ taken → taken ≤ 1099511627776
+    → take source_limit g ++ take (1099511627776 - taken) piece ≡ take source_limit (g ++ piece)
+seen_of_more g piece taken len within =
     let short : length g ≤ source_limit = rw source_limit-is (omega arith) in
-    let same : seen ≡ min (length piece) (source_limit - length g) = rw (source_limit-is, len) is in
-    ap (λ xs. xs ++ take seen piece) (take_all source_limit g short)
+    let same : 1099511627776 - taken ≡ source_limit - length g = rw (source_limit-is, len) refl in
+    ap (λ xs. xs ++ take (1099511627776 - taken) piece) (take_all source_limit g short)
     ∙ ap (λ n. g ++ take n piece) same
     ∙ seen_front source_limit g piece short
 

@@ -4,6 +4,7 @@
 mod emulation;
 mod header;
 mod laws;
+mod queue;
 mod rules;
 mod search;
 mod span;

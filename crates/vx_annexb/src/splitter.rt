@@ -3,12 +3,14 @@ ghost use Rattle.std.specs.Prelude.{◌≡◌, ◌≤◌, length, drop, vec_capa
 
 use crate::Span;
 use crate::emulation::{EMULATION, emulation_fault};
+use crate::queue::ByteQueue;
 use crate::rules::{UNIT_LIMIT, refusal_of};
 use crate::search::{find_mark, pass_to_mark, skip_zeros, trim_zeros};
 use std::alloc::{AllocError, Global};
 use std::marker::Model;
 use vx_bits::Refusal;
 use vx_bits::rules::{BAD_EMULATION, NOT_A_START_CODE};
+use vx_io::{Source, SourceFailed};
 
 /// Finds the NAL units of a byte stream that comes in pieces.
 ///
@@ -17,7 +19,7 @@ use vx_bits::rules::{BAD_EMULATION, NOT_A_START_CODE};
 #[derive(Drop)]
 pub struct Splitter {
     // The bytes kept, and the place of the first of them.
-    kept: Vec<u8>,
+    kept: ByteQueue,
     base: u64,
     // The place behind the last unit given.
     from: u64,
@@ -34,7 +36,6 @@ pub struct Splitter {
 }
 
 impl Model for Splitter {
-    ghost use Rattle.std.specs.Prelude.{◌-◌, vec_capacity, vec_len};
     ghost use Rattle.vx_annexb.specs.Held.{Held};
     ghost use Rattle.vx_annexb.specs.inner.Order.{IsInOrder};
 
@@ -43,7 +44,7 @@ impl Model for Splitter {
     ghost view = { λ a. record {
       kept = a.kept.items;
       base = a.base;
-      room = vec_capacity a.kept - vec_len a.kept;
+      room = a.kept.room;
       from = a.from;
       start = a.start;
       sought = a.sought;
@@ -56,7 +57,7 @@ impl Model for Splitter {
     ghost invariant = { λ a. IsInOrder (record {
       kept = a.kept.items;
       base = a.base;
-      room = vec_capacity a.kept - vec_len a.kept;
+      room = a.kept.room;
       from = a.from;
       start = a.start;
       sought = a.sought;
@@ -74,27 +75,16 @@ struct Cut {
     doomed: Option<Refusal>,
 }
 
-/// Drops the first n bytes.
-fn drop_front(bytes: &mut Vec<u8>, n: usize)
-    requires { n ≤ length bytes.old.items }
-    ensures items { bytes.new.items ≡ drop n bytes.old.items }
-    ensures capacity { vec_capacity bytes.new ≡ vec_capacity bytes.old }
-{
-    if n == 0 {
-        return;
-    }
-    let rest = bytes.len() - n;
-    bytes.as_mut_slice().copy_within(n.., 0);
-    bytes.truncate(rest);
-}
-
 impl Splitter {
-    ghost use Rattle.std.specs.Prelude.{◌≡◌, ℕ, ◌+◌, ◌-◌, ◌^◌, ◌<◌, ◌≤◌, ◌++◌, [], List, true, false, length, slice_range, IfOk, IfErr, IfSome, IfNone, OnOk, OnErr, OnSome, IsOk, IsSome, MatchOption};
+    ghost use Rattle.std.specs.Prelude.{◌≡◌, ℕ, ◌+◌, ◌-◌, ◌^◌, ◌<◌, ◌≤◌, ◌++◌, [], List, true, false, length, slice_range, IfOk, IfErr, IfSome, IfNone, OnOk, OnErr, OnSome, IsOk, IsSome, MatchOption, MatchResult};
+    ghost use Rattle.std.specs.Io.KnownBytes.{Keeps};
+    ghost use Rattle.vx_io.specs.Faults.{CountsFault};
     ghost use Rattle.vx_bits.specs.declared.refusal.Refusal.{Refusal};
     ghost use Rattle.vx_annexb.specs.Places.{IsFirstFrom};
     ghost use Rattle.vx_annexb.specs.ByteStream.{UnitPlace, CanEnd, IsSound, RefusesUnit};
     ghost use Rattle.vx_annexb.specs.Held.{Stands, Answers, IsReadable, IsSought, Lends, fed, held, lent, room as has_room, is_all, first_refusal, ahead};
     ghost use Rattle.vx_annexb.specs.inner.Order.{HasStarted, IsCut};
+    ghost use Rattle.vx_annexb.specs.inner.Queue.{Receives};
 
     /// A splitter that was fed nothing.
     pub fn new(alloc: Global) -> Splitter
@@ -104,7 +94,7 @@ impl Splitter {
         ensures stands { Stands result [] [] }
     {
         Splitter {
-            kept: Vec::new(alloc),
+            kept: ByteQueue::new(alloc),
             base: 0,
             from: 0,
             start: None,
@@ -131,8 +121,7 @@ impl Splitter {
         ensures err { OnErr result (self.new ≡ self.old) }
     {
         let cut = self.cut();
-        self.kept.reserve(n)?;
-        drop_front(&mut self.kept, (cut.base - self.base) as usize);
+        self.kept.shift((cut.base - self.base) as usize, n)?;
         self.base = cut.base;
         self.doomed = cut.doomed;
         Ok(())
@@ -152,9 +141,34 @@ impl Splitter {
         ensures err { OnErr result (self.new ≡ self.old) }
     {
         self.make_room(piece.len())?;
-        // The room was made.
-        self.kept.extend_from_slice(piece).unwrap();
+        self.kept.extend(piece);
         Ok(())
+    }
+
+    /// Reads at most `most` bytes of a source, for which there is room, takes the first `limit` of them as the next bytes of
+    /// the stream, and answers how many came. A failed read changes nothing.
+    pub(crate) fn read_from(
+        &mut self,
+        source: &mut dyn Source,
+        most: usize,
+        limit: usize,
+    ) -> Result<usize, SourceFailed>
+        requires going { is_all self.old ≡ false }
+        requires fits { fed self.old + limit < 2 ^ 64 }
+        requires some { 0 < most }
+        requires room { most ≤ has_room self.old }
+        ensures bound { IfOk result (λ count. count ≤ most) }
+        ensures answer { MatchResult result
+            (λ count. Receives limit count (lent self.old) (lent self.new) (bytes_left source.old) (bytes_left source.new))
+            (λ _. Keeps (bytes_left source.old) (bytes_left source.new) × (lent self.new ≡ lent self.old)) }
+        ensures faults { CountsFault (read_faults source.old) (read_faults source.new) result }
+        ensures stands { (piece : List ℕ) → lent self.new ≡ lent self.old ++ piece
+            → (g : List ℕ) (units : List UnitPlace) → Stands self.old g units → Stands self.new (g ++ piece) units }
+        ensures ahead { ahead self.new + fed self.old ≡ ahead self.old + fed self.new }
+        ensures base { fed self.new + held self.old ≡ fed self.old + held self.new }
+        ensures all { is_all self.new ≡ false }
+    {
+        self.kept.read_from(source, most, limit)
     }
 
     /// From where on bytes are kept when room is made.
@@ -202,13 +216,13 @@ impl Splitter {
             None => {
                 let first = (start - self.base) as usize;
                 refusal_of(
-                    &self.kept[first..last],
+                    &self.kept.as_slice()[first..last],
                     (self.clear - start) as usize,
                     start,
                 )
             }
             Some(refusal) => match refusal {
-                Refusal::Limit { .. } => match emulation_fault(&self.kept[..last]) {
+                Refusal::Limit { .. } => match emulation_fault(&self.kept.as_slice()[..last]) {
                     Some(fault) => Some(Refusal::Framing {
                         code: BAD_EMULATION,
                         byte: self.base + fault as u64,
@@ -271,12 +285,13 @@ impl Splitter {
             return Ok(self.start);
         }
         let at = (self.sought - self.base) as usize;
-        let place = skip_zeros(&self.kept, at);
+        let kept = self.kept.as_slice();
+        let place = skip_zeros(kept, at);
         self.sought = self.base + place as u64;
-        if place == self.kept.len() {
+        if place == kept.len() {
             return Ok(None);
         }
-        if self.kept[place] != 1 || self.sought - self.from < 2 {
+        if kept[place] != 1 || self.sought - self.from < 2 {
             let refusal = Refusal::Framing {
                 code: NOT_A_START_CODE,
                 byte: self.sought,
@@ -303,7 +318,7 @@ impl Splitter {
     {
         if self.clear == self.sought {
             let at = (self.sought - self.base) as usize;
-            self.sought = self.base + pass_to_mark(&self.kept, at, EMULATION) as u64;
+            self.sought = self.base + pass_to_mark(self.kept.as_slice(), at, EMULATION) as u64;
             self.clear = self.sought;
         }
     }
@@ -323,9 +338,9 @@ impl Splitter {
         ensures sought { IfNone result (IsSought self.new) }
     {
         let at = (self.sought - self.base) as usize;
-        let end = match find_mark(&self.kept, at, 1) {
+        let end = match find_mark(self.kept.as_slice(), at, 1) {
             Some(end) => end,
-            None if self.all => trim_zeros(&self.kept, at),
+            None if self.all => trim_zeros(self.kept.as_slice(), at),
             None => {
                 let seen = self.kept.len().saturating_sub(2);
                 self.sought = self.base + at.max(seen) as u64;
@@ -368,6 +383,6 @@ impl Splitter {
         requires { IsReadable self.now span }
         ensures { result.now ≡ slice_range (lent self.now) span.start span.end }
     {
-        &self.kept[span.start..span.end]
+        &self.kept.as_slice()[span.start..span.end]
     }
 }

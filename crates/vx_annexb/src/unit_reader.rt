@@ -1,5 +1,5 @@
 //! The NAL units of a source, given one at a time while the source is read.
-ghost use Rattle.std.specs.Prelude.{◌≡◌, ◌+◌, ◌^◌, ◌<◌, ◌≤◌, ◌++◌, ℕ, List, take, false, length, vec_len, IfOk, OnOk, OnErr, Some, None, Err};
+ghost use Rattle.std.specs.Prelude.{◌≡◌, ◌+◌, ◌-◌, ◌^◌, ◌<◌, ◌≤◌, ℕ, List, take, min, false, length, IfOk, OnOk, OnErr, Some, None, Err};
 ghost use Rattle.std.specs.Io.KnownBytes.{IsAtEnd};
 ghost use Rattle.vx_annexb.specs.ByteStream.{UnitPlace, source_limit};
 ghost use Rattle.vx_annexb.specs.Held.{Stands, IsSought, fed, held, is_all, ahead, room as has_room};
@@ -88,14 +88,11 @@ impl From<ReadFault> for TakeFault {
 #[derive(Drop)]
 pub struct UnitReader {
     splitter: Splitter,
-    // Where a read's bytes go; between calls it holds none.
-    buffer: Vec<u8>,
     taken: u64,
     closed: Option<Closed>,
 }
 
 impl Model for UnitReader {
-    ghost use Rattle.std.specs.Prelude.{vec_len};
     ghost use Rattle.vx_annexb.specs.Reading.{Reading};
     ghost use Rattle.vx_annexb.specs.inner.Reading.{IsBounded};
 
@@ -111,7 +108,7 @@ impl Model for UnitReader {
       splitter = a.splitter;
       taken = a.taken;
       closed = a.closed;
-    }) (vec_len a.buffer) };
+    }) };
 }
 
 /// How many bytes came of a read, and whether it was the last one.
@@ -121,53 +118,38 @@ struct Came {
     closed: Option<Closed>,
 }
 
-/// A buffer of this many bytes.
-fn buffer_of(alloc: Global, len: usize) -> Result<Vec<u8>, AllocError>
-    ensures { IfOk result (λ buffer. vec_len buffer ≡ len) }
-{
-    vec![in alloc; 0u8; len]
-}
-
-/// Feeds what the limit lets see of a piece of a source of which `taken` bytes came before; no bytes are its end.
-fn take_in(splitter: &mut Splitter, piece: &[u8], taken: u64) -> Option<Closed>
+/// Why no more is read of a source that gave `count` bytes behind `taken`: none came, which is its end, or more than the
+/// limit lets see.
+fn close(splitter: &mut Splitter, count: usize, taken: u64) -> Option<Closed>
     requires going { is_all splitter.old ≡ false }
-    requires fed { fed splitter.old ≡ taken }
     requires within { taken ≤ SOURCE_LIMIT }
-    requires bound { taken + length piece.now ≤ SOURCE_LIMIT + 1 }
-    requires room { length piece.now ≤ has_room splitter.old }
-    requires sought { IsSought splitter.old }
-    requires held { held splitter.old ≤ 2 ^ 23 + 2 }
-    ensures stands { (g : List ℕ) (units : List UnitPlace) → length g ≡ taken → Stands splitter.old (take source_limit g) units
-        → Stands splitter.new (take source_limit (g ++ piece.now)) units }
-    ensures closes { ClosesAt result splitter.new (taken + length piece.now) }
-    ensures fed { FedOf result splitter.new (taken + length piece.now) }
-    ensures ahead { ahead splitter.new + fed splitter.old ≡ ahead splitter.old + fed splitter.new }
-    ensures held { held splitter.new ≤ 2 ^ 23 + 2 + length piece.now }
-    ensures some { result ≡ None → 0 < length piece.now }
-    ensures end { result ≡ Some End → length piece.now ≡ 0 }
+    requires bound { taken + count ≤ SOURCE_LIMIT + 1 }
+    requires fed { fed splitter.old ≡ taken + min (SOURCE_LIMIT - taken) count }
+    ensures stands { (g : List ℕ) (units : List UnitPlace) → Stands splitter.old g units → Stands splitter.new g units }
+    ensures closes { ClosesAt result splitter.new (taken + count) }
+    ensures fed { FedOf result splitter.new (taken + count) }
+    ensures kept { (fed splitter.new ≡ fed splitter.old) × (ahead splitter.new ≡ ahead splitter.old) × (held splitter.new ≡ held splitter.old) }
+    ensures some { result ≡ None → 0 < count }
+    ensures end { result ≡ Some End → count ≡ 0 }
     ensures unfailed { result ≡ Some Failed → ⊥ }
 {
-    if piece.is_empty() {
+    if count == 0 {
         splitter.finish();
         return Some(Closed::End);
     }
-    let seen = piece.len().min((SOURCE_LIMIT - taken) as usize);
-    // The room was made.
-    splitter.feed(&piece[..seen]).unwrap();
-    if seen < piece.len() {
+    if count as u64 > SOURCE_LIMIT - taken {
         return Some(Closed::TooLong);
     }
     None
 }
 
-/// Reads one piece of a source of which `taken` bytes came before, behind room that is made for it.
+/// Reads one piece of a source of which `taken` bytes came before, behind room that is made for it, and feeds what the limit
+/// lets see of it.
 fn read_piece(
     source: &mut dyn Source,
-    buffer: &mut [u8],
     splitter: &mut Splitter,
     taken: u64,
 ) -> Result<Came, ReadFault>
-    requires buffer { length buffer.old ≡ READ_LEN }
     requires going { is_all splitter.old ≡ false }
     requires fed { fed splitter.old ≡ taken }
     requires within { taken ≤ SOURCE_LIMIT }
@@ -186,14 +168,14 @@ fn read_piece(
     ensures memory { result ≡ Err Memory → splitter.new ≡ splitter.old }
     ensures failed { OnErr result ((fed splitter.new ≡ fed splitter.old) × (ahead splitter.new ≡ ahead splitter.old) × (is_all splitter.new ≡ is_all splitter.old)) }
 {
-    let Ok(()) = splitter.make_room(buffer.len()) else {
+    let Ok(()) = splitter.make_room(READ_LEN) else {
         return Err(ReadFault::Memory);
     };
-    let room = buffer.len().min((SOURCE_LIMIT + 1 - taken) as usize);
-    let Ok(count) = source.read(&mut buffer[..room]) else {
+    let limit = (SOURCE_LIMIT - taken) as usize;
+    let Ok(count) = splitter.read_from(source, READ_LEN.min(limit + 1), limit) else {
         return Err(ReadFault::SourceFailed);
     };
-    let closed = take_in(splitter, &buffer[..count], taken);
+    let closed = close(splitter, count, taken);
     Ok(Came {
         count: count as u64,
         closed,
@@ -218,10 +200,10 @@ impl UnitReader {
         ensures open { IfOk result IsOpen }
         ensures held { IfOk result HoldsFew }
     {
-        let buffer = buffer_of(alloc, READ_LEN)?;
+        let mut splitter = Splitter::new(alloc);
+        splitter.make_room(READ_LEN)?;
         Ok(UnitReader {
-            splitter: Splitter::new(alloc),
-            buffer,
+            splitter,
             taken: 0,
             closed: None,
         })
@@ -274,7 +256,7 @@ impl UnitReader {
         ensures end { OnOk result (self.new.closed ≡ Some End → IsAtEnd (bytes_left source.new)) }
         ensures unfailed { OnOk result (self.new.closed ≡ Some Failed → ⊥) }
     {
-        let came = read_piece(source, &mut self.buffer, &mut self.splitter, self.taken);
+        let came = read_piece(source, &mut self.splitter, self.taken);
         match came {
             Ok(came) => {
                 self.taken += came.count;

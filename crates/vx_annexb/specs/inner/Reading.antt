@@ -19,9 +19,8 @@ abbrev pub FedOf : Option Closed → Held → ℕ → Type 0
 FedOf (Some TooLong) h n = fed h ≡ 2 ^ 40
 FedOf _ h n = fed h ≡ n
 
--- what a reader with a buffer of this length keeps to
-pub record IsBounded (r : Reading) (len : ℕ) : Type 0 where
-  pub buffer : len ≡ 65536
+-- what a reader keeps to
+pub record IsBounded (r : Reading) : Type 0 where
   pub held : HoldsFew r
   pub closes : ClosesAt r.closed r.splitter r.taken
   pub fed : FedOf r.closed r.splitter r.taken
