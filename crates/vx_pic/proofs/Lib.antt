@@ -28,6 +28,7 @@ pub mod StoredSets
 pub mod Spans
 pub mod Ranges
 pub mod Bodies
+pub mod FieldNumbers
 pub mod KeptFields
 pub mod Shown
 pub mod Comparing
