@@ -3,13 +3,14 @@ ghost use Rattle.std.specs.Prelude.{◌≡◌, ◌++◌, true, pos, neg_ℤ, ◌
 ghost use Rattle.vx_pic.specs.Sets as sets;
 ghost use Rattle.vx_pic.specs.Sets.{named, filter_items, is_qp};
 ghost use Rattle.vx_pic.specs.Parts.{read_of};
-ghost use Rattle.vx_pic.specs.Inputs.{alf_of, bodies_of, named_body, lmcs_of, scaling_of, lists_in_force};
+ghost use Rattle.vx_pic.specs.Inputs.{alf_of, bodies_of, named_body, is_used, lmcs_of, scaling_of, lists_in_force};
 ghost use Rattle.vx_pic.specs.Seen.{alf_seen};
-ghost use Rattle.vx_pic.specs.inner.Bodies.{luma_of, is_used_by, lmcs_by};
+ghost use Rattle.vx_pic.specs.inner.Bodies.{luma_of};
 ghost use Rattle.vx_fields.specs.declared.alf.TheConstants as alf_fields;
 ghost use Rattle.vx_fields.specs.declared.pps.TheConstants as pps_fields;
 ghost use Rattle.vx_aps.specs.declared.aps.TheConstants as types;
 
+use crate::numbers::number_of;
 use crate::picture::Picture;
 use std::alloc::{AllocError, Global};
 use vx_aps::{ALF, LMCS, SCALING};
@@ -32,7 +33,7 @@ use vx_fields::sh::{
 };
 use vx_rpl::{RefList, RefLists};
 use vx_sh::SliceHeader;
-use vx_table::{Scope, natural};
+use vx_table::natural;
 
 /// The adaptive loop filter in force at a slice, by the bodies of its adaptation parameter sets.
 #[derive(Drop)]
@@ -110,13 +111,11 @@ fn alf_in<'a>(
 ) -> Result<AlfInForce<'a>, AllocError>
     ensures { IfOk result (λ alf. alf_seen alf ≡ alf_of picture.now items.now) }
 {
-    let mut scope = Scope::new();
-    scope.load(items);
     Ok(AlfInForce {
-        enabled: scope.latest(alf_enabled_flag) != 0,
+        enabled: number_of(items, alf_enabled_flag) != 0,
         luma: luma_bodies(alloc, picture, items)?,
-        cb: scope.latest(alf_cb_enabled_flag) != 0,
-        cr: scope.latest(alf_cr_enabled_flag) != 0,
+        cb: number_of(items, alf_cb_enabled_flag) != 0,
+        cr: number_of(items, alf_cr_enabled_flag) != 0,
         chroma: body_named(picture, ALF, alf_aps_id_chroma, items),
         cc_cb: body_named(picture, ALF, alf_cc_cb_aps_id, items),
         cc_cr: body_named(picture, ALF, alf_cc_cr_aps_id, items),
@@ -143,23 +142,12 @@ pub fn alf_in_force<'a>(
 }
 
 /// Whether a slice uses what the picture header may enable.
-fn uses(header: &Scope, slice: &Scope, enabled: u16, used: u16) -> bool
-    ensures { result ≡ is_used_by header.now slice.now enabled used }
+fn uses(header: &Fields, slice: &SliceHeader, enabled: u16, used: u16) -> bool
+    ensures { result ≡ is_used header.now slice.now enabled used }
 {
-    header.latest(enabled) != 0
-        && (slice.latest(sh_picture_header_in_slice_header_flag) != 0 || slice.latest(used) != 0)
-}
-
-/// Luma mapping with chroma scaling, where the slice uses it: its body, and ph_chroma_residual_scale_flag.
-fn lmcs_used<'a>(picture: &Picture<'a>, header: &Scope, slice: &Scope) -> Option<(&'a [u8], bool)>
-    ensures { option_map (λ x. (x.0.now, x.1)) result ≡ lmcs_by picture.now header.now slice.now }
-{
-    if !uses(header, slice, ph_lmcs_enabled_flag, sh_lmcs_used_flag) {
-        return None;
-    }
-    let scaled = header.latest(ph_chroma_residual_scale_flag) != 0;
-    let fields = &picture.header().fields;
-    body_named(picture, LMCS, ph_lmcs_aps_id, fields).map(|body| (body, scaled))
+    number_of(header, enabled) != 0
+        && (number_of(&slice.fields, sh_picture_header_in_slice_header_flag) != 0
+            || number_of(&slice.fields, used) != 0)
 }
 
 /// Luma mapping with chroma scaling, where the slice uses it: its body, and ph_chroma_residual_scale_flag.
@@ -169,32 +157,27 @@ pub(crate) fn lmcs_in_force<'a>(
 ) -> Option<(&'a [u8], bool)>
     ensures { option_map (λ x. (x.0.now, x.1)) result ≡ lmcs_of picture.now slice.now }
 {
-    let (mut header, mut own) = (Scope::new(), Scope::new());
-    header.load(&picture.header().fields);
-    own.load(&slice.fields);
-    lmcs_used(picture, &header, &own)
+    let header = &picture.header().fields;
+    if !uses(header, slice, ph_lmcs_enabled_flag, sh_lmcs_used_flag) {
+        return None;
+    }
+    let scaled = number_of(header, ph_chroma_residual_scale_flag) != 0;
+    body_named(picture, LMCS, ph_lmcs_aps_id, header).map(|body| (body, scaled))
 }
 
 /// Scaling lists, where the slice uses them.
 pub(crate) fn scaling_in_force<'a>(picture: &Picture<'a>, slice: &SliceHeader) -> Option<&'a [u8]>
     ensures { option_copied result ≡ scaling_of picture.now slice.now }
 {
-    let (mut header, mut own) = (Scope::new(), Scope::new());
-    header.load(&picture.header().fields);
-    own.load(&slice.fields);
+    let header = &picture.header().fields;
     let (enabled, used) = (
         ph_explicit_scaling_list_enabled_flag,
         sh_explicit_scaling_list_used_flag,
     );
-    if !uses(&header, &own, enabled, used) {
+    if !uses(header, slice, enabled, used) {
         return None;
     }
-    body_named(
-        picture,
-        SCALING,
-        ph_scaling_list_aps_id,
-        &picture.header().fields,
-    )
+    body_named(picture, SCALING, ph_scaling_list_aps_id, header)
 }
 
 /// A reference picture list once more.

@@ -69,8 +69,9 @@ fn mark_but(scope: &mut Scope, fields: &[u16], others: &Scope)
     }
 }
 
-/// The kept fields of a picture header.
-fn header_fields() -> Scope
+/// The fields of a picture header that are kept: those without a star, which a header that is rewritten has as its source. Marking them
+/// costs more than [`kept_among`]: to be done once where several headers are told by what they keep.
+pub fn header_fields() -> Scope
     ensures { result ≡ set_of header.kept }
 {
     let (mut kept, mut others) = (Scope::new(), Scope::new());
@@ -98,8 +99,12 @@ fn slice_fields() -> Scope
     kept
 }
 
-/// The items of these fields.
-fn keep(alloc: Global, items: &Fields, fields: &Scope) -> Result<Kept, AllocError>
+/// The items of these fields, in order.
+///
+/// # Errors
+///
+/// Want of memory.
+pub fn kept_among(alloc: Global, items: &Fields, fields: &Scope) -> Result<Kept, AllocError>
     ensures { IfOk result (λ kept. kept ≡ shown_items fields.now items.now) }
 {
     let mut kept = Kept::new(alloc);
@@ -137,7 +142,7 @@ pub(crate) fn kept_of_pps(alloc: Global, pps: &Pps) -> Result<Kept, AllocError>
     keep_all(alloc, &keep_pps(alloc, pps)?)
 }
 
-/// The kept fields of a picture header, in order: those without a star, which a header that is rewritten has as its source.
+/// The kept fields of a picture header, in order: [`kept_among`] its items with [`header_fields`].
 ///
 /// # Errors
 ///
@@ -145,12 +150,12 @@ pub(crate) fn kept_of_pps(alloc: Global, pps: &Pps) -> Result<Kept, AllocError>
 pub fn kept_of_header(alloc: Global, items: &Fields) -> Result<Kept, AllocError>
     ensures { IfOk result (λ kept. kept ≡ inputs.header_fields items.now) }
 {
-    keep(alloc, items, &header_fields())
+    kept_among(alloc, items, &header_fields())
 }
 
 /// The kept fields of a slice header.
 pub(crate) fn kept_of_slice(alloc: Global, items: &Fields) -> Result<Kept, AllocError>
     ensures { IfOk result (λ kept. kept ≡ inputs.slice_fields items.now) }
 {
-    keep(alloc, items, &slice_fields())
+    kept_among(alloc, items, &slice_fields())
 }

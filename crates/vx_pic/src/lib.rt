@@ -34,7 +34,7 @@ pub use compare::{Difference, differing_field, same_body, same_input, same_lists
 pub use count::{CountFields, PrevTid0, picture_order_count};
 pub use in_force::{AlfInForce, alf_in_force, body_named};
 pub use input::{DecodingInput, decoding_input};
-pub use kept_fields::kept_of_header;
+pub use kept_fields::{header_fields, kept_among, kept_of_header};
 pub use kind::Kind;
 pub use laws::{
     alike_is_next, current_by_places, edits_are_planned, gathered_by_places, needed_is_body,
