@@ -10,7 +10,7 @@ pub mod Again
 pub mod InForce
 pub mod Ordering
 pub mod KeptPicture
-pub mod FieldNumbers
+pub mod SameItems
 pub mod Beginnings
 pub mod Ids
 pub mod Named

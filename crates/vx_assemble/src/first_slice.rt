@@ -5,7 +5,7 @@ ghost use Rattle.vx_assemble.specs.inner.Held.{begun_of};
 ghost use Rattle.vx_assemble.specs.inner.Opening.{held_anew, held_changed, opened_in, IsCountedBy, tid0_by};
 ghost use Rattle.vx_assemble.specs.inner.Changes as changes;
 
-use crate::numbers::{number, same_items};
+use crate::items::same_items;
 use crate::refusals::structure;
 use crate::state::{BegunPicture, State};
 use crate::unit::{is_cra_or_gdr, is_idr, is_irap_or_gdr};
@@ -16,7 +16,7 @@ use vx_fields::ph::{
     ph_non_ref_pic_flag, ph_pic_order_cnt_lsb, ph_poc_msb_cycle_present_flag, ph_poc_msb_cycle_val,
 };
 use vx_fields::sps::sps_log2_max_pic_order_cnt_lsb_minus4;
-use vx_pic::{CountFields, Kind, PrevTid0, RADL_NUT, RASL_NUT, picture_order_count};
+use vx_pic::{CountFields, Kind, PrevTid0, RADL_NUT, RASL_NUT, number_of, picture_order_count};
 use vx_sps::Sps;
 
 /// ph_poc_msb_cycle_val, where it is present.
@@ -24,8 +24,8 @@ use vx_sps::Sps;
 fn msb_cycle(header: &Fields) -> Option<u32>
     ensures { result ≡ sets.msb_cycle header.now }
 {
-    if number(header, ph_poc_msb_cycle_present_flag) != 0 {
-        return Some(number(header, ph_poc_msb_cycle_val));
+    if number_of(header, ph_poc_msb_cycle_present_flag) != 0 {
+        return Some(number_of(header, ph_poc_msb_cycle_val));
     }
     None
 }
@@ -48,7 +48,7 @@ fn count_fields(sps: &Sps, header: &Fields) -> CountFields
 {
     CountFields {
         lsb_bits: lsb_bits(sps),
-        lsb: number(header, ph_pic_order_cnt_lsb),
+        lsb: number_of(header, ph_pic_order_cnt_lsb),
         msb_cycle: msb_cycle(header),
     }
 }
@@ -58,7 +58,7 @@ fn count_fields(sps: &Sps, header: &Fields) -> CountFields
 fn is_tid0(header: &Fields, kind: Kind) -> bool
     ensures { result ≡ tid0_by header.now kind }
 {
-    if kind.temporal_id != 0 || number(header, ph_non_ref_pic_flag) != 0 {
+    if kind.temporal_id != 0 || number_of(header, ph_non_ref_pic_flag) != 0 {
         return false;
     }
     kind.nal_type != RADL_NUT && kind.nal_type != RASL_NUT
@@ -71,7 +71,7 @@ pub(crate) fn counts_behind(begun: &BegunPicture, kind: Kind, old: PrevTid0) -> 
 {
     if is_tid0(&begun.header.fields, kind) {
         PrevTid0 {
-            lsb: number(&begun.header.fields, ph_pic_order_cnt_lsb),
+            lsb: number_of(&begun.header.fields, ph_pic_order_cnt_lsb),
             poc: kind.poc,
         }
     } else {

@@ -12,7 +12,7 @@ ghost use Rattle.vx_assemble.specs.inner.Takes.{Gives, answer_by, header_read_as
 ghost use Rattle.vx_assemble.specs.inner.Joining.{same_picture, all_there, next_slice, items_only, names_in, qp_in, qp_checked, in_limits, checked, IsJoined};
 ghost use Rattle.vx_assemble.specs.inner.Places.{IsAt};
 
-use crate::numbers::{number, signed};
+use crate::items::signed;
 use crate::readers::{ReadSlice, slice_header_of};
 use crate::refusals::{missing, structure};
 use crate::state::BegunPicture;
@@ -30,7 +30,7 @@ use vx_fields::pps::{pps_alf_info_in_ph_flag, pps_init_qp_minus26, pps_qp_delta_
 use vx_fields::sh::{sh_qp_delta, sh_slice_address};
 use vx_fields::sps::sps_bitdepth_minus8;
 use vx_layout::Layout;
-use vx_pic::{ApsList, Kind};
+use vx_pic::{ApsList, Kind, number_of};
 use vx_pps::Pps;
 use vx_sps::Sps;
 use vx_table::natural;
@@ -213,7 +213,7 @@ fn check_place(place: Place<'_>, read: &ReadSlice) -> Result<(), Refusal>
 {
     let layout = &place.begun.sets.value().layout;
     let before = slices_before(layout, read.header.subpic);
-    if before + number(&read.header.fields, sh_slice_address) as usize != place.count {
+    if before + number_of(&read.header.fields, sh_slice_address) as usize != place.count {
         return Err(structure(SLICE_MISSING));
     }
     Ok(())

@@ -19,7 +19,6 @@ ghost use Rattle.vx_assemble.specs.inner.Headers.{IsHeaderUnder};
 ghost use Rattle.vx_assemble.specs.inner.Order.{IsHeader};
 ghost use Rattle.vx_assemble.specs.inner.Takes.{Gives, answer_by, header_read_as, NamesSmall, IsReadUnder};
 
-use crate::numbers::number;
 use crate::state::BegunPicture;
 use crate::unit::{NalUnit, SliceUnit};
 use std::alloc::{AllocError, Global};
@@ -29,7 +28,7 @@ use vx_bits::{BitReader, Fields, IdList, ReadError};
 use vx_fields::sh::{sh_picture_header_in_slice_header_flag, sh_slice_address};
 use vx_layout::Layout;
 use vx_ph::{PictureHeader, read_ph, read_ph_unit, read_pps_id};
-use vx_pic::{picture_ids, picture_layout};
+use vx_pic::{number_of, picture_ids, picture_layout};
 use vx_pps::{Pps, read_pps};
 use vx_ptl::read_vps;
 use vx_sei::{MessageList, read_sei};
@@ -195,8 +194,8 @@ pub(crate) fn read_slice(
 fn told(header: SliceHeader) -> SliceHeader
     ensures { result ≡ as_told header }
 {
-    let inside = number(&header.fields, sh_picture_header_in_slice_header_flag) != 0;
-    let address = number(&header.fields, sh_slice_address);
+    let inside = number_of(&header.fields, sh_picture_header_in_slice_header_flag) != 0;
+    let address = number_of(&header.fields, sh_slice_address);
     SliceHeader {
         inside,
         fields: header.fields,
