@@ -81,7 +81,7 @@ impl From<ReadFault> for TakeFault {
     }
 }
 
-/// Reads the NAL units of a source (H.266 Annex B), with at most 2^23 + 65,538 of its bytes in memory.
+/// Reads the NAL units of a source (H.266 Annex B), and holds at most 2^23 + 65,538 of its bytes.
 ///
 /// It takes at most 2^40 bytes of the source and one more, and gives the units whose end is seen in 2^40. Each call is given
 /// the source, which is to be the same one.
