@@ -116,6 +116,47 @@ fn reads_units_of_any_length(rt: HostRuntime) -> Result<(), Fail> {
     Ok(())
 }
 
+/// The lengths of units of which some are kept where they were read, and others are moved as room is made.
+const LENGTHS: [usize; 8] = [100, 40_000, 3, 300_000, 7, 70_000, 1_000, 20];
+
+/// A stream of units of these lengths, each with a byte of its own.
+fn mixed_stream(alloc: Global) -> Result<Vec<u8>, AllocError> {
+    let mut bytes = Vec::new(alloc);
+    let mut byte = 0u8;
+    for n in LENGTHS {
+        byte = byte.wrapping_add(31);
+        let rest = vec![in alloc; byte; n - 2]?;
+        bytes.extend_from_slice(&[0, 0, 1, 0, 65])?;
+        bytes.extend_from_slice(&rest)?;
+    }
+    Ok(bytes)
+}
+
+/// The units of a source, a few at most, each behind 00 00 01.
+fn join_units(alloc: Global, source: &mut MemorySource) -> Result<Vec<u8>, AllocError> {
+    let mut reader = UnitReader::new(alloc)?;
+    let mut joined = Vec::new(alloc);
+    for _ in 0..9 {
+        let Ok(Some(span)) = reader.take(source) else {
+            return Ok(joined);
+        };
+        joined.extend_from_slice(&[0, 0, 1])?;
+        joined.extend_from_slice(reader.bytes(span))?;
+    }
+    Ok(joined)
+}
+
+#[test]
+fn reads_units_in_place(rt: HostRuntime) -> Result<(), Fail> {
+    let bytes = mixed_stream(rt.alloc())?;
+    for piece in [5_000, 60_000, 1_000_000] {
+        let mut source = source_of(rt.alloc(), &bytes, piece, &[])?;
+        let joined = join_units(rt.alloc(), &mut source)?;
+        assert!(rt; joined == bytes, "in pieces of {piece}");
+    }
+    Ok(())
+}
+
 /// The refusals that a reader gives behind the first unit of a source, where it gives one twice.
 fn refused_twice(
     alloc: Global,
