@@ -52,7 +52,7 @@ fn lengthen(buffer: &mut Vec<u8>, place: usize, n: usize) -> Result<(), AllocErr
 }
 
 impl ByteQueue {
-    ghost use Rattle.std.specs.Prelude.{◌≡◌, ℕ, ◌+◌, ◌≤◌, ◌<◌, ◌++◌, [], drop, length, min, IfOk, IsOk, OnOk, OnErr, MatchResult};
+    ghost use Rattle.std.specs.Prelude.{◌≡◌, ◌≤◌, ◌<◌, ◌++◌, [], drop, length, min, IfOk, IsOk, OnOk, OnErr, MatchResult};
     ghost use Rattle.std.specs.Io.KnownBytes.{Keeps};
     ghost use Rattle.vx_io.specs.Faults.{CountsFault};
     ghost use Rattle.vx_annexb.specs.inner.Queue.{Receives};

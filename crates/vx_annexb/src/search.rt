@@ -1,5 +1,5 @@
 //! Searches of a slice for zeros.
-ghost use Rattle.std.specs.Prelude.{◌≡◌, ◌≢◌, ℕ, ◌+◌, ◌<◌, ◌≤◌, length, max, slice_index, MatchOption};
+ghost use Rattle.std.specs.Prelude.{◌≢◌, ℕ, ◌+◌, ◌<◌, ◌≤◌, length, max, slice_index, MatchOption};
 ghost use Rattle.vx_annexb.specs.Places.{AreZeros, IsMark, IsFirstFrom};
 
 use memchr::memmem;

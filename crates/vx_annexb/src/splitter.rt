@@ -1,5 +1,4 @@
 //! A byte stream that is taken in pieces, and its NAL units, given one at a time.
-ghost use Rattle.std.specs.Prelude.{◌≡◌, ◌≤◌, length, drop, vec_capacity};
 
 use crate::Span;
 use crate::emulation::{EMULATION, emulation_fault};

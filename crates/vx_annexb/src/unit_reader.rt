@@ -2,7 +2,7 @@
 ghost use Rattle.std.specs.Prelude.{◌≡◌, ◌+◌, ◌-◌, ◌^◌, ◌<◌, ◌≤◌, ℕ, List, take, min, false, length, IfOk, OnOk, OnErr, Some, None, Err};
 ghost use Rattle.std.specs.Io.KnownBytes.{IsAtEnd};
 ghost use Rattle.vx_annexb.specs.ByteStream.{UnitPlace, source_limit};
-ghost use Rattle.vx_annexb.specs.Held.{Stands, IsSought, fed, held, is_all, ahead, room as has_room};
+ghost use Rattle.vx_annexb.specs.Held.{Stands, IsSought, fed, held, is_all, ahead};
 ghost use Rattle.vx_annexb.specs.Reading.{ClosesAt};
 ghost use Rattle.vx_annexb.specs.inner.Reading.{FedOf, ReadsPiece, fault_of};
 ghost use Rattle.vx_annexb.specs.declared.unit_reader.Closed.TheVariants.{End, Failed};
