@@ -72,6 +72,10 @@ class Cases:
             self.given.append(f"stream {self.names[stream]} {spelled(stream)}")
         return self.names[stream]
 
+    def named(self, name, stream):
+        """Names these bytes, which may have another name, by this one."""
+        self.given.append(f"stream {name} {spelled(stream)}")
+
     def placed(self, corners, sources):
         """The words that place sources at corners."""
         return " ".join(f"{corner}={self.name(source)}" for corner, source in zip(corners, sources))
@@ -79,7 +83,7 @@ class Cases:
     def case(self, words, expected, *settings, keep=None):
         """A case, with the lines that hold for it."""
         settings += (f"keep {keep}",) if keep else ()
-        self.given += [*settings, f"case {words}"]
+        self.given += [*settings, f"case {words}".strip()]
         self.made.append(expected.line(keep is not None))
         self.count += 1
 

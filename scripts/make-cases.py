@@ -4,7 +4,7 @@
 usage: scripts/make-cases.py VECTORS STREAMS
 
 It writes crates/vx_cases/stdin and crates/vx_cases/stdout. No expected value is taken from the program: the worked cases stand in
-worked_cases.py, and VECTORS and STREAMS are folders.
+worked_cases.py and told_cases.py, and VECTORS and STREAMS are folders.
 
 In merge.txt of VECTORS a case is a line `case N merge WORDS`, with the number of a source behind each `=`, a line `source BYTES` for each
 source in hexadecimal, and a line `status=S err=LINE out=BYTES` of what `merge` comes to, with blanks of LINE as `_` and `-` for none. In
@@ -19,8 +19,11 @@ import sys
 
 from case_lines import Cases, Expected, expected_of, unhex, units
 from plain_streams import stream
+from told_cases import add_told
 from worked_cases import add_worked
 
+# Reads and what is told a byte at a time.
+BYTEWISE = ("pieces all 1", "pieces err 1")
 CRATE = os.path.join(os.path.dirname(os.path.abspath(__file__)), "..", "crates", "vx_cases")
 
 
@@ -36,6 +39,7 @@ def add_model_merges(cases, path):
             sources.append(unhex("".join(words[1:])))
         elif words:
             cases.merged(corners, sources, expected_of(line), level)
+            cases.case(f"check merge {cases.placed(corners, sources)}", expected_of(line).verdict(), *BYTEWISE)
 
 
 def sections(path):
@@ -65,6 +69,7 @@ def add_model_streams(cases, folder):
             words = line.split(" status=")[0].split()
             if words[1] == number:
                 cases.checked(f"{' '.join(words[2:])} {name}", expected_of(line))
+                cases.case(f"{' '.join(words[2:])} {name}", expected_of(line), *BYTEWISE)
 
 
 # The first fields of an SPS that have to be the same in all sources, with their place in its second byte.
@@ -103,6 +108,7 @@ def main(vectors, streams):
     add_families(cases, streams)
     add_model_merges(cases, os.path.join(vectors, "merge.txt"))
     add_model_streams(cases, vectors)
+    add_told(cases)
     cases.write(CRATE)
     print(f"{cases.count} cases, {len(cases.names)} streams")
 

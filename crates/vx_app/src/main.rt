@@ -3,20 +3,6 @@
 
 #[cfg(test)]
 mod tests;
-#[cfg(test)]
-mod tests_extract;
-#[cfg(test)]
-mod tests_faults;
-#[cfg(test)]
-mod tests_limits;
-#[cfg(test)]
-mod tests_merge;
-#[cfg(test)]
-mod tests_rules;
-#[cfg(test)]
-mod tests_shown;
-#[cfg(test)]
-mod tests_written;
 
 use std::alloc::AllocError;
 use std::env;
