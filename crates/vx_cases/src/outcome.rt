@@ -1,7 +1,10 @@
 //! What a case comes to.
 
-ghost use Rattle.std.specs.Prelude.{◌≡◌, ◌≢◌, IfOk, map};
+ghost use Rattle.std.specs.Prelude.{◌≡◌, ◌≢◌, [], IfOk, map};
+ghost use Rattle.vx_io.specs.Memory.{fresh_plan};
 ghost use Rattle.vx_run.specs.Grammar.{texts};
+ghost use Rattle.vx_cases.specs.Said.{said_of};
+ghost use Rattle.vx_cases.specs.declared.setup.End.TheVariants.{Source as OfSource};
 
 use crate::setup::{End, Setup};
 use crate::streams::Streams;
@@ -12,7 +15,7 @@ use vx_run::{file_count, file_word, run};
 
 /// What the program answered and wrote.
 #[derive(Drop)]
-pub struct Outcome {
+pub(crate) struct Outcome {
     pub status: u8,
     pub err: Vec<u8>,
     pub out: Vec<u8>,
@@ -26,7 +29,7 @@ const LINE_ROOM: usize = 400;
 const BLANK: u8 = b' ';
 
 /// Runs the program with these words over named bytes.
-pub fn outcome_of(
+pub(crate) fn outcome_of(
     alloc: Global,
     streams: &Streams,
     setup: &Setup,
@@ -70,7 +73,10 @@ fn source_of(
     setup: &Setup,
     words: &[String],
     k: usize,
-) -> Result<MemorySource> {
+) -> Result<MemorySource>
+    ensures plan { IfOk result (λ source. source.plan
+        ≡ fresh_plan (said_of (OfSource k) setup.now.pieces.items) (said_of (OfSource k) setup.now.failing.items)) }
+{
     let bytes = streams.get(file_word(words, k).context("no file")?)?;
     Ok(MemorySource::new(
         bytes.clone()?,
@@ -80,13 +86,19 @@ fn source_of(
 }
 
 /// A sink that takes what is written as the case says.
-fn sink_of(alloc: Global, setup: &Setup, end: End, room: usize) -> Result<MemorySink, AllocError> {
+fn sink_of(alloc: Global, setup: &Setup, end: End, room: usize) -> Result<MemorySink, AllocError>
+    ensures { IfOk result (λ sink. sink ≡ record {
+      taken = [];
+      room = room;
+      plan = fresh_plan (said_of end setup.now.pieces.items) (said_of end setup.now.failing.items);
+    }) }
+{
     let pieces = setup.pieces_of(alloc, end)?;
     MemorySink::new(alloc, room, pieces, setup.failing_of(alloc, end)?)
 }
 
 /// The line that tells of an outcome. What is kept isn't told.
-pub fn told(alloc: Global, outcome: &Outcome, is_kept: bool) -> Result<String, AllocError> {
+pub(crate) fn told(alloc: Global, outcome: &Outcome, is_kept: bool) -> Result<String, AllocError> {
     let status = outcome.status;
     let err = told_err(alloc, &outcome.err)?;
     let out = match &outcome.out {
@@ -112,7 +124,8 @@ fn told_err(alloc: Global, line: &[u8]) -> Result<String, AllocError> {
 }
 
 fn told_byte(byte: u8) -> char
-    ensures { result ≢ BLANK }
+    ensures blank { result ≢ BLANK }
+    ensures other { byte ≢ BLANK → result ≡ byte }
 {
     if byte == BLANK { '_' } else { char::from(byte) }
 }

@@ -9,13 +9,13 @@ use std::mem;
 
 /// What the lines so far have said: the bytes that have names, and how the next case goes.
 #[derive(Drop)]
-pub struct Script {
+pub(crate) struct Script {
     streams: Streams,
     setup: Setup,
 }
 
 impl Script {
-    pub fn new(alloc: Global) -> Script {
+    pub(crate) fn new(alloc: Global) -> Script {
         Script {
             streams: Streams::new(alloc),
             setup: Setup::new(alloc),
@@ -23,7 +23,7 @@ impl Script {
     }
 
     /// Does what a line says, and answers the line that its case makes, where it is one.
-    pub fn take(&mut self, alloc: Global, line: &str) -> Result<Option<String>> {
+    pub(crate) fn take(&mut self, alloc: Global, line: &str) -> Result<Option<String>> {
         let words: Vec<&str> = line.split_ascii_whitespace().collect(alloc)?;
         let Some((verb, rest)) = words.split_first() else {
             return Ok(None);

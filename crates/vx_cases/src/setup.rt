@@ -1,14 +1,14 @@
 //! How the calls of a case go.
 
-ghost use Rattle.std.specs.Prelude.{◌≡◌, ◌↔◌, ◌⊎◌, IsTrue, IfOk, Contains};
-ghost use Rattle.vx_cases.specs.Said.{covers, said_of};
+ghost use Rattle.std.specs.Prelude.{◌≡◌, ◌↔◌, ◌⊎◌, [], None, IsTrue, IfOk, Contains, string_bytes, option_map, option_copied};
+ghost use Rattle.vx_cases.specs.Said.{covers, said_of, SaysOf, SaysMore};
 
 use anyhow::{Context, Result, bail};
 use std::alloc::{AllocError, Global};
 
 /// What is read or written: a source by its number, or a sink.
 #[derive(Clone, Copy, PartialEq, Eq)]
-pub enum End {
+pub(crate) enum End {
     Source(usize),
     EachSource,
     Out,
@@ -26,7 +26,7 @@ impl End {
 
 /// What was said of the next case.
 #[derive(Drop)]
-pub struct Setup {
+pub(crate) struct Setup {
     pieces: Vec<(End, u32)>,
     failing: Vec<(End, u64)>,
     closed: Vec<usize>,
@@ -34,7 +34,13 @@ pub struct Setup {
 }
 
 impl Setup {
-    pub fn new(alloc: Global) -> Setup {
+    /// Nothing was said yet.
+    pub(crate) fn new(alloc: Global) -> Setup
+        ensures pieces { result.pieces.items ≡ [] }
+        ensures failing { result.failing.items ≡ [] }
+        ensures closed { result.closed.items ≡ [] }
+        ensures kept { result.kept ≡ None }
+    {
         Setup {
             pieces: Vec::new(alloc),
             failing: Vec::new(alloc),
@@ -44,7 +50,9 @@ impl Setup {
     }
 
     /// Says more of the case: `pieces END NUMBER ..`, `fail END NUMBER ..`, `closed NUMBER` or `keep NAME`.
-    pub fn say(&mut self, alloc: Global, verb: &str, words: &[&str]) -> Result<()> {
+    pub(crate) fn say(&mut self, alloc: Global, verb: &str, words: &[&str]) -> Result<()>
+        ensures { SaysMore self.old self.new }
+    {
         match (verb, words) {
             ("pieces", [end, numbers @ ..]) => self.cut(end_of(end)?, numbers),
             ("fail", [end, numbers @ ..]) => self.fail(end_of(end)?, numbers),
@@ -57,14 +65,22 @@ impl Setup {
         }
     }
 
-    fn cut(&mut self, end: End, numbers: &[&str]) -> Result<()> {
+    /// Says more of how many bytes the calls of an end take.
+    fn cut(&mut self, end: End, numbers: &[&str]) -> Result<()>
+        ensures more { SaysOf end self.old.pieces.items self.new.pieces.items }
+        ensures rest { self.new ≡ record self.old { pieces = self.new.pieces } }
+    {
         for number in numbers {
             self.pieces.push((end, number.parse::<u32>()?))?;
         }
         Ok(())
     }
 
-    fn fail(&mut self, end: End, numbers: &[&str]) -> Result<()> {
+    /// Says more of which calls of an end fail.
+    fn fail(&mut self, end: End, numbers: &[&str]) -> Result<()>
+        ensures more { SaysOf end self.old.failing.items self.new.failing.items }
+        ensures rest { self.new ≡ record self.old { failing = self.new.failing } }
+    {
         for number in numbers {
             self.failing.push((end, number.parse::<u64>()?))?;
         }
@@ -72,7 +88,7 @@ impl Setup {
     }
 
     /// How many bytes the calls of this end take, in turn.
-    pub fn pieces_of(&self, alloc: Global, end: End) -> Result<Vec<u32>, AllocError>
+    pub(crate) fn pieces_of(&self, alloc: Global, end: End) -> Result<Vec<u32>, AllocError>
         ensures { IfOk result (λ pieces. pieces.items ≡ said_of end self.now.pieces.items) }
     {
         let pieces = self.pieces.iter().filter(|(said, _)| said.covers(end));
@@ -80,7 +96,7 @@ impl Setup {
     }
 
     /// The calls of this end that fail.
-    pub fn failing_of(&self, alloc: Global, end: End) -> Result<Vec<u64>, AllocError>
+    pub(crate) fn failing_of(&self, alloc: Global, end: End) -> Result<Vec<u64>, AllocError>
         ensures { IfOk result (λ calls. calls.items ≡ said_of end self.now.failing.items) }
     {
         let failing = self.failing.iter().filter(|(said, _)| said.covers(end));
@@ -88,14 +104,16 @@ impl Setup {
     }
 
     /// Whether this source always fails.
-    pub fn is_closed(&self, source: usize) -> bool
+    pub(crate) fn is_closed(&self, source: usize) -> bool
         ensures { IsTrue result ↔ Contains self.now.closed.items source }
     {
         self.closed.contains(&source)
     }
 
     /// The name of what is written on `out`, where it has one.
-    pub fn kept(&self) -> Option<&str> {
+    pub(crate) fn kept(&self) -> Option<&str>
+        ensures { option_copied result ≡ option_map string_bytes self.now.kept }
+    {
         self.kept.as_ref().map(|name| name.as_str())
     }
 }

@@ -1,8 +1,8 @@
 //! Bytes by their names.
 
-ghost use Rattle.std.specs.Prelude.{◌≡◌, Some, OnOk, IfOk};
+ghost use Rattle.std.specs.Prelude.{◌≡◌, Some, IsSome, OnOk, IfOk};
 ghost use Rattle.std.specs.Io.{StartsWith};
-ghost use Rattle.std.specs.BTreeMap.{get_by_text};
+ghost use Rattle.std.specs.BTreeMap.{IsEmpty, get_by_text};
 
 use anyhow::{Context, Result};
 use std::alloc::{AllocError, Global};
@@ -10,19 +10,27 @@ use std::collections::BTreeMap;
 
 /// Bytes by their names.
 #[derive(Drop)]
-pub struct Streams {
+pub(crate) struct Streams {
     named: BTreeMap<String, Vec<u8>>,
 }
 
 impl Streams {
-    pub fn new(alloc: Global) -> Streams {
+    /// Nothing has a name yet.
+    pub(crate) fn new(alloc: Global) -> Streams
+        ensures { IsEmpty result.named }
+    {
         Streams {
             named: BTreeMap::new(alloc),
         }
     }
 
     /// Names bytes. What had this name before has none.
-    pub fn insert(&mut self, alloc: Global, name: &str, bytes: Vec<u8>) -> Result<(), AllocError>
+    pub(crate) fn insert(
+        &mut self,
+        alloc: Global,
+        name: &str,
+        bytes: Vec<u8>,
+    ) -> Result<(), AllocError>
         ensures { OnOk result (get_by_text self.new.named name.now ≡ Some bytes) }
     {
         self.named.insert(String::from_str(alloc, name)?, bytes)?;
@@ -30,7 +38,9 @@ impl Streams {
     }
 
     /// Names the bytes that these parts spell.
-    pub fn spell(&mut self, alloc: Global, name: &str, parts: &[&str]) -> Result<()> {
+    pub(crate) fn spell(&mut self, alloc: Global, name: &str, parts: &[&str]) -> Result<()>
+        ensures { OnOk result (IsSome (get_by_text self.new.named name.now)) }
+    {
         let mut bytes = Vec::new(alloc);
         for part in parts {
             push_part(alloc, &mut bytes, part)?;
@@ -40,7 +50,7 @@ impl Streams {
     }
 
     /// The bytes of this name.
-    pub fn get(&self, name: &str) -> Result<&Vec<u8>>
+    pub(crate) fn get(&self, name: &str) -> Result<&Vec<u8>>
         ensures { IfOk result (λ bytes. get_by_text self.now.named name.now ≡ Some bytes.now) }
     {
         self.named
