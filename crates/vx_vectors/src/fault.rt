@@ -8,7 +8,7 @@ use vx_bits::{ReadError, Refusal};
 
 /// Why a line gets no answer of what it asks about.
 #[derive(Debug, Drop, Error)]
-pub enum LineFault {
+pub(crate) enum LineFault {
     /// Memory ran out.
     #[error("out of memory")]
     Memory,
@@ -68,7 +68,7 @@ impl From<FeedFault> for LineFault {
 
 /// Why the program ends before its input does.
 #[derive(Debug, Drop, Error)]
-pub enum Fault {
+pub(crate) enum Fault {
     /// A read or a write failed.
     #[error("{0}")]
     Io(io::Error),
@@ -89,8 +89,13 @@ impl From<io::Error> for Fault {
 }
 
 impl Fault {
+    ghost use Rattle.std.specs.Prelude.{◌≡◌};
+    ghost use Rattle.vx_vectors.specs.Told.{status_of};
+
     /// The status with which the program ends.
-    pub fn status(&self) -> u8 {
+    pub(crate) fn status(&self) -> u8
+        ensures { result ≡ status_of self.now }
+    {
         match self {
             Fault::Line {
                 fault: LineFault::Memory,

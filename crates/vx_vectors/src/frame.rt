@@ -1,5 +1,6 @@
 //! What two sets make up of a picture.
-ghost use Rattle.std.specs.Prelude.{◌≡◌, ◌≤◌, length};
+ghost use Rattle.std.specs.Prelude.{◌≡◌, ◌≤◌, length, IfOk, Ok};
+ghost use Rattle.vx_pic.specs.PictureLayout.{AnswersLayout, ids_of};
 
 use std::alloc::Global;
 use vx_bits::{IdList, ReadError};
@@ -10,15 +11,15 @@ use vx_sps::Sps;
 
 /// The sets of a picture, its layout, and the ids of its subpictures.
 #[derive(Drop)]
-pub struct Frame<'a> {
+pub(crate) struct Frame<'a> {
     /// The SPS.
-    pub sps: &'a Sps,
+    pub(crate) sps: &'a Sps,
     /// The PPS.
-    pub pps: &'a Pps,
+    pub(crate) pps: &'a Pps,
     /// The tiles, slices and subpictures.
-    pub layout: Layout,
+    pub(crate) layout: Layout,
     /// The ids of the subpictures.
-    pub ids: IdList,
+    pub(crate) ids: IdList,
     ghost few: { length ids ≤ 1000 },
     ghost one_each: { length ids ≡ length layout.subpics },
 }
@@ -28,7 +29,16 @@ pub struct Frame<'a> {
 /// # Errors
 ///
 /// The lowest fault of the layout; want of memory.
-pub fn frame_of<'a>(alloc: Global, sps: &'a Sps, pps: &'a Pps) -> Result<Frame<'a>, ReadError> {
+pub(crate) fn frame_of<'a>(
+    alloc: Global,
+    sps: &'a Sps,
+    pps: &'a Pps,
+) -> Result<Frame<'a>, ReadError>
+    ensures sps { IfOk result (λ frame. frame.sps.now ≡ sps.now) }
+    ensures pps { IfOk result (λ frame. frame.pps.now ≡ pps.now) }
+    ensures layout { IfOk result (λ frame. AnswersLayout sps.now pps.now (Ok frame.layout)) }
+    ensures ids { IfOk result (λ frame. frame.ids ≡ ids_of sps.now pps.now) }
+{
     let layout = picture_layout(alloc, sps, pps)?;
     let ids = picture_ids(alloc, sps, pps)?;
     Ok(Frame {

@@ -9,7 +9,7 @@ use vx_pps::Pps;
 use vx_sps::Sps;
 
 /// What is read of a picture header under its sets, and what is written of it; and the header.
-pub fn answer_header(
+pub(crate) fn answer_header(
     alloc: Global,
     rbsp: &[u8],
     sps: &Sps,

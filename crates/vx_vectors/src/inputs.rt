@@ -91,7 +91,7 @@ fn write_in_force(text: &mut String, input: &DecodingInput<'_>) -> Result<(), Al
 }
 
 /// Appends a line of a slice of a subpicture.
-pub fn write_input(
+pub(crate) fn write_input(
     text: &mut String,
     subpic: u32,
     input: &DecodingInput<'_>,

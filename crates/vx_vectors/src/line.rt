@@ -9,16 +9,19 @@ const MOST: usize = 1 << 23;
 
 /// The bytes of a line.
 #[derive(Drop)]
-pub struct LineBytes {
+pub(crate) struct LineBytes {
     bytes: Vec<u8>,
     ghost few: { length bytes.items ≤ 2 ^ 23 },
 }
 
 impl LineBytes {
-    ghost use Rattle.std.specs.Prelude.{◌≡◌, ◌≤◌, ◌^◌, length};
+    ghost use Rattle.std.specs.Prelude.{◌≡◌, ◌<◌, ◌≤◌, ◌^◌, length, IfOk, IfErr};
 
     /// These bytes, where they aren't too many.
-    pub fn new(bytes: Vec<u8>) -> Result<LineBytes, LineFault> {
+    pub(crate) fn new(bytes: Vec<u8>) -> Result<LineBytes, LineFault>
+        ensures bytes { IfOk result (λ line. line.bytes ≡ bytes) }
+        ensures many { IfErr result (λ _. 2 ^ 23 < length bytes.items) }
+    {
         if bytes.len() > MOST {
             return Err(LineFault::Bytes);
         }
@@ -26,7 +29,7 @@ impl LineBytes {
     }
 
     /// The bytes that hexadecimal digits name, or none for `-`.
-    pub fn parse(alloc: Global, digits: &str) -> Result<LineBytes, LineFault> {
+    pub(crate) fn parse(alloc: Global, digits: &str) -> Result<LineBytes, LineFault> {
         if digits == "-" {
             return LineBytes::new(Vec::new(alloc));
         }
@@ -37,8 +40,9 @@ impl LineBytes {
     }
 
     /// The bytes.
-    pub fn as_slice(&self) -> &[u8]
-        ensures { length result.now ≤ 2 ^ 23 }
+    pub(crate) fn as_slice(&self) -> &[u8]
+        ensures bytes { result.now ≡ self.now.bytes.items }
+        ensures few { length result.now ≤ 2 ^ 23 }
     {
         self.bytes.as_slice()
     }
@@ -46,7 +50,7 @@ impl LineBytes {
 
 /// What a line asks about.
 #[derive(Drop)]
-pub enum Line {
+pub(crate) enum Line {
     /// The RBSP of a video parameter set.
     Vps(LineBytes),
     /// The RBSP of a sequence parameter set.
@@ -69,7 +73,7 @@ impl Line {
     /// # Errors
     ///
     /// Where its word isn't known, or something else follows than belongs to it.
-    pub fn parse(alloc: Global, line: &str) -> Result<Line, LineFault> {
+    pub(crate) fn parse(alloc: Global, line: &str) -> Result<Line, LineFault> {
         let (word, rest) = line.split_once(' ').unwrap_or((line, ""));
         match word {
             "vps" => Ok(Line::Vps(LineBytes::parse(alloc, rest)?)),

@@ -59,7 +59,11 @@ fn write_subpictures(text: &mut String, alloc: Global, sps: &Sps) -> Result<(), 
 }
 
 /// Appends what a sequence parameter set tells: its picture, its subpictures, and its structures of reference picture lists.
-pub fn write_sps_meaning(text: &mut String, alloc: Global, sps: &Sps) -> Result<(), AllocError> {
+pub(crate) fn write_sps_meaning(
+    text: &mut String,
+    alloc: Global,
+    sps: &Sps,
+) -> Result<(), AllocError> {
     let (width, height, ctb, count) = (sps.width(), sps.height(), sps.ctb(), sps.subpics());
     write!(
         text,
@@ -81,7 +85,7 @@ fn write_slices(text: &mut String, pps: &Pps) -> Result<(), AllocError> {
 }
 
 /// Appends what a picture parameter set tells: its tiles, and its slices, which may be those of the subpictures.
-pub fn write_pps_meaning(text: &mut String, pps: &Pps) -> Result<(), AllocError> {
+pub(crate) fn write_pps_meaning(text: &mut String, pps: &Pps) -> Result<(), AllocError> {
     if !pps.partitioned() {
         return text.push_str(" | unpartitioned");
     }

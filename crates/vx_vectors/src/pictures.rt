@@ -103,7 +103,7 @@ fn write_pictures(
 /// # Errors
 ///
 /// The first rule that the stream breaks; want of memory.
-pub fn answer_pictures(alloc: Global, stream: &[u8]) -> Result<String, LineFault> {
+pub(crate) fn answer_pictures(alloc: Global, stream: &[u8]) -> Result<String, LineFault> {
     let mut source = source_of(alloc, stream)?;
     let mut text = String::new(alloc);
     let mut feed = Feed::new(alloc)?;

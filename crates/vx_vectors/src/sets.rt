@@ -12,14 +12,14 @@ use vx_ptl::read_vps;
 use vx_sps::{Sps, read_sps, write_sps};
 
 /// The items of a set that is accepted.
-pub fn accepted(alloc: Global, fields: &Fields) -> Result<String, AllocError> {
+pub(crate) fn accepted(alloc: Global, fields: &Fields) -> Result<String, AllocError> {
     let mut text = String::from_str(alloc, "ok")?;
     write_items(&mut text, fields)?;
     Ok(text)
 }
 
 /// What is read of a VPS.
-pub fn answer_vps(alloc: Global, rbsp: &[u8]) -> Result<String, ReadError>
+pub(crate) fn answer_vps(alloc: Global, rbsp: &[u8]) -> Result<String, ReadError>
     requires { length rbsp.now ≤ 2 ^ 23 }
 {
     let items = read_vps(alloc, rbsp)?;
@@ -27,7 +27,7 @@ pub fn answer_vps(alloc: Global, rbsp: &[u8]) -> Result<String, ReadError>
 }
 
 /// What is read of an SPS, what it tells, and what is written of it.
-pub fn answer_sps(alloc: Global, rbsp: &[u8]) -> Result<String, ReadError>
+pub(crate) fn answer_sps(alloc: Global, rbsp: &[u8]) -> Result<String, ReadError>
     requires { length rbsp.now ≤ 2 ^ 23 }
 {
     let sps = read_sps(alloc, rbsp)?;
@@ -43,7 +43,7 @@ fn sps_text(alloc: Global, sps: &Sps, rbsp: &[u8]) -> Result<String, AllocError>
 }
 
 /// Appends whether what is written of an SPS is this RBSP.
-pub fn write_same_sps(
+pub(crate) fn write_same_sps(
     text: &mut String,
     alloc: Global,
     sps: &Sps,
@@ -54,7 +54,7 @@ pub fn write_same_sps(
 }
 
 /// What is read of a PPS, what it tells, and what is written of it.
-pub fn answer_pps(alloc: Global, rbsp: &[u8]) -> Result<String, ReadError>
+pub(crate) fn answer_pps(alloc: Global, rbsp: &[u8]) -> Result<String, ReadError>
     requires { length rbsp.now ≤ 2 ^ 23 }
 {
     let pps = read_pps(alloc, rbsp)?;
@@ -70,7 +70,7 @@ fn pps_text(alloc: Global, pps: &Pps, rbsp: &[u8]) -> Result<String, AllocError>
 }
 
 /// Appends whether what is written of a PPS is this RBSP.
-pub fn write_same_pps(
+pub(crate) fn write_same_pps(
     text: &mut String,
     alloc: Global,
     pps: &Pps,
@@ -81,7 +81,7 @@ pub fn write_same_pps(
 }
 
 /// What is read of an APS, and what is written of it.
-pub fn answer_aps(alloc: Global, rbsp: &[u8]) -> Result<String, ReadError> {
+pub(crate) fn answer_aps(alloc: Global, rbsp: &[u8]) -> Result<String, ReadError> {
     match read_aps(alloc, rbsp)? {
         Some(aps) => Ok(aps_text(alloc, &aps, rbsp)?),
         None => Ok(String::from_str(alloc, "none")?),

@@ -103,7 +103,7 @@ fn apart_text(alloc: Global, rbsp: &[u8], numbers: &SliceNumbers<'_>) -> Result<
 /// # Errors
 ///
 /// The first refusal; want of memory; where a picture header stands inside.
-pub fn answer_apart(
+pub(crate) fn answer_apart(
     alloc: Global,
     nal_type: u8,
     rbsp: &[u8],
@@ -124,7 +124,7 @@ pub fn answer_apart(
 }
 
 /// The bits behind the first of bytes.
-pub fn behind_first(bytes: &[u8]) -> BitReader<'_>
+pub(crate) fn behind_first(bytes: &[u8]) -> BitReader<'_>
     requires few { length bytes.now ≤ 2 ^ 23 }
     requires some { 1 ≤ length bytes.now }
     ensures total { result.total ≡ 8 * length bytes.now }
@@ -163,7 +163,7 @@ fn inside_text(
 /// # Errors
 ///
 /// The first refusal; want of memory; where no picture header stands inside.
-pub fn answer_inside(
+pub(crate) fn answer_inside(
     alloc: Global,
     nal_type: u8,
     rbsp: &[u8],

@@ -1,5 +1,5 @@
 //! A stream, unit by unit.
-ghost use Rattle.std.specs.Prelude.{◌≤◌, ◌^◌, length};
+ghost use Rattle.std.specs.Prelude.{◌≡◌, ◌≤◌, ◌^◌, length};
 
 use crate::fault::LineFault;
 use crate::frame::{Frame, frame_of};
@@ -26,7 +26,7 @@ use vx_table::natural;
 
 /// A stream, as far as its units have come: its bytes, and what later ones are read under.
 #[derive(Drop)]
-pub struct Stream {
+pub(crate) struct Stream {
     bytes: Vec<u8>,
     sps: BTreeMap<u32, Sps>,
     pps: BTreeMap<u32, Pps>,
@@ -62,7 +62,7 @@ fn as_unit(alloc: Global, answer: Result<String, ReadError>) -> Result<String, L
 
 impl Stream {
     /// A stream without units.
-    pub fn new(alloc: Global) -> Stream {
+    pub(crate) fn new(alloc: Global) -> Stream {
         Stream {
             bytes: Vec::new(alloc),
             sps: BTreeMap::new(alloc),
@@ -72,7 +72,9 @@ impl Stream {
     }
 
     /// Its bytes: each unit behind a start code.
-    pub fn bytes(&self) -> &[u8] {
+    pub(crate) fn bytes(&self) -> &[u8]
+        ensures { result.now ≡ self.now.bytes.items }
+    {
         self.bytes.as_slice()
     }
 
@@ -81,7 +83,7 @@ impl Stream {
     /// # Errors
     ///
     /// Where it is refused, or no NAL unit, or refers to a set that hasn't come; want of memory.
-    pub fn answer_unit(&mut self, alloc: Global, unit: &[u8]) -> Result<String, LineFault>
+    pub(crate) fn answer_unit(&mut self, alloc: Global, unit: &[u8]) -> Result<String, LineFault>
         requires { length unit.now ≤ 2 ^ 23 }
     {
         self.bytes.extend_from_slice(&[0, 0, 1])?;

@@ -6,12 +6,12 @@ use vx_layout::{Bounds, Rect, RectList};
 use vx_rpl::RefEntry;
 
 /// What stands before the i-th of several things.
-pub fn mark(i: usize, mark: &'static str) -> &'static str {
+pub(crate) fn mark(i: usize, mark: &'static str) -> &'static str {
     if i == 0 { "" } else { mark }
 }
 
 /// Appends items, each behind a blank.
-pub fn write_items(text: &mut String, fields: &Fields) -> Result<(), AllocError> {
+pub(crate) fn write_items(text: &mut String, fields: &Fields) -> Result<(), AllocError> {
     for i in 0..fields.len() {
         let Item { field, value } = fields.item(i);
         write!(text, " {field}={value}")?;
@@ -20,7 +20,7 @@ pub fn write_items(text: &mut String, fields: &Fields) -> Result<(), AllocError>
 }
 
 /// Appends bytes in hexadecimal.
-pub fn write_bytes(text: &mut String, bytes: &[u8]) -> Result<(), AllocError> {
+pub(crate) fn write_bytes(text: &mut String, bytes: &[u8]) -> Result<(), AllocError> {
     for byte in bytes {
         write!(text, "{byte:02x}")?;
     }
@@ -28,7 +28,7 @@ pub fn write_bytes(text: &mut String, bytes: &[u8]) -> Result<(), AllocError> {
 }
 
 /// Appends whether the bytes that were written are those that were read, and else what they are.
-pub fn write_same(text: &mut String, written: &[u8], read: &[u8]) -> Result<(), AllocError> {
+pub(crate) fn write_same(text: &mut String, written: &[u8], read: &[u8]) -> Result<(), AllocError> {
     text.push_str(" | written ")?;
     if written == read {
         return text.push_str("same");
@@ -37,7 +37,7 @@ pub fn write_same(text: &mut String, written: &[u8], read: &[u8]) -> Result<(), 
 }
 
 /// A refusal as text.
-pub fn refusal_text(alloc: Global, refusal: Refusal) -> Result<String, AllocError> {
+pub(crate) fn refusal_text(alloc: Global, refusal: Refusal) -> Result<String, AllocError> {
     let mut text = String::from_str(alloc, "refused ")?;
     match refusal {
         Refusal::Syntax { field, bit, cause } => {
@@ -51,7 +51,7 @@ pub fn refusal_text(alloc: Global, refusal: Refusal) -> Result<String, AllocErro
 }
 
 /// Appends the bounds of tile columns or rows.
-pub fn write_bounds(text: &mut String, bounds: &Bounds) -> Result<(), AllocError> {
+pub(crate) fn write_bounds(text: &mut String, bounds: &Bounds) -> Result<(), AllocError> {
     for i in 0..bounds.len() {
         write!(text, "{}{}", mark(i, ","), bounds.item(i))?;
     }
@@ -59,7 +59,7 @@ pub fn write_bounds(text: &mut String, bounds: &Bounds) -> Result<(), AllocError
 }
 
 /// Appends rectangles.
-pub fn write_rects(text: &mut String, rects: &RectList) -> Result<(), AllocError> {
+pub(crate) fn write_rects(text: &mut String, rects: &RectList) -> Result<(), AllocError> {
     for (i, rect) in rects.iter().enumerate() {
         let Rect { x, y, w, h } = *rect;
         write!(text, "{}{x},{y},{w},{h}", mark(i, ";"))?;
@@ -68,7 +68,7 @@ pub fn write_rects(text: &mut String, rects: &RectList) -> Result<(), AllocError
 }
 
 /// Appends an entry of a reference picture list.
-pub fn write_entry(text: &mut String, entry: RefEntry) -> Result<(), AllocError> {
+pub(crate) fn write_entry(text: &mut String, entry: RefEntry) -> Result<(), AllocError> {
     match entry {
         RefEntry::Short { abs, sign: false } => write!(text, "s+{abs}"),
         RefEntry::Short { abs, sign: true } => write!(text, "s-{abs}"),
