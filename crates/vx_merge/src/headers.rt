@@ -10,6 +10,7 @@ ghost use Rattle.vx_merge.specs.Rounds.{UnlikeFirst, UnlikeLowest, picture_at};
 ghost use Rattle.vx_merge.specs.Rules as rules;
 ghost use Rattle.vx_merge.specs.inner.Found.{Finds, IsLowestField, TellsField};
 
+use crate::numbers::number_of;
 use crate::told::{Differing, of_field, of_source};
 use std::alloc::{AllocError, Global};
 use vx_aps::{LMCS, SCALING};
@@ -23,7 +24,6 @@ use vx_fields::pps::pps_rpl_info_in_ph_flag;
 use vx_pic::{Picture, body_named, differing_field, kept_of_header, same_body, same_lists};
 use vx_rpl::RefLists;
 use vx_sh::SliceHeader;
-use vx_table::Scope;
 
 // ---- the kind
 
@@ -69,9 +69,7 @@ pub(crate) fn picture_kind(round: &[Picture<'_>]) -> Option<Refusal>
 pub(crate) fn header_number(picture: &Picture<'_>, field: u16) -> u32
     ensures { result ≡ loaded.number picture.now.header.fields field }
 {
-    let mut scope = Scope::new();
-    scope.load(&picture.header().fields);
-    scope.latest(field)
+    number_of(&picture.header().fields, field)
 }
 
 /// Whether a picture's header has LMCS.

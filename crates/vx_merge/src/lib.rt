@@ -22,6 +22,7 @@ mod laws_shapes;
 mod limits;
 mod merger;
 mod needed;
+mod numbers;
 mod output;
 mod picture_header;
 mod progress;

@@ -1,8 +1,10 @@
 //! What the header of a slice says in the picture that a round is put together as.
 ghost use Rattle.std.specs.Prelude.{◌≡◌, pos, neg_ℤ, ◌+ℤ◌, ◌-ℤ◌, ◌≤ℤ◌, true, length, map, option_copied, IfOk};
+ghost use Rattle.vx_fields.specs.declared.alf.TheConstants as alf_fields;
 ghost use Rattle.vx_fields.specs.declared.pps.TheConstants as pps_fields;
+ghost use Rattle.vx_table.specs.Depends.{has, set_of};
 ghost use Rattle.vx_aps.specs.declared.aps.TheConstants as types;
-ghost use Rattle.vx_ph.specs.Filter.{filter_of, with_ids};
+ghost use Rattle.vx_ph.specs.Filter.{filter_of, set_ids, with_ids};
 ghost use Rattle.vx_pic.specs.Inputs as inputs;
 ghost use Rattle.vx_pic.specs.Inputs.{body_of};
 ghost use Rattle.vx_pic.specs.Parts.{read_of};
@@ -15,12 +17,14 @@ ghost use Rattle.vx_merge.specs.inner.Fronts as spec;
 use crate::filters::same_bytes;
 use crate::headers::header_number;
 use crate::needed::NamedBodies;
+use crate::numbers::number_of;
 use crate::shapes::init_qp;
 use std::alloc::{AllocError, Global};
 use vx_aps::ALF;
 use vx_bits::{Fields, Item};
-use vx_fields::alf;
-use vx_fields::alf::{alf_aps_id_chroma, alf_aps_id_luma, alf_cc_cb_aps_id, alf_cc_cr_aps_id};
+use vx_fields::alf::{
+    alf_aps_id_chroma, alf_aps_id_luma, alf_cc_cb_aps_id, alf_cc_cr_aps_id, alf_enabled_flag,
+};
 use vx_fields::ph::{ph_explicit_scaling_list_enabled_flag, ph_lmcs_enabled_flag, ph_qp_delta};
 use vx_fields::pps::{pps_alf_info_in_ph_flag, pps_qp_delta_info_in_ph_flag};
 use vx_fields::sh::{
@@ -29,7 +33,7 @@ use vx_fields::sh::{
 };
 use vx_pic::Picture;
 use vx_sh::{ShShape, SliceHeader};
-use vx_table::{Scope, natural, set_of};
+use vx_table::natural;
 
 /// The ids of adaptive loop filters.
 const MOST_IDS: u32 = 8;
@@ -43,6 +47,20 @@ const NAMING: [u16; 4] = [
 ];
 
 // ---- the filter
+
+/// Whether a field is one of a filter. Their numbers follow on one another.
+fn is_of_filter(field: u16) -> bool
+    ensures { result ≡ has (set_of alf_fields.ALL) field }
+{
+    alf_enabled_flag <= field && field <= alf_cc_cr_aps_id
+}
+
+/// Whether a field is one of a filter that names a set.
+fn names_set(field: u16) -> bool
+    ensures { result ≡ has (set_of set_ids) field }
+{
+    NAMING.contains(&field)
+}
 
 /// The id that a body takes, and 0 where it is none of these.
 fn id_of(named: &NamedBodies<'_>, body: &[u8]) -> u8
@@ -80,11 +98,11 @@ fn new_id(named: &NamedBodies<'_>, picture: &Picture<'_>, id: u32) -> u8
 }
 
 /// An item of a filter, with that id where it names a set.
-fn renamed(naming: &Scope, named: &NamedBodies<'_>, picture: &Picture<'_>, item: Item) -> Item
+fn renamed(named: &NamedBodies<'_>, picture: &Picture<'_>, item: Item) -> Item
     requires { length named.now.ids.items ≡ length named.now.bodies }
-    ensures { result ≡ spec.renamed naming.now named.now picture.now item }
+    ensures { result ≡ spec.renamed named.now picture.now item }
 {
-    if naming.latest(item.field) == 0 {
+    if !names_set(item.field) {
         return item;
     }
     Item {
@@ -103,12 +121,11 @@ fn renamed_filter(
     requires { length named.now.ids.items ≡ length named.now.bodies }
     ensures { IfOk result (λ made. made ≡ with_ids (new_id named.now picture.now) (filter_of items.now)) }
 {
-    let (filter, naming) = (set_of(&alf::ALL), set_of(&NAMING));
     let mut made = Fields::new(alloc);
     for i in 0..items.len() {
         let item = items.item(i);
-        if filter.latest(item.field) != 0 {
-            made.push(renamed(&naming, named, picture, item))?;
+        if is_of_filter(item.field) {
+            made.push(renamed(named, picture, item))?;
         }
     }
     Ok(made)
@@ -144,9 +161,8 @@ fn is_used(picture: &Picture<'_>, slice: &SliceHeader, enabled: u16, used: u16) 
     if header_number(picture, enabled) == 0 {
         return false;
     }
-    let mut own = Scope::new();
-    own.load(&slice.fields);
-    own.latest(sh_picture_header_in_slice_header_flag) != 0 || own.latest(used) != 0
+    let stands_in = number_of(&slice.fields, sh_picture_header_in_slice_header_flag) != 0;
+    stands_in || number_of(&slice.fields, used) != 0
 }
 
 // ---- its QP

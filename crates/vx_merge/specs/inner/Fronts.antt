@@ -5,12 +5,12 @@ use Rattle.vx_bits.specs.declared.list.Item.{Item}
 use Rattle.vx_fields.specs.declared.ph.TheConstants as ph
 use Rattle.vx_fields.specs.declared.pps.TheConstants as pps
 use Rattle.vx_fields.specs.declared.sh.TheConstants as sh
-use Rattle.vx_table.specs.Depends.{has}
+use Rattle.vx_table.specs.Depends.{has, set_of}
 use Rattle.vx_table.specs.Scope.{natural}
 use Rattle.vx_layout.specs.declared.numbers.Numbers.{Numbers}
 use Rattle.vx_aps.specs.declared.aps.TheConstants as aps
 use Rattle.vx_ph.specs.declared.header.PictureHeader.{PictureHeader}
-use Rattle.vx_ph.specs.Filter.{filter_of, with_ids}
+use Rattle.vx_ph.specs.Filter.{filter_of, set_ids, with_ids}
 use Rattle.vx_ph.specs.InForce.{in_force, structures}
 use Rattle.vx_ph.specs.Picture.{IsHeader}
 use Rattle.vx_ph.specs.Reshaped as ph_reshaped
@@ -39,10 +39,10 @@ use Rattle.vx_merge.specs.inner.Ready.{IsReadyAt, ids_in}
 abbrev pub new_id : NamedBodies → Parts → ℕ → ℕ
 new_id named q id = id_of (map (λ b. b.now) named.bodies) named.ids.items (unwrap_or (body_of q aps.ALF id) [])
 
--- an item with it, where its field is one of these
-abbrev pub renamed : List ℕ → NamedBodies → Parts → Item → Item
-renamed naming named q item =
-    cond (has naming item.field) (record { field = item.field; value = pos (new_id named q (natural item.value)) }) item
+-- an item with it, where its field names a set
+abbrev pub renamed : NamedBodies → Parts → Item → Item
+renamed named q item =
+    cond (has (set_of set_ids) item.field) (record { field = item.field; value = pos (new_id named q (natural item.value)) }) item
 
 -- the filter in force of a slice, with the ids that its bodies take
 abbrev pub new_filter : NamedBodies → Parts → SliceValue → List Item
