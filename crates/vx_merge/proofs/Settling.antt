@@ -1,5 +1,5 @@
 -- What the sets of a round alone tell is the same of rounds that have the same sets.
-use Rattle.std.proofs.Common.{◌≡◌, ◌≢◌, ℕ, zero, suc, ◌+◌, ◌<◌, Bool, true, false, cond, List, [], ◌∷◌, ◌++◌, map, length, Option, Some, None, is_some, IfSome, refl, sym, ap, ap₂, subst, ◌∙◌, inl, inr, arith}
+use Rattle.std.proofs.Common.{◌≡◌, ◌≢◌, ℕ, zero, suc, ◌+◌, ◌<◌, Bool, true, false, cond, List, [], ◌∷◌, ◌++◌, map, length, Option, Some, None, IfSome, refl, sym, ap, ap₂, subst, ◌∙◌, inl, inr, arith}
 use Rattle.std.proofs.Math.Path.{fun_ext}
 use Rattle.std.specs.Prelude.{◌==◌, ◌⊎◌, IsTrue, unwrap_or}
 use Rattle.std.specs.List.{AllByRecursion}
@@ -50,7 +50,7 @@ use Rattle.vx_merge.specs.Shapes.{IsFrame, dpb_of, greatest, latency_of, least, 
 use Rattle.vx_merge.specs.Verdict.{IsVerdict, Rule}
 use Rattle.vx_merge.specs.inner.Found.{Finds}
 use Rattle.vx_merge.specs.inner.Joined.{CanBeJoined, HasShapes, IsFrameOf}
-use Rattle.vx_merge.specs.inner.Settled.{AreSetsOf, HasPps, HasSetsOf, HavePassed, HaveSameSets, IsPpsFor, IsSettled, IsSettledFor, IsSomeUsed, IsUsedFor, ServesAs, is_renamed, renamed_or, sets_in, sets_of}
+use Rattle.vx_merge.specs.inner.Settled.{AreSetsOf, HasPps, HasSetsOf, HavePassed, HaveSameSets, IsKept, IsPpsFor, IsSettled, IsSettledFor, IsSomeUsed, IsUsedFor, KeepServing, ServesAs, is_renamed, renamed_or, sets_in, sets_of}
 use Rattle.vx_merge.specs.inner.Ready.{AreNeeded, IsReady}
 use Rattle.vx_merge.proofs.Passing.{alone_found, flags_found, frame_found, pps_found, sps_found}
 use Rattle.vx_merge.proofs.Verdicts.{passed, passed_all}
@@ -291,15 +291,11 @@ module _ (kept round : List Parts) (same : HaveSameSets kept round) where
 pub past_of : (corners : List Corner) (level : Option ℕ) (round : List Parts) (s : Settled) → IsSettled corners level s → HasSetsOf round s → HavePassed corners round
 past_of corners level round s is sets = record { kept = is.kept; count = is.is.count; passes = is.is.passes; same = sym is.sets ∙ sets }
 
-pub past : (corners : List Corner) (level : Option ℕ) (round : List Parts) (known : Option Settled) (there : Bool) → there ≡ is_some known
-    → IfSome known (IsSettled corners level) → IfSome known (HasSetsOf round) → OnTrue there (HavePassed corners round)
-past corners level round None there is settled sets = subst (λ b. OnTrue b (HavePassed corners round)) (sym is) tt
-past corners level round (Some s) there is settled sets = subst (λ b. OnTrue b (HavePassed corners round)) (sym is) (past_of corners level round s settled sets)
-
-pub kept_settled : (corners : List Corner) (level : Option ℕ) (settled known : Option Settled) → IfSome settled (IsSettled corners level)
-    → IfSome known (λ s. settled ≡ Some s) → IfSome known (IsSettled corners level)
-kept_settled corners level settled None is same = tt
-kept_settled corners level settled (Some s) is same = subst (λ o. IfSome o (IsSettled corners level)) same is
+pub past : (corners : List Corner) (level : Option ℕ) (round : List Parts) (settled : Option Settled) (known : Bool) → IfSome settled (IsSettled corners level)
+    → OnTrue known (IsKept (HasSetsOf round) settled) → OnTrue known (HavePassed corners round)
+past corners level round settled false is sets = tt
+past corners level round None true is sets = absurd sets
+past corners level round (Some s) true is sets = past_of corners level round s is sets
 
 -- as many sources
 sources_count : (corners : List Corner) (level : Option ℕ) (s : Settled) → IsSettled corners level s → length s.sources.items ≡ length corners
@@ -349,6 +345,22 @@ pub settled_used : (corners : List Corner) (level : Option ℕ) (round : List Pa
 settled_used corners level round s are count passes can in_force is sets =
     record { are = are; count = count; passes = passes; is = settled_too is.kept round (sym is.sets ∙ sets) corners level s can in_force is.is.is }
 
+pub kept_used : (corners : List Corner) (level : Option ℕ) (round : List Parts) (settled : Option Settled) → AreCorners corners → length corners ≡ length round
+    → IsVerdict (length corners) (rules_of corners round) None → CanBeJoined corners round → AllByRecursion AreInForce round → IfSome settled (IsSettled corners level)
+    → IsKept (HasSetsOf round) settled → IsKept (IsUsedFor corners level round) settled
+kept_used corners level round None are count passes can in_force is sets = absurd sets
+kept_used corners level round (Some s) are count passes can in_force is sets = settled_used corners level round s are count passes can in_force is sets
+
+pub made_used : (corners : List Corner) (level : Option ℕ) (round : List Parts) (settled : Option Settled) → AreCorners corners → length corners ≡ length round
+    → IsVerdict (length corners) (rules_of corners round) None → IsKept (IsSettledFor corners level round) settled → IsKept (IsUsedFor corners level round) settled
+made_used corners level round None are count passes is = absurd is
+made_used corners level round (Some s) are count passes is = record { are = are; count = count; passes = passes; is = is }
+
+pub some_kept : (corners : List Corner) (level : Option ℕ) (round : List Parts) (settled : Option Settled) → IsKept (IsUsedFor corners level round) settled
+    → IsKept (IsSomeUsed round) settled
+some_kept corners level round None used = absurd used
+some_kept corners level round (Some s) used = (corners, (level, used))
+
 -- ---- its PPS under an id
 
 pub same_serves : (round : List Parts) (s : Settled) → ServesAs round s s
@@ -370,10 +382,11 @@ renamed_under round s id is = λ corners level used.
     ]
 
 -- what is kept of the round
-pub settled_next : (corners : List Corner) (level : Option ℕ) (round : List Parts) (own : Settled) (settled : Option Settled) → IsUsedFor corners level round own
-    → HasSetsOf round own → IfSome settled (ServesAs round own) → IfSome settled (IsSettled corners level)
-settled_next corners level round own None used sets serves = tt
-settled_next corners level round own (Some s) used sets serves =
+pub settled_next : (corners : List Corner) (level : Option ℕ) (round : List Parts) (before after : Option Settled) → IsKept (IsUsedFor corners level round) before
+    → IsKept (HasSetsOf round) before → KeepServing round before after → IfSome after (IsSettled corners level)
+settled_next corners level round before None used sets serves = tt
+settled_next corners level round None (Some s) used sets serves = absurd used
+settled_next corners level round (Some own) (Some s) used sets serves =
     record { kept = round; sets = subst (λ x. AreSetsOf round x.items) (sym serves.sources) sets; is = serves.used corners level used }
 
 -- ---- what it serves for

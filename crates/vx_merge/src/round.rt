@@ -13,7 +13,7 @@ ghost use Rattle.vx_merge.specs.inner.Making.{AreHeaders, HasPayloads, IsMade, p
 ghost use Rattle.vx_merge.specs.inner.Counting.{Counts};
 ghost use Rattle.vx_merge.specs.inner.Progress.{IsProgress, merging_of};
 ghost use Rattle.vx_merge.specs.inner.Ready.{IsReadyAt};
-ghost use Rattle.vx_merge.specs.inner.Settled.{HasPps, IsSomeUsed, IsUsedFor, ServesAs};
+ghost use Rattle.vx_merge.specs.inner.Settled.{HasPps, IsKept, IsSomeUsed, IsUsedFor, KeepServing, ServesAs};
 
 use crate::corner::Corner;
 use crate::fronts::slice_fronts;
@@ -23,7 +23,7 @@ use crate::output::Made;
 use crate::picture_header::{header_unit, picture_header};
 use crate::progress::Progress;
 use crate::send::send_needed;
-use crate::settled::{Settled, kept_for, settle, with_pps};
+use crate::settled::{Settled, have_pps, is_known, settle};
 use crate::verdict::verdict;
 use std::alloc::{AllocError, Global};
 use vx_bits::BodyList;
@@ -147,28 +147,46 @@ fn make<'a>(
     })
 }
 
-/// Makes all that is written of a round that breaks no rule, and keeps what was made of its sets alone.
+/// Makes all that is written of a round that breaks no rule, under what was made of its sets alone.
 fn make_next<'a>(
     alloc: Global,
-    own: Settled,
-    progress: &mut Progress,
+    own: &mut Settled,
+    slots: &mut Slots,
     round: &[Picture<'a>],
 ) -> Result<Made<'a>, AllocError>
-    requires used { IsSomeUsed round.now own }
-    requires slots { HasHistory progress.old.slots }
-    ensures settled { OnOk result (IfSome progress.new.settled (ServesAs round.now own)) }
-    ensures bytes { progress.new.bytes ≡ progress.old.bytes }
+    requires used { IsSomeUsed round.now own.old }
+    requires slots { HasHistory slots.old }
+    ensures settled { OnOk result (ServesAs round.now own.old own.new) }
     ensures payloads { IfOk result HasPayloads }
-    ensures made { (corners : List Corner) (level : Option ℕ) (history : List SetUnit) → IsUsedFor corners level round.now own → AreLastOf history progress.old.slots
-        → IfOk result (λ made. IsMade corners level round.now history made progress.new.slots) }
+    ensures made { (corners : List Corner) (level : Option ℕ) (history : List SetUnit) → IsUsedFor corners level round.now own.old → AreLastOf history slots.old
+        → IfOk result (λ made. IsMade corners level round.now history made slots.new) }
 {
     let kind = kind_of(round);
-    forget_before(&mut progress.slots, kind.nal_type);
-    let pps_id = taken_pps_id(&progress.slots, kind.temporal_id, &own.plain);
-    let settled = with_pps(alloc, own, round, pps_id)?;
-    let made = make(alloc, &settled, pps_id, &mut progress.slots, round)?;
-    progress.settled = Some(settled);
+    forget_before(slots, kind.nal_type);
+    let pps_id = taken_pps_id(slots, kind.temporal_id, &own.plain);
+    have_pps(alloc, own, round, pps_id)?;
+    let made = make(alloc, own, pps_id, slots, round)?;
     Ok(made)
+}
+
+/// The same under what is kept.
+fn make_kept<'a>(
+    alloc: Global,
+    settled: &mut Option<Settled>,
+    slots: &mut Slots,
+    round: &[Picture<'a>],
+) -> Result<Made<'a>, AllocError>
+    requires used { IsKept (IsSomeUsed round.now) settled.old }
+    requires slots { HasHistory slots.old }
+    ensures settled { OnOk result (KeepServing round.now settled.old settled.new) }
+    ensures payloads { IfOk result HasPayloads }
+    ensures made { (corners : List Corner) (level : Option ℕ) (history : List SetUnit) → IsKept (IsUsedFor corners level round.now) settled.old → AreLastOf history slots.old
+        → IfOk result (λ made. IsMade corners level round.now history made slots.new) }
+{
+    match settled {
+        Some(own) => make_next(alloc, own, slots, round),
+        None => unreachable!(),
+    }
 }
 
 /// Makes all that is written of a round, and counts it as written.
@@ -191,13 +209,13 @@ pub(crate) fn counted<'a>(
     ensures answer { (done : List Plan) → Stands (merging_of corners.now level progress.old) done
         → Counts round.now done (merging_of corners.now level progress.new) result }
 {
-    let known = kept_for(progress.settled.take(), round);
-    let found = verdict(alloc, corners, round, known.is_some())?;
+    let known = is_known(&progress.settled, round);
+    let found = verdict(alloc, corners, round, known)?;
     if let Some(refusal) = found {
         return Err(WriteError::Refused(refusal));
     }
-    let own = settle(alloc, corners, level, known, round)?;
-    let made = make_next(alloc, own, progress, round)?;
+    settle(alloc, corners, level, known, &mut progress.settled, round)?;
+    let made = make_kept(alloc, &mut progress.settled, &mut progress.slots, round)?;
     match bytes_within(&made, progress.bytes) {
         Ok(total) => {
             progress.bytes = total;

@@ -1,5 +1,5 @@
 //! What is made of the sets of a round alone, and kept for rounds with the same sets.
-ghost use Rattle.std.specs.Prelude.{◌≡◌, ◌<◌, length, map, None, Some, IfOk, IfSome};
+ghost use Rattle.std.specs.Prelude.{◌≡◌, ◌≢◌, ◌<◌, length, map, None, IfOk, IfSome, OnOk};
 ghost use Rattle.std.specs.Bool.{OnTrue};
 ghost use Rattle.vx_layout.specs.Faults.{IsInLimits, IsLayout};
 ghost use Rattle.vx_merge.specs.Merging.{AreCorners};
@@ -7,7 +7,7 @@ ghost use Rattle.vx_merge.specs.Rules.{rules_of};
 ghost use Rattle.vx_merge.specs.Verdict.{IsVerdict};
 ghost use Rattle.vx_merge.specs.inner.Joined.{CanBeJoined};
 ghost use Rattle.vx_merge.specs.inner.Settled as words;
-ghost use Rattle.vx_merge.specs.inner.Settled.{AreSetsOf, HasPps, HasSetsOf, IsSettled, IsSettledFor, IsSomeUsed, IsUsedFor, ServesAs};
+ghost use Rattle.vx_merge.specs.inner.Settled.{AreSetsOf, HasPps, HasSetsOf, IsKept, IsSettled, IsSettledFor, IsSomeUsed, IsUsedFor, ServesAs};
 
 use crate::corner::Corner;
 use crate::facts::facts;
@@ -106,17 +106,15 @@ fn have_sets(round: &[Picture<'_>], sources: &[SourceSets]) -> bool
     true
 }
 
-/// What is kept, where it was made of the sets of a round.
-pub(crate) fn kept_for(settled: Option<Settled>, round: &[Picture<'_>]) -> Option<Settled>
-    requires { IfSome settled (λ s. length s.sources.items ≡ length round.now) }
-    ensures kept { IfSome result (λ s. settled ≡ Some s) }
-    ensures sets { IfSome result (HasSetsOf round.now) }
+/// Whether something is kept, and was made of the sets of a round.
+pub(crate) fn is_known(settled: &Option<Settled>, round: &[Picture<'_>]) -> bool
+    requires { IfSome settled.now (λ s. length s.sources.items ≡ length round.now) }
+    ensures { OnTrue result (IsKept (HasSetsOf round.now) settled.now) }
 {
-    let kept = settled?;
-    if have_sets(round, kept.sources.as_slice()) {
-        return Some(kept);
+    match settled {
+        Some(kept) => have_sets(round, kept.sources.as_slice()),
+        None => false,
     }
-    None
 }
 
 // ---- what is made of them
@@ -161,7 +159,26 @@ fn made_of(
     })
 }
 
-/// What is made of the sets of a round that breaks no rule, unless it is known.
+/// Keeps what is made of the sets of a round whose regions and tile lines fit.
+#[cold]
+#[inline(never)]
+fn settle_anew(
+    alloc: Global,
+    corners: &[Corner],
+    level: Option<u8>,
+    settled: &mut Option<Settled>,
+    round: &[Picture<'_>],
+) -> Result<(), AllocError>
+    requires { CanBeJoined corners.now round.now }
+    ensures settled { OnOk result (IsKept (IsSettledFor corners.now level round.now) settled.new) }
+    ensures sets { OnOk result (IsKept (HasSetsOf round.now) settled.new) }
+{
+    let own = made_of(alloc, corners, level, round)?;
+    *settled = Some(own);
+    Ok(())
+}
+
+/// Keeps what is made of the sets of a round that breaks no rule, unless it is known.
 ///
 /// # Errors
 ///
@@ -170,25 +187,23 @@ pub(crate) fn settle(
     alloc: Global,
     corners: &[Corner],
     level: Option<u8>,
-    known: Option<Settled>,
+    known: bool,
+    settled: &mut Option<Settled>,
     round: &[Picture<'_>],
-) -> Result<Settled, AllocError>
+) -> Result<(), AllocError>
     requires corners { AreCorners corners.now }
     requires same { length corners.now ≡ length round.now }
     requires passes { IsVerdict (length corners.now) (rules_of corners.now round.now) None }
-    requires settled { IfSome known (IsSettled corners.now level) }
-    requires sets { IfSome known (HasSetsOf round.now) }
-    ensures used { IfOk result (IsUsedFor corners.now level round.now) }
-    ensures sets { IfOk result (HasSetsOf round.now) }
+    requires settled { IfSome settled.old (IsSettled corners.now level) }
+    requires sets { OnTrue known (IsKept (HasSetsOf round.now) settled.old) }
+    ensures used { OnOk result (IsKept (IsUsedFor corners.now level round.now) settled.new) }
+    ensures sets { OnOk result (IsKept (HasSetsOf round.now) settled.new) }
 {
     facts(corners, round);
-    match known {
-        Some(kept) => Ok(kept),
-        None => {
-            let own = made_of(alloc, corners, level, round)?;
-            Ok(own)
-        }
+    if known {
+        return Ok(());
     }
+    settle_anew(alloc, corners, level, settled, round)
 }
 
 // ---- its PPS under an id
@@ -203,28 +218,46 @@ fn is_renamed(renamed: &Option<RenamedPps>, id: u8) -> bool
     }
 }
 
-/// The same with its PPS under an id, made anew unless it is there.
+/// Makes its PPS under an id.
+#[cold]
+#[inline(never)]
+fn rename_pps(
+    alloc: Global,
+    own: &mut Settled,
+    round: &[Picture<'_>],
+    id: u8,
+) -> Result<(), AllocError>
+    requires used { IsSomeUsed round.now own.old }
+    requires id { id < 64 }
+    requires other { id ≢ 0 }
+    ensures same { OnOk result (ServesAs round.now own.old own.new) }
+    ensures pps { OnOk result (HasPps round.now id own.new) }
+{
+    let pps = frame_pps(alloc, round, &own.frame, id)?;
+    own.renamed = Some(RenamedPps { id, pps });
+    Ok(())
+}
+
+/// Has its PPS under an id, made anew unless it is there.
 ///
 /// # Errors
 ///
 /// Want of memory.
-pub(crate) fn with_pps(
+pub(crate) fn have_pps(
     alloc: Global,
-    mut own: Settled,
+    own: &mut Settled,
     round: &[Picture<'_>],
     id: u8,
-) -> Result<Settled, AllocError>
-    requires used { IsSomeUsed round.now own }
+) -> Result<(), AllocError>
+    requires used { IsSomeUsed round.now own.old }
     requires id { id < 64 }
-    ensures same { IfOk result (ServesAs round.now own) }
-    ensures pps { IfOk result (HasPps round.now id) }
+    ensures same { OnOk result (ServesAs round.now own.old own.new) }
+    ensures pps { OnOk result (HasPps round.now id own.new) }
 {
     if id == 0 || is_renamed(&own.renamed, id) {
-        return Ok(own);
+        return Ok(());
     }
-    let pps = frame_pps(alloc, round, &own.frame, id)?;
-    own.renamed = Some(RenamedPps { id, pps });
-    Ok(own)
+    rename_pps(alloc, own, round, id)
 }
 
 /// Its PPS under an id that it has.

@@ -55,6 +55,8 @@ fn verdict_of_frame(
 /// # Errors
 ///
 /// Want of memory.
+#[cold]
+#[inline(never)]
 fn verdict_of_new(
     alloc: Global,
     corners: &[Corner],

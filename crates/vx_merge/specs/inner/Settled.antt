@@ -90,6 +90,15 @@ HasPps round id s = (corners : List Corner) (level : Option ℕ) → IsUsedFor c
 
 -- ---- what is kept of a round
 
+-- something is kept, and this is so of it
+abbrev pub IsKept : (Settled → Type 0) → Option Settled → Type 0
+IsKept P None = ⊥
+IsKept P (Some s) = P s
+
+-- what is kept afterwards serves as what was kept before
+abbrev pub KeepServing : List Parts → Option Settled → Option Settled → Type 0
+KeepServing round before after = IsKept (λ s. IsKept (λ other. ServesAs round s other) after) before
+
 -- It was made of some round, with these sets.
 pub record IsSettled (corners : List Corner) (level : Option ℕ) (s : Settled) : Type 0 where
   pub kept : List Parts

@@ -1,14 +1,12 @@
-use Rattle.std.proofs.Common.{◌++◌, IfSome, None, Some, inl, subst, sym, ◌∙◌}
+use Rattle.std.proofs.Common.{◌++◌, None, Some, inl}
 use Rattle.std.proofs.lemmas.Result.{err_from_is_err_and}
 use Rattle.vx_pic.specs.Resident.{history_of, kept_for}
-use Rattle.vx_merge.specs.inner.Settled.{IsSettled}
-use Rattle.vx_merge.proofs.Settling.{kept_settled, past, settled_next, sources_long}
+use Rattle.vx_merge.proofs.Settling.{past, settled_next, some_kept, sources_long}
 use Rattle.vx_merge.proofs.Writing.{counts_all, counts_none, judged}
 use Rattle.vx_merge.proofs.round.counted.Goals as goal
 
-pub kept_for-known-requires : goal.kept_for-known-requires
-kept_for-known-requires c = sources_long c.args.corners.now c.args.level c.args.round.now c.take.result c.requires.same
-    (subst (λ o. IfSome o (IsSettled c.args.corners.now c.args.level)) (sym c.take.ensures.value) c.requires.progress.settled)
+pub is_known-known-requires : goal.is_known-known-requires
+is_known-known-requires c = sources_long c.args.corners.now c.args.level c.args.round.now c.args.progress.now.settled c.requires.same c.requires.progress.settled
 
 pub verdict-requires-clause-corners : goal.verdict-requires-clause-corners
 verdict-requires-clause-corners c = c.requires.corners
@@ -18,8 +16,7 @@ verdict-requires-clause-same c = c.requires.same
 
 pub verdict-requires-clause-known : goal.verdict-requires-clause-known
 verdict-requires-clause-known c =
-    past c.args.corners.now c.args.level c.args.round.now c.kept_for-known.result _ c.is_some.ensures
-    (kept_settled c.args.corners.now c.args.level c.take.result c.kept_for-known.result (subst (λ o. IfSome o (IsSettled c.args.corners.now c.args.level)) (sym c.take.ensures.value) c.requires.progress.settled) c.kept_for-known.ensures.kept) c.kept_for-known.ensures.sets
+    past c.args.corners.now c.args.level c.args.round.now c.args.progress.now.settled c.is_known-known.result c.requires.progress.settled c.is_known-known.ensures
 
 pub settle-requires-clause-corners : goal.settle-requires-clause-corners
 settle-requires-clause-corners c = c.requires.corners
@@ -32,17 +29,16 @@ settle-requires-clause-passes c =
     judged c.args.corners.now c.args.round.now c.in_ok-found.found None c.requires.same c.in_default.is c.in_ok-found.ensures
 
 pub settle-requires-clause-settled : goal.settle-requires-clause-settled
-settle-requires-clause-settled c =
-    kept_settled c.args.corners.now c.args.level c.take.result c.kept_for-known.result (subst (λ o. IfSome o (IsSettled c.args.corners.now c.args.level)) (sym c.take.ensures.value) c.requires.progress.settled) c.kept_for-known.ensures.kept
+settle-requires-clause-settled c = c.requires.progress.settled
 
 pub settle-requires-clause-sets : goal.settle-requires-clause-sets
-settle-requires-clause-sets c = c.kept_for-known.ensures.sets
+settle-requires-clause-sets c = c.is_known-known.ensures
 
-pub make_next-requires-clause-used : goal.make_next-requires-clause-used
-make_next-requires-clause-used c = (c.args.corners.now, (c.args.level, c.in_ok-own.ensures.used))
+pub make_kept-requires-clause-used : goal.make_kept-requires-clause-used
+make_kept-requires-clause-used c = some_kept c.args.corners.now c.args.level c.args.round.now _ c.in_ok-settle.ensures.used
 
-pub make_next-requires-clause-slots : goal.make_next-requires-clause-slots
-make_next-requires-clause-slots c = c.requires.progress.slots
+pub make_kept-requires-clause-slots : goal.make_kept-requires-clause-slots
+make_kept-requires-clause-slots c = c.requires.progress.slots
 
 pub returns-in-Some-clause-answer : goal.returns-in-Some-clause-answer
 returns-in-Some-clause-answer c done stands =
@@ -56,22 +52,22 @@ returns-in_err-made-clause-answer c done stands =
 pub returns-in-Ok-clause-progress : goal.returns-in-Ok-clause-progress
 returns-in-Ok-clause-progress c =
     let history = c.requires.progress.slots in
-    let made = c.in_ok-made.ensures.made c.args.corners.now c.args.level history.0 c.in_ok-own.ensures.used history.1 in
+    let made = c.in_ok-made.ensures.made c.args.corners.now c.args.level history.0 c.in_ok-settle.ensures.used history.1 in
     record {
-      settled = settled_next c.args.corners.now c.args.level c.args.round.now c.in_ok-own.own _ c.in_ok-own.ensures.used c.in_ok-own.ensures.sets c.in_ok-made.ensures.settled;
+      settled = settled_next c.args.corners.now c.args.level c.args.round.now _ _ c.in_ok-settle.ensures.used c.in_ok-settle.ensures.sets c.in_ok-made.ensures.settled;
       slots = (kept_for made.plan.kind.nal_type history.0 ++ made.plan.sent, made.last);
     }
 
 pub returns-in-Ok-clause-answer : goal.returns-in-Ok-clause-answer
 returns-in-Ok-clause-answer c done stands =
     let sound = judged c.args.corners.now c.args.round.now c.in_ok-found.found None c.requires.same c.in_default.is c.in_ok-found.ensures in
-    let made = c.in_ok-made.ensures.made c.args.corners.now c.args.level (history_of done) c.in_ok-own.ensures.used stands.slots in
-    counts_all c.args.corners.now c.args.level c.args.round.now done c.in_ok-made.made c.make_next.new.progress.slots c.make_next.new.progress.bytes c.requires.corners.some sound
-    made c.in-Ok.ensures.bytes (c.make_next.ensures.bytes ∙ stands.bytes) c.in-Ok.total c.in-Ok.ensures.within c.in-Ok.ensures.total
+    let made = c.in_ok-made.ensures.made c.args.corners.now c.args.level (history_of done) c.in_ok-settle.ensures.used stands.slots in
+    counts_all c.args.corners.now c.args.level c.args.round.now done c.in_ok-made.made c.make_kept.new.slots c.args.progress.now.bytes c.requires.corners.some sound
+    made c.in-Ok.ensures.bytes stands.bytes c.in-Ok.total c.in-Ok.ensures.within c.in-Ok.ensures.total
 
 pub returns-clause-answer : goal.returns-clause-answer
 returns-clause-answer c done stands =
     let sound = judged c.args.corners.now c.args.round.now c.in_ok-found.found None c.requires.same c.in_default.is c.in_ok-found.ensures in
-    let made = c.in_ok-made.ensures.made c.args.corners.now c.args.level (history_of done) c.in_ok-own.ensures.used stands.slots in
-    counts_none c.args.corners.now c.args.level c.args.round.now done c.in_ok-made.made c.make_next.new.progress.slots c.make_next.new.progress.bytes c.requires.corners.some sound
-    made c.in-Err.ensures.bytes (c.make_next.ensures.bytes ∙ stands.bytes) c.make_next.new.progress.bytes c.in-Err.refusal c.in-Err.ensures.broken
+    let made = c.in_ok-made.ensures.made c.args.corners.now c.args.level (history_of done) c.in_ok-settle.ensures.used stands.slots in
+    counts_none c.args.corners.now c.args.level c.args.round.now done c.in_ok-made.made c.make_kept.new.slots c.args.progress.now.bytes c.requires.corners.some sound
+    made c.in-Err.ensures.bytes stands.bytes c.args.progress.now.bytes c.in-Err.refusal c.in-Err.ensures.broken

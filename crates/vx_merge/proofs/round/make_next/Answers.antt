@@ -9,21 +9,21 @@ use Rattle.vx_merge.proofs.Settling.{some_used}
 use Rattle.vx_merge.proofs.round.make_next.Goals as goal
 
 pub kind_of-kind-requires : goal.kind_of-kind-requires
-kind_of-kind-requires c = some_used c.args.round.now c.args.own c.requires.used
+kind_of-kind-requires c = some_used c.args.round.now c.args.own.now c.requires.used
 
-pub with_pps-requires-clause-used : goal.with_pps-requires-clause-used
-with_pps-requires-clause-used c = c.requires.used
+pub have_pps-requires-clause-used : goal.have_pps-requires-clause-used
+have_pps-requires-clause-used c = c.requires.used
 
-pub with_pps-requires-clause-id : goal.with_pps-requires-clause-id
-with_pps-requires-clause-id c = c.taken_pps_id-pps_id.ensures.low
+pub have_pps-requires-clause-id : goal.have_pps-requires-clause-id
+have_pps-requires-clause-id c = c.taken_pps_id-pps_id.ensures.low
 
 pub make-requires-clause-settled : goal.make-requires-clause-settled
 make-requires-clause-settled c =
     let used = c.requires.used in
-    (used.0, (used.1.0, c.in_ok-settled.ensures.same.used used.0 used.1.0 used.1.1))
+    (used.0, (used.1.0, c.in_ok-have_pps.ensures.same.used used.0 used.1.0 used.1.1))
 
 pub make-requires-clause-pps : goal.make-requires-clause-pps
-make-requires-clause-pps c = c.in_ok-settled.ensures.pps
+make-requires-clause-pps c = c.in_ok-have_pps.ensures.pps
 
 pub make-requires-clause-low : goal.make-requires-clause-low
 make-requires-clause-low c = c.taken_pps_id-pps_id.ensures.low
@@ -31,17 +31,17 @@ make-requires-clause-low c = c.taken_pps_id-pps_id.ensures.low
 pub make-requires-clause-taken : goal.make-requires-clause-taken
 make-requires-clause-taken c = λ sent last.
     subst (λ plain. TakeSlots pps_slots 1 (picture_at c.args.round.now 0).kind.temporal_id sent (λ k id. a_pps (pps_with_id id plain)) (c.taken_pps_id-pps_id.result ∷ []))
-    (sym c.in_ok-settled.ensures.same.plain) (rw (ap (λ k. k.temporal_id) c.kind_of-kind.ensures.value) at (c.taken_pps_id-pps_id.ensures.taken sent last))
+    (sym c.in_ok-have_pps.ensures.same.plain) (rw (ap (λ k. k.temporal_id) c.kind_of-kind.ensures.value) at (c.taken_pps_id-pps_id.ensures.taken sent last))
 
 pub make-requires-clause-slots : goal.make-requires-clause-slots
 make-requires-clause-slots c =
     (kept_for c.kind_of-kind.result.nal_type c.requires.slots.0, c.forget_before.ensures c.requires.slots.0 c.requires.slots.1)
 
 pub returns-clause-settled : goal.returns-clause-settled
-returns-clause-settled c = c.in_ok-settled.ensures.same
+returns-clause-settled c = c.in_ok-have_pps.ensures.same
 
 pub returns-clause-made : goal.returns-clause-made
 returns-clause-made c corners level history used stood =
     let own = (picture_at c.args.round.now 0).kind in
-    let last = kept_last c.args.progress.now.slots c.forget_before.new.slots c.kind_of-kind.result own history c.kind_of-kind.ensures.value c.forget_before.ensures stood in
-    c.in_ok-made.ensures.made corners level history (c.in_ok-settled.ensures.same.used corners level used) last
+    let last = kept_last c.args.slots.now c.forget_before.new.slots c.kind_of-kind.result own history c.kind_of-kind.ensures.value c.forget_before.ensures stood in
+    c.in_ok-made.ensures.made corners level history (c.in_ok-have_pps.ensures.same.used corners level used) last

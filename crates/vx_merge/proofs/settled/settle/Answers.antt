@@ -1,6 +1,7 @@
-use Rattle.std.proofs.Common.{IfSome, subst}
-use Rattle.vx_merge.specs.inner.Settled.{HasSetsOf, IsSettled}
-use Rattle.vx_merge.proofs.Settling.{settled_used}
+use Rattle.std.specs.Bool.{OnTrue}
+use Rattle.std.proofs.Common.{subst}
+use Rattle.vx_merge.specs.inner.Settled.{HasSetsOf, IsKept}
+use Rattle.vx_merge.proofs.Settling.{kept_used}
 use Rattle.vx_merge.proofs.settled.settle.Goals as goal
 
 pub facts-requires-clause-corners : goal.facts-requires-clause-corners
@@ -12,18 +13,13 @@ facts-requires-clause-same c = c.requires.same
 pub facts-requires-clause-passes : goal.facts-requires-clause-passes
 facts-requires-clause-passes c = c.requires.passes
 
-pub made_of-requires : goal.made_of-requires
-made_of-requires c = c.facts.ensures.can
+pub settle_anew-requires : goal.settle_anew-requires
+settle_anew-requires c = c.facts.ensures.can
 
-pub returns-in-Some-clause-used : goal.returns-in-Some-clause-used
-returns-in-Some-clause-used c =
-    settled_used c.args.corners.now c.args.level c.args.round.now c.in-Some.kept c.requires.corners c.requires.same c.requires.passes c.facts.ensures.can c.facts.ensures.sets
-    (subst (λ o. IfSome o (IsSettled c.args.corners.now c.args.level)) c.in-Some.is c.requires.settled)
-    (subst (λ o. IfSome o (HasSetsOf c.args.round.now)) c.in-Some.is c.requires.sets)
+pub returns-then-known-clause-used : goal.returns-then-known-clause-used
+returns-then-known-clause-used c =
+    kept_used c.args.corners.now c.args.level c.args.round.now c.args.settled.now c.requires.corners c.requires.same c.requires.passes c.facts.ensures.can c.facts.ensures.sets
+    c.requires.settled (subst (λ b. OnTrue b (IsKept (HasSetsOf c.args.round.now) c.args.settled.now)) c.if-known.true c.requires.sets)
 
-pub returns-in-Some-clause-sets : goal.returns-in-Some-clause-sets
-returns-in-Some-clause-sets c = subst (λ o. IfSome o (HasSetsOf c.args.round.now)) c.in-Some.is c.requires.sets
-
-pub returns-in_ok-own-in-None-clause-used : goal.returns-in_ok-own-in-None-clause-used
-returns-in_ok-own-in-None-clause-used c =
-    record { are = c.requires.corners; count = c.requires.same; passes = c.requires.passes; is = c.in_ok-own-in-None.ensures.settled }
+pub returns-then-known-clause-sets : goal.returns-then-known-clause-sets
+returns-then-known-clause-sets c = subst (λ b. OnTrue b (IsKept (HasSetsOf c.args.round.now) c.args.settled.now)) c.if-known.true c.requires.sets
