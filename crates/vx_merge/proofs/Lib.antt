@@ -30,7 +30,6 @@ pub mod KeptSame
 pub mod OneHeader
 pub mod SliceRegions
 pub mod SliceIds
-pub mod FieldNumbers
 pub mod FilterFields
 pub mod SliceFilters
 pub mod SliceFronts

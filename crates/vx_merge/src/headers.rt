@@ -2,7 +2,9 @@
 ghost use Rattle.std.specs.Prelude.{◌≡◌, ◌≢◌, ◌<◌, ◌≤◌, ◌∷◌, [], IsTrue, length, IfOk, option_copied};
 ghost use Rattle.std.specs.Bool.{OnTrue, OnFalse};
 ghost use Rattle.vx_fit.specs.Lowest.{IsLowestAnswer};
+ghost use Rattle.vx_table.specs.Depends.{set_of};
 ghost use Rattle.vx_table.specs.Loaded as loaded;
+ghost use Rattle.vx_ph.specs.Depends as header_kept;
 ghost use Rattle.vx_pic.specs.Differences.{differing_field as differing};
 ghost use Rattle.vx_pic.specs.Inputs as inputs;
 ghost use Rattle.vx_merge.specs.Bodies as bodies;
@@ -10,7 +12,6 @@ ghost use Rattle.vx_merge.specs.Rounds.{UnlikeFirst, UnlikeLowest, picture_at};
 ghost use Rattle.vx_merge.specs.Rules as rules;
 ghost use Rattle.vx_merge.specs.inner.Found.{Finds, IsLowestField, TellsField};
 
-use crate::numbers::number_of;
 use crate::told::{Differing, of_field, of_source};
 use std::alloc::{AllocError, Global};
 use vx_aps::{LMCS, SCALING};
@@ -21,9 +22,13 @@ use vx_fields::ph::{
     ph_lmcs_enabled_flag, ph_scaling_list_aps_id,
 };
 use vx_fields::pps::pps_rpl_info_in_ph_flag;
-use vx_pic::{Picture, body_named, differing_field, kept_of_header, same_body, same_lists};
+use vx_pic::{
+    Picture, body_named, differing_field, header_fields, kept_among, number_of, same_body,
+    same_lists,
+};
 use vx_rpl::RefLists;
 use vx_sh::SliceHeader;
+use vx_table::Scope;
 
 // ---- the kind
 
@@ -191,15 +196,26 @@ fn has_other_scaling(round: &[Picture<'_>], lowest: Option<u16>, k: usize) -> bo
 
 // ---- the header
 
+/// The kept fields of a picture's header, which are of these.
+fn kept_header(alloc: Global, picture: &Picture<'_>, fields: &Scope) -> Result<Kept, AllocError>
+    requires { fields.now ≡ set_of header_kept.kept }
+    ensures { IfOk result (λ kept. kept ≡ rules.kept_header picture.now) }
+{
+    let kept = kept_among(alloc, &picture.header().fields, fields)?;
+    Ok(kept)
+}
+
 /// The field in which the kept fields of a picture's header differ from these.
 fn kept_header_field(
     alloc: Global,
     picture: &Picture<'_>,
+    fields: &Scope,
     first: &Kept,
 ) -> Result<Option<u16>, AllocError>
+    requires { fields.now ≡ set_of header_kept.kept }
     ensures { IfOk result (λ field. field ≡ differing (rules.kept_header picture.now) first.now) }
 {
-    let own = kept_of_header(alloc, &picture.header().fields)?;
+    let own = kept_header(alloc, picture, fields)?;
     Ok(differing_field(own.as_slice(), first.as_slice()))
 }
 
@@ -207,16 +223,18 @@ fn kept_header_field(
 fn header_field(
     alloc: Global,
     round: &[Picture<'_>],
+    fields: &Scope,
     first: &Kept,
     lowest: Option<u16>,
     k: usize,
 ) -> Result<Option<u16>, AllocError>
     requires k { k < length round.now }
+    requires fields { fields.now ≡ set_of header_kept.kept }
     requires first { first.now ≡ rules.kept_header (picture_at round.now 0) }
     requires lowest { IsLowestAnswer (length round.now) (λ i. IsTrue (bodies.has_lmcs (picture_at round.now i))) lowest }
     ensures { IfOk result (TellsField (rules.picture_header round.now).breaks (rules.header_field round.now) k) }
 {
-    let kept = kept_header_field(alloc, &round[k], first)?;
+    let kept = kept_header_field(alloc, &round[k], fields, first)?;
     if let Some(field) = kept {
         return Ok(Some(field));
     }
@@ -234,10 +252,11 @@ fn lowest_other_header(
     requires { (0 < length round.now) × (length round.now ≤ 64) }
     ensures { IfOk result (IsLowestField (length round.now) (rules.picture_header round.now).breaks (rules.header_field round.now)) }
 {
-    let first = kept_of_header(alloc, &round[0].header().fields)?;
+    let fields = header_fields();
+    let first = kept_header(alloc, &round[0], &fields)?;
     let lowest = lowest_with_lmcs(round);
     for k in 0..round.len() {
-        let field = header_field(alloc, round, &first, lowest, k)?;
+        let field = header_field(alloc, round, &fields, &first, lowest, k)?;
         if let Some(field) = field {
             return Ok(Some(Differing {
                 source: k as u16,

@@ -22,7 +22,6 @@ mod laws_shapes;
 mod limits;
 mod merger;
 mod needed;
-mod numbers;
 mod output;
 mod picture_header;
 mod progress;

@@ -17,7 +17,6 @@ ghost use Rattle.vx_merge.specs.inner.Fronts as spec;
 use crate::filters::same_bytes;
 use crate::headers::header_number;
 use crate::needed::NamedBodies;
-use crate::numbers::number_of;
 use crate::shapes::init_qp;
 use std::alloc::{AllocError, Global};
 use vx_aps::ALF;
@@ -31,7 +30,7 @@ use vx_fields::sh::{
     sh_explicit_scaling_list_used_flag, sh_lmcs_used_flag, sh_picture_header_in_slice_header_flag,
     sh_qp_delta,
 };
-use vx_pic::Picture;
+use vx_pic::{Picture, number_of};
 use vx_sh::{ShShape, SliceHeader};
 use vx_table::natural;
 

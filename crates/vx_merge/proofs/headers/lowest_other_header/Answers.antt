@@ -1,13 +1,11 @@
 use Rattle.std.proofs.Common.{ap, ◌∙◌, below_more, arith}
-use Rattle.vx_pic.specs.Inputs as inputs
 use Rattle.vx_merge.specs.Rules.{kept_header, picture_header}
 use Rattle.vx_merge.proofs.Reading.{picture_read}
 use Rattle.vx_merge.proofs.headers.lowest_other_header.Goals as goal
 
 pub header_field-requires-clause-first : goal.header_field-requires-clause-first
 header_field-requires-clause-first c =
-    c.in_ok-first.ensures ∙ (ap (λ h. inputs.header_fields h.fields) c.header.ensures.value
-    ∙ ap kept_header (picture_read c.args.round.now 0 c.index-round-0.result (omega (arith, c.requires)) c.index-round-0.is))
+    c.in_ok-first.ensures ∙ ap kept_header (picture_read c.args.round.now 0 c.index-round-0.result (omega (arith, c.requires)) c.index-round-0.is)
 
 pub returns-in-Some : goal.returns-in-Some
 returns-in-Some c =
