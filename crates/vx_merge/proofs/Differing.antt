@@ -6,7 +6,9 @@ use Rattle.std.proofs.lemmas.Bool.{cases_Bool, eqb-true}
 use Rattle.std.proofs.lemmas.Bool.Decides.{eqb_tells}
 use Rattle.std.proofs.lemmas.Option.{none-some}
 use Rattle.vx_bits.specs.declared.list.Item.{Item}
+use Rattle.vx_fields.specs.declared.ph.TheConstants.{ph_chroma_residual_scale_flag}
 use Rattle.vx_table.specs.Loaded.{number}
+use Rattle.vx_table.specs.Scope.{is_set}
 use Rattle.vx_pic.specs.Differences.{differing_field}
 use Rattle.vx_pic.specs.Inputs as inputs
 use Rattle.vx_pic.specs.Parts.{Parts}
@@ -14,8 +16,8 @@ use Rattle.vx_pic.specs.Sets.{same_items}
 use Rattle.vx_pic.proofs.Comparing.{item_alike, none_differs, some_differs}
 use Rattle.vx_pic.proofs.Sent.{items_are}
 use Rattle.vx_merge.specs.Rounds.{UnlikeFirst, picture_at}
-use Rattle.vx_merge.specs.Rules.{differing_in, differing_number, differing_profile, header_field, kept_header, kept_pps, kept_sps, pps_field, profile_fields, profile_of, sps_field}
-use Rattle.vx_merge.specs.inner.Found.{TellsAt}
+use Rattle.vx_merge.specs.Rules.{differing_in, differing_number, differing_profile, header_field, kept_header, kept_pps, kept_sps, picture_header, pps_field, profile_fields, profile_of, sps_field}
+use Rattle.vx_merge.specs.inner.Found.{HaveSameItems, TellsAt}
 use Rattle.vx_merge.proofs.Reading.{picture_read}
 
 -- ---- numbers of some fields
@@ -135,6 +137,12 @@ pub header_read : (round : List Parts) (k : ℕ) (q : Parts) (first : List Item)
     → first ≡ kept_header (picture_at round 0) → answer ≡ differing_field (kept_header q) first → answer ≡ differing_in kept_header round k
 header_read round k q first answer short q_is first_is is =
     is ∙ (ap (λ x. differing_field (kept_header x) first) (picture_read round k q short q_is) ∙ ap (λ items. differing_field (kept_header (picture_at round k)) items) first_is)
+
+-- headers with the same items break no rule
+pub headers_alike : (round : List Parts) → HaveSameItems (length round) round → (k : ℕ) → k < length round → ¬ (picture_header round).breaks k
+headers_alike round same k short (inl other) = other (ap inputs.header_fields (same k short))
+headers_alike round same k short (inr (has, (j, lowest, other))) =
+    other (ap (λ items. is_set (number items ph_chroma_residual_scale_flag)) (same k short ∙ sym (same j lowest.in_range)))
 
 pub header_differs : (round : List Parts) (k field : ℕ) → differing_in kept_header round k ≡ Some field
     → UnlikeFirst kept_header round k × (field ≡ header_field round k)

@@ -19,6 +19,7 @@ pub mod Planning
 pub mod Writing
 pub mod Deciding
 pub mod Passing
+pub mod SameItems
 pub mod Settling
 pub mod Sources
 pub mod Rising

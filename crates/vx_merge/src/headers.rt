@@ -10,8 +10,9 @@ ghost use Rattle.vx_pic.specs.Inputs as inputs;
 ghost use Rattle.vx_merge.specs.Bodies as bodies;
 ghost use Rattle.vx_merge.specs.Rounds.{UnlikeFirst, UnlikeLowest, picture_at};
 ghost use Rattle.vx_merge.specs.Rules as rules;
-ghost use Rattle.vx_merge.specs.inner.Found.{Finds, IsLowestField, TellsField};
+ghost use Rattle.vx_merge.specs.inner.Found.{Finds, HaveSameItems, IsLowestField, TellsField};
 
+use crate::items::same_items;
 use crate::told::{Differing, of_field, of_source};
 use std::alloc::{AllocError, Global};
 use vx_aps::{LMCS, SCALING};
@@ -244,6 +245,19 @@ fn header_field(
     Ok(None)
 }
 
+/// Whether the headers of all sources have the same items.
+fn have_same_items(round: &[Picture<'_>]) -> bool
+    requires { 0 < length round.now }
+    ensures { OnTrue result (HaveSameItems (length round.now) round.now) }
+{
+    for k in 0..round.len() {
+        if !same_items(&round[k].header().fields, &round[0].header().fields) {
+            return false;
+        }
+    }
+    true
+}
+
 /// The lowest source with another header.
 fn lowest_other_header(
     alloc: Global,
@@ -252,6 +266,10 @@ fn lowest_other_header(
     requires { (0 < length round.now) × (length round.now ≤ 64) }
     ensures { IfOk result (IsLowestField (length round.now) (rules.picture_header round.now).breaks (rules.header_field round.now)) }
 {
+    // Most rounds end here.
+    if have_same_items(round) {
+        return Ok(None);
+    }
     let fields = header_fields();
     let first = kept_header(alloc, &round[0], &fields)?;
     let lowest = lowest_with_lmcs(round);

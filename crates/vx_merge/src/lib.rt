@@ -16,6 +16,7 @@ mod frame_sets;
 mod fronts;
 mod headers;
 mod ids;
+mod items;
 mod joined;
 mod laws;
 mod laws_shapes;

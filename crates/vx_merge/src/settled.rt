@@ -12,6 +12,7 @@ ghost use Rattle.vx_merge.specs.inner.Settled.{AreSetsOf, HasPps, HasSetsOf, IsK
 use crate::corner::Corner;
 use crate::facts::facts;
 use crate::frame_sets::{copied_numbers, frame_pps, frame_sps};
+use crate::items::same_items;
 use crate::joined::{Frame, join};
 use std::alloc::{AllocError, Global};
 use vx_bits::Fields;
@@ -19,7 +20,7 @@ use vx_layout::{Layout, LayoutError, Numbers};
 use vx_pic::Picture;
 use vx_pps::Pps;
 use vx_sps::Sps;
-use vx_write::{copied, same_items};
+use vx_write::copied;
 
 /// The items of the sets of a source's picture.
 #[derive(Drop)]
@@ -84,10 +85,10 @@ fn has_sets(picture: &Picture<'_>, own: &SourceSets) -> bool
     ensures { OnTrue result (words.sets_in own.now ≡ words.sets_of picture.now) }
 {
     let _layout = picture.layout();
-    if !same_items(own.sps.as_slice(), picture.sps().fields().as_slice()) {
+    if !same_items(&own.sps, picture.sps().fields()) {
         return false;
     }
-    if !same_items(own.pps.as_slice(), picture.pps().fields().as_slice()) {
+    if !same_items(&own.pps, picture.pps().fields()) {
         return false;
     }
     true

@@ -8,9 +8,11 @@ use Rattle.vx_fit.specs.declared.placed.FitFault.TheVariants.{TooLarge, Geometry
 use Rattle.vx_fit.specs.declared.lines.LineError.{LineError}
 use Rattle.vx_fit.specs.declared.lines.LineError.TheVariants.{Memory, Lines}
 use Rattle.vx_fit.specs.Lowest.{IsLowest}
+use Rattle.vx_pic.specs.Parts.{Parts}
 use Rattle.vx_pic.specs.Written.{SetUnit}
 use Rattle.vx_write.specs.Slots.{AreLastOf, Sent}
 use Rattle.vx_merge.specs.declared.told.Differing.{Differing}
+use Rattle.vx_merge.specs.Rounds.{picture_at}
 use Rattle.vx_merge.specs.Verdict.{Rule, IsVerdict}
 
 -- the verdict by some rules
@@ -29,6 +31,10 @@ TellsAt Breaks field (Some told) = Breaks × (told ≡ field)
 
 abbrev pub TellsField : (ℕ → Type 0) → (ℕ → ℕ) → ℕ → Option ℕ → Type 0
 TellsField breaks field k answer = TellsAt (breaks k) (field k) answer
+
+-- the headers of the first sources have the items of source 0's
+abbrev pub HaveSameItems : ℕ → List Parts → Type 0
+HaveSameItems n round = (k : ℕ) → k < n → (picture_at round k).header.fields ≡ (picture_at round 0).header.fields
 
 -- what is told of a source, and of a field in it
 abbrev pub told_source : ℕ → Option ℕ → Option Refusal

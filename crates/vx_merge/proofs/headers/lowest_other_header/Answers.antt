@@ -1,11 +1,15 @@
 use Rattle.std.proofs.Common.{ap, ◌∙◌, below_more, arith}
 use Rattle.vx_merge.specs.Rules.{kept_header, picture_header}
+use Rattle.vx_merge.proofs.Differing.{headers_alike}
 use Rattle.vx_merge.proofs.Reading.{picture_read}
 use Rattle.vx_merge.proofs.headers.lowest_other_header.Goals as goal
 
 pub header_field-requires-clause-first : goal.header_field-requires-clause-first
 header_field-requires-clause-first c =
     c.in_ok-first.ensures ∙ ap kept_header (picture_read c.args.round.now 0 c.index-round-0.result (omega (arith, c.requires)) c.index-round-0.is)
+
+pub returns-then-have_same_items : goal.returns-then-have_same_items
+returns-then-have_same_items c = headers_alike c.args.round.now c.if-have_same_items.ensures
 
 pub returns-in-Some : goal.returns-in-Some
 returns-in-Some c =
