@@ -37,11 +37,7 @@ def sps(width, height, ctu=64, tools=Tools(), level=51, window=None, subpics=Non
     w.zeros()
     w.u(8, 0)
     w.u(2, 0)
-    w.ue(width)
-    w.ue(height)
-    w.u(1, int(window is not None))
-    for offset in window or ():
-        w.ue(offset)
+    write_size(w, width, height, window)
     w.u(1, int(subpics is not None))
     if subpics is not None:
         write_subpics(w, width, height, ctu, subpics, id_length)
@@ -54,6 +50,15 @@ def sps(width, height, ctu=64, tools=Tools(), level=51, window=None, subpics=Non
         w.ue(number)
     write_tools(w, ctu, tools)
     return unit(SPS, 0, w.closed())
+
+
+def write_size(w, width, height, window):
+    """The size of pictures, and their conformance window."""
+    w.ue(width)
+    w.ue(height)
+    w.u(1, int(window is not None))
+    for offset in window or ():
+        w.ue(offset)
 
 
 def write_subpics(w, width, height, ctu, subpics, id_length):
@@ -112,11 +117,7 @@ def pps(width, height, number=0, qp=26, tid=0, partition=None, window=None):
     w.u(6, number)
     w.u(4, 0)
     w.u(1, 0)
-    w.ue(width)
-    w.ue(height)
-    w.u(1, int(window is not None))
-    for offset in window or ():
-        w.ue(offset)
+    write_size(w, width, height, window)
     w.u(2, 0)
     w.u(1, int(partition is None))
     w.u(1, 0)
