@@ -6,6 +6,7 @@ use crate::{
     NalHeader, Splitter, emulation_fault, escape, read_header, unescape, unit_place, write_unit,
 };
 use std::alloc::{AllocError, Global};
+use std::process::Abort;
 use std::test::Fail;
 use vx_bits::Refusal;
 use vx_io::MemorySink;
@@ -111,19 +112,31 @@ pub(crate) const STREAMS: [(&[u8], &[(u64, usize)], Option<(u8, u64)>); 20] = [
     (&[0, 0, 1, 128, 65, 0, 0, 2], &[], Some((3, 3))),
 ];
 
+/// Splits a stream that comes in pieces of several sizes.
+fn splits_stream(
+    rt: &impl Abort,
+    alloc: Global,
+    bytes: &[u8],
+    units: &[(u64, usize)],
+    refusal: Option<Refusal>,
+) -> Result<(), Fail> {
+    for size in [1, 2, 3, 5, 64] {
+        let found = split(alloc, bytes, size)?;
+        assert_eq!(rt;
+            found.units.as_slice(),
+            units,
+            "in pieces of {size}: {bytes:?}"
+        );
+        assert_eq!(rt; found.refusal, refusal, "in pieces of {size}: {bytes:?}");
+    }
+    Ok(())
+}
+
 #[test]
 fn splits_streams(rt: HostRuntime) -> Result<(), Fail> {
     for (bytes, units, refused) in STREAMS {
         let refusal = refused.map(|(code, byte)| Refusal::Framing { code, byte });
-        for size in [1, 2, 3, 5, 64] {
-            let found = split(rt.alloc(), bytes, size)?;
-            assert_eq!(rt;
-                found.units.as_slice(),
-                units,
-                "in pieces of {size}: {bytes:?}"
-            );
-            assert_eq!(rt; found.refusal, refusal, "in pieces of {size}: {bytes:?}");
-        }
+        splits_stream(&rt, rt.alloc(), bytes, units, refusal)?;
     }
     Ok(())
 }

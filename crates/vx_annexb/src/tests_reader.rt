@@ -2,6 +2,7 @@
 use crate::tests::{GRAY, STREAMS, long_stream};
 use crate::{TakeFault, UnitReader};
 use std::alloc::{AllocError, Global};
+use std::process::Abort;
 use std::test::Fail;
 use vx_bits::Refusal;
 use vx_io::MemorySource;
@@ -48,20 +49,32 @@ fn source_of(
     Ok(MemorySource::new(bytes, pieces, failing))
 }
 
+/// Reads a source that comes in pieces of several sizes.
+fn reads_source(
+    rt: &impl Abort,
+    alloc: Global,
+    bytes: &[u8],
+    units: &[(u64, usize)],
+    fault: Option<TakeFault>,
+) -> Result<(), Fail> {
+    for piece in [1, 60, 1_000_000] {
+        let mut source = source_of(alloc, bytes, piece, &[])?;
+        let taken = take_units(alloc, &mut source)?;
+        assert_eq!(rt;
+            taken.units.as_slice(),
+            units,
+            "in pieces of {piece}: {bytes:?}"
+        );
+        assert_eq!(rt; taken.fault, fault, "in pieces of {piece}: {bytes:?}");
+    }
+    Ok(())
+}
+
 #[test]
 fn reads_units(rt: HostRuntime) -> Result<(), Fail> {
     for (bytes, units, refused) in STREAMS {
         let fault = refused.map(|(code, byte)| TakeFault::Refused(Refusal::Framing { code, byte }));
-        for piece in [1, 60, 1_000_000] {
-            let mut source = source_of(rt.alloc(), bytes, piece, &[])?;
-            let taken = take_units(rt.alloc(), &mut source)?;
-            assert_eq!(rt;
-                taken.units.as_slice(),
-                units,
-                "in pieces of {piece}: {bytes:?}"
-            );
-            assert_eq!(rt; taken.fault, fault, "in pieces of {piece}: {bytes:?}");
-        }
+        reads_source(&rt, rt.alloc(), bytes, units, fault)?;
     }
     Ok(())
 }
@@ -85,6 +98,24 @@ fn gives_units_before_a_failed_read(rt: HostRuntime) -> Result<(), Fail> {
     Ok(())
 }
 
+/// Reads a unit of n bytes that stands last in a source, behind these bytes and its start code.
+fn reads_last_unit(rt: &impl Abort, alloc: Global, before: &[u8], n: usize) -> Result<(), Fail> {
+    let mut bytes = Vec::from_slice(alloc, before)?;
+    let unit = long_stream(alloc, n)?;
+    bytes.extend_from_slice(&unit)?;
+    let place = before.len() as u64 + 3;
+    let mut source = source_of(alloc, &bytes, 1_000_000, &[])?;
+    let taken = take_units(alloc, &mut source)?;
+    assert_eq!(rt;
+        taken.units.last(),
+        Some(&(place, n)),
+        "behind {} bytes",
+        before.len()
+    );
+    assert_eq!(rt; taken.fault, None, "behind {} bytes", before.len());
+    Ok(())
+}
+
 #[test]
 fn reads_units_of_any_length(rt: HostRuntime) -> Result<(), Fail> {
     // What comes before the last unit, and its length: its end lies on a read's end or beside it, or the unit comes in many
@@ -99,19 +130,7 @@ fn reads_units_of_any_length(rt: HostRuntime) -> Result<(), Fail> {
         (&zeros, 100),
     ];
     for (before, n) in rows {
-        let mut bytes = Vec::from_slice(rt.alloc(), before)?;
-        let unit = long_stream(rt.alloc(), n)?;
-        bytes.extend_from_slice(&unit)?;
-        let place = before.len() as u64 + 3;
-        let mut source = source_of(rt.alloc(), &bytes, 1_000_000, &[])?;
-        let taken = take_units(rt.alloc(), &mut source)?;
-        assert_eq!(rt;
-            taken.units.last(),
-            Some(&(place, n)),
-            "behind {} bytes",
-            before.len()
-        );
-        assert_eq!(rt; taken.fault, None, "behind {} bytes", before.len());
+        reads_last_unit(&rt, rt.alloc(), before, n)?;
     }
     Ok(())
 }
