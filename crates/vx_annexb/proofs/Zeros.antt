@@ -74,9 +74,9 @@ no_mark_at_all most b from there at before next none k le m = ⊎_elim
     (cases_lt k there)
 
 -- nor up to the first 00 00 from there on, from which the search goes on
-pub past_search : (most : ℕ) (b : List ℕ) (from there at reach zeros : ℕ) → from ≤ at → 0 < reach → ((k : ℕ) → from ≤ k → k < there → ¬ IsMark most b k) → ((k : ℕ) → there ≤ k → k < at → ¬ IsMark most b k)
-    → IsFirstFrom (StandsAt b) at zeros → (from ≤ zeros) × (zeros ≤ length b) × (0 < reach) × ((k : ℕ) → from ≤ k → k < zeros → ¬ IsMark most b k)
-past_search most b from there at reach zeros order some before next first = (
+pub past_search : (most : ℕ) (b : List ℕ) (from there at reach place : ℕ) → from ≤ at → 0 < reach → ((k : ℕ) → from ≤ k → k < there → ¬ IsMark most b k) → ((k : ℕ) → there ≤ k → k < at → ¬ IsMark most b k)
+    → IsFirstFrom (StandsAt b) at place → (from ≤ place) × (place ≤ length b) × (0 < reach) × ((k : ℕ) → from ≤ k → k < place → ¬ IsMark most b k)
+past_search most b from there at reach place order some before next first = (
   omega (arith, first.order),
   omega (arith, first.here.within),
   some,
