@@ -19,7 +19,6 @@ pub mod Planning
 pub mod Writing
 pub mod Deciding
 pub mod Passing
-pub mod SameItems
 pub mod Settling
 pub mod Sources
 pub mod Rising
