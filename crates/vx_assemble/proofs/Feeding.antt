@@ -1,6 +1,6 @@
 -- A feed: what it answers, by what its reader and its assembler answered.
 use Rattle.std.proofs.Common.{◌≡◌, ℕ, ◌+◌, List, [], ◌∷◌, ◌++◌, ◌∙◌, Option, Some, None, Result, Ok, Err, Bool, true, false, length, inl, inr, sym, ap, refl, subst, arith, length-append, append_assoc, option_map, IsSome}
-use Rattle.std.specs.Prelude.{slice_range, take, min, ◌-◌, ◌≤◌}
+use Rattle.std.specs.Prelude.{slice_range, take, ◌-◌, ◌≤◌}
 use Rattle.std.proofs.Math.Seq.{take_all}
 use Rattle.std.proofs.lemmas.List.{map-append, length-map, append-nil}
 use Rattle.vx_bits.specs.declared.refusal.Refusal.{Refusal}
@@ -249,7 +249,7 @@ reads_more R g places before old new left left' faults faults' fed open_ read sa
     let piece = r.0 in
     let going = subst (λ closed. reader.ClosesAt closed old.reader.splitter old.reader.taken) open_ fed.read.closes in
     let short : length g ≤ source_limit = rw source_limit-is (omega (arith, fed.read.taken, going.1)) in
-    let more : List ℕ = take (min (length piece) (source_limit - length g)) piece in
+    let more : List ℕ = take (source_limit - length g) piece in
     let seen : seen_of (g ++ piece) ≡ seen_of g ++ more = sym (seen_front source_limit g piece short) ∙ ap (λ l. l ++ more) (sym (take_all source_limit g short)) in
     let follow : FollowsFrom (seen_of g) false 0 places = subst (λ (a : Bool). FollowsFrom (seen_of g) a 0 places) going.0 fed.read.stands.given in
     let stay : units_at (seen_of g ++ more) places ≡ units_at (seen_of g) places = (seen_stays (seen_of g) more false 0 places follow).1 in (
