@@ -21,6 +21,11 @@ returns-in_err-pictures-clause-shows g c R of =
     let reached = HasReached-read _ _ _ _ R _ _ _ _ _ c.loop-alloc.feed c.read_on.new.feed c.loop-alloc.pictures (c.loop-alloc.invariant.1 R of) going (c.in_ok-read_on.ensures.answer R) in
     rw (p.1, p.2) (Shows-stopped _ _ _ _ R _ _ _ _ _ c.read_on.new.feed c.show_seen.new.feed c.loop-alloc.pictures _ reached c.show_seen.ensures.closed c.show_seen.ensures.all (c.in_err-pictures.ensures.answer R of))
 
+pub returns-in_err-pictures-clause-stop : goal.returns-in_err-pictures-clause-stop
+returns-in_err-pictures-clause-stop g c =
+    let p = err_from_is_err_and c.from_residual-in_err-pictures.result c.from_residual-in_err-pictures.ensures.1 in
+    rw (p.1, p.2) c.in_err-pictures.ensures.stop
+
 pub loop-alloc-preserved : goal.loop-alloc-preserved
 loop-alloc-preserved g c =
     let going : IsOpen c.loop-alloc.feed = search rules in (
