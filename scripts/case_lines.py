@@ -93,12 +93,13 @@ class Cases:
         self.case("check " + re.sub(r"--level \d+ ", "", words), expected.verdict(), *settings)
 
     def merged(self, corners, sources, expected, level=""):
-        """A merge and its check; and where it has pictures, their subpictures, merged again to the same bytes."""
+        """A merge and its check; and where it has pictures, it is verified, and their subpictures are merged again to the same bytes."""
         words = self.placed(corners, sources)
         self.checked(f"merge {level}{words}", expected)
         if expected.status or not expected.out:
             return
         self.case(f"merge {level}{words}", expected, keep="whole")
+        self.case(f"verify merge whole {words}", Expected(out=b"yes pictures %d\n" % picture_count(expected.out)))
         for k in range(len(corners)):
             self.case(f"extract {k} whole", expected, keep=f"part{k}")
         words = " ".join(f"{corner}=part{k}" for k, corner in enumerate(corners))

@@ -93,13 +93,14 @@ fail_tests() {
 
 # Has each allocation of the program fail: over a stored stream, and one that is refused after the same units; over a
 # stored merge three times, which is shown, and of which a subpicture is taken, and one that is refused after it; over
-# two stored streams side by side, that can be put together, or can't.
+# two stored streams side by side, that can be put together, or can't, and the merge beside its sources.
 fail_program() {
   local program=$PWD/crates/vx_app/out/vx_app data=crates/vx_app/data
   (cd crates/vx_app && rt run -- show data/a.266 > "$work/log" 2>&1) || { tail -40 "$work/log"; exit 1; }
   cp "$data/a.266" "$work/stored.266"
   { cat "$work/stored.266"; printf '\0\0\1\x80\x79'; } > "$work/refused.266"
   cat "$data/a.266" "$data/a.266" > "$work/twice.266"
+  cat "$data/a.266" "$work/twice.266" > "$work/thrice.266"
   cat "$data/m.266" "$data/m.266" "$data/m.266" > "$work/merge.266"
   { cat "$work/merge.266"; printf '\0\0\1\x80\x79'; } > "$work/cut.266"
   picture=$("$program" extract 1 "$data/m.266" | wc -c)
@@ -114,6 +115,10 @@ fail_program() {
     "$program" check merge "0,0=$work/twice.266" "64,0=$work/twice.266"
   fail_each "check merge, one above the other" program_wants \
     "$program" check merge "0,0=$work/twice.266" "32,0=$work/twice.266"
+  fail_each "verify merge, a stored merge" program_wants \
+    "$program" verify merge "$work/merge.266" "0,0=$work/thrice.266" "64,0=$work/thrice.266"
+  fail_each "verify merge, with a shorter source" program_wants \
+    "$program" verify merge "$work/merge.266" "0,0=$work/thrice.266" "64,0=$work/twice.266"
   picture=$("$program" merge "0,0=$data/a.266" "64,0=$data/a.266" | wc -c)
   fail_each "merge, two stored streams" stream_wants "$program" merge "0,0=$work/twice.266" "64,0=$work/twice.266"
 }

@@ -1,5 +1,5 @@
 -- Which pictures were found to keep the rules, and what that comes to when `check extract` ends.
-use Rattle.std.proofs.Common.{◌≡◌, ℕ, ◌+◌, ◌<◌, ◌≤◌, List, [], ◌∷◌, ◌∙◌, nat_le, Option, Some, None, Result, Ok, Err, Bool, true, false, cond, length, sym, ap, ap₂, refl, subst, arith}
+use Rattle.std.proofs.Common.{◌≡◌, ℕ, ◌+◌, ◌<◌, ◌≤◌, List, [], ◌∷◌, ◌∙◌, nat_le, Option, Some, None, Result, Ok, Err, Bool, true, false, cond, length, sym, ap, refl, subst, arith}
 use Rattle.std.specs.Io.KnownBytes.{Consumes, IsAtEnd}
 use Rattle.vx_bits.specs.declared.refusal.Refusal.{Refusal}
 use Rattle.vx_bits.specs.declared.refusal.Refusal.TheVariants.{Extract}
@@ -8,7 +8,7 @@ use Rattle.vx_annexb.specs.ByteStream.{UnitPlace}
 use Rattle.vx_annexb.specs.Reading.{LastWasNeeded}
 use Rattle.vx_pic.specs.Readings.{Reading, Picture, pictures}
 use Rattle.vx_pic.specs.Rules.{Readers}
-use Rattle.vx_pic.specs.Bytes.{Ending, AreSeenPictures}
+use Rattle.vx_pic.specs.Bytes.{AreSeenPictures}
 use Rattle.vx_pic.specs.Parts.{Parts, parts_of}
 use Rattle.vx_assemble.specs.Held.{HasPicture, ShowsLatest}
 use Rattle.vx_assemble.specs.Feed.{Feeding, EndsAtEnd, HasFed}
@@ -16,11 +16,11 @@ use Rattle.vx_extract.specs.Extracting.{Extracting}
 use Rattle.vx_extract.specs.Rules.{refusal_of}
 use Rattle.vx_run.specs.declared.extract.Task.{Task}
 use Rattle.vx_run.specs.declared.stop.Stop.{Stop}
-use Rattle.vx_run.specs.declared.stop.Stop.TheVariants.{NotUnderstood, Refused, ReadFault, WriteFault, NoMemory}
+use Rattle.vx_run.specs.declared.stop.Stop.TheVariants.{NotUnderstood, Mismatched, Refused, ReadFault, WriteFault, NoMemory}
 use Rattle.vx_run.specs.Change.{Change, change, HasNoFault, HasFault, GivesFront, Gains, GainsFront}
 use Rattle.vx_run.specs.Show.{behind_unit, seen_of}
 use Rattle.vx_pic.specs.Sublayers.{at_most}
-use Rattle.vx_run.specs.Extract.{BreakNoRule, IsExtractable, at_picture, Refuses, by_stream, by_picture, without, WhereTold, BeginsWith, HasSeen, ok_text, ChecksBy}
+use Rattle.vx_run.specs.Extract.{BreakNoRule, at_picture, by_stream, by_picture, without, WhereTold, BeginsWith, ok_text, ChecksBy}
 use Rattle.vx_run.specs.inner.Extracting.{HasTaken, HasTakenOne, IsTask, HasChecked, AdvancesOn, ChecksOne, CountsBy}
 use Rattle.vx_run.proofs.Extracting.{no_pictures, refusal_so}
 use Rattle.vx_run.proofs.Showing.{told_at}
@@ -130,6 +130,7 @@ module _ {A : Type 0} (left : A → Option (List ℕ)) (reads : A → ℕ) (R : 
   -- the feed stopped
   pub count_stopped : EndsAtEnd f' (left s'') → (stop : Stop) → Advanced (Err stop) → CountsBy R t (change left reads s s'') (Err stop)
   count_stopped ended NotUnderstood advanced = came (Err NotUnderstood) advanced
+  count_stopped ended (Mismatched x y) advanced = came (Err (Mismatched x y)) advanced
   count_stopped ended (Refused r place) advanced =
       let at = came (Err (Refused r place)) advanced in
       rw at.1 (Counts-refused left reads R t s s' s'' f f' n k e r (takes_refused left reads R s s' s'' f f' e.ps e.taken ended r at.0))
@@ -176,6 +177,7 @@ module _ {A : Type 0} (left : A → Option (List ℕ)) (reads : A → ℕ) (R : 
       -- or breaks one
       pub count_cut : (stop : Stop) → ChecksOne q x n (Err stop) → CountsBy R t (change left reads s s'') (Err stop)
       count_cut NotUnderstood broken = broken
+      count_cut (Mismatched x y) broken = broken
       count_cut (Refused r place) broken = rw broken.1 (Counts-broken left reads R t s s' s'' f f' n k e one r (sym so ∙ broken.0))
       count_cut (ReadFault j) broken = absurd broken
       count_cut WriteFault broken = broken
@@ -187,6 +189,7 @@ module _ {A K : Type 0} (R : Readers) (t : Task) (source : Change A) (out : Chan
   -- nothing was written where there is none
   pub Checks-stopped : (stop : Stop) → out.new ≡ out.old → CountsBy R t source (Err stop) → ChecksBy R t source out (Err stop)
   Checks-stopped NotUnderstood same counts = counts
+  Checks-stopped (Mismatched x y) same counts = counts
   Checks-stopped (Refused r place) same counts = (counts.0, same, counts.1, counts.2)
   Checks-stopped (ReadFault j) same counts = (counts.0, counts.1, same, counts.2)
   Checks-stopped WriteFault same counts = absurd counts

@@ -1,5 +1,5 @@
 -- The corners that words name, and where a command stops.
-use Rattle.std.proofs.Common.{◌≡◌, ℕ, zero, suc, ◌+◌, ◌<◌, ◌≤◌, List, [], ◌∷◌, ◌++◌, ◌∙◌, Option, Some, None, Result, Ok, Err, length, map, take, get_or, slice_get, sym, ap, refl, subst, arith, add-one}
+use Rattle.std.proofs.Common.{◌≡◌, ℕ, zero, suc, ◌+◌, ◌<◌, ◌≤◌, List, [], ◌∷◌, ◌++◌, ◌∙◌, Option, Some, None, Result, Ok, Err, length, map, take, slice_get, sym, ap, refl, arith, add-one}
 use Rattle.std.specs.Prelude.{All, OnOk, IsSome, MatchOption, String, string_bytes}
 use Rattle.std.proofs.Math.Seq.{take_all}
 use Rattle.std.specs.List.{AllByRecursion}
@@ -15,20 +15,24 @@ use Rattle.vx_assemble.specs.Feed.{Feeding, Advances}
 use Rattle.vx_merge.specs.declared.corner.Corner.{Corner}
 use Rattle.vx_merge.specs.Merging.{IsCorner, AreCorners}
 use Rattle.vx_run.specs.declared.stop.Stop.{Stop}
-use Rattle.vx_run.specs.declared.stop.Stop.TheVariants.{NotUnderstood, Refused, ReadFault, WriteFault, NoMemory}
+use Rattle.vx_run.specs.declared.stop.Stop.TheVariants.{NotUnderstood, Mismatched, Refused, ReadFault, WriteFault, NoMemory}
 use Rattle.vx_run.specs.declared.words.Placing.{Placing as Placed}
 use Rattle.vx_run.specs.Conclusion.{Outcome, IsOfCommand}
 use Rattle.vx_run.specs.Grammar.{Placing, IsPlacing, texts}
-use Rattle.vx_run.specs.Merge.{corner_of, corners_of, most_sources, too_many}
-use Rattle.vx_run.specs.inner.Merging.{AdvancesOf, stop_from}
+use Rattle.vx_run.specs.Rounds.{most_sources, too_many}
+use Rattle.vx_run.specs.Merge.{corner_of, corners_of}
+use Rattle.vx_run.specs.inner.Advancing.{AdvancesOf, stop_from}
 use Rattle.vx_run.specs.inner.Placings.{placing_in, placed, Spells, IsPlacingWord}
 use Rattle.vx_run.proofs.Placings.{words_read, reads_one}
 
 -- ---- corners
 
 -- as many as words
+pub many_placed : {A X : Type 0} (f : Placing → X) (words : List (String A)) → length (map f (map placing_in (texts words))) ≡ length words
+many_placed {A = A} f words = omega (arith, length-map (map placing_in (texts words)) f, length-map (texts words) placing_in, length-map words (string_bytes {Z = A}))
+
 pub many_corners : {A : Type 0} (words : List (String A)) → length (corners_of (map placing_in (texts words))) ≡ length words
-many_corners {A = A} words = omega (arith, length-map (map placing_in (texts words)) corner_of, length-map (texts words) placing_in, length-map words (string_bytes {Z = A}))
+many_corners words = many_placed corner_of words
 
 placed_corners : (ps : List Placing) → AllByRecursion IsPlacing ps → All IsCorner (corners_of ps)
 placed_corners [] all = All-nil IsCorner
@@ -44,22 +48,22 @@ are_corners words all some few = record {
   each = placed_corners (map placing_in (texts words)) (words_read (texts words) all).1;
 }
 
--- one more
-corner_suc : {A : Type 0} (words : List (String A)) (i : ℕ) (w : String A) (p : Placed) → slice_get words i ≡ Some w → Spells (string_bytes w) (placed p)
-    → corners_of (map placing_in (texts (take i words))) ++ corner_of (placed p) ∷ [] ≡ corners_of (map placing_in (texts (take (suc i) words)))
-corner_suc [] i w p at spells = absurd (cc)
-corner_suc {A = A} (x ∷ words) zero w p at spells =
+-- what is made of one more placing,
+placed_suc : {A X : Type 0} (f : Placing → X) (words : List (String A)) (i : ℕ) (w : String A) (p : Placed) → slice_get words i ≡ Some w → Spells (string_bytes w) (placed p)
+    → map f (map placing_in (texts (take i words))) ++ f (placed p) ∷ [] ≡ map f (map placing_in (texts (take (suc i) words)))
+placed_suc f [] i w p at spells = absurd (cc)
+placed_suc {A = A} {X = X} f (x ∷ words) zero w p at spells =
     let read : placing_in (string_bytes x) ≡ placed p = ap (λ (y : String A). placing_in (string_bytes y)) (same_Some x w at) ∙ reads_one (string_bytes w) (placed p) spells in
-    ap (λ (q : Placing). corner_of q ∷ []) (sym read)
-corner_suc (x ∷ words) (suc i) w p at spells = ap (λ (l : List Corner). corner_of (placing_in (string_bytes x)) ∷ l) (corner_suc words i w p at spells)
+    ap (λ (q : Placing). let l : List X = f q ∷ [] in l) (sym read)
+placed_suc {A = A} {X = X} f (x ∷ words) (suc i) w p at spells = ap (λ (l : List X). f (placing_in (string_bytes x)) ∷ l) (placed_suc f words i w p at spells)
 
-pub corner_more : {A : Type 0} (words : List (String A)) (i : ℕ) (w : String A) (p : Placed) → slice_get words i ≡ Some w → Spells (string_bytes w) (placed p)
-    → corners_of (map placing_in (texts (take i words))) ++ corner_of (placed p) ∷ [] ≡ corners_of (map placing_in (texts (take (i + 1) words)))
-corner_more words i w p at spells = rw add-one (corner_suc words i w p at spells)
+pub placed_more : {A X : Type 0} (f : Placing → X) (words : List (String A)) (i : ℕ) (w : String A) (p : Placed) → slice_get words i ≡ Some w → Spells (string_bytes w) (placed p)
+    → map f (map placing_in (texts (take i words))) ++ f (placed p) ∷ [] ≡ map f (map placing_in (texts (take (i + 1) words)))
+placed_more f words i w p at spells = rw add-one (placed_suc f words i w p at spells)
 
--- all of them
-pub corners_all : {A : Type 0} (words : List (String A)) (i : ℕ) → length words ≤ i → corners_of (map placing_in (texts (take i words))) ≡ corners_of (map placing_in (texts words))
-corners_all {A = A} words i all = ap (λ (l : List (String A)). corners_of (map placing_in (texts l))) (take_all i words all)
+-- and of all of them
+pub placed_all : {A X : Type 0} (f : Placing → X) (words : List (String A)) (i : ℕ) → length words ≤ i → map f (map placing_in (texts (take i words))) ≡ map f (map placing_in (texts words))
+placed_all {A = A} f words i all = ap (λ (l : List (String A)). map f (map placing_in (texts l))) (take_all i words all)
 
 -- what an answer says
 pub placed_some : (r : Option Placed) (P : Type 0) (Q : Placed → Type 0) → MatchOption r (P → ⊥) Q → P → IsSome r
@@ -77,6 +81,7 @@ on_ok (Err e) P p = tt
 
 pub too_many_stop : (stop : Stop) → (let o : Outcome = Err stop in o) ≡ too_many → IsOfCommand stop
 too_many_stop NotUnderstood is = absurd (cc)
+too_many_stop (Mismatched x y) is = tt
 too_many_stop (Refused r place) is = tt
 too_many_stop (ReadFault k) is = tt
 too_many_stop WriteFault is = tt

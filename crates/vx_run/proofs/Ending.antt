@@ -1,22 +1,25 @@
 -- What the status tells of what came of a command.
-use Rattle.std.proofs.Common.{◌≡◌, ◌≢◌, ◌⊎◌, ℕ, List, [], ◌∷◌, ◌++◌, length, Option, Some, None, Result, Ok, Err, inl, inr, refl, sym, ap, subst, arith, ◌<◌, ◌≤◌, ◌∙◌}
+use Rattle.std.proofs.Common.{◌≡◌, ◌≢◌, ◌⊎◌, ℕ, ◌+◌, List, [], ◌∷◌, ◌++◌, length, Option, Some, None, Result, Ok, Err, inl, inr, refl, sym, ap, subst, arith, ◌<◌, ◌≤◌, ◌∙◌}
 use Rattle.vx_bits.specs.declared.refusal.Refusal.{Refusal}
 use Rattle.vx_report.specs.declared.refusal.Where.{Where}
 use Rattle.vx_run.specs.declared.stop.Stop.{Stop}
-use Rattle.vx_run.specs.declared.stop.Stop.TheVariants.{NotUnderstood, Refused, ReadFault, WriteFault, NoMemory}
+use Rattle.vx_run.specs.declared.stop.Stop.TheVariants.{NotUnderstood, Mismatched, Refused, ReadFault, WriteFault, NoMemory}
 use Rattle.vx_run.specs.Change.{Change, Sources, source_at, HasFault}
 use Rattle.vx_run.specs.About.{help_text, version_text, Writes}
 use Rattle.vx_run.specs.Conclusion.{Outcome, Concludes, IsOfCommand, IsMade, status_of}
 use Rattle.vx_run.specs.declared.extract.Task.{Task}
 use Rattle.vx_run.specs.Extract.{BreakNoRule, Refuses, by_stream, by_picture, without, IsExtractable, IsStatus, WhereTold, ExtractsBy, ChecksBy, task_of}
-use Rattle.vx_run.specs.Grammar.{Command, Placing, show, extract, check_extract, merge, check_merge, help, version, AskFor, IsUnderstood}
+use Rattle.vx_run.specs.Grammar.{Command, Placing, show, extract, check_extract, merge, check_merge, verify, help, version, AskFor, IsUnderstood}
 use Rattle.vx_run.specs.Run.{Does, Performs, placings_in, task_in}
 use Rattle.vx_bits.specs.declared.refusal.Refusal.TheVariants.{Limit}
 use Rattle.vx_bits.specs.declared.rules.TheConstants.{TOO_MANY_SOURCES}
 use Rattle.std.proofs.lemmas.List.{length-map}
 use Rattle.std.proofs.lemmas.Option.{same_Some}
 use Rattle.vx_merge.specs.declared.corner.Corner.{Corner}
-use Rattle.vx_run.specs.Merge.{Stream, EndsWritten, EndsOnce, IsWritable, IsMergeStatus, WhereAllTold, ChecksMergeBy, MergesBy, corner_of, corners_of, most_sources, too_many, in_round}
+use Rattle.vx_run.specs.Rounds.{Stream, WhereAllTold, most_sources, too_many, in_round}
+use Rattle.vx_run.specs.Merge.{EndsWritten, EndsOnce, IsWritable, IsMergeStatus, ChecksMergeBy, MergesBy, corner_of, corners_of}
+use Rattle.vx_verify.specs.declared.spot.Spot.{Spot}
+use Rattle.vx_run.specs.Verify.{EndsVerified, VerifyEndsOnce, IsVerifiedMerge, IsVerifyStatus, VerifiesBy, spot_of, spots_of}
 use Rattle.vx_pic.specs.Readings.{Picture}
 use Rattle.vx_pic.specs.Rules.{Readers}
 use Rattle.vx_pic.specs.Bytes.{Ending}
@@ -41,6 +44,7 @@ module _ (R : Readers) (of : AreOfH266 R) where
   stopped source out err NoMemory status shows ends read write fits b units ending told is =
       elim ends.ended [ inl p ↦ absurd (fits p.0) | inr p ↦ absurd p.0 ]
   stopped source out err NotUnderstood status shows ends read write fits b units ending told is = absurd shows
+  stopped source out err (Mismatched x y) status shows ends read write fits b units ending told is = absurd shows
 
   -- where it stopped without a fault, and not for want of memory, the ending is a refusal
   pub exact-stopped : {A K E : Type 0} (words : List (List ℕ)) (sources : Sources A) (out : Change K) (err : Change E) (stop : Stop) (status : ℕ) (file : List ℕ)
@@ -78,6 +82,7 @@ module _ {A K E : Type 0} (R : Readers) (t : Task) (source : Change A) (out : Ch
   extract-stopped NoMemory status does ends read write fits b ps ending told are =
       elim ends.ended [ inl p ↦ absurd (fits p.0) | inr p ↦ absurd p.0 ]
   extract-stopped NotUnderstood status does ends read write fits b ps ending told are = absurd does
+  extract-stopped (Mismatched x y) status does ends read write fits b ps ending told are = absurd does
 
   check-stopped : (stop : Stop) (status : ℕ) → ChecksBy R t source out (Err stop) → Concludes stop status err → ¬ HasFault source → ¬ HasFault out → status ≢ 4 → WhereTold R source (λ ps ending. IsStatus t ps ending status)
   check-stopped (Refused r place) status does ends read write fits b ps ending told are =
@@ -88,6 +93,7 @@ module _ {A K E : Type 0} (R : Readers) (t : Task) (source : Change A) (out : Ch
   check-stopped NoMemory status does ends read write fits b ps ending told are =
       elim ends.ended [ inl p ↦ absurd (fits p.0) | inr p ↦ absurd p.0 ]
   check-stopped NotUnderstood status does ends read write fits b ps ending told are = absurd does
+  check-stopped (Mismatched x y) status does ends read write fits b ps ending told are = absurd does
 
 same_task : (t u : Task) → (let o : Option Task = Some t in o) ≡ Some u → t ≡ u
 same_task t u is = cc
@@ -101,6 +107,7 @@ module _ {A K : Type 0} (R : Readers) (of : AreOfH266 R) (words : List (List ℕ
       subst (λ (u : Task). IsStatus u ps ending 0) (same_task (task_of tid None index) t is) (status-done (task_of tid None index) ps ending (((performs.command (check_extract tid index file) spelled).1 R of).4 b ps ending told are).0)
   extracts-done (merge level placings) t performs spelled is b ps ending told are = absurd (cc)
   extracts-done (check_merge placings) t performs spelled is b ps ending told are = absurd (cc)
+  extracts-done (verify finished placings) t performs spelled is b ps ending told are = absurd (cc)
   extracts-done (show file) t performs spelled is b ps ending told are = absurd (cc)
   extracts-done help t performs spelled is b ps ending told are = absurd (cc)
   extracts-done version t performs spelled is b ps ending told are = absurd (cc)
@@ -116,18 +123,17 @@ module _ {A K : Type 0} (R : Readers) (of : AreOfH266 R) (words : List (List ℕ
       (check-stopped R (task_of tid None index) (source_at sources 0) out err stop status ((performs.command (check_extract tid index file) spelled).1 R of) ends)
   extracts-stopped err stop status (merge level placings) t performs ends spelled is = absurd (cc)
   extracts-stopped err stop status (check_merge placings) t performs ends spelled is = absurd (cc)
+  extracts-stopped err stop status (verify finished placings) t performs ends spelled is = absurd (cc)
   extracts-stopped err stop status (show file) t performs ends spelled is = absurd (cc)
   extracts-stopped err stop status help t performs ends spelled is = absurd (cc)
   extracts-stopped err stop status version t performs ends spelled is = absurd (cc)
 
 -- ---- merges
 
--- what is refused can't be done
-merge-not : EndsOnce → (corners : List Corner) (level : Option ℕ) (ss : List Stream) (done : List Plan) (r : Refusal) (place : Where) → 0 < length ss → EndsWritten corners level ss done (Err (r, place))
-    → IsWritable corners level ss → ⊥
-merge-not once corners level ss done r place some ends able =
-    let x : Refusal × Where = (r, place) in
-    let same : (let o : Result (Unit {0}) (Refusal × Where) = Ok tt in o) ≡ Err x = (once corners level ss able.0 done (Ok tt) (Err x) some able.1 ends).1 in
+-- what stops can't be done
+merge-not : EndsOnce → (corners : List Corner) (level : Option ℕ) (ss : List Stream) (done : List Plan) (stop : Stop) → 0 < length ss → EndsWritten corners level ss done (Err stop) → IsWritable corners level ss → ⊥
+merge-not once corners level ss done stop some ends able =
+    let same : (let o : Outcome = Ok tt in o) ≡ Err stop = (once corners level ss able.0 done (Ok tt) (Err stop) some able.1 ends).1 in
     absurd (cc)
 
 merge-done : (corners : List Corner) (level : Option ℕ) (ss : List Stream) → IsWritable corners level ss → IsMergeStatus corners level ss 0
@@ -136,10 +142,10 @@ merge-done corners level ss able = record { done = (λ zero_. able, λ is. refl)
 merge-refused : (corners : List Corner) (level : Option ℕ) (ss : List Stream) (status : ℕ) → (IsWritable corners level ss → ⊥) → status ≡ 1 → IsMergeStatus corners level ss status
 merge-refused corners level ss status not_ one = record { done = (λ zero_. absurd (omega (arith, one, zero_)), λ able. absurd (not_ able)); refused = (λ is. not_, λ is. one) }
 
-refused-status : {E : Type 0} → EndsOnce → (corners : List Corner) (level : Option ℕ) (ss : List Stream) (done : List Plan) (r : Refusal) (place : Where) (status : ℕ) (err : Change E) → 0 < length ss → EndsWritten corners level ss done (Err (r, place))
+refused-status : {E : Type 0} → EndsOnce → (corners : List Corner) (level : Option ℕ) (ss : List Stream) (done : List Plan) (r : Refusal) (place : Where) (status : ℕ) (err : Change E) → 0 < length ss → EndsWritten corners level ss done (Err (Refused r place))
     → Concludes (Refused r place) status err → status ≢ 4 → IsMergeStatus corners level ss status
 refused-status once corners level ss done r place status err some refused ends fits =
-    elim ends.ended [ inl p ↦ merge-refused corners level ss status (merge-not once corners level ss done r place some refused) p.0 | inr p ↦ absurd (fits p.1) ]
+    elim ends.ended [ inl p ↦ merge-refused corners level ss status (merge-not once corners level ss done (Refused r place) some refused) p.0 | inr p ↦ absurd (fits p.1) ]
 
 no-memory : {E : Type 0} (status : ℕ) (err : Change E) → Concludes NoMemory status err → status ≢ 4 → ⊥
 no-memory status err ends fits = elim ends.ended [ inl p ↦ fits p.0 | inr p ↦ p.0 ]
@@ -154,6 +160,7 @@ module _ {A K E : Type 0} (once : EndsOnce) (R : Readers) (corners : List Corner
   merge-stopped WriteFault status does ends read write fits ss are = absurd (write does.1)
   merge-stopped NoMemory status does ends read write fits ss are = absurd (no-memory status err ends fits)
   merge-stopped NotUnderstood status does ends read write fits ss are = absurd does
+  merge-stopped (Mismatched x y) status does ends read write fits ss are = absurd does
 
   write-stopped : (level : Option ℕ) (stop : Stop) (status : ℕ) → MergesBy R corners level sources out (Err stop) → Concludes stop status err → ((k : ℕ) → k < length sources.old → ¬ HasFault (source_at sources k)) → ¬ HasFault out → status ≢ 4
       → WhereAllTold R sources (λ ss. IsMergeStatus corners level ss status)
@@ -164,6 +171,7 @@ module _ {A K E : Type 0} (once : EndsOnce) (R : Readers) (corners : List Corner
   write-stopped level WriteFault status does ends read write fits ss are = absurd (write does.2)
   write-stopped level NoMemory status does ends read write fits ss are = absurd (no-memory status err ends fits)
   write-stopped level NotUnderstood status does ends read write fits ss are = absurd does
+  write-stopped level (Mismatched x y) status does ends read write fits ss are = absurd does
 
 too-many_ : {E : Type 0} (err : Change E) (stop : Stop) (status : ℕ) → (let o : Outcome = Err stop in o) ≡ too_many → Concludes stop status err → status ≢ 4 → status ≡ 1
 too-many_ err stop status is ends fits =
@@ -203,6 +211,48 @@ module _ {A K : Type 0} (words : List (List ℕ)) (sources : Sources A) (out : C
   merges-stopped once R of err stop status some performs ends =
       write-stopped once R (corners_of placings) sources out err some level stop status ((performs.command (merge level placings) spelled).few (omega (arith, few, same_count placings)) R of) ends
 
+-- ---- verifications
+
+verified-done : (spots : List Spot) (ss : List Stream) → IsVerifiedMerge spots ss → IsVerifyStatus spots ss 0
+verified-done spots ss able = record { done = (λ zero_. able, λ is. refl); refused = (λ one. absurd (omega (arith, one)), λ not_. absurd (not_ able)) }
+
+verified-not : VerifyEndsOnce → (spots : List Spot) (ss : List Stream) (n : ℕ) (stop : Stop) (status : ℕ) → 0 < length ss → EndsVerified spots ss n (Err stop) → status ≡ 1 → IsVerifyStatus spots ss status
+verified-not once spots ss n stop status some ends one = record {
+  done = (λ zero_. absurd (omega (arith, one, zero_)), λ able. absurd (not_able able));
+  refused = (λ is. not_able, λ is. one);
+}
+  where
+    not_able : IsVerifiedMerge spots ss → ⊥
+    not_able able =
+        let same : (let o : Outcome = Ok tt in o) ≡ Err stop = (once spots ss able.0 n (Ok tt) (Err stop) some able.1 ends).1 in
+        absurd (cc)
+
+module _ {A K E : Type 0} (once : VerifyEndsOnce) (R : Readers) (spots : List Spot) (sources : Sources A) (out : Change K) (err : Change E) (some : 0 < length sources.old) where
+  verify-stopped : (stop : Stop) (status : ℕ) → VerifiesBy R spots sources out (Err stop) → Concludes stop status err → ((k : ℕ) → k < length sources.old → ¬ HasFault (source_at sources k)) → ¬ HasFault out → status ≢ 4
+      → WhereAllTold R sources (λ ss. IsVerifyStatus spots ss status)
+  verify-stopped (Mismatched m n) status does ends read write fits ss are =
+      elim ends.ended [ inl p ↦ verified-not once spots ss n (Mismatched m n) status (omega (arith, some, are.count)) (does.2 ss are) p.0 | inr p ↦ absurd (fits p.1) ]
+  verify-stopped (Refused r place) status does ends read write fits ss are =
+      elim ends.ended [ inl p ↦ verified-not once spots ss does.0 (Refused r place) status (omega (arith, some, are.count)) (does.3 ss are) p.0 | inr p ↦ absurd (fits p.1) ]
+  verify-stopped (ReadFault k) status does ends read write fits ss are = absurd (read k does.0 does.1)
+  verify-stopped WriteFault status does ends read write fits ss are = absurd (write does.1)
+  verify-stopped NoMemory status does ends read write fits ss are = absurd (no-memory status err ends fits)
+  verify-stopped NotUnderstood status does ends read write fits ss are = absurd does
+
+module _ {A K : Type 0} (words : List (List ℕ)) (sources : Sources A) (out : Change K) (finished : List ℕ) (placings : List Placing) (spelled : AskFor words (verify finished placings)) (few : length placings ≤ most_sources) where
+  -- the status of one that is done
+  pub verifies-done : (R : Readers) → AreOfH266 R → Performs words sources out (Ok tt) → WhereAllTold R sources (λ ss. IsVerifyStatus (spots_of placings) ss 0)
+  verifies-done R of performs ss are =
+      let does = (performs.command (verify finished placings) spelled).few (omega (arith, few, length-map placings spot_of)) R of in
+      let is = does.2 ss are in
+      verified-done (spots_of placings) ss (is.0, is.1)
+
+  -- and of one that stopped
+  pub verifies-stopped : {E : Type 0} (once : VerifyEndsOnce) (R : Readers) → AreOfH266 R → (err : Change E) (stop : Stop) (status : ℕ) → 0 < length sources.old → Performs words sources out (Err stop) → Concludes stop status err
+      → ((k : ℕ) → k < length sources.old → ¬ HasFault (source_at sources k)) → ¬ HasFault out → status ≢ 4 → WhereAllTold R sources (λ ss. IsVerifyStatus (spots_of placings) ss status)
+  verifies-stopped once R of err stop status some performs ends =
+      verify-stopped once R (spots_of placings) sources out err some stop status ((performs.command (verify finished placings) spelled).few (omega (arith, few, length-map placings spot_of)) R of) ends
+
 -- ---- too many sources
 
 too_many_of : {A K : Type 0} (sources : Sources A) (out : Change K) (outcome : Outcome) (command : Command) (placings : List Placing) → placings_in command ≡ Some placings → Does command sources out outcome → most_sources < length placings → outcome ≡ too_many
@@ -212,6 +262,9 @@ too_many_of sources out outcome (merge level ps) placings is does many =
 too_many_of sources out outcome (check_merge ps) placings is does many =
     let same : ps ≡ placings = same_Some ps placings is in
     (does.many (omega (arith, many, same_count ps, ap (λ (l : List Placing). length l) same))).0
+too_many_of sources out outcome (verify finished ps) placings is does many =
+    let same : ps ≡ placings = same_Some ps placings is in
+    (does.many (omega (arith, many, length-map ps spot_of, ap (λ (l : List Placing). length l) same))).0
 too_many_of sources out outcome (show file) placings is does many = absurd (cc)
 too_many_of sources out outcome (extract tid level index file) placings is does many = absurd (cc)
 too_many_of sources out outcome (check_extract tid index file) placings is does many = absurd (cc)
@@ -231,6 +284,7 @@ module _ {A K : Type 0} (words : List (List ℕ)) (sources : Sources A) (out : C
 
 writes_of_command : {K : Type 0} (text : List ℕ) (out : Change K) (stop : Stop) → Writes text out (Err stop) → IsOfCommand stop
 writes_of_command text out NotUnderstood writes = writes
+writes_of_command text out (Mismatched x y) writes = tt
 writes_of_command text out (Refused refusal place) writes = tt
 writes_of_command text out (ReadFault k) writes = tt
 writes_of_command text out WriteFault writes = tt
@@ -242,12 +296,14 @@ does_of_command (extract tid level index file) sources out stop does = does.0
 does_of_command (check_extract tid index file) sources out stop does = does.0
 does_of_command (merge level placings) sources out stop does = does.stop
 does_of_command (check_merge placings) sources out stop does = does.stop
+does_of_command (verify finished placings) sources out stop does = does.stop
 does_of_command help sources out stop does = writes_of_command help_text out stop does.1
 does_of_command version sources out stop does = writes_of_command version_text out stop does.1
 
 not_two : {E : Type 0} (err : Change E) (stop : Stop) (status : ℕ) → IsOfCommand stop → Concludes stop status err → status ≡ 2 → ⊥
 not_two err NotUnderstood status of ends two = of
 not_two err (Refused refusal place) status of ends two = elim ends.ended [ inl p ↦ omega (arith, p.0, two) | inr p ↦ omega (arith, p.1, two) ]
+not_two err (Mismatched x y) status of ends two = elim ends.ended [ inl p ↦ omega (arith, p.0, two) | inr p ↦ omega (arith, p.1, two) ]
 not_two err (ReadFault k) status of ends two = elim ends.ended [ inl p ↦ omega (arith, p.0, two) | inr p ↦ omega (arith, p.1, two) ]
 not_two err WriteFault status of ends two = elim ends.ended [ inl p ↦ omega (arith, p.0, two) | inr p ↦ omega (arith, p.1, two) ]
 not_two err NoMemory status of ends two = elim ends.ended [ inl p ↦ omega (arith, p.0, two) | inr p ↦ omega (arith, p.1, two) ]

@@ -1,7 +1,6 @@
 -- What was written of the pictures that were taken, and what that comes to when `extract` ends.
-use Rattle.std.proofs.Common.{◌≡◌, ℕ, ◌+◌, ◌<◌, ◌≤◌, List, [], ◌∷◌, ◌++◌, ◌∙◌, Option, Some, None, Result, Ok, Err, Bool, true, false, cond, length, filter, map, inl, inr, sym, ap, ap₂, refl, subst, arith, append_assoc, append-nil}
+use Rattle.std.proofs.Common.{◌≡◌, ℕ, ◌+◌, ◌<◌, List, [], ◌∷◌, ◌++◌, ◌∙◌, Option, Some, None, Result, Ok, Err, Bool, true, false, cond, length, map, sym, ap, ap₂, refl, subst, arith, append_assoc, append-nil}
 use Rattle.std.specs.Prelude.{OnOk, IfErr}
-use Rattle.std.specs.List.{AllByRecursion}
 use Rattle.std.specs.Io.KnownBytes.{Consumes, IsAtEnd, Appends}
 use Rattle.std.proofs.lemmas.Grind.{flat_map-append}
 use Rattle.std.proofs.KnownBytes.{Consumes-nil, Appends-trans}
@@ -15,12 +14,10 @@ use Rattle.vx_annexb.specs.Reading.{LastWasNeeded}
 use Rattle.vx_annexb.specs.Laws.{written}
 use Rattle.vx_pic.specs.Readings.{Reading, Picture, pictures}
 use Rattle.vx_pic.specs.Rules.{Readers}
-use Rattle.vx_pic.specs.Bytes.{Ending, AreSeenPictures}
-use Rattle.vx_pic.specs.H266.{AreOfH266}
+use Rattle.vx_pic.specs.Bytes.{AreSeenPictures}
 use Rattle.vx_pic.specs.Parts.{Parts, parts_of}
 use Rattle.vx_pic.specs.Written.{Plan, units_of}
 use Rattle.vx_pic.specs.Resident.{units_written}
-use Rattle.vx_report.specs.declared.refusal.Where.{Where}
 use Rattle.vx_assemble.specs.Feed.{Feeding, EndsAtEnd, HasFed}
 use Rattle.vx_assemble.specs.Held.{HasPicture, ShowsLatest}
 use Rattle.vx_extract.specs.Extracting.{Extracting, Stands, HasSlice, Writes, WritesKept, Checks as ExtractorChecks}
@@ -30,12 +27,12 @@ use Rattle.vx_extract.specs.Rules.{is_kept, refusal_of}
 use Rattle.vx_extract.specs.Written.{AreExtracted, IsExtracted}
 use Rattle.vx_run.specs.declared.extract.Task.{Task}
 use Rattle.vx_run.specs.declared.stop.Stop.{Stop}
-use Rattle.vx_run.specs.declared.stop.Stop.TheVariants.{NotUnderstood, Refused, ReadFault, WriteFault, NoMemory}
+use Rattle.vx_run.specs.declared.stop.Stop.TheVariants.{NotUnderstood, Mismatched, Refused, ReadFault, WriteFault, NoMemory}
 use Rattle.vx_run.specs.Conclusion.{Outcome}
 use Rattle.vx_run.specs.Change.{Change, change, HasNoFault, HasFault, GivesFront, Gains}
 use Rattle.vx_run.specs.Show.{behind_unit, seen_of}
 use Rattle.vx_pic.specs.Sublayers.{at_most}
-use Rattle.vx_run.specs.Extract.{BreakNoRule, BreaksBehind, IsExtractable, at_picture, Refuses, by_stream, by_picture, without, WhereTold, BeginsWith, HasSeen, GainsExtraction, BreaksOff, ExtractsFront, ExtractsBy}
+use Rattle.vx_run.specs.Extract.{BreakNoRule, at_picture, by_stream, by_picture, without, WhereTold, BeginsWith, GainsExtraction, BreaksOff, ExtractsBy}
 use Rattle.vx_run.specs.ReadAgain.{IsReadAgain}
 use Rattle.vx_run.specs.inner.Extracting.{stop_at, ChecksOne, HaveSlices, HasTaken, HasTakenOne, IsTask, TakenIsReadAgain, HasExtracted, AdvancesOn, ExtractsOne}
 use Rattle.vx_run.proofs.Gained.{Gains-nothing, Gains-then}
@@ -311,6 +308,7 @@ module _ {A K : Type 0} (left : A → Option (List ℕ)) (reads : A → ℕ) (ta
   -- the feed stopped
   pub extract_stopped : EndsAtEnd f' (left s'') → (stop : Stop) → Advanced (Err stop) → ExtractsBy R t (change left reads s s'') (change taken writes o o') (Err stop)
   extract_stopped ended NotUnderstood advanced = absurd (came (Err NotUnderstood) advanced)
+  extract_stopped ended (Mismatched x y) advanced = absurd (came (Err (Mismatched x y)) advanced)
   extract_stopped ended (Refused r place) advanced =
       let at = came (Err (Refused r place)) advanced in
       rw at.1 (Extracts-refused left reads taken writes R t s s' s'' o o' f f' x n e r (takes_refused left reads R s s' s'' f f' e.ps e.taken ended r at.0))
@@ -361,6 +359,7 @@ module _ {A K : Type 0} (left : A → Option (List ℕ)) (reads : A → ℕ) (ta
       -- or wasn't
       pub extract_cut : (stop : Stop) → Wrote (Err stop) → ExtractsBy R t (change left reads s s'') (change taken writes o o'') (Err stop)
       extract_cut NotUnderstood wrote = absurd (did (Err NotUnderstood) wrote)
+      extract_cut (Mismatched x y) wrote = absurd (did (Err (Mismatched x y)) wrote)
       extract_cut (Refused r place) wrote =
           let at = did (Err (Refused r place)) wrote in
           rw at.1 (Extracts-broken left reads taken writes R t s s' s'' o o' f f' x n e x' o'' task one slice r at.0)

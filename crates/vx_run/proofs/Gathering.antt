@@ -1,5 +1,5 @@
 -- The lines of the units that are seen, gathered one after the other.
-use Rattle.std.proofs.Common.{◌≡◌, ℕ, ◌+◌, List, [], ◌∷◌, ◌++◌, ◌∙◌, Option, Some, None, Result, Ok, Err, Bool, length, sym, ap, refl, subst, append-nil, append_assoc}
+use Rattle.std.proofs.Common.{◌≡◌, ℕ, List, [], ◌∷◌, ◌++◌, ◌∙◌, Some, None, Result, Ok, Err, Bool, length, sym, ap, subst, append-nil, append_assoc}
 use Rattle.vx_annexb.specs.ByteStream.{UnitPlace, unit_bytes, FollowsFrom}
 use Rattle.vx_annexb.specs.Held.{is_all}
 use Rattle.vx_pic.specs.Readings.{Reading, pictures}
@@ -8,10 +8,10 @@ use Rattle.vx_pic.specs.Streams.{read_on, all_read}
 use Rattle.vx_pic.specs.Bytes.{units_at}
 use Rattle.vx_assemble.specs.Feed.{Feeding, HasFed}
 use Rattle.vx_run.specs.declared.stop.Stop.{Stop}
-use Rattle.vx_run.specs.declared.stop.Stop.TheVariants.{NotUnderstood, Refused, ReadFault, WriteFault, NoMemory}
+use Rattle.vx_run.specs.declared.stop.Stop.TheVariants.{NotUnderstood, Mismatched, Refused, ReadFault, WriteFault, NoMemory}
 use Rattle.vx_run.specs.Change.{Change, Gains, GainsFront}
 use Rattle.vx_run.specs.Show.{seen_of, lines_behind, unit_lines}
-use Rattle.vx_run.specs.inner.Showing.{SeesNone, EndsGathering, GathersOne, GathersNext, Gathers, HasGathered, WritesLines, ShowsLater}
+use Rattle.vx_run.specs.inner.Showing.{EndsGathering, GathersNext, Gathers, HasGathered, WritesLines, ShowsLater}
 use Rattle.vx_run.proofs.Lined.{read_behind, read_one, units_more, lines_more, lines_one}
 
 -- units behind those before them are read so
@@ -84,6 +84,7 @@ module _ (R : Readers) (g : List ℕ) (units : List UnitPlace) (before : List Re
 wrote : {K : Type 0} (R : Readers) (f : Feeding) (g : List ℕ) (units : List UnitPlace) (before : List Reading) (lines : List ℕ) (out : Change K) (result : Result ℕ Stop) → EndsGathering R f g units before result → Gains out lines → WritesLines R f g units before lines out result
 wrote R f g units before lines out (Ok n) ends gained = (gained, ends)
 wrote R f g units before lines out (Err NotUnderstood) ends gained = (gained, ends)
+wrote R f g units before lines out (Err (Mismatched x y)) ends gained = (gained, ends)
 wrote R f g units before lines out (Err (Refused refusal place)) ends gained = (gained, ends)
 wrote R f g units before lines out (Err (ReadFault k)) ends gained = (gained, ends)
 wrote R f g units before lines out (Err WriteFault) ends gained = absurd ends

@@ -1,4 +1,5 @@
 -- Lemmas on the steps of `show`, and on how a command ends.
+pub mod Advancing
 pub mod Checking
 pub mod Concluding
 pub mod Corners
@@ -17,9 +18,11 @@ pub mod Once
 pub mod Performing
 pub mod Placings
 pub mod ReadAgain
-pub mod Rounds
 pub mod Showing
+pub mod Sources
 pub mod Spelling
 pub mod Taking
 pub mod Told
+pub mod Verifying
+pub mod VerifyOnce
 pub mod Working

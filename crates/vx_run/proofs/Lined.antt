@@ -1,11 +1,11 @@
 -- The lines of units that are read one behind another, as the units and the bytes go on.
-use Rattle.std.proofs.Common.{◌≡◌, ℕ, ◌+◌, ◌-◌, ◌≤◌, List, [], ◌∷◌, ◌++◌, ◌∙◌, Option, Some, None, Result, Ok, Err, Bool, true, false, cond, length, take, drop, slice_range, sym, ap, ap₂, refl, subst, arith, length-append, append_assoc, append-nil, ⊎_elim}
+use Rattle.std.proofs.Common.{◌≡◌, ℕ, ◌+◌, ◌-◌, ◌≤◌, List, [], ◌∷◌, ◌++◌, ◌∙◌, Some, None, Result, Ok, Err, Bool, true, false, cond, length, take, drop, slice_range, sym, ap, ap₂, refl, arith, length-append, append_assoc, append-nil, ⊎_elim}
 use Rattle.std.proofs.lemmas.List.{drop-append-le, length-drop, take-append-le, map-append}
 use Rattle.vx_bits.specs.declared.refusal.Refusal.{Refusal}
 use Rattle.vx_annexb.specs.ByteStream.{UnitPlace, unit_bytes, IsUnit, FollowsFrom}
 use Rattle.vx_pic.specs.Readings.{Reading, completed, pictures, current, whole_part, Current, nothing, headed, going, is_slice, Picture, is_whole}
 use Rattle.vx_pic.specs.Rules.{Readers, reads}
-use Rattle.vx_pic.specs.Streams.{Outcome, read_on, all_read, stopped, one_more, unless_refused}
+use Rattle.vx_pic.specs.Streams.{Outcome, read_on, all_read, one_more, unless_refused}
 use Rattle.vx_pic.specs.Bytes.{units_at}
 use Rattle.vx_pic.proofs.Going.{goes_on}
 use Rattle.vx_run.specs.Show.{shown_line, set_lines, picture_lines, unit_lines, where_read, lines_behind}

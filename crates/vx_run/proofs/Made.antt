@@ -1,5 +1,5 @@
 -- What is told of a unit, and the lines that it has.
-use Rattle.std.proofs.Common.{◌≡◌, ℕ, ◌+◌, ◌<◌, ◌≤◌, ◌==◌, List, [], ◌∷◌, ◌++◌, ◌∙◌, Option, Some, None, Result, Ok, Err, Bool, true, false, cond, length, sym, ap, ap₂, refl, subst, arith, length-append, append-nil, eq-eqb}
+use Rattle.std.proofs.Common.{◌≡◌, ℕ, ◌+◌, ◌<◌, ◌≤◌, ◌==◌, List, [], ◌∷◌, ◌++◌, ◌∙◌, Option, Some, None, Ok, Bool, true, false, cond, length, sym, ap, ap₂, refl, subst, arith, length-append, append-nil, eq-eqb}
 use Rattle.std.proofs.lemmas.List.{length-map}
 use Rattle.std.specs.Option.{option_or}
 use Rattle.std.specs.List.{flat_map}
@@ -11,7 +11,7 @@ use Rattle.vx_report.specs.UnitLine.{unit_text}
 use Rattle.vx_pic.specs.declared.accepted.Accepted.{Accepted}
 use Rattle.vx_pic.specs.declared.accepted.Accepted.TheVariants as accepted
 use Rattle.vx_pic.specs.Sets.{sps_id, pps_id}
-use Rattle.vx_pic.specs.Readings.{Begun, Slice, Reading, dropped, vps_read, sps_read, pps_read, aps_read, messages_read, header_read, first_slice, next_slice, sequence_ended}
+use Rattle.vx_pic.specs.Readings.{Reading, dropped, vps_read, sps_read, pps_read, aps_read, messages_read, header_read, first_slice, next_slice, sequence_ended}
 use Rattle.vx_pic.specs.Readings.{stored_sps, stored_pps, Picture, Current, nothing, headed, going, current, is_whole, whole_part, completed, pictures}
 use Rattle.vx_pic.specs.Parts.{Parts, slice_part, parts_of}
 use Rattle.vx_pic.specs.Rules.{Readers}

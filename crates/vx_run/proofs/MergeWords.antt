@@ -1,5 +1,5 @@
 -- Words of `merge`: a level where there is one, and placings.
-use Rattle.std.proofs.Common.{◌≡◌, ◌≢◌, ℕ, ◌<◌, ◌≤◌, ◌^◌, List, [], ◌∷◌, ◌++◌, ◌∙◌, Option, length, get_or, drop, map, codes, decimal, sym, ap, refl, subst, arith}
+use Rattle.std.proofs.Common.{◌≡◌, ℕ, ◌≤◌, List, [], ◌∷◌, ◌++◌, ◌∙◌, Option, length, get_or, drop, map, codes, decimal, sym, ap, refl, subst, arith}
 use Rattle.std.specs.List.{AllByRecursion}
 use Rattle.vx_run.specs.Grammar.{Placing, placing_word, IsPlacing, IsLevel, merge, AskFor, level_words}
 use Rattle.vx_run.specs.inner.Placings.{placing_in, PlaceFiles}

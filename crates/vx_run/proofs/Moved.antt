@@ -3,11 +3,11 @@ use Rattle.std.proofs.Common.{◌≡◌, ℕ, ◌<◌, List, Option, Some, Ok, E
 use Rattle.std.proofs.Math.ListN.{length-set}
 use Rattle.std.proofs.lemmas.List.{get_or-set_same}
 use Rattle.std.proofs.lemmas.Option.{slice_get_read}
-use Rattle.vx_run.specs.declared.stop.Stop.TheVariants.{NotUnderstood, Refused, ReadFault, WriteFault, NoMemory}
+use Rattle.vx_run.specs.declared.stop.Stop.TheVariants.{NotUnderstood, Mismatched, Refused, ReadFault, WriteFault, NoMemory}
 use Rattle.vx_run.specs.Change.{Change, change, sources_change, source_at}
 use Rattle.vx_run.specs.Conclusion.{Outcome}
 use Rattle.vx_pic.specs.Rules.{Readers}
-use Rattle.vx_run.specs.Show.{Shows, ShowsBy, ShowsSeen, ShowsFront}
+use Rattle.vx_run.specs.Show.{Shows, ShowsBy}
 use Rattle.vx_run.specs.declared.extract.Task.{Task}
 use Rattle.vx_run.specs.Extract.{StopsBehind, Refuses, by_stream, by_picture, without, Extracts, ExtractsBy, Checks, ChecksBy}
 use Rattle.vx_bits.specs.declared.refusal.Refusal.{Refusal}
@@ -42,6 +42,7 @@ shows-moved R bytes faults k s s' l l' out (Err WriteFault) old new shows =
     )
 shows-moved R bytes faults k s s' l l' out (Err NoMemory) old new shows = rw (old, new) shows
 shows-moved R bytes faults k s s' l l' out (Err NotUnderstood) old new shows = shows
+shows-moved R bytes faults k s s' l l' out (Err (Mismatched x y)) old new shows = shows
 
 pub Shows-at : {S K : Type 0} (bytes : S → Option (List ℕ)) (faults : S → ℕ) (k : ℕ) (s s' : S) (l : List S) (out : Change K) (outcome : Outcome) → k < length l → s ≡ get_or l k s
     → Shows (change bytes faults s s') out outcome → Shows (source_at (sources_change bytes faults l (slice_set l k s')) k) out outcome
@@ -103,6 +104,7 @@ extracts-moved R bytes faults k t s s' l l' out (Err WriteFault) old new does =
     )
 extracts-moved R bytes faults k t s s' l l' out (Err NoMemory) old new does = rw (old, new) does
 extracts-moved R bytes faults k t s s' l l' out (Err NotUnderstood) old new does = does
+extracts-moved R bytes faults k t s s' l l' out (Err (Mismatched x y)) old new does = does
 
 -- or was found to be there
 checks-moved : {S K : Type 0} (R : Readers) (bytes : S → Option (List ℕ)) (faults : S → ℕ) (k : ℕ) (t : Task) (s s' : S) (l l' : List S) (out : Change K) (outcome : Outcome) → slice_get l k ≡ Some s → slice_get l' k ≡ Some s'
@@ -122,6 +124,7 @@ checks-moved R bytes faults k t s s' l l' out (Err (ReadFault j)) old new does =
 checks-moved R bytes faults k t s s' l l' out (Err WriteFault) old new does = rw (old, new) does
 checks-moved R bytes faults k t s s' l l' out (Err NoMemory) old new does = rw (old, new) does
 checks-moved R bytes faults k t s s' l l' out (Err NotUnderstood) old new does = does
+checks-moved R bytes faults k t s s' l l' out (Err (Mismatched x y)) old new does = does
 
 module _ {S K : Type 0} (bytes : S → Option (List ℕ)) (faults : S → ℕ) (k : ℕ) (t : Task) (s s' : S) (l : List S) (out : Change K) (outcome : Outcome) (within : k < length l) (is : s ≡ get_or l k s) where
   there : slice_get (slice_set l k s') k ≡ Some s'

@@ -1,26 +1,26 @@
--- A merge ends once.
-use Rattle.std.proofs.Common.{◌≡◌, ℕ, zero, suc, ◌+◌, ◌<◌, ◌≤◌, ◌⊎◌, List, [], ◌∷◌, ◌∙◌, Option, Some, None, Result, Ok, Err, length, map, slice_get, inl, inr, sym, ap, refl, subst, arith}
+-- A command over several sources ends once, and so does a merge.
+use Rattle.std.proofs.Common.{◌≡◌, ℕ, ◌<◌, ◌⊎◌, List, [], ◌∷◌, ◌∙◌, Option, Some, None, Ok, Err, length, map, slice_get, inl, inr, sym, ap, refl, subst, arith}
 use Rattle.std.specs.Prelude.{option_map, reverse}
 use Rattle.std.proofs.lemmas.Bool.{cases_lt}
 use Rattle.std.proofs.lemmas.List.{length-reverse}
 use Rattle.std.proofs.lemmas.Option.{slice_get_within, slice_get-map, same_Some}
 use Rattle.vx_bits.specs.declared.refusal.Refusal.{Refusal}
-use Rattle.vx_bits.specs.declared.refusal.Refusal.TheVariants.{Merge}
-use Rattle.vx_bits.specs.declared.rules.TheConstants.{LENGTH}
 use Rattle.vx_pic.specs.Readings.{Picture}
 use Rattle.vx_pic.specs.Bytes.{Ending}
 use Rattle.vx_pic.specs.Parts.{Parts, parts_of}
 use Rattle.vx_pic.specs.Written.{Plan}
-use Rattle.vx_report.specs.declared.refusal.Where.{Where}
-use Rattle.vx_fit.specs.Lowest.{IsLowest}
 use Rattle.vx_merge.specs.declared.corner.Corner.{Corner}
-use Rattle.vx_merge.specs.Merging.{Passes, IsBarred, IsTooLong}
+use Rattle.vx_merge.specs.Merging.{Passes, IsBarred}
 use Rattle.vx_merge.specs.Rules.{rules_of}
 use Rattle.vx_merge.specs.Verdict.{IsVerdict}
 use Rattle.vx_merge.specs.Written.{IsMerged, MergedIsOne, limits_of}
 use Rattle.vx_merge.proofs.Verdicts.{verdict_one}
+use Rattle.vx_run.specs.declared.stop.Stop.{Stop}
+use Rattle.vx_run.specs.declared.stop.Stop.TheVariants.{Refused}
+use Rattle.vx_run.specs.Conclusion.{Outcome}
+use Rattle.vx_run.specs.Rounds.{Stream, picture_in, GoesOn, HasEnded, IsRefused, OfStream, IsRound, NoneRefused, Telling, StopsIn, by_stream, by_length, by_round, EndsIn, in_round, AllEnded}
+use Rattle.vx_run.specs.Merge.{AreWritten, merge_telling, EndsWritten, EndsOnce}
 use Rattle.vx_run.proofs.Indexed.{some_at}
-use Rattle.vx_run.specs.Merge.{Stream, picture_in, GoesOn, HasEnded, IsRefused, OfStream, OfFirst, IsRound, AreWritten, NoneRefused, behind_units, in_round, Refuses, by_source, by_length, by_round, AllEnded, Stops, EndsWritten, EndsOnce}
 
 -- ---- lists
 
@@ -73,7 +73,74 @@ round_there ss n round k s is at =
         let m = mapped (picture_in n s) q (sym same ∙ sym it) in
         omega (arith, slice_get_within (reverse s.pictures) n m.0 m.1, length-reverse s.pictures)
 
--- ---- plans
+-- the same round of streams
+pub same_round : (ss : List Stream) (n m : ℕ) (round other : List Parts) → n ≡ m → IsRound ss n round → IsRound ss m other → round ≡ other
+same_round ss n m round other same is are = some_once round other (sym is ∙ subst (λ (i : ℕ). IsRound ss i other) (sym same) are)
+
+-- ---- whatever is told
+
+module _ (t : Telling) (ss : List Stream) (some : 0 < length ss) where
+  -- where a round is whole and nothing is told of it, it doesn't end there
+  stops_there : (n : ℕ) (round : List Parts) → IsRound ss n round → ((stop : Stop) → t.of_round n round stop → ⊥) → (stop : Stop) → StopsIn t ss n stop → ⊥
+  stops_there n round is passes stop (by_stream k e of none told) = goes_or_refused n e of.0 (round_there ss n round k of.0 is of.1) of.2
+  stops_there n round is passes stop (by_length k none lowest goes told) = goes_or_ends n lowest.breaks.0 (round_there ss n round k lowest.breaks.0 is lowest.breaks.1) lowest.breaks.2
+  stops_there n round is passes stop (by_round other are told) = passes stop (subst (λ (l : List Parts). t.of_round n l stop) (same_round ss n n other round refl are is) told)
+
+  pub ends_there : (n : ℕ) (round : List Parts) → IsRound ss n round → ((stop : Stop) → t.of_round n round stop → ⊥) → (a : Outcome) → EndsIn t ss n a → ⊥
+  ends_there n round is passes (Ok _) all = let s = some_at ss 0 some in goes_or_ends n s.0 (round_there ss n round 0 s.0 is s.1) (all 0 s.0 some s.1)
+  ends_there n round is passes (Err stop) stops = stops_there n round is passes stop stops
+
+  -- where all have ended nothing is told
+  done_or_stopped : (n : ℕ) (stop : Stop) → AllEnded ss n → StopsIn t ss n stop → ⊥
+  done_or_stopped n stop all (by_stream k e of none told) = ends_or_refused n e of.0 (all k of.0 (slice_get_within ss k of.0 of.1) of.1) of.2
+  done_or_stopped n stop all (by_length k none lowest goes told) =
+      let other = goes.1 in
+      goes_or_ends n other.0 other.2 (all goes.0 other.0 (slice_get_within ss goes.0 other.0 other.1) other.1)
+  done_or_stopped n stop all (by_round round is told) = let s = some_at ss 0 some in goes_or_ends n s.0 (round_there ss n round 0 s.0 is s.1) (all 0 s.0 some s.1)
+
+  -- the first stream that is refused is one
+  stream_first : (n j k : ℕ) (e : Ending) → NoneRefused k ss n → OfStream ss j (IsRefused n e) → j < k → ⊥
+  stream_first n j k e none of before = kept_or_refused n e of.0 (none j of.0 before of.1) of.2
+
+  same_ending : (n j k : ℕ) (e d : Ending) → OfStream ss j (IsRefused n e) → OfStream ss k (IsRefused n d) → j ≡ k → e ≡ d
+  same_ending n j k e d of other same =
+      let s = same_stream ss k of.0 other.0 (subst (λ (i : ℕ). slice_get ss i ≡ Some of.0) same of.1) other.1 in
+      same_Some e d (sym of.2.1 ∙ ap (λ (s_ : Stream). s_.ending) s ∙ other.2.1)
+
+  -- where one thing is told of each round, one is told
+  module _ (n : ℕ) (one : (round : List Parts) (a b : Stop) → t.of_round n round a → t.of_round n round b → a ≡ b) where
+    stopped_once : (a b : Stop) → StopsIn t ss n a → StopsIn t ss n b → a ≡ b
+    stopped_once a b (by_stream j e of none is) (by_stream k d other first are) = elim (cases_lt j k) [
+      | inl before ↦ absurd (stream_first n j k e first of before)
+      | inr behind ↦ elim (cases_lt k j) [
+        | inl after ↦ absurd (stream_first n k j d none other after)
+        | inr not_ ↦
+            let same : j ≡ k = omega (arith, behind, not_) in
+            is ∙ ap (λ (i : ℕ). t.of_stream i e) same ∙ ap (λ (x : Ending). t.of_stream k x) (same_ending n j k e d of other same) ∙ sym are
+      ]
+    ]
+    stopped_once a b (by_stream j e of none is) (by_length k first lowest goes are) = absurd (stream_first n j (length ss) e first of (slice_get_within ss j of.0 of.1))
+    stopped_once a b (by_stream j e of none is) (by_round round are told) = absurd (goes_or_refused n e of.0 (round_there ss n round j of.0 are of.1) of.2)
+    stopped_once a b (by_length j none lowest goes is) (by_stream k d other first are) = absurd (stream_first n k (length ss) d none other (slice_get_within ss k other.0 other.1))
+    stopped_once a b (by_length j none lowest goes is) (by_length k first other going are) = elim (cases_lt j k) [
+      | inl before ↦ absurd (other.lower j before lowest.breaks)
+      | inr behind ↦ elim (cases_lt k j) [
+        | inl after ↦ absurd (lowest.lower k after other.breaks)
+        | inr not_ ↦ let same : j ≡ k = omega (arith, behind, not_) in is ∙ ap (λ (i : ℕ). t.of_length n i) same ∙ sym are
+      ]
+    ]
+    stopped_once a b (by_length j none lowest goes is) (by_round round are told) = absurd (goes_or_ends n lowest.breaks.0 (round_there ss n round j lowest.breaks.0 are lowest.breaks.1) lowest.breaks.2)
+    stopped_once a b (by_round round is told) (by_stream k d other first are) = absurd (goes_or_refused n d other.0 (round_there ss n round k other.0 is other.1) other.2)
+    stopped_once a b (by_round round is told) (by_length k first other going are) = absurd (goes_or_ends n other.breaks.0 (round_there ss n round k other.breaks.0 is other.breaks.1) other.breaks.2)
+    stopped_once a b (by_round round is told) (by_round next are tells) = one next a b (subst (λ (l : List Parts). t.of_round n l a) (same_round ss n n round next refl is are) told) tells
+
+    pub ends_alike : (a b : Outcome) → EndsIn t ss n a → EndsIn t ss n b → a ≡ b
+    ends_alike (Ok _) (Ok _) p q = refl
+    ends_alike (Ok _) (Err stop) p q = absurd (done_or_stopped n stop p q)
+    ends_alike (Err stop) (Ok _) p q = absurd (done_or_stopped n stop q p)
+    ends_alike (Err a) (Err b) p q = ap (λ (s : Stop). let o : Outcome = Err s in o) (stopped_once a b p q)
+
+-- ---- merges
 
 module _ (one : MergedIsOne) (corners : List Corner) (level : Option ℕ) where
   -- a round is written in one way
@@ -102,14 +169,14 @@ module _ (one : MergedIsOne) (corners : List Corner) (level : Option ℕ) where
       let same = same_plan round done long.plan longer.plan long.is longer.is in
       same_Some r t (verdict_one (length corners) (limits_of done longer.plan) (Some r) (Some t) (subst (λ (x : Plan). IsVerdict (length corners) (limits_of done x) (Some r)) same long.limits) longer.limits)
 
+  -- one thing is told of each round, and nothing of one that is written
+  told_once : (done : List Plan) (n : ℕ) (round : List Parts) (a b : Stop) → (merge_telling corners level done).of_round n round a → (merge_telling corners level done).of_round n round b → a ≡ b
+  told_once done n round a b told tells = told.2 ∙ ap (λ (r : Refusal). Refused r (in_round n)) (barred_once round done told.0 tells.0 told.1 tells.1) ∙ sym tells.2
+
+  told_none : (done : List Plan) (n : ℕ) (round : List Parts) (p : Plan) → Passes corners level round done p → (stop : Stop) → (merge_telling corners level done).of_round n round stop → ⊥
+  told_none done n round p passes stop told = passes_or_barred round done p told.0 passes told.1
+
   module _ (ss : List Stream) (some : 0 < length ss) where
-    abbrev Bars : List Plan → List Parts → Refusal → Type 0
-    Bars done round r = IsBarred corners level round done r
-
-    -- the same round of streams
-    same_round : (n m : ℕ) (round other : List Parts) → n ≡ m → IsRound ss n round → IsRound ss m other → round ≡ other
-    same_round n m round other same is are = some_once round other (sym is ∙ subst (λ (i : ℕ). IsRound ss i other) (sym same) are)
-
     -- as many rounds are written in one way
     plans_once : (done other : List Plan) → length done ≡ length other → AreWritten corners level ss done → AreWritten corners level ss other → done ≡ other
     plans_once [] [] same is are = refl
@@ -118,7 +185,7 @@ module _ (one : MergedIsOne) (corners : List Corner) (level : Option ℕ) where
     plans_once (p ∷ done) (q ∷ other) same is are =
         let many : length done ≡ length other = omega (arith, same) in
         let rest = plans_once done other many is.1 are.1 in
-        let round = same_round (length done) (length other) is.0.0 are.0.0 many is.0.1 are.0.1 in
+        let round = same_round ss (length done) (length other) is.0.0 are.0.0 many is.0.1 are.0.1 in
         let moved = subst (λ (l : List Plan). IsMerged corners level are.0.0 l p) rest (subst (λ (l : List Parts). IsMerged corners level l done p) round is.0.2.is) in
         ap (λ (x : Plan). x ∷ done) (same_plan are.0.0 other p q moved are.0.2.is) ∙ ap (λ (l : List Plan). q ∷ l) rest
 
@@ -130,98 +197,22 @@ module _ (one : MergedIsOne) (corners : List Corner) (level : Option ℕ) where
       | inr not_ ↦ (p, done, omega (arith, before, not_), are)
     ]
 
-    -- what ends it behind rounds comes before any later round
-    round_goes : (p : Plan) (done : List Plan) (k : ℕ) (s : Stream) → AreWritten corners level ss (p ∷ done) → slice_get ss k ≡ Some s → GoesOn (length done) s
-    round_goes p done k s are at = round_there ss (length done) are.0.0 k s are.0.1 at
-
-    refused_before : (p : Plan) (done : List Plan) (r : Refusal) (place : Where) → Refuses (Bars done) ss (length done) r place → AreWritten corners level ss (p ∷ done) → ⊥
-    refused_before p done r place (by_source k e of none is at) are = goes_or_refused (length done) e of.0 (round_goes p done k of.0 are of.1) of.2
-    refused_before p done r place (by_length k none lowest goes is at) are =
-        goes_or_ends (length done) lowest.breaks.0 (round_goes p done k lowest.breaks.0 are lowest.breaks.1) lowest.breaks.2
-    refused_before p done r place (by_round round is barred at) are =
-        let same = same_round (length done) (length done) round are.0.0 refl is are.0.1 in
-        passes_or_barred are.0.0 done p r are.0.2 (subst (λ (l : List Parts). IsBarred corners level l done r) same barred)
-
-    stops_before : (p : Plan) (done : List Plan) (a : Result (Unit {0}) (Refusal × Where)) → Stops (Bars done) ss (length done) a → AreWritten corners level ss (p ∷ done) → ⊥
-    stops_before p done (Ok _) stops are =
-        let s = some_at ss 0 some in
-        goes_or_ends (length done) s.0 (round_goes p done 0 s.0 are s.1) (stops 0 s.0 some s.1)
-    stops_before p done (Err (r, place)) stops are = refused_before p done r place stops are
-
-    ends_before : (done other : List Plan) (a : Result (Unit {0}) (Refusal × Where)) → EndsWritten corners level ss done a → AreWritten corners level ss other → length done < length other → ⊥
+    ends_before : (done other : List Plan) (a : Outcome) → EndsWritten corners level ss done a → AreWritten corners level ss other → length done < length other → ⊥
     ends_before done other a ends are before =
         let f = first_written (length done) other before are in
         let same = plans_once f.1 done f.2 f.3.1 ends.0 in
-        stops_before f.0 done a ends.1 (subst (λ (l : List Plan). AreWritten corners level ss (f.0 ∷ l)) same f.3)
+        let more = subst (λ (l : List Plan). AreWritten corners level ss (f.0 ∷ l)) same f.3 in
+        ends_there (merge_telling corners level done) ss some (length done) more.0.0 more.0.1 (told_none done (length done) more.0.0 f.0 more.0.2) a ends.1
 
-    -- where all have ended nothing is refused
-    done_or_refused : (done : List Plan) (r : Refusal) (place : Where) → AllEnded ss (length done) → Refuses (Bars done) ss (length done) r place → ⊥
-    done_or_refused done r place all (by_source k e of none is at) = ends_or_refused (length done) e of.0 (all k of.0 (slice_get_within ss k of.0 of.1) of.1) of.2
-    done_or_refused done r place all (by_length k none lowest goes is at) =
-        let other = goes.1 in
-        goes_or_ends (length done) other.0 other.2 (all goes.0 other.0 (slice_get_within ss goes.0 other.0 other.1) other.1)
-    done_or_refused done r place all (by_round round is judged at) =
-        let s = some_at ss 0 some in
-        goes_or_ends (length done) s.0 (round_there ss (length done) round 0 s.0 is s.1) (all 0 s.0 some s.1)
-
-    -- and one thing is, where something is
-    source_first : (n j k : ℕ) (e : Ending) → NoneRefused k ss n → OfStream ss j (IsRefused n e) → j < k → ⊥
-    source_first n j k e none of before = kept_or_refused n e of.0 (none j of.0 before of.1) of.2
-
-    abbrev Told : Type 0
-    Told = Refusal × Where
-
-    same_source : (n j k : ℕ) (e d : Ending) → OfStream ss j (IsRefused n e) → OfStream ss k (IsRefused n d) → j ≡ k → e ≡ d
-    same_source n j k e d of other same =
-        let s = same_stream ss k of.0 other.0 (subst (λ (i : ℕ). slice_get ss i ≡ Some of.0) same of.1) other.1 in
-        same_Some e d (sym of.2.1 ∙ ap (λ (t : Stream). t.ending) s ∙ other.2.1)
-
-    same_told : (j k : ℕ) (e d : Ending) (r t : Refusal) (place at : Where) → j ≡ k → e ≡ d → r ≡ e.refusal → t ≡ d.refusal → place ≡ behind_units j e.units → at ≡ behind_units k d.units
-        → (let x : Told = (r, place) in x) ≡ (t, at)
-    same_told j k e d r t place at is are p q u v = cc
-
-    refused_once : (done : List Plan) (r t : Refusal) (place at : Where) → Refuses (Bars done) ss (length done) r place → Refuses (Bars done) ss (length done) t at → (let x : Told = (r, place) in x) ≡ (t, at)
-    refused_once done r t place at (by_source j e of none is here) (by_source k d other first are there) = elim (cases_lt j k) [
-      | inl before ↦ absurd (source_first (length done) j k e first of before)
-      | inr behind ↦ elim (cases_lt k j) [
-        | inl after ↦ absurd (source_first (length done) k j d none other after)
-        | inr not_ ↦
-            let same : j ≡ k = omega (arith, behind, not_) in
-            same_told j k e d r t place at same (same_source (length done) j k e d of other same) is are here there
-      ]
-    ]
-    refused_once done r t place at (by_source j e of none is here) (by_length k first lowest goes are there) = absurd (source_first (length done) j (length ss) e first of (slice_get_within ss j of.0 of.1))
-    refused_once done r t place at (by_source j e of none is here) (by_round round are judged there) = absurd (goes_or_refused (length done) e of.0 (round_there ss (length done) round j of.0 are of.1) of.2)
-    refused_once done r t place at (by_length j none lowest goes is here) (by_source k d other first are there) = absurd (source_first (length done) k (length ss) d none other (slice_get_within ss k other.0 other.1))
-    refused_once done r t place at (by_length j none lowest goes is here) (by_length k first other going are there) = elim (cases_lt j k) [
-      | inl before ↦ absurd (other.lower j before lowest.breaks)
-      | inr behind ↦ elim (cases_lt k j) [
-        | inl after ↦ absurd (lowest.lower k after other.breaks)
-        | inr not_ ↦ let same : j ≡ k = omega (arith, behind, not_) in cc
-      ]
-    ]
-    refused_once done r t place at (by_length j none lowest goes is here) (by_round round are judged there) = absurd (goes_or_ends (length done) lowest.breaks.0 (round_there ss (length done) round j lowest.breaks.0 are lowest.breaks.1) lowest.breaks.2)
-    refused_once done r t place at (by_round round is judged here) (by_source k d other first are there) = absurd (goes_or_refused (length done) d other.0 (round_there ss (length done) round k other.0 is other.1) other.2)
-    refused_once done r t place at (by_round round is judged here) (by_length k first other going are there) = absurd (goes_or_ends (length done) other.breaks.0 (round_there ss (length done) round k other.breaks.0 is other.breaks.1) other.breaks.2)
-    refused_once done r t place at (by_round round is judged here) (by_round next are judges there) =
-        let same = same_round (length done) (length done) round next refl is are in
-        let one_ = barred_once next done r t (subst (λ (l : List Parts). IsBarred corners level l done r) same judged) judges in
-        cc
-
-    stops_alike : (done : List Plan) (a b : Result (Unit {0}) Told) → Stops (Bars done) ss (length done) a → Stops (Bars done) ss (length done) b → a ≡ b
-    stops_alike done (Ok _) (Ok _) p q = refl
-    stops_alike done (Ok _) (Err (r, place)) p q = absurd (done_or_refused done r place p q)
-    stops_alike done (Err (r, place)) (Ok _) p q = absurd (done_or_refused done r place q p)
-    stops_alike done (Err (r, place)) (Err (t, at)) p q = ap (λ (x : Told). let y : Result (Unit {0}) Told = Err x in y) (refused_once done r t place at p q)
-
-    ends_at_one : (done other : List Plan) (a b : Result (Unit {0}) Told) → EndsWritten corners level ss done a → EndsWritten corners level ss other b → (done ≡ other) × (a ≡ b)
+    ends_at_one : (done other : List Plan) (a b : Outcome) → EndsWritten corners level ss done a → EndsWritten corners level ss other b → (done ≡ other) × (a ≡ b)
     ends_at_one done other a b p q = elim (cases_lt (length done) (length other)) [
       | inl before ↦ absurd (ends_before done other a p q.0 before)
       | inr behind ↦ elim (cases_lt (length other) (length done)) [
         | inl after ↦ absurd (ends_before other done b q p.0 after)
         | inr not_ ↦
             let same = plans_once done other (omega (arith, behind, not_)) p.0 q.0 in
-            (same, stops_alike other a b (subst (λ (l : List Plan). Stops (Bars l) ss (length l) a) same p.1) q.1)
+            let moved = subst (λ (l : List Plan). EndsIn (merge_telling corners level l) ss (length l) a) same p.1 in
+            (same, ends_alike (merge_telling corners level other) ss some (length other) (told_once other (length other)) a b moved q.1)
       ]
     ]
 

@@ -1,10 +1,10 @@
 -- What is performed of the words, by the command that they ask for.
-use Rattle.std.proofs.Common.{◌≡◌, ℕ, ◌<◌, List, [], ◌∷◌, Option, length, map, get_or, slice_set, arith, refl, ap, None}
+use Rattle.std.proofs.Common.{◌≡◌, ℕ, ◌+◌, ◌<◌, List, [], ◌∷◌, Option, length, map, get_or, slice_set, arith, refl, ap, None}
 use Rattle.std.specs.Prelude.{String, string_bytes}
 use Rattle.std.proofs.lemmas.List.{length-map}
 use Rattle.vx_run.specs.Change.{Change, Sources, change, sources_change}
 use Rattle.vx_run.specs.Conclusion.{Outcome}
-use Rattle.vx_run.specs.Grammar.{Command, Placing, show, extract, check_extract, check_merge, files_of, AskFor, NamesFiles, texts}
+use Rattle.vx_run.specs.Grammar.{Command, Placing, show, extract, check_extract, check_merge, verify, files_of, AskFor, NamesFiles, texts}
 use Rattle.vx_run.specs.inner.Placings.{placing_in}
 use Rattle.vx_run.specs.Extract.{task_of, Extracts, Checks}
 use Rattle.vx_run.specs.Run.{Does, Performs}
@@ -60,7 +60,20 @@ merge_count {A = A} words n command placings files names asks some =
       omega (arith, count, ap (λ (l : List (List ℕ)). length l) files, length-map (map placing_in (texts placings)) (λ (p : Placing). p.file), length-map (texts placings) placing_in, length-map placings (string_bytes {Z = A})),
     )
 
--- and no others
+-- and a finished stream more, of a verification
+pub verify_files_count : (words : List (List ℕ)) (n : ℕ) (finished : List ℕ) (placings : List Placing) → NamesFiles words n → AskFor words (verify finished placings) → n ≡ length placings + 1
+verify_files_count words n finished placings names asks = omega (arith, names.command (verify finished placings) asks, length-map placings (λ (p : Placing). p.file))
+
+pub verify_count : {A : Type 0} (words : List (List ℕ)) (n : ℕ) (finished : List ℕ) (placings : List (String A)) → NamesFiles words n → AskFor words (verify finished (map placing_in (texts placings))) → n ≡ length placings + 1
+verify_count {A = A} words n finished placings names asks =
+    omega (arith, verify_files_count words n finished (map placing_in (texts placings)) names asks, length-map (texts placings) placing_in, length-map placings (string_bytes {Z = A}))
+
+pub names_verified : {A : Type 0} (words : List (List ℕ)) (finished : List ℕ) (placings : List (String A)) → AskFor words (verify finished (map placing_in (texts placings))) → NamesFiles words (length placings + 1)
+names_verified {A = A} words finished placings asks =
+    let count : length placings + 1 ≡ length (files_of (verify finished (map placing_in (texts placings)))) = omega (arith, length-map (map placing_in (texts placings)) (λ (p : Placing). p.file), length-map (texts placings) placing_in, length-map placings (string_bytes {Z = A})) in
+    record { command = λ other asked. rw (spelled_once words other (verify finished (map placing_in (texts placings))) asked asks) count; other = λ none. absurd (none (verify finished (map placing_in (texts placings)), asks)) }
+
+-- of a merge no others
 pub names_placed : {A : Type 0} (words : List (List ℕ)) (command : Command) (placings : List (String A)) → files_of command ≡ map (λ p. p.file) (map placing_in (texts placings)) → AskFor words command → NamesFiles words (length placings)
 names_placed {A = A} words command placings files asks =
     let count : length placings ≡ length (files_of command) = omega (arith, ap (λ (l : List (List ℕ)). length l) files, length-map (map placing_in (texts placings)) (λ (p : Placing). p.file), length-map (texts placings) placing_in, length-map placings (string_bytes {Z = A})) in

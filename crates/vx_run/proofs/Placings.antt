@@ -13,7 +13,7 @@ use Rattle.std.proofs.lemmas.Str.Pattern.{IsSplitOnceResult, split_after, split_
 use Rattle.std.proofs.lemmas.Option.{MatchOption-at_some, MatchOption-at_none, same_Some}
 use Rattle.std.proofs.lemmas.Fmt.{decimal_is_IsNumeral}
 use Rattle.std.proofs.lemmas.List.Sums.{position_or_len_is}
-use Rattle.vx_run.specs.Grammar.{Placing, placing_word, IsPlacing, check_merge, AskFor, texts}
+use Rattle.vx_run.specs.Grammar.{Placing, placing_word, IsPlacing, check_merge, verify, AskFor, texts}
 use Rattle.vx_run.specs.inner.Placings.{is_comma, is_equals, placing_in, Spells, IsPlacingWord, PlaceFiles}
 
 -- ---- the first byte of a kind
@@ -184,6 +184,31 @@ pub merge_words : (words : List (List ℕ)) (ps : List Placing) → AskFor (code
 merge_words words ps asks =
     let same : words ≡ map placing_word ps = ap (λ (l : List (List ℕ)). drop 2 l) asks.spelled in
     subst PlaceFiles (sym same) (placings_are ps asks.named.0 asks.named.1)
+
+-- words that begin with `verify`, `merge` and a file ask whether that is those put together that the others place
+pub asks_to_verify : (words rest : List (List ℕ)) (finished : List ℕ) → words ≡ codes "merge" ∷ finished ∷ rest → (finished ≡ [] → ⊥) → PlaceFiles rest → AskFor (codes "verify" ∷ words) (verify finished (map placing_in rest))
+asks_to_verify words rest finished is some place =
+    let read = words_read rest place.1 in
+    record {
+      spelled = ap (λ (l : List (List ℕ)). codes "verify" ∷ l) (is ∙ ap (λ (l : List (List ℕ)). codes "merge" ∷ finished ∷ l) read.0);
+      named = (some, some_placings rest place.0, read.1);
+    }
+
+-- and only then
+module _ (words : List (List ℕ)) (finished : List ℕ) (ps : List Placing) (asks : AskFor (codes "verify" ∷ words) (verify finished ps)) where
+  pub verify_words : words ≡ codes "merge" ∷ finished ∷ map placing_word ps
+  verify_words = ap (λ (l : List (List ℕ)). drop 1 l) asks.spelled
+
+  pub verify_not_merge : ((rest : List (List ℕ)) → words ≡ codes "merge" ∷ rest → ⊥) → ⊥
+  verify_not_merge none = none (finished ∷ map placing_word ps) verify_words
+
+  pub verify_not_file : (rest : List (List ℕ)) → words ≡ codes "merge" ∷ rest → ((file : List ℕ) (after : List (List ℕ)) → rest ≡ file ∷ after → file ≡ []) → ⊥
+  verify_not_file rest is none = asks.named.0 (none finished (map placing_word ps) (ap (λ (l : List (List ℕ)). drop 1 l) (sym is ∙ verify_words)))
+
+  pub verify_not_placed : (rest : List (List ℕ)) (file : List ℕ) → words ≡ codes "merge" ∷ file ∷ rest → (PlaceFiles rest → ⊥) → ⊥
+  verify_not_placed rest file is none =
+      let same : rest ≡ map placing_word ps = ap (λ (l : List (List ℕ)). drop 2 l) (sym is ∙ verify_words) in
+      none (subst PlaceFiles (sym same) (placings_are ps asks.named.1 asks.named.2))
 
 -- ---- word by word
 

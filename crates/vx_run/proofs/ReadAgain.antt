@@ -1,5 +1,5 @@
 -- What `extract` writes of pictures that break no rule is read again.
-use Rattle.std.proofs.Common.{◌≡◌, ℕ, ◌<◌, ◌≤◌, nat_le, nat_lt, not, Option, Some, None, option_map, Bool, true, false, cond, List, [], ◌∷◌, length, map, take, All, inl, inr, refl, sym, ◌∙◌, ap, subst}
+use Rattle.std.proofs.Common.{◌≡◌, ℕ, ◌<◌, ◌≤◌, nat_le, nat_lt, not, Option, Some, None, option_map, Bool, true, false, cond, List, [], ◌∷◌, length, map, take, All, inl, inr, refl, sym, ap, subst}
 use Rattle.std.specs.List.{AllByRecursion}
 use Rattle.std.proofs.lemmas.Bool.{cases_Bool, le-leb}
 use Rattle.std.proofs.lemmas.List.Elements.{All-map, All-nil, All-weaker}

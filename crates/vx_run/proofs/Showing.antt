@@ -1,12 +1,12 @@
 -- What was shown of a source, from read to read, and what that comes to when `show` ends.
-use Rattle.std.proofs.Common.{◌≡◌, ℕ, ◌+◌, ◌-◌, ◌^◌, ◌<◌, ◌≤◌, List, [], ◌∷◌, ◌++◌, ◌∙◌, Option, Some, None, Result, Ok, Err, Bool, true, false, length, take, inl, inr, sym, ap, refl, subst, arith, length-append, append_assoc}
+use Rattle.std.proofs.Common.{◌≡◌, ℕ, ◌+◌, ◌^◌, ◌<◌, ◌≤◌, List, [], ◌∷◌, ◌++◌, ◌∙◌, Option, Some, None, Ok, Err, Bool, true, false, length, take, inl, inr, sym, ap, refl, subst, arith, append_assoc}
 use Rattle.std.proofs.Math.Seq.{take_all, take-append_seam}
-use Rattle.std.specs.Io.KnownBytes.{Consumes, IsAtEnd, Keeps}
+use Rattle.std.specs.Io.KnownBytes.{Consumes, IsAtEnd}
 use Rattle.std.proofs.KnownBytes.{Consumes-nil, Consumes-trans, Consumes-kept}
 use Rattle.vx_bits.specs.declared.refusal.Refusal.{Refusal}
 use Rattle.vx_bits.specs.declared.refusal.Refusal.TheVariants.{Limit}
-use Rattle.vx_annexb.specs.ByteStream.{source_limit, UnitPlace, IsUnit, IsStream, FollowsFrom, end_of}
-use Rattle.vx_annexb.specs.Held.{Held, is_all, fed, IsSought}
+use Rattle.vx_annexb.specs.ByteStream.{source_limit, UnitPlace, IsStream, FollowsFrom, end_of}
+use Rattle.vx_annexb.specs.Held.{is_all, fed, IsSought}
 use Rattle.vx_annexb.specs.Reading.{Reading as ReaderState, HasRead, ClosesAt}
 use Rattle.vx_annexb.specs.declared.unit_reader.Closed.{Closed}
 use Rattle.vx_annexb.specs.declared.unit_reader.Closed.TheVariants.{End, TooLong, Failed}
@@ -19,12 +19,11 @@ use Rattle.vx_pic.specs.Bytes.{Ending, units_at}
 use Rattle.vx_assemble.specs.declared.feed.Taken.TheVariants.{End as Ended}
 use Rattle.vx_assemble.specs.Feed.{Feeding, HasFed, IsOpen, Gives, IsRefusedFor, by_bytes, by_unit, at_end, ReadsOn as Reads}
 use Rattle.vx_run.specs.declared.stop.Stop.{Stop}
-use Rattle.vx_run.specs.declared.stop.Stop.TheVariants.{NotUnderstood, Refused, ReadFault, WriteFault, NoMemory}
+use Rattle.vx_run.specs.declared.stop.Stop.TheVariants.{NotUnderstood, Mismatched, Refused, ReadFault, WriteFault, NoMemory}
 use Rattle.vx_run.specs.Change.{Change, change, HasNoFault, Gains, GainsFront}
 use Rattle.vx_run.specs.Show.{seen_of, shown_lines, lines_behind, read_len, behind_unit, IsShown, IsToldAt, ShowsBy, ShowsFront}
 use Rattle.vx_run.specs.inner.Showing.{EndsBy, SeesNone, ReadsOn, WritesLines, EndsGathering, ShowsLater, HasShown, HasReached, left_to_read}
 use Rattle.vx_run.proofs.Gained.{Gains-nothing, Gains-then, GainsFront-then, GainsFront-append}
-use Rattle.vx_run.proofs.Gathering.{later_read}
 use Rattle.vx_run.proofs.Lined.{lines_more}
 use Rattle.vx_run.proofs.Told.{IsGiven, IsOf, near, last_beyond, follows_behind, shown_lines_on, lines_of_given, units_of_given, first_of_given, refused_at, ends_by_framing, ends_by_length, ends_lacking, ends_whole, ends_by_unit}
 
@@ -291,6 +290,7 @@ module _ {A K : Type 0} (left : A → Option (List ℕ)) (reads : A → ℕ) (ta
   pub Shows-read : (s s' s'' : A) (o o' : K) (f f' : Feeding) (n : ℕ) (stop : Stop) → HasShown R (Source s s') (Out o o') f n → IsOpen f
       → ((g : List ℕ) (units : List UnitPlace) (before : List Reading) → HasFed R f g units before → ReadsOn R g units before f' (Source s' s'') (Err stop)) → ShowsBy R (Source s s'') (Out o o') (Err stop)
   Shows-read s s' s'' o o' f f' n NotUnderstood shown going read = read shown.given shown.units shown.before shown.none.fed
+  Shows-read s s' s'' o o' f f' n (Mismatched x y) shown going read = read shown.given shown.units shown.before shown.none.fed
   Shows-read s s' s'' o o' f f' n (Refused refusal place) shown going read = absurd (read shown.given shown.units shown.before shown.none.fed)
   Shows-read s s' s'' o o' f f' n (ReadFault k) shown going read =
       rw (read shown.given shown.units shown.before shown.none.fed).0 (Shows-unread s s' s'' o o' f f' n shown going (λ g units before is. (read g units before is).1))
@@ -307,6 +307,7 @@ module _ {A K : Type 0} (left : A → Option (List ℕ)) (reads : A → ℕ) (ta
       → WritesLines R f' reached.given (reached.units ++ later) after (lines_behind R (seen_of reached.given) reached.before later) (Out o' o'') (Err stop)
       → ShowsBy R (Source s s') (Out o o'') (Err stop)
   stopped_by s s' o o' o'' f f' n NotUnderstood reached same all later after follow readings wrote = wrote.1
+  stopped_by s s' o o' o'' f f' n (Mismatched x y) reached same all later after follow readings wrote = wrote.1
   stopped_by s s' o o' o'' f f' n (Refused refusal place) reached same all later after follow readings wrote =
       let g = reached.given in
       let us = reached.units ++ later in

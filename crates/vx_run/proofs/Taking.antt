@@ -1,17 +1,17 @@
 -- Pictures of a source that are taken one by one, and all the pictures of the bytes that it tells.
-use Rattle.std.proofs.Common.{◌≡◌, ℕ, ◌+◌, ◌<◌, ◌≤◌, List, [], ◌∷◌, ◌++◌, ◌∙◌, nat_le, Option, Some, None, Result, Ok, Err, Bool, true, false, length, drop, inl, inr, sym, ap, refl, subst, arith, length-append}
+use Rattle.std.proofs.Common.{◌≡◌, ℕ, ◌+◌, ◌<◌, List, [], ◌∷◌, ◌++◌, ◌∙◌, nat_le, Option, Some, None, Result, Ok, Err, Bool, true, false, length, drop, inl, inr, sym, ap, refl, subst, arith, length-append}
 use Rattle.std.specs.Io.KnownBytes.{Consumes, IsAtEnd}
 use Rattle.std.proofs.KnownBytes.{Consumes-nil, Consumes-trans}
 use Rattle.vx_bits.specs.declared.refusal.Refusal.{Refusal}
 use Rattle.vx_io.specs.Faults.{Rose}
 use Rattle.vx_annexb.specs.ByteStream.{source_limit, UnitPlace, IsStream, FollowsFrom}
 use Rattle.vx_annexb.specs.Held.{is_all}
-use Rattle.vx_annexb.specs.Reading.{Reading as ReaderState, HasRead, LastWasNeeded}
+use Rattle.vx_annexb.specs.Reading.{Reading as ReaderState, LastWasNeeded}
 use Rattle.vx_annexb.specs.declared.unit_reader.Closed.TheVariants.{End, TooLong}
 use Rattle.vx_pic.specs.declared.accepted.Accepted.TheVariants as accepted
 use Rattle.vx_pic.specs.Readings.{Begun, Slice, Reading, Picture, pictures}
 use Rattle.vx_pic.specs.Rules.{Readers}
-use Rattle.vx_pic.specs.Streams.{Outcome, read_on, all_read, stopped, pictures_of}
+use Rattle.vx_pic.specs.Streams.{Outcome, read_on, all_read, pictures_of}
 use Rattle.vx_pic.specs.Bytes.{Ending, units_at, ArePictures, AreSourcePictures, AreSeenPictures}
 use Rattle.vx_pic.specs.H266.{AreOfH266}
 use Rattle.vx_pic.specs.Finished.{IsSound, AreFinished}

@@ -1,5 +1,5 @@
 -- What a source has given, and the units of all the bytes that it tells.
-use Rattle.std.proofs.Common.{◌≡◌, ℕ, ◌+◌, ◌-◌, ◌<◌, ◌≤◌, List, [], ◌∷◌, ◌++◌, ◌∙◌, Option, Some, None, Result, Err, Bool, true, false, length, take, drop, option_map, sym, ap, ap₂, refl, subst, arith, length-append, append-nil, append_assoc, ⊎_elim}
+use Rattle.std.proofs.Common.{◌≡◌, ℕ, ◌+◌, ◌-◌, ◌<◌, ◌≤◌, List, [], ◌∷◌, ◌++◌, ◌∙◌, Option, Some, None, Err, Bool, true, false, length, take, drop, option_map, sym, ap, ap₂, refl, subst, arith, length-append, append-nil, append_assoc, ⊎_elim}
 use Rattle.std.proofs.lemmas.Bool.{cases_lt, le-leb, lt-leb}
 use Rattle.std.proofs.lemmas.List.{take-append-le}
 use Rattle.std.proofs.Math.Seq.{take-append-add, take_all, drop-append_seam}
@@ -13,7 +13,7 @@ use Rattle.vx_bits.specs.declared.refusal.Refusal.TheVariants.{Limit}
 use Rattle.vx_bits.specs.declared.rules.TheConstants.{LONG_SOURCE}
 use Rattle.vx_pic.specs.Readings.{Reading}
 use Rattle.vx_pic.specs.Rules.{Readers, reads}
-use Rattle.vx_pic.specs.Streams.{Outcome, read_on, all_read, stopped, one_more, lacks_slice}
+use Rattle.vx_pic.specs.Streams.{read_on, all_read, stopped, one_more, lacks_slice}
 use Rattle.vx_pic.specs.Bytes.{Ending, units_at, ending_by}
 use Rattle.vx_run.specs.Show.{read_len, shown_by, seen_of, is_within, shown_lines, lines_behind, IsShown}
 use Rattle.vx_run.proofs.Lined.{read_behind, all_length, units_more, lines_more, lines_none, unit_within, units_on, lines_on}

@@ -1,10 +1,10 @@
 -- What rounds that are checked or written come to.
-use Rattle.std.proofs.Common.{◌≡◌, ℕ, ◌+◌, ◌<◌, ◌≤◌, List, [], ◌∷◌, ◌++◌, ◌∙◌, Option, Some, None, Result, Ok, Err, ◌⊎◌, length, map, inl, inr, sym, ap, refl, subst, arith}
+use Rattle.std.proofs.Common.{◌≡◌, ℕ, ◌+◌, List, [], ◌∷◌, ◌∙◌, Option, None, Result, Ok, Err, ◌⊎◌, length, map, inl, inr, sym, ap, refl, subst, arith}
 use Rattle.std.specs.Io.KnownBytes.{Appends}
-use Rattle.std.proofs.KnownBytes.{Appends-trans, Consumes-nil}
+use Rattle.std.proofs.KnownBytes.{Appends-trans}
 use Rattle.vx_io.specs.Faults.{Rose}
 use Rattle.vx_io.specs.Written.{AppendsFront}
-use Rattle.vx_io.specs.Listed.{bytes_at, faults_at}
+use Rattle.vx_io.specs.Listed.{bytes_at}
 use Rattle.vx_bits.specs.declared.refusal.Refusal.{Refusal}
 use Rattle.vx_annexb.specs.Laws.{written}
 use Rattle.vx_pic.specs.Readings.{Picture}
@@ -21,16 +21,19 @@ use Rattle.vx_merge.specs.Merging.{Merging, SameTask, Stands, Passes, IsBarred}
 use Rattle.vx_run.specs.declared.merge.Work.{Work}
 use Rattle.vx_run.specs.declared.merge.Work.TheVariants.{Check, Write}
 use Rattle.vx_run.specs.declared.stop.Stop.{Stop}
-use Rattle.vx_run.specs.declared.stop.Stop.TheVariants.{NotUnderstood, Refused, ReadFault, WriteFault, NoMemory}
+use Rattle.vx_run.specs.declared.stop.Stop.TheVariants.{NotUnderstood, Mismatched, Refused, ReadFault, WriteFault, NoMemory}
 use Rattle.vx_run.specs.Change.{Change, Sources, change, sources_change, Gains, GainsFront}
 use Rattle.vx_run.specs.Conclusion.{Outcome}
 use Rattle.vx_run.specs.Extract.{ok_text}
-use Rattle.vx_run.specs.Merge.{Stream, AllEnded, AreWritten, bytes_of, in_round, by_source, by_length, by_round, Refuses, AreTold, OfEach, IsRead, at_round, GainsInto, ChecksMergeBy, MergesBy}
-use Rattle.vx_run.specs.inner.Merging.{OfAll, Begin, stop_in, AreWaiting, AllTake, AllEnd, so_far, Leaves, Keeps, TakesRounds, outcome_of, bars_none, HaltsBehind, DoesRound, TakesRound, HasWritten, HasDone}
+use Rattle.vx_run.specs.Rounds.{Stream, AllEnded, StopsIn, by_round, AreTold, OfEach, IsRead, IsReadInRound, at_source, at_round}
+use Rattle.vx_run.specs.Merge.{AreWritten, bytes_of, length_refused, merge_telling, EndsWritten, GainsInto, ChecksMergeBy, MergesBy}
+use Rattle.vx_run.specs.inner.Advancing.{OfAll, Begin, AreWaiting, AllTake, AllEnd, so_far, EndsFirst, HaltsAtSource, HaltsByLength}
+use Rattle.vx_run.specs.inner.Merging.{stop_in, Leaves, Keeps, TakesRounds, outcome_of, DoesRound, TakesRound, HasWritten, HasDone}
 use Rattle.vx_run.proofs.Extracting.{written_more}
 use Rattle.vx_run.proofs.Gained.{Gains-nothing, Gains-then}
-use Rattle.vx_run.proofs.Merging.{HasRound, has_round, more_written}
-use Rattle.vx_run.proofs.Rounds.{begin_told, written_told, all_out, end_begin, all_ended, take_begin, take_read, take_for, round_barred}
+use Rattle.vx_run.proofs.Merging.{more_written, written_told}
+use Rattle.vx_run.proofs.Sources.{HasRound, has_round}
+use Rattle.vx_run.proofs.Advancing.{begin_told, all_out, end_begin, all_ended, take_begin, take_read, take_for, round_told, unread, first_stops, length_stops}
 
 -- ---- bytes that are gained
 
@@ -70,14 +73,9 @@ did_in work round done m out n errors.Memory by = by
 did_in Check round done m out n (errors.Stopped f) by = absurd by.1
 did_in Write round done m out n (errors.Stopped f) by = absurd by
 
--- what the sources refuse is refused whatever bars rounds
-refused_so : (bars : List Parts → Refusal → Type 0) (ss : List Stream) (n : ℕ) (r : Refusal) (place : Where) → Refuses bars_none ss n r place → Refuses bars ss n r place
-refused_so bars ss n r place (by_source k e of none is at) = by_source k e of none is at
-refused_so bars ss n r place (by_length k none lowest goes is at) = by_length k none lowest goes is at
-refused_so bars ss n r place (by_round round is barred at) = absurd barred
-
-refused_at_length : (bars : List Parts → Refusal → Type 0) (ss : List Stream) (n m : ℕ) (r : Refusal) (place : Where) → m ≡ n → Refuses bars ss n r place → Refuses bars ss m r place
-refused_at_length bars ss n m r place same refuses = subst (λ (k : ℕ). Refuses bars ss k r place) (sym same) refuses
+-- what is told behind rounds that are as many as plans
+told_behind : (corners : List Corner) (level : Option ℕ) (ss : List Stream) (done : List Plan) (n : ℕ) (stop : Stop) → length done ≡ n → AreWritten corners level ss done → StopsIn (merge_telling corners level done) ss n stop → EndsWritten corners level ss done (Err stop)
+told_behind corners level ss done n stop same plans stops = (plans, subst (λ (k : ℕ). StopsIn (merge_telling corners level done) ss k stop) (sym same) stops)
 
 -- ---- one round
 
@@ -138,13 +136,9 @@ module _ {A K : Type 0} (bytes : A → Option (List ℕ)) (faults : A → ℕ) (
   nothing Check = refl
   nothing Write = Gains-nothing taken_ writes o o refl
 
-  -- no source was read
-  unread : OfEach (Src first) IsRead
-  unread k within = (refl, ([], Consumes-nil (bytes_at bytes first k)))
-
   -- there was no memory to begin
   pub work_unmade : (work : Work) → Comes work first o (Err NoMemory)
-  work_unmade work = (unread, keeps work (Out o) [] (nothing work), λ ss are. ([], tt, nothing work))
+  work_unmade work = (unread bytes faults R first, keeps work (Out o) [] (nothing work), λ ss are. ([], tt, nothing work))
 
   pub work_none : (work : Work) (feeds : List Feeding) (m : Merging) (taken : List (List Picture)) → AreWaiting R (Src first) feeds taken 0 → Stands m [] → HasDone R work corners level (Src first) (Out o) feeds m 0
   work_none work feeds m taken waiting stands = record { taken = taken; waiting = waiting; done = record { done = []; count = refl; stands = stands; plans = tt; leaves = nothing work } }
@@ -159,25 +153,41 @@ module _ {A K : Type 0} (bytes : A → Option (List ℕ)) (faults : A → ℕ) (
     kept : Keeps work (Out o')
     kept = keeps work (Out o') w.done w.leaves
 
-    -- and it stopped at the sources
-    pub work_halted : (stop : Stop) → HaltsBehind R (Src l) taken n stop → Comes work l o' (Err stop)
-    work_halted (Refused r place) halts = (
+    -- and it stopped at a source,
+    halted : (stop : Stop) → HaltsAtSource R (Src l) taken n stop → Comes work l o' (Err stop)
+    halted (Refused r place) halts = (
       n,
-      halts.0,
+      at_source halts.0,
       kept,
       λ ss are.
           let h = halts.1 ss are in
-          (w.done, w.count, (plans_told ss are h.0, refused_at_length _ ss n (length w.done) r place w.count (refused_so _ ss n r place h.1)), w.leaves),
+          (w.done, w.count, told_behind corners level ss w.done n (Refused r place) w.count (plans_told ss are h.0) (first_stops (merge_telling corners level w.done) (λ k e. refl) ss n (Refused r place) h.1), w.leaves),
     )
-    work_halted (ReadFault k) halts = (
+    halted (ReadFault k) halts = (
       halts.0,
       halts.1,
       kept,
       (n, halts.2, halts.3, λ ss are. let h = halts.4 ss are in (w.done, w.count, plans_told ss are h.0, h.1, w.leaves)),
     )
-    work_halted NoMemory halts = (halts.0, kept, λ ss are. (w.done, plans_told ss are (halts.1 ss are), w.leaves))
-    work_halted NotUnderstood halts = absurd halts
-    work_halted WriteFault halts = absurd halts
+    halted NoMemory halts = (halts.0, kept, λ ss are. (w.done, plans_told ss are (halts.1 ss are), w.leaves))
+    halted NotUnderstood halts = absurd halts
+    halted (Mismatched x y) halts = absurd halts
+    halted WriteFault halts = absurd halts
+
+    -- or for their lengths
+    uneven : (k : ℕ) → OfEach (Src l) (IsReadInRound R n) → ((ss : List Stream) → AreTold R (Src l) ss → Begin ss taken × EndsFirst ss n k) → Comes work l o' (Err (length_refused n k))
+    uneven k read told = (
+      n,
+      at_round refl read,
+      kept,
+      λ ss are.
+          let h = told ss are in
+          (w.done, w.count, told_behind corners level ss w.done n (length_refused n k) w.count (plans_told ss are h.0) (length_stops (merge_telling corners level w.done) ss n k (length_refused n k) refl h.1), w.leaves),
+    )
+
+    pub work_halted : (stop : Stop) → HaltsAtSource R (Src l) taken n stop ⊎ HaltsByLength length_refused R (Src l) taken n stop → Comes work l o' (Err stop)
+    work_halted stop (inl halts) = halted stop halts
+    work_halted stop (inr halts) = subst (λ (s : Stop). Comes work l o' (Err s)) (sym halts.is) (uneven halts.k halts.read halts.told)
 
     -- all have ended
     pub work_done : AllEnd R (Src l) taken n → Comes work l o' (Ok n)
@@ -232,8 +242,8 @@ module _ {A K : Type 0} (bytes : A → Option (List ℕ)) (faults : A → ℕ) (
           at_round takes.1 (λ k within. inl (take_for bytes faults R first l feeds taken n all k within)),
           keeps work (Out o'') w.done did.0,
           λ ss are.
-              let refused = round_barred bytes faults R first l feeds taken n all has (λ q t. IsBarred corners level q w.done t) r place barred takes.1 ss are in
-              (w.done, w.count, (told ss are, refused_at_length _ ss n (length w.done) r place w.count refused), did.0),
+              let stops = by_round round (round_told bytes faults R first l feeds taken n all has ss are) (r, barred, ap (λ (p : Where). Refused r p) takes.1) in
+              (w.done, w.count, told_behind corners level ss w.done n (Refused r place) w.count (told ss are) stops, did.0),
         )
     work_stopped WriteFault turns =
         let did = did_front taken_ writes o o' o'' m' round w.done work w.leaves (turns.takes w.done w.stands) in
@@ -250,6 +260,7 @@ module _ {A K : Type 0} (bytes : A → Option (List ℕ)) (faults : A → ℕ) (
         let left = did_nothing taken_ writes o o' o'' m' round w.done work w.leaves (turns.takes w.done w.stands) in
         (take_read bytes faults R first l feeds taken n all, keeps work (Out o'') w.done left, λ ss are. (w.done, told ss are, left))
     work_stopped NotUnderstood turns = absurd (turns.takes w.done w.stands)
+    work_stopped (Mismatched x y) turns = absurd (turns.takes w.done w.stands)
     work_stopped (ReadFault k) turns = absurd (turns.takes w.done w.stands)
 
     -- or goes on
@@ -279,7 +290,7 @@ takes_same R work corners own level sources out result same takes = subst (λ (l
 -- no source was read
 pub check_unread : {A K : Type 0} (bytes : A → Option (List ℕ)) (faults : A → ℕ) (taken : K → Option (List ℕ)) (writes : K → ℕ) (R : Readers) (first : List A) (o : K) (corners : List Corner)
     → ChecksMergeBy R corners (sources_change bytes faults first first) (change taken writes o o) (Err NoMemory)
-check_unread bytes faults taken writes R first o corners = (unread bytes faults taken writes R first o corners None, refl)
+check_unread bytes faults taken writes R first o corners = (unread bytes faults R first, refl)
 
 module _ {A K : Type 0} (R : Readers) (corners : List Corner) (sources : Sources A) (out : Change K) where
   -- all rounds were written, or not
@@ -290,6 +301,7 @@ module _ {A K : Type 0} (R : Readers) (corners : List Corner) (sources : Sources
   merged level (Err WriteFault) takes = takes.1
   merged level (Err NoMemory) takes = takes
   merged level (Err NotUnderstood) takes = absurd takes
+  merged level (Err (Mismatched x y)) takes = absurd takes
 
   -- nothing was written where a check stopped
   pub check_stopped : (stop : Stop) → TakesRounds R Check corners None sources out (Err stop) → ChecksMergeBy R corners sources out (Err stop)
@@ -299,6 +311,7 @@ module _ {A K : Type 0} (R : Readers) (corners : List Corner) (sources : Sources
       (takes.0, takes.1, takes.2, (seen.0, seen.1, seen.2, λ ss are. let x = seen.3 ss are in (x.0, x.1, x.2, x.3)))
   check_stopped NoMemory takes = (takes.0, takes.1)
   check_stopped NotUnderstood takes = absurd takes
+  check_stopped (Mismatched x y) takes = absurd takes
   check_stopped WriteFault takes = let other = takes.0 in absurd (cc)
 
   module _ (n : ℕ) (takes : TakesRounds R Check corners None sources out (Ok n)) where

@@ -26,6 +26,10 @@ help_text = concat
     ∷ codes "             or else the files' highest, which is mostly too low for all of them\n"
     ∷ codes "  check merge X,Y=FILE ..\n"
     ∷ codes "             whether that can be done, by the rules below, and for how many pictures\n"
+    ∷ codes "  verify merge OUT X,Y=FILE ..\n"
+    ∷ codes "             whether OUT, made by any tool, is these files put together, with equal\n"
+    ∷ codes "             decoding inputs in each picture, whatever its level, and for how many\n"
+    ∷ codes "             pictures\n"
     ∷ codes "  --help     this text\n"
     ∷ codes "  --version  the name and the version of the program\n"
     ∷ codes "\n"
@@ -48,7 +52,7 @@ help_text = concat
     ∷ codes "     breaks behind the units before it\n"
     ∷ codes "  L  limits: L1 a unit of more than 2^23 bytes, L2 a picture of more than 2^25,\n"
     ∷ codes "     L3 a source of more than 2^40, each also of what is to be written; L4 more\n"
-    ∷ codes "     than 64 files, L5 to L10 what no level, or this program, allows\n"
+    ∷ codes "     than 64 sources, L5 to L10 what no level, or this program, allows\n"
     ∷ codes "  E  extraction: E1 a stream without pictures, E2 a picture without the\n"
     ∷ codes "     subpicture, E3 the subpicture isn't treated as a picture, E4 in-loop\n"
     ∷ codes "     filters cross the borders of the subpicture, E5 an IRAP or GDR picture has\n"
@@ -57,6 +61,9 @@ help_text = concat
     ∷ codes "     PPS or picture header that differ, M3 to M5 regions or tiles that don't fit,\n"
     ∷ codes "     M6 another kind of picture, M9 to M13, M16 what its slices use that differs\n"
     ∷ codes "     or is too much, M14 an earlier end\n"
+    ∷ codes "  C  comparing, file 0 being OUT: C1 another number of subpictures, C2 a\n"
+    ∷ codes "     subpicture at another place, C3 another number of slices, C4 another decoding\n"
+    ∷ codes "     input of a slice, by its part and field, C5 an earlier end\n"
     ∷ [])
 
 -- the name and the version

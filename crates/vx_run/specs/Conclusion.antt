@@ -2,18 +2,20 @@
 use Rattle.std.specs.Prelude.{◌≡◌, ℕ, List, [], ◌∷◌, ◌⊎◌, Result, Ok, Err, codes, decimal}
 use Rattle.std.specs.List.{concat}
 use Rattle.vx_report.specs.RefusalLine.{refusal_text}
+use Rattle.vx_verify.specs.Line.{mismatch_text}
 use Rattle.vx_run.specs.Change.{Change, IsUntouched, Tells}
 use Rattle.vx_run.specs.declared.stop.Stop.{Stop}
-use Rattle.vx_run.specs.declared.stop.Stop.TheVariants.{NotUnderstood, Refused, ReadFault, WriteFault, NoMemory}
+use Rattle.vx_run.specs.declared.stop.Stop.TheVariants.{NotUnderstood, Refused, Mismatched, ReadFault, WriteFault, NoMemory}
 
 -- it is done, or it stopped
 abbrev pub Outcome : Type 0
 Outcome = Result (Unit {0}) Stop
 
--- 1 refused, 2 words, 3 fault, 4 want of memory
+-- 1 refused or not verified, 2 words, 3 fault, 4 want of memory
 abbrev pub status_of : Stop → ℕ
 status_of NotUnderstood = 2
 status_of (Refused refusal place) = 1
+status_of (Mismatched mismatch picture) = 1
 status_of (ReadFault source) = 3
 status_of WriteFault = 3
 status_of NoMemory = 4
@@ -22,6 +24,7 @@ status_of NoMemory = 4
 abbrev pub line_of : Stop → List ℕ
 line_of NotUnderstood = codes "words not understood\n"
 line_of (Refused refusal place) = refusal_text refusal place
+line_of (Mismatched mismatch picture) = mismatch_text mismatch picture
 line_of (ReadFault source) = concat (codes "read fault source " ∷ decimal source ∷ codes "\n" ∷ [])
 line_of WriteFault = codes "write fault\n"
 line_of NoMemory = codes "no memory\n"
@@ -30,6 +33,7 @@ line_of NoMemory = codes "no memory\n"
 abbrev pub IsMade : Stop → Type 0
 IsMade NotUnderstood = ⊥
 IsMade (Refused refusal place) = Unit {0}
+IsMade (Mismatched mismatch picture) = Unit {0}
 IsMade (ReadFault source) = Unit {0}
 IsMade WriteFault = ⊥
 IsMade NoMemory = ⊥

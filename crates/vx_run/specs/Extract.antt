@@ -1,6 +1,6 @@
 -- What `extract` and `check extract` find in the pictures of a source, and what they write. Lists of pictures have the latest first.
 use Rattle.std.specs.Prelude.{◌≡◌, ◌↔◌, ℕ, ◌<◌, Bool, true, false, List, [], ◌∷◌, ◌++◌, length, map, codes, decimal}
-use Rattle.std.specs.Prelude.{Option, Some, None, unwrap_or, Result, Ok, Err, IfErr}
+use Rattle.std.specs.Prelude.{Option, Some, None, unwrap_or, Ok, Err, IfErr}
 use Rattle.std.specs.List.{AllByRecursion, concat}
 use Rattle.std.specs.Io.{StartsWith}
 use Rattle.std.specs.Io.KnownBytes.{Appends, Consumes, IsAtEnd}
@@ -22,7 +22,7 @@ use Rattle.vx_report.specs.declared.refusal.Where.{Where}
 use Rattle.vx_assemble.specs.Feed.{seen_of, IsNearEnd}
 use Rattle.vx_extract.specs.Rules.{is_kept, refusal_of}
 use Rattle.vx_extract.specs.Written.{AreExtracted, IsExtracted, IsExtraction}
-use Rattle.vx_run.specs.declared.stop.Stop.TheVariants.{NotUnderstood, Refused, ReadFault, WriteFault, NoMemory}
+use Rattle.vx_run.specs.declared.stop.Stop.TheVariants.{Refused, ReadFault, WriteFault, NoMemory}
 use Rattle.vx_run.specs.declared.extract.Task.{Task}
 use Rattle.vx_run.specs.Change.{Change, IsUntouched, HasNoFault, HasFault, GivesFront, Gains, GainsFront}
 use Rattle.vx_run.specs.Conclusion.{Outcome, IsOfCommand}
@@ -153,7 +153,7 @@ ExtractsBy R t source out (Err WriteFault) = HasNoFault source × HasFault out �
 ExtractsBy R t source out (Err NoMemory) =
     HasNoFault source × HasNoFault out × GivesFront source
     × WhereTold R source (λ ps ending. (first : List Picture) × BeginsWith ps first × BreakNoRule t first × GainsExtraction R t first out)
-ExtractsBy R t source out (Err NotUnderstood) = ⊥
+ExtractsBy R t source out (Err _) = ⊥
 
 -- that is so by the readers of H.266; and the words were understood
 abbrev pub Extracts : {A K : Type 0} → Task → Change A → Change K → Outcome → Type 0
@@ -183,7 +183,7 @@ ChecksBy R t source out (Err WriteFault) =
     HasNoFault source × HasFault out × GivesFront source × IsAtEnd (source.bytes source.new)
     × WhereTold R source (λ ps ending. IsExtractable t ps ending × GainsFront out (ok_line t ps))
 ChecksBy R t source out (Err NoMemory) = HasNoFault source × IsUntouched out × GivesFront source
-ChecksBy R t source out (Err NotUnderstood) = ⊥
+ChecksBy R t source out (Err _) = ⊥
 
 abbrev pub Checks : {A K : Type 0} → Task → Change A → Change K → Outcome → Type 0
 Checks t source out outcome = IfErr outcome IsOfCommand × ((R : Readers) → AreOfH266 R → ChecksBy R t source out outcome)

@@ -19,6 +19,7 @@ pub data Command : Type 0 where
   check_extract : (tid : Option ℕ) (index : ℕ) → List ℕ → Command
   merge : (level : Option ℕ) → List Placing → Command
   check_merge : List Placing → Command
+  verify : List ℕ → List Placing → Command
   help : Command
   version : Command
 
@@ -38,13 +39,14 @@ abbrev pub placing_word : Placing → List ℕ
 placing_word p = decimal p.x ++ (codes "," ++ (decimal p.y ++ (codes "=" ++ p.file)))
 
 -- `show FILE`, `extract [--tid T] [--level N] INDEX FILE`, `check extract [--tid T] INDEX FILE`, `merge [--level N] X,Y=FILE ..`,
--- `check merge X,Y=FILE ..`, `--help`, `--version`
+-- `check merge X,Y=FILE ..`, `verify merge OUT X,Y=FILE ..`, `--help`, `--version`
 abbrev pub spelling : Command → List (List ℕ)
 spelling (show file) = codes "show" ∷ file ∷ []
 spelling (extract tid level index file) = codes "extract" ∷ (tid_words tid ++ (level_words level ++ (decimal index ∷ file ∷ [])))
 spelling (check_extract tid index file) = codes "check" ∷ codes "extract" ∷ (tid_words tid ++ (decimal index ∷ file ∷ []))
 spelling (merge level placings) = codes "merge" ∷ (level_words level ++ map placing_word placings)
 spelling (check_merge placings) = codes "check" ∷ codes "merge" ∷ map placing_word placings
+spelling (verify finished placings) = codes "verify" ∷ codes "merge" ∷ finished ∷ map placing_word placings
 spelling help = codes "--help" ∷ []
 spelling version = codes "--version" ∷ []
 
@@ -62,13 +64,14 @@ IsIndex index = index ≤ 999
 abbrev pub IsPlacing : Placing → Type 0
 IsPlacing p = (p.x ≤ 16383) × (p.y ≤ 16383) × (p.file ≢ [])
 
--- a file's name has a byte, numbers are in their ranges, and a merge has a file
+-- a file's name has a byte, numbers are in their ranges, and a merge has a source
 abbrev pub IsWellNamed : Command → Type 0
 IsWellNamed (show file) = file ≢ []
 IsWellNamed (extract tid level index file) = IsTid tid × IsLevel level × IsIndex index × (file ≢ [])
 IsWellNamed (check_extract tid index file) = IsTid tid × IsIndex index × (file ≢ [])
 IsWellNamed (merge level placings) = IsLevel level × (placings ≢ []) × AllByRecursion IsPlacing placings
 IsWellNamed (check_merge placings) = (placings ≢ []) × AllByRecursion IsPlacing placings
+IsWellNamed (verify finished placings) = (finished ≢ []) × (placings ≢ []) × AllByRecursion IsPlacing placings
 IsWellNamed help = Unit {0}
 IsWellNamed version = Unit {0}
 
@@ -88,6 +91,7 @@ files_of (extract tid level index file) = file ∷ []
 files_of (check_extract tid index file) = file ∷ []
 files_of (merge level placings) = map (λ p. p.file) placings
 files_of (check_merge placings) = map (λ p. p.file) placings
+files_of (verify finished placings) = finished ∷ map (λ p. p.file) placings
 files_of help = []
 files_of version = []
 

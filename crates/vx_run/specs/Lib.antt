@@ -7,6 +7,8 @@ pub mod Extract
 pub mod Grammar
 pub mod Merge
 pub mod ReadAgain
+pub mod Rounds
 pub mod Run
 pub mod Show
+pub mod Verify
 pub mod inner

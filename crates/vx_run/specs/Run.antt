@@ -6,9 +6,10 @@ use Rattle.vx_run.specs.Change.{Change, Sources, source_at, IsUntouched, AreUnto
 use Rattle.vx_run.specs.Conclusion.{Outcome}
 use Rattle.vx_run.specs.declared.extract.Task.{Task}
 use Rattle.vx_run.specs.Extract.{task_of, Extracts, Checks}
-use Rattle.vx_run.specs.Grammar.{Command, Placing, show, extract, check_extract, merge, check_merge, help, version, AskFor, IsUnderstood}
+use Rattle.vx_run.specs.Grammar.{Command, Placing, show, extract, check_extract, merge, check_merge, verify, help, version, AskFor, IsUnderstood}
 use Rattle.vx_run.specs.Merge.{corners_of, ChecksMerge, Merges}
 use Rattle.vx_run.specs.Show.{Shows}
+use Rattle.vx_run.specs.Verify.{spots_of, Verifies}
 
 -- what a command did to its sources and to `out`, by what came of it
 abbrev pub Does : {A K : Type 0} → Command → Sources A → Change K → Outcome → Type 0
@@ -17,6 +18,7 @@ Does (extract tid level index file) sources out outcome = Extracts (task_of tid 
 Does (check_extract tid index file) sources out outcome = Checks (task_of tid None index) (source_at sources 0) out outcome
 Does (merge level placings) sources out outcome = Merges (corners_of placings) level sources out outcome
 Does (check_merge placings) sources out outcome = ChecksMerge (corners_of placings) sources out outcome
+Does (verify finished placings) sources out outcome = Verifies (spots_of placings) sources out outcome
 Does help sources out outcome = AreUntouched sources × Writes help_text out outcome
 Does version sources out outcome = AreUntouched sources × Writes version_text out outcome
 
@@ -31,8 +33,9 @@ task_in (extract tid level index file) = Some (task_of tid level index)
 task_in (check_extract tid index file) = Some (task_of tid None index)
 task_in _ = None
 
--- the files of a merge, and where they are placed
+-- the sources of a merge, and where they are placed
 abbrev pub placings_in : Command → Option (List Placing)
 placings_in (merge level placings) = Some placings
 placings_in (check_merge placings) = Some placings
+placings_in (verify finished placings) = Some placings
 placings_in _ = None

@@ -18,7 +18,7 @@ use Rattle.vx_report.specs.declared.set.SetNumbers.TheVariants.{Aps}
 use Rattle.vx_report.specs.UnitLine.{unit_text}
 use Rattle.vx_report.specs.SetLine.{set_text, vps_numbers, sps_numbers, pps_numbers}
 use Rattle.vx_report.specs.PictureLine.{picture_text}
-use Rattle.vx_run.specs.declared.stop.Stop.TheVariants.{NotUnderstood, Refused, ReadFault, WriteFault, NoMemory}
+use Rattle.vx_run.specs.declared.stop.Stop.TheVariants.{Refused, ReadFault, WriteFault, NoMemory}
 use Rattle.vx_run.specs.Change.{Change, HasNoFault, HasFault, GivesFront, Gains, GainsFront}
 use Rattle.vx_run.specs.Conclusion.{Outcome, IsOfCommand}
 
@@ -161,7 +161,7 @@ ShowsBy R source out (Err WriteFault) =
 ShowsBy R source out (Err NoMemory) =
     HasNoFault source × HasNoFault out × GivesFront source
     × WhereKnown R source (λ b units ending. (n : ℕ) × Gains out (shown_lines R b (take n units)))
-ShowsBy R source out (Err NotUnderstood) = ⊥
+ShowsBy R source out (Err _) = ⊥
 
 -- that is so by the readers of H.266; and the words were understood
 abbrev pub Shows : {A K : Type 0} → Change A → Change K → Outcome → Type 0

@@ -30,6 +30,10 @@ pub(crate) fn help() -> &'static [u8]
              or else the files' highest, which is mostly too low for all of them
   check merge X,Y=FILE ..
              whether that can be done, by the rules below, and for how many pictures
+  verify merge OUT X,Y=FILE ..
+             whether OUT, made by any tool, is these files put together, with equal
+             decoding inputs in each picture, whatever its level, and for how many
+             pictures
   --help     this text
   --version  the name and the version of the program
 
@@ -52,7 +56,7 @@ The letters of the rules:
      breaks behind the units before it
   L  limits: L1 a unit of more than 2^23 bytes, L2 a picture of more than 2^25,
      L3 a source of more than 2^40, each also of what is to be written; L4 more
-     than 64 files, L5 to L10 what no level, or this program, allows
+     than 64 sources, L5 to L10 what no level, or this program, allows
   E  extraction: E1 a stream without pictures, E2 a picture without the
      subpicture, E3 the subpicture isn't treated as a picture, E4 in-loop
      filters cross the borders of the subpicture, E5 an IRAP or GDR picture has
@@ -61,6 +65,9 @@ The letters of the rules:
      PPS or picture header that differ, M3 to M5 regions or tiles that don't fit,
      M6 another kind of picture, M9 to M13, M16 what its slices use that differs
      or is too much, M14 an earlier end
+  C  comparing, file 0 being OUT: C1 another number of subpictures, C2 a
+     subpicture at another place, C3 another number of slices, C4 another decoding
+     input of a slice, by its part and field, C5 an earlier end
 "
 }
 

@@ -12,6 +12,7 @@ use std::alloc::{AllocError, Global};
 use std::io::{BufWriter, Write};
 use vx_io::{Sink, write_all};
 use vx_report::refusal_line;
+use vx_verify::mismatch_line;
 
 /// Tells on `err` why a command stopped, and answers its status. A failed
 /// write to `err` changes nothing else.
@@ -24,6 +25,9 @@ pub(crate) fn conclude<E: Sink>(alloc: Global, stop: Stop, err: &mut E) -> u8
             2
         }
         Stop::Refused { refusal, place } => end(err, refusal_line(alloc, refusal, place), 1),
+        Stop::Mismatched { mismatch, picture } => {
+            end(err, mismatch_line(alloc, mismatch, picture), 1)
+        }
         Stop::ReadFault { source } => end(err, read_fault_line(alloc, source), 3),
         Stop::WriteFault => {
             tell(err, b"write fault\n");

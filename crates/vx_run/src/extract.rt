@@ -20,6 +20,7 @@ ghost use Rattle.vx_run.specs.inner.Extracting.{AdvancesOn, ExtractsOne, Extract
 ghost use Rattle.vx_run.specs.declared.extract.Task.{Task};
 ghost use Rattle.vx_run.specs.declared.stop.Stop.TheVariants as stops;
 
+use crate::rounds::{one_more, step};
 use crate::show::behind_unit;
 use crate::stop::Stop;
 use std::alloc::{AllocError, Global};
@@ -198,18 +199,6 @@ fn advance(feed: &mut Feed, source: &mut Box<dyn Source>) -> Result<bool, Stop>
     }
 }
 
-/// Advances on the source.
-pub(crate) fn step(feed: &mut Feed, source: &mut Box<dyn Source>) -> Result<Step, FeedFault>
-    ensures answer { (R : Readers) → AreOfH266 R → (g : List ℕ) (units : List UnitPlace) (readings : List Reading)
-        → HasFed R feed.old g units readings → LastWasNeeded g units
-        → Advances R g units readings feed.new (bytes_left source.old) (bytes_left source.new) (read_faults source.old) (read_faults source.new) result }
-    ensures picture { result ≡ Ok steps.Picture → HasPicture feed.new.assembler }
-    ensures end { EndsAtEnd feed.old (bytes_left source.old) → EndsAtEnd feed.new (bytes_left source.new) }
-    ensures few { OnOk result (feed.new.units ≤ 2 ^ 40) }
-{
-    feed.advance(&mut **source)
-}
-
 /// What stops a command where a feed stops behind its n-th unit.
 fn stop_of(fault: FeedFault, n: u64) -> Stop
     ensures { result ≡ stop_by fault n }
@@ -273,13 +262,6 @@ fn stop_of_picture(error: WriteError, n: u64) -> Stop
         WriteError::SinkFailed => Stop::WriteFault,
         WriteError::Memory | WriteError::Stopped(_) => Stop::NoMemory,
     }
-}
-
-/// One more than a count that is below `most`.
-pub(crate) fn one_more(count: u64, most: u64) -> u64
-    ensures { count < most → result ≡ count + 1 }
-{
-    most.min(count.saturating_add(1))
 }
 
 /// A count with one more, where it is counted, which is then below `most`.

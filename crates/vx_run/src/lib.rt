@@ -8,8 +8,10 @@ mod conclude;
 mod extract;
 mod merge;
 mod program;
+mod rounds;
 mod show;
 mod stop;
+mod verify;
 mod words;
 
 pub use conclude::finish;
@@ -17,4 +19,5 @@ pub use extract::Task;
 pub use merge::merge_ends_once;
 pub use program::run;
 pub use stop::Stop;
+pub use verify::verify_ends_once;
 pub use words::{file_count, file_word};

@@ -1,36 +1,32 @@
 //! `merge` and `check merge`: the pictures of several byte streams as those of one stream, round by round.
 
-ghost use Rattle.std.specs.Prelude.{◌≡◌, ◌+◌, ◌<◌, ◌≤◌, ◌^◌, List, All, ℕ, true, map, length, vec_len, Ok, Err, IfOk, IfErr, OnOk};
+ghost use Rattle.std.specs.Prelude.{◌≡◌, ◌<◌, ◌≤◌, ◌^◌, List, All, map, length, vec_len, IfOk, IfErr, OnOk};
 ghost use Rattle.std.specs.List.{AllByRecursion};
-ghost use Rattle.vx_annexb.specs.ByteStream.{UnitPlace};
-ghost use Rattle.vx_annexb.specs.Reading.{LastWasNeeded};
-ghost use Rattle.vx_pic.specs.Readings.{Reading, Picture as StreamPicture};
+ghost use Rattle.vx_pic.specs.Readings.{Picture as StreamPicture};
 ghost use Rattle.vx_pic.specs.Rules.{Readers};
 ghost use Rattle.vx_pic.specs.H266.{AreOfH266};
 ghost use Rattle.vx_pic.specs.Written.{Plan};
 ghost use Rattle.vx_assemble.specs.Held.{HasPicture, lent_by};
-ghost use Rattle.vx_assemble.specs.Feed.{HasFed, EndsAtEnd};
 ghost use Rattle.vx_merge.specs.Merging.{AreCorners, SameTask, Stands};
 ghost use Rattle.vx_run.specs.Change.{change, sources_change};
 ghost use Rattle.vx_run.specs.Conclusion.{IsOfCommand};
 ghost use Rattle.vx_run.specs.Grammar.{texts};
-ghost use Rattle.vx_run.specs.Merge.{ChecksMerge, ChecksMergeBy, Merges, MergesBy, EndsOnce, corners_of as corners_by, in_round as place_in, behind_units as place_behind, too_many as too_many_sources, most_sources};
-ghost use Rattle.vx_run.specs.inner.Merging.{AdvancesOf, AdvancesAll, AreWaiting, DoesRound, TakesRound, TakesRounds, OfAll, IsUnfed, LendsLatest, GoesBy, stop_from, stop_in};
+ghost use Rattle.vx_run.specs.Merge.{ChecksMerge, ChecksMergeBy, Merges, MergesBy, EndsOnce, length_refused, corners_of as corners_by};
+ghost use Rattle.vx_run.specs.Rounds.{most_sources};
+ghost use Rattle.vx_run.specs.inner.Advancing.{AdvancesAll, AreWaiting, GoesBy, OfAll};
+ghost use Rattle.vx_run.specs.inner.Merging.{DoesRound, TakesRound, TakesRounds, stop_in};
 ghost use Rattle.vx_run.specs.inner.Placings.{IsPlacingWord, placing_in};
 
-use crate::extract::{ok_line, one_more, step};
+use crate::extract::ok_line;
+use crate::rounds::{MOST_SOURCES, advance_each, feeds_for, going, in_round, one_more, too_many};
 use crate::stop::Stop;
 use crate::words::placing_of;
 use std::alloc::{AllocError, Global};
-use vx_assemble::{Feed, FeedFault, Step};
+use vx_assemble::Feed;
 use vx_bits::Refusal;
-use vx_bits::rules::{LENGTH, TOO_MANY_SOURCES};
+use vx_bits::rules::LENGTH;
 use vx_io::{Sink, Source, write_all};
 use vx_merge::{Corner, Lengths, Merger, WriteError, lengths};
-use vx_report::Where;
-
-/// How many sources a merge may have.
-const MOST_SOURCES: usize = 64;
 
 /// What is done with each round.
 #[derive(Clone, Copy, PartialEq, Eq)]
@@ -108,18 +104,6 @@ pub(crate) fn check_merge<K: Sink>(
     check_rounds(alloc, placings, sources, out)
 }
 
-/// More sources are named than a merge may have.
-fn too_many() -> Stop
-    ensures { Err result ≡ too_many_sources }
-{
-    Stop::Refused {
-        refusal: Refusal::Limit {
-            code: TOO_MANY_SOURCES,
-        },
-        place: in_round(0),
-    }
-}
-
 /// Says how many rounds there are.
 fn check_rounds<K: Sink>(
     alloc: Global,
@@ -188,30 +172,6 @@ fn take_rounds<K: Sink>(
     Ok(rounds)
 }
 
-/// A feed for each of so many sources.
-fn feeds_for(alloc: Global, count: usize) -> Result<Vec<Feed>, AllocError>
-    ensures count { IfOk result (λ feeds. vec_len feeds ≡ count) }
-    ensures unfed { IfOk result (λ feeds. OfAll (λ k f. IsUnfed f) feeds.items) }
-{
-    let mut feeds = Vec::new(alloc);
-    for _ in 0..count {
-        let feed = Feed::new(alloc)?;
-        feeds.push(feed)?;
-    }
-    Ok(feeds)
-}
-
-/// That none of so many sources has ended.
-fn going(alloc: Global, count: usize) -> Result<Vec<bool>, AllocError>
-    ensures { IfOk result (λ ended. vec_len ended ≡ count) }
-{
-    let mut ended = Vec::new(alloc);
-    for _ in 0..count {
-        ended.push(false)?;
-    }
-    Ok(ended)
-}
-
 /// Comes to the next picture of each source, in order, behind so many rounds, if they go on.
 fn advance_all(
     feeds: &mut Vec<Feed>,
@@ -225,24 +185,21 @@ fn advance_all(
     requires ended { vec_len ended.old ≡ vec_len sources.old }
     ensures answer { (R : Readers) → AreOfH266 R → (first : List _) (taken : List (List StreamPicture))
         → AreWaiting R (sources_change bytes_left read_faults first sources.old.items) feeds.old.items taken rounds
-        → AdvancesAll R (sources_change bytes_left read_faults first sources.new.items) feeds.new.items taken rounds result }
+        → AdvancesAll length_refused R (sources_change bytes_left read_faults first sources.new.items) feeds.new.items taken rounds result }
     ensures few { OnOk result (OfAll (λ k f. f.units ≤ 2 ^ 40) feeds.new.items) }
     ensures stop { IfErr result IsOfCommand }
     ensures feeds { vec_len feeds.new ≡ vec_len feeds.old }
     ensures ended { vec_len ended.new ≡ vec_len ended.old }
     ensures list { vec_len sources.new ≡ vec_len sources.old }
 {
-    for k in 0..feeds.len() {
-        let goes = advance(&mut feeds[k], &mut sources[k], k as u16)?;
-        ended[k] = !goes;
-    }
+    advance_each(feeds, sources, ended, rounds)?;
     all_go_on(ended, rounds)
 }
 
 /// Whether all sources go on behind so many rounds, or all have ended.
 fn all_go_on(ended: &[bool], rounds: u64) -> Result<bool, Stop>
     requires { (0 < length ended.now) × (length ended.now ≤ most_sources) }
-    ensures goes { GoesBy ended.now rounds result }
+    ensures goes { GoesBy length_refused ended.now rounds result }
     ensures stop { IfErr result IsOfCommand }
 {
     match lengths(ended) {
@@ -256,48 +213,6 @@ fn all_go_on(ended: &[bool], rounds: u64) -> Result<bool, Stop>
             },
             place: in_round(rounds),
         }),
-    }
-}
-
-/// Comes to the next picture of source `k`, if there is one.
-fn advance(feed: &mut Feed, source: &mut Box<dyn Source>, k: u16) -> Result<bool, Stop>
-    ensures answer { (R : Readers) → AreOfH266 R → (g : List ℕ) (units : List UnitPlace) (readings : List Reading)
-        → HasFed R feed.old g units readings → LastWasNeeded g units
-        → AdvancesOf k R g units readings feed.new (bytes_left source.old) (bytes_left source.new) (read_faults source.old) (read_faults source.new) result }
-    ensures lent { result ≡ Ok true → LendsLatest feed.new }
-    ensures end { EndsAtEnd feed.old (bytes_left source.old) → EndsAtEnd feed.new (bytes_left source.new) }
-    ensures few { OnOk result (feed.new.units ≤ 2 ^ 40) }
-    ensures stop { IfErr result IsOfCommand }
-{
-    match step(feed, source) {
-        Ok(Step::Picture) => {
-            lends_latest(feed);
-            Ok(true)
-        }
-        Ok(Step::End) => Ok(false),
-        Err(fault) => Err(stop_of(fault, k, feed.unit())),
-    }
-}
-
-/// What a feed lends is the picture that was taken last.
-fn lends_latest(feed: &Feed)
-    requires { HasPicture feed.now.assembler }
-    ensures { LendsLatest feed.now }
-{
-    let _picture = feed.picture();
-}
-
-/// What stops the command where the feed of source `k` stops behind its n-th unit.
-fn stop_of(fault: FeedFault, k: u16, n: u64) -> Stop
-    ensures { result ≡ stop_from k fault n }
-{
-    match fault {
-        FeedFault::Refused(refusal) => Stop::Refused {
-            refusal,
-            place: behind_units(k, n),
-        },
-        FeedFault::SourceFailed => Stop::ReadFault { source: k },
-        FeedFault::Memory | FeedFault::Stopped(_) => Stop::NoMemory,
     }
 }
 
@@ -354,30 +269,6 @@ fn stop_of_round(error: WriteError, n: u64) -> Stop
         },
         WriteError::SinkFailed => Stop::WriteFault,
         WriteError::Memory | WriteError::Stopped(_) => Stop::NoMemory,
-    }
-}
-
-/// The place in source `k` behind its n-th unit.
-fn behind_units(k: u16, n: u64) -> Where
-    ensures { result ≡ place_behind k n }
-{
-    Where {
-        source: k,
-        unit: n,
-        picture: 0,
-        written: false,
-    }
-}
-
-/// Round `n`.
-fn in_round(n: u64) -> Where
-    ensures { result ≡ place_in n }
-{
-    Where {
-        source: 0,
-        unit: 0,
-        picture: n,
-        written: true,
     }
 }
 

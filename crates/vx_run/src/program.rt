@@ -7,10 +7,12 @@ ghost use Rattle.vx_run.specs.Change.{HasFault, change, source_at, sources_chang
 ghost use Rattle.vx_run.specs.Conclusion.{Outcome, ExitsWith};
 ghost use Rattle.vx_run.specs.declared.extract.Task.{Task as TaskAsked};
 ghost use Rattle.vx_run.specs.Extract.{WhereTold, IsStatus, task_of as task_by};
-ghost use Rattle.vx_run.specs.Grammar.{Command as Asked, Placing as PlacingAsked, show as for_show, merge as for_merge, check_merge as for_check, AskFor, IsTid, IsUnderstood, NamesFiles, texts};
-ghost use Rattle.vx_run.specs.Merge.{WhereAllTold, IsMergeStatus, corners_of, most_sources};
+ghost use Rattle.vx_run.specs.Grammar.{Command as Asked, Placing as PlacingAsked, show as for_show, merge as for_merge, check_merge as for_check, verify as for_verify, AskFor, IsTid, IsUnderstood, NamesFiles, texts};
+ghost use Rattle.vx_run.specs.Merge.{IsMergeStatus, corners_of};
+ghost use Rattle.vx_run.specs.Rounds.{WhereAllTold, most_sources};
 ghost use Rattle.vx_run.specs.Run.{Performs, placings_in, task_in};
 ghost use Rattle.vx_run.specs.Show.{WhereKnown, status_at};
+ghost use Rattle.vx_run.specs.Verify.{IsVerifyStatus, spots_of};
 
 use crate::about::{help, version, write_text};
 use crate::conclude::conclude;
@@ -18,6 +20,7 @@ use crate::extract::{Task, check_extract, extract};
 use crate::merge::{check_merge, merge};
 use crate::show::show;
 use crate::stop::Stop;
+use crate::verify::verify;
 use crate::words::{Command, command_of};
 use std::alloc::Global;
 use vx_io::{Sink, Source};
@@ -63,6 +66,11 @@ pub fn run<K: Sink, E: Sink>(
         → let all = sources_change bytes_left read_faults sources.old.items sources.new.items in
         ((k : ℕ) → k < vec_len sources.old → ¬ HasFault (source_at all k)) → ¬ HasFault (change K.bytes_taken K.write_faults out.old out.new)
         → result ≢ 4 → WhereAllTold R all (λ ss. IsMergeStatus (corners_of placings) level ss result) }
+    ensures verifies { (R : Readers) → AreOfH266 R → (finished : List ℕ) (placings : List PlacingAsked)
+        → AskFor (texts words.now) (for_verify finished placings) → length placings ≤ most_sources
+        → let all = sources_change bytes_left read_faults sources.old.items sources.new.items in
+        ((k : ℕ) → k < vec_len sources.old → ¬ HasFault (source_at all k)) → ¬ HasFault (change K.bytes_taken K.write_faults out.old out.new)
+        → result ≢ 4 → WhereAllTold R all (λ ss. IsVerifyStatus (spots_of placings) ss result) }
     ensures many { (command : Asked) (placings : List PlacingAsked) → AskFor (texts words.now) command → placings_in command ≡ Some placings
         → most_sources < length placings → result ≢ 4 → result ≡ 1 }
 {
@@ -100,6 +108,7 @@ fn perform<K: Sink>(
         }
         Some(Command::Merge { level, placings }) => merge(alloc, level, placings, sources, out),
         Some(Command::CheckMerge { placings }) => check_merge(alloc, placings, sources, out),
+        Some(Command::Verify { placings, .. }) => verify(alloc, placings, sources, out),
         Some(Command::Help) => write_text(help(), out),
         Some(Command::Version) => write_text(version(), out),
         None => Err(Stop::NotUnderstood),

@@ -7,6 +7,7 @@ use std::alloc::AllocError;
 use vx_bits::Refusal;
 use vx_io::SinkFailed;
 use vx_report::Where;
+use vx_verify::Mismatch;
 
 /// Why a command is not done.
 #[derive(Clone, Copy, Debug, PartialEq, Eq)]
@@ -15,6 +16,8 @@ pub enum Stop {
     NotUnderstood,
     /// A rule was broken.
     Refused { refusal: Refusal, place: Where },
+    /// A finished stream isn't its sources put together.
+    Mismatched { mismatch: Mismatch, picture: u64 },
     /// A read of this source failed.
     ReadFault { source: u16 },
     /// A write of what the command makes failed.

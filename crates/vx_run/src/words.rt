@@ -3,7 +3,7 @@
 ghost use Rattle.std.specs.Prelude.{◌≡◌, ◌≤◌, ◌∷◌, ◌↔◌, [], ℕ, List, Option as OptionOf, true, false, decimal, codes, None, IfSome, IfNone, IsTrue, MatchOption, map, slice_get, option_copied};
 ghost use Rattle.std.specs.List.{AllByRecursion};
 ghost use Rattle.vx_run.specs.Asked.{asked};
-ghost use Rattle.vx_run.specs.Grammar.{Command as Asked, extract, check_extract, merge, check_merge, Placing as PlacingAsked, spelling, IsWellNamed, AskFor, IsUnderstood, NamesFiles, files_of, texts};
+ghost use Rattle.vx_run.specs.Grammar.{Command as Asked, extract, check_extract, merge, check_merge, verify, Placing as PlacingAsked, spelling, IsWellNamed, AskFor, IsUnderstood, NamesFiles, files_of, texts};
 ghost use Rattle.vx_run.specs.inner.Placings.{IsPlacingWord, HasPlacings, PlaceFiles, Spells, placed, placing_in};
 ghost use Rattle.vx_run.specs.inner.Words.{BeginsNot, IsNumberFirst, IsOptionFirst, is_plain};
 
@@ -34,6 +34,11 @@ pub(crate) enum Command<'a> {
     },
     /// `check merge X,Y=FILE ..`, of which these are the words behind `merge`.
     CheckMerge {
+        placings: &'a [String],
+    },
+    /// `verify merge OUT X,Y=FILE ..`, with the words behind the finished stream's.
+    Verify {
+        finished: &'a str,
         placings: &'a [String],
     },
     /// `--help`
@@ -73,6 +78,9 @@ pub(crate) fn command_of(words: &[String]) -> Option<Command<'_>>
     }
     if let Some(rest) = behind(words, "merge") {
         return merge_of(rest);
+    }
+    if let Some(rest) = behind(words, "verify") {
+        return verify_of(rest);
     }
     check_of(behind(words, "check")?)
 }
@@ -169,6 +177,21 @@ fn check_merge_of(words: &[String]) -> Option<Command<'_>>
     Some(Command::CheckMerge { placings: words })
 }
 
+/// `merge OUT X,Y=FILE ..`
+fn verify_of(words: &[String]) -> Option<Command<'_>>
+    ensures some { IfSome result (λ command. AskFor (codes "verify" ∷ texts words.now) (asked command)) }
+    ensures placings { IfSome result HasPlacings }
+    ensures none { IfNone result ((finished : List ℕ) (placings : List PlacingAsked)
+        → AskFor (codes "verify" ∷ texts words.now) (verify finished placings) → ⊥) }
+{
+    let rest = behind(words, "merge")?;
+    let (finished, placings) = file_first(rest)?;
+    if !place_files(placings) {
+        return None;
+    }
+    Some(Command::Verify { finished, placings })
+}
+
 /// Whether there are words, and each is `X,Y=FILE`.
 fn place_files(words: &[String]) -> bool
     ensures { IsTrue result ↔ PlaceFiles (texts words.now) }
@@ -260,6 +283,22 @@ fn number(word: &str, most: u16) -> Option<u16>
     (n <= most).then_some(n)
 }
 
+/// The file that comes first, and the words behind it.
+fn file_first(words: &[String]) -> Option<(&str, &[String])>
+    ensures { MatchOption result
+        ((file : List ℕ) (rest : List (List ℕ)) → texts words.now ≡ file ∷ rest → file ≡ [])
+        (λ r. (texts words.now ≡ r.0.now ∷ texts r.1.now) × (r.0.now ≡ [] → ⊥)) }
+{
+    if words.is_empty() {
+        return None;
+    }
+    let file = words[0].as_str();
+    if file.is_empty() {
+        return None;
+    }
+    Some((file, &words[1..]))
+}
+
 /// The file, where it is the only word.
 fn file_alone(words: &[String]) -> Option<&str>
     ensures { MatchOption result
@@ -280,6 +319,7 @@ pub fn file_count(words: &[String]) -> usize
         Some(Command::Show { .. } | Command::Extract { .. } | Command::CheckExtract { .. }) => 1,
         Some(Command::Merge { placings, .. }) => placings.len(),
         Some(Command::CheckMerge { placings }) => placings.len(),
+        Some(Command::Verify { placings, .. }) => placings.len() + 1,
         Some(Command::Help | Command::Version) | None => 0,
     }
 }
@@ -296,6 +336,7 @@ pub fn file_word(words: &[String], k: usize) -> Option<&str>
         | Command::CheckExtract { file, .. } => file_alone_at(file, k),
         Command::Merge { placings, .. } => placed_file(placings, k),
         Command::CheckMerge { placings } => placed_file(placings, k),
+        Command::Verify { finished, placings } => verified_file(finished, placings, k),
         Command::Help | Command::Version => None,
     }
 }
@@ -305,6 +346,17 @@ fn file_alone_at(file: &str, k: usize) -> Option<&str>
     ensures { option_copied result ≡ slice_get (file.now ∷ []) k }
 {
     (k == 0).then_some(file)
+}
+
+/// The `k`-th of a finished stream and the files of these words.
+fn verified_file<'a>(finished: &'a str, words: &'a [String], k: usize) -> Option<&'a str>
+    requires { AllByRecursion IsPlacingWord (texts words.now) }
+    ensures { option_copied result ≡ slice_get (finished.now ∷ map (λ p. p.file) (map placing_in (texts words.now))) k }
+{
+    if k == 0 {
+        return Some(finished);
+    }
+    placed_file(words, k - 1)
 }
 
 /// The file of the `k`-th of these words.

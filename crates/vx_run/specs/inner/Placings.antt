@@ -3,7 +3,7 @@ use Rattle.std.specs.Prelude.{◌≡◌, ℕ, ◌<◌, ◌==◌, List, length, B
 use Rattle.std.specs.List.{AllByRecursion, before_first, after_first}
 use Rattle.std.specs.Str.Parse.{digits_value}
 use Rattle.vx_run.specs.declared.words.Command.{Command}
-use Rattle.vx_run.specs.declared.words.Command.TheVariants.{Show, Extract, CheckExtract, Merge, CheckMerge, Help, Version}
+use Rattle.vx_run.specs.declared.words.Command.TheVariants.{Show, Extract, CheckExtract, Merge, CheckMerge, Verify, Help, Version}
 use Rattle.vx_run.specs.declared.words.Placing.{Placing as Placed}
 use Rattle.vx_run.specs.Grammar.{Placing, placing_word, IsPlacing, texts}
 
@@ -44,5 +44,6 @@ HasPlacings (Extract tid level index file) = Unit {0}
 HasPlacings (CheckExtract tid index file) = Unit {0}
 HasPlacings (Merge level placings) = AllByRecursion IsPlacingWord (texts placings.now)
 HasPlacings (CheckMerge placings) = AllByRecursion IsPlacingWord (texts placings.now)
+HasPlacings (Verify finished placings) = AllByRecursion IsPlacingWord (texts placings.now)
 HasPlacings Help = Unit {0}
 HasPlacings Version = Unit {0}

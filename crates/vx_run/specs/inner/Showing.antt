@@ -1,16 +1,16 @@
 -- The steps of `show`: the lines of the units that are seen, gathered and then written, and what the source has given. `before` are
 -- what the units were read as, the latest first.
-use Rattle.std.specs.Prelude.{◌≡◌, ℕ, ◌+◌, ◌-◌, ◌^◌, ◌<◌, Bool, true, false, List, [], ◌∷◌, ◌++◌, length}
+use Rattle.std.specs.Prelude.{◌≡◌, ℕ, ◌+◌, ◌-◌, ◌^◌, ◌<◌, false, List, [], ◌∷◌, ◌++◌, length}
 use Rattle.std.specs.Prelude.{Option, Some, None, Result, Ok, Err}
 use Rattle.std.specs.Io.KnownBytes.{Consumes, IsAtEnd}
-use Rattle.vx_annexb.specs.ByteStream.{UnitPlace, unit_bytes, IsUnit, IsStream, FollowsFrom, end_of}
+use Rattle.vx_annexb.specs.ByteStream.{UnitPlace, IsUnit, IsStream, FollowsFrom, end_of}
 use Rattle.vx_annexb.specs.Held.{is_all}
 use Rattle.vx_annexb.specs.declared.unit_reader.Closed.{Closed}
 use Rattle.vx_annexb.specs.declared.unit_reader.Closed.TheVariants.{End, TooLong, Failed}
 use Rattle.vx_annexb.specs.declared.unit_reader.ReadFault.{ReadFault as ReadAnswer}
 use Rattle.vx_annexb.specs.declared.unit_reader.ReadFault.TheVariants.{Memory, SourceFailed}
 use Rattle.vx_pic.specs.Readings.{Reading, pictures}
-use Rattle.vx_pic.specs.Rules.{Readers, reads}
+use Rattle.vx_pic.specs.Rules.{Readers}
 use Rattle.vx_pic.specs.Streams.{read_on, all_read, lacks_slice}
 use Rattle.vx_pic.specs.Bytes.{units_at}
 use Rattle.vx_assemble.specs.Feed.{Feeding, HasFed, IsRefusedFor, ReadsOn as Reads}

@@ -1,8 +1,6 @@
-use Rattle.std.proofs.Common.{◌≡◌, ◌∙◌, ap, subst, sym, Ok, Bool, cond, nat_le, ◌+◌}
+use Rattle.std.proofs.Common.{ap, sym, Ok}
 use Rattle.std.proofs.lemmas.Result.{err_from_is_err_and}
 use Rattle.vx_assemble.specs.Held.{lent_by}
-use Rattle.vx_run.specs.Change.{change}
-use Rattle.vx_run.specs.inner.Extracting.{HasChecked}
 use Rattle.vx_run.proofs.Checking.{count_stopped, count_done, count_none, count_cut, count_more, count_units, count_below, kept_below}
 use Rattle.vx_run.proofs.extract.check_next.Goals as goal
 

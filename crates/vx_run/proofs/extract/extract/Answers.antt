@@ -1,4 +1,4 @@
-use Rattle.std.proofs.Common.{◌≡◌, ◌∙◌, ap, ℕ, Ok, Err, arith}
+use Rattle.std.proofs.Common.{◌≡◌, ◌∙◌, ℕ, Ok, Err, arith}
 use Rattle.std.specs.Prelude.{IfErr}
 use Rattle.std.proofs.lemmas.Result.{err_from_is_err_and}
 use Rattle.vx_pic.proofs.Existing.{there_are_readers}
@@ -7,7 +7,6 @@ use Rattle.vx_bits.specs.declared.rules.TheConstants.{NO_PICTURE}
 use Rattle.vx_run.specs.declared.stop.Stop.TheVariants.{Refused}
 use Rattle.vx_run.specs.Conclusion.{Outcome, IsOfCommand}
 use Rattle.vx_run.specs.Extract.{at_picture}
-use Rattle.vx_run.specs.inner.Extracting.{IsTask}
 use Rattle.vx_run.proofs.Extracting.{HasExtracted-none, Extracts-unmade}
 use Rattle.vx_run.proofs.Taking.{taken_none}
 use Rattle.vx_run.proofs.extract.extract.Goals as goal

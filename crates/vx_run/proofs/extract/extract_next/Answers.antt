@@ -1,4 +1,4 @@
-use Rattle.std.proofs.Common.{◌≡◌, ◌∙◌, ap, Ok}
+use Rattle.std.proofs.Common.{◌∙◌, ap, Ok}
 use Rattle.std.proofs.lemmas.Result.{err_from_is_err_and}
 use Rattle.vx_run.specs.inner.Extracting.{IsTask}
 use Rattle.vx_run.proofs.Extracting.{extract_stopped, extract_end, extract_cut, extract_more, more_units, pictures_below}

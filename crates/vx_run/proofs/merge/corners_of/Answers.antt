@@ -1,10 +1,10 @@
-use Rattle.std.proofs.Common.{◌≡◌, ◌++◌, ◌∷◌, [], ◌∙◌, List, length, ap, refl, subst, sym, Some}
-use Rattle.std.proofs.Math.Seq.{take_all}
+use Rattle.std.proofs.Common.{◌≡◌, ◌++◌, ◌∷◌, [], ◌∙◌, List, length, ap, refl, subst, sym}
 use Rattle.std.proofs.lemmas.Option.{slice_get_read}
 use Rattle.vx_merge.specs.declared.corner.Corner.{Corner}
+use Rattle.vx_run.specs.Merge.{corner_of}
 use Rattle.vx_run.specs.inner.Placings.{IsPlacingWord, Spells, placed}
 use Rattle.vx_run.proofs.Placings.{one_of_them}
-use Rattle.vx_run.proofs.Corners.{placed_some, placed_so, corner_more, corners_all}
+use Rattle.vx_run.proofs.Corners.{placed_some, placed_so, placed_more, placed_all}
 use Rattle.vx_run.proofs.merge.corners_of.Goals as goal
 
 -- each word places a file
@@ -24,7 +24,7 @@ loop-word-preserved c =
     let spells = subst (λ t. Spells t (placed p)) c.as_str.ensures.value (placed_so c.placing_of.result _ _ p c.unwrap-placing.ensures c.placing_of.ensures) in
     let corner : Corner = record { x = p.x; y = p.y } in
     let pushed : c.push.new.self.items ≡ c.loop-word.corners.items ++ corner ∷ [] = rw (c.from.ensures, c.from-in-loop-word.ensures) at c.in_ok-push.ensures.items in
-    pushed ∙ ap (λ (l : List Corner). l ++ corner ∷ []) c.loop-word.invariant ∙ corner_more words c.loop-word.word-index w p at spells
+    pushed ∙ ap (λ (l : List Corner). l ++ corner ∷ []) c.loop-word.invariant ∙ placed_more corner_of words c.loop-word.word-index w p at spells
 
 pub returns : goal.returns
-returns c = c.loop-word.invariant ∙ corners_all c.args.placings.now c.loop-word.word-index c.loop-word-test.false
+returns c = c.loop-word.invariant ∙ placed_all corner_of c.args.placings.now c.loop-word.word-index c.loop-word-test.false

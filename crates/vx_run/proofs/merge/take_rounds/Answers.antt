@@ -1,4 +1,4 @@
-use Rattle.std.proofs.Common.{◌≡◌, ◌<◌, ◌∙◌, List, Ok, Err, length, sym, ap, subst, arith, refl}
+use Rattle.std.proofs.Common.{◌≡◌, ◌<◌, ◌∙◌, List, length, sym, ap, subst, arith, refl}
 use Rattle.std.specs.Prelude.{All}
 use Rattle.vx_assemble.specs.Held.{HasPicture}
 use Rattle.vx_assemble.specs.Feed.{Feeding}
@@ -6,7 +6,7 @@ use Rattle.vx_merge.specs.declared.corner.Corner.{Corner}
 use Rattle.std.proofs.lemmas.Result.{err_from_is_err_and}
 use Rattle.std.proofs.lemmas.Option.{slice_get_read}
 use Rattle.vx_pic.proofs.Existing.{there_are_readers}
-use Rattle.vx_run.proofs.Rounds.{waiting_none, rounds_below, all_hold}
+use Rattle.vx_run.proofs.Advancing.{waiting_none, rounds_below, all_hold}
 use Rattle.vx_run.proofs.Working.{work_unmade, work_none, work_halted, work_stopped, work_more, work_done, turns_same}
 use Rattle.vx_run.proofs.merge.take_rounds.Goals as goal
 

@@ -1,7 +1,7 @@
 use Rattle.std.proofs.Common.{◌<◌, length, map, arith, refl, None}
-use Rattle.vx_run.specs.Grammar.{show, extract, check_extract, merge, check_merge, help, version, texts}
+use Rattle.vx_run.specs.Grammar.{show, extract, check_extract, merge, check_merge, verify, help, version, texts}
 use Rattle.vx_run.specs.inner.Placings.{placing_in}
-use Rattle.vx_run.proofs.Performing.{names-file, performs, performs-show, performs-extract, performs-check, merge_count}
+use Rattle.vx_run.proofs.Performing.{names-file, performs, performs-show, performs-extract, performs-check, merge_count, verify_count}
 use Rattle.vx_run.proofs.program.perform.Goals as goal
 
 pub returns-in-Some-Show-clause-performs : goal.returns-in-Some-Show-clause-performs
@@ -56,3 +56,14 @@ check_merge-requires g c =
 pub returns-in-Some-CheckMerge-clause-performs : goal.returns-in-Some-CheckMerge-clause-performs
 returns-in-Some-CheckMerge-clause-performs g c =
     performs _ _ _ _ (check_merge (map placing_in (texts c.in-Some-CheckMerge.placings.now))) (rw c.in-Some-CheckMerge.field-0-is at c.in-Some-CheckMerge.ensures.some) c.check_merge.ensures.checks
+
+-- ---- finished merges
+
+pub verify-requires : goal.verify-requires
+verify-requires g c =
+    let spelled = rw c.in-Some-Verify.field-0-is at c.in-Some-Verify.ensures.some in
+    record { words = rw c.in-Some-Verify.field-0-is at c.in-Some-Verify.ensures.placings; count = verify_count _ _ _ c.in-Some-Verify.placings.now c.requires spelled }
+
+pub returns-in-Some-Verify-clause-performs : goal.returns-in-Some-Verify-clause-performs
+returns-in-Some-Verify-clause-performs g c =
+    performs _ _ _ _ (verify _ (map placing_in (texts c.in-Some-Verify.placings.now))) (rw c.in-Some-Verify.field-0-is at c.in-Some-Verify.ensures.some) c.verify.ensures.verifies

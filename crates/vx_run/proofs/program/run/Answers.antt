@@ -1,6 +1,9 @@
-use Rattle.vx_run.proofs.Ending.{exact-done, exact-stopped, extracts-done, extracts-stopped, words-stopped, checks-done, checks-stopped, merges-done, merges-stopped, many-done, many-stopped}
+use Rattle.vx_run.proofs.Ending.{exact-done, exact-stopped, extracts-done, extracts-stopped, words-stopped, checks-done, checks-stopped, merges-done, merges-stopped, verifies-done, verifies-stopped, many-done, many-stopped}
 use Rattle.vx_run.proofs.Once.{ends_once}
-use Rattle.vx_run.proofs.Performing.{merge_some}
+use Rattle.vx_run.proofs.Performing.{merge_some, verify_files_count}
+use Rattle.vx_run.proofs.VerifyOnce.{verify_once}
+use Rattle.vx_verify.proofs.Verdicts.{verified_has_none}
+use Rattle.vx_verify.proofs.OneMismatch.{mismatch_one}
 use Rattle.vx_merge.proofs.OnePlan.{merged_one}
 use Rattle.std.proofs.Common.{◌<◌, length, vec_len, refl, arith}
 use Rattle.vx_run.specs.Grammar.{merge, check_merge}
@@ -42,6 +45,15 @@ pub returns-in-Err-clause-merges : goal.returns-in-Err-clause-merges
 returns-in-Err-clause-merges g c R of level placings spelled few read =
     let some : 0 < length c.args.sources.now.items = omega (arith, merge_some _ _ (merge level placings) placings refl c.requires spelled spelled.named.1) in
     merges-stopped _ _ _ level placings spelled few once R of _ c.in-Err.stop c.conclude.result some c.in-Err.ensures.performs c.conclude.ensures
+    (λ k within. let fits : k < vec_len c.args.sources.now = omega (arith, within) in read k fits)
+
+pub returns-in-Ok-clause-verifies : goal.returns-in-Ok-clause-verifies
+returns-in-Ok-clause-verifies g c R of finished placings spelled few read write fits = verifies-done _ _ _ finished placings spelled few R of c.in-Ok.ensures.performs
+
+pub returns-in-Err-clause-verifies : goal.returns-in-Err-clause-verifies
+returns-in-Err-clause-verifies g c R of finished placings spelled few read =
+    let some : 0 < length c.args.sources.now.items = omega (arith, verify_files_count _ _ finished placings c.requires spelled) in
+    verifies-stopped _ _ _ finished placings spelled few (verify_once verified_has_none mismatch_one) R of _ c.in-Err.stop c.conclude.result some c.in-Err.ensures.performs c.conclude.ensures
     (λ k within. let fits : k < vec_len c.args.sources.now = omega (arith, within) in read k fits)
 
 pub returns-in-Ok-clause-many : goal.returns-in-Ok-clause-many

@@ -1,7 +1,7 @@
 use Rattle.std.proofs.Common.{rules}
 use Rattle.std.proofs.lemmas.Result.{err_from_is_err_and}
 use Rattle.vx_assemble.specs.Feed.{IsOpen}
-use Rattle.vx_run.proofs.Showing.{new_sought, reads_less, HasShown-none, HasReached-read, HasShown-later, Shows-done, Shows-read, Shows-stopped}
+use Rattle.vx_run.proofs.Showing.{new_sought, HasShown-none, HasReached-read, HasShown-later, Shows-done, Shows-read, Shows-stopped}
 use Rattle.vx_run.proofs.show.show.Goals as goal
 
 pub loop-alloc-init : goal.loop-alloc-init

@@ -1,6 +1,6 @@
 use Rattle.std.proofs.Common.{map}
 use Rattle.vx_run.proofs.Spelling.{spelled_once}
-use Rattle.vx_run.specs.Grammar.{texts, merge, check_merge}
+use Rattle.vx_run.specs.Grammar.{texts, merge, check_merge, verify}
 use Rattle.vx_run.specs.inner.Placings.{placing_in}
 use Rattle.vx_run.proofs.words.file_word.Goals as goal
 
@@ -19,3 +19,11 @@ pub returns-in-CheckMerge-clause-files : goal.returns-in-CheckMerge-clause-files
 returns-in-CheckMerge-clause-files c command asks =
     let spelled = rw c.in-CheckMerge.is at c.in_ok-file.ensures.some in
     rw (spelled_once (texts c.args.words.now) command (check_merge (map placing_in (texts c.in-CheckMerge.placings.now))) asks spelled) c.placed_file-in-CheckMerge.ensures
+
+pub verified_file-requires : goal.verified_file-requires
+verified_file-requires c = rw c.in-Verify.is at c.in_ok-file.ensures.placings
+
+pub returns-in-Verify-clause-files : goal.returns-in-Verify-clause-files
+returns-in-Verify-clause-files c command asks =
+    let spelled = rw c.in-Verify.is at c.in_ok-file.ensures.some in
+    rw (spelled_once (texts c.args.words.now) command (verify c.in-Verify.finished.now (map placing_in (texts c.in-Verify.placings.now))) asks spelled) c.verified_file.ensures

@@ -1,6 +1,5 @@
 use Rattle.std.proofs.Common.{rules, ◌≡◌, ◌∙◌, ℕ, List, ◌∷◌, Option, codes, true, false, sym}
 use Rattle.vx_run.specs.Grammar.{Placing, merge, AskFor, texts}
-use Rattle.vx_run.specs.inner.Placings.{PlaceFiles}
 use Rattle.vx_run.specs.inner.Words.{IsOptionFirst}
 use Rattle.vx_run.proofs.Numbering.{if_none}
 use Rattle.vx_run.proofs.MergeWords.{asks_to_merge, merge_not_level, merge_not_placed}

@@ -1,0 +1,173 @@
+//! What commands over several byte streams have in common: a feed for each source, and the next picture of each.
+
+ghost use Rattle.std.specs.Prelude.{◌≡◌, ◌+◌, ◌<◌, ◌≤◌, ◌^◌, List, ℕ, true, vec_len, Ok, Err, IfOk, IfErr, OnOk};
+ghost use Rattle.vx_annexb.specs.ByteStream.{UnitPlace};
+ghost use Rattle.vx_annexb.specs.Reading.{LastWasNeeded};
+ghost use Rattle.vx_pic.specs.Readings.{Reading, Picture as StreamPicture};
+ghost use Rattle.vx_pic.specs.Rules.{Readers};
+ghost use Rattle.vx_pic.specs.H266.{AreOfH266};
+ghost use Rattle.vx_assemble.specs.Held.{HasPicture};
+ghost use Rattle.vx_assemble.specs.Feed.{HasFed, EndsAtEnd, Advances};
+ghost use Rattle.vx_assemble.specs.declared.feed.Step.TheVariants as steps;
+ghost use Rattle.vx_run.specs.Change.{sources_change};
+ghost use Rattle.vx_run.specs.Conclusion.{IsOfCommand};
+ghost use Rattle.vx_run.specs.Rounds.{in_round as place_in, behind_units as place_behind, too_many as too_many_sources};
+ghost use Rattle.vx_run.specs.inner.Advancing.{AdvancesEach, AdvancesOf, AreWaiting, OfAll, IsUnfed, LendsLatest, stop_from};
+
+use crate::stop::Stop;
+use std::alloc::{AllocError, Global};
+use vx_assemble::{Feed, FeedFault, Step};
+use vx_bits::Refusal;
+use vx_bits::rules::TOO_MANY_SOURCES;
+use vx_io::Source;
+use vx_report::Where;
+
+/// How many sources there may be.
+pub(crate) const MOST_SOURCES: usize = 64;
+
+/// More sources are named than there may be.
+pub(crate) fn too_many() -> Stop
+    ensures { Err result ≡ too_many_sources }
+{
+    Stop::Refused {
+        refusal: Refusal::Limit {
+            code: TOO_MANY_SOURCES,
+        },
+        place: in_round(0),
+    }
+}
+
+/// A feed for each of so many sources.
+pub(crate) fn feeds_for(alloc: Global, count: usize) -> Result<Vec<Feed>, AllocError>
+    ensures count { IfOk result (λ feeds. vec_len feeds ≡ count) }
+    ensures unfed { IfOk result (λ feeds. OfAll (λ k f. IsUnfed f) feeds.items) }
+{
+    let mut feeds = Vec::new(alloc);
+    for _ in 0..count {
+        let feed = Feed::new(alloc)?;
+        feeds.push(feed)?;
+    }
+    Ok(feeds)
+}
+
+/// That none of so many sources has ended.
+pub(crate) fn going(alloc: Global, count: usize) -> Result<Vec<bool>, AllocError>
+    ensures { IfOk result (λ ended. vec_len ended ≡ count) }
+{
+    let mut ended = Vec::new(alloc);
+    for _ in 0..count {
+        ended.push(false)?;
+    }
+    Ok(ended)
+}
+
+/// Comes to the next picture of each source, in order, behind so many rounds, and marks those that have ended.
+pub(crate) fn advance_each(
+    feeds: &mut Vec<Feed>,
+    sources: &mut Vec<Box<dyn Source>>,
+    ended: &mut Vec<bool>,
+    rounds: u64,
+) -> Result<(), Stop>
+    requires few { vec_len sources.old ≤ 65536 }
+    requires feeds { vec_len feeds.old ≡ vec_len sources.old }
+    requires ended { vec_len ended.old ≡ vec_len sources.old }
+    ensures answer { (R : Readers) → AreOfH266 R → (first : List _) (taken : List (List StreamPicture))
+        → AreWaiting R (sources_change bytes_left read_faults first sources.old.items) feeds.old.items taken rounds
+        → AdvancesEach R (sources_change bytes_left read_faults first sources.new.items) feeds.new.items taken rounds ended.new.items result }
+    ensures few { OnOk result (OfAll (λ k f. f.units ≤ 2 ^ 40) feeds.new.items) }
+    ensures stop { IfErr result IsOfCommand }
+    ensures feeds { vec_len feeds.new ≡ vec_len feeds.old }
+    ensures ended { vec_len ended.new ≡ vec_len ended.old }
+    ensures list { vec_len sources.new ≡ vec_len sources.old }
+{
+    for k in 0..feeds.len() {
+        let goes = advance(&mut feeds[k], &mut sources[k], k as u16)?;
+        ended[k] = !goes;
+    }
+    Ok(())
+}
+
+/// Comes to the next picture of source `k`, if there is one.
+fn advance(feed: &mut Feed, source: &mut Box<dyn Source>, k: u16) -> Result<bool, Stop>
+    ensures answer { (R : Readers) → AreOfH266 R → (g : List ℕ) (units : List UnitPlace) (readings : List Reading)
+        → HasFed R feed.old g units readings → LastWasNeeded g units
+        → AdvancesOf k R g units readings feed.new (bytes_left source.old) (bytes_left source.new) (read_faults source.old) (read_faults source.new) result }
+    ensures lent { result ≡ Ok true → LendsLatest feed.new }
+    ensures end { EndsAtEnd feed.old (bytes_left source.old) → EndsAtEnd feed.new (bytes_left source.new) }
+    ensures few { OnOk result (feed.new.units ≤ 2 ^ 40) }
+    ensures stop { IfErr result IsOfCommand }
+{
+    match step(feed, source) {
+        Ok(Step::Picture) => {
+            lends_latest(feed);
+            Ok(true)
+        }
+        Ok(Step::End) => Ok(false),
+        Err(fault) => Err(stop_of(fault, k, feed.unit())),
+    }
+}
+
+/// What a feed lends is the picture that was taken last.
+fn lends_latest(feed: &Feed)
+    requires { HasPicture feed.now.assembler }
+    ensures { LendsLatest feed.now }
+{
+    let _picture = feed.picture();
+}
+
+/// What stops the command where the feed of source `k` stops behind its n-th unit.
+fn stop_of(fault: FeedFault, k: u16, n: u64) -> Stop
+    ensures { result ≡ stop_from k fault n }
+{
+    match fault {
+        FeedFault::Refused(refusal) => Stop::Refused {
+            refusal,
+            place: behind_units(k, n),
+        },
+        FeedFault::SourceFailed => Stop::ReadFault { source: k },
+        FeedFault::Memory | FeedFault::Stopped(_) => Stop::NoMemory,
+    }
+}
+
+/// Advances on the source.
+pub(crate) fn step(feed: &mut Feed, source: &mut Box<dyn Source>) -> Result<Step, FeedFault>
+    ensures answer { (R : Readers) → AreOfH266 R → (g : List ℕ) (units : List UnitPlace) (readings : List Reading)
+        → HasFed R feed.old g units readings → LastWasNeeded g units
+        → Advances R g units readings feed.new (bytes_left source.old) (bytes_left source.new) (read_faults source.old) (read_faults source.new) result }
+    ensures picture { result ≡ Ok steps.Picture → HasPicture feed.new.assembler }
+    ensures end { EndsAtEnd feed.old (bytes_left source.old) → EndsAtEnd feed.new (bytes_left source.new) }
+    ensures few { OnOk result (feed.new.units ≤ 2 ^ 40) }
+{
+    feed.advance(&mut **source)
+}
+
+/// One more than a count that is below `most`.
+pub(crate) fn one_more(count: u64, most: u64) -> u64
+    ensures { count < most → result ≡ count + 1 }
+{
+    most.min(count.saturating_add(1))
+}
+
+/// The place in source `k` behind its n-th unit.
+fn behind_units(k: u16, n: u64) -> Where
+    ensures { result ≡ place_behind k n }
+{
+    Where {
+        source: k,
+        unit: n,
+        picture: 0,
+        written: false,
+    }
+}
+
+/// Round `n`.
+pub(crate) fn in_round(n: u64) -> Where
+    ensures { result ≡ place_in n }
+{
+    Where {
+        source: 0,
+        unit: 0,
+        picture: n,
+        written: true,
+    }
+}

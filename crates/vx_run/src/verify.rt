@@ -1,0 +1,187 @@
+//! `verify merge`: whether the pictures of a finished byte stream are those of its sources put together, round by round.
+
+ghost use Rattle.std.specs.Prelude.{◌≡◌, ◌+◌, ◌<◌, ◌≤◌, ◌^◌, List, All, None, map, length, vec_len, IfOk, IfErr, OnOk};
+ghost use Rattle.std.specs.List.{AllByRecursion};
+ghost use Rattle.vx_pic.specs.Readings.{Picture as StreamPicture};
+ghost use Rattle.vx_pic.specs.Rules.{Readers};
+ghost use Rattle.vx_pic.specs.H266.{AreOfH266};
+ghost use Rattle.vx_assemble.specs.Held.{HasPicture, lent_by};
+ghost use Rattle.vx_run.specs.Change.{change, sources_change};
+ghost use Rattle.vx_run.specs.Conclusion.{IsOfCommand};
+ghost use Rattle.vx_run.specs.Grammar.{texts};
+ghost use Rattle.vx_run.specs.Rounds.{most_sources};
+ghost use Rattle.vx_run.specs.Verify.{Verifies, VerifiesBy, VerifyEndsOnce, length_differs, spots_of as spots_by, yes_text};
+ghost use Rattle.vx_run.specs.inner.Advancing.{AdvancesAll, AreWaiting, GoesBy, OfAll};
+ghost use Rattle.vx_run.specs.inner.Placings.{IsPlacingWord, placing_in};
+ghost use Rattle.vx_run.specs.inner.Verifying.{VerifiesRound, VerifiesRounds, stop_in};
+
+use crate::rounds::{MOST_SOURCES, advance_each, feeds_for, going, one_more, too_many};
+use crate::stop::Stop;
+use crate::words::placing_of;
+use std::alloc::{AllocError, Global};
+use vx_assemble::Feed;
+use vx_io::{Sink, Source, write_all};
+use vx_merge::{Lengths, lengths};
+use vx_verify::{Mismatch, Spot, Verifier, VerifyError};
+
+/// Says how many rounds of pictures there are, where the first file is the others put together, each at its place.
+pub(crate) fn verify<K: Sink>(
+    alloc: Global,
+    placings: &[String],
+    sources: &mut Vec<Box<dyn Source>>,
+    out: &mut K,
+) -> Result<(), Stop>
+    requires words { AllByRecursion IsPlacingWord (texts placings.now) }
+    requires count { vec_len sources.old ≡ length placings.now + 1 }
+    ensures verifies { Verifies (spots_by (map placing_in (texts placings.now)))
+        (sources_change bytes_left read_faults sources.old.items sources.new.items)
+        (change K.bytes_taken K.write_faults out.old out.new) result }
+    ensures list { vec_len sources.new ≡ vec_len sources.old }
+{
+    if placings.len() > MOST_SOURCES {
+        return Err(too_many());
+    }
+    verify_files(alloc, placings, sources, out)
+}
+
+/// Says how many rounds are verified.
+fn verify_files<K: Sink>(
+    alloc: Global,
+    placings: &[String],
+    sources: &mut Vec<Box<dyn Source>>,
+    out: &mut K,
+) -> Result<(), Stop>
+    requires words { AllByRecursion IsPlacingWord (texts placings.now) }
+    requires few { length placings.now ≤ most_sources }
+    requires count { vec_len sources.old ≡ length placings.now + 1 }
+    ensures verifies { (R : Readers) → AreOfH266 R → VerifiesBy R (spots_by (map placing_in (texts placings.now)))
+        (sources_change bytes_left read_faults sources.old.items sources.new.items)
+        (change K.bytes_taken K.write_faults out.old out.new) result }
+    ensures stop { IfErr result IsOfCommand }
+    ensures list { vec_len sources.new ≡ vec_len sources.old }
+{
+    let spots = spots_of(alloc, placings)?;
+    let rounds = verify_rounds(alloc, &spots, sources)?;
+    let line = yes_line(alloc, rounds)?;
+    write_all(out, &line)?;
+    Ok(())
+}
+
+/// The places at which these words place files.
+fn spots_of(alloc: Global, placings: &[String]) -> Result<Vec<Spot>, AllocError>
+    requires { AllByRecursion IsPlacingWord (texts placings.now) }
+    ensures { IfOk result (λ spots. spots.items ≡ spots_by (map placing_in (texts placings.now))) }
+{
+    let mut spots = Vec::new(alloc);
+    for word in placings {
+        let placing = placing_of(word.as_str()).unwrap();
+        spots.push(Spot {
+            x: u32::from(placing.x),
+            y: u32::from(placing.y),
+        })?;
+    }
+    Ok(spots)
+}
+
+/// Verifies round after round of pictures of the files, and says how many there are.
+fn verify_rounds(
+    alloc: Global,
+    spots: &[Spot],
+    sources: &mut Vec<Box<dyn Source>>,
+) -> Result<u64, Stop>
+    requires few { length spots.now ≤ most_sources }
+    requires count { vec_len sources.old ≡ length spots.now + 1 }
+    ensures verifies { (R : Readers) → AreOfH266 R → VerifiesRounds R spots.now
+        (sources_change bytes_left read_faults sources.old.items sources.new.items) result }
+    ensures stop { IfErr result IsOfCommand }
+    ensures list { vec_len sources.new ≡ vec_len sources.old }
+{
+    let mut feeds = feeds_for(alloc, sources.len())?;
+    let mut ended = going(alloc, sources.len())?;
+    let mut verifier = Verifier::new(alloc, spots)?;
+    let mut rounds = 0;
+    while advance_files(&mut feeds, sources, &mut ended, rounds)? {
+        verify_round(&mut verifier, &feeds, rounds)?;
+        rounds = one_more(rounds, feeds[0].unit());
+    }
+    Ok(rounds)
+}
+
+/// Comes to the next picture of each file, in order, behind so many rounds, if they go on.
+fn advance_files(
+    feeds: &mut Vec<Feed>,
+    sources: &mut Vec<Box<dyn Source>>,
+    ended: &mut Vec<bool>,
+    rounds: u64,
+) -> Result<bool, Stop>
+    requires some { 0 < vec_len sources.old }
+    requires few { vec_len sources.old ≤ 65536 }
+    requires feeds { vec_len feeds.old ≡ vec_len sources.old }
+    requires ended { vec_len ended.old ≡ vec_len sources.old }
+    ensures answer { (R : Readers) → AreOfH266 R → (first : List _) (taken : List (List StreamPicture))
+        → AreWaiting R (sources_change bytes_left read_faults first sources.old.items) feeds.old.items taken rounds
+        → AdvancesAll length_differs R (sources_change bytes_left read_faults first sources.new.items) feeds.new.items taken rounds result }
+    ensures few { OnOk result (OfAll (λ k f. f.units ≤ 2 ^ 40) feeds.new.items) }
+    ensures stop { IfErr result IsOfCommand }
+    ensures feeds { vec_len feeds.new ≡ vec_len feeds.old }
+    ensures ended { vec_len ended.new ≡ vec_len ended.old }
+    ensures list { vec_len sources.new ≡ vec_len sources.old }
+{
+    advance_each(feeds, sources, ended, rounds)?;
+    all_alike(ended, rounds)
+}
+
+/// Whether all files go on behind so many rounds, or all have ended.
+fn all_alike(ended: &[bool], rounds: u64) -> Result<bool, Stop>
+    requires { (0 < length ended.now) × (length ended.now ≤ 65536) }
+    ensures goes { GoesBy length_differs ended.now rounds result }
+    ensures stop { IfErr result IsOfCommand }
+{
+    match lengths(ended) {
+        Lengths::AllGo => Ok(true),
+        Lengths::AllEnded => Ok(false),
+        Lengths::Differ(file) => Err(Stop::Mismatched {
+            mismatch: Mismatch::Length(file),
+            picture: rounds,
+        }),
+    }
+}
+
+/// Verifies the round of the pictures that the feeds lend, behind so many rounds; the first feed is that of the finished stream.
+fn verify_round(verifier: &mut Verifier, feeds: &[Feed], rounds: u64) -> Result<(), Stop>
+    requires count { length feeds.now ≡ length verifier.old.spots + 1 }
+    requires holds { All (λ f. HasPicture f.assembler) feeds.now }
+    ensures verifies { verifier.old.first ≡ None → VerifiesRound verifier.old.spots (map (λ f. lent_by f.assembler) feeds.now) rounds result }
+    ensures stays { OnOk result (verifier.new ≡ verifier.old) }
+    ensures stop { IfErr result IsOfCommand }
+{
+    match verifier.round(&feeds[0].picture(), &feeds[1..]) {
+        Ok(()) => Ok(()),
+        Err(error) => Err(stop_of_round(error, rounds)),
+    }
+}
+
+/// What stops the command where round `n` isn't verified.
+fn stop_of_round(error: VerifyError, n: u64) -> Stop
+    ensures { result ≡ stop_in error n }
+{
+    match error {
+        VerifyError::Refused(mismatch) => Stop::Mismatched {
+            mismatch,
+            picture: n,
+        },
+        VerifyError::Memory | VerifyError::Stopped(_) => Stop::NoMemory,
+    }
+}
+
+/// `yes pictures 2`
+fn yes_line(alloc: Global, rounds: u64) -> Result<Vec<u8>, AllocError>
+    ensures { IfOk result (λ line. line.items ≡ yes_text rounds) }
+{
+    Ok(format!(in alloc; "yes pictures {rounds}\n")?.into_bytes())
+}
+
+/// A verification ends once.
+pub fn verify_ends_once()
+    ensures { VerifyEndsOnce }
+{}

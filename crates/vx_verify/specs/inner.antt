@@ -1,0 +1,2 @@
+-- Definitions that serve bodies and proofs alone.
+pub mod Found

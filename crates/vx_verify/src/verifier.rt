@@ -1,0 +1,109 @@
+//! Round after round that is verified.
+ghost use Rattle.std.specs.Prelude.{◌≡◌, ◌≤◌, All, length, map};
+ghost use Rattle.vx_verify.specs.Verifying.{Judges};
+
+use crate::checks::mismatch;
+use crate::mismatch::{VerifyError, VerifyFirst, first_of};
+use crate::spot::Spot;
+use std::alloc::{AllocError, Global};
+use std::marker::Model;
+use vx_pic::{Lender, Picture, lent};
+
+/// Tells round after round whether a finished stream is its sources put together, a round being one picture of it and of each source.
+///
+/// After a mismatch or want of memory it answers [`VerifyError::Stopped`]. It keeps nothing of a round: each is judged by itself.
+#[derive(Drop)]
+pub struct Verifier {
+    alloc: Global,
+    spots: Vec<Spot>,
+    first: Option<VerifyFirst>,
+}
+
+impl Model for Verifier {
+    ghost use Rattle.std.specs.Prelude.{◌≤◌, length};
+    ghost use Rattle.vx_verify.specs.Verifying.{Verifying};
+
+    ghost Value = { Verifying };
+
+    ghost view = { λ v. record { spots = v.spots.items; first = v.first } };
+
+    ghost invariant = { λ v. length v.spots.items ≤ 64 };
+}
+
+/// Judges a finished picture and the pictures that are lent.
+fn judge<L: Lender>(
+    alloc: Global,
+    spots: &[Spot],
+    finished: &Picture<'_>,
+    lenders: &[L],
+) -> Result<(), VerifyError>
+    requires few { length spots.now ≤ 64 }
+    requires count { length lenders.now ≡ length spots.now }
+    requires holds { All L.holds lenders.now }
+    ensures { Judges spots.now finished.now (map L.lent lenders.now) result }
+{
+    let round = lent(alloc, lenders)?;
+    let found = mismatch(alloc, spots, finished, round.as_slice())?;
+    match found {
+        Some(mismatch) => Err(VerifyError::Refused(mismatch)),
+        None => Ok(()),
+    }
+}
+
+impl Verifier {
+    ghost use Rattle.std.specs.Prelude.{◌≡◌, ◌≤◌, All, map, length, None, Some, Err, IfErr, IfOk, OnOk};
+    ghost use Rattle.vx_verify.specs.Verifying as spec;
+    ghost use Rattle.vx_verify.specs.Verifying.{Judges};
+    ghost use Rattle.vx_verify.specs.declared.mismatch.VerifyError.TheVariants.{Stopped};
+    ghost use Rattle.vx_verify.specs.declared.mismatch.VerifyFirst.{VerifyFirst as First};
+
+    /// A verifier of sources that are to stand at these places, at most 64 of them, each of at most 16,383 luma samples across and down.
+    ///
+    /// # Errors
+    ///
+    /// Want of memory.
+    pub fn new(alloc: Global, spots: &[Spot]) -> Result<Verifier, AllocError>
+        requires { length spots.now ≤ 64 }
+        ensures { IfOk result (λ v. v ≡ record { spots = spots.now; first = None }) }
+    {
+        let mut own = Vec::new(alloc);
+        own.extend_from_slice(spots)?;
+        Ok(Verifier {
+            alloc,
+            spots: own,
+            first: None,
+        })
+    }
+
+    /// Whether a finished picture is the pictures of the sources put together: as many lenders as places, each holding its picture. Any
+    /// finished picture may be asked of.
+    ///
+    /// # Errors
+    ///
+    /// What differs first, by its code and then by the lowest file, or want of memory. All later rounds are answered with the first of
+    /// these.
+    pub fn round<L: Lender>(
+        &mut self,
+        finished: &Picture<'_>,
+        lenders: &[L],
+    ) -> Result<(), VerifyError>
+        requires count { length lenders.now ≡ length self.old.spots }
+        requires holds { All L.holds lenders.now }
+        ensures answer { self.old.first ≡ None → Judges self.old.spots finished.now (map L.lent lenders.now) result }
+        ensures task { self.new.spots ≡ self.old.spots }
+        ensures first { IfErr result (λ e. self.new.first ≡ Some (spec.first_of e)) }
+        ensures stays { OnOk result (self.new ≡ self.old) }
+        ensures stopped { (f : First) → self.old.first ≡ Some f → (result ≡ Err (Stopped f)) × (self.new ≡ self.old) }
+    {
+        if let Some(first) = self.first {
+            return Err(VerifyError::Stopped(first));
+        }
+        match judge(self.alloc, &self.spots, finished, lenders) {
+            Ok(()) => Ok(()),
+            Err(error) => {
+                self.first = Some(first_of(error));
+                Err(error)
+            }
+        }
+    }
+}
