@@ -36,7 +36,8 @@ use Rattle.vx_pic.specs.Streams.{pictures_of}
 use Rattle.vx_pic.specs.Written.{AreInOrder, HeadReads, SliceReads}
 use Rattle.vx_pic.specs.Finished.{IsSound, AreFinished}
 use Rattle.vx_pic.specs.H266.{AreOfH266, IsSlice, IsSliceAnswer}
-use Rattle.vx_pic.specs.Parts.{Parts, SlicePart, slice_part}
+use Rattle.vx_pic.specs.Parts.{Parts, SlicePart, parts_of, slice_part}
+use Rattle.vx_pic.specs.Inputs.{InputsAreShown, input_in}
 use Rattle.vx_pic.specs.Whole.{HasSets, HasEach, HasAllInOrder, subpic_slices, SubpicturesHaveSlices, SubpicturesAreWhole, SlicesAreShown}
 use Rattle.vx_pic.proofs.Sizes.{has_ctus}
 use Rattle.vx_pic.proofs.Finishing.{pictures_finished}
@@ -274,3 +275,13 @@ shown_at b k (s ∷ xs) = elim (cases_Bool (s.header.subpic == k)) [
 
 pub slices_are_shown : SlicesAreShown
 slices_are_shown parts p k shows = ap (λ (q : Parts). filter (λ (s : SlicePart). s.header.subpic == k) q.slices) shows ∙ shown_at p.begun k p.slices
+
+mapped : {A B C : Type 0} (f : A → B) (g : B → C) (test : B → Bool) (xs : List A) → map g (filter test (map f xs)) ≡ map (λ x. g (f x)) (filter (λ x. test (f x)) xs)
+mapped f g test [] = refl
+mapped f g test (x ∷ xs) = elim (cases_Bool (test (f x))) [
+  | inl is ↦ rw is (ap (λ t. g (f x) ∷ t) (mapped f g test xs))
+  | inr is_not ↦ rw is_not (mapped f g test xs)
+]
+
+pub inputs_are_shown : InputsAreShown
+inputs_are_shown p k = mapped (slice_part p.begun) (input_in (parts_of p)) (λ s. s.header.subpic == k) p.slices

@@ -1,12 +1,10 @@
 -- Pictures that are alike have the same counts.
-use Rattle.std.proofs.Common.{◌≡◌, ℕ, ℤ, pos, ◌+ℤ◌, Bool, true, false, not, cond, ◌||◌, List, [], ◌∷◌, refl, sym, ◌∙◌, ap, inl, inr, find}
+use Rattle.std.proofs.Common.{◌≡◌, ℕ, ℤ, pos, ◌+ℤ◌, Bool, cond, ◌||◌, List, [], ◌∷◌, refl, sym, ◌∙◌, ap, inl, inr, find}
 use Rattle.std.specs.Prelude.{Option, Some}
 use Rattle.std.proofs.lemmas.Bool.{cases_Bool}
-use Rattle.vx_bits.specs.declared.list.Item.{Item}
-use Rattle.vx_pic.specs.Sets.{same_items}
 use Rattle.vx_pic.specs.Readings.{Begun, Picture}
-use Rattle.vx_pic.specs.Counts.{is_tid0_picture, Previous, counts_of, counts_or_none, previous, msb_by, is_empty, kind_of, is_changed}
-use Rattle.vx_pic.specs.Alike.{AlikeForCounts, AreAlike, KeepsSps, AlikeIsNext}
+use Rattle.vx_pic.specs.Counts.{is_tid0_picture, Previous, counts_of, counts_or_none, previous, msb_by, is_empty, kind_of}
+use Rattle.vx_pic.specs.Alike.{AlikeForCounts, AreAlike, AlikeIsNext}
 
 -- both can be prevTid0Pic, or none
 same_tid0 : (p q : Picture) → p.kind ≡ q.kind → AlikeForCounts p.begun q.begun → is_tid0_picture p ≡ is_tid0_picture q
@@ -47,21 +45,11 @@ pub same_kind : (ps qs : List Picture) (b c : Begun) (ended : Bool) (t tid : ℕ
 same_kind ps qs b c ended t tid alike same =
     rw (same_empty ps qs alike, same_previous ps qs alike, same.lsb, same.cycle, same.max) refl
 
-not_changed : (ps qs : List Picture) (s t : List Item) → KeepsSps ps s qs t → is_changed ps s ≡ false → is_changed qs t ≡ false
-not_changed [] [] s t keeps is = refl
-not_changed [] (q ∷ qs) s t keeps is = absurd keeps
-not_changed (p ∷ ps) [] s t keeps is = absurd keeps
-not_changed (p ∷ ps) (q ∷ qs) s t keeps is =
-    elim (cases_Bool (same_items p.begun.sps s)) [
-      | inl same ↦ ap not (keeps same)
-      | inr other ↦ let e : true ≡ false = sym (ap not other) ∙ is in absurd (cc)
-    ]
-
 pub alike_is_next : AlikeIsNext
 alike_is_next ps qs b c k alike same keeps next = record {
   ends = λ h. sym (same_empty ps qs alike) ∙ next.ends h;
   kind = next.kind ∙ same_kind ps qs b c k.after_eos k.nal_type k.temporal_id alike same;
   begins = λ h. next.begins (ap (λ e. k.after_eos || e) (same_empty ps qs alike) ∙ h);
-  same = λ h. not_changed ps qs b.sps c.sps keeps (next.same h);
+  same = keeps;
   fits = next.fits;
 }

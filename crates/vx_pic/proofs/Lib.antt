@@ -10,6 +10,7 @@ pub mod Sent
 pub mod Finishing
 pub mod Editing
 pub mod Sublayers
+pub mod Joining
 pub mod Listed
 pub mod Sizes
 pub mod PictureSizes

@@ -1,9 +1,8 @@
 -- What a picture is among those before it, and pictures of two streams that tell the same of their counts.
 use Rattle.std.specs.Prelude.{◌≡◌, true, false, List, [], ◌∷◌}
-use Rattle.vx_bits.specs.declared.list.Item.{Item}
 use Rattle.vx_pic.specs.declared.kind.Kind.{Kind}
 use Rattle.vx_pic.specs.Units.{is_irap_or_gdr}
-use Rattle.vx_pic.specs.Sets.{max_lsb, lsb_of, msb_cycle, is_non_ref, same_items}
+use Rattle.vx_pic.specs.Sets.{max_lsb, lsb_of, msb_cycle, is_non_ref}
 use Rattle.vx_pic.specs.Readings.{Begun, Picture}
 use Rattle.vx_pic.specs.Counts.{fits_count, is_empty, begins_anew, kind_of, is_changed}
 
@@ -34,14 +33,8 @@ AreAlike (p ∷ ps) (q ∷ qs) = (p.kind ≡ q.kind) × AlikeForCounts p.begun q
 AreAlike [] (q ∷ qs) = ⊥
 AreAlike (p ∷ ps) [] = ⊥
 
--- where the one keeps the SPS of the picture before, so does the other
-abbrev pub KeepsSps : List Picture → List Item → List Picture → List Item → Type 0
-KeepsSps [] s [] t = Unit {0}
-KeepsSps (p ∷ ps) s (q ∷ qs) t = same_items p.begun.sps s ≡ true → same_items q.begun.sps t ≡ true
-KeepsSps [] s (q ∷ qs) t = ⊥
-KeepsSps (p ∷ ps) s [] t = ⊥
-
--- A kind, with its count, that comes next behind pictures comes next behind pictures that are alike.
+-- A kind, with its count, that comes next behind pictures comes next behind pictures that are alike, with an SPS that is that of the
+-- picture before, unless the kind starts a coded layer video sequence.
 abbrev pub AlikeIsNext : Type 0
-AlikeIsNext = (ps qs : List Picture) (b c : Begun) (k : Kind) → AreAlike ps qs → AlikeForCounts b c → KeepsSps ps b.sps qs c.sps
-    → IsNext ps b k → IsNext qs c k
+AlikeIsNext = (ps qs : List Picture) (b c : Begun) (k : Kind) → AreAlike ps qs → AlikeForCounts b c
+    → (k.clvss ≡ false → is_changed qs c.sps ≡ false) → IsNext ps b k → IsNext qs c k

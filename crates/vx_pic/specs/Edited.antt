@@ -1,18 +1,20 @@
 -- Plans that take the places of pictures that were read.
-use Rattle.std.specs.Prelude.{◌≡◌, List, [], ◌∷◌}
+use Rattle.std.specs.Prelude.{◌≡◌, false, List, [], ◌∷◌}
 use Rattle.vx_pic.specs.Readings.{Picture}
+use Rattle.vx_pic.specs.Counts.{is_changed}
 use Rattle.vx_pic.specs.Rules.{Readers}
-use Rattle.vx_pic.specs.Alike.{IsNext, AlikeForCounts, AreAlike, KeepsSps}
+use Rattle.vx_pic.specs.Alike.{IsNext, AlikeForCounts, AreAlike}
 use Rattle.vx_pic.specs.Written.{Plan}
 use Rattle.vx_pic.specs.Resident.{planned_of, IsPlanned, AreAllPlanned}
 use Rattle.vx_pic.specs.Finished.{AreFinished}
 
 -- A plan behind others in the place of a picture behind those before it: its kind is the picture's, its header tells the same of
--- counts, it keeps its SPS where the picture does, and but for its place among the pictures it is as a plan has to be.
+-- counts, its SPS is that of the plan before, unless it starts a coded layer video sequence, and but for its place among the pictures
+-- it is as a plan has to be.
 pub record IsEdit (R : Readers) (earlier : List Picture) (p : Picture) (done : List Plan) (q : Plan) : Type 0 where
   pub kind : p.kind ≡ q.kind
   pub alike : AlikeForCounts p.begun q.begun
-  pub keeps : KeepsSps earlier p.begun.sps (planned_of done) q.begun.sps
+  pub keeps : p.kind.clvss ≡ false → is_changed (planned_of done) q.begun.sps ≡ false
   pub others : IsNext (planned_of done) q.begun q.kind → IsPlanned R done q
 
 abbrev pub AreEdits : Readers → List Picture → List Plan → Type 0

@@ -1,6 +1,6 @@
 -- The decoding input of a slice: all that decoding it depends on but for the pictures that it refers to, told without ids and places
 -- in the frame, so that two slices whose inputs are equal decode alike.
-use Rattle.std.specs.Prelude.{ℕ, ℤ, ◌+◌, ◌-◌, ◌*◌, ◌==◌, ◌&&◌, ◌||◌, min, nat_lt, Bool, cond, List, [], ◌∷◌, ◌++◌, length, map, filter}
+use Rattle.std.specs.Prelude.{◌≡◌, ℕ, ℤ, ◌+◌, ◌-◌, ◌*◌, ◌==◌, ◌&&◌, ◌||◌, min, nat_lt, Bool, cond, List, [], ◌∷◌, ◌++◌, length, map, filter}
 use Rattle.std.specs.Prelude.{drop, Option, None, option_map, option_and_then, option_to_list}
 use Rattle.vx_bits.specs.declared.list.Item.{Item}
 use Rattle.vx_bits.specs.Fields.{first_value}
@@ -173,3 +173,11 @@ input_of p s = input_in (parts_of p) (slice_part p.begun s)
 -- those of the slices of subpicture k, which come in the order of their addresses
 abbrev pub inputs_of : Picture → ℕ → List Input
 inputs_of p k = map (input_of p) (filter (λ s. s.header.subpic == k) p.slices)
+
+-- of what callers see of a picture
+abbrev pub inputs_in : Parts → ℕ → List Input
+inputs_in q k = map (input_in q) (filter (λ s. s.header.subpic == k) q.slices)
+
+-- Both are the same.
+abbrev pub InputsAreShown : Type 0
+InputsAreShown = (p : Picture) (k : ℕ) → inputs_in (parts_of p) k ≡ inputs_of p k

@@ -14,6 +14,7 @@ pub mod Resident
 pub mod Finished
 pub mod Edited
 pub mod Sublayers
+pub mod Joined
 pub mod Laws
 pub mod PictureLayout
 pub mod UnderSets

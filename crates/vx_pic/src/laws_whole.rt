@@ -1,4 +1,5 @@
 //! Laws of what the pictures of units have: functions that do nothing, each with a law as its contract.
+ghost use Rattle.vx_pic.specs.Inputs.{InputsAreShown};
 ghost use Rattle.vx_pic.specs.Whole.{PicturesHaveSets, SlicesAreShown, SubpicturesAreWhole, SubpicturesHaveSlices};
 
 use vx_pps::sets_tell_partitions;
@@ -19,3 +20,8 @@ pub fn subpictures_have_slices()
     addresses_are_below();
     slice_scopes_agree();
 }
+
+/// The decoding inputs of a picture of a stream are those of what callers see of it.
+pub fn inputs_are_shown()
+    ensures { InputsAreShown }
+{}

@@ -1,6 +1,8 @@
 //! What may hold a picture.
+ghost use Rattle.std.specs.Prelude.{◌≡◌, All, map, IfOk};
 
 use crate::picture::Picture;
+use std::alloc::{AllocError, Global};
 
 /// Something that may hold a picture, and lends it.
 pub trait Lender {
@@ -17,4 +19,20 @@ pub trait Lender {
     fn picture(&self) -> Picture<'_>
         requires { holds self.now }
         ensures { result ≡ lent self.now };
+}
+
+/// The pictures that are lent.
+///
+/// # Errors
+///
+/// Want of memory.
+pub fn lent<L: Lender>(alloc: Global, lenders: &[L]) -> Result<Vec<Picture<'_>>, AllocError>
+    requires { All L.holds lenders.now }
+    ensures { IfOk result (λ round. round.items ≡ map L.lent lenders.now) }
+{
+    let mut round = Vec::new(alloc);
+    for lender in lenders {
+        round.push(lender.picture())?;
+    }
+    Ok(round)
 }

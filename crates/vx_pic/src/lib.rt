@@ -13,6 +13,7 @@ mod input;
 mod kept_fields;
 mod kind;
 mod laws;
+mod laws_joined;
 mod laws_readers;
 mod laws_sublayers;
 mod laws_whole;
@@ -42,11 +43,12 @@ pub use laws::{
     plans_read_again, previous_by_places, reading_goes_on, seen_pictures_stay, stored_by_places,
     written_has_pictures, written_reads_again,
 };
+pub use laws_joined::{begins_where_first, joined_are_finished, played_are_finished};
 pub use laws_readers::{readers_are_unique, readers_exist};
 pub use laws_sublayers::{all_are_kept, kept_are_finished};
-pub use laws_whole::{pictures_have_sets, subpictures_have_slices};
+pub use laws_whole::{inputs_are_shown, pictures_have_sets, subpictures_have_slices};
 pub use layouts::{CTU_SIZE_FAULT, IDS_FAULT, picture_ids, picture_layout};
-pub use lender::Lender;
+pub use lender::{Lender, lent};
 pub use numbers::number_of;
 pub use picture::{Picture, PictureParts, SliceSlot, SliceSlots, SliceView};
 pub use place::{Place, luma_size_of, several_slices, several_tiles};

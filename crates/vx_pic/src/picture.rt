@@ -104,6 +104,19 @@ impl<'a> Picture<'a> {
         Picture { parts }
     }
 
+    /// The same picture behind an end of sequence.
+    pub fn after_end(&self) -> Picture<'a>
+        ensures { result ≡ record self.now { kind = record self.now.kind { after_eos = true } } }
+    {
+        let kind = Kind {
+            after_eos: true,
+            ..self.parts.kind
+        };
+        Picture {
+            parts: PictureParts { kind, ..self.parts },
+        }
+    }
+
     /// What it is among the pictures of its stream.
     pub fn kind(&self) -> Kind
         ensures value { result ≡ self.now.kind }
