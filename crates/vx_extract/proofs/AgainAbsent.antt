@@ -2,6 +2,7 @@
 use Rattle.std.proofs.Common.{◌≡◌, ℕ, ℤ, ◌==◌, true, false, List, [], ◌∷◌, ◌++◌, slice_index, refl, ap, sym, subst, ◌∙◌}
 use Rattle.std.specs.Prelude.{drop, take}
 use Rattle.std.proofs.lemmas.Bool.{eq-eqb, eqb-true, not-false}
+use Rattle.std.proofs.lemmas.List.Elements.{All-head, All-tail}
 use Rattle.vx_bits.specs.declared.list.Item.{Item}
 use Rattle.vx_fields.specs.declared.sps.TheConstants as fields
 use Rattle.vx_table.specs.declared.rows.Row.{Row}
@@ -17,14 +18,20 @@ use Rattle.vx_table.specs.Values.{Follows, to_end}
 use Rattle.vx_table.proofs.Groups.{cut}
 use Rattle.vx_table.proofs.Joined.{items_joined, parted}
 use Rattle.vx_table.proofs.Loading.{sections_load}
+use Rattle.vx_table.proofs.With.{with_field}
 use Rattle.vx_table.proofs.Rewrites.{leaves_agree, sections_leave, sections_together}
 use Rattle.vx_sps.specs.declared.tables.TheConstants.{SUBPICTURES, SUBPIC_IDS}
 use Rattle.vx_sps.specs.Structure as structure
 use Rattle.vx_sps.specs.Structure.{sps_form, sps_sections}
 use Rattle.vx_sps.specs.Set.{IsItems}
 use Rattle.vx_pic.proofs.Ids.{Lacks, lacks_both, other_row, sections_lack}
-use Rattle.vx_sps.proofs.With.{with_field}
-use Rattle.vx_extract.proofs.AgainPps.{with_none}
+
+-- a list that lacks a field has no item of it
+with_none : (of : ℕ) (items : List Item) → Lacks of items → with_field of items ≡ []
+with_none of [] lacking = refl
+with_none of (x ∷ items) lacking =
+    let here : (x.field == of) ≡ false = All-head (λ (y : Item). (y.field == of) ≡ false) x items lacking in
+    rw here (with_none of items (All-tail (λ (y : Item). (y.field == of) ≡ false) x items lacking))
 
 abbrev described : ℕ
 described = fields.sps_subpic_info_present_flag

@@ -22,8 +22,9 @@ use Rattle.vx_rpl.specs.Resolved.{table_of}
 use Rattle.vx_sps.specs.declared.shape.SubpicPlan.TheVariants.{Absent, One}
 use Rattle.vx_sps.specs.declared.tables.TheConstants.{TAKEN}
 use Rattle.vx_sps.specs.Set.{extra_ph_bits_of, extra_sh_bits_of, is_weighted, set_flags}
+use Rattle.vx_sps.specs.Reread.{Signals, described_in, id_len_in}
 use Rattle.vx_sps.proofs.Stated.{below}
-use Rattle.vx_sps.proofs.With.{with_field}
+use Rattle.vx_table.proofs.With.{no_number, with_field}
 use Rattle.vx_pps.specs.declared.shape.TheConstants.{TAKEN as TAKEN_OF_PPS}
 use Rattle.vx_pps.specs.Pps.{default_active}
 use Rattle.vx_ph.specs.declared.header.PictureHeader.{PictureHeader}
@@ -33,12 +34,10 @@ use Rattle.vx_sh.specs.Elsewhere.{given}
 use Rattle.vx_sh.specs.InForce.{SliceScopesAgree, beside, slice_scope}
 use Rattle.vx_pic.specs.Parts.{Parts}
 use Rattle.vx_extract.specs.Again.{AgreeForHeaders, AreRewritten}
-use Rattle.vx_extract.specs.Shapes.{id_in_sps, plan_of}
+use Rattle.vx_extract.specs.Shapes.{id_in_sps, plan_of, sps_shape}
 use Rattle.vx_write.specs.InForce.{AreInForce}
 use Rattle.vx_extract.proofs.AgainAbsent.{length_only, undescribed}
-use Rattle.vx_extract.proofs.AgainPps.{no_number}
-use Rattle.vx_extract.proofs.AgainSps.{described_is, length_is, no_length, not_described_is, sps_taken}
-use Rattle.vx_pic.proofs.Sizes.{id_length_below}
+use Rattle.vx_extract.proofs.AgainSps.{sps_signals, sps_taken}
 
 -- ---- fields that are taken over
 
@@ -131,17 +130,20 @@ module _ (target : ℕ) (level : Option ℕ) (q : Parts) (s p : List Item) (are 
   plan_absent : is_set (number q.sps sps_fields.sps_subpic_info_present_flag) ≡ false → plan_of q target ≡ Absent
   plan_absent none = ap (λ b. cond b (One (number q.sps sps_fields.sps_subpic_id_len_minus1) (id_in_sps q target)) Absent) none
 
+  signals : Signals (sps_shape q target level) s
+  signals = sps_signals q target level s re.of_sps are
+
   same_info : number q.sps sps_fields.sps_subpic_info_present_flag ≡ number s sps_fields.sps_subpic_info_present_flag
   same_info = elim (cases_Bool (is_set (number q.sps sps_fields.sps_subpic_info_present_flag))) [
     | inl is ↦ low_flag (number q.sps sps_fields.sps_subpic_info_present_flag) info_low is
-        ∙ sym (described_is q target level s re.of_sps (number q.sps sps_fields.sps_subpic_id_len_minus1) (id_in_sps q target) (plan_there is))
-    | inr none ↦ unset (number q.sps sps_fields.sps_subpic_info_present_flag) none ∙ sym (not_described_is q target level s re.of_sps (plan_absent none))
+        ∙ sym (signals.described ∙ ap described_in (plan_there is))
+    | inr none ↦ unset (number q.sps sps_fields.sps_subpic_info_present_flag) none ∙ sym (signals.described ∙ ap described_in (plan_absent none))
   ]
 
   same_length : number q.sps sps_fields.sps_subpic_id_len_minus1 ≡ number s sps_fields.sps_subpic_id_len_minus1
   same_length = elim (cases_Bool (is_set (number q.sps sps_fields.sps_subpic_info_present_flag))) [
-    | inl is ↦ sym (length_is q target level s re.of_sps (number q.sps sps_fields.sps_subpic_id_len_minus1) (id_in_sps q target) (plan_there is) (id_length_below q.sps are.sps))
-    | inr none ↦ no_number 126 q.sps (undescribed 126 q.sps are.sps length_only none) ∙ sym (no_length q target level s re.of_sps (plan_absent none))
+    | inl is ↦ sym (signals.id_len ∙ ap id_len_in (plan_there is))
+    | inr none ↦ no_number 126 q.sps (undescribed 126 q.sps are.sps length_only none) ∙ sym (signals.id_len ∙ ap id_len_in (plan_absent none))
   ]
 
   sps_number : (n : ℕ) → of_sps n ≡ true → n < 400 → number q.sps n ≡ number s n

@@ -11,13 +11,13 @@ use Rattle.vx_table.specs.Scope.{fresh}
 use Rattle.vx_layout.proofs.Parts.{Each-append}
 use Rattle.vx_pic.specs.Sets.{Slot, names_of}
 use Rattle.vx_pic.specs.Parts.{AreThere, Parts, SlicePart, aps_at, id_count, named_by, slot_of}
-use Rattle.vx_pic.specs.Written.{Plan, Set, SetUnit, an_aps}
+use Rattle.vx_pic.specs.Written.{Plan, Set, an_aps}
 use Rattle.vx_pic.specs.Resident.{HasSet, HaveNamed}
 use Rattle.vx_extract.specs.Written.{IsExtracted, all_slots, aps_of_slot, is_named, named_in, needed_aps, parts_in, same_slot, set_of_slot, slice_alone, slots_of}
-use Rattle.vx_extract.specs.Again.{HasItsBodies, HasReadableSets, IsReadable}
+use Rattle.vx_write.specs.Again.{HasItsBodies, HasReadableSets, IsReadable}
+use Rattle.vx_write.proofs.OwnSets.{IsAmong, among_first, among_second, has_set, units_hold}
 use Rattle.vx_write.specs.InForce.{AreInForce}
 use Rattle.vx_extract.proofs.AgainAgree.{pps_taken}
-use Rattle.vx_extract.proofs.AgainSent.{IsAmong, has_set}
 
 -- ---- slots in lists
 
@@ -66,15 +66,6 @@ in_all (suc (suc (suc kind))) id few low = absurd (omega (arith, few))
 
 -- ---- sets of slots
 
-among_first : (xs ys : List Set) (s : Set) → IsAmong xs s → IsAmong (xs ++ ys) s
-among_first [] ys s is = absurd is
-among_first (x ∷ xs) ys s (inl same) = inl same
-among_first (x ∷ xs) ys s (inr more) = inr (among_first xs ys s more)
-
-among_second : (xs ys : List Set) (s : Set) → IsAmong ys s → IsAmong (xs ++ ys) s
-among_second [] ys s is = is
-among_second (x ∷ xs) ys s is = inr (among_second xs ys s is)
-
 abbrev pub set_at : Slot → Aps → Set
 set_at s a = an_aps (record { kind = s.kind; id = s.id; body = a.body })
 
@@ -103,10 +94,6 @@ pub slots_hold : (Q : Set → Type 0) (q : Parts) → ((s : Slot) (a : Aps) → 
 slots_hold Q q each [] = tt
 slots_hold Q q each (s ∷ slots) =
     Each-append Q (aps_of_slot q s) (flat_map (aps_of_slot q) slots) (found_hold Q s (aps_at q.bodies s.kind s.id) (λ a is. each s a is)) (slots_hold Q q each slots)
-
-pub units_hold : (Q : Set → Type 0) (units : List SetUnit) → AllByRecursion Q (map (λ u. u.set) units) → AllByRecursion (λ (u : SetUnit). Q u.set) units
-units_hold Q [] all = tt
-units_hold Q (u ∷ units) all = (all.0, units_hold Q units all.1)
 
 -- ---- a set that is there
 

@@ -15,7 +15,8 @@ use Rattle.vx_pic.specs.Rules.{picture_limit, size_of, unit_size}
 use Rattle.vx_pic.specs.Whole.{HasAllInOrder, subpic_slices}
 use Rattle.vx_pic.specs.Written.{AreInOrder, Plan, slices_of}
 use Rattle.vx_extract.specs.Written.{IsExtracted}
-use Rattle.vx_extract.specs.Again.{IsWholePlan, alone}
+use Rattle.vx_write.specs.Again.{IsWholePlan}
+use Rattle.vx_extract.specs.Again.{alone}
 use Rattle.vx_extract.proofs.AgainUnits.{short, slices_shown, those_of}
 
 -- of the one subpicture a slice's place is its address

@@ -1,13 +1,14 @@
 -- What is written for the pictures of a stream is as plans have to be, so that it is read again.
-use Rattle.std.proofs.Common.{◌≡◌, ℕ, ◌<◌, true, not, List, [], ◌∷◌, map, Option, refl, sym, subst, arith}
+use Rattle.std.proofs.Common.{◌≡◌, ℕ, ◌<◌, true, false, not, List, [], ◌∷◌, map, Option, refl, ap, sym, subst, arith}
 use Rattle.std.specs.List.{AllByRecursion}
-use Rattle.std.proofs.lemmas.Bool.{eq-eqb}
+use Rattle.std.proofs.lemmas.Bool.{eq-eqb, not-false}
 use Rattle.std.proofs.lemmas.Bool.Decides.{Decides-int_eq}
 use Rattle.vx_bits.specs.declared.list.Item.{Item}
 use Rattle.vx_pps.specs.Sets.{SetsTellPartitions}
 use Rattle.vx_pic.specs.Sets.{names_of, same_items}
 use Rattle.vx_pic.specs.Readings.{Picture, Slice, is_whole, messages_of}
-use Rattle.vx_pic.specs.Alike.{AreAlike, IsNext, KeepsSps}
+use Rattle.vx_pic.specs.Alike.{AreAlike, IsNext}
+use Rattle.vx_pic.specs.Counts.{is_changed}
 use Rattle.vx_pic.specs.Parts.{parts_of}
 use Rattle.vx_pic.specs.Rules.{Readers}
 use Rattle.vx_pic.specs.H266.{AreOfH266}
@@ -17,11 +18,12 @@ use Rattle.vx_pic.specs.Written.{Plan, Says, SetUnit, slices_of}
 use Rattle.vx_pic.specs.Resident.{AreAllPlanned, HaveNamed, IsPlanned, is_resident, planned_of, sent_before}
 use Rattle.vx_pic.proofs.Sent.{items_are}
 use Rattle.vx_pic.proofs.Sublayers.{low_tid}
+use Rattle.vx_write.specs.Again.{IsReadable, SeiUnitsAreRead, SetUnitsAreRead}
 use Rattle.vx_write.specs.Units.{IsSetUnit}
+use Rattle.vx_write.proofs.OwnSets.{each_passing}
 use Rattle.vx_extract.specs.Written.{AreExtracted, IsExtracted}
-use Rattle.vx_extract.specs.Again.{ExtractedHasItsBodies, ExtractedIsAlike, ExtractedIsWhole, ExtractedSendsItsSets, ExtractedUnitsAreRead, IsReadable, IsReady, SeiUnitsAreRead, SetUnitsAreRead}
+use Rattle.vx_extract.specs.Again.{ExtractedHasItsBodies, ExtractedIsAlike, ExtractedIsWhole, ExtractedSendsItsSets, ExtractedUnitsAreRead, IsReady}
 use Rattle.vx_extract.proofs.AgainSame.{same_again}
-use Rattle.vx_extract.proofs.ReadyPictures.{each_passing}
 use Rattle.vx_write.proofs.Sizes.{subpics_count}
 
 same_itself : (items : List Item) → same_items items items ≡ true
@@ -66,14 +68,15 @@ module _ (R : Readers) (of : AreOfH266 R) (target : ℕ) (tells : SetsTellPartit
           next = next;
         }
 
+  -- the SPS stays where the picture's does
   keeps : (earlier : List Picture) (done : List Plan) (pic : Picture) (p : Plan) → AllByRecursion (IsReady target) earlier → AreExtracted target level (map parts_of earlier) done → IsReady target pic → IsExtracted target level (parts_of pic) done p
-      → KeepsSps earlier pic.begun.sps (planned_of done) p.begun.sps
-  keeps [] [] pic p all were ready ex = tt
-  keeps [] (d ∷ done) pic p all were ready ex = were
-  keeps (e ∷ earlier) [] pic p all were ready ex = were
-  keeps (e ∷ earlier) (d ∷ done) pic p all were ready ex = λ same.
-      let one = same_again tells target level (parts_of e) (parts_of pic) d.begun.sps p.begun.sps all.0.in_force ready.in_force all.0.has (items_are e.begun.sps pic.begun.sps same) were.0.sps ex.sps in
-      subst (λ xs. same_items d.begun.sps xs ≡ true) one (same_itself d.begun.sps)
+      → is_changed earlier pic.begun.sps ≡ false → is_changed (planned_of done) p.begun.sps ≡ false
+  keeps [] [] pic p all were ready ex same = refl
+  keeps [] (d ∷ done) pic p all were ready ex same = absurd were
+  keeps (e ∷ earlier) [] pic p all were ready ex same = absurd were
+  keeps (e ∷ earlier) (d ∷ done) pic p all were ready ex same =
+      let one = same_again tells target level (parts_of e) (parts_of pic) d.begun.sps p.begun.sps all.0.in_force ready.in_force all.0.has (items_are e.begun.sps pic.begun.sps (not-false (same_items e.begun.sps pic.begun.sps) same)) were.0.sps ex.sps in
+      ap not (subst (λ xs. same_items d.begun.sps xs ≡ true) one (same_itself d.begun.sps))
 
   edits : (pics : List Picture) (done : List Plan) → AreFinished R pics → AllByRecursion (IsReady target) pics → AreExtracted target level (map parts_of pics) done → AreEdits R pics done
   edits [] [] finished all were = tt
@@ -83,7 +86,7 @@ module _ (R : Readers) (of : AreOfH266 R) (target : ℕ) (tells : SetsTellPartit
     record {
       kind = sym ex.kind;
       alike = alikes target level pic done p ex;
-      keeps = keeps earlier done pic p all were ready ex;
+      keeps = λ stays. keeps earlier done pic p all were ready ex (sound.next.same stays);
       others = planned_if earlier pic done p sound whole ready ex;
     },
     edits earlier done finished all were,

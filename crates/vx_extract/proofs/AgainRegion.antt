@@ -9,6 +9,7 @@ use Rattle.vx_fields.specs.declared.sps.TheConstants as sps_fields
 use Rattle.vx_fields.specs.declared.pps.TheConstants as pps_fields
 use Rattle.vx_table.specs.Loaded.{number}
 use Rattle.vx_table.specs.Scope.{fresh, is_set, natural, quotient}
+use Rattle.vx_table.proofs.With.{no_number}
 use Rattle.vx_layout.specs.declared.numbers.Numbers.{Numbers}
 use Rattle.vx_layout.specs.declared.rect.Rect.{Rect}
 use Rattle.vx_layout.specs.Faults.{IsLayout, height, width}
@@ -24,29 +25,27 @@ use Rattle.vx_sps.specs.declared.shape.SubpicPlan.TheVariants.{Absent, One}
 use Rattle.vx_sps.specs.Set as sps
 use Rattle.vx_sps.specs.Subpictures.{id_of, numbers_of, rect_of, subpics_of}
 use Rattle.vx_sps.specs.Reread as reread
-use Rattle.vx_sps.specs.Reread.{ReshapedSays, Says, count_in, rect_in}
+use Rattle.vx_sps.specs.Reread.{ReshapedSays, Says, Signals, count_in, explicit_in, id_len_in, mapped_in, rect_in}
 use Rattle.vx_sps.specs.Reshaped as sps_reshaped
 use Rattle.vx_sps.proofs.Bounded.{ctu_below}
 use Rattle.vx_pps.specs.Pps as pps
 use Rattle.vx_pps.specs.Reshaped as pps_reshaped
-use Rattle.vx_pps.specs.Reshaped.{ReshapedHasItsTiles}
+use Rattle.vx_pps.specs.Reshaped.{ReshapedHasItsTiles, Tells}
 use Rattle.vx_pps.specs.Sets.{ReadSlicesAreListable, SetsTellPartitions}
+use Rattle.vx_pps.proofs.Telling.{reshaped_tells}
 use Rattle.vx_pic.specs.Sets.{pps_id, referred_sps, same_size, sps_id}
 use Rattle.vx_pic.specs.Parts.{Parts}
 use Rattle.vx_pic.specs.PictureLayout.{AreDistinct, IdsAgree, are_in_pps, ctu_sizes_differ, ids_misplaced, ids_of, ids_too_short, ids_unlike, needs_ids, numbers_in, one_tile, same_flag, subpictures_of}
-use Rattle.vx_pic.proofs.Sizes.{id_length_below, quotient_is}
+use Rattle.vx_pic.proofs.Sizes.{quotient_is}
 use Rattle.vx_extract.specs.Shapes.{height_in, id_in, id_in_pps, id_in_sps, plan_of, pps_shape, sps_shape, width_in}
 use Rattle.vx_extract.specs.Again.{AreRewritten, KeepIds, MakeRegion}
 use Rattle.vx_write.specs.InForce.{AreInForce}
-use Rattle.vx_extract.proofs.ShapesIdBits.{id_low_in_pps}
-use Rattle.vx_write.proofs.Ids.{sps_id_below}
 use Rattle.vx_extract.proofs.ShapesPps.{pps_is_shape}
 use Rattle.vx_write.proofs.Sizes.{part_of, subpic_is, subpics_count}
 use Rattle.vx_extract.proofs.ShapesSizes.{HasSides, has_sides_in}
 use Rattle.vx_extract.proofs.ShapesSps.{sps_is_shape}
 use Rattle.vx_extract.proofs.AgainAbsent.{count_only, ids_only, signal_only, undescribed}
-use Rattle.vx_extract.proofs.AgainPps.{no_number, pps_count, pps_height, pps_id_length, pps_ids, pps_mapping, pps_no_mapping, pps_own_id, pps_referred, pps_size, pps_whole, pps_width}
-use Rattle.vx_extract.proofs.AgainSps.{IsAlone, described, not_described, alone_count, id_here, length_is, no_id_here, not_signalled, plan_alone, signalled_is, sps_own_id, sps_taken}
+use Rattle.vx_extract.proofs.AgainSps.{IsAlone, described, not_described, alone_count, plan_alone, sps_signals, sps_taken}
 
 -- ---- a picture of one tile
 
@@ -143,6 +142,12 @@ module _ (tells : SetsTellPartitions) (reads : ReadSlicesAreListable) (listables
   pub pps_fits : pps_reshaped.IsShape q.pps (pps_shape q target)
   pps_fits = pps_is_shape tells reads listables regions q target are within
 
+  pps_tells : Tells q.pps (pps_shape q target) p
+  pps_tells = reshaped_tells q.pps p (pps_shape q target) are.pps pps_fits re.of_pps
+
+  signals : Signals (sps_shape q target level) s
+  signals = sps_signals q target level s re.of_sps are
+
   pub said : Says q.sps (sps_shape q target level) s
   said = says q.sps s (sps_shape q target level) are.sps sps_fits re.of_sps
 
@@ -163,8 +168,8 @@ module _ (tells : SetsTellPartitions) (reads : ReadSlicesAreListable) (listables
   same_sizes : same_size s p ≡ true
   unfolding same_size
   same_sizes =
-      let wide : number p pps_fields.pps_pic_width_in_luma_samples ≡ sps.width_of s = pps_width q target p are.pps pps_fits re.of_pps ∙ sym said.width in
-      let high : number p pps_fields.pps_pic_height_in_luma_samples ≡ sps.height_of s = pps_height q target p are.pps pps_fits re.of_pps ∙ sym said.height in
+      let wide : number p pps_fields.pps_pic_width_in_luma_samples ≡ sps.width_of s = pps_tells.width ∙ sym said.width in
+      let high : number p pps_fields.pps_pic_height_in_luma_samples ≡ sps.height_of s = pps_tells.height ∙ sym said.height in
       rw (eq-eqb _ _ wide, eq-eqb _ _ high) refl
 
   across : quotient (width_in q target) (sps.ctb_size_of q.sps) ≡ rect.w
@@ -201,7 +206,7 @@ module _ (tells : SetsTellPartitions) (reads : ReadSlicesAreListable) (listables
   -- ---- tiles and slices
 
   still : pps.is_partitioned p ≡ pps.is_partitioned q.pps
-  still = ap (λ n. not (is_set n)) (pps_whole q target p are.pps pps_fits re.of_pps)
+  still = ap (λ n. not (is_set n)) pps_tells.whole
 
   pub corner : subpic_at q.layout target ≡ rect
   corner = subpic_is q target are within
@@ -227,7 +232,7 @@ module _ (tells : SetsTellPartitions) (reads : ReadSlicesAreListable) (listables
     unfolding ctu_sizes_differ fresh
     sizes_there =
         let log2 : ℕ = number q.sps sps_fields.sps_log2_ctu_size_minus5 in
-        let of_pps : number p pps_fields.pps_log2_ctu_size_minus5 ≡ log2 = pps_size q target p are.pps pps_fits re.of_pps log2 whole (ctu_below q.sps are.sps) refl in
+        let of_pps : number p pps_fields.pps_log2_ctu_size_minus5 ≡ log2 = (pps_tells.division whole).ctb log2 (ctu_below q.sps are.sps) refl in
         let of_sps : number s sps_fields.sps_log2_ctu_size_minus5 ≡ log2 = sps_taken q target level s re.of_sps sps_fields.sps_log2_ctu_size_minus5 refl in
         second_false (pps.is_partitioned p) (not (number p pps_fields.pps_log2_ctu_size_minus5 == number s sps_fields.sps_log2_ctu_size_minus5)) (rw (eq-eqb _ _ (of_pps ∙ sym of_sps)) refl)
 
@@ -275,17 +280,6 @@ module _ (tells : SetsTellPartitions) (reads : ReadSlicesAreListable) (listables
   abbrev id_len : ℕ
   id_len = number q.sps sps_fields.sps_subpic_id_len_minus1
 
-  short_of : id_len < 16
-  short_of = id_length_below q.sps are.sps
-
-  -- numbers of so many bits are small
-  small_id : (n : ℕ) → n < 2 ^ (id_len + 1) → n < 2 ^ 32
-  small_id n low =
-      let few = short_of in
-      let bits : id_len + 1 ≤ 32 = omega (arith, few) in
-      let most : 2 ^ (id_len + 1) ≤ 2 ^ 32 = pow_mono bits in
-      omega (arith, low, most)
-
   one_subpic : number s sps_fields.sps_num_subpics_minus1 ≡ 0
   one_subpic = let one = alone in omega (arith, one)
 
@@ -311,25 +305,25 @@ module _ (tells : SetsTellPartitions) (reads : ReadSlicesAreListable) (listables
     in_pps needed =
         let plan : plan_of q target ≡ One id_len None = planned None (ap (λ b. cond b None (Some (id_in q target))) needed) in
         let some : id_in_pps q target ≡ Some (id_len, id_in q target) = ap (λ b. cond b (Some (id_len, id_in q target)) None) needed in
-        let flagged : number p pps_fields.pps_subpic_id_mapping_present_flag ≡ 1 = pps_mapping q target p are.pps pps_fits re.of_pps id_len (id_in q target) some in
-        let signalled : number s sps_fields.sps_subpic_id_mapping_explicitly_signalled_flag ≡ 1 = signalled_is q target level s re.of_sps id_len None plan in
-        let absent : number s sps_fields.sps_subpic_id_mapping_present_flag ≡ 0 = no_id_here q target level s re.of_sps id_len None plan refl in
-        let count : number p pps_fields.pps_num_subpics_minus1 ≡ number s sps_fields.sps_num_subpics_minus1 = pps_count q target p are.pps pps_fits re.of_pps ∙ sym one_subpic in
+        let flagged : number p pps_fields.pps_subpic_id_mapping_present_flag ≡ 1 = (pps_tells.mapped id_len (id_in q target) some).mapped in
+        let signalled : number s sps_fields.sps_subpic_id_mapping_explicitly_signalled_flag ≡ 1 = signals.explicit ∙ ap explicit_in plan in
+        let absent : number s sps_fields.sps_subpic_id_mapping_present_flag ≡ 0 = signals.mapped ∙ ap mapped_in plan in
+        let count : number p pps_fields.pps_num_subpics_minus1 ≡ number s sps_fields.sps_num_subpics_minus1 = pps_tells.count ∙ sym one_subpic in
         let lengths : number p pps_fields.pps_subpic_id_len_minus1 ≡ number s sps_fields.sps_subpic_id_len_minus1 =
-        pps_id_length q target p are.pps pps_fits re.of_pps id_len (id_in q target) some short_of ∙ sym (length_is q target level s re.of_sps id_len None plan short_of) in
+        (pps_tells.mapped id_len (id_in q target) some).id_len ∙ sym (signals.id_len ∙ ap id_len_in plan) in
         record {
           same = rw (flagged, signalled, absent) refl;
           unlike = λ e. rw (eq-eqb _ _ count, eq-eqb _ _ lengths) refl;
-          ids = rw (signalled, flagged) (pps_ids q target p are.pps pps_fits re.of_pps id_len (id_in q target) some (small_id (id_in q target) (id_low_in_pps q target are within needed)));
+          ids = rw (signalled, flagged) (pps_tells.mapped id_len (id_in q target) some).ids;
         }
 
     in_sps : needs_ids q.sps ≡ false → HaveId s p (id_in q target)
     in_sps none =
         let plan : plan_of q target ≡ One id_len (Some (id_in q target)) = planned (Some (id_in q target)) (ap (λ b. cond b None (Some (id_in q target))) none) in
         let no_pps : id_in_pps q target ≡ None = ap (λ b. cond b (Some (id_len, id_in q target)) None) none in
-        let flagged : number p pps_fields.pps_subpic_id_mapping_present_flag ≡ 0 = pps_no_mapping q target p are.pps pps_fits re.of_pps no_pps in
-        let signalled : number s sps_fields.sps_subpic_id_mapping_explicitly_signalled_flag ≡ 1 = signalled_is q target level s re.of_sps id_len (Some (id_in q target)) plan in
-        let present : number s sps_fields.sps_subpic_id_mapping_present_flag ≡ 1 = id_here q target level s re.of_sps id_len (Some (id_in q target)) plan (id_in q target) refl in
+        let flagged : number p pps_fields.pps_subpic_id_mapping_present_flag ≡ 0 = pps_tells.unmapped no_pps in
+        let signalled : number s sps_fields.sps_subpic_id_mapping_explicitly_signalled_flag ≡ 1 = signals.explicit ∙ ap explicit_in plan in
+        let present : number s sps_fields.sps_subpic_id_mapping_present_flag ≡ 1 = signals.mapped ∙ ap mapped_in plan in
         record {
           same = rw (flagged, signalled, present) refl;
           unlike = λ e. absurd (true≢false (sym e ∙ ap is_set flagged));
@@ -345,8 +339,8 @@ module _ (tells : SetsTellPartitions) (reads : ReadSlicesAreListable) (listables
       let old_listed : numbers_of q.sps sps_fields.sps_subpic_id ≡ [] = ap (λ xs. map (λ (x : Item). natural x.value) xs) (undescribed 129 q.sps are.sps ids_only none) in
       let not_needed : needs_ids q.sps ≡ false = rw old_signalled refl in
       let no_pps : id_in_pps q target ≡ None = ap (λ b. cond b (Some (id_len, id_in q target)) None) not_needed in
-      let flagged : number p pps_fields.pps_subpic_id_mapping_present_flag ≡ 0 = pps_no_mapping q target p are.pps pps_fits re.of_pps no_pps in
-      let signalled : number s sps_fields.sps_subpic_id_mapping_explicitly_signalled_flag ≡ 0 = not_signalled q target level s re.of_sps plan in
+      let flagged : number p pps_fields.pps_subpic_id_mapping_present_flag ≡ 0 = pps_tells.unmapped no_pps in
+      let signalled : number s sps_fields.sps_subpic_id_mapping_explicitly_signalled_flag ≡ 0 = signals.explicit ∙ ap explicit_in plan in
       let first : target ≡ 0 = omega (arith, within, old_count) in
       let own : id_in q target ≡ 0 =
       ap (λ xs. slice_index xs target) are.ids ∙ ap (λ k. slice_index (ids_of q.sps q.pps) k) first
@@ -386,7 +380,7 @@ module _ (tells : SetsTellPartitions) (reads : ReadSlicesAreListable) (listables
   pub keep_ids : KeepIds q s p
   unfolding sps_id pps_id referred_sps
   keep_ids = record {
-    of_sps = sps_own_id q target level s re.of_sps (sps_id_below q.sps are.sps);
-    of_pps = pps_own_id q target p are.pps pps_fits re.of_pps;
-    referred = pps_referred q target p are.pps pps_fits re.of_pps;
+    of_sps = signals.id;
+    of_pps = pps_tells.id;
+    referred = pps_tells.sps_id;
   }

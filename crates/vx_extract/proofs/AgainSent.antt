@@ -1,7 +1,6 @@
 -- The sets that a written picture needs have a type and an id each, and its count is that of the picture it is written for.
-use Rattle.std.proofs.Common.{◌≡◌, ◌⊎◌, ℕ, ◌+◌, ◌^◌, ◌&&◌, Bool, true, false, not, List, [], ◌∷◌, ◌++◌, map, Option, Some, None, refl, ap, sym, subst, ◌∙◌, inl, inr}
+use Rattle.std.proofs.Common.{◌≡◌, ℕ, ◌+◌, ◌^◌, ◌&&◌, Bool, true, false, not, List, [], ◌∷◌, ◌++◌, map, Option, Some, None, refl, ap, sym, subst, ◌∙◌, inl, inr}
 use Rattle.std.specs.Prelude.{filter, flat_map}
-use Rattle.std.specs.List.{AllByRecursion}
 use Rattle.std.proofs.lemmas.Bool.{and_parts, cases_Bool, not-true}
 use Rattle.vx_bits.specs.declared.list.Item.{Item}
 use Rattle.vx_aps.specs.declared.aps.Aps.{Aps}
@@ -11,11 +10,11 @@ use Rattle.vx_pic.specs.Sets.{Slot, is_non_ref, lsb_of, max_lsb, msb_cycle}
 use Rattle.vx_pic.specs.Readings.{Picture}
 use Rattle.vx_pic.specs.Alike.{AlikeForCounts}
 use Rattle.vx_pic.specs.Parts.{Parts, aps_at, parts_of}
-use Rattle.vx_pic.specs.Written.{Plan, Set, SetUnit, a_pps, an_aps, an_sps}
-use Rattle.vx_pic.specs.Resident as resident
-use Rattle.vx_pic.specs.Resident.{HasSet, HaveOwnSlots, Sends, is_resident, sent_before}
+use Rattle.vx_pic.specs.Written.{Plan, Set, a_pps, an_aps, an_sps}
+use Rattle.vx_pic.specs.Resident.{is_resident, sent_before}
 use Rattle.vx_extract.specs.Written.{IsExtracted, all_slots, aps_of_slot, is_named, needed_sets, same_slot, set_of_slot}
-use Rattle.vx_extract.specs.Again.{SendsItsSets}
+use Rattle.vx_write.specs.Again.{SendsItsSets}
+use Rattle.vx_write.proofs.OwnSets.{HaveOwn, IsAmong, Others, has_set, others_joined, own_units}
 use Rattle.vx_extract.proofs.AgainSps.{sps_taken}
 
 -- ---- types and ids
@@ -50,17 +49,6 @@ fewer_apart p (s ∷ slots) all =
     ]
 
 -- ---- their sets
-
-abbrev Others : Set → List Set → Type 0
-Others x sets = AllByRecursion (λ y. resident.same_slot x y ≡ false) sets
-
-abbrev HaveOwn : List Set → Type 0
-HaveOwn [] = Unit {0}
-HaveOwn (x ∷ sets) = Others x sets × HaveOwn sets
-
-others_joined : (x : Set) (sets more : List Set) → Others x sets → Others x more → Others x (sets ++ more)
-others_joined x [] more first second = second
-others_joined x (y ∷ sets) more first second = (first.0, others_joined x sets more first.1 second)
 
 -- a set of another type than adaptation parameter sets
 other_sps : (q : Parts) (items : List Item) (slot : Slot) (found : Option Aps) → Others (an_sps items) (set_of_slot slot found)
@@ -105,25 +93,6 @@ own_sets : (q : Parts) (target : ℕ) (s p : List Item) → HaveOwn (needed_sets
 own_sets q target s p =
     let slots : List Slot = filter (is_named q target) all_slots in
     ((refl, no_sps q s slots), (no_pps q p slots, own_aps q slots (fewer_apart (is_named q target) all_slots all_apart)))
-
--- ---- their units
-
-others_of : (x : Set) (units : List SetUnit) → Others x (map (λ u. u.set) units) → AllByRecursion (λ (y : SetUnit). resident.same_slot x y.set ≡ false) units
-others_of x [] all = tt
-others_of x (u ∷ units) all = (all.0, others_of x units all.1)
-
-own_units : (units : List SetUnit) → HaveOwn (map (λ u. u.set) units) → HaveOwnSlots units
-own_units [] own = tt
-own_units (u ∷ units) own = (others_of u.set units own.0, own_units units own.1)
-
-abbrev pub IsAmong : List Set → Set → Type 0
-IsAmong [] s = ⊥
-IsAmong (x ∷ sets) s = (x ≡ s) ⊎ IsAmong sets s
-
-pub has_set : (units : List SetUnit) (s : Set) → IsAmong (map (λ u. u.set) units) s → HasSet units s
-has_set [] s is = is
-has_set (u ∷ units) s (inl is) = inl is
-has_set (u ∷ units) s (inr more) = inr (has_set units s more)
 
 pub sends_again : (target : ℕ) (level : Option ℕ) (q : Parts) (done : List Plan) (p : Plan) → (ex : IsExtracted target level q done p) → SendsItsSets ex.needed done p
 sends_again target level q done p ex =

@@ -13,7 +13,7 @@ use Rattle.vx_layout.specs.Layouts.{slices_in, subpic_at}
 use Rattle.vx_layout.specs.Rects.{fits}
 use Rattle.vx_layout.specs.Regions.{counted_from}
 use Rattle.vx_layout.specs.declared.rect.Rect.{Rect}
-use Rattle.vx_sps.proofs.With.{with_field}
+use Rattle.vx_table.proofs.With.{with_field}
 use Rattle.vx_pic.specs.Units.{has_header_inside, rbsp_of}
 use Rattle.vx_pic.specs.Sets.{SliceHeader, is_qp, signed, slice_qp}
 use Rattle.vx_pic.specs.Readings.{Begun, Picture, Slice, is_whole}
@@ -22,7 +22,8 @@ use Rattle.vx_pic.specs.Rules.{Readers}
 use Rattle.vx_pic.specs.Finished.{IsSound}
 use Rattle.vx_pic.specs.Written.{HeadReads, HeaderReads, Plan, SliceReads, slices_of}
 use Rattle.vx_extract.specs.Written.{IsExtracted, slice_alone}
-use Rattle.vx_extract.specs.Again.{AreRewritten, KeepIds, MakeRegion, ReadUnder, UnitsAreRead, alone, begun_alone, begun_in}
+use Rattle.vx_extract.specs.Again.{AreRewritten, KeepIds, MakeRegion, ReadUnder, alone, begun_alone, begun_in}
+use Rattle.vx_write.specs.Again.{UnitsAreRead}
 use Rattle.vx_write.specs.InForce.{AreInForce}
 use Rattle.vx_extract.proofs.AgainAgree.{pps_taken, pps_with}
 use Rattle.vx_extract.proofs.AgainSps.{sps_taken}

@@ -2,7 +2,7 @@
 use Rattle.std.proofs.Common.{◌≡◌, ◌⊎◌, ℕ, zero, suc, ◌+◌, ◌-◌, ◌*◌, ◌<◌, ◌&&◌, ◌||◌, min, true, false, Bool, List, length, Option, refl, ap, sym, ◌∙◌, inl, inr, arith}
 use Rattle.std.specs.Prelude.{nat_lt}
 use Rattle.std.proofs.Math.Nat.{add-mul, mul-add}
-use Rattle.std.proofs.lemmas.Bool.{cases_Bool, lt-ltb, ltb-true, or_cases, true≢false}
+use Rattle.std.proofs.lemmas.Bool.{cases_Bool, ltb-true, or_cases, true≢false}
 use Rattle.vx_bits.specs.declared.list.Item.{Item}
 use Rattle.vx_fields.specs.declared.pps.TheConstants as pps_fields
 use Rattle.vx_table.specs.Loaded.{number}
@@ -17,8 +17,9 @@ use Rattle.vx_sps.specs.Set.{ctb_size_of}
 use Rattle.vx_sps.specs.Subpictures.{rect_of, subpics_of}
 use Rattle.vx_sps.specs.Reread.{ReshapedSays}
 use Rattle.vx_pps.specs.Pps as pps
-use Rattle.vx_pps.specs.Reshaped.{IsShape, ReshapedHasItsTiles}
+use Rattle.vx_pps.specs.Reshaped.{IsShape, ReshapedHasItsTiles, Tells}
 use Rattle.vx_pps.specs.Sets.{ReadSlicesAreListable, SetsTellPartitions}
+use Rattle.vx_pps.proofs.Telling.{reshaped_tells}
 use Rattle.vx_pic.specs.declared.place.Place.{Place}
 use Rattle.vx_pic.specs.Inputs.{has_several_slices, has_several_tiles, luma_size, place_in}
 use Rattle.vx_pic.specs.Parts.{Parts}
@@ -26,10 +27,8 @@ use Rattle.vx_extract.specs.Shapes.{height_in, pps_shape, width_in}
 use Rattle.vx_extract.specs.Again.{AreRewritten}
 use Rattle.vx_extract.specs.Kept.{region_in}
 use Rattle.vx_write.specs.InForce.{AreInForce}
-use Rattle.vx_extract.proofs.AgainPps.{pps_height, pps_width}
 use Rattle.vx_extract.proofs.AgainRegion.{new_columns, new_rows, old_slices, one_slice, pps_fits, rect_is, said, whole}
 use Rattle.vx_extract.proofs.AgainSlices.{cut_length}
-use Rattle.vx_extract.proofs.KeptFlags.{pps_across_slices, pps_across_tiles}
 use Rattle.vx_write.proofs.Sizes.{subpics_count}
 
 same_place : (a b : Place) → a.width ≡ b.width → a.height ≡ b.height → a.layout ≡ b.layout → a.address ≡ b.address → a.across_tiles ≡ b.across_tiles → a.across_slices ≡ b.across_slices → a ≡ b
@@ -83,6 +82,9 @@ module _ (tells : SetsTellPartitions) (reads : ReadSlicesAreListable) (listables
   fits_in : IsShape q.pps (pps_shape q target)
   fits_in = pps_fits tells reads listables regions says tiles target level q s p are within re
 
+  told_set : Tells q.pps (pps_shape q target) p
+  told_set = reshaped_tells q.pps p (pps_shape q target) are.pps fits_in re.of_pps
+
   its_rect : rect_of s 0 ≡ whole_picture rect.w rect.h
   its_rect = rect_is tells reads listables regions says tiles target level q s p are within re
 
@@ -93,14 +95,14 @@ module _ (tells : SetsTellPartitions) (reads : ReadSlicesAreListable) (listables
   width_same =
       ap (λ r. luma_size r.x r.w (ctb_size_of s) (number p pps_fields.pps_pic_width_in_luma_samples)) its_rect
       ∙ ap (λ c. luma_size 0 rect.w c (number p pps_fields.pps_pic_width_in_luma_samples)) its_ctb
-      ∙ ap (λ n. luma_size 0 rect.w (ctb_size_of q.sps) n) (pps_width q target p are.pps fits_in re.of_pps)
+      ∙ ap (λ n. luma_size 0 rect.w (ctb_size_of q.sps) n) (told_set.width)
       ∙ luma_twice rect.x rect.w (ctb_size_of q.sps) (number q.pps pps_fields.pps_pic_width_in_luma_samples)
 
   height_same : luma_size (rect_of s 0).y (rect_of s 0).h (ctb_size_of s) (number p pps_fields.pps_pic_height_in_luma_samples) ≡ height_in q target
   height_same =
       ap (λ r. luma_size r.y r.h (ctb_size_of s) (number p pps_fields.pps_pic_height_in_luma_samples)) its_rect
       ∙ ap (λ c. luma_size 0 rect.h c (number p pps_fields.pps_pic_height_in_luma_samples)) its_ctb
-      ∙ ap (λ n. luma_size 0 rect.h (ctb_size_of q.sps) n) (pps_height q target p are.pps fits_in re.of_pps)
+      ∙ ap (λ n. luma_size 0 rect.h (ctb_size_of q.sps) n) (told_set.height)
       ∙ luma_twice rect.y rect.h (ctb_size_of q.sps) (number q.pps pps_fields.pps_pic_height_in_luma_samples)
 
   -- ---- flags
@@ -124,7 +126,7 @@ module _ (tells : SetsTellPartitions) (reads : ReadSlicesAreListable) (listables
     | inr none ↦ absurd (true≢false (sym is ∙ only none))
   ]
 
-  tiles_count : has_several_tiles region ≡ true → nat_lt 1 ((length region.columns - 1) * (length region.rows - 1)) ≡ true
+  tiles_count : has_several_tiles region ≡ true → 1 < (length region.columns - 1) * (length region.rows - 1)
   tiles_count is =
       let wide = cut_length q.layout.columns (subpic_at q.layout target).x (subpic_at q.layout target).w in
       let high = cut_length q.layout.rows (subpic_at q.layout target).y (subpic_at q.layout target).h in
@@ -132,13 +134,13 @@ module _ (tells : SetsTellPartitions) (reads : ReadSlicesAreListable) (listables
         | inl a ↦ inl (omega (arith, ltb-true 2 (length region.columns) a))
         | inr b ↦ inr (omega (arith, ltb-true 2 (length region.rows) b))
       ] in
-      lt-ltb 1 ((length region.columns - 1) * (length region.rows - 1)) (product (length region.columns - 1) (length region.rows - 1) (omega (arith, wide)) (omega (arith, high)) either)
+      product (length region.columns - 1) (length region.rows - 1) (omega (arith, wide)) (omega (arith, high)) either
 
   tiles_same : (has_several_tiles region && is_set (number p pps_fields.pps_loop_filter_across_tiles_enabled_flag)) ≡ (has_several_tiles region && is_set (number q.pps pps_fields.pps_loop_filter_across_tiles_enabled_flag))
-  tiles_same = told (has_several_tiles region) _ _ (λ is. pps_across_tiles q target p are.pps fits_in re.of_pps (partitioned_if (has_several_tiles region) one_tile_only is) (tiles_count is))
+  tiles_same = told (has_several_tiles region) _ _ (λ is. (told_set.division (partitioned_if (has_several_tiles region) one_tile_only is)).across_tiles (tiles_count is))
 
   slices_same : (has_several_slices region && is_set (number p pps_fields.pps_loop_filter_across_slices_enabled_flag)) ≡ (has_several_slices region && is_set (number q.pps pps_fields.pps_loop_filter_across_slices_enabled_flag))
-  slices_same = told (has_several_slices region) _ _ (λ is. pps_across_slices q target p are.pps fits_in re.of_pps (partitioned_if (has_several_slices region) one_slice_only is) is)
+  slices_same = told (has_several_slices region) _ _ (λ is. (told_set.division (partitioned_if (has_several_slices region) one_slice_only is)).across_slices (ltb-true 1 (length region.slices) is))
 
   -- ---- all of it
 

@@ -8,7 +8,6 @@ pub mod Rewriting
 pub mod Sending
 pub mod Writing
 pub mod Extracted
-pub mod AgainPps
 pub mod AgainAbsent
 pub mod AgainSps
 pub mod AgainRegion
@@ -17,12 +16,10 @@ pub mod AgainHeaders
 pub mod AgainSlices
 pub mod AgainUnits
 pub mod AgainOrder
-pub mod AgainSets
 pub mod AgainSent
 pub mod AgainBodies
 pub mod AgainSame
 pub mod AgainPlanned
-pub mod KeptFlags
 pub mod KeptPlace
 pub mod KeptBodies
 pub mod KeptInputs

@@ -1,27 +1,19 @@
 -- A subpicture that each picture of a stream up to a TemporalId has can be written.
-use Rattle.std.proofs.Common.{ℕ, ◌<◌, Bool, List, [], ◌∷◌, inl, inr}
-use Rattle.std.specs.Prelude.{filter, nat_le}
+use Rattle.std.proofs.Common.{ℕ, ◌<◌, List, [], ◌∷◌}
+use Rattle.std.specs.Prelude.{nat_le}
 use Rattle.std.specs.List.{AllByRecursion}
-use Rattle.std.proofs.lemmas.Bool.{cases_Bool}
 use Rattle.vx_sps.specs.Subpictures.{subpics_of}
 use Rattle.vx_pic.specs.Readings.{Picture}
 use Rattle.vx_pic.specs.Parts.{parts_of}
 use Rattle.vx_pic.specs.Streams.{pictures_of}
 use Rattle.vx_pic.specs.Sublayers.{at_most}
 use Rattle.vx_pic.specs.Whole.{HasAllInOrder, SubpicturesAreWhole}
+use Rattle.vx_write.proofs.OwnSets.{each_passing}
 use Rattle.vx_extract.specs.Again.{IsReady}
 use Rattle.vx_extract.specs.Ready.{HasItsReadings, PicturesAreInForce, PicturesAreReady, PicturesHaveTheirReadings}
 use Rattle.vx_write.specs.InForce.{AreInForce}
 
--- what holds of each holds of those that pass a test
-pub each_passing : {A : Type 0} (P : A → Type 0) (test : A → Bool) (xs : List A) → AllByRecursion P xs → AllByRecursion P (filter test xs)
-each_passing P test [] all = tt
-each_passing P test (x ∷ xs) all = elim (cases_Bool (test x)) [
-  | inl on ↦ rw on (all.0, each_passing P test xs all.1)
-  | inr off ↦ rw off (each_passing P test xs all.1)
-]
-
--- and of the pictures that are kept
+-- what holds of each picture holds of those that are kept
 pub each_kept : (P : Picture → Type 0) (tid : ℕ) (ps : List Picture) → AllByRecursion P ps → AllByRecursion P (at_most tid ps)
 each_kept P tid ps all = each_passing P (λ (p : Picture). nat_le p.kind.temporal_id tid) ps all
 

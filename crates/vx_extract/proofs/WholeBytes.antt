@@ -1,11 +1,10 @@
 -- The units that are written for a whole stream can stand in one.
-use Rattle.std.proofs.Common.{◌≡◌, ℕ, zero, suc, ◌+◌, ◌*◌, ◌/◌, ◌%◌, ◌^◌, ◌<◌, ◌≤◌, ◌==◌, true, false, not, List, [], ◌∷◌, ◌++◌, length, map, slice_index, Option, Some, None, refl, ap, sym, subst, ◌∙◌, inl, inr, arith}
+use Rattle.std.proofs.Common.{◌≡◌, ℕ, ◌+◌, ◌*◌, ◌^◌, ◌<◌, ◌≤◌, ◌==◌, true, not, List, [], ◌∷◌, ◌++◌, length, map, Option, Some, None, refl, ap, sym, subst, ◌∙◌, inl, inr, arith}
 use Rattle.std.specs.Prelude.{Bool, filter, option_map, option_to_list}
 use Rattle.std.specs.List.{AllByRecursion}
-use Rattle.std.proofs.lemmas.Bool.{cases_Bool, true≢false}
+use Rattle.std.proofs.lemmas.Bool.{cases_Bool}
 use Rattle.std.proofs.lemmas.List.{length_push}
 use Rattle.std.proofs.lemmas.List.Elements.{All-from_recursion, recursion_from_All}
-use Rattle.vx_annexb.specs.Emulation.{BreaksRule, IsEscaped, unescaped_to}
 use Rattle.vx_annexb.specs.ByteStream.{unit_limit}
 use Rattle.vx_annexb.specs.Laws.{CanStand, EscapedIsUnique, EscapedSplits, written}
 use Rattle.vx_aps.specs.Aps.{spelled}
@@ -24,15 +23,17 @@ use Rattle.vx_pic.specs.Bytes.{ArePictures, ending_by}
 use Rattle.vx_pic.specs.Finished.{AreFinished, IsSound, PicturesAreFinished}
 use Rattle.vx_pic.specs.Sublayers.{KeptAreFinished, at_most}
 use Rattle.vx_pic.specs.Laws.{WrittenHasPictures}
-use Rattle.vx_pic.specs.Written.{Plan, SeiUnit, Set, SetUnit, a_pps, an_aps, an_sps, eos_unit, eos_units, sei_units, slices_of, units_of}
+use Rattle.vx_pic.specs.Written.{Plan, SeiUnit, Set, SetUnit, a_pps, an_aps, an_sps, eos_units, sei_units, slices_of, units_of}
 use Rattle.vx_pic.specs.Resident.{is_resident, sent_before, units_written}
 use Rattle.vx_pic.proofs.Sublayers.{low_tid}
 use Rattle.vx_write.specs.Units.{IsSeiUnit, IsSetUnit, IsUnitOf}
+use Rattle.vx_write.proofs.Standing.{ended_stand, two_bytes, unit_stands}
+use Rattle.vx_write.proofs.UnitsRead.{front_of}
 use Rattle.vx_extract.specs.Written.{AreExtracted, IsExtracted, all_slots, is_named, slice_alone}
 use Rattle.vx_extract.specs.Whole.{ExtractedUnitsReadAgain, ExtractionReadsAgain}
-use Rattle.vx_extract.proofs.AgainBodies.{slots_hold, units_hold}
-use Rattle.vx_extract.proofs.AgainSets.{front_of}
-use Rattle.vx_extract.proofs.ReadyPictures.{each_kept, each_passing}
+use Rattle.vx_write.proofs.OwnSets.{each_passing, units_hold}
+use Rattle.vx_extract.proofs.AgainBodies.{slots_hold}
+use Rattle.vx_extract.proofs.ReadyPictures.{each_kept}
 use Rattle.vx_extract.proofs.WholeSizes.{as_long, twice_at_most}
 use Rattle.vx_extract.proofs.WholeSource.{OfPicture, OfSet, OfSlices, OfUnit, have_units, sets_have}
 
@@ -46,62 +47,6 @@ HasSource (a_pps items) = Unit {0}
 HasSource (an_aps a) = OfSet CanStand a
 
 -- ---- one unit
-
--- a unit has its header's two bytes
-two_bytes : (first second : ℕ) (rbsp n : List ℕ) (size : ℕ) → length n ≡ size → IsEscaped (first ∷ second ∷ rbsp) n → 2 ≤ length n
-two_bytes first second rbsp n zero none is =
-    let nothing : first ∷ second ∷ rbsp ≡ [] = is.is ∙ ap (unescaped_to n) none in
-    absurd (omega (arith, ap (λ xs. length xs) nothing))
-two_bytes first second rbsp n (suc zero) one is =
-    let single : first ∷ second ∷ rbsp ≡ slice_index n 0 ∷ [] = is.is ∙ ap (unescaped_to n) one in
-    absurd (omega (arith, ap (λ xs. length xs) single))
-two_bytes first second rbsp n (suc (suc more)) many is = omega (arith, many)
-
-unit_stands : (nal_type tid : ℕ) (rbsp unit : List ℕ) → tid < 7 → IsUnitOf nal_type tid rbsp unit → length unit ≤ unit_limit → CanStand unit
-unit_stands nal_type tid rbsp unit low is short =
-    let front = front_of 0 (nal_type * 8 + (tid + 1)) rbsp unit is in
-    record {
-      last = is.last;
-      sound = record {
-        header = record {
-          bytes = two_bytes 0 (nal_type * 8 + (tid + 1)) rbsp unit (length unit) refl is;
-          forbidden = ap (λ b. b / 128) front.at_0;
-          temporal = let at = ap (λ b. b % 8) front.at_1 in omega (arith, at, low);
-        };
-        emulation = is.rules;
-        size = short;
-      };
-    }
-
-eos_last : (k : ℕ) → 2 ≡ k + 1 → slice_index eos_unit k ≡ 0 → ⊥
-eos_last zero at none = absurd (omega (arith, at))
-eos_last (suc zero) at none = absurd (omega (arith, none))
-eos_last (suc (suc k)) at none = absurd (omega (arith, at))
-
-eos_rules : (k : ℕ) → BreaksRule eos_unit k → ⊥
-eos_rules k (inl mark) =
-    let within = mark.1.within in
-    let from = mark.0 in
-    absurd (omega (arith, within, from))
-eos_rules zero (inr four) =
-    let from = four.0 in
-    absurd (omega (arith, from))
-eos_rules (suc zero) (inr four) =
-    let zeros = four.2 in
-    absurd (true≢false (sym zeros))
-eos_rules (suc (suc k)) (inr four) =
-    let within = four.1 in
-    absurd (omega (arith, within))
-
-eos_stands : CanStand eos_unit
-eos_stands = record {
-  last = eos_last;
-  sound = record {
-    header = record { bytes = omega arith; forbidden = refl; temporal = omega arith };
-    emulation = eos_rules;
-    size = omega arith;
-  };
-}
 
 -- the unit of an adaptation parameter set is as long as the source's
 as_source : EscapedSplits → EscapedIsUnique → (tid : ℕ) (rbsp unit u : List ℕ) → IsUnitOf types.PREFIX_APS_NUT tid rbsp unit → CanStand u → rbsp_of u ≡ rbsp → length unit ≡ length u
@@ -141,10 +86,6 @@ sei_short tid rbsp unit ms are few is =
     omega (arith, twice, long, few)
 
 -- ---- the units of a picture
-
-ended_stand : (ends : Bool) → AllStand (eos_units ends)
-ended_stand true = (eos_stands, tt)
-ended_stand false = tt
 
 sets_stand : EscapedSplits → EscapedIsUnique → sps.SpellingIsShort → pps.SpellingIsShort → (tid : ℕ) (sent : List SetUnit) → tid < 7 → AllByRecursion (λ (x : SetUnit). IsSetUnit tid x.set x.unit) sent
     → AllByRecursion (λ (x : SetUnit). HasSource x.set) sent → AllStand (map (λ x. x.unit) sent)

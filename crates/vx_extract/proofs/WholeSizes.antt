@@ -7,7 +7,7 @@ use Rattle.vx_annexb.specs.Emulation.{IsEscaped, is_emulation, unescaped, unesca
 use Rattle.vx_annexb.specs.Laws.{EscapedIsUnique, EscapedSplits}
 use Rattle.vx_annexb.proofs.EmulationBytes.{emulation_is}
 use Rattle.vx_pic.specs.Units.{rbsp_of}
-use Rattle.vx_extract.proofs.AgainSets.{front_stays}
+use Rattle.vx_write.proofs.UnitsRead.{front_stays}
 
 -- ---- at most twice
 

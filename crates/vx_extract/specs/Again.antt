@@ -1,13 +1,10 @@
 -- What is written is read again: what the rewritten sets of a picture's subpicture make up.
 use Rattle.std.specs.List.{AllByRecursion}
-use Rattle.std.specs.Prelude.{◌≡◌, ℕ, ◌+◌, ◌<◌, ◌≤◌, Bool, true, false, IsTrue, List, [], ◌∷◌, length, map, sum_by, All, Option, Some, Ok}
+use Rattle.std.specs.Prelude.{◌≡◌, ℕ, ◌<◌, ◌≤◌, Bool, true, false, IsTrue, List, [], ◌∷◌, length, map, All, Option, Ok}
 use Rattle.vx_bits.specs.declared.list.Item.{Item}
 use Rattle.vx_layout.specs.Regions.{region_of}
 use Rattle.vx_table.specs.Depends.{Agree, set_of}
-use Rattle.vx_aps.specs.declared.aps.Aps.{Aps}
-use Rattle.vx_aps.specs.Aps.{IsValid}
-use Rattle.vx_sei.specs.declared.message.Message.{Message}
-use Rattle.vx_sei.specs.Sei.{is_carried, spelled_length}
+use Rattle.vx_sei.specs.Sei.{is_carried}
 use Rattle.vx_rpl.specs.HeaderLists.{lists_of}
 use Rattle.vx_sps.specs.Depends as sps_kept
 use Rattle.vx_sps.specs.Subpictures.{subpics_of, is_treated, is_filtered}
@@ -19,21 +16,20 @@ use Rattle.vx_ph.specs.Depends.{all_of_sets}
 use Rattle.vx_ph.specs.InForce.{in_force, structures}
 use Rattle.vx_sh.specs.Elsewhere.{given}
 use Rattle.vx_sh.specs.InForce.{slice_scope}
-use Rattle.vx_pic.specs.Sets.{SliceHeader, Slot, names_of, sps_id, pps_id, referred_sps, same_size}
+use Rattle.vx_pic.specs.Sets.{SliceHeader, sps_id, pps_id, referred_sps, same_size}
 use Rattle.vx_pic.specs.PictureLayout.{MakeLayout, ids_of, numbers_in}
-use Rattle.vx_pic.specs.Parts.{AreThere, Parts, aps_at, parts_of}
-use Rattle.vx_pic.specs.Units.{has_header_inside}
+use Rattle.vx_pic.specs.Parts.{AreThere, Parts, parts_of}
 use Rattle.vx_pic.specs.Readings.{Begun, Picture, is_whole, messages_of}
 use Rattle.vx_pic.specs.Finished.{AreFinished, IsSound}
 use Rattle.vx_pic.specs.Alike.{AlikeForCounts, AreAlike}
-use Rattle.vx_pic.specs.Resident.{AllReadAgain, AreAllPlanned, HasSet, HaveNamed, Sends, planned_of}
-use Rattle.vx_pic.specs.Written.{AreInOrder, HeadReads, Plan, Says, SeiReads, SeiUnit, Set, SetUnit, SliceReads, a_pps, an_aps, an_sps, slices_of}
-use Rattle.vx_pic.specs.Rules.{Readers, message_limit, picture_limit, size_of, unit_size}
+use Rattle.vx_pic.specs.Resident.{AllReadAgain, AreAllPlanned, planned_of}
+use Rattle.vx_pic.specs.Written.{Plan}
+use Rattle.vx_pic.specs.Rules.{Readers, picture_limit, size_of}
 use Rattle.vx_pic.specs.Whole.{HasAllInOrder}
 use Rattle.vx_pic.specs.H266.{AreOfH266}
-use Rattle.vx_write.specs.Units.{IsSeiUnit, IsSetUnit}
 use Rattle.vx_extract.specs.Written.{AreExtracted, IsExtracted, named_in}
 use Rattle.vx_extract.specs.Shapes.{id_in, sps_shape, pps_shape}
+use Rattle.vx_write.specs.Again.{HasItsBodies, HasReadableSets, IsWholePlan, SendsItsSets, UnitsAreRead}
 use Rattle.vx_write.specs.InForce.{AreInForce}
 
 -- ---- the rewritten sets
@@ -137,79 +133,29 @@ RewrittenReadAlike =
     (R : Readers) (target : ℕ) (level : Option ℕ) (q : Parts) (sps pps : List Item) → AreOfH266 R → AreInForce q
     → target < subpics_of q.sps → AreRewritten target level q sps pps → ReadUnder R target q sps pps
 
--- ---- units of sets and messages
-
--- a set that can be read again, where its unit is written
-abbrev pub IsReadable : Set → Type 0
-IsReadable (an_sps items) = Unit {0}
-IsReadable (a_pps items) = Unit {0}
-IsReadable (an_aps a) = IsValid a
-
--- The unit of a set is read as the set,
-abbrev pub SetUnitsAreRead : Type 0
-SetUnitsAreRead =
-    (R : Readers) (tid : ℕ) (set : Set) (unit : List ℕ) → AreOfH266 R → tid < 7 → IsReadable set → IsSetUnit tid set unit
-    → Says R unit set
-
--- and that of messages that are carried as these.
-abbrev pub SeiUnitsAreRead : Type 0
-SeiUnitsAreRead =
-    (R : Readers) (tid : ℕ) (messages : List Message) (unit : Option SeiUnit) → AreOfH266 R → tid < 7
-    → All (λ m. IsTrue (is_carried m.kind)) messages → spelled_length messages ≤ message_limit → IsSeiUnit tid messages unit
-    → SeiReads R unit
-
 -- ---- pictures of a stream
 
--- The header of what is written, and its slices, are read as it says: under its sets, of which the one refers to the other.
-pub record UnitsAreRead (R : Readers) (p : Plan) : Type 0 where
-  pub head : HeadReads R p.begun.unit p.begun p.first
-  pub slices : AllByRecursion (SliceReads R p.begun p.kind.nal_type) (slices_of p)
-  pub outside : AllByRecursion (λ s. has_header_inside s.unit ≡ false) p.more
-  pub refers : referred_sps p.begun.pps ≡ sps_id p.begun.sps
-  pub tid : p.kind.temporal_id ≡ p.begun.temporal_id
-
--- So it is with what is written for a whole picture that was read.
+-- The units that are written for a whole picture that was read are read as the plan says.
 abbrev pub ExtractedUnitsAreRead : Type 0
 ExtractedUnitsAreRead =
     (R : Readers) (target : ℕ) (level : Option ℕ) (earlier : List Picture) (picture : Picture) (done : List Plan) (p : Plan)
     → AreOfH266 R → IsSound R earlier picture → is_whole picture ≡ true → AreInForce (parts_of picture)
     → target < subpics_of picture.begun.sps → IsExtracted target level (parts_of picture) done p → UnitsAreRead R p
 
--- Its slices are those of the region, in order, and all units have no more bytes than a picture may have.
-pub record IsWholePlan (p : Plan) : Type 0 where
-  pub order : AreInOrder p.begun 0 (slices_of p)
-  pub all : length (slices_of p) ≡ length p.begun.layout.slices
-  pub size : unit_size p.begun.unit + sum_by (λ s. length s.unit) (slices_of p) ≤ picture_limit
-
--- So it is with what is written for a picture that has all slices of its subpictures.
+-- They are all of a picture where that has all slices of its subpictures.
 abbrev pub ExtractedIsWhole : Type 0
 ExtractedIsWhole =
     (target : ℕ) (level : Option ℕ) (picture : Picture) (done : List Plan) (p : Plan) → HasAllInOrder picture
     → size_of picture ≤ picture_limit → target < length picture.begun.layout.subpics
     → IsExtracted target level (parts_of picture) done p → IsWholePlan p
 
--- Of the sets that it needs, each of a type and an id of its own, among them its SPS and its PPS, those are sent that aren't resident.
-pub record SendsItsSets (needed : List SetUnit) (done : List Plan) (p : Plan) : Type 0 where
-  pub sends : Sends done p
-  pub same : sends.needed ≡ needed
-  pub sps : HasSet sends.needed (an_sps p.begun.sps)
-  pub pps : HasSet sends.needed (a_pps p.begun.pps)
-
+-- Of the sets that it needs those are sent that aren't resident.
 abbrev pub ExtractedSendsItsSets : Type 0
 ExtractedSendsItsSets =
     (target : ℕ) (level : Option ℕ) (q : Parts) (done : List Plan) (p : Plan) → (ex : IsExtracted target level q done p)
     → SendsItsSets ex.needed done p
 
--- Each adaptation parameter set of a picture can be written, as its type and id have it.
-abbrev pub HasReadableSets : Parts → Type 0
-HasReadableSets q = (slot : Slot) (a : Aps) → aps_at q.bodies slot.kind slot.id ≡ Some a
-    → IsValid (record { kind = slot.kind; id = slot.id; body = a.body })
-
--- The sets that are needed can be read again, and among them are all that the slices name.
-pub record HasItsBodies (needed : List SetUnit) (p : Plan) : Type 0 where
-  pub readable : AllByRecursion (λ x. IsReadable x.set) needed
-  pub bodies : AllByRecursion (λ s. HaveNamed needed (names_of p.begun.pps p.begun.header s.header)) (slices_of p)
-
+-- These can be read again, and among them are all that the slices name.
 abbrev pub ExtractedHasItsBodies : Type 0
 ExtractedHasItsBodies =
     (target : ℕ) (level : Option ℕ) (q : Parts) (done : List Plan) (p : Plan) → AreInForce q → HasReadableSets q

@@ -10,7 +10,8 @@ use Rattle.vx_pic.specs.Rules.{Readers}
 use Rattle.vx_pic.specs.Streams.{pictures_of}
 use Rattle.vx_pic.specs.H266.{AreOfH266}
 use Rattle.vx_extract.specs.Written.{named_in}
-use Rattle.vx_extract.specs.Again.{HasReadableSets, IsReady}
+use Rattle.vx_write.specs.Again.{HasReadableSets}
+use Rattle.vx_extract.specs.Again.{IsReady}
 use Rattle.vx_write.specs.InForce.{AreInForce}
 
 -- The sets in force for each picture make up its layout.

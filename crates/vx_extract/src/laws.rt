@@ -1,7 +1,6 @@
 //! Laws of what is written: functions that do nothing, each with a law as its contract.
-ghost use Rattle.vx_extract.specs.Again.{ExtractedArePlanned, ExtractedHasItsBodies, ExtractedIsAlike, ExtractedIsWhole, ExtractedReadsAgain, ExtractedSendsItsSets, ExtractedUnitsAreRead, RewrittenAgree, RewrittenKeepFields, RewrittenKeepIds, RewrittenMakeRegion, RewrittenReadAlike, SeiUnitsAreRead, SetUnitsAreRead};
+ghost use Rattle.vx_extract.specs.Again.{ExtractedArePlanned, ExtractedHasItsBodies, ExtractedIsAlike, ExtractedIsWhole, ExtractedReadsAgain, ExtractedSendsItsSets, ExtractedUnitsAreRead, RewrittenAgree, RewrittenKeepFields, RewrittenKeepIds, RewrittenMakeRegion, RewrittenReadAlike};
 
-use vx_aps::spelled_is_aps;
 use vx_layout::{region_is_layout, region_is_listable, region_keeps_slices, regions_nest};
 use vx_ph::sets_agree;
 use vx_pic::{edits_are_planned, readers_are_unique, written_reads_again};
@@ -11,6 +10,7 @@ use vx_pps::{
 use vx_rpl::{lists_follow_items, tables_follow_items};
 use vx_sh::{numbers_are_told, slice_read_elsewhere, slice_scopes_agree};
 use vx_sps::{reshaped_keeps, reshaped_says};
+use vx_write::set_units_are_read;
 
 /// The sets that are rewritten for a subpicture make up its region, a picture of one subpicture that has its id
 /// (H.266 7.4.3.4, 7.4.3.5), and have the ids of the sets that they stand for.
@@ -76,18 +76,6 @@ pub fn extracted_units_are_read()
 pub fn extracted_is_whole()
     ensures { ExtractedIsWhole }
 {}
-
-/// The units of sets and of messages are read as these.
-pub fn set_units_are_read()
-    ensures sets { SetUnitsAreRead }
-    ensures messages { SeiUnitsAreRead }
-{
-    vx_sps::written_is_read();
-    vx_pps::written_is_read();
-    vx_sei::written_is_read();
-    spelled_is_aps();
-    readers_are_unique();
-}
 
 /// Of the sets that a written picture needs no two have one type and id, and exactly those are sent that aren't resident; and its
 /// header tells the same of counts as that of the picture that it is written for.

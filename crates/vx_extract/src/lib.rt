@@ -21,7 +21,7 @@ pub use extractor::Extractor;
 pub use laws::{
     extracted_are_planned, extracted_has_its_bodies, extracted_is_whole, extracted_reads_again,
     extracted_sends_its_sets, extracted_units_are_read, rewritten_agree, rewritten_keep_fields,
-    rewritten_make_region, rewritten_read_alike, set_units_are_read,
+    rewritten_make_region, rewritten_read_alike,
 };
 pub use laws_kept::{
     all_keep_inputs, extracted_keeps_bodies, extracted_keeps_inputs, extracted_keeps_messages,

@@ -216,7 +216,7 @@ dpb_coded round are =
 
 -- ---- slices
 
-slices_count : (regions : List Rect) (parts : List Numbers) → length regions ≡ length parts → length (frame_slices regions (map (λ p. p.slices) parts)) ≡ sum_by (λ p. length p.slices) parts
+pub slices_count : (regions : List Rect) (parts : List Numbers) → length regions ≡ length parts → length (frame_slices regions (map (λ p. p.slices) parts)) ≡ sum_by (λ p. length p.slices) parts
 slices_count [] [] long = refl
 slices_count [] (p ∷ parts) long = absurd (omega (arith, long))
 slices_count (r ∷ regions) [] long = absurd (omega (arith, long))

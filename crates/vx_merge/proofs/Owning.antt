@@ -22,7 +22,7 @@ use Rattle.vx_merge.specs.inner.Sending.{AreAllApart, AreApart}
 
 -- ---- the same bytes
 
-bytes_are : (a b : List ℕ) → same_bytes a b ≡ true → a ≡ b
+pub bytes_are : (a b : List ℕ) → same_bytes a b ≡ true → a ≡ b
 bytes_are [] [] is = refl
 bytes_are [] (y ∷ b) is = absurd (false≢true is)
 bytes_are (x ∷ a) [] is = absurd (false≢true is)

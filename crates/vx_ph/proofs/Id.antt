@@ -1,16 +1,17 @@
 -- The id of the PPS in a picture header.
-use Rattle.std.proofs.Common.{◌≡◌, ℕ, ℤ, ◌<◌, Bool, List, [], ◌∷◌, ◌++◌, drop, slice_index, Ok, Err, refl, sym, ap, subst, ◌∙◌, arith}
+use Rattle.std.proofs.Common.{◌≡◌, ℕ, ℤ, ◌*◌, ◌<◌, Bool, List, [], ◌∷◌, ◌++◌, length, drop, slice_index, Ok, Err, refl, sym, ap, subst, ◌∙◌, arith}
 use Rattle.std.proofs.lemmas.List.{append-nil, length-replicate}
 use Rattle.std.proofs.lemmas.Bool.{false≢true}
 use Rattle.std.proofs.lemmas.List.Elements.{filter-append}
 use Rattle.vx_bits.specs.declared.list.Item.{Item}
 use Rattle.vx_bits.specs.declared.refusal.Refusal.{Refusal}
 use Rattle.vx_bits.specs.declared.refusal.ReadError.TheVariants.{Refused}
+use Rattle.vx_bits.specs.Codes.{bits_of}
 use Rattle.vx_bits.specs.Place.{Place}
 use Rattle.vx_table.specs.declared.rows.Term.TheVariants.{Latest}
 use Rattle.vx_table.specs.declared.rows.Formula.TheVariants.{Plain}
 use Rattle.vx_table.specs.Scope.{fresh}
-use Rattle.vx_table.specs.Forms.{Form, ◌>>=◌, has_value}
+use Rattle.vx_table.specs.Forms.{Form, ◌>>=◌, form_of, has_value}
 use Rattle.vx_table.specs.Parts.{Section, sections_form}
 use Rattle.vx_table.specs.Spelling.{Spells, items_along}
 use Rattle.vx_table.specs.Values.{Follows, to_end, through}
@@ -26,7 +27,7 @@ use Rattle.vx_table.proofs.Again.{follows_again, reads_again, sections_show}
 use Rattle.vx_table.proofs.Joined.{parted, items_joined, spells_parted}
 use Rattle.vx_table.proofs.Loading.{number_of_shown, number_below, sections_load, sections_stay_below}
 use Rattle.vx_table.proofs.Readings.{reads_error}
-use Rattle.vx_table.proofs.Rewrites.{sections_leave, leaves_present, sections_together}
+use Rattle.vx_table.proofs.Rewrites.{sections_leave, tables_leave, leaves_present, sections_together}
 use Rattle.vx_table.proofs.Shown.{hidden_here}
 use Rattle.vx_fields.specs.declared.ph.TheConstants.{ph_pic_parameter_set_id}
 use Rattle.vx_fields.specs.declared.pps.TheConstants.{pps_rpl_info_in_ph_flag}
@@ -35,9 +36,12 @@ use Rattle.vx_rpl.specs.declared.entry.RplTable.{RplTable}
 use Rattle.vx_rpl.specs.Lists.{lists_form, weights, weights_form}
 use Rattle.vx_rpl.proofs.Passing.{lists_leave}
 use Rattle.vx_ph.proofs.Sets.{no_name}
+use Rattle.vx_ph.proofs.Opening.{spelled_is_read, unit_spells}
 use Rattle.vx_ph.proofs.Spelling.{spells_follow}
 use Rattle.vx_ph.specs.Header.{front, lists_if_present, middle, weights_if_present, back, before_weights, header_form}
-use Rattle.vx_ph.specs.Id.{to_id, id_form, HeaderHasId}
+use Rattle.vx_ph.specs.Id.{to_id, id_form, HeaderHasId, UnitHasId}
+use Rattle.vx_ph.specs.Picture.{unit_form}
+use Rattle.vx_ph.specs.declared.tables.TheConstants.{TRAILING}
 
 -- ---- what is read up to the id
 
@@ -106,23 +110,49 @@ begins_id table s total left items b =
     first_part total left items (sections_form to_id s) (sections_form behind_id) (sections_leave the_id behind_id refl)
     (subst (Begins total left items) (sections_together to_id behind_id s) fronted)
 
-pub header_has_id : HeaderHasId
+-- and then, whatever the sets, with a spelling up to the id, whose items have this id
+record HasIdBefore (total : ℕ) (left : List Bool) (items : List Item) : Type 0 where
+  values : List ℤ
+  rest : List Bool
+  spelled : Spells total id_form values left rest
+  same : number items ph_pic_parameter_set_id ≡ number (items_along id_form values) ph_pic_parameter_set_id
+
+has_id_before : (table : RplTable) (s : List ℕ) (total : ℕ) (left : List Bool) (items : List Item) → length s ≡ 1024 → Begins total left items (header_form table s)
+    → HasIdBefore total left items
 unfolding id_form the_id fresh has_value knows_formula knows_width knows_range knows_presence hides_counter hides_row behind_field within_block depends behind_rows table_depends behind_table comes_always shows_row
-header_has_id table s place id values rest long is_id spelled =
-    let header = header_form table s in
-    let on = spells_follow spelled in
-    let b = begins_id table s place.total place.left (items_along header values)
-    (record { values = values; end = on.0; rest = rest; follows = on.1; spelled = spelled; same = refl }) in
+has_id_before table s total left items long begins =
+    let b = begins_id table s total left items begins in
     let shown = with_all (set_of []) (named_by_all to_id) in
     let agree : Agree (set_of []) s fresh = record { size = long ∙ sym (length-replicate {A = ℕ} 1024 0); same = λ n there. absurd (false≢true (sym (no_name n) ∙ there)) } in
     let alike = (structure_depends_only_on [] (named_by_all to_id) to_id refl).alike s fresh agree in
     let all = sections_show shown to_id refl in
     let again = follows_again shown (set_of []) (sections_form to_id s) (sections_form to_id fresh) b.values b.end alike (all.at s) (all.at fresh) b.follows in
-    let spelled_again = reads_again shown (set_of []) (sections_form to_id s) (sections_form to_id fresh) place.total b.values place.left b.rest alike (all.at s) (all.at fresh) b.spelled in
-    number_of_shown the_id ph_pic_parameter_set_id (items_along header values) refl
-    ∙ ap (λ items. number items ph_pic_parameter_set_id) (b.same ∙ ap (shown_items the_id) (sym again.items))
-    ∙ sym (number_of_shown the_id ph_pic_parameter_set_id (items_along id_form b.values) refl)
-    ∙ is_id b.values b.rest spelled_again
+    record {
+      values = b.values;
+      rest = b.rest;
+      spelled = reads_again shown (set_of []) (sections_form to_id s) (sections_form to_id fresh) total b.values left b.rest alike (all.at s) (all.at fresh) b.spelled;
+      same = number_of_shown the_id ph_pic_parameter_set_id items refl
+          ∙ ap (λ some. number some ph_pic_parameter_set_id) (b.same ∙ ap (shown_items the_id) (sym again.items))
+          ∙ sym (number_of_shown the_id ph_pic_parameter_set_id (items_along id_form b.values) refl);
+    }
+
+pub header_has_id : HeaderHasId
+header_has_id table s place id values rest long is_id spelled =
+    let on = spells_follow spelled in
+    let b = has_id_before table s place.total place.left (items_along (header_form table s) values) long
+    (record { values = values; end = on.0; rest = rest; follows = on.1; spelled = spelled; same = refl }) in
+    b.same ∙ is_id b.values b.rest b.spelled
+
+-- that of a unit's header stands in what the unit begins with
+pub unit_has_id : UnitHasId
+unfolding unit_form the_id fresh hides_row
+unit_has_id table s header bytes long u =
+    let total = 8 * length bytes in
+    let unit : Begins total (bits_of bytes) header.fields (unit_form table s) =
+    record { values = u.values; end = u.end; rest = []; follows = u.follows; spelled = unit_spells table s header bytes u; same = ap (shown_items the_id) u.all } in
+    let b = has_id_before table s total (bits_of bytes) header.fields long
+    (first_part total (bits_of bytes) header.fields (header_form table s) (form_of TRAILING) (tables_leave the_id TRAILING refl) unit) in
+    (items_along id_form b.values, (record { total = total; left = b.rest }, spelled_is_read tt id_form total b.spelled refl), b.same)
 
 -- ---- the reader of the id
 

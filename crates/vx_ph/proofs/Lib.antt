@@ -15,3 +15,5 @@ mod Maps
 mod Reshaping
 mod Spelling
 mod Id
+mod Once
+pub mod Enabled

@@ -1,7 +1,8 @@
 -- Anything may follow a picture header, and what is written of a unit is read as its header.
-use Rattle.std.proofs.Common.{◌≡◌, ℕ, ℤ, ◌+◌, ◌*◌, Bool, true, false, not, List, [], ◌∷◌, ◌++◌, length, refl, ap, sym, ◌∙◌, arith}
+use Rattle.std.proofs.Common.{◌≡◌, ℕ, ℤ, ◌+◌, ◌*◌, Bool, true, false, not, List, [], ◌∷◌, ◌++◌, length, Ok, refl, ap, sym, ◌∙◌, arith}
 use Rattle.std.proofs.lemmas.Bool.{not-true}
 use Rattle.std.proofs.lemmas.List.{append-nil}
+use Rattle.vx_bits.specs.declared.list.Item.{Item}
 use Rattle.vx_bits.specs.Codes.{bits_of}
 use Rattle.vx_bits.proofs.Bits.{length-bits_of}
 use Rattle.vx_table.specs.declared.rows.Formula.{Formula}
@@ -11,6 +12,7 @@ use Rattle.vx_table.specs.declared.rows.Cell.{Cell}
 use Rattle.vx_table.specs.declared.rows.Row.{Row}
 use Rattle.vx_table.specs.declared.rows.Row.TheVariants.{Field, Block, Name}
 use Rattle.vx_table.specs.Forms.{Form, done, field, ◌>>=◌, coding_at, limits_at, cell_at, after, one_field, part, form_of, has_value}
+use Rattle.vx_table.specs.Reading.{Reads}
 use Rattle.vx_table.specs.Spelling.{MayEnd, Spells, code_of, items_along}
 use Rattle.vx_table.specs.Values.{bits_along, Closes}
 use Rattle.vx_table.specs.EachField.{EachField}
@@ -68,7 +70,7 @@ unfolding form_of part one_field coding_at limits_at after has_value MayEnd
 trailing_closes s place [] = tt
 trailing_closes s place (v ∷ w) = (refl, tt)
 
-unit_spells : (table : RplTable) (s : List ℕ) (header : PictureHeader) (bytes : List ℕ) (u : IsUnit table s header bytes)
+pub unit_spells : (table : RplTable) (s : List ℕ) (header : PictureHeader) (bytes : List ℕ) (u : IsUnit table s header bytes)
     → Spells (8 * length bytes) (unit_form table s) u.values (bits_of bytes) []
 unfolding unit_form
 unit_spells table s header bytes u =
@@ -78,20 +80,18 @@ unit_spells table s header bytes u =
     let total : 0 + length (all ++ []) ≡ 8 * length bytes = omega (arith, ap length bits, length-bits_of bytes) in
     rw (← total, ← bits) (reads_back form 0 u.values u.end [] u.follows (closes_then (header_form table s) (form_of TRAILING) 0 u.values [] (header_opens table s) trailing_closes))
 
+-- what bits spell is read of them
+pub spelled_is_read : {B : Type 0} (b : B) (form : Form (List ℕ)) (total : ℕ) {values : List ℤ} {left rest : List Bool} {items : List Item} → Spells total form values left rest → items ≡ items_along form values
+    → Reads form (record { total = total; left = left }) [] (Ok b) (record { total = total; left = rest }) items
+spelled_is_read b form total {values} {left} {rest} spelled all = record {
+  is = record { values = values; spelled = spelled; total = refl; gained = all };
+  only = λ others more other.
+      let one = reads_one_way form total others values left more rest other spelled in
+      (sym one.1, all ∙ ap (items_along form) (sym one.0));
+  refusal = λ others cell more r reached out. absurd ((answers_one_way form total others values left more rest cell r reached out).0 spelled);
+}
+
 pub unit_is_read : UnitIsRead
 unit_is_read table s header bytes is u =
-    let form = unit_form table s in
-    let spelled = unit_spells table s header bytes u in
-    let whole = 8 * length bytes in (
-      (
-        record { total = whole; left = [] },
-        record {
-          is = record { values = u.values; spelled = spelled; total = refl; gained = u.all };
-          only = λ values rest other.
-              let one = reads_one_way form whole values u.values (bits_of bytes) rest [] other spelled in
-              (sym one.1, u.all ∙ ap (items_along form) (sym one.0));
-          refusal = λ values cell rest r reached out. absurd ((answers_one_way form whole values u.values (bits_of bytes) rest [] cell r reached out).0 spelled);
-        },
-      ),
-      is.lists,
-    )
+    let whole = 8 * length bytes in
+    ((record { total = whole; left = [] }, spelled_is_read tt (unit_form table s) whole (unit_spells table s header bytes u) u.all), is.lists)

@@ -1,5 +1,5 @@
 -- The adaptive loop filter of a header, with other ids of its sets (H.266 7.3.7).
-use Rattle.std.specs.Prelude.{◌≡◌, ℕ, pos, ◌<◌, cond, true, List, [], ◌∷◌, length, map, slice_index}
+use Rattle.std.specs.Prelude.{◌≡◌, ◌≤◌, ◌==◌, ℕ, pos, ◌<◌, cond, filter, true, List, [], ◌∷◌, length, map, slice_index}
 use Rattle.vx_bits.specs.declared.list.Item.{Item}
 use Rattle.vx_table.specs.Depends.{has, set_of}
 use Rattle.vx_table.specs.Forms.{form_of}
@@ -38,3 +38,16 @@ abbrev pub HeaderHasFilter : Type 0
 HeaderHasFilter = (table : RplTable) (s : List ℕ) (items : List Item) → AreFields table s items
     → is_set (slice_index s sps_alf_enabled_flag) ≡ true → is_set (slice_index s pps_alf_info_in_ph_flag) ≡ true
     → Takes (form_of ALF s) (filter_of items)
+
+-- A field has one item at most.
+abbrev pub ComesOnce : ℕ → List Item → Type 0
+ComesOnce of items = length (filter (λ item. item.field == of) items) ≤ 1
+
+-- A filter names one set at most for chroma, one for Cb and one for Cr.
+pub record NamesOnce (items : List Item) : Type 0 where
+  pub chroma : ComesOnce alf.alf_aps_id_chroma items
+  pub cb : ComesOnce alf.alf_cc_cb_aps_id items
+  pub cr : ComesOnce alf.alf_cc_cr_aps_id items
+
+abbrev pub FilterNamesOnce : Type 0
+FilterNamesOnce = (s : List ℕ) (items : List Item) → Takes (form_of ALF s) items → NamesOnce items

@@ -1,15 +1,19 @@
 -- The id of the PPS that a picture header refers to, which stands before what the sets tell.
-use Rattle.std.specs.Prelude.{◌≡◌, ℕ, ℤ, Bool, List, [], ◌∷◌, length}
+use Rattle.std.specs.Prelude.{◌≡◌, ℕ, ℤ, Bool, List, [], ◌∷◌, length, Ok}
+use Rattle.vx_bits.specs.declared.list.Item.{Item}
 use Rattle.vx_bits.specs.Place.{Place}
 use Rattle.vx_table.specs.Scope.{fresh}
 use Rattle.vx_table.specs.Forms.{Form}
 use Rattle.vx_table.specs.Parts.{Section, always, sections_form}
 use Rattle.vx_table.specs.Spelling.{Spells, items_along}
 use Rattle.vx_table.specs.Loaded.{number}
+use Rattle.vx_table.specs.Reading.{Reads, at_front}
 use Rattle.vx_fields.specs.declared.ph.TheConstants.{ph_pic_parameter_set_id}
 use Rattle.vx_rpl.specs.declared.entry.RplTable.{RplTable}
+use Rattle.vx_ph.specs.declared.header.PictureHeader.{PictureHeader}
 use Rattle.vx_ph.specs.declared.tables.TheConstants.{PICTURE, PPS_ID}
 use Rattle.vx_ph.specs.Header.{header_form}
+use Rattle.vx_ph.specs.Picture.{IsUnit}
 
 -- a header up to the id
 abbrev pub to_id : List Section
@@ -28,3 +32,9 @@ abbrev pub HeaderHasId : Type 0
 HeaderHasId = (table : RplTable) (s : List ℕ) (place : Place) (id : ℕ) (values : List ℤ) (rest : List Bool)
     → length s ≡ 1024 → IsId place id → Spells place.total (header_form table s) values place.left rest
     → number (items_along (header_form table s) values) ph_pic_parameter_set_id ≡ id
+
+-- A unit begins with items up to the id that a reader answers, whatever the sets, and its header's id is theirs.
+abbrev pub UnitHasId : Type 0
+UnitHasId = (table : RplTable) (s : List ℕ) (header : PictureHeader) (bytes : List ℕ) → length s ≡ 1024 → IsUnit table s header bytes
+    → (items : List Item) × ((new : Place) × Reads {B = Unit {0}} id_form (at_front bytes) [] (Ok tt) new items)
+    × (number header.fields ph_pic_parameter_set_id ≡ number items ph_pic_parameter_set_id)

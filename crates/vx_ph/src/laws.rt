@@ -1,7 +1,8 @@
 //! Laws of picture headers: functions that do nothing, each with a law as its contract.
 ghost use Rattle.vx_ph.specs.Depends.{KeptDepend, AllDepend, KeepsKept, ShowsAll, FieldsAreCodedOnce, HeaderReadAgain, HeaderRewrites};
-ghost use Rattle.vx_ph.specs.Filter.{FilterGoesAgain, HeaderHasFilter};
-ghost use Rattle.vx_ph.specs.Id.{HeaderHasId};
+ghost use Rattle.vx_ph.specs.Enabled.{NoLmcs, NoScaling, NoChromaScaling, NoFilter};
+ghost use Rattle.vx_ph.specs.Filter.{FilterGoesAgain, FilterNamesOnce, HeaderHasFilter};
+ghost use Rattle.vx_ph.specs.Id.{HeaderHasId, UnitHasId};
 ghost use Rattle.vx_ph.specs.InForce.{SetsAgree};
 ghost use Rattle.vx_ph.specs.Picture.{UnitIsRead};
 ghost use Rattle.vx_ph.specs.Reshaped.{SameKeptAgree};
@@ -59,4 +60,22 @@ pub fn unit_is_read()
 pub fn filter_goes_again()
     ensures again { FilterGoesAgain }
     ensures header { HeaderHasFilter }
+{}
+
+/// A filter names one set at most for chroma, one for Cb and one for Cr.
+pub fn filter_names_once()
+    ensures { FilterNamesOnce }
+{}
+
+/// A reader of the id answers that of a unit's header, whatever the sets.
+pub fn unit_has_id()
+    ensures { UnitHasId }
+{}
+
+/// Where the SPS doesn't enable LMCS, scaling lists, chroma or the filter, a header has none of it.
+pub fn header_is_enabled()
+    ensures lmcs { NoLmcs }
+    ensures scaling { NoScaling }
+    ensures chroma { NoChromaScaling }
+    ensures filter { NoFilter }
 {}

@@ -20,8 +20,9 @@ mod write;
 
 pub use header::PictureHeader;
 pub use laws::{
-    fields_are_coded_once, filter_goes_again, header_depends, header_has_id, header_keeps,
-    header_read_again, header_rewrites, same_kept_agree, sets_agree, unit_is_read,
+    fields_are_coded_once, filter_goes_again, filter_names_once, header_depends, header_has_id,
+    header_is_enabled, header_keeps, header_read_again, header_rewrites, same_kept_agree,
+    sets_agree, unit_has_id, unit_is_read,
 };
 pub use pps_id::read_pps_id;
 pub use read::read_header_at;

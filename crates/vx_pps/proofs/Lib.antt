@@ -35,3 +35,5 @@ pub mod Remade
 pub mod Fields
 pub mod Numbered
 pub mod OneGrouping
+mod Crossing
+pub mod Telling

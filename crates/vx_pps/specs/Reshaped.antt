@@ -3,6 +3,7 @@ use Rattle.std.specs.Prelude.{◌≡◌, ◌==◌, ℕ, ℤ, pos, ◌+◌, ◌-�
 use Rattle.std.specs.Prelude.{List, [], ◌∷◌, ◌++◌, length, Option, Some, None, IfSome}
 use Rattle.std.specs.Int.{div_ceil}
 use Rattle.vx_bits.specs.declared.list.Item.{Item}
+use Rattle.vx_bits.specs.Fields.{first_value}
 use Rattle.vx_fields.specs.declared.pps.TheConstants as pps
 use Rattle.vx_layout.specs.Bounds.{last, sizes_between}
 use Rattle.vx_layout.specs.Layouts.{HasLayout}
@@ -17,6 +18,7 @@ use Rattle.vx_pps.specs.declared.shape.TheConstants.{TAKEN, TAKEN_FOR_FRAME}
 use Rattle.vx_pps.specs.Tiles.{across, down}
 use Rattle.vx_pps.specs.Groups.{Group, InGroups}
 use Rattle.vx_pps.specs.Laws.{picture_of}
+use Rattle.vx_pps.specs.Items.{numbers_of}
 use Rattle.vx_pps.specs.Pps.{IsItems, columns_of, kept_of, pps_form, rows_of, slices_of}
 use Rattle.vx_pps.specs.Written.{item, list_items, size_items}
 
@@ -184,3 +186,39 @@ abbrev pub FrameKeeps : Type 0
 FrameKeeps =
     (source items : List Item) (shape : PpsShape) → IsItems source → IsReshaped source shape items → shape.merged ≡ true
     → kept_of items ≡ kept_of source
+
+-- ---- what it says
+
+-- the id of its one subpicture, in so many bits, less 1
+pub record MapsId (bits id : ℕ) (items : List Item) : Type 0 where
+  pub mapped : number items pps.pps_subpic_id_mapping_present_flag ≡ 1
+  pub id_len : number items pps.pps_subpic_id_len_minus1 ≡ bits
+  pub ids : numbers_of items pps.pps_subpic_id ≡ id ∷ []
+
+-- of a picture that is partitioned, the size of CTUs, and whether loop filters cross the borders of tiles and of slices, where there
+-- are several
+pub record TellsDivision (shape : PpsShape) (items : List Item) : Type 0 where
+  pub ctb : (log2 : ℕ) → log2 < 3 → shape.ctb ≡ 2 ^ (log2 + 5) → number items pps.pps_log2_ctu_size_minus5 ≡ log2
+  pub across_tiles : 1 < across shape.tiles * down shape.tiles
+      → number items pps.pps_loop_filter_across_tiles_enabled_flag ≡ one_if shape.across_tiles
+  pub across_slices : 1 < length shape.slices
+      → number items pps.pps_loop_filter_across_slices_enabled_flag ≡ one_if shape.across_slices
+
+-- It says what the shape says: its ids, its size, whether it is partitioned, the id of its one subpicture where that stands here, and
+-- the QP of a frame.
+pub record Tells (source : List Item) (shape : PpsShape) (items : List Item) : Type 0 where
+  pub id : number items pps.pps_pic_parameter_set_id ≡ shape.id
+  pub sps_id : number items pps.pps_seq_parameter_set_id ≡ shape.sps_id
+  pub width : number items pps.pps_pic_width_in_luma_samples ≡ shape.width
+  pub height : number items pps.pps_pic_height_in_luma_samples ≡ shape.height
+  pub whole : number items pps.pps_no_pic_partition_flag ≡ whole_flag source shape
+  pub count : number items pps.pps_num_subpics_minus1 ≡ 0
+  pub unmapped : shape.subpic_id ≡ None → number items pps.pps_subpic_id_mapping_present_flag ≡ 0
+  pub mapped : (bits id : ℕ) → shape.subpic_id ≡ Some (bits, id) → MapsId bits id items
+  pub division : whole_flag source shape ≡ 0 → TellsDivision shape items
+  pub init_qp : shape.merged ≡ true → first_value items pps.pps_init_qp_minus26 ≡ Some shape.init_qp
+
+abbrev pub ReshapedTells : Type 0
+ReshapedTells =
+    (source items : List Item) (shape : PpsShape) → IsItems source → IsShape source shape → IsReshaped source shape items
+    → Tells source shape items

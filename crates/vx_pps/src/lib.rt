@@ -37,7 +37,7 @@ pub use laws::{
     bounds_are_read_back, few_are_read_back, few_fall_into_groups, layouts_are_lists,
     list_gives_slices, lists_fall_into_groups, slices_are_read_back,
 };
-pub use laws_reshaped::{frame_keeps, region_keeps, reshaped_has_its_tiles};
+pub use laws_reshaped::{frame_keeps, region_keeps, reshaped_has_its_tiles, reshaped_tells};
 pub use laws_sets::{
     kept_and_others_tell, kept_depends_on_kept, kept_tells_numbers, no_proper_prefix,
     read_slices_are_listable, sets_tell_partitions, spelling_is_short, tiles_are_in_limits,

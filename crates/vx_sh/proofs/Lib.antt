@@ -19,3 +19,5 @@ mod Stating
 mod Reshaping
 mod Reshaped
 mod Filtering
+mod FirstBit
+mod Enabled

@@ -9,4 +9,5 @@ pub mod InForce
 pub mod Elsewhere
 pub mod Reshaped
 pub mod Filter
+pub mod Enabled
 pub mod inner

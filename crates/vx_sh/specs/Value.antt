@@ -1,5 +1,5 @@
 -- A slice header as a value: what is read and what is written of it.
-use Rattle.std.specs.Prelude.{◌≡◌, ℕ, ℤ, ◌+◌, ◌*◌, ◌<◌, Bool, true, false, List, [], ◌++◌, length, take, drop, slice_index, Result, Ok, Err}
+use Rattle.std.specs.Prelude.{◌≡◌, ℕ, ℤ, ◌+◌, ◌*◌, ◌<◌, Bool, true, false, List, [], ◌++◌, length, nat_le, take, drop, slice_index, Result, Ok, Err}
 use Rattle.vx_bits.specs.declared.list.Item.{Item}
 use Rattle.vx_bits.specs.declared.refusal.ReadError.{ReadError}
 use Rattle.vx_bits.specs.declared.refusal.ReadError.TheVariants as errors
@@ -118,3 +118,8 @@ ReadCanBeWritten = (n : At) (rbsp : List ℕ) (header : SliceHeader) (size : ℕ
 abbrev pub NoProperPrefix : Type 0
 NoProperPrefix = (n : At) (fields others header other : List Item) (bytes more : List ℕ)
     → IsSpelling n fields header bytes → IsSpelling n others other (bytes ++ more) → (fields ≡ others) × (more ≡ [])
+
+-- The first bit of the RBSP says whether the picture header stands inside.
+abbrev pub FirstBitIsInside : Type 0
+FirstBitIsInside = (n : At) (rbsp : List ℕ) (header : SliceHeader) (size : ℕ) → length n.slice ≡ 1024 → BeginsSlice n rbsp header size
+    → header.inside ≡ nat_le 128 (slice_index rbsp 0)

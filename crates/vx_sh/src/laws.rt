@@ -3,10 +3,11 @@ ghost use Rattle.vx_sh.specs.Addresses.{AddressesAreBelow};
 ghost use Rattle.vx_sh.specs.Depends.{KeptDepend, AllDepend, AllAreShown, KeptAreShown};
 ghost use Rattle.vx_sh.specs.Again.{SlicesReadAgain, SlicesRewrite};
 ghost use Rattle.vx_sh.specs.Elsewhere.{SliceReadElsewhere};
+ghost use Rattle.vx_sh.specs.Enabled.{NoSliceFilter};
 ghost use Rattle.vx_sh.specs.Filter.{SliceHasFilter};
 ghost use Rattle.vx_sh.specs.InForce.{SliceScopesAgree, SliceScopesAreWhole};
 ghost use Rattle.vx_sh.specs.Reshaped.{ReshapedIsReadAgain, SlicesAgreeOnKept};
-ghost use Rattle.vx_sh.specs.Value.{NoProperPrefix, NumbersAreTold, ReadCanBeWritten, SpellingBegins, SpellingIsRead};
+ghost use Rattle.vx_sh.specs.Value.{FirstBitIsInside, NoProperPrefix, NumbersAreTold, ReadCanBeWritten, SpellingBegins, SpellingIsRead};
 
 /// The kept fields of a slice header behind the id of its subpicture depend on kept fields alone, and the other fields on a
 /// few with a star beside these.
@@ -78,4 +79,14 @@ pub fn slices_agree_on_kept()
 /// The filter of a slice header goes through under the sets of the slice, where it stands there.
 pub fn slice_has_filter()
     ensures { SliceHasFilter }
+{}
+
+/// The first bit of a slice header says whether the picture header stands inside.
+pub fn first_bit_is_inside()
+    ensures { FirstBitIsInside }
+{}
+
+/// Where the SPS doesn't enable the filter, a slice header has none.
+pub fn no_slice_filter()
+    ensures { NoSliceFilter }
 {}

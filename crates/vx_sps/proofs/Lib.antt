@@ -16,4 +16,5 @@ pub mod Exists
 pub mod With
 pub mod Places
 pub mod Says
+pub mod Signals
 pub mod Short

@@ -13,7 +13,8 @@ use Rattle.vx_table.specs.Rewrites.{in_all_turns}
 use Rattle.vx_sps.specs.Subpictures.{numbers_of, corner_at, size_at}
 use Rattle.vx_sps.specs.Reshaped.{item, where_so, place_items, places_items, AreParts}
 use Rattle.vx_sps.proofs.Pushed.{turn_more}
-use Rattle.vx_sps.proofs.With.{with_field, Passing, passing_append, passing_where, passing_turns, lacks, with_first, with_second, where_has, values, length-values, values_at, numbers_turns, no_numbers}
+use Rattle.vx_table.proofs.With.{with_field, Passing, passing_append, passing_where, passing_turns, lacks, with_first, with_second}
+use Rattle.vx_sps.proofs.With.{where_has, values, length-values, values_at, numbers_turns, no_numbers}
 
 -- ---- one axis
 

@@ -1,10 +1,9 @@
 -- What a rewritten set says, from the items that are stated; and that it keeps what its source has.
-use Rattle.std.proofs.Common.{◌≡◌, ◌⊎◌, inl, inr, ℕ, pos, zero, suc, ◌+◌, ◌-◌, ◌<◌, ◌≤◌, ◌^◌, min, true, false, cond, not, ◌==◌, ◌||◌, IsFalse, List, [], ◌∷◌, ◌++◌, length, map, Some, None, refl, ap, sym, subst, ◌∙◌, arith}
+use Rattle.std.proofs.Common.{◌≡◌, ◌⊎◌, inl, inr, ℕ, zero, suc, ◌+◌, ◌-◌, ◌<◌, ◌≤◌, ◌^◌, true, false, cond, not, ◌==◌, ◌&&◌, ◌||◌, IsFalse, List, [], ◌∷◌, ◌++◌, length, map, Some, None, refl, ap, sym, subst, ◌∙◌, arith}
 use Rattle.std.specs.Prelude.{Bool, nat_lt, slice_index_or}
 use Rattle.std.proofs.Math.Pow.{pow_mono}
 use Rattle.std.proofs.lemmas.Bool.{and_parts, cases_Bool, cases_eq}
 use Rattle.std.proofs.lemmas.List.{get_or-set_other}
-use Rattle.std.proofs.lemmas.List.Elements.{All-nil}
 use Rattle.vx_bits.specs.declared.list.Item.{Item}
 use Rattle.vx_fields.specs.declared.sps.TheConstants as sps
 use Rattle.vx_fields.specs.declared.timing.TheConstants as timing
@@ -16,7 +15,7 @@ use Rattle.vx_table.specs.Loaded.{number, row_below, code_below, range_below}
 use Rattle.vx_table.specs.Forms.{has_value}
 use Rattle.vx_table.specs.Rewrites.{in_all_turns}
 use Rattle.vx_table.specs.Shown.{shown_items}
-use Rattle.vx_table.proofs.Loading.{number_of_last, number_of_none, number_of_shown}
+use Rattle.vx_table.proofs.Loading.{number_of_shown}
 use Rattle.vx_table.proofs.Keeping.{shown_of_shown}
 use Rattle.vx_sps.specs.declared.shape.SpsShape.{SpsShape}
 use Rattle.vx_sps.specs.declared.shape.SubpicPlan.{SubpicPlan}
@@ -31,7 +30,7 @@ use Rattle.vx_table.proofs.Groups.{inside_nothing}
 use Rattle.vx_sps.proofs.Stages.{knows_all}
 use Rattle.vx_sps.proofs.Stated.{below}
 use Rattle.vx_sps.proofs.Exists.{few_units}
-use Rattle.vx_sps.proofs.With.{with_field, number_with, others_with, Passing, passing_append, passing_where, passing_times, passing_turns, lacks, with_first, with_second}
+use Rattle.vx_table.proofs.With.{with_field, no_number, one_number, others_with, Passing, passing_append, passing_where, passing_times, passing_turns, lacks, same_number, with_first, with_second}
 use Rattle.vx_sps.proofs.Places.{place_passes, places_pass, corners, sizes, corner_back, size_back, xs_of, ys_of, ws_of, hs_of, fills_across, fills_down, rect_at}
 
 -- ---- the kept fields
@@ -57,11 +56,11 @@ reshaped_keeps source items shape is =
 
 -- ---- the picture among what is stated
 
--- no field of the picture
-abbrev beside : ℕ → Bool
-beside f = nat_lt f 109 || nat_lt 129 f
+-- neither an id of a set nor a field of the picture
+abbrev pub beside : ℕ → Bool
+beside f = (nat_lt f 100 || nat_lt 101 f) && (nat_lt f 109 || nat_lt 129 f)
 
-profile_beside : (source : List Item) (level : ℕ) → Passing beside (profile_items source level)
+pub profile_beside : (source : List Item) (level : ℕ) → Passing beside (profile_items source level)
 profile_beside source level =
     (refl, (refl, (refl, (refl, (refl, (refl, passing_append beside _ _ (passing_times beside (number source sps.sps_max_sublayers_minus1) _ refl) (refl, tt)))))))
 
@@ -83,19 +82,21 @@ timing_beside source =
     passing_where beside (is_set (number source sps.sps_timing_hrd_params_present_flag)) _
     (refl, (refl, (refl, (refl, passing_append beside cpb (rate_items source) (passing_where beside (is_set (number source sps.sps_max_sublayers_minus1)) _ (refl, tt)) (rate_beside source)))))
 
-picture_with : (of : ℕ) (source : List Item) (shape : SpsShape) → beside of ≡ false → with_field of (stated source shape) ≡ with_field of (picture_items source shape)
-picture_with of source shape is =
+pub limits_beside : (source : List Item) (numbers : List ℕ) → Passing beside (dpb_items source numbers ++ timing_items source)
+limits_beside source numbers = passing_append beside (dpb_items source numbers) (timing_items source) (dpb_beside source numbers) (timing_beside source)
+
+picture_with : (of : ℕ) (source : List Item) (shape : SpsShape) → beside of ≡ false → nat_lt of 109 ≡ false → with_field of (stated source shape) ≡ with_field of (picture_items source shape)
+picture_with of source shape is past =
     let limits : List Item = dpb_items source shape.dpb ++ timing_items source in
-    with_second of (id_items shape.id) (profile_items source shape.level ++ (picture_items source shape ++ limits)) (lacks beside of (id_items shape.id) is (refl, (refl, tt)))
+    with_second of (id_items shape.id) (profile_items source shape.level ++ (picture_items source shape ++ limits)) (lacks (λ f. nat_lt f 109) of (id_items shape.id) past (refl, (refl, tt)))
     ∙ with_second of (profile_items source shape.level) (picture_items source shape ++ limits) (lacks beside of (profile_items source shape.level) is (profile_beside source shape.level))
-    ∙ with_first of (picture_items source shape) limits
-    (lacks beside of limits is (passing_append beside (dpb_items source shape.dpb) (timing_items source) (dpb_beside source shape.dpb) (timing_beside source)))
+    ∙ with_first of (picture_items source shape) limits (lacks beside of limits is (limits_beside source shape.dpb))
 
 -- the size, and the subpictures behind it
-window_passes : (test : ℕ → Bool) → test 111 ≡ true → test 112 ≡ true → test 113 ≡ true → test 114 ≡ true → test 115 ≡ true → (window : List ℕ) → Passing test (window_items window)
+pub window_passes : (test : ℕ → Bool) → test 111 ≡ true → test 112 ≡ true → test 113 ≡ true → test 114 ≡ true → test 115 ≡ true → (window : List ℕ) → Passing test (window_items window)
 window_passes test a b c d e window = (a, passing_where test (has_window window) _ (b, (c, (d, (e, tt)))))
 
-subpics_pass : (test : ℕ → Bool) → test 116 ≡ true → test 117 ≡ true → test 118 ≡ true → test 119 ≡ true → test 120 ≡ true → test 121 ≡ true → test 122 ≡ true → test 123 ≡ true → test 126 ≡ true
+pub subpics_pass : (test : ℕ → Bool) → test 116 ≡ true → test 117 ≡ true → test 118 ≡ true → test 119 ≡ true → test 120 ≡ true → test 121 ≡ true → test 122 ≡ true → test 123 ≡ true → test 126 ≡ true
     → test 127 ≡ true → test 128 ≡ true → test 129 ≡ true → (columns rows : ℕ) (plan : SubpicPlan) → Passing test (subpic_items columns rows plan)
 subpics_pass test a b c d e f g h k l m n columns rows Absent = (a, tt)
 subpics_pass test a b c d e f g h k l m n columns rows (One id_len None) = (a, (b, (k, (l, (m, tt)))))
@@ -121,20 +122,6 @@ height_with width height columns rows window plan =
     ∙ ap (λ xs. item 110 height ∷ xs) (lacks (λ f. nat_lt 110 f) 110 (window_items window) refl (window_passes (λ f. nat_lt 110 f) refl refl refl refl refl window))
 
 -- ---- numbers
-
--- lists with the same items of a field give it the same number
-same_number : (of : ℕ) (xs ys : List Item) → with_field of xs ≡ with_field of ys → number xs of ≡ number ys of
-same_number of xs ys same = number_with of xs ∙ ap (λ x. number x of) same ∙ sym (number_with of ys)
-
-one_number : (of v : ℕ) (xs : List Item) → of < 1024 → v ≤ 16384 → with_field of xs ≡ item of v ∷ [] → number xs of ≡ v
-unfolding natural
-one_number of v xs small few same =
-    let read = number_of_last of (pos v) [] [] small (All-nil (λ item. (item.field == of) ≡ false)) in
-    let whole : min v 4294967295 ≡ v = omega arith in
-    number_with of xs ∙ ap (λ x. number x of) same ∙ read ∙ whole
-
-no_number : (of : ℕ) (xs : List Item) → with_field of xs ≡ [] → number xs of ≡ 0
-no_number of xs none = number_with of xs ∙ ap (λ x. number x of) none ∙ number_of_none of [] (All-nil (λ item. (item.field == of) ≡ false))
 
 none_listed : (of : ℕ) (xs : List Item) → with_field of xs ≡ [] → numbers_of xs of ≡ []
 none_listed of xs none = ap (λ x. map (λ item. natural item.value) x) none
@@ -243,6 +230,16 @@ own_same i a b e f g h = rw (a, b, e, f, g, h) refl
 
 -- ---- the set
 
+items_with : (source items : List Item) (shape : SpsShape) → IsReshaped source shape items → (of : ℕ) → beside of ≡ false → nat_lt of 109 ≡ false → IsFalse (has (set_of TAKEN) of)
+    → with_field of items ≡ with_field of (picture_items source shape)
+items_with source items shape is of fails past outside = sym (others_with (set_of TAKEN) of items outside) ∙ ap (λ x. with_field of x) is.other_ones ∙ picture_with of source shape fails past
+
+pub block_of : (source items : List Item) (shape : SpsShape) → IsReshaped source shape items → (of : ℕ) → beside of ≡ false → nat_lt of 109 ≡ false → IsFalse (has (set_of TAKEN) of) → nat_lt of 116 ≡ false
+    → with_field of items ≡ with_field of (subpic_items (quotient shape.width (ctb_size_of source)) (quotient shape.height (ctb_size_of source)) shape.subpics)
+block_of source items shape is of fails past outside later =
+    items_with source items shape is of fails past outside
+    ∙ subpics_with of shape.width shape.height (quotient shape.width (ctb_size_of source)) (quotient shape.height (ctb_size_of source)) shape.window shape.subpics later
+
 module _ (source items : List Item) (shape : SpsShape) (set : IsItems source) (fits : IsShape (ctb_size_of source) shape) (is : IsReshaped source shape items) where
   abbrev across : ℕ
   across = quotient shape.width (ctb_size_of source)
@@ -253,22 +250,16 @@ module _ (source items : List Item) (shape : SpsShape) (set : IsItems source) (f
   abbrev spelled : List Item
   spelled = subpic_items across down shape.subpics
 
-  items_with : (of : ℕ) → beside of ≡ false → IsFalse (has (set_of TAKEN) of) → with_field of items ≡ with_field of (picture_items source shape)
-  items_with of fails outside = sym (others_with (set_of TAKEN) of items outside) ∙ ap (λ x. with_field of x) is.other_ones ∙ picture_with of source shape fails
-
-  block_of : (of : ℕ) → beside of ≡ false → IsFalse (has (set_of TAKEN) of) → nat_lt of 116 ≡ false → with_field of items ≡ with_field of spelled
-  block_of of fails outside past = items_with of fails outside ∙ subpics_with of shape.width shape.height across down shape.window shape.subpics past
-
-  listed : (of : ℕ) → beside of ≡ false → IsFalse (has (set_of TAKEN) of) → nat_lt of 116 ≡ false → numbers_of items of ≡ numbers_of spelled of
-  listed of fails outside past = ap (λ xs. map (λ item. natural item.value) xs) (block_of of fails outside past)
+  listed : (of : ℕ) → beside of ≡ false → nat_lt of 109 ≡ false → IsFalse (has (set_of TAKEN) of) → nat_lt of 116 ≡ false → numbers_of items of ≡ numbers_of spelled of
+  listed of fails past outside later = ap (λ xs. map (λ item. natural item.value) xs) (block_of source items shape is of fails past outside later)
 
   width_is : width_of items ≡ shape.width
   unfolding fresh
-  width_is = one_number 109 shape.width items (omega arith) fits.width.small (items_with 109 refl refl ∙ width_with shape.width shape.height across down shape.window shape.subpics)
+  width_is = one_number 109 shape.width items (omega arith) (let small = fits.width.small in omega (arith, small)) (items_with source items shape is 109 refl refl refl ∙ width_with shape.width shape.height across down shape.window shape.subpics)
 
   height_is : height_of items ≡ shape.height
   unfolding fresh
-  height_is = one_number 110 shape.height items (omega arith) fits.height.small (items_with 110 refl refl ∙ height_with shape.width shape.height across down shape.window shape.subpics)
+  height_is = one_number 110 shape.height items (omega arith) (let small = fits.height.small in omega (arith, small)) (items_with source items shape is 110 refl refl refl ∙ height_with shape.width shape.height across down shape.window shape.subpics)
 
   ctu_is : number items sps.sps_log2_ctu_size_minus5 ≡ number source sps.sps_log2_ctu_size_minus5
   unfolding fresh
@@ -286,11 +277,11 @@ module _ (source items : List Item) (shape : SpsShape) (set : IsItems source) (f
   rect_is : (i : ℕ) → i < count_in shape.subpics → rect_of items i ≡ rect_in across down shape.subpics i
   unfolding fresh
   rect_is i within =
-      let own_size : number items 119 ≡ 0 = same_number 119 items spelled (block_of 119 refl refl refl) ∙ own_sizes across down shape.subpics in
+      let own_size : number items 119 ≡ 0 = same_number 119 items spelled (block_of source items shape is 119 refl refl refl refl) ∙ own_sizes across down shape.subpics in
       let columns : columns_of items ≡ across = ap (λ n. quotient n (ctb_size_of items)) width_is ∙ ap (λ n. quotient shape.width n) ctb_is in
       let rows : rows_of items ≡ down = ap (λ n. quotient n (ctb_size_of items)) height_is ∙ ap (λ n. quotient shape.height n) ctb_is in
       ap (λ n. cond (is_set n) (on_grid (columns_of items) (own_rect items 0) i) (own_rect items i)) own_size
-      ∙ own_same i columns rows (listed 120 refl refl refl) (listed 121 refl refl refl) (listed 122 refl refl refl) (listed 123 refl refl refl)
+      ∙ own_same i columns rows (listed 120 refl refl refl refl) (listed 121 refl refl refl refl) (listed 122 refl refl refl refl) (listed 123 refl refl refl refl)
       ∙ own_is across down shape.subpics fits.plan (few_units shape.width (number source sps.sps_log2_ctu_size_minus5) small_ctu fits.width)
       (few_units shape.height (number source sps.sps_log2_ctu_size_minus5) small_ctu fits.height) i within
 
@@ -300,11 +291,11 @@ module _ (source items : List Item) (shape : SpsShape) (set : IsItems source) (f
     width = width_is;
     height = height_is;
     ctb = ctb_is;
-    subpics = ap (λ n. n + 1) (same_number 117 items spelled (block_of 117 refl refl refl)) ∙ count across down shape.subpics fits.plan;
+    subpics = ap (λ n. n + 1) (same_number 117 items spelled (block_of source items shape is 117 refl refl refl refl)) ∙ count across down shape.subpics fits.plan;
     rect = rect_is;
-    treated = λ i. ap (λ l. is_set (slice_index_or l i 1)) (listed 124 refl refl refl ∙ no_flags across down 124 shape.subpics (inl refl));
-    filtered = λ i. ap (λ l. is_set (slice_index_or l i 0)) (listed 125 refl refl refl ∙ no_flags across down 125 shape.subpics (inr refl));
-    id = λ i within. ap (λ l. slice_index_or l i i) (listed 129 refl refl refl) ∙ ids across down shape.subpics fits.plan i within;
+    treated = λ i. ap (λ l. is_set (slice_index_or l i 1)) (listed 124 refl refl refl refl ∙ no_flags across down 124 shape.subpics (inl refl));
+    filtered = λ i. ap (λ l. is_set (slice_index_or l i 0)) (listed 125 refl refl refl refl ∙ no_flags across down 125 shape.subpics (inr refl));
+    id = λ i within. ap (λ l. slice_index_or l i i) (listed 129 refl refl refl refl) ∙ ids across down shape.subpics fits.plan i within;
   }
 
 pub reshaped_says : ReshapedSays

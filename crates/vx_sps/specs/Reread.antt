@@ -1,9 +1,11 @@
 -- What a rewritten sequence parameter set says, and what stays as its source has it.
-use Rattle.std.specs.Prelude.{◌≡◌, ℕ, ◌<◌, true, false, List, length, slice_index_or, Some, None}
+use Rattle.std.specs.Prelude.{◌≡◌, ℕ, ◌-◌, ◌<◌, true, false, List, length, slice_index_or, Some, None}
 use Rattle.vx_bits.specs.declared.list.Item.{Item}
+use Rattle.vx_fields.specs.declared.sps.TheConstants as sps
 use Rattle.vx_layout.specs.declared.rect.Rect.{Rect}
 use Rattle.vx_layout.specs.Layouts.{no_rect}
 use Rattle.vx_layout.specs.Rects.{whole_picture}
+use Rattle.vx_table.specs.Loaded.{number}
 use Rattle.vx_table.specs.Scope.{quotient}
 use Rattle.vx_sps.specs.declared.shape.SpsShape.{SpsShape}
 use Rattle.vx_sps.specs.declared.shape.SubpicPlan.{SubpicPlan}
@@ -11,7 +13,7 @@ use Rattle.vx_sps.specs.declared.shape.SubpicPlan.TheVariants.{Absent, One, Many
 use Rattle.vx_sps.specs.Set.{IsItems, width_of, height_of, ctb_size_of}
 use Rattle.vx_sps.specs.Subpictures.{subpics_of, rect_of, is_treated, is_filtered, id_of}
 use Rattle.vx_sps.specs.Depends.{kept_of}
-use Rattle.vx_sps.specs.Reshaped.{IsShape, IsReshaped}
+use Rattle.vx_sps.specs.Reshaped.{IsShape, IsReshaped, id_bits}
 
 -- ---- the subpictures of a plan
 
@@ -52,6 +54,38 @@ pub record Says (source : List Item) (shape : SpsShape) (items : List Item) : Ty
 abbrev pub ReshapedSays : Type 0
 ReshapedSays = (source items : List Item) (shape : SpsShape) → IsItems source → IsShape (ctb_size_of source) shape
     → IsReshaped source shape items → Says source shape items
+
+-- Of itself it signals its id, and of its subpictures whether it describes them, the bits of their ids, whether these are mapped by
+-- either set, and whether by this one: of none that are described all is absent.
+abbrev pub described_in : SubpicPlan → ℕ
+described_in Absent = 0
+described_in (One id_len id) = 1
+described_in (Many rects) = 1
+
+abbrev pub id_len_in : SubpicPlan → ℕ
+id_len_in Absent = 0
+id_len_in (One id_len id) = id_len
+id_len_in (Many rects) = id_bits (length rects) - 1
+
+abbrev pub explicit_in : SubpicPlan → ℕ
+explicit_in Absent = 0
+explicit_in (One id_len id) = 1
+explicit_in (Many rects) = 0
+
+abbrev pub mapped_in : SubpicPlan → ℕ
+mapped_in (One id_len (Some id)) = 1
+mapped_in plan = 0
+
+pub record Signals (shape : SpsShape) (items : List Item) : Type 0 where
+  pub id : number items sps.sps_seq_parameter_set_id ≡ shape.id
+  pub described : number items sps.sps_subpic_info_present_flag ≡ described_in shape.subpics
+  pub id_len : number items sps.sps_subpic_id_len_minus1 ≡ id_len_in shape.subpics
+  pub explicit : number items sps.sps_subpic_id_mapping_explicitly_signalled_flag ≡ explicit_in shape.subpics
+  pub mapped : number items sps.sps_subpic_id_mapping_present_flag ≡ mapped_in shape.subpics
+
+abbrev pub ReshapedSignals : Type 0
+ReshapedSignals = (source items : List Item) (shape : SpsShape) → shape.id < 16 → id_len_in shape.subpics < 16
+    → IsReshaped source shape items → Signals shape items
 
 -- Its kept fields are the source's.
 abbrev pub ReshapedKeeps : Type 0

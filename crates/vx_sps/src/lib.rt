@@ -23,7 +23,7 @@ pub use laws::{
     kept_and_others_tell, kept_are_sifted, kept_depends_on_kept, no_proper_prefix,
     spelling_is_short, written_is_read,
 };
-pub use laws_reshaped::{reshaped_keeps, reshaped_says};
+pub use laws_reshaped::{reshaped_keeps, reshaped_says, reshaped_signals};
 pub use read::{keep_sps, read_sps, write_sps};
 pub use reshape::reshape_sps;
 pub use shape::{SpsShape, SubpicPlan};
