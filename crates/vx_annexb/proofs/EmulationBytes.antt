@@ -1,10 +1,11 @@
 -- Emulation bytes at places of a list, and the searches for them.
-use Rattle.std.proofs.Common.{◌≡◌, ℕ, zero, suc, ◌+◌, ◌-◌, ◌<◌, ◌≤◌, inl, inr, true, false, List, [], ◌∷◌, ◌++◌, length, take, drop, slice_index, sym, ap, ◌∙◌, subst, arith, refl, ⊎_elim, add-one, append_assoc, length-drop, get_or-drop}
+use Rattle.std.proofs.Common.{◌≡◌, ℕ, zero, suc, ◌+◌, ◌*◌, ◌-◌, ◌<◌, ◌≤◌, inl, inr, true, false, List, [], ◌∷◌, ◌++◌, length, take, drop, slice_index, sym, ap, ◌∙◌, subst, arith, refl, ⊎_elim, add-one, append_assoc, length-drop, get_or-drop}
 use Rattle.std.proofs.lemmas.Bool.{cases_lt, cases_Bool, and_parts, and_from, leb-true, le-leb, eqb-true, eq-eqb, false_from_ne_true, false≢true}
 use Rattle.std.proofs.lemmas.List.{get_or_past, length_push, take_more, append-nil}
 use Rattle.vx_bits.specs.Codes.{AreBytes}
 use Rattle.vx_annexb.specs.Places.{IsMark}
 use Rattle.vx_annexb.specs.Emulation.{is_emulation, BreaksRule, unescaped_to}
+use Rattle.vx_annexb.specs.Laws.{EscapedIsShort}
 use Rattle.vx_annexb.proofs.Places.{index_on, mark_before, mark_wider}
 
 -- an emulation byte, part by part
@@ -76,6 +77,30 @@ unescaped_size n (suc k) =
     (λ marked. let skip = ap length (unescaped_skip n k marked) in let here = rw add-one at skip in omega (arith, here, before))
     (λ plain. let keep = ap length (unescaped_keep n k plain) in let here = rw add-one at keep in omega (arith, here, before, length_push (unescaped_to n k) (slice_index n k)))
     (cases_Bool (is_emulation n k))
+
+-- an emulation byte stands behind two bytes that are kept, so there are no more than one for two of these
+pub unescaped_short : (n : List ℕ) (most k : ℕ) → k ≤ most → 2 * k ≤ 3 * length (unescaped_to n k)
+unescaped_short n most zero le = omega arith
+unescaped_short n zero (suc k) le = absurd (omega arith)
+unescaped_short n (suc most) (suc k) le =
+    elim (cases_Bool (is_emulation n k)) [
+      | inr plain ↦
+          let keep = rw add-one at (ap length (unescaped_keep n k plain)) in
+          omega (arith, keep, length_push (unescaped_to n k) (slice_index n k), unescaped_short n most k (omega arith))
+      | inl marked ↦
+          let at = emulation_is n k marked in
+          let first : is_emulation n (k - 2) ≡ false = false_from_ne_true (is_emulation n (k - 2)) (λ e. omega (arith, at.first, (emulation_is n (k - 2) e).three)) in
+          let second : is_emulation n (k - 1) ≡ false = false_from_ne_true (is_emulation n (k - 1)) (λ e. omega (arith, at.second, (emulation_is n (k - 1) e).three)) in
+          let e1 : k - 2 + 1 ≡ k - 1 = omega (arith, at.two) in
+          let e2 : k - 1 + 1 ≡ k = omega (arith, at.two) in
+          let one : unescaped_to n (k - 1) ≡ unescaped_to n (k - 2) ++ slice_index n (k - 2) ∷ [] = rw e1 at (unescaped_keep n (k - 2) first) in
+          let two : unescaped_to n k ≡ unescaped_to n (k - 1) ++ slice_index n (k - 1) ∷ [] = rw e2 at (unescaped_keep n (k - 1) second) in
+          let skip = rw add-one at (ap length (unescaped_skip n k marked)) in
+          omega (arith, at.two, skip, ap length one, ap length two, length_push (unescaped_to n (k - 2)) (slice_index n (k - 2)), length_push (unescaped_to n (k - 1)) (slice_index n (k - 1)), unescaped_short n most (k - 2) (omega arith))
+    ]
+
+pub escaped_short : EscapedIsShort
+escaped_short r n e = omega (arith, ap length e.is, unescaped_short n (length n) (length n) (omega arith))
 
 -- bytes among which no emulation byte stands are kept
 pub unescaped_run : (n : List ℕ) (at d : ℕ) → at + d ≤ length n → ((k : ℕ) → at ≤ k → k < at + d → is_emulation n k ≡ false) → unescaped_to n (at + d) ≡ unescaped_to n at ++ take d (drop at n)

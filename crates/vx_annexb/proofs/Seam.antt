@@ -4,7 +4,8 @@ use Rattle.std.proofs.lemmas.Bool.{cases_lt, cases_eq, cases_Bool, cases_order, 
 use Rattle.std.proofs.lemmas.List.{get_or_push, get_or-append-add, length_push, take-append-drop, take_at, take_all, drop_at, drop_all, append_cancel_left, append-nil, length-take-le, ext_get_or}
 use Rattle.vx_bits.specs.Codes.{EndsInNoZero}
 use Rattle.vx_annexb.specs.Emulation.{is_emulation, BreaksRule, unescaped_to, unescaped, IsEscaped}
-use Rattle.vx_annexb.specs.Laws.{EscapedIsUnique, EscapedJoins, EscapedSplits}
+use Rattle.vx_annexb.specs.Laws.{EscapedIsUnique, EscapedJoins, EscapedSplits, UnescapedJoins}
+use Rattle.vx_annexb.specs.Places.{IsFirstFrom}
 use Rattle.vx_annexb.proofs.Places.{index_on, mark_kept, mark_on, mark_stream}
 use Rattle.vx_annexb.proofs.EmulationBytes.{emulation_is, emulation_from, same_emulation, same_unescaped, unescaped_skip, unescaped_keep, breaks_before}
 use Rattle.vx_annexb.proofs.EscapedBytes.{escape_start, escape_end}
@@ -265,8 +266,8 @@ escaped_splits r n k place e count last = ⊎_elim
     (rw head both.0, rw rest both.1))
     (cases_lt (length n) place)
 
--- An escaped form behind that of bytes that don't end in 00, whose last byte stands at place j.
-module _ (h m p q : List ℕ) (last : EndsInNoZero h) (eh : IsEscaped h m) (ep : IsEscaped p q) (j : ℕ) (len : length m ≡ j + 1) where
+-- Any bytes behind the escaped form of bytes that don't end in 00, whose last byte stands at place j.
+module _ (h m q : List ℕ) (last : EndsInNoZero h) (eh : IsEscaped h m) (j : ℕ) (len : length m ≡ j + 1) where
   front_is : h ≡ unescaped_to m (j + 1)
   front_is = rw len at eh.is
 
@@ -297,42 +298,74 @@ module _ (h m p q : List ℕ) (last : EndsInNoZero h) (eh : IsEscaped h m) (ep :
   rest_emulation : (i : ℕ) → is_emulation (m ++ q) (j + 1 + i) ≡ is_emulation q i
   rest_emulation i = emulation_shift (m ++ q) (j + 1) inside nonzero (omega arith) i ∙ ap (λ xs. is_emulation xs i) rest_is
 
-  rest_rule : (i : ℕ) → ¬ BreaksRule (m ++ q) (j + 1 + i)
-  rest_rule i (inl x) = ⊎_elim
-      (λ first. let e : j + 1 + i - 2 + 1 ≡ j = omega (arith, x.0) in nonzero_at (rw e at x.1.second))
-      (λ later. ⊎_elim
-      (λ second. let e : j + 1 + i - 2 ≡ j = omega (arith, x.0) in nonzero_at (rw e at x.1.first))
-      (λ far.
-      let e : j + 1 + i - 2 - (j + 1) ≡ i - 2 = omega arith in
-      ep.rules i (inl (far, rw e at (mark_kept (m ++ q) q (j + 1) (sym rest_is) total 2 (j + 1 + i - 2) (omega arith) x.1))))
-      (cases_lt i 2))
-      (cases_lt i 1)
-  rest_rule i (inr x) = ⊎_elim
-      (λ first.
-      let e : j + 1 + i - 1 ≡ j = omega arith in
-      let same = same_emulation (m ++ q) m j (λ k le. front_at k (omega arith)) in
-      false≢true (sym (last_plain m j front_last) ∙ sym same ∙ (rw e at x.2)))
-      (λ later.
-      let e : j + 1 + i - 1 ≡ j + 1 + (i - 1) = omega arith in
-      ep.rules i (inr (later, omega (arith, x.1, total), sym (rest_emulation (i - 1)) ∙ (rw e at x.2), rw (rest_at i) at x.3)))
-      (cases_lt i 1)
+  front_in : h ≡ unescaped_to (m ++ q) (j + 1)
+  front_in = front_is ∙ sym (same_unescaped (m ++ q) m (j + 1) front_at)
 
-  joined : IsEscaped (h ++ p) (m ++ q)
-  joined =
-      let front : h ≡ unescaped_to (m ++ q) (j + 1) = front_is ∙ sym (same_unescaped (m ++ q) m (j + 1) front_at) in
-      let rest : p ≡ unescaped_to (drop (j + 1) (m ++ q)) (length q) = ep.is ∙ ap (λ xs. unescaped_to xs (length q)) (sym rest_is) in
-      record {
-        rules = λ i b. ⊎_elim
-            (λ low. eh.rules i (breaks_before m q i (omega (arith, len)) b))
-            (λ high. let e : i ≡ j + 1 + (i - (j + 1)) = omega arith in let P : ℕ → Type 0 = λ k. BreaksRule (m ++ q) k in rest_rule (i - (j + 1)) (subst P e b))
-            (cases_lt i (j + 1));
-        last = λ i end z. ⊎_elim
-            (λ low. let e : i ≡ j = omega (arith, total, end) in nonzero_at (ap (slice_index (m ++ q)) (sym e) ∙ z))
-            (λ high. let e : j + 1 + (i - (j + 1)) ≡ i = omega arith in ep.last (i - (j + 1)) (omega (arith, total, end)) (sym (rest_at (i - (j + 1))) ∙ ap (slice_index (m ++ q)) e ∙ z))
-            (cases_lt i (j + 1));
-        is = ap₂ (λ (xs ys : List ℕ). xs ++ ys) front rest ∙ sym (unescaped_shift (m ++ q) (j + 1) inside nonzero (omega arith) (length q)) ∙ ap (unescaped_to (m ++ q)) (sym total);
-      }
+  unescaped_seam : unescaped (m ++ q) ≡ h ++ unescaped q
+  unescaped_seam =
+      let rest : unescaped_to (drop (j + 1) (m ++ q)) (length q) ≡ unescaped q = ap (λ xs. unescaped_to xs (length q)) rest_is in
+      ap (unescaped_to (m ++ q)) total ∙ unescaped_shift (m ++ q) (j + 1) inside nonzero (omega arith) (length q) ∙ ap₂ (λ (xs ys : List ℕ). xs ++ ys) (sym front_in) rest
+
+  -- at its last byte, which is no emulation byte, not all of h is there
+  fewer_before : (i : ℕ) → i < j + 1 → length (unescaped_to (m ++ q) i) < length h
+  fewer_before i lt =
+      let e : i + (j - i) ≡ j = omega arith in
+      let more = unescaped_more (m ++ q) i (j - i) in
+      let grown : unescaped_to (m ++ q) j ≡ unescaped_to (m ++ q) i ++ more.0 = rw e at more.1 in
+      let plain : is_emulation (m ++ q) j ≡ false = same_emulation (m ++ q) m j (λ k le. front_at k (omega arith)) ∙ last_plain m j front_last in
+      let keep : h ≡ unescaped_to (m ++ q) j ++ slice_index (m ++ q) j ∷ [] = front_in ∙ unescaped_keep (m ++ q) j plain in
+      omega (arith, ap length keep, length_push (unescaped_to (m ++ q) j) (slice_index (m ++ q) j), ap length grown, length-append (unescaped_to (m ++ q) i) more.0)
+
+  first_at_seam : IsFirstFrom (λ place. length (unescaped_to (m ++ q) place) ≡ length h) 0 (length m)
+  first_at_seam = record {
+    order = omega arith;
+    here = ap (λ k. length (unescaped_to (m ++ q) k)) len ∙ ap length (sym front_in);
+    before = λ i from lt same. omega (arith, fewer_before i (omega (arith, lt, len)), same);
+  }
+
+  -- and an escaped form among them
+  module _ (p : List ℕ) (ep : IsEscaped p q) where
+    rest_rule : (i : ℕ) → ¬ BreaksRule (m ++ q) (j + 1 + i)
+    rest_rule i (inl x) = ⊎_elim
+        (λ first. let e : j + 1 + i - 2 + 1 ≡ j = omega (arith, x.0) in nonzero_at (rw e at x.1.second))
+        (λ later. ⊎_elim
+        (λ second. let e : j + 1 + i - 2 ≡ j = omega (arith, x.0) in nonzero_at (rw e at x.1.first))
+        (λ far.
+        let e : j + 1 + i - 2 - (j + 1) ≡ i - 2 = omega arith in
+        ep.rules i (inl (far, rw e at (mark_kept (m ++ q) q (j + 1) (sym rest_is) total 2 (j + 1 + i - 2) (omega arith) x.1))))
+        (cases_lt i 2))
+        (cases_lt i 1)
+    rest_rule i (inr x) = ⊎_elim
+        (λ first.
+        let e : j + 1 + i - 1 ≡ j = omega arith in
+        let same = same_emulation (m ++ q) m j (λ k le. front_at k (omega arith)) in
+        false≢true (sym (last_plain m j front_last) ∙ sym same ∙ (rw e at x.2)))
+        (λ later.
+        let e : j + 1 + i - 1 ≡ j + 1 + (i - 1) = omega arith in
+        ep.rules i (inr (later, omega (arith, x.1, total), sym (rest_emulation (i - 1)) ∙ (rw e at x.2), rw (rest_at i) at x.3)))
+        (cases_lt i 1)
+
+    joined : IsEscaped (h ++ p) (m ++ q)
+    joined =
+        let rest : p ≡ unescaped_to (drop (j + 1) (m ++ q)) (length q) = ep.is ∙ ap (λ xs. unescaped_to xs (length q)) (sym rest_is) in
+        record {
+          rules = λ i b. ⊎_elim
+              (λ low. eh.rules i (breaks_before m q i (omega (arith, len)) b))
+              (λ high. let e : i ≡ j + 1 + (i - (j + 1)) = omega arith in let P : ℕ → Type 0 = λ k. BreaksRule (m ++ q) k in rest_rule (i - (j + 1)) (subst P e b))
+              (cases_lt i (j + 1));
+          last = λ i end z. ⊎_elim
+              (λ low. let e : i ≡ j = omega (arith, total, end) in nonzero_at (ap (slice_index (m ++ q)) (sym e) ∙ z))
+              (λ high. let e : j + 1 + (i - (j + 1)) ≡ i = omega arith in ep.last (i - (j + 1)) (omega (arith, total, end)) (sym (rest_at (i - (j + 1))) ∙ ap (slice_index (m ++ q)) e ∙ z))
+              (cases_lt i (j + 1));
+          is = ap₂ (λ (xs ys : List ℕ). xs ++ ys) front_in rest ∙ sym (unescaped_shift (m ++ q) (j + 1) inside nonzero (omega arith) (length q)) ∙ ap (unescaped_to (m ++ q)) (sym total);
+        }
 
 pub escaped_joins : EscapedJoins
 escaped_joins h p [] q last eh ep = let none : h ≡ [] = eh.is in rw none ep
-escaped_joins h p (x ∷ m) q last eh ep = joined h (x ∷ m) p q last eh ep (length m) (omega arith)
+escaped_joins h p (x ∷ m) q last eh ep = joined h (x ∷ m) q last eh (length m) (omega arith) p ep
+
+pub unescaped_joins : UnescapedJoins
+unescaped_joins h [] q last eh =
+    let none : h ≡ [] = eh.is in
+    rw none (refl, record { order = omega arith; here = refl; before = λ i from lt. absurd (omega arith) })
+unescaped_joins h (x ∷ m) q last eh = (unescaped_seam h (x ∷ m) q last eh (length m) (omega arith), first_at_seam h (x ∷ m) q last eh (length m) (omega arith))

@@ -1,11 +1,11 @@
 -- What the definition of a byte stream comes to, apart from any program.
-use Rattle.std.specs.Prelude.{◌≡◌, ℕ, ◌+◌, ◌<◌, Bool, true, false, List, [], ◌∷◌}
+use Rattle.std.specs.Prelude.{◌≡◌, ℕ, ◌+◌, ◌*◌, ◌<◌, ◌≤◌, Bool, true, false, List, [], ◌∷◌}
 use Rattle.std.specs.Prelude.{◌++◌, All, Option, Some, None, drop, flat_map, length, map, replicate, take}
 use Rattle.vx_bits.specs.declared.refusal.Refusal.{Refusal}
 use Rattle.vx_bits.specs.declared.refusal.Refusal.TheVariants.{Framing}
 use Rattle.vx_bits.specs.Codes.{EndsInNoZero}
 use Rattle.vx_bits.specs.declared.rules.TheConstants.{NOT_A_START_CODE}
-use Rattle.vx_annexb.specs.Places.{IsMark}
+use Rattle.vx_annexb.specs.Places.{IsFirstFrom, IsMark}
 use Rattle.vx_annexb.specs.Emulation.{BreaksRule, unescaped_to, unescaped, IsEscaped}
 use Rattle.vx_annexb.specs.ByteStream.{UnitPlace, unit_bytes, IsUnit, SeesNoMore, IsSound, FollowsFrom, IsStream, long_start_code}
 
@@ -119,6 +119,17 @@ abbrev pub EscapedSplits : Type 0
 EscapedSplits =
     (r n : List ℕ) (k place : ℕ) → IsEscaped r n → length (unescaped_to n place) ≡ k → EndsInNoZero (take k r)
     → IsEscaped (take k r) (take place n) × IsEscaped (drop k r) (drop place n)
+
+-- behind the escaped form of bytes that don't end in 00, whatever stands there is unescaped by itself, and the place behind it is
+-- the first with so many bytes before it that are no emulation bytes
+abbrev pub UnescapedJoins : Type 0
+UnescapedJoins =
+    (h m q : List ℕ) → EndsInNoZero h → IsEscaped h m
+    → (unescaped (m ++ q) ≡ h ++ unescaped q) × IsFirstFrom (λ place. length (unescaped_to (m ++ q) place) ≡ length h) 0 (length m)
+
+-- escaping adds at most a byte to two
+abbrev pub EscapedIsShort : Type 0
+EscapedIsShort = (r n : List ℕ) → IsEscaped r n → 2 * length n ≤ 3 * length r
 
 -- unescape undoes escape, and escape undoes unescape
 abbrev pub EscapedIsInverse : Type 0

@@ -1,5 +1,5 @@
 //! Laws of the byte stream: functions that do nothing, each with a law as its contract.
-ghost use Rattle.vx_annexb.specs.Laws.{StreamIsUnique, StreamExists, StreamGoesOn, UnitsCanStand, StreamIsAnnexB, AnnexBIsStream, WrittenIsAnnexB, WrittenIsStream, EscapedIsUnique, EscapedExists, EscapedJoins, EscapedSplits, EscapedIsInverse, StrayEndsStream, SeenStays, LaterUnseen};
+ghost use Rattle.vx_annexb.specs.Laws.{StreamIsUnique, StreamExists, StreamGoesOn, UnitsCanStand, StreamIsAnnexB, AnnexBIsStream, WrittenIsAnnexB, WrittenIsStream, EscapedIsUnique, EscapedExists, EscapedJoins, EscapedSplits, UnescapedJoins, EscapedIsShort, EscapedIsInverse, StrayEndsStream, SeenStays, LaterUnseen};
 
 /// The bytes determine their units and the ending behind them.
 pub fn stream_is_unique()
@@ -59,6 +59,16 @@ pub fn escaped_joins()
 /// The place behind bytes that don't end in 00 splits an escaped form into theirs and that of the rest.
 pub fn escaped_splits()
     ensures { EscapedSplits }
+{}
+
+/// Behind the escaped form of bytes that don't end in 00 any bytes are unescaped by themselves.
+pub fn unescaped_joins()
+    ensures { UnescapedJoins }
+{}
+
+/// Escaping adds at most a byte to two.
+pub fn escaped_is_short()
+    ensures { EscapedIsShort }
 {}
 
 /// Unescaping and escaping undo one another.

@@ -9,19 +9,16 @@ mod rules;
 mod search;
 mod span;
 mod splitter;
-#[cfg(test)]
-mod tests;
-#[cfg(test)]
-mod tests_reader;
 mod unit_reader;
 mod write;
 
 pub use emulation::{emulation_fault, escape, unescape, unit_place};
 pub use header::{NalHeader, read_header};
 pub use laws::{
-    annex_b_is_stream, escaped_exists, escaped_is_inverse, escaped_is_unique, escaped_joins,
-    escaped_splits, later_unseen, seen_stays, stray_ends_stream, stream_exists, stream_goes_on,
-    stream_is_annex_b, stream_is_unique, units_can_stand, written_is_annex_b, written_is_stream,
+    annex_b_is_stream, escaped_exists, escaped_is_inverse, escaped_is_short, escaped_is_unique,
+    escaped_joins, escaped_splits, later_unseen, seen_stays, stray_ends_stream, stream_exists,
+    stream_goes_on, stream_is_annex_b, stream_is_unique, unescaped_joins, units_can_stand,
+    written_is_annex_b, written_is_stream,
 };
 pub use span::Span;
 pub use splitter::Splitter;

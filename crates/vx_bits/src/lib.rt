@@ -12,8 +12,6 @@ mod list;
 mod reader;
 mod refusal;
 pub mod rules;
-#[cfg(test)]
-mod tests;
 mod window;
 mod writer;
 

@@ -1,6 +1,8 @@
 -- Lemmas on regions and lines, and on the frames that they make up.
 pub mod Areas
+pub mod Border
 pub mod Covering
+pub mod Faultless
 pub mod Framed
 pub mod Keeping
 pub mod Lined

@@ -11,7 +11,7 @@ use Rattle.vx_layout.specs.Rects.{holds}
 use Rattle.vx_layout.proofs.Holding.{holds_from, holds_tells}
 
 -- a number on the grid is so many times the grid's step
-on_grid : (c n : ℕ) → n % c ≡ 0 → n / c * c ≡ n
+pub on_grid : (c n : ℕ) → n % c ≡ 0 → n / c * c ≡ n
 on_grid c n even = grind (arith, even)
 
 low_there : (c n i : ℕ) → n % c ≡ 0 → n / c ≤ i → n ≤ i * c

@@ -1,6 +1,6 @@
 -- What holds of regions that fit together and of their lines: each list has one answer, and the frame that they make up is
 -- a layout whose regions are the pictures.
-use Rattle.std.specs.Prelude.{◌≡◌, ℕ, ◌-◌, ◌<◌, List, length, map}
+use Rattle.std.specs.Prelude.{◌≡◌, ℕ, ◌+◌, ◌*◌, ◌-◌, ◌<◌, List, All, length, map, min}
 use Rattle.std.specs.Int.{div_ceil}
 use Rattle.std.specs.List.{AllZip, slice_index_or}
 use Rattle.vx_layout.specs.declared.numbers.Numbers.{Numbers}
@@ -25,6 +25,23 @@ FitFaultIsOne = (placed : List Placed) (ctb : ℕ) (d e : FitFault) → IsFitFau
 -- and where they fit together they have none
 abbrev pub FittingHasNoFault : Type 0
 FittingHasNoFault = (placed : List Placed) (ctb : ℕ) (e : FitFault) → FitTogether placed ctb → ¬ IsFitFault placed ctb e
+
+-- and where they have none they fit together
+abbrev pub FaultlessFits : Type 0
+FaultlessFits = (placed : List Placed) (ctb : ℕ) → ((e : FitFault) → ¬ IsFitFault placed ctb e) → FitTogether placed ctb
+
+-- what a region's CTUs have of the frame's samples is the region: they may be cut at the frame's right and lower border alone
+pub record AreItsSamples (placed : List Placed) (ctb : ℕ) (p : Placed) : Type 0 where
+  pub left : (in_ctus ctb p).x * ctb ≡ p.x
+  pub top : (in_ctus ctb p).y * ctb ≡ p.y
+  pub wide : min (((in_ctus ctb p).x + (in_ctus ctb p).w) * ctb) (frame_width placed) - (in_ctus ctb p).x * ctb ≡ p.w
+  pub high : min (((in_ctus ctb p).y + (in_ctus ctb p).h) * ctb) (frame_height placed) - (in_ctus ctb p).y * ctb ≡ p.h
+
+-- of regions that fit together and aren't empty, the CTUs of each have its samples
+abbrev pub BorderIsRegions : Type 0
+BorderIsRegions =
+    (placed : List Placed) (ctb : ℕ) → 0 < ctb → FitTogether placed ctb → All (λ p. (0 < p.w) × (0 < p.h)) placed
+    → All (AreItsSamples placed ctb) placed
 
 -- at most one region is the lowest that doesn't keep its lines
 abbrev pub LinesFaultIsOne : Type 0

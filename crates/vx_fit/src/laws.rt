@@ -1,10 +1,20 @@
 //! Laws on regions and their lines: functions that do nothing, each with laws as its contract.
-ghost use Rattle.vx_fit.specs.FitLaws.{FitFaultIsOne, FittingHasNoFault, FrameOfRegions, KeepingHasNoFault, LinesAreOne, LinesFaultIsOne};
+ghost use Rattle.vx_fit.specs.FitLaws.{BorderIsRegions, FaultlessFits, FitFaultIsOne, FittingHasNoFault, FrameOfRegions, KeepingHasNoFault, LinesAreOne, LinesFaultIsOne};
 
 /// Regions have one fault at most, and none where they fit together.
 pub fn fit_fault_is_one()
     ensures one { FitFaultIsOne }
     ensures none { FittingHasNoFault }
+{}
+
+/// Regions that have no fault fit together.
+pub fn faultless_fits()
+    ensures { FaultlessFits }
+{}
+
+/// The CTUs of a region have its own samples, cut at the frame's right and lower border alone.
+pub fn border_is_regions()
+    ensures { BorderIsRegions }
 {}
 
 /// One region at most is the lowest that doesn't keep its lines, and none is where all keep them; the lines then make up

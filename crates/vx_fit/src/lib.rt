@@ -6,12 +6,9 @@ mod lines;
 mod placed;
 mod regions;
 
-pub use laws::{fit_fault_is_one, frame_of_regions, lines_are_one};
+pub use laws::{
+    border_is_regions, faultless_fits, fit_fault_is_one, frame_of_regions, lines_are_one,
+};
 pub use lines::{LineError, fit_lines};
 pub use placed::{FitFault, Placed};
 pub use regions::fit_regions;
-
-#[cfg(test)]
-mod cases;
-#[cfg(test)]
-mod tests;

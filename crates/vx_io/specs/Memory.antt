@@ -37,3 +37,8 @@ pub record Store : Type 0 where
   pub taken : List ℕ
   pub room : ℕ
   pub plan : Plan
+
+-- a sink that grows: the bytes that it took, and how many of its writes failed
+pub record Growth : Type 0 where
+  pub taken : List ℕ
+  pub faults : ℕ

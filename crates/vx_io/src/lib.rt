@@ -14,7 +14,7 @@ mod tests_outside;
 mod write;
 
 pub use list::{read_at, read_box};
-pub use memory::{MemorySink, MemorySource};
+pub use memory::{GrowSink, MemorySink, MemorySource};
 pub use outside::{ClosedSource, FileSource, ReaderSource, WriterSink};
 pub use read::{Source, SourceFailed};
 pub use write::{Sink, SinkFailed, write_all};

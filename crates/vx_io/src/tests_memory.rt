@@ -1,5 +1,5 @@
 //! Calls of memory sources and sinks, row by row.
-use crate::{MemorySink, MemorySource, Sink, Source, write_all};
+use crate::{GrowSink, MemorySink, MemorySource, Sink, Source, write_all};
 use std::alloc::{AllocError, Global};
 use std::test::Fail;
 
@@ -144,6 +144,19 @@ fn a_long_piece_goes_whole(rt: HostRuntime) -> Result<(), Fail> {
     let mut sink = sink(rt.alloc(), 1 << 23, &[65_536, 0], &[])?;
     assert_eq!(rt; write_all(&mut sink, &piece).is_ok(), true);
     assert!(rt; sink.bytes() == piece.as_slice());
+    Ok(())
+}
+
+#[test]
+fn a_sink_grows_with_its_pieces(rt: HostRuntime) -> Result<(), Fail> {
+    let mut piece = Vec::new(rt.alloc());
+    piece.resize(1 << 23, 0x5A)?;
+    let mut sink = GrowSink::new(rt.alloc());
+    assert_eq!(rt; sink.write(b"abc").ok(), Some(3));
+    assert_eq!(rt; sink.write(b"").ok(), Some(0));
+    assert_eq!(rt; sink.write(&piece).ok(), Some(1 << 23));
+    assert_eq!(rt; sink.bytes().len(), (1 << 23) + 3);
+    assert!(rt; sink.bytes().starts_with(b"abcZ"));
     Ok(())
 }
 

@@ -34,6 +34,3 @@ pub use numbers::{
     TILE_SPLIT_FAULT,
 };
 pub use rect::{Rect, RectList};
-
-#[cfg(test)]
-mod tests;

@@ -1,4 +1,5 @@
 -- Lemmas on codings, on walks, readers and writers, and on what fields depend on.
+pub mod Absence
 pub mod EachField
 pub mod Naming
 pub mod Bounds
@@ -13,6 +14,7 @@ pub mod Rewriting
 pub mod Keeping
 pub mod Rewrites
 pub mod Loading
+pub mod With
 pub mod Agreeing
 pub mod Closing
 pub mod Stopped
@@ -20,7 +22,6 @@ pub mod Sizes
 pub mod Codings
 pub mod Items
 pub mod Numbers
-mod Example
 pub mod Apart
 pub mod Blocks
 pub mod Readings

@@ -1,4 +1,5 @@
 -- What tables mean, what is said of values and bits by them, and the laws on all of them.
+pub mod Absence
 pub mod Scope
 pub mod Forms
 pub mod Rows
@@ -23,4 +24,3 @@ pub mod Sizes
 pub mod Rewritten
 pub mod Rewrites
 pub mod Loaded
-pub mod inner

@@ -187,7 +187,7 @@ fn name_depends(shown: &Scope, known: &Scope, name: u16, formula: Formula) -> bo
 }
 
 /// What is known behind rows, where their shown fields and names depend only on what is known where they stand.
-#[cycle(test)]
+#[cycle(claims)]
 fn table_depends(shown: &Scope, known: Scope, table: &[Row]) -> Option<Scope>
     ensures { result ≡ known_if (test.table_depends shown.now known table.now) (test.behind_table shown.now known table.now) }
 {
@@ -225,7 +225,7 @@ fn table_depends(shown: &Scope, known: Scope, table: &[Row]) -> Option<Scope>
 }
 
 /// Whether a block's presence is known and its rows depend on what is known within it, or all that it has is hidden.
-#[cycle(test)]
+#[cycle(claims)]
 fn block_depends(shown: &Scope, known: Scope, presence: Presence, block: &[Row]) -> bool
     ensures { result ≡ test.rows_depend shown.now known presence block.now }
 {

@@ -15,6 +15,7 @@ mod depends;
 mod kept;
 mod laws_again;
 mod laws_depends;
+mod laws_hidden;
 mod laws_loaded;
 mod laws_numbers;
 mod laws_rewritten;
@@ -30,12 +31,6 @@ mod rewriter;
 mod rows;
 mod scope;
 mod stars;
-#[cfg(test)]
-mod tests_coding;
-#[cfg(test)]
-mod tests_composite;
-#[cfg(test)]
-mod tests_depends;
 mod walk;
 mod writer;
 
@@ -47,6 +42,7 @@ pub use laws_depends::{
     alike_together, cells_follow_items, cells_follow_kept, chains_carry, chains_depend,
     kept_tells_kept, scopes_follow_items, steps_carry, tables_carry,
 };
+pub use laws_hidden::{fields_hidden, hidden_have_no_items, hidden_parts};
 pub use laws_loaded::{items_load, number_below, number_of_items};
 pub use laws_numbers::ceil_log2_is_least;
 pub use laws_rewritten::{

@@ -12,3 +12,7 @@ pub mod Spelled
 pub mod SetBySet
 pub mod Writing
 pub mod OneUnit
+pub mod UnitsRead
+pub mod Standing
+pub mod OwnSets
+pub mod Messages

@@ -1,4 +1,5 @@
 -- What the contracts of this crate cite.
+pub mod Again
 pub mod Faults
 pub mod InForce
 pub mod Sending

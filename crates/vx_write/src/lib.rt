@@ -4,16 +4,16 @@
 
 mod fault;
 mod in_force;
+mod laws;
 mod output;
 mod sending;
 mod slots;
-#[cfg(test)]
-mod tests_units;
 mod units;
 mod written;
 
 pub use fault::{WriteError, WriteFirst, first_of};
 pub use in_force::{in_pps, in_sps, own_level, sets_in_force};
+pub use laws::{set_units_are_read, units_stand};
 pub use output::{write_all_of, write_end, write_one, write_some};
 pub use sending::{forget_before, is_irap_or_gdr, send};
 pub use slots::Slots;

@@ -1,8 +1,0 @@
-use Rattle.vx_annexb.specs.Held.{ahead, Lends}
-use Rattle.vx_annexb.proofs.tests.take_units.Given as goal
-
-abbrev pub invariant-loop-span : goal.invariant-loop-span
-invariant-loop-span l = Lends l.initial.splitter l.splitter
-
-abbrev pub decreases-loop-span : goal.decreases-loop-span
-decreases-loop-span l = ahead l.splitter

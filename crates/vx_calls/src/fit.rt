@@ -1,0 +1,168 @@
+//! Regions that are put together into a frame, and the frame's tile lines.
+ghost use Rattle.std.specs.Prelude.{◌≡◌, ◌<◌, ◌≤◌, All, IfOk, length, map};
+ghost use Rattle.std.specs.Bool.{OnTrue};
+ghost use Rattle.std.specs.List.{AllZip};
+ghost use Rattle.vx_fit.specs.Placing.{IsInRange, in_ctus};
+ghost use Rattle.vx_fit.specs.Sources.{IsSized};
+
+use crate::layout::{bounds_of, push_bounds, rect_of};
+use anyhow::{Context, Result, bail};
+use std::alloc::{AllocError, Global};
+use vx_fit::{FitFault, LineError, Placed, fit_lines, fit_regions};
+use vx_layout::{Bounds, Numbers, Rect, RectList};
+
+/// The CTU size of regions that are given in CTUs.
+const CTB: u32 = 32;
+
+/// - `fit CTB RECT ..` tells the size of the frame of regions in luma samples, or why they don't fit.
+/// - `lines RECT:COLUMNS:ROWS ..` tells the tile lines of the frame of regions in CTUs, with the explicit sizes of their tile columns and
+///   tile rows, or the region that doesn't keep its own.
+pub(crate) fn answer(alloc: Global, verb: &str, words: &[&str]) -> Result<String> {
+    match (verb, words) {
+        ("fit", [ctb, regions @ ..]) => fit_text(alloc, ctb.parse::<u32>()?, regions),
+        ("lines", regions) => lines_text(alloc, regions),
+        _ => bail!("no such call of regions"),
+    }
+}
+
+/// Tells whether regions fit.
+fn fit_text(alloc: Global, ctb: u32, regions: &[&str]) -> Result<String> {
+    let mut placed = Vec::new(alloc);
+    for word in regions {
+        let Rect { x, y, w, h } = rect_of(alloc, word)?;
+        placed.push(Placed { x, y, w, h })?;
+    }
+    let answer = fit(&placed, ctb)?;
+    Ok(format!(in alloc; "{answer:?}")?)
+}
+
+/// Whether regions fit.
+fn fit(placed: &[Placed], ctb: u32) -> Result<Result<(u32, u32), FitFault>> {
+    if placed.is_empty() || placed.len() > 64 || ctb < 1 {
+        bail!("no regions, or too many");
+    }
+    if !are_in_range(placed) {
+        bail!("a region out of range");
+    }
+    Ok(fit_regions(placed, ctb))
+}
+
+/// Whether a region has numbers that it may have.
+fn is_in_range(region: Placed) -> bool
+    ensures { OnTrue result (IsInRange region) }
+{
+    if 16384 < region.x || 16384 < region.y {
+        return false;
+    }
+    if region.w < 1 || 16384 < region.w {
+        return false;
+    }
+    1 <= region.h && region.h <= 16384
+}
+
+/// Whether regions have such numbers.
+fn are_in_range(placed: &[Placed]) -> bool
+    ensures { OnTrue result (All IsInRange placed.now) }
+{
+    for region in placed {
+        if !is_in_range(*region) {
+            return false;
+        }
+    }
+    true
+}
+
+/// Whether pictures have the sizes of their regions.
+fn are_sized(corners: &[Rect], parts: &[Numbers]) -> bool
+    ensures { OnTrue result (AllZip IsSized corners.now parts.now) }
+{
+    if corners.len() != parts.len() {
+        return false;
+    }
+    for k in 0..corners.len() {
+        if !is_sized(corners[k], &parts[k]) {
+            return false;
+        }
+    }
+    true
+}
+
+/// Whether a picture has the size of its region.
+fn is_sized(region: Rect, part: &Numbers) -> bool
+    ensures { OnTrue result (IsSized region part.now) }
+{
+    if part.columns.len() < 1 || part.rows.len() < 1 {
+        return false;
+    }
+    if region.w < 1 || region.h < 1 {
+        return false;
+    }
+    part.columns.last() == region.w && part.rows.last() == region.h
+}
+
+/// The CTUs of regions.
+fn in_ctus(alloc: Global, placed: &[Placed]) -> Result<Vec<Rect>, AllocError>
+    ensures { IfOk result (λ corners. corners.items ≡ map (in_ctus CTB) placed.now) }
+{
+    placed.iter().map(|p| p.in_ctus(CTB)).collect(alloc)
+}
+
+/// The lines of the frame that regions make up.
+fn lines(
+    alloc: Global,
+    placed: &[Placed],
+    parts: &[Numbers],
+) -> Result<Result<(Bounds, Bounds), LineError>> {
+    if placed.is_empty() || placed.len() > 64 {
+        bail!("no regions, or too many");
+    }
+    if !are_in_range(placed) {
+        bail!("a region out of range");
+    }
+    let _size = fit_regions(placed, CTB)?;
+    let corners = in_ctus(alloc, placed)?;
+    if !are_sized(&corners, parts) {
+        bail!("another size than its region");
+    }
+    Ok(fit_lines(alloc, &corners, parts))
+}
+
+/// A region of a word, as it is placed and as its picture.
+fn part_of(alloc: Global, word: &str) -> Result<(Placed, Numbers)> {
+    let (corner, sizes) = word.split_once(':').context("no columns")?;
+    let (columns, rows) = sizes.split_once(':').context("no rows")?;
+    let Rect { x, y, w, h } = rect_of(alloc, corner)?;
+    let placed = Placed {
+        x: x.saturating_mul(CTB),
+        y: y.saturating_mul(CTB),
+        w: w.saturating_mul(CTB),
+        h: h.saturating_mul(CTB),
+    };
+    let picture = Numbers {
+        columns: bounds_of(alloc, format!(in alloc; "{columns}/{w}")?.as_str())?,
+        rows: bounds_of(alloc, format!(in alloc; "{rows}/{h}")?.as_str())?,
+        slices: RectList::new(alloc),
+        subpics: RectList::new(alloc),
+    };
+    Ok((placed, picture))
+}
+
+/// Tells of the lines of regions.
+fn lines_text(alloc: Global, regions: &[&str]) -> Result<String> {
+    let (mut placed, mut parts) = (Vec::new(alloc), Vec::new(alloc));
+    for word in regions {
+        let (region, picture) = part_of(alloc, word)?;
+        placed.push(region)?;
+        parts.push(picture).map_err(AllocError::from)?;
+    }
+    let mut text = String::new(alloc);
+    match lines(alloc, &placed, &parts)? {
+        Ok((columns, rows)) => {
+            push_bounds(&mut text, &columns)?;
+            text.push_str(" ")?;
+            push_bounds(&mut text, &rows)?;
+        }
+        Err(error) => write!(text, "{error:?}")?,
+    }
+    Ok(text)
+}

@@ -1,5 +1,0 @@
-use Rattle.vx_table.proofs.PassingOver.{passes}
-use Rattle.vx_table.proofs.tests_composite.pass.Goals as goal
-
-pub returns : goal.returns
-returns c = passes c.code_composite.new.scope c.code_composite.result c.code_composite.ensures

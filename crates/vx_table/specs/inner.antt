@@ -1,2 +1,0 @@
--- What serves bodies and proofs alone: nothing that a caller has to believe.
-pub mod Composite
