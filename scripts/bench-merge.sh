@@ -1,7 +1,7 @@
 #!/bin/bash
-# How much processor time `merge` takes to put four streams together, beside `cat` of all of them, and how much memory it has resident at
-# most; the time of a round of streams of tiny pictures, and where it goes; and that of rounds in which the PPS takes another id than 0, and
-# of rounds in which the sets change.
+# How much processor time `merge` takes to put four streams together, beside `cat` of all of them; and `verify merge` to compare what comes
+# of it with them, beside `cat` of all five files; and how much memory they have resident at most. The time of a round of streams of tiny
+# pictures, and where it goes; and that of rounds in which the PPS takes another id than 0, and of rounds in which the sets change.
 # No test: times depend on the machine.
 # Usage: scripts/bench-merge.sh PROGRAM [MIB]   (PROGRAM is the built program; MIB mebibytes of each of four sources, whose slices have 64 KiB;
 # default 64). Where perf and valgrind are there, they tell more of where the time goes.
@@ -41,6 +41,13 @@ size=$(cat "$work"/large? | wc -c)
 "$scripts/measure.py" "four sources, cat" --bytes "$size" -- cat "$work"/large?
 "$scripts/measure.py" "four sources, check merge" --bytes "$size" -- "$program" check merge "${four[@]}"
 "$scripts/measure.py" "four sources, merge" --bytes "$size" -- "$program" merge "${four[@]}"
+
+"$program" merge "${four[@]}" > "$work/merged"
+five=$(cat "$work/merged" "$work"/large? | wc -c)
+"$program" verify merge "$work/merged" "${four[@]}"
+"$scripts/measure.py" "four sources and what comes of them, cat" --bytes "$five" -- cat "$work/merged" "$work"/large?
+"$scripts/measure.py" "four sources and what comes of them, verify merge" --bytes "$five" -- "$program" verify merge "$work/merged" "${four[@]}"
+rm "$work/merged"
 
 for count in 2 16 64; do
   mapfile -t words < <(row "$work/tiny" "$count")

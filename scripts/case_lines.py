@@ -1,6 +1,8 @@
-"""The lines of cases that crates/vx_cases reads, and those that it is to write."""
+"""The lines of cases that crates/vx_cases reads, and those that it is to write; and the merges of others that are cases."""
+import json
 import os
 import re
+from collections import namedtuple
 
 SLICES = (0, 1, 2, 3, 7, 8, 9, 10)
 PH = 19
@@ -41,6 +43,37 @@ def expected_of(line):
 
 def unhex(word):
     return bytes.fromhex("" if word == "-" else word)
+
+
+# A merge that others made: its name, the words behind `merge` of a level, the corners, the sources, and what it comes to.
+Merge = namedtuple("Merge", "name level corners sources expected")
+
+
+def model_merges(path):
+    """The merges of an independent model, from its merge.txt."""
+    for line in open(path):
+        words = line.split()
+        if words[:1] == ["case"]:
+            level = f"--level {words[4]} " if words[3] == "--level" else ""
+            corners, sources = [word.split("=")[0] for word in words if "=" in word], []
+            name = words[1]
+        elif words[:1] == ["source"]:
+            sources.append(unhex("".join(words[1:])))
+        elif words:
+            yield Merge(name, level, corners, sources, expected_of(line))
+
+
+def family_merges(folder):
+    """The families of real streams of a folder."""
+
+    def read(name):
+        with open(os.path.join(folder, name), "rb") as file:
+            return file.read()
+
+    for family in json.loads(read("MANIFEST.json")):
+        sources = family["sources"]
+        corners = [f"{source['x']},{source['y']}" for source in sources]
+        yield Merge(family["name"], "", corners, [read(source["file"]) for source in sources], Expected(out=read(family["merged"])))
 
 
 def spelled(stream):

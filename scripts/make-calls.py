@@ -11,6 +11,8 @@ import os
 
 from bit_calls import Calls, listed, spelled, told
 from fit_cases import asked_and_answered
+from memory_calls import add_memory
+from rbsp_calls import add_rbsps
 from stream_calls import add_streams
 from table_calls import add_tables
 
@@ -302,7 +304,7 @@ def add_regions(calls):
 
 def main():
     calls = Calls()
-    for add in (add_bits, add_lists, add_streams, add_layouts, add_regions, add_tables, add_sets):
+    for add in (add_bits, add_lists, add_memory, add_streams, add_layouts, add_regions, add_tables, add_rbsps, add_sets):
         add(calls)
     calls.write(CRATE)
     print(f"{len(calls.answered)} lines are answered")

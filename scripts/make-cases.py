@@ -4,7 +4,7 @@
 usage: scripts/make-cases.py VECTORS STREAMS
 
 It writes crates/vx_cases/stdin and crates/vx_cases/stdout. No expected value is taken from the program: the worked cases stand in
-worked_cases.py, told_cases.py and verify_cases.py, and VECTORS and STREAMS are folders.
+worked_cases.py, told_cases.py, fed_cases.py and verify_cases.py, and VECTORS and STREAMS are folders.
 
 In merge.txt of VECTORS a case is a line `case N merge WORDS`, with the number of a source behind each `=`, a line `source BYTES` for each
 source in hexadecimal, and a line `status=S err=LINE out=BYTES` of what `merge` comes to, with blanks of LINE as `_` and `-` for none. In
@@ -14,11 +14,11 @@ err=LINE`, and the lines that are shown of it. A case of verify.txt is as one of
 `verify merge`, and `out` as a text. MANIFEST.json of STREAMS names families of streams, with their corners, and the file that
 each is merged to.
 """
-import json
 import os
 import sys
 
-from case_lines import Cases, Expected, expected_of, unhex, units
+from case_lines import Cases, Expected, expected_of, family_merges, model_merges, units
+from fed_cases import add_fed
 from plain_streams import stream
 from told_cases import add_told
 from verify_cases import add_family_compared, add_model_compared, add_verified
@@ -31,17 +31,10 @@ CRATE = os.path.join(os.path.dirname(os.path.abspath(__file__)), "..", "crates",
 
 def add_model_merges(cases, path):
     """The merges of an independent model."""
-    for line in open(path):
-        words = line.split()
-        if words[:1] == ["case"]:
-            cases.about(f"merge {words[1]} of an independent model")
-            level = f"--level {words[4]} " if words[3] == "--level" else ""
-            corners, sources = [word.split("=")[0] for word in words if "=" in word], []
-        elif words[:1] == ["source"]:
-            sources.append(unhex("".join(words[1:])))
-        elif words:
-            cases.merged(corners, sources, expected_of(line), level)
-            cases.case(f"check merge {cases.placed(corners, sources)}", expected_of(line).verdict(), *BYTEWISE)
+    for merge in model_merges(path):
+        cases.about(f"merge {merge.name} of an independent model")
+        cases.merged(merge.corners, merge.sources, merge.expected, merge.level)
+        cases.case(f"check merge {cases.placed(merge.corners, merge.sources)}", merge.expected.verdict(), *BYTEWISE)
 
 
 def sections(path):
@@ -87,23 +80,18 @@ def first_difference(one, other):
 
 def add_families(cases, folder):
     """Real streams, each family at its corners, and with its last stream exchanged for the first one of another family."""
-
-    def read(name):
-        return open(os.path.join(folder, name), "rb").read()
-
-    families = json.loads(read("MANIFEST.json"))
+    families = list(family_merges(folder))
     for family in families:
-        cases.about(f"real streams: {family['name']}")
-        corners = [f"{source['x']},{source['y']}" for source in family["sources"]]
-        sources = [read(source["file"]) for source in family["sources"]]
-        cases.merged(corners, sources, Expected(out=read(family["merged"])))
-        for other in (read(other["sources"][0]["file"]) for other in families if other is not family):
+        cases.about(f"real streams: {family.name}")
+        corners, sources = family.corners, family.sources
+        cases.merged(corners, sources, family.expected)
+        others = [other.sources[0] for other in families if other is not family]
+        for other in others:
             field = first_difference(sources[0], other)
             if field:
                 line = f"M2 picture 0 source {len(sources) - 1} field {field}"
                 cases.merged(corners, [*sources[:-1], other], Expected(1, line))
-        others = [read(other["sources"][0]["file"]) for other in families if other is not family]
-        add_family_compared(cases, family["name"], read(family["merged"]), corners, sources, others, first_difference)
+        add_family_compared(cases, family.name, family.expected.out, corners, sources, others, first_difference)
 
 
 def main(vectors, streams):
@@ -113,6 +101,7 @@ def main(vectors, streams):
     add_model_merges(cases, os.path.join(vectors, "merge.txt"))
     add_model_streams(cases, vectors)
     add_told(cases)
+    add_fed(cases)
     add_verified(cases)
     add_model_compared(cases, os.path.join(vectors, "verify.txt"))
     cases.write(CRATE)

@@ -13,9 +13,15 @@ items of the picture header that stands inside. pictures.txt: a line `stream N`,
 The answers are the model's, word for word, with three additions. A unit that is dropped gets `dropped`. What a set tells stands
 behind its items. And what can be written again gets `written same`: sets but for those of a VPS, which is never written, picture
 headers, and slice headers with the picture header that may stand inside. No word of the model's is left out.
+
+Behind these stand lines that ask about a call by itself: call_lines.py and list_lines.py have them, with their answers, and
+structure_cases.py those on sets and headers, worked by hand.
 """
 import pathlib
 import sys
+
+from call_lines import call_lines
+from structure_cases import structure_lines
 
 SAME = " | written same"
 VPS = 14
@@ -76,7 +82,7 @@ def streams(folder):
 
 folder = pathlib.Path(sys.argv[1])
 crate = pathlib.Path(__file__).resolve().parent.parent / "crates" / "vx_vectors"
-asked, answered = zip(*sets(folder), *streams(folder))
+asked, answered = zip(*sets(folder), *streams(folder), *call_lines(), *structure_lines())
 (crate / "stdin").write_text("".join(line + "\n" for line in asked))
 (crate / "stdout").write_text("".join(lines + "\n" for lines in answered))
 print(f"{len(asked)} lines are asked, {sum(lines.count(chr(10)) + 1 for lines in answered)} are answered")

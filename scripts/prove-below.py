@@ -14,7 +14,7 @@ job a processor, since no check keeps its jobs busy all the time. `rattle` takes
 
 Two `rt` commands in one checkout wait for one another. So each crate is proved in a tree of its own, of links to its
 files and to the libraries below, and what was made moves back to the crate's out/. A crate that is proved already is
-passed over. The trees lie in CRATE's out/ while this runs.
+passed over. The trees lie in CRATE's out/ while this runs. Each crate that is proved has a line, as `vx_bits: proved, 3 of 24`.
 
 N is the number of processors to use, all up to eight where it isn't given. RT is the command to call in place of rt.
 """
@@ -118,8 +118,8 @@ def main():
                 if status:
                     print(f"{said}{crate}: not proved", flush=True)
                     return status
-                print(f"{crate}: proved", flush=True)
                 proved.add(crate)
+                print(f"{crate}: proved, {len(proved)} of {len(behind)}", flush=True)
     return 0
 
 

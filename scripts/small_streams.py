@@ -6,7 +6,7 @@ sublayers, reference picture lists, weights, adaptation parameter sets of the th
 sequences, and units that readers drop. One layer, 4:0:0 or 4:2:0, 8 to 10 bits.
 
 `Steady(seed, names)` is a stream of one sequence that can be merged with others of its number: pictures of one subpicture and one
-slice, each with the PPS that is named.
+slice, each with the PPS that is named. `Sibling(seed, number)` is one of several with data, messages, QPs and ids of their own.
 """
 import math
 import random
@@ -316,7 +316,7 @@ def write_chroma_tables(w, s):
 
 def write_sps(draw, number, layout):
     """An SPS: its RBSP, and what is read of it later."""
-    w, s = Writer(draw), {"id": number, "layout": layout, "sublayers": draw.choice((0, 0, 1, 2, 3)), "chroma": draw.randrange(2)}
+    w, s = Writer(draw), {"id": number, "layout": layout, "qp": 0, "sublayers": draw.choice((0, 0, 1, 2, 3)), "chroma": draw.randrange(2)}
     w.u(4, number)
     w.u(4, 0)
     w.u(3, s["sublayers"])
@@ -551,7 +551,7 @@ def write_pps(draw, number, s):
     write_pps_ids(w, s, p)
     if p["partitioned"]:
         write_partition(w, s, p)
-    write_pps_numbers(w, p)
+    write_pps_numbers(w, s, p)
     write_pps_filters(w, p)
     w.u(1, 0)
     return w.closed(), p
@@ -570,14 +570,14 @@ def write_pps_ids(w, s, p):
             w.u(s["id_len"], k)
 
 
-def write_pps_numbers(w, p):
+def write_pps_numbers(w, s, p):
     """From CABAC to the lists of chroma QP offsets."""
     p["cabac_init"] = w.flag()
     p["active"] = [w.some_ue(3) + 1, w.some_ue(3) + 1]
     p["list1_index"] = w.flag()
     p["weighted_p"], p["weighted_b"] = w.flag(0.3), w.flag(0.3)
     w.u(1, 0)
-    p["qp"] = 26 + w.some_se(10)
+    p["qp"] = 26 + w.se(w.draw.randint(-10, 10) + s["qp"])
     p["cu_qp"] = w.flag()
     p["chroma_tools"], p["joint"], p["slice_chroma"], p["cu_chroma"] = w.flag(), 0, 0, 0
     if p["chroma_tools"]:
@@ -1025,17 +1025,31 @@ class Square(Layout):
         self.areas, self.subpics = [((0, 0, 1, 1), None, 0)], [(0, 0, 1, 1)]
 
 
+class Tiled(Layout):
+    """Tiles of whole CTUs, which are one subpicture and one slice."""
+
+    def __init__(self, draw):
+        super().__init__(draw)
+        columns, rows = sum(self.columns), sum(self.rows)
+        self.width, self.height = columns * self.ctu, rows * self.ctu
+        self.areas, self.subpics = [((0, 0, len(self.columns), len(self.rows)), None, 0)], [(0, 0, columns, rows)]
+
+    def slices(self, draw):
+        return [Slices(self.areas[0][0], None, [0])]
+
+
 class Steady(Stream):
     """A stream of one sequence, an IDR picture and pictures of type 0 with TemporalId 0; of each the id of its PPS is named. Streams of
-    one number have the same sets and headers. With a size slices have so many bytes of data, each value equally often, and others in
-    streams of another kind of data."""
+    one number and one layout have the same sets and headers, but for a QP that is added to theirs. With a size slices have so many bytes
+    of data, each value equally often, and others in streams of another kind of data."""
 
-    def __init__(self, seed, names, size=0, data=0):
+    def __init__(self, seed, names, size=0, data=0, layout=None, qp=0):
         self.draw, self.bytes, self.pictures = random.Random(seed), b"", []
         self.bodies = {ALF: set(), LMCS: set(), SCALING: set()}
         self.before, self.ended, self.messages = (0, 0), False, []
         self.names, self.size, self.data = names, size, random.Random(data)
-        self.sps = write_sps(self.draw, 0, Square(64))
+        self.sps = write_sps(self.draw, 0, layout or Square(64))
+        self.sps[1]["qp"] = qp
         self.add(15, 0, self.sps[0])
         self.pps = {}
         for name in sorted(set(names)):
@@ -1061,6 +1075,49 @@ class Steady(Stream):
 
     def payload(self):
         return self.data.randbytes(self.size - 1) + b"\x80" if self.size else some_bytes(self.draw, 30)
+
+
+class Sibling(Steady):
+    """One of the streams of a number that can be merged with one another. They have the same pictures, of all types and TemporalIds and
+    with ends of sequences between some; but each has data, messages, QPs and ids of its own. Every second one has some other filters: so
+    many that all of a picture's find ids."""
+
+    def __init__(self, seed, number):
+        shared, own = random.Random(seed), random.Random(f"{seed} {number}")
+        self.number = number
+        self.ids = {kind: own.sample(range(count), count) for kind, count in ((ALF, 8), (LMCS, 4), (SCALING, 8))}
+        pps = sorted(own.sample(range(64), 3))
+        names = shared.choices(pps, k=shared.randint(1, 6))
+        super().__init__(seed, names, data=f"{seed} {number}", layout=Tiled(shared), qp=own.randint(-6, 6))
+
+    type_of, tid_of = Stream.type_of, Stream.tid_of
+
+    def add_picture(self, first):
+        if not first and self.draw.random() < 0.2:
+            self.add(self.data.choice((21, 22)), 0, b"")
+            self.ended = True
+        super().add_picture(first)
+
+    def add_messages(self, tid):
+        """Perhaps writes one that is carried."""
+        if self.draw.random() < 0.5:
+            self.messages.append(b"\x90\x04" + self.data.randbytes(4))
+            self.add(23, tid, self.messages[-1] + b"\x80")
+
+    def body(self, kind):
+        return self.ids[kind][super().body(kind)]
+
+    def add_body(self, unit_kind, tid, kind, number):
+        most = 4 + self.sps[1]["chroma"] + 2 * self.sps[1]["ccalf"]
+        version = bytes([self.number % 2 + 1]) if kind == ALF and number < 8 - most else b""
+        self.add(unit_kind, tid, bytes([kind << 5 | self.ids[kind][number]]) + some_bytes(self.draw, 12) + version)
+
+    def payload(self):
+        self.written = some_bytes(self.data, 30)
+        return self.written
+
+    def facts(self, s, p, h, places):
+        return {**super().facts(s, p, h, places), "data": escaped(self.written)}
 
 
 def places_of(s, p):

@@ -483,7 +483,7 @@ def add_written(cases):
 def add_other_words(cases):
     """What the program tells of itself, and words that are no command."""
     cases.about("what the program tells of itself; behind `show` it is a file's name")
-    version = b"goosequince 0.1.0\n"
+    version = b"goosequince 0.2.0\n"
     cases.case("--version", Expected(out=version), "pieces out 1")
     say(cases, "--version", failed("write fault", version[:11]), "pieces out 1", "fail out 11")
     cases.named("--help", A)

@@ -4,8 +4,6 @@
 mod aps;
 mod laws;
 mod read;
-#[cfg(test)]
-mod tests;
 mod write;
 
 pub use aps::{ALF, Aps, LMCS, SCALING};

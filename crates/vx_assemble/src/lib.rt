@@ -21,12 +21,6 @@ mod sets;
 mod shared;
 mod slices;
 mod state;
-#[cfg(test)]
-mod tests_feed;
-#[cfg(test)]
-mod tests_pictures;
-#[cfg(test)]
-mod tests_refusals;
 mod unit;
 mod units;
 

@@ -1,5 +1,6 @@
-//! Calls below structures, made as lines say: bits and codes, lists, byte streams, layouts, placements, tables, and units that are
-//! written. Each line of the input names a call, or calls of one object in turn, and one line tells what is answered.
+//! Calls below structures, made as lines say: bits and codes, lists, sources and sinks, byte streams, layouts, placements, tables,
+//! RBSPs, and units that are written. Each line of the input names a call, or calls of one object in turn, and one line tells what is
+//! answered.
 //!
 //! The file stdout has the right answers, which a script makes without this program. A line that can't be read, or that asks for a
 //! call whose condition doesn't hold, ends the program with status 2. Empty lines and lines of `#` are no calls.
@@ -14,6 +15,8 @@ mod composite;
 mod fit;
 mod layout;
 mod lists;
+mod memory;
+mod rbsps;
 mod reader;
 mod sets;
 mod splitter;
@@ -90,10 +93,12 @@ fn answer_of_units(alloc: Global, verb: &str, words: &[&str]) -> Result<String> 
     match verb {
         "split" | "waits" => splitter::answer(alloc, verb, words),
         "take" => reader::answer(alloc, words),
+        "source" | "sink" | "grow" => memory::answer(alloc, verb, words),
         "header" | "emulation" | "escape" | "unescape" | "places" | "units" => {
             unit::answer(alloc, verb, words)
         }
         "sps" | "pps" | "aps" | "sei" => sets::answer(alloc, verb, words),
+        "messages" | "spell" | "set" => rbsps::answer(alloc, verb, words),
         _ => structures::answer(alloc, verb, words),
     }
 }

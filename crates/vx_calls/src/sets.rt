@@ -1,13 +1,12 @@
 //! Units of parameter sets, and of messages.
 
 use crate::bits::MOST_READ;
+use crate::rbsps::messages_of;
 use crate::words::{bytes_of, push_bytes};
 use anyhow::{Context, Result, bail};
 use std::alloc::Global;
 use vx_aps::read_aps;
-use vx_bits::Bytes;
 use vx_pps::read_pps;
-use vx_sei::{Message, MessageList};
 use vx_sps::read_sps;
 use vx_write::{aps_unit, pps_unit, sei_unit, sps_unit};
 
@@ -64,13 +63,5 @@ fn written_sei(alloc: Global, tid: u8, messages: &[&str]) -> Result<Option<Vec<u
     if tid > 6 {
         bail!("no TemporalId");
     }
-    let mut list = MessageList::new(alloc);
-    for message in messages {
-        let (kind, payload) = message.split_once('=').context("no payload")?;
-        let mut bytes = Bytes::new(alloc);
-        bytes.extend_from_slice(&bytes_of(alloc, payload)?)?;
-        let kind = kind.parse::<u32>()?;
-        list.push(Message { kind, bytes })?;
-    }
-    Ok(sei_unit(alloc, &list, tid)?)
+    Ok(sei_unit(alloc, &messages_of(alloc, messages)?, tid)?)
 }

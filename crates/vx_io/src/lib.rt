@@ -6,10 +6,6 @@ mod memory;
 mod outside;
 mod read;
 #[cfg(test)]
-mod tests_callers;
-#[cfg(test)]
-mod tests_memory;
-#[cfg(test)]
 mod tests_outside;
 mod write;
 

@@ -17,6 +17,7 @@ pub mod Assigning
 pub mod Limiting
 pub mod Planning
 pub mod Writing
+pub mod JoinedRounds
 pub mod Deciding
 pub mod Passing
 pub mod Settling

@@ -3,6 +3,7 @@ pub mod Bodies
 pub mod Collocated
 pub mod Ends
 pub mod Headers
+pub mod Joins
 pub mod Merging
 pub mod Needed
 pub mod Regions

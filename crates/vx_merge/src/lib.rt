@@ -2,7 +2,7 @@
 //!
 //! [`Merger::round`] writes what a round of pictures, one of each source, is put together as, behind the rounds before it, or tells the
 //! first rule that they break. [`Merger::check`] tells whether they can be put together, and else the first rule that
-//! they break. The rules are defined in the folder `specs`. [`lengths`] tells which sources have ended.
+//! they break. [`Merger::joined_round`] joins a round behind those before it, behind an end of sequence. The rules are defined in the folder `specs`. [`lengths`] tells which sources have ended.
 #![tactic(auto)]
 
 mod collocated;
@@ -18,6 +18,7 @@ mod headers;
 mod ids;
 mod items;
 mod joined;
+mod joins;
 mod laws;
 mod laws_shapes;
 mod limits;

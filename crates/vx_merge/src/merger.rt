@@ -1,17 +1,20 @@
 //! Round after round of pictures that are put together.
 ghost use Rattle.std.specs.Prelude.{◌≡◌, All, List, length, map, IfOk, OnOk};
 ghost use Rattle.vx_pic.specs.Written.{Plan};
+ghost use Rattle.vx_merge.specs.Joins as words;
+ghost use Rattle.vx_merge.specs.Joins.{WritesJoined};
 ghost use Rattle.vx_merge.specs.Merging.{AreCorners, Checks, Stands, Writes};
 ghost use Rattle.vx_merge.specs.inner.Progress.{IsProgress, merging_of};
 
 use crate::corner::Corner;
+use crate::joins::join_start;
 use crate::output::write_made;
 use crate::progress::Progress;
 use crate::round::counted;
 use std::alloc::{AllocError, Global};
 use std::marker::Model;
 use vx_io::Sink;
-use vx_pic::{Lender, Picture};
+use vx_pic::{Lender, Picture, lent};
 use vx_write::{Slots, WriteError, WriteFirst, first_of};
 
 /// Puts together round after round, a round being one picture of each source, or checks round after round: what passes a check counts as
@@ -39,18 +42,18 @@ impl Model for Merger {
     ghost invariant = { λ m. AreCorners m.corners.items × (m.first ≡ None → IsProgress m.corners.items m.level m.progress) };
 }
 
-/// The pictures that are lent.
+/// The pictures that are lent, each behind an end of sequence.
 ///
 /// # Errors
 ///
 /// Want of memory.
-fn lent<L: Lender>(alloc: Global, lenders: &[L]) -> Result<Vec<Picture<'_>>, AllocError>
+fn joined<L: Lender>(alloc: Global, lenders: &[L]) -> Result<Vec<Picture<'_>>, AllocError>
     requires { All L.holds lenders.now }
-    ensures { IfOk result (λ round. round.items ≡ map L.lent lenders.now) }
+    ensures { IfOk result (λ round. round.items ≡ map words.joined (map L.lent lenders.now)) }
 {
     let mut round = Vec::new(alloc);
     for lender in lenders {
-        round.push(lender.picture())?;
+        round.push(lender.picture().after_end())?;
     }
     Ok(round)
 }
@@ -76,6 +79,28 @@ fn check_lent<L: Lender>(
     Ok(())
 }
 
+/// Writes a round of pictures.
+fn write_round<K: Sink>(
+    alloc: Global,
+    corners: &[Corner],
+    level: Option<u8>,
+    progress: &mut Progress,
+    round: &[Picture<'_>],
+    out: &mut K,
+) -> Result<(), WriteError>
+    requires corners { AreCorners corners.now }
+    requires same { length corners.now ≡ length round.now }
+    requires progress { IsProgress corners.now level progress.old }
+    ensures progress { OnOk result (IsProgress corners.now level progress.new) }
+    ensures answer { (done : List Plan) → Stands (merging_of corners.now level progress.old) done
+        → Writes round.now done (merging_of corners.now level progress.new)
+        (K.bytes_taken out.old) (K.bytes_taken out.new) (K.write_faults out.old) (K.write_faults out.new) result }
+{
+    let made = counted(alloc, corners, level, progress, round)?;
+    write_made(out, &made)?;
+    Ok(())
+}
+
 /// Writes a round of lenders.
 fn write_lent<L: Lender, K: Sink>(
     alloc: Global,
@@ -95,9 +120,32 @@ fn write_lent<L: Lender, K: Sink>(
         (K.bytes_taken out.old) (K.bytes_taken out.new) (K.write_faults out.old) (K.write_faults out.new) result }
 {
     let round = lent(alloc, lenders)?;
-    let made = counted(alloc, corners, level, progress, round.as_slice())?;
-    write_made(out, &made)?;
-    Ok(())
+    write_round(alloc, corners, level, progress, round.as_slice(), out)
+}
+
+/// Writes a round of lenders that is joined behind those before it.
+fn write_joined<L: Lender, K: Sink>(
+    alloc: Global,
+    corners: &[Corner],
+    level: Option<u8>,
+    progress: &mut Progress,
+    lenders: &[L],
+    out: &mut K,
+) -> Result<(), WriteError>
+    requires corners { AreCorners corners.now }
+    requires count { length lenders.now ≡ length corners.now }
+    requires holds { All L.holds lenders.now }
+    requires progress { IsProgress corners.now level progress.old }
+    ensures progress { OnOk result (IsProgress corners.now level progress.new) }
+    ensures answer { (done : List Plan) → Stands (merging_of corners.now level progress.old) done
+        → WritesJoined (map words.joined (map L.lent lenders.now)) done (merging_of corners.now level progress.new)
+        (K.bytes_taken out.old) (K.bytes_taken out.new) (K.write_faults out.old) (K.write_faults out.new) result }
+{
+    let round = joined(alloc, lenders)?;
+    if let Some(refusal) = join_start(round.as_slice()) {
+        return Err(WriteError::Refused(refusal));
+    }
+    write_round(alloc, corners, level, progress, round.as_slice(), out)
 }
 
 impl Merger {
@@ -106,6 +154,8 @@ impl Merger {
     ghost use Rattle.vx_write.specs.Faults as faults;
     ghost use Rattle.vx_write.specs.declared.fault.WriteFirst.{WriteFirst as First};
     ghost use Rattle.vx_write.specs.declared.fault.WriteError.TheVariants.{Stopped};
+    ghost use Rattle.vx_merge.specs.Joins as words;
+    ghost use Rattle.vx_merge.specs.Joins.{WritesJoined};
     ghost use Rattle.vx_merge.specs.Merging.{AreCorners, Checks, SameTask, Stands, Writes};
 
     /// A merger of regions with these upper left corners, in luma samples, with a level of its own or the sources' highest.
@@ -188,6 +238,39 @@ impl Merger {
         let (alloc, level) = (self.alloc, self.level);
         let progress = &mut self.progress;
         match write_lent(alloc, &self.corners, level, progress, lenders, out) {
+            Ok(()) => Ok(()),
+            Err(failure) => {
+                self.first = Some(first_of(failure));
+                Err(failure)
+            }
+        }
+    }
+
+    /// Writes what a round is put together as that is joined behind the rounds before it: each of its pictures behind an end of sequence.
+    /// As many lenders as corners, each holding its picture.
+    ///
+    /// # Errors
+    ///
+    /// The lowest source whose picture can't start a coded layer video sequence there, tried before all rules; else as [`Merger::round`].
+    pub fn joined_round<L: Lender, K: Sink>(
+        &mut self,
+        lenders: &[L],
+        out: &mut K,
+    ) -> Result<(), WriteError>
+        requires count { length lenders.now ≡ length self.old.corners }
+        requires holds { All L.holds lenders.now }
+        ensures answer { (done : List Plan) → Stands self.old done
+            → WritesJoined (map words.joined (map L.lent lenders.now)) done self.new (K.bytes_taken out.old) (K.bytes_taken out.new) (K.write_faults out.old) (K.write_faults out.new) result }
+        ensures task { SameTask self.old self.new }
+        ensures first { IfErr result (λ e. self.new.first ≡ Some (faults.first_of e)) }
+        ensures stopped { (f : First) → self.old.first ≡ Some f → (result ≡ Err (Stopped f)) × (self.new ≡ self.old) × (out.new ≡ out.old) }
+    {
+        if let Some(first) = self.first {
+            return Err(WriteError::Stopped(first));
+        }
+        let (alloc, level) = (self.alloc, self.level);
+        let progress = &mut self.progress;
+        match write_joined(alloc, &self.corners, level, progress, lenders, out) {
             Ok(()) => Ok(()),
             Err(failure) => {
                 self.first = Some(first_of(failure));

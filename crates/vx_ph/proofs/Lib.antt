@@ -17,3 +17,5 @@ mod Spelling
 mod Id
 mod Once
 pub mod Enabled
+pub mod ShortLists
+mod Short

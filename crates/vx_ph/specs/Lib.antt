@@ -7,4 +7,5 @@ pub mod Picture
 pub mod Reshaped
 pub mod Filter
 pub mod Enabled
+pub mod Sizes
 pub mod inner

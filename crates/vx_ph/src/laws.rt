@@ -6,6 +6,7 @@ ghost use Rattle.vx_ph.specs.Id.{HeaderHasId, UnitHasId};
 ghost use Rattle.vx_ph.specs.InForce.{SetsAgree};
 ghost use Rattle.vx_ph.specs.Picture.{UnitIsRead};
 ghost use Rattle.vx_ph.specs.Reshaped.{SameKeptAgree};
+ghost use Rattle.vx_ph.specs.Sizes.{SetsAreBounded, SpellingIsShort};
 
 /// Sets that give some fields the same numbers give scopes that agree on these.
 pub fn sets_agree()
@@ -78,4 +79,10 @@ pub fn header_is_enabled()
     ensures scaling { NoScaling }
     ensures chroma { NoChromaScaling }
     ensures filter { NoFilter }
+{}
+
+/// A unit of a picture header has 2^17 bytes at most, under sets that ask for 32 extra bits at most.
+pub fn spelling_is_short()
+    ensures short { SpellingIsShort }
+    ensures sets { SetsAreBounded }
 {}

@@ -9,10 +9,6 @@ mod reshape;
 mod scope;
 mod shape;
 mod tables;
-#[cfg(test)]
-mod tests;
-#[cfg(test)]
-mod tests_reshape;
 mod under_sets;
 mod unit;
 mod walk;
@@ -22,7 +18,7 @@ pub use header::PictureHeader;
 pub use laws::{
     fields_are_coded_once, filter_goes_again, filter_names_once, header_depends, header_has_id,
     header_is_enabled, header_keeps, header_read_again, header_rewrites, same_kept_agree,
-    sets_agree, unit_has_id, unit_is_read,
+    sets_agree, spelling_is_short, unit_has_id, unit_is_read,
 };
 pub use pps_id::read_pps_id;
 pub use read::read_header_at;

@@ -26,7 +26,7 @@ use Rattle.vx_table.proofs.Joined.{items_joined, parted}
 use Rattle.vx_table.proofs.Rewrites.{leaves_agree, sections_leave, sections_together}
 use Rattle.vx_sps.specs.declared.tables.TheConstants.{SUBPIC_IDS}
 use Rattle.vx_sps.specs.Structure as structure
-use Rattle.vx_sps.specs.Structure.{sps_form, sps_sections}
+use Rattle.vx_sps.specs.Structure.{sps_form}
 use Rattle.vx_sps.specs.Set.{IsItems}
 use Rattle.vx_sps.specs.Subpictures.{id_of, numbers_of, subpics_of}
 use Rattle.vx_pic.specs.PictureLayout.{are_in_pps, ids_of, ids_misplaced, ids_unlike, ids_too_short, needs_ids, same_flag}

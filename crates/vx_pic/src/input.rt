@@ -2,7 +2,7 @@
 ghost use Rattle.std.specs.Prelude.{◌≡◌, ◌<◌, Some, length, slice_get, IfOk, IfSome};
 ghost use Rattle.vx_pic.specs.Readings as stream;
 ghost use Rattle.vx_pic.specs.Parts.{Shows};
-ghost use Rattle.vx_pic.specs.Inputs.{input_in, input_of};
+ghost use Rattle.vx_pic.specs.Inputs.{header_fields, input_in, input_of, pps_fields, slice_fields, sps_fields};
 ghost use Rattle.vx_pic.specs.Seen.{input_seen};
 
 use crate::in_force::{
@@ -15,6 +15,7 @@ use crate::place::{Place, place_of};
 use std::alloc::{AllocError, Global};
 use vx_bits::Kept;
 use vx_rpl::RefLists;
+use vx_sh::SliceHeader;
 
 /// All that decoding a slice depends on but for the pictures that it refers to. Two slices whose inputs are the same decode alike,
 /// wherever in a frame they stand, and whatever ids name their sets.
@@ -46,6 +47,34 @@ pub struct DecodingInput<'a> {
     pub payload: &'a [u8],
 }
 
+/// The kept fields of the sets and the headers of a slice.
+#[derive(Drop)]
+struct KeptParts {
+    sps: Kept,
+    pps: Kept,
+    header: Kept,
+    slice: Kept,
+}
+
+/// Those of a slice of a picture.
+fn kept_parts(
+    alloc: Global,
+    picture: &Picture<'_>,
+    header: &SliceHeader,
+) -> Result<KeptParts, AllocError>
+    ensures sps { IfOk result (λ kept. kept.sps ≡ sps_fields picture.now.sps) }
+    ensures pps { IfOk result (λ kept. kept.pps ≡ pps_fields picture.now.pps) }
+    ensures header { IfOk result (λ kept. kept.header ≡ header_fields picture.now.header.fields) }
+    ensures slice { IfOk result (λ kept. kept.slice ≡ slice_fields header.now.fields) }
+{
+    Ok(KeptParts {
+        sps: kept_of_sps(alloc, picture.sps())?,
+        pps: kept_of_pps(alloc, picture.pps())?,
+        header: kept_of_header(alloc, &picture.header().fields)?,
+        slice: kept_of_slice(alloc, &header.fields)?,
+    })
+}
+
 /// The decoding input of a slice of a picture, as callers see both.
 fn input_at<'a>(
     alloc: Global,
@@ -56,12 +85,13 @@ fn input_at<'a>(
     ensures { IfOk result (λ input. IfSome (slice_get picture.now.slices i) (λ s. input_seen input ≡ input_in picture.now s)) }
 {
     let slice = picture.slice(i);
+    let kept = kept_parts(alloc, picture, slice.header)?;
     Ok(DecodingInput {
         kind: picture.kind(),
-        sps: kept_of_sps(alloc, picture.sps())?,
-        pps: kept_of_pps(alloc, picture.pps())?,
-        header: kept_of_header(alloc, &picture.header().fields)?,
-        slice: kept_of_slice(alloc, &slice.header.fields)?,
+        sps: kept.sps,
+        pps: kept.pps,
+        header: kept.header,
+        slice: kept.slice,
         alf: alf_in_force(alloc, picture, slice.header)?,
         lmcs: lmcs_in_force(picture, slice.header),
         scaling: scaling_in_force(picture, slice.header),

@@ -23,10 +23,6 @@ mod numbers;
 mod picture;
 mod place;
 mod sets;
-#[cfg(test)]
-mod tests;
-#[cfg(test)]
-mod tests_inputs;
 mod unit_types;
 
 pub use accepted::Accepted;

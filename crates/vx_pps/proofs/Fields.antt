@@ -1,5 +1,5 @@
 -- Items of one field, and sets of fields by their lists.
-use Rattle.std.proofs.Common.{◌≡◌, inl, inr, ℕ, ◌==◌, ◌&&◌, Bool, true, false, cond, not, IsTrue, List, [], ◌∷◌, slice_index, slice_set, refl, ap, sym, ◌∙◌}
+use Rattle.std.proofs.Common.{◌≡◌, inl, inr, ℕ, ◌==◌, ◌&&◌, Bool, true, false, not, IsTrue, List, [], ◌∷◌, slice_index, slice_set, refl, ap, sym, ◌∙◌}
 use Rattle.std.specs.Prelude.{All, filter}
 use Rattle.std.proofs.lemmas.Bool.{and_parts, both_ways, cases_Bool, cases_eq, eqb-true, not-true}
 use Rattle.std.proofs.lemmas.List.{get_or-set_other}

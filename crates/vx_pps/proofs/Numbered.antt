@@ -1,5 +1,5 @@
 -- The kept items of a set, absent ones among them, tell the numbers of its kept fields.
-use Rattle.std.proofs.Common.{◌≡◌, inl, inr, ℕ, ℤ, pos, negsuc, ◌==◌, ◌&&◌, ◌||◌, Bool, true, false, IsTrue, IsFalse, List, [], ◌∷◌, ◌++◌, drop, map, slice_index, refl, ap, sym, subst, ◌∙◌}
+use Rattle.std.proofs.Common.{◌≡◌, inl, inr, ℕ, ℤ, pos, negsuc, ◌==◌, ◌&&◌, ◌||◌, Bool, true, false, IsTrue, List, [], ◌∷◌, ◌++◌, drop, map, slice_index, refl, ap, sym, subst, ◌∙◌}
 use Rattle.std.proofs.Math.Bool.{and-false}
 use Rattle.std.proofs.lemmas.Bool.{cases_Bool, eqb-true, or_cases}
 use Rattle.std.proofs.lemmas.List.{append-nil}
@@ -26,8 +26,7 @@ use Rattle.vx_table.proofs.Loading.{number_of_shown}
 use Rattle.vx_table.proofs.Shown.{hidden_here, shown_here}
 use Rattle.vx_table.proofs.Starred.{not_kept, structure_keeps_only}
 use Rattle.vx_pps.specs.declared.partition.Partition.{Partition}
-use Rattle.vx_pps.specs.Items.{numbers_of}
-use Rattle.vx_pps.specs.Pps.{IsItems, default_active, front, kept_of, tools}
+use Rattle.vx_pps.specs.Pps.{front, kept_of}
 use Rattle.vx_pps.specs.Sets.{GiveSame, KeptTellsNumbers, kept}
 use Rattle.vx_pps.specs.Written.{item}
 use Rattle.vx_pps.proofs.Cutting.{Parts, cut_parts}
@@ -35,7 +34,7 @@ use Rattle.vx_pps.proofs.Fields.{all_pass, apart, named, passes, same_with}
 use Rattle.vx_pps.proofs.Flags.{flag_items}
 use Rattle.vx_pps.proofs.Framing.{at_dbf, at_end, at_info, at_offsets, dbf_keeps, from_early, from_front, from_headers, from_rest, info_keeps, kept_runs, runs_clear, shows_first, shows_more}
 use Rattle.vx_pps.proofs.Keeping.{kept_put}
-use Rattle.vx_pps.proofs.Testing.{IsRun, before_dbf, dbf_flag, dbf_info, dbf_offsets, early_aside, early_fields, early_run, end, end_aside, end_fields, end_run, from_info, front_aside, front_fields, front_run, header_info, info_flags, offsets_aside, offsets_fields, offsets_run}
+use Rattle.vx_pps.proofs.Testing.{IsRun, before_dbf, dbf_flag, dbf_offsets, early_aside, early_fields, early_run, end, end_aside, end_fields, end_run, from_info, front_aside, front_fields, front_run, header_info, info_flags, offsets_aside, offsets_fields, offsets_run}
 
 -- ---- kept items are those of shown fields, where no kept row stands for an absent field
 

@@ -1,7 +1,7 @@
 -- A walk that may also end where memory runs out, put together of its steps.
 use Rattle.std.proofs.Common.{Result, Ok, Err}
 use Rattle.vx_table.specs.Forms.{Form, done, ◌>>=◌}
-use Rattle.vx_table.specs.Walks.{Step, Walks, leaving}
+use Rattle.vx_table.specs.Walks.{Step, Walks}
 use Rattle.vx_table.specs.Walks as walks
 use Rattle.vx_pps.specs.declared.halt.Halt.{Halt}
 use Rattle.vx_pps.specs.declared.halt.Halt.TheVariants.{Memory, Refused}

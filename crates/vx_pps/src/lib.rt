@@ -22,14 +22,6 @@ mod read;
 mod reshape;
 mod shape;
 mod tables;
-#[cfg(test)]
-mod tests;
-#[cfg(test)]
-mod tests_list_items;
-#[cfg(test)]
-mod tests_reshape;
-#[cfg(test)]
-mod tests_worked;
 mod tiles;
 mod walk;
 

@@ -9,8 +9,6 @@ mod laws_depends;
 mod read;
 mod run;
 mod tables;
-#[cfg(test)]
-mod tests;
 mod walk;
 
 pub use laws::{runs_are_spelled, structures_are_spelled, writes_what_was_read};

@@ -5,7 +5,7 @@ use Rattle.vx_bits.specs.declared.refusal.BitCause.{BitCause}
 use Rattle.vx_bits.specs.declared.refusal.BitCause.TheVariants.{Short, LongCode, BadTrailing, BadAlignment, OutOfRange}
 use Rattle.vx_bits.specs.declared.refusal.Refusal.{Refusal}
 use Rattle.vx_bits.specs.declared.refusal.Refusal.TheVariants.{Framing, Syntax, Profile, Limit, Structure, Extract, Merge}
-use Rattle.vx_bits.specs.declared.rules.TheConstants.{LONG_SOURCE, TOO_MANY_SOURCES, SET_MISSING, LAYOUT, SPS_TOOLS, PPS_TOOLS, PICTURE_HEADER}
+use Rattle.vx_bits.specs.declared.rules.TheConstants.{LONG_SOURCE, TOO_MANY_FILES, TOO_MANY_SOURCES, SET_MISSING, LAYOUT, SPS_TOOLS, PPS_TOOLS, PICTURE_HEADER}
 use Rattle.vx_aps.specs.declared.aps.TheConstants as aps
 use Rattle.vx_pic.specs.declared.sets.TheConstants as sets
 use Rattle.vx_report.specs.declared.refusal.Where.{Where}
@@ -61,7 +61,7 @@ abbrev pub source_limit_text : ℕ → Where → List ℕ
 source_limit_text code place = concat
     (codes "L" ∷ decimal code ∷ codes " source " ∷ decimal place.source ∷ codes "\n" ∷ [])
 
--- `L4`, for what the words name
+-- `L4` and `L11`, for what the words name
 abbrev pub words_limit_text : ℕ → List ℕ
 words_limit_text code = concat (codes "L" ∷ decimal code ∷ codes "\n" ∷ [])
 
@@ -117,10 +117,14 @@ round_field_text code source of place = concat
 abbrev pub source_or_unit_text : ℕ → Where → List ℕ
 source_or_unit_text code place = cond (code == LONG_SOURCE) (source_limit_text code place) (unit_text (codes "L") code place)
 
--- a limit on what the words name, on what is to be written, or on what is read
+-- the limits on what the words name
+abbrev pub is_of_words : ℕ → Bool
+is_of_words code = (code == TOO_MANY_SOURCES) || (code == TOO_MANY_FILES)
+
+-- a limit on these, on what is to be written, or on what is read
 abbrev pub limit_text : ℕ → Where → List ℕ
 limit_text code place =
-    cond (code == TOO_MANY_SOURCES) (words_limit_text code)
+    cond (is_of_words code) (words_limit_text code)
     (cond place.written (written_limit_text code place) (source_or_unit_text code place))
 
 abbrev pub structure_text : ℕ → ℕ → ℕ → Where → List ℕ

@@ -4,8 +4,6 @@
 mod picture;
 mod refusal;
 mod set;
-#[cfg(test)]
-mod tests;
 mod unit;
 
 pub use picture::{PictureNumbers, picture_line};

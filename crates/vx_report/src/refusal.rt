@@ -7,7 +7,8 @@ ghost use Rattle.vx_report.specs.RefusalLine.{refusal_text};
 use std::alloc::{AllocError, Global};
 use vx_aps::{ALF, LMCS, SCALING};
 use vx_bits::rules::{
-    LAYOUT, LONG_SOURCE, PICTURE_HEADER, PPS_TOOLS, SET_MISSING, SPS_TOOLS, TOO_MANY_SOURCES,
+    LAYOUT, LONG_SOURCE, PICTURE_HEADER, PPS_TOOLS, SET_MISSING, SPS_TOOLS, TOO_MANY_FILES,
+    TOO_MANY_SOURCES,
 };
 use vx_bits::{BitCause, Refusal};
 use vx_pic::SPS;
@@ -95,7 +96,7 @@ fn profile_line(alloc: Global, code: u8, place: Where) -> Result<String, AllocEr
 fn limit_line(alloc: Global, code: u8, place: Where) -> Result<String, AllocError>
     ensures { IfOk result (λ text. string_bytes text ≡ line.limit_text code place) }
 {
-    if code == TOO_MANY_SOURCES {
+    if is_of_words(code) {
         return words_limit_line(alloc, code);
     }
     if place.written {
@@ -105,6 +106,13 @@ fn limit_line(alloc: Global, code: u8, place: Where) -> Result<String, AllocErro
         LONG_SOURCE => source_limit_line(alloc, code, place),
         _ => unit_limit_line(alloc, code, place),
     }
+}
+
+/// Whether it is a limit on what the words name.
+fn is_of_words(code: u8) -> bool
+    ensures { result ≡ line.is_of_words code }
+{
+    matches!(code, TOO_MANY_SOURCES | TOO_MANY_FILES)
 }
 
 fn words_limit_line(alloc: Global, code: u8) -> Result<String, AllocError>

@@ -1,8 +1,6 @@
 //! Reference picture lists of H.266: their structures, the lists of a header, and prediction weights.
 #![tactic(auto)]
 
-#[cfg(test)]
-mod cases;
 mod entry;
 mod laws;
 mod lists;
@@ -10,8 +8,6 @@ mod numbers;
 mod read;
 mod resolved;
 mod tables;
-#[cfg(test)]
-mod tests;
 mod walk;
 mod write;
 

@@ -10,6 +10,7 @@ pub mod Gathering
 pub mod Indexed
 pub mod Lined
 pub mod Made
+pub mod MergeAgain
 pub mod MergeWords
 pub mod Merging
 pub mod Moved

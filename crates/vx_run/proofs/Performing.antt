@@ -4,7 +4,7 @@ use Rattle.std.specs.Prelude.{String, string_bytes}
 use Rattle.std.proofs.lemmas.List.{length-map}
 use Rattle.vx_run.specs.Change.{Change, Sources, change, sources_change}
 use Rattle.vx_run.specs.Conclusion.{Outcome}
-use Rattle.vx_run.specs.Grammar.{Command, Placing, show, extract, check_extract, check_merge, verify, files_of, AskFor, NamesFiles, texts}
+use Rattle.vx_run.specs.Grammar.{Command, Placing, show, extract, check_extract, verify, files_of, AskFor, NamesFiles, texts}
 use Rattle.vx_run.specs.inner.Placings.{placing_in}
 use Rattle.vx_run.specs.Extract.{task_of, Extracts, Checks}
 use Rattle.vx_run.specs.Run.{Does, Performs}

@@ -63,13 +63,13 @@ module _ (t : Task) where
 
 -- ---- bytes
 
-units_stand : UnitsCanStand → (b : List ℕ) (all : Bool) (us : List UnitPlace) → FollowsFrom b all 0 us → All CanStand (units_at b us)
+pub units_stand : UnitsCanStand → (b : List ℕ) (all : Bool) (us : List UnitPlace) → FollowsFrom b all 0 us → All CanStand (units_at b us)
 units_stand can b all us follow =
     All-map CanStand (unit_bytes b) us
     (All-weaker (λ (u : UnitPlace). CanStand (unit_bytes b u) × HoldsNoCode (unit_bytes b u)) (λ (u : UnitPlace). CanStand (unit_bytes b u)) (λ u h. h.0) us (can b all 0 us follow))
 
 -- no more bytes than a source may have are those of one
-of_source : (R : Readers) (bytes : List ℕ) (qs : List Picture) → ArePictures R bytes true qs None → length bytes ≤ source_limit → AreSourcePictures R bytes qs None
+pub of_source : (R : Readers) (bytes : List ℕ) (qs : List Picture) → ArePictures R bytes true qs None → length bytes ≤ source_limit → AreSourcePictures R bytes qs None
 of_source R bytes qs are few =
     subst (λ (w : Bool). ArePictures R (take source_limit bytes) w qs None) (sym (le-leb (length bytes) source_limit few))
     (subst (λ (l : List ℕ). ArePictures R l true qs None) (sym (take_all source_limit bytes few)) are)

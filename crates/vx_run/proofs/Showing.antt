@@ -20,9 +20,9 @@ use Rattle.vx_assemble.specs.declared.feed.Taken.TheVariants.{End as Ended}
 use Rattle.vx_assemble.specs.Feed.{Feeding, HasFed, IsOpen, Gives, IsRefusedFor, by_bytes, by_unit, at_end, ReadsOn as Reads}
 use Rattle.vx_run.specs.declared.stop.Stop.{Stop}
 use Rattle.vx_run.specs.declared.stop.Stop.TheVariants.{NotUnderstood, Mismatched, Refused, ReadFault, WriteFault, NoMemory}
-use Rattle.vx_run.specs.Change.{Change, change, HasNoFault, Gains, GainsFront}
-use Rattle.vx_run.specs.Show.{seen_of, shown_lines, lines_behind, read_len, behind_unit, IsShown, IsToldAt, ShowsBy, ShowsFront}
-use Rattle.vx_run.specs.inner.Showing.{EndsBy, SeesNone, ReadsOn, WritesLines, EndsGathering, ShowsLater, HasShown, HasReached, left_to_read}
+use Rattle.vx_run.specs.Change.{Change, change, Gains, GainsFront}
+use Rattle.vx_run.specs.Show.{seen_of, shown_lines, lines_behind, read_len, behind_unit, IsShown, IsToldAt, ShowsBy}
+use Rattle.vx_run.specs.inner.Showing.{EndsBy, SeesNone, ReadsOn, WritesLines, ShowsLater, HasShown, HasReached, left_to_read}
 use Rattle.vx_run.proofs.Gained.{Gains-nothing, Gains-then, GainsFront-then, GainsFront-append}
 use Rattle.vx_run.proofs.Lined.{lines_more}
 use Rattle.vx_run.proofs.Told.{IsGiven, IsOf, near, last_beyond, follows_behind, shown_lines_on, lines_of_given, units_of_given, first_of_given, refused_at, ends_by_framing, ends_by_length, ends_lacking, ends_whole, ends_by_unit}

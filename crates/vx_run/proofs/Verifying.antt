@@ -1,5 +1,5 @@
 -- What rounds that are verified come to.
-use Rattle.std.proofs.Common.{◌≡◌, ℕ, ◌+◌, ◌<◌, ◌≤◌, ◌⊎◌, List, [], ◌∷◌, ◌∙◌, Option, Some, Result, Ok, Err, length, map, drop, slice_get, inl, inr, sym, refl, subst, arith, take, ◌-◌}
+use Rattle.std.proofs.Common.{◌≡◌, ℕ, ◌+◌, ◌⊎◌, List, [], ◌∷◌, ◌∙◌, Option, Some, Result, Ok, Err, length, map, drop, slice_get, inl, inr, sym, refl, subst, arith, take, ◌-◌}
 use Rattle.std.proofs.Math.Seq.{take_all}
 use Rattle.std.proofs.lemmas.Bool.{cases_lt}
 use Rattle.std.proofs.lemmas.List.{length-map}
@@ -23,7 +23,7 @@ use Rattle.vx_run.specs.Rounds.{Stream, by_round, AreTold, OfEach, IsReadInRound
 use Rattle.vx_run.specs.Verify.{OfRound, AreVerified, length_differs, verify_telling, VerifiesBy, yes_text}
 use Rattle.vx_run.specs.inner.Advancing.{OfAll, Begin, IsUnfed, AllTake, AllEnd, so_far, EndsFirst, HaltsAtSource, HaltsByLength}
 use Rattle.vx_run.specs.inner.Verifying.{VerifiesRound, VerifiesRounds, HasVerified, stop_in}
-use Rattle.vx_run.proofs.Advancing.{counted, begin_told, all_out, end_begin, all_ended, take_begin, take_read, take_for, round_told, unread, waiting_none, first_stops, length_stops}
+use Rattle.vx_run.proofs.Advancing.{counted, all_out, end_begin, all_ended, take_begin, take_read, take_for, round_told, unread, waiting_none, first_stops, length_stops}
 use Rattle.vx_run.proofs.Sources.{HasRound, has_round, round_stays, stream_of}
 
 -- ---- one round

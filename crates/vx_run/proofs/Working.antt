@@ -4,7 +4,6 @@ use Rattle.std.specs.Io.KnownBytes.{Appends}
 use Rattle.std.proofs.KnownBytes.{Appends-trans}
 use Rattle.vx_io.specs.Faults.{Rose}
 use Rattle.vx_io.specs.Written.{AppendsFront}
-use Rattle.vx_io.specs.Listed.{bytes_at}
 use Rattle.vx_bits.specs.declared.refusal.Refusal.{Refusal}
 use Rattle.vx_annexb.specs.Laws.{written}
 use Rattle.vx_pic.specs.Readings.{Picture}
@@ -25,10 +24,10 @@ use Rattle.vx_run.specs.declared.stop.Stop.TheVariants.{NotUnderstood, Mismatche
 use Rattle.vx_run.specs.Change.{Change, Sources, change, sources_change, Gains, GainsFront}
 use Rattle.vx_run.specs.Conclusion.{Outcome}
 use Rattle.vx_run.specs.Extract.{ok_text}
-use Rattle.vx_run.specs.Rounds.{Stream, AllEnded, StopsIn, by_round, AreTold, OfEach, IsRead, IsReadInRound, at_source, at_round}
-use Rattle.vx_run.specs.Merge.{AreWritten, bytes_of, length_refused, merge_telling, EndsWritten, GainsInto, ChecksMergeBy, MergesBy}
+use Rattle.vx_run.specs.Rounds.{Stream, AllEnded, StopsIn, by_round, AreTold, OfEach, IsReadInRound, at_source, at_round}
+use Rattle.vx_run.specs.Merge.{AreWritten, bytes_of, length_refused, merge_telling, EndsWritten, GainsInto, ChecksMergeBy}
 use Rattle.vx_run.specs.inner.Advancing.{OfAll, Begin, AreWaiting, AllTake, AllEnd, so_far, EndsFirst, HaltsAtSource, HaltsByLength}
-use Rattle.vx_run.specs.inner.Merging.{stop_in, Leaves, Keeps, TakesRounds, outcome_of, DoesRound, TakesRound, HasWritten, HasDone}
+use Rattle.vx_run.specs.inner.Merging.{stop_in, Leaves, Keeps, TakesRounds, DoesRound, TakesRound, HasWritten, HasDone}
 use Rattle.vx_run.proofs.Extracting.{written_more}
 use Rattle.vx_run.proofs.Gained.{Gains-nothing, Gains-then}
 use Rattle.vx_run.proofs.Merging.{more_written, written_told}
@@ -293,16 +292,6 @@ pub check_unread : {A K : Type 0} (bytes : A → Option (List ℕ)) (faults : A 
 check_unread bytes faults taken writes R first o corners = (unread bytes faults R first, refl)
 
 module _ {A K : Type 0} (R : Readers) (corners : List Corner) (sources : Sources A) (out : Change K) where
-  -- all rounds were written, or not
-  pub merged : (level : Option ℕ) (result : Result ℕ Stop) → TakesRounds R Write corners level sources out result → MergesBy R corners level sources out (outcome_of result)
-  merged level (Ok n) takes = (takes.0, takes.1, λ ss are. let x = takes.2 ss are in (x.0, x.2, x.3))
-  merged level (Err (Refused r place)) takes = takes
-  merged level (Err (ReadFault k)) takes = takes
-  merged level (Err WriteFault) takes = takes.1
-  merged level (Err NoMemory) takes = takes
-  merged level (Err NotUnderstood) takes = absurd takes
-  merged level (Err (Mismatched x y)) takes = absurd takes
-
   -- nothing was written where a check stopped
   pub check_stopped : (stop : Stop) → TakesRounds R Check corners None sources out (Err stop) → ChecksMergeBy R corners sources out (Err stop)
   check_stopped (Refused r place) takes = (takes.0, takes.1, takes.2, λ ss are. let x = takes.3 ss are in (x.0, x.1, x.2))

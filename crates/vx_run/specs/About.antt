@@ -68,7 +68,7 @@ help_text = concat
 
 -- the name and the version
 unfoldable pub version_text : List ℕ
-version_text = codes "goosequince 0.1.0\n"
+version_text = codes "goosequince 0.2.0\n"
 
 -- a text was written, or a front of it where a write failed, and nothing else stopped it
 abbrev pub Writes : {K : Type 0} → List ℕ → Change K → Outcome → Type 0

@@ -6,6 +6,7 @@ pub mod Conclusion
 pub mod Extract
 pub mod Grammar
 pub mod Merge
+pub mod MergeAgain
 pub mod ReadAgain
 pub mod Rounds
 pub mod Run

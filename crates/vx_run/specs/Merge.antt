@@ -1,23 +1,27 @@
 -- What `merge` and `check merge` find in the rounds of several sources, and what they write.
 use Rattle.std.specs.Prelude.{◌≡◌, ◌↔◌, ℕ, ◌+◌, ◌<◌, List, [], ◌∷◌, ◌++◌, length, map, Option, None, Ok, Err}
+use Rattle.std.specs.List.{AllByRecursion}
 use Rattle.std.specs.Io.{StartsWith}
 use Rattle.std.specs.Io.KnownBytes.{Appends}
 use Rattle.vx_bits.specs.declared.refusal.Refusal.{Refusal}
 use Rattle.vx_bits.specs.declared.refusal.Refusal.TheVariants.{Merge}
 use Rattle.vx_bits.specs.declared.rules.TheConstants.{LENGTH}
 use Rattle.vx_annexb.specs.Laws.{written}
+use Rattle.vx_pic.specs.H266.{AreOfH266}
+use Rattle.vx_pic.specs.Readings.{Picture}
 use Rattle.vx_pic.specs.Rules.{Readers}
 use Rattle.vx_pic.specs.Parts.{Parts}
 use Rattle.vx_pic.specs.Resident.{units_written}
 use Rattle.vx_pic.specs.Written.{Plan, units_of}
 use Rattle.vx_merge.specs.declared.corner.Corner.{Corner}
-use Rattle.vx_merge.specs.Merging.{Passes, IsBarred}
+use Rattle.vx_merge.specs.Merging.{AreCorners, Passes, IsBarred}
 use Rattle.vx_run.specs.declared.stop.Stop.{Stop}
 use Rattle.vx_run.specs.declared.stop.Stop.TheVariants.{Refused, ReadFault, WriteFault, NoMemory}
 use Rattle.vx_run.specs.Change.{Change, Sources, source_at, IsUntouched, HasNoFault, HasFault, Gains, GainsFront}
 use Rattle.vx_run.specs.Conclusion.{Outcome}
 use Rattle.vx_run.specs.Extract.{ok_text}
 use Rattle.vx_run.specs.Grammar.{Placing}
+use Rattle.vx_run.specs.MergeAgain.{IsMergedAgain, IsToldBy, first_of}
 use Rattle.vx_run.specs.Rounds.{Stream, IsRound, NoneRefused, Telling, EndsIn, in_round, stream_refused, WhereAllTold, OfEach, OfAtMost}
 use Rattle.vx_run.specs.Rounds.{IsRead, IsReadOut, IsReadFor, OthersAreRead, AreReadTo, Sees}
 
@@ -39,6 +43,13 @@ AreWritten corners level ss (p ∷ done) =
 -- their bytes
 abbrev pub bytes_of : List Plan → List ℕ
 bytes_of done = written (units_written done)
+
+-- They are read again as the merge of the pictures that these rounds were made of.
+abbrev pub WrittenIsReadAgain : Type 0
+WrittenIsReadAgain =
+    (R : Readers) (corners : List Corner) (level : Option ℕ) (ss : List Stream) (done : List Plan) → AreOfH266 R → AreCorners corners
+    → length corners ≡ length ss → AllByRecursion (IsToldBy R) ss → AreWritten corners level ss done
+    → IsMergedAgain R corners (map (first_of (length done)) ss) (bytes_of done)
 
 -- ---- how a merge ends
 
@@ -104,28 +115,36 @@ pub record GainsInto {K : Type 0} (out : Change K) (done next : List ℕ) : Type
   pub short : length front < length next
   pub gained : Appends (out.bytes out.old) (out.bytes out.new) (done ++ front)
 
--- What it did to them: it writes all rounds before it ends. Behind a failed read of source k it has written those before round n, where n
--- pictures of that source are seen; behind a failed write those before a round, and a front of that; for want of memory the first ones.
+-- `out` gained what is written of these rounds, and it is read again as the merge of these pictures of the sources
+abbrev pub GainsMerge : {K : Type 0} → Readers → List Corner → List (List Picture) → List Plan → Change K → Type 0
+GainsMerge R corners sources done out = Gains out (bytes_of done) × IsMergedAgain R corners sources (bytes_of done)
+
+-- What it did to them: it writes all rounds before it ends, and they are read again, with status 0 as the merge of all pictures of the
+-- sources, and else of their first ones. Behind a failed read of source k it has written those before round n, where n pictures of that
+-- source are seen; behind a failed write those before a round, and a front of that; for want of memory the first ones.
 abbrev pub MergesBy : {A K : Type 0} → Readers → List Corner → Option ℕ → Sources A → Change K → Outcome → Type 0
 MergesBy R corners level sources out (Ok _) =
     OfEach sources IsReadOut × HasNoFault out
-    × WhereAllTold R sources (λ ss. (done : List Plan) × EndsWritten corners level ss done (Ok tt) × Gains out (bytes_of done))
+    × WhereAllTold R sources (λ ss. (done : List Plan) × EndsWritten corners level ss done (Ok tt)
+    × GainsMerge R corners (map (λ s. s.pictures) ss) done out)
 MergesBy R corners level sources out (Err (Refused r place)) =
     (n : ℕ) × AreReadTo R n place sources × HasNoFault out
     × WhereAllTold R sources (λ ss. (done : List Plan) × (length done ≡ n) × EndsWritten corners level ss done (Err (Refused r place))
-    × Gains out (bytes_of done))
+    × GainsMerge R corners (map (first_of (length done)) ss) done out)
 MergesBy R corners level sources out (Err (ReadFault k)) =
     (k < length sources.old) × HasFault (source_at sources k) × HasNoFault out
     × ((n : ℕ) × Sees R (source_at sources k) n × OthersAreRead R n k sources
     × WhereAllTold R sources (λ ss. (done : List Plan) × (length done ≡ n) × AreWritten corners level ss done × NoneRefused k ss n
-    × Gains out (bytes_of done)))
+    × GainsMerge R corners (map (first_of (length done)) ss) done out))
 MergesBy R corners level sources out (Err WriteFault) =
     (n : ℕ) × OfEach sources (IsReadFor R (n + 1)) × HasFault out
     × WhereAllTold R sources (λ ss. (done : List Plan) × (p : Plan) × (length done ≡ n) × AreWritten corners level ss (p ∷ done)
-    × GainsInto out (bytes_of done) (written (units_of p)))
+    × GainsInto out (bytes_of done) (written (units_of p))
+    × IsMergedAgain R corners (map (first_of (length done)) ss) (bytes_of done))
 MergesBy R corners level sources out (Err NoMemory) =
     OfEach sources IsRead × HasNoFault out
-    × WhereAllTold R sources (λ ss. (done : List Plan) × AreWritten corners level ss done × Gains out (bytes_of done))
+    × WhereAllTold R sources (λ ss. (done : List Plan) × AreWritten corners level ss done
+    × GainsMerge R corners (map (first_of (length done)) ss) done out)
 MergesBy R corners level sources out (Err _) = ⊥
 
 -- ---- both

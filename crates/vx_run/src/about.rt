@@ -76,7 +76,7 @@ The letters of the rules:
 pub(crate) fn version() -> &'static [u8]
     ensures { result.now ≡ version_text }
 {
-    b"goosequince 0.1.0\n"
+    b"goosequince 0.2.0\n"
 }
 
 /// Writes a text, and nothing else.

@@ -11,7 +11,7 @@ ghost use Rattle.vx_merge.specs.Merging.{AreCorners, SameTask, Stands};
 ghost use Rattle.vx_run.specs.Change.{change, sources_change};
 ghost use Rattle.vx_run.specs.Conclusion.{IsOfCommand};
 ghost use Rattle.vx_run.specs.Grammar.{texts};
-ghost use Rattle.vx_run.specs.Merge.{ChecksMerge, ChecksMergeBy, Merges, MergesBy, EndsOnce, length_refused, corners_of as corners_by};
+ghost use Rattle.vx_run.specs.Merge.{ChecksMerge, ChecksMergeBy, Merges, MergesBy, EndsOnce, WrittenIsReadAgain, length_refused, corners_of as corners_by};
 ghost use Rattle.vx_run.specs.Rounds.{most_sources};
 ghost use Rattle.vx_run.specs.inner.Advancing.{AdvancesAll, AreWaiting, GoesBy, OfAll};
 ghost use Rattle.vx_run.specs.inner.Merging.{DoesRound, TakesRound, TakesRounds, stop_in};
@@ -22,6 +22,8 @@ use crate::rounds::{MOST_SOURCES, advance_each, feeds_for, going, in_round, one_
 use crate::stop::Stop;
 use crate::words::placing_of;
 use std::alloc::{AllocError, Global};
+use vx_again::{merge_is_read_again, pictures_can_be_merged};
+use vx_annexb::units_can_stand;
 use vx_assemble::Feed;
 use vx_bits::Refusal;
 use vx_bits::rules::LENGTH;
@@ -78,9 +80,19 @@ fn write_rounds<K: Sink>(
     ensures stop { IfErr result IsOfCommand }
     ensures list { vec_len sources.new ≡ vec_len sources.old }
 {
+    merges_read_again();
     let corners = corners_of(alloc, placings)?;
     take_rounds(alloc, Work::Write, level, &corners, sources, out)?;
     Ok(())
+}
+
+/// What is written of rounds is read again.
+fn merges_read_again()
+    ensures { WrittenIsReadAgain }
+{
+    units_can_stand();
+    pictures_can_be_merged();
+    merge_is_read_again();
 }
 
 /// Says how many rounds of pictures the files have that these words place, where they can be written as one stream.

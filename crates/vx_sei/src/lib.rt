@@ -7,8 +7,6 @@
 mod laws;
 mod message;
 mod read;
-#[cfg(test)]
-mod tests;
 mod write;
 
 pub use laws::{carried_is_shorter, sei_ends_in_80, sei_is_unique, written_is_read};

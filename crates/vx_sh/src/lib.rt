@@ -10,10 +10,6 @@ mod read;
 mod reshape;
 mod shape;
 mod tables;
-#[cfg(test)]
-mod tests;
-#[cfg(test)]
-mod tests_whole;
 mod walk;
 mod write;
 

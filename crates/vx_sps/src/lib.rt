@@ -13,10 +13,6 @@ mod shape;
 mod sps;
 mod subpictures;
 mod tables;
-#[cfg(test)]
-mod tests;
-#[cfg(test)]
-mod tests_reshaped;
 mod walk;
 
 pub use laws::{

@@ -2,6 +2,7 @@
 
 use std::alloc::AllocError;
 use std::io;
+use std::num::ParseIntError;
 use thiserror::Error;
 use vx_assemble::FeedFault;
 use vx_bits::{ReadError, Refusal};
@@ -30,14 +31,26 @@ pub(crate) enum LineFault {
     /// The stream has no such set, or no picture header.
     #[error("a set or a picture header that it needs hasn't come")]
     Missing,
+    /// No set can say what it asks.
+    #[error("no set can say what it asks")]
+    Shape,
     /// Its source can't be read on.
     #[error("the stream can't be read on")]
     Stopped,
+    /// Other words stand behind its word than the call takes.
+    #[error("the words behind its word aren't those of a call")]
+    Words,
 }
 
 impl From<AllocError> for LineFault {
     fn from(_error: AllocError) -> LineFault {
         LineFault::Memory
+    }
+}
+
+impl From<ParseIntError> for LineFault {
+    fn from(_error: ParseIntError) -> LineFault {
+        LineFault::Number
     }
 }
 

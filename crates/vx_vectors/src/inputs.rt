@@ -6,7 +6,7 @@ use vx_pic::{AlfInForce, DecodingInput, Place};
 use vx_rpl::RefList;
 
 /// Appends a reference picture list.
-fn write_list(text: &mut String, list: &RefList) -> Result<(), AllocError> {
+pub(crate) fn write_list(text: &mut String, list: &RefList) -> Result<(), AllocError> {
     if list.len() == 0 {
         text.push_str("-")?;
     }

@@ -2,7 +2,8 @@
 ghost use Rattle.std.specs.Prelude.{◌≤◌, ◌^◌, length};
 
 use crate::fault::LineFault;
-use std::alloc::Global;
+use crate::question::Question;
+use std::alloc::{AllocError, Global};
 
 /// How many bytes a line may have: as many as a NAL unit.
 const MOST: usize = 1 << 23;
@@ -65,6 +66,8 @@ pub(crate) enum Line {
     Unit(LineBytes),
     /// The pictures of the stream.
     Pictures,
+    /// More of sets and headers.
+    Question(Box<Question>),
 }
 
 impl Line {
@@ -83,9 +86,22 @@ impl Line {
             "stream" => Ok(Line::Stream(number(rest)?)),
             "unit" => Ok(Line::Unit(LineBytes::parse(alloc, rest)?)),
             "pictures" => Ok(Line::Pictures),
-            _ => Err(LineFault::Word),
+            _ => {
+                let question = Question::parse(alloc, word, rest)?;
+                Ok(Line::Question(boxed(alloc, question)?))
+            }
         }
     }
+}
+
+/// A question in memory of its own.
+fn boxed(alloc: Global, question: Question) -> Result<Box<Question>, AllocError> {
+    Ok(Box::new(alloc, question)?)
+}
+
+/// The first word, and what stands behind the blank that ends it.
+pub(crate) fn first_word(words: &str) -> Result<(&str, &str), LineFault> {
+    words.split_once(' ').ok_or(LineFault::Bytes)
 }
 
 /// A decimal number.

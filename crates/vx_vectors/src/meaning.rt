@@ -20,7 +20,7 @@ fn write_entries(text: &mut String, list: &RefList, in_header: bool) -> Result<(
 }
 
 /// Appends the structures of a list.
-fn write_structures(text: &mut String, list: &StructureList) -> Result<(), AllocError> {
+pub(crate) fn write_structures(text: &mut String, list: &StructureList) -> Result<(), AllocError> {
     if list.len() == 0 {
         text.push_str("-")?;
     }
@@ -58,18 +58,23 @@ fn write_subpictures(text: &mut String, alloc: Global, sps: &Sps) -> Result<(), 
     write!(text, "rects={rects} treated={treated} filtered={filtered}")
 }
 
+/// Appends the picture of a sequence parameter set, and its subpictures.
+pub(crate) fn write_picture(text: &mut String, alloc: Global, sps: &Sps) -> Result<(), AllocError> {
+    let (width, height, ctb, count) = (sps.width(), sps.height(), sps.ctb(), sps.subpics());
+    write!(
+        text,
+        " | width={width} height={height} ctb={ctb} subpics={count} "
+    )?;
+    write_subpictures(text, alloc, sps)
+}
+
 /// Appends what a sequence parameter set tells: its picture, its subpictures, and its structures of reference picture lists.
 pub(crate) fn write_sps_meaning(
     text: &mut String,
     alloc: Global,
     sps: &Sps,
 ) -> Result<(), AllocError> {
-    let (width, height, ctb, count) = (sps.width(), sps.height(), sps.ctb(), sps.subpics());
-    write!(
-        text,
-        " | width={width} height={height} ctb={ctb} subpics={count} "
-    )?;
-    write_subpictures(text, alloc, sps)?;
+    write_picture(text, alloc, sps)?;
     text.push_str(" lists=")?;
     write_structures(text, &sps.table().first)?;
     text.push_str("|")?;

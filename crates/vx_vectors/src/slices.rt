@@ -16,7 +16,11 @@ use vx_ph::{PictureHeader, read_ph};
 use vx_sh::{SliceHeader, SliceNumbers, read_can_be_written, read_sh, write_sh};
 
 /// What is read of a slice header that takes so many bytes.
-fn slice_text(alloc: Global, slice: &SliceHeader, size: usize) -> Result<String, AllocError> {
+pub(crate) fn slice_text(
+    alloc: Global,
+    slice: &SliceHeader,
+    size: usize,
+) -> Result<String, AllocError> {
     let mut text = String::new(alloc);
     let (subpic, address) = (slice.subpic, slice.address);
     write!(

@@ -34,7 +34,7 @@ pub(crate) struct Stream {
 }
 
 /// The number of a field, and 0 where it is absent.
-fn number(fields: &Fields, field: u16) -> u32 {
+pub(crate) fn number(fields: &Fields, field: u16) -> u32 {
     natural(fields.first(field).unwrap_or(0))
 }
 
@@ -138,15 +138,20 @@ impl Stream {
     }
 
     /// The PPS of an id, and the SPS that it refers to.
-    fn sets(&self, pps_id: u32) -> Result<(&Sps, &Pps), LineFault> {
+    pub(crate) fn sets(&self, pps_id: u32) -> Result<(&Sps, &Pps), LineFault> {
         let pps = self.pps.get(&pps_id).ok_or(LineFault::Missing)?;
         let sps_id = number(pps.fields(), pps_seq_parameter_set_id);
         let sps = self.sps.get(&sps_id).ok_or(LineFault::Missing)?;
         Ok((sps, pps))
     }
 
+    /// The picture header that came last.
+    pub(crate) fn header(&self) -> Result<&PictureHeader, LineFault> {
+        self.header.as_ref().ok_or(LineFault::Missing)
+    }
+
     /// What the PPS of an id and its SPS make up.
-    fn frame(&self, alloc: Global, pps_id: u32) -> Result<Frame<'_>, LineFault> {
+    pub(crate) fn frame(&self, alloc: Global, pps_id: u32) -> Result<Frame<'_>, LineFault> {
         let (sps, pps) = self.sets(pps_id)?;
         Ok(frame_of(alloc, sps, pps)?)
     }
@@ -171,9 +176,7 @@ impl Stream {
             let frame = self.frame(alloc, u32::from(id))?;
             return answer_inside(alloc, nal_type, rbsp, &frame);
         }
-        let Some(header) = &self.header else {
-            return Err(LineFault::Missing);
-        };
+        let header = self.header()?;
         let frame = self.frame(alloc, number(&header.fields, ph_pic_parameter_set_id))?;
         answer_apart(alloc, nal_type, rbsp, &frame, header)
     }

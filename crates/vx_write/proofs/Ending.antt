@@ -1,5 +1,5 @@
 -- The spelling of a set ends in rbsp_trailing_bits( ), so that its last byte isn't 00, and units can be made of it.
-use Rattle.std.proofs.Common.{ℕ, zero, suc, ◌+◌, ◌<◌, List, [], ◌∷◌, length, Some, refl, sym, subst, arith}
+use Rattle.std.proofs.Common.{ℕ, zero, suc, ◌<◌, List, [], ◌∷◌, length, Some, refl, sym, subst, arith}
 use Rattle.vx_bits.specs.Codes.{EndsInNoZero}
 use Rattle.vx_bits.specs.declared.list.Item.{Item}
 use Rattle.vx_table.specs.Trailing.{EndsWithStop}

@@ -1,4 +1,4 @@
-use Rattle.std.proofs.Common.{◌<◌, length, map, arith, refl, None}
+use Rattle.std.proofs.Common.{◌<◌, length, map, arith, refl}
 use Rattle.vx_run.specs.Grammar.{show, extract, check_extract, merge, check_merge, verify, help, version, texts}
 use Rattle.vx_run.specs.inner.Placings.{placing_in}
 use Rattle.vx_run.proofs.Performing.{names-file, performs, performs-show, performs-extract, performs-check, merge_count, verify_count}

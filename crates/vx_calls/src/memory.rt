@@ -1,0 +1,128 @@
+//! Sources and sinks in memory.
+
+use crate::reader::calls_of;
+use crate::words::{bytes_of, numbers_of, push_bytes, push_gap};
+use anyhow::{Context, Result, bail};
+use std::alloc::{AllocError, Global};
+use vx_io::{ClosedSource, GrowSink, MemorySink, MemorySource, Sink, Source, read_at, write_all};
+
+/// The most bytes that are read at once.
+const MOST_ROOM: usize = 64;
+
+/// - `source PIECES FAILING BYTES K:ROOM ..` makes reads of two sources, each into so much room: 0 is closed, and 1 gives these bytes in
+///   pieces of these sizes in turn, and its calls of these numbers fail. It tells the bytes of each read.
+/// - `sink ROOM PIECES FAILING BYTES ..` writes to a sink with this room, that takes pieces of these sizes in turn, and whose calls of
+///   these numbers fail. It tells how many bytes each call takes, for `all:BYTES` whether all are written, and the bytes in the end.
+/// - `grow BYTES ..` writes to a sink that grows, and tells the same of it.
+pub(crate) fn answer(alloc: Global, verb: &str, words: &[&str]) -> Result<String> {
+    match (verb, words) {
+        ("source", [pieces, failing, bytes, reads @ ..]) => {
+            source_text(alloc, source_of(alloc, pieces, failing, bytes)?, reads)
+        }
+        ("sink", [room, pieces, failing, writes @ ..]) => {
+            sink_text(alloc, sink_of(alloc, room, pieces, failing)?, writes)
+        }
+        ("grow", writes) => grown_text(alloc, writes),
+        _ => bail!("no such call of a source or a sink"),
+    }
+}
+
+fn source_of(alloc: Global, pieces: &str, failing: &str, bytes: &str) -> Result<MemorySource> {
+    let (pieces, failing) = (numbers_of(alloc, pieces)?, calls_of(alloc, failing)?);
+    Ok(MemorySource::new(bytes_of(alloc, bytes)?, pieces, failing))
+}
+
+fn sink_of(alloc: Global, room: &str, pieces: &str, failing: &str) -> Result<MemorySink> {
+    let (pieces, failing) = (numbers_of(alloc, pieces)?, calls_of(alloc, failing)?);
+    Ok(MemorySink::new(alloc, room.parse::<usize>()?, pieces, failing)?)
+}
+
+/// A closed source and this one.
+fn two_sources(alloc: Global, source: MemorySource) -> Result<Vec<Box<dyn Source>>, AllocError> {
+    let mut sources: Vec<Box<dyn Source>> = Vec::new(alloc);
+    sources.push(Box::new(alloc, ClosedSource::new())?)?;
+    sources.push(Box::new(alloc, source)?)?;
+    Ok(sources)
+}
+
+/// What reads of a closed source and of this one give.
+fn source_text(alloc: Global, source: MemorySource, reads: &[&str]) -> Result<String> {
+    let mut sources = two_sources(alloc, source)?;
+    let mut text = String::new(alloc);
+    for read in reads {
+        let (at, room) = read.split_once(':').context("no room")?;
+        tell_read(
+            &mut text,
+            &mut sources,
+            at.parse::<usize>()?,
+            room.parse::<usize>()?,
+        )?;
+    }
+    Ok(text)
+}
+
+/// Tells what a read of a source of a list gives.
+fn tell_read(
+    text: &mut String,
+    sources: &mut Vec<Box<dyn Source>>,
+    at: usize,
+    room: usize,
+) -> Result<()> {
+    if at >= sources.len() || room > MOST_ROOM {
+        bail!("no such read");
+    }
+    push_gap(text)?;
+    let mut buffer = [0; MOST_ROOM];
+    match read_at(sources, at, &mut buffer[..room]) {
+        Ok(count) => push_bytes(text, &buffer[..count])?,
+        Err(_) => text.push_str("failed")?,
+    }
+    Ok(())
+}
+
+/// What writes to a sink come to, and its bytes in the end.
+fn sink_text(alloc: Global, mut sink: MemorySink, writes: &[&str]) -> Result<String> {
+    let mut text = String::new(alloc);
+    tell_writes(alloc, &mut text, &mut sink, writes)?;
+    push_bytes(&mut text, sink.bytes())?;
+    Ok(text)
+}
+
+/// What writes to a sink that grows come to, and its bytes in the end.
+fn grown_text(alloc: Global, writes: &[&str]) -> Result<String> {
+    let mut sink = GrowSink::new(alloc);
+    let mut text = String::new(alloc);
+    tell_writes(alloc, &mut text, &mut sink, writes)?;
+    push_bytes(&mut text, sink.bytes())?;
+    Ok(text)
+}
+
+/// Tells what writes come to, with a blank behind each.
+fn tell_writes<K: Sink>(
+    alloc: Global,
+    text: &mut String,
+    sink: &mut K,
+    writes: &[&str],
+) -> Result<()> {
+    for write in writes {
+        match taken(alloc, sink, write)? {
+            Some(count) => write!(text, "{count} ")?,
+            None => text.push_str("failed ")?,
+        }
+    }
+    Ok(())
+}
+
+/// How many bytes a write takes, where it doesn't fail.
+fn taken<K: Sink>(alloc: Global, sink: &mut K, write: &str) -> Result<Option<usize>> {
+    match write.strip_prefix("all:") {
+        Some(bytes) => Ok(write_whole(sink, &bytes_of(alloc, bytes)?)),
+        None => Ok(sink.write(&bytes_of(alloc, write)?).ok()),
+    }
+}
+
+/// The number of bytes, where all of them are written.
+fn write_whole<K: Sink>(sink: &mut K, bytes: &[u8]) -> Option<usize> {
+    write_all(sink, bytes).ok()?;
+    Some(bytes.len())
+}

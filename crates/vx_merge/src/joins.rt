@@ -1,0 +1,49 @@
+//! The rule on pictures that are joined behind others.
+ghost use Rattle.std.specs.Prelude.{◌≡◌, ◌≤◌, ◌∷◌, [], length};
+ghost use Rattle.std.specs.Bool.{OnTrue, OnFalse};
+ghost use Rattle.vx_fit.specs.Lowest.{IsLowestAnswer};
+ghost use Rattle.vx_merge.specs.Joins as words;
+ghost use Rattle.vx_merge.specs.Joins.{CanStart};
+ghost use Rattle.vx_merge.specs.inner.Found.{Finds};
+
+use crate::told::of_source;
+use vx_bits::Refusal;
+use vx_bits::rules::JOIN_START;
+use vx_fields::ph::ph_non_ref_pic_flag;
+use vx_pic::{Picture, number_of};
+
+/// Whether a picture may come first behind a join.
+fn can_start(picture: &Picture<'_>) -> bool
+    ensures can { OnTrue result (CanStart picture.now) }
+    ensures cannot { OnFalse result (¬ CanStart picture.now) }
+{
+    let kind = picture.kind();
+    if !kind.clvss {
+        return false;
+    }
+    if kind.temporal_id != 0 {
+        return false;
+    }
+    number_of(&picture.header().fields, ph_non_ref_pic_flag) == 0
+}
+
+/// The lowest source whose picture may not.
+fn lowest_unable(round: &[Picture<'_>]) -> Option<u16>
+    requires { length round.now ≤ 64 }
+    ensures { IsLowestAnswer (length round.now) (words.join_start round.now).breaks result }
+{
+    for k in 0..round.len() {
+        if !can_start(&round[k]) {
+            return Some(k as u16);
+        }
+    }
+    None
+}
+
+/// Whether the pictures of a round can't be joined behind others.
+pub(crate) fn join_start(round: &[Picture<'_>]) -> Option<Refusal>
+    requires { length round.now ≤ 64 }
+    ensures { Finds (length round.now) (words.join_start round.now ∷ []) result }
+{
+    of_source(JOIN_START, lowest_unable(round))
+}

@@ -1,0 +1,214 @@
+-- No spelling of a picture header is long.
+use Rattle.std.proofs.Common.{◌≡◌, ℕ, ℤ, pos, negsuc, zero, suc, ◌+◌, ◌≤◌, ◌==◌, ◌||◌, Bool, true, nat_lt, List, [], ◌∷◌, length, get_or, replicate, slice_get, slice_index, slice_set, take, Option, None, Some, refl, ap, sym, subst, ◌∙◌, inl, inr, arith}
+use Rattle.std.specs.Prelude.{All, filter}
+use Rattle.std.proofs.lemmas.Bool.{and_parts, cases_Bool, cases_eq, cases_lt, eqb-true, ltb-true, or_cases}
+use Rattle.std.proofs.lemmas.Grind.{get_or-set_at}
+use Rattle.std.proofs.lemmas.List.{get_or-set_other, length-append, length-replicate, length-set, length-take}
+use Rattle.std.proofs.lemmas.List.Elements.{All-cons, All-head, All-nil, All-tail}
+use Rattle.vx_bits.specs.declared.list.Item.{Item}
+use Rattle.vx_bits.proofs.Bits.{length-bits_of}
+use Rattle.vx_table.specs.declared.rows.Coding.TheVariants.{Trailing}
+use Rattle.vx_table.specs.declared.rows.Formula.TheVariants.{Plain}
+use Rattle.vx_table.specs.declared.rows.Presence.TheVariants.{When}
+use Rattle.vx_table.specs.declared.rows.Term.TheVariants.{Latest}
+use Rattle.vx_table.specs.Depends.{set_of, with_all, Agree}
+use Rattle.vx_table.specs.Forms.{◌>>=◌, after, coding_at, form_of, has_value, limits_at, one_field, part}
+use Rattle.vx_table.specs.Parts.{sections_form}
+use Rattle.vx_table.specs.Scope.{fresh, loaded, most, natural}
+use Rattle.vx_table.specs.Sizes.{IsShort, IsWithin, code_bits, greatest, greatest_coded, greatest_ranged, greatest_value, most_turns, part_bits, presence_keeps, row_keeps, sections_bits, table_bits}
+use Rattle.vx_table.specs.Values.{Follows, bits_along, through, to_end}
+use Rattle.vx_table.specs.Spelling.{code_of}
+use Rattle.vx_table.proofs.Again.{follows_again}
+use Rattle.vx_table.specs.Loaded.{number}
+use Rattle.vx_table.proofs.Loading.{no_number, set_below}
+use Rattle.vx_table.proofs.Joined.{bits_joined, parted}
+use Rattle.vx_table.proofs.Sizes.{coded_most, fresh_within, sections_are_short, short_present, short_then, spelling_weaker, within_set}
+use Rattle.vx_fields.specs.declared.names.ph.TheConstants.{EXTRA_PH_BITS, HAS_WEIGHTS}
+use Rattle.vx_fields.specs.declared.pps.TheConstants.{pps_pic_parameter_set_id, pps_rpl_info_in_ph_flag}
+use Rattle.vx_fields.specs.declared.rpl.TheConstants.{num_ref_entries}
+use Rattle.vx_fields.specs.declared.sps.TheConstants.{sps_num_ref_pic_lists}
+use Rattle.vx_rpl.specs.declared.entry.RplTable.{RplTable}
+use Rattle.vx_rpl.specs.declared.entry.Structure.{Structure}
+use Rattle.vx_rpl.specs.Resolved.{behind_second, entries_from, is_of_table, past, second_or_first, structure_of, structures_behind, structures_from, table_of}
+use Rattle.vx_rpl.specs.Lists.{lists_form, weights, weights_form}
+use Rattle.vx_sps.specs.Set.{is_weighted}
+use Rattle.vx_pps.proofs.Fields.{all_pass, named, passes}
+use Rattle.vx_ph.specs.declared.tables.TheConstants.{TRAILING}
+use Rattle.vx_ph.specs.Depends.{all_of_sets, of_header}
+use Rattle.vx_ph.specs.Header.{back, before_weights, front, header_form, lists_if_present, middle, weights_if_present}
+use Rattle.vx_ph.specs.Picture.{unit_form}
+use Rattle.vx_ph.specs.Sizes.{AreFew, SetsAreBounded, SpellingIsShort}
+use Rattle.vx_ph.proofs.Carrying.{all_depend}
+use Rattle.vx_ph.proofs.Passing.{shows_all}
+use Rattle.vx_ph.proofs.Sets.{in_force_length, of_extra, of_pps, of_sps}
+use Rattle.vx_ph.proofs.ShortLists.{bounds, lists_few}
+
+-- ---- a header at a scope whose numbers keep the bounds
+
+front_few : (s : List ℕ) → IsWithin bounds s → IsShort bounds 3000 (sections_form front s)
+unfolding table_bits part_bits most_turns code_bits row_keeps presence_keeps greatest_coded greatest_ranged greatest_value has_value
+front_few s within = spelling_weaker (sections_form front s) (λ k u. (k ≤ sections_bits bounds front) × IsWithin bounds u) (λ k u. (k ≤ 3000) × IsWithin bounds u)
+    (sections_are_short bounds front s refl within) (λ k u few. (let less = few.0 in omega (arith, less), few.1))
+
+middle_few : (s : List ℕ) → IsWithin bounds s → IsShort bounds 3000 (sections_form middle s)
+unfolding table_bits part_bits most_turns code_bits row_keeps presence_keeps greatest_coded greatest_ranged greatest_value has_value
+middle_few s within = spelling_weaker (sections_form middle s) (λ k u. (k ≤ sections_bits bounds middle) × IsWithin bounds u) (λ k u. (k ≤ 3000) × IsWithin bounds u)
+    (sections_are_short bounds middle s refl within) (λ k u few. (let less = few.0 in omega (arith, less), few.1))
+
+back_few : (s : List ℕ) → IsWithin bounds s → IsShort bounds 4000 (sections_form back s)
+unfolding table_bits part_bits most_turns code_bits row_keeps presence_keeps greatest_coded greatest_ranged greatest_value has_value
+back_few s within = spelling_weaker (sections_form back s) (λ k u. (k ≤ sections_bits bounds back) × IsWithin bounds u) (λ k u. (k ≤ 4000) × IsWithin bounds u)
+    (sections_are_short bounds back s refl within) (λ k u few. (let less = few.0 in omega (arith, less), few.1))
+
+pub weights_few : (s : List ℕ) → IsWithin bounds s → IsShort bounds 20000 (weights_form s)
+unfolding table_bits part_bits most_turns code_bits row_keeps presence_keeps greatest_coded greatest_ranged greatest_value has_value
+weights_few s within = spelling_weaker (sections_form weights s) (λ k u. (k ≤ sections_bits bounds weights) × IsWithin bounds u) (λ k u. (k ≤ 20000) × IsWithin bounds u)
+    (sections_are_short bounds weights s refl within) (λ k u few. (let less = few.0 in omega (arith, less), few.1))
+
+header_few : (table : RplTable) (s : List ℕ) → AreFew table.first → AreFew table.second → IsWithin bounds s → IsShort bounds 46200 (header_form table s)
+unfolding header_form before_weights presence_keeps most_turns
+header_few table s first second within =
+    short_then bounds (before_weights table s >>= weights_if_present) (sections_form back) 42200 4000
+    (short_then bounds (before_weights table s) weights_if_present 22200 20000
+    (short_then bounds (sections_form front s >>= lists_if_present table) (sections_form middle) 19200 3000
+    (short_then bounds (sections_form front s) (lists_if_present table) 3000 16200 (front_few s within)
+    (λ t there. short_present bounds (When (Plain (Latest pps_rpl_info_in_ph_flag))) (lists_form table) 16200 t refl there (λ u at. lists_few table u first second at)))
+    middle_few)
+    (λ t there. short_present bounds (When (Plain (Latest HAS_WEIGHTS))) weights_form 20000 t refl there weights_few))
+    back_few
+
+-- what ends a unit
+trailing_few : (s : List ℕ) (values : List ℤ) (end : List ℕ) (place : ℕ) → Follows (form_of TRAILING s) values end → length (bits_along (form_of TRAILING s) place values) ≤ 8
+unfolding form_of part one_field coding_at limits_at after has_value
+trailing_few s values end place (through {v} value to_end) = let few = coded_most Trailing place v in omega (arith, few, length-append (code_of Trailing place v) [])
+
+-- ---- a scope that has some numbers alone
+
+copied : List ℕ → List ℕ → List ℕ
+copied s [] = fresh
+copied s (n ∷ names) = slice_set (copied s names) n (slice_index s n)
+
+copied_length : (s names : List ℕ) → length (copied s names) ≡ 1024
+unfolding copied fresh
+copied_length s [] = length-replicate {A = ℕ} 1024 0
+copied_length s (n ∷ names) = length-set (copied s names) n (slice_index s n) ∙ copied_length s names
+
+copied_same : (s names : List ℕ) → passes (λ n. nat_lt n 1024) names ≡ true → All (λ n. slice_index (copied s names) n ≡ slice_index s n) names
+unfolding copied
+copied_same s [] small = All-nil (λ n. slice_index (copied s []) n ≡ slice_index s n)
+copied_same s (n ∷ names) small =
+    let parts = and_parts (nat_lt n 1024) (passes (λ m. nat_lt m 1024) names) small in
+    let rest = copied_same s names parts.1 in
+    let low = ltb-true n 1024 parts.0 in
+    All-cons (λ m. slice_index (copied s (n ∷ names)) m ≡ slice_index s m) n names
+    (get_or-set_at (copied s names) n n (slice_index s n) 0 refl (omega (arith, low, copied_length s names)))
+    (λ k d short. elim (cases_eq (get_or names k d) n) [
+      | inl is ↦ get_or-set_at (copied s names) n (get_or names k d) (slice_index s n) 0 is (omega (arith, low, copied_length s names)) ∙ ap (slice_index s) (sym is)
+      | inr other ↦ get_or-set_other (copied s names) n (get_or names k d) (slice_index s n) 0 other ∙ rest k d short
+    ])
+
+copied_within : (s names : List ℕ) → All (λ n. slice_index s n ≤ greatest bounds n) names → IsWithin bounds (copied s names)
+unfolding copied
+copied_within s [] few = fresh_within bounds
+copied_within s (n ∷ names) few =
+    within_set bounds (copied s names) n (slice_index s n) (copied_within s names (All-tail (λ m. slice_index s m ≤ greatest bounds m) n names few)) (All-head (λ m. slice_index s m ≤ greatest bounds m) n names few)
+
+-- ---- at any scope
+
+keeps_bound : (s : List ℕ) → slice_index s EXTRA_PH_BITS ≤ 32 → ((n : ℕ) → slice_index s n ≤ most) → (n : ℕ) → (n == EXTRA_PH_BITS || greatest bounds n == most) ≡ true → slice_index s n ≤ greatest bounds n
+keeps_bound s extra numbers n test = elim (or_cases (n == EXTRA_PH_BITS) (greatest bounds n == most) test) [
+  | inl is ↦ subst (λ m. slice_index s m ≤ greatest bounds m) (sym (eqb-true n EXTRA_PH_BITS is)) extra
+  | inr free ↦ let same = eqb-true (greatest bounds n) most free in let low = numbers n in omega (arith, same, low)
+]
+
+pub spelling_is_short : SpellingIsShort
+unfolding fresh unit_form
+spelling_is_short table s header bytes few u =
+    let t : List ℕ = copied s all_of_sets in
+    let same = copied_same s all_of_sets refl in
+    let agree : Agree (set_of all_of_sets) s t = record {
+      size = few.long ∙ sym (copied_length s all_of_sets);
+      same = λ n there. sym (named (λ m. slice_index t m ≡ slice_index s m) all_of_sets n same there);
+    } in
+    let within : IsWithin bounds t = copied_within s all_of_sets (all_pass (λ n. n == EXTRA_PH_BITS || greatest bounds n == most) (λ n. slice_index s n ≤ greatest bounds n) (keeps_bound s few.extra few.numbers) all_of_sets refl) in
+    let p = parted (header_form table s) (form_of TRAILING) u.follows in
+    let shown = with_all (set_of all_of_sets) of_header in
+    let all = shows_all table in
+    let again = follows_again shown (set_of all_of_sets) (header_form table s) (header_form table t) p.front p.mid ((all_depend table).alike s t agree) (all.at s) (all.at t) p.first in
+    let less = ((header_few table t few.first few.second within).at 0 p.front again.last again.follows).0 in
+    let front_bits : List Bool = bits_along (header_form table s) 0 p.front in
+    let last = trailing_few p.mid p.others u.end (0 + length front_bits) p.second in
+    let bits = u.bits ∙ ap (λ w. bits_along (unit_form table s) 0 w) p.all ∙ bits_joined (form_of TRAILING) 0 p.others p.first in
+    let same_bits : length (bits_along (header_form table t) 0 p.front) ≡ length front_bits = ap length (again.bits 0) in
+    omega (arith, less, last, same_bits, ap length bits, length-append front_bits (bits_along (form_of TRAILING p.mid) (0 + length front_bits) p.others), length-bits_of bytes)
+
+-- ---- sets
+
+-- the numbers of items have 32 bits
+natural_low : (v : ℤ) → natural v ≤ most
+unfolding natural
+natural_low (pos n) = omega arith
+natural_low (negsuc n) = omega arith
+
+loaded_low : (s : List ℕ) (items : List Item) (of : ℕ) → slice_index s of ≤ most → slice_index (loaded s items) of ≤ most
+loaded_low s [] of low = low
+loaded_low s (item ∷ items) of low =
+    let here = natural_low item.value in
+    let set = set_below s item.field of (natural item.value) 4294967296 (λ same. omega (arith, here)) (omega (arith, low)) in
+    loaded_low (slice_set s item.field (natural item.value)) items of (omega (arith, set))
+
+number_low : (items : List Item) (of : ℕ) → number items of ≤ most
+unfolding fresh
+number_low items of = loaded_low (replicate 1024 0) items of (let none = no_number 1024 of in omega (arith, none))
+
+-- structures that items tell
+few_more : (y : Structure) (xs : List Structure) → length y.entries ≤ 29 → ((k : ℕ) (x : Structure) → slice_get xs k ≡ Some x → length x.entries ≤ 29)
+    → (k : ℕ) (x : Structure) → slice_get (y ∷ xs) k ≡ Some x → length x.entries ≤ 29
+few_more y xs here rest zero x is = let same : y ≡ x = cc in subst (λ (z : Structure). length z.entries ≤ 29) same here
+few_more y xs here rest (suc k) x is = rest k x is
+
+no_structure : (k : ℕ) (x : Structure) → slice_get {X = Structure} [] k ≡ Some x → ⊥
+no_structure k x is = cc
+
+few_told : (weighted : Bool) (items : List Item) (k : ℕ) (x : Structure) → slice_get (structures_from weighted items) k ≡ Some x → length x.entries ≤ 29
+few_told weighted [] k x is = absurd (no_structure k x is)
+few_told weighted (item ∷ items) k x is = elim (cases_Bool (item.field == sps_num_ref_pic_lists)) [
+  | inl ends ↦ absurd (no_structure k x (rw ends at is))
+  | inr goes_on ↦ elim (cases_Bool (item.field == num_ref_entries)) [
+    | inl begins ↦ few_more (structure_of weighted items) (structures_from weighted items) (omega (arith, length-take 29 (entries_from weighted 0 items))) (few_told weighted items) k x (rw (goes_on, begins) at is)
+    | inr passes_on ↦ few_told weighted items k x (rw (goes_on, passes_on) at is)
+  ]
+]
+
+first_few : (found : List Structure) (n : ℕ) → ((k : ℕ) (x : Structure) → slice_get found k ≡ Some x → length x.entries ≤ 29) → (k : ℕ) (x : Structure) → slice_get (take n found) k ≡ Some x → length x.entries ≤ 29
+first_few found zero few k x is = absurd (no_structure k x is)
+first_few [] (suc n) few k x is = absurd (no_structure k x is)
+first_few (y ∷ found) (suc n) few k x is = few_more y (take n found) (few 0 y refl) (first_few found n (λ i z at. few (suc i) z at)) k x is
+
+behind_few : (weighted : Bool) (found : Option (List Item)) → AreFew (structures_behind weighted found)
+behind_few weighted None = record { count = omega arith; each = λ k x is. absurd (no_structure k x is) }
+behind_few weighted (Some items) = record {
+  count = omega (arith, length-take 64 (structures_from weighted items));
+  each = first_few (structures_from weighted items) 64 (few_told weighted items);
+}
+
+second_few : (weighted : Bool) (items : List Item) (found : Option (List Item)) → AreFew (second_or_first weighted items found)
+second_few weighted items None = behind_few weighted (past sps_num_ref_pic_lists items)
+second_few weighted items (Some others) = behind_few weighted (Some others)
+
+pub sets_are_bounded : SetsAreBounded
+unfolding table_of
+sets_are_bounded sps pps extra =
+    let told = filter is_of_table sps in record {
+      long = in_force_length sps pps;
+      numbers = λ n. elim (cases_lt n pps_pic_parameter_set_id) [
+        | inl below ↦ let is = of_sps sps pps n below in let low = number_low sps n in omega (arith, is, low)
+        | inr above ↦ elim (cases_eq n EXTRA_PH_BITS) [
+          | inl bits ↦ rw bits (let is = of_extra sps pps in omega (arith, is, extra))
+          | inr other ↦ let is = of_pps sps pps n above other in let low = number_low pps n in omega (arith, is, low)
+        ]
+      ];
+      extra = let is = of_extra sps pps in omega (arith, is, extra);
+      first = behind_few (is_weighted sps) (past sps_num_ref_pic_lists told);
+      second = second_few (is_weighted sps) told (behind_second (past sps_num_ref_pic_lists told));
+    }

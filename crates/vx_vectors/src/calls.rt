@@ -1,0 +1,63 @@
+//! Lines that ask about a call of a library by itself, each by a word and what the call is given.
+//!
+//! - `structures WEIGHTED ITEMS`: the structures of reference picture lists that items of an SPS tell.
+//! - `structure NUMBERS INDEX,COUNT BYTES`: a structure that is read; NUMBERS are four, as `RplNumbers` has them.
+//! - `spell NUMBERS ITEMS`: a structure that is written.
+//! - `lists NUMBERS ITEMS BYTES`: the two lists of a header, under the structures that items of an SPS tell.
+//! - `weights NUMBERS BYTES`: prediction weights; NUMBERS are seven, as `WeightNumbers` has them.
+//! - `ptl SUBLAYER BYTES`, `dpb SUBLAYER,EACH BYTES`, `timing SUBLAYER,EACH BYTES`: structures of levels, DPBs and timing, up to that
+//!   highest sublayer; and `levels`: whether their tables keep no field.
+//! - `count BITS,LSB CYCLE CLVSS LSB POC`: a picture order count behind that of a previous picture, with a cycle or `-`.
+//! - `differ ITEM ADDRESS BYTES ITEM ADDRESS BYTES`: where two decoding inputs differ.
+//! - `feed PIECE CALLS BYTES`: what a feed answers over bytes that come in such pieces; CALLS fail, or `-` for none.
+//! - `unit-line`, `picture-line` and `refusal-line`: lines that the program prints.
+//!
+//! Items stand as `179=64;301=1,304=0,305=1*64`.
+
+use crate::counts::answer_count;
+use crate::differences::answer_differ;
+use crate::fault::LineFault;
+use crate::feeds::answer_feed;
+use crate::levels::{answer_dpb, answer_levels, answer_ptl, answer_timing};
+use crate::lines::{answer_picture_line, answer_refusal_line, answer_unit_line};
+use crate::lists::{
+    answer_lists, answer_spell, answer_structure, answer_structures, answer_weights,
+};
+use std::alloc::Global;
+
+/// The answer to the call of a name with these words.
+///
+/// # Errors
+///
+/// `Word` where there is no such call; else as the call has it.
+fn answer_call(alloc: Global, name: &str, words: &[&str]) -> Result<String, LineFault> {
+    match name {
+        "structures" => answer_structures(alloc, words),
+        "structure" => answer_structure(alloc, words),
+        "spell" => answer_spell(alloc, words),
+        "lists" => answer_lists(alloc, words),
+        "weights" => answer_weights(alloc, words),
+        "ptl" => answer_ptl(alloc, words),
+        "dpb" => answer_dpb(alloc, words),
+        "timing" => answer_timing(alloc, words),
+        "levels" => answer_levels(alloc),
+        "count" => answer_count(alloc, words),
+        "differ" => answer_differ(alloc, words),
+        "feed" => answer_feed(alloc, words),
+        "unit-line" => answer_unit_line(alloc, words),
+        "picture-line" => answer_picture_line(alloc, words),
+        "refusal-line" => answer_refusal_line(alloc, words),
+        _ => Err(LineFault::Word),
+    }
+}
+
+/// What is told of the call that a line asks about; none where its word is none of these.
+pub(crate) fn told_of_call(alloc: Global, line: &str) -> Result<Option<String>, LineFault> {
+    let (name, rest) = line.split_once(' ').unwrap_or((line, ""));
+    let words: Vec<&str> = rest.split(' ').collect(alloc)?;
+    match answer_call(alloc, name, &words) {
+        Ok(text) => Ok(Some(text)),
+        Err(LineFault::Word) => Ok(None),
+        Err(fault) => Err(fault),
+    }
+}

@@ -1,0 +1,284 @@
+//! Picture parameter sets that are rewritten so that they say what others say.
+ghost use Rattle.std.specs.Prelude.{◌≡◌, ℕ, ◌+◌, ◌<◌, ◌≤◌, ◌≤ℤ◌, ◌^◌, pos, neg_ℤ, IfOk, IfSome, Ok, length};
+ghost use Rattle.std.specs.Bool.{OnTrue};
+ghost use Rattle.std.specs.Int.{div_ceil};
+ghost use Rattle.vx_layout.specs.Bounds.{last};
+ghost use Rattle.vx_layout.specs.Layouts.{HasLayout};
+ghost use Rattle.vx_layout.specs.Shapes.{AreListable};
+ghost use Rattle.vx_pic.specs.PictureLayout.{AnswersLayout};
+ghost use Rattle.vx_pps.specs.Laws.{picture_of};
+ghost use Rattle.vx_pps.specs.Reshaped.{CanBeDivided, IsSize};
+
+use crate::fault::LineFault;
+use crate::frame::{Frame, frame_of};
+use crate::reshaped_sps::{reshaped_text, small};
+use std::alloc::Global;
+use vx_fields::pps::{
+    pps_init_qp_minus26, pps_loop_filter_across_slices_enabled_flag,
+    pps_loop_filter_across_tiles_enabled_flag, pps_pic_parameter_set_id, pps_seq_parameter_set_id,
+    pps_subpic_id, pps_subpic_id_len_minus1, pps_subpic_id_mapping_present_flag,
+};
+use vx_layout::{Bounds, RectList, region_is_layout, region_is_listable};
+use vx_pps::{Pps, PpsShape, Tiles, read_pps, read_slices_are_listable, reshape_pps, write_pps};
+use vx_sps::{Sps, read_sps};
+
+/// Tiles and slices of a picture.
+#[derive(Drop)]
+struct Division {
+    tiles: Tiles,
+    slices: RectList,
+}
+
+/// The tiles and slices of the only subpicture of a picture whose PPS lists its slices.
+///
+/// # Errors
+///
+/// Where there are several subpictures, or the PPS lists no slices; want of memory.
+fn division_of(alloc: Global, like: &Frame<'_>) -> Result<Division, LineFault>
+    requires { AnswersLayout like.now.sps.now like.now.pps.now (Ok like.now.layout) }
+    ensures layout { IfOk result (λ d. HasLayout (picture_of d.tiles d.slices)) }
+    ensures listable { IfOk result (λ d. AreListable d.tiles.columns d.tiles.rows d.slices) }
+{
+    read_slices_are_listable();
+    region_is_layout();
+    region_is_listable();
+    let _set = like.pps.fields();
+    if like.ids.len() != 1 {
+        return Err(LineFault::Shape);
+    }
+    if !like.pps.partitioned() {
+        return Err(LineFault::Shape);
+    }
+    let Some(_slices) = like.pps.slices() else {
+        return Err(LineFault::Shape);
+    };
+    let region = like.layout.region(alloc, 0)?;
+    Ok(Division {
+        tiles: Tiles {
+            columns: region.columns,
+            rows: region.rows,
+        },
+        slices: region.slices,
+    })
+}
+
+/// The bits of the id of the one subpicture, less 1, and the id, where a set has it.
+fn id_of(pps: &Pps) -> Option<(u32, u32)> {
+    let numbers = pps.scope();
+    if numbers.latest(pps_subpic_id_mapping_present_flag) == 0 {
+        return None;
+    }
+    let bits = numbers.latest(pps_subpic_id_len_minus1);
+    Some((bits, numbers.latest(pps_subpic_id)))
+}
+
+/// The QP from which slices differ, less 26.
+fn init_qp(pps: &Pps) -> Result<i32, LineFault> {
+    let value = pps.fields().first(pps_init_qp_minus26).unwrap_or(0);
+    i32::try_from(value).map_err(|_| LineFault::Shape)
+}
+
+/// What the PPS of others says, with these tiles and slices.
+///
+/// # Errors
+///
+/// Where no set can say it.
+fn shape_of(like: &Frame<'_>, division: Division, merged: bool) -> Result<PpsShape, LineFault>
+    ensures tiles { IfOk result (λ shape. shape.tiles ≡ division.tiles) }
+    ensures slices { IfOk result (λ shape. shape.slices ≡ division.slices) }
+    ensures merged { IfOk result (λ shape. shape.merged ≡ merged) }
+{
+    let pps = like.pps;
+    let numbers = pps.scope();
+    Ok(PpsShape {
+        id: small(numbers.latest(pps_pic_parameter_set_id))?,
+        sps_id: small(numbers.latest(pps_seq_parameter_set_id))?,
+        width: pps.width(),
+        height: pps.height(),
+        ctb: like.sps.ctb(),
+        subpic_id: id_of(pps),
+        tiles: division.tiles,
+        slices: division.slices,
+        across_tiles: numbers.latest(pps_loop_filter_across_tiles_enabled_flag) != 0,
+        across_slices: numbers.latest(pps_loop_filter_across_slices_enabled_flag) != 0,
+        init_qp: init_qp(pps)?,
+        merged,
+    })
+}
+
+/// Whether a picture can be so wide or high, in luma samples.
+fn is_size(size: u32) -> bool
+    ensures { OnTrue result (IsSize size) }
+{
+    0 < size && size <= 16384 && size % 8 == 0
+}
+
+/// Whether an id has so many bits, less 1, as are said.
+fn is_id(id: Option<(u32, u32)>) -> bool
+    ensures { OnTrue result (IfSome id (λ (bits, id). (bits ≤ 15) × (id < 2 ^ (bits + 1)))) }
+{
+    match id {
+        Some((bits, id)) => bits <= 15 && id < 1 << (bits + 1),
+        None => true,
+    }
+}
+
+/// Whether a set can have the ids, the size and the QP of a shape.
+fn has_numbers(shape: &PpsShape) -> bool
+    ensures id { OnTrue result (shape.now.id < 64) }
+    ensures sps_id { OnTrue result (shape.now.sps_id < 16) }
+    ensures width { OnTrue result (IsSize shape.now.width) }
+    ensures height { OnTrue result (IsSize shape.now.height) }
+    ensures subpic_id { OnTrue result (IfSome shape.now.subpic_id (λ (bits, id). (bits ≤ 15) × (id < 2 ^ (bits + 1)))) }
+    ensures init_qp { OnTrue result ((neg_ℤ (pos 38) ≤ℤ shape.now.init_qp) × (shape.now.init_qp ≤ℤ pos 37)) }
+{
+    let ids = shape.id < 64 && shape.sps_id < 16 && is_id(shape.subpic_id);
+    ids && is_size(shape.width)
+        && is_size(shape.height)
+        && -38 <= shape.init_qp
+        && shape.init_qp <= 37
+}
+
+/// Whether bounds end where a picture so wide or high does, in CTUs of a size.
+fn ends_at(bounds: &Bounds, size: u32, ctb: u32) -> bool
+    ensures { OnTrue result (last bounds.now ≡ div_ceil size ctb) }
+{
+    ctb != 0 && bounds.len() != 0 && bounds.last() == size.div_ceil(ctb)
+}
+
+/// Whether CTUs have such a size.
+fn is_ctb(size: u32) -> bool
+    ensures { OnTrue result ((log2 : ℕ) × (log2 < 3) × (size ≡ 2 ^ (log2 + 5))) }
+{
+    size == 32 || size == 64 || size == 128
+}
+
+/// Whether a picture of a size is made up of these tiles and slices.
+fn can_be_divided(shape: &PpsShape) -> bool
+    requires layout { HasLayout (picture_of shape.now.tiles shape.now.slices) }
+    requires listable { AreListable shape.now.tiles.columns shape.now.tiles.rows shape.now.slices }
+    ensures { OnTrue result (CanBeDivided shape.now) }
+{
+    let ctb = shape.ctb;
+    is_ctb(ctb)
+        && ends_at(&shape.tiles.columns, shape.width, ctb)
+        && ends_at(&shape.tiles.rows, shape.height, ctb)
+}
+
+/// The set that says what a partitioned one says.
+///
+/// # Errors
+///
+/// Where it can't say that; want of memory.
+fn divided_like(
+    alloc: Global,
+    source: &Pps,
+    like: &Frame<'_>,
+    merged: bool,
+) -> Result<Pps, LineFault>
+    requires { AnswersLayout like.now.sps.now like.now.pps.now (Ok like.now.layout) }
+{
+    let division = division_of(alloc, like)?;
+    let shape = shape_of(like, division, merged)?;
+    if !has_numbers(&shape) {
+        return Err(LineFault::Shape);
+    }
+    if !can_be_divided(&shape) {
+        return Err(LineFault::Shape);
+    }
+    Ok(reshape_pps(alloc, source, &shape)?)
+}
+
+/// The set that says what one says that isn't partitioned, and isn't itself. Nothing is asked of tiles and slices.
+///
+/// # Errors
+///
+/// Where it is partitioned, or can't say that; want of memory.
+fn whole_like(alloc: Global, source: &Pps, like: &Frame<'_>) -> Result<Pps, LineFault> {
+    let none = Division {
+        tiles: Tiles {
+            columns: Bounds::new(alloc),
+            rows: Bounds::new(alloc),
+        },
+        slices: RectList::new(alloc),
+    };
+    let shape = shape_of(like, none, false)?;
+    if source.partitioned() {
+        return Err(LineFault::Shape);
+    }
+    if !has_numbers(&shape) {
+        return Err(LineFault::Shape);
+    }
+    Ok(reshape_pps(alloc, source, &shape)?)
+}
+
+/// What is written of a set that says what the PPS of others says.
+///
+/// # Errors
+///
+/// Where it can't say that; want of memory.
+fn written_like(
+    alloc: Global,
+    source: &Pps,
+    like: &Frame<'_>,
+    merged: bool,
+) -> Result<Vec<u8>, LineFault>
+    requires { AnswersLayout like.now.sps.now like.now.pps.now (Ok like.now.layout) }
+{
+    let set = if merged || like.pps.partitioned() {
+        divided_like(alloc, source, like, merged)?
+    } else {
+        whole_like(alloc, source, like)?
+    };
+    Ok(write_pps(alloc, &set)?)
+}
+
+/// What is written of the set of an RBSP that says what the PPS of others says.
+fn rewritten(
+    alloc: Global,
+    source: &[u8],
+    like: &Frame<'_>,
+    merged: bool,
+) -> Result<Vec<u8>, LineFault>
+    requires few { length source.now ≤ 2 ^ 23 }
+    requires layout { AnswersLayout like.now.sps.now like.now.pps.now (Ok like.now.layout) }
+{
+    let source = read_pps(alloc, source)?;
+    written_like(alloc, &source, like, merged)
+}
+
+/// The same, of these others.
+fn rewritten_like(
+    alloc: Global,
+    source: &[u8],
+    sps: &Sps,
+    pps: &Pps,
+    merged: bool,
+) -> Result<Vec<u8>, LineFault>
+    requires { length source.now ≤ 2 ^ 23 }
+{
+    let like = frame_of(alloc, sps, pps)?;
+    rewritten(alloc, source, &like, merged)
+}
+
+/// What is written of a PPS that is rewritten so that it says what that of others says, which are an SPS and a PPS; for a frame of
+/// several sources, or for a region.
+///
+/// # Errors
+///
+/// The first refusal, of the others before itself; where it can't say that; want of memory.
+pub(crate) fn answer_reshaped_pps(
+    alloc: Global,
+    source: &[u8],
+    like: (&[u8], &[u8]),
+    merged: bool,
+) -> Result<String, LineFault>
+    requires source { length source.now ≤ 2 ^ 23 }
+    requires sps { length like.0.now ≤ 2 ^ 23 }
+    requires pps { length like.1.now ≤ 2 ^ 23 }
+{
+    let sps = read_sps(alloc, like.0)?;
+    let pps = read_pps(alloc, like.1)?;
+    let written = rewritten_like(alloc, source, &sps, &pps, merged)?;
+    Ok(reshaped_text(alloc, written.as_slice())?)
+}
