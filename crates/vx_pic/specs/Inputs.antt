@@ -1,5 +1,7 @@
--- The decoding input of a slice: all that decoding it depends on but for the pictures that it refers to, told without ids and places
--- in the frame, so that two slices whose inputs are equal decode alike.
+-- The decoding input of a slice: all that decoding it depends on but for the pictures that it refers to, told without ids and places in
+-- the frame. Left out is how a subpicture stands to those beside it (sps_subpic_treated_as_pic_flag and
+-- sps_loop_filter_across_subpic_enabled_flag): two slices whose inputs are equal decode alike where both subpictures are the whole picture,
+-- or are treated as pictures and not filtered across.
 use Rattle.std.specs.Prelude.{◌≡◌, ℕ, ℤ, ◌+◌, ◌-◌, ◌*◌, ◌==◌, ◌&&◌, ◌||◌, min, nat_lt, Bool, cond, List, [], ◌∷◌, ◌++◌, length, map, filter}
 use Rattle.std.specs.Prelude.{drop, Option, None, option_map, option_and_then, option_to_list}
 use Rattle.vx_bits.specs.declared.list.Item.{Item}
