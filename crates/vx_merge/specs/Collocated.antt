@@ -1,7 +1,7 @@
 -- The pictures from which slices predict motion (H.266 7.4.8, sh_collocated_ref_idx): the same one for all slices of a picture that name
--- one. A list tells it by its order count, as a distance from the picture's own or by its low bits, so that slices of pictures with one
--- order count are compared by what their lists tell.
-use Rattle.std.specs.Prelude.{ℕ, ℤ, pos, neg_ℤ, ◌+◌, ◌+ℤ◌, ◌==◌, ◌&&◌, not, Bool, cond, List, [], ◌∷◌, flat_map, take, slice_get}
+-- one. A list tells it by its order count, as a distance from the picture's own or by its low bits and how many cycles of them lie between,
+-- so that slices of pictures with one order count are compared by what their lists tell.
+use Rattle.std.specs.Prelude.{ℕ, ℤ, pos, neg_ℤ, ◌+◌, ◌+ℤ◌, ◌==◌, ◌&&◌, not, Bool, cond, List, [], ◌∷◌, flat_map, map, sum, take, slice_get}
 use Rattle.std.specs.Prelude.{Option, Some, None, unwrap_or}
 use Rattle.vx_bits.specs.declared.list.Item.{Item}
 use Rattle.vx_bits.specs.Fields.{first_value}
@@ -31,9 +31,19 @@ delta_from base (entry ∷ entries) = delta_from (base +ℤ delta_of entry) entr
 abbrev pub delta_to : List RefEntry → ℤ
 delta_to entries = delta_from (pos 0) entries
 
+-- delta_poc_msb_cycle_lt (7.4.10) of an entry, 0 where it is absent
+abbrev pub cycles_of : RefEntry → ℕ
+cycles_of (Short abs sign) = 0
+cycles_of (Long lsb msb) = unwrap_or msb 0
+
+-- DeltaPocMsbCycleLt (7.4.10) of the last of some entries: each counts from the long-term one before it
+abbrev pub cycles_to : List RefEntry → ℕ
+cycles_to entries = sum (map cycles_of entries)
+
 abbrev pub entry_tells : List RefEntry → Option RefEntry → Collocated
 entry_tells upto (Some (Short abs sign)) = Nearby (delta_to upto)
-entry_tells upto (Some (Long lsb msb)) = Distant lsb msb
+entry_tells upto (Some (Long lsb None)) = Distant lsb None
+entry_tells upto (Some (Long lsb (Some cycles))) = Distant lsb (Some (cycles_to upto))
 entry_tells upto None = Absent
 
 -- the picture of an entry of a list

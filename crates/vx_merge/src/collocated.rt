@@ -20,8 +20,9 @@ const I: u32 = 2;
 pub enum Collocated {
     /// How far its order count is from the picture's own.
     Nearby(i64),
-    /// The low bits of its order count, and where they are told the high ones.
-    Distant(u32, Option<u32>),
+    /// The low bits of its order count, and where it is told, how many cycles of them its picture is behind
+    /// (DeltaPocMsbCycleLt, H.266 7.4.10).
+    Distant(u32, Option<u64>),
     /// There is no such entry.
     Absent,
 }
@@ -53,6 +54,32 @@ fn delta_to(list: &RefList, count: usize) -> i64
     sum
 }
 
+/// delta_poc_msb_cycle_lt of an entry, and 0 where it is absent.
+fn cycles_of(entry: RefEntry) -> u64
+    ensures value { result ≡ words.cycles_of entry }
+    ensures high { result ≤ 4294967295 }
+{
+    match entry {
+        RefEntry::Long {
+            msb: Some(cycles), ..
+        } => u64::from(cycles),
+        _ => 0,
+    }
+}
+
+/// The sum of those of the first entries of a list.
+fn cycles_to(list: &RefList, count: usize) -> u64
+    requires within { count ≤ length list.now }
+    requires few { count ≤ 29 }
+    ensures { result ≡ words.cycles_to (take count list.now) }
+{
+    let mut sum = 0;
+    for i in 0..count {
+        sum += cycles_of(list.item(i));
+    }
+    sum
+}
+
 /// What the entry at an index of a list tells.
 fn told_at(list: &RefList, i: u32) -> Collocated
     ensures { result ≡ words.told_at list.now i }
@@ -63,7 +90,8 @@ fn told_at(list: &RefList, i: u32) -> Collocated
     }
     match list.item(i) {
         RefEntry::Short { .. } => Collocated::Nearby(delta_to(list, i + 1)),
-        RefEntry::Long { lsb, msb } => Collocated::Distant(lsb, msb),
+        RefEntry::Long { lsb, msb: None } => Collocated::Distant(lsb, None),
+        RefEntry::Long { lsb, msb: Some(_) } => Collocated::Distant(lsb, Some(cycles_to(list, i + 1))),
     }
 }
 

@@ -5,9 +5,9 @@ ghost use Rattle.vx_layout.specs.Faults.{IsInLimits, IsLayout};
 ghost use Rattle.vx_merge.specs.Merging.{AreCorners};
 ghost use Rattle.vx_merge.specs.Rules.{rules_of};
 ghost use Rattle.vx_merge.specs.Verdict.{IsVerdict};
-ghost use Rattle.vx_merge.specs.inner.Joined.{CanBeJoined};
+ghost use Rattle.vx_merge.specs.inner.Joined.{CanBeJoined, IsSomeFrame, OfFrame};
 ghost use Rattle.vx_merge.specs.inner.Settled as words;
-ghost use Rattle.vx_merge.specs.inner.Settled.{AreSetsOf, HasPps, HasSetsOf, IsKept, IsSettled, IsSettledFor, IsSomeUsed, IsUsedFor, ServesAs};
+ghost use Rattle.vx_merge.specs.inner.Settled.{AreSetsOf, HasPps, HasSetsOf, IsKept, IsPpsFor, IsSettled, IsSettledFor, IsSomeUsed, IsSpsFor, IsUsedFor, ServesAs};
 
 use crate::corner::Corner;
 use crate::facts::facts;
@@ -16,7 +16,7 @@ use crate::items::same_items;
 use crate::joined::{Frame, join};
 use std::alloc::{AllocError, Global};
 use vx_bits::Fields;
-use vx_layout::{Layout, LayoutError, Numbers};
+use vx_layout::{Layout, LayoutError};
 use vx_pic::Picture;
 use vx_pps::Pps;
 use vx_sps::Sps;
@@ -121,16 +121,33 @@ pub(crate) fn is_known(settled: &Option<Settled>, round: &[Picture<'_>]) -> bool
 // ---- what is made of them
 
 /// The layout of a frame.
-fn layout_of(alloc: Global, numbers: Numbers) -> Result<Layout, AllocError>
-    requires layout { IsLayout numbers }
-    requires limits { IsInLimits numbers }
-    ensures { IfOk result (λ layout. layout ≡ numbers) }
+fn layout_of(alloc: Global, frame: &Frame) -> Result<Layout, AllocError>
+    requires layout { IsLayout frame.now.numbers }
+    requires limits { IsInLimits frame.now.numbers }
+    ensures { IfOk result (λ layout. layout ≡ frame.now.numbers) }
 {
+    let numbers = copied_numbers(alloc, &frame.numbers)?;
     match Layout::new(alloc, numbers) {
         Ok(layout) => Ok(layout),
         Err(LayoutError::Memory) => Err(AllocError),
         Err(LayoutError::Fault(_)) => unreachable!(),
     }
+}
+
+/// The SPS of a frame, at a level, or at the highest of its pictures, and its PPS with the id 0.
+fn sets_for(
+    alloc: Global,
+    round: &[Picture<'_>],
+    frame: &Frame,
+    level: Option<u8>,
+) -> Result<(Sps, Pps), AllocError>
+    requires { IsSomeFrame round.now frame.now }
+    ensures sps { IfOk result (λ sets. OfFrame round.now frame.now (λ corners. IsSpsFor corners round.now level sets.0)) }
+    ensures pps { IfOk result (λ sets. OfFrame round.now frame.now (λ corners. IsPpsFor corners round.now frame.now.numbers 0 sets.1)) }
+{
+    let sps = frame_sps(alloc, round, frame, level)?;
+    let pps = frame_pps(alloc, round, frame, 0)?;
+    Ok((sps, pps))
 }
 
 /// What is made of the sets of a round whose regions and tile lines fit.
@@ -144,12 +161,10 @@ fn made_of(
     ensures settled { IfOk result (IsSettledFor corners.now level round.now) }
     ensures sets { IfOk result (HasSetsOf round.now) }
 {
-    let frame = join(alloc, corners, round)?;
-    let sps = frame_sps(alloc, round, &frame, level)?;
-    let plain = frame_pps(alloc, round, &frame, 0)?;
-    let numbers = copied_numbers(alloc, &frame.numbers)?;
-    let layout = layout_of(alloc, numbers)?;
     let sources = sources(alloc, round)?;
+    let frame = join(alloc, corners, round)?;
+    let layout = layout_of(alloc, &frame)?;
+    let (sps, plain) = sets_for(alloc, round, &frame, level)?;
     Ok(Settled {
         sources,
         frame,

@@ -40,7 +40,11 @@ HasSetsOf round s = AreSetsOf round s.sources.items
 
 -- ---- what is made of them
 
--- a PPS with an id for the frame of a round
+-- an SPS for the frame of a round, at a level or at the highest of its pictures
+abbrev pub IsSpsFor : List Corner → List Parts → Option ℕ → List Item → Type 0
+IsSpsFor corners round level items = sps_reshaped.IsReshaped (picture_at round 0).sps (sps_shape corners round level) items
+
+-- a PPS with an id for it
 abbrev pub IsPpsFor : List Corner → List Parts → Numbers → ℕ → List Item → Type 0
 IsPpsFor corners round frame id items = pps_reshaped.IsReshaped (picture_at round 0).pps (pps_shape corners round frame id) items
 
@@ -49,7 +53,7 @@ pub record IsSettledFor (corners : List Corner) (level : Option ℕ) (round : Li
   pub frame : IsFrameOf corners round s.frame
   pub made : MakeFrame corners round s.frame.numbers
   pub layout : s.layout ≡ s.frame.numbers
-  pub sps : sps_reshaped.IsReshaped (picture_at round 0).sps (sps_shape corners round level) s.sps
+  pub sps : IsSpsFor corners round level s.sps
   pub plain : IsPpsFor corners round s.frame.numbers 0 s.plain
   pub renamed : IfSome s.renamed (λ r. IsPpsFor corners round s.frame.numbers r.id r.pps)
 
