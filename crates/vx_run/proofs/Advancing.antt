@@ -33,7 +33,7 @@ use Rattle.vx_run.proofs.Sources.{Advanced, HasRound, round_stays, waits_still, 
 use Rattle.vx_run.proofs.Told.{refused_at}
 
 -- what holds at each index does of each element
-each_holds : {B : Type 0} {P : B → Type 0} (xs : List B) → ((k : ℕ) (x : B) → slice_get xs k ≡ Some x → P x) → All P xs
+pub each_holds : {B : Type 0} {P : B → Type 0} (xs : List B) → ((k : ℕ) (x : B) → slice_get xs k ≡ Some x → P x) → All P xs
 each_holds xs each k d within = each k (get_or xs k d) (slice_get-get_or xs k d within)
 
 module _ {A : Type 0} (bytes : A → Option (List ℕ)) (faults : A → ℕ) (R : Readers) (first : List A) where

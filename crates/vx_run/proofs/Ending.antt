@@ -9,15 +9,17 @@ use Rattle.vx_run.specs.About.{help_text, version_text, Writes}
 use Rattle.vx_run.specs.Conclusion.{Outcome, Concludes, IsOfCommand, IsMade, status_of}
 use Rattle.vx_run.specs.declared.extract.Task.{Task}
 use Rattle.vx_run.specs.Extract.{BreakNoRule, Refuses, by_stream, by_picture, without, IsExtractable, IsStatus, WhereTold, ExtractsBy, ChecksBy, task_of}
-use Rattle.vx_run.specs.Grammar.{Command, Placing, show, extract, check_extract, merge, check_merge, verify, help, version, AskFor, IsUnderstood}
+use Rattle.vx_run.specs.Grammar.{Command, Placing, show, extract, check_extract, merge, play, check_merge, verify, help, version, AskFor, IsUnderstood}
 use Rattle.vx_run.specs.Run.{Does, Performs, placings_in, task_in}
 use Rattle.vx_bits.specs.declared.refusal.Refusal.TheVariants.{Limit}
-use Rattle.vx_bits.specs.declared.rules.TheConstants.{TOO_MANY_SOURCES}
+use Rattle.vx_bits.specs.declared.rules.TheConstants.{TOO_MANY_SOURCES, TOO_MANY_FILES}
+use Rattle.std.proofs.lemmas.Bool.{cases_lt}
 use Rattle.std.proofs.lemmas.List.{length-map}
 use Rattle.std.proofs.lemmas.Option.{same_Some}
 use Rattle.vx_merge.specs.declared.corner.Corner.{Corner}
 use Rattle.vx_run.specs.Rounds.{Stream, WhereAllTold, most_sources, too_many, in_round}
 use Rattle.vx_run.specs.Merge.{EndsWritten, EndsOnce, IsWritable, IsMergeStatus, ChecksMergeBy, MergesBy, corner_of, corners_of}
+use Rattle.vx_run.specs.Play.{EndsPlayed, IsPlayable, IsPlayStatus, PlayEndsOnce, PlaysBy, file_regions, most_files, region_corners, region_of, too_many_files}
 use Rattle.vx_verify.specs.declared.spot.Spot.{Spot}
 use Rattle.vx_run.specs.Verify.{EndsVerified, VerifyEndsOnce, IsVerifiedMerge, IsVerifyStatus, VerifiesBy, spot_of, spots_of}
 use Rattle.vx_pic.specs.Readings.{Picture}
@@ -253,6 +255,77 @@ module _ {A K : Type 0} (words : List (List ℕ)) (sources : Sources A) (out : C
   verifies-stopped once R of err stop status some performs ends =
       verify-stopped once R (spots_of placings) sources out err some stop status ((performs.command (verify finished placings) spelled).few (omega (arith, few, length-map placings spot_of)) R of) ends
 
+-- ---- what is played
+
+played-done : (corners : List Corner) (level : Option ℕ) (regions : List ℕ) (files : List Stream) → IsPlayable corners level regions files → IsPlayStatus corners level regions files 0
+played-done corners level regions files able = record { done = (λ zero_. able, λ is. refl); refused = (λ one. absurd (omega (arith, one)), λ not_. absurd (not_ able)) }
+
+played-not : PlayEndsOnce → (corners : List Corner) (level : Option ℕ) (regions : List ℕ) (files : List Stream) (done : List Plan) (stop : Stop) (status : ℕ) → 0 < length corners
+    → EndsPlayed corners level regions files done (Err stop) → status ≡ 1 → IsPlayStatus corners level regions files status
+played-not once corners level regions files done stop status some ends one = record {
+  done = (λ zero_. absurd (omega (arith, one, zero_)), λ able. absurd (not_able able));
+  refused = (λ is. not_able, λ is. one);
+}
+  where
+    not_able : IsPlayable corners level regions files → ⊥
+    not_able able =
+        let same : (let o : Outcome = Ok tt in o) ≡ Err stop = (once corners level regions files able.0 done (Ok tt) (Err stop) some able.1 ends).1 in
+        absurd (cc)
+
+module _ {A K E : Type 0} (once : PlayEndsOnce) (R : Readers) (corners : List Corner) (level : Option ℕ) (regions : List ℕ) (sources : Sources A) (out : Change K) (err : Change E) (some : 0 < length corners) where
+  play-stopped : (stop : Stop) (status : ℕ) → PlaysBy R corners level regions sources out (Err stop) → Concludes stop status err → ((k : ℕ) → k < length sources.old → ¬ HasFault (source_at sources k)) → ¬ HasFault out → status ≢ 4
+      → WhereAllTold R sources (λ files. IsPlayStatus corners level regions files status)
+  play-stopped (Refused r place) status does ends read write fits files are =
+      let is = does.3 files are in
+      elim ends.ended [ inl p ↦ played-not once corners level regions files is.0 (Refused r place) status some is.2 p.0 | inr p ↦ absurd (fits p.1) ]
+  play-stopped (ReadFault k) status does ends read write fits files are = absurd (read k does.0 does.1)
+  play-stopped WriteFault status does ends read write fits files are = absurd (write does.2)
+  play-stopped NoMemory status does ends read write fits files are = absurd (no-memory status err ends fits)
+  play-stopped NotUnderstood status does ends read write fits files are = absurd does
+  play-stopped (Mismatched x y) status does ends read write fits files are = absurd does
+
+many_regions : (placings : List Placing) → length (file_regions placings) ≡ length placings
+many_regions placings = length-map (corners_of placings) (region_of (region_corners placings)) ∙ length-map placings corner_of
+
+module _ {A K : Type 0} (words : List (List ℕ)) (sources : Sources A) (out : Change K) (level : Option ℕ) (placings : List Placing) (spelled : AskFor words (play level placings)) where
+  module _ (regions_few : length (region_corners placings) ≤ most_sources) (few : length placings ≤ most_files) where
+    -- the status of files that are played whole
+    pub plays-done : (R : Readers) → AreOfH266 R → Performs words sources out (Ok tt) → WhereAllTold R sources (λ files. IsPlayStatus (region_corners placings) level (file_regions placings) files 0)
+    plays-done R of performs files are =
+        let does = (performs.command (play level placings) spelled).few regions_few (omega (arith, few, many_regions placings)) R of in
+        let is = does.2 files are in
+        played-done (region_corners placings) level (file_regions placings) files (is.0, is.1)
+
+    -- and of such that stopped
+    pub plays-stopped : {E : Type 0} (once : PlayEndsOnce) (R : Readers) → AreOfH266 R → (err : Change E) (stop : Stop) (status : ℕ) → 0 < length (region_corners placings) → Performs words sources out (Err stop) → Concludes stop status err
+        → ((k : ℕ) → k < length sources.old → ¬ HasFault (source_at sources k)) → ¬ HasFault out → status ≢ 4 → WhereAllTold R sources (λ files. IsPlayStatus (region_corners placings) level (file_regions placings) files status)
+    plays-stopped once R of err stop status some performs ends =
+        play-stopped once R (region_corners placings) level (file_regions placings) sources out err some stop status ((performs.command (play level placings) spelled).few regions_few (omega (arith, few, many_regions placings)) R of) ends
+
+  -- where there are too many regions or files, it isn't done
+  limit_of : (outcome : Outcome) → Performs words sources out outcome → (most_sources < length (region_corners placings)) ⊎ (most_files < length placings) → (outcome ≡ too_many) ⊎ (outcome ≡ too_many_files) ⊎ (outcome ≡ Err NoMemory)
+  limit_of outcome performs over =
+      let does = performs.command (play level placings) spelled in
+      elim (cases_lt most_sources (length (region_corners placings))) [
+        | inl many ↦ elim (does.many many).0 [ inl is ↦ inl is | inr is ↦ inr (inr is) ]
+        | inr fits ↦ elim over [
+          | inl many ↦ absurd (omega (arith, fits, many))
+          | inr many ↦ elim (does.files fits (omega (arith, many, many_regions placings))).0 [ inl is ↦ inr (inl is) | inr is ↦ inr (inr is) ]
+        ]
+      ]
+
+  pub limits-done : (status : ℕ) → Performs words sources out (Ok tt) → (most_sources < length (region_corners placings)) ⊎ (most_files < length placings) → status ≡ 1
+  limits-done status performs over = elim (limit_of (Ok tt) performs over) [ inl is ↦ absurd (cc) | inr other ↦ elim other [ inl is ↦ absurd (cc) | inr is ↦ absurd (cc) ] ]
+
+  pub limits-stopped : {E : Type 0} (err : Change E) (stop : Stop) (status : ℕ) → Performs words sources out (Err stop) → Concludes stop status err → (most_sources < length (region_corners placings)) ⊎ (most_files < length placings) → status ≢ 4 → status ≡ 1
+  limits-stopped err stop status performs ends over fits = elim (limit_of (Err stop) performs over) [
+    | inl is ↦ too-many_ err stop status is ends fits
+    | inr other ↦ elim other [
+      | inl is ↦ let same : stop ≡ Refused (Limit TOO_MANY_FILES) (in_round 0) = cc in elim ends.ended [ inl p ↦ p.0 ∙ ap status_of same | inr p ↦ absurd (fits p.1) ]
+      | inr is ↦ let same : stop ≡ NoMemory = cc in absurd (no-memory status err (subst (λ (x : Stop). Concludes x status err) same ends) fits)
+    ]
+  ]
+
 -- ---- too many sources
 
 too_many_of : {A K : Type 0} (sources : Sources A) (out : Change K) (outcome : Outcome) (command : Command) (placings : List Placing) → placings_in command ≡ Some placings → Does command sources out outcome → most_sources < length placings → outcome ≡ too_many
@@ -265,6 +338,7 @@ too_many_of sources out outcome (check_merge ps) placings is does many =
 too_many_of sources out outcome (verify finished ps) placings is does many =
     let same : ps ≡ placings = same_Some ps placings is in
     (does.many (omega (arith, many, length-map ps spot_of, ap (λ (l : List Placing). length l) same))).0
+too_many_of sources out outcome (play level ps) placings is does many = absurd (cc)
 too_many_of sources out outcome (show file) placings is does many = absurd (cc)
 too_many_of sources out outcome (extract tid level index file) placings is does many = absurd (cc)
 too_many_of sources out outcome (check_extract tid index file) placings is does many = absurd (cc)
@@ -295,6 +369,7 @@ does_of_command (show file) sources out stop does = does.0
 does_of_command (extract tid level index file) sources out stop does = does.0
 does_of_command (check_extract tid index file) sources out stop does = does.0
 does_of_command (merge level placings) sources out stop does = does.stop
+does_of_command (play level placings) sources out stop does = does.stop
 does_of_command (check_merge placings) sources out stop does = does.stop
 does_of_command (verify finished placings) sources out stop does = does.stop
 does_of_command help sources out stop does = writes_of_command help_text out stop does.1

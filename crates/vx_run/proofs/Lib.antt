@@ -18,7 +18,17 @@ pub mod Numbering
 pub mod Once
 pub mod Performing
 pub mod Placings
+pub mod Playing
+pub mod PlayOnce
+pub mod PlayRegions
+pub mod PlayRounds
 pub mod ReadAgain
+pub mod RegionAdvances
+pub mod RegionFiles
+pub mod RegionRounds
+pub mod RegionSteps
+pub mod RegionTold
+pub mod Regions
 pub mod Showing
 pub mod Sources
 pub mod Spelling

@@ -1,8 +1,8 @@
--- Words of `merge`: a level where there is one, and placings.
+-- Words of `merge` and `play`: a level where there is one, and placings.
 use Rattle.std.proofs.Common.{◌≡◌, ℕ, ◌≤◌, List, [], ◌∷◌, ◌++◌, ◌∙◌, Option, length, get_or, drop, map, codes, decimal, sym, ap, refl, subst, arith}
 use Rattle.std.specs.List.{AllByRecursion}
-use Rattle.vx_run.specs.Grammar.{Placing, placing_word, IsPlacing, IsLevel, merge, AskFor, level_words}
-use Rattle.vx_run.specs.inner.Placings.{placing_in, PlaceFiles}
+use Rattle.vx_run.specs.Grammar.{Placing, placing_word, IsPlacing, IsLevel, merge, play, AskFor, level_words}
+use Rattle.vx_run.specs.inner.Placings.{placing_in, NameLevelAndFiles, PlaceFiles}
 use Rattle.vx_run.specs.inner.Words.{BeginsNot, IsOptionFirst}
 use Rattle.vx_run.proofs.Numbering.{first_digit, option_spelled, option_first, option_once}
 use Rattle.vx_run.proofs.Placings.{words_read, some_placings, placings_are}
@@ -27,29 +27,40 @@ no_level (p ∷ ps) all rest is =
 pub merge_level : (level : Option ℕ) (ps : List Placing) → IsLevel level → AllByRecursion IsPlacing ps → IsOptionFirst (codes "--level") 255 (level_words level ++ map placing_word ps) level (map placing_word ps)
 merge_level level ps within all = option_first (codes "--level") 255 level (map placing_word ps) within (no_level ps all)
 
--- ---- words that ask for a merge
+-- ---- words with a level and placings
 
-pub asks_to_merge : (words : List (List ℕ)) (level : Option ℕ) (rest : List (List ℕ)) → IsOptionFirst (codes "--level") 255 words level rest → PlaceFiles rest → AskFor (codes "merge" ∷ words) (merge level (map placing_in rest))
-asks_to_merge words level rest first place =
+pub level_and_placings : (words : List (List ℕ)) (level : Option ℕ) (rest : List (List ℕ)) → IsOptionFirst (codes "--level") 255 words level rest → PlaceFiles rest → NameLevelAndFiles words level (map placing_in rest)
+level_and_placings words level rest first place =
     let read = words_read rest place.1 in
     let option = option_spelled (codes "--level") 255 words level rest first in
     record {
-      spelled = ap (λ (l : List (List ℕ)). codes "merge" ∷ l) (option.0 ∙ ap (λ (l : List (List ℕ)). level_words level ++ l) read.0);
+      spelled = option.0 ∙ ap (λ (l : List (List ℕ)). level_words level ++ l) read.0;
       named = (option.1, some_placings rest place.0, read.1);
     }
 
--- and words that don't
-module _ (words : List (List ℕ)) (level : Option ℕ) (ps : List Placing) (asks : AskFor (codes "merge" ∷ words) (merge level ps)) where
-  spelled_so : words ≡ level_words level ++ map placing_word ps
-  spelled_so = ap (λ (l : List (List ℕ)). drop 1 l) asks.spelled
-
+-- and words that have none
+module _ (words : List (List ℕ)) (level : Option ℕ) (ps : List Placing) (names : NameLevelAndFiles words level ps) where
   level_there : IsOptionFirst (codes "--level") 255 words level (map placing_word ps)
-  level_there = rw spelled_so (merge_level level ps asks.named.0 asks.named.2)
+  level_there = rw names.spelled (merge_level level ps names.named.0 names.named.2)
 
-  pub merge_not_level : ((n : Option ℕ) (rest : List (List ℕ)) → IsOptionFirst (codes "--level") 255 words n rest → ⊥) → ⊥
-  merge_not_level none = none level (map placing_word ps) level_there
+  pub no_level_there : ((n : Option ℕ) (rest : List (List ℕ)) → IsOptionFirst (codes "--level") 255 words n rest → ⊥) → ⊥
+  no_level_there none = none level (map placing_word ps) level_there
 
-  pub merge_not_placed : (n : Option ℕ) (rest : List (List ℕ)) → IsOptionFirst (codes "--level") 255 words n rest → (PlaceFiles rest → ⊥) → ⊥
-  merge_not_placed n rest first none =
+  pub no_placings_there : (n : Option ℕ) (rest : List (List ℕ)) → IsOptionFirst (codes "--level") 255 words n rest → (PlaceFiles rest → ⊥) → ⊥
+  no_placings_there n rest first none =
       let one = option_once (codes "--level") 255 words n level rest (map placing_word ps) (omega arith) first level_there in
-      none (subst PlaceFiles (sym one.1) (placings_are ps asks.named.1 asks.named.2))
+      none (subst PlaceFiles (sym one.1) (placings_are ps names.named.1 names.named.2))
+
+-- ---- words that ask for a merge, or to play
+
+pub asks_to_merge : (words : List (List ℕ)) (level : Option ℕ) (ps : List Placing) → NameLevelAndFiles words level ps → AskFor (codes "merge" ∷ words) (merge level ps)
+asks_to_merge words level ps names = record { spelled = ap (λ (l : List (List ℕ)). codes "merge" ∷ l) names.spelled; named = names.named }
+
+pub names_to_merge : (words : List (List ℕ)) (level : Option ℕ) (ps : List Placing) → AskFor (codes "merge" ∷ words) (merge level ps) → NameLevelAndFiles words level ps
+names_to_merge words level ps asks = record { spelled = ap (λ (l : List (List ℕ)). drop 1 l) asks.spelled; named = asks.named }
+
+pub asks_to_play : (words : List (List ℕ)) (level : Option ℕ) (ps : List Placing) → NameLevelAndFiles words level ps → AskFor (codes "play" ∷ words) (play level ps)
+asks_to_play words level ps names = record { spelled = ap (λ (l : List (List ℕ)). codes "play" ∷ l) names.spelled; named = names.named }
+
+pub names_to_play : (words : List (List ℕ)) (level : Option ℕ) (ps : List Placing) → AskFor (codes "play" ∷ words) (play level ps) → NameLevelAndFiles words level ps
+names_to_play words level ps asks = record { spelled = ap (λ (l : List (List ℕ)). drop 1 l) asks.spelled; named = asks.named }

@@ -140,15 +140,67 @@ module _ (t : Telling) (ss : List Stream) (some : 0 < length ss) where
     ends_alike (Err stop) (Ok _) p q = absurd (done_or_stopped n stop q p)
     ends_alike (Err a) (Err b) p q = ap (λ (s : Stop). let o : Outcome = Err s in o) (stopped_once a b p q)
 
+-- ---- rounds that are written, whatever is asked of them
+
+module _ (ss : List Stream) (some : 0 < length ss) (P : ℕ → List Parts → List Plan → Plan → Type 0) (Are : List Plan → Type 0)
+    (latest : (p : Plan) (done : List Plan) → Are (p ∷ done) → ((round : List Parts) × IsRound ss (length done) round × P (length done) round done p) × Are done)
+    (one : (n : ℕ) (round : List Parts) (done : List Plan) (p q : Plan) → P n round done p → P n round done q → p ≡ q) where
+  -- as many rounds are written in one way
+  plans_once : (done other : List Plan) → length done ≡ length other → Are done → Are other → done ≡ other
+  plans_once [] [] same is are = refl
+  plans_once [] (q ∷ other) same is are = absurd (omega (arith, same))
+  plans_once (p ∷ done) [] same is are = absurd (omega (arith, same))
+  plans_once (p ∷ done) (q ∷ other) same is are =
+      let x = latest p done is in
+      let y = latest q other are in
+      let many : length done ≡ length other = omega (arith, same) in
+      let rest = plans_once done other many x.1 y.1 in
+      let round = same_round ss (length done) (length other) x.0.0 y.0.0 many x.0.1 y.0.1 in
+      let moved = subst (λ (n : ℕ). P n y.0.0 other p) many (subst (λ (l : List Plan). P (length done) y.0.0 l p) rest (subst (λ (l : List Parts). P (length done) l done p) round x.0.2)) in
+      ap (λ (z : Plan). z ∷ done) (one (length other) y.0.0 other p q moved y.0.2) ∙ ap (λ (l : List Plan). q ∷ l) rest
+
+  -- the first of them
+  first_written : (n : ℕ) (done : List Plan) → n < length done → Are done → (p : Plan) × (first : List Plan) × (length first ≡ n) × Are (p ∷ first)
+  first_written n [] before are = absurd (omega (arith, before))
+  first_written n (p ∷ done) before are = elim (cases_lt n (length done)) [
+    | inl earlier ↦ first_written n done earlier (latest p done are).1
+    | inr not_ ↦ (p, done, omega (arith, before, not_), are)
+  ]
+
+  -- one thing is told behind them, and nothing where one more is written
+  module _ (t : List Plan → Telling) (none : (done : List Plan) (round : List Parts) (p : Plan) → P (length done) round done p → (stop : Stop) → (t done).of_round (length done) round stop → ⊥)
+      (told : (done : List Plan) (round : List Parts) (a b : Stop) → (t done).of_round (length done) round a → (t done).of_round (length done) round b → a ≡ b) where
+    abbrev Ends : List Plan → Outcome → Type 0
+    Ends done a = Are done × EndsIn (t done) ss (length done) a
+
+    ends_before : (done other : List Plan) (a : Outcome) → Ends done a → Are other → length done < length other → ⊥
+    ends_before done other a ends are before =
+        let f = first_written (length done) other before are in
+        let same = plans_once f.1 done f.2 (latest f.0 f.1 f.3).1 ends.0 in
+        let more = latest f.0 done (subst (λ (l : List Plan). Are (f.0 ∷ l)) same f.3) in
+        ends_there (t done) ss some (length done) more.0.0 more.0.1 (none done more.0.0 f.0 more.0.2) a ends.1
+
+    pub ends_at_one : (done other : List Plan) (a b : Outcome) → Ends done a → Ends other b → (done ≡ other) × (a ≡ b)
+    ends_at_one done other a b p q = elim (cases_lt (length done) (length other)) [
+      | inl before ↦ absurd (ends_before done other a p q.0 before)
+      | inr behind ↦ elim (cases_lt (length other) (length done)) [
+        | inl after ↦ absurd (ends_before other done b q p.0 after)
+        | inr not_ ↦
+            let same = plans_once done other (omega (arith, behind, not_)) p.0 q.0 in
+            let moved = subst (λ (l : List Plan). EndsIn (t l) ss (length l) a) same p.1 in
+            (same, ends_alike (t other) ss some (length other) (told other) a b moved q.1)
+      ]
+    ]
+
 -- ---- merges
 
 module _ (one : MergedIsOne) (corners : List Corner) (level : Option ℕ) where
   -- a round is written in one way
-  same_plan : (round : List Parts) (done : List Plan) (p q : Plan) → IsMerged corners level round done p → IsMerged corners level round done q → p ≡ q
+  pub same_plan : (round : List Parts) (done : List Plan) (p q : Plan) → IsMerged corners level round done p → IsMerged corners level round done q → p ≡ q
   same_plan round done p q is are = one corners level round done p q is are
 
   -- it passes, or is barred by one thing
-  passes_or_barred : (round : List Parts) (done : List Plan) (p : Plan) (r : Refusal) → Passes corners level round done p → IsBarred corners level round done r → ⊥
+  pub passes_or_barred : (round : List Parts) (done : List Plan) (p : Plan) (r : Refusal) → Passes corners level round done p → IsBarred corners level round done r → ⊥
   passes_or_barred round done p r passes (inl broken) =
       let no : (let o : Option Refusal = None in o) ≡ Some r = verdict_one (length corners) (rules_of corners round) None (Some r) passes.verdict broken in
       absurd (cc)
@@ -157,7 +209,7 @@ module _ (one : MergedIsOne) (corners : List Corner) (level : Option ℕ) where
       let no : (let o : Option Refusal = None in o) ≡ Some r = verdict_one (length corners) (limits_of done long.plan) None (Some r) (subst (λ (x : Plan). IsVerdict (length corners) (limits_of done x) None) same passes.limits) long.limits in
       absurd (cc)
 
-  barred_once : (round : List Parts) (done : List Plan) (r t : Refusal) → IsBarred corners level round done r → IsBarred corners level round done t → r ≡ t
+  pub barred_once : (round : List Parts) (done : List Plan) (r t : Refusal) → IsBarred corners level round done r → IsBarred corners level round done t → r ≡ t
   barred_once round done r t (inl broken) (inl breaks) = same_Some r t (verdict_one (length corners) (rules_of corners round) (Some r) (Some t) broken breaks)
   barred_once round done r t (inl broken) (inr long) =
       let no : (let o : Option Refusal = None in o) ≡ Some r = verdict_one (length corners) (rules_of corners round) None (Some r) long.verdict broken in
@@ -176,45 +228,9 @@ module _ (one : MergedIsOne) (corners : List Corner) (level : Option ℕ) where
   told_none : (done : List Plan) (n : ℕ) (round : List Parts) (p : Plan) → Passes corners level round done p → (stop : Stop) → (merge_telling corners level done).of_round n round stop → ⊥
   told_none done n round p passes stop told = passes_or_barred round done p told.0 passes told.1
 
-  module _ (ss : List Stream) (some : 0 < length ss) where
-    -- as many rounds are written in one way
-    plans_once : (done other : List Plan) → length done ≡ length other → AreWritten corners level ss done → AreWritten corners level ss other → done ≡ other
-    plans_once [] [] same is are = refl
-    plans_once [] (q ∷ other) same is are = absurd (omega (arith, same))
-    plans_once (p ∷ done) [] same is are = absurd (omega (arith, same))
-    plans_once (p ∷ done) (q ∷ other) same is are =
-        let many : length done ≡ length other = omega (arith, same) in
-        let rest = plans_once done other many is.1 are.1 in
-        let round = same_round ss (length done) (length other) is.0.0 are.0.0 many is.0.1 are.0.1 in
-        let moved = subst (λ (l : List Plan). IsMerged corners level are.0.0 l p) rest (subst (λ (l : List Parts). IsMerged corners level l done p) round is.0.2.is) in
-        ap (λ (x : Plan). x ∷ done) (same_plan are.0.0 other p q moved are.0.2.is) ∙ ap (λ (l : List Plan). q ∷ l) rest
-
-    -- the first of them
-    first_written : (n : ℕ) (done : List Plan) → n < length done → AreWritten corners level ss done → (p : Plan) × (first : List Plan) × (length first ≡ n) × AreWritten corners level ss (p ∷ first)
-    first_written n [] before are = absurd (omega (arith, before))
-    first_written n (p ∷ done) before are = elim (cases_lt n (length done)) [
-      | inl earlier ↦ first_written n done earlier are.1
-      | inr not_ ↦ (p, done, omega (arith, before, not_), are)
-    ]
-
-    ends_before : (done other : List Plan) (a : Outcome) → EndsWritten corners level ss done a → AreWritten corners level ss other → length done < length other → ⊥
-    ends_before done other a ends are before =
-        let f = first_written (length done) other before are in
-        let same = plans_once f.1 done f.2 f.3.1 ends.0 in
-        let more = subst (λ (l : List Plan). AreWritten corners level ss (f.0 ∷ l)) same f.3 in
-        ends_there (merge_telling corners level done) ss some (length done) more.0.0 more.0.1 (told_none done (length done) more.0.0 f.0 more.0.2) a ends.1
-
-    ends_at_one : (done other : List Plan) (a b : Outcome) → EndsWritten corners level ss done a → EndsWritten corners level ss other b → (done ≡ other) × (a ≡ b)
-    ends_at_one done other a b p q = elim (cases_lt (length done) (length other)) [
-      | inl before ↦ absurd (ends_before done other a p q.0 before)
-      | inr behind ↦ elim (cases_lt (length other) (length done)) [
-        | inl after ↦ absurd (ends_before other done b q p.0 after)
-        | inr not_ ↦
-            let same = plans_once done other (omega (arith, behind, not_)) p.0 q.0 in
-            let moved = subst (λ (l : List Plan). EndsIn (merge_telling corners level l) ss (length l) a) same p.1 in
-            (same, ends_alike (merge_telling corners level other) ss some (length other) (told_once other (length other)) a b moved q.1)
-      ]
-    ]
-
 pub ends_once : MergedIsOne → EndsOnce
-ends_once one corners level ss done other a b some p q = ends_at_one one corners level ss some done other a b p q
+ends_once one corners level ss done other a b some p q =
+    ends_at_one ss some (λ n. Passes corners level) (AreWritten corners level ss) (λ x rest are. are)
+    (λ n round rest x y passes others. same_plan one corners level round rest x y passes.is others.is)
+    (merge_telling corners level) (λ rest. told_none one corners level rest (length rest)) (λ rest. told_once one corners level rest (length rest))
+    done other a b p q

@@ -1,6 +1,7 @@
 -- Words spell one command.
 use Rattle.std.proofs.Common.{◌≡◌, ◌≢◌, ◌∙◌, sym, ap, ℕ, List, [], ◌∷◌, ◌++◌, Option, length, map, codes, get_or, drop, arith, refl}
-use Rattle.vx_run.specs.Grammar.{Command, show, extract, check_extract, merge, check_merge, verify, help, version, tid_words, level_words, Placing, placing_word, AskFor}
+use Rattle.std.specs.List.{AllByRecursion}
+use Rattle.vx_run.specs.Grammar.{Command, show, extract, check_extract, merge, play, check_merge, verify, help, version, tid_words, level_words, Placing, placing_word, AskFor, IsLevel, IsPlacing}
 use Rattle.vx_run.specs.inner.Placings.{placing_in}
 use Rattle.vx_run.proofs.Numbering.{behind_tid, behind_level, tid_first, only_tid_first, level_first, index_first, option_once, number_once}
 use Rattle.vx_run.proofs.Placings.{placings_read}
@@ -25,6 +26,9 @@ same_check t u i j f g p q r = cc
 same_merge : (l m : Option ℕ) (ps qs : List Placing) → l ≡ m → ps ≡ qs → merge l ps ≡ merge m qs
 same_merge l m ps qs p q = cc
 
+same_play : (l m : Option ℕ) (ps qs : List Placing) → l ≡ m → ps ≡ qs → play l ps ≡ play m qs
+same_play l m ps qs p q = cc
+
 same_verify : (f g : List ℕ) (ps qs : List Placing) → f ≡ g → ps ≡ qs → verify f ps ≡ verify g qs
 same_verify f g ps qs p q = cc
 
@@ -32,12 +36,21 @@ same_verify f g ps qs p q = cc
 abbrev behind_name : Option ℕ → List Placing → List (List ℕ)
 behind_name l ps = level_words l ++ map placing_word ps
 
+-- which spells one level and some placings
+same_names : (words : List (List ℕ)) (name : List ℕ) (l m : Option ℕ) (ps qs : List Placing) → words ≡ name ∷ behind_name l ps → words ≡ name ∷ behind_name m qs
+    → IsLevel l → AllByRecursion IsPlacing ps → IsLevel m → AllByRecursion IsPlacing qs → (l ≡ m) × (ps ≡ qs)
+same_names words name l m ps qs p q within are fits being =
+    let same : behind_name l ps ≡ behind_name m qs = ap (λ (ws : List (List ℕ)). drop 1 ws) (sym p ∙ q) in
+    let level = option_once (codes "--level") 255 (behind_name l ps) l m (map placing_word ps) (map placing_word qs) (omega arith) (merge_level l ps within are) (rw same (merge_level m qs fits being)) in
+    (level.0, sym (placings_read ps are) ∙ ap (λ (ws : List (List ℕ)). map placing_in ws) level.1 ∙ placings_read qs being)
+
 -- the words spell one command
 pub spelled_once : (words : List (List ℕ)) (c d : Command) → AskFor words c → AskFor words d → c ≡ d
 spelled_once words (show f) (show g) p q = ap (λ ws. show (get_or ws 1 [])) (sym p.spelled ∙ q.spelled)
 spelled_once words (show f) (extract u m j g) p q = absurd (other_first words (codes "show") (codes "extract") (f ∷ []) (tid_words u ++ behind_tid m j g) p.spelled q.spelled (omega arith))
 spelled_once words (show f) (check_extract u j g) p q = absurd (other_first words (codes "show") (codes "check") (f ∷ []) (codes "extract" ∷ (tid_words u ++ behind_level j g)) p.spelled q.spelled (omega arith))
 spelled_once words (show f) (merge m qs) p q = absurd (other_first words (codes "show") (codes "merge") (f ∷ []) (behind_name m qs) p.spelled q.spelled (omega arith))
+spelled_once words (show f) (play m qs) p q = absurd (other_letter words (codes "show") (codes "play") (f ∷ []) (behind_name m qs) p.spelled q.spelled (omega arith))
 spelled_once words (show f) (check_merge qs) p q = absurd (other_first words (codes "show") (codes "check") (f ∷ []) (codes "merge" ∷ map placing_word qs) p.spelled q.spelled (omega arith))
 spelled_once words (show f) (verify g qs) p q = absurd (other_first words (codes "show") (codes "verify") (f ∷ []) (codes "merge" ∷ g ∷ map placing_word qs) p.spelled q.spelled (omega arith))
 spelled_once words (show f) help p q = absurd (other_first words (codes "show") (codes "--help") (f ∷ []) [] p.spelled q.spelled (omega arith))
@@ -52,6 +65,7 @@ spelled_once words (extract t l i f) (extract u m j g) p q =
     same_extract t u l m i j f g tid.0 level.0 index.0 file
 spelled_once words (extract t l i f) (check_extract u j g) p q = absurd (other_first words (codes "extract") (codes "check") (tid_words t ++ behind_tid l i f) (codes "extract" ∷ (tid_words u ++ behind_level j g)) p.spelled q.spelled (omega arith))
 spelled_once words (extract t l i f) (merge m qs) p q = absurd (other_first words (codes "extract") (codes "merge") (tid_words t ++ behind_tid l i f) (behind_name m qs) p.spelled q.spelled (omega arith))
+spelled_once words (extract t l i f) (play m qs) p q = absurd (other_first words (codes "extract") (codes "play") (tid_words t ++ behind_tid l i f) (behind_name m qs) p.spelled q.spelled (omega arith))
 spelled_once words (extract t l i f) (check_merge qs) p q = absurd (other_first words (codes "extract") (codes "check") (tid_words t ++ behind_tid l i f) (codes "merge" ∷ map placing_word qs) p.spelled q.spelled (omega arith))
 spelled_once words (extract t l i f) (verify g qs) p q = absurd (other_first words (codes "extract") (codes "verify") (tid_words t ++ behind_tid l i f) (codes "merge" ∷ g ∷ map placing_word qs) p.spelled q.spelled (omega arith))
 spelled_once words (extract t l i f) help p q = absurd (other_first words (codes "extract") (codes "--help") (tid_words t ++ behind_tid l i f) [] p.spelled q.spelled (omega arith))
@@ -65,6 +79,7 @@ spelled_once words (check_extract t i f) (check_extract u j g) p q =
     let file : f ≡ g = ap (λ (ws : List (List ℕ)). get_or ws 0 []) index.1 in
     same_check t u i j f g tid.0 index.0 file
 spelled_once words (check_extract t i f) (merge m qs) p q = absurd (other_letter words (codes "check") (codes "merge") (codes "extract" ∷ (tid_words t ++ behind_level i f)) (behind_name m qs) p.spelled q.spelled (omega arith))
+spelled_once words (check_extract t i f) (play m qs) p q = absurd (other_first words (codes "check") (codes "play") (codes "extract" ∷ (tid_words t ++ behind_level i f)) (behind_name m qs) p.spelled q.spelled (omega arith))
 spelled_once words (check_extract t i f) (check_merge qs) p q = absurd (other_second words (codes "check") (codes "check") (codes "extract") (codes "merge") (tid_words t ++ behind_level i f) (map placing_word qs) p.spelled q.spelled (omega arith))
 spelled_once words (check_extract t i f) (verify g qs) p q = absurd (other_first words (codes "check") (codes "verify") (codes "extract" ∷ (tid_words t ++ behind_level i f)) (codes "merge" ∷ g ∷ map placing_word qs) p.spelled q.spelled (omega arith))
 spelled_once words (check_extract t i f) help p q = absurd (other_first words (codes "check") (codes "--help") (codes "extract" ∷ (tid_words t ++ behind_level i f)) [] p.spelled q.spelled (omega arith))
@@ -73,17 +88,29 @@ spelled_once words (merge l ps) (show g) p q = absurd (other_first words (codes 
 spelled_once words (merge l ps) (extract u m j g) p q = absurd (other_first words (codes "merge") (codes "extract") (behind_name l ps) (tid_words u ++ behind_tid m j g) p.spelled q.spelled (omega arith))
 spelled_once words (merge l ps) (check_extract u j g) p q = absurd (other_letter words (codes "merge") (codes "check") (behind_name l ps) (codes "extract" ∷ (tid_words u ++ behind_level j g)) p.spelled q.spelled (omega arith))
 spelled_once words (merge l ps) (merge m qs) p q =
-    let same : behind_name l ps ≡ behind_name m qs = ap (λ (ws : List (List ℕ)). drop 1 ws) (sym p.spelled ∙ q.spelled) in
-    let level = option_once (codes "--level") 255 (behind_name l ps) l m (map placing_word ps) (map placing_word qs) (omega arith) (merge_level l ps p.named.0 p.named.2) (rw same (merge_level m qs q.named.0 q.named.2)) in
-    same_merge l m ps qs level.0 (sym (placings_read ps p.named.2) ∙ ap (λ (ws : List (List ℕ)). map placing_in ws) level.1 ∙ placings_read qs q.named.2)
+    let one = same_names words (codes "merge") l m ps qs p.spelled q.spelled p.named.0 p.named.2 q.named.0 q.named.2 in
+    same_merge l m ps qs one.0 one.1
+spelled_once words (merge l ps) (play m qs) p q = absurd (other_first words (codes "merge") (codes "play") (behind_name l ps) (behind_name m qs) p.spelled q.spelled (omega arith))
 spelled_once words (merge l ps) (check_merge qs) p q = absurd (other_letter words (codes "merge") (codes "check") (behind_name l ps) (codes "merge" ∷ map placing_word qs) p.spelled q.spelled (omega arith))
 spelled_once words (merge l ps) (verify g qs) p q = absurd (other_first words (codes "merge") (codes "verify") (behind_name l ps) (codes "merge" ∷ g ∷ map placing_word qs) p.spelled q.spelled (omega arith))
 spelled_once words (merge l ps) help p q = absurd (other_first words (codes "merge") (codes "--help") (behind_name l ps) [] p.spelled q.spelled (omega arith))
 spelled_once words (merge l ps) version p q = absurd (other_first words (codes "merge") (codes "--version") (behind_name l ps) [] p.spelled q.spelled (omega arith))
+spelled_once words (play l ps) (show g) p q = absurd (other_letter words (codes "play") (codes "show") (behind_name l ps) (g ∷ []) p.spelled q.spelled (omega arith))
+spelled_once words (play l ps) (extract u m j g) p q = absurd (other_first words (codes "play") (codes "extract") (behind_name l ps) (tid_words u ++ behind_tid m j g) p.spelled q.spelled (omega arith))
+spelled_once words (play l ps) (check_extract u j g) p q = absurd (other_first words (codes "play") (codes "check") (behind_name l ps) (codes "extract" ∷ (tid_words u ++ behind_level j g)) p.spelled q.spelled (omega arith))
+spelled_once words (play l ps) (merge m qs) p q = absurd (other_first words (codes "play") (codes "merge") (behind_name l ps) (behind_name m qs) p.spelled q.spelled (omega arith))
+spelled_once words (play l ps) (play m qs) p q =
+    let one = same_names words (codes "play") l m ps qs p.spelled q.spelled p.named.0 p.named.2 q.named.0 q.named.2 in
+    same_play l m ps qs one.0 one.1
+spelled_once words (play l ps) (check_merge qs) p q = absurd (other_first words (codes "play") (codes "check") (behind_name l ps) (codes "merge" ∷ map placing_word qs) p.spelled q.spelled (omega arith))
+spelled_once words (play l ps) (verify g qs) p q = absurd (other_first words (codes "play") (codes "verify") (behind_name l ps) (codes "merge" ∷ g ∷ map placing_word qs) p.spelled q.spelled (omega arith))
+spelled_once words (play l ps) help p q = absurd (other_first words (codes "play") (codes "--help") (behind_name l ps) [] p.spelled q.spelled (omega arith))
+spelled_once words (play l ps) version p q = absurd (other_first words (codes "play") (codes "--version") (behind_name l ps) [] p.spelled q.spelled (omega arith))
 spelled_once words (check_merge ps) (show g) p q = absurd (other_first words (codes "check") (codes "show") (codes "merge" ∷ map placing_word ps) (g ∷ []) p.spelled q.spelled (omega arith))
 spelled_once words (check_merge ps) (extract u m j g) p q = absurd (other_first words (codes "check") (codes "extract") (codes "merge" ∷ map placing_word ps) (tid_words u ++ behind_tid m j g) p.spelled q.spelled (omega arith))
 spelled_once words (check_merge ps) (check_extract u j g) p q = absurd (other_second words (codes "check") (codes "check") (codes "merge") (codes "extract") (map placing_word ps) (tid_words u ++ behind_level j g) p.spelled q.spelled (omega arith))
 spelled_once words (check_merge ps) (merge m qs) p q = absurd (other_letter words (codes "check") (codes "merge") (codes "merge" ∷ map placing_word ps) (behind_name m qs) p.spelled q.spelled (omega arith))
+spelled_once words (check_merge ps) (play m qs) p q = absurd (other_first words (codes "check") (codes "play") (codes "merge" ∷ map placing_word ps) (behind_name m qs) p.spelled q.spelled (omega arith))
 spelled_once words (check_merge ps) (check_merge qs) p q =
     let same : map placing_word ps ≡ map placing_word qs = ap (λ (ws : List (List ℕ)). drop 2 ws) (sym p.spelled ∙ q.spelled) in
     ap check_merge (sym (placings_read ps p.named.1) ∙ ap (λ (ws : List (List ℕ)). map placing_in ws) same ∙ placings_read qs q.named.1)
@@ -94,6 +121,7 @@ spelled_once words (verify f ps) (show g) p q = absurd (other_first words (codes
 spelled_once words (verify f ps) (extract u m j g) p q = absurd (other_first words (codes "verify") (codes "extract") (codes "merge" ∷ f ∷ map placing_word ps) (tid_words u ++ behind_tid m j g) p.spelled q.spelled (omega arith))
 spelled_once words (verify f ps) (check_extract u j g) p q = absurd (other_first words (codes "verify") (codes "check") (codes "merge" ∷ f ∷ map placing_word ps) (codes "extract" ∷ (tid_words u ++ behind_level j g)) p.spelled q.spelled (omega arith))
 spelled_once words (verify f ps) (merge m qs) p q = absurd (other_first words (codes "verify") (codes "merge") (codes "merge" ∷ f ∷ map placing_word ps) (behind_name m qs) p.spelled q.spelled (omega arith))
+spelled_once words (verify f ps) (play m qs) p q = absurd (other_first words (codes "verify") (codes "play") (codes "merge" ∷ f ∷ map placing_word ps) (behind_name m qs) p.spelled q.spelled (omega arith))
 spelled_once words (verify f ps) (check_merge qs) p q = absurd (other_first words (codes "verify") (codes "check") (codes "merge" ∷ f ∷ map placing_word ps) (codes "merge" ∷ map placing_word qs) p.spelled q.spelled (omega arith))
 spelled_once words (verify f ps) (verify g qs) p q =
     let file : f ≡ g = ap (λ (ws : List (List ℕ)). get_or ws 2 []) (sym p.spelled ∙ q.spelled) in
@@ -105,6 +133,7 @@ spelled_once words help (show g) p q = absurd (other_first words (codes "--help"
 spelled_once words help (extract u m j g) p q = absurd (other_first words (codes "--help") (codes "extract") [] (tid_words u ++ behind_tid m j g) p.spelled q.spelled (omega arith))
 spelled_once words help (check_extract u j g) p q = absurd (other_first words (codes "--help") (codes "check") [] (codes "extract" ∷ (tid_words u ++ behind_level j g)) p.spelled q.spelled (omega arith))
 spelled_once words help (merge m qs) p q = absurd (other_first words (codes "--help") (codes "merge") [] (behind_name m qs) p.spelled q.spelled (omega arith))
+spelled_once words help (play m qs) p q = absurd (other_first words (codes "--help") (codes "play") [] (behind_name m qs) p.spelled q.spelled (omega arith))
 spelled_once words help (check_merge qs) p q = absurd (other_first words (codes "--help") (codes "check") ([]) (codes "merge" ∷ map placing_word qs) p.spelled q.spelled (omega arith))
 spelled_once words help (verify g qs) p q = absurd (other_letter words (codes "--help") (codes "verify") [] (codes "merge" ∷ g ∷ map placing_word qs) p.spelled q.spelled (omega arith))
 spelled_once words help help p q = refl
@@ -113,6 +142,7 @@ spelled_once words version (show g) p q = absurd (other_first words (codes "--ve
 spelled_once words version (extract u m j g) p q = absurd (other_first words (codes "--version") (codes "extract") [] (tid_words u ++ behind_tid m j g) p.spelled q.spelled (omega arith))
 spelled_once words version (check_extract u j g) p q = absurd (other_first words (codes "--version") (codes "check") [] (codes "extract" ∷ (tid_words u ++ behind_level j g)) p.spelled q.spelled (omega arith))
 spelled_once words version (merge m qs) p q = absurd (other_first words (codes "--version") (codes "merge") [] (behind_name m qs) p.spelled q.spelled (omega arith))
+spelled_once words version (play m qs) p q = absurd (other_first words (codes "--version") (codes "play") [] (behind_name m qs) p.spelled q.spelled (omega arith))
 spelled_once words version (check_merge qs) p q = absurd (other_first words (codes "--version") (codes "check") ([]) (codes "merge" ∷ map placing_word qs) p.spelled q.spelled (omega arith))
 spelled_once words version (verify g qs) p q = absurd (other_first words (codes "--version") (codes "verify") [] (codes "merge" ∷ g ∷ map placing_word qs) p.spelled q.spelled (omega arith))
 spelled_once words version help p q = absurd (other_first words (codes "--version") (codes "--help") [] [] p.spelled q.spelled (omega arith))

@@ -95,7 +95,7 @@ module _ {K : Type 0} (taken : K → Option (List ℕ)) (writes : K → ℕ) (o 
   abbrev Left : Work → K → List Plan → Type 0
   Left work x plans = Leaves work (change taken writes o x) plans
 
-  did_one : (work : Work) → Left work o' done → Did work (Ok tt) → (p : Plan) × Passes m.corners m.level round done p × Stands m (p ∷ done) × Left work o'' (p ∷ done)
+  pub did_one : (work : Work) → Left work o' done → Did work (Ok tt) → (p : Plan) × Passes m.corners m.level round done p × Stands m (p ∷ done) × Left work o'' (p ∷ done)
   did_one Check left did = (did.1.0, did.1.1, did.1.2, did.0 ∙ left)
   did_one Write left did =
       let p = did.1.0 in (
@@ -109,11 +109,11 @@ module _ {K : Type 0} (taken : K → Option (List ℕ)) (writes : K → ℕ) (o 
   did_refuse Check r left did = (did.0 ∙ left, did.1)
   did_refuse Write r left did = (gains_still taken writes o o' o'' (bytes_of done) [] left did.0 did.1, did.2)
 
-  did_nothing : (work : Work) → Left work o' done → Did work (Err errors.Memory) → Left work o'' done
+  pub did_nothing : (work : Work) → Left work o' done → Did work (Err errors.Memory) → Left work o'' done
   did_nothing Check left did = did.0 ∙ left
   did_nothing Write left did = gains_still taken writes o o' o'' (bytes_of done) [] left did.0 did.1
 
-  did_front : (work : Work) → Left work o' done → Did work (Err errors.SinkFailed) → (work ≡ Write) × ((p : Plan) × Passes m.corners m.level round done p × GainsInto (change taken writes o o'') (bytes_of done) (written (units_of p)))
+  pub did_front : (work : Work) → Left work o' done → Did work (Err errors.SinkFailed) → (work ≡ Write) × ((p : Plan) × Passes m.corners m.level round done p × GainsInto (change taken writes o o'') (bytes_of done) (written (units_of p)))
   did_front Check left did = absurd did.1
   did_front Write left did = (refl, (did.1.0, did.1.1, gains_into taken writes o o' o'' (bytes_of done) (written (units_of did.1.0)) left did.0 did.1.2))
 

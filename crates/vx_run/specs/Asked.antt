@@ -1,7 +1,7 @@
 -- The command that the program has read from its words.
 use Rattle.std.specs.Prelude.{map}
 use Rattle.vx_run.specs.declared.words.Command.{Command}
-use Rattle.vx_run.specs.declared.words.Command.TheVariants.{Show, Extract, CheckExtract, Merge, CheckMerge, Verify, Help, Version}
+use Rattle.vx_run.specs.declared.words.Command.TheVariants.{Show, Extract, CheckExtract, Merge, Play, CheckMerge, Verify, Help, Version}
 use Rattle.vx_run.specs.Grammar as grammar
 use Rattle.vx_run.specs.Grammar.{texts}
 use Rattle.vx_run.specs.inner.Placings.{placing_in}
@@ -11,6 +11,7 @@ asked (Show file) = grammar.show file.now
 asked (Extract tid level index file) = grammar.extract tid level index file.now
 asked (CheckExtract tid index file) = grammar.check_extract tid index file.now
 asked (Merge level placings) = grammar.merge level (map placing_in (texts placings.now))
+asked (Play level placings) = grammar.play level (map placing_in (texts placings.now))
 asked (CheckMerge placings) = grammar.check_merge (map placing_in (texts placings.now))
 asked (Verify finished placings) = grammar.verify finished.now (map placing_in (texts placings.now))
 asked Help = grammar.help

@@ -18,6 +18,7 @@ pub data Command : Type 0 where
   extract : (tid level : Option ℕ) (index : ℕ) → List ℕ → Command
   check_extract : (tid : Option ℕ) (index : ℕ) → List ℕ → Command
   merge : (level : Option ℕ) → List Placing → Command
+  play : (level : Option ℕ) → List Placing → Command
   check_merge : List Placing → Command
   verify : List ℕ → List Placing → Command
   help : Command
@@ -39,12 +40,13 @@ abbrev pub placing_word : Placing → List ℕ
 placing_word p = decimal p.x ++ (codes "," ++ (decimal p.y ++ (codes "=" ++ p.file)))
 
 -- `show FILE`, `extract [--tid T] [--level N] INDEX FILE`, `check extract [--tid T] INDEX FILE`, `merge [--level N] X,Y=FILE ..`,
--- `check merge X,Y=FILE ..`, `verify merge OUT X,Y=FILE ..`, `--help`, `--version`
+-- `play [--level N] X,Y=FILE ..`, `check merge X,Y=FILE ..`, `verify merge OUT X,Y=FILE ..`, `--help`, `--version`
 abbrev pub spelling : Command → List (List ℕ)
 spelling (show file) = codes "show" ∷ file ∷ []
 spelling (extract tid level index file) = codes "extract" ∷ (tid_words tid ++ (level_words level ++ (decimal index ∷ file ∷ [])))
 spelling (check_extract tid index file) = codes "check" ∷ codes "extract" ∷ (tid_words tid ++ (decimal index ∷ file ∷ []))
 spelling (merge level placings) = codes "merge" ∷ (level_words level ++ map placing_word placings)
+spelling (play level placings) = codes "play" ∷ (level_words level ++ map placing_word placings)
 spelling (check_merge placings) = codes "check" ∷ codes "merge" ∷ map placing_word placings
 spelling (verify finished placings) = codes "verify" ∷ codes "merge" ∷ finished ∷ map placing_word placings
 spelling help = codes "--help" ∷ []
@@ -70,6 +72,7 @@ IsWellNamed (show file) = file ≢ []
 IsWellNamed (extract tid level index file) = IsTid tid × IsLevel level × IsIndex index × (file ≢ [])
 IsWellNamed (check_extract tid index file) = IsTid tid × IsIndex index × (file ≢ [])
 IsWellNamed (merge level placings) = IsLevel level × (placings ≢ []) × AllByRecursion IsPlacing placings
+IsWellNamed (play level placings) = IsLevel level × (placings ≢ []) × AllByRecursion IsPlacing placings
 IsWellNamed (check_merge placings) = (placings ≢ []) × AllByRecursion IsPlacing placings
 IsWellNamed (verify finished placings) = (finished ≢ []) × (placings ≢ []) × AllByRecursion IsPlacing placings
 IsWellNamed help = Unit {0}
@@ -90,6 +93,7 @@ files_of (show file) = file ∷ []
 files_of (extract tid level index file) = file ∷ []
 files_of (check_extract tid index file) = file ∷ []
 files_of (merge level placings) = map (λ p. p.file) placings
+files_of (play level placings) = map (λ p. p.file) placings
 files_of (check_merge placings) = map (λ p. p.file) placings
 files_of (verify finished placings) = finished ∷ map (λ p. p.file) placings
 files_of help = []

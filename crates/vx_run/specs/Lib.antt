@@ -7,6 +7,7 @@ pub mod Extract
 pub mod Grammar
 pub mod Merge
 pub mod MergeAgain
+pub mod Play
 pub mod ReadAgain
 pub mod Rounds
 pub mod Run

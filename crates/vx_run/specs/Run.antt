@@ -6,8 +6,9 @@ use Rattle.vx_run.specs.Change.{Change, Sources, source_at, IsUntouched, AreUnto
 use Rattle.vx_run.specs.Conclusion.{Outcome}
 use Rattle.vx_run.specs.declared.extract.Task.{Task}
 use Rattle.vx_run.specs.Extract.{task_of, Extracts, Checks}
-use Rattle.vx_run.specs.Grammar.{Command, Placing, show, extract, check_extract, merge, check_merge, verify, help, version, AskFor, IsUnderstood}
+use Rattle.vx_run.specs.Grammar.{Command, Placing, show, extract, check_extract, merge, play, check_merge, verify, help, version, AskFor, IsUnderstood}
 use Rattle.vx_run.specs.Merge.{corners_of, ChecksMerge, Merges}
+use Rattle.vx_run.specs.Play.{Plays, file_regions, region_corners}
 use Rattle.vx_run.specs.Show.{Shows}
 use Rattle.vx_run.specs.Verify.{spots_of, Verifies}
 
@@ -17,6 +18,7 @@ Does (show file) sources out outcome = Shows (source_at sources 0) out outcome
 Does (extract tid level index file) sources out outcome = Extracts (task_of tid level index) (source_at sources 0) out outcome
 Does (check_extract tid index file) sources out outcome = Checks (task_of tid None index) (source_at sources 0) out outcome
 Does (merge level placings) sources out outcome = Merges (corners_of placings) level sources out outcome
+Does (play level placings) sources out outcome = Plays (region_corners placings) level (file_regions placings) sources out outcome
 Does (check_merge placings) sources out outcome = ChecksMerge (corners_of placings) sources out outcome
 Does (verify finished placings) sources out outcome = Verifies (spots_of placings) sources out outcome
 Does help sources out outcome = AreUntouched sources × Writes help_text out outcome

@@ -3,6 +3,7 @@ pub mod Advancing
 pub mod Extracting
 pub mod Merging
 pub mod Placings
+pub mod Playing
 pub mod Showing
 pub mod Verifying
 pub mod Words

@@ -28,6 +28,9 @@ pub(crate) fn help() -> &'static [u8]
              the pictures of up to 64 files as those of one byte stream, each with its
              upper left corner at luma sample X, Y; with N as its general_level_idc,
              or else the files' highest, which is mostly too low for all of them
+  play [--level N] X,Y=FILE ..
+             the same for up to 64 regions and 256 files: files with the same X,Y are one
+             region's, one behind another, with an end of sequence where one begins
   check merge X,Y=FILE ..
              whether that can be done, by the rules below, and for how many pictures
   verify merge OUT X,Y=FILE ..
@@ -56,7 +59,8 @@ The letters of the rules:
      breaks behind the units before it
   L  limits: L1 a unit of more than 2^23 bytes, L2 a picture of more than 2^25,
      L3 a source of more than 2^40, each also of what is to be written; L4 more
-     than 64 sources, L5 to L10 what no level, or this program, allows
+     than 64 sources or regions, L5 to L10 what no level, or this program, allows,
+     L11 more than 256 files
   E  extraction: E1 a stream without pictures, E2 a picture without the
      subpicture, E3 the subpicture isn't treated as a picture, E4 in-loop
      filters cross the borders of the subpicture, E5 an IRAP or GDR picture has
@@ -64,7 +68,8 @@ The letters of the rules:
   M  merging: M1 a source with several subpictures, M2, M7, M8 fields of its SPS,
      PPS or picture header that differ, M3 to M5 regions or tiles that don't fit,
      M6 another kind of picture, M9 to M13, M16 what its slices use that differs
-     or is too much, M14 an earlier end
+     or is too much, M14 an earlier end, M15 a picture that can't follow an end of
+     sequence, where a file begins behind others
   C  comparing, file 0 being OUT: C1 another number of subpictures, C2 a
      subpicture at another place, C3 another number of slices, C4 another decoding
      input of a slice, by its part and field, C5 an earlier end

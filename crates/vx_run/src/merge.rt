@@ -141,7 +141,7 @@ fn check_rounds<K: Sink>(
 }
 
 /// The corners of the regions in which these words place files.
-fn corners_of(alloc: Global, placings: &[String]) -> Result<Vec<Corner>, AllocError>
+pub(crate) fn corners_of(alloc: Global, placings: &[String]) -> Result<Vec<Corner>, AllocError>
     requires { AllByRecursion IsPlacingWord (texts placings.now) }
     ensures { IfOk result (λ corners. corners.items ≡ corners_by (map placing_in (texts placings.now))) }
 {
@@ -209,7 +209,7 @@ fn advance_all(
 }
 
 /// Whether all sources go on behind so many rounds, or all have ended.
-fn all_go_on(ended: &[bool], rounds: u64) -> Result<bool, Stop>
+pub(crate) fn all_go_on(ended: &[bool], rounds: u64) -> Result<bool, Stop>
     requires { (0 < length ended.now) × (length ended.now ≤ most_sources) }
     ensures goes { GoesBy length_refused ended.now rounds result }
     ensures stop { IfErr result IsOfCommand }
@@ -271,7 +271,7 @@ fn do_round<K: Sink>(
 }
 
 /// What stops the command where round `n` isn't put together.
-fn stop_of_round(error: WriteError, n: u64) -> Stop
+pub(crate) fn stop_of_round(error: WriteError, n: u64) -> Stop
     ensures { result ≡ stop_in error n }
 {
     match error {

@@ -1,14 +1,15 @@
 //! The program over words, sources and sinks.
 
-ghost use Rattle.std.specs.Prelude.{◌≡◌, ◌≢◌, ◌↔◌, ◌<◌, ◌≤◌, List, ℕ, Option as OptionOf, Some, None, Err, length, vec_len};
+ghost use Rattle.std.specs.Prelude.{◌≡◌, ◌≢◌, ◌↔◌, ◌⊎◌, ◌<◌, ◌≤◌, List, ℕ, Option as OptionOf, Some, None, Err, length, vec_len};
 ghost use Rattle.vx_pic.specs.Rules.{Readers};
 ghost use Rattle.vx_pic.specs.H266.{AreOfH266};
 ghost use Rattle.vx_run.specs.Change.{HasFault, change, source_at, sources_change};
 ghost use Rattle.vx_run.specs.Conclusion.{Outcome, ExitsWith};
 ghost use Rattle.vx_run.specs.declared.extract.Task.{Task as TaskAsked};
 ghost use Rattle.vx_run.specs.Extract.{WhereTold, IsStatus, task_of as task_by};
-ghost use Rattle.vx_run.specs.Grammar.{Command as Asked, Placing as PlacingAsked, show as for_show, merge as for_merge, check_merge as for_check, verify as for_verify, AskFor, IsTid, IsUnderstood, NamesFiles, texts};
+ghost use Rattle.vx_run.specs.Grammar.{Command as Asked, Placing as PlacingAsked, show as for_show, merge as for_merge, check_merge as for_check, play as for_play, verify as for_verify, AskFor, IsTid, IsUnderstood, NamesFiles, texts};
 ghost use Rattle.vx_run.specs.Merge.{IsMergeStatus, corners_of};
+ghost use Rattle.vx_run.specs.Play.{IsPlayStatus, file_regions, most_files, region_corners};
 ghost use Rattle.vx_run.specs.Rounds.{WhereAllTold, most_sources};
 ghost use Rattle.vx_run.specs.Run.{Performs, placings_in, task_in};
 ghost use Rattle.vx_run.specs.Show.{WhereKnown, status_at};
@@ -18,6 +19,7 @@ use crate::about::{help, version, write_text};
 use crate::conclude::conclude;
 use crate::extract::{Task, check_extract, extract};
 use crate::merge::{check_merge, merge};
+use crate::play::play;
 use crate::show::show;
 use crate::stop::Stop;
 use crate::verify::verify;
@@ -71,6 +73,13 @@ pub fn run<K: Sink, E: Sink>(
         → let all = sources_change bytes_left read_faults sources.old.items sources.new.items in
         ((k : ℕ) → k < vec_len sources.old → ¬ HasFault (source_at all k)) → ¬ HasFault (change K.bytes_taken K.write_faults out.old out.new)
         → result ≢ 4 → WhereAllTold R all (λ ss. IsVerifyStatus (spots_of placings) ss result) }
+    ensures plays { (R : Readers) → AreOfH266 R → (level : OptionOf ℕ) (placings : List PlacingAsked)
+        → AskFor (texts words.now) (for_play level placings) → length (region_corners placings) ≤ most_sources → length placings ≤ most_files
+        → let all = sources_change bytes_left read_faults sources.old.items sources.new.items in
+        ((k : ℕ) → k < vec_len sources.old → ¬ HasFault (source_at all k)) → ¬ HasFault (change K.bytes_taken K.write_faults out.old out.new)
+        → result ≢ 4 → WhereAllTold R all (λ ss. IsPlayStatus (region_corners placings) level (file_regions placings) ss result) }
+    ensures regions { (level : OptionOf ℕ) (placings : List PlacingAsked) → AskFor (texts words.now) (for_play level placings)
+        → (most_sources < length (region_corners placings)) ⊎ (most_files < length placings) → result ≢ 4 → result ≡ 1 }
     ensures many { (command : Asked) (placings : List PlacingAsked) → AskFor (texts words.now) command → placings_in command ≡ Some placings
         → most_sources < length placings → result ≢ 4 → result ≡ 1 }
 {
@@ -107,6 +116,7 @@ fn perform<K: Sink>(
             check_extract(alloc, task_of(tid, None, index), &mut sources[0], out)
         }
         Some(Command::Merge { level, placings }) => merge(alloc, level, placings, sources, out),
+        Some(Command::Play { level, placings }) => play(alloc, level, placings, sources, out),
         Some(Command::CheckMerge { placings }) => check_merge(alloc, placings, sources, out),
         Some(Command::Verify { placings, .. }) => verify(alloc, placings, sources, out),
         Some(Command::Help) => write_text(help(), out),

@@ -88,7 +88,7 @@ pub(crate) fn advance_each(
 }
 
 /// Comes to the next picture of source `k`, if there is one.
-fn advance(feed: &mut Feed, source: &mut Box<dyn Source>, k: u16) -> Result<bool, Stop>
+pub(crate) fn advance(feed: &mut Feed, source: &mut Box<dyn Source>, k: u16) -> Result<bool, Stop>
     ensures answer { (R : Readers) → AreOfH266 R → (g : List ℕ) (units : List UnitPlace) (readings : List Reading)
         → HasFed R feed.old g units readings → LastWasNeeded g units
         → AdvancesOf k R g units readings feed.new (bytes_left source.old) (bytes_left source.new) (read_faults source.old) (read_faults source.new) result }

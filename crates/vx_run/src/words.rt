@@ -3,8 +3,8 @@
 ghost use Rattle.std.specs.Prelude.{◌≡◌, ◌≤◌, ◌∷◌, ◌↔◌, [], ℕ, List, Option as OptionOf, true, false, decimal, codes, None, IfSome, IfNone, IsTrue, MatchOption, map, slice_get, option_copied};
 ghost use Rattle.std.specs.List.{AllByRecursion};
 ghost use Rattle.vx_run.specs.Asked.{asked};
-ghost use Rattle.vx_run.specs.Grammar.{Command as Asked, extract, check_extract, merge, check_merge, verify, Placing as PlacingAsked, spelling, IsWellNamed, AskFor, IsUnderstood, NamesFiles, files_of, texts};
-ghost use Rattle.vx_run.specs.inner.Placings.{IsPlacingWord, HasPlacings, PlaceFiles, Spells, placed, placing_in};
+ghost use Rattle.vx_run.specs.Grammar.{Command as Asked, extract, check_extract, merge, play, check_merge, verify, Placing as PlacingAsked, spelling, IsWellNamed, AskFor, IsUnderstood, NamesFiles, files_of, texts};
+ghost use Rattle.vx_run.specs.inner.Placings.{IsPlacingWord, HasPlacings, NameLevelAndFiles, PlaceFiles, Spells, placed, placing_in};
 ghost use Rattle.vx_run.specs.inner.Words.{BeginsNot, IsNumberFirst, IsOptionFirst, is_plain};
 
 /// What the words ask for, with what they name.
@@ -29,6 +29,11 @@ pub(crate) enum Command<'a> {
     },
     /// `merge [--level N] X,Y=FILE ..`, with the words behind the level.
     Merge {
+        level: Option<u8>,
+        placings: &'a [String],
+    },
+    /// `play [--level N] X,Y=FILE ..`, with the words behind the level.
+    Play {
         level: Option<u8>,
         placings: &'a [String],
     },
@@ -78,6 +83,9 @@ pub(crate) fn command_of(words: &[String]) -> Option<Command<'_>>
     }
     if let Some(rest) = behind(words, "merge") {
         return merge_of(rest);
+    }
+    if let Some(rest) = behind(words, "play") {
+        return play_of(rest);
     }
     if let Some(rest) = behind(words, "verify") {
         return verify_of(rest);
@@ -154,14 +162,32 @@ fn merge_of(words: &[String]) -> Option<Command<'_>>
     ensures none { IfNone result ((level : OptionOf ℕ) (placings : List PlacingAsked)
         → AskFor (codes "merge" ∷ texts words.now) (merge level placings) → ⊥) }
 {
+    let (level, placings) = level_and_files(words)?;
+    Some(Command::Merge { level, placings })
+}
+
+/// `[--level N] X,Y=FILE ..`
+fn play_of(words: &[String]) -> Option<Command<'_>>
+    ensures some { IfSome result (λ command. AskFor (codes "play" ∷ texts words.now) (asked command)) }
+    ensures placings { IfSome result HasPlacings }
+    ensures none { IfNone result ((level : OptionOf ℕ) (placings : List PlacingAsked)
+        → AskFor (codes "play" ∷ texts words.now) (play level placings) → ⊥) }
+{
+    let (level, placings) = level_and_files(words)?;
+    Some(Command::Play { level, placings })
+}
+
+/// `[--level N] X,Y=FILE ..`: the level, if there is one, and the words behind it.
+fn level_and_files(words: &[String]) -> Option<(Option<u8>, &[String])>
+    ensures { MatchOption result
+        ((level : OptionOf ℕ) (placings : List PlacingAsked) → NameLevelAndFiles (texts words.now) level placings → ⊥)
+        (λ r. NameLevelAndFiles (texts words.now) r.0 (map placing_in (texts r.1.now)) × AllByRecursion IsPlacingWord (texts r.1.now)) }
+{
     let (level, rest) = option(words, "--level", MOST_LEVEL)?;
     if !place_files(rest) {
         return None;
     }
-    Some(Command::Merge {
-        level,
-        placings: rest,
-    })
+    Some((level, rest))
 }
 
 /// `X,Y=FILE ..`
@@ -318,6 +344,7 @@ pub fn file_count(words: &[String]) -> usize
     match command_of(words) {
         Some(Command::Show { .. } | Command::Extract { .. } | Command::CheckExtract { .. }) => 1,
         Some(Command::Merge { placings, .. }) => placings.len(),
+        Some(Command::Play { placings, .. }) => placings.len(),
         Some(Command::CheckMerge { placings }) => placings.len(),
         Some(Command::Verify { placings, .. }) => placings.len() + 1,
         Some(Command::Help | Command::Version) | None => 0,
@@ -335,6 +362,7 @@ pub fn file_word(words: &[String], k: usize) -> Option<&str>
         | Command::Extract { file, .. }
         | Command::CheckExtract { file, .. } => file_alone_at(file, k),
         Command::Merge { placings, .. } => placed_file(placings, k),
+        Command::Play { placings, .. } => placed_file(placings, k),
         Command::CheckMerge { placings } => placed_file(placings, k),
         Command::Verify { finished, placings } => verified_file(finished, placings, k),
         Command::Help | Command::Version => None,

@@ -1,11 +1,11 @@
 -- Words `X,Y=FILE`, and their parts.
-use Rattle.std.specs.Prelude.{◌≡◌, ℕ, ◌<◌, ◌==◌, List, length, Bool}
+use Rattle.std.specs.Prelude.{◌≡◌, ◌≢◌, ℕ, ◌<◌, ◌==◌, List, [], ◌++◌, length, map, Bool, Option}
 use Rattle.std.specs.List.{AllByRecursion, before_first, after_first}
 use Rattle.std.specs.Str.Parse.{digits_value}
 use Rattle.vx_run.specs.declared.words.Command.{Command}
-use Rattle.vx_run.specs.declared.words.Command.TheVariants.{Show, Extract, CheckExtract, Merge, CheckMerge, Verify, Help, Version}
+use Rattle.vx_run.specs.declared.words.Command.TheVariants.{Show, Extract, CheckExtract, Merge, Play, CheckMerge, Verify, Help, Version}
 use Rattle.vx_run.specs.declared.words.Placing.{Placing as Placed}
-use Rattle.vx_run.specs.Grammar.{Placing, placing_word, IsPlacing, texts}
+use Rattle.vx_run.specs.Grammar.{Placing, placing_word, IsPlacing, IsLevel, level_words, texts}
 
 abbrev pub is_comma : ℕ → Bool
 is_comma b = b == 44
@@ -37,12 +37,18 @@ IsPlacingWord word = (p : Placing) × Spells word p
 abbrev pub PlaceFiles : List (List ℕ) → Type 0
 PlaceFiles words = (0 < length words) × AllByRecursion IsPlacingWord words
 
+-- a level, if there is one, and such words
+pub record NameLevelAndFiles (words : List (List ℕ)) (level : Option ℕ) (placings : List Placing) : Type 0 where
+  pub spelled : words ≡ level_words level ++ map placing_word placings
+  pub named : IsLevel level × (placings ≢ []) × AllByRecursion IsPlacing placings
+
 -- the words of a merge do
 abbrev pub HasPlacings : Command → Type 0
 HasPlacings (Show file) = Unit {0}
 HasPlacings (Extract tid level index file) = Unit {0}
 HasPlacings (CheckExtract tid index file) = Unit {0}
 HasPlacings (Merge level placings) = AllByRecursion IsPlacingWord (texts placings.now)
+HasPlacings (Play level placings) = AllByRecursion IsPlacingWord (texts placings.now)
 HasPlacings (CheckMerge placings) = AllByRecursion IsPlacingWord (texts placings.now)
 HasPlacings (Verify finished placings) = AllByRecursion IsPlacingWord (texts placings.now)
 HasPlacings Help = Unit {0}

@@ -1,5 +1,5 @@
 use Rattle.std.proofs.Common.{◌<◌, length, map, arith, refl}
-use Rattle.vx_run.specs.Grammar.{show, extract, check_extract, merge, check_merge, verify, help, version, texts}
+use Rattle.vx_run.specs.Grammar.{show, extract, check_extract, merge, play, check_merge, verify, help, version, texts}
 use Rattle.vx_run.specs.inner.Placings.{placing_in}
 use Rattle.vx_run.proofs.Performing.{names-file, performs, performs-show, performs-extract, performs-check, merge_count, verify_count}
 use Rattle.vx_run.proofs.program.perform.Goals as goal
@@ -46,6 +46,16 @@ merge-requires g c =
 pub returns-in-Some-Merge-clause-performs : goal.returns-in-Some-Merge-clause-performs
 returns-in-Some-Merge-clause-performs g c =
     performs _ _ _ _ (merge c.in-Some-Merge.level (map placing_in (texts c.in-Some-Merge.placings.now))) (rw c.in-Some-Merge.field-0-is at c.in-Some-Merge.ensures.some) c.merge.ensures.merges
+
+pub play-requires : goal.play-requires
+play-requires g c =
+    let spelled = rw c.in-Some-Play.field-0-is at c.in-Some-Play.ensures.some in
+    let count = merge_count _ _ (play c.in-Some-Play.level (map placing_in (texts c.in-Some-Play.placings.now))) c.in-Some-Play.placings.now refl c.requires spelled spelled.named.1 in
+    record { words = rw c.in-Some-Play.field-0-is at c.in-Some-Play.ensures.placings; some = count.0; count = count.1 }
+
+pub returns-in-Some-Play-clause-performs : goal.returns-in-Some-Play-clause-performs
+returns-in-Some-Play-clause-performs g c =
+    performs _ _ _ _ (play c.in-Some-Play.level (map placing_in (texts c.in-Some-Play.placings.now))) (rw c.in-Some-Play.field-0-is at c.in-Some-Play.ensures.some) c.play.ensures.plays
 
 pub check_merge-requires : goal.check_merge-requires
 check_merge-requires g c =

@@ -1,5 +1,7 @@
-use Rattle.vx_run.proofs.Ending.{exact-done, exact-stopped, extracts-done, extracts-stopped, words-stopped, checks-done, checks-stopped, merges-done, merges-stopped, verifies-done, verifies-stopped, many-done, many-stopped}
+use Rattle.vx_run.proofs.Ending.{exact-done, exact-stopped, extracts-done, extracts-stopped, words-stopped, checks-done, checks-stopped, merges-done, merges-stopped, verifies-done, verifies-stopped, plays-done, plays-stopped, limits-done, limits-stopped, many-done, many-stopped}
 use Rattle.vx_run.proofs.Once.{ends_once}
+use Rattle.vx_run.proofs.PlayOnce.{play_once}
+use Rattle.vx_run.proofs.PlayRegions.{some_regions}
 use Rattle.vx_run.proofs.Performing.{merge_some, verify_files_count}
 use Rattle.vx_run.proofs.VerifyOnce.{verify_once}
 use Rattle.vx_verify.proofs.Verdicts.{verified_has_none}
@@ -55,6 +57,20 @@ returns-in-Err-clause-verifies g c R of finished placings spelled few read =
     let some : 0 < length c.args.sources.now.items = omega (arith, verify_files_count _ _ finished placings c.requires spelled) in
     verifies-stopped _ _ _ finished placings spelled few (verify_once verified_has_none mismatch_one) R of _ c.in-Err.stop c.conclude.result some c.in-Err.ensures.performs c.conclude.ensures
     (λ k within. let fits : k < vec_len c.args.sources.now = omega (arith, within) in read k fits)
+
+pub returns-in-Ok-clause-plays : goal.returns-in-Ok-clause-plays
+returns-in-Ok-clause-plays g c R of level placings spelled regions few read write fits = plays-done _ _ _ level placings spelled regions few R of c.in-Ok.ensures.performs
+
+pub returns-in-Err-clause-plays : goal.returns-in-Err-clause-plays
+returns-in-Err-clause-plays g c R of level placings spelled regions few read =
+    plays-stopped _ _ _ level placings spelled regions few (play_once merged_one) R of _ c.in-Err.stop c.conclude.result (some_regions placings spelled.named.1) c.in-Err.ensures.performs c.conclude.ensures
+    (λ k within. let fits : k < vec_len c.args.sources.now = omega (arith, within) in read k fits)
+
+pub returns-in-Ok-clause-regions : goal.returns-in-Ok-clause-regions
+returns-in-Ok-clause-regions g c level placings spelled over fits = limits-done _ _ _ level placings spelled 0 c.in-Ok.ensures.performs over
+
+pub returns-in-Err-clause-regions : goal.returns-in-Err-clause-regions
+returns-in-Err-clause-regions g c level placings spelled over = limits-stopped _ _ _ level placings spelled _ c.in-Err.stop c.conclude.result c.in-Err.ensures.performs c.conclude.ensures over
 
 pub returns-in-Ok-clause-many : goal.returns-in-Ok-clause-many
 returns-in-Ok-clause-many g c command placings spelled is many fits = many-done _ _ _ command placings spelled is many 0 c.in-Ok.ensures.performs

@@ -1,0 +1,292 @@
+//! `play`: the files of each region one behind another, and the regions put together, round by round.
+
+ghost use Rattle.std.specs.Prelude.{◌≡◌, ◌≢◌, ◌<◌, ◌≤◌, [], ℕ, List, All, map, length, vec_len, slice_get, slice_index, Err, IfOk, IfErr, OnOk, MatchOption};
+ghost use Rattle.std.specs.List.{AllByRecursion};
+ghost use Rattle.vx_pic.specs.Readings.{Picture as StreamPicture};
+ghost use Rattle.vx_pic.specs.Rules.{Readers};
+ghost use Rattle.vx_pic.specs.H266.{AreOfH266};
+ghost use Rattle.vx_pic.specs.Written.{Plan};
+ghost use Rattle.vx_assemble.specs.Held.{HasPicture, lent_by};
+ghost use Rattle.vx_merge.specs.Merging.{AreCorners, SameTask, Stands};
+ghost use Rattle.vx_play.specs.Scheduled.{count_of as region_count, files_of};
+ghost use Rattle.vx_run.specs.Change.{change, sources_change};
+ghost use Rattle.vx_run.specs.Conclusion.{IsOfCommand};
+ghost use Rattle.vx_run.specs.Grammar.{texts};
+ghost use Rattle.vx_run.specs.Merge.{corners_of as corners_by};
+ghost use Rattle.vx_run.specs.Play.{Plays, PlaysBy, PlayEndsOnce, file_regions, most_files, region_corners, region_of as region_by, with_corner, with_corners, too_many_files as too_many_of_files};
+ghost use Rattle.vx_run.specs.Rounds.{most_sources};
+ghost use Rattle.vx_run.specs.inner.Placings.{IsPlacingWord, placing_in};
+ghost use Rattle.vx_run.specs.inner.Playing.{AdvancesEach, AdvancesRegions, AreFew, ArePlaced, GoesOn, HasFound, IsAt, PlaysRound, SameBut, SameFiles, WritesRound};
+
+use crate::merge::{all_go_on, corners_of, stop_of_round};
+use crate::rounds::{MOST_SOURCES, advance, feeds_for, going, in_round, one_more, too_many};
+use crate::stop::Stop;
+use std::alloc::{AllocError, Global};
+use vx_assemble::Feed;
+use vx_bits::Refusal;
+use vx_bits::rules::TOO_MANY_FILES;
+use vx_io::{Sink, Source};
+use vx_merge::{Corner, Merger, WriteError};
+use vx_play::Schedule;
+
+/// How many files there may be.
+const MOST_FILES: usize = 256;
+
+/// More rounds than so many files can have.
+const MOST_ROUNDS: u64 = 1 << 49;
+
+/// Regions with their corners, and the region of each file.
+#[derive(Drop)]
+struct Regions {
+    corners: Vec<Corner>,
+    files: Vec<u32>,
+}
+
+/// Writes the pictures of the files of each region, one file behind another, as those of one stream; with a level of its own or the files'
+/// highest.
+pub(crate) fn play<K: Sink>(
+    alloc: Global,
+    level: Option<u8>,
+    placings: &[String],
+    sources: &mut Vec<Box<dyn Source>>,
+    out: &mut K,
+) -> Result<(), Stop>
+    requires words { AllByRecursion IsPlacingWord (texts placings.now) }
+    requires some { 0 < length placings.now }
+    requires count { vec_len sources.old ≡ length placings.now }
+    ensures plays { Plays (region_corners (map placing_in (texts placings.now))) level (file_regions (map placing_in (texts placings.now)))
+        (sources_change bytes_left read_faults sources.old.items sources.new.items)
+        (change K.bytes_taken K.write_faults out.old out.new) result }
+    ensures list { vec_len sources.new ≡ vec_len sources.old }
+{
+    let Some(regions) = regions_of(alloc, placings)? else {
+        return Err(too_many());
+    };
+    if regions.files.len() > MOST_FILES {
+        return Err(too_many_files());
+    }
+    play_rounds(alloc, level, &regions.files, &regions.corners, sources, out)
+}
+
+/// More files are named than there may be.
+fn too_many_files() -> Stop
+    ensures { Err result ≡ too_many_of_files }
+{
+    Stop::Refused {
+        refusal: Refusal::Limit {
+            code: TOO_MANY_FILES,
+        },
+        place: in_round(0),
+    }
+}
+
+/// The regions in which these words place files: those with the same corner are one. None where there are too many.
+fn regions_of(alloc: Global, placings: &[String]) -> Result<Option<Regions>, AllocError>
+    requires { AllByRecursion IsPlacingWord (texts placings.now) }
+    ensures { IfOk result (λ found. MatchOption found (most_sources < length (with_corners [] (corners_by (map placing_in (texts placings.now)))))
+        (λ r. HasFound (corners_by (map placing_in (texts placings.now))) r.corners.items r.files.items × (vec_len r.corners ≤ most_sources))) }
+{
+    let all = corners_of(alloc, placings)?;
+    let mut corners = Vec::new(alloc);
+    let mut files = Vec::new(alloc);
+    for corner in &all {
+        let region = placed(&mut corners, *corner)?;
+        if region == MOST_SOURCES {
+            return Ok(None);
+        }
+        files.push(region as u32)?;
+    }
+    Ok(Some(Regions { corners, files }))
+}
+
+/// The region with this corner: a new one where none of these has it.
+fn placed(corners: &mut Vec<Corner>, corner: Corner) -> Result<usize, AllocError>
+    ensures region { IfOk result (λ r. r ≡ region_by corners.old.items corner) }
+    ensures within { IfOk result (λ r. r ≤ vec_len corners.old) }
+    ensures corners { OnOk result (corners.new.items ≡ with_corner corners.old.items corner) }
+{
+    let region = region_of(corners, corner);
+    if region == corners.len() {
+        corners.push(corner)?;
+    }
+    Ok(region)
+}
+
+/// The place of a corner among these, or how many there are.
+fn region_of(corners: &[Corner], corner: Corner) -> usize
+    ensures place { result ≡ region_by corners.now corner }
+    ensures within { result ≤ length corners.now }
+{
+    for k in 0..corners.len() {
+        if corners[k] == corner {
+            return k;
+        }
+    }
+    corners.len()
+}
+
+/// Writes all rounds of the files of regions.
+fn play_rounds<K: Sink>(
+    alloc: Global,
+    level: Option<u8>,
+    files: &[u32],
+    corners: &[Corner],
+    sources: &mut Vec<Box<dyn Source>>,
+    out: &mut K,
+) -> Result<(), Stop>
+    requires corners { AreCorners corners.now }
+    requires few { length files.now ≤ most_files }
+    requires regions { region_count files.now ≡ length corners.now }
+    requires count { vec_len sources.old ≡ length files.now }
+    ensures plays { (R : Readers) → AreOfH266 R → PlaysBy R corners.now level files.now
+        (sources_change bytes_left read_faults sources.old.items sources.new.items)
+        (change K.bytes_taken K.write_faults out.old out.new) result }
+    ensures stop { IfErr result IsOfCommand }
+    ensures list { vec_len sources.new ≡ vec_len sources.old }
+{
+    let mut schedule = Schedule::new(alloc, files)?;
+    let mut feeds = feeds_for(alloc, corners.len())?;
+    let mut ended = going(alloc, corners.len())?;
+    let mut merger = Merger::new(alloc, corners, level)?;
+    let mut rounds = 0;
+    while advance_regions(alloc, &mut schedule, &mut feeds, sources, &mut ended, rounds)? {
+        play_round(schedule.is_join(), &mut merger, &feeds, rounds, out)?;
+        rounds = one_more(rounds, MOST_ROUNDS);
+    }
+    Ok(())
+}
+
+/// Comes to the next picture of each region, in order, behind so many rounds, if they go on.
+fn advance_regions(
+    alloc: Global,
+    schedule: &mut Schedule,
+    feeds: &mut Vec<Feed>,
+    sources: &mut Vec<Box<dyn Source>>,
+    ended: &mut Vec<bool>,
+    rounds: u64,
+) -> Result<bool, Stop>
+    requires some { 0 < vec_len feeds.old }
+    requires few { vec_len feeds.old ≤ most_sources }
+    requires files { length schedule.old.regions ≡ vec_len sources.old }
+    requires sources { vec_len sources.old ≤ most_files }
+    requires regions { length schedule.old.gone ≡ vec_len feeds.old }
+    requires ended { vec_len ended.old ≡ vec_len feeds.old }
+    ensures answer { (R : Readers) → AreOfH266 R → (first : List _) (passed : ℕ → List (List StreamPicture)) (own : ℕ → List StreamPicture)
+        → ArePlaced R (sources_change bytes_left read_faults first sources.old.items) schedule.old feeds.old.items passed own
+        → AdvancesRegions R (sources_change bytes_left read_faults first sources.new.items) schedule.old schedule.new feeds.new.items ended.new.items passed own rounds result }
+    ensures schedule { SameFiles schedule.old schedule.new }
+    ensures stop { IfErr result IsOfCommand }
+    ensures feeds { vec_len feeds.new ≡ vec_len feeds.old }
+    ensures ended { vec_len ended.new ≡ vec_len ended.old }
+    ensures list { vec_len sources.new ≡ vec_len sources.old }
+{
+    advance_each(alloc, schedule, feeds, sources, ended)?;
+    all_go_on(ended, rounds)
+}
+
+/// Comes to the next picture of each region, in order, and marks those that have ended.
+fn advance_each(
+    alloc: Global,
+    schedule: &mut Schedule,
+    feeds: &mut Vec<Feed>,
+    sources: &mut Vec<Box<dyn Source>>,
+    ended: &mut Vec<bool>,
+) -> Result<(), Stop>
+    requires few { vec_len feeds.old ≤ most_sources }
+    requires files { length schedule.old.regions ≡ vec_len sources.old }
+    requires sources { vec_len sources.old ≤ most_files }
+    requires regions { length schedule.old.gone ≡ vec_len feeds.old }
+    requires ended { vec_len ended.old ≡ vec_len feeds.old }
+    ensures answer { (R : Readers) → AreOfH266 R → (first : List _) (passed : ℕ → List (List StreamPicture)) (own : ℕ → List StreamPicture)
+        → ArePlaced R (sources_change bytes_left read_faults first sources.old.items) schedule.old feeds.old.items passed own
+        → AdvancesEach R (sources_change bytes_left read_faults first sources.new.items) schedule.old schedule.new feeds.new.items ended.new.items passed own result }
+    ensures schedule { SameFiles schedule.old schedule.new }
+    ensures stop { IfErr result IsOfCommand }
+    ensures feeds { vec_len feeds.new ≡ vec_len feeds.old }
+    ensures ended { vec_len ended.new ≡ vec_len ended.old }
+    ensures list { vec_len sources.new ≡ vec_len sources.old }
+{
+    for k in 0..feeds.len() {
+        let goes = advance_region(alloc, k as u32, schedule, &mut feeds[k], sources)?;
+        ended[k] = !goes;
+    }
+    Ok(())
+}
+
+/// Comes to the next picture of region `k`: in the file that it is at, or in the first one behind that which has a picture.
+fn advance_region(
+    alloc: Global,
+    k: u32,
+    schedule: &mut Schedule,
+    feed: &mut Feed,
+    sources: &mut Vec<Box<dyn Source>>,
+) -> Result<bool, Stop>
+    requires region { k < length schedule.old.gone }
+    requires files { length schedule.old.regions ≡ vec_len sources.old }
+    requires sources { vec_len sources.old ≤ most_files }
+    ensures answer { (R : Readers) → AreOfH266 R → (first : List _) (passed : List (List StreamPicture)) (own : List StreamPicture)
+        → IsAt R (sources_change bytes_left read_faults first sources.old.items) (files_of schedule.old.regions k) feed.old passed own
+        → AreFew passed own → length passed ≡ slice_index schedule.old.gone k
+        → GoesOn R (sources_change bytes_left read_faults first sources.new.items) (files_of schedule.old.regions k)
+        (slice_index schedule.old.gone k) (slice_index schedule.new.gone k) feed.new passed own result }
+    ensures rest { (j : ℕ) → slice_index schedule.old.regions j ≢ k → slice_get sources.new.items j ≡ slice_get sources.old.items j }
+    ensures schedule { SameBut k schedule.old schedule.new }
+    ensures stop { IfErr result IsOfCommand }
+    ensures list { vec_len sources.new ≡ vec_len sources.old }
+{
+    while let Some(file) = schedule.current(k) {
+        if advance(feed, &mut sources[file as usize], file as u16)? {
+            return Ok(true);
+        }
+        schedule.ended(k);
+        *feed = Feed::new(alloc)?;
+    }
+    Ok(false)
+}
+
+/// Writes the round of the pictures that the feeds lend, behind so many rounds, to which it may be joined.
+fn play_round<K: Sink>(
+    joins: bool,
+    merger: &mut Merger,
+    feeds: &[Feed],
+    rounds: u64,
+    out: &mut K,
+) -> Result<(), Stop>
+    requires count { length feeds.now ≡ length merger.old.corners }
+    requires holds { All (λ f. HasPicture f.assembler) feeds.now }
+    ensures plays { (done : List Plan) → Stands merger.old done
+        → PlaysRound joins (map (λ f. lent_by f.assembler) feeds.now) done merger.new
+        (change K.bytes_taken K.write_faults out.old out.new) rounds result }
+    ensures task { SameTask merger.old merger.new }
+    ensures stop { IfErr result IsOfCommand }
+{
+    match write_round(joins, merger, feeds, out) {
+        Ok(()) => Ok(()),
+        Err(error) => Err(stop_of_round(error, rounds)),
+    }
+}
+
+/// Writes the round, joined or as it is.
+fn write_round<K: Sink>(
+    joins: bool,
+    merger: &mut Merger,
+    feeds: &[Feed],
+    out: &mut K,
+) -> Result<(), WriteError>
+    requires count { length feeds.now ≡ length merger.old.corners }
+    requires holds { All (λ f. HasPicture f.assembler) feeds.now }
+    ensures writes { (done : List Plan) → Stands merger.old done
+        → WritesRound joins (map (λ f. lent_by f.assembler) feeds.now) done merger.new
+        (K.bytes_taken out.old) (K.bytes_taken out.new) (K.write_faults out.old) (K.write_faults out.new) result }
+    ensures task { SameTask merger.old merger.new }
+{
+    if joins {
+        return merger.joined_round(feeds, out);
+    }
+    merger.round(feeds, out)
+}
+
+/// What is played ends once.
+pub fn play_ends_once()
+    ensures { PlayEndsOnce }
+{}
