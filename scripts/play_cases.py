@@ -85,7 +85,9 @@ def add_generated(cases):
     one = unhex("000000010079000302338000004080812003de0030060800100000000100810000204040898408000000010041c41889891774f180")
     two = unhex("000000010079000302338000004080812003de0030060800100000000100810000204040898302000000010041c4181e2138422e80"
                 "00000001000188f81964afc00e80")
-    sets = (sps(256, 128, subpics=[(0, 0, 2, 2), (2, 0, 2, 2)]), pps(256, 128, partition=partition(64, [2, 2], [2], 2, [("ue", 0)])))
+    # The first slice is one tile wide, and all of its tile, as the last one is.
+    cut = partition(64, [2, 2], [2], 2, [("ue", 0), ("ue", 0)])
+    sets = sps(256, 128, subpics=[(0, 0, 2, 2), (2, 0, 2, 2)]), pps(256, 128, partition=cut)
     first = stream(*sets, ph(I0), left(I0, payload=unhex("89891774f180")), right(I0, qp_delta=-1, payload=unhex("1e2138422e80")))
     played(cases, ("0,0", "128,0", "0,0"), (one, two, one), refused("M15 picture 1 source 1", first))
 
