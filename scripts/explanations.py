@@ -1,0 +1,89 @@
+#!/usr/bin/env python3
+r"""Makes crates/vx_explain/src/texts.rt, what the program tells of rules and fields, from docs/REFUSALS.md and docs/FIELDS.md.
+
+    scripts/explanations.py [--check]
+
+The two pages are the source: change a rule there, and a field in crates/vx_fields (scripts/list-fields.sh makes docs/FIELDS.md), and run
+this. With --check nothing is written; the status is 1 where texts.rt isn't what would be.
+
+A text is a run of parts with a bar between two. A part begins with its word and a blank, and is what the program writes, in lines of at
+most 78 characters. Of a rule it is what its page says, of `Y` with all reasons; of a field its name, its structure and clause, and its
+sentence, and that it isn't compared where a star stands.
+"""
+import pathlib
+import re
+import sys
+import textwrap
+
+ROOT = pathlib.Path(__file__).resolve().parent.parent
+TEXTS = ROOT / "crates/vx_explain/src/texts.rt"
+WIDTH = 78
+HEAD = """\
+//! What there is to tell of rules and fields, as `scripts/explanations.py` makes it of docs/REFUSALS.md and docs/FIELDS.md.
+//!
+//! Parts of a text have a bar between them. Each begins with its word and a blank.
+"""
+
+
+def plain(text):
+    """Text without Markdown's links and its marks for bold and slanted words."""
+    text = re.sub(r"\[([^]]*)\]\([^)]*\)", r"\1", text)
+    return re.sub(r"(\*\*?)(\S(?:.*?\S)?)\1", r"\2", text)
+
+
+def broken(line):
+    """A line of a page as lines that keep its indent; those of an item of a list stand behind its dash."""
+    indent = line[: len(line) - len(line.lstrip())]
+    behind = indent + ("  " if line.startswith("- ", len(indent)) else "")
+    return textwrap.fill(plain(line.strip()), WIDTH, initial_indent=indent, subsequent_indent=behind, break_on_hyphens=False) + "\n"
+
+
+def told(*lines):
+    """What the program writes."""
+    return "".join(map(broken, lines))
+
+
+def rules(page):
+    """The parts of the page on refusals: a rule each, or a letter where its items have no numbers."""
+    for section in page.split("\n## ")[1:]:
+        heading, *lines = section.rstrip().split("\n")
+        letter, topic, example = re.fullmatch(r"(\w): (.*?) \((`.*`)\)", heading).groups()
+        items = re.split(r"^- ", "\n".join(lines), flags=re.M)
+        if items[1].startswith(f"**{letter}1** "):
+            for item in items[1:]:
+                yield told(*(line.removeprefix("  ") for line in item.rstrip().split("\n")))
+        else:
+            about = filter(None, items[0].split("\n"))
+            reasons = (line for item in items[1:] for line in f"- {item.rstrip()}".split("\n"))
+            yield told(f"{letter} {topic[0].upper()}{topic[1:]}: {example}.", *about, *reasons)
+
+
+def fields(page):
+    """The parts of the page on fields, a field each."""
+    for line in page.split("\n"):
+        if line.startswith("Fields of "):
+            structure = line.removeprefix("Fields of ")
+        elif row := re.fullmatch(r"\| (\d+) \| `(\w+)` \| (\*|gap)? ?\| (.*) \|", line):
+            number, name, star, sentence = row.groups()
+            yield told(f"{number} {name}: a field of {structure}", sentence + " It isn't compared." * (star == "*"))
+
+
+def constant(name, doc, parts):
+    """A constant that holds a text."""
+    text = "|".join(parts)
+    assert text.isascii() and text.count("|") == len(parts) - 1 and not re.search(r'["\\]', text)
+    return f'\n/// {doc}\npub(crate) const {name}: [u8; {len(text)}] = *b"{text}";\n'
+
+
+def main():
+    """Writes the constants, or compares them."""
+    page = {name: (ROOT / f"docs/{name}.md").read_text() for name in ("REFUSALS", "FIELDS")}
+    made = HEAD + constant("RULES", "The rules.", list(rules(page["REFUSALS"])))
+    made += constant("FIELDS", "The fields.", list(fields(page["FIELDS"])))
+    if sys.argv[1:] == ["--check"]:
+        sys.exit(TEXTS.read_text() != made)
+    TEXTS.write_text(made)
+
+
+if __name__ == "__main__":
+    main()
