@@ -1,14 +1,14 @@
 #!/usr/bin/env python3
-r"""Makes crates/vx_explain/src/texts.rt, what the program tells of rules and fields, from docs/REFUSALS.md and docs/FIELDS.md.
+r"""Makes crates/vx_explain/src/text.rt, what there is to tell of rules and fields, from docs/REFUSALS.md and docs/FIELDS.md.
 
     scripts/explanations.py [--check]
 
 The two pages are the source: change a rule there, and a field in crates/vx_fields (scripts/list-fields.sh makes docs/FIELDS.md), and run
-this. With --check nothing is written; the status is 1 where texts.rt isn't what would be.
+this. With --check nothing is written; the status is 1 where text.rt isn't what would be.
 
-A text is a run of parts with a bar between two. A part begins with its word and a blank, and is what the program writes, in lines of at
-most 78 characters. Of a rule it is what its page says, of `Y` with all reasons; of a field its name, its structure and clause, and its
-sentence, and that it isn't compared where a star stands.
+The text is a run of parts with a bar between two. A part begins with its word and a blank, and is what the program writes, in lines of at
+most 78 characters. Of a rule it is what its page says, of `Y` with all reasons; of a field its name and sentence, its structure and
+clause, and that it isn't compared where a star stands.
 """
 import pathlib
 import re
@@ -16,12 +16,14 @@ import sys
 import textwrap
 
 ROOT = pathlib.Path(__file__).resolve().parent.parent
-TEXTS = ROOT / "crates/vx_explain/src/texts.rt"
+TEXT = ROOT / "crates/vx_explain/src/text.rt"
 WIDTH = 78
+# Fields with a star that `merge` compares, as docs/FIELDS.md says above its lists.
+MERGED = ("general_profile_idc", "general_tier_flag", "ptl_frame_only_constraint_flag", "ptl_multilayer_enabled_flag")
 HEAD = """\
 //! What there is to tell of rules and fields, as `scripts/explanations.py` makes it of docs/REFUSALS.md and docs/FIELDS.md.
-//!
-//! Parts of a text have a bar between them. Each begins with its word and a blank.
+
+/// The parts, with a bar between two. Each begins with its word and a blank, and is what is told of this word.
 """
 
 
@@ -58,6 +60,13 @@ def rules(page):
             yield told(f"{letter} {topic[0].upper()}{topic[1:]}: {example}.", *about, *reasons)
 
 
+def compared(name, star):
+    """What is added of a field that isn't compared."""
+    if star != "*":
+        return ""
+    return " Only `merge` compares it, among its sources (M2)." if name in MERGED else " It isn't compared between streams."
+
+
 def fields(page):
     """The parts of the page on fields, a field each."""
     for line in page.split("\n"):
@@ -65,24 +74,19 @@ def fields(page):
             structure = line.removeprefix("Fields of ")
         elif row := re.fullmatch(r"\| (\d+) \| `(\w+)` \| (\*|gap)? ?\| (.*) \|", line):
             number, name, star, sentence = row.groups()
-            yield told(f"{number} {name}: a field of {structure}", sentence + " It isn't compared." * (star == "*"))
-
-
-def constant(name, doc, parts):
-    """A constant that holds a text."""
-    text = "|".join(parts)
-    assert text.isascii() and text.count("|") == len(parts) - 1 and not re.search(r'["\\]', text)
-    return f'\n/// {doc}\npub(crate) const {name}: [u8; {len(text)}] = *b"{text}";\n'
+            yield told(f"{number} {name}: {sentence}", f"A field of {structure}{compared(name, star)}")
 
 
 def main():
-    """Writes the constants, or compares them."""
-    page = {name: (ROOT / f"docs/{name}.md").read_text() for name in ("REFUSALS", "FIELDS")}
-    made = HEAD + constant("RULES", "The rules.", list(rules(page["REFUSALS"])))
-    made += constant("FIELDS", "The fields.", list(fields(page["FIELDS"])))
+    """Writes the text, or compares it."""
+    refusals, numbers = ((ROOT / f"docs/{name}.md").read_text() for name in ("REFUSALS", "FIELDS"))
+    parts = [*rules(refusals), *fields(numbers)]
+    text = "|".join(parts)
+    assert text.isascii() and text.count("|") == len(parts) - 1 and not re.search(r'["\\]', text)
+    made = f'{HEAD}pub(crate) static TEXT: [u8; {len(text)}] = *b"{text}";\n'
     if sys.argv[1:] == ["--check"]:
-        sys.exit(TEXTS.read_text() != made)
-    TEXTS.write_text(made)
+        sys.exit(TEXT.read_text() != made)
+    TEXT.write_text(made)
 
 
 if __name__ == "__main__":

@@ -1,42 +1,32 @@
-//! What there is to tell of the rules that the program names, and of the fields by their numbers.
+//! What there is to tell of the rules that refusals name, and of the fields that they name by numbers.
 #![tactic(auto)]
 
-mod texts;
-ghost use Rattle.std.specs.Prelude.{◌≡◌, map};
+mod laws;
+mod text;
+
+ghost use Rattle.std.specs.Prelude.{◌≡◌};
 ghost use Rattle.std.specs.Option.{option_copied};
-ghost use Rattle.vx_explain.specs.Told as words;
-ghost use Rattle.vx_explain.specs.declared.texts.TheConstants.{RULES, FIELDS};
+ghost use Rattle.vx_explain.specs.Explained as words;
+
+pub use laws::rules_and_fields_are_explained;
+use text::TEXT;
 
 /// The word that a part begins with.
 fn word_of(part: &[u8]) -> &[u8]
     ensures { result.now ≡ words.word_of part.now }
 {
-    let end = part.iter().position(|byte| *byte == b' ').unwrap_or(part.len());
+    let end = part
+        .iter()
+        .position(|byte| *byte == b' ')
+        .unwrap_or(part.len());
     &part[..end]
 }
 
-/// The part of a text that is of a word.
-fn part_of<'a>(text: &'a [u8], word: &[u8]) -> Option<&'a [u8]>
-    ensures { option_copied result ≡ words.part_of text.now word.now }
+/// What there is to tell of a word that is a rule, as `M8`, or the number of a field, as `606`: lines of at most 78 characters that begin
+/// with it. None of any other word.
+pub fn explanation(word: &[u8]) -> Option<&'static [u8]>
+    ensures { option_copied result ≡ words.explanation word.now }
 {
-    text.split(|byte| *byte == b'|').find(|part| word_of(part) == word)
-}
-
-/// try
-fn rules(word: &[u8]) -> Option<&'static [u8]>
-    ensures { option_copied result ≡ words.part_of RULES word.now }
-{
-    part_of(&texts::RULES, word)
-}
-/// try
-fn fields() -> &'static [u8]
-    ensures { result.now ≡ FIELDS }
-{
-    &texts::FIELDS
-}
-
-/// law
-pub fn rules_are_told()
-    ensures { map words.word_of (words.parts_of RULES) ≡ words.rules }
-{
+    TEXT.split(|byte| *byte == b'|')
+        .find(|part| word_of(part) == word)
 }
