@@ -10,6 +10,7 @@ The text is a run of parts with a bar between two. A part begins with its word a
 most 78 characters. Of a rule it is what its page says, of `Y` with all reasons; of a field its name and sentence, its structure and
 clause, and that it isn't compared where a star stands.
 """
+import argparse
 import pathlib
 import re
 import sys
@@ -79,14 +80,17 @@ def fields(page):
 
 def main():
     """Writes the text, or compares it."""
+    parser = argparse.ArgumentParser(description="Makes the text of crates/vx_explain from docs/REFUSALS.md and docs/FIELDS.md.")
+    parser.add_argument("--check", action="store_true", help="only compare; the status is 1 where it differs")
     refusals, numbers = ((ROOT / f"docs/{name}.md").read_text() for name in ("REFUSALS", "FIELDS"))
     parts = [*rules(refusals), *fields(numbers)]
     text = "|".join(parts)
     assert text.isascii() and text.count("|") == len(parts) - 1 and not re.search(r'["\\]', text)
-    made = f'{HEAD}pub(crate) static TEXT: [u8; {len(text)}] = *b"{text}";\n'
-    if sys.argv[1:] == ["--check"]:
-        sys.exit(TEXT.read_text() != made)
-    TEXT.write_text(made)
+    made = f'{HEAD}pub(crate) static TEXT: [u8; {len(text)}] =\n    *b"{text}";\n'
+    if not parser.parse_args().check:
+        TEXT.write_text(made)
+    elif TEXT.read_text() != made:
+        sys.exit(f"{TEXT.relative_to(ROOT)} isn't what the pages make: run {sys.argv[0]}")
 
 
 if __name__ == "__main__":

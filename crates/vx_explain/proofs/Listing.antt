@@ -2,14 +2,9 @@
 use Rattle.std.proofs.Common.{◌≡◌, ℕ, zero, suc, Bool, true, false, List, [], ◌∷◌, ◌++◌, map, refl, sym, subst, decimal, arith}
 use Rattle.std.specs.Prelude.{Option, Some, cond, IsSome, Contains, find}
 use Rattle.std.specs.Str.{bytes_eq}
-use Rattle.std.specs.Fmt.{digits}
 use Rattle.std.proofs.lemmas.Bool.{false≢true}
 use Rattle.std.proofs.lemmas.Slice.Eq.{bytes_eq-Decides}
 use Rattle.vx_explain.specs.Explained.{parts, word_of, explanation, rules, fields, RulesAndFieldsAreExplained}
-
-words_of_parts : map word_of parts ≡ rules ++ map decimal fields
-unfolding digits
-words_of_parts = refl
 
 -- ---- of a list of parts one is found exactly where one begins with the word
 
@@ -36,9 +31,10 @@ found [] word (k, within, is) = let none : ⊥ = omega (arith, within) in absurd
 found (part ∷ more) word (zero, within, is) = rw ((bytes_eq-Decides (word_of part) word).1 is) refl
 found (part ∷ more) word (suc k, within, is) = found_later part (bytes_eq (word_of part) word) (part_in more word) (found more word (k, omega (arith, within), is))
 
-pub all_explained : RulesAndFieldsAreExplained
+-- ---- what the parts begin with is said in order
+
+pub all_explained : map word_of parts ≡ rules ++ map decimal fields → RulesAndFieldsAreExplained
 unfolding explanation part_in
-all_explained word = (
-  λ is. subst (λ words. Contains words word) words_of_parts (begun parts word is),
-  λ told. found parts word (subst (λ words. Contains words word) (sym words_of_parts) told),
-)
+all_explained begin word =
+    ( λ is. subst (λ words. Contains words word) begin (begun parts word is)
+    , λ told. found parts word (subst (λ words. Contains words word) (sym begin) told))
