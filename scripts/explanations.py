@@ -29,8 +29,9 @@ HEAD = """\
 
 
 def plain(text):
-    """Text without Markdown's links and its marks for bold and slanted words."""
+    """Text without Markdown's links and its marks for bold and slanted words; in place of the page on fields stands what names one."""
     text = re.sub(r"\[([^]]*)\]\([^)]*\)", r"\1", text)
+    text = re.sub(r"docs/FIELDS\.md(?: names them all)?", "`--explain` names it", text)
     return re.sub(r"(\*\*?)(\S(?:.*?\S)?)\1", r"\2", text)
 
 

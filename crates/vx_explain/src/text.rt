@@ -1,7 +1,7 @@
 //! What there is to tell of rules and fields, as `scripts/explanations.py` makes it of docs/REFUSALS.md and docs/FIELDS.md.
 
 /// The parts, with a bar between two. Each begins with its word and a blank, and is what is told of this word.
-pub(crate) static TEXT: [u8; 69321] =
+pub(crate) static TEXT: [u8; 69318] =
     *b"F1 Outside a unit stands a byte that is no zero and no start code.
 The file is no Annex B byte stream, or was cut in its midst: take the stream
 out of its container (MP4, TS), or begin at a start code.
@@ -14,9 +14,9 @@ or nuh_temporal_id_plus1 0.
 The file was cut after a start code, or is no H.266 stream (H.265 and H.264
 have other headers).
 |Y The syntax of sets and headers: `Y source 0 unit 0 field 22 bit 40 Short`.
-`field` is the number of the syntax element (docs/FIELDS.md names them all),
-`bit` the place in the RBSP, after the two header bytes and without emulation
-prevention bytes, at which it begins.
+`field` is the number of the syntax element (`--explain` names it), `bit` the
+place in the RBSP, after the two header bytes and without emulation prevention
+bytes, at which it begins.
 - Short The bits end within the field.
   The unit was cut, or belongs to another version of the syntax.
 - LongCode An Exp-Golomb code begins with 32 zeros.
@@ -233,7 +233,8 @@ its SPS.
 A slice was lost or cut anew, or the file belongs to another place.
 |C4 A slice has another decoding input than in the source. `slice` is its
 address within the subpicture, `part` what differs first, `field` of parts 2
-to 5 the number of the first field that differs (docs/FIELDS.md), or else 0:
+to 5 the number of the first field that differs (`--explain` names it), or
+else 0:
 - part 1: the kind of picture: its NAL unit type, its TemporalId, whether it
   starts a coded layer video sequence, whether an end of sequence stands
   before it, or its picture order count.
