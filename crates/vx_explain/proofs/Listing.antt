@@ -35,6 +35,7 @@ found (part ∷ more) word (suc k, within, is) = found_later part (bytes_eq (wor
 
 pub all_explained : map word_of parts ≡ rules ++ map decimal fields → RulesAndFieldsAreExplained
 unfolding explanation part_in
-all_explained begin word =
-    ( λ is. subst (λ words. Contains words word) begin (begun parts word is)
-    , λ told. found parts word (subst (λ words. Contains words word) (sym begin) told))
+all_explained begin word = (
+  λ is. subst (λ words. Contains words word) begin (begun parts word is),
+  λ told. found parts word (subst (λ words. Contains words word) (sym begin) told),
+)
