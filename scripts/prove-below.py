@@ -14,7 +14,7 @@ job a processor, since no check keeps its jobs busy all the time. `rattle` takes
 
 Two `rt` commands in one checkout wait for one another. So each crate is proved in a tree of its own, of links to its
 files and to the libraries below, and what was made moves back to the crate's out/. A crate that is proved already is
-passed over. The trees lie in CRATE's out/ while this runs. Each crate that is proved has a line, as `vx_bits: proved, 3 of 24`.
+passed over. Behind one that isn't proved none is begun, and those that run come to their ends. The trees lie in CRATE's out/ while this runs. Each crate that is proved has a line, as `vx_bits: proved, 3 of 24`.
 
 N is the number of processors to use, all up to eight where it isn't given. RT is the command to call in place of rt.
 """
@@ -77,12 +77,13 @@ def prove(crate, jobs, deps, lines, room):
     shutil.copy(ROOT / "HANDLES", tree / "HANDLES")
     words = [RT, "lib", "--jobs", str(jobs)]
     ran = subprocess.run(words, cwd=tree / "crates" / crate, capture_output=True, text=True, errors="replace")
-    if ran.returncode == 0:
-        for part in ("rlib", "incremental"):
-            to = ROOT / "crates" / crate / "out" / part
+    # Of a crate that isn't proved the functions are kept that are.
+    for part in ("incremental", "rlib") if ran.returncode == 0 else ("incremental",):
+        made, to = tree / "crates" / crate / "out" / part, ROOT / "crates" / crate / "out" / part
+        if made.is_dir():
             shutil.rmtree(to, ignore_errors=True)
             to.parent.mkdir(exist_ok=True)
-            shutil.move(tree / "crates" / crate / "out" / part, to)
+            shutil.move(made, to)
     shutil.rmtree(tree)
     return ran.returncode, ran.stdout + ran.stderr
 
@@ -105,8 +106,9 @@ def main():
     out = ROOT / "crates" / words.crate / "out"
     out.mkdir(exist_ok=True)
     with tempfile.TemporaryDirectory(prefix="trees-", dir=out) as room, ThreadPoolExecutor(lanes) as pool:
-        while left or running:
-            ready = sorted((it for it in left if proved.issuperset(deps[it])), key=lambda it: -behind[it])
+        failed = 0
+        while running or left and not failed:
+            ready = sorted((it for it in left if not failed and proved.issuperset(deps[it])), key=lambda it: -behind[it])
             for crate in ready[: lanes - len(running)]:
                 is_first = all(behind[crate] >= behind[it] for it in running.values())
                 jobs = words.jobs if is_first else max(1, words.jobs // 2)
@@ -116,11 +118,12 @@ def main():
                 crate = running.pop(done)
                 status, said = done.result()
                 if status:
+                    failed = status
                     print(f"{said}{crate}: not proved", flush=True)
-                    return status
+                    continue
                 proved.add(crate)
                 print(f"{crate}: proved, {len(proved)} of {len(behind)}", flush=True)
-    return 0
+    return failed
 
 
 if __name__ == "__main__":

@@ -4,8 +4,10 @@ for, and what comes of reads and writes that fail.
 A stream that isn't put together by plain_streams.py stands here unit by unit in hexadecimal. It was made by an independent model, as was
 what is written of it; or it is one of these with a field or a few bytes changed.
 """
+import structure_cases as spelled
 from case_lines import Expected, units
-from plain_streams import SEI, Tools, pps, slice_unit, sps, stream
+from plain_streams import PAYLOAD, PPS, SEI, SPS, TRAIL, Tools, pps, slice_unit, sps, stream
+from small_streams import Writer, unit
 from worked_cases import A, B, BESIDE, EMPTY, I0, M, failed, gray, lmcs_source, refused, scaling_source
 
 # How the bytes of all sources come: all at once, a byte a read, or 60.
@@ -395,6 +397,28 @@ def add_bytewise(cases):
     checked(cases, BESIDE, (TWICE, TWICE), pictures=2, sizes=(BYTEWISE,))
 
 
+def far_motion(entry, cycles):
+    """Two pictures, of which the second takes motion from an entry of a list of long-term pictures with these cycles and low bits 0."""
+    w = Writer(None)
+    # the picture header inside, of an inter picture, with the PPS 0 and the count 1, and motion
+    for bits, value in ((1, 1), (5, 0b00111), (4, 1), (2, 0b10)):
+        w.u(bits, value)
+    # a P slice, its two lists, two active entries, and the one whose motion it takes
+    w.ue(1)
+    w.ue(len(cycles))
+    w.u(len(cycles), 0)
+    for cycle in cycles:
+        w.u(5, 1)
+        w.ue(cycle)
+    w.ue(0)
+    w.u(1, 1)
+    w.ue(1)
+    w.ue(entry)
+    w.se(0)
+    sets = (SPS, spelled.sps(sps_long_term_ref_pics_flag=1, sps_temporal_mvp_enabled_flag=1)), (PPS, spelled.whole())
+    return stream(*(unit(kind, 0, rbsp) for kind, rbsp in sets), bytes.fromhex("0041c4185aa780"), unit(TRAIL, 0, w.closed() + PAYLOAD))
+
+
 def add_bodies(cases):
     """What slices use beside the sets."""
     cases.about("check merge: LMCS and scaling lists in slices with a picture header inside")
@@ -428,6 +452,9 @@ def add_bodies(cases):
                            f"00019c64e95{entry}05aa780") for entry in ("5c", "4b"))
     checked(cases, BESIDE, (first, first), pictures=2)
     checked(cases, BESIDE, (first, second), "M16 picture 1 source 1")
+    cases.about("check merge: long-term entries, whose cycles add up: each is a cycle further, and both are one picture")
+    checked(cases, BESIDE, (far_motion(0, (1, 1)), far_motion(1, (1, 1))), "M16 picture 1 source 1")
+    checked(cases, BESIDE, (far_motion(0, (1, 0)), far_motion(1, (1, 0))), pictures=2)
 
 
 def add_sources(cases):

@@ -1,0 +1,2 @@
+-- Definitions that the contracts of this crate cite.
+pub mod Explained

@@ -1,0 +1,32 @@
+//! What there is to tell of the rules that refusals name, and of the fields that they name by numbers.
+#![tactic(auto)]
+
+mod laws;
+mod text;
+
+ghost use Rattle.std.specs.Prelude.{◌≡◌};
+ghost use Rattle.std.specs.Option.{option_copied};
+ghost use Rattle.vx_explain.specs.Explained as words;
+
+pub use laws::rules_and_fields_are_explained;
+use text::TEXT;
+
+/// The word that a part begins with.
+fn word_of(part: &[u8]) -> &[u8]
+    ensures { result.now ≡ words.word_of part.now }
+{
+    let end = part
+        .iter()
+        .position(|byte| *byte == b' ')
+        .unwrap_or(part.len());
+    &part[..end]
+}
+
+/// What there is to tell of a word that is a rule, as `M8`, or the number of a field, as `606`: lines of at most 78 characters that begin
+/// with it. None of any other word.
+pub fn explanation(word: &[u8]) -> Option<&'static [u8]>
+    ensures { option_copied result ≡ words.explanation word.now }
+{
+    TEXT.split(|byte| *byte == b'|')
+        .find(|part| word_of(part) == word)
+}
