@@ -79,11 +79,16 @@ def fields(page):
             yield told(f"{number} {name}: {sentence}", f"A field of {structure}{compared(name, star)}")
 
 
+def pages():
+    """The texts of the pages on refusals and on fields."""
+    return [(ROOT / f"docs/{name}.md").read_text() for name in ("REFUSALS", "FIELDS")]
+
+
 def main():
     """Writes the text, or compares it."""
     parser = argparse.ArgumentParser(description="Makes the text of crates/vx_explain from docs/REFUSALS.md and docs/FIELDS.md.")
     parser.add_argument("--check", action="store_true", help="only compare; the status is 1 where it differs")
-    refusals, numbers = ((ROOT / f"docs/{name}.md").read_text() for name in ("REFUSALS", "FIELDS"))
+    refusals, numbers = pages()
     parts = [*rules(refusals), *fields(numbers)]
     text = "|".join(parts)
     assert text.isascii() and text.count("|") == len(parts) - 1 and not re.search(r'["\\]', text)

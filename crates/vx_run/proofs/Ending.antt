@@ -1,7 +1,9 @@
 -- What the status tells of what came of a command.
 use Rattle.std.proofs.Common.{◌≡◌, ◌≢◌, ℕ, ◌+◌, List, [], ◌∷◌, ◌++◌, length, Option, Some, None, Ok, Err, inl, inr, refl, sym, ap, subst, arith, ◌<◌, ◌≤◌, ◌∙◌}
+use Rattle.std.specs.Prelude.{IsSomeAnd}
 use Rattle.vx_bits.specs.declared.refusal.Refusal.{Refusal}
 use Rattle.vx_report.specs.declared.refusal.Where.{Where}
+use Rattle.vx_explain.specs.Explained.{explanation}
 use Rattle.vx_run.specs.declared.stop.Stop.{Stop}
 use Rattle.vx_run.specs.declared.stop.Stop.TheVariants.{NotUnderstood, Mismatched, Refused, ReadFault, WriteFault, NoMemory}
 use Rattle.vx_run.specs.Change.{Change, Sources, source_at, HasFault}
@@ -9,7 +11,7 @@ use Rattle.vx_run.specs.About.{help_text, version_text, Writes}
 use Rattle.vx_run.specs.Conclusion.{Outcome, Concludes, IsOfCommand, IsMade, status_of}
 use Rattle.vx_run.specs.declared.extract.Task.{Task}
 use Rattle.vx_run.specs.Extract.{BreakNoRule, Refuses, by_stream, by_picture, without, IsExtractable, IsStatus, WhereTold, ExtractsBy, ChecksBy, task_of}
-use Rattle.vx_run.specs.Grammar.{Command, Placing, show, extract, check_extract, merge, play, check_merge, verify, help, version, AskFor, IsUnderstood}
+use Rattle.vx_run.specs.Grammar.{Command, Placing, show, extract, check_extract, merge, play, check_merge, verify, help, version, explain, AskFor, IsUnderstood}
 use Rattle.vx_run.specs.Run.{Does, Performs, placings_in, task_in}
 use Rattle.vx_bits.specs.declared.refusal.Refusal.TheVariants.{Limit}
 use Rattle.vx_bits.specs.declared.rules.TheConstants.{TOO_MANY_SOURCES, TOO_MANY_FILES}
@@ -113,6 +115,7 @@ module _ {A K : Type 0} (R : Readers) (of : AreOfH266 R) (words : List (List ℕ
   extracts-done (show file) t performs spelled is b ps ending told are = absurd (cc)
   extracts-done help t performs spelled is b ps ending told are = absurd (cc)
   extracts-done version t performs spelled is b ps ending told are = absurd (cc)
+  extracts-done (explain word) t performs spelled is b ps ending told are = absurd (cc)
 
   -- and of one that stopped
   pub extracts-stopped : {E : Type 0} (err : Change E) (stop : Stop) (status : ℕ) (command : Command) (t : Task) → Performs words sources out (Err stop) → Concludes stop status err → AskFor words command → task_in command ≡ Some t
@@ -129,6 +132,7 @@ module _ {A K : Type 0} (R : Readers) (of : AreOfH266 R) (words : List (List ℕ
   extracts-stopped err stop status (show file) t performs ends spelled is = absurd (cc)
   extracts-stopped err stop status help t performs ends spelled is = absurd (cc)
   extracts-stopped err stop status version t performs ends spelled is = absurd (cc)
+  extracts-stopped err stop status (explain word) t performs ends spelled is = absurd (cc)
 
 -- ---- merges
 
@@ -344,6 +348,7 @@ too_many_of sources out outcome (extract tid level index file) placings is does 
 too_many_of sources out outcome (check_extract tid index file) placings is does many = absurd (cc)
 too_many_of sources out outcome help placings is does many = absurd (cc)
 too_many_of sources out outcome version placings is does many = absurd (cc)
+too_many_of sources out outcome (explain word) placings is does many = absurd (cc)
 
 module _ {A K : Type 0} (words : List (List ℕ)) (sources : Sources A) (out : Change K) (command : Command) (placings : List Placing) (spelled : AskFor words command) (is : placings_in command ≡ Some placings) (many : most_sources < length placings) where
   -- it isn't done
@@ -364,6 +369,10 @@ writes_of_command text out (ReadFault k) writes = tt
 writes_of_command text out WriteFault writes = tt
 writes_of_command text out NoMemory writes = tt
 
+told_of_command : {K : Type 0} (text : Option (List ℕ)) (out : Change K) (stop : Stop) → IsSomeAnd text (λ t. Writes t out (Err stop)) → IsOfCommand stop
+told_of_command None out stop tells = absurd tells
+told_of_command (Some text) out stop tells = writes_of_command text out stop tells
+
 does_of_command : {A K : Type 0} (command : Command) (sources : Sources A) (out : Change K) (stop : Stop) → Does command sources out (Err stop) → IsOfCommand stop
 does_of_command (show file) sources out stop does = does.0
 does_of_command (extract tid level index file) sources out stop does = does.0
@@ -374,6 +383,7 @@ does_of_command (check_merge placings) sources out stop does = does.stop
 does_of_command (verify finished placings) sources out stop does = does.stop
 does_of_command help sources out stop does = writes_of_command help_text out stop does.1
 does_of_command version sources out stop does = writes_of_command version_text out stop does.1
+does_of_command (explain word) sources out stop does = told_of_command (explanation word) out stop does.1
 
 not_two : {E : Type 0} (err : Change E) (stop : Stop) (status : ℕ) → IsOfCommand stop → Concludes stop status err → status ≡ 2 → ⊥
 not_two err NotUnderstood status of ends two = of

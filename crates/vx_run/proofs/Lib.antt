@@ -4,6 +4,7 @@ pub mod Checking
 pub mod Concluding
 pub mod Corners
 pub mod Ending
+pub mod Explaining
 pub mod Extracting
 pub mod Gained
 pub mod Gathering

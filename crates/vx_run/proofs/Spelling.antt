@@ -1,7 +1,7 @@
 -- Words spell one command.
 use Rattle.std.proofs.Common.{◌≡◌, ◌≢◌, ◌∙◌, sym, ap, ℕ, List, [], ◌∷◌, ◌++◌, Option, length, map, codes, get_or, drop, arith, refl}
 use Rattle.std.specs.List.{AllByRecursion}
-use Rattle.vx_run.specs.Grammar.{Command, show, extract, check_extract, merge, play, check_merge, verify, help, version, tid_words, level_words, Placing, placing_word, AskFor, IsLevel, IsPlacing}
+use Rattle.vx_run.specs.Grammar.{Command, show, extract, check_extract, merge, play, check_merge, verify, help, version, explain, tid_words, level_words, Placing, placing_word, AskFor, IsLevel, IsPlacing}
 use Rattle.vx_run.specs.inner.Placings.{placing_in}
 use Rattle.vx_run.proofs.Numbering.{behind_tid, behind_level, tid_first, only_tid_first, level_first, index_first, option_once, number_once}
 use Rattle.vx_run.proofs.Placings.{placings_read}
@@ -55,6 +55,7 @@ spelled_once words (show f) (check_merge qs) p q = absurd (other_first words (co
 spelled_once words (show f) (verify g qs) p q = absurd (other_first words (codes "show") (codes "verify") (f ∷ []) (codes "merge" ∷ g ∷ map placing_word qs) p.spelled q.spelled (omega arith))
 spelled_once words (show f) help p q = absurd (other_first words (codes "show") (codes "--help") (f ∷ []) [] p.spelled q.spelled (omega arith))
 spelled_once words (show f) version p q = absurd (other_first words (codes "show") (codes "--version") (f ∷ []) [] p.spelled q.spelled (omega arith))
+spelled_once words (show f) (explain w) p q = absurd (other_first words (codes "show") (codes "--explain") (f ∷ []) (w ∷ []) p.spelled q.spelled (omega arith))
 spelled_once words (extract t l i f) (show g) p q = absurd (other_first words (codes "extract") (codes "show") (tid_words t ++ behind_tid l i f) (g ∷ []) p.spelled q.spelled (omega arith))
 spelled_once words (extract t l i f) (extract u m j g) p q =
     let words_same : tid_words t ++ behind_tid l i f ≡ tid_words u ++ behind_tid m j g = ap (λ (ws : List (List ℕ)). drop 1 ws) (sym p.spelled ∙ q.spelled) in
@@ -70,6 +71,7 @@ spelled_once words (extract t l i f) (check_merge qs) p q = absurd (other_first 
 spelled_once words (extract t l i f) (verify g qs) p q = absurd (other_first words (codes "extract") (codes "verify") (tid_words t ++ behind_tid l i f) (codes "merge" ∷ g ∷ map placing_word qs) p.spelled q.spelled (omega arith))
 spelled_once words (extract t l i f) help p q = absurd (other_first words (codes "extract") (codes "--help") (tid_words t ++ behind_tid l i f) [] p.spelled q.spelled (omega arith))
 spelled_once words (extract t l i f) version p q = absurd (other_first words (codes "extract") (codes "--version") (tid_words t ++ behind_tid l i f) [] p.spelled q.spelled (omega arith))
+spelled_once words (extract t l i f) (explain w) p q = absurd (other_first words (codes "extract") (codes "--explain") (tid_words t ++ behind_tid l i f) (w ∷ []) p.spelled q.spelled (omega arith))
 spelled_once words (check_extract t i f) (show g) p q = absurd (other_first words (codes "check") (codes "show") (codes "extract" ∷ (tid_words t ++ behind_level i f)) (g ∷ []) p.spelled q.spelled (omega arith))
 spelled_once words (check_extract t i f) (extract u m j g) p q = absurd (other_first words (codes "check") (codes "extract") (codes "extract" ∷ (tid_words t ++ behind_level i f)) (tid_words u ++ behind_tid m j g) p.spelled q.spelled (omega arith))
 spelled_once words (check_extract t i f) (check_extract u j g) p q =
@@ -84,6 +86,7 @@ spelled_once words (check_extract t i f) (check_merge qs) p q = absurd (other_se
 spelled_once words (check_extract t i f) (verify g qs) p q = absurd (other_first words (codes "check") (codes "verify") (codes "extract" ∷ (tid_words t ++ behind_level i f)) (codes "merge" ∷ g ∷ map placing_word qs) p.spelled q.spelled (omega arith))
 spelled_once words (check_extract t i f) help p q = absurd (other_first words (codes "check") (codes "--help") (codes "extract" ∷ (tid_words t ++ behind_level i f)) [] p.spelled q.spelled (omega arith))
 spelled_once words (check_extract t i f) version p q = absurd (other_first words (codes "check") (codes "--version") (codes "extract" ∷ (tid_words t ++ behind_level i f)) [] p.spelled q.spelled (omega arith))
+spelled_once words (check_extract t i f) (explain w) p q = absurd (other_first words (codes "check") (codes "--explain") (codes "extract" ∷ (tid_words t ++ behind_level i f)) (w ∷ []) p.spelled q.spelled (omega arith))
 spelled_once words (merge l ps) (show g) p q = absurd (other_first words (codes "merge") (codes "show") (behind_name l ps) (g ∷ []) p.spelled q.spelled (omega arith))
 spelled_once words (merge l ps) (extract u m j g) p q = absurd (other_first words (codes "merge") (codes "extract") (behind_name l ps) (tid_words u ++ behind_tid m j g) p.spelled q.spelled (omega arith))
 spelled_once words (merge l ps) (check_extract u j g) p q = absurd (other_letter words (codes "merge") (codes "check") (behind_name l ps) (codes "extract" ∷ (tid_words u ++ behind_level j g)) p.spelled q.spelled (omega arith))
@@ -95,6 +98,7 @@ spelled_once words (merge l ps) (check_merge qs) p q = absurd (other_letter word
 spelled_once words (merge l ps) (verify g qs) p q = absurd (other_first words (codes "merge") (codes "verify") (behind_name l ps) (codes "merge" ∷ g ∷ map placing_word qs) p.spelled q.spelled (omega arith))
 spelled_once words (merge l ps) help p q = absurd (other_first words (codes "merge") (codes "--help") (behind_name l ps) [] p.spelled q.spelled (omega arith))
 spelled_once words (merge l ps) version p q = absurd (other_first words (codes "merge") (codes "--version") (behind_name l ps) [] p.spelled q.spelled (omega arith))
+spelled_once words (merge l ps) (explain w) p q = absurd (other_first words (codes "merge") (codes "--explain") (behind_name l ps) (w ∷ []) p.spelled q.spelled (omega arith))
 spelled_once words (play l ps) (show g) p q = absurd (other_letter words (codes "play") (codes "show") (behind_name l ps) (g ∷ []) p.spelled q.spelled (omega arith))
 spelled_once words (play l ps) (extract u m j g) p q = absurd (other_first words (codes "play") (codes "extract") (behind_name l ps) (tid_words u ++ behind_tid m j g) p.spelled q.spelled (omega arith))
 spelled_once words (play l ps) (check_extract u j g) p q = absurd (other_first words (codes "play") (codes "check") (behind_name l ps) (codes "extract" ∷ (tid_words u ++ behind_level j g)) p.spelled q.spelled (omega arith))
@@ -106,6 +110,7 @@ spelled_once words (play l ps) (check_merge qs) p q = absurd (other_first words 
 spelled_once words (play l ps) (verify g qs) p q = absurd (other_first words (codes "play") (codes "verify") (behind_name l ps) (codes "merge" ∷ g ∷ map placing_word qs) p.spelled q.spelled (omega arith))
 spelled_once words (play l ps) help p q = absurd (other_first words (codes "play") (codes "--help") (behind_name l ps) [] p.spelled q.spelled (omega arith))
 spelled_once words (play l ps) version p q = absurd (other_first words (codes "play") (codes "--version") (behind_name l ps) [] p.spelled q.spelled (omega arith))
+spelled_once words (play l ps) (explain w) p q = absurd (other_first words (codes "play") (codes "--explain") (behind_name l ps) (w ∷ []) p.spelled q.spelled (omega arith))
 spelled_once words (check_merge ps) (show g) p q = absurd (other_first words (codes "check") (codes "show") (codes "merge" ∷ map placing_word ps) (g ∷ []) p.spelled q.spelled (omega arith))
 spelled_once words (check_merge ps) (extract u m j g) p q = absurd (other_first words (codes "check") (codes "extract") (codes "merge" ∷ map placing_word ps) (tid_words u ++ behind_tid m j g) p.spelled q.spelled (omega arith))
 spelled_once words (check_merge ps) (check_extract u j g) p q = absurd (other_second words (codes "check") (codes "check") (codes "merge") (codes "extract") (map placing_word ps) (tid_words u ++ behind_level j g) p.spelled q.spelled (omega arith))
@@ -117,6 +122,7 @@ spelled_once words (check_merge ps) (check_merge qs) p q =
 spelled_once words (check_merge ps) (verify g qs) p q = absurd (other_first words (codes "check") (codes "verify") (codes "merge" ∷ map placing_word ps) (codes "merge" ∷ g ∷ map placing_word qs) p.spelled q.spelled (omega arith))
 spelled_once words (check_merge ps) help p q = absurd (other_first words (codes "check") (codes "--help") (codes "merge" ∷ map placing_word ps) ([]) p.spelled q.spelled (omega arith))
 spelled_once words (check_merge ps) version p q = absurd (other_first words (codes "check") (codes "--version") (codes "merge" ∷ map placing_word ps) ([]) p.spelled q.spelled (omega arith))
+spelled_once words (check_merge ps) (explain w) p q = absurd (other_first words (codes "check") (codes "--explain") (codes "merge" ∷ map placing_word ps) (w ∷ []) p.spelled q.spelled (omega arith))
 spelled_once words (verify f ps) (show g) p q = absurd (other_first words (codes "verify") (codes "show") (codes "merge" ∷ f ∷ map placing_word ps) (g ∷ []) p.spelled q.spelled (omega arith))
 spelled_once words (verify f ps) (extract u m j g) p q = absurd (other_first words (codes "verify") (codes "extract") (codes "merge" ∷ f ∷ map placing_word ps) (tid_words u ++ behind_tid m j g) p.spelled q.spelled (omega arith))
 spelled_once words (verify f ps) (check_extract u j g) p q = absurd (other_first words (codes "verify") (codes "check") (codes "merge" ∷ f ∷ map placing_word ps) (codes "extract" ∷ (tid_words u ++ behind_level j g)) p.spelled q.spelled (omega arith))
@@ -129,6 +135,7 @@ spelled_once words (verify f ps) (verify g qs) p q =
     same_verify f g ps qs file (sym (placings_read ps p.named.2) ∙ ap (λ (ws : List (List ℕ)). map placing_in ws) same ∙ placings_read qs q.named.2)
 spelled_once words (verify f ps) help p q = absurd (other_letter words (codes "verify") (codes "--help") (codes "merge" ∷ f ∷ map placing_word ps) [] p.spelled q.spelled (omega arith))
 spelled_once words (verify f ps) version p q = absurd (other_first words (codes "verify") (codes "--version") (codes "merge" ∷ f ∷ map placing_word ps) [] p.spelled q.spelled (omega arith))
+spelled_once words (verify f ps) (explain w) p q = absurd (other_first words (codes "verify") (codes "--explain") (codes "merge" ∷ f ∷ map placing_word ps) (w ∷ []) p.spelled q.spelled (omega arith))
 spelled_once words help (show g) p q = absurd (other_first words (codes "--help") (codes "show") [] (g ∷ []) p.spelled q.spelled (omega arith))
 spelled_once words help (extract u m j g) p q = absurd (other_first words (codes "--help") (codes "extract") [] (tid_words u ++ behind_tid m j g) p.spelled q.spelled (omega arith))
 spelled_once words help (check_extract u j g) p q = absurd (other_first words (codes "--help") (codes "check") [] (codes "extract" ∷ (tid_words u ++ behind_level j g)) p.spelled q.spelled (omega arith))
@@ -138,6 +145,7 @@ spelled_once words help (check_merge qs) p q = absurd (other_first words (codes 
 spelled_once words help (verify g qs) p q = absurd (other_letter words (codes "--help") (codes "verify") [] (codes "merge" ∷ g ∷ map placing_word qs) p.spelled q.spelled (omega arith))
 spelled_once words help help p q = refl
 spelled_once words help version p q = absurd (other_first words (codes "--help") (codes "--version") [] [] p.spelled q.spelled (omega arith))
+spelled_once words help (explain w) p q = absurd (other_first words (codes "--help") (codes "--explain") [] (w ∷ []) p.spelled q.spelled (omega arith))
 spelled_once words version (show g) p q = absurd (other_first words (codes "--version") (codes "show") [] (g ∷ []) p.spelled q.spelled (omega arith))
 spelled_once words version (extract u m j g) p q = absurd (other_first words (codes "--version") (codes "extract") [] (tid_words u ++ behind_tid m j g) p.spelled q.spelled (omega arith))
 spelled_once words version (check_extract u j g) p q = absurd (other_first words (codes "--version") (codes "check") [] (codes "extract" ∷ (tid_words u ++ behind_level j g)) p.spelled q.spelled (omega arith))
@@ -147,3 +155,14 @@ spelled_once words version (check_merge qs) p q = absurd (other_first words (cod
 spelled_once words version (verify g qs) p q = absurd (other_first words (codes "--version") (codes "verify") [] (codes "merge" ∷ g ∷ map placing_word qs) p.spelled q.spelled (omega arith))
 spelled_once words version help p q = absurd (other_first words (codes "--version") (codes "--help") [] [] p.spelled q.spelled (omega arith))
 spelled_once words version version p q = refl
+spelled_once words version (explain w) p q = absurd (omega (arith, ap (λ (ws : List (List ℕ)). length ws) (sym p.spelled ∙ q.spelled)))
+spelled_once words (explain v) (show g) p q = absurd (other_first words (codes "--explain") (codes "show") (v ∷ []) (g ∷ []) p.spelled q.spelled (omega arith))
+spelled_once words (explain v) (extract u m j g) p q = absurd (other_first words (codes "--explain") (codes "extract") (v ∷ []) (tid_words u ++ behind_tid m j g) p.spelled q.spelled (omega arith))
+spelled_once words (explain v) (check_extract u j g) p q = absurd (other_first words (codes "--explain") (codes "check") (v ∷ []) (codes "extract" ∷ (tid_words u ++ behind_level j g)) p.spelled q.spelled (omega arith))
+spelled_once words (explain v) (merge m qs) p q = absurd (other_first words (codes "--explain") (codes "merge") (v ∷ []) (behind_name m qs) p.spelled q.spelled (omega arith))
+spelled_once words (explain v) (play m qs) p q = absurd (other_first words (codes "--explain") (codes "play") (v ∷ []) (behind_name m qs) p.spelled q.spelled (omega arith))
+spelled_once words (explain v) (check_merge qs) p q = absurd (other_first words (codes "--explain") (codes "check") (v ∷ []) (codes "merge" ∷ map placing_word qs) p.spelled q.spelled (omega arith))
+spelled_once words (explain v) (verify g qs) p q = absurd (other_first words (codes "--explain") (codes "verify") (v ∷ []) (codes "merge" ∷ g ∷ map placing_word qs) p.spelled q.spelled (omega arith))
+spelled_once words (explain v) help p q = absurd (other_first words (codes "--explain") (codes "--help") (v ∷ []) [] p.spelled q.spelled (omega arith))
+spelled_once words (explain v) version p q = absurd (omega (arith, ap (λ (ws : List (List ℕ)). length ws) (sym p.spelled ∙ q.spelled)))
+spelled_once words (explain v) (explain w) p q = ap (λ ws. explain (get_or ws 1 [])) (sym p.spelled ∙ q.spelled)

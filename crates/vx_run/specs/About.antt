@@ -35,6 +35,8 @@ help_text = concat
     ∷ codes "             pictures\n"
     ∷ codes "  --help     this text\n"
     ∷ codes "  --version  the name and the version of the program\n"
+    ∷ codes "  --explain WORD\n"
+    ∷ codes "             what a rule, as M8, means and what to do; or the field of a number, as 606\n"
     ∷ codes "\n"
     ∷ codes "The status is 0 where all was done. Else a line on standard error says why:\n"
     ∷ codes "\n"

@@ -1,6 +1,7 @@
 -- The grammar of the program's words. A word is the list of its bytes.
-use Rattle.std.specs.Prelude.{◌≡◌, ◌≢◌, ℕ, ◌≤◌, List, [], ◌∷◌, ◌++◌, map, length, codes, decimal, Option, Some, None, IfSome, String, string_bytes}
+use Rattle.std.specs.Prelude.{◌≡◌, ◌≢◌, ℕ, ◌≤◌, List, [], ◌∷◌, ◌++◌, map, length, Contains, codes, decimal, Option, Some, None, IfSome, String, string_bytes}
 use Rattle.std.specs.List.{AllByRecursion}
+use Rattle.vx_explain.specs.Explained.{rules, fields}
 
 -- the bytes of each word
 abbrev pub texts : {A : Type 0} → List (String A) → List (List ℕ)
@@ -23,6 +24,7 @@ pub data Command : Type 0 where
   verify : List ℕ → List Placing → Command
   help : Command
   version : Command
+  explain : List ℕ → Command
 
 -- an option with its number, where there is one: `--tid T`
 abbrev pub option_words : List ℕ → Option ℕ → List (List ℕ)
@@ -40,7 +42,8 @@ abbrev pub placing_word : Placing → List ℕ
 placing_word p = decimal p.x ++ (codes "," ++ (decimal p.y ++ (codes "=" ++ p.file)))
 
 -- `show FILE`, `extract [--tid T] [--level N] INDEX FILE`, `check extract [--tid T] INDEX FILE`, `merge [--level N] X,Y=FILE ..`,
--- `play [--level N] X,Y=FILE ..`, `check merge X,Y=FILE ..`, `verify merge OUT X,Y=FILE ..`, `--help`, `--version`
+-- `play [--level N] X,Y=FILE ..`, `check merge X,Y=FILE ..`, `verify merge OUT X,Y=FILE ..`, `--help`, `--version`,
+-- `--explain WORD`
 abbrev pub spelling : Command → List (List ℕ)
 spelling (show file) = codes "show" ∷ file ∷ []
 spelling (extract tid level index file) = codes "extract" ∷ (tid_words tid ++ (level_words level ++ (decimal index ∷ file ∷ [])))
@@ -51,6 +54,7 @@ spelling (check_merge placings) = codes "check" ∷ codes "merge" ∷ map placin
 spelling (verify finished placings) = codes "verify" ∷ codes "merge" ∷ finished ∷ map placing_word placings
 spelling help = codes "--help" ∷ []
 spelling version = codes "--version" ∷ []
+spelling (explain word) = codes "--explain" ∷ word ∷ []
 
 -- a TemporalId (7.4.2.2), a level (general_level_idc, 7.4.4.1), and the index of a subpicture (sps_num_subpics_minus1, 7.4.3.4)
 abbrev pub IsTid : Option ℕ → Type 0
@@ -66,7 +70,11 @@ IsIndex index = index ≤ 999
 abbrev pub IsPlacing : Placing → Type 0
 IsPlacing p = (p.x ≤ 16383) × (p.y ≤ 16383) × (p.file ≢ [])
 
--- a file's name has a byte, numbers are in their ranges, and a merge has a source
+-- a rule, as `M8`, or the number of a field, as `606`
+unfoldable pub IsRuleOrField : List ℕ → Type 0
+IsRuleOrField word = Contains (rules ++ map decimal fields) word
+
+-- a file's name has a byte, numbers are in their ranges, a merge has a source, and what is explained is a rule or a field
 abbrev pub IsWellNamed : Command → Type 0
 IsWellNamed (show file) = file ≢ []
 IsWellNamed (extract tid level index file) = IsTid tid × IsLevel level × IsIndex index × (file ≢ [])
@@ -77,6 +85,7 @@ IsWellNamed (check_merge placings) = (placings ≢ []) × AllByRecursion IsPlaci
 IsWellNamed (verify finished placings) = (finished ≢ []) × (placings ≢ []) × AllByRecursion IsPlacing placings
 IsWellNamed help = Unit {0}
 IsWellNamed version = Unit {0}
+IsWellNamed (explain word) = IsRuleOrField word
 
 -- the words ask for this command
 pub record AskFor (words : List (List ℕ)) (command : Command) : Type 0 where
@@ -98,6 +107,7 @@ files_of (check_merge placings) = map (λ p. p.file) placings
 files_of (verify finished placings) = finished ∷ map (λ p. p.file) placings
 files_of help = []
 files_of version = []
+files_of (explain word) = []
 
 -- the words name n files, and none where they ask for no command
 pub record NamesFiles (words : List (List ℕ)) (n : ℕ) : Type 0 where

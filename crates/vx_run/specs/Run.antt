@@ -1,12 +1,13 @@
 -- What `run` does to its sources and to `out`, by the command that its words ask for.
-use Rattle.std.specs.Prelude.{◌≡◌, ℕ, List, Option, Some, None, Err}
+use Rattle.std.specs.Prelude.{◌≡◌, ℕ, List, Option, Some, None, IsSomeAnd, Err}
+use Rattle.vx_explain.specs.Explained.{explanation}
 use Rattle.vx_run.specs.declared.stop.Stop.TheVariants.{NotUnderstood}
 use Rattle.vx_run.specs.About.{help_text, version_text, Writes}
 use Rattle.vx_run.specs.Change.{Change, Sources, source_at, IsUntouched, AreUntouched}
 use Rattle.vx_run.specs.Conclusion.{Outcome}
 use Rattle.vx_run.specs.declared.extract.Task.{Task}
 use Rattle.vx_run.specs.Extract.{task_of, Extracts, Checks}
-use Rattle.vx_run.specs.Grammar.{Command, Placing, show, extract, check_extract, merge, play, check_merge, verify, help, version, AskFor, IsUnderstood}
+use Rattle.vx_run.specs.Grammar.{Command, Placing, show, extract, check_extract, merge, play, check_merge, verify, help, version, explain, AskFor, IsUnderstood}
 use Rattle.vx_run.specs.Merge.{corners_of, ChecksMerge, Merges}
 use Rattle.vx_run.specs.Play.{Plays, file_regions, region_corners}
 use Rattle.vx_run.specs.Show.{Shows}
@@ -23,6 +24,7 @@ Does (check_merge placings) sources out outcome = ChecksMerge (corners_of placin
 Does (verify finished placings) sources out outcome = Verifies (spots_of placings) sources out outcome
 Does help sources out outcome = AreUntouched sources × Writes help_text out outcome
 Does version sources out outcome = AreUntouched sources × Writes version_text out outcome
+Does (explain word) sources out outcome = AreUntouched sources × IsSomeAnd (explanation word) (λ text. Writes text out outcome)
 
 -- the command that the words ask for was done or stopped; where they ask for none, nothing was read or written
 pub record Performs {A K : Type 0} (words : List (List ℕ)) (sources : Sources A) (out : Change K) (outcome : Outcome) : Type 0 where

@@ -1,10 +1,13 @@
-//! `--help` and `--version`: what the program tells of itself.
+//! `--help`, `--version` and `--explain`: what the program tells of itself.
 
-ghost use Rattle.std.specs.Prelude.{◌≡◌, Ok};
+ghost use Rattle.std.specs.Prelude.{◌≡◌, Ok, IsSomeAnd};
+ghost use Rattle.vx_explain.specs.Explained.{explanation};
 ghost use Rattle.vx_run.specs.About.{Writes, help_text, version_text};
 ghost use Rattle.vx_run.specs.Change.{change};
+ghost use Rattle.vx_run.specs.Grammar.{IsRuleOrField};
 
 use crate::stop::Stop;
+use vx_explain::{explanation, rules_and_fields_are_explained};
 use vx_io::{Sink, write_all};
 
 /// The commands, the statuses, and the rules by their letters and numbers.
@@ -39,6 +42,8 @@ pub(crate) fn help() -> &'static [u8]
              pictures
   --help     this text
   --version  the name and the version of the program
+  --explain WORD
+             what a rule, as M8, means and what to do; or the field of a number, as 606
 
 The status is 0 where all was done. Else a line on standard error says why:
 
@@ -82,6 +87,15 @@ pub(crate) fn version() -> &'static [u8]
     ensures { result.now ≡ version_text }
 {
     b"goosequince 0.2.0\n"
+}
+
+/// Writes what there is to tell of a rule or of the number of a field.
+pub(crate) fn explain<K: Sink>(word: &str, out: &mut K) -> Result<(), Stop>
+    requires { IsRuleOrField word.now }
+    ensures writes { IsSomeAnd (explanation word.now) (λ text. Writes text (change K.bytes_taken K.write_faults out.old out.new) result) }
+{
+    rules_and_fields_are_explained();
+    write_text(explanation(word.as_bytes()).unwrap(), out)
 }
 
 /// Writes a text, and nothing else.

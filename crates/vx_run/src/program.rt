@@ -15,7 +15,7 @@ ghost use Rattle.vx_run.specs.Run.{Performs, placings_in, task_in};
 ghost use Rattle.vx_run.specs.Show.{WhereKnown, status_at};
 ghost use Rattle.vx_run.specs.Verify.{IsVerifyStatus, spots_of};
 
-use crate::about::{help, version, write_text};
+use crate::about::{explain, help, version, write_text};
 use crate::conclude::conclude;
 use crate::extract::{Task, check_extract, extract};
 use crate::merge::{check_merge, merge};
@@ -121,6 +121,7 @@ fn perform<K: Sink>(
         Some(Command::Verify { placings, .. }) => verify(alloc, placings, sources, out),
         Some(Command::Help) => write_text(help(), out),
         Some(Command::Version) => write_text(version(), out),
+        Some(Command::Explain { word }) => explain(word, out),
         None => Err(Stop::NotUnderstood),
     }
 }

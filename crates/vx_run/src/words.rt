@@ -3,9 +3,11 @@
 ghost use Rattle.std.specs.Prelude.{◌≡◌, ◌≤◌, ◌∷◌, ◌↔◌, [], ℕ, List, Option as OptionOf, true, false, decimal, codes, None, IfSome, IfNone, IsTrue, MatchOption, map, slice_get, option_copied};
 ghost use Rattle.std.specs.List.{AllByRecursion};
 ghost use Rattle.vx_run.specs.Asked.{asked};
-ghost use Rattle.vx_run.specs.Grammar.{Command as Asked, extract, check_extract, merge, play, check_merge, verify, Placing as PlacingAsked, spelling, IsWellNamed, AskFor, IsUnderstood, NamesFiles, files_of, texts};
+ghost use Rattle.vx_run.specs.Grammar.{Command as Asked, extract, check_extract, merge, play, check_merge, verify, explain, Placing as PlacingAsked, spelling, IsRuleOrField, IsWellNamed, AskFor, IsUnderstood, NamesFiles, files_of, texts};
 ghost use Rattle.vx_run.specs.inner.Placings.{IsPlacingWord, HasPlacings, NameLevelAndFiles, PlaceFiles, Spells, placed, placing_in};
 ghost use Rattle.vx_run.specs.inner.Words.{BeginsNot, IsNumberFirst, IsOptionFirst, is_plain};
+
+use vx_explain::{explanation, rules_and_fields_are_explained};
 
 /// What the words ask for, with what they name.
 #[derive(Clone, Copy)]
@@ -50,6 +52,10 @@ pub(crate) enum Command<'a> {
     Help,
     /// `--version`
     Version,
+    /// `--explain WORD`
+    Explain {
+        word: &'a str,
+    },
 }
 
 /// A file of a merge, and the upper left corner of its region, in luma samples.
@@ -77,6 +83,9 @@ pub(crate) fn command_of(words: &[String]) -> Option<Command<'_>>
 {
     if let Some(command) = plain_of(words) {
         return Some(command);
+    }
+    if let Some(rest) = behind(words, "--explain") {
+        return explain_of(rest);
     }
     if let Some(rest) = behind(words, "extract") {
         return extract_of(rest);
@@ -109,6 +118,30 @@ fn plain_of(words: &[String]) -> Option<Command<'_>>
         [word] if word.as_str() == "--version" => Some(Command::Version),
         _ => None,
     }
+}
+
+/// `WORD`: a rule, or the number of a field.
+fn explain_of(words: &[String]) -> Option<Command<'_>>
+    ensures some { IfSome result (λ command. AskFor (codes "--explain" ∷ texts words.now) (asked command)) }
+    ensures placings { IfSome result HasPlacings }
+    ensures none { IfNone result ((word : List ℕ) → AskFor (codes "--explain" ∷ texts words.now) (explain word) → ⊥) }
+{
+    match words {
+        [word] if is_rule_or_field(word.as_str()) => {
+            Some(Command::Explain {
+                word: word.as_str(),
+            })
+        }
+        _ => None,
+    }
+}
+
+/// Whether a word is a rule or the number of a field.
+fn is_rule_or_field(word: &str) -> bool
+    ensures { IsTrue result ↔ IsRuleOrField word.now }
+{
+    rules_and_fields_are_explained();
+    explanation(word.as_bytes()).is_some()
 }
 
 /// What is checked.
@@ -347,7 +380,7 @@ pub fn file_count(words: &[String]) -> usize
         Some(Command::Play { placings, .. }) => placings.len(),
         Some(Command::CheckMerge { placings }) => placings.len(),
         Some(Command::Verify { placings, .. }) => placings.len() + 1,
-        Some(Command::Help | Command::Version) | None => 0,
+        Some(Command::Help | Command::Version | Command::Explain { .. }) | None => 0,
     }
 }
 
@@ -365,7 +398,7 @@ pub fn file_word(words: &[String], k: usize) -> Option<&str>
         Command::Play { placings, .. } => placed_file(placings, k),
         Command::CheckMerge { placings } => placed_file(placings, k),
         Command::Verify { finished, placings } => verified_file(finished, placings, k),
-        Command::Help | Command::Version => None,
+        Command::Help | Command::Version | Command::Explain { .. } => None,
     }
 }
 

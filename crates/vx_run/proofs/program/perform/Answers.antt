@@ -1,5 +1,5 @@
 use Rattle.std.proofs.Common.{◌<◌, length, map, arith, refl}
-use Rattle.vx_run.specs.Grammar.{show, extract, check_extract, merge, play, check_merge, verify, help, version, texts}
+use Rattle.vx_run.specs.Grammar.{show, extract, check_extract, merge, play, check_merge, verify, help, version, explain, texts}
 use Rattle.vx_run.specs.inner.Placings.{placing_in}
 use Rattle.vx_run.proofs.Performing.{names-file, performs, performs-show, performs-extract, performs-check, merge_count, verify_count}
 use Rattle.vx_run.proofs.program.perform.Goals as goal
@@ -18,6 +18,13 @@ returns-in-Some-Help-clause-performs g c =
 pub returns-in-Some-Version-clause-performs : goal.returns-in-Some-Version-clause-performs
 returns-in-Some-Version-clause-performs g c =
     performs _ _ _ _ version (rw c.in-Some-Version.field-0-is at c.in-Some-Version.ensures.some) (refl, rw c.version.ensures at c.write_text-in-Some-Version.ensures.writes)
+
+pub explain-requires : goal.explain-requires
+explain-requires g c = (rw c.in-Some-Explain.field-0-is at c.in-Some-Explain.ensures.some).named
+
+pub returns-in-Some-Explain-clause-performs : goal.returns-in-Some-Explain-clause-performs
+returns-in-Some-Explain-clause-performs g c =
+    performs _ _ _ _ (explain c.in-Some-Explain.word.now) (rw c.in-Some-Explain.field-0-is at c.in-Some-Explain.ensures.some) (refl, c.explain.ensures.writes)
 
 pub returns-in-Some-Extract-clause-performs : goal.returns-in-Some-Extract-clause-performs
 returns-in-Some-Extract-clause-performs g c =
