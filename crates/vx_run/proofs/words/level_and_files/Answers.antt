@@ -1,5 +1,6 @@
 use Rattle.std.proofs.Common.{rules, ◌≡◌, ◌∙◌, ℕ, List, Option, codes, true, false, sym}
 use Rattle.vx_run.specs.Grammar.{Placing, texts}
+use Rattle.vx_run.specs.inner.Placings.{NameLevelAndFiles}
 use Rattle.vx_run.specs.inner.Words.{IsOptionFirst}
 use Rattle.vx_run.proofs.MergeWords.{level_and_placings, no_level_there, no_placings_there}
 use Rattle.vx_run.proofs.words.level_and_files.Goals as goal
@@ -7,7 +8,8 @@ use Rattle.vx_run.proofs.words.level_and_files.Goals as goal
 pub returns-in_err-level : goal.returns-in_err-level
 returns-in_err-level c =
     let none = rw c.in_err-level.was at c.option.ensures in
-    λ level ps names. no_level_there (texts c.args.words.now) level ps names none
+    let none_ : (level : Option ℕ) (ps : List Placing) → NameLevelAndFiles (texts c.args.words.now) level ps → ⊥ = λ level ps names. no_level_there (texts c.args.words.now) level ps names none in
+    rw c.from_residual.ensures none_
 
 pub returns-then-not-place_files : goal.returns-then-not-place_files
 returns-then-not-place_files c level ps names =

@@ -1,6 +1,6 @@
-use Rattle.std.proofs.Common.{◌≡◌, ℕ, List, ◌∷◌, Option, codes, map}
+use Rattle.std.proofs.Common.{ℕ, List, ◌∷◌, Option, codes, map}
 use Rattle.vx_run.specs.Grammar.{Placing, merge, AskFor, texts}
-use Rattle.vx_run.specs.inner.Placings.{NameLevelAndFiles, placing_in}
+use Rattle.vx_run.specs.inner.Placings.{placing_in}
 use Rattle.vx_run.proofs.Numbering.{if_none}
 use Rattle.vx_run.proofs.MergeWords.{asks_to_merge, names_to_merge}
 use Rattle.vx_run.proofs.words.merge_of.Goals as goal
