@@ -1,5 +1,5 @@
 //! What no stored case of `vx_cases` can say, or can say only in very many digits: a sink that is full, each write of
-//! `show` failing once, words without text, the names of files, and how the last write ends.
+//! `show` failing once, words without text, the names and the regions of files, and how the last write ends.
 
 use std::alloc::{AllocError, Global};
 use std::io::{self, BufWriter, ErrorKind, Write};
@@ -7,7 +7,7 @@ use std::process::Abort;
 use std::test::Fail;
 use vx_io::{MemorySink, MemorySource, Source};
 use vx_merge::{Lengths, lengths};
-use vx_run::{file_count, file_word, finish, run};
+use vx_run::{file_count, file_word, finish, play_region, run};
 
 /// A parameter set of a sequence, one of a picture, and a slice: a gray picture of 64 by 64 samples.
 const GRAY: &[u8] =
@@ -202,6 +202,25 @@ fn check_names(rt: &impl Abort, alloc: Global, words: &[&str], files: &[&str]) -
     assert_eq!(rt; file_count(&words), files.len());
     for k in 0..3 {
         assert_eq!(rt; file_word(&words, k), files.get(k).copied());
+    }
+    Ok(())
+}
+
+/// Files of `play` with the same corner are one region's, and regions are numbered as they come first.
+#[test]
+fn tells_regions(rt: HostRuntime) -> Result<(), Fail> {
+    let files = ["play", "64,0=a", "0,0=b", "64,0=c", "0,64=d", "0,0=e"];
+    check_regions(&rt, rt.alloc(), &files, &[0, 1, 0, 2, 1])?;
+    let leveled = ["play", "--level", "93", "0,0=a", "0,0=b"];
+    check_regions(&rt, rt.alloc(), &leveled, &[0, 0])?;
+    check_regions(&rt, rt.alloc(), &["merge", "0,0=a", "64,0=b"], &[])?;
+    check_regions(&rt, rt.alloc(), &["play"], &[])
+}
+
+fn check_regions(rt: &impl Abort, alloc: Global, words: &[&str], regions: &[usize]) -> Result<(), Fail> {
+    let words = words_of(alloc, words)?;
+    for k in 0..6 {
+        assert_eq!(rt; play_region(&words, k), regions.get(k).copied());
     }
     Ok(())
 }

@@ -6,6 +6,7 @@ pub mod Corners
 pub mod Ending
 pub mod Explaining
 pub mod Extracting
+pub mod FileRegions
 pub mod Gained
 pub mod Gathering
 pub mod Indexed

@@ -18,7 +18,7 @@ mod words;
 pub use conclude::finish;
 pub use extract::Task;
 pub use merge::merge_ends_once;
-pub use play::play_ends_once;
+pub use play::{play_ends_once, play_region};
 pub use program::run;
 pub use stop::Stop;
 pub use verify::verify_ends_once;

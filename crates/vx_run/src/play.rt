@@ -1,6 +1,6 @@
 //! `play`: the files of each region one behind another, and the regions put together, round by round.
 
-ghost use Rattle.std.specs.Prelude.{◌≡◌, ◌≢◌, ◌<◌, ◌≤◌, [], ℕ, List, All, map, length, vec_len, slice_get, slice_index, Err, IfOk, IfErr, OnOk, MatchOption};
+ghost use Rattle.std.specs.Prelude.{◌≡◌, ◌≢◌, ◌<◌, ◌≤◌, [], ℕ, List, All, map, length, vec_len, slice_get, slice_index, Option as OptionOf, None, Err, IfSome, IfOk, IfErr, OnOk, MatchOption};
 ghost use Rattle.std.specs.List.{AllByRecursion};
 ghost use Rattle.vx_pic.specs.Readings.{Picture as StreamPicture};
 ghost use Rattle.vx_pic.specs.Rules.{Readers};
@@ -11,8 +11,8 @@ ghost use Rattle.vx_merge.specs.Merging.{AreCorners, SameTask, Stands};
 ghost use Rattle.vx_play.specs.Scheduled.{count_of as region_count, files_of};
 ghost use Rattle.vx_run.specs.Change.{change, sources_change};
 ghost use Rattle.vx_run.specs.Conclusion.{IsOfCommand};
-ghost use Rattle.vx_run.specs.Grammar.{texts};
-ghost use Rattle.vx_run.specs.Merge.{corners_of as corners_by};
+ghost use Rattle.vx_run.specs.Grammar.{Placing as PlacingAsked, play as for_play, AskFor, texts};
+ghost use Rattle.vx_run.specs.Merge.{corner_of as corner_by, corners_of as corners_by};
 ghost use Rattle.vx_run.specs.Play.{Plays, PlaysBy, PlayEndsOnce, file_regions, most_files, region_corners, region_of as region_by, with_corner, with_corners, too_many_files as too_many_of_files};
 ghost use Rattle.vx_run.specs.Rounds.{most_sources};
 ghost use Rattle.vx_run.specs.inner.Placings.{IsPlacingWord, placing_in};
@@ -21,6 +21,7 @@ ghost use Rattle.vx_run.specs.inner.Playing.{AdvancesEach, AdvancesRegions, AreF
 use crate::merge::{all_go_on, corners_of, stop_of_round};
 use crate::rounds::{MOST_SOURCES, advance, feeds_for, going, in_round, one_more, too_many};
 use crate::stop::Stop;
+use crate::words::{Command, command_of, placing_of};
 use std::alloc::{AllocError, Global};
 use vx_assemble::Feed;
 use vx_bits::Refusal;
@@ -290,3 +291,63 @@ fn write_round<K: Sink>(
 pub fn play_ends_once()
     ensures { PlayEndsOnce }
 {}
+
+/// The region of the `k`-th file that the words of `play` place, from 0: files with the same corner are one region's, and regions are
+/// numbered as they come first. None where the words are other ones, or place no such file.
+pub fn play_region(words: &[String], k: usize) -> Option<usize>
+    ensures region { (level : OptionOf ℕ) (placings : List PlacingAsked) → AskFor (texts words.now) (for_play level placings)
+        → result ≡ slice_get (file_regions placings) k }
+    ensures other { ((level : OptionOf ℕ) (placings : List PlacingAsked) → AskFor (texts words.now) (for_play level placings) → ⊥)
+        → result ≡ None }
+{
+    match command_of(words)? {
+        Command::Play { placings, .. } => file_region(placings, k),
+        _ => None,
+    }
+}
+
+/// The region of the `k`-th of these words: as many as there are corners before the first word with its own.
+fn file_region(placings: &[String], k: usize) -> Option<usize>
+    requires { AllByRecursion IsPlacingWord (texts placings.now) }
+    ensures { result ≡ slice_get (file_regions (map placing_in (texts placings.now))) k }
+{
+    if k >= placings.len() {
+        return None;
+    }
+    let mut region = 0;
+    for i in 0..first_like(placings, k) {
+        if first_like(placings, i) == i {
+            region += 1;
+        }
+    }
+    Some(region)
+}
+
+/// The first of these words with the corner of the `k`-th.
+fn first_like(placings: &[String], k: usize) -> usize
+    requires words { AllByRecursion IsPlacingWord (texts placings.now) }
+    requires within { k < length placings.now }
+    ensures first { let corners = corners_by (map placing_in (texts placings.now)) in
+        IfSome (slice_get corners k) (λ corner. result ≡ region_by corners corner) }
+    ensures within { result ≤ k }
+{
+    let corner = corner_in(placings[k].as_str());
+    for i in 0..k {
+        if corner_in(placings[i].as_str()) == corner {
+            return i;
+        }
+    }
+    k
+}
+
+/// The corner that a word names.
+fn corner_in(word: &str) -> Corner
+    requires { IsPlacingWord word.now }
+    ensures { result ≡ corner_by (placing_in word.now) }
+{
+    let placing = placing_of(word).unwrap();
+    Corner {
+        x: u32::from(placing.x),
+        y: u32::from(placing.y),
+    }
+}
