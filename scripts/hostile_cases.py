@@ -1,5 +1,5 @@
-"""Cases of hostile use, under each command: what stands at the end of a range or one beyond, two pictures of which the first bytes come alone,
-and files and sinks that fail. What the other cases have of these isn't said again.
+"""Cases of hostile use, under each command: what stands at the end of a range or one beyond, two pictures of which the first bytes come
+alone, and files and sinks that fail. What the other cases have of these isn't said again.
 """
 import structure_cases as spelled
 from case_lines import Expected, units
@@ -43,8 +43,8 @@ def beside(cases, source):
 
 
 def refused_everywhere(cases, source, line, lines=None):
-    """A source that is refused under each command, as source 1 of a merge and as file 2 of a comparison; and, where they are given, the lines
-    that are shown before.
+    """A source that is refused under each command, as source 1 of a merge and as file 2 of a comparison; and, where they are given, the
+    lines that are shown before.
     """
     name, words = cases.name(source), beside(cases, source)
     if lines is not None:
@@ -57,12 +57,15 @@ def refused_everywhere(cases, source, line, lines=None):
 
 
 def taken_everywhere(cases, source, lines=None):
-    """A source of a picture that is its own extraction; and, where they are given, the lines that are shown."""
+    """A source of a picture that is its own extraction, and can be merged alone; and, where they are given, the lines that are shown."""
     name = cases.name(source)
     if lines is not None:
         cases.case(f"show {name}", Expected(out=lines))
     cases.case(f"extract 0 {name}", Expected(out=source))
     cases.case(f"check extract 0 {name}", checked())
+    cases.case(f"check merge 0,0={name}", checked())
+    cases.case(f"merge 0,0={name}", Expected(), keep="whole")
+    cases.case(f"verify merge whole 0,0={name}", verified())
 
 
 # Numbers of a stream at the ends of their ranges.
@@ -160,6 +163,12 @@ def add_places(cases):
 # Numbers that are counted from several fields.
 
 
+def frame_sps(**numbers):
+    """The SPS of two pictures of 64 by 64 samples side by side, with these numbers."""
+    return unit(SPS, 0, spelled.sps(128, 64, sps_subpic_info_present_flag=1, sps_num_subpics_minus1=1, sps_independent_subpics_flag=1,
+                                    sps_subpic_ctu_top_left_x=1, **numbers))
+
+
 def deep(bits_more, qp, delta):
     """A picture of more bits a sample, in one slice."""
     return stream(unit(SPS, 0, spelled.sps(sps_bitdepth_minus8=bits_more)), pps(64, 64, qp=qp), slice_unit(I0, inside=True, qp_delta=delta))
@@ -202,7 +211,8 @@ def add_qps(cases):
 
 def cycled(lsb_bits, cycle_bits, lsb, cycle):
     """A picture, with its header in its slice, of these low bits and this cycle: its SPS's numbers, its header's bits, and the stream."""
-    numbers = {"sps_log2_max_pic_order_cnt_lsb_minus4": lsb_bits - 4, "sps_poc_msb_cycle_flag": 1, "sps_poc_msb_cycle_len_minus1": cycle_bits - 1}
+    numbers = {"sps_log2_max_pic_order_cnt_lsb_minus4": lsb_bits - 4, "sps_poc_msb_cycle_flag": 1,
+               "sps_poc_msb_cycle_len_minus1": cycle_bits - 1}
     header = (4, 0b1000), (1, 1), (lsb_bits, lsb), (1, 1), (cycle_bits, cycle)
     inside = Writer(None)
     for bits, number in ((1, 1), *header, (1, 0), (1, 1)):
@@ -218,12 +228,11 @@ def add_counts(cases):
         cycles = 2**(31 - bits)
         numbers, header, source = cycled(bits, 32 - bits, 2**bits - 1, cycles - 1)
         taken_everywhere(cases, source, lines_of(source, *SETS, picture_line(0, 2**31 - 1)))
-        frame = spelled.sps(128, 64, sps_subpic_info_present_flag=1, sps_num_subpics_minus1=1, sps_independent_subpics_flag=1,
-                            sps_subpic_ctu_top_left_x=1, **numbers)
         w = Writer(None)
         for code in header:
             w.u(*code)
-        cases.merged(BESIDE, (source, source), Expected(out=stream(unit(SPS, 0, frame), pair_pps(), unit(PH, 0, w.closed()), left(I0), right(I0))))
+        written = stream(frame_sps(**numbers), pair_pps(), unit(PH, 0, w.closed()), left(I0), right(I0))
+        cases.merged(BESIDE, (source, source), Expected(out=written))
         for lsb, cycle in ((0, cycles), (2**bits - 1, 2 * cycles - 1)):
             _, _, source = cycled(bits, 32 - bits, lsb, cycle)
             refused_everywhere(cases, source, "S13 source 0 unit 2", lines_of(source, *SETS))
@@ -247,6 +256,21 @@ def add_sums(cases):
         source = far_motion(entry, (1, 0))
         cases.case(f"extract 0 {cases.name(source)}", Expected(out=source))
         cases.case(f"check merge {cases.placed(BESIDE, (source, source))}", checked(2))
+
+
+def add_slots(cases):
+    """More PPSs than there are ids, of 10 bits, so that each has a QP of its own."""
+    cases.about("hostile: 66 PPSs in turn: the last two take the id 0, one after the other; then the second one, which is still there, "
+                "and the first one again")
+    deeper = {"sps_bitdepth_minus8": 2}
+    source, written = [unit(SPS, 0, spelled.sps(**deeper))], [frame_sps(**deeper)]
+    for at, k in enumerate([*range(66), 1, 0]):
+        kind, lsb, taken = 0 if at else IDR_N_LP, at % 16, k if k < 64 else 0
+        header = Header(kind, taken, lsb)
+        source += [pps(64, 64, k % 64, k - 12), slice_unit(Header(kind, k % 64, lsb), inside=True)]
+        written += [] if at == 66 else [pair_pps(k - 12, taken)]
+        written += [ph(header), left(header), right(header)]
+    cases.checked(f"merge {cases.placed(BESIDE, [stream(*source)] * 2)}", Expected(out=stream(*written)))
 
 
 def add_numbers(cases):
@@ -358,6 +382,7 @@ def add_hostile(cases):
     add_qps(cases)
     add_counts(cases)
     add_sums(cases)
+    add_slots(cases)
     add_numbers(cases)
     add_cut(cases)
     add_failing(cases)

@@ -685,8 +685,9 @@ def qp_lines(number):
         rbsp = w.closed()
         told = f"slice size={len(rbsp)} subpicture=0 address=0 700=1 705=0 713={delta} | header {header}{SAME}"
         yield unit(IDR_N_LP, rbsp + b"\x5a\xa7\x80"), told
-        picture = (f"picture 0 unit=2 type=8 tid=0 clvss=1 after_eos=0 poc=0 subpictures=1 slices=1\nslice subpicture=0 address=0 qp={qp} list0=- "
-                   "list1=- alf=off lmcs=off scaling=off size=64x64 columns=0,1 rows=0,1 slices=0,0,1,1 across=00 payload=5aa780")
+        picture = ("picture 0 unit=2 type=8 tid=0 clvss=1 after_eos=0 poc=0 subpictures=1 slices=1\n"
+                   f"slice subpicture=0 address=0 qp={qp} list0=- list1=- alf=off lmcs=off scaling=off size=64x64 columns=0,1 rows=0,1 "
+                   "slices=0,0,1,1 across=00 payload=5aa780")
         yield "pictures", picture if delta == 0 else "refused Structure { code: 14, kind: 0, id: 0 }"
         number += 1
 
