@@ -1,5 +1,5 @@
 -- What the status tells of what came of a command.
-use Rattle.std.proofs.Common.{◌≡◌, ◌≢◌, ℕ, ◌+◌, List, [], ◌∷◌, ◌++◌, length, Option, Some, None, Ok, Err, inl, inr, refl, sym, ap, subst, arith, ◌<◌, ◌≤◌, ◌∙◌}
+use Rattle.std.proofs.Common.{◌≡◌, ◌≢◌, ◌⊎◌, ℕ, List, [], ◌∷◌, ◌++◌, length, Option, Some, None, Ok, Err, inl, inr, refl, sym, ap, subst, arith, ◌<◌, ◌≤◌, ◌∙◌}
 use Rattle.std.specs.Prelude.{IsSomeAnd}
 use Rattle.vx_bits.specs.declared.refusal.Refusal.{Refusal}
 use Rattle.vx_report.specs.declared.refusal.Where.{Where}
@@ -110,6 +110,7 @@ module _ {A K : Type 0} (R : Readers) (of : AreOfH266 R) (words : List (List ℕ
   extracts-done (check_extract tid index file) t performs spelled is b ps ending told are =
       subst (λ (u : Task). IsStatus u ps ending 0) (same_task (task_of tid None index) t is) (status-done (task_of tid None index) ps ending (((performs.command (check_extract tid index file) spelled).1 R of).4 b ps ending told are).0)
   extracts-done (merge level placings) t performs spelled is b ps ending told are = absurd (cc)
+  extracts-done (play level placings) t performs spelled is b ps ending told are = absurd (cc)
   extracts-done (check_merge placings) t performs spelled is b ps ending told are = absurd (cc)
   extracts-done (verify finished placings) t performs spelled is b ps ending told are = absurd (cc)
   extracts-done (show file) t performs spelled is b ps ending told are = absurd (cc)
@@ -127,6 +128,7 @@ module _ {A K : Type 0} (R : Readers) (of : AreOfH266 R) (words : List (List ℕ
       subst (λ (u : Task). ¬ HasFault (source_at sources 0) → ¬ HasFault out → status ≢ 4 → WhereTold R (source_at sources 0) (λ ps ending. IsStatus u ps ending status)) (same_task (task_of tid None index) t is)
       (check-stopped R (task_of tid None index) (source_at sources 0) out err stop status ((performs.command (check_extract tid index file) spelled).1 R of) ends)
   extracts-stopped err stop status (merge level placings) t performs ends spelled is = absurd (cc)
+  extracts-stopped err stop status (play level placings) t performs ends spelled is = absurd (cc)
   extracts-stopped err stop status (check_merge placings) t performs ends spelled is = absurd (cc)
   extracts-stopped err stop status (verify finished placings) t performs ends spelled is = absurd (cc)
   extracts-stopped err stop status (show file) t performs ends spelled is = absurd (cc)
