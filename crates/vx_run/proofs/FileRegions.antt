@@ -73,6 +73,7 @@ module _ (found : List Corner) (c x : Corner) where
     where
       stays : region_of (found ++ x ∷ []) c ≡ region_of found c
       stays = pushed found c x false (is_corner c x) (ne_eqb (region_of found c) (length found) (λ is. omega (arith, is, some))) refl
+
       by_test : (new : Bool) → (region_of found x == length found) ≡ new → (region_of (with_corner found x) c ≡ region_of found c) × Has (with_corner found x) c
       by_test true is = rw (new_or_known found x true is) (stays, omega (arith, stays, some, length-append found (x ∷ [])))
       by_test false is = rw (new_or_known found x false is) (refl, some)
