@@ -58,7 +58,7 @@ def refused_lines():
 
 def count_lines():
     """Picture order counts: of a CRA picture, of a second one, which later ones may refer to or not, of a third, and of a CRA picture behind
-    an end of sequence; and with a cycle, the largest one, and one more.
+    an end of sequence; and the largest and the smallest count, and one beyond.
     """
     yield "count 4,3 - 1 0 0", "3"
     yield "count 4,15 - 0 3 3", "-1"
@@ -67,7 +67,16 @@ def count_lines():
     yield "count 4,9 - 0 3 3", "9"
     yield "count 4,5 - 1 9 9", "5"
     yield "count 16,65535 32767 0 0 0", "2147483647"
-    yield "count 16,0 32768 0 0 0", "refused Structure { code: 13, kind: 0, id: 0 }"
+    outside = "refused Structure { code: 13, kind: 0, id: 0 }"
+    yield "count 16,0 32768 0 0 0", outside
+    # with the most bits of a cycle; and the largest and the smallest count without one, and one beyond
+    yield "count 4,15 134217727 0 0 0", "2147483647"
+    for cycle in (134217728, 268435455, 4294967295):
+        yield f"count 4,0 {cycle} 0 0 0", outside
+    yield "count 4,15 - 0 15 2147483647", "2147483647"
+    yield "count 4,0 - 0 15 2147483647", outside
+    yield "count 4,0 - 0 0 -2147483648", "-2147483648"
+    yield "count 4,15 - 0 0 -2147483648", outside
 
 
 def difference_lines():

@@ -180,19 +180,25 @@ def add_long_messages(cases):
         say_in_pieces(cases, f"show {cases.name(source)}", expected)
 
 
+def long_picture(last):
+    """A picture of four slices, of which the last one has so many bytes: its stream, and what is told of the sets and of each slice."""
+    front = b"".join(b"\0\0\1" + unit for unit in spelled(FOUR))
+    parts, offset, lines = [front], len(front), []
+    for first, count in ((0x0C, 2**23), (0x2C, 2**23), (0x4C, 2**23), (0x6C, last)):
+        parts += [bytes([0, 0, 1, 0, 0x41, first]), (b"\x5a", count - 3)]
+        lines.append((offset + 3, count, 8))
+        offset += 3 + count
+    return tuple(parts), lines
+
+
 def add_long_pictures(cases):
     """As many bytes as a picture can have, and one more."""
     cases.about("show: pictures of four slices, of as many bytes as a picture can have, and of one more")
-    front = b"".join(b"\0\0\1" + unit for unit in spelled(FOUR))
     for last in (2**23 - 4, 2**23 - 3):
-        parts, offset, lines = [front], len(front), []
-        for first, count in ((0x0C, 2**23), (0x2C, 2**23), (0x4C, 2**23), (0x6C, last)):
-            parts += [bytes([0, 0, 1, 0, 0x41, first]), (b"\x5a", count - 3)]
-            lines.append((offset + 3, count, 8))
-            offset += 3 + count
+        source, lines = long_picture(last)
         whole = lines_of(FOUR) + told(*lines, picture_line(slices=4))
         expected = Expected(out=whole) if last == 2**23 - 4 else refused("L2 source 0 unit 6", lines_of(FOUR) + told(*lines[:3]))
-        say_in_pieces(cases, f"show {cases.name(tuple(parts))}", expected, ((), ("pieces all 60 65537",)))
+        say_in_pieces(cases, f"show {cases.name(source)}", expected, ((), ("pieces all 60 65537",)))
 
 
 def add_fed(cases):

@@ -182,6 +182,46 @@ def taken_over():
     yield f"lists 1,0,8,0 {first};179=2;301=0*2 c0", told + refused_syntax(308, 8, "OutOfRange")
 
 
+def past_the_list():
+    """The last structure of three, and one that there isn't."""
+    structures = "179=3;301=0*3;179=3;301=0*3"
+    yield f"lists 0,0,8,0 {structures} {hexadecimal('110')}", told_lists("110", "307=1 308=2", "-|-")
+    yield f"lists 0,0,8,0 {structures} {hexadecimal('111')}", "at=1 307=1 | " + refused_syntax(308, 1, "OutOfRange")
+
+
+def weight_ends():
+    """The largest denominator and the most weights, and one more: of lists of one entry, and of lists of 16 entries."""
+    for denominator in (7, 8):
+        bits = Bits()
+        bits.ue(denominator)
+        answer = "at=8 321=7 324=0 | written same" if denominator == 7 else "at=0 | " + refused_syntax(321, 0, "OutOfRange")
+        yield f"weights 0,0,0,1,0,1,0 {hexadecimal(bits.text + '0')}", answer
+    for entries, most in ((1, 1), (16, 15)):
+        for first, second in ((most, most), (most, most + 1), (most + 1, 0)):
+            yield f"weights 0,1,1,{entries},{entries},0,0 {weight_bits(first, second)}", weights_told(most, first, second)
+
+
+def weight_bits(first, second):
+    """So many weights for each list, all of which are absent."""
+    bits = Bits()
+    bits.ue(0)
+    for count in (first, second):
+        bits.ue(count)
+        bits.text += "0" * count
+    return hexadecimal(bits.text)
+
+
+def weights_told(most, first, second):
+    """What is told of them, where a list has so many at most."""
+    code = 2 * (most + 1).bit_length() - 1
+    if first > most:
+        return "at=1 321=0 | " + refused_syntax(323, 1, "OutOfRange")
+    own, at = f"321=0 323={most}" + " 324=0" * most, 1 + code + most
+    if second > most:
+        return f"at={at} {own} | " + refused_syntax(330, at, "OutOfRange")
+    return f"at={at + code + most} {own} 330={most}" + " 324=0" * most + " | written same"
+
+
 def structure_lines():
     """Structures that are read, and that are written."""
     for bytes_read, told in (
@@ -238,7 +278,9 @@ def list_lines():
     yield from table_lines()
     yield from header_lines()
     yield from taken_over()
+    yield from past_the_list()
     yield from structure_lines()
     yield from weight_lines()
+    yield from weight_ends()
     yield from longest_lists()
     yield from largest_table()

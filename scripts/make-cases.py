@@ -4,7 +4,8 @@
 usage: scripts/make-cases.py VECTORS STREAMS
 
 It writes crates/vx_cases/stdin and crates/vx_cases/stdout. No expected value is taken from the program: the worked cases stand in
-worked_cases.py, told_cases.py, fed_cases.py, verify_cases.py and explain_cases.py, and VECTORS and STREAMS are folders.
+worked_cases.py, told_cases.py, fed_cases.py, verify_cases.py, hostile_cases.py and explain_cases.py, and VECTORS and STREAMS are
+folders.
 
 In merge.txt of VECTORS a case is a line `case N merge WORDS`, with the number of a source behind each `=`, a line `source BYTES` for each
 source in hexadecimal, and a line `status=S err=LINE out=BYTES` of what `merge` comes to, with blanks of LINE as `_` and `-` for none. In
@@ -20,6 +21,7 @@ import sys
 from case_lines import Cases, Expected, expected_of, family_merges, model_merges, units
 from explain_cases import add_explained
 from fed_cases import add_fed
+from hostile_cases import add_hostile
 from plain_streams import stream
 from told_cases import add_told
 from verify_cases import add_family_compared, add_model_compared, add_verified
@@ -104,6 +106,7 @@ def main(vectors, streams):
     add_told(cases)
     add_fed(cases)
     add_verified(cases)
+    add_hostile(cases)
     add_model_compared(cases, os.path.join(vectors, "verify.txt"))
     add_explained(cases)
     cases.write(CRATE)

@@ -12,13 +12,16 @@ SAME = " | written same"
 
 
 class Speller(Reader):
-    """Bits that are written in the order in which they are read: a field has its number by its name, those of a list in turn, or 0."""
+    """Bits that are written in the order in which they are read: a field has its number by its name, those of a list in turn, or 0. The
+    places are those at which fields first begin.
+    """
 
     def begin(self, numbers):
         self.numbers = {name: list(number) if isinstance(number, (list, tuple)) else number for name, number in numbers.items()}
-        self.writer, self.items = Writer(None), []
+        self.writer, self.items, self.places = Writer(None), [], {}
 
     def next(self, name):
+        self.places.setdefault(name, len(self.writer.bits))
         number = self.numbers.get(name, 0)
         return number.pop(0) if isinstance(number, list) else number
 
@@ -214,6 +217,26 @@ def longest_sps():
     return w.closed()
 
 
+def sps_ends():
+    """Numbers at their ends, and one beyond."""
+    size = dict(zip(SPS_SIZE, (64, 64)))
+    for name, number in (("sps_max_sublayers_minus1", 7), ("sps_log2_ctu_size_minus5", 3)):
+        found = SpelledSps(GRAY | size | {name: number})
+        yield found.rbsp.hex(), outside(NUMBERS[name], found.places[name])
+    yield sps(64, 16392).hex(), limit(6)
+    yield sps(sps_subpic_info_present_flag=1, sps_subpic_id_len_minus1=15).hex(), None
+
+
+def pps_ends():
+    """The longest id, and as many ids as there may be, before whose length the bits end."""
+    mapped = {"pps_subpic_id_mapping_present_flag": 1}
+    yield whole(**mapped, pps_subpic_id_len_minus1=15, pps_subpic_id=65535).hex(), None
+    found = SpelledPps(dict(zip(PPS_SIZE, (64, 64))) | mapped | {"pps_num_subpics_minus1": 999, "pps_log2_ctu_size_minus5": 1})
+    place = found.places["pps_subpic_id_len_minus1"]
+    bits = "".join(f"{byte:08b}" for byte in found.rbsp)[:place]
+    yield f"{int(bits, 2) << -place % 8:0{-(-place // 8) * 2}x}", unread(415, place, "Short")
+
+
 def number_lines():
     """The numbers of the SPS with 1,000 subpictures, and of the longest one."""
     thousand, longest = Sps(bytes.fromhex(THOUSAND_SPS)), Sps(longest_sps())
@@ -319,7 +342,7 @@ def each_tile():
 
 def pps_lines():
     """Sets that are read and written, or refused, and kept items."""
-    yield from set_lines("pps", PPS_ROWS)
+    yield from set_lines("pps", [*PPS_ROWS, *pps_ends()])
     for digits in (ONE_PPS, BESIDE_PPS):
         yield f"pps-kept {digits}", KEPT
     longest, tiles = Pps(longest_pps()), Pps(each_tile())
@@ -434,7 +457,7 @@ def headers_rewritten():
 
 # Headers.
 
-SPS, PPS, PH = 15, 16, 19
+IDR_N_LP, SPS, PPS, PH = 8, 15, 16, 19
 
 
 def stream_lines(number, sps_rbsp, pps_rbsp, header=None):
@@ -452,6 +475,20 @@ DEBLOCKED = {"pps_deblocking_filter_control_present_flag": 1, "pps_deblocking_fi
 EXTRA_BITS = {"sps_poc_msb_cycle_flag": 1, "sps_poc_msb_cycle_len_minus1": 1, "sps_num_extra_ph_bytes": 1,
               "sps_extra_ph_bit_present_flag": [1] + [0] * 7}
 
+
+
+def coded(*pairs):
+    """Codes, each a number of bits, or None for ue(v), and a number; and the alignment."""
+    w = Writer(None)
+    for bits, number in pairs:
+        w.ue(number) if bits is None else w.u(bits, number)
+    return w.closed().hex()
+
+
+# The longest code of ue(v) has this number.
+MOST = 2**32 - 2
+TWO_LISTED = (4, 0b0011), (1, 1), (4, 0), (None, 2), (2, 0b10), (2, 0b10), (None, 0), (1, 1)
+
 # Sets, and picture headers with their items and the bit behind them, or with their refusal.
 HEADER_ROWS = [
     (*ONE_SETS, [
@@ -463,6 +500,8 @@ HEADER_ROWS = [
         ("0000000000", unread(605, 3, "LongCode")),
         ("88", unread(606, 5, "Short")),
         ("-", unread(600, 0, "Short")),
+        # recovery as far away as a code can say
+        (coded((4, 0b1010), (1, 1), (4, 0), (None, MOST)), f"600=1 601=0 602=1 603=0 605=0 606=0 607={MOST} | lists=0,0 end=72"),
     ]),
     # the deblocking filter is described as off
     (sps(), tiled([1], [1], **DEBLOCKED), [
@@ -475,6 +514,9 @@ HEADER_ROWS = [
     # two entries in list 0 and none in list 1: the collocated picture is one of two
     (sps(sps_temporal_mvp_enabled_flag=1), tiled([1], [1], **LISTS_IN_PH), [
         ("383ad0", "600=0 601=0 603=1 604=1 605=0 606=0 301=2 304=0 305=0 304=0 305=0 301=0 634=1 636=1 | lists=2,0 end=21"),
+        # an entry that the list doesn't have: there is no range
+        (coded(*TWO_LISTED, (None, MOST)),
+         f"600=0 601=0 603=1 604=1 605=0 606=0 301=2 304=0 305=0 304=0 305=0 301=0 634=1 636={MOST} | lists=2,0 end=81"),
     ]),
     # as many weights as entries, and one more
     (sps(sps_weighted_pred_flag=1), tiled([1], [1], **LISTS_IN_PH, pps_weighted_pred_flag=1, pps_wp_info_in_ph_flag=1), [
@@ -484,6 +526,11 @@ HEADER_ROWS = [
     # an extra bit, and the cycle of the high bits
     (sps(**EXTRA_BITS), whole(), [
         ("886c", "600=1 601=0 602=0 603=0 605=0 606=0 608=1 609=1 610=1 | lists=0,0 end=13"),
+    ]),
+    # the largest cycle
+    (sps(sps_poc_msb_cycle_flag=1, sps_poc_msb_cycle_len_minus1=27), whole(), [
+        (coded((4, 0b1000), (1, 1), (4, 15), (1, 1), (28, 2**28 - 1)),
+         "600=1 601=0 602=0 603=0 605=0 606=15 609=1 610=268435455 | lists=0,0 end=38"),
     ]),
     # two pictures side by side
     (bytes.fromhex(BESIDE_SPS), bytes.fromhex(BESIDE_PPS), [
@@ -540,11 +587,8 @@ SEVERAL = tiled([1], [3], 3, **LISTS_IN_PH, pps_num_exp_slices_in_tile=1)
 
 
 def codes(*pairs):
-    """The bytes behind the first one: codes, each a number of bits, or None for ue(v), and a number; and the alignment."""
-    w = Writer(None)
-    for bits, number in pairs:
-        w.ue(number) if bits is None else w.u(bits, number)
-    return "00" + w.closed().hex()
+    """The bytes behind the first one: codes, and the alignment."""
+    return "00" + coded(*pairs)
 
 
 QP = (None, 0)
@@ -630,9 +674,27 @@ def slice_lines(number):
         yield f"slice 8 {digits}", answer
 
 
+def qp_lines(number):
+    """Pictures whose slice has the largest QP or the smallest one, of 8 and of 10 bits, and one beyond."""
+    header = "600=1 601=0 602=0 603=0 605=0 606=0"
+    for bits_more, qp, delta in ((0, 63, 0), (0, 63, 1), (0, 0, 0), (0, 0, -1), (2, -12, 0), (2, -12, -1)):
+        yield from stream_lines(number, sps(sps_bitdepth_minus8=bits_more), whole(pps_init_qp_minus26=qp - 26))
+        w = Writer(None)
+        w.u(11, 0b11000100000)
+        w.se(delta)
+        rbsp = w.closed()
+        told = f"slice size={len(rbsp)} subpicture=0 address=0 700=1 705=0 713={delta} | header {header}{SAME}"
+        yield unit(IDR_N_LP, rbsp + b"\x5a\xa7\x80"), told
+        picture = ("picture 0 unit=2 type=8 tid=0 clvss=1 after_eos=0 poc=0 subpictures=1 slices=1\n"
+                   f"slice subpicture=0 address=0 qp={qp} list0=- list1=- alf=off lmcs=off scaling=off size=64x64 columns=0,1 rows=0,1 "
+                   "slices=0,0,1,1 across=00 payload=5aa780")
+        yield "pictures", picture if delta == 0 else "refused Structure { code: 14, kind: 0, id: 0 }"
+        number += 1
+
+
 def structure_lines():
     """All lines, each with its answer."""
-    yield from set_lines("sps", SPS_ROWS)
+    yield from set_lines("sps", [*SPS_ROWS, *sps_ends()])
     yield from number_lines()
     yield from pps_lines()
     yield from sps_rewritten()
@@ -640,3 +702,4 @@ def structure_lines():
     yield from headers_rewritten()
     yield from header_lines(100)
     yield from slice_lines(200)
+    yield from qp_lines(300)

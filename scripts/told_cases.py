@@ -113,39 +113,43 @@ def add_tables(cases, rows, sizes=(WHOLE, BYTEWISE)):
         say_in_pieces(cases, f"show {cases.name(source)}", refused(line, lines) if line else Expected(out=lines), sizes)
 
 
-def add_ends(cases):
-    """A count, a length or a number at its end, and one beyond."""
+def end_rows():
+    """A count, a length or a number at its end, and one beyond: what these are of, and streams, what is told of them, and their refusal."""
     tall = told((4, 21, 15), sps_line(64, 128), (29, 10, 16), pps_line())
     other_sets = told((4, 22, 15), sps_line(), (30, 10, 16), pps_line())
     other_pps = told((4, 20, 15), sps_line(), (28, 11, 16), pps_line())
-    slices = [(42, 7, 9), picture_line(0, 3), (53, 7, 0), picture_line(1, -1, "false"), (64, 7, 0)]
-    last = [(75, 2, 21), (81, 7, 9), picture_line(3, 5)]
-    cases.about("show: a picture header in a slice of a picture of two")
-    add_tables(cases, [(stream(*units(M)[:2]) + given("0041c40c5aa780 0041585aa780"), PAIR_SETS, "S15 source 0 unit 2")])
-    cases.about("show: a code of 32 zeros; no width, and one that is too large; 1,000 subpictures, and one more")
-    add_tables(cases, [
+    yield "a picture header in a slice of a picture of two", [
+        (stream(*units(M)[:2]) + given("0041c40c5aa780 0041585aa780"), PAIR_SETS, "S15 source 0 unit 2")]
+    yield "a code of 32 zeros; no width, and one that is too large; 1,000 subpictures, and one more", [
         (given("007900030233800000408105000003000080"), EMPTY, "Y source 0 unit 0 field 117 bit 80 LongCode"),
         (given("007900030233800020412003de003006080010"), EMPTY, "Y source 0 unit 0 field 109 bit 50 OutOfRange"),
         (given("007900030233800000030080120412003de00300608001"), EMPTY, "L6 source 0 unit 0"),
         (given("007900030233800000408105007d10"), EMPTY, "Y source 0 unit 0 field 120 bit 104 Short"),
-        (given("007900030233800000408105007d3000000300"), EMPTY, "L9 source 0 unit 0")])
-    cases.about("show: too many reference picture list structures, and entries of one; extensions and entry points that are too long")
-    add_tables(cases, [
+        (given("007900030233800000408105007d3000000300"), EMPTY, "L9 source 0 unit 0")]
+    yield "too many reference picture list structures, and entries of one; extensions and entry points that are too long", [
         (given("007900030233800000820412003de002042ffffffffffffffff803040008"), EMPTY, "L8 source 0 unit 0"),
         (given("007900030233800000820412003de00283f55555555555555400c10002"), EMPTY, "L7 source 0 unit 0"),
         (given(f"{GRAY_SPS} 00810000410208984480 0041c400204c5aa780"), GRAY_SETS, "Y source 0 unit 2 field 654 bit 10 OutOfRange"),
         (given(f"{GRAY_SPS} 00810000410208984280 0041c41008145aa780"), GRAY_SETS, "Y source 0 unit 2 field 731 bit 12 OutOfRange"),
         (given("007900030233800000820204e00f7800c018200040 00810000410102261020 0041c4104200000300015aa780"), tall,
-         "Y source 0 unit 2 field 733 bit 12 OutOfRange")])
-    cases.about("show: the largest picture order count, and one more; the largest quantization parameter of a slice, and one more")
+         "Y source 0 unit 2 field 733 bit 12 OutOfRange")]
     count_sps = "00790003023380000082041264201ef0018030400080"
     qp_pps = "0081000041020898012808"
-    add_tables(cases, [
+    yield "the largest picture order count, and one more; the largest quantization parameter of a slice, and one more", [
         (given(f"{count_sps} {GRAY_PPS} 0041c7fffefffec05aa780"), other_sets + told((44, 11, 8), picture_line(0, 2147483647)), ""),
         (given(f"{count_sps} {GRAY_PPS} 0041c400030000c05aa780"), other_sets, "S13 source 0 unit 2"),
         (given(f"{GRAY_SPS} {qp_pps} 0041c4185aa780"), other_pps + told((43, 7, 8), picture_line()), ""),
-        (given(f"{GRAY_SPS} {qp_pps} 0041c40a5aa780"), other_pps, "S14 source 0 unit 2")])
+        (given(f"{GRAY_SPS} {qp_pps} 0041c40a5aa780"), other_pps, "S14 source 0 unit 2")]
+
+
+def add_ends(cases):
+    """A count, a length or a number at its end, and one beyond."""
+    for what, rows in end_rows():
+        cases.about(f"show: {what}")
+        add_tables(cases, rows)
     cases.about("show: counts that are predicted up to an end of sequence, and not from a picture that isn't referred to")
+    slices = [(42, 7, 9), picture_line(0, 3), (53, 7, 0), picture_line(1, -1, "false"), (64, 7, 0)]
+    last = [(75, 2, 21), (81, 7, 9), picture_line(3, 5)]
     for second, count in (("00018ff85aa780", -7), ("0001aff85aa780", 9)):
         source = given(f"{GRAY_SPS} {GRAY_PPS} 0049c4de5aa780 {second} 00018cf85aa780 00a9 0049c55e5aa780")
         add_tables(cases, [(source, GRAY_SETS + told(*slices, picture_line(2, count, "false"), *last), "")])
@@ -403,7 +407,7 @@ def far_motion(entry, cycles):
     # the picture header inside, of an inter picture, with the PPS 0 and the count 1, and motion
     for bits, value in ((1, 1), (5, 0b00111), (4, 1), (2, 0b10)):
         w.u(bits, value)
-    # a P slice, its two lists, two active entries, and the one whose motion it takes
+    # a P slice, its two lists, the active entries, and the one whose motion it takes
     w.ue(1)
     w.ue(len(cycles))
     w.u(len(cycles), 0)
@@ -412,7 +416,7 @@ def far_motion(entry, cycles):
         w.ue(cycle)
     w.ue(0)
     w.u(1, 1)
-    w.ue(1)
+    w.ue(len(cycles) - 1)
     w.ue(entry)
     w.se(0)
     sets = (SPS, spelled.sps(sps_long_term_ref_pics_flag=1, sps_temporal_mvp_enabled_flag=1)), (PPS, spelled.whole())
