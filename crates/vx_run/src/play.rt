@@ -106,9 +106,10 @@ fn placed(corners: &mut Vec<Corner>, corner: Corner) -> Result<usize, AllocError
     ensures corners { OnOk result (corners.new.items ≡ with_corner corners.old.items corner) }
 {
     let region = region_of(corners, corner);
-    if region == corners.len() {
-        corners.push(corner)?;
+    if region < corners.len() {
+        return Ok(region);
     }
+    corners.push(corner)?;
     Ok(region)
 }
 
