@@ -18,13 +18,13 @@ loop-merger-init g c =
     let feeds = c.in_ok-feeds.feeds.items in
     let fits : length feeds ≡ length c.args.corners.now = omega (arith, c.in_ok-feeds.ensures.count, c.len.ensures) in (
       (c.in_ok-merger.ensures.task.0, c.in_ok-merger.ensures.task.1),
-      (c.requires.count, fits, omega (arith, c.in_ok-ended.ensures, c.len-2.ensures)),
+      (c.requires.count, omega (arith, fits), omega (arith, c.in_ok-ended.ensures, c.len-2.ensures)),
       (
         ap (λ (x : Scheduled). x.regions) is,
         ap (λ (x : Scheduled). length x.gone) is ∙ length-replicate (regions_in c.args.files.now) 0 ∙ c.requires.regions,
         inl (refl, ap (λ (x : Scheduled). x.last) is),
       ),
-      λ R of. play_begins _ _ _ _ R c.args.sources.now.items c.args.out.now c.args.corners.now c.args.level c.args.files.now s is (sym c.requires.count) c.requires.regions feeds c.in_ok-merger.merger fits c.in_ok-feeds.ensures.unfed c.in_ok-merger.ensures.stands,
+      λ R of. play_begins _ _ _ _ R c.args.sources.now.items c.args.out.now c.args.corners.now c.args.level c.args.files.now s is (omega (arith, c.requires.count)) c.requires.regions feeds c.in_ok-merger.merger fits c.in_ok-feeds.ensures.unfed c.in_ok-merger.ensures.stands,
     )
 
 -- there was no memory to begin
@@ -73,10 +73,11 @@ returns-in_err-advance_regions-clause-plays g c R of =
     let s' = c.advance_regions.new.schedule in
     let fs = c.advance_regions.new.feeds.items in
     let fits : length fs ≡ length c.args.corners.now = omega (arith, c.advance_regions.ensures.feeds, c.loop-merger.invariant.1.1) in
+    let alike : length fs ≡ length c.loop-merger.feeds.items = omega (arith, c.advance_regions.ensures.feeds) in
     let flags : length c.advance_regions.new.ended.items ≡ length fs = omega (arith, fits, c.advance_regions.ensures.ended, c.loop-merger.invariant.1.2) in
     let e = c.loop-merger.invariant.3 R of in
     rw (p.1, p.2) (plays_so _ _ _ _ R first c.args.out.now c.args.corners.now c.args.level s.regions c.args.files.now l' c.loop-merger.out (Err c.in_err-advance_regions.field-0.0) own
-    (advance_stops _ _ _ _ R first c.args.out.now c.args.corners.now c.args.level s many enough c.loop-merger.sources.items l' s' c.loop-merger.feeds.items fs c.advance_regions.new.ended.items fits c.advance_regions.ensures.feeds flags c.loop-merger.rounds c.loop-merger.out c.loop-merger.merger e c.in_err-advance_regions.field-0.0 (c.in_err-advance_regions.ensures.answer R of first e.passed e.own e.placed)))
+    (advance_stops _ _ _ _ R first c.args.out.now c.args.corners.now c.args.level s many enough c.loop-merger.sources.items l' s' c.loop-merger.feeds.items fs c.advance_regions.new.ended.items fits alike flags c.loop-merger.rounds c.loop-merger.out c.loop-merger.merger e c.in_err-advance_regions.field-0.0 (c.in_err-advance_regions.ensures.answer R of first e.passed e.own e.placed)))
 
 pub play_round-requires : goal.play_round-requires
 play_round-requires g c =
@@ -91,13 +92,14 @@ play_round-requires g c =
     let s' = c.advance_regions.new.schedule in
     let fs = c.advance_regions.new.feeds.items in
     let fits : length fs ≡ length c.args.corners.now = omega (arith, c.advance_regions.ensures.feeds, c.loop-merger.invariant.1.1) in
+    let alike : length fs ≡ length c.loop-merger.feeds.items = omega (arith, c.advance_regions.ensures.feeds) in
     let flags : length c.advance_regions.new.ended.items ≡ length fs = omega (arith, fits, c.advance_regions.ensures.ended, c.loop-merger.invariant.1.2) in
     let e = c.loop-merger.invariant.3 R of in
     let by = rw c.if-branch.true at c.in_ok-advance_regions.ensures.answer R of first e.passed e.own e.placed in
     let same : c.deref.result.now ≡ fs = c.deref.ensures.value in
     record {
       count = omega (arith, fits, ap (λ (l : List Feeding). length l) same, ap (λ (l : List Corner). length l) c.loop-merger.invariant.0.0);
-      holds = subst (λ (l : List Feeding). All (λ (f : Feeding). HasPicture f.assembler) l) (sym same) (advance_holds _ _ _ _ R first c.args.out.now c.args.corners.now c.args.level s many enough c.loop-merger.sources.items l' s' c.loop-merger.feeds.items fs c.advance_regions.new.ended.items fits c.advance_regions.ensures.feeds flags c.loop-merger.rounds c.loop-merger.out c.loop-merger.merger e by);
+      holds = subst (λ (l : List Feeding). All (λ (f : Feeding). HasPicture f.assembler) l) (sym same) (advance_holds _ _ _ _ R first c.args.out.now c.args.corners.now c.args.level s many enough c.loop-merger.sources.items l' s' c.loop-merger.feeds.items fs c.advance_regions.new.ended.items fits alike flags c.loop-merger.rounds c.loop-merger.out c.loop-merger.merger e by);
     }
 
 -- a round did
@@ -113,6 +115,7 @@ returns-in_err-play_round-clause-plays g c R of =
     let s' = c.advance_regions.new.schedule in
     let fs = c.advance_regions.new.feeds.items in
     let fits : length fs ≡ length c.args.corners.now = omega (arith, c.advance_regions.ensures.feeds, c.loop-merger.invariant.1.1) in
+    let alike : length fs ≡ length c.loop-merger.feeds.items = omega (arith, c.advance_regions.ensures.feeds) in
     let flags : length c.advance_regions.new.ended.items ≡ length fs = omega (arith, fits, c.advance_regions.ensures.ended, c.loop-merger.invariant.1.2) in
     let e = c.loop-merger.invariant.3 R of in
     let by = rw c.if-branch.true at c.in_ok-advance_regions.ensures.answer R of first e.passed e.own e.placed in
@@ -121,7 +124,7 @@ returns-in_err-play_round-clause-plays g c R of =
     let stayed = stayed_since c.loop-merger.rounds s s' c.loop-merger.invariant.2.2 c.advance_regions.ensures.schedule.last c.is_join.result c.is_join.ensures.same in
     let same : c.deref.result.now ≡ fs = c.deref.ensures.value in
     rw (p.1, p.2) (plays_so _ _ _ _ R first c.args.out.now c.args.corners.now c.args.level s.regions c.args.files.now l' c.play_round.new.out (Err c.in_err-play_round.field-0.0) own
-    (round_stops _ _ _ _ R first c.args.out.now c.args.corners.now c.args.level s many enough c.loop-merger.sources.items l' s' c.loop-merger.feeds.items fs c.advance_regions.new.ended.items fits c.advance_regions.ensures.feeds flags c.loop-merger.rounds c.loop-merger.out c.loop-merger.merger e by c.is_join.result gone c.advance_regions.ensures.schedule.count moved stayed c.play_round.new.out c.play_round.new.merger c.loop-merger.invariant.0.0 c.loop-merger.invariant.0.1 c.play_round.ensures.task c.in_err-play_round.field-0.0
+    (round_stops _ _ _ _ R first c.args.out.now c.args.corners.now c.args.level s many enough c.loop-merger.sources.items l' s' c.loop-merger.feeds.items fs c.advance_regions.new.ended.items fits alike flags c.loop-merger.rounds c.loop-merger.out c.loop-merger.merger e by c.is_join.result gone c.advance_regions.ensures.schedule.count moved stayed c.play_round.new.out c.play_round.new.merger c.loop-merger.invariant.0.0 c.loop-merger.invariant.0.1 c.play_round.ensures.task c.in_err-play_round.field-0.0
     (played_same _ _ c.loop-merger.out c.play_round.new.out c.is_join.result c.loop-merger.merger c.play_round.new.merger c.loop-merger.rounds _ c.deref.result.now fs same c.in_err-play_round.ensures.plays)))
 
 pub loop-merger-preserved : goal.loop-merger-preserved
@@ -135,17 +138,18 @@ loop-merger-preserved g c =
     let s' = c.advance_regions.new.schedule in
     let fs = c.advance_regions.new.feeds.items in
     let fits : length fs ≡ length c.args.corners.now = omega (arith, c.advance_regions.ensures.feeds, c.loop-merger.invariant.1.1) in
+    let alike : length fs ≡ length c.loop-merger.feeds.items = omega (arith, c.advance_regions.ensures.feeds) in
     let flags : length c.advance_regions.new.ended.items ≡ length fs = omega (arith, fits, c.advance_regions.ensures.ended, c.loop-merger.invariant.1.2) in
     let some : 0 < length fs = omega (arith, fits, c.requires.corners.some) in
     let few : length s.regions ≤ 256 = omega (arith, ap (λ (x : List ℕ). length x) own, c.requires.few) in
     let below = 
         let e = c.loop-merger.invariant.3 there_are_readers.0 there_are_readers.1 in
         let by = rw c.if-branch.true at c.in_ok-advance_regions.ensures.answer there_are_readers.0 there_are_readers.1 first e.passed e.own e.placed in
-        advance_below _ _ _ _ there_are_readers.0 first c.args.out.now c.args.corners.now c.args.level s many enough c.loop-merger.sources.items l' s' c.loop-merger.feeds.items fs c.advance_regions.new.ended.items fits c.advance_regions.ensures.feeds flags c.loop-merger.rounds c.loop-merger.out c.loop-merger.merger e by some few in
+        advance_below _ _ _ _ there_are_readers.0 first c.args.out.now c.args.corners.now c.args.level s many enough c.loop-merger.sources.items l' s' c.loop-merger.feeds.items fs c.advance_regions.new.ended.items fits alike flags c.loop-merger.rounds c.loop-merger.out c.loop-merger.merger e by some few in
     let a = c.in_ok-play_round.ensures in
     let asked = c.is_join.ensures.asked in (
       (a.task.corners ∙ c.loop-merger.invariant.0.0, a.task.level ∙ c.loop-merger.invariant.0.1),
-      (omega (arith, c.loop-merger.invariant.1.0, c.advance_regions.ensures.list), fits, omega (arith, flags, fits)),
+      (omega (arith, c.loop-merger.invariant.1.0, c.advance_regions.ensures.list), omega (arith, fits), omega (arith, flags, fits)),
       (
         ap (λ (x : Scheduled). x.regions) asked ∙ c.advance_regions.ensures.schedule.regions ∙ own,
         omega (arith, ap (λ (x : Scheduled). length x.gone) asked, c.advance_regions.ensures.schedule.count, c.loop-merger.invariant.2.1),
@@ -158,7 +162,7 @@ loop-merger-preserved g c =
           let moved = moved_since c.loop-merger.rounds s s' c.loop-merger.invariant.2.2 c.advance_regions.ensures.schedule.last c.is_join.result c.is_join.ensures.join in
           let stayed = stayed_since c.loop-merger.rounds s s' c.loop-merger.invariant.2.2 c.advance_regions.ensures.schedule.last c.is_join.result c.is_join.ensures.same in
           let same : c.deref.result.now ≡ fs = c.deref.ensures.value in
-          rw (c.one_more-rounds.ensures below) (round_goes _ _ _ _ R first c.args.out.now c.args.corners.now c.args.level s many enough c.loop-merger.sources.items l' s' c.loop-merger.feeds.items fs c.advance_regions.new.ended.items fits c.advance_regions.ensures.feeds flags c.loop-merger.rounds c.loop-merger.out c.loop-merger.merger e by c.is_join.result gone c.advance_regions.ensures.schedule.count moved stayed c.play_round.new.out c.play_round.new.merger c.loop-merger.invariant.0.0 c.loop-merger.invariant.0.1 c.play_round.ensures.task c.is_join.new.self (ap (λ (x : Scheduled). x.regions) asked ∙ c.advance_regions.ensures.schedule.regions) (ap (λ (x : Scheduled). x.gone) asked)
+          rw (c.one_more-rounds.ensures below) (round_goes _ _ _ _ R first c.args.out.now c.args.corners.now c.args.level s many enough c.loop-merger.sources.items l' s' c.loop-merger.feeds.items fs c.advance_regions.new.ended.items fits alike flags c.loop-merger.rounds c.loop-merger.out c.loop-merger.merger e by c.is_join.result gone c.advance_regions.ensures.schedule.count moved stayed c.play_round.new.out c.play_round.new.merger c.loop-merger.invariant.0.0 c.loop-merger.invariant.0.1 c.play_round.ensures.task c.is_join.new.self (ap (λ (x : Scheduled). x.regions) asked ∙ c.advance_regions.ensures.schedule.regions) (ap (λ (x : Scheduled). x.gone) asked)
           (played_same _ _ c.loop-merger.out c.play_round.new.out c.is_join.result c.loop-merger.merger c.play_round.new.merger c.loop-merger.rounds _ c.deref.result.now fs same a.plays)),
     )
 
@@ -173,13 +177,14 @@ loop-merger-smaller g c =
     let s' = c.advance_regions.new.schedule in
     let fs = c.advance_regions.new.feeds.items in
     let fits : length fs ≡ length c.args.corners.now = omega (arith, c.advance_regions.ensures.feeds, c.loop-merger.invariant.1.1) in
+    let alike : length fs ≡ length c.loop-merger.feeds.items = omega (arith, c.advance_regions.ensures.feeds) in
     let flags : length c.advance_regions.new.ended.items ≡ length fs = omega (arith, fits, c.advance_regions.ensures.ended, c.loop-merger.invariant.1.2) in
     let some : 0 < length fs = omega (arith, fits, c.requires.corners.some) in
     let few : length s.regions ≤ 256 = omega (arith, ap (λ (x : List ℕ). length x) own, c.requires.few) in
     let below = 
         let e = c.loop-merger.invariant.3 there_are_readers.0 there_are_readers.1 in
         let by = rw c.if-branch.true at c.in_ok-advance_regions.ensures.answer there_are_readers.0 there_are_readers.1 first e.passed e.own e.placed in
-        advance_below _ _ _ _ there_are_readers.0 first c.args.out.now c.args.corners.now c.args.level s many enough c.loop-merger.sources.items l' s' c.loop-merger.feeds.items fs c.advance_regions.new.ended.items fits c.advance_regions.ensures.feeds flags c.loop-merger.rounds c.loop-merger.out c.loop-merger.merger e by some few in
+        advance_below _ _ _ _ there_are_readers.0 first c.args.out.now c.args.corners.now c.args.level s many enough c.loop-merger.sources.items l' s' c.loop-merger.feeds.items fs c.advance_regions.new.ended.items fits alike flags c.loop-merger.rounds c.loop-merger.out c.loop-merger.merger e by some few in
     omega (arith, c.one_more-rounds.ensures below, below)
 
 -- all have ended
@@ -194,7 +199,8 @@ returns-clause-plays g c R of =
     let s' = c.advance_regions.new.schedule in
     let fs = c.advance_regions.new.feeds.items in
     let fits : length fs ≡ length c.args.corners.now = omega (arith, c.advance_regions.ensures.feeds, c.loop-merger.invariant.1.1) in
+    let alike : length fs ≡ length c.loop-merger.feeds.items = omega (arith, c.advance_regions.ensures.feeds) in
     let flags : length c.advance_regions.new.ended.items ≡ length fs = omega (arith, fits, c.advance_regions.ensures.ended, c.loop-merger.invariant.1.2) in
     let e = c.loop-merger.invariant.3 R of in
     plays_so _ _ _ _ R first c.args.out.now c.args.corners.now c.args.level s.regions c.args.files.now l' c.loop-merger.out (Ok tt) own
-    (advance_done _ _ _ _ R first c.args.out.now c.args.corners.now c.args.level s many enough c.loop-merger.sources.items l' s' c.loop-merger.feeds.items fs c.advance_regions.new.ended.items fits c.advance_regions.ensures.feeds flags c.loop-merger.rounds c.loop-merger.out c.loop-merger.merger e (rw c.if-branch.false at c.in_ok-advance_regions.ensures.answer R of first e.passed e.own e.placed))
+    (advance_done _ _ _ _ R first c.args.out.now c.args.corners.now c.args.level s many enough c.loop-merger.sources.items l' s' c.loop-merger.feeds.items fs c.advance_regions.new.ended.items fits alike flags c.loop-merger.rounds c.loop-merger.out c.loop-merger.merger e (rw c.if-branch.false at c.in_ok-advance_regions.ensures.answer R of first e.passed e.own e.placed))
