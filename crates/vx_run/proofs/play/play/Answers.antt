@@ -22,7 +22,7 @@ returns-in_err-regions-clause-plays g c =
       stop = tt;
       many = λ many. (inr refl, refl, refl);
       files = λ few many. (inr refl, refl, refl);
-      few = λ few fits R of. play_unmade _ _ _ _ R c.args.sources.now.items c.args.out.now (region_corners (map placing_in (texts c.args.placings.now))) c.args.level (file_regions (map placing_in (texts c.args.placings.now)));
+      few = λ few fits R of. play_unmade _ _ g.K.Sink.bytes_taken g.K.Sink.write_faults R c.args.sources.now.items c.args.out.now (region_corners (map placing_in (texts c.args.placings.now))) c.args.level (file_regions (map placing_in (texts c.args.placings.now)));
     })
 
 -- there are too many regions
@@ -55,9 +55,10 @@ play_rounds-requires g c =
     let files = c.in-Some.regions.files.items in
     let corners = c.in-Some.regions.corners.items in
     let placed = many_corners c.args.placings.now in
+    let few : length corners ≤ most_sources = omega (arith, found.1) in
     let each = ap (λ (l : List ℕ). length l) found.0.each ∙ length-map (corners_of (map placing_in (texts c.args.placings.now))) (region_of corners) in
     record {
-      corners = rw c.deref-2.ensures.value (found_corners c.args.placings.now corners c.requires.words c.requires.some found.0.once found.1);
+      corners = rw c.deref-2.ensures.value (found_corners c.args.placings.now corners c.requires.words c.requires.some found.0.once few);
       few = rw c.deref.ensures.value (omega (arith, c.if-len-gt-MOST_FILES.false, c.len.ensures));
       regions = rw (c.deref.ensures.value, c.deref-2.ensures.value) found.0.count;
       count = rw c.deref.ensures.value (omega (arith, c.requires.count, each, placed));

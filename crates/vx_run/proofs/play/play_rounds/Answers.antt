@@ -1,4 +1,4 @@
-use Rattle.std.proofs.Common.{◌≡◌, ◌<◌, ◌∙◌, ◌^◌, ℕ, List, Ok, Err, length, inl, sym, ap, subst, arith, refl}
+use Rattle.std.proofs.Common.{◌≡◌, ◌<◌, ◌≤◌, ◌∙◌, ◌^◌, ℕ, List, Ok, Err, length, inl, sym, ap, subst, arith, refl}
 use Rattle.std.specs.Prelude.{All}
 use Rattle.std.proofs.lemmas.List.{length-replicate}
 use Rattle.std.proofs.lemmas.Result.{err_from_is_err_and}
@@ -16,37 +16,37 @@ loop-merger-init g c =
     let s = c.in_ok-schedule.schedule in
     let is = c.in_ok-schedule.ensures in
     let feeds = c.in_ok-feeds.feeds.items in
-    let fits : length feeds ≡ length c.args.corners.now = omega (arith, c.in_ok-feeds.ensures.count, c.len.ensures) in (
+    let fits : length feeds ≡ length c.args.corners.now = omega (arith, c.in_ok-feeds.ensures.count) in (
       (c.in_ok-merger.ensures.task.0, c.in_ok-merger.ensures.task.1),
-      (c.requires.count, omega (arith, fits), omega (arith, c.in_ok-ended.ensures, c.len-2.ensures)),
+      (c.requires.count, omega (arith, fits), omega (arith, c.in_ok-ended.ensures)),
       (
         ap (λ (x : Scheduled). x.regions) is,
         ap (λ (x : Scheduled). length x.gone) is ∙ length-replicate (regions_in c.args.files.now) 0 ∙ c.requires.regions,
         inl (refl, ap (λ (x : Scheduled). x.last) is),
       ),
-      λ R of. play_begins _ _ _ _ R c.args.sources.now.items c.args.out.now c.args.corners.now c.args.level c.args.files.now s is (omega (arith, c.requires.count)) c.requires.regions feeds c.in_ok-merger.merger fits c.in_ok-feeds.ensures.unfed c.in_ok-merger.ensures.stands,
+      λ R of. play_begins _ _ g.K.Sink.bytes_taken g.K.Sink.write_faults R c.args.sources.now.items c.args.out.now c.args.corners.now c.args.level c.args.files.now s is (omega (arith, c.requires.count)) c.requires.regions feeds c.in_ok-merger.merger fits c.in_ok-feeds.ensures.unfed c.in_ok-merger.ensures.stands,
     )
 
 -- there was no memory to begin
 pub returns-in_err-schedule-clause-plays : goal.returns-in_err-schedule-clause-plays
 returns-in_err-schedule-clause-plays g c R of =
     let p = err_from_is_err_and c.from_residual.result c.from_residual.ensures.1 in
-    rw (p.1, p.2) (play_unmade _ _ _ _ R c.args.sources.now.items c.args.out.now c.args.corners.now c.args.level c.args.files.now)
+    rw (p.1, p.2) (play_unmade _ _ g.K.Sink.bytes_taken g.K.Sink.write_faults R c.args.sources.now.items c.args.out.now c.args.corners.now c.args.level c.args.files.now)
 
 pub returns-in_err-feeds-clause-plays : goal.returns-in_err-feeds-clause-plays
 returns-in_err-feeds-clause-plays g c R of =
     let p = err_from_is_err_and c.from_residual-in_err-feeds.result c.from_residual-in_err-feeds.ensures.1 in
-    rw (p.1, p.2) (play_unmade _ _ _ _ R c.args.sources.now.items c.args.out.now c.args.corners.now c.args.level c.args.files.now)
+    rw (p.1, p.2) (play_unmade _ _ g.K.Sink.bytes_taken g.K.Sink.write_faults R c.args.sources.now.items c.args.out.now c.args.corners.now c.args.level c.args.files.now)
 
 pub returns-in_err-ended-clause-plays : goal.returns-in_err-ended-clause-plays
 returns-in_err-ended-clause-plays g c R of =
     let p = err_from_is_err_and c.from_residual-in_err-ended.result c.from_residual-in_err-ended.ensures.1 in
-    rw (p.1, p.2) (play_unmade _ _ _ _ R c.args.sources.now.items c.args.out.now c.args.corners.now c.args.level c.args.files.now)
+    rw (p.1, p.2) (play_unmade _ _ g.K.Sink.bytes_taken g.K.Sink.write_faults R c.args.sources.now.items c.args.out.now c.args.corners.now c.args.level c.args.files.now)
 
 pub returns-in_err-merger-clause-plays : goal.returns-in_err-merger-clause-plays
 returns-in_err-merger-clause-plays g c R of =
     let p = err_from_is_err_and c.from_residual-in_err-merger.result c.from_residual-in_err-merger.ensures.1 in
-    rw (p.1, p.2) (play_unmade _ _ _ _ R c.args.sources.now.items c.args.out.now c.args.corners.now c.args.level c.args.files.now)
+    rw (p.1, p.2) (play_unmade _ _ g.K.Sink.bytes_taken g.K.Sink.write_faults R c.args.sources.now.items c.args.out.now c.args.corners.now c.args.level c.args.files.now)
 
 pub advance_regions-requires : goal.advance_regions-requires
 advance_regions-requires g c =
@@ -76,8 +76,8 @@ returns-in_err-advance_regions-clause-plays g c R of =
     let alike : length fs ≡ length c.loop-merger.feeds.items = omega (arith, c.advance_regions.ensures.feeds) in
     let flags : length c.advance_regions.new.ended.items ≡ length fs = omega (arith, fits, c.advance_regions.ensures.ended, c.loop-merger.invariant.1.2) in
     let e = c.loop-merger.invariant.3 R of in
-    rw (p.1, p.2) (plays_so _ _ _ _ R first c.args.out.now c.args.corners.now c.args.level s.regions c.args.files.now l' c.loop-merger.out (Err c.in_err-advance_regions.field-0.0) own
-    (advance_stops _ _ _ _ R first c.args.out.now c.args.corners.now c.args.level s many enough c.loop-merger.sources.items l' s' c.loop-merger.feeds.items fs c.advance_regions.new.ended.items fits alike flags c.loop-merger.rounds c.loop-merger.out c.loop-merger.merger e c.in_err-advance_regions.field-0.0 (c.in_err-advance_regions.ensures.answer R of first e.passed e.own e.placed)))
+    rw (p.1, p.2) (plays_so _ _ g.K.Sink.bytes_taken g.K.Sink.write_faults R first c.args.out.now c.args.corners.now c.args.level s.regions c.args.files.now l' c.loop-merger.out (Err c.in_err-advance_regions.field-0.0) own
+    (advance_stops _ _ g.K.Sink.bytes_taken g.K.Sink.write_faults R first c.args.out.now c.args.corners.now c.args.level s many enough c.loop-merger.sources.items l' s' c.loop-merger.feeds.items fs c.advance_regions.new.ended.items fits alike flags c.loop-merger.rounds c.loop-merger.out c.loop-merger.merger e c.in_err-advance_regions.field-0.0 (c.in_err-advance_regions.ensures.answer R of first e.passed e.own e.placed)))
 
 pub play_round-requires : goal.play_round-requires
 play_round-requires g c =
@@ -99,7 +99,7 @@ play_round-requires g c =
     let same : c.deref.result.now ≡ fs = c.deref.ensures.value in
     record {
       count = omega (arith, fits, ap (λ (l : List Feeding). length l) same, ap (λ (l : List Corner). length l) c.loop-merger.invariant.0.0);
-      holds = subst (λ (l : List Feeding). All (λ (f : Feeding). HasPicture f.assembler) l) (sym same) (advance_holds _ _ _ _ R first c.args.out.now c.args.corners.now c.args.level s many enough c.loop-merger.sources.items l' s' c.loop-merger.feeds.items fs c.advance_regions.new.ended.items fits alike flags c.loop-merger.rounds c.loop-merger.out c.loop-merger.merger e by);
+      holds = subst (λ (l : List Feeding). All (λ (f : Feeding). HasPicture f.assembler) l) (sym same) (advance_holds _ _ g.K.Sink.bytes_taken g.K.Sink.write_faults R first c.args.out.now c.args.corners.now c.args.level s many enough c.loop-merger.sources.items l' s' c.loop-merger.feeds.items fs c.advance_regions.new.ended.items fits alike flags c.loop-merger.rounds c.loop-merger.out c.loop-merger.merger e by);
     }
 
 -- a round did
@@ -123,9 +123,9 @@ returns-in_err-play_round-clause-plays g c R of =
     let moved = moved_since c.loop-merger.rounds s s' c.loop-merger.invariant.2.2 c.advance_regions.ensures.schedule.last c.is_join.result c.is_join.ensures.join in
     let stayed = stayed_since c.loop-merger.rounds s s' c.loop-merger.invariant.2.2 c.advance_regions.ensures.schedule.last c.is_join.result c.is_join.ensures.same in
     let same : c.deref.result.now ≡ fs = c.deref.ensures.value in
-    rw (p.1, p.2) (plays_so _ _ _ _ R first c.args.out.now c.args.corners.now c.args.level s.regions c.args.files.now l' c.play_round.new.out (Err c.in_err-play_round.field-0.0) own
-    (round_stops _ _ _ _ R first c.args.out.now c.args.corners.now c.args.level s many enough c.loop-merger.sources.items l' s' c.loop-merger.feeds.items fs c.advance_regions.new.ended.items fits alike flags c.loop-merger.rounds c.loop-merger.out c.loop-merger.merger e by c.is_join.result gone c.advance_regions.ensures.schedule.count moved stayed c.play_round.new.out c.play_round.new.merger c.loop-merger.invariant.0.0 c.loop-merger.invariant.0.1 c.play_round.ensures.task c.in_err-play_round.field-0.0
-    (played_same _ _ c.loop-merger.out c.play_round.new.out c.is_join.result c.loop-merger.merger c.play_round.new.merger c.loop-merger.rounds _ c.deref.result.now fs same c.in_err-play_round.ensures.plays)))
+    rw (p.1, p.2) (plays_so _ _ g.K.Sink.bytes_taken g.K.Sink.write_faults R first c.args.out.now c.args.corners.now c.args.level s.regions c.args.files.now l' c.play_round.new.out (Err c.in_err-play_round.field-0.0) own
+    (round_stops _ _ g.K.Sink.bytes_taken g.K.Sink.write_faults R first c.args.out.now c.args.corners.now c.args.level s many enough c.loop-merger.sources.items l' s' c.loop-merger.feeds.items fs c.advance_regions.new.ended.items fits alike flags c.loop-merger.rounds c.loop-merger.out c.loop-merger.merger e by c.is_join.result gone c.advance_regions.ensures.schedule.count moved stayed c.play_round.new.out c.play_round.new.merger c.loop-merger.invariant.0.0 c.loop-merger.invariant.0.1 c.play_round.ensures.task c.in_err-play_round.field-0.0
+    (played_same g.K.Sink.bytes_taken g.K.Sink.write_faults c.loop-merger.out c.play_round.new.out c.is_join.result c.loop-merger.merger c.play_round.new.merger c.loop-merger.rounds (Err c.in_err-play_round.field-0.0) c.deref.result.now fs same c.in_err-play_round.ensures.plays)))
 
 pub loop-merger-preserved : goal.loop-merger-preserved
 loop-merger-preserved g c =
@@ -145,7 +145,7 @@ loop-merger-preserved g c =
     let below = 
         let e = c.loop-merger.invariant.3 there_are_readers.0 there_are_readers.1 in
         let by = rw c.if-branch.true at c.in_ok-advance_regions.ensures.answer there_are_readers.0 there_are_readers.1 first e.passed e.own e.placed in
-        advance_below _ _ _ _ there_are_readers.0 first c.args.out.now c.args.corners.now c.args.level s many enough c.loop-merger.sources.items l' s' c.loop-merger.feeds.items fs c.advance_regions.new.ended.items fits alike flags c.loop-merger.rounds c.loop-merger.out c.loop-merger.merger e by some few in
+        advance_below _ _ g.K.Sink.bytes_taken g.K.Sink.write_faults there_are_readers.0 first c.args.out.now c.args.corners.now c.args.level s many enough c.loop-merger.sources.items l' s' c.loop-merger.feeds.items fs c.advance_regions.new.ended.items fits alike flags c.loop-merger.rounds c.loop-merger.out c.loop-merger.merger e by some few in
     let a = c.in_ok-play_round.ensures in
     let asked = c.is_join.ensures.asked in (
       (a.task.corners ∙ c.loop-merger.invariant.0.0, a.task.level ∙ c.loop-merger.invariant.0.1),
@@ -162,8 +162,8 @@ loop-merger-preserved g c =
           let moved = moved_since c.loop-merger.rounds s s' c.loop-merger.invariant.2.2 c.advance_regions.ensures.schedule.last c.is_join.result c.is_join.ensures.join in
           let stayed = stayed_since c.loop-merger.rounds s s' c.loop-merger.invariant.2.2 c.advance_regions.ensures.schedule.last c.is_join.result c.is_join.ensures.same in
           let same : c.deref.result.now ≡ fs = c.deref.ensures.value in
-          rw (c.one_more-rounds.ensures below) (round_goes _ _ _ _ R first c.args.out.now c.args.corners.now c.args.level s many enough c.loop-merger.sources.items l' s' c.loop-merger.feeds.items fs c.advance_regions.new.ended.items fits alike flags c.loop-merger.rounds c.loop-merger.out c.loop-merger.merger e by c.is_join.result gone c.advance_regions.ensures.schedule.count moved stayed c.play_round.new.out c.play_round.new.merger c.loop-merger.invariant.0.0 c.loop-merger.invariant.0.1 c.play_round.ensures.task c.is_join.new.self (ap (λ (x : Scheduled). x.regions) asked ∙ c.advance_regions.ensures.schedule.regions) (ap (λ (x : Scheduled). x.gone) asked)
-          (played_same _ _ c.loop-merger.out c.play_round.new.out c.is_join.result c.loop-merger.merger c.play_round.new.merger c.loop-merger.rounds _ c.deref.result.now fs same a.plays)),
+          rw (c.one_more-rounds.ensures below) (round_goes _ _ g.K.Sink.bytes_taken g.K.Sink.write_faults R first c.args.out.now c.args.corners.now c.args.level s many enough c.loop-merger.sources.items l' s' c.loop-merger.feeds.items fs c.advance_regions.new.ended.items fits alike flags c.loop-merger.rounds c.loop-merger.out c.loop-merger.merger e by c.is_join.result gone c.advance_regions.ensures.schedule.count moved stayed c.play_round.new.out c.play_round.new.merger c.loop-merger.invariant.0.0 c.loop-merger.invariant.0.1 c.play_round.ensures.task c.is_join.new.self (ap (λ (x : Scheduled). x.regions) asked ∙ c.advance_regions.ensures.schedule.regions) (ap (λ (x : Scheduled). x.gone) asked)
+          (played_same g.K.Sink.bytes_taken g.K.Sink.write_faults c.loop-merger.out c.play_round.new.out c.is_join.result c.loop-merger.merger c.play_round.new.merger c.loop-merger.rounds (Ok tt) c.deref.result.now fs same a.plays)),
     )
 
 pub loop-merger-smaller : goal.loop-merger-smaller
@@ -184,7 +184,7 @@ loop-merger-smaller g c =
     let below = 
         let e = c.loop-merger.invariant.3 there_are_readers.0 there_are_readers.1 in
         let by = rw c.if-branch.true at c.in_ok-advance_regions.ensures.answer there_are_readers.0 there_are_readers.1 first e.passed e.own e.placed in
-        advance_below _ _ _ _ there_are_readers.0 first c.args.out.now c.args.corners.now c.args.level s many enough c.loop-merger.sources.items l' s' c.loop-merger.feeds.items fs c.advance_regions.new.ended.items fits alike flags c.loop-merger.rounds c.loop-merger.out c.loop-merger.merger e by some few in
+        advance_below _ _ g.K.Sink.bytes_taken g.K.Sink.write_faults there_are_readers.0 first c.args.out.now c.args.corners.now c.args.level s many enough c.loop-merger.sources.items l' s' c.loop-merger.feeds.items fs c.advance_regions.new.ended.items fits alike flags c.loop-merger.rounds c.loop-merger.out c.loop-merger.merger e by some few in
     omega (arith, c.one_more-rounds.ensures below, below)
 
 -- all have ended
@@ -202,5 +202,5 @@ returns-clause-plays g c R of =
     let alike : length fs ≡ length c.loop-merger.feeds.items = omega (arith, c.advance_regions.ensures.feeds) in
     let flags : length c.advance_regions.new.ended.items ≡ length fs = omega (arith, fits, c.advance_regions.ensures.ended, c.loop-merger.invariant.1.2) in
     let e = c.loop-merger.invariant.3 R of in
-    plays_so _ _ _ _ R first c.args.out.now c.args.corners.now c.args.level s.regions c.args.files.now l' c.loop-merger.out (Ok tt) own
-    (advance_done _ _ _ _ R first c.args.out.now c.args.corners.now c.args.level s many enough c.loop-merger.sources.items l' s' c.loop-merger.feeds.items fs c.advance_regions.new.ended.items fits alike flags c.loop-merger.rounds c.loop-merger.out c.loop-merger.merger e (rw c.if-branch.false at c.in_ok-advance_regions.ensures.answer R of first e.passed e.own e.placed))
+    plays_so _ _ g.K.Sink.bytes_taken g.K.Sink.write_faults R first c.args.out.now c.args.corners.now c.args.level s.regions c.args.files.now l' c.loop-merger.out (Ok tt) own
+    (advance_done _ _ g.K.Sink.bytes_taken g.K.Sink.write_faults R first c.args.out.now c.args.corners.now c.args.level s many enough c.loop-merger.sources.items l' s' c.loop-merger.feeds.items fs c.advance_regions.new.ended.items fits alike flags c.loop-merger.rounds c.loop-merger.out c.loop-merger.merger e (rw c.if-branch.false at c.in_ok-advance_regions.ensures.answer R of first e.passed e.own e.placed))
