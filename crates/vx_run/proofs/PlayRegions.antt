@@ -162,6 +162,7 @@ found_one xs found files h c = elim (cases_lt (region_of found c) (length found)
     kept : (b : Bool) → b ≡ false → cond b (found ++ c ∷ []) found ≡ found
     kept false is = refl
     kept true is = let no : true ≡ false = is in absurd (cc)
+
     added : (b : Bool) → b ≡ true → cond b (found ++ c ∷ []) found ≡ found ++ c ∷ []
     added true is = refl
     added false is = let no : false ≡ true = is in absurd (cc)

@@ -147,7 +147,14 @@ fn play_rounds<K: Sink>(
 {
     let mut schedule = Schedule::new(alloc, files)?;
     let mut merger = Merger::new(alloc, corners, level)?;
-    play_by(alloc, corners.len(), &mut schedule, &mut merger, sources, out)
+    play_by(
+        alloc,
+        corners.len(),
+        &mut schedule,
+        &mut merger,
+        sources,
+        out,
+    )
 }
 
 /// Writes all rounds of so many regions: by a schedule whose files were not begun, and a merger that has written none.

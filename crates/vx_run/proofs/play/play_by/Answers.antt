@@ -128,10 +128,10 @@ loop-ended-preserved g c =
     let flags : length c.advance_regions.new.ended.items ≡ length fs = omega (arith, fits, c.advance_regions.ensures.ended, c.loop-ended.invariant.1.2) in
     let some : 0 < length fs = omega (arith, fits, c.requires.corners.some) in
     let few : length s.regions ≤ 256 = omega (arith, ap (λ (x : List ℕ). length x) own, c.requires.few) in
-    let below = 
-        let e = c.loop-ended.invariant.3 there_are_readers.0 there_are_readers.1 in
-        let by = rw c.if-branch.true at c.in_ok-advance_regions.ensures.answer there_are_readers.0 there_are_readers.1 first e.passed e.own e.placed in
-        advance_below _ _ g.K.Sink.bytes_taken g.K.Sink.write_faults there_are_readers.0 first c.args.out.now c.args.merger.now.corners c.args.merger.now.level s many enough c.loop-ended.sources.items l' s' c.loop-ended.feeds.items fs c.advance_regions.new.ended.items fits alike flags c.loop-ended.rounds c.loop-ended.out c.loop-ended.merger e by some few in
+    let below =
+    let e = c.loop-ended.invariant.3 there_are_readers.0 there_are_readers.1 in
+    let by = rw c.if-branch.true at c.in_ok-advance_regions.ensures.answer there_are_readers.0 there_are_readers.1 first e.passed e.own e.placed in
+    advance_below _ _ g.K.Sink.bytes_taken g.K.Sink.write_faults there_are_readers.0 first c.args.out.now c.args.merger.now.corners c.args.merger.now.level s many enough c.loop-ended.sources.items l' s' c.loop-ended.feeds.items fs c.advance_regions.new.ended.items fits alike flags c.loop-ended.rounds c.loop-ended.out c.loop-ended.merger e by some few in
     let a = c.in_ok-play_round.ensures in
     let asked = c.is_join.ensures.asked in (
       (a.task.corners ∙ c.loop-ended.invariant.0.0, a.task.level ∙ c.loop-ended.invariant.0.1),
@@ -167,10 +167,10 @@ loop-ended-smaller g c =
     let flags : length c.advance_regions.new.ended.items ≡ length fs = omega (arith, fits, c.advance_regions.ensures.ended, c.loop-ended.invariant.1.2) in
     let some : 0 < length fs = omega (arith, fits, c.requires.corners.some) in
     let few : length s.regions ≤ 256 = omega (arith, ap (λ (x : List ℕ). length x) own, c.requires.few) in
-    let below = 
-        let e = c.loop-ended.invariant.3 there_are_readers.0 there_are_readers.1 in
-        let by = rw c.if-branch.true at c.in_ok-advance_regions.ensures.answer there_are_readers.0 there_are_readers.1 first e.passed e.own e.placed in
-        advance_below _ _ g.K.Sink.bytes_taken g.K.Sink.write_faults there_are_readers.0 first c.args.out.now c.args.merger.now.corners c.args.merger.now.level s many enough c.loop-ended.sources.items l' s' c.loop-ended.feeds.items fs c.advance_regions.new.ended.items fits alike flags c.loop-ended.rounds c.loop-ended.out c.loop-ended.merger e by some few in
+    let below =
+    let e = c.loop-ended.invariant.3 there_are_readers.0 there_are_readers.1 in
+    let by = rw c.if-branch.true at c.in_ok-advance_regions.ensures.answer there_are_readers.0 there_are_readers.1 first e.passed e.own e.placed in
+    advance_below _ _ g.K.Sink.bytes_taken g.K.Sink.write_faults there_are_readers.0 first c.args.out.now c.args.merger.now.corners c.args.merger.now.level s many enough c.loop-ended.sources.items l' s' c.loop-ended.feeds.items fs c.advance_regions.new.ended.items fits alike flags c.loop-ended.rounds c.loop-ended.out c.loop-ended.merger e by some few in
     omega (arith, c.one_more-rounds.ensures below, below)
 
 -- all have ended

@@ -9,8 +9,8 @@ use Rattle.vx_run.proofs.play.region_of.Goals as goal
 pub returns-then-eq-clause-place : goal.returns-then-eq-clause-place
 returns-then-eq-clause-place c =
     let here : is_corner c.args.corner (get_or c.args.corners.now c.loop-k.k c.args.corner) ≡ true =
-        ap (is_corner c.args.corner) (get_or_default c.args.corners.now c.loop-k.k c.args.corner no_corner c.loop-k-test.true)
-        ∙ either_way c.args.corner (get_or c.args.corners.now c.loop-k.k no_corner) ∙ sym c.eq.ensures ∙ c.if-eq.true in
+    ap (is_corner c.args.corner) (get_or_default c.args.corners.now c.loop-k.k c.args.corner no_corner c.loop-k-test.true)
+    ∙ either_way c.args.corner (get_or c.args.corners.now c.loop-k.k no_corner) ∙ sym c.eq.ensures ∙ c.if-eq.true in
     sym (position_or_len_is (is_corner c.args.corner) c.args.corners.now c.loop-k.k c.args.corner (omega (arith, c.loop-k-test.true, c.loop-k.auto.k-end))
     (λ i before. c.loop-k.invariant i c.args.corner before) (λ within. here))
 

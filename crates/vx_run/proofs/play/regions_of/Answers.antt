@@ -9,13 +9,12 @@ use Rattle.vx_run.proofs.play.regions_of.Goals as goal
 pub loop-corner-init : goal.loop-corner-init
 loop-corner-init c = (rw (c.new-corners.ensures.items, c.new-files.ensures.items) found_none, omega (arith, c.new-corners.ensures.len))
 
-
 -- there are more than may be
 pub returns-then-region-eq-MOST_SOURCES : goal.returns-then-region-eq-MOST_SOURCES
 returns-then-region-eq-MOST_SOURCES c =
     let few : length c.loop-corner.corners.items ≤ most_sources = omega (arith, c.loop-corner.invariant.1) in
     let more = too_many_at c.deref-corner-items.result.now c.loop-corner.corner-index c.loop-corner.corners.items c.loop-corner.files.items most_sources c.loop-corner-test.true c.loop-corner.invariant.0
-        (sym c.if-region-eq-MOST_SOURCES.true ∙ c.in_ok-region.ensures.region) few in
+    (sym c.if-region-eq-MOST_SOURCES.true ∙ c.in_ok-region.ensures.region) few in
     subst (λ (l : List Corner). most_sources < length (with_corners [] l)) (c.deref-corner-items.ensures.value ∙ c.in_ok-all.ensures) more
 
 pub loop-corner-preserved : goal.loop-corner-preserved
