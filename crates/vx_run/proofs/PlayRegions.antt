@@ -1,11 +1,11 @@
 -- The regions in which words place files.
-use Rattle.std.proofs.Common.{◌≡◌, ◌≢◌, ℕ, zero, suc, ◌+◌, ◌<◌, ◌≤◌, ◌==◌, ◌⊎◌, List, [], ◌∷◌, ◌++◌, ◌∙◌, Bool, true, false, not, cond, length, map, get_or, take, inl, inr, sym, ap, refl, subst, arith}
+use Rattle.std.proofs.Common.{◌≡◌, ◌≢◌, ℕ, zero, suc, ◌+◌, ◌<◌, ◌≤◌, ◌==◌, ◌&&◌, ◌⊎◌, List, [], ◌∷◌, ◌++◌, ◌∙◌, Bool, true, false, not, cond, length, map, get_or, take, inl, inr, sym, ap, refl, subst, arith}
 use Rattle.std.specs.Prelude.{All, String, max}
 use Rattle.std.specs.List.{AllByRecursion, position_or_len}
 use Rattle.std.proofs.Math.ListN.{get_or-append}
 use Rattle.std.proofs.Math.Seq.{take_all}
 use Rattle.std.proofs.Math.Nat.{le-max_left, le-max_right, max-le}
-use Rattle.std.proofs.lemmas.Bool.{cases_lt, eq-eqb, eqb-true, ne_eqb}
+use Rattle.std.proofs.lemmas.Bool.{cases_lt, eq-eqb, eqb-false, eqb-true, ne_eqb}
 use Rattle.std.proofs.lemmas.List.{append-nil, append_assoc, length-append, length-map, take_more}
 use Rattle.std.proofs.lemmas.List.Elements.{All-from_recursion}
 use Rattle.std.proofs.lemmas.List.Folds.{position_or_len_push}
@@ -24,11 +24,22 @@ use Rattle.vx_run.proofs.Placings.{words_read}
 
 -- ---- the place of a corner
 
-no_corner : Corner
+abbrev pub no_corner : Corner
 no_corner = record { x = 0; y = 0 }
 
 itself : (c : Corner) → is_corner c c ≡ true
 itself c = rw (eq-eqb c.x c.x refl, eq-eqb c.y c.y refl) refl
+
+-- corners are compared in either order
+same_way : (a b : ℕ) → (a == b) ≡ (b == a)
+same_way a b = by_test (a == b) refl
+  where
+    by_test : (x : Bool) → (a == b) ≡ x → x ≡ (b == a)
+    by_test true is = sym (eq-eqb b a (sym (eqb-true a b is)))
+    by_test false is = sym (ne_eqb b a (λ same. eqb-false a b is (sym same)))
+
+pub either_way : (c d : Corner) → is_corner c d ≡ is_corner d c
+either_way c d = ap (λ (x : Bool). x && (c.y == d.y)) (same_way c.x d.x) ∙ ap (λ (y : Bool). (d.x == c.x) && y) (same_way c.y d.y)
 
 -- it stays where more come behind
 place_stays : (found more : List Corner) (c : Corner) → region_of found c < length found → region_of (found ++ more) c ≡ region_of found c
@@ -151,6 +162,7 @@ found_one xs found files h c = elim (cases_lt (region_of found c) (length found)
     kept : (b : Bool) → b ≡ false → cond b (found ++ c ∷ []) found ≡ found
     kept false is = refl
     kept true is = let no : true ≡ false = is in absurd (cc)
+
     added : (b : Bool) → b ≡ true → cond b (found ++ c ∷ []) found ≡ found ++ c ∷ []
     added true is = refl
     added false is = let no : false ≡ true = is in absurd (cc)
@@ -175,19 +187,19 @@ too_many_found all i d found files within h new =
         cut before (y ∷ ys) (suc n) = cut (with_corner before y) ys n
 
 -- what one more step comes to
-pub found_next : (all : List Corner) (i : ℕ) (c : Corner) (found more : List Corner) (files others : List ℕ) (r : ℕ) → i < length all → c ≡ get_or all i c → HasFound (take i all) found files
-    → r ≡ region_of found c → more ≡ with_corner found c → others ≡ files ++ r ∷ [] → HasFound (take (i + 1) all) more others
-found_next all i c found more files others r within is h region corners pushed =
+pub found_next : (all : List Corner) (i : ℕ) (found more : List Corner) (files others : List ℕ) (r : ℕ) → i < length all → HasFound (take i all) found files → r ≡ region_of found (get_or all i no_corner) → more ≡ with_corner found (get_or all i no_corner)
+    → others ≡ files ++ r ∷ [] → HasFound (take (i + 1) all) more others
+found_next all i found more files others r within h region corners pushed =
+    let c = get_or all i no_corner in
     let one = found_one (take i all) found files h c in
     let numbered = subst (λ (fs : List ℕ). HasFound (take i all ++ c ∷ []) (with_corner found c) fs) (sym (pushed ∙ ap (λ (n : ℕ). files ++ n ∷ []) region)) one in
     let cornered = subst (λ (cs : List Corner). HasFound (take i all ++ c ∷ []) cs others) (sym corners) numbered in
-    found_at all i c more others within (subst (λ (d : Corner). HasFound (take i all ++ d ∷ []) more others) is cornered)
+    found_at all i no_corner more others within cornered
 
-pub too_many_at : (all : List Corner) (i : ℕ) (c : Corner) (found : List Corner) (files : List ℕ) (n : ℕ) → i < length all → c ≡ get_or all i c → HasFound (take i all) found files
-    → n ≡ region_of found c → length found ≤ n → n < length (with_corners [] all)
-too_many_at all i c found files n within is h region few =
-    let new : region_of found c ≡ length found = omega (arith, region, few, prefix_len-le-length (λ x. not (is_corner c x)) found) in
-    omega (arith, region, new, too_many_found all i c found files within h (ap (region_of found) (sym is) ∙ new))
+pub too_many_at : (all : List Corner) (i : ℕ) (found : List Corner) (files : List ℕ) (n : ℕ) → i < length all → HasFound (take i all) found files → n ≡ region_of found (get_or all i no_corner) → length found ≤ n → n < length (with_corners [] all)
+too_many_at all i found files n within h region few =
+    let new : region_of found (get_or all i no_corner) ≡ length found = omega (arith, region, few, prefix_len-le-length (λ x. not (is_corner (get_or all i no_corner) x)) found) in
+    omega (arith, region, new, too_many_found all i no_corner found files within h new)
 
 -- all were found
 pub found_all : (all : List Corner) (i : ℕ) (found : List Corner) (files : List ℕ) → length all ≤ i → HasFound (take i all) found files → HasFound all found files

@@ -5,22 +5,26 @@ use Rattle.std.specs.Bool.{OnTrue, OnFalse}
 use Rattle.std.proofs.lemmas.Bool.{OnTrue_at, OnFalse_at}
 use Rattle.std.proofs.lemmas.List.{get_or-replicate, get_or-set_same, length-set}
 use Rattle.std.proofs.lemmas.Option.{same_Some, slice_get_read, slice_get_within}
+use Rattle.vx_pic.specs.Parts.{Parts}
 use Rattle.vx_pic.specs.Readings.{Picture}
 use Rattle.vx_pic.specs.Rules.{Readers}
 use Rattle.vx_pic.specs.Written.{Plan}
 use Rattle.vx_assemble.specs.Feed.{Feeding}
 use Rattle.vx_assemble.specs.Held.{lent_by}
+use Rattle.vx_write.specs.declared.fault.WriteError.{WriteError}
+use Rattle.vx_write.specs.declared.fault.WriteError.TheVariants as errors
 use Rattle.vx_merge.specs.declared.corner.Corner.{Corner}
 use Rattle.vx_merge.specs.Merging.{Merging, Stands}
 use Rattle.vx_play.specs.Scheduled.{Scheduled, HasMoved, HasStayed, files_of, count_of as regions_in}
 use Rattle.vx_run.specs.declared.stop.Stop.{Stop}
-use Rattle.vx_run.specs.Change.{Sources, change, sources_change}
+use Rattle.vx_run.specs.Change.{Change, Sources, change, sources_change}
 use Rattle.vx_run.specs.declared.stop.Stop.TheVariants.{NotUnderstood, Mismatched, Refused, ReadFault, WriteFault, NoMemory}
 use Rattle.vx_run.specs.Conclusion.{Outcome, IsOfCommand}
 use Rattle.vx_run.specs.Merge.{length_refused}
 use Rattle.vx_run.specs.Play.{PlaysBy, too_many_files}
 use Rattle.vx_run.specs.inner.Advancing.{GoesBy, IsUnfed, OfAll}
-use Rattle.vx_run.specs.inner.Playing.{AdvancesRegions, AreFew, GoesOn, HasAsked, HasPlayed, IsAt, IsPlaced, PlaysRound, SameBut, SameFiles, StopsAt, WentOn}
+use Rattle.vx_run.specs.inner.Merging.{stop_in}
+use Rattle.vx_run.specs.inner.Playing.{AdvancesRegions, AreFew, GoesOn, HasAsked, HasPlayed, IsAt, IsPlaced, PlaysRound, SameBut, SameFiles, StopsAt, WentOn, WritesRound}
 use Rattle.vx_run.proofs.Playing.{played_none}
 use Rattle.vx_run.proofs.RegionFiles.{at_first}
 
@@ -85,6 +89,15 @@ goes_by_lengths R sources s s' feeds ended passed own n (Err stop) on by = inr (
 
 -- ---- round by round
 
+-- where a round isn't written
+pub plays_in : {K : Type 0} (joins : Bool) (round : List Parts) (done : List Plan) (m : Merging) (out : Change K) (n : ℕ) (error : WriteError) → WritesRound joins round done m (out.bytes out.old) (out.bytes out.new) (out.faults out.old) (out.faults out.new) (Err error)
+    → PlaysRound joins round done m out n (Err (stop_in error n))
+plays_in joins round done m out n (errors.Refused r) by = (by, refl)
+plays_in joins round done m out n errors.SinkFailed by = by
+plays_in joins round done m out n errors.Memory by = by
+plays_in true round done m out n (errors.Stopped f) by = absurd by
+plays_in false round done m out n (errors.Stopped f) by = absurd by
+
 -- a round is that of the feeds that lend it
 pub played_same : {K : Type 0} (taken_ : K → Option (List ℕ)) (writes : K → ℕ) (o o' : K) (b : Bool) (m m' : Merging) (n : ℕ) (outcome : Outcome) (fs gs : List Feeding) → fs ≡ gs
     → ((done : List Plan) → Stands m done → PlaysRound b (map (λ (f : Feeding). lent_by f.assembler) fs) done m' (change taken_ writes o o') n outcome)
@@ -111,6 +124,12 @@ module _ {A K : Type 0} (bytes : A → Option (List ℕ)) (faults : A → ℕ) (
     where
       begun : Scheduled
       begun = record { regions = files; gone = replicate (regions_in files) 0; last = None }
+
+-- and their corners are these
+pub plays_of : {A K : Type 0} (R : Readers) (sources : Sources A) (out : Change K) (corners own : List Corner) (level : Option ℕ) (regions files : List ℕ) (outcome : Outcome) → corners ≡ own → regions ≡ files → PlaysBy R corners level regions sources out outcome
+    → PlaysBy R own level files sources out outcome
+plays_of R sources out corners own level regions files outcome same alike plays =
+    subst (λ (c : List Corner). PlaysBy R c level files sources out outcome) same (subst (λ (r : List ℕ). PlaysBy R corners level r sources out outcome) alike plays)
 
 -- ---- how many files there may be
 

@@ -60,6 +60,7 @@ module _ (regions : List ℕ) (k : ℕ) where
       rest : (b : Bool) → AllByRecursion P (cond b (a ∷ filter Test (range_with_len (a + 1) m)) (filter Test (range_with_len (a + 1) m))) → AllByRecursion P (filter Test (range_with_len (a + 1) m))
       rest true all_ = all_.1
       rest false all_ = all_
+
       here : (x y : ℕ) → x ≡ y → Test y ≡ true → AllByRecursion P (cond (Test x) (x ∷ filter Test (range_with_len (a + 1) m)) (filter Test (range_with_len (a + 1) m))) → P y
       here x y same passes all_ =
           let test : Test x ≡ true = ap Test same ∙ passes in

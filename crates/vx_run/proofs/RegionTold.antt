@@ -102,8 +102,8 @@ module _ {A : Type 0} (bytes : A → Option (List ℕ)) (faults : A → ℕ) (R 
           let whole : pictures_in files js ≡ passed ++ (b.0 ++ p ∷ others) ∷ tail = t.1 ∙ ap (λ (x : List Picture). passed ++ x ∷ tail) b.1 in (
             subst (λ (x : List (List Picture)). BeginsWith (one_behind_another [] x) (p ∷ (others ++ one_behind_another [] passed))) (sym whole) (begins_there passed b.0 (p ∷ others) tail),
             ap (λ (x : List (List Picture)). begins_file 0 x (length (others ++ one_behind_another [] passed))) whole
-            ∙ ap (λ (x : List Picture). begins_file 0 (passed ++ (b.0 ++ p ∷ others) ∷ tail) (length x)) (sym (one_more [] passed others))
-            ∙ begins_where_first passed others p b.0 tail,
+                ∙ ap (λ (x : List Picture). begins_file 0 (passed ++ (b.0 ++ p ∷ others) ∷ tail) (length x)) (sym (one_more [] passed others))
+                ∙ begins_where_first passed others p b.0 tail,
           )
 
       -- or it is refused

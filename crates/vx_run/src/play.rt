@@ -1,6 +1,6 @@
 //! `play`: the files of each region one behind another, and the regions put together, round by round.
 
-ghost use Rattle.std.specs.Prelude.{◌≡◌, ◌≢◌, ◌<◌, ◌≤◌, [], ℕ, List, All, map, length, vec_len, slice_get, slice_index, Option as OptionOf, None, Err, IfSome, IfOk, IfErr, OnOk, MatchOption};
+ghost use Rattle.std.specs.Prelude.{◌≡◌, ◌≢◌, ◌<◌, ◌≤◌, [], ℕ, List, All, map, length, replicate, vec_len, slice_get, slice_index, Option as OptionOf, None, Err, IfSome, IfOk, IfErr, OnOk, MatchOption};
 ghost use Rattle.std.specs.List.{AllByRecursion};
 ghost use Rattle.vx_pic.specs.Readings.{Picture as StreamPicture};
 ghost use Rattle.vx_pic.specs.Rules.{Readers};
@@ -107,9 +107,10 @@ fn placed(corners: &mut Vec<Corner>, corner: Corner) -> Result<usize, AllocError
     ensures corners { OnOk result (corners.new.items ≡ with_corner corners.old.items corner) }
 {
     let region = region_of(corners, corner);
-    if region == corners.len() {
-        corners.push(corner)?;
+    if region < corners.len() {
+        return Ok(region);
     }
+    corners.push(corner)?;
     Ok(region)
 }
 
@@ -146,12 +147,44 @@ fn play_rounds<K: Sink>(
     ensures list { vec_len sources.new ≡ vec_len sources.old }
 {
     let mut schedule = Schedule::new(alloc, files)?;
-    let mut feeds = feeds_for(alloc, corners.len())?;
-    let mut ended = going(alloc, corners.len())?;
     let mut merger = Merger::new(alloc, corners, level)?;
+    play_by(
+        alloc,
+        corners.len(),
+        &mut schedule,
+        &mut merger,
+        sources,
+        out,
+    )
+}
+
+/// Writes all rounds of so many regions: by a schedule whose files were not begun, and a merger that has written none.
+fn play_by<K: Sink>(
+    alloc: Global,
+    count: usize,
+    schedule: &mut Schedule,
+    merger: &mut Merger,
+    sources: &mut Vec<Box<dyn Source>>,
+    out: &mut K,
+) -> Result<(), Stop>
+    requires corners { AreCorners merger.old.corners }
+    requires stands { Stands merger.old [] }
+    requires begins { schedule.old ≡ record { regions = schedule.old.regions; gone = replicate (region_count schedule.old.regions) 0; last = None } }
+    requires few { length schedule.old.regions ≤ most_files }
+    requires regions { region_count schedule.old.regions ≡ length merger.old.corners }
+    requires count { count ≡ length merger.old.corners }
+    requires sources { vec_len sources.old ≡ length schedule.old.regions }
+    ensures plays { (R : Readers) → AreOfH266 R → PlaysBy R merger.old.corners merger.old.level schedule.old.regions
+        (sources_change bytes_left read_faults sources.old.items sources.new.items)
+        (change K.bytes_taken K.write_faults out.old out.new) result }
+    ensures stop { IfErr result IsOfCommand }
+    ensures list { vec_len sources.new ≡ vec_len sources.old }
+{
+    let mut feeds = feeds_for(alloc, count)?;
+    let mut ended = going(alloc, count)?;
     let mut rounds = 0;
-    while advance_regions(alloc, &mut schedule, &mut feeds, sources, &mut ended, rounds)? {
-        play_round(schedule.is_join(), &mut merger, &feeds, rounds, out)?;
+    while advance_regions(alloc, schedule, &mut feeds, sources, &mut ended, rounds)? {
+        play_round(schedule.is_join(), merger, &feeds, rounds, out)?;
         rounds = one_more(rounds, MOST_ROUNDS);
     }
     Ok(())

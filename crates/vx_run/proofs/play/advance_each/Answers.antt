@@ -1,4 +1,4 @@
-use Rattle.std.proofs.Common.{◌≡◌, ◌≢◌, ◌<◌, ◌≤◌, ◌∙◌, ℕ, List, Ok, Err, false, not, length, slice_set, ap, arith, refl}
+use Rattle.std.proofs.Common.{◌≡◌, ◌≢◌, ◌<◌, ◌≤◌, ◌∙◌, ℕ, List, Ok, Err, false, not, length, slice_index, slice_set, ap, arith, refl}
 use Rattle.std.proofs.lemmas.Option.{slice_get_read}
 use Rattle.std.proofs.lemmas.Result.{err_from_is_err_and}
 use Rattle.vx_run.proofs.Indexed.{get_set_other}
@@ -44,7 +44,7 @@ returns-in_err-goes-clause-answer g c R of first passed own placed =
       k = k;
       f = f';
       there = set_at feeds k f' fits;
-      went = goes_from _ _ R first l l' s s' k _ f f' (passed k) (own k) (Err c.in_err-goes.field-0.0) c.loop-k.invariant.1.regions (c.loop-k.invariant.2 k (omega arith)) (on.stays k f (omega arith) at)
+      went = goes_from _ _ R first l l' s s' k (slice_index s''.gone k) f f' (passed k) (own k) (Err c.in_err-goes.field-0.0) c.loop-k.invariant.1.regions (c.loop-k.invariant.2 k (omega arith)) (on.stays k f (omega arith) at)
           (c.in_err-goes.ensures.answer R of first (passed k) (own k));
       others = went_before _ _ R first s passed own l l' s' s'' feeds c.loop-k.ended.items c.loop-k.ended.items k f' on c.loop-k.invariant.1.regions but c.advance_region.ensures.rest (λ i other. refl);
     })
@@ -70,9 +70,9 @@ loop-k-preserved g c =
           let flags : k < length c.loop-k.ended.items = omega (arith, fits, c.loop-k.invariant.0.0, c.loop-k.invariant.0.2, c.requires.ended) in
           let at = slice_get_read feeds (length feeds) k f refl fits c.index_mut.ensures.value in
           went_more _ _ R first s passed own l l' s' s'' feeds c.loop-k.ended.items (slice_set c.loop-k.ended.items k (not c.in_ok-goes.goes)) k f' on c.loop-k.invariant.1.regions but c.advance_region.ensures.rest
-              (λ i other. get_set_other c.loop-k.ended.items i k (not c.in_ok-goes.goes) false other) flags c.in_ok-goes.goes refl
-              (goes_from _ _ R first l l' s s' k _ f f' (passed k) (own k) (Ok c.in_ok-goes.goes) c.loop-k.invariant.1.regions (c.loop-k.invariant.2 k (omega arith)) (on.stays k f (omega arith) at)
-              (c.in_ok-goes.ensures.answer R of first (passed k) (own k))),
+          (λ i other. get_set_other c.loop-k.ended.items i k (not c.in_ok-goes.goes) false other) flags c.in_ok-goes.goes refl
+          (goes_from _ _ R first l l' s s' k (slice_index s''.gone k) f f' (passed k) (own k) (Ok c.in_ok-goes.goes) c.loop-k.invariant.1.regions (c.loop-k.invariant.2 k (omega arith)) (on.stays k f (omega arith) at)
+          (c.in_ok-goes.ensures.answer R of first (passed k) (own k))),
     )
 
 pub returns-clause-answer : goal.returns-clause-answer

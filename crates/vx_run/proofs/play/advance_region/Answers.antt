@@ -93,8 +93,7 @@ loop-file-preserved-in_ok-feed g c =
     let s' = c.loop-file.schedule in
     let file = c.in-Some.file in
     let is : slice_get (files_of s'.regions c.args.k) (slice_index s'.gone c.args.k) ≡ Some file = sym c.current.ensures ∙ c.in-Some.is in
-    let within : file < length c.loop-file.sources.items = omega (arith, current_within s s' c.args.k file c.loop-file.invariant.1 is, c.requires.files, c.loop-file.invariant.0) in
-    (
+    let within : file < length c.loop-file.sources.items = omega (arith, current_within s s' c.args.k file c.loop-file.invariant.1 is, c.requires.files, c.loop-file.invariant.0) in (
       omega (arith, c.loop-file.invariant.0),
       one_gone s s' c.ended.new.self c.args.k c.loop-file.invariant.1 c.ended.ensures,
       λ j other. rest_stays s s' c.args.k file c.loop-file.invariant.1 is c.loop-file.sources.items c.advance.new.source j other ∙ c.loop-file.invariant.2 j other,
@@ -120,8 +119,7 @@ loop-file-preserved g c =
     let s' = c.loop-file.schedule in
     let file = c.in-Some.file in
     let is : slice_get (files_of s'.regions c.args.k) (slice_index s'.gone c.args.k) ≡ Some file = sym c.current.ensures ∙ c.in-Some.is in
-    let within : file < length c.loop-file.sources.items = omega (arith, current_within s s' c.args.k file c.loop-file.invariant.1 is, c.requires.files, c.loop-file.invariant.0) in
-    (
+    let within : file < length c.loop-file.sources.items = omega (arith, current_within s s' c.args.k file c.loop-file.invariant.1 is, c.requires.files, c.loop-file.invariant.0) in (
       omega (arith, c.loop-file.invariant.0),
       one_gone s s' c.ended.new.self c.args.k c.loop-file.invariant.1 c.ended.ensures,
       λ j other. rest_stays s s' c.args.k file c.loop-file.invariant.1 is c.loop-file.sources.items c.advance.new.source j other ∙ c.loop-file.invariant.2 j other,
