@@ -1,6 +1,6 @@
 //! `merge` and `check merge`: the pictures of several byte streams as those of one stream, round by round.
 
-ghost use Rattle.std.specs.Prelude.{◌≡◌, ◌<◌, ◌≤◌, ◌^◌, List, All, map, length, vec_len, IfOk, IfErr, OnOk};
+ghost use Rattle.std.specs.Prelude.{[], ◌≡◌, ◌<◌, ◌≤◌, ◌^◌, List, All, map, length, vec_len, IfOk, IfErr, OnOk};
 ghost use Rattle.std.specs.List.{AllByRecursion};
 ghost use Rattle.vx_pic.specs.Readings.{Picture as StreamPicture};
 ghost use Rattle.vx_pic.specs.Rules.{Readers};
@@ -173,12 +173,32 @@ fn take_rounds<K: Sink>(
     ensures stop { IfErr result IsOfCommand }
     ensures list { vec_len sources.new ≡ vec_len sources.old }
 {
+    let mut merger = Merger::new(alloc, corners, level)?;
+    take_by(alloc, work, &mut merger, sources, out)
+}
+
+/// Takes them by a merger that has taken none.
+fn take_by<K: Sink>(
+    alloc: Global,
+    work: Work,
+    merger: &mut Merger,
+    sources: &mut Vec<Box<dyn Source>>,
+    out: &mut K,
+) -> Result<u64, Stop>
+    requires corners { AreCorners merger.old.corners }
+    requires stands { Stands merger.old [] }
+    requires count { vec_len sources.old ≡ length merger.old.corners }
+    ensures takes { (R : Readers) → AreOfH266 R → TakesRounds R work merger.old.corners merger.old.level
+        (sources_change bytes_left read_faults sources.old.items sources.new.items)
+        (change K.bytes_taken K.write_faults out.old out.new) result }
+    ensures stop { IfErr result IsOfCommand }
+    ensures list { vec_len sources.new ≡ vec_len sources.old }
+{
     let mut feeds = feeds_for(alloc, sources.len())?;
     let mut ended = going(alloc, sources.len())?;
-    let mut merger = Merger::new(alloc, corners, level)?;
     let mut rounds = 0;
     while advance_all(&mut feeds, sources, &mut ended, rounds)? {
-        take_round(work, &mut merger, &feeds, rounds, out)?;
+        take_round(work, merger, &feeds, rounds, out)?;
         rounds = one_more(rounds, feeds[0].unit());
     }
     Ok(rounds)
