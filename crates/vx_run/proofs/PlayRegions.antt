@@ -13,6 +13,7 @@ use Rattle.std.proofs.lemmas.List.Sums.{fails_before_first, passes_at_first, pos
 use Rattle.vx_merge.specs.declared.corner.Corner.{Corner}
 use Rattle.vx_merge.specs.Merging.{AreCorners, IsCorner}
 use Rattle.vx_play.specs.Scheduled.{count_of as regions_in}
+use Rattle.vx_run.proofs.FileRegions.{itself}
 use Rattle.vx_run.specs.Grammar.{Placing, IsPlacing, texts}
 use Rattle.vx_run.specs.Merge.{corners_of}
 use Rattle.vx_run.specs.Play.{is_corner, region_corners, region_of, with_corner, with_corners}
@@ -26,9 +27,6 @@ use Rattle.vx_run.proofs.Placings.{words_read}
 
 abbrev pub no_corner : Corner
 no_corner = record { x = 0; y = 0 }
-
-itself : (c : Corner) → is_corner c c ≡ true
-itself c = rw (eq-eqb c.x c.x refl, eq-eqb c.y c.y refl) refl
 
 -- corners are compared in either order
 same_way : (a b : ℕ) → (a == b) ≡ (b == a)
