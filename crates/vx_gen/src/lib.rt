@@ -1,0 +1,10 @@
+//! Streams that are made from a number: small pictures whose slice data is drawn, under sets that differ from stream to stream in a QP.
+#![tactic(auto)]
+
+mod draws;
+mod streams;
+#[cfg(test)]
+mod tests;
+mod units;
+
+pub use streams::generate;
