@@ -1,11 +1,16 @@
 -- How a stream grows by a picture, and the streams by one.
-use Rattle.std.proofs.Common.{◌≡◌, ℕ, ◌+◌, ◌*◌, List, [], ◌∷◌, ◌++◌, ap, ◌∙◌, arith}
+use Rattle.std.proofs.Common.{◌≡◌, ◌≢◌, ℕ, zero, suc, ◌+◌, ◌*◌, ◌/◌, ◌%◌, List, [], ◌∷◌, ◌++◌, ap, refl, ◌∙◌, arith}
 use Rattle.std.proofs.lemmas.Grind.{flat_map-append}
 use Rattle.std.proofs.lemmas.List.FromFn.{map-range_with_len_more}
 use Rattle.vx_annexb.specs.ByteStream.{long_start_code}
 use Rattle.vx_annexb.specs.Laws.{written}
 use Rattle.vx_gen.specs.Streams.{generated, stream, units}
-use Rattle.vx_gen.specs.Units.{pps, slice, sps}
+use Rattle.vx_gen.specs.Units.{pps, slice, slice_front, sps}
+
+-- the front of a slice of a picture that isn't the first
+pub trailing_front : (p : ℕ) → p ≢ 0 → 0 ∷ 1 ∷ (136 + p % 16 / 2) ∷ (120 + 128 * (p % 16 % 2)) ∷ [] ≡ slice_front p
+trailing_front zero some = absurd (some refl)
+trailing_front (suc p) some = refl
 
 -- units that are written behind others
 pub written_on : (first more : List (List ℕ)) → written (first ++ more) ≡ written first ++ written more

@@ -1,4 +1,6 @@
 -- What the contracts of this crate cite.
 pub mod Draws
+pub mod Laws
+pub mod Pictures
 pub mod Streams
 pub mod Units

@@ -1,5 +1,5 @@
 -- The NAL units of generated streams. What they say is a law.
-use Rattle.std.specs.Prelude.{ℕ, ◌+◌, ◌*◌, ◌/◌, ◌%◌, ◌==◌, cond, List, [], ◌∷◌, ◌++◌, take}
+use Rattle.std.specs.Prelude.{ℕ, zero, suc, ◌+◌, ◌*◌, ◌/◌, ◌%◌, List, [], ◌∷◌, ◌++◌, take}
 use Rattle.std.specs.List.{slice_index_or}
 use Rattle.vx_gen.specs.declared.units.TheConstants.{IDR_SLICE, PPS_ENDS, PPS_END_SIZES, PPS_FRONT, SPS}
 use Rattle.vx_gen.specs.Draws.{payload}
@@ -16,8 +16,9 @@ abbrev pub lsb : ℕ → ℕ
 lsb p = p % 16
 
 -- the slice of picture p up to its data: an IDR picture comes first, and the others are trailing pictures
-unfoldable pub slice_front : ℕ → List ℕ
-slice_front p = cond (p == 0) IDR_SLICE (0 ∷ 1 ∷ (136 + lsb p / 2) ∷ (120 + 128 * (lsb p % 2)) ∷ [])
+abbrev pub slice_front : ℕ → List ℕ
+slice_front zero = IDR_SLICE
+slice_front (suc p) = 0 ∷ 1 ∷ (136 + lsb (suc p) / 2) ∷ (120 + 128 * (lsb (suc p) % 2)) ∷ []
 
 -- the slice, whose data is drawn from draw n on
 abbrev pub slice : (seed n p : ℕ) → List ℕ

@@ -2,9 +2,11 @@
 #![tactic(auto)]
 
 mod draws;
+mod laws;
 mod streams;
 #[cfg(test)]
 mod tests;
 mod units;
 
+pub use laws::generated_are_read;
 pub use streams::generate;

@@ -42,7 +42,7 @@ const IDR_SLICE: [u8; 4] = [0x00, 0x41, 0xC4, 0x18];
 
 /// The slice of picture `p` up to its data. Behind the first picture it tells the low four bits of the picture's number, and has two
 /// empty reference picture lists.
-#[tactic(auto, unfolding(crate::specs::Units::slice_front))]
+#[tactic(auto, using(crate::proofs::Making::trailing_front))]
 pub(crate) fn slice_front(p: u32) -> [u8; 4]
     ensures { result ≡ units.slice_front p }
 {

@@ -1,0 +1,21 @@
+//! A law of generated streams: a function that does nothing, with the law as its contract.
+ghost use Rattle.vx_gen.specs.Laws.{GeneratedAreRead};
+
+use vx_annexb::{escaped_is_unique, unescaped_joins};
+use vx_pic::{readers_are_unique, written_has_pictures, written_reads_again};
+use vx_sh::spelling_is_read;
+use vx_write::{set_units_are_read, units_stand};
+
+/// Of a generated stream readers of H.266 read exactly the pictures that are told, and it ends well.
+pub fn generated_are_read()
+    ensures { GeneratedAreRead }
+{
+    escaped_is_unique();
+    unescaped_joins();
+    readers_are_unique();
+    written_has_pictures();
+    written_reads_again();
+    spelling_is_read();
+    set_units_are_read();
+    units_stand();
+}
