@@ -3,9 +3,11 @@ pub mod Below
 pub mod Clear
 pub mod Drawing
 pub mod Headers
+pub mod Laid
 pub mod Making
 pub mod Pps
+pub mod Reading
 pub mod Sets
-pub mod Testing
 pub mod Slices
 pub mod Standing
+pub mod Testing
