@@ -1,5 +1,5 @@
 -- The headers of generated streams go through their forms, and are what the fronts of slices spell.
-use Rattle.std.proofs.Common.{◌≡◌, ℕ, ℤ, pos, zero, suc, ◌+◌, ◌*◌, ◌/◌, ◌%◌, ◌<◌, ◌&&◌, Bool, true, List, [], ◌∷◌, ◌++◌, length, drop, refl, ap, sym, ◌∙◌, arith}
+use Rattle.std.proofs.Common.{◌≡◌, ℕ, ◌+◌, ◌*◌, ◌/◌, ◌%◌, ◌<◌, ◌&&◌, Bool, true, List, [], ◌∷◌, ◌++◌, length, drop, refl}
 use Rattle.vx_bits.specs.Codes.{bits_of, exp_golomb, fixed, leading_zeros, magnitude}
 use Rattle.vx_bits.specs.declared.list.Item.{Item}
 use Rattle.vx_pps.specs.Items.{values_in}
@@ -11,9 +11,7 @@ use Rattle.vx_table.specs.Trailing.{is_trailing}
 use Rattle.vx_table.specs.Values.{bits_along}
 use Rattle.vx_rpl.specs.Resolved.{table_of}
 use Rattle.vx_ph.specs.Header.{before_weights, header_form}
-use Rattle.vx_ph.specs.Id.{id_form}
 use Rattle.vx_ph.specs.InForce.{both_sets, in_force, structures}
-use Rattle.vx_gen.specs.Units.{slice_front}
 use Rattle.vx_gen.specs.Pictures.{idr_header, pps_items, sps_items, trailing_header}
 use Rattle.vx_gen.proofs.Below.{below_16}
 use Rattle.vx_gen.proofs.Testing.{are_open, are_values}

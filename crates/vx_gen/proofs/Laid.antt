@@ -1,6 +1,6 @@
 -- The sets of generated streams make up one tile, one slice and one subpicture.
-use Rattle.std.proofs.Common.{◌≡◌, ℕ, ◌+◌, ◌<◌, true, false, cond, [], ◌∷◌, Ok, refl, ap, ◌∙◌, arith}
-use Rattle.std.specs.List.{All, AllPairs}
+use Rattle.std.proofs.Common.{◌≡◌, ℕ, ◌+◌, true, cond, [], ◌∷◌, Ok, refl, ap, ◌∙◌, arith}
+use Rattle.std.specs.List.{AllPairs}
 use Rattle.std.proofs.lemmas.List.Elements.{All-cons, All-nil}
 use Rattle.vx_layout.specs.declared.rect.Rect.{Rect}
 use Rattle.vx_layout.specs.Faults.{IsLayout}
@@ -9,7 +9,7 @@ use Rattle.vx_layout.proofs.Alone.{layout-alone}
 use Rattle.vx_layout.proofs.Counting.{count_by-cons}
 use Rattle.vx_layout.proofs.Holding.{holds_from}
 use Rattle.vx_table.specs.Scope.{fresh, natural}
-use Rattle.vx_pic.specs.PictureLayout.{AreDistinct, IdsAgree, IsLayoutAnswer, MakeLayout, ctu_sizes_differ, ids_misplaced, ids_of}
+use Rattle.vx_pic.specs.PictureLayout.{AreDistinct, IsLayoutAnswer, MakeLayout, ctu_sizes_differ, ids_misplaced, ids_of}
 use Rattle.vx_gen.specs.Pictures.{layout, pps_items, sps_items}
 
 abbrev whole : Rect

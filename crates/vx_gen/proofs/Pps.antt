@@ -1,7 +1,6 @@
 -- The PPS of a generated stream is what its unit spells.
 use Rattle.std.proofs.Common.{◌≡◌, ℕ, ℤ, ◌<◌, true, List, drop, refl}
 use Rattle.vx_bits.specs.Codes.{bits_of, exp_golomb, fixed, leading_zeros, magnitude}
-use Rattle.vx_bits.specs.declared.list.Item.{Item}
 use Rattle.vx_pps.specs.Items.{values_in}
 use Rattle.vx_pps.specs.Partition.{partition}
 use Rattle.vx_pps.specs.Pps as pps_set

@@ -1,5 +1,5 @@
 -- What readers of H.266 answer of a generated slice: its picture header and its own.
-use Rattle.std.proofs.Common.{◌≡◌, ℕ, ℤ, pos, zero, suc, ◌+◌, ◌-◌, ◌*◌, ◌/◌, ◌%◌, ◌<◌, ◌≤◌, ◌&&◌, Bool, true, List, [], ◌∷◌, ◌++◌, length, drop, take, None, Ok, refl, ap, sym, subst, ◌∙◌, arith}
+use Rattle.std.proofs.Common.{◌≡◌, ℕ, ℤ, zero, suc, ◌+◌, ◌-◌, ◌*◌, ◌/◌, ◌%◌, ◌<◌, ◌≤◌, Bool, true, List, [], ◌∷◌, ◌++◌, length, drop, take, None, Ok, refl, ap, sym, subst, ◌∙◌, arith}
 use Rattle.std.specs.Prelude.{nat_le, slice_index}
 use Rattle.std.proofs.lemmas.Bool.{and_parts, le-leb}
 use Rattle.std.proofs.lemmas.List.{append_assoc, drop-append-le, length-append, length-drop}
@@ -26,7 +26,6 @@ use Rattle.vx_sh.proofs.Scopes.{slice_scopes_are_whole}
 use Rattle.vx_pic.specs.H266.{AnswersAt, AreOfH266, IsSlice, header_place}
 use Rattle.vx_pic.specs.H266Laws.{HaveOneAnswer}
 use Rattle.vx_pic.specs.PictureLayout.{IsLayoutAnswer}
-use Rattle.vx_pic.specs.Readings.{Slice}
 use Rattle.vx_pic.specs.Rules.{Readers}
 use Rattle.vx_pic.specs.Sets.{is_qp, pps_id, same_size, slice_qp}
 use Rattle.vx_pic.specs.UnderSets.{header_of, slice_at}
@@ -37,7 +36,7 @@ use Rattle.vx_gen.specs.Draws.{payload}
 use Rattle.vx_gen.specs.Units.{lsb, slice, slice_front}
 use Rattle.vx_gen.specs.Pictures.{begun, header_items, idr_header, layout, nal_type, pps_items, slice_header, slice_items, sps_items, trailing_header}
 use Rattle.vx_gen.proofs.Below.{below_16}
-use Rattle.vx_gen.proofs.Clear.{ends_nonzero, escaped_itself, last_nonzero}
+use Rattle.vx_gen.proofs.Clear.{escaped_itself, last_nonzero}
 use Rattle.vx_gen.proofs.Headers.{Begins, behind_first, header_at, idr_begins, idr_front, trailing_begins, trailing_front}
 use Rattle.vx_gen.proofs.Slices.{header_value, idr_spelled, idr_tells, trailing_spelled, trailing_tells}
 use Rattle.vx_gen.proofs.Standing.{slice_long, slice_rbsp}

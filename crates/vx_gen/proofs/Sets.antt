@@ -1,7 +1,6 @@
 -- The sets of generated streams are what their units spell.
 use Rattle.std.proofs.Common.{◌≡◌, ℤ, true, List, drop, refl}
 use Rattle.vx_bits.specs.Codes.{bits_of, exp_golomb, fixed, leading_zeros, magnitude}
-use Rattle.vx_bits.specs.declared.list.Item.{Item}
 use Rattle.vx_pps.specs.Items.{values_in}
 use Rattle.vx_sps.specs.Set as sps_set
 use Rattle.vx_sps.specs.Structure.{sps_form}

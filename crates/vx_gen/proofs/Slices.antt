@@ -1,5 +1,5 @@
 -- The slice headers of generated streams are what the fronts of slices spell.
-use Rattle.std.proofs.Common.{◌≡◌, ℕ, ℤ, pos, ◌+◌, ◌*◌, ◌/◌, ◌%◌, ◌<◌, ◌&&◌, Bool, true, List, [], ◌∷◌, ◌++◌, length, drop, slice_set, None, refl, ap, sym, ◌∙◌, arith}
+use Rattle.std.proofs.Common.{◌≡◌, ℕ, ℤ, pos, ◌<◌, true, List, [], ◌∷◌, drop, slice_set, None, refl, arith}
 use Rattle.std.proofs.lemmas.Bool.{and_parts}
 use Rattle.vx_bits.specs.Codes.{EndsInNoZero, bits_of, exp_golomb, fixed, leading_zeros, magnitude}
 use Rattle.vx_bits.specs.declared.list.Item.{Item}
@@ -12,8 +12,8 @@ use Rattle.vx_rpl.specs.Resolved.{table_of}
 use Rattle.vx_table.specs.Forms.{Form, done, after, coding_at, form_of, has_value, limits_at, one_field, part, present, turns}
 use Rattle.vx_table.specs.Parts.{sections_form}
 use Rattle.vx_table.specs.Scope.{fresh, natural, powers_below, value}
-use Rattle.vx_table.specs.Spelling.{code_of, fault_of, item_of, items_along}
-use Rattle.vx_table.specs.Values.{Follows, to_end, through, bits_along}
+use Rattle.vx_table.specs.Spelling.{code_of, fault_of, item_of}
+use Rattle.vx_table.specs.Values.{to_end, through, bits_along}
 use Rattle.vx_table.proofs.Joined.{joined}
 use Rattle.vx_ph.specs.Header as ph
 use Rattle.vx_ph.specs.Header.{header_form}
@@ -21,7 +21,7 @@ use Rattle.vx_ph.specs.InForce.{both_sets, in_force, structures}
 use Rattle.vx_sh.specs.declared.header.SliceHeader.{SliceHeader}
 use Rattle.vx_sh.specs.Slice.{address_form, before_weights, front_form, rest_form, with_entry_points}
 use Rattle.vx_sh.specs.Value.{IsSliceOf, IsSpelling, TellsNumbers, values_of}
-use Rattle.vx_sh.specs.Whole.{At, behind_header, header_inside, id_form, located, points_at, slice_form, subpic_form}
+use Rattle.vx_sh.specs.Whole.{At, behind_header, id_form, located, points_at, slice_form, subpic_form}
 use Rattle.vx_pic.specs.PictureLayout.{ids_of}
 use Rattle.vx_pic.specs.Readings.{Begun}
 use Rattle.vx_pic.specs.UnderSets.{slice_at}

@@ -1,7 +1,7 @@
 -- The units of generated streams: their headers, their RBSPs, and that they can stand in a stream.
-use Rattle.std.proofs.Common.{◌≡◌, ℕ, zero, suc, ◌+◌, ◌*◌, ◌/◌, ◌%◌, ◌<◌, ◌≤◌, ◌&&◌, Bool, true, List, [], ◌∷◌, ◌++◌, length, drop, refl, ap, sym, ◌∙◌, arith}
+use Rattle.std.proofs.Common.{◌≡◌, ℕ, zero, suc, ◌+◌, ◌*◌, ◌/◌, ◌%◌, ◌<◌, ◌≤◌, ◌&&◌, true, ◌∷◌, length, drop, refl, ap, arith}
 use Rattle.std.specs.List.{AllByRecursion}
-use Rattle.std.proofs.lemmas.Bool.{and_parts, le-leb}
+use Rattle.std.proofs.lemmas.Bool.{and_parts}
 use Rattle.vx_annexb.specs.Laws.{CanStand}
 use Rattle.vx_pic.specs.declared.unit_types.TheConstants as types
 use Rattle.vx_pic.specs.Units.{rbsp_of}

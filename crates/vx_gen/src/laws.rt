@@ -1,7 +1,7 @@
 //! A law of generated streams: a function that does nothing, with the law as its contract.
 ghost use Rattle.vx_gen.specs.Laws.{GeneratedAreRead};
 
-use vx_annexb::{escaped_is_unique, unescaped_joins};
+use vx_annexb::unescaped_joins;
 use vx_pic::{readers_are_unique, written_has_pictures, written_reads_again};
 use vx_sh::spelling_is_read;
 use vx_write::{set_units_are_read, units_stand};
@@ -10,7 +10,6 @@ use vx_write::{set_units_are_read, units_stand};
 pub fn generated_are_read()
     ensures { GeneratedAreRead }
 {
-    escaped_is_unique();
     unescaped_joins();
     readers_are_unique();
     written_has_pictures();

@@ -1,9 +1,14 @@
 -- The law, from its parts.
-use Rattle.vx_gen.proofs.Sets.{sps_spelled}
-use Rattle.vx_gen.proofs.Pps.{pps_spelled}
-use Rattle.vx_gen.proofs.Reading.{low_bits}
-use Rattle.vx_gen.proofs.Laid.{laid}
+use Rattle.vx_gen.proofs.Whole.{are_read}
 use Rattle.vx_gen.proofs.laws.generated_are_read.Goals as goal
 
 pub returns : goal.returns
-returns c = let a = sps_spelled in ?
+returns c = are_read (record {
+  unique = c.readers_are_unique.ensures;
+  begins = c.spelling_is_read.ensures.begins;
+  joins = c.unescaped_joins.ensures;
+  sets = c.set_units_are_read.ensures.sets;
+  stand = c.units_stand.ensures.units;
+  again = c.written_reads_again.ensures;
+  has_pictures = c.written_has_pictures.ensures;
+})
