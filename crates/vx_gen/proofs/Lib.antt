@@ -8,6 +8,7 @@ pub mod Making
 pub mod Next
 pub mod Pps
 pub mod Reading
+pub mod Seen
 pub mod Sending
 pub mod Sets
 pub mod Slices

@@ -2,5 +2,6 @@
 pub mod Draws
 pub mod Laws
 pub mod Pictures
+pub mod Shown
 pub mod Streams
 pub mod Units

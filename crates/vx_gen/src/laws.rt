@@ -1,5 +1,5 @@
-//! A law of generated streams: a function that does nothing, with the law as its contract.
-ghost use Rattle.vx_gen.specs.Laws.{GeneratedAreRead};
+//! Laws of generated streams: functions that do nothing, each with a law as its contract.
+ghost use Rattle.vx_gen.specs.Laws.{GeneratedAreRead, PlannedAreShown};
 
 use vx_annexb::unescaped_joins;
 use vx_pic::{readers_are_unique, written_has_pictures, written_reads_again};
@@ -18,3 +18,8 @@ pub fn generated_are_read()
     set_units_are_read();
     units_stand();
 }
+
+/// What callers see of these pictures.
+pub fn planned_are_shown()
+    ensures { PlannedAreShown }
+{}
