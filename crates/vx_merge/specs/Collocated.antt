@@ -1,8 +1,9 @@
 -- The pictures from which slices predict motion (H.266 7.4.8, sh_collocated_ref_idx): the same one for all slices of a picture that name
 -- one. A list tells it by its order count, as a distance from the picture's own or by its low bits and how many cycles of them lie between,
 -- so that slices of pictures with one order count are compared by what their lists tell.
-use Rattle.std.specs.Prelude.{ℕ, ℤ, pos, neg_ℤ, ◌+◌, ◌+ℤ◌, ◌==◌, ◌&&◌, not, Bool, cond, List, [], ◌∷◌, flat_map, map, sum, take, slice_get}
+use Rattle.std.specs.Prelude.{ℕ, ℤ, pos, neg_ℤ, ◌+◌, ◌+ℤ◌, ◌==◌, ◌&&◌, not, Bool, cond, List, [], ◌∷◌, flat_map, take, slice_get}
 use Rattle.std.specs.Prelude.{Option, Some, None, unwrap_or}
+use Rattle.std.specs.List.{sum_by}
 use Rattle.vx_bits.specs.declared.list.Item.{Item}
 use Rattle.vx_bits.specs.Fields.{first_value}
 use Rattle.vx_fields.specs.declared.pps.TheConstants as pps
@@ -38,7 +39,7 @@ cycles_of (Long lsb msb) = unwrap_or msb 0
 
 -- DeltaPocMsbCycleLt (7.4.10) of the last of some entries: each counts from the long-term one before it
 abbrev pub cycles_to : List RefEntry → ℕ
-cycles_to entries = sum (map cycles_of entries)
+cycles_to entries = sum_by cycles_of entries
 
 abbrev pub entry_tells : List RefEntry → Option RefEntry → Collocated
 entry_tells upto (Some (Short abs sign)) = Nearby (delta_to upto)

@@ -61,7 +61,8 @@ fn cycles_of(entry: RefEntry) -> u64
 {
     match entry {
         RefEntry::Long {
-            msb: Some(cycles), ..
+            msb: Some(cycles),
+            ..
         } => u64::from(cycles),
         _ => 0,
     }
@@ -91,7 +92,10 @@ fn told_at(list: &RefList, i: u32) -> Collocated
     match list.item(i) {
         RefEntry::Short { .. } => Collocated::Nearby(delta_to(list, i + 1)),
         RefEntry::Long { lsb, msb: None } => Collocated::Distant(lsb, None),
-        RefEntry::Long { lsb, msb: Some(_) } => Collocated::Distant(lsb, Some(cycles_to(list, i + 1))),
+        RefEntry::Long { lsb, msb: Some(_) } => Collocated::Distant(
+            lsb,
+            Some(cycles_to(list, i + 1)),
+        ),
     }
 }
 

@@ -1,6 +1,5 @@
 use Rattle.std.proofs.Common.{◌≡◌, List, Some, None, true, length, map, refl, sym, ap, subst, ◌∙◌, inl, arith}
 use Rattle.std.proofs.lemmas.List.{length-map}
-
 use Rattle.vx_pic.specs.Parts.{Parts}
 use Rattle.vx_merge.specs.Joins.{StartsAt, joined}
 use Rattle.vx_merge.specs.inner.Progress.{merging_of}

@@ -6,6 +6,6 @@ use Rattle.vx_merge.proofs.settled.layout_of.Goals as goal
 
 pub unreachable-requires : goal.unreachable-requires
 unreachable-requires c =
-    let numbers = c.in_ok-numbers.value in
+    let numbers = c.in_ok-numbers.numbers in
     layout-faultless numbers _ (subst IsLayout (sym c.in_ok-numbers.ensures) c.requires.layout) (subst (λ e. IfFault e (IsLowestFault numbers)) c.in-Err-Fault.field-0-is
     (subst (λ r. IfErr r (λ e. IfFault e (IsLowestFault numbers))) c.in-Err-Fault.is c.new.ensures.fault))
