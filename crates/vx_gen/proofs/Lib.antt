@@ -11,7 +11,9 @@ pub mod Reading
 pub mod Seen
 pub mod Sending
 pub mod Sets
+pub mod SideBySide
 pub mod Slices
 pub mod Standing
 pub mod Testing
+pub mod Unbroken
 pub mod Whole

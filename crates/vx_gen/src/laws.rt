@@ -1,5 +1,6 @@
 //! Laws of generated streams: functions that do nothing, each with a law as its contract.
 ghost use Rattle.vx_gen.specs.Laws.{GeneratedAreRead, PlannedAreShown};
+ghost use Rattle.vx_gen.specs.Rounds.{GeneratedBreakNoRule};
 
 use vx_annexb::unescaped_joins;
 use vx_pic::{readers_are_unique, written_has_pictures, written_reads_again};
@@ -22,4 +23,9 @@ pub fn generated_are_read()
 /// What callers see of these pictures.
 pub fn planned_are_shown()
     ensures { PlannedAreShown }
+{}
+
+/// Side by side these pictures break no rule on merges.
+pub fn generated_break_no_rule()
+    ensures { GeneratedBreakNoRule }
 {}

@@ -8,5 +8,5 @@ mod streams;
 mod tests;
 mod units;
 
-pub use laws::{generated_are_read, planned_are_shown};
+pub use laws::{generated_are_read, generated_break_no_rule, planned_are_shown};
 pub use streams::generate;
