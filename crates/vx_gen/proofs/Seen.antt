@@ -1,5 +1,5 @@
 -- What callers see of generated pictures.
-use Rattle.std.proofs.Common.{◌≡◌, ℕ, zero, suc, ◌+◌, ◌*◌, List, [], ◌∷◌, ◌++◌, map, Option, None, refl, ap, sym, ◌∙◌}
+use Rattle.std.proofs.Common.{◌≡◌, ℕ, zero, suc, ◌+◌, ◌*◌, List, [], ◌∷◌, ◌++◌, map, Option, None, refl, ap, ◌∙◌}
 use Rattle.std.specs.List.{range_with_len}
 use Rattle.std.proofs.Math.Path.{fun_ext}
 use Rattle.vx_aps.specs.declared.aps.Aps.{Aps}
@@ -8,14 +8,14 @@ use Rattle.vx_rpl.specs.Resolved.{table_of}
 use Rattle.vx_table.specs.Scope.{fresh, natural}
 use Rattle.vx_ph.specs.InForce.{both_sets, in_force}
 use Rattle.vx_pic.specs.PictureLayout.{ids_of}
-use Rattle.vx_pic.specs.Parts.{Parts, id_count, parts_of, stored_of, stored_sets}
-use Rattle.vx_pic.specs.Readings.{Begun, Picture, Reading, first_slice, gathered, latest, aps_in, stored_aps}
+use Rattle.vx_pic.specs.Parts.{id_count, parts_of, stored_of, stored_sets}
+use Rattle.vx_pic.specs.Readings.{Reading, first_slice, gathered, stored_aps}
 use Rattle.vx_pic.specs.Resident.{planned_of, read_of}
 use Rattle.vx_pic.specs.Sets.{address_of}
-use Rattle.vx_pic.specs.Written.{Plan, before_slices, planned}
+use Rattle.vx_pic.specs.Written.{before_slices, planned}
 use Rattle.vx_gen.specs.Laws.{PlannedAreShown}
 use Rattle.vx_gen.specs.Pictures.{begun, kind, plan, plans, slice_header}
-use Rattle.vx_gen.specs.Shown.{parts, shown}
+use Rattle.vx_gen.specs.Shown.{parts}
 use Rattle.vx_gen.specs.Units.{slice}
 
 -- what comes before picture p

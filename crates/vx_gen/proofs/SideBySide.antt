@@ -1,16 +1,15 @@
 -- Regions of 128 times 128 samples side by side fit together, and keep their tile lines.
-use Rattle.std.proofs.Common.{◌≡◌, ℕ, zero, suc, ◌+◌, ◌-◌, ◌*◌, ◌/◌, ◌%◌, ◌<◌, ◌≤◌, ◌⊎◌, max, true, List, [], ◌∷◌, length, map, refl, ap, sym, subst, ◌∙◌, inl, inr, arith}
+use Rattle.std.proofs.Common.{◌≡◌, ℕ, zero, suc, ◌+◌, ◌*◌, ◌/◌, ◌<◌, ◌≤◌, ◌⊎◌, List, [], ◌∷◌, length, map, refl, ap, sym, subst, ◌∙◌, inl, inr, arith}
 use Rattle.std.specs.List.{All, AllPairs, Contains, range_with_len, slice_index_or}
-use Rattle.std.specs.Int.{div_ceil}
 use Rattle.std.proofs.lemmas.List.FromFn.{get_or-map-range_with_len, length-map-range_with_len}
 use Rattle.vx_layout.specs.declared.numbers.Numbers.{Numbers}
 use Rattle.vx_layout.specs.declared.rect.Rect.{Rect}
 use Rattle.vx_layout.specs.Layouts.{no_rect}
-use Rattle.vx_layout.specs.Rects.{Precedes, holds}
+use Rattle.vx_layout.specs.Rects.{Precedes}
 use Rattle.vx_layout.proofs.Holding.{holds_tells}
 use Rattle.vx_fit.specs.declared.placed.Placed.{Placed}
-use Rattle.vx_fit.specs.FrameLines.{HasBound, IsDropped, IsHorizontal, IsLinesFault, IsVertical, KeepsLines, PassesInside, corner_at, part_at}
-use Rattle.vx_fit.specs.Placing.{FitTogether, IsCovered, IsOnGrid, IsTooLarge, Overlap, covers, frame_height, frame_width, greatest, in_ctus}
+use Rattle.vx_fit.specs.FrameLines.{HasBound, IsHorizontal, IsLinesFault, IsVertical, KeepsLines, PassesInside, corner_at, part_at}
+use Rattle.vx_fit.specs.Placing.{FitTogether, IsCovered, IsOnGrid, IsTooLarge, Overlap, frame_height, frame_width, greatest, in_ctus}
 use Rattle.vx_fit.proofs.Overlapping.{covers_from, covers_tells}
 
 abbrev pub place : ℕ → Placed
@@ -90,8 +89,7 @@ precedes : (i j : ℕ) → i < j → Precedes (rect i) (rect j)
 precedes i j before x y here =
     let a = holds_tells (rect j) x y here in
     let left = left_of j in
-    let own = left_of i in
-    (
+    let own = left_of i in (
       λ right. let b = holds_tells (rect i) (x + 1) y right in omega (arith, a.0, b.1, left, own, before),
       λ below. let b = holds_tells (rect i) x (y + 1) below in omega (arith, a.0, b.1, left, own, before),
     )
@@ -171,14 +169,12 @@ module _ (n : ℕ) (parts : List Numbers) (tiles : AreTiles n parts) where
       let high : (corner_at corners k).h ≡ 2 = ap (λ (r : Rect). r.h) at_k in
       record {
         columns = λ m inside.
-            let is : PassesInside (2 * k) 2 m = (omega (arith, inside.0, left), omega (arith, inside.1, left, wide)) in
-            (
+            let is : PassesInside (2 * k) 2 m = (omega (arith, inside.0, left), omega (arith, inside.1, left, wide)) in (
               λ line. absurd (no_column k m low is line),
               λ bound. absurd (own_bound (corner_at corners k).x m (part_at parts k).columns (tiles.columns k low) (inside.0, omega (arith, inside.1, wide)) bound),
             );
         rows = λ m inside.
-            let is : PassesInside 0 2 m = (omega (arith, inside.0, top), omega (arith, inside.1, top, high)) in
-            (
+            let is : PassesInside 0 2 m = (omega (arith, inside.0, top), omega (arith, inside.1, top, high)) in (
               λ line. absurd (no_row m is line),
               λ bound. absurd (own_bound (corner_at corners k).y m (part_at parts k).rows (tiles.rows k low) (inside.0, omega (arith, inside.1, high)) bound),
             );

@@ -1,5 +1,5 @@
 -- Generated pictures side by side break no rule on merges.
-use Rattle.std.proofs.Common.{◌≡◌, ℕ, zero, suc, ◌+◌, ◌*◌, ◌<◌, ◌≤◌, Bool, true, false, IsTrue, ℤ, List, [], ◌∷◌, ◌++◌, length, map, take, Option, Some, None, refl, ap, sym, subst, ◌∙◌, inl, inr, arith}
+use Rattle.std.proofs.Common.{◌≡◌, ℕ, zero, suc, ◌+◌, ◌*◌, ◌<◌, ◌≤◌, Bool, false, ℤ, List, [], ◌∷◌, ◌++◌, length, map, take, Option, Some, None, refl, ap, sym, subst, ◌∙◌, inl, inr, arith}
 use Rattle.std.specs.Prelude.{flat_map, slice_get, sum_by}
 use Rattle.std.specs.List.{AllByRecursion, range_with_len, slice_index_or}
 use Rattle.std.proofs.lemmas.Bool.{true≢false}
@@ -161,32 +161,64 @@ module _ (seed pictures n p : ℕ) (some : 1 ≤ n) (few : n ≤ 16) where
   verdict : IsVerdict n (rules_of (corners n) all) None
   unfolding fresh natural
   verdict =
-      inl (λ k low several. let one = ap (λ (q : Parts). subpics_of q.sps) (source k low) in omega (arith, several, one),
-      inl (λ k low differs. elim differs [ inl tools ↦ alike kept_sps (kept_sps (part_of 0)) (λ j. refl) k low tools | inr profile ↦ alike profile_of (profile_of (part_of 0)) (λ j. refl) k low profile ],
-      inl (λ k low large. no_fault TooLarge large,
-      inl (λ k low geometry. no_fault (Geometry k) geometry,
-      inl (λ k low order. no_fault (Order k) order,
-      inl (λ k low lines. no_lines k lines,
-      inl (λ k low many. let count = as_many n in omega (arith, many, count, few),
-      inl (λ k low kind. alike shared_kind (shared_kind (part_of 0)) (λ j. refl) k low kind,
-      inl (λ k low tools. alike kept_pps (kept_pps (parts seed 0 0 p)) (λ j. same_pps seed (5 * (j * pictures) + 5 * p) j p) k low tools,
-      inl (λ k low header. elim header [
-        | inl kept ↦ alike kept_header (kept_header (part_of 0)) (λ j. refl) k low kept
-        | inr scaled ↦ none_has has_lmcs is_chroma_scaled (λ j. no_lmcs seed (5 * (j * pictures) + 5 * p) j p) k low scaled
-      ],
-      inl (λ k low shared. elim shared [
-        | inl lmcs ↦ none_has has_lmcs lmcs_body (λ j. no_lmcs seed (5 * (j * pictures) + 5 * p) j p) k low lmcs
-        | inr scaling ↦ none_has has_scaling scaling_body (λ j. no_scaling seed (5 * (j * pictures) + 5 * p) j p) k low scaling
-      ],
-      inl (λ k low lists. alike first_lists (record { first = []; second = [] } ∷ []) (λ j. same_lists seed (5 * (j * pictures) + 5 * p) j p) k low lists,
-      inl (λ k low output. output (outputs_alike k low),
-      inl (λ k low filters. let none = ap (λ bodies. length (once bodies)) (no_filter_to k low) in omega (arith, filters, none),
-      inl (λ k low flags. elim flags [
-        | inl across ↦ none_has has_tiles crosses_tiles (λ j. no_tiles seed (5 * (j * pictures) + 5 * p) j p) k low across
-        | inr slices ↦ none_has has_slices crosses_slices (λ j. no_slices seed (5 * (j * pictures) + 5 * p) j p) k low slices
-      ],
-      inl (λ k low picture. picture (subst (AllByRecursion (λ x. slice_get (flat_map collocated all) 0 ≡ Some x)) (sym (ap collocated (source k low) ∙ none_collocated seed (5 * (k * pictures) + 5 * p) k p)) tt),
-      refl))))))))))))))))
+      inl (
+        λ k low several. let one = ap (λ (q : Parts). subpics_of q.sps) (source k low) in omega (arith, several, one),
+        inl (
+          λ k low differs. elim differs [ inl tools ↦ alike kept_sps (kept_sps (part_of 0)) (λ j. refl) k low tools | inr profile ↦ alike profile_of (profile_of (part_of 0)) (λ j. refl) k low profile ],
+          inl (
+            λ k low large. no_fault TooLarge large,
+            inl (
+              λ k low geometry. no_fault (Geometry k) geometry,
+              inl (
+                λ k low order. no_fault (Order k) order,
+                inl (
+                  λ k low lines. no_lines k lines,
+                  inl (
+                    λ k low many. let count = as_many n in omega (arith, many, count, few),
+                    inl (
+                      λ k low kind. alike shared_kind (shared_kind (part_of 0)) (λ j. refl) k low kind,
+                      inl (
+                        λ k low tools. alike kept_pps (kept_pps (parts seed 0 0 p)) (λ j. same_pps seed (5 * (j * pictures) + 5 * p) j p) k low tools,
+                        inl (
+                          λ k low header. elim header [
+                            | inl kept ↦ alike kept_header (kept_header (part_of 0)) (λ j. refl) k low kept
+                            | inr scaled ↦ none_has has_lmcs is_chroma_scaled (λ j. no_lmcs seed (5 * (j * pictures) + 5 * p) j p) k low scaled
+                          ],
+                          inl (
+                            λ k low shared. elim shared [
+                              | inl lmcs ↦ none_has has_lmcs lmcs_body (λ j. no_lmcs seed (5 * (j * pictures) + 5 * p) j p) k low lmcs
+                              | inr scaling ↦ none_has has_scaling scaling_body (λ j. no_scaling seed (5 * (j * pictures) + 5 * p) j p) k low scaling
+                            ],
+                            inl (
+                              λ k low lists. alike first_lists (record { first = []; second = [] } ∷ []) (λ j. same_lists seed (5 * (j * pictures) + 5 * p) j p) k low lists,
+                              inl (
+                                λ k low output. output (outputs_alike k low),
+                                inl (
+                                  λ k low filters. let none = ap (λ bodies. length (once bodies)) (no_filter_to k low) in omega (arith, filters, none),
+                                  inl (
+                                    λ k low flags. elim flags [
+                                      | inl across ↦ none_has has_tiles crosses_tiles (λ j. no_tiles seed (5 * (j * pictures) + 5 * p) j p) k low across
+                                      | inr slices ↦ none_has has_slices crosses_slices (λ j. no_slices seed (5 * (j * pictures) + 5 * p) j p) k low slices
+                                    ],
+                                    inl (
+                                      λ k low picture. picture (subst (AllByRecursion (λ x. slice_get (flat_map collocated all) 0 ≡ Some x)) (sym (ap collocated (source k low) ∙ none_collocated seed (5 * (k * pictures) + 5 * p) k p)) tt),
+                                      refl,
+                                    ),
+                                  ),
+                                ),
+                              ),
+                            ),
+                          ),
+                        ),
+                      ),
+                    ),
+                  ),
+                ),
+              ),
+            ),
+          ),
+        ),
+      )
 
 pub break_none : GeneratedBreakNoRule
 break_none seed pictures sources p some few = verdict seed pictures sources p some few

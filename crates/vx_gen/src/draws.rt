@@ -23,7 +23,10 @@ impl Draws {
         ensures byte { result ≡ byte_of self.new.state }
         ensures goes_on { self.new.state ≡ next self.old.state }
     {
-        self.state = self.state.wrapping_mul(1_664_525).wrapping_add(1_013_904_223);
+        self.state = self
+            .state
+            .wrapping_mul(1_664_525)
+            .wrapping_add(1_013_904_223);
         let high = (self.state >> 16) % 256;
         1 + (high % 255) as u8
     }

@@ -1,5 +1,4 @@
 -- The law is a lemma.
-use Rattle.vx_gen.proofs.SideBySide.{they_fit}
 use Rattle.vx_gen.proofs.Unbroken.{break_none}
 use Rattle.vx_gen.proofs.laws.generated_break_no_rule.Goals as goal
 
