@@ -4,8 +4,6 @@
 mod draws;
 mod laws;
 mod streams;
-#[cfg(test)]
-mod tests;
 mod units;
 
 pub use laws::{generated_are_read, generated_break_no_rule, planned_are_shown};
