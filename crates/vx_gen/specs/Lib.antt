@@ -1,0 +1,8 @@
+-- What the contracts of this crate cite.
+pub mod Draws
+pub mod Laws
+pub mod Pictures
+pub mod Rounds
+pub mod Shown
+pub mod Streams
+pub mod Units

@@ -1,0 +1,31 @@
+//! Laws of generated streams: functions that do nothing, each with a law as its contract.
+ghost use Rattle.vx_gen.specs.Laws.{GeneratedAreRead, PlannedAreShown};
+ghost use Rattle.vx_gen.specs.Rounds.{GeneratedBreakNoRule};
+
+use vx_annexb::unescaped_joins;
+use vx_pic::{readers_are_unique, written_has_pictures, written_reads_again};
+use vx_sh::spelling_is_read;
+use vx_write::{set_units_are_read, units_stand};
+
+/// Of a generated stream readers of H.266 read exactly the pictures that are told, and it ends well.
+pub fn generated_are_read()
+    ensures { GeneratedAreRead }
+{
+    unescaped_joins();
+    readers_are_unique();
+    written_has_pictures();
+    written_reads_again();
+    spelling_is_read();
+    set_units_are_read();
+    units_stand();
+}
+
+/// What callers see of these pictures.
+pub fn planned_are_shown()
+    ensures { PlannedAreShown }
+{}
+
+/// Side by side these pictures break no rule on merges.
+pub fn generated_break_no_rule()
+    ensures { GeneratedBreakNoRule }
+{}

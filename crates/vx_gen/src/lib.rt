@@ -1,0 +1,10 @@
+//! Streams that are made from a number: small pictures whose slice data is drawn, under sets that differ from stream to stream in a QP.
+#![tactic(auto)]
+
+mod draws;
+mod laws;
+mod streams;
+mod units;
+
+pub use laws::{generated_are_read, generated_break_no_rule, planned_are_shown};
+pub use streams::generate;
