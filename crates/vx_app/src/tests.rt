@@ -217,7 +217,12 @@ fn tells_regions(rt: HostRuntime) -> Result<(), Fail> {
     check_regions(&rt, rt.alloc(), &["play"], &[])
 }
 
-fn check_regions(rt: &impl Abort, alloc: Global, words: &[&str], regions: &[usize]) -> Result<(), Fail> {
+fn check_regions(
+    rt: &impl Abort,
+    alloc: Global,
+    words: &[&str],
+    regions: &[usize],
+) -> Result<(), Fail> {
     let words = words_of(alloc, words)?;
     for k in 0..6 {
         assert_eq!(rt; play_region(&words, k), regions.get(k).copied());
