@@ -1,7 +1,8 @@
 #!/bin/bash
 # How much processor time `merge` takes to put four streams together, beside `cat` of all of them; and `verify merge` to compare what comes
-# of it with them, beside `cat` of all five files; and how much memory they have resident at most. The time of a round of streams of tiny
-# pictures, and where it goes; and that of rounds in which the PPS takes another id than 0, and of rounds in which the sets change.
+# of it with them, beside `cat` of all five files; and how much memory they have resident at most. `play` of sixteen regions of ten files of
+# fifty pictures each, beside `merge` of the same pictures in one file a region. The time of a round of streams of tiny pictures, and where it
+# goes; and that of rounds in which the PPS takes another id than 0, and of rounds in which the sets change.
 # No test: times depend on the machine.
 # Usage: scripts/bench-merge.sh PROGRAM [MIB]   (PROGRAM is the built program; MIB mebibytes of each of four sources, whose slices have 64 KiB;
 # default 64). Where perf and valgrind are there, they tell more of where the time goes.
@@ -26,6 +27,10 @@ for k, large in enumerate(larges):
     write(f"{work}/large{k}", large, max(1, mib * 1048576 // max(map(len, larges))))
 write(f"{work}/tiny", gray, rounds)
 write(f"{work}/short", gray, 50)
+for name, size in (("tiny", 0), ("large", 4096)):
+    segment = Steady(11, [0] * 50, size).bytes
+    write(f"{work}/{name}-segment", segment, 1)
+    write(f"{work}/{name}-segments", segment, 10)
 for name, ids in (("same", [0] * 50), ("other", [0] + [1] * 49), ("changing", [0, 1] * 25)):
     write(f"{work}/{name}", Steady(11, ids).bytes, rounds // 50)
 PY
@@ -53,6 +58,14 @@ for count in 2 16 64; do
   mapfile -t words < <(row "$work/tiny" "$count")
   "$scripts/measure.py" "$count sources of tiny pictures, check merge" --per "$rounds" round -- "$program" check merge "${words[@]}"
   "$scripts/measure.py" "$count sources of tiny pictures, merge" --per "$rounds" round -- "$program" merge "${words[@]}"
+done
+
+for name in tiny large; do
+  words=()
+  for ((k = 0; k < 10; k++)); do mapfile -t -O "${#words[@]}" words < <(row "$work/$name-segment" 16); done
+  "$scripts/measure.py" "16 regions of ten files of fifty $name pictures, play" --per 500 round -- "$program" play "${words[@]}"
+  mapfile -t words < <(row "$work/$name-segments" 16)
+  "$scripts/measure.py" "the same in one file a region, merge" --per 500 round -- "$program" merge "${words[@]}"
 done
 
 # Each source read by itself: what of a round goes for units, headers and pictures, with the lines of `show`, or without them.
