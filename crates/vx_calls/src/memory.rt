@@ -3,7 +3,7 @@
 use crate::reader::calls_of;
 use crate::words::{bytes_of, numbers_of, push_bytes, push_gap};
 use anyhow::{Context, Result, bail};
-use std::alloc::{AllocError, Global};
+use std::alloc::Global;
 use vx_io::{ClosedSource, GrowSink, MemorySink, MemorySource, Sink, Source, read_at, write_all};
 
 /// The most bytes that are read at once.
@@ -37,23 +37,22 @@ fn sink_of(alloc: Global, room: &str, pieces: &str, failing: &str) -> Result<Mem
     Ok(MemorySink::new(alloc, room.parse::<usize>()?, pieces, failing)?)
 }
 
-/// A closed source and this one.
-fn two_sources(alloc: Global, source: MemorySource) -> Result<Vec<Box<dyn Source>>, AllocError> {
+/// What reads of a closed source and of this one give.
+fn source_text(alloc: Global, source: MemorySource, reads: &[&str]) -> Result<String> {
     let mut sources: Vec<Box<dyn Source>> = Vec::new(alloc);
     sources.push(Box::new(alloc, ClosedSource::new())?)?;
     sources.push(Box::new(alloc, source)?)?;
-    Ok(sources)
+    reads_text(alloc, &mut sources, reads)
 }
 
-/// What reads of a closed source and of this one give.
-fn source_text(alloc: Global, source: MemorySource, reads: &[&str]) -> Result<String> {
-    let mut sources = two_sources(alloc, source)?;
+/// What these reads of some sources give.
+fn reads_text(alloc: Global, sources: &mut Vec<Box<dyn Source>>, reads: &[&str]) -> Result<String> {
     let mut text = String::new(alloc);
     for read in reads {
         let (at, room) = read.split_once(':').context("no room")?;
         tell_read(
             &mut text,
-            &mut sources,
+            sources,
             at.parse::<usize>()?,
             room.parse::<usize>()?,
         )?;
