@@ -380,7 +380,7 @@ fn corner_in(word: &str) -> Corner
 {
     let placing = placing_of(word).unwrap();
     Corner {
-        x: u32::from(placing.x),
-        y: u32::from(placing.y),
+        x: placing.x,
+        y: placing.y,
     }
 }
