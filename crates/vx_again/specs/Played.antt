@@ -6,8 +6,8 @@ use Rattle.vx_pic.specs.Readings.{Picture}
 use Rattle.vx_pic.specs.Rules.{Readers}
 use Rattle.vx_again.specs.Sources.{CanBeMerged}
 
--- Those of files that can be, each for itself, can be as they are played: the first ones, before any others of these files, where each that
--- is joined may come first behind a join.
+-- Where those of each file can be, so can the first ones of all as they are played, one file behind another, if each of these that is joined
+-- may come first behind a join.
 abbrev pub PlayedCanBeMerged : Type 0
 PlayedCanBeMerged =
     (R : Readers) (joins : ℕ → Bool) (files : List (List Picture)) (later ps : List Picture) → AreJoined joins files

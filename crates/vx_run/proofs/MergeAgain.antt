@@ -72,7 +72,7 @@ pub record IsOfFirst (ss : List Stream) (n : ℕ) (round : List Parts) : Type 0 
   pub last : lasts (map (first_of (suc n)) ss) ≡ map (λ (q : Picture). let o : Option Picture = Some q in o) pictures
   pub before : earlier (map (first_of (suc n)) ss) ≡ map (first_of n) ss
 
-pub picture_of : (o : Option Picture) (q : Parts) → option_map parts_of o ≡ Some q → (p : Picture) × (o ≡ Some p) × (parts_of p ≡ q)
+picture_of : (o : Option Picture) (q : Parts) → option_map parts_of o ≡ Some q → (p : Picture) × (o ≡ Some p) × (parts_of p ≡ q)
 picture_of None q is = absurd (cc)
 picture_of (Some p) q is = (p, refl, same_Some (parts_of p) q is)
 
@@ -148,7 +148,7 @@ written_again units can law R corners level ss done of are same told plans =
     record { pictures = planned_of done; merge = merge; source = of_source R (bytes_of done) (planned_of done) merge.read merge.short }
 
 -- each stream of a list is as it is by its index
-pub all_streams : (P : Stream → Type 0) (ss : List Stream) → ((k : ℕ) (s : Stream) → slice_get ss k ≡ Some s → P s) → AllByRecursion P ss
+all_streams : (P : Stream → Type 0) (ss : List Stream) → ((k : ℕ) (s : Stream) → slice_get ss k ≡ Some s → P s) → AllByRecursion P ss
 all_streams P [] each = tt
 all_streams P (s ∷ ss) each = (each zero s refl, all_streams P ss (λ k. each (suc k)))
 

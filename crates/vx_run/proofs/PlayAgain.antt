@@ -31,7 +31,7 @@ use Rattle.vx_run.specs.MergeAgain.{IsMergedAgain, IsToldBy, first_of}
 use Rattle.vx_run.specs.Play.{ArePlayed, ArePlayedOf, EndsPlayed, PlayedIsReadAgain, PlaysBy, begins_in, file_in, is_join, marked, pictures_in, played_first, played_whole, region_stream, region_streams}
 use Rattle.vx_run.specs.Rounds.{AreTold, GoesOn, IsRound, Stream, picture_in}
 use Rattle.vx_run.specs.inner.Playing.{PlaysRounds}
-use Rattle.vx_run.proofs.MergeAgain.{all_first, all_told, first_front, first_more, picture_of, round_of, told_can}
+use Rattle.vx_run.proofs.MergeAgain.{all_first, all_told, first_front, first_more, round_of, told_can}
 use Rattle.vx_run.proofs.Once.{round_there}
 use Rattle.vx_run.proofs.ReadAgain.{of_source}
 use Rattle.vx_run.proofs.RegionRounds.{any_there, many_streams, of_each}
@@ -147,15 +147,17 @@ each_starts corners round (inl none) k within = can_start (picture_at round k) (
 each_starts corners round (inr first) k within = absurd (cc)
 
 -- the picture of stream k
+part_there : (o : Option Picture) (q : Parts) → option_map parts_of o ≡ Some q → (p : Picture) × (o ≡ Some p) × ((let r : Option Parts = Some q in r) ≡ Some (parts_of p))
+part_there None q is = absurd (cc)
+part_there (Some p) q is = (p, refl, sym is)
+
 round_picture : (ss : List Stream) (n : ℕ) (round : List Parts) (k : ℕ) (s : Stream) → IsRound ss n round → slice_get ss k ≡ Some s
     → (p : Picture) × (picture_in n s ≡ Some p) × (slice_get round k ≡ Some (parts_of p))
 round_picture [] n round k s is at = absurd (cc)
 round_picture (t ∷ ss) n [] k s is at = absurd (omega (arith, ap (λ l. length l) is))
 round_picture (t ∷ ss) n (q ∷ round) zero s is at =
     let here : option_map parts_of (picture_in n t) ≡ Some q = cc in
-    let p = picture_of (picture_in n t) q here in
-    let is_there : picture_in n s ≡ Some p.0 = subst (λ (x : Stream). picture_in n x ≡ Some p.0) (same_Some t s at) p.1 in
-    (p.0, is_there, ap (λ (x : Parts). let o : Option Parts = Some x in o) (sym p.2))
+    part_there (picture_in n s) q (subst (λ (x : Stream). option_map parts_of (picture_in n x) ≡ Some q) (same_Some t s at) here)
 round_picture (t ∷ ss) n (q ∷ round) (suc k) s is at =
     let rest : IsRound ss n round = cc in
     round_picture ss n round k s rest at

@@ -1,5 +1,5 @@
 -- The steps of rounds that are played, as the functions of `play` answer them.
-use Rattle.std.proofs.Common.{◌≡◌, ◌≢◌, ℕ, zero, suc, ◌+◌, ◌<◌, ◌≤◌, ◌⊎◌, List, [], ◌∷◌, ◌∙◌, Option, Some, None, Result, Ok, Err, Bool, true, false, length, map, slice_get, slice_set, inl, inr, sym, ap, refl, subst, arith}
+use Rattle.std.proofs.Common.{◌≡◌, ◌≢◌, ℕ, ◌+◌, ◌<◌, ◌⊎◌, List, [], ◌∙◌, Option, Some, None, Result, Ok, Err, Bool, true, false, length, map, slice_get, slice_set, inl, inr, sym, ap, refl, subst, arith}
 use Rattle.std.specs.Prelude.{replicate, slice_index}
 use Rattle.std.specs.Bool.{OnTrue, OnFalse}
 use Rattle.std.proofs.lemmas.Bool.{OnTrue_at, OnFalse_at}
@@ -24,7 +24,7 @@ use Rattle.vx_run.specs.Merge.{length_refused}
 use Rattle.vx_run.specs.Play.{too_many_files}
 use Rattle.vx_run.specs.inner.Advancing.{GoesBy, IsUnfed, OfAll}
 use Rattle.vx_run.specs.inner.Merging.{stop_in}
-use Rattle.vx_run.specs.inner.Playing.{AdvancesRegions, AreFew, GoesOn, HasAsked, HasPlayed, IsAt, IsPlaced, PlaysRound, PlaysRounds, SameBut, SameFiles, StopsAt, WentOn, WritesRound}
+use Rattle.vx_run.specs.inner.Playing.{AdvancesRegions, AreFew, GoesOn, HasAsked, HasPlayed, IsAt, IsPlaced, PlaysRound, PlaysRounds, SameBut, SameFiles, WentOn, WritesRound}
 use Rattle.vx_run.proofs.Playing.{played_none}
 use Rattle.vx_run.proofs.RegionFiles.{at_first}
 

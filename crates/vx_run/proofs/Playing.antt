@@ -1,10 +1,10 @@
 -- What rounds that are played come to.
-use Rattle.std.proofs.Common.{◌≡◌, ◌≢◌, ℕ, zero, suc, ◌+◌, ◌*◌, ◌^◌, ◌<◌, ◌≤◌, ◌⊎◌, List, [], ◌∷◌, ◌++◌, ◌∙◌, Option, Some, None, Result, Ok, Err, Bool, true, false, not, cond, ◌&&◌, nat_lt, length, map, get_or, slice_get, inl, inr, sym, ap, refl, subst, arith}
+use Rattle.std.proofs.Common.{◌≡◌, ◌≢◌, ℕ, zero, suc, ◌+◌, ◌^◌, ◌<◌, ◌≤◌, ◌⊎◌, List, [], ◌∷◌, ◌++◌, ◌∙◌, Option, Some, Result, Ok, Err, Bool, true, false, not, ◌&&◌, nat_lt, length, map, get_or, slice_get, inl, inr, sym, ap, refl, subst, arith}
 use Rattle.std.specs.Prelude.{option_map, slice_index}
 use Rattle.std.specs.List.{All, AllByRecursion, list_any, range_with_len}
 use Rattle.std.proofs.Math.Nat.{le-max_left, le-max_right}
 use Rattle.std.proofs.lemmas.Bool.{lt-ltb}
-use Rattle.std.proofs.lemmas.List.{length-append, length-map}
+use Rattle.std.proofs.lemmas.List.{length-map}
 use Rattle.std.proofs.lemmas.Option.{slice_get_within, slice_get-get_or, same_Some}
 use Rattle.vx_bits.specs.declared.refusal.Refusal.{Refusal}
 use Rattle.vx_annexb.specs.Laws.{written}
@@ -30,19 +30,17 @@ use Rattle.vx_play.specs.Scheduled.{Scheduled, files_of, count_of as regions_in}
 use Rattle.vx_run.specs.declared.merge.Work.TheVariants.{Write}
 use Rattle.vx_run.specs.declared.stop.Stop.{Stop}
 use Rattle.vx_run.specs.declared.stop.Stop.TheVariants.{NotUnderstood, Mismatched, Refused, ReadFault, WriteFault, NoMemory}
-use Rattle.vx_run.specs.Change.{Change, Sources, change, sources_change, source_at, HasNoFault, Gains}
+use Rattle.vx_run.specs.Change.{Change, Sources, change, sources_change, source_at, Gains}
 use Rattle.vx_run.specs.Conclusion.{Outcome}
 use Rattle.vx_run.specs.Merge.{bytes_of, length_refused, GainsInto}
-use Rattle.vx_run.specs.Play.{ArePlayed, ArePlayedFor, ArePlayedInRound, ArePlayedOf, ComesAt, EndsPlayed, IsBehind, OthersArePlayed, PassesWhere, at_file, at_round, begins_in, count_of, is_join, marked, pictures_in, play_telling, region_stream, region_streams, refused_file}
+use Rattle.vx_run.specs.Play.{ArePlayedFor, ArePlayedInRound, ArePlayedOf, ComesAt, EndsPlayed, IsBehind, OthersArePlayed, PassesWhere, at_file, at_round, begins_in, count_of, is_join, marked, pictures_in, play_telling, region_stream, region_streams, refused_file}
 use Rattle.vx_run.specs.Rounds.{Stream, picture_in, AllEnded, AreTold, GoesOn, HasEnded, IsRead, IsReadOut, IsRound, NoneRefused, OfEach, StopsIn, by_round, by_stream, behind_units, in_round}
-use Rattle.vx_run.specs.inner.Merging.{DoesRound}
-use Rattle.vx_run.specs.inner.Advancing.{GoesBy}
-use Rattle.vx_run.specs.inner.Playing.{AdvancesRegions, AllRead, ArePlaced, Ends, GoesOn as GoesFrom, HasPlayed, HasTakenSo, IsAt, IsCut, IsLost, IsPlaced, PlaysRound, PlaysRounds, StopsAt, Takes, Went, WentOn, WritesRound}
+use Rattle.vx_run.specs.inner.Playing.{AdvancesRegions, AllRead, HasPlayed, HasTakenSo, IsPlaced, PlaysRound, PlaysRounds, StopsAt, Takes, Went, WentOn, WritesRound}
 use Rattle.vx_run.proofs.Advancing.{each_holds, length_stops, unread}
 use Rattle.vx_run.proofs.Gained.{Gains-nothing}
 use Rattle.vx_run.proofs.Indexed.{any_default, choose, mapped_at, same_lists, some_at, where_is}
-use Rattle.vx_run.proofs.RegionFiles.{AreOfRegion, at_first, at_read, behind_current, behind_of, behind_read, few_files, file_has, files_are, out_out, out_read}
-use Rattle.vx_run.proofs.RegionRounds.{any_moved, at_for, behind_count, cut_told, ends_in, ends_told, flags_ended, flags_first, flags_kept, many_streams, of_each, stream_at, taken_one, takes_in, takes_told}
+use Rattle.vx_run.proofs.RegionFiles.{AreOfRegion, at_read, behind_current, behind_of, behind_read, few_files, file_has, files_are, out_out, out_read}
+use Rattle.vx_run.proofs.RegionRounds.{any_moved, at_for, behind_count, cut_told, ends_in, ends_told, flags_ended, flags_first, many_streams, of_each, stream_at, takes_in, takes_told}
 use Rattle.vx_run.proofs.Sources.{part_in, takes_read}
 use Rattle.vx_run.proofs.Working.{did_front, did_nothing, did_one}
 
