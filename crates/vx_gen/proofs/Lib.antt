@@ -3,6 +3,7 @@ pub mod Below
 pub mod Clear
 pub mod Drawing
 pub mod Headers
+pub mod InOrder
 pub mod Laid
 pub mod Making
 pub mod Next

@@ -1,6 +1,6 @@
 //! Laws of generated streams: functions that do nothing, each with a law as its contract.
 ghost use Rattle.vx_gen.specs.Laws.{GeneratedAreRead, PlannedAreShown};
-ghost use Rattle.vx_gen.specs.Rounds.{GeneratedBreakNoRule};
+ghost use Rattle.vx_gen.specs.Rounds.{CornersAreThere, GeneratedBreakNoRule, PlannedAreSoMany, PlannedMakeRounds};
 
 use vx_annexb::unescaped_joins;
 use vx_pic::{readers_are_unique, written_has_pictures, written_reads_again};
@@ -28,4 +28,15 @@ pub fn planned_are_shown()
 /// Side by side these pictures break no rule on merges.
 pub fn generated_break_no_rule()
     ensures { GeneratedBreakNoRule }
+{}
+
+/// The corners at which they stand can be those of a merge.
+pub fn corners_are_there()
+    ensures { CornersAreThere }
+{}
+
+/// These pictures make the rounds of a merge.
+pub fn planned_make_rounds()
+    ensures count { PlannedAreSoMany }
+    ensures rounds { PlannedMakeRounds }
 {}
