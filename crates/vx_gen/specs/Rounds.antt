@@ -1,11 +1,13 @@
 -- Generated streams merged side by side.
-use Rattle.std.specs.Prelude.{◌≡◌, ℕ, ◌+◌, ◌*◌, ◌<◌, ◌≤◌, List, length, map, option_map, reverse, slice_get, Some, None}
+use Rattle.std.specs.Prelude.{◌≡◌, ℕ, ◌+◌, ◌*◌, ◌<◌, ◌≤◌, List, [], ◌∷◌, length, map, option_map, reverse, slice_get, Some, None}
 use Rattle.std.specs.List.{range_with_len}
+use Rattle.vx_bits.specs.declared.refusal.Refusal.{Refusal}
 use Rattle.vx_pic.specs.Parts.{Parts, parts_of}
 use Rattle.vx_pic.specs.Readings.{Picture}
 use Rattle.vx_pic.specs.Resident.{planned_of}
+use Rattle.vx_pic.specs.Written.{Plan}
 use Rattle.vx_merge.specs.declared.corner.Corner.{Corner}
-use Rattle.vx_merge.specs.Merging.{AreCorners}
+use Rattle.vx_merge.specs.Merging.{AreCorners, IsBarred, Passes}
 use Rattle.vx_merge.specs.Rules.{rules_of}
 use Rattle.vx_merge.specs.Verdict.{IsVerdict}
 use Rattle.vx_gen.specs.Pictures.{plans}
@@ -48,3 +50,15 @@ PlannedMakeRounds = (seed pictures sources p : ℕ) → p < pictures
 abbrev pub GeneratedBreakNoRule : Type 0
 GeneratedBreakNoRule = (seed pictures sources p : ℕ) → 1 ≤ sources → sources ≤ 16
     → IsVerdict sources (rules_of (corners sources) (round seed pictures sources p)) None
+
+-- The first rounds, as many as plans, are written so, each behind those before it; the latest plan comes first.
+abbrev pub AreGeneratedRounds : (seed pictures sources : ℕ) → List Plan → Type 0
+AreGeneratedRounds seed pictures sources [] = Unit {0}
+AreGeneratedRounds seed pictures sources (p ∷ done) =
+    Passes (corners sources) None (round seed pictures sources (length done)) done p × AreGeneratedRounds seed pictures sources done
+
+-- The next one is never barred: no rule is broken, and no limit.
+abbrev pub GeneratedAreNotBarred : Type 0
+GeneratedAreNotBarred = (seed pictures sources : ℕ) (done : List Plan) (r : Refusal) → 1 ≤ sources → sources ≤ 16 → length done < 1000
+    → AreGeneratedRounds seed pictures sources done
+    → ¬ IsBarred (corners sources) None (round seed pictures sources (length done)) done r
