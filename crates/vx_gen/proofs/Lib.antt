@@ -9,6 +9,7 @@ pub mod Laid
 pub mod Lengths
 pub mod Limits
 pub mod Making
+pub mod Merges
 pub mod Next
 pub mod Pps
 pub mod Reading

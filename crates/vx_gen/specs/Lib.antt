@@ -2,6 +2,7 @@
 pub mod Draws
 pub mod Laws
 pub mod Local
+pub mod Merges
 pub mod Pictures
 pub mod Rounds
 pub mod Shown

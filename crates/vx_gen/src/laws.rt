@@ -1,9 +1,11 @@
 //! Laws of generated streams: functions that do nothing, each with a law as its contract.
 ghost use Rattle.vx_gen.specs.Laws.{GeneratedAreRead, PlannedAreShown};
+ghost use Rattle.vx_gen.specs.Merges.{GeneratedAreMerged};
 ghost use Rattle.vx_gen.specs.Rounds.{CornersAreThere, GeneratedAreNotBarred, GeneratedBreakNoRule, PlannedAreSoMany, PlannedMakeRounds};
 ghost use Rattle.vx_gen.specs.Local.{SlicesAreShort};
 
-use vx_annexb::{escaped_is_short, unescaped_joins};
+use vx_again::{merge_is_read_again, pictures_can_be_merged};
+use vx_annexb::{escaped_is_short, unescaped_joins, units_can_stand};
 use vx_merge::verdict_is_one;
 use vx_pic::{readers_are_unique, written_has_pictures, written_reads_again};
 use vx_sh::spelling_is_read;
@@ -55,4 +57,14 @@ pub fn generated_are_not_barred()
     vx_sps::spelling_is_short();
     vx_pps::spelling_is_short();
     vx_ph::spelling_is_short();
+}
+
+/// Where all rounds are written, the bytes are read again as the merge of the streams, and each of its regions can be extracted.
+pub fn generated_are_merged()
+    ensures { GeneratedAreMerged }
+{
+    generated_are_read();
+    units_can_stand();
+    pictures_can_be_merged();
+    merge_is_read_again();
 }
