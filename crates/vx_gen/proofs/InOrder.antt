@@ -20,6 +20,11 @@ map_reverse f (x ∷ xs) =
     ap (map f) (reverse-append (x ∷ []) xs) ∙ map-append f (reverse xs) (x ∷ [])
     ∙ ap (λ ys. ys ++ f x ∷ []) (map_reverse f xs) ∙ sym (reverse-append (f x ∷ []) (map f xs))
 
+pub at_place : {A : Type 0} (f : ℕ → A) (n k : ℕ) → k < n → slice_get (map f (range_with_len 0 n)) k ≡ Some (f k)
+at_place f n k low =
+    let long = length-map-range_with_len f 0 n in
+    slice_get-get_or (map f (range_with_len 0 n)) k (f k) (omega (arith, long, low)) ∙ ap Some (get_or-map-range_with_len f 0 n k k (f k) low (omega arith))
+
 -- ---- pictures
 
 shown_in_order : (seed n k m : ℕ) → reverse (shown seed n k m) ≡ map (λ p. parts seed (n + 5 * p) k p) (range_with_len 0 m)
@@ -30,16 +35,13 @@ shown_in_order seed n k (suc m) =
     ∙ sym (map-range_with_len_more part 0 m m (omega arith)) ∙ ap (λ (c : ℕ). map part (range_with_len 0 c)) (add-one m)
 
 -- picture p of source k
-picture_in : (seed pictures k p : ℕ) → p < pictures
+pub picture_in : (seed pictures k p : ℕ) → p < pictures
     → option_map parts_of (slice_get (reverse (planned seed pictures k)) p) ≡ Some (parts seed (5 * (k * pictures) + 5 * p) k p)
 picture_in seed pictures k p low =
     let n : ℕ = 5 * (k * pictures) in
-    let part : ℕ → Parts = λ p. parts seed (n + 5 * p) k p in
-    let long = length-map-range_with_len part 0 pictures in
     sym (slice_get-map parts_of (reverse (planned seed pictures k)) p)
     ∙ ap (λ qs. slice_get qs p) (map_reverse parts_of (planned seed pictures k) ∙ ap reverse (are_shown seed n k pictures) ∙ shown_in_order seed n k pictures)
-    ∙ slice_get-get_or (map part (range_with_len 0 pictures)) p (part p) (omega (arith, long, low))
-    ∙ ap Some (get_or-map-range_with_len part 0 pictures p p (part p) low (omega arith))
+    ∙ at_place (λ i. parts seed (n + 5 * i) k i) pictures p low
 
 pub make_rounds : PlannedMakeRounds
 make_rounds seed pictures sources p low = from 0 sources
