@@ -4,16 +4,16 @@
 usage: scripts/make-cases.py VECTORS STREAMS
 
 It writes crates/vx_cases/stdin and crates/vx_cases/stdout. No expected value is taken from the program: the worked cases stand in
-worked_cases.py, told_cases.py, fed_cases.py, verify_cases.py, hostile_cases.py, play_cases.py and explain_cases.py, and VECTORS and
-STREAMS are folders.
+worked_cases.py, told_cases.py, fed_cases.py, verify_cases.py, hostile_cases.py, play_cases.py, trial_cases.py and explain_cases.py,
+and VECTORS and STREAMS are folders.
 
 In merge.txt of VECTORS a case is a line `case N merge WORDS`, with the number of a source behind each `=`, a line `source BYTES` for each
 source in hexadecimal, and a line `status=S err=LINE out=BYTES` of what `merge` comes to, with blanks of LINE as `_` and `-` for none. In
 streams.txt a stream is a line `stream N` and a line for each NAL unit, which begins with its bytes in hexadecimal; each unit stands after
 00 00 00 01. A line of extract.txt is `stream N WORDS status=S err=LINE out=BYTES`. In show.txt a stream is a line `stream N status=S
 err=LINE`, and the lines that are shown of it. A case of verify.txt is as one of merge.txt, with the number of the finished stream behind
-`verify merge`, and `out` as a text; one of play.txt is as one of merge.txt. MANIFEST.json of STREAMS names families of streams, with their corners, and the file that
-each is merged to.
+`verify merge`, and `out` as a text; one of play.txt is as one of merge.txt. A line of trial.txt is `SEED SOURCES PICTURES | LINE`. MANIFEST.json of STREAMS
+names families of streams, with their corners, and the file that each is merged to.
 """
 import os
 import sys
@@ -25,6 +25,7 @@ from hostile_cases import add_hostile
 from plain_streams import stream
 from play_cases import add_model_played, add_played
 from told_cases import add_told
+from trial_cases import add_trials
 from verify_cases import add_family_compared, add_model_compared, add_verified
 from worked_cases import add_worked
 
@@ -111,6 +112,7 @@ def main(vectors, streams):
     add_model_compared(cases, os.path.join(vectors, "verify.txt"))
     add_played(cases)
     add_model_played(cases, os.path.join(vectors, "play.txt"))
+    add_trials(cases, os.path.join(vectors, "trial.txt"))
     add_explained(cases)
     cases.write(CRATE)
     print(f"{cases.count} cases, {len(cases.names)} streams")

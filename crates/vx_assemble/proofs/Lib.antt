@@ -8,6 +8,7 @@ pub mod Fronts
 pub mod Holding
 pub mod Again
 pub mod InForce
+pub mod InMemory
 pub mod Ordering
 pub mod KeptPicture
 pub mod SameItems

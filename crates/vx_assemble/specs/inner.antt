@@ -14,5 +14,6 @@ pub mod Opening
 pub mod Changes
 pub mod Answered
 pub mod Feed
+pub mod Memory
 pub mod Slices
 pub mod Lent

@@ -219,7 +219,7 @@ module _ (count : ℕ) (p : ℕ → Bool) where
   at_number : (k d : ℕ) → k < count → get_or (range_with_len 0 count) k d ≡ k
   at_number k d within = omega (arith, get_or-range_with_len 0 count k d within)
 
-  any_there : (k : ℕ) → k < count → p k ≡ true → list_any p (range_with_len 0 count) ≡ true
+  pub any_there : (k : ℕ) → k < count → p k ≡ true → list_any p (range_with_len 0 count) ≡ true
   any_there k within is =
       let fits : k < length (range_with_len 0 count) = omega (arith, within, length-range_with_len 0 count) in
       list_any_at p (range_with_len 0 count) k 0 fits (ap p (at_number k 0 within) ∙ is)

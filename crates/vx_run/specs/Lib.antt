@@ -12,5 +12,6 @@ pub mod ReadAgain
 pub mod Rounds
 pub mod Run
 pub mod Show
+pub mod Trial
 pub mod Verify
 pub mod inner

@@ -12,6 +12,7 @@ mod program;
 mod rounds;
 mod show;
 mod stop;
+mod trial;
 mod verify;
 mod words;
 

@@ -1,0 +1,48 @@
+-- A feed of bytes in memory, as its callers see it: as a feed that was given all bytes that may be looked at; and by the relation
+-- `HasSeen` between it, the bytes, and the pictures that it came to, the latest first. That relation begins with none of these; `Sees`
+-- says what it is worth.
+use Rattle.std.specs.Prelude.{◌≡◌, ℕ, ◌^◌, nat_le, cond, List, ◌∷◌, ◌++◌, length, Option, Some, None, Result, Ok, Err}
+use Rattle.vx_annexb.specs.ByteStream.{source_limit, UnitPlace}
+use Rattle.vx_annexb.specs.Held.{Held as Splitting, is_all}
+use Rattle.vx_annexb.specs.Reading as reader
+use Rattle.vx_annexb.specs.declared.unit_reader.Closed.{Closed}
+use Rattle.vx_annexb.specs.declared.unit_reader.Closed.TheVariants as closed
+use Rattle.vx_pic.specs.Readings.{Reading, Picture, pictures}
+use Rattle.vx_pic.specs.Rules.{Readers}
+use Rattle.vx_pic.specs.Bytes.{Ending}
+use Rattle.vx_pic.specs.Parts.{parts_of}
+use Rattle.vx_assemble.specs.declared.fault.AssembleFault.{AssembleFault}
+use Rattle.vx_assemble.specs.declared.fault.AssembleFault.TheVariants as faults
+use Rattle.vx_assemble.specs.declared.feed.Step.{Step}
+use Rattle.vx_assemble.specs.declared.feed.Step.TheVariants.{Picture as ToPicture, End as ToEnd}
+use Rattle.vx_assemble.specs.Held.{lent_by}
+use Rattle.vx_assemble.specs.Feed.{Feeding, seen_of, HasFed}
+
+-- why no more is read of a source that gave so many bytes: they are all there are, or more than may be looked at
+abbrev pub closed_at : ℕ → Closed
+closed_at n = cond (nat_le n (2 ^ 40)) closed.End closed.TooLong
+
+-- its source, of which so many bytes were given at once
+abbrev pub given : Splitting → ℕ → reader.Reading
+given h n = record { splitter = h; taken = n; closed = Some (closed_at n) }
+
+-- these are pictures of the bytes, and those that it came to
+pub record HasSeen (R : Readers) (f : Feeding) (bytes : List ℕ) (ps : List Picture) : Type 0 where
+  pub front : List ℕ
+  pub places : List UnitPlace
+  pub before : List Reading
+  pub fed : HasFed R f front places before
+  pub seen : seen_of front ≡ seen_of bytes
+  pub all : is_all f.reader.splitter ≡ nat_le (length bytes) source_limit
+  pub done : pictures before ≡ ps
+
+-- It went on in bytes that have the pictures qs and this ending, the latest picture first, behind ps: to their next picture, which it
+-- lends; or to their end, which comes behind all of them; or it was refused, behind all of them, for what ends them. For want of memory
+-- nothing is said.
+abbrev pub Sees : Readers → List ℕ → List Picture → Option Ending → List Picture → Feeding → Result Step AssembleFault → Type 0
+Sees R bytes qs ending ps new (Ok ToPicture) =
+    (p : Picture) × HasSeen R new bytes (p ∷ ps) × ((later : List Picture) × (qs ≡ later ++ p ∷ ps)) × (lent_by new.assembler ≡ parts_of p)
+Sees R bytes qs ending ps new (Ok ToEnd) = HasSeen R new bytes ps × (qs ≡ ps) × (ending ≡ None)
+Sees R bytes qs ending ps new (Err faults.Memory) = Unit {0}
+Sees R bytes qs ending ps new (Err (faults.Refused r)) = (qs ≡ ps) × (ending ≡ Some (record { units = new.units; refusal = r }))
+Sees R bytes qs ending ps new (Err (faults.Stopped first)) = ⊥
