@@ -12,7 +12,8 @@ source in hexadecimal, and a line `status=S err=LINE out=BYTES` of what `merge` 
 streams.txt a stream is a line `stream N` and a line for each NAL unit, which begins with its bytes in hexadecimal; each unit stands after
 00 00 00 01. A line of extract.txt is `stream N WORDS status=S err=LINE out=BYTES`. In show.txt a stream is a line `stream N status=S
 err=LINE`, and the lines that are shown of it. A case of verify.txt is as one of merge.txt, with the number of the finished stream behind
-`verify merge`, and `out` as a text; one of play.txt is as one of merge.txt. A line of trial.txt is `SEED SOURCES PICTURES | LINE`. MANIFEST.json of STREAMS
+`verify merge`, and `out` as a text; one of play.txt is as one of merge.txt. A line of trial.txt is `SEED SOURCES PICTURES | LINE`, or
+`generate SEED SOURCES PICTURES source K BYTES`. MANIFEST.json of STREAMS
 names families of streams, with their corners, and the file that each is merged to.
 """
 import os
