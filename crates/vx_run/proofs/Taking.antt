@@ -130,9 +130,9 @@ pub advances_at : (R : Readers) (g : List ℕ) (units : List UnitPlace) (reading
 advances_at R g units readings f {l = l} {l' = l'} {k = k} {n' = n'} {result = result} h p q =
     subst (λ (x : Option (List ℕ)). Advances R g units readings f x l' k n' result) p (subst (λ (y : ℕ). Advances R g units readings f l l' y n' result) q h)
 
-pub reads_at : (R : Readers) (g : List ℕ) (units : List UnitPlace) (readings : List Reading) (f : Feeding) {l m l' : Option (List ℕ)} {n k n' : ℕ} {result : Result (Unit {0}) ReadFault}
+pub reads_at : (R : Readers) (g : List ℕ) (units : List UnitPlace) (readings : List Reading) (f : Feeding) (l' : Option (List ℕ)) (n' : ℕ) (result : Result (Unit {0}) ReadFault) {l m : Option (List ℕ)} {n k : ℕ}
     → ReadsOn R g units readings f l l' n n' result → l ≡ m → n ≡ k → ReadsOn R g units readings f m l' k n' result
-reads_at R g units readings f {l = l} {l' = l'} {k = k} {n' = n'} {result = result} h p q =
+reads_at R g units readings f l' n' result {l = l} {k = k} h p q =
     subst (λ (x : Option (List ℕ)). ReadsOn R g units readings f x l' k n' result) p (subst (λ (y : ℕ). ReadsOn R g units readings f l l' y n' result) q h)
 
 pub advanced_by : (R : Readers) (g : List ℕ) (units : List UnitPlace) (readings : List Reading) (f : Feeding) {l l' : Option (List ℕ)} {n n' : ℕ} (fault : FeedFault)
