@@ -20,6 +20,6 @@ pub returns-in-Err-SourceFailed-clause-answer : goal.returns-in-Err-SourceFailed
 returns-in-Err-SourceFailed-clause-answer g c R b units before fed = (
   refl,
   reads_at R b units before c.read.new.self _ _ (Err SourceFailed) (rw c.in-Err-SourceFailed.field-0-is at c.in-Err-SourceFailed.ensures.answer R b units before fed)
-  (ap (λ p. (g.dyn-1.0.entry p.0).1.bytes_left p.1) c.deref_box_mut-1.ensures.value.1)
-  (ap (λ p. (g.dyn-1.0.entry p.0).1.read_faults p.1) c.deref_box_mut-1.ensures.value.1),
+      (ap (λ p. (g.dyn-1.0.entry p.0).1.bytes_left p.1) c.deref_box_mut-1.ensures.value.1)
+      (ap (λ p. (g.dyn-1.0.entry p.0).1.read_faults p.1) c.deref_box_mut-1.ensures.value.1),
 )
