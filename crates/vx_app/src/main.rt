@@ -7,8 +7,9 @@ mod opened;
 #[cfg(test)]
 mod tests;
 
-ghost use Rattle.std.specs.Prelude.{◌≡◌, ◌≢◌};
+ghost use Rattle.std.specs.Prelude.{◌≡◌, ◌≢◌, ◌↔◌, IfOk};
 ghost use Rattle.std.specs.IoError.{error_kind};
+ghost use Rattle.vx_run.specs.Grammar.{IsUnderstood, texts};
 
 use crate::files::run_on_files;
 use std::alloc::AllocError;
@@ -51,7 +52,9 @@ fn status_without_words(error: &io::Error) -> u8
 }
 
 /// Runs the program on the files that the words name, and on the process's output.
-fn run_on_system(rt: &HostRuntime, words: &[String]) -> Result<u8, AllocError> {
+fn run_on_system(rt: &HostRuntime, words: &[String]) -> Result<u8, AllocError>
+    ensures { IfOk result (λ status. (status ≡ 2) ↔ ¬ IsUnderstood (texts words.now)) }
+{
     let Ok(stdout) = BufWriter::with_capacity(rt.alloc(), write_len(words), rt.stdout()) else {
         return Err(AllocError);
     };
