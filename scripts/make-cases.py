@@ -23,6 +23,7 @@ from case_lines import Cases, Expected, expected_of, family_merges, model_merges
 from explain_cases import add_explained
 from fed_cases import add_fed
 from hostile_cases import add_hostile
+from joined_streams import joined
 from plain_streams import stream
 from play_cases import add_model_played, add_played
 from told_cases import add_told
@@ -73,6 +74,15 @@ def add_model_streams(cases, folder):
                 cases.case(f"{' '.join(words[2:])} {name}", expected_of(line), *BYTEWISE)
 
 
+def add_joined(cases, folder):
+    """What an independent model shows of its streams, joined to one with ends of sequence between them."""
+    streams, shown = ({number: lines[1:] for number, lines in sections(os.path.join(folder, name)).items()}
+                      for name in ("streams.txt", "show.txt"))
+    stream, lines = joined(streams, shown)
+    cases.about("streams of an independent model joined to one: shown")
+    cases.case(f"show {cases.name(stream)}", Expected(out=lines.encode()))
+
+
 # The first fields of an SPS that have to be the same in all sources, with their place in its second byte.
 FIRST_FIELDS = ((102, 5, 7), (103, 3, 3), (104, 1, 3))
 
@@ -115,6 +125,7 @@ def main(vectors, streams):
     add_model_played(cases, os.path.join(vectors, "play.txt"))
     add_trials(cases, os.path.join(vectors, "trial.txt"))
     add_explained(cases)
+    add_joined(cases, vectors)
     cases.write(CRATE)
     print(f"{cases.count} cases, {len(cases.names)} streams")
 
