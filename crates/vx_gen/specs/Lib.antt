@@ -1,6 +1,8 @@
 -- What the contracts of this crate cite.
 pub mod Draws
 pub mod Laws
+pub mod Local
+pub mod Merges
 pub mod Pictures
 pub mod Rounds
 pub mod Shown
