@@ -1,16 +1,27 @@
 #!/bin/bash
-# Has each allocation fail in turn, in every test and in runs of the program, and counts what comes of it. Contracts
-# leave open when memory runs out; this shows that then nothing else changes. A test must fail for want of memory, and
-# `show` must answer 4 after the lines of whole units, `extract` and `merge` after what is written of whole pictures,
-# and `check` without its line; or each as ever, where it can do without. What is neither is printed, and makes the status 1.
-# No test of the gate: only how the C library is called is looked at.
-# Usage: scripts/fail-each-allocation.sh [CRATE|program ..]   (from the top of the repository; all crates and the program
-# if none is named; proves what it runs first, and needs cc; LAST=N stops after the first N allocations, 20,000 if left
-# out)
+# Has allocations fail, one a run, in every test, in runs of the program, and in pieces of what the programs of the gate are
+# asked, and counts what comes of it. Contracts leave open when memory runs out; this shows that then nothing else changes.
+# A test must fail for want of memory; `show` must answer 4 after the lines of whole units, `extract`, `merge` and `play`
+# after what is written of whole pictures, and what tells one thing before it has told it; of the programs of the gate one
+# line may tell of it, or they end with a front of their lines; or each goes as ever, where it can do without. What is
+# neither is printed, and makes the status 1. No test of the gate: only how the C library is called is looked at.
+#
+# Usage: scripts/fail-each-allocation.sh [SECONDS] [WHAT ..]
+# WHAT is `program`, a crate with tests, or a program of the gate; all of these if none is named.
+# SECONDS, 900 if left out, are dealt out among the runs, each getting its part of what is left. Where that isn't enough for
+# each allocation of a run, one of so many fails, as its line tells; of a program of the gate the first 24 pieces are run
+# (PIECES=N: N pieces), of which quick_pieces.py says that they have some of each part.
+# What is run is proved and built first, which takes no part of the time, by `rt test` and `rt run`; with BUILT=FOLDER it is
+# what stands in FOLDER/crates/*/out instead, and nothing is proved. Needs cc.
 set -euo pipefail
+cd "$(dirname "$0")/.."
 work=$(mktemp -d)
 trap 'rm -rf "$work"' EXIT
-neither=0
+seconds=900
+case ${1:-} in [0-9]*) seconds=$1; shift ;; esac
+built=${BUILT:-$PWD}
+gate='vx_calls vx_vectors vx_cases'
+neither=0 jobs=0 counting=1 input=/dev/null
 
 cat > "$work/fail.c" <<'C'
 // The allocations of the C library, of which the one whose number is FAIL_ALLOC gives nothing. COUNT tells how many.
@@ -34,7 +45,15 @@ cc -shared -fPIC -O1 -o "$work/fail.so" "$work/fail.c"
 run() {
   status=0
   { timeout 60 env FAIL_ALLOC="$1" COUNT="$work/count" LD_PRELOAD="$work/fail.so" "${@:2}" \
-    > "$work/out" 2> "$work/err" || status=$?; } 2> "$work/shell"
+    < "$input" > "$work/out" 2> "$work/err" || status=$?; } 2> "$work/shell"
+}
+
+# ---- what want of memory may come to
+
+# Whether `out` is a front of what is written else.
+is_front() {
+  length=$(stat -c %s "$work/out")
+  cmp -s -n "$length" "$work/out" "$work/whole"
 }
 
 # Whether a test failed for want of memory: by its error, or by an answer that it compares with another.
@@ -46,84 +65,169 @@ test_wants() {
   esac
 }
 
-# Whether the program did: status 4, a front of its lines, and no other line on standard error.
+# Whether the program answered 4 after a front of what it writes, and with no other line.
 program_wants() {
-  local length
-  length=$(stat -c %s "$work/out")
-  [ "$status" = 4 ] && cmp -s -n "$length" "$work/out" "$work/whole" && [ -z "$(tail -c1 "$work/out")" ] \
-    && { [ ! -s "$work/err" ] || [ "$(cat "$work/err")" = "no memory" ]; }
+  [ "$status" = 4 ] && is_front && { [ ! -s "$work/err" ] || [ "$(cat "$work/err")" = "no memory" ]; }
 }
 
-# Whether `extract` did, each of whose pictures has as many bytes as the first: status 4 after whole pictures.
+# Whether it did so after whole lines.
+lines_want() {
+  program_wants && [ -z "$(tail -c1 "$work/out")" ]
+}
+
+# Whether it did so and wrote nothing.
+nothing_wants() {
+  program_wants && [ "$length" = 0 ]
+}
+
+# Whether it did so after whole pictures: `ends` has the places behind each.
 stream_wants() {
-  local length
-  length=$(stat -c %s "$work/out")
-  [ "$status" = 4 ] && cmp -s -n "$length" "$work/out" "$work/whole" && [ $((length % picture)) = 0 ] \
-    && { [ ! -s "$work/err" ] || [ "$(cat "$work/err")" = "no memory" ]; }
+  program_wants && [[ " 0 $ends " = *" $length "* ]]
 }
 
-# Has each allocation of a command fail. WANTS judges what came of it.
+# Whether a program of the gate ended for want of memory after a front of its lines, or went on and told of it in one line:
+# of a case whose status is 4, with a front of what it writes, or of a sink that grows.
+gate_wants() {
+  if [ "$status" != 0 ]; then
+    is_front && [ "$(wc -l < "$work/err")" = 1 ] && grep -qE '(memory allocation failed|out of memory)$' "$work/err"
+    return
+  fi
+  diff --unchanged-line-format= --old-line-format=%L --new-line-format=%L "$work/whole" "$work/out" > "$work/lines"
+  [ "$(wc -l < "$work/lines")" = 2 ] && awk '
+    NR == 1 { sub(/.* out=/, ""); whole = $0 }
+    NR == 2 && /^status=4 err=(-|no_memory|[a-z_]*~) out=/ { sub(/.* out=/, ""); told = $0 == "-" || index(whole, $0) == 1 }
+    NR == 2 && /(^| )failed( |$)/ { told = 1 }
+    END { exit !told }' "$work/lines"
+}
+
+# ---- runs
+
+now() { echo "${EPOCHREALTIME/[.,]/}"; }
+
+# Has the n-th allocation of a command fail, and counts what comes of it, as WANTS judges.
+fail_one() {
+  local name=$1 wants=$2 n=$3; shift 3
+  run "$n" "$@"
+  if $wants; then memory=$((memory + 1))
+  elif [ "$status" = "$usual" ] && cmp -s "$work/out" "$work/whole" && cmp -s "$work/err" "$work/told"; then
+    ever=$((ever + 1))
+  else
+    neither=1
+    echo "$name, allocation $n: status $status, $(head -c 200 "$work/err")"
+  fi
+}
+
+# Has allocations of a command fail: each, or as many as its part of the time allows, by how long the last one takes.
 fail_each() {
-  local name=$1 wants=$2 memory=0 ever=0 usual count; shift 2
+  local name=$1 wants=$2 memory=0 ever=0 usual count begin part step=1 n; shift 2
+  if [ "$counting" = 1 ]; then jobs=$((jobs + 1)); return; fi
+  part=$(((end - $(now)) / jobs)) jobs=$((jobs - 1))
+  if [ "$part" -le 0 ]; then echo "$name: not tried, the time is over"; return; fi
   run 0 "$@"
   usual=$status count=$(cat "$work/count")
   mv "$work/out" "$work/whole"; mv "$work/err" "$work/told"
-  [ "$count" -le "${LAST:-20000}" ] || count=${LAST:-20000}
-  for ((n = 1; n <= count; n++)); do
-    run "$n" "$@"
-    if $wants; then memory=$((memory + 1))
-    elif [ "$status" = "$usual" ] && cmp -s "$work/out" "$work/whole" && cmp -s "$work/err" "$work/told"; then
-      ever=$((ever + 1))
-    else
-      neither=1
-      echo "$name, allocation $n: status $status, $(head -c 200 "$work/err")"
-    fi
-  done
-  echo "$name: $count allocations, want of memory at $memory, as ever at $ever"
+  begin=$(now)
+  [ "$count" = 0 ] || fail_one "$name" "$wants" "$count" "$@"
+  step=$((1 + count * ($(now) - begin) / part))
+  for ((n = (step + 1) / 2; n < count; n += step)); do fail_one "$name" "$wants" "$n" "$@"; done
+  echo "$name: $count allocations, one of $step failed, want of memory at $memory, as ever at $ever"
 }
 
-# Has each allocation of each test of a crate fail.
+# Proves and builds what `rt WORD ..` runs in a crate, once.
+build() {
+  [ "$counting" = 1 ] && [ -z "${BUILT:-}" ] || return 0
+  (cd "crates/$1" && rt "${@:2}" < /dev/null > "$work/log" 2>&1) || { tail -40 "$work/log"; exit 1; }
+}
+
+# Has allocations of each test of a crate fail.
 fail_tests() {
-  local tests=$PWD/crates/$1/out/$1_tests test
-  (cd "crates/$1" && rt test > "$work/log" 2>&1) || { tail -40 "$work/log"; exit 1; }
+  local tests=$built/crates/$1/out/$1_tests test
+  build "$1" test
   for test in $("$tests" --list | grep -o '^.*: test$' | cut -d' ' -f1); do
     fail_each "$1 ${test%:}" test_wants "$tests" "${test%:}"
   done
 }
 
-# Has each allocation of the program fail: over a stored stream, and one that is refused after the same units; over a
-# stored merge three times, which is shown, and of which a subpicture is taken, and one that is refused after it; over
-# two stored streams side by side, that can be put together, or can't, and the merge beside its sources.
-fail_program() {
-  local program=$PWD/crates/vx_app/out/vx_app data=crates/vx_app/data
-  (cd crates/vx_app && rt run -- show data/a.266 > "$work/log" 2>&1) || { tail -40 "$work/log"; exit 1; }
-  cp "$data/a.266" "$work/stored.266"
-  { cat "$work/stored.266"; printf '\0\0\1\x80\x79'; } > "$work/refused.266"
-  cat "$data/a.266" "$data/a.266" > "$work/twice.266"
-  cat "$data/a.266" "$work/twice.266" > "$work/thrice.266"
-  cat "$data/m.266" "$data/m.266" "$data/m.266" > "$work/merge.266"
-  { cat "$work/merge.266"; printf '\0\0\1\x80\x79'; } > "$work/cut.266"
-  picture=$("$program" extract 1 "$data/m.266" | wc -c)
-  fail_each "show, a stored stream" program_wants "$program" show "$work/stored.266"
-  fail_each "show, a refused stream" program_wants "$program" show "$work/refused.266"
-  fail_each "show, three pictures" program_wants "$program" show "$work/merge.266"
-  fail_each "show, three pictures and a broken unit" program_wants "$program" show "$work/cut.266"
-  fail_each "extract, a stored merge" stream_wants "$program" extract 1 "$work/merge.266"
-  fail_each "extract, a refused one" stream_wants "$program" extract 1 "$work/cut.266"
-  fail_each "check extract, a stored merge" program_wants "$program" check extract 1 "$work/merge.266"
-  fail_each "check merge, two stored streams" program_wants \
-    "$program" check merge "0,0=$work/twice.266" "64,0=$work/twice.266"
-  fail_each "check merge, one above the other" program_wants \
-    "$program" check merge "0,0=$work/twice.266" "32,0=$work/twice.266"
-  fail_each "verify merge, a stored merge" program_wants \
-    "$program" verify merge "$work/merge.266" "0,0=$work/thrice.266" "64,0=$work/thrice.266"
-  fail_each "verify merge, with a shorter source" program_wants \
-    "$program" verify merge "$work/merge.266" "0,0=$work/thrice.266" "64,0=$work/twice.266"
-  picture=$("$program" merge "0,0=$data/a.266" "64,0=$data/a.266" | wc -c)
-  fail_each "merge, two stored streams" stream_wants "$program" merge "0,0=$work/twice.266" "64,0=$work/twice.266"
+# Has allocations of a program of the gate fail, in pieces of its input. What a case keeps isn't told, so these are left out.
+fail_pieces() {
+  local piece
+  build "$1" run
+  mkdir -p "$work/$1"
+  scripts/quick_pieces.py cut "$1" "$work/$1"
+  for piece in $(grep -L '^keep ' "$work/$1"/* | head -n "${PIECES:-24}"); do
+    input=$piece
+    fail_each "$1, piece ${piece##*-}" gate_wants "$built/crates/$1/out/$1"
+  done
+  input=/dev/null
 }
 
-for name in ${*:-$(grep -rl '#\[test\]' crates/*/src | cut -d/ -f2 | sort -u) program}; do
-  if [ "$name" = program ]; then fail_program; else fail_tests "$name"; fi
-done
+# The streams that the program is run over: a stored one once, twice, three times, and before a broken unit; and a stored
+# merge three times, and before a broken unit.
+make_streams() {
+  local data=crates/vx_app/data broken='\0\0\1\x80\x79'
+  one=$work/stored.266 twice=$work/twice.266 thrice=$work/thrice.266 refused=$work/refused.266
+  merge=$work/merge.266 cut=$work/cut.266
+  cat "$data/a.266" > "$one"
+  cat "$one" "$one" > "$twice"
+  cat "$one" "$twice" > "$thrice"
+  { cat "$one"; printf "$broken"; } > "$refused"
+  cat "$data/m.266" "$data/m.266" "$data/m.266" > "$merge"
+  { cat "$merge"; printf "$broken"; } > "$cut"
+}
+
+# Has allocations of the commands over one file fail.
+fail_single() {
+  fail_each "show, a stored stream" lines_want "$program" show "$one"
+  fail_each "show, a refused stream" lines_want "$program" show "$refused"
+  fail_each "show, three pictures" lines_want "$program" show "$merge"
+  fail_each "show, three pictures and a broken unit" lines_want "$program" show "$cut"
+  picture=$("$program" extract 1 crates/vx_app/data/m.266 | wc -c)
+  ends="$picture $((2 * picture)) $((3 * picture))"
+  fail_each "extract, a stored merge" stream_wants "$program" extract 1 "$merge"
+  fail_each "extract, a refused one" stream_wants "$program" extract 1 "$cut"
+  fail_each "check extract, a stored merge" nothing_wants "$program" check extract 1 "$merge"
+}
+
+# Has allocations of the commands over several files fail. An end of sequence, which stands before what is joined, has 6 bytes.
+fail_several() {
+  fail_each "check merge, two stored streams" nothing_wants "$program" check merge "0,0=$twice" "64,0=$twice"
+  fail_each "check merge, one above the other" nothing_wants "$program" check merge "0,0=$twice" "32,0=$twice"
+  fail_each "verify merge, a stored merge" nothing_wants "$program" verify merge "$merge" "0,0=$thrice" "64,0=$thrice"
+  fail_each "verify merge, with a shorter source" nothing_wants "$program" verify merge "$merge" "0,0=$thrice" "64,0=$twice"
+  picture=$("$program" merge "0,0=$one" "64,0=$one" | wc -c)
+  ends="$picture $((2 * picture))"
+  fail_each "merge, two stored streams" stream_wants "$program" merge "0,0=$twice" "64,0=$twice"
+  ends="$picture $((2 * picture + 6))"
+  fail_each "play, two files beside one" stream_wants "$program" play "0,0=$one" "64,0=$twice" "0,0=$one"
+  fail_each "play, of which one is refused behind its picture" stream_wants \
+    "$program" play "0,0=$twice" "64,0=$one" "64,0=$refused"
+}
+
+# Has allocations of the program fail.
+fail_program() {
+  program=$built/crates/vx_app/out/vx_app
+  build vx_app run -- show data/a.266
+  make_streams
+  fail_single
+  fail_several
+  fail_each "--explain, a rule" nothing_wants "$program" --explain M15
+  if "$program" trial 7 4 10 > /dev/null 2>&1 || [ $? != 2 ]; then
+    fail_each "trial 7 4 10" nothing_wants "$program" trial 7 4 10
+  fi
+}
+
+# Has allocations of all that is named fail, or counts the runs that there are, behind building what they run.
+fail_all() {
+  local name
+  for name; do
+    if [ "$name" = program ]; then fail_program
+    elif [[ " $gate " = *" $name "* ]]; then fail_pieces "$name"
+    else fail_tests "$name"; fi
+  done
+}
+
+[ $# != 0 ] || set -- program $(grep -rl '#\[test\]' crates/*/src | cut -d/ -f2 | sort -u) $gate
+fail_all "$@"
+counting=0 end=$(($(now) + seconds * 1000000))
+fail_all "$@"
 exit "$neither"

@@ -5,10 +5,11 @@ import structure_cases as spelled
 from case_lines import Expected, units
 from fed_cases import long_picture
 from plain_streams import IDR_N_LP, PAYLOAD, PH, PPS, SPS, Header, partition, ph, pps, slice_unit, sps, stream, unit
+from play_cases import JOINED, PAIRS
 from small_streams import Writer
 from told_cases import (BROKEN, BROKEN_LINES, BYTEWISE, GRAY_PPS, GRAY_SETS, GRAY_SPS, TWICE, cut_line, end_rows, far_motion, given,
                         not_understood, picture_line, pps_line, sps_line, told)
-from worked_cases import A, BESIDE, EMPTY, I0, M, failed, gray, left, pair_pps, pair_sets, refused, right, wall
+from worked_cases import A, BESIDE, EMPTY, EOS_UNIT, I0, M, failed, gray, left, pair_pps, pair_sets, refused, right, wall
 
 # The longest code of ue(v) has this number.
 MOST = 2**32 - 2
@@ -42,22 +43,43 @@ def beside(cases, source):
     return cases.placed(BESIDE, (A, source))
 
 
+def behind(cases, source):
+    """The words that place two pictures side by side, and behind each of them another file: a picture, and a source on its right."""
+    return cases.placed(PAIRS, (A, A, A, source))
+
+
+def placed_everywhere(cases, words, expected, *settings):
+    """Files at corners of their own: a merge, its check, and what is played of them, which is the same."""
+    cases.checked(f"merge {words}", expected, *settings)
+    cases.case(f"play {words}", expected, *settings)
+
+
+def merged_everywhere(cases, corners, sources, *written):
+    """Sources that are merged to these units, also by `play`."""
+    expected = Expected(out=stream(*written))
+    cases.merged(corners, sources, expected)
+    cases.case(f"play {cases.placed(corners, sources)}", expected)
+
+
 def refused_everywhere(cases, source, line, lines=None):
-    """A source that is refused under each command, as source 1 of a merge and as file 2 of a comparison; and, where they are given, the
-    lines that are shown before.
+    """A source that is refused under each command, as source 1 of a merge, as file 2 of a comparison, and as file 3 that is played, of
+    region 1; and, where they are given, the lines that are shown before.
     """
     name, words = cases.name(source), beside(cases, source)
     if lines is not None:
         cases.case(f"show {name}", refused(line, lines))
     for command in ("extract", "check extract"):
         cases.case(f"{command} 0 {name}", refused(line))
-    for command in ("merge", "check merge"):
+    for command in ("merge", "check merge", "play"):
         cases.case(f"{command} {words}", refused(line.replace("source 0", "source 1")))
     cases.case(f"verify merge {cases.name(M)} {words}", refused(line.replace("source 0", "source 2")))
+    cases.case(f"play {behind(cases, source)}", refused(line.replace("source 0", "source 3"), M))
 
 
 def taken_everywhere(cases, source, lines=None):
-    """A source of a picture that is its own extraction, and can be merged alone; and, where they are given, the lines that are shown."""
+    """A source of a picture that is its own extraction, can be merged alone, and played twice; and, where they are given, the lines that
+    are shown.
+    """
     name = cases.name(source)
     if lines is not None:
         cases.case(f"show {name}", Expected(out=lines))
@@ -66,6 +88,8 @@ def taken_everywhere(cases, source, lines=None):
     cases.case(f"check merge 0,0={name}", checked())
     cases.case(f"merge 0,0={name}", Expected(), keep="whole")
     cases.case(f"verify merge whole 0,0={name}", verified())
+    cases.case(f"play 0,0={name} 0,0={name}", Expected(), keep="whole")
+    cases.case(f"verify merge whole 0,0={cases.name(source + EOS_UNIT + source)}", verified(2))
 
 
 # Numbers of a stream at the ends of their ranges.
@@ -88,7 +112,8 @@ def add_ends(cases):
     refused_everywhere(cases, messages, "L10 source 0 unit 0")
     long, _ = long_picture(2**23 - 3)
     cases.case(f"extract 0 {cases.name(long)}", refused("L2 source 0 unit 6"))
-    cases.case(f"check merge {beside(cases, long)}", refused("L2 source 1 unit 6"))
+    for command in ("check merge", "play"):
+        cases.case(f"{command} {beside(cases, long)}", refused("L2 source 1 unit 6"))
 
 
 def size_rows():
@@ -112,13 +137,13 @@ def add_sizes(cases):
     taken_everywhere(cases, largest, lines)
     alone = (sps(16_384, 16_384, 128, subpics=[(0, 0, 128, 128)]),
              pps(16_384, 16_384, partition=partition(128, [128], [128], 1)), ph(I0), left(I0))
-    cases.merged(("0,0",), (largest,), Expected(out=stream(*alone)))
+    merged_everywhere(cases, ("0,0",), (largest,), *alone)
     half = gray(width=8_192)
     wide = (sps(16_384, 64, subpics=[(0, 0, 128, 1), (128, 0, 128, 1)]),
             pps(16_384, 64, partition=partition(64, [128, 128], [1], 2, [("ue", 0)])), ph(I0), left(I0), right(I0))
-    cases.merged(("0,0", "8192,0"), (half, half), Expected(out=stream(*wide)))
-    cases.checked(f"merge {cases.placed(('0,0', '8192,0'), (half, gray(width=8_200)))}", refused("L6 picture 0"))
-    cases.checked(f"merge {cases.placed(('0,0', '0,8192'), (gray(height=8_192), gray(height=8_200)))}", refused("L6 picture 0"))
+    merged_everywhere(cases, ("0,0", "8192,0"), (half, half), *wide)
+    placed_everywhere(cases, cases.placed(("0,0", "8192,0"), (half, gray(width=8_200))), refused("L6 picture 0"))
+    placed_everywhere(cases, cases.placed(("0,0", "0,8192"), (gray(height=8_192), gray(height=8_200))), refused("L6 picture 0"))
     add_corners(cases)
 
 
@@ -126,12 +151,15 @@ def add_corners(cases):
     """Corners as far away as words can say."""
     cases.about("hostile: 64 regions with the same corner, which is the last one; corners at which a picture just fits in, and one further")
     words = cases.placed(["16383,16383"] * 64, [A] * 64)
-    cases.checked(f"merge {words}", refused("L6 picture 0"))
+    placed_everywhere(cases, words, refused("L6 picture 0"))
     cases.case(f"verify merge {cases.name(M)} {words}", refused("C1 picture 0 source 0"))
     cases.case(f"verify merge {cases.name(wall())} {words}", refused("C2 picture 0 source 1"))
     cases.checked(f"merge {words} 16383,16383={cases.name(A)}", refused("L4"), "fail all 0")
     for corner, line in (("16320,0", "M3"), ("16321,0", "L6"), ("0,16320", "M3"), ("0,16321", "L6")):
-        cases.checked(f"merge {corner}={cases.name(A)}", refused(f"{line} picture 0" + " source 0" * (line == "M3")))
+        placed_everywhere(cases, cases.placed((corner,), (A,)), refused(f"{line} picture 0" + " source 0" * (line == "M3")))
+    cases.about("hostile: 64 regions one below the other to the last row, and behind one of them a file that isn't reached")
+    corners = [f"16383,{16320 + k}" for k in range(64)]
+    cases.case(f"play {cases.placed([*corners, corners[0]], [A] * 65)}", refused("L6 picture 0"), "closed 64")
 
 
 def subpictures(width, height, **numbers):
@@ -206,7 +234,7 @@ def add_qps(cases):
     cases.about("hostile: the lowest QP and the largest one side by side")
     for one, other in ((0, 63), (63, 0)):
         slices = left(I0), right(I0, qp_delta=other - one)
-        cases.merged(BESIDE, (gray(qp=one), gray(qp=other)), Expected(out=stream(*pair_sets(one), ph(I0), *slices)))
+        merged_everywhere(cases, BESIDE, (gray(qp=one), gray(qp=other)), *pair_sets(one), ph(I0), *slices)
 
 
 def cycled(lsb_bits, cycle_bits, lsb, cycle):
@@ -231,8 +259,7 @@ def add_counts(cases):
         w = Writer(None)
         for code in header:
             w.u(*code)
-        written = stream(frame_sps(**numbers), pair_pps(), unit(PH, 0, w.closed()), left(I0), right(I0))
-        cases.merged(BESIDE, (source, source), Expected(out=written))
+        merged_everywhere(cases, BESIDE, (source, source), frame_sps(**numbers), pair_pps(), unit(PH, 0, w.closed()), left(I0), right(I0))
         for lsb, cycle in ((0, cycles), (2**bits - 1, 2 * cycles - 1)):
             _, _, source = cycled(bits, 32 - bits, lsb, cycle)
             refused_everywhere(cases, source, "S13 source 0 unit 2", lines_of(source, *SETS))
@@ -243,11 +270,10 @@ def add_sums(cases):
     cases.about("hostile: offsets of the window and DPB sizes as large as codes can say")
     window = MOST, MOST, MOST, MOST
     taken_everywhere(cases, gray(window=window))
-    written = stream(*pair_sets(window=window), ph(I0), left(I0), right(I0))
-    cases.merged(BESIDE, (gray(window=(MOST, 5, MOST, MOST)), gray(window=(3, MOST, MOST, MOST))), Expected(out=written))
-    sizes = MOST, MOST, MOST
-    written = stream(*pair_sets(dpb=sizes), ph(I0), left(I0), right(I0))
-    cases.merged(BESIDE, (gray(dpb=(MOST, 0, 1)), gray(dpb=(1, MOST, MOST))), Expected(out=written))
+    picture = ph(I0), left(I0), right(I0)
+    merged_everywhere(cases, BESIDE, (gray(window=(MOST, 5, MOST, MOST)), gray(window=(3, MOST, MOST, MOST))),
+                      *pair_sets(window=window), *picture)
+    merged_everywhere(cases, BESIDE, (gray(dpb=(MOST, 0, 1)), gray(dpb=(1, MOST, MOST))), *pair_sets(dpb=(MOST, MOST, MOST)), *picture)
     cases.about("hostile: cycles of long-term entries that add up past 2^32; motion from an entry that no list has")
     cycles = 0, MOST, 2
     words = cases.placed(BESIDE, (far_motion(0, cycles), far_motion(2, cycles)))
@@ -270,7 +296,7 @@ def add_slots(cases):
         source += [pps(64, 64, k % 64, k - 12), slice_unit(Header(kind, k % 64, lsb), inside=True)]
         written += [] if at == 66 else [pair_pps(k - 12, taken)]
         written += [ph(header), left(header), right(header)]
-    cases.checked(f"merge {cases.placed(BESIDE, [stream(*source)] * 2)}", Expected(out=stream(*written)))
+    placed_everywhere(cases, cases.placed(BESIDE, [stream(*source)] * 2), Expected(out=stream(*written)))
 
 
 def add_numbers(cases):
@@ -279,21 +305,28 @@ def add_numbers(cases):
     name = cases.name(A)
     for level in (0, 255):
         cases.case(f"extract --level {level} 0 {name}", Expected(out=gray(level=level)))
+        written = stream(*pair_sets(level=level), ph(I0), left(I0), right(I0))
+        for command in ("merge", "play"):
+            cases.case(f"{command} --level {level} {beside(cases, A)}", Expected(out=written))
     cases.checked(f"extract 999 {name}", refused("E2 picture 0"))
     cases.case(f"extract --tid 6 0 {name}", Expected(out=A))
     not_understood(cases, "extract 65536 a", "extract 4294967296 a", "extract 18446744073709551616 a", "extract --level 4294967296 0 a",
                    "extract --tid 4294967296 0 a", "merge --level 18446744073709551616 0,0=a", "merge 65536,0=a", "merge 0,4294967296=a",
-                   "check merge 0,18446744073709551616=a", "verify merge m 4294967296,0=a", "extract -1 a", "merge -1,0=a")
+                   "check merge 0,18446744073709551616=a", "verify merge m 4294967296,0=a", "extract -1 a", "merge -1,0=a",
+                   "play --level 18446744073709551616 0,0=a", "play 65536,0=a", "play 0,4294967296=a", "play -1,0=a",
+                   "play 0,0=a 0,18446744073709551616=a")
 
 
 # The first bytes of a stream.
 
 
-def second_cut(line):
-    """What source 1 of a merge is refused for, where alone it is refused for this, if anything."""
+def second_cut(line, picture=0, file=1):
+    """What file 1 of a merge is refused for, or another file of region 1, which begins with this picture, where alone it is refused for
+    this, if anything.
+    """
     if not line:
-        return "M1 picture 0 source 1"
-    return "M14 picture 0 source 1" if line[0] == "E" else line.replace("source 0", "source 1")
+        return f"M1 picture {picture} source 1"
+    return f"M14 picture {picture} source 1" if line[0] == "E" else line.replace("source 0", f"source {file}")
 
 
 def finished_cut(line, count):
@@ -305,13 +338,15 @@ def finished_cut(line, count):
 
 def add_cut(cases):
     """Two pictures side by side, of which the first bytes come alone."""
-    cases.about("hostile: a picture that is cut anywhere: checked, as source 1 of a merge, and as a finished stream")
+    cases.about("hostile: a picture that is cut anywhere: checked, as source 1 of a merge, as a finished stream, and as the second file of "
+                "region 1")
     for count in range(len(M) + 1):
         source, line = M[:count], cut_line(count)
         name = cases.name(source)
         cases.case(f"check extract 0 {name}", refused(line) if line else checked())
-        for command in ("merge", "check merge"):
+        for command in ("merge", "check merge", "play"):
             cases.case(f"{command} {beside(cases, source)}", refused(second_cut(line)))
+        cases.case(f"play {behind(cases, source)}", refused(second_cut(line, 1, 3), M))
         cases.case(f"verify merge {name} {cases.placed(BESIDE, (A, A))}", finished_cut(line, count))
 
 
@@ -321,16 +356,21 @@ def add_cut(cases):
 def add_failing(cases):
     """A merge of two files of two pictures each, the first one in one piece and the second one in pieces of 60 bytes."""
     cases.about("hostile: a merge of a file in one piece and one in pieces of 60 bytes: each read, and some writes, of a byte, failing")
-    words, whole, pieces = f"merge {cases.placed(BESIDE, (TWICE, TWICE))}", M + M, "pieces 1 60"
-    cases.checked(words, Expected(out=whole), pieces)
+    placed, whole, pieces = cases.placed(BESIDE, (TWICE, TWICE)), M + M, "pieces 1 60"
+    words = f"merge {placed}"
+    placed_everywhere(cases, placed, Expected(out=whole), pieces)
     for source, call, out in ((0, 0, EMPTY), (0, 1, M), (1, 0, EMPTY), (1, 1, M), (1, 2, M)):
+        fault = failed(f"read fault source {source}", out), pieces, f"fail {source} {call}"
         if source == 0:
-            cases.checked(words, failed(f"read fault source {source}", out), pieces, f"fail {source} {call}")
-        cases.case(f"verify merge {cases.name(whole)} {words[6:]}", failed(f"read fault source {source + 1}"), "pieces 2 60",
+            cases.checked(words, *fault)
+        cases.case(f"play {placed}", *fault)
+        cases.case(f"verify merge {cases.name(whole)} {placed}", failed(f"read fault source {source + 1}"), "pieces 2 60",
                    f"fail {source + 1} {call}")
+    cases.case(f"play {placed}", failed("read fault source 1"), pieces, "closed 1")
     for call in (0, 1, 69, 70, 71, 139):
         cases.case(words, failed("write fault", whole[:call]), pieces, "pieces out 1", f"fail out {call}")
-    cases.case(words, Expected(out=whole), pieces, "pieces out 1", f"fail out {len(whole)}")
+    for command in ("merge", "play"):
+        cases.case(f"{command} {placed}", Expected(out=whole), pieces, "pieces out 1", f"fail out {len(whole)}")
     cases.about("hostile: check merge, a byte a read: reads at the ends of the pictures")
     for source in (0, 1):
         for call in (0, 51, 52, 98):
@@ -343,33 +383,39 @@ def add_failing(cases):
     cases.about("hostile: a file that can't be read")
     for command in ("show", "extract 0", "check extract 0"):
         cases.case(f"{command} {cases.name(A)}", failed("read fault source 0"), "closed 0")
-    cases.case(f"merge 0,0={cases.name(A)}", failed("read fault source 0"), "closed 0")
+    for command in ("merge", "play"):
+        cases.case(f"{command} 0,0={cases.name(A)}", failed("read fault source 0"), "closed 0")
 
 
 def add_silent(cases):
     """The first write to `err` fails: nothing else changes."""
     cases.about("hostile: the first write to `err` fails: a rule, words, a read and a write")
     name, words = cases.name(A), cases.placed(BESIDE, (A, A))
-    behind = A + BROKEN
+    broken = A + BROKEN
     for line, expected, *settings in (
             (f"show {cases.name(BROKEN)}", refused("", BROKEN_LINES)),
-            (f"extract 0 {cases.name(behind)}", refused("", A)),
-            (f"check extract 0 {cases.name(behind)}", refused("")),
+            (f"extract 0 {cases.name(broken)}", refused("", A)),
+            (f"check extract 0 {cases.name(broken)}", refused("")),
             (f"extract 1 {name}", refused("")),
-            (f"merge {beside(cases, behind)}", refused("", M)),
-            (f"check merge {beside(cases, behind)}", refused("")),
+            (f"merge {beside(cases, broken)}", refused("", M)),
+            (f"check merge {beside(cases, broken)}", refused("")),
+            (f"play {behind(cases, broken)}", refused("", JOINED)),
+            (f"play {cases.placed(BESIDE, (TWICE, A))}", refused("", M)),
             (f"verify merge {cases.name(M)} {cases.placed(('0,0', '128,0'), (A, A))}", refused("")),
             (f"merge {cases.placed(['0,0'] * 65, [A] * 65)}", refused(""), "fail all 0"),
             ("extract 1000 a", Expected(2, "")),
             (f"show {name}", failed(""), "closed 0"),
             (f"extract 0 {cases.name(TWICE)}", failed("", A), "pieces all 60", "fail 0 1"),
+            (f"play {cases.placed(['0,0'] * 257, [A] * 257)}", refused(""), "fail all 0"),
             (f"merge {words}", failed(""), "closed 1"),
+            (f"play {words}", failed(""), "closed 1"),
             (f"check merge {words}", failed(""), "closed 0"),
             (f"verify merge {cases.name(M)} {words}", failed(""), "closed 2"),
             (f"show {name}", failed("", GRAY_SETS), "fail out 1"),
             (f"extract 0 {name}", failed(""), "fail out 0"),
             (f"check extract 0 {name}", failed(""), "fail out 0"),
             (f"merge {words}", failed("", M[:69]), "pieces out 1", "fail out 69"),
+            (f"play {words}", failed("", M[:69]), "pieces out 1", "fail out 69"),
             (f"check merge {words}", failed(""), "fail out 0"),
             (f"verify merge {cases.name(M)} {words}", failed(""), "fail out 0")):
         cases.case(line, expected, *settings, "fail err 0")

@@ -2,7 +2,7 @@
 from case_lines import Expected, expected_of, unhex
 from plain_streams import CRA, TRAIL, Header, partition, ph, pps, slice_unit, sps, stream
 from told_cases import BYTEWISE, SIXTY, TWICE, WHOLE, not_understood, say, say_in_pieces
-from worked_cases import A, B, BESIDE, EMPTY, EOS_UNIT, I0, M, failed, gray, left, pair_sets, refused, right
+from worked_cases import (A, B, BESIDE, EMPTY, EOS_UNIT, I0, M, SEEN, add_reads, add_writes, failed, gray, left, pair_sets, refused, right)
 
 BROKEN = bytes.fromhex("000001 8079")
 # Two pairs of files, each pair one picture, and what is written of them.
@@ -122,9 +122,13 @@ def add_unread(cases):
     say(cases, f"play {cases.placed(('0,0', '64,0', '0,0', '0,0'), [A] * 4)}", refused("M14 picture 1 source 1", M), "closed 3")
     say(cases, f"play {cases.placed(('0,0', '64,0', '0,0'), (B, BROKEN, A))}", refused("F3 source 1 byte 3"), "closed 2")
     say(cases, f"play {cases.placed(('0,0', '32,0', '0,0'), [A] * 3)}", refused("M3 picture 0 source 1"), "closed 2")
-    cases.about("play: a write that fails, each of a byte, from the last bytes before the end of sequence on")
-    for call in range(len(M) - 3, len(JOINED)):
-        say(cases, words, failed("write fault", JOINED[:call]), "pieces out 1", f"fail out {call}")
+    cases.about("play: a file of two pictures beside two files: each of its reads fails once: 60 bytes a read, and a byte")
+    behind = f"play {cases.placed(LEFT_TWO, (A, TWICE, A))}"
+    for pieces, outs in (SIXTY, [EMPTY, M, M]), (BYTEWISE, SEEN):
+        add_reads(cases, behind, 1, outs, *pieces)
+        cases.case(behind, Expected(out=JOINED), *pieces, f"fail 1 {len(outs)}")
+    cases.about("play: a byte a write: each write fails once")
+    add_writes(cases, words, JOINED, "pieces err 1")
 
 
 def add_words(cases):

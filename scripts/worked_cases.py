@@ -393,6 +393,24 @@ def add_many_slices(cases):
     cases.checked(f"merge {cases.placed(('0,0', '32,0'), (more, more))}", refused("L5 picture 0"))
 
 
+# What two sources of two pictures each are merged to, a byte a read, where a read of one of them fails: the first picture from the read on
+# before which its end is seen.
+SEEN = [EMPTY] * 52 + [M] * 47
+
+
+def add_reads(cases, words, source, outs, *settings):
+    """Each read of a source fails once; what is written then, one read after the other."""
+    for call, out in enumerate(outs):
+        cases.case(words, failed(f"read fault source {source}", out), *settings, f"fail {source} {call}")
+
+
+def add_writes(cases, words, whole, *settings):
+    """A byte a write: each write fails once; and the call behind the last one, which isn't made."""
+    for call in range(len(whole)):
+        cases.case(words, failed("write fault", whole[:call]), *settings, "pieces out 1", f"fail out {call}")
+    cases.case(words, Expected(out=whole), *settings, "pieces out 1", f"fail out {len(whole)}")
+
+
 def add_faults(cases):
     """Each read and each write failing once."""
     cases.about("two pictures of each source: each read fails once, and a source can't be read at all")
@@ -410,14 +428,10 @@ def add_faults(cases):
             cases.checked(words, failed(fault, out), f"pieces {source} 60", f"fail {source} {call}")
         cases.checked(words, Expected(out=whole), "pieces all 60", f"fail {source} 3")
     cases.about("a byte a read: the picture is written whose end is seen in the bytes before the read that fails")
-    for call in range(99):
-        for source in (0, 1):
-            out = EMPTY if call < 52 else M
-            cases.case(words, failed(f"read fault source {source}", out), "pieces all 1", f"fail {source} {call}")
+    for source in (0, 1):
+        add_reads(cases, words, source, SEEN, "pieces all 1")
     cases.about("a byte a write: each write fails once")
-    for call in range(140):
-        cases.case(words, failed("write fault", whole[:call]), "pieces out 1", f"fail out {call}")
-    cases.case(words, Expected(out=whole), "pieces out 1", "fail out 140")
+    add_writes(cases, words, whole)
     cases.case(words, failed("write fault"), "fail out 0")
     cases.case(f"check {words}", failed("write fault"), "fail out 0")
     cases.about("a write to `err` fails: nothing else changes")

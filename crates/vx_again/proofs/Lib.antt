@@ -26,3 +26,4 @@ pub mod SameInputs
 pub mod SameRegions
 pub mod OfMerge
 pub mod Extractable
+pub mod Played

@@ -1,5 +1,6 @@
 -- Definitions that the laws of this crate cite.
 pub mod Sources
+pub mod Played
 pub mod Frames
 pub mod Rounds
 pub mod Streams

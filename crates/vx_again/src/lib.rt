@@ -11,7 +11,7 @@ pub use laws_rounds::{
     merged_has_its_bodies, merged_is_alike, merged_is_whole, merged_keeps_inputs,
     merged_sends_its_sets, merged_sets_are_in_force, merged_units_are_read, sets_make_the_frame,
 };
-pub use laws_sources::pictures_can_be_merged;
+pub use laws_sources::{pictures_can_be_merged, played_can_be_merged};
 pub use laws_streams::{
     merged_are_planned, merged_keeps_messages, merged_reads_again, merged_units_can_stand,
 };

@@ -76,6 +76,12 @@ Ends before (Err faults.Memory) = ⊥
 Ends before (Err (faults.Refused r)) = lacks_slice before ≡ Some r
 Ends before (Err (faults.Stopped f)) = ⊥
 
+-- a set
+abbrev pub IsSet : Accepted → Type 0
+IsSet accepted.Nothing = ⊥
+IsSet accepted.PictureDone = ⊥
+IsSet _ = Unit {0}
+
 -- The items of a set that was read, and of an adaptation parameter set its type and its id.
 abbrev pub items_of : Reading → Option (List Item)
 items_of (vps_read v) = Some v

@@ -37,13 +37,13 @@ impl Model for Assembler {
 }
 
 impl Assembler {
-    ghost use Rattle.std.specs.Prelude.{◌≡◌, [], ◌∷◌, List, Some, None, Err, IfOk, IfErr, OnOk, option_copied};
+    ghost use Rattle.std.specs.Prelude.{◌≡◌, [], ◌∷◌, List, Some, None, Err, IfOk, IfErr, IfSome, OnOk, option_copied};
     ghost use Rattle.vx_annexb.specs.ByteStream.{IsSound};
     ghost use Rattle.vx_pic.specs.Readings.{Reading, stored_sps, stored_pps};
     ghost use Rattle.vx_pic.specs.Rules.{Readers, reads};
     ghost use Rattle.vx_pic.specs.H266.{AreOfH266};
     ghost use Rattle.vx_pic.specs.Told.{told_of};
-    ghost use Rattle.vx_assemble.specs.Held.{Stands, Takes, Ends, told, HasPicture, IsBounded, ShowsLatest, lent_by, first_fault, first_of, items_of};
+    ghost use Rattle.vx_assemble.specs.Held.{Stands, Takes, Ends, told, HasPicture, IsBounded, ShowsLatest, lent_by, first_fault, first_of, IsSet, items_of};
     ghost use Rattle.vx_pic.specs.Readings.{pictures};
 
     #[tactic(auto, using(crate::proofs::Bodies::few_bodies))]
@@ -123,11 +123,16 @@ impl Assembler {
         Ok(())
     }
 
-    /// The items of the set that was taken last, which was told as `what`. Those of an APS are its type and its id.
+    /// The items of the set that was taken last, where that was told as `what`; None where it wasn't, or no set was taken last.
+    /// Those of an APS are its type and its id.
     pub fn fields(&self, what: Accepted) -> Option<&Fields>
-        ensures { (r : Reading) (before : List Reading) → Stands self.now (r ∷ before) → what ≡ told_of r before
+        ensures taken { (r : Reading) (before : List Reading) → Stands self.now (r ∷ before) → what ≡ told_of r before
             → option_copied result ≡ items_of r }
+        ensures only { IfSome result (λ _. IsSet what × (told self.now ≡ what)) }
     {
+        if what != self.told {
+            return None;
+        }
         match what {
             Accepted::Vps | Accepted::Aps(..) => Some(&self.state.fields),
             Accepted::Sps(id) => Some(self.state.sps_of(id)?.set().value().fields()),

@@ -217,7 +217,7 @@ impl Feed {
     ghost use Rattle.vx_annexb.specs.declared.unit_reader.Closed.TheVariants as closed;
     ghost use Rattle.vx_pic.specs.Readings.{Reading, pictures, stored_sps, stored_pps};
     ghost use Rattle.vx_pic.specs.Told.{told_of};
-    ghost use Rattle.vx_assemble.specs.Held.{Stands, HasPicture, ShowsLatest, lent_by, items_of};
+    ghost use Rattle.vx_assemble.specs.Held.{Stands, HasPicture, IsBounded, ShowsLatest, lent_by, told, IsSet, items_of};
     ghost use Rattle.vx_assemble.specs.declared.feed.Taken.TheVariants.{End};
     ghost use Rattle.vx_assemble.specs.declared.feed.Step.TheVariants as steps;
     ghost use Rattle.vx_pic.specs.Rules.{Readers};
@@ -232,6 +232,7 @@ impl Feed {
         ensures fed { IfOk result (λ f. (R : Readers) → HasFed R f [] [] []) }
         ensures needed { OnOk result (reading.LastWasNeeded [] []) }
         ensures open { IfOk result IsOpen }
+        ensures bounded { IfOk result (λ f. IsBounded f.assembler) }
     {
         let reader = UnitReader::new(alloc)?;
         Ok(Feed {
@@ -266,6 +267,7 @@ impl Feed {
         ensures few { OnOk result (self.new.units ≤ 2 ^ 40) }
         ensures held { reading.HoldsFew self.new.reader }
         ensures bytes { bytes_held self.new ≤ 2 ^ 25 + 2 ^ 23 + 65538 }
+        ensures bounded { IsBounded self.new.assembler }
         ensures all { is_all self.new.reader.splitter ≡ is_all self.old.reader.splitter }
         ensures ended { result ≡ Ok (Some End) → ¬ IsOpen self.new }
         ensures told { IfOk result (IsToldBy self.new.assembler) }
@@ -314,6 +316,7 @@ impl Feed {
         ensures unended { OnErr result (self.new.reader.closed ≡ Some closed.End → ⊥) }
         ensures held { reading.HoldsFew self.new.reader }
         ensures bytes { bytes_held self.new ≤ 2 ^ 25 + 2 ^ 23 + 65538 }
+        ensures bounded { IsBounded self.new.assembler }
     {
         match self.reader.read(source) {
             Ok(()) => Ok(()),
@@ -331,10 +334,12 @@ impl Feed {
         self.units
     }
 
-    /// The items of the set that was taken last, which was told as `what`.
+    /// The items of the set that was taken last, where that was told as `what`; None where it wasn't, or no set was taken last.
+    /// Those of an APS are its type and its id.
     pub fn fields(&self, what: Accepted) -> Option<&Fields>
-        ensures { (r : Reading) (before : List Reading) → Stands self.now.assembler (r ∷ before) → what ≡ told_of r before
+        ensures taken { (r : Reading) (before : List Reading) → Stands self.now.assembler (r ∷ before) → what ≡ told_of r before
             → option_copied result ≡ items_of r }
+        ensures only { IfSome result (λ _. IsSet what × (told self.now.assembler ≡ what)) }
     {
         self.assembler.fields(what)
     }
@@ -385,6 +390,7 @@ impl Feed {
         ensures end { EndsAtEnd self.old (bytes_left source.old) → EndsAtEnd self.new (bytes_left source.new) }
         ensures held { reading.HoldsFew self.new.reader }
         ensures bytes { bytes_held self.new ≤ 2 ^ 25 + 2 ^ 23 + 65538 }
+        ensures bounded { IsBounded self.new.assembler }
     {
         loop {
             if let Some(taken) = self.next()? {
@@ -412,6 +418,7 @@ impl Feed {
             × (bytes_left source.new ≡ bytes_left source.old) × (read_faults source.new ≡ read_faults source.old) }
         ensures held { reading.HoldsFew self.new.reader }
         ensures bytes { bytes_held self.new ≤ 2 ^ 25 + 2 ^ 23 + 65538 }
+        ensures bounded { IsBounded self.new.assembler }
     {
         loop {
             let taken = self.take(source)?;

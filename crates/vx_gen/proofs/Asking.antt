@@ -31,6 +31,7 @@ use Rattle.vx_pps.specs.Reshaped.{taken}
 use Rattle.vx_pps.proofs.Fields.{same_with}
 use Rattle.vx_ph.specs.declared.header.PictureHeader.{PictureHeader}
 use Rattle.vx_sh.specs.declared.numbers.SliceNumbers.{SliceNumbers}
+use Rattle.vx_sh.specs.Sizes.{AskLittle}
 use Rattle.vx_sh.specs.Whole.{points_at}
 use Rattle.vx_pic.specs.declared.kind.Kind.{Kind}
 use Rattle.vx_pic.specs.Parts.{Parts}
@@ -42,7 +43,6 @@ use Rattle.vx_merge.specs.Regions.{corners_in, layout_of, placed_in}
 use Rattle.vx_merge.specs.Rounds.{picture_at}
 use Rattle.vx_merge.specs.Shapes.{pps_shape, sps_shape}
 use Rattle.vx_merge.specs.Written.{IsMerged}
-use Rattle.vx_gen.specs.Local.{AskLittle}
 use Rattle.vx_gen.specs.Pictures.{kind, nal_type, pps_items, sps_items}
 use Rattle.vx_gen.specs.Rounds.{corners, round}
 use Rattle.vx_gen.specs.Shown.{no_lists}

@@ -14,6 +14,8 @@ use Rattle.vx_sps.specs.Set as sps_set
 use Rattle.vx_pps.specs.Sets as pps_set
 use Rattle.vx_ph.specs.InForce.{in_force, structures}
 use Rattle.vx_ph.specs.Sizes as ph
+use Rattle.vx_sh.specs.InForce.{in_force_at}
+use Rattle.vx_sh.specs.Sizes as sh
 use Rattle.vx_pic.specs.declared.kind.Kind.{Kind}
 use Rattle.vx_pic.specs.declared.unit_types.TheConstants as types
 use Rattle.vx_pic.specs.Parts.{Parts, SlicePart}
@@ -36,7 +38,6 @@ use Rattle.vx_merge.proofs.Passing.{NoneBroken, none_found}
 use Rattle.vx_merge.proofs.Verdicts.{verdict_one}
 use Rattle.vx_gen.specs.Rounds.{AreGeneratedRounds, GeneratedAreNotBarred, GeneratedBreakNoRule, corners, round}
 use Rattle.vx_gen.specs.Units.{slice}
-use Rattle.vx_gen.specs.Local.{SlicesAreShort}
 use Rattle.vx_gen.proofs.Asking.{asks, first, kind_is, no_ph_bits}
 use Rattle.vx_gen.proofs.Lengths.{AreFew, IsShort, both_long, few_bytes, few_joined, few_more, few_none, few_weaker, slices_within}
 use Rattle.vx_gen.proofs.Unbroken.{no_filter_from, no_lmcs, no_scaling, part_of}
@@ -49,7 +50,8 @@ pub record Laws : Type 0 where
   pub pps : pps_set.SpellingIsShort
   pub header : ph.SpellingIsShort
   pub bounded : ph.SetsAreBounded
-  pub slices : SlicesAreShort
+  pub slice : sh.SpellingIsShort
+  pub numbers : sh.NumbersAreBounded
 
 -- ---- units
 
@@ -154,7 +156,8 @@ module _ (laws : Laws) (seed pictures n p : ℕ) (some : 1 ≤ n) (low : n ≤ 1
   front_short : (k : ℕ) (s : SlicePart) (front : List ℕ) → IsFront all is.ids q.kind.nal_type q.begun k s front → length front ≤ 790000
   front_short k s front f =
       let little = asks laws.signals seed pictures n p some low done q is f.numbers f.at in
-      unit_short laws.escaped q.kind.nal_type q.begun.temporal_id f.bytes front f.made (laws.slices f.numbers f.header.fields q.begun.header f.bytes little f.spelled)
+      let few = laws.slice (in_force_at f.numbers) f.header.fields q.begun.header f.bytes (laws.numbers f.numbers little) f.spelled in
+      unit_short laws.escaped q.kind.nal_type q.begun.temporal_id f.bytes front f.made few
 
   slices_few : (k a m : ℕ) (ws : List Slice) → AllZip (λ x w. IsSlice all is.ids q.kind.nal_type q.begun x.0 x.1 w) (sourced k (map part (range_with_len a m))) ws
       → AreFew m (map (λ (w : Slice). w.unit) ws)

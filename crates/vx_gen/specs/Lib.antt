@@ -1,7 +1,6 @@
 -- What the contracts of this crate cite.
 pub mod Draws
 pub mod Laws
-pub mod Local
 pub mod Merges
 pub mod Pictures
 pub mod Rounds

@@ -2,7 +2,6 @@
 ghost use Rattle.vx_gen.specs.Laws.{GeneratedAreRead, PlannedAreShown};
 ghost use Rattle.vx_gen.specs.Merges.{GeneratedAreMerged};
 ghost use Rattle.vx_gen.specs.Rounds.{CornersAreThere, GeneratedAreNotBarred, GeneratedBreakNoRule, PlannedAreSoMany, PlannedMakeRounds};
-ghost use Rattle.vx_gen.specs.Local.{SlicesAreShort};
 
 use vx_again::{merge_is_read_again, pictures_can_be_merged};
 use vx_annexb::{escaped_is_short, unescaped_joins, units_can_stand};
@@ -48,7 +47,7 @@ pub fn planned_make_rounds()
 
 /// Nor do they break a limit: a merge of them is never barred.
 pub fn generated_are_not_barred()
-    ensures { SlicesAreShort → GeneratedAreNotBarred }
+    ensures { GeneratedAreNotBarred }
 {
     generated_break_no_rule();
     verdict_is_one();
@@ -57,6 +56,7 @@ pub fn generated_are_not_barred()
     vx_sps::spelling_is_short();
     vx_pps::spelling_is_short();
     vx_ph::spelling_is_short();
+    vx_sh::spelling_is_short();
 }
 
 /// Where all rounds are written, the bytes are read again as the merge of the streams, and each of its regions can be extracted.

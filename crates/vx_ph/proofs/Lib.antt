@@ -17,5 +17,7 @@ mod Spelling
 mod Id
 mod Once
 pub mod Enabled
+pub mod Bounding
 pub mod ShortLists
-mod Short
+pub mod Copied
+pub mod Short

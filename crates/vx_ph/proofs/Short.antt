@@ -1,28 +1,24 @@
 -- No spelling of a picture header is long.
-use Rattle.std.proofs.Common.{◌≡◌, ℕ, ℤ, pos, negsuc, zero, suc, ◌+◌, ◌≤◌, ◌==◌, ◌||◌, Bool, true, nat_lt, List, [], ◌∷◌, length, get_or, replicate, slice_get, slice_index, slice_set, take, Option, None, Some, refl, ap, sym, subst, ◌∙◌, inl, inr, arith}
-use Rattle.std.specs.Prelude.{All, filter}
-use Rattle.std.proofs.lemmas.Bool.{and_parts, cases_Bool, cases_eq, cases_lt, eqb-true, ltb-true, or_cases}
-use Rattle.std.proofs.lemmas.Grind.{get_or-set_at}
-use Rattle.std.proofs.lemmas.List.{get_or-set_other, length-append, length-replicate, length-set, length-take}
-use Rattle.std.proofs.lemmas.List.Elements.{All-cons, All-head, All-nil, All-tail}
+use Rattle.std.proofs.Common.{◌≡◌, ℕ, ℤ, pos, negsuc, zero, suc, ◌+◌, ◌≤◌, ◌==◌, Bool, List, [], ◌∷◌, length, replicate, slice_get, slice_index, slice_set, take, Option, None, Some, refl, ap, subst, ◌∙◌, inl, inr, arith}
+use Rattle.std.specs.Prelude.{filter}
+use Rattle.std.proofs.lemmas.Bool.{cases_Bool, cases_eq, cases_lt}
+use Rattle.std.proofs.lemmas.List.{length-append, length-take}
 use Rattle.vx_bits.specs.declared.list.Item.{Item}
 use Rattle.vx_bits.proofs.Bits.{length-bits_of}
 use Rattle.vx_table.specs.declared.rows.Coding.TheVariants.{Trailing}
 use Rattle.vx_table.specs.declared.rows.Formula.TheVariants.{Plain}
 use Rattle.vx_table.specs.declared.rows.Presence.TheVariants.{When}
 use Rattle.vx_table.specs.declared.rows.Term.TheVariants.{Latest}
-use Rattle.vx_table.specs.Depends.{set_of, with_all, Agree}
 use Rattle.vx_table.specs.Forms.{◌>>=◌, after, coding_at, form_of, has_value, limits_at, one_field, part}
 use Rattle.vx_table.specs.Parts.{sections_form}
 use Rattle.vx_table.specs.Scope.{fresh, loaded, most, natural}
-use Rattle.vx_table.specs.Sizes.{IsShort, IsWithin, code_bits, greatest, greatest_coded, greatest_ranged, greatest_value, most_turns, part_bits, presence_keeps, row_keeps, sections_bits, table_bits}
+use Rattle.vx_table.specs.Sizes.{EachSpelling, IsShort, IsWithin, code_bits, greatest_coded, greatest_ranged, greatest_value, most_turns, part_bits, presence_keeps, row_keeps, table_bits}
 use Rattle.vx_table.specs.Values.{Follows, bits_along, through, to_end}
 use Rattle.vx_table.specs.Spelling.{code_of}
-use Rattle.vx_table.proofs.Again.{follows_again}
 use Rattle.vx_table.specs.Loaded.{number}
 use Rattle.vx_table.proofs.Loading.{no_number, set_below}
 use Rattle.vx_table.proofs.Joined.{bits_joined, parted}
-use Rattle.vx_table.proofs.Sizes.{coded_most, fresh_within, sections_are_short, short_present, short_then, spelling_weaker, within_set}
+use Rattle.vx_table.proofs.Sizes.{coded_most, short_present, short_then}
 use Rattle.vx_fields.specs.declared.names.ph.TheConstants.{EXTRA_PH_BITS, HAS_WEIGHTS}
 use Rattle.vx_fields.specs.declared.pps.TheConstants.{pps_pic_parameter_set_id, pps_rpl_info_in_ph_flag}
 use Rattle.vx_fields.specs.declared.rpl.TheConstants.{num_ref_entries}
@@ -32,13 +28,14 @@ use Rattle.vx_rpl.specs.declared.entry.Structure.{Structure}
 use Rattle.vx_rpl.specs.Resolved.{behind_second, entries_from, is_of_table, past, second_or_first, structure_of, structures_behind, structures_from, table_of}
 use Rattle.vx_rpl.specs.Lists.{lists_form, weights, weights_form}
 use Rattle.vx_sps.specs.Set.{is_weighted}
-use Rattle.vx_pps.proofs.Fields.{all_pass, named, passes}
 use Rattle.vx_ph.specs.declared.tables.TheConstants.{TRAILING}
 use Rattle.vx_ph.specs.Depends.{all_of_sets, of_header}
 use Rattle.vx_ph.specs.Header.{back, before_weights, front, header_form, lists_if_present, middle, weights_if_present}
 use Rattle.vx_ph.specs.Picture.{unit_form}
-use Rattle.vx_ph.specs.Sizes.{AreFew, SetsAreBounded, SpellingIsShort}
+use Rattle.vx_ph.specs.Sizes.{AreFew, IsBounded, SetsAreBounded, SpellingIsShort}
 use Rattle.vx_ph.proofs.Carrying.{all_depend}
+use Rattle.vx_ph.proofs.Bounding.{bound_by, sections_few, within_none, within_one}
+use Rattle.vx_ph.proofs.Copied.{few_by_given}
 use Rattle.vx_ph.proofs.Passing.{shows_all}
 use Rattle.vx_ph.proofs.Sets.{in_force_length, of_extra, of_pps, of_sps}
 use Rattle.vx_ph.proofs.ShortLists.{bounds, lists_few}
@@ -47,23 +44,19 @@ use Rattle.vx_ph.proofs.ShortLists.{bounds, lists_few}
 
 front_few : (s : List ℕ) → IsWithin bounds s → IsShort bounds 3000 (sections_form front s)
 unfolding table_bits part_bits most_turns code_bits row_keeps presence_keeps greatest_coded greatest_ranged greatest_value has_value
-front_few s within = spelling_weaker (sections_form front s) (λ k u. (k ≤ sections_bits bounds front) × IsWithin bounds u) (λ k u. (k ≤ 3000) × IsWithin bounds u)
-    (sections_are_short bounds front s refl within) (λ k u few. (let less = few.0 in omega (arith, less), few.1))
+front_few s within = sections_few bounds 3000 front s refl (omega arith) within
 
 middle_few : (s : List ℕ) → IsWithin bounds s → IsShort bounds 3000 (sections_form middle s)
 unfolding table_bits part_bits most_turns code_bits row_keeps presence_keeps greatest_coded greatest_ranged greatest_value has_value
-middle_few s within = spelling_weaker (sections_form middle s) (λ k u. (k ≤ sections_bits bounds middle) × IsWithin bounds u) (λ k u. (k ≤ 3000) × IsWithin bounds u)
-    (sections_are_short bounds middle s refl within) (λ k u few. (let less = few.0 in omega (arith, less), few.1))
+middle_few s within = sections_few bounds 3000 middle s refl (omega arith) within
 
 back_few : (s : List ℕ) → IsWithin bounds s → IsShort bounds 4000 (sections_form back s)
 unfolding table_bits part_bits most_turns code_bits row_keeps presence_keeps greatest_coded greatest_ranged greatest_value has_value
-back_few s within = spelling_weaker (sections_form back s) (λ k u. (k ≤ sections_bits bounds back) × IsWithin bounds u) (λ k u. (k ≤ 4000) × IsWithin bounds u)
-    (sections_are_short bounds back s refl within) (λ k u few. (let less = few.0 in omega (arith, less), few.1))
+back_few s within = sections_few bounds 4000 back s refl (omega arith) within
 
 pub weights_few : (s : List ℕ) → IsWithin bounds s → IsShort bounds 20000 (weights_form s)
 unfolding table_bits part_bits most_turns code_bits row_keeps presence_keeps greatest_coded greatest_ranged greatest_value has_value
-weights_few s within = spelling_weaker (sections_form weights s) (λ k u. (k ≤ sections_bits bounds weights) × IsWithin bounds u) (λ k u. (k ≤ 20000) × IsWithin bounds u)
-    (sections_are_short bounds weights s refl within) (λ k u few. (let less = few.0 in omega (arith, less), few.1))
+weights_few s within = sections_few bounds 20000 weights s refl (omega arith) within
 
 header_few : (table : RplTable) (s : List ℕ) → AreFew table.first → AreFew table.second → IsWithin bounds s → IsShort bounds 46200 (header_form table s)
 unfolding header_form before_weights presence_keeps most_turns
@@ -82,65 +75,22 @@ trailing_few : (s : List ℕ) (values : List ℤ) (end : List ℕ) (place : ℕ)
 unfolding form_of part one_field coding_at limits_at after has_value
 trailing_few s values end place (through {v} value to_end) = let few = coded_most Trailing place v in omega (arith, few, length-append (code_of Trailing place v) [])
 
--- ---- a scope that has some numbers alone
-
-copied : List ℕ → List ℕ → List ℕ
-copied s [] = fresh
-copied s (n ∷ names) = slice_set (copied s names) n (slice_index s n)
-
-copied_length : (s names : List ℕ) → length (copied s names) ≡ 1024
-unfolding copied fresh
-copied_length s [] = length-replicate {A = ℕ} 1024 0
-copied_length s (n ∷ names) = length-set (copied s names) n (slice_index s n) ∙ copied_length s names
-
-copied_same : (s names : List ℕ) → passes (λ n. nat_lt n 1024) names ≡ true → All (λ n. slice_index (copied s names) n ≡ slice_index s n) names
-unfolding copied
-copied_same s [] small = All-nil (λ n. slice_index (copied s []) n ≡ slice_index s n)
-copied_same s (n ∷ names) small =
-    let parts = and_parts (nat_lt n 1024) (passes (λ m. nat_lt m 1024) names) small in
-    let rest = copied_same s names parts.1 in
-    let low = ltb-true n 1024 parts.0 in
-    All-cons (λ m. slice_index (copied s (n ∷ names)) m ≡ slice_index s m) n names
-    (get_or-set_at (copied s names) n n (slice_index s n) 0 refl (omega (arith, low, copied_length s names)))
-    (λ k d short. elim (cases_eq (get_or names k d) n) [
-      | inl is ↦ get_or-set_at (copied s names) n (get_or names k d) (slice_index s n) 0 is (omega (arith, low, copied_length s names)) ∙ ap (slice_index s) (sym is)
-      | inr other ↦ get_or-set_other (copied s names) n (get_or names k d) (slice_index s n) 0 other ∙ rest k d short
-    ])
-
-copied_within : (s names : List ℕ) → All (λ n. slice_index s n ≤ greatest bounds n) names → IsWithin bounds (copied s names)
-unfolding copied
-copied_within s [] few = fresh_within bounds
-copied_within s (n ∷ names) few =
-    within_set bounds (copied s names) n (slice_index s n) (copied_within s names (All-tail (λ m. slice_index s m ≤ greatest bounds m) n names few)) (All-head (λ m. slice_index s m ≤ greatest bounds m) n names few)
-
 -- ---- at any scope
 
-keeps_bound : (s : List ℕ) → slice_index s EXTRA_PH_BITS ≤ 32 → ((n : ℕ) → slice_index s n ≤ most) → (n : ℕ) → (n == EXTRA_PH_BITS || greatest bounds n == most) ≡ true → slice_index s n ≤ greatest bounds n
-keeps_bound s extra numbers n test = elim (or_cases (n == EXTRA_PH_BITS) (greatest bounds n == most) test) [
-  | inl is ↦ subst (λ m. slice_index s m ≤ greatest bounds m) (sym (eqb-true n EXTRA_PH_BITS is)) extra
-  | inr free ↦ let same = eqb-true (greatest bounds n) most free in let low = numbers n in omega (arith, same, low)
-]
+pub bounded_few : (table : RplTable) (s : List ℕ) → IsBounded table s → EachSpelling (header_form table s) (λ size end. size ≤ 46200)
+bounded_few table s few =
+    few_by_given all_of_sets of_header (header_form table) (bound_by EXTRA_PH_BITS 32 ∷ []) bounds 46200 refl refl (all_depend table) (shows_all table)
+    (λ t within. header_few table t few.first few.second within) s few.long (within_one EXTRA_PH_BITS 32 [] s few.extra (within_none s few.numbers))
 
 pub spelling_is_short : SpellingIsShort
-unfolding fresh unit_form
+unfolding unit_form
 spelling_is_short table s header bytes few u =
-    let t : List ℕ = copied s all_of_sets in
-    let same = copied_same s all_of_sets refl in
-    let agree : Agree (set_of all_of_sets) s t = record {
-      size = few.long ∙ sym (copied_length s all_of_sets);
-      same = λ n there. sym (named (λ m. slice_index t m ≡ slice_index s m) all_of_sets n same there);
-    } in
-    let within : IsWithin bounds t = copied_within s all_of_sets (all_pass (λ n. n == EXTRA_PH_BITS || greatest bounds n == most) (λ n. slice_index s n ≤ greatest bounds n) (keeps_bound s few.extra few.numbers) all_of_sets refl) in
     let p = parted (header_form table s) (form_of TRAILING) u.follows in
-    let shown = with_all (set_of all_of_sets) of_header in
-    let all = shows_all table in
-    let again = follows_again shown (set_of all_of_sets) (header_form table s) (header_form table t) p.front p.mid ((all_depend table).alike s t agree) (all.at s) (all.at t) p.first in
-    let less = ((header_few table t few.first few.second within).at 0 p.front again.last again.follows).0 in
+    let less = (bounded_few table s few).at 0 p.front p.mid p.first in
     let front_bits : List Bool = bits_along (header_form table s) 0 p.front in
     let last = trailing_few p.mid p.others u.end (0 + length front_bits) p.second in
     let bits = u.bits ∙ ap (λ w. bits_along (unit_form table s) 0 w) p.all ∙ bits_joined (form_of TRAILING) 0 p.others p.first in
-    let same_bits : length (bits_along (header_form table t) 0 p.front) ≡ length front_bits = ap length (again.bits 0) in
-    omega (arith, less, last, same_bits, ap length bits, length-append front_bits (bits_along (form_of TRAILING p.mid) (0 + length front_bits) p.others), length-bits_of bytes)
+    omega (arith, less, last, ap length bits, length-append front_bits (bits_along (form_of TRAILING p.mid) (0 + length front_bits) p.others), length-bits_of bytes)
 
 -- ---- sets
 
@@ -157,7 +107,7 @@ loaded_low s (item ∷ items) of low =
     let set = set_below s item.field of (natural item.value) 4294967296 (λ same. omega (arith, here)) (omega (arith, low)) in
     loaded_low (slice_set s item.field (natural item.value)) items of (omega (arith, set))
 
-number_low : (items : List Item) (of : ℕ) → number items of ≤ most
+pub number_low : (items : List Item) (of : ℕ) → number items of ≤ most
 unfolding fresh
 number_low items of = loaded_low (replicate 1024 0) items of (let none = no_number 1024 of in omega (arith, none))
 

@@ -1,8 +1,5 @@
 -- The reference picture lists of a header have few bits: their entries are 29 at most.
-use Rattle.std.proofs.Common.{◌≡◌, ℕ, suc, ◌+◌, ◌*◌, ◌<◌, ◌≤◌, ◌==◌, Bool, true, false, cond, List, [], ◌∷◌, length, take, drop, slice_index, slice_set, slice_get, count_by, Option, Some, None, refl, sym, subst, ◌∙◌, inl, inr, arith}
-use Rattle.std.proofs.lemmas.Bool.{cases_lt}
-use Rattle.std.proofs.lemmas.Grind.{get_or-set_at}
-use Rattle.std.proofs.lemmas.List.{get_or_past, set_past}
+use Rattle.std.proofs.Common.{◌≡◌, ℕ, suc, ◌+◌, ◌*◌, ◌<◌, ◌≤◌, ◌==◌, Bool, true, false, cond, List, [], ◌∷◌, length, take, drop, slice_index, slice_set, slice_get, count_by, Option, Some, None, refl, sym, subst, ◌∙◌, arith}
 use Rattle.std.proofs.lemmas.List.Sums.{count_by-le-length}
 use Rattle.vx_table.specs.declared.rows.Term.TheVariants.{Latest, Number}
 use Rattle.vx_table.specs.declared.rows.Formula.{Formula}
@@ -25,25 +22,27 @@ use Rattle.vx_table.proofs.Sizes.{name_within, short_field, short_present, short
 use Rattle.vx_fields.specs.declared.alf.TheConstants.{num_alf_aps_ids_luma}
 use Rattle.vx_fields.specs.declared.names.ph.TheConstants.{EXTRA_PH_BITS}
 use Rattle.vx_fields.specs.declared.names.rpl.TheConstants as names
+use Rattle.vx_fields.specs.declared.names.sh.TheConstants.{DEFAULT_ACTIVE_0, DEFAULT_ACTIVE_1, EXTRA_SH_BITS, NUM_ENTRY_POINTS}
 use Rattle.vx_fields.specs.declared.ph.TheConstants.{ph_extension_length}
 use Rattle.vx_fields.specs.declared.rpl.TheConstants as rpl
+use Rattle.vx_fields.specs.declared.sh.TheConstants.{sh_num_ref_idx_active_minus1, sh_slice_header_extension_length}
 use Rattle.vx_fields.specs.declared.sps.TheConstants.{sps_long_term_ref_pics_flag}
 use Rattle.vx_fields.specs.declared.weights.TheConstants.{num_l0_weights, num_l1_weights}
 use Rattle.vx_rpl.specs.declared.entry.RplTable.{RplTable}
 use Rattle.vx_rpl.specs.declared.entry.Structure.{Structure}
 use Rattle.vx_rpl.specs.declared.tables.TheConstants.{BEFORE_LIST_0, BEHIND_LIST_0, BEHIND_LIST_1, CHOICE, LONG_TERM, REF_PIC_LIST_STRUCT}
 use Rattle.vx_ph.specs.Sizes.{AreFew}
+use Rattle.vx_ph.proofs.Bounding.{bound_by, set_here, table_few}
 use Rattle.vx_rpl.specs.Lists.{behind_structure, begun, choice_form, chosen_form, first_form, is_long, list_form, lists_form, own_and_long_term, picked, second_form}
 
-abbrev bound_by : ℕ → ℕ → Bound
-bound_by of most = record { of = of; greatest = most }
-
--- the fields and names that count
+-- the fields and names that count, in picture headers and in slice headers
 abbrev pub bounds : List Bound
 bounds =
     bound_by EXTRA_PH_BITS 32 ∷ bound_by num_alf_aps_ids_luma 7 ∷ bound_by ph_extension_length 256 ∷ bound_by rpl.num_ref_entries 29 ∷ bound_by names.IS_LONG 1
     ∷ bound_by names.LONG_ENTRIES 29 ∷ bound_by names.ACTIVE_0 15 ∷ bound_by names.ACTIVE_1 15 ∷ bound_by names.MOST_WEIGHTS 15 ∷ bound_by num_l0_weights 15
-    ∷ bound_by num_l1_weights 15 ∷ bound_by names.NUM_WEIGHTS 15 ∷ []
+    ∷ bound_by num_l1_weights 15 ∷ bound_by names.NUM_WEIGHTS 15
+    ∷ bound_by EXTRA_SH_BITS 32 ∷ bound_by DEFAULT_ACTIVE_0 14 ∷ bound_by DEFAULT_ACTIVE_1 14 ∷ bound_by sh_num_ref_idx_active_minus1 14
+    ∷ bound_by sh_slice_header_extension_length 256 ∷ bound_by NUM_ENTRY_POINTS 65536 ∷ []
 
 -- ---- tables, row by row
 
@@ -175,19 +174,13 @@ one_entry k s small before =
 
 -- ---- a structure
 
-set_none : (s : List ℕ) (n : ℕ) → slice_index (slice_set s n 0) n ≤ 0
-set_none s n = elim (cases_lt n (length s)) [
-  | inl within ↦ rw (get_or-set_at s n n 0 0 refl within) (omega arith)
-  | inr past ↦ rw (set_past s n 0 past, get_or_past s n 0 past) (omega arith)
-]
-
 -- its entries: as many turns as num_ref_entries, which are 29 at most
 entries_few : HaveFew 4060 (drop 8 R)
 unfolding present value table_bits part_bits
 entries_few = record {
   at = λ s within.
       let t : List ℕ = slice_set s names.LONG_ENTRIES 0 in
-      let at_t : CountsLong 0 t = record { within = within_set bounds s names.LONG_ENTRIES 0 within (omega arith); few = set_none s names.LONG_ENTRIES } in
+      let at_t : CountsLong 0 t = record { within = within_set bounds s names.LONG_ENTRIES 0 within (omega arith); few = set_here s names.LONG_ENTRIES 0 } in
       let times : ℕ = slice_index t rpl.num_ref_entries in
       let few : times ≤ 29 = at_t.within.at rpl.num_ref_entries in
       let all : times * 140 ≤ 4060 = omega (arith, few) in
@@ -244,11 +237,6 @@ begun_within is_list_0 structures s few within =
     let first = within_set bounds s names.IS_LIST_0 (one_if is_list_0) within (let one = one_most is_list_0 in omega (arith, one)) in
     within_set bounds (slice_set s names.IS_LIST_0 (one_if is_list_0)) names.NUM_STRUCTURES (length structures) first (let count = few.count in omega (arith, count))
 
-table_few : (n : ℕ) (rows : List Row) (s : List ℕ) → rows_pass (row_keeps bounds) rows ≡ true → table_bits bounds rows ≤ n → IsWithin bounds s → IsShort bounds n (form_of rows s)
-table_few n rows s keep few within =
-    spelling_weaker (form_of rows s) (λ k t. (k ≤ table_bits bounds rows) × IsWithin bounds t) (λ k t. (k ≤ n) × IsWithin bounds t) (tables_are_short bounds rows s keep within)
-    (λ k t is. (let one = is.0 in omega (arith, one, few), is.1))
-
 own_few : (s : List ℕ) → IsWithin bounds s → IsShort bounds 8000 (sections_form own_and_long_term s)
 unfolding sections_form table_bits part_bits most_turns code_bits row_keeps presence_keeps greatest_coded greatest_ranged greatest_value has_value
 own_few s within =
@@ -257,7 +245,7 @@ own_few s within =
     (short_then bounds (present (When choice) (form_of R) s) (sections_form (always LONG_TERM ∷ [])) (1 * 4200) (1 * 2900 + 0)
     (short_present bounds (When choice) (form_of R) 4200 s refl within struct_few.at)
     (λ t there. short_then bounds (present (When (Plain (Number 1))) (form_of LONG_TERM) t) (sections_form []) (1 * 2900) 0
-    (short_present bounds (When (Plain (Number 1))) (form_of LONG_TERM) 2900 t refl there (λ u at. table_few 2900 LONG_TERM u refl (omega arith) at))
+    (short_present bounds (When (Plain (Number 1))) (form_of LONG_TERM) 2900 t refl there (λ u at. table_few bounds 2900 LONG_TERM u refl (omega arith) at))
     (λ u at. spelling_done u (λ size end. (size ≤ 0) × IsWithin bounds end) (omega arith, at))))
     (λ n t is. (let one = is.0 in omega (arith, one), is.1))
 
@@ -265,7 +253,7 @@ list_few : (is_list_0 : Bool) (structures : List Structure) (s : List ℕ) → A
 unfolding list_form choice_form chosen_form table_bits part_bits most_turns code_bits row_keeps presence_keeps greatest_coded greatest_ranged greatest_value has_value
 list_few is_list_0 structures s few within =
     short_then bounds (form_of CHOICE (begun is_list_0 structures s)) (chosen_form structures) 100 8000
-    (table_few 100 CHOICE (begun is_list_0 structures s) refl (omega arith) (begun_within is_list_0 structures s few within))
+    (table_few bounds 100 CHOICE (begun is_list_0 structures s) refl (omega arith) (begun_within is_list_0 structures s few within))
     (λ t there. own_few (picked structures t) (picked_within structures t few there))
 
 pub lists_few : (table : RplTable) (s : List ℕ) → AreFew table.first → AreFew table.second → IsWithin bounds s → IsShort bounds 16200 (lists_form table s)
@@ -273,6 +261,6 @@ unfolding lists_form first_form second_form table_bits part_bits row_keeps great
 lists_few table s first second within =
     short_then bounds (first_form table.first s) (second_form table.second) 8100 8100
     (short_then bounds (form_of BEFORE_LIST_0 s >>= list_form true table.first) (form_of BEHIND_LIST_0) 8100 0
-    (short_then bounds (form_of BEFORE_LIST_0 s) (list_form true table.first) 0 8100 (table_few 0 BEFORE_LIST_0 s refl (omega arith) within) (λ t there. list_few true table.first t first there))
-    (λ t there. table_few 0 BEHIND_LIST_0 t refl (omega arith) there))
-    (λ t there. short_then bounds (list_form false table.second t) (form_of BEHIND_LIST_1) 8100 0 (list_few false table.second t second there) (λ u at. table_few 0 BEHIND_LIST_1 u refl (omega arith) at))
+    (short_then bounds (form_of BEFORE_LIST_0 s) (list_form true table.first) 0 8100 (table_few bounds 0 BEFORE_LIST_0 s refl (omega arith) within) (λ t there. list_few true table.first t first there))
+    (λ t there. table_few bounds 0 BEHIND_LIST_0 t refl (omega arith) there))
+    (λ t there. short_then bounds (list_form false table.second t) (form_of BEHIND_LIST_1) 8100 0 (list_few false table.second t second there) (λ u at. table_few bounds 0 BEHIND_LIST_1 u refl (omega arith) at))

@@ -11,7 +11,8 @@ use Rattle.vx_run.specs.About.{help_text, version_text, Writes}
 use Rattle.vx_run.specs.Conclusion.{Outcome, Concludes, IsOfCommand, IsMade, status_of}
 use Rattle.vx_run.specs.declared.extract.Task.{Task}
 use Rattle.vx_run.specs.Extract.{BreakNoRule, Refuses, by_stream, by_picture, without, IsExtractable, IsStatus, WhereTold, ExtractsBy, ChecksBy, task_of}
-use Rattle.vx_run.specs.Grammar.{Command, Placing, show, extract, check_extract, merge, play, check_merge, verify, help, version, explain, AskFor, IsUnderstood}
+use Rattle.vx_run.specs.Grammar.{Command, Placing, show, extract, check_extract, merge, play, check_merge, verify, trial, help, version, explain, AskFor, IsUnderstood}
+use Rattle.vx_run.specs.Trial.{EndsTrial}
 use Rattle.vx_run.specs.Run.{Does, Performs, placings_in, task_in}
 use Rattle.vx_bits.specs.declared.refusal.Refusal.TheVariants.{Limit}
 use Rattle.vx_bits.specs.declared.rules.TheConstants.{TOO_MANY_SOURCES, TOO_MANY_FILES}
@@ -114,6 +115,7 @@ module _ {A K : Type 0} (R : Readers) (of : AreOfH266 R) (words : List (List ℕ
   extracts-done (check_merge placings) t performs spelled is b ps ending told are = absurd (cc)
   extracts-done (verify finished placings) t performs spelled is b ps ending told are = absurd (cc)
   extracts-done (show file) t performs spelled is b ps ending told are = absurd (cc)
+  extracts-done (trial seed n k) t performs spelled is b ps ending told are = absurd (cc)
   extracts-done help t performs spelled is b ps ending told are = absurd (cc)
   extracts-done version t performs spelled is b ps ending told are = absurd (cc)
   extracts-done (explain word) t performs spelled is b ps ending told are = absurd (cc)
@@ -132,6 +134,7 @@ module _ {A K : Type 0} (R : Readers) (of : AreOfH266 R) (words : List (List ℕ
   extracts-stopped err stop status (check_merge placings) t performs ends spelled is = absurd (cc)
   extracts-stopped err stop status (verify finished placings) t performs ends spelled is = absurd (cc)
   extracts-stopped err stop status (show file) t performs ends spelled is = absurd (cc)
+  extracts-stopped err stop status (trial seed n k) t performs ends spelled is = absurd (cc)
   extracts-stopped err stop status help t performs ends spelled is = absurd (cc)
   extracts-stopped err stop status version t performs ends spelled is = absurd (cc)
   extracts-stopped err stop status (explain word) t performs ends spelled is = absurd (cc)
@@ -348,6 +351,7 @@ too_many_of sources out outcome (play level ps) placings is does many = absurd (
 too_many_of sources out outcome (show file) placings is does many = absurd (cc)
 too_many_of sources out outcome (extract tid level index file) placings is does many = absurd (cc)
 too_many_of sources out outcome (check_extract tid index file) placings is does many = absurd (cc)
+too_many_of sources out outcome (trial seed n k) placings is does many = absurd (cc)
 too_many_of sources out outcome help placings is does many = absurd (cc)
 too_many_of sources out outcome version placings is does many = absurd (cc)
 too_many_of sources out outcome (explain word) placings is does many = absurd (cc)
@@ -360,6 +364,21 @@ module _ {A K : Type 0} (words : List (List ℕ)) (sources : Sources A) (out : C
   pub many-stopped : {E : Type 0} (err : Change E) (stop : Stop) (status : ℕ) → Performs words sources out (Err stop) → Concludes stop status err → status ≢ 4 → status ≡ 1
   many-stopped err stop status performs ends fits =
       too-many_ err stop status (too_many_of sources out (Err stop) command placings is (performs.command command spelled) many) ends fits
+
+-- ---- trials
+
+-- what stops one is a failed write, or want of memory
+trial_stop : {K E : Type 0} (out : Change K) (err : Change E) (stop : Stop) (status : ℕ) → EndsTrial out (Err stop) → Concludes stop status err → ¬ HasFault out → status ≢ 4 → status ≡ 0
+trial_stop out err WriteFault status does ends write fits = absurd (write does)
+trial_stop out err NoMemory status does ends write fits = elim ends.ended [ inl p ↦ absurd (fits p.0) | inr p ↦ absurd p.0 ]
+trial_stop out err NotUnderstood status does ends write fits = absurd does
+trial_stop out err (Refused refusal place) status does ends write fits = absurd does
+trial_stop out err (Mismatched x y) status does ends write fits = absurd does
+trial_stop out err (ReadFault k) status does ends write fits = absurd does
+
+pub trials-stopped : {A K E : Type 0} (words : List (List ℕ)) (sources : Sources A) (out : Change K) (err : Change E) (stop : Stop) (status : ℕ) (seed n k : ℕ)
+    → Performs words sources out (Err stop) → Concludes stop status err → AskFor words (trial seed n k) → ¬ HasFault out → status ≢ 4 → status ≡ 0
+trials-stopped words sources out err stop status seed n k performs ends spelled = trial_stop out err stop status (performs.command (trial seed n k) spelled).1.ends ends
 
 -- ---- status 2
 
@@ -375,6 +394,14 @@ told_of_command : {K : Type 0} (text : Option (List ℕ)) (out : Change K) (stop
 told_of_command None out stop tells = absurd tells
 told_of_command (Some text) out stop tells = writes_of_command text out stop tells
 
+trial_of_command : {K : Type 0} (out : Change K) (stop : Stop) → EndsTrial out (Err stop) → IsOfCommand stop
+trial_of_command out NotUnderstood ends = ends
+trial_of_command out (Mismatched x y) ends = tt
+trial_of_command out (Refused refusal place) ends = tt
+trial_of_command out (ReadFault k) ends = tt
+trial_of_command out WriteFault ends = tt
+trial_of_command out NoMemory ends = tt
+
 does_of_command : {A K : Type 0} (command : Command) (sources : Sources A) (out : Change K) (stop : Stop) → Does command sources out (Err stop) → IsOfCommand stop
 does_of_command (show file) sources out stop does = does.0
 does_of_command (extract tid level index file) sources out stop does = does.0
@@ -383,6 +410,7 @@ does_of_command (merge level placings) sources out stop does = does.stop
 does_of_command (play level placings) sources out stop does = does.stop
 does_of_command (check_merge placings) sources out stop does = does.stop
 does_of_command (verify finished placings) sources out stop does = does.stop
+does_of_command (trial seed n k) sources out stop does = trial_of_command out stop does.1.ends
 does_of_command help sources out stop does = writes_of_command help_text out stop does.1
 does_of_command version sources out stop does = writes_of_command version_text out stop does.1
 does_of_command (explain word) sources out stop does = told_of_command (explanation word) out stop does.1

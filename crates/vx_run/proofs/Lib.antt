@@ -20,6 +20,7 @@ pub mod Numbering
 pub mod Once
 pub mod Performing
 pub mod Placings
+pub mod PlayAgain
 pub mod Playing
 pub mod PlayOnce
 pub mod PlayRegions

@@ -20,6 +20,7 @@ use Rattle.vx_merge.specs.Merging.{Passes}
 use Rattle.vx_again.specs.Sources.{CanBeMerged, PicturesCanBeMerged}
 use Rattle.vx_again.specs.Streams.{AreMerged, earlier, lasts}
 use Rattle.vx_again.specs.Whole.{MergeIsReadAgain}
+use Rattle.vx_again.proofs.Played.{can_before}
 use Rattle.vx_run.specs.declared.merge.Work.TheVariants.{Write}
 use Rattle.vx_run.specs.declared.stop.Stop.{Stop}
 use Rattle.vx_run.specs.declared.stop.Stop.TheVariants.{NotUnderstood, Mismatched, Refused, ReadFault, WriteFault, NoMemory}
@@ -36,7 +37,7 @@ use Rattle.vx_run.proofs.ReadAgain.{of_source, units_stand}
 -- ---- the first pictures of a stream
 
 -- one more of them
-first_more : (n : ℕ) (s : Stream) (p : Picture) → picture_in n s ≡ Some p → first_of (suc n) s ≡ p ∷ first_of n s
+pub first_more : (n : ℕ) (s : Stream) (p : Picture) → picture_in n s ≡ Some p → first_of (suc n) s ≡ p ∷ first_of n s
 first_more n s p at =
     let ps : List Picture = reverse s.pictures in
     let more : take (suc n) ps ≡ take n ps ++ p ∷ [] =
@@ -50,13 +51,13 @@ first_all n s many =
     ap (λ (l : List Picture). reverse l) (take_all n (reverse s.pictures) short) ∙ reverse-reverse s.pictures
 
 -- and those behind them
-first_front : (n : ℕ) (s : Stream) → reverse (drop n (reverse s.pictures)) ++ first_of n s ≡ s.pictures
+pub first_front : (n : ℕ) (s : Stream) → reverse (drop n (reverse s.pictures)) ++ first_of n s ≡ s.pictures
 first_front n s =
     let ps : List Picture = reverse s.pictures in
     sym (reverse-append (take n ps) (drop n ps)) ∙ ap (λ (l : List Picture). reverse l) (take-append-drop n ps) ∙ reverse-reverse s.pictures
 
 -- of streams that have all ended behind n rounds
-all_first : (n : ℕ) (ss : List Stream) → AllEnded ss n → map (first_of n) ss ≡ map (λ (s : Stream). s.pictures) ss
+pub all_first : (n : ℕ) (ss : List Stream) → AllEnded ss n → map (first_of n) ss ≡ map (λ (s : Stream). s.pictures) ss
 all_first n [] ended = refl
 all_first n (s ∷ ss) ended =
     ap (λ (l : List Picture). l ∷ map (first_of n) ss) (first_all n s (ended zero s (omega arith) refl).0)
@@ -65,7 +66,7 @@ all_first n (s ∷ ss) ended =
 -- ---- rounds
 
 -- round n, the last of the rounds of the first n + 1 pictures
-record IsOfFirst (ss : List Stream) (n : ℕ) (round : List Parts) : Type 0 where
+pub record IsOfFirst (ss : List Stream) (n : ℕ) (round : List Parts) : Type 0 where
   pub pictures : List Picture
   pub parts : map parts_of pictures ≡ round
   pub last : lasts (map (first_of (suc n)) ss) ≡ map (λ (q : Picture). let o : Option Picture = Some q in o) pictures
@@ -90,7 +91,7 @@ round_more s ss n p q round at is others =
     }
 
 -- and of all
-round_of : (ss : List Stream) (n : ℕ) (round : List Parts) → IsRound ss n round → IsOfFirst ss n round
+pub round_of : (ss : List Stream) (n : ℕ) (round : List Parts) → IsRound ss n round → IsOfFirst ss n round
 round_of [] n [] is = record { pictures = []; parts = refl; last = refl; before = refl }
 round_of [] n (q ∷ round) is = absurd (omega (arith, ap (λ l. length l) is))
 round_of (s ∷ ss) n [] is = absurd (omega (arith, ap (λ l. length l) is))
@@ -118,14 +119,9 @@ merged_of corners level ss (p ∷ done) plans =
 -- ---- pictures that can be merged
 
 module _ (R : Readers) where
-  -- those before others
-  can_before : (later ps : List Picture) → CanBeMerged R (later ++ ps) → CanBeMerged R ps
-  can_before [] ps can = can
-  can_before (p ∷ later) ps can = can_before later ps (record { finished = can.finished.2; each = can.each.1 })
-
   module _ (units : UnitsCanStand) (law : PicturesCanBeMerged) (of : AreOfH266 R) where
     -- those of bytes
-    told_can : (s : Stream) → IsToldBy R s → CanBeMerged R s.pictures
+    pub told_can : (s : Stream) → IsToldBy R s → CanBeMerged R s.pictures
     told_can s told =
         let b : List ℕ = take source_limit told.0 in
         let stand = units_stand units b (nat_le (length told.0) source_limit) told.1.places told.1.stream.follow in
@@ -134,7 +130,7 @@ module _ (R : Readers) where
     first_can : (n : ℕ) (ss : List Stream) → AllByRecursion (IsToldBy R) ss → AllByRecursion (CanBeMerged R) (map (first_of n) ss)
     first_can n [] told = tt
     first_can n (s ∷ ss) told = (
-      can_before (reverse (drop n (reverse s.pictures))) (first_of n s) (subst (CanBeMerged R) (sym (first_front n s)) (told_can s told.0)),
+      can_before R (reverse (drop n (reverse s.pictures))) (first_of n s) (subst (CanBeMerged R) (sym (first_front n s)) (told_can s told.0)),
       first_can n ss told.1,
     )
 
@@ -156,6 +152,10 @@ all_streams : (P : Stream → Type 0) (ss : List Stream) → ((k : ℕ) (s : Str
 all_streams P [] each = tt
 all_streams P (s ∷ ss) each = (each zero s refl, all_streams P ss (λ k. each (suc k)))
 
+-- sources tell their streams
+pub all_told : {A : Type 0} (R : Readers) (sources : Sources A) (ss : List Stream) → AreTold R sources ss → AllByRecursion (IsToldBy R) ss
+all_told R sources ss told = all_streams (IsToldBy R) ss (λ k s at. let t = told.each k s at in (t.0, t.2))
+
 -- ---- what the command did
 
 module _ (law : WrittenIsReadAgain) (R : Readers) (of : AreOfH266 R) {Z : Type 0} (words : List (String Z))
@@ -167,8 +167,7 @@ module _ (law : WrittenIsReadAgain) (R : Readers) (of : AreOfH266 R) {Z : Type 0
   again : (ss : List Stream) (done : List Plan) → AreTold R sources ss → AreWritten corners level ss done
       → IsMergedAgain R corners (map (first_of (length done)) ss) (bytes_of done)
   again ss done told plans =
-      let each = all_streams (IsToldBy R) ss (λ k s at. let t = told.each k s at in (t.0, t.2)) in
-      law R corners level ss done of (are_corners words spell some few) (omega (arith, many_corners words, count, told.count)) each plans
+      law R corners level ss done of (are_corners words spell some few) (omega (arith, many_corners words, count, told.count)) (all_told R sources ss told) plans
 
   again_all : (ss : List Stream) (done : List Plan) → AreTold R sources ss → EndsWritten corners level ss done (Ok tt)
       → IsMergedAgain R corners (map (λ (s : Stream). s.pictures) ss) (bytes_of done)

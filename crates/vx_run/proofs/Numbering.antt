@@ -30,7 +30,7 @@ as_digits = record { to = λ ds p. p; from = λ ds p. p; same = λ ds d. refl }
 
 -- digits that are read with no plus and no further zero are the number's
 read_digits : {E : Type 0} (word : List ℕ) (n : ℕ) (plus : Bool) (r : Result ℕ E)
-    → OkIff r (IsNumeral 10 (drop (cond plus 1 0) word) × (digits_value 10 (drop (cond plus 1 0) word) < 2 ^ 16)) (digits_value 10 (drop (cond plus 1 0) word))
+    → OkIff r (IsNumeral 10 (drop (cond plus 1 0) word) × (digits_value 10 (drop (cond plus 1 0) word) < 2 ^ 32)) (digits_value 10 (drop (cond plus 1 0) word))
     → r ≡ Ok n → (plus ≡ true → length word ≤ 1) → (48 ≡ get_or word 0 0 → length word ≤ 1) → word ≡ decimal n
 read_digits word n true (Ok m) reads is short lead = absurd (omega (arith, reads.0.0.0, short refl, length-drop 1 word))
 read_digits word n false (Ok m) reads is short lead =
@@ -42,19 +42,19 @@ read_digits word n plus (Err e) reads is short lead = absurd (cc)
 short_word : (word : List ℕ) → (1 < length word → 49 ≤ get_or word 0 0) → get_or word 0 0 < 49 → length word ≤ 1
 short_word word lead low = elim (cases_lt 1 (length word)) [ inl long ↦ absurd (omega (arith, lead long, low)) | inr few ↦ few ]
 
-pub number_read : {E : Type 0} (word : List ℕ) (n : ℕ) (r : Result ℕ E) → ParsesUnsigned 16 10 word r → r ≡ Ok n → (1 < length word → 49 ≤ get_or word 0 0) → word ≡ decimal n
+pub number_read : {E : Type 0} (word : List ℕ) (n : ℕ) (r : Result ℕ E) → ParsesUnsigned 32 10 word r → r ≡ Ok n → (1 < length word → 49 ≤ get_or word 0 0) → word ≡ decimal n
 number_read word n r reads is lead =
     read_digits word n (eqb (get_or word 0 0) 43) r reads is
     (λ plus. let first = eqb-true (get_or word 0 0) 43 plus in short_word word lead (omega (arith, first)))
     (λ zero_. short_word word lead (omega (arith, zero_)))
 
 -- it is answered where it isn't too great
-pub number_answer : {E : Type 0} (word : List ℕ) (n most : ℕ) (o : Option ℕ) (r : Result ℕ E) → most < 2 ^ 16 → ParsesUnsigned 16 10 word r → r ≡ Ok n → (1 < length word → 49 ≤ get_or word 0 0)
+pub number_answer : {E : Type 0} (word : List ℕ) (n most : ℕ) (o : Option ℕ) (r : Result ℕ E) → most < 2 ^ 32 → ParsesUnsigned 32 10 word r → r ≡ Ok n → (1 < length word → 49 ≤ get_or word 0 0)
     → (b : Bool) → nat_le n most ≡ b → o ≡ then_some b n → MatchOption o ((m : ℕ) → m ≤ most → word ≡ decimal m → ⊥) (λ k. (word ≡ decimal k) × (k ≤ most))
 number_answer word n most o r small reads is lead true test gives = rw gives (number_read word n r reads is lead, leb-true n most test)
 number_answer word n most o r small reads is lead false test gives =
     rw gives (λ m within spells.
-    let same : r ≡ Ok m = parse-decimal 16 m word r (omega (arith, within, small)) (omega (arith, within, small)) spells reads in
+    let same : r ≡ Ok m = parse-decimal 32 m word r (omega (arith, within, small)) (omega (arith, within, small)) spells reads in
     let one : n ≡ m = cc in
     omega (arith, leb-false n most test, one, within))
 
@@ -80,7 +80,7 @@ behind_text {A = A} (x ∷ xs) w name some at is =
 -- ---- what comes first
 
 -- one number does, with the words behind it
-pub number_once : (most : ℕ) (words : List (List ℕ)) (n m : ℕ) (rest others : List (List ℕ)) → most < 2 ^ 16 → IsNumberFirst most words n rest → IsNumberFirst most words m others → (n ≡ m) × (rest ≡ others)
+pub number_once : (most : ℕ) (words : List (List ℕ)) (n m : ℕ) (rest others : List (List ℕ)) → most < 2 ^ 32 → IsNumberFirst most words n rest → IsNumberFirst most words m others → (n ≡ m) × (rest ≡ others)
 number_once most words n m rest others small p q =
     let both = sym p.spelled ∙ q.spelled in (
       decimal_injective n m (omega (arith, p.within)) (omega (arith, q.within)) (ap (λ (ws : List (List ℕ)). get_or ws 0 []) both),
@@ -88,7 +88,7 @@ number_once most words n m rest others small p q =
     )
 
 -- and one option, or none
-pub option_once : (name : List ℕ) (most : ℕ) (words : List (List ℕ)) (a b : Option ℕ) (rest others : List (List ℕ)) → most < 2 ^ 16 → IsOptionFirst name most words a rest → IsOptionFirst name most words b others → (a ≡ b) × (rest ≡ others)
+pub option_once : (name : List ℕ) (most : ℕ) (words : List (List ℕ)) (a b : Option ℕ) (rest others : List (List ℕ)) → most < 2 ^ 32 → IsOptionFirst name most words a rest → IsOptionFirst name most words b others → (a ≡ b) × (rest ≡ others)
 option_once name most words None None rest others small p q = (refl, p.0 ∙ sym q.0)
 option_once name most words None (Some m) rest others small p q = absurd (p.1 q.0 q.1)
 option_once name most words (Some n) None rest others small p q = absurd (q.1 p.0 p.1)

@@ -19,7 +19,7 @@ use Rattle.vx_run.specs.declared.stop.Stop.{Stop}
 use Rattle.vx_run.specs.declared.stop.Stop.TheVariants.{Refused}
 use Rattle.vx_run.specs.Conclusion.{Outcome}
 use Rattle.vx_run.specs.Rounds.{Stream, picture_in, GoesOn, HasEnded, IsRefused, OfStream, IsRound, NoneRefused, Telling, StopsIn, by_stream, by_length, by_round, EndsIn, in_round, AllEnded}
-use Rattle.vx_run.specs.Merge.{AreWritten, merge_telling, EndsWritten, EndsOnce}
+use Rattle.vx_run.specs.Merge.{AreWritten, merge_telling, EndsOnce}
 use Rattle.vx_run.proofs.Indexed.{some_at}
 
 -- ---- lists

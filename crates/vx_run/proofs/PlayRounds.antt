@@ -1,5 +1,5 @@
 -- The steps of rounds that are played, as the functions of `play` answer them.
-use Rattle.std.proofs.Common.{◌≡◌, ◌≢◌, ℕ, zero, suc, ◌+◌, ◌<◌, ◌≤◌, ◌⊎◌, List, [], ◌∷◌, ◌∙◌, Option, Some, None, Result, Ok, Err, Bool, true, false, length, map, slice_get, slice_set, inl, inr, sym, ap, refl, subst, arith}
+use Rattle.std.proofs.Common.{◌≡◌, ◌≢◌, ℕ, ◌+◌, ◌<◌, ◌⊎◌, List, [], ◌∙◌, Option, Some, None, Result, Ok, Err, Bool, true, false, length, map, slice_get, slice_set, inl, inr, sym, ap, refl, subst, arith}
 use Rattle.std.specs.Prelude.{replicate, slice_index}
 use Rattle.std.specs.Bool.{OnTrue, OnFalse}
 use Rattle.std.proofs.lemmas.Bool.{OnTrue_at, OnFalse_at}
@@ -21,10 +21,10 @@ use Rattle.vx_run.specs.Change.{Change, Sources, change, sources_change}
 use Rattle.vx_run.specs.declared.stop.Stop.TheVariants.{NotUnderstood, Mismatched, Refused, ReadFault, WriteFault, NoMemory}
 use Rattle.vx_run.specs.Conclusion.{Outcome, IsOfCommand}
 use Rattle.vx_run.specs.Merge.{length_refused}
-use Rattle.vx_run.specs.Play.{PlaysBy, too_many_files}
+use Rattle.vx_run.specs.Play.{too_many_files}
 use Rattle.vx_run.specs.inner.Advancing.{GoesBy, IsUnfed, OfAll}
 use Rattle.vx_run.specs.inner.Merging.{stop_in}
-use Rattle.vx_run.specs.inner.Playing.{AdvancesRegions, AreFew, GoesOn, HasAsked, HasPlayed, IsAt, IsPlaced, PlaysRound, SameBut, SameFiles, StopsAt, WentOn, WritesRound}
+use Rattle.vx_run.specs.inner.Playing.{AdvancesRegions, AreFew, GoesOn, HasAsked, HasPlayed, IsAt, IsPlaced, PlaysRound, PlaysRounds, SameBut, SameFiles, WentOn, WritesRound}
 use Rattle.vx_run.proofs.Playing.{played_none}
 use Rattle.vx_run.proofs.RegionFiles.{at_first}
 
@@ -107,9 +107,9 @@ played_same taken_ writes o o' b m m' n outcome fs gs same plays =
 
 module _ {A K : Type 0} (bytes : A → Option (List ℕ)) (faults : A → ℕ) (taken_ : K → Option (List ℕ)) (writes : K → ℕ) (R : Readers) (first : List A) (o : K) (corners : List Corner) (level : Option ℕ) where
   -- the regions are those of these files
-  pub plays_so : (regions files : List ℕ) (l : List A) (o' : K) (outcome : Outcome) → regions ≡ files → PlaysBy R corners level regions (sources_change bytes faults first l) (change taken_ writes o o') outcome
-      → PlaysBy R corners level files (sources_change bytes faults first l) (change taken_ writes o o') outcome
-  plays_so regions files l o' outcome same plays = subst (λ (r : List ℕ). PlaysBy R corners level r (sources_change bytes faults first l) (change taken_ writes o o') outcome) same plays
+  pub plays_so : (regions files : List ℕ) (l : List A) (o' : K) (outcome : Outcome) → regions ≡ files → PlaysRounds R corners level regions (sources_change bytes faults first l) (change taken_ writes o o') outcome
+      → PlaysRounds R corners level files (sources_change bytes faults first l) (change taken_ writes o o') outcome
+  plays_so regions files l o' outcome same plays = subst (λ (r : List ℕ). PlaysRounds R corners level r (sources_change bytes faults first l) (change taken_ writes o o') outcome) same plays
 
   -- a schedule before the first round
   pub play_begins : (files : List ℕ) (s : Scheduled) → s ≡ record { regions = files; gone = replicate (regions_in files) 0; last = None } → length files ≡ length first → regions_in files ≡ length corners
@@ -126,10 +126,10 @@ module _ {A K : Type 0} (bytes : A → Option (List ℕ)) (faults : A → ℕ) (
       begun = record { regions = files; gone = replicate (regions_in files) 0; last = None }
 
 -- and their corners are these
-pub plays_of : {A K : Type 0} (R : Readers) (sources : Sources A) (out : Change K) (corners own : List Corner) (level : Option ℕ) (regions files : List ℕ) (outcome : Outcome) → corners ≡ own → regions ≡ files → PlaysBy R corners level regions sources out outcome
-    → PlaysBy R own level files sources out outcome
+pub plays_of : {A K : Type 0} (R : Readers) (sources : Sources A) (out : Change K) (corners own : List Corner) (level : Option ℕ) (regions files : List ℕ) (outcome : Outcome) → corners ≡ own → regions ≡ files → PlaysRounds R corners level regions sources out outcome
+    → PlaysRounds R own level files sources out outcome
 plays_of R sources out corners own level regions files outcome same alike plays =
-    subst (λ (c : List Corner). PlaysBy R c level files sources out outcome) same (subst (λ (r : List ℕ). PlaysBy R corners level r sources out outcome) alike plays)
+    subst (λ (c : List Corner). PlaysRounds R c level files sources out outcome) same (subst (λ (r : List ℕ). PlaysRounds R corners level r sources out outcome) alike plays)
 
 -- ---- how many files there may be
 

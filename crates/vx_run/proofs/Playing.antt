@@ -1,10 +1,10 @@
 -- What rounds that are played come to.
-use Rattle.std.proofs.Common.{◌≡◌, ◌≢◌, ℕ, zero, suc, ◌+◌, ◌*◌, ◌^◌, ◌<◌, ◌≤◌, ◌⊎◌, List, [], ◌∷◌, ◌++◌, ◌∙◌, Option, Some, None, Result, Ok, Err, Bool, true, false, not, cond, ◌&&◌, nat_lt, length, map, get_or, slice_get, inl, inr, sym, ap, refl, subst, arith}
+use Rattle.std.proofs.Common.{◌≡◌, ◌≢◌, ℕ, zero, suc, ◌+◌, ◌^◌, ◌<◌, ◌≤◌, ◌⊎◌, List, [], ◌∷◌, ◌++◌, ◌∙◌, Option, Some, Result, Ok, Err, Bool, true, false, not, ◌&&◌, nat_lt, length, map, get_or, slice_get, inl, inr, sym, ap, refl, subst, arith}
 use Rattle.std.specs.Prelude.{option_map, slice_index}
 use Rattle.std.specs.List.{All, AllByRecursion, list_any, range_with_len}
 use Rattle.std.proofs.Math.Nat.{le-max_left, le-max_right}
 use Rattle.std.proofs.lemmas.Bool.{lt-ltb}
-use Rattle.std.proofs.lemmas.List.{length-append, length-map}
+use Rattle.std.proofs.lemmas.List.{length-map}
 use Rattle.std.proofs.lemmas.Option.{slice_get_within, slice_get-get_or, same_Some}
 use Rattle.vx_bits.specs.declared.refusal.Refusal.{Refusal}
 use Rattle.vx_annexb.specs.Laws.{written}
@@ -30,19 +30,17 @@ use Rattle.vx_play.specs.Scheduled.{Scheduled, files_of, count_of as regions_in}
 use Rattle.vx_run.specs.declared.merge.Work.TheVariants.{Write}
 use Rattle.vx_run.specs.declared.stop.Stop.{Stop}
 use Rattle.vx_run.specs.declared.stop.Stop.TheVariants.{NotUnderstood, Mismatched, Refused, ReadFault, WriteFault, NoMemory}
-use Rattle.vx_run.specs.Change.{Change, Sources, change, sources_change, source_at, HasNoFault, Gains}
+use Rattle.vx_run.specs.Change.{Change, Sources, change, sources_change, source_at, Gains}
 use Rattle.vx_run.specs.Conclusion.{Outcome}
 use Rattle.vx_run.specs.Merge.{bytes_of, length_refused, GainsInto}
-use Rattle.vx_run.specs.Play.{ArePlayed, ArePlayedFor, ArePlayedInRound, ArePlayedOf, ComesAt, EndsPlayed, IsBehind, OthersArePlayed, PassesWhere, PlaysBy, at_file, at_round, begins_in, count_of, is_join, marked, pictures_in, play_telling, region_stream, region_streams, refused_file}
+use Rattle.vx_run.specs.Play.{ArePlayedFor, ArePlayedInRound, ArePlayedOf, ComesAt, EndsPlayed, IsBehind, OthersArePlayed, PassesWhere, at_file, at_round, begins_in, count_of, is_join, marked, pictures_in, play_telling, region_stream, region_streams, refused_file}
 use Rattle.vx_run.specs.Rounds.{Stream, picture_in, AllEnded, AreTold, GoesOn, HasEnded, IsRead, IsReadOut, IsRound, NoneRefused, OfEach, StopsIn, by_round, by_stream, behind_units, in_round}
-use Rattle.vx_run.specs.inner.Merging.{DoesRound}
-use Rattle.vx_run.specs.inner.Advancing.{GoesBy}
-use Rattle.vx_run.specs.inner.Playing.{AdvancesRegions, AllRead, ArePlaced, Ends, GoesOn as GoesFrom, HasPlayed, HasTakenSo, IsAt, IsCut, IsLost, IsPlaced, PlaysRound, StopsAt, Takes, Went, WentOn, WritesRound}
+use Rattle.vx_run.specs.inner.Playing.{AdvancesRegions, AllRead, HasPlayed, HasTakenSo, IsPlaced, PlaysRound, PlaysRounds, StopsAt, Takes, Went, WentOn, WritesRound}
 use Rattle.vx_run.proofs.Advancing.{each_holds, length_stops, unread}
 use Rattle.vx_run.proofs.Gained.{Gains-nothing}
 use Rattle.vx_run.proofs.Indexed.{any_default, choose, mapped_at, same_lists, some_at, where_is}
-use Rattle.vx_run.proofs.RegionFiles.{AreOfRegion, at_first, at_read, behind_current, behind_of, behind_read, few_files, file_has, files_are, out_out, out_read}
-use Rattle.vx_run.proofs.RegionRounds.{any_moved, at_for, behind_count, cut_told, ends_in, ends_told, flags_ended, flags_first, flags_kept, many_streams, of_each, stream_at, taken_one, takes_in, takes_told}
+use Rattle.vx_run.proofs.RegionFiles.{AreOfRegion, at_read, behind_current, behind_of, behind_read, few_files, file_has, files_are, out_out, out_read}
+use Rattle.vx_run.proofs.RegionRounds.{any_moved, at_for, behind_count, cut_told, ends_in, ends_told, flags_ended, flags_first, many_streams, of_each, stream_at, takes_in, takes_told}
 use Rattle.vx_run.proofs.Sources.{part_in, takes_read}
 use Rattle.vx_run.proofs.Working.{did_front, did_nothing, did_one}
 
@@ -110,7 +108,7 @@ region_below (r ∷ regions) (suc j) within = omega (arith, region_below regions
 
 -- there was no memory to begin
 pub play_unmade : {A K : Type 0} (bytes : A → Option (List ℕ)) (faults : A → ℕ) (taken_ : K → Option (List ℕ)) (writes : K → ℕ) (R : Readers) (first : List A) (o : K) (corners : List Corner) (level : Option ℕ) (regions : List ℕ)
-    → PlaysBy R corners level regions (sources_change bytes faults first first) (change taken_ writes o o) (Err NoMemory)
+    → PlaysRounds R corners level regions (sources_change bytes faults first first) (change taken_ writes o o) (Err NoMemory)
 play_unmade bytes faults taken_ writes R first o corners level regions = (unread bytes faults R first, refl, λ files are. ([], tt, Gains-nothing taken_ writes o o refl))
 
 module _ {A K : Type 0} (bytes : A → Option (List ℕ)) (faults : A → ℕ) (taken_ : K → Option (List ℕ)) (writes : K → ℕ) (R : Readers) (first : List A) (o : K) (corners : List Corner) (level : Option ℕ)
@@ -125,7 +123,7 @@ module _ {A K : Type 0} (bytes : A → Option (List ℕ)) (faults : A → ℕ) (
   Out o' = change taken_ writes o o'
 
   abbrev Comes : List A → K → Outcome → Type 0
-  Comes l o' outcome = PlaysBy R corners level s.regions (Src l) (Out o') outcome
+  Comes l o' outcome = PlaysRounds R corners level s.regions (Src l) (Out o') outcome
 
   abbrev Js : ℕ → List ℕ
   Js k = files_of s.regions k
@@ -541,13 +539,13 @@ module _ {A K : Type 0} (bytes : A → Option (List ℕ)) (faults : A → ℕ) (
   plans_told files are = h.plans files (record { count = are.count; each = are.each })
 
   -- a region, or their lengths, stopped it
-  pub advance_stops : (stop : Stop) → Advanced (Err stop) → PlaysBy R corners level s.regions Own (change taken_ writes o o') (Err stop)
+  pub advance_stops : (stop : Stop) → Advanced (Err stop) → PlaysRounds R corners level s.regions Own (change taken_ writes o o') (Err stop)
   advance_stops stop (inl at) = play_halted bytes faults taken_ writes R first o corners level s many enough l' s' fs ended fits h.passed h.own n so_taken o' h.done h.count plans_told h.gained stop at
   advance_stops stop (inr by) =
-      subst (λ (x : Stop). PlaysBy R corners level s.regions Own (change taken_ writes o o') (Err x)) (sym by.1.2)
+      subst (λ (x : Stop). PlaysRounds R corners level s.regions Own (change taken_ writes o o') (Err x)) (sym by.1.2)
       (play_uneven bytes faults taken_ writes R first o corners level s many enough l' s' fs ended fits h.passed h.own n so_taken o' h.done h.count plans_told h.gained by.0 flags by.1.0 by.1.1)
 
-  pub advance_done : Advanced (Ok false) → PlaysBy R corners level s.regions Own (change taken_ writes o o') (Ok tt)
+  pub advance_done : Advanced (Ok false) → PlaysRounds R corners level s.regions Own (change taken_ writes o o') (Ok tt)
   advance_done by = play_done bytes faults taken_ writes R first o corners level s many enough l' s' fs ended fits h.passed h.own n so_taken o' h.done h.count plans_told h.gained by.0 flags by.1
 
   -- ---- a picture of each was taken
@@ -565,7 +563,7 @@ module _ {A K : Type 0} (bytes : A → Option (List ℕ)) (faults : A → ℕ) (
       abbrev Answered : Outcome → Type 0
       Answered outcome = (done : List Plan) → Stands m done → PlaysRound b (map (λ (f : Feeding). lent_by f.assembler) fs) done m' (change taken_ writes o' o'') n outcome
 
-      pub round_stops : (stop : Stop) → Answered (Err stop) → PlaysBy R corners level s.regions Own (change taken_ writes o o'') (Err stop)
+      pub round_stops : (stop : Stop) → Answered (Err stop) → PlaysRounds R corners level s.regions Own (change taken_ writes o o'') (Err stop)
       round_stops stop did = play_stopped bytes faults taken_ writes R first o corners level s many enough l' s' fs ended fits h.passed h.own n so_taken o' h.done h.count plans_told h.gained by.0 flags by.1 b regions_gone still moved stayed o'' m m' corners_same level_same task h.stands stop (did h.done h.stands)
 
       pub round_goes : (s'' : Scheduled) → s''.regions ≡ s.regions → s''.gone ≡ s'.gone → Answered (Ok tt) → HasPlayed R corners level Own (change taken_ writes o o'') s'' fs m' (n + 1)

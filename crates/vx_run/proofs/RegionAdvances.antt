@@ -1,5 +1,5 @@
 -- What came of a region at one of its files, as the functions of `play` answer it.
-use Rattle.std.proofs.Common.{◌≡◌, ◌≢◌, ℕ, ◌+◌, ◌^◌, ◌<◌, ◌≤◌, List, ◌∙◌, Option, Some, Result, Ok, Err, Bool, true, false, length, get_or, slice_get, slice_set, sym, ap, refl, subst, arith}
+use Rattle.std.proofs.Common.{◌≡◌, ◌≢◌, ℕ, ◌+◌, ◌^◌, ◌<◌, ◌≤◌, List, ◌∙◌, Option, Some, Result, Ok, Err, Bool, true, false, length, get_or, slice_get, slice_set, sym, ap, subst, arith}
 use Rattle.std.specs.Prelude.{slice_index}
 use Rattle.std.proofs.lemmas.List.{get_or-set_same, get_or-set_other, length-set}
 use Rattle.vx_annexb.specs.ByteStream.{UnitPlace}

@@ -1,15 +1,13 @@
 -- The files of a region, in order: those that were read out, the one that is read, and those behind it.
-use Rattle.std.proofs.Common.{◌≡◌, ◌≢◌, ℕ, zero, suc, ◌+◌, ◌<◌, ◌≤◌, ◌==◌, ◌⊎◌, List, [], ◌∷◌, ◌++◌, ◌∙◌, Option, Some, Result, Ok, Err, Bool, true, false, cond, length, filter, slice_get, inl, inr, sym, ap, refl, subst, arith}
+use Rattle.std.proofs.Common.{◌≡◌, ◌≢◌, ℕ, zero, suc, ◌+◌, ◌<◌, ◌≤◌, ◌==◌, ◌⊎◌, List, [], ◌∷◌, ◌++◌, ◌∙◌, Option, Some, Bool, true, false, cond, length, filter, slice_get, inl, inr, sym, ap, refl, subst, arith}
 use Rattle.std.specs.Prelude.{None, slice_index, option_and_then}
 use Rattle.std.specs.Option.{option_map_or}
 use Rattle.std.specs.List.{AllByRecursion, range_with_len}
 use Rattle.std.specs.Io.KnownBytes.{Consumes, IsAtEnd}
 use Rattle.std.proofs.KnownBytes.{Consumes-nil}
 use Rattle.std.proofs.lemmas.Bool.{eq-eqb, eqb-true}
-use Rattle.std.proofs.lemmas.List.{length-append}
-use Rattle.std.proofs.lemmas.Option.{slice_get_within, same_Some}
-use Rattle.vx_io.specs.Listed.{bytes_at, faults_at}
-use Rattle.vx_pic.specs.Joined.{one_behind_another}
+use Rattle.std.proofs.lemmas.Option.{same_Some}
+use Rattle.vx_io.specs.Listed.{bytes_at}
 use Rattle.vx_pic.specs.Readings.{Picture}
 use Rattle.vx_pic.specs.Rules.{Readers}
 use Rattle.vx_assemble.specs.Feed.{Feeding}

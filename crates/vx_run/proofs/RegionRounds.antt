@@ -1,19 +1,17 @@
 -- What the files of regions tell of a round.
-use Rattle.std.proofs.Common.{◌≡◌, ◌≢◌, ℕ, zero, suc, ◌+◌, ◌*◌, ◌^◌, ◌<◌, ◌≤◌, ◌⊎◌, List, [], ◌∷◌, ◌++◌, ◌∙◌, Option, Some, None, Result, Ok, Err, Bool, true, false, not, ◌&&◌, nat_lt, length, map, get_or, slice_get, inl, inr, sym, ap, refl, subst, arith}
+use Rattle.std.proofs.Common.{◌≡◌, ◌≢◌, ℕ, zero, suc, ◌+◌, ◌<◌, ◌⊎◌, List, [], ◌∷◌, ◌++◌, ◌∙◌, Option, Some, Bool, true, false, length, get_or, slice_get, inl, inr, sym, ap, refl, subst, arith}
 use Rattle.std.specs.Prelude.{option_map, reverse, slice_index}
-use Rattle.std.specs.List.{All, list_any, range_with_len}
-use Rattle.std.proofs.lemmas.List.{length-append, length-map}
+use Rattle.std.specs.List.{list_any, range_with_len}
+use Rattle.std.proofs.lemmas.List.{length-append}
 use Rattle.std.proofs.lemmas.List.FromFn.{get_or-map-range_with_len, get_or-range_with_len, length-map-range_with_len, length-range_with_len}
 use Rattle.std.proofs.lemmas.List.Folds.{list_any_at, list_any_none}
 use Rattle.std.proofs.lemmas.Option.{slice_get_within, slice_get-get_or, same_Some}
 use Rattle.vx_pic.specs.Bytes.{Ending}
 use Rattle.vx_pic.specs.Counts.{is_empty}
 use Rattle.vx_pic.specs.Joined.{begins_file, one_behind_another}
-use Rattle.vx_pic.specs.Parts.{Parts, parts_of}
 use Rattle.vx_pic.specs.Readings.{Picture}
 use Rattle.vx_pic.specs.Rules.{Readers}
 use Rattle.vx_assemble.specs.Feed.{Feeding}
-use Rattle.vx_assemble.specs.Held.{lent_by}
 use Rattle.vx_merge.specs.declared.ended.Lengths.TheVariants as lengths
 use Rattle.vx_merge.specs.declared.ended.Lengths.TheVariants.{Differ}
 use Rattle.vx_merge.specs.Ends.{IsLengths}
@@ -21,9 +19,9 @@ use Rattle.vx_play.specs.Scheduled.{files_of}
 use Rattle.vx_run.specs.Change.{Change, Sources, sources_change, source_at}
 use Rattle.vx_run.specs.Extract.{WhereTold, BeginsWith}
 use Rattle.vx_run.specs.Play.{ArePlayedFor, ArePlayedInRound, AreOut, AreUnread, IsBehind, IsUnread, count_of, no_stream, pictures_in, region_stream, region_streams, refused_file}
-use Rattle.vx_run.specs.Rounds.{Stream, picture_in, AllEnded, AreTold, GoesOn, HasEnded, IsRefused, OfStream}
-use Rattle.vx_run.specs.inner.Advancing.{EndsFirst, TakesOne, Waits}
-use Rattle.vx_run.specs.inner.Playing.{Ends, IsAt, IsCut, HasTakenSo, Takes}
+use Rattle.vx_run.specs.Rounds.{Stream, picture_in, AllEnded, AreTold, GoesOn, HasEnded, IsRefused}
+use Rattle.vx_run.specs.inner.Advancing.{EndsFirst}
+use Rattle.vx_run.specs.inner.Playing.{Ends, IsAt, HasTakenSo, Takes}
 use Rattle.vx_run.proofs.Indexed.{any_default, earlier_stay, latest_at, some_at, where_is}
 use Rattle.vx_run.proofs.RegionFiles.{AreOfRegion}
 use Rattle.vx_run.proofs.RegionTold.{told_cut, told_out, told_takes}
@@ -219,7 +217,7 @@ module _ (count : ℕ) (p : ℕ → Bool) where
   at_number : (k d : ℕ) → k < count → get_or (range_with_len 0 count) k d ≡ k
   at_number k d within = omega (arith, get_or-range_with_len 0 count k d within)
 
-  any_there : (k : ℕ) → k < count → p k ≡ true → list_any p (range_with_len 0 count) ≡ true
+  pub any_there : (k : ℕ) → k < count → p k ≡ true → list_any p (range_with_len 0 count) ≡ true
   any_there k within is =
       let fits : k < length (range_with_len 0 count) = omega (arith, within, length-range_with_len 0 count) in
       list_any_at p (range_with_len 0 count) k 0 fits (ap p (at_number k 0 within) ∙ is)

@@ -1,8 +1,8 @@
 -- A region that goes on, from file to file.
-use Rattle.std.proofs.Common.{◌≡◌, ◌≢◌, ℕ, zero, suc, ◌+◌, ◌*◌, ◌^◌, ◌<◌, ◌≤◌, ◌⊎◌, List, [], ◌∷◌, ◌++◌, ◌∙◌, Option, Some, None, Result, Ok, Err, Bool, true, false, not, length, map, get_or, slice_get, slice_set, inl, inr, sym, ap, refl, subst, arith}
+use Rattle.std.proofs.Common.{◌≡◌, ◌≢◌, ℕ, ◌+◌, ◌^◌, ◌<◌, ◌≤◌, List, [], ◌∷◌, ◌++◌, ◌∙◌, Option, Some, None, Result, Ok, Err, Bool, true, false, length, slice_get, inl, inr, sym, ap, refl, subst, arith}
 use Rattle.std.specs.Prelude.{slice_index}
 use Rattle.std.proofs.lemmas.List.{length-append}
-use Rattle.std.proofs.lemmas.Option.{slice_get_within, same_Some}
+use Rattle.std.proofs.lemmas.Option.{same_Some}
 use Rattle.vx_io.specs.Listed.{bytes_at, faults_at}
 use Rattle.vx_bits.specs.declared.refusal.Refusal.{Refusal}
 use Rattle.vx_pic.specs.Joined.{one_behind_another}
@@ -13,12 +13,12 @@ use Rattle.vx_assemble.specs.Feed.{Feeding, EndsAtEnd}
 use Rattle.vx_run.specs.declared.stop.Stop.{Stop}
 use Rattle.vx_run.specs.declared.stop.Stop.TheVariants.{NotUnderstood, Mismatched, Refused, ReadFault, WriteFault, NoMemory}
 use Rattle.vx_run.specs.Change.{Change, Sources, sources_change, source_at}
-use Rattle.vx_run.specs.Play.{AreOut, IsBehind, IsOut, IsUnread, count_of}
-use Rattle.vx_run.specs.inner.Advancing.{IsUnfed, LendsLatest, TakesOne, Waits}
-use Rattle.vx_run.specs.inner.Playing.{AllRead, AreFew, Ends, GoesOn, IsAt, IsCut, IsLost, IsOn, SameIn, StaysOrBegins, Takes}
-use Rattle.vx_run.proofs.RegionFiles.{AreOfRegion, at_read, behind_current, behind_of, behind_read, behind_stay, goes_behind, out_current, out_read, unread_read, unread_waits}
+use Rattle.vx_run.specs.Play.{IsBehind, IsOut}
+use Rattle.vx_run.specs.inner.Advancing.{IsUnfed, LendsLatest, Waits}
+use Rattle.vx_run.specs.inner.Playing.{AllRead, AreFew, Ends, GoesOn, IsAt, IsCut, IsLost, IsOn, StaysOrBegins, Takes}
+use Rattle.vx_run.proofs.RegionFiles.{AreOfRegion, behind_current, behind_of, behind_read, behind_stay, goes_behind, out_current, out_read, unread_read, unread_waits}
 use Rattle.vx_run.proofs.RegionTold.{count_more, one_more}
-use Rattle.vx_run.proofs.Sources.{Advanced, step_ends, step_none, step_refused, step_takes, step_unread, waits_read, went}
+use Rattle.vx_run.proofs.Sources.{Advanced, step_ends, step_none, step_refused, step_takes, step_unread, went}
 use Rattle.vx_run.proofs.Taking.{taken_below}
 
 module _ {A : Type 0} (bytes : A → Option (List ℕ)) (faults : A → ℕ) (R : Readers) (first : List A) where

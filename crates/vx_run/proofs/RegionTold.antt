@@ -1,11 +1,8 @@
 -- What the bytes of a region's files tell of its pictures.
-use Rattle.std.proofs.Common.{◌≡◌, ◌≢◌, ℕ, zero, suc, ◌+◌, ◌*◌, ◌^◌, ◌<◌, ◌≤◌, ◌⊎◌, List, [], ◌∷◌, ◌++◌, ◌∙◌, Option, Some, None, Result, Ok, Err, Bool, true, false, not, cond, length, map, get_or, slice_get, inl, inr, sym, ap, refl, subst, arith, append_assoc}
+use Rattle.std.proofs.Common.{◌≡◌, ℕ, ◌+◌, ◌<◌, List, [], ◌∷◌, ◌++◌, ◌∙◌, Option, Some, None, cond, length, slice_get, sym, ap, refl, subst, arith, append_assoc}
 use Rattle.std.specs.Prelude.{is_none, option_map, unwrap_or}
-use Rattle.std.specs.Option.{option_or}
-use Rattle.std.specs.List.{range_with_len}
 use Rattle.std.proofs.lemmas.List.{length-append}
-use Rattle.std.proofs.lemmas.Option.{slice_get_within, slice_get-get_or, same_Some}
-use Rattle.vx_bits.specs.declared.refusal.Refusal.{Refusal}
+use Rattle.std.proofs.lemmas.Option.{slice_get-get_or}
 use Rattle.vx_pic.specs.Bytes.{Ending}
 use Rattle.vx_pic.specs.Counts.{is_empty}
 use Rattle.vx_pic.specs.Joined.{begins_file, one_behind_another}

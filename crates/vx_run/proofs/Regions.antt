@@ -1,15 +1,13 @@
 -- Regions that are gone on with, one after another.
-use Rattle.std.proofs.Common.{◌≡◌, ◌≢◌, ℕ, zero, suc, ◌+◌, ◌<◌, ◌≤◌, ◌⊎◌, List, [], ◌∷◌, ◌∙◌, Option, Some, Result, Ok, Err, Bool, true, false, not, length, get_or, slice_get, slice_set, inl, inr, sym, ap, refl, subst, arith}
+use Rattle.std.proofs.Common.{◌≡◌, ◌≢◌, ℕ, ◌+◌, ◌<◌, ◌≤◌, List, ◌∙◌, Option, Some, Ok, Bool, true, false, not, length, get_or, slice_get, slice_set, inl, inr, sym, ap, refl, subst, arith}
 use Rattle.std.specs.Prelude.{slice_index}
-use Rattle.std.proofs.lemmas.Option.{slice_get_within, same_Some}
 use Rattle.vx_pic.specs.Readings.{Picture}
 use Rattle.vx_pic.specs.Rules.{Readers}
 use Rattle.vx_assemble.specs.Feed.{Feeding}
 use Rattle.vx_play.specs.Scheduled.{Scheduled, files_of}
-use Rattle.vx_run.specs.declared.stop.Stop.{Stop}
-use Rattle.vx_run.specs.Change.{Change, Sources, sources_change, source_at}
-use Rattle.vx_run.specs.inner.Playing.{ArePlaced, Ends, GoesOn, IsPlaced, SameBut, StopsAt, Takes, Went, WentOn}
-use Rattle.vx_run.proofs.Indexed.{get_set_other, get_set_there, set_other, set_there, where_is}
+use Rattle.vx_run.specs.Change.{Sources, sources_change}
+use Rattle.vx_run.specs.inner.Playing.{ArePlaced, GoesOn, IsPlaced, SameBut, Takes, Went, WentOn}
+use Rattle.vx_run.proofs.Indexed.{get_set_there, set_other, set_there, where_is}
 use Rattle.vx_run.proofs.RegionFiles.{at_stay, behind_of, behind_stay, files_are, out_stay}
 use Rattle.vx_run.proofs.Sources.{came_still}
 

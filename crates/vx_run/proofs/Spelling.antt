@@ -1,7 +1,8 @@
 -- Words spell one command.
-use Rattle.std.proofs.Common.{◌≡◌, ◌≢◌, ◌∙◌, sym, ap, ℕ, List, [], ◌∷◌, ◌++◌, Option, length, map, codes, get_or, drop, arith, refl}
+use Rattle.std.proofs.Common.{◌≡◌, ◌≢◌, ◌∙◌, sym, ap, ℕ, List, [], ◌∷◌, ◌++◌, Option, length, map, codes, decimal, get_or, drop, arith, refl}
 use Rattle.std.specs.List.{AllByRecursion}
-use Rattle.vx_run.specs.Grammar.{Command, show, extract, check_extract, merge, play, check_merge, verify, help, version, explain, tid_words, level_words, Placing, placing_word, AskFor, IsLevel, IsPlacing}
+use Rattle.std.proofs.lemmas.Fmt.{decimal_injective}
+use Rattle.vx_run.specs.Grammar.{Command, show, extract, check_extract, merge, play, check_merge, verify, trial, help, version, explain, tid_words, level_words, Placing, placing_word, AskFor, IsLevel, IsPlacing}
 use Rattle.vx_run.specs.inner.Placings.{placing_in}
 use Rattle.vx_run.proofs.Numbering.{behind_tid, behind_level, tid_first, only_tid_first, level_first, index_first, option_once, number_once}
 use Rattle.vx_run.proofs.Placings.{placings_read}
@@ -44,6 +45,18 @@ same_names words name l m ps qs p q within are fits being =
     let level = option_once (codes "--level") 255 (behind_name l ps) l m (map placing_word ps) (map placing_word qs) (omega arith) (merge_level l ps within are) (rw same (merge_level m qs fits being)) in
     (level.0, sym (placings_read ps are) ∙ ap (λ (ws : List (List ℕ)). map placing_in ws) level.1 ∙ placings_read qs being)
 
+-- what is spelled behind the name of a trial
+abbrev numbers : (seed sources pictures : ℕ) → List (List ℕ)
+numbers seed sources pictures = decimal seed ∷ decimal sources ∷ decimal pictures ∷ []
+
+same_trial : (words : List (List ℕ)) (s t n m k j : ℕ) → AskFor words (trial s n k) → AskFor words (trial t m j) → trial s n k ≡ trial t m j
+same_trial words s t n m k j p q =
+    let both = sym p.spelled ∙ q.spelled in
+    let seed = decimal_injective s t (omega (arith, p.named.0)) (omega (arith, q.named.0)) (ap (λ (ws : List (List ℕ)). get_or ws 1 []) both) in
+    let sources = decimal_injective n m (omega (arith, p.named.1)) (omega (arith, q.named.1)) (ap (λ (ws : List (List ℕ)). get_or ws 2 []) both) in
+    let pictures = decimal_injective k j (omega (arith, p.named.2)) (omega (arith, q.named.2)) (ap (λ (ws : List (List ℕ)). get_or ws 3 []) both) in
+    cc
+
 -- the words spell one command
 pub spelled_once : (words : List (List ℕ)) (c d : Command) → AskFor words c → AskFor words d → c ≡ d
 spelled_once words (show f) (show g) p q = ap (λ ws. show (get_or ws 1 [])) (sym p.spelled ∙ q.spelled)
@@ -53,6 +66,7 @@ spelled_once words (show f) (merge m qs) p q = absurd (other_first words (codes 
 spelled_once words (show f) (play m qs) p q = absurd (other_letter words (codes "show") (codes "play") (f ∷ []) (behind_name m qs) p.spelled q.spelled (omega arith))
 spelled_once words (show f) (check_merge qs) p q = absurd (other_first words (codes "show") (codes "check") (f ∷ []) (codes "merge" ∷ map placing_word qs) p.spelled q.spelled (omega arith))
 spelled_once words (show f) (verify g qs) p q = absurd (other_first words (codes "show") (codes "verify") (f ∷ []) (codes "merge" ∷ g ∷ map placing_word qs) p.spelled q.spelled (omega arith))
+spelled_once words (show f) (trial u m j) p q = absurd (other_first words (codes "show") (codes "trial") (f ∷ []) (numbers u m j) p.spelled q.spelled (omega arith))
 spelled_once words (show f) help p q = absurd (other_first words (codes "show") (codes "--help") (f ∷ []) [] p.spelled q.spelled (omega arith))
 spelled_once words (show f) version p q = absurd (other_first words (codes "show") (codes "--version") (f ∷ []) [] p.spelled q.spelled (omega arith))
 spelled_once words (show f) (explain w) p q = absurd (other_first words (codes "show") (codes "--explain") (f ∷ []) (w ∷ []) p.spelled q.spelled (omega arith))
@@ -69,6 +83,7 @@ spelled_once words (extract t l i f) (merge m qs) p q = absurd (other_first word
 spelled_once words (extract t l i f) (play m qs) p q = absurd (other_first words (codes "extract") (codes "play") (tid_words t ++ behind_tid l i f) (behind_name m qs) p.spelled q.spelled (omega arith))
 spelled_once words (extract t l i f) (check_merge qs) p q = absurd (other_first words (codes "extract") (codes "check") (tid_words t ++ behind_tid l i f) (codes "merge" ∷ map placing_word qs) p.spelled q.spelled (omega arith))
 spelled_once words (extract t l i f) (verify g qs) p q = absurd (other_first words (codes "extract") (codes "verify") (tid_words t ++ behind_tid l i f) (codes "merge" ∷ g ∷ map placing_word qs) p.spelled q.spelled (omega arith))
+spelled_once words (extract t l i f) (trial u m j) p q = absurd (other_first words (codes "extract") (codes "trial") (tid_words t ++ behind_tid l i f) (numbers u m j) p.spelled q.spelled (omega arith))
 spelled_once words (extract t l i f) help p q = absurd (other_first words (codes "extract") (codes "--help") (tid_words t ++ behind_tid l i f) [] p.spelled q.spelled (omega arith))
 spelled_once words (extract t l i f) version p q = absurd (other_first words (codes "extract") (codes "--version") (tid_words t ++ behind_tid l i f) [] p.spelled q.spelled (omega arith))
 spelled_once words (extract t l i f) (explain w) p q = absurd (other_first words (codes "extract") (codes "--explain") (tid_words t ++ behind_tid l i f) (w ∷ []) p.spelled q.spelled (omega arith))
@@ -84,6 +99,7 @@ spelled_once words (check_extract t i f) (merge m qs) p q = absurd (other_letter
 spelled_once words (check_extract t i f) (play m qs) p q = absurd (other_first words (codes "check") (codes "play") (codes "extract" ∷ (tid_words t ++ behind_level i f)) (behind_name m qs) p.spelled q.spelled (omega arith))
 spelled_once words (check_extract t i f) (check_merge qs) p q = absurd (other_second words (codes "check") (codes "check") (codes "extract") (codes "merge") (tid_words t ++ behind_level i f) (map placing_word qs) p.spelled q.spelled (omega arith))
 spelled_once words (check_extract t i f) (verify g qs) p q = absurd (other_first words (codes "check") (codes "verify") (codes "extract" ∷ (tid_words t ++ behind_level i f)) (codes "merge" ∷ g ∷ map placing_word qs) p.spelled q.spelled (omega arith))
+spelled_once words (check_extract t i f) (trial u m j) p q = absurd (other_letter words (codes "check") (codes "trial") (codes "extract" ∷ (tid_words t ++ behind_level i f)) (numbers u m j) p.spelled q.spelled (omega arith))
 spelled_once words (check_extract t i f) help p q = absurd (other_first words (codes "check") (codes "--help") (codes "extract" ∷ (tid_words t ++ behind_level i f)) [] p.spelled q.spelled (omega arith))
 spelled_once words (check_extract t i f) version p q = absurd (other_first words (codes "check") (codes "--version") (codes "extract" ∷ (tid_words t ++ behind_level i f)) [] p.spelled q.spelled (omega arith))
 spelled_once words (check_extract t i f) (explain w) p q = absurd (other_first words (codes "check") (codes "--explain") (codes "extract" ∷ (tid_words t ++ behind_level i f)) (w ∷ []) p.spelled q.spelled (omega arith))
@@ -96,6 +112,7 @@ spelled_once words (merge l ps) (merge m qs) p q =
 spelled_once words (merge l ps) (play m qs) p q = absurd (other_first words (codes "merge") (codes "play") (behind_name l ps) (behind_name m qs) p.spelled q.spelled (omega arith))
 spelled_once words (merge l ps) (check_merge qs) p q = absurd (other_letter words (codes "merge") (codes "check") (behind_name l ps) (codes "merge" ∷ map placing_word qs) p.spelled q.spelled (omega arith))
 spelled_once words (merge l ps) (verify g qs) p q = absurd (other_first words (codes "merge") (codes "verify") (behind_name l ps) (codes "merge" ∷ g ∷ map placing_word qs) p.spelled q.spelled (omega arith))
+spelled_once words (merge l ps) (trial u m j) p q = absurd (other_letter words (codes "merge") (codes "trial") (behind_name l ps) (numbers u m j) p.spelled q.spelled (omega arith))
 spelled_once words (merge l ps) help p q = absurd (other_first words (codes "merge") (codes "--help") (behind_name l ps) [] p.spelled q.spelled (omega arith))
 spelled_once words (merge l ps) version p q = absurd (other_first words (codes "merge") (codes "--version") (behind_name l ps) [] p.spelled q.spelled (omega arith))
 spelled_once words (merge l ps) (explain w) p q = absurd (other_first words (codes "merge") (codes "--explain") (behind_name l ps) (w ∷ []) p.spelled q.spelled (omega arith))
@@ -108,6 +125,7 @@ spelled_once words (play l ps) (play m qs) p q =
     same_play l m ps qs one.0 one.1
 spelled_once words (play l ps) (check_merge qs) p q = absurd (other_first words (codes "play") (codes "check") (behind_name l ps) (codes "merge" ∷ map placing_word qs) p.spelled q.spelled (omega arith))
 spelled_once words (play l ps) (verify g qs) p q = absurd (other_first words (codes "play") (codes "verify") (behind_name l ps) (codes "merge" ∷ g ∷ map placing_word qs) p.spelled q.spelled (omega arith))
+spelled_once words (play l ps) (trial u m j) p q = absurd (other_first words (codes "play") (codes "trial") (behind_name l ps) (numbers u m j) p.spelled q.spelled (omega arith))
 spelled_once words (play l ps) help p q = absurd (other_first words (codes "play") (codes "--help") (behind_name l ps) [] p.spelled q.spelled (omega arith))
 spelled_once words (play l ps) version p q = absurd (other_first words (codes "play") (codes "--version") (behind_name l ps) [] p.spelled q.spelled (omega arith))
 spelled_once words (play l ps) (explain w) p q = absurd (other_first words (codes "play") (codes "--explain") (behind_name l ps) (w ∷ []) p.spelled q.spelled (omega arith))
@@ -120,6 +138,7 @@ spelled_once words (check_merge ps) (check_merge qs) p q =
     let same : map placing_word ps ≡ map placing_word qs = ap (λ (ws : List (List ℕ)). drop 2 ws) (sym p.spelled ∙ q.spelled) in
     ap check_merge (sym (placings_read ps p.named.1) ∙ ap (λ (ws : List (List ℕ)). map placing_in ws) same ∙ placings_read qs q.named.1)
 spelled_once words (check_merge ps) (verify g qs) p q = absurd (other_first words (codes "check") (codes "verify") (codes "merge" ∷ map placing_word ps) (codes "merge" ∷ g ∷ map placing_word qs) p.spelled q.spelled (omega arith))
+spelled_once words (check_merge ps) (trial u m j) p q = absurd (other_letter words (codes "check") (codes "trial") (codes "merge" ∷ map placing_word ps) (numbers u m j) p.spelled q.spelled (omega arith))
 spelled_once words (check_merge ps) help p q = absurd (other_first words (codes "check") (codes "--help") (codes "merge" ∷ map placing_word ps) ([]) p.spelled q.spelled (omega arith))
 spelled_once words (check_merge ps) version p q = absurd (other_first words (codes "check") (codes "--version") (codes "merge" ∷ map placing_word ps) ([]) p.spelled q.spelled (omega arith))
 spelled_once words (check_merge ps) (explain w) p q = absurd (other_first words (codes "check") (codes "--explain") (codes "merge" ∷ map placing_word ps) (w ∷ []) p.spelled q.spelled (omega arith))
@@ -133,9 +152,21 @@ spelled_once words (verify f ps) (verify g qs) p q =
     let file : f ≡ g = ap (λ (ws : List (List ℕ)). get_or ws 2 []) (sym p.spelled ∙ q.spelled) in
     let same : map placing_word ps ≡ map placing_word qs = ap (λ (ws : List (List ℕ)). drop 3 ws) (sym p.spelled ∙ q.spelled) in
     same_verify f g ps qs file (sym (placings_read ps p.named.2) ∙ ap (λ (ws : List (List ℕ)). map placing_in ws) same ∙ placings_read qs q.named.2)
+spelled_once words (verify f ps) (trial u m j) p q = absurd (other_first words (codes "verify") (codes "trial") (codes "merge" ∷ f ∷ map placing_word ps) (numbers u m j) p.spelled q.spelled (omega arith))
 spelled_once words (verify f ps) help p q = absurd (other_letter words (codes "verify") (codes "--help") (codes "merge" ∷ f ∷ map placing_word ps) [] p.spelled q.spelled (omega arith))
 spelled_once words (verify f ps) version p q = absurd (other_first words (codes "verify") (codes "--version") (codes "merge" ∷ f ∷ map placing_word ps) [] p.spelled q.spelled (omega arith))
 spelled_once words (verify f ps) (explain w) p q = absurd (other_first words (codes "verify") (codes "--explain") (codes "merge" ∷ f ∷ map placing_word ps) (w ∷ []) p.spelled q.spelled (omega arith))
+spelled_once words (trial s n k) (show g) p q = absurd (other_first words (codes "trial") (codes "show") (numbers s n k) (g ∷ []) p.spelled q.spelled (omega arith))
+spelled_once words (trial s n k) (extract u m j g) p q = absurd (other_first words (codes "trial") (codes "extract") (numbers s n k) (tid_words u ++ behind_tid m j g) p.spelled q.spelled (omega arith))
+spelled_once words (trial s n k) (check_extract u j g) p q = absurd (other_letter words (codes "trial") (codes "check") (numbers s n k) (codes "extract" ∷ (tid_words u ++ behind_level j g)) p.spelled q.spelled (omega arith))
+spelled_once words (trial s n k) (merge m qs) p q = absurd (other_letter words (codes "trial") (codes "merge") (numbers s n k) (behind_name m qs) p.spelled q.spelled (omega arith))
+spelled_once words (trial s n k) (play m qs) p q = absurd (other_first words (codes "trial") (codes "play") (numbers s n k) (behind_name m qs) p.spelled q.spelled (omega arith))
+spelled_once words (trial s n k) (check_merge qs) p q = absurd (other_letter words (codes "trial") (codes "check") (numbers s n k) (codes "merge" ∷ map placing_word qs) p.spelled q.spelled (omega arith))
+spelled_once words (trial s n k) (verify g qs) p q = absurd (other_first words (codes "trial") (codes "verify") (numbers s n k) (codes "merge" ∷ g ∷ map placing_word qs) p.spelled q.spelled (omega arith))
+spelled_once words (trial s n k) (trial u m j) p q = same_trial words s u n m k j p q
+spelled_once words (trial s n k) help p q = absurd (other_first words (codes "trial") (codes "--help") (numbers s n k) [] p.spelled q.spelled (omega arith))
+spelled_once words (trial s n k) version p q = absurd (other_first words (codes "trial") (codes "--version") (numbers s n k) [] p.spelled q.spelled (omega arith))
+spelled_once words (trial s n k) (explain w) p q = absurd (other_first words (codes "trial") (codes "--explain") (numbers s n k) (w ∷ []) p.spelled q.spelled (omega arith))
 spelled_once words help (show g) p q = absurd (other_first words (codes "--help") (codes "show") [] (g ∷ []) p.spelled q.spelled (omega arith))
 spelled_once words help (extract u m j g) p q = absurd (other_first words (codes "--help") (codes "extract") [] (tid_words u ++ behind_tid m j g) p.spelled q.spelled (omega arith))
 spelled_once words help (check_extract u j g) p q = absurd (other_first words (codes "--help") (codes "check") [] (codes "extract" ∷ (tid_words u ++ behind_level j g)) p.spelled q.spelled (omega arith))
@@ -143,6 +174,7 @@ spelled_once words help (merge m qs) p q = absurd (other_first words (codes "--h
 spelled_once words help (play m qs) p q = absurd (other_first words (codes "--help") (codes "play") [] (behind_name m qs) p.spelled q.spelled (omega arith))
 spelled_once words help (check_merge qs) p q = absurd (other_first words (codes "--help") (codes "check") ([]) (codes "merge" ∷ map placing_word qs) p.spelled q.spelled (omega arith))
 spelled_once words help (verify g qs) p q = absurd (other_letter words (codes "--help") (codes "verify") [] (codes "merge" ∷ g ∷ map placing_word qs) p.spelled q.spelled (omega arith))
+spelled_once words help (trial u m j) p q = absurd (other_first words (codes "--help") (codes "trial") [] (numbers u m j) p.spelled q.spelled (omega arith))
 spelled_once words help help p q = refl
 spelled_once words help version p q = absurd (other_first words (codes "--help") (codes "--version") [] [] p.spelled q.spelled (omega arith))
 spelled_once words help (explain w) p q = absurd (other_first words (codes "--help") (codes "--explain") [] (w ∷ []) p.spelled q.spelled (omega arith))
@@ -153,6 +185,7 @@ spelled_once words version (merge m qs) p q = absurd (other_first words (codes "
 spelled_once words version (play m qs) p q = absurd (other_first words (codes "--version") (codes "play") [] (behind_name m qs) p.spelled q.spelled (omega arith))
 spelled_once words version (check_merge qs) p q = absurd (other_first words (codes "--version") (codes "check") ([]) (codes "merge" ∷ map placing_word qs) p.spelled q.spelled (omega arith))
 spelled_once words version (verify g qs) p q = absurd (other_first words (codes "--version") (codes "verify") [] (codes "merge" ∷ g ∷ map placing_word qs) p.spelled q.spelled (omega arith))
+spelled_once words version (trial u m j) p q = absurd (other_first words (codes "--version") (codes "trial") [] (numbers u m j) p.spelled q.spelled (omega arith))
 spelled_once words version help p q = absurd (other_first words (codes "--version") (codes "--help") [] [] p.spelled q.spelled (omega arith))
 spelled_once words version version p q = refl
 spelled_once words version (explain w) p q = absurd (omega (arith, ap (λ (ws : List (List ℕ)). length ws) (sym p.spelled ∙ q.spelled)))
@@ -163,6 +196,7 @@ spelled_once words (explain v) (merge m qs) p q = absurd (other_first words (cod
 spelled_once words (explain v) (play m qs) p q = absurd (other_first words (codes "--explain") (codes "play") (v ∷ []) (behind_name m qs) p.spelled q.spelled (omega arith))
 spelled_once words (explain v) (check_merge qs) p q = absurd (other_first words (codes "--explain") (codes "check") (v ∷ []) (codes "merge" ∷ map placing_word qs) p.spelled q.spelled (omega arith))
 spelled_once words (explain v) (verify g qs) p q = absurd (other_first words (codes "--explain") (codes "verify") (v ∷ []) (codes "merge" ∷ g ∷ map placing_word qs) p.spelled q.spelled (omega arith))
+spelled_once words (explain v) (trial u m j) p q = absurd (other_first words (codes "--explain") (codes "trial") (v ∷ []) (numbers u m j) p.spelled q.spelled (omega arith))
 spelled_once words (explain v) help p q = absurd (other_first words (codes "--explain") (codes "--help") (v ∷ []) [] p.spelled q.spelled (omega arith))
 spelled_once words (explain v) version p q = absurd (omega (arith, ap (λ (ws : List (List ℕ)). length ws) (sym p.spelled ∙ q.spelled)))
 spelled_once words (explain v) (explain w) p q = ap (λ ws. explain (get_or ws 1 [])) (sym p.spelled ∙ q.spelled)

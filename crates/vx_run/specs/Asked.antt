@@ -1,7 +1,7 @@
 -- The command that the program has read from its words.
 use Rattle.std.specs.Prelude.{map}
 use Rattle.vx_run.specs.declared.words.Command.{Command}
-use Rattle.vx_run.specs.declared.words.Command.TheVariants.{Show, Extract, CheckExtract, Merge, Play, CheckMerge, Verify, Help, Version, Explain}
+use Rattle.vx_run.specs.declared.words.Command.TheVariants.{Show, Extract, CheckExtract, Merge, Play, CheckMerge, Verify, Trial, Help, Version, Explain}
 use Rattle.vx_run.specs.Grammar as grammar
 use Rattle.vx_run.specs.Grammar.{texts}
 use Rattle.vx_run.specs.inner.Placings.{placing_in}
@@ -14,6 +14,7 @@ asked (Merge level placings) = grammar.merge level (map placing_in (texts placin
 asked (Play level placings) = grammar.play level (map placing_in (texts placings.now))
 asked (CheckMerge placings) = grammar.check_merge (map placing_in (texts placings.now))
 asked (Verify finished placings) = grammar.verify finished.now (map placing_in (texts placings.now))
+asked (Trial seed sources pictures) = grammar.trial seed sources pictures
 asked Help = grammar.help
 asked Version = grammar.version
 asked (Explain word) = grammar.explain word.now

@@ -1,5 +1,5 @@
 -- The grammar of the program's words. A word is the list of its bytes.
-use Rattle.std.specs.Prelude.{◌≡◌, ◌≢◌, ℕ, ◌≤◌, List, [], ◌∷◌, ◌++◌, map, length, Contains, codes, decimal, Option, Some, None, IfSome, String, string_bytes}
+use Rattle.std.specs.Prelude.{◌≡◌, ◌≢◌, ℕ, ◌<◌, ◌≤◌, ◌^◌, List, [], ◌∷◌, ◌++◌, map, length, Contains, codes, decimal, Option, Some, None, IfSome, String, string_bytes}
 use Rattle.std.specs.List.{AllByRecursion}
 use Rattle.vx_explain.specs.Explained.{rules, fields}
 
@@ -22,6 +22,7 @@ pub data Command : Type 0 where
   play : (level : Option ℕ) → List Placing → Command
   check_merge : List Placing → Command
   verify : List ℕ → List Placing → Command
+  trial : (seed sources pictures : ℕ) → Command
   help : Command
   version : Command
   explain : List ℕ → Command
@@ -42,8 +43,8 @@ abbrev pub placing_word : Placing → List ℕ
 placing_word p = decimal p.x ++ (codes "," ++ (decimal p.y ++ (codes "=" ++ p.file)))
 
 -- `show FILE`, `extract [--tid T] [--level N] INDEX FILE`, `check extract [--tid T] INDEX FILE`, `merge [--level N] X,Y=FILE ..`,
--- `play [--level N] X,Y=FILE ..`, `check merge X,Y=FILE ..`, `verify merge OUT X,Y=FILE ..`, `--help`, `--version`,
--- `--explain WORD`
+-- `play [--level N] X,Y=FILE ..`, `check merge X,Y=FILE ..`, `verify merge OUT X,Y=FILE ..`, `trial SEED SOURCES PICTURES`,
+-- `--help`, `--version`, `--explain WORD`
 abbrev pub spelling : Command → List (List ℕ)
 spelling (show file) = codes "show" ∷ file ∷ []
 spelling (extract tid level index file) = codes "extract" ∷ (tid_words tid ++ (level_words level ++ (decimal index ∷ file ∷ [])))
@@ -52,6 +53,7 @@ spelling (merge level placings) = codes "merge" ∷ (level_words level ++ map pl
 spelling (play level placings) = codes "play" ∷ (level_words level ++ map placing_word placings)
 spelling (check_merge placings) = codes "check" ∷ codes "merge" ∷ map placing_word placings
 spelling (verify finished placings) = codes "verify" ∷ codes "merge" ∷ finished ∷ map placing_word placings
+spelling (trial seed sources pictures) = codes "trial" ∷ decimal seed ∷ decimal sources ∷ decimal pictures ∷ []
 spelling help = codes "--help" ∷ []
 spelling version = codes "--version" ∷ []
 spelling (explain word) = codes "--explain" ∷ word ∷ []
@@ -70,6 +72,10 @@ IsIndex index = index ≤ 999
 abbrev pub IsPlacing : Placing → Type 0
 IsPlacing p = (p.x ≤ 16383) × (p.y ≤ 16383) × (p.file ≢ [])
 
+-- a number that streams are made from, how many there are of them, and of pictures in each
+abbrev pub IsTrial : (seed sources pictures : ℕ) → Type 0
+IsTrial seed sources pictures = (seed < 2 ^ 32) × ((1 ≤ sources) × (sources ≤ 16)) × ((1 ≤ pictures) × (pictures ≤ 1000))
+
 -- a rule, as `M8`, or the number of a field, as `606`
 unfoldable pub IsRuleOrField : List ℕ → Type 0
 IsRuleOrField word = Contains (rules ++ map decimal fields) word
@@ -83,6 +89,7 @@ IsWellNamed (merge level placings) = IsLevel level × (placings ≢ []) × AllBy
 IsWellNamed (play level placings) = IsLevel level × (placings ≢ []) × AllByRecursion IsPlacing placings
 IsWellNamed (check_merge placings) = (placings ≢ []) × AllByRecursion IsPlacing placings
 IsWellNamed (verify finished placings) = (finished ≢ []) × (placings ≢ []) × AllByRecursion IsPlacing placings
+IsWellNamed (trial seed sources pictures) = IsTrial seed sources pictures
 IsWellNamed help = Unit {0}
 IsWellNamed version = Unit {0}
 IsWellNamed (explain word) = IsRuleOrField word
@@ -105,6 +112,7 @@ files_of (merge level placings) = map (λ p. p.file) placings
 files_of (play level placings) = map (λ p. p.file) placings
 files_of (check_merge placings) = map (λ p. p.file) placings
 files_of (verify finished placings) = finished ∷ map (λ p. p.file) placings
+files_of (trial seed sources pictures) = []
 files_of help = []
 files_of version = []
 files_of (explain word) = []

@@ -1,8 +1,8 @@
 -- What `play` finds in the rounds of regions, and what it writes. The pictures of a region are those of its files, one file behind another.
-use Rattle.std.specs.Prelude.{◌≡◌, ◌↔◌, ◌⊎◌, ℕ, ◌+◌, ◌<◌, ◌≤◌, ◌==◌, ◌&&◌, nat_lt, Bool, true, false, cond, List, [], ◌∷◌, ◌++◌, length, map}
-use Rattle.std.specs.Prelude.{get_or, Option, Some, None, is_none, option_map, unwrap_or, Ok, Err, IfErr}
+use Rattle.std.specs.Prelude.{◌≡◌, ◌↔◌, ◌⊎◌, ℕ, ◌+◌, ◌<◌, ◌≤◌, ◌==◌, ◌&&◌, nat_lt, Bool, cond, List, [], ◌∷◌, ◌++◌, length, map}
+use Rattle.std.specs.Prelude.{get_or, Option, None, is_none, option_map, unwrap_or, Ok, Err, IfErr}
 use Rattle.std.specs.Option.{option_or}
-use Rattle.std.specs.List.{list_any, position_or_len, range_with_len}
+use Rattle.std.specs.List.{AllByRecursion, list_any, position_or_len, range_with_len}
 use Rattle.vx_bits.specs.declared.refusal.Refusal.{Refusal}
 use Rattle.vx_bits.specs.declared.refusal.Refusal.TheVariants.{Limit}
 use Rattle.vx_bits.specs.declared.rules.TheConstants.{TOO_MANY_FILES}
@@ -11,20 +11,21 @@ use Rattle.vx_pic.specs.Readings.{Picture}
 use Rattle.vx_pic.specs.Rules.{Readers}
 use Rattle.vx_pic.specs.Bytes.{Ending}
 use Rattle.vx_pic.specs.H266.{AreOfH266}
-use Rattle.vx_pic.specs.Joined.{begins_file, one_behind_another}
+use Rattle.vx_pic.specs.Joined.{begins_file, one_behind_another, played}
 use Rattle.vx_pic.specs.Parts.{Parts}
 use Rattle.vx_pic.specs.Written.{Plan, units_of}
 use Rattle.vx_report.specs.declared.refusal.Where.{Where}
 use Rattle.vx_merge.specs.declared.corner.Corner.{Corner}
 use Rattle.vx_merge.specs.Joins.{joined, StartsAt, IsBarredWhere}
-use Rattle.vx_merge.specs.Merging.{Passes}
+use Rattle.vx_merge.specs.Merging.{AreCorners, Passes}
 use Rattle.vx_play.specs.Scheduled.{files_of}
 use Rattle.vx_run.specs.declared.stop.Stop.TheVariants.{Refused, ReadFault, WriteFault, NoMemory}
-use Rattle.vx_run.specs.Change.{Change, Sources, source_at, IsUntouched, AreUntouched, HasNoFault, HasFault, Gains}
+use Rattle.vx_run.specs.Change.{Change, Sources, source_at, IsUntouched, AreUntouched, HasNoFault, HasFault}
 use Rattle.vx_run.specs.Conclusion.{Outcome, IsOfCommand}
 use Rattle.vx_run.specs.Extract.{WhereTold}
 use Rattle.vx_run.specs.Grammar.{Placing}
-use Rattle.vx_run.specs.Merge.{bytes_of, corners_of, length_refused, GainsInto}
+use Rattle.vx_run.specs.Merge.{bytes_of, corners_of, length_refused, GainsInto, GainsMerge}
+use Rattle.vx_run.specs.MergeAgain.{IsMergedAgain, IsToldBy, first_of}
 use Rattle.vx_run.specs.Rounds.{Stream, IsRound, NoneRefused, Telling, EndsIn, behind_units, in_round, WhereAllTold, OfEach}
 use Rattle.vx_run.specs.Rounds.{IsRead, IsReadOut, IsReadFor, Sees, most_sources, too_many}
 
@@ -141,6 +142,22 @@ pub record IsPlayStatus (corners : List Corner) (level : Option ℕ) (regions : 
   pub done : (status ≡ 0) ↔ IsPlayable corners level regions files
   pub refused : (status ≡ 1) ↔ ¬ IsPlayable corners level regions files
 
+-- ---- rounds that are read again
+
+-- The first n pictures of each region as they are played, the latest first: behind an end of sequence where their round is joined; and all.
+abbrev pub played_first : ℕ → List ℕ → List Stream → ℕ → List (List Picture)
+played_first count regions files n = map (played (is_join count regions files)) (map (first_of n) (region_streams count regions files))
+
+abbrev pub played_whole : ℕ → List ℕ → List Stream → List (List Picture)
+played_whole count regions files = map (played (is_join count regions files)) (map (λ s. s.pictures) (region_streams count regions files))
+
+-- The rounds that are written are read again as the merge of the pictures that they were made of.
+abbrev pub PlayedIsReadAgain : Type 0
+PlayedIsReadAgain =
+    (R : Readers) (corners : List Corner) (level : Option ℕ) (regions : List ℕ) (files : List Stream) (done : List Plan) → AreOfH266 R
+    → AreCorners corners → AllByRecursion (IsToldBy R) files → ArePlayedOf corners level regions files done
+    → IsMergedAgain R corners (played_first (length corners) regions files (length done)) (bytes_of done)
+
 -- ---- what was read of files
 
 -- nothing was read of it
@@ -212,29 +229,34 @@ pub data ArePlayedTo {A : Type 0} (R : Readers) (sources : Sources A) (count : �
 
 -- ---- what it did
 
--- What it did to its files and to `out`, by what came of it: it writes all rounds before it ends. Behind a failed read of file j of region k
--- it has written those before round n, where n pictures of that region are seen; behind a failed write those before a round, and a front of
+-- What it did to its files and to `out`, by what came of it: it writes all rounds before it ends, and they are read again, with status 0 as
+-- the merge of all pictures of the regions as they are played, and else of their first ones. Behind a failed read of file j of region k it
+-- has written those before round n, where n pictures of that region are seen; behind a failed write those before a round, and a front of
 -- that; for want of memory the first ones.
 abbrev pub PlaysBy : {A K : Type 0} → Readers → List Corner → Option ℕ → List ℕ → Sources A → Change K → Outcome → Type 0
 PlaysBy R corners level regions sources out (Ok _) =
     OfEach sources IsReadOut × HasNoFault out
-    × WhereAllTold R sources (λ files. (done : List Plan) × EndsPlayed corners level regions files done (Ok tt) × Gains out (bytes_of done))
+    × WhereAllTold R sources (λ files. (done : List Plan) × EndsPlayed corners level regions files done (Ok tt)
+    × GainsMerge R corners (played_whole (length corners) regions files) done out)
 PlaysBy R corners level regions sources out (Err (Refused r place)) =
     (n : ℕ) × ArePlayedTo R sources (length corners) regions n place × HasNoFault out
     × WhereAllTold R sources (λ files. (done : List Plan) × (length done ≡ n) × EndsPlayed corners level regions files done (Err (Refused r place))
-    × Gains out (bytes_of done))
+    × GainsMerge R corners (played_first (length corners) regions files (length done)) done out)
 PlaysBy R corners level regions sources out (Err (ReadFault j)) =
     (j < length sources.old) × HasFault (source_at sources j) × HasNoFault out
     × ((n k m : ℕ) × ComesAt R sources (length corners) regions n k j m × Sees R (source_at sources j) m
     × WhereAllTold R sources (λ files. (done : List Plan) × (length done ≡ n) × ArePlayedOf corners level regions files done
-    × NoneRefused k (region_streams (length corners) regions files) n × Gains out (bytes_of done)))
+    × NoneRefused k (region_streams (length corners) regions files) n
+    × GainsMerge R corners (played_first (length corners) regions files (length done)) done out))
 PlaysBy R corners level regions sources out (Err WriteFault) =
     (n : ℕ) × ((k : ℕ) → k < length corners → ArePlayedFor R sources (n + 1) (files_of regions k)) × HasFault out
     × WhereAllTold R sources (λ files. (done : List Plan) × (p : Plan) × (length done ≡ n) × ArePlayedOf corners level regions files (p ∷ done)
-    × GainsInto out (bytes_of done) (written (units_of p)))
+    × GainsInto out (bytes_of done) (written (units_of p))
+    × IsMergedAgain R corners (played_first (length corners) regions files (length done)) (bytes_of done))
 PlaysBy R corners level regions sources out (Err NoMemory) =
     OfEach sources IsRead × HasNoFault out
-    × WhereAllTold R sources (λ files. (done : List Plan) × ArePlayedOf corners level regions files done × Gains out (bytes_of done))
+    × WhereAllTold R sources (λ files. (done : List Plan) × ArePlayedOf corners level regions files done
+    × GainsMerge R corners (played_first (length corners) regions files (length done)) done out)
 PlaysBy R corners level regions sources out (Err _) = ⊥
 
 -- ---- how many

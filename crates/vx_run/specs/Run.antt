@@ -7,10 +7,11 @@ use Rattle.vx_run.specs.Change.{Change, Sources, source_at, IsUntouched, AreUnto
 use Rattle.vx_run.specs.Conclusion.{Outcome}
 use Rattle.vx_run.specs.declared.extract.Task.{Task}
 use Rattle.vx_run.specs.Extract.{task_of, Extracts, Checks}
-use Rattle.vx_run.specs.Grammar.{Command, Placing, show, extract, check_extract, merge, play, check_merge, verify, help, version, explain, AskFor, IsUnderstood}
+use Rattle.vx_run.specs.Grammar.{Command, Placing, show, extract, check_extract, merge, play, check_merge, verify, trial, help, version, explain, AskFor, IsUnderstood}
 use Rattle.vx_run.specs.Merge.{corners_of, ChecksMerge, Merges}
 use Rattle.vx_run.specs.Play.{Plays, file_regions, region_corners}
 use Rattle.vx_run.specs.Show.{Shows}
+use Rattle.vx_run.specs.Trial.{Trials}
 use Rattle.vx_run.specs.Verify.{spots_of, Verifies}
 
 -- what a command did to its sources and to `out`, by what came of it
@@ -22,6 +23,7 @@ Does (merge level placings) sources out outcome = Merges (corners_of placings) l
 Does (play level placings) sources out outcome = Plays (region_corners placings) level (file_regions placings) sources out outcome
 Does (check_merge placings) sources out outcome = ChecksMerge (corners_of placings) sources out outcome
 Does (verify finished placings) sources out outcome = Verifies (spots_of placings) sources out outcome
+Does (trial seed streams pictures) sources out outcome = AreUntouched sources × Trials seed streams pictures out outcome
 Does help sources out outcome = AreUntouched sources × Writes help_text out outcome
 Does version sources out outcome = AreUntouched sources × Writes version_text out outcome
 Does (explain word) sources out outcome = AreUntouched sources × IsSomeAnd (explanation word) (λ text. Writes text out outcome)

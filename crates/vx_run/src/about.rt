@@ -40,6 +40,10 @@ pub(crate) fn help() -> &'static [u8]
              whether OUT, made by any tool, is these files put together, with equal
              decoding inputs in each picture, whatever its level, and for how many
              pictures
+  trial SEED SOURCES PICTURES
+             makes 1 to 16 streams of 1 to 1000 pictures from a number, merges them side
+             by side, extracts each region, and says how many pictures, slices and bytes
+             there are, with a sum over all bytes
   --help     this text
   --version  the name and the version of the program
   --explain WORD

@@ -149,8 +149,8 @@ pub(crate) fn corners_of(alloc: Global, placings: &[String]) -> Result<Vec<Corne
     for word in placings {
         let placing = placing_of(word.as_str()).unwrap();
         corners.push(Corner {
-            x: u32::from(placing.x),
-            y: u32::from(placing.y),
+            x: placing.x,
+            y: placing.y,
         })?;
     }
     Ok(corners)

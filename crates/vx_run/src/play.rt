@@ -13,16 +13,18 @@ ghost use Rattle.vx_run.specs.Change.{change, sources_change};
 ghost use Rattle.vx_run.specs.Conclusion.{IsOfCommand};
 ghost use Rattle.vx_run.specs.Grammar.{Placing as PlacingAsked, play as for_play, AskFor, texts};
 ghost use Rattle.vx_run.specs.Merge.{corner_of as corner_by, corners_of as corners_by};
-ghost use Rattle.vx_run.specs.Play.{Plays, PlaysBy, PlayEndsOnce, file_regions, most_files, region_corners, region_of as region_by, with_corner, with_corners, too_many_files as too_many_of_files};
+ghost use Rattle.vx_run.specs.Play.{Plays, PlayedIsReadAgain, PlayEndsOnce, file_regions, most_files, region_corners, region_of as region_by, with_corner, with_corners, too_many_files as too_many_of_files};
 ghost use Rattle.vx_run.specs.Rounds.{most_sources};
 ghost use Rattle.vx_run.specs.inner.Placings.{IsPlacingWord, placing_in};
-ghost use Rattle.vx_run.specs.inner.Playing.{AdvancesEach, AdvancesRegions, AreFew, ArePlaced, GoesOn, HasFound, IsAt, PlaysRound, SameBut, SameFiles, WritesRound};
+ghost use Rattle.vx_run.specs.inner.Playing.{AdvancesEach, AdvancesRegions, AreFew, ArePlaced, GoesOn, HasFound, IsAt, PlaysRound, PlaysRounds, SameBut, SameFiles, WritesRound};
 
 use crate::merge::{all_go_on, corners_of, stop_of_round};
 use crate::rounds::{MOST_SOURCES, advance, feeds_for, going, in_round, one_more, too_many};
 use crate::stop::Stop;
 use crate::words::{Command, command_of, placing_of};
 use std::alloc::{AllocError, Global};
+use vx_again::{merge_is_read_again, pictures_can_be_merged, played_can_be_merged};
+use vx_annexb::units_can_stand;
 use vx_assemble::Feed;
 use vx_bits::Refusal;
 use vx_bits::rules::TOO_MANY_FILES;
@@ -60,6 +62,7 @@ pub(crate) fn play<K: Sink>(
         (change K.bytes_taken K.write_faults out.old out.new) result }
     ensures list { vec_len sources.new ≡ vec_len sources.old }
 {
+    plays_read_again();
     let Some(regions) = regions_of(alloc, placings)? else {
         return Err(too_many());
     };
@@ -67,6 +70,16 @@ pub(crate) fn play<K: Sink>(
         return Err(too_many_files());
     }
     play_rounds(alloc, level, &regions.files, &regions.corners, sources, out)
+}
+
+/// What is written of rounds is read again.
+fn plays_read_again()
+    ensures { PlayedIsReadAgain }
+{
+    units_can_stand();
+    pictures_can_be_merged();
+    played_can_be_merged();
+    merge_is_read_again();
 }
 
 /// More files are named than there may be.
@@ -140,7 +153,7 @@ fn play_rounds<K: Sink>(
     requires few { length files.now ≤ most_files }
     requires regions { region_count files.now ≡ length corners.now }
     requires count { vec_len sources.old ≡ length files.now }
-    ensures plays { (R : Readers) → AreOfH266 R → PlaysBy R corners.now level files.now
+    ensures plays { (R : Readers) → AreOfH266 R → PlaysRounds R corners.now level files.now
         (sources_change bytes_left read_faults sources.old.items sources.new.items)
         (change K.bytes_taken K.write_faults out.old out.new) result }
     ensures stop { IfErr result IsOfCommand }
@@ -174,7 +187,7 @@ fn play_by<K: Sink>(
     requires regions { region_count schedule.old.regions ≡ length merger.old.corners }
     requires count { count ≡ length merger.old.corners }
     requires sources { vec_len sources.old ≡ length schedule.old.regions }
-    ensures plays { (R : Readers) → AreOfH266 R → PlaysBy R merger.old.corners merger.old.level schedule.old.regions
+    ensures plays { (R : Readers) → AreOfH266 R → PlaysRounds R merger.old.corners merger.old.level schedule.old.regions
         (sources_change bytes_left read_faults sources.old.items sources.new.items)
         (change K.bytes_taken K.write_faults out.old out.new) result }
     ensures stop { IfErr result IsOfCommand }
@@ -380,7 +393,7 @@ fn corner_in(word: &str) -> Corner
 {
     let placing = placing_of(word).unwrap();
     Corner {
-        x: u32::from(placing.x),
-        y: u32::from(placing.y),
+        x: placing.x,
+        y: placing.y,
     }
 }

@@ -7,7 +7,7 @@ ghost use Rattle.vx_run.specs.Change.{HasFault, change, source_at, sources_chang
 ghost use Rattle.vx_run.specs.Conclusion.{Outcome, ExitsWith};
 ghost use Rattle.vx_run.specs.declared.extract.Task.{Task as TaskAsked};
 ghost use Rattle.vx_run.specs.Extract.{WhereTold, IsStatus, task_of as task_by};
-ghost use Rattle.vx_run.specs.Grammar.{Command as Asked, Placing as PlacingAsked, show as for_show, merge as for_merge, check_merge as for_check, play as for_play, verify as for_verify, AskFor, IsTid, IsUnderstood, NamesFiles, texts};
+ghost use Rattle.vx_run.specs.Grammar.{Command as Asked, Placing as PlacingAsked, show as for_show, merge as for_merge, check_merge as for_check, play as for_play, verify as for_verify, trial as for_trial, AskFor, IsTid, IsUnderstood, NamesFiles, texts};
 ghost use Rattle.vx_run.specs.Merge.{IsMergeStatus, corners_of};
 ghost use Rattle.vx_run.specs.Play.{IsPlayStatus, file_regions, most_files, region_corners};
 ghost use Rattle.vx_run.specs.Rounds.{WhereAllTold, most_sources};
@@ -22,6 +22,7 @@ use crate::merge::{check_merge, merge};
 use crate::play::play;
 use crate::show::show;
 use crate::stop::Stop;
+use crate::trial::trial;
 use crate::verify::verify;
 use crate::words::{Command, command_of};
 use std::alloc::Global;
@@ -78,6 +79,8 @@ pub fn run<K: Sink, E: Sink>(
         → let all = sources_change bytes_left read_faults sources.old.items sources.new.items in
         ((k : ℕ) → k < vec_len sources.old → ¬ HasFault (source_at all k)) → ¬ HasFault (change K.bytes_taken K.write_faults out.old out.new)
         → result ≢ 4 → WhereAllTold R all (λ ss. IsPlayStatus (region_corners placings) level (file_regions placings) ss result) }
+    ensures trials { (seed streams pictures : ℕ) → AskFor (texts words.now) (for_trial seed streams pictures)
+        → ¬ HasFault (change K.bytes_taken K.write_faults out.old out.new) → result ≢ 4 → result ≡ 0 }
     ensures regions { (level : OptionOf ℕ) (placings : List PlacingAsked) → AskFor (texts words.now) (for_play level placings)
         → (most_sources < length (region_corners placings)) ⊎ (most_files < length placings) → result ≢ 4 → result ≡ 1 }
     ensures many { (command : Asked) (placings : List PlacingAsked) → AskFor (texts words.now) command → placings_in command ≡ Some placings
@@ -119,6 +122,13 @@ fn perform<K: Sink>(
         Some(Command::Play { level, placings }) => play(alloc, level, placings, sources, out),
         Some(Command::CheckMerge { placings }) => check_merge(alloc, placings, sources, out),
         Some(Command::Verify { placings, .. }) => verify(alloc, placings, sources, out),
+        Some(
+            Command::Trial {
+                seed,
+                sources,
+                pictures,
+            },
+        ) => trial(alloc, seed, sources, pictures, out),
         Some(Command::Help) => write_text(help(), out),
         Some(Command::Version) => write_text(version(), out),
         Some(Command::Explain { word }) => explain(word, out),
@@ -130,12 +140,12 @@ fn perform<K: Sink>(
 const ALL: u8 = 6;
 
 /// What is asked of an extraction.
-fn task_of(tid: Option<u8>, level: Option<u8>, index: u16) -> Task
+fn task_of(tid: Option<u8>, level: Option<u8>, index: u32) -> Task
     ensures task { result ≡ task_by tid level index }
     ensures tid { IsTid tid → result.tid ≤ 6 }
 {
     Task {
-        target: u32::from(index),
+        target: index,
         level,
         tid: tid.unwrap_or(ALL),
     }

@@ -76,8 +76,8 @@ fn spots_of(alloc: Global, placings: &[String]) -> Result<Vec<Spot>, AllocError>
     for word in placings {
         let placing = placing_of(word.as_str()).unwrap();
         spots.push(Spot {
-            x: u32::from(placing.x),
-            y: u32::from(placing.y),
+            x: placing.x,
+            y: placing.y,
         })?;
     }
     Ok(spots)

@@ -3,7 +3,7 @@
 ghost use Rattle.std.specs.Prelude.{◌≡◌, ◌≤◌, ◌∷◌, ◌↔◌, [], ℕ, List, Option as OptionOf, true, false, decimal, codes, None, IfSome, IfNone, IsTrue, MatchOption, map, slice_get, option_copied};
 ghost use Rattle.std.specs.List.{AllByRecursion};
 ghost use Rattle.vx_run.specs.Asked.{asked};
-ghost use Rattle.vx_run.specs.Grammar.{Command as Asked, extract, check_extract, merge, play, check_merge, verify, explain, Placing as PlacingAsked, spelling, IsRuleOrField, IsWellNamed, AskFor, IsUnderstood, NamesFiles, files_of, texts};
+ghost use Rattle.vx_run.specs.Grammar.{Command as Asked, extract, check_extract, merge, play, check_merge, verify, trial, explain, Placing as PlacingAsked, spelling, IsRuleOrField, IsWellNamed, AskFor, IsUnderstood, NamesFiles, files_of, texts};
 ghost use Rattle.vx_run.specs.inner.Placings.{IsPlacingWord, HasPlacings, NameLevelAndFiles, PlaceFiles, Spells, placed, placing_in};
 ghost use Rattle.vx_run.specs.inner.Words.{BeginsNot, IsNumberFirst, IsOptionFirst, is_plain};
 
@@ -20,13 +20,13 @@ pub(crate) enum Command<'a> {
     Extract {
         tid: Option<u8>,
         level: Option<u8>,
-        index: u16,
+        index: u32,
         file: &'a str,
     },
     /// `check extract [--tid T] INDEX FILE`
     CheckExtract {
         tid: Option<u8>,
-        index: u16,
+        index: u32,
         file: &'a str,
     },
     /// `merge [--level N] X,Y=FILE ..`, with the words behind the level.
@@ -48,6 +48,12 @@ pub(crate) enum Command<'a> {
         finished: &'a str,
         placings: &'a [String],
     },
+    /// `trial SEED SOURCES PICTURES`
+    Trial {
+        seed: u32,
+        sources: u32,
+        pictures: u32,
+    },
     /// `--help`
     Help,
     /// `--version`
@@ -61,8 +67,8 @@ pub(crate) enum Command<'a> {
 /// A file of a merge, and the upper left corner of its region, in luma samples.
 #[derive(Clone, Copy)]
 pub(crate) struct Placing<'a> {
-    pub x: u16,
-    pub y: u16,
+    pub x: u32,
+    pub y: u32,
     pub file: &'a str,
 }
 
@@ -71,9 +77,14 @@ const MOST_TID: u8 = 6;
 
 const MOST_LEVEL: u8 = 255;
 
-const MOST_INDEX: u16 = 999;
+const MOST_INDEX: u32 = 999;
 
-const MOST_CORNER: u16 = 16_383;
+const MOST_CORNER: u32 = 16_383;
+
+/// The most streams of a trial, and pictures of each.
+const MOST_STREAMS: u32 = 16;
+
+const MOST_PICTURES: u32 = 1000;
 
 /// The command that the words spell.
 pub(crate) fn command_of(words: &[String]) -> Option<Command<'_>>
@@ -98,6 +109,9 @@ pub(crate) fn command_of(words: &[String]) -> Option<Command<'_>>
     }
     if let Some(rest) = behind(words, "verify") {
         return verify_of(rest);
+    }
+    if let Some(rest) = behind(words, "trial") {
+        return trial_of(rest);
     }
     check_of(behind(words, "check")?)
 }
@@ -251,6 +265,35 @@ fn verify_of(words: &[String]) -> Option<Command<'_>>
     Some(Command::Verify { finished, placings })
 }
 
+/// `SEED SOURCES PICTURES`
+fn trial_of(words: &[String]) -> Option<Command<'_>>
+    ensures some { IfSome result (λ command. AskFor (codes "trial" ∷ texts words.now) (asked command)) }
+    ensures placings { IfSome result HasPlacings }
+    ensures none { IfNone result ((seed sources pictures : ℕ) → AskFor (codes "trial" ∷ texts words.now) (trial seed sources pictures) → ⊥) }
+{
+    let [seed, sources, pictures] = words else {
+        return None;
+    };
+    Some(Command::Trial {
+        seed: number(seed.as_str(), u32::MAX)?,
+        sources: counted(sources.as_str(), MOST_STREAMS)?,
+        pictures: counted(pictures.as_str(), MOST_PICTURES)?,
+    })
+}
+
+/// The number that a word is, of at least 1 and at most so much.
+fn counted(word: &str, most: u32) -> Option<u32>
+    ensures { MatchOption result
+        ((n : ℕ) → 1 ≤ n → n ≤ most → word.now ≡ decimal n → ⊥)
+        (λ n. (word.now ≡ decimal n) × (1 ≤ n) × (n ≤ most)) }
+{
+    let n = number(word, most)?;
+    if n == 0 {
+        return None;
+    }
+    Some(n)
+}
+
 /// Whether there are words, and each is `X,Y=FILE`.
 fn place_files(words: &[String]) -> bool
     ensures { IsTrue result ↔ PlaceFiles (texts words.now) }
@@ -310,12 +353,12 @@ fn option<'a>(words: &'a [String], name: &str, most: u8) -> Option<(Option<u8>, 
     let Some(rest) = behind(words, name) else {
         return Some((None, words));
     };
-    let (n, rest) = number_first(rest, u16::from(most))?;
+    let (n, rest) = number_first(rest, u32::from(most))?;
     Some((Some(n as u8), rest))
 }
 
 /// The number that comes first, and the words behind it.
-fn number_first(words: &[String], most: u16) -> Option<(u16, &[String])>
+fn number_first(words: &[String], most: u32) -> Option<(u32, &[String])>
     ensures { MatchOption result
         ((n : ℕ) (rest : List (List ℕ)) → IsNumberFirst most (texts words.now) n rest → ⊥)
         (λ r. IsNumberFirst most (texts words.now) r.0 (texts r.1.now)) }
@@ -329,14 +372,14 @@ fn number_first(words: &[String], most: u16) -> Option<(u16, &[String])>
 
 /// The number that a word is, of at most so much. `parse` takes a plus and further zeros
 /// before it, which are no part of a number here.
-fn number(word: &str, most: u16) -> Option<u16>
+fn number(word: &str, most: u32) -> Option<u32>
     ensures { MatchOption result ((n : ℕ) → n ≤ most → word.now ≡ decimal n → ⊥) (λ n. (word.now ≡ decimal n) × (n ≤ most)) }
 {
     let bytes = word.as_bytes();
     if bytes.len() > 1 && bytes[0] < b'1' {
         return None;
     }
-    let Ok(n) = word.parse::<u16>() else {
+    let Ok(n) = word.parse::<u32>() else {
         return None;
     };
     (n <= most).then_some(n)
@@ -380,7 +423,8 @@ pub fn file_count(words: &[String]) -> usize
         Some(Command::Play { placings, .. }) => placings.len(),
         Some(Command::CheckMerge { placings }) => placings.len(),
         Some(Command::Verify { placings, .. }) => placings.len() + 1,
-        Some(Command::Help | Command::Version | Command::Explain { .. }) | None => 0,
+        Some(Command::Trial { .. } | Command::Help | Command::Version | Command::Explain { .. })
+        | None => 0,
     }
 }
 
@@ -398,7 +442,7 @@ pub fn file_word(words: &[String], k: usize) -> Option<&str>
         Command::Play { placings, .. } => placed_file(placings, k),
         Command::CheckMerge { placings } => placed_file(placings, k),
         Command::Verify { finished, placings } => verified_file(finished, placings, k),
-        Command::Help | Command::Version | Command::Explain { .. } => None,
+        Command::Trial { .. } | Command::Help | Command::Version | Command::Explain { .. } => None,
     }
 }
 

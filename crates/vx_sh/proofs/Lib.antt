@@ -21,3 +21,4 @@ mod Reshaped
 mod Filtering
 mod FirstBit
 mod Enabled
+mod Short

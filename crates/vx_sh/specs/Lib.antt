@@ -10,4 +10,5 @@ pub mod Elsewhere
 pub mod Reshaped
 pub mod Filter
 pub mod Enabled
+pub mod Sizes
 pub mod inner

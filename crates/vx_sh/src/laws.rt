@@ -7,6 +7,7 @@ ghost use Rattle.vx_sh.specs.Enabled.{NoSliceFilter};
 ghost use Rattle.vx_sh.specs.Filter.{SliceHasFilter};
 ghost use Rattle.vx_sh.specs.InForce.{SliceScopesAgree, SliceScopesAreWhole};
 ghost use Rattle.vx_sh.specs.Reshaped.{ReshapedIsReadAgain, SlicesAgreeOnKept};
+ghost use Rattle.vx_sh.specs.Sizes.{NumbersAreBounded, SpellingIsShort};
 ghost use Rattle.vx_sh.specs.Value.{FirstBitIsInside, NoProperPrefix, NumbersAreTold, ReadCanBeWritten, SpellingBegins, SpellingIsRead};
 
 /// The kept fields of a slice header behind the id of its subpicture depend on kept fields alone, and the other fields on a
@@ -89,4 +90,11 @@ pub fn first_bit_is_inside()
 /// Where the SPS doesn't enable the filter, a slice header has none.
 pub fn no_slice_filter()
     ensures { NoSliceFilter }
+{}
+
+/// A slice header has 2^19 bytes at most, where sets, picture header and layout ask for so little: 32 extra bits, 15 active
+/// entries and 2^16 entry points.
+pub fn spelling_is_short()
+    ensures short { SpellingIsShort }
+    ensures numbers { NumbersAreBounded }
 {}

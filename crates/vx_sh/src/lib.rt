@@ -18,7 +18,7 @@ pub use laws::{
     addresses_are_below, first_bit_is_inside, no_proper_prefix, no_slice_filter, numbers_are_told,
     read_can_be_written, reshaped_is_read_again, slice_has_filter, slice_read_elsewhere,
     slice_scopes_agree, slices_agree_on_kept, slices_depend, slices_go_again, slices_keep,
-    spelling_is_read,
+    spelling_is_read, spelling_is_short,
 };
 pub use numbers::{SliceNumbers, read_sh, write_sh};
 pub use reshape::reshape_sh;

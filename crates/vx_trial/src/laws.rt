@@ -1,12 +1,11 @@
 //! Laws of generated streams and of their merge: functions that do nothing, each with a law as its contract.
-ghost use Rattle.vx_gen.specs.Local.{SlicesAreShort};
 ghost use Rattle.vx_trial.specs.inner.Laws.{GeneratedCanBeTried, TriedAreReadAgain};
 
 use vx_gen::{generated_are_merged, generated_are_not_barred, generated_are_read};
 
 /// Generated streams can be merged side by side.
 pub(crate) fn generated_can_be_tried()
-    ensures { SlicesAreShort → GeneratedCanBeTried }
+    ensures { GeneratedCanBeTried }
 {
     generated_are_read();
     generated_are_not_barred();

@@ -6,7 +6,6 @@ ghost use Rattle.vx_pic.specs.Parts.{parts_of};
 ghost use Rattle.vx_pic.specs.Readings.{Picture};
 ghost use Rattle.vx_pic.specs.Rules.{Readers};
 ghost use Rattle.vx_extract.specs.Written.{IsExtraction};
-ghost use Rattle.vx_gen.specs.Local.{SlicesAreShort};
 ghost use Rattle.vx_gen.specs.Rounds.{corners as corners_of};
 ghost use Rattle.vx_trial.specs.Trial as words;
 ghost use Rattle.vx_trial.specs.Trial.{IsTally};
@@ -42,7 +41,6 @@ pub struct Tally {
 pub fn trial(alloc: Global, seed: u32, sources: u32, pictures: u32) -> Result<Tally, AllocError>
     requires sources { (1 ≤ sources) × (sources ≤ 16) }
     requires pictures { (1 ≤ pictures) × (pictures ≤ 1000) }
-    requires short { SlicesAreShort }
     ensures { (R : Readers) → AreOfH266 R → IfOk result (IsTally R seed sources pictures) }
 {
     generated_can_be_tried();

@@ -1,5 +1,5 @@
 //! A source that can't be read.
-ghost use Rattle.std.specs.Prelude.{◌≡◌, None, IsErr};
+ghost use Rattle.std.specs.Prelude.{◌≡◌, [], Some, IsErr};
 ghost use Rattle.std.specs.Io.{ReadsAtMost};
 ghost use Rattle.std.specs.Io.KnownBytes.{ReadConsumes};
 ghost use Rattle.vx_io.specs.Faults.{CountsFault, count_after};
@@ -7,7 +7,7 @@ ghost use Rattle.vx_io.specs.Faults.{CountsFault, count_after};
 use crate::read::{Source, SourceFailed};
 use std::marker::Model;
 
-/// A source that stands for a file that could not be opened. Every read fails.
+/// A source that stands for a file that could not be opened. Every read fails. It tells that it has no bytes left.
 ///
 /// It is seen as its count of faults.
 #[derive(Drop)]
@@ -33,13 +33,13 @@ impl ClosedSource {
 }
 
 impl Source for ClosedSource {
-    ghost bytes_left = { λ _. None };
+    ghost bytes_left = { λ _. Some [] };
 
     ghost read_faults = { λ s. s };
 
     fn read(&mut self, into: &mut [u8]) -> Result<usize, SourceFailed>
         ensures bound { ReadsAtMost result into.new }
-        ensures bytes { ReadConsumes None None result into.new }
+        ensures bytes { ReadConsumes (Some []) (Some []) result into.new }
         ensures faults { CountsFault self.old self.new result }
         ensures fails { IsErr result }
         ensures one { self.new ≡ count_after self.old }

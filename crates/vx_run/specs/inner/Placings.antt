@@ -3,7 +3,7 @@ use Rattle.std.specs.Prelude.{◌≡◌, ◌≢◌, ℕ, ◌<◌, ◌==◌, List
 use Rattle.std.specs.List.{AllByRecursion, before_first, after_first}
 use Rattle.std.specs.Str.Parse.{digits_value}
 use Rattle.vx_run.specs.declared.words.Command.{Command}
-use Rattle.vx_run.specs.declared.words.Command.TheVariants.{Show, Extract, CheckExtract, Merge, Play, CheckMerge, Verify, Help, Version, Explain}
+use Rattle.vx_run.specs.declared.words.Command.TheVariants.{Show, Extract, CheckExtract, Merge, Play, CheckMerge, Verify, Trial, Help, Version, Explain}
 use Rattle.vx_run.specs.declared.words.Placing.{Placing as Placed}
 use Rattle.vx_run.specs.Grammar.{Placing, placing_word, IsPlacing, IsLevel, level_words, texts}
 
@@ -51,6 +51,7 @@ HasPlacings (Merge level placings) = AllByRecursion IsPlacingWord (texts placing
 HasPlacings (Play level placings) = AllByRecursion IsPlacingWord (texts placings.now)
 HasPlacings (CheckMerge placings) = AllByRecursion IsPlacingWord (texts placings.now)
 HasPlacings (Verify finished placings) = AllByRecursion IsPlacingWord (texts placings.now)
+HasPlacings (Trial seed sources pictures) = Unit {0}
 HasPlacings Help = Unit {0}
 HasPlacings Version = Unit {0}
 HasPlacings (Explain word) = Unit {0}

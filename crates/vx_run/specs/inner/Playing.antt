@@ -1,13 +1,14 @@
 -- The steps of `play`: the files that each region is at, and the rounds that were written. Lists of pictures have the latest first.
-use Rattle.std.specs.Prelude.{◌≡◌, ◌≢◌, ◌⊎◌, ℕ, ◌+◌, ◌*◌, ◌^◌, ◌<◌, ◌≤◌, not, Bool, true, false, List, [], ◌++◌, length, map, get_or, slice_get, slice_index}
+use Rattle.std.specs.Prelude.{◌≡◌, ◌≢◌, ◌⊎◌, ℕ, ◌+◌, ◌*◌, ◌^◌, ◌<◌, ◌≤◌, not, Bool, true, false, List, [], ◌∷◌, ◌++◌, length, map, get_or, slice_get, slice_index}
 use Rattle.std.specs.Prelude.{Option, Some, None, Result, Ok, Err}
 use Rattle.std.specs.List.{AllByRecursion}
 use Rattle.vx_bits.specs.declared.refusal.Refusal.{Refusal}
+use Rattle.vx_annexb.specs.Laws.{written}
 use Rattle.vx_pic.specs.Joined.{one_behind_another}
 use Rattle.vx_pic.specs.Parts.{Parts}
 use Rattle.vx_pic.specs.Readings.{Picture}
 use Rattle.vx_pic.specs.Rules.{Readers}
-use Rattle.vx_pic.specs.Written.{Plan}
+use Rattle.vx_pic.specs.Written.{Plan, units_of}
 use Rattle.vx_report.specs.declared.refusal.Where.{Where}
 use Rattle.vx_assemble.specs.Feed.{Feeding}
 use Rattle.vx_write.specs.declared.fault.WriteError.{WriteError}
@@ -18,12 +19,12 @@ use Rattle.vx_merge.specs.Merging.{Merging, Stands, Writes}
 use Rattle.vx_play.specs.Scheduled.{Scheduled, files_of, count_of as regions_of}
 use Rattle.vx_run.specs.declared.stop.Stop.{Stop}
 use Rattle.vx_run.specs.declared.stop.Stop.TheVariants.{Refused, ReadFault, WriteFault, NoMemory}
-use Rattle.vx_run.specs.Change.{Change, Sources, source_at, HasFault, Gains}
+use Rattle.vx_run.specs.Change.{Change, Sources, source_at, HasNoFault, HasFault, Gains}
 use Rattle.vx_run.specs.Conclusion.{Outcome}
 use Rattle.vx_run.specs.Extract.{WhereTold}
-use Rattle.vx_run.specs.Merge.{bytes_of, length_refused}
-use Rattle.vx_run.specs.Rounds.{IsRead, Sees, WhereAllTold, behind_units, in_round}
-use Rattle.vx_run.specs.Play.{AreOut, IsBehind, ArePlayedOf, count_of, region_of, with_corners}
+use Rattle.vx_run.specs.Merge.{bytes_of, length_refused, GainsInto}
+use Rattle.vx_run.specs.Rounds.{IsRead, IsReadOut, NoneRefused, OfEach, Sees, WhereAllTold, behind_units, in_round}
+use Rattle.vx_run.specs.Play.{AreOut, IsBehind, ArePlayedFor, ArePlayedOf, ArePlayedTo, ComesAt, EndsPlayed, count_of, region_of, region_streams, with_corners}
 use Rattle.vx_run.specs.inner.Advancing.{TakesOne, Waits, GoesBy}
 
 -- ---- regions
@@ -219,3 +220,26 @@ pub record HasPlayed {A K : Type 0} (R : Readers) (corners : List Corner) (level
   pub stands : Stands m done
   pub plans : WhereAllTold R sources (λ files. ArePlayedOf corners level s.regions files done)
   pub gained : Gains out (bytes_of done)
+
+-- what all rounds did to the files and to `out`, by what came of them
+abbrev pub PlaysRounds : {A K : Type 0} → Readers → List Corner → Option ℕ → List ℕ → Sources A → Change K → Outcome → Type 0
+PlaysRounds R corners level regions sources out (Ok _) =
+    OfEach sources IsReadOut × HasNoFault out
+    × WhereAllTold R sources (λ files. (done : List Plan) × EndsPlayed corners level regions files done (Ok tt) × Gains out (bytes_of done))
+PlaysRounds R corners level regions sources out (Err (Refused r place)) =
+    (n : ℕ) × ArePlayedTo R sources (length corners) regions n place × HasNoFault out
+    × WhereAllTold R sources (λ files. (done : List Plan) × (length done ≡ n) × EndsPlayed corners level regions files done (Err (Refused r place))
+    × Gains out (bytes_of done))
+PlaysRounds R corners level regions sources out (Err (ReadFault j)) =
+    (j < length sources.old) × HasFault (source_at sources j) × HasNoFault out
+    × ((n k m : ℕ) × ComesAt R sources (length corners) regions n k j m × Sees R (source_at sources j) m
+    × WhereAllTold R sources (λ files. (done : List Plan) × (length done ≡ n) × ArePlayedOf corners level regions files done
+    × NoneRefused k (region_streams (length corners) regions files) n × Gains out (bytes_of done)))
+PlaysRounds R corners level regions sources out (Err WriteFault) =
+    (n : ℕ) × ((k : ℕ) → k < length corners → ArePlayedFor R sources (n + 1) (files_of regions k)) × HasFault out
+    × WhereAllTold R sources (λ files. (done : List Plan) × (p : Plan) × (length done ≡ n) × ArePlayedOf corners level regions files (p ∷ done)
+    × GainsInto out (bytes_of done) (written (units_of p)))
+PlaysRounds R corners level regions sources out (Err NoMemory) =
+    OfEach sources IsRead × HasNoFault out
+    × WhereAllTold R sources (λ files. (done : List Plan) × ArePlayedOf corners level regions files done × Gains out (bytes_of done))
+PlaysRounds R corners level regions sources out (Err _) = ⊥

@@ -1,6 +1,6 @@
 -- Words, read from the front on.
 use Rattle.std.specs.Prelude.{◌≡◌, ℕ, ◌≤◌, List, ◌∷◌, decimal, Bool, true, false, Option, Some, None}
-use Rattle.vx_run.specs.Grammar.{Command, show, extract, check_extract, merge, play, check_merge, verify, help, version, explain}
+use Rattle.vx_run.specs.Grammar.{Command, show, extract, check_extract, merge, play, check_merge, verify, trial, help, version, explain}
 
 -- another word, or none, comes first
 abbrev pub BeginsNot : List ℕ → List (List ℕ) → Type 0
@@ -25,6 +25,7 @@ is_plain (merge level placings) = false
 is_plain (play level placings) = false
 is_plain (check_merge placings) = false
 is_plain (verify finished placings) = false
+is_plain (trial seed sources pictures) = false
 is_plain help = true
 is_plain version = true
 is_plain (explain word) = false

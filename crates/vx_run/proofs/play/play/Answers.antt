@@ -1,7 +1,8 @@
-use Rattle.std.proofs.Common.{◌≡◌, ◌<◌, ◌≤◌, ◌∙◌, ℕ, List, length, inl, inr, sym, ap, map, refl, arith}
+use Rattle.std.proofs.Common.{◌<◌, ◌≤◌, ◌∙◌, ℕ, List, Err, length, inl, inr, ap, map, refl, arith}
 use Rattle.std.proofs.lemmas.List.{length-map}
 use Rattle.std.proofs.lemmas.Result.{err_from_is_err_and}
 use Rattle.vx_merge.specs.declared.corner.Corner.{Corner}
+use Rattle.vx_run.specs.declared.stop.Stop.TheVariants.{NoMemory}
 use Rattle.vx_run.specs.Change.{change, sources_change}
 use Rattle.vx_run.specs.Grammar.{texts}
 use Rattle.vx_run.specs.Merge.{corners_of}
@@ -9,6 +10,7 @@ use Rattle.vx_run.specs.Play.{file_regions, most_files, region_corners, region_o
 use Rattle.vx_run.specs.Rounds.{most_sources}
 use Rattle.vx_run.specs.inner.Placings.{placing_in}
 use Rattle.vx_run.proofs.Corners.{many_corners, too_many_stop}
+use Rattle.vx_run.proofs.PlayAgain.{plays}
 use Rattle.vx_run.proofs.Playing.{play_unmade}
 use Rattle.vx_run.proofs.PlayRegions.{files_found, found_corners}
 use Rattle.vx_run.proofs.PlayRounds.{plays_of, too_many_files_stop}
@@ -22,7 +24,11 @@ returns-in_err-regions-clause-plays g c =
       stop = tt;
       many = λ many. (inr refl, refl, refl);
       files = λ few many. (inr refl, refl, refl);
-      few = λ few fits R of. play_unmade _ _ g.K.Sink.bytes_taken g.K.Sink.write_faults R c.args.sources.now.items c.args.out.now (region_corners (map placing_in (texts c.args.placings.now))) c.args.level (file_regions (map placing_in (texts c.args.placings.now)));
+      few = λ few fits R of.
+          let corners = region_corners (map placing_in (texts c.args.placings.now)) in
+          let are = found_corners c.args.placings.now corners c.requires.words c.requires.some refl few in
+          plays c.plays_read_again.ensures R of corners are c.args.level (file_regions (map placing_in (texts c.args.placings.now))) _ _ (Err NoMemory)
+          (play_unmade _ _ g.K.Sink.bytes_taken g.K.Sink.write_faults R c.args.sources.now.items c.args.out.now corners c.args.level (file_regions (map placing_in (texts c.args.placings.now))));
     })
 
 -- there are too many regions
@@ -78,6 +84,8 @@ returns-clause-plays g c =
       many = λ many. absurd (omega (arith, many, few));
       files = λ few_ many. absurd (omega (arith, fits, many));
       few = λ few_ fits_ R of.
-          plays_of R sources out c.deref-2.result.now (region_corners placings) c.args.level c.deref.result.now (file_regions placings) c.play_rounds.result (c.deref-2.ensures.value ∙ found.0.once) (c.deref.ensures.value ∙ files_found found.0)
-          (c.play_rounds.ensures.plays R of);
+          let are = found_corners c.args.placings.now (region_corners placings) c.requires.words c.requires.some refl few_ in
+          plays c.plays_read_again.ensures R of (region_corners placings) are c.args.level (file_regions placings) sources out c.play_rounds.result
+          (plays_of R sources out c.deref-2.result.now (region_corners placings) c.args.level c.deref.result.now (file_regions placings) c.play_rounds.result (c.deref-2.ensures.value ∙ found.0.once) (c.deref.ensures.value ∙ files_found found.0)
+          (c.play_rounds.ensures.plays R of));
     }

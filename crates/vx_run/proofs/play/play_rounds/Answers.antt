@@ -5,7 +5,7 @@ use Rattle.vx_merge.specs.declared.corner.Corner.{Corner}
 use Rattle.vx_merge.specs.Merging.{AreCorners}
 use Rattle.vx_play.specs.Scheduled.{Scheduled, count_of as regions_in}
 use Rattle.vx_run.specs.Change.{change, sources_change}
-use Rattle.vx_run.specs.Play.{PlaysBy}
+use Rattle.vx_run.specs.inner.Playing.{PlaysRounds}
 use Rattle.vx_run.proofs.Playing.{play_unmade}
 use Rattle.vx_run.proofs.PlayRounds.{plays_of}
 use Rattle.vx_run.proofs.play.play_rounds.Goals as goal
@@ -43,5 +43,5 @@ returns-clause-plays g c R of =
     let sources = sources_change (λ s. (goal.Source-dyn g (s.vtable, s.value)).bytes_left s.value) (λ s. (goal.Source-dyn g (s.vtable, s.value)).read_faults s.value) c.args.sources.now.items c.play_by.new.sources.items in
     let out = change g.K.Sink.bytes_taken g.K.Sink.write_faults c.args.out.now c.play_by.new.out in
     let same = c.in_ok-merger.ensures.task in
-    subst (λ (n : Option ℕ). PlaysBy R c.args.corners.now n c.args.files.now sources out c.play_by.result) same.1
+    subst (λ (n : Option ℕ). PlaysRounds R c.args.corners.now n c.args.files.now sources out c.play_by.result) same.1
     (plays_of R sources out c.in_ok-merger.merger.corners c.args.corners.now c.in_ok-merger.merger.level c.in_ok-schedule.schedule.regions c.args.files.now c.play_by.result same.0 (ap (λ (x : Scheduled). x.regions) c.in_ok-schedule.ensures) (c.play_by.ensures.plays R of))

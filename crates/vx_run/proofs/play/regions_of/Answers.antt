@@ -1,4 +1,4 @@
-use Rattle.std.proofs.Common.{◌≡◌, ◌<◌, ◌≤◌, ◌∙◌, List, [], get_or, length, sym, ap, subst, arith}
+use Rattle.std.proofs.Common.{◌<◌, ◌≤◌, ◌∙◌, List, [], get_or, length, sym, ap, subst, arith}
 use Rattle.vx_merge.specs.declared.corner.Corner.{Corner}
 use Rattle.vx_run.specs.Play.{with_corners}
 use Rattle.vx_run.specs.Rounds.{most_sources}

@@ -1,5 +1,5 @@
 use Rattle.std.proofs.Common.{◌<◌, length, map, arith, refl}
-use Rattle.vx_run.specs.Grammar.{show, extract, check_extract, merge, play, check_merge, verify, help, version, explain, texts}
+use Rattle.vx_run.specs.Grammar.{show, extract, check_extract, merge, play, check_merge, verify, trial, help, version, explain, texts}
 use Rattle.vx_run.specs.inner.Placings.{placing_in}
 use Rattle.vx_run.proofs.Performing.{names-file, performs, performs-show, performs-extract, performs-check, merge_count, verify_count}
 use Rattle.vx_run.proofs.program.perform.Goals as goal
@@ -18,6 +18,13 @@ returns-in-Some-Help-clause-performs g c =
 pub returns-in-Some-Version-clause-performs : goal.returns-in-Some-Version-clause-performs
 returns-in-Some-Version-clause-performs g c =
     performs _ _ _ _ version (rw c.in-Some-Version.field-0-is at c.in-Some-Version.ensures.some) (refl, rw c.version.ensures at c.write_text-in-Some-Version.ensures.writes)
+
+pub trial-requires : goal.trial-requires
+trial-requires g c = (rw c.in-Some-Trial.field-0-is at c.in-Some-Trial.ensures.some).named
+
+pub returns-in-Some-Trial-clause-performs : goal.returns-in-Some-Trial-clause-performs
+returns-in-Some-Trial-clause-performs g c =
+    performs _ _ _ _ (trial c.in-Some-Trial.seed c.in-Some-Trial.sources c.in-Some-Trial.pictures) (rw c.in-Some-Trial.field-0-is at c.in-Some-Trial.ensures.some) (refl, c.trial.ensures.trials)
 
 pub explain-requires : goal.explain-requires
 explain-requires g c = (rw c.in-Some-Explain.field-0-is at c.in-Some-Explain.ensures.some).named

@@ -1,4 +1,4 @@
-use Rattle.vx_run.proofs.Ending.{exact-done, exact-stopped, extracts-done, extracts-stopped, words-stopped, checks-done, checks-stopped, merges-done, merges-stopped, verifies-done, verifies-stopped, plays-done, plays-stopped, limits-done, limits-stopped, many-done, many-stopped}
+use Rattle.vx_run.proofs.Ending.{exact-done, exact-stopped, extracts-done, extracts-stopped, words-stopped, checks-done, checks-stopped, merges-done, merges-stopped, verifies-done, verifies-stopped, trials-stopped, plays-done, plays-stopped, limits-done, limits-stopped, many-done, many-stopped}
 use Rattle.vx_run.proofs.Once.{ends_once}
 use Rattle.vx_run.proofs.PlayOnce.{play_once}
 use Rattle.vx_run.proofs.PlayRegions.{some_regions}
@@ -57,6 +57,9 @@ returns-in-Err-clause-verifies g c R of finished placings spelled few read =
     let some : 0 < length c.args.sources.now.items = omega (arith, verify_files_count _ _ finished placings c.requires spelled) in
     verifies-stopped _ _ _ finished placings spelled few (verify_once verified_has_none mismatch_one) R of _ c.in-Err.stop c.conclude.result some c.in-Err.ensures.performs c.conclude.ensures
     (λ k within. let fits : k < vec_len c.args.sources.now = omega (arith, within) in read k fits)
+
+pub returns-in-Err-clause-trials : goal.returns-in-Err-clause-trials
+returns-in-Err-clause-trials g c seed streams pictures spelled = trials-stopped _ _ _ _ c.in-Err.stop c.conclude.result seed streams pictures c.in-Err.ensures.performs c.conclude.ensures spelled
 
 pub returns-in-Ok-clause-plays : goal.returns-in-Ok-clause-plays
 returns-in-Ok-clause-plays g c R of level placings spelled regions few read write fits = plays-done _ _ _ level placings spelled regions few R of c.in-Ok.ensures.performs

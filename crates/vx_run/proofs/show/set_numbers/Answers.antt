@@ -12,12 +12,12 @@ returns-in_err-pps-in-Pps c R of g units r before fed told =
 
 pub returns-in_err-fields-in-Vps : goal.returns-in_err-fields-in-Vps
 returns-in_err-fields-in-Vps c R of g units r before fed told =
-    absurd (vps_there r before (sym c.in-Vps.is ∙ told) (rw c.in_err-fields-in-Vps.was at c.fields.ensures r before fed.stands told))
+    absurd (vps_there r before (sym c.in-Vps.is ∙ told) (rw c.in_err-fields-in-Vps.was at c.fields.ensures.taken r before fed.stands told))
 
 pub returns-in_ok-fields-in-Vps : goal.returns-in_ok-fields-in-Vps
 returns-in_ok-fields-in-Vps c R of g units r before fed told =
     vps_shown r before c.in_ok-fields-in-Vps.field-0.now c.of_vps.result (sym c.in-Vps.is ∙ told) c.of_vps.ensures
-    (rw c.in_ok-fields-in-Vps.was at c.fields.ensures r before fed.stands told)
+    (rw c.in_ok-fields-in-Vps.was at c.fields.ensures.taken r before fed.stands told)
 
 pub returns-in_ok-sps-in-Sps : goal.returns-in_ok-sps-in-Sps
 returns-in_ok-sps-in-Sps c R of g units r before fed told =

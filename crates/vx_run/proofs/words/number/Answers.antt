@@ -13,7 +13,7 @@ returns-then-bytes-lt49 c n within is =
 
 pub returns-in_default : goal.returns-in_default
 returns-in_default c n within is =
-    let read = parse-decimal 16 n c.args.word.now c.parse.result (omega arith) (omega arith) is c.parse.ensures.value.0 in
+    let read = parse-decimal 32 n c.args.word.now c.parse.result (omega arith) (omega arith) is c.parse.ensures.value.0 in
     let no = c.in_default.is in
     absurd (cc)
 

@@ -13,7 +13,7 @@ merge-requires-clause-corners c =
 
 pub merge-requires-clause-can : goal.merge-requires-clause-can
 merge-requires-clause-can c R of =
-    let law = c.generated_can_be_tried.ensures c.requires.short in
+    let law = c.generated_can_be_tried.ensures in
     let same = c.deref.ensures.value ∙ c.in_ok-corners.ensures in
     let are = c.as_slice.ensures ∙ c.in_ok-streams.ensures in (
       sources_of c.args.seed c.args.sources c.args.pictures,
@@ -22,7 +22,7 @@ merge-requires-clause-can c R of =
 
 pub weigh-requires : goal.weigh-requires
 weigh-requires c R of =
-    let law = c.generated_can_be_tried.ensures c.requires.short in
+    let law = c.generated_can_be_tried.ensures in
     let same = c.deref.ensures.value ∙ c.in_ok-corners.ensures in
     let are = c.as_slice.ensures ∙ c.in_ok-streams.ensures in
     let sources = sources_of c.args.seed c.args.sources c.args.pictures in
@@ -37,7 +37,7 @@ weigh-requires c R of =
 
 pub returns : goal.returns
 returns c R of =
-    let law = c.generated_can_be_tried.ensures c.requires.short in
+    let law = c.generated_can_be_tried.ensures in
     let same = c.deref.ensures.value ∙ c.in_ok-corners.ensures in
     let are = c.as_slice.ensures ∙ c.in_ok-streams.ensures in
     let sources = sources_of c.args.seed c.args.sources c.args.pictures in

@@ -1,0 +1,15 @@
+-- The pictures of files that are played one behind another can be merged.
+use Rattle.std.specs.List.{AllByRecursion}
+use Rattle.std.specs.Prelude.{◌≡◌, ℕ, ◌++◌, Bool, List, []}
+use Rattle.vx_pic.specs.Joined.{AreJoined, StartWhere, one_behind_another, played}
+use Rattle.vx_pic.specs.Readings.{Picture}
+use Rattle.vx_pic.specs.Rules.{Readers}
+use Rattle.vx_again.specs.Sources.{CanBeMerged}
+
+-- Where those of each file can be, so can the first ones of all as they are played, one file behind another, if each of these that is joined
+-- may come first behind a join.
+abbrev pub PlayedCanBeMerged : Type 0
+PlayedCanBeMerged =
+    (R : Readers) (joins : ℕ → Bool) (files : List (List Picture)) (later ps : List Picture) → AreJoined joins files
+    → AllByRecursion (CanBeMerged R) files → one_behind_another [] files ≡ later ++ ps → StartWhere joins ps
+    → CanBeMerged R (played joins ps)
