@@ -3,7 +3,6 @@ use Rattle.std.proofs.Common.{◌≡◌, ◌≢◌, ℕ, ◌+◌, ◌<◌, ◌�
 use Rattle.std.specs.Prelude.{option_and_then}
 use Rattle.std.specs.Option.{option_map_or}
 use Rattle.std.specs.List.{All}
-use Rattle.std.proofs.KnownBytes.{Consumes-nil}
 use Rattle.std.proofs.lemmas.List.{get_or-set_same}
 use Rattle.std.proofs.lemmas.List.{length-map, length-set}
 use Rattle.std.proofs.lemmas.Option.{slice_get_within, slice_get-get_or, slice_get_read, same_Some}
@@ -27,9 +26,9 @@ use Rattle.vx_run.specs.Extract.{WhereTold, BeginsWith}
 use Rattle.vx_run.specs.Rounds.{Stream, GoesOn, HasEnded, IsRound, NoneRefused, Telling, StopsIn, by_stream, by_length, stream_refused, AllEnded, AreTold, OfEach, Sees}
 use Rattle.vx_run.specs.Rounds.{IsRead, IsReadOut, IsReadFor, IsReadInRound, OthersAreRead}
 use Rattle.vx_run.specs.inner.Advancing.{OfAll, IsUnfed, LendsLatest, Waits, TakesOne, Came, AreWaiting, AreAdvancing, AdvancesOf, AllTake, AllEnd, GoesBy, Begin, IsFirstRefused, EndsFirst, HaltsAtSource, AdvancesAll}
-use Rattle.vx_run.proofs.Taking.{taken_none, taken_below}
+use Rattle.vx_run.proofs.Taking.{taken_below}
 use Rattle.vx_run.proofs.Indexed.{some_at, mapped_at, any_default, set_there, set_other, get_set_there, get_set_other, where_is}
-use Rattle.vx_run.proofs.Sources.{Advanced, HasRound, round_stays, waits_still, came_still, waits_read, waits_for, waits_begin, takes_read, takes_for, takes_goes, ends_there, came_read, came_in, came_begin, came_kept, waits_taken, went, step_takes, step_ends, step_refused, step_unread, step_none, told_of}
+use Rattle.vx_run.proofs.Sources.{untouched_read, untouched_waits, Advanced, HasRound, round_stays, waits_still, came_still, waits_read, waits_for, waits_begin, takes_read, takes_for, takes_goes, ends_there, came_read, came_in, came_begin, came_kept, waits_taken, went, step_takes, step_ends, step_refused, step_unread, step_none, told_of}
 use Rattle.vx_run.proofs.Told.{refused_at}
 
 -- what holds at each index does of each element
@@ -40,7 +39,7 @@ module _ {A : Type 0} (bytes : A → Option (List ℕ)) (faults : A → ℕ) (R 
   abbrev Src : List A → Sources A
   Src l = sources_change bytes faults first l
 
-  abbrev At : List A → ℕ → Change (List A)
+  abbrev At : List A → ℕ → Change (Option A)
   At l k = source_at (Src l) k
 
   -- ---- the streams that are told
@@ -208,7 +207,7 @@ module _ {A : Type 0} (bytes : A → Option (List ℕ)) (faults : A → ℕ) (R 
 
   -- none was read yet
   pub unread : OfEach (Src first) IsRead
-  unread k within = (refl, ([], Consumes-nil (bytes_at bytes first k)))
+  unread k within = untouched_read (At first k) refl
 
   -- none was taken yet
   pub waiting_none : (feeds : List Feeding) → length feeds ≡ length first → OfAll (λ k f. IsUnfed f) feeds → AreWaiting R (Src first) feeds (map (λ (f : Feeding). let ps : List Picture = [] in ps) feeds) 0
@@ -220,9 +219,7 @@ module _ {A : Type 0} (bytes : A → Option (List ℕ)) (faults : A → ℕ) (R 
         rounds = λ k ps at. let m = mapped_at none feeds k ps at in ap (λ (l : List Picture). length l) (sym m.2);
         waits = λ k f ps at there.
             let m = mapped_at none feeds k ps there in
-            let new = unfed k f at in
-            subst (λ (l : List Picture). Waits R (At first k) f l) m.2
-            (taken_none (λ x. bytes_at bytes x k) (λ x. faults_at faults x k) R first f new.open_.reader (new.fed R) new.needed, refl);
+            subst (λ (l : List Picture). Waits R (At first k) f l) m.2 (untouched_waits bytes faults R first first k f refl (unfed k f at));
       }
 
   module _ (l : List A) (feeds : List Feeding) (taken : List (List Picture)) (n : ℕ) (all : AllTake R (Src l) feeds taken n) where
@@ -232,7 +229,7 @@ module _ {A : Type 0} (bytes : A → Option (List ℕ)) (faults : A → ℕ) (R 
         let fits : 0 < length taken = omega (arith, slice_get_within feeds 0 f at, all.feeds_count, all.taken_count) in
         let ps = some_at taken 0 fits in
         let t = all.each 0 f ps.0 at ps.1 in
-        omega (arith, taken_below (λ x. bytes_at bytes x 0) (λ x. faults_at faults x 0) R first l f ps.0 t.one, all.rounds 0 ps.0 ps.1)
+        omega (arith, taken_below (option_and_then bytes) (λ x. option_map_or faults x 0) R (slice_get first 0) (slice_get l 0) f ps.0 t.one, all.rounds 0 ps.0 ps.1)
 
     pub all_hold : All (λ (f : Feeding). HasPicture f.assembler) feeds
     all_hold =

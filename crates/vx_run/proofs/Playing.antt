@@ -116,7 +116,7 @@ module _ {A K : Type 0} (bytes : A → Option (List ℕ)) (faults : A → ℕ) (
   abbrev Src : List A → Sources A
   Src l = sources_change bytes faults first l
 
-  abbrev At : List A → ℕ → Change (List A)
+  abbrev At : List A → ℕ → Change (Option A)
   At l k = source_at (Src l) k
 
   abbrev Out : K → Change K

@@ -1,24 +1,20 @@
 -- The files of a region, in order: those that were read out, the one that is read, and those behind it.
 use Rattle.std.proofs.Common.{◌≡◌, ◌≢◌, ℕ, zero, suc, ◌+◌, ◌<◌, ◌≤◌, ◌==◌, ◌⊎◌, List, [], ◌∷◌, ◌++◌, ◌∙◌, Option, Some, Bool, true, false, cond, length, filter, slice_get, inl, inr, sym, ap, refl, subst, arith}
-use Rattle.std.specs.Prelude.{None, slice_index, option_and_then}
-use Rattle.std.specs.Option.{option_map_or}
+use Rattle.std.specs.Prelude.{None, slice_index}
 use Rattle.std.specs.List.{AllByRecursion, range_with_len}
-use Rattle.std.specs.Io.KnownBytes.{Consumes, IsAtEnd}
-use Rattle.std.proofs.KnownBytes.{Consumes-nil}
 use Rattle.std.proofs.lemmas.Bool.{eq-eqb, eqb-true}
 use Rattle.std.proofs.lemmas.Option.{same_Some}
-use Rattle.vx_io.specs.Listed.{bytes_at}
 use Rattle.vx_pic.specs.Readings.{Picture}
 use Rattle.vx_pic.specs.Rules.{Readers}
 use Rattle.vx_assemble.specs.Feed.{Feeding}
 use Rattle.vx_play.specs.Scheduled.{files_of}
-use Rattle.vx_run.specs.Change.{Change, Sources, sources_change, source_at}
-use Rattle.vx_run.specs.Play.{AreOut, AreUnread, IsBehind, IsOut, IsUnread}
+use Rattle.vx_run.specs.Change.{Change, Sources, sources_change, source_at, IsUntouched}
+use Rattle.vx_run.specs.Play.{AreOut, AreUnread, IsBehind, IsOut}
 use Rattle.vx_run.specs.Rounds.{IsRead, IsReadOut}
-use Rattle.vx_run.specs.inner.Advancing.{IsUnfed, Waits}
+use Rattle.vx_run.specs.inner.Advancing.{IsUnfed}
 use Rattle.vx_run.specs.inner.Playing.{AllRead, IsAt}
 use Rattle.vx_run.proofs.Indexed.{where_is}
-use Rattle.vx_run.proofs.Sources.{waits_read, waits_still}
+use Rattle.vx_run.proofs.Sources.{still, untouched_read, untouched_waits, waits_read, waits_still}
 
 -- ---- the numbers of a region's files
 
@@ -87,32 +83,12 @@ module _ {A : Type 0} (bytes : A → Option (List ℕ)) (faults : A → ℕ) (R 
   abbrev Src : List A → Sources A
   Src l = sources_change bytes faults first l
 
-  abbrev At : List A → ℕ → Change (List A)
+  abbrev At : List A → ℕ → Change (Option A)
   At l k = source_at (Src l) k
-
-  -- a new feed waits at a file that nothing was read of
-  pub unread_waits : (l : List A) (j : ℕ) (f : Feeding) → IsUnread (At l j) → IsUnfed f → Waits R (At l j) f []
-  unread_waits l j f none new = (
-    record {
-      given = [];
-      units = [];
-      readings = [];
-      kept = none.0;
-      gave = subst (λ (b : Option (List ℕ)). Consumes (bytes_at bytes first j) b []) (sym none.1) (Consumes-nil (bytes_at bytes first j));
-      fed = new.fed R;
-      needed = new.needed;
-      done = refl;
-      ended = λ end. let no = sym new.open_.reader ∙ end in absurd (cc);
-    },
-    none.1,
-  )
-
-  pub unread_read : (l : List A) (j : ℕ) → IsUnread (At l j) → IsRead (At l j)
-  unread_read l j none = (none.0, ([], subst (λ (b : Option (List ℕ)). Consumes (bytes_at bytes first j) b []) (sym none.1) (Consumes-nil (bytes_at bytes first j))))
 
   pub all_unread : (js : List ℕ) → AreUnread (Src first) js
   all_unread [] = tt
-  all_unread (j ∷ js) = ((refl, refl), all_unread js)
+  all_unread (j ∷ js) = (refl, all_unread js)
 
   -- ---- the file that is read
 
@@ -136,7 +112,7 @@ module _ {A : Type 0} (bytes : A → Option (List ℕ)) (faults : A → ℕ) (R 
 
   -- one more file was read out: the next one is read, or there is none
   pub goes_behind : (l : List A) (js : List ℕ) (passed : List (List Picture)) (own : List Picture) (j : ℕ) → IsBehind R (Src l) j js passed → IsOut R (At l j) own
-      → ((i : ℕ) × IsBehind R (Src l) i js (passed ++ own ∷ []) × IsUnread (At l i)) ⊎ AreOut R (Src l) js (passed ++ own ∷ [])
+      → ((i : ℕ) × IsBehind R (Src l) i js (passed ++ own ∷ []) × IsUntouched (At l i)) ⊎ AreOut R (Src l) js (passed ++ own ∷ [])
   goes_behind l [] passed own j behind out = absurd behind
   goes_behind l (i ∷ []) [] own j behind out = inr (subst (λ (x : ℕ). IsOut R (At l x) own) (sym behind.0) out, refl)
   goes_behind l (i ∷ h ∷ js) [] own j behind out = inl (h, (subst (λ (x : ℕ). IsOut R (At l x) own) (sym behind.0) out, (refl, behind.1.1)), behind.1.0)
@@ -148,18 +124,8 @@ module _ {A : Type 0} (bytes : A → Option (List ℕ)) (faults : A → ℕ) (R 
   -- ---- where other files were read
 
   module _ (l l' : List A) where
-    unread_still : (j : ℕ) → slice_get l' j ≡ slice_get l j → IsUnread (At l j) → IsUnread (At l' j)
-    unread_still j same none = (ap (λ (o : Option A). option_map_or faults o 0) same ∙ none.0, ap (option_and_then bytes) same ∙ none.1)
-
-    pub out_still : (j : ℕ) (ps : List Picture) → slice_get l' j ≡ slice_get l j → IsOut R (At l j) ps → IsOut R (At l' j) ps
-    out_still j ps same out = (
-      (
-        ap (λ (o : Option A). option_map_or faults o 0) same ∙ out.0.0,
-        (out.0.1.0, subst (λ (b : Option (List ℕ)). Consumes (bytes_at bytes first j) b out.0.1.0) (sym (ap (option_and_then bytes) same)) out.0.1.1),
-        subst IsAtEnd (sym (ap (option_and_then bytes) same)) out.0.2,
-      ),
-      out.1,
-    )
+    out_still : (j : ℕ) (ps : List Picture) → slice_get l' j ≡ slice_get l j → IsOut R (At l j) ps → IsOut R (At l' j) ps
+    out_still j ps same = still bytes faults R first l l' j same (λ c. IsOut R c ps)
 
     module _ (regions : List ℕ) (k n : ℕ) where
       -- all but j of the region are as they were
@@ -170,7 +136,7 @@ module _ {A : Type 0} (bytes : A → Option (List ℕ)) (faults : A → ℕ) (R 
       unread_stay j a [] low of stay none = tt
       unread_stay j a (i ∷ js) low of stay none =
           let other : i ≢ j = λ same. omega (arith, same, low, of.0) in
-          (unread_still i (stay i other of.2) none.0, unread_stay j (i + 1) js (omega (arith, low, of.0)) of.3 stay none.1)
+          (stay i other of.2 ∙ none.0, unread_stay j (i + 1) js (omega (arith, low, of.0)) of.3 stay none.1)
 
       pub behind_stay : (a : ℕ) (js : List ℕ) (passed : List (List Picture)) (j : ℕ) → AreOfRegion regions k n a js → Stay j → IsBehind R (Src l) j js passed → IsBehind R (Src l') j js passed
       behind_stay a [] passed j of stay behind = absurd behind
@@ -200,7 +166,7 @@ module _ {A : Type 0} (bytes : A → Option (List ℕ)) (faults : A → ℕ) (R 
 
   unread_all : (l : List A) (js : List ℕ) → AreUnread (Src l) js → AllRead (Src l) js
   unread_all l [] none = tt
-  unread_all l (j ∷ js) none = (unread_read l j none.0, unread_all l js none.1)
+  unread_all l (j ∷ js) none = (untouched_read (At l j) none.0, unread_all l js none.1)
 
   pub behind_read : (l : List A) (js : List ℕ) (passed : List (List Picture)) (j : ℕ) → IsBehind R (Src l) j js passed → IsRead (At l j) → AllRead (Src l) js
   behind_read l [] passed j behind read = absurd behind
@@ -224,4 +190,4 @@ module _ {A : Type 0} (bytes : A → Option (List ℕ)) (faults : A → ℕ) (R 
   -- a region that nothing was read of is at its first file
   pub at_first : (js : List ℕ) (f : Feeding) → IsUnfed f → IsAt R (Src first) js f [] []
   at_first [] f new = inr (refl, refl)
-  at_first (j ∷ js) f new = inl (j, (refl, all_unread js), unread_waits first j f (refl, refl) new)
+  at_first (j ∷ js) f new = inl (j, (refl, all_unread js), untouched_waits bytes faults R first first j f refl new)

@@ -16,16 +16,16 @@ use Rattle.vx_merge.specs.declared.ended.Lengths.TheVariants as lengths
 use Rattle.vx_merge.specs.declared.ended.Lengths.TheVariants.{Differ}
 use Rattle.vx_merge.specs.Ends.{IsLengths}
 use Rattle.vx_play.specs.Scheduled.{files_of}
-use Rattle.vx_run.specs.Change.{Change, Sources, sources_change, source_at}
+use Rattle.vx_run.specs.Change.{Change, Sources, sources_change, source_at, IsUntouched}
 use Rattle.vx_run.specs.Extract.{WhereTold, BeginsWith}
-use Rattle.vx_run.specs.Play.{ArePlayedFor, ArePlayedInRound, AreOut, AreUnread, IsBehind, IsUnread, count_of, no_stream, pictures_in, region_stream, region_streams, refused_file}
+use Rattle.vx_run.specs.Play.{ArePlayedFor, ArePlayedInRound, AreOut, AreUnread, IsBehind, count_of, no_stream, pictures_in, region_stream, region_streams, refused_file}
 use Rattle.vx_run.specs.Rounds.{Stream, picture_in, AllEnded, AreTold, GoesOn, HasEnded, IsRefused}
 use Rattle.vx_run.specs.inner.Advancing.{EndsFirst}
 use Rattle.vx_run.specs.inner.Playing.{Ends, IsAt, HasTakenSo, Takes}
 use Rattle.vx_run.proofs.Indexed.{any_default, earlier_stay, latest_at, some_at, where_is}
 use Rattle.vx_run.proofs.RegionFiles.{AreOfRegion}
 use Rattle.vx_run.proofs.RegionTold.{told_cut, told_out, told_takes}
-use Rattle.vx_run.proofs.Sources.{takes_begin, takes_for, waits_for, waits_taken}
+use Rattle.vx_run.proofs.Sources.{takes_begin, takes_for, waits_for}
 
 -- ---- the stream of each region
 
@@ -59,7 +59,7 @@ module _ {A : Type 0} (bytes : A → Option (List ℕ)) (faults : A → ℕ) (R 
   abbrev S : Sources A
   S = sources_change bytes faults first l
 
-  abbrev At : ℕ → Change (List A)
+  abbrev At : ℕ → Change (Option A)
   At k = source_at S k
 
   module _ (regions : List ℕ) (k : ℕ) (of : AreOfRegion regions k (length first) 0 (files_of regions k)) (passed : List (List Picture)) (own : List Picture) (n : ℕ) (taken : length own + count_of passed ≡ n) where
@@ -123,9 +123,9 @@ module _ {A : Type 0} (bytes : A → Option (List ℕ)) (faults : A → ℕ) (R 
 
   -- ---- how far files were read where nothing came of the round yet
 
-  none_behind : (j : ℕ) (js : List ℕ) → IsBehind R S j js [] → IsUnread (At j) → AreUnread S js
+  none_behind : (j : ℕ) (js : List ℕ) → IsBehind R S j js [] → IsUntouched (At j) → AreUnread S js
   none_behind j [] behind none = absurd behind
-  none_behind j (i ∷ js) behind none = (subst (λ (x : ℕ). IsUnread (At x)) (sym behind.0) none, behind.1)
+  none_behind j (i ∷ js) behind none = (subst (λ (x : ℕ). IsUntouched (At x)) (sym behind.0) none, behind.1)
 
   none_out : (js : List ℕ) → AreOut R S js [] → AreUnread S js
   none_out [] out = tt
@@ -136,7 +136,7 @@ module _ {A : Type 0} (bytes : A → Option (List ℕ)) (faults : A → ℕ) (R 
       let empty : passed ≡ [] = so.1 refl in
       inl (
         omega (arith, so.0, ap (λ (x : List (List Picture)). count_of x) empty),
-        none_behind at.0 js (subst (λ (x : List (List Picture)). IsBehind R S at.0 js x) empty at.1) ((waits_taken bytes faults R first l at.0 f [] at.2).kept, at.2.1),
+        none_behind at.0 js (subst (λ (x : List (List Picture)). IsBehind R S at.0 js x) empty at.1) at.2.1,
       )
   at_for js f passed (p ∷ ps) n so (inl at) = inr (record {
     j = at.0;

@@ -1,9 +1,10 @@
 -- A region that goes on, from file to file.
 use Rattle.std.proofs.Common.{◌≡◌, ◌≢◌, ℕ, ◌+◌, ◌^◌, ◌<◌, ◌≤◌, List, [], ◌∷◌, ◌++◌, ◌∙◌, Option, Some, None, Result, Ok, Err, Bool, true, false, length, slice_get, inl, inr, sym, ap, refl, subst, arith}
-use Rattle.std.specs.Prelude.{slice_index}
+use Rattle.std.specs.Prelude.{option_and_then, slice_index}
+use Rattle.std.specs.Option.{option_map_or}
 use Rattle.std.proofs.lemmas.List.{length-append}
 use Rattle.std.proofs.lemmas.Option.{same_Some}
-use Rattle.vx_io.specs.Listed.{bytes_at, faults_at}
+use Rattle.vx_io.specs.Listed.{bytes_at}
 use Rattle.vx_bits.specs.declared.refusal.Refusal.{Refusal}
 use Rattle.vx_pic.specs.Joined.{one_behind_another}
 use Rattle.vx_pic.specs.Readings.{Picture}
@@ -16,16 +17,16 @@ use Rattle.vx_run.specs.Change.{Change, Sources, sources_change, source_at}
 use Rattle.vx_run.specs.Play.{IsBehind, IsOut}
 use Rattle.vx_run.specs.inner.Advancing.{IsUnfed, LendsLatest, Waits}
 use Rattle.vx_run.specs.inner.Playing.{AllRead, AreFew, Ends, GoesOn, IsAt, IsCut, IsLost, IsOn, StaysOrBegins, Takes}
-use Rattle.vx_run.proofs.RegionFiles.{AreOfRegion, behind_current, behind_of, behind_read, behind_stay, goes_behind, out_current, out_read, unread_read, unread_waits}
+use Rattle.vx_run.proofs.RegionFiles.{AreOfRegion, behind_current, behind_of, behind_read, behind_stay, goes_behind, out_current, out_read}
 use Rattle.vx_run.proofs.RegionTold.{count_more, one_more}
-use Rattle.vx_run.proofs.Sources.{Advanced, step_ends, step_none, step_refused, step_takes, step_unread, went}
+use Rattle.vx_run.proofs.Sources.{Advanced, step_ends, step_none, step_refused, step_takes, step_unread, untouched_read, untouched_waits, went}
 use Rattle.vx_run.proofs.Taking.{taken_below}
 
 module _ {A : Type 0} (bytes : A → Option (List ℕ)) (faults : A → ℕ) (R : Readers) (first : List A) where
   abbrev Src : List A → Sources A
   Src l = sources_change bytes faults first l
 
-  abbrev At : List A → ℕ → Change (List A)
+  abbrev At : List A → ℕ → Change (Option A)
   At l k = source_at (Src l) k
 
   -- it is where it was
@@ -85,7 +86,7 @@ module _ {A : Type 0} (bytes : A → Option (List ℕ)) (faults : A → ℕ) (R 
       pub on_takes : LendsLatest f' → f'.units ≤ 2 ^ 40 → Advanced_ (Ok true) → Takes R (Src l') js was at f' passed own
       on_takes lends few advanced =
           let takes = step_takes bytes faults R first l l' file f f' on.others waits_there ended lends advanced in
-          let below = taken_below (λ x. bytes_at bytes x file) (λ x. faults_at faults x file) R first l' f' on.others takes.one in
+          let below = taken_below (option_and_then bytes) (λ x. option_map_or faults x 0) R (slice_get first file) (slice_get l' file) f' on.others takes.one in
           record { more = on.more; others = on.others; j = file; behind = behind_it; takes = takes; few = on.few; below = omega (arith, below, few); place = on.place; same = on.same; stays = on.stays }
 
       -- or to the end of the file,
@@ -94,7 +95,7 @@ module _ {A : Type 0} (bytes : A → Option (List ℕ)) (faults : A → ℕ) (R 
 
       pub on_read : Advanced_ (Ok false) → AllRead (Src l') js
       on_read advanced = elim (goes_behind bytes faults R first l' js on.more on.others file behind_it (out_there advanced)) [
-        | inl next ↦ behind_read bytes faults R first l' js (on.more ++ on.others ∷ []) next.0 next.1 (unread_read bytes faults R first l' next.0 next.2)
+        | inl next ↦ behind_read bytes faults R first l' js (on.more ++ on.others ∷ []) next.0 next.1 (untouched_read (At l' next.0) next.2)
         | inr all ↦ out_read bytes faults R first l' js (on.more ++ on.others ∷ []) all
       ]
 
@@ -103,7 +104,7 @@ module _ {A : Type 0} (bytes : A → Option (List ℕ)) (faults : A → ℕ) (R 
       on_next new unfed advanced =
           let more : List (List Picture) = on.more ++ on.others ∷ [] in
           let is : IsAt R (Src l') js new more [] = elim (goes_behind bytes faults R first l' js on.more on.others file behind_it (out_there advanced)) [
-            | inl next ↦ inl (next.0, next.1, unread_waits bytes faults R first l' next.0 new next.2 unfed)
+            | inl next ↦ inl (next.0, next.1, untouched_waits bytes faults R first l' next.0 new next.2 unfed)
             | inr all ↦ inr (all, refl)
           ] in
           let longer : length more ≡ length on.more + 1 = length-append on.more (on.others ∷ []) in

@@ -50,7 +50,7 @@ module _ {A : Type 0} (bytes : A → Option (List ℕ)) (faults : A → ℕ) (R 
   abbrev S : Sources A
   S = sources_change bytes faults first l
 
-  abbrev At : ℕ → Change (List A)
+  abbrev At : ℕ → Change (Option A)
   At k = source_at S k
 
   there : (j : ℕ) → j < length first → slice_get files j ≡ Some (file_in files j)

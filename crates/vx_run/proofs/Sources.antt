@@ -2,7 +2,8 @@
 use Rattle.std.proofs.Common.{◌≡◌, ℕ, ◌+◌, ◌<◌, ◌⊎◌, List, [], ◌∷◌, ◌++◌, ◌∙◌, Option, Some, None, Result, Ok, Err, Bool, true, false, length, map, slice_get, inl, inr, sym, ap, refl, subst, arith}
 use Rattle.std.specs.Prelude.{option_map, option_and_then, reverse}
 use Rattle.std.specs.Option.{option_map_or}
-use Rattle.std.specs.Io.KnownBytes.{Consumes, IsAtEnd}
+use Rattle.std.specs.Io.KnownBytes.{Consumes}
+use Rattle.std.proofs.KnownBytes.{Consumes-nil}
 use Rattle.std.proofs.lemmas.List.{length-map}
 use Rattle.std.proofs.lemmas.Option.{same_Some}
 use Rattle.vx_io.specs.Listed.{bytes_at, faults_at}
@@ -18,13 +19,13 @@ use Rattle.vx_assemble.specs.Held.{ShowsLatest, lent_by}
 use Rattle.vx_assemble.specs.Feed.{Feeding, EndsAtEnd, HasFed}
 use Rattle.vx_run.specs.declared.stop.Stop.{Stop}
 use Rattle.vx_run.specs.declared.stop.Stop.TheVariants.{Refused, ReadFault, NoMemory}
-use Rattle.vx_run.specs.Change.{Change, Sources, sources_change, source_at, HasFault}
+use Rattle.vx_run.specs.Change.{Change, Sources, change, sources_change, source_at, IsUntouched, HasNoFault, HasFault}
 use Rattle.vx_run.specs.Extract.{WhereTold, BeginsWith}
 use Rattle.vx_run.specs.Rounds.{Stream, picture_in, GoesOn, HasEnded, IsRound, behind_units, AreTold, IsRead, IsReadFor, IsReadInRound, Sees}
 use Rattle.vx_run.specs.inner.Extracting.{HasTaken, HasTakenOne}
-use Rattle.vx_run.specs.inner.Advancing.{OfAll, Begin, AdvancesOf, LendsLatest, Waits, TakesOne, EndsBehind, Came, AreWaiting, AllTake, so_far}
+use Rattle.vx_run.specs.inner.Advancing.{OfAll, Begin, IsUnfed, AdvancesOf, LendsLatest, Waits, TakesOne, EndsBehind, Came, AreWaiting, AllTake, so_far}
 use Rattle.vx_run.proofs.Indexed.{some_at, same_lists, mapped_at, choose, earlier_stay, latest_at}
-use Rattle.vx_run.proofs.Taking.{taken_first, taken_stops, takes_one, takes_end, takes_refused, takes_unread, takes_none}
+use Rattle.vx_run.proofs.Taking.{taken_none, taken_first, taken_stops, takes_one, takes_end, takes_refused, takes_unread, takes_none}
 use Rattle.vx_run.proofs.Told.{refused_at}
 
 -- ---- streams that go on as pictures that were taken begin
@@ -51,71 +52,54 @@ round_stays ss taken n r count rounds begin within =
     let fits : r < length ps.0 = omega (arith, within, rounds k ps.0 ps.1) in
     sym s.2 ∙ part_stays r s.0 ps.0 fits (begin k s.0 ps.0 s.1 ps.1) ∙ ap (part_in r) ps.2 ∙ t.2)
 
+-- ---- a source that nothing was done to
+
+-- no read of it failed, it has the same bytes left, and gave none
+module _ {A : Type 0} (c : Change A) (same : IsUntouched c) where
+  untouched_faults : HasNoFault c
+  untouched_faults = ap c.faults same
+
+  untouched_bytes : c.bytes c.new ≡ c.bytes c.old
+  untouched_bytes = ap c.bytes same
+
+  pub untouched_read : IsRead c
+  untouched_read = (untouched_faults, ([], subst (λ (b : Option (List ℕ)). Consumes (c.bytes c.old) b []) (sym untouched_bytes) (Consumes-nil (c.bytes c.old))))
+
 -- ---- a source of a list
 
 module _ {A : Type 0} (bytes : A → Option (List ℕ)) (faults : A → ℕ) (R : Readers) (first : List A) where
   abbrev pub Src : List A → Sources A
   Src l = sources_change bytes faults first l
 
-  abbrev pub At : List A → ℕ → Change (List A)
+  abbrev pub At : List A → ℕ → Change (Option A)
   At l k = source_at (Src l) k
+
+  abbrev Left : Option A → Option (List ℕ)
+  Left = option_and_then bytes
+
+  abbrev Count : Option A → ℕ
+  Count x = option_map_or faults x 0
 
   -- ---- where another one was read
 
   module _ (l l' : List A) (j : ℕ) (same : slice_get l' j ≡ slice_get l j) where
-    bytes_still : bytes_at bytes l' j ≡ bytes_at bytes l j
-    bytes_still = ap (option_and_then bytes) same
-
-    faults_still : faults_at faults l' j ≡ faults_at faults l j
-    faults_still = ap (λ (o : Option A). option_map_or faults o 0) same
-
-    abbrev taken_still : (f : Feeding) (ps : List Picture) → HasTaken R (At l j) f ps → HasTaken R (At l' j) f ps
-    taken_still f ps t = record {
-      given = t.given;
-      units = t.units;
-      readings = t.readings;
-      kept = faults_still ∙ t.kept;
-      gave = subst (λ (b : Option (List ℕ)). Consumes (bytes_at bytes first j) b t.given) (sym bytes_still) t.gave;
-      fed = t.fed;
-      needed = t.needed;
-      done = t.done;
-      ended = λ end. subst IsAtEnd (sym bytes_still) (t.ended end);
-    }
-
-    abbrev one_still : (f : Feeding) (ps : List Picture) → HasTakenOne R (At l j) f ps → HasTakenOne R (At l' j) f ps
-    one_still f ps one = record {
-      picture = one.picture;
-      taken = taken_still f (one.picture ∷ ps) one.taken;
-      last = one.last;
-      earlier = one.earlier;
-      latest = one.latest;
-      others = one.others;
-      near = one.near;
-    }
+    -- what holds of this one still does
+    pub still : (P : Change (Option A) → Type 0) → P (At l j) → P (At l' j)
+    still P = subst (λ (x : Option A). P (change Left Count (slice_get first j) x)) (sym same)
 
     pub waits_still : (f : Feeding) (ps : List Picture) → Waits R (At l j) f ps → Waits R (At l' j) f ps
-    waits_still f [] w = (taken_still f [] w.0, bytes_still ∙ w.1)
-    waits_still f (p ∷ ps) w = (one_still f ps w.0, w.1)
+    waits_still f ps = still (λ c. Waits R c f ps)
 
     pub came_still : (f : Feeding) (ps : List Picture) (ended : Bool) → Came R (At l j) f ps ended → Came R (At l' j) f ps ended
-    came_still f ps false came = record { holds = came.holds; one = one_still f ps came.one; lent = came.lent }
-    came_still f ps true came = record {
-      read = (
-        faults_still ∙ came.read.0,
-        (came.read.1.0, subst (λ (b : Option (List ℕ)). Consumes (bytes_at bytes first j) b came.read.1.0) (sym bytes_still) came.read.1.1),
-        subst IsAtEnd (sym bytes_still) came.read.2,
-      );
-      told = came.told;
-    }
+    came_still f ps ended = still (λ c. Came R c f ps ended)
 
   -- ---- what was done to it
 
   module _ (l : List A) (k : ℕ) where
-    abbrev Left : List A → Option (List ℕ)
-    Left x = bytes_at bytes x k
-
-    abbrev Count : List A → ℕ
-    Count x = faults_at faults x k
+    -- by a new feed where nothing was done to it
+    pub untouched_waits : (f : Feeding) → IsUntouched (At l k) → IsUnfed f → Waits R (At l k) f []
+    untouched_waits f same new =
+        (still first l k same (λ c. HasTaken R c f []) (taken_none Left Count R (slice_get first k) f new.open_.reader (new.fed R) new.needed), same)
 
     pub waits_taken : (f : Feeding) (ps : List Picture) → Waits R (At l k) f ps → HasTaken R (At l k) f ps
     waits_taken f [] w = w.0
@@ -126,14 +110,14 @@ module _ {A : Type 0} (bytes : A → Option (List ℕ)) (faults : A → ℕ) (R 
 
     -- it was read for the pictures that were taken
     one_for : (m : ℕ) (f : Feeding) (ps : List Picture) → m ≡ length ps + 1 → HasTakenOne R (At l k) f ps → IsReadFor R m (At l k)
-    one_for m f ps many one = ((one.taken.kept, (one.taken.given, one.taken.gave)), inr (one.picture, ps, taken_stops Left Count R first l f ps one, many))
+    one_for m f ps many one = ((one.taken.kept, (one.taken.given, one.taken.gave)), inr (one.picture, ps, taken_stops Left Count R (slice_get first k) (slice_get l k) f ps one, many))
 
     pub waits_for : (n : ℕ) (f : Feeding) (ps : List Picture) → length ps ≡ n → Waits R (At l k) f ps → IsReadFor R n (At l k)
     waits_for n f [] many w = (waits_read f [] w, inl (sym many, w.1))
     waits_for n f (p ∷ ps) many w = one_for n f ps (omega (arith, many)) w.0
 
     pub waits_begin : (f : Feeding) (ps : List Picture) → Waits R (At l k) f ps → WhereTold R (At l k) (λ qs e. BeginsWith qs ps)
-    waits_begin f ps w = taken_first Left Count R first l f ps (waits_taken f ps w)
+    waits_begin f ps w = taken_first Left Count R (slice_get first k) (slice_get l k) f ps (waits_taken f ps w)
 
     pub takes_read : (f : Feeding) (ps : List Picture) → TakesOne R (At l k) f ps → IsRead (At l k)
     takes_read f ps t = (t.one.taken.kept, (t.one.taken.given, t.one.taken.gave))
@@ -142,7 +126,7 @@ module _ {A : Type 0} (bytes : A → Option (List ℕ)) (faults : A → ℕ) (R 
     takes_for n f ps many t = one_for (n + 1) f ps (omega (arith, many)) t.one
 
     pub takes_begin : (f : Feeding) (ps : List Picture) (t : TakesOne R (At l k) f ps) → WhereTold R (At l k) (λ qs e. BeginsWith qs (t.one.picture ∷ ps))
-    takes_begin f ps t = taken_first Left Count R first l f (t.one.picture ∷ ps) t.one.taken
+    takes_begin f ps t = taken_first Left Count R (slice_get first k) (slice_get l k) f (t.one.picture ∷ ps) t.one.taken
 
     pub came_read : (f : Feeding) (ps : List Picture) (ended : Bool) → Came R (At l k) f ps ended → IsRead (At l k)
     came_read f ps false came = takes_read f ps came
@@ -204,13 +188,13 @@ module _ {A : Type 0} (bytes : A → Option (List ℕ)) (faults : A → ℕ) (R 
     module _ (ended : EndsAtEnd f' (bytes_at bytes l' k)) where
       pub step_takes : LendsLatest f' → Advanced (Ok true) → TakesOne R (At l' k) f' ps
       step_takes lends advanced =
-          let one = takes_one (λ x. bytes_at bytes x k) (λ x. faults_at faults x k) R first l l' f f' ps was ended lends.holds (went (Ok true) advanced) in
+          let one = takes_one Left Count R (slice_get first k) (slice_get l k) (slice_get l' k) f f' ps was ended lends.holds (went (Ok true) advanced) in
           let t = one.taken in
           record { holds = lends.holds; one = one; lent = subst (λ (x : List Picture). ShowsLatest (lent_by f'.assembler) x) t.done (lends.shows R t.given t.units t.readings t.fed) }
 
       pub step_ends : Advanced (Ok false) → EndsBehind R (At l' k) ps
       step_ends advanced =
-          let end = takes_end (λ x. bytes_at bytes x k) (λ x. faults_at faults x k) R first l l' f f' ps was ended (went (Ok false) advanced) in
+          let end = takes_end Left Count R (slice_get first k) (slice_get l k) (slice_get l' k) f f' ps was ended (went (Ok false) advanced) in
           record { read = (end.0, end.1, end.2); told = end.3 }
 
       pub step_came : (go : Bool) (flag : Bool) → go ≡ true → LendsLatest f' → flag ≡ false → Advanced (Ok go) → Came R (At l' k) f' ps flag
@@ -221,18 +205,18 @@ module _ {A : Type 0} (bytes : A → Option (List ℕ)) (faults : A → ℕ) (R 
           → IsRead (At l' k) × WhereTold R (At l' k) (λ qs e. (qs ≡ ps) × (e ≡ refused_at f'.units r)) × (place ≡ behind_units k f'.units)
       step_refused r place advanced =
           let at = went (Err (Refused r place)) advanced in
-          let end = takes_refused (λ x. bytes_at bytes x k) (λ x. faults_at faults x k) R first l l' f f' ps was ended r at.0 in
+          let end = takes_refused Left Count R (slice_get first k) (slice_get l k) (slice_get l' k) f f' ps was ended r at.0 in
           ((end.0, end.1), end.2, at.1)
 
     pub step_unread : (j : ℕ) → Advanced (Err (ReadFault j)) → HasFault (At l' k) × Sees R (At l' k) (length ps) × (j ≡ k)
     step_unread j advanced =
         let at = went (Err (ReadFault j)) advanced in
-        let end = takes_unread (λ x. bytes_at bytes x k) (λ x. faults_at faults x k) R first l l' f f' ps was at.0 in
+        let end = takes_unread Left Count R (slice_get first k) (slice_get l k) (slice_get l' k) f f' ps was at.0 in
         (end.0, record { given = end.1.0; pictures = ps; gave = end.1.1; seen = end.1.2; count = refl }, at.1)
 
     pub step_none : Advanced (Err NoMemory) → IsRead (At l' k) × WhereTold R (At l' k) (λ qs e. BeginsWith qs ps)
     step_none advanced =
-        let end = takes_none (λ x. bytes_at bytes x k) (λ x. faults_at faults x k) R first l l' f f' ps was (went (Err NoMemory) advanced) in
+        let end = takes_none Left Count R (slice_get first k) (slice_get l k) (slice_get l' k) f f' ps was (went (Err NoMemory) advanced) in
         ((end.0, end.1), end.2)
 
   -- ---- one more round

@@ -1,8 +1,8 @@
 -- What a call did to sources and sinks, as its caller sees it.
-use Rattle.std.specs.Prelude.{◌≡◌, ℕ, List, ◌⊎◌, Option}
+use Rattle.std.specs.Prelude.{◌≡◌, ℕ, List, ◌⊎◌, Option, option_and_then, slice_get}
+use Rattle.std.specs.Option.{option_map_or}
 use Rattle.std.specs.Io.KnownBytes.{Appends, Consumes}
 use Rattle.vx_io.specs.Faults.{Rose}
-use Rattle.vx_io.specs.Listed.{bytes_at, faults_at}
 use Rattle.vx_io.specs.Written.{AppendsFront}
 
 -- A source or a sink before and after a call, with the bytes that it tells (those left in a source,
@@ -26,9 +26,9 @@ pub record Sources (A : Type 0) : Type 0 where
 abbrev pub sources_change : {A : Type 0} → (A → Option (List ℕ)) → (A → ℕ) → List A → List A → Sources A
 sources_change bytes faults old new = record { bytes = bytes; faults = faults; old = old; new = new }
 
--- the source at k of them
-abbrev pub source_at : {A : Type 0} → Sources A → ℕ → Change (List A)
-source_at s k = change (λ l. bytes_at s.bytes l k) (λ l. faults_at s.faults l k) s.old s.new
+-- the source at k of them, where there is one
+abbrev pub source_at : {A : Type 0} → Sources A → ℕ → Change (Option A)
+source_at s k = change (option_and_then s.bytes) (λ x. option_map_or s.faults x 0) (slice_get s.old k) (slice_get s.new k)
 
 -- nothing was done to any of them
 abbrev pub AreUntouched : {A : Type 0} → Sources A → Type 0

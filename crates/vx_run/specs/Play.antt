@@ -160,13 +160,10 @@ PlayedIsReadAgain =
 
 -- ---- what was read of files
 
--- nothing was read of it
-abbrev pub IsUnread : {A : Type 0} → Change A → Type 0
-IsUnread c = HasNoFault c × (c.bytes c.new ≡ c.bytes c.old)
-
+-- nothing was done to any of these files
 abbrev pub AreUnread : {A : Type 0} → Sources A → List ℕ → Type 0
 AreUnread sources [] = Unit {0}
-AreUnread sources (j ∷ js) = IsUnread (source_at sources j) × AreUnread sources js
+AreUnread sources (j ∷ js) = IsUntouched (source_at sources j) × AreUnread sources js
 
 -- it was read to its end, and has these pictures
 abbrev pub IsOut : {A : Type 0} → Readers → Change A → List Picture → Type 0
@@ -178,7 +175,7 @@ AreOut R sources [] passed = passed ≡ []
 AreOut R sources (j ∷ js) [] = ⊥
 AreOut R sources (j ∷ js) (ps ∷ passed) = IsOut R (source_at sources j) ps × AreOut R sources js passed
 
--- file j comes behind files that were, and nothing was read of those behind it
+-- file j comes behind files that were, and nothing was done to those behind it
 abbrev pub IsBehind : {A : Type 0} → Readers → Sources A → ℕ → List ℕ → List (List Picture) → Type 0
 IsBehind R sources j [] passed = ⊥
 IsBehind R sources j (i ∷ js) [] = (i ≡ j) × AreUnread sources js

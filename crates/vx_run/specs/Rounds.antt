@@ -107,7 +107,7 @@ abbrev pub WhereAllTold : {A : Type 0} → Readers → Sources A → (List Strea
 WhereAllTold R sources P = (ss : List Stream) → AreTold R sources ss → P ss
 
 -- of each source
-abbrev pub OfEach : {A : Type 0} → Sources A → (Change (List A) → Type 0) → Type 0
+abbrev pub OfEach : {A : Type 0} → Sources A → (Change (Option A) → Type 0) → Type 0
 OfEach sources P = (k : ℕ) → k < length sources.old → P (source_at sources k)
 
 -- no read failed, and a front of its bytes was given
@@ -118,12 +118,12 @@ IsRead c = HasNoFault c × GivesFront c
 abbrev pub IsReadOut : {A : Type 0} → Change A → Type 0
 IsReadOut c = HasNoFault c × GivesFront c × IsAtEnd (c.bytes c.new)
 
--- It was read for its first m pictures, and no further: where m is 0 it gave nothing, and else fewer bytes past the place where the end of
--- the last of them is seen than a read asks for.
+-- It was read for its first m pictures, and no further: where m is 0 nothing was done to it, and else it gave fewer bytes past the place
+-- where the end of the last of them is seen than a read asks for.
 abbrev pub IsReadFor : {A : Type 0} → Readers → ℕ → Change A → Type 0
 IsReadFor R m c =
     IsRead c
-    × (((m ≡ 0) × (c.bytes c.new ≡ c.bytes c.old))
+    × (((m ≡ 0) × IsUntouched c)
     ⊎ ((p : Picture) × (before : List Picture) × StopsBehind R c p before × (m ≡ length before + 1)))
 
 -- it was read for round n: for n + 1 pictures; or to its end, where it has ended behind n

@@ -18,7 +18,7 @@ use Rattle.vx_merge.specs.declared.ended.Lengths.TheVariants.{AllGo, Differ}
 use Rattle.vx_merge.specs.Ends.{IsLengths}
 use Rattle.vx_run.specs.declared.stop.Stop.{Stop}
 use Rattle.vx_run.specs.declared.stop.Stop.TheVariants.{Refused, ReadFault, NoMemory}
-use Rattle.vx_run.specs.Change.{Change, Sources, source_at, HasFault}
+use Rattle.vx_run.specs.Change.{Change, Sources, source_at, IsUntouched, HasFault}
 use Rattle.vx_run.specs.Conclusion.{Outcome}
 use Rattle.vx_run.specs.Extract.{WhereTold, BeginsWith}
 use Rattle.vx_run.specs.Rounds.{Stream, GoesOn, HasEnded, OfStream, IsRefused, NoneRefused, behind_units, stream_refused, WhereAllTold, OfEach}
@@ -64,9 +64,9 @@ pub record LendsLatest (f : Feeding) : Type 0 where
   pub shows : (R : Readers) (g : List ℕ) (units : List UnitPlace) (readings : List Reading) → HasFed R f g units readings
       → ShowsLatest (lent_by f.assembler) (pictures readings)
 
--- these pictures were taken, and no more was read than for them
+-- these pictures were taken, and no more was read than for them; and nothing was done where none was
 abbrev pub Waits : {A : Type 0} → Readers → Change A → Feeding → List Picture → Type 0
-Waits R c f [] = HasTaken R c f [] × (c.bytes c.new ≡ c.bytes c.old)
+Waits R c f [] = HasTaken R c f [] × IsUntouched c
 Waits R c f (p ∷ ps) = (one : HasTakenOne R c f ps) × (one.picture ≡ p)
 
 -- one more was taken behind them, and is lent
