@@ -1,4 +1,4 @@
-use Rattle.std.proofs.Common.{◌≡◌, ◌∙◌, List, ℕ, Some, None, Ok, Err, refl, subst}
+use Rattle.std.proofs.Common.{◌∙◌, List, ℕ, subst}
 use Rattle.std.proofs.lemmas.Result.{err_from_is_err_and}
 use Rattle.vx_run.specs.Change.{change, Gains, GainsFront}
 use Rattle.vx_run.proofs.trial.trial.Goals as goal

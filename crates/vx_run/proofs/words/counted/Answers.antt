@@ -1,4 +1,4 @@
-use Rattle.std.proofs.Common.{◌≡◌, ◌∙◌, ℕ, decimal, sym, ap, arith}
+use Rattle.std.proofs.Common.{◌≡◌, ◌∙◌, decimal, sym, arith}
 use Rattle.std.proofs.lemmas.Fmt.{decimal_injective}
 use Rattle.vx_run.proofs.words.counted.Goals as goal
 
