@@ -2,7 +2,7 @@
 
 ghost use Rattle.std.specs.Prelude.{◌≡◌, ◌↔◌, ◌≤◌, [], IfOk, IfErr};
 ghost use Rattle.std.specs.Io.Buffered.{writer_buffer};
-ghost use Rattle.vx_run.specs.Change.{IsUntouched, change};
+ghost use Rattle.vx_run.specs.Change.{change};
 ghost use Rattle.vx_run.specs.Gathered.{gatherer_of, gathered_bytes, gather_faults};
 ghost use Rattle.vx_run.specs.Grammar.{IsUnderstood, texts};
 ghost use Rattle.vx_run.specs.Whole.{EndsWhole};

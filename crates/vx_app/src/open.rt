@@ -43,8 +43,8 @@ impl Opener for System<'_> {
     }
 }
 
-/// Opens the files that the words name, each once and in order. A closed source stands for one that
-/// can't be opened.
+/// Opens the files that the words name, in order. A closed source stands for one that can't be
+/// opened.
 pub(crate) fn open_all<O: Opener>(
     alloc: Global,
     opener: &O,
