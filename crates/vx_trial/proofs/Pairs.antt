@@ -1,10 +1,10 @@
 -- Pairs of two lists, place by place.
-use Rattle.std.proofs.Common.{◌≡◌, ◌≢◌, ℕ, zero, suc, ◌+◌, ◌<◌, ◌≤◌, List, [], ◌∷◌, ◌++◌, ◌∙◌, Some, length, slice_get, slice_set, refl, ap, sym, subst, arith, inl, inr}
+use Rattle.std.proofs.Common.{◌≡◌, ◌≢◌, ℕ, zero, suc, ◌+◌, ◌<◌, ◌≤◌, List, [], ◌∷◌, ◌++◌, ◌∙◌, Some, length, get_or, slice_get, slice_set, refl, ap, sym, subst, arith, inl, inr}
 use Rattle.std.specs.Prelude.{drop}
 use Rattle.std.specs.List.{AllZip}
 use Rattle.std.proofs.lemmas.Bool.{cases_lt}
-use Rattle.std.proofs.lemmas.List.{length-append, length-drop, drop_at}
-use Rattle.std.proofs.lemmas.Option.{same_Some, slice_get_within}
+use Rattle.std.proofs.lemmas.List.{drop_at, get_or-set_other, get_or-set_same, length-append, length-drop, length-set}
+use Rattle.std.proofs.lemmas.Option.{get_or_from_slice_get, same_Some, slice_get-get_or, slice_get_within}
 use Rattle.vx_trial.specs.inner.Feeds.{Turned}
 
 -- what holds of all pairs holds of each
@@ -28,32 +28,21 @@ get_zip P (a ∷ xs) (b ∷ ys) same each = (each zero a b refl refl, get_zip P 
 pub none_turned : {A B : Type 0} (P Q : A → B → Type 0) (xs : List A) (ys : List B) → AllZip P xs ys → Turned P Q 0 xs ys
 none_turned P Q xs ys all j x y here there = (λ low. absurd (omega (arith, low)), λ _. zip_get P xs ys all j x y here there)
 
-set_there : {A : Type 0} (xs : List A) (k : ℕ) (x y : A) → slice_get (slice_set xs k x) k ≡ Some y → x ≡ y
-set_there [] k x y at = absurd (cc)
-set_there (z ∷ xs) zero x y at = same_Some x y at
-set_there (z ∷ xs) (suc k) x y at = set_there xs k x y at
-
-set_other : {A : Type 0} (xs : List A) (j k : ℕ) (x : A) → j ≢ k → slice_get (slice_set xs k x) j ≡ slice_get xs j
-set_other [] j k x other = refl
-set_other (y ∷ xs) zero zero x other = absurd (other refl)
-set_other (y ∷ xs) zero (suc k) x other = refl
-set_other (y ∷ xs) (suc j) zero x other = refl
-set_other (y ∷ xs) (suc j) (suc k) x other = set_other xs j k x (λ same. other (ap suc same))
-
 pub one_turned : {A B : Type 0} (P Q : A → B → Type 0) (k : ℕ) (xs : List A) (ys : List B) (x : A) → Turned P Q k xs ys
     → ((y : B) → slice_get ys k ≡ Some y → Q x y) → Turned P Q (k + 1) (slice_set xs k x) ys
-one_turned P Q k xs ys x so_far here j z y at there =
+one_turned {A} P Q k xs ys x so_far here j z y at there =
+    let set : List A = slice_set xs k x in
+    let within : j < length xs = omega (arith, slice_get_within set j z at, length-set xs k x) in
+    let is : get_or set j z ≡ z = get_or_from_slice_get set j z z at in
+    let before : j ≢ k → (j < k → Q z y) × (k ≤ j → P z y) =
+    λ other. so_far j z y (slice_get-get_or xs j z within ∙ ap (λ (w : A). Some w) (sym (get_or-set_other xs k j x z other) ∙ is)) there in
     elim (cases_lt j k) [
-      | inl low ↦
-          let before = so_far j z y (sym (set_other xs j k x (λ same. absurd (omega (arith, low, same)))) ∙ at) there in
-          (λ _. before.0 low, λ high. absurd (omega (arith, low, high)))
+      | inl low ↦ (λ _. (before (λ same. absurd (omega (arith, low, same)))).0 low, λ high. absurd (omega (arith, low, high)))
       | inr high ↦ elim (cases_lt k j) [
-        | inl past ↦
-            let before = so_far j z y (sym (set_other xs j k x (λ same. absurd (omega (arith, past, same)))) ∙ at) there in
-            (λ low. absurd (omega (arith, past, low)), λ _. before.1 high)
+        | inl past ↦ (λ low. absurd (omega (arith, past, low)), λ _. (before (λ same. absurd (omega (arith, past, same)))).1 high)
         | inr low ↦
             let same : j ≡ k = omega (arith, low, high) in
-            let new : x ≡ z = set_there xs k x z (subst (λ i. slice_get (slice_set xs k x) i ≡ Some z) same at) in
+            let new : x ≡ z = sym (get_or-set_same xs k x z (omega (arith, within, same))) ∙ subst (λ (i : ℕ). get_or set i z ≡ z) same is in
             (λ _. subst (λ w. Q w y) new (here y (subst (λ i. slice_get ys i ≡ Some y) same there)), λ past. absurd (omega (arith, low, past)))
       ]
     ]
@@ -62,11 +51,6 @@ pub all_turned : {A B : Type 0} (P Q : A → B → Type 0) (k : ℕ) (xs : List 
     → AllZip Q xs ys
 all_turned P Q k xs ys turned far same =
     get_zip Q xs ys same (λ j x y here there. (turned j x y here there).0 (omega (arith, slice_get_within xs j x here, far)))
-
-pub some_at : {A : Type 0} (xs : List A) (k : ℕ) → k < length xs → (x : A) × (slice_get xs k ≡ Some x)
-some_at [] k within = absurd (omega (arith, within))
-some_at (x ∷ xs) zero within = (x, refl)
-some_at (x ∷ xs) (suc k) within = some_at xs k (omega (arith, within))
 
 -- ---- what stands before the last m
 

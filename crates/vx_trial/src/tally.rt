@@ -9,6 +9,8 @@ ghost use Rattle.vx_extract.specs.Written.{IsExtraction};
 ghost use Rattle.vx_gen.specs.Rounds.{corners as corners_of};
 ghost use Rattle.vx_trial.specs.Trial as words;
 ghost use Rattle.vx_trial.specs.Trial.{IsTally};
+ghost use Rattle.vx_trial.specs.inner.Laws.{sources_of};
+ghost use Rattle.vx_trial.specs.inner.Merges.{IsMergeOf};
 ghost use Rattle.vx_trial.specs.inner.Regions.{AllCanBeExtracted};
 
 use crate::laws::{generated_can_be_tried, tried_are_read_again};
@@ -17,6 +19,7 @@ use crate::regions::extract;
 use crate::weight::Weight;
 use std::alloc::{AllocError, Global};
 use vx_gen::generate;
+use vx_io::GrowSink;
 use vx_merge::Corner;
 
 /// What is counted of a trial.
@@ -45,9 +48,7 @@ pub fn trial(alloc: Global, seed: u32, sources: u32, pictures: u32) -> Result<Ta
 {
     generated_can_be_tried();
     tried_are_read_again();
-    let streams = generate(alloc, seed, sources, pictures)?;
-    let corners = side_by_side(alloc, sources)?;
-    let merged = merge(alloc, streams.as_slice(), &corners, pictures)?;
+    let merged = merge_generated(alloc, seed, sources, pictures)?;
     let weight = weigh(alloc, merged.bytes(), sources, pictures)?;
     Ok(Tally {
         pictures,
@@ -55,6 +56,24 @@ pub fn trial(alloc: Global, seed: u32, sources: u32, pictures: u32) -> Result<Ta
         bytes: merged.bytes().len() as u64,
         weight,
     })
+}
+
+/// The merge of so many streams that are made from a number, side by side.
+fn merge_generated(
+    alloc: Global,
+    seed: u32,
+    sources: u32,
+    pictures: u32,
+) -> Result<GrowSink, AllocError>
+    requires sources { (1 ≤ sources) × (sources ≤ 16) }
+    requires pictures { (1 ≤ pictures) × (pictures ≤ 1000) }
+    ensures { (R : Readers) → AreOfH266 R
+        → IfOk result (λ merged. IsMergeOf (corners_of sources) (sources_of seed sources pictures) merged.taken) }
+{
+    generated_can_be_tried();
+    let streams = generate(alloc, seed, sources, pictures)?;
+    let corners = side_by_side(alloc, sources)?;
+    merge(alloc, streams.as_slice(), &corners, pictures)
 }
 
 /// The corners of so many regions side by side.

@@ -1,8 +1,8 @@
 -- One more feed came to its next picture.
-use Rattle.std.proofs.Common.{◌≡◌, ◌<◌, suc, length, refl, arith}
-use Rattle.std.proofs.lemmas.Option.{slice_get_read}
+use Rattle.std.proofs.Common.{◌≡◌, ◌<◌, suc, [], get_or, length, refl, arith}
+use Rattle.std.proofs.lemmas.Option.{slice_get-get_or, slice_get_read}
 use Rattle.vx_trial.specs.inner.Feeds.{Lends, Waits}
-use Rattle.vx_trial.proofs.Pairs.{all_turned, as_many, none_turned, one_turned, some_at}
+use Rattle.vx_trial.proofs.Pairs.{all_turned, as_many, none_turned, one_turned}
 use Rattle.vx_trial.proofs.feeds.next_pictures.Goals as goal
 
 pub loop-k-init : goal.loop-k-init
@@ -17,8 +17,9 @@ next_picture-requires c R of =
     let fits : k < length feeds = omega (arith, c.loop-k-test.true, c.loop-k.invariant.0, c.len-k-end.ensures) in
     let at = slice_get_read feeds (length feeds) k f refl fits c.index_mut.ensures.value in
     let many : length c.args.feeds.now.items ≡ length all.sources = as_many (Waits R (suc all.left)) c.args.feeds.now.items all.sources all.each in
-    let ps = some_at all.sources k (omega (arith, many, c.loop-k-test.true, c.len-k-end.ensures)) in
-    (all.left, ps.0, (c.loop-k.invariant.1 R of all.left all.sources all.each k f ps.0 at ps.1).1 (omega arith))
+    let ps = get_or all.sources k [] in
+    let there = slice_get-get_or all.sources k [] (omega (arith, many, c.loop-k-test.true, c.len-k-end.ensures)) in
+    (all.left, ps, (c.loop-k.invariant.1 R of all.left all.sources all.each k f ps at there).1 (omega arith))
 
 pub loop-k-preserved : goal.loop-k-preserved
 loop-k-preserved c =
