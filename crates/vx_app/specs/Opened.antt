@@ -10,6 +10,11 @@ abbrev pub file_in : {F : Type 0} → Opened F → Option F
 file_in (File source) = Some (reader_of source)
 file_in (Closed source) = None
 
+-- the bytes that are told to be left: those of a file aren't, and where there is none there are none
+abbrev pub left_in : {F : Type 0} → Opened F → Option (List ℕ)
+left_in (File source) = None
+left_in (Closed source) = Some []
+
 -- the count of faults
 abbrev pub faults_in : {F : Type 0} → Opened F → ℕ
 faults_in (File source) = read_fault_count source

@@ -31,16 +31,16 @@ impl<F: Read + Drop> Opened<F> {
 }
 
 impl<F: Read + Drop> Source for Opened<F> {
-    ghost use Rattle.vx_app.specs.Opened.{faults_in, file_in};
+    ghost use Rattle.vx_app.specs.Opened.{faults_in, file_in, left_in};
 
-    ghost bytes_left = { λ _. None };
+    ghost bytes_left = { left_in };
 
     ghost read_faults = { faults_in };
 
     /// Reads from the file. Where there is none every read fails, and none comes.
     fn read(&mut self, into: &mut [u8]) -> Result<usize, SourceFailed>
         ensures bound { ReadsAtMost result into.new }
-        ensures bytes { ReadConsumes None None result into.new }
+        ensures bytes { ReadConsumes (left_in self.old) (left_in self.new) result into.new }
         ensures faults { CountsFault (faults_in self.old) (faults_in self.new) result }
 
         // The file behind it gives just these bytes, where it tells them.
