@@ -37,7 +37,7 @@ impl Model for Assembler {
 }
 
 impl Assembler {
-    ghost use Rattle.std.specs.Prelude.{◌≡◌, [], ◌∷◌, List, Some, None, Err, IfOk, IfErr, IfSome, OnOk, option_copied};
+    ghost use Rattle.std.specs.Prelude.{◌≡◌, [], ◌∷◌, List, Some, None, Err, length, IfOk, IfErr, IfSome, OnOk, option_copied};
     ghost use Rattle.vx_annexb.specs.ByteStream.{IsSound};
     ghost use Rattle.vx_pic.specs.Readings.{Reading, stored_sps, stored_pps};
     ghost use Rattle.vx_pic.specs.Rules.{Readers, reads};
@@ -51,6 +51,7 @@ impl Assembler {
     pub fn new(alloc: Global) -> Assembler
         ensures stands { Stands result [] }
         ensures bounded { IsBounded result }
+        ensures bytes { length result.state.picture.bytes ≡ 0 }
     {
         Assembler {
             alloc,

@@ -234,6 +234,7 @@ impl Feed {
         ensures needed { OnOk result (reading.LastWasNeeded [] []) }
         ensures open { IfOk result IsOpen }
         ensures bounded { IfOk result (λ f. IsBounded f.assembler) }
+        ensures bytes { IfOk result (λ f. bytes_held f ≡ 0) }
     {
         let reader = UnitReader::new(alloc)?;
         Ok(Feed {
