@@ -114,6 +114,7 @@ taking_first r left faults unfailed = record {
   taking = λ g units read needed. (refl, record { piece = []; consumed = Consumes-nil left; read = rw append-nil read; needed = rw append-nil needed });
   end = λ open_ end. cc;
   again = λ g units x read refused. (read, refused);
+  still = λ g units x read refused. (refl, refl);
   unfailed = unfailed;
 }
 
@@ -187,6 +188,7 @@ module _ (old r r1 : Reading) (left0 left : Option (List ℕ)) (f0 f : ℕ) (t :
           (was.3 ∙ to.0, record { piece = to.1.piece ++ was.0; consumed = Consumes-trans left0 left left2 to.1.piece was.0 to.1.consumed was.1; read = both.0; needed = both.1 });
       end = λ open_ is. end is;
       again = λ g units x read refused. let both = t.again g units x read refused in absurd (fine g units x both.0 both.1);
+      still = λ g units x read refused. let both = t.again g units x read refused in absurd (fine g units x both.0 both.1);
       unfailed = unfailed;
     }
 

@@ -282,6 +282,8 @@ impl UnitReader {
         ensures unfailed { self.new.closed ≡ Some Failed → result ≡ Err ReadFailed }
         ensures readable { IfOk result (λ given. IfSome given (IsReadable self.new.splitter)) }
         ensures again { (g : List ℕ) (units : List UnitPlace) (x : Refusal) → HasRead self.old g units → IsRefusedBy g units self.old x → result ≡ Err (Refused x) }
+        ensures still { (g : List ℕ) (units : List UnitPlace) (x : Refusal) → HasRead self.old g units → IsRefusedBy g units self.old x
+            → (bytes_left source.new ≡ bytes_left source.old) × (read_faults source.new ≡ read_faults source.old) }
         ensures held { HoldsFew self.new }
     {
         loop {

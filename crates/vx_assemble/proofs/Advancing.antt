@@ -1,5 +1,5 @@
 -- A feed that advances to a picture: what it answers, by the units that it takes.
-use Rattle.std.proofs.Common.{◌≡◌, ℕ, ◌+◌, ◌<◌, cond, List, [], ◌∷◌, ◌++◌, ◌∙◌, Option, Some, None, Ok, Err, Bool, true, false, length, sym, ap, refl, subst, arith, append_assoc}
+use Rattle.std.proofs.Common.{◌≡◌, ℕ, ◌+◌, ◌<◌, ◌≤◌, cond, List, [], ◌∷◌, ◌++◌, ◌∙◌, Option, Some, None, Ok, Err, Bool, true, false, length, sym, ap, refl, subst, arith, append_assoc}
 use Rattle.std.proofs.lemmas.List.{append-nil}
 use Rattle.std.proofs.KnownBytes.{Consumes-nil, Consumes-trans}
 use Rattle.vx_io.specs.Faults.{Rose}
@@ -16,7 +16,7 @@ use Rattle.vx_pic.specs.H266.{AreOfH266}
 use Rattle.vx_pic.specs.Bytes.{ArePictures, AreSeenPictures}
 use Rattle.vx_pic.specs.Told.{done_or_not, told_of}
 use Rattle.vx_assemble.specs.Held.{Held, HasPicture}
-use Rattle.vx_assemble.specs.Feed.{Feeding, EndsAtEnd, seen_of, HasFed, Takes, TakesBehind, AdvancesBehind, Advances, Counts, IsToldBy}
+use Rattle.vx_assemble.specs.Feed.{Feeding, EndsAtEnd, seen_of, HasFed, Takes, TakesBehind, AdvancesBehind, Advances, CompletesNone, Counts, IsToldBy}
 use Rattle.vx_assemble.specs.inner.Feed.{Passes, step_by}
 use Rattle.vx_assemble.specs.declared.fault.First.{First}
 use Rattle.vx_assemble.specs.declared.feed.FeedFault.{FeedFault}
@@ -84,6 +84,7 @@ passes_first f left faults = record {
       (refl, record { piece = []; consumed = Consumes-nil left; readings = []; gone = record { later = []; fed = both.0; needed = both.1 }; same = refl });
   end = λ ends. ends;
   stopped = λ first is. (refl, refl, refl);
+  units = omega arith;
 }
 
 module _ (old f f1 : Feeding) (left0 left left1 : Option (List ℕ)) (f0 n n1 : ℕ) (t : Passes old f left0 left f0 n) where
@@ -92,8 +93,9 @@ module _ (old f f1 : Feeding) (left0 left left1 : Option (List ℕ)) (f0 n n1 : 
       → ((R : Readers) → AreOfH266 R → (g : List ℕ) (places : List UnitPlace) (before : List Reading) → HasFed R f g places before → reader.LastWasNeeded g places → Takes R g places before f1 left left1 n n1 (Ok (Nal header place bytes what)))
       → (EndsAtEnd f left → EndsAtEnd f1 left1)
       → ((first : First) → f.first ≡ Some first → ⊥)
+      → f.units ≤ f1.units
       → Passes old f1 left0 left1 f0 n1
-  passes_more header place bytes what other takes end fine = record {
+  passes_more header place bytes what other takes end fine grows = record {
     passes = λ R of g places before fed needed.
         let to = t.passes R of g places before fed needed in
         let h = to.1 in
@@ -118,6 +120,7 @@ module _ (old f f1 : Feeding) (left0 left left1 : Option (List ℕ)) (f0 n n1 : 
         );
     end = λ ends. end (t.end ends);
     stopped = λ first is. let was = t.stopped first is in absurd (fine first (ap (λ (x : Feeding). x.first) was.0 ∙ is));
+    units = omega (arith, t.units, grows);
   }
 
   -- a unit that completes one
@@ -198,6 +201,25 @@ module _ (old f f1 : Feeding) (left0 left left1 : Option (List ℕ)) (f0 n n1 : 
         behind = subst (λ (xs : List ℕ). AdvancesBehind R xs places before f1 f0 n1 (Err fault)) (append_assoc g h.piece took.piece) stop;
       }
 
+  -- the units that were taken by then
+  pub completes_none : (fault : FeedFault)
+      → ((R : Readers) → AreOfH266 R → (g : List ℕ) (places : List UnitPlace) (before : List Reading) → HasFed R f g places before → reader.LastWasNeeded g places → Takes R g places before f1 left left1 n n1 (Err fault))
+      → f1.units ≡ f.units
+      → (R : Readers) → AreOfH266 R → (g : List ℕ) (places : List UnitPlace) (before : List Reading) → HasFed R old g places before → reader.LastWasNeeded g places → CompletesNone R g places before f1 left0 left1
+  completes_none fault takes kept R of g places before fed needed =
+      let h = (t.passes R of g places before fed needed).1 in
+      let took = takes R of (g ++ h.piece) (places ++ h.gone.later) (h.readings ++ before) h.gone.fed h.gone.needed in
+      record {
+        piece = h.piece;
+        behind = took.piece;
+        consumed = Consumes-trans left0 left left1 h.piece took.piece h.consumed took.consumed;
+        later = h.gone.later;
+        readings = h.readings;
+        same = h.same;
+        were = h.gone.fed.readings;
+        count = kept ∙ h.gone.fed.count;
+      }
+
   -- by what was taken
   pub advances_by : (taken : Taken) (step : Step) → step_by taken ≡ Some step
       → ((R : Readers) → AreOfH266 R → (g : List ℕ) (places : List UnitPlace) (before : List Reading) → HasFed R f g places before → reader.LastWasNeeded g places → Takes R g places before f1 left left1 n n1 (Ok taken))
@@ -214,14 +236,14 @@ module _ (old f f1 : Feeding) (left0 left left1 : Option (List ℕ)) (f0 n n1 : 
 
   pub passes_by : (taken : Taken) → step_by taken ≡ None
       → ((R : Readers) → AreOfH266 R → (g : List ℕ) (places : List UnitPlace) (before : List Reading) → HasFed R f g places before → reader.LastWasNeeded g places → Takes R g places before f1 left left1 n n1 (Ok taken))
-      → (EndsAtEnd f left → EndsAtEnd f1 left1) → ((first : First) → f.first ≡ Some first → ⊥) → Passes old f1 left0 left1 f0 n1
-  passes_by End is takes end fine = absurd (cc)
-  passes_by (Nal header place bytes accepted.PictureDone) is takes end fine = absurd (cc)
-  passes_by (Nal header place bytes accepted.Nothing) is takes end fine = passes_more header place bytes accepted.Nothing (λ e. absurd (cc)) takes end fine
-  passes_by (Nal header place bytes accepted.Vps) is takes end fine = passes_more header place bytes accepted.Vps (λ e. absurd (cc)) takes end fine
-  passes_by (Nal header place bytes (accepted.Sps id)) is takes end fine = passes_more header place bytes (accepted.Sps id) (λ e. absurd (cc)) takes end fine
-  passes_by (Nal header place bytes (accepted.Pps id)) is takes end fine = passes_more header place bytes (accepted.Pps id) (λ e. absurd (cc)) takes end fine
-  passes_by (Nal header place bytes (accepted.Aps kind id)) is takes end fine = passes_more header place bytes (accepted.Aps kind id) (λ e. absurd (cc)) takes end fine
+      → (EndsAtEnd f left → EndsAtEnd f1 left1) → ((first : First) → f.first ≡ Some first → ⊥) → f.units ≤ f1.units → Passes old f1 left0 left1 f0 n1
+  passes_by End is takes end fine grows = absurd (cc)
+  passes_by (Nal header place bytes accepted.PictureDone) is takes end fine grows = absurd (cc)
+  passes_by (Nal header place bytes accepted.Nothing) is takes end fine grows = passes_more header place bytes accepted.Nothing (λ e. absurd (cc)) takes end fine grows
+  passes_by (Nal header place bytes accepted.Vps) is takes end fine grows = passes_more header place bytes accepted.Vps (λ e. absurd (cc)) takes end fine grows
+  passes_by (Nal header place bytes (accepted.Sps id)) is takes end fine grows = passes_more header place bytes (accepted.Sps id) (λ e. absurd (cc)) takes end fine grows
+  passes_by (Nal header place bytes (accepted.Pps id)) is takes end fine grows = passes_more header place bytes (accepted.Pps id) (λ e. absurd (cc)) takes end fine grows
+  passes_by (Nal header place bytes (accepted.Aps kind id)) is takes end fine grows = passes_more header place bytes (accepted.Aps kind id) (λ e. absurd (cc)) takes end fine grows
 
 -- each unit that completes no picture is one more
 pub one_more_taken : (taken : Taken) (old new : ℕ) → step_by taken ≡ None → Counts taken old new → new ≡ old + 1

@@ -192,6 +192,19 @@ pub record IsStopped (R : Readers) (f : Feeding) (g : List ℕ) (places : List U
   pub more : List UnitPlace
   pub read : reader.HasRead f.reader g ((places ++ later) ++ more)
 
+-- Behind the units at these places, read as these, more were taken, which complete no picture: they stand in a piece of the source, of
+-- which a further one may have been read behind it.
+pub record CompletesNone (R : Readers) (g : List ℕ) (places : List UnitPlace) (before : List Reading) (f : Feeding)
+    (left left' : Option (List ℕ)) : Type 0 where
+  pub piece : List ℕ
+  pub behind : List ℕ
+  pub consumed : Consumes left left' (piece ++ behind)
+  pub later : List UnitPlace
+  pub readings : List Reading
+  pub same : pictures (readings ++ before) ≡ pictures before
+  pub were : read_on R [] (units_at (seen_of (g ++ piece)) (places ++ later)) ≡ all_read (readings ++ before)
+  pub count : f.units ≡ length (places ++ later)
+
 -- the source has given fewer bytes past the place where the end of the last of these units is seen than a read asks for
 abbrev pub IsNearEnd : List ℕ → List UnitPlace → Type 0
 IsNearEnd g places = length g < end_of 0 places + 3 + 65536

@@ -37,7 +37,7 @@ impl Model for Assembler {
 }
 
 impl Assembler {
-    ghost use Rattle.std.specs.Prelude.{◌≡◌, [], ◌∷◌, List, Some, None, Err, IfOk, IfErr, IfSome, OnOk, option_copied};
+    ghost use Rattle.std.specs.Prelude.{◌≡◌, [], ◌∷◌, List, Some, None, Err, length, IfOk, IfErr, IfSome, OnOk, option_copied};
     ghost use Rattle.vx_annexb.specs.ByteStream.{IsSound};
     ghost use Rattle.vx_pic.specs.Readings.{Reading, stored_sps, stored_pps};
     ghost use Rattle.vx_pic.specs.Rules.{Readers, reads};
@@ -51,6 +51,7 @@ impl Assembler {
     pub fn new(alloc: Global) -> Assembler
         ensures stands { Stands result [] }
         ensures bounded { IsBounded result }
+        ensures bytes { length result.state.picture.bytes ≡ 0 }
     {
         Assembler {
             alloc,
@@ -107,16 +108,19 @@ impl Assembler {
     pub fn finish(&mut self) -> Result<(), AssembleFault>
         ensures answer { (before : List Reading) → Stands self.old before → Ends before result }
         ensures same { OnOk result (self.new ≡ self.old) }
+        ensures none { IfErr result (λ _. ¬ HasPicture self.new) }
         ensures bounded { IsBounded self.new }
         ensures fault { IfErr result (λ e. first_fault self.new ≡ Some (first_of e)) }
         ensures again { (f : First) → first_fault self.old ≡ Some f → result ≡ Err (AssembleFault.Stopped f) }
         ensures stopped { (f : First) → result ≡ Err (AssembleFault.Stopped f) → first_fault self.old ≡ Some f }
     {
         if let Some(first) = self.first {
+            self.told = Accepted::Nothing;
             return Err(AssembleFault::Stopped(first));
         }
         if self.state.picture.is_open() {
             let refusal = structure(SLICE_MISSING);
+            self.told = Accepted::Nothing;
             self.first = Some(First::Refused(refusal));
             return Err(AssembleFault::Refused(refusal));
         }

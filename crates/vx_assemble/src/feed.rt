@@ -178,6 +178,7 @@ fn take_seen(
     ensures units { IfOk result (λ given. IfSome given (λ taken. Counts taken units.old units.new)) }
     ensures none { result ≡ Ok None → units.new ≡ units.old }
     ensures kept { OnErr result (units.new ≡ units.old) }
+    ensures grows { units.old ≤ units.new }
     ensures held { HoldsFew reader.new }
     ensures bounded { IsBounded assembler.new }
     ensures all { is_all reader.new.splitter ≡ is_all reader.old.splitter }
@@ -222,7 +223,7 @@ impl Feed {
     ghost use Rattle.vx_assemble.specs.declared.feed.Step.TheVariants as steps;
     ghost use Rattle.vx_pic.specs.Rules.{Readers};
     ghost use Rattle.vx_pic.specs.H266.{AreOfH266};
-    ghost use Rattle.vx_assemble.specs.Feed.{HasFed, IsOpen, EndsAtEnd, Gives, ReadsOn, IsToldBy, Lowers, Counts, left_to_take, bytes_held, Takes, Advances, first_of as first_by};
+    ghost use Rattle.vx_assemble.specs.Feed.{HasFed, IsOpen, EndsAtEnd, Gives, ReadsOn, IsToldBy, Lowers, Counts, left_to_take, bytes_held, Takes, Advances, CompletesNone, first_of as first_by};
     ghost use Rattle.vx_assemble.specs.inner.Feed.{read_fault};
     ghost use Rattle.vx_assemble.specs.declared.fault.First.{First as FirstFault};
     ghost use Rattle.vx_assemble.specs.declared.feed.FeedFault.TheVariants.{Stopped};
@@ -233,6 +234,7 @@ impl Feed {
         ensures needed { OnOk result (reading.LastWasNeeded [] []) }
         ensures open { IfOk result IsOpen }
         ensures bounded { IfOk result (λ f. IsBounded f.assembler) }
+        ensures bytes { IfOk result (λ f. bytes_held f ≡ 0) }
     {
         let reader = UnitReader::new(alloc)?;
         Ok(Feed {
@@ -264,6 +266,7 @@ impl Feed {
         ensures counts { IfOk result (λ given. IfSome given (λ taken. Counts taken self.old.units self.new.units)) }
         ensures units { result ≡ Ok None → self.new.units ≡ self.old.units }
         ensures kept { OnErr result (self.new.units ≡ self.old.units) }
+        ensures grows { self.old.units ≤ self.new.units }
         ensures few { OnOk result (self.new.units ≤ 2 ^ 40) }
         ensures held { reading.HoldsFew self.new.reader }
         ensures bytes { bytes_held self.new ≤ 2 ^ 25 + 2 ^ 23 + 65538 }
@@ -310,6 +313,7 @@ impl Feed {
         ensures going { OnOk result (self.new.first ≡ None) }
         ensures first { IfErr result (λ e. self.new.first ≡ Some (first_by (read_fault e))) }
         ensures units { self.new.units ≡ self.old.units }
+        ensures lends { self.new.assembler ≡ self.old.assembler }
         ensures grows { OnOk result (IsOpen self.new → self.old.reader.taken < self.new.reader.taken) }
         ensures within { fed self.new.reader.splitter ≤ 2 ^ 40 }
         ensures end { OnOk result (EndsAtEnd self.new (bytes_left source.new)) }
@@ -385,6 +389,7 @@ impl Feed {
         ensures counts { IfOk result (λ taken. Counts taken self.old.units self.new.units) }
         ensures few { OnOk result (self.new.units ≤ 2 ^ 40) }
         ensures kept { OnErr result (self.new.units ≡ self.old.units) }
+        ensures grows { self.old.units ≤ self.new.units }
         ensures going { OnOk result (self.new.first ≡ None) }
         ensures told { IfOk result (λ taken. IsToldBy self.new.assembler (Some taken)) }
         ensures end { EndsAtEnd self.old (bytes_left source.old) → EndsAtEnd self.new (bytes_left source.new) }
@@ -412,6 +417,10 @@ impl Feed {
         ensures picture { result ≡ Ok steps.Picture → HasPicture self.new.assembler }
         ensures end { EndsAtEnd self.old (bytes_left source.old) → EndsAtEnd self.new (bytes_left source.new) }
         ensures going { OnOk result (self.new.first ≡ None) }
+        ensures grows { self.old.units ≤ self.new.units }
+        ensures kept { (R : Readers) → AreOfH266 R → (g : List ℕ) (places : List UnitPlace) (before : List Reading)
+            → HasFed R self.old g places before → reading.LastWasNeeded g places
+            → OnErr result (CompletesNone R g places before self.new (bytes_left source.old) (bytes_left source.new)) }
         ensures few { OnOk result (self.new.units ≤ 2 ^ 40) }
         ensures first { IfErr result (λ e. self.new.first ≡ Some (first_by e)) }
         ensures stopped { (f : FirstFault) → self.old.first ≡ Some f → (result ≡ Err (Stopped f)) × (self.new ≡ self.old)

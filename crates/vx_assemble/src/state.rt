@@ -1,5 +1,5 @@
 //! What is kept of the units that were taken.
-ghost use Rattle.std.specs.Prelude.{◌≡◌, [], List};
+ghost use Rattle.std.specs.Prelude.{◌≡◌, [], List, length};
 ghost use Rattle.vx_assemble.specs.inner.Held.{IsHeld};
 ghost use Rattle.vx_assemble.specs.inner.Order.{IsInOrder};
 
@@ -86,6 +86,7 @@ impl State {
     pub(crate) fn new(alloc: Global) -> State
         ensures held { IsHeld result [] }
         ensures order { IsInOrder result }
+        ensures bytes { length result.picture.bytes ≡ 0 }
     {
         State {
             sps: [

@@ -1,5 +1,5 @@
 -- A unit is written in one way: as bytes, what it spells tells it.
-use Rattle.std.proofs.Common.{◌≡◌, ℕ, ◌+◌, List, [], ◌∷◌, ◌++◌, length, Option, Some, None, sym, ap, subst, ◌∙◌}
+use Rattle.std.proofs.Common.{◌≡◌, ℕ, List, [], ◌∷◌, ◌++◌, length, Option, Some, None, sym, ap, subst, ◌∙◌}
 use Rattle.vx_bits.specs.Codes.{bits_of}
 use Rattle.vx_annexb.proofs.Seam.{escaped_unique}
 use Rattle.vx_table.specs.Values.{bits_along}

@@ -1,5 +1,5 @@
 //! Sets that are sent where a receiver doesn't have them.
-ghost use Rattle.std.specs.Prelude.{◌≡◌, ◌<◌, List, [], ◌∷◌, ◌++◌, map, IfOk};
+ghost use Rattle.std.specs.Prelude.{◌≡◌, ◌<◌, List, [], ◌∷◌, ◌++◌, map, IfOk, OnErr};
 ghost use Rattle.vx_pic.specs.Units as units;
 ghost use Rattle.vx_pic.specs.Written.{Set, SetUnit};
 ghost use Rattle.vx_pic.specs.Resident.{kept_for};
@@ -34,9 +34,10 @@ pub fn send(
 ) -> Result<(), AllocError>
     requires tid { temporal_id < 7 }
     requires set { CanBeWritten (set_lent set) }
-    ensures { (before : List SetUnit) (sets : List Set) → AreSent temporal_id before sets slots.old (map (λ unit. unit.items) units.old.items)
+    ensures sent { (before : List SetUnit) (sets : List Set) → AreSent temporal_id before sets slots.old (map (λ unit. unit.items) units.old.items)
         → AreOthers (set_lent set.entry) sets
         → IfOk result (λ _. AreSent temporal_id before (sets ++ set_lent set.entry ∷ []) slots.new (map (λ unit. unit.items) units.new.items)) }
+    ensures err { OnErr result (slots.new ≡ slots.old) }
 {
     if slots.serves(temporal_id, set) {
         return Ok(());

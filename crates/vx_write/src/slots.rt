@@ -1,5 +1,5 @@
 //! The sets that were sent: the last one of each type and id.
-ghost use Rattle.std.specs.Prelude.{◌≡◌, ◌<◌, [], ◌∷◌, length, slice_set, IfOk};
+ghost use Rattle.std.specs.Prelude.{◌≡◌, ◌<◌, [], ◌∷◌, length, slice_set, IfOk, OnErr};
 ghost use Rattle.vx_write.specs.inner.Kept.{set_kept};
 ghost use Rattle.vx_write.specs.Sets.{set_lent, id_of};
 ghost use Rattle.vx_write.specs.inner.Places.{IsPlace};
@@ -202,7 +202,8 @@ impl Slots {
         set: NeededSet<'_>,
         temporal_id: u8,
     ) -> Result<(), AllocError>
-        ensures { IfOk result (λ _. AnswerAlike self.new (record { set = set_lent set.entry; temporal_id = temporal_id } ∷ self.old)) }
+        ensures put { IfOk result (λ _. AnswerAlike self.new (record { set = set_lent set.entry; temporal_id = temporal_id } ∷ self.old)) }
+        ensures err { OnErr result (self.new ≡ self.old) }
     {
         let sent = SentSet::new(alloc, set, temporal_id)?;
         match self.place_of(set) {

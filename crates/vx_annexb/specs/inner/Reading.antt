@@ -48,6 +48,8 @@ pub record Taking (old r : Reading) (left left' : Option (List ℕ)) (faults fau
   pub end : IsOpen old → r.closed ≡ Some End → IsAtEnd left'
   pub again : (g : List ℕ) (units : List UnitPlace) (x : Refusal) → HasRead old g units → IsRefusedBy g units old x
       → HasRead r g units × IsRefusedBy g units r x
+  pub still : (g : List ℕ) (units : List UnitPlace) (x : Refusal) → HasRead old g units → IsRefusedBy g units old x
+      → (left' ≡ left) × (faults' ≡ faults)
   pub unfailed : r.closed ≡ Some Failed → ⊥
 
 -- how many reads a reader may still make, at most

@@ -98,3 +98,4 @@ pub record Passes (old f : Feeding) (left left' : Option (List ℕ)) (faults fau
       → reader.LastWasNeeded g places → (faults' ≡ faults) × HasPassed R g places before f left left'
   pub end : EndsAtEnd old left → EndsAtEnd f left'
   pub stopped : (first : First) → old.first ≡ Some first → (f ≡ old) × (left' ≡ left) × (faults' ≡ faults)
+  pub units : old.units ≤ f.units

@@ -11,5 +11,5 @@ returns-in-Some c target before sps pps names sent =
     let a : Aps = record { kind = c.in-Some.aps.kind; id = c.in-Some.aps.id; body = c.in-Some.aps.body.now } in
     let more = c.in-Some.ensures.needed target names in
     let others = others_at c.args.picture.now target sps pps c.args.place a c.requires.place more in
-    let answer = rw c.kind-temporal_id.ensures.value at (c.send.ensures before (sets_to c.args.picture.now target sps pps c.args.place) (rw c.kind-temporal_id.ensures.value sent) others) in
+    let answer = rw c.kind-temporal_id.ensures.value at (c.send.ensures.sent before (sets_to c.args.picture.now target sps pps c.args.place) (rw c.kind-temporal_id.ensures.value sent) others) in
     rw (to_more c.args.picture.now target sps pps c.args.place _ more) answer

@@ -24,7 +24,7 @@ returns-in-Some c before sets apart sent others =
     let own = lent_at c.args.named.now.bodies c.in-Some.k c.item-body.result c.item-body.ensures.value in
     let more : with_id kind bodies ids c.args.id ≡ an_aps (record { kind = kind; id = c.args.id; body = c.item-body.result.now }) ∷ [] =
     one ∙ ap (λ b. an_aps (record { kind = kind; id = c.args.id; body = b }) ∷ []) own in
-    rw more (c.send.ensures before sets sent (others_as kind c.args.id c.item-body.result.now sets others))
+    rw more (c.send.ensures.sent before sets sent (others_as kind c.args.id c.item-body.result.now sets others))
 
 pub returns-in-None : goal.returns-in-None
 returns-in-None c before sets apart sent others =

@@ -25,6 +25,9 @@ returns-in_err-span-clause-again g c bytes units x read refused =
     let e = c.in_err-span.ensures.again bytes units x still.0 still.1 in
     rw (p.1, p.2) (cc)
 
+pub returns-in_err-span-clause-still : goal.returns-in_err-span-clause-still
+returns-in_err-span-clause-still g c = c.loop-span.invariant.still
+
 pub returns-in-Some-clause-answer : goal.returns-in-Some-clause-answer
 returns-in-Some-clause-answer g c bytes units read needed =
     takes_unit _ _ _ _ _ _ _ c.loop-span.invariant _ (rw c.in-Some.is at c.in_ok-span.ensures.answer) bytes units read needed
@@ -39,6 +42,9 @@ pub returns-in-Some-clause-again : goal.returns-in-Some-clause-again
 returns-in-Some-clause-again g c bytes units x read refused =
     let still = c.loop-span.invariant.again bytes units x read refused in
     let e = c.in_ok-span.ensures.again bytes units x still.0 still.1 in cc
+
+pub returns-in-Some-clause-still : goal.returns-in-Some-clause-still
+returns-in-Some-clause-still g c = c.loop-span.invariant.still
 
 pub returns-then-not-is_open-clause-answer : goal.returns-then-not-is_open-clause-answer
 returns-then-not-is_open-clause-answer g c bytes units read needed =
@@ -57,6 +63,9 @@ returns-then-not-is_open-clause-again g c bytes units x read refused =
     let e = c.in_ok-span.ensures.again bytes units x still.0 still.1 in
     let none = c.in_default.is in cc
 
+pub returns-then-not-is_open-clause-still : goal.returns-then-not-is_open-clause-still
+returns-then-not-is_open-clause-still g c = c.loop-span.invariant.still
+
 pub returns-in_err-read-clause-answer : goal.returns-in_err-read-clause-answer
 returns-in_err-read-clause-answer g c bytes units read needed =
     let going : IsOpen c.next.new.self = search rules in
@@ -67,6 +76,12 @@ pub returns-in_err-read-clause-again : goal.returns-in_err-read-clause-again
 returns-in_err-read-clause-again g c bytes units x read refused =
     let still = c.loop-span.invariant.again bytes units x read refused in
     let e = c.in_ok-span.ensures.again bytes units x still.0 still.1 in
+    let none = c.in_default.is in cc
+
+pub returns-in_err-read-clause-still : goal.returns-in_err-read-clause-still
+returns-in_err-read-clause-still g c bytes units x read refused =
+    let again = c.loop-span.invariant.again bytes units x read refused in
+    let e = c.in_ok-span.ensures.again bytes units x again.0 again.1 in
     let none = c.in_default.is in cc
 
 pub loop-span-preserved : goal.loop-span-preserved

@@ -2,7 +2,7 @@ use Rattle.std.proofs.Common.{◌≡◌, ◌∙◌, Some, ap, sym, arith}
 use Rattle.std.proofs.lemmas.Result.{err_from_is_err_and}
 use Rattle.vx_assemble.specs.Feed.{Feeding}
 use Rattle.vx_assemble.specs.declared.feed.Step.TheVariants as steps
-use Rattle.vx_assemble.proofs.Advancing.{passes_first, passes_by, advances_by, advances_stopped, one_more_taken, has_picture}
+use Rattle.vx_assemble.proofs.Advancing.{passes_first, passes_by, advances_by, advances_stopped, completes_none, one_more_taken, has_picture}
 use Rattle.vx_assemble.proofs.feed.Feed.advance.Goals as goal
 
 pub loop-taken-init : goal.loop-taken-init
@@ -12,6 +12,11 @@ pub returns-in_err-taken-clause-answer : goal.returns-in_err-taken-clause-answer
 returns-in_err-taken-clause-answer g c R of bytes places before fed needed =
     let p = err_from_is_err_and c.from_residual.result c.from_residual.ensures.1 in
     rw (p.1, p.2) (advances_stopped _ _ _ _ _ _ _ _ _ c.loop-taken.invariant _ c.in_err-taken.ensures.answer c.in_err-taken.ensures.kept R of bytes places before fed needed)
+
+pub returns-in_err-taken-clause-kept : goal.returns-in_err-taken-clause-kept
+returns-in_err-taken-clause-kept g c R of bytes places before fed needed =
+    let p = err_from_is_err_and c.from_residual.result c.from_residual.ensures.1 in
+    rw p.1 (completes_none _ _ _ _ _ _ _ _ _ c.loop-taken.invariant _ c.in_err-taken.ensures.answer c.in_err-taken.ensures.kept R of bytes places before fed needed)
 
 pub returns-in_err-taken-clause-stopped : goal.returns-in_err-taken-clause-stopped
 returns-in_err-taken-clause-stopped g c first is =
@@ -34,6 +39,7 @@ pub loop-taken-preserved : goal.loop-taken-preserved
 loop-taken-preserved g c =
     passes_by _ _ _ _ _ _ _ _ _ c.loop-taken.invariant _ (sym c.step_of.ensures ∙ c.in_default.is) c.in_ok-taken.ensures.answer c.in_ok-taken.ensures.end
     (λ first is. let e = (c.in_ok-taken.ensures.stopped first is).0 in absurd (cc))
+    c.in_ok-taken.ensures.grows
 
 pub loop-taken-smaller : goal.loop-taken-smaller
 loop-taken-smaller g c =
