@@ -120,6 +120,11 @@ class Cases:
         self.made.append(expected.line(keep is not None))
         self.count += 1
 
+    def line(self, words, made):
+        """A line of another verb, and what it makes."""
+        self.given.append(words)
+        self.made.append(made)
+
     def checked(self, words, expected, *settings):
         """A case of a command, and of its check."""
         self.case(words, expected, *settings)

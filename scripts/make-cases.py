@@ -12,7 +12,8 @@ source in hexadecimal, and a line `status=S err=LINE out=BYTES` of what `merge` 
 streams.txt a stream is a line `stream N` and a line for each NAL unit, which begins with its bytes in hexadecimal; each unit stands after
 00 00 00 01. A line of extract.txt is `stream N WORDS status=S err=LINE out=BYTES`. In show.txt a stream is a line `stream N status=S
 err=LINE`, and the lines that are shown of it. A case of verify.txt is as one of merge.txt, with the number of the finished stream behind
-`verify merge`, and `out` as a text; one of play.txt is as one of merge.txt. A line of trial.txt is `SEED SOURCES PICTURES | LINE`. MANIFEST.json of STREAMS
+`verify merge`, and `out` as a text; one of play.txt is as one of merge.txt. A line of trial.txt is `SEED SOURCES PICTURES | LINE`, or
+`generate SEED SOURCES PICTURES source K BYTES`. MANIFEST.json of STREAMS
 names families of streams, with their corners, and the file that each is merged to.
 """
 import os
@@ -22,6 +23,7 @@ from case_lines import Cases, Expected, expected_of, family_merges, model_merges
 from explain_cases import add_explained
 from fed_cases import add_fed
 from hostile_cases import add_hostile
+from joined_streams import joined
 from plain_streams import stream
 from play_cases import add_model_played, add_played
 from told_cases import add_told
@@ -72,6 +74,15 @@ def add_model_streams(cases, folder):
                 cases.case(f"{' '.join(words[2:])} {name}", expected_of(line), *BYTEWISE)
 
 
+def add_joined(cases, folder):
+    """What an independent model shows of its streams, joined to one with ends of sequence between them."""
+    streams, shown = ({number: lines[1:] for number, lines in sections(os.path.join(folder, name)).items()}
+                      for name in ("streams.txt", "show.txt"))
+    stream, lines = joined(streams, shown)
+    cases.about("streams of an independent model joined to one: shown")
+    cases.case(f"show {cases.name(stream)}", Expected(out=lines.encode()))
+
+
 # The first fields of an SPS that have to be the same in all sources, with their place in its second byte.
 FIRST_FIELDS = ((102, 5, 7), (103, 3, 3), (104, 1, 3))
 
@@ -114,6 +125,7 @@ def main(vectors, streams):
     add_model_played(cases, os.path.join(vectors, "play.txt"))
     add_trials(cases, os.path.join(vectors, "trial.txt"))
     add_explained(cases)
+    add_joined(cases, vectors)
     cases.write(CRATE)
     print(f"{cases.count} cases, {len(cases.names)} streams")
 

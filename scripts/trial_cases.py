@@ -5,13 +5,19 @@ from worked_cases import failed
 
 
 def add_trials(cases, path):
-    """The lines `SEED SOURCES PICTURES | LINE` of an independent model, and what is understood."""
+    """The lines `SEED SOURCES PICTURES | LINE` of an independent model, its lines `generate SEED SOURCES PICTURES source K BYTES`, and what
+    is understood."""
     told = dict(line.strip().split(" | ") for line in open(path) if " | " in line)
     cases.about("trial: lines of an independent model, twice each, and a byte a write")
     for numbers, line in told.items():
         text = line.encode() + b"\n"
         cases.case(f"trial {numbers}", Expected(out=text))
         cases.case(f"trial {numbers}", Expected(out=text), "pieces out 1")
+    cases.about("trial: the bytes of streams that it makes")
+    for line in filter(lambda line: line.startswith("generate "), open(path)):
+        numbers, stream = line.removeprefix("generate ").split(" source ")
+        number, made = stream.split()
+        cases.line(f"generated {numbers} {number}", made)
     cases.about("trial: writes that fail")
     words, text = "trial 1 1 1", told["1 1 1"].encode() + b"\n"
     for call in (0, 1, len(text) - 1):

@@ -1,13 +1,16 @@
 //! What no stored case of `vx_cases` can say, or can say only in very many digits: a sink that is full, each write of
-//! `show` failing once, words without text, the names and the regions of files, and how the last write ends.
+//! `show` failing once, words without text, the names and the regions of files, how the last write ends, and runs on files.
 
+use crate::files::run_on_files;
+use crate::open::{Opener, open_all};
 use std::alloc::{AllocError, Global};
 use std::io::{self, BufWriter, ErrorKind, Write};
 use std::process::Abort;
 use std::test::Fail;
-use vx_io::{MemorySink, MemorySource, Source};
+use std::{env, fs, process};
+use vx_io::{MemorySink, MemorySource, Source, SourceFailed};
 use vx_merge::{Lengths, lengths};
-use vx_run::{file_count, file_word, finish, play_region, run};
+use vx_run::{GatherSink, file_count, file_word, finish, play_region, run};
 
 /// A parameter set of a sequence, one of a picture, and a slice: a gray picture of 64 by 64 samples.
 const GRAY: &[u8] =
@@ -274,8 +277,9 @@ const UNWRITTEN: [(u8, u8, &[u8]); 5] = [
 #[test]
 fn a_failed_last_write_is_told(rt: HostRuntime) -> Result<(), Fail> {
     for (status, told, line) in &UNWRITTEN {
-        let mut gathered = BufWriter::new(rt.alloc(), Broken)?;
-        gathered.write_all(b"ok pictures 1\n")?;
+        let mut writer = BufWriter::new(rt.alloc(), Broken)?;
+        writer.write_all(b"ok pictures 1\n")?;
+        let mut gathered = GatherSink::new(writer);
         let mut err = sink(rt.alloc(), 400, &[], &[])?;
         assert_eq!(rt; finish(rt.alloc(), *status, &mut gathered, &mut err), *told);
         assert_eq!(rt; err.bytes(), *line);
@@ -287,11 +291,112 @@ fn a_failed_last_write_is_told(rt: HostRuntime) -> Result<(), Fail> {
 fn a_last_write_changes_no_status(rt: HostRuntime) -> Result<(), Fail> {
     for status in 0..5 {
         let mut room = [0; 14];
-        let mut gathered = BufWriter::new(rt.alloc(), room.as_mut_slice())?;
-        gathered.write_all(b"ok pictures 1\n")?;
+        let mut writer = BufWriter::new(rt.alloc(), room.as_mut_slice())?;
+        writer.write_all(b"ok pictures 1\n")?;
+        let mut gathered = GatherSink::new(writer);
         let mut err = sink(rt.alloc(), 400, &[], &[])?;
         assert_eq!(rt; finish(rt.alloc(), status, &mut gathered, &mut err), status);
         assert_eq!(rt; err.bytes(), b"".as_slice());
     }
     Ok(())
+}
+
+/// Two files of a byte, by their names. There is no other one.
+struct TwoFiles;
+
+impl Opener for TwoFiles {
+    type File = &'static [u8];
+
+    ghost opens = { λ _ _ _. Unit {0} };
+
+    fn open(&self, name: &str) -> Result<Option<&'static [u8]>, AllocError> {
+        Ok(match name {
+            "left" => Some(b"l".as_slice()),
+            "right" => Some(b"r".as_slice()),
+            _ => None,
+        })
+    }
+}
+
+#[test]
+fn opens_each_file(rt: HostRuntime) -> Result<(), Fail> {
+    let merge = [
+        "merge",
+        "0,0=left",
+        "64,0=none",
+        "128,0=right",
+        "192,0=left",
+    ];
+    let words = words_of(rt.alloc(), &merge)?;
+    let mut files = open_all(rt.alloc(), &TwoFiles, &words)?;
+    let rows = [Ok(b'l'), Err(SourceFailed), Ok(b'r'), Ok(b'l')];
+    assert_eq!(rt; files.len(), rows.len());
+    for (k, row) in rows.iter().enumerate() {
+        let mut byte = [0; 1];
+        let read = files[k].read(&mut byte);
+        assert_eq!(rt; read.map(|_| byte[0]), *row);
+    }
+    Ok(())
+}
+
+/// Words before a file of the gray picture, or all words where it is `false`; the status, what is made and the line.
+type Run = (
+    &'static [&'static str],
+    bool,
+    u8,
+    &'static [u8],
+    &'static [u8],
+);
+
+const RUNS: [Run; 5] = [
+    (&["show"], true, 0, LINES, b""),
+    (&["extract", "1"], true, 1, b"", b"E2 picture 0\n"),
+    (&["shown"], true, 2, b"", b"words not understood\n"),
+    (
+        &["--explain", "M99"],
+        false,
+        2,
+        b"",
+        b"words not understood\n",
+    ),
+    (
+        &["show", "no/such/file"],
+        false,
+        3,
+        b"",
+        b"read fault source 0\n",
+    ),
+];
+
+#[test]
+fn runs_on_files(rt: HostRuntime) -> Result<(), Fail> {
+    let name = format!(in rt.alloc(); "vx_app-test-{}", process::id(rt.process()))?;
+    let path = env::temp_dir(&rt)?.join(rt.alloc(), name.as_str())?;
+    fs::write(&rt, path.as_path(), GRAY)?;
+    for (words, takes_file, status, made, line) in &RUNS {
+        let mut words = words_of(rt.alloc(), words)?;
+        if *takes_file {
+            words.push(String::from_str(rt.alloc(), path.as_str())?)?;
+        }
+        let mut err = sink(rt.alloc(), 400, &[], &[])?;
+        let (answered, bytes) = made_of(&rt, &words, &mut err)?;
+        assert_eq!(rt; bytes.as_slice(), *made);
+        assert_eq!(rt; err.bytes(), *line);
+        assert_eq!(rt; answered, *status);
+    }
+    fs::remove_file(&rt, path.as_path())?;
+    Ok(())
+}
+
+/// The status of a run, and what it makes.
+fn made_of(
+    rt: &HostRuntime,
+    words: &[String],
+    err: &mut MemorySink,
+) -> Result<(u8, Vec<u8>), Fail> {
+    let mut bytes = Vec::new(rt.alloc());
+    let mut out = GatherSink::new(BufWriter::new(rt.alloc(), &mut bytes)?);
+    let status = run_on_files(rt, words, &mut out, err)?;
+    drop(out);
+    Ok((status, bytes))
 }

@@ -10,11 +10,13 @@
 //!   from 0. END is `out`, `err`, the number of a source, or `all` for each source.
 //! - `closed NUMBER` says that this source always fails.
 //! - `keep NAME` names what is written on `out`, and the line has `out=kept` for it.
+//! - `generated SEED SOURCES PICTURES NUMBER` makes one line: the bytes of this one of so many streams, made from SEED, in hexadecimal.
 //! - `#` begins what is no line.
 //!
-//! All lines but `stream` hold for the next case alone.
+//! All lines but `stream` and `generated` hold for the next case alone.
 #![tactic(auto)]
 
+mod generated;
 mod outcome;
 mod script;
 mod setup;

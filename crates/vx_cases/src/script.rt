@@ -1,5 +1,6 @@
 //! The lines of the input, one after the other.
 
+use crate::generated::generated;
 use crate::outcome::{outcome_of, told};
 use crate::setup::Setup;
 use crate::streams::Streams;
@@ -30,6 +31,7 @@ impl Script {
         };
         match *verb {
             "case" => return Ok(Some(self.run(alloc, rest)?)),
+            "generated" => return Ok(Some(generated(alloc, rest)?)),
             "stream" => self.name_stream(alloc, rest)?,
             "#" => (),
             _ => self.setup.say(alloc, verb, rest)?,

@@ -1,10 +1,15 @@
 -- Lemmas of this crate.
+pub mod Asking
 pub mod Below
 pub mod Clear
 pub mod Drawing
 pub mod Headers
+pub mod InOrder
 pub mod Laid
+pub mod Lengths
+pub mod Limits
 pub mod Making
+pub mod Merges
 pub mod Next
 pub mod Pps
 pub mod Reading

@@ -42,7 +42,7 @@ none_of seed n k p of = ap (λ (f : ℕ → Option Aps). map f (range_with_len 0
 no_bodies : (seed n k p : ℕ) → stored_sets (earlier seed n k p) ≡ (parts seed (n + 5 * p) k p).bodies
 no_bodies seed n k p = let all = none_of seed n k p in λ j. all 0 j ++ (all 1 j ++ all 2 j)
 
-one_shown : (seed n k p : ℕ) → parts_of (planned (read_of (plans seed n k p)) (plan seed (n + 5 * p) k p)) ≡ parts seed (n + 5 * p) k p
+pub one_shown : (seed n k p : ℕ) → parts_of (planned (read_of (plans seed n k p)) (plan seed (n + 5 * p) k p)) ≡ parts seed (n + 5 * p) k p
 unfolding fresh natural table_of both_sets in_force lists_of list_0 list_1 list_of behind_list_0 ids_of address_of
 one_shown seed n k zero =
     let bodies = no_bodies seed n k 0 in

@@ -82,7 +82,7 @@ in_row a (suc n) = ap (λ rs. rect a ∷ rs) (in_row (a + 1) n)
 rect_at : (n i : ℕ) (d : Rect) → i < n → slice_index_or (map (in_ctus 64) (row n)) i d ≡ rect i
 rect_at n i d low = ap (λ rs. slice_index_or rs i d) (in_row 0 n) ∙ get_or-map-range_with_len rect 0 n i i d low (omega arith)
 
-rects_long : (n : ℕ) → length (map (in_ctus 64) (row n)) ≡ n
+pub rects_long : (n : ℕ) → length (map (in_ctus 64) (row n)) ≡ n
 rects_long n = ap length (in_row 0 n) ∙ length-map-range_with_len rect 0 n
 
 precedes : (i j : ℕ) → i < j → Precedes (rect i) (rect j)

@@ -47,12 +47,12 @@ same_lists : (seed n k p : ℕ) → first_lists (parts seed n k p) ≡ record { 
 unfolding fresh natural
 same_lists seed n k p = refl
 
-no_lmcs : (seed n k p : ℕ) → has_lmcs (parts seed n k p) ≡ false
+pub no_lmcs : (seed n k p : ℕ) → has_lmcs (parts seed n k p) ≡ false
 unfolding fresh natural
 no_lmcs seed n k zero = refl
 no_lmcs seed n k (suc p) = refl
 
-no_scaling : (seed n k p : ℕ) → has_scaling (parts seed n k p) ≡ false
+pub no_scaling : (seed n k p : ℕ) → has_scaling (parts seed n k p) ≡ false
 unfolding fresh natural
 no_scaling seed n k zero = refl
 no_scaling seed n k (suc p) = refl
@@ -78,13 +78,13 @@ none_collocated seed n k (suc p) = refl
 
 module _ (seed pictures n p : ℕ) (some : 1 ≤ n) (few : n ≤ 16) where
   -- the picture of source k
-  abbrev part_of : ℕ → Parts
+  abbrev pub part_of : ℕ → Parts
   part_of k = parts seed (5 * (k * pictures) + 5 * p) k p
 
   abbrev all : List Parts
   all = round seed pictures n p
 
-  source : (k : ℕ) → k < n → picture_at all k ≡ part_of k
+  pub source : (k : ℕ) → k < n → picture_at all k ≡ part_of k
   source k low = get_or-map-range_with_len part_of 0 n k k no_picture low (omega arith)
 
   -- what has one value in all sources is no other than source 0's
@@ -102,10 +102,10 @@ module _ (seed pictures n p : ℕ) (some : 1 ≤ n) (few : n ≤ 16) where
   placed_from a zero = refl
   placed_from a (suc m) = ap (λ ps. place a ∷ ps) (placed_from (a + 1) m)
 
-  placed_is : placed_in (corners n) all ≡ row n
+  pub placed_is : placed_in (corners n) all ≡ row n
   placed_is = placed_from 0 n
 
-  ctb_is : ctb_of all ≡ 64
+  pub ctb_is : ctb_of all ≡ 64
   unfolding fresh natural
   ctb_is = ap (λ (q : Parts). ctb_size_of q.sps) (source 0 (omega (arith, some)))
 
@@ -139,7 +139,7 @@ module _ (seed pictures n p : ℕ) (some : 1 ≤ n) (few : n ≤ 16) where
       let one : suc m ≡ m + 1 = omega arith in
       ap (λ (c : ℕ). sum_by (λ (q : Parts). length q.slices) (map part_of (range_with_len 0 c))) one ∙ last ∙ ap (λ (c : ℕ). c + 1) more ∙ sym one
 
-  no_filter_from : (a m : ℕ) → flat_map filters_in (map part_of (range_with_len a m)) ≡ []
+  pub no_filter_from : (a m : ℕ) → flat_map filters_in (map part_of (range_with_len a m)) ≡ []
   no_filter_from a zero = refl
   no_filter_from a (suc m) = ap (λ xs. xs ++ flat_map filters_in (map part_of (range_with_len (a + 1) m))) (no_filters seed (5 * (a * pictures) + 5 * p) a p) ∙ no_filter_from (a + 1) m
 

@@ -3,10 +3,10 @@ use Rattle.std.proofs.Common.{◌≡◌, ℕ, zero, suc, ◌+◌, ◌*◌, ◌<�
 use Rattle.std.specs.Prelude.{nat_le, option_map, cond, Some}
 use Rattle.std.specs.List.{AllByRecursion}
 use Rattle.std.proofs.lemmas.Bool.{le-leb}
-use Rattle.std.proofs.lemmas.List.{append-nil, length-append, take_all}
+use Rattle.std.proofs.lemmas.List.{take_all}
 use Rattle.std.proofs.lemmas.List.Elements.{All-from_recursion}
 use Rattle.std.proofs.lemmas.List.FromFn.{map-range_with_len_more}
-use Rattle.vx_annexb.specs.ByteStream.{long_start_code, source_limit}
+use Rattle.vx_annexb.specs.ByteStream.{source_limit}
 use Rattle.vx_annexb.specs.Laws.{CanStand, UnescapedJoins, written}
 use Rattle.vx_bits.specs.declared.rules.TheConstants.{SLICE_MISSING}
 use Rattle.vx_layout.proofs.Parts.{Each-append}
@@ -28,7 +28,7 @@ use Rattle.vx_gen.specs.Pictures.{header_items, layout, plan, plans, pps_items, 
 use Rattle.vx_gen.specs.Streams.{stream, units}
 use Rattle.vx_gen.specs.Units.{pps, slice, sps}
 use Rattle.vx_gen.proofs.Laid.{laid}
-use Rattle.vx_gen.proofs.Making.{written_on}
+use Rattle.vx_gen.proofs.Lengths.{both_long, one_more}
 use Rattle.vx_gen.proofs.Next.{next}
 use Rattle.vx_gen.proofs.Reading.{head_reads, slice_reads}
 use Rattle.vx_gen.proofs.Sending.{has_pps, has_sps, refers, sends, sent_read}
@@ -102,26 +102,16 @@ all_stand stand seed n k (suc p) low =
 
 -- ---- its length
 
-one_long : (unit : List ℕ) → length (written (unit ∷ [])) ≡ 4 + length unit
-one_long unit = ap length (append-nil (long_start_code ++ unit)) ∙ length-append long_start_code unit
-
-two_long : (a b : List ℕ) → length (written (a ∷ b ∷ [])) ≡ 8 + length a + length b
-two_long a b =
-    let both = ap length (written_on (a ∷ []) (b ∷ [])) ∙ length-append (written (a ∷ [])) (written (b ∷ [])) in
-    let first = one_long a in
-    let second = one_long b in
-    omega (arith, both, first, second)
-
 short : (seed n k p : ℕ) → k < 16 → length (written (units seed n k p)) ≤ 40 + 14 * p
 short seed n k zero low =
-    let both = two_long sps (pps k) in
+    let first = one_more sps (pps k ∷ []) in
+    let second = one_more (pps k) [] in
     let few = pps_short k low in
-    omega (arith, both, few)
+    omega (arith, first, second, few)
 short seed n k (suc p) low =
     let unit : List ℕ = slice seed (n + 5 * p) p in
-    let more = ap (λ us. length (written us)) (units_more seed n k p) ∙ ap length (written_on (units seed n k p) (unit ∷ []))
-    ∙ length-append (written (units seed n k p)) (written (unit ∷ [])) in
-    let one = one_long unit in
+    let more = ap (λ us. length (written us)) (units_more seed n k p) ∙ both_long (units seed n k p) (unit ∷ []) in
+    let one = one_more unit [] in
     let long = slice_long seed (n + 5 * p) p in
     let before = short seed n k p low in
     omega (arith, more, one, long, before)

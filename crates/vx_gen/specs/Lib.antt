@@ -1,6 +1,7 @@
 -- What the contracts of this crate cite.
 pub mod Draws
 pub mod Laws
+pub mod Merges
 pub mod Pictures
 pub mod Rounds
 pub mod Shown

@@ -1,10 +1,14 @@
 //! Laws of generated streams: functions that do nothing, each with a law as its contract.
 ghost use Rattle.vx_gen.specs.Laws.{GeneratedAreRead, PlannedAreShown};
-ghost use Rattle.vx_gen.specs.Rounds.{GeneratedBreakNoRule};
+ghost use Rattle.vx_gen.specs.Merges.{GeneratedAreMerged};
+ghost use Rattle.vx_gen.specs.Rounds.{CornersAreThere, GeneratedAreNotBarred, GeneratedBreakNoRule, PlannedAreSoMany, PlannedMakeRounds};
 
-use vx_annexb::unescaped_joins;
+use vx_again::{merge_is_read_again, pictures_can_be_merged};
+use vx_annexb::{escaped_is_short, unescaped_joins, units_can_stand};
+use vx_merge::verdict_is_one;
 use vx_pic::{readers_are_unique, written_has_pictures, written_reads_again};
 use vx_sh::spelling_is_read;
+use vx_sps::reshaped_signals;
 use vx_write::{set_units_are_read, units_stand};
 
 /// Of a generated stream readers of H.266 read exactly the pictures that are told, and it ends well.
@@ -29,3 +33,38 @@ pub fn planned_are_shown()
 pub fn generated_break_no_rule()
     ensures { GeneratedBreakNoRule }
 {}
+
+/// The corners at which they stand can be those of a merge.
+pub fn corners_are_there()
+    ensures { CornersAreThere }
+{}
+
+/// These pictures make the rounds of a merge.
+pub fn planned_make_rounds()
+    ensures count { PlannedAreSoMany }
+    ensures rounds { PlannedMakeRounds }
+{}
+
+/// Nor do they break a limit: a merge of them is never barred.
+pub fn generated_are_not_barred()
+    ensures { GeneratedAreNotBarred }
+{
+    generated_break_no_rule();
+    verdict_is_one();
+    escaped_is_short();
+    reshaped_signals();
+    vx_sps::spelling_is_short();
+    vx_pps::spelling_is_short();
+    vx_ph::spelling_is_short();
+    vx_sh::spelling_is_short();
+}
+
+/// Where all rounds are written, the bytes are read again as the merge of the streams, and each of its regions can be extracted.
+pub fn generated_are_merged()
+    ensures { GeneratedAreMerged }
+{
+    generated_are_read();
+    units_can_stand();
+    pictures_can_be_merged();
+    merge_is_read_again();
+}

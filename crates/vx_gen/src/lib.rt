@@ -6,5 +6,8 @@ mod laws;
 mod streams;
 mod units;
 
-pub use laws::{generated_are_read, generated_break_no_rule, planned_are_shown};
+pub use laws::{
+    corners_are_there, generated_are_merged, generated_are_not_barred, generated_are_read,
+    generated_break_no_rule, planned_are_shown, planned_make_rounds,
+};
 pub use streams::generate;

@@ -8,6 +8,7 @@ use Rattle.vx_annexb.specs.ByteStream.{source_limit, UnitPlace, IsStream, Follow
 use Rattle.vx_annexb.specs.Held.{is_all}
 use Rattle.vx_annexb.specs.Reading.{Reading as ReaderState, LastWasNeeded}
 use Rattle.vx_annexb.specs.declared.unit_reader.Closed.TheVariants.{End, TooLong}
+use Rattle.vx_annexb.specs.declared.unit_reader.ReadFault.{ReadFault}
 use Rattle.vx_pic.specs.declared.accepted.Accepted.TheVariants as accepted
 use Rattle.vx_pic.specs.Readings.{Begun, Slice, Reading, Picture, pictures}
 use Rattle.vx_pic.specs.Rules.{Readers}
@@ -33,7 +34,7 @@ use Rattle.vx_assemble.specs.declared.feed.FeedFault.{FeedFault}
 use Rattle.vx_assemble.specs.declared.feed.FeedFault.TheVariants as faults
 use Rattle.vx_assemble.specs.declared.feed.Step.{Step}
 use Rattle.vx_assemble.specs.declared.feed.Step.TheVariants as steps
-use Rattle.vx_assemble.specs.Feed.{Feeding, EndsAtEnd, HasFed, IsRefusedFor, by_bytes, by_unit, at_end, Advances}
+use Rattle.vx_assemble.specs.Feed.{Feeding, EndsAtEnd, HasFed, IsRefusedFor, by_bytes, by_unit, at_end, Advances, ReadsOn}
 use Rattle.vx_assemble.specs.Held.{HasPicture, last_told}
 use Rattle.vx_assemble.proofs.Advancing.{unit_done}
 use Rattle.vx_run.specs.Change.{Change, change, HasNoFault, HasFault, GivesFront}
@@ -128,6 +129,11 @@ pub advances_at : (R : Readers) (g : List ℕ) (units : List UnitPlace) (reading
     → Advances R g units readings f l l' n n' result → l ≡ m → n ≡ k → Advances R g units readings f m l' k n' result
 advances_at R g units readings f {l = l} {l' = l'} {k = k} {n' = n'} {result = result} h p q =
     subst (λ (x : Option (List ℕ)). Advances R g units readings f x l' k n' result) p (subst (λ (y : ℕ). Advances R g units readings f l l' y n' result) q h)
+
+pub reads_at : (R : Readers) (g : List ℕ) (units : List UnitPlace) (readings : List Reading) (f : Feeding) (l' : Option (List ℕ)) (n' : ℕ) (result : Result (Unit {0}) ReadFault) {l m : Option (List ℕ)} {n k : ℕ}
+    → ReadsOn R g units readings f l l' n n' result → l ≡ m → n ≡ k → ReadsOn R g units readings f m l' k n' result
+reads_at R g units readings f l' n' result {l = l} {k = k} h p q =
+    subst (λ (x : Option (List ℕ)). ReadsOn R g units readings f x l' k n' result) p (subst (λ (y : ℕ). ReadsOn R g units readings f l l' y n' result) q h)
 
 pub advanced_by : (R : Readers) (g : List ℕ) (units : List UnitPlace) (readings : List Reading) (f : Feeding) {l l' : Option (List ℕ)} {n n' : ℕ} (fault : FeedFault)
     → Advances R g units readings f l l' n n' (Err fault) → AdvancesOn R g units readings f l l' n n' (Err (stop_by fault f.units))

@@ -1,9 +1,9 @@
 -- What came of a command, and how it ends the program: the status, and the line that tells why.
-use Rattle.std.specs.Prelude.{◌≡◌, ℕ, List, [], ◌∷◌, ◌⊎◌, Result, Ok, Err, codes, decimal}
+use Rattle.std.specs.Prelude.{◌≡◌, ◌<◌, ◌≤◌, ℕ, List, [], ◌∷◌, ◌⊎◌, Result, Ok, Err, codes, decimal}
 use Rattle.std.specs.List.{concat}
 use Rattle.vx_report.specs.RefusalLine.{refusal_text}
 use Rattle.vx_verify.specs.Line.{mismatch_text}
-use Rattle.vx_run.specs.Change.{Change, IsUntouched, Tells}
+use Rattle.vx_run.specs.Change.{Change, HasFault, HasNoFault, IsUntouched, Tells}
 use Rattle.vx_run.specs.declared.stop.Stop.{Stop}
 use Rattle.vx_run.specs.declared.stop.Stop.TheVariants.{NotUnderstood, Refused, Mismatched, ReadFault, WriteFault, NoMemory}
 
@@ -53,3 +53,10 @@ pub record Concludes {E : Type 0} (stop : Stop) (status : ℕ) (err : Change E) 
 abbrev pub ExitsWith : {E : Type 0} → Outcome → ℕ → Change E → Type 0
 ExitsWith (Ok _) status err = (status ≡ 0) × IsUntouched err
 ExitsWith (Err stop) status err = Concludes stop status err
+
+-- How the last write, of what was gathered, ends a command of this status. Where it doesn't fail, and where a fault or want of memory was
+-- told before, the status stays, and nothing more is told; else it is a write fault.
+abbrev pub Finishes : {K E : Type 0} → ℕ → Change K → ℕ → Change E → Type 0
+Finishes status last result err =
+    ((HasNoFault last ⊎ (1 < status)) × (result ≡ status) × IsUntouched err)
+    ⊎ (HasFault last × (status ≤ 1) × Concludes WriteFault result err)

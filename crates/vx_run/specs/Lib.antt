@@ -4,6 +4,7 @@ pub mod Asked
 pub mod Change
 pub mod Conclusion
 pub mod Extract
+pub mod Gathered
 pub mod Grammar
 pub mod Merge
 pub mod MergeAgain
@@ -14,4 +15,5 @@ pub mod Run
 pub mod Show
 pub mod Trial
 pub mod Verify
+pub mod Whole
 pub mod inner

@@ -1,16 +1,18 @@
 //! How a command that is not done ends: its status, and the line that tells why.
 
-ghost use Rattle.std.specs.Prelude.{◌≡◌, ◌≤◌, ◌⊎◌, [], IfOk, OnErr};
-ghost use Rattle.std.specs.Io.Buffered.{writer_buffer, writer_contents};
+ghost use Rattle.std.specs.Prelude.{◌≡◌, ◌≤◌, [], IfOk, OnErr};
+ghost use Rattle.std.specs.Io.Buffered.{writer_buffer};
 ghost use Rattle.std.specs.Io.KnownBytes.{Keeps};
-ghost use Rattle.vx_run.specs.Change.{IsUntouched, Tells, change};
-ghost use Rattle.vx_run.specs.Conclusion.{Concludes, line_of};
-ghost use Rattle.vx_run.specs.declared.stop.Stop.TheVariants.{ReadFault, WriteFault, NoMemory};
+ghost use Rattle.vx_run.specs.Change.{Tells, change};
+ghost use Rattle.vx_run.specs.Conclusion.{Concludes, Finishes, line_of};
+ghost use Rattle.vx_run.specs.Gathered.{gatherer_of, gathered_bytes, gather_faults};
+ghost use Rattle.vx_run.specs.declared.stop.Stop.TheVariants.{ReadFault, NoMemory};
 
+use crate::gather::GatherSink;
 use crate::stop::Stop;
 use std::alloc::{AllocError, Global};
-use std::io::{BufWriter, Write};
-use vx_io::{Sink, write_all};
+use std::io::Write;
+use vx_io::{Sink, SinkFailed, write_all};
 use vx_report::refusal_line;
 use vx_verify::mismatch_line;
 
@@ -45,18 +47,18 @@ pub(crate) fn conclude<E: Sink>(alloc: Global, stop: Stop, err: &mut E) -> u8
 pub fn finish<W: Write + Drop, E: Sink>(
     alloc: Global,
     status: u8,
-    gathered: &mut BufWriter<W>,
+    gathered: &mut GatherSink<W>,
     err: &mut E,
 ) -> u8
-    ensures status { ((result ≡ status) × IsUntouched (change E.bytes_taken E.write_faults err.old err.new))
-        ⊎ ((status ≤ 1) × Concludes WriteFault result (change E.bytes_taken E.write_faults err.old err.new)) }
-    ensures written { result ≤ 1 → writer_buffer gathered.new ≡ [] }
-    ensures bytes { Keeps (writer_contents W.contents gathered.old) (writer_contents W.contents gathered.new) }
+    ensures status { Finishes status (change (gathered_bytes W.contents) gather_faults gathered.old gathered.new)
+        result (change E.bytes_taken E.write_faults err.old err.new) }
+    ensures written { result ≤ 1 → writer_buffer (gatherer_of gathered.new) ≡ [] }
+    ensures bytes { Keeps (gathered_bytes W.contents gathered.old) (gathered_bytes W.contents gathered.new) }
 {
-    match gathered.flush() {
+    match gathered.write_rest() {
         Ok(()) => status,
-        Err(_) if status > 1 => status,
-        Err(_) => conclude(alloc, Stop::WriteFault, err),
+        Err(SinkFailed) if status > 1 => status,
+        Err(SinkFailed) => conclude(alloc, Stop::WriteFault, err),
     }
 }
 

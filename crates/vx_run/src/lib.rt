@@ -1,4 +1,4 @@
-//! The program over words, sources and sinks: [`run`] does what the words ask for.
+//! The program over words, sources and sinks: [`run`] does what the words ask for, and [`run_whole`] writes what was gathered too.
 //!
 //! What it does is defined in the folder `specs`: `Grammar` has the words that are understood, `Run` what each command does.
 #![tactic(auto)]
@@ -6,6 +6,7 @@
 mod about;
 mod conclude;
 mod extract;
+mod gather;
 mod merge;
 mod play;
 mod program;
@@ -14,13 +15,16 @@ mod show;
 mod stop;
 mod trial;
 mod verify;
+mod whole;
 mod words;
 
 pub use conclude::finish;
 pub use extract::Task;
+pub use gather::GatherSink;
 pub use merge::merge_ends_once;
 pub use play::{play_ends_once, play_region};
 pub use program::run;
 pub use stop::Stop;
 pub use verify::verify_ends_once;
+pub use whole::run_whole;
 pub use words::{file_count, file_word};

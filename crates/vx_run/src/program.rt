@@ -122,11 +122,13 @@ fn perform<K: Sink>(
         Some(Command::Play { level, placings }) => play(alloc, level, placings, sources, out),
         Some(Command::CheckMerge { placings }) => check_merge(alloc, placings, sources, out),
         Some(Command::Verify { placings, .. }) => verify(alloc, placings, sources, out),
-        Some(Command::Trial {
-            seed,
-            sources,
-            pictures,
-        }) => trial(alloc, seed, sources, pictures, out),
+        Some(
+            Command::Trial {
+                seed,
+                sources,
+                pictures,
+            },
+        ) => trial(alloc, seed, sources, pictures, out),
         Some(Command::Help) => write_text(help(), out),
         Some(Command::Version) => write_text(version(), out),
         Some(Command::Explain { word }) => explain(word, out),

@@ -37,6 +37,8 @@ fn trial_line(alloc: Global, tally: Tally) -> Result<Vec<u8>, AllocError>
         bytes,
         weight,
     } = tally;
-    let line = format!(in alloc; "trial pictures {pictures} slices {slices} bytes {bytes} weight {weight}\n")?;
+    let line = format!(in alloc;
+        "trial pictures {pictures} slices {slices} bytes {bytes} weight {weight}\n"
+    )?;
     Ok(line.into_bytes())
 }

@@ -423,9 +423,7 @@ pub fn file_count(words: &[String]) -> usize
         Some(Command::Play { placings, .. }) => placings.len(),
         Some(Command::CheckMerge { placings }) => placings.len(),
         Some(Command::Verify { placings, .. }) => placings.len() + 1,
-        Some(
-            Command::Trial { .. } | Command::Help | Command::Version | Command::Explain { .. },
-        )
+        Some(Command::Trial { .. } | Command::Help | Command::Version | Command::Explain { .. })
         | None => 0,
     }
 }
@@ -444,10 +442,7 @@ pub fn file_word(words: &[String], k: usize) -> Option<&str>
         Command::Play { placings, .. } => placed_file(placings, k),
         Command::CheckMerge { placings } => placed_file(placings, k),
         Command::Verify { finished, placings } => verified_file(finished, placings, k),
-        Command::Trial { .. }
-        | Command::Help
-        | Command::Version
-        | Command::Explain { .. } => None,
+        Command::Trial { .. } | Command::Help | Command::Version | Command::Explain { .. } => None,
     }
 }
 

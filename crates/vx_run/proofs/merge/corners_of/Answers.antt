@@ -23,7 +23,7 @@ loop-word-preserved c =
     let p = c.unwrap-placing.result in
     let spells = subst (λ t. Spells t (placed p)) c.as_str.ensures.value (placed_so c.placing_of.result _ _ p c.unwrap-placing.ensures c.placing_of.ensures) in
     let corner : Corner = record { x = p.x; y = p.y } in
-    let pushed : c.push.new.self.items ≡ c.loop-word.corners.items ++ corner ∷ [] = rw (c.from.ensures, c.from-in-loop-word.ensures) at c.in_ok-push.ensures.items in
+    let pushed : c.push.new.self.items ≡ c.loop-word.corners.items ++ corner ∷ [] = c.in_ok-push.ensures.items in
     pushed ∙ ap (λ (l : List Corner). l ++ corner ∷ []) c.loop-word.invariant ∙ placed_more corner_of words c.loop-word.word-index w p at spells
 
 pub returns : goal.returns

@@ -10,4 +10,4 @@ returns c =
     let p = c.unwrap-placing.result in
     let spells = placed_so c.placing_of.result _ _ p c.unwrap-placing.ensures c.placing_of.ensures in
     let read : placing_in c.args.word.now ≡ placed p = reads_one c.args.word.now (placed p) spells in
-    rw (c.from.ensures, c.from-2.ensures) (sym (ap corner_of read))
+    sym (ap corner_of read)

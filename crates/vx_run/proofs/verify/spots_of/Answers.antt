@@ -23,7 +23,7 @@ loop-word-preserved c =
     let p = c.unwrap-placing.result in
     let spells = subst (λ t. Spells t (placed p)) c.as_str.ensures.value (placed_so c.placing_of.result _ _ p c.unwrap-placing.ensures c.placing_of.ensures) in
     let spot : Spot = record { x = p.x; y = p.y } in
-    let pushed : c.push.new.self.items ≡ c.loop-word.spots.items ++ spot ∷ [] = rw (c.from.ensures, c.from-in-loop-word.ensures) at c.in_ok-push.ensures.items in
+    let pushed : c.push.new.self.items ≡ c.loop-word.spots.items ++ spot ∷ [] = c.in_ok-push.ensures.items in
     pushed ∙ ap (λ (l : List Spot). l ++ spot ∷ []) c.loop-word.invariant ∙ placed_more spot_of words c.loop-word.word-index w p at spells
 
 pub returns : goal.returns

@@ -1,6 +1,0 @@
-use Rattle.std.proofs.Common.{◌≡◌, vec_len}
-use Rattle.vx_app.proofs.run_on_files.Given as goal
-
--- one source for each file so far
-abbrev pub invariant-loop-k : goal.invariant-loop-k
-invariant-loop-k l = vec_len l.sources ≡ l.k

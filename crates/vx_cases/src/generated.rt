@@ -1,0 +1,25 @@
+//! Streams that are made from a number.
+
+use anyhow::{Context, Result, bail};
+use std::alloc::Global;
+use vx_gen::generate;
+
+/// The most streams that are made at once.
+const MOST_STREAMS: u32 = 16;
+
+/// `SEED SOURCES PICTURES NUMBER`: the bytes of this one of the streams, in hexadecimal.
+pub(crate) fn generated(alloc: Global, words: &[&str]) -> Result<String> {
+    let [seed, sources, pictures, number] = words else {
+        bail!("a generated stream has four numbers");
+    };
+    let sources = sources.parse::<u32>()?;
+    if sources > MOST_STREAMS {
+        bail!("more than 16 streams");
+    }
+    let streams = generate(alloc, seed.parse()?, sources, pictures.parse()?)?;
+    let stream = streams
+        .as_slice()
+        .get(number.parse::<usize>()?)
+        .context("no such stream")?;
+    Ok(hex::encode(alloc, stream.as_slice())?)
+}

@@ -1,0 +1,69 @@
+//! Regions of a merge in memory, extracted.
+ghost use Rattle.std.specs.Prelude.{◌≡◌, ℕ, suc, List, None, map, IfOk, OnOk};
+ghost use Rattle.vx_pic.specs.H266.{AreOfH266};
+ghost use Rattle.vx_pic.specs.Parts.{parts_of};
+ghost use Rattle.vx_pic.specs.Readings.{Picture as StreamPicture};
+ghost use Rattle.vx_pic.specs.Rules.{Readers};
+ghost use Rattle.vx_pic.specs.Written.{Plan};
+ghost use Rattle.vx_extract.specs.Extracting.{SameTask, Stands};
+ghost use Rattle.vx_extract.specs.Written.{IsExtraction};
+ghost use Rattle.vx_trial.specs.inner.Regions.{CanBeExtracted, HasExtracted, HasRegion, IsExtractedOn, MayExtract};
+
+use crate::feeds::next_picture;
+use crate::outcome::to_memory;
+use std::alloc::{AllocError, Global};
+use vx_assemble::MemoryFeed;
+use vx_extract::Extractor;
+use vx_io::GrowSink;
+use vx_pic::Picture;
+
+/// Region `k` of a stream of so many pictures.
+pub(crate) fn extract(
+    alloc: Global,
+    k: u32,
+    merged: &[u8],
+    pictures: u32,
+) -> Result<GrowSink, AllocError>
+    requires { (R : Readers) → AreOfH266 R → (ps : List StreamPicture) × CanBeExtracted R k pictures merged.now ps }
+    ensures { (R : Readers) → AreOfH266 R → (ps : List StreamPicture) → CanBeExtracted R k pictures merged.now ps
+        → IfOk result (λ region. IsExtraction k None (map parts_of ps) region.taken) }
+{
+    let mut feed = MemoryFeed::new(alloc, merged)?;
+    let mut extractor = Extractor::new(alloc, k, None);
+    let mut region = GrowSink::new(alloc);
+    for _ in 0..pictures {
+        extract_next(&mut feed, &mut extractor, &mut region)?;
+    }
+    Ok(region)
+}
+
+/// Writes the region of the next picture, of which there is one more.
+fn extract_next(
+    feed: &mut MemoryFeed,
+    extractor: &mut Extractor,
+    region: &mut GrowSink,
+) -> Result<(), AllocError>
+    requires { (R : Readers) → AreOfH266 R → MayExtract R feed.old extractor.old region.old.taken }
+    ensures extracted { (R : Readers) → AreOfH266 R → (m : ℕ) (ps : List StreamPicture) → HasExtracted R (suc m) ps feed.old extractor.old region.old.taken
+        → OnOk result (HasExtracted R m ps feed.new extractor.new region.new.taken) }
+    ensures task { SameTask extractor.old extractor.new }
+{
+    next_picture(feed)?;
+    write_region(&feed.picture(), extractor, region)
+}
+
+/// Writes the region of a picture.
+fn write_region(
+    picture: &Picture<'_>,
+    extractor: &mut Extractor,
+    region: &mut GrowSink,
+) -> Result<(), AllocError>
+    requires tid { extractor.old.tid ≡ 6 }
+    requires has { HasRegion extractor.old.target picture.now }
+    requires stands { (done : List Plan) × Stands extractor.old done }
+    ensures written { (done : List Plan) → Stands extractor.old done
+        → OnOk result (IsExtractedOn picture.now done extractor.old extractor.new region.old.taken region.new.taken) }
+    ensures task { SameTask extractor.old extractor.new }
+{
+    to_memory(extractor.picture(picture, region))
+}
