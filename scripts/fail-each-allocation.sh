@@ -85,11 +85,12 @@ stream_wants() {
   program_wants && [[ " 0 $ends " = *" $length "* ]]
 }
 
-# Whether a program of the gate ended for want of memory after a front of its lines, or went on and told of it in one line:
+# Whether a program of the gate ended for want of memory after a front of its lines (vx_vectors says of its own hexadecimal that it
+# can't be read), or went on and told of it in one line:
 # of a case whose status is 4, with a front of what it writes, or of a sink that grows.
 gate_wants() {
   if [ "$status" != 0 ]; then
-    is_front && [ "$(wc -l < "$work/err")" = 1 ] && grep -qE '(memory allocation failed|out of memory)$' "$work/err"
+    is_front && [ "$(wc -l < "$work/err")" = 1 ] && grep -qiE '(memory allocation failed|out of memory|digits each, or too many)$' "$work/err"
     return
   fi
   diff --unchanged-line-format= --old-line-format=%L --new-line-format=%L "$work/whole" "$work/out" > "$work/lines"
