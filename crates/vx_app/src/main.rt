@@ -7,7 +7,7 @@ mod opened;
 #[cfg(test)]
 mod tests;
 
-ghost use Rattle.std.specs.Prelude.{◌≡◌, ◌≢◌, ◌↔◌, IfOk};
+ghost use Rattle.std.specs.Prelude.{◌≡◌, ◌≢◌, ◌↔◌, IfOk, OnErr};
 ghost use Rattle.std.specs.IoError.{error_kind};
 ghost use Rattle.vx_run.specs.Grammar.{IsUnderstood, texts};
 
@@ -27,7 +27,7 @@ fn main(rt: HostRuntime) -> ExitCode {
 /// before they are run, nothing is written.
 fn status(rt: &HostRuntime) -> u8 {
     match words_of(rt) {
-        Ok(words) => run_on_system(rt, &words).unwrap_or(4),
+        Ok(words) => status_with_words(run_on_system(rt, &words)),
         Err(error) => status_without_words(&error),
     }
 }
@@ -37,6 +37,14 @@ fn words_of(rt: &HostRuntime) -> io::Result<Vec<String>> {
     let mut args = env::args(rt)?;
     let _name = args.next();
     Ok(args.collect(rt.alloc())?)
+}
+
+/// The status where the words were run, or no memory was found before.
+fn status_with_words(run: Result<u8, AllocError>) -> u8
+    ensures ran { IfOk run (λ status. result ≡ status) }
+    ensures memory { OnErr run (result ≡ 4) }
+{
+    run.unwrap_or(4)
 }
 
 /// The status where there is no memory for the words, or one of them is no text.

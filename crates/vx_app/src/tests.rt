@@ -388,6 +388,31 @@ fn runs_on_files(rt: HostRuntime) -> Result<(), Fail> {
     Ok(())
 }
 
+/// A stream beside itself as its merge, and at another corner.
+const COMPARED: [(&str, u8, &[u8], &[u8]); 2] = [
+    ("0,0", 0, b"yes pictures 1\n", b""),
+    ("64,0", 1, b"", b"C2 picture 0 source 1\n"),
+];
+
+#[test]
+fn compares_files(rt: HostRuntime) -> Result<(), Fail> {
+    let name = format!(in rt.alloc(); "vx_app-compared-{}", process::id(rt.process()))?;
+    let path = env::temp_dir(&rt)?.join(rt.alloc(), name.as_str())?;
+    fs::write(&rt, path.as_path(), GRAY)?;
+    for (corner, status, made, line) in &COMPARED {
+        let mut words = words_of(rt.alloc(), &["verify", "merge"])?;
+        words.push(String::from_str(rt.alloc(), path.as_str())?)?;
+        words.push(format!(in rt.alloc(); "{corner}={}", path.as_str())?)?;
+        let mut err = sink(rt.alloc(), 400, &[], &[])?;
+        let (answered, bytes) = made_of(&rt, &words, &mut err)?;
+        assert_eq!(rt; bytes.as_slice(), *made);
+        assert_eq!(rt; err.bytes(), *line);
+        assert_eq!(rt; answered, *status);
+    }
+    fs::remove_file(&rt, path.as_path())?;
+    Ok(())
+}
+
 /// The status of a run, and what it makes.
 fn made_of(
     rt: &HostRuntime,
