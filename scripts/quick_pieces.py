@@ -39,6 +39,8 @@ def case_items(given, answers):
         word, _, rest = line.partition(" ")
         if word == "stream":
             yield Item([line], [], gives=[rest.split()[0]])
+        elif word == "generated":
+            yield Item([line], [next(answers)])
         elif word == "case":
             uses = [word[at:] for word in rest.split() for at in (0, *(k + 1 for k, it in enumerate(word) if it == "="))]
             yield Item([*held, line], [next(answers)], gives=kept, uses=uses)
