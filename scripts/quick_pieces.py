@@ -6,7 +6,7 @@
 
 The names of the files are in such an order that the first few have some of each part of the input.
 
-The input and the answers are crates/CRATE/stdin and stdout; nothing here depends on how much they have. In vx_cases each line `case`
+The input and the answers are crates/CRATE/stdin and stdout; nothing here depends on how much they have. In vx_cases each line `case` or `generated`
 has one answer, in vx_calls each line but empty ones and those of `#`, and in vx_vectors the answers to a stream and what is asked of it
 begin with its line `stream`. A piece of vx_cases begins with the streams that it names and the cases whose output it names.
 
