@@ -2,8 +2,8 @@
 //!
 //! A field is `vx_fields::sps::sps_alf_enabled_flag`, under the full name that H.266 gives it, in lower case as there.
 //! The number stands for the field in items, in scopes and in refusals: docs/FIELDS.md has them in order, and [`name_of`]
-//! gives the name of a number as text. Names that tables give to numbers of their own are in [`names`], in upper case. No two constants have one number, and each
-//! number is below 1024, the size of a scope.
+//! gives the name of a number as text. Names that tables give to numbers of their own are in [`names`], in upper case. No
+//! two constants have one number, and each number is below 1024, the size of a scope.
 #![tactic(auto)]
 #![allow(non_upper_case_globals)]
 
