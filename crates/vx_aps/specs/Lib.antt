@@ -2,3 +2,4 @@
 pub mod Aps
 pub mod Fields
 pub mod Laws
+pub mod inner
