@@ -287,6 +287,20 @@ impl Feed {
         }
     }
 
+    /// As [`Feed::next`], and shows the unit, behind those before it, to a view before it is taken: [`StructureFields`](vx_pic::StructureFields)
+    /// then has the fields that it spells, also where it is refused; where no unit is taken, nothing.
+    ///
+    /// # Errors
+    ///
+    /// As [`Feed::next`].
+    pub fn next_with<V: UnitView>(&mut self, view: &mut V) -> Result<Option<Taken>, FeedFault>
+        // all clauses of `next`, and:
+        ensures seen { (R : Readers) (h : AreOfH266 R) (g : List ℕ) (places : List UnitPlace) (before : List Reading)
+            → HasFed R self.old g places before → GivesSeen (V.sees R h) V.nothing R g places before self.new result view.new }
+    {
+        todo
+    }
+
     /// Whether the source may be read on: it has not ended, has given no more bytes than the limit, and nothing has kept the
     /// feed from going on.
     pub fn is_open(&self) -> bool
