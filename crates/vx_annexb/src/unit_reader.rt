@@ -183,7 +183,7 @@ fn read_piece(
 }
 
 impl UnitReader {
-    ghost use Rattle.std.specs.Prelude.{◌≡◌, ◌⊎◌, ℕ, ◌+◌, ◌^◌, ◌<◌, ◌≤◌, [], ◌++◌, List, length, take, slice_range, Some, None, Err, IfOk, IfErr, IfSome, IfNone, OnOk, OnErr, OnSome, IsTrue, IsSome};
+    ghost use Rattle.std.specs.Prelude.{◌≡◌, ◌⊎◌, ℕ, ◌+◌, ◌^◌, ◌<◌, ◌≤◌, [], ◌++◌, List, length, take, min, slice_range, Some, None, Err, IfOk, IfErr, IfSome, IfNone, OnOk, OnErr, OnSome, IsTrue, IsSome};
     ghost use Rattle.vx_bits.specs.declared.refusal.Refusal.{Refusal};
     ghost use Rattle.vx_annexb.specs.ByteStream.{UnitPlace};
     ghost use Rattle.std.specs.Io.KnownBytes.{IsAtEnd};
@@ -281,6 +281,7 @@ impl UnitReader {
         ensures read { IfOk result (λ count. (g : List ℕ) (units : List UnitPlace) → HasRead self.old g units → HasRead self.new (g ++ take count piece.now) units) }
         ensures count { IfOk result (λ count. count ≡ fed_at_once self.old.taken (length piece.now)) }
         ensures few { IfOk result (λ count. count ≤ length piece.now) }
+        ensures whole { IfOk result (λ count. IsOpen self.new → count ≡ min (length piece.now) 65536) }
         ensures taken { IfOk result (λ count. self.new.taken ≡ self.old.taken + count) }
         ensures going { OnOk result (IsOpen self.new ⊎ (self.new.closed ≡ Some TooLong)) }
         ensures ahead { OnOk result (ahead self.new.splitter + fed self.old.splitter ≡ ahead self.old.splitter + fed self.new.splitter) }
