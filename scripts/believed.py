@@ -726,17 +726,17 @@ def edges_between(items, name_of):
 
 
 def groups_of(module, found):
-    """The definitions of a file that are found, put together where one comment stands above them; and the comment."""
-    groups, comment, heading = [], "", None
+    """The definitions of a file that are found, together where one comment or heading stands above them; and what that says of them."""
+    groups, heading = [], None
     for item in module.items.values():
         if item.comment or item.heading != heading:
-            comment, heading = item.comment or item.heading, item.heading
-            groups.append((comment, []))
+            groups.append((item.comment or item.heading, []))
+            heading = item.heading
         groups[-1][1].append(item)
     for comment, items in groups:
         kept = [item for item in items if item in found]
         if kept:
-            yield comment, kept
+            yield comment if kept[0] is items[0] else "", kept
 
 
 def ordered(letters):
