@@ -326,8 +326,8 @@ def code_module(crate, path):
 
 
 def words_in(text):
-    """The names in a text."""
-    return re.findall(WORD, text)
+    """The names in a text, those behind a point aside."""
+    return re.findall(rf"(?<![\w'.]){WORD}", text)
 
 
 def pattern_names(item):
