@@ -657,7 +657,7 @@ The promises are those of [PROMISE.md](PROMISE.md) and, of the other commands, o
 
 ## From the promise to the ground
 
-Each crate, and in it each file, stands before what it rests on; in a file definitions have the order of the file, which is from the ground up. A line has the first sentence of the comment that stands above a definition, or above the one that it goes with; where the rest of the comment cites a clause, that follows. Read up from the end, the list goes from the ground to the promise.
+Each crate, and in it each file, stands before what it rests on; in a file definitions have the order of the file, which is from the ground up. A line has the first sentence of the comment that stands above a definition, or above the one that it goes with, or the heading where there is none; where the rest of the comment cites a clause, that follows. Read up from the end, the list goes from the ground to the promise.
 
 Letters say which promises rest on it: `s` `show`, `e` `extract`, `c` a `check`, `m` `merge`, `p` `play`, `v` `verify`, `t` `trial`; `h` the readers of H.266, `i` the decoding input of a slice. What has none is of `run` itself: its words, statuses and lines. They stand at the file where all its lines have the same.
 """
@@ -730,7 +730,7 @@ def groups_of(module, found):
     groups, heading = [], None
     for item in module.items.values():
         if item.comment or item.heading != heading:
-            groups.append((item.comment or item.heading, []))
+            groups.append((item.comment or item.heading and f'under "{sentence(item.heading)}"', []))
             heading = item.heading
         groups[-1][1].append(item)
     for comment, items in groups:
