@@ -15,7 +15,7 @@ import bisect
 import pathlib
 import re
 import sys
-from collections import Counter, defaultdict
+from collections import defaultdict
 from dataclasses import dataclass, field
 
 ROOT = pathlib.Path(__file__).resolve().parent.parent
@@ -24,7 +24,7 @@ PAGE = ROOT / "docs/BELIEVED.md"
 # The function whose clauses are the promise as a whole, and the traits that it asks of what it is handed.
 RUN = ("vx_run.src.program", "run")
 TRAITS = {("vx_io.src.read", "Source"), ("vx_io.src.write", "Sink")}
-# Each promise: a letter for the lists, its name, and the definitions that say it. The first of the second kind add readers.
+# Each promise: a letter for the lists, its name, and the definitions that say it.
 READERS = "vx_pic.specs.H266.AreOfH266"
 PROMISES = (
     ("s", "`show`", ("vx_run.specs.Show.Shows",)),
@@ -49,7 +49,8 @@ RESERVED = {
     *"abbrev as case data do else in infixl let module mod of pub record then unfoldable use where if".split(),
     *"Type Unit tt ℕ ℤ λ _".split(),
 }
-KEPT_SHORT = 30
+# A file with more names than these has their number on the page; and so have all files of a crate with ten times as many.
+MOST_NAMED = 30
 
 
 @dataclass(eq=False)
@@ -187,9 +188,8 @@ def close_of(text, at):
 
 # ---- files of definitions
 
-DEFINES = re.compile(
-    rf"^( *)(?:(?:pattern )?(?:abbrev|unfoldable)(?: pub)? |(?:pub )?(record|data) |(axiom)(?: pub)? |(?<=\n)(?:pub )?(?=\S+ :))(◌\S+◌|{WORD})", re.M
-)
+MARKS = r"(?:pattern )?(?:abbrev|unfoldable)(?: pub)? |(?:pub )?(record|data) |(axiom)(?: pub)? |(?<=\n)(?:pub )?(?=\S+ :)"
+DEFINES = re.compile(rf"^( *)(?:{MARKS})(◌\S+◌|{WORD})", re.M)
 BLOCK = re.compile(r"^module _ (.*?) where *$", re.M)
 USES = re.compile(rf"\buse Rattle\.((?:\w+\.)*\w+)(?:\.\{{([^}}]*)\}}|\s+as\s+({WORD}))")
 FIELD = re.compile(rf"^(\s*)pub {WORD} :", re.M)
@@ -326,8 +326,8 @@ def code_module(crate, path):
 
 
 def words_in(text):
-    """The names in a text."""
-    return re.findall(WORD, text)
+    """The names in a text, those behind a point aside."""
+    return re.findall(rf"(?<![\w'.]){WORD}", text)
 
 
 def pattern_names(item):
@@ -657,7 +657,7 @@ The promises are those of [PROMISE.md](PROMISE.md) and, of the other commands, o
 
 ## From the promise to the ground
 
-Each crate, and in it each file, stands before what it rests on; in a file definitions have the order of the file, which is from the ground up. A line has the first sentence of the comment that stands above a definition, or above the one that it goes with; where the rest of the comment cites a clause, that follows. Read up from the end, the list goes from the ground to the promise.
+Each crate, and in it each file, stands before what it rests on; in a file definitions have the order of the file, which is from the ground up. A line has the first sentence of the comment that stands above a definition, or above the one that it goes with, or the heading where there is none; where the rest of the comment cites a clause, that follows. Read up from the end, the list goes from the ground to the promise.
 
 Letters say which promises rest on it: `s` `show`, `e` `extract`, `c` a `check`, `m` `merge`, `p` `play`, `v` `verify`, `t` `trial`; `h` the readers of H.266, `i` the decoding input of a slice. What has none is of `run` itself: its words, statuses and lines. They stand at the file where all its lines have the same.
 """
@@ -730,7 +730,7 @@ def groups_of(module, found):
     groups, heading = [], None
     for item in module.items.values():
         if item.comment or item.heading != heading:
-            groups.append((item.comment or item.heading, []))
+            groups.append((item.comment or item.heading and f'under "{sentence(item.heading)}"', []))
             heading = item.heading
         groups[-1][1].append(item)
     for comment, items in groups:
@@ -769,20 +769,22 @@ def names_by_file(items):
     files = defaultdict(list)
     for item in items:
         files[item.path].append(item.name)
-    parts = [f"`{path}` " + (", ".join(f"`{name}`" for name in names) if len(names) <= KEPT_SHORT else number(len(names)))
-             for path, names in sorted(files.items())]  # fmt: skip
-    return "; ".join(parts)
+    few = len(items) <= 10 * MOST_NAMED
+
+    def told(names):
+        return ", ".join(f"`{name}`" for name in names) if few and len(names) <= MOST_NAMED else number(len(names))
+
+    return "; ".join(f"`{path}` {told(names)}" for path, names in sorted(files.items()))
 
 
 def beside(house, crate, found):
     """What the page has of the code of a crate."""
     items = [item for item in house.items("table", "constant", "type", "macro") if item.crate == crate and item in found]
     lines = []
-    for kinds, word in ((("table",), "table"), (("macro",), "macro"), (("constant",), "constant"), (("type",), "type")):
-        kept = of_kind(items, *kinds)
-        if kept:
-            size = f", {many(lines_of(kept), 'line')}" if word in ("table", "macro") else ""
-            lines.append(f"- {many(len(kept), word)}{size}: {names_by_file(kept)}\n")
+    for kind in ("table", "macro", "constant", "type"):
+        if kept := of_kind(items, kind):
+            size = f", {many(lines_of(kept), 'line')}" if kind in ("table", "macro") else ""
+            lines.append(f"- {many(len(kept), kind)}{size}: {names_by_file(kept)}\n")
     return ("\nBeside them in `src/`:\n\n" + "".join(lines)) if lines else ""
 
 
@@ -811,12 +813,13 @@ def twice_text(house, found):
         if len(items) > 1 and kept:
             where = ", ".join(("" if item in found else "*") + f"{item.crate} {item.module.split('.', 2)[2]}" for item in items)
             (both if len(kept) > 1 else beside_it).append(f"`{name}`: {where}")
+    lines = "".join(f"- {line}\n" for line in both)
     return f"""
 ## Names that mean two things
 
 {many(len(both), 'name')} of `specs/` that a promise rests on mean{'s' if len(both) == 1 else ''} two things or more in what promises rest on. A star stands before a place that no promise rests on.
 
-{''.join(f'- {line}{chr(10)}' for line in both)}
+{lines}
 {number(len(beside_it))} mean one thing there, and another elsewhere in `specs/`: {'; '.join(beside_it)}.
 """
 
@@ -831,17 +834,17 @@ def dead_text(house, found, public, inner):
             by = "bodies" if item in by_bodies else "proofs" if item in by_proofs else "nothing"
             if not item.inner or by == "nothing":
                 lists[by].append(f"`{item.name}` ({item.crate} {item.module.split('.', 2)[2]})")
-    rest = sum(1 for item in house.items("definition") if item in served and item not in found)
-    own = len(house.items("definition"))
-    said_of = lambda by: ", ".join(lists[by]) or "none"
+    definitions = house.items("definition")
+    rest = sum(item in served and item not in found for item in definitions)
+    bodies, proofs, nothing = (", ".join(lists[by]) or "none" for by in ("bodies", "proofs", "nothing"))
     return f"""
 ## What serves no promise
 
-Of {number(own)} definitions {number(rest)} are named by contracts of public functions, as laws or as what calls say, and by no promise. Of these nothing has to be believed for a promise. Outside `specs/inner/` no contract that others see rests on these:
+Of {number(len(definitions))} definitions {number(rest)} are named by contracts of public functions, as laws or as what calls say, and by no promise. Of these nothing has to be believed for a promise. Outside `specs/inner/` no contract that others see rests on these:
 
-- named by contracts of inner functions, or by bodies, alone: {said_of('bodies')};
-- named by proofs alone: {said_of('proofs')};
-- named by nothing, also in `specs/inner/`: {said_of('nothing')}.
+- named by contracts of inner functions, or by bodies, alone: {bodies};
+- named by proofs alone: {proofs};
+- named by nothing, also in `specs/inner/`: {nothing}.
 """
 
 
