@@ -881,7 +881,7 @@ def page(house):
         trouble(f"{item.path} of {item.crate}: a promise rests on {item.name}, which stands in inner/")
     body = "".join(crate_text(house, crate, all_found, letters) for crate in order)
     axioms = [f"`{item.name}` ({item.crate})" for item in of_kind(all_found, "definition") if item.axiom]
-    reading = READING.replace("{axioms}", f"Axioms, without a text: {', '.join(axioms)}." if axioms else "None is an axiom: each has its text.")
+    reading = READING.replace("{axioms}", f"Axioms, without a text: {', '.join(axioms)}." if axioms else "No definition is an axiom: each has its text.")
     ends = twice_text(house, all_found) + dead_text(house, all_found, public, inner) + kit_text(all_found)
     return HEAD + promise_table(whole, found) + reading + body + ends
 
