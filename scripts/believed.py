@@ -46,7 +46,7 @@ WORD = r"[^\W\d][\w']*"
 # A clause of H.266, as `7.4.3.4`, `C.6`, `clause 9` or `Annex B`.
 CLAUSE = re.compile(r"\b(?:(?:[1-9]|[A-D])(?:\.\d+)+|Annex [A-D]|[Cc]lause \d+(?:\.\d+)*)")
 RESERVED = {
-    *"abbrev as case data do else in infixl let module mod of pub record then unfoldable use where if".split(),
+    *"abbrev as axiom case data do else in infixl let module mod of pub record then unfoldable use where if".split(),
     *"Type Unit tt ℕ ℤ λ _".split(),
 }
 # A file with more names than these has their number on the page; and so have all files of a crate with ten times as many.
@@ -65,6 +65,7 @@ class Item:
     heading: str
     text: str
     size: int
+    axiom: bool = False
     parts: dict = field(default_factory=dict)
     uses: set = field(default_factory=set)
     kit: set = field(default_factory=set)
@@ -230,8 +231,7 @@ def spec_module(crate, path):
         line = text.count("\n", 0, m.start())
         heading = next((title for at, title in reversed(headings) if at < line), "")
         item = Item(module.name, m[4], "definition", line + 1, above(lines, line, "--"), heading, body, size_of(body))
-        if m[3]:
-            trouble(f"{item.path} of {crate}: {item.name} is an axiom")
+        item.axiom = bool(m[3])
         item.text = " ".join(parameters for begin, finish, parameters in blocks if begin < m.start() < finish) + body
         if m[2] == "data":
             lists = re.finditer(rf"^{m[1]}  ({WORD}(?: {WORD})*) :", body, re.M)
@@ -649,7 +649,7 @@ The proofs say that the code does what the definitions say. That the definitions
 READING = """
 The promises are those of [PROMISE.md](PROMISE.md) and, of the other commands, of [PROVED.md](PROVED.md); `run` as a whole is `Performs`, `ExitsWith`, all clauses of `run`, and what it asks of sources and sinks. How the numbers come about:
 
-- A definition of `specs/` rests on what its text names: what stands in its file, and what the `use` lines of that file bring. That leads from the definitions that say a promise to all that it rests on. A record counts once with its fields, and what is given by cases once with its cases. Names that a definition binds for itself further in aren't told from those of its file, so something may be counted too much; nothing is left out. No definition is an axiom: each has its text.
+- A definition of `specs/` rests on what its text names: what stands in its file, and what the `use` lines of that file bring. That leads from the definitions that say a promise to all that it rests on. A record counts once with its fields, and what is given by cases once with its cases. Names that a definition binds for itself further in aren't told from those of its file, so something may be counted too much; nothing is left out. {axioms}
 - Lines are those with something, comments aside. A clause is cited where the comment right above a definition names one of H.266 (`7.4.3.4`, `C.6`); what is the project's own has none to cite.
 - Tables are constants of `src/tables.rt`, written by the macros of `vx_table` (`src/macros.rt`) in the look of H.266's syntax tables. Fields are the constants of `vx_fields` ([FIELDS.md](FIELDS.md)). Constants are all others: the numbers of rules ([REFUSALS.md](REFUSALS.md)), names for what tables compute, lists of fields. Types are structs and enums of `src/` that definitions speak of.
 - Words of the kit (`length`, `map`, `Appends`) aren't counted; they stand at the end.
@@ -880,8 +880,10 @@ def page(house):
     for item in strangers:
         trouble(f"{item.path} of {item.crate}: a promise rests on {item.name}, which stands in inner/")
     body = "".join(crate_text(house, crate, all_found, letters) for crate in order)
+    axioms = [f"`{item.name}` ({item.crate})" for item in of_kind(all_found, "definition") if item.axiom]
+    reading = READING.replace("{axioms}", f"Axioms, without a text: {', '.join(axioms)}." if axioms else "No definition is an axiom: each has its text.")
     ends = twice_text(house, all_found) + dead_text(house, all_found, public, inner) + kit_text(all_found)
-    return HEAD + promise_table(whole, found) + READING + body + ends
+    return HEAD + promise_table(whole, found) + reading + body + ends
 
 
 def tell_of(house, name):
