@@ -47,7 +47,7 @@ pps_form = do
 
 -- What a reader of its fields answers that appends their items to these. Nothing is said of them where memory runs out.
 abbrev pub ReadsFields : List ℕ → List Item → Result (Unit {0}) ReadError → List Item → Type 0
-ReadsFields rbsp items (Ok done) after = (new : Place) × Reads pps_form (at_front rbsp) items (Ok done) new after
+ReadsFields rbsp items (Ok u) after = (new : Place) × Reads pps_form (at_front rbsp) items (Ok u) new after
 ReadsFields rbsp items (Err errors.Memory) after = Unit {0}
 ReadsFields rbsp items (Err (errors.Refused r)) after =
     (new : Place) × Reads {B = Unit {0}} pps_form (at_front rbsp) items (Err (errors.Refused r)) new after
