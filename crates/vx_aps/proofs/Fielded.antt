@@ -1,13 +1,11 @@
 -- The fields of bytes that are taken apart into type, id and body.
-use Rattle.std.proofs.Common.{◌≡◌, ℕ, ◌-◌, ◌/◌, ◌%◌, ◌≤◌, ◌<◌, Bool, true, false, List, [], ◌∷◌, length, slice_index, cond, ◌==◌, nat_lt, nat_le, Option, Some, None, Result, Ok, Err, sym, ap, ◌∙◌, arith, refl}
-use Rattle.std.proofs.lemmas.Bool.{leb-true, le-leb, ltb-true, lt-ltb, eq-eqb, ne_eqb, eqb-false, false_from_ne_true, false≢true}
-use Rattle.vx_bits.specs.declared.list.Item.{Item}
+use Rattle.std.proofs.Common.{◌≡◌, ℕ, ◌-◌, ◌/◌, ◌%◌, ◌≤◌, ◌<◌, Bool, true, false, List, [], ◌∷◌, length, slice_index, cond, ◌==◌, nat_lt, nat_le, Some, None, Ok, Err, sym, ap, ◌∙◌, arith, refl}
+use Rattle.std.proofs.lemmas.Bool.{leb-true, le-leb, ltb-true, lt-ltb, eq-eqb, ne_eqb, false_from_ne_true, false≢true}
 use Rattle.vx_bits.specs.declared.refusal.Refusal.{Refusal}
 use Rattle.vx_bits.specs.Codes.{EndsInNoZero}
-use Rattle.vx_aps.specs.declared.aps.Aps.{Aps}
 use Rattle.vx_aps.specs.declared.aps.TheConstants.{SCALING}
 use Rattle.vx_aps.specs.declared.fields.ApsFields.{ApsFields}
-use Rattle.vx_aps.specs.Aps.{ids, IsRefused, IsAnswer, no_type, no_such_id, no_body, bad_end}
+use Rattle.vx_aps.specs.Aps.{ids, IsRefused, no_type, no_such_id, no_body, bad_end}
 use Rattle.vx_aps.specs.Fields.{with_type, with_id, fields_in, AreFields}
 use Rattle.vx_aps.specs.inner.Bodies.{body_seen}
 use Rattle.vx_aps.proofs.Bytes.{is_spelled, ids_within, tells, no_bytes}

@@ -68,12 +68,18 @@ pub fn read_aps_fields(alloc: Global, rbsp: &[u8]) -> Result<ApsFields, AllocErr
     let id = first % 32;
     if kind > SCALING {
         let items = items_of(alloc, kind, Some(id))?;
-        return Ok(ApsFields { items, body: Some(behind.len()) });
+        return Ok(ApsFields {
+            items,
+            body: Some(behind.len()),
+        });
     }
     if id >= ids(kind) {
         let items = items_of(alloc, kind, None)?;
         return Ok(ApsFields { items, body: None });
     }
     let items = items_of(alloc, kind, Some(id))?;
-    Ok(ApsFields { items, body: body_len(behind) })
+    Ok(ApsFields {
+        items,
+        body: body_len(behind),
+    })
 }

@@ -143,7 +143,7 @@ pub data SeesRefused {V : Type 0} (sees : List Reading → List ℕ → V) (noth
   at_bytes : reader.IsRefusedBy g places f r → seen ≡ nothing → SeesRefused sees nothing R f g places before r seen
   at_unit : (refused : UnitIsRefused R f g places before r) → seen ≡ sees before (unit_bytes (seen_of g) refused.unit)
       → SeesRefused sees nothing R f g places before r seen
-  at_end : EndIsRefused f g places before r → seen ≡ nothing → SeesRefused sees nothing R f g places before r seen
+  sees_at_end : EndIsRefused f g places before r → seen ≡ nothing → SeesRefused sees nothing R f g places before r seen
 
 -- The next unit in what was read, as `Gives` has it, and what was seen: that unit behind those before it, or nothing.
 abbrev pub GivesSeen : {V : Type 0} → (List Reading → List ℕ → V) → V → Readers → List ℕ → List UnitPlace → List Reading → Feeding

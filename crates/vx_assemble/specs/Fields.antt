@@ -1,6 +1,6 @@
 -- The fields that a unit spells behind those before it, in the order of the bits: all, or those before the first that is refused.
 -- The structure is read wherever it stands: the rules on the order of units don't take its fields away.
-use Rattle.std.specs.Prelude.{◌≡◌, ℕ, ◌==◌, ◌||◌, not, pos, Bool, true, false, cond, List, [], ◌∷◌, Option, Some, None, Result, Ok, Err}
+use Rattle.std.specs.Prelude.{ℕ, ◌==◌, not, pos, Bool, true, false, cond, List, [], ◌∷◌, Option, Some, None, Result, Ok, Err}
 use Rattle.vx_bits.specs.declared.list.Item.{Item}
 use Rattle.vx_bits.specs.declared.refusal.Refusal.{Refusal}
 use Rattle.vx_bits.specs.Place.{Place}
@@ -10,6 +10,10 @@ use Rattle.vx_table.specs.Reading.{ReadsValue, as_read}
 use Rattle.vx_table.specs.Spelling.{items_along}
 use Rattle.vx_annexb.specs.NalUnit.{nal_unit_type, nuh_layer_id}
 use Rattle.vx_aps.specs.Fields as aps
+use Rattle.vx_ptl.specs.Structures.{vps}
+use Rattle.vx_sps.specs.Structure.{sps_form}
+use Rattle.vx_pps.specs.Pps.{pps_form}
+use Rattle.vx_ph.specs.InForce as in_sets
 use Rattle.vx_sh.specs.Whole.{slice_form}
 use Rattle.vx_sh.specs.Value.{values_of}
 use Rattle.vx_pic.specs.declared.structure.Structure.{Structure}
@@ -22,29 +26,29 @@ use Rattle.vx_pic.specs.Sets.{SliceHeader, referred_sps}
 use Rattle.vx_pic.specs.UnderSets.{slice_at}
 use Rattle.vx_pic.specs.Readings.{Begun, Reading, stored_sps, stored_pps, is_whole, Current, nothing, headed, going, current}
 use Rattle.vx_pic.specs.Rules.{Readers, begins}
-use Rattle.vx_pic.specs.H266.{AnswersAt, IsReferredPps, IsSliceAnswer, AreOfH266}
+use Rattle.vx_pic.specs.H266.{AnswersAt, header_place, form_in, IsReferredPps, IsSliceAnswer, AreOfH266}
 
 -- ---- the items of an answer: those of the value, or those before the refusal
 
-abbrev pub items_read : {A : Type 0} {form : Form A} {rbsp : List ℕ} → (answer : Result (List Item) Refusal)
-    → ReadsValue form rbsp (as_read answer) → List Item
-items_read (Ok items) reads = items
-items_read (Err r) reads = reads.1
+abbrev pub items_read : {A : Type 0} (form : Form A) (rbsp : List ℕ) (answer : Result (List Item) Refusal) → ReadsValue form rbsp (as_read answer)
+    → List Item
+items_read form rbsp (Ok items) reads = items
+items_read form rbsp (Err r) reads = reads.1
 
-abbrev pub items_at : {A : Type 0} {form : Form A} {place : Place} → (answer : Result (List Item) Refusal) → AnswersAt form place answer → List Item
-items_at (Ok items) answers = items
-items_at (Err r) answers = answers.1
+abbrev pub items_at : {A : Type 0} (form : Form A) (place : Place) (answer : Result (List Item) Refusal) → AnswersAt form place answer → List Item
+items_at form place (Ok items) answers = items
+items_at form place (Err r) answers = answers.1
 
 -- up to ph_pic_parameter_set_id
-abbrev pub items_to_id : {inside : Bool} {rbsp : List ℕ} → (answer : Result ℕ Refusal) → IsReferredPps inside rbsp answer → List Item
-items_to_id (Ok id) refers = refers.0
-items_to_id (Err r) refers = refers.1
+abbrev pub items_to_id : (inside : Bool) (rbsp : List ℕ) (answer : Result ℕ Refusal) → IsReferredPps inside rbsp answer → List Item
+items_to_id inside rbsp (Ok id) refers = refers.0
+items_to_id inside rbsp (Err r) refers = refers.1
 
 -- of a slice header, with those of the picture header inside
-abbrev pub items_of_slice : {nal_type : ℕ} {b : Begun} {u : List ℕ} → (answer : Result SliceHeader Refusal) → IsSliceAnswer nal_type b u answer
+abbrev pub items_of_slice : (nal_type : ℕ) (b : Begun) (u : List ℕ) (answer : Result SliceHeader Refusal) → IsSliceAnswer nal_type b u answer
     → List Item
-items_of_slice {nal_type} {b} (Ok header) slice = items_along (slice_form (slice_at nal_type b)) (values_of slice.begins.fields)
-items_of_slice (Err r) refused = (refused.1.reads []).0
+items_of_slice nal_type b u (Ok header) slice = items_along (slice_form (slice_at nal_type b)) (values_of slice.begins.fields)
+items_of_slice nal_type b u (Err r) refused = (refused.1.reads []).0
 
 -- sh_picture_header_in_slice_header_flag, where the picture header stands inside
 abbrev pub inside_item : Item
@@ -53,37 +57,55 @@ inside_item = record { field = sh_picture_header_in_slice_header_flag; value = p
 -- ---- of a unit
 
 module _ (R : Readers) (h : AreOfH266 R) where
+  abbrev pub vps_items : List ℕ → List Item
+  vps_items rbsp = items_read vps rbsp (R.vps rbsp) (h.vps rbsp)
+
+  abbrev pub sps_items : List ℕ → List Item
+  sps_items rbsp = items_read sps_form rbsp (R.sps rbsp) (h.sps rbsp)
+
+  abbrev pub pps_items : List ℕ → List Item
+  pps_items rbsp = items_read pps_form rbsp (R.pps rbsp) (h.pps rbsp)
+
+  abbrev pub aps_fields : List ℕ → StructureFields
+  aps_fields rbsp =
+      let fields = aps.fields_in rbsp (R.aps rbsp) (h.aps rbsp) in
+      record { structure = Some structures.Aps; items = fields.items; body = fields.body }
+
   -- of a picture header under two sets
   abbrev pub header_items : Bool → List ℕ → List Item → List Item → List Item
-  header_items inside rbsp sps pps = items_at (R.header inside sps pps rbsp) (h.header inside sps pps rbsp)
+  header_items inside rbsp sps pps =
+      items_at (form_in inside (in_sets.structures sps) (in_sets.in_force sps pps)) (header_place inside rbsp) (R.header inside sps pps rbsp)
+      (h.header inside sps pps rbsp)
 
-  -- under those that it refers to; where one isn't stored, up to the id
-  abbrev pub under_sps : Bool → List ℕ → List Item → Option (List Item) → List Item → List Item
-  under_sps inside rbsp pps None to_id = to_id
-  under_sps inside rbsp pps (Some sps) to_id = header_items inside rbsp sps pps
+  abbrev pub id_items : Bool → List ℕ → List Item
+  id_items inside rbsp = items_to_id inside rbsp (R.referred_pps inside rbsp) (h.referred_pps inside rbsp)
 
-  abbrev pub under_pps : Bool → List ℕ → List Reading → Option (List Item) → List Item → List Item
-  under_pps inside rbsp before None to_id = to_id
-  under_pps inside rbsp before (Some pps) to_id = under_sps inside rbsp pps (stored_sps (referred_sps pps) before) to_id
+  -- of one under those that it refers to; where one of them isn't stored, these items up to the id
+  abbrev pub under_sps : Bool → List ℕ → List Item → List Item → Option (List Item) → List Item
+  under_sps inside rbsp to_id pps None = to_id
+  under_sps inside rbsp to_id pps (Some sps) = header_items inside rbsp sps pps
 
-  abbrev pub under_id : Bool → List ℕ → List Reading → Result ℕ Refusal → List Item → List Item
-  under_id inside rbsp before (Ok id) to_id = under_pps inside rbsp before (stored_pps id before) to_id
-  under_id inside rbsp before (Err r) to_id = to_id
+  abbrev pub under_pps : Bool → List ℕ → List Item → List Reading → Option (List Item) → List Item
+  under_pps inside rbsp to_id before None = to_id
+  under_pps inside rbsp to_id before (Some pps) = under_sps inside rbsp to_id pps (stored_sps (referred_sps pps) before)
+
+  abbrev pub under_id : Bool → List ℕ → List Item → List Reading → Result ℕ Refusal → List Item
+  under_id inside rbsp to_id before (Ok id) = under_pps inside rbsp to_id before (stored_pps id before)
+  under_id inside rbsp to_id before (Err r) = to_id
 
   abbrev pub picture_header_items : Bool → List ℕ → List Reading → List Item
-  picture_header_items inside rbsp before =
-      under_id inside rbsp before (R.referred_pps inside rbsp) (items_to_id (R.referred_pps inside rbsp) (h.referred_pps inside rbsp))
+  picture_header_items inside rbsp before = under_id inside rbsp (id_items inside rbsp) before (R.referred_pps inside rbsp)
 
   -- of a slice, by the type of the first slice of the picture
   abbrev pub slice_items : ℕ → Begun → List ℕ → List Item
-  slice_items nal_type b u = items_of_slice (R.slice nal_type b u) (h.slice nal_type b u)
+  slice_items nal_type b u = items_of_slice nal_type b u (R.slice nal_type b u) (h.slice nal_type b u)
 
   -- of one with the picture header inside: under that, or no further than that goes
   abbrev pub alone_items : List Reading → List ℕ → Result Begun Refusal → List Item
   alone_items before u (Ok b) = slice_items (nal_unit_type u) b u
   alone_items before u (Err r) = inside_item ∷ picture_header_items true (rbsp_of u) before
 
-  -- of one whose picture header came before it: none without such a picture
+  -- of one whose picture header came before it; none without such a picture
   abbrev pub following_fields : Current → List ℕ → StructureFields
   following_fields nothing u = no_fields
   following_fields (headed b) u = fields_of structures.SliceHeader (slice_items (nal_unit_type u) b u)
@@ -94,16 +116,11 @@ module _ (R : Readers) (h : AreOfH266 R) where
       cond (has_header_inside u) (fields_of structures.SliceHeader (alone_items before u (begins R before u None)))
       (following_fields (current before) u)
 
-  abbrev pub aps_fields : List ℕ → StructureFields
-  aps_fields rbsp =
-      let fields = aps.fields_in (R.aps rbsp) (h.aps rbsp) in
-      record { structure = Some structures.Aps; items = fields.items; body = fields.body }
-
   -- by its type
   abbrev pub fields_as : Class → List Reading → List ℕ → StructureFields
-  fields_as vps_unit before u = fields_of structures.Vps (items_read (R.vps (rbsp_of u)) (h.vps (rbsp_of u)))
-  fields_as sps_unit before u = fields_of structures.Sps (items_read (R.sps (rbsp_of u)) (h.sps (rbsp_of u)))
-  fields_as pps_unit before u = fields_of structures.Pps (items_read (R.pps (rbsp_of u)) (h.pps (rbsp_of u)))
+  fields_as vps_unit before u = fields_of structures.Vps (vps_items (rbsp_of u))
+  fields_as sps_unit before u = fields_of structures.Sps (sps_items (rbsp_of u))
+  fields_as pps_unit before u = fields_of structures.Pps (pps_items (rbsp_of u))
   fields_as prefix_aps before u = aps_fields (rbsp_of u)
   fields_as suffix_aps before u = aps_fields (rbsp_of u)
   fields_as header_unit before u = fields_of structures.PictureHeader (picture_header_items false (rbsp_of u) before)
@@ -112,7 +129,7 @@ module _ (R : Readers) (h : AreOfH266 R) where
   fields_as end_unit before u = no_fields
   fields_as sei_unit before u = no_fields
 
-  -- of a unit of the base layer that isn't ignored
+  -- of a unit of the base layer, unless its reserved bit is 1
   abbrev pub unit_fields : List Reading → List ℕ → StructureFields
   unit_fields before u =
-      cond (is_reserved u || not (nuh_layer_id u == 0)) no_fields (fields_as (class_of (nal_unit_type u)) before u)
+      cond (is_reserved u) no_fields (cond (not (nuh_layer_id u == 0)) no_fields (fields_as (class_of (nal_unit_type u)) before u))

@@ -9,12 +9,13 @@ ghost use Rattle.vx_pic.specs.Readings.{Reading};
 ghost use Rattle.vx_pic.specs.Rules.{Readers};
 ghost use Rattle.vx_pic.specs.H266.{AreOfH266};
 ghost use Rattle.vx_assemble.specs.Held.{Stands, IsBounded};
-ghost use Rattle.vx_assemble.specs.Feed.{HasFed, Gives, IsToldBy, Lowers, Counts, first_of};
+ghost use Rattle.vx_assemble.specs.Feed.{HasFed, Gives, GivesSeen, IsToldBy, Lowers, Counts, first_of};
 ghost use Rattle.vx_assemble.specs.inner.Feed.{Accepts, fault_of, read_fault, feeding, step_by};
-ghost use Rattle.vx_assemble.specs.declared.feed.FeedFault.TheVariants.{Refused as IsRefused};
+ghost use Rattle.vx_assemble.specs.declared.feed.FeedFault.TheVariants.{Refused as IsRefused, Memory as OutOfMemory};
 
 use crate::assembler::Assembler;
 use crate::fault::{AssembleFault, First};
+use crate::view::UnitView;
 use std::alloc::{AllocError, Global};
 use std::marker::Model;
 use thiserror::Error;
@@ -114,6 +115,14 @@ impl From<Refusal> for FeedFault {
     }
 }
 
+impl From<AllocError> for FeedFault {
+    ghost from_gives = { λ fault e. e ≡ OutOfMemory };
+
+    fn from(_fault: AllocError) -> FeedFault {
+        FeedFault::Memory
+    }
+}
+
 impl From<ReadFault> for FeedFault {
     ghost from_gives = { λ fault e. e ≡ read_fault fault };
 
@@ -156,11 +165,12 @@ fn accept(assembler: &mut Assembler, unit: &[u8], offset: u64) -> Result<Taken, 
     })
 }
 
-/// Takes the next unit that is seen in what was read, or finds the end.
-fn take_seen(
+/// Takes the next unit that is seen in what was read, which a view looks at before, or finds the end.
+fn take_seen<V: UnitView>(
     reader: &mut UnitReader,
     assembler: &mut Assembler,
     units: &mut u64,
+    view: &mut V,
 ) -> Result<Option<Taken>, FeedFault>
     requires going { reader.old.closed ≡ Some Failed → ⊥ }
     requires count { units.old + ahead reader.old.splitter < 2 ^ 64 }
@@ -168,6 +178,9 @@ fn take_seen(
     ensures answer { (R : Readers) → AreOfH266 R → (g : List ℕ) (places : List UnitPlace) (before : List Reading)
         → HasFed R (feeding reader.old assembler.old units.old) g places before
         → Gives R g places before (feeding reader.new assembler.new units.new) result }
+    ensures seen { (R : Readers) (h : AreOfH266 R) (g : List ℕ) (places : List UnitPlace) (before : List Reading)
+        → HasFed R (feeding reader.old assembler.old units.old) g places before
+        → GivesSeen (V.sees R h) V.nothing R g places before (feeding reader.new assembler.new units.new) result view.new }
     ensures count { OnOk result (units.new + ahead reader.new.splitter ≤ units.old + ahead reader.old.splitter) }
     ensures fed { fed reader.new.splitter ≡ fed reader.old.splitter }
     ensures open { result ≡ Ok None → MayRead reader.new }
@@ -186,8 +199,11 @@ fn take_seen(
     ensures ended { result ≡ Ok (Some End) → MayRead reader.new → ⊥ }
     ensures told { IfOk result (IsToldBy assembler.new) }
 {
+    view.look_away(assembler);
     if let Some(span) = reader.next()? {
-        let taken = accept(assembler, reader.bytes(span), span.offset)?;
+        let unit = reader.bytes(span);
+        view.look(assembler, unit)?;
+        let taken = accept(assembler, unit, span.offset)?;
         *units += 1;
         return Ok(Some(taken));
     }
@@ -224,7 +240,7 @@ impl Feed {
     ghost use Rattle.vx_assemble.specs.declared.feed.Step.TheVariants as steps;
     ghost use Rattle.vx_pic.specs.Rules.{Readers};
     ghost use Rattle.vx_pic.specs.H266.{AreOfH266};
-    ghost use Rattle.vx_assemble.specs.Feed.{HasFed, IsOpen, EndsAtEnd, Gives, ReadsOn, IsToldBy, Lowers, Counts, left_to_take, bytes_held, Takes, Advances, CompletesNone, first_of as first_by};
+    ghost use Rattle.vx_assemble.specs.Feed.{HasFed, IsOpen, EndsAtEnd, Gives, GivesSeen, ReadsOn, IsToldBy, Lowers, Counts, left_to_take, bytes_held, Takes, Advances, CompletesNone, first_of as first_by};
     ghost use Rattle.vx_assemble.specs.inner.Feed.{read_fault};
     ghost use Rattle.vx_assemble.specs.declared.fault.First.{First as FirstFault};
     ghost use Rattle.vx_assemble.specs.declared.feed.FeedFault.TheVariants.{Stopped};
@@ -276,30 +292,56 @@ impl Feed {
         ensures ended { result ≡ Ok (Some End) → ¬ IsOpen self.new }
         ensures told { IfOk result (IsToldBy self.new.assembler) }
     {
+        self.next_with(&mut ())
+    }
+
+    /// As [`Feed::next`], and a view looks at the unit before it is taken, also where that is refused; where there is no unit, it sees
+    /// nothing.
+    ///
+    /// # Errors
+    ///
+    /// As [`Feed::next`].
+    pub fn next_with<V: UnitView>(&mut self, view: &mut V) -> Result<Option<Taken>, FeedFault>
+        ensures answer { (R : Readers) → AreOfH266 R → (g : List ℕ) (places : List UnitPlace) (before : List Reading)
+            → HasFed R self.old g places before → Gives R g places before self.new result }
+        ensures seen { (R : Readers) (h : AreOfH266 R) (g : List ℕ) (places : List UnitPlace) (before : List Reading)
+            → HasFed R self.old g places before → GivesSeen (V.sees R h) V.nothing R g places before self.new result view.new }
+        ensures going { OnOk result (self.new.first ≡ None) }
+        ensures first { IfErr result (λ e. self.new.first ≡ Some (first_by e)) }
+        ensures again { (f : FirstFault) → self.old.first ≡ Some f → (result ≡ Err (Stopped f)) × (self.new ≡ self.old) }
+        ensures open { result ≡ Ok None → IsOpen self.new }
+        ensures sought { result ≡ Ok None → IsSought self.new.reader.splitter }
+        ensures within { result ≡ Ok None → self.new.reader.taken ≤ 2 ^ 40 }
+        ensures taken { self.new.reader.taken ≡ self.old.reader.taken }
+        ensures closed { self.new.reader.closed ≡ self.old.reader.closed }
+        ensures lowers { IfOk result (λ given. Lowers given (left_to_take self.old) (left_to_take self.new)) }
+        ensures counts { IfOk result (λ given. IfSome given (λ taken. Counts taken self.old.units self.new.units)) }
+        ensures units { result ≡ Ok None → self.new.units ≡ self.old.units }
+        ensures kept { OnErr result (self.new.units ≡ self.old.units) }
+        ensures grows { self.old.units ≤ self.new.units }
+        ensures few { OnOk result (self.new.units ≤ 2 ^ 40) }
+        ensures held { reading.HoldsFew self.new.reader }
+        ensures bytes { bytes_held self.new ≤ 2 ^ 25 + 2 ^ 23 + 65538 }
+        ensures bounded { IsBounded self.new.assembler }
+        ensures all { is_all self.new.reader.splitter ≡ is_all self.old.reader.splitter }
+        ensures ended { result ≡ Ok (Some End) → ¬ IsOpen self.new }
+        ensures told { IfOk result (IsToldBy self.new.assembler) }
+    {
         if let Some(first) = self.first {
             return Err(FeedFault::Stopped(first));
         }
-        match take_seen(&mut self.reader, &mut self.assembler, &mut self.units) {
+        match take_seen(
+            &mut self.reader,
+            &mut self.assembler,
+            &mut self.units,
+            view,
+        ) {
             Ok(given) => Ok(given),
             Err(fault) => {
                 self.first = Some(first_of(fault));
                 Err(fault)
             }
         }
-    }
-
-    /// As [`Feed::next`], and shows the unit, behind those before it, to a view before it is taken: [`StructureFields`](vx_pic::StructureFields)
-    /// then has the fields that it spells, also where it is refused; where no unit is taken, nothing.
-    ///
-    /// # Errors
-    ///
-    /// As [`Feed::next`].
-    pub fn next_with<V: UnitView>(&mut self, view: &mut V) -> Result<Option<Taken>, FeedFault>
-        // all clauses of `next`, and:
-        ensures seen { (R : Readers) (h : AreOfH266 R) (g : List ℕ) (places : List UnitPlace) (before : List Reading)
-            → HasFed R self.old g places before → GivesSeen (V.sees R h) V.nothing R g places before self.new result view.new }
-    {
-        todo
     }
 
     /// Whether the source may be read on: it has not ended, has given no more bytes than the limit, and nothing has kept the

@@ -44,11 +44,7 @@ fn read_fields(
 }
 
 /// Reads all fields, those of the picture header inside too.
-fn read_all(
-    n: &Context<'_>,
-    bits: &mut BitReader<'_>,
-    into: &mut Fields,
-) -> Result<(), ReadError>
+fn read_all(n: &Context<'_>, bits: &mut BitReader<'_>, into: &mut Fields) -> Result<(), ReadError>
     ensures { Reads (slice_form (at_of n.now)) bits.old into.old result bits.new into.new }
 {
     let mut scope = *n.slice;

@@ -1,4 +1,4 @@
-use Rattle.std.proofs.Common.{◌-◌, length, sym, arith}
+use Rattle.std.proofs.Common.{sym, arith}
 use Rattle.vx_aps.proofs.Fielded.{bare_fields, type_fields, all_fields}
 use Rattle.vx_aps.proofs.fields.read_aps_fields.Goals as goal
 

@@ -1,3 +1,4 @@
+use Rattle.std.proofs.Common.{Err}
 use Rattle.std.proofs.lemmas.Result.{err_from_is_err_and}
 use Rattle.vx_table.proofs.Readings.{reads}
 use Rattle.vx_table.proofs.Steps.{then, stop}
