@@ -32,7 +32,7 @@ use Rattle.vx_pic.specs.Parts.{parts_of}
 use Rattle.vx_pic.specs.Written.{Plan}
 use Rattle.vx_extract.specs.Rules.{refusal_of}
 use Rattle.vx_pic.specs.H266.{AreOfH266}
-use Rattle.vx_run.specs.Show.{ShowsBy, WhereKnown, status_at}
+use Rattle.vx_run.specs.Show.{tells_nothing, ShowsBy, WhereKnown, status_at}
 
 module _ (R : Readers) (of : AreOfH266 R) where
   -- where it is done there is no ending
@@ -41,7 +41,7 @@ module _ (R : Readers) (of : AreOfH266 R) where
   exact-done words sources out file performs spelled b units ending told is = sym (ap status_at (((performs.command (show file) spelled).1 R of).4 b units ending told is).0)
 
   stopped : {A K E : Type 0} (source : Change A) (out : Change K) (err : Change E) (stop : Stop) (status : ℕ)
-      → ShowsBy R source out (Err stop) → Concludes stop status err → ¬ HasFault source → ¬ HasFault out → status ≢ 4 → WhereKnown R source (λ b units ending. status ≡ status_at ending)
+      → ShowsBy R tells_nothing source out (Err stop) → Concludes stop status err → ¬ HasFault source → ¬ HasFault out → status ≢ 4 → WhereKnown R source (λ b units ending. status ≡ status_at ending)
   stopped source out err (Refused refusal place) status shows ends read write fits b units ending told is =
       elim ends.ended [ inl p ↦ p.0 ∙ sym (ap status_at (shows.3 b units ending told is).0.is) | inr p ↦ absurd (fits p.1) ]
   stopped source out err (ReadFault k) status shows ends read write fits b units ending told is = absurd (read shows.0)

@@ -8,7 +8,7 @@ use Rattle.vx_pic.specs.Rules.{Readers, reads}
 use Rattle.vx_pic.specs.Streams.{Outcome, read_on, all_read, one_more, unless_refused}
 use Rattle.vx_pic.specs.Bytes.{units_at}
 use Rattle.vx_pic.proofs.Going.{goes_on}
-use Rattle.vx_run.specs.Show.{shown_line, set_lines, picture_lines, unit_lines, where_read, lines_behind}
+use Rattle.vx_run.specs.Show.{Teller, shown_line, set_lines, picture_lines, told_lines, where_read, lines_behind}
 
 -- ---- readings
 
@@ -79,33 +79,33 @@ few_pictures (r ∷ before) =
 
 -- ---- lines, as the units go on
 
-more_lines : (x : Result Reading Refusal) (before after : List Reading) (f : List Reading → Outcome) (line : Reading → List ℕ) (g h : List Reading → List ℕ) (rest : List ℕ) → one_more x before f ≡ all_read after
-    → ((b : List Reading) → f b ≡ all_read after → h b ≡ g b ++ rest) → where_read x (λ r. line r ++ h (r ∷ before)) ≡ where_read x (λ r. line r ++ g (r ∷ before)) ++ rest
-more_lines (Ok r) before after f line g h rest is more = ap (λ l. line r ++ l) (more (r ∷ before) is) ∙ sym (append_assoc (line r) (g (r ∷ before)) rest)
-more_lines (Err e) before after f line g h rest is more = let no : Some e ≡ None = ap (λ (o : Outcome). o.refusal) is in absurd (cc)
+more_lines : (x : Result Reading Refusal) (before after : List Reading) (f : List Reading → Outcome) (line : Reading → List ℕ) (g h : List Reading → List ℕ) (rest told : List ℕ) → one_more x before f ≡ all_read after
+    → ((b : List Reading) → f b ≡ all_read after → h b ≡ g b ++ rest) → where_read x (λ r. line r ++ h (r ∷ before)) told ≡ where_read x (λ r. line r ++ g (r ∷ before)) told ++ rest
+more_lines (Ok r) before after f line g h rest told is more = ap (λ l. line r ++ l) (more (r ∷ before) is) ∙ sym (append_assoc (line r) (g (r ∷ before)) rest)
+more_lines (Err e) before after f line g h rest told is more = let no : Some e ≡ None = ap (λ (o : Outcome). o.refusal) is in absurd (cc)
 
 -- the lines of units, and those of others behind them
-pub lines_more : (R : Readers) (b : List ℕ) (before after : List Reading) (us vs : List UnitPlace) → read_on R before (units_at b us) ≡ all_read after
-    → lines_behind R b before (us ++ vs) ≡ lines_behind R b before us ++ lines_behind R b after vs
-lines_more R b before after [] vs is = ap (λ (o : Outcome). lines_behind R b o.before vs) is
-lines_more R b before after (u ∷ us) vs is =
-    more_lines (reads R before (unit_bytes b u)) before after (λ a. read_on R a (units_at b us)) (λ r. unit_lines b u r before)
-    (λ a. lines_behind R b a us) (λ a. lines_behind R b a (us ++ vs)) (lines_behind R b after vs) is
-    (λ a same. lines_more R b a after us vs same)
+pub lines_more : (R : Readers) (T : Teller) (b : List ℕ) (before after : List Reading) (us vs : List UnitPlace) → read_on R before (units_at b us) ≡ all_read after
+    → lines_behind R T b before (us ++ vs) ≡ lines_behind R T b before us ++ lines_behind R T b after vs
+lines_more R T b before after [] vs is = ap (λ (o : Outcome). lines_behind R T b o.before vs) is
+lines_more R T b before after (u ∷ us) vs is =
+    more_lines (reads R before (unit_bytes b u)) before after (λ a. read_on R a (units_at b us)) (λ r. told_lines T b u r before)
+    (λ a. lines_behind R T b a us) (λ a. lines_behind R T b a (us ++ vs)) (lines_behind R T b after vs) (T before (unit_bytes b u)) is
+    (λ a same. lines_more R T b a after us vs same)
 
 -- of one unit
-pub lines_one : (R : Readers) (b : List ℕ) (before : List Reading) (u : UnitPlace) (r : Reading) → reads R before (unit_bytes b u) ≡ Ok r → lines_behind R b before (u ∷ []) ≡ unit_lines b u r before
-lines_one R b before u r is = ap (λ x. where_read x (λ r. unit_lines b u r before ++ [])) is ∙ append-nil (unit_lines b u r before)
+pub lines_one : (R : Readers) (T : Teller) (b : List ℕ) (before : List Reading) (u : UnitPlace) (r : Reading) → reads R before (unit_bytes b u) ≡ Ok r → lines_behind R T b before (u ∷ []) ≡ told_lines T b u r before
+lines_one R T b before u r is = ap (λ x. where_read x (λ r. told_lines T b u r before ++ []) (T before (unit_bytes b u))) is ∙ append-nil (told_lines T b u r before)
 
--- none behind a unit that is refused
-pub lines_none : (R : Readers) (b : List ℕ) (before : List Reading) (u : UnitPlace) (us : List UnitPlace) (e : Refusal) → reads R before (unit_bytes b u) ≡ Err e → lines_behind R b before (u ∷ us) ≡ []
-lines_none R b before u us e is = ap (λ x. where_read x (λ r. unit_lines b u r before ++ lines_behind R b (r ∷ before) us)) is
+-- what is told of a unit that is refused, and nothing behind it
+pub lines_refused : (R : Readers) (T : Teller) (b : List ℕ) (before : List Reading) (u : UnitPlace) (us : List UnitPlace) (e : Refusal) → reads R before (unit_bytes b u) ≡ Err e → lines_behind R T b before (u ∷ us) ≡ T before (unit_bytes b u)
+lines_refused R T b before u us e is = ap (λ x. where_read x (λ r. told_lines T b u r before ++ lines_behind R T b (r ∷ before) us) (T before (unit_bytes b u))) is
 
 -- ---- lines, as the bytes go on
 
-same_lines : (x : Result Reading Refusal) (f g : Reading → List ℕ) → ((r : Reading) → f r ≡ g r) → where_read x f ≡ where_read x g
-same_lines (Ok r) f g same = same r
-same_lines (Err e) f g same = refl
+same_lines : (x : Result Reading Refusal) (f g : Reading → List ℕ) (told : List ℕ) → ((r : Reading) → f r ≡ g r) → where_read x f told ≡ where_read x g told
+same_lines (Ok r) f g told same = same r
+same_lines (Err e) f g told same = refl
 
 -- bytes inside a front
 range_on : (b more : List ℕ) (s e : ℕ) → s ≤ e → e ≤ length b → slice_range (b ++ more) s e ≡ slice_range b s e
@@ -125,13 +125,14 @@ units_on b more all p [] f = refl
 units_on b more all p (u ∷ us) f = ap₂ (λ (x : List ℕ) (xs : List (List ℕ)). x ∷ xs) (same_bytes b more all p u f.0) (units_on b more all u.end us f.2)
 
 -- the lines of a unit of these bytes, and those of others
-abbrev line_by : Readers → List Reading → ℕ → (List Reading → List ℕ) → List ℕ → List ℕ
-line_by R before start rest unit = where_read (reads R before unit) (λ r. (shown_line unit start ++ (set_lines r ++ picture_lines r before)) ++ rest (r ∷ before))
+abbrev line_by : Readers → Teller → List Reading → ℕ → (List Reading → List ℕ) → List ℕ → List ℕ
+line_by R T before start rest unit =
+    where_read (reads R before unit) (λ r. ((shown_line unit start ++ (set_lines r ++ picture_lines r before)) ++ T before unit) ++ rest (r ∷ before)) (T before unit)
 
 -- and their lines
-pub lines_on : (R : Readers) (b more : List ℕ) (all : Bool) (p : ℕ) (before : List Reading) (us : List UnitPlace) → FollowsFrom b all p us → lines_behind R (b ++ more) before us ≡ lines_behind R b before us
-lines_on R b more all p before [] f = refl
-lines_on R b more all p before (u ∷ us) f =
-    ap (line_by R before u.start (λ a. lines_behind R (b ++ more) a us)) (same_bytes b more all p u f.0)
-    ∙ same_lines (reads R before (unit_bytes b u)) (λ r. unit_lines b u r before ++ lines_behind R (b ++ more) (r ∷ before) us) (λ r. unit_lines b u r before ++ lines_behind R b (r ∷ before) us)
-    (λ r. ap (λ l. unit_lines b u r before ++ l) (lines_on R b more all u.end (r ∷ before) us f.2))
+pub lines_on : (R : Readers) (T : Teller) (b more : List ℕ) (all : Bool) (p : ℕ) (before : List Reading) (us : List UnitPlace) → FollowsFrom b all p us → lines_behind R T (b ++ more) before us ≡ lines_behind R T b before us
+lines_on R T b more all p before [] f = refl
+lines_on R T b more all p before (u ∷ us) f =
+    ap (line_by R T before u.start (λ a. lines_behind R T (b ++ more) a us)) (same_bytes b more all p u f.0)
+    ∙ same_lines (reads R before (unit_bytes b u)) (λ r. told_lines T b u r before ++ lines_behind R T (b ++ more) (r ∷ before) us) (λ r. told_lines T b u r before ++ lines_behind R T b (r ∷ before) us) (T before (unit_bytes b u))
+    (λ r. ap (λ l. told_lines T b u r before ++ l) (lines_on R T b more all u.end (r ∷ before) us f.2))

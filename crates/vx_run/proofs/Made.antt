@@ -25,7 +25,7 @@ use Rattle.vx_report.specs.PictureLine.{picture_text, picture_numbers}
 use Rattle.vx_assemble.specs.declared.feed.Taken.TheVariants.{Nal}
 use Rattle.vx_assemble.specs.Held.{items_of, ShowsLatest}
 use Rattle.vx_assemble.specs.Feed.{Feeding, HasFed, IsTold, Gives}
-use Rattle.vx_run.specs.Show.{seen_of, shown_line, set_lines, picture_lines, unit_lines, numbers_of}
+use Rattle.vx_run.specs.Show.{Teller, seen_of, shown_line, set_lines, picture_lines, unit_lines, told_lines, numbers_of}
 use Rattle.vx_run.specs.inner.Showing.{GathersOne}
 use Rattle.vx_run.proofs.Lined.{all_length, few_pictures}
 
@@ -249,11 +249,11 @@ count_by (accepted.Pps id) ps done n k units is count few one other = other (λ 
 count_by (accepted.Aps kind id) ps done n k units is count few one other = other (λ no. absurd (cc)) ∙ count ∙ ap (λ (l : List Picture). length (l ++ done)) (sym is)
 
 -- the lines of a unit that was taken were put behind others
-pub gathers_one : (R : Readers) (g : List ℕ) (units : List UnitPlace) (before : List Reading) (f : Feeding) (old new made : List ℕ) (n k : ℕ) (header : NalHeader) (offset bytes : ℕ) (what : Accepted)
+pub gathers_one : (R : Readers) (T : Teller) (g : List ℕ) (units : List UnitPlace) (before : List Reading) (f : Feeding) (old new made : List ℕ) (n k : ℕ) (header : NalHeader) (offset bytes : ℕ) (what : Accepted)
     → Gives R g units before f (Ok (Some (Nal header offset bytes what))) → k ≡ length (pictures before) → new ≡ old ++ made
-    → ((u : UnitPlace) (r : Reading) → HasFed R f g (units ++ u ∷ []) (r ∷ before) → IsTold g u r before header offset bytes what → made ≡ unit_lines (seen_of g) u r before)
-    → (what ≡ accepted.PictureDone → k < f.units → n ≡ k + 1) → ((what ≡ accepted.PictureDone → ⊥) → n ≡ k) → GathersOne R g units before f old new n
-gathers_one R g units before f old new made n k header offset bytes what gives count lines is one other =
+    → ((u : UnitPlace) (r : Reading) → HasFed R f g (units ++ u ∷ []) (r ∷ before) → IsTold g u r before header offset bytes what → made ≡ told_lines T (seen_of g) u r before)
+    → (what ≡ accepted.PictureDone → k < f.units → n ≡ k + 1) → ((what ≡ accepted.PictureDone → ⊥) → n ≡ k) → GathersOne R T g units before f old new n
+gathers_one R T g units before f old new made n k header offset bytes what gives count lines is one other =
     let u = gives.0 in
     let r = gives.1 in
     let fed = gives.2 in

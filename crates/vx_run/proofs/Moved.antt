@@ -7,7 +7,7 @@ use Rattle.vx_run.specs.declared.stop.Stop.TheVariants.{NotUnderstood, Mismatche
 use Rattle.vx_run.specs.Change.{Change, change, sources_change, source_at}
 use Rattle.vx_run.specs.Conclusion.{Outcome}
 use Rattle.vx_pic.specs.Rules.{Readers}
-use Rattle.vx_run.specs.Show.{Shows, ShowsBy}
+use Rattle.vx_run.specs.Show.{Teller, tells_nothing, Shows, ShowsBy}
 use Rattle.vx_run.specs.declared.extract.Task.{Task}
 use Rattle.vx_run.specs.Extract.{StopsBehind, Refuses, by_stream, by_picture, without, Extracts, ExtractsBy, Checks, ChecksBy}
 use Rattle.vx_bits.specs.declared.refusal.Refusal.{Refusal}
@@ -16,14 +16,14 @@ use Rattle.vx_pic.specs.Bytes.{Ending}
 use Rattle.vx_report.specs.declared.refusal.Where.{Where}
 
 -- the source at k of a list was shown
-shows-moved : {S K : Type 0} (R : Readers) (bytes : S → Option (List ℕ)) (faults : S → ℕ) (k : ℕ) (s s' : S) (l l' : List S) (out : Change K) (outcome : Outcome) → slice_get l k ≡ Some s → slice_get l' k ≡ Some s'
-    → ShowsBy R (change bytes faults s s') out outcome → ShowsBy R (source_at (sources_change bytes faults l l') k) out outcome
-shows-moved R bytes faults k s s' l l' out (Ok _) old new shows = rw (old, new) shows
-shows-moved R bytes faults k s s' l l' out (Err (Refused refusal place)) old new shows = rw (old, new) shows
-shows-moved R bytes faults k s s' l l' out (Err (ReadFault j)) old new shows =
+shows-moved : {S K : Type 0} (R : Readers) (T : Teller) (bytes : S → Option (List ℕ)) (faults : S → ℕ) (k : ℕ) (s s' : S) (l l' : List S) (out : Change K) (outcome : Outcome) → slice_get l k ≡ Some s → slice_get l' k ≡ Some s'
+    → ShowsBy R T (change bytes faults s s') out outcome → ShowsBy R T (source_at (sources_change bytes faults l l') k) out outcome
+shows-moved R T bytes faults k s s' l l' out (Ok _) old new shows = rw (old, new) shows
+shows-moved R T bytes faults k s s' l l' out (Err (Refused refusal place)) old new shows = rw (old, new) shows
+shows-moved R T bytes faults k s s' l l' out (Err (ReadFault j)) old new shows =
     let seen = shows.2 in
     (rw (old, new) shows.0, shows.1, record { given = seen.given; units = seen.units; before = seen.before; gave = rw (old, new) seen.gave; seen = seen.seen; read = seen.read; lines = seen.lines })
-shows-moved R bytes faults k s s' l l' out (Err WriteFault) old new shows =
+shows-moved R T bytes faults k s s' l l' out (Err WriteFault) old new shows =
     let front = shows.2 in (
       rw (old, new) shows.0,
       shows.1,
@@ -40,15 +40,15 @@ shows-moved R bytes faults k s s' l l' out (Err WriteFault) old new shows =
       },
       λ b units ending told is. shows.3 b units ending (rw old at told) is,
     )
-shows-moved R bytes faults k s s' l l' out (Err NoMemory) old new shows = rw (old, new) shows
-shows-moved R bytes faults k s s' l l' out (Err NotUnderstood) old new shows = shows
-shows-moved R bytes faults k s s' l l' out (Err (Mismatched x y)) old new shows = shows
+shows-moved R T bytes faults k s s' l l' out (Err NoMemory) old new shows = rw (old, new) shows
+shows-moved R T bytes faults k s s' l l' out (Err NotUnderstood) old new shows = shows
+shows-moved R T bytes faults k s s' l l' out (Err (Mismatched x y)) old new shows = shows
 
 pub Shows-at : {S K : Type 0} (bytes : S → Option (List ℕ)) (faults : S → ℕ) (k : ℕ) (s s' : S) (l : List S) (out : Change K) (outcome : Outcome) → k < length l → s ≡ get_or l k s
     → Shows (change bytes faults s s') out outcome → Shows (source_at (sources_change bytes faults l (slice_set l k s')) k) out outcome
 Shows-at bytes faults k s s' l out outcome within is shows =
     let there : k < length (slice_set l k s') = rw (length-set l k s') within in
-    (shows.0, λ R of. shows-moved R bytes faults k s s' l (slice_set l k s') out outcome (slice_get_read l (length l) k s refl within is) (slice_get_read (slice_set l k s') (length (slice_set l k s')) k s' refl there (sym (get_or-set_same l k s' s' within))) (shows.1 R of))
+    (shows.0, λ R of. shows-moved R tells_nothing bytes faults k s s' l (slice_set l k s') out outcome (slice_get_read l (length l) k s refl within is) (slice_get_read (slice_set l k s') (length (slice_set l k s')) k s' refl there (sym (get_or-set_same l k s' s' within))) (shows.1 R of))
 
 -- reading of the source at k of a list stopped behind a picture, and what follows is refused
 stops-moved : {S : Type 0} (R : Readers) (bytes : S → Option (List ℕ)) (faults : S → ℕ) (k : ℕ) (s s' : S) (l l' : List S) (p : Picture) (before : List Picture) → slice_get l k ≡ Some s → slice_get l' k ≡ Some s'

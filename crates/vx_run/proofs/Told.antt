@@ -15,8 +15,8 @@ use Rattle.vx_pic.specs.Readings.{Reading}
 use Rattle.vx_pic.specs.Rules.{Readers, reads}
 use Rattle.vx_pic.specs.Streams.{read_on, all_read, stopped, one_more, lacks_slice}
 use Rattle.vx_pic.specs.Bytes.{Ending, units_at, ending_by}
-use Rattle.vx_run.specs.Show.{read_len, shown_by, seen_of, is_within, shown_lines, lines_behind, IsShown}
-use Rattle.vx_run.proofs.Lined.{read_behind, all_length, units_more, lines_more, lines_none, unit_within, units_on, lines_on}
+use Rattle.vx_run.specs.Show.{Teller, read_len, shown_by, seen_of, is_within, shown_lines, lines_behind, IsShown}
+use Rattle.vx_run.proofs.Lined.{read_behind, all_length, units_more, lines_more, lines_refused, unit_within, units_on, lines_on}
 
 -- ---- bytes that go on
 
@@ -57,10 +57,10 @@ near g piece p u within fits none is =
     omega (arith, seen, fits, length-append g piece)
 
 -- lines that were shown stay, however the source goes on
-pub shown_lines_on : (R : Readers) (g piece : List ℕ) (all : Bool) (us : List UnitPlace) → FollowsFrom (seen_of g) all 0 us → shown_lines R (g ++ piece) us ≡ shown_lines R g us
-shown_lines_on R g piece all us f =
+pub shown_lines_on : (R : Readers) (T : Teller) (g piece : List ℕ) (all : Bool) (us : List UnitPlace) → FollowsFrom (seen_of g) all 0 us → shown_lines R T (g ++ piece) us ≡ shown_lines R T g us
+shown_lines_on R T g piece all us f =
     let on = front_goes_on source_limit g piece in
-    ap (λ l. lines_behind R l [] us) on.1 ∙ lines_on R (seen_of g) on.0 all 0 [] us f
+    ap (λ l. lines_behind R T l [] us) on.1 ∙ lines_on R T (seen_of g) on.0 all 0 [] us f
 
 -- ---- what was given of the bytes that a source tells
 
@@ -84,9 +84,9 @@ all_given b given is =
     (same, le-leb (length b) source_limit (subst (λ (l : List ℕ). length l ≤ source_limit) (sym same) whole.1))
 
 -- the lines of the first units stay
-pub lines_of_given : (R : Readers) (b given : List ℕ) (all : Bool) (us : List UnitPlace) → IsGiven b given all → FollowsFrom (seen_of given) all 0 us → shown_lines R b us ≡ shown_lines R given us
-lines_of_given R b given all us is f =
-    ap (λ l. shown_lines R l us) is.front ∙ shown_lines_on R given is.rest all us f
+pub lines_of_given : (R : Readers) (T : Teller) (b given : List ℕ) (all : Bool) (us : List UnitPlace) → IsGiven b given all → FollowsFrom (seen_of given) all 0 us → shown_lines R T b us ≡ shown_lines R T given us
+lines_of_given R T b given all us is f =
+    ap (λ l. shown_lines R T l us) is.front ∙ shown_lines_on R T given is.rest all us f
 
 -- and their bytes
 pub units_of_given : (b given : List ℕ) (all : Bool) (us : List UnitPlace) → IsGiven b given all → FollowsFrom (seen_of given) all 0 us → units_at (seen_of b) us ≡ units_at (seen_of given) us
@@ -222,7 +222,7 @@ module _ (R : Readers) (b given : List ℕ) (us vs : List UnitPlace) (before : L
 
   -- by a unit that breaks a rule
   pub ends_by_unit : (all : Bool) (u : UnitPlace) (r : Refusal) → IsGiven b given all → FollowsFrom (seen_of given) all 0 (us ++ u ∷ []) → FollowsFrom (seen_of given) all 0 us → read_on R [] (units_at (seen_of given) us) ≡ all_read before
-      → reads R before (unit_bytes (seen_of given) u) ≡ Err r → (ending ≡ refused_at (length us) r) × (shown_lines R b vs ≡ shown_lines R b us) × (read_on R [] (units_at (seen_of b) vs) ≡ stopped before r)
+      → reads R before (unit_bytes (seen_of given) u) ≡ Err r → (ending ≡ refused_at (length us) r) × ((T : Teller) → shown_lines R T b vs ≡ shown_lines R T b us ++ T before (unit_bytes (seen_of given) u)) × (read_on R [] (units_at (seen_of b) vs) ≡ stopped before r)
   ends_by_unit all u r is follow front read refused =
       let first = first_of_given b given all (us ++ u ∷ []) vs shown.framing is follow shown.stream in
       let split : vs ≡ us ++ u ∷ first.0 = first.1 ∙ append_assoc us (u ∷ []) first.0 in
@@ -238,9 +238,8 @@ module _ (R : Readers) (b given : List ℕ) (us vs : List UnitPlace) (before : L
         shown.ends
             ∙ ap (λ o. ending_by (is_within b) shown.framing o) whole
             ∙ ap (λ n. refused_at n r) (all_length R (seen_of given) us before read),
-        ap (shown_lines R b) split
-            ∙ lines_more R (seen_of b) [] before us (u ∷ first.0) here
-            ∙ ap (λ l. shown_lines R b us ++ l) (lines_none R (seen_of b) before u first.0 r answer)
-            ∙ append-nil (shown_lines R b us),
+        λ T. ap (shown_lines R T b) split
+            ∙ lines_more R T (seen_of b) [] before us (u ∷ first.0) here
+            ∙ ap (λ l. shown_lines R T b us ++ l) (lines_refused R T (seen_of b) before u first.0 r answer ∙ ap (T before) unit),
         whole,
       )

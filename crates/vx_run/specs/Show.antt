@@ -67,20 +67,33 @@ unit_lines b u r before = line_of_unit b u ++ (set_lines r ++ picture_lines r be
 
 -- ---- the lines of units
 
--- what a reading gives, and nothing where a rule is broken
-abbrev pub where_read : Result Reading Refusal → (Reading → List ℕ) → List ℕ
-where_read (Ok r) lines = lines r
-where_read (Err refusal) lines = []
+-- what is told besides of a unit behind those before it, be it read or refused
+abbrev pub Teller : Type 0
+Teller = List Reading → List ℕ → List ℕ
 
--- the lines of these units, each read behind those before it, up to the first that breaks a rule
-abbrev pub lines_behind : Readers → List ℕ → List Reading → List UnitPlace → List ℕ
-lines_behind R b before [] = []
-lines_behind R b before (u ∷ units) =
-    where_read (reads R before (unit_bytes b u)) (λ r. unit_lines b u r before ++ lines_behind R b (r ∷ before) units)
+-- nothing
+abbrev pub tells_nothing : Teller
+tells_nothing before unit = []
+
+-- the lines of a unit that is read, with what is told besides
+abbrev pub told_lines : Teller → List ℕ → UnitPlace → Reading → List Reading → List ℕ
+told_lines T b u r before = unit_lines b u r before ++ T before (unit_bytes b u)
+
+-- what a reading gives, and where a rule is broken what is told all the same
+abbrev pub where_read : Result Reading Refusal → (Reading → List ℕ) → List ℕ → List ℕ
+where_read (Ok r) lines told = lines r
+where_read (Err refusal) lines told = told
+
+-- the lines of these units, each read behind those before it, up to the first that breaks a rule, of which is told what is told besides
+abbrev pub lines_behind : Readers → Teller → List ℕ → List Reading → List UnitPlace → List ℕ
+lines_behind R T b before [] = []
+lines_behind R T b before (u ∷ units) =
+    where_read (reads R before (unit_bytes b u)) (λ r. told_lines T b u r before ++ lines_behind R T b (r ∷ before) units)
+    (T before (unit_bytes b u))
 
 -- what is written of these units of a source's bytes
-abbrev pub shown_lines : Readers → List ℕ → List UnitPlace → List ℕ
-shown_lines R b units = lines_behind R (seen_of b) [] units
+abbrev pub shown_lines : Readers → Teller → List ℕ → List UnitPlace → List ℕ
+shown_lines R T b units = lines_behind R T (seen_of b) [] units
 
 -- ---- a source
 
@@ -123,46 +136,46 @@ shown_by u = u.end + 3
 
 -- A read failed: `out` gained the lines of exactly the units whose end is seen in what the source has given, however
 -- that goes on, and no rule is broken there.
-pub record ShowsSeen {A K : Type 0} (R : Readers) (source : Change A) (out : Change K) : Type 0 where
+pub record ShowsSeen {A K : Type 0} (R : Readers) (T : Teller) (source : Change A) (out : Change K) : Type 0 where
   pub given : List ℕ
   pub units : List UnitPlace
   pub before : List Reading
   pub gave : Consumes (source.bytes source.old) (source.bytes source.new) given
   pub seen : IsStream given false units None
   pub read : read_on R [] (units_at given units) ≡ all_read before
-  pub lines : Gains out (lines_behind R given [] units)
+  pub lines : Gains out (lines_behind R T given [] units)
 
--- A write failed: `out` gained a front of the lines of the units up to one, the last that was taken. The source has ended,
+-- A write failed: `out` gained a front of the lines of the units up to one, the last that was looked at. The source has ended,
 -- or has given fewer bytes past the place where that unit's end is seen than a read asks for.
-pub record ShowsFront {A K : Type 0} (R : Readers) (source : Change A) (out : Change K) : Type 0 where
+pub record ShowsFront {A K : Type 0} (R : Readers) (T : Teller) (source : Change A) (out : Change K) : Type 0 where
   pub given : List ℕ
   pub before : List UnitPlace
   pub last : UnitPlace
   pub ended : Bool
   pub gave : Consumes (source.bytes source.old) (source.bytes source.new) given
   pub follow : FollowsFrom (seen_of given) ended 0 (before ++ last ∷ [])
-  pub lines : GainsFront out (shown_lines R given (before ++ last ∷ []))
+  pub lines : GainsFront out (shown_lines R T given (before ++ last ∷ []))
   pub whole : ended ≡ true → IsAtEnd (source.bytes source.new)
   pub near : ended ≡ false → length given < shown_by last + read_len
 
 -- What `show` did to its source and to `out`, by what came of it. Where it was done or refused, `out` gained the lines of
 -- the units before the ending, and for want of memory those of the first of them, each with all its lines.
-abbrev pub ShowsBy : {A K : Type 0} → Readers → Change A → Change K → Outcome → Type 0
-ShowsBy R source out (Ok _) =
+abbrev pub ShowsBy : {A K : Type 0} → Readers → Teller → Change A → Change K → Outcome → Type 0
+ShowsBy R T source out (Ok _) =
     HasNoFault source × HasNoFault out × GivesFront source × IsAtEnd (source.bytes source.new)
-    × WhereKnown R source (λ b units ending. (ending ≡ None) × Gains out (shown_lines R b units))
-ShowsBy R source out (Err (Refused refusal place)) =
+    × WhereKnown R source (λ b units ending. (ending ≡ None) × Gains out (shown_lines R T b units))
+ShowsBy R T source out (Err (Refused refusal place)) =
     HasNoFault source × HasNoFault out × GivesFront source
-    × WhereKnown R source (λ b units ending. IsToldAt ending refusal place × Gains out (shown_lines R b units))
-ShowsBy R source out (Err (ReadFault k)) = HasFault source × (k ≡ 0) × ShowsSeen R source out
-ShowsBy R source out (Err WriteFault) =
-    HasNoFault source × HasFault out × ShowsFront R source out
-    × WhereKnown R source (λ b units ending. GainsFront out (shown_lines R b units))
-ShowsBy R source out (Err NoMemory) =
+    × WhereKnown R source (λ b units ending. IsToldAt ending refusal place × Gains out (shown_lines R T b units))
+ShowsBy R T source out (Err (ReadFault k)) = HasFault source × (k ≡ 0) × ShowsSeen R T source out
+ShowsBy R T source out (Err WriteFault) =
+    HasNoFault source × HasFault out × ShowsFront R T source out
+    × WhereKnown R source (λ b units ending. GainsFront out (shown_lines R T b units))
+ShowsBy R T source out (Err NoMemory) =
     HasNoFault source × HasNoFault out × GivesFront source
-    × WhereKnown R source (λ b units ending. (n : ℕ) × Gains out (shown_lines R b (take n units)))
-ShowsBy R source out (Err _) = ⊥
+    × WhereKnown R source (λ b units ending. (n : ℕ) × Gains out (shown_lines R T b (take n units)))
+ShowsBy R T source out (Err _) = ⊥
 
 -- that is so by the readers of H.266; and the words were understood
 abbrev pub Shows : {A K : Type 0} → Change A → Change K → Outcome → Type 0
-Shows source out outcome = IfErr outcome IsOfCommand × ((R : Readers) → AreOfH266 R → ShowsBy R source out outcome)
+Shows source out outcome = IfErr outcome IsOfCommand × ((R : Readers) → AreOfH266 R → ShowsBy R tells_nothing source out outcome)

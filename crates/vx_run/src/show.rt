@@ -14,7 +14,7 @@ ghost use Rattle.vx_assemble.specs.Held.{HasPicture};
 ghost use Rattle.vx_assemble.specs.Feed.{HasFed, IsOpen, IsTold, left_to_take};
 ghost use Rattle.vx_run.specs.Change.{change};
 ghost use Rattle.vx_run.specs.Conclusion.{IsOfCommand};
-ghost use Rattle.vx_run.specs.Show.{ShowsBy, seen_of, set_lines, picture_lines, unit_lines, behind_unit as place_behind};
+ghost use Rattle.vx_run.specs.Show.{ShowsBy, tells_nothing, seen_of, set_lines, picture_lines, unit_lines, behind_unit as place_behind};
 ghost use Rattle.vx_run.specs.inner.Showing.{ReadsOn, GathersNext, Gathers, ShowsLater};
 
 use crate::stop::Stop;
@@ -32,7 +32,7 @@ pub(crate) fn show<K: Sink>(
     source: &mut Box<dyn Source>,
     out: &mut K,
 ) -> Result<(), Stop>
-    ensures shows { (R : Readers) → AreOfH266 R → ShowsBy R (change bytes_left read_faults source.old source.new)
+    ensures shows { (R : Readers) → AreOfH266 R → ShowsBy R tells_nothing (change bytes_left read_faults source.old source.new)
         (change K.bytes_taken K.write_faults out.old out.new) result }
     ensures stop { IfErr result IsOfCommand }
 {
@@ -74,7 +74,7 @@ fn show_seen<K: Sink>(
 ) -> Result<u64, Stop>
     ensures answer { (R : Readers) → AreOfH266 R → (g : List ℕ) (units : List UnitPlace) (before : List Reading)
         → HasFed R feed.old g units before → pictures ≡ length (pictures_in before)
-        → ShowsLater R g units before feed.new (change K.bytes_taken K.write_faults out.old out.new) result }
+        → ShowsLater R tells_nothing g units before feed.new (change K.bytes_taken K.write_faults out.old out.new) result }
     ensures taken { feed.new.reader.taken ≡ feed.old.reader.taken }
     ensures closed { feed.new.reader.closed ≡ feed.old.reader.closed }
     ensures all { is_all feed.new.reader.splitter ≡ is_all feed.old.reader.splitter }
@@ -92,7 +92,7 @@ fn show_seen<K: Sink>(
 fn gather(alloc: Global, feed: &mut Feed, pictures: u64, lines: &mut Vec<u8>) -> Result<u64, Stop>
     ensures answer { (R : Readers) → AreOfH266 R → (g : List ℕ) (units : List UnitPlace) (before : List Reading)
         → HasFed R feed.old g units before → pictures ≡ length (pictures_in before)
-        → Gathers R g units before feed.new lines.old.items lines.new.items result }
+        → Gathers R tells_nothing g units before feed.new lines.old.items lines.new.items result }
     ensures taken { feed.new.reader.taken ≡ feed.old.reader.taken }
     ensures closed { feed.new.reader.closed ≡ feed.old.reader.closed }
     ensures all { is_all feed.new.reader.splitter ≡ is_all feed.old.reader.splitter }
@@ -116,7 +116,7 @@ fn gather_next(
 ) -> Result<Option<u64>, Stop>
     ensures answer { (R : Readers) → AreOfH266 R → (g : List ℕ) (units : List UnitPlace) (before : List Reading)
         → HasFed R feed.old g units before → pictures ≡ length (pictures_in before)
-        → GathersNext R g units before feed.new lines.old.items lines.new.items result }
+        → GathersNext R tells_nothing g units before feed.new lines.old.items lines.new.items result }
     ensures taken { feed.new.reader.taken ≡ feed.old.reader.taken }
     ensures closed { feed.new.reader.closed ≡ feed.old.reader.closed }
     ensures all { is_all feed.new.reader.splitter ≡ is_all feed.old.reader.splitter }

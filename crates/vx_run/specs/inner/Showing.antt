@@ -1,9 +1,9 @@
 -- The steps of `show`: the lines of the units that are seen, gathered and then written, and what the source has given. `before` are
 -- what the units were read as, the latest first.
-use Rattle.std.specs.Prelude.{◌≡◌, ℕ, ◌+◌, ◌-◌, ◌^◌, ◌<◌, false, List, [], ◌∷◌, ◌++◌, length}
+use Rattle.std.specs.Prelude.{◌≡◌, ◌⊎◌, ℕ, ◌+◌, ◌-◌, ◌^◌, ◌<◌, false, List, [], ◌∷◌, ◌++◌, length}
 use Rattle.std.specs.Prelude.{Option, Some, None, Result, Ok, Err}
 use Rattle.std.specs.Io.KnownBytes.{Consumes, IsAtEnd}
-use Rattle.vx_annexb.specs.ByteStream.{UnitPlace, IsUnit, IsStream, FollowsFrom, end_of}
+use Rattle.vx_annexb.specs.ByteStream.{UnitPlace, unit_bytes, IsUnit, IsStream, FollowsFrom, end_of}
 use Rattle.vx_annexb.specs.Held.{is_all}
 use Rattle.vx_annexb.specs.declared.unit_reader.Closed.{Closed}
 use Rattle.vx_annexb.specs.declared.unit_reader.Closed.TheVariants.{End, TooLong, Failed}
@@ -13,12 +13,14 @@ use Rattle.vx_pic.specs.Readings.{Reading, pictures}
 use Rattle.vx_pic.specs.Rules.{Readers}
 use Rattle.vx_pic.specs.Streams.{read_on, all_read, lacks_slice}
 use Rattle.vx_pic.specs.Bytes.{units_at}
-use Rattle.vx_assemble.specs.Feed.{Feeding, HasFed, IsRefusedFor, ReadsOn as Reads}
+use Rattle.vx_assemble.specs.Feed.{Feeding, HasFed, UnitIsRefused, IsRefusedFor, by_bytes, by_unit, at_end, ReadsOn as Reads}
+use Rattle.vx_annexb.specs.Reading.{Reading as ReaderState}
+use Rattle.vx_bits.specs.declared.refusal.Refusal.{Refusal}
 use Rattle.vx_run.specs.declared.stop.Stop.{Stop}
 use Rattle.vx_run.specs.declared.stop.Stop.TheVariants.{Refused, ReadFault, WriteFault, NoMemory}
 use Rattle.vx_run.specs.Change.{Change, HasNoFault, Gains, GainsFront}
 use Rattle.vx_run.specs.Conclusion.{Outcome}
-use Rattle.vx_run.specs.Show.{seen_of, lines_behind, shown_lines, unit_lines, behind_unit, shown_by, read_len}
+use Rattle.vx_run.specs.Show.{Teller, seen_of, lines_behind, shown_lines, told_lines, behind_unit, shown_by, read_len}
 
 -- more may be read, or all was, and no picture lacks a slice
 abbrev pub EndsBy : Option Closed → List Reading → Type 0
@@ -50,83 +52,101 @@ abbrev pub left_to_read : Option Closed → ℕ → ℕ
 left_to_read None taken = 2 ^ 40 + 1 - taken
 left_to_read (Some closed) taken = 0
 
--- why no further line is gathered behind those of these units, or how many pictures are done
-abbrev pub EndsGathering : Readers → Feeding → List ℕ → List UnitPlace → List Reading → Result ℕ Stop → Type 0
-EndsGathering R f g units before (Ok n) = SeesNone R f g units before × (n ≡ length (pictures before))
-EndsGathering R f g units before (Err (Refused refusal place)) =
-    IsRefusedFor R f.reader g units before refusal × (place ≡ behind_unit (length units))
-EndsGathering R f g units before (Err NoMemory) = Unit {0}
-EndsGathering R f g units before (Err _) = ⊥
+-- what is told besides of the unit for which a feed is refused: nothing where it is refused for its bytes or at the end
+abbrev pub told_refused : {R : Readers} {f : ReaderState} {g : List ℕ} {units : List UnitPlace} {before : List Reading} {r : Refusal}
+    → Teller → IsRefusedFor R f g units before r → List ℕ
+told_refused T (by_bytes stream) = []
+told_refused {R} {f} {g} {units} {before} T (by_unit u) = T before (unit_bytes (seen_of g) u.unit)
+told_refused T (at_end e) = []
+
+-- why no further line is gathered behind those of these units, or how many pictures are done; and what is told besides
+abbrev pub EndsGathering : Readers → Teller → Feeding → List ℕ → List UnitPlace → List Reading → List ℕ → Result ℕ Stop → Type 0
+EndsGathering R T f g units before told (Ok n) = SeesNone R f g units before × (n ≡ length (pictures before)) × (told ≡ [])
+EndsGathering R T f g units before told (Err (Refused refusal place)) =
+    (why : IsRefusedFor R f.reader g units before refusal) × (place ≡ behind_unit (length units)) × (told ≡ told_refused T why)
+EndsGathering R T f g units before told (Err NoMemory) = told ≡ []
+EndsGathering R T f g units before told (Err _) = ⊥
 
 -- the lines of the next unit were put behind others
-pub record GathersOne (R : Readers) (g : List ℕ) (units : List UnitPlace) (before : List Reading) (f : Feeding) (old new : List ℕ) (n : ℕ)
-    : Type 0 where
+pub record GathersOne (R : Readers) (T : Teller) (g : List ℕ) (units : List UnitPlace) (before : List Reading) (f : Feeding)
+    (old new : List ℕ) (n : ℕ) : Type 0 where
   pub place : UnitPlace
   pub reading : Reading
   pub fed : HasFed R f g (units ++ place ∷ []) (reading ∷ before)
-  pub lines : new ≡ old ++ unit_lines (seen_of g) place reading before
+  pub lines : new ≡ old ++ told_lines T (seen_of g) place reading before
   pub count : n ≡ length (pictures (reading ∷ before))
 
 -- they were, or why there are none
-abbrev pub GathersNext : Readers → List ℕ → List UnitPlace → List Reading → Feeding → List ℕ → List ℕ → Result (Option ℕ) Stop → Type 0
-GathersNext R g units before f old new (Ok (Some n)) = GathersOne R g units before f old new n
-GathersNext R g units before f old new (Ok None) = SeesNone R f g units before × (new ≡ old)
-GathersNext R g units before f old new (Err stop) = EndsGathering R f g units before (Err stop) × (new ≡ old)
+abbrev pub GathersNext : Readers → Teller → List ℕ → List UnitPlace → List Reading → Feeding → List ℕ → List ℕ → Result (Option ℕ) Stop
+    → Type 0
+GathersNext R T g units before f old new (Ok (Some n)) = GathersOne R T g units before f old new n
+GathersNext R T g units before f old new (Ok None) = SeesNone R f g units before × (new ≡ old)
+GathersNext R T g units before f old new (Err stop) =
+    (told : List ℕ) × EndsGathering R T f g units before told (Err stop) × (new ≡ old ++ told)
 
--- the lines of the units that are seen were put behind others
-pub record Gathers (R : Readers) (g : List ℕ) (units : List UnitPlace) (before : List Reading) (f : Feeding) (old new : List ℕ)
-    (result : Result ℕ Stop) : Type 0 where
+-- the lines of the units that are seen were put behind others, and what is told of one that is refused
+pub record Gathers (R : Readers) (T : Teller) (g : List ℕ) (units : List UnitPlace) (before : List Reading) (f : Feeding)
+    (old new : List ℕ) (result : Result ℕ Stop) : Type 0 where
   pub later : List UnitPlace
   pub after : List Reading
+  pub told : List ℕ
   pub follow : FollowsFrom (seen_of g) (is_all f.reader.splitter) 0 (units ++ later)
   pub readings : read_on R [] (units_at (seen_of g) (units ++ later)) ≡ all_read after
-  pub lines : new ≡ old ++ lines_behind R (seen_of g) before later
-  pub ends : EndsGathering R f g (units ++ later) after result
+  pub lines : new ≡ old ++ (lines_behind R T (seen_of g) before later ++ told)
+  pub ends : EndsGathering R T f g (units ++ later) after told result
 
 -- so far
-pub record HasGathered (R : Readers) (g : List ℕ) (units : List UnitPlace) (before : List Reading) (f : Feeding) (old new : List ℕ)
-    (n : ℕ) : Type 0 where
+pub record HasGathered (R : Readers) (T : Teller) (g : List ℕ) (units : List UnitPlace) (before : List Reading) (f : Feeding)
+    (old new : List ℕ) (n : ℕ) : Type 0 where
   pub later : List UnitPlace
   pub after : List Reading
   pub fed : HasFed R f g (units ++ later) after
-  pub lines : new ≡ old ++ lines_behind R (seen_of g) before later
+  pub lines : new ≡ old ++ lines_behind R T (seen_of g) before later
   pub count : n ≡ length (pictures after)
 
+-- what is told behind the lines of units: nothing, or what is told of one that is refused
+abbrev pub TellsLast : Readers → Teller → ReaderState → List ℕ → List UnitPlace → List Reading → List ℕ → Type 0
+TellsLast R T f g units before told =
+    (told ≡ []) ⊎ ((r : Refusal) × (u : UnitIsRefused R f g units before r) × (told ≡ T before (unit_bytes (seen_of g) u.unit)))
+
 -- they were written, or a front of them where the write failed
-abbrev pub WritesLines : {K : Type 0} → Readers → Feeding → List ℕ → List UnitPlace → List Reading → List ℕ → Change K → Result ℕ Stop → Type 0
-WritesLines R f g units before lines out (Err WriteFault) = GainsFront out lines
-WritesLines R f g units before lines out result = Gains out lines × EndsGathering R f g units before result
+abbrev pub WritesLines : {K : Type 0} → Readers → Teller → Feeding → List ℕ → List UnitPlace → List Reading → List ℕ → List ℕ → Change K
+    → Result ℕ Stop → Type 0
+WritesLines R T f g units before lines told out (Err WriteFault) =
+    GainsFront out (lines ++ told) × TellsLast R T f.reader g units before told
+WritesLines R T f g units before lines told out result = Gains out (lines ++ told) × EndsGathering R T f g units before told result
 
 -- the units that are seen were shown, behind these
-pub record ShowsLater {K : Type 0} (R : Readers) (g : List ℕ) (units : List UnitPlace) (before : List Reading) (f : Feeding)
+pub record ShowsLater {K : Type 0} (R : Readers) (T : Teller) (g : List ℕ) (units : List UnitPlace) (before : List Reading) (f : Feeding)
     (out : Change K) (result : Result ℕ Stop) : Type 0 where
   pub later : List UnitPlace
   pub after : List Reading
+  pub told : List ℕ
   pub follow : FollowsFrom (seen_of g) (is_all f.reader.splitter) 0 (units ++ later)
   pub readings : read_on R [] (units_at (seen_of g) (units ++ later)) ≡ all_read after
-  pub writes : WritesLines R f g (units ++ later) after (lines_behind R (seen_of g) before later) out result
+  pub writes : WritesLines R T f g (units ++ later) after (lines_behind R T (seen_of g) before later) told out result
 
 -- all units that are seen in what the source has given were shown, and n pictures are done
-pub record HasShown {A K : Type 0} (R : Readers) (source : Change A) (out : Change K) (f : Feeding) (n : ℕ) : Type 0 where
+pub record HasShown {A K : Type 0} (R : Readers) (T : Teller) (source : Change A) (out : Change K) (f : Feeding) (n : ℕ) : Type 0 where
   pub given : List ℕ
   pub units : List UnitPlace
   pub before : List Reading
   pub kept : HasNoFault source
   pub gave : Consumes (source.bytes source.old) (source.bytes source.new) given
   pub none : SeesNone R f given units before
-  pub lines : Gains out (shown_lines R given units)
+  pub lines : Gains out (shown_lines R T given units)
   pub count : n ≡ length (pictures before)
   pub ended : f.reader.closed ≡ Some End → IsAtEnd (source.bytes source.new)
 
 -- more was read of the source behind the units that were shown, and the end of the next unit lies there
-pub record HasReached {A K : Type 0} (R : Readers) (source : Change A) (out : Change K) (f : Feeding) (n : ℕ) : Type 0 where
+pub record HasReached {A K : Type 0} (R : Readers) (T : Teller) (source : Change A) (out : Change K) (f : Feeding) (n : ℕ) : Type 0 where
   pub given : List ℕ
   pub units : List UnitPlace
   pub before : List Reading
   pub kept : HasNoFault source
   pub gave : Consumes (source.bytes source.old) (source.bytes source.new) given
   pub fed : HasFed R f given units before
-  pub lines : Gains out (shown_lines R given units)
+  pub lines : Gains out (shown_lines R T given units)
   pub count : n ≡ length (pictures before)
   pub ended : f.reader.closed ≡ Some End → IsAtEnd (source.bytes source.new)
   pub near : (u : UnitPlace) → IsUnit (seen_of given) false (end_of 0 units) u → length given < shown_by u + read_len
