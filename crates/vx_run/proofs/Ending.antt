@@ -1,5 +1,5 @@
 -- What the status tells of what came of a command.
-use Rattle.std.proofs.Common.{◌≡◌, ◌≢◌, ◌⊎◌, ℕ, List, [], ◌∷◌, ◌++◌, length, Option, Some, None, Ok, Err, inl, inr, refl, sym, ap, subst, arith, ◌<◌, ◌≤◌, ◌∙◌}
+use Rattle.std.proofs.Common.{◌≡◌, ◌≢◌, ◌⊎◌, ℕ, Bool, List, [], ◌∷◌, ◌++◌, length, Option, Some, None, Ok, Err, inl, inr, refl, sym, ap, subst, arith, ◌<◌, ◌≤◌, ◌∙◌}
 use Rattle.std.specs.Prelude.{IsSomeAnd}
 use Rattle.vx_bits.specs.declared.refusal.Refusal.{Refusal}
 use Rattle.vx_report.specs.declared.refusal.Where.{Where}
@@ -32,29 +32,29 @@ use Rattle.vx_pic.specs.Parts.{parts_of}
 use Rattle.vx_pic.specs.Written.{Plan}
 use Rattle.vx_extract.specs.Rules.{refusal_of}
 use Rattle.vx_pic.specs.H266.{AreOfH266}
-use Rattle.vx_run.specs.Show.{tells_nothing, ShowsBy, WhereKnown, status_at}
+use Rattle.vx_run.specs.Show.{Teller, ShowsBy, WhereKnown, status_at}
 
 module _ (R : Readers) (of : AreOfH266 R) where
   -- where it is done there is no ending
-  pub exact-done : {A K : Type 0} (words : List (List ℕ)) (sources : Sources A) (out : Change K) (file : List ℕ) → Performs words sources out (Ok tt) → AskFor words (show file)
+  pub exact-done : {A K : Type 0} (words : List (List ℕ)) (sources : Sources A) (out : Change K) (fields : Bool) (file : List ℕ) → Performs words sources out (Ok tt) → AskFor words (show fields file)
       → WhereKnown R (source_at sources 0) (λ b units ending. 0 ≡ status_at ending)
-  exact-done words sources out file performs spelled b units ending told is = sym (ap status_at (((performs.command (show file) spelled).1 R of).4 b units ending told is).0)
+  exact-done words sources out fields file performs spelled b units ending told is = sym (ap status_at (((performs.command (show fields file) spelled).1 R of).4 b units ending told is).0)
 
-  stopped : {A K E : Type 0} (source : Change A) (out : Change K) (err : Change E) (stop : Stop) (status : ℕ)
-      → ShowsBy R tells_nothing source out (Err stop) → Concludes stop status err → ¬ HasFault source → ¬ HasFault out → status ≢ 4 → WhereKnown R source (λ b units ending. status ≡ status_at ending)
-  stopped source out err (Refused refusal place) status shows ends read write fits b units ending told is =
+  stopped : {A K E : Type 0} (T : Teller) (source : Change A) (out : Change K) (err : Change E) (stop : Stop) (status : ℕ)
+      → ShowsBy R T source out (Err stop) → Concludes stop status err → ¬ HasFault source → ¬ HasFault out → status ≢ 4 → WhereKnown R source (λ b units ending. status ≡ status_at ending)
+  stopped T source out err (Refused refusal place) status shows ends read write fits b units ending told is =
       elim ends.ended [ inl p ↦ p.0 ∙ sym (ap status_at (shows.3 b units ending told is).0.is) | inr p ↦ absurd (fits p.1) ]
-  stopped source out err (ReadFault k) status shows ends read write fits b units ending told is = absurd (read shows.0)
-  stopped source out err WriteFault status shows ends read write fits b units ending told is = absurd (write shows.1)
-  stopped source out err NoMemory status shows ends read write fits b units ending told is =
+  stopped T source out err (ReadFault k) status shows ends read write fits b units ending told is = absurd (read shows.0)
+  stopped T source out err WriteFault status shows ends read write fits b units ending told is = absurd (write shows.1)
+  stopped T source out err NoMemory status shows ends read write fits b units ending told is =
       elim ends.ended [ inl p ↦ absurd (fits p.0) | inr p ↦ absurd p.0 ]
-  stopped source out err NotUnderstood status shows ends read write fits b units ending told is = absurd shows
-  stopped source out err (Mismatched x y) status shows ends read write fits b units ending told is = absurd shows
+  stopped T source out err NotUnderstood status shows ends read write fits b units ending told is = absurd shows
+  stopped T source out err (Mismatched x y) status shows ends read write fits b units ending told is = absurd shows
 
   -- where it stopped without a fault, and not for want of memory, the ending is a refusal
-  pub exact-stopped : {A K E : Type 0} (words : List (List ℕ)) (sources : Sources A) (out : Change K) (err : Change E) (stop : Stop) (status : ℕ) (file : List ℕ)
-      → Performs words sources out (Err stop) → Concludes stop status err → AskFor words (show file) → ¬ HasFault (source_at sources 0) → ¬ HasFault out → status ≢ 4 → WhereKnown R (source_at sources 0) (λ b units ending. status ≡ status_at ending)
-  exact-stopped words sources out err stop status file performs ends spelled = stopped (source_at sources 0) out err stop status ((performs.command (show file) spelled).1 R of) ends
+  pub exact-stopped : {A K E : Type 0} (words : List (List ℕ)) (sources : Sources A) (out : Change K) (err : Change E) (stop : Stop) (status : ℕ) (fields : Bool) (file : List ℕ)
+      → Performs words sources out (Err stop) → Concludes stop status err → AskFor words (show fields file) → ¬ HasFault (source_at sources 0) → ¬ HasFault out → status ≢ 4 → WhereKnown R (source_at sources 0) (λ b units ending. status ≡ status_at ending)
+  exact-stopped words sources out err stop status fields file performs ends spelled = stopped _ (source_at sources 0) out err stop status ((performs.command (show fields file) spelled).1 R of) ends
 
 -- ---- extractions
 
@@ -114,7 +114,7 @@ module _ {A K : Type 0} (R : Readers) (of : AreOfH266 R) (words : List (List ℕ
   extracts-done (play level placings) t performs spelled is b ps ending told are = absurd (cc)
   extracts-done (check_merge placings) t performs spelled is b ps ending told are = absurd (cc)
   extracts-done (verify finished placings) t performs spelled is b ps ending told are = absurd (cc)
-  extracts-done (show file) t performs spelled is b ps ending told are = absurd (cc)
+  extracts-done (show fields file) t performs spelled is b ps ending told are = absurd (cc)
   extracts-done (trial seed n k) t performs spelled is b ps ending told are = absurd (cc)
   extracts-done help t performs spelled is b ps ending told are = absurd (cc)
   extracts-done version t performs spelled is b ps ending told are = absurd (cc)
@@ -133,7 +133,7 @@ module _ {A K : Type 0} (R : Readers) (of : AreOfH266 R) (words : List (List ℕ
   extracts-stopped err stop status (play level placings) t performs ends spelled is = absurd (cc)
   extracts-stopped err stop status (check_merge placings) t performs ends spelled is = absurd (cc)
   extracts-stopped err stop status (verify finished placings) t performs ends spelled is = absurd (cc)
-  extracts-stopped err stop status (show file) t performs ends spelled is = absurd (cc)
+  extracts-stopped err stop status (show fields file) t performs ends spelled is = absurd (cc)
   extracts-stopped err stop status (trial seed n k) t performs ends spelled is = absurd (cc)
   extracts-stopped err stop status help t performs ends spelled is = absurd (cc)
   extracts-stopped err stop status version t performs ends spelled is = absurd (cc)
@@ -348,7 +348,7 @@ too_many_of sources out outcome (verify finished ps) placings is does many =
     let same : ps ≡ placings = same_Some ps placings is in
     (does.many (omega (arith, many, length-map ps spot_of, ap (λ (l : List Placing). length l) same))).0
 too_many_of sources out outcome (play level ps) placings is does many = absurd (cc)
-too_many_of sources out outcome (show file) placings is does many = absurd (cc)
+too_many_of sources out outcome (show fields file) placings is does many = absurd (cc)
 too_many_of sources out outcome (extract tid level index file) placings is does many = absurd (cc)
 too_many_of sources out outcome (check_extract tid index file) placings is does many = absurd (cc)
 too_many_of sources out outcome (trial seed n k) placings is does many = absurd (cc)
@@ -403,7 +403,7 @@ trial_of_command out WriteFault ends = tt
 trial_of_command out NoMemory ends = tt
 
 does_of_command : {A K : Type 0} (command : Command) (sources : Sources A) (out : Change K) (stop : Stop) → Does command sources out (Err stop) → IsOfCommand stop
-does_of_command (show file) sources out stop does = does.0
+does_of_command (show fields file) sources out stop does = does.0
 does_of_command (extract tid level index file) sources out stop does = does.0
 does_of_command (check_extract tid index file) sources out stop does = does.0
 does_of_command (merge level placings) sources out stop does = does.stop

@@ -12,7 +12,7 @@ use Rattle.vx_assemble.specs.Feed.{Feeding, HasFed, IsRefusedFor, by_bytes, by_u
 use Rattle.vx_run.specs.declared.stop.Stop.{Stop}
 use Rattle.vx_run.specs.declared.stop.Stop.TheVariants.{NotUnderstood, Mismatched, Refused, ReadFault, WriteFault, NoMemory}
 use Rattle.vx_run.specs.Change.{Change, Gains, GainsFront}
-use Rattle.vx_run.specs.Show.{Teller, tells_nothing, seen_of, lines_behind, told_lines}
+use Rattle.vx_run.specs.Show.{Teller, seen_of, lines_behind, told_lines}
 use Rattle.vx_run.specs.inner.Showing.{told_refused, EndsGathering, GathersNext, Gathers, HasGathered, TellsLast, WritesLines, ShowsLater}
 use Rattle.vx_run.proofs.Lined.{read_behind, read_one, units_more, lines_more, lines_one}
 
@@ -89,12 +89,6 @@ last_refused : (R : Readers) (T : Teller) (f : ReaderState) (g : List ℕ) (unit
 last_refused R T f g units before r (by_bytes stream) told is = inl is
 last_refused R T f g units before r (by_unit u) told is = inr (r, u, is)
 last_refused R T f g units before r (at_end e) told is = inl is
-
--- nothing, where nothing is told of any unit
-pub nothing_told : {R : Readers} {f : ReaderState} {g : List ℕ} {units : List UnitPlace} {before : List Reading} {r : Refusal} → (why : IsRefusedFor R f g units before r) → told_refused tells_nothing why ≡ []
-nothing_told (by_bytes stream) = refl
-nothing_told (by_unit u) = refl
-nothing_told (at_end e) = refl
 
 -- no memory was found
 pub GathersNext-no_memory : (R : Readers) (T : Teller) (g : List ℕ) (units : List UnitPlace) (before : List Reading) (f : Feeding) (lines : List ℕ) → GathersNext R T g units before f lines lines (Err NoMemory)

@@ -6,6 +6,7 @@ pub mod Corners
 pub mod Ending
 pub mod Explaining
 pub mod Extracting
+pub mod Fields
 pub mod FileRegions
 pub mod Gained
 pub mod Gathering
@@ -32,6 +33,7 @@ pub mod RegionRounds
 pub mod RegionSteps
 pub mod RegionTold
 pub mod Regions
+pub mod ShowWords
 pub mod Showing
 pub mod Sources
 pub mod Spelling

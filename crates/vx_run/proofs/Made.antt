@@ -250,18 +250,14 @@ count_by (accepted.Aps kind id) ps done n k units is count few one other = other
 
 -- the lines of a unit that was taken were put behind others
 pub gathers_one : (R : Readers) (T : Teller) (g : List ℕ) (units : List UnitPlace) (before : List Reading) (f : Feeding) (old new made : List ℕ) (n k : ℕ) (header : NalHeader) (offset bytes : ℕ) (what : Accepted)
-    → Gives R g units before f (Ok (Some (Nal header offset bytes what))) → k ≡ length (pictures before) → new ≡ old ++ made
-    → ((u : UnitPlace) (r : Reading) → HasFed R f g (units ++ u ∷ []) (r ∷ before) → IsTold g u r before header offset bytes what → made ≡ told_lines T (seen_of g) u r before)
+    → (u : UnitPlace) (r : Reading) → HasFed R f g (units ++ u ∷ []) (r ∷ before) → IsTold g u r before header offset bytes what → k ≡ length (pictures before) → new ≡ old ++ made → made ≡ told_lines T (seen_of g) u r before
     → (what ≡ accepted.PictureDone → k < f.units → n ≡ k + 1) → ((what ≡ accepted.PictureDone → ⊥) → n ≡ k) → GathersOne R T g units before f old new n
-gathers_one R T g units before f old new made n k header offset bytes what gives count lines is one other =
-    let u = gives.0 in
-    let r = gives.1 in
-    let fed = gives.2 in
+gathers_one R T g units before f old new made n k header offset bytes what u r fed told count lines is one other =
     let size : length (r ∷ before) ≡ f.units = all_length R (seen_of g) (units ++ u ∷ []) (r ∷ before) fed.readings ∙ sym fed.count in
     record {
       place = u;
       reading = r;
       fed = fed;
-      lines = lines ∙ ap (λ l. old ++ l) (is u r fed gives.3);
-      count = count_by what (completed r before) (pictures before) n k f.units (completes what r before gives.3.what) count (omega (arith, few_pictures (r ∷ before), size)) one other;
+      lines = lines ∙ ap (λ l. old ++ l) is;
+      count = count_by what (completed r before) (pictures before) n k f.units (completes what r before told.what) count (omega (arith, few_pictures (r ∷ before), size)) one other;
     }

@@ -1,5 +1,5 @@
 -- What is done to a source of a list is what is done to the source alone.
-use Rattle.std.proofs.Common.{◌≡◌, ℕ, ◌<◌, List, Option, Some, Ok, Err, sym, refl, length, get_or, slice_get, slice_set}
+use Rattle.std.proofs.Common.{◌≡◌, ℕ, Bool, ◌<◌, List, Option, Some, Ok, Err, sym, refl, length, get_or, slice_get, slice_set}
 use Rattle.std.proofs.Math.ListN.{length-set}
 use Rattle.std.proofs.lemmas.List.{get_or-set_same}
 use Rattle.std.proofs.lemmas.Option.{slice_get_read}
@@ -7,7 +7,7 @@ use Rattle.vx_run.specs.declared.stop.Stop.TheVariants.{NotUnderstood, Mismatche
 use Rattle.vx_run.specs.Change.{Change, change, sources_change, source_at}
 use Rattle.vx_run.specs.Conclusion.{Outcome}
 use Rattle.vx_pic.specs.Rules.{Readers}
-use Rattle.vx_run.specs.Show.{Teller, tells_nothing, Shows, ShowsBy}
+use Rattle.vx_run.specs.Show.{Teller, teller, Shows, ShowsBy}
 use Rattle.vx_run.specs.declared.extract.Task.{Task}
 use Rattle.vx_run.specs.Extract.{StopsBehind, Refuses, by_stream, by_picture, without, Extracts, ExtractsBy, Checks, ChecksBy}
 use Rattle.vx_bits.specs.declared.refusal.Refusal.{Refusal}
@@ -44,11 +44,11 @@ shows-moved R T bytes faults k s s' l l' out (Err NoMemory) old new shows = rw (
 shows-moved R T bytes faults k s s' l l' out (Err NotUnderstood) old new shows = shows
 shows-moved R T bytes faults k s s' l l' out (Err (Mismatched x y)) old new shows = shows
 
-pub Shows-at : {S K : Type 0} (bytes : S → Option (List ℕ)) (faults : S → ℕ) (k : ℕ) (s s' : S) (l : List S) (out : Change K) (outcome : Outcome) → k < length l → s ≡ get_or l k s
-    → Shows (change bytes faults s s') out outcome → Shows (source_at (sources_change bytes faults l (slice_set l k s')) k) out outcome
-Shows-at bytes faults k s s' l out outcome within is shows =
+pub Shows-at : {S K : Type 0} (fields : Bool) (bytes : S → Option (List ℕ)) (faults : S → ℕ) (k : ℕ) (s s' : S) (l : List S) (out : Change K) (outcome : Outcome) → k < length l → s ≡ get_or l k s
+    → Shows fields (change bytes faults s s') out outcome → Shows fields (source_at (sources_change bytes faults l (slice_set l k s')) k) out outcome
+Shows-at fields bytes faults k s s' l out outcome within is shows =
     let there : k < length (slice_set l k s') = rw (length-set l k s') within in
-    (shows.0, λ R of. shows-moved R tells_nothing bytes faults k s s' l (slice_set l k s') out outcome (slice_get_read l (length l) k s refl within is) (slice_get_read (slice_set l k s') (length (slice_set l k s')) k s' refl there (sym (get_or-set_same l k s' s' within))) (shows.1 R of))
+    (shows.0, λ R of. shows-moved R (teller fields R of) bytes faults k s s' l (slice_set l k s') out outcome (slice_get_read l (length l) k s refl within is) (slice_get_read (slice_set l k s') (length (slice_set l k s')) k s' refl there (sym (get_or-set_same l k s' s' within))) (shows.1 R of))
 
 -- reading of the source at k of a list stopped behind a picture, and what follows is refused
 stops-moved : {S : Type 0} (R : Readers) (bytes : S → Option (List ℕ)) (faults : S → ℕ) (k : ℕ) (s s' : S) (l l' : List S) (p : Picture) (before : List Picture) → slice_get l k ≡ Some s → slice_get l' k ≡ Some s'

@@ -137,8 +137,7 @@ module _ {K : Type 0} (R : Readers) (T : Teller) (out : Change K) (b given : Lis
       → read_on R [] (units_at (seen_of given) us) ≡ all_read before → IsShown R b vs ending → told ≡ T before (unit_bytes (seen_of given) u.unit)
       → (ending ≡ refused_at (length us) r) × (shown_lines R T given us ++ told ≡ shown_lines R T b vs)
   with_refused f ending r u told is follow read shown tells =
-      let one = ends_by_unit R b given us vs before ending shown (is_all f.splitter) u.unit r is u.follows follow read u.refused in
-      (
+      let one = ends_by_unit R b given us vs before ending shown (is_all f.splitter) u.unit r is u.follows follow read u.refused in (
         one.0,
         ap (λ l. shown_lines R T given us ++ l) tells
             ∙ ap (λ l. l ++ T before (unit_bytes (seen_of given) u.unit)) (sym (lines_of_given R T b given (is_all f.splitter) us is follow))

@@ -7,7 +7,7 @@ use Rattle.vx_run.specs.Grammar.{texts}
 use Rattle.vx_run.specs.inner.Placings.{placing_in}
 
 abbrev pub asked : Command → grammar.Command
-asked (Show file) = grammar.show file.now
+asked (Show fields file) = grammar.show fields file.now
 asked (Extract tid level index file) = grammar.extract tid level index file.now
 asked (CheckExtract tid index file) = grammar.check_extract tid index file.now
 asked (Merge level placings) = grammar.merge level (map placing_in (texts placings.now))

@@ -1,5 +1,5 @@
 -- The grammar of the program's words. A word is the list of its bytes.
-use Rattle.std.specs.Prelude.{◌≡◌, ◌≢◌, ℕ, ◌<◌, ◌≤◌, ◌^◌, List, [], ◌∷◌, ◌++◌, map, length, Contains, codes, decimal, Option, Some, None, IfSome, String, string_bytes}
+use Rattle.std.specs.Prelude.{◌≡◌, ◌≢◌, ℕ, ◌<◌, ◌≤◌, ◌^◌, Bool, true, false, List, [], ◌∷◌, ◌++◌, map, length, Contains, codes, decimal, Option, Some, None, IfSome, String, string_bytes}
 use Rattle.std.specs.List.{AllByRecursion}
 use Rattle.vx_explain.specs.Explained.{rules, fields}
 
@@ -15,7 +15,7 @@ pub record Placing : Type 0 where
 
 -- what the words ask for
 pub data Command : Type 0 where
-  show : List ℕ → Command
+  show : (fields : Bool) → List ℕ → Command
   extract : (tid level : Option ℕ) (index : ℕ) → List ℕ → Command
   check_extract : (tid : Option ℕ) (index : ℕ) → List ℕ → Command
   merge : (level : Option ℕ) → List Placing → Command
@@ -38,15 +38,20 @@ tid_words tid = option_words (codes "--tid") tid
 abbrev pub level_words : Option ℕ → List (List ℕ)
 level_words level = option_words (codes "--level") level
 
+-- `--fields`, where the fields of sets and headers are asked for
+abbrev pub fields_words : Bool → List (List ℕ)
+fields_words true = codes "--fields" ∷ []
+fields_words false = []
+
 -- `X,Y=FILE`: the file's name begins behind the first `=`
 abbrev pub placing_word : Placing → List ℕ
 placing_word p = decimal p.x ++ (codes "," ++ (decimal p.y ++ (codes "=" ++ p.file)))
 
--- `show FILE`, `extract [--tid T] [--level N] INDEX FILE`, `check extract [--tid T] INDEX FILE`, `merge [--level N] X,Y=FILE ..`,
+-- `show [--fields] FILE`, `extract [--tid T] [--level N] INDEX FILE`, `check extract [--tid T] INDEX FILE`, `merge [--level N] X,Y=FILE ..`,
 -- `play [--level N] X,Y=FILE ..`, `check merge X,Y=FILE ..`, `verify merge OUT X,Y=FILE ..`, `trial SEED SOURCES PICTURES`,
 -- `--help`, `--version`, `--explain WORD`
 abbrev pub spelling : Command → List (List ℕ)
-spelling (show file) = codes "show" ∷ file ∷ []
+spelling (show fields file) = codes "show" ∷ (fields_words fields ++ file ∷ [])
 spelling (extract tid level index file) = codes "extract" ∷ (tid_words tid ++ (level_words level ++ (decimal index ∷ file ∷ [])))
 spelling (check_extract tid index file) = codes "check" ∷ codes "extract" ∷ (tid_words tid ++ (decimal index ∷ file ∷ []))
 spelling (merge level placings) = codes "merge" ∷ (level_words level ++ map placing_word placings)
@@ -82,7 +87,7 @@ IsRuleOrField word = Contains (rules ++ map decimal fields) word
 
 -- a file's name has a byte, numbers are in their ranges, a merge has a source, and what is explained is a rule or a field
 abbrev pub IsWellNamed : Command → Type 0
-IsWellNamed (show file) = file ≢ []
+IsWellNamed (show fields file) = file ≢ []
 IsWellNamed (extract tid level index file) = IsTid tid × IsLevel level × IsIndex index × (file ≢ [])
 IsWellNamed (check_extract tid index file) = IsTid tid × IsIndex index × (file ≢ [])
 IsWellNamed (merge level placings) = IsLevel level × (placings ≢ []) × AllByRecursion IsPlacing placings
@@ -105,7 +110,7 @@ IsUnderstood words = (command : Command) × AskFor words command
 
 -- the files that a command names, in order
 abbrev pub files_of : Command → List (List ℕ)
-files_of (show file) = file ∷ []
+files_of (show fields file) = file ∷ []
 files_of (extract tid level index file) = file ∷ []
 files_of (check_extract tid index file) = file ∷ []
 files_of (merge level placings) = map (λ p. p.file) placings

@@ -4,6 +4,7 @@ use Rattle.std.specs.Prelude.{Option, Some, None, Result, Ok, Err, IfErr}
 use Rattle.std.specs.List.{flat_map}
 use Rattle.std.specs.Io.KnownBytes.{Consumes, IsAtEnd}
 use Rattle.vx_bits.specs.declared.refusal.Refusal.{Refusal}
+use Rattle.vx_bits.specs.declared.refusal.Refusal.TheVariants.{Syntax}
 use Rattle.vx_annexb.specs.NalUnit.{header_of}
 use Rattle.vx_annexb.specs.ByteStream.{source_limit, UnitPlace, unit_bytes, IsStream, FollowsFrom}
 use Rattle.vx_pic.specs.Readings.{Reading, vps_read, sps_read, pps_read, aps_read, Picture, completed, pictures}
@@ -16,6 +17,8 @@ use Rattle.vx_report.specs.declared.refusal.Where.{Where}
 use Rattle.vx_report.specs.declared.picture.PictureNumbers.{PictureNumbers}
 use Rattle.vx_report.specs.declared.set.SetNumbers.TheVariants.{Aps}
 use Rattle.vx_report.specs.UnitLine.{unit_text}
+use Rattle.vx_report.specs.FieldsLine.{fields_text}
+use Rattle.vx_assemble.specs.Fields.{unit_fields}
 use Rattle.vx_report.specs.SetLine.{set_text, vps_numbers, sps_numbers, pps_numbers}
 use Rattle.vx_report.specs.PictureLine.{picture_text}
 use Rattle.vx_run.specs.declared.stop.Stop.TheVariants.{Refused, ReadFault, WriteFault, NoMemory}
@@ -74,6 +77,24 @@ Teller = List Reading → List ℕ → List ℕ
 -- nothing
 abbrev pub tells_nothing : Teller
 tells_nothing before unit = []
+
+-- the field at which a rule is broken, where it is one of syntax
+abbrev pub refused_field : Refusal → Option ℕ
+refused_field (Syntax field bit cause) = Some field
+refused_field _ = None
+
+abbrev pub field_of : Result Reading Refusal → Option ℕ
+field_of (Ok r) = None
+field_of (Err refusal) = refused_field refusal
+
+-- the line of the fields that it spells, with the field at which it is refused
+abbrev pub tells_fields : (R : Readers) → AreOfH266 R → Teller
+tells_fields R h before unit = fields_text (length before) (unit_fields R h before unit) (field_of (reads R before unit))
+
+-- by whether the fields are asked for
+abbrev pub teller : (fields : Bool) → (R : Readers) → AreOfH266 R → Teller
+teller true R h = tells_fields R h
+teller false R h = tells_nothing
 
 -- the lines of a unit that is read, with what is told besides
 abbrev pub told_lines : Teller → List ℕ → UnitPlace → Reading → List Reading → List ℕ
@@ -176,6 +197,6 @@ ShowsBy R T source out (Err NoMemory) =
     × WhereKnown R source (λ b units ending. (n : ℕ) × Gains out (shown_lines R T b (take n units)))
 ShowsBy R T source out (Err _) = ⊥
 
--- that is so by the readers of H.266; and the words were understood
-abbrev pub Shows : {A K : Type 0} → Change A → Change K → Outcome → Type 0
-Shows source out outcome = IfErr outcome IsOfCommand × ((R : Readers) → AreOfH266 R → ShowsBy R tells_nothing source out outcome)
+-- that is so by the readers of H.266, with the fields where they are asked for; and the words were understood
+abbrev pub Shows : {A K : Type 0} → (fields : Bool) → Change A → Change K → Outcome → Type 0
+Shows fields source out outcome = IfErr outcome IsOfCommand × ((R : Readers) (h : AreOfH266 R) → ShowsBy R (teller fields R h) source out outcome)

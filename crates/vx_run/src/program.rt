@@ -1,6 +1,6 @@
 //! The program over words, sources and sinks.
 
-ghost use Rattle.std.specs.Prelude.{◌≡◌, ◌≢◌, ◌↔◌, ◌⊎◌, ◌<◌, ◌≤◌, List, ℕ, Option as OptionOf, Some, None, Err, length, vec_len};
+ghost use Rattle.std.specs.Prelude.{◌≡◌, ◌≢◌, ◌↔◌, ◌⊎◌, ◌<◌, ◌≤◌, List, ℕ, Bool, Option as OptionOf, Some, None, Err, length, vec_len};
 ghost use Rattle.vx_pic.specs.Rules.{Readers};
 ghost use Rattle.vx_pic.specs.H266.{AreOfH266};
 ghost use Rattle.vx_run.specs.Change.{HasFault, change, source_at, sources_change};
@@ -50,7 +50,7 @@ pub fn run<K: Sink, E: Sink>(
 
     // Which status it is, want of memory and faults aside.
     ensures words { (result ≡ 2) ↔ ¬ IsUnderstood (texts words.now) }
-    ensures exact { (R : Readers) → AreOfH266 R → (file : List ℕ) → AskFor (texts words.now) (for_show file)
+    ensures exact { (R : Readers) → AreOfH266 R → (fields : Bool) (file : List ℕ) → AskFor (texts words.now) (for_show fields file)
         → let source = source_at (sources_change bytes_left read_faults sources.old.items sources.new.items) 0 in
         ¬ HasFault source → ¬ HasFault (change K.bytes_taken K.write_faults out.old out.new)
         → result ≢ 4 → WhereKnown R source (λ b units ending. result ≡ status_at ending) }
@@ -106,7 +106,7 @@ fn perform<K: Sink>(
     ensures list { vec_len sources.new ≡ vec_len sources.old }
 {
     match command_of(words) {
-        Some(Command::Show { .. }) => show(alloc, &mut sources[0], out),
+        Some(Command::Show { fields, .. }) => show(alloc, fields, &mut sources[0], out),
         Some(
             Command::Extract {
                 tid,

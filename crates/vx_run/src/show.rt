@@ -1,6 +1,6 @@
-//! `show FILE`: lines for the NAL units, the sets and the pictures of a byte stream.
+//! `show [--fields] FILE`: lines for the NAL units, the sets and the pictures of a byte stream, and for the fields of sets and headers.
 
-ghost use Rattle.std.specs.Prelude.{◌≡◌, ◌+◌, ◌<◌, ◌++◌, ◌∷◌, [], List, ℕ, length, Some, None, Ok, Err, IfOk, IfErr, MatchOption, OnOk, OnSome};
+ghost use Rattle.std.specs.Prelude.{◌≡◌, ◌+◌, ◌<◌, ◌++◌, ◌∷◌, [], List, ℕ, length, Some, None, Ok, Err, IfOk, IfErr, MatchOption, OnOk, OnErr, OnSome};
 ghost use Rattle.vx_annexb.specs.ByteStream.{UnitPlace};
 ghost use Rattle.vx_annexb.specs.Held.{IsSought, is_all};
 ghost use Rattle.vx_pic.specs.Readings.{Reading, pictures as pictures_in};
@@ -11,28 +11,37 @@ ghost use Rattle.vx_pic.specs.declared.accepted.Accepted.TheVariants.{PictureDon
 ghost use Rattle.vx_report.specs.SetLine.{set_text};
 ghost use Rattle.vx_report.specs.PictureLine.{picture_text};
 ghost use Rattle.vx_assemble.specs.Held.{HasPicture};
-ghost use Rattle.vx_assemble.specs.Feed.{HasFed, IsOpen, IsTold, left_to_take};
+ghost use Rattle.vx_assemble.specs.Feed.{HasFed, IsOpen, IsTold, IsToldBy, Gives, GivesSeen, Lowers, left_to_take};
+ghost use Rattle.vx_assemble.specs.declared.feed.Taken.TheVariants.{End as Ended};
+ghost use Rattle.vx_pic.specs.Shown.{no_fields};
+ghost use Rattle.vx_report.specs.FieldsLine.{fields_text};
 ghost use Rattle.vx_run.specs.Change.{change};
 ghost use Rattle.vx_run.specs.Conclusion.{IsOfCommand};
-ghost use Rattle.vx_run.specs.Show.{ShowsBy, tells_nothing, seen_of, set_lines, picture_lines, unit_lines, behind_unit as place_behind};
-ghost use Rattle.vx_run.specs.inner.Showing.{ReadsOn, GathersNext, Gathers, ShowsLater};
+ghost use Rattle.vx_run.specs.Show.{ShowsBy, teller, refused_field, seen_of, set_lines, picture_lines, unit_lines, behind_unit as place_behind};
+ghost use Rattle.vx_run.specs.inner.Showing.{seen_by, ReadsOn, GathersNext, Gathers, ShowsLater};
 
 use crate::stop::Stop;
 use std::alloc::{AllocError, Global};
 use vx_annexb::{NalHeader, ReadFault};
 use vx_assemble::{Accepted, Feed, FeedFault, Taken};
+use vx_bits::Refusal;
 use vx_io::{Sink, Source, write_all};
-use vx_report::{PictureNumbers, SetNumbers, Where, picture_line, set_line, unit_line};
+use vx_pic::StructureFields;
+use vx_report::{
+    PictureNumbers, SetNumbers, Where, fields_line, picture_line, set_line, unit_line,
+};
 
 /// Writes lines for each NAL unit of a source, in order: of the unit, of the set that
-/// it is, and of the picture that it completes. The lines of all units whose end is
-/// seen are written before the source is read on.
+/// it is, and of the picture that it completes; and of the fields that it spells, where
+/// these are asked for. The lines of all units whose end is seen are written before the
+/// source is read on.
 pub(crate) fn show<K: Sink>(
     alloc: Global,
+    fields: bool,
     source: &mut Box<dyn Source>,
     out: &mut K,
 ) -> Result<(), Stop>
-    ensures shows { (R : Readers) → AreOfH266 R → ShowsBy R tells_nothing (change bytes_left read_faults source.old source.new)
+    ensures shows { (R : Readers) (h : AreOfH266 R) → ShowsBy R (teller fields R h) (change bytes_left read_faults source.old source.new)
         (change K.bytes_taken K.write_faults out.old out.new) result }
     ensures stop { IfErr result IsOfCommand }
 {
@@ -41,7 +50,7 @@ pub(crate) fn show<K: Sink>(
     let mut pictures = 0;
     while feed.is_open() {
         read_on(&mut feed, source)?;
-        pictures = show_seen(alloc, &mut feed, pictures, &mut lines, out)?;
+        pictures = show_seen(alloc, &mut feed, fields, pictures, &mut lines, out)?;
     }
     Ok(())
 }
@@ -68,13 +77,14 @@ fn read_on(feed: &mut Feed, source: &mut Box<dyn Source>) -> Result<(), Stop>
 fn show_seen<K: Sink>(
     alloc: Global,
     feed: &mut Feed,
+    fields: bool,
     pictures: u64,
     lines: &mut Vec<u8>,
     out: &mut K,
 ) -> Result<u64, Stop>
-    ensures answer { (R : Readers) → AreOfH266 R → (g : List ℕ) (units : List UnitPlace) (before : List Reading)
+    ensures answer { (R : Readers) (h : AreOfH266 R) (g : List ℕ) (units : List UnitPlace) (before : List Reading)
         → HasFed R feed.old g units before → pictures ≡ length (pictures_in before)
-        → ShowsLater R tells_nothing g units before feed.new (change K.bytes_taken K.write_faults out.old out.new) result }
+        → ShowsLater R (teller fields R h) g units before feed.new (change K.bytes_taken K.write_faults out.old out.new) result }
     ensures taken { feed.new.reader.taken ≡ feed.old.reader.taken }
     ensures closed { feed.new.reader.closed ≡ feed.old.reader.closed }
     ensures all { is_all feed.new.reader.splitter ≡ is_all feed.old.reader.splitter }
@@ -82,17 +92,23 @@ fn show_seen<K: Sink>(
     ensures stop { IfErr result IsOfCommand }
 {
     lines.clear();
-    let ending = gather(alloc, feed, pictures, lines);
+    let ending = gather(alloc, feed, fields, pictures, lines);
     write_all(out, lines)?;
     ending
 }
 
 /// Puts the lines of the units whose end is seen in what was read behind others.
 /// Answers how many pictures there are in all, behind the first `pictures`.
-fn gather(alloc: Global, feed: &mut Feed, pictures: u64, lines: &mut Vec<u8>) -> Result<u64, Stop>
-    ensures answer { (R : Readers) → AreOfH266 R → (g : List ℕ) (units : List UnitPlace) (before : List Reading)
+fn gather(
+    alloc: Global,
+    feed: &mut Feed,
+    fields: bool,
+    pictures: u64,
+    lines: &mut Vec<u8>,
+) -> Result<u64, Stop>
+    ensures answer { (R : Readers) (h : AreOfH266 R) (g : List ℕ) (units : List UnitPlace) (before : List Reading)
         → HasFed R feed.old g units before → pictures ≡ length (pictures_in before)
-        → Gathers R tells_nothing g units before feed.new lines.old.items lines.new.items result }
+        → Gathers R (teller fields R h) g units before feed.new lines.old.items lines.new.items result }
     ensures taken { feed.new.reader.taken ≡ feed.old.reader.taken }
     ensures closed { feed.new.reader.closed ≡ feed.old.reader.closed }
     ensures all { is_all feed.new.reader.splitter ≡ is_all feed.old.reader.splitter }
@@ -100,7 +116,7 @@ fn gather(alloc: Global, feed: &mut Feed, pictures: u64, lines: &mut Vec<u8>) ->
     ensures stop { IfErr result IsOfCommand }
 {
     let mut count = pictures;
-    while let Some(next) = gather_next(alloc, feed, count, lines)? {
+    while let Some(next) = gather_next(alloc, feed, fields, count, lines)? {
         count = next;
     }
     Ok(count)
@@ -111,12 +127,13 @@ fn gather(alloc: Global, feed: &mut Feed, pictures: u64, lines: &mut Vec<u8>) ->
 fn gather_next(
     alloc: Global,
     feed: &mut Feed,
+    fields: bool,
     pictures: u64,
     lines: &mut Vec<u8>,
 ) -> Result<Option<u64>, Stop>
-    ensures answer { (R : Readers) → AreOfH266 R → (g : List ℕ) (units : List UnitPlace) (before : List Reading)
+    ensures answer { (R : Readers) (h : AreOfH266 R) (g : List ℕ) (units : List UnitPlace) (before : List Reading)
         → HasFed R feed.old g units before → pictures ≡ length (pictures_in before)
-        → GathersNext R tells_nothing g units before feed.new lines.old.items lines.new.items result }
+        → GathersNext R (teller fields R h) g units before feed.new lines.old.items lines.new.items result }
     ensures taken { feed.new.reader.taken ≡ feed.old.reader.taken }
     ensures closed { feed.new.reader.closed ≡ feed.old.reader.closed }
     ensures all { is_all feed.new.reader.splitter ≡ is_all feed.old.reader.splitter }
@@ -125,7 +142,8 @@ fn gather_next(
     ensures stop { IfErr result IsOfCommand }
 {
     let unit = feed.unit();
-    match feed.next() {
+    let mut seen = StructureFields::new(alloc);
+    match take_next(feed, fields, &mut seen) {
         Ok(
             Some(
                 Taken::Nal {
@@ -136,17 +154,74 @@ fn gather_next(
                 },
             ),
         ) => {
-            let made = lines_of(alloc, feed, header, offset, bytes, what, pictures)?;
+            let mut made = lines_of(alloc, feed, header, offset, bytes, what, pictures)?;
+            fields_line(&mut made, unit, &seen, None)?;
             lines.extend_from_slice(&made)?;
             Ok(Some(count_with(what, pictures, feed.unit())))
         }
         Ok(Some(Taken::End)) => Ok(None),
         Ok(None) => Ok(None),
-        Err(FeedFault::Refused(refusal)) => Err(Stop::Refused {
-            refusal,
-            place: behind_unit(unit),
-        }),
+        Err(FeedFault::Refused(refusal)) => {
+            tell_refused(alloc, unit, &seen, refusal, lines)?;
+            Err(Stop::Refused {
+                refusal,
+                place: behind_unit(unit),
+            })
+        }
         Err(_) => Err(Stop::NoMemory),
+    }
+}
+
+/// Takes the next unit. Where fields are asked for, those are seen that it spells, up to the first that is refused; else none.
+fn take_next(
+    feed: &mut Feed,
+    fields: bool,
+    seen: &mut StructureFields,
+) -> Result<Option<Taken>, FeedFault>
+    requires { seen.old ≡ no_fields }
+    ensures answer { (R : Readers) → AreOfH266 R → (g : List ℕ) (units : List UnitPlace) (before : List Reading)
+        → HasFed R feed.old g units before → Gives R g units before feed.new result }
+    ensures seen { (R : Readers) (h : AreOfH266 R) (g : List ℕ) (units : List UnitPlace) (before : List Reading)
+        → HasFed R feed.old g units before → GivesSeen (seen_by fields R h) no_fields R g units before feed.new result seen.new }
+    ensures open { result ≡ Ok None → IsOpen feed.new }
+    ensures sought { result ≡ Ok None → IsSought feed.new.reader.splitter }
+    ensures taken { feed.new.reader.taken ≡ feed.old.reader.taken }
+    ensures closed { feed.new.reader.closed ≡ feed.old.reader.closed }
+    ensures all { is_all feed.new.reader.splitter ≡ is_all feed.old.reader.splitter }
+    ensures lowers { IfOk result (λ given. Lowers given (left_to_take feed.old) (left_to_take feed.new)) }
+    ensures ended { result ≡ Ok (Some Ended) → ¬ IsOpen feed.new }
+    ensures told { IfOk result (IsToldBy feed.new.assembler) }
+{
+    if fields {
+        return feed.next_with(seen);
+    }
+    feed.next()
+}
+
+/// Puts the line of what a refused unit spells before the refusal behind others.
+fn tell_refused(
+    alloc: Global,
+    unit: u64,
+    seen: &StructureFields,
+    refusal: Refusal,
+    lines: &mut Vec<u8>,
+) -> Result<(), AllocError>
+    ensures ok { OnOk result (lines.new.items ≡ lines.old.items ++ fields_text unit seen.now (refused_field refusal)) }
+    ensures err { OnErr result (lines.new.items ≡ lines.old.items) }
+{
+    let mut made = Vec::new(alloc);
+    fields_line(&mut made, unit, seen, field_of(refusal))?;
+    lines.extend_from_slice(&made)?;
+    Ok(())
+}
+
+/// The field at which a rule is broken, where it is one of syntax.
+fn field_of(refusal: Refusal) -> Option<u16>
+    ensures { result ≡ refused_field refusal }
+{
+    match refusal {
+        Refusal::Syntax { field, .. } => Some(field),
+        _ => None,
     }
 }
 

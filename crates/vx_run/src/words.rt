@@ -1,9 +1,9 @@
 //! The grammar of the program's words, without the program's name.
 
-ghost use Rattle.std.specs.Prelude.{◌≡◌, ◌≤◌, ◌∷◌, ◌↔◌, [], ℕ, List, Option as OptionOf, true, false, decimal, codes, None, IfSome, IfNone, IsTrue, MatchOption, map, slice_get, option_copied};
+ghost use Rattle.std.specs.Prelude.{◌≡◌, ◌≤◌, ◌∷◌, ◌↔◌, [], ℕ, Bool, List, Option as OptionOf, true, false, decimal, codes, None, IfSome, IfNone, IsTrue, MatchOption, map, slice_get, option_copied};
 ghost use Rattle.std.specs.List.{AllByRecursion};
 ghost use Rattle.vx_run.specs.Asked.{asked};
-ghost use Rattle.vx_run.specs.Grammar.{Command as Asked, extract, check_extract, merge, play, check_merge, verify, trial, explain, Placing as PlacingAsked, spelling, IsRuleOrField, IsWellNamed, AskFor, IsUnderstood, NamesFiles, files_of, texts};
+ghost use Rattle.vx_run.specs.Grammar.{Command as Asked, show, extract, check_extract, merge, play, check_merge, verify, trial, explain, Placing as PlacingAsked, spelling, IsRuleOrField, IsWellNamed, AskFor, IsUnderstood, NamesFiles, files_of, texts};
 ghost use Rattle.vx_run.specs.inner.Placings.{IsPlacingWord, HasPlacings, NameLevelAndFiles, PlaceFiles, Spells, placed, placing_in};
 ghost use Rattle.vx_run.specs.inner.Words.{BeginsNot, IsNumberFirst, IsOptionFirst, is_plain};
 
@@ -12,8 +12,9 @@ use vx_explain::{explanation, rules_and_fields_are_explained};
 /// What the words ask for, with what they name.
 #[derive(Clone, Copy)]
 pub(crate) enum Command<'a> {
-    /// `show FILE`
+    /// `show [--fields] FILE`
     Show {
+        fields: bool,
         file: &'a str,
     },
     /// `extract [--tid T] [--level N] INDEX FILE`
@@ -95,6 +96,9 @@ pub(crate) fn command_of(words: &[String]) -> Option<Command<'_>>
     if let Some(command) = plain_of(words) {
         return Some(command);
     }
+    if let Some(rest) = behind(words, "show") {
+        return show_of(rest);
+    }
     if let Some(rest) = behind(words, "--explain") {
         return explain_of(rest);
     }
@@ -116,22 +120,33 @@ pub(crate) fn command_of(words: &[String]) -> Option<Command<'_>>
     check_of(behind(words, "check")?)
 }
 
-/// The command, where it is `show` or one word alone.
+/// The command, where it is one word alone.
 fn plain_of(words: &[String]) -> Option<Command<'_>>
     ensures some { IfSome result (λ command. AskFor (texts words.now) (asked command)) }
     ensures placings { IfSome result HasPlacings }
     ensures none { IfNone result ((command : Asked) → is_plain command ≡ true → AskFor (texts words.now) command → ⊥) }
 {
     match words {
-        [name, file] if name.as_str() == "show" && !file.is_empty() => {
-            Some(Command::Show {
-                file: file.as_str(),
-            })
-        }
         [word] if word.as_str() == "--help" => Some(Command::Help),
         [word] if word.as_str() == "--version" => Some(Command::Version),
         _ => None,
     }
+}
+
+/// `[--fields] FILE`
+fn show_of(words: &[String]) -> Option<Command<'_>>
+    ensures some { IfSome result (λ command. AskFor (codes "show" ∷ texts words.now) (asked command)) }
+    ensures placings { IfSome result HasPlacings }
+    ensures none { IfNone result ((fields : Bool) (file : List ℕ) → AskFor (codes "show" ∷ texts words.now) (show fields file) → ⊥) }
+{
+    if let Some(file) = file_alone(words) {
+        return Some(Command::Show {
+            fields: false,
+            file,
+        });
+    }
+    let file = file_alone(behind(words, "--fields")?)?;
+    Some(Command::Show { fields: true, file })
 }
 
 /// `WORD`: a rule, or the number of a field.
@@ -435,7 +450,7 @@ pub fn file_word(words: &[String], k: usize) -> Option<&str>
     ensures none { ¬ IsUnderstood (texts words.now) → result ≡ None }
 {
     match command_of(words)? {
-        Command::Show { file }
+        Command::Show { file, .. }
         | Command::Extract { file, .. }
         | Command::CheckExtract { file, .. } => file_alone_at(file, k),
         Command::Merge { placings, .. } => placed_file(placings, k),

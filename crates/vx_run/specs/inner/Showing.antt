@@ -1,6 +1,6 @@
 -- The steps of `show`: the lines of the units that are seen, gathered and then written, and what the source has given. `before` are
 -- what the units were read as, the latest first.
-use Rattle.std.specs.Prelude.{◌≡◌, ◌⊎◌, ℕ, ◌+◌, ◌-◌, ◌^◌, ◌<◌, false, List, [], ◌∷◌, ◌++◌, length}
+use Rattle.std.specs.Prelude.{◌≡◌, ◌⊎◌, ℕ, ◌+◌, ◌-◌, ◌^◌, ◌<◌, Bool, true, false, List, [], ◌∷◌, ◌++◌, length}
 use Rattle.std.specs.Prelude.{Option, Some, None, Result, Ok, Err}
 use Rattle.std.specs.Io.KnownBytes.{Consumes, IsAtEnd}
 use Rattle.vx_annexb.specs.ByteStream.{UnitPlace, unit_bytes, IsUnit, IsStream, FollowsFrom, end_of}
@@ -11,6 +11,10 @@ use Rattle.vx_annexb.specs.declared.unit_reader.ReadFault.{ReadFault as ReadAnsw
 use Rattle.vx_annexb.specs.declared.unit_reader.ReadFault.TheVariants.{Memory, SourceFailed}
 use Rattle.vx_pic.specs.Readings.{Reading, pictures}
 use Rattle.vx_pic.specs.Rules.{Readers}
+use Rattle.vx_pic.specs.H266.{AreOfH266}
+use Rattle.vx_pic.specs.Shown.{no_fields}
+use Rattle.vx_pic.specs.declared.structure.StructureFields.{StructureFields}
+use Rattle.vx_assemble.specs.Fields.{unit_fields}
 use Rattle.vx_pic.specs.Streams.{read_on, all_read, lacks_slice}
 use Rattle.vx_pic.specs.Bytes.{units_at}
 use Rattle.vx_assemble.specs.Feed.{Feeding, HasFed, UnitIsRefused, IsRefusedFor, by_bytes, by_unit, at_end, ReadsOn as Reads}
@@ -21,6 +25,11 @@ use Rattle.vx_run.specs.declared.stop.Stop.TheVariants.{Refused, ReadFault, Writ
 use Rattle.vx_run.specs.Change.{Change, HasNoFault, Gains, GainsFront}
 use Rattle.vx_run.specs.Conclusion.{Outcome}
 use Rattle.vx_run.specs.Show.{Teller, seen_of, lines_behind, shown_lines, told_lines, behind_unit, shown_by, read_len}
+
+-- what is seen of the fields of a unit: those that it spells, where they are asked for
+abbrev pub seen_by : (fields : Bool) → (R : Readers) → AreOfH266 R → List Reading → List ℕ → StructureFields
+seen_by true R h before unit = unit_fields R h before unit
+seen_by false R h before unit = no_fields
 
 -- more may be read, or all was, and no picture lacks a slice
 abbrev pub EndsBy : Option Closed → List Reading → Type 0

@@ -16,9 +16,9 @@ abbrev pub IsOptionFirst : List ℕ → ℕ → List (List ℕ) → Option ℕ �
 IsOptionFirst name most words None rest = (rest ≡ words) × BeginsNot name words
 IsOptionFirst name most words (Some n) rest = (after : List (List ℕ)) × (words ≡ name ∷ after) × IsNumberFirst most after n rest
 
--- the command is one of a single word, or `show`
+-- the command is one of a single word
 abbrev pub is_plain : Command → Bool
-is_plain (show file) = true
+is_plain (show fields file) = false
 is_plain (extract tid level index file) = false
 is_plain (check_extract tid index file) = false
 is_plain (merge level placings) = false

@@ -13,10 +13,10 @@ use Rattle.vx_run.specs.Merge.{EndsOnce}
 use Rattle.vx_run.proofs.program.run.Goals as goal
 
 pub returns-in-Ok-clause-exact : goal.returns-in-Ok-clause-exact
-returns-in-Ok-clause-exact g c R of file spelled read write fits = exact-done R of _ _ _ file c.in-Ok.ensures.performs spelled
+returns-in-Ok-clause-exact g c R of fields file spelled read write fits = exact-done R of _ _ _ fields file c.in-Ok.ensures.performs spelled
 
 pub returns-in-Err-clause-exact : goal.returns-in-Err-clause-exact
-returns-in-Err-clause-exact g c R of file spelled = exact-stopped R of _ _ _ _ c.in-Err.stop c.conclude.result file c.in-Err.ensures.performs c.conclude.ensures spelled
+returns-in-Err-clause-exact g c R of fields file spelled = exact-stopped R of _ _ _ _ c.in-Err.stop c.conclude.result fields file c.in-Err.ensures.performs c.conclude.ensures spelled
 
 pub returns-in-Err-clause-words : goal.returns-in-Err-clause-words
 returns-in-Err-clause-words g c = words-stopped _ _ _ _ c.in-Err.stop c.conclude.result c.in-Err.ensures.performs c.conclude.ensures

@@ -1,0 +1,74 @@
+-- What is told of the fields of a unit, by what was seen of them.
+use Rattle.std.proofs.Common.{◌≡◌, ℕ, Bool, true, false, List, [], ◌∷◌, ◌++◌, ◌∙◌, Option, Some, None, Result, Ok, Err, length, refl, sym, ap}
+use Rattle.vx_bits.specs.declared.refusal.Refusal.{Refusal}
+use Rattle.vx_annexb.specs.ByteStream.{UnitPlace, unit_bytes}
+use Rattle.vx_annexb.specs.Reading.{Reading as ReaderState}
+use Rattle.vx_pic.specs.declared.structure.StructureFields.{StructureFields}
+use Rattle.vx_pic.specs.Shown.{no_fields}
+use Rattle.vx_pic.specs.Readings.{Reading}
+use Rattle.vx_pic.specs.Rules.{Readers, reads}
+use Rattle.vx_pic.specs.H266.{AreOfH266}
+use Rattle.vx_pic.specs.Streams.{read_on, all_read}
+use Rattle.vx_pic.specs.Bytes.{units_at}
+use Rattle.vx_assemble.specs.declared.feed.Taken.{Taken}
+use Rattle.vx_assemble.specs.declared.feed.Taken.TheVariants.{Nal, End}
+use Rattle.vx_assemble.specs.declared.feed.FeedFault.{FeedFault}
+use Rattle.vx_assemble.specs.declared.feed.FeedFault.TheVariants as faults
+use Rattle.vx_assemble.specs.Feed.{Feeding, HasFed, Gives, GivesSeen, SeesRefused, at_bytes, at_unit, sees_at_end, IsRefusedFor, by_bytes, by_unit, at_end}
+use Rattle.vx_report.specs.FieldsLine.{fields_text}
+use Rattle.vx_run.specs.Show.{seen_of, teller, refused_field, field_of, unit_lines, told_lines}
+use Rattle.vx_run.specs.inner.Showing.{seen_by, told_refused}
+use Rattle.vx_run.proofs.Lined.{all_length, read_one}
+use Rattle.vx_run.proofs.Gathering.{later_read}
+
+none_told : (n : ℕ) (seen : StructureFields) (field : Option ℕ) → seen ≡ no_fields → fields_text n seen field ≡ []
+unfolding fields_text
+none_told n seen field none = ap (λ s. fields_text n s field) none
+
+-- by whether they are asked for
+fields_told : (fields : Bool) (R : Readers) (h : AreOfH266 R) (before : List Reading) (unit : List ℕ) (n : ℕ) (seen : StructureFields) (field : Option ℕ) → n ≡ length before → seen ≡ seen_by fields R h before unit → field ≡ field_of (reads R before unit)
+    → fields_text n seen field ≡ teller fields R h before unit
+fields_told true R h before unit n seen field count is at = ap (λ k. fields_text k seen field) count ∙ ap (λ s. fields_text (length before) s field) is ∙ ap (fields_text (length before) (seen_by true R h before unit)) at
+fields_told false R h before unit n seen field count is at = none_told n seen field is
+
+-- of a unit that is refused
+refused_fields : (fields : Bool) (R : Readers) (h : AreOfH266 R) (f : ReaderState) (g : List ℕ) (units : List UnitPlace) (before : List Reading) (r : Refusal) (n : ℕ) (seen : StructureFields) → n ≡ length before
+    → SeesRefused (seen_by fields R h) no_fields R f g units before r seen → (why : IsRefusedFor R f g units before r) × (fields_text n seen (refused_field r) ≡ told_refused (teller fields R h) why)
+refused_fields fields R h f g units before r n seen count (at_bytes stream none) = (by_bytes stream, none_told n seen (refused_field r) none)
+refused_fields fields R h f g units before r n seen count (at_unit u is) =
+    (by_unit u, fields_told fields R h before (unit_bytes (seen_of g) u.unit) n seen (refused_field r) count is (sym (ap field_of u.refused)))
+refused_fields fields R h f g units before r n seen count (sees_at_end e none) = (at_end e, none_told n seen (refused_field r) none)
+
+module _ (R : Readers) (h : AreOfH266 R) (g : List ℕ) (units : List UnitPlace) (before : List Reading) (f0 f : Feeding) (fed : HasFed R f0 g units before) (n : ℕ) (count : n ≡ f0.units) where
+  -- as many units as readings
+  before_count : n ≡ length before
+  before_count = count ∙ fed.count ∙ sym (all_length R (seen_of g) units before fed.readings)
+
+  -- of one that was taken: its lines, and then what is told of its fields
+  pub taken_fields : (fields : Bool) (u : UnitPlace) (r : Reading) (seen : StructureFields) (made with : List ℕ) → HasFed R f g (units ++ u ∷ []) (r ∷ before) → seen ≡ seen_by fields R h before (unit_bytes (seen_of g) u)
+      → made ≡ unit_lines (seen_of g) u r before → with ≡ made ++ fields_text n seen None → with ≡ told_lines (teller fields R h) (seen_of g) u r before
+  taken_fields fields u r seen made with taken is lines whole =
+      let b = seen_of g in
+      let read : reads R before (unit_bytes b u) ≡ Ok r = read_one R before r (unit_bytes b u) (later_read R b units (u ∷ []) before (r ∷ before) fed.readings taken.readings) in
+      let told = fields_told fields R h before (unit_bytes b u) n seen None before_count is (sym (ap field_of read)) in
+      whole ∙ ap (λ l. l ++ fields_text n seen None) lines ∙ ap (λ l. unit_lines b u r before ++ l) told
+
+  -- of one for which the feed is refused
+  pub refused_told_of : (fields : Bool) (r : Refusal) (seen : StructureFields) → GivesSeen (seen_by fields R h) no_fields R g units before f (Err (faults.Refused r)) seen
+      → (why : IsRefusedFor R f.reader g units before r) × (fields_text n seen (refused_field r) ≡ told_refused (teller fields R h) why)
+  refused_told_of fields r seen sees = refused_fields fields R h f.reader g units before r n seen before_count sees
+
+-- nothing is seen where no fields are asked for
+refused_unseen : (R : Readers) (h : AreOfH266 R) (f : ReaderState) (g : List ℕ) (units : List UnitPlace) (before : List Reading) (r : Refusal) → IsRefusedFor R f g units before r → SeesRefused (seen_by false R h) no_fields R f g units before r no_fields
+refused_unseen R h f g units before r (by_bytes stream) = at_bytes stream refl
+refused_unseen R h f g units before r (by_unit u) = at_unit u refl
+refused_unseen R h f g units before r (at_end e) = sees_at_end e refl
+
+pub gives_unseen : (R : Readers) (h : AreOfH266 R) (g : List ℕ) (units : List UnitPlace) (before : List Reading) (f : Feeding) (result : Result (Option Taken) FeedFault) → Gives R g units before f result → GivesSeen (seen_by false R h) no_fields R g units before f result no_fields
+gives_unseen R h g units before f (Ok (Some (Nal header place bytes what))) gives = (gives.0, gives.1, gives.2, gives.3, refl)
+gives_unseen R h g units before f (Ok (Some End)) gives = refl
+gives_unseen R h g units before f (Ok None) gives = refl
+gives_unseen R h g units before f (Err (faults.Refused r)) gives = refused_unseen R h f.reader g units before r gives.0
+gives_unseen R h g units before f (Err faults.Memory) gives = tt
+gives_unseen R h g units before f (Err faults.SourceFailed) gives = tt
+gives_unseen R h g units before f (Err (faults.Stopped first)) gives = tt
