@@ -4,8 +4,8 @@
 usage: scripts/make-cases.py VECTORS STREAMS
 
 It writes crates/vx_cases/stdin and crates/vx_cases/stdout. No expected value is taken from the program: the worked cases stand in
-worked_cases.py, told_cases.py, fed_cases.py, verify_cases.py, hostile_cases.py, play_cases.py, trial_cases.py and explain_cases.py,
-and VECTORS and STREAMS are folders.
+worked_cases.py, told_cases.py, fed_cases.py, verify_cases.py, hostile_cases.py, play_cases.py, trial_cases.py, explain_cases.py and
+fields_cases.py, and VECTORS and STREAMS are folders.
 
 In merge.txt of VECTORS a case is a line `case N merge WORDS`, with the number of a source behind each `=`, a line `source BYTES` for each
 source in hexadecimal, and a line `status=S err=LINE out=BYTES` of what `merge` comes to, with blanks of LINE as `_` and `-` for none. In
@@ -22,6 +22,7 @@ import sys
 from case_lines import Cases, Expected, expected_of, family_merges, model_merges, units
 from explain_cases import add_explained
 from fed_cases import add_fed
+from fields_cases import add_family_sets, add_fields, add_model_fields
 from hostile_cases import add_hostile
 from joined_streams import joined
 from plain_streams import stream
@@ -126,6 +127,10 @@ def main(vectors, streams):
     add_trials(cases, os.path.join(vectors, "trial.txt"))
     add_explained(cases)
     add_joined(cases, vectors)
+    add_fields(cases)
+    add_family_sets(cases, family_merges(streams))
+    add_model_fields(cases, *({number: lines[1:] for number, lines in sections(os.path.join(vectors, name)).items()}
+                              for name in ("streams.txt", "show.txt")))
     cases.write(CRATE)
     print(f"{cases.count} cases, {len(cases.names)} streams")
 

@@ -1,10 +1,7 @@
 -- The words of `show`.
 use Rattle.std.proofs.Common.{◌≡◌, ℕ, true, false, Bool, List, [], ◌∷◌, ◌∙◌, drop, ap, sym, codes}
 use Rattle.vx_run.specs.Grammar.{show, AskFor}
-use Rattle.vx_run.specs.inner.Words.{BeginsNot}
-
-abbrev NoneAlone : List (List ℕ) → Type 0
-NoneAlone words = (file : List ℕ) → words ≡ file ∷ [] → file ≡ []
+use Rattle.vx_run.specs.inner.Words.{BeginsNot, NoneAlone}
 
 plain : (words : List (List ℕ)) (file : List ℕ) → NoneAlone words → AskFor (codes "show" ∷ words) (show false file) → ⊥
 plain words file none p = p.named (none file (ap (drop 1) p.spelled))

@@ -179,9 +179,9 @@ module _ {K : Type 0} (R : Readers) (T : Teller) (out : Change K) (b given : Lis
       (told_at ending (length us) refusal one.1, gains_told all is follow one.0 (gains_alone told none gained))
 
 -- the first unit of some, and of one more
-with_first : {P : List UnitPlace → Type 0} {Q : List UnitPlace → Type 0} {C : Type 0} (us : List UnitPlace) (u : UnitPlace) → ((v : UnitPlace) (vs : List UnitPlace) → P (v ∷ vs) → Q (v ∷ vs) → C) → P (us ++ u ∷ []) → Q (us ++ u ∷ []) → C
-with_first [] u from p q = from u [] p q
-with_first (v ∷ vs) u from p q = from v (vs ++ u ∷ []) p q
+with_first : (P Q : List UnitPlace → Type 0) {C : Type 0} (us : List UnitPlace) (u : UnitPlace) → ((v : UnitPlace) (vs : List UnitPlace) → P (v ∷ vs) → Q (v ∷ vs) → C) → P (us ++ u ∷ []) → Q (us ++ u ∷ []) → C
+with_first P Q [] u from p q = from u [] p q
+with_first P Q (v ∷ vs) u from p q = from v (vs ++ u ∷ []) p q
 
 -- a list that is not empty has a last entry
 split_last : (u : UnitPlace) (us : List UnitPlace) → (before : List UnitPlace) × (last : UnitPlace) × (u ∷ us ≡ before ++ last ∷ [])
@@ -378,7 +378,7 @@ module _ {A K : Type 0} (left : A → Option (List ℕ)) (reads : A → ℕ) (ta
       ap (λ l. shown_lines R T g (reached.units ++ later) ++ l) (tells ∙ sym (lines_refused R T (seen_of g) after u [] r refused.refused))
       ∙ sym (lines_more R T (seen_of g) [] after (reached.units ++ later) (u ∷ []) readings)
       ∙ ap (λ l. shown_lines R T g l) same in
-      with_first later u
+      with_first (λ l. FollowsFrom (seen_of g) (is_all f.reader.splitter) 0 (reached.units ++ l)) (λ l. GainsFront (Out o o'') (shown_lines R T g (reached.units ++ l))) later u
       (λ v vs. front_of s s' o o' o'' f n reached v vs)
       (subst (λ (l : List UnitPlace). FollowsFrom (seen_of g) (is_all f.reader.splitter) 0 l) same (subst (λ (a : Bool). FollowsFrom (seen_of g) a 0 ((reached.units ++ later) ++ u ∷ [])) all refused.follows))
       (subst (λ (l : List ℕ). GainsFront (Out o o'') l) lines front)

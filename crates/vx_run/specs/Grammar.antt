@@ -15,7 +15,7 @@ pub record Placing : Type 0 where
 
 -- what the words ask for
 pub data Command : Type 0 where
-  show : (fields : Bool) → List ℕ → Command
+  show : (with_fields : Bool) → List ℕ → Command
   extract : (tid level : Option ℕ) (index : ℕ) → List ℕ → Command
   check_extract : (tid : Option ℕ) (index : ℕ) → List ℕ → Command
   merge : (level : Option ℕ) → List Placing → Command
@@ -51,7 +51,7 @@ placing_word p = decimal p.x ++ (codes "," ++ (decimal p.y ++ (codes "=" ++ p.fi
 -- `play [--level N] X,Y=FILE ..`, `check merge X,Y=FILE ..`, `verify merge OUT X,Y=FILE ..`, `trial SEED SOURCES PICTURES`,
 -- `--help`, `--version`, `--explain WORD`
 abbrev pub spelling : Command → List (List ℕ)
-spelling (show fields file) = codes "show" ∷ (fields_words fields ++ file ∷ [])
+spelling (show with_fields file) = codes "show" ∷ (fields_words with_fields ++ file ∷ [])
 spelling (extract tid level index file) = codes "extract" ∷ (tid_words tid ++ (level_words level ++ (decimal index ∷ file ∷ [])))
 spelling (check_extract tid index file) = codes "check" ∷ codes "extract" ∷ (tid_words tid ++ (decimal index ∷ file ∷ []))
 spelling (merge level placings) = codes "merge" ∷ (level_words level ++ map placing_word placings)
@@ -87,7 +87,7 @@ IsRuleOrField word = Contains (rules ++ map decimal fields) word
 
 -- a file's name has a byte, numbers are in their ranges, a merge has a source, and what is explained is a rule or a field
 abbrev pub IsWellNamed : Command → Type 0
-IsWellNamed (show fields file) = file ≢ []
+IsWellNamed (show with_fields file) = file ≢ []
 IsWellNamed (extract tid level index file) = IsTid tid × IsLevel level × IsIndex index × (file ≢ [])
 IsWellNamed (check_extract tid index file) = IsTid tid × IsIndex index × (file ≢ [])
 IsWellNamed (merge level placings) = IsLevel level × (placings ≢ []) × AllByRecursion IsPlacing placings
@@ -110,7 +110,7 @@ IsUnderstood words = (command : Command) × AskFor words command
 
 -- the files that a command names, in order
 abbrev pub files_of : Command → List (List ℕ)
-files_of (show fields file) = file ∷ []
+files_of (show with_fields file) = file ∷ []
 files_of (extract tid level index file) = file ∷ []
 files_of (check_extract tid index file) = file ∷ []
 files_of (merge level placings) = map (λ p. p.file) placings

@@ -17,10 +17,12 @@ pub(crate) fn help() -> &'static [u8]
 {
     b"goosequince: subpictures of VVC byte streams (H.266, Annex B)
 
-  show FILE  lines of JSON for a byte stream: for each NAL unit its length in
+  show [--fields] FILE
+             lines of JSON for a byte stream: for each NAL unit its length in
              bytes, the place of its first byte, its TemporalId and its type,
              then what is read of the parameter set that it is, or of the
-             picture that it completes
+             picture that it completes; and with --fields each field of a set
+             or a header by its name, in the order of the bits
   extract [--tid T] [--level N] INDEX FILE
              the subpicture of an index, from 0, of each picture, as a byte stream
              of its own; of the pictures with a TemporalId of at most T, and with N

@@ -5,7 +5,7 @@ ghost use Rattle.std.specs.List.{AllByRecursion};
 ghost use Rattle.vx_run.specs.Asked.{asked};
 ghost use Rattle.vx_run.specs.Grammar.{Command as Asked, show, extract, check_extract, merge, play, check_merge, verify, trial, explain, Placing as PlacingAsked, spelling, IsRuleOrField, IsWellNamed, AskFor, IsUnderstood, NamesFiles, files_of, texts};
 ghost use Rattle.vx_run.specs.inner.Placings.{IsPlacingWord, HasPlacings, NameLevelAndFiles, PlaceFiles, Spells, placed, placing_in};
-ghost use Rattle.vx_run.specs.inner.Words.{BeginsNot, IsNumberFirst, IsOptionFirst, is_plain};
+ghost use Rattle.vx_run.specs.inner.Words.{BeginsNot, NoneAlone, IsNumberFirst, IsOptionFirst, is_plain};
 
 use vx_explain::{explanation, rules_and_fields_are_explained};
 
@@ -139,13 +139,26 @@ fn show_of(words: &[String]) -> Option<Command<'_>>
     ensures placings { IfSome result HasPlacings }
     ensures none { IfNone result ((fields : Bool) (file : List ℕ) → AskFor (codes "show" ∷ texts words.now) (show fields file) → ⊥) }
 {
-    if let Some(file) = file_alone(words) {
-        return Some(Command::Show {
-            fields: false,
-            file,
-        });
+    match file_alone(words) {
+        Some(file) => {
+            Some(Command::Show {
+                fields: false,
+                file,
+            })
+        }
+        None => show_fields_of(words),
     }
-    let file = file_alone(behind(words, "--fields")?)?;
+}
+
+/// `--fields FILE`, where this is no file alone.
+fn show_fields_of(words: &[String]) -> Option<Command<'_>>
+    requires { NoneAlone (texts words.now) }
+    ensures some { IfSome result (λ command. AskFor (codes "show" ∷ texts words.now) (asked command)) }
+    ensures placings { IfSome result HasPlacings }
+    ensures none { IfNone result ((fields : Bool) (file : List ℕ) → AskFor (codes "show" ∷ texts words.now) (show fields file) → ⊥) }
+{
+    let rest = behind(words, "--fields")?;
+    let file = file_alone(rest)?;
     Some(Command::Show { fields: true, file })
 }
 

@@ -44,7 +44,7 @@ pub record NameLevelAndFiles (words : List (List ℕ)) (level : Option ℕ) (pla
 
 -- the words of a merge do
 abbrev pub HasPlacings : Command → Type 0
-HasPlacings (Show file) = Unit {0}
+HasPlacings (Show fields file) = Unit {0}
 HasPlacings (Extract tid level index file) = Unit {0}
 HasPlacings (CheckExtract tid index file) = Unit {0}
 HasPlacings (Merge level placings) = AllByRecursion IsPlacingWord (texts placings.now)

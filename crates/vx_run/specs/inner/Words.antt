@@ -1,10 +1,14 @@
 -- Words, read from the front on.
-use Rattle.std.specs.Prelude.{◌≡◌, ℕ, ◌≤◌, List, ◌∷◌, decimal, Bool, true, false, Option, Some, None}
+use Rattle.std.specs.Prelude.{◌≡◌, ℕ, ◌≤◌, List, [], ◌∷◌, decimal, Bool, true, false, Option, Some, None}
 use Rattle.vx_run.specs.Grammar.{Command, show, extract, check_extract, merge, play, check_merge, verify, trial, help, version, explain}
 
 -- another word, or none, comes first
 abbrev pub BeginsNot : List ℕ → List (List ℕ) → Type 0
 BeginsNot name words = (rest : List (List ℕ)) → words ≡ name ∷ rest → ⊥
+
+-- no file stands alone
+abbrev pub NoneAlone : List (List ℕ) → Type 0
+NoneAlone words = (file : List ℕ) → words ≡ file ∷ [] → file ≡ []
 
 -- a number of at most so much comes first, and then these words
 pub record IsNumberFirst (most : ℕ) (words : List (List ℕ)) (n : ℕ) (rest : List (List ℕ)) : Type 0 where
