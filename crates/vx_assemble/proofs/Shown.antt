@@ -46,7 +46,7 @@ of_front : {A : Type 0} (form : Form A) (place : Place) (before : List Item) (va
 of_front form place before values cell rest r (Ok done) new items answered reads reached refused = absurd (reads.refusal values cell rest r reached refused)
 of_front form place before values cell rest r (Err errors.Memory) new items answered reads reached refused = absurd answered
 of_front form place before values cell rest r (Err (errors.Refused q)) new items answered reads reached refused =
-    (reads.refusal values cell rest r reached refused).2
+    (reads.refusal values cell rest r reached refused).1.1
 
 -- of what another reading came to
 of_ok : {A B : Type 0} (form : Form A) (place : Place) (before others : List Item) (result : Result (Unit {0}) ReadError) (new next : Place) (items : List Item) (b : B)
