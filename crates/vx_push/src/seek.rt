@@ -1,0 +1,1 @@
+//! What a feed comes to in the bytes that it took.
