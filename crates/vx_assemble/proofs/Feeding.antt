@@ -309,31 +309,29 @@ still_seen_refused sees nothing R g places before f f' (faults.Refused r) seen s
 -- ---- one read
 
 -- what was read of the units stays
-pub reads_more : (R : Readers) (g : List ℕ) (places : List UnitPlace) (before : List Reading) (old new : Feeding) (left left' : Option (List ℕ)) (faults faults' : ℕ) → HasFed R old g places before
-    → reader.IsOpen old.reader → ((units : List UnitPlace) → reader.HasRead old.reader g units → reader.Reads g units new.reader left left' faults faults' (Ok tt)) → new.assembler ≡ old.assembler → new.units ≡ old.units → new.first ≡ None
-    → ReadsOn R g places before new left left' faults faults' (Ok tt)
-reads_more R g places before old new left left' faults faults' fed open_ read same units first =
-    let r = read places fed.read in
-    let piece = r.0 in
+pub feeds_more : (R : Readers) (g piece : List ℕ) (places : List UnitPlace) (before : List Reading) (old new : Feeding) → HasFed R old g places before → reader.IsOpen old.reader → reader.HasRead new.reader (g ++ piece) places
+    → new.assembler ≡ old.assembler → new.units ≡ old.units → new.first ≡ None → HasFed R new (g ++ piece) places before
+feeds_more R g piece places before old new fed open_ read same units first =
     let going = subst (λ closed. reader.ClosesAt closed old.reader.splitter old.reader.taken) open_ fed.read.closes in
     let short : length g ≤ source_limit = rw source_limit-is (omega (arith, fed.read.taken, going.1)) in
     let more : List ℕ = take (source_limit - length g) piece in
     let seen : seen_of (g ++ piece) ≡ seen_of g ++ more = sym (seen_front source_limit g piece short) ∙ ap (λ l. l ++ more) (sym (take_all source_limit g short)) in
     let follow : FollowsFrom (seen_of g) false 0 places = subst (λ (a : Bool). FollowsFrom (seen_of g) a 0 places) going.0 fed.read.stands.given in
-    let stay : units_at (seen_of g ++ more) places ≡ units_at (seen_of g) places = (seen_stays (seen_of g) more false 0 places follow).1 in (
-      piece,
-      r.1,
-      r.2,
-      r.3,
-      record {
-        read = r.4;
-        readings = ap (λ b. read_on R [] (units_at b places)) seen ∙ ap (read_on R []) stay ∙ fed.readings;
-        stands = rw same fed.stands;
-        count = units ∙ fed.count;
-        going = first;
-      },
-      r.5,
-    )
+    let stay : units_at (seen_of g ++ more) places ≡ units_at (seen_of g) places = (seen_stays (seen_of g) more false 0 places follow).1 in
+    record {
+      read = read;
+      readings = ap (λ b. read_on R [] (units_at b places)) seen ∙ ap (read_on R []) stay ∙ fed.readings;
+      stands = rw same fed.stands;
+      count = units ∙ fed.count;
+      going = first;
+    }
+
+pub reads_more : (R : Readers) (g : List ℕ) (places : List UnitPlace) (before : List Reading) (old new : Feeding) (left left' : Option (List ℕ)) (faults faults' : ℕ) → HasFed R old g places before
+    → reader.IsOpen old.reader → ((units : List UnitPlace) → reader.HasRead old.reader g units → reader.Reads g units new.reader left left' faults faults' (Ok tt)) → new.assembler ≡ old.assembler → new.units ≡ old.units → new.first ≡ None
+    → ReadsOn R g places before new left left' faults faults' (Ok tt)
+reads_more R g places before old new left left' faults faults' fed open_ read same units first =
+    let r = read places fed.read in
+    (r.0, r.1, r.2, r.3, feeds_more R g r.0 places before old new fed open_ r.4 same units first, r.5)
 
 -- for want of memory, or for a fault, nothing came
 pub reads_none : (R : Readers) (g : List ℕ) (places : List UnitPlace) (before : List Reading) (old new : Feeding) (left left' : Option (List ℕ)) (faults faults' : ℕ) (fault : ReadFault) → HasFed R old g places before

@@ -71,7 +71,8 @@ pub enum FeedFault {
 }
 
 /// Takes the NAL units of a source in order, and hands on each picture with its last slice. The source is read only where
-/// no further unit is seen in what was read; each call that reads is given it, and it is to be the same one.
+/// no further unit is seen in what was read; each call that reads is given it. What it took of all of them, one after another, is
+/// the stream. It may also be fed the stream's bytes.
 ///
 /// After a refusal, a failed read or want of memory it goes on no more.
 #[derive(Drop)]
@@ -491,6 +492,68 @@ impl Feed {
                 return Ok(step);
             }
         }
+    }
+}
+
+impl Feed {
+    ghost use Rattle.std.specs.Prelude.{◌≡◌, ℕ, ◌+◌, ◌^◌, ◌≤◌, ◌++◌, List, take, min, length, Some, None, IfOk, OnOk, OnErr};
+    ghost use Rattle.vx_annexb.specs.ByteStream.{UnitPlace};
+    ghost use Rattle.vx_annexb.specs.Held.{IsSought, fed};
+    ghost use Rattle.vx_annexb.specs.Reading as reading;
+    ghost use Rattle.vx_annexb.specs.declared.unit_reader.Closed.TheVariants as closed;
+    ghost use Rattle.vx_pic.specs.Readings.{Reading};
+    ghost use Rattle.vx_pic.specs.Rules.{Readers};
+    ghost use Rattle.vx_assemble.specs.Held.{IsBounded};
+    ghost use Rattle.vx_assemble.specs.Feed.{HasFed, IsOpen, bytes_held};
+    ghost use Rattle.vx_assemble.specs.declared.fault.First.TheVariants as firsts;
+
+    /// Takes bytes of the source in place of a read, where `next` answered none last: the first of a piece, at most as many as
+    /// a read asks for, and of all one more than a source may have. Answers how many.
+    ///
+    /// # Errors
+    ///
+    /// Want of memory, for which nothing is taken.
+    pub fn feed(&mut self, piece: &[u8]) -> Result<usize, AllocError>
+        requires open { IsOpen self.old }
+        requires sought { IsSought self.old.reader.splitter }
+        ensures fed { IfOk result (λ count. (R : Readers) (g : List ℕ) (places : List UnitPlace) (before : List Reading)
+            → HasFed R self.old g places before → HasFed R self.new (g ++ take count piece.now) places before) }
+        ensures count { IfOk result (λ count. count ≡ reading.fed_at_once self.old.reader.taken (length piece.now)) }
+        ensures few { IfOk result (λ count. count ≤ length piece.now) }
+        ensures whole { IfOk result (λ count. IsOpen self.new → count ≡ min (length piece.now) 65536) }
+        ensures going { OnOk result (self.new.first ≡ None) }
+        ensures unended { self.new.reader.closed ≡ Some closed.End → ⊥ }
+        ensures first { OnErr result (self.new.first ≡ Some firsts.Memory) }
+        ensures units { self.new.units ≡ self.old.units }
+        ensures lends { self.new.assembler ≡ self.old.assembler }
+        ensures within { fed self.new.reader.splitter ≤ 2 ^ 40 }
+        ensures held { reading.HoldsFew self.new.reader }
+        ensures bytes { bytes_held self.new ≤ 2 ^ 25 + 2 ^ 23 + 65538 }
+        ensures bounded { IsBounded self.new.assembler }
+    {
+        match self.reader.feed(piece) {
+            Ok(count) => Ok(count),
+            Err(fault) => {
+                self.first = Some(First::Memory);
+                Err(fault)
+            }
+        }
+    }
+
+    /// Says that the bytes that were taken are all there are, where `next` answered none last.
+    pub fn finish(&mut self)
+        requires open { IsOpen self.old }
+        ensures fed { (R : Readers) (g : List ℕ) (places : List UnitPlace) (before : List Reading)
+            → HasFed R self.old g places before → HasFed R self.new g places before }
+        ensures end { self.new.reader.closed ≡ Some closed.End }
+        ensures going { self.new.first ≡ None }
+        ensures units { self.new.units ≡ self.old.units }
+        ensures lends { self.new.assembler ≡ self.old.assembler }
+        ensures held { reading.HoldsFew self.new.reader }
+        ensures bytes { bytes_held self.new ≤ 2 ^ 25 + 2 ^ 23 + 65538 }
+        ensures bounded { IsBounded self.new.assembler }
+    {
+        self.reader.finish();
     }
 }
 

@@ -8,6 +8,7 @@ mod laws;
 mod numbers;
 mod read;
 mod reshape;
+mod send;
 mod shape;
 mod tables;
 mod walk;
@@ -22,6 +23,7 @@ pub use laws::{
 };
 pub use numbers::{SliceNumbers, read_sh, read_sh_fields, write_sh};
 pub use reshape::reshape_sh;
+pub use send::SliceSender;
 pub use shape::ShShape;
 pub use tables::{
     ACTIVE, ADDRESS, ALIGNMENT, CHROMA_QP_AND_FILTERS, END, FILTER_HERE, HEADER_INSIDE, INTER,

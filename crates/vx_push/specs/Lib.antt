@@ -1,0 +1,4 @@
+-- What the contracts of this crate cite.
+pub mod Comes
+pub mod Handed
+pub mod inner

@@ -1,0 +1,1 @@
+//! A pushed extraction.

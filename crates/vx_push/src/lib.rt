@@ -1,0 +1,15 @@
+//! Merges and extractions that are pushed: the bytes of each source are handed in as they come, and what is written is taken
+//! picture by picture.
+//!
+//! An [`Intake`] is a feed that is handed bytes in place of reading them. What it comes to depends on the bytes alone, not on how
+//! they are cut.
+#![tactic(auto)]
+
+mod cutter;
+mod intake;
+mod mixer;
+mod seek;
+mod stop;
+mod store;
+
+pub use intake::{Intake, State};
