@@ -130,6 +130,8 @@ pub under_begun : (n : SliceNumbers) (b : Begun) (t : ℕ) (rbsp u : List ℕ) (
     → rbsp ≡ rbsp_of u → ((new : Place) × Reads (slice_form (in_force_at n)) (at_front rbsp) before result new after)
     → (new : Place) × Reads (slice_form (slice_at t b)) (at_front (rbsp_of u)) before result new after
 under_begun n b t rbsp u before result after are type spells read =
-    let place : in_force_at n ≡ slice_at t b = same_place n b are ∙ ap (λ x. slice_at x b) type in
-    (read.0, subst (λ x. Reads (slice_form x) (at_front (rbsp_of u)) before result read.0 after) place
-    (subst (λ x. Reads (slice_form (in_force_at n)) (at_front x) before result read.0 after) spells read.1))
+    let place : in_force_at n ≡ slice_at t b = same_place n b are ∙ ap (λ x. slice_at x b) type in (
+      read.0,
+      subst (λ x. Reads (slice_form x) (at_front (rbsp_of u)) before result read.0 after) place
+          (subst (λ x. Reads (slice_form (in_force_at n)) (at_front x) before result read.0 after) spells read.1),
+    )
