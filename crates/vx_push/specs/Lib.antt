@@ -1,3 +1,4 @@
 -- What the contracts of this crate cite.
 pub mod Comes
+pub mod Mixing
 pub mod inner
