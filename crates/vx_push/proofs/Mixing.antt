@@ -1,5 +1,5 @@
 -- What the intakes of a mixer have come to, and what it answers by that.
-use Rattle.std.proofs.Common.{◌≡◌, ◌≢◌, ◌⊎◌, ℕ, ◌+◌, ◌<◌, Bool, true, false, List, [], ◌∷◌, ◌++◌, ◌∙◌, Option, Some, None, Result, Ok, Err, length, map, get_or, slice_get, slice_set, inl, inr, sym, ap, refl, subst, arith, append_assoc, append-nil}
+use Rattle.std.proofs.Common.{◌≡◌, ◌≢◌, ◌⊎◌, ℕ, ◌+◌, ◌<◌, ◌≤◌, Bool, true, false, List, [], ◌∷◌, ◌++◌, ◌∙◌, Option, Some, None, Result, Ok, Err, length, map, get_or, slice_get, slice_set, inl, inr, sym, ap, refl, subst, arith, append_assoc, append-nil}
 use Rattle.std.specs.Prelude.{reverse, option_map}
 use Rattle.std.proofs.lemmas.List.{length-map, length-reverse, length-set}
 use Rattle.std.proofs.lemmas.Option.{slice_get_within, same_Some}
@@ -16,20 +16,20 @@ use Rattle.vx_assemble.specs.Held.{ShowsLatest, lent_by}
 use Rattle.vx_merge.specs.declared.corner.Corner.{Corner}
 use Rattle.vx_merge.specs.declared.ended.Lengths.TheVariants.{AllGo, AllEnded as AllEnd, Differ}
 use Rattle.vx_merge.specs.Ends.{IsLengths}
-use Rattle.vx_merge.specs.Merging.{Merging}
+use Rattle.vx_merge.specs.Merging.{Merging, Stands}
 use Rattle.vx_run.specs.declared.stop.Stop.{Stop}
 use Rattle.vx_run.specs.declared.stop.Stop.TheVariants.{NotUnderstood, Refused, Mismatched, ReadFault, WriteFault, NoMemory}
 use Rattle.vx_run.specs.Conclusion.{Outcome}
 use Rattle.vx_run.specs.Rounds.{Stream, picture_in, GoesOn, HasEnded, IsRound, NoneRefused, Telling, StopsIn, by_stream, by_length, by_round, AllEnded, stream_refused, behind_units, in_round}
-use Rattle.vx_run.specs.Merge.{AreWritten, EndsWritten, length_refused, merge_telling}
-use Rattle.vx_run.proofs.Indexed.{some_at, same_lists, mapped_at, any_default, set_there, set_other, earlier_stay, latest_at, where_is}
+use Rattle.vx_run.specs.Merge.{AreWritten, EndsWritten, EndsOnce, length_refused, merge_telling}
+use Rattle.vx_run.proofs.Indexed.{some_at, same_lists, mapped_at, any_default, set_there, set_other, get_set_there, get_set_other, earlier_stay, latest_at, where_is}
 use Rattle.vx_push.specs.declared.intake.State.{State}
 use Rattle.vx_push.specs.declared.intake.State.TheVariants.{Waits as AtWait, Picture as AtPicture, Ended as AtEnd, Refused as AtRefusal, NoMemory as AtNoMemory}
 use Rattle.vx_push.specs.declared.mixer.Mixed.{Mixed}
 use Rattle.vx_push.specs.declared.mixer.Mixed.TheVariants.{Picture as ToPicture, Waits as ToWait, Ended as ToEnd, Stopped as ToStop}
-use Rattle.vx_push.specs.Comes.{Intaking, Handed, with_more, with_end, IsOpenedBy, ComesTo, HasCome, ComesNext}
-use Rattle.vx_push.specs.Mixing.{Mixing, AreOpenedBy, AreMerged, EndsMerged, IsBehind, HasComeBehind, HasEndedBy, Holds, HasMixed, IsAwaited, Answers}
-use Rattle.vx_push.specs.inner.Mixing.{IsSo, mark_of, AreMarked, HaltsBy, EndsSo, AreSeen, Looks, round_of, Merges, IsMore, AreMore, HavePassed}
+use Rattle.vx_push.specs.Comes.{Intaking, Handed, nothing, with_more, with_end, IsOpenedBy, ComesTo, HasCome, ComesNext, IsFedBy}
+use Rattle.vx_push.specs.Mixing.{Mixing, AreOpenedBy, AreMerged, EndsMerged, IsBehind, HasComeBehind, HasEndedBy, Holds, HasMixed, IsAwaited, Answers, outcome_of, MixedIsMerged}
+use Rattle.vx_push.specs.inner.Mixing.{IsSo, mark_of, AreMarked, HaltsBy, EndsSo, AreSeen, Looks, round_of, Merges, end_by, IsMore, AreMore, AreNew, HasPassed, ArePassing, HavePassed}
 
 -- ---- one source
 
@@ -64,7 +64,7 @@ same_wait : {j k : ℕ} → (let a : Mixed = ToWait j in a) ≡ ToWait k → j �
 same_wait is = cc
 
 -- each holds a picture
-ready_all : (intakes : List Intaking) (marks : List Bool) → AreSeen intakes marks → IsLengths marks AllGo → (k : ℕ) (i : Intaking) → slice_get intakes k ≡ Some i → i.state ≡ AtPicture
+pub ready_all : (intakes : List Intaking) (marks : List Bool) → AreSeen intakes marks → IsLengths marks AllGo → (k : ℕ) (i : Intaking) → slice_get intakes k ≡ Some i → i.state ≡ AtPicture
 ready_all intakes marks seen go k i at =
     let within : k < length intakes = slice_get_within intakes k i at in
     let fits : k < length marks = omega (arith, within, seen.count) in
@@ -344,6 +344,34 @@ module _ (R : Readers) (m : Mixing) (given : List Handed) (done : List Plan) (h 
       waits_by AtPicture is = absurd (told AtPicture is)
       waits_by AtEnd is = absurd (told AtEnd is)
 
+  -- as it was seen
+  pub answers_looked : m.end ≡ None → (answer : Mixed) → Looks m.intakes m.rounds (Err answer) → Answers R (record m { end = end_by answer }) given done answer
+  answers_looked none ToEnd looks = answers_seen ToEnd looks (λ k is. absurd (cc))
+  answers_looked none (ToStop stop) looks = answers_seen (ToStop stop) looks (λ k is. absurd (cc))
+  answers_looked none (ToWait k) looks =
+      let a = answers_wait k looks in (
+        record {
+          sources = h.sources;
+          rounds = h.rounds;
+          merged = h.merged;
+          stands = λ same. h.stands none;
+          come = h.come;
+          holds = λ kind is. let x = h.holds kind is in (x.0, x.1, x.2, record { bytes = x.3.bytes; kind = x.3.kind });
+          ended = λ end is. absurd (cc);
+        },
+        a.1,
+        a.2,
+      )
+  answers_looked none ToPicture (inr x) = absurd x.2
+  answers_looked none ToPicture (inl x) = absurd (halts_picture x.intake.state x.k x.halts)
+    where
+      halts_picture : (s : State) (k : ℕ) → HaltsBy s k ToPicture → ⊥
+      halts_picture AtWait k is = let no : ToPicture ≡ ToWait k = is in cc
+      halts_picture (AtRefusal r units) k is = let no : ToPicture ≡ ToStop (Refused r (behind_units k units)) = is in cc
+      halts_picture AtNoMemory k is = let no : ToPicture ≡ ToStop NoMemory = is in cc
+      halts_picture AtPicture k is = is
+      halts_picture AtEnd k is = is
+
   -- ---- a round
 
   module _ (later : Mixing) (marks : List Bool) (seen : AreSeen m.intakes marks) (go : IsLengths marks AllGo) (corners : later.merger.corners ≡ m.merger.corners) (level : later.merger.level ≡ m.merger.level) where
@@ -488,3 +516,108 @@ mixed_more R m given done h k i later g more at there is come =
   where
     other : (j : ℕ) (x : Intaking) (y : Handed) → slice_get (slice_set m.intakes k later) j ≡ Some x → slice_get (slice_set given k more) j ≡ Some y → j ≢ k → HasComeBehind R x y m.rounds
     other j x y got was different = h.come j x y (sym (set_other m.intakes j k later different) ∙ got) (sym (set_other given j k more different) ∙ was)
+
+-- ---- none was handed in
+
+new_given : (corners : List Corner) (k : ℕ) (h : Handed) → slice_get (map (λ (c : Corner). nothing) corners) k ≡ Some h → h ≡ nothing
+new_given corners k h at = sym (mapped_at (λ (c : Corner). nothing) corners k h at).2
+
+pub new_mixed : (R : Readers) (m : Mixing) (corners : List Corner) → length m.intakes ≡ length corners → AreNew m.intakes → m.rounds ≡ 0 → m.held ≡ None → m.end ≡ None → Stands m.merger [] → HasMixed R m (map (λ (c : Corner). nothing) corners) []
+new_mixed R m corners count new rounds held end stands = record {
+  sources = length-map corners (λ (c : Corner). nothing) ∙ sym count;
+  rounds = sym rounds;
+  merged = λ ss opened. tt;
+  stands = λ none. stands;
+  come = λ k i h at there.
+      let x = new k i at in
+      subst (λ (g : Handed). HasComeBehind R i g m.rounds) (sym (new_given corners k h there))
+      (record { pictures = []; come = x.1 R; count = subst (λ (s : State). IsBehind s m.rounds 0) (sym x.0) (sym rounds) });
+  holds = λ kind is. let no = sym held ∙ is in absurd (cc);
+  ended = λ other is. let no = sym end ∙ is in absurd (cc);
+}
+
+-- ---- where nothing is taken
+
+-- the same, whatever is known of what goes on
+pub same_behind : (R : Readers) (i later : Intaking) (h : Handed) (n : ℕ) → later ≡ i → HasComeBehind R i h n → HasComeBehind R later h n
+same_behind R i later h n same = subst (λ (x : Intaking). HasComeBehind R x h n) (sym same)
+
+-- behind an end, a refusal or want of memory the end may be told
+pub ended_behind : (R : Readers) (i : Intaking) (h : Handed) (n : ℕ) → (i.state ≡ AtWait → ⊥) → (i.state ≡ AtPicture → ⊥) → HasComeBehind R i h n → HasComeBehind R i (with_end h) n
+ended_behind R i h n waits holds c = by_state i.state refl c.come.told
+  where
+    with_told : ComesTo R (with_end h) c.pictures i.state → IsFedBy R i (with_end h) c.pictures i.state → HasComeBehind R i (with_end h) n
+    with_told told fed = record { pictures = c.pictures; come = record { told = told; lends = c.come.lends; fed = fed }; count = c.count }
+
+    by_state : (s : State) → i.state ≡ s → ComesTo R h c.pictures s → HasComeBehind R i (with_end h) n
+    by_state AtWait is told = absurd (waits is)
+    by_state AtPicture is told = absurd (holds is)
+    by_state AtEnd is told =
+        with_told (subst (λ (s : State). ComesTo R (with_end h) c.pictures s) (sym is) ((λ b qs e opened are. told.0 b qs e (opened_by_end h b opened) are), refl)) (subst (λ (s : State). IsFedBy R i (with_end h) c.pictures s) (sym is) tt)
+    by_state (AtRefusal r units) is told =
+        with_told (subst (λ (s : State). ComesTo R (with_end h) c.pictures s) (sym is) (λ b qs e opened are. told b qs e (opened_by_end h b opened) are)) (subst (λ (s : State). IsFedBy R i (with_end h) c.pictures s) (sym is) tt)
+    by_state AtNoMemory is told =
+        with_told (subst (λ (s : State). ComesTo R (with_end h) c.pictures s) (sym is) (λ b qs e opened are. told b qs e (opened_by_end h b opened) are)) (subst (λ (s : State). IsFedBy R i (with_end h) c.pictures s) (sym is) tt)
+
+-- ---- one source after another
+
+-- one more is marked
+pub marked_more : (intakes : List Intaking) (marks : List Bool) (k : ℕ) (i : Intaking) (flag : Bool) → AreMarked intakes marks k → slice_get intakes k ≡ Some i → i.state ≡ mark_of flag → k < length marks → AreMarked intakes (slice_set marks k flag) (k + 1)
+marked_more intakes marks k i flag marked at is within j x before there = elim (where_is j k) [
+  | inl earlier ↦ marked j x earlier there ∙ ap mark_of (sym (get_set_other marks j k flag false (λ same. omega (arith, same, earlier))))
+  | inr (inl same) ↦
+      let here : slice_get intakes k ≡ Some x = subst (λ (n : ℕ). slice_get intakes n ≡ Some x) same there in
+      let mark : get_or (slice_set marks k flag) j false ≡ flag = ap (λ (n : ℕ). get_or (slice_set marks k flag) n false) same ∙ get_set_there marks k flag false within in
+      ap (λ (y : Intaking). y.state) (sym (same_Some i x (sym at ∙ here))) ∙ is ∙ ap mark_of (sym mark)
+  | inr (inr later) ↦ absurd (omega (arith, later, before))
+]
+
+-- none was passed yet
+pub passing_none : (intakes : List Intaking) → ArePassing intakes intakes 0
+passing_none intakes = record { count = refl; passed = λ j i before. absurd (omega (arith, before)); same = λ j behind. refl }
+
+-- one more was
+pub passing_more : (intakes later : List Intaking) (k : ℕ) (i j : Intaking) → ArePassing intakes later k → slice_get later k ≡ Some i → (i.state ≡ AtPicture → HasPassed i j) → ArePassing intakes (slice_set later k j) (k + 1)
+passing_more intakes later k i j are at passed = record {
+  count = length-set later k j ∙ are.count;
+  passed = λ n x before there holds. elim (where_is n k) [
+    | inl earlier ↦
+        let y = are.passed n x earlier there holds in
+        (y.0, set_other later n k j (λ same. omega (arith, same, earlier)) ∙ y.1, y.2)
+    | inr (inl same) ↦
+        let here : slice_get intakes k ≡ Some x = subst (λ (m : ℕ). slice_get intakes m ≡ Some x) same there in
+        let it : i ≡ x = same_Some i x (sym at ∙ are.same k (omega arith) ∙ here) in
+        let fits : k < length (slice_set later k j) = omega (arith, slice_get_within later k i at, length-set later k j) in
+        let now = some_at (slice_set later k j) k fits in
+        let new : slice_get (slice_set later k j) k ≡ Some j = subst (λ (y : Intaking). slice_get (slice_set later k j) k ≡ Some y) (sym (set_there later k j now.0 now.1)) now.1 in
+        (j, subst (λ (m : ℕ). slice_get (slice_set later k j) m ≡ Some j) (sym same) new, subst (λ (y : Intaking). HasPassed y j) it (passed (subst (λ (y : Intaking). y.state ≡ AtPicture) (sym it) holds)))
+    | inr (inr behind) ↦ absurd (omega (arith, behind, before))
+  ];
+  same = λ n behind. set_other later n k j (λ same. omega (arith, same, behind)) ∙ are.same n (omega (arith, behind));
+}
+
+-- all were
+pub passing_all : (intakes later : List Intaking) (k : ℕ) → ArePassing intakes later k → length later ≤ k → HavePassed intakes later
+passing_all intakes later k are all = record {
+  count = are.count;
+  each = λ j i at holds. are.passed j i (omega (arith, slice_get_within intakes j i at, are.count, all)) at holds;
+}
+
+-- ---- the law
+
+-- what a mixer came to is how the merge ends
+ends_of : (R : Readers) (m : Merging) (given : List Handed) (done : List Plan) (end : Mixed) (mine : Outcome) → HasEndedBy R m given done end → outcome_of end ≡ Some mine → EndsMerged R m given done mine
+ends_of R m given done ToEnd mine by is = subst (λ (o : Outcome). EndsMerged R m given done o) (same_Some (Ok tt) mine is) by
+ends_of R m given done (ToStop (Refused r place)) mine by is = subst (λ (o : Outcome). EndsMerged R m given done o) (same_Some (Err (Refused r place)) mine is) by
+ends_of R m given done (ToStop NoMemory) mine by is = absurd (cc)
+ends_of R m given done (ToStop NotUnderstood) mine by is = absurd (cc)
+ends_of R m given done (ToStop (ReadFault k)) mine by is = absurd (cc)
+ends_of R m given done (ToStop (Mismatched x y)) mine by is = absurd (cc)
+ends_of R m given done (ToStop WriteFault) mine by is = absurd (cc)
+ends_of R m given done ToPicture mine by is = absurd (cc)
+ends_of R m given done (ToWait k) mine by is = absurd (cc)
+
+pub mixed_merged : EndsOnce → MixedIsMerged
+mixed_merged once R m given done end mine h at is ss other outcome some opened there =
+    let here = ends_of R m.merger given done end mine (h.ended end at) is ss opened in
+    once m.merger.corners m.merger.level ss other done outcome mine some there here

@@ -1,11 +1,12 @@
 -- A mixer, as its callers see it: by these words, and by the relation `HasMixed` between it, what was handed in of each source, and the
 -- rounds that it merged. That relation begins with none of these; `Answers` says what it is worth.
-use Rattle.std.specs.Prelude.{◌≡◌, ℕ, ◌+◌, false, List, [], ◌∷◌, length, slice_get, Option, Some, None, Ok, Err}
+use Rattle.std.specs.Prelude.{◌≡◌, ◌⊎◌, ℕ, ◌+◌, ◌<◌, Bool, false, List, [], ◌∷◌, length, slice_get, slice_set, Option, Some, None, Ok, Err}
 use Rattle.vx_annexb.specs.Laws.{written}
 use Rattle.vx_pic.specs.declared.kind.Kind.{Kind}
 use Rattle.vx_pic.specs.Readings.{Picture as StreamPicture}
 use Rattle.vx_pic.specs.Rules.{Readers}
 use Rattle.vx_pic.specs.Bytes.{AreSourcePictures, AreSeenPictures}
+use Rattle.vx_pic.specs.H266.{AreOfH266}
 use Rattle.vx_pic.specs.Written.{Plan, units_of}
 use Rattle.vx_assemble.specs.Feed.{seen_of}
 use Rattle.vx_merge.specs.Merging.{Merging, Stands}
@@ -17,7 +18,7 @@ use Rattle.vx_push.specs.declared.intake.State.{State}
 use Rattle.vx_push.specs.declared.intake.State.TheVariants.{Waits as AtWait, Picture as AtPicture, Ended as AtEnd, Refused as AtRefusal, NoMemory as AtNoMemory}
 use Rattle.vx_push.specs.declared.mixer.Mixed.{Mixed}
 use Rattle.vx_push.specs.declared.mixer.Mixed.TheVariants.{Picture as ToPicture, Waits as ToWait, Ended as ToEnd, Stopped as ToStop}
-use Rattle.vx_push.specs.Comes.{Intaking, Handed, IsOpenedBy, HasCome}
+use Rattle.vx_push.specs.Comes.{Intaking, Handed, with_more, with_end, zeros, taken_at_once, IsOpenedBy, HasCome}
 
 -- A mixer: an intake for each source; its merger; how many rounds it merged; the bytes of the last of them and what it is, until they are
 -- taken; and what it came to in the end.
@@ -104,3 +105,46 @@ abbrev pub Answers : Readers → Mixing → List Handed → List Plan → Mixed 
 Answers R m given done ToPicture = (p : Plan) × HasMixed R m given (p ∷ done) × Holds m p
 Answers R m given done (ToWait k) = HasMixed R m given done × IsAwaited R given (length done) k × GoOnFirst R given done k
 Answers R m given done end = HasMixed R m given done × HasEndedBy R m.merger given done end × (m.end ≡ Some end)
+
+-- ---- what is handed in
+
+-- the zeros that `flush` hands in, where it waits or holds a picture, and where neither these nor its end were handed in behind that
+abbrev pub flushed_by : State → Bool → Bool → Handed → Handed
+flushed_by AtWait flushed ended h = with_more h zeros
+flushed_by AtPicture false false h = with_more h zeros
+flushed_by state flushed ended h = h
+
+abbrev pub with_zeros : Intaking → Handed → Handed
+with_zeros i h = flushed_by i.state i.flushed i.ended h
+
+-- More was handed in of source k, by its intake, and nothing else was done. The rounds that were merged still are.
+pub record HandsIn (old new : Mixing) (k : ℕ) (more : Intaking → Handed → Handed) : Type 0 where
+  pub intake : Intaking
+  pub at : slice_get old.intakes k ≡ Some intake
+  pub later : Intaking
+  pub only : new ≡ record old { intakes = slice_set old.intakes k later }
+  pub mixed : (R : Readers) → AreOfH266 R → (given : List Handed) (done : List Plan) (h : Handed) → HasMixed R old given done
+      → slice_get given k ≡ Some h → HasMixed R new (slice_set given k (more intake h)) done
+
+-- How many of so many bytes were taken: none where it doesn't wait, or has no memory for them.
+abbrev pub Takes : Intaking → Intaking → ℕ → ℕ → Type 0
+Takes old new count taken =
+    (old.state ≡ AtWait → (taken ≡ taken_at_once old count) ⊎ ((taken ≡ 0) × (new.state ≡ AtNoMemory)))
+    × ((old.state ≡ AtWait → ⊥) → (taken ≡ 0) × (new ≡ old))
+
+-- ---- a merge
+
+-- how the merge ends that a mixer came to the end of
+abbrev pub outcome_of : Mixed → Option Outcome
+outcome_of ToEnd = Some (Ok tt)
+outcome_of (ToStop (Refused r place)) = Some (Err (Refused r place))
+outcome_of _ = None
+
+-- Where a mixer came to the end of the merge, `merge` of such streams ends so too, behind the same rounds: so it writes the bytes that were
+-- merged, and tells the same.
+abbrev pub MixedIsMerged : Type 0
+MixedIsMerged =
+    (R : Readers) (m : Mixing) (given : List Handed) (done : List Plan) (end : Mixed) (mine : Outcome) → HasMixed R m given done
+    → m.end ≡ Some end → outcome_of end ≡ Some mine
+    → (ss : List Stream) (other : List Plan) (outcome : Outcome) → 0 < length ss → AreOpenedBy R given ss
+    → EndsWritten m.merger.corners m.merger.level ss other outcome → (other ≡ done) × (outcome ≡ mine)

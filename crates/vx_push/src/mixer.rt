@@ -1,21 +1,21 @@
 //! A merge whose sources are handed in as they come.
-ghost use Rattle.std.specs.Prelude.{◌≡◌, ℕ, ◌+◌, ◌-◌, ◌^◌, ◌<◌, ◌≤◌, All, List, [], length, vec_len, None, Ok, Err, IfOk, IfErr};
+ghost use Rattle.std.specs.Prelude.{◌≡◌, ℕ, ◌+◌, ◌-◌, ◌^◌, ◌<◌, ◌≤◌, All, List, [], length, vec_len, None, Ok, Err, IfOk, IfErr, OnOk};
 ghost use Rattle.vx_pic.specs.Rules.{Readers};
 ghost use Rattle.vx_pic.specs.H266.{AreOfH266};
 ghost use Rattle.vx_pic.specs.Written.{Plan};
 ghost use Rattle.vx_merge.specs.Merging.{AreCorners, SameTask, Stands};
 ghost use Rattle.vx_push.specs.Comes.{Handed, HasCome, nothing};
-ghost use Rattle.vx_push.specs.declared.intake.State.TheVariants.{Waits as AtWait, Picture as AtPicture};
-ghost use Rattle.vx_push.specs.inner.Mixing.{mark_of, AreSeen, HaltsBy, HaltsFirst, Looks, Merges, HavePassed, end_by, round_of};
+ghost use Rattle.vx_push.specs.declared.intake.State.TheVariants.{Picture as AtPicture};
+ghost use Rattle.vx_push.specs.Mixing.{MixedIsMerged};
+ghost use Rattle.vx_push.specs.inner.Mixing.{AreNew, stop_by, mark_of, AreSeen, HaltsBy, HaltsFirst, Looks, Merges, HavePassed, end_by, round_of};
 
 use crate::intake::{Intake, State};
 use std::alloc::{AllocError, Global};
 use std::marker::Model;
-use vx_assemble::FeedFault;
 use vx_io::GrowSink;
 use vx_merge::{Corner, Merger, WriteError};
 use vx_pic::{Kind, Lender};
-use vx_run::{Stop, all_go_on, going, one_more, stop_of, stop_of_round};
+use vx_run::{Stop, all_go_on, behind_units, merge_ends_once, stop_of_round};
 
 /// What a mixer has come to.
 #[derive(Clone, Copy, Debug, PartialEq, Eq)]
@@ -98,8 +98,8 @@ fn has_ended(state: State, k: u16) -> Result<bool, Mixed>
         State::Ended => Ok(true),
         State::Waits => Err(Mixed::Waits(k)),
         State::Refused { refusal, units } => {
-            let stop = stop_of(FeedFault::Refused(refusal), k, units);
-            Err(Mixed::Stopped(stop))
+            let place = behind_units(k, units);
+            Err(Mixed::Stopped(Stop::Refused { refusal, place }))
         }
         State::NoMemory => Err(Mixed::Stopped(Stop::NoMemory)),
     }
@@ -187,7 +187,7 @@ fn pass_each(intakes: &mut Vec<Intake>)
 }
 
 impl Mixer {
-    ghost use Rattle.std.specs.Prelude.{◌≡◌, ◌⊎◌, ℕ, ◌+◌, ◌-◌, ◌<◌, ◌≤◌, ◌++◌, List, [], length, take, drop, map, slice_get, slice_set, None, Some, IfOk, IfSome, IfNone, OnErr, OnSome, OnNone};
+    ghost use Rattle.std.specs.Prelude.{◌≡◌, ◌⊎◌, ℕ, ◌+◌, ◌-◌, ◌<◌, ◌≤◌, ◌++◌, List, [], length, take, drop, map, slice_get, slice_set, None, Some, IfOk, IfSome, OnOk, IfNone, OnErr, OnSome};
     ghost use Rattle.vx_pic.specs.Rules.{Readers};
     ghost use Rattle.vx_pic.specs.H266.{AreOfH266};
     ghost use Rattle.vx_pic.specs.declared.kind.Kind.{Kind as KindOf};
@@ -197,7 +197,7 @@ impl Mixer {
     ghost use Rattle.vx_push.specs.declared.mixer.Mixed.{Mixed as Answer};
     ghost use Rattle.vx_push.specs.declared.mixer.Mixed.TheVariants.{Picture as ToPicture, Waits as ToWait};
     ghost use Rattle.vx_push.specs.declared.intake.State.TheVariants.{Waits as AtWait, Picture as AtPicture};
-    ghost use Rattle.vx_push.specs.Mixing.{HasMixed, Answers, SameMerge};
+    ghost use Rattle.vx_push.specs.Mixing.{HasMixed, Answers, HandsIn, Takes, with_zeros};
 
     /// A mixer of a source for each of these upper left corners, in luma samples, of the region that its pictures are; with a level of its own
     /// or the sources' highest.
@@ -213,7 +213,7 @@ impl Mixer {
     {
         let merger = Merger::new(alloc, corners, level)?;
         let intakes = intakes_for(alloc, corners.len())?;
-        let ended = going(alloc, corners.len())?;
+        let ended = vec![in alloc; false; corners.len()]?;
         Ok(Mixer {
             alloc,
             merger,
@@ -232,7 +232,12 @@ impl Mixer {
     /// # Errors
     ///
     /// There is no such source.
-    pub fn push(&mut self, source: usize, piece: &[u8]) -> Result<usize, NoSource> {
+    pub fn push(&mut self, source: usize, piece: &[u8]) -> Result<usize, NoSource>
+        ensures handed { IfOk result (λ n. HandsIn self.old self.new source (λ i h. with_more h (take n piece.now))) }
+        ensures count { IfOk result (λ n. (n ≤ length piece.now) × ((i later : Intaking) → slice_get self.old.intakes source ≡ Some i
+            → slice_get self.new.intakes source ≡ Some later → Takes i later (length piece.now) n)) }
+        ensures wrong { OnErr result ((length self.old.intakes ≤ source) × (self.new ≡ self.old)) }
+    {
         if source >= self.intakes.len() {
             return Err(NoSource);
         }
@@ -244,7 +249,10 @@ impl Mixer {
     /// # Errors
     ///
     /// There is no such source.
-    pub fn flush(&mut self, source: usize) -> Result<(), NoSource> {
+    pub fn flush(&mut self, source: usize) -> Result<(), NoSource>
+        ensures handed { OnOk result (HandsIn self.old self.new source with_zeros) }
+        ensures wrong { OnErr result ((length self.old.intakes ≤ source) × (self.new ≡ self.old)) }
+    {
         if source >= self.intakes.len() {
             return Err(NoSource);
         }
@@ -257,7 +265,10 @@ impl Mixer {
     /// # Errors
     ///
     /// There is no such source.
-    pub fn end(&mut self, source: usize) -> Result<(), NoSource> {
+    pub fn end(&mut self, source: usize) -> Result<(), NoSource>
+        ensures handed { OnOk result (HandsIn self.old self.new source (λ i h. with_end h)) }
+        ensures wrong { OnErr result ((length self.old.intakes ≤ source) × (self.new ≡ self.old)) }
+    {
         if source >= self.intakes.len() {
             return Err(NoSource);
         }
@@ -289,7 +300,7 @@ impl Mixer {
         match merge_round(alloc, &mut self.merger, &self.intakes, rounds, &mut self.merged) {
             Ok(kind) => {
                 self.held = Some(kind);
-                self.rounds = one_more(rounds, u64::MAX);
+                self.rounds = rounds.saturating_add(1);
                 pass_each(&mut self.intakes);
                 Mixed::Picture
             }
@@ -303,7 +314,7 @@ impl Mixer {
     /// The merged picture that is to be taken.
     pub fn picture(&self) -> Option<MergedPicture>
         ensures some { IfSome result (λ p. (self.now.held ≡ Some p.kind) × (p.number ≡ self.now.rounds - 1) × (p.bytes ≡ length self.now.merged)) }
-        ensures none { OnNone result (self.now.held ≡ None) }
+        ensures none { IfNone result (self.now.held ≡ None) }
     {
         let kind = self.held?;
         Some(MergedPicture {
@@ -318,8 +329,8 @@ impl Mixer {
     pub fn take(&mut self, into: &mut [u8]) -> Option<usize>
         ensures taken { IfSome result (λ n. (n ≡ length self.old.merged) × (into.new ≡ self.old.merged ++ drop n into.old)) }
         ensures went { OnSome result (self.new ≡ record self.old { held = None; merged = [] }) }
-        ensures none { OnNone result ((self.old.held ≡ None) ⊎ (length into.old < length self.old.merged)) }
-        ensures kept { OnNone result ((self.new ≡ self.old) × (into.new ≡ into.old)) }
+        ensures none { IfNone result ((self.old.held ≡ None) ⊎ (length into.old < length self.old.merged)) }
+        ensures kept { IfNone result ((self.new ≡ self.old) × (into.new ≡ into.old)) }
         ensures mixed { (R : Readers) (given : List Handed) (done : List Plan) → HasMixed R self.old given done → HasMixed R self.new given done }
     {
         let count = self.merged.bytes().len();
@@ -331,4 +342,11 @@ impl Mixer {
         self.held = None;
         Some(count)
     }
+}
+
+/// A mixer that came to the end of a merge has merged what `merge` writes of the same streams, however they were handed in.
+pub fn mixed_is_merged()
+    ensures { MixedIsMerged }
+{
+    merge_ends_once();
 }

@@ -1,5 +1,5 @@
 -- The steps of a mixer: what its intakes have come to in a round, and what is merged of it.
-use Rattle.std.specs.Prelude.{◌≡◌, ◌⊎◌, ℕ, ◌+◌, ◌<◌, Bool, true, false, List, [], ◌∷◌, ◌++◌, length, map, get_or, slice_get, Option, Some, None, Result, Ok, Err}
+use Rattle.std.specs.Prelude.{◌≡◌, ◌⊎◌, ℕ, ◌+◌, ◌<◌, ◌≤◌, Bool, true, false, List, [], ◌∷◌, ◌++◌, length, map, get_or, slice_get, Option, Some, None, Result, Ok, Err}
 use Rattle.vx_annexb.specs.Laws.{written}
 use Rattle.vx_pic.specs.declared.kind.Kind.{Kind}
 use Rattle.vx_pic.specs.Readings.{Picture as StreamPicture}
@@ -15,11 +15,14 @@ use Rattle.vx_run.specs.declared.stop.Stop.{Stop}
 use Rattle.vx_run.specs.declared.stop.Stop.TheVariants.{Refused, NoMemory}
 use Rattle.vx_run.specs.Rounds.{Stream, picture_in, HasEnded, IsRefused, behind_units, in_round}
 use Rattle.vx_run.specs.Merge.{length_refused}
+use Rattle.vx_run.specs.inner.Merging.{stop_in}
+use Rattle.vx_write.specs.declared.fault.WriteError.{WriteError}
+use Rattle.vx_write.specs.declared.fault.WriteError.TheVariants.{SinkFailed}
 use Rattle.vx_push.specs.declared.intake.State.{State}
 use Rattle.vx_push.specs.declared.intake.State.TheVariants.{Waits as AtWait, Picture as AtPicture, Ended as AtEnd, Refused as AtRefusal, NoMemory as AtNoMemory}
 use Rattle.vx_push.specs.declared.mixer.Mixed.{Mixed}
 use Rattle.vx_push.specs.declared.mixer.Mixed.TheVariants.{Picture as ToPicture, Waits as ToWait, Ended as ToEnd, Stopped as ToStop}
-use Rattle.vx_push.specs.Comes.{Intaking, Handed}
+use Rattle.vx_push.specs.Comes.{Intaking, Handed, HasCome, nothing}
 use Rattle.vx_push.specs.Mixing.{HasComeBehind}
 
 -- ---- one source
@@ -79,7 +82,16 @@ Looks intakes n (Err answer) = HaltsFirst intakes answer ⊎ ((marks : List Bool
 abbrev pub round_of : List Intaking → List Parts
 round_of intakes = map (λ i. lent_by i.feed.assembler) intakes
 
+-- intakes to which nothing was handed in
+abbrev pub AreNew : List Intaking → Type 0
+AreNew intakes = (k : ℕ) (i : Intaking) → slice_get intakes k ≡ Some i → (i.state ≡ AtWait) × ((R : Readers) → HasCome R i nothing [])
+
 -- ---- a round
+
+-- what stops a mixer where round n isn't merged: a sink in memory fails for want of it alone
+abbrev pub stop_by : WriteError → ℕ → Stop
+stop_by SinkFailed n = NoMemory
+stop_by error n = stop_in error n
 
 -- What came of round n of these pictures, behind others: it is merged so, as a picture of this kind; or barred; or there was no memory.
 abbrev pub Merges : List Parts → List Plan → Merging → List ℕ → ℕ → Result Kind Stop → Type 0
@@ -111,6 +123,12 @@ pub record AreMore (given more : List Handed) : Type 0 where
 -- an intake that held a picture has gone on behind that
 abbrev pub HasPassed : Intaking → Intaking → Type 0
 HasPassed i later = (R : Readers) → AreOfH266 R → (h : Handed) (n : ℕ) → HasComeBehind R i h n → HasComeBehind R later h (n + 1)
+
+-- the first k of those that did have, and the others are as they were
+pub record ArePassing (intakes later : List Intaking) (k : ℕ) : Type 0 where
+  pub count : length later ≡ length intakes
+  pub passed : (j : ℕ) (i : Intaking) → j < k → slice_get intakes j ≡ Some i → i.state ≡ AtPicture → (l : Intaking) × (slice_get later j ≡ Some l) × HasPassed i l
+  pub same : (j : ℕ) → k ≤ j → slice_get later j ≡ slice_get intakes j
 
 -- each has
 pub record HavePassed (intakes later : List Intaking) : Type 0 where
