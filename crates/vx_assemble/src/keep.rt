@@ -7,7 +7,7 @@ ghost use Rattle.vx_assemble.specs.inner.Changes as changes;
 
 use crate::sets::{StoredPps, StoredSps};
 use crate::state::State;
-use std::rc::Rc;
+use std::sync::Arc;
 use vx_aps::Aps;
 use vx_bits::Fields;
 
@@ -38,7 +38,7 @@ impl State {
     }
 
     /// Keeps an APS of these items, in the place of the one of its type and id.
-    pub(crate) fn keep_aps(&mut self, aps: Rc<Aps>, items: Fields)
+    pub(crate) fn keep_aps(&mut self, aps: Arc<Aps>, items: Fields)
         requires valid { IsValid aps.value }
         requires items { items ≡ aps_items aps.value }
         ensures { self.new ≡ changes.with_aps aps.value self.old }

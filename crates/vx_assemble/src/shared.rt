@@ -3,12 +3,12 @@ ghost use Rattle.std.specs.Prelude.{◌≡◌, IfOk};
 
 use std::alloc::{AllocError, Global};
 use std::marker::Model;
-use std::rc::Rc;
+use std::sync::Arc;
 
 /// A value that several hold. It is seen as the value.
 #[derive(Drop)]
 pub(crate) struct Shared<T> {
-    owner: Rc<T>,
+    owner: Arc<T>,
 }
 
 impl<T> Model for Shared<T> {
@@ -26,7 +26,7 @@ impl<T: Drop> Shared<T> {
     pub(crate) fn new(alloc: Global, value: T) -> Result<Shared<T>, AllocError>
         ensures { IfOk result (λ shared. shared ≡ value) }
     {
-        match Rc::new(alloc, value) {
+        match Arc::new(alloc, value) {
             Ok(owner) => Ok(Shared { owner }),
             Err(_) => Err(AllocError),
         }

@@ -21,7 +21,7 @@ use crate::sets::{StoredPps, StoredSps};
 use crate::state::State;
 use crate::unit::{NalUnit, SliceUnit, UnitClass, behind_header, class_of, front_of};
 use std::alloc::{AllocError, Global};
-use std::rc::Rc;
+use std::sync::Arc;
 use vx_annexb::{NalHeader, read_header, unescape};
 use vx_aps::Aps;
 use vx_bits::rules::{LONG_MESSAGES, SET_INSIDE_PICTURE, SEVERAL_LAYERS, SLICE_MISSING};
@@ -180,7 +180,7 @@ impl State {
         };
         let items = aps_items(alloc, &aps)?;
         let told = Accepted::Aps(aps.kind, aps.id);
-        let Ok(aps) = Rc::new(alloc, aps) else {
+        let Ok(aps) = Arc::new(alloc, aps) else {
             return Err(ReadError::Memory);
         };
         self.keep_aps(aps, items);

@@ -3,7 +3,7 @@ ghost use Rattle.std.specs.Prelude.{◌≡◌, option_map, IfOk};
 
 use std::alloc::AllocError;
 use std::marker::Model;
-use std::rc::Rc;
+use std::sync::Arc;
 use vx_aps::{Aps, SCALING};
 
 /// How many ids a type has at most: 0 to 7 (H.266 7.4.3.6).
@@ -14,7 +14,7 @@ const IDS: u8 = 8;
 /// It is seen as the list of 24 sets, or their absence: those of type 0 by their ids, and then those of types 1 and 2.
 #[derive(Drop)]
 pub struct ApsList {
-    sets: [Option<Rc<Aps>>; 24],
+    sets: [Option<Arc<Aps>>; 24],
 }
 
 impl Model for ApsList {
@@ -24,14 +24,14 @@ impl Model for ApsList {
 
     ghost Value = { List (Option Aps) };
 
-    ghost view = { λ l. map (option_map (λ rc. rc.value)) l.sets };
+    ghost view = { λ l. map (option_map (λ arc. arc.value)) l.sets };
 
-    ghost invariant = { λ l. (length l.sets ≡ 24) × AreValid (map (option_map (λ rc. rc.value)) l.sets) };
+    ghost invariant = { λ l. (length l.sets ≡ 24) × AreValid (map (option_map (λ arc. arc.value)) l.sets) };
 }
 
 /// A set that may be there, shared.
-fn shared(aps: &Option<Rc<Aps>>) -> Result<Option<Rc<Aps>>, AllocError>
-    ensures { IfOk result (λ copy. option_map (λ rc. rc.value) copy ≡ option_map (λ rc. rc.value) aps.now) }
+fn shared(aps: &Option<Arc<Aps>>) -> Result<Option<Arc<Aps>>, AllocError>
+    ensures { IfOk result (λ copy. option_map (λ arc. arc.value) copy ≡ option_map (λ arc. arc.value) aps.now) }
 {
     match aps {
         Some(aps) => Ok(Some(aps.clone()?)),
@@ -58,7 +58,7 @@ impl ApsList {
 
     #[tactic(auto, using(crate::proofs::ApsLists::replaced))]
     /// Stores a set in the place of the one of its type and id. Takes no memory.
-    pub fn put(&mut self, aps: Rc<Aps>)
+    pub fn put(&mut self, aps: Arc<Aps>)
         requires { IsValid aps.value }
         ensures list { self.new ≡ slice_set self.old (slot_of aps.value.kind aps.value.id) (Some aps.value) }
     {

@@ -1,38 +1,18 @@
 -- An intake, as its callers see it: by these words, and by the relation `HasCome` between it, what was handed in to it, and the pictures
 -- that it came to, the latest first. That relation begins with none of these; `ComesTo` says what it is worth.
-use Rattle.std.specs.Prelude.{◌≡◌, ℕ, ◌+◌, ◌-◌, ◌^◌, ◌<◌, min, Bool, true, false, List, [], ◌∷◌, ◌++◌, length, Option, Some, None}
+use Rattle.std.specs.Prelude.{◌≡◌, ℕ, ◌<◌, true, false, List, ◌∷◌, length, Some, None}
+use Rattle.vx_annexb.specs.Reading.{fed_at_once}
 use Rattle.vx_pic.specs.Readings.{Picture}
 use Rattle.vx_pic.specs.Rules.{Readers}
-use Rattle.vx_pic.specs.Bytes.{Ending, AreSourcePictures, AreSeenPictures}
+use Rattle.vx_pic.specs.Bytes.{AreSeenPictures}
 use Rattle.vx_assemble.specs.Held.{ShowsLatest, lent_by}
 use Rattle.vx_assemble.specs.Feed.{seen_of}
 use Rattle.vx_assemble.specs.Feed as feed
 use Rattle.vx_run.specs.Extract.{BeginsWith}
 use Rattle.vx_push.specs.declared.intake.State.{State}
 use Rattle.vx_push.specs.declared.intake.State.TheVariants as states
-pub use Rattle.vx_push.specs.inner.Comes.{Intaking, Handed, IsFedBy}
-
--- nothing was handed in yet
-abbrev pub nothing : Handed
-nothing = record { bytes = []; all = false }
-
--- more bytes were; or there are no more
-abbrev pub with_more : Handed → List ℕ → Handed
-with_more h piece = record { bytes = h.bytes ++ piece; all = h.all }
-
-abbrev pub with_end : Handed → Handed
-with_end h = record { bytes = h.bytes; all = true }
-
--- a stream that begins with what was handed in, and is that where there are no more bytes
-pub record IsOpenedBy (h : Handed) (b : List ℕ) : Type 0 where
-  pub rest : List ℕ
-  pub front : b ≡ h.bytes ++ rest
-  pub whole : h.all ≡ true → rest ≡ []
-
--- this holds of the pictures and of the ending of each such stream
-abbrev pub OfEachStream : Readers → Handed → (List Picture → Option Ending → Type 0) → Type 0
-OfEachStream R h P =
-    (b : List ℕ) (qs : List Picture) (ending : Option Ending) → IsOpenedBy h b → AreSourcePictures R b qs ending → P qs ending
+pub use Rattle.vx_push.specs.Handed.{Handed, nothing, with_more, with_end, zeros, IsOpenedBy, OfEachStream}
+pub use Rattle.vx_push.specs.inner.Comes.{Intaking, IsFedBy}
 
 -- What an intake has come to, that came to these pictures: however the stream goes on, they are its first ones, and where it waits all
 -- that are seen in what was handed in; or they are all, behind which the stream ends or is refused.
@@ -58,12 +38,8 @@ ComesNext R i h ps state = HasCome R i h ps
 
 -- how many of n bytes it takes at once: 65,536 at most, and of a stream one more than a source may have
 abbrev pub taken_at_once : Intaking → ℕ → ℕ
-taken_at_once i n = min (min n 65536) (2 ^ 40 + 1 - i.feed.reader.taken)
+taken_at_once i n = fed_at_once i.feed.reader.taken n
 
 -- how many bytes it holds: those behind the last unit taken, and those of the picture that was begun last
 abbrev pub bytes_held : Intaking → ℕ
 bytes_held i = feed.bytes_held i.feed
-
--- the zeros that stand for the end of a unit (B.2.1)
-abbrev pub zeros : List ℕ
-zeros = 0 ∷ 0 ∷ 0 ∷ []

@@ -1,9 +1,6 @@
 //! A byte stream that is handed in as it comes, and its pictures.
-ghost use Rattle.std.specs.Prelude.{◌≡◌, ◌⊎◌, ℕ, ◌+◌, ◌^◌, ◌≤◌, List, [], take, length, IfOk};
-ghost use Rattle.vx_pic.specs.Readings.{Picture as StreamPicture};
-ghost use Rattle.vx_pic.specs.Rules.{Readers};
-ghost use Rattle.vx_pic.specs.H266.{AreOfH266};
 
+use crate::seek::{give_end, give_zeros, go_on, seek, waits};
 use std::alloc::{AllocError, Global};
 use std::marker::Model;
 use vx_assemble::Feed;
@@ -47,12 +44,13 @@ impl Model for Intake {
 }
 
 impl Intake {
-    ghost use Rattle.std.specs.Prelude.{◌≡◌, ◌⊎◌, ℕ, ◌+◌, ◌^◌, ◌≤◌, List, [], take, length, IfOk};
+    ghost use Rattle.std.specs.Prelude.{◌≡◌, ◌⊎◌, ℕ, ◌+◌, ◌^◌, ◌<◌, ◌≤◌, true, false, List, [], take, length, IfOk};
     ghost use Rattle.vx_pic.specs.Readings.{Picture as StreamPicture};
     ghost use Rattle.vx_pic.specs.Rules.{Readers};
     ghost use Rattle.vx_pic.specs.H266.{AreOfH266};
     ghost use Rattle.vx_assemble.specs.Held.{ShowsLatest, lent_by};
-    ghost use Rattle.vx_push.specs.Comes.{Handed, HasCome, ComesTo, ComesNext, nothing, with_more, with_end, zeros, taken_at_once, bytes_held};
+    ghost use Rattle.vx_push.specs.Handed.{Handed, nothing, with_more, with_end, zeros};
+    ghost use Rattle.vx_push.specs.Comes.{HasCome, ComesTo, ComesNext, taken_at_once, bytes_held};
     ghost use Rattle.vx_push.specs.declared.intake.State.TheVariants.{Waits, Picture as Holds, NoMemory};
 
     /// An intake to which nothing was handed in. It waits.
@@ -90,7 +88,19 @@ impl Intake {
         ensures kept { (self.old.state ≡ Waits → ⊥) → (result ≡ 0) × (self.new ≡ self.old) }
         ensures bytes { bytes_held self.new ≤ 2 ^ 25 + 2 ^ 23 + 65538 }
     {
-        0
+        if !waits(self.state) {
+            return 0;
+        }
+        match self.feed.feed(piece) {
+            Ok(count) => {
+                self.state = seek(&mut self.feed);
+                count
+            }
+            Err(_error) => {
+                self.state = State::NoMemory;
+                0
+            }
+        }
     }
 
     /// The last unit that was handed in is whole: three zero bytes are handed in behind it. Where a picture is held they wait
@@ -106,6 +116,11 @@ impl Intake {
         ensures kept { (self.old.state ≡ Waits → ⊥) → (self.old.state ≡ Holds → ⊥) → self.new ≡ self.old }
         ensures bytes { bytes_held self.new ≤ 2 ^ 25 + 2 ^ 23 + 65538 }
     {
+        match self.state {
+            State::Waits => self.state = give_zeros(&mut self.feed),
+            State::Picture if !self.ended => self.flushed = true,
+            _ => {}
+        }
     }
 
     /// There are no more bytes. Where a picture is held, the end waits until it was passed.
@@ -118,6 +133,14 @@ impl Intake {
         ensures kept { (self.old.state ≡ Waits → ⊥) → (self.old.state ≡ Holds → ⊥) → self.new ≡ self.old }
         ensures bytes { bytes_held self.new ≤ 2 ^ 25 + 2 ^ 23 + 65538 }
     {
+        match self.state {
+            State::Waits => {
+                self.ended = true;
+                self.state = give_end(&mut self.feed);
+            }
+            State::Picture => self.ended = true,
+            _ => {}
+        }
     }
 
     /// Goes on behind the picture that it holds, if it holds one.
@@ -125,8 +148,13 @@ impl Intake {
         ensures comes { self.old.state ≡ Holds → (R : Readers) → AreOfH266 R → (h : Handed) (ps : List StreamPicture)
             → HasCome R self.old h ps → ComesNext R self.new h ps self.new.state }
         ensures kept { (self.old.state ≡ Holds → ⊥) → self.new ≡ self.old }
+        ensures units { self.old.state ≡ Holds → self.new.state ≡ Holds → self.old.feed.units < self.new.feed.units }
+        ensures few { self.new.state ≡ Holds → self.new.feed.units ≤ 2 ^ 40 }
         ensures bytes { bytes_held self.new ≤ 2 ^ 25 + 2 ^ 23 + 65538 }
     {
+        if let State::Picture = self.state {
+            self.state = go_on(&mut self.feed, &mut self.flushed, self.ended);
+        }
     }
 
     /// The picture that it holds. It takes no memory.
