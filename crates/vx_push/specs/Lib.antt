@@ -1,4 +1,5 @@
 -- What the contracts of this crate cite.
 pub mod Comes
 pub mod Handed
+pub mod Mixing
 pub mod inner

@@ -1,2 +1,3 @@
 -- What serves bodies and proofs alone: nothing that a caller has to believe.
 pub mod Comes
+pub mod Mixing

@@ -13,3 +13,4 @@ mod stop;
 mod store;
 
 pub use intake::{Intake, State};
+pub use mixer::{MergedPicture, Mixed, Mixer, NoSource, mixed_is_merged};
