@@ -1,5 +1,6 @@
 -- An intake: what it came to, by what its feed came to in the bytes that it was given.
 use Rattle.std.proofs.Common.{◌≡◌, ℕ, ◌<◌, ◌≤◌, List, [], ◌∷◌, ◌++◌, ◌∙◌, Option, Some, None, Bool, true, false, length, take, drop, inl, inr, ◌⊎◌, refl, ap, sym, subst, arith, append_assoc, append-nil, ⊎_elim}
+use Rattle.std.proofs.Math.Seq.{take_all}
 use Rattle.std.proofs.lemmas.List.{take-append-drop}
 use Rattle.vx_annexb.specs.ByteStream.{source_limit, UnitPlace}
 use Rattle.vx_annexb.specs.Held.{is_all}
@@ -9,18 +10,19 @@ use Rattle.vx_annexb.specs.declared.unit_reader.Closed.TheVariants as closed
 use Rattle.vx_bits.specs.declared.refusal.Refusal.{Refusal}
 use Rattle.vx_pic.specs.Readings.{Picture, pictures}
 use Rattle.vx_pic.specs.Rules.{Readers}
-use Rattle.vx_pic.specs.Bytes.{Ending, ArePictures, AreSeenPictures}
-use Rattle.vx_assemble.specs.Feed.{Feeding, seen_of}
+use Rattle.vx_pic.specs.Streams.{read_on}
+use Rattle.vx_pic.specs.Bytes.{Ending, ending_by, ArePictures, AreSeenPictures}
+use Rattle.vx_assemble.specs.Feed.{Feeding, HasFed, seen_of}
 use Rattle.vx_assemble.specs.Held.{ShowsLatest, lent_by}
 use Rattle.vx_run.specs.Extract.{BeginsWith}
 use Rattle.vx_run.proofs.Told.{IsGiven, refused_at}
 use Rattle.vx_run.proofs.Taking.{begins_with, all_of_given, refused_behind, follows_front}
 use Rattle.vx_run.proofs.Showing.{is_end, has_ended, is_long}
-use Rattle.vx_push.specs.Handed.{Handed, with_more, with_end, zeros, IsOpenedBy, OfEachStream}
+use Rattle.vx_push.specs.Handed.{Handed, nothing, with_more, with_end, zeros, IsOpenedBy, OfEachStream}
 use Rattle.vx_push.specs.Comes.{HasCome, ComesNext}
 use Rattle.vx_push.specs.declared.intake.State.{State}
 use Rattle.vx_push.specs.declared.intake.State.TheVariants as states
-use Rattle.vx_push.specs.inner.Comes.{Intaking, intaking, zeros_if, Owes, HasTaken, IsGoing, IsStopped, SeeksTo, StepsBehind}
+use Rattle.vx_push.specs.inner.Comes.{Intaking, intaking, zeros_if, Owes, HasTaken, IsGoing, IsReady, IsLeftAs, IsStopped, SeeksTo, StepsBehind}
 
 -- ---- what is owed
 
@@ -160,9 +162,9 @@ steps_zeros R f f1 s0 s ended h ps g k open_ unended whole to =
     g.bytes ∙ ap (λ l. g.given ++ l) (owed ∙ sym (take-append-drop k zeros)) ∙ sym (append_assoc g.given (take k zeros) (drop k zeros)) in
     let first = first_of_going R f s0 true ended h ps g in
     ⊎_elim
-        (λ is. subst (λ (x : State). StepsBehind R (intaking f1 x false ended) h ps x) (sym is) first)
-        (λ not_. steps R h f1 (g.given ++ take k zeros) (drop k zeros) false ended bytes (owes_none f1.reader.closed ended (drop k zeros) unended (λ going. ap (λ n. drop n zeros) (whole not_ going))) g.all ps s first to)
-        (no_memory s)
+    (λ is. subst (λ (x : State). StepsBehind R (intaking f1 x false ended) h ps x) (sym is) first)
+    (λ not_. steps R h f1 (g.given ++ take k zeros) (drop k zeros) false ended bytes (owes_none f1.reader.closed ended (drop k zeros) unended (λ going. ap (λ n. drop n zeros) (whole not_ going))) g.all ps s first to)
+    (no_memory s)
 
 -- and where it was given the end
 pub steps_end : (R : Readers) (f f1 : Feeding) (s0 s : State) (h : Handed) (ps : List Picture) (g : IsGoing R (intaking f s0 false true) h ps) → f.reader.closed ≡ None → f1.reader.closed ≡ Some closed.End
@@ -207,3 +209,138 @@ rests R f states.Picture flushed ended h ps waits (p, g, shows) = (
 rests R f states.Ended flushed ended h ps waits is = record { told = is; lends = λ e. absurd (cc); fed = tt }
 rests R f (states.Refused r n) flushed ended h ps waits is = record { told = is; lends = λ e. absurd (cc); fed = tt }
 rests R f states.NoMemory flushed ended h ps waits is = record { told = is; lends = λ e. absurd (cc); fed = tt }
+
+-- ---- calls
+
+-- nothing was handed in
+pub come_none : (R : Readers) (f : Feeding) → HasFed R f [] [] [] → f.reader.closed ≡ None → HasCome R (intaking f states.Waits false false) nothing []
+come_none R f fed open_ =
+    let owes : Owes None false false [] = refl in
+    let g : IsGoing R (intaking f states.Waits false false) nothing [] = record {
+      given = [];
+      owed = [];
+      taken = record { places = []; before = []; fed = fed; done = refl };
+      bytes = refl;
+      owes = subst (λ (c : Option Closed). Owes c false false []) (sym open_) owes;
+      all = refl;
+    } in
+    let empty : seen_of [] ≡ [] = take_all source_limit [] (omega arith) in
+    let seen : AreSeenPictures R [] [] = (
+      ending_by false None (read_on R [] []),
+      record {
+        places = [];
+        framing = None;
+        stream = record { follow = tt; behind = inl (record { order = omega arith; within = omega arith; each = λ k low high. absurd (omega (arith, low, high)) }) };
+        done = refl;
+        ends = refl;
+      },
+    ) in
+    record {
+      told = (
+        first_of_going R f states.Waits false false nothing [] g,
+        subst (λ (l : List ℕ). AreSeenPictures R l []) (sym empty) seen,
+        refl,
+      );
+      lends = λ e. absurd (cc);
+      fed = g;
+    }
+
+-- where it waits, it goes on
+waiting : (R : Readers) (f : Feeding) (s : State) (flushed ended : Bool) (h : Handed) (ps : List Picture) → s ≡ states.Waits → IsReady (intaking f s flushed ended) s → HasCome R (intaking f s flushed ended) h ps
+    → (flushed ≡ false) × (ended ≡ false) × (f.reader.closed ≡ None) × IsGoing R (intaking f states.Waits false false) h ps
+waiting R f states.Waits flushed ended h ps is ready come = (
+  ready.unflushed,
+  ready.unended,
+  ready.open_.reader,
+  subst (λ (b : Bool). IsGoing R (intaking f states.Waits false b) h ps) ready.unended (subst (λ (a : Bool). IsGoing R (intaking f states.Waits a ended) h ps) ready.unflushed come.fed),
+)
+waiting R f states.Picture flushed ended h ps is ready come = absurd (cc)
+waiting R f states.Ended flushed ended h ps is ready come = absurd (cc)
+waiting R f (states.Refused r n) flushed ended h ps is ready come = absurd (cc)
+waiting R f states.NoMemory flushed ended h ps is ready come = absurd (cc)
+
+open_as : (f : Feeding) (s : State) → IsLeftAs f s → s ≡ states.Waits → f.reader.closed ≡ None
+open_as f states.Waits left is = left.0.reader
+open_as f states.Picture left is = absurd (cc)
+open_as f states.Ended left is = absurd (cc)
+open_as f (states.Refused r n) left is = absurd (cc)
+open_as f states.NoMemory left is = absurd (cc)
+
+module _ (R : Readers) (f : Feeding) (s0 : State) (flushed ended : Bool) (h : Handed) (ps : List Picture) (come : HasCome R (intaking f s0 flushed ended) h ps) where
+  module _ (is : s0 ≡ states.Waits) (ready : IsReady (intaking f s0 flushed ended) s0) (f1 : Feeding) (s : State) where
+    -- a piece was handed in
+    pub pushed : (piece : List ℕ) → IsLeftAs f1 s → (f1.reader.closed ≡ Some closed.End → ⊥) → ((g : List ℕ) → HasTaken R f g ps → SeeksTo R (g ++ piece) ps f1 s)
+        → ComesNext R (intaking f1 s flushed ended) (with_more h piece) ps s
+    pushed piece left unended to =
+        let w = waiting R f s0 flushed ended h ps is ready come in
+        let g = w.3 in
+        let behind = steps_piece R f f1 states.Waits s h ps g piece w.2 unended (to g.given g.taken) in
+        rw (w.0, w.1) (rests R f1 s false false (with_more h piece) ps (λ e. (refl, refl, open_as f1 s left e)) behind)
+
+    -- zeros were
+    pub flushes : (k : ℕ) → IsLeftAs f1 s → (f1.reader.closed ≡ Some closed.End → ⊥) → ((s ≡ states.NoMemory → ⊥) → f1.reader.closed ≡ None → k ≡ 3)
+        → ((g : List ℕ) → HasTaken R f g ps → SeeksTo R (g ++ take k zeros) ps f1 s) → ComesNext R (intaking f1 s flushed ended) (with_more h zeros) ps s
+    flushes k left unended whole to =
+        let w = waiting R f s0 flushed ended h ps is ready come in
+        let g = with_zeros R f states.Waits states.Waits h ps w.3 in
+        let behind = steps_zeros R f f1 states.Waits s false (with_more h zeros) ps g k w.2 unended whole (to g.given g.taken) in
+        rw (w.0, w.1) (rests R f1 s false false (with_more h zeros) ps (λ e. (refl, refl, open_as f1 s left e)) behind)
+
+    -- the end was
+    pub finishes : (s ≡ states.Waits → ⊥) → f1.reader.closed ≡ Some closed.End → ((g : List ℕ) → HasTaken R f g ps → SeeksTo R g ps f1 s) → ComesNext R (intaking f1 s flushed true) (with_end h) ps s
+    finishes stays end to =
+        let w = waiting R f s0 flushed ended h ps is ready come in
+        let g = with_the_end R f states.Waits states.Waits false false h ps w.3 in
+        let behind = steps_end R f f1 states.Waits s (with_end h) ps g w.2 end (to g.given g.taken) in
+        rw w.0 (rests R f1 s false true (with_end h) ps (λ e. absurd (stays e)) behind)
+
+    -- there was no memory for it
+    pub unheld : (piece : List ℕ) → HasCome R (intaking f1 states.NoMemory flushed ended) (with_more h piece) ps
+    unheld piece =
+        let w = waiting R f s0 flushed ended h ps is ready come in
+        let g = w.3 in
+        record {
+          told = of_later R h piece (λ qs ending. BeginsWith qs ps) g.all (first_of_going R f states.Waits false false h ps g);
+          lends = λ e. absurd (cc);
+          fed = tt;
+        }
+
+-- behind a picture it goes on
+pub holding : (R : Readers) (f : Feeding) (s : State) (flushed ended : Bool) (h : Handed) (ps : List Picture) → s ≡ states.Picture → HasCome R (intaking f s flushed ended) h ps → IsGoing R (intaking f states.Picture flushed ended) h ps
+holding R f states.Waits flushed ended h ps is come = absurd (cc)
+holding R f states.Picture flushed ended h ps is come = come.fed
+holding R f states.Ended flushed ended h ps is come = absurd (cc)
+holding R f (states.Refused r n) flushed ended h ps is come = absurd (cc)
+holding R f states.NoMemory flushed ended h ps is come = absurd (cc)
+
+-- zeros were handed in behind it
+pub flushed_later : (R : Readers) (f : Feeding) (s : State) (flushed ended : Bool) (h : Handed) (ps : List Picture) → s ≡ states.Picture → flushed ≡ false → ended ≡ false → HasCome R (intaking f s flushed ended) h ps
+    → HasCome R (intaking f s true ended) (with_more h zeros) ps
+flushed_later R f states.Waits flushed ended h ps is none open_ come = absurd (cc)
+flushed_later R f states.Picture flushed ended h ps is none open_ come =
+    let g = subst (λ (b : Bool). IsGoing R (intaking f states.Picture false b) h ps) open_ (subst (λ (a : Bool). IsGoing R (intaking f states.Picture a ended) h ps) none come.fed) in
+    let later = with_zeros R f states.Picture states.Picture h ps g in
+    record {
+      told = (first_of_going R f states.Picture true false (with_more h zeros) ps later, come.told.1);
+      lends = come.lends;
+      fed = subst (λ (b : Bool). IsGoing R (intaking f states.Picture true b) (with_more h zeros) ps) (sym open_) later;
+    }
+flushed_later R f states.Ended flushed ended h ps is none open_ come = absurd (cc)
+flushed_later R f (states.Refused r n) flushed ended h ps is none open_ come = absurd (cc)
+flushed_later R f states.NoMemory flushed ended h ps is none open_ come = absurd (cc)
+
+-- or the end
+pub ended_later : (R : Readers) (f : Feeding) (s : State) (flushed ended : Bool) (h : Handed) (ps : List Picture) → s ≡ states.Picture → HasCome R (intaking f s flushed ended) h ps
+    → HasCome R (intaking f s flushed true) (with_end h) ps
+ended_later R f states.Waits flushed ended h ps is come = absurd (cc)
+ended_later R f states.Picture flushed ended h ps is come =
+    let later = with_the_end R f states.Picture states.Picture flushed ended h ps come.fed in
+    record { told = (first_of_going R f states.Picture flushed true (with_end h) ps later, come.told.1); lends = come.lends; fed = later }
+ended_later R f states.Ended flushed ended h ps is come = absurd (cc)
+ended_later R f (states.Refused r n) flushed ended h ps is come = absurd (cc)
+ended_later R f states.NoMemory flushed ended h ps is come = absurd (cc)
+
+-- it was passed
+pub passes : (R : Readers) (f1 : Feeding) (s : State) (flushed ended : Bool) (h : Handed) (ps : List Picture) → IsLeftAs f1 s → (s ≡ states.Waits → flushed ≡ false) → (s ≡ states.Waits → ended ≡ false)
+    → StepsBehind R (intaking f1 s flushed ended) h ps s → ComesNext R (intaking f1 s flushed ended) h ps s
+passes R f1 s flushed ended h ps left unflushed unended behind = rests R f1 s flushed ended h ps (λ e. (unflushed e, unended e, open_as f1 s left e)) behind
