@@ -1,5 +1,6 @@
 -- What the contracts of this crate cite.
 pub mod Comes
 pub mod Handed
+pub mod Line
 pub mod Mixing
 pub mod inner
