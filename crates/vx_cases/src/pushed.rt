@@ -26,7 +26,7 @@ enum Step {
 }
 
 /// A mixer or a cutter.
-trait Pushed {
+trait Work {
     fn next_step(&mut self) -> Step;
 
     /// Hands bytes of source `k` in, and answers how many were taken.
@@ -41,7 +41,7 @@ trait Pushed {
     fn take_into(&mut self, into: &mut [u8]) -> Option<usize>;
 }
 
-impl Pushed for Mixer {
+impl Work for Mixer {
     fn next_step(&mut self) -> Step {
         match self.next() {
             Mixed::Picture => Step::Picture,
@@ -68,7 +68,7 @@ impl Pushed for Mixer {
     }
 }
 
-impl Pushed for Cutter {
+impl Work for Cutter {
     fn next_step(&mut self) -> Step {
         match self.next() {
             Cut::Picture => Step::Picture,
@@ -193,9 +193,9 @@ fn corners_of(alloc: Global, words: &[&str]) -> Result<Vec<Corner>> {
 }
 
 /// Hands the sources in until there are no more pictures, and tells what that comes to.
-fn outcome_of<P: Pushed>(
+fn outcome_of<W: Work>(
     alloc: Global,
-    work: &mut P,
+    work: &mut W,
     rests: &mut Vec<&[u8]>,
     length: usize,
     order: Order,
@@ -223,7 +223,7 @@ fn ended(alloc: Global, stop: Option<Stop>, out: Vec<u8>) -> Result<Outcome> {
 }
 
 /// Takes the picture that is held.
-fn take<P: Pushed>(alloc: Global, work: &mut P, out: &mut Vec<u8>) -> Result<()> {
+fn take<W: Work>(alloc: Global, work: &mut W, out: &mut Vec<u8>) -> Result<()> {
     let count = work.count().context("no picture")?;
     let mut bytes = vec![in alloc; 0_u8; count]?;
     work.take_into(&mut bytes).context("no room")?;
@@ -232,8 +232,8 @@ fn take<P: Pushed>(alloc: Global, work: &mut P, out: &mut Vec<u8>) -> Result<()>
 }
 
 /// Hands in more of each source.
-fn hand_in_each<P: Pushed>(
-    work: &mut P,
+fn hand_in_each<W: Work>(
+    work: &mut W,
     rests: &mut Vec<&[u8]>,
     length: usize,
     order: Order,
@@ -250,8 +250,8 @@ fn hand_in_each<P: Pushed>(
 
 /// Hands in so many pieces of source `k` at most, as long as any are taken, and its end where nothing is left of it; and answers what is
 /// left.
-fn hand_in<'a, P: Pushed>(
-    work: &mut P,
+fn hand_in<'a, W: Work>(
+    work: &mut W,
     k: usize,
     mut rest: &'a [u8],
     length: usize,

@@ -2,5 +2,6 @@
 pub mod Comes
 pub mod Handed
 pub mod Line
+pub mod Cutting
 pub mod Mixing
 pub mod inner
