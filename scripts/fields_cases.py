@@ -170,7 +170,7 @@ def add_headers(cases):
     sps_told = told((4, 20, 15), sps_line(), fields_line(0, "SPS", Sps(rbsp_of(GRAY_SPS)).items))
     say_in_pieces(cases, f"show --fields {cases.name(no_pps)}", refused("S1 source 0 unit 1 PPS 0", sps_told + told(fields_line(1, "SH", INSIDE))))
     alone = stream(*sets_of_pair, units(M)[3])
-    say_in_pieces(cases, f"show --fields {cases.name(alone)}", refused("S3 source 0 unit 2", before))
+    say_in_pieces(cases, f"show --fields {cases.name(alone)}", refused("S2 source 0 unit 2", before))
 
 
 # Whole sets.
