@@ -14,7 +14,7 @@ use Rattle.vx_push.specs.inner.Comes.{IsGoing}
 use Rattle.vx_push.specs.Mixing.{IsBehind, HasComeBehind}
 
 -- units take bytes, each of its own
-few_units : (b : List ℕ) (all : Bool) (p : ℕ) (us : List UnitPlace) → FollowsFrom b all p us → length us ≤ length b - p
+pub few_units : (b : List ℕ) (all : Bool) (p : ℕ) (us : List UnitPlace) → FollowsFrom b all p us → length us ≤ length b - p
 few_units b all p [] f = omega arith
 few_units b all p (u ∷ us) f =
     let at = unit_within b all p u f.0 in
@@ -26,5 +26,12 @@ few_behind R i h n is c =
     let going : IsGoing R i h c.pictures = subst (λ (s : State). IsFedBy R i h c.pictures s) is c.come.fed in
     let many : length c.pictures ≡ n + 1 = subst (λ (s : State). IsBehind s n (length c.pictures)) is c.count in
     let seen = seen_of going.given in
-    omega (arith, many, ap (λ (l : List StreamPicture). length l) going.done, few_pictures going.before, all_length R seen going.places going.before going.fed.readings,
-    few_units seen (is_all i.feed.reader.splitter) 0 going.places going.fed.read.stands.given, few_seen going.given)
+    omega (
+      arith,
+      many,
+      ap (λ (l : List StreamPicture). length l) going.done,
+      few_pictures going.before,
+      all_length R seen going.places going.before going.fed.readings,
+      few_units seen (is_all i.feed.reader.splitter) 0 going.places going.fed.read.stands.given,
+      few_seen going.given,
+    )

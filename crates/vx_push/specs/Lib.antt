@@ -1,5 +1,6 @@
 -- What the contracts of this crate cite.
 pub mod Comes
+pub mod Cutting
 pub mod Handed
 pub mod Mixing
 pub mod inner

@@ -161,6 +161,7 @@ impl Intake {
     pub fn picture(&self) -> Picture<'_>
         requires { self.now.state ≡ Holds }
         ensures lent { result ≡ lent_by self.now.feed.assembler }
+        ensures few { self.now.feed.units ≤ 2 ^ 40 }
         ensures shows { (R : Readers) (h : Handed) (ps : List StreamPicture) → HasCome R self.now h ps → ShowsLatest result ps }
     {
         self.feed.picture()

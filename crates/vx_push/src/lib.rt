@@ -9,8 +9,7 @@ mod cutter;
 mod intake;
 mod mixer;
 mod seek;
-mod stop;
-mod store;
 
+pub use cutter::{Cut, CutPicture, Cutter};
 pub use intake::{Intake, State};
 pub use mixer::{MergedPicture, Mixed, Mixer, NoSource, mixed_is_merged};

@@ -1,1 +1,0 @@
-//! What was written and is to be taken.
