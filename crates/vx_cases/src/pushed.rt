@@ -3,9 +3,10 @@
 use crate::outcome::Outcome;
 use crate::streams::Streams;
 use anyhow::{Context, Result, bail};
-use std::alloc::{AllocError, Global};
+use std::alloc::Global;
 use vx_merge::Corner;
-use vx_push::{Mixed, Mixer, are_corners};
+use vx_push::{Cut, Cutter, Mixed, Mixer, are_corners, stop_line};
+use vx_run::{Stop, Task};
 
 /// How the pieces of several sources are handed in.
 #[derive(Clone, Copy, PartialEq, Eq)]
@@ -16,17 +17,99 @@ enum Order {
     Sources,
 }
 
-/// How many times more is handed in or taken at most.
+/// What a mixer or a cutter has come to.
+enum Step {
+    Picture,
+    Waits,
+    Ended,
+    Stopped(Stop),
+}
+
+/// A mixer or a cutter.
+trait Work {
+    fn next_step(&mut self) -> Step;
+
+    /// Hands bytes of source `k` in, and answers how many were taken.
+    fn hand_in(&mut self, k: usize, piece: &[u8]) -> Option<usize>;
+
+    /// There are no more of source `k`.
+    fn end_of(&mut self, k: usize);
+
+    /// How many bytes are to be taken.
+    fn count(&self) -> Option<usize>;
+
+    fn take_into(&mut self, into: &mut [u8]) -> Option<usize>;
+}
+
+impl Work for Mixer {
+    fn next_step(&mut self) -> Step {
+        match self.next() {
+            Mixed::Picture => Step::Picture,
+            Mixed::Waits(_) => Step::Waits,
+            Mixed::Ended => Step::Ended,
+            Mixed::Stopped(stop) => Step::Stopped(stop),
+        }
+    }
+
+    fn hand_in(&mut self, k: usize, piece: &[u8]) -> Option<usize> {
+        self.push(k, piece).ok()
+    }
+
+    fn end_of(&mut self, k: usize) {
+        let _ = self.end(k);
+    }
+
+    fn count(&self) -> Option<usize> {
+        Some(self.picture()?.bytes)
+    }
+
+    fn take_into(&mut self, into: &mut [u8]) -> Option<usize> {
+        self.take(into)
+    }
+}
+
+impl Work for Cutter {
+    fn next_step(&mut self) -> Step {
+        match self.next() {
+            Cut::Picture => Step::Picture,
+            Cut::Waits => Step::Waits,
+            Cut::Ended => Step::Ended,
+            Cut::Stopped(stop) => Step::Stopped(stop),
+        }
+    }
+
+    fn hand_in(&mut self, _k: usize, piece: &[u8]) -> Option<usize> {
+        Some(self.push(piece))
+    }
+
+    fn end_of(&mut self, _k: usize) {
+        self.end();
+    }
+
+    fn count(&self) -> Option<usize> {
+        Some(self.picture()?.bytes)
+    }
+
+    fn take_into(&mut self, into: &mut [u8]) -> Option<usize> {
+        self.take(into)
+    }
+}
+
+/// How many times more is handed in, or a picture is taken, at most.
 const MOST_STEPS: u32 = 1 << 26;
 
-/// `LENGTH ORDER merge [--level N] X,Y=NAME ..`
+/// `LENGTH ORDER merge [--level N] X,Y=NAME ..` or `LENGTH ORDER extract [--tid T] [--level N] INDEX NAME`
 pub(crate) fn pushed(alloc: Global, streams: &Streams, words: &[&str]) -> Result<Outcome> {
-    let [length, order, "merge", words @ ..] = words else {
-        bail!("no merge");
+    let [length, order, command, words @ ..] = words else {
+        bail!("no command");
     };
     let length = length.parse::<usize>()?;
-    let (level, words) = level_first(words)?;
-    merged(alloc, streams, length, order_of(order)?, level, words)
+    let order = order_of(order)?;
+    match *command {
+        "merge" => merged(alloc, streams, length, order, words),
+        "extract" => extracted(alloc, streams, length, order, words),
+        _ => bail!("neither a merge nor an extraction"),
+    }
 }
 
 fn order_of(word: &str) -> Result<Order> {
@@ -37,10 +120,10 @@ fn order_of(word: &str) -> Result<Order> {
     }
 }
 
-/// The level, where the words begin with one, and the others.
-fn level_first<'a, 'b>(words: &'a [&'b str]) -> Result<(Option<u8>, &'a [&'b str])> {
+/// The number behind an option, where the words begin with that, and the other words.
+fn option_first<'a, 'b>(words: &'a [&'b str], option: &str) -> Result<(Option<u8>, &'a [&'b str])> {
     match words {
-        ["--level", level, rest @ ..] => Ok((Some(level.parse::<u8>()?), rest)),
+        [first, number, rest @ ..] if *first == option => Ok((Some(number.parse::<u8>()?), rest)),
         _ => Ok((None, words)),
     }
 }
@@ -51,22 +134,43 @@ fn merged(
     streams: &Streams,
     length: usize,
     order: Order,
-    level: Option<u8>,
     words: &[&str],
 ) -> Result<Outcome> {
+    let (level, words) = option_first(words, "--level")?;
     let corners = corners_of(alloc, words)?;
     if !are_corners(&corners) {
         bail!("no corners");
     }
-    let mut rests = rests_of(alloc, streams, words)?;
+    let mut rests = Vec::new(alloc);
+    for word in words {
+        rests.push(streams.get(placing(word)?.1)?.as_slice())?;
+    }
     let mut mixer = Mixer::new(alloc, &corners, level)?;
-    let mut out = Vec::new(alloc);
-    let status = mix(alloc, &mut mixer, &mut rests, length, order, &mut out)?;
-    Ok(Outcome {
-        status,
-        err: mixer.line()?,
-        out,
-    })
+    outcome_of(alloc, &mut mixer, &mut rests, length, order)
+}
+
+/// Extracts of a source that is handed in so.
+fn extracted(
+    alloc: Global,
+    streams: &Streams,
+    length: usize,
+    order: Order,
+    words: &[&str],
+) -> Result<Outcome> {
+    let (tid, words) = option_first(words, "--tid")?;
+    let (level, words) = option_first(words, "--level")?;
+    let [target, name] = words else {
+        bail!("an extraction has an index and a source");
+    };
+    let task = Task {
+        target: target.parse::<u32>()?,
+        level,
+        tid: tid.unwrap_or(6).min(6),
+    };
+    let mut rests = Vec::new(alloc);
+    rests.push(streams.get(name)?.as_slice())?;
+    let mut cutter = Cutter::new(alloc, task)?;
+    outcome_of(alloc, &mut cutter, &mut rests, length, order)
 }
 
 /// `X,Y=NAME`: the corner and the name.
@@ -88,80 +192,82 @@ fn corners_of(alloc: Global, words: &[&str]) -> Result<Vec<Corner>> {
     Ok(corners)
 }
 
-/// The bytes of each source.
-fn rests_of<'a>(
+/// Hands the sources in until there are no more pictures, and tells what that comes to.
+fn outcome_of<W: Work>(
     alloc: Global,
-    streams: &'a Streams,
-    words: &[&str],
-) -> Result<Vec<&'a [u8]>> {
-    let mut rests = Vec::new(alloc);
-    for word in words {
-        let bytes = streams.get(placing(word)?.1)?;
-        rests.push(bytes.as_slice())?;
-    }
-    Ok(rests)
-}
-
-/// Hands them in until the mixer comes to its end, and answers the status of the program that ends so.
-fn mix(
-    alloc: Global,
-    mixer: &mut Mixer,
+    work: &mut W,
     rests: &mut Vec<&[u8]>,
     length: usize,
     order: Order,
-    out: &mut Vec<u8>,
-) -> Result<u8> {
+) -> Result<Outcome> {
+    let mut out = Vec::new(alloc);
     for _ in 0..MOST_STEPS {
-        match mixer.next() {
-            Mixed::Picture => take(alloc, mixer, out)?,
-            Mixed::Waits(_) => hand_in(mixer, rests, length, order)?,
-            Mixed::Ended => return Ok(0),
-            Mixed::Stopped(stop) => return Ok(status_of(stop)),
+        match work.next_step() {
+            Step::Picture => take(alloc, work, &mut out)?,
+            Step::Waits => hand_in_each(work, rests, length, order)?,
+            Step::Ended => return ended(alloc, None, out),
+            Step::Stopped(stop) => return ended(alloc, Some(stop), out),
         }
     }
     bail!("no end")
 }
 
-/// Takes the merged picture.
-fn take(alloc: Global, mixer: &mut Mixer, out: &mut Vec<u8>) -> Result<()> {
-    let picture = mixer.picture().context("no picture")?;
-    let mut bytes = vec![in alloc; 0_u8; picture.bytes]?;
-    let count = mixer.take(&mut bytes).context("no room")?;
-    out.extend_from_slice(&bytes[..count])?;
+/// The status and the line of the program that ends so.
+fn ended(alloc: Global, stop: Option<Stop>, out: Vec<u8>) -> Result<Outcome> {
+    let (status, err) = match stop {
+        None => (0, Vec::new(alloc)),
+        Some(stop @ Stop::Refused { .. }) => (1, stop_line(alloc, stop)?),
+        Some(stop) => (4, stop_line(alloc, stop)?),
+    };
+    Ok(Outcome { status, err, out })
+}
+
+/// Takes the picture that is held.
+fn take<W: Work>(alloc: Global, work: &mut W, out: &mut Vec<u8>) -> Result<()> {
+    let count = work.count().context("no picture")?;
+    let mut bytes = vec![in alloc; 0_u8; count]?;
+    work.take_into(&mut bytes).context("no room")?;
+    out.extend_from_slice(&bytes)?;
     Ok(())
 }
 
 /// Hands in more of each source.
-fn hand_in(mixer: &mut Mixer, rests: &mut Vec<&[u8]>, length: usize, order: Order) -> Result<()> {
+fn hand_in_each<W: Work>(
+    work: &mut W,
+    rests: &mut Vec<&[u8]>,
+    length: usize,
+    order: Order,
+) -> Result<()> {
     for k in 0..rests.len() {
-        match order {
-            Order::Turns => {
-                push(mixer, k, &mut rests[k], length)?;
-            }
-            Order::Sources => push_all(mixer, k, &mut rests[k], length)?,
-        }
+        let most = match order {
+            Order::Turns => 1,
+            Order::Sources => MOST_STEPS,
+        };
+        rests[k] = hand_in(work, k, rests[k], length, most)?;
     }
     Ok(())
 }
 
-/// Hands in all of source `k` that is taken.
-fn push_all(mixer: &mut Mixer, k: usize, rest: &mut &[u8], length: usize) -> Result<()> {
-    for _ in 0..MOST_STEPS {
-        if push(mixer, k, rest, length)? == 0 {
-            return Ok(());
+/// Hands in so many pieces of source `k` at most, as long as any are taken, and its end where nothing is left of it; and answers what is
+/// left.
+fn hand_in<'a, W: Work>(
+    work: &mut W,
+    k: usize,
+    mut rest: &'a [u8],
+    length: usize,
+    most: u32,
+) -> Result<&'a [u8]> {
+    for _ in 0..most {
+        if rest.is_empty() {
+            work.end_of(k);
+            return Ok(rest);
         }
+        let piece = &rest[..rest.len().min(length)];
+        let count = work.hand_in(k, piece).context("no source")?;
+        if count == 0 {
+            return Ok(rest);
+        }
+        rest = rest.get(count..).context("more was taken than handed in")?;
     }
-    Ok(())
-}
-
-/// Hands in a piece of source `k`, or its end where nothing is left, and answers how many bytes were taken.
-fn push(mixer: &mut Mixer, k: usize, rest: &mut &[u8], length: usize) -> Result<usize> {
-    if rest.is_empty() {
-        mixer.end(k).ok().context("no source")?;
-        return Ok(0);
-    }
-    let piece = &rest[..rest.len().min(length)];
-    let count = mixer.push(k, piece).ok().context("no source")?;
-    *rest = &rest[count..];
-    Ok(count)
+    Ok(rest)
 }

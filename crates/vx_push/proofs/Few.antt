@@ -25,13 +25,14 @@ pub few_behind : (R : Readers) (i : Intaking) (h : Handed) (n : ℕ) → i.state
 few_behind R i h n is c =
     let going : IsGoing R i h c.pictures = subst (λ (s : State). IsFedBy R i h c.pictures s) is c.come.fed in
     let many : length c.pictures ≡ n + 1 = subst (λ (s : State). IsBehind s n (length c.pictures)) is c.count in
+    let taken = going.taken in
     let seen = seen_of going.given in
     omega (
       arith,
       many,
-      ap (λ (l : List StreamPicture). length l) going.done,
-      few_pictures going.before,
-      all_length R seen going.places going.before going.fed.readings,
-      few_units seen (is_all i.feed.reader.splitter) 0 going.places going.fed.read.stands.given,
+      ap (λ (l : List StreamPicture). length l) taken.done,
+      few_pictures taken.before,
+      all_length R seen taken.places taken.before taken.fed.readings,
+      few_units seen (is_all i.feed.reader.splitter) 0 taken.places taken.fed.read.stands.given,
       few_seen going.given,
     )

@@ -1,5 +1,5 @@
 -- What the intakes of a mixer have come to, and what it answers by that.
-use Rattle.std.proofs.Common.{◌≡◌, ◌≢◌, ◌⊎◌, ℕ, ◌+◌, ◌<◌, ◌≤◌, Bool, true, false, List, [], ◌∷◌, ◌++◌, ◌∙◌, Option, Some, None, Result, Ok, Err, length, map, get_or, slice_get, slice_set, inl, inr, sym, ap, refl, subst, arith, append_assoc, append-nil}
+use Rattle.std.proofs.Common.{◌≡◌, ◌≢◌, ◌⊎◌, ℕ, ◌+◌, ◌<◌, ◌≤◌, Bool, true, false, List, [], ◌∷◌, ◌++◌, ◌∙◌, Option, Some, None, Result, Ok, Err, length, map, take, get_or, slice_get, slice_set, inl, inr, sym, ap, refl, subst, arith, append_assoc, append-nil}
 use Rattle.std.specs.Prelude.{reverse, option_map}
 use Rattle.std.proofs.lemmas.List.{length-map, length-reverse, length-set}
 use Rattle.std.proofs.lemmas.Option.{slice_get_within, same_Some}
@@ -27,8 +27,8 @@ use Rattle.vx_push.specs.declared.intake.State.{State}
 use Rattle.vx_push.specs.declared.intake.State.TheVariants.{Waits as AtWait, Picture as AtPicture, Ended as AtEnd, Refused as AtRefusal, NoMemory as AtNoMemory}
 use Rattle.vx_push.specs.declared.mixer.Mixed.{Mixed}
 use Rattle.vx_push.specs.declared.mixer.Mixed.TheVariants.{Picture as ToPicture, Waits as ToWait, Ended as ToEnd, Stopped as ToStop}
-use Rattle.vx_push.specs.Comes.{Intaking, Handed, nothing, with_more, with_end, IsOpenedBy, ComesTo, HasCome, ComesNext, IsFedBy}
-use Rattle.vx_push.specs.Mixing.{Mixing, AreOpenedBy, AreMerged, EndsMerged, IsBehind, HasComeBehind, HasEndedBy, Holds, HasMixed, IsAwaited, Answers, outcome_of, MixedIsMerged}
+use Rattle.vx_push.specs.Comes.{Intaking, Handed, nothing, with_more, with_end, zeros, IsOpenedBy, ComesTo, HasCome, ComesNext, IsFedBy}
+use Rattle.vx_push.specs.Mixing.{Mixing, AreOpenedBy, AreMerged, EndsMerged, IsBehind, HasComeBehind, HasEndedBy, Holds, HasMixed, IsAwaited, Answers, HandsIn, with_zeros, flushed_by, outcome_of, MixedIsMerged}
 use Rattle.vx_push.specs.inner.Mixing.{IsSo, mark_of, AreMarked, HaltsBy, EndsSo, AreSeen, Looks, round_of, Merges, end_by, IsMore, AreMore, AreNew, HasPassed, ArePassing, HavePassed}
 
 -- ---- one source
@@ -558,6 +558,136 @@ ended_behind R i h n waits holds c = by_state i.state refl c.come.told
         with_told (subst (λ (s : State). ComesTo R (with_end h) c.pictures s) (sym is) (λ b qs e opened are. told b qs e (opened_by_end h b opened) are)) (subst (λ (s : State). IsFedBy R i (with_end h) c.pictures s) (sym is) tt)
     by_state AtNoMemory is told =
         with_told (subst (λ (s : State). ComesTo R (with_end h) c.pictures s) (sym is) (λ b qs e opened are. told b qs e (opened_by_end h b opened) are)) (subst (λ (s : State). IsFedBy R i (with_end h) c.pictures s) (sym is) tt)
+
+-- ---- more is handed in of one source
+
+-- what it is given, and what its intake makes of it
+hands_in : (old : Mixing) (k : ℕ) (i later : Intaking) (more : Intaking → Handed → Handed) → slice_get old.intakes k ≡ Some i
+    → ((R : Readers) (h : Handed) (n : ℕ) → HasComeBehind R i h n → IsMore h (more i h))
+    → ((R : Readers) → AreOfH266 R → (h : Handed) (n : ℕ) → HasComeBehind R i h n → HasComeBehind R later (more i h) n)
+    → HandsIn old (record old { intakes = slice_set old.intakes k later }) k more
+hands_in old k i later more at is come = record {
+  intake = i;
+  at = at;
+  later = later;
+  only = refl;
+  mixed = λ R of given done h mixed there. mixed_more R old given done mixed k i later h (more i h) at there (is R h old.rounds (mixed.come k i h at there)) (come R of h old.rounds);
+}
+
+-- nothing, bytes or the end
+none_is_more : (h : Handed) → IsMore h h
+none_is_more h = record { piece = []; bytes = sym (append-nil h.bytes); all = λ all. (all, refl) }
+
+bytes_are_more : (h : Handed) (piece : List ℕ) → (h.all ≡ true → piece ≡ []) → IsMore h (with_more h piece)
+bytes_are_more h piece none = record { piece = piece; bytes = refl; all = λ all. (all, none all) }
+
+end_is_more : (h : Handed) → IsMore h (with_end h)
+end_is_more h = record { piece = []; bytes = sym (append-nil h.bytes); all = λ all. (refl, refl) }
+
+-- it waits, holds a picture, or neither
+state_cases : (s : State) → (s ≡ AtWait) ⊎ ((s ≡ AtPicture) ⊎ ((s ≡ AtWait → ⊥) × (s ≡ AtPicture → ⊥)))
+state_cases AtWait = inl refl
+state_cases AtPicture = inr (inl refl)
+state_cases AtEnd = inr (inr (λ is. absurd (cc), λ is. absurd (cc)))
+state_cases (AtRefusal r units) = inr (inr (λ is. absurd (cc), λ is. absurd (cc)))
+state_cases AtNoMemory = inr (inr (λ is. absurd (cc), λ is. absurd (cc)))
+
+waits_or_holds : (s : State) → s ≡ AtWait → s ≡ AtPicture → ⊥
+waits_or_holds s waits holds = let no : AtWait ≡ AtPicture = sym waits ∙ holds in absurd (cc)
+
+-- where it waits it doesn't know of an end, and where it holds a picture it knows of one that was told
+waits_open : (R : Readers) (i : Intaking) (h : Handed) (n : ℕ) → i.state ≡ AtWait → HasComeBehind R i h n → h.all ≡ false
+waits_open R i h n is c = (subst (λ (s : State). ComesTo R h c.pictures s) is c.come.told).2
+
+holds_all : (R : Readers) (i : Intaking) (h : Handed) (n : ℕ) → i.state ≡ AtPicture → HasComeBehind R i h n → h.all ≡ i.ended
+holds_all R i h n is c = (subst (λ (s : State). IsFedBy R i h c.pictures s) is c.come.fed).all
+
+not_both : (h : Handed) (A : Type 0) → h.all ≡ false → h.all ≡ true → A
+not_both h A is all = let no : false ≡ true = sym is ∙ all in absurd (cc)
+
+-- bytes
+module _ (old : Mixing) (k : ℕ) (i later : Intaking) (at : slice_get old.intakes k ≡ Some i) (piece : List ℕ) (n : ℕ)
+    (comes : i.state ≡ AtWait → (R : Readers) → AreOfH266 R → (h : Handed) (ps : List StreamPicture) → HasCome R i h ps → ComesNext R later (with_more h (take n piece)) ps later.state)
+    (kept : (i.state ≡ AtWait → ⊥) → (n ≡ 0) × (later ≡ i)) where
+  none_taken : (i.state ≡ AtWait → ⊥) → take n piece ≡ []
+  none_taken waits = ap (λ (m : ℕ). take m piece) (kept waits).0
+
+  pub push_hands : HandsIn old (record old { intakes = slice_set old.intakes k later }) k (λ j h. with_more h (take n piece))
+  push_hands =
+      hands_in old k i later (λ j h. with_more h (take n piece)) at
+      (λ R h m c. elim (state_cases i.state) [
+        | inl waits ↦ bytes_are_more h (take n piece) (not_both h (take n piece ≡ []) (waits_open R i h m waits c))
+        | inr (inl holds) ↦ bytes_are_more h (take n piece) (λ all. none_taken (λ waits. waits_or_holds i.state waits holds))
+        | inr (inr neither) ↦ bytes_are_more h (take n piece) (λ all. none_taken neither.0)
+      ])
+      (λ R of h m c. elim (state_cases i.state) [
+        | inl waits ↦ waited_behind R i later h (with_more h (take n piece)) m waits (comes waits R of h) c
+        | inr (inl holds) ↦ same R h m c (λ waits. waits_or_holds i.state waits holds)
+        | inr (inr neither) ↦ same R h m c neither.0
+      ])
+    where
+      same : (R : Readers) (h : Handed) (m : ℕ) → HasComeBehind R i h m → (i.state ≡ AtWait → ⊥) → HasComeBehind R later (with_more h (take n piece)) m
+      same R h m c waits =
+          let is : h ≡ with_more h (take n piece) = sym (ap (λ (b : List ℕ). with_more h b) (none_taken waits) ∙ none_more h) in
+          subst (λ (x : Handed). HasComeBehind R later x m) is (same_behind R i later h m (kept waits).1 c)
+
+-- the end
+module _ (old : Mixing) (k : ℕ) (i later : Intaking) (at : slice_get old.intakes k ≡ Some i)
+    (comes : i.state ≡ AtWait → (R : Readers) → AreOfH266 R → (h : Handed) (ps : List StreamPicture) → HasCome R i h ps → ComesNext R later (with_end h) ps later.state)
+    (waiting : i.state ≡ AtPicture → (R : Readers) (h : Handed) (ps : List StreamPicture) → HasCome R i h ps → HasCome R later (with_end h) ps)
+    (holding : i.state ≡ AtPicture → later ≡ record i { ended = true })
+    (kept : (i.state ≡ AtWait → ⊥) → (i.state ≡ AtPicture → ⊥) → later ≡ i) where
+  pub end_hands : HandsIn old (record old { intakes = slice_set old.intakes k later }) k (λ j h. with_end h)
+  end_hands =
+      hands_in old k i later (λ j h. with_end h) at (λ R h m c. end_is_more h)
+      (λ R of h m c. elim (state_cases i.state) [
+        | inl waits ↦ waited_behind R i later h (with_end h) m waits (comes waits R of h) c
+        | inr (inl holds) ↦ held_behind R i later h (with_end h) m (ap (λ (x : Intaking). x.state) (holding holds)) (waiting holds R h) c
+        | inr (inr neither) ↦ same_behind R i later (with_end h) m (kept neither.0 neither.1) (ended_behind R i h m neither.0 neither.1 c)
+      ])
+
+-- zeros
+module _ (old : Mixing) (k : ℕ) (i later : Intaking) (at : slice_get old.intakes k ≡ Some i)
+    (comes : i.state ≡ AtWait → (R : Readers) → AreOfH266 R → (h : Handed) (ps : List StreamPicture) → HasCome R i h ps → ComesNext R later (with_more h zeros) ps later.state)
+    (waiting : i.state ≡ AtPicture → i.ended ≡ false → i.flushed ≡ false → (R : Readers) (h : Handed) (ps : List StreamPicture) → HasCome R i h ps → HasCome R later (with_more h zeros) ps)
+    (holding : i.state ≡ AtPicture → later ≡ record i { flushed = later.flushed })
+    (once : i.flushed ≡ true → later ≡ i) (behind : i.ended ≡ true → later ≡ i)
+    (kept : (i.state ≡ AtWait → ⊥) → (i.state ≡ AtPicture → ⊥) → later ≡ i) where
+  -- where it holds a picture
+  held_zeros : (R : Readers) (h : Handed) (m : ℕ) → i.state ≡ AtPicture → HasComeBehind R i h m → (flushed ended : Bool) → i.flushed ≡ flushed → i.ended ≡ ended
+      → IsMore h (flushed_by AtPicture flushed ended h) × HasComeBehind R later (flushed_by AtPicture flushed ended h) m
+  held_zeros R h m holds c false false is are = (
+    bytes_are_more h zeros (not_both h (zeros ≡ []) (holds_all R i h m holds c ∙ are)),
+    held_behind R i later h (with_more h zeros) m (ap (λ (x : Intaking). x.state) (holding holds)) (waiting holds are is R h) c,
+  )
+  held_zeros R h m holds c true ended is are = (none_is_more h, same_behind R i later h m (once is) c)
+  held_zeros R h m holds c false true is are = (none_is_more h, same_behind R i later h m (behind are) c)
+
+  -- where it neither waits nor holds one
+  no_zeros : (s : State) (flushed ended : Bool) (h : Handed) → (s ≡ AtWait → ⊥) → (s ≡ AtPicture → ⊥) → flushed_by s flushed ended h ≡ h
+  no_zeros AtWait flushed ended h waits holds = absurd (waits refl)
+  no_zeros AtPicture flushed ended h waits holds = absurd (holds refl)
+  no_zeros AtEnd flushed ended h waits holds = refl
+  no_zeros (AtRefusal r units) flushed ended h waits holds = refl
+  no_zeros AtNoMemory flushed ended h waits holds = refl
+
+  both : (R : Readers) (h : Handed) (m : ℕ) → HasComeBehind R i h m → IsMore h (with_zeros i h) × (AreOfH266 R → HasComeBehind R later (with_zeros i h) m)
+  both R h m c = elim (state_cases i.state) [
+    | inl waits ↦
+        subst (λ (s : State). IsMore h (flushed_by s i.flushed i.ended h) × (AreOfH266 R → HasComeBehind R later (flushed_by s i.flushed i.ended h) m)) (sym waits) (
+          bytes_are_more h zeros (not_both h (zeros ≡ []) (waits_open R i h m waits c)),
+          λ of. waited_behind R i later h (with_more h zeros) m waits (comes waits R of h) c,
+        )
+    | inr (inl holds) ↦
+        let x = held_zeros R h m holds c i.flushed i.ended refl refl in
+        subst (λ (s : State). IsMore h (flushed_by s i.flushed i.ended h) × (AreOfH266 R → HasComeBehind R later (flushed_by s i.flushed i.ended h) m)) (sym holds) (x.0, λ of. x.1)
+    | inr (inr neither) ↦
+        subst (λ (g : Handed). IsMore h g × (AreOfH266 R → HasComeBehind R later g m)) (sym (no_zeros i.state i.flushed i.ended h neither.0 neither.1))
+        (none_is_more h, λ of. same_behind R i later h m (kept neither.0 neither.1) c)
+  ]
+
+  pub flush_hands : HandsIn old (record old { intakes = slice_set old.intakes k later }) k with_zeros
+  flush_hands = hands_in old k i later with_zeros at (λ R h m c. (both R h m c).0) (λ R of h m c. (both R h m c).1 of)
 
 -- ---- one source after another
 

@@ -2,5 +2,6 @@
 pub mod Comes
 pub mod Cutting
 pub mod Handed
+pub mod Line
 pub mod Mixing
 pub mod inner

@@ -5,11 +5,15 @@
 //! they are cut.
 #![tactic(auto)]
 
+mod corners;
 mod cutter;
 mod intake;
+mod line;
 mod mixer;
 mod seek;
 
+pub use corners::are_corners;
 pub use cutter::{Cut, CutPicture, Cutter};
 pub use intake::{Intake, State};
+pub use line::stop_line;
 pub use mixer::{MergedPicture, Mixed, Mixer, NoSource, mixed_is_merged};
