@@ -133,7 +133,7 @@ spells_longer total more {left} is within (behind {cell} {v} {mid} first on) =
 -- ---- at a longer place
 
 -- the second place has more bits behind those of the first
-record IsLonger (p q : Place) : Type 0 where
+pub record IsLonger (p q : Place) : Type 0 where
   pub more : List Bool
   pub within : length p.left ≤ p.total
   pub total : q.total ≡ p.total + length more
@@ -221,7 +221,7 @@ three_taken n h =
     rw plain refl
 
 -- the RBSP of three bytes at least is a front of that of more
-record IsRbspFront (f u : List ℕ) : Type 0 where
+pub record IsRbspFront (f u : List ℕ) : Type 0 where
   pub more : List ℕ
   pub all : rbsp_of u ≡ rbsp_of f ++ more
   pub some : 0 < length (rbsp_of f)

@@ -46,7 +46,7 @@ of_front : {A : Type 0} (form : Form A) (place : Place) (before : List Item) (va
 of_front form place before values cell rest r (Ok done) new items answered reads reached refused = absurd (reads.refusal values cell rest r reached refused)
 of_front form place before values cell rest r (Err errors.Memory) new items answered reads reached refused = absurd answered
 of_front form place before values cell rest r (Err (errors.Refused q)) new items answered reads reached refused =
-    (reads.refusal values cell rest r reached refused).2
+    (reads.refusal values cell rest r reached refused).1.1
 
 -- of what another reading came to
 of_ok : {A B : Type 0} (form : Form A) (place : Place) (before others : List Item) (result : Result (Unit {0}) ReadError) (new next : Place) (items : List Item) (b : B)
@@ -130,6 +130,8 @@ pub under_begun : (n : SliceNumbers) (b : Begun) (t : ℕ) (rbsp u : List ℕ) (
     → rbsp ≡ rbsp_of u → ((new : Place) × Reads (slice_form (in_force_at n)) (at_front rbsp) before result new after)
     → (new : Place) × Reads (slice_form (slice_at t b)) (at_front (rbsp_of u)) before result new after
 under_begun n b t rbsp u before result after are type spells read =
-    let place : in_force_at n ≡ slice_at t b = same_place n b are ∙ ap (λ x. slice_at x b) type in
-    (read.0, subst (λ x. Reads (slice_form x) (at_front (rbsp_of u)) before result read.0 after) place
-    (subst (λ x. Reads (slice_form (in_force_at n)) (at_front x) before result read.0 after) spells read.1))
+    let place : in_force_at n ≡ slice_at t b = same_place n b are ∙ ap (λ x. slice_at x b) type in (
+      read.0,
+      subst (λ x. Reads (slice_form x) (at_front (rbsp_of u)) before result read.0 after) place
+          (subst (λ x. Reads (slice_form (in_force_at n)) (at_front x) before result read.0 after) spells read.1),
+    )

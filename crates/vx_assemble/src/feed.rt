@@ -330,12 +330,7 @@ impl Feed {
         if let Some(first) = self.first {
             return Err(FeedFault::Stopped(first));
         }
-        match take_seen(
-            &mut self.reader,
-            &mut self.assembler,
-            &mut self.units,
-            view,
-        ) {
+        match take_seen(&mut self.reader, &mut self.assembler, &mut self.units, view) {
             Ok(given) => Ok(given),
             Err(fault) => {
                 self.first = Some(first_of(fault));

@@ -1,5 +1,5 @@
 //! The fields that a unit spells, up to the first that is refused.
-ghost use Rattle.std.specs.Prelude.{◌≡◌, ◌++◌, ◌≤◌, ◌^◌, length, List, Option, ℕ, IfOk, OnOk};
+ghost use Rattle.std.specs.Prelude.{◌≡◌, ◌++◌, ◌≤◌, ◌^◌, length, true, List, Option, None, ℕ, IfOk, OnOk};
 ghost use Rattle.vx_bits.specs.Place.{Place};
 ghost use Rattle.vx_annexb.specs.NalUnit.{header_of};
 ghost use Rattle.vx_annexb.specs.ByteStream.{IsSound};
@@ -135,7 +135,7 @@ fn items_to_id(alloc: Global, inside: bool, rbsp: &[u8]) -> Result<Fields, Alloc
 fn items_inside(alloc: Global, sps: &Sps, pps: &Pps, rbsp: &[u8]) -> Result<Fields, AllocError>
     requires { length rbsp.now ≤ 2 ^ 23 }
     ensures { IfOk result (λ items. (R : Readers) (h : AreOfH266 R)
-        → items ≡ head_items Bool.true ++ fields.header_items R h Bool.true rbsp.now sps.now pps.now) }
+        → items ≡ head_items true ++ fields.header_items R h true rbsp.now sps.now pps.now) }
 {
     let mut items = items_before(alloc, true)?;
     let mut bits = header_bits(true, rbsp);
@@ -240,7 +240,7 @@ impl State {
     fn alone_items(&self, alloc: Global, unit: SliceUnit<'_>) -> Result<Fields, AllocError>
         requires { IsInOrder self.now }
         ensures { IfOk result (λ items. (R : Readers) (h : AreOfH266 R) (before : List Reading) → IsApart self.now before
-            → items ≡ fields.alone_items R h before unit.entry.bytes.now (begins R before unit.entry.bytes.now Option.None)) }
+            → items ≡ fields.alone_items R h before unit.entry.bytes.now (begins R before unit.entry.bytes.now None)) }
     {
         let begun = match self.begin_alone(alloc, unit) {
             Ok(begun) => begun,

@@ -52,7 +52,9 @@ returns-in_err-span-clause-seen g c R of b places before fed =
     c.look_away.ensures)
 
 pub returns-in_err-look-clause-seen : goal.returns-in_err-look-clause-seen
-returns-in_err-look-clause-seen g c R of b places before fed = ?
+returns-in_err-look-clause-seen g c R of b places before fed =
+    let p = err_from_is_err_and c.from_residual-in_err-look.result c.from_residual-in_err-look.ensures.1 in
+    rw (p.1, p.2) tt
 
 pub returns-in_err-taken-clause-seen : goal.returns-in_err-taken-clause-seen
 returns-in_err-taken-clause-seen g c R of b places before fed =

@@ -1,5 +1,5 @@
 use Rattle.vx_assemble.proofs.Looking.{with_inside, without_inside}
-use Rattle.vx_assemble.proofs.fields.State.slice_fields.Goals as goal
+use Rattle.vx_assemble.proofs.state.State.slice_fields.Goals as goal
 
 pub returns-then-has_header_inside : goal.returns-then-has_header_inside
 returns-then-has_header_inside c R h before held =
