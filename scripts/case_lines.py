@@ -93,6 +93,8 @@ class Cases:
 
     def __init__(self):
         self.given, self.made, self.names, self.count = [], [], {}, 0
+        # The merges and extractions of which nothing else is said, and what they come to.
+        self.plain = {}
 
     def about(self, text):
         """What the cases behind this are of."""
@@ -116,6 +118,8 @@ class Cases:
     def case(self, words, expected, *settings, keep=None):
         """A case, with the lines that hold for it."""
         settings += (f"keep {keep}",) if keep else ()
+        if not settings and words.startswith(("merge ", "extract ")):
+            self.plain[words] = expected
         self.given += [*settings, f"case {words}".strip()]
         self.made.append(expected.line(keep is not None))
         self.count += 1

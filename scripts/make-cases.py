@@ -4,8 +4,8 @@
 usage: scripts/make-cases.py VECTORS STREAMS
 
 It writes crates/vx_cases/stdin and crates/vx_cases/stdout. No expected value is taken from the program: the worked cases stand in
-worked_cases.py, told_cases.py, fed_cases.py, verify_cases.py, hostile_cases.py, play_cases.py, trial_cases.py and explain_cases.py,
-and VECTORS and STREAMS are folders.
+worked_cases.py, told_cases.py, fed_cases.py, verify_cases.py, hostile_cases.py, play_cases.py, trial_cases.py, explain_cases.py and
+pushed_cases.py, and VECTORS and STREAMS are folders.
 
 In merge.txt of VECTORS a case is a line `case N merge WORDS`, with the number of a source behind each `=`, a line `source BYTES` for each
 source in hexadecimal, and a line `status=S err=LINE out=BYTES` of what `merge` comes to, with blanks of LINE as `_` and `-` for none. In
@@ -26,6 +26,7 @@ from hostile_cases import add_hostile
 from joined_streams import joined
 from plain_streams import stream
 from play_cases import add_model_played, add_played
+from pushed_cases import add_pushed
 from told_cases import add_told
 from trial_cases import add_trials
 from verify_cases import add_family_compared, add_model_compared, add_verified
@@ -126,6 +127,7 @@ def main(vectors, streams):
     add_trials(cases, os.path.join(vectors, "trial.txt"))
     add_explained(cases)
     add_joined(cases, vectors)
+    add_pushed(cases)
     cases.write(CRATE)
     print(f"{cases.count} cases, {len(cases.names)} streams")
 

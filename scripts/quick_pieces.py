@@ -6,8 +6,8 @@
 
 The names of the files are in such an order that the first few have some of each part of the input.
 
-The input and the answers are crates/CRATE/stdin and stdout; nothing here depends on how much they have. In vx_cases each line `case` or `generated`
-has one answer, in vx_calls each line but empty ones and those of `#`, and in vx_vectors the answers to a stream and what is asked of it
+The input and the answers are crates/CRATE/stdin and stdout; nothing here depends on how much they have. In vx_cases each line `case`, `pushed` or
+`generated` has one answer, in vx_calls each line but empty ones and those of `#`, and in vx_vectors the answers to a stream and what is asked of it
 begin with its line `stream`. A piece of vx_cases begins with the streams that it names and the cases whose output it names.
 
 `compare` writes `N passed, M failed, K not tried`, and each answer that is wrong on standard error. Its status is 1 where none was tried.
@@ -41,7 +41,7 @@ def case_items(given, answers):
             yield Item([line], [], gives=[rest.split()[0]])
         elif word == "generated":
             yield Item([line], [next(answers)])
-        elif word == "case":
+        elif word in ("case", "pushed"):
             uses = [word[at:] for word in rest.split() for at in (0, *(k + 1 for k, it in enumerate(word) if it == "="))]
             yield Item([*held, line], [next(answers)], gives=kept, uses=uses)
             held, kept = [], []

@@ -1,6 +1,9 @@
 -- What a reader of units takes of its source, as far as the limit lets see, and what it then finds.
-use Rattle.std.proofs.Common.{◌≡◌, ℕ, ◌+◌, ◌-◌, ◌≤◌, inl, inr, Bool, false, List, ◌++◌, Option, Some, None, Ok, Err, length, take, sym, ap, ◌∙◌, arith, refl, subst}
+use Rattle.std.proofs.Common.{◌≡◌, ℕ, ◌+◌, ◌-◌, ◌≤◌, inl, inr, Bool, false, List, ◌++◌, Option, Some, None, Ok, Err, length, take, sym, ap, ◌∙◌, arith, refl, subst, length-append}
+use Rattle.std.specs.Prelude.{min}
+use Rattle.std.proofs.Math.Nat.{min_comm}
 use Rattle.std.proofs.Math.Seq.{take-append-add, take_all}
+use Rattle.std.proofs.lemmas.List.{take_min, take-take, length-take-le}
 use Rattle.vx_bits.specs.declared.refusal.Refusal.{Refusal}
 use Rattle.vx_bits.specs.declared.refusal.Refusal.TheVariants.{Limit}
 use Rattle.vx_bits.specs.declared.rules.TheConstants.{LONG_SOURCE}
@@ -32,6 +35,18 @@ seen_of_more g piece taken len within =
     ap (λ xs. xs ++ take (1099511627776 - taken) piece) (take_all source_limit g short)
     ∙ ap (λ n. g ++ take n piece) same
     ∙ seen_front source_limit g piece short
+
+-- of the first of a piece, what the limit lets see
+pub seen_of_fed : (g piece : List ℕ) (taken count : ℕ) → length g ≡ taken → taken ≤ 1099511627776 → count ≤ length piece
+    → take source_limit g ++ take (min count (1099511627776 - taken)) piece ≡ take source_limit (g ++ take count piece)
+seen_of_fed g piece taken count len within few =
+    let limit = 1099511627776 - taken in
+    let front : take limit (take count piece) ≡ take (min count limit) piece =
+    sym (take_min limit (take count piece))
+    ∙ ap (λ n. take (min limit n) (take count piece)) (length-take-le count piece few)
+    ∙ ap (λ n. take n (take count piece)) (min_comm limit count)
+    ∙ take-take (min count limit) count piece (omega arith) in
+    ap (λ l. take source_limit g ++ l) (sym front) ∙ seen_of_more g (take count piece) taken len within
 
 -- why a reader reads no more hangs on whether the bytes are all there are
 closes_as : (closed : Option Closed) (h h' : Held) (n : ℕ) → h'.all ≡ h.all → ClosesAt closed h n → ClosesAt closed h' n
@@ -66,3 +81,14 @@ module _ (r : Reading) (h : Held) (same : h.all ≡ r.splitter.all) (g : List �
 
   pub finds_refusal : (x : Refusal) → Answers (take source_limit g) units h (Err x) → Finds g units (record r { splitter = h }) (Err x)
   finds_refusal x a = (read_on units a.0, inl a.1)
+
+-- ---- bytes that are handed in in place of a read
+
+module _ (old : Reading) (h : Held) (closed : Option Closed) (g piece : List ℕ) (units : List UnitPlace) (count : ℕ) (read : HasRead old g units) (within : old.taken ≤ 1099511627776) (few : count ≤ length piece) where
+  pub has_read-more : ClosesAt closed h (old.taken + count) → (seen : ℕ) → seen ≡ min count (1099511627776 - old.taken) → Stands h (take source_limit g ++ take seen piece) units
+      → HasRead (record { splitter = h; taken = old.taken + count; closed = closed }) (g ++ take count piece) units
+  has_read-more closes seen is stands = record {
+    taken = length-append g (take count piece) ∙ omega (arith, read.taken, length-take-le count piece few);
+    closes = closes;
+    stands = subst (λ (l : List ℕ). Stands h l units) (ap (λ n. take source_limit g ++ take n piece) is ∙ seen_of_fed g piece old.taken count read.taken within few) stands;
+  }

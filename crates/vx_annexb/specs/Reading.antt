@@ -1,6 +1,6 @@
 -- A reader of units, as its callers see it: by these words, and by the relation `HasRead` between it and the bytes that it
 -- took of a source with the units that it gave.
-use Rattle.std.specs.Prelude.{◌≡◌, ℕ, ◌+◌, ◌^◌, ◌<◌, ◌≤◌, ◌⊎◌, true, false, List, []}
+use Rattle.std.specs.Prelude.{◌≡◌, ℕ, ◌+◌, ◌-◌, ◌^◌, ◌<◌, ◌≤◌, ◌⊎◌, min, true, false, List, []}
 use Rattle.std.specs.Prelude.{◌∷◌, ◌++◌, Option, Some, None, Result, Ok, Err, length, take, slice_range}
 use Rattle.std.specs.Io.KnownBytes.{Consumes, Keeps, IsAtEnd}
 use Rattle.vx_bits.specs.declared.refusal.Refusal.{Refusal}
@@ -69,6 +69,11 @@ Reads g units new left left' faults faults' (Ok _) =
 Reads g units new left left' faults faults' (Err Memory) = (left' ≡ left) × (faults' ≡ faults) × HasRead new g units × IsOpen new
 Reads g units new left left' faults faults' (Err SourceFailed) =
     Keeps left left' × Rose faults faults' × HasRead new g units × (new.closed ≡ Some Failed)
+
+-- how many of n bytes are taken in place of a read behind those that were taken: at most as many as a read asks for, and of all at most
+-- one more than the limit
+abbrev pub fed_at_once : (taken n : ℕ) → ℕ
+fed_at_once taken n = min (min n 65536) (2 ^ 40 + 1 - taken)
 
 -- The last read was needed: its piece of at most 65,536 bytes came behind bytes in which no unit was seen but the first of
 -- these.

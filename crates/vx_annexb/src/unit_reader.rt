@@ -183,13 +183,13 @@ fn read_piece(
 }
 
 impl UnitReader {
-    ghost use Rattle.std.specs.Prelude.{◌≡◌, ℕ, ◌+◌, ◌^◌, ◌<◌, ◌≤◌, [], List, length, slice_range, Some, None, Err, IfOk, IfErr, IfSome, IfNone, OnOk, OnSome, IsTrue, IsSome};
+    ghost use Rattle.std.specs.Prelude.{◌≡◌, ◌⊎◌, ℕ, ◌+◌, ◌^◌, ◌<◌, ◌≤◌, [], ◌++◌, List, length, take, min, slice_range, Some, None, Err, IfOk, IfErr, IfSome, IfNone, OnOk, OnErr, OnSome, IsTrue, IsSome};
     ghost use Rattle.vx_bits.specs.declared.refusal.Refusal.{Refusal};
     ghost use Rattle.vx_annexb.specs.ByteStream.{UnitPlace};
     ghost use Rattle.std.specs.Io.KnownBytes.{IsAtEnd};
     ghost use Rattle.vx_annexb.specs.Held.{IsReadable, IsSought, Lends, fed, held, lent, ahead};
-    ghost use Rattle.vx_annexb.specs.Reading.{IsOpen, HoldsFew, HasRead, IsRefusedBy, Finds, Reads, LastWasNeeded, Takes};
-    ghost use Rattle.vx_annexb.specs.declared.unit_reader.Closed.TheVariants.{End, Failed};
+    ghost use Rattle.vx_annexb.specs.Reading.{IsOpen, HoldsFew, HasRead, IsRefusedBy, Finds, Reads, LastWasNeeded, Takes, fed_at_once};
+    ghost use Rattle.vx_annexb.specs.declared.unit_reader.Closed.TheVariants.{End, TooLong, Failed};
     ghost use Rattle.vx_annexb.specs.declared.unit_reader.ReadFault.TheVariants.{Memory, SourceFailed};
     ghost use Rattle.vx_annexb.specs.declared.unit_reader.TakeFault.TheVariants.{Refused, SourceFailed as ReadFailed};
 
@@ -270,6 +270,47 @@ impl UnitReader {
                 Err(fault)
             }
         }
+    }
+
+    /// Takes bytes of the source in place of a read, where `next` answered none last: the first of a piece, at most as many as
+    /// a read asks for, and of all one more than the limit. Answers how many. Spans given before are given up. For want of
+    /// memory nothing is taken.
+    pub fn feed(&mut self, piece: &[u8]) -> Result<usize, AllocError>
+        requires open { IsOpen self.old }
+        requires sought { IsSought self.old.splitter }
+        ensures read { IfOk result (λ count. (g : List ℕ) (units : List UnitPlace) → HasRead self.old g units → HasRead self.new (g ++ take count piece.now) units) }
+        ensures count { IfOk result (λ count. count ≡ fed_at_once self.old.taken (length piece.now)) }
+        ensures few { IfOk result (λ count. count ≤ length piece.now) }
+        ensures whole { IfOk result (λ count. IsOpen self.new → count ≡ min (length piece.now) 65536) }
+        ensures taken { IfOk result (λ count. self.new.taken ≡ self.old.taken + count) }
+        ensures going { OnOk result (IsOpen self.new ⊎ (self.new.closed ≡ Some TooLong)) }
+        ensures ahead { OnOk result (ahead self.new.splitter + fed self.old.splitter ≡ ahead self.old.splitter + fed self.new.splitter) }
+        ensures within { fed self.new.splitter ≤ 2 ^ 40 }
+        ensures held { HoldsFew self.new }
+        ensures memory { OnErr result (self.new ≡ self.old) }
+    {
+        let limit = (SOURCE_LIMIT - self.taken) as usize;
+        let count = piece.len().min(READ_LEN).min(limit + 1);
+        self.splitter.feed(&piece[..count.min(limit)])?;
+        self.taken += count as u64;
+        if count > limit {
+            self.closed = Some(Closed::TooLong);
+        }
+        Ok(count)
+    }
+
+    /// Says that the bytes that were taken are all there are.
+    pub fn finish(&mut self)
+        requires open { IsOpen self.old }
+        ensures read { (g : List ℕ) (units : List UnitPlace) → HasRead self.old g units → HasRead self.new g units }
+        ensures end { self.new.closed ≡ Some End }
+        ensures taken { self.new.taken ≡ self.old.taken }
+        ensures ahead { ahead self.new.splitter ≡ ahead self.old.splitter }
+        ensures fed { fed self.new.splitter ≡ fed self.old.splitter }
+        ensures held { HoldsFew self.new }
+    {
+        self.splitter.finish();
+        self.closed = Some(Closed::End);
     }
 
     /// The next unit of the source, in order: it is read for as long as no further unit's end is seen. None at its end. A

@@ -40,22 +40,22 @@ fewer : (b : Bool) → cond b 4 8 ≤ 32
 fewer true = omega arith
 fewer false = omega arith
 
-ids_within : (kind : ℕ) → ids kind ≤ 32
+pub ids_within : (kind : ℕ) → ids kind ≤ 32
 ids_within kind = fewer (kind == LMCS)
 
 -- type, id and body are told by the bytes
-record Tells (k i l j : ℕ) (x y : List ℕ) : Type 0 where
-  kind : k ≡ l
-  id : i ≡ j
-  body : x ≡ y
+pub record Tells (k i l j : ℕ) (x y : List ℕ) : Type 0 where
+  pub kind : k ≡ l
+  pub id : i ≡ j
+  pub body : x ≡ y
 
-tells : (rbsp x y : List ℕ) (k i l j : ℕ) → rbsp ≡ spelled k i x → rbsp ≡ spelled l j y → i < 32 → j < 32 → Tells k i l j x y
+pub tells : (rbsp x y : List ℕ) (k i l j : ℕ) → rbsp ≡ spelled k i x → rbsp ≡ spelled l j y → i < 32 → j < 32 → Tells k i l j x y
 tells rbsp x y k i l j a b il jl =
     let both : (32 * k + i) ∷ x ≡ (32 * l + j) ∷ y = sym a ∙ b in
     let n : 32 * k + i ≡ 32 * l + j = cc in
     record { kind = omega (arith, n); id = omega (arith, n); body = cc }
 
-no_bytes : (rbsp x : List ℕ) (k i : ℕ) → rbsp ≡ [] → rbsp ≡ spelled k i x → ⊥
+pub no_bytes : (rbsp x : List ℕ) (k i : ℕ) → rbsp ≡ [] → rbsp ≡ spelled k i x → ⊥
 no_bytes rbsp x k i e b = let n : 0 ≡ length (spelled k i x) = ap length (sym e ∙ b) in omega (arith, n)
 
 -- what bytes that begin with a type and an id are

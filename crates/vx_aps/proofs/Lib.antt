@@ -1,2 +1,3 @@
 -- Lemmas on adaptation parameter sets.
 mod Bytes
+mod Fielded

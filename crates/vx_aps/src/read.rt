@@ -18,7 +18,7 @@ fn missed(field: u16, bit: u32, cause: BitCause) -> ReadError
 }
 
 /// How many ids a type has (clause 7.4.3.6).
-fn ids(kind: u8) -> u8
+pub(crate) fn ids(kind: u8) -> u8
     ensures { result ≡ ids kind }
 {
     if kind == LMCS { 4 } else { 8 }

@@ -165,7 +165,7 @@ gives_unit s p rbsp answer (Err (Refused r)) is read = one_at (unit_form (struct
 
 -- ---- slices
 
-same_place : (n : SliceNumbers) (b : Begun) → AreOfBegun n b → in_force_at n ≡ slice_at n.nal_type b
+pub same_place : (n : SliceNumbers) (b : Begun) → AreOfBegun n b → in_force_at n ≡ slice_at n.nal_type b
 same_place n b are = rw (are.sps, are.pps, are.layout, are.header, are.ids) refl
 
 pub gives_slice : (n : SliceNumbers) (b : Begun) (unit rbsp : List ℕ) (answer : Result SliceHeader Refusal) (value : SliceValue) (size payload : ℕ) → AreOfBegun n b → rbsp ≡ rbsp_of unit

@@ -24,12 +24,14 @@ use Rattle.vx_pic.specs.Rules.{Readers, reads, picture_limit}
 use Rattle.vx_pic.specs.Streams.{Outcome, read_on, all_read, stopped, one_more, unless_refused}
 use Rattle.vx_pic.specs.Bytes.{units_at, ending_by, ArePictures}
 use Rattle.vx_pic.proofs.Going.{goes_on}
+use Rattle.vx_annexb.specs.declared.header.NalHeader.{NalHeader}
+use Rattle.vx_pic.specs.declared.accepted.Accepted.{Accepted}
 use Rattle.vx_assemble.specs.Held.{Held, Stands, Ends, IsBounded}
 use Rattle.vx_assemble.specs.declared.fault.AssembleFault.{AssembleFault}
 use Rattle.vx_assemble.specs.declared.fault.AssembleFault.TheVariants as assembler
 use Rattle.vx_assemble.specs.declared.fault.First.{First}
 use Rattle.vx_assemble.specs.declared.feed.FeedFault.{FeedFault}
-use Rattle.vx_assemble.specs.Feed.{Feeding, seen_of, HasFed, UnitIsRefused, IsRefusedFor, by_bytes, by_unit, at_end, EndsThere, Gives, ReadsOn}
+use Rattle.vx_assemble.specs.Feed.{Feeding, seen_of, HasFed, UnitIsRefused, IsRefusedFor, by_bytes, by_unit, at_end, EndsThere, IsTold, Gives, SeesRefused, at_bytes, at_unit, sees_at_end, GivesSeen, ReadsOn}
 use Rattle.vx_assemble.specs.inner.Feed.{Accepts, fault_of, feeding}
 use Rattle.vx_assemble.specs.declared.feed.FeedFault.TheVariants as faults
 use Rattle.vx_assemble.specs.declared.feed.Taken.{Taken}
@@ -51,34 +53,60 @@ units_at_more b places more u = map-append (unit_bytes b) places (u ∷ more)
 
 -- ---- a unit
 
--- it was taken
+-- it was taken, and this is told of it
+record HasTaken (R : Readers) (g : List ℕ) (places : List UnitPlace) (before : List Reading) (new : Feeding) (u : UnitPlace) (unit : List ℕ) (h : NalHeader) (place n : ℕ) (a : Accepted) : Type 0 where
+  reading : Reading
+  fed : HasFed R new g (places ++ u ∷ []) (reading ∷ before)
+  told : IsTold g u reading before h place n a
+  same : unit_bytes (seen_of g) u ≡ unit
+
+has_taken : (R : Readers) (g : List ℕ) (places : List UnitPlace) (before : List Reading) (old new : Feeding) (span : Span) (unit : List ℕ) (header : NalHeader) (place bytes : ℕ) (what : Accepted)
+    → HasFed R old g places before → reader.Finds g places new.reader (Ok (Some span)) → unit ≡ slice_range (lent new.reader.splitter) span.start span.end
+    → Accepts R before new.assembler unit span.offset (Ok (Nal header place bytes what))
+    → new.units ≡ old.units + 1 → new.first ≡ None → HasTaken R g places before new (place_of span) unit header place bytes what
+has_taken R g places before old new span unit header place bytes what fed finds lends accepts units first =
+    let u = place_of span in
+    let b = seen_of g in
+    let took = accepts.0 in
+    let same = finds.1 ∙ sym lends in
+    let here : reads R before (unit_bytes b u) ≡ Ok took.reading = ap (reads R before) same ∙ took.reads in
+    record {
+      reading = took.reading;
+      fed = record {
+        read = finds.0;
+        readings = ap (read_on R []) (units_at_more b places [] u) ∙ one_more_read R before (units_at b places) [] (unit_bytes b u) (Ok took.reading) fed.readings here;
+        stands = took.stands;
+        count = units ∙ ap (λ n. n + 1) fed.count ∙ sym (length-append places (u ∷ []));
+        going = first;
+      };
+      told = record {
+        header = rw same accepts.1;
+        offset = accepts.2;
+        bytes = rw same accepts.3;
+        what = took.told;
+      };
+      same = same;
+    }
+
 pub gives_unit : (R : Readers) (g : List ℕ) (places : List UnitPlace) (before : List Reading) (old new : Feeding) (span : Span) (unit : List ℕ) (taken : Taken)
     → HasFed R old g places before → reader.Finds g places new.reader (Ok (Some span)) → unit ≡ slice_range (lent new.reader.splitter) span.start span.end
     → Accepts R before new.assembler unit span.offset (Ok taken)
     → new.units ≡ old.units + 1 → new.first ≡ None → Gives R g places before new (Ok (Some taken))
 gives_unit R g places before old new span unit End fed finds lends accepts units first = absurd accepts
 gives_unit R g places before old new span unit (Nal header place bytes what) fed finds lends accepts units first =
-    let u = place_of span in
-    let b = seen_of g in
-    let took = accepts.0 in
-    let same = finds.1 ∙ sym lends in
-    let here : reads R before (unit_bytes b u) ≡ Ok took.reading = ap (reads R before) same ∙ took.reads in (
-      u,
-      took.reading,
-      record {
-        read = finds.0;
-        readings = ap (read_on R []) (units_at_more b places [] u) ∙ one_more_read R before (units_at b places) [] (unit_bytes b u) (Ok took.reading) fed.readings here;
-        stands = took.stands;
-        count = units ∙ ap (λ n. n + 1) fed.count ∙ sym (length-append places (u ∷ []));
-        going = first;
-      },
-      record {
-        header = rw same accepts.1;
-        offset = accepts.2;
-        bytes = rw same accepts.3;
-        what = took.told;
-      },
-    )
+    let t = has_taken R g places before old new span unit header place bytes what fed finds lends accepts units first in
+    (place_of span, t.reading, t.fed, t.told)
+
+-- it was seen before
+pub sees_unit : {V : Type 0} (sees : List Reading → List ℕ → V) (nothing : V) (R : Readers) (g : List ℕ) (places : List UnitPlace) (before : List Reading) (old new : Feeding) (span : Span)
+    (unit : List ℕ) (taken : Taken) (seen : V)
+    → HasFed R old g places before → reader.Finds g places new.reader (Ok (Some span)) → unit ≡ slice_range (lent new.reader.splitter) span.start span.end
+    → Accepts R before new.assembler unit span.offset (Ok taken)
+    → new.units ≡ old.units + 1 → new.first ≡ None → seen ≡ sees before unit → GivesSeen sees nothing R g places before new (Ok (Some taken)) seen
+sees_unit sees nothing R g places before old new span unit End seen fed finds lends accepts units first is = absurd accepts
+sees_unit sees nothing R g places before old new span unit (Nal header place bytes what) seen fed finds lends accepts units first is =
+    let t = has_taken R g places before old new span unit header place bytes what fed finds lends accepts units first in
+    (place_of span, t.reading, t.fed, t.told, is ∙ ap (sees before) (sym t.same))
 
 -- it is refused: what is seen has no other pictures, and ends there
 ends_at_unit : (R : Readers) (f : reader.Reading) (g : List ℕ) (places : List UnitPlace) (before : List Reading) (r : Refusal) → read_on R [] (units_at (seen_of g) places) ≡ all_read before → length before ≡ length places
@@ -161,6 +189,23 @@ refused_by_unit R g places before old new span unit (faults.Refused r) fed finds
     } in
     (by_unit refused, ends_at_unit R new.reader g places before r fed.readings (read_all R (seen_of g) places before fed.readings) refused, (place_of span ∷ [], finds.0), fed.readings)
 
+pub sees_refused : {V : Type 0} (sees : List Reading → List ℕ → V) (nothing : V) (R : Readers) (g : List ℕ) (places : List UnitPlace) (before : List Reading) (new : Feeding) (span : Span)
+    (unit : List ℕ) (fault : FeedFault) (seen : V)
+    → reader.Finds g places new.reader (Ok (Some span)) → unit ≡ slice_range (lent new.reader.splitter) span.start span.end
+    → Accepts R before new.assembler unit span.offset (Err fault) → seen ≡ sees before unit
+    → GivesSeen sees nothing R g places before new (Err fault) seen
+sees_refused sees nothing R g places before new span unit faults.Memory seen finds lends accepts is = tt
+sees_refused sees nothing R g places before new span unit faults.SourceFailed seen finds lends accepts is = tt
+sees_refused sees nothing R g places before new span unit (faults.Stopped f) seen finds lends accepts is = tt
+sees_refused sees nothing R g places before new span unit (faults.Refused r) seen finds lends accepts is =
+    let same = finds.1 ∙ sym lends in
+    at_unit (record { unit = place_of span; follows = finds.0.stands.given; refused = ap (reads R before) same ∙ accepts }) (is ∙ ap (sees before) (sym same))
+
+-- nothing was seen
+pub sees_no_bytes : {V : Type 0} (sees : List Reading → List ℕ → V) (nothing : V) (R : Readers) (g : List ℕ) (places : List UnitPlace) (before : List Reading) (new : Feeding) (r : Refusal) (seen : V)
+    → reader.Finds g places new.reader (Err r) → seen ≡ nothing → GivesSeen sees nothing R g places before new (Err (faults.Refused r)) seen
+sees_no_bytes sees nothing R g places before new r seen finds is = at_bytes finds.1 is
+
 -- of a feed that goes on
 pub still_gives : (R : Readers) (g : List ℕ) (places : List UnitPlace) (before : List Reading) (r : reader.Reading) (a : Held) (n : ℕ) (f : Option First) (given : Option Taken) → f ≡ None → Gives R g places before (feeding r a n) (Ok given)
     → Gives R g places before (record { reader = r; assembler = a; units = n; first = f }) (Ok given)
@@ -238,34 +283,55 @@ refused_at_end R g places before old new (assembler.Refused r) fed finds some fa
       fed.readings,
     )
 
+pub sees_end : {V : Type 0} (sees : List Reading → List ℕ → V) (nothing : V) (R : Readers) (g : List ℕ) (places : List UnitPlace) (before : List Reading) (new : Feeding) (fault : AssembleFault) (seen : V)
+    → reader.Finds g places new.reader (Ok None) → IsSome new.reader.closed → (new.reader.closed ≡ Some Failed → ⊥)
+    → Ends before (Err fault) → seen ≡ nothing → GivesSeen sees nothing R g places before new (Err (fault_of fault)) seen
+sees_end sees nothing R g places before new assembler.Memory seen finds some failed ends is = absurd ends
+sees_end sees nothing R g places before new (assembler.Stopped f) seen finds some failed ends is = absurd ends
+sees_end sees nothing R g places before new (assembler.Refused r) seen finds some failed ends is =
+    let end = at_the_end g places new.reader finds some failed in
+    sees_at_end (record { ended = by_closed new.reader.closed some finds.2 failed; stream = end.1; lacks = ends }) is
+
+-- of a feed that goes on, and of one that stops for it
+pub still_seen : {V : Type 0} (sees : List Reading → List ℕ → V) (nothing : V) (R : Readers) (g : List ℕ) (places : List UnitPlace) (before : List Reading) (r : reader.Reading) (a : Held) (n : ℕ)
+    (f : Option First) (given : Option Taken) (seen : V) → f ≡ None → GivesSeen sees nothing R g places before (feeding r a n) (Ok given) seen
+    → GivesSeen sees nothing R g places before (record { reader = r; assembler = a; units = n; first = f }) (Ok given) seen
+still_seen sees nothing R g places before r a n f given seen none gives =
+    subst (λ (x : Option First). GivesSeen sees nothing R g places before (record { reader = r; assembler = a; units = n; first = x }) (Ok given) seen) (sym none) gives
+
+pub still_seen_refused : {V : Type 0} (sees : List Reading → List ℕ → V) (nothing : V) (R : Readers) (g : List ℕ) (places : List UnitPlace) (before : List Reading) (f f' : Feeding) (fault : FeedFault) (seen : V)
+    → f'.reader ≡ f.reader → GivesSeen sees nothing R g places before f (Err fault) seen → GivesSeen sees nothing R g places before f' (Err fault) seen
+still_seen_refused sees nothing R g places before f f' faults.Memory seen same gives = tt
+still_seen_refused sees nothing R g places before f f' faults.SourceFailed seen same gives = tt
+still_seen_refused sees nothing R g places before f f' (faults.Stopped first) seen same gives = tt
+still_seen_refused sees nothing R g places before f f' (faults.Refused r) seen same gives = subst (λ a. SeesRefused sees nothing R a g places before r seen) (sym same) gives
+
 -- ---- one read
 
 -- what was read of the units stays
-pub reads_more : (R : Readers) (g : List ℕ) (places : List UnitPlace) (before : List Reading) (old new : Feeding) (left left' : Option (List ℕ)) (faults faults' : ℕ) → HasFed R old g places before
-    → reader.IsOpen old.reader → ((units : List UnitPlace) → reader.HasRead old.reader g units → reader.Reads g units new.reader left left' faults faults' (Ok tt)) → new.assembler ≡ old.assembler → new.units ≡ old.units → new.first ≡ None
-    → ReadsOn R g places before new left left' faults faults' (Ok tt)
-reads_more R g places before old new left left' faults faults' fed open_ read same units first =
-    let r = read places fed.read in
-    let piece = r.0 in
+pub feeds_more : (R : Readers) (g piece : List ℕ) (places : List UnitPlace) (before : List Reading) (old new : Feeding) → HasFed R old g places before → reader.IsOpen old.reader → reader.HasRead new.reader (g ++ piece) places
+    → new.assembler ≡ old.assembler → new.units ≡ old.units → new.first ≡ None → HasFed R new (g ++ piece) places before
+feeds_more R g piece places before old new fed open_ read same units first =
     let going = subst (λ closed. reader.ClosesAt closed old.reader.splitter old.reader.taken) open_ fed.read.closes in
     let short : length g ≤ source_limit = rw source_limit-is (omega (arith, fed.read.taken, going.1)) in
     let more : List ℕ = take (source_limit - length g) piece in
     let seen : seen_of (g ++ piece) ≡ seen_of g ++ more = sym (seen_front source_limit g piece short) ∙ ap (λ l. l ++ more) (sym (take_all source_limit g short)) in
     let follow : FollowsFrom (seen_of g) false 0 places = subst (λ (a : Bool). FollowsFrom (seen_of g) a 0 places) going.0 fed.read.stands.given in
-    let stay : units_at (seen_of g ++ more) places ≡ units_at (seen_of g) places = (seen_stays (seen_of g) more false 0 places follow).1 in (
-      piece,
-      r.1,
-      r.2,
-      r.3,
-      record {
-        read = r.4;
-        readings = ap (λ b. read_on R [] (units_at b places)) seen ∙ ap (read_on R []) stay ∙ fed.readings;
-        stands = rw same fed.stands;
-        count = units ∙ fed.count;
-        going = first;
-      },
-      r.5,
-    )
+    let stay : units_at (seen_of g ++ more) places ≡ units_at (seen_of g) places = (seen_stays (seen_of g) more false 0 places follow).1 in
+    record {
+      read = read;
+      readings = ap (λ b. read_on R [] (units_at b places)) seen ∙ ap (read_on R []) stay ∙ fed.readings;
+      stands = rw same fed.stands;
+      count = units ∙ fed.count;
+      going = first;
+    }
+
+pub reads_more : (R : Readers) (g : List ℕ) (places : List UnitPlace) (before : List Reading) (old new : Feeding) (left left' : Option (List ℕ)) (faults faults' : ℕ) → HasFed R old g places before
+    → reader.IsOpen old.reader → ((units : List UnitPlace) → reader.HasRead old.reader g units → reader.Reads g units new.reader left left' faults faults' (Ok tt)) → new.assembler ≡ old.assembler → new.units ≡ old.units → new.first ≡ None
+    → ReadsOn R g places before new left left' faults faults' (Ok tt)
+reads_more R g places before old new left left' faults faults' fed open_ read same units first =
+    let r = read places fed.read in
+    (r.0, r.1, r.2, r.3, feeds_more R g r.0 places before old new fed open_ r.4 same units first, r.5)
 
 -- for want of memory, or for a fault, nothing came
 pub reads_none : (R : Readers) (g : List ℕ) (places : List UnitPlace) (before : List Reading) (old new : Feeding) (left left' : Option (List ℕ)) (faults faults' : ℕ) (fault : ReadFault) → HasFed R old g places before

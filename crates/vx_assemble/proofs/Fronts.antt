@@ -87,7 +87,7 @@ id_opens : IsOpen id_form
 unfolding row_opens is_trailing id_form
 id_opens = each_of_sections IsNoTrailing row_opens sound to_id fresh refl
 
-slice_opens : (n : At) → IsOpen (slice_form n)
+pub slice_opens : (n : At) → IsOpen (slice_form n)
 unfolding row_opens is_trailing slice_form
 slice_opens n =
     let pass : Pass row_opens = record { id = refl; known = refl; address = refl; before_lists = refl; lists = refl; between = refl; weights = refl; behind_weights = refl } in
@@ -133,13 +133,13 @@ spells_longer total more {left} is within (behind {cell} {v} {mid} first on) =
 -- ---- at a longer place
 
 -- the second place has more bits behind those of the first
-record IsLonger (p q : Place) : Type 0 where
+pub record IsLonger (p q : Place) : Type 0 where
   pub more : List Bool
   pub within : length p.left ≤ p.total
   pub total : q.total ≡ p.total + length more
   pub left : q.left ≡ p.left ++ more
 
-spelled_on : {A : Type 0} (form : Form A) (p q : Place) (values : List ℤ) (rest : List Bool) (longer : IsLonger p q) → IsOpen form
+pub spelled_on : {A : Type 0} (form : Form A) (p q : Place) (values : List ℤ) (rest : List Bool) (longer : IsLonger p q) → IsOpen form
     → Spells p.total form values p.left rest → Spells q.total form values q.left (rest ++ longer.more)
 spelled_on form p q values rest longer is spelled = rw (longer.total, longer.left) (spells_longer p.total longer.more is longer.within spelled)
 
@@ -164,7 +164,7 @@ longer_inside rbsp more some =
       left = ap (λ x. drop 1 x) (bits_of-append rbsp more) ∙ drop-append-le 1 (bits_of rbsp) (bits_of more) (omega (arith, size, some));
     }
 
-longer_front : (rbsp more : List ℕ) → IsLonger (at_front rbsp) (at_front (rbsp ++ more))
+pub longer_front : (rbsp more : List ℕ) → IsLonger (at_front rbsp) (at_front (rbsp ++ more))
 longer_front rbsp more = record {
   more = bits_of more;
   within = omega (arith, length-bits_of rbsp);
@@ -221,12 +221,12 @@ three_taken n h =
     rw plain refl
 
 -- the RBSP of three bytes at least is a front of that of more
-record IsRbspFront (f u : List ℕ) : Type 0 where
+pub record IsRbspFront (f u : List ℕ) : Type 0 where
   pub more : List ℕ
   pub all : rbsp_of u ≡ rbsp_of f ++ more
   pub some : 0 < length (rbsp_of f)
 
-rbsp_front : (f more : List ℕ) → HasHeader f → 3 ≤ length f → IsRbspFront f (f ++ more)
+pub rbsp_front : (f more : List ℕ) → HasHeader f → 3 ≤ length f → IsRbspFront f (f ++ more)
 unfolding rbsp_of
 rbsp_front f more h long =
     let three = taken_behind f 3 (length f) long in
@@ -286,11 +286,11 @@ slice_longer R t b f more h are head long within read =
     })
 
 -- a front is the unit, or begins it with three bytes at least
-data IsPart (f u : List ℕ) : Type 0 where
+pub data IsPart (f u : List ℕ) : Type 0 where
   is_all : f ≡ u → IsPart f u
   is_long : (more : List ℕ) → u ≡ f ++ more → 3 ≤ length f → IsPart f u
 
-part_of : (f u : List ℕ) → IsFront f u → IsPart f u
+pub part_of : (f u : List ℕ) → IsFront f u → IsPart f u
 part_of f u front = elim (cases_lt (length f) 3) [
   | inl few ↦ is_all (front.all few)
   | inr long ↦ is_long (drop (length f) u) (sym (take-append-drop (length f) u) ∙ ap (λ x. x ++ drop (length f) u) (sym front.first)) long

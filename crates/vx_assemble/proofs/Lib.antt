@@ -29,3 +29,5 @@ pub mod Messages
 pub mod Small
 pub mod ReadUnder
 pub mod Bodies
+pub mod Shown
+pub mod Looking

@@ -135,6 +135,27 @@ Gives R g places before f (Err faults.Memory) = Unit {0}
 Gives R g places before f (Err faults.SourceFailed) = ⊥
 Gives R g places before f (Err (faults.Stopped first)) = ⊥
 
+-- ---- one unit that is looked at before it is taken
+
+-- What was seen where the feed is refused: the unit that is refused, or nothing.
+pub data SeesRefused {V : Type 0} (sees : List Reading → List ℕ → V) (nothing : V) (R : Readers) (f : reader.Reading) (g : List ℕ)
+    (places : List UnitPlace) (before : List Reading) (r : Refusal) (seen : V) : Type 0 where
+  at_bytes : reader.IsRefusedBy g places f r → seen ≡ nothing → SeesRefused sees nothing R f g places before r seen
+  at_unit : (refused : UnitIsRefused R f g places before r) → seen ≡ sees before (unit_bytes (seen_of g) refused.unit)
+      → SeesRefused sees nothing R f g places before r seen
+  sees_at_end : EndIsRefused f g places before r → seen ≡ nothing → SeesRefused sees nothing R f g places before r seen
+
+-- The next unit in what was read, as `Gives` has it, and what was seen: that unit behind those before it, or nothing.
+abbrev pub GivesSeen : {V : Type 0} → (List Reading → List ℕ → V) → V → Readers → List ℕ → List UnitPlace → List Reading → Feeding
+    → Result (Option Taken) FeedFault → V → Type 0
+GivesSeen sees nothing R g places before f (Ok (Some (Nal header place bytes what))) seen =
+    (u : UnitPlace) × (r : Reading) × HasFed R f g (places ++ u ∷ []) (r ∷ before) × IsTold g u r before header place bytes what
+    × (seen ≡ sees before (unit_bytes (seen_of g) u))
+GivesSeen sees nothing R g places before f (Ok (Some End)) seen = seen ≡ nothing
+GivesSeen sees nothing R g places before f (Ok None) seen = seen ≡ nothing
+GivesSeen sees nothing R g places before f (Err (faults.Refused r)) seen = SeesRefused sees nothing R f.reader g places before r seen
+GivesSeen sees nothing R g places before f (Err fault) seen = Unit {0}
+
 -- what was told of the unit that was taken is what the assembler told last
 abbrev pub IsToldBy : Held → Option Taken → Type 0
 IsToldBy h (Some (Nal header place bytes what)) = told h ≡ what

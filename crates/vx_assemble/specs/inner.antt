@@ -6,6 +6,7 @@ pub mod SentAgain
 pub mod Classes
 pub mod Fronts
 pub mod Headers
+pub mod Fields
 pub mod Takes
 pub mod Joining
 pub mod Places

@@ -4,11 +4,11 @@ ghost use Rattle.std.specs.Prelude.{◌≡◌, [], List};
 use crate::fault::{AssembleFault, First};
 use crate::refusals::structure;
 use crate::state::State;
-use std::alloc::Global;
+use std::alloc::{AllocError, Global};
 use std::marker::Model;
 use vx_bits::rules::SLICE_MISSING;
 use vx_bits::{Fields, ReadError};
-use vx_pic::{Accepted, Lender, Picture};
+use vx_pic::{Accepted, Lender, Picture, StructureFields};
 use vx_pps::Pps;
 use vx_sps::Sps;
 
@@ -43,6 +43,8 @@ impl Assembler {
     ghost use Rattle.vx_pic.specs.Rules.{Readers, reads};
     ghost use Rattle.vx_pic.specs.H266.{AreOfH266};
     ghost use Rattle.vx_pic.specs.Told.{told_of};
+    ghost use Rattle.vx_pic.specs.Shown.{no_fields};
+    ghost use Rattle.vx_assemble.specs.Fields.{unit_fields};
     ghost use Rattle.vx_assemble.specs.Held.{Stands, Takes, Ends, told, HasPicture, IsBounded, ShowsLatest, lent_by, first_fault, first_of, IsSet, items_of};
     ghost use Rattle.vx_pic.specs.Readings.{pictures};
 
@@ -97,6 +99,27 @@ impl Assembler {
                 Err(AssembleFault::Refused(refusal))
             }
         }
+    }
+
+    /// The fields of no structure.
+    pub(crate) fn no_fields(&self) -> StructureFields
+        ensures { result ≡ no_fields }
+    {
+        StructureFields::new(self.alloc)
+    }
+
+    /// The fields that a unit spells, as framing gives it, behind those that were taken: all, or those before the first that is refused.
+    ///
+    /// # Errors
+    ///
+    /// Want of memory.
+    pub fn unit_fields(&self, unit: &[u8]) -> Result<StructureFields, AllocError>
+        requires { IsSound unit.now }
+        ensures { IfOk result (λ f. (R : Readers) (h : AreOfH266 R) (before : List Reading) → Stands self.now before
+            → f ≡ unit_fields R h before unit.now) }
+    {
+        let read = self.state.unit_fields(self.alloc, unit)?;
+        Ok(read)
     }
 
     #[tactic(auto, using(crate::proofs::Bodies::few_bodies))]

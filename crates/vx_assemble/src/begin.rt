@@ -26,7 +26,7 @@ use vx_sps::Sps;
 
 /// The id of the SPS that a PPS refers to.
 #[tactic(auto, using(crate::proofs::Ids::referred_below), unfolding(vx_pic::specs::Sets::referred_sps))]
-fn referred_sps(pps: &Pps) -> u8
+pub(crate) fn referred_sps(pps: &Pps) -> u8
     ensures { result ≡ referred_sps pps.now }
 {
     let _fields = pps.fields();

@@ -9,12 +9,13 @@ ghost use Rattle.vx_pic.specs.Readings.{Reading};
 ghost use Rattle.vx_pic.specs.Rules.{Readers};
 ghost use Rattle.vx_pic.specs.H266.{AreOfH266};
 ghost use Rattle.vx_assemble.specs.Held.{Stands, IsBounded};
-ghost use Rattle.vx_assemble.specs.Feed.{HasFed, Gives, IsToldBy, Lowers, Counts, first_of};
+ghost use Rattle.vx_assemble.specs.Feed.{HasFed, Gives, GivesSeen, IsToldBy, Lowers, Counts, first_of};
 ghost use Rattle.vx_assemble.specs.inner.Feed.{Accepts, fault_of, read_fault, feeding, step_by};
-ghost use Rattle.vx_assemble.specs.declared.feed.FeedFault.TheVariants.{Refused as IsRefused};
+ghost use Rattle.vx_assemble.specs.declared.feed.FeedFault.TheVariants.{Refused as IsRefused, Memory as OutOfMemory};
 
 use crate::assembler::Assembler;
 use crate::fault::{AssembleFault, First};
+use crate::view::UnitView;
 use std::alloc::{AllocError, Global};
 use std::marker::Model;
 use thiserror::Error;
@@ -70,7 +71,8 @@ pub enum FeedFault {
 }
 
 /// Takes the NAL units of a source in order, and hands on each picture with its last slice. The source is read only where
-/// no further unit is seen in what was read; each call that reads is given it, and it is to be the same one.
+/// no further unit is seen in what was read; each call that reads is given it. What it took of all of them, one after another, is
+/// the stream. It may also be fed the stream's bytes.
 ///
 /// After a refusal, a failed read or want of memory it goes on no more.
 #[derive(Drop)]
@@ -110,6 +112,14 @@ impl From<Refusal> for FeedFault {
 
     fn from(refusal: Refusal) -> FeedFault {
         FeedFault::Refused(refusal)
+    }
+}
+
+impl From<AllocError> for FeedFault {
+    ghost from_gives = { λ fault e. e ≡ OutOfMemory };
+
+    fn from(_fault: AllocError) -> FeedFault {
+        FeedFault::Memory
     }
 }
 
@@ -155,11 +165,12 @@ fn accept(assembler: &mut Assembler, unit: &[u8], offset: u64) -> Result<Taken, 
     })
 }
 
-/// Takes the next unit that is seen in what was read, or finds the end.
-fn take_seen(
+/// Takes the next unit that is seen in what was read, which a view looks at before, or finds the end.
+fn take_seen<V: UnitView>(
     reader: &mut UnitReader,
     assembler: &mut Assembler,
     units: &mut u64,
+    view: &mut V,
 ) -> Result<Option<Taken>, FeedFault>
     requires going { reader.old.closed ≡ Some Failed → ⊥ }
     requires count { units.old + ahead reader.old.splitter < 2 ^ 64 }
@@ -167,6 +178,9 @@ fn take_seen(
     ensures answer { (R : Readers) → AreOfH266 R → (g : List ℕ) (places : List UnitPlace) (before : List Reading)
         → HasFed R (feeding reader.old assembler.old units.old) g places before
         → Gives R g places before (feeding reader.new assembler.new units.new) result }
+    ensures seen { (R : Readers) (h : AreOfH266 R) (g : List ℕ) (places : List UnitPlace) (before : List Reading)
+        → HasFed R (feeding reader.old assembler.old units.old) g places before
+        → GivesSeen (V.sees R h) V.nothing R g places before (feeding reader.new assembler.new units.new) result view.new }
     ensures count { OnOk result (units.new + ahead reader.new.splitter ≤ units.old + ahead reader.old.splitter) }
     ensures fed { fed reader.new.splitter ≡ fed reader.old.splitter }
     ensures open { result ≡ Ok None → MayRead reader.new }
@@ -185,8 +199,11 @@ fn take_seen(
     ensures ended { result ≡ Ok (Some End) → MayRead reader.new → ⊥ }
     ensures told { IfOk result (IsToldBy assembler.new) }
 {
+    view.look_away(assembler);
     if let Some(span) = reader.next()? {
-        let taken = accept(assembler, reader.bytes(span), span.offset)?;
+        let unit = reader.bytes(span);
+        view.look(assembler, unit)?;
+        let taken = accept(assembler, unit, span.offset)?;
         *units += 1;
         return Ok(Some(taken));
     }
@@ -223,7 +240,7 @@ impl Feed {
     ghost use Rattle.vx_assemble.specs.declared.feed.Step.TheVariants as steps;
     ghost use Rattle.vx_pic.specs.Rules.{Readers};
     ghost use Rattle.vx_pic.specs.H266.{AreOfH266};
-    ghost use Rattle.vx_assemble.specs.Feed.{HasFed, IsOpen, EndsAtEnd, Gives, ReadsOn, IsToldBy, Lowers, Counts, left_to_take, bytes_held, Takes, Advances, CompletesNone, first_of as first_by};
+    ghost use Rattle.vx_assemble.specs.Feed.{HasFed, IsOpen, EndsAtEnd, Gives, GivesSeen, ReadsOn, IsToldBy, Lowers, Counts, left_to_take, bytes_held, Takes, Advances, CompletesNone, first_of as first_by};
     ghost use Rattle.vx_assemble.specs.inner.Feed.{read_fault};
     ghost use Rattle.vx_assemble.specs.declared.fault.First.{First as FirstFault};
     ghost use Rattle.vx_assemble.specs.declared.feed.FeedFault.TheVariants.{Stopped};
@@ -275,10 +292,45 @@ impl Feed {
         ensures ended { result ≡ Ok (Some End) → ¬ IsOpen self.new }
         ensures told { IfOk result (IsToldBy self.new.assembler) }
     {
+        self.next_with(&mut ())
+    }
+
+    /// As [`Feed::next`], and a view looks at the unit before it is taken, also where that is refused; where there is no unit, it sees
+    /// nothing.
+    ///
+    /// # Errors
+    ///
+    /// As [`Feed::next`].
+    pub fn next_with<V: UnitView>(&mut self, view: &mut V) -> Result<Option<Taken>, FeedFault>
+        ensures answer { (R : Readers) → AreOfH266 R → (g : List ℕ) (places : List UnitPlace) (before : List Reading)
+            → HasFed R self.old g places before → Gives R g places before self.new result }
+        ensures seen { (R : Readers) (h : AreOfH266 R) (g : List ℕ) (places : List UnitPlace) (before : List Reading)
+            → HasFed R self.old g places before → GivesSeen (V.sees R h) V.nothing R g places before self.new result view.new }
+        ensures going { OnOk result (self.new.first ≡ None) }
+        ensures first { IfErr result (λ e. self.new.first ≡ Some (first_by e)) }
+        ensures again { (f : FirstFault) → self.old.first ≡ Some f → (result ≡ Err (Stopped f)) × (self.new ≡ self.old) }
+        ensures open { result ≡ Ok None → IsOpen self.new }
+        ensures sought { result ≡ Ok None → IsSought self.new.reader.splitter }
+        ensures within { result ≡ Ok None → self.new.reader.taken ≤ 2 ^ 40 }
+        ensures taken { self.new.reader.taken ≡ self.old.reader.taken }
+        ensures closed { self.new.reader.closed ≡ self.old.reader.closed }
+        ensures lowers { IfOk result (λ given. Lowers given (left_to_take self.old) (left_to_take self.new)) }
+        ensures counts { IfOk result (λ given. IfSome given (λ taken. Counts taken self.old.units self.new.units)) }
+        ensures units { result ≡ Ok None → self.new.units ≡ self.old.units }
+        ensures kept { OnErr result (self.new.units ≡ self.old.units) }
+        ensures grows { self.old.units ≤ self.new.units }
+        ensures few { OnOk result (self.new.units ≤ 2 ^ 40) }
+        ensures held { reading.HoldsFew self.new.reader }
+        ensures bytes { bytes_held self.new ≤ 2 ^ 25 + 2 ^ 23 + 65538 }
+        ensures bounded { IsBounded self.new.assembler }
+        ensures all { is_all self.new.reader.splitter ≡ is_all self.old.reader.splitter }
+        ensures ended { result ≡ Ok (Some End) → ¬ IsOpen self.new }
+        ensures told { IfOk result (IsToldBy self.new.assembler) }
+    {
         if let Some(first) = self.first {
             return Err(FeedFault::Stopped(first));
         }
-        match take_seen(&mut self.reader, &mut self.assembler, &mut self.units) {
+        match take_seen(&mut self.reader, &mut self.assembler, &mut self.units, view) {
             Ok(given) => Ok(given),
             Err(fault) => {
                 self.first = Some(first_of(fault));
@@ -435,6 +487,68 @@ impl Feed {
                 return Ok(step);
             }
         }
+    }
+}
+
+impl Feed {
+    ghost use Rattle.std.specs.Prelude.{◌≡◌, ℕ, ◌+◌, ◌^◌, ◌≤◌, ◌++◌, List, take, min, length, Some, None, IfOk, OnOk, OnErr};
+    ghost use Rattle.vx_annexb.specs.ByteStream.{UnitPlace};
+    ghost use Rattle.vx_annexb.specs.Held.{IsSought, fed};
+    ghost use Rattle.vx_annexb.specs.Reading as reading;
+    ghost use Rattle.vx_annexb.specs.declared.unit_reader.Closed.TheVariants as closed;
+    ghost use Rattle.vx_pic.specs.Readings.{Reading};
+    ghost use Rattle.vx_pic.specs.Rules.{Readers};
+    ghost use Rattle.vx_assemble.specs.Held.{IsBounded};
+    ghost use Rattle.vx_assemble.specs.Feed.{HasFed, IsOpen, bytes_held};
+    ghost use Rattle.vx_assemble.specs.declared.fault.First.TheVariants as firsts;
+
+    /// Takes bytes of the source in place of a read, where `next` answered none last: the first of a piece, at most as many as
+    /// a read asks for, and of all one more than a source may have. Answers how many.
+    ///
+    /// # Errors
+    ///
+    /// Want of memory, for which nothing is taken.
+    pub fn feed(&mut self, piece: &[u8]) -> Result<usize, AllocError>
+        requires open { IsOpen self.old }
+        requires sought { IsSought self.old.reader.splitter }
+        ensures fed { IfOk result (λ count. (R : Readers) (g : List ℕ) (places : List UnitPlace) (before : List Reading)
+            → HasFed R self.old g places before → HasFed R self.new (g ++ take count piece.now) places before) }
+        ensures count { IfOk result (λ count. count ≡ reading.fed_at_once self.old.reader.taken (length piece.now)) }
+        ensures few { IfOk result (λ count. count ≤ length piece.now) }
+        ensures whole { IfOk result (λ count. IsOpen self.new → count ≡ min (length piece.now) 65536) }
+        ensures going { OnOk result (self.new.first ≡ None) }
+        ensures unended { self.new.reader.closed ≡ Some closed.End → ⊥ }
+        ensures first { OnErr result (self.new.first ≡ Some firsts.Memory) }
+        ensures units { self.new.units ≡ self.old.units }
+        ensures lends { self.new.assembler ≡ self.old.assembler }
+        ensures within { fed self.new.reader.splitter ≤ 2 ^ 40 }
+        ensures held { reading.HoldsFew self.new.reader }
+        ensures bytes { bytes_held self.new ≤ 2 ^ 25 + 2 ^ 23 + 65538 }
+        ensures bounded { IsBounded self.new.assembler }
+    {
+        match self.reader.feed(piece) {
+            Ok(count) => Ok(count),
+            Err(fault) => {
+                self.first = Some(First::Memory);
+                Err(fault)
+            }
+        }
+    }
+
+    /// Says that the bytes that were taken are all there are, where `next` answered none last.
+    pub fn finish(&mut self)
+        requires open { IsOpen self.old }
+        ensures fed { (R : Readers) (g : List ℕ) (places : List UnitPlace) (before : List Reading)
+            → HasFed R self.old g places before → HasFed R self.new g places before }
+        ensures end { self.new.reader.closed ≡ Some closed.End }
+        ensures going { self.new.first ≡ None }
+        ensures units { self.new.units ≡ self.old.units }
+        ensures lends { self.new.assembler ≡ self.old.assembler }
+        ensures held { reading.HoldsFew self.new.reader }
+        ensures bytes { bytes_held self.new ≤ 2 ^ 25 + 2 ^ 23 + 65538 }
+        ensures bounded { IsBounded self.new.assembler }
+    {
+        self.reader.finish();
     }
 }
 

@@ -119,7 +119,7 @@ fn skip_bit(bits: &mut BitReader<'_>)
 
 /// The bits from a picture header on, which in a slice stands behind the first bit (H.266 7.3.7).
 #[tactic(auto, using(crate::proofs::Answers::behind_bit, crate::proofs::Answers::at_first))]
-fn header_bits(inside: bool, rbsp: &[u8]) -> BitReader<'_>
+pub(crate) fn header_bits(inside: bool, rbsp: &[u8]) -> BitReader<'_>
     requires { length rbsp.now ≤ 2 ^ 23 }
     ensures { result ≡ header_place inside rbsp.now }
 {
@@ -202,6 +202,27 @@ fn told(header: SliceHeader) -> SliceHeader
         subpic: header.subpic,
         address,
         lists: header.lists,
+    }
+}
+
+/// What a slice of a picture is read at, whose first slice is of this type.
+pub(crate) fn numbers_under<'a>(nal_type: u8, begun: &'a BegunPicture) -> SliceNumbers<'a>
+    requires { IsHeader begun.now }
+    ensures nal_type { result.nal_type ≡ nal_type }
+    ensures under { (head : Option (List ℕ)) → AreOfBegun result (begun_of begun.now head) }
+    ensures few { length result.ids.now ≤ 1000 }
+    ensures one_each { length result.ids.now ≡ length result.layout.now.subpics }
+{
+    let sets = begun.sets.value();
+    let sps = sets.sps.value();
+    let pps = sets.pps.value();
+    SliceNumbers {
+        nal_type,
+        sps,
+        pps,
+        header: &begun.header,
+        layout: &sets.layout,
+        ids: &sets.ids,
     }
 }
 

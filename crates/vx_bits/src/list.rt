@@ -54,6 +54,7 @@ impl<T: Drop, By> Entries<T, By> {
     /// # Errors
     ///
     /// Where memory runs out, and the list then stays as it was.
+    #[inline(always)]
     pub fn push(&mut self, entry: T) -> Result<(), AllocError>
         ensures ok { OnOk result (self.new ≡ self.old ++ entry ∷ []) }
         ensures err { OnErr result (self.new ≡ self.old) }
@@ -63,6 +64,7 @@ impl<T: Drop, By> Entries<T, By> {
     }
 
     /// The number of entries.
+    #[inline(always)]
     pub fn len(&self) -> usize
         ensures { result ≡ length self.now }
     {
@@ -87,6 +89,7 @@ impl<T: Drop, By> Entries<T, By> {
 
 impl<T: Copy> CopyList<T> {
     /// The entry at an index, counted from 0.
+    #[inline(always)]
     pub fn item(&self, i: usize) -> T
         requires { i < length self.now }
         ensures value { slice_get self.now i ≡ Some result }
@@ -110,6 +113,7 @@ impl<T: Copy> CopyList<T> {
 
 impl<T: Drop> LentList<T> {
     /// The entry at an index, counted from 0.
+    #[inline(always)]
     pub fn item(&self, i: usize) -> &T
         requires { i < length self.now }
         ensures value { slice_get self.now i ≡ Some result.now }

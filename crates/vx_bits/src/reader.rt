@@ -45,6 +45,7 @@ impl<'a> BitReader<'a> {
     }
 
     /// The number of bits taken.
+    #[inline(always)]
     pub fn at(&self) -> u32
         ensures taken { result ≡ taken self.now }
         ensures within { result + length self.now.left ≡ self.now.total }
@@ -53,6 +54,7 @@ impl<'a> BitReader<'a> {
     }
 
     /// A reader at the same place, which goes on by itself.
+    #[inline(always)]
     pub fn fork(&self) -> BitReader<'a>
         ensures { result ≡ self.now }
     {
@@ -63,6 +65,7 @@ impl<'a> BitReader<'a> {
     }
 
     /// The number of bits left.
+    #[inline(always)]
     fn left(&self) -> u32
         ensures { result ≡ length self.now.left }
     {
@@ -70,6 +73,7 @@ impl<'a> BitReader<'a> {
     }
 
     /// The number of which the next `count` bits are the binary representation.
+    #[inline(always)]
     fn next_bits(&mut self, count: u32) -> u64
         requires count { count ≤ 32 }
         requires within { count ≤ length self.old.left }
@@ -81,6 +85,7 @@ impl<'a> BitReader<'a> {
     }
 
     /// Takes the next `count` bits, and gives the number of which they are the binary representation.
+    #[inline(always)]
     fn read_bits(&mut self, count: u32) -> u64
         requires count { count ≤ 32 }
         requires within { count ≤ length self.old.left }
@@ -103,6 +108,7 @@ impl<'a> BitReader<'a> {
     /// # Errors
     ///
     /// `Short` where fewer bits are left.
+    #[inline(always)]
     pub fn u(&mut self, n: u32) -> Result<u64, BitCause>
         requires { n ≤ 32 }
         ensures value { IfOk result (λ v. (v < 2 ^ n) × Takes (fixed n v) self.old self.new) }
@@ -117,6 +123,7 @@ impl<'a> BitReader<'a> {
     }
 
     /// The number of zeros that come next, of which at most 32 are counted.
+    #[inline(always)]
     fn zeros(&mut self) -> u32
         ensures value { result ≡ zeros_in_front (take 32 self.old.left) }
         ensures same { self.new ≡ self.old }
@@ -130,6 +137,7 @@ impl<'a> BitReader<'a> {
     /// # Errors
     ///
     /// `LongCode` where 32 zeros come next; `Short` where the bits end within a code.
+    #[inline(always)]
     pub fn ue(&mut self) -> Result<u32, BitCause>
         ensures value { IfOk result (λ v. IsCodeNumber v × Takes (exp_golomb v) self.old self.new) }
         ensures short { IsErrOf result BitCause.Short ↔ EndsWithinCode self.old.left }
@@ -156,6 +164,7 @@ impl<'a> BitReader<'a> {
     /// # Errors
     ///
     /// As [`BitReader::ue`].
+    #[inline(always)]
     pub fn se(&mut self) -> Result<i32, BitCause>
         ensures value { IfOk result
             (λ v. IsCodeNumber (code_number v) × Takes (signed_exp_golomb v) self.old self.new) }
@@ -279,6 +288,7 @@ impl<'a> BitReader<'a> {
 }
 
 /// The number for which se(v) has the code of ue(code), H.266 clause 9.2.
+#[inline(always)]
 fn signed(code: u32) -> i32
     requires { IsCodeNumber code }
     ensures { code_number result ≡ code }

@@ -12,6 +12,7 @@ pub(crate) struct Window {
 }
 
 /// The window with further bytes, where it holds fewer than `count` bits.
+#[inline(always)]
 pub(crate) fn filled(bytes: &[u8], window: Window, count: u32) -> Window
     requires count { count ≤ 32 }
     requires length { length bytes.now ≤ 2 ^ 23 }
@@ -31,6 +32,7 @@ pub(crate) fn filled(bytes: &[u8], window: Window, count: u32) -> Window
 }
 
 /// The window with as many of the next eight bytes as it has room for.
+#[inline(always)]
 fn with_some_of(bytes: &[u8], window: Window, eight: u64) -> Window
     requires sound { IsWindow bytes.now window }
     requires room { window.held < 32 }

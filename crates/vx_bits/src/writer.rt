@@ -8,6 +8,7 @@ use std::marker::Model;
 /// Appends the whole bytes of a word of so many bits, for which there is room.
 ///
 /// Gives the number of the bits behind them.
+#[inline(always)]
 fn append(bytes: &mut Vec<u8>, word: u64, bits: u32) -> u8
     requires bits { bits ≤ 64 }
     requires range { word < 2 ^ bits }
@@ -61,6 +62,7 @@ impl BitWriter {
     }
 
     /// Appends zeros, and then the `n` bits of the value.
+    #[inline(always)]
     fn put(&mut self, zeros: u32, n: u32, value: u64) -> Result<(), AllocError>
         requires zeros { zeros ≤ 32 }
         requires width { n ≤ 32 }
@@ -82,6 +84,7 @@ impl BitWriter {
     /// # Errors
     ///
     /// Where memory runs out.
+    #[inline(always)]
     pub fn u(&mut self, n: u32, value: u64) -> Result<(), AllocError>
         requires width { n ≤ 32 }
         requires range { value < 2 ^ n }
@@ -96,6 +99,7 @@ impl BitWriter {
     /// # Errors
     ///
     /// Where memory runs out.
+    #[inline(always)]
     pub fn ue(&mut self, value: u32) -> Result<(), AllocError>
         requires { IsCodeNumber value }
         ensures ok { OnOk result (self.new ≡ self.old ++ exp_golomb value) }
@@ -111,6 +115,7 @@ impl BitWriter {
     /// # Errors
     ///
     /// Where memory runs out.
+    #[inline(always)]
     pub fn se(&mut self, value: i32) -> Result<(), AllocError>
         requires { IsCodeNumber (code_number value) }
         ensures ok { OnOk result (self.new ≡ self.old ++ signed_exp_golomb value) }
@@ -186,6 +191,7 @@ impl BitWriter {
 }
 
 /// The number for which ue(v) has the code of se(value), H.266 clause 9.2.
+#[inline(always)]
 fn unsigned(value: i32) -> u32
     requires { IsCodeNumber (code_number value) }
     ensures { result ≡ code_number value }

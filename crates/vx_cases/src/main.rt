@@ -11,13 +11,16 @@
 //! - `closed NUMBER` says that this source always fails.
 //! - `keep NAME` names what is written on `out`, and the line has `out=kept` for it.
 //! - `generated SEED SOURCES PICTURES NUMBER` makes one line: the bytes of this one of so many streams, made from SEED, in hexadecimal.
+//! - `pushed LENGTH ORDER WORD ..` does what `merge` or `extract` does with these words, but hands their sources in, in pieces of so many
+//!   bytes: with ORDER `turns` a piece of each in turn, with `sources` of one after another all that is taken. Its line is as that of a case.
 //! - `#` begins what is no line.
 //!
-//! All lines but `stream` and `generated` hold for the next case alone.
+//! All lines but `stream`, `generated` and `pushed` hold for the next case alone.
 #![tactic(auto)]
 
 mod generated;
 mod outcome;
+mod pushed;
 mod script;
 mod setup;
 mod streams;

@@ -2,6 +2,7 @@
 
 use crate::generated::generated;
 use crate::outcome::{outcome_of, told};
+use crate::pushed::pushed;
 use crate::setup::Setup;
 use crate::streams::Streams;
 use anyhow::{Context, Result};
@@ -32,6 +33,10 @@ impl Script {
         match *verb {
             "case" => return Ok(Some(self.run(alloc, rest)?)),
             "generated" => return Ok(Some(generated(alloc, rest)?)),
+            "pushed" => {
+                let outcome = pushed(alloc, &self.streams, rest)?;
+                return Ok(Some(told(alloc, &outcome, false)?));
+            }
             "stream" => self.name_stream(alloc, rest)?,
             "#" => (),
             _ => self.setup.say(alloc, verb, rest)?,

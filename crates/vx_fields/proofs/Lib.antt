@@ -1,2 +1,3 @@
+mod Naming
 -- Proofs on the numbers.
 mod Rising

@@ -1,2 +1,3 @@
 -- The numbers of fields and names.
+pub mod Names
 pub mod Numbers

@@ -29,7 +29,7 @@ use Rattle.vx_sh.specs.declared.shape.ShShape.{ShShape}
 use Rattle.vx_sh.specs.Filter.{SliceHasFilter}
 use Rattle.vx_sh.specs.InForce.{in_force_at}
 use Rattle.vx_sh.specs.Reshaped as sh_reshaped
-use Rattle.vx_sh.specs.Reshaped.{AreSameForSlices, GoesAt, HaveSameSlices, IsShape}
+use Rattle.vx_sh.specs.Reshaped.{AreSameForSlices, GoesAt, HaveSameSlices, IsSent, IsShape}
 use Rattle.vx_sh.specs.Value.{IsSpelling}
 use Rattle.vx_sh.specs.Whole.{index_of}
 use Rattle.vx_pic.specs.declared.kind.Kind.{Kind}
@@ -50,7 +50,7 @@ use Rattle.vx_merge.specs.Rounds.{no_picture, picture_at}
 use Rattle.vx_merge.specs.Rules.{kept_header, shared_kind}
 use Rattle.vx_merge.specs.Shapes.{sps_shape}
 use Rattle.vx_merge.specs.Slots.{alf_slots}
-use Rattle.vx_merge.specs.inner.Fronts.{HasShape, IsBegun, IsInForce, IsWritten, new_filter, new_id}
+use Rattle.vx_merge.specs.inner.Fronts.{HasShape, IsBegun, IsInForce, new_filter, new_id}
 use Rattle.vx_merge.specs.inner.Ready.{IsReady, ids_in}
 use Rattle.vx_merge.proofs.KeptSame.{apart as sent_apart, kept_same}
 use Rattle.vx_merge.proofs.Passing.{header_alike, kind_alike, one_subpic}
@@ -302,7 +302,7 @@ module _ (round : List Parts) (n : RoundSets) (m : SliceNumbers) (are : IsInForc
             ∙ ap (λ x. slice_qp (picture_at round k).pps (picture_at round k).header.fields (read_of x)) (sym is);
       }
 
-      pub is_front : (s : SlicePart) → s.header ≡ h → (bytes : List ℕ) → IsWritten h shape m bytes → (front : List ℕ) (kind : Kind)
+      pub is_front : (s : SlicePart) → s.header ≡ h → (bytes : List ℕ) → IsSent h shape m bytes → (front : List ℕ) (kind : Kind)
           → kind ≡ (picture_at round 0).kind
           → IsUnitOf kind.nal_type kind.temporal_id bytes front → (b : Begun) → IsBegun round n m.header.now m.layout.now b
           → IsFront round (ids_in n) (picture_at round 0).kind.nal_type b k s front

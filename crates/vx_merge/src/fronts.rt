@@ -3,13 +3,12 @@ ghost use Rattle.std.specs.Prelude.{◌≡◌, ℕ, ◌<◌, ◌≤◌, ◌++◌
 ghost use Rattle.vx_ph.specs.InForce.{in_force, structures};
 ghost use Rattle.vx_ph.specs.Picture.{IsHeader};
 ghost use Rattle.vx_ph.specs.Reshaped as ph_reshaped;
-ghost use Rattle.vx_sh.specs.Reshaped.{GoesAt, IsShape};
 ghost use Rattle.vx_pic.specs.Parts.{SlicePart};
 ghost use Rattle.vx_pic.specs.PictureLayout.{ids_of};
 ghost use Rattle.vx_pic.specs.Readings.{Begun};
 ghost use Rattle.vx_merge.specs.Headers.{IsFront, ph_shape, sourced};
 ghost use Rattle.vx_merge.specs.Rounds.{picture_at};
-ghost use Rattle.vx_merge.specs.inner.Fronts.{AreFronts, IsBegun, IsInForce, IsWritten};
+ghost use Rattle.vx_merge.specs.inner.Fronts.{AreFronts, IsBegun, IsInForce};
 ghost use Rattle.vx_merge.specs.inner.Ready.{IsReadyAt, ids_in};
 
 use crate::needed::RoundSets;
@@ -19,40 +18,22 @@ use vx_bits::IdList;
 use vx_layout::Layout;
 use vx_ph::PictureHeader;
 use vx_pic::Picture;
-use vx_sh::{ShShape, SliceHeader, SliceNumbers, reshape_sh, slice_has_filter, write_sh};
+use vx_sh::{SliceNumbers, SliceSender, slice_has_filter};
 use vx_write::plain_unit;
-
-/// The bytes of the slice header that says what a shape says, and all else as its source.
-fn written_header(
-    alloc: Global,
-    source: &SliceHeader,
-    shape: &ShShape<'_>,
-    numbers: &SliceNumbers<'_>,
-) -> Result<Vec<u8>, AllocError>
-    requires shape { IsShape numbers.now shape.now }
-    requires source { GoesAt source.now shape.now.subpic_id numbers.now }
-    requires few { length numbers.now.ids.now ≤ 1000 }
-    requires one_each { length numbers.now.ids.now ≡ length numbers.now.layout.now.subpics }
-    ensures { IfOk result (λ bytes. IsWritten source.now shape.now numbers.now bytes.items) }
-{
-    let header = reshape_sh(alloc, source, shape, numbers)?;
-    let bytes = write_sh(alloc, &header, numbers)?;
-    Ok(bytes)
-}
 
 /// The unit of slice i of source k up to its payload.
 fn slice_front(
     alloc: Global,
     round: &[Picture<'_>],
     needed: &RoundSets<'_, '_>,
-    numbers: &SliceNumbers<'_>,
+    sender: &SliceSender<'_>,
     k: usize,
     i: u32,
 ) -> Result<Vec<u8>, AllocError>
     requires k { k < length round.now }
     requires i { i < length (picture_at round.now k).slices }
-    requires numbers { IsInForce round.now needed.now numbers.now }
-    ensures { (b : Begun) → IsBegun round.now needed.now numbers.now.header.now numbers.now.layout.now b
+    requires sender { IsInForce round.now needed.now sender.now }
+    ensures { (b : Begun) → IsBegun round.now needed.now sender.now.header.now sender.now.layout.now b
         → IfOk result (λ front. IfSome (slice_get (picture_at round.now k).slices i) (λ s. IsFront round.now (ids_in needed.now) (picture_at round.now 0).kind.nal_type b k s front.items)) }
 {
     slice_has_filter();
@@ -62,7 +43,7 @@ fn slice_front(
     let slice = picture.slice(i);
     let filter = filter_in(alloc, &needed.alf, picture, slice.header)?;
     let shape = slice_shape(&round[0], picture, k as u32, slice.header, &filter);
-    let bytes = written_header(alloc, slice.header, &shape, numbers)?;
+    let bytes = sender.send(alloc, slice.header, &shape)?;
     let unit = plain_unit(alloc, kind.nal_type, kind.temporal_id, &bytes)?;
     Ok(unit)
 }
@@ -72,20 +53,39 @@ fn push_fronts(
     alloc: Global,
     round: &[Picture<'_>],
     needed: &RoundSets<'_, '_>,
-    numbers: &SliceNumbers<'_>,
+    sender: &SliceSender<'_>,
     k: usize,
     fronts: &mut Vec<Vec<u8>>,
 ) -> Result<(), AllocError>
     requires k { k < length round.now }
-    requires numbers { IsInForce round.now needed.now numbers.now }
-    ensures { (b : Begun) (before : List (ℕ × SlicePart)) → IsBegun round.now needed.now numbers.now.header.now numbers.now.layout.now b
+    requires sender { IsInForce round.now needed.now sender.now }
+    ensures { (b : Begun) (before : List (ℕ × SlicePart)) → IsBegun round.now needed.now sender.now.header.now sender.now.layout.now b
         → AreFronts round.now needed.now b before (map (λ f. f.items) fronts.old.items)
         → OnOk result (AreFronts round.now needed.now b (before ++ map (λ s. (k, s)) (picture_at round.now k).slices) (map (λ f. f.items) fronts.new.items)) }
 {
     for i in 0..round[k].slice_count() {
-        fronts.push(slice_front(alloc, round, needed, numbers, k, i)?)?;
+        fronts.push(slice_front(alloc, round, needed, sender, k, i)?)?;
     }
     Ok(())
+}
+
+/// Those of all sources, under what is in force at them.
+fn fronts_at(
+    alloc: Global,
+    round: &[Picture<'_>],
+    needed: &RoundSets<'_, '_>,
+    numbers: &SliceNumbers<'_>,
+) -> Result<Vec<Vec<u8>>, AllocError>
+    requires numbers { IsInForce round.now needed.now numbers.now }
+    ensures { (b : Begun) → IsBegun round.now needed.now numbers.now.header.now numbers.now.layout.now b
+        → IfOk result (λ fronts. AreFronts round.now needed.now b (sourced 0 round.now) (map (λ f. f.items) fronts.items)) }
+{
+    let sender = SliceSender::new(*numbers);
+    let mut fronts = Vec::new(alloc);
+    for k in 0..round.len() {
+        push_fronts(alloc, round, needed, &sender, k, &mut fronts)?;
+    }
+    Ok(fronts)
 }
 
 /// The units of the slices of all pictures up to their payloads, by source and then by address.
@@ -116,9 +116,6 @@ pub(crate) fn slice_fronts(
         layout,
         ids,
     };
-    let mut fronts = Vec::new(alloc);
-    for k in 0..round.len() {
-        push_fronts(alloc, round, needed, &numbers, k, &mut fronts)?;
-    }
+    let fronts = fronts_at(alloc, round, needed, &numbers)?;
     Ok(fronts)
 }

@@ -20,7 +20,7 @@ pub use laws::{
     header_is_enabled, header_keeps, header_read_again, header_rewrites, same_kept_agree,
     sets_agree, spelling_is_short, unit_has_id, unit_is_read,
 };
-pub use pps_id::read_pps_id;
+pub use pps_id::{read_pps_id, read_pps_id_fields};
 pub use read::read_header_at;
 pub use reshape::{others_of, reshape_ph};
 pub use scope::{both_sets, in_force};
@@ -29,7 +29,9 @@ pub use tables::{
     ALF, FILTERS, INTER, INTRA, LMCS_AND_SCALING, ORDER_COUNT, OUTPUT, PICTURE, PPS_ID, QP,
     STARRED, TRAILING,
 };
-pub use under_sets::{read_ph, read_ph_unit, write_header, write_ph};
+pub use under_sets::{
+    read_ph, read_ph_fields, read_ph_unit, read_ph_unit_fields, write_header, write_ph,
+};
 pub use unit::read_unit_at;
 pub use walk::code_header;
 pub use write::{write_header_at, write_unit_at};

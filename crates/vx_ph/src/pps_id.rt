@@ -1,12 +1,12 @@
 //! The id of the PPS that a picture header refers to.
 ghost use Rattle.std.specs.Prelude.{◌≡◌, IfOk};
-ghost use Rattle.vx_table.specs.Reading.{Passes};
+ghost use Rattle.vx_table.specs.Reading.{Passes, Reads};
 ghost use Rattle.vx_ph.specs.Id.{id_form, IsId};
 
 use crate::tables::{PICTURE, PPS_ID};
-use vx_bits::{BitReader, Refusal};
+use vx_bits::{BitReader, Fields, ReadError, Refusal};
 use vx_fields::ph::ph_pic_parameter_set_id;
-use vx_table::{Scope, parts, pass_parts};
+use vx_table::{Scope, parts, pass_parts, read_parts};
 
 /// The id of the PPS, from 0 to 63, in the picture header that comes next; the bits up to it are taken. So it is known which sets
 /// the header is to be read with. Takes no memory.
@@ -21,4 +21,17 @@ pub fn read_pps_id(bits: &mut BitReader<'_>) -> Result<u8, Refusal>
     let mut scope = Scope::new();
     pass_parts(&parts![PICTURE, PPS_ID], &mut scope, bits)?;
     Ok(scope.latest(ph_pic_parameter_set_id) as u8)
+}
+
+/// Reads the fields of the picture header that comes next up to the id of the PPS, and appends their items.
+///
+/// # Errors
+///
+/// The first refusal, or want of memory. `into` has then gained the fields read before, and `bits` stands at the field that comes
+/// next.
+pub fn read_pps_id_fields(bits: &mut BitReader<'_>, into: &mut Fields) -> Result<(), ReadError>
+    ensures { Reads id_form bits.old into.old result bits.new into.new }
+{
+    let mut scope = Scope::new();
+    read_parts(&parts![PICTURE, PPS_ID], &mut scope, bits, into)
 }

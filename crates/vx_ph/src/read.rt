@@ -12,7 +12,7 @@ use vx_rpl::{RplTable, resolve_lists};
 use vx_table::Scope;
 
 /// Reads the fields of a header.
-fn read_fields(
+pub(crate) fn read_fields(
     bits: &mut BitReader<'_>,
     table: &RplTable,
     mut scope: Scope,

@@ -1,15 +1,18 @@
 //! Picture headers under the sets in force.
 ghost use Rattle.std.specs.Prelude.{◌≤◌, ◌^◌, length, IfOk, OnOk, OnErr};
+ghost use Rattle.vx_bits.specs.Place.{Place};
+ghost use Rattle.vx_table.specs.Reading.{Reads, at_front};
+ghost use Rattle.vx_ph.specs.Header.{header_form};
 ghost use Rattle.vx_ph.specs.InForce.{in_force, structures};
-ghost use Rattle.vx_ph.specs.Picture.{IsHeader, ReadsHeader, ReadsUnit, IsSpelling, IsFront, IsUnit};
+ghost use Rattle.vx_ph.specs.Picture.{IsHeader, ReadsHeader, ReadsUnit, IsSpelling, IsFront, IsUnit, unit_form};
 
 use crate::header::PictureHeader;
-use crate::read::read_header_at;
+use crate::read::{read_fields, read_header_at};
 use crate::scope::in_force;
-use crate::unit::read_unit_at;
+use crate::unit::{read_unit, read_unit_at};
 use crate::write::{write_header_at, write_unit_at};
 use std::alloc::{AllocError, Global};
-use vx_bits::{BitReader, BitWriter, ReadError};
+use vx_bits::{BitReader, BitWriter, Fields, ReadError};
 use vx_pps::Pps;
 use vx_sps::Sps;
 
@@ -47,6 +50,43 @@ pub fn read_ph_unit(
     ensures value { IfOk result (λ header. IsHeader (structures sps.now) (in_force sps.now pps.now) header) }
 {
     read_unit_at(alloc, rbsp, sps.table(), &in_force(sps, pps))
+}
+
+/// Reads the fields of a picture header, `picture_header_structure()`, clause 7.3.2.8, and appends their items.
+///
+/// # Errors
+///
+/// The first refusal, or want of memory. `into` has then gained the fields read before, and `bits` stands at the field that comes
+/// next.
+pub fn read_ph_fields(
+    bits: &mut BitReader<'_>,
+    sps: &Sps,
+    pps: &Pps,
+    into: &mut Fields,
+) -> Result<(), ReadError>
+    ensures { Reads (header_form (structures sps.now) (in_force sps.now pps.now)) bits.old into.old result bits.new into.new }
+{
+    read_fields(bits, sps.table(), in_force(sps, pps), into)
+}
+
+/// Reads the fields of a picture header that is a unit of its own, `picture_header_rbsp()`, clause 7.3.2.7, from an RBSP of at most
+/// 2^23 bytes, and appends their items.
+///
+/// # Errors
+///
+/// The first refusal, of the trailing too, or want of memory. `into` has then gained the fields read before.
+pub fn read_ph_unit_fields(
+    rbsp: &[u8],
+    sps: &Sps,
+    pps: &Pps,
+    into: &mut Fields,
+) -> Result<(), ReadError>
+    requires { length rbsp.now ≤ 2 ^ 23 }
+    ensures { (new : Place)
+        × Reads (unit_form (structures sps.now) (in_force sps.now pps.now)) (at_front rbsp.now) into.old result new into.new }
+{
+    let mut bits = BitReader::new(rbsp);
+    read_unit(&mut bits, sps.table(), in_force(sps, pps), into)
 }
 
 /// Writes a picture header without a trailing.

@@ -11,7 +11,7 @@ use vx_rpl::{RplTable, resolve_lists};
 use vx_table::Scope;
 
 /// Reads the fields of a header, and the trailing.
-fn read_unit(
+pub(crate) fn read_unit(
     bits: &mut BitReader<'_>,
     table: &RplTable,
     mut scope: Scope,

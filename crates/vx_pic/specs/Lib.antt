@@ -26,4 +26,5 @@ pub mod H266
 pub mod H266Laws
 pub mod Whole
 pub mod Told
+pub mod Shown
 pub mod inner

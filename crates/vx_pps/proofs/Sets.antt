@@ -25,7 +25,7 @@ use Rattle.vx_pps.specs.declared.halt.Halt.{Halt}
 use Rattle.vx_pps.specs.declared.halt.Halt.TheVariants.{Refused}
 use Rattle.vx_pps.specs.declared.partition.Partition.{Partition}
 use Rattle.vx_pps.specs.Partition.{undivided}
-use Rattle.vx_pps.specs.Pps.{IsItems, IsPps, front, kept_of, partition_at, pps_form, tools}
+use Rattle.vx_pps.specs.Pps.{IsItems, IsPps, ReadsFields, front, kept_of, partition_at, pps_form, tools}
 use Rattle.vx_pps.specs.Items.{values_in}
 use Rattle.vx_pps.specs.inner.Walked.{Walked}
 use Rattle.vx_pps.proofs.Told.{values_back}
@@ -49,6 +49,15 @@ read_ended bytes end new items walked = (new, readings.reads {B = List Item} end
 pub read_refused : (bytes : List ℕ) (e : ReadError) (new : Place) (items : List Item) → Walked {A = Partition} ReadsField pps_form (at_front bytes) [] (Err (Refused e)) new items
     → ReadsValue pps_form bytes (Err e)
 read_refused bytes e new items walked = (new, items, readings.reads {B = List Item} undivided (Err e) (to_refusal walked))
+
+pub fields_ended : (bytes : List ℕ) (before : List Item) (end : Partition) (new : Place) (after : List Item) → Walked ReadsField pps_form (at_front bytes) before (Ok end) new after
+    → ReadsFields bytes before (Ok tt) after
+fields_ended bytes before end new after walked = (new, readings.reads {B = Unit {0}} end (Ok tt) (to_end walked))
+
+pub fields_refused : (bytes : List ℕ) (before : List Item) (e : ReadError) (new : Place) (after : List Item)
+    → Walked {A = Partition} ReadsField pps_form (at_front bytes) before (Err (Refused e)) new after → ReadsFields bytes before (Err e) after
+fields_refused bytes before errors.Memory new after walked = tt
+fields_refused bytes before (errors.Refused r) new after walked = (new, readings.reads {B = Unit {0}} undivided (Err (errors.Refused r)) (to_refusal walked))
 
 pub read_is : (bytes : List ℕ) (end : Partition) (new : Place) (items : List Item) → Walked ReadsField pps_form (at_front bytes) [] (Ok end) new items → IsPps items end
 read_is bytes end new items walked =

@@ -1,13 +1,17 @@
 -- A picture parameter set: its form, and what its items tell (H.266 7.3.2.5, 7.4.3.5).
-use Rattle.std.specs.Prelude.{◌≡◌, ℕ, not, Bool, List, [], ◌∷◌, Option, Some, None, slice_index}
+use Rattle.std.specs.Prelude.{◌≡◌, ℕ, not, Bool, List, [], ◌∷◌, Option, Some, None, Result, Ok, Err, slice_index}
 use Rattle.vx_bits.specs.declared.list.Item.{Item}
+use Rattle.vx_bits.specs.declared.refusal.ReadError.{ReadError}
+use Rattle.vx_bits.specs.declared.refusal.ReadError.TheVariants as errors
 use Rattle.vx_bits.specs.Codes.{bits_of}
+use Rattle.vx_bits.specs.Place.{Place}
 use Rattle.vx_fields.specs.declared.pps.TheConstants as pps
 use Rattle.vx_layout.specs.declared.rect.Rect.{Rect}
 use Rattle.vx_table.specs.Forms.{Form, done, ◌>>=◌}
 use Rattle.vx_table.specs.Kept.{kept_along}
 use Rattle.vx_table.specs.Loaded as loading
 use Rattle.vx_table.specs.Parts.{Section, always, sections_form}
+use Rattle.vx_table.specs.Reading.{Reads, at_front}
 use Rattle.vx_table.specs.Scope.{fresh, is_set}
 use Rattle.vx_table.specs.Values.{bits_along}
 use Rattle.vx_pps.specs.declared.partition.Partition.{Partition}
@@ -40,6 +44,13 @@ pps_form = do
   p ← partition_at s
   t ← sections_form tools s
   done p
+
+-- What a reader of its fields answers that appends their items to these. Nothing is said of them where memory runs out.
+abbrev pub ReadsFields : List ℕ → List Item → Result (Unit {0}) ReadError → List Item → Type 0
+ReadsFields rbsp items (Ok u) after = (new : Place) × Reads pps_form (at_front rbsp) items (Ok u) new after
+ReadsFields rbsp items (Err errors.Memory) after = Unit {0}
+ReadsFields rbsp items (Err (errors.Refused r)) after =
+    (new : Place) × Reads {B = Unit {0}} pps_form (at_front rbsp) items (Err (errors.Refused r)) new after
 
 -- ---- what its items tell
 

@@ -38,7 +38,7 @@ pub use laws_sets::{
 pub use list::Listed;
 pub use partition::Partition;
 pub use pps::Pps;
-pub use read::{keep_pps, read_pps, write_pps};
+pub use read::{keep_pps, read_pps, read_pps_fields, write_pps};
 pub use reshape::reshape_pps;
 pub use shape::{PpsShape, TAKEN, TAKEN_FOR_FRAME};
 pub use tables::{

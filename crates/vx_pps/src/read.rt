@@ -1,7 +1,7 @@
 //! Reading, writing and sifting a picture parameter set.
 ghost use Rattle.std.specs.Prelude.{◌≡◌, ◌≤◌, ◌^◌, length, IfOk};
 ghost use Rattle.vx_table.specs.Reading.{ReadsValue};
-ghost use Rattle.vx_pps.specs.Pps.{IsSpelling, kept_of, pps_form};
+ghost use Rattle.vx_pps.specs.Pps.{IsSpelling, ReadsFields, kept_of, pps_form};
 
 use crate::halt::Halt;
 use crate::pps::Pps;
@@ -23,6 +23,24 @@ pub fn read_pps(alloc: Global, rbsp: &[u8]) -> Result<Pps, ReadError>
     let mut fields = Fields::new(alloc);
     match code_pps(alloc, &mut bits, &mut fields) {
         Ok(partition) => Ok(Pps::new(fields, partition)),
+        Err(Halt::Memory) => Err(ReadError::Memory),
+        Err(Halt::Refused(error)) => Err(error),
+    }
+}
+
+/// Reads the fields of a picture parameter set, `pic_parameter_set_rbsp()`, clause 7.3.2.5, from an RBSP of at most 2^23 bytes, and
+/// appends their items.
+///
+/// # Errors
+///
+/// The first refusal, and `into` has then gained the fields read before; want of memory.
+pub fn read_pps_fields(alloc: Global, rbsp: &[u8], into: &mut Fields) -> Result<(), ReadError>
+    requires { length rbsp.now ≤ 2 ^ 23 }
+    ensures { ReadsFields rbsp.now into.old result into.new }
+{
+    let mut bits = BitReader::new(rbsp);
+    match code_pps(alloc, &mut bits, into) {
+        Ok(_) => Ok(()),
         Err(Halt::Memory) => Err(ReadError::Memory),
         Err(Halt::Refused(error)) => Err(error),
     }

@@ -16,7 +16,7 @@ pub use laws_depends::{
     dpb_depends, fields_are_coded_once, ptl_depends, sublayer_timing_depends, timing_depends,
     timing_if_present_depends,
 };
-pub use read::{read_dpb, read_ptl, read_sublayer_timing, read_timing, read_vps};
+pub use read::{read_dpb, read_ptl, read_sublayer_timing, read_timing, read_vps, read_vps_fields};
 pub use run::{is_run, write_run};
 pub use tables::{DPB, NO_TIMING, PTL, SUBLAYER_TIMING, TIMING, VPS};
 pub use walk::{code_dpb, code_ptl, code_sublayer_timing, code_timing};

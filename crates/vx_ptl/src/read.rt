@@ -1,7 +1,8 @@
 //! Reading the structures.
 
 ghost use Rattle.std.specs.Prelude.{◌≡◌, ◌≤◌, ◌^◌, length, slice_set};
-ghost use Rattle.vx_table.specs.Reading.{Reads, ReadsValue};
+ghost use Rattle.vx_bits.specs.Place.{Place};
+ghost use Rattle.vx_table.specs.Reading.{Reads, ReadsValue, at_front};
 ghost use Rattle.vx_ptl.specs.Structures.{sublayers, vps, ptl, dpb, timing, sublayer_timing};
 
 use crate::tables::{DPB, PTL, SUBLAYER_TIMING, TIMING, VPS};
@@ -31,6 +32,20 @@ pub fn read_vps(alloc: Global, rbsp: &[u8]) -> Result<Fields, ReadError>
     ensures { ReadsValue vps rbsp.now result }
 {
     read_value(alloc, &VPS, &mut Scope::new(), rbsp)
+}
+
+/// Reads what [`read_vps`] reads, and appends the items.
+///
+/// # Errors
+///
+/// The first refusal, or want of memory. `into` has then gained the fields read before.
+pub fn read_vps_fields(rbsp: &[u8], into: &mut Fields) -> Result<(), ReadError>
+    requires { length rbsp.now ≤ 2 ^ 23 }
+    ensures { (new : Place) × Reads vps (at_front rbsp.now) into.old result new into.new }
+{
+    let mut bits = BitReader::new(rbsp);
+    let mut scope = Scope::new();
+    read_table(&VPS, &mut scope, &mut bits, into)
 }
 
 /// Reads profile, tier and level, fields 11 to 23; `max` is the highest sublayer, field 102.

@@ -1,1 +1,2 @@
+mod FieldsText
 mod PictureText

@@ -1,4 +1,5 @@
 -- What the contracts of this crate cite.
+pub mod FieldsLine
 pub mod PictureLine
 pub mod RefusalLine
 pub mod SetLine

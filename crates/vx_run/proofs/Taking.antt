@@ -46,7 +46,7 @@ use Rattle.vx_run.proofs.Told.{IsGiven, all_given, first_of_given, units_of_give
 use Rattle.vx_run.proofs.Showing.{is_end, has_ended, is_long, is_given}
 
 -- the first of units that follow one another do
-follows_front : (b : List ℕ) (all : Bool) (p : ℕ) (us vs : List UnitPlace) → FollowsFrom b all p (us ++ vs) → FollowsFrom b all p us
+pub follows_front : (b : List ℕ) (all : Bool) (p : ℕ) (us vs : List UnitPlace) → FollowsFrom b all p (us ++ vs) → FollowsFrom b all p us
 follows_front b all p [] vs f = tt
 follows_front b all p (u ∷ us) vs f = (f.0, f.1, follows_front b all u.end us vs f.2)
 
@@ -54,7 +54,7 @@ follows_front b all p (u ∷ us) vs f = (f.0, f.1, follows_front b all u.end us 
 
 module _ (R : Readers) (b given : List ℕ) (us : List UnitPlace) (readings : List Reading) (qs : List Picture) (ending : Option Ending) (are : AreSourcePictures R b qs ending) where
   -- those of the units that are seen in it are the first
-  begins_with : (all : Bool) → IsGiven b given all → FollowsFrom (seen_of given) all 0 us → read_on R [] (units_at (seen_of given) us) ≡ all_read readings → BeginsWith qs (pictures readings)
+  pub begins_with : (all : Bool) → IsGiven b given all → FollowsFrom (seen_of given) all 0 us → read_on R [] (units_at (seen_of given) us) ≡ all_read readings → BeginsWith qs (pictures readings)
   begins_with all is follow read =
       let first = first_of_given b given all us are.places are.framing is follow are.stream in
       let here : pictures_of R (units_at (seen_of b) us) ≡ pictures readings = ap (pictures_of R) (units_of_given b given all us is follow) ∙ ap (λ (o : Outcome). pictures o.before) read in
@@ -62,7 +62,7 @@ module _ (R : Readers) (b given : List ℕ) (us : List UnitPlace) (readings : Li
       (stay.0, are.done ∙ ap (λ vs. pictures_of R (units_at (seen_of b) vs)) first.1 ∙ ap (pictures_of R) (units_more (seen_of b) us first.0) ∙ stay.1 ∙ ap (λ ps. stay.0 ++ ps) here)
 
   -- where all was given, all of them
-  all_of_given : (ps : List Picture) (e : Option Ending) → IsGiven b given true → ArePictures R (seen_of given) true ps e → (qs ≡ ps) × (ending ≡ e)
+  pub all_of_given : (ps : List Picture) (e : Option Ending) → IsGiven b given true → ArePictures R (seen_of given) true ps e → (qs ≡ ps) × (ending ≡ e)
   all_of_given ps e is whole =
       let same = all_given b given is in
       let here = subst (λ (w : Bool). ArePictures R (seen_of given) w qs ending) same.1 (subst (λ (l : List ℕ). ArePictures R (seen_of l) (nat_le (length b) source_limit) qs ending) same.0 are) in
@@ -77,7 +77,7 @@ module _ (R : Readers) (b given : List ℕ) (us : List UnitPlace) (readings : Li
       are.done ∙ ap (λ vs. pictures_of R (units_at (seen_of b) vs)) same ∙ ap (pictures_of R) (units_of_given b given all us is follow) ∙ ap (λ (o : Outcome). pictures o.before) read
 
   -- up to a refusal
-  refused_behind : (f : ReaderState) (r : Refusal) (all : Bool) → is_all f.splitter ≡ all → (f.closed ≡ Some End → all ≡ true) → (f.closed ≡ Some TooLong → (all ≡ false) × (length given ≡ source_limit + 1))
+  pub refused_behind : (f : ReaderState) (r : Refusal) (all : Bool) → is_all f.splitter ≡ all → (f.closed ≡ Some End → all ≡ true) → (f.closed ≡ Some TooLong → (all ≡ false) × (length given ≡ source_limit + 1))
       → IsGiven b given all → FollowsFrom (seen_of given) all 0 us → read_on R [] (units_at (seen_of given) us) ≡ all_read readings
       → IsRefusedFor R f given us readings r → (qs ≡ pictures readings) × (ending ≡ refused_at (length us) r)
   refused_behind f r all same end long is follow read (by_bytes (inl stream)) =

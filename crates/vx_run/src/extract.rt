@@ -76,7 +76,7 @@ fn extractions_read_again()
 }
 
 /// Each picture of units has a slice of each of its subpictures.
-fn pictures_have_slices()
+pub fn pictures_have_slices()
     ensures { (R : Readers) → AreOfH266 R → HaveSlices R }
 {
     subpictures_have_slices();
@@ -251,7 +251,7 @@ fn check_picture(
 }
 
 /// What stops a command where the n-th picture isn't written.
-fn stop_of_picture(error: WriteError, n: u64) -> Stop
+pub fn stop_of_picture(error: WriteError, n: u64) -> Stop
     ensures { result ≡ stop_at error n }
 {
     match error {
@@ -276,7 +276,7 @@ fn with_one(counted: bool, count: u64, most: u64) -> u64
 }
 
 /// There has to be a picture.
-fn some_picture(pictures: u64) -> Result<(), Stop>
+pub fn some_picture(pictures: u64) -> Result<(), Stop>
     ensures some { OnOk result (0 < pictures) }
     ensures none { IfErr result (λ stop. (pictures ≡ 0) × (stop ≡ stops.Refused (Extract NO_PICTURE) (place_at 0))) }
 {

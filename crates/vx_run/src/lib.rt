@@ -19,11 +19,12 @@ mod whole;
 mod words;
 
 pub use conclude::finish;
-pub use extract::Task;
+pub use extract::{Task, pictures_have_slices, some_picture, stop_of_picture};
 pub use gather::GatherSink;
-pub use merge::merge_ends_once;
+pub use merge::{all_go_on, merge_ends_once, stop_of_round};
 pub use play::{play_ends_once, play_region};
 pub use program::run;
+pub use rounds::behind_units;
 pub use stop::Stop;
 pub use verify::verify_ends_once;
 pub use whole::run_whole;

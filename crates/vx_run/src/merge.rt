@@ -229,7 +229,7 @@ fn advance_all(
 }
 
 /// Whether all sources go on behind so many rounds, or all have ended.
-pub(crate) fn all_go_on(ended: &[bool], rounds: u64) -> Result<bool, Stop>
+pub fn all_go_on(ended: &[bool], rounds: u64) -> Result<bool, Stop>
     requires { (0 < length ended.now) × (length ended.now ≤ most_sources) }
     ensures goes { GoesBy length_refused ended.now rounds result }
     ensures stop { IfErr result IsOfCommand }
@@ -291,7 +291,7 @@ fn do_round<K: Sink>(
 }
 
 /// What stops the command where round `n` isn't put together.
-pub(crate) fn stop_of_round(error: WriteError, n: u64) -> Stop
+pub fn stop_of_round(error: WriteError, n: u64) -> Stop
     ensures { result ≡ stop_in error n }
 {
     match error {

@@ -149,7 +149,7 @@ pub(crate) fn one_more(count: u64, most: u64) -> u64
 }
 
 /// The place in source `k` behind its n-th unit.
-fn behind_units(k: u16, n: u64) -> Where
+pub fn behind_units(k: u16, n: u64) -> Where
     ensures { result ≡ place_behind k n }
 {
     Where {

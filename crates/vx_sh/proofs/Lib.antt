@@ -18,6 +18,8 @@ pub mod SameScopes
 mod Stating
 mod Reshaping
 mod Reshaped
+mod Sending
+mod Stated
 mod Filtering
 mod FirstBit
 mod Enabled

@@ -37,7 +37,7 @@ use Rattle.vx_sh.specs.declared.tables.TheConstants.{STARRED}
 use Rattle.vx_sh.specs.Depends.{kept_fields}
 use Rattle.vx_sh.specs.InForce.{at_sets, in_force_at, slice_scope}
 use Rattle.vx_sh.specs.Reshaped.{AreReshaped, GoesAt, HaveSameSlices, IsReshaped, IsShape, stated}
-use Rattle.vx_sh.specs.Value.{IsSliceOf, TellsNumbers}
+use Rattle.vx_sh.specs.Value.{IsSliceOf, TellsNumbers, values_of}
 use Rattle.vx_sh.specs.Whole.{apart_form, behind_header, header_inside, index_of}
 use Rattle.vx_sh.proofs.Reshaping as core
 use Rattle.vx_sh.proofs.Reshaping.{kept_there}
@@ -116,7 +116,7 @@ module _ (source : SliceHeader) (shape : ShShape) (n : SliceNumbers) (is : IsSha
       (there.0, record { fields = m.fields; apart = m.apart; id = m.id_told; kept = m.kept_ones; others = m.other_ones ∙ stated_is })
 
   -- its items by their stars
-  starred_ones : (items : List Item) → AreReshaped source.fields shape n items
+  pub starred_ones : (items : List Item) → AreReshaped source.fields shape n items
       → IsRewritten (apart_form (in_force_at n).table (in_force_at n).ids (in_force_at n).layout (in_force_at n).slice) (set_of STARRED) (stated n shape) (other_items (set_of STARRED) source.fields) items
   unfolding apart_form
   starred_ones items re =
@@ -131,6 +131,10 @@ module _ (source : SliceHeader) (shape : ShShape) (n : SliceNumbers) (is : IsSha
         shown_ones = sym (core.not_kept_is_starred m items [] f) ∙ re.others;
         other_ones = sym (core.kept_has_no_star m items [] f) ∙ re.kept ∙ core.kept_has_no_star (at_sets n.nal_type goes.sps goes.pps goes.header goes.ids goes.layout) source.fields goes.inside goes.fields;
       }
+
+  pub starred_values : (items : List Item) (re : AreReshaped source.fields shape n items) → (starred_ones items re).values ≡ re.fields.first ++ re.fields.behind
+  unfolding starred_ones
+  starred_values items re = refl
 
   pub reshapes : {others stated_ones : List Item} {table : RplTable} {ids : List ℕ} {layout : Numbers} {slice : List ℕ} (after : List Item) (result : Result (Unit {0}) SpellError) → others ≡ other_items (set_of STARRED) source.fields
       → stated_ones ≡ stated n shape → table ≡ structures n.sps.now → slice ≡ slice_scope n.nal_type n.sps.now n.pps.now n.header.now (in_force n.sps.now n.pps.now) → ids ≡ n.ids.now → layout ≡ n.layout.now
@@ -172,3 +176,7 @@ can_be_written source shape n items re = record {
   others = n.header.now.fields;
   given = sym (ap (λ xs. xs ++ n.header.now.fields) (no_items (header_inside (in_force_at n).table (in_force_at n).sets re.fields.at)));
 }
+
+pub written_values : (source : List Item) (shape : ShShape) (n : SliceNumbers) (items : List Item) (re : AreReshaped source shape n items) → values_of (can_be_written source shape n items re).slice ≡ values_of re.fields
+unfolding can_be_written
+written_values source shape n items re = refl

@@ -120,6 +120,13 @@ pub record IsReshaped (source : SliceHeader) (shape : ShShape) (n : SliceNumbers
   pub address : written.address ≡ source.address
   pub lists : written.lists ≡ source.lists
 
+-- The bytes spell a rewritten slice header, whose numbers are those that its items tell.
+pub record IsSent (source : SliceHeader) (shape : ShShape) (n : SliceNumbers) (bytes : List ℕ) : Type 0 where
+  pub header : SliceHeader
+  pub reshaped : IsReshaped source shape n header
+  pub told : TellsNumbers (in_force_at n) header
+  pub spelled : IsSpelling (in_force_at n) header.fields n.header.now.fields bytes
+
 -- What is written of it begins an RBSP, whatever payload follows, and is read as nothing but it, of the same bytes; and its kept fields
 -- are the source's.
 pub record IsReadAgain (source written : SliceHeader) (n : At) (bytes payload : List ℕ) : Type 0 where

@@ -1,3 +1,4 @@
 -- What serves bodies alone.
 pub mod Reading
 pub mod Writing
+pub mod Sending

@@ -8,6 +8,7 @@ mod laws;
 mod numbers;
 mod read;
 mod reshape;
+mod send;
 mod shape;
 mod tables;
 mod walk;
@@ -20,8 +21,9 @@ pub use laws::{
     slice_scopes_agree, slices_agree_on_kept, slices_depend, slices_go_again, slices_keep,
     spelling_is_read, spelling_is_short,
 };
-pub use numbers::{SliceNumbers, read_sh, write_sh};
+pub use numbers::{SliceNumbers, read_sh, read_sh_fields, write_sh};
 pub use reshape::reshape_sh;
+pub use send::SliceSender;
 pub use shape::ShShape;
 pub use tables::{
     ACTIVE, ADDRESS, ALIGNMENT, CHROMA_QP_AND_FILTERS, END, FILTER_HERE, HEADER_INSIDE, INTER,

@@ -1,15 +1,18 @@
 //! Slice headers by the sets, the picture header and the layout in force.
 ghost use Rattle.std.specs.Prelude.{◌≡◌, ◌^◌, ◌≤◌, length, IfOk};
+ghost use Rattle.vx_bits.specs.Place.{Place};
+ghost use Rattle.vx_table.specs.Reading.{Reads, at_front};
+ghost use Rattle.vx_sh.specs.Whole.{slice_form};
 ghost use Rattle.vx_sh.specs.Value.{ReadsSlice, IsSliceOf, IsSpelling};
 ghost use Rattle.vx_sh.specs.InForce as scopes;
 ghost use Rattle.vx_sh.specs.InForce.{in_force_at};
 
 use crate::context::Context;
 use crate::header::SliceHeader;
-use crate::read::read_slice_at;
+use crate::read::{read_fields_at, read_slice_at};
 use crate::write::write_slice_at;
 use std::alloc::{AllocError, Global};
-use vx_bits::{IdList, ReadError};
+use vx_bits::{Fields, IdList, ReadError};
 use vx_fields::names::rpl::{ENTRIES_0, ENTRIES_1};
 use vx_fields::names::sh::{DEFAULT_ACTIVE_0, DEFAULT_ACTIVE_1, EXTRA_SH_BITS, NAL_TYPE};
 use vx_fields::ph::ph_gdr_or_irap_pic_flag;
@@ -88,6 +91,36 @@ pub fn read_sh(
     };
     let read = read_slice_at(alloc, rbsp, &context)?;
     Ok(read)
+}
+
+/// Reads the fields of the slice header that an RBSP begins with, `slice_header()`, clause 7.3.7, in the order of the bits, with those of
+/// the picture header that may stand inside, and appends their items.
+///
+/// # Errors
+///
+/// As [`read_sh`]; `into` has then gained the fields read before.
+pub fn read_sh_fields(
+    rbsp: &[u8],
+    numbers: &SliceNumbers<'_>,
+    into: &mut Fields,
+) -> Result<(), ReadError>
+    requires size { length rbsp.now ≤ 2 ^ 23 }
+    requires few { length numbers.now.ids.now ≤ 1000 }
+    requires one_each { length numbers.now.ids.now ≡ length numbers.now.layout.now.subpics }
+    ensures { (new : Place) × Reads (slice_form (in_force_at numbers.now)) (at_front rbsp.now) into.old result new into.new }
+{
+    let (sps, pps) = (numbers.sps, numbers.pps);
+    let sets = in_force(sps, pps);
+    let slice = slice_scope(numbers.nal_type, sps, pps, numbers.header, &sets);
+    let context = Context {
+        sets: &sets,
+        slice: &slice,
+        table: sps.table(),
+        layout: numbers.layout,
+        ids: numbers.ids,
+    };
+    read_fields_at(rbsp, &context, into)?;
+    Ok(())
 }
 
 /// The bytes of a slice header, `slice_header()`, clause 7.3.7, with the picture header of the numbers where it stands inside.

@@ -1,6 +1,8 @@
 //! Reading a slice header.
 ghost use Rattle.std.specs.Prelude.{◌≡◌, ◌^◌, ◌≤◌, [], length};
-ghost use Rattle.vx_sh.specs.Whole.{header_inside, at_of};
+ghost use Rattle.vx_bits.specs.Place.{Place};
+ghost use Rattle.vx_table.specs.Reading.{Reads, at_front};
+ghost use Rattle.vx_sh.specs.Whole.{header_inside, at_of, slice_form};
 ghost use Rattle.vx_sh.specs.Value.{ReadsSlice};
 ghost use Rattle.vx_sh.specs.inner.Reading.{IsPassed, ReadsFields};
 
@@ -39,6 +41,34 @@ fn read_fields(
     pass_inside(n, &scope, bits)?;
     code_behind(n, &mut scope, bits, into)?;
     Ok(scope)
+}
+
+/// Reads all fields, those of the picture header inside too.
+fn read_all(n: &Context<'_>, bits: &mut BitReader<'_>, into: &mut Fields) -> Result<(), ReadError>
+    ensures { Reads (slice_form (at_of n.now)) bits.old into.old result bits.new into.new }
+{
+    let mut scope = *n.slice;
+    code_table(&HEADER_INSIDE, &mut scope, bits, into)?;
+    code_inside(n, &scope, bits, into)?;
+    code_behind(n, &mut scope, bits, into)
+}
+
+/// Reads the fields of the slice header that an RBSP begins with, with those of the picture header that may stand inside, and appends
+/// their items.
+///
+/// # Errors
+///
+/// As [`read_slice_at`]; `into` has then gained the fields read before.
+pub(crate) fn read_fields_at(
+    rbsp: &[u8],
+    n: &Context<'_>,
+    into: &mut Fields,
+) -> Result<(), ReadError>
+    requires { length rbsp.now ≤ 2 ^ 23 }
+    ensures { (new : Place) × Reads (slice_form (at_of n.now)) (at_front rbsp.now) into.old result new into.new }
+{
+    let mut bits = BitReader::new(rbsp);
+    read_all(n, &mut bits, into)
 }
 
 /// Reads the slice header that an RBSP begins with, `slice_header()`, clause 7.3.7, and answers how many bytes it takes. The

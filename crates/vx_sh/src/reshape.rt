@@ -7,9 +7,10 @@ ghost use Rattle.vx_ph.specs.InForce.{in_force};
 ghost use Rattle.vx_ph.specs.inner.Makes.{Makes};
 ghost use Rattle.vx_sh.specs.declared.tables.TheConstants as tables;
 ghost use Rattle.vx_sh.specs.InForce.{in_force_at};
-ghost use Rattle.vx_sh.specs.Reshaped.{id_items, filter_items, use_items, qp_items, stated, IsShape, GoesAt, AreReshaped, IsReshaped};
+ghost use Rattle.vx_sh.specs.Reshaped.{id_items, filter_items, qp_items, stated, IsShape, GoesAt, AreReshaped, IsReshaped};
 ghost use Rattle.vx_sh.specs.Value.{IsSliceOf, TellsNumbers};
 ghost use Rattle.vx_sh.specs.Whole.{apart_form};
+ghost use Rattle.vx_sh.specs.inner.Sending.{uses_at};
 
 use crate::context::Context;
 use crate::front::{code_apart, index_of};
@@ -25,7 +26,7 @@ use vx_fields::sh::{
     sh_qp_delta, sh_subpic_id,
 };
 use vx_fields::sps::{sps_alf_enabled_flag, sps_subpic_info_present_flag};
-use vx_ph::{PictureHeader, in_force, others_of};
+use vx_ph::{in_force, others_of};
 use vx_rpl::resolve_lists;
 use vx_sps::Sps;
 use vx_table::{Rewriter, Scope, SpellError, Unwritten, set_of};
@@ -73,46 +74,41 @@ fn push_filter(sps: &Sps, filter: &Fields, into: &mut Fields) -> Result<(), Allo
     into.extend_from_slice(filter.as_slice())
 }
 
-/// What is used of LMCS and scaling lists, where the picture header has them on.
+/// What is used of LMCS and scaling lists, where the picture header of the slice's scope has them on.
 fn push_uses(
-    header: &PictureHeader,
+    slice: &Scope,
     uses_lmcs: bool,
     uses_scaling: bool,
     into: &mut Fields,
 ) -> Result<(), AllocError>
-    ensures { OnOk result (into.new ≡ into.old ++ use_items header.now.fields uses_lmcs uses_scaling) }
+    ensures { OnOk result (into.new ≡ into.old ++ uses_at slice.now uses_lmcs uses_scaling) }
 {
-    let mut scope = Scope::new();
-    scope.load(&header.fields);
     push_where(
-        scope.latest(ph_lmcs_enabled_flag) != 0,
+        slice.latest(ph_lmcs_enabled_flag) != 0,
         item(sh_lmcs_used_flag, u32::from(uses_lmcs)),
         into,
     )?;
     push_where(
-        scope.latest(ph_explicit_scaling_list_enabled_flag) != 0,
+        slice.latest(ph_explicit_scaling_list_enabled_flag) != 0,
         item(sh_explicit_scaling_list_used_flag, u32::from(uses_scaling)),
         into,
     )
 }
 
 /// All that is stated, in order.
-fn stated_items(
+pub(crate) fn stated_items(
     alloc: Global,
     numbers: &SliceNumbers<'_>,
+    slice: &Scope,
     shape: &ShShape<'_>,
 ) -> Result<Fields, AllocError>
+    requires { slice.now ≡ (in_force_at numbers.now).slice }
     ensures { IfOk result (λ items. items ≡ stated numbers.now shape.now) }
 {
     let mut into = Fields::new(alloc);
     push_id(numbers.sps, shape.subpic_id, &mut into)?;
     push_filter(numbers.sps, shape.filter, &mut into)?;
-    push_uses(
-        numbers.header,
-        shape.uses_lmcs,
-        shape.uses_scaling,
-        &mut into,
-    )?;
+    push_uses(slice, shape.uses_lmcs, shape.uses_scaling, &mut into)?;
     into.push(Item {
         field: sh_qp_delta,
         value: i64::from(shape.qp_delta),
@@ -168,7 +164,7 @@ fn reshaped_items(
         ids: numbers.ids,
     };
     let kept = others_of(alloc, &source.fields, &set_of(&STARRED))?;
-    let stated = stated_items(alloc, numbers, shape)?;
+    let stated = stated_items(alloc, numbers, &slice, shape)?;
     let mut items = Fields::new(alloc);
     match put_together(&stated, &kept, &context, &mut items) {
         Ok(()) => Ok(items),

@@ -20,7 +20,7 @@ pub use laws::{
     spelling_is_short, written_is_read,
 };
 pub use laws_reshaped::{reshaped_keeps, reshaped_says, reshaped_signals};
-pub use read::{keep_sps, read_sps, write_sps};
+pub use read::{keep_sps, read_sps, read_sps_fields, write_sps};
 pub use reshape::reshape_sps;
 pub use shape::{SpsShape, SubpicPlan};
 pub use sps::Sps;

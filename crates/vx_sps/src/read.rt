@@ -2,7 +2,8 @@
 
 ghost use Rattle.std.specs.Prelude.{◌≡◌, ◌≤◌, ◌^◌, length, IfOk};
 ghost use Rattle.vx_table.specs.Kept.{Keeps};
-ghost use Rattle.vx_table.specs.Reading.{Reads, ReadsValue};
+ghost use Rattle.vx_bits.specs.Place.{Place};
+ghost use Rattle.vx_table.specs.Reading.{Reads, ReadsValue, at_front};
 ghost use Rattle.vx_table.specs.Writing.{Writes};
 ghost use Rattle.vx_sps.specs.Structure.{sps_form};
 ghost use Rattle.vx_sps.specs.Set.{IsSpelling};
@@ -35,14 +36,27 @@ fn keep_fields(items: &mut Unwritten<'_>, kept: &mut Fields) -> Result<(), Spell
     code_sps(&mut Scope::new(), items, kept)
 }
 
+/// Reads the fields of a sequence parameter set, `seq_parameter_set_rbsp()`, clause 7.3.2.4, from an RBSP of at most 2^23 bytes, and
+/// appends their items.
+///
+/// # Errors
+///
+/// The first refusal, or want of memory. `into` has then gained the fields read before.
+pub fn read_sps_fields(rbsp: &[u8], into: &mut Fields) -> Result<(), ReadError>
+    requires { length rbsp.now ≤ 2 ^ 23 }
+    ensures { (new : Place) × Reads sps_form (at_front rbsp.now) into.old result new into.new }
+{
+    let mut bits = BitReader::new(rbsp);
+    read_fields(&mut bits, into)
+}
+
 /// Reads the items of a set.
 fn read_items(alloc: Global, rbsp: &[u8]) -> Result<Fields, ReadError>
     requires { length rbsp.now ≤ 2 ^ 23 }
     ensures { ReadsValue sps_form rbsp.now result }
 {
-    let mut bits = BitReader::new(rbsp);
     let mut items = Fields::new(alloc);
-    read_fields(&mut bits, &mut items)?;
+    read_sps_fields(rbsp, &mut items)?;
     Ok(items)
 }
 

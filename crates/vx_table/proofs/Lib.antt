@@ -11,6 +11,7 @@ pub mod Dependence
 pub mod Chains
 pub mod Again
 pub mod Rewriting
+pub mod Sending
 pub mod Keeping
 pub mod Rewrites
 pub mod Loading

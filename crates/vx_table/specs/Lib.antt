@@ -22,5 +22,6 @@ pub mod Kept
 pub mod Shown
 pub mod Sizes
 pub mod Rewritten
+pub mod Sent
 pub mod Rewrites
 pub mod Loaded

@@ -5,6 +5,7 @@ ghost use Rattle.vx_table.specs.Scope as numbers;
 
 /// The number that formulas see of a value.
 #[tactic(auto, unfolding(crate::specs::Scope::natural))]
+#[inline(always)]
 pub fn natural(value: i64) -> u32
     ensures { result ≡ numbers.natural value }
 {

@@ -14,6 +14,7 @@ use crate::scope::Scope;
 use crate::walk::{has_value, split_block};
 
 /// Whether a set of fields and names has this one; a set is a scope in which they have a number.
+#[inline(always)]
 pub(crate) fn has(names: &Scope, n: u16) -> bool
     ensures { result ≡ sets.has names.now n }
 {

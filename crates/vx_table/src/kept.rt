@@ -17,6 +17,7 @@ use vx_bits::{Fields, Item};
 
 /// Whether a coding is that of a field, or of an absent one that stands among the kept ones.
 #[tactic(auto, unfolding(crate::specs::Kept::stands_for_field))]
+#[inline(always)]
 pub(crate) fn stands_for_field<N: Copy>(coding: Coding<N>) -> bool
     ensures { result ≡ kept.stands_for_field coding }
 {
@@ -27,6 +28,7 @@ pub(crate) fn stands_for_field<N: Copy>(coding: Coding<N>) -> bool
 }
 
 /// Appends the item of a kept field.
+#[inline(always)]
 fn keep_item(into: &mut Fields, cell: Cell<u32>, value: i64) -> Result<(), AllocError>
     ensures ok { OnOk result (into.new ≡ into.old ++ kept_item cell value) }
     ensures err { OnErr result (into.new ≡ into.old) }
@@ -50,6 +52,7 @@ impl<'a> Coder<Fields> for Unwritten<'a> {
 
     ghost step = { KeepsField };
 
+    #[inline(always)]
     fn code(&mut self, items: &mut Fields, cell: Cell<u32>) -> Result<i64, SpellError> {
         let mut behind = self.fork();
         let Some(value) = take_value(&mut behind, cell) else {

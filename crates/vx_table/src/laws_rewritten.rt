@@ -1,5 +1,6 @@
 //! Laws of rewriting: functions that do nothing, each with a law as its contract.
 ghost use Rattle.vx_table.specs.Rewrites.{WhatGoesIsRewritten, CopiedRewrites, ReplacedRewrites, MixedRewrites, GivenGoes, RewritesTogether, AbsentRewrites, PresentRewrites, NothingRewrites, ValuesTake, TakesAgain, TakesTogether, TurnsTake, RewrittenIsRead, TablesLeave, SectionsLeave, LeavesTogether, LeavesPresent, LeavesAgree, SectionsTogether};
+ghost use Rattle.vx_table.specs.Sent.{SentAsRewritten, SendsRewritten};
 ghost use Rattle.vx_table.specs.Rewritten.{RewritesOneWay, RewrittenKeeps, SectionsFillNone, MakesRewritten, MadeIsRewritten};
 
 /// The items of some fields and those of the others tell the structure that has both.
@@ -64,4 +65,10 @@ pub fn sections_together()
 pub fn rewritten_keeps()
     ensures keeps { RewrittenKeeps }
     ensures test { SectionsFillNone }
+{}
+
+/// A sender does what a rewriter does and a writer behind it; so it writes the rewritten structure.
+pub fn sent_as_rewritten()
+    ensures both { SentAsRewritten }
+    ensures writes { SendsRewritten }
 {}

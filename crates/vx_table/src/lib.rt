@@ -5,7 +5,8 @@
 //! items, [`write_table`] the walk with a bit writer, which takes them, and [`keep_table`] sifts them to those of
 //! kept fields. [`Scope`] has the numbers that conditions, widths and ranges read. [`depends_only_on`] and
 //! [`keeps_only`] test of a table which of these numbers its fields depend on, and which fields it keeps.
-//! [`Rewriter`] is the coder that puts a structure together of the items of some fields and those of the others.
+//! [`Rewriter`] is the coder that puts a structure together of the items of some fields and those of the others, and
+//! [`Sender`] the one that writes it in the same walk.
 //! docs/TABLES.md says how a table is read and how one is added.
 #![tactic(auto)]
 #![allow(non_upper_case_globals)]
@@ -30,6 +31,7 @@ mod reader;
 mod rewriter;
 mod rows;
 mod scope;
+mod sender;
 mod stars;
 mod walk;
 mod writer;
@@ -47,7 +49,7 @@ pub use laws_loaded::{items_load, number_below, number_of_items};
 pub use laws_numbers::ceil_log2_is_least;
 pub use laws_rewritten::{
     items_take, makes_rewritten, parts_leave, parts_rewrite, rewrites_one_way, rewritten_is_read,
-    rewritten_keeps, sections_together, what_goes_is_rewritten,
+    rewritten_keeps, sections_together, sent_as_rewritten, what_goes_is_rewritten,
 };
 pub use laws_rows::first_row_first;
 pub use laws_sizes::bits_at_most;
@@ -62,6 +64,7 @@ pub use reader::{read_table, read_value, report, take_code, take_field};
 pub use rewriter::{Rewriter, rewrite_parts, rewrite_table, set_of};
 pub use rows::{Cell, Coding, Fault, Formula, Limits, Presence, Row, Term};
 pub use scope::Scope;
+pub use sender::Sender;
 pub use stars::{keeps_only, parts_keep_only};
 pub use walk::{Coder, code_table, coding_at, coding_of, has_value};
 pub use writer::{SpellError, Unwritten, take_value, write_code, write_table};

@@ -17,6 +17,7 @@ impl<'a> Coder<()> for BitReader<'a> {
 
     ghost step = { PassesField };
 
+    #[inline(always)]
     fn code(&mut self, items: &mut (), cell: Cell<u32>) -> Result<i64, Refusal> {
         take_field(self, cell)
     }

@@ -8,6 +8,7 @@ ghost use Rattle.vx_table.specs.Values.{IsValueOf};
 use crate::rows::{Cell, Coding, Fault, Limits};
 
 /// Whether a value lies in a range.
+#[inline(always)]
 fn is_within(low: i64, value: i64, high: i64) -> bool
     ensures { IsTrue result ↔ ((low ≤ℤ value) × (value ≤ℤ high)) }
 {
@@ -15,6 +16,7 @@ fn is_within(low: i64, value: i64, high: i64) -> bool
 }
 
 /// The largest number of `u(n)` for a width of at most 32.
+#[inline(always)]
 fn largest(width: u32) -> i64
     requires { width ≤ 32 }
     ensures { result ≡ pos (2 ^ width - 1) }
@@ -29,6 +31,7 @@ const LAST_NUMBER: i64 = 0xffff_fffe;
 const LAST_SIGNED: i64 = 0x7fff_ffff;
 
 /// Whether a coding has a code for the value.
+#[inline(always)]
 pub fn has_code(coding: Coding<u32>, value: i64) -> bool
     requires { IsCodable coding }
     ensures { IsTrue result ↔ HasCode coding value }
@@ -46,6 +49,7 @@ pub fn has_code(coding: Coding<u32>, value: i64) -> bool
 
 /// The fault of a value, where it breaks its range.
 #[tactic(auto, unfolding(crate::specs::Spelling::fault_of))]
+#[inline(always)]
 pub fn fault_of(limits: Limits<u32>, value: i64) -> Option<Fault>
     ensures { result ≡ spelling.fault_of limits value }
 {
@@ -79,6 +83,7 @@ fn is_multiple(unit: u32, value: i64) -> bool
 }
 
 /// Whether a field may have the value: whether it has a code that keeps the range.
+#[inline(always)]
 pub fn is_value(cell: Cell<u32>, value: i64) -> bool
     requires { IsCodable cell.coding }
     ensures { IsTrue result ↔ IsValueOf cell value }

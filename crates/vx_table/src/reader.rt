@@ -19,6 +19,7 @@ use vx_bits::{BitCause, BitReader, Fields, Item, ReadError, Refusal};
 /// # Errors
 ///
 /// Why no code begins here; the reader is then as it was.
+#[inline(always)]
 pub fn take_code(bits: &mut BitReader<'_>, coding: Coding<u32>) -> Result<i64, BitCause>
     requires { IsCodable coding }
     ensures { TakesCode coding bits.old result bits.new }
@@ -70,6 +71,7 @@ pub fn report(fault: Fault, field: u16, bit: u32) -> Refusal
 /// # Errors
 ///
 /// The field's refusal; the reader is then as it was.
+#[inline(always)]
 pub fn take_field(bits: &mut BitReader<'_>, cell: Cell<u32>) -> Result<i64, Refusal>
     requires { IsCodable cell.coding }
     ensures { TakesField cell bits.old result bits.new }
@@ -93,6 +95,7 @@ impl<'a> Coder<Fields> for BitReader<'a> {
 
     ghost step = { ReadsField };
 
+    #[inline(always)]
     fn code(&mut self, items: &mut Fields, cell: Cell<u32>) -> Result<i64, ReadError> {
         let mut behind = self.fork();
         let value = match take_field(&mut behind, cell) {
@@ -107,6 +110,7 @@ impl<'a> Coder<Fields> for BitReader<'a> {
 
 /// Appends the item of a field's value; a gap has none.
 #[tactic(auto, unfolding(crate::specs::Spelling::item_of))]
+#[inline(always)]
 pub(crate) fn push(items: &mut Fields, cell: Cell<u32>, value: i64) -> Result<(), ReadError>
     ensures ok { OnOk result (items.new ≡ items.old ++ spelling.item_of cell value) }
     ensures err { OnErr result (items.new ≡ items.old) }

@@ -59,6 +59,7 @@ impl<'a> Rewriter<'a> {
     }
 
     /// Takes the item of the next field's value; a gap has the value 0 and no item.
+    #[inline(always)]
     fn take(&mut self, cell: Cell<u32>) -> Option<i64>
         requires { IsCodable cell.coding }
         ensures { TakesNext cell self.old result self.new }
@@ -78,6 +79,7 @@ impl<'a> Coder<Fields> for Rewriter<'a> {
 
     ghost step = { RewritesField };
 
+    #[inline(always)]
     fn code(&mut self, items: &mut Fields, cell: Cell<u32>) -> Result<i64, SpellError> {
         let Some(value) = self.take(cell) else {
             return Err(SpellError::NoValue);

@@ -36,6 +36,7 @@ impl Scope {
     }
 
     /// The latest number of a field or a name.
+    #[inline(always)]
     pub fn latest(&self, of: u16) -> u32
         ensures { result ≡ slice_index self.now of }
     {
@@ -44,6 +45,7 @@ impl Scope {
 
     /// Gives a field or a name its number. A number past the last one of fields and names has none.
     #[tactic(auto, using(std::proofs::lemmas::List::set_past))]
+    #[inline(always)]
     pub fn set(&mut self, of: u16, number: u32)
         ensures { self.new ≡ slice_set self.old of number }
     {
@@ -72,6 +74,7 @@ impl Scope {
     }
 
     /// The number of a term.
+    #[inline(always)]
     fn term(&self, term: Term) -> u32
         ensures { result ≡ latest self.now term }
     {
@@ -83,6 +86,7 @@ impl Scope {
 
     /// The number of a formula.
     #[tactic(auto, unfolding(crate::specs::Scope::value))]
+    #[inline(always)]
     pub fn value(&self, formula: Formula) -> u32
         ensures { result ≡ value self.now formula }
     {

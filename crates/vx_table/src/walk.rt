@@ -31,6 +31,7 @@ pub trait Coder<I> {
 
 /// A field's coding at a scope.
 #[tactic(auto, unfolding(crate::specs::Forms::coding_at))]
+#[inline(always)]
 pub fn coding_at(scope: &Scope, coding: Coding<Formula>) -> Coding<u32>
     ensures value { result ≡ forms.coding_at scope.now coding }
     ensures width { IsCodable result }
@@ -49,6 +50,7 @@ pub fn coding_at(scope: &Scope, coding: Coding<Formula>) -> Coding<u32>
 
 /// Whether the coding is that of a field with a value, and not of a gap.
 #[tactic(auto, unfolding(crate::specs::Forms::has_value))]
+#[inline(always)]
 pub fn has_value<N: Copy>(coding: Coding<N>) -> bool
     ensures { result ≡ forms.has_value coding }
 {
@@ -82,6 +84,7 @@ pub fn coding_of(table: &[Row], field: u16) -> Option<Coding<Formula>>
 
 /// A field's range at a scope.
 #[tactic(auto, unfolding(crate::specs::Forms::limits_at))]
+#[inline(always)]
 fn limits(scope: &Scope, limits: Limits<Formula>) -> Limits<u32>
     ensures { result ≡ limits_at scope.now limits }
 {
@@ -101,6 +104,7 @@ fn limits(scope: &Scope, limits: Limits<Formula>) -> Limits<u32>
 }
 
 /// A field at a scope.
+#[inline(always)]
 fn cell(scope: &Scope, row: Cell<Formula>) -> Cell<u32>
     ensures { result ≡ cell_at scope.now row }
 {
@@ -114,6 +118,7 @@ fn cell(scope: &Scope, row: Cell<Formula>) -> Cell<u32>
 
 /// Gives a field its value; a gap has none.
 #[tactic(auto, unfolding(crate::specs::Forms::after))]
+#[inline(always)]
 fn set_field(scope: &mut Scope, cell: Cell<u32>, value: i64)
     ensures { scope.new ≡ after scope.old cell value }
 {
@@ -123,6 +128,7 @@ fn set_field(scope: &mut Scope, cell: Cell<u32>, value: i64)
 }
 
 /// Codes one field, and gives the scope its value.
+#[inline(always)]
 fn code_field<I, C: Coder<I>>(
     row: Cell<Formula>,
     scope: &mut Scope,
@@ -138,6 +144,7 @@ fn code_field<I, C: Coder<I>>(
 }
 
 /// The rows of a block, which are at most those that are left, and the rows behind it.
+#[inline(always)]
 pub(crate) fn split_block(rows: &[Row], inside: usize) -> (&[Row], &[Row])
     ensures block { result.0.now ≡ take (min inside (length rows.now)) rows.now }
     ensures behind { result.1.now ≡ drop (min inside (length rows.now)) rows.now }

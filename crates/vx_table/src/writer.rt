@@ -56,6 +56,7 @@ impl<'a> Unwritten<'a> {
     }
 
     /// The same items, which are taken by themselves.
+    #[inline(always)]
     pub fn fork(&self) -> Unwritten<'a>
         ensures { result ≡ self.now }
     {
@@ -74,6 +75,7 @@ impl<'a> Unwritten<'a> {
     }
 
     /// Takes the next item, where one is left.
+    #[inline(always)]
     pub fn next(&mut self) -> Option<Item>
         ensures { MatchOption result ((self.old ≡ []) × (self.new ≡ [])) (λ item. self.old ≡ item ∷ self.new) }
     {
@@ -87,6 +89,7 @@ impl<'a> Unwritten<'a> {
 }
 
 /// The value of the next field; 0 for a gap, which has no item.
+#[inline(always)]
 fn next_value(items: &mut Unwritten<'_>, field: u16, coding: Coding<u32>) -> Option<i64>
     ensures { TellsValue field coding items.old result items.new }
 {
@@ -102,6 +105,7 @@ fn next_value(items: &mut Unwritten<'_>, field: u16, coding: Coding<u32>) -> Opt
 /// Takes the item of the next field's value, where it is one that the field may have; a gap has the value 0 and no item.
 ///
 /// Where it answers `None`, the items may be fewer: a coder takes the value from a fork.
+#[inline(always)]
 pub fn take_value(items: &mut Unwritten<'_>, cell: Cell<u32>) -> Option<i64>
     requires { IsCodable cell.coding }
     ensures { TakesValue cell items.old result items.new }
@@ -116,6 +120,7 @@ pub fn take_value(items: &mut Unwritten<'_>, cell: Cell<u32>) -> Option<i64>
 }
 
 /// A value as a number, where it is one of 32 bits.
+#[inline(always)]
 fn number(value: i64) -> u32
     ensures { (n : ℕ) → value ≡ pos n → n < 2 ^ 32 → result ≡ n }
 {
@@ -127,6 +132,7 @@ fn number(value: i64) -> u32
 /// # Errors
 ///
 /// Where memory runs out; the bits are then as they were.
+#[inline(always)]
 pub fn write_code(bits: &mut BitWriter, coding: Coding<u32>, value: i64) -> Result<(), AllocError>
     requires width { IsCodable coding }
     requires code { HasCode coding value }
@@ -150,6 +156,7 @@ impl<'a> Coder<Unwritten<'a>> for BitWriter {
 
     ghost step = { WritesField };
 
+    #[inline(always)]
     fn code(&mut self, items: &mut Unwritten<'a>, cell: Cell<u32>) -> Result<i64, SpellError> {
         let mut behind = items.fork();
         let Some(value) = take_value(&mut behind, cell) else {

@@ -17,9 +17,6 @@ use Rattle.vx_ph.specs.Reshaped as ph_reshaped
 use Rattle.vx_sh.specs.declared.header.SliceHeader.{SliceHeader as SliceValue}
 use Rattle.vx_sh.specs.declared.numbers.SliceNumbers.{SliceNumbers}
 use Rattle.vx_sh.specs.declared.shape.ShShape.{ShShape}
-use Rattle.vx_sh.specs.InForce.{in_force_at}
-use Rattle.vx_sh.specs.Reshaped as sh_reshaped
-use Rattle.vx_sh.specs.Value.{IsSpelling}
 use Rattle.vx_pic.specs.Inputs.{body_of, is_used}
 use Rattle.vx_pic.specs.Parts.{Parts, SlicePart, read_of}
 use Rattle.vx_pic.specs.PictureLayout.{ids_of}
@@ -59,12 +56,6 @@ pub record HasShape (first q : Parts) (k : ℕ) (h : SliceValue) (items : List I
   pub qp : (pos 26 +ℤ signed first.pps pps.pps_init_qp_minus26) +ℤ shape.qp_delta ≡ slice_qp q.pps q.header.fields (read_of h)
   pub low : neg_ℤ (pos 75) ≤ℤ shape.qp_delta
   pub high : shape.qp_delta ≤ℤ pos 75
-
--- The bytes of a slice header that says what a shape says, and all else as its source.
-pub record IsWritten (source : SliceValue) (shape : ShShape) (numbers : SliceNumbers) (bytes : List ℕ) : Type 0 where
-  pub header : SliceValue
-  pub reshaped : sh_reshaped.IsReshaped source shape numbers header
-  pub spelled : IsSpelling (in_force_at numbers) header.fields numbers.header.now.fields bytes
 
 -- ---- a round
 

@@ -8,40 +8,34 @@ use Rattle.vx_merge.specs.Rounds.{picture_at}
 use Rattle.vx_merge.specs.inner.Fronts.{HasShape}
 use Rattle.vx_merge.specs.inner.Ready.{ids_in}
 use Rattle.vx_merge.proofs.Reading.{picture_read}
-use Rattle.vx_merge.proofs.SliceFronts.{few_ids, goes_at, is_front, is_shape, one_each, some_round}
+use Rattle.vx_merge.proofs.SliceFronts.{goes_at, is_front, is_shape, some_round}
 use Rattle.vx_merge.proofs.fronts.slice_front.Goals as goal
 
-pub written_header-requires-clause-shape : goal.written_header-requires-clause-shape
-written_header-requires-clause-shape c =
+pub send-requires-clause-shape : goal.send-requires-clause-shape
+send-requires-clause-shape c =
     let round = c.args.round.now in
     let n = c.args.needed.now in
-    let m = c.args.numbers.now in
+    let m = c.args.sender.now in
     let q : Parts = c.index-round-k.result in
     let h = c.slice-slice.result.header.now in
     let shape = c.slice_shape-shape.result in
     let q_is = picture_read round c.args.k c.index-round-k.result c.requires.k c.index-round-k.is in
-    let first_is = picture_read round 0 c.index-round-0-2.result (some_round round n m c.requires.numbers) c.index-round-0-2.is in
+    let first_is = picture_read round 0 c.index-round-0-2.result (some_round round n m c.requires.sender) c.index-round-0-2.is in
     let has = subst (λ f. HasShape (picture_at round 0) q c.args.k h f shape) c.in_ok-filter.ensures
     (subst (λ (p : Parts). HasShape p q c.args.k h c.in_ok-filter.filter shape) first_is c.slice_shape-shape.ensures) in
-    is_shape round n m c.requires.numbers c.slice_has_filter.ensures c.args.k c.requires.k q q_is h c.header-header.ensures.read
+    is_shape round n m c.requires.sender c.slice_has_filter.ensures c.args.k c.requires.k q q_is h c.header-header.ensures.read
     c.slice-slice.ensures.subpic c.slice-slice.ensures.read shape has
 
-pub written_header-requires-clause-source : goal.written_header-requires-clause-source
-written_header-requires-clause-source c =
+pub send-requires-clause-source : goal.send-requires-clause-source
+send-requires-clause-source c =
     let round = c.args.round.now in
     let n = c.args.needed.now in
-    let m = c.args.numbers.now in
+    let m = c.args.sender.now in
     let q : Parts = c.index-round-k.result in
     let q_is = picture_read round c.args.k c.index-round-k.result c.requires.k c.index-round-k.is in
-    goes_at round n m c.requires.numbers c.slice_has_filter.ensures c.args.k c.requires.k q q_is c.slice-slice.result.header.now
+    goes_at round n m c.requires.sender c.slice_has_filter.ensures c.args.k c.requires.k q q_is c.slice-slice.result.header.now
     c.header-header.ensures.read c.slice-slice.ensures.subpic c.slice-slice.ensures.read
     c.slice_shape-shape.result.subpic_id c.slice_shape-shape.ensures.subpic
-
-pub written_header-requires-clause-few : goal.written_header-requires-clause-few
-written_header-requires-clause-few c = few_ids c.args.round.now c.args.needed.now c.args.numbers.now c.requires.numbers
-
-pub written_header-requires-clause-one_each : goal.written_header-requires-clause-one_each
-written_header-requires-clause-one_each c = one_each c.args.round.now c.args.needed.now c.args.numbers.now c.requires.numbers
 
 pub plain_unit-requires-clause-ends : goal.plain_unit-requires-clause-ends
 plain_unit-requires-clause-ends c = subst EndsInNoZero (sym c.deref.ensures.value) c.in_ok-bytes.ensures.spelled.last
@@ -50,12 +44,12 @@ pub returns : goal.returns
 returns c = λ b begun.
     let round = c.args.round.now in
     let n = c.args.needed.now in
-    let m = c.args.numbers.now in
+    let m = c.args.sender.now in
     let q : Parts = c.index-round-k.result in
     let h = c.slice-slice.result.header.now in
     let shape = c.slice_shape-shape.result in
     let q_is = picture_read round c.args.k c.index-round-k.result c.requires.k c.index-round-k.is in
-    let some = some_round round n m c.requires.numbers in
+    let some = some_round round n m c.requires.sender in
     let first_is = picture_read round 0 c.index-round-0-2.result some c.index-round-0-2.is in
     let has = subst (λ f. HasShape (picture_at round 0) q c.args.k h f shape) c.in_ok-filter.ensures
     (subst (λ (p : Parts). HasShape p q c.args.k h c.in_ok-filter.filter shape) first_is c.slice_shape-shape.ensures) in
@@ -66,7 +60,7 @@ returns c = λ b begun.
     let made = subst (λ xs. IsUnitOf c.kind-kind.result.nal_type c.kind-kind.result.temporal_id xs c.in_ok-unit.unit.items)
     c.deref.ensures.value c.in_ok-unit.ensures in
     subst (λ o. IfSome o (λ s. IsFront round (ids_in n) (picture_at round 0).kind.nal_type b c.args.k s c.in_ok-unit.unit.items)) (sym at)
-    (is_front round n m c.requires.numbers c.slice_has_filter.ensures c.args.k c.requires.k q q_is h c.header-header.ensures.read
+    (is_front round n m c.requires.sender c.slice_has_filter.ensures c.args.k c.requires.k q q_is h c.header-header.ensures.read
     c.slice-slice.ensures.subpic c.slice-slice.ensures.read shape has
     (part_of c.slice-slice.result) refl c.in_ok-bytes.bytes.items c.in_ok-bytes.ensures c.in_ok-unit.unit.items c.kind-kind.result
     kind_is made b begun)

@@ -1,0 +1,2 @@
+-- What serves bodies and proofs alone.
+pub mod Bodies

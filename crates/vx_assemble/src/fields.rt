@@ -1,0 +1,417 @@
+//! The fields that a unit spells, up to the first that is refused.
+ghost use Rattle.std.specs.Prelude.{◌≡◌, ◌++◌, ◌≤◌, ◌^◌, length, true, List, Option, None, ℕ, IfOk, OnOk};
+ghost use Rattle.vx_bits.specs.Place.{Place};
+ghost use Rattle.vx_annexb.specs.NalUnit.{header_of};
+ghost use Rattle.vx_annexb.specs.ByteStream.{IsSound};
+ghost use Rattle.vx_table.specs.Reading.{Reads, at_front};
+ghost use Rattle.vx_sh.specs.Whole.{slice_form};
+ghost use Rattle.vx_pic.specs.Units as units;
+ghost use Rattle.vx_pic.specs.Units.{rbsp_of};
+ghost use Rattle.vx_pic.specs.UnderSets.{slice_at};
+ghost use Rattle.vx_pic.specs.Shown as shown;
+ghost use Rattle.vx_pic.specs.Readings.{Reading, current};
+ghost use Rattle.vx_pic.specs.Rules.{Readers, begins};
+ghost use Rattle.vx_pic.specs.H266.{AreOfH266};
+ghost use Rattle.vx_assemble.specs.Fields as fields;
+ghost use Rattle.vx_assemble.specs.inner.Classes.{class_seen};
+ghost use Rattle.vx_assemble.specs.inner.Fields.{HasAnswered, head_items};
+ghost use Rattle.vx_assemble.specs.inner.Held.{begun_of, IsApart, IsHeld};
+ghost use Rattle.vx_assemble.specs.inner.Order.{IsHeader, IsInOrder};
+
+use crate::begin::referred_sps;
+use crate::readers::{header_bits, numbers_under, referred_pps};
+use crate::state::{BegunPicture, State};
+use crate::unit::{NalUnit, SliceUnit, UnitClass, behind_header, class_of, front_of};
+use std::alloc::{AllocError, Global};
+use vx_annexb::{NalHeader, read_header, unescape};
+use vx_aps::read_aps_fields;
+use vx_bits::{Fields, Item, ReadError};
+use vx_fields::sh::sh_picture_header_in_slice_header_flag;
+use vx_ph::{read_ph_fields, read_ph_unit_fields, read_pps_id_fields};
+use vx_pic::{Structure, StructureFields};
+use vx_pps::{Pps, read_pps_fields};
+use vx_ptl::read_vps_fields;
+use vx_sh::read_sh_fields;
+use vx_sps::{Sps, read_sps_fields};
+
+/// Passes over a refusal: the fields end there.
+///
+/// # Errors
+///
+/// Want of memory.
+fn unless_memory(read: Result<(), ReadError>) -> Result<(), AllocError>
+    ensures { OnOk result (HasAnswered read) }
+{
+    match read {
+        Ok(()) => Ok(()),
+        Err(ReadError::Refused(_)) => Ok(()),
+        Err(ReadError::Memory) => Err(AllocError),
+    }
+}
+
+/// The fields of a structure without a body.
+fn fields_of(structure: Structure, items: Fields) -> StructureFields
+    ensures { result ≡ shown.fields_of structure items }
+{
+    StructureFields {
+        structure: Some(structure),
+        items,
+        body: None,
+    }
+}
+
+// ---- sets
+
+/// The items of a VPS.
+fn vps_items(alloc: Global, rbsp: &[u8]) -> Result<Fields, AllocError>
+    requires { length rbsp.now ≤ 2 ^ 23 }
+    ensures { IfOk result (λ items. (R : Readers) (h : AreOfH266 R) → items ≡ fields.vps_items R h rbsp.now) }
+{
+    let mut items = Fields::new(alloc);
+    unless_memory(read_vps_fields(rbsp, &mut items))?;
+    Ok(items)
+}
+
+/// The items of an SPS.
+fn sps_items(alloc: Global, rbsp: &[u8]) -> Result<Fields, AllocError>
+    requires { length rbsp.now ≤ 2 ^ 23 }
+    ensures { IfOk result (λ items. (R : Readers) (h : AreOfH266 R) → items ≡ fields.sps_items R h rbsp.now) }
+{
+    let mut items = Fields::new(alloc);
+    unless_memory(read_sps_fields(rbsp, &mut items))?;
+    Ok(items)
+}
+
+/// The items of a PPS.
+fn pps_items(alloc: Global, rbsp: &[u8]) -> Result<Fields, AllocError>
+    requires { length rbsp.now ≤ 2 ^ 23 }
+    ensures { IfOk result (λ items. (R : Readers) (h : AreOfH266 R) → items ≡ fields.pps_items R h rbsp.now) }
+{
+    let mut items = Fields::new(alloc);
+    unless_memory(read_pps_fields(alloc, rbsp, &mut items))?;
+    Ok(items)
+}
+
+/// The fields of an APS.
+fn aps_fields(alloc: Global, rbsp: &[u8]) -> Result<StructureFields, AllocError>
+    ensures { IfOk result (λ f. (R : Readers) (h : AreOfH266 R) → f ≡ fields.aps_fields R h rbsp.now) }
+{
+    let read = read_aps_fields(alloc, rbsp)?;
+    Ok(StructureFields {
+        structure: Some(Structure::Aps),
+        items: read.items,
+        body: read.body,
+    })
+}
+
+// ---- picture headers
+
+/// The items before a picture header that may stand inside a slice.
+fn items_before(alloc: Global, inside: bool) -> Result<Fields, AllocError>
+    ensures { IfOk result (λ items. items ≡ head_items inside) }
+{
+    let mut items = Fields::new(alloc);
+    if inside {
+        items.push(Item {
+            field: sh_picture_header_in_slice_header_flag,
+            value: 1,
+        })?;
+    }
+    Ok(items)
+}
+
+/// The items of a picture header up to the id of the PPS.
+fn items_to_id(alloc: Global, inside: bool, rbsp: &[u8]) -> Result<Fields, AllocError>
+    requires { length rbsp.now ≤ 2 ^ 23 }
+    ensures { IfOk result (λ items. (R : Readers) (h : AreOfH266 R) → items ≡ head_items inside ++ fields.id_items R h inside rbsp.now) }
+{
+    let mut items = items_before(alloc, inside)?;
+    let mut bits = header_bits(inside, rbsp);
+    unless_memory(read_pps_id_fields(&mut bits, &mut items))?;
+    Ok(items)
+}
+
+/// The items of a picture header inside a slice, under its sets.
+fn items_inside(alloc: Global, sps: &Sps, pps: &Pps, rbsp: &[u8]) -> Result<Fields, AllocError>
+    requires { length rbsp.now ≤ 2 ^ 23 }
+    ensures { IfOk result (λ items. (R : Readers) (h : AreOfH266 R)
+        → items ≡ head_items true ++ fields.header_items R h true rbsp.now sps.now pps.now) }
+{
+    let mut items = items_before(alloc, true)?;
+    let mut bits = header_bits(true, rbsp);
+    unless_memory(read_ph_fields(&mut bits, sps, pps, &mut items))?;
+    Ok(items)
+}
+
+/// The items of a picture header, which may stand inside a slice, under its sets.
+fn header_items(
+    alloc: Global,
+    inside: bool,
+    sps: &Sps,
+    pps: &Pps,
+    rbsp: &[u8],
+) -> Result<Fields, AllocError>
+    requires { length rbsp.now ≤ 2 ^ 23 }
+    ensures { IfOk result (λ items. (R : Readers) (h : AreOfH266 R)
+        → items ≡ head_items inside ++ fields.header_items R h inside rbsp.now sps.now pps.now) }
+{
+    if inside {
+        let items = items_inside(alloc, sps, pps, rbsp)?;
+        return Ok(items);
+    }
+    let mut items = Fields::new(alloc);
+    unless_memory(read_ph_unit_fields(rbsp, sps, pps, &mut items))?;
+    Ok(items)
+}
+
+// ---- slices
+
+/// Reads the fields of a slice of a picture, whose first slice is of this type, from the RBSP of its unit.
+fn read_slice_fields(
+    nal_type: u8,
+    begun: &BegunPicture,
+    unit: NalUnit<'_>,
+    into: &mut Fields,
+) -> Result<(), ReadError>
+    requires { IsHeader begun.now }
+    ensures { (head : Option (List ℕ)) → (new : Place)
+        × Reads (slice_form (slice_at nal_type (begun_of begun.now head))) (at_front (rbsp_of unit.entry.bytes.now)) into.old result new into.new }
+{
+    let numbers = numbers_under(nal_type, begun);
+    read_sh_fields(unit.rbsp, &numbers, into)?;
+    Ok(())
+}
+
+/// The items of a slice of a picture, whose first slice is of this type.
+fn slice_items(
+    alloc: Global,
+    nal_type: u8,
+    begun: &BegunPicture,
+    unit: SliceUnit<'_>,
+) -> Result<Fields, AllocError>
+    requires { IsHeader begun.now }
+    ensures { IfOk result (λ items. (R : Readers) (h : AreOfH266 R) (head : Option (List ℕ))
+        → items ≡ fields.slice_items R h nal_type (begun_of begun.now head) unit.entry.bytes.now) }
+{
+    let mut first = Fields::new(alloc);
+    if let Ok(()) = read_slice_fields(nal_type, begun, unit.front, &mut first) {
+        return Ok(first);
+    }
+    let bytes = unescape(alloc, unit.bytes)?;
+    let whole = unit.whole(&bytes);
+    let mut items = Fields::new(alloc);
+    unless_memory(read_slice_fields(nal_type, begun, whole, &mut items))?;
+    Ok(items)
+}
+
+impl State {
+    /// The items of a picture header, which may stand inside a slice: up to the id of the PPS where one of its sets isn't stored.
+    fn picture_header_items(
+        &self,
+        alloc: Global,
+        inside: bool,
+        rbsp: &[u8],
+    ) -> Result<Fields, AllocError>
+        requires { length rbsp.now ≤ 2 ^ 23 }
+        ensures { IfOk result (λ items. (R : Readers) (h : AreOfH266 R) (before : List Reading) → IsApart self.now before
+            → items ≡ head_items inside ++ fields.picture_header_items R h inside rbsp.now before) }
+    {
+        let id = match referred_pps(inside, rbsp) {
+            Ok(id) => id,
+            Err(ReadError::Memory) => return Err(AllocError),
+            Err(ReadError::Refused(_)) => {
+                let items = items_to_id(alloc, inside, rbsp)?;
+                return Ok(items);
+            }
+        };
+        let Some(pps) = self.pps_of(id) else {
+            let items = items_to_id(alloc, inside, rbsp)?;
+            return Ok(items);
+        };
+        let Some(sps) = self.sps_of(referred_sps(pps.set().value())) else {
+            let items = items_to_id(alloc, inside, rbsp)?;
+            return Ok(items);
+        };
+        let items = header_items(alloc, inside, sps.set().value(), pps.set().value(), rbsp)?;
+        Ok(items)
+    }
+
+    /// The items of a slice with the picture header inside.
+    fn alone_items(&self, alloc: Global, unit: SliceUnit<'_>) -> Result<Fields, AllocError>
+        requires { IsInOrder self.now }
+        ensures { IfOk result (λ items. (R : Readers) (h : AreOfH266 R) (before : List Reading) → IsApart self.now before
+            → items ≡ fields.alone_items R h before unit.entry.bytes.now (begins R before unit.entry.bytes.now None)) }
+    {
+        let begun = match self.begin_alone(alloc, unit) {
+            Ok(begun) => begun,
+            Err(ReadError::Memory) => return Err(AllocError),
+            Err(ReadError::Refused(_)) => {
+                let bytes = unescape(alloc, unit.bytes)?;
+                let whole = unit.whole(&bytes);
+                let items = self.picture_header_items(alloc, true, whole.rbsp)?;
+                return Ok(items);
+            }
+        };
+        let items = slice_items(alloc, unit.header.nal_type, &begun, unit)?;
+        Ok(items)
+    }
+
+    /// The fields of a slice whose picture header came before it; none where there is no such picture.
+    fn following_fields(
+        &self,
+        alloc: Global,
+        unit: SliceUnit<'_>,
+    ) -> Result<StructureFields, AllocError>
+        requires { IsInOrder self.now }
+        ensures { IfOk result (λ f. (R : Readers) (h : AreOfH266 R) (before : List Reading) → IsHeld self.now before
+            → f ≡ fields.following_fields R h (current before) unit.entry.bytes.now) }
+    {
+        if !self.picture.is_open() {
+            return Ok(StructureFields::new(alloc));
+        }
+        let Some(begun) = &self.picture.begun else {
+            unreachable!()
+        };
+        if let Some(kind) = self.picture.kind {
+            let items = slice_items(alloc, kind.nal_type, begun, unit)?;
+            return Ok(fields_of(Structure::SliceHeader, items));
+        }
+        let items = slice_items(alloc, unit.header.nal_type, begun, unit)?;
+        Ok(fields_of(Structure::SliceHeader, items))
+    }
+
+    /// The fields of a slice.
+    fn slice_fields(
+        &self,
+        alloc: Global,
+        unit: SliceUnit<'_>,
+    ) -> Result<StructureFields, AllocError>
+        requires { IsInOrder self.now }
+        ensures { IfOk result (λ f. (R : Readers) (h : AreOfH266 R) (before : List Reading) → IsHeld self.now before
+            → f ≡ fields.slice_fields R h before unit.entry.bytes.now) }
+    {
+        if unit.has_header_inside() {
+            let items = self.alone_items(alloc, unit)?;
+            return Ok(fields_of(Structure::SliceHeader, items));
+        }
+        let read = self.following_fields(alloc, unit)?;
+        Ok(read)
+    }
+
+    /// The fields of a slice's unit, of which no bytes are passed behind its header.
+    #[tactic(auto, unfolding(vx_pic::specs::Units::rbsp_of))]
+    fn slice_unit_fields(
+        &self,
+        alloc: Global,
+        unit: &[u8],
+        header: NalHeader,
+    ) -> Result<StructureFields, AllocError>
+        requires order { IsInOrder self.now }
+        requires sound { IsSound unit.now }
+        requires header { header ≡ header_of unit.now }
+        ensures { IfOk result (λ f. (R : Readers) (h : AreOfH266 R) (before : List Reading) → IsHeld self.now before
+            → f ≡ fields.slice_fields R h before unit.now) }
+    {
+        let front = front_of(unit);
+        let bytes = unescape(alloc, front)?;
+        let first = NalUnit {
+            bytes: front,
+            header,
+            rbsp: behind_header(&bytes),
+        };
+        let slice = SliceUnit {
+            bytes: unit,
+            header,
+            front: first,
+        };
+        let read = self.slice_fields(alloc, slice)?;
+        Ok(read)
+    }
+
+    /// The fields of a unit of a class, of which all bytes are passed.
+    fn class_fields(
+        &self,
+        alloc: Global,
+        class: UnitClass,
+        unit: NalUnit<'_>,
+    ) -> Result<StructureFields, AllocError>
+        requires { IsInOrder self.now }
+        ensures { IfOk result (λ f. (R : Readers) (h : AreOfH266 R) (before : List Reading) → IsHeld self.now before
+            → f ≡ fields.fields_as R h (class_seen class) before unit.entry.bytes.now) }
+    {
+        match class {
+            UnitClass::Vps => Ok(fields_of(Structure::Vps, vps_items(alloc, unit.rbsp)?)),
+            UnitClass::Sps => Ok(fields_of(Structure::Sps, sps_items(alloc, unit.rbsp)?)),
+            UnitClass::Pps => Ok(fields_of(Structure::Pps, pps_items(alloc, unit.rbsp)?)),
+            UnitClass::PrefixAps => Ok(aps_fields(alloc, unit.rbsp)?),
+            UnitClass::SuffixAps => Ok(aps_fields(alloc, unit.rbsp)?),
+            UnitClass::Header => {
+                let items = self.picture_header_items(alloc, false, unit.rbsp)?;
+                Ok(fields_of(Structure::PictureHeader, items))
+            }
+            UnitClass::Slice => Ok(self.slice_fields(alloc, unit.as_slice())?),
+            UnitClass::Other => Ok(StructureFields::new(alloc)),
+            UnitClass::End => Ok(StructureFields::new(alloc)),
+            UnitClass::Sei => Ok(StructureFields::new(alloc)),
+        }
+    }
+
+    /// The fields of a unit of a class.
+    #[tactic(auto, unfolding(vx_pic::specs::Units::rbsp_of))]
+    fn whole_unit_fields(
+        &self,
+        alloc: Global,
+        class: UnitClass,
+        unit: &[u8],
+        header: NalHeader,
+    ) -> Result<StructureFields, AllocError>
+        requires order { IsInOrder self.now }
+        requires sound { IsSound unit.now }
+        requires header { header ≡ header_of unit.now }
+        ensures { IfOk result (λ f. (R : Readers) (h : AreOfH266 R) (before : List Reading) → IsHeld self.now before
+            → f ≡ fields.fields_as R h (class_seen class) before unit.now) }
+    {
+        let bytes = unescape(alloc, unit)?;
+        let read = NalUnit {
+            bytes: unit,
+            header,
+            rbsp: behind_header(&bytes),
+        };
+        let given = self.class_fields(alloc, class, read)?;
+        Ok(given)
+    }
+
+    /// The fields that a unit spells behind those that were taken, up to the first that is refused.
+    ///
+    /// # Errors
+    ///
+    /// Want of memory.
+    #[tactic(auto, unfolding(vx_pic::specs::Units::is_reserved))]
+    pub(crate) fn unit_fields(
+        &self,
+        alloc: Global,
+        unit: &[u8],
+    ) -> Result<StructureFields, AllocError>
+        requires order { IsInOrder self.now }
+        requires sound { IsSound unit.now }
+        ensures { IfOk result (λ f. (R : Readers) (h : AreOfH266 R) (before : List Reading) → IsHeld self.now before
+            → f ≡ fields.unit_fields R h before unit.now) }
+    {
+        let Some(header) = read_header(unit) else {
+            unreachable!()
+        };
+        if header.reserved {
+            return Ok(StructureFields::new(alloc));
+        }
+        if header.layer_id != 0 {
+            return Ok(StructureFields::new(alloc));
+        }
+        let class = class_of(header.nal_type);
+        if let UnitClass::Slice = class {
+            let read = self.slice_unit_fields(alloc, unit, header)?;
+            return Ok(read);
+        }
+        let read = self.whole_unit_fields(alloc, class, unit, header)?;
+        Ok(read)
+    }
+}

@@ -1,0 +1,6 @@
+-- Lemmas of this crate.
+pub mod Coming
+pub mod Few
+pub mod Merged
+pub mod Mixing
+pub mod Steps

@@ -1,0 +1,45 @@
+-- An intake, as its callers see it: by these words, and by the relation `HasCome` between it, what was handed in to it, and the pictures
+-- that it came to, the latest first. That relation begins with none of these; `ComesTo` says what it is worth.
+use Rattle.std.specs.Prelude.{◌≡◌, ℕ, ◌<◌, true, false, List, ◌∷◌, length, Some, None}
+use Rattle.vx_annexb.specs.Reading.{fed_at_once}
+use Rattle.vx_pic.specs.Readings.{Picture}
+use Rattle.vx_pic.specs.Rules.{Readers}
+use Rattle.vx_pic.specs.Bytes.{AreSeenPictures}
+use Rattle.vx_assemble.specs.Held.{ShowsLatest, lent_by}
+use Rattle.vx_assemble.specs.Feed.{seen_of}
+use Rattle.vx_assemble.specs.Feed as feed
+use Rattle.vx_run.specs.Extract.{BeginsWith}
+use Rattle.vx_push.specs.declared.intake.State.{State}
+use Rattle.vx_push.specs.declared.intake.State.TheVariants as states
+pub use Rattle.vx_push.specs.Handed.{Handed, nothing, with_more, with_end, zeros, IsOpenedBy, OfEachStream}
+pub use Rattle.vx_push.specs.inner.Comes.{Intaking, IsFedBy}
+
+-- What an intake has come to, that came to these pictures: however the stream goes on, they are its first ones, and where it waits all
+-- that are seen in what was handed in; or they are all, behind which the stream ends or is refused.
+abbrev pub ComesTo : Readers → Handed → List Picture → State → Type 0
+ComesTo R h ps states.Waits =
+    OfEachStream R h (λ qs ending. BeginsWith qs ps) × AreSeenPictures R (seen_of h.bytes) ps × (h.all ≡ false)
+ComesTo R h ps states.Picture = OfEachStream R h (λ qs ending. BeginsWith qs ps) × (0 < length ps)
+ComesTo R h ps states.Ended = OfEachStream R h (λ qs ending. (qs ≡ ps) × (ending ≡ None)) × (h.all ≡ true)
+ComesTo R h ps (states.Refused r n) =
+    OfEachStream R h (λ qs ending. (qs ≡ ps) × (ending ≡ Some (record { units = n; refusal = r })))
+ComesTo R h ps states.NoMemory = OfEachStream R h (λ qs ending. BeginsWith qs ps)
+
+-- This was handed in to it, and it came to these pictures. Where it holds a picture, that is the latest one.
+pub record HasCome (R : Readers) (i : Intaking) (h : Handed) (ps : List Picture) : Type 0 where
+  pub told : ComesTo R h ps i.state
+  pub lends : i.state ≡ states.Picture → ShowsLatest (lent_by i.feed.assembler) ps
+  pub fed : IsFedBy R i h ps i.state
+
+-- It came to what is next behind these pictures: to one more, or to none.
+abbrev pub ComesNext : Readers → Intaking → Handed → List Picture → State → Type 0
+ComesNext R i h ps states.Picture = (p : Picture) × HasCome R i h (p ∷ ps)
+ComesNext R i h ps state = HasCome R i h ps
+
+-- how many of n bytes it takes at once: 65,536 at most, and of a stream one more than a source may have
+abbrev pub taken_at_once : Intaking → ℕ → ℕ
+taken_at_once i n = fed_at_once i.feed.reader.taken n
+
+-- how many bytes it holds: those behind the last unit taken, and those of the picture that was begun last
+abbrev pub bytes_held : Intaking → ℕ
+bytes_held i = feed.bytes_held i.feed

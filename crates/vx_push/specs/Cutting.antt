@@ -1,0 +1,111 @@
+-- A cutter, as its callers see it: by these words, and by the relation `HasCut` between it, what was handed in of its source, the pictures
+-- of that which it passed, and those that it wrote. That relation begins with none of these; `Answers` says what it is worth. Lists of
+-- pictures and of plans have the latest first.
+use Rattle.std.specs.Prelude.{◌≡◌, ◌⊎◌, ℕ, true, false, List, [], ◌∷◌, ◌++◌, length, map, Bool, Option, Some, None}
+use Rattle.vx_bits.specs.declared.refusal.Refusal.{Refusal}
+use Rattle.vx_bits.specs.declared.refusal.Refusal.TheVariants.{Extract}
+use Rattle.vx_bits.specs.declared.rules.TheConstants.{NO_PICTURE}
+use Rattle.vx_annexb.specs.Laws.{written}
+use Rattle.vx_pic.specs.declared.kind.Kind.{Kind}
+use Rattle.vx_pic.specs.Readings.{Picture}
+use Rattle.vx_pic.specs.Rules.{Readers}
+use Rattle.vx_pic.specs.Bytes.{Ending, AreSeenPictures}
+use Rattle.vx_pic.specs.Parts.{parts_of}
+use Rattle.vx_pic.specs.Sublayers.{at_most}
+use Rattle.vx_pic.specs.Written.{Plan, units_of}
+use Rattle.vx_report.specs.declared.refusal.Where.{Where}
+use Rattle.vx_assemble.specs.Feed.{seen_of}
+use Rattle.vx_extract.specs.Extracting.{Extracting, Stands}
+use Rattle.vx_extract.specs.Written.{AreExtracted}
+use Rattle.vx_run.specs.declared.extract.Task.{Task}
+use Rattle.vx_run.specs.declared.stop.Stop.TheVariants.{Refused, NoMemory}
+use Rattle.vx_run.specs.Extract.{BreakNoRule, BreaksBehind, BeginsWith, IsExtractable, at_picture}
+use Rattle.vx_run.specs.Rounds.{behind_units}
+use Rattle.vx_push.specs.declared.intake.State.{State}
+use Rattle.vx_push.specs.declared.intake.State.TheVariants.{Picture as AtPicture, Waits as AtWait}
+use Rattle.vx_push.specs.declared.cutter.Cut.{Cut}
+use Rattle.vx_push.specs.declared.cutter.Cut.TheVariants.{Picture as ToPicture, Waits as ToWait, Ended as ToEnd, Stopped as ToStop}
+use Rattle.vx_push.specs.Comes.{Intaking, Handed, with_more, zeros, OfEachStream, HasCome}
+
+-- A cutter: its intake and its extractor; how many pictures it passed; the bytes of the last one that it wrote and what that is, until they
+-- are taken; and what it came to in the end.
+pub record Cutting : Type 0 where
+  pub intake : Intaking
+  pub extractor : Extracting
+  pub pictures : ℕ
+  pub cut : List ℕ
+  pub held : Option Kind
+  pub end : Option Cut
+
+-- ---- how an extraction ends
+
+-- What is refused of pictures with this ending, behind the first of them, and at which place: what ends them; a picture that breaks a
+-- rule; or that there is none.
+pub data IsRefused (t : Task) (qs : List Picture) (ending : Option Ending) (ps : List Picture) (r : Refusal) (place : Where) : Type 0 where
+  by_stream : (n : ℕ) → qs ≡ ps → ending ≡ Some (record { units = n; refusal = r }) → place ≡ behind_units 0 n → IsRefused t qs ending ps r place
+  by_picture : BreaksBehind t qs ps r → place ≡ at_picture (length ps) → IsRefused t qs ending ps r place
+  without : qs ≡ [] → ps ≡ [] → ending ≡ None → r ≡ Extract NO_PICTURE → place ≡ at_picture 0 → IsRefused t qs ending ps r place
+
+-- What a cutter came to is the end of the extraction behind these pictures, of each stream that begins so; or it had no memory.
+abbrev pub HasEndedBy : Readers → Task → Handed → List Picture → Cut → Type 0
+HasEndedBy R t h ps ToEnd = OfEachStream R h (λ qs ending. (qs ≡ ps) × IsExtractable t qs ending)
+HasEndedBy R t h ps (ToStop (Refused r place)) = OfEachStream R h (λ qs ending. IsRefused t qs ending ps r place)
+HasEndedBy R t h ps (ToStop NoMemory) = OfEachStream R h (λ qs ending. BeginsWith qs ps)
+HasEndedBy R t h ps _ = ⊥
+
+-- ---- the relation
+
+-- its intake came to these pictures, and where it holds one, to one more
+abbrev pub IsBehind : State → List Picture → List Picture → Type 0
+IsBehind AtPicture ps seen = (p : Picture) × (seen ≡ p ∷ ps)
+IsBehind state ps seen = seen ≡ ps
+
+pub record HasComeBehind (R : Readers) (i : Intaking) (h : Handed) (ps : List Picture) : Type 0 where
+  pub seen : List Picture
+  pub come : HasCome R i h seen
+  pub behind : IsBehind i.state ps seen
+
+-- it holds what is written of this picture
+pub record Holds (c : Cutting) (p : Plan) : Type 0 where
+  pub bytes : c.cut ≡ written (units_of p)
+  pub kind : c.held ≡ Some p.kind
+
+-- This was handed in; these pictures of it were passed, none of which breaks a rule; and those of them that are kept are written so. It
+-- holds the latest of these, or that was taken.
+pub record HasCut (R : Readers) (t : Task) (c : Cutting) (h : Handed) (ps : List Picture) (done : List Plan) : Type 0 where
+  pub target : c.extractor.target ≡ t.target
+  pub level : c.extractor.level ≡ t.level
+  pub tid : c.extractor.tid ≡ t.tid
+  pub come : HasComeBehind R c.intake h ps
+  pub count : c.pictures ≡ length ps
+  pub rules : BreakNoRule t ps
+  pub plans : AreExtracted t.target t.level (map parts_of (at_most t.tid ps)) done
+  pub stands : c.end ≡ None → Stands c.extractor done
+  pub holds : (kind : Kind) → c.held ≡ Some kind → (p : Plan) × (before : List Plan) × (done ≡ p ∷ before) × Holds c p
+  pub ended : (end : Cut) → c.end ≡ Some end → HasEndedBy R t h ps end
+
+-- ---- what is answered
+
+-- The stream isn't known further: these pictures are seen in what was handed in, however it goes on; and its end wasn't told.
+pub record IsAwaited (R : Readers) (h : Handed) (ps : List Picture) : Type 0 where
+  pub seen : AreSeenPictures R (seen_of h.bytes) ps
+  pub open_ : h.all ≡ false
+
+-- What is answered behind these pictures: one more is written, and held, maybe behind others that are left out; the stream is awaited; or
+-- the extraction has ended.
+abbrev pub Answers : Readers → Task → Cutting → Handed → List Picture → List Plan → Cut → Type 0
+Answers R t c h ps done ToPicture = (later : List Picture) × (p : Plan) × HasCut R t c h (later ++ ps) (p ∷ done) × Holds c p
+Answers R t c h ps done ToWait = (later : List Picture) × HasCut R t c h (later ++ ps) done × IsAwaited R h (later ++ ps)
+Answers R t c h ps done end = (later : List Picture) × HasCut R t c h (later ++ ps) done × HasEndedBy R t h (later ++ ps) end × (c.end ≡ Some end)
+
+-- the zeros that `flush` hands in, where it waits or holds a picture, and where neither these nor its end were handed in behind that
+abbrev pub flushed_by : State → Bool → Bool → Handed → Handed
+flushed_by AtWait flushed ended h = with_more h zeros
+flushed_by AtPicture false false h = with_more h zeros
+flushed_by state flushed ended h = h
+
+-- and that there are no more bytes, where it goes on
+abbrev pub ended_by : State → Handed → Handed
+ended_by AtWait h = record h { all = true }
+ended_by AtPicture h = record h { all = true }
+ended_by state h = h

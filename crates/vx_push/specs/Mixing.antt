@@ -1,0 +1,150 @@
+-- A mixer, as its callers see it: by these words, and by the relation `HasMixed` between it, what was handed in of each source, and the
+-- rounds that it merged. That relation begins with none of these; `Answers` says what it is worth.
+use Rattle.std.specs.Prelude.{◌≡◌, ◌⊎◌, ℕ, ◌+◌, ◌<◌, Bool, false, List, [], ◌∷◌, length, slice_get, slice_set, Option, Some, None, Ok, Err}
+use Rattle.vx_annexb.specs.Laws.{written}
+use Rattle.vx_pic.specs.declared.kind.Kind.{Kind}
+use Rattle.vx_pic.specs.Readings.{Picture as StreamPicture}
+use Rattle.vx_pic.specs.Rules.{Readers}
+use Rattle.vx_pic.specs.Bytes.{AreSourcePictures, AreSeenPictures}
+use Rattle.vx_pic.specs.H266.{AreOfH266}
+use Rattle.vx_pic.specs.Written.{Plan, units_of}
+use Rattle.vx_assemble.specs.Feed.{seen_of}
+use Rattle.vx_merge.specs.Merging.{Merging, Stands}
+use Rattle.vx_run.specs.declared.stop.Stop.TheVariants.{Refused, NoMemory}
+use Rattle.vx_run.specs.Conclusion.{Outcome}
+use Rattle.vx_run.specs.Rounds.{Stream, NoneRefused}
+use Rattle.vx_run.specs.Merge.{AreWritten, EndsWritten}
+use Rattle.vx_push.specs.declared.intake.State.{State}
+use Rattle.vx_push.specs.declared.intake.State.TheVariants.{Waits as AtWait, Picture as AtPicture, Ended as AtEnd, Refused as AtRefusal, NoMemory as AtNoMemory}
+use Rattle.vx_push.specs.declared.mixer.Mixed.{Mixed}
+use Rattle.vx_push.specs.declared.mixer.Mixed.TheVariants.{Picture as ToPicture, Waits as ToWait, Ended as ToEnd, Stopped as ToStop}
+use Rattle.vx_push.specs.Comes.{Intaking, Handed, with_more, with_end, zeros, taken_at_once, IsOpenedBy, HasCome}
+
+-- A mixer: an intake for each source; its merger; how many rounds it merged; the bytes of the last of them and what it is, until they are
+-- taken; and what it came to in the end.
+pub record Mixing : Type 0 where
+  pub intakes : List Intaking
+  pub merger : Merging
+  pub rounds : ℕ
+  pub merged : List ℕ
+  pub held : Option Kind
+  pub end : Option Mixed
+
+-- ---- what the streams can be, by what was handed in of them
+
+-- each stream is one that is opened so
+pub record AreOpenedBy (R : Readers) (given : List Handed) (ss : List Stream) : Type 0 where
+  pub count : length ss ≡ length given
+  pub each : (k : ℕ) (h : Handed) (s : Stream) → slice_get given k ≡ Some h → slice_get ss k ≡ Some s
+      → (b : List ℕ) × IsOpenedBy h b × AreSourcePictures R b s.pictures s.ending
+
+-- this holds whatever they are
+abbrev pub Whatever : Readers → List Handed → (List Stream → Type 0) → Type 0
+Whatever R given P = (ss : List Stream) → AreOpenedBy R given ss → P ss
+
+-- the first rounds are merged so,
+abbrev pub AreMerged : Readers → Merging → List Handed → List Plan → Type 0
+AreMerged R m given done = Whatever R given (λ ss. AreWritten m.corners m.level ss done)
+
+-- and behind them the merge comes to this end
+abbrev pub EndsMerged : Readers → Merging → List Handed → List Plan → Outcome → Type 0
+EndsMerged R m given done end = Whatever R given (λ ss. EndsWritten m.corners m.level ss done end)
+
+-- none of the first k streams is refused in the next round
+abbrev pub GoOnFirst : Readers → List Handed → List Plan → ℕ → Type 0
+GoOnFirst R given done k = Whatever R given (λ ss. NoneRefused k ss (length done))
+
+-- ---- the relation
+
+-- An intake that came to so many pictures behind n that were merged: it holds one more, or none.
+abbrev pub IsBehind : State → ℕ → ℕ → Type 0
+IsBehind AtPicture n count = count ≡ n + 1
+IsBehind state n count = count ≡ n
+
+pub record HasComeBehind (R : Readers) (i : Intaking) (h : Handed) (n : ℕ) : Type 0 where
+  pub pictures : List StreamPicture
+  pub come : HasCome R i h pictures
+  pub count : IsBehind i.state n (length pictures)
+
+-- What a mixer came to is the end of the merge behind these rounds; or it had no memory, and these rounds are merged.
+abbrev pub HasEndedBy : Readers → Merging → List Handed → List Plan → Mixed → Type 0
+HasEndedBy R m given done ToEnd = EndsMerged R m given done (Ok tt)
+HasEndedBy R m given done (ToStop (Refused r place)) = EndsMerged R m given done (Err (Refused r place))
+HasEndedBy R m given done (ToStop NoMemory) = AreMerged R m given done
+HasEndedBy R m given done _ = ⊥
+
+-- it holds what is written of this round
+pub record Holds (m : Mixing) (p : Plan) : Type 0 where
+  pub bytes : m.merged ≡ written (units_of p)
+  pub kind : m.held ≡ Some p.kind
+
+-- This was handed in of each source, and these rounds were merged, the latest first; it holds the latest, or that was taken.
+pub record HasMixed (R : Readers) (m : Mixing) (given : List Handed) (done : List Plan) : Type 0 where
+  pub sources : length given ≡ length m.intakes
+  pub rounds : length done ≡ m.rounds
+  pub merged : AreMerged R m.merger given done
+  pub stands : m.end ≡ None → Stands m.merger done
+  pub come : (k : ℕ) (i : Intaking) (h : Handed) → slice_get m.intakes k ≡ Some i → slice_get given k ≡ Some h → HasComeBehind R i h m.rounds
+  pub holds : (kind : Kind) → m.held ≡ Some kind → (p : Plan) × (before : List Plan) × (done ≡ p ∷ before) × Holds m p
+  pub ended : (end : Mixed) → m.end ≡ Some end → HasEndedBy R m.merger given done end
+
+-- ---- what is answered
+
+-- Source k isn't known further: n pictures are seen in what was handed in of it, however it goes on; and its end wasn't told.
+pub record IsAwaited (R : Readers) (given : List Handed) (n k : ℕ) : Type 0 where
+  pub handed : Handed
+  pub at : slice_get given k ≡ Some handed
+  pub pictures : List StreamPicture
+  pub seen : AreSeenPictures R (seen_of handed.bytes) pictures
+  pub count : length pictures ≡ n
+  pub open_ : handed.all ≡ false
+
+-- What is answered behind these rounds: one more is merged, and held; source k is awaited, and none before it is refused in the next round;
+-- or the merge has ended.
+abbrev pub Answers : Readers → Mixing → List Handed → List Plan → Mixed → Type 0
+Answers R m given done ToPicture = (p : Plan) × HasMixed R m given (p ∷ done) × Holds m p
+Answers R m given done (ToWait k) = HasMixed R m given done × IsAwaited R given (length done) k × GoOnFirst R given done k
+Answers R m given done end = HasMixed R m given done × HasEndedBy R m.merger given done end × (m.end ≡ Some end)
+
+-- ---- what is handed in
+
+-- the zeros that `flush` hands in, where it waits or holds a picture, and where neither these nor its end were handed in behind that
+abbrev pub flushed_by : State → Bool → Bool → Handed → Handed
+flushed_by AtWait flushed ended h = with_more h zeros
+flushed_by AtPicture false false h = with_more h zeros
+flushed_by state flushed ended h = h
+
+abbrev pub with_zeros : Intaking → Handed → Handed
+with_zeros i h = flushed_by i.state i.flushed i.ended h
+
+-- More was handed in of source k, by its intake, and nothing else was done. The rounds that were merged still are.
+pub record HandsIn (old new : Mixing) (k : ℕ) (more : Intaking → Handed → Handed) : Type 0 where
+  pub intake : Intaking
+  pub at : slice_get old.intakes k ≡ Some intake
+  pub later : Intaking
+  pub only : new ≡ record old { intakes = slice_set old.intakes k later }
+  pub mixed : (R : Readers) → AreOfH266 R → (given : List Handed) (done : List Plan) (h : Handed) → HasMixed R old given done
+      → slice_get given k ≡ Some h → HasMixed R new (slice_set given k (more intake h)) done
+
+-- How many of so many bytes were taken: none where it doesn't wait, or has no memory for them.
+abbrev pub Takes : Intaking → Intaking → ℕ → ℕ → Type 0
+Takes old new count taken =
+    (old.state ≡ AtWait → (taken ≡ taken_at_once old count) ⊎ ((taken ≡ 0) × (new.state ≡ AtNoMemory)))
+    × ((old.state ≡ AtWait → ⊥) → (taken ≡ 0) × (new ≡ old))
+
+-- ---- a merge
+
+-- how the merge ends that a mixer came to the end of
+abbrev pub outcome_of : Mixed → Option Outcome
+outcome_of ToEnd = Some (Ok tt)
+outcome_of (ToStop (Refused r place)) = Some (Err (Refused r place))
+outcome_of _ = None
+
+-- Where a mixer came to the end of the merge, `merge` of such streams ends so too, behind the same rounds: so it writes the bytes that were
+-- merged, and tells the same.
+abbrev pub MixedIsMerged : Type 0
+MixedIsMerged =
+    (R : Readers) (m : Mixing) (given : List Handed) (done : List Plan) (end : Mixed) (mine : Outcome) → HasMixed R m given done
+    → m.end ≡ Some end → outcome_of end ≡ Some mine
+    → (ss : List Stream) (other : List Plan) (outcome : Outcome) → 0 < length ss → AreOpenedBy R given ss
+    → EndsWritten m.merger.corners m.merger.level ss other outcome → (other ≡ done) × (outcome ≡ mine)

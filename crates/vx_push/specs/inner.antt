@@ -1,0 +1,4 @@
+-- What serves bodies and proofs alone: nothing that a caller has to believe.
+pub mod Comes
+pub mod Cutting
+pub mod Mixing

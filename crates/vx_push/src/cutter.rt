@@ -1,0 +1,300 @@
+//! An extraction whose source is handed in as it comes.
+ghost use Rattle.std.specs.Prelude.{◌≡◌, ℕ, List, cond, nat_le, Some, None, Ok, Err, IfErr, OnOk};
+ghost use Rattle.vx_pic.specs.Written.{Plan};
+ghost use Rattle.vx_extract.specs.Extracting.{Stands, SameTask};
+ghost use Rattle.vx_push.specs.declared.intake.State.TheVariants.{Picture as AtPicture};
+ghost use Rattle.vx_push.specs.inner.Cutting.{EndsBehind, HaltsBy, Cuts, stop_by, end_by};
+
+use crate::intake::{Intake, State};
+use std::alloc::{AllocError, Global};
+use std::marker::Model;
+use vx_extract::{Extractor, WriteError};
+use vx_io::GrowSink;
+use vx_pic::{Kind, Picture};
+use vx_run::{Stop, Task, behind_units, pictures_have_slices, some_picture, stop_of_picture};
+
+/// What a cutter has come to.
+#[derive(Clone, Copy, Debug, PartialEq, Eq)]
+pub enum Cut {
+    /// A picture of the subpicture, which is to be taken.
+    Picture,
+    /// It waits for bytes.
+    Waits,
+    /// The source has ended, and there are no more pictures.
+    Ended,
+    /// It is stopped, and there are no more pictures.
+    Stopped(Stop),
+}
+
+/// A picture that was cut out.
+#[derive(Clone, Copy, Debug, PartialEq, Eq)]
+pub struct CutPicture {
+    /// Its number in the source, from 0.
+    pub number: u64,
+    /// How many bytes are written of it.
+    pub bytes: usize,
+    /// What it is among the pictures of the source.
+    pub kind: Kind,
+}
+
+/// Extracts a subpicture of a byte stream that is handed in as it comes. It holds one picture of it at most, and goes on once that
+/// was taken.
+#[derive(Drop)]
+pub struct Cutter {
+    alloc: Global,
+    intake: Intake,
+    extractor: Extractor,
+    tid: u8,
+    // How many pictures of the source were written or left out.
+    pictures: u64,
+    // What is written of the latest of them, and what it is, until it is taken.
+    cut: GrowSink,
+    held: Option<Kind>,
+    // What it came to in the end.
+    end: Option<Cut>,
+}
+
+impl Model for Cutter {
+    ghost use Rattle.std.specs.Prelude.{◌≡◌};
+    ghost use Rattle.vx_push.specs.Cutting.{Cutting};
+
+    ghost Value = { Cutting };
+
+    ghost view = { λ c. record { intake = c.intake; extractor = c.extractor; pictures = c.pictures; cut = c.cut.taken; held = c.held; end = c.end } };
+
+    ghost invariant = { λ c. c.tid ≡ c.extractor.tid };
+}
+
+/// What a source that has ended behind so many pictures comes to: there has to be one.
+fn end_behind(pictures: u64) -> Cut
+    ensures { EndsBehind pictures result }
+{
+    match some_picture(pictures) {
+        Ok(()) => Cut::Ended,
+        Err(stop) => Cut::Stopped(stop),
+    }
+}
+
+/// Whether a picture is held, behind so many others; else what keeps it from being cut.
+fn look(intake: &Intake, pictures: u64) -> Result<(), Cut>
+    ensures holds { OnOk result (intake.now.state ≡ AtPicture) }
+    ensures halts { IfErr result (HaltsBy intake.now.state pictures) }
+{
+    match intake.state() {
+        State::Picture => Ok(()),
+        State::Waits => Err(Cut::Waits),
+        State::Ended => Err(end_behind(pictures)),
+        State::Refused { refusal, units } => {
+            let place = behind_units(0, units);
+            Err(Cut::Stopped(Stop::Refused { refusal, place }))
+        }
+        State::NoMemory => Err(Cut::Stopped(Stop::NoMemory)),
+    }
+}
+
+/// What stops a cutter where the n-th picture isn't written. A sink in memory fails for want of it alone.
+fn stop_of_cut(error: WriteError, n: u64) -> Stop
+    ensures { result ≡ stop_by error n }
+{
+    match error {
+        WriteError::SinkFailed => Stop::NoMemory,
+        _ => stop_of_picture(error, n),
+    }
+}
+
+/// What a picture is, where it is kept: where its TemporalId is at most `tid`.
+fn kept_kind(kind: Kind, tid: u8) -> Option<Kind>
+    ensures { result ≡ cond (nat_le kind.temporal_id tid) (Some kind) None }
+{
+    if kind.temporal_id <= tid {
+        Some(kind)
+    } else {
+        None
+    }
+}
+
+/// Writes the subpicture of the picture that is held, behind so many others, or leaves it out; and answers what it is, if it is
+/// kept.
+fn cut_picture(
+    alloc: Global,
+    extractor: &mut Extractor,
+    tid: u8,
+    picture: &Picture<'_>,
+    pictures: u64,
+    cut: &mut GrowSink,
+) -> Result<Option<Kind>, Cut>
+    requires { tid ≡ extractor.old.tid }
+    ensures cuts { (done : List Plan) → Stands extractor.old done → Cuts picture.now done extractor.new cut.new.taken pictures result }
+    ensures task { SameTask extractor.old extractor.new }
+{
+    *cut = GrowSink::new(alloc);
+    match extractor.picture(picture, cut) {
+        Ok(()) => Ok(kept_kind(picture.kind(), tid)),
+        Err(error) => Err(Cut::Stopped(stop_of_cut(error, pictures))),
+    }
+}
+
+/// What is kept of an answer: the end.
+fn end_of(cut: Cut) -> Option<Cut>
+    ensures { result ≡ end_by cut }
+{
+    match cut {
+        Cut::Picture | Cut::Waits => None,
+        Cut::Ended | Cut::Stopped(_) => Some(cut),
+    }
+}
+
+impl Cutter {
+    ghost use Rattle.std.specs.Prelude.{◌≡◌, ◌⊎◌, ℕ, ◌+◌, ◌-◌, ◌<◌, ◌≤◌, ◌++◌, List, [], length, take, drop, Some, None, Ok, Err, IfOk, IfSome, OnSome, IfNone};
+    ghost use Rattle.vx_pic.specs.Readings.{Picture as StreamPicture};
+    ghost use Rattle.vx_pic.specs.Rules.{Readers};
+    ghost use Rattle.vx_pic.specs.H266.{AreOfH266};
+    ghost use Rattle.vx_pic.specs.declared.kind.Kind.{Kind as KindOf};
+    ghost use Rattle.vx_pic.specs.Written.{Plan};
+    ghost use Rattle.vx_extract.specs.Extracting.{SameTask};
+    ghost use Rattle.vx_run.specs.declared.extract.Task.{Task as Asked};
+    ghost use Rattle.vx_push.specs.Comes.{Handed, nothing, with_more, taken_at_once};
+    ghost use Rattle.vx_push.specs.declared.cutter.Cut.{Cut as Answer};
+    ghost use Rattle.vx_push.specs.declared.cutter.Cut.TheVariants.{Picture as ToPicture, Waits as ToWait};
+    ghost use Rattle.vx_push.specs.declared.intake.State.TheVariants.{Waits as AtWait, NoMemory as AtNoMemory};
+    ghost use Rattle.vx_push.specs.Cutting.{HasCut, Answers, flushed_by, ended_by};
+    ghost use Rattle.vx_push.specs.inner.Cutting.{StepsTo, units_left};
+
+    /// A cutter that does this task.
+    ///
+    /// # Errors
+    ///
+    /// Want of memory.
+    pub fn new(alloc: Global, task: Task) -> Result<Cutter, AllocError>
+        requires { task.tid ≤ 6 }
+        ensures cut { IfOk result (λ c. (R : Readers) → HasCut R task c nothing [] []) }
+        ensures none { IfOk result (λ c. (c.held ≡ None) × (c.end ≡ None)) }
+    {
+        let intake = Intake::new(alloc)?;
+        Ok(Cutter {
+            alloc,
+            intake,
+            extractor: Extractor::limited(alloc, task.target, task.level, task.tid),
+            tid: task.tid,
+            pictures: 0,
+            cut: GrowSink::new(alloc),
+            held: None,
+            end: None,
+        })
+    }
+
+    /// Hands in the first bytes of a piece, at most 65,536 of them, and answers how many. None are taken while a picture is held that
+    /// wasn't cut yet, and behind the end, a refusal or want of memory.
+    pub fn push(&mut self, piece: &[u8]) -> usize
+        ensures cut { (R : Readers) → AreOfH266 R → (t : Asked) (h : Handed) (ps : List StreamPicture) (done : List Plan)
+            → HasCut R t self.old h ps done → HasCut R t self.new (with_more h (take result piece.now)) ps done }
+        ensures count { self.old.intake.state ≡ AtWait
+            → (result ≡ taken_at_once self.old.intake (length piece.now)) ⊎ ((result ≡ 0) × (self.new.intake.state ≡ AtNoMemory)) }
+        ensures within { result ≤ length piece.now }
+        ensures kept { (self.old.intake.state ≡ AtWait → ⊥) → (result ≡ 0) × (self.new ≡ self.old) }
+    {
+        self.intake.push(piece)
+    }
+
+    /// The last unit that was handed in is whole: three zero bytes are handed in behind it.
+    pub fn flush(&mut self)
+        ensures cut { (R : Readers) → AreOfH266 R → (t : Asked) (h : Handed) (ps : List StreamPicture) (done : List Plan)
+            → HasCut R t self.old h ps done
+            → HasCut R t self.new (flushed_by self.old.intake.state self.old.intake.flushed self.old.intake.ended h) ps done }
+    {
+        self.intake.flush();
+    }
+
+    /// There are no more bytes.
+    pub fn end(&mut self)
+        ensures cut { (R : Readers) → AreOfH266 R → (t : Asked) (h : Handed) (ps : List StreamPicture) (done : List Plan)
+            → HasCut R t self.old h ps done → HasCut R t self.new (ended_by self.old.intake.state h) ps done }
+    {
+        self.intake.end();
+    }
+
+    /// Writes the next picture or leaves it out; and answers what it is, if it is kept.
+    fn step(&mut self) -> Result<Option<Kind>, Cut>
+        ensures answer { self.old.held ≡ None → self.old.end ≡ None → (R : Readers) → AreOfH266 R → (t : Asked) (h : Handed)
+            (ps : List StreamPicture) (done : List Plan) → HasCut R t self.old h ps done → StepsTo R t self.new h ps done result }
+        ensures held { self.new.held ≡ self.old.held }
+        ensures going { self.new.end ≡ self.old.end }
+        ensures falls { result ≡ Ok None → units_left self.new.intake < units_left self.old.intake }
+    {
+        pictures_have_slices();
+        look(&self.intake, self.pictures)?;
+        let kept = cut_picture(
+            self.alloc,
+            &mut self.extractor,
+            self.tid,
+            &self.intake.picture(),
+            self.pictures,
+            &mut self.cut,
+        )?;
+        self.pictures = self.pictures.saturating_add(1);
+        self.intake.pass();
+        Ok(kept)
+    }
+
+    /// Comes to the next picture that is kept, which is answered until it is taken; or to what keeps it from that. The end is
+    /// answered again from then on.
+    pub fn next(&mut self) -> Cut
+        ensures answer { self.old.held ≡ None → self.old.end ≡ None → (R : Readers) → AreOfH266 R → (t : Asked) (h : Handed)
+            (ps : List StreamPicture) (done : List Plan) → HasCut R t self.old h ps done → Answers R t self.new h ps done result }
+        ensures held { (kind : KindOf) → self.old.held ≡ Some kind → (result ≡ ToPicture) × (self.new ≡ self.old) }
+        ensures ended { (end : Answer) → self.old.held ≡ None → self.old.end ≡ Some end → (result ≡ end) × (self.new ≡ self.old) }
+    {
+        if self.held.is_some() {
+            return Cut::Picture;
+        }
+        if let Some(end) = self.end {
+            return end;
+        }
+        loop {
+            match self.step() {
+                Ok(None) => {}
+                Ok(Some(kind)) => {
+                    self.held = Some(kind);
+                    return Cut::Picture;
+                }
+                Err(cut) => {
+                    self.end = end_of(cut);
+                    return cut;
+                }
+            }
+        }
+    }
+
+    /// The picture that is to be taken.
+    pub fn picture(&self) -> Option<CutPicture>
+        ensures some { IfSome result (λ p. (self.now.held ≡ Some p.kind) × (p.number ≡ self.now.pictures - 1) × (p.bytes ≡ length self.now.cut)) }
+        ensures none { IfNone result (self.now.held ≡ None) }
+    {
+        let kind = self.held?;
+        Some(CutPicture {
+            number: self.pictures.saturating_sub(1),
+            bytes: self.cut.bytes().len(),
+            kind,
+        })
+    }
+
+    /// Takes the picture: copies its bytes to the front of `into`, and answers how many they are. None where there is none, or
+    /// where `into` has too little room; then nothing changes.
+    pub fn take(&mut self, into: &mut [u8]) -> Option<usize>
+        ensures taken { IfSome result (λ n. (n ≡ length self.old.cut) × (into.new ≡ self.old.cut ++ drop n into.old)) }
+        ensures went { OnSome result (self.new ≡ record self.old { held = None; cut = [] }) }
+        ensures none { IfNone result ((self.old.held ≡ None) ⊎ (length into.old < length self.old.cut)) }
+        ensures kept { IfNone result ((self.new ≡ self.old) × (into.new ≡ into.old)) }
+        ensures cut { (R : Readers) (t : Asked) (h : Handed) (ps : List StreamPicture) (done : List Plan) → HasCut R t self.old h ps done
+            → HasCut R t self.new h ps done }
+    {
+        let count = self.cut.bytes().len();
+        if self.held.is_none() || into.len() < count {
+            return None;
+        }
+        into[..count].copy_from_slice(self.cut.bytes());
+        self.cut = GrowSink::new(self.alloc);
+        self.held = None;
+        Some(count)
+    }
+}

@@ -1,0 +1,352 @@
+//! A merge whose sources are handed in as they come.
+ghost use Rattle.std.specs.Prelude.{◌≡◌, ℕ, ◌+◌, ◌-◌, ◌^◌, ◌<◌, ◌≤◌, All, List, [], length, vec_len, None, Ok, Err, IfOk, IfErr, OnOk};
+ghost use Rattle.vx_pic.specs.Rules.{Readers};
+ghost use Rattle.vx_pic.specs.H266.{AreOfH266};
+ghost use Rattle.vx_pic.specs.Written.{Plan};
+ghost use Rattle.vx_merge.specs.Merging.{AreCorners, SameTask, Stands};
+ghost use Rattle.vx_push.specs.Comes.{Handed, HasCome, nothing};
+ghost use Rattle.vx_push.specs.declared.intake.State.TheVariants.{Picture as AtPicture};
+ghost use Rattle.vx_push.specs.Mixing.{MixedIsMerged};
+ghost use Rattle.vx_push.specs.inner.Mixing.{AreNew, stop_by, mark_of, AreSeen, HaltsBy, HaltsFirst, Looks, Merges, HavePassed, end_by, round_of};
+
+use crate::intake::{Intake, State};
+use std::alloc::{AllocError, Global};
+use std::marker::Model;
+use vx_io::GrowSink;
+use vx_merge::{Corner, Merger, WriteError};
+use vx_pic::{Kind, Lender};
+use vx_run::{Stop, all_go_on, behind_units, merge_ends_once, stop_of_round};
+
+/// What a mixer has come to.
+#[derive(Clone, Copy, Debug, PartialEq, Eq)]
+pub enum Mixed {
+    /// A merged picture, which is to be taken.
+    Picture,
+    /// This source waits for bytes, and none before it does.
+    Waits(u16),
+    /// All sources have ended, and there are no more pictures.
+    Ended,
+    /// It is stopped, and there are no more pictures.
+    Stopped(Stop),
+}
+
+/// A merged picture.
+#[derive(Clone, Copy, Debug, PartialEq, Eq)]
+pub struct MergedPicture {
+    /// Its number, from 0.
+    pub number: u64,
+    /// How many bytes are written of it.
+    pub bytes: usize,
+    /// What it is among the pictures of the merged stream.
+    pub kind: Kind,
+}
+
+/// There is no source of this number.
+#[derive(Clone, Copy, Debug, PartialEq, Eq)]
+pub struct NoSource;
+
+/// Merges the pictures of byte streams that are handed in as they come. It holds one merged picture at most, and goes on once that was
+/// taken.
+#[derive(Drop)]
+pub struct Mixer {
+    alloc: Global,
+    merger: Merger,
+    intakes: Vec<Intake>,
+    // Which of them have ended, in the round that was looked at last.
+    ended: Vec<bool>,
+    // How many rounds were merged.
+    rounds: u64,
+    // What is written of the latest of them, and what it is, until it is taken.
+    merged: GrowSink,
+    held: Option<Kind>,
+    // What it came to in the end.
+    end: Option<Mixed>,
+}
+
+impl Model for Mixer {
+    ghost use Rattle.std.specs.Prelude.{◌≡◌, length, vec_len};
+    ghost use Rattle.vx_merge.specs.Merging.{AreCorners};
+    ghost use Rattle.vx_push.specs.Mixing.{Mixing};
+
+    ghost Value = { Mixing };
+
+    ghost view = { λ m. record { intakes = m.intakes.items; merger = m.merger; rounds = m.rounds; merged = m.merged.taken; held = m.held; end = m.end } };
+
+    ghost invariant = { λ m. AreCorners m.merger.corners × (vec_len m.intakes ≡ length m.merger.corners) × (vec_len m.ended ≡ length m.merger.corners) };
+}
+
+/// An intake for each of so many sources.
+fn intakes_for(alloc: Global, count: usize) -> Result<Vec<Intake>, AllocError>
+    ensures count { IfOk result (λ intakes. vec_len intakes ≡ count) }
+    ensures new { IfOk result (λ intakes. AreNew intakes.items) }
+{
+    let mut intakes = Vec::new(alloc);
+    for _ in 0..count {
+        let intake = Intake::new(alloc)?;
+        intakes.push(intake)?;
+    }
+    Ok(intakes)
+}
+
+/// Whether source `k` has ended; else it holds a picture, or this keeps a round from being merged.
+fn has_ended(state: State, k: u16) -> Result<bool, Mixed>
+    ensures so { IfOk result (λ ended. state ≡ mark_of ended) }
+    ensures halts { IfErr result (HaltsBy state k) }
+{
+    match state {
+        State::Picture => Ok(false),
+        State::Ended => Ok(true),
+        State::Waits => Err(Mixed::Waits(k)),
+        State::Refused { refusal, units } => {
+            let place = behind_units(k, units);
+            Err(Mixed::Stopped(Stop::Refused { refusal, place }))
+        }
+        State::NoMemory => Err(Mixed::Stopped(Stop::NoMemory)),
+    }
+}
+
+/// Marks which sources have ended, in order, up to the first that keeps a round from being merged.
+fn look_at_each(intakes: &[Intake], ended: &mut Vec<bool>) -> Result<(), Mixed>
+    requires few { length intakes.now ≤ 65536 }
+    requires count { vec_len ended.old ≡ length intakes.now }
+    ensures seen { OnOk result (AreSeen intakes.now ended.new.items) }
+    ensures halts { IfErr result (HaltsFirst intakes.now) }
+    ensures len { vec_len ended.new ≡ vec_len ended.old }
+{
+    for k in 0..intakes.len() {
+        ended[k] = has_ended(intakes[k].state(), k as u16)?;
+    }
+    Ok(())
+}
+
+/// Whether each source holds a picture, behind so many rounds; or what keeps the next round from being merged.
+fn look(intakes: &[Intake], ended: &mut Vec<bool>, rounds: u64) -> Result<(), Mixed>
+    requires some { 0 < length intakes.now }
+    requires few { length intakes.now ≤ 64 }
+    requires count { vec_len ended.old ≡ length intakes.now }
+    ensures looks { Looks intakes.now rounds result }
+    ensures len { vec_len ended.new ≡ vec_len ended.old }
+{
+    look_at_each(intakes, ended)?;
+    match all_go_on(ended, rounds) {
+        Ok(true) => Ok(()),
+        Ok(false) => Err(Mixed::Ended),
+        Err(stop) => Err(Mixed::Stopped(stop)),
+    }
+}
+
+/// What is kept of an answer: the end.
+fn end_of(mixed: Mixed) -> Option<Mixed>
+    ensures { result ≡ end_by mixed }
+{
+    match mixed {
+        Mixed::Picture | Mixed::Waits(_) => None,
+        Mixed::Ended | Mixed::Stopped(_) => Some(mixed),
+    }
+}
+
+/// Merges the pictures that the intakes hold, behind so many rounds, and answers what kind of picture that makes.
+fn merge_round(
+    alloc: Global,
+    merger: &mut Merger,
+    intakes: &[Intake],
+    rounds: u64,
+    merged: &mut GrowSink,
+) -> Result<Kind, Stop>
+    requires some { 0 < length intakes.now }
+    requires count { length intakes.now ≡ length merger.old.corners }
+    requires hold { All (λ i. i.state ≡ AtPicture) intakes.now }
+    ensures merges { (done : List Plan) → Stands merger.old done
+        → Merges (round_of intakes.now) done merger.new merged.new.taken rounds result }
+    ensures task { SameTask merger.old merger.new }
+{
+    *merged = GrowSink::new(alloc);
+    match merger.round(intakes, merged) {
+        Ok(()) => Ok(intakes[0].picture().kind()),
+        Err(error) => Err(stop_of_merge(error, rounds)),
+    }
+}
+
+/// What stops a mixer where round `n` isn't merged. A sink in memory fails for want of it alone.
+fn stop_of_merge(error: WriteError, n: u64) -> Stop
+    ensures { result ≡ stop_by error n }
+{
+    match error {
+        WriteError::SinkFailed => Stop::NoMemory,
+        _ => stop_of_round(error, n),
+    }
+}
+
+/// Goes on behind the picture that each intake holds.
+fn pass_each(intakes: &mut Vec<Intake>)
+    ensures { HavePassed intakes.old.items intakes.new.items }
+{
+    for k in 0..intakes.len() {
+        intakes[k].pass();
+    }
+}
+
+impl Mixer {
+    ghost use Rattle.std.specs.Prelude.{◌≡◌, ◌⊎◌, ℕ, ◌+◌, ◌-◌, ◌<◌, ◌≤◌, ◌++◌, List, [], length, take, drop, map, slice_get, slice_set, None, Some, IfOk, IfSome, OnOk, IfNone, OnErr, OnSome};
+    ghost use Rattle.vx_pic.specs.Rules.{Readers};
+    ghost use Rattle.vx_pic.specs.H266.{AreOfH266};
+    ghost use Rattle.vx_pic.specs.declared.kind.Kind.{Kind as KindOf};
+    ghost use Rattle.vx_pic.specs.Written.{Plan};
+    ghost use Rattle.vx_merge.specs.Merging.{AreCorners, SameTask};
+    ghost use Rattle.vx_push.specs.Comes.{Intaking, Handed, nothing, with_more, with_end, zeros};
+    ghost use Rattle.vx_push.specs.declared.mixer.Mixed.{Mixed as Answer};
+    ghost use Rattle.vx_push.specs.declared.mixer.Mixed.TheVariants.{Picture as ToPicture, Waits as ToWait};
+    ghost use Rattle.vx_push.specs.declared.intake.State.TheVariants.{Waits as AtWait, Picture as AtPicture};
+    ghost use Rattle.vx_push.specs.Mixing.{HasMixed, Answers, HandsIn, Takes, with_zeros};
+
+    /// A mixer of a source for each of these upper left corners, in luma samples, of the region that its pictures are; with a level of its own
+    /// or the sources' highest.
+    ///
+    /// # Errors
+    ///
+    /// Want of memory.
+    pub fn new(alloc: Global, corners: &[Corner], level: Option<u8>) -> Result<Mixer, AllocError>
+        requires { AreCorners corners.now }
+        ensures task { IfOk result (λ m. (m.merger.corners ≡ corners.now) × (m.merger.level ≡ level)) }
+        ensures mixed { IfOk result (λ m. (R : Readers) → HasMixed R m (map (λ corner. nothing) corners.now) []) }
+        ensures none { IfOk result (λ m. (m.held ≡ None) × (m.end ≡ None)) }
+    {
+        let merger = Merger::new(alloc, corners, level)?;
+        let intakes = intakes_for(alloc, corners.len())?;
+        let ended = vec![in alloc; false; corners.len()]?;
+        Ok(Mixer {
+            alloc,
+            merger,
+            intakes,
+            ended,
+            rounds: 0,
+            merged: GrowSink::new(alloc),
+            held: None,
+            end: None,
+        })
+    }
+
+    /// Hands in the first bytes of a piece of a source, at most 65,536 of them, and answers how many. None are taken while the source
+    /// holds a picture that isn't merged yet, and behind its end, its refusal or want of memory.
+    ///
+    /// # Errors
+    ///
+    /// There is no such source.
+    pub fn push(&mut self, source: usize, piece: &[u8]) -> Result<usize, NoSource>
+        ensures handed { IfOk result (λ n. HandsIn self.old self.new source (λ i h. with_more h (take n piece.now))) }
+        ensures count { IfOk result (λ n. (n ≤ length piece.now) × ((i later : Intaking) → slice_get self.old.intakes source ≡ Some i
+            → slice_get self.new.intakes source ≡ Some later → Takes i later (length piece.now) n)) }
+        ensures wrong { OnErr result ((length self.old.intakes ≤ source) × (self.new ≡ self.old)) }
+    {
+        if source >= self.intakes.len() {
+            return Err(NoSource);
+        }
+        Ok(self.intakes[source].push(piece))
+    }
+
+    /// The last unit that was handed in of a source is whole: three zero bytes are handed in behind it.
+    ///
+    /// # Errors
+    ///
+    /// There is no such source.
+    pub fn flush(&mut self, source: usize) -> Result<(), NoSource>
+        ensures handed { OnOk result (HandsIn self.old self.new source with_zeros) }
+        ensures wrong { OnErr result ((length self.old.intakes ≤ source) × (self.new ≡ self.old)) }
+    {
+        if source >= self.intakes.len() {
+            return Err(NoSource);
+        }
+        self.intakes[source].flush();
+        Ok(())
+    }
+
+    /// There are no more bytes of a source.
+    ///
+    /// # Errors
+    ///
+    /// There is no such source.
+    pub fn end(&mut self, source: usize) -> Result<(), NoSource>
+        ensures handed { OnOk result (HandsIn self.old self.new source (λ i h. with_end h)) }
+        ensures wrong { OnErr result ((length self.old.intakes ≤ source) × (self.new ≡ self.old)) }
+    {
+        if source >= self.intakes.len() {
+            return Err(NoSource);
+        }
+        self.intakes[source].end();
+        Ok(())
+    }
+
+    /// Comes to the next merged picture, which is answered until it is taken; or to what keeps it from that: the sources are gone on with in
+    /// order, and where one waits, those behind it aren't looked at. The end is answered again from then on.
+    pub fn next(&mut self) -> Mixed
+        ensures answer { self.old.held ≡ None → self.old.end ≡ None → (R : Readers) → AreOfH266 R → (given : List Handed) (done : List Plan)
+            → HasMixed R self.old given done → Answers R self.new given done result }
+        ensures held { (kind : KindOf) → self.old.held ≡ Some kind → (result ≡ ToPicture) × (self.new ≡ self.old) }
+        ensures ended { (end : Answer) → self.old.held ≡ None → self.old.end ≡ Some end → (result ≡ end) × (self.new ≡ self.old) }
+        ensures waits { (k : ℕ) → result ≡ ToWait k → self.new ≡ self.old }
+        ensures task { SameTask self.old.merger self.new.merger }
+    {
+        if self.held.is_some() {
+            return Mixed::Picture;
+        }
+        if let Some(end) = self.end {
+            return end;
+        }
+        if let Err(mixed) = look(&self.intakes, &mut self.ended, self.rounds) {
+            self.end = end_of(mixed);
+            return mixed;
+        }
+        let (alloc, rounds) = (self.alloc, self.rounds);
+        match merge_round(alloc, &mut self.merger, &self.intakes, rounds, &mut self.merged) {
+            Ok(kind) => {
+                self.held = Some(kind);
+                self.rounds = rounds.saturating_add(1);
+                pass_each(&mut self.intakes);
+                Mixed::Picture
+            }
+            Err(stop) => {
+                self.end = Some(Mixed::Stopped(stop));
+                Mixed::Stopped(stop)
+            }
+        }
+    }
+
+    /// The merged picture that is to be taken.
+    pub fn picture(&self) -> Option<MergedPicture>
+        ensures some { IfSome result (λ p. (self.now.held ≡ Some p.kind) × (p.number ≡ self.now.rounds - 1) × (p.bytes ≡ length self.now.merged)) }
+        ensures none { IfNone result (self.now.held ≡ None) }
+    {
+        let kind = self.held?;
+        Some(MergedPicture {
+            number: self.rounds.saturating_sub(1),
+            bytes: self.merged.bytes().len(),
+            kind,
+        })
+    }
+
+    /// Takes the merged picture: copies its bytes to the front of `into`, and answers how many they are. None where there is none, or
+    /// where `into` has too little room; then nothing changes.
+    pub fn take(&mut self, into: &mut [u8]) -> Option<usize>
+        ensures taken { IfSome result (λ n. (n ≡ length self.old.merged) × (into.new ≡ self.old.merged ++ drop n into.old)) }
+        ensures went { OnSome result (self.new ≡ record self.old { held = None; merged = [] }) }
+        ensures none { IfNone result ((self.old.held ≡ None) ⊎ (length into.old < length self.old.merged)) }
+        ensures kept { IfNone result ((self.new ≡ self.old) × (into.new ≡ into.old)) }
+        ensures mixed { (R : Readers) (given : List Handed) (done : List Plan) → HasMixed R self.old given done → HasMixed R self.new given done }
+    {
+        let count = self.merged.bytes().len();
+        if self.held.is_none() || into.len() < count {
+            return None;
+        }
+        into[..count].copy_from_slice(self.merged.bytes());
+        self.merged = GrowSink::new(self.alloc);
+        self.held = None;
+        Some(count)
+    }
+}
+
+/// A mixer that came to the end of a merge has merged what `merge` writes of the same streams, however they were handed in.
+pub fn mixed_is_merged()
+    ensures { MixedIsMerged }
+{
+    merge_ends_once();
+}

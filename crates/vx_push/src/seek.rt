@@ -1,0 +1,175 @@
+//! What a feed comes to in the bytes that it took.
+ghost use Rattle.std.specs.Prelude.{◌≡◌, ℕ, ◌+◌, ◌^◌, ◌<◌, ◌≤◌, ◌++◌, Bool, false, List, Some, None, take, IfSome, IsTrue};
+ghost use Rattle.vx_annexb.specs.ByteStream.{UnitPlace};
+ghost use Rattle.vx_annexb.specs.Held.{IsSought};
+ghost use Rattle.vx_annexb.specs.Reading.{fed_at_once};
+ghost use Rattle.vx_annexb.specs.declared.unit_reader.Closed.TheVariants as closed;
+ghost use Rattle.vx_pic.specs.Readings.{Reading, Picture as StreamPicture, pictures};
+ghost use Rattle.vx_pic.specs.Rules.{Readers};
+ghost use Rattle.vx_pic.specs.H266.{AreOfH266};
+ghost use Rattle.vx_assemble.specs.Held.{HasPicture, ShowsLatest, lent_by};
+ghost use Rattle.vx_assemble.specs.Feed.{HasFed, IsOpen, IsToldBy, bytes_held, left_to_take};
+ghost use Rattle.vx_push.specs.Handed.{Handed, zeros};
+ghost use Rattle.vx_push.specs.declared.intake.State.TheVariants.{Picture as Holds, Waits, NoMemory};
+ghost use Rattle.vx_push.specs.inner.Comes.{HasTaken, IsGoing, SeeksTo, StepsTo, StepsBehind, IsLeftAs, intaking, state_by, stopped_by};
+
+use crate::intake::State;
+use vx_assemble::{Accepted, Feed, FeedFault, Taken};
+
+/// Goes on until a picture is done, or no further unit is seen, or to the end.
+pub(crate) fn seek(feed: &mut Feed) -> State
+    ensures comes { (R : Readers) → AreOfH266 R → (g : List ℕ) (ps : List StreamPicture) → HasTaken R feed.old g ps
+        → SeeksTo R g ps feed.new result }
+    ensures left { IsLeftAs feed.new result }
+    ensures closed { feed.new.reader.closed ≡ feed.old.reader.closed }
+    ensures grows { feed.old.units ≤ feed.new.units }
+    ensures units { result ≡ Holds → feed.old.units < feed.new.units }
+    ensures few { result ≡ Holds → feed.new.units ≤ 2 ^ 40 }
+    ensures bytes { bytes_held feed.new ≤ 2 ^ 25 + 2 ^ 23 + 65538 }
+{
+    loop {
+        if let Some(state) = step(feed) {
+            return state;
+        }
+    }
+}
+
+/// Takes the next unit, and answers what that comes to; None where it is one that completes no picture.
+fn step(feed: &mut Feed) -> Option<State>
+    ensures answer { (R : Readers) → AreOfH266 R → (g : List ℕ) (ps : List StreamPicture) → HasTaken R feed.old g ps
+        → StepsTo R g ps feed.new result }
+    ensures left { IfSome result (IsLeftAs feed.new) }
+    ensures closed { feed.new.reader.closed ≡ feed.old.reader.closed }
+    ensures falls { result ≡ None → left_to_take feed.new < left_to_take feed.old }
+    ensures grows { feed.old.units ≤ feed.new.units }
+    ensures units { result ≡ Some Holds → feed.old.units < feed.new.units }
+    ensures few { result ≡ Some Holds → feed.new.units ≤ 2 ^ 40 }
+    ensures bytes { bytes_held feed.new ≤ 2 ^ 25 + 2 ^ 23 + 65538 }
+{
+    match feed.next() {
+        Ok(Some(taken)) => state_of(feed, taken),
+        Ok(None) => Some(State::Waits),
+        Err(fault) => Some(stopped(fault, feed.unit())),
+    }
+}
+
+/// What a feed came to that took this; None where it is a unit that completes no picture.
+fn state_of(feed: &Feed, taken: Taken) -> Option<State>
+    requires { IsToldBy feed.now.assembler (Some taken) }
+    ensures state { result ≡ state_by taken }
+    ensures holds { result ≡ Some Holds → HasPicture feed.now.assembler }
+    ensures lends { result ≡ Some Holds → (R : Readers) (g : List ℕ) (places : List UnitPlace) (before : List Reading)
+        → HasFed R feed.now g places before → ShowsLatest (lent_by feed.now.assembler) (pictures before) }
+{
+    match taken {
+        Taken::End => Some(State::Ended),
+        Taken::Nal { what, .. } => match what {
+            Accepted::PictureDone => {
+                let _picture = feed.picture();
+                Some(State::Picture)
+            }
+            _ => None,
+        },
+    }
+}
+
+/// What a feed came to that takes no unit behind so many.
+fn stopped(fault: FeedFault, units: u64) -> State
+    ensures { result ≡ stopped_by fault units }
+{
+    match fault {
+        FeedFault::Refused(refusal) => State::Refused { refusal, units },
+        FeedFault::Memory | FeedFault::SourceFailed | FeedFault::Stopped(_) => State::NoMemory,
+    }
+}
+
+/// Hands in the zeros behind a whole unit, and goes on.
+pub(crate) fn give_zeros(feed: &mut Feed) -> State
+    requires open { IsOpen feed.old }
+    requires sought { IsSought feed.old.reader.splitter }
+    ensures comes { (R : Readers) → AreOfH266 R → (g : List ℕ) (ps : List StreamPicture) → HasTaken R feed.old g ps
+        → SeeksTo R (g ++ take (fed_at_once feed.old.reader.taken 3) zeros) ps feed.new result }
+    ensures left { IsLeftAs feed.new result }
+    ensures unended { feed.new.reader.closed ≡ Some closed.End → ⊥ }
+    ensures whole { (result ≡ NoMemory → ⊥) → feed.new.reader.closed ≡ None → fed_at_once feed.old.reader.taken 3 ≡ 3 }
+    ensures grows { feed.old.units ≤ feed.new.units }
+    ensures units { result ≡ Holds → feed.old.units < feed.new.units }
+    ensures few { result ≡ Holds → feed.new.units ≤ 2 ^ 40 }
+    ensures bytes { bytes_held feed.new ≤ 2 ^ 25 + 2 ^ 23 + 65538 }
+{
+    match feed.feed(&[0, 0, 0]) {
+        Ok(_count) => seek(feed),
+        Err(_error) => State::NoMemory,
+    }
+}
+
+/// Says that there are no more bytes, and goes on.
+pub(crate) fn give_end(feed: &mut Feed) -> State
+    requires { IsOpen feed.old }
+    ensures comes { (R : Readers) → AreOfH266 R → (g : List ℕ) (ps : List StreamPicture) → HasTaken R feed.old g ps
+        → SeeksTo R g ps feed.new result }
+    ensures left { IsLeftAs feed.new result }
+    ensures stays { result ≡ Waits → ⊥ }
+    ensures end { feed.new.reader.closed ≡ Some closed.End }
+    ensures grows { feed.old.units ≤ feed.new.units }
+    ensures units { result ≡ Holds → feed.old.units < feed.new.units }
+    ensures few { result ≡ Holds → feed.new.units ≤ 2 ^ 40 }
+    ensures bytes { bytes_held feed.new ≤ 2 ^ 25 + 2 ^ 23 + 65538 }
+{
+    feed.finish();
+    seek(feed)
+}
+
+/// Goes on behind a picture: in what was read, and where that is all, in the zeros and to the end that were handed in behind it.
+pub(crate) fn go_on(feed: &mut Feed, flushed: &mut bool, ended: bool) -> State
+    ensures comes { (R : Readers) → AreOfH266 R → (h : Handed) (ps : List StreamPicture) → IsGoing R (intaking feed.old Holds flushed.old ended) h ps
+        → StepsBehind R (intaking feed.new result flushed.new ended) h ps result }
+    ensures left { IsLeftAs feed.new result }
+    ensures unflushed { result ≡ Waits → flushed.new ≡ false }
+    ensures unended { result ≡ Waits → ended ≡ false }
+    ensures units { result ≡ Holds → feed.old.units < feed.new.units }
+    ensures few { result ≡ Holds → feed.new.units ≤ 2 ^ 40 }
+    ensures bytes { bytes_held feed.new ≤ 2 ^ 25 + 2 ^ 23 + 65538 }
+{
+    let state = seek(feed);
+    if !waits(state) {
+        return state;
+    }
+    let state = give_owed(feed, flushed);
+    if !waits(state) {
+        return state;
+    }
+    if ended {
+        return give_end(feed);
+    }
+    State::Waits
+}
+
+/// Hands in the zeros that are owed, if they are, and goes on.
+fn give_owed(feed: &mut Feed, flushed: &mut bool) -> State
+    requires open { IsOpen feed.old }
+    requires sought { IsSought feed.old.reader.splitter }
+    ensures comes { (R : Readers) → AreOfH266 R → (h : Handed) (ps : List StreamPicture) (ended : Bool)
+        → StepsBehind R (intaking feed.old Waits flushed.old ended) h ps Waits
+        → StepsBehind R (intaking feed.new result flushed.new ended) h ps result }
+    ensures left { IsLeftAs feed.new result }
+    ensures unflushed { flushed.new ≡ false }
+    ensures grows { feed.old.units ≤ feed.new.units }
+    ensures units { result ≡ Holds → feed.old.units < feed.new.units }
+    ensures few { result ≡ Holds → feed.new.units ≤ 2 ^ 40 }
+    ensures bytes { bytes_held feed.old ≤ 2 ^ 25 + 2 ^ 23 + 65538 → bytes_held feed.new ≤ 2 ^ 25 + 2 ^ 23 + 65538 }
+{
+    if !*flushed {
+        return State::Waits;
+    }
+    *flushed = false;
+    give_zeros(feed)
+}
+
+/// Whether it is the state of one that waits for bytes.
+pub(crate) fn waits(state: State) -> bool
+    ensures yes { IsTrue result → state ≡ Waits }
+    ensures no { ¬ IsTrue result → state ≡ Waits → ⊥ }
+{
+    matches!(state, State::Waits)
+}

@@ -1,0 +1,151 @@
+//! The line that shows the fields of a set or header.
+
+ghost use Rattle.std.specs.Prelude.{◌≡◌, ◌++◌, decimal, OnOk};
+ghost use Rattle.vx_report.specs.FieldsLine as line;
+ghost use Rattle.vx_report.specs.FieldsLine.{fields_text};
+
+use itoa::Buffer;
+use std::alloc::AllocError;
+use vx_bits::{Fields, Item};
+use vx_fields::name_of;
+use vx_pic::{Structure, StructureFields};
+
+/// Puts the JSON line of the fields of a unit behind others, with a line feed:
+/// `{"bit":0,"fields":[["sps_seq_parameter_set_id",0],..],"structure":"SPS","unit":3}`. `unit` is the number of units before
+/// it. An adaptation parameter set has `"body":N` too, the bytes of its body where they are known, and a unit that is refused
+/// at a field `"refused":FIELD`. Nothing is put of a unit that is no set and no header.
+///
+/// # Errors
+///
+/// Where memory runs out; a part of the line may then stand behind the others.
+#[tactic(auto, unfolding(crate::specs::FieldsLine::fields_text))]
+pub fn fields_line(
+    lines: &mut Vec<u8>,
+    unit: u64,
+    fields: &StructureFields,
+    refused: Option<u16>,
+) -> Result<(), AllocError>
+    ensures { OnOk result (lines.new.items ≡ lines.old.items ++ fields_text unit fields.now refused) }
+{
+    match fields.structure {
+        Some(structure) => put_line(lines, unit, structure, fields, refused),
+        None => Ok(()),
+    }
+}
+
+/// The line of a structure.
+fn put_line(
+    lines: &mut Vec<u8>,
+    unit: u64,
+    structure: Structure,
+    fields: &StructureFields,
+    refused: Option<u16>,
+) -> Result<(), AllocError>
+    ensures { OnOk result (lines.new.items ≡ lines.old.items
+        ++ line.line_text unit refused structure fields.now.items fields.now.body) }
+{
+    put_start(lines, fields.body)?;
+    put_items(lines, &fields.items)?;
+    put_end(lines, refused, structure, unit)?;
+    Ok(())
+}
+
+/// What stands before the fields.
+fn put_start(lines: &mut Vec<u8>, body: Option<usize>) -> Result<(), AllocError>
+    ensures { OnOk result (lines.new.items ≡ lines.old.items ++ line.start_json body) }
+{
+    lines.extend_from_slice(b"{\"bit\":0")?;
+    put_body(lines, body)?;
+    lines.extend_from_slice(b",\"fields\":[")?;
+    Ok(())
+}
+
+/// How many bytes the body has.
+fn put_body(lines: &mut Vec<u8>, body: Option<usize>) -> Result<(), AllocError>
+    ensures { OnOk result (lines.new.items ≡ lines.old.items ++ line.body_json body) }
+{
+    match body {
+        Some(bytes) => put_number(lines, b",\"body\":", bytes as u64),
+        None => Ok(()),
+    }
+}
+
+/// The fields, with commas between them.
+#[tactic(auto, using(crate::proofs::FieldsText::items_none, crate::proofs::FieldsText::items_first, crate::proofs::FieldsText::items_on, crate::proofs::FieldsText::items_all))]
+fn put_items(lines: &mut Vec<u8>, items: &Fields) -> Result<(), AllocError>
+    ensures { OnOk result (lines.new.items ≡ lines.old.items ++ line.items_json items.now) }
+{
+    if items.len() == 0 {
+        return Ok(());
+    }
+    put_item(lines, items.item(0))?;
+    for i in 1..items.len() {
+        lines.push(b',')?;
+        put_item(lines, items.item(i))?;
+    }
+    Ok(())
+}
+
+/// A field and its value.
+fn put_item(lines: &mut Vec<u8>, item: Item) -> Result<(), AllocError>
+    ensures { OnOk result (lines.new.items ≡ lines.old.items ++ line.item_json item) }
+{
+    let mut buffer = Buffer::new();
+    lines.extend_from_slice(b"[\"")?;
+    lines.extend_from_slice(name_of(item.field).unwrap_or_default())?;
+    lines.extend_from_slice(b"\",")?;
+    lines.extend_from_slice(buffer.format(item.value).as_bytes())?;
+    lines.push(b']')?;
+    Ok(())
+}
+
+/// What stands behind the fields.
+fn put_end(
+    lines: &mut Vec<u8>,
+    refused: Option<u16>,
+    structure: Structure,
+    unit: u64,
+) -> Result<(), AllocError>
+    ensures { OnOk result (lines.new.items ≡ lines.old.items ++ line.end_json refused structure unit) }
+{
+    lines.push(b']')?;
+    put_refused(lines, refused)?;
+    lines.extend_from_slice(b",\"structure\":\"")?;
+    lines.extend_from_slice(word_of(structure).as_bytes())?;
+    put_number(lines, b"\",\"unit\":", unit)?;
+    lines.extend_from_slice(b"}\n")?;
+    Ok(())
+}
+
+/// The field that is refused.
+fn put_refused(lines: &mut Vec<u8>, refused: Option<u16>) -> Result<(), AllocError>
+    ensures { OnOk result (lines.new.items ≡ lines.old.items ++ line.refused_json refused) }
+{
+    match refused {
+        Some(field) => put_number(lines, b",\"refused\":", u64::from(field)),
+        None => Ok(()),
+    }
+}
+
+/// A number behind a text.
+fn put_number(lines: &mut Vec<u8>, before: &[u8], number: u64) -> Result<(), AllocError>
+    ensures { OnOk result (lines.new.items ≡ lines.old.items ++ (before.now ++ decimal number)) }
+{
+    let mut buffer = Buffer::new();
+    lines.extend_from_slice(before)?;
+    lines.extend_from_slice(buffer.format(number).as_bytes())
+}
+
+/// The word for a structure.
+fn word_of(structure: Structure) -> &'static str
+    ensures { result.now ≡ line.structure_word structure }
+{
+    match structure {
+        Structure::Vps => "VPS",
+        Structure::Sps => "SPS",
+        Structure::Pps => "PPS",
+        Structure::Aps => "APS",
+        Structure::PictureHeader => "PH",
+        Structure::SliceHeader => "SH",
+    }
+}

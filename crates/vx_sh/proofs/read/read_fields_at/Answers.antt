@@ -1,0 +1,7 @@
+use Rattle.vx_table.proofs.Readings.{front_is}
+use Rattle.vx_sh.proofs.read.read_fields_at.Goals as goal
+
+pub returns : goal.returns
+returns c =
+    let start = front_is c.new-bits.result c.args.rbsp.now c.new-bits.ensures.total c.new-bits.ensures.left in
+    (c.read_all.new.bits, rw start at c.read_all.ensures)
