@@ -14,7 +14,7 @@ use Rattle.vx_push.specs.inner.Comes.{IsGoing}
 use Rattle.vx_push.specs.Mixing.{IsBehind, HasComeBehind}
 
 -- units take bytes, each of its own
-few_units : (b : List ℕ) (all : Bool) (p : ℕ) (us : List UnitPlace) → FollowsFrom b all p us → length us ≤ length b - p
+pub few_units : (b : List ℕ) (all : Bool) (p : ℕ) (us : List UnitPlace) → FollowsFrom b all p us → length us ≤ length b - p
 few_units b all p [] f = omega arith
 few_units b all p (u ∷ us) f =
     let at = unit_within b all p u f.0 in
@@ -27,5 +27,12 @@ few_behind R i h n is c =
     let many : length c.pictures ≡ n + 1 = subst (λ (s : State). IsBehind s n (length c.pictures)) is c.count in
     let taken = going.taken in
     let seen = seen_of going.given in
-    omega (arith, many, ap (λ (l : List StreamPicture). length l) taken.done, few_pictures taken.before, all_length R seen taken.places taken.before taken.fed.readings,
-    few_units seen (is_all i.feed.reader.splitter) 0 taken.places taken.fed.read.stands.given, few_seen going.given)
+    omega (
+      arith,
+      many,
+      ap (λ (l : List StreamPicture). length l) taken.done,
+      few_pictures taken.before,
+      all_length R seen taken.places taken.before taken.fed.readings,
+      few_units seen (is_all i.feed.reader.splitter) 0 taken.places taken.fed.read.stands.given,
+      few_seen going.given,
+    )

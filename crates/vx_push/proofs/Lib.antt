@@ -1,5 +1,6 @@
 -- Lemmas of this crate.
 pub mod Coming
+pub mod Cutting
 pub mod Few
 pub mod Merged
 pub mod Mixing

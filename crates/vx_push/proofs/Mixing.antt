@@ -334,7 +334,7 @@ module _ (R : Readers) (m : Mixing) (given : List Handed) (done : List Plan) (h 
           let many : length c.pictures ≡ m.rounds = subst (λ (s : State). IsBehind s m.rounds (length c.pictures)) is c.count in (
             h,
             subst (λ (i : ℕ). IsAwaited R given (length done) i) same
-            (record { handed = g.0; at = g.1; pictures = c.pictures; seen = comes.1; count = many ∙ sym h.rounds; open_ = comes.2 }),
+                (record { handed = g.0; at = g.1; pictures = c.pictures; seen = comes.1; count = many ∙ sym h.rounds; open_ = comes.2 }),
             λ ss can.
                 subst (λ (i : ℕ). NoneRefused i ss (length done)) same
                 (subst (λ (n : ℕ). NoneRefused x.k ss n) (sym h.rounds) (none_refused R m.intakes given m.rounds h.sources h.come ss can x.marks x.k x.before)),

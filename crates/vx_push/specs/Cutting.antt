@@ -1,7 +1,7 @@
 -- A cutter, as its callers see it: by these words, and by the relation `HasCut` between it, what was handed in of its source, the pictures
 -- of that which it passed, and those that it wrote. That relation begins with none of these; `Answers` says what it is worth. Lists of
 -- pictures and of plans have the latest first.
-use Rattle.std.specs.Prelude.{◌≡◌, ◌⊎◌, ℕ, true, false, List, [], ◌∷◌, ◌++◌, length, map, Bool, Option, Some, None}
+use Rattle.std.specs.Prelude.{◌≡◌, ◌⊎◌, ℕ, false, List, [], ◌∷◌, ◌++◌, length, map, Bool, Option, Some, None}
 use Rattle.vx_bits.specs.declared.refusal.Refusal.{Refusal}
 use Rattle.vx_bits.specs.declared.refusal.Refusal.TheVariants.{Extract}
 use Rattle.vx_bits.specs.declared.rules.TheConstants.{NO_PICTURE}
@@ -25,7 +25,7 @@ use Rattle.vx_push.specs.declared.intake.State.{State}
 use Rattle.vx_push.specs.declared.intake.State.TheVariants.{Picture as AtPicture, Waits as AtWait}
 use Rattle.vx_push.specs.declared.cutter.Cut.{Cut}
 use Rattle.vx_push.specs.declared.cutter.Cut.TheVariants.{Picture as ToPicture, Waits as ToWait, Ended as ToEnd, Stopped as ToStop}
-use Rattle.vx_push.specs.Comes.{Intaking, Handed, with_more, zeros, OfEachStream, HasCome}
+use Rattle.vx_push.specs.Comes.{Intaking, Handed, with_more, with_end, zeros, OfEachStream, HasCome}
 
 -- A cutter: its intake and its extractor; how many pictures it passed; the bytes of the last one that it wrote and what that is, until they
 -- are taken; and what it came to in the end.
@@ -106,6 +106,6 @@ flushed_by state flushed ended h = h
 
 -- and that there are no more bytes, where it goes on
 abbrev pub ended_by : State → Handed → Handed
-ended_by AtWait h = record h { all = true }
-ended_by AtPicture h = record h { all = true }
+ended_by AtWait h = with_end h
+ended_by AtPicture h = with_end h
 ended_by state h = h

@@ -297,7 +297,13 @@ impl Mixer {
             return mixed;
         }
         let (alloc, rounds) = (self.alloc, self.rounds);
-        match merge_round(alloc, &mut self.merger, &self.intakes, rounds, &mut self.merged) {
+        match merge_round(
+            alloc,
+            &mut self.merger,
+            &self.intakes,
+            rounds,
+            &mut self.merged,
+        ) {
             Ok(kind) => {
                 self.held = Some(kind);
                 self.rounds = rounds.saturating_add(1);

@@ -1,0 +1,493 @@
+-- A cutter: what it answers, by what its intake came to and its extractor answered.
+use Rattle.std.proofs.Common.{◌≡◌, ◌⊎◌, inl, inr, ⊎_elim, ℕ, ◌+◌, ◌-◌, ◌<◌, ◌≤◌, Bool, true, false, cond, List, [], ◌∷◌, ◌++◌, ◌∙◌, Option, Some, None, Result, Ok, Err, length, map, take, nat_le, refl, ap, ap₂, sym, subst, arith, append_assoc, append-nil}
+use Rattle.std.specs.Prelude.{option_map}
+use Rattle.std.specs.List.{AllByRecursion}
+use Rattle.vx_bits.specs.declared.refusal.Refusal.{Refusal}
+use Rattle.vx_bits.specs.declared.refusal.Refusal.TheVariants.{Extract}
+use Rattle.vx_bits.specs.declared.rules.TheConstants.{NO_PICTURE}
+use Rattle.vx_annexb.specs.Held.{is_all}
+use Rattle.vx_annexb.specs.Laws.{written}
+use Rattle.vx_pic.specs.declared.kind.Kind.{Kind}
+use Rattle.vx_pic.specs.Readings.{Picture, pictures}
+use Rattle.vx_pic.specs.Rules.{Readers}
+use Rattle.vx_pic.specs.H266.{AreOfH266}
+use Rattle.vx_pic.specs.Streams.{Outcome, pictures_of}
+use Rattle.vx_pic.specs.Bytes.{Ending, units_at}
+use Rattle.vx_pic.specs.Parts.{Parts, parts_of}
+use Rattle.vx_pic.specs.Sublayers.{at_most}
+use Rattle.vx_pic.specs.Written.{Plan, units_of}
+use Rattle.vx_report.specs.declared.refusal.Where.{Where}
+use Rattle.vx_assemble.specs.Held.{ShowsLatest, lent_by}
+use Rattle.vx_assemble.specs.Feed.{seen_of}
+use Rattle.vx_assemble.proofs.InMemory.{few_seen}
+use Rattle.vx_sps.specs.Subpictures.{subpics_of}
+use Rattle.vx_write.specs.declared.fault.WriteError.{WriteError}
+use Rattle.vx_write.specs.declared.fault.WriteError.TheVariants as errors
+use Rattle.vx_extract.specs.Extracting.{Extracting, Stands, SameTask, HasSlice, Writes, WritesKept}
+use Rattle.vx_extract.specs.Rules.{is_kept, refusal_of}
+use Rattle.vx_extract.specs.Written.{AreExtracted, IsExtracted}
+use Rattle.vx_run.specs.declared.extract.Task.{Task}
+use Rattle.vx_run.specs.declared.stop.Stop.{Stop}
+use Rattle.vx_run.specs.declared.stop.Stop.TheVariants.{NotUnderstood, Refused, Mismatched, ReadFault, WriteFault, NoMemory}
+use Rattle.vx_run.specs.Extract.{BreakNoRule, BreaksBehind, BeginsWith, IsExtractable, at_picture}
+use Rattle.vx_run.specs.inner.Extracting.{HaveSlices}
+use Rattle.vx_run.proofs.Extracting.{no_pictures, shown_is}
+use Rattle.vx_run.proofs.Lined.{all_length, few_pictures}
+use Rattle.vx_run.proofs.ReadAgain.{has_subpicture}
+use Rattle.vx_push.specs.declared.intake.State.{State}
+use Rattle.vx_push.specs.declared.intake.State.TheVariants as states
+use Rattle.vx_push.specs.declared.cutter.Cut.{Cut}
+use Rattle.vx_push.specs.declared.cutter.Cut.TheVariants.{Picture as ToPicture, Waits as ToWait, Ended as ToEnd, Stopped as ToStop}
+use Rattle.vx_push.specs.Handed.{with_more, with_end, zeros, nothing, Handed, OfEachStream}
+use Rattle.vx_push.specs.Comes.{Intaking, HasCome, ComesTo, ComesNext, IsFedBy}
+use Rattle.vx_push.specs.Cutting.{Cutting, IsRefused, by_stream, by_picture, without, HasEndedBy, IsBehind, HasComeBehind, Holds, HasCut, IsAwaited, Answers, flushed_by, ended_by}
+use Rattle.vx_push.specs.inner.Comes.{HasTaken, IsGoing}
+use Rattle.vx_push.specs.inner.Cutting.{EndsBehind, HaltsBy, stop_by, CutsKept, Cuts, end_by, StepsTo, StillCuts, units_by}
+use Rattle.vx_push.proofs.Coming.{of_later}
+use Rattle.vx_push.proofs.Few.{few_units}
+
+-- ---- its intake
+
+-- where it holds a picture, that is the latest that it came to; else it came to those that were passed
+holds_one : (R : Readers) (i : Intaking) (h : Handed) (ps : List Picture) → i.state ≡ states.Picture → (c : HasComeBehind R i h ps) → (p : Picture) × HasCome R i h (p ∷ ps)
+holds_one R i h ps is c =
+    let one : IsBehind states.Picture ps c.seen = subst (λ (s : State). IsBehind s ps c.seen) is c.behind in
+    (one.0, subst (λ (l : List Picture). HasCome R i h l) one.1 c.come)
+
+behind_at : (s : State) (ps seen : List Picture) → (s ≡ states.Picture → ⊥) → IsBehind s ps seen → seen ≡ ps
+behind_at states.Waits ps seen other is = is
+behind_at states.Picture ps seen other is = absurd (other refl)
+behind_at states.Ended ps seen other is = is
+behind_at (states.Refused r n) ps seen other is = is
+behind_at states.NoMemory ps seen other is = is
+
+holds_none : (R : Readers) (i : Intaking) (h : Handed) (ps : List Picture) → (i.state ≡ states.Picture → ⊥) → HasComeBehind R i h ps → HasCome R i h ps
+holds_none R i h ps other c = subst (λ (l : List Picture). HasCome R i h l) (behind_at i.state ps c.seen other c.behind) c.come
+
+-- it came to what is next
+come_next : (R : Readers) (i : Intaking) (h : Handed) (ps : List Picture) (s : State) → i.state ≡ s → ComesNext R i h ps s → HasComeBehind R i h ps
+come_next R i h ps states.Waits is next = record { seen = ps; come = next; behind = subst (λ (x : State). IsBehind x ps ps) (sym is) refl }
+come_next R i h ps states.Picture is next = record { seen = next.0 ∷ ps; come = next.1; behind = subst (λ (x : State). IsBehind x ps (next.0 ∷ ps)) (sym is) (next.0, refl) }
+come_next R i h ps states.Ended is next = record { seen = ps; come = next; behind = subst (λ (x : State). IsBehind x ps ps) (sym is) refl }
+come_next R i h ps (states.Refused r n) is next = record { seen = ps; come = next; behind = subst (λ (x : State). IsBehind x ps ps) (sym is) refl }
+come_next R i h ps states.NoMemory is next = record { seen = ps; come = next; behind = subst (λ (x : State). IsBehind x ps ps) (sym is) refl }
+
+-- no more pictures than a count can tell
+few_going : (R : Readers) (i : Intaking) (h : Handed) (ps : List Picture) → IsGoing R i h ps → length ps ≤ 1099511627776
+few_going R i h ps going =
+    let t = going.taken in
+    let seen = seen_of going.given in
+    omega (
+      arith,
+      ap (λ (l : List Picture). length l) t.done,
+      few_pictures t.before,
+      all_length R seen t.places t.before t.fed.readings,
+      few_units seen (is_all i.feed.reader.splitter) 0 t.places t.fed.read.stands.given,
+      few_seen going.given,
+    )
+
+pub few_held : (R : Readers) (i : Intaking) (h : Handed) (ps : List Picture) → i.state ≡ states.Picture → HasComeBehind R i h ps → length ps + 1 ≤ 1099511627776
+few_held R i h ps is c =
+    let one = holds_one R i h ps is c in
+    let going : IsGoing R i h (one.0 ∷ ps) = subst (λ (s : State). IsFedBy R i h (one.0 ∷ ps) s) is one.1.fed in
+    omega (arith, few_going R i h (one.0 ∷ ps) going)
+
+-- ---- what is handed in
+
+-- what holds of the streams that begin so holds of those of them that have no more bytes
+of_end : (R : Readers) (h : Handed) (P : List Picture → Option Ending → Type 0) → OfEachStream R h P → OfEachStream R (with_end h) P
+of_end R h P each b qs ending o are = each b qs ending (record { rest = o.rest; front = o.front; whole = λ all. o.whole refl }) are
+
+abbrev Carries : Readers → Handed → Handed → Type 1
+Carries R h h' = (P : List Picture → Option Ending → Type 0) → OfEachStream R h P → OfEachStream R h' P
+
+ended_on : (R : Readers) (t : Task) (h h' : Handed) (ps : List Picture) (end : Cut) → Carries R h h' → HasEndedBy R t h ps end → HasEndedBy R t h' ps end
+ended_on R t h h' ps ToPicture carries by = absurd by
+ended_on R t h h' ps ToWait carries by = absurd by
+ended_on R t h h' ps ToEnd carries by = carries (λ qs ending. (qs ≡ ps) × IsExtractable t qs ending) by
+ended_on R t h h' ps (ToStop (Refused r place)) carries by = carries (λ qs ending. IsRefused t qs ending ps r place) by
+ended_on R t h h' ps (ToStop NoMemory) carries by = carries (λ qs ending. BeginsWith qs ps) by
+ended_on R t h h' ps (ToStop NotUnderstood) carries by = absurd by
+ended_on R t h h' ps (ToStop (Mismatched m n)) carries by = absurd by
+ended_on R t h h' ps (ToStop (ReadFault k)) carries by = absurd by
+ended_on R t h h' ps (ToStop WriteFault) carries by = absurd by
+
+handed : (R : Readers) (t : Task) (c : Cutting) (i : Intaking) (h h' : Handed) (ps : List Picture) (done : List Plan) → HasCut R t c h ps done → HasComeBehind R i h' ps → Carries R h h'
+    → HasCut R t (record c { intake = i }) h' ps done
+handed R t c i h h' ps done cut come carries = record {
+  target = cut.target;
+  level = cut.level;
+  tid = cut.tid;
+  come = come;
+  count = cut.count;
+  rules = cut.rules;
+  plans = cut.plans;
+  stands = cut.stands;
+  holds = λ kind is. let one = cut.holds kind is in (one.0, one.1, one.2, record { bytes = one.3.bytes; kind = one.3.kind });
+  ended = λ end is. ended_on R t h h' ps end carries (cut.ended end is);
+}
+
+all_waiting : (R : Readers) (i : Intaking) (h : Handed) (ps : List Picture) → i.state ≡ states.Waits → HasCome R i h ps → h.all ≡ false
+all_waiting R i h ps is come = (subst (λ (s : State). ComesTo R h ps s) is come.told).2
+
+all_holding : (R : Readers) (i : Intaking) (h : Handed) (ps : List Picture) → i.state ≡ states.Picture → i.ended ≡ false → HasCome R i h ps → h.all ≡ false
+all_holding R i h ps is open_ come =
+    let going : IsGoing R i h ps = subst (λ (s : State). IsFedBy R i h ps s) is come.fed in
+    going.all ∙ open_
+
+waits_only : (s : State) → s ≡ states.Waits → s ≡ states.Picture → ⊥
+waits_only s waits holds = let e = waits in let f = holds in absurd (cc)
+
+module _ (R : Readers) (t : Task) (c : Cutting) (i : Intaking) (h : Handed) (ps : List Picture) (done : List Plan) (cut : HasCut R t c h ps done) where
+  -- more, where it waits
+  pub hands_more : (piece : List ℕ) → c.intake.state ≡ states.Waits → ((qs : List Picture) → HasCome R c.intake h qs → ComesNext R i (with_more h piece) qs i.state)
+      → HasCut R t (record c { intake = i }) (with_more h piece) ps done
+  hands_more piece waits next =
+      let come = holds_none R c.intake h ps (waits_only c.intake.state waits) cut.come in
+      handed R t c i h (with_more h piece) ps done cut (come_next R i (with_more h piece) ps i.state refl (next ps come)) (λ P. of_later R h piece P (all_waiting R c.intake h ps waits come))
+
+  -- or behind a picture
+  pub hands_more_behind : (piece : List ℕ) → c.intake.state ≡ states.Picture → i.state ≡ states.Picture → c.intake.ended ≡ false
+      → ((qs : List Picture) → HasCome R c.intake h qs → HasCome R i (with_more h piece) qs) → HasCut R t (record c { intake = i }) (with_more h piece) ps done
+  hands_more_behind piece holds still open_ later =
+      let one = holds_one R c.intake h ps holds cut.come in
+      handed R t c i h (with_more h piece) ps done cut (come_next R i (with_more h piece) ps states.Picture still (one.0, later (one.0 ∷ ps) one.1))
+      (λ P. of_later R h piece P (all_holding R c.intake h (one.0 ∷ ps) holds open_ one.1))
+
+  -- the end
+  pub hands_end : c.intake.state ≡ states.Waits → ((qs : List Picture) → HasCome R c.intake h qs → ComesNext R i (with_end h) qs i.state) → HasCut R t (record c { intake = i }) (with_end h) ps done
+  hands_end waits next =
+      let come = holds_none R c.intake h ps (waits_only c.intake.state waits) cut.come in
+      handed R t c i h (with_end h) ps done cut (come_next R i (with_end h) ps i.state refl (next ps come)) (λ P. of_end R h P)
+
+  pub hands_end_behind : c.intake.state ≡ states.Picture → i.state ≡ states.Picture → ((qs : List Picture) → HasCome R c.intake h qs → HasCome R i (with_end h) qs)
+      → HasCut R t (record c { intake = i }) (with_end h) ps done
+  hands_end_behind holds still later =
+      let one = holds_one R c.intake h ps holds cut.come in
+      handed R t c i h (with_end h) ps done cut (come_next R i (with_end h) ps states.Picture still (one.0, later (one.0 ∷ ps) one.1)) (λ P. of_end R h P)
+
+  -- nothing
+  pub hands_none : i ≡ c.intake → HasCut R t (record c { intake = i }) h ps done
+  hands_none same = handed R t c i h h ps done cut (subst (λ (x : Intaking). HasComeBehind R x h ps) (sym same) cut.come) (λ P each. each)
+
+-- ---- what it comes to
+
+same_cut : {a b : Cut} → (let x : Option Cut = Some a in x) ≡ Some b → a ≡ b
+same_cut is = cc
+
+-- in the end
+ends : (R : Readers) (t : Task) (c : Cutting) (h : Handed) (ps : List Picture) (done : List Plan) (end : Cut) → HasCut R t c h ps done → HasEndedBy R t h ps end
+    → HasCut R t (record c { end = Some end }) h ps done × HasEndedBy R t h ps end
+ends R t c h ps done end cut by = (
+  record {
+    target = cut.target;
+    level = cut.level;
+    tid = cut.tid;
+    come = cut.come;
+    count = cut.count;
+    rules = cut.rules;
+    plans = cut.plans;
+    stands = λ none. absurd (cc);
+    holds = λ kind is. let one = cut.holds kind is in (one.0, one.1, one.2, record { bytes = one.3.bytes; kind = one.3.kind });
+    ended = λ e is. subst (λ (x : Cut). HasEndedBy R t h ps x) (same_cut is) by;
+  },
+  by,
+)
+
+-- by what its intake has come to
+pub halts : (R : Readers) (t : Task) (c : Cutting) (h : Handed) (ps : List Picture) (done : List Plan) (cut : HasCut R t c h ps done) (s : State) (answer : Cut) → c.intake.state ≡ s → HaltsBy s c.pictures answer
+    → StepsTo R t c h ps done (Err answer)
+halts R t c h ps done cut states.Waits answer is by =
+    let come = holds_none R c.intake h ps (waits_only c.intake.state is) cut.come in
+    let told = subst (λ (s : State). ComesTo R h ps s) is come.told in
+    rw by (cut, record { seen = told.1; open_ = told.2 })
+halts R t c h ps done cut states.Picture answer is by = absurd by
+halts R t c h ps done cut states.Ended ToPicture is by = absurd by
+halts R t c h ps done cut states.Ended ToWait is by = absurd by
+halts R t c h ps done cut states.Ended ToEnd is by =
+    let come = holds_none R c.intake h ps (λ e. let f = is in absurd (cc)) cut.come in
+    let told = subst (λ (s : State). ComesTo R h ps s) is come.told in
+    ends R t c h ps done ToEnd cut (λ b qs ending o are.
+    let all = told.0 b qs ending o are in (
+      all.0,
+      record {
+        whole = all.1;
+        some = subst (λ (l : List Picture). 0 < length l) (sym all.0) (omega (arith, by, cut.count));
+        rules = subst (λ (l : List Picture). BreakNoRule t l) (sym all.0) cut.rules;
+      },
+    ))
+halts R t c h ps done cut states.Ended (ToStop stop) is by =
+    let come = holds_none R c.intake h ps (λ e. let f = is in absurd (cc)) cut.come in
+    let told = subst (λ (s : State). ComesTo R h ps s) is come.told in
+    let empty : ps ≡ [] = no_pictures ps (omega (arith, by.0, cut.count)) in
+    rw by.1 (ends R t c h ps done (ToStop (Refused (Extract NO_PICTURE) (at_picture 0))) cut (λ b qs ending o are.
+    let all = told.0 b qs ending o are in
+    without (all.0 ∙ empty) empty all.1 refl refl))
+halts R t c h ps done cut (states.Refused r n) answer is by =
+    let come = holds_none R c.intake h ps (λ e. let f = is in absurd (cc)) cut.come in
+    let told = subst (λ (s : State). ComesTo R h ps s) is come.told in
+    rw by (ends R t c h ps done (ToStop (Refused r _)) cut (λ b qs ending o are. let all = told b qs ending o are in by_stream n all.0 all.1 refl))
+halts R t c h ps done cut states.NoMemory answer is by =
+    let come = holds_none R c.intake h ps (λ e. let f = is in absurd (cc)) cut.come in
+    let told = subst (λ (s : State). ComesTo R h ps s) is come.told in
+    rw by (ends R t c h ps done (ToStop NoMemory) cut told)
+
+-- ---- a picture
+
+-- it has a slice of the subpicture
+slice_of_held : (R : Readers) → HaveSlices R → (i : Intaking) (h : Handed) (ps : List Picture) (p : Picture) → IsGoing R i h (p ∷ ps) → (k : ℕ) → k < subpics_of p.begun.sps → HasSlice k (parts_of p)
+slice_of_held R have i h ps p going k within =
+    let tk = going.taken in
+    let units = units_at (seen_of going.given) tk.places in
+    let are : pictures_of R units ≡ p ∷ ps = ap (λ (o : Outcome). pictures o.before) tk.fed.readings ∙ tk.done in
+    (subst (λ (l : List Picture). AllByRecursion (λ q. (j : ℕ) → j < subpics_of q.begun.sps → HasSlice j (parts_of q)) l) are (have units)).0 k within
+
+-- its answer
+pub cuts_kept : (q : Parts) (done : List Plan) (x : Extracting) (bytes : List ℕ) (tid : ℕ) → tid ≡ x.tid → (n : ℕ) (faults : ℕ) → Writes q done x (Some []) (Some bytes) 0 faults (Ok tt)
+    → Cuts q done x bytes n (Ok (cond (nat_le q.kind.temporal_id tid) (Some q.kind) None))
+cuts_kept q done x bytes tid same n faults wrote = (wrote.0, subst (λ (k : ℕ). CutsKept (is_kept x.tid q) q done x bytes (cond (nat_le q.kind.temporal_id k) (Some q.kind) None)) (sym same) (by_kept (is_kept x.tid q) wrote.2))
+  where
+    by_kept : (b : Bool) → WritesKept b q done x (Some []) (Some bytes) → CutsKept b q done x bytes (cond b (Some q.kind) None)
+    by_kept true wrote = (refl, λ slice. let p = wrote slice in (p.0, p.1, p.2, p.3))
+    by_kept false wrote = (refl, wrote.1)
+
+pub cuts_not : (q : Parts) (done : List Plan) (x : Extracting) (bytes : List ℕ) (n faults : ℕ) (error : WriteError) → Writes q done x (Some []) (Some bytes) 0 faults (Err error) → Cuts q done x bytes n (Err (ToStop (stop_by error n)))
+cuts_not q done x bytes n faults (errors.Refused r) by = (by.0, refl)
+cuts_not q done x bytes n faults errors.SinkFailed by = tt
+cuts_not q done x bytes n faults errors.Memory by = tt
+cuts_not q done x bytes n faults (errors.Stopped f) by = tt
+
+-- the extractor went on
+module _ (R : Readers) (t : Task) (c : Cutting) (h : Handed) (ps : List Picture) (done : List Plan) (cut : HasCut R t c h ps done) (held : c.held ≡ None) (holds : c.intake.state ≡ states.Picture)
+    (x : Extracting) (same : SameTask c.extractor x) (bytes : List ℕ) where
+  target_is : x.target ≡ t.target
+  target_is = same.target ∙ cut.target
+
+  level_is : x.level ≡ t.level
+  level_is = same.level ∙ cut.level
+
+  tid_is : x.tid ≡ t.tid
+  tid_is = same.tid ∙ cut.tid
+
+  abbrev one : (p : Picture) × HasCome R c.intake h (p ∷ ps)
+  one = holds_one R c.intake h ps holds cut.come
+
+  abbrev q : Parts
+  q = lent_by c.intake.feed.assembler
+
+  is_latest : q ≡ parts_of one.0
+  is_latest = shown_is q (one.0 ∷ ps) one.0 ps (one.1.lends holds) refl
+
+  refusal_is : refusal_of x.target x.tid q ≡ refusal_of t.target t.tid (parts_of one.0)
+  refusal_is = ap₂ (λ a b. refusal_of a b q) target_is tid_is ∙ ap (λ w. refusal_of t.target t.tid w) is_latest
+
+  kept_is : is_kept x.tid q ≡ is_kept t.tid (parts_of one.0)
+  kept_is = ap₂ (λ a w. is_kept a w) tid_is is_latest
+
+  first : OfEachStream R h (λ qs ending. BeginsWith qs (one.0 ∷ ps))
+  first = (subst (λ (s : State). ComesTo R h (one.0 ∷ ps) s) holds one.1.told).0
+
+  stopped : (end : Cut) → HasEndedBy R t h ps end → HasCut R t (record c { extractor = x; cut = bytes; end = Some end }) h ps done × HasEndedBy R t h ps end
+  stopped end by = (
+    record {
+      target = target_is;
+      level = level_is;
+      tid = tid_is;
+      come = cut.come;
+      count = cut.count;
+      rules = cut.rules;
+      plans = cut.plans;
+      stands = λ none. absurd (cc);
+      holds = λ kind is. let e = held in absurd (cc);
+      ended = λ e is. subst (λ (y : Cut). HasEndedBy R t h ps y) (same_cut is) by;
+    },
+    by,
+  )
+
+  -- it wasn't written
+  pub cut_not : (answer : Cut) → Cuts q done x bytes c.pictures (Err answer) → StepsTo R t (record c { extractor = x; cut = bytes }) h ps done (Err answer)
+  cut_not ToPicture by = absurd by
+  cut_not ToWait by = absurd by
+  cut_not ToEnd by = absurd by
+  cut_not (ToStop NotUnderstood) by = absurd by
+  cut_not (ToStop (Refused r place)) by = stopped (ToStop (Refused r place)) (λ b qs ending o are.
+      let begins = first b qs ending o are in
+      by_picture (record { later = begins.0; picture = one.0; place = begins.1; kept = cut.rules; broken = sym refusal_is ∙ by.0 }) (by.1 ∙ ap at_picture cut.count))
+  cut_not (ToStop (Mismatched m n)) by = absurd by
+  cut_not (ToStop (ReadFault k)) by = absurd by
+  cut_not (ToStop WriteFault) by = absurd by
+  cut_not (ToStop NoMemory) by = stopped (ToStop NoMemory) (λ b qs ending o are.
+      let begins = first b qs ending o are in
+      (begins.0 ++ one.0 ∷ [], begins.1 ∙ sym (append_assoc begins.0 (one.0 ∷ []) ps)))
+
+  module _ (have : HaveSlices R) (going : c.end ≡ None) (i : Intaking) (next : (qs : List Picture) → HasCome R c.intake h qs → ComesNext R i h qs i.state) (n : ℕ) (more : n ≡ c.pictures + 1) where
+    abbrev new : Cutting
+    new = record c { intake = i; extractor = x; cut = bytes; pictures = n }
+
+    -- it was, or was left out
+    went : (held : Option Kind) (later : List Plan) → refusal_of t.target t.tid (parts_of one.0) ≡ None → AreExtracted t.target t.level (map parts_of (at_most t.tid (one.0 ∷ ps))) later → Stands x later
+        → ((kind : Kind) → held ≡ Some kind → (p : Plan) × (before : List Plan) × (later ≡ p ∷ before) × Holds (record new { held = held }) p) → HasCut R t (record new { held = held }) h (one.0 ∷ ps) later
+    went held later fine plans stands holding = record {
+      target = target_is;
+      level = level_is;
+      tid = tid_is;
+      come = come_next R i h (one.0 ∷ ps) i.state refl (next (one.0 ∷ ps) one.1);
+      count = omega (arith, more, cut.count);
+      rules = (fine, cut.rules);
+      plans = plans;
+      stands = λ none. stands;
+      holds = holding;
+      ended = λ e is. let none = going in absurd (cc);
+    }
+
+    by_kept : (b : Bool) → is_kept t.tid (parts_of one.0) ≡ b → refusal_of t.target t.tid (parts_of one.0) ≡ None → (kept : Option Kind) → CutsKept b q done x bytes kept → StepsTo R t new h ps done (Ok kept)
+    by_kept true on fine kept wrote =
+        let going : IsGoing R c.intake h (one.0 ∷ ps) = subst (λ (s : State). IsFedBy R c.intake h (one.0 ∷ ps) s) holds one.1.fed in
+        let has = slice_of_held R have c.intake h ps one.0 going t.target (has_subpicture t.target t.tid (parts_of one.0) fine on) in
+        let slice : HasSlice x.target q = subst (λ (w : Parts). HasSlice x.target w) (sym is_latest) (subst (λ (k : ℕ). HasSlice k (parts_of one.0)) (sym target_is) has) in
+        let plan = wrote.1 slice in
+        let p = plan.0 in
+        let extracted : IsExtracted t.target t.level (parts_of one.0) done p = subst (λ (w : Parts). IsExtracted t.target t.level w done p) is_latest
+        (subst (λ (l : Option ℕ). IsExtracted t.target l q done p) level_is (subst (λ (k : ℕ). IsExtracted k x.level q done p) target_is plan.1)) in
+        let plans : AreExtracted t.target t.level (map parts_of (at_most t.tid (one.0 ∷ ps))) (p ∷ done) = rw on (extracted, cut.plans) in
+        let holding : Holds (record new { held = Some q.kind }) p = record { bytes = plan.2; kind = ap (λ (k : Kind). Some k) (sym plan.1.kind) } in
+        subst (λ (k : Option Kind). StepsTo R t new h ps done (Ok k)) (sym wrote.0) (one.0, p, went (Some q.kind) (p ∷ done) fine plans plan.3 (λ kind is. (p, done, refl, holding)), holding)
+    by_kept false on fine kept wrote =
+        let plans : AreExtracted t.target t.level (map parts_of (at_most t.tid (one.0 ∷ ps))) done = rw on cut.plans in
+        let none : c.held ≡ None = held in
+        subst (λ (k : Option Kind). StepsTo R t new h ps done (Ok k)) (sym wrote.0) (one.0, went c.held done fine plans wrote.1 (λ kind is. absurd (cc)))
+
+    pub cut_kept : (kept : Option Kind) → Cuts q done x bytes c.pictures (Ok kept) → StepsTo R t new h ps done (Ok kept)
+    cut_kept kept by =
+        by_kept (is_kept t.tid (parts_of one.0)) refl (sym refusal_is ∙ by.0) kept (subst (λ (b : Bool). CutsKept b q done x bytes kept) kept_is by.1)
+
+-- fewer units are left
+pub fewer : (s s' : State) (n m : ℕ) → s ≡ states.Picture → n ≤ 1099511627776 → (s' ≡ states.Picture → n < m) → (s' ≡ states.Picture → m ≤ 1099511627776) → units_by s' m < units_by s n
+fewer s s' n m is few grows within = rw is (by_state s' n m few grows within)
+  where
+    by_state : (s' : State) (n m : ℕ) → n ≤ 1099511627776 → (s' ≡ states.Picture → n < m) → (s' ≡ states.Picture → m ≤ 1099511627776) → units_by s' m < 1099511627777 - n
+    by_state states.Waits n m few grows within = omega (arith, few)
+    by_state states.Picture n m few grows within = omega (arith, few, grows refl, within refl)
+    by_state states.Ended n m few grows within = omega (arith, few)
+    by_state (states.Refused r k) n m few grows within = omega (arith, few)
+    by_state states.NoMemory n m few grows within = omega (arith, few)
+
+-- ---- from picture to picture
+
+pub cuts_first : (c : Cutting) → c.held ≡ None → c.end ≡ None → StillCuts c c
+cuts_first c held going = record { cuts = λ R of t h ps done cut. ([], cut); held = held; going = going }
+
+pub cuts_more : (old c c1 : Cutting) → StillCuts old c
+    → ((R : Readers) → AreOfH266 R → (t : Task) (h : Handed) (ps : List Picture) (done : List Plan) → HasCut R t c h ps done → StepsTo R t c1 h ps done (Ok None))
+    → c1.held ≡ c.held → c1.end ≡ c.end → StillCuts old c1
+cuts_more old c c1 s step held going = record {
+  cuts = λ R of t h ps done cut.
+      let so_far = s.cuts R of t h ps done cut in
+      let next = step R of t h (so_far.0 ++ ps) done so_far.1 in
+      (next.0 ∷ so_far.0, next.1);
+  held = held ∙ s.held;
+  going = going ∙ s.going;
+}
+
+module _ (old c c1 : Cutting) (s : StillCuts old c) (R : Readers) (of : AreOfH266 R) (t : Task) (h : Handed) (ps : List Picture) (done : List Plan) (cut : HasCut R t old h ps done) where
+  pub answers_picture : (kind : Kind) → ((ps : List Picture) → HasCut R t c h ps done → StepsTo R t c1 h ps done (Ok (Some kind))) → Answers R t (record c1 { held = Some kind }) h ps done ToPicture
+  answers_picture kind step =
+      let so_far = s.cuts R of t h ps done cut in
+      let next = step (so_far.0 ++ ps) so_far.1 in
+      (next.0 ∷ so_far.0, next.1, next.2, next.3)
+
+  pub answers_end : (answer : Cut) → c1.end ≡ None → ((ps : List Picture) → HasCut R t c h ps done → StepsTo R t c1 h ps done (Err answer)) → Answers R t (record c1 { end = end_by answer }) h ps done answer
+  answers_end ToPicture none step = let so_far = s.cuts R of t h ps done cut in absurd (step (so_far.0 ++ ps) so_far.1)
+  answers_end ToWait none step =
+      let so_far = s.cuts R of t h ps done cut in
+      let next = step (so_far.0 ++ ps) so_far.1 in
+      (so_far.0, subst (λ (e : Option Cut). HasCut R t (record c1 { end = e }) h (so_far.0 ++ ps) done) none next.0, next.1)
+  answers_end ToEnd none step =
+      let so_far = s.cuts R of t h ps done cut in
+      let next = step (so_far.0 ++ ps) so_far.1 in
+      (so_far.0, next.0, next.1, refl)
+  answers_end (ToStop stop) none step =
+      let so_far = s.cuts R of t h ps done cut in
+      let next = step (so_far.0 ++ ps) so_far.1 in
+      (so_far.0, next.0, next.1, refl)
+
+-- ---- the beginning, and what is taken
+
+pub cut_none : (R : Readers) (t : Task) (i : Intaking) (x : Extracting) → HasCome R i nothing [] → i.state ≡ states.Waits → x.target ≡ t.target → x.level ≡ t.level → x.tid ≡ t.tid → Stands x []
+    → HasCut R t (record { intake = i; extractor = x; pictures = 0; cut = []; held = None; end = None }) nothing [] []
+cut_none R t i x come waits target level tid stands = record {
+  target = target;
+  level = level;
+  tid = tid;
+  come = record { seen = []; come = come; behind = subst (λ (s : State). IsBehind s [] []) (sym waits) refl };
+  count = refl;
+  rules = tt;
+  plans = tt;
+  stands = λ none. stands;
+  holds = λ kind is. absurd (cc);
+  ended = λ end is. absurd (cc);
+}
+
+pub cut_taken : (R : Readers) (t : Task) (c : Cutting) (h : Handed) (ps : List Picture) (done : List Plan) → HasCut R t c h ps done → HasCut R t (record c { held = None; cut = [] }) h ps done
+cut_taken R t c h ps done cut = record {
+  target = cut.target;
+  level = cut.level;
+  tid = cut.tid;
+  come = cut.come;
+  count = cut.count;
+  rules = cut.rules;
+  plans = cut.plans;
+  stands = cut.stands;
+  holds = λ kind is. absurd (cc);
+  ended = cut.ended;
+}
+
+-- ---- calls that hand in
+
+waits_or_not : (s : State) → (s ≡ states.Waits) ⊎ (s ≡ states.Waits → ⊥)
+waits_or_not states.Waits = inl refl
+waits_or_not states.Picture = inr (λ e. absurd (cc))
+waits_or_not states.Ended = inr (λ e. absurd (cc))
+waits_or_not (states.Refused r n) = inr (λ e. absurd (cc))
+waits_or_not states.NoMemory = inr (λ e. absurd (cc))
+
+module _ (R : Readers) (t : Task) (c : Cutting) (i : Intaking) (h : Handed) (ps : List Picture) (done : List Plan) (cut : HasCut R t c h ps done) where
+  -- a piece, of which n bytes were taken
+  pub cut_pushed : (n : ℕ) (piece : List ℕ) → (c.intake.state ≡ states.Waits → (qs : List Picture) → HasCome R c.intake h qs → ComesNext R i (with_more h (take n piece)) qs i.state)
+      → ((c.intake.state ≡ states.Waits → ⊥) → (n ≡ 0) × (i ≡ c.intake)) → HasCut R t (record c { intake = i }) (with_more h (take n piece)) ps done
+  cut_pushed n piece next kept = ⊎_elim
+      (λ waits. hands_more R t c i h ps done cut (take n piece) waits (next waits))
+      (λ not_.
+      let k = kept not_ in
+      let nothing_more : h ≡ with_more h [] = ap (λ (l : List ℕ). record { bytes = l; all = h.all }) (sym (append-nil h.bytes)) in
+      rw k.0 (subst (λ (x : Handed). HasCut R t (record c { intake = i }) x ps done) nothing_more (hands_none R t c i h ps done cut k.1)))
+      (waits_or_not c.intake.state)
+
+  -- zeros
+  pub cut_flushed : (s : State) (flushed ended : Bool) → c.intake.state ≡ s → c.intake.flushed ≡ flushed → c.intake.ended ≡ ended
+      → (c.intake.state ≡ states.Waits → (qs : List Picture) → HasCome R c.intake h qs → ComesNext R i (with_more h zeros) qs i.state)
+      → (c.intake.state ≡ states.Picture → c.intake.ended ≡ false → c.intake.flushed ≡ false → (qs : List Picture) → HasCome R c.intake h qs → HasCome R i (with_more h zeros) qs)
+      → (c.intake.state ≡ states.Picture → i ≡ record c.intake { flushed = i.flushed })
+      → (c.intake.flushed ≡ true → i ≡ c.intake) → (c.intake.ended ≡ true → i ≡ c.intake)
+      → ((c.intake.state ≡ states.Waits → ⊥) → (c.intake.state ≡ states.Picture → ⊥) → i ≡ c.intake)
+      → HasCut R t (record c { intake = i }) (flushed_by s flushed ended h) ps done
+  cut_flushed states.Waits fl e is f en next later holds once ended kept = hands_more R t c i h ps done cut zeros is (next is)
+  cut_flushed states.Picture false false is f en next later holds once ended kept =
+      hands_more_behind R t c i h ps done cut zeros is (ap (λ (x : Intaking). x.state) (holds is) ∙ is) en (later is en f)
+  cut_flushed states.Picture false true is f en next later holds once ended kept = hands_none R t c i h ps done cut (ended en)
+  cut_flushed states.Picture true e is f en next later holds once ended kept = hands_none R t c i h ps done cut (once f)
+  cut_flushed states.Ended fl e is f en next later holds once ended kept = hands_none R t c i h ps done cut (kept (λ w. let x = is in absurd (cc)) (λ w. let x = is in absurd (cc)))
+  cut_flushed (states.Refused r n) fl e is f en next later holds once ended kept = hands_none R t c i h ps done cut (kept (λ w. let x = is in absurd (cc)) (λ w. let x = is in absurd (cc)))
+  cut_flushed states.NoMemory fl e is f en next later holds once ended kept = hands_none R t c i h ps done cut (kept (λ w. let x = is in absurd (cc)) (λ w. let x = is in absurd (cc)))
+
+  -- the end
+  pub cut_ended : (s : State) → c.intake.state ≡ s → (c.intake.state ≡ states.Waits → (qs : List Picture) → HasCome R c.intake h qs → ComesNext R i (with_end h) qs i.state)
+      → (c.intake.state ≡ states.Picture → (qs : List Picture) → HasCome R c.intake h qs → HasCome R i (with_end h) qs)
+      → (c.intake.state ≡ states.Picture → i ≡ record c.intake { ended = true })
+      → ((c.intake.state ≡ states.Waits → ⊥) → (c.intake.state ≡ states.Picture → ⊥) → i ≡ c.intake)
+      → HasCut R t (record c { intake = i }) (ended_by s h) ps done
+  cut_ended states.Waits is next later holds kept = hands_end R t c i h ps done cut is (next is)
+  cut_ended states.Picture is next later holds kept = hands_end_behind R t c i h ps done cut is (ap (λ (x : Intaking). x.state) (holds is) ∙ is) (later is)
+  cut_ended states.Ended is next later holds kept = hands_none R t c i h ps done cut (kept (λ w. let x = is in absurd (cc)) (λ w. let x = is in absurd (cc)))
+  cut_ended (states.Refused r n) is next later holds kept = hands_none R t c i h ps done cut (kept (λ w. let x = is in absurd (cc)) (λ w. let x = is in absurd (cc)))
+  cut_ended states.NoMemory is next later holds kept = hands_none R t c i h ps done cut (kept (λ w. let x = is in absurd (cc)) (λ w. let x = is in absurd (cc)))
