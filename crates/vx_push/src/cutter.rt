@@ -278,6 +278,13 @@ impl Cutter {
         })
     }
 
+    /// What it came to in the end, if it did.
+    pub fn ending(&self) -> Option<Cut>
+        ensures { result ≡ self.now.end }
+    {
+        self.end
+    }
+
     /// Takes the picture: copies its bytes to the front of `into`, and answers how many they are. None where there is none, or
     /// where `into` has too little room; then nothing changes.
     pub fn take(&mut self, into: &mut [u8]) -> Option<usize>
