@@ -127,9 +127,9 @@ uint8_t gq_merger_open(gq_merger *merger, const gq_corner *corners, size_t count
  * source waits; none where it holds a whole picture (until that is merged), where its end was told, or where it was refused. The
  * caller keeps the rest and hands it in later. At most 65,536 are taken in one call.
  *
- *   GQ_DONE       as *TAKEN says. That a rule is broken is answered by gq_merger_next, in its turn.
+ *   GQ_DONE       as *TAKEN says. That a rule is broken, or memory was wanted, is answered by gq_merger_next, in its turn; *TAKEN is 0
+ *                 then.
  *   GQ_MISUSED    the merger is closed, or there is no such source; *TAKEN is 0.
- *   GQ_NO_MEMORY  *TAKEN is 0, and the merger goes on no more: every call but close, take and line answers this.
  *
  * What is handed in is copied. Of each source at most 2^25 + 2^23 + 65,538 bytes are held beside the sets in force.
  */
@@ -140,16 +140,16 @@ uint8_t gq_merger_push(gq_merger *merger, size_t source, const uint8_t *bytes, s
  * or of a picture in a live stream. It stands for three zero bytes, which Annex B allows there, and places in lines count these. In
  * the midst of a unit it ends that unit there, which a rule mostly refuses then.
  *
- *   GQ_DONE       the unit is taken. Where the source holds a picture, or has ended, nothing is done.
+ *   GQ_DONE       it is done, as for gq_merger_push. Where the source holds a picture, the zeros are kept until that was merged, once however
+ *                 often this is said; where it has ended, or was refused, nothing is done.
  *   GQ_MISUSED    the merger is closed, or there is no such source.
- *   GQ_NO_MEMORY  as gq_merger_push.
  */
 uint8_t gq_merger_flush(gq_merger *merger, size_t source);
 
 /*
  * Says that a source has no more bytes. What is told twice is told once.
  *
- *   GQ_DONE, GQ_MISUSED, GQ_NO_MEMORY  as gq_merger_flush.
+ *   GQ_DONE, GQ_MISUSED  as gq_merger_flush.
  */
 uint8_t gq_merger_end(gq_merger *merger, size_t source);
 
@@ -161,8 +161,8 @@ uint8_t gq_merger_end(gq_merger *merger, size_t source);
  *   GQ_ENDED      all sources have ended, and each picture was taken.
  *   GQ_REFUSED    a rule is broken: gq_merger_line has the line. The same from then on. A rule that a later source breaks is told
  *                 only once no earlier one waits, so that it is the one that the program names.
+ *   GQ_NO_MEMORY  no memory was found for bytes that were handed in, or for the merged picture. The same from then on.
  *   GQ_MISUSED    the merger is closed.
- *   GQ_NO_MEMORY  as gq_merger_push.
  *
  * *SOURCE is written by GQ_WAITS alone, *PICTURE by GQ_DONE alone.
  */
@@ -179,8 +179,9 @@ uint8_t gq_merger_next(gq_merger *merger, size_t *source, gq_picture *picture);
 uint8_t gq_merger_take(gq_merger *merger, uint8_t *into, size_t room);
 
 /*
- * The line of the rule that is broken, as the program writes it, with its line feed: how many bytes it has, of which as many as ROOM
- * allows are put into INTO. 0 where no rule is broken, or the merger is closed. GQ_LINE_ROOM bytes suffice.
+ * The line of the rule that is broken, as the program writes it, with its line feed, or "no memory": how many bytes it has, of which as
+ * many as ROOM allows are put into INTO. 0 where gq_merger_next answered neither of these, where there is no memory for the line, and
+ * where the merger is closed. GQ_LINE_ROOM bytes suffice.
  */
 size_t gq_merger_line(gq_merger *merger, uint8_t *into, size_t room);
 

@@ -43,7 +43,9 @@ PC
 
 # Compiles a program of tests/c or examples over the library: FILE NAME FLAGS ..
 compile() {
-  "$cc" "${strict[@]}" "${@:3}" -I"$to/include" "$1" "$to/lib/libgoosequince.a" -o "$work/$2"
+  local wraps=()
+  [[ $1 != */memory.c ]] || wraps=(-Wl,--wrap=malloc,--wrap=realloc,--wrap=free)
+  "$cc" "${strict[@]}" "${@:3}" -I"$to/include" "$1" "$to/lib/libgoosequince.a" "${wraps[@]}" -o "$work/$2"
 }
 
 # Whether a sanitizer is there.
@@ -89,16 +91,23 @@ families() {
   python3 - "$1" <<'PY'
 import json, sys
 folder = sys.argv[1]
-for name, family in json.load(open(folder + "/MANIFEST.json"))["families"].items():
-    print(" ".join(f"{x},{y}={folder}/{source}" for source, x, y in family))
+for family in json.load(open(folder + "/MANIFEST.json")):
+    print(*(f"{source['x']},{source['y']}={folder}/{source['file']}" for source in family["sources"]))
 PY
 }
 
 build_library
 run_each run "$data/a.266" "$data/m.266"
 run_each edges "$data/a.266" "$data/m.266"
+run_each memory "$data/a.266" "$data/m.266"
 run_each merge "0,0=$data/a.266" "64,0=$data/a.266"
 run_each merge "0,0=$data/left.266" "64,0=$data/right.266"
 run_each broken "$count" 1 "0,0=$data/a.266" "64,0=$data/a.266"
 run_each broken "$count" 2 "0,0=$data/left.266" "64,0=$data/right.266"
+if [ -n "${STREAMS:-}" ]; then
+  while read -ra words; do
+    run_each merge "${words[@]}"
+    run_each broken "$count" 3 "${words[@]}"
+  done < <(families "$STREAMS")
+fi
 try_examples

@@ -82,7 +82,7 @@ static outcome merge_in(const gq_corner *corners, const bytes *streams, size_t c
     return made;
 }
 
-/* Whether a pushed merge came to what a whole run did. The line for want of memory isn't told by a handle. */
+/* Whether a pushed merge came to what a whole run did. Where memory is wanted, there may be none for the line. */
 static int agrees(const outcome *pushed, const outcome *whole) {
     uint8_t status = pushed->status == GQ_ENDED ? GQ_DONE : pushed->status;
     return status == whole->status && same(&whole->out, pushed->out.at, pushed->out.len)
