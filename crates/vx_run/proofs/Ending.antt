@@ -32,7 +32,7 @@ use Rattle.vx_pic.specs.Parts.{parts_of}
 use Rattle.vx_pic.specs.Written.{Plan}
 use Rattle.vx_extract.specs.Rules.{refusal_of}
 use Rattle.vx_pic.specs.H266.{AreOfH266}
-use Rattle.vx_run.specs.Show.{Teller, ShowsBy, WhereKnown, status_at}
+use Rattle.vx_run.specs.Show.{Teller, teller, ShowsBy, WhereKnown, status_at}
 
 module _ (R : Readers) (of : AreOfH266 R) where
   -- where it is done there is no ending
@@ -54,7 +54,7 @@ module _ (R : Readers) (of : AreOfH266 R) where
   -- where it stopped without a fault, and not for want of memory, the ending is a refusal
   pub exact-stopped : {A K E : Type 0} (words : List (List ℕ)) (sources : Sources A) (out : Change K) (err : Change E) (stop : Stop) (status : ℕ) (fields : Bool) (file : List ℕ)
       → Performs words sources out (Err stop) → Concludes stop status err → AskFor words (show fields file) → ¬ HasFault (source_at sources 0) → ¬ HasFault out → status ≢ 4 → WhereKnown R (source_at sources 0) (λ b units ending. status ≡ status_at ending)
-  exact-stopped words sources out err stop status fields file performs ends spelled = stopped _ (source_at sources 0) out err stop status ((performs.command (show fields file) spelled).1 R of) ends
+  exact-stopped words sources out err stop status fields file performs ends spelled = stopped (teller fields R of) (source_at sources 0) out err stop status ((performs.command (show fields file) spelled).1 R of) ends
 
 -- ---- extractions
 
