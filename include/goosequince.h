@@ -19,8 +19,7 @@
  *     length is above PTRDIFF_MAX.
  *   - What a call writes lies apart from all else that it is given.
  *   - A handle is all zeros, or was written by the library alone. It isn't copied and then used twice.
- *   - One call at a time on a handle. Calls on different handles may go at once, and a handle may go to another thread between two
- *     calls, where a lock, a thread's start or its join orders these.
+ *   - One call at a time on a handle, all on the thread that opened it. Calls on different handles may go at once.
  *   - No call comes from a signal handler, or from the forked child of a process with threads.
  *   - The stack has 256 KiB to spare.
  *   - malloc, realloc and free are one allocator's, and align each block to the powers of two up to 16 that divide its size.

@@ -2,7 +2,7 @@
 use Rattle.std.proofs.Common.{◌≡◌, ◌≢◌, ℕ, ◌+◌, ◌<◌, ◌≤◌, List, [], ◌∷◌, ◌++◌, length, map, take, get_or, refl, sym, ap, ◌∙◌, subst, arith}
 use Rattle.std.specs.List.{concat, sum, sum_by, IsSplitAt}
 use Rattle.vx_c.specs.InMemory.{AreStreams}
-use Rattle.std.proofs.lemmas.List.{take_more, take_all, map-append, length-append, append-nil, append_assoc, take-append-drop}
+use Rattle.std.proofs.lemmas.List.{take_more, take_all, map-append, length-append, append-nil, append_assoc, take-append-drop, length-map}
 use Rattle.std.proofs.lemmas.List.Folds.{concat-append}
 use Rattle.std.proofs.lemmas.List.Sums.{sum_by_more_le, sum_by-append}
 
@@ -74,3 +74,7 @@ same_more f g xs all ys x y pushed so is = rw (pushed, map-append f xs (x ∷ []
 -- the sizes of streams that stand one after another come to the bytes
 pub sized : (bytes sizes : List ℕ) (streams : List (List ℕ)) → AreStreams bytes sizes streams → sum sizes ≡ length bytes
 sized bytes sizes streams are = sym (ap length (sym are.joined) ∙ joined_size streams ∙ ap sum are.lengths)
+
+-- there are as many as there are sizes
+pub counted : {A : Type 0} (f : A → List ℕ) (xs : List A) (sizes : List ℕ) → map length (map f xs) ≡ sizes → length xs ≡ length sizes
+counted f xs sizes e = sym (length-map xs f) ∙ sym (length-map (map f xs) length) ∙ ap length e
