@@ -1,5 +1,0 @@
-pub mod Call
-pub mod Extractor
-pub mod Handles
-pub mod InMemory
-pub mod Merger
