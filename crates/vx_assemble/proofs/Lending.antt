@@ -4,7 +4,6 @@ use Rattle.std.specs.Prelude.{Option, Some, None}
 use Rattle.std.specs.List.{AllByRecursion}
 use Rattle.vx_aps.specs.declared.aps.Aps.{Aps}
 use Rattle.vx_pic.specs.declared.accepted.Accepted.TheVariants as accepted
-use Rattle.vx_pic.specs.declared.kind.Kind.{Kind}
 use Rattle.vx_pic.specs.declared.picture.PictureParts.{PictureParts}
 use Rattle.vx_pic.specs.declared.picture.SliceSlot.{SliceSlot}
 use Rattle.vx_pic.specs.Sets.{SliceHeader, is_qp, slice_qp}
@@ -18,7 +17,10 @@ use Rattle.vx_pic.specs.Readings.{first_slice, next_slice, sequence_ended, is_sl
 use Rattle.vx_assemble.specs.Held.{Held, last_told, Stands, HasPicture, ShowsLatest}
 use Rattle.vx_assemble.specs.declared.state.BegunPicture.{BegunPicture}
 use Rattle.vx_assemble.specs.declared.state.CurrentPicture.{CurrentPicture}
-use Rattle.vx_assemble.specs.inner.Held.{begun_of, slice_of, IsGoing, Keeps}
+use Rattle.vx_assemble.specs.declared.state.GoingPicture.{GoingPicture}
+use Rattle.vx_assemble.specs.declared.state.Stage.{Stage}
+use Rattle.vx_assemble.specs.declared.state.Stage.TheVariants as stages
+use Rattle.vx_assemble.specs.inner.Held.{begun_of, header_at, kind_at, slice_of, IsGoing, Keeps}
 use Rattle.vx_assemble.specs.inner.Order.{IsOfUnit, IsSlot, AreSlots, AreRead, IsOrdered, AreAll, IsComplete}
 use Rattle.vx_assemble.specs.inner.Takes.{at_begun}
 use Rattle.vx_assemble.specs.inner.Lent.{parts_by, parts_in}
@@ -41,7 +43,7 @@ slices_shown k x bytes sets (slot ∷ slots) all =
     ap (λ y. y ∷ map (slice_in bytes) slots) (slice_shown k x bytes sets slot all.0)
     ∙ ap (λ l. slice_part (begun_of k x) (slice_of bytes slot) ∷ l) (slices_shown k x bytes sets slots all.1)
 
-pub slots_of : (c : CurrentPicture) (k : BegunPicture) → c.begun ≡ Some k → IsOrdered c → AllByRecursion (IsSlot k c.bytes c.bodies) c.slices
+pub slots_of : (c : CurrentPicture) (k : BegunPicture) → header_at c.stage ≡ Some k → IsOrdered c → AllByRecursion (IsSlot k c.bytes c.bodies) c.slices
 slots_of c k is o = let slots : AreSlots (Some k) c.bytes c.bodies c.slices = subst (λ x. AreSlots x c.bytes c.bodies c.slices) is o.slots in slots.1
 
 -- ---- what is asked of parts
@@ -66,20 +68,22 @@ pub each_qp : (k : BegunPicture) (bytes : List ℕ) (sets : List (Option Aps)) (
 each_qp k bytes sets [] all = tt
 each_qp k bytes sets (slot ∷ slots) all = (all.0.qp, each_qp k bytes sets slots all.1)
 
-pub each_read : (c : CurrentPicture) (k : BegunPicture) (kind : Kind) → c.begun ≡ Some k → c.kind ≡ Some kind → IsOrdered c
-    → AllByRecursion (λ s. IsReadAt (at_begun kind.nal_type k) s.header) c.slices
-each_read c k kind begun is o =
-    subst (λ x. AreRead (Some k) x c.slices) is (subst (λ x. AreRead x c.kind c.slices) begun o.read)
+pub each_read : (c : CurrentPicture) (g : GoingPicture) → c.stage ≡ stages.Going g → IsOrdered c
+    → AllByRecursion (λ s. IsReadAt (at_begun g.kind.nal_type g.begun) s.header) c.slices
+each_read c g is o = subst (λ x. AreRead x c.slices) is o.read
 
 -- the parts of an ordered picture, all of whose slices came, make up a picture
-pub makes_picture : (p : PictureParts) (c : CurrentPicture) (b : BegunPicture) (k : Kind) → IsOrdered c → IsComplete c → c.begun ≡ Some b → c.kind ≡ Some k
-    → p.kind ≡ k → p.sps.now ≡ b.sets.sps → p.pps.now ≡ b.sets.pps → p.layout.now ≡ b.sets.layout → p.header.now ≡ b.header → p.ids.now ≡ b.sets.ids
+pub makes_picture : (p : PictureParts) (c : CurrentPicture) (g : GoingPicture) → IsOrdered c → IsComplete c → c.stage ≡ stages.Going g
+    → p.kind ≡ g.kind → p.sps.now ≡ g.begun.sets.sps → p.pps.now ≡ g.begun.sets.pps → p.layout.now ≡ g.begun.sets.layout
+    → p.header.now ≡ g.begun.header → p.ids.now ≡ g.begun.sets.ids
     → p.bytes.now ≡ c.bytes → p.header_end ≡ c.header_end → p.slices.now ≡ c.slices → p.bodies.now ≡ c.bodies → MakePicture p
-makes_picture p c b k order complete begun kind of_kind sps pps layout header ids bytes end slices bodies =
+makes_picture p c g order complete stage of_kind sps pps layout header ids bytes end slices bodies =
+    let b = g.begun in
+    let begun : header_at c.stage ≡ Some b = ap header_at stage in
     let slots = slots_of c b begun order in
     let head = header_is c b begun order in
-    let of : IsOfUnit (Some k) = subst IsOfUnit kind order.kind in
-    let all : (0 < length c.slices) × (length c.slices ≡ length b.sets.layout.slices) = subst (λ x. AreAll x c.slices) begun complete.slices in
+    let of : IsOfUnit (Some g.kind) = subst (λ x. IsOfUnit (kind_at x)) stage order.kind in
+    let all : (0 < length c.slices) × (length c.slices ≡ length b.sets.layout.slices) = subst (λ x. AreAll x c.slices) stage complete.slices in
     record {
       type = rw of_kind of.0;
       tid = rw of_kind of.1;
@@ -94,7 +98,7 @@ makes_picture p c b k order complete begun kind of_kind sps pps layout header id
       ids = rw (ids, sps, pps) head.sets.ids;
       one_each = rw (ids, layout) head.sets.one_each;
       read = rw (sps, pps, header) head.read;
-      slices_read = rw (slices, of_kind, sps, pps, header, ids, layout) (each_read c b k begun kind order);
+      slices_read = rw (slices, of_kind, sps, pps, header, ids, layout) (each_read c g stage order);
       subpics = rw (slices, layout) (each_subpic b c.bytes c.bodies c.slices slots);
       bodies = rw (slices, bodies, pps, header) (each_there b c.bytes c.bodies c.slices slots);
       qps = rw (slices, sps, pps, header) (each_qp b c.bytes c.bodies c.slices slots);
@@ -102,9 +106,11 @@ makes_picture p c b k order complete begun kind of_kind sps pps layout header id
 
 -- ---- the picture
 
-pub going_shows : (c : CurrentPicture) (k : BegunPicture) (kind : Kind) (p : Picture) → IsOrdered c → c.begun ≡ Some k → c.kind ≡ Some kind → IsGoing c p
-    → Shows (parts_by (Some k) (Some kind) c) p
-going_shows c k kind p o begun kind_is goes =
+pub going_shows : (c : CurrentPicture) (g : GoingPicture) (p : Picture) → IsOrdered c → c.stage ≡ stages.Going g → IsGoing c p
+    → Shows (parts_by (stages.Going g) c) p
+going_shows c g p o is goes =
+    let k = g.begun in
+    let begun : header_at c.stage ≡ Some k = ap header_at is in
     let x = header_unit_in c.bytes c.header_end in
     let b : begun_of k x ≡ p.begun = begun_is c k p.begun begun goes.begun in
     let head = header_is c k begun o in
@@ -112,7 +118,7 @@ going_shows c k kind p o begun kind_is goes =
     slices_shown k x c.bytes c.bodies c.slices (slots_of c k begun o)
     ∙ ap (λ y. map (slice_part y) (map (slice_of c.bytes) c.slices)) b
     ∙ ap (λ l. map (slice_part p.begun) l) goes.slices in
-    let kinds : kind ≡ p.kind = same_some kind p.kind (sym kind_is ∙ goes.kind) in
+    let kinds : g.kind ≡ p.kind = same_some g.kind p.kind (sym (ap kind_at is) ∙ goes.kind) in
     let header : k.header ≡ header_of p.begun = head.header ∙ ap header_of b in
     let ids : k.sets.ids ≡ ids_of p.begun.sps p.begun.pps = head.sets.ids ∙ ap (λ y. ids_of y.sps y.pps) b in
     let sps : k.sets.sps ≡ p.begun.sps = ap (λ y. y.sps) b in
@@ -168,11 +174,10 @@ told_latest (sequence_ended ∷ before) done = absurd (let e : accepted.Nothing 
 
 -- ---- both
 
-shows_by : (c : CurrentPicture) (o : Option BegunPicture) (k : Option Kind) (p : Picture) → IsOrdered c → c.begun ≡ o → c.kind ≡ k → IsGoing c p
-    → Shows (parts_by o k c) p
-shows_by c None k p ordered begun kind goes = absurd (no_begun c p.begun begun goes.begun)
-shows_by c (Some b) None p ordered begun kind goes = absurd (let e : None ≡ Some p.kind = sym kind ∙ goes.kind in cc)
-shows_by c (Some b) (Some k) p ordered begun kind goes = going_shows c b k p ordered begun kind goes
+shows_by : (c : CurrentPicture) (s : Stage) (p : Picture) → IsOrdered c → c.stage ≡ s → IsGoing c p → Shows (parts_by s c) p
+shows_by c stages.Nothing p ordered is goes = absurd (no_begun c p.begun (ap header_at is) goes.begun)
+shows_by c (stages.Headed b) p ordered is goes = absurd (let e : None ≡ Some p.kind = sym (ap kind_at is) ∙ goes.kind in cc)
+shows_by c (stages.Going g) p ordered is goes = going_shows c g p ordered is goes
 
 pub lent_latest : (h : Held) (before : List Reading) → IsOrdered h.state.picture → Stands h before → HasPicture h
     → ShowsLatest (parts_in h.state.picture) (pictures before)
@@ -180,4 +185,4 @@ lent_latest h before ordered stands has =
     let l = told_latest before (sym stands.told ∙ has) in
     let c = h.state.picture in
     let goes : IsGoing c l.p = subst (λ q. Keeps c q) l.now stands.state.picture in
-    subst (λ ps. ShowsLatest (parts_in c) ps) (sym l.all) (shows_by c c.begun c.kind l.p ordered refl refl goes)
+    subst (λ ps. ShowsLatest (parts_in c) ps) (sym l.all) (shows_by c c.stage l.p ordered refl goes)

@@ -1,5 +1,5 @@
 -- Fields by what stands before them.
-use Rattle.std.proofs.Common.{◌≡◌, ◌≢◌, ◌==◌, ℕ, Bool, true, false, not, cond, List, ◌∷◌, ◌++◌, Option, Some, None, Result, Ok, Err, refl, sym, ap, subst, ◌∙◌}
+use Rattle.std.proofs.Common.{◌≡◌, ◌≢◌, ◌==◌, ℕ, Bool, true, false, not, List, ◌∷◌, Some, None, Ok, Err, refl, sym, ap, subst, ◌∙◌}
 use Rattle.std.proofs.lemmas.Bool.{ne_eqb}
 use Rattle.vx_bits.specs.declared.list.Item.{Item}
 use Rattle.vx_bits.specs.declared.refusal.Refusal.{Refusal}
@@ -18,9 +18,11 @@ use Rattle.vx_pic.specs.H266.{AreOfH266}
 use Rattle.vx_assemble.specs.Fields as fields
 use Rattle.vx_assemble.specs.declared.state.BegunPicture.{BegunPicture}
 use Rattle.vx_assemble.specs.declared.state.CurrentPicture.{CurrentPicture}
+use Rattle.vx_assemble.specs.declared.state.GoingPicture.{GoingPicture}
+use Rattle.vx_assemble.specs.declared.state.Stage.TheVariants as stages
 use Rattle.vx_assemble.specs.declared.unit.UnitClass.{UnitClass}
 use Rattle.vx_assemble.specs.inner.Classes.{class_seen}
-use Rattle.vx_assemble.specs.inner.Held.{begun_of, begun_in, Keeps}
+use Rattle.vx_assemble.specs.inner.Held.{begun_of, header_at, kind_at, Keeps}
 use Rattle.vx_assemble.proofs.KeptPicture.{begun_is}
 use Rattle.vx_assemble.proofs.Steps.{same_some}
 
@@ -61,14 +63,14 @@ module _ (R : Readers) (h : AreOfH266 R) where
   closed_none (going p) u closed = whole_none p u (is_whole p) refl closed
 
   -- whose slices are to come
-  pub headed_fields : (s : CurrentPicture) (c : Current) (b : BegunPicture) (u : List ℕ) (items : List Item) → Keeps s c → s.begun ≡ Some b → s.kind ≡ None
+  pub headed_fields : (s : CurrentPicture) (c : Current) (b : BegunPicture) (u : List ℕ) (items : List Item) → Keeps s c → s.stage ≡ stages.Headed b
       → items ≡ fields.slice_items R h (nal_unit_type u) (begun_of b (header_unit_in s.bytes s.header_end)) u
       → fields_of structures.SliceHeader items ≡ fields.following_fields R h c u
-  headed_fields s nothing b u items keeps is none same = let no = keeps in absurd (cc)
-  headed_fields s (headed a) b u items keeps is none same =
-      let of : begun_of b (header_unit_in s.bytes s.header_end) ≡ a = begun_is s b a is keeps.begun in
+  headed_fields s nothing b u items keeps is same = absurd (let e : stages.Headed b ≡ stages.Nothing = sym is ∙ keeps in cc)
+  headed_fields s (headed a) b u items keeps is same =
+      let of : begun_of b (header_unit_in s.bytes s.header_end) ≡ a = begun_is s b a (ap header_at is) keeps.begun in
       ap (fields_of structures.SliceHeader) (same ∙ ap (λ x. fields.slice_items R h (nal_unit_type u) x u) of)
-  headed_fields s (going p) b u items keeps is none same = let some = keeps.kind in absurd (cc)
+  headed_fields s (going p) b u items keeps is same = absurd (let e : None ≡ Some p.kind = sym (ap kind_at is) ∙ keeps.kind in cc)
 
   going_on : (p : Picture) (u : List ℕ) (w : Bool) → is_whole p ≡ w → not w ≡ true
       → fields.following_fields R h (going p) u ≡ fields_of structures.SliceHeader (fields.slice_items R h p.kind.nal_type p.begun u)
@@ -76,15 +78,15 @@ module _ (R : Readers) (h : AreOfH266 R) where
   going_on p u false is open_ = rw is refl
 
   -- of which some came
-  pub going_fields : (s : CurrentPicture) (c : Current) (b : BegunPicture) (k : Kind) (u : List ℕ) (items : List Item) → Keeps s c → s.begun ≡ Some b → s.kind ≡ Some k
-      → is_open c ≡ true → items ≡ fields.slice_items R h k.nal_type (begun_of b (header_unit_in s.bytes s.header_end)) u
+  pub going_fields : (s : CurrentPicture) (c : Current) (g : GoingPicture) (u : List ℕ) (items : List Item) → Keeps s c → s.stage ≡ stages.Going g
+      → is_open c ≡ true → items ≡ fields.slice_items R h g.kind.nal_type (begun_of g.begun (header_unit_in s.bytes s.header_end)) u
       → fields_of structures.SliceHeader items ≡ fields.following_fields R h c u
-  going_fields s nothing b k u items keeps is some open_ same = let no = keeps in absurd (cc)
-  going_fields s (headed a) b k u items keeps is some open_ same = let none = keeps.kind in absurd (cc)
-  going_fields s (going p) b k u items keeps is some open_ same =
-      let of : begun_of b (header_unit_in s.bytes s.header_end) ≡ p.begun = begun_is s b p.begun is keeps.begun in
-      let kind : k ≡ p.kind = same_some k p.kind (sym some ∙ keeps.kind) in
-      ap (fields_of structures.SliceHeader) (same ∙ ap (λ x. fields.slice_items R h k.nal_type x u) of ∙ ap (λ (x : Kind). fields.slice_items R h x.nal_type p.begun u) kind)
+  going_fields s nothing g u items keeps is open_ same = absurd (let e : stages.Going g ≡ stages.Nothing = sym is ∙ keeps in cc)
+  going_fields s (headed a) g u items keeps is open_ same = absurd (let e : Some g.kind ≡ None = sym (ap kind_at is) ∙ keeps.kind in cc)
+  going_fields s (going p) g u items keeps is open_ same =
+      let of : begun_of g.begun (header_unit_in s.bytes s.header_end) ≡ p.begun = begun_is s g.begun p.begun (ap header_at is) keeps.begun in
+      let kind : g.kind ≡ p.kind = same_some g.kind p.kind (sym (ap kind_at is) ∙ keeps.kind) in
+      ap (fields_of structures.SliceHeader) (same ∙ ap (λ x. fields.slice_items R h g.kind.nal_type x u) of ∙ ap (λ (x : Kind). fields.slice_items R h x.nal_type p.begun u) kind)
       ∙ sym (going_on p u (is_whole p) refl open_)
 
   pub alone_begun : (before : List Reading) (u : List ℕ) (b : Begun) (t : ℕ) (items : List Item) → begins R before u None ≡ Ok b → t ≡ nal_unit_type u

@@ -1,9 +1,11 @@
 -- A slice header that was read under a picture header.
-use Rattle.std.proofs.Common.{◌≡◌, ℕ, ◌<◌, List, length, refl, sym, ◌∙◌, ap, subst}
+use Rattle.std.proofs.Common.{◌≡◌, ℕ, ◌<◌, List, length, refl, ◌∙◌, ap, subst}
 use Rattle.std.specs.Prelude.{Option, None}
 use Rattle.vx_rpl.specs.HeaderLists.{lists_of}
 use Rattle.vx_ph.specs.InForce.{in_force, structures}
 use Rattle.vx_table.specs.Scope.{is_set}
+use Rattle.vx_table.specs.Loaded.{number}
+use Rattle.vx_fields.specs.declared.sh.TheConstants.{sh_picture_header_in_slice_header_flag, sh_slice_address}
 use Rattle.vx_sh.specs.Whole.{At}
 use Rattle.vx_sh.proofs.Told.{numbers_are_told}
 use Rattle.vx_sh.proofs.Scopes.{slice_scopes_are_whole}
@@ -20,7 +22,6 @@ use Rattle.vx_assemble.specs.inner.Held.{begun_of}
 use Rattle.vx_assemble.specs.inner.Order.{IsHeader}
 use Rattle.vx_assemble.specs.inner.Takes.{AreSmall, IsReadUnder, at_begun}
 use Rattle.vx_assemble.specs.inner.Joining.{names_in}
-use Rattle.vx_assemble.specs.inner.Headers.{as_told}
 use Rattle.vx_assemble.specs.inner.Answered.{AreOfBegun}
 
 pub numbers_of : (n : SliceNumbers) (b : BegunPicture) (head : Option (List ℕ)) → IsHeader b → n.sps.now ≡ b.sets.sps → n.pps.now ≡ b.sets.pps
@@ -28,20 +29,16 @@ pub numbers_of : (n : SliceNumbers) (b : BegunPicture) (head : Option (List ℕ)
 numbers_of n b head is sps pps layout header ids =
     record { sps = sps; pps = pps; layout = layout; header = header ∙ is.header; ids = ids ∙ is.sets.ids }
 
-told_under : (b : Begun) (h : SliceValue) (payload : ℕ) → h.lists ≡ lists_of (structures b.sps) (in_force b.sps b.pps) h.fields
-    → as_told h ≡ slice_header_of b (record { fields = h.fields; subpic = h.subpic; payload = payload })
+-- what is read is as its items tell it
+told_read : (n : At) (b : Begun) (h : SliceValue) (payload : ℕ) → length n.slice ≡ 1024 → IsReadAt n h
+    → h.lists ≡ lists_of (structures b.sps) (in_force b.sps b.pps) h.fields
+    → h ≡ slice_header_of b (record { fields = h.fields; subpic = h.subpic; payload = payload })
 unfolding address_of
-told_under b h payload lists = rw lists refl
-
--- what is read is read so as its items tell it
-told_read : (n : At) (h : SliceValue) → length n.slice ≡ 1024 → IsReadAt n h → IsReadAt n (as_told h)
-told_read n h whole read =
+told_read n b h payload whole read lists =
     let told = numbers_are_told n h.fields read.inside read.fields whole in
-    record {
-      inside = read.inside;
-      fields = read.fields;
-      numbers = record { inside = ap is_set (sym told.inside); subpic = read.numbers.subpic; address = sym told.address; lists = read.numbers.lists };
-    }
+    let inside : h.inside ≡ is_set (number h.fields sh_picture_header_in_slice_header_flag) = read.numbers.inside ∙ ap is_set told.inside in
+    let address : h.address ≡ number h.fields sh_slice_address = read.numbers.address ∙ told.address in
+    rw (← inside, ← address, ← lists) refl
 
 pub at_read : (t : ℕ) (sps pps : List Item) (ids : List ℕ) (layout : Numbers) (b : BegunPicture) (h : SliceValue) → sps ≡ b.sets.sps → pps ≡ b.sets.pps
     → layout ≡ b.sets.layout → ids ≡ b.sets.ids → IsReadAt (at_sets t sps pps b.header ids layout) h → IsReadAt (at_begun t b) h
@@ -49,14 +46,13 @@ at_read t sps pps ids layout b h of_sps of_pps of_layout of_ids read =
     let same : at_sets t sps pps b.header ids layout ≡ at_begun t b = rw (of_sps, of_pps, of_layout, of_ids) refl in
     subst (λ n. IsReadAt n h) same read
 
-pub read_under : (b : BegunPicture) (t : ℕ) (h told : SliceValue) (payload : ℕ) → IsHeader b → told ≡ as_told h → h.subpic < length b.sets.ids
+pub read_under : (b : BegunPicture) (t : ℕ) (h : SliceValue) (payload : ℕ) → IsHeader b → h.subpic < length b.sets.ids
     → h.lists ≡ lists_of (structures b.sets.sps) (in_force b.sets.sps b.sets.pps) h.fields
-    → AreSmall (names_in b.sets.pps b.header.fields h.fields) → IsReadAt (at_begun t b) h → IsReadUnder b t (record { header = told; payload = payload })
-read_under b t h told payload is same low lists small read =
-    subst (λ x. IsReadUnder b t (record { header = x; payload = payload })) (sym same)
-    (record {
-      read = told_read (at_begun t b) h (slice_scopes_are_whole t b.sets.sps b.sets.pps b.header) read;
+    → AreSmall (names_in b.sets.pps b.header.fields h.fields) → IsReadAt (at_begun t b) h → IsReadUnder b t (record { header = h; payload = payload })
+read_under b t h payload is low lists small read =
+    record {
+      read = read;
       subpic = subst (λ m. h.subpic < m) is.sets.one_each low;
-      header = told_under (begun_of b None) h payload lists;
+      header = told_read (at_begun t b) (begun_of b None) h payload (slice_scopes_are_whole t b.sets.sps b.sets.pps b.header) read lists;
       small = small;
-    })
+    }

@@ -19,13 +19,15 @@ use Rattle.vx_pic.specs.Readings.{Begun, Reading, first_slice, next_slice, store
 use Rattle.vx_pic.specs.Readings.{going, with_slice as with_one, current, whole_part, pictures}
 use Rattle.vx_pic.specs.Told.{done_or_not}
 use Rattle.vx_assemble.specs.declared.state.BegunPicture.{BegunPicture}
+use Rattle.vx_assemble.specs.declared.state.Stage.{Stage}
+use Rattle.vx_assemble.specs.declared.state.Stage.TheVariants as stages
 use Rattle.vx_assemble.specs.declared.state.State.{State}
 use Rattle.vx_assemble.specs.declared.readers.ReadSlice.{ReadSlice}
 use Rattle.vx_assemble.specs.declared.slices.Opened.{Opened}
 use Rattle.vx_assemble.specs.inner.Order.{IsSlot, AreSlots, IsOrdered}
-use Rattle.vx_assemble.specs.inner.Held.{begun_of, slice_of, IsHeaded, IsGoing, Keeps, last_sps, IsApart, IsHeld, AreItems}
+use Rattle.vx_assemble.specs.inner.Held.{begun_of, header_at, kind_at, slice_of, IsHeaded, IsGoing, Keeps, last_sps, IsApart, IsHeld, AreItems}
 use Rattle.vx_assemble.specs.inner.Takes.{slice_read_as}
-use Rattle.vx_assemble.specs.inner.Changes.{counts_behind, slot_behind, with_slice, with_begun_picture, came_all, settled}
+use Rattle.vx_assemble.specs.inner.Changes.{counts_behind, slot_behind, first_comes, with_slice, with_begun_picture, came_all, settled}
 use Rattle.vx_assemble.specs.inner.Slices.{told_settled, with_first}
 
 -- what is kept behind a slice, before it is settled: the pictures are these, and the one that goes on where it is whole
@@ -134,6 +136,17 @@ slice_put bytes u r =
 
 -- ---- the first slice
 
+header_stays : (k : Kind) (s : Stage) → header_at (first_comes k s) ≡ header_at s
+header_stays k stages.Nothing = refl
+header_stays k (stages.Headed b) = refl
+header_stays k (stages.Going g) = refl
+
+first_kind : (k : Kind) (s : Stage) (b : Begun) (x : Option (List ℕ)) → kind_at s ≡ None → option_map (λ h. begun_of h x) (header_at s) ≡ Some b
+    → kind_at (first_comes k s) ≡ Some k
+first_kind k stages.Nothing b x none some = absurd (let e : None ≡ Some b = some in cc)
+first_kind k (stages.Headed h) b x none some = refl
+first_kind k (stages.Going g) b x none some = absurd (let e : Some g.kind ≡ None = none in cc)
+
 pub first_unsettled : (s : State) (before : List Reading) (b : Begun) (u : List ℕ) (o : Opened) → IsApart s before → IsHeaded s.picture b
     → IsOrdered s.picture → o.bodies ≡ s.aps
     → IsUnsettled (with_first u o s) (first_slice b o.kind (slice_read_as u o.read) ∷ before)
@@ -154,8 +167,10 @@ first_unsettled s before b u o held head order bodies =
       counts = held.previous;
       ended = refl;
       goes = record {
-        begun = ap (λ x. option_map (λ k. begun_of k x) c.begun) (unit_stays c.bytes u c.header_end order.header) ∙ head.begun;
-        kind = refl;
+        begun =
+            ap (option_map (λ k. begun_of k (header_unit_in (c.bytes ++ u) c.header_end))) (header_stays o.kind c.stage)
+            ∙ ap (λ x. option_map (λ k. begun_of k x) (header_at c.stage)) (unit_stays c.bytes u c.header_end order.header) ∙ head.begun;
+        kind = first_kind o.kind c.stage b (header_unit_in c.bytes c.header_end) head.kind head.begun;
         slices = slices;
         size = size;
         bodies = bodies ∙ held.aps;
@@ -173,7 +188,7 @@ all_slots : (o : Option BegunPicture) (b : BegunPicture) (bytes : List ℕ) (set
 all_slots o b bytes sets slots is are = let s : AreSlots (Some b) bytes sets slots = subst (λ x. AreSlots x bytes sets slots) is are in s.1
 
 pub further_unsettled : (s : State) (before : List Reading) (p : Picture) (k : BegunPicture) (u : List ℕ) (r : ReadSlice) → IsHeld s before
-    → current before ≡ going p → is_whole p ≡ false → IsOrdered s.picture → s.picture.begun ≡ Some k
+    → current before ≡ going p → is_whole p ≡ false → IsOrdered s.picture → header_at s.picture.stage ≡ Some k
     → IsUnsettled (with_begun_picture (with_slice u r s.picture) s) (next_slice (slice_read_as u r) ∷ before)
     (record p { slices = p.slices ++ slice_read_as u r ∷ [] }) (pictures before)
 further_unsettled s before p k u r held is whole order begun =
@@ -182,7 +197,7 @@ further_unsettled s before p k u r held is whole order begun =
     let goes : IsGoing c p = subst (λ q. Keeps c q) is held.picture in
     let slices : map (slice_of (c.bytes ++ u)) (c.slices ++ slot_behind (length c.bytes) u r ∷ []) ≡ p.slices ++ x ∷ [] =
     map-append (slice_of (c.bytes ++ u)) c.slices (slot_behind (length c.bytes) u r ∷ [])
-    ∙ rw (slices_stay k c.bytes u c.bodies c.slices (all_slots c.begun k c.bytes c.bodies c.slices begun order.slots), slice_put c.bytes u r, goes.slices) refl in
+    ∙ rw (slices_stay k c.bytes u c.bodies c.slices (all_slots (header_at c.stage) k c.bytes c.bodies c.slices begun order.slots), slice_put c.bytes u r, goes.slices) refl in
     let size : length (c.bytes ++ u) ≡ unit_size p.begun.unit + sum_by (λ y. length y.unit) (p.slices ++ x ∷ []) =
     let sum = sum_by_push (λ y. length y.unit) p.slices x in
     let old : length c.bytes ≡ unit_size p.begun.unit + sum_by (λ y. length y.unit) p.slices = goes.size in
@@ -197,7 +212,7 @@ further_unsettled s before p k u r held is whole order begun =
       counts = held.apart.previous;
       ended = refl;
       goes = record {
-        begun = ap (λ y. option_map (λ z. begun_of z y) c.begun) (unit_stays c.bytes u c.header_end order.header) ∙ goes.begun;
+        begun = ap (λ y. option_map (λ z. begun_of z y) (header_at c.stage)) (unit_stays c.bytes u c.header_end order.header) ∙ goes.begun;
         kind = goes.kind;
         slices = slices;
         size = size;

@@ -1,5 +1,5 @@
 -- Fields that are read are those that the readers of H.266 come to.
-use Rattle.std.proofs.Common.{◌≡◌, ℕ, ℤ, ◌*◌, Bool, true, false, List, [], ◌++◌, length, Result, Ok, Err, refl, sym, ap, subst, ◌∙◌}
+use Rattle.std.proofs.Common.{◌≡◌, ℕ, ℤ, ◌*◌, Bool, List, [], ◌++◌, length, Result, Ok, Err, sym, ap, subst, ◌∙◌}
 use Rattle.vx_bits.specs.declared.list.Item.{Item}
 use Rattle.vx_bits.specs.declared.refusal.Refusal.{Refusal}
 use Rattle.vx_bits.specs.declared.refusal.ReadError.{ReadError}

@@ -1,6 +1,6 @@
 -- Slices that are taken.
 use Rattle.std.proofs.Common.{◌≡◌, ℕ, ◌<◌, ◌≤◌, List, [], ◌∷◌, ◌++◌, length, Bool, true, false, not, cond, refl, sym, ◌∙◌, ap, subst, arith, add-zero, Result, Ok, Err}
-use Rattle.std.specs.Prelude.{nat_lt, Option, Some, None, IsSome}
+use Rattle.std.specs.Prelude.{nat_lt, Option, Some, None}
 use Rattle.std.proofs.lemmas.Bool.Decides.{nat_tests}
 use Rattle.std.proofs.lemmas.List.{length-map}
 use Rattle.vx_bits.specs.declared.refusal.Refusal.{Refusal}
@@ -21,8 +21,11 @@ use Rattle.vx_assemble.specs.declared.readers.ReadSlice.{ReadSlice}
 use Rattle.vx_assemble.specs.declared.slices.Opened.{Opened}
 use Rattle.vx_assemble.specs.declared.state.BegunPicture.{BegunPicture}
 use Rattle.vx_assemble.specs.declared.state.CurrentPicture.{CurrentPicture}
+use Rattle.vx_assemble.specs.declared.state.GoingPicture.{GoingPicture}
+use Rattle.vx_assemble.specs.declared.state.Stage.{Stage}
+use Rattle.vx_assemble.specs.declared.state.Stage.TheVariants as stages
 use Rattle.vx_assemble.specs.declared.state.State.{State}
-use Rattle.vx_assemble.specs.inner.Held.{begun_of, slice_of, IsHeaded, IsGoing, Keeps, IsApart, IsHeld}
+use Rattle.vx_assemble.specs.inner.Held.{begun_of, header_at, kind_at, slice_of, IsHeaded, IsGoing, Keeps, IsApart, IsHeld}
 use Rattle.vx_assemble.specs.inner.Order.{IsOrdered}
 use Rattle.vx_assemble.specs.inner.Takes.{Gives, slice_read_as, TookUnit, TakesUnit}
 use Rattle.vx_assemble.specs.inner.Opening.{opened_in}
@@ -30,7 +33,7 @@ use Rattle.vx_assemble.specs.inner.Places.{IsAt}
 use Rattle.vx_assemble.specs.inner.Changes.{with_slice, with_begun_picture, with_header, with_begun}
 use Rattle.vx_assemble.specs.inner.Slices.{IsFresh, first_read_as, with_first, IsSettled}
 use Rattle.vx_assemble.proofs.Steps.{gives_first, gives_same, same_some}
-use Rattle.vx_assemble.proofs.KeptPicture.{begun_is, going_whole}
+use Rattle.vx_assemble.proofs.KeptPicture.{begun_is, headed_open, going_whole}
 use Rattle.vx_assemble.proofs.Openings.{opens_are}
 use Rattle.vx_assemble.proofs.Settling.{IsUnsettled, settled_held, settled_told, first_unsettled, further_unsettled}
 use Rattle.vx_assemble.proofs.Taking.{takes_error}
@@ -41,7 +44,7 @@ use Rattle.vx_assemble.proofs.Taking.{takes_error}
 unit_fits : (k : BegunPicture) (x : Option (List ℕ)) (b : Begun) → begun_of k x ≡ b → begun_of k b.unit ≡ b
 unit_fits k x b is = ap (λ y. begun_of k y) (sym (ap (λ y. y.unit) is)) ∙ is
 
-pub headed_fresh : (c : CurrentPicture) (k : BegunPicture) (b : Begun) → c.begun ≡ Some k → IsHeaded c b → IsFresh c k b
+pub headed_fresh : (c : CurrentPicture) (k : BegunPicture) (b : Begun) → header_at c.stage ≡ Some k → IsHeaded c b → IsFresh c k b
 headed_fresh c k b is head = record {
   begun = unit_fits k (header_unit_in c.bytes c.header_end) b (begun_is c k b is head.begun);
   slices = head.slices;
@@ -97,15 +100,28 @@ pub record TookSettled (new : State) (before : List Reading) (what : Accepted) :
   pub held : IsHeld new before
   pub told : what ≡ done_or_not (current before)
 
+-- a picture that is going
+record IsAtGoing (s : Stage) : Type 0 where
+  going : GoingPicture
+  is : s ≡ stages.Going going
+
+going_stage : (s : Stage) (k : Kind) → kind_at s ≡ Some k → IsAtGoing s
+going_stage stages.Nothing k is = absurd (let e : None ≡ Some k = is in cc)
+going_stage (stages.Headed b) k is = absurd (let e : None ≡ Some k = is in cc)
+going_stage (stages.Going g) k is = record { going = g; is = refl }
+
 settle_took : (mid new : State) (before : List Reading) (p : Picture) (earlier : List Picture) (what : Accepted) → IsUnsettled mid before p earlier
     → IsOrdered mid.picture → IsSettled mid new what → TookSettled new before what
 settle_took mid new before p earlier what u order st =
-    let begun = unit_fits st.begun (header_unit_in mid.picture.bytes mid.picture.header_end) p.begun (begun_is mid.picture st.begun p.begun st.begun_is u.goes.begun) in
-    let kind : st.kind ≡ p.kind = same_some st.kind p.kind (sym st.kind_is ∙ u.goes.kind) in
-    let came = going_whole mid.picture st.begun p st.begun_is order u.goes in
+    let at = going_stage mid.picture.stage p.kind u.goes.kind in
+    let g = at.going in
+    let header : header_at mid.picture.stage ≡ Some g.begun = ap header_at at.is in
+    let begun = unit_fits g.begun (header_unit_in mid.picture.bytes mid.picture.header_end) p.begun (begun_is mid.picture g.begun p.begun header u.goes.begun) in
+    let kind : g.kind ≡ p.kind = same_some g.kind p.kind (sym (ap kind_at at.is) ∙ u.goes.kind) in
+    let came = going_whole mid.picture g.begun p header order u.goes in
     record {
-      held = rw st.new_is (settled_held mid before p earlier st.begun st.kind u begun kind came);
-      told = st.told ∙ settled_told mid before p st.begun u.now came;
+      held = rw (st.new_is g at.is) (settled_held mid before p earlier g.begun g.kind u begun kind came);
+      told = st.told g at.is ∙ settled_told mid before p g.begun u.now came;
     }
 
 pub took_first : (R : Readers) (s mid new : State) (before : List Reading) (b : Begun) (u : List ℕ) (o : Opened) (what : Accepted) → IsApart s before
@@ -119,7 +135,7 @@ took_first R s mid new before b u o what held head order bodies read is mid_orde
 
 -- ---- a further slice
 
-pub going_at : (a : Place) (c : CurrentPicture) (p : Picture) → IsGoing c p → c.begun ≡ Some a.begun.now → c.kind ≡ Some a.kind → a.bodies.now ≡ c.bodies
+pub going_at : (a : Place) (c : CurrentPicture) (p : Picture) → IsGoing c p → header_at c.stage ≡ Some a.begun.now → kind_at c.stage ≡ Some a.kind → a.bodies.now ≡ c.bodies
     → a.count ≡ length c.slices → a.size ≡ length c.bytes → IsAt a p
 going_at a c p goes begun kind bodies count size = record {
   begun = unit_fits a.begun.now (header_unit_in c.bytes c.header_end) p.begun (begun_is c a.begun.now p.begun begun goes.begun);
@@ -137,7 +153,7 @@ pub further_refused : (R : Readers) (new : State) (before : List Reading) (p : P
 further_refused R new before p u e bad = takes_error (further R p u) before new e (gives_first (joins R p u) (λ x. Ok (next_slice x)) e bad)
 
 pub took_further : (R : Readers) (s mid new : State) (before : List Reading) (p : Picture) (k : BegunPicture) (u : List ℕ) (r : ReadSlice) (what : Accepted)
-    → IsHeld s before → current before ≡ going p → is_whole p ≡ false → IsOrdered s.picture → s.picture.begun ≡ Some k
+    → IsHeld s before → current before ≡ going p → is_whole p ≡ false → IsOrdered s.picture → header_at s.picture.stage ≡ Some k
     → joins R p u ≡ Ok (slice_read_as u r) → mid ≡ with_begun_picture (with_slice u r s.picture) s → IsOrdered mid.picture → IsSettled mid new what
     → TookUnit (further R p u) before new what
 took_further R s mid new before p k u r what held is whole order begun read mid_is mid_order st =
@@ -171,37 +187,36 @@ whole_open p false is open_ = is
 further_is : (R : Readers) (before : List Reading) (p : Picture) (u : List ℕ) → is_whole p ≡ false → further R p u ≡ follows R before (going p) u
 further_is R before p u whole = rw whole refl
 
-goes_further : (R : Readers) (s new : State) (before : List Reading) (c : Current) (u : List ℕ) (y : Result Accepted ReadError) → current before ≡ c
-    → Keeps s.picture c → is_open c ≡ true → IsSome s.picture.kind
+goes_further : (R : Readers) (s new : State) (before : List Reading) (c : Current) (u : List ℕ) (y : Result Accepted ReadError) (g : GoingPicture)
+    → current before ≡ c → Keeps s.picture c → is_open c ≡ true → s.picture.stage ≡ stages.Going g
     → ((p : Picture) → current before ≡ going p → is_whole p ≡ false → TakesUnit (further R p u) before new y)
     → TakesUnit (follows R before c u) before new y
-goes_further R s new before nothing u y is k open_ some takes = absurd (let e : false ≡ true = open_ in cc)
-goes_further R s new before (headed b) u y is k open_ some takes = absurd (let e : false ≡ true = subst (λ o. IsSome o) k.kind some in cc)
-goes_further R s new before (going p) u y is k open_ some takes =
+goes_further R s new before nothing u y g is k open_ at takes = absurd (let e : false ≡ true = open_ in cc)
+goes_further R s new before (headed b) u y g is k open_ at takes = absurd (let e : Some g.kind ≡ None = sym (ap kind_at at) ∙ k.kind in cc)
+goes_further R s new before (going p) u y g is k open_ at takes =
     let whole = whole_open p (is_whole p) refl open_ in
     subst (λ x. TakesUnit x before new y) (further_is R before p u whole) (takes p is whole)
 
-pub follows_further : (R : Readers) (s new : State) (before : List Reading) (u : List ℕ) (y : Result Accepted ReadError) (w : Bool) → IsHeld s before
-    → w ≡ is_open (current before) → w ≡ true → IsSome s.picture.kind
+pub follows_further : (R : Readers) (s new : State) (before : List Reading) (u : List ℕ) (y : Result Accepted ReadError) (g : GoingPicture)
+    → IsHeld s before → is_open (current before) ≡ true → s.picture.stage ≡ stages.Going g
     → ((p : Picture) → current before ≡ going p → is_whole p ≡ false → TakesUnit (further R p u) before new y)
     → TakesUnit (follows R before (current before) u) before new y
-follows_further R s new before u y w held said is some takes =
-    goes_further R s new before (current before) u y refl held.picture (sym said ∙ is) some takes
+follows_further R s new before u y g held open_ at takes = goes_further R s new before (current before) u y g refl held.picture open_ at takes
 
-goes_first : (R : Readers) (s new : State) (before : List Reading) (c : Current) (u : List ℕ) (y : Result Accepted ReadError)
-    → Keeps s.picture c → is_open c ≡ true → s.picture.kind ≡ None
+goes_first : (R : Readers) (s new : State) (before : List Reading) (c : Current) (u : List ℕ) (y : Result Accepted ReadError) (h : BegunPicture)
+    → Keeps s.picture c → is_open c ≡ true → s.picture.stage ≡ stages.Headed h
     → ((b : Begun) → IsHeaded s.picture b → TakesUnit (first R before b u) before new y)
     → TakesUnit (follows R before c u) before new y
-goes_first R s new before nothing u y k open_ none takes = absurd (let e : false ≡ true = open_ in cc)
-goes_first R s new before (headed b) u y k open_ none takes = takes b k
-goes_first R s new before (going p) u y k open_ none takes = absurd (let e : None ≡ Some p.kind = sym none ∙ k.kind in cc)
+goes_first R s new before nothing u y h k open_ at takes = absurd (let e : false ≡ true = open_ in cc)
+goes_first R s new before (headed b) u y h k open_ at takes = takes b k
+goes_first R s new before (going p) u y h k open_ at takes = absurd (let e : None ≡ Some p.kind = sym (ap kind_at at) ∙ k.kind in cc)
 
-pub follows_first : (R : Readers) (s new : State) (before : List Reading) (u : List ℕ) (y : Result Accepted ReadError) (w : Bool) → IsHeld s before
-    → w ≡ is_open (current before) → w ≡ true → s.picture.kind ≡ None
+pub follows_first : (R : Readers) (s new : State) (before : List Reading) (u : List ℕ) (y : Result Accepted ReadError) (h : BegunPicture)
+    → IsHeld s before → s.picture.stage ≡ stages.Headed h
     → ((b : Begun) → IsHeaded s.picture b → TakesUnit (first R before b u) before new y)
     → TakesUnit (follows R before (current before) u) before new y
-follows_first R s new before u y w held said is none takes =
-    goes_first R s new before (current before) u y held.picture (sym said ∙ is) none takes
+follows_first R s new before u y h held at takes =
+    goes_first R s new before (current before) u y h held.picture (headed_open s.picture h (current before) at held.picture) at takes
 
 -- ---- a slice with the header inside
 

@@ -16,7 +16,6 @@ use Rattle.vx_pps.specs.Pps.{pps_form}
 use Rattle.vx_ph.specs.InForce as in_sets
 use Rattle.vx_sh.specs.Whole.{slice_form}
 use Rattle.vx_sh.specs.Value.{values_of}
-use Rattle.vx_pic.specs.declared.structure.Structure.{Structure}
 use Rattle.vx_pic.specs.declared.structure.Structure.TheVariants as structures
 use Rattle.vx_pic.specs.declared.structure.StructureFields.{StructureFields}
 use Rattle.vx_pic.specs.Shown.{no_fields, fields_of}

@@ -2,11 +2,11 @@
 pub mod Held
 pub mod Order
 pub mod Stored
-pub mod SentAgain
 pub mod Classes
 pub mod Fronts
 pub mod Headers
 pub mod Fields
+pub mod Given
 pub mod Takes
 pub mod Joining
 pub mod Places

@@ -128,7 +128,8 @@ impl State {
         let made = sets.value();
         let sps = made.sps.value();
         let pps = made.pps.value();
-        let header = match header_of(alloc, inside, sps, pps, unit.rbsp) {
+        let scope = made.scope.value();
+        let header = match header_of(alloc, inside, sps, pps, scope, unit.rbsp) {
             Ok(header) => header,
             Err(error) => return Err(error),
         };

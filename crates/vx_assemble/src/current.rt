@@ -1,13 +1,14 @@
 //! The picture that was begun last, as far as its slices came.
-ghost use Rattle.std.specs.Prelude.{◌≡◌, IsTrue, IsSome, OnOk, OnErr};
+ghost use Rattle.std.specs.Prelude.{◌≡◌, OnOk, OnErr};
 ghost use Rattle.vx_pic.specs.Readings.{Current, is_open, is_within};
 ghost use Rattle.vx_assemble.specs.inner.Changes as changes;
 ghost use Rattle.vx_assemble.specs.inner.Held.{Keeps};
 ghost use Rattle.vx_assemble.specs.inner.Order.{IsOrdered, IsComplete};
 ghost use Rattle.vx_assemble.specs.inner.Lent.{parts_in};
 
-use crate::state::{BegunPicture, CurrentPicture};
+use crate::state::{BegunPicture, CurrentPicture, GoingPicture, Stage};
 use std::alloc::{AllocError, Global};
+use std::mem::replace;
 use vx_bits::Bytes;
 use vx_pic::{ApsList, Kind, Picture, PictureParts, SliceSlot, SliceSlots};
 use vx_sei::MessageList;
@@ -23,12 +24,12 @@ impl CurrentPicture {
     /// Whether a picture is begun, and not all its slices came.
     pub(crate) fn is_open(&self) -> bool
         requires { IsOrdered self.now }
-        ensures answer { (c : Current) → Keeps self.now c → result ≡ is_open c }
-        ensures some { IsTrue result → IsSome self.now.begun }
+        ensures { (c : Current) → Keeps self.now c → result ≡ is_open c }
     {
-        match &self.begun {
-            Some(begun) => self.kind.is_none() || !self.came_all(begun),
-            None => false,
+        match &self.stage {
+            Stage::Nothing => false,
+            Stage::Headed(_) => true,
+            Stage::Going(going) => !self.came_all(&going.begun),
         }
     }
 
@@ -37,9 +38,9 @@ impl CurrentPicture {
         requires { IsOrdered self.now }
         ensures { (c : Current) → Keeps self.now c → result ≡ is_within c }
     {
-        match &self.begun {
-            Some(begun) => self.kind.is_some() && !self.came_all(begun),
-            None => false,
+        match &self.stage {
+            Stage::Nothing | Stage::Headed(_) => false,
+            Stage::Going(going) => !self.came_all(&going.begun),
         }
     }
 
@@ -59,19 +60,21 @@ impl CurrentPicture {
     {
         let mut bytes = Bytes::new(alloc);
         bytes.extend_from_slice(unit)?;
-        self.begun = Some(begun);
-        self.kind = None;
+        self.stage = Stage::Headed(begun);
         self.bytes = bytes;
         self.header_end = unit.len();
         self.slices = SliceSlots::new(alloc);
         Ok(())
     }
 
-    /// Sets what it is, its adaptation parameter sets, and its messages, before its first slice.
+    /// Sets what it is, where its header came, its adaptation parameter sets, and its messages, before its first slice.
     pub(crate) fn open(&mut self, alloc: Global, kind: Kind, bodies: ApsList, messages: MessageList)
         ensures { self.new ≡ changes.with_kind kind bodies messages self.old }
     {
-        self.kind = Some(kind);
+        self.stage = match replace(&mut self.stage, Stage::Nothing) {
+            Stage::Headed(begun) => Stage::Going(GoingPicture { begun, kind }),
+            other => other,
+        };
         self.slices = SliceSlots::new(alloc);
         self.bodies = bodies;
         self.messages = messages;
@@ -107,19 +110,16 @@ impl CurrentPicture {
         requires complete { IsComplete self.now }
         ensures { result ≡ parts_in self.now }
     {
-        let Some(begun) = &self.begun else {
+        let Stage::Going(going) = &self.stage else {
             unreachable!()
         };
-        let Some(kind) = self.kind else {
-            unreachable!()
-        };
-        let sets = begun.sets.value();
+        let sets = going.begun.sets.value();
         Picture::of(PictureParts {
-            kind,
+            kind: going.kind,
             sps: sets.sps.value(),
             pps: sets.pps.value(),
             layout: &sets.layout,
-            header: &begun.header,
+            header: &going.begun.header,
             ids: &sets.ids,
             bytes: self.bytes.as_slice(),
             header_end: self.header_end,

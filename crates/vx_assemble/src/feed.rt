@@ -15,11 +15,12 @@ ghost use Rattle.vx_assemble.specs.declared.feed.FeedFault.TheVariants.{Refused 
 
 use crate::assembler::Assembler;
 use crate::fault::{AssembleFault, First};
+use crate::unit::nal_header;
 use crate::view::UnitView;
 use std::alloc::{AllocError, Global};
 use std::marker::Model;
 use thiserror::Error;
-use vx_annexb::{NalHeader, ReadFault, Span, UnitReader, read_header};
+use vx_annexb::{NalHeader, ReadFault, UnitReader};
 use vx_bits::{Fields, Refusal};
 use vx_io::Source;
 use vx_pic::{Accepted, Lender, Picture};
@@ -155,7 +156,7 @@ fn accept(assembler: &mut Assembler, unit: &[u8], offset: u64) -> Result<Taken, 
     ensures bounded { IsBounded assembler.new }
     ensures nal { result ≡ Ok End → ⊥ }
 {
-    let header = read_header(unit).unwrap();
+    let header = nal_header(unit);
     let what = assembler.accept(unit)?;
     Ok(Taken::Nal {
         header,

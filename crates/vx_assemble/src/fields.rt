@@ -20,10 +20,10 @@ ghost use Rattle.vx_assemble.specs.inner.Order.{IsHeader, IsInOrder};
 
 use crate::begin::referred_sps;
 use crate::readers::{header_bits, numbers_under, referred_pps};
-use crate::state::{BegunPicture, State};
-use crate::unit::{NalUnit, SliceUnit, UnitClass, behind_header, class_of, front_of};
+use crate::state::{BegunPicture, Stage, State};
+use crate::unit::{NalUnit, SliceUnit, UnitClass, behind_header, class_of, front_of, nal_header};
 use std::alloc::{AllocError, Global};
-use vx_annexb::{NalHeader, read_header, unescape};
+use vx_annexb::{NalHeader, unescape};
 use vx_aps::read_aps_fields;
 use vx_bits::{Fields, Item, ReadError};
 use vx_fields::sh::sh_picture_header_in_slice_header_flag;
@@ -269,15 +269,17 @@ impl State {
         if !self.picture.is_open() {
             return Ok(StructureFields::new(alloc));
         }
-        let Some(begun) = &self.picture.begun else {
-            unreachable!()
-        };
-        if let Some(kind) = self.picture.kind {
-            let items = slice_items(alloc, kind.nal_type, begun, unit)?;
-            return Ok(fields_of(Structure::SliceHeader, items));
+        match &self.picture.stage {
+            Stage::Nothing => Ok(StructureFields::new(alloc)),
+            Stage::Headed(begun) => {
+                let items = slice_items(alloc, unit.header.nal_type, begun, unit)?;
+                Ok(fields_of(Structure::SliceHeader, items))
+            }
+            Stage::Going(going) => {
+                let items = slice_items(alloc, going.kind.nal_type, &going.begun, unit)?;
+                Ok(fields_of(Structure::SliceHeader, items))
+            }
         }
-        let items = slice_items(alloc, unit.header.nal_type, begun, unit)?;
-        Ok(fields_of(Structure::SliceHeader, items))
     }
 
     /// The fields of a slice.
@@ -397,9 +399,7 @@ impl State {
         ensures { IfOk result (λ f. (R : Readers) (h : AreOfH266 R) (before : List Reading) → IsHeld self.now before
             → f ≡ fields.unit_fields R h before unit.now) }
     {
-        let Some(header) = read_header(unit) else {
-            unreachable!()
-        };
+        let header = nal_header(unit);
         if header.reserved {
             return Ok(StructureFields::new(alloc));
         }

@@ -14,8 +14,10 @@ use std::alloc::Global;
 use vx_bits::rules::SIZE_DIFFERS;
 use vx_bits::{IdList, ReadError};
 use vx_layout::Layout;
+use vx_ph::in_force;
 use vx_pps::Pps;
 use vx_sps::Sps;
+use vx_table::Scope;
 
 /// The sets in force for a picture, and what both make up.
 #[derive(Drop)]
@@ -30,6 +32,8 @@ pub(crate) struct InForce {
     pub ids: IdList,
     /// The number of slices.
     pub slices: usize,
+    /// The numbers of both sets, at which headers are read.
+    pub scope: Shared<Scope>,
 }
 
 /// Whether the pictures of both sets have one size.
@@ -73,12 +77,14 @@ impl InForce {
         let layout = layout_of(alloc, sps.value(), pps.value())?;
         let ids = ids_of(alloc, sps.value(), pps.value())?;
         let slices = slice_count(sps.value(), pps.value());
+        let scope = Shared::new(alloc, in_force(sps.value(), pps.value()))?;
         Ok(InForce {
             sps,
             pps,
             layout,
             ids,
             slices,
+            scope,
         })
     }
 }

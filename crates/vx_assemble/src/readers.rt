@@ -5,7 +5,6 @@ ghost use Rattle.vx_ph.specs.InForce.{in_force, structures};
 ghost use Rattle.vx_ph.specs.Picture as picture;
 ghost use Rattle.vx_sh.specs.InForce.{in_force_at};
 ghost use Rattle.vx_pic.specs.Parts.{IsReadAt};
-ghost use Rattle.vx_assemble.specs.inner.Headers.{as_told};
 ghost use Rattle.vx_aps.specs.Aps.{IsValid};
 ghost use Rattle.vx_pic.specs.PictureLayout as pictures;
 ghost use Rattle.vx_pic.specs.PictureLayout.{numbers_in, MakeLayout};
@@ -25,15 +24,15 @@ use std::alloc::{AllocError, Global};
 use vx_annexb::{unescape, unit_place};
 use vx_aps::{Aps, one_answer, read_aps};
 use vx_bits::{BitReader, Fields, IdList, ReadError};
-use vx_fields::sh::{sh_picture_header_in_slice_header_flag, sh_slice_address};
 use vx_layout::Layout;
-use vx_ph::{PictureHeader, read_ph, read_ph_unit, read_pps_id};
-use vx_pic::{number_of, picture_ids, picture_layout};
+use vx_ph::{PictureHeader, read_header_at, read_pps_id, read_unit_at};
+use vx_pic::{picture_ids, picture_layout};
 use vx_pps::{Pps, read_pps};
 use vx_ptl::read_vps;
 use vx_sei::{MessageList, read_sei};
-use vx_sh::{SliceHeader, SliceNumbers, read_sh};
+use vx_sh::{SliceHeader, SliceNumbers, read_sh_at};
 use vx_sps::{Sps, read_sps};
+use vx_table::Scope;
 
 /// A slice header, and the place in its unit behind it.
 #[derive(Drop)]
@@ -142,16 +141,18 @@ pub(crate) fn referred_pps(inside: bool, rbsp: &[u8]) -> Result<u8, ReadError>
     }
 }
 
-/// A picture header, which may stand inside a slice, under its sets.
+/// A picture header, which may stand inside a slice, under its sets, whose numbers the scope has.
 #[tactic(auto, using(crate::proofs::Small::header_small))]
 pub(crate) fn header_of(
     alloc: Global,
     inside: bool,
     sps: &Sps,
     pps: &Pps,
+    scope: &Scope,
     rbsp: &[u8],
 ) -> Result<PictureHeader, ReadError>
-    requires { length rbsp.now ≤ 2 ^ 23 }
+    requires size { length rbsp.now ≤ 2 ^ 23 }
+    requires scope { scope.now ≡ in_force sps.now pps.now }
     ensures answer { (R : Readers) → AreOfH266 R
         → Gives (R.header inside sps.now pps.now rbsp.now) (answer_by (λ header. header.fields) result) }
     ensures made { IfOk result (IsHeaderUnder sps.now pps.now) }
@@ -159,23 +160,25 @@ pub(crate) fn header_of(
     ensures small { IfOk result (λ header. NamesSmall header.fields) }
 {
     if !inside {
-        return read_ph_unit(alloc, rbsp, sps, pps);
+        return read_unit_at(alloc, rbsp, sps.table(), scope);
     }
     let mut bits = header_bits(true, rbsp);
-    read_ph(alloc, &mut bits, sps, pps)
+    read_header_at(alloc, &mut bits, sps.table(), scope)
 }
 
-/// The header of a slice, whose unit has this RBSP, and the place in the unit behind it.
+/// The header of a slice, whose unit has this RBSP, and the place in the unit behind it. The scope has the numbers of its sets.
 pub(crate) fn read_slice(
     alloc: Global,
     unit: &[u8],
     rbsp: &[u8],
     numbers: &SliceNumbers<'_>,
+    scope: &Scope,
 ) -> Result<(SliceHeader, usize), ReadError>
     requires spells { rbsp.now ≡ rbsp_of unit.now }
     requires size { length rbsp.now ≤ 2 ^ 23 }
     requires few { length numbers.now.ids.now ≤ 1000 }
     requires one_each { length numbers.now.ids.now ≡ length numbers.now.layout.now.subpics }
+    requires scope { scope.now ≡ in_force numbers.now.sps.now numbers.now.pps.now }
     ensures answer { (R : Readers) → AreOfH266 R → (b : Begun) → AreOfBegun numbers.now b
         → Gives (R.slice numbers.now.nal_type b unit.now) (answer_by slice_seen result) }
     ensures read { IfOk result (λ read. IsReadAt (in_force_at numbers.now) read.0) }
@@ -184,25 +187,9 @@ pub(crate) fn read_slice(
     ensures within { IfOk result (λ read. read.1 ≤ length unit.now) }
     ensures lists { IfOk result (λ read. read.0.lists ≡ lists_of (structures numbers.now.sps.now) (in_force numbers.now.sps.now numbers.now.pps.now) read.0.fields) }
 {
-    let (header, size) = read_sh(alloc, rbsp, numbers)?;
+    let (header, size) = read_sh_at(alloc, rbsp, numbers, scope)?;
     let payload = unit_place(unit, 2 + size);
     Ok((header, payload))
-}
-
-/// A slice header as its items tell it, with these lists.
-#[tactic(auto, unfolding(vx_pic::specs::Sets::address_of))]
-fn told(header: SliceHeader) -> SliceHeader
-    ensures { result ≡ as_told header }
-{
-    let inside = number_of(&header.fields, sh_picture_header_in_slice_header_flag) != 0;
-    let address = number_of(&header.fields, sh_slice_address);
-    SliceHeader {
-        inside,
-        fields: header.fields,
-        subpic: header.subpic,
-        address,
-        lists: header.lists,
-    }
 }
 
 /// What a slice of a picture is read at, whose first slice is of this type.
@@ -254,14 +241,12 @@ fn slice_of(
         layout: &sets.layout,
         ids: &sets.ids,
     };
-    let (header, payload) = match read_slice(alloc, unit.bytes, unit.rbsp, &numbers) {
+    let scope = sets.scope.value();
+    let (header, payload) = match read_slice(alloc, unit.bytes, unit.rbsp, &numbers, scope) {
         Ok((header, payload)) => (header, payload),
         Err(error) => return Err(error),
     };
-    Ok(ReadSlice {
-        header: told(header),
-        payload,
-    })
+    Ok(ReadSlice { header, payload })
 }
 
 /// The header of a slice of a picture, whose first slice is of this type.

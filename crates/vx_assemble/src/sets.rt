@@ -1,14 +1,110 @@
-//! Parameter sets that are stored, each with the RBSP that it was read from: one that is sent again isn't read again.
-ghost use Rattle.std.specs.Prelude.{◌≡◌, ℕ, ◌<◌, List, Some, IfOk, IfSome, IsTrue};
-ghost use Rattle.vx_bits.specs.declared.list.Item.{Item};
-ghost use Rattle.vx_assemble.specs.inner.Stored.{IsSpsOf, IsPpsOf, KeepsSps, KeepsPps};
+//! Parameter sets that are stored by their ids, each with the RBSP that it was read from. One that is sent again stays as it is, with all that
+//! was made of it.
+ghost use Rattle.std.specs.Prelude.{◌≡◌, ℕ, ◌<◌, ◌≤◌, ◌^◌, List, length, Some, None, Err, IfOk, IfErr, IfSome, IsTrue, OnErr, Result, option_copied};
+ghost use Rattle.std.specs.List.{slice_index_or};
+ghost use Rattle.vx_bits.specs.declared.refusal.Refusal.{Refusal};
+ghost use Rattle.vx_pic.specs.Sets as sets;
+ghost use Rattle.vx_pic.specs.Rules.{Readers};
+ghost use Rattle.vx_pic.specs.H266.{AreOfH266};
+ghost use Rattle.vx_assemble.specs.inner.Given.{Gives};
+ghost use Rattle.vx_assemble.specs.inner.Stored.{IsReadAs, KeepsSet, IsSentAgain, IsPut};
 
+use crate::items::same_items;
+use crate::readers::{pps_of, sps_of};
 use crate::shared::Shared;
 use std::alloc::{AllocError, Global};
 use std::marker::Model;
-use vx_bits::Bytes;
+use vx_bits::{Bytes, ReadError};
+use vx_fields::pps::pps_pic_parameter_set_id;
+use vx_fields::sps::sps_seq_parameter_set_id;
 use vx_pps::Pps;
 use vx_sps::Sps;
+
+/// A parameter set that is stored by its id.
+pub(crate) trait ParameterSet: Drop + Sized {
+    ghost use Rattle.std.specs.Prelude.{◌≡◌, ℕ, ◌<◌, ◌≤◌, ◌^◌, List, length, Result, IsTrue};
+    ghost use Rattle.vx_bits.specs.declared.refusal.Refusal.{Refusal};
+    ghost use Rattle.vx_pic.specs.Rules.{Readers};
+    ghost use Rattle.vx_pic.specs.H266.{AreOfH266};
+    ghost use Rattle.vx_assemble.specs.inner.Given.{Gives};
+
+    ghost reads: { Readers → List ℕ → Result Self Refusal };
+
+    ghost id_of: { Self → ℕ };
+
+    ghost ids: { ℕ };
+
+    /// The set of an RBSP.
+    fn read(alloc: Global, rbsp: &[u8]) -> Result<Self, ReadError>
+        requires { length rbsp.now ≤ 2 ^ 23 }
+        ensures { (R : Readers) → AreOfH266 R → Gives (reads R rbsp.now) result };
+
+    /// The id of a set whose RBSP begins with a byte.
+    fn id_in(byte: u8) -> u8;
+
+    /// Its id.
+    fn id(&self) -> u8
+        ensures value { result ≡ id_of self.now }
+        ensures few { result < ids };
+
+    /// Whether it is the same as another one.
+    fn is_same(&self, other: &Self) -> bool
+        ensures { IsTrue result → self.now ≡ other.now };
+}
+
+impl ParameterSet for Sps {
+    ghost reads = { λ R rbsp. R.sps rbsp };
+
+    ghost id_of = { sets.sps_id };
+
+    ghost ids = { 16 };
+
+    fn read(alloc: Global, rbsp: &[u8]) -> Result<Sps, ReadError> {
+        sps_of(alloc, rbsp)
+    }
+
+    fn id_in(byte: u8) -> u8 {
+        byte >> 4
+    }
+
+    #[tactic(auto, using(crate::proofs::Ids::sps_below), unfolding(vx_pic::specs::Sets::sps_id))]
+    fn id(&self) -> u8 {
+        let _fields = self.fields();
+        self.scope().latest(sps_seq_parameter_set_id) as u8
+    }
+
+    #[tactic(auto, using(crate::proofs::Again::same_sets))]
+    fn is_same(&self, other: &Sps) -> bool {
+        same_items(self.fields(), other.fields())
+    }
+}
+
+impl ParameterSet for Pps {
+    ghost reads = { λ R rbsp. R.pps rbsp };
+
+    ghost id_of = { sets.pps_id };
+
+    ghost ids = { 64 };
+
+    fn read(alloc: Global, rbsp: &[u8]) -> Result<Pps, ReadError> {
+        pps_of(alloc, rbsp)
+    }
+
+    fn id_in(byte: u8) -> u8 {
+        byte >> 2
+    }
+
+    #[tactic(auto, using(crate::proofs::Ids::pps_below), unfolding(vx_pic::specs::Sets::pps_id))]
+    fn id(&self) -> u8 {
+        let _fields = self.fields();
+        self.scope().latest(pps_pic_parameter_set_id) as u8
+    }
+
+    #[tactic(auto, using(crate::proofs::Again::same_sets))]
+    fn is_same(&self, other: &Pps) -> bool {
+        same_items(self.fields(), other.fields())
+    }
+}
 
 /// The most bytes of an RBSP that are kept.
 const KEPT: usize = 1024;
@@ -35,92 +131,125 @@ fn are_kept(bytes: &Option<Bytes>, rbsp: &[u8]) -> bool
     }
 }
 
-/// An SPS that is stored. It is seen as the SPS.
+/// A set that is stored. It is seen as the set.
 #[derive(Drop)]
-pub(crate) struct StoredSps {
-    sps: Shared<Sps>,
+pub(crate) struct Stored<S: ParameterSet> {
+    set: Shared<S>,
     rbsp: Option<Bytes>,
 }
 
-impl Model for StoredSps {
-    ghost Value = { List Item };
+impl<S: ParameterSet> Model for Stored<S> {
+    ghost Value = { S };
 
-    ghost view = { λ s. s.sps };
+    ghost view = { λ s. s.set };
 
-    ghost invariant = { λ s. KeepsSps s.sps s.rbsp };
+    ghost invariant = { λ s. KeepsSet S.reads s.set s.rbsp };
 }
 
-impl StoredSps {
-    /// An SPS, read from this RBSP.
+impl<S: ParameterSet> Stored<S> {
+    /// A set, read from this RBSP.
     ///
     /// # Errors
     ///
     /// Where memory runs out.
-    pub(crate) fn new(alloc: Global, sps: Sps, rbsp: &[u8]) -> Result<StoredSps, AllocError>
-        requires { IsSpsOf sps rbsp.now }
-        ensures { IfOk result (λ stored. stored ≡ sps) }
+    fn new(alloc: Global, set: S, rbsp: &[u8]) -> Result<Stored<S>, AllocError>
+        requires { IsReadAs S.reads set rbsp.now }
+        ensures { IfOk result (λ stored. stored ≡ set) }
     {
         let rbsp = kept(alloc, rbsp)?;
-        let sps = Shared::new(alloc, sps)?;
-        Ok(StoredSps { sps, rbsp })
+        let set = Shared::new(alloc, set)?;
+        Ok(Stored { set, rbsp })
     }
 
-    /// The SPS.
-    pub(crate) fn set(&self) -> &Shared<Sps>
+    /// The set.
+    pub(crate) fn set(&self) -> &Shared<S>
         ensures { result.now ≡ self.now }
     {
-        &self.sps
+        &self.set
     }
 
     /// Whether it was read from this RBSP, which is kept.
-    pub(crate) fn is_of(&self, rbsp: &[u8]) -> bool
-        ensures { IsTrue result → IsSpsOf self.now rbsp.now }
+    fn is_of(&self, rbsp: &[u8]) -> bool
+        ensures { IsTrue result → IsReadAs S.reads self.now rbsp.now }
     {
         are_kept(&self.rbsp, rbsp)
     }
 }
 
-/// A PPS that is stored. It is seen as the PPS.
-#[derive(Drop)]
-pub(crate) struct StoredPps {
-    pps: Shared<Pps>,
-    rbsp: Option<Bytes>,
+/// The set that is stored under an id.
+pub(crate) fn set_of<S: ParameterSet>(sets: &[Option<Stored<S>>], id: u8) -> Option<&Stored<S>>
+    ensures { option_copied result ≡ slice_index_or sets.now id None }
+{
+    match sets.get(id as usize) {
+        Some(Some(set)) => Some(set),
+        _ => None,
+    }
 }
 
-impl Model for StoredPps {
-    ghost Value = { List Item };
-
-    ghost view = { λ s. s.pps };
-
-    ghost invariant = { λ s. KeepsPps s.pps s.rbsp };
+/// The id of a set that is stored, and was read from this RBSP: it is sent again.
+#[tactic(auto, using(crate::proofs::Again::is_again))]
+fn sent_again<S: ParameterSet>(sets: &[Option<Stored<S>>], rbsp: &[u8]) -> Option<u8>
+    ensures { IfSome result (IsSentAgain S.reads S.id_of sets.now rbsp.now) }
+{
+    let id = S::id_in(*rbsp.first()?);
+    let stored = set_of(sets, id)?;
+    if !stored.is_of(rbsp) {
+        return None;
+    }
+    if stored.set().value().id() != id {
+        return None;
+    }
+    Some(id)
 }
 
-impl StoredPps {
-    /// A PPS, read from this RBSP.
-    ///
-    /// # Errors
-    ///
-    /// Where memory runs out.
-    pub(crate) fn new(alloc: Global, pps: Pps, rbsp: &[u8]) -> Result<StoredPps, AllocError>
-        requires { IsPpsOf pps rbsp.now }
-        ensures { IfOk result (λ stored. stored ≡ pps) }
-    {
-        let rbsp = kept(alloc, rbsp)?;
-        let pps = Shared::new(alloc, pps)?;
-        Ok(StoredPps { pps, rbsp })
+/// Whether a set is the one that is stored under its id.
+#[tactic(auto, using(crate::proofs::Again::is_there))]
+fn is_stored<S: ParameterSet>(sets: &[Option<Stored<S>>], id: u8, set: &S) -> bool
+    ensures { IsTrue result → slice_index_or sets.now id None ≡ Some set.now }
+{
+    match set_of(sets, id) {
+        Some(stored) => stored.set().value().is_same(set),
+        None => false,
     }
+}
 
-    /// The PPS.
-    pub(crate) fn set(&self) -> &Shared<Pps>
-        ensures { result.now ≡ self.now }
-    {
-        &self.pps
-    }
+/// A set that was read, and is stored.
+#[derive(Clone, Copy)]
+pub(crate) struct Put {
+    /// Its id.
+    pub id: u8,
+    /// Whether it wasn't stored before.
+    pub is_new: bool,
+}
 
-    /// Whether it was read from this RBSP, which is kept.
-    pub(crate) fn is_of(&self, rbsp: &[u8]) -> bool
-        ensures { IsTrue result → IsPpsOf self.now rbsp.now }
-    {
-        are_kept(&self.rbsp, rbsp)
+/// Stores the set of an RBSP in the place of the one of its id, unless that is the same.
+///
+/// # Errors
+///
+/// The first refusal; want of memory. All is then as it was.
+pub(crate) fn put_set<S: ParameterSet>(
+    alloc: Global,
+    sets: &mut [Option<Stored<S>>],
+    rbsp: &[u8],
+) -> Result<Put, ReadError>
+    requires places { length sets.old ≡ S.ids }
+    requires short { length rbsp.now ≤ 2 ^ 23 }
+    ensures put { IfOk result (IsPut S.reads S.id_of sets.old sets.new rbsp.now) }
+    ensures refused { (R : Readers) → AreOfH266 R → IfErr result (λ e. Gives (S.reads R rbsp.now) (Err e)) }
+    ensures kept { OnErr result (sets.new ≡ sets.old) }
+{
+    if let Some(id) = sent_again(sets, rbsp) {
+        return Ok(Put { id, is_new: false });
     }
+    let set = match S::read(alloc, rbsp) {
+        Ok(set) => set,
+        Err(error) => return Err(error),
+    };
+    let id = set.id();
+    if is_stored(sets, id, &set) {
+        return Ok(Put { id, is_new: false });
+    }
+    let stored = Stored::new(alloc, set, rbsp)?;
+    sets[id as usize] = Some(stored);
+    Ok(Put { id, is_new: true })
 }

@@ -1,5 +1,5 @@
 //! Slices taken.
-ghost use Rattle.std.specs.Prelude.{◌≡◌, ◌+◌, ◌<◌, ◌≤◌, false, [], length, List, Some, IsSome, IfOk, OnOk};
+ghost use Rattle.std.specs.Prelude.{◌≡◌, ◌+◌, ◌<◌, ◌≤◌, false, [], length, List, IfOk, OnOk};
 ghost use Rattle.vx_pic.specs.declared.accepted.Accepted.TheVariants.{PictureDone};
 ghost use Rattle.vx_pic.specs.Readings.{Begun, Reading, Picture, current, going, is_whole};
 ghost use Rattle.vx_pic.specs.Rules.{Readers, first, further, follows, alone, reads_as, picture_limit};
@@ -10,7 +10,7 @@ ghost use Rattle.vx_assemble.specs.inner.Order.{IsHeader, IsInOrder, AreBodies, 
 ghost use Rattle.vx_assemble.specs.inner.Takes.{Gives, answer_by, TakesUnit};
 ghost use Rattle.vx_assemble.specs.inner.Joining.{IsJoined};
 ghost use Rattle.vx_assemble.specs.inner.Changes as changes;
-ghost use Rattle.vx_assemble.specs.inner.Slices.{IsFresh, first_read_as, HasJoined, HasJoinedFirst, IsSettled, IsWholeOf, with_first};
+ghost use Rattle.vx_assemble.specs.inner.Slices.{IsFresh, first_read_as, HasJoined, HasJoinedFirst, IsSettled, whole_of, with_first};
 
 use crate::first_slice::counts_behind;
 use crate::in_force::InForce;
@@ -18,7 +18,7 @@ use crate::join::{Place, join};
 use crate::readers::ReadSlice;
 use crate::refusals::structure;
 use crate::shared::Shared;
-use crate::state::{BegunPicture, State};
+use crate::state::{BegunPicture, Stage, State};
 use crate::unit::SliceUnit;
 use std::alloc::{AllocError, Global};
 use std::mem::replace;
@@ -152,23 +152,18 @@ impl State {
     ///
     /// Where the sets have as many owners as can be counted.
     fn whole(&self) -> Result<Option<Whole>, AllocError>
-        requires begun { IsSome self.now.picture.begun }
-        requires kind { IsSome self.now.picture.kind }
-        ensures { IfOk result (IsWholeOf self.now) }
+        ensures { IfOk result (λ whole. whole ≡ whole_of self.now.picture.stage self.now) }
     {
-        let Some(begun) = &self.picture.begun else {
-            unreachable!()
+        let Stage::Going(going) = &self.picture.stage else {
+            return Ok(None);
         };
-        let Some(kind) = self.picture.kind else {
-            unreachable!()
-        };
-        if !self.picture.came_all(begun) {
+        if !self.picture.came_all(&going.begun) {
             return Ok(None);
         }
-        let sets = begun.sets.share()?;
+        let sets = going.begun.sets.share()?;
         Ok(Some(Whole {
             sets,
-            previous: counts_behind(begun, kind, self.previous),
+            previous: counts_behind(&going.begun, going.kind, self.previous),
         }))
     }
 
@@ -178,8 +173,6 @@ impl State {
     ///
     /// Where memory runs out, and all is then as it was.
     fn settle(&mut self) -> Result<Accepted, AllocError>
-        requires begun { IsSome self.old.picture.begun }
-        requires kind { IsSome self.old.picture.kind }
         requires order { IsInOrder self.old }
         requires some { 0 < length self.old.picture.slices }
         ensures ok { IfOk result (IsSettled self.old self.new) }
@@ -196,15 +189,14 @@ impl State {
 
     /// Takes the first slice of the picture whose header came.
     fn take_first(&mut self, alloc: Global, unit: SliceUnit<'_>) -> Result<Accepted, ReadError>
-        requires order { IsInOrder self.old }
-        requires begun { IsSome self.old.picture.begun }
+        requires { IsInOrder self.old }
         ensures answer { (R : Readers) → AreOfH266 R → (before : List Reading) → IsApart self.old before → (b : Begun) → IsHeaded self.old.picture b
             → TakesUnit (first R before b unit.entry.bytes.now) before self.new result }
         ensures order { IsInOrder self.new }
         ensures done { IfOk result (λ what. what ≡ PictureDone → IsComplete self.new.picture) }
     {
-        let Some(begun) = &self.picture.begun else {
-            unreachable!()
+        let Stage::Headed(begun) = &self.picture.stage else {
+            return Err(ReadError::Refused(structure(SLICE_WITHOUT_HEADER)));
         };
         let opened = match self.open_first(alloc, begun, unit) {
             Ok(opened) => opened,
@@ -216,23 +208,18 @@ impl State {
 
     /// Takes a further slice of the picture that was begun.
     fn take_further(&mut self, alloc: Global, unit: SliceUnit<'_>) -> Result<Accepted, ReadError>
-        requires order { IsInOrder self.old }
-        requires begun { IsSome self.old.picture.begun }
-        requires kind { IsSome self.old.picture.kind }
+        requires { IsInOrder self.old }
         ensures answer { (R : Readers) → AreOfH266 R → (before : List Reading) → IsHeld self.old before → (p : Picture) → current before ≡ going p
             → is_whole p ≡ false → TakesUnit (further R p unit.entry.bytes.now) before self.new result }
         ensures order { IsInOrder self.new }
         ensures done { IfOk result (λ what. what ≡ PictureDone → IsComplete self.new.picture) }
     {
-        let Some(begun) = &self.picture.begun else {
-            unreachable!()
-        };
-        let Some(kind) = self.picture.kind else {
-            unreachable!()
+        let Stage::Going(going) = &self.picture.stage else {
+            return Err(ReadError::Refused(structure(SLICE_WITHOUT_HEADER)));
         };
         let place = Place {
-            kind,
-            begun,
+            kind: going.kind,
+            begun: &going.begun,
             bodies: &self.picture.bodies,
             count: self.picture.slices.len(),
             size: self.picture.bytes.len(),
@@ -256,10 +243,11 @@ impl State {
         if !self.picture.is_open() {
             return Err(ReadError::Refused(structure(SLICE_WITHOUT_HEADER)));
         }
-        if self.picture.kind.is_some() {
-            return self.take_further(alloc, unit);
+        match &self.picture.stage {
+            Stage::Nothing => Err(ReadError::Refused(structure(SLICE_WITHOUT_HEADER))),
+            Stage::Headed(_) => self.take_first(alloc, unit),
+            Stage::Going(_) => self.take_further(alloc, unit),
         }
-        self.take_first(alloc, unit)
     }
 
     /// Takes a slice with the picture header inside.

@@ -4,13 +4,15 @@ ghost use Rattle.vx_assemble.specs.inner.Held.{IsHeld};
 ghost use Rattle.vx_assemble.specs.inner.Order.{IsInOrder};
 
 use crate::in_force::InForce;
-use crate::sets::{StoredPps, StoredSps};
+use crate::sets::Stored;
 use crate::shared::Shared;
 use std::alloc::Global;
 use vx_bits::{Bytes, Fields};
 use vx_ph::PictureHeader;
 use vx_pic::{ApsList, Kind, PrevTid0, SliceSlots};
+use vx_pps::Pps;
 use vx_sei::MessageList;
+use vx_sps::Sps;
 
 /// A picture header, with what is in force for it.
 #[derive(Drop)]
@@ -25,13 +27,31 @@ pub(crate) struct BegunPicture {
     pub temporal_id: u8,
 }
 
+/// A picture whose first slice came.
+#[derive(Drop)]
+pub(crate) struct GoingPicture {
+    /// Its header.
+    pub begun: BegunPicture,
+    /// What it is.
+    pub kind: Kind,
+}
+
+/// How far a picture came.
+#[derive(Drop)]
+pub(crate) enum Stage {
+    /// None was begun.
+    Nothing,
+    /// Its header came.
+    Headed(BegunPicture),
+    /// Its header came, and its first slice.
+    Going(GoingPicture),
+}
+
 /// The picture that was begun last, as far as its slices came.
 #[derive(Drop)]
 pub(crate) struct CurrentPicture {
-    /// Its header.
-    pub begun: Option<BegunPicture>,
-    /// What it is, once a slice came.
-    pub kind: Option<Kind>,
+    /// How far it came.
+    pub stage: Stage,
     /// The bytes of its PH unit, and of its slices' units.
     pub bytes: Bytes,
     /// Where the PH unit ends.
@@ -57,9 +77,9 @@ pub(crate) struct MadeSets {
 #[derive(Drop)]
 pub(crate) struct State {
     /// The SPSs that are stored, by their ids.
-    pub sps: [Option<StoredSps>; 16],
+    pub sps: [Option<Stored<Sps>>; 16],
     /// The PPSs that are stored, by their ids.
-    pub pps: [Option<StoredPps>; 64],
+    pub pps: [Option<Stored<Pps>>; 64],
     /// The sets of the latest picture header, where they are stored still.
     pub made: Option<MadeSets>,
     /// The adaptation parameter sets that are stored.
@@ -104,8 +124,7 @@ impl State {
             aps: ApsList::new(),
             fields: Fields::new(alloc),
             picture: CurrentPicture {
-                begun: None,
-                kind: None,
+                stage: Stage::Nothing,
                 bytes: Bytes::new(alloc),
                 header_end: 0,
                 slices: SliceSlots::new(alloc),

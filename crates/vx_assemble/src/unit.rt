@@ -9,7 +9,7 @@ ghost use Rattle.vx_assemble.specs.inner.Classes.{class_seen, class_behind_sets}
 ghost use Rattle.vx_assemble.specs.inner.Fronts.{IsFront};
 
 use std::alloc::{AllocError, Global};
-use vx_annexb::{NalHeader, unescape};
+use vx_annexb::{NalHeader, read_header, unescape};
 use vx_pic::{
     CRA_NUT, EOB_NUT, EOS_NUT, GDR_NUT, IDR_N_LP, IDR_W_RADL, PH_NUT, PPS_NUT, PREFIX_APS_NUT,
     PREFIX_SEI_NUT, RASL_NUT, SPS_NUT, SUFFIX_APS_NUT, VPS_NUT,
@@ -52,6 +52,14 @@ impl<'a> NalUnit<'a> {
             front: self,
         }
     }
+}
+
+/// The header of a unit, as framing gives it.
+pub(crate) fn nal_header(unit: &[u8]) -> NalHeader
+    requires { IsSound unit.now }
+    ensures { result ≡ header_of unit.now }
+{
+    read_header(unit).unwrap()
 }
 
 /// The most bytes of a slice's unit that its headers are read from, where they end there.

@@ -6,32 +6,26 @@ ghost use Rattle.vx_pic.specs.declared.accepted.Accepted.TheVariants.{PictureDon
 ghost use Rattle.vx_pic.specs.Readings.{Reading};
 ghost use Rattle.vx_pic.specs.Rules.{Readers, reads, reads_as};
 ghost use Rattle.vx_pic.specs.Units as units;
-ghost use Rattle.vx_pic.specs.Sets as sets;
 ghost use Rattle.vx_pic.specs.H266.{AreOfH266};
 ghost use Rattle.vx_assemble.specs.inner.Held.{IsHeld};
 ghost use Rattle.vx_assemble.specs.inner.Held as held;
 ghost use Rattle.vx_assemble.specs.inner.Order.{IsInOrder, IsComplete};
 ghost use Rattle.vx_assemble.specs.inner.Takes.{TakesUnit};
-ghost use Rattle.vx_assemble.specs.inner.SentAgain.{IsSpsAgain, IsPpsAgain};
 ghost use Rattle.vx_assemble.specs.inner.Classes.{class_seen};
 
-use crate::readers::{aps_of, messages_of, pps_of, sps_of, vps_of};
+use crate::readers::{aps_of, messages_of, vps_of};
 use crate::refusals::structure;
-use crate::sets::{StoredPps, StoredSps};
+use crate::sets::put_set;
 use crate::state::State;
-use crate::unit::{NalUnit, SliceUnit, UnitClass, behind_header, class_of, front_of};
+use crate::unit::{NalUnit, SliceUnit, UnitClass, behind_header, class_of, front_of, nal_header};
 use std::alloc::{AllocError, Global};
 use std::sync::Arc;
-use vx_annexb::{NalHeader, read_header, unescape};
+use vx_annexb::{NalHeader, unescape};
 use vx_aps::Aps;
 use vx_bits::rules::{LONG_MESSAGES, SET_INSIDE_PICTURE, SEVERAL_LAYERS, SLICE_MISSING};
 use vx_bits::{Fields, Item, ReadError, Refusal};
 use vx_fields::aps::{aps_adaptation_parameter_set_id, aps_params_type};
-use vx_fields::pps::pps_pic_parameter_set_id;
-use vx_fields::sps::sps_seq_parameter_set_id;
 use vx_pic::Accepted;
-use vx_pps::Pps;
-use vx_sps::Sps;
 
 /// The items that tell an APS: its type and its id.
 fn aps_items(alloc: Global, aps: &Aps) -> Result<Fields, AllocError>
@@ -49,26 +43,6 @@ fn aps_items(alloc: Global, aps: &Aps) -> Result<Fields, AllocError>
     Ok(items)
 }
 
-/// The id of an SPS.
-#[tactic(auto, using(crate::proofs::Ids::sps_below), unfolding(vx_pic::specs::Sets::sps_id))]
-fn sps_id(sps: &Sps) -> u8
-    ensures value { result ≡ sets.sps_id sps.now }
-    ensures few { result < 16 }
-{
-    let _fields = sps.fields();
-    sps.scope().latest(sps_seq_parameter_set_id) as u8
-}
-
-/// The id of a PPS.
-#[tactic(auto, using(crate::proofs::Ids::pps_below), unfolding(vx_pic::specs::Sets::pps_id))]
-fn pps_id(pps: &Pps) -> u8
-    ensures value { result ≡ sets.pps_id pps.now }
-    ensures few { result < 64 }
-{
-    let _fields = pps.fields();
-    pps.scope().latest(pps_pic_parameter_set_id) as u8
-}
-
 impl State {
     /// Takes a VPS.
     #[tactic(auto, using(crate::proofs::Taking::took_vps, crate::proofs::Taking::failed_vps))]
@@ -84,22 +58,6 @@ impl State {
         Ok(Accepted::Vps)
     }
 
-    /// The id of an SPS that is stored, and was read from this RBSP: it is sent again.
-    #[tactic(auto, using(crate::proofs::Again::sps_is_again))]
-    fn sps_again(&self, rbsp: &[u8]) -> Option<u8>
-        ensures { IfSome result (IsSpsAgain self.now rbsp.now) }
-    {
-        let id = *rbsp.first()? >> 4;
-        let stored = self.sps_of(id)?;
-        if !stored.is_of(rbsp) {
-            return None;
-        }
-        if sps_id(stored.set().value()) != id {
-            return None;
-        }
-        Some(id)
-    }
-
     /// Takes an SPS.
     #[tactic(auto, using(crate::proofs::Taking::took_sps, crate::proofs::Taking::failed_sps, crate::proofs::Taking::sps_within))]
     fn take_sps(&mut self, alloc: Global, unit: NalUnit<'_>) -> Result<Accepted, ReadError>
@@ -112,33 +70,15 @@ impl State {
         if self.picture.is_within() {
             return Err(ReadError::Refused(structure(SET_INSIDE_PICTURE)));
         }
-        if let Some(id) = self.sps_again(unit.rbsp) {
-            return Ok(Accepted::Sps(id));
-        }
-        let sps = match sps_of(alloc, unit.rbsp) {
-            Ok(sps) => sps,
+        let put = match put_set(alloc, &mut self.sps, unit.rbsp) {
+            Ok(put) => put,
             Err(error) => return Err(error),
         };
-        let id = sps_id(&sps);
-        let sps = StoredSps::new(alloc, sps, unit.rbsp)?;
-        self.keep_sps(id, sps);
-        Ok(Accepted::Sps(id))
-    }
-
-    /// The id of a PPS that is stored, and was read from this RBSP: it is sent again.
-    #[tactic(auto, using(crate::proofs::Again::pps_is_again))]
-    fn pps_again(&self, rbsp: &[u8]) -> Option<u8>
-        ensures { IfSome result (IsPpsAgain self.now rbsp.now) }
-    {
-        let id = *rbsp.first()? >> 2;
-        let stored = self.pps_of(id)?;
-        if !stored.is_of(rbsp) {
-            return None;
+        if !put.is_new {
+            return Ok(Accepted::Sps(put.id));
         }
-        if pps_id(stored.set().value()) != id {
-            return None;
-        }
-        Some(id)
+        self.made = None;
+        Ok(Accepted::Sps(put.id))
     }
 
     /// Takes a PPS.
@@ -153,17 +93,15 @@ impl State {
         if self.picture.is_within() {
             return Err(ReadError::Refused(structure(SET_INSIDE_PICTURE)));
         }
-        if let Some(id) = self.pps_again(unit.rbsp) {
-            return Ok(Accepted::Pps(id));
-        }
-        let pps = match pps_of(alloc, unit.rbsp) {
-            Ok(pps) => pps,
+        let put = match put_set(alloc, &mut self.pps, unit.rbsp) {
+            Ok(put) => put,
             Err(error) => return Err(error),
         };
-        let id = pps_id(&pps);
-        let pps = StoredPps::new(alloc, pps, unit.rbsp)?;
-        self.keep_pps(id, pps);
-        Ok(Accepted::Pps(id))
+        if !put.is_new {
+            return Ok(Accepted::Pps(put.id));
+        }
+        self.made = None;
+        Ok(Accepted::Pps(put.id))
     }
 
     /// Takes an APS, wherever it may stand.
@@ -357,9 +295,7 @@ impl State {
         ensures order { IsInOrder self.new }
         ensures done { IfOk result (λ what. what ≡ PictureDone → IsComplete self.new.picture) }
     {
-        let Some(header) = read_header(unit) else {
-            unreachable!()
-        };
+        let header = nal_header(unit);
         if header.reserved {
             return Ok(Accepted::Nothing);
         }

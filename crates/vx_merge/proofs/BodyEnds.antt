@@ -1,5 +1,5 @@
 -- Bodies that sets in force have can end a unit.
-use Rattle.std.proofs.Common.{◌≡◌, ℕ, ℤ, zero, suc, ◌+◌, ◌*◌, ◌/◌, ◌%◌, ◌<◌, ◌≤◌, ◌&&◌, Bool, Bor, List, [], ◌∷◌, ◌++◌, take, length, get_or, Option, Some, None, subst, inl, inr, arith}
+use Rattle.std.proofs.Common.{◌≡◌, ℕ, ℤ, zero, suc, ◌+◌, ◌*◌, ◌/◌, ◌%◌, ◌<◌, ◌≤◌, ◌&&◌, Bool, Bor, List, [], ◌∷◌, ◌++◌, map, take, length, get_or, Option, Some, None, subst, inl, inr, arith}
 use Rattle.std.specs.Prelude.{IfSome, nat_lt, flat_map, option_copied, option_and_then, option_to_list}
 use Rattle.std.specs.List.{AllByRecursion}
 use Rattle.std.proofs.lemmas.Bool.{cases_Bool, ltb-true}
@@ -9,12 +9,16 @@ use Rattle.vx_bits.specs.Fields.{first_value}
 use Rattle.vx_table.specs.Scope.{natural}
 use Rattle.vx_aps.specs.declared.aps.TheConstants as aps
 use Rattle.vx_fields.specs.declared.alf.TheConstants as alf
+use Rattle.vx_fields.specs.declared.ph.TheConstants.{ph_lmcs_aps_id, ph_scaling_list_aps_id}
 use Rattle.vx_pic.specs.Inputs.{alf_of, bodies_of, body_of, named_body}
 use Rattle.vx_pic.specs.Parts.{Parts, SlicePart, id_count, read_of}
 use Rattle.vx_pic.specs.Sets.{Slot, filter_items, named}
-use Rattle.vx_merge.specs.Bodies.{bodies_in, filters_in, filters_of, is_among, once, with_bodies}
+use Rattle.vx_merge.specs.declared.bodies.RoundBodies.{RoundBodies}
+use Rattle.vx_merge.specs.Bodies.{bodies_in, filters_in, filters_of, has_lmcs, has_scaling, is_among, lmcs_body, once, scaling_body, with_bodies}
 use Rattle.vx_merge.specs.Shapes.{of_lowest}
-use Rattle.vx_merge.specs.inner.Sending.{CanEnd, HasEnds}
+use Rattle.vx_merge.specs.inner.Gathered.{AreGathered, HasNone, IsLowestWith}
+use Rattle.vx_merge.specs.inner.Sending.{CanEnd, HasEnds, HaveEnds}
+use Rattle.vx_merge.proofs.Reading.{lowest_absent}
 use Rattle.vx_write.proofs.Held.{both}
 
 abbrev CanAllEnd : List (List ℕ) → Type 0
@@ -95,6 +99,25 @@ ends_lowest has kind of (q ∷ round) all = elim (cases_Bool (has q)) [
   | inl is ↦ rw is (ends_listed (named_body q kind of q.header.fields) (ends_named q kind of q.header.fields all.0))
   | inr none ↦ rw none (ends_lowest has kind of round all.1)
 ]
+
+pub all_end : (round : List Parts) → AllByRecursion HasEnds round → HaveEnds round
+all_end round all = record {
+  alf = ends_alf_bodies round all;
+  lmcs = ends_lowest has_lmcs aps.LMCS ph_lmcs_aps_id round all;
+  scaling = ends_lowest has_scaling aps.SCALING ph_scaling_list_aps_id round all;
+}
+
+-- where there are none
+ends_none : (bodies : List (Bor (List ℕ))) → length bodies ≡ 0 → CanAllEnd (map (λ b. b.now) bodies)
+ends_none [] is = tt
+ends_none (b ∷ bodies) is = absurd (omega (arith, is))
+
+pub none_end : (round : List Parts) (b : RoundBodies) → AreGathered round b → b.filters.too_many ≡ None → HasNone b → HaveEnds round
+none_end round b are few none = record {
+  alf = subst CanAllEnd (are.filters.all few) (ends_none b.filters.bodies none.filters);
+  lmcs = subst (λ o. CanAllEnd (option_to_list o)) (lowest_absent has_lmcs lmcs_body None round (subst (IsLowestWith has_lmcs round) none.lmcs are.lmcs)) tt;
+  scaling = subst (λ o. CanAllEnd (option_to_list o)) (lowest_absent has_scaling scaling_body None round (subst (IsLowestWith has_scaling round) none.scaling are.scaling)) tt;
+}
 
 -- one picture more
 pub ends_more : (round : List Parts) (k : ℕ) (q : Parts) → k < length round → q ≡ get_or round k q → HasEnds q → AllByRecursion HasEnds (take k round) → AllByRecursion HasEnds (take (k + 1) round)

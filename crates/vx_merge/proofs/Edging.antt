@@ -1,16 +1,14 @@
 -- Numbers of several pictures, one picture more at a time.
-use Rattle.std.proofs.Common.{◌≡◌, ℕ, zero, suc, ◌+◌, ◌<◌, Bool, true, false, cond, ◌||◌, List, [], ◌∷◌, ◌++◌, map, filter, take, length, get_or, Option, Some, refl, sym, ap, ◌∙◌, arith}
+use Rattle.std.proofs.Common.{◌≡◌, ℕ, ◌+◌, ◌<◌, Bool, true, false, cond, ◌||◌, List, [], ◌∷◌, ◌++◌, map, filter, take, length, get_or, Option, Some, refl, sym, ap, ◌∙◌, arith}
 use Rattle.std.specs.Prelude.{◌==◌, min, max, unwrap_or}
 use Rattle.std.specs.List.{list_any, zip}
-use Rattle.std.proofs.lemmas.List.{map-append, append-nil, take_more, take_all, get_or_default, get_or-map}
+use Rattle.std.proofs.lemmas.List.{map-append, append-nil, take_more, take_all, get_or_default}
 use Rattle.std.proofs.lemmas.List.Elements.{filter_more}
 use Rattle.std.proofs.lemmas.Slice.Zip.{get_or-zip, length-zip}
 use Rattle.vx_fit.specs.declared.placed.Placed.{Placed}
 use Rattle.vx_table.specs.Loaded.{number}
 use Rattle.vx_pic.specs.Parts.{Parts}
-use Rattle.vx_layout.specs.declared.numbers.Numbers.{Numbers}
-use Rattle.vx_merge.specs.Regions.{layout_of, layouts_in}
-use Rattle.vx_merge.specs.Shapes.{greatest, least, numbers_in, of_lowest, offsets_at}
+use Rattle.vx_merge.specs.Shapes.{greatest, least, numbers_in, offsets_at}
 use Rattle.vx_merge.specs.inner.Edges.{least_of, lesser, with_offset}
 
 -- ---- the least
@@ -114,35 +112,3 @@ pub zero_step : (round : List Parts) (of k : ℕ) (q : Parts) (n : ℕ) (old new
 zero_step round of k q n old new within at is step before =
     step ∙ ap (λ b. b || n == 0) before ∙ ap (λ m. list_any (λ n. n == 0) (numbers_in (take k round) of) || m == 0) is
     ∙ sym (any_more (λ n. n == 0) (numbers_in (take k round) of) (number q.sps of)) ∙ ap (list_any (λ n. n == 0)) (sym (numbers_more round of k q within at))
-
--- ---- the lowest
-
--- none of the first pictures has it
-abbrev pub NoneOf : (Parts → Bool) → List Parts → Type 0
-NoneOf has [] = Unit {0}
-NoneOf has (q ∷ round) = (has q ≡ false) × NoneOf has round
-
-pub none_more : (has : Parts → Bool) (round : List Parts) (k : ℕ) (d : Parts) → k < length round → has (get_or round k d) ≡ false → NoneOf has (take k round) → NoneOf has (take (k + 1) round)
-none_more has [] k d within none others = absurd (omega (arith, within))
-none_more has (x ∷ round) zero d within none others = (none, tt)
-none_more has (x ∷ round) (suc k) d within none others =
-    let next : suc k + 1 ≡ suc (k + 1) = omega arith in
-    rw next (others.0, none_more has round k d (omega (arith, within)) none others.1)
-
-pub lowest_here : {A : Type 0} (has : Parts → Bool) (f : Parts → A) (d : A) (round : List Parts) (k : ℕ) (q : Parts) → k < length round → q ≡ get_or round k q → has q ≡ true
-    → NoneOf has (take k round) → of_lowest has f d round ≡ f q
-lowest_here has f d [] k q within at is none = absurd (omega (arith, within))
-lowest_here has f d (x ∷ round) zero q within at is none =
-    let same : x ≡ q = sym at in
-    rw (same, is) refl
-lowest_here has f d (x ∷ round) (suc k) q within at is none = ap (λ b. cond b (f x) (of_lowest has f d round)) none.0 ∙ lowest_here has f d round k q (omega (arith, within)) at is none.1
-
-pub lowest_none : {A : Type 0} (has : Parts → Bool) (f : Parts → A) (d : A) (round : List Parts) (k : ℕ) → k ≡ length round → NoneOf has (take k round) → of_lowest has f d round ≡ d
-lowest_none has f d [] k all none = refl
-lowest_none has f d (x ∷ round) zero all none = absurd (omega (arith, all))
-lowest_none has f d (x ∷ round) (suc k) all none = ap (λ b. cond b (f x) (of_lowest has f d round)) none.0 ∙ lowest_none has f d round k (omega (arith, all)) none.1
-
--- ---- layouts
-
-pub layout_is : (round : List Parts) (layouts : List Numbers) (k : ℕ) (l : Numbers) (d : Parts) → layouts ≡ layouts_in round → k < length round → l ≡ get_or layouts k l → l ≡ layout_of (get_or round k d)
-layout_is round layouts k l d are within at = at ∙ ap (λ xs. get_or xs k l) are ∙ get_or-map layout_of round k d l within

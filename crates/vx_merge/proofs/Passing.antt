@@ -1,23 +1,25 @@
 -- What follows of it that a round breaks no rule, rule by rule.
-use Rattle.std.proofs.Common.{◌≡◌, ℕ, zero, suc, ◌+◌, ◌-◌, ◌<◌, ◌≤◌, Bool, true, false, cond, List, [], ◌∷◌, ◌++◌, length, take, None, refl, ap, sym, ◌∙◌, subst, inl, inr, arith}
+use Rattle.std.proofs.Common.{◌≡◌, ℕ, zero, suc, ◌+◌, ◌-◌, ◌<◌, ◌≤◌, Bool, true, false, cond, List, [], ◌∷◌, ◌++◌, length, map, take, Option, Some, None, refl, ap, sym, ◌∙◌, subst, inl, inr, arith}
 use Rattle.std.specs.Prelude.{IsTrue, flat_map}
 use Rattle.std.proofs.lemmas.Bool.{cases_Bool}
 use Rattle.std.proofs.lemmas.List.{take_all}
 use Rattle.std.proofs.lemmas.Option.{none-some}
 use Rattle.vx_sps.specs.Subpictures.{subpics_of}
 use Rattle.vx_fit.specs.FrameLines.{IsLinesFault}
-use Rattle.vx_fit.specs.Lowest.{IsLowest}
+use Rattle.vx_fit.specs.Lowest.{IsLowest, IsLowestAnswer}
 use Rattle.vx_pic.specs.Parts.{Parts}
 use Rattle.vx_merge.specs.declared.corner.Corner.{Corner}
+use Rattle.vx_merge.specs.declared.filters.RoundFilters.{RoundFilters}
 use Rattle.vx_merge.specs.Bodies.{filters_in, has_lmcs, has_scaling, is_chroma_scaled, lmcs_body, once, scaling_body}
 use Rattle.vx_merge.specs.Needed.{alf_bodies}
 use Rattle.vx_merge.specs.Regions.{corners_in, ctb_of, layouts_in, placed_in}
 use Rattle.vx_merge.specs.Rounds.{UnlikeLowest, picture_at}
-use Rattle.vx_merge.specs.Rules.{crosses_slices, crosses_tiles, filter_flags, first_lists, has_slices, has_tiles, kept_header, kept_pps, kept_sps, pps_tools, profile_of, rules_of, rules_of_fit, rules_of_frame, rules_of_pictures, rules_of_sets, rules_of_slices, several_subpictures, shared_kind, sps_tools, tile_lines, too_many_slices}
+use Rattle.vx_merge.specs.Rules.{crosses_slices, crosses_tiles, filter_flags, first_lists, has_slices, has_tiles, kept_header, kept_pps, kept_sps, pps_tools, profile_of, rules_of, rules_of_fit, rules_of_frame, rules_of_pictures, rules_of_sets, rules_of_slices, several_subpictures, shared_kind, sps_tools, tile_lines, too_many_filters, too_many_slices}
 use Rattle.vx_merge.specs.Shapes.{of_lowest}
 use Rattle.vx_merge.specs.Slots.{alf_slots}
 use Rattle.vx_merge.specs.Verdict.{Rule, IsVerdict}
 use Rattle.vx_merge.specs.inner.Found.{Finds}
+use Rattle.vx_merge.specs.inner.Gathered.{AreFilters}
 use Rattle.vx_merge.proofs.Deciding.{IsDecided, alike, flags, lists, numbers, options, pairs, ref_lists}
 use Rattle.vx_merge.proofs.Differing.{kept_alike}
 
@@ -97,6 +99,12 @@ as_lowest decide has f absent round k short on alike_lowest =
     let low = lowest_of has f absent round k short on in
     alike decide (f (picture_at round k)) (f (picture_at round low.at)) (λ other. alike_lowest (on, (low.at, low.is, other))) ∙ low.gives
 
+-- ---- nothing is found where nothing is broken
+
+none_lowest : (n : ℕ) (Breaks : ℕ → Type 0) (lowest : Option ℕ) → IsLowestAnswer n Breaks lowest → ((k : ℕ) → k < n → ¬ Breaks k) → lowest ≡ None
+none_lowest n Breaks None is none = refl
+none_lowest n Breaks (Some k) is none = absurd (none k is.in_range is.breaks)
+
 -- ---- a round that breaks none
 
 module _ (corners : List Corner) (round : List Parts) (same : length corners ≡ length round) (passes : IsVerdict (length corners) (rules_of corners round) None) where
@@ -161,6 +169,13 @@ module _ (corners : List Corner) (round : List Parts) (same : length corners ≡
       let all_few : ¬ (alf_slots < length (alf_bodies round)) =
       subst (λ qs. ¬ (alf_slots < length (once (flat_map filters_in qs)))) whole few in
       omega (arith, all_few)
+
+  -- so all that were gathered are there
+  pub not_too_many : (f : RoundFilters) → AreFilters round f → f.too_many ≡ None
+  not_too_many f are = none_lowest (length round) (too_many_filters round).breaks f.too_many are.too_many (λ k short. of_slices.1.0 k (omega (arith, same, short)))
+
+  pub filters_are : (f : RoundFilters) → AreFilters round f → map (λ b. b.now) f.bodies ≡ alf_bodies round
+  filters_are f are = are.all (not_too_many f are)
 
   module _ (k : ℕ) (short : k < length round) where
     within : k < length corners

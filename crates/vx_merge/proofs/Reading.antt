@@ -1,7 +1,8 @@
 -- Pictures of a round, and how they differ from the lowest one that has something.
-use Rattle.std.proofs.Common.{◌≡◌, ◌≢◌, ℕ, ◌<◌, Bool, List, [], ◌∷◌, length, get_or, map, take, slice_get, Option, Some, None, unwrap_or, refl, ap, sym, subst, ◌∙◌, arith}
+use Rattle.std.proofs.Common.{◌≡◌, ◌≢◌, ℕ, zero, suc, ◌<◌, Bool, cond, List, [], ◌∷◌, length, get_or, map, take, slice_get, Option, Some, None, unwrap_or, refl, ap, sym, subst, ◌∙◌, inl, inr, arith}
 use Rattle.std.specs.List.{AllByRecursion}
 use Rattle.std.specs.Prelude.{IsTrue, flat_map}
+use Rattle.std.proofs.lemmas.Bool.{cases_Bool}
 use Rattle.std.proofs.lemmas.List.Concat.{flat_map-cons}
 use Rattle.std.proofs.lemmas.List.{get_or_default}
 use Rattle.std.proofs.lemmas.Option.{none-some}
@@ -9,6 +10,8 @@ use Rattle.vx_fit.specs.Lowest.{IsLowest, IsLowestAnswer}
 use Rattle.vx_fit.proofs.Single.{lowest_one}
 use Rattle.vx_pic.specs.Parts.{Parts}
 use Rattle.vx_merge.specs.Rounds.{SomeUnlike, SomeUnlikeFirst, UnlikeFirst, UnlikeLowest, no_picture, picture_at}
+use Rattle.vx_merge.specs.Shapes.{of_lowest}
+use Rattle.vx_merge.specs.inner.Gathered.{IsLowestWith}
 use Rattle.vx_merge.proofs.Gathered.{front_first}
 
 -- a picture that was read from a round
@@ -32,6 +35,31 @@ pub unlike_alike : {A : Type 0} (has : Parts → Bool) (f : Parts → A) (round 
     → IsLowest (length round) (λ i. IsTrue (has (picture_at round i))) j → f (picture_at round k) ≡ f (picture_at round j) → ¬ UnlikeLowest has f round k
 unlike_alike has f round k j lowest same =
     λ unlike. unlike.1.2 (same ∙ ap (λ i. f (picture_at round i)) (lowest_one (length round) (λ i. IsTrue (has (picture_at round i))) j unlike.1.0 lowest unlike.1.1))
+
+-- what it has
+
+lowest_at : {A : Type 0} (has : Parts → Bool) (f : Parts → A) (d : A) (round : List Parts) (k : ℕ) → IsLowest (length round) (λ i. IsTrue (has (picture_at round i))) k
+    → of_lowest has f d round ≡ f (picture_at round k)
+lowest_at has f d [] k is = let short = is.in_range in absurd (omega (arith, short))
+lowest_at has f d (x ∷ round) zero is = ap (λ b. cond b (f x) (of_lowest has f d round)) is.breaks
+lowest_at has f d (x ∷ round) (suc k) is = elim (cases_Bool (has x)) [
+  | inl here ↦ absurd (is.lower 0 (omega arith) here)
+  | inr none ↦
+      let short = is.in_range in
+      ap (λ b. cond b (f x) (of_lowest has f d round)) none
+      ∙ lowest_at has f d round k (record { in_range = omega (arith, short); breaks = is.breaks; lower = λ j less. is.lower (suc j) (omega (arith, less)) })
+]
+
+pub lowest_read : {A : Type 0} (has : Parts → Bool) (f : Parts → A) (d : A) (round : List Parts) (k : ℕ) (q : Parts) → IsLowestWith has round (Some k) → q ≡ get_or round k q
+    → f q ≡ of_lowest has f d round
+lowest_read has f d round k q is at = ap f (picture_read round k q is.in_range at) ∙ sym (lowest_at has f d round k is)
+
+pub lowest_absent : {A : Type 0} (has : Parts → Bool) (f : Parts → A) (d : A) (round : List Parts) → IsLowestWith has round None → d ≡ of_lowest has f d round
+lowest_absent has f d [] none = refl
+lowest_absent has f d (x ∷ round) none = elim (cases_Bool (has x)) [
+  | inl here ↦ absurd (none 0 (omega arith) here)
+  | inr off ↦ lowest_absent has f d round (λ k short. none (suc k) (omega (arith, short))) ∙ sym (ap (λ b. cond b (f x) (of_lowest has f d round)) off)
+]
 
 -- ---- the first of a list
 

@@ -3,7 +3,6 @@ use Rattle.std.proofs.Common.{◌≡◌, ◌≢◌, ℕ, zero, suc, ◌+◌, ◌
 use Rattle.std.proofs.Math.Path.{fun_ext}
 use Rattle.std.specs.Prelude.{◌==◌, ◌⊎◌, IsTrue, unwrap_or}
 use Rattle.std.specs.List.{AllByRecursion}
-use Rattle.std.specs.Bool.{OnTrue}
 use Rattle.std.specs.Option.{option_or}
 use Rattle.std.proofs.lemmas.Bool.{cases_Bool, eqb-true, false≢true}
 use Rattle.std.proofs.lemmas.List.{length-map}
@@ -39,6 +38,8 @@ use Rattle.vx_merge.specs.declared.corner.Corner.{Corner}
 use Rattle.vx_merge.specs.declared.joined.Frame.{Frame}
 use Rattle.vx_merge.specs.declared.needed.RoundSets.{RoundSets}
 use Rattle.vx_merge.specs.declared.settled.RenamedPps.{RenamedPps}
+use Rattle.vx_merge.specs.declared.settled.RoundLayouts.{RoundLayouts}
+use Rattle.vx_merge.specs.declared.settled.RoundLayouts.TheVariants.{Kept, New}
 use Rattle.vx_merge.specs.declared.settled.Settled.{Settled}
 use Rattle.vx_merge.specs.declared.settled.SourceSets.{SourceSets}
 use Rattle.vx_merge.specs.Merging.{AreCorners}
@@ -50,7 +51,7 @@ use Rattle.vx_merge.specs.Shapes.{IsFrame, dpb_of, greatest, latency_of, least, 
 use Rattle.vx_merge.specs.Verdict.{IsVerdict, Rule}
 use Rattle.vx_merge.specs.inner.Found.{Finds}
 use Rattle.vx_merge.specs.inner.Joined.{CanBeJoined, HasShapes, IsFrameOf}
-use Rattle.vx_merge.specs.inner.Settled.{AreSetsOf, HasPps, HasSetsOf, HavePassed, HaveSameSets, IsKept, IsPpsFor, IsSettled, IsSettledFor, IsSomeUsed, IsUsedFor, KeepServing, ServesAs, is_renamed, renamed_or, sets_in, sets_of}
+use Rattle.vx_merge.specs.inner.Settled.{AreLayoutsFor, AreSetsOf, HasPps, HasSetsOf, HavePassed, HaveSameSets, IsKept, IsPpsFor, IsSettled, IsSettledFor, IsSomeUsed, IsUsedFor, KeepServing, ServesAs, is_renamed, renamed_or, sets_in, sets_of}
 use Rattle.vx_merge.specs.inner.Ready.{AreNeeded, IsReady}
 use Rattle.vx_merge.proofs.Passing.{alone_found, flags_found, frame_found, pps_found, sps_found}
 use Rattle.vx_merge.proofs.Verdicts.{passed, passed_all}
@@ -225,6 +226,7 @@ module _ (kept round : List Parts) (same : HaveSameSets kept round) where
   framed_too corners frame is = record {
     same = is.same ∙ size;
     some = let some = is.some in let long = size in omega (arith, some, long);
+    few = let few = is.few in let long = size in omega (arith, few, long);
     placed = is.placed ∙ placed corners;
     range = is.range;
     layouts = is.layouts ∙ layouts;
@@ -291,11 +293,15 @@ module _ (kept round : List Parts) (same : HaveSameSets kept round) where
 pub past_of : (corners : List Corner) (level : Option ℕ) (round : List Parts) (s : Settled) → IsSettled corners level s → HasSetsOf round s → HavePassed corners round
 past_of corners level round s is sets = record { kept = is.kept; count = is.is.count; passes = is.is.passes; same = sym is.sets ∙ sets }
 
-pub past : (corners : List Corner) (level : Option ℕ) (round : List Parts) (settled : Option Settled) (known : Bool) → IfSome settled (IsSettled corners level)
-    → OnTrue known (IsKept (HasSetsOf round) settled) → OnTrue known (HavePassed corners round)
-past corners level round settled false is sets = tt
-past corners level round None true is sets = absurd sets
-past corners level round (Some s) true is sets = past_of corners level round s is sets
+pub past : (corners : List Corner) (level : Option ℕ) (round : List Parts) (settled : Option Settled) → IfSome settled (IsSettled corners level)
+    → IsKept (HasSetsOf round) settled → HavePassed corners round
+past corners level round None is sets = absurd sets
+past corners level round (Some s) is sets = past_of corners level round s is sets
+
+-- another thing holds of what is kept
+pub layouts_for : {A B : Type 0} (round : List Parts) (l : RoundLayouts) → (A → B) → AreLayoutsFor A round l → AreLayoutsFor B round l
+layouts_for round Kept f are = f are
+layouts_for round (New _) f are = are
 
 -- as many sources
 sources_count : (corners : List Corner) (level : Option ℕ) (s : Settled) → IsSettled corners level s → length s.sources.items ≡ length corners
@@ -406,9 +412,3 @@ pub ready_for : (corners : List Corner) (level : Option ℕ) (round : List Parts
 ready_for corners level round s sent n used needed =
     subst (λ l. IsReady level round l sent n) (sym used.is.layout)
     (record { corners = corners; same = used.count; passes = used.passes; made = used.is.made; shapes = used.is.frame.shapes; needed = needed })
-
--- ---- of a flag that is known
-
-pub on_true : {A B : Type 0} (b : Bool) → (A → B) → OnTrue b A → OnTrue b B
-on_true true f a = f a
-on_true false f a = tt

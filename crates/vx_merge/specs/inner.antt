@@ -1,8 +1,10 @@
 -- What serves bodies and proofs alone: nothing that a caller has to believe.
+pub mod Borders
 pub mod Counting
 pub mod Edges
 pub mod Found
 pub mod Fronts
+pub mod Gathered
 pub mod Joined
 pub mod Known
 pub mod Making
@@ -11,3 +13,4 @@ pub mod Ready
 pub mod Sending
 pub mod Settled
 pub mod Taking
+pub mod Tools

@@ -1,12 +1,12 @@
 //! The bodies of adaptive loop filters that slices have in force.
 ghost use Rattle.std.specs.Prelude.{◌≡◌, ◌<◌, ◌≤◌, ◌∷◌, [], length, map, option_copied, option_to_list, IfOk, OnOk};
 ghost use Rattle.std.specs.Bool.{OnTrue, OnFalse};
-ghost use Rattle.vx_fit.specs.Lowest.{IsLowestAnswer};
 ghost use Rattle.vx_pic.specs.Resident as resident;
 ghost use Rattle.vx_merge.specs.Bodies as words;
 ghost use Rattle.vx_merge.specs.Rules as rules;
 ghost use Rattle.vx_merge.specs.Slots.{alf_slots};
 ghost use Rattle.vx_merge.specs.inner.Found.{Finds, piece_at};
+ghost use Rattle.vx_merge.specs.inner.Gathered.{AreFilters};
 
 use crate::told::of_source;
 use std::alloc::{AllocError, Global};
@@ -16,6 +16,15 @@ use vx_pic::{Picture, alf_in_force};
 
 /// The ids of adaptive loop filters.
 const MOST_FILTERS: usize = 8;
+
+/// The bodies of the adaptive loop filters in force in the slices of a round, as far as they were gathered.
+#[derive(Drop)]
+pub(crate) struct RoundFilters<'a> {
+    /// Each once: those of all sources, or up to the lowest source with which there are too many.
+    pub(crate) bodies: BodyList<'a>,
+    /// That source, where there are more of them than ids.
+    pub(crate) too_many: Option<u16>,
+}
 
 /// Whether two byte strings are the same.
 pub(crate) fn same_bytes(a: &[u8], b: &[u8]) -> bool
@@ -86,7 +95,7 @@ fn add_slice<'a>(
 }
 
 /// Adds those of a picture's slices.
-pub(crate) fn add_picture<'a>(
+fn add_picture<'a>(
     alloc: Global,
     bodies: &mut BodyList<'a>,
     picture: &Picture<'a>,
@@ -107,32 +116,41 @@ fn are_too_many(bodies: &BodyList<'_>) -> bool
     MOST_FILTERS < bodies.len()
 }
 
-/// The lowest source with which there are more bodies than ids.
-fn lowest_too_many(alloc: Global, round: &[Picture<'_>]) -> Result<Option<u16>, AllocError>
+/// The bodies of the adaptive loop filters in force in the slices of a round.
+///
+/// # Errors
+///
+/// Want of memory.
+pub(crate) fn round_filters<'a>(
+    alloc: Global,
+    round: &[Picture<'a>],
+) -> Result<RoundFilters<'a>, AllocError>
     requires { length round.now ≤ 64 }
-    ensures { IfOk result (IsLowestAnswer (length round.now) (rules.too_many_filters round.now).breaks) }
+    ensures { IfOk result (AreFilters round.now) }
 {
     let mut bodies = BodyList::new(alloc);
     for k in 0..round.len() {
         add_picture(alloc, &mut bodies, &round[k])?;
         if are_too_many(&bodies) {
-            return Ok(Some(k as u16));
+            return Ok(RoundFilters {
+                bodies,
+                too_many: Some(k as u16),
+            });
         }
     }
-    Ok(None)
+    Ok(RoundFilters {
+        bodies,
+        too_many: None,
+    })
 }
 
 /// Whether the slices of all pictures have more bodies of adaptive loop filters than there are ids.
-///
-/// # Errors
-///
-/// Want of memory.
 pub(crate) fn too_many_filters(
-    alloc: Global,
-    round: &[Picture<'_>],
-) -> Result<Option<Refusal>, AllocError>
-    requires { length round.now ≤ 64 }
-    ensures { IfOk result (Finds (length round.now) (rules.too_many_filters round.now ∷ [])) }
+    _round: &[Picture<'_>],
+    filters: &RoundFilters<'_>,
+) -> Option<Refusal>
+    requires { AreFilters _round.now filters.now }
+    ensures { Finds (length _round.now) (rules.too_many_filters _round.now ∷ []) result }
 {
-    Ok(of_source(TOO_MANY_ALF, lowest_too_many(alloc, round)?))
+    of_source(TOO_MANY_ALF, filters.too_many)
 }

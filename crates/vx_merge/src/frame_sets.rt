@@ -6,8 +6,9 @@ ghost use Rattle.vx_merge.specs.Rounds.{picture_at};
 ghost use Rattle.vx_merge.specs.Shapes as spec;
 ghost use Rattle.vx_merge.specs.inner.Joined.{IsSomeFrame, OfFrame};
 
+use crate::borders::{Pieces, lowest_crosses};
 use crate::joined::Frame;
-use crate::shapes::{across_slices, across_tiles, dpb, init_qp, level_of, window};
+use crate::shapes::{dpb, init_qp, level_of, window};
 use std::alloc::{AllocError, Global};
 use vx_layout::{Bounds, Numbers, RectList};
 use vx_pic::Picture;
@@ -126,8 +127,8 @@ fn pps_shape(
         subpic_id: None,
         tiles: Tiles { columns, rows },
         slices,
-        across_tiles: across_tiles(round, layouts),
-        across_slices: across_slices(round, layouts),
+        across_tiles: lowest_crosses(round, layouts, Pieces::Tiles),
+        across_slices: lowest_crosses(round, layouts, Pieces::Slices),
         init_qp: init_qp(&round[0]),
         merged: true,
     })

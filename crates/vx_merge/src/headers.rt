@@ -1,5 +1,5 @@
 //! The rules on pictures and their headers.
-ghost use Rattle.std.specs.Prelude.{◌≡◌, ◌≢◌, ◌<◌, ◌≤◌, ◌∷◌, [], IsTrue, length, IfOk, option_copied};
+ghost use Rattle.std.specs.Prelude.{◌≡◌, ◌≢◌, ◌<◌, ◌≤◌, ◌∷◌, [], length, IfOk, option_copied};
 ghost use Rattle.std.specs.Bool.{OnTrue, OnFalse};
 ghost use Rattle.vx_fit.specs.Lowest.{IsLowestAnswer};
 ghost use Rattle.vx_table.specs.Depends.{set_of};
@@ -11,7 +11,9 @@ ghost use Rattle.vx_merge.specs.Bodies as bodies;
 ghost use Rattle.vx_merge.specs.Rounds.{UnlikeFirst, UnlikeLowest, picture_at};
 ghost use Rattle.vx_merge.specs.Rules as rules;
 ghost use Rattle.vx_merge.specs.inner.Found.{Finds, HaveSameItems, IsLowestField, TellsField};
+ghost use Rattle.vx_merge.specs.inner.Gathered.{AreGathered, IsLowestWith};
 
+use crate::bodies::RoundBodies;
 use crate::items::same_items;
 use crate::told::{Differing, of_field, of_source};
 use std::alloc::{AllocError, Global};
@@ -121,7 +123,7 @@ pub(crate) fn scaling_body<'a>(picture: &Picture<'a>) -> Option<&'a [u8]>
 /// The lowest source whose header has LMCS.
 pub(crate) fn lowest_with_lmcs(round: &[Picture<'_>]) -> Option<u16>
     requires { length round.now ≤ 64 }
-    ensures { IsLowestAnswer (length round.now) (λ i. IsTrue (bodies.has_lmcs (picture_at round.now i))) result }
+    ensures { IsLowestWith bodies.has_lmcs round.now result }
 {
     for k in 0..round.len() {
         if has_lmcs(&round[k]) {
@@ -134,7 +136,7 @@ pub(crate) fn lowest_with_lmcs(round: &[Picture<'_>]) -> Option<u16>
 /// The lowest source whose header has scaling lists.
 pub(crate) fn lowest_with_scaling(round: &[Picture<'_>]) -> Option<u16>
     requires { length round.now ≤ 64 }
-    ensures { IsLowestAnswer (length round.now) (λ i. IsTrue (bodies.has_scaling (picture_at round.now i))) result }
+    ensures { IsLowestWith bodies.has_scaling round.now result }
 {
     for k in 0..round.len() {
         if has_scaling(&round[k]) {
@@ -147,7 +149,7 @@ pub(crate) fn lowest_with_scaling(round: &[Picture<'_>]) -> Option<u16>
 /// Whether a source has LMCS, and scales chroma residuals otherwise than the lowest one that has it.
 fn scales_otherwise(round: &[Picture<'_>], lowest: Option<u16>, k: usize) -> bool
     requires k { k < length round.now }
-    requires lowest { IsLowestAnswer (length round.now) (λ i. IsTrue (bodies.has_lmcs (picture_at round.now i))) lowest }
+    requires lowest { IsLowestWith bodies.has_lmcs round.now lowest }
     ensures unlike { OnTrue result (UnlikeLowest bodies.has_lmcs bodies.is_chroma_scaled round.now k) }
     ensures alike { OnFalse result (¬ UnlikeLowest bodies.has_lmcs bodies.is_chroma_scaled round.now k) }
 {
@@ -163,7 +165,7 @@ fn scales_otherwise(round: &[Picture<'_>], lowest: Option<u16>, k: usize) -> boo
 /// Whether a source has LMCS, and another than the lowest one that has it.
 fn has_other_lmcs(round: &[Picture<'_>], lowest: Option<u16>, k: usize) -> bool
     requires k { k < length round.now }
-    requires lowest { IsLowestAnswer (length round.now) (λ i. IsTrue (bodies.has_lmcs (picture_at round.now i))) lowest }
+    requires lowest { IsLowestWith bodies.has_lmcs round.now lowest }
     ensures unlike { OnTrue result (UnlikeLowest bodies.has_lmcs bodies.lmcs_body round.now k) }
     ensures alike { OnFalse result (¬ UnlikeLowest bodies.has_lmcs bodies.lmcs_body round.now k) }
 {
@@ -179,7 +181,7 @@ fn has_other_lmcs(round: &[Picture<'_>], lowest: Option<u16>, k: usize) -> bool
 /// Whether a source has scaling lists, and others than the lowest one that has them.
 fn has_other_scaling(round: &[Picture<'_>], lowest: Option<u16>, k: usize) -> bool
     requires k { k < length round.now }
-    requires lowest { IsLowestAnswer (length round.now) (λ i. IsTrue (bodies.has_scaling (picture_at round.now i))) lowest }
+    requires lowest { IsLowestWith bodies.has_scaling round.now lowest }
     ensures unlike { OnTrue result (UnlikeLowest bodies.has_scaling bodies.scaling_body round.now k) }
     ensures alike { OnFalse result (¬ UnlikeLowest bodies.has_scaling bodies.scaling_body round.now k) }
 {
@@ -232,7 +234,7 @@ fn header_field(
     requires k { k < length round.now }
     requires fields { fields.now ≡ set_of header_kept.kept }
     requires first { first.now ≡ rules.kept_header (picture_at round.now 0) }
-    requires lowest { IsLowestAnswer (length round.now) (λ i. IsTrue (bodies.has_lmcs (picture_at round.now i))) lowest }
+    requires lowest { IsLowestWith bodies.has_lmcs round.now lowest }
     ensures { IfOk result (TellsField (rules.picture_header round.now).breaks (rules.header_field round.now) k) }
 {
     let kept = kept_header_field(alloc, &round[k], fields, first)?;
@@ -262,8 +264,10 @@ fn have_same_items(round: &[Picture<'_>]) -> bool
 fn lowest_other_header(
     alloc: Global,
     round: &[Picture<'_>],
+    lowest: Option<u16>,
 ) -> Result<Option<Differing>, AllocError>
-    requires { (0 < length round.now) × (length round.now ≤ 64) }
+    requires count { (0 < length round.now) × (length round.now ≤ 64) }
+    requires lowest { IsLowestWith bodies.has_lmcs round.now lowest }
     ensures { IfOk result (IsLowestField (length round.now) (rules.picture_header round.now).breaks (rules.header_field round.now)) }
 {
     // Most rounds end here.
@@ -272,7 +276,6 @@ fn lowest_other_header(
     }
     let fields = header_fields();
     let first = kept_header(alloc, &round[0], &fields)?;
-    let lowest = lowest_with_lmcs(round);
     for k in 0..round.len() {
         let field = header_field(alloc, round, &fields, &first, lowest, k)?;
         if let Some(field) = field {
@@ -293,19 +296,23 @@ fn lowest_other_header(
 pub(crate) fn picture_header(
     alloc: Global,
     round: &[Picture<'_>],
+    gathered: &RoundBodies<'_>,
 ) -> Result<Option<Refusal>, AllocError>
-    requires { (0 < length round.now) × (length round.now ≤ 64) }
+    requires count { (0 < length round.now) × (length round.now ≤ 64) }
+    requires gathered { AreGathered round.now gathered.now }
     ensures { IfOk result (Finds (length round.now) (rules.picture_header round.now ∷ [])) }
 {
-    Ok(of_field(PICTURE_HEADER, lowest_other_header(alloc, round)?))
+    let lowest = lowest_other_header(alloc, round, gathered.lmcs)?;
+    Ok(of_field(PICTURE_HEADER, lowest))
 }
 
 /// The lowest source with other LMCS or scaling lists.
-fn lowest_other_sets(round: &[Picture<'_>]) -> Option<u16>
-    requires { length round.now ≤ 64 }
+fn lowest_other_sets(round: &[Picture<'_>], lmcs: Option<u16>, scaling: Option<u16>) -> Option<u16>
+    requires few { length round.now ≤ 64 }
+    requires lmcs { IsLowestWith bodies.has_lmcs round.now lmcs }
+    requires scaling { IsLowestWith bodies.has_scaling round.now scaling }
     ensures { IsLowestAnswer (length round.now) (rules.shared_sets round.now).breaks result }
 {
-    let (lmcs, scaling) = (lowest_with_lmcs(round), lowest_with_scaling(round));
     for k in 0..round.len() {
         if has_other_lmcs(round, lmcs, k) || has_other_scaling(round, scaling, k) {
             return Some(k as u16);
@@ -315,11 +322,13 @@ fn lowest_other_sets(round: &[Picture<'_>]) -> Option<u16>
 }
 
 /// Whether a source has other LMCS or scaling lists.
-pub(crate) fn shared_sets(round: &[Picture<'_>]) -> Option<Refusal>
-    requires { length round.now ≤ 64 }
+pub(crate) fn shared_sets(round: &[Picture<'_>], gathered: &RoundBodies<'_>) -> Option<Refusal>
+    requires few { length round.now ≤ 64 }
+    requires gathered { AreGathered round.now gathered.now }
     ensures { Finds (length round.now) (rules.shared_sets round.now ∷ []) result }
 {
-    of_source(SHARED_SETS, lowest_other_sets(round))
+    let lowest = lowest_other_sets(round, gathered.lmcs, gathered.scaling);
+    of_source(SHARED_SETS, lowest)
 }
 
 // ---- reference picture lists

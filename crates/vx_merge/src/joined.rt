@@ -10,10 +10,12 @@ ghost use Rattle.vx_layout.specs.Frames as frames;
 ghost use Rattle.vx_layout.specs.Frames.{Fills};
 ghost use Rattle.vx_layout.specs.Rects.{IsPart};
 ghost use Rattle.vx_layout.specs.Regions.{moved_to};
+ghost use Rattle.vx_write.specs.InForce.{AreInForce};
+ghost use Rattle.vx_merge.specs.Regions.{layouts_in};
 ghost use Rattle.vx_merge.specs.inner.Joined.{CanBeJoined, IsFrameOf, MakeFrame};
 
 use crate::corner::Corner;
-use crate::frame::{in_ctus, layouts, placed};
+use crate::frame::{in_ctus, placed};
 use crate::laws_shapes::frames_have_shapes;
 use std::alloc::{AllocError, Global};
 use vx_fit::{LineError, Placed, fit_lines, fit_regions};
@@ -137,7 +139,7 @@ fn numbers_of(
     })
 }
 
-/// The frame of pictures whose regions fit together, and whose tile lines do.
+/// The frame of pictures with these layouts, whose regions fit together, and whose tile lines do.
 ///
 /// # Errors
 ///
@@ -145,15 +147,17 @@ fn numbers_of(
 pub(crate) fn join(
     alloc: Global,
     corners: &[Corner],
+    layouts: Vec<Numbers>,
     round: &[Picture<'_>],
 ) -> Result<Frame, AllocError>
-    requires { CanBeJoined corners.now round.now }
+    requires can { CanBeJoined corners.now round.now }
+    requires layouts { layouts.items ≡ layouts_in round.now }
+    requires sets { All AreInForce round.now }
     ensures frame { IfOk result (IsFrameOf corners.now round.now) }
     ensures made { IfOk result (λ frame. MakeFrame corners.now round.now frame.numbers) }
 {
     frames_have_shapes();
     let placed = placed(alloc, corners, round)?;
-    let layouts = layouts(alloc, round)?;
     let ctb = round[0].sps().ctb();
     let areas = placed.as_slice();
     let parts = layouts.as_slice();

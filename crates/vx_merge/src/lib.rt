@@ -5,6 +5,8 @@
 //! they break. [`Merger::joined_round`] joins a round behind those before it, behind an end of sequence. The rules are defined in the folder `specs`. [`lengths`] tells which sources have ended.
 #![tactic(auto)]
 
+mod bodies;
+mod borders;
 mod collocated;
 mod corner;
 mod ended;

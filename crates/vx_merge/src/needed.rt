@@ -1,5 +1,6 @@
 //! The sets that a round needs.
-ghost use Rattle.std.specs.Prelude.{◌≡◌, ℕ, ◌<◌, ◌≤◌, ◌∷◌, [], List, Option, None, length, map, option_copied, option_to_list, IfOk};
+ghost use Rattle.std.specs.Prelude.{◌≡◌, ℕ, ◌<◌, ◌≤◌, ◌∷◌, [], List, Option, None, false, length, map, option_copied, option_to_list, IfOk};
+ghost use Rattle.std.specs.Bool.{OnTrue};
 ghost use Rattle.std.specs.List.{AllByRecursion};
 ghost use Rattle.vx_aps.specs.declared.aps.TheConstants as types;
 ghost use Rattle.vx_fit.specs.Lowest.{IsLowestAnswer};
@@ -7,18 +8,19 @@ ghost use Rattle.vx_pps.specs.Pps.{IsItems};
 ghost use Rattle.vx_pic.specs.Written.{SetUnit, a_pps};
 ghost use Rattle.vx_write.specs.Slots.{AreLastOf, pps_with_id};
 ghost use Rattle.vx_merge.specs.Bodies as words;
-ghost use Rattle.vx_merge.specs.Needed.{alf_bodies, lmcs_bodies, scaling_bodies};
+ghost use Rattle.vx_merge.specs.Needed.{lmcs_bodies, scaling_bodies};
 ghost use Rattle.vx_merge.specs.Rounds.{picture_at};
 ghost use Rattle.vx_merge.specs.Shapes.{of_lowest};
 ghost use Rattle.vx_merge.specs.Slots.{TakeSlots, alf_slots, lmcs_slots, pps_slots, scaling_slots};
+ghost use Rattle.vx_merge.specs.inner.Gathered.{AreGathered, HasNone, IsLowestWith};
 ghost use Rattle.vx_merge.specs.inner.Ready.{AreNeeded};
 ghost use Rattle.vx_merge.specs.declared.corner.Corner.{Corner};
 ghost use Rattle.vx_merge.specs.inner.Settled.{HasPps, IsSomeUsed, IsUsedFor};
-ghost use Rattle.vx_merge.specs.inner.Sending.{AreNamed, CanBeSent, HasEnds};
+ghost use Rattle.vx_merge.specs.inner.Sending.{AreNamed, CanBeSent, HasEnds, HaveEnds};
 ghost use Rattle.vx_merge.specs.inner.Taking.{IsEmptyPps, IsHeldAs};
 
-use crate::filters::add_picture;
-use crate::headers::{has_lmcs, has_scaling, lmcs_body, scaling_body};
+use crate::bodies::RoundBodies;
+use crate::headers::{is_chroma_scaled, lmcs_body, scaling_body};
 use crate::ids::{Search, take_ids};
 use crate::settled::{Settled, pps_under};
 use std::alloc::{AllocError, Global};
@@ -54,6 +56,8 @@ pub(crate) struct RoundSets<'s, 'a> {
     pub(crate) alf: NamedBodies<'a>,
     /// Luma mapping with chroma scaling, where a source has it.
     pub(crate) lmcs: NamedBodies<'a>,
+    /// Whether the lowest source that has it scales chroma residuals.
+    pub(crate) scales_chroma: bool,
     /// Scaling lists, where a source has them.
     pub(crate) scaling: NamedBodies<'a>,
 }
@@ -78,39 +82,65 @@ fn all_bodies(round: &[Picture<'_>])
     }
 }
 
-/// The bodies of the adaptive loop filters in force in the slices, each once.
-fn filters<'a>(alloc: Global, round: &[Picture<'a>]) -> Result<BodyList<'a>, AllocError>
-    ensures { IfOk result (λ found. map (λ b. b.now) found ≡ alf_bodies round.now) }
+/// Whether a round has nothing of adaptation parameter sets.
+fn has_none(bodies: &RoundBodies<'_>) -> bool
+    ensures { OnTrue result (HasNone bodies.now) }
 {
-    let mut bodies = BodyList::new(alloc);
-    for k in 0..round.len() {
-        add_picture(alloc, &mut bodies, &round[k])?;
+    if 0 < bodies.filters.bodies.len() {
+        return false;
     }
-    Ok(bodies)
+    if bodies.lmcs.is_some() {
+        return false;
+    }
+    if bodies.scaling.is_some() {
+        return false;
+    }
+    true
+}
+
+/// What is known of the bodies that a round needs: they can end a unit. Does nothing, and looks at no picture where there are none.
+fn bodies_end(round: &[Picture<'_>], bodies: &RoundBodies<'_>)
+    requires gathered { AreGathered round.now bodies.now }
+    requires few { bodies.now.filters.too_many ≡ None }
+    ensures { HaveEnds round.now }
+{
+    if has_none(bodies) {
+        return;
+    }
+    all_bodies(round);
 }
 
 /// The body of LMCS of the lowest source that has it.
-fn shared_lmcs<'a>(round: &[Picture<'a>]) -> Option<&'a [u8]>
+fn shared_lmcs<'a>(round: &[Picture<'a>], lowest: Option<u16>) -> Option<&'a [u8]>
+    requires { IsLowestWith words.has_lmcs round.now lowest }
     ensures { option_copied result ≡ of_lowest words.has_lmcs words.lmcs_body None round.now }
 {
-    for k in 0..round.len() {
-        if has_lmcs(&round[k]) {
-            return lmcs_body(&round[k]);
-        }
+    match lowest {
+        Some(k) => lmcs_body(&round[usize::from(k)]),
+        None => None,
     }
-    None
+}
+
+/// Whether it scales chroma residuals.
+fn scales_chroma(round: &[Picture<'_>], lowest: Option<u16>) -> bool
+    requires { IsLowestWith words.has_lmcs round.now lowest }
+    ensures { result ≡ of_lowest words.has_lmcs words.is_chroma_scaled false round.now }
+{
+    match lowest {
+        Some(k) => is_chroma_scaled(&round[usize::from(k)]),
+        None => false,
+    }
 }
 
 /// The body of scaling lists of the lowest source that has them.
-fn shared_scaling<'a>(round: &[Picture<'a>]) -> Option<&'a [u8]>
+fn shared_scaling<'a>(round: &[Picture<'a>], lowest: Option<u16>) -> Option<&'a [u8]>
+    requires { IsLowestWith words.has_scaling round.now lowest }
     ensures { option_copied result ≡ of_lowest words.has_scaling words.scaling_body None round.now }
 {
-    for k in 0..round.len() {
-        if has_scaling(&round[k]) {
-            return scaling_body(&round[k]);
-        }
+    match lowest {
+        Some(k) => scaling_body(&round[usize::from(k)]),
+        None => None,
     }
-    None
 }
 
 /// A body as a list, where there is one.
@@ -174,30 +204,18 @@ pub(crate) fn of_scaling(temporal_id: u8) -> Search
     }
 }
 
-/// The adaptive loop filters of a round.
-fn named_filters<'a>(
-    alloc: Global,
-    slots: &Slots,
-    temporal_id: u8,
-    round: &[Picture<'a>],
-) -> Result<NamedBodies<'a>, AllocError>
-    requires { length (alf_bodies round.now) ≤ alf_slots }
-    ensures { IfOk result (AreNamed types.ALF alf_slots temporal_id slots.now (alf_bodies round.now)) }
-{
-    let bodies = filters(alloc, round)?;
-    named(alloc, slots, of_alf(temporal_id), bodies)
-}
-
 /// The LMCS of a round.
 fn named_lmcs<'a>(
     alloc: Global,
     slots: &Slots,
     temporal_id: u8,
     round: &[Picture<'a>],
+    lowest: Option<u16>,
 ) -> Result<NamedBodies<'a>, AllocError>
+    requires { IsLowestWith words.has_lmcs round.now lowest }
     ensures { IfOk result (AreNamed types.LMCS lmcs_slots temporal_id slots.now (lmcs_bodies round.now)) }
 {
-    let bodies = one_or_none(alloc, shared_lmcs(round))?;
+    let bodies = one_or_none(alloc, shared_lmcs(round, lowest))?;
     named(alloc, slots, of_lmcs(temporal_id), bodies)
 }
 
@@ -207,10 +225,12 @@ fn named_scaling<'a>(
     slots: &Slots,
     temporal_id: u8,
     round: &[Picture<'a>],
+    lowest: Option<u16>,
 ) -> Result<NamedBodies<'a>, AllocError>
+    requires { IsLowestWith words.has_scaling round.now lowest }
     ensures { IfOk result (AreNamed types.SCALING scaling_slots temporal_id slots.now (scaling_bodies round.now)) }
 {
-    let bodies = one_or_none(alloc, shared_scaling(round))?;
+    let bodies = one_or_none(alloc, shared_scaling(round, lowest))?;
     named(alloc, slots, of_scaling(temporal_id), bodies)
 }
 
@@ -253,7 +273,7 @@ pub(crate) fn taken_pps_id(slots: &Slots, temporal_id: u8, pps: &Pps) -> u8
 
 // ---- all
 
-/// The sets that a round needs, with the ids that they take behind the sets that were sent.
+/// The sets that a round with these bodies needs, with the ids that they take behind the sets that were sent.
 ///
 /// # Errors
 ///
@@ -261,10 +281,12 @@ pub(crate) fn taken_pps_id(slots: &Slots, temporal_id: u8, pps: &Pps) -> u8
 pub(crate) fn needed<'s, 'a>(
     alloc: Global,
     round: &[Picture<'a>],
+    bodies: RoundBodies<'a>,
     settled: &'s Settled,
     pps_id: u8,
     slots: &Slots,
 ) -> Result<RoundSets<'s, 'a>, AllocError>
+    requires bodies { AreGathered round.now bodies }
     requires settled { IsSomeUsed round.now settled.now }
     requires pps { HasPps round.now pps_id settled.now }
     requires low { pps_id < pps_slots }
@@ -274,17 +296,20 @@ pub(crate) fn needed<'s, 'a>(
         → IfOk result (AreNeeded corners level round.now settled.now.frame.numbers sent) }
     ensures can { IfOk result CanBeSent }
 {
-    all_bodies(round);
+    bodies_end(round, &bodies);
     let temporal_id = round[0].kind().temporal_id;
-    let alf = named_filters(alloc, slots, temporal_id, round)?;
-    let lmcs = named_lmcs(alloc, slots, temporal_id, round)?;
-    let scaling = named_scaling(alloc, slots, temporal_id, round)?;
+    let filters = bodies.filters.bodies;
+    let alf = named(alloc, slots, of_alf(temporal_id), filters)?;
+    let lmcs = named_lmcs(alloc, slots, temporal_id, round, bodies.lmcs)?;
+    let scales_chroma = scales_chroma(round, bodies.lmcs);
+    let scaling = named_scaling(alloc, slots, temporal_id, round, bodies.scaling)?;
     Ok(RoundSets {
         sps: &settled.sps,
         pps: pps_under(settled, pps_id),
         pps_id,
         alf,
         lmcs,
+        scales_chroma,
         scaling,
     })
 }

@@ -11,7 +11,6 @@ ghost use Rattle.vx_merge.specs.Rounds.{picture_at};
 ghost use Rattle.vx_merge.specs.Shapes.{of_lowest};
 ghost use Rattle.vx_merge.specs.inner.Ready.{IsSomeReady, ids_in};
 
-use crate::headers::{has_lmcs, is_chroma_scaled};
 use crate::needed::{NamedBodies, RoundSets};
 use std::alloc::{AllocError, Global};
 use vx_ph::{LmcsShape, PhShape, PictureHeader, reshape_ph, write_ph};
@@ -25,36 +24,27 @@ fn first_id(named: &NamedBodies<'_>) -> Option<u8>
     named.ids.first().copied()
 }
 
-/// Whether chroma residuals are scaled in the lowest source that has LMCS.
-fn scales_chroma(round: &[Picture<'_>]) -> bool
-    ensures { result ≡ of_lowest bodies.has_lmcs bodies.is_chroma_scaled false round.now }
-{
-    for k in 0..round.len() {
-        if has_lmcs(&round[k]) {
-            return is_chroma_scaled(&round[k]);
-        }
-    }
-    false
-}
-
 /// What the header says of luma mapping with chroma scaling, where a source has it.
-fn lmcs_shape(round: &[Picture<'_>], lmcs: &NamedBodies<'_>) -> Option<LmcsShape>
-    ensures { result ≡ option_map (spec.lmcs_shape round.now) (slice_get lmcs.now.ids.items 0) }
+fn lmcs_shape(
+    _round: &[Picture<'_>],
+    lmcs: &NamedBodies<'_>,
+    scales_chroma: bool,
+) -> Option<LmcsShape>
+    requires { scales_chroma ≡ of_lowest bodies.has_lmcs bodies.is_chroma_scaled false _round.now }
+    ensures { result ≡ option_map (spec.lmcs_shape _round.now) (slice_get lmcs.now.ids.items 0) }
 {
     let id = first_id(lmcs)?;
-    Some(LmcsShape {
-        id,
-        scales_chroma: scales_chroma(round),
-    })
+    Some(LmcsShape { id, scales_chroma })
 }
 
 /// What the header says.
 fn shape_of(round: &[Picture<'_>], needed: &RoundSets<'_, '_>) -> PhShape
+    requires { needed.now.scales_chroma ≡ of_lowest bodies.has_lmcs bodies.is_chroma_scaled false round.now }
     ensures { result ≡ spec.ph_shape round.now (ids_in needed.now) }
 {
     PhShape {
         pps_id: needed.pps_id,
-        lmcs: lmcs_shape(round, &needed.lmcs),
+        lmcs: lmcs_shape(round, &needed.lmcs, needed.scales_chroma),
         scaling: first_id(&needed.scaling),
     }
 }

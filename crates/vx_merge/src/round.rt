@@ -9,12 +9,14 @@ ghost use Rattle.vx_merge.specs.Merging.{AreCorners, Stands};
 ghost use Rattle.vx_merge.specs.Rounds.{picture_at};
 ghost use Rattle.vx_merge.specs.Slots.{TakeSlots, pps_slots};
 ghost use Rattle.vx_merge.specs.inner.Found.{HasHistory};
+ghost use Rattle.vx_merge.specs.inner.Gathered.{AreGathered};
 ghost use Rattle.vx_merge.specs.inner.Making.{AreHeaders, HasPayloads, IsMade, payload_of, payloads_in};
 ghost use Rattle.vx_merge.specs.inner.Counting.{Counts};
 ghost use Rattle.vx_merge.specs.inner.Progress.{IsProgress, merging_of};
 ghost use Rattle.vx_merge.specs.inner.Ready.{IsReadyAt};
 ghost use Rattle.vx_merge.specs.inner.Settled.{HasPps, IsKept, IsSomeUsed, IsUsedFor, KeepServing, ServesAs};
 
+use crate::bodies::{RoundBodies, round_bodies};
 use crate::corner::Corner;
 use crate::fronts::slice_fronts;
 use crate::limits::bytes_within;
@@ -23,7 +25,7 @@ use crate::output::Made;
 use crate::picture_header::{header_unit, picture_header};
 use crate::progress::Progress;
 use crate::send::send_needed;
-use crate::settled::{Settled, have_pps, is_known, settle};
+use crate::settled::{Settled, have_pps, round_layouts, settle};
 use crate::verdict::verdict;
 use std::alloc::{AllocError, Global};
 use vx_bits::BodyList;
@@ -119,7 +121,9 @@ fn make<'a>(
     pps_id: u8,
     slots: &mut Slots,
     round: &[Picture<'a>],
+    bodies: RoundBodies<'a>,
 ) -> Result<Made<'a>, AllocError>
+    requires bodies { AreGathered round.now bodies }
     requires settled { IsSomeUsed round.now settled.now }
     requires pps { HasPps round.now pps_id settled.now }
     requires low { pps_id < pps_slots }
@@ -132,7 +136,7 @@ fn make<'a>(
         → IfOk result (λ made. IsMade corners level round.now history made slots.new) }
 {
     let kind = kind_of(round);
-    let needed = needed(alloc, round, settled, pps_id, slots)?;
+    let needed = needed(alloc, round, bodies, settled, pps_id, slots)?;
     let units = header_units(alloc, round, &needed, &settled.layout)?;
     let sets = send_needed(alloc, slots, &needed, kind.temporal_id)?;
     let sei = messages_unit(alloc, round)?;
@@ -153,7 +157,9 @@ fn make_next<'a>(
     own: &mut Settled,
     slots: &mut Slots,
     round: &[Picture<'a>],
+    bodies: RoundBodies<'a>,
 ) -> Result<Made<'a>, AllocError>
+    requires bodies { AreGathered round.now bodies }
     requires used { IsSomeUsed round.now own.old }
     requires slots { HasHistory slots.old }
     ensures settled { OnOk result (ServesAs round.now own.old own.new) }
@@ -165,7 +171,7 @@ fn make_next<'a>(
     forget_before(slots, kind.nal_type);
     let pps_id = taken_pps_id(slots, kind.temporal_id, &own.plain);
     have_pps(alloc, own, round, pps_id)?;
-    let made = make(alloc, own, pps_id, slots, round)?;
+    let made = make(alloc, own, pps_id, slots, round, bodies)?;
     Ok(made)
 }
 
@@ -175,7 +181,9 @@ fn make_kept<'a>(
     settled: &mut Option<Settled>,
     slots: &mut Slots,
     round: &[Picture<'a>],
+    bodies: RoundBodies<'a>,
 ) -> Result<Made<'a>, AllocError>
+    requires bodies { AreGathered round.now bodies }
     requires used { IsKept (IsSomeUsed round.now) settled.old }
     requires slots { HasHistory slots.old }
     ensures settled { OnOk result (KeepServing round.now settled.old settled.new) }
@@ -184,7 +192,7 @@ fn make_kept<'a>(
         → IfOk result (λ made. IsMade corners level round.now history made slots.new) }
 {
     match settled {
-        Some(own) => make_next(alloc, own, slots, round),
+        Some(own) => make_next(alloc, own, slots, round, bodies),
         None => unreachable!(),
     }
 }
@@ -209,13 +217,15 @@ pub(crate) fn counted<'a>(
     ensures answer { (done : List Plan) → Stands (merging_of corners.now level progress.old) done
         → Counts round.now done (merging_of corners.now level progress.new) result }
 {
-    let known = is_known(&progress.settled, round);
-    let found = verdict(alloc, corners, round, known)?;
+    let layouts = round_layouts(alloc, &progress.settled, round)?;
+    let bodies = round_bodies(alloc, round)?;
+    let found = verdict(alloc, corners, round, &bodies, &layouts)?;
     if let Some(refusal) = found {
         return Err(WriteError::Refused(refusal));
     }
-    settle(alloc, corners, level, known, &mut progress.settled, round)?;
-    let made = make_kept(alloc, &mut progress.settled, &mut progress.slots, round)?;
+    let settled = &mut progress.settled;
+    settle(alloc, corners, level, layouts, settled, round)?;
+    let made = make_kept(alloc, settled, &mut progress.slots, round, bodies)?;
     match bytes_within(&made, progress.bytes) {
         Ok(total) => {
             progress.bytes = total;

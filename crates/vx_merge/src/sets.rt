@@ -8,6 +8,7 @@ ghost use Rattle.vx_pic.specs.Inputs as inputs;
 ghost use Rattle.vx_merge.specs.Rounds.{picture_at};
 ghost use Rattle.vx_merge.specs.Rules as rules;
 ghost use Rattle.vx_merge.specs.inner.Found.{Finds, IsLowestField, TellsField};
+ghost use Rattle.vx_merge.specs.inner.Tools as tools;
 
 use crate::told::{Differing, of_field, of_source};
 use std::alloc::{AllocError, Global};
@@ -110,36 +111,6 @@ fn sps_field_at(
     Ok(field)
 }
 
-/// The lowest source with another SPS than source 0, as far as tools go.
-fn lowest_other_sps(alloc: Global, round: &[Picture<'_>]) -> Result<Option<Differing>, AllocError>
-    requires { (0 < length round.now) × (length round.now ≤ 64) }
-    ensures { IfOk result (IsLowestField (length round.now) (rules.sps_tools round.now).breaks (rules.sps_field round.now)) }
-{
-    let kept = keep_sps(alloc, round[0].sps())?;
-    for k in 0..round.len() {
-        let field = sps_field_at(alloc, round, &kept, k)?;
-        if let Some(field) = field {
-            return Ok(Some(Differing {
-                source: k as u16,
-                field,
-            }));
-        }
-    }
-    Ok(None)
-}
-
-/// Whether a source has other tools of sequences than source 0.
-///
-/// # Errors
-///
-/// Want of memory.
-pub(crate) fn sps_tools(alloc: Global, round: &[Picture<'_>]) -> Result<Option<Refusal>, AllocError>
-    requires { (0 < length round.now) × (length round.now ≤ 64) }
-    ensures { IfOk result (Finds (length round.now) (rules.sps_tools round.now ∷ [])) }
-{
-    Ok(of_field(SPS_TOOLS, lowest_other_sps(alloc, round)?))
-}
-
 // ---- tools of pictures
 
 /// The field in which a PPS differs from another, of which these are the kept fields.
@@ -174,14 +145,57 @@ fn pps_field_at(
     Ok(field)
 }
 
-/// The lowest source with another PPS than source 0, as far as tools go.
-fn lowest_other_pps(alloc: Global, round: &[Picture<'_>]) -> Result<Option<Differing>, AllocError>
-    requires { (0 < length round.now) × (length round.now ≤ 64) }
-    ensures { IfOk result (IsLowestField (length round.now) (rules.pps_tools round.now).breaks (rules.pps_field round.now)) }
+// ---- tools of either
+
+/// Which parameter set of a picture is looked at.
+#[derive(Clone, Copy)]
+enum SetKind {
+    /// Its SPS.
+    Sps,
+    /// Its PPS.
+    Pps,
+}
+
+/// The kept fields of a picture's set.
+fn kept_in(alloc: Global, picture: &Picture<'_>, set: SetKind) -> Result<Fields, AllocError>
+    ensures { IfOk result (λ kept. kept ≡ tools.kept_in set picture.now) }
 {
-    let kept = keep_pps(alloc, round[0].pps())?;
+    match set {
+        SetKind::Sps => keep_sps(alloc, picture.sps()),
+        SetKind::Pps => keep_pps(alloc, picture.pps()),
+    }
+}
+
+/// The field in which the set of a source differs from source 0's, of which these are the kept fields.
+fn field_at(
+    alloc: Global,
+    round: &[Picture<'_>],
+    set: SetKind,
+    kept: &Fields,
+    k: usize,
+) -> Result<Option<u16>, AllocError>
+    requires k { k < length round.now }
+    requires kept { kept.now ≡ tools.kept_in set (picture_at round.now 0) }
+    ensures { IfOk result (TellsField (tools.rule_of set round.now).breaks (tools.field_of set round.now) k) }
+{
+    match set {
+        SetKind::Sps => sps_field_at(alloc, round, kept, k),
+        SetKind::Pps => pps_field_at(alloc, round, kept, k),
+    }
+}
+
+/// The lowest source with another set than source 0, as far as tools go.
+fn lowest_other(
+    alloc: Global,
+    round: &[Picture<'_>],
+    set: SetKind,
+) -> Result<Option<Differing>, AllocError>
+    requires { (0 < length round.now) × (length round.now ≤ 64) }
+    ensures { IfOk result (IsLowestField (length round.now) (tools.rule_of set round.now).breaks (tools.field_of set round.now)) }
+{
+    let kept = kept_in(alloc, &round[0], set)?;
     for k in 0..round.len() {
-        let field = pps_field_at(alloc, round, &kept, k)?;
+        let field = field_at(alloc, round, set, &kept, k)?;
         if let Some(field) = field {
             return Ok(Some(Differing {
                 source: k as u16,
@@ -190,6 +204,19 @@ fn lowest_other_pps(alloc: Global, round: &[Picture<'_>]) -> Result<Option<Diffe
         }
     }
     Ok(None)
+}
+
+/// Whether a source has other tools of sequences than source 0.
+///
+/// # Errors
+///
+/// Want of memory.
+pub(crate) fn sps_tools(alloc: Global, round: &[Picture<'_>]) -> Result<Option<Refusal>, AllocError>
+    requires { (0 < length round.now) × (length round.now ≤ 64) }
+    ensures { IfOk result (Finds (length round.now) (rules.sps_tools round.now ∷ [])) }
+{
+    let lowest = lowest_other(alloc, round, SetKind::Sps)?;
+    Ok(of_field(SPS_TOOLS, lowest))
 }
 
 /// Whether a source has other tools of pictures than source 0.
@@ -201,5 +228,6 @@ pub(crate) fn pps_tools(alloc: Global, round: &[Picture<'_>]) -> Result<Option<R
     requires { (0 < length round.now) × (length round.now ≤ 64) }
     ensures { IfOk result (Finds (length round.now) (rules.pps_tools round.now ∷ [])) }
 {
-    Ok(of_field(PPS_TOOLS, lowest_other_pps(alloc, round)?))
+    let lowest = lowest_other(alloc, round, SetKind::Pps)?;
+    Ok(of_field(PPS_TOOLS, lowest))
 }

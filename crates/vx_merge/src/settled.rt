@@ -1,22 +1,25 @@
 //! What is made of the sets of a round alone, and kept for rounds with the same sets.
-ghost use Rattle.std.specs.Prelude.{◌≡◌, ◌≢◌, ◌<◌, length, map, None, IfOk, IfSome, OnOk};
+ghost use Rattle.std.specs.Prelude.{◌≡◌, ◌≢◌, ◌<◌, All, length, map, None, IfOk, IfSome, OnOk};
 ghost use Rattle.std.specs.Bool.{OnTrue};
 ghost use Rattle.vx_layout.specs.Faults.{IsInLimits, IsLayout};
+ghost use Rattle.vx_write.specs.InForce.{AreInForce};
 ghost use Rattle.vx_merge.specs.Merging.{AreCorners};
+ghost use Rattle.vx_merge.specs.Regions.{layouts_in};
 ghost use Rattle.vx_merge.specs.Rules.{rules_of};
 ghost use Rattle.vx_merge.specs.Verdict.{IsVerdict};
 ghost use Rattle.vx_merge.specs.inner.Joined.{CanBeJoined, IsSomeFrame, OfFrame};
 ghost use Rattle.vx_merge.specs.inner.Settled as words;
-ghost use Rattle.vx_merge.specs.inner.Settled.{AreSetsOf, HasPps, HasSetsOf, IsKept, IsPpsFor, IsSettled, IsSettledFor, IsSomeUsed, IsSpsFor, IsUsedFor, ServesAs};
+ghost use Rattle.vx_merge.specs.inner.Settled.{AreLayoutsFor, AreSetsOf, HasPps, HasSetsOf, IsKept, IsPpsFor, IsSettled, IsSettledFor, IsSomeUsed, IsSpsFor, IsUsedFor, ServesAs};
 
 use crate::corner::Corner;
 use crate::facts::facts;
+use crate::frame::layouts;
 use crate::frame_sets::{copied_numbers, frame_pps, frame_sps};
 use crate::items::same_items;
 use crate::joined::{Frame, join};
 use std::alloc::{AllocError, Global};
 use vx_bits::Fields;
-use vx_layout::{Layout, LayoutError};
+use vx_layout::{Layout, LayoutError, Numbers};
 use vx_pic::Picture;
 use vx_pps::Pps;
 use vx_sps::Sps;
@@ -38,6 +41,15 @@ pub(crate) struct RenamedPps {
     pub(crate) id: u8,
     /// The PPS.
     pub(crate) pps: Pps,
+}
+
+/// The layouts of the pictures of a round, as far as its sets are new.
+#[derive(Drop)]
+pub(crate) enum RoundLayouts {
+    /// Its sets are those of which something is kept.
+    Kept,
+    /// Its sets may be others, and these are the layouts that they give its pictures.
+    New(Vec<Numbers>),
 }
 
 /// What is made of the sets of a round alone.
@@ -108,7 +120,7 @@ fn have_sets(round: &[Picture<'_>], sources: &[SourceSets]) -> bool
 }
 
 /// Whether something is kept, and was made of the sets of a round.
-pub(crate) fn is_known(settled: &Option<Settled>, round: &[Picture<'_>]) -> bool
+fn is_kept(settled: &Option<Settled>, round: &[Picture<'_>]) -> bool
     requires { IfSome settled.now (λ s. length s.sources.items ≡ length round.now) }
     ensures { OnTrue result (IsKept (HasSetsOf round.now) settled.now) }
 {
@@ -116,6 +128,26 @@ pub(crate) fn is_known(settled: &Option<Settled>, round: &[Picture<'_>]) -> bool
         Some(kept) => have_sets(round, kept.sources.as_slice()),
         None => false,
     }
+}
+
+/// The layouts of the pictures of a round, unless something is kept that was made of the same sets.
+///
+/// # Errors
+///
+/// Want of memory.
+pub(crate) fn round_layouts(
+    alloc: Global,
+    settled: &Option<Settled>,
+    round: &[Picture<'_>],
+) -> Result<RoundLayouts, AllocError>
+    requires { IfSome settled.now (λ s. length s.sources.items ≡ length round.now) }
+    ensures { IfOk result (AreLayoutsFor (IsKept (HasSetsOf round.now) settled.now) round.now) }
+{
+    if is_kept(settled, round) {
+        return Ok(RoundLayouts::Kept);
+    }
+    let layouts = layouts(alloc, round)?;
+    Ok(RoundLayouts::New(layouts))
 }
 
 // ---- what is made of them
@@ -155,14 +187,17 @@ fn made_of(
     alloc: Global,
     corners: &[Corner],
     level: Option<u8>,
+    layouts: Vec<Numbers>,
     round: &[Picture<'_>],
 ) -> Result<Settled, AllocError>
-    requires { CanBeJoined corners.now round.now }
+    requires can { CanBeJoined corners.now round.now }
+    requires layouts { layouts.items ≡ layouts_in round.now }
+    requires sets { All AreInForce round.now }
     ensures settled { IfOk result (IsSettledFor corners.now level round.now) }
     ensures sets { IfOk result (HasSetsOf round.now) }
 {
     let sources = sources(alloc, round)?;
-    let frame = join(alloc, corners, round)?;
+    let frame = join(alloc, corners, layouts, round)?;
     let layout = layout_of(alloc, &frame)?;
     let (sps, plain) = sets_for(alloc, round, &frame, level)?;
     Ok(Settled {
@@ -182,19 +217,22 @@ fn settle_anew(
     alloc: Global,
     corners: &[Corner],
     level: Option<u8>,
+    layouts: Vec<Numbers>,
     settled: &mut Option<Settled>,
     round: &[Picture<'_>],
 ) -> Result<(), AllocError>
-    requires { CanBeJoined corners.now round.now }
+    requires can { CanBeJoined corners.now round.now }
+    requires layouts { layouts.items ≡ layouts_in round.now }
+    requires sets { All AreInForce round.now }
     ensures settled { OnOk result (IsKept (IsSettledFor corners.now level round.now) settled.new) }
     ensures sets { OnOk result (IsKept (HasSetsOf round.now) settled.new) }
 {
-    let own = made_of(alloc, corners, level, round)?;
+    let own = made_of(alloc, corners, level, layouts, round)?;
     *settled = Some(own);
     Ok(())
 }
 
-/// Keeps what is made of the sets of a round that breaks no rule, unless it is known.
+/// Keeps what is made of the sets of a round that breaks no rule, unless it is kept.
 ///
 /// # Errors
 ///
@@ -203,7 +241,7 @@ pub(crate) fn settle(
     alloc: Global,
     corners: &[Corner],
     level: Option<u8>,
-    known: bool,
+    layouts: RoundLayouts,
     settled: &mut Option<Settled>,
     round: &[Picture<'_>],
 ) -> Result<(), AllocError>
@@ -211,15 +249,15 @@ pub(crate) fn settle(
     requires same { length corners.now ≡ length round.now }
     requires passes { IsVerdict (length corners.now) (rules_of corners.now round.now) None }
     requires settled { IfSome settled.old (IsSettled corners.now level) }
-    requires sets { OnTrue known (IsKept (HasSetsOf round.now) settled.old) }
+    requires layouts { AreLayoutsFor (IsKept (HasSetsOf round.now) settled.old) round.now layouts }
     ensures used { OnOk result (IsKept (IsUsedFor corners.now level round.now) settled.new) }
     ensures sets { OnOk result (IsKept (HasSetsOf round.now) settled.new) }
 {
     facts(corners, round);
-    if known {
-        return Ok(());
+    match layouts {
+        RoundLayouts::Kept => Ok(()),
+        RoundLayouts::New(layouts) => settle_anew(alloc, corners, level, layouts, settled, round),
     }
-    settle_anew(alloc, corners, level, settled, round)
 }
 
 // ---- its PPS under an id

@@ -1,31 +1,25 @@
 //! What the sets say that are sent for a frame of the pictures of a round (H.266 7.4.3.4, 7.4.3.5).
-ghost use Rattle.std.specs.Prelude.{◌≡◌, ◌==◌, ◌||◌, ◌≤ℤ◌, pos, neg_ℤ, All, length, false};
+ghost use Rattle.std.specs.Prelude.{◌≡◌, ◌==◌, ◌||◌, ◌≤ℤ◌, pos, neg_ℤ, All, length};
 ghost use Rattle.std.specs.List.{list_any};
 ghost use Rattle.vx_fields.specs.declared.ptl.TheConstants as ptl_fields;
 ghost use Rattle.vx_fields.specs.declared.pps.TheConstants as pps_fields;
 ghost use Rattle.vx_fields.specs.declared.dpb.TheConstants as dpb_fields;
 ghost use Rattle.vx_fit.specs.Placing.{IsInRange, frame_width, frame_height};
 ghost use Rattle.vx_pic.specs.Sets.{signed};
-ghost use Rattle.vx_merge.specs.Regions.{layouts_in};
-ghost use Rattle.vx_merge.specs.Rules as rules;
 ghost use Rattle.vx_merge.specs.Shapes as spec;
 ghost use Rattle.vx_merge.specs.inner.Edges as edges;
 
 use vx_fields::dpb::{
     dpb_max_dec_pic_buffering_minus1, dpb_max_latency_increase_plus1, dpb_max_num_reorder_pics,
 };
-use vx_fields::pps::{
-    pps_init_qp_minus26, pps_loop_filter_across_slices_enabled_flag,
-    pps_loop_filter_across_tiles_enabled_flag,
-};
+use vx_fields::pps::pps_init_qp_minus26;
 use vx_fields::sps::{
     sps_conf_win_bottom_offset, sps_conf_win_left_offset, sps_conf_win_right_offset,
     sps_conf_win_top_offset,
 };
 use vx_fit::Placed;
-use vx_layout::Numbers;
-use vx_pic::{Picture, several_slices, several_tiles};
-use vx_write::{in_pps, in_sps, own_level};
+use vx_pic::Picture;
+use vx_write::{in_sps, own_level};
 
 // ---- the window
 
@@ -181,32 +175,6 @@ pub(crate) fn level_of(round: &[Picture<'_>], level: Option<u8>) -> u8
 }
 
 // ---- the PPS
-
-/// Whether loop filters cross the borders of tiles in the lowest picture with several.
-pub(crate) fn across_tiles(round: &[Picture<'_>], layouts: &[Numbers]) -> bool
-    requires { layouts.now ≡ layouts_in round.now }
-    ensures { result ≡ spec.of_lowest rules.has_tiles rules.crosses_tiles false round.now }
-{
-    for k in 0..round.len() {
-        if several_tiles(&layouts[k]) {
-            return in_pps(&round[k], pps_loop_filter_across_tiles_enabled_flag) != 0;
-        }
-    }
-    false
-}
-
-/// Whether they cross the borders of slices in the lowest picture with several.
-pub(crate) fn across_slices(round: &[Picture<'_>], layouts: &[Numbers]) -> bool
-    requires { layouts.now ≡ layouts_in round.now }
-    ensures { result ≡ spec.of_lowest rules.has_slices rules.crosses_slices false round.now }
-{
-    for k in 0..round.len() {
-        if several_slices(&layouts[k]) {
-            return in_pps(&round[k], pps_loop_filter_across_slices_enabled_flag) != 0;
-        }
-    }
-    false
-}
 
 /// The same number in fewer bits.
 fn narrowed(qp: i64) -> i32

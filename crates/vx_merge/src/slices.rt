@@ -1,24 +1,19 @@
 //! The rules on slices.
-ghost use Rattle.std.specs.Prelude.{◌≡◌, ◌<◌, ◌≤◌, ◌∷◌, [], IsTrue, Some, cond, length, flat_map, slice_get, option_to_list};
+ghost use Rattle.std.specs.Prelude.{◌≡◌, ◌<◌, ◌≤◌, ◌∷◌, [], Some, cond, length, flat_map, slice_get, option_to_list};
 ghost use Rattle.std.specs.Bool.{OnTrue, OnFalse};
 ghost use Rattle.std.specs.List.{AllByRecursion};
 ghost use Rattle.vx_fit.specs.Lowest.{IsLowestAnswer};
 ghost use Rattle.vx_merge.specs.Collocated as words;
-ghost use Rattle.vx_merge.specs.Regions as regions;
-ghost use Rattle.vx_merge.specs.Rounds.{SomeUnlike, SomeUnlikeFirst, UnlikeLowest, picture_at};
+ghost use Rattle.vx_merge.specs.Rounds.{SomeUnlike, SomeUnlikeFirst};
 ghost use Rattle.vx_merge.specs.Rules as rules;
 ghost use Rattle.vx_merge.specs.inner.Found.{Finds, piece_at};
 
 use crate::collocated::{Collocated, collocated_of, may_name, names_one};
 use crate::told::of_source;
 use vx_bits::Refusal;
-use vx_bits::rules::{COLLOCATED, FILTER_FLAGS, OUTPUT_OF_PRIOR};
-use vx_fields::pps::{
-    pps_loop_filter_across_slices_enabled_flag, pps_loop_filter_across_tiles_enabled_flag,
-};
+use vx_bits::rules::{COLLOCATED, OUTPUT_OF_PRIOR};
 use vx_fields::sh::sh_no_output_of_prior_pics_flag;
-use vx_layout::Numbers;
-use vx_pic::{Picture, several_slices, several_tiles};
+use vx_pic::Picture;
 use vx_sh::SliceHeader;
 
 // ---- output of pictures before
@@ -89,147 +84,6 @@ pub(crate) fn output_of_prior(round: &[Picture<'_>]) -> Option<Refusal>
     ensures { Finds (length round.now) (rules.output_of_prior round.now ∷ []) result }
 {
     of_source(OUTPUT_OF_PRIOR, lowest_other_output(round))
-}
-
-// ---- filters across borders
-
-/// Whether in-loop filters cross the borders of tiles.
-pub(crate) fn crosses_tiles(picture: &Picture<'_>) -> bool
-    ensures { result ≡ rules.crosses_tiles picture.now }
-{
-    picture
-        .pps()
-        .scope()
-        .latest(pps_loop_filter_across_tiles_enabled_flag)
-        != 0
-}
-
-/// Whether they cross the borders of slices.
-pub(crate) fn crosses_slices(picture: &Picture<'_>) -> bool
-    ensures { result ≡ rules.crosses_slices picture.now }
-{
-    picture
-        .pps()
-        .scope()
-        .latest(pps_loop_filter_across_slices_enabled_flag)
-        != 0
-}
-
-/// Whether a source has several tiles.
-fn has_tiles(_round: &[Picture<'_>], layouts: &[Numbers], k: usize) -> bool
-    requires layouts { layouts.now ≡ regions.layouts_in _round.now }
-    requires k { k < length _round.now }
-    ensures { result ≡ rules.has_tiles (picture_at _round.now k) }
-{
-    several_tiles(&layouts[k])
-}
-
-/// The lowest source with several tiles.
-pub(crate) fn lowest_with_tiles(round: &[Picture<'_>], layouts: &[Numbers]) -> Option<u16>
-    requires few { length round.now ≤ 64 }
-    requires layouts { layouts.now ≡ regions.layouts_in round.now }
-    ensures { IsLowestAnswer (length round.now) (λ i. IsTrue (rules.has_tiles (picture_at round.now i))) result }
-{
-    for k in 0..round.len() {
-        if has_tiles(round, layouts, k) {
-            return Some(k as u16);
-        }
-    }
-    None
-}
-
-/// Whether a source has several tiles, and filters cross their borders otherwise than in the lowest source with several.
-fn crosses_tiles_otherwise(
-    round: &[Picture<'_>],
-    layouts: &[Numbers],
-    lowest: Option<u16>,
-    k: usize,
-) -> bool
-    requires layouts { layouts.now ≡ regions.layouts_in round.now }
-    requires k { k < length round.now }
-    requires lowest { IsLowestAnswer (length round.now) (λ i. IsTrue (rules.has_tiles (picture_at round.now i))) lowest }
-    ensures unlike { OnTrue result (UnlikeLowest rules.has_tiles rules.crosses_tiles round.now k) }
-    ensures alike { OnFalse result (¬ UnlikeLowest rules.has_tiles rules.crosses_tiles round.now k) }
-{
-    let Some(j) = lowest else {
-        return false;
-    };
-    if !has_tiles(round, layouts, k) {
-        return false;
-    }
-    crosses_tiles(&round[k]) != crosses_tiles(&round[usize::from(j)])
-}
-
-/// Whether a source has several slices.
-fn has_slices(_round: &[Picture<'_>], layouts: &[Numbers], k: usize) -> bool
-    requires layouts { layouts.now ≡ regions.layouts_in _round.now }
-    requires k { k < length _round.now }
-    ensures { result ≡ rules.has_slices (picture_at _round.now k) }
-{
-    several_slices(&layouts[k])
-}
-
-/// The lowest source with several slices.
-pub(crate) fn lowest_with_slices(round: &[Picture<'_>], layouts: &[Numbers]) -> Option<u16>
-    requires few { length round.now ≤ 64 }
-    requires layouts { layouts.now ≡ regions.layouts_in round.now }
-    ensures { IsLowestAnswer (length round.now) (λ i. IsTrue (rules.has_slices (picture_at round.now i))) result }
-{
-    for k in 0..round.len() {
-        if has_slices(round, layouts, k) {
-            return Some(k as u16);
-        }
-    }
-    None
-}
-
-/// Whether a source has several slices, and filters cross their borders otherwise than in the lowest source with several.
-fn crosses_slices_otherwise(
-    round: &[Picture<'_>],
-    layouts: &[Numbers],
-    lowest: Option<u16>,
-    k: usize,
-) -> bool
-    requires layouts { layouts.now ≡ regions.layouts_in round.now }
-    requires k { k < length round.now }
-    requires lowest { IsLowestAnswer (length round.now) (λ i. IsTrue (rules.has_slices (picture_at round.now i))) lowest }
-    ensures unlike { OnTrue result (UnlikeLowest rules.has_slices rules.crosses_slices round.now k) }
-    ensures alike { OnFalse result (¬ UnlikeLowest rules.has_slices rules.crosses_slices round.now k) }
-{
-    let Some(j) = lowest else {
-        return false;
-    };
-    if !has_slices(round, layouts, k) {
-        return false;
-    }
-    crosses_slices(&round[k]) != crosses_slices(&round[usize::from(j)])
-}
-
-/// The lowest source in which filters cross borders otherwise.
-fn lowest_crossed_otherwise(round: &[Picture<'_>], layouts: &[Numbers]) -> Option<u16>
-    requires few { length round.now ≤ 64 }
-    requires layouts { layouts.now ≡ regions.layouts_in round.now }
-    ensures { IsLowestAnswer (length round.now) (rules.filter_flags round.now).breaks result }
-{
-    let tiles = lowest_with_tiles(round, layouts);
-    let slices = lowest_with_slices(round, layouts);
-    for k in 0..round.len() {
-        if crosses_tiles_otherwise(round, layouts, tiles, k)
-            || crosses_slices_otherwise(round, layouts, slices, k)
-        {
-            return Some(k as u16);
-        }
-    }
-    None
-}
-
-/// Whether filters cross borders in one source otherwise than in another.
-pub(crate) fn filter_flags(round: &[Picture<'_>], layouts: &[Numbers]) -> Option<Refusal>
-    requires few { length round.now ≤ 64 }
-    requires layouts { layouts.now ≡ regions.layouts_in round.now }
-    ensures { Finds (length round.now) (rules.filter_flags round.now ∷ []) result }
-{
-    of_source(FILTER_FLAGS, lowest_crossed_otherwise(round, layouts))
 }
 
 // ---- collocated pictures

@@ -1,19 +1,22 @@
 //! The verdict on a round.
 ghost use Rattle.std.specs.Prelude.{◌≡◌, ◌<◌, ◌≤◌, ◌∷◌, [], All, length, None, IfOk};
-ghost use Rattle.std.specs.Bool.{OnTrue};
 ghost use Rattle.vx_write.specs.InForce.{AreInForce};
 ghost use Rattle.vx_merge.specs.Merging.{AreCorners};
 ghost use Rattle.vx_merge.specs.Regions as regions;
 ghost use Rattle.vx_merge.specs.Rules as rules;
 ghost use Rattle.vx_merge.specs.inner.Found.{Finds};
-ghost use Rattle.vx_merge.specs.inner.Settled.{HavePassed};
+ghost use Rattle.vx_merge.specs.inner.Gathered.{AreGathered};
+ghost use Rattle.vx_merge.specs.inner.Settled.{AreLayoutsFor, HavePassed};
 
+use crate::bodies::RoundBodies;
+use crate::borders::filter_flags;
 use crate::corner::Corner;
 use crate::filters::too_many_filters;
-use crate::frame::{layouts, misfit, placed, tile_lines, too_many_slices};
+use crate::frame::{misfit, placed, tile_lines, too_many_slices};
 use crate::headers::{picture_header, picture_kind, reference_lists, shared_sets};
 use crate::sets::{pps_tools, several_subpictures, sps_tools};
-use crate::slices::{collocated_pictures, filter_flags, output_of_prior};
+use crate::settled::RoundLayouts;
+use crate::slices::{collocated_pictures, output_of_prior};
 use std::alloc::{AllocError, Global};
 use vx_bits::Refusal;
 use vx_layout::Numbers;
@@ -83,7 +86,7 @@ fn verdict_of_new(
     Ok(too_many_slices(round))
 }
 
-/// The verdict by the rules on sets, and on what they tell of slices and tiles. Sets that are known have passed.
+/// The verdict by the rules on sets, and on what they tell of slices and tiles. Sets of which something is kept have passed.
 ///
 /// # Errors
 ///
@@ -92,22 +95,20 @@ fn verdict_of_sets(
     alloc: Global,
     corners: &[Corner],
     round: &[Picture<'_>],
-    known: bool,
+    layouts: &RoundLayouts,
 ) -> Result<Option<Refusal>, AllocError>
     requires corners { AreCorners corners.now }
     requires same { length corners.now ≡ length round.now }
-    requires known { OnTrue known (HavePassed corners.now round.now) }
+    requires layouts { AreLayoutsFor (HavePassed corners.now round.now) round.now layouts.now }
     ensures { IfOk result (Finds (length round.now) (rules.rules_of_sets corners.now round.now)) }
 {
-    if known {
-        return Ok(too_many_slices(round));
+    match layouts {
+        RoundLayouts::Kept => Ok(too_many_slices(round)),
+        RoundLayouts::New(layouts) => verdict_of_new(alloc, corners, round, layouts.as_slice()),
     }
-    let made = layouts(alloc, round)?;
-    let found = verdict_of_new(alloc, corners, round, made.as_slice())?;
-    Ok(found)
 }
 
-/// The verdict by the rule on PPSs. Those that are known have passed.
+/// The verdict by the rule on PPSs. Those of which something is kept have passed.
 ///
 /// # Errors
 ///
@@ -115,37 +116,28 @@ fn verdict_of_sets(
 fn verdict_of_pps(
     alloc: Global,
     round: &[Picture<'_>],
-    known: bool,
+    layouts: &RoundLayouts,
 ) -> Result<Option<Refusal>, AllocError>
     requires count { (0 < length round.now) × (length round.now ≤ 64) }
-    requires known { OnTrue known (Finds (length round.now) (rules.pps_tools round.now ∷ []) None) }
+    requires layouts { AreLayoutsFor (Finds (length round.now) (rules.pps_tools round.now ∷ []) None) round.now layouts.now }
     ensures { IfOk result (Finds (length round.now) (rules.pps_tools round.now ∷ [])) }
 {
-    if known {
-        return Ok(None);
+    match layouts {
+        RoundLayouts::Kept => Ok(None),
+        RoundLayouts::New(_) => pps_tools(alloc, round),
     }
-    pps_tools(alloc, round)
 }
 
-/// The verdict by the rule on loop filters. Sets that are known have passed.
-///
-/// # Errors
-///
-/// Want of memory.
-fn verdict_of_flags(
-    alloc: Global,
-    round: &[Picture<'_>],
-    known: bool,
-) -> Result<Option<Refusal>, AllocError>
+/// The verdict by the rule on loop filters. Sets of which something is kept have passed.
+fn verdict_of_flags(round: &[Picture<'_>], layouts: &RoundLayouts) -> Option<Refusal>
     requires count { (0 < length round.now) × (length round.now ≤ 64) }
-    requires known { OnTrue known (Finds (length round.now) (rules.filter_flags round.now ∷ []) None) }
-    ensures { IfOk result (Finds (length round.now) (rules.filter_flags round.now ∷ [])) }
+    requires layouts { AreLayoutsFor (Finds (length round.now) (rules.filter_flags round.now ∷ []) None) round.now layouts.now }
+    ensures { Finds (length round.now) (rules.filter_flags round.now ∷ []) result }
 {
-    if known {
-        return Ok(None);
+    match layouts {
+        RoundLayouts::Kept => None,
+        RoundLayouts::New(layouts) => filter_flags(round, layouts.as_slice()),
     }
-    let made = layouts(alloc, round)?;
-    Ok(filter_flags(round, made.as_slice()))
 }
 
 /// The verdict by the rules on pictures.
@@ -156,58 +148,55 @@ fn verdict_of_flags(
 fn verdict_of_pictures(
     alloc: Global,
     round: &[Picture<'_>],
-    known: bool,
+    gathered: &RoundBodies<'_>,
+    layouts: &RoundLayouts,
 ) -> Result<Option<Refusal>, AllocError>
     requires count { (0 < length round.now) × (length round.now ≤ 64) }
-    requires known { OnTrue known (Finds (length round.now) (rules.pps_tools round.now ∷ []) None) }
+    requires gathered { AreGathered round.now gathered.now }
+    requires layouts { AreLayoutsFor (Finds (length round.now) (rules.pps_tools round.now ∷ []) None) round.now layouts.now }
     ensures { IfOk result (Finds (length round.now) (rules.rules_of_pictures round.now)) }
 {
     if let Some(refusal) = picture_kind(round) {
         return Ok(Some(refusal));
     }
-    let of_pps = verdict_of_pps(alloc, round, known)?;
+    let of_pps = verdict_of_pps(alloc, round, layouts)?;
     if let Some(refusal) = of_pps {
         return Ok(Some(refusal));
     }
-    let of_header = picture_header(alloc, round)?;
+    let of_header = picture_header(alloc, round, gathered)?;
     if let Some(refusal) = of_header {
         return Ok(Some(refusal));
     }
-    if let Some(refusal) = shared_sets(round) {
+    if let Some(refusal) = shared_sets(round, gathered) {
         return Ok(Some(refusal));
     }
     Ok(reference_lists(round))
 }
 
 /// The verdict by the rules on slices.
-///
-/// # Errors
-///
-/// Want of memory.
 fn verdict_of_slices(
-    alloc: Global,
     round: &[Picture<'_>],
-    known: bool,
-) -> Result<Option<Refusal>, AllocError>
+    gathered: &RoundBodies<'_>,
+    layouts: &RoundLayouts,
+) -> Option<Refusal>
     requires count { (0 < length round.now) × (length round.now ≤ 64) }
-    requires known { OnTrue known (Finds (length round.now) (rules.filter_flags round.now ∷ []) None) }
-    ensures { IfOk result (Finds (length round.now) (rules.rules_of_slices round.now)) }
+    requires gathered { AreGathered round.now gathered.now }
+    requires layouts { AreLayoutsFor (Finds (length round.now) (rules.filter_flags round.now ∷ []) None) round.now layouts.now }
+    ensures { Finds (length round.now) (rules.rules_of_slices round.now) result }
 {
     if let Some(refusal) = output_of_prior(round) {
-        return Ok(Some(refusal));
+        return Some(refusal);
     }
-    let of_filters = too_many_filters(alloc, round)?;
-    if let Some(refusal) = of_filters {
-        return Ok(Some(refusal));
+    if let Some(refusal) = too_many_filters(round, &gathered.filters) {
+        return Some(refusal);
     }
-    let of_flags = verdict_of_flags(alloc, round, known)?;
-    if let Some(refusal) = of_flags {
-        return Ok(Some(refusal));
+    if let Some(refusal) = verdict_of_flags(round, layouts) {
+        return Some(refusal);
     }
-    Ok(collocated_pictures(round))
+    collocated_pictures(round)
 }
 
-/// The verdict on a round. Sets that are known have passed.
+/// The verdict on a round. Sets of which something is kept have passed.
 ///
 /// # Errors
 ///
@@ -216,21 +205,22 @@ pub(crate) fn verdict(
     alloc: Global,
     corners: &[Corner],
     round: &[Picture<'_>],
-    known: bool,
+    gathered: &RoundBodies<'_>,
+    layouts: &RoundLayouts,
 ) -> Result<Option<Refusal>, AllocError>
     requires corners { AreCorners corners.now }
     requires same { length corners.now ≡ length round.now }
-    requires known { OnTrue known (HavePassed corners.now round.now) }
+    requires gathered { AreGathered round.now gathered.now }
+    requires layouts { AreLayoutsFor (HavePassed corners.now round.now) round.now layouts.now }
     ensures { IfOk result (Finds (length round.now) (rules.rules_of corners.now round.now)) }
 {
-    let of_sets = verdict_of_sets(alloc, corners, round, known)?;
+    let of_sets = verdict_of_sets(alloc, corners, round, layouts)?;
     if let Some(refusal) = of_sets {
         return Ok(Some(refusal));
     }
-    let of_pictures = verdict_of_pictures(alloc, round, known)?;
+    let of_pictures = verdict_of_pictures(alloc, round, gathered, layouts)?;
     if let Some(refusal) = of_pictures {
         return Ok(Some(refusal));
     }
-    let of_slices = verdict_of_slices(alloc, round, known)?;
-    Ok(of_slices)
+    Ok(verdict_of_slices(round, gathered, layouts))
 }

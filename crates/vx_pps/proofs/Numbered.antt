@@ -1,30 +1,22 @@
 -- The kept items of a set, absent ones among them, tell the numbers of its kept fields.
-use Rattle.std.proofs.Common.{◌≡◌, inl, inr, ℕ, ℤ, pos, negsuc, ◌==◌, ◌&&◌, ◌||◌, Bool, true, false, IsTrue, List, [], ◌∷◌, ◌++◌, drop, map, slice_index, refl, ap, sym, subst, ◌∙◌}
-use Rattle.std.proofs.Math.Bool.{and-false}
-use Rattle.std.proofs.lemmas.Bool.{cases_Bool, eqb-true, or_cases}
+use Rattle.std.proofs.Common.{◌≡◌, inl, inr, ℕ, ℤ, pos, negsuc, ◌==◌, ◌||◌, Bool, true, IsTrue, List, [], ◌∷◌, ◌++◌, drop, map, slice_index, refl, ap, sym, subst, ◌∙◌}
+use Rattle.std.proofs.lemmas.Bool.{eqb-true, or_cases}
 use Rattle.std.proofs.lemmas.List.{append-nil}
 use Rattle.std.proofs.lemmas.List.Elements.{filter-append}
 use Rattle.vx_bits.specs.declared.list.Item.{Item}
 use Rattle.vx_fields.specs.declared.pps.TheConstants as pps
-use Rattle.vx_table.specs.declared.rows.Coding.{Coding}
-use Rattle.vx_table.specs.declared.rows.Coding.TheVariants.{Fixed, Golomb, SignedGolomb, Zeros, OneAndZeros, Trailing, Absent, Refused}
-use Rattle.vx_table.specs.declared.rows.Cell.{Cell}
 use Rattle.vx_table.specs.Depends.{has, set_of}
-use Rattle.vx_table.specs.EachField.{EachField}
-use Rattle.vx_table.specs.Forms.{Form, has_value}
-use Rattle.vx_table.specs.Kept.{kept_along, kept_item, stands_for_field}
+use Rattle.vx_table.specs.Kept.{kept_along}
 use Rattle.vx_table.specs.Loaded.{number}
 use Rattle.vx_table.specs.Parts.{Section, sections_form}
-use Rattle.vx_table.specs.Rewritten.{FillsNone}
 use Rattle.vx_table.specs.Scope.{fresh, natural}
-use Rattle.vx_table.specs.Shown.{KeepsShown, shown_items}
-use Rattle.vx_table.specs.Spelling.{item_of, items_along}
-use Rattle.vx_table.specs.Values.{Follows, to_end, through}
-use Rattle.vx_table.proofs.Keeping.{sections_fill_none, shown_of_shown}
+use Rattle.vx_table.specs.Shown.{shown_items}
+use Rattle.vx_table.specs.Spelling.{items_along}
+use Rattle.vx_table.specs.Values.{Follows}
+use Rattle.vx_table.proofs.Keeping.{kept_are_shown, sections_fill_none, shown_of_shown}
 use Rattle.vx_table.proofs.Agreeing.{inside_itself}
 use Rattle.vx_table.proofs.Loading.{number_of_shown}
-use Rattle.vx_table.proofs.Shown.{hidden_here, shown_here}
-use Rattle.vx_table.proofs.Starred.{not_kept, structure_keeps_only}
+use Rattle.vx_table.proofs.Starred.{structure_keeps_only}
 use Rattle.vx_pps.specs.declared.partition.Partition.{Partition}
 use Rattle.vx_pps.specs.Pps.{front, kept_of}
 use Rattle.vx_pps.specs.Sets.{GiveSame, KeptTellsNumbers, kept}
@@ -36,44 +28,9 @@ use Rattle.vx_pps.proofs.Framing.{at_dbf, at_end, at_info, at_offsets, dbf_keeps
 use Rattle.vx_pps.proofs.Keeping.{kept_put}
 use Rattle.vx_pps.proofs.Testing.{IsRun, before_dbf, dbf_flag, dbf_offsets, early_aside, early_fields, early_run, end, end_aside, end_fields, end_run, from_info, front_aside, front_fields, front_run, header_info, info_flags, offsets_aside, offsets_fields, offsets_run}
 
--- ---- kept items are those of shown fields, where no kept row stands for an absent field
-
-stands : (coding : Coding ℕ) → stands_for_field coding ≡ false → has_value coding ≡ false
-unfolding stands_for_field has_value
-stands (Fixed n) none = none
-stands Golomb none = none
-stands SignedGolomb none = none
-stands Zeros none = refl
-stands OneAndZeros none = refl
-stands Trailing none = refl
-stands Absent none = refl
-stands Refused none = refl
-
-is_item : (cell : Cell ℕ) (v : ℤ) → (IsTrue (stands_for_field cell.coding) → cell.kept ≡ true) → FillsNone cell → kept_item cell v ≡ item_of cell v
-unfolding item_of
-is_item cell v keeps fills = elim (cases_Bool (stands_for_field cell.coding)) [
-  | inl is ↦
-      let kept = keeps is in
-      let both : (cell.kept && stands_for_field cell.coding) ≡ true = rw (kept, is) refl in
-      rw (both, fills both) refl
-  | inr none ↦ rw (none, and-false cell.kept, stands cell.coding none) refl
-]
-
-are_shown : (names : List ℕ) {f : Form (List ℕ)} {w : List ℤ} {a : List ℕ} → KeepsShown names f → EachField FillsNone f → Follows f w a → kept_along f w ≡ shown_items names (items_along f w)
-are_shown names keeps fills to_end = refl
-are_shown names keeps fills (through {cell} {goes} {v} {w} value on) =
-    let more = are_shown names (keeps.1 v) (fills.1 v) on in
-    elim (cases_Bool (has names cell.field)) [
-      | inl is ↦
-          ap (λ x. x ++ kept_along (goes v) w) (is_item cell v (λ h. keeps.0 h ∙ is) fills.0) ∙ ap (λ x. item_of cell v ++ x) more
-          ∙ sym (shown_here names cell v (items_along (goes v) w) is)
-      | inr is_not ↦
-          ap (λ x. x ++ kept_along (goes v) w) (not_kept cell v (λ h. keeps.0 h ∙ is_not)) ∙ more ∙ sym (hidden_here names cell v (items_along (goes v) w) is_not)
-    ]
-
 run_shows : (fields : List ℕ) (group : List Section) (s : List ℕ) {v : List ℤ} {a : List ℕ} → IsRun fields group → Follows (sections_form group s) v a
     → kept_along (sections_form group s) v ≡ shown_items (set_of fields) (items_along (sections_form group s) v)
-run_shows fields group s run on = are_shown (set_of fields) ((structure_keeps_only [] fields group run.1).keeps s) (sections_fill_none group s run.2) on
+run_shows fields group s run on = kept_are_shown (set_of fields) ((structure_keeps_only [] fields group run.1).keeps s) (sections_fill_none group s run.2) on
 
 -- ---- what a set keeps, by its items alone
 

@@ -1,5 +1,5 @@
 -- A slice header that is sent: rewritten and written in one walk.
-use Rattle.std.proofs.Common.{◌≡◌, ℕ, ℤ, ◌+◌, ◌-◌, ◌%◌, Bool, false, List, [], ◌++◌, length, take, drop, Result, Ok, Err, refl, ap, sym, subst, ◌∙◌, arith}
+use Rattle.std.proofs.Common.{◌≡◌, ℕ, ◌+◌, ◌-◌, ◌%◌, Bool, false, List, [], ◌++◌, length, take, drop, Result, Ok, Err, refl, ap, sym, subst, ◌∙◌}
 use Rattle.std.proofs.lemmas.List.{append-nil}
 use Rattle.vx_bits.specs.Codes.{bits_of}
 use Rattle.vx_bits.specs.declared.list.Item.{Item}
@@ -18,7 +18,7 @@ use Rattle.vx_table.proofs.Sending.{sends_rewritten}
 use Rattle.vx_table.proofs.Stopped.{last_byte}
 use Rattle.vx_rpl.specs.declared.entry.RplTable.{RplTable}
 use Rattle.vx_rpl.specs.HeaderLists.{lists_of}
-use Rattle.vx_ph.specs.InForce.{in_force, structures}
+use Rattle.vx_ph.specs.InForce.{structures}
 use Rattle.vx_sh.specs.declared.header.SliceHeader.{SliceHeader}
 use Rattle.vx_sh.specs.declared.numbers.SliceNumbers.{SliceNumbers}
 use Rattle.vx_sh.specs.declared.shape.ShShape.{ShShape}

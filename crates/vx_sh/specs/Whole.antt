@@ -80,8 +80,8 @@ pub record At : Type 0 where
   pub ids : List ℕ
   pub layout : Numbers
 
-abbrev pub at_of : Context → At
-at_of n = record { table = n.table.now; sets = n.sets.now; slice = n.slice.now; ids = n.ids.now; layout = n.layout.now }
+abbrev pub at_of : Context → List ℕ → At
+at_of n slice = record { table = n.table.now; sets = n.sets.now; slice = slice; ids = n.ids.now; layout = n.layout.now }
 
 -- slice_header( ), with its alignment
 unfoldable pub slice_form : At → Form (List ℕ)

@@ -6,13 +6,11 @@ use vx_layout::Layout;
 use vx_rpl::RplTable;
 use vx_table::Scope;
 
-/// What a slice header reads of the sets, the picture header and the place of the slice.
+/// What a slice header reads beside its scope, which has the numbers of the sets and of the picture header in force.
 #[derive(Clone, Copy)]
 pub(crate) struct Context<'a> {
     /// The numbers of the SPS and the PPS, at which a picture header inside is read.
     pub sets: &'a Scope,
-    /// These, with those of the picture header in force, and the type of the NAL unit.
-    pub slice: &'a Scope,
     /// The SPS's structures of reference picture lists.
     pub table: &'a RplTable,
     /// The layout of the picture.

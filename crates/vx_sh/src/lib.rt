@@ -21,7 +21,7 @@ pub use laws::{
     slice_scopes_agree, slices_agree_on_kept, slices_depend, slices_go_again, slices_keep,
     spelling_is_read, spelling_is_short,
 };
-pub use numbers::{SliceNumbers, read_sh, read_sh_fields, write_sh};
+pub use numbers::{SliceNumbers, read_sh, read_sh_at, read_sh_fields, write_sh};
 pub use reshape::reshape_sh;
 pub use send::SliceSender;
 pub use shape::ShShape;

@@ -2,6 +2,7 @@
 ghost use Rattle.std.specs.Prelude.{◌≡◌, ◌^◌, ◌≤◌, length, IfOk};
 ghost use Rattle.vx_bits.specs.Place.{Place};
 ghost use Rattle.vx_table.specs.Reading.{Reads, at_front};
+ghost use Rattle.vx_ph.specs.InForce as ph;
 ghost use Rattle.vx_sh.specs.Whole.{slice_form};
 ghost use Rattle.vx_sh.specs.Value.{ReadsSlice, IsSliceOf, IsSpelling};
 ghost use Rattle.vx_sh.specs.InForce as scopes;
@@ -39,6 +40,21 @@ pub struct SliceNumbers<'a> {
     pub ids: &'a IdList,
 }
 
+/// Makes the scope of the sets that of a slice.
+fn add_slice(nal_type: u8, sps: &Sps, pps: &Pps, header: &PictureHeader, scope: &mut Scope)
+    ensures { scope.new ≡ scopes.slice_scope nal_type sps.now pps.now header.now scope.old }
+{
+    let mut own = Scope::new();
+    own.load(&header.fields);
+    scope.take_over(&own, ph_gdr_or_irap_pic_flag);
+    scope.set(ENTRIES_0, header.lists.first.len() as u32);
+    scope.set(ENTRIES_1, header.lists.second.len() as u32);
+    scope.set(NAL_TYPE, u32::from(nal_type));
+    scope.set(EXTRA_SH_BITS, sps.extra_sh_bits());
+    scope.set(DEFAULT_ACTIVE_0, pps.default_active_0());
+    scope.set(DEFAULT_ACTIVE_1, pps.default_active_1());
+}
+
 /// The scope of a slice, from that of the sets.
 pub(crate) fn slice_scope(
     nal_type: u8,
@@ -49,16 +65,8 @@ pub(crate) fn slice_scope(
 ) -> Scope
     ensures { result ≡ scopes.slice_scope nal_type sps.now pps.now header.now sets.now }
 {
-    let mut own = Scope::new();
-    own.load(&header.fields);
     let mut scope = *sets;
-    scope.take_over(&own, ph_gdr_or_irap_pic_flag);
-    scope.set(ENTRIES_0, header.lists.first.len() as u32);
-    scope.set(ENTRIES_1, header.lists.second.len() as u32);
-    scope.set(NAL_TYPE, u32::from(nal_type));
-    scope.set(EXTRA_SH_BITS, sps.extra_sh_bits());
-    scope.set(DEFAULT_ACTIVE_0, pps.default_active_0());
-    scope.set(DEFAULT_ACTIVE_1, pps.default_active_1());
+    add_slice(nal_type, sps, pps, header, &mut scope);
     scope
 }
 
@@ -79,17 +87,39 @@ pub fn read_sh(
     requires one_each { length numbers.now.ids.now ≡ length numbers.now.layout.now.subpics }
     ensures { ReadsSlice (in_force_at numbers.now) rbsp.now result }
 {
+    let sets = in_force(numbers.sps, numbers.pps);
+    let read = read_sh_at(alloc, rbsp, numbers, &sets)?;
+    Ok(read)
+}
+
+/// Reads a slice header as [`read_sh`], at the scope of the sets in force ([`vx_ph::in_force`]), which is made once for all slices
+/// under them.
+///
+/// # Errors
+///
+/// As [`read_sh`].
+pub fn read_sh_at(
+    alloc: Global,
+    rbsp: &[u8],
+    numbers: &SliceNumbers<'_>,
+    sets: &Scope,
+) -> Result<(SliceHeader, usize), ReadError>
+    requires size { length rbsp.now ≤ 2 ^ 23 }
+    requires few { length numbers.now.ids.now ≤ 1000 }
+    requires one_each { length numbers.now.ids.now ≡ length numbers.now.layout.now.subpics }
+    requires sets { sets.now ≡ ph.in_force numbers.now.sps.now numbers.now.pps.now }
+    ensures { ReadsSlice (in_force_at numbers.now) rbsp.now result }
+{
     let (sps, pps) = (numbers.sps, numbers.pps);
-    let sets = in_force(sps, pps);
-    let slice = slice_scope(numbers.nal_type, sps, pps, numbers.header, &sets);
     let context = Context {
-        sets: &sets,
-        slice: &slice,
+        sets,
         table: sps.table(),
         layout: numbers.layout,
         ids: numbers.ids,
     };
-    let read = read_slice_at(alloc, rbsp, &context)?;
+    let mut scope = *sets;
+    add_slice(numbers.nal_type, sps, pps, numbers.header, &mut scope);
+    let read = read_slice_at(alloc, rbsp, &context, &mut scope)?;
     Ok(read)
 }
 
@@ -111,15 +141,14 @@ pub fn read_sh_fields(
 {
     let (sps, pps) = (numbers.sps, numbers.pps);
     let sets = in_force(sps, pps);
-    let slice = slice_scope(numbers.nal_type, sps, pps, numbers.header, &sets);
+    let mut slice = slice_scope(numbers.nal_type, sps, pps, numbers.header, &sets);
     let context = Context {
         sets: &sets,
-        slice: &slice,
         table: sps.table(),
         layout: numbers.layout,
         ids: numbers.ids,
     };
-    read_fields_at(rbsp, &context, into)?;
+    read_fields_at(rbsp, &context, &mut slice, into)?;
     Ok(())
 }
 
@@ -140,14 +169,13 @@ pub fn write_sh(
 {
     let (sps, pps) = (numbers.sps, numbers.pps);
     let sets = in_force(sps, pps);
-    let slice = slice_scope(numbers.nal_type, sps, pps, numbers.header, &sets);
+    let mut slice = slice_scope(numbers.nal_type, sps, pps, numbers.header, &sets);
     let context = Context {
         sets: &sets,
-        slice: &slice,
         table: sps.table(),
         layout: numbers.layout,
         ids: numbers.ids,
     };
-    let bytes = write_slice_at(alloc, header, &numbers.header.fields, &context)?;
+    let bytes = write_slice_at(alloc, header, &numbers.header.fields, &context, &mut slice)?;
     Ok(bytes)
 }

@@ -2,6 +2,7 @@
 ghost use Rattle.std.specs.Prelude.{◌≡◌, ◌^◌, ◌≤◌, [], length};
 ghost use Rattle.vx_bits.specs.Place.{Place};
 ghost use Rattle.vx_table.specs.Reading.{Reads, at_front};
+ghost use Rattle.vx_table.specs.Walks.{leaving};
 ghost use Rattle.vx_sh.specs.Whole.{header_inside, at_of, slice_form};
 ghost use Rattle.vx_sh.specs.Value.{ReadsSlice};
 ghost use Rattle.vx_sh.specs.inner.Reading.{IsPassed, ReadsFields};
@@ -27,30 +28,34 @@ fn pass_inside(n: &Context<'_>, scope: &Scope, bits: &mut BitReader<'_>) -> Resu
     }
 }
 
-/// Reads the fields, and gives the scope behind them.
+/// Reads the fields; the scope is then the one behind them.
 fn read_fields(
     n: &Context<'_>,
+    scope: &mut Scope,
     bits: &mut BitReader<'_>,
     into: &mut Fields,
-) -> Result<Scope, ReadError>
+) -> Result<(), ReadError>
     requires { into.old ≡ [] }
-    ensures { ReadsFields (at_of n.now) bits.old result bits.new into.new }
+    ensures { ReadsFields (at_of n.now scope.old) bits.old (leaving scope.new result) bits.new into.new }
 {
-    let mut scope = *n.slice;
-    code_table(&HEADER_INSIDE, &mut scope, bits, into)?;
-    pass_inside(n, &scope, bits)?;
-    code_behind(n, &mut scope, bits, into)?;
-    Ok(scope)
+    code_table(&HEADER_INSIDE, scope, bits, into)?;
+    pass_inside(n, scope, bits)?;
+    code_behind(n, scope, bits, into)?;
+    Ok(())
 }
 
 /// Reads all fields, those of the picture header inside too.
-fn read_all(n: &Context<'_>, bits: &mut BitReader<'_>, into: &mut Fields) -> Result<(), ReadError>
-    ensures { Reads (slice_form (at_of n.now)) bits.old into.old result bits.new into.new }
+fn read_all(
+    n: &Context<'_>,
+    scope: &mut Scope,
+    bits: &mut BitReader<'_>,
+    into: &mut Fields,
+) -> Result<(), ReadError>
+    ensures { Reads (slice_form (at_of n.now scope.old)) bits.old into.old result bits.new into.new }
 {
-    let mut scope = *n.slice;
-    code_table(&HEADER_INSIDE, &mut scope, bits, into)?;
-    code_inside(n, &scope, bits, into)?;
-    code_behind(n, &mut scope, bits, into)
+    code_table(&HEADER_INSIDE, scope, bits, into)?;
+    code_inside(n, scope, bits, into)?;
+    code_behind(n, scope, bits, into)
 }
 
 /// Reads the fields of the slice header that an RBSP begins with, with those of the picture header that may stand inside, and appends
@@ -62,17 +67,18 @@ fn read_all(n: &Context<'_>, bits: &mut BitReader<'_>, into: &mut Fields) -> Res
 pub(crate) fn read_fields_at(
     rbsp: &[u8],
     n: &Context<'_>,
+    scope: &mut Scope,
     into: &mut Fields,
 ) -> Result<(), ReadError>
     requires { length rbsp.now ≤ 2 ^ 23 }
-    ensures { (new : Place) × Reads (slice_form (at_of n.now)) (at_front rbsp.now) into.old result new into.new }
+    ensures { (new : Place) × Reads (slice_form (at_of n.now scope.old)) (at_front rbsp.now) into.old result new into.new }
 {
     let mut bits = BitReader::new(rbsp);
-    read_all(n, &mut bits, into)
+    read_all(n, scope, &mut bits, into)
 }
 
 /// Reads the slice header that an RBSP begins with, `slice_header()`, clause 7.3.7, and answers how many bytes it takes. The
-/// picture header that may stand inside is passed over.
+/// picture header that may stand inside is passed over. The scope is the slice's, in which the numbers that are read are noted.
 ///
 /// # Errors
 ///
@@ -82,20 +88,21 @@ pub(crate) fn read_slice_at(
     alloc: Global,
     rbsp: &[u8],
     n: &Context<'_>,
+    scope: &mut Scope,
 ) -> Result<(SliceHeader, usize), ReadError>
     requires { length rbsp.now ≤ 2 ^ 23 }
-    ensures { ReadsSlice (at_of n.now) rbsp.now result }
+    ensures { ReadsSlice (at_of n.now scope.old) rbsp.now result }
 {
     let mut bits = BitReader::new(rbsp);
     let mut fields = Fields::new(alloc);
-    let end = read_fields(n, &mut bits, &mut fields)?;
+    read_fields(n, scope, &mut bits, &mut fields)?;
     let lists = resolve_lists(alloc, n.table, n.sets, fields.as_slice())?;
     let size = (bits.at() / 8) as usize;
     let header = SliceHeader {
-        inside: end.latest(sh_picture_header_in_slice_header_flag) != 0,
+        inside: scope.latest(sh_picture_header_in_slice_header_flag) != 0,
         fields,
-        subpic: end.latest(SUBPIC),
-        address: end.latest(sh_slice_address),
+        subpic: scope.latest(SUBPIC),
+        address: scope.latest(sh_slice_address),
         lists,
     };
     Ok((header, size))

@@ -125,12 +125,13 @@ fn put_together(
     stated: &Fields,
     kept: &Fields,
     n: &Context<'_>,
+    slice: &Scope,
     into: &mut Fields,
 ) -> Result<(), SpellError>
     requires { into.old ≡ [] }
-    ensures { Makes (apart_form n.now.table.now n.now.ids.now n.now.layout.now n.now.slice.now) tables.STARRED stated.now kept.now result into.new }
+    ensures { Makes (apart_form n.now.table.now n.now.ids.now n.now.layout.now slice.now) tables.STARRED stated.now kept.now result into.new }
 {
-    let mut scope = *n.slice;
+    let mut scope = *slice;
     let mut rewriter = Rewriter::new(
         set_of(&STARRED),
         Unwritten::new(stated, 0, stated.len()),
@@ -158,7 +159,6 @@ fn reshaped_items(
     let slice = slice_scope(numbers.nal_type, sps, pps, numbers.header, sets);
     let context = Context {
         sets,
-        slice: &slice,
         table: sps.table(),
         layout: numbers.layout,
         ids: numbers.ids,
@@ -166,7 +166,7 @@ fn reshaped_items(
     let kept = others_of(alloc, &source.fields, &set_of(&STARRED))?;
     let stated = stated_items(alloc, numbers, &slice, shape)?;
     let mut items = Fields::new(alloc);
-    match put_together(&stated, &kept, &context, &mut items) {
+    match put_together(&stated, &kept, &context, &slice, &mut items) {
         Ok(()) => Ok(items),
         Err(SpellError::Memory) => Err(AllocError),
         Err(SpellError::NoValue) => unreachable!(),

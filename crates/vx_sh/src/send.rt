@@ -71,7 +71,6 @@ impl<'a> SliceSender<'a> {
     {
         let n = Context {
             sets: &self.sets,
-            slice: &self.slice,
             table: self.numbers.sps.table(),
             layout: self.numbers.layout,
             ids: self.numbers.ids,

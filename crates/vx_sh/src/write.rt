@@ -10,29 +10,30 @@ use crate::header::SliceHeader;
 use crate::tables::HEADER_INSIDE;
 use std::alloc::{AllocError, Global};
 use vx_bits::{BitWriter, Fields};
-use vx_table::{SpellError, Unwritten, code_table};
+use vx_table::{Scope, SpellError, Unwritten, code_table};
 
 /// Writes the fields, with those of the picture header where it stands inside.
 fn write_fields(
     n: &Context<'_>,
+    scope: &mut Scope,
     fields: &Fields,
     inside: &Fields,
     bits: &mut BitWriter,
 ) -> Result<(), SpellError>
-    requires slice { IsSliceOf (at_of n.now) fields.now inside.now }
+    requires slice { IsSliceOf (at_of n.now scope.old) fields.now inside.now }
     requires bits { bits.old ≡ [] }
-    ensures { WritesFields (at_of n.now) fields.now inside.now result bits.new }
+    ensures { WritesFields (at_of n.now scope.old) fields.now inside.now result bits.new }
 {
-    let mut scope = *n.slice;
     let mut own = Unwritten::new(fields, 0, fields.len());
     let mut header = Unwritten::new(inside, 0, inside.len());
-    code_table(&HEADER_INSIDE, &mut scope, bits, &mut own)?;
-    code_inside(n, &scope, bits, &mut header)?;
-    code_behind(n, &mut scope, bits, &mut own)?;
+    code_table(&HEADER_INSIDE, scope, bits, &mut own)?;
+    code_inside(n, scope, bits, &mut header)?;
+    code_behind(n, scope, bits, &mut own)?;
     Ok(())
 }
 
 /// The bytes of a slice header, `slice_header()`, clause 7.3.7, with the picture header of these items where it stands inside.
+/// The scope is the slice's, in which the numbers that are written are noted.
 ///
 /// # Errors
 ///
@@ -42,12 +43,13 @@ pub(crate) fn write_slice_at(
     header: &SliceHeader,
     inside: &Fields,
     n: &Context<'_>,
+    scope: &mut Scope,
 ) -> Result<Vec<u8>, AllocError>
-    requires { IsSliceOf (at_of n.now) header.now.fields inside.now }
-    ensures { IfOk result (λ bytes. IsSpelling (at_of n.now) header.now.fields inside.now bytes.items) }
+    requires { IsSliceOf (at_of n.now scope.old) header.now.fields inside.now }
+    ensures { IfOk result (λ bytes. IsSpelling (at_of n.now scope.old) header.now.fields inside.now bytes.items) }
 {
     let mut bits = BitWriter::new(alloc);
-    match write_fields(n, &header.fields, inside, &mut bits) {
+    match write_fields(n, scope, &header.fields, inside, &mut bits) {
         Ok(()) => Ok(bits.into_bytes()),
         Err(SpellError::Memory) => Err(AllocError),
         Err(SpellError::NoValue) => unreachable!(),

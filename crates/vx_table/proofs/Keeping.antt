@@ -43,7 +43,8 @@ kept_is_item cell v keeps fills = elim (cases_Bool (stands_for_field cell.coding
   | inr none ↦ rw (none, and-false cell.kept, stands cell.coding none) refl
 ]
 
-kept_are_shown : (kept : List ℕ) {f : Form (List ℕ)} {w : List ℤ} {a : List ℕ} → KeepsShown kept f → EachField FillsNone f → Follows f w a → kept_along f w ≡ shown_items kept (items_along f w)
+-- kept items are those of shown fields, where no kept row stands for an absent field
+pub kept_are_shown : (kept : List ℕ) {f : Form (List ℕ)} {w : List ℤ} {a : List ℕ} → KeepsShown kept f → EachField FillsNone f → Follows f w a → kept_along f w ≡ shown_items kept (items_along f w)
 kept_are_shown kept keeps fills to_end = refl
 kept_are_shown kept keeps fills (through {cell} {goes} {v} {w} value on) =
     let more = kept_are_shown kept (keeps.1 v) (fills.1 v) on in

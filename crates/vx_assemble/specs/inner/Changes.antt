@@ -14,6 +14,8 @@ use Rattle.vx_pic.specs.Parts.{slot_of}
 use Rattle.vx_assemble.specs.declared.readers.ReadSlice.{ReadSlice}
 use Rattle.vx_assemble.specs.declared.state.BegunPicture.{BegunPicture}
 use Rattle.vx_assemble.specs.declared.state.CurrentPicture.{CurrentPicture}
+use Rattle.vx_assemble.specs.declared.state.Stage.{Stage}
+use Rattle.vx_assemble.specs.declared.state.Stage.TheVariants as stages
 use Rattle.vx_assemble.specs.declared.state.State.{State}
 use Rattle.vx_assemble.specs.inner.Held.{begun_of, aps_items}
 
@@ -43,11 +45,17 @@ with_end s = record s { ended = true }
 
 -- a header that came in this PH unit, or in none
 abbrev pub with_header : BegunPicture → List ℕ → CurrentPicture → CurrentPicture
-with_header b unit c = record c { begun = Some b; kind = None; bytes = unit; header_end = length unit; slices = [] }
+with_header b unit c = record c { stage = stages.Headed b; bytes = unit; header_end = length unit; slices = [] }
+
+-- the first slice comes, where the header came
+abbrev pub first_comes : Kind → Stage → Stage
+first_comes k stages.Nothing = stages.Nothing
+first_comes k (stages.Headed b) = stages.Going (record { begun = b; kind = k })
+first_comes k (stages.Going g) = stages.Going g
 
 -- before the first slice: what the picture is, its adaptation parameter sets, and the messages gathered for it; no slice came
 abbrev pub with_kind : Kind → List (Option Aps) → List Message → CurrentPicture → CurrentPicture
-with_kind k sets messages c = record c { kind = Some k; slices = []; bodies = sets; messages = messages }
+with_kind k sets messages c = record c { stage = first_comes k c.stage; slices = []; bodies = sets; messages = messages }
 
 -- a slice behind so many bytes
 abbrev pub slot_behind : ℕ → List ℕ → ReadSlice → SliceSlot

@@ -5,6 +5,7 @@ use Rattle.vx_bits.specs.declared.list.Item.{Item}
 use Rattle.vx_fields.specs.declared.aps.TheConstants.{aps_params_type, aps_adaptation_parameter_set_id}
 use Rattle.vx_aps.specs.declared.aps.Aps.{Aps}
 use Rattle.vx_pic.specs.declared.accepted.Accepted.{Accepted}
+use Rattle.vx_pic.specs.declared.kind.Kind.{Kind}
 use Rattle.vx_pic.specs.declared.picture.SliceSlot.{SliceSlot}
 use Rattle.vx_pic.specs.Counted.{previous_of}
 use Rattle.vx_pic.specs.Counts.{previous}
@@ -16,6 +17,8 @@ use Rattle.vx_pic.specs.Rules.{unit_size, size_of}
 use Rattle.vx_assemble.specs.declared.fault.First.{First}
 use Rattle.vx_assemble.specs.declared.state.BegunPicture.{BegunPicture}
 use Rattle.vx_assemble.specs.declared.state.CurrentPicture.{CurrentPicture}
+use Rattle.vx_assemble.specs.declared.state.Stage.{Stage}
+use Rattle.vx_assemble.specs.declared.state.Stage.TheVariants as stages
 use Rattle.vx_assemble.specs.declared.state.State.{State}
 
 -- an assembler, as its callers see it: what it keeps of the units, what it told of the last one, and why it takes no more
@@ -37,8 +40,19 @@ begun_of b unit = record {
   unit = unit;
 }
 
+-- the header, and what the picture is, as far as it came
+abbrev pub header_at : Stage → Option BegunPicture
+header_at stages.Nothing = None
+header_at (stages.Headed b) = Some b
+header_at (stages.Going g) = Some g.begun
+
+abbrev pub kind_at : Stage → Option Kind
+kind_at stages.Nothing = None
+kind_at (stages.Headed b) = None
+kind_at (stages.Going g) = Some g.kind
+
 abbrev pub begun_in : CurrentPicture → Option Begun
-begun_in s = option_map (λ b. begun_of b (header_unit_in s.bytes s.header_end)) s.begun
+begun_in s = option_map (λ b. begun_of b (header_unit_in s.bytes s.header_end)) (header_at s.stage)
 
 -- a slice that is kept by its places in the picture's bytes
 abbrev pub slice_of : List ℕ → SliceSlot → Slice
@@ -50,21 +64,21 @@ slice_of bytes slot = record {
 -- a header, whose slices are to come
 pub record IsHeaded (s : CurrentPicture) (b : Begun) : Type 0 where
   pub begun : begun_in s ≡ Some b
-  pub kind : s.kind ≡ None
+  pub kind : kind_at s.stage ≡ None
   pub slices : s.slices ≡ []
   pub size : length s.bytes ≡ unit_size b.unit
 
 -- a picture, as far as its slices came
 pub record IsGoing (s : CurrentPicture) (p : Picture) : Type 0 where
   pub begun : begun_in s ≡ Some p.begun
-  pub kind : s.kind ≡ Some p.kind
+  pub kind : kind_at s.stage ≡ Some p.kind
   pub slices : map (slice_of s.bytes) s.slices ≡ p.slices
   pub size : length s.bytes ≡ size_of p
   pub bodies : s.bodies ≡ stored_sets p.before
   pub messages : s.messages ≡ messages_of p
 
 abbrev pub Keeps : CurrentPicture → Current → Type 0
-Keeps s nothing = s.begun ≡ None
+Keeps s nothing = s.stage ≡ stages.Nothing
 Keeps s (headed b) = IsHeaded s b
 Keeps s (going p) = IsGoing s p
 

@@ -1,9 +1,9 @@
 -- The picture that is lent.
-use Rattle.std.specs.Prelude.{pos, false, [], map, Option, Some, None}
-use Rattle.vx_pic.specs.declared.kind.Kind.{Kind}
+use Rattle.std.specs.Prelude.{pos, false, [], map, None}
 use Rattle.vx_pic.specs.Parts.{Parts, header_unit_in, slice_in}
-use Rattle.vx_assemble.specs.declared.state.BegunPicture.{BegunPicture}
 use Rattle.vx_assemble.specs.declared.state.CurrentPicture.{CurrentPicture}
+use Rattle.vx_assemble.specs.declared.state.Stage.{Stage}
+use Rattle.vx_assemble.specs.declared.state.Stage.TheVariants as stages
 
 -- what there is of none
 abbrev pub no_parts : Parts
@@ -20,17 +20,17 @@ no_parts = record {
   messages = [];
 }
 
--- of a header and what the picture is
-abbrev pub parts_by : Option BegunPicture → Option Kind → CurrentPicture → Parts
-parts_by None kind c = no_parts
-parts_by (Some b) None c = no_parts
-parts_by (Some b) (Some k) c = record {
-  kind = k;
-  sps = b.sets.sps;
-  pps = b.sets.pps;
-  layout = b.sets.layout;
-  header = b.header;
-  ids = b.sets.ids;
+-- of a picture that came so far
+abbrev pub parts_by : Stage → CurrentPicture → Parts
+parts_by stages.Nothing c = no_parts
+parts_by (stages.Headed b) c = no_parts
+parts_by (stages.Going g) c = record {
+  kind = g.kind;
+  sps = g.begun.sets.sps;
+  pps = g.begun.sets.pps;
+  layout = g.begun.sets.layout;
+  header = g.begun.header;
+  ids = g.begun.sets.ids;
   unit = header_unit_in c.bytes c.header_end;
   slices = map (slice_in c.bytes) c.slices;
   bodies = c.bodies;
@@ -38,4 +38,4 @@ parts_by (Some b) (Some k) c = record {
 }
 
 abbrev pub parts_in : CurrentPicture → Parts
-parts_in c = parts_by c.begun c.kind c
+parts_in c = parts_by c.stage c

@@ -1,5 +1,5 @@
 -- What holds of all that an assembler keeps: it lies in order, within the limits.
-use Rattle.std.specs.Prelude.{◌≡◌, ℕ, ◌≤◌, ◌<◌, List, length, Option, Some, None, true, is_none, false}
+use Rattle.std.specs.Prelude.{◌≡◌, ℕ, ◌≤◌, ◌<◌, List, length, Option, Some, None, true}
 use Rattle.std.specs.List.{AllByRecursion, slice_index_or}
 use Rattle.vx_bits.specs.declared.list.Item.{Item}
 use Rattle.vx_aps.specs.declared.aps.Aps.{Aps}
@@ -19,8 +19,10 @@ use Rattle.vx_assemble.specs.declared.in_force.InForce.{InForce}
 use Rattle.vx_assemble.specs.declared.state.BegunPicture.{BegunPicture}
 use Rattle.vx_assemble.specs.declared.state.CurrentPicture.{CurrentPicture}
 use Rattle.vx_assemble.specs.declared.state.MadeSets.{MadeSets}
+use Rattle.vx_assemble.specs.declared.state.Stage.{Stage}
+use Rattle.vx_assemble.specs.declared.state.Stage.TheVariants as stages
 use Rattle.vx_assemble.specs.declared.state.State.{State}
-use Rattle.vx_assemble.specs.inner.Held.{begun_of, slice_of}
+use Rattle.vx_assemble.specs.inner.Held.{begun_of, slice_of, header_at, kind_at}
 use Rattle.vx_assemble.specs.inner.Takes.{NamesSmall, at_begun}
 
 -- what two sets make up
@@ -33,6 +35,7 @@ pub record AreMade (f : InForce) : Type 0 where
   pub slices : f.slices ≡ length f.layout.slices
   pub few : length f.layout.slices ≤ 1000
   pub few_subpics : length f.layout.subpics ≤ 1000
+  pub scope : f.scope ≡ in_force f.sps f.pps
 
 -- two stored sets, to which a PPS id refers, and what they make up
 pub record AreStored (sps pps : List (Option (List Item))) (m : MadeSets) : Type 0 where
@@ -66,10 +69,10 @@ AreSlots None bytes bodies slots = Unit {0}
 AreSlots (Some b) bytes bodies slots = IsHeader b × AllByRecursion (IsSlot b bytes bodies) slots
 
 -- the slices were read under the header, as those of a picture of this kind
-abbrev pub AreRead : Option BegunPicture → Option Kind → List SliceSlot → Type 0
-AreRead None k slots = Unit {0}
-AreRead (Some b) None slots = Unit {0}
-AreRead (Some b) (Some k) slots = AllByRecursion (λ s. IsReadAt (at_begun k.nal_type b) s.header) slots
+abbrev pub AreRead : Stage → List SliceSlot → Type 0
+AreRead stages.Nothing slots = Unit {0}
+AreRead (stages.Headed b) slots = Unit {0}
+AreRead (stages.Going g) slots = AllByRecursion (λ s. IsReadAt (at_begun g.kind.nal_type g.begun) s.header) slots
 
 -- what a picture is whose first slice came: its type and its TemporalId are those of a NAL unit
 abbrev pub IsOfUnit : Option Kind → Type 0
@@ -83,11 +86,11 @@ pub record AreBodies (sets : List (Option Aps)) : Type 0 where
 
 -- the picture lies in order
 pub record IsOrdered (c : CurrentPicture) : Type 0 where
-  pub kind : IsOfUnit c.kind
+  pub kind : IsOfUnit (kind_at c.stage)
   pub bytes : length c.bytes ≤ picture_limit
   pub header : c.header_end ≤ length c.bytes
-  pub slots : AreSlots c.begun c.bytes c.bodies c.slices
-  pub read : AreRead c.begun c.kind c.slices
+  pub slots : AreSlots (header_at c.stage) c.bytes c.bodies c.slices
+  pub read : AreRead c.stage c.slices
   pub messages : spelled_length c.messages ≤ message_limit
   pub bodies : AreBodies c.bodies
 
@@ -101,13 +104,13 @@ pub record IsInOrder (s : State) : Type 0 where
   pub gathered : s.gathered_len ≤ message_limit
 
 -- all slices of a picture came
-abbrev pub AreAll : Option BegunPicture → List SliceSlot → Type 0
-AreAll None slots = ⊥
-AreAll (Some b) slots = (0 < length slots) × (length slots ≡ length b.sets.layout.slices)
+abbrev pub AreAll : Stage → List SliceSlot → Type 0
+AreAll stages.Nothing slots = ⊥
+AreAll (stages.Headed b) slots = ⊥
+AreAll (stages.Going g) slots = (0 < length slots) × (length slots ≡ length g.begun.sets.layout.slices)
 
 pub record IsComplete (c : CurrentPicture) : Type 0 where
-  pub slices : AreAll c.begun c.slices
-  pub kind : is_none c.kind ≡ false
+  pub slices : AreAll c.stage c.slices
 
 -- what was told of the last unit is so
 pub record IsKept (s : State) (told : Accepted) : Type 0 where

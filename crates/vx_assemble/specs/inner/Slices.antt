@@ -2,7 +2,6 @@
 use Rattle.std.specs.Prelude.{◌≡◌, ℕ, cond, List, [], length, Option, Some, None}
 use Rattle.vx_pic.specs.declared.accepted.Accepted.{Accepted}
 use Rattle.vx_pic.specs.declared.accepted.Accepted.TheVariants as accepted
-use Rattle.vx_pic.specs.declared.kind.Kind.{Kind}
 use Rattle.vx_pic.specs.Readings.{Begun, Reading, first_slice}
 use Rattle.vx_pic.specs.Rules.{unit_size}
 use Rattle.vx_assemble.specs.declared.readers.ReadSlice.{ReadSlice}
@@ -10,6 +9,9 @@ use Rattle.vx_assemble.specs.declared.slices.Opened.{Opened}
 use Rattle.vx_assemble.specs.declared.slices.Whole.{Whole}
 use Rattle.vx_assemble.specs.declared.state.BegunPicture.{BegunPicture}
 use Rattle.vx_assemble.specs.declared.state.CurrentPicture.{CurrentPicture}
+use Rattle.vx_assemble.specs.declared.state.Stage.{Stage}
+use Rattle.vx_assemble.specs.declared.state.Stage.TheVariants as stages
+use Rattle.vx_assemble.specs.declared.state.GoingPicture.{GoingPicture}
 use Rattle.vx_assemble.specs.declared.state.State.{State}
 use Rattle.vx_assemble.specs.inner.Held.{begun_of}
 use Rattle.vx_assemble.specs.inner.Takes.{slice_read_as}
@@ -27,11 +29,16 @@ abbrev pub first_read_as : Begun → List ℕ → Opened → Reading
 first_read_as b unit o = first_slice b o.kind (slice_read_as unit o.read)
 
 -- a slice has joined the picture
-abbrev pub HasJoined : CurrentPicture → ℕ → ReadSlice → Type 0
-HasJoined c size r = (k : BegunPicture) → c.begun ≡ Some k → (kind : Kind) × (c.kind ≡ Some kind) × IsJoined k kind.nal_type c.bodies size r
+pub record HasJoined (c : CurrentPicture) (size : ℕ) (r : ReadSlice) : Type 0 where
+  pub going : GoingPicture
+  pub is : c.stage ≡ stages.Going going
+  pub joined : IsJoined going.begun going.kind.nal_type c.bodies size r
 
-abbrev pub HasJoinedFirst : CurrentPicture → ℕ → Opened → Type 0
-HasJoinedFirst c size o = (k : BegunPicture) → c.begun ≡ Some k → IsJoined k o.kind.nal_type o.bodies size o.read
+-- the first one has, of a picture whose header came
+pub record HasJoinedFirst (c : CurrentPicture) (size : ℕ) (o : Opened) : Type 0 where
+  pub begun : BegunPicture
+  pub is : c.stage ≡ stages.Headed begun
+  pub joined : IsJoined begun o.kind.nal_type o.bodies size o.read
 
 -- with what a picture begins with
 abbrev pub with_first : List ℕ → Opened → State → State
@@ -42,19 +49,12 @@ abbrev pub told_settled : BegunPicture → CurrentPicture → Accepted
 told_settled k c = cond (came_all k c) accepted.PictureDone accepted.Nothing
 
 pub record IsSettled (old new : State) (what : Accepted) : Type 0 where
-  pub begun : BegunPicture
-  pub kind : Kind
-  pub begun_is : old.picture.begun ≡ Some begun
-  pub kind_is : old.picture.kind ≡ Some kind
-  pub new_is : new ≡ settled begun kind old
-  pub told : what ≡ told_settled begun old.picture
+  pub new_is : (g : GoingPicture) → old.picture.stage ≡ stages.Going g → new ≡ settled g.begun g.kind old
+  pub told : (g : GoingPicture) → old.picture.stage ≡ stages.Going g → what ≡ told_settled g.begun old.picture
 
 -- what later pictures come to behind the picture that was begun, where all its slices came
-pub record IsWholeOf (s : State) (given : Option Whole) : Type 0 where
-  pub begun : BegunPicture
-  pub kind : Kind
-  pub begun_is : s.picture.begun ≡ Some begun
-  pub kind_is : s.picture.kind ≡ Some kind
-  pub given_is :
-      given
-      ≡ cond (came_all begun s.picture) (Some (record { sets = begun.sets; previous = counts_behind begun kind s.previous })) None
+abbrev pub whole_of : Stage → State → Option Whole
+whole_of stages.Nothing s = None
+whole_of (stages.Headed b) s = None
+whole_of (stages.Going g) s =
+    cond (came_all g.begun s.picture) (Some (record { sets = g.begun.sets; previous = counts_behind g.begun g.kind s.previous })) None

@@ -18,12 +18,7 @@ use Rattle.vx_assemble.specs.declared.readers.ReadSlice.{ReadSlice}
 use Rattle.vx_assemble.specs.declared.state.BegunPicture.{BegunPicture}
 use Rattle.vx_assemble.specs.declared.state.State.{State}
 use Rattle.vx_assemble.specs.inner.Held.{begun_of, IsHeld}
-
--- the answer of a rule is given, unless memory runs out
-abbrev pub Gives : {A : Type 0} → Result A Refusal → Result A ReadError → Type 0
-Gives answer (Ok a) = answer ≡ Ok a
-Gives answer (Err errors.Memory) = Unit {0}
-Gives answer (Err (errors.Refused r)) = answer ≡ Err r
+pub use Rattle.vx_assemble.specs.inner.Given.{Gives}
 
 -- an answer, seen as something that it has
 abbrev pub answer_by : {A B : Type 0} → (A → B) → Result A ReadError → Result B ReadError

@@ -52,6 +52,7 @@ FramesHaveShapes = (corners : List Corner) (round : List Parts) (frame : Numbers
 pub record IsFrameOf (corners : List Corner) (round : List Parts) (frame : Frame) : Type 0 where
   pub same : length corners ≡ length round
   pub some : 0 < length round
+  pub few : length round ≤ 64
   pub placed : frame.placed.items ≡ placed_in corners round
   pub range : All IsInRange frame.placed.items
   pub layouts : frame.layouts.items ≡ layouts_in round

@@ -1,5 +1,5 @@
 -- A round that breaks no rule, and the sets that it needs.
-use Rattle.std.specs.Prelude.{◌≡◌, ℕ, ◌<◌, List, length, map, Option, None}
+use Rattle.std.specs.Prelude.{◌≡◌, ℕ, ◌<◌, false, List, length, map, Option, None}
 use Rattle.vx_bits.specs.declared.list.Item.{Item}
 use Rattle.vx_layout.specs.declared.numbers.Numbers.{Numbers}
 use Rattle.vx_sps.specs.Reshaped as sps_reshaped
@@ -8,10 +8,11 @@ use Rattle.vx_pic.specs.Parts.{Parts}
 use Rattle.vx_pic.specs.Written.{SetUnit}
 use Rattle.vx_merge.specs.declared.corner.Corner.{Corner}
 use Rattle.vx_merge.specs.declared.needed.RoundSets.{RoundSets}
+use Rattle.vx_merge.specs.Bodies.{has_lmcs, is_chroma_scaled}
 use Rattle.vx_merge.specs.Needed.{Ids, TakeIds, alf_bodies, lmcs_bodies, scaling_bodies}
 use Rattle.vx_merge.specs.Rounds.{picture_at}
 use Rattle.vx_merge.specs.Rules.{rules_of}
-use Rattle.vx_merge.specs.Shapes.{pps_shape, sps_shape}
+use Rattle.vx_merge.specs.Shapes.{of_lowest, pps_shape, sps_shape}
 use Rattle.vx_merge.specs.Slots.{pps_slots}
 use Rattle.vx_merge.specs.Verdict.{IsVerdict}
 use Rattle.vx_merge.specs.inner.Joined.{HasShapes, MakeFrame}
@@ -29,6 +30,7 @@ pub record AreNeeded (corners : List Corner) (level : Option ℕ) (round : List 
   pub pps_id : n.pps_id < pps_slots
   pub alf : map (λ b. b.now) n.alf.bodies ≡ alf_bodies round
   pub lmcs : map (λ b. b.now) n.lmcs.bodies ≡ lmcs_bodies round
+  pub scales : n.scales_chroma ≡ of_lowest has_lmcs is_chroma_scaled false round
   pub scaling : map (λ b. b.now) n.scaling.bodies ≡ scaling_bodies round
   pub taken : TakeIds round (picture_at round 0).kind.temporal_id sent plain (ids_in n)
 

@@ -12,7 +12,7 @@ use Rattle.vx_write.specs.Sending.{AreOthers}
 use Rattle.vx_write.specs.Slots.{AreLastOf, Sent}
 use Rattle.vx_merge.specs.declared.needed.NamedBodies.{NamedBodies}
 use Rattle.vx_merge.specs.declared.needed.RoundSets.{RoundSets}
-use Rattle.vx_merge.specs.Needed.{aps_at, by_ids}
+use Rattle.vx_merge.specs.Needed.{alf_bodies, aps_at, by_ids, lmcs_bodies, scaling_bodies}
 use Rattle.vx_merge.specs.Slots.{TakeSlots, alf_slots, lmcs_slots, scaling_slots}
 use Rattle.vx_merge.specs.inner.Taking.{an_aps_of}
 
@@ -25,6 +25,12 @@ CanEnd body = (0 < length body) × EndsInNoZero body
 -- each body that a picture has can
 abbrev pub HasEnds : Parts → Type 0
 HasEnds q = (kind id : ℕ) → IfSome (body_of q kind id) CanEnd
+
+-- each body that a round needs can
+pub record HaveEnds (round : List Parts) : Type 0 where
+  pub alf : AllByRecursion CanEnd (alf_bodies round)
+  pub lmcs : AllByRecursion CanEnd (lmcs_bodies round)
+  pub scaling : AllByRecursion CanEnd (scaling_bodies round)
 
 -- ---- ids
 

@@ -1,16 +1,20 @@
 -- What is kept of a round whose sets others have too.
-use Rattle.std.specs.Prelude.{◌≡◌, ℕ, ◌==◌, Bool, false, cond, List, length, map, Option, Some, None, IfSome}
+use Rattle.std.specs.Prelude.{◌≡◌, ℕ, ◌==◌, Bool, false, cond, All, List, length, map, Option, Some, None, IfSome}
 use Rattle.vx_bits.specs.declared.list.Item.{Item}
 use Rattle.vx_layout.specs.declared.numbers.Numbers.{Numbers}
 use Rattle.vx_sps.specs.Reshaped as sps_reshaped
 use Rattle.vx_pps.specs.Reshaped as pps_reshaped
 use Rattle.vx_pic.specs.Parts.{Parts}
 use Rattle.vx_pic.specs.PictureLayout.{numbers_in}
+use Rattle.vx_write.specs.InForce.{AreInForce}
 use Rattle.vx_merge.specs.declared.corner.Corner.{Corner}
 use Rattle.vx_merge.specs.declared.settled.RenamedPps.{RenamedPps}
+use Rattle.vx_merge.specs.declared.settled.RoundLayouts.{RoundLayouts}
+use Rattle.vx_merge.specs.declared.settled.RoundLayouts.TheVariants.{Kept, New}
 use Rattle.vx_merge.specs.declared.settled.Settled.{Settled}
 use Rattle.vx_merge.specs.declared.settled.SourceSets.{SourceSets}
 use Rattle.vx_merge.specs.Merging.{AreCorners}
+use Rattle.vx_merge.specs.Regions.{layouts_in}
 use Rattle.vx_merge.specs.Rounds.{no_picture, picture_at}
 use Rattle.vx_merge.specs.Rules.{rules_of}
 use Rattle.vx_merge.specs.Shapes.{pps_shape, sps_shape}
@@ -108,6 +112,13 @@ pub record IsSettled (corners : List Corner) (level : Option ℕ) (s : Settled) 
   pub kept : List Parts
   pub sets : HasSetsOf kept s
   pub is : IsUsedFor corners level kept s
+
+-- ---- the layouts of a round
+
+-- this holds of what is kept, or these are the layouts of the pictures, whose sets are in force
+abbrev pub AreLayoutsFor : Type 0 → List Parts → RoundLayouts → Type 0
+AreLayoutsFor OfKept round Kept = OfKept
+AreLayoutsFor OfKept round (New layouts) = (layouts.items ≡ layouts_in round) × All AreInForce round
 
 -- A round with the same sets breaks no rule.
 pub record HavePassed (corners : List Corner) (round : List Parts) : Type 0 where

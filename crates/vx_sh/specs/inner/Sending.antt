@@ -13,7 +13,7 @@ use Rattle.vx_sps.specs.Reshaped.{item, where_so}
 use Rattle.vx_ph.specs.InForce.{in_force}
 use Rattle.vx_sh.specs.declared.numbers.SliceNumbers.{SliceNumbers}
 use Rattle.vx_sh.specs.declared.tables.TheConstants.{STARRED}
-use Rattle.vx_sh.specs.InForce.{in_force_at, slice_scope}
+use Rattle.vx_sh.specs.InForce.{slice_scope}
 use Rattle.vx_sh.specs.Whole.{At, apart_form}
 
 -- The scopes are those of the sets and of the slices in force, and this is the set of the fields that are stated.

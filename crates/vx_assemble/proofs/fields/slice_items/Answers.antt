@@ -1,8 +1,3 @@
-use Rattle.std.proofs.Common.{◌≡◌, [], subst}
-use Rattle.vx_table.specs.Reading.{Reads, at_front}
-use Rattle.vx_sh.specs.Whole.{slice_form}
-use Rattle.vx_pic.specs.Units.{rbsp_of}
-use Rattle.vx_pic.specs.UnderSets.{slice_at}
 use Rattle.vx_assemble.specs.inner.Held.{begun_of}
 use Rattle.vx_assemble.proofs.Shown.{same_front, same_slice}
 use Rattle.vx_assemble.proofs.fields.slice_items.Goals as goal

@@ -19,7 +19,7 @@ returns-clause-made c =
     let h = c.in-Ok.header in
     let sps : c.value-sps.result.now ≡ b.sets.sps = c.value-sps.ensures ∙ ap (λ s. s.sps) c.value-sets.ensures in
     let pps : c.value-pps.result.now ≡ b.sets.pps = c.value-pps.ensures ∙ ap (λ s. s.pps) c.value-sets.ensures in
-    read_under b c.args.nal_type h c.told.result c.in-Ok.payload c.requires c.told.ensures
+    read_under b c.args.nal_type h c.in-Ok.payload c.requires
     (subst (λ s. h.subpic < length s.ids) c.value-sets.ensures c.in-Ok.ensures.subpic)
     (subst (λ y. h.lists ≡ lists_of (structures b.sets.sps) (in_force b.sets.sps y) h.fields) pps
     (subst (λ x. h.lists ≡ lists_of (structures x) (in_force x c.value-pps.result.now) h.fields) sps c.in-Ok.ensures.lists))

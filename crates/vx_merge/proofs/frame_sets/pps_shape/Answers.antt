@@ -10,11 +10,17 @@ use Rattle.vx_merge.proofs.frame_sets.pps_shape.Goals as goal
 pub bounds-round-0 : goal.bounds-round-0
 bounds-round-0 c = c.requires.1.some
 
-pub across_tiles-requires : goal.across_tiles-requires
-across_tiles-requires c = c.as_slice-layouts.ensures.value ∙ c.requires.1.layouts
+pub lowest_crosses-requires-clause-few : goal.lowest_crosses-requires-clause-few
+lowest_crosses-requires-clause-few c = c.requires.1.few
 
-pub across_slices-requires : goal.across_slices-requires
-across_slices-requires c = c.as_slice-layouts.ensures.value ∙ c.requires.1.layouts
+pub lowest_crosses-requires-clause-layouts : goal.lowest_crosses-requires-clause-layouts
+lowest_crosses-requires-clause-layouts c = c.as_slice-layouts.ensures.value ∙ c.requires.1.layouts
+
+pub lowest_crosses-requires-2-clause-few : goal.lowest_crosses-requires-2-clause-few
+lowest_crosses-requires-2-clause-few c = c.requires.1.few
+
+pub lowest_crosses-requires-2-clause-layouts : goal.lowest_crosses-requires-2-clause-layouts
+lowest_crosses-requires-2-clause-layouts c = c.as_slice-layouts.ensures.value ∙ c.requires.1.layouts
 
 pub bounds-round-0-2 : goal.bounds-round-0-2
 bounds-round-0-2 c = c.requires.1.some
@@ -34,8 +40,8 @@ returns c = λ corners is.
       subpic_id = None;
       tiles = record { columns = c.in_ok-columns.ensures j; rows = c.in_ok-rows.ensures j };
       slices = c.in_ok-slices.ensures j;
-      across_tiles = c.across_tiles.ensures j;
-      across_slices = c.across_slices.ensures j;
+      across_tiles = c.lowest_crosses.ensures j;
+      across_slices = c.lowest_crosses-2.ensures j;
       init_qp = qp_is j;
       merged = true;
     }

@@ -1,4 +1,4 @@
-use Rattle.std.proofs.Common.{◌≡◌, ◌∙◌, ◌==◌, true, false, not, nat_eq, sym, ap}
+use Rattle.std.proofs.Common.{◌≡◌, ◌∙◌, ◌==◌, not, nat_eq, sym, ap}
 use Rattle.std.proofs.lemmas.Bool.{OnFalse_from, OnTrue_from, not-false, true≢false}
 use Rattle.vx_fields.specs.declared.ph.TheConstants as ph
 use Rattle.vx_table.specs.Loaded.{number}

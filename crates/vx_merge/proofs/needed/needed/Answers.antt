@@ -1,15 +1,12 @@
-use Rattle.std.proofs.Common.{◌≡◌, ℕ, List, ap, sym, subst, ◌∙◌}
+use Rattle.std.proofs.Common.{◌≡◌, Bor, ℕ, List, length, ap, sym, subst, ◌∙◌, arith}
 use Rattle.std.specs.List.{AllByRecursion}
-use Rattle.vx_aps.specs.declared.aps.TheConstants as aps
-use Rattle.vx_fields.specs.declared.ph.TheConstants.{ph_lmcs_aps_id, ph_scaling_list_aps_id}
+use Rattle.std.proofs.lemmas.List.{length-map}
 use Rattle.vx_write.proofs.Spelled.{pps_items, sps_items}
-use Rattle.vx_merge.specs.Bodies.{has_lmcs, has_scaling}
 use Rattle.vx_merge.specs.Needed.{Ids, TakeIds}
 use Rattle.vx_merge.specs.Rounds.{picture_at}
 use Rattle.vx_merge.specs.Shapes.{pps_shape, sps_shape}
 use Rattle.vx_merge.specs.inner.Sending.{CanEnd}
-use Rattle.vx_merge.proofs.BodyEnds.{ends_alf_bodies, ends_lowest}
-use Rattle.vx_merge.proofs.Passing.{filters_few}
+use Rattle.vx_merge.proofs.Passing.{filters_are, filters_few, not_too_many}
 use Rattle.vx_merge.proofs.Reading.{picture_read}
 use Rattle.vx_merge.proofs.Settling.{some_used}
 use Rattle.vx_merge.proofs.needed.needed.Goals as goal
@@ -17,21 +14,33 @@ use Rattle.vx_merge.proofs.needed.needed.Goals as goal
 pub bounds-round-0 : goal.bounds-round-0
 bounds-round-0 c = some_used c.args.round.now c.args.settled.now c.requires.settled
 
-pub named_filters-requires : goal.named_filters-requires
-named_filters-requires c =
+pub bodies_end-requires-clause-few : goal.bodies_end-requires-clause-few
+bodies_end-requires-clause-few c =
     let used = c.requires.settled.1.1 in
-    filters_few c.requires.settled.0 c.args.round.now used.count used.passes used.is.frame.some
+    not_too_many c.requires.settled.0 c.args.round.now used.count used.passes c.args.bodies.filters c.requires.bodies.filters
+
+pub named-requires : goal.named-requires
+named-requires c =
+    let used = c.requires.settled.1.1 in
+    let filters = c.args.bodies.filters in
+    let few = filters_few c.requires.settled.0 c.args.round.now used.count used.passes used.is.frame.some in
+    let are = filters_are c.requires.settled.0 c.args.round.now used.count used.passes filters c.requires.bodies.filters in
+    let size = length-map filters.bodies (λ (b : Bor (List ℕ)). b.now) in
+    let same = ap length are in
+    omega (arith, size, same, few, ap (λ s. s.count) c.of_alf.ensures)
 
 pub returns-clause-needed : goal.returns-clause-needed
 returns-clause-needed c = λ corners level sent used last.
     let round = c.args.round.now in
     let plain = c.args.settled.now.plain in
+    let of_alf = filters_are c.requires.settled.0 round c.requires.settled.1.1.count c.requires.settled.1.1.passes c.args.bodies.filters c.requires.bodies.filters in
+    let alf = rw (of_alf, c.of_alf.ensures) at c.in_ok-alf.ensures in
     let ids : Ids = record { pps = c.args.pps_id; alf = c.in_ok-alf.alf.ids.items; lmcs = c.in_ok-lmcs.lmcs.ids.items; scaling = c.in_ok-scaling.scaling.ids.items } in
     let own : c.kind-temporal_id.result.temporal_id ≡ (picture_at round 0).kind.temporal_id =
     ap (λ k. k.temporal_id) (c.kind-temporal_id.ensures.value ∙ ap (λ q. q.kind) (picture_read round 0 c.index-round-0.result used.is.frame.some c.index-round-0.is)) in
     let taken : TakeIds round (picture_at round 0).kind.temporal_id sent plain ids = record {
       of_pps = c.requires.taken sent last;
-      of_alf = rw own at (c.in_ok-alf.ensures.taken sent last);
+      of_alf = rw own at (alf.taken sent last);
       of_lmcs = rw own at (c.in_ok-lmcs.ensures.taken sent last);
       of_scaling = rw own at (c.in_ok-scaling.ensures.taken sent last);
     } in
@@ -41,8 +50,9 @@ returns-clause-needed c = λ corners level sent used last.
       plain_is = used.is.plain;
       pps = rw c.pps_under.ensures (c.requires.pps corners level used);
       pps_id = c.requires.low;
-      alf = c.in_ok-alf.ensures.are;
+      alf = alf.are;
       lmcs = c.in_ok-lmcs.ensures.are;
+      scales = c.scales_chroma-scales_chroma.ensures;
       scaling = c.in_ok-scaling.ensures.are;
       taken = taken;
     }
@@ -56,10 +66,12 @@ returns-clause-can c =
     let settled = c.args.settled.now in
     let first = picture_at round 0 in
     let ends = λ (bodies : List (List ℕ)). AllByRecursion CanEnd bodies in
+    let of_alf = filters_are corners round used.count used.passes c.args.bodies.filters c.requires.bodies.filters in
+    let alf = rw (of_alf, c.of_alf.ensures) at c.in_ok-alf.ensures in
     record {
       sps = sps_items first.sps (sps_shape corners round level) settled.sps used.is.sps;
       pps = pps_items first.pps (pps_shape corners round settled.frame.numbers c.args.pps_id) c.pps_under.result.now (rw c.pps_under.ensures (c.requires.pps corners level used));
-      alf = record { one_each = c.in_ok-alf.ensures.one_each; ends = subst ends (sym c.in_ok-alf.ensures.are) (ends_alf_bodies round c.all_bodies.ensures) };
-      lmcs = record { one_each = c.in_ok-lmcs.ensures.one_each; ends = subst ends (sym c.in_ok-lmcs.ensures.are) (ends_lowest has_lmcs aps.LMCS ph_lmcs_aps_id round c.all_bodies.ensures) };
-      scaling = record { one_each = c.in_ok-scaling.ensures.one_each; ends = subst ends (sym c.in_ok-scaling.ensures.are) (ends_lowest has_scaling aps.SCALING ph_scaling_list_aps_id round c.all_bodies.ensures) };
+      alf = record { one_each = alf.one_each; ends = subst ends (sym alf.are) c.bodies_end.ensures.alf };
+      lmcs = record { one_each = c.in_ok-lmcs.ensures.one_each; ends = subst ends (sym c.in_ok-lmcs.ensures.are) c.bodies_end.ensures.lmcs };
+      scaling = record { one_each = c.in_ok-scaling.ensures.one_each; ends = subst ends (sym c.in_ok-scaling.ensures.are) c.bodies_end.ensures.scaling };
     }

@@ -1,25 +1,12 @@
-use Rattle.std.proofs.Common.{◌≡◌, true, false, None, sym, ap, ◌∙◌, arith}
+use Rattle.std.proofs.Common.{None, ◌∙◌}
 use Rattle.vx_merge.specs.Bodies.{has_scaling, scaling_body}
-use Rattle.vx_merge.specs.Rounds.{no_picture, picture_at}
-use Rattle.vx_merge.proofs.Edging.{lowest_here, lowest_none, none_more}
-use Rattle.vx_merge.proofs.Reading.{picture_read}
+use Rattle.vx_merge.proofs.Reading.{lowest_absent, lowest_read}
 use Rattle.vx_merge.proofs.needed.shared_scaling.Goals as goal
 
-pub returns-then-has_scaling : goal.returns-then-has_scaling
-returns-then-has_scaling c =
-    let round = c.args.round.now in
-    let k = c.loop-k.k in
-    let q = c.index-round-k-then-has_scaling.result in
-    let same : c.index-round-k.result ≡ q = picture_read round k c.index-round-k.result (omega arith) c.index-round-k.is ∙ sym (picture_read round k q (omega arith) c.index-round-k-then-has_scaling.is) in
-    let seen : has_scaling c.index-round-k.result ≡ true = cc in
-    let here : has_scaling q ≡ true = ap has_scaling (sym same) ∙ seen in
-    c.scaling_body.ensures ∙ sym (lowest_here has_scaling scaling_body None round k q (omega arith) c.index-round-k-then-has_scaling.is here c.loop-k.invariant)
+pub returns-in-Some : goal.returns-in-Some
+returns-in-Some c =
+    let lowest = rw c.in-Some.is at c.requires in
+    c.scaling_body.ensures ∙ lowest_read has_scaling scaling_body None c.args.round.now c.in-Some.k c.index-round-from.result lowest (rw c.from.ensures at c.index-round-from.is)
 
-pub loop-k-preserved : goal.loop-k-preserved
-loop-k-preserved c =
-    let seen : has_scaling c.index-round-k.result ≡ false = cc in
-    let there : has_scaling (picture_at c.args.round.now c.loop-k.k) ≡ false = ap has_scaling (sym (picture_read c.args.round.now c.loop-k.k c.index-round-k.result (omega arith) c.index-round-k.is)) ∙ seen in
-    none_more has_scaling c.args.round.now c.loop-k.k no_picture (omega arith) there c.loop-k.invariant
-
-pub returns : goal.returns
-returns c = sym (lowest_none has_scaling scaling_body None c.args.round.now c.loop-k.k (omega arith) c.loop-k.invariant)
+pub returns-in-None : goal.returns-in-None
+returns-in-None c = lowest_absent has_scaling scaling_body None c.args.round.now (rw c.in-None.is at c.requires)

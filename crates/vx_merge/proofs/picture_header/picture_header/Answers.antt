@@ -12,6 +12,9 @@ use Rattle.vx_merge.proofs.picture_header.picture_header.Goals as goal
 pub bounds-round-0 : goal.bounds-round-0
 bounds-round-0 c = let r = c.requires.ready in some_picture r.0 c.args.round.now r.1.0 r.1.1.0 c.args.needed.now r.1.1.1
 
+pub shape_of-shape-requires : goal.shape_of-shape-requires
+shape_of-shape-requires c = c.requires.ready.1.1.1.needed.scales
+
 pub reshape_ph-requires-clause-shape : goal.reshape_ph-requires-clause-shape
 reshape_ph-requires-clause-shape c =
     let r = c.requires.ready in

@@ -1,12 +1,12 @@
 use Rattle.std.proofs.Common.{◌++◌, None, Some, inl}
 use Rattle.std.proofs.lemmas.Result.{err_from_is_err_and}
 use Rattle.vx_pic.specs.Resident.{history_of, kept_for}
-use Rattle.vx_merge.proofs.Settling.{past, settled_next, some_kept, sources_long}
+use Rattle.vx_merge.proofs.Settling.{layouts_for, past, settled_next, some_kept, sources_long}
 use Rattle.vx_merge.proofs.Writing.{counts_all, counts_none, judged}
 use Rattle.vx_merge.proofs.round.counted.Goals as goal
 
-pub is_known-known-requires : goal.is_known-known-requires
-is_known-known-requires c = sources_long c.args.corners.now c.args.level c.args.round.now c.args.progress.now.settled c.requires.same c.requires.progress.settled
+pub round_layouts-requires : goal.round_layouts-requires
+round_layouts-requires c = sources_long c.args.corners.now c.args.level c.args.round.now c.args.progress.now.settled c.requires.same c.requires.progress.settled
 
 pub verdict-requires-clause-corners : goal.verdict-requires-clause-corners
 verdict-requires-clause-corners c = c.requires.corners
@@ -14,9 +14,10 @@ verdict-requires-clause-corners c = c.requires.corners
 pub verdict-requires-clause-same : goal.verdict-requires-clause-same
 verdict-requires-clause-same c = c.requires.same
 
-pub verdict-requires-clause-known : goal.verdict-requires-clause-known
-verdict-requires-clause-known c =
-    past c.args.corners.now c.args.level c.args.round.now c.args.progress.now.settled c.is_known-known.result c.requires.progress.settled c.is_known-known.ensures
+pub verdict-requires-clause-layouts : goal.verdict-requires-clause-layouts
+verdict-requires-clause-layouts c =
+    layouts_for c.args.round.now c.in_ok-layouts.layouts
+    (past c.args.corners.now c.args.level c.args.round.now c.args.progress.now.settled c.requires.progress.settled) c.in_ok-layouts.ensures
 
 pub settle-requires-clause-corners : goal.settle-requires-clause-corners
 settle-requires-clause-corners c = c.requires.corners
@@ -31,8 +32,8 @@ settle-requires-clause-passes c =
 pub settle-requires-clause-settled : goal.settle-requires-clause-settled
 settle-requires-clause-settled c = c.requires.progress.settled
 
-pub settle-requires-clause-sets : goal.settle-requires-clause-sets
-settle-requires-clause-sets c = c.is_known-known.ensures
+pub settle-requires-clause-layouts : goal.settle-requires-clause-layouts
+settle-requires-clause-layouts c = c.in_ok-layouts.ensures
 
 pub make_kept-requires-clause-used : goal.make_kept-requires-clause-used
 make_kept-requires-clause-used c = some_kept c.args.corners.now c.args.level c.args.round.now _ c.in_ok-settle.ensures.used

@@ -1,6 +1,6 @@
 use Rattle.std.proofs.Common.{sym, subst}
 use Rattle.std.specs.Prelude.{IfErr}
-use Rattle.vx_layout.specs.Faults.{IfFault, IsInLimits, IsLayout, IsLowestFault}
+use Rattle.vx_layout.specs.Faults.{IfFault, IsLayout, IsLowestFault}
 use Rattle.vx_layout.proofs.Lowest.{layout-faultless}
 use Rattle.vx_merge.proofs.settled.layout_of.Goals as goal
 

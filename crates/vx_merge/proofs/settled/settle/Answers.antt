@@ -1,6 +1,3 @@
-use Rattle.std.specs.Bool.{OnTrue}
-use Rattle.std.proofs.Common.{subst}
-use Rattle.vx_merge.specs.inner.Settled.{HasSetsOf, IsKept}
 use Rattle.vx_merge.proofs.Settling.{kept_used}
 use Rattle.vx_merge.proofs.settled.settle.Goals as goal
 
@@ -13,13 +10,19 @@ facts-requires-clause-same c = c.requires.same
 pub facts-requires-clause-passes : goal.facts-requires-clause-passes
 facts-requires-clause-passes c = c.requires.passes
 
-pub settle_anew-requires : goal.settle_anew-requires
-settle_anew-requires c = c.facts.ensures.can
+pub settle_anew-requires-clause-can : goal.settle_anew-requires-clause-can
+settle_anew-requires-clause-can c = c.facts.ensures.can
 
-pub returns-then-known-clause-used : goal.returns-then-known-clause-used
-returns-then-known-clause-used c =
+pub settle_anew-requires-clause-layouts : goal.settle_anew-requires-clause-layouts
+settle_anew-requires-clause-layouts c = let are = rw c.in-New.is at c.requires.layouts in are.0
+
+pub settle_anew-requires-clause-sets : goal.settle_anew-requires-clause-sets
+settle_anew-requires-clause-sets c = let are = rw c.in-New.is at c.requires.layouts in are.1
+
+pub returns-in-Kept-clause-used : goal.returns-in-Kept-clause-used
+returns-in-Kept-clause-used c =
     kept_used c.args.corners.now c.args.level c.args.round.now c.args.settled.now c.requires.corners c.requires.same c.requires.passes c.facts.ensures.can c.facts.ensures.sets
-    c.requires.settled (subst (λ b. OnTrue b (IsKept (HasSetsOf c.args.round.now) c.args.settled.now)) c.if-known.true c.requires.sets)
+    c.requires.settled (rw c.in-Kept.is at c.requires.layouts)
 
-pub returns-then-known-clause-sets : goal.returns-then-known-clause-sets
-returns-then-known-clause-sets c = subst (λ b. OnTrue b (IsKept (HasSetsOf c.args.round.now) c.args.settled.now)) c.if-known.true c.requires.sets
+pub returns-in-Kept-clause-sets : goal.returns-in-Kept-clause-sets
+returns-in-Kept-clause-sets c = rw c.in-Kept.is at c.requires.layouts

@@ -1,6 +1,6 @@
 use Rattle.std.proofs.Common.{◌++◌, length, Some}
 use Rattle.vx_merge.specs.Rules.{rules_of_pictures, rules_of_sets, rules_of_slices}
-use Rattle.vx_merge.proofs.Settling.{flags_known, on_true, pps_known}
+use Rattle.vx_merge.proofs.Settling.{flags_known, layouts_for, pps_known}
 use Rattle.vx_merge.proofs.Verdicts.{broken_all, passed_all}
 use Rattle.vx_merge.proofs.verdict.verdict.Goals as goal
 
@@ -18,11 +18,11 @@ returns-in-Some-of_pictures c =
 pub returns : goal.returns
 returns c =
     let round = c.args.round.now in
-    passed_all (length round) (rules_of_sets c.args.corners.now round) (rules_of_pictures round ++ rules_of_slices round) c.in_ok-of_slices.of_slices (rw c.in_default.is at c.in_ok-of_sets.ensures)
-    (passed_all (length round) (rules_of_pictures round) (rules_of_slices round) c.in_ok-of_slices.of_slices (rw c.in_default-of_pictures.is at c.in_ok-of_pictures.ensures) c.in_ok-of_slices.ensures)
+    passed_all (length round) (rules_of_sets c.args.corners.now round) (rules_of_pictures round ++ rules_of_slices round) c.verdict_of_slices.result (rw c.in_default.is at c.in_ok-of_sets.ensures)
+    (passed_all (length round) (rules_of_pictures round) (rules_of_slices round) c.verdict_of_slices.result (rw c.in_default-of_pictures.is at c.in_ok-of_pictures.ensures) c.verdict_of_slices.ensures)
 
-pub verdict_of_pictures-requires-clause-known : goal.verdict_of_pictures-requires-clause-known
-verdict_of_pictures-requires-clause-known c = on_true c.args.known (pps_known c.args.corners.now c.args.round.now c.requires.same) c.requires.known
+pub verdict_of_pictures-requires-clause-layouts : goal.verdict_of_pictures-requires-clause-layouts
+verdict_of_pictures-requires-clause-layouts c = layouts_for c.args.round.now c.args.layouts.now (pps_known c.args.corners.now c.args.round.now c.requires.same) c.requires.layouts
 
-pub verdict_of_slices-requires-clause-known : goal.verdict_of_slices-requires-clause-known
-verdict_of_slices-requires-clause-known c = on_true c.args.known (flags_known c.args.corners.now c.args.round.now c.requires.same) c.requires.known
+pub verdict_of_slices-requires-clause-layouts : goal.verdict_of_slices-requires-clause-layouts
+verdict_of_slices-requires-clause-layouts c = layouts_for c.args.round.now c.args.layouts.now (flags_known c.args.corners.now c.args.round.now c.requires.same) c.requires.layouts

@@ -15,6 +15,11 @@ returns-in_err-read_on-clause-shows g c R of =
     let going : IsOpen c.loop-alloc.feed = search rules in
     rw (p.1, p.2) (Shows-read _ _ _ _ R (teller c.args.fields R of) _ _ _ _ _ c.loop-alloc.feed c.read_on.new.feed c.loop-alloc.pictures _ (c.loop-alloc.invariant.1 R of) going (c.in_err-read_on.ensures.answer R))
 
+pub returns-in_err-read_on-clause-stop : goal.returns-in_err-read_on-clause-stop
+returns-in_err-read_on-clause-stop g c =
+    let p = err_from_is_err_and c.from_residual-in_err-read_on.result c.from_residual-in_err-read_on.ensures.1 in
+    rw (p.1, p.2) c.in_err-read_on.ensures.stop
+
 pub returns-in_err-pictures-clause-shows : goal.returns-in_err-pictures-clause-shows
 returns-in_err-pictures-clause-shows g c R of =
     let p = err_from_is_err_and c.from_residual-in_err-pictures.result c.from_residual-in_err-pictures.ensures.1 in

@@ -11,7 +11,7 @@ returns-in_err-code_table c =
     let n = c.args.n.now in
     let p = err_from_is_err_and c.from_residual.result c.from_residual.ensures.1 in
     let first = rw c.in_err-code_table.was at c.code_table.ensures in
-    rw (p.1, p.2) (reads n.slice.now (Err _) (stop (behind_header n.table.now n.ids.now n.layout.now) (stop (header_inside n.table.now n.sets.now) first)))
+    rw (p.1, p.2) (reads c.args.scope.now (Err _) (stop (behind_header n.table.now n.ids.now n.layout.now) (stop (header_inside n.table.now n.sets.now) first)))
 
 pub returns-in_err-code_inside : goal.returns-in_err-code_inside
 unfolding slice_form
@@ -20,7 +20,7 @@ returns-in_err-code_inside c =
     let p = err_from_is_err_and c.from_residual-in_err-code_inside.result c.from_residual-in_err-code_inside.ensures.1 in
     let first = rw c.in_ok-code_table.was at c.code_table.ensures in
     let inside = rw c.in_err-code_inside.was at c.code_inside.ensures in
-    rw (p.1, p.2) (reads n.slice.now (Err _) (stop (behind_header n.table.now n.ids.now n.layout.now) (then (header_inside n.table.now n.sets.now) first inside)))
+    rw (p.1, p.2) (reads c.args.scope.now (Err _) (stop (behind_header n.table.now n.ids.now n.layout.now) (then (header_inside n.table.now n.sets.now) first inside)))
 
 pub returns : goal.returns
 unfolding slice_form

@@ -7,14 +7,14 @@ pub returns-in_err-code_table : goal.returns-in_err-code_table
 returns-in_err-code_table c =
     let p = err_from_is_err_and c.from_residual.result c.from_residual.ensures.1 in
     let first = rw (c.in_err-code_table.was, c.requires) at c.code_table.ensures in
-    rw (p.1, p.2) (stops_first (at_of c.args.n.now) _ first)
+    rw (p.1, p.2) (stops_first (at_of c.args.n.now c.args.scope.now) _ first)
 
 pub returns-in_err-pass_inside : goal.returns-in_err-pass_inside
 returns-in_err-pass_inside c =
     let p = err_from_is_err_and c.from_residual-in_err-pass_inside.result c.from_residual-in_err-pass_inside.ensures.1 in
     let first = rw (c.in_ok-code_table.was, c.requires) at c.code_table.ensures in
     let inside = rw c.in_err-pass_inside.was at c.pass_inside.ensures in
-    rw (p.1, p.2) (stops_inside (at_of c.args.n.now) _ _ c.code_table.new.scope _ first inside)
+    rw (p.1, p.2) (stops_inside (at_of c.args.n.now c.args.scope.now) _ _ c.code_table.new.scope _ first inside)
 
 pub returns-in_err-code_behind : goal.returns-in_err-code_behind
 returns-in_err-code_behind c =
@@ -22,11 +22,11 @@ returns-in_err-code_behind c =
     let first = rw (c.in_ok-code_table.was, c.requires) at c.code_table.ensures in
     let inside = rw c.in_ok-pass_inside.was at c.pass_inside.ensures in
     let behind = rw c.in_err-code_behind.was at c.code_behind.ensures in
-    rw (p.1, p.2) (stops_behind (at_of c.args.n.now) c.code_table.new.scope _ first inside behind)
+    rw (p.1, p.2) (stops_behind (at_of c.args.n.now c.args.scope.now) c.code_table.new.scope _ first inside behind)
 
 pub returns : goal.returns
 returns c =
     let first = rw (c.in_ok-code_table.was, c.requires) at c.code_table.ensures in
     let inside = rw c.in_ok-pass_inside.was at c.pass_inside.ensures in
     let behind = rw c.in_ok-code_behind.was at c.code_behind.ensures in
-    reads_all (at_of c.args.n.now) c.code_table.new.scope c.code_behind.new.scope first inside behind
+    reads_all (at_of c.args.n.now c.args.scope.now) c.code_table.new.scope c.code_behind.new.scope first inside behind

@@ -11,9 +11,9 @@ use Rattle.vx_sh.proofs.read.read_slice_at.Goals as goal
 
 pub returns : goal.returns
 returns c =
-    let n = at_of c.args.n.now in
+    let n = at_of c.args.n.now c.args.scope.now in
     let rbsp = c.args.rbsp.now in
-    let read = rw c.in_ok-end.was at c.read_fields.ensures in
+    let read = rw c.in_ok-read_fields.was at c.read_fields.ensures in
     let rest = c.read_fields.new.bits.left in
     let spelled : Spells (8 * length rbsp) (slice_form n) (values_of read.fields) (bits_of rbsp) rest = rw (← c.new-bits.ensures.total, ← c.new-bits.ensures.left) read.spelled in
     let size = sized n rbsp (values_of read.fields) read.fields.end rest c.at.result spelled (all_follow n c.read_fields.new.into read.inside read.fields)

@@ -10,11 +10,11 @@ pub into_bytes-requires : goal.into_bytes-requires
 into_bytes-requires c =
     let written = rw c.in-Ok.is at c.write_fields.ensures in
     let f = written.0.slice in
-    rw (written.1) (whole_bytes _ (slice_ends (at_of c.args.n.now) _ f.end (all_follow (at_of c.args.n.now) _ _ f)))
+    rw (written.1) (whole_bytes _ (slice_ends (at_of c.args.n.now c.args.scope.now) _ f.end (all_follow (at_of c.args.n.now c.args.scope.now) _ _ f)))
 
 pub returns-in-Ok : goal.returns-in-Ok
 returns-in-Ok c =
     let written = rw c.in-Ok.is at c.write_fields.ensures in
     let f = written.0.slice in
     let bits = c.into_bytes.ensures ∙ written.1 in
-    record { is = written.0; bits = bits; last = last_byte c.into_bytes.result.items (subst (EndsWithStop 0) (sym bits) (slice_ends (at_of c.args.n.now) _ f.end (all_follow (at_of c.args.n.now) _ _ f))) }
+    record { is = written.0; bits = bits; last = last_byte c.into_bytes.result.items (subst (EndsWithStop 0) (sym bits) (slice_ends (at_of c.args.n.now c.args.scope.now) _ f.end (all_follow (at_of c.args.n.now c.args.scope.now) _ _ f))) }

@@ -1,0 +1,4 @@
+-- Lemmas of this crate.
+pub mod CornerLists
+pub mod Streams
+pub mod Values

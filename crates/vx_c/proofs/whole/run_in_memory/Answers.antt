@@ -1,0 +1,15 @@
+use Rattle.std.proofs.Common.{rules, ◌≡◌, length, map, vec_len, arith}
+use Rattle.vx_run.specs.Grammar.{NamesFiles, texts}
+use Rattle.vx_c.specs.InMemory.{AreStreams}
+use Rattle.vx_c.proofs.Streams.{counted}
+use Rattle.vx_c.proofs.whole.run_in_memory.Goals as goal
+
+pub run-status-requires : goal.run-status-requires
+run-status-requires c =
+    let are : AreStreams c.args.bytes.now c.args.lengths.now (map (λ source. source.left) c.in-Some-2.streams.items) = search rules in
+    let as_many = counted (λ source. source.left) c.in-Some-2.streams.items c.args.lengths.now are.lengths in
+    let size : vec_len c.in-Some-2.streams ≡ length c.in-Some-2.streams.items = search rules in
+    let many : vec_len c.loop-stream.sources ≡ length c.args.lengths.now =
+    omega (arith, c.loop-stream.invariant, c.in-None.ensures.steps.0, c.into_iter-stream-iterator.ensures.into_iter_gives.1, size, as_many) in
+    let names : NamesFiles (texts c.deref-2.result.now) (length c.args.lengths.now) = search rules in
+    rw many names

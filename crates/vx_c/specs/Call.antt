@@ -1,0 +1,34 @@
+-- A call on a handle: what it does to what the handle is of, and what it answers.
+use Rattle.std.specs.Prelude.{◌≡◌, ◌⊎◌, ℕ, List, ◌++◌, length, take, drop, Option, Some, None}
+use Rattle.vx_pic.specs.declared.kind.Kind.{Kind}
+use Rattle.vx_run.specs.declared.stop.Stop.{Stop}
+use Rattle.vx_push.specs.Line.{IsLineOf}
+use Rattle.vx_c.specs.declared.picture.GqPicture.{GqPicture}
+use Rattle.vx_c.specs.declared.state.State.{State}
+use Rattle.vx_c.specs.declared.status.TheConstants.{MISUSED}
+
+-- A handle of another kind, or of none, is misused, and nothing changes. Else this is done to what it is of.
+pub record Calls {A : Type 0} (of : A → State) (old new : Option State) (status : ℕ) (P : A → A → Type 0) : Type 0 where
+  pub none : ((m : A) → old ≡ Some (of m) → ⊥) → (status ≡ MISUSED) × (new ≡ old)
+  pub one : (m : A) → old ≡ Some (of m) → (later : A) × (new ≡ Some (of later)) × P m later
+
+-- what is told of the picture of this number and kind, of which so many bytes are written
+abbrev pub picture_by : ℕ → ℕ → Kind → GqPicture
+picture_by number bytes kind = record {
+  number = number;
+  bytes = bytes;
+  order = kind.poc;
+  nal_type = kind.nal_type;
+  temporal_id = kind.temporal_id;
+  starts_sequence = kind.clvss;
+}
+
+-- The line of the stop is told, as far as there is room for it; or there is no memory for it, or no stop: then nothing is.
+abbrev pub TellsNone : List ℕ → List ℕ → ℕ → Type 0
+TellsNone before after len = (len ≡ 0) × (after ≡ before)
+
+abbrev pub TellsLine : Option Stop → List ℕ → List ℕ → ℕ → Type 0
+TellsLine None before after len = TellsNone before after len
+TellsLine (Some stop) before after len =
+    TellsNone before after len
+    ⊎ ((line : List ℕ) × IsLineOf stop line × (len ≡ length line) × (after ≡ take (length before) line ++ drop (length line) before))

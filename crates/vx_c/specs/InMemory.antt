@@ -1,0 +1,22 @@
+-- Words and streams in the memory of a caller in C.
+use Rattle.std.specs.Prelude.{◌≡◌, ◌≢◌, ◌==◌, ℕ, All, List, map, length}
+use Rattle.std.specs.List.{concat, slice_split, sum}
+use Rattle.std.specs.Str.{IsUtf8}
+use Rattle.vx_run.specs.Grammar.{IsUnderstood, NamesFiles}
+
+-- the words of a text, which line feeds part
+abbrev pub words_in : List ℕ → List (List ℕ)
+words_in text = slice_split (λ byte. byte == 10) text
+
+-- these streams, of these sizes, stand one after another in the bytes, and nothing else does
+pub record AreStreams (bytes : List ℕ) (sizes : List ℕ) (streams : List (List ℕ)) : Type 0 where
+  pub joined : concat streams ≡ bytes
+  pub lengths : map length streams ≡ sizes
+
+-- Why words aren't run over streams: they are no text, or not understood; the streams aren't as many as the words name, or don't come to all
+-- of the bytes.
+pub data IsMisused (text bytes sizes : List ℕ) : Type 0 where
+  no_text : ¬ All IsUtf8 (words_in text) → IsMisused text bytes sizes
+  not_understood : ¬ IsUnderstood (words_in text) → IsMisused text bytes sizes
+  unlike_files : ¬ NamesFiles (words_in text) (length sizes) → IsMisused text bytes sizes
+  unlike_sizes : sum sizes ≢ length bytes → IsMisused text bytes sizes

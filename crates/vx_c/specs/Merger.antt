@@ -1,0 +1,113 @@
+-- What each call on a merger does to it, and what it answers.
+use Rattle.std.specs.Prelude.{◌≡◌, ◌⊎◌, ℕ, ◌-◌, ◌≤◌, ◌<◌, List, [], ◌++◌, length, map, take, drop, slice_get, Option, Some, None, IfSome}
+use Rattle.vx_merge.specs.declared.corner.Corner.{Corner}
+use Rattle.vx_merge.specs.Merging.{AreCorners, SameTask}
+use Rattle.vx_pic.specs.declared.kind.Kind.{Kind}
+use Rattle.vx_pic.specs.Rules.{Readers}
+use Rattle.vx_pic.specs.H266.{AreOfH266}
+use Rattle.vx_pic.specs.Written.{Plan}
+use Rattle.vx_run.specs.declared.stop.Stop.{Stop}
+use Rattle.vx_run.specs.Conclusion.{status_of}
+use Rattle.vx_push.specs.declared.mixer.Mixed.{Mixed}
+use Rattle.vx_push.specs.declared.mixer.Mixed.TheVariants.{Picture as ToPicture, Waits as ToWait, Ended as ToEnd, Stopped as ToStop}
+use Rattle.vx_push.specs.Comes.{Handed, Intaking, nothing, with_more}
+use Rattle.vx_push.specs.Mixing.{Mixing, HasMixed, Answers, HandsIn}
+use Rattle.vx_push.specs.Mixing as push
+use Rattle.vx_c.specs.Call.{picture_by}
+use Rattle.vx_c.specs.declared.corners.GqCorner.{GqCorner}
+use Rattle.vx_c.specs.declared.picture.GqPicture.{GqPicture}
+use Rattle.vx_c.specs.declared.state.State.{State}
+use Rattle.vx_c.specs.declared.state.State.TheVariants.{Merger}
+use Rattle.vx_c.specs.declared.status.TheConstants.{DONE, MISUSED, NO_ROOM, NO_MEMORY, WAITS, ENDED}
+
+-- ---- open
+
+abbrev pub corner_of : GqCorner → Corner
+corner_of c = record { x = c.x; y = c.y }
+
+-- 0 is the highest of the sources
+abbrev pub level_of : ℕ → Option ℕ
+level_of ℕ.zero = None
+level_of n = Some n
+
+-- a merger of sources at these corners, to which nothing was handed in
+pub record IsFresh (m : Mixing) (corners : List Corner) (level : Option ℕ) : Type 0 where
+  pub corners_ : m.merger.corners ≡ corners
+  pub level_ : m.merger.level ≡ level
+  pub mixed : (R : Readers) → HasMixed R m (map (λ corner. nothing) corners) []
+  pub held : m.held ≡ None
+  pub end : m.end ≡ None
+
+-- what comes of it where the handle is closed: a fresh merger; or the corners can't be; or no memory was found
+pub record OpensClosed (new : Option State) (corners : List Corner) (level : Option ℕ) (status : ℕ) : Type 0 where
+  pub status_ : (status ≡ DONE) ⊎ ((status ≡ MISUSED) ⊎ (status ≡ NO_MEMORY))
+  pub done : status ≡ DONE → AreCorners corners × ((m : Mixing) × (new ≡ Some (Merger m)) × IsFresh m corners level)
+  pub misused : status ≡ MISUSED → ¬ AreCorners corners
+  pub closed : (status ≡ DONE → ⊥) → new ≡ None
+
+pub record Opens (old new : Option State) (corners : List Corner) (level : Option ℕ) (status : ℕ) : Type 0 where
+  pub open_ : (state : State) → old ≡ Some state → (status ≡ MISUSED) × (new ≡ old)
+  pub closed : old ≡ None → OpensClosed new corners level status
+
+-- ---- push, flush, end
+
+-- it is done; or there is no such source, and nothing changes
+pub record HandsOver (m later : Mixing) (source : ℕ) (more : Intaking → Handed → Handed) (status : ℕ) : Type 0 where
+  pub status_ : (status ≡ DONE) ⊎ (status ≡ MISUSED)
+  pub done : status ≡ DONE → HandsIn m later source more
+  pub wrong : status ≡ MISUSED → (length m.intakes ≤ source) × (later ≡ m)
+
+-- so many bytes of the piece were taken
+pub record Pushes (m later : Mixing) (source : ℕ) (piece : List ℕ) (taken status : ℕ) : Type 0 where
+  pub hands : HandsOver m later source (λ i h. with_more h (take taken piece)) status
+  pub few : taken ≤ length piece
+  pub count : status ≡ DONE → (i j : Intaking) → slice_get m.intakes source ≡ Some i → slice_get later.intakes source ≡ Some j
+      → push.Takes i j (length piece) taken
+  pub wrong : status ≡ MISUSED → taken ≡ 0
+
+-- ---- next
+
+abbrev pub status_by : Mixed → ℕ
+status_by ToPicture = DONE
+status_by (ToWait k) = WAITS
+status_by ToEnd = ENDED
+status_by (ToStop stop) = status_of stop
+
+-- which source waits, if one does
+abbrev pub source_by : Mixed → ℕ → ℕ
+source_by (ToWait k) before = k
+source_by mixed before = before
+
+-- a merger comes to this: the picture that it holds, or the end that it came to, again; or what is next
+pub record ComesTo (m later : Mixing) (mixed : Mixed) : Type 0 where
+  pub held : (kind : Kind) → m.held ≡ Some kind → (mixed ≡ ToPicture) × (later ≡ m)
+  pub ended : (end : Mixed) → m.held ≡ None → m.end ≡ Some end → (mixed ≡ end) × (later ≡ m)
+  pub answers : m.held ≡ None → m.end ≡ None → (R : Readers) → AreOfH266 R → (given : List Handed) (done : List Plan) → HasMixed R m given done
+      → Answers R later given done mixed
+  pub waits : (k : ℕ) → mixed ≡ ToWait k → later ≡ m
+  pub task : SameTask m.merger later.merger
+
+pub record Advances (m later : Mixing) (source_before source : ℕ) (picture_before picture : GqPicture) (status : ℕ) : Type 0 where
+  pub mixed : Mixed
+  pub comes : ComesTo m later mixed
+  pub status_ : status ≡ status_by mixed
+  pub source_ : source ≡ source_by mixed source_before
+  pub told : mixed ≡ ToPicture → IfSome later.held (λ kind. picture ≡ picture_by (later.rounds - 1) (length later.merged) kind)
+  pub kept : (mixed ≡ ToPicture → ⊥) → picture ≡ picture_before
+
+-- ---- take, line
+
+-- the merged picture is copied and given up; or there is too little room, or none waits, and nothing changes
+pub record TakesPicture (m later : Mixing) (before after : List ℕ) (status : ℕ) : Type 0 where
+  pub status_ : (status ≡ DONE) ⊎ ((status ≡ NO_ROOM) ⊎ (status ≡ MISUSED))
+  pub done : status ≡ DONE → (later ≡ record m { held = None; merged = [] }) × (after ≡ m.merged ++ drop (length m.merged) before)
+  pub kept : (status ≡ DONE → ⊥) → (later ≡ m) × (after ≡ before)
+  pub room : status ≡ NO_ROOM → length before < length m.merged
+  pub misused : status ≡ MISUSED → m.held ≡ None
+  pub none : m.held ≡ None → status ≡ MISUSED
+  pub mixed : (R : Readers) (given : List Handed) (done : List Plan) → HasMixed R m given done → HasMixed R later given done
+
+-- why it goes on no more, if it is stopped
+abbrev pub stop_in : Option Mixed → Option Stop
+stop_in (Some (ToStop stop)) = Some stop
+stop_in end = None

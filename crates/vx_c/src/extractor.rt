@@ -1,0 +1,253 @@
+//! An extractor, to which bytes are handed in as they come.
+ghost use Rattle.std.specs.Prelude.{◌≡◌, ℕ, Some, None, IfOk, IfSome, IfNone};
+ghost use Rattle.vx_push.specs.Cutting.{Cutting, ended_by, flushed_by};
+ghost use Rattle.vx_c.specs.Call.{Calls, TellsLine, TellsNone};
+ghost use Rattle.vx_c.specs.Extractor.{IsFresh, IsTask, Opens, HandsOver, Pushes, Advances, TakesPicture, stop_in, task_of};
+ghost use Rattle.vx_c.specs.declared.state.State.TheVariants.{Extractor};
+
+use crate::handle::Handle;
+use crate::line::tell;
+use crate::merger::level_in;
+use crate::picture::{GqPicture, told};
+use crate::state::State;
+use crate::status::{DONE, ENDED, MISUSED, NO_MEMORY, NO_ROOM, WAITS, status_of};
+use std::alloc::{AllocError, Global};
+use vx_push::{Cut, Cutter};
+use vx_run::Task;
+
+/// The greatest index of a subpicture, and the greatest TemporalId.
+const MOST_INDEX: u32 = 999;
+
+const MOST_TID: u8 = 6;
+
+/// An extractor in a box; none where a number is out of its range.
+fn opened(alloc: Global, index: u32, tid: u8, level: u8) -> Result<Option<Box<State>>, AllocError>
+    ensures made { IfOk result (λ made. IfSome made (λ state. IsTask index tid
+        × ((c : Cutting) × (state.value ≡ Extractor c) × IsFresh c (task_of index tid level)))) }
+    ensures none { IfOk result (λ made. IfNone made (¬ IsTask index tid)) }
+{
+    if index > MOST_INDEX {
+        return Ok(None);
+    }
+    if tid > MOST_TID {
+        return Ok(None);
+    }
+    let task = Task {
+        target: index,
+        level: level_in(level),
+        tid,
+    };
+    let cutter = Cutter::new(alloc, task)?;
+    Ok(Some(Box::new(alloc, State::Extractor(cutter))?))
+}
+
+/// Hands in the next bytes.
+fn push(cutter: &mut Cutter, bytes: &[u8], taken: &mut usize) -> u8
+    ensures { Pushes cutter.old cutter.new bytes.now taken.new result }
+{
+    *taken = cutter.push(bytes);
+    DONE
+}
+
+/// The last unit that was handed in is whole.
+fn flush(cutter: &mut Cutter) -> u8
+    ensures { HandsOver cutter.old cutter.new (flushed_by cutter.old.intake.state cutter.old.intake.flushed cutter.old.intake.ended) result }
+{
+    cutter.flush();
+    DONE
+}
+
+/// There are no more bytes.
+fn end(cutter: &mut Cutter) -> u8
+    ensures { HandsOver cutter.old cutter.new (ended_by cutter.old.intake.state) result }
+{
+    cutter.end();
+    DONE
+}
+
+/// Goes on as far as the bytes allow.
+fn advance(cutter: &mut Cutter, picture: &mut GqPicture) -> u8
+    ensures { Advances cutter.old cutter.new picture.old picture.new result }
+{
+    match cutter.next() {
+        Cut::Picture => {
+            if let Some(cut) = cutter.picture() {
+                *picture = told(cut.number, cut.bytes, cut.kind);
+            }
+            DONE
+        }
+        Cut::Waits => WAITS,
+        Cut::Ended => ENDED,
+        Cut::Stopped(stop) => status_of(stop),
+    }
+}
+
+/// Copies the picture that waits, and gives it up.
+fn take(cutter: &mut Cutter, into: &mut [u8]) -> u8
+    ensures { TakesPicture cutter.old cutter.new into.old into.new result }
+{
+    if cutter.picture().is_none() {
+        return MISUSED;
+    }
+    match cutter.take(into) {
+        Some(_) => DONE,
+        None => NO_ROOM,
+    }
+}
+
+/// The line of what stopped it, and how many bytes it has; 0 where it isn't stopped.
+fn line(alloc: Global, cutter: &Cutter, into: &mut [u8]) -> usize
+    ensures { TellsLine (stop_in cutter.now.end) into.old into.new result }
+{
+    match cutter.ending() {
+        Some(Cut::Stopped(stop)) => tell(alloc, stop, into),
+        _ => 0,
+    }
+}
+
+/// Opens an extractor.
+#[unsafe(no_mangle)]
+pub extern "C" fn gq_extractor_open(
+    alloc: Global,
+    handle: &mut Handle,
+    index: u32,
+    temporal_id: u8,
+    level: u8,
+) -> u8
+    ensures { Opens handle.old.state handle.new.state index temporal_id level result }
+{
+    if let Some(state) = handle.take(alloc) {
+        handle.put(state, alloc);
+        return MISUSED;
+    }
+    match opened(alloc, index, temporal_id, level) {
+        Ok(Some(state)) => {
+            handle.put(state, alloc);
+            DONE
+        }
+        Ok(None) => MISUSED,
+        Err(_) => NO_MEMORY,
+    }
+}
+
+/// Hands in the next bytes.
+#[unsafe(no_mangle)]
+pub extern "C" fn gq_extractor_push(
+    alloc: Global,
+    handle: &mut Handle,
+    bytes: &[u8],
+    taken: &mut usize,
+) -> u8
+    ensures call { Calls Extractor handle.old.state handle.new.state result
+        (λ c later. Pushes c later bytes.now taken.new result) }
+    ensures none { ((c : Cutting) → handle.old.state ≡ Some (Extractor c) → ⊥) → taken.new ≡ 0 }
+{
+    *taken = 0;
+    let Some(mut state) = handle.take(alloc) else {
+        return MISUSED;
+    };
+    let status = match &mut *state {
+        State::Extractor(cutter) => push(cutter, bytes, taken),
+        State::Merger(_) => MISUSED,
+    };
+    handle.put(state, alloc);
+    status
+}
+
+/// The last unit that was handed in is whole.
+#[unsafe(no_mangle)]
+pub extern "C" fn gq_extractor_flush(alloc: Global, handle: &mut Handle) -> u8
+    ensures { Calls Extractor handle.old.state handle.new.state result
+        (λ c later. HandsOver c later (flushed_by c.intake.state c.intake.flushed c.intake.ended) result) }
+{
+    let Some(mut state) = handle.take(alloc) else {
+        return MISUSED;
+    };
+    let status = match &mut *state {
+        State::Extractor(cutter) => flush(cutter),
+        State::Merger(_) => MISUSED,
+    };
+    handle.put(state, alloc);
+    status
+}
+
+/// There are no more bytes.
+#[unsafe(no_mangle)]
+pub extern "C" fn gq_extractor_end(alloc: Global, handle: &mut Handle) -> u8
+    ensures { Calls Extractor handle.old.state handle.new.state result
+        (λ c later. HandsOver c later (ended_by c.intake.state) result) }
+{
+    let Some(mut state) = handle.take(alloc) else {
+        return MISUSED;
+    };
+    let status = match &mut *state {
+        State::Extractor(cutter) => end(cutter),
+        State::Merger(_) => MISUSED,
+    };
+    handle.put(state, alloc);
+    status
+}
+
+/// Goes on as far as the bytes allow.
+#[unsafe(no_mangle)]
+pub extern "C" fn gq_extractor_next(
+    alloc: Global,
+    handle: &mut Handle,
+    picture: &mut GqPicture,
+) -> u8
+    ensures call { Calls Extractor handle.old.state handle.new.state result (λ c later. Advances c later picture.old picture.new result) }
+    ensures none { ((c : Cutting) → handle.old.state ≡ Some (Extractor c) → ⊥) → picture.new ≡ picture.old }
+{
+    let Some(mut state) = handle.take(alloc) else {
+        return MISUSED;
+    };
+    let status = match &mut *state {
+        State::Extractor(cutter) => advance(cutter, picture),
+        State::Merger(_) => MISUSED,
+    };
+    handle.put(state, alloc);
+    status
+}
+
+/// Copies the picture that waits to the front of the room, and gives it up.
+#[unsafe(no_mangle)]
+pub extern "C" fn gq_extractor_take(alloc: Global, handle: &mut Handle, into: &mut [u8]) -> u8
+    ensures call { Calls Extractor handle.old.state handle.new.state result (λ c later. TakesPicture c later into.old into.new result) }
+    ensures none { ((c : Cutting) → handle.old.state ≡ Some (Extractor c) → ⊥) → into.new ≡ into.old }
+{
+    let Some(mut state) = handle.take(alloc) else {
+        return MISUSED;
+    };
+    let status = match &mut *state {
+        State::Extractor(cutter) => take(cutter, into),
+        State::Merger(_) => MISUSED,
+    };
+    handle.put(state, alloc);
+    status
+}
+
+/// The line that tells why it is stopped, and how many bytes it has.
+#[unsafe(no_mangle)]
+pub extern "C" fn gq_extractor_line(alloc: Global, handle: &mut Handle, into: &mut [u8]) -> usize
+    ensures kept { handle.new.state ≡ handle.old.state }
+    ensures line { (c : Cutting) → handle.old.state ≡ Some (Extractor c) → TellsLine (stop_in c.end) into.old into.new result }
+    ensures none { ((c : Cutting) → handle.old.state ≡ Some (Extractor c) → ⊥) → TellsNone into.old into.new result }
+{
+    let Some(state) = handle.take(alloc) else {
+        return 0;
+    };
+    let len = match &*state {
+        State::Extractor(cutter) => line(alloc, cutter, into),
+        State::Merger(_) => 0,
+    };
+    handle.put(state, alloc);
+    len
+}
+
+/// Gives back all that an extractor holds. The handle is closed then.
+#[unsafe(no_mangle)]
+pub extern "C" fn gq_extractor_close(alloc: Global, handle: &mut Handle)
+    ensures { handle.new.state ≡ None }
+{
+    drop(handle.take(alloc));
+}

@@ -1,0 +1,101 @@
+//! What C holds of a merger or an extractor.
+ghost use Rattle.std.specs.Prelude.{◌≡◌, Option, Some, None};
+ghost use Rattle.std.specs.Option.{MatchOption};
+ghost use Rattle.vx_c.specs.declared.state.State.{State as Stated};
+
+use crate::loose::Loose;
+use crate::state::State;
+use std::alloc::Global;
+use std::marker::Model;
+use std::mem;
+use std::ptr::null_mut;
+
+/// What C holds of a merger or an extractor, or of none. All zeros is one of none.
+#[repr(C)]
+pub struct Handle {
+    at: *mut u8,
+    live: bool,
+    ghost state: { Option Stated },
+}
+
+impl Model for Handle {
+    ghost use Rattle.vx_c.specs.Handles.{owned};
+
+    ghost also_owns = { λ h. owned h.at h.live h.state };
+}
+
+impl Handle {
+    /// One of none.
+    pub(crate) fn none() -> Handle
+        ensures { result.state ≡ None }
+    {
+        Handle {
+            at: null_mut(),
+            live: false,
+        }
+    }
+
+    /// One of what is in the box.
+    fn of(state: Loose<State, Global>) -> Handle
+        ensures { result.state ≡ Some state.value }
+    {
+        let Loose { at, alloc: _ } = state;
+        Handle {
+            at: at.cast(),
+            live: true,
+        }
+    }
+
+    /// The box of what it is of, if it is of any.
+    fn into_loose(self, alloc: Global) -> Option<Loose<State, Global>>
+        ensures { MatchOption result (self.state ≡ None) (λ loose. self.state ≡ Some loose.value) }
+    {
+        let Handle { at, live } = self;
+        if live {
+            Some(Loose {
+                at: at.cast(),
+                alloc,
+            })
+        } else {
+            None
+        }
+    }
+
+    /// The same, put together.
+    pub(crate) fn into_box(self, alloc: Global) -> Option<Box<State>>
+        ensures { MatchOption result (self.state ≡ None) (λ state. self.state ≡ Some state.value) }
+    {
+        match self.into_loose(alloc) {
+            Some(loose) => Some(loose.into_box()),
+            None => None,
+        }
+    }
+
+    /// Takes what it is of, and leaves one of none.
+    pub(crate) fn take(&mut self, alloc: Global) -> Option<Box<State>>
+        ensures closed { self.new.state ≡ None }
+        ensures taken { MatchOption result (self.old.state ≡ None) (λ state. self.old.state ≡ Some state.value) }
+    {
+        mem::replace(self, Handle::none()).into_box(alloc)
+    }
+
+    /// Makes it one of this. What it was of before is dropped.
+    pub(crate) fn put(&mut self, state: Box<State>, alloc: Global)
+        ensures { self.new.state ≡ Some state.value }
+    {
+        let before = mem::replace(self, Handle::of(Loose::of(state)));
+        drop(before.into_box(alloc));
+    }
+}
+
+/// A handle may go from one thread to another, as what it is of may.
+unsafe impl Send for Handle {}
+
+/// What may go from one thread to another.
+fn goes<T: Send>(_value: &T) {}
+
+/// A handle does, and what it is of: so it is proved of both.
+fn both_go(handle: &Handle, state: &State) {
+    goes(handle);
+    goes(state);
+}

@@ -1,0 +1,31 @@
+//! What is told of a picture.
+ghost use Rattle.std.specs.Prelude.{◌≡◌};
+ghost use Rattle.vx_c.specs.Call.{picture_by};
+
+use vx_pic::Kind;
+
+/// What is told of a picture.
+#[repr(C)]
+#[derive(Clone, Copy)]
+pub struct GqPicture {
+    pub number: u64,
+    pub bytes: usize,
+    pub order: i32,
+    pub nal_type: u8,
+    pub temporal_id: u8,
+    pub starts_sequence: bool,
+}
+
+/// What is told of the picture of this number and kind, of which so many bytes are written.
+pub(crate) fn told(number: u64, bytes: usize, kind: Kind) -> GqPicture
+    ensures { result ≡ picture_by number bytes kind }
+{
+    GqPicture {
+        number,
+        bytes,
+        order: kind.poc,
+        nal_type: kind.nal_type,
+        temporal_id: kind.temporal_id,
+        starts_sequence: kind.clvss,
+    }
+}

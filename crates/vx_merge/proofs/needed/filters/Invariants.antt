@@ -1,7 +1,0 @@
-use Rattle.std.proofs.Common.{◌≡◌, map, take}
-use Rattle.std.specs.Prelude.{flat_map}
-use Rattle.vx_merge.specs.Bodies.{filters_in, once}
-use Rattle.vx_merge.proofs.needed.filters.Given as goal
-
-abbrev pub invariant-loop-k : goal.invariant-loop-k
-invariant-loop-k l = map (λ b. b.now) l.bodies ≡ once (flat_map filters_in (take l.k l.round))

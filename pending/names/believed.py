@@ -1,0 +1,928 @@
+#!/usr/bin/env python3
+"""Makes docs/BELIEVED.md: which definitions, tables and types each promise rests on, found by names.
+
+    scripts/believed.py [--check | --of NAME]
+
+A definition of specs/ rests on what its text names: what its file defines, and what the `use` lines of the file bring. So do
+constants and tables of src/, by the `use` lines of Rust, types by what their fields are and by what clauses see of them, and
+macros that write rows. From the definitions that say a promise this leads to all that it rests on.
+
+With --check nothing is written, and the status is 1 where the page isn't what would be. --of prints what the definitions of
+that name rest on. What can't be resolved is said on standard error.
+"""
+import argparse
+import bisect
+import pathlib
+import re
+import sys
+from collections import defaultdict
+from dataclasses import dataclass, field
+
+ROOT = pathlib.Path(__file__).resolve().parent.parent
+CRATES = ROOT / "crates"
+PAGE = ROOT / "docs/BELIEVED.md"
+# The function whose clauses are the promise as a whole, and the traits that it asks of what it is handed.
+RUN = ("vx_run.src.program", "run")
+TRAITS = {("vx_io.src.read", "Source"), ("vx_io.src.write", "Sink")}
+# Each promise: a letter for the lists, its name, and the definitions that say it.
+READERS = "vx_pic.specs.H266.AreOfH266"
+PROMISES = (
+    ("s", "`show`", ("vx_run.specs.Show.Shows",)),
+    ("e", "`extract`", ("vx_run.specs.Extract.Extracts",)),
+    ("c", "`check extract`", ("vx_run.specs.Extract.Checks",)),
+    ("m", "`merge`", ("vx_run.specs.Merge.Merges",)),
+    ("c", "`check merge`", ("vx_run.specs.Merge.ChecksMerge",)),
+    ("p", "`play`", ("vx_run.specs.Play.Plays",)),
+    ("v", "`verify merge`", ("vx_run.specs.Verify.Verifies",)),
+    ("t", "`trial`", ("vx_run.specs.Trial.Trials",)),
+    ("", "what `extract` wrote, read again", ("vx_run.specs.ReadAgain.IsReadAgain", READERS)),
+    ("", "what `merge` wrote, read again", ("vx_run.specs.MergeAgain.IsMergedAgain", READERS)),
+    ("", "what `play` wrote, read again", ("vx_run.specs.Play.PlayedIsReadAgain",)),
+    ("h", "the readers of H.266", (READERS,)),
+    ("i", "the decoding input of a slice", ("vx_pic.specs.Inputs.Input", "vx_pic.specs.Inputs.inputs_of")),
+    ("", "`run` and the last write of `main`", ("vx_run.specs.Whole.RunsWhole",)),
+)
+WORD = r"[^\W\d][\w']*"
+# A clause of H.266, as `7.4.3.4`, `C.6`, `clause 9` or `Annex B`.
+CLAUSE = re.compile(r"\b(?:(?:[1-9]|[A-D])(?:\.\d+)+|Annex [A-D]|[Cc]lause \d+(?:\.\d+)*)")
+RESERVED = {
+    *"abbrev as axiom case data do else in infixl let module mod of pub record then unfoldable use where if".split(),
+    *"Type Unit tt ℕ ℤ λ _".split(),
+}
+# A file with more names than these has their number on the page; and so have all files of a crate with ten times as many.
+MOST_NAMED = 30
+
+
+@dataclass(eq=False)
+class Item:
+    """A definition, a constant, a table, a type or a macro: where it stands, what is said above it, and its text."""
+
+    module: str
+    name: str
+    kind: str
+    line: int
+    comment: str
+    heading: str
+    text: str
+    size: int
+    axiom: bool = False
+    parts: dict = field(default_factory=dict)
+    uses: set = field(default_factory=set)
+    kit: set = field(default_factory=set)
+
+    @property
+    def crate(self):
+        """Its crate."""
+        return self.module.partition(".")[0]
+
+    @property
+    def path(self):
+        """Its file, in the crate's folder."""
+        return path_of(self.module)
+
+    @property
+    def inner(self):
+        """It serves bodies and proofs alone."""
+        return ".specs.inner" in self.module
+
+    @property
+    def apart(self):
+        """It stands where no promise looks: among what serves bodies and proofs alone, or among statements of laws."""
+        return is_apart(self.module)
+
+
+@dataclass
+class Module:
+    """A file: its items; what its `use` lines bring, by the name that it has here; and the files that have a short name here."""
+
+    name: str
+    head: str = ""
+    text: str = ""
+    items: dict = field(default_factory=dict)
+    parts: dict = field(default_factory=dict)
+    brought: dict = field(default_factory=lambda: defaultdict(set))
+    short: dict = field(default_factory=lambda: defaultdict(set))
+    rust: dict = field(default_factory=dict)
+    opened: list = field(default_factory=list)
+
+    def add(self, name, item):
+        """Adds an item."""
+        if name in self.items:
+            trouble(f"{path_of(self.name)} of {item.crate}: {name} is defined twice")
+        self.items[name] = item
+        self.parts.update(item.parts)
+
+
+TROUBLE = set()
+
+
+def trouble(line):
+    """Keeps what couldn't be resolved."""
+    TROUBLE.add(line)
+
+
+def is_apart(module):
+    """A file stands in specs/inner/ or specs/laws/."""
+    return bool(re.search(r"\.specs\.(?:inner|laws)\b", module))
+
+
+def path_of(module):
+    """The file of a module, in its crate's folder."""
+    _, part, rest = module.split(".", 2)
+    return f"{part}/{rest.replace('.', '/')}." + ("antt" if part == "specs" else "rt")
+
+
+# ---- texts
+
+
+def masked(text, mark):
+    """The text with blanks in place of comments and of what stands in quotes."""
+    quoted = r'b?"(?:[^"\\]|\\.)*"'
+    letter = r"b?'(?:[^'\\\n]|\\.)'" if mark == "//" else "(?!)"
+    pattern = re.compile(rf"{quoted}|{letter}|{mark}[^\n]*", re.S)
+    return pattern.sub(lambda m: re.sub(r"[^\n]", " ", m[0]), text)
+
+
+def said(line, mark):
+    """What a line of comment says; None where it is none."""
+    m = re.match(rf"\s*{mark}[/!]?(?: (.*))?$", line)
+    return None if m is None else (m[1] or "").strip()
+
+
+def above(lines, at, mark):
+    """The comment right above a line."""
+    found = []
+    while at > 0:
+        at -= 1
+        if re.match(r"\s*(#\[|infix)", lines[at]):
+            continue
+        text = said(lines[at], mark)
+        if text is None or text.startswith("----"):
+            break
+        found.insert(0, text)
+    return " ".join(found).strip()
+
+
+def head_of(lines, mark):
+    """The first sentence of the comment that a file begins with."""
+    found = []
+    for line in lines:
+        text = said(line, mark)
+        if not text:
+            break
+        found.append(text)
+    return sentence(" ".join(found))
+
+
+def sentence(text):
+    """The first sentence of a comment, without the point that ends it."""
+    return re.split(r"(?<=[^.])\.(?: (?=[A-Z`(0-9])|$)", text, maxsplit=1)[0].rstrip(",:")
+
+
+def size_of(text):
+    """How many lines have something."""
+    return sum(1 for line in text.split("\n") if line.strip())
+
+
+BRACKET = re.compile(r"[()\[\]{}]")
+
+
+def close_of(text, at):
+    """The place behind the bracket that closes the one at a place."""
+    depth = 0
+    for m in BRACKET.finditer(text, at):
+        depth += 1 if m[0] in "([{" else -1
+        if depth == 0:
+            return m.end()
+    return len(text)
+
+
+# ---- files of definitions
+
+MARKS = r"(?:pattern )?(?:abbrev|unfoldable)(?: pub)? |(?:pub )?(record|data) |(axiom)(?: pub)? |(?<=\n)(?:pub )?(?=\S+ :)"
+DEFINES = re.compile(rf"^( *)(?:{MARKS})(◌\S+◌|{WORD})", re.M)
+BLOCK = re.compile(r"^module _ (.*?) where *$", re.M)
+USES = re.compile(rf"\buse Rattle\.((?:\w+\.)*\w+)(?:\.\{{([^}}]*)\}}|\s+as\s+({WORD}))")
+FIELD = re.compile(rf"^(\s*)pub {WORD} :", re.M)
+
+
+def take_uses(module, text):
+    """Takes what the `use` lines of clauses bring."""
+    for path, names, short in USES.findall(text):
+        if short:
+            module.short[short].add(path)
+        for name in filter(None, map(str.strip, names.split(","))):
+            given, _, here = (part.strip() for part in name.partition(" as "))
+            module.brought[here or given].add((path, given))
+
+
+def blocks_of(text):
+    """Where blocks with parameters begin and end, and the parameters."""
+    for m in BLOCK.finditer(text):
+        end = re.compile(r"^\S", re.M).search(text, m.end())
+        yield m.start(), end.start() if end else len(text), m[1]
+
+
+def spec_module(crate, path):
+    """The module of a file of specs/."""
+    name = ".".join(path.relative_to(CRATES / crate / "specs").with_suffix("").parts)
+    raw = path.read_text()
+    lines = raw.split("\n")
+    text = masked(raw, "--")
+    module = Module(f"{crate}.specs.{name}", head_of(lines, "--"), text)
+    take_uses(module, text)
+    blocks = list(blocks_of(text))
+    headings = [(at, said(line, "--").strip("- ")) for at, line in enumerate(lines) if line.strip().startswith("-- ----")]
+    starts = list(DEFINES.finditer(text))
+    ends = [m.start() for m in starts[1:]] + [len(text)]
+    for m, end in zip(starts, ends):
+        end = min([end, *(begin for begin, _, _ in blocks if m.start() < begin)])
+        body = re.sub(r"^\s*infix.*$", "", text[m.start() : end], flags=re.M)
+        line = text.count("\n", 0, m.start())
+        heading = next((title for at, title in reversed(headings) if at < line), "")
+        item = Item(module.name, m[4], "definition", line + 1, above(lines, line, "--"), heading, body, size_of(body))
+        item.axiom = bool(m[3])
+        item.text = " ".join(parameters for begin, finish, parameters in blocks if begin < m.start() < finish) + body
+        if m[2] == "data":
+            lists = re.finditer(rf"^{m[1]}  ({WORD}(?: {WORD})*) :", body, re.M)
+            item.parts = {part: item for one in lists for part in one[1].split()}
+        module.add(item.name, item)
+    return module
+
+
+# ---- files of code
+
+RUST_ITEM = re.compile(
+    r"^(?:pub(?:\([^)]*\))? )?(?:(const|static) (?!fn\b)(\w+)|(struct|enum|trait|type) (\w+)|(macro_rules)! (\w+))", re.M
+)
+RUST_USE = re.compile(r"^(?:pub(?:\([^)]*\))? )?use ([^;]*);", re.M)
+RUST_FN = re.compile(r"^( *)(pub(?:\([^)]*\))? )?(?:const )?(?:unsafe )?fn (\w+)", re.M)
+CLAUSES = re.compile(r"\b(?:(requires|ensures)(?: \w+)? \{|ghost (?!use\b)(\w+) ?[=:] ?\{)")
+
+
+def split_list(text):
+    """The parts of a list with commas, those in inner brackets apart."""
+    parts, depth = [""], 0
+    for letter in text:
+        depth += {"{": 1, "}": -1}.get(letter, 0)
+        if letter == "," and depth == 0:
+            parts.append("")
+        else:
+            parts[-1] += letter
+    return [part.strip() for part in parts if part.strip()]
+
+
+def use_tree(text):
+    """The paths of a `use` line of Rust, each with the name that it has here."""
+    brace = text.find("{")
+    if brace < 0:
+        path, _, here = (part.strip() for part in text.partition(" as "))
+        return [(path, here or path.split("::")[-1])]
+    front = text[:brace].strip().rstrip(":")
+    made = []
+    for part in split_list(text[brace + 1 : close_of(text, brace) - 1]):
+        for path, here in use_tree(part):
+            made.append((front, front.split("::")[-1]) if path == "self" else (f"{front}::{path}", here))
+    return made
+
+
+def end_of_item(text, at):
+    """Where an item of Rust ends, from a place in it on."""
+    while m := re.compile(r"[;({\[]").search(text, at):
+        if m[0] == ";":
+            return m.end()
+        at = close_of(text, m.start())
+        if m[0] == "{" and not re.compile(r"\s*;").match(text, at):
+            return at
+    return len(text)
+
+
+def rust_item(module, m, lines):
+    """An item of Rust."""
+    name = m[2] or m[4] or m[6]
+    kind = "constant" if m[1] else "type" if m[3] else "macro"
+    body = module.text[m.start() : end_of_item(module.text, m.end())]
+    if kind == "constant" and re.search(r"\btable! ?\{", body):
+        kind = "table"
+    line = module.text.count("\n", 0, m.start())
+    item = Item(module.name, name, kind, line + 1, above(lines, line, "//"), "", body, size_of(body))
+    if m[3] == "enum":
+        item.parts = {part: item for part in re.findall(r"^    (\w+)", body, re.M)}
+    return item
+
+
+def code_module(crate, path):
+    """The module of a file of src/."""
+    name = ".".join(path.relative_to(CRATES / crate / "src").with_suffix("").parts)
+    raw = path.read_text()
+    lines = raw.split("\n")
+    text = masked(raw, "//")
+    module = Module(f"{crate}.src.{name}", head_of(lines, "//"), text)
+    for m in RUST_USE.finditer(text):
+        for whole, here in use_tree(re.sub(r"\s+", " ", m[1])):
+            if here == "*":
+                module.opened.append(whole.removesuffix("::*"))
+            else:
+                module.rust[here] = whole
+    take_uses(module, text)
+    for m in RUST_ITEM.finditer(text):
+        item = rust_item(module, m, lines)
+        if item.name != "_":
+            module.add(f"{item.name}!" if item.kind == "macro" else item.name, item)
+    return module
+
+
+# ---- what a definition binds itself
+
+
+def words_in(text):
+    """The names in a text, those behind a point aside."""
+    return re.findall(rf"(?<![\w'.]){WORD}", text)
+
+
+def pattern_names(item):
+    """The names in the patterns of a definition by cases, and among the parameters of a record."""
+    own = item.name.strip("◌")
+    begins = re.compile(rf"\s*{re.escape(own)}(?!\S)" if own == item.name else rf".*\s{re.escape(own)}\s")
+    text = re.sub(r"\{\w+ = (\w+)\}", r"\1", item.text)
+    fronts = [front for front in re.findall(r"^(.*?)(?<![<>=≡])=(?![=>])", text, re.M) if begins.match(front)]
+    if m := re.search(rf"\brecord {re.escape(item.name)}\b(.*?): Type", text, re.S):
+        fronts += re.findall(rf"[({{]\s*({WORD}(?:\s+{WORD})*)\s*:", m[1])
+    return {name for front in fronts for name in words_in(front)} - {item.name}
+
+
+def inner_names(text):
+    """The names that a text binds further in, as well as that is seen."""
+    patterns = (r"λ([^.]*)\.", rf"[({{]\s*({WORD}(?:\s+{WORD})*)\s*:(?!:)", r"\blet\b([^=:]*)", r"^\s*(.*?)←")
+    return {name for pattern in patterns for front in re.findall(pattern, text, re.M) for name in words_in(front)}
+
+
+def without_fields(item):
+    """The text of a definition without the names of what it has: fields, or what it is by cases."""
+    text = FIELD.sub(r"\1:", item.text)
+    return re.sub(rf"^(\s+){WORD}(?: {WORD})* :", r"\1:", text, flags=re.M) if item.parts else text
+
+
+# ---- names
+
+NAMED = re.compile(rf"(?<![\w'.])({WORD})((?:\.{WORD})*)")
+IN_RUST = re.compile(r"(?<![\w.:])(\w+(?:::\w+)*)(!?)")
+
+
+class House:
+    """All files, and what names in them stand for."""
+
+    def __init__(self):
+        self.crates = {path.name for path in CRATES.iterdir() if path.is_dir()}
+        self.modules = {}
+        for crate in sorted(self.crates):
+            for path in sorted((CRATES / crate / "specs").rglob("*.antt")):
+                self.keep(spec_module(crate, path))
+            for path in sorted((CRATES / crate / "src").rglob("*.rt")):
+                self.keep(code_module(crate, path))
+        for module in list(self.modules.values()):
+            self.check_uses(module)
+            for item in module.items.values():
+                self.find_uses(module, item)
+            self.find_views(module)
+
+    def keep(self, module):
+        """Keeps a module."""
+        self.modules[module.name] = module
+
+    def items(self, *kinds):
+        """The items of these kinds, file by file."""
+        return [item for module in self.modules.values() for item in module.items.values() if item.kind in kinds]
+
+    # -- by the paths of clauses
+
+    def declared(self, crate, path, name):
+        """What a path to a file of src/ and a name in it stand for: a constant, a type, or the type of a variant."""
+        *front, last = path.split(".")
+        if last == "TheConstants":
+            module = self.modules.get(f"{crate}.src.{'.'.join(front)}")
+            return module and module.items.get(name)
+        if last == "TheVariants":
+            module = self.modules.get(f"{crate}.src.{'.'.join(front[:-1])}")
+            item = module and module.items.get(front[-1])
+            return item if item and name in item.parts else None
+        module = self.modules.get(f"{crate}.src.{'.'.join(front)}")
+        return module and module.items.get(last)
+
+    def at_path(self, path, name, depth=0):
+        """What a path of a clause and a name in it stand for; a word of the kit stands for its path."""
+        crate, _, rest = path.partition(".")
+        if crate not in self.crates:
+            return f"{path}.{name}"
+        if rest.startswith("specs.declared."):
+            return self.declared(crate, rest.removeprefix("specs.declared."), name)
+        module = self.modules.get(path)
+        return self.in_spec(module, name, depth + 1) if module and depth < 5 else None
+
+    def in_spec(self, module, name, depth=0):
+        """What a name stands for in clauses of a file."""
+        if ".specs." in module.name and (item := module.items.get(name) or module.parts.get(name)):
+            return item
+        return next((self.at_path(path, given, depth) for path, given in module.brought.get(name, ())), None)
+
+    def check_uses(self, module):
+        """Says which names of `use` lines stand for nothing."""
+        for targets in module.brought.values():
+            for path, given in targets:
+                if path.startswith("vx_") and self.at_path(path, given) is None:
+                    trouble(f"{path_of(module.name)} of {module.name.partition('.')[0]}: use .. {given}: not found in {path}")
+
+    # -- by the paths of Rust
+
+    def at_rust(self, module, path, depth=0):
+        """What a path of Rust stands for in a file."""
+        if depth > 6:
+            return None
+        crate, _, here = module.name.split(".", 2)
+        first, *rest = path.split("::")
+        parts = {"crate": [crate], "self": [crate, here], "super": [crate, *here.split(".")[:-1]]}.get(first, [first]) + rest
+        if not rest:
+            return self.in_code(module, first, depth + 1)
+        if parts[0] not in self.crates:
+            inside = self.modules.get(f"{crate}.src.{'.'.join(parts[:-1])}")
+            if inside:
+                return self.in_code(inside, parts[-1], depth + 1)
+            return self.at_rust(module, "::".join([module.rust[first], *rest]), depth + 1) if first in module.rust else None
+        inside = self.file_at(parts[:-1])
+        return inside and self.in_code(inside, parts[-1], depth + 1)
+
+    def file_at(self, parts):
+        """The file of a path of Rust that begins with a crate."""
+        name = ".".join(parts[1:])
+        return self.modules.get(f"{parts[0]}.src.{name or 'lib'}") or (None if name else self.modules.get(f"{parts[0]}.src.main"))
+
+    def in_code(self, module, name, depth=0):
+        """What a name stands for in a file of code."""
+        if name in module.items:
+            return module.items[name]
+        if module.rust.get(name, name) != name:
+            return self.at_rust(module, module.rust[name], depth + 1)
+        crate = module.name.partition(".")[0]
+        for path in module.opened:
+            inside = self.file_at([crate if part == "crate" else part for part in path.split("::")])
+            if inside and name in inside.items:
+                return inside.items[name]
+        return None
+
+    def macro(self, module, name):
+        """The macro that a file calls by this name."""
+        crate = module.rust.get(name, "crate").split("::")[0].replace("crate", module.name.partition(".")[0])
+        files = (one for one in self.modules.values() if one.name.startswith(f"{crate}.src."))
+        return next((one.items[f"{name}!"] for one in files if f"{name}!" in one.items), None)
+
+    # -- what texts name
+
+    def of_clause(self, module, text, bound=frozenset()):
+        """What a text of clauses names in a file: items, words of the kit, and names that stand for nothing that is known.
+
+        A name that is bound is none of these, unless it is a case of what is given by cases.
+        """
+        found, kit, strange, hidden = set(), set(), set(), set()
+        for m in NAMED.finditer(text):
+            first, rest = m[1], m[2].split(".")[1:]
+            if first in RESERVED or is_label(text, m):
+                continue
+            behind = [self.at_path(path, rest[0]) for path in module.short.get(first, ()) if rest]
+            met = list(filter(None, behind)) or self.meanings(module, first)
+            if first in bound and not any(behind):
+                hidden |= {(first, one) for one in met if isinstance(one, Item) and first not in one.parts and one.name != "◌>>=◌"}
+                met = [one for one in met if isinstance(one, str) or first in one.parts]
+            elif not met and not rest:
+                strange.add(first)
+            for one in met:
+                (kit if isinstance(one, str) else found).add(one)
+        if re.search(r"\bdo\b|>>=", text):
+            found.update(one for one in self.meanings(module, "◌>>=◌") if isinstance(one, Item))
+        return found, kit, strange, {(name, one) for name, one in hidden if one not in found}
+
+    def meanings(self, module, name):
+        """What a name stands for in clauses of a file; in a file of code each of its blocks has `use` lines of its own."""
+        if ".specs." in module.name:
+            return list(filter(None, [self.in_spec(module, name)]))
+        return list(filter(None, (self.at_path(path, given) for path, given in module.brought.get(name, ()))))
+
+    def find_uses(self, module, item):
+        """Finds what an item rests on."""
+        if item.kind == "definition":
+            self.find_in_definition(module, item)
+        elif item.kind == "macro":
+            for name, mark in re.findall(r"\$crate::(\w+)(!?)", item.text):
+                item.uses.add(self.macro(module, name) if mark else self.at_rust(module, f"crate::{name}"))
+        else:
+            text = re.sub(r"^[^=:{(]*", "", item.text, count=1)
+            text = re.sub(r"^    \w+", "    ", text, flags=re.M) if item.parts else text
+            for path, mark in IN_RUST.findall(text):
+                item.uses.add(self.macro(module, path) if mark else self.at_rust(module, path) or self.of_variant(module, path))
+        item.uses -= {None, item}
+
+    def find_in_definition(self, module, item):
+        """Finds what a definition rests on."""
+        bound = pattern_names(item)
+        item.uses, item.kit, strange, hidden = self.of_clause(module, without_fields(item), bound)
+        where = f"{item.path} of {item.crate}: {item.name}"
+        for name, one in hidden:
+            if one is not item:
+                trouble(f"{where} binds {name}, so it isn't counted as resting on {one.name} of {one.crate} {one.path}")
+        fields = set(re.findall(rf"^\s*pub ({WORD}) :", item.text, re.M))
+        for name in strange - inner_names(item.text) - fields - {item.name}:
+            trouble(f"{where} names {name}, which stands for nothing that is known")
+
+    def of_variant(self, module, path):
+        """The type of a variant of a path of Rust."""
+        return self.at_rust(module, path.rpartition("::")[0]) if "::" in path else None
+
+    def find_views(self, module):
+        """Finds what clauses see of the types of a file: what their `impl Model` says."""
+        for m in re.finditer(r"^impl(?:<[^>]*>)? Model for (\w+)", module.text, re.M):
+            item = self.in_code(module, m[1])
+            end = close_of(module.text, module.text.index("{", m.end()))
+            for clause in re.finditer(r"\bghost (?:Value|view) = \{", module.text[m.end() : end]):
+                at = m.end() + clause.end() - 1
+                found, *_ = self.of_clause(module, module.text[at : close_of(module.text, at)])
+                if item:
+                    item.uses |= found - {item}
+
+
+def is_label(text, m):
+    """A name is that of a field that gets a value, as in `record { at = 0; .. }`."""
+    after = m.end()
+    while after < len(text) and text[after] in " \n":
+        after += 1
+    if text[after : after + 1] != "=" or text[after : after + 2] in ("==", "=>"):
+        return False
+    before = m.start() - 1
+    while before >= 0 and text[before] in " \n":
+        before -= 1
+    return before >= 0 and text[before] in "{;"
+
+
+# ---- contracts
+
+
+def last_before(starts, found, at):
+    """The last of what is found that begins before a place."""
+    place = bisect.bisect_left(starts, at) - 1
+    return found[place] if place >= 0 else None
+
+
+def clauses_of(module):
+    """The clauses of a file of code: whether others see them, the function or trait that has them, and their text."""
+    text = module.text
+    tops = list(re.finditer(r"^(?!ghost|use|\s|[})\]#]).*$", text, re.M))
+    functions = list(RUST_FN.finditer(text))
+    at_tops, at_functions = [m.start() for m in tops], [m.start() for m in functions]
+    for m in CLAUSES.finditer(text):
+        top = last_before(at_tops, tops, m.start())
+        top = top[0] if top else ""
+        fn = last_before(at_functions, functions, m.start())
+        shared = bool(re.search(r"\btrait ", top)) or (top.startswith("impl") and " for " in top)
+        seen = shared if m[2] or fn is None or fn[1] and shared else (fn[2] or "").strip() == "pub"
+        trait = re.match(r"(?:pub )?trait (\w+)", top)
+        owner = trait[1] if trait else fn[3] if fn and not m[2] else ""
+        yield seen, owner, text[m.end() - 1 : close_of(text, m.end() - 1)]
+
+
+def contracts(house):
+    """What clauses name: those of functions that others see, those of the others and of bodies, and those of `run`."""
+    public, inner, run = set(), set(), set()
+    for module in house.modules.values():
+        if ".src." not in module.name:
+            continue
+        crate = module.name.partition(".")[0]
+        for seen, owner, text in clauses_of(module):
+            found, *_ = house.of_clause(module, text)
+            (public if seen or f"{crate}.src.main" in house.modules else inner).update(found)
+            if (module.name, owner) in {RUN, *TRAITS}:
+                run |= found
+        for first, path, name in re.findall(r"\b(crate|vx_\w+)::specs::((?:\w+::)+)(\w+)", module.text):
+            inner.add(house.at_path(f"{crate if first == 'crate' else first}.specs.{path.replace('::', '.').rstrip('.')}", name))
+    if not run:
+        trouble(f"no clauses of {RUN}: `run` is left out")
+    return public, {one for one in inner if isinstance(one, Item)}, run
+
+
+def named_by_proofs(house):
+    """What the files of proofs name."""
+    found = set()
+    for path in CRATES.glob("*/proofs/**/*.antt"):
+        text = masked(path.read_text(), "--")
+        module = Module(path.name)
+        take_uses(module, text)
+        used = set(words_in(USES.sub("", text)))
+        found.update(target for here, targets in module.brought.items() if here in used or "◌" in here for target in targets)
+        for short, targets in module.short.items():
+            names = re.findall(rf"(?<![\w'.]){re.escape(short)}\.({WORD})", text)
+            found.update((target, name) for target in targets for name in names)
+    items = (house.at_path(path, name) for path, name in found)
+    return {one for one in items if isinstance(one, Item)}
+
+
+def closure(roots):
+    """These, and all that they rest on."""
+    found, waiting = set(), list(roots)
+    while waiting:
+        item = waiting.pop()
+        if item not in found:
+            found.add(item)
+            waiting.extend(item.uses)
+    return found
+
+
+def roots_of(house, names):
+    """The definitions that say a promise."""
+    found = set()
+    for path in names:
+        module, _, name = path.rpartition(".")
+        item = house.modules[module].items.get(name) if module in house.modules else None
+        if item is None:
+            trouble(f"no {path}: what it promises is counted without it")
+        else:
+            found.add(item)
+    return found
+
+
+# ---- the page
+
+HEAD = """\
+# What must be believed
+
+The proofs say that the code does what the definitions say. That the definitions say what H.266 says, and what is promised, nobody proves: somebody has to read them. This page says which ones. `scripts/believed.py` makes it, and its `--check` says whether it is what it would be.
+
+## The promises, and how much each rests on
+
+"""
+READING = """
+The promises are those of [PROMISE.md](PROMISE.md) and, of the other commands, of [PROVED.md](PROVED.md); `run` as a whole is `Performs`, `ExitsWith`, all clauses of `run`, and what it asks of sources and sinks. How the numbers come about:
+
+- A definition of `specs/` rests on what its text names: what stands in its file, and what the `use` lines of that file bring. That leads from the definitions that say a promise to all that it rests on. A record counts once with its fields, and what is given by cases once with its cases. Names that a definition binds for itself further in aren't told from those of its file, so something may be counted too much; nothing is left out. {axioms}
+- Lines are those with something, comments aside. A clause is cited where the comment right above a definition names one of H.266 (`7.4.3.4`, `C.6`); what is the project's own has none to cite.
+- Tables are constants of `src/tables.rt`, written by the macros of `vx_table` (`src/macros.rt`) in the look of H.266's syntax tables. Fields are the constants of `vx_fields` ([FIELDS.md](FIELDS.md)). Constants are all others: the numbers of rules ([REFUSALS.md](REFUSALS.md)), names for what tables compute, lists of fields. Types are structs and enums of `src/` that definitions speak of.
+- Words of the kit (`length`, `map`, `Appends`) aren't counted; they stand at the end.
+- Nothing in `specs/inner/` and `specs/laws/` is listed here, nor a statement of a law that no promise rests on, nor what a call of a library alone promises: the proofs need these, but what is promised doesn't.
+
+## From the promise to the ground
+
+Each crate, and in it each file, stands before what it rests on; in a file definitions have the order of the file, which is from the ground up. A line has the first sentence of the comment that stands above a definition, or above the one that it goes with, or the heading where there is none; where the rest of the comment cites a clause, that follows. Read up from the end, the list goes from the ground to the promise.
+
+Letters say which promises rest on it: `s` `show`, `e` `extract`, `c` a `check`, `m` `merge`, `p` `play`, `v` `verify`, `t` `trial`; `h` the readers of H.266, `i` the decoding input of a slice. What has none is of `run` itself: its words, statuses and lines. They stand at the file where all its lines have the same.
+"""
+
+
+def of_kind(items, *kinds):
+    """Those of these kinds."""
+    return [item for item in items if item.kind in kinds]
+
+
+def lines_of(items):
+    """How many lines they have."""
+    return sum(item.size for item in items)
+
+
+def number(n):
+    """A number as pages have it."""
+    return f"{n:,}"
+
+
+def many(n, word):
+    """So many of something."""
+    return f"{number(n)} {word}{'' if n == 1 else 's'}"
+
+
+def promise_row(letter, name, says, found):
+    """A line of the table of promises."""
+    definitions, tables = of_kind(found, "definition"), of_kind(found, "table")
+    constants = of_kind(found, "constant")
+    fields = [item for item in constants if item.crate == "vx_fields" and not item.module.startswith("vx_fields.src.names")]
+    counts = (
+        len(definitions), lines_of(definitions), len({item.module for item in definitions}),
+        sum(bool(CLAUSE.search(item.comment)) for item in definitions), len(tables), lines_of(tables),
+        len(fields), len(constants) - len(fields), len(of_kind(found, "type")),
+    )  # fmt: skip
+    says = ", ".join(f"`{path.rpartition('.')[2]}`" for path in says)
+    return f"| {name} | {letter and f'`{letter}`'} | {says} | " + " | ".join(map(number, counts)) + " |\n"
+
+
+def promise_table(all_found, found):
+    """The table of promises."""
+    columns = "promise | | said by | definitions | lines | files | cite a clause | tables | their lines | fields | constants | types"
+    rows = [promise_row(letter, name, says, found[name]) for letter, name, says in PROMISES]
+    whole = promise_row("", "**`run` as a whole**", ("run", "Performs", "ExitsWith"), all_found)
+    return f"| {columns} |\n|{'---|' * 3}{'--:|' * 9}\n{whole}{''.join(rows)}"
+
+
+def order_of(nodes, edges):
+    """The nodes, each before those that it has an edge to: those with the longest way to the ground first."""
+    heights = {}
+
+    def height(node, way=()):
+        if node not in heights:
+            heights[node] = 1 + max((height(one, (*way, node)) for one in edges[node] if one not in way), default=0)
+        return heights[node]
+
+    return sorted(nodes, key=lambda node: (-height(node), node))
+
+
+def edges_between(items, name_of):
+    """What names of items have edges to."""
+    edges = defaultdict(set)
+    for item in items:
+        edges[name_of(item)] |= {name_of(one) for one in item.uses if one in items} - {name_of(item)}
+    return edges
+
+
+def groups_of(module, found):
+    """The definitions of a file that are found, together where one comment or heading stands above them; and what that says of them."""
+    groups, heading = [], None
+    for item in module.items.values():
+        if item.comment or item.heading != heading:
+            groups.append((item.comment or item.heading and f'under "{sentence(item.heading)}"', []))
+            heading = item.heading
+        groups[-1][1].append(item)
+    for comment, items in groups:
+        kept = [item for item in items if item in found]
+        if kept:
+            yield comment if kept[0] is items[0] else "", kept
+
+
+def ordered(letters):
+    """Letters, each once and in the order of the promises."""
+    return "".join(dict.fromkeys(letter for letter, _, _ in PROMISES if letter in letters))
+
+
+def definition_lines(module, found, letters):
+    """The lines of a file's definitions."""
+    own = {letters[item] for item in module.items.values() if item in found}
+    for comment, items in groups_of(module, found):
+        first = sentence(comment)
+        clauses = [clause for clause in dict.fromkeys(CLAUSE.findall(comment)) if clause not in first]
+        names = ", ".join(f"`{item.name}`" for item in items)
+        mark = ordered("".join(letters[item] for item in items))
+        mark = f" ({mark or 'run'})" if len(own) > 1 else ""
+        yield f"- {names}{mark}" + (f": {first}" if first else "") + (f" ({', '.join(clauses)})" if clauses else "") + "\n"
+
+
+def file_text(module, found, letters):
+    """What the page has of a file of definitions."""
+    own = {letters[item] for item in module.items.values() if item in found}
+    mark = f" ({own.pop() or 'run'})" if len(own) == 1 else ""
+    name = path_of(module.name).removeprefix("specs/")
+    return f"\n**{name}**{mark} {module.head}\n\n" + "".join(definition_lines(module, found, letters))
+
+
+def names_by_file(items):
+    """Items file by file: their names, or how many they are."""
+    files = defaultdict(list)
+    for item in items:
+        files[item.path].append(item.name)
+    few = len(items) <= 10 * MOST_NAMED
+
+    def told(names):
+        return ", ".join(f"`{name}`" for name in names) if few and len(names) <= MOST_NAMED else number(len(names))
+
+    return "; ".join(f"`{path}` {told(names)}" for path, names in sorted(files.items()))
+
+
+def beside(house, crate, found):
+    """What the page has of the code of a crate."""
+    items = [item for item in house.items("table", "constant", "type", "macro") if item.crate == crate and item in found]
+    lines = []
+    for kind in ("table", "macro", "constant", "type"):
+        if kept := of_kind(items, kind):
+            size = f", {many(lines_of(kept), 'line')}" if kind in ("table", "macro") else ""
+            lines.append(f"- {many(len(kept), kind)}{size}: {names_by_file(kept)}\n")
+    return ("\nBeside them in `src/`:\n\n" + "".join(lines)) if lines else ""
+
+
+def crate_text(house, crate, found, letters):
+    """What the page has of a crate."""
+    modules = [m for m in house.modules.values() if m.name.startswith(f"{crate}.specs.") and not is_apart(m.name)]
+    kept = {item for m in modules for item in m.items.values() if item in found}
+    names = {item.module for item in kept}
+    order = order_of(names, edges_between(kept, lambda item: item.module))
+    others = [m.name.rpartition(".")[2] for m in modules if m.items and m.name not in names]
+    total = sum(len(m.items) for m in modules)
+    head = f"\n### `{crate}`: {number(len(kept))} of {many(total, 'definition')}, {many(lines_of(kept), 'line')}\n"
+    skip = f"\nNothing of {', '.join(others)}.\n" if others and kept else ""
+    return head + "".join(file_text(house.modules[name], found, letters) for name in order) + beside(house, crate, found) + skip
+
+
+def twice_text(house, found):
+    """The names that mean two things; `>>=` aside, which is how a do block is read, of whatever it is."""
+    meanings = defaultdict(list)
+    for item in house.items("definition"):
+        for name in (item.name, *item.parts):
+            if name != "◌>>=◌":
+                meanings[name].append(item)
+    both, beside_it = [], []
+    for name, items in sorted(meanings.items()):
+        kept = [item for item in items if item in found]
+        if len(items) > 1 and kept:
+            where = ", ".join(("" if item in found else "*") + f"{item.crate} {item.module.split('.', 2)[2]}" for item in items)
+            (both if len(kept) > 1 else beside_it).append(f"`{name}`: {where}")
+    lines = "".join(f"- {line}\n" for line in both)
+    return f"""
+## Names that mean two things
+
+{many(len(both), 'name') if both else 'No name'} of `specs/` that a promise rests on mean{'' if len(both) > 1 else 's'} two things or more in what promises rest on. A star stands before a place that no promise rests on.
+
+{lines}{lines and chr(10)}{number(len(beside_it))} mean one thing there, and another elsewhere in `specs/`: {'; '.join(beside_it)}.
+"""
+
+
+def dead_text(house, found, public, inner):
+    """What serves no promise and no contract that others see."""
+    served = closure(public) | found
+    by_bodies, by_proofs = closure(inner), closure(named_by_proofs(house))
+    lists = defaultdict(list)
+    for item in house.items("definition"):
+        if item not in served:
+            by = "bodies" if item in by_bodies else "proofs" if item in by_proofs else "nothing"
+            if not item.inner or by == "nothing":
+                lists[by].append(f"`{item.name}` ({item.crate} {item.module.split('.', 2)[2]})")
+    definitions = house.items("definition")
+    rest = sum(item in served and item not in found for item in definitions)
+    bodies, proofs, nothing = (", ".join(lists[by]) or "none" for by in ("bodies", "proofs", "nothing"))
+    return f"""
+## What serves no promise
+
+Of {number(len(definitions))} definitions {number(rest)} are named by contracts of public functions, as laws or as what calls say, and by no promise. Of these nothing has to be believed for a promise. Outside `specs/inner/` no contract that others see rests on these:
+
+- named by contracts of inner functions, or by bodies, alone: {bodies};
+- named by proofs alone: {proofs};
+- named by nothing, also in `specs/inner/`: {nothing}.
+"""
+
+
+def kit_text(found):
+    """The words of the kit."""
+    modules = defaultdict(set)
+    for item in found:
+        for path in item.kit:
+            module, _, name = path.rpartition(".")
+            modules[module].add(name)
+    lines = "".join(f"- `{module}`: {', '.join(f'`{name}`' for name in sorted(names))}\n" for module, names in sorted(modules.items()))
+    return f"""
+## Words of the kit
+
+What these mean stands in the Rattle kit (`rt doc`). Operators, as `++`, aside, {number(sum(map(len, modules.values())))} are named:
+
+{lines}"""
+
+
+def page(house):
+    """The page."""
+    public, inner, run = contracts(house)
+    found = {name: closure(roots_of(house, says)) for _, name, says in PROMISES}
+    whole = closure(run)
+    all_found = whole.union(*found.values())
+    letters = defaultdict(str)
+    for letter, name, _ in PROMISES:
+        for item in found[name]:
+            letters[item] = ordered(letters[item] + letter)
+    crates = {item.crate for item in all_found}
+    order = order_of(crates, edges_between(all_found, lambda item: item.crate))
+    strangers = [item for item in of_kind(all_found, "definition") if item.apart]
+    for item in strangers:
+        trouble(f"{item.path} of {item.crate}: a promise rests on {item.name}, which stands in inner/ or laws/")
+    body = "".join(crate_text(house, crate, all_found, letters) for crate in order)
+    axioms = [f"`{item.name}` ({item.crate})" for item in of_kind(all_found, "definition") if item.axiom]
+    reading = READING.replace("{axioms}", f"Axioms, without a text: {', '.join(axioms)}." if axioms else "No definition is an axiom: each has its text.")
+    ends = twice_text(house, all_found) + dead_text(house, all_found, public, inner) + kit_text(all_found)
+    return HEAD + promise_table(whole, found) + reading + body + ends
+
+
+def tell_of(house, name):
+    """What the definitions of a name rest on, a line each."""
+    for item in house.items("definition"):
+        if item.name == name:
+            print(f"{item.crate} {item.path}: {name}")
+            for one in sorted(closure([item]) - {item}, key=lambda one: (one.kind, one.module, one.line)):
+                print(f"  {one.kind} {one.crate}/{one.path}:{one.line} {one.name}")
+
+
+def main():
+    """Writes the page, compares it, or tells of a definition."""
+    parser = argparse.ArgumentParser(description="Makes docs/BELIEVED.md, what each promise rests on.")
+    parser.add_argument("--check", action="store_true", help="only compare; the status is 1 where it differs")
+    parser.add_argument("--of", metavar="NAME", help="print what the definitions of this name rest on")
+    asked = parser.parse_args()
+    house = House()
+    if asked.of:
+        return tell_of(house, asked.of)
+    made = page(house)
+    for line in sorted(TROUBLE):
+        print(line, file=sys.stderr)
+    if not asked.check:
+        PAGE.write_text(made)
+    elif not PAGE.exists() or PAGE.read_text() != made:
+        sys.exit(f"{PAGE.relative_to(ROOT)} isn't what the files come to: run {sys.argv[0]}")
+    return None
+
+
+if __name__ == "__main__":
+    main()

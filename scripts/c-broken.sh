@@ -1,0 +1,32 @@
+#!/bin/bash
+# Puts broken streams through the library in C under the address and the undefined behaviour sanitizer: merges and extractions of stored
+# streams, each with one to four changes, handed in in pieces. Each has to answer what gq_run does on the same bytes: status, bytes and line.
+# Usage: scripts/c-broken.sh DIR [COUNT]   (DIR is what scripts/c-library.sh filled; COUNT broken merges, and as many extractions, of all
+# families together; 100,000 if left out)
+# With STREAMS=FOLDER the families of a folder (NAME_0.vvc .. beside MANIFEST.json) too; with PROGRAM=FILE each fiftieth merge is also the
+# built program's, on files with the same bytes.
+set -euo pipefail
+[ $# -ge 1 ] || { echo "usage: scripts/c-broken.sh DIR [COUNT]" >&2; exit 2; }
+library=$(realpath "$1") count=${2:-100000}
+cd "$(dirname "$0")/.."
+work=$(mktemp -d)
+trap 'rm -rf "$work"' EXIT
+data=crates/vx_app/data
+mkdir "$work/files"
+export FOLDER=$work/files
+[ -z "${PROGRAM:-}" ] || PROGRAM=$(realpath "$PROGRAM")
+
+families() {
+  echo "0,0=$data/a.266 64,0=$data/a.266"
+  echo "0,0=$data/left.266 64,0=$data/right.266"
+  [ -z "${STREAMS:-}" ] || scripts/families.py "$STREAMS"
+}
+
+"${CC:-cc}" -std=c99 -Wall -Wextra -pedantic -Werror -Wno-unused-function -O1 -g -fsanitize=address,undefined -fno-sanitize-recover=all \
+  -I"$library/include" tests/c/broken.c "$library/lib/libgoosequince.a" -o "$work/broken"
+mapfile -t all < <(families)
+each=$(((count + ${#all[@]} - 1) / ${#all[@]}))
+for n in "${!all[@]}"; do
+  read -ra words <<< "${all[n]}"
+  "$work/broken" "$each" "$((1000 + n))" "${words[@]}"
+done

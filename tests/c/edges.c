@@ -1,0 +1,127 @@
+/*
+ * Calls at the edge: closed handles, numbers that there aren't, room that doesn't suffice, bytes behind an end.
+ * Usage: edges STORED MERGED   (a stored stream, and the stored merge of it with itself, side by side)
+ */
+#include "pushed.h"
+
+static const gq_corner corners[65] = {{0, 0}, {64, 0}};
+
+static int is_closed(const gq_merger *merger) { return merger->at == 0 && !merger->live; }
+
+/* Every call on a closed handle is misused, and writes nothing but how many bytes it took. */
+static void closed(void) {
+    gq_merger merger = {0};
+    gq_extractor extractor = {0};
+    gq_picture picture = {9, 9, 9, 9, 9, true};
+    size_t source = 9, taken = 9;
+    uint8_t room[1] = {0xa5};
+    CHECK(gq_merger_push(&merger, 0, room, 1, &taken) == GQ_MISUSED && taken == 0);
+    CHECK(gq_merger_flush(&merger, 0) == GQ_MISUSED && gq_merger_end(&merger, 0) == GQ_MISUSED);
+    CHECK(gq_merger_next(&merger, &source, &picture) == GQ_MISUSED && source == 9 && picture.number == 9);
+    CHECK(gq_merger_take(&merger, room, 1) == GQ_MISUSED && room[0] == 0xa5);
+    CHECK(gq_merger_line(&merger, room, 1) == 0 && room[0] == 0xa5);
+    gq_merger_close(&merger);
+    CHECK(is_closed(&merger));
+    taken = 9;
+    CHECK(gq_extractor_push(&extractor, room, 1, &taken) == GQ_MISUSED && taken == 0);
+    CHECK(gq_extractor_flush(&extractor) == GQ_MISUSED && gq_extractor_end(&extractor) == GQ_MISUSED);
+    CHECK(gq_extractor_next(&extractor, &picture) == GQ_MISUSED && picture.number == 9);
+    CHECK(gq_extractor_take(&extractor, room, 1) == GQ_MISUSED && gq_extractor_line(&extractor, room, 1) == 0);
+    gq_extractor_close(&extractor);
+    CHECK(extractor.at == 0 && !extractor.live);
+}
+
+/* Corners and numbers that there aren't leave a handle closed; an open one stays as it is. */
+static void opened(void) {
+    gq_merger merger = {0};
+    gq_extractor extractor = {0};
+    gq_corner far[2] = {{0, 0}, {16384, 0}}, low[1] = {{0, 16384}}, last[1] = {{16383, 16383}};
+    void *at;
+    CHECK(gq_merger_open(&merger, corners, 0, 0) == GQ_MISUSED && is_closed(&merger));
+    CHECK(gq_merger_open(&merger, corners, 65, 0) == GQ_MISUSED && is_closed(&merger));
+    CHECK(gq_merger_open(&merger, far, 2, 0) == GQ_MISUSED && gq_merger_open(&merger, low, 1, 0) == GQ_MISUSED && is_closed(&merger));
+    CHECK(gq_merger_open(&merger, last, 1, 255) == GQ_DONE && merger.at != 0 && merger.live);
+    at = merger.at;
+    CHECK(gq_merger_open(&merger, corners, 1, 0) == GQ_MISUSED && merger.at == at && merger.live);
+    gq_merger_close(&merger);
+    gq_merger_close(&merger);
+    CHECK(gq_merger_open(&merger, corners, 64, 0) == GQ_DONE);
+    gq_merger_close(&merger);
+    CHECK(is_closed(&merger));
+    CHECK(gq_extractor_open(&extractor, 1000, 6, 0) == GQ_MISUSED && gq_extractor_open(&extractor, 0, 7, 0) == GQ_MISUSED && !extractor.live);
+    CHECK(gq_extractor_open(&extractor, 999, 0, 255) == GQ_DONE && gq_extractor_open(&extractor, 0, 0, 0) == GQ_MISUSED && extractor.live);
+    gq_extractor_close(&extractor);
+}
+
+/* Sources that there aren't, pushes of nothing, bytes behind a picture and behind the end. */
+static void sources(const bytes *one) {
+    gq_merger merger = {0};
+    gq_picture picture;
+    size_t source = 9, taken = 9;
+    CHECK(gq_merger_open(&merger, corners, 2, 0) == GQ_DONE);
+    CHECK(gq_merger_push(&merger, 2, one->at, one->len, &taken) == GQ_MISUSED && taken == 0);
+    CHECK(gq_merger_flush(&merger, 2) == GQ_MISUSED && gq_merger_end(&merger, SIZE_MAX) == GQ_MISUSED);
+    CHECK(gq_merger_push(&merger, 0, one->at, 0, &taken) == GQ_DONE && taken == 0);
+    CHECK(gq_merger_next(&merger, &source, &picture) == GQ_WAITS && source == 0);
+    CHECK(gq_merger_push(&merger, 0, one->at, one->len, &taken) == GQ_DONE && taken == one->len);
+    CHECK(gq_merger_next(&merger, &source, &picture) == GQ_WAITS && source == 0);
+    CHECK(gq_merger_flush(&merger, 0) == GQ_DONE && gq_merger_next(&merger, &source, &picture) == GQ_WAITS && source == 1);
+    CHECK(gq_merger_push(&merger, 0, one->at, one->len, &taken) == GQ_DONE && taken == 0);
+    CHECK(gq_merger_line(&merger, (uint8_t *) &taken, sizeof taken) == 0);
+    CHECK(gq_merger_end(&merger, 1) == GQ_DONE && gq_merger_end(&merger, 1) == GQ_DONE);
+    CHECK(gq_merger_push(&merger, 1, one->at, one->len, &taken) == GQ_DONE && taken == 0);
+    CHECK(gq_merger_next(&merger, &source, &picture) == GQ_REFUSED && gq_merger_next(&merger, &source, &picture) == GQ_REFUSED);
+    gq_merger_close(&merger);
+}
+
+/* A picture is the same one until it is taken; it is told of, and of its line as much as there is room for. */
+static void pictures(const bytes *one, const bytes *merged) {
+    gq_merger merger = {0};
+    gq_picture picture = {0}, again = {0};
+    size_t source, taken;
+    uint8_t room[256];
+    CHECK(merged->len < sizeof room);
+    CHECK(gq_merger_open(&merger, corners, 2, 0) == GQ_DONE);
+    for (size_t k = 0; k < 2; k++) CHECK(gq_merger_push(&merger, k, one->at, one->len, &taken) == GQ_DONE && gq_merger_flush(&merger, k) == GQ_DONE);
+    CHECK(gq_merger_take(&merger, room, sizeof room) == GQ_MISUSED);
+    CHECK(gq_merger_next(&merger, &source, &picture) == GQ_DONE && gq_merger_next(&merger, &source, &again) == GQ_DONE);
+    CHECK(picture.number == 0 && picture.bytes == merged->len && picture.order == 0 && picture.type == 8 && picture.temporal_id == 0 && picture.starts_sequence);
+    CHECK(again.number == 0 && again.bytes == picture.bytes);
+    CHECK(gq_merger_take(&merger, room, picture.bytes - 1) == GQ_NO_ROOM && gq_merger_take(&merger, room, picture.bytes) == GQ_DONE);
+    CHECK(same(merged, room, picture.bytes));
+    CHECK(gq_merger_end(&merger, 0) == GQ_DONE && gq_merger_end(&merger, 1) == GQ_DONE);
+    CHECK(gq_merger_next(&merger, &source, &picture) == GQ_ENDED && gq_merger_next(&merger, &source, &picture) == GQ_ENDED);
+    gq_merger_close(&merger);
+}
+
+/* A line is put into as much room as there is. */
+static void lines(const bytes *one) {
+    static const char *line = "M3 picture 0 source 1\n";
+    gq_corner beside[2] = {{0, 0}, {32, 0}};
+    gq_merger merger = {0};
+    gq_picture picture;
+    size_t source, taken;
+    CHECK(gq_merger_open(&merger, beside, 2, 0) == GQ_DONE);
+    for (size_t k = 0; k < 2; k++) CHECK(gq_merger_push(&merger, k, one->at, one->len, &taken) == GQ_DONE && gq_merger_end(&merger, k) == GQ_DONE);
+    CHECK(gq_merger_next(&merger, &source, &picture) == GQ_REFUSED);
+    for (size_t room = 0; room <= GQ_LINE_ROOM; room++) {
+        uint8_t told[GQ_LINE_ROOM + 1];
+        size_t len = strlen(line);
+        memset(told, 0xa5, sizeof told);
+        CHECK(gq_merger_line(&merger, told, room) == len);
+        CHECK(memcmp(told, line, room < len ? room : len) == 0 && told[room < len ? room : len] == 0xa5);
+    }
+    gq_merger_close(&merger);
+}
+
+int main(int argc, char **argv) {
+    CHECK(argc == 3);
+    bytes one = read_file(argv[1]), merged = read_file(argv[2]);
+    closed();
+    opened();
+    sources(&one);
+    pictures(&one, &merged);
+    lines(&one);
+    free(one.at), free(merged.at);
+    return 0;
+}
