@@ -85,6 +85,11 @@ class Item:
         """It serves bodies and proofs alone."""
         return ".specs.inner" in self.module
 
+    @property
+    def apart(self):
+        """It stands where no promise looks: among what serves bodies and proofs alone, or among statements of laws."""
+        return is_apart(self.module)
+
 
 @dataclass
 class Module:
@@ -114,6 +119,11 @@ TROUBLE = set()
 def trouble(line):
     """Keeps what couldn't be resolved."""
     TROUBLE.add(line)
+
+
+def is_apart(module):
+    """A file stands in specs/inner/ or specs/laws/."""
+    return bool(re.search(r"\.specs\.(?:inner|laws)\b", module))
 
 
 def path_of(module):
@@ -653,7 +663,7 @@ The promises are those of [PROMISE.md](PROMISE.md) and, of the other commands, o
 - Lines are those with something, comments aside. A clause is cited where the comment right above a definition names one of H.266 (`7.4.3.4`, `C.6`); what is the project's own has none to cite.
 - Tables are constants of `src/tables.rt`, written by the macros of `vx_table` (`src/macros.rt`) in the look of H.266's syntax tables. Fields are the constants of `vx_fields` ([FIELDS.md](FIELDS.md)). Constants are all others: the numbers of rules ([REFUSALS.md](REFUSALS.md)), names for what tables compute, lists of fields. Types are structs and enums of `src/` that definitions speak of.
 - Words of the kit (`length`, `map`, `Appends`) aren't counted; they stand at the end.
-- Nothing in `specs/inner/` is listed here, nor a statement of a law that no promise rests on, nor what a call of a library alone promises: the proofs need these, but what is promised doesn't.
+- Nothing in `specs/inner/` and `specs/laws/` is listed here, nor a statement of a law that no promise rests on, nor what a call of a library alone promises: the proofs need these, but what is promised doesn't.
 
 ## From the promise to the ground
 
@@ -790,7 +800,7 @@ def beside(house, crate, found):
 
 def crate_text(house, crate, found, letters):
     """What the page has of a crate."""
-    modules = [m for m in house.modules.values() if m.name.startswith(f"{crate}.specs.") and ".specs.inner" not in m.name]
+    modules = [m for m in house.modules.values() if m.name.startswith(f"{crate}.specs.") and not is_apart(m.name)]
     kept = {item for m in modules for item in m.items.values() if item in found}
     names = {item.module for item in kept}
     order = order_of(names, edges_between(kept, lambda item: item.module))
@@ -802,11 +812,12 @@ def crate_text(house, crate, found, letters):
 
 
 def twice_text(house, found):
-    """The names that mean two things."""
+    """The names that mean two things; `>>=` aside, which is how a do block is read, of whatever it is."""
     meanings = defaultdict(list)
     for item in house.items("definition"):
         for name in (item.name, *item.parts):
-            meanings[name].append(item)
+            if name != "◌>>=◌":
+                meanings[name].append(item)
     both, beside_it = [], []
     for name, items in sorted(meanings.items()):
         kept = [item for item in items if item in found]
@@ -817,10 +828,9 @@ def twice_text(house, found):
     return f"""
 ## Names that mean two things
 
-{many(len(both), 'name')} of `specs/` that a promise rests on mean{'s' if len(both) == 1 else ''} two things or more in what promises rest on. A star stands before a place that no promise rests on.
+{many(len(both), 'name') if both else 'No name'} of `specs/` that a promise rests on mean{'' if len(both) > 1 else 's'} two things or more in what promises rest on. A star stands before a place that no promise rests on.
 
-{lines}
-{number(len(beside_it))} mean one thing there, and another elsewhere in `specs/`: {'; '.join(beside_it)}.
+{lines}{lines and chr(10)}{number(len(beside_it))} mean one thing there, and another elsewhere in `specs/`: {'; '.join(beside_it)}.
 """
 
 
@@ -876,9 +886,9 @@ def page(house):
             letters[item] = ordered(letters[item] + letter)
     crates = {item.crate for item in all_found}
     order = order_of(crates, edges_between(all_found, lambda item: item.crate))
-    strangers = [item for item in of_kind(all_found, "definition") if item.inner]
+    strangers = [item for item in of_kind(all_found, "definition") if item.apart]
     for item in strangers:
-        trouble(f"{item.path} of {item.crate}: a promise rests on {item.name}, which stands in inner/")
+        trouble(f"{item.path} of {item.crate}: a promise rests on {item.name}, which stands in inner/ or laws/")
     body = "".join(crate_text(house, crate, all_found, letters) for crate in order)
     axioms = [f"`{item.name}` ({item.crate})" for item in of_kind(all_found, "definition") if item.axiom]
     reading = READING.replace("{axioms}", f"Axioms, without a text: {', '.join(axioms)}." if axioms else "No definition is an axiom: each has its text.")

@@ -20,7 +20,7 @@ without() { grep -vxF -e "$1" || true; }
 kept() {
     case $1 in
         sps) constant crates/vx_sps/src/tables.rt TAKEN | without "$(definition crates/vx_sps/specs/Depends.antt taken_besides)" ;;
-        pps) constant crates/vx_pps/src/shape.rt TAKEN | without "$(definition crates/vx_pps/specs/Sets.antt starred)" ;;
+        pps) constant crates/vx_pps/src/shape.rt TAKEN | without "$(definition crates/vx_pps/specs/laws/Sets.antt starred_pps_fields)" ;;
         ph | sh) fields "$1" | without "$(constant "crates/vx_$1/src/tables.rt" STARRED)" ;;
         rpl | weights) fields "$1" ;;
     esac

@@ -5,7 +5,7 @@ use Rattle.std.specs.List.{AllByRecursion, range_with_len, zip}
 use Rattle.std.proofs.lemmas.Bool.{cases_Bool, cases_eq, eq-eqb, true≢false}
 use Rattle.vx_aps.specs.declared.aps.Aps.{Aps}
 use Rattle.vx_aps.specs.declared.aps.TheConstants as aps
-use Rattle.vx_aps.specs.Aps.{ids}
+use Rattle.vx_aps.specs.Aps.{ids_of_type}
 use Rattle.vx_layout.proofs.Parts.{Each-append}
 use Rattle.vx_pic.specs.Parts.{Parts, aps_at}
 use Rattle.vx_pic.specs.Resident.{same_bytes}
@@ -14,7 +14,7 @@ use Rattle.vx_write.specs.Again.{HasReadableSets, IsReadable}
 use Rattle.vx_write.proofs.OwnSets.{IsAmong, among_first, among_second}
 use Rattle.vx_write.proofs.Vacant.{itself_bytes}
 use Rattle.vx_merge.specs.Bodies.{is_among, once, with_bodies}
-use Rattle.vx_merge.specs.Needed.{by_ids, id_of, with_id}
+use Rattle.vx_merge.specs.Needed.{by_ids, id_of_body, sets_with_id}
 use Rattle.vx_merge.specs.inner.Sending.{CanEnd, HasEnds}
 use Rattle.vx_merge.proofs.Owning.{bytes_are}
 
@@ -81,39 +81,39 @@ no_test true b is none = absurd (true≢false none)
 no_test false b is none = is
 
 with_its_id : (kind : ℕ) (bodies : List (List ℕ)) (ns : List ℕ) (body : List ℕ) → is_among body bodies ≡ true → length ns ≡ length bodies
-    → IsAmong (with_id kind bodies ns (id_of bodies ns body)) (set_at kind (id_of bodies ns body) body)
+    → IsAmong (sets_with_id kind bodies ns (id_of_body bodies ns body)) (set_at kind (id_of_body bodies ns body) body)
 with_its_id kind [] ns body is same = absurd (true≢false (sym is))
 with_its_id kind (b ∷ bodies) [] body is same = absurd (omega (arith, same))
 with_its_id kind (b ∷ bodies) (n ∷ ns) body is same = elim (cases_Bool (same_bytes b body)) [
   | inl on ↦
       let here : (n == n) ≡ true = eq-eqb n n refl in
-      let id : id_of (b ∷ bodies) (n ∷ ns) body ≡ n = ap (λ t. cond t n (id_of bodies ns body)) on in
-      let one : IsAmong (with_id kind (b ∷ bodies) (n ∷ ns) n) (set_at kind n body) = rw here (inl (ap (λ x. set_at kind n x) (bytes_are b body on))) in
-      subst (λ i. IsAmong (with_id kind (b ∷ bodies) (n ∷ ns) i) (set_at kind i body)) (sym id) one
+      let id : id_of_body (b ∷ bodies) (n ∷ ns) body ≡ n = ap (λ t. cond t n (id_of_body bodies ns body)) on in
+      let one : IsAmong (sets_with_id kind (b ∷ bodies) (n ∷ ns) n) (set_at kind n body) = rw here (inl (ap (λ x. set_at kind n x) (bytes_are b body on))) in
+      subst (λ i. IsAmong (sets_with_id kind (b ∷ bodies) (n ∷ ns) i) (set_at kind i body)) (sym id) one
   | inr off ↦
-      let id : id_of (b ∷ bodies) (n ∷ ns) body ≡ id_of bodies ns body = ap (λ t. cond t n (id_of bodies ns body)) off in
+      let id : id_of_body (b ∷ bodies) (n ∷ ns) body ≡ id_of_body bodies ns body = ap (λ t. cond t n (id_of_body bodies ns body)) off in
       let more = with_its_id kind bodies ns body (no_test (same_bytes b body) (is_among body bodies) is off) (omega (arith, same)) in
-      subst (λ i. IsAmong (with_id kind (b ∷ bodies) (n ∷ ns) i) (set_at kind i body)) (sym id) (behind kind b n bodies ns (id_of bodies ns body) (set_at kind (id_of bodies ns body) body) more)
+      subst (λ i. IsAmong (sets_with_id kind (b ∷ bodies) (n ∷ ns) i) (set_at kind i body)) (sym id) (behind kind b n bodies ns (id_of_body bodies ns body) (set_at kind (id_of_body bodies ns body) body) more)
 ]
   where
     behind : (kind : ℕ) (b : List ℕ) (n : ℕ) (bodies : List (List ℕ)) (ns : List ℕ) (id : ℕ) (s : Set)
-        → IsAmong (with_id kind bodies ns id) s → IsAmong (with_id kind (b ∷ bodies) (n ∷ ns) id) s
+        → IsAmong (sets_with_id kind bodies ns id) s → IsAmong (sets_with_id kind (b ∷ bodies) (n ∷ ns) id) s
     behind kind b n bodies ns id s more = elim (cases_Bool (n == id)) [ inl on ↦ rw on (inr more) | inr off ↦ rw off more ]
 
 pub by_range : (kind : ℕ) (bodies : List (List ℕ)) (ns : List ℕ) (s : Set) (id from count : ℕ) → from ≤ id → id < from + count
-    → IsAmong (with_id kind bodies ns id) s → IsAmong (flat_map (with_id kind bodies ns) (range_with_len from count)) s
+    → IsAmong (sets_with_id kind bodies ns id) s → IsAmong (flat_map (sets_with_id kind bodies ns) (range_with_len from count)) s
 by_range kind bodies ns s id from zero low high is = absurd (omega (arith, low, high))
 by_range kind bodies ns s id from (suc count) low high is = elim (cases_eq from id) [
-  | inl same ↦ among_first (with_id kind bodies ns from) (flat_map (with_id kind bodies ns) (range_with_len (from + 1) count)) s (subst (λ i. IsAmong (with_id kind bodies ns i) s) (sym same) is)
-  | inr other ↦ among_second (with_id kind bodies ns from) (flat_map (with_id kind bodies ns) (range_with_len (from + 1) count)) s (by_range kind bodies ns s id (from + 1) count (omega (arith, low, other)) (omega (arith, high)) is)
+  | inl same ↦ among_first (sets_with_id kind bodies ns from) (flat_map (sets_with_id kind bodies ns) (range_with_len (from + 1) count)) s (subst (λ i. IsAmong (sets_with_id kind bodies ns i) s) (sym same) is)
+  | inr other ↦ among_second (sets_with_id kind bodies ns from) (flat_map (sets_with_id kind bodies ns) (range_with_len (from + 1) count)) s (by_range kind bodies ns s id (from + 1) count (omega (arith, low, other)) (omega (arith, high)) is)
 ]
 
 -- among all of a type
 pub by_its_id : (kind count : ℕ) (bodies : List (List ℕ)) (ns : List ℕ) (body : List ℕ) → is_among body bodies ≡ true
-    → length ns ≡ length bodies → id_of bodies ns body < count
-    → IsAmong (by_ids kind count bodies ns) (set_at kind (id_of bodies ns body) body)
+    → length ns ≡ length bodies → id_of_body bodies ns body < count
+    → IsAmong (by_ids kind count bodies ns) (set_at kind (id_of_body bodies ns body) body)
 by_its_id kind count bodies ns body is same low =
-    by_range kind bodies ns (set_at kind (id_of bodies ns body) body) (id_of bodies ns body) 0 count (omega arith) (omega (arith, low)) (with_its_id kind bodies ns body is same)
+    by_range kind bodies ns (set_at kind (id_of_body bodies ns body) body) (id_of_body bodies ns body) 0 count (omega arith) (omega (arith, low)) (with_its_id kind bodies ns body is same)
 
 -- ---- sets that can be read again
 
@@ -126,21 +126,21 @@ zip_ends (b ∷ bodies) (n ∷ ns) id all = elim (cases_Bool (n == id)) [
   | inr off ↦ rw off (zip_ends bodies ns id all.1)
 ]
 
-readable_at : (kind id : ℕ) (ps : List (List ℕ × ℕ)) → kind ≤ aps.SCALING → id < ids kind
+readable_at : (kind id : ℕ) (ps : List (List ℕ × ℕ)) → kind ≤ aps.SCALING → id < ids_of_type kind
     → AllByRecursion (λ (p : List ℕ × ℕ). CanEnd p.0) ps
     → AllByRecursion IsReadable (map (λ (p : List ℕ × ℕ). set_at kind id p.0) ps)
 readable_at kind id [] known low all = tt
 readable_at kind id (p ∷ ps) known low all = (record { kind = known; id = low; some = all.0.0; ends = all.0.1 }, readable_at kind id ps known low all.1)
 
-readable_from : (kind : ℕ) (bodies : List (List ℕ)) (ns : List ℕ) (from count : ℕ) → kind ≤ aps.SCALING → from + count ≤ ids kind
+readable_from : (kind : ℕ) (bodies : List (List ℕ)) (ns : List ℕ) (from count : ℕ) → kind ≤ aps.SCALING → from + count ≤ ids_of_type kind
     → AllByRecursion CanEnd bodies
-    → AllByRecursion IsReadable (flat_map (with_id kind bodies ns) (range_with_len from count))
+    → AllByRecursion IsReadable (flat_map (sets_with_id kind bodies ns) (range_with_len from count))
 readable_from kind bodies ns from zero known few all = tt
 readable_from kind bodies ns from (suc count) known few all =
-    Each-append IsReadable (with_id kind bodies ns from) (flat_map (with_id kind bodies ns) (range_with_len (from + 1) count))
+    Each-append IsReadable (sets_with_id kind bodies ns from) (flat_map (sets_with_id kind bodies ns) (range_with_len (from + 1) count))
     (readable_at kind from (filter (λ (p : List ℕ × ℕ). p.1 == from) (zip bodies ns)) known (omega (arith, few)) (zip_ends bodies ns from all)) (readable_from kind bodies ns (from + 1) count known (omega (arith, few)) all)
 
-pub readable_by_ids : (kind count : ℕ) (bodies : List (List ℕ)) (ns : List ℕ) → kind ≤ aps.SCALING → count ≤ ids kind
+pub readable_by_ids : (kind count : ℕ) (bodies : List (List ℕ)) (ns : List ℕ) → kind ≤ aps.SCALING → count ≤ ids_of_type kind
     → AllByRecursion CanEnd bodies → AllByRecursion IsReadable (by_ids kind count bodies ns)
 readable_by_ids kind count bodies ns known few all = readable_from kind bodies ns 0 count known (omega (arith, few)) all
 

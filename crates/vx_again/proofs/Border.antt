@@ -7,20 +7,20 @@ use Rattle.vx_layout.specs.declared.rect.Rect.{Rect}
 use Rattle.vx_layout.specs.Layouts.{no_rect}
 use Rattle.vx_fit.specs.declared.placed.Placed.{Placed}
 use Rattle.vx_fit.specs.FitFaults.{nowhere}
-use Rattle.vx_fit.specs.FitLaws.{AreItsSamples}
+use Rattle.vx_fit.specs.laws.Fitting.{AreItsSamples}
 use Rattle.vx_fit.specs.Placing.{in_ctus}
 use Rattle.vx_fit.proofs.Border.{border_is_regions}
-use Rattle.vx_sps.specs.Reread.{Says}
+use Rattle.vx_sps.specs.laws.Reread.{Says}
 use Rattle.vx_sps.specs.Set.{ctb_size_of}
 use Rattle.vx_sps.specs.Subpictures.{rect_of}
-use Rattle.vx_pps.specs.Sets.{ReadSlicesAreListable, SetsTellPartitions}
+use Rattle.vx_pps.specs.laws.Sets.{ReadSlicesAreListable, SetsTellPartitions}
 use Rattle.vx_pic.specs.Parts.{Parts}
 use Rattle.vx_pic.specs.Written.{Plan}
 use Rattle.vx_merge.specs.declared.corner.Corner.{Corner}
 use Rattle.vx_merge.specs.Merging.{Judges}
 use Rattle.vx_merge.specs.Regions.{corners_in, ctb_of, placed_at, placed_in}
 use Rattle.vx_merge.specs.Rounds.{picture_at}
-use Rattle.vx_merge.specs.Shapes.{sps_shape}
+use Rattle.vx_merge.specs.Shapes.{frame_sps_shape}
 use Rattle.vx_merge.specs.Written.{IsMerged}
 use Rattle.vx_merge.proofs.FrameShaping.{placed_count, positive_ctb}
 use Rattle.vx_merge.proofs.Sized.{in_range}
@@ -77,7 +77,7 @@ module _ (tells : SetsTellPartitions) (reads : ReadSlicesAreListable) (corners :
 module _ (tells : SetsTellPartitions) (reads : ReadSlicesAreListable) (corners : List Corner) (level : Option ℕ) (round : List Parts)
     (done : List Plan) (p : Plan) (ready : IsReadyRound corners round) (passes : Judges corners round None)
     (is : IsMerged corners level round done p) where
-  says : Says (picture_at round 0).sps (sps_shape corners round level) p.begun.sps
+  says : Says (picture_at round 0).sps (frame_sps_shape corners round level) p.begun.sps
   says = said tells reads corners level round p.begun.layout is.ids.pps p.begun.sps p.begun.pps ready passes is.frame
       (sets_of corners level round done p is)
 

@@ -4,7 +4,7 @@ use Rattle.std.specs.Prelude.{drop, option_map}
 use Rattle.std.specs.List.{AllByRecursion, AllZip}
 use Rattle.std.proofs.lemmas.List.{length-map}
 use Rattle.std.proofs.lemmas.Option.{none-some, same_Some, slice_get-map}
-use Rattle.vx_pic.specs.Finished.{IsSound}
+use Rattle.vx_pic.specs.Finished.{IsSoundPicture}
 use Rattle.vx_pic.specs.Parts.{Parts, parts_of}
 use Rattle.vx_pic.specs.Readings.{Picture}
 use Rattle.vx_pic.specs.Rules.{Readers}
@@ -59,10 +59,10 @@ all_last (ps ∷ sources) (q ∷ round) same =
 -- ---- what is known of it
 
 pub record IsSoundLast (R : Readers) (ps : List Picture) (q : Picture) : Type 0 where
-  pub sound : IsSound R (drop 1 ps) q
+  pub sound : IsSoundPicture R (drop 1 ps) q
   pub source : IsSource (parts_of q)
 
-can_last : (R : Readers) (q : Picture) (before : List Picture) → CanBeMerged R (q ∷ before) → IsSound R before q × IsSource (parts_of q)
+can_last : (R : Readers) (q : Picture) (before : List Picture) → CanBeMerged R (q ∷ before) → IsSoundPicture R before q × IsSource (parts_of q)
 can_last R q before can = (can.finished.0, can.each.0)
 
 sound_last : (R : Readers) (ps : List Picture) (q : Picture) → IsLast ps q → CanBeMerged R ps → IsSoundLast R ps q

@@ -20,7 +20,7 @@ use Rattle.vx_pic.specs.Written.{Plan}
 use Rattle.vx_merge.specs.declared.corner.Corner.{Corner}
 use Rattle.vx_merge.specs.Merging.{Judges}
 use Rattle.vx_merge.specs.Rounds.{picture_at}
-use Rattle.vx_merge.specs.Shapes.{sps_shape}
+use Rattle.vx_merge.specs.Shapes.{frame_sps_shape}
 use Rattle.vx_merge.specs.Written.{IsMerged}
 use Rattle.vx_merge.proofs.Passing.{header_alike, sps_alike}
 use Rattle.vx_again.specs.Frames.{IsReadyRound}
@@ -40,15 +40,15 @@ of_parts P (q ∷ pics) all = (all.0, of_parts P pics all.1)
 
 -- ---- numbers of kept fields
 
-header_number : (of : ℕ) (a b : List Item) → IsTrue (has (set_of ph_kept.kept) of)
-    → shown_items (set_of ph_kept.kept) a ≡ shown_items (set_of ph_kept.kept) b → number a of ≡ number b of
-header_number of a b is same = number_of_shown (set_of ph_kept.kept) of a is ∙ ap (λ xs. number xs of) same
-    ∙ sym (number_of_shown (set_of ph_kept.kept) of b is)
+header_number : (of : ℕ) (a b : List Item) → IsTrue (has (set_of ph_kept.kept_ph_fields) of)
+    → shown_items (set_of ph_kept.kept_ph_fields) a ≡ shown_items (set_of ph_kept.kept_ph_fields) b → number a of ≡ number b of
+header_number of a b is same = number_of_shown (set_of ph_kept.kept_ph_fields) of a is ∙ ap (λ xs. number xs of) same
+    ∙ sym (number_of_shown (set_of ph_kept.kept_ph_fields) of b is)
 
-sps_number : (of : ℕ) (a b : List Item) → IsTrue (has (set_of sps_kept.kept) of) → sps_kept.kept_of a ≡ sps_kept.kept_of b
+sps_number : (of : ℕ) (a b : List Item) → IsTrue (has (set_of sps_kept.kept_sps_fields) of) → sps_kept.kept_sps_items a ≡ sps_kept.kept_sps_items b
     → number a of ≡ number b of
-sps_number of a b is same = number_of_shown (set_of sps_kept.kept) of a is ∙ ap (λ xs. number xs of) same
-    ∙ sym (number_of_shown (set_of sps_kept.kept) of b is)
+sps_number of a b is same = number_of_shown (set_of sps_kept.kept_sps_fields) of a is ∙ ap (λ xs. number xs of) same
+    ∙ sym (number_of_shown (set_of sps_kept.kept_sps_fields) of b is)
 
 record TellsAlike (b : Begun) (q : Parts) : Type 0 where
   lsb : lsb_of q.header.fields ≡ lsb_of b.header
@@ -56,8 +56,8 @@ record TellsAlike (b : Begun) (q : Parts) : Type 0 where
   non_ref : is_non_ref q.header.fields ≡ is_non_ref b.header
   max : max_lsb q.sps ≡ max_lsb b.sps
 
-tells_alike : (b : Begun) (q : Parts) → shown_items (set_of ph_kept.kept) q.header.fields ≡ shown_items (set_of ph_kept.kept) b.header
-    → sps_kept.kept_of q.sps ≡ sps_kept.kept_of b.sps → TellsAlike b q
+tells_alike : (b : Begun) (q : Parts) → shown_items (set_of ph_kept.kept_ph_fields) q.header.fields ≡ shown_items (set_of ph_kept.kept_ph_fields) b.header
+    → sps_kept.kept_sps_items q.sps ≡ sps_kept.kept_sps_items b.sps → TellsAlike b q
 unfolding lsb_of msb_cycle is_non_ref max_lsb fresh
 tells_alike b q header sps =
     let present = header_number ph.ph_poc_msb_cycle_present_flag q.header.fields b.header refl header in
@@ -76,7 +76,7 @@ module _ (corners : List Corner) (level : Option ℕ) (round : List Parts) (done
   alike_at : (k : ℕ) → k < length round → TellsAlike p.begun (picture_at round k)
   alike_at k short = tells_alike p.begun (picture_at round k)
       (header_alike corners round ready.same passes k short ∙ sym is.header.says.fields.shown_ones)
-      (sps_alike corners round ready.same passes k short ∙ sym (reshaped_keeps (picture_at round 0).sps p.begun.sps (sps_shape corners round level) is.sps))
+      (sps_alike corners round ready.same passes k short ∙ sym (reshaped_keeps (picture_at round 0).sps p.begun.sps (frame_sps_shape corners round level) is.sps))
 
   alike_all : AllByRecursion (TellsAlike p.begun) round
   alike_all = all_at (TellsAlike p.begun) round alike_at

@@ -14,10 +14,10 @@ use Rattle.vx_pic.specs.Bytes.{ArePictures, ending_by}
 use Rattle.vx_pic.specs.Finished.{AreFinished, PicturesAreFinished}
 use Rattle.vx_pic.specs.H266.{AreOfH266}
 use Rattle.vx_pic.specs.Inputs.{inputs_of}
-use Rattle.vx_pic.specs.Laws.{WrittenHasPictures}
+use Rattle.vx_pic.specs.laws.Pictures.{WrittenHasPictures}
 use Rattle.vx_pic.specs.Parts.{parts_of}
 use Rattle.vx_pic.specs.Readings.{Picture, Reading, current, is_open, pictures}
-use Rattle.vx_pic.specs.Resident.{AllReadAgain, planned_of, read_of, units_written}
+use Rattle.vx_pic.specs.Resident.{AllReadAgain, planned_of, readings_of_plans, units_written}
 use Rattle.vx_pic.specs.Rules.{Readers, structure}
 use Rattle.vx_pic.specs.Streams.{all_read, pictures_of, read_on}
 use Rattle.vx_pic.specs.Sublayers.{KeepsStarts, at_most}
@@ -33,7 +33,7 @@ use Rattle.vx_merge.specs.Written.{limits_of}
 use Rattle.vx_merge.proofs.Passing.{none_broken}
 use Rattle.vx_again.specs.Regions.{AreOfMerge, AreOfSource, HasRegions, PlannedAreOfMerge}
 use Rattle.vx_again.specs.Streams.{AreMerged, MergedKeepsMessages, MergedReadsAgain}
-use Rattle.vx_again.specs.Whole.{IsExtractable, MergeIsReadAgain, MergedUnitsCanStand}
+use Rattle.vx_again.specs.Whole.{IsExtractedAsSource, MergeIsReadAgain, MergedUnitsCanStand}
 use Rattle.vx_again.proofs.Columns.{cons_parts}
 
 abbrev kinds_of : List Picture → List Kind
@@ -99,7 +99,7 @@ module _ (R : Readers) (corners : List Corner) (k : ℕ) (short : k < length cor
 module _ (extracted : ExtractionReadsAgain) (R : Readers) (of : AreOfH266 R) (units : List (List ℕ)) (stand : All CanStand units)
     (corners : List Corner) (k : ℕ) (short : k < length corners) where
   region_again : (ps qs : List Picture) → qs ≡ pictures_of R units → AllByRecursion (HasRegions corners) qs → AreOfSource k ps qs
-      → AreFinished R qs → IsExtractable R k ps qs
+      → AreFinished R qs → IsExtractedAsSource R k ps qs
   region_again ps qs same regions source finished = record {
     rules = no_rules R corners k short qs finished regions;
     again = λ tid level bytes starts is.
@@ -141,7 +141,7 @@ is_read_again reads stands has_pictures finished of_merge keeps_messages extract
     let stand : All CanStand units = stands R corners level sources done of so in
     let same : qs ≡ pictures_of R units = sym (ap (λ o. pictures o.before) again.read ∙ again.planned) in
     let ends : ending_by true None (read_on R [] units) ≡ None
-    = ap (ending_by true None) again.read ∙ ends_well (read_of done) again.rests.closed in
+    = ap (ending_by true None) again.read ∙ ends_well (readings_of_plans done) again.rests.closed in
     let are : AreOfMerge corners sources qs = of_merge R corners level sources done of so in
     record {
       read = subst (λ xs. ArePictures R (written units) true xs None) (sym same)

@@ -13,7 +13,7 @@ use Rattle.vx_fit.proofs.Single.{fault_one}
 use Rattle.vx_sps.specs.Depends as sps_set
 use Rattle.vx_sps.proofs.Says.{reshaped_keeps}
 use Rattle.vx_pps.specs.Pps as pps_set
-use Rattle.vx_pps.specs.Sets.{ReadSlicesAreListable, SetsTellPartitions}
+use Rattle.vx_pps.specs.laws.Sets.{ReadSlicesAreListable, SetsTellPartitions}
 use Rattle.vx_pps.proofs.Framing.{frame_keeps}
 use Rattle.vx_ph.specs.Reshaped.{HaveSameKept, IsApart}
 use Rattle.vx_pic.specs.Parts.{Parts}
@@ -26,7 +26,7 @@ use Rattle.vx_merge.specs.declared.corner.Corner.{Corner}
 use Rattle.vx_merge.specs.Merging.{Judges}
 use Rattle.vx_merge.specs.Regions.{ctb_of, placed_in}
 use Rattle.vx_merge.specs.Rounds.{picture_at}
-use Rattle.vx_merge.specs.Shapes.{IsFrame, pps_shape, sps_shape}
+use Rattle.vx_merge.specs.Shapes.{IsFrame, frame_pps_shape, frame_sps_shape}
 use Rattle.vx_merge.specs.Slots.{pps_slots}
 use Rattle.vx_merge.specs.Written.{IsMerged}
 use Rattle.vx_merge.specs.inner.Joined.{CanBeJoined, HasShapes, MakeFrame}
@@ -81,11 +81,11 @@ module _ (tells : SetsTellPartitions) (reads : ReadSlicesAreListable) (corners :
     -- ---- the sets of the frame
 
     module _ (level : Option ℕ) (id : ℕ) (sps pps : List Item) (sets : AreFrameSets corners level round frame id sps pps) where
-      pub sps_kept : sps_set.kept_of sps ≡ sps_set.kept_of (picture_at round 0).sps
-      sps_kept = reshaped_keeps (picture_at round 0).sps sps (sps_shape corners round level) sets.of_sps
+      pub sps_kept : sps_set.kept_sps_items sps ≡ sps_set.kept_sps_items (picture_at round 0).sps
+      sps_kept = reshaped_keeps (picture_at round 0).sps sps (frame_sps_shape corners round level) sets.of_sps
 
-      pub pps_kept : pps_set.kept_of pps ≡ pps_set.kept_of (picture_at round 0).pps
-      pps_kept = frame_keeps (picture_at round 0).pps pps (pps_shape corners round frame id) (source_at 0 some_round).sets.pps sets.of_pps refl
+      pub pps_kept : pps_set.kept_pps_items pps ≡ pps_set.kept_pps_items (picture_at round 0).pps
+      pps_kept = frame_keeps (picture_at round 0).pps pps (frame_pps_shape corners round frame id) (source_at 0 some_round).sets.pps sets.of_pps refl
 
       -- they keep what the sets of each picture keep
       pub kept_same : (k : ℕ) → k < length round → HaveSameKept (picture_at round k).sps (picture_at round k).pps sps pps
@@ -93,14 +93,14 @@ module _ (tells : SetsTellPartitions) (reads : ReadSlicesAreListable) (corners :
         of_sps = sps_kept ∙ sym (sps_alike corners round ready.same passes k short);
         of_pps = pps_kept ∙ sym (pps_alike corners round ready.same passes k short);
         is_sps = (source_at k short).sets.sps;
-        is_other_sps = sps_items (picture_at round 0).sps (sps_shape corners round level) sps sets.of_sps;
+        is_other_sps = sps_items (picture_at round 0).sps (frame_sps_shape corners round level) sps sets.of_sps;
         is_pps = (source_at k short).sets.pps;
-        is_other_pps = pps_items (picture_at round 0).pps (pps_shape corners round frame id) pps sets.of_pps;
+        is_other_pps = pps_items (picture_at round 0).pps (frame_pps_shape corners round frame id) pps sets.of_pps;
       }
 
       -- the filter and the QP stand in slice headers
       pub apart : IsApart pps
-      apart = frame_apart (picture_at round 0).pps pps (pps_shape corners round frame id) sets.of_pps refl
+      apart = frame_apart (picture_at round 0).pps pps (frame_pps_shape corners round frame id) sets.of_pps refl
 
 -- ---- what is written
 

@@ -8,7 +8,7 @@ use Rattle.vx_aps.specs.declared.aps.TheConstants as aps
 use Rattle.vx_pic.specs.Inputs.{body_of}
 use Rattle.vx_pic.specs.Parts.{Parts, id_count, parts_of}
 use Rattle.vx_pic.specs.Readings.{Picture, stored_aps}
-use Rattle.vx_pic.specs.Resident.{HasSet, IsBodyOf, NeededIsBody, read_of, sent_before}
+use Rattle.vx_pic.specs.Resident.{HasSet, IsBodyOf, NeededIsBody, readings_of_plans, sent_before}
 use Rattle.vx_pic.specs.Written.{Plan, Set, SetUnit, planned}
 use Rattle.vx_write.specs.Again.{SendsItsSets}
 use Rattle.vx_write.proofs.OwnSets.{IsAmong, among_first, among_second, has_set}
@@ -16,7 +16,7 @@ use Rattle.vx_write.proofs.Vacant.{itself_bytes}
 use Rattle.vx_extract.proofs.KeptBodies.{at_place}
 use Rattle.vx_merge.specs.declared.corner.Corner.{Corner}
 use Rattle.vx_merge.specs.Bodies.{filters_in, has_lmcs, has_scaling, is_among, lmcs_body, scaling_body}
-use Rattle.vx_merge.specs.Needed.{alf_bodies, aps_at, by_ids, id_of, lmcs_bodies, scaling_bodies}
+use Rattle.vx_merge.specs.Needed.{alf_bodies, aps_of_body, by_ids, id_of_body, lmcs_bodies, scaling_bodies}
 use Rattle.vx_merge.specs.Shapes.{of_lowest}
 use Rattle.vx_merge.specs.Slots.{TakeSlots, alf_slots, lmcs_slots, scaling_slots}
 use Rattle.vx_merge.specs.Written.{IsMerged}
@@ -38,9 +38,9 @@ pub record HasOne (r : Parts) (kind : ℕ) (ids : List ℕ) (body : List ℕ) : 
   pub low : id < 8
   pub found : body_of r kind id ≡ Some body
 
-first_id : (body : List ℕ) (ids : List ℕ) → length ids ≡ 1 → slice_get ids 0 ≡ Some (id_of (body ∷ []) ids body)
+first_id : (body : List ℕ) (ids : List ℕ) → length ids ≡ 1 → slice_get ids 0 ≡ Some (id_of_body (body ∷ []) ids body)
 first_id body [] one = absurd (omega (arith, one))
-first_id body (i ∷ ids) one = sym (ap (λ b. Some (cond b i (id_of [] ids body))) (itself_bytes body))
+first_id body (i ∷ ids) one = sym (ap (λ b. Some (cond b i (id_of_body [] ids body))) (itself_bytes body))
 
 no_id : (ids : List ℕ) → length ids ≡ 0 → slice_get ids 0 ≡ None
 no_id [] none = refl
@@ -51,7 +51,7 @@ no_id (i ∷ ids) none = absurd (omega (arith, none))
 module _ (needs : NeededIsBody) (corners : List Corner) (level : Option ℕ) (round : List Parts) (done : List Plan) (p : Plan)
     (is : IsMerged corners level round done p) (sent : SendsItsSets is.needed done p) where
   abbrev again : Picture
-  again = planned (read_of done) p
+  again = planned (readings_of_plans done) p
 
   -- those of all types
   abbrev alfs : List Set
@@ -77,40 +77,40 @@ module _ (needs : NeededIsBody) (corners : List Corner) (level : Option ℕ) (ro
 
   -- a body at the id that it takes among those of its type
   taken : (kind count : ℕ) (bodies : List (List ℕ)) (ids : List ℕ) (body : List ℕ) → kind < 3 → 0 < count → count ≤ 8
-      → TakeSlots count (length bodies) p.kind.temporal_id (sent_before done p) (aps_at kind bodies) ids → is_among body bodies ≡ true
+      → TakeSlots count (length bodies) p.kind.temporal_id (sent_before done p) (aps_of_body kind bodies) ids → is_among body bodies ≡ true
       → ((s : Set) → IsAmong (by_ids kind count bodies ids) s → IsAmong (alfs ++ (maps ++ lists)) s)
-      → (id_of bodies ids body < 8) × (body_of (parts_of again) kind (id_of bodies ids body) ≡ Some body)
+      → (id_of_body bodies ids body < 8) × (body_of (parts_of again) kind (id_of_body bodies ids body) ≡ Some body)
   taken kind count bodies ids body known some few slots among inside =
-      let low : id_of bodies ids body < count
-      = id_low bodies ids body count some (slots_low count (length bodies) p.kind.temporal_id (sent_before done p) (aps_at kind bodies) ids slots) in
-      let small : id_of bodies ids body < 8 = omega (arith, low, few) in
+      let low : id_of_body bodies ids body < count
+      = id_low bodies ids body count some (slots_low count (length bodies) p.kind.temporal_id (sent_before done p) (aps_of_body kind bodies) ids slots) in
+      let small : id_of_body bodies ids body < 8 = omega (arith, low, few) in
       let its = by_its_id kind count bodies ids body among slots.one_each low in
-      (small, has_body kind (id_of bodies ids body) body known small (inside (set_at kind (id_of bodies ids body) body) its))
+      (small, has_body kind (id_of_body bodies ids body) body known small (inside (set_at kind (id_of_body bodies ids body) body) its))
 
   -- a filter's
-  pub alf_low : (body : List ℕ) → id_of (alf_bodies round) is.ids.alf body < 8
+  pub alf_low : (body : List ℕ) → id_of_body (alf_bodies round) is.ids.alf body < 8
   alf_low body =
-      let at = aps_at aps.ALF (alf_bodies round) in
+      let at = aps_of_body aps.ALF (alf_bodies round) in
       id_low (alf_bodies round) is.ids.alf body 8 (omega arith)
       (slots_low alf_slots (length (alf_bodies round)) p.kind.temporal_id (sent_before done p) at is.ids.alf is.taken.of_alf)
 
   pub alf_found : (body : List ℕ) → HasBody (flat_map filters_in round) body
-      → body_of (parts_of again) aps.ALF (id_of (alf_bodies round) is.ids.alf body) ≡ Some body
+      → body_of (parts_of again) aps.ALF (id_of_body (alf_bodies round) is.ids.alf body) ≡ Some body
   alf_found body has_ =
       (taken aps.ALF alf_slots (alf_bodies round) is.ids.alf body (omega arith) (omega arith) (omega arith) is.taken.of_alf
       (once_has (flat_map filters_in round) body has_) (λ s among. among_first alfs (maps ++ lists) s among)).1
 
   -- that of LMCS, and of scaling lists
   one : (kind count : ℕ) (bodies : List (List ℕ)) (ids : List ℕ) (body : List ℕ) → kind < 3 → 0 < count → count ≤ 8
-      → TakeSlots count (length bodies) p.kind.temporal_id (sent_before done p) (aps_at kind bodies) ids → bodies ≡ body ∷ []
+      → TakeSlots count (length bodies) p.kind.temporal_id (sent_before done p) (aps_of_body kind bodies) ids → bodies ≡ body ∷ []
       → ((s : Set) → IsAmong (by_ids kind count bodies ids) s → IsAmong (alfs ++ (maps ++ lists)) s)
       → HasOne (parts_of again) kind ids body
   one kind count bodies ids body known some few slots lone inside =
       let among : is_among body bodies ≡ true = ap (is_among body) lone ∙ rw (itself_bytes body) refl in
       let its = taken kind count bodies ids body known some few slots among inside in
       record {
-        id = id_of bodies ids body;
-        first = first_id body ids (slots.one_each ∙ ap (λ bs. length bs) lone) ∙ ap (λ bs. Some (id_of bs ids body)) (sym lone);
+        id = id_of_body bodies ids body;
+        first = first_id body ids (slots.one_each ∙ ap (λ bs. length bs) lone) ∙ ap (λ bs. Some (id_of_body bs ids body)) (sym lone);
         low = its.0;
         found = its.1;
       }

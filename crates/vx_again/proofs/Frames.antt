@@ -19,13 +19,13 @@ use Rattle.vx_layout.specs.Rects.{whole_picture}
 use Rattle.vx_layout.proofs.Nested.{same_numbers}
 use Rattle.vx_sps.specs.declared.tables.TheConstants.{TAKEN}
 use Rattle.vx_sps.specs.Set as sps
-use Rattle.vx_sps.specs.Subpictures.{id_of, rect_of, subpics_of}
-use Rattle.vx_sps.specs.Reread.{Says, Signals}
+use Rattle.vx_sps.specs.Subpictures.{sps_subpic_id_of, rect_of, subpics_of}
+use Rattle.vx_sps.specs.laws.Reread.{Says, Signals}
 use Rattle.vx_sps.proofs.Bounded.{ctu_below}
 use Rattle.vx_sps.proofs.Says.{reshaped_says}
 use Rattle.vx_pps.specs.Pps as pps
-use Rattle.vx_pps.specs.Reshaped.{Tells}
-use Rattle.vx_pps.specs.Sets.{ReadSlicesAreListable, SetsTellPartitions}
+use Rattle.vx_pps.specs.Reshaped.{TellsPpsShape}
+use Rattle.vx_pps.specs.laws.Sets.{ReadSlicesAreListable, SetsTellPartitions}
 use Rattle.vx_pps.proofs.Reshaping.{has_its_tiles}
 use Rattle.vx_pps.proofs.Telling.{reshaped_tells}
 use Rattle.vx_pic.specs.Parts.{Parts}
@@ -35,7 +35,7 @@ use Rattle.vx_merge.specs.declared.corner.Corner.{Corner}
 use Rattle.vx_merge.specs.Merging.{Judges}
 use Rattle.vx_merge.specs.Regions.{corners_in}
 use Rattle.vx_merge.specs.Rounds.{picture_at}
-use Rattle.vx_merge.specs.Shapes.{IsFrame, pps_shape, sps_shape}
+use Rattle.vx_merge.specs.Shapes.{IsFrame, frame_pps_shape, frame_sps_shape}
 use Rattle.vx_merge.proofs.Joining.{corners_count}
 use Rattle.vx_merge.proofs.SliceIds.{HaveIndices, have_indices, ids_are, own_id, signals}
 use Rattle.vx_again.specs.Frames.{AreFrameSets, IsReadyRound, MakeTheFrame, SetsMakeTheFrame}
@@ -72,20 +72,20 @@ module _ (tells : SetsTellPartitions) (reads : ReadSlicesAreListable) (corners :
   some : 0 < length rects
   some = let one = some_round tells reads corners round ready passes in let count = count_rects in omega (arith, one, count)
 
-  pub said : Says first.sps (sps_shape corners round level) s
-  said = reshaped_says first.sps s (sps_shape corners round level) (source_at tells reads corners round ready passes 0 (some_round tells reads corners round ready passes)).sets.sps
+  pub said : Says first.sps (frame_sps_shape corners round level) s
+  said = reshaped_says first.sps s (frame_sps_shape corners round level) (source_at tells reads corners round ready passes 0 (some_round tells reads corners round ready passes)).sets.sps
       ((shapes tells reads corners round ready passes frame is).sps level) sets.of_sps
 
-  pub told : Tells first.pps (pps_shape corners round frame id) p
-  told = reshaped_tells first.pps p (pps_shape corners round frame id) (source_at tells reads corners round ready passes 0 (some_round tells reads corners round ready passes)).sets.pps
+  pub told : TellsPpsShape first.pps (frame_pps_shape corners round frame id) p
+  told = reshaped_tells first.pps p (frame_pps_shape corners round frame id) (source_at tells reads corners round ready passes 0 (some_round tells reads corners round ready passes)).sets.pps
       ((shapes tells reads corners round ready passes frame is).pps id sets.low) sets.of_pps
 
-  own_signals : Signals (sps_shape corners round level) s
-  own_signals = signals first.sps s p (sps_shape corners round level) rects (source_at tells reads corners round ready passes 0 (some_round tells reads corners round ready passes)).sets.sps
+  own_signals : Signals (frame_sps_shape corners round level) s
+  own_signals = signals first.sps s p (frame_sps_shape corners round level) rects (source_at tells reads corners round ready passes 0 (some_round tells reads corners round ready passes)).sets.sps
       ((shapes tells reads corners round ready passes frame is).sps level) sets.of_sps refl few
 
   indices : HaveIndices s p (length rects)
-  indices = have_indices first.sps s p (sps_shape corners round level) rects (source_at tells reads corners round ready passes 0 (some_round tells reads corners round ready passes)).sets.sps
+  indices = have_indices first.sps s p (frame_sps_shape corners round level) rects (source_at tells reads corners round ready passes 0 (some_round tells reads corners round ready passes)).sets.sps
       ((shapes tells reads corners round ready passes frame is).sps level) sets.of_sps refl few
 
   -- ---- sizes
@@ -102,8 +102,8 @@ module _ (tells : SetsTellPartitions) (reads : ReadSlicesAreListable) (corners :
   partitioned : pps.is_partitioned p ≡ true
   partitioned = ap (λ n. not (is_set n)) told.whole
 
-  its : (pps.columns_of p ≡ frame.columns) × (pps.rows_of p ≡ frame.rows) × (pps.slices_of p ≡ Some frame.slices)
-  its = has_its_tiles first.pps p (pps_shape corners round frame id) (source_at tells reads corners round ready passes 0 (some_round tells reads corners round ready passes)).sets.pps
+  its : (pps.tile_columns_of p ≡ frame.columns) × (pps.tile_rows_of p ≡ frame.rows) × (pps.slice_list_of p ≡ Some frame.slices)
+  its = has_its_tiles first.pps p (frame_pps_shape corners round frame id) (source_at tells reads corners round ready passes 0 (some_round tells reads corners round ready passes)).sets.pps
       ((shapes tells reads corners round ready passes frame is).pps id sets.low) sets.of_pps refl
 
   subpictures : subpictures_of s ≡ frame.subpics
@@ -114,9 +114,9 @@ module _ (tells : SetsTellPartitions) (reads : ReadSlicesAreListable) (corners :
 
   pub numbers_are : numbers_in s p ≡ frame
   numbers_are = same_numbers (numbers_in s p) frame
-      (ap (λ b. cond b (pps.columns_of p) (0 ∷ sps.columns_of s ∷ [])) partitioned ∙ its.0)
-      (ap (λ b. cond b (pps.rows_of p) (0 ∷ sps.rows_of s ∷ [])) partitioned ∙ its.1)
-      (ap (λ b. cond b (unwrap_or (pps.slices_of p) (subpictures_of s)) (whole_picture (sps.columns_of s) (sps.rows_of s) ∷ [])) partitioned ∙ ap (λ o. unwrap_or o (subpictures_of s)) its.2)
+      (ap (λ b. cond b (pps.tile_columns_of p) (0 ∷ sps.ctu_columns_of s ∷ [])) partitioned ∙ its.0)
+      (ap (λ b. cond b (pps.tile_rows_of p) (0 ∷ sps.ctu_rows_of s ∷ [])) partitioned ∙ its.1)
+      (ap (λ b. cond b (unwrap_or (pps.slice_list_of p) (subpictures_of s)) (whole_picture (sps.ctu_columns_of s) (sps.ctu_rows_of s) ∷ [])) partitioned ∙ ap (λ o. unwrap_or o (subpictures_of s)) its.2)
       subpictures
 
   -- ---- CTUs
@@ -155,10 +155,10 @@ module _ (tells : SetsTellPartitions) (reads : ReadSlicesAreListable) (corners :
 
   id_at : (i d : ℕ) → i < length rects → get_or (ids_of s p) i d ≡ i
   id_at i d less =
-      ap (λ xs. get_or xs i d) (ids_are first.sps s p (sps_shape corners round level) rects (source_at tells reads corners round ready passes 0 (some_round tells reads corners round ready passes)).sets.sps
+      ap (λ xs. get_or xs i d) (ids_are first.sps s p (frame_sps_shape corners round level) rects (source_at tells reads corners round ready passes 0 (some_round tells reads corners round ready passes)).sets.sps
       ((shapes tells reads corners round ready passes frame is).sps level) sets.of_sps refl few)
-      ∙ get_or-map-range_with_len (id_of s) 0 (length rects) i i d less (omega arith)
-      ∙ own_id first.sps s p (sps_shape corners round level) rects (source_at tells reads corners round ready passes 0 (some_round tells reads corners round ready passes)).sets.sps
+      ∙ get_or-map-range_with_len (sps_subpic_id_of s) 0 (length rects) i i d less (omega arith)
+      ∙ own_id first.sps s p (frame_sps_shape corners round level) rects (source_at tells reads corners round ready passes 0 (some_round tells reads corners round ready passes)).sets.sps
       ((shapes tells reads corners round ready passes frame is).sps level) sets.of_sps refl few i less
 
   distinct : AreDistinct (ids_of s p)

@@ -13,13 +13,13 @@ use Rattle.vx_table.specs.Scope.{fresh, is_set}
 use Rattle.vx_table.proofs.With.{others_with, with_field}
 use Rattle.vx_aps.specs.declared.aps.TheConstants as aps
 use Rattle.vx_layout.proofs.Parts.{Each-append}
-use Rattle.vx_pps.specs.Sets.{ReadSlicesAreListable, SetsTellPartitions}
-use Rattle.vx_sps.specs.Reshaped.{where_so}
+use Rattle.vx_pps.specs.laws.Sets.{ReadSlicesAreListable, SetsTellPartitions}
+use Rattle.vx_table.specs.Rewritten.{where_so}
 use Rattle.vx_ph.specs.Depends as ph_kept
 use Rattle.vx_ph.specs.Filter.{FilterNamesOnce, NamesOnce, filter_of, with_ids}
 use Rattle.vx_ph.specs.InForce.{in_force}
 use Rattle.vx_ph.specs.declared.shape.LmcsShape.{LmcsShape}
-use Rattle.vx_sh.specs.Filter.{SliceHasFilter}
+use Rattle.vx_sh.specs.laws.Filter.{SliceHasFilter}
 use Rattle.vx_pic.specs.Inputs.{body_of}
 use Rattle.vx_pic.specs.Parts.{AreThere, Parts, SlicePart, read_of}
 use Rattle.vx_pic.specs.Readings.{Slice}
@@ -31,9 +31,9 @@ use Rattle.vx_write.specs.Again.{HasItsBodies, IsReadable}
 use Rattle.vx_write.proofs.OwnSets.{IsAmong, among_first, among_second, has_set, units_hold}
 use Rattle.vx_merge.specs.declared.corner.Corner.{Corner}
 use Rattle.vx_merge.specs.Bodies.{filters_in, filters_of, has_lmcs, has_scaling}
-use Rattle.vx_merge.specs.Headers.{IsSlice, id_for, lmcs_shape, ph_shape, sourced}
+use Rattle.vx_merge.specs.Headers.{IsMergedSlice, id_for, lmcs_shape, ph_shape, sourced}
 use Rattle.vx_merge.specs.Merging.{Judges}
-use Rattle.vx_merge.specs.Needed.{alf_bodies, aps_at, by_ids, id_of, lmcs_bodies, needed_sets, scaling_bodies, with_id}
+use Rattle.vx_merge.specs.Needed.{alf_bodies, aps_of_body, by_ids, id_of_body, lmcs_bodies, sets_of_round, scaling_bodies, sets_with_id}
 use Rattle.vx_merge.specs.Rounds.{picture_at}
 use Rattle.vx_merge.specs.Slots.{alf_slots, lmcs_slots, scaling_slots}
 use Rattle.vx_merge.specs.Written.{IsMerged}
@@ -92,7 +92,7 @@ first_among kind count (b ∷ bodies) [] i at same low = absurd (omega (arith, s
 first_among kind count (b ∷ bodies) (n ∷ ids) i at same low =
     let is : n ≡ i = same_Some n i at in
     let here : (n == n) ≡ true = eq-eqb n n refl in
-    let one : IsAmong (with_id kind (b ∷ bodies) (n ∷ ids) n) (set_at kind n b) = rw here (inl refl) in
+    let one : IsAmong (sets_with_id kind (b ∷ bodies) (n ∷ ids) n) (set_at kind n b) = rw here (inl refl) in
     (b, subst (λ j. IsAmong (by_ids kind count (b ∷ bodies) (n ∷ ids)) (set_at kind j b)) is (by_range kind (b ∷ bodies) (n ∷ ids) (set_at kind n b) n 0 count (omega arith) (omega (arith, low, is)) one))
 
 first_index : (ids : List ℕ) (i : ℕ) → slice_get ids 0 ≡ Some i → (slice_index ids 0 ≡ i) × (0 < length ids)
@@ -118,13 +118,13 @@ module _ (tells : SetsTellPartitions) (reads : ReadSlicesAreListable) (has_filte
 
   -- ---- filters
 
-  alf_low : (body : List ℕ) → id_of (alf_bodies round) is.ids.alf body < 8
-  alf_low body = id_low (alf_bodies round) is.ids.alf body 8 (omega arith) (slots_low alf_slots (length (alf_bodies round)) t (sent_before done p) (aps_at aps.ALF (alf_bodies round)) is.ids.alf is.taken.of_alf)
+  alf_low : (body : List ℕ) → id_of_body (alf_bodies round) is.ids.alf body < 8
+  alf_low body = id_low (alf_bodies round) is.ids.alf body 8 (omega arith) (slots_low alf_slots (length (alf_bodies round)) t (sent_before done p) (aps_of_body aps.ALF (alf_bodies round)) is.ids.alf is.taken.of_alf)
 
   alf_needed : (body : List ℕ) → HasBody (flat_map filters_in round) body
-      → HasSet is.needed (set_at aps.ALF (id_of (alf_bodies round) is.ids.alf body) body)
+      → HasSet is.needed (set_at aps.ALF (id_of_body (alf_bodies round) is.ids.alf body) body)
   alf_needed body has_ =
-      in_needed (set_at aps.ALF (id_of (alf_bodies round) is.ids.alf body) body)
+      in_needed (set_at aps.ALF (id_of_body (alf_bodies round) is.ids.alf body) body)
       (among_first (by_ids aps.ALF alf_slots (alf_bodies round) is.ids.alf) (by_ids aps.LMCS lmcs_slots (lmcs_bodies round) is.ids.lmcs ++ by_ids aps.SCALING scaling_slots (scaling_bodies round) is.ids.scaling) _
       (by_its_id aps.ALF alf_slots (alf_bodies round) is.ids.alf body (once_has (flat_map filters_in round) body has_) is.taken.of_alf.one_each (alf_low body)))
 
@@ -151,10 +151,10 @@ module _ (tells : SetsTellPartitions) (reads : ReadSlicesAreListable) (has_filte
         → HaveNamed is.needed (named_filters (where_so b (with_ids (id_for round is.ids q) (filter_of items))))
     all_filters false off = tt
     all_filters true on =
-        filter_named q items filters_there is.needed (id_for round is.ids q) (id_of (alf_bodies round) is.ids.alf) (λ n. alf_low (unwrap_or (body_of q aps.ALF n) [])) (λ n. refl)
+        filter_named q items filters_there is.needed (id_for round is.ids q) (id_of_body (alf_bodies round) is.ids.alf) (λ n. alf_low (unwrap_or (body_of q aps.ALF n) [])) (λ n. refl)
         (λ body in_slice. alf_needed body (of_round.inside body in_slice)) (once_in on)
 
-    slice_filters : (w : Slice) → IsSlice round is.ids p.kind.nal_type p.begun k s w
+    slice_filters : (w : Slice) → IsMergedSlice round is.ids p.kind.nal_type p.begun k s w
         → HaveNamed is.needed (named_filters (filter_items p.begun.pps p.begun.header w.header))
     slice_filters w own =
         let stands : filter_items p.begun.pps p.begun.header w.header ≡ own.is.header.fields =
@@ -173,11 +173,11 @@ module _ (tells : SetsTellPartitions) (reads : ReadSlicesAreListable) (has_filte
   unfolding fresh
   header_lmcs =
       lmcs_named (is_set (number p.begun.sps sps_fields.sps_lmcs_enabled_flag)) (number p.begun.sps sps_fields.sps_chroma_format_idc) (option_map (lmcs_shape round) (slice_get is.ids.lmcs 0)) p.begun.header is.needed
-      (sym (others_with (set_of ph_kept.kept) ph.ph_lmcs_aps_id p.begun.header refl) ∙ ap (with_field ph.ph_lmcs_aps_id) is.header.says.fields.other_ones ∙ lmcs_stated p.begun.sps (ph_shape round is.ids))
+      (sym (others_with (set_of ph_kept.kept_ph_fields) ph.ph_lmcs_aps_id p.begun.header refl) ∙ ap (with_field ph.ph_lmcs_aps_id) is.header.says.fields.other_ones ∙ lmcs_stated p.begun.sps (ph_shape round is.ids))
       (λ shape at.
       let from = mapped (lmcs_shape round) (slice_get is.ids.lmcs 0) shape at in
       let index = first_index is.ids.lmcs from.0 from.1 in
-      let low = slots_low lmcs_slots (length (lmcs_bodies round)) t (sent_before done p) (aps_at aps.LMCS (lmcs_bodies round)) is.ids.lmcs is.taken.of_lmcs 0 index.1 in
+      let low = slots_low lmcs_slots (length (lmcs_bodies round)) t (sent_before done p) (aps_of_body aps.LMCS (lmcs_bodies round)) is.ids.lmcs is.taken.of_lmcs 0 index.1 in
       let among = first_among aps.LMCS lmcs_slots (lmcs_bodies round) is.ids.lmcs from.0 from.1 is.taken.of_lmcs.one_each (omega (arith, low, index.0)) in
       let id : from.0 ≡ shape.id = ap (λ (x : LmcsShape). x.id) from.2 in (
         omega (arith, low, index.0, id),
@@ -193,10 +193,10 @@ module _ (tells : SetsTellPartitions) (reads : ReadSlicesAreListable) (has_filte
   unfolding fresh
   header_scaling =
       scaling_named (is_set (number p.begun.sps sps_fields.sps_explicit_scaling_list_enabled_flag)) (slice_get is.ids.scaling 0) p.begun.header is.needed
-      (sym (others_with (set_of ph_kept.kept) ph.ph_scaling_list_aps_id p.begun.header refl) ∙ ap (with_field ph.ph_scaling_list_aps_id) is.header.says.fields.other_ones ∙ scaling_stated p.begun.sps (ph_shape round is.ids))
+      (sym (others_with (set_of ph_kept.kept_ph_fields) ph.ph_scaling_list_aps_id p.begun.header refl) ∙ ap (with_field ph.ph_scaling_list_aps_id) is.header.says.fields.other_ones ∙ scaling_stated p.begun.sps (ph_shape round is.ids))
       (λ id at.
       let index = first_index is.ids.scaling id at in
-      let low = slots_low scaling_slots (length (scaling_bodies round)) t (sent_before done p) (aps_at aps.SCALING (scaling_bodies round)) is.ids.scaling is.taken.of_scaling 0 index.1 in
+      let low = slots_low scaling_slots (length (scaling_bodies round)) t (sent_before done p) (aps_of_body aps.SCALING (scaling_bodies round)) is.ids.scaling is.taken.of_scaling 0 index.1 in
       let among = first_among aps.SCALING scaling_slots (scaling_bodies round) is.ids.scaling id at is.taken.of_scaling.one_each (omega (arith, low, index.0)) in (
         omega (arith, low, index.0),
         (
@@ -209,14 +209,14 @@ module _ (tells : SetsTellPartitions) (reads : ReadSlicesAreListable) (has_filte
 
   -- ---- all slices
 
-  slice_named : (x : ℕ × SlicePart) (w : Slice) → IsOfRound round x → IsSlice round is.ids p.kind.nal_type p.begun x.0 x.1 w
+  slice_named : (x : ℕ × SlicePart) (w : Slice) → IsOfRound round x → IsMergedSlice round is.ids p.kind.nal_type p.begun x.0 x.1 w
       → HaveNamed is.needed (names_of p.begun.pps p.begun.header w.header)
   unfolding names_of
   slice_named (k, s) w of_round own =
       have_append is.needed (named_filters (filter_items p.begun.pps p.begun.header w.header)) (named aps.LMCS ph.ph_lmcs_aps_id p.begun.header ++ named aps.SCALING ph.ph_scaling_list_aps_id p.begun.header) (slice_filters k s of_round w own)
       (have_append is.needed (named aps.LMCS ph.ph_lmcs_aps_id p.begun.header) (named aps.SCALING ph.ph_scaling_list_aps_id p.begun.header) header_lmcs header_scaling)
 
-  each_named : (xs : List (ℕ × SlicePart)) (ws : List Slice) → AllZip (λ x w. IsSlice round is.ids p.kind.nal_type p.begun x.0 x.1 w) xs ws
+  each_named : (xs : List (ℕ × SlicePart)) (ws : List Slice) → AllZip (λ x w. IsMergedSlice round is.ids p.kind.nal_type p.begun x.0 x.1 w) xs ws
       → AllByRecursion (IsOfRound round) xs
       → AllByRecursion (λ (w : Slice). HaveNamed is.needed (names_of p.begun.pps p.begun.header w.header)) ws
   each_named [] [] own of_round = tt
@@ -238,7 +238,7 @@ module _ (tells : SetsTellPartitions) (reads : ReadSlicesAreListable) (has_filte
   four : 4 ≤ 4
   four = omega arith
 
-  can_be_read : AllByRecursion IsReadable (needed_sets round is.ids p.begun.sps p.begun.pps)
+  can_be_read : AllByRecursion IsReadable (sets_of_round round is.ids p.begun.sps p.begun.pps)
   can_be_read = (
     tt,
     (
@@ -254,7 +254,7 @@ module _ (tells : SetsTellPartitions) (reads : ReadSlicesAreListable) (has_filte
   pub its_bodies : HasItsBodies is.needed p
   its_bodies = record {
     readable = units_hold IsReadable is.needed (subst (AllByRecursion IsReadable) (sym is.sets) can_be_read);
-    bodies = each_named (sourced 0 round) (written.slices_of p) is.slices all_of_round;
+    bodies = each_named (sourced 0 round) (written.planned_slices p) is.slices all_of_round;
   }
 
 pub has_its_bodies : SetsTellPartitions → ReadSlicesAreListable → SliceHasFilter → FilterNamesOnce → MergedHasItsBodies

@@ -7,14 +7,15 @@ use Rattle.vx_table.specs.Depends.{set_of}
 use Rattle.vx_table.specs.Loaded.{number}
 use Rattle.vx_table.specs.Scope.{fresh, is_set, one_if}
 use Rattle.vx_table.proofs.With.{Passing, lacks, one_number, others_with, passing_append, passing_where, with_field}
-use Rattle.vx_sps.specs.Reshaped.{item, where_so}
+use Rattle.vx_sps.specs.Reshaped.{item}
+use Rattle.vx_table.specs.Rewritten.{where_so}
 use Rattle.vx_ph.specs.declared.shape.LmcsShape.{LmcsShape}
 use Rattle.vx_ph.specs.declared.shape.PhShape.{PhShape}
-use Rattle.vx_ph.specs.Depends.{kept}
+use Rattle.vx_ph.specs.Depends.{kept_ph_fields}
 use Rattle.vx_ph.specs.Id.{UnitHasId}
 use Rattle.vx_ph.specs.InForce.{in_force, structures}
 use Rattle.vx_ph.specs.Picture.{IsHeader, UnitIsRead}
-use Rattle.vx_ph.specs.Reshaped.{lmcs_said, map_items, scaling_said, stated}
+use Rattle.vx_ph.specs.Reshaped.{lmcs_said, map_items, scaling_said, stated_ph_items}
 use Rattle.vx_ph.proofs.Sets.{in_force_length}
 use Rattle.vx_pic.specs.declared.unit_types.TheConstants.{PH_NUT}
 use Rattle.vx_pic.specs.H266.{AreOfH266}
@@ -23,10 +24,10 @@ use Rattle.vx_pic.specs.Parts.{Parts}
 use Rattle.vx_pic.specs.Readings.{Begun}
 use Rattle.vx_pic.specs.Rules.{Readers}
 use Rattle.vx_pic.specs.Sets.{pps_id}
-use Rattle.vx_pic.specs.UnderSets.{header_of}
+use Rattle.vx_pic.specs.UnderSets.{picture_header_of}
 use Rattle.vx_pic.specs.Units.{class_of, header_unit}
 use Rattle.vx_pic.specs.Written.{HeaderReads, IsPlain}
-use Rattle.vx_merge.specs.Headers.{HasHeader, ph_shape}
+use Rattle.vx_merge.specs.Headers.{HasMergedHeader, ph_shape}
 use Rattle.vx_merge.specs.Needed.{Ids}
 use Rattle.vx_again.specs.Frames.{MakeTheFrame}
 use Rattle.vx_again.proofs.Units.{IsOf, is_of}
@@ -57,16 +58,16 @@ maps_beside sps shape =
 
 module _ (reads : UnitIsRead) (has_id : UnitHasId) (round : List Parts) (ids : Ids) (b : Begun) (n : ℕ)
     (make : MakeTheFrame n b.layout ids.pps b.sps b.pps) (small : ids.pps < 64) (low : b.temporal_id < 7)
-    (h : HasHeader round ids b) where
+    (h : HasMergedHeader round ids b) where
   id_is : number b.header ph.ph_pic_parameter_set_id ≡ ids.pps
   unfolding fresh
   id_is =
       let of = ph.ph_pic_parameter_set_id in
-      let others : with_field of b.header ≡ with_field of (stated b.sps (ph_shape round ids))
-      = sym (others_with (set_of kept) of b.header refl) ∙ ap (λ xs. with_field of xs) h.says.fields.other_ones in
+      let others : with_field of b.header ≡ with_field of (stated_ph_items b.sps (ph_shape round ids))
+      = sym (others_with (set_of kept_ph_fields) of b.header refl) ∙ ap (λ xs. with_field of xs) h.says.fields.other_ones in
       one_number of ids.pps b.header (omega arith) (omega (arith, small)) (others ∙ ap (λ xs. item of ids.pps ∷ xs) (maps_beside b.sps (ph_shape round ids)))
 
-  is_header : IsHeader (structures b.sps) (in_force b.sps b.pps) (header_of b)
+  is_header : IsHeader (structures b.sps) (in_force b.sps b.pps) (picture_header_of b)
   is_header = record {
     fields = record { values = h.says.fields.values; end = h.says.fields.end; follows = h.says.fields.follows; all = h.says.fields.all };
     lists = refl;
@@ -83,13 +84,13 @@ module _ (reads : UnitIsRead) (has_id : UnitHasId) (round : List Parts) (ids : I
   header_reads R of unique =
       let table = structures b.sps in
       let s = in_force b.sps b.pps in
-      let told = has_id table s (header_of b) h.rbsp (in_force_length b.sps b.pps) h.spelled in
+      let told = has_id table s (picture_header_of b) h.rbsp (in_force_length b.sps b.pps) h.spelled in
       record {
         referred = ap (λ bytes. R.referred_pps false bytes) unit.behind
             ∙ unique.referred_pps false h.rbsp (R.referred_pps false h.rbsp) (Ok (pps_id b.pps)) (of.referred_pps false h.rbsp) (told.0, told.1, make.pps_id_is ∙ sym id_is ∙ told.2);
         size = make.size;
         layout = unique.layout b.sps b.pps (R.layout b.sps b.pps) (Ok b.layout) (of.layout b.sps b.pps) (make.made, sym make.numbers);
         header = ap (λ bytes. R.header false b.sps b.pps bytes) unit.behind
-            ∙ unique.header false b.sps b.pps h.rbsp (R.header false b.sps b.pps h.rbsp) (Ok b.header) (of.header false b.sps b.pps h.rbsp) (reads table s (header_of b) h.rbsp is_header h.spelled).0;
+            ∙ unique.header false b.sps b.pps h.rbsp (R.header false b.sps b.pps h.rbsp) (Ok b.header) (of.header false b.sps b.pps h.rbsp) (reads table s (picture_header_of b) h.rbsp is_header h.spelled).0;
         tid = unit.temporal;
       }

@@ -6,7 +6,7 @@ use Rattle.std.proofs.lemmas.Option.{none-some, same_Some}
 use Rattle.vx_sei.specs.declared.message.Message.{Message}
 use Rattle.vx_pic.specs.Parts.{parts_of}
 use Rattle.vx_pic.specs.Readings.{Picture, messages_of}
-use Rattle.vx_pic.specs.Resident.{planned_of, read_of}
+use Rattle.vx_pic.specs.Resident.{planned_of, readings_of_plans}
 use Rattle.vx_pic.specs.Written.{Plan, planned}
 use Rattle.vx_write.proofs.Messages.{planned_messages, unit_has}
 use Rattle.vx_merge.specs.declared.corner.Corner.{Corner}
@@ -18,7 +18,7 @@ use Rattle.vx_again.proofs.Columns.{IsLast, all_last}
 first_messages : (corners : List Corner) (level : Option ℕ) (s : List Picture) (rest : List (List Picture)) (round : List Picture)
     (done : List Plan) (p : Plan) → AllZip IsLast (s ∷ rest) round
     → Passes corners level (map parts_of round) done p
-    → (q : Picture) × (s ≡ q ∷ drop 1 s) × (messages_of (planned (read_of done) p) ≡ messages_of q)
+    → (q : Picture) × (s ≡ q ∷ drop 1 s) × (messages_of (planned (readings_of_plans done) p) ≡ messages_of q)
 first_messages corners level s rest [] done p lasts_ passes = absurd lasts_
 first_messages corners level s rest (q ∷ round) done p lasts_ passes = (q, lasts_.0.is, planned_messages done p ∙ unit_has p.kind.temporal_id (messages_of q) p.sei passes.is.sei)
 

@@ -16,7 +16,8 @@ use Rattle.vx_table.proofs.With.{first_with, lacks, others_with, passing_append,
 use Rattle.vx_aps.specs.declared.aps.Aps.{Aps}
 use Rattle.vx_aps.specs.declared.aps.TheConstants as aps
 use Rattle.vx_layout.proofs.Parts.{Each-append}
-use Rattle.vx_sps.specs.Reshaped.{item, where_so}
+use Rattle.vx_sps.specs.Reshaped.{item}
+use Rattle.vx_table.specs.Rewritten.{where_so}
 use Rattle.vx_ph.specs.Filter.{NamesOnce, filter_of, set_ids, with_ids}
 use Rattle.vx_ph.specs.Reshaped as ph_reshaped
 use Rattle.vx_ph.specs.declared.shape.LmcsShape.{LmcsShape}
@@ -248,13 +249,13 @@ none_where of false xs none = refl
 
 -- of all that is stated
 pub lmcs_stated : (s : List Item) (shape : PhShape)
-    → with_field ph.ph_lmcs_aps_id (ph_reshaped.stated s shape) ≡ with_field ph.ph_lmcs_aps_id (where_so (is_set (number s sps_fields.sps_lmcs_enabled_flag)) (ph_reshaped.lmcs_said (number s sps_fields.sps_chroma_format_idc) shape.lmcs))
+    → with_field ph.ph_lmcs_aps_id (ph_reshaped.stated_ph_items s shape) ≡ with_field ph.ph_lmcs_aps_id (where_so (is_set (number s sps_fields.sps_lmcs_enabled_flag)) (ph_reshaped.lmcs_said (number s sps_fields.sps_chroma_format_idc) shape.lmcs))
 lmcs_stated s shape = with_first ph.ph_lmcs_aps_id (where_so (is_set (number s sps_fields.sps_lmcs_enabled_flag)) (ph_reshaped.lmcs_said (number s sps_fields.sps_chroma_format_idc) shape.lmcs))
     (where_so (is_set (number s sps_fields.sps_explicit_scaling_list_enabled_flag)) (ph_reshaped.scaling_said shape.scaling))
     (none_where ph.ph_lmcs_aps_id (is_set (number s sps_fields.sps_explicit_scaling_list_enabled_flag)) (ph_reshaped.scaling_said shape.scaling) (scaling_aside shape.scaling))
 
 pub scaling_stated : (s : List Item) (shape : PhShape)
-    → with_field ph.ph_scaling_list_aps_id (ph_reshaped.stated s shape) ≡ with_field ph.ph_scaling_list_aps_id (where_so (is_set (number s sps_fields.sps_explicit_scaling_list_enabled_flag)) (ph_reshaped.scaling_said shape.scaling))
+    → with_field ph.ph_scaling_list_aps_id (ph_reshaped.stated_ph_items s shape) ≡ with_field ph.ph_scaling_list_aps_id (where_so (is_set (number s sps_fields.sps_explicit_scaling_list_enabled_flag)) (ph_reshaped.scaling_said shape.scaling))
 scaling_stated s shape = with_second ph.ph_scaling_list_aps_id (where_so (is_set (number s sps_fields.sps_lmcs_enabled_flag)) (ph_reshaped.lmcs_said (number s sps_fields.sps_chroma_format_idc) shape.lmcs))
     (where_so (is_set (number s sps_fields.sps_explicit_scaling_list_enabled_flag)) (ph_reshaped.scaling_said shape.scaling))
     (none_where ph.ph_scaling_list_aps_id (is_set (number s sps_fields.sps_lmcs_enabled_flag)) (ph_reshaped.lmcs_said (number s sps_fields.sps_chroma_format_idc) shape.lmcs) (lmcs_aside (number s sps_fields.sps_chroma_format_idc) shape.lmcs))
@@ -285,9 +286,9 @@ abbrev is_apart : ℕ → Bool
 is_apart f = nat_lt 690 f
 
 filter_stated : (of : ℕ) (n : SliceNumbers) (shape : ShShape) → is_apart of ≡ false
-    → with_field of (sh_reshaped.stated n shape) ≡ with_field of (where_so (is_set (number n.sps.now sps_fields.sps_alf_enabled_flag)) shape.filter.now)
+    → with_field of (sh_reshaped.stated_sh_items n shape) ≡ with_field of (where_so (is_set (number n.sps.now sps_fields.sps_alf_enabled_flag)) shape.filter.now)
 filter_stated of n shape fails =
-    let first : List Item = sh_reshaped.id_items n.sps.now shape.subpic_id in
+    let first : List Item = sh_reshaped.sh_subpic_id_items n.sps.now shape.subpic_id in
     let filter_ : List Item = where_so (is_set (number n.sps.now sps_fields.sps_alf_enabled_flag)) shape.filter.now in
     let uses : List Item = sh_reshaped.use_items n.header.now.fields shape.uses_lmcs shape.uses_scaling in
     let qp : List Item = sh_reshaped.qp_items shape.qp_delta in
@@ -315,7 +316,7 @@ same_filters items others same =
       same_slots alf.alf_cc_cr_aps_id items others (same alf.alf_cc_cr_aps_id refl refl),
     ) refl
 
-pub filter_written : (n : SliceNumbers) (shape : ShShape) (source written : List Item) → sh_reshaped.AreReshaped source shape n written
+pub filter_written : (n : SliceNumbers) (shape : ShShape) (source written : List Item) → sh_reshaped.AreReshapedInSliceHeader source shape n written
     → named_filters written ≡ named_filters (where_so (is_set (number n.sps.now sps_fields.sps_alf_enabled_flag)) shape.filter.now)
 filter_written n shape source written re =
     same_filters written (where_so (is_set (number n.sps.now sps_fields.sps_alf_enabled_flag)) shape.filter.now)

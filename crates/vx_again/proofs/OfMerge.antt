@@ -7,7 +7,7 @@ use Rattle.vx_pic.specs.Alike.{AreAlike}
 use Rattle.vx_pic.specs.Inputs.{Input, inputs_of}
 use Rattle.vx_pic.specs.Parts.{Parts, parts_of}
 use Rattle.vx_pic.specs.Readings.{Picture}
-use Rattle.vx_pic.specs.Resident.{planned_of, read_of}
+use Rattle.vx_pic.specs.Resident.{planned_of, readings_of_plans}
 use Rattle.vx_pic.specs.Rules.{Readers}
 use Rattle.vx_pic.specs.Written.{Plan, planned}
 use Rattle.vx_merge.specs.declared.corner.Corner.{Corner}
@@ -67,7 +67,7 @@ SubpicturesStand =
 module _ (make : SetsMakeTheFrame) (stand : SubpicturesStand) (sends : MergedSendsItsSets) (keeps : MergedKeepsInputs) (R : Readers)
     (corners : List Corner) (level : Option ℕ) (are : AreCorners corners) where
   has_regions : (round : List Parts) (done : List Plan) (p : Plan) → IsReadyRound corners round → Passes corners level round done p
-      → HasRegions corners (planned (read_of done) p)
+      → HasRegions corners (planned (readings_of_plans done) p)
   has_regions round done p ready passes =
       let sets = sets_of corners level round done p passes.is in
       let made = make corners level round p.begun.layout passes.is.ids.pps p.begun.sps p.begun.pps ready passes.verdict passes.is.frame sets in
@@ -98,7 +98,7 @@ module _ (make : SetsMakeTheFrame) (stand : SubpicturesStand) (sends : MergedSen
   all_inputs sources (p ∷ done) same can ((round, at, passes), merged) alike k ps here =
       let lasts_ = all_last sources round at in
       let ready = ready_round R corners sources round are same (sound_lasts R sources round lasts_ can) in
-      let new : Picture = planned (read_of done) p in
+      let new : Picture = planned (readings_of_plans done) p in
       let own = last_at sources round k ps lasts_ here in
       let first : inputs_of new k ≡ inputs_of own.0 0 =
       keeps corners level round done p ready passes.verdict passes.is (sends corners level (map parts_of round) done p passes.is)

@@ -13,7 +13,7 @@ use Rattle.vx_table.proofs.Rewriting.{rewritten_one}
 use Rattle.vx_fit.specs.declared.placed.Placed.{Placed}
 use Rattle.vx_sps.specs.declared.shape.SpsShape.{SpsShape}
 use Rattle.vx_sps.specs.declared.tables.TheConstants.{TAKEN}
-use Rattle.vx_sps.specs.Reshaped.{IsReshaped, stated}
+use Rattle.vx_sps.specs.Reshaped.{IsReshapedSps, stated_sps_items}
 use Rattle.vx_sps.specs.Set.{ctb_size_of}
 use Rattle.vx_sps.specs.Structure.{sps_form}
 use Rattle.vx_pic.specs.Parts.{Parts}
@@ -22,7 +22,7 @@ use Rattle.vx_pic.proofs.PictureSizes.{both_sizes}
 use Rattle.vx_merge.specs.declared.corner.Corner.{Corner}
 use Rattle.vx_merge.specs.Regions.{ctb_of, placed_at, placed_in}
 use Rattle.vx_merge.specs.Rounds.{picture_at}
-use Rattle.vx_merge.specs.Shapes.{dpb_of, level_of, numbers_in, offsets_at, sps_shape, window_of}
+use Rattle.vx_merge.specs.Shapes.{frame_dpb, frame_level, numbers_in_round, offsets_at, frame_sps_shape, frame_window}
 
 -- pictures with one SPS, whose sets have one size
 pub record HasSameSps (e q : Parts) : Type 0 where
@@ -54,11 +54,11 @@ all_placed (c ∷ corners) (e ∷ es) [] is = absurd is
 all_placed (c ∷ corners) (e ∷ es) (q ∷ qs) is =
     ap (λ p. p ∷ placed_in corners es) (placed_same c e q is.0) ∙ ap (λ ps. placed_at c q ∷ ps) (all_placed corners es qs is.1)
 
-numbers_same : (of : ℕ) (es qs : List Parts) → AreSame es qs → numbers_in es of ≡ numbers_in qs of
+numbers_same : (of : ℕ) (es qs : List Parts) → AreSame es qs → numbers_in_round es of ≡ numbers_in_round qs of
 numbers_same of [] [] is = refl
 numbers_same of [] (q ∷ qs) is = absurd is
 numbers_same of (e ∷ es) [] is = absurd is
-numbers_same of (e ∷ es) (q ∷ qs) is = ap (λ s. number s of ∷ numbers_in es of) is.0.same
+numbers_same of (e ∷ es) (q ∷ qs) is = ap (λ s. number s of ∷ numbers_in_round es of) is.0.same
     ∙ ap (λ ns. number q.sps of ∷ ns) (numbers_same of es qs is.1)
 
 offsets_same : (touches : Placed → Bool) (of : ℕ) (placed : List Placed) (es qs : List Parts) → AreSame es qs
@@ -86,7 +86,7 @@ first_same [] (q ∷ qs) is = absurd is
 first_same (e ∷ es) [] is = absurd is
 first_same (e ∷ es) (q ∷ qs) is = is.0.same
 
-window_same : (placed : List Placed) (es qs : List Parts) → AreSame es qs → window_of placed es ≡ window_of placed qs
+window_same : (placed : List Placed) (es qs : List Parts) → AreSame es qs → frame_window placed es ≡ frame_window placed qs
 window_same placed es qs is =
     rw (
       offsets_same _ sps_fields.sps_conf_win_left_offset placed es qs is,
@@ -95,27 +95,27 @@ window_same placed es qs is =
       offsets_same _ sps_fields.sps_conf_win_bottom_offset placed es qs is,
     ) refl
 
-dpb_same : (es qs : List Parts) → AreSame es qs → dpb_of es ≡ dpb_of qs
+dpb_same : (es qs : List Parts) → AreSame es qs → frame_dpb es ≡ frame_dpb qs
 dpb_same es qs is =
     rw (numbers_same dpb.dpb_max_dec_pic_buffering_minus1 es qs is, numbers_same dpb.dpb_max_num_reorder_pics es qs is, numbers_same dpb.dpb_max_latency_increase_plus1 es qs is) refl
 
-level_same : (es qs : List Parts) (level : Option ℕ) → AreSame es qs → level_of es level ≡ level_of qs level
+level_same : (es qs : List Parts) (level : Option ℕ) → AreSame es qs → frame_level es level ≡ frame_level qs level
 level_same es qs level is = rw (numbers_same general_level_idc es qs is) refl
 
 shape_same : (corners : List Corner) (level : Option ℕ) (es qs : List Parts) → AreSame es qs
-    → sps_shape corners es level ≡ sps_shape corners qs level
+    → frame_sps_shape corners es level ≡ frame_sps_shape corners qs level
 shape_same corners level es qs is =
     let placed = all_placed corners es qs is in
-    let window : window_of (placed_in corners qs) es ≡ window_of (placed_in corners qs) qs = window_same (placed_in corners qs) es qs is in
+    let window : frame_window (placed_in corners qs) es ≡ frame_window (placed_in corners qs) qs = window_same (placed_in corners qs) es qs is in
     rw (placed, window, ctb_same es qs is, level_same es qs level is, dpb_same es qs is) refl
 
 -- ---- the SPS
 
 pub one_sps : (corners : List Corner) (level : Option ℕ) (es qs : List Parts) (s t : List Item) → AreSame es qs
-    → IsReshaped (picture_at es 0).sps (sps_shape corners es level) s → IsReshaped (picture_at qs 0).sps (sps_shape corners qs level) t
+    → IsReshapedSps (picture_at es 0).sps (frame_sps_shape corners es level) s → IsReshapedSps (picture_at qs 0).sps (frame_sps_shape corners qs level) t
     → s ≡ t
 one_sps corners level es qs s t is one two =
     let source : List Item = (picture_at qs 0).sps in
-    let shape : SpsShape = sps_shape corners qs level in
-    let moved : IsReshaped source shape s = subst (λ x. IsReshaped x shape s) (first_same es qs is) (subst (λ x. IsReshaped (picture_at es 0).sps x s) (shape_same corners level es qs is) one) in
-    rewritten_one sps_form (set_of TAKEN) (shown_items (set_of TAKEN) source) (stated source shape) s t moved two
+    let shape : SpsShape = frame_sps_shape corners qs level in
+    let moved : IsReshapedSps source shape s = subst (λ x. IsReshapedSps x shape s) (first_same es qs is) (subst (λ x. IsReshapedSps (picture_at es 0).sps x s) (shape_same corners level es qs is) one) in
+    rewritten_one sps_form (set_of TAKEN) (shown_items (set_of TAKEN) source) (stated_sps_items source shape) s t moved two

@@ -15,22 +15,22 @@ use Rattle.vx_table.proofs.Loading.{number_of_shown}
 use Rattle.vx_layout.specs.declared.numbers.Numbers.{Numbers}
 use Rattle.vx_layout.specs.declared.rect.Rect.{Rect}
 use Rattle.vx_layout.specs.Layouts.{no_rect, slices_in, subpic_at}
-use Rattle.vx_layout.specs.Rects.{in_order, slices_of}
+use Rattle.vx_layout.specs.Rects.{in_order, slices_of_subpicture}
 use Rattle.vx_layout.specs.Regions.{counted_from}
 use Rattle.vx_layout.proofs.FrameSlices.{AllZip-long}
-use Rattle.vx_pps.specs.Sets.{ReadSlicesAreListable, SetsTellPartitions}
+use Rattle.vx_pps.specs.laws.Sets.{ReadSlicesAreListable, SetsTellPartitions}
 use Rattle.vx_sh.specs.Depends.{kept_fields}
 use Rattle.vx_sh.specs.Whole.{index_of}
 use Rattle.vx_pic.specs.Parts.{Parts, SlicePart}
 use Rattle.vx_pic.specs.PictureLayout.{ids_of}
 use Rattle.vx_pic.specs.Readings.{Begun, Slice}
 use Rattle.vx_pic.specs.Rules.{picture_limit, unit_size}
-use Rattle.vx_pic.specs.Sets.{address_of, place_of}
+use Rattle.vx_pic.specs.Sets.{address_of, slices_before}
 use Rattle.vx_pic.specs.Written as written
 use Rattle.vx_pic.specs.Written.{AreInOrder, Plan}
 use Rattle.vx_write.proofs.Sizes.{subpics_count}
 use Rattle.vx_merge.specs.declared.corner.Corner.{Corner}
-use Rattle.vx_merge.specs.Headers.{IsSlice, sourced}
+use Rattle.vx_merge.specs.Headers.{IsMergedSlice, sourced}
 use Rattle.vx_merge.specs.Merging.{Judges, Passes}
 use Rattle.vx_merge.specs.Regions.{corners_in, layout_of, layouts_in}
 use Rattle.vx_merge.specs.Rounds.{picture_at}
@@ -77,7 +77,7 @@ module _ (b : Begun) (P : ℕ × SlicePart → Slice → Type 0) where
   -- those of one source, and others behind them
   one_source : (q : Parts) (k base : ℕ) (ss : List SlicePart) (a m n : ℕ) (rest : List (ℕ × SlicePart)) (ws : List Slice)
       → map (λ (s : SlicePart). s.header.address) ss ≡ range_with_len a m → base + a ≡ n
-      → ((s : SlicePart) (w : Slice) → IsSourceSlice q s → P (k, s) w → place_of b.layout w.header ≡ base + s.header.address)
+      → ((s : SlicePart) (w : Slice) → IsSourceSlice q s → P (k, s) w → slices_before b.layout w.header ≡ base + s.header.address)
       → AllByRecursion (IsSourceSlice q) ss
       → AllZip P (map (λ s. (k, s)) ss ++ rest) ws → ((vs : List Slice) → AllZip P rest vs → AreInOrder b (base + (a + m)) vs)
       → AreInOrder b n ws
@@ -100,7 +100,7 @@ record StandsAt (b : Begun) (P : ℕ × SlicePart → Slice → Type 0) (before 
   count : ℕ
   rise : map (λ (s : SlicePart). s.header.address) q.slices ≡ range_with_len 0 count
   next : before (suc k) ≡ before k + count
-  place : (s : SlicePart) (w : Slice) → IsSourceSlice q s → P (k, s) w → place_of b.layout w.header ≡ before k + s.header.address
+  place : (s : SlicePart) (w : Slice) → IsSourceSlice q s → P (k, s) w → slices_before b.layout w.header ≡ before k + s.header.address
   each : AllByRecursion (IsSourceSlice q) q.slices
 
 all_sources : (b : Begun) (P : ℕ × SlicePart → Slice → Type 0) (before : ℕ → ℕ) (k : ℕ) (qs : List Parts) (ws : List Slice)
@@ -152,7 +152,7 @@ before_more n k short =
     let one : k + 1 ≡ suc k = omega arith in
     let last_ : List Rect = subpic_at n k ∷ [] in
     ap (before_in n) (sym one) ∙ ap (λ rs. length (in_order n.slices rs)) (take_more n.subpics k no_rect short)
-    ∙ ap (λ rs. length rs) (flat_map-append (slices_of n.slices) (take k n.subpics) last_)
+    ∙ ap (λ rs. length rs) (flat_map-append (slices_of_subpicture n.slices) (take k n.subpics) last_)
     ∙ length-append (in_order n.slices (take k n.subpics)) (in_order n.slices last_)
     ∙ ap (λ m. before_in n k + m) (ap (λ rs. length rs) (append-nil (slices_in n k)))
 
@@ -164,7 +164,7 @@ module _ (tells : SetsTellPartitions) (reads : ReadSlicesAreListable) (corners :
   frame = p.begun.layout
 
   abbrev IsOf : ℕ × SlicePart → Slice → Type 0
-  IsOf x w = IsSlice round is.ids p.kind.nal_type p.begun x.0 x.1 w
+  IsOf x w = IsMergedSlice round is.ids p.kind.nal_type p.begun x.0 x.1 w
 
   lone : (k : ℕ) → k < length round → length (picture_at round k).layout.subpics ≡ 1
   lone k short = subpics_count (picture_at round k) (source_at tells reads corners round ready passes k short).sets
@@ -176,13 +176,13 @@ module _ (tells : SetsTellPartitions) (reads : ReadSlicesAreListable) (corners :
       (ap (λ (n : Numbers). length n.slices) (region_is corners round frame (made tells reads corners round ready passes frame is.frame) (shapes tells reads corners round ready passes frame is.frame) k short))
 
   -- a slice of source k is of subpicture k, with its own address
-  pub subpic_is : (k : ℕ) → k < length round → (s : SlicePart) (w : Slice) → IsSlice round is.ids p.kind.nal_type p.begun k s w
+  pub subpic_is : (k : ℕ) → k < length round → (s : SlicePart) (w : Slice) → IsMergedSlice round is.ids p.kind.nal_type p.begun k s w
       → w.header.subpic ≡ k
   subpic_is k short s w own =
       ap (λ h. h.subpic) own.read ∙ own.is.reshaped.subpic ∙ ap (λ ids. index_of own.is.shape.subpic_id ids) own.is.at.ids
       ∙ ap (λ i. index_of i (ids_of p.begun.sps p.begun.pps)) own.is.says.subpic ∙ make.index k short
 
-  pub address_is : (q : Parts) (k : ℕ) (s : SlicePart) (w : Slice) → IsSourceSlice q s → IsSlice round is.ids p.kind.nal_type p.begun k s w
+  pub address_is : (q : Parts) (k : ℕ) (s : SlicePart) (w : Slice) → IsSourceSlice q s → IsMergedSlice round is.ids p.kind.nal_type p.begun k s w
       → address_of w.header ≡ s.header.address
   unfolding address_of fresh
   address_is q k s w source own =
@@ -192,8 +192,8 @@ module _ (tells : SetsTellPartitions) (reads : ReadSlicesAreListable) (corners :
       ∙ sym (number_of_shown (set_of kept_fields) sh_slice_address s.header.fields refl) ∙ sym source.address
 
   place_is : (k : ℕ) → k < length round → (s : SlicePart) (w : Slice) → IsSourceSlice (picture_at round k) s
-      → IsSlice round is.ids p.kind.nal_type p.begun k s w → place_of frame w.header ≡ before_in frame k + s.header.address
-  unfolding place_of
+      → IsMergedSlice round is.ids p.kind.nal_type p.begun k s w → slices_before frame w.header ≡ before_in frame k + s.header.address
+  unfolding slices_before
   place_is k short s w source own =
       ap (λ j. length (in_order frame.slices (take j frame.subpics)) + address_of w.header) (subpic_is k short s w own)
       ∙ ap (λ a. before_in frame k + a) (address_is (picture_at round k) k s w source own)
@@ -209,9 +209,9 @@ module _ (tells : SetsTellPartitions) (reads : ReadSlicesAreListable) (corners :
         each = (source_at tells reads corners round ready passes k short).slices;
       }
 
-  in_their_order : AreInOrder p.begun 0 (written.slices_of p)
+  in_their_order : AreInOrder p.begun 0 (written.planned_slices p)
   in_their_order =
-      all_sources p.begun IsOf (before_in frame) 0 round (written.slices_of p) (λ i short. let same : 0 + i ≡ i = omega arith in subst (λ j. StandsAt p.begun IsOf (before_in frame) j (picture_at round i)) (sym same) (stand i short)) is.slices
+      all_sources p.begun IsOf (before_in frame) 0 round (written.planned_slices p) (λ i short. let same : 0 + i ≡ i = omega arith in subst (λ j. StandsAt p.begun IsOf (before_in frame) j (picture_at round i)) (sym same) (stand i short)) is.slices
 
   -- a source has as many slices as its layout
   own_count : (k : ℕ) → k < length round → length (picture_at round k).slices ≡ length (layout_of (picture_at round k)).slices
@@ -222,17 +222,17 @@ module _ (tells : SetsTellPartitions) (reads : ReadSlicesAreListable) (corners :
       ∙ length-range_with_len 0 (length (slices_in q.layout 0))
       ∙ sym (length-map (slices_in q.layout 0) (counted_from (subpic_at q.layout 0)))
 
-  all_there : length (written.slices_of p) ≡ length frame.slices
+  all_there : length (written.planned_slices p) ≡ length frame.slices
   all_there =
       let long : length (corners_in corners round) ≡ length (layouts_in round) = count_rects tells reads corners level round frame is.ids.pps p.begun.sps p.begun.pps ready passes is.frame (sets_of corners level round done p is) ∙ sym (length-map round layout_of) in
-      sym (AllZip-long IsOf (sourced 0 round) (written.slices_of p) is.slices) ∙ sourced_count 0 round ∙ layouts_count round own_count
+      sym (AllZip-long IsOf (sourced 0 round) (written.planned_slices p) is.slices) ∙ sourced_count 0 round ∙ layouts_count round own_count
       ∙ sym (ap (λ (n : Numbers). length n.slices) is.frame.pictures ∙ slices_count (corners_in corners round) (layouts_in round) long)
 
 -- ---- limits
 
 few_bytes : (corners : List Corner) (level : Option ℕ) (round : List Parts) (done : List Plan) (p : Plan) → IsReadyRound corners round
     → Passes corners level round done p
-    → unit_size p.begun.unit + sum_by (λ (s : Slice). length s.unit) (written.slices_of p) ≤ picture_limit
+    → unit_size p.begun.unit + sum_by (λ (s : Slice). length s.unit) (written.planned_slices p) ≤ picture_limit
 few_bytes corners level round done p ready passes =
     let none = (none_broken (length corners) (limits_of done p) passes.limits).1.0 0 ready.are.some in
     omega (arith, none)

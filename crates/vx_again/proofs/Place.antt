@@ -17,20 +17,20 @@ use Rattle.vx_layout.specs.Bounds.{Rises, last, last_after}
 use Rattle.vx_layout.specs.Faults.{height, width}
 use Rattle.vx_layout.specs.Layouts.{no_rect, slices_in, subpic_at}
 use Rattle.vx_layout.specs.Rects.{IsPart}
-use Rattle.vx_layout.specs.Regions.{counted_from, cut, inner, region_of}
+use Rattle.vx_layout.specs.Regions.{counted_from, cut_bounds, inner, region_of}
 use Rattle.vx_layout.proofs.Counting.{length-slices_of-le}
 use Rattle.vx_layout.proofs.Moving.{last-cut}
 use Rattle.vx_fit.specs.Placing.{in_ctus}
 use Rattle.vx_sps.specs.Set.{ctb_size_of}
 use Rattle.vx_sps.specs.Subpictures.{rect_of, subpics_of}
-use Rattle.vx_pps.specs.Reshaped.{Tells}
-use Rattle.vx_pps.specs.Sets.{ReadSlicesAreListable, SetsTellPartitions}
+use Rattle.vx_pps.specs.Reshaped.{TellsPpsShape}
+use Rattle.vx_pps.specs.laws.Sets.{ReadSlicesAreListable, SetsTellPartitions}
 use Rattle.vx_pps.specs.Tiles.{IsGrid}
 use Rattle.vx_pps.proofs.Division.{grid_of}
 use Rattle.vx_pic.specs.Inputs.{has_several_slices, has_several_tiles, luma_size, place_in}
 use Rattle.vx_pic.specs.Parts.{Parts, SlicePart, parts_of}
 use Rattle.vx_pic.specs.Readings.{Picture, Slice}
-use Rattle.vx_pic.specs.Resident.{read_of}
+use Rattle.vx_pic.specs.Resident.{readings_of_plans}
 use Rattle.vx_pic.specs.Sets.{address_of}
 use Rattle.vx_pic.specs.Written.{Plan, planned}
 use Rattle.vx_write.specs.InForce.{AreInForce}
@@ -38,12 +38,12 @@ use Rattle.vx_write.proofs.Sizes.{has_size, part_of, subpic_is}
 use Rattle.vx_extract.specs.Shapes.{height_in, width_in}
 use Rattle.vx_extract.proofs.AgainSlices.{cut_length}
 use Rattle.vx_merge.specs.declared.corner.Corner.{Corner}
-use Rattle.vx_merge.specs.Headers.{IsSlice}
+use Rattle.vx_merge.specs.Headers.{IsMergedSlice}
 use Rattle.vx_merge.specs.Merging.{Judges}
 use Rattle.vx_merge.specs.Regions.{ctb_of, layout_of}
 use Rattle.vx_merge.specs.Rounds.{no_picture, picture_at}
 use Rattle.vx_merge.specs.Rules.{crosses_slices, crosses_tiles, has_slices, has_tiles}
-use Rattle.vx_merge.specs.Shapes.{pps_shape}
+use Rattle.vx_merge.specs.Shapes.{frame_pps_shape}
 use Rattle.vx_merge.specs.Written.{IsMerged}
 use Rattle.vx_merge.specs.inner.Joined.{HasShapes, MakeFrame}
 use Rattle.vx_merge.proofs.FrameShaping.{positive_ctb}
@@ -84,7 +84,7 @@ first_out b from size bs first =
     rw above refl
 
 -- so what it is cut out of has several columns where it has
-cut_several : (bounds : List ℕ) (from size : ℕ) → Rises bounds → from + size ≤ last bounds → 2 < length (cut bounds from size)
+cut_several : (bounds : List ℕ) (from size : ℕ) → Rises bounds → from + size ≤ last bounds → 2 < length (cut_bounds bounds from size)
     → 2 < length bounds
 cut_several [] from size rises ends several = absurd (omega (arith, several))
 cut_several (b ∷ []) from size rises ends several =
@@ -194,7 +194,7 @@ module _ (tells : SetsTellPartitions) (reads : ReadSlicesAreListable) (corners :
 
   -- the picture that is read again
   abbrev again : Parts
-  again = parts_of (planned (read_of done) p)
+  again = parts_of (planned (readings_of_plans done) p)
 
   sets : AreFrameSets corners level round frame is.ids.pps p.begun.sps p.begun.pps
   sets = sets_of corners level round done p is
@@ -205,14 +205,14 @@ module _ (tells : SetsTellPartitions) (reads : ReadSlicesAreListable) (corners :
   shaped : HasShapes corners round frame
   shaped = shapes tells reads corners round ready passes frame is.frame
 
-  says : Tells (picture_at round 0).pps (pps_shape corners round frame is.ids.pps) p.begun.pps
+  says : TellsPpsShape (picture_at round 0).pps (frame_pps_shape corners round frame is.ids.pps) p.begun.pps
   says = told tells reads corners level round frame is.ids.pps p.begun.sps p.begun.pps ready passes is.frame sets
 
   make : MakeTheFrame (length round) frame is.ids.pps p.begun.sps p.begun.pps
   make = make_the_frame tells reads corners level round frame is.ids.pps p.begun.sps p.begun.pps ready passes is.frame sets
 
   grid : IsGrid (record { columns = frame.columns; rows = frame.rows })
-  grid = grid_of (pps_shape corners round frame is.ids.pps) ((shaped.pps is.ids.pps sets.low).divided refl)
+  grid = grid_of (frame_pps_shape corners round frame is.ids.pps) ((shaped.pps is.ids.pps sets.low).divided refl)
 
   module _ (k : ℕ) (short : k < length round) where
     abbrev q : Parts
@@ -305,7 +305,7 @@ module _ (tells : SetsTellPartitions) (reads : ReadSlicesAreListable) (corners :
         }
 
     -- of a slice of it
-    pub place_of_source : (s : SlicePart) (w : Slice) → IsSourceSlice q s → IsSlice round is.ids p.kind.nal_type p.begun k s w
+    pub place_of_source : (s : SlicePart) (w : Slice) → IsSourceSlice q s → IsMergedSlice round is.ids p.kind.nal_type p.begun k s w
         → place_in again w.header.subpic (address_of w.header) ≡ place_in q s.header.subpic s.header.address
     place_of_source s w of_source own =
         let low = of_source.subpic in
@@ -325,8 +325,8 @@ module _ (tells : SetsTellPartitions) (reads : ReadSlicesAreListable) (corners :
     (done : List Plan) (p : Plan) (ready : IsReadyRound corners (map parts_of pics)) (passes : Judges corners (map parts_of pics) None)
     (is : IsMerged corners level (map parts_of pics) done p) where
   pub place_same : (k : ℕ) (q : Picture) → slice_get pics k ≡ Some q → (s : SlicePart) (w : Slice) → IsSourceSlice (parts_of q) s
-      → IsSlice (map parts_of pics) is.ids p.kind.nal_type p.begun k s w
-      → place_in (parts_of (planned (read_of done) p)) w.header.subpic (address_of w.header)
+      → IsMergedSlice (map parts_of pics) is.ids p.kind.nal_type p.begun k s w
+      → place_in (parts_of (planned (readings_of_plans done) p)) w.header.subpic (address_of w.header)
       ≡ place_in (parts_of q) s.header.subpic s.header.address
   place_same k q at s w of_source own =
       let here : picture_at (map parts_of pics) k ≡ parts_of q = picture_is pics k q at in

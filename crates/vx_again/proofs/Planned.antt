@@ -12,10 +12,10 @@ use Rattle.vx_pic.specs.Counts.{is_changed, kind_of}
 use Rattle.vx_pic.specs.H266.{AreOfH266}
 use Rattle.vx_pic.specs.Parts.{Parts, parts_of}
 use Rattle.vx_pic.specs.Readings.{Begun, Picture, Slice}
-use Rattle.vx_pic.specs.Resident.{AreAllPlanned, HaveNamed, IsPlanned, is_resident, planned_of, read_of, sent_before}
+use Rattle.vx_pic.specs.Resident.{AreAllPlanned, HaveNamed, IsPlanned, is_resident, planned_of, readings_of_plans, sent_before}
 use Rattle.vx_pic.specs.Rules.{Readers}
 use Rattle.vx_pic.specs.Sets.{names_of, same_items}
-use Rattle.vx_pic.specs.Written.{Plan, Says, SetUnit, planned, slices_of}
+use Rattle.vx_pic.specs.Written.{Plan, Says, SetUnit, planned, planned_slices}
 use Rattle.vx_pic.proofs.Counting.{alike_is_next, same_kind}
 use Rattle.vx_pic.proofs.Sent.{items_are}
 use Rattle.vx_write.specs.Again.{HasItsBodies, IsReadable, IsWholePlan, SeiUnitsAreRead, SendsItsSets, SetUnitsAreRead, UnitsAreRead}
@@ -80,7 +80,7 @@ module _ (R : Readers) (of : AreOfH266 R) (units_read : MergedUnitsAreRead) (who
         pps = sent.pps;
         sps = sent.sps;
         refers = read.refers;
-        bodies = subst (λ needed. AllByRecursion (λ (s : Slice). HaveNamed needed (names_of p.begun.pps p.begun.header s.header)) (slices_of p)) (sym sent.same) own.bodies;
+        bodies = subst (λ needed. AllByRecursion (λ (s : Slice). HaveNamed needed (names_of p.begun.pps p.begun.header s.header)) (planned_slices p)) (sym sent.same) own.bodies;
         sei = sei_reads R p.kind.temporal_id (picture_at round 0).messages p.sei of low first_source.carried first_source.short is.sei;
         head = read.head;
         slices = read.slices;
@@ -252,7 +252,7 @@ module _ (R : Readers) (of : AreOfH266 R) (units_read : MergedUnitsAreRead) (who
       let next = next_of sources round done p lasts_ sounds ready passes before.1 sources round (some_round sources round done p lasts_ sounds ready passes before.1) sounds before.1 alike_here kinds_
       (keeps R corners level sources round done p sounds can merged kinds_ each passes) in (
         (planned_if R of units_read wholes sends bodies sets_read sei_reads corners level (map parts_of round) done p ready passes next, before.0),
-        alike_more R done p sources round (planned (read_of done) p) refl refl lasts_ before.1 alike_here kinds_,
+        alike_more R done p sources round (planned (readings_of_plans done) p) refl refl lasts_ before.1 alike_here kinds_,
       )
 
 pub are_planned : MergedUnitsAreRead → MergedIsWhole → MergedSendsItsSets → MergedHasItsBodies → MergedIsAlike → SetUnitsAreRead

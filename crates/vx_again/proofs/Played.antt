@@ -10,14 +10,14 @@ use Rattle.vx_pic.specs.Joined.{AreJoined, PlayedAreFinished, StartWhere, after_
 use Rattle.vx_pic.specs.Parts.{Parts, SlicePart, parts_of}
 use Rattle.vx_pic.specs.Readings.{Picture}
 use Rattle.vx_pic.specs.Rules.{Readers}
-use Rattle.vx_merge.specs.Joins.{joined}
+use Rattle.vx_merge.specs.Joins.{after_end_of_sequence}
 use Rattle.vx_again.specs.Played.{PlayedCanBeMerged}
 use Rattle.vx_again.specs.Sources.{CanBeMerged, IsSource, IsSourceSlice}
 use Rattle.vx_again.proofs.Facts.{each_weaker}
 
 -- ---- a picture behind an end of sequence
 
-slice_joined : (q : Parts) (s : SlicePart) → IsSourceSlice q s → IsSourceSlice (joined q) s
+slice_joined : (q : Parts) (s : SlicePart) → IsSourceSlice q s → IsSourceSlice (after_end_of_sequence q) s
 slice_joined q s is = record {
   read = is.read;
   subpic = is.subpic;
@@ -30,7 +30,7 @@ slice_joined q s is = record {
   filter = is.filter;
 }
 
-source_joined : (q : Parts) → IsSource q → IsSource (joined q)
+source_joined : (q : Parts) → IsSource q → IsSource (after_end_of_sequence q)
 source_joined q is = record {
   sets = record {
     sps = is.sets.sps;
@@ -46,7 +46,7 @@ source_joined q is = record {
   maps = record { lmcs = is.maps.lmcs; scaling = is.maps.scaling; chroma = is.maps.chroma };
   class = is.class;
   tid = is.tid;
-  slices = each_weaker (IsSourceSlice q) (IsSourceSlice (joined q)) (slice_joined q) q.slices is.slices;
+  slices = each_weaker (IsSourceSlice q) (IsSourceSlice (after_end_of_sequence q)) (slice_joined q) q.slices is.slices;
   whole = is.whole;
   order = is.order;
   readable = is.readable;

@@ -4,7 +4,7 @@ use Rattle.std.specs.Prelude.{unwrap_or}
 use Rattle.std.specs.List.{AllByRecursion, AllZip}
 use Rattle.vx_fields.specs.declared.pps.TheConstants as pps_fields
 use Rattle.vx_layout.proofs.Parts.{Each-append}
-use Rattle.vx_pps.specs.Sets.{ReadSlicesAreListable, SetsTellPartitions}
+use Rattle.vx_pps.specs.laws.Sets.{ReadSlicesAreListable, SetsTellPartitions}
 use Rattle.vx_ph.specs.Id.{UnitHasId}
 use Rattle.vx_ph.specs.Picture.{UnitIsRead}
 use Rattle.vx_pic.specs.declared.kind.Kind.{Kind}
@@ -19,7 +19,7 @@ use Rattle.vx_pic.specs.Written as written
 use Rattle.vx_pic.specs.Written.{HeadReads, Plan, SliceReads}
 use Rattle.vx_write.specs.Again.{UnitsAreRead}
 use Rattle.vx_merge.specs.declared.corner.Corner.{Corner}
-use Rattle.vx_merge.specs.Headers.{IsSlice, sourced}
+use Rattle.vx_merge.specs.Headers.{IsMergedSlice, sourced}
 use Rattle.vx_merge.specs.Merging.{Passes}
 use Rattle.vx_merge.specs.Rounds.{picture_at}
 use Rattle.vx_again.specs.Frames.{AreFrameSets, IsReadyRound, MakeTheFrame}
@@ -110,11 +110,11 @@ module _ (tells : SetsTellPartitions) (listable : ReadSlicesAreListable) (reads 
   each = all_of_sources round (source_at tells listable corners round ready passes.verdict)
 
   abbrev IsItsSlice : ℕ × SlicePart → Slice → Type 0
-  IsItsSlice x w = IsSlice round passes.is.ids p.kind.nal_type p.begun x.0 x.1 w
+  IsItsSlice x w = IsMergedSlice round passes.is.ids p.kind.nal_type p.begun x.0 x.1 w
 
-  all_outside : AllByRecursion (λ (w : Slice). has_header_inside w.unit ≡ false) (written.slices_of p)
+  all_outside : AllByRecursion (λ (w : Slice). has_header_inside w.unit ≡ false) (written.planned_slices p)
   all_outside = zip_each (IsOfItsSource round) IsItsSlice (λ (w : Slice). has_header_inside w.unit ≡ false)
-      (λ x w of_source own. outside laws round passes.is.ids p.kind.nal_type p.begun x.0 x.1 w (known x of_source) own) (sourced 0 round) (written.slices_of p) each passes.is.slices
+      (λ x w of_source own. outside laws round passes.is.ids p.kind.nal_type p.begun x.0 x.1 w (known x of_source) own) (sourced 0 round) (written.planned_slices p) each passes.is.slices
 
   pub units_read : (R : Readers) → AreOfH266 R → HaveOneAnswer → UnitsAreRead R p
   units_read R of unique =
@@ -127,7 +127,7 @@ module _ (tells : SetsTellPartitions) (listable : ReadSlicesAreListable) (reads 
       record {
         head = subst (λ o. HeadReads R o p.begun p.first) (sym header.is) head;
         slices = zip_each (IsOfItsSource round) IsItsSlice (SliceReads R p.begun p.kind.nal_type)
-            (λ x w of_source own. slice_reads laws round passes.is.ids p.kind.nal_type p.begun x.0 x.1 w (known x of_source) own R of unique) (sourced 0 round) (written.slices_of p) each passes.is.slices;
+            (λ x w of_source own. slice_reads laws round passes.is.ids p.kind.nal_type p.begun x.0 x.1 w (known x of_source) own R of unique) (sourced 0 round) (written.planned_slices p) each passes.is.slices;
         outside = all_outside.1;
         refers = make.referred ∙ sym make.sps_id_is;
         tid = sym passes.is.temporal_id;

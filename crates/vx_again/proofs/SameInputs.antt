@@ -18,8 +18,8 @@ use Rattle.vx_table.proofs.Loading.{number_of_shown}
 use Rattle.vx_table.proofs.With.{with_field}
 use Rattle.vx_aps.specs.declared.aps.TheConstants as aps
 use Rattle.vx_sps.specs.Depends as sps_set
-use Rattle.vx_sps.specs.Reshaped.{where_so}
-use Rattle.vx_pps.specs.Sets.{ReadSlicesAreListable, SetsTellPartitions}
+use Rattle.vx_table.specs.Rewritten.{where_so}
+use Rattle.vx_pps.specs.laws.Sets.{ReadSlicesAreListable, SetsTellPartitions}
 use Rattle.vx_ph.specs.Depends as ph_set
 use Rattle.vx_ph.specs.Filter.{filter_of, with_ids}
 use Rattle.vx_ph.specs.Reshaped.{AgreeOnKept, HaveSameKept, IsApart}
@@ -30,20 +30,20 @@ use Rattle.vx_sh.specs.Reshaped as reshaped
 use Rattle.vx_sh.specs.declared.header.SliceHeader.{SliceHeader as SliceValue}
 use Rattle.vx_pic.specs.declared.kind.Kind.{Kind}
 use Rattle.vx_pic.specs.Inputs.{Input, alf_of, body_of, header_fields, input_in}
-use Rattle.vx_pic.specs.Inputs.{is_used, lists_in_force, lmcs_of, named_body, place_in, scaling_of, slice_fields}
+use Rattle.vx_pic.specs.Inputs.{is_used, lists_in_force, lmcs_of, named_body, place_in, scaling_of, kept_slice_items}
 use Rattle.vx_pic.specs.Parts as parts
 use Rattle.vx_pic.specs.Parts.{AreThere, Parts, SlicePart, parts_of, slice_part}
 use Rattle.vx_pic.specs.Readings.{Slice}
-use Rattle.vx_pic.specs.Resident.{NeededIsBody, read_of}
+use Rattle.vx_pic.specs.Resident.{NeededIsBody, readings_of_plans}
 use Rattle.vx_pic.specs.Sets.{address_of, filter_items, named_filters, names_of, signed, slice_qp}
 use Rattle.vx_pic.specs.Units.{class_of}
 use Rattle.vx_pic.specs.Written.{Plan, planned}
 use Rattle.vx_write.specs.Again.{SendsItsSets}
 use Rattle.vx_merge.specs.declared.corner.Corner.{Corner}
 use Rattle.vx_merge.specs.Bodies.{filters_in, filters_of, has_lmcs, has_scaling, is_chroma_scaled, lmcs_body, scaling_body}
-use Rattle.vx_merge.specs.Headers.{IsSlice, id_for, lmcs_shape, ph_shape}
+use Rattle.vx_merge.specs.Headers.{IsMergedSlice, id_for, lmcs_shape, ph_shape}
 use Rattle.vx_merge.specs.Merging.{Judges}
-use Rattle.vx_merge.specs.Needed.{alf_bodies, id_of}
+use Rattle.vx_merge.specs.Needed.{alf_bodies, id_of_body}
 use Rattle.vx_merge.specs.Rounds.{picture_at}
 use Rattle.vx_merge.specs.Shapes.{of_lowest}
 use Rattle.vx_merge.specs.Written.{IsMerged}
@@ -146,7 +146,7 @@ module _ (tells : SetsTellPartitions) (reads : ReadSlicesAreListable) (laws : Sl
     (corners : List Corner) (level : Option ℕ) (round : List Parts) (done : List Plan) (p : Plan) (ready : IsReadyRound corners round) (passes : Judges corners round None)
     (is : IsMerged corners level round done p) (sent : SendsItsSets is.needed done p) where
   abbrev r : Parts
-  r = parts_of (planned (read_of done) p)
+  r = parts_of (planned (readings_of_plans done) p)
 
   sets : AreFrameSets corners level round p.begun.layout is.ids.pps p.begun.sps p.begun.pps
   sets = sets_of corners level round done p is
@@ -164,7 +164,7 @@ module _ (tells : SetsTellPartitions) (reads : ReadSlicesAreListable) (laws : Sl
 
   module _ (k : ℕ) (short : k < length round) (s : SlicePart) (w : Slice) (source : IsSourceSlice (picture_at round k) s)
       (inside : (b : List ℕ) → HasBody (filters_of (picture_at round k) s) b → HasBody (flat_map filters_in round) b)
-      (m : IsSlice round is.ids p.kind.nal_type p.begun k s w) where
+      (m : IsMergedSlice round is.ids p.kind.nal_type p.begun k s w) where
     abbrev q : Parts
     q = picture_at round k
 
@@ -180,10 +180,10 @@ module _ (tells : SetsTellPartitions) (reads : ReadSlicesAreListable) (laws : Sl
     agree : AgreeOnKept q.sps q.pps p.begun.sps p.begun.pps
     agree = laws.agree q.sps q.pps p.begun.sps p.begun.pps kept
 
-    sps_same : (of : ℕ) → IsTrue (has (set_of sps_set.kept) of) → number p.begun.sps of ≡ number q.sps of
+    sps_same : (of : ℕ) → IsTrue (has (set_of sps_set.kept_sps_fields) of) → number p.begun.sps of ≡ number q.sps of
     sps_same of there =
-        number_of_shown (set_of sps_set.kept) of p.begun.sps there ∙ ap (λ xs. number xs of) kept.of_sps
-        ∙ sym (number_of_shown (set_of sps_set.kept) of q.sps there)
+        number_of_shown (set_of sps_set.kept_sps_fields) of p.begun.sps there ∙ ap (λ xs. number xs of) kept.of_sps
+        ∙ sym (number_of_shown (set_of sps_set.kept_sps_fields) of q.sps there)
 
     -- ---- kept fields
 
@@ -193,8 +193,8 @@ module _ (tells : SetsTellPartitions) (reads : ReadSlicesAreListable) (laws : Sl
     header_kept : header_fields p.begun.header ≡ header_fields q.header.fields
     header_kept = is.header.says.fields.shown_ones ∙ sym (header_alike corners round ready.same passes k short)
 
-    slice_kept : slice_fields w.header.fields ≡ slice_fields s.header.fields
-    slice_kept = ap (λ xs. slice_fields xs) fields_are ∙ m.is.reshaped.fields.kept
+    slice_kept : kept_slice_items w.header.fields ≡ kept_slice_items s.header.fields
+    slice_kept = ap (λ xs. kept_slice_items xs) fields_are ∙ m.is.reshaped.fields.kept
 
     -- ---- the filter
 
@@ -212,7 +212,7 @@ module _ (tells : SetsTellPartitions) (reads : ReadSlicesAreListable) (laws : Sl
         let own : is_set (number q.sps sps.sps_alf_enabled_flag) ≡ false = ap is_set (sym (sps_same sps.sps_alf_enabled_flag refl)) ∙ off in
         sym (ap (with_ids ids) (source.filter own))
 
-    filter_there : reshaped.filter_items m.is.numbers.sps.now m.is.shape.filter.now ≡ with_ids ids (filter_of items)
+    filter_there : reshaped.stated_filter_items m.is.numbers.sps.now m.is.shape.filter.now ≡ with_ids ids (filter_of items)
     filter_there =
         ap (λ x. where_so (is_set (number x sps.sps_alf_enabled_flag)) m.is.shape.filter.now) m.is.at.sps
         ∙ ap (where_so (is_set (number p.begun.sps sps.sps_alf_enabled_flag))) m.is.says.filter
@@ -227,7 +227,7 @@ module _ (tells : SetsTellPartitions) (reads : ReadSlicesAreListable) (laws : Sl
         let stands : filter_items p.begun.pps p.begun.header (parts.read_of new) ≡ m.is.header.fields
         = ap (λ n. cond (is_set n) p.begun.header w.header.fields) its_apart.filter ∙ fields_are in
         ap (alf_of r) stands
-        ∙ filter_same q r ids (id_of (alf_bodies round) is.ids.alf)
+        ∙ filter_same q r ids (id_of_body (alf_bodies round) is.ids.alf)
         (λ n. alf_low needs corners level round done p is sent (unwrap_or (body_of q aps.ALF n) [])) (λ n. refl)
         items m.is.header.fields filters_named
         (λ b among. alf_found needs corners level round done p is sent b (inside b among))
@@ -383,7 +383,7 @@ module _ (tells : SetsTellPartitions) (reads : ReadSlicesAreListable) (laws : Sl
 
     header_lists : r.header.lists ≡ q.header.lists
     unfolding fresh
-    header_lists = sym (agree.lists (set_of ph_set.kept) q.header.fields p.begun.header refl (sym header_kept)) ∙ sym picture.lists
+    header_lists = sym (agree.lists (set_of ph_set.kept_ph_fields) q.header.fields p.begun.header refl (sym header_kept)) ∙ sym picture.lists
 
     slice_lists : new.lists ≡ s.header.lists
     unfolding fresh

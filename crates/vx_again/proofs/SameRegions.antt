@@ -8,12 +8,12 @@ use Rattle.std.proofs.lemmas.List.{append-nil}
 use Rattle.std.proofs.lemmas.List.Elements.{filter-append}
 use Rattle.std.proofs.lemmas.Option.{none-some, same_Some}
 use Rattle.vx_layout.proofs.Parts.{Each-append}
-use Rattle.vx_pps.specs.Sets.{ReadSlicesAreListable, SetsTellPartitions}
+use Rattle.vx_pps.specs.laws.Sets.{ReadSlicesAreListable, SetsTellPartitions}
 use Rattle.vx_sps.specs.Subpictures.{subpics_of}
 use Rattle.vx_pic.specs.Inputs.{input_in, input_of, inputs_in, inputs_of, place_in}
 use Rattle.vx_pic.specs.Parts.{Parts, SlicePart, parts_of}
 use Rattle.vx_pic.specs.Readings.{Picture, Slice}
-use Rattle.vx_pic.specs.Resident.{NeededIsBody, read_of}
+use Rattle.vx_pic.specs.Resident.{NeededIsBody, readings_of_plans}
 use Rattle.vx_pic.specs.Sets.{address_of}
 use Rattle.vx_pic.specs.Written as written
 use Rattle.vx_pic.specs.Written.{Plan, planned}
@@ -21,7 +21,7 @@ use Rattle.vx_pic.proofs.ByAddress.{inputs_are_shown}
 use Rattle.vx_write.specs.Again.{SendsItsSets}
 use Rattle.vx_merge.specs.declared.corner.Corner.{Corner}
 use Rattle.vx_merge.specs.Bodies.{filters_in, filters_of}
-use Rattle.vx_merge.specs.Headers.{IsSlice, sourced}
+use Rattle.vx_merge.specs.Headers.{IsMergedSlice, sourced}
 use Rattle.vx_merge.specs.Merging.{Judges}
 use Rattle.vx_merge.specs.Rounds.{picture_at}
 use Rattle.vx_merge.specs.Written.{IsMerged}
@@ -173,8 +173,8 @@ abbrev pub KeepPlaces : (corners : List Corner) (level : Option ℕ) (round : Li
     → IsMerged corners level round done p → Type 0
 KeepPlaces corners level round done p is =
     (k : ℕ) → k < length round → (s : SlicePart) (w : Slice) → IsSourceSlice (picture_at round k) s
-    → IsSlice round is.ids p.kind.nal_type p.begun k s w
-    → place_in (parts_of (planned (read_of done) p)) w.header.subpic (address_of w.header)
+    → IsMergedSlice round is.ids p.kind.nal_type p.begun k s w
+    → place_in (parts_of (planned (readings_of_plans done) p)) w.header.subpic (address_of w.header)
     ≡ place_in (picture_at round k) s.header.subpic s.header.address
 
 module _ (tells : SetsTellPartitions) (reads : ReadSlicesAreListable) (laws : SliceLaws) (needs : NeededIsBody)
@@ -182,7 +182,7 @@ module _ (tells : SetsTellPartitions) (reads : ReadSlicesAreListable) (laws : Sl
     (is : IsMerged corners level round done p) (sent : SendsItsSets is.needed done p) (places : KeepPlaces corners level round done p is)
     (kinds : (k : ℕ) → k < length round → (picture_at round k).kind ≡ p.kind) where
   abbrev again : Picture
-  again = planned (read_of done) p
+  again = planned (readings_of_plans done) p
 
   both_known : (k : ℕ) → k < length round → (slices : List SlicePart) → AllByRecursion (IsSourceSlice (picture_at round k)) slices
       → AllByRecursion (λ (s : SlicePart). (b : List ℕ) → HasBody (filters_of (picture_at round k) s) b
@@ -201,7 +201,7 @@ module _ (tells : SetsTellPartitions) (reads : ReadSlicesAreListable) (laws : Sl
       (each_filters (picture_at round i) (HasBody (flat_map filters_in round)) (picture_at round i).slices (filters_at round i less))))
 
   abbrev IsItsSlice : ℕ × SlicePart → Slice → Type 0
-  IsItsSlice x w = IsSlice round is.ids p.kind.nal_type p.begun x.0 x.1 w
+  IsItsSlice x w = IsMergedSlice round is.ids p.kind.nal_type p.begun x.0 x.1 w
 
   make : MakeTheFrame (length round) p.begun.layout is.ids.pps p.begun.sps p.begun.pps
   make = make_the_frame tells reads corners level round p.begun.layout is.ids.pps p.begun.sps p.begun.pps ready passes is.frame
@@ -219,8 +219,8 @@ module _ (tells : SetsTellPartitions) (reads : ReadSlicesAreListable) (laws : Sl
       let q = picture_at round k in
       let own = source_at tells reads corners round ready passes k short in
       let one = one_subpic corners round ready.same passes k short in
-      same_inputs again round k (sourced 0 round) (written.slices_of p)
-      (zip_with (IsKnown round) IsItsSlice (IsSame again round) one_same (sourced 0 round) (written.slices_of p) all_known is.slices)
+      same_inputs again round k (sourced 0 round) (written.planned_slices p)
+      (zip_with (IsKnown round) IsItsSlice (IsSame again round) one_same (sourced 0 round) (written.planned_slices p) all_known is.slices)
       ∙ ap (map (λ (x : ℕ × SlicePart). input_in (picture_at round x.0) x.1)) (own_slices k 0 k round (omega arith) short)
       ∙ own_inputs round k q.slices
       ∙ ap (map (input_in q)) (sym (all_of_one q (subpics_of q.sps) q.slices one (λ s is_own. is_own.subpic) own.slices))

@@ -12,7 +12,7 @@ use Rattle.vx_pic.specs.Written.{Plan, Set, a_pps, an_aps, an_sps}
 use Rattle.vx_write.proofs.OwnSets.{HaveOwn, IsAmong, Others, has_set, own_units}
 use Rattle.vx_merge.specs.declared.corner.Corner.{Corner}
 use Rattle.vx_merge.specs.Bodies.{filters_in, has_lmcs, has_scaling, lmcs_body, scaling_body}
-use Rattle.vx_merge.specs.Needed.{alf_bodies, by_ids, lmcs_bodies, needed_sets, scaling_bodies, with_id}
+use Rattle.vx_merge.specs.Needed.{alf_bodies, by_ids, lmcs_bodies, sets_of_round, scaling_bodies, sets_with_id}
 use Rattle.vx_merge.specs.Shapes.{of_lowest}
 use Rattle.vx_merge.specs.Slots.{alf_slots, lmcs_slots, scaling_slots}
 use Rattle.vx_merge.specs.Written.{IsMerged}
@@ -78,7 +78,7 @@ none_with (b ∷ bodies) (i ∷ ids) id none =
     let first : (i == id) ≡ false = ne_eqb i id (none 0 (omega arith)) in
     rw first (none_with bodies ids id (λ k short. none (suc k) (omega (arith, short))))
 
-own_one : (kind : ℕ) (bodies : List (List ℕ)) (ids : List ℕ) (id : ℕ) → AreApart ids → HaveOwn (with_id kind bodies ids id)
+own_one : (kind : ℕ) (bodies : List (List ℕ)) (ids : List ℕ) (id : ℕ) → AreApart ids → HaveOwn (sets_with_id kind bodies ids id)
 own_one kind [] ids id apart = tt
 own_one kind (b ∷ bodies) [] id apart = tt
 own_one kind (b ∷ bodies) (i ∷ ids) id apart =
@@ -94,17 +94,17 @@ own_one kind (b ∷ bodies) (i ∷ ids) id apart =
 -- ---- all sets of a type
 
 module _ (kind : ℕ) (bodies : List (List ℕ)) (ids : List ℕ) where
-  from_all : (from n low : ℕ) → low ≤ from → AllByRecursion (IsFrom kind low) (flat_map (with_id kind bodies ids) (range_with_len from n))
+  from_all : (from n low : ℕ) → low ≤ from → AllByRecursion (IsFrom kind low) (flat_map (sets_with_id kind bodies ids) (range_with_len from n))
   from_all from zero low high = tt
   from_all from (suc n) low high =
-      Each-append (IsFrom kind low) (with_id kind bodies ids from) (flat_map (with_id kind bodies ids) (range_with_len (from + 1) n))
+      Each-append (IsFrom kind low) (sets_with_id kind bodies ids from) (flat_map (sets_with_id kind bodies ids) (range_with_len (from + 1) n))
       (from_map kind from low (filter (λ (p : List ℕ × ℕ). p.1 == from) (zip bodies ids)) high) (from_all (from + 1) n low (omega (arith, high)))
 
-  own_all : AreApart ids → (from n : ℕ) → HaveOwn (flat_map (with_id kind bodies ids) (range_with_len from n))
+  own_all : AreApart ids → (from n : ℕ) → HaveOwn (flat_map (sets_with_id kind bodies ids) (range_with_len from n))
   own_all apart from zero = tt
   own_all apart from (suc n) =
-      own_append (with_id kind bodies ids from) (flat_map (with_id kind bodies ids) (range_with_len (from + 1) n)) (own_one kind bodies ids from apart) (own_all apart (from + 1) n)
-      (others_map kind from (filter (λ (p : List ℕ × ℕ). p.1 == from) (zip bodies ids)) (flat_map (with_id kind bodies ids) (range_with_len (from + 1) n)) (from_all (from + 1) n (suc from) (omega arith)))
+      own_append (sets_with_id kind bodies ids from) (flat_map (sets_with_id kind bodies ids) (range_with_len (from + 1) n)) (own_one kind bodies ids from apart) (own_all apart (from + 1) n)
+      (others_map kind from (filter (λ (p : List ℕ × ℕ). p.1 == from) (zip bodies ids)) (flat_map (sets_with_id kind bodies ids) (range_with_len (from + 1) n)) (from_all (from + 1) n (suc from) (omega arith)))
 
 -- those of one type and of another
 apart_kinds : (kind other : ℕ) (xs ys : List Set) → (kind == other) ≡ false → AllByRecursion (IsFrom kind 0) xs
@@ -171,7 +171,7 @@ module _ (corners : List Corner) (level : Option ℕ) (round : List Parts) (done
       both [] ys zs one two = tt
       both (x ∷ xs) ys zs one two = (Each-append (λ y. same_slot x y ≡ false) ys zs one.0 two.0, both xs ys zs one.1 two.1)
 
-  own_sets : HaveOwn (needed_sets round is.ids p.begun.sps p.begun.pps)
+  own_sets : HaveOwn (sets_of_round round is.ids p.begun.sps p.begun.pps)
   own_sets = (
     (
       refl,

@@ -26,8 +26,8 @@ use Rattle.vx_sh.specs.declared.numbers.SliceNumbers.{SliceNumbers}
 use Rattle.vx_sh.specs.declared.shape.ShShape.{ShShape}
 use Rattle.vx_sh.specs.Depends.{kept_fields}
 use Rattle.vx_sh.specs.InForce.{SliceScopesAreWhole, at_sets, in_force_at}
-use Rattle.vx_sh.specs.Reshaped.{ReshapedIsReadAgain, filter_items, id_items, qp_items, stated, use_items}
-use Rattle.vx_sh.specs.Value.{BeginsSlice, FirstBitIsInside, IsSpelling, TellsNumbers}
+use Rattle.vx_sh.specs.Reshaped.{ReshapedIsReadAgain, stated_filter_items, sh_subpic_id_items, qp_items, stated_sh_items, use_items}
+use Rattle.vx_sh.specs.Value.{BeginsSlice, FirstBitIsInside, IsSliceHeaderSpelling, TellsNumbers}
 use Rattle.vx_sh.specs.Whole.{index_of}
 use Rattle.vx_pic.specs.H266.{AreOfH266}
 use Rattle.vx_pic.specs.H266 as h266
@@ -37,10 +37,10 @@ use Rattle.vx_pic.specs.Readings.{Begun, Slice}
 use Rattle.vx_pic.specs.Rules.{Readers}
 use Rattle.vx_pic.specs.Sets as sets
 use Rattle.vx_pic.specs.Sets.{is_qp, signed, slice_qp}
-use Rattle.vx_pic.specs.UnderSets.{header_of, slice_at}
+use Rattle.vx_pic.specs.UnderSets.{picture_header_of, at_slice_of}
 use Rattle.vx_pic.specs.Units.{class_of, has_header_inside, rbsp_of, slice_unit}
 use Rattle.vx_pic.specs.Written.{SliceReads}
-use Rattle.vx_merge.specs.Headers.{AreNumbers, IsSlice, id_for}
+use Rattle.vx_merge.specs.Headers.{AreNumbers, IsMergedSlice, id_for}
 use Rattle.vx_merge.specs.Needed.{Ids}
 use Rattle.vx_merge.specs.Rounds.{picture_at}
 use Rattle.vx_extract.proofs.AgainUnits.{same_signed}
@@ -64,11 +64,11 @@ beside_qp : ℕ → Bool
 beside_qp n = not (n == sh_qp_delta)
 
 stated_delta : (n : SliceNumbers) (shape : ShShape) (ids : ℕ → ℕ) (items : List Item) → shape.filter.now ≡ with_ids ids (filter_of items)
-    → with_field sh_qp_delta (stated n shape) ≡ record { field = sh_qp_delta; value = shape.qp_delta } ∷ []
+    → with_field sh_qp_delta (stated_sh_items n shape) ≡ record { field = sh_qp_delta; value = shape.qp_delta } ∷ []
 unfolding fresh beside_qp
 stated_delta n shape ids items is =
-    let first = id_items n.sps.now shape.subpic_id in
-    let filter_ = filter_items n.sps.now shape.filter.now in
+    let first = sh_subpic_id_items n.sps.now shape.subpic_id in
+    let filter_ = stated_filter_items n.sps.now shape.filter.now in
     let uses = use_items n.header.now.fields shape.uses_lmcs shape.uses_scaling in
     let has_filter = is_set (number n.sps.now sps_fields.sps_alf_enabled_flag) in
     let none_first : with_field sh_qp_delta first ≡ [] = lacks beside_qp sh_qp_delta first refl
@@ -83,7 +83,7 @@ stated_delta n shape ids items is =
     ∙ with_second sh_qp_delta (filter_ ++ uses) (qp_items shape.qp_delta) (with_second sh_qp_delta filter_ uses none_filter ∙ none_uses)
 
 -- what is in force at a slice is its place in the picture
-place_is : (nal_type : ℕ) (b : Begun) (n : SliceNumbers) → AreNumbers nal_type b n → in_force_at n ≡ slice_at nal_type b
+place_is : (nal_type : ℕ) (b : Begun) (n : SliceNumbers) → AreNumbers nal_type b n → in_force_at n ≡ at_slice_of nal_type b
 place_is nal_type b n at =
     let type = at.type in
     let sps = at.sps in
@@ -111,7 +111,7 @@ pub record SliceLaws : Type 0 where
   pub first_bit : FirstBitIsInside
 
 module _ (laws : SliceLaws) (round : List Parts) (ids : Ids) (nal_type : ℕ) (b : Begun) (k : ℕ) (s : SlicePart) (w : Slice)
-    (known : IsKnownSlice round nal_type b k s) (m : IsSlice round ids nal_type b k s w) where
+    (known : IsKnownSlice round nal_type b k s) (m : IsMergedSlice round ids nal_type b k s w) where
   -- ---- its header tells the numbers beside the items
 
   same_number : (of : ℕ) → IsTrue (has (set_of kept_fields) of) → number s.header.fields of ≡ number m.is.header.fields of
@@ -143,14 +143,14 @@ module _ (laws : SliceLaws) (round : List Parts) (ids : Ids) (nal_type : ℕ) (b
   unit : IsSliceUnit nal_type b.temporal_id m.is.bytes (drop s.payload s.unit) w.unit m.front
   unit = slice_unit_is laws.joins nal_type b.temporal_id m.is.bytes (drop s.payload s.unit) w.unit m.front known.low m.is.spelled.last m.is.made m.unit
 
-  begins : BeginsSlice (slice_at nal_type b) (rbsp_of w.unit) m.is.header (length m.is.bytes)
+  begins : BeginsSlice (at_slice_of nal_type b) (rbsp_of w.unit) m.is.header (length m.is.bytes)
   begins =
       let fields : b.header ≡ m.is.numbers.header.now.fields = sym (ap (λ h. h.fields) m.is.at.header) in
-      let spelled : IsSpelling (in_force_at m.is.numbers) m.is.header.fields m.is.numbers.header.now.fields m.is.bytes
-      = subst (λ xs. IsSpelling (in_force_at m.is.numbers) m.is.header.fields xs m.is.bytes) fields m.is.spelled in
+      let spelled : IsSliceHeaderSpelling (in_force_at m.is.numbers) m.is.header.fields m.is.numbers.header.now.fields m.is.bytes
+      = subst (λ xs. IsSliceHeaderSpelling (in_force_at m.is.numbers) m.is.header.fields xs m.is.bytes) fields m.is.spelled in
       let read = laws.again s.header m.is.header m.is.shape m.is.numbers m.is.bytes (unescaped (drop s.payload s.unit)) m.is.reshaped tells spelled in
       let there = subst (λ n. BeginsSlice n (m.is.bytes ++ unescaped (drop s.payload s.unit)) m.is.header (length m.is.bytes)) (place_is nal_type b m.is.numbers m.is.at) read.begins in
-      subst (λ rbsp. BeginsSlice (slice_at nal_type b) rbsp m.is.header (length m.is.bytes)) (sym unit.is.behind) there
+      subst (λ rbsp. BeginsSlice (at_slice_of nal_type b) rbsp m.is.header (length m.is.bytes)) (sym unit.is.behind) there
 
   answer : h266.IsSlice nal_type b w.unit w.header
   answer =
@@ -167,8 +167,8 @@ module _ (laws : SliceLaws) (round : List Parts) (ids : Ids) (nal_type : ℕ) (b
   pub outside : has_header_inside w.unit ≡ false
   unfolding has_header_inside
   outside =
-      let long = laws.whole nal_type b.sps b.pps (header_of b) in
-      sym (laws.first_bit (slice_at nal_type b) (rbsp_of w.unit) m.is.header (length m.is.bytes) long begins) ∙ m.is.reshaped.inside
+      let long = laws.whole nal_type b.sps b.pps (picture_header_of b) in
+      sym (laws.first_bit (at_slice_of nal_type b) (rbsp_of w.unit) m.is.header (length m.is.bytes) long begins) ∙ m.is.reshaped.inside
 
   -- ---- the QP
 
@@ -197,8 +197,8 @@ module _ (laws : SliceLaws) (round : List Parts) (ids : Ids) (nal_type : ℕ) (b
       let depth = sps_fields.sps_bitdepth_minus8 in
       let q = picture_at round k in
       let bits : number b.sps depth ≡ number q.sps depth
-      = number_of_shown (set_of sps_set.kept) depth b.sps refl ∙ ap (λ xs. number xs depth) known.kept.of_sps
-      ∙ sym (number_of_shown (set_of sps_set.kept) depth q.sps refl) in
+      = number_of_shown (set_of sps_set.kept_sps_fields) depth b.sps refl ∙ ap (λ xs. number xs depth) known.kept.of_sps
+      ∙ sym (number_of_shown (set_of sps_set.kept_sps_fields) depth q.sps refl) in
       let fits = known.source.qp in
       rw (bits, qp_is) fits
 

@@ -19,26 +19,26 @@ use Rattle.vx_table.proofs.Spelled.{is_value}
 use Rattle.vx_annexb.specs.Emulation.{IsEscaped, unescaped, unescaped_to}
 use Rattle.vx_annexb.specs.Laws.{CanStand, EscapedSplits}
 use Rattle.vx_aps.specs.declared.aps.Aps.{Aps}
-use Rattle.vx_ph.specs.Enabled.{NoFilter}
+use Rattle.vx_ph.specs.laws.Enabled.{NoFilter}
 use Rattle.vx_ph.specs.Filter.{filter_of}
 use Rattle.vx_ph.specs.InForce.{in_force, structures}
 use Rattle.vx_ph.specs.declared.tables.TheConstants.{TRAILING}
 use Rattle.vx_ph.specs.Header.{header_form}
-use Rattle.vx_ph.specs.Picture.{AreFields, IsHeader, unit_form}
-use Rattle.vx_sh.specs.Enabled.{NoSliceFilter}
+use Rattle.vx_ph.specs.Picture.{ArePictureHeaderFields, IsHeader, unit_form}
+use Rattle.vx_sh.specs.laws.Enabled.{NoSliceFilter}
 use Rattle.vx_sh.specs.InForce.{SliceScopesAreWhole}
 use Rattle.vx_sh.specs.Value as value
 use Rattle.vx_sh.specs.Value.{NumbersAreTold}
 use Rattle.vx_sh.specs.Whole.{At}
 use Rattle.vx_pic.specs.H266.{AnswersAt, AreOfH266, IsSlice, IsSliceAnswer, form_in, header_place}
-use Rattle.vx_pic.specs.Finished.{IsSound}
-use Rattle.vx_pic.specs.Parts.{AreThere, IsReadAt, SlicePart, named_by, parts_of, slice_header_of, slice_part}
+use Rattle.vx_pic.specs.Finished.{IsSoundPicture}
+use Rattle.vx_pic.specs.Parts.{AreThere, IsReadAt, SlicePart, aps_named_by, parts_of, slice_header_of, slice_part}
 use Rattle.vx_pic.specs.PictureLayout.{ids_of}
 use Rattle.vx_pic.specs.Readings.{Begun, Picture, Slice}
 use Rattle.vx_pic.specs.Rules.{Readers}
 use Rattle.vx_pic.specs.Sets.{SliceHeader, Slot, address_of, filter_items, slice_qp}
 use Rattle.vx_pic.specs.UnderSets as under
-use Rattle.vx_pic.specs.UnderSets.{header_of}
+use Rattle.vx_pic.specs.UnderSets.{picture_header_of}
 use Rattle.vx_pic.specs.Written.{HeadReads, SliceReads}
 use Rattle.vx_pic.proofs.Ids.{ids_count}
 use Rattle.vx_write.specs.InForce.{AreInForce}
@@ -47,7 +47,7 @@ use Rattle.vx_write.proofs.UnitsRead.{front_stays}
 use Rattle.std.proofs.lemmas.List.{append-nil, length-map}
 use Rattle.std.proofs.lemmas.List.Elements.{recursion_from_All}
 use Rattle.vx_fields.specs.declared.ph.TheConstants as ph
-use Rattle.vx_ph.specs.Enabled.{NoChromaScaling, NoLmcs, NoScaling}
+use Rattle.vx_ph.specs.laws.Enabled.{NoChromaScaling, NoLmcs, NoScaling}
 use Rattle.vx_pic.specs.Finished.{AreFinished, PicturesAreFinished}
 use Rattle.vx_pic.specs.Readings.{is_whole}
 use Rattle.vx_pic.specs.Streams.{pictures_of}
@@ -76,7 +76,7 @@ ends_bare s values end (through value to_end) = refl
 -- what was read of a header is one
 header_answer : (inside : Bool) (b : Begun) (rbsp : List ℕ)
     → AnswersAt (form_in inside (structures b.sps) (in_force b.sps b.pps)) (header_place inside rbsp) (Ok b.header)
-    → AreFields (structures b.sps) (in_force b.sps b.pps) b.header
+    → ArePictureHeaderFields (structures b.sps) (in_force b.sps b.pps) b.header
 unfolding unit_form
 header_answer true b rbsp (new, reads) =
     let on = spells_follow reads.is.spelled in
@@ -96,7 +96,7 @@ header_answer false b rbsp (new, reads) =
 
 module _ (R : Readers) (of : AreOfH266 R) where
   header_is : (unit : Option (List ℕ)) (b : Begun) (first : Slice) → HeadReads R unit b first
-      → IsHeader (structures b.sps) (in_force b.sps b.pps) (header_of b)
+      → IsHeader (structures b.sps) (in_force b.sps b.pps) (picture_header_of b)
   header_is None b first head = record {
     fields = header_answer true b (rbsp_of first.unit) (subst (λ x. AnswersAt (form_in true (structures b.sps) (in_force b.sps b.pps)) (header_place true (rbsp_of first.unit)) x) head.0.header (of.header true b.sps b.pps (rbsp_of first.unit)));
     lists = refl;
@@ -116,10 +116,10 @@ same_fields n fields others inside same f = (record { first = f.first; behind = 
 module _ (scopes : SliceScopesAreWhole) (numbers_told : NumbersAreTold) (nal_type : ℕ) (b : Begun) (unit : List ℕ) (h : SliceHeader)
     (is : IsSlice nal_type b unit h) where
   abbrev n : At
-  n = under.slice_at nal_type b
+  n = under.at_slice_of nal_type b
 
-  told : value.AreTold n is.value.fields is.begins.fields.end
-  told = numbers_told n is.value.fields is.begins.inside is.begins.fields (scopes nal_type b.sps b.pps (header_of b))
+  told : value.AreToldBySlice n is.value.fields is.begins.fields.end
+  told = numbers_told n is.value.fields is.begins.inside is.begins.fields (scopes nal_type b.sps b.pps (picture_header_of b))
 
   pub read_at : IsReadAt n (slice_header_of b h)
   unfolding address_of
@@ -187,24 +187,24 @@ module _ (sets : List (Option Aps)) (names : SlicePart → List Slot) where
 
 module _ (splits : EscapedSplits) (scopes : SliceScopesAreWhole) (numbers_told : NumbersAreTold) (no_filter : NoFilter)
     (no_slice_filter : NoSliceFilter) (R : Readers) (of : AreOfH266 R) (earlier : List Picture) (p : Picture)
-    (sound : IsSound R earlier p) (are : AreInForce (parts_of p)) where
+    (sound : IsSoundPicture R earlier p) (are : AreInForce (parts_of p)) where
   abbrev b : Begun
   b = p.begun
 
-  own_header : IsHeader (structures b.sps) (in_force b.sps b.pps) (header_of b)
+  own_header : IsHeader (structures b.sps) (in_force b.sps b.pps) (picture_header_of b)
   own_header = header_is R of b.unit b sound.first sound.head
 
   -- no filter stands where the SPS has none
   filter_off : (unit : List ℕ) (h : SliceHeader) → IsSlice p.kind.nal_type b unit h
       → is_set (number b.sps sps_fields.sps_alf_enabled_flag) ≡ false → filter_of (filter_items b.pps b.header h) ≡ []
   filter_off unit h is off = elim (cases_Bool (is_set (number b.pps pps_fields.pps_alf_info_in_ph_flag))) [
-    | inl there ↦ ap (λ t. filter_of (cond t b.header h.fields)) there ∙ no_filter b.sps b.pps (header_of b) own_header off
+    | inl there ↦ ap (λ t. filter_of (cond t b.header h.fields)) there ∙ no_filter b.sps b.pps (picture_header_of b) own_header off
     | inr apart ↦ ap (λ t. filter_of (cond t b.header h.fields)) apart
-        ∙ no_slice_filter p.kind.nal_type b.sps b.pps (header_of b) (ids_of b.sps b.pps) b.layout h.fields is.begins.inside (same_fields (under.slice_at p.kind.nal_type b) h.fields is.value.fields is.begins.inside is.fields is.begins.fields).0 off
+        ∙ no_slice_filter p.kind.nal_type b.sps b.pps (picture_header_of b) (ids_of b.sps b.pps) b.layout h.fields is.begins.inside (same_fields (under.at_slice_of p.kind.nal_type b) h.fields is.value.fields is.begins.inside is.fields is.begins.fields).0 off
   ]
 
   one_slice : (s : Slice) → SliceReads R b p.kind.nal_type s → CanStand s.unit
-      → AreThere (parts_of p).bodies (named_by b.pps b.header (slice_header_of b s.header)) → IsSourceSlice (parts_of p) (slice_part b s)
+      → AreThere (parts_of p).bodies (aps_named_by b.pps b.header (slice_header_of b s.header)) → IsSourceSlice (parts_of p) (slice_part b s)
   unfolding address_of slice_qp
   one_slice s reads stands there =
       let is : IsSlice p.kind.nal_type b s.unit s.header = subst (IsSliceAnswer p.kind.nal_type b s.unit) reads.header (of.slice p.kind.nal_type b s.unit) in
@@ -224,7 +224,7 @@ module _ (splits : EscapedSplits) (scopes : SliceScopesAreWhole) (numbers_told :
 
   each_slice : (slices : List Slice) → AllByRecursion (SliceReads R b p.kind.nal_type) slices
       → AllByRecursion (λ (s : Slice). CanStand s.unit) slices
-      → AllByRecursion (λ (s : SlicePart). AreThere (parts_of p).bodies (named_by b.pps b.header s.header)) (map (slice_part b) slices)
+      → AllByRecursion (λ (s : SlicePart). AreThere (parts_of p).bodies (aps_named_by b.pps b.header s.header)) (map (slice_part b) slices)
       → AllByRecursion (IsSourceSlice (parts_of p)) (map (slice_part b) slices)
   each_slice [] reads stand there = tt
   each_slice (s ∷ slices) reads stand there = (one_slice s reads.0 stand.0 there.0, each_slice slices reads.1 stand.1 there.1)
@@ -239,9 +239,9 @@ module _ (splits : EscapedSplits) (scopes : SliceScopesAreWhole) (numbers_told :
 
   own_maps : NoLmcs → NoScaling → NoChromaScaling → HasOwnMaps (parts_of p)
   own_maps no_lmcs no_scaling no_chroma = record {
-    lmcs = λ on. unless (is_set (number b.sps sps_fields.sps_lmcs_enabled_flag)) (number b.header ph.ph_lmcs_enabled_flag) on (no_lmcs b.sps b.pps (header_of b) own_header);
-    scaling = λ on. unless (is_set (number b.sps sps_fields.sps_explicit_scaling_list_enabled_flag)) (number b.header ph.ph_explicit_scaling_list_enabled_flag) on (no_scaling b.sps b.pps (header_of b) own_header);
-    chroma = λ off. ap is_set (no_chroma b.sps b.pps (header_of b) own_header off);
+    lmcs = λ on. unless (is_set (number b.sps sps_fields.sps_lmcs_enabled_flag)) (number b.header ph.ph_lmcs_enabled_flag) on (no_lmcs b.sps b.pps (picture_header_of b) own_header);
+    scaling = λ on. unless (is_set (number b.sps sps_fields.sps_explicit_scaling_list_enabled_flag)) (number b.header ph.ph_explicit_scaling_list_enabled_flag) on (no_scaling b.sps b.pps (picture_header_of b) own_header);
+    chroma = λ off. ap is_set (no_chroma b.sps b.pps (picture_header_of b) own_header off);
   }
     where
       unless : (enabled : Bool) (n : ℕ) → is_set n ≡ true → (enabled ≡ false → n ≡ 0) → enabled ≡ true
@@ -258,7 +258,7 @@ module _ (splits : EscapedSplits) (scopes : SliceScopesAreWhole) (numbers_told :
     maps = own_maps no_lmcs no_scaling no_chroma;
     class = first_class p.slices sound.first sound.more sound.slices sound.each;
     tid = low_tid R earlier p sound;
-    slices = each_slice p.slices sound.each stand (each_there (parts_of p).bodies (λ s. named_by b.pps b.header s.header) (parts_of p).slices readings.there);
+    slices = each_slice p.slices sound.each stand (each_there (parts_of p).bodies (λ s. aps_named_by b.pps b.header s.header) (parts_of p).slices readings.there);
     whole = length-map p.slices (slice_part b) ∙ eqb-true (length p.slices) (length b.layout.slices) whole;
     order = λ k short. shown k p.slices ∙ order k short;
     readable = readings.readable;

@@ -23,7 +23,7 @@ use Rattle.vx_write.proofs.Ending.{header_ends}
 use Rattle.vx_write.proofs.OwnSets.{each_passing}
 use Rattle.vx_write.proofs.Standing.{ended_stand, unit_stands}
 use Rattle.vx_merge.specs.declared.corner.Corner.{Corner}
-use Rattle.vx_merge.specs.Headers.{IsSlice, sourced}
+use Rattle.vx_merge.specs.Headers.{IsMergedSlice, sourced}
 use Rattle.vx_merge.specs.Merging.{AreCorners, Passes}
 use Rattle.vx_merge.specs.Rounds.{picture_at}
 use Rattle.vx_merge.specs.Written.{IsMerged, limits_of}
@@ -107,7 +107,7 @@ module _ (joins : EscapedJoins) (corners : List Corner) (level : Option ℕ) (ro
   header = option_to_list p.begun.unit
 
   abbrev slices : List (List ℕ)
-  slices = map (λ (s : Slice). s.unit) (written.slices_of p)
+  slices = map (λ (s : Slice). s.unit) (written.planned_slices p)
 
   short_sets : AllByRecursion IsShort sets
   short_sets = front_short sets (sei ++ (header ++ slices)) (back_short eos (sets ++ (sei ++ (header ++ slices))) short)
@@ -129,14 +129,14 @@ module _ (joins : EscapedJoins) (corners : List Corner) (level : Option ℕ) (ro
 
   -- a slice
   slice_stands : (k : ℕ) (s : SlicePart) (w : Slice) → (rest : List ℕ) × IsEscaped rest (drop s.payload s.unit)
-      → IsSlice round is.ids p.kind.nal_type p.begun k s w → IsShort w.unit → CanStand w.unit
+      → IsMergedSlice round is.ids p.kind.nal_type p.begun k s w → IsShort w.unit → CanStand w.unit
   slice_stands k s w payload own few =
       let whole : IsUnitOf p.kind.nal_type p.begun.temporal_id (own.is.bytes ++ payload.0) w.unit =
       subst (IsEscaped (header_bytes p.kind.nal_type p.begun.temporal_id ++ (own.is.bytes ++ payload.0))) (sym own.unit)
       (joins (header_bytes p.kind.nal_type p.begun.temporal_id ++ own.is.bytes) payload.0 own.front (drop s.payload s.unit) (header_ends 0 (p.kind.nal_type * 8 + (p.begun.temporal_id + 1)) own.is.bytes (omega arith) own.is.spelled.last) own.is.made payload.1) in
       unit_stands p.kind.nal_type p.begun.temporal_id (own.is.bytes ++ payload.0) w.unit low_begun whole few
 
-  each_stands : (xs : List (ℕ × SlicePart)) (ws : List Slice) → AllZip (λ x w. IsSlice round is.ids p.kind.nal_type p.begun x.0 x.1 w) xs ws
+  each_stands : (xs : List (ℕ × SlicePart)) (ws : List Slice) → AllZip (λ x w. IsMergedSlice round is.ids p.kind.nal_type p.begun x.0 x.1 w) xs ws
       → AllByRecursion (λ (x : ℕ × SlicePart). (rest : List ℕ) × IsEscaped rest (drop x.1.payload x.1.unit)) xs
       → AllByRecursion IsShort (map (λ (s : Slice). s.unit) ws) → AllStand (map (λ (s : Slice). s.unit) ws)
   each_stands [] [] own payloads few = tt
@@ -155,7 +155,7 @@ module _ (joins : EscapedJoins) (corners : List Corner) (level : Option ℕ) (ro
       (Each-append CanStand sets (sei ++ (header ++ slices)) own_sets
       (Each-append CanStand sei (header ++ slices) (sei_stands p.kind.temporal_id (picture_at round 0).messages p.sei low is.sei short_sei)
       (Each-append CanStand header slices header_stands
-      (each_stands (sourced 0 round) (written.slices_of p) is.slices payloads (back_short header slices short_rest)))))
+      (each_stands (sourced 0 round) (written.planned_slices p) is.slices payloads (back_short header slices short_rest)))))
 
 -- ---- all rounds
 

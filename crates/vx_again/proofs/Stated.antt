@@ -13,8 +13,9 @@ use Rattle.vx_table.specs.Rewritten.{other_items}
 use Rattle.vx_table.specs.Scope.{fresh, is_set, one_if}
 use Rattle.vx_table.proofs.With.{first_with, lacks, no_number, one_number, others_with}
 use Rattle.vx_table.proofs.With.{passing_append, passing_where, with_field, with_first, with_second}
-use Rattle.vx_sps.specs.Reshaped.{item, where_so}
-use Rattle.vx_ph.specs.Depends.{kept}
+use Rattle.vx_sps.specs.Reshaped.{item}
+use Rattle.vx_table.specs.Rewritten.{where_so}
+use Rattle.vx_ph.specs.Depends.{kept_ph_fields}
 use Rattle.vx_ph.specs.Reshaped as header
 use Rattle.vx_ph.specs.Reshaped.{lmcs_said, scaling_said}
 use Rattle.vx_ph.specs.declared.shape.LmcsShape.{LmcsShape}
@@ -23,7 +24,7 @@ use Rattle.vx_sh.specs.declared.numbers.SliceNumbers.{SliceNumbers}
 use Rattle.vx_sh.specs.declared.shape.ShShape.{ShShape}
 use Rattle.vx_sh.specs.Depends.{kept_fields}
 use Rattle.vx_sh.specs.Reshaped as slice
-use Rattle.vx_sh.specs.Reshaped.{filter_items, id_items, qp_items, use_items}
+use Rattle.vx_sh.specs.Reshaped.{stated_filter_items, sh_subpic_id_items, qp_items, use_items}
 
 -- ---- flags
 
@@ -43,10 +44,10 @@ none_where of false xs none = refl
 
 module _ (n : SliceNumbers) (shape : ShShape) where
   abbrev ids : List Item
-  ids = id_items n.sps.now shape.subpic_id
+  ids = sh_subpic_id_items n.sps.now shape.subpic_id
 
   abbrev filters : List Item
-  filters = filter_items n.sps.now shape.filter.now
+  filters = stated_filter_items n.sps.now shape.filter.now
 
   abbrev uses : List Item
   uses = use_items n.header.now.fields shape.uses_lmcs shape.uses_scaling
@@ -58,7 +59,7 @@ module _ (n : SliceNumbers) (shape : ShShape) where
   abbrev beside : ℕ → Bool
   beside f = not (has (set_of alf.ALL) f)
 
-  pub filter_stated : (of : ℕ) → has (set_of alf.ALL) of ≡ true → with_field of (slice.stated n shape) ≡ with_field of filters
+  pub filter_stated : (of : ℕ) → has (set_of alf.ALL) of ≡ true → with_field of (slice.stated_sh_items n shape) ≡ with_field of filters
   unfolding fresh
   filter_stated of is =
       let out : beside of ≡ false = ap not is in
@@ -76,7 +77,7 @@ module _ (n : SliceNumbers) (shape : ShShape) where
   -- whether it uses LMCS, and scaling lists, where the picture header has them
   uses_stated : (of : ℕ) → (sh.sh_picture_header_in_slice_header_flag == of) ≡ false → (sh.sh_subpic_id == of) ≡ false
       → (sh.sh_qp_delta == of) ≡ false
-      → with_field of shape.filter.now ≡ [] → with_field of (slice.stated n shape) ≡ with_field of uses
+      → with_field of shape.filter.now ≡ [] → with_field of (slice.stated_sh_items n shape) ≡ with_field of uses
   uses_stated of inside id delta none =
       let described = is_set (number n.sps.now sps.sps_subpic_info_present_flag) in
       let enabled = is_set (number n.sps.now sps.sps_alf_enabled_flag) in
@@ -109,9 +110,9 @@ flag_where : (of : ℕ) (fields : List Item) (on b : Bool) → of < 1024 → wit
 flag_where of fields false b low same = refl
 flag_where of fields true b low same = ap is_set (one_number of (one_if b) fields low (small_flag b) same) ∙ flag_of b
 
-module _ (n : SliceNumbers) (shape : ShShape) (fields : List Item) (others : other_items (set_of kept_fields) fields ≡ slice.stated n shape) where
+module _ (n : SliceNumbers) (shape : ShShape) (fields : List Item) (others : other_items (set_of kept_fields) fields ≡ slice.stated_sh_items n shape) where
   pub filter_with : (of : ℕ) → has (set_of alf.ALL) of ≡ true → has (set_of kept_fields) of ≡ false
-      → with_field of fields ≡ with_field of (filter_items n.sps.now shape.filter.now)
+      → with_field of fields ≡ with_field of (stated_filter_items n.sps.now shape.filter.now)
   filter_with of is starred =
       sym (others_with (set_of kept_fields) of fields starred) ∙ ap (with_field of) others ∙ filter_stated n shape of is
 
@@ -155,7 +156,7 @@ aside_lmcs of chroma None one two three = rw one refl
 aside_lmcs of chroma (Some lmcs) one two three =
     rw (one, two) (none_where of (is_set chroma) (item ph.ph_chroma_residual_scale_flag (one_if lmcs.scales_chroma) ∷ []) (rw three refl))
 
-module _ (s fields : List Item) (shape : PhShape) (others : other_items (set_of kept) fields ≡ header.stated s shape) where
+module _ (s fields : List Item) (shape : PhShape) (others : other_items (set_of kept_ph_fields) fields ≡ header.stated_ph_items s shape) where
   abbrev chroma : ℕ
   chroma = number s sps.sps_chroma_format_idc
 
@@ -165,14 +166,14 @@ module _ (s fields : List Item) (shape : PhShape) (others : other_items (set_of 
   abbrev lists : List Item
   lists = where_so (is_set (number s sps.sps_explicit_scaling_list_enabled_flag)) (scaling_said shape.scaling)
 
-  with_maps : (of : ℕ) → has (set_of kept) of ≡ false → (ph.ph_pic_parameter_set_id == of) ≡ false
+  with_maps : (of : ℕ) → has (set_of kept_ph_fields) of ≡ false → (ph.ph_pic_parameter_set_id == of) ≡ false
       → with_field of fields ≡ with_field of (maps ++ lists)
   with_maps of starred beside =
-      sym (others_with (set_of kept) of fields starred) ∙ ap (with_field of) others
+      sym (others_with (set_of kept_ph_fields) of fields starred) ∙ ap (with_field of) others
       ∙ ap (λ b. cond b (item ph.ph_pic_parameter_set_id shape.pps_id ∷ with_field of (maps ++ lists)) (with_field of (maps ++ lists))) beside
 
   -- a field of LMCS, and one of scaling lists
-  in_maps : (of : ℕ) → has (set_of kept) of ≡ false → (ph.ph_pic_parameter_set_id == of) ≡ false
+  in_maps : (of : ℕ) → has (set_of kept_ph_fields) of ≡ false → (ph.ph_pic_parameter_set_id == of) ≡ false
       → (ph.ph_explicit_scaling_list_enabled_flag == of) ≡ false
       → (ph.ph_scaling_list_aps_id == of) ≡ false → with_field of fields ≡ with_field of maps
   in_maps of starred beside one two =
@@ -180,7 +181,7 @@ module _ (s fields : List Item) (shape : PhShape) (others : other_items (set_of 
       (none_where of (is_set (number s sps.sps_explicit_scaling_list_enabled_flag)) (scaling_said shape.scaling)
       (aside_scaling of shape.scaling one two))
 
-  in_lists : (of : ℕ) → has (set_of kept) of ≡ false → (ph.ph_pic_parameter_set_id == of) ≡ false → (ph.ph_lmcs_enabled_flag == of) ≡ false
+  in_lists : (of : ℕ) → has (set_of kept_ph_fields) of ≡ false → (ph.ph_pic_parameter_set_id == of) ≡ false → (ph.ph_lmcs_enabled_flag == of) ≡ false
       → (ph.ph_lmcs_aps_id == of) ≡ false → (ph.ph_chroma_residual_scale_flag == of) ≡ false → with_field of fields ≡ with_field of lists
   in_lists of starred beside one two three =
       with_maps of starred beside ∙ with_second of maps lists
@@ -203,7 +204,7 @@ module _ (s fields : List Item) (shape : PhShape) (others : other_items (set_of 
       off false same = ap is_set (no_number ph.ph_lmcs_enabled_flag fields same)
 
   module _ (enabled : is_set (number s sps.sps_lmcs_enabled_flag) ≡ true) (lmcs : LmcsShape) (is : shape.lmcs ≡ Some lmcs) where
-    said : (of : ℕ) → has (set_of kept) of ≡ false → (ph.ph_pic_parameter_set_id == of) ≡ false
+    said : (of : ℕ) → has (set_of kept_ph_fields) of ≡ false → (ph.ph_pic_parameter_set_id == of) ≡ false
         → (ph.ph_explicit_scaling_list_enabled_flag == of) ≡ false
         → (ph.ph_scaling_list_aps_id == of) ≡ false → with_field of fields ≡ with_field of (lmcs_said chroma (Some lmcs))
     said of starred beside one two =
@@ -260,7 +261,7 @@ module _ (s fields : List Item) (shape : PhShape) (others : other_items (set_of 
       off false same = ap is_set (no_number ph.ph_explicit_scaling_list_enabled_flag fields same)
 
   module _ (enabled : is_set (number s sps.sps_explicit_scaling_list_enabled_flag) ≡ true) (id : ℕ) (is : shape.scaling ≡ Some id) where
-    lists_said : (of : ℕ) → has (set_of kept) of ≡ false → (ph.ph_pic_parameter_set_id == of) ≡ false
+    lists_said : (of : ℕ) → has (set_of kept_ph_fields) of ≡ false → (ph.ph_pic_parameter_set_id == of) ≡ false
         → (ph.ph_lmcs_enabled_flag == of) ≡ false
         → (ph.ph_lmcs_aps_id == of) ≡ false → (ph.ph_chroma_residual_scale_flag == of) ≡ false
         → with_field of fields ≡ with_field of (scaling_said (Some id))

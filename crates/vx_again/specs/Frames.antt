@@ -13,7 +13,7 @@ use Rattle.vx_pic.specs.Sets.{pps_id, referred_sps, same_size, sps_id}
 use Rattle.vx_merge.specs.declared.corner.Corner.{Corner}
 use Rattle.vx_merge.specs.Merging.{AreCorners, Judges}
 use Rattle.vx_merge.specs.Rounds.{picture_at}
-use Rattle.vx_merge.specs.Shapes.{IsFrame, pps_shape, sps_shape}
+use Rattle.vx_merge.specs.Shapes.{IsFrame, frame_pps_shape, frame_sps_shape}
 use Rattle.vx_merge.specs.Slots.{pps_slots}
 use Rattle.vx_again.specs.Sources.{IsSource}
 
@@ -26,8 +26,8 @@ pub record IsReadyRound (corners : List Corner) (round : List Parts) : Type 0 wh
 -- The sets that are rewritten for its frame, the PPS with this id.
 pub record AreFrameSets (corners : List Corner) (level : Option ℕ) (round : List Parts) (frame : Numbers) (id : ℕ) (sps pps : List Item) : Type 0 where
   pub low : id < pps_slots
-  pub of_sps : sps_reshaped.IsReshaped (picture_at round 0).sps (sps_shape corners round level) sps
-  pub of_pps : pps_reshaped.IsReshaped (picture_at round 0).pps (pps_shape corners round frame id) pps
+  pub of_sps : sps_reshaped.IsReshapedSps (picture_at round 0).sps (frame_sps_shape corners round level) sps
+  pub of_pps : pps_reshaped.IsReshapedPps (picture_at round 0).pps (frame_pps_shape corners round frame id) pps
 
 -- They make up the frame of n sources: a subpicture for each, whose id is its index, treated as a picture and not filtered across.
 pub record MakeTheFrame (n : ℕ) (frame : Numbers) (id : ℕ) (sps pps : List Item) : Type 0 where

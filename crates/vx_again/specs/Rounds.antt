@@ -6,7 +6,7 @@ use Rattle.vx_pic.specs.H266.{AreOfH266}
 use Rattle.vx_pic.specs.Inputs.{inputs_of}
 use Rattle.vx_pic.specs.Parts.{Parts, parts_of}
 use Rattle.vx_pic.specs.Readings.{Picture}
-use Rattle.vx_pic.specs.Resident.{IsBodyOf, read_of}
+use Rattle.vx_pic.specs.Resident.{IsBodyOf, readings_of_plans}
 use Rattle.vx_pic.specs.Rules.{Readers}
 use Rattle.vx_pic.specs.Written.{IsStored, Plan, before_header, planned}
 use Rattle.vx_write.specs.Again.{HasItsBodies, IsWholePlan, SendsItsSets, UnitsAreRead}
@@ -46,8 +46,8 @@ MergedHasItsBodies =
 -- Each is the one in force for its header, and each adaptation parameter set among them is one of the picture that is read again.
 pub record AreInForceFor (corners : List Corner) (level : Option ℕ) (round : List Parts) (done : List Plan) (p : Plan)
     (is : IsMerged corners level round done p) : Type 0 where
-  pub stored : AllByRecursion (λ x. IsStored (before_header (read_of done) p) x.set) is.needed
-  pub bodies : AllByRecursion (λ x. IsBodyOf (planned (read_of done) p) x.set) is.needed
+  pub stored : AllByRecursion (λ x. IsStored (before_header (readings_of_plans done) p) x.set) is.needed
+  pub bodies : AllByRecursion (λ x. IsBodyOf (planned (readings_of_plans done) p) x.set) is.needed
 
 abbrev pub MergedSetsAreInForce : Type 0
 MergedSetsAreInForce =
@@ -70,4 +70,4 @@ MergedKeepsInputs =
     → IsReadyRound corners (map parts_of pics) → Judges corners (map parts_of pics) None
     → (is : IsMerged corners level (map parts_of pics) done p) → SendsItsSets is.needed done p
     → AllByRecursion (λ q. q.kind ≡ p.kind) pics
-    → (k : ℕ) (q : Picture) → slice_get pics k ≡ Some q → inputs_of (planned (read_of done) p) k ≡ inputs_of q 0
+    → (k : ℕ) (q : Picture) → slice_get pics k ≡ Some q → inputs_of (planned (readings_of_plans done) p) k ≡ inputs_of q 0

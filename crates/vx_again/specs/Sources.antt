@@ -16,12 +16,12 @@ use Rattle.vx_ph.specs.InForce.{in_force, structures}
 use Rattle.vx_ph.specs.Picture.{IsHeader}
 use Rattle.vx_pic.specs.Finished.{AreFinished}
 use Rattle.vx_pic.specs.H266.{AreOfH266}
-use Rattle.vx_pic.specs.Parts.{AreThere, IsReadAt, Parts, SlicePart, named_by, parts_of, read_of}
+use Rattle.vx_pic.specs.Parts.{AreThere, IsReadAt, Parts, SlicePart, aps_named_by, parts_of, read_of}
 use Rattle.vx_pic.specs.Readings.{Picture}
 use Rattle.vx_pic.specs.Rules.{Readers, message_limit}
 use Rattle.vx_pic.specs.Sets.{filter_items, is_qp, slice_qp}
 use Rattle.vx_pic.specs.Streams.{pictures_of}
-use Rattle.vx_pic.specs.UnderSets.{at_sets}
+use Rattle.vx_sh.specs.InForce.{at_sets}
 use Rattle.vx_pic.specs.Units.{class_of, slice_unit}
 use Rattle.vx_write.specs.Again.{HasReadableSets}
 use Rattle.vx_write.specs.InForce.{AreInForce}
@@ -46,7 +46,7 @@ pub record IsSourceSlice (q : Parts) (s : SlicePart) : Type 0 where
   pub qp : is_qp q.sps (slice_qp q.pps q.header.fields (read_of s.header)) ≡ true
   pub some : s.payload < length s.unit
   pub payload : (rest : List ℕ) × IsEscaped rest (drop s.payload s.unit)
-  pub there : AreThere q.bodies (named_by q.pps q.header.fields s.header)
+  pub there : AreThere q.bodies (aps_named_by q.pps q.header.fields s.header)
   pub filter : is_set (number q.sps sps.sps_alf_enabled_flag) ≡ false
       → filter_of (filter_items q.pps q.header.fields (read_of s.header)) ≡ []
 

@@ -21,7 +21,7 @@ use Rattle.vx_again.specs.Streams.{AreWrittenSo}
 
 -- Region k of pictures can be extracted. What is extracted of those up to a TemporalId, where no IRAP or GDR picture is left out (H.266
 -- C.6), is read as pictures of one subpicture with the kinds and the decoding inputs of its source.
-pub record IsExtractable (R : Readers) (k : ℕ) (ps qs : List Picture) : Type 0 where
+pub record IsExtractedAsSource (R : Readers) (k : ℕ) (ps qs : List Picture) : Type 0 where
   pub rules : AllByRecursion (λ q. refusal_of k 6 (parts_of q) ≡ None) qs
   pub again : (tid : ℕ) (level : Option ℕ) (bytes : List ℕ) → KeepsStarts tid ps
       → IsExtraction k level (map parts_of (at_most tid qs)) bytes
@@ -34,7 +34,7 @@ pub record IsExtractable (R : Readers) (k : ℕ) (ps qs : List Picture) : Type 0
 pub record IsReadAsMerge (R : Readers) (corners : List Corner) (sources : List (List Picture)) (bytes : List ℕ) (qs : List Picture) : Type 0 where
   pub read : ArePictures R bytes true qs None
   pub pictures : AreOfMerge corners sources qs
-  pub regions : (k : ℕ) (ps : List Picture) → slice_get sources k ≡ Some ps → IsExtractable R k ps qs
+  pub regions : (k : ℕ) (ps : List Picture) → slice_get sources k ≡ Some ps → IsExtractedAsSource R k ps qs
   pub messages : (ps : List Picture) → slice_get sources 0 ≡ Some ps → map messages_of qs ≡ map messages_of ps
   pub short : length bytes ≤ source_limit
 

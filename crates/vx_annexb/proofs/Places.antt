@@ -4,7 +4,7 @@ use Rattle.std.proofs.lemmas.Bool.{cases_lt, false≢true}
 use Rattle.std.proofs.lemmas.List.{get_or_append_left, length-take-le, take-append-le, drop-append-le, drop-drop}
 use Rattle.vx_bits.specs.declared.refusal.Refusal.{Refusal}
 use Rattle.vx_annexb.specs.Places.{AreZeros, IsMark, IsFirstFrom}
-use Rattle.vx_annexb.specs.ByteStream.{StartsAt, CanEnd, UnitPlace, unit_bytes, IsUnit, IsStray, IsSound, Refuses, FollowsFrom, end_of}
+use Rattle.vx_annexb.specs.ByteStream.{StartsAt, CanEnd, UnitPlace, unit_bytes, IsUnit, IsStray, IsSound, RefusesNext, FollowsFrom, end_of}
 
 -- Bytes from place `base` on, and what stands there.
 module _ (g kept : List ℕ) (base : ℕ) (is : kept ≡ drop base g) where
@@ -175,7 +175,7 @@ module _ (g more : List ℕ) where
       let same = bytes_on u f.0.ends.order (unit_within p u f.0) in
       (unit_on all p u f.0, rw same f.1, follows_on all u.end us f.2)
 
-  pub refuses_on : (all : Bool) (p : ℕ) (r : Refusal) → Refuses g false p r → Refuses (g ++ more) all p r
+  pub refuses_on : (all : Bool) (p : ℕ) (r : Refusal) → RefusesNext g false p r → RefusesNext (g ++ more) all p r
   refuses_on all p r (inl s) = inl (s.0, stray_on p s.0 s.1, s.2)
   refuses_on all p r (inr s) =
       let u = s.0 in

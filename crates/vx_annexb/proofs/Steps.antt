@@ -3,7 +3,7 @@ use Rattle.std.proofs.Common.{◌≡◌, ℕ, ◌+◌, ◌-◌, ◌<◌, ◌≤�
 use Rattle.std.proofs.lemmas.List.{append-nil}
 use Rattle.vx_bits.specs.declared.refusal.Refusal.{Refusal}
 use Rattle.vx_annexb.specs.Places.{AreZeros, IsMark, IsFirstFrom}
-use Rattle.vx_annexb.specs.ByteStream.{StartsAt, CanEnd, UnitPlace, unit_bytes, IsUnit, IsStray, IsSound, RefusesUnit, Refuses, FollowsFrom, end_of, IsStream}
+use Rattle.vx_annexb.specs.ByteStream.{StartsAt, CanEnd, UnitPlace, unit_bytes, IsUnit, IsStray, IsSound, RefusesUnit, RefusesNext, FollowsFrom, end_of, IsStream}
 use Rattle.vx_annexb.specs.Held.{place_of}
 use Rattle.vx_annexb.specs.inner.Held.{Held, fed, IsDoomedBy, HasSought, Stands}
 use Rattle.vx_annexb.specs.inner.Order.{HasBegun, IsStarted, IsInOrder, cut_held, IsCut}
@@ -18,7 +18,7 @@ finish_follows : (g : List ℕ) (all : Bool) (p : ℕ) (us : List UnitPlace) →
 finish_follows g true p us f = f
 finish_follows g false p us f = let e = follows_on g [] true p us f in rw append-nil at e
 
-finish_refuses : (g : List ℕ) (all : Bool) (p : ℕ) (r : Refusal) → Refuses g all p r → Refuses g true p r
+finish_refuses : (g : List ℕ) (all : Bool) (p : ℕ) (r : Refusal) → RefusesNext g all p r → RefusesNext g true p r
 finish_refuses g true p r f = f
 finish_refuses g false p r f = let e = refuses_on g [] true p r f in rw append-nil at e
 
@@ -111,7 +111,7 @@ module _ (h : Held) (g : List ℕ) (units : List UnitPlace) (order : IsInOrder h
         nonzero = λ e. nonzero (same ∙ e);
         no_code = λ e. no_code (same ∙ e);
       } in
-      let refuses : Refuses g h.all h.from (Framing 1 (h.base + place)) = inl (h.base + place, stray, refl) in (
+      let refuses : RefusesNext g h.all h.from (Framing 1 (h.base + place)) = inl (h.base + place, stray, refl) in (
         record { taken = s.taken; kept = s.kept; given = s.given; behind = s.behind; sought = refuses },
         record { follow = s.given; behind = rw (← s.behind) refuses },
       )
@@ -220,7 +220,7 @@ module _ (h : Held) (g : List ℕ) (units : List UnitPlace) (order : IsInOrder h
 
     pub Stands-refused : (r : Refusal) → RefusesUnit (slice_range g start end) start r → Stands (record h { refused = Some r }) g units × IsStream g h.all units (Some r)
     Stands-refused r why =
-        let refuses : Refuses g h.all h.from r = inr (record { start = start; end = end }, unit_is, why) in (
+        let refuses : RefusesNext g h.all h.from r = inr (record { start = start; end = end }, unit_is, why) in (
           record { taken = s.taken; kept = s.kept; given = s.given; behind = s.behind; sought = refuses },
           record { follow = s.given; behind = rw (← s.behind) refuses },
         )

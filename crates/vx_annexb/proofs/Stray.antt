@@ -4,7 +4,7 @@ use Rattle.std.proofs.lemmas.Bool.{cases_lt}
 use Rattle.std.proofs.lemmas.List.{length-take-le, take-append-drop}
 use Rattle.vx_bits.specs.declared.refusal.Refusal.TheVariants.{Framing}
 use Rattle.vx_annexb.specs.Places.{AreZeros, IsMark, IsFirstFrom}
-use Rattle.vx_annexb.specs.ByteStream.{StartsAt, CanEnd, UnitPlace, unit_bytes, IsUnit, IsStray, IsSound, Refuses, FollowsFrom, end_of}
+use Rattle.vx_annexb.specs.ByteStream.{StartsAt, CanEnd, UnitPlace, unit_bytes, IsUnit, IsStray, IsSound, RefusesNext, FollowsFrom, end_of}
 use Rattle.vx_annexb.specs.Laws.{StrayEndsStream}
 use Rattle.vx_annexb.proofs.Places.{mark_on, bytes_on}
 
@@ -81,7 +81,7 @@ module _ (b : List ℕ) (all : Bool) (p : ℕ) where
       let P : List ℕ → Type 0 = λ xs. IsSound xs in
       (is, subst P bytes f.1, follow_in u.end us f.2 stray)
 
-stray_at : (b : List ℕ) (all : Bool) (q p : ℕ) → Refuses b all q (Framing 1 p) → IsStray b q p
+stray_at : (b : List ℕ) (all : Bool) (q p : ℕ) → RefusesNext b all q (Framing 1 p) → IsStray b q p
 stray_at b all q p (inl s) =
     let same : s.0 ≡ p = (let e = s.2 in cc) in
     let P : ℕ → Type 0 = λ k. IsStray b q k in

@@ -4,7 +4,7 @@ use Rattle.std.proofs.lemmas.Bool.{cases_order}
 use Rattle.vx_bits.specs.declared.refusal.Refusal.{Refusal}
 use Rattle.vx_bits.specs.declared.refusal.Refusal.TheVariants.{Framing}
 use Rattle.vx_annexb.specs.Places.{AreZeros, IsFirstFrom}
-use Rattle.vx_annexb.specs.ByteStream.{StartsAt, CanEnd, UnitPlace, unit_bytes, IsUnit, SeesNoMore, IsStray, IsSound, RefusesUnit, Refuses, FollowsFrom, end_of, EndsWith}
+use Rattle.vx_annexb.specs.ByteStream.{StartsAt, CanEnd, UnitPlace, unit_bytes, IsUnit, SeesNoMore, IsStray, IsSound, RefusesUnit, RefusesNext, FollowsFrom, end_of, EndsWith}
 use Rattle.vx_annexb.specs.Emulation.{BreaksRule}
 use Rattle.vx_annexb.specs.Laws.{StreamIsUnique, StreamGoesOn}
 use Rattle.vx_annexb.proofs.Places.{follows_on, refuses_on}
@@ -71,11 +71,11 @@ module _ (b : List ℕ) (all : Bool) (p : ℕ) where
   none_or_stray q (inl z) is = zeros_or_stray q z is
   none_or_stray q (inr n) is = stray_or_start q n.0 is n.1
 
-  none_or_refusal : (r : Refusal) → SeesNoMore b all p → Refuses b all p r → ⊥
+  none_or_refusal : (r : Refusal) → SeesNoMore b all p → RefusesNext b all p r → ⊥
   none_or_refusal r n (inl s) = none_or_stray s.0 n s.1
   none_or_refusal r n (inr s) = none_or_unit s.0 n s.1
 
-  refusal_unique : (r t : Refusal) → Refuses b all p r → Refuses b all p t → r ≡ t
+  refusal_unique : (r t : Refusal) → RefusesNext b all p r → RefusesNext b all p t → r ≡ t
   refusal_unique r t (inl a) (inl c) = a.2 ∙ ap (λ q. Framing 1 q) (stray_unique a.0 c.0 a.1 c.1) ∙ sym c.2
   refusal_unique r t (inl a) (inr c) = absurd (stray_or_start a.0 c.0.start a.1 c.1.starts)
   refusal_unique r t (inr a) (inl c) = absurd (stray_or_start c.0 a.0.start c.1 a.1.starts)

@@ -70,8 +70,8 @@ RefusesUnit unit place r =
     ⊎ (HasHeader unit × ((k : ℕ) → ¬ BreaksRule unit k) × (unit_limit < length unit) × (r ≡ Limit LONG_UNIT)))
 
 -- r refuses what comes next behind place p: a byte that is no start code, or a unit
-abbrev pub Refuses : List ℕ → Bool → ℕ → Refusal → Type 0
-Refuses b all p r =
+abbrev pub RefusesNext : List ℕ → Bool → ℕ → Refusal → Type 0
+RefusesNext b all p r =
     ((q : ℕ) × IsStray b p q × (r ≡ Framing NOT_A_START_CODE q))
     ⊎ ((u : UnitPlace) × IsUnit b all p u × RefusesUnit (unit_bytes b u) u.start r)
 
@@ -88,7 +88,7 @@ end_of p (u ∷ us) = end_of u.end us
 -- how the bytes end behind their units: nothing more is seen, or a refusal
 abbrev pub EndsWith : List ℕ → Bool → ℕ → Option Refusal → Type 0
 EndsWith b all p None = SeesNoMore b all p
-EndsWith b all p (Some r) = Refuses b all p r
+EndsWith b all p (Some r) = RefusesNext b all p r
 
 -- the units of the bytes before the first refusal, and the ending behind them
 pub record IsStream (b : List ℕ) (all : Bool) (units : List UnitPlace) (ending : Option Refusal) : Type 0 where

@@ -4,11 +4,11 @@ use Rattle.std.proofs.lemmas.List.{nil_from_length, take_all}
 use Rattle.std.proofs.lemmas.Option.{slice_get-get_or}
 use Rattle.vx_run.specs.Grammar.{Command, AskFor, IsUnderstood, NamesFiles, files_of}
 use Rattle.vx_app.specs.declared.opened.Opened.{Opened}
-use Rattle.vx_app.specs.Opened.{AreOpened, StandFor, file_in}
+use Rattle.vx_app.specs.Opened.{AreOpened, StandFor, opened_file}
 
 -- one file more
 stand-one : {F : Type 0} (opens : List ℕ → Option F → Type 0) (names : List (List ℕ)) (files : List (Opened F)) (k : ℕ) (name : List ℕ) (file : Opened F)
-    → StandFor opens (take k names) files → slice_get names k ≡ Some name → opens name (file_in file) → StandFor opens (take (suc k) names) (files ++ file ∷ [])
+    → StandFor opens (take k names) files → slice_get names k ≡ Some name → opens name (opened_file file) → StandFor opens (take (suc k) names) (files ++ file ∷ [])
 stand-one opens [] files k name file before at is = absurd (cc at)
 stand-one opens (n ∷ ns) [] zero name file before at is = let same : n ≡ name = cc in rw same (is, tt)
 stand-one opens (n ∷ ns) (f ∷ fs) zero name file before at is = absurd before
@@ -16,7 +16,7 @@ stand-one opens (n ∷ ns) [] (suc k) name file before at is = absurd before
 stand-one opens (n ∷ ns) (f ∷ fs) (suc k) name file before at is = (before.0, stand-one opens ns fs k name file before.1 at is)
 
 pub stand-more : {F : Type 0} (opens : List ℕ → Option F → Type 0) (names : List (List ℕ)) (files : List (Opened F)) (k : ℕ) (name : List ℕ) (file : Opened F)
-    → StandFor opens (take k names) files → (place : ℕ) → place ≡ k → slice_get names place ≡ Some name → opens name (file_in file) → StandFor opens (take (k + 1) names) (files ++ file ∷ [])
+    → StandFor opens (take k names) files → (place : ℕ) → place ≡ k → slice_get names place ≡ Some name → opens name (opened_file file) → StandFor opens (take (k + 1) names) (files ++ file ∷ [])
 stand-more opens names files k name file before place here there is = rw add-one (stand-one opens names files k name file before (rw here at there) is)
 
 -- so it is where they are a command

@@ -6,9 +6,9 @@ use Rattle.vx_app.specs.declared.opened.Opened.TheVariants.{File, Closed}
 use Rattle.vx_run.specs.Grammar.{Command, AskFor, IsUnderstood, files_of}
 
 -- the file that was opened; a closed source stands for none
-abbrev pub file_in : {F : Type 0} → Opened F → Option F
-file_in (File source) = Some (reader_of source)
-file_in (Closed source) = None
+abbrev pub opened_file : {F : Type 0} → Opened F → Option F
+opened_file (File source) = Some (reader_of source)
+opened_file (Closed source) = None
 
 -- the bytes that are told to be left: those of a file aren't, and where there is none there are none
 abbrev pub left_in : {F : Type 0} → Opened F → Option (List ℕ)
@@ -25,7 +25,7 @@ abbrev pub StandFor : {F : Type 0} → (List ℕ → Option F → Type 0) → Li
 StandFor opens [] [] = Unit {0}
 StandFor opens [] (file ∷ files) = ⊥
 StandFor opens (name ∷ names) [] = ⊥
-StandFor opens (name ∷ names) (file ∷ files) = opens name (file_in file) × StandFor opens names files
+StandFor opens (name ∷ names) (file ∷ files) = opens name (opened_file file) × StandFor opens names files
 
 -- these are the files that the words name, in order, and none where they ask for no command
 pub record AreOpened {F : Type 0} (opens : List ℕ → Option F → Type 0) (words : List (List ℕ)) (files : List (Opened F)) : Type 0 where

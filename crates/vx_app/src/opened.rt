@@ -16,11 +16,11 @@ pub(crate) enum Opened<F: Read + Drop> {
 }
 
 impl<F: Read + Drop> Opened<F> {
-    ghost use Rattle.vx_app.specs.Opened.{file_in, faults_in};
+    ghost use Rattle.vx_app.specs.Opened.{opened_file, faults_in};
 
     /// What stands for this file, or for none.
     pub fn new(file: Option<F>) -> Opened<F>
-        ensures file { file_in result ≡ file }
+        ensures file { opened_file result ≡ file }
         ensures faults { faults_in result ≡ 0 }
     {
         match file {
@@ -31,7 +31,7 @@ impl<F: Read + Drop> Opened<F> {
 }
 
 impl<F: Read + Drop> Source for Opened<F> {
-    ghost use Rattle.vx_app.specs.Opened.{faults_in, file_in, left_in};
+    ghost use Rattle.vx_app.specs.Opened.{faults_in, opened_file, left_in};
 
     ghost bytes_left = { left_in };
 
@@ -44,9 +44,9 @@ impl<F: Read + Drop> Source for Opened<F> {
         ensures faults { CountsFault (faults_in self.old) (faults_in self.new) result }
 
         // The file behind it gives just these bytes, where it tells them.
-        ensures file { ReadConsumes (option_and_then F.remaining (file_in self.old)) (option_and_then F.remaining (file_in self.new)) result into.new }
-        ensures closed { file_in self.old ≡ None → IsErr result }
-        ensures stays { file_in self.old ≡ None → file_in self.new ≡ None }
+        ensures file { ReadConsumes (option_and_then F.remaining (opened_file self.old)) (option_and_then F.remaining (opened_file self.new)) result into.new }
+        ensures closed { opened_file self.old ≡ None → IsErr result }
+        ensures stays { opened_file self.old ≡ None → opened_file self.new ≡ None }
     {
         match self {
             Opened::File(file) => file.read(into),

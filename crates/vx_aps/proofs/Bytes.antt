@@ -10,27 +10,27 @@ use Rattle.vx_bits.specs.Codes.{EndsInNoZero}
 use Rattle.vx_fields.specs.declared.aps.TheConstants.{aps_params_type, aps_body}
 use Rattle.vx_aps.specs.declared.aps.Aps.{Aps}
 use Rattle.vx_aps.specs.declared.aps.TheConstants.{LMCS, SCALING}
-use Rattle.vx_aps.specs.Laws.{OneAnswer}
-use Rattle.vx_aps.specs.Aps.{spelled, ids, IsRefused, IsAnswer, no_type, no_such_id, no_body, bad_end}
+use Rattle.vx_aps.specs.laws.Answers.{OneAnswer}
+use Rattle.vx_aps.specs.Aps.{spelled, ids_of_type, IsRefusedAps, IsAnswer, no_type, no_such_id, no_body, bad_end}
 
 pub is_spelled : (rbsp : List ℕ) (byte : ℕ) (body : List ℕ) → rbsp ≡ byte ∷ body → rbsp ≡ spelled (byte / 32) (byte % 32) body
 is_spelled rbsp byte body e = e ∙ ap (λ n. n ∷ body) (sym (div-add-mod byte 32))
 
-pub is_unknown : (rbsp : List ℕ) (byte : ℕ) (body : List ℕ) → rbsp ≡ byte ∷ body → byte / 32 ≤ SCALING → ids (byte / 32) ≤ byte % 32
-    → IsRefused rbsp (Profile APS_ID)
+pub is_unknown : (rbsp : List ℕ) (byte : ℕ) (body : List ℕ) → rbsp ≡ byte ∷ body → byte / 32 ≤ SCALING → ids_of_type (byte / 32) ≤ byte % 32
+    → IsRefusedAps rbsp (Profile APS_ID)
 is_unknown rbsp byte body e known none = no_such_id (byte / 32) (byte % 32) body (is_spelled rbsp byte body e) known (omega arith) none
 
-pub is_empty : (rbsp : List ℕ) (byte : ℕ) (body : List ℕ) → rbsp ≡ byte ∷ body → byte / 32 ≤ SCALING → byte % 32 < ids (byte / 32)
-    → length body ≡ 0 → IsRefused rbsp (Syntax aps_body 8 Short)
+pub is_empty : (rbsp : List ℕ) (byte : ℕ) (body : List ℕ) → rbsp ≡ byte ∷ body → byte / 32 ≤ SCALING → byte % 32 < ids_of_type (byte / 32)
+    → length body ≡ 0 → IsRefusedAps rbsp (Syntax aps_body 8 Short)
 is_empty rbsp byte [] e known id none = no_body (byte / 32) (byte % 32) (is_spelled rbsp byte [] e) known id
 is_empty rbsp byte (b ∷ body) e known id none = absurd (omega arith)
 
 pub ends_badly : (rbsp : List ℕ) (byte : ℕ) (body : List ℕ) (last : ℕ) → rbsp ≡ byte ∷ body → byte / 32 ≤ SCALING
-    → byte % 32 < ids (byte / 32) → length body ≡ last + 1 → slice_index body last ≡ 0 → IsRefused rbsp (Syntax aps_body 8 BadTrailing)
+    → byte % 32 < ids_of_type (byte / 32) → length body ≡ last + 1 → slice_index body last ≡ 0 → IsRefusedAps rbsp (Syntax aps_body 8 BadTrailing)
 ends_badly rbsp byte body last e known id n zero =
     bad_end (byte / 32) (byte % 32) body (is_spelled rbsp byte body e) known id (λ ends. ends last n zero)
 
-pub is_bare : (rbsp : List ℕ) → length rbsp ≡ 0 → IsRefused rbsp (Syntax aps_params_type 0 Short)
+pub is_bare : (rbsp : List ℕ) → length rbsp ≡ 0 → IsRefusedAps rbsp (Syntax aps_params_type 0 Short)
 is_bare [] none = no_type refl
 is_bare (b ∷ rbsp) none = absurd (omega arith)
 
@@ -40,7 +40,7 @@ fewer : (b : Bool) → cond b 4 8 ≤ 32
 fewer true = omega arith
 fewer false = omega arith
 
-pub ids_within : (kind : ℕ) → ids kind ≤ 32
+pub ids_within : (kind : ℕ) → ids_of_type kind ≤ 32
 ids_within kind = fewer (kind == LMCS)
 
 -- type, id and body are told by the bytes
@@ -66,7 +66,7 @@ told_of kind id (b ∷ body) =
     (Ok (Some (record { kind = kind; id = id; body = b ∷ body })))
 
 told : (kind id : ℕ) → List ℕ → Result (Option Aps) Refusal
-told kind id body = cond (nat_lt SCALING kind) (Ok None) (cond (nat_le (ids kind) id) (Err (Profile APS_ID)) (told_of kind id body))
+told kind id body = cond (nat_lt SCALING kind) (Ok None) (cond (nat_le (ids_of_type kind) id) (Err (Profile APS_ID)) (told_of kind id body))
 
 record IsTold (rbsp : List ℕ) (a : Result (Option Aps) Refusal) : Type 0 where
   kind : ℕ
@@ -76,11 +76,11 @@ record IsTold (rbsp : List ℕ) (a : Result (Option Aps) Refusal) : Type 0 where
   five_bits : id < 32
   is : a ≡ told kind id body
 
-known : (kind id : ℕ) (body : List ℕ) → kind ≤ SCALING → id < ids kind → told kind id body ≡ told_of kind id body
+known : (kind id : ℕ) (body : List ℕ) → kind ≤ SCALING → id < ids_of_type kind → told kind id body ≡ told_of kind id body
 unfolding told
 known kind id body k i =
     let a : nat_lt SCALING kind ≡ false = false_from_ne_true (nat_lt SCALING kind) (λ e. let l = ltb-true SCALING kind e in omega (arith, l, k)) in
-    let b : nat_le (ids kind) id ≡ false = false_from_ne_true (nat_le (ids kind) id) (λ e. let l = leb-true (ids kind) id e in omega (arith, l, i)) in
+    let b : nat_le (ids_of_type kind) id ≡ false = false_from_ne_true (nat_le (ids_of_type kind) id) (λ e. let l = leb-true (ids_of_type kind) id e in omega (arith, l, i)) in
     rw (a, b) refl
 
 whole : (kind id : ℕ) (body : List ℕ) → 0 < length body → EndsInNoZero body
@@ -125,7 +125,7 @@ is_told rbsp (Ok None) p =
 is_told rbsp (Err r) (no_type e) = inl (e, refl)
 is_told rbsp (Err r) (no_such_id kind id body bytes k five none) =
     let a : nat_lt SCALING kind ≡ false = false_from_ne_true (nat_lt SCALING kind) (λ e. let l = ltb-true SCALING kind e in omega (arith, l, k)) in
-    let b : nat_le (ids kind) id ≡ true = le-leb (ids kind) id none in
+    let b : nat_le (ids_of_type kind) id ≡ true = le-leb (ids_of_type kind) id none in
     inr (record { kind = kind; id = id; body = body; bytes = bytes; five_bits = five; is = rw (a, b) refl })
 is_told rbsp (Err r) (no_body kind id bytes k i) =
     let within = ids_within kind in

@@ -5,7 +5,7 @@ use Rattle.vx_bits.specs.declared.refusal.Refusal.{Refusal}
 use Rattle.vx_bits.specs.Codes.{EndsInNoZero}
 use Rattle.vx_aps.specs.declared.aps.TheConstants.{SCALING}
 use Rattle.vx_aps.specs.declared.fields.ApsFields.{ApsFields}
-use Rattle.vx_aps.specs.Aps.{ids, IsRefused, no_type, no_such_id, no_body, bad_end}
+use Rattle.vx_aps.specs.Aps.{ids_of_type, IsRefusedAps, no_type, no_such_id, no_body, bad_end}
 use Rattle.vx_aps.specs.Fields.{with_type, with_id, fields_in, AreFields}
 use Rattle.vx_aps.specs.inner.Bodies.{body_seen}
 use Rattle.vx_aps.proofs.Bytes.{is_spelled, ids_within, tells, no_bytes}
@@ -14,13 +14,13 @@ use Rattle.vx_aps.proofs.Bytes.{is_spelled, ids_within, tells, no_bytes}
 shown : (kind id : ℕ) → List ℕ → ApsFields
 shown kind id body =
     cond (nat_lt SCALING kind) (with_id kind id (Some (length body)))
-    (cond (nat_le (ids kind) id) (with_type kind) (with_id kind id (body_seen body)))
+    (cond (nat_le (ids_of_type kind) id) (with_type kind) (with_id kind id (body_seen body)))
 
-known : (kind id : ℕ) (body : List ℕ) → kind ≤ SCALING → id < ids kind → shown kind id body ≡ with_id kind id (body_seen body)
+known : (kind id : ℕ) (body : List ℕ) → kind ≤ SCALING → id < ids_of_type kind → shown kind id body ≡ with_id kind id (body_seen body)
 unfolding shown
 known kind id body k i =
     let a : nat_lt SCALING kind ≡ false = false_from_ne_true (nat_lt SCALING kind) (λ e. let l = ltb-true SCALING kind e in omega (arith, l, k)) in
-    let b : nat_le (ids kind) id ≡ false = false_from_ne_true (nat_le (ids kind) id) (λ e. let l = leb-true (ids kind) id e in omega (arith, l, i)) in
+    let b : nat_le (ids_of_type kind) id ≡ false = false_from_ne_true (nat_le (ids_of_type kind) id) (λ e. let l = leb-true (ids_of_type kind) id e in omega (arith, l, i)) in
     rw (a, b) refl
 
 whole : (body : List ℕ) → 0 < length body → EndsInNoZero body → body_seen body ≡ Some (length body)
@@ -43,14 +43,14 @@ ended body bad false e = zero_at body bad e (slice_index body (length body - 1) 
 renamed : {k i l j : ℕ} {x y : List ℕ} → k ≡ l → i ≡ j → x ≡ y → shown k i x ≡ shown l j y
 renamed a b c = rw (a, b, c) refl
 
-refused : (rbsp : List ℕ) (byte : ℕ) (body : List ℕ) → rbsp ≡ byte ∷ body → (r : Refusal) (is : IsRefused rbsp r)
+refused : (rbsp : List ℕ) (byte : ℕ) (body : List ℕ) → rbsp ≡ byte ∷ body → (r : Refusal) (is : IsRefusedAps rbsp r)
     → shown (byte / 32) (byte % 32) body ≡ fields_in rbsp (Err r) is
 unfolding shown
 refused rbsp byte body e r (no_type none) = absurd (no_bytes rbsp body (byte / 32) (byte % 32) none (is_spelled rbsp byte body e))
 refused rbsp byte body e r (no_such_id kind id other bytes k five none) =
     let t = tells rbsp body other (byte / 32) (byte % 32) kind id (is_spelled rbsp byte body e) bytes (omega arith) five in
     let a : nat_lt SCALING kind ≡ false = false_from_ne_true (nat_lt SCALING kind) (λ e. let l = ltb-true SCALING kind e in omega (arith, l, k)) in
-    let b : nat_le (ids kind) id ≡ true = le-leb (ids kind) id none in
+    let b : nat_le (ids_of_type kind) id ≡ true = le-leb (ids_of_type kind) id none in
     renamed t.kind t.id t.body ∙ rw (a, b) refl
 refused rbsp byte body e r (no_body kind id bytes k i) =
     let within = ids_within kind in
@@ -79,20 +79,20 @@ are_shown rbsp byte body e (Err r) is = refused rbsp byte body e r is
 at_fields : (rbsp : List ℕ) (f h : ApsFields) → AreFields rbsp f → f ≡ h → AreFields rbsp h
 at_fields rbsp f h are e answer is = sym e ∙ are answer is
 
-pub type_fields : (rbsp : List ℕ) (byte : ℕ) (body : List ℕ) → rbsp ≡ byte ∷ body → byte / 32 ≤ SCALING → ids (byte / 32) ≤ byte % 32
+pub type_fields : (rbsp : List ℕ) (byte : ℕ) (body : List ℕ) → rbsp ≡ byte ∷ body → byte / 32 ≤ SCALING → ids_of_type (byte / 32) ≤ byte % 32
     → AreFields rbsp (with_type (byte / 32))
 unfolding shown
 type_fields rbsp byte body e k none =
     let a : nat_lt SCALING (byte / 32) ≡ false = false_from_ne_true (nat_lt SCALING (byte / 32)) (λ e. let l = ltb-true SCALING (byte / 32) e in omega (arith, l, k)) in
-    let b : nat_le (ids (byte / 32)) (byte % 32) ≡ true = le-leb (ids (byte / 32)) (byte % 32) none in
+    let b : nat_le (ids_of_type (byte / 32)) (byte % 32) ≡ true = le-leb (ids_of_type (byte / 32)) (byte % 32) none in
     at_fields rbsp (shown (byte / 32) (byte % 32) body) _ (are_shown rbsp byte body e) (rw (a, b) refl)
 
-pub all_fields : (rbsp : List ℕ) (byte : ℕ) (body : List ℕ) → rbsp ≡ byte ∷ body → byte / 32 ≤ SCALING → byte % 32 < ids (byte / 32)
+pub all_fields : (rbsp : List ℕ) (byte : ℕ) (body : List ℕ) → rbsp ≡ byte ∷ body → byte / 32 ≤ SCALING → byte % 32 < ids_of_type (byte / 32)
     → AreFields rbsp (with_id (byte / 32) (byte % 32) (body_seen body))
 all_fields rbsp byte body e k i =
     at_fields rbsp (shown (byte / 32) (byte % 32) body) _ (are_shown rbsp byte body e) (known (byte / 32) (byte % 32) body k i)
 
-no_bytes_left : (rbsp : List ℕ) (r : Refusal) (is : IsRefused rbsp r) → rbsp ≡ [] → record { items = []; body = None } ≡ fields_in rbsp (Err r) is
+no_bytes_left : (rbsp : List ℕ) (r : Refusal) (is : IsRefusedAps rbsp r) → rbsp ≡ [] → record { items = []; body = None } ≡ fields_in rbsp (Err r) is
 no_bytes_left rbsp r (no_type none) e = refl
 no_bytes_left rbsp r (no_such_id kind id body bytes k five none) e = absurd (no_bytes rbsp body kind id e bytes)
 no_bytes_left rbsp r (no_body kind id bytes k i) e = absurd (no_bytes rbsp [] kind id e bytes)

@@ -16,13 +16,13 @@ abbrev pub spelled : ℕ → ℕ → List ℕ → List ℕ
 spelled kind id body = (32 * kind + id) ∷ body
 
 -- how many ids a type has: 0 to 3 for LMCS, and 0 to 7 for the others
-abbrev pub ids : ℕ → ℕ
-ids kind = cond (kind == LMCS) 4 8
+abbrev pub ids_of_type : ℕ → ℕ
+ids_of_type kind = cond (kind == LMCS) 4 8
 
 -- a set of one of the three types, whose body can end a unit
 pub record IsValid (aps : Aps) : Type 0 where
   pub kind : aps.kind ≤ SCALING
-  pub id : aps.id < ids aps.kind
+  pub id : aps.id < ids_of_type aps.kind
   pub some : 0 < length aps.body
   pub ends : EndsInNoZero aps.body
 
@@ -41,19 +41,19 @@ pub record IsReserved (rbsp : List ℕ) : Type 0 where
   pub reserved : SCALING < kind
 
 -- or are refused for the first that holds: no first byte, an id that its type lacks, no body, a body that can't end a unit.
-pub data IsRefused (rbsp : List ℕ) : Refusal → Type 0 where
-  no_type : rbsp ≡ [] → IsRefused rbsp (Syntax aps_params_type 0 Short)
-  no_such_id : (kind id : ℕ) (body : List ℕ) → rbsp ≡ spelled kind id body → kind ≤ SCALING → id < 32 → ids kind ≤ id
-      → IsRefused rbsp (Profile APS_ID)
-  no_body : (kind id : ℕ) → rbsp ≡ spelled kind id [] → kind ≤ SCALING → id < ids kind → IsRefused rbsp (Syntax aps_body 8 Short)
-  bad_end : (kind id : ℕ) (body : List ℕ) → rbsp ≡ spelled kind id body → kind ≤ SCALING → id < ids kind → ¬ EndsInNoZero body
-      → IsRefused rbsp (Syntax aps_body 8 BadTrailing)
+pub data IsRefusedAps (rbsp : List ℕ) : Refusal → Type 0 where
+  no_type : rbsp ≡ [] → IsRefusedAps rbsp (Syntax aps_params_type 0 Short)
+  no_such_id : (kind id : ℕ) (body : List ℕ) → rbsp ≡ spelled kind id body → kind ≤ SCALING → id < 32 → ids_of_type kind ≤ id
+      → IsRefusedAps rbsp (Profile APS_ID)
+  no_body : (kind id : ℕ) → rbsp ≡ spelled kind id [] → kind ≤ SCALING → id < ids_of_type kind → IsRefusedAps rbsp (Syntax aps_body 8 Short)
+  bad_end : (kind id : ℕ) (body : List ℕ) → rbsp ≡ spelled kind id body → kind ≤ SCALING → id < ids_of_type kind → ¬ EndsInNoZero body
+      → IsRefusedAps rbsp (Syntax aps_body 8 BadTrailing)
 
 -- What bytes are.
 abbrev pub IsAnswer : List ℕ → Result (Option Aps) Refusal → Type 0
 IsAnswer rbsp (Ok (Some aps)) = IsAps rbsp aps
 IsAnswer rbsp (Ok None) = IsReserved rbsp
-IsAnswer rbsp (Err refusal) = IsRefused rbsp refusal
+IsAnswer rbsp (Err refusal) = IsRefusedAps rbsp refusal
 
 -- What a reader answers, unless memory runs out.
 abbrev pub AnswersAps : List ℕ → Result (Option Aps) ReadError → Type 0

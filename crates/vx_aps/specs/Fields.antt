@@ -5,7 +5,7 @@ use Rattle.vx_bits.specs.declared.refusal.Refusal.{Refusal}
 use Rattle.vx_fields.specs.declared.aps.TheConstants.{aps_params_type, aps_adaptation_parameter_set_id}
 use Rattle.vx_aps.specs.declared.aps.Aps.{Aps}
 use Rattle.vx_aps.specs.declared.fields.ApsFields.{ApsFields}
-use Rattle.vx_aps.specs.Aps.{IsAnswer, IsRefused, no_type, no_such_id, no_body, bad_end}
+use Rattle.vx_aps.specs.Aps.{IsAnswer, IsRefusedAps, no_type, no_such_id, no_body, bad_end}
 
 abbrev pub type_item : ℕ → Item
 type_item kind = record { field = aps_params_type; value = pos kind }
@@ -21,7 +21,7 @@ with_type kind = record { items = type_item kind ∷ []; body = None }
 abbrev pub with_id : ℕ → ℕ → Option ℕ → ApsFields
 with_id kind id body = record { items = type_item kind ∷ id_item id ∷ []; body = body }
 
-abbrev pub before_refusal : (rbsp : List ℕ) (r : Refusal) → IsRefused rbsp r → ApsFields
+abbrev pub before_refusal : (rbsp : List ℕ) (r : Refusal) → IsRefusedAps rbsp r → ApsFields
 before_refusal rbsp r (no_type none) = record { items = []; body = None }
 before_refusal rbsp r (no_such_id kind id body bytes known five_bits lacks) = with_type kind
 before_refusal rbsp r (no_body kind id bytes known has) = with_id kind id None

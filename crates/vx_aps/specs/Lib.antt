@@ -1,5 +1,5 @@
 -- Definitions that the contracts of this crate cite.
 pub mod Aps
 pub mod Fields
-pub mod Laws
 pub mod inner
+pub mod laws

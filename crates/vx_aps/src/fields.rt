@@ -51,10 +51,6 @@ fn items_of(alloc: Global, kind: u8, id: Option<u8>) -> Result<Fields, AllocErro
 
 /// Reads the fields of an adaptation parameter set, `adaptation_parameter_set_rbsp()`, clause 7.3.2.6, up to the first that
 /// [`read_aps`](crate::read_aps) refuses; also of a type that is dropped.
-///
-/// # Errors
-///
-/// Want of memory.
 pub fn read_aps_fields(alloc: Global, rbsp: &[u8]) -> Result<ApsFields, AllocError>
     ensures { IfOk result (AreFields rbsp.now) }
 {

@@ -2,7 +2,7 @@
 ghost use Rattle.std.specs.Prelude.{◌≡◌};
 ghost use Rattle.vx_bits.specs.declared.refusal.ReadError.TheVariants.{Refused as IsRefusedFor};
 ghost use Rattle.vx_bits.specs.declared.refusal.Refusal.TheVariants.{Syntax as SyntaxOf};
-ghost use Rattle.vx_aps.specs.Aps.{ids, AnswersAps};
+ghost use Rattle.vx_aps.specs.Aps.{ids_of_type, AnswersAps};
 
 use crate::aps::{Aps, LMCS, SCALING};
 use std::alloc::Global;
@@ -19,7 +19,7 @@ fn missed(field: u16, bit: u32, cause: BitCause) -> ReadError
 
 /// How many ids a type has (clause 7.4.3.6).
 pub(crate) fn ids(kind: u8) -> u8
-    ensures { result ≡ ids kind }
+    ensures { result ≡ ids_of_type kind }
 {
     if kind == LMCS { 4 } else { 8 }
 }

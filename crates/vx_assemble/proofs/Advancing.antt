@@ -10,7 +10,7 @@ use Rattle.vx_annexb.proofs.Needed.{needed_near, needed_unit}
 use Rattle.vx_annexb.proofs.Places.{end_of_more}
 use Rattle.vx_pic.specs.declared.accepted.Accepted.{Accepted}
 use Rattle.vx_pic.specs.declared.accepted.Accepted.TheVariants as accepted
-use Rattle.vx_pic.specs.Readings.{Reading, dropped, vps_read, sps_read, pps_read, aps_read, messages_read, header_read, first_slice, next_slice, sequence_ended, Current, nothing, headed, going, current, Picture, is_whole, whole_part, pictures}
+use Rattle.vx_pic.specs.Readings.{Reading, dropped, vps_read, sps_read, pps_read, aps_read, messages_read, header_read, first_slice, next_slice, sequence_ended, Current, nothing, headed, going, current, Picture, is_whole, picture_if_whole, pictures}
 use Rattle.vx_pic.specs.Rules.{Readers}
 use Rattle.vx_pic.specs.H266.{AreOfH266}
 use Rattle.vx_pic.specs.Bytes.{ArePictures, AreSeenPictures}
@@ -38,12 +38,12 @@ none_if : (b : Bool) (p : Picture) (earlier : List Picture) → (cond b accepted
 none_if true p earlier not_ = absurd (not_ refl)
 none_if false p earlier not_ = refl
 
-slice_done : (c : Current) (earlier : List Picture) → done_or_not c ≡ accepted.PictureDone → (q : Picture) × (whole_part c ++ earlier ≡ q ∷ earlier)
+slice_done : (c : Current) (earlier : List Picture) → done_or_not c ≡ accepted.PictureDone → (q : Picture) × (picture_if_whole c ++ earlier ≡ q ∷ earlier)
 slice_done nothing earlier is = absurd (cc)
 slice_done (headed b) earlier is = absurd (cc)
 slice_done (going p) earlier is = whole_if (is_whole p) p earlier is
 
-slice_not : (c : Current) (earlier : List Picture) → (done_or_not c ≡ accepted.PictureDone → ⊥) → whole_part c ++ earlier ≡ earlier
+slice_not : (c : Current) (earlier : List Picture) → (done_or_not c ≡ accepted.PictureDone → ⊥) → picture_if_whole c ++ earlier ≡ earlier
 slice_not nothing earlier not_ = refl
 slice_not (headed b) earlier not_ = refl
 slice_not (going p) earlier not_ = none_if (is_whole p) p earlier not_

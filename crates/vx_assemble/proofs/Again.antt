@@ -10,7 +10,7 @@ use Rattle.vx_pic.specs.declared.accepted.Accepted.TheVariants as accepted
 use Rattle.vx_pic.specs.H266.{AreOfH266}
 use Rattle.vx_pic.specs.Units.{rbsp_of, sps_unit, pps_unit}
 use Rattle.vx_pic.specs.Sets.{sps_id, pps_id, same_items}
-use Rattle.vx_pic.specs.Readings.{Reading, sps_read, pps_read, current, is_within}
+use Rattle.vx_pic.specs.Readings.{Reading, sps_read, pps_read, current, is_within_picture}
 use Rattle.vx_pic.specs.Rules.{Readers, reads_as}
 use Rattle.vx_assemble.specs.declared.state.State.{State}
 use Rattle.vx_assemble.specs.inner.Held.{IsHeld}
@@ -64,7 +64,7 @@ pps_held s before v h here = record {
 }
 
 took_sps_again : (R : Readers) (s : State) (before : List Reading) (u rbsp : List ℕ) (v : List Item) (id : ℕ) (w : Bool)
-    → w ≡ is_within (current before) → w ≡ false → rbsp ≡ rbsp_of u → R.sps rbsp ≡ Ok v → id ≡ sps_id v → slice_index_or s.sps id None ≡ Some v
+    → w ≡ is_within_picture (current before) → w ≡ false → rbsp ≡ rbsp_of u → R.sps rbsp ≡ Ok v → id ≡ sps_id v → slice_index_or s.sps id None ≡ Some v
     → IsHeld s before → TookUnit (reads_as R sps_unit before u) before s (accepted.Sps id)
 took_sps_again R s before u rbsp v id w said is spells read own stored held = record {
   reading = sps_read v;
@@ -74,7 +74,7 @@ took_sps_again R s before u rbsp v id w said is spells read own stored held = re
 }
 
 pub sps_stays : (R : Readers) (s : State) (sets : List (Option (List Item))) (before : List Reading) (u rbsp : List ℕ) (put : Put) (w : Bool) → AreOfH266 R
-    → w ≡ is_within (current before) → w ≡ false → rbsp ≡ rbsp_of u → IsPut (λ r x. r.sps x) sps_id s.sps sets rbsp put → put.is_new ≡ false
+    → w ≡ is_within_picture (current before) → w ≡ false → rbsp ≡ rbsp_of u → IsPut (λ r x. r.sps x) sps_id s.sps sets rbsp put → put.is_new ≡ false
     → IsHeld s before → TookUnit (reads_as R sps_unit before u) before (record s { sps = sets }) (accepted.Sps put.id)
 sps_stays R s sets before u rbsp put w are said is spells p old held =
     let at : Puts false put.id p.set s.sps sets = subst (λ b. Puts b put.id p.set s.sps sets) old p.stored in
@@ -86,7 +86,7 @@ sps_stays_ordered s sets rbsp put p old order =
     let at : Puts false put.id p.set s.sps sets = subst (λ b. Puts b put.id p.set s.sps sets) old p.stored in rw at.0 order
 
 pub sps_comes : (R : Readers) (s : State) (sets : List (Option (List Item))) (before : List Reading) (u rbsp : List ℕ) (put : Put) (w : Bool) → AreOfH266 R
-    → w ≡ is_within (current before) → w ≡ false → rbsp ≡ rbsp_of u → IsPut (λ r x. r.sps x) sps_id s.sps sets rbsp put → put.is_new ≡ true
+    → w ≡ is_within_picture (current before) → w ≡ false → rbsp ≡ rbsp_of u → IsPut (λ r x. r.sps x) sps_id s.sps sets rbsp put → put.is_new ≡ true
     → IsHeld s before → TookUnit (reads_as R sps_unit before u) before (record s { sps = sets; made = None }) (accepted.Sps put.id)
 sps_comes R s sets before u rbsp put w are said is spells p new held =
     let at : Puts true put.id p.set s.sps sets = subst (λ b. Puts b put.id p.set s.sps sets) new p.stored in
@@ -99,7 +99,7 @@ sps_comes_ordered s sets rbsp put p new order =
     let at : Puts true put.id p.set s.sps sets = subst (λ b. Puts b put.id p.set s.sps sets) new p.stored in rw at.1 (sps_ordered put.id p.set s order)
 
 took_pps_again : (R : Readers) (s : State) (before : List Reading) (u rbsp : List ℕ) (v : List Item) (id : ℕ) (w : Bool)
-    → w ≡ is_within (current before) → w ≡ false → rbsp ≡ rbsp_of u → R.pps rbsp ≡ Ok v → id ≡ pps_id v → slice_index_or s.pps id None ≡ Some v
+    → w ≡ is_within_picture (current before) → w ≡ false → rbsp ≡ rbsp_of u → R.pps rbsp ≡ Ok v → id ≡ pps_id v → slice_index_or s.pps id None ≡ Some v
     → IsHeld s before → TookUnit (reads_as R pps_unit before u) before s (accepted.Pps id)
 took_pps_again R s before u rbsp v id w said is spells read own stored held = record {
   reading = pps_read v;
@@ -109,7 +109,7 @@ took_pps_again R s before u rbsp v id w said is spells read own stored held = re
 }
 
 pub pps_stays : (R : Readers) (s : State) (sets : List (Option (List Item))) (before : List Reading) (u rbsp : List ℕ) (put : Put) (w : Bool) → AreOfH266 R
-    → w ≡ is_within (current before) → w ≡ false → rbsp ≡ rbsp_of u → IsPut (λ r x. r.pps x) pps_id s.pps sets rbsp put → put.is_new ≡ false
+    → w ≡ is_within_picture (current before) → w ≡ false → rbsp ≡ rbsp_of u → IsPut (λ r x. r.pps x) pps_id s.pps sets rbsp put → put.is_new ≡ false
     → IsHeld s before → TookUnit (reads_as R pps_unit before u) before (record s { pps = sets }) (accepted.Pps put.id)
 pps_stays R s sets before u rbsp put w are said is spells p old held =
     let at : Puts false put.id p.set s.pps sets = subst (λ b. Puts b put.id p.set s.pps sets) old p.stored in
@@ -121,7 +121,7 @@ pps_stays_ordered s sets rbsp put p old order =
     let at : Puts false put.id p.set s.pps sets = subst (λ b. Puts b put.id p.set s.pps sets) old p.stored in rw at.0 order
 
 pub pps_comes : (R : Readers) (s : State) (sets : List (Option (List Item))) (before : List Reading) (u rbsp : List ℕ) (put : Put) (w : Bool) → AreOfH266 R
-    → w ≡ is_within (current before) → w ≡ false → rbsp ≡ rbsp_of u → IsPut (λ r x. r.pps x) pps_id s.pps sets rbsp put → put.is_new ≡ true
+    → w ≡ is_within_picture (current before) → w ≡ false → rbsp ≡ rbsp_of u → IsPut (λ r x. r.pps x) pps_id s.pps sets rbsp put → put.is_new ≡ true
     → IsHeld s before → TookUnit (reads_as R pps_unit before u) before (record s { pps = sets; made = None }) (accepted.Pps put.id)
 pps_comes R s sets before u rbsp put w are said is spells p new held =
     let at : Puts true put.id p.set s.pps sets = subst (λ b. Puts b put.id p.set s.pps sets) new p.stored in

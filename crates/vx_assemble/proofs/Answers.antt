@@ -14,12 +14,12 @@ use Rattle.vx_annexb.specs.Places.{IsFirstFrom}
 use Rattle.vx_annexb.specs.Emulation.{unescaped, unescaped_to}
 use Rattle.vx_aps.specs.declared.aps.Aps.{Aps}
 use Rattle.vx_aps.specs.Aps as aps
-use Rattle.vx_aps.specs.Laws.{OneAnswer}
+use Rattle.vx_aps.specs.laws.Answers.{OneAnswer}
 use Rattle.vx_fields.specs.declared.ph.TheConstants.{ph_pic_parameter_set_id}
 use Rattle.vx_layout.specs.declared.numbers.Numbers.{Numbers}
 use Rattle.vx_ph.specs.declared.header.PictureHeader.{PictureHeader}
 use Rattle.vx_ph.specs.Header.{header_form}
-use Rattle.vx_ph.specs.Id.{id_form, IsId}
+use Rattle.vx_ph.specs.Id.{pps_id_form, IsId}
 use Rattle.vx_ph.specs.InForce.{in_force, structures}
 use Rattle.vx_ph.specs.Picture.{ReadsHeader, ReadsUnit, unit_form}
 use Rattle.vx_sei.specs.declared.message.Message.{Message}
@@ -34,14 +34,14 @@ use Rattle.vx_sh.specs.Value.{BeginsSlice, ReadsSlice}
 use Rattle.vx_sh.specs.Whole.{At}
 use Rattle.vx_table.specs.Forms.{Form}
 use Rattle.vx_table.specs.Loaded.{number}
-use Rattle.vx_table.specs.Reading.{IsFound, Passes, Reads, ReadsValue, as_read, at_front}
+use Rattle.vx_table.specs.Reading.{IsFound, PassesOver, Reads, ReadsValue, as_read, at_front}
 use Rattle.vx_table.proofs.Readings.{reads_error}
 use Rattle.vx_pic.specs.Units.{rbsp_of}
 use Rattle.vx_pic.specs.Sets.{SliceHeader}
 use Rattle.vx_pic.specs.Readings.{Begun}
 use Rattle.vx_layout.specs.Faults.{IsInLimits}
 use Rattle.vx_pic.specs.PictureLayout.{AnswersLayout, MakeLayout, IsLayoutAnswer, numbers_in}
-use Rattle.vx_pic.specs.UnderSets.{slice_at}
+use Rattle.vx_pic.specs.UnderSets.{at_slice_of}
 use Rattle.vx_pic.specs.H266.{AnswersAt, header_place, form_in, IsReferredPps, IsSliceAnswer}
 use Rattle.vx_pic.proofs.Determined.{one_at, one_carried, one_id, one_layout, one_slice, one_value}
 use Rattle.vx_pic.proofs.Existing.{fits_unit}
@@ -129,23 +129,23 @@ at_first rbsp p total left = place_is p (8 * length rbsp) (bits_of rbsp) total l
 other_answer : {A B C : Type 0} {form : Form A} {old new : Place} {items after : List Item} {b : B} (c : C) → Reads form old items (Ok b) new after → Reads form old items (Ok c) new after
 other_answer c r = record { is = r.is; only = r.only; refusal = r.refusal }
 
-id_read : (inside : Bool) (rbsp : List ℕ) (id : ℕ) (new : Place) (after : List Item) → Reads id_form (header_place inside rbsp) [] (Ok id) new after → IsId (header_place inside rbsp) id → IsReferredPps inside rbsp (Ok id)
+id_read : (inside : Bool) (rbsp : List ℕ) (id : ℕ) (new : Place) (after : List Item) → Reads pps_id_form (header_place inside rbsp) [] (Ok id) new after → IsId (header_place inside rbsp) id → IsReferredPps inside rbsp (Ok id)
 id_read inside rbsp id new after read is =
-    let found : IsFound id_form (header_place inside rbsp) [] new after = read.is in
+    let found : IsFound pps_id_form (header_place inside rbsp) [] new after = read.is in
     (after, (new, other_answer tt read), sym (ap (λ xs. number xs ph_pic_parameter_set_id) found.gained ∙ is found.values new.left found.spelled))
 
-pub gives_id : (inside : Bool) (rbsp : List ℕ) (place new : Place) (answer : Result ℕ Refusal) (id : ℕ) → place ≡ header_place inside rbsp → IsReferredPps inside rbsp answer → Passes id_form place (Ok id) new → IsId place id
+pub gives_id : (inside : Bool) (rbsp : List ℕ) (place new : Place) (answer : Result ℕ Refusal) (id : ℕ) → place ≡ header_place inside rbsp → IsReferredPps inside rbsp answer → PassesOver pps_id_form place (Ok id) new → IsId place id
     → answer ≡ Ok id
 gives_id inside rbsp place new answer id at is passes told =
     let read = passes.reads [] in
     one_id inside rbsp answer (Ok id) is
-    (id_read inside rbsp id new read.0 (subst (λ p. Reads id_form p [] (Ok id) new read.0) at read.1) (subst (λ p. IsId p id) at told))
+    (id_read inside rbsp id new read.0 (subst (λ p. Reads pps_id_form p [] (Ok id) new read.0) at read.1) (subst (λ p. IsId p id) at told))
 
-pub gives_no_id : (inside : Bool) (rbsp : List ℕ) (place new : Place) (answer : Result ℕ Refusal) (r : Refusal) → place ≡ header_place inside rbsp → IsReferredPps inside rbsp answer → Passes {B = ℕ} id_form place (Err r) new
+pub gives_no_id : (inside : Bool) (rbsp : List ℕ) (place new : Place) (answer : Result ℕ Refusal) (r : Refusal) → place ≡ header_place inside rbsp → IsReferredPps inside rbsp answer → PassesOver {B = ℕ} pps_id_form place (Err r) new
     → answer ≡ Err r
 gives_no_id inside rbsp place new answer r at is passes =
     let read = passes.reads [] in
-    one_id inside rbsp answer (Err r) is (new, read.0, subst (λ p. Reads {B = Unit {0}} id_form p [] (Err (Refused r)) new read.0) at (reads_error {B = ℕ} (Refused r) read.1))
+    one_id inside rbsp answer (Err r) is (new, read.0, subst (λ p. Reads {B = Unit {0}} pps_id_form p [] (Err (Refused r)) new read.0) at (reads_error {B = ℕ} (Refused r) read.1))
 
 pub gives_header : (s p : List Item) (rbsp : List ℕ) (place new : Place) (answer : Result (List Item) Refusal) (result : Result PictureHeader ReadError) → place ≡ header_place true rbsp
     → AnswersAt (form_in true (structures s) (in_force s p)) (header_place true rbsp) answer → ReadsHeader (structures s) (in_force s p) place result new
@@ -165,14 +165,14 @@ gives_unit s p rbsp answer (Err (Refused r)) is read = one_at (unit_form (struct
 
 -- ---- slices
 
-pub same_place : (n : SliceNumbers) (b : Begun) → AreOfBegun n b → in_force_at n ≡ slice_at n.nal_type b
+pub same_place : (n : SliceNumbers) (b : Begun) → AreOfBegun n b → in_force_at n ≡ at_slice_of n.nal_type b
 same_place n b are = rw (are.sps, are.pps, are.layout, are.header, are.ids) refl
 
 pub gives_slice : (n : SliceNumbers) (b : Begun) (unit rbsp : List ℕ) (answer : Result SliceHeader Refusal) (value : SliceValue) (size payload : ℕ) → AreOfBegun n b → rbsp ≡ rbsp_of unit
     → IsSliceAnswer n.nal_type b unit answer → ReadsSlice (in_force_at n) rbsp (Ok (value, size)) → IsFirstFrom (λ place. length (unescaped_to unit place) ≡ 2 + size) 0 payload
     → answer ≡ Ok (slice_seen (value, payload))
 gives_slice n b unit rbsp answer value size payload are spells is read first =
-    let begins : BeginsSlice (slice_at n.nal_type b) (rbsp_of unit) value size = subst (λ at. BeginsSlice at (rbsp_of unit) value size) (same_place n b are) (subst (λ xs. BeginsSlice (in_force_at n) xs value size) spells read) in
+    let begins : BeginsSlice (at_slice_of n.nal_type b) (rbsp_of unit) value size = subst (λ at. BeginsSlice at (rbsp_of unit) value size) (same_place n b are) (subst (λ xs. BeginsSlice (in_force_at n) xs value size) spells read) in
     one_slice n.nal_type b unit answer (Ok (slice_seen (value, payload))) is (record { value = value; size = size; begins = begins; fields = refl; subpic = refl; payload = first })
 
 pub gives_no_slice : (n : SliceNumbers) (b : Begun) (unit rbsp : List ℕ) (answer : Result SliceHeader Refusal) (r : Refusal) → AreOfBegun n b → rbsp ≡ rbsp_of unit → IsSliceAnswer n.nal_type b unit answer

@@ -5,7 +5,7 @@ use Rattle.std.specs.List.{count_by}
 use Rattle.std.proofs.lemmas.List.{get_or-set_other, get_or-replicate}
 use Rattle.std.proofs.lemmas.List.Sums.{count_by-le-length}
 use Rattle.vx_aps.specs.declared.aps.Aps.{Aps}
-use Rattle.vx_aps.specs.Aps.{IsValid, ids}
+use Rattle.vx_aps.specs.Aps.{IsValid, ids_of_type}
 use Rattle.vx_pic.specs.Parts.{slot_of}
 use Rattle.vx_assemble.specs.Held.{AreFewBodies}
 use Rattle.vx_assemble.specs.inner.Order.{AreBodies}
@@ -16,7 +16,7 @@ pub no_bodies : AreBodies (replicate 24 None)
 no_bodies = record { places = refl; lmcs = λ i past within. get_or-replicate 24 i None None (omega (arith, within)) }
 
 -- no set has a place that LMCS has no id for
-apart : (kind id i : ℕ) → kind ≤ 2 → id < ids kind → 12 ≤ i → i < 16 → i ≡ slot_of kind id → ⊥
+apart : (kind id i : ℕ) → kind ≤ 2 → id < ids_of_type kind → 12 ≤ i → i < 16 → i ≡ slot_of kind id → ⊥
 apart zero id i few low past within same = omega (arith, low, past, same)
 apart (suc zero) id i few low past within same = omega (arith, low, past, same)
 apart (suc (suc zero)) id i few low past within same = omega (arith, within, same)

@@ -21,7 +21,7 @@ use Rattle.vx_annexb.proofs.Unseen.{seen_stays}
 use Rattle.vx_annexb.proofs.Unique.{follow_front}
 use Rattle.vx_pic.specs.Readings.{Reading, pictures}
 use Rattle.vx_pic.specs.Rules.{Readers, reads, picture_limit}
-use Rattle.vx_pic.specs.Streams.{Outcome, read_on, all_read, stopped, one_more, unless_refused}
+use Rattle.vx_pic.specs.Streams.{StreamReading, read_on, all_read, stopped, one_more, unless_refused}
 use Rattle.vx_pic.specs.Bytes.{units_at, ending_by, ArePictures}
 use Rattle.vx_pic.proofs.Going.{goes_on}
 use Rattle.vx_annexb.specs.declared.header.NalHeader.{NalHeader}
@@ -44,7 +44,7 @@ one_more_read : (R : Readers) (before : List Reading) (units more : List (List �
     → read_on R [] (units ++ unit ∷ more) ≡ one_more y before (λ after. read_on R after more)
 one_more_read R before units more unit y readings answer =
     goes_on R [] units (unit ∷ more)
-    ∙ ap (λ (o : Outcome). unless_refused o.refusal o.before (λ after. read_on R after (unit ∷ more))) readings
+    ∙ ap (λ (o : StreamReading). unless_refused o.refusal o.before (λ after. read_on R after (unit ∷ more))) readings
     ∙ ap (λ z. one_more z before (λ after. read_on R after more)) answer
 
 -- the bytes of one more unit
@@ -126,7 +126,7 @@ ends_at_unit R f g places before r readings count refused =
       places = s.0;
       framing = s.1;
       stream = s.2;
-      done = ap (λ (o : Outcome). pictures o.before) (sym read);
+      done = ap (λ (o : StreamReading). pictures o.before) (sym read);
       ends = ap (λ n. Some (record { units = n; refusal = r })) (sym count) ∙ ap (ending_by all s.1) (sym read);
     }
 
@@ -136,10 +136,10 @@ counted_more : (R : Readers) (b before : List Reading) (us : List (List ℕ)) (y
     → ((r : Reading) → read_on R (r ∷ b) us ≡ all_read before → length before ≡ length (r ∷ b) + length us)
     → one_more y b (λ after. read_on R after us) ≡ all_read before → length before ≡ length b + (length us + 1)
 counted_more R b before us (Ok r) rest e = omega (arith, rest r e)
-counted_more R b before us (Err r) rest e = let no = ap (λ (o : Outcome). o.refusal) e in absurd (cc)
+counted_more R b before us (Err r) rest e = let no = ap (λ (o : StreamReading). o.refusal) e in absurd (cc)
 
 counted : (R : Readers) (b before : List Reading) (units : List (List ℕ)) → read_on R b units ≡ all_read before → length before ≡ length b + length units
-counted R b before [] e = let same = ap (λ (o : Outcome). length o.before) e in omega (arith, same)
+counted R b before [] e = let same = ap (λ (o : StreamReading). length o.before) e in omega (arith, same)
 counted R b before (u ∷ us) e = let more = counted_more R b before us (reads R b u) (λ r. counted R (r ∷ b) before us) e in omega (arith, more)
 
 pub read_all : (R : Readers) (b : List ℕ) (places : List UnitPlace) (before : List Reading) → read_on R [] (units_at b places) ≡ all_read before → length before ≡ length places
@@ -155,7 +155,7 @@ ends_behind R b all places before framing r readings stream ends = record {
   places = places;
   framing = framing;
   stream = stream;
-  done = ap (λ (o : Outcome). pictures o.before) (sym readings);
+  done = ap (λ (o : StreamReading). pictures o.before) (sym readings);
   ends = ap (λ n. Some (record { units = n; refusal = r })) (sym (read_all R b places before readings)) ∙ sym ends ∙ ap (ending_by all framing) (sym readings);
 }
 
@@ -232,7 +232,7 @@ gives_none R g places before old new fed finds same units first open_ =
       stream,
       (
         ending_by false None (read_on R [] (units_at (seen_of g) places)),
-        record { places = places; framing = None; stream = stream; done = ap (λ (o : Outcome). pictures o.before) (sym fed.readings); ends = refl },
+        record { places = places; framing = None; stream = stream; done = ap (λ (o : StreamReading). pictures o.before) (sym fed.readings); ends = refl },
       ),
     )
 
@@ -262,7 +262,7 @@ gives_end R g places before old new fed finds some failed ends stands units firs
         places = places;
         framing = None;
         stream = end.1;
-        done = ap (λ (o : Outcome). pictures o.before) (sym fed.readings);
+        done = ap (λ (o : StreamReading). pictures o.before) (sym fed.readings);
         ends = ap (option_map (λ r. record { units = length before; refusal = r })) (sym ends) ∙ ap (ending_by true None) (sym fed.readings);
       },
       by_closed new.reader.closed some finds.2 failed,

@@ -28,14 +28,14 @@ use Rattle.vx_table.specs.Forms.{Form, done, ◌>>=◌, coding_at, cell_at, form
 use Rattle.vx_table.specs.Spelling.{MayEnd, BeginsField, Spells, at_end, behind, code_of}
 use Rattle.vx_table.specs.Loaded.{number}
 use Rattle.vx_table.specs.Reading.{IsFound, at_front}
-use Rattle.vx_table.specs.Trailing.{is_trailing}
+use Rattle.vx_table.specs.laws.Trailing.{is_trailing}
 use Rattle.vx_table.proofs.Closing.{IsNoTrailing, IsOpen}
 use Rattle.vx_table.proofs.EachField.{each_then, each_present, each_of_rows, each_of_sections}
 use Rattle.vx_fields.specs.declared.ph.TheConstants.{ph_pic_parameter_set_id}
 use Rattle.vx_fields.specs.declared.sh.TheConstants.{sh_picture_header_in_slice_header_flag}
 use Rattle.vx_rpl.specs.declared.entry.RplTable.{RplTable}
 use Rattle.vx_ph.specs.Header.{header_form}
-use Rattle.vx_ph.specs.Id.{id_form, to_id}
+use Rattle.vx_ph.specs.Id.{pps_id_form, to_id}
 use Rattle.vx_ph.specs.InForce.{in_force, structures}
 use Rattle.vx_ph.proofs.Passing.{header_each}
 use Rattle.vx_sh.specs.declared.tables.TheConstants.{HEADER_INSIDE}
@@ -50,7 +50,7 @@ use Rattle.vx_pic.specs.Sets.{SliceHeader, referred_sps, same_size}
 use Rattle.vx_pic.specs.Readings.{Begun, Reading, stored_pps, stored_sps}
 use Rattle.vx_pic.specs.Rules.{Readers, begins, missing, structure}
 use Rattle.vx_pic.specs.Units.{rbsp_of, temporal_id, has_header_inside}
-use Rattle.vx_pic.specs.UnderSets.{slice_at}
+use Rattle.vx_pic.specs.UnderSets.{at_slice_of}
 use Rattle.vx_pic.specs.H266.{AnswersAt, header_place, IsReferredPps, IsSlice, IsSliceAnswer, AreOfH266}
 use Rattle.vx_pic.proofs.Determined.{one_slice}
 use Rattle.vx_assemble.specs.inner.Fronts.{IsFront}
@@ -83,8 +83,8 @@ unfolding row_opens is_trailing
 header_opens table sets =
     header_each IsNoTrailing row_opens sound table sets (record { front = refl; lists = refl; middle = refl; weights = refl; back = refl })
 
-id_opens : IsOpen id_form
-unfolding row_opens is_trailing id_form
+id_opens : IsOpen pps_id_form
+unfolding row_opens is_trailing pps_id_form
 id_opens = each_of_sections IsNoTrailing row_opens sound to_id fresh refl
 
 pub slice_opens : (n : At) → IsOpen (slice_form n)
@@ -177,11 +177,11 @@ longer_front rbsp more = record {
 id_answers : (answer : Result ℕ Refusal) (rbsp more : List ℕ) (id : ℕ) → 0 < length rbsp → IsReferredPps true rbsp (Ok id)
     → IsReferredPps true (rbsp ++ more) answer → answer ≡ Ok id
 id_answers (Ok other) rbsp more id some here there =
-    let same = answers_on id_form (header_place true rbsp) (header_place true (rbsp ++ more)) (Ok there.0) here.0 (longer_inside rbsp more some) id_opens here.1 there.1 in
+    let same = answers_on pps_id_form (header_place true rbsp) (header_place true (rbsp ++ more)) (Ok there.0) here.0 (longer_inside rbsp more some) id_opens here.1 there.1 in
     let items : there.0 ≡ here.0 = cc in
     ap Ok (there.2 ∙ ap (λ xs. number xs ph_pic_parameter_set_id) items ∙ sym here.2)
 id_answers (Err r) rbsp more id some here there =
-    let none = answers_on id_form (header_place true rbsp) (header_place true (rbsp ++ more)) (Err r) here.0 (longer_inside rbsp more some) id_opens here.1 there in
+    let none = answers_on pps_id_form (header_place true rbsp) (header_place true (rbsp ++ more)) (Err r) here.0 (longer_inside rbsp more some) id_opens here.1 there in
     absurd (cc)
 
 id_on : (R : Readers) (rbsp more : List ℕ) (id : ℕ) → AreOfH266 R → 0 < length rbsp → R.referred_pps true rbsp ≡ Ok id → R.referred_pps true (rbsp ++ more) ≡ Ok id
@@ -279,7 +279,7 @@ slice_longer R t b f more h are head long within read =
     one_slice t b u (R.slice t b u) (Ok h) (are.slice t b u) (record {
       value = here.value;
       size = here.size;
-      begins = rw front.all (begins_on (slice_at t b) (rbsp_of f) front.more here.value here.size here.begins);
+      begins = rw front.all (begins_on (at_slice_of t b) (rbsp_of f) front.more here.value here.size here.begins);
       fields = here.fields;
       subpic = here.subpic;
       payload = place_on f more (2 + here.size) h.payload within here.payload;

@@ -17,7 +17,7 @@ use Rattle.vx_pic.specs.declared.accepted.Accepted.{Accepted}
 use Rattle.vx_pic.specs.declared.accepted.Accepted.TheVariants as accepted
 use Rattle.vx_pic.specs.Readings.{Reading, Picture, pictures}
 use Rattle.vx_pic.specs.Rules.{Readers, reads}
-use Rattle.vx_pic.specs.Streams.{Outcome, pictures_of}
+use Rattle.vx_pic.specs.Streams.{StreamReading, pictures_of}
 use Rattle.vx_pic.specs.H266.{AreOfH266}
 use Rattle.vx_pic.specs.Bytes.{Ending, units_at, ArePictures, AreSourcePictures}
 use Rattle.vx_pic.specs.Told.{told_of}
@@ -147,7 +147,7 @@ module _ (R : Readers) (bytes : List ℕ) (qs : List Picture) (ending : Option E
       let front = follow_front b all 0 h.places are.places are.framing follow are.stream.follow are.stream.behind in
       let stay = pictures_stay R (units_at b h.places) (units_at b front.0) in
       let here : pictures_of R (units_at b h.places) ≡ ps =
-      ap (λ l. pictures_of R (units_at l h.places)) (sym h.seen) ∙ ap (λ (o : Outcome). pictures o.before) h.fed.readings ∙ h.done in (
+      ap (λ l. pictures_of R (units_at l h.places)) (sym h.seen) ∙ ap (λ (o : StreamReading). pictures o.before) h.fed.readings ∙ h.done in (
         stay.0,
         are.done
             ∙ ap (λ us. pictures_of R (units_at b us)) front.1

@@ -9,9 +9,9 @@ use Rattle.vx_bits.specs.declared.rules.TheConstants as rules
 use Rattle.vx_annexb.specs.NalUnit.{nal_unit_type}
 use Rattle.vx_pic.specs.Answers.{◌>>=◌, refuse_if}
 use Rattle.vx_pic.specs.Units.{temporal_id}
-use Rattle.vx_pic.specs.Sets.{SliceHeader, place_of, names_of, slice_qp, is_qp}
+use Rattle.vx_pic.specs.Sets.{SliceHeader, slices_before, names_of, slice_qp, is_qp}
 use Rattle.vx_pic.specs.Readings.{Slice, Picture}
-use Rattle.vx_pic.specs.Rules.{Readers, structure, are_stored, size_of, picture_limit, joins}
+use Rattle.vx_pic.specs.Rules.{Readers, structure, are_stored, picture_size, picture_limit, joins}
 use Rattle.vx_pic.specs.Parts.{stored_sets}
 use Rattle.vx_assemble.specs.declared.join.Place.{Place}
 use Rattle.vx_assemble.specs.inner.Held.{begun_of}
@@ -36,11 +36,11 @@ slice_at u h = Ok (record { unit = u; header = h })
 -- the rules behind the header
 abbrev rest : Picture → List ℕ → SliceHeader → Result Slice Refusal
 rest p u h = do
-  _ ← refuse_if (not (place_of p.begun.layout h == length p.slices)) (structure rules.SLICE_MISSING)
+  _ ← refuse_if (not (slices_before p.begun.layout h == length p.slices)) (structure rules.SLICE_MISSING)
   _ ← are_stored p.before (names_of p.begun.pps p.begun.header h)
   _ ← refuse_if (not (is_qp p.begun.sps (slice_qp p.begun.pps p.begun.header h))) (structure rules.QP_RANGE)
   _ ← refuse_if (nat_le (length u) h.payload) (structure rules.EMPTY_PAYLOAD)
-  _ ← refuse_if (nat_lt picture_limit (size_of p + length u)) (Limit rules.LONG_PICTURE)
+  _ ← refuse_if (nat_lt picture_limit (picture_size p + length u)) (Limit rules.LONG_PICTURE)
   slice_at u h
 
 -- the rules before it first
@@ -51,7 +51,7 @@ joins_are R p u = sym (bind_assoc (refuse_if (not (temporal_id u == p.begun.temp
 
 -- those behind it together
 rest_is : (p : Picture) (u : List ℕ) (h : SliceHeader) → AreSmall (names_in p.begun.pps p.begun.header h.fields)
-    → rest p u h ≡ (checked p.begun (stored_sets p.before) (length p.slices) (size_of p) (length u) h >>= λ _. slice_at u h)
+    → rest p u h ≡ (checked p.begun (stored_sets p.before) (length p.slices) (picture_size p) (length u) h >>= λ _. slice_at u h)
 rest_is p u h small =
     let b = p.begun in
     let stored : are_stored p.before (names_of b.pps b.header h) ≡ all_there (stored_sets p.before) (names_in b.pps b.header h.fields) =
@@ -60,12 +60,12 @@ rest_is p u h small =
     bind_same (next_slice b.layout (length p.slices) h) _ _ (λ _.
     ap (λ x. x >>= λ _. refuse_if (not (is_qp b.sps (slice_qp b.pps b.header h))) (structure rules.QP_RANGE)
     >>= λ _. refuse_if (nat_le (length u) h.payload) (structure rules.EMPTY_PAYLOAD)
-    >>= λ _. refuse_if (nat_lt picture_limit (size_of p + length u)) (Limit rules.LONG_PICTURE)
+    >>= λ _. refuse_if (nat_lt picture_limit (picture_size p + length u)) (Limit rules.LONG_PICTURE)
     >>= λ _. slice_at u h) stored
     ∙ bind_same (all_there (stored_sets p.before) (names_in b.pps b.header h.fields)) _ _ (λ _.
     ap (λ x. qp_checked b.sps x
     >>= λ _. refuse_if (nat_le (length u) h.payload) (structure rules.EMPTY_PAYLOAD)
-    >>= λ _. refuse_if (nat_lt picture_limit (size_of p + length u)) (Limit rules.LONG_PICTURE)
+    >>= λ _. refuse_if (nat_lt picture_limit (picture_size p + length u)) (Limit rules.LONG_PICTURE)
     >>= λ _. slice_at u h) (qp_is b.pps b.header h)
     ∙ bind_same (qp_checked b.sps (qp_in b.pps b.header h.fields)) _ _ (λ _.
     sym (bind_assoc (refuse_if (nat_le (length u) h.payload) (structure rules.EMPTY_PAYLOAD)) _ (λ _. slice_at u h)))
@@ -89,7 +89,7 @@ slice_is R a p u is = ap (λ b. R.slice a.kind.nal_type b u) is.begun ∙ ap (λ
 
 checked_is : (a : Place) (p : Picture) (more : ℕ) (h : SliceHeader) → IsAt a p
     → checked (begun_of a.begun.now None) a.bodies.now a.count a.size more h
-    ≡ checked p.begun (stored_sets p.before) (length p.slices) (size_of p) more h
+    ≡ checked p.begun (stored_sets p.before) (length p.slices) (picture_size p) more h
 checked_is a p more h is =
     ap (λ b. checked b a.bodies.now a.count a.size more h) is.begun
     ∙ ap (λ s. checked p.begun s a.count a.size more h) is.bodies

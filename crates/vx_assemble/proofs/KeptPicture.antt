@@ -3,7 +3,7 @@ use Rattle.std.proofs.Common.{◌≡◌, length, true, false, not, refl, sym, �
 use Rattle.std.specs.Prelude.{Some, None, option_map}
 use Rattle.std.proofs.lemmas.List.{length-map}
 use Rattle.vx_pic.specs.Parts.{header_unit_in}
-use Rattle.vx_pic.specs.Readings.{Begun, Picture, is_whole, Current, nothing, headed, going, is_open, is_within}
+use Rattle.vx_pic.specs.Readings.{Begun, Picture, is_whole, Current, nothing, headed, going, is_open, is_within_picture}
 use Rattle.vx_assemble.specs.declared.state.BegunPicture.{BegunPicture}
 use Rattle.vx_assemble.specs.declared.state.CurrentPicture.{CurrentPicture}
 use Rattle.vx_assemble.specs.declared.state.GoingPicture.{GoingPicture}
@@ -52,18 +52,18 @@ going_open c g nothing is o k = absurd (let e : stages.Going g ≡ stages.Nothin
 going_open c g (headed x) is o k = absurd (let e : Some g.kind ≡ None = sym (ap kind_at is) ∙ k.kind in cc)
 going_open c g (going p) is o k = ap not (going_whole c g.begun p (ap header_at is) o k)
 
-pub nothing_within : (c : CurrentPicture) (p : Current) → c.stage ≡ stages.Nothing → Keeps c p → is_within p ≡ false
+pub nothing_within : (c : CurrentPicture) (p : Current) → c.stage ≡ stages.Nothing → Keeps c p → is_within_picture p ≡ false
 nothing_within c nothing is k = refl
 nothing_within c (headed x) is k = refl
 nothing_within c (going p) is k = absurd (no_begun c p.begun (ap header_at is) k.begun)
 
-pub headed_within : (c : CurrentPicture) (b : BegunPicture) (p : Current) → c.stage ≡ stages.Headed b → Keeps c p → is_within p ≡ false
+pub headed_within : (c : CurrentPicture) (b : BegunPicture) (p : Current) → c.stage ≡ stages.Headed b → Keeps c p → is_within_picture p ≡ false
 headed_within c b nothing is k = refl
 headed_within c b (headed x) is k = refl
 headed_within c b (going p) is k = absurd (let e : None ≡ Some p.kind = sym (ap kind_at is) ∙ k.kind in cc)
 
 pub going_within : (c : CurrentPicture) (g : GoingPicture) (p : Current) → c.stage ≡ stages.Going g → IsOrdered c → Keeps c p
-    → not (came_all g.begun c) ≡ is_within p
+    → not (came_all g.begun c) ≡ is_within_picture p
 going_within c g nothing is o k = absurd (let e : stages.Going g ≡ stages.Nothing = sym is ∙ k in cc)
 going_within c g (headed x) is o k = absurd (let e : Some g.kind ≡ None = sym (ap kind_at is) ∙ k.kind in cc)
 going_within c g (going p) is o k = ap not (going_whole c g.begun p (ap header_at is) o k)

@@ -8,8 +8,8 @@ use Rattle.vx_pic.specs.declared.picture.PictureParts.{PictureParts}
 use Rattle.vx_pic.specs.declared.picture.SliceSlot.{SliceSlot}
 use Rattle.vx_pic.specs.Sets.{SliceHeader, is_qp, slice_qp}
 use Rattle.vx_pic.specs.PictureLayout.{ids_of}
-use Rattle.vx_pic.specs.UnderSets.{header_of}
-use Rattle.vx_pic.specs.Parts.{MakePicture, IsPlaced, IsReadAt, AreThere, named_by, read_of, header_unit_in, slice_in, slice_header_of, slice_part, Shows}
+use Rattle.vx_pic.specs.UnderSets.{picture_header_of}
+use Rattle.vx_pic.specs.Parts.{MakePicture, IsPlaced, IsReadAt, AreThere, aps_named_by, read_of, header_unit_in, slice_in, slice_header_of, slice_part, ShowsPicture}
 use Rattle.vx_pic.specs.Told.{done_or_not}
 use Rattle.vx_pic.specs.Sets.{sps_id, pps_id}
 use Rattle.vx_pic.specs.Readings.{Picture, Reading, dropped, vps_read, sps_read, pps_read, aps_read, messages_read, header_read}
@@ -59,7 +59,7 @@ each_subpic k bytes sets [] all = tt
 each_subpic k bytes sets (slot ∷ slots) all = (all.0.subpic, each_subpic k bytes sets slots all.1)
 
 pub each_there : (k : BegunPicture) (bytes : List ℕ) (sets : List (Option Aps)) (slots : List SliceSlot) → AllByRecursion (IsSlot k bytes sets) slots
-    → AllByRecursion (λ s. AreThere sets (named_by k.sets.pps k.header.fields s.header)) slots
+    → AllByRecursion (λ s. AreThere sets (aps_named_by k.sets.pps k.header.fields s.header)) slots
 each_there k bytes sets [] all = tt
 each_there k bytes sets (slot ∷ slots) all = (all.0.bodies, each_there k bytes sets slots all.1)
 
@@ -107,7 +107,7 @@ makes_picture p c g order complete stage of_kind sps pps layout header ids bytes
 -- ---- the picture
 
 pub going_shows : (c : CurrentPicture) (g : GoingPicture) (p : Picture) → IsOrdered c → c.stage ≡ stages.Going g → IsGoing c p
-    → Shows (parts_by (stages.Going g) c) p
+    → ShowsPicture (parts_by (stages.Going g) c) p
 going_shows c g p o is goes =
     let k = g.begun in
     let begun : header_at c.stage ≡ Some k = ap header_at is in
@@ -119,7 +119,7 @@ going_shows c g p o is goes =
     ∙ ap (λ y. map (slice_part y) (map (slice_of c.bytes) c.slices)) b
     ∙ ap (λ l. map (slice_part p.begun) l) goes.slices in
     let kinds : g.kind ≡ p.kind = same_some g.kind p.kind (sym (ap kind_at is) ∙ goes.kind) in
-    let header : k.header ≡ header_of p.begun = head.header ∙ ap header_of b in
+    let header : k.header ≡ picture_header_of p.begun = head.header ∙ ap picture_header_of b in
     let ids : k.sets.ids ≡ ids_of p.begun.sps p.begun.pps = head.sets.ids ∙ ap (λ y. ids_of y.sps y.pps) b in
     let sps : k.sets.sps ≡ p.begun.sps = ap (λ y. y.sps) b in
     let pps : k.sets.pps ≡ p.begun.pps = ap (λ y. y.pps) b in
@@ -174,7 +174,7 @@ told_latest (sequence_ended ∷ before) done = absurd (let e : accepted.Nothing 
 
 -- ---- both
 
-shows_by : (c : CurrentPicture) (s : Stage) (p : Picture) → IsOrdered c → c.stage ≡ s → IsGoing c p → Shows (parts_by s c) p
+shows_by : (c : CurrentPicture) (s : Stage) (p : Picture) → IsOrdered c → c.stage ≡ s → IsGoing c p → ShowsPicture (parts_by s c) p
 shows_by c stages.Nothing p ordered is goes = absurd (no_begun c p.begun (ap header_at is) goes.begun)
 shows_by c (stages.Headed b) p ordered is goes = absurd (let e : None ≡ Some p.kind = sym (ap kind_at is) ∙ goes.kind in cc)
 shows_by c (stages.Going g) p ordered is goes = going_shows c g p ordered is goes

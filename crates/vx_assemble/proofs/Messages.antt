@@ -8,7 +8,7 @@ use Rattle.vx_sei.specs.declared.message.Message.{Message}
 use Rattle.vx_sei.specs.Sei.{spelled_length}
 use Rattle.vx_pic.specs.declared.accepted.Accepted.TheVariants as accepted
 use Rattle.vx_pic.specs.Units.{rbsp_of, sei_unit}
-use Rattle.vx_pic.specs.Readings.{Reading, dropped, messages_read, gathered, current, is_within}
+use Rattle.vx_pic.specs.Readings.{Reading, dropped, messages_read, gathered, current, is_within_picture}
 use Rattle.vx_pic.specs.Rules.{Readers, message_limit, gathers, reads_as}
 use Rattle.vx_assemble.specs.declared.state.State.{State}
 use Rattle.vx_assemble.specs.inner.Held.{IsHeld}
@@ -18,19 +18,19 @@ use Rattle.vx_assemble.specs.inner.Changes.{with_messages}
 use Rattle.vx_assemble.proofs.Gathered.{spelled_append}
 use Rattle.vx_assemble.proofs.Holding.{dropped_held, messages_held}
 
-pub sei_within : (R : Readers) (s : State) (before : List Reading) (u : List ℕ) (w : Bool) → w ≡ is_within (current before) → w ≡ true → IsHeld s before
+pub sei_within : (R : Readers) (s : State) (before : List Reading) (u : List ℕ) (w : Bool) → w ≡ is_within_picture (current before) → w ≡ true → IsHeld s before
     → TookUnit (reads_as R sei_unit before u) before s accepted.Nothing
 sei_within R s before u w said is held = record {
   reading = dropped;
-  reads = let inside : is_within (current before) ≡ true = sym said ∙ is in rw inside refl;
+  reads = let inside : is_within_picture (current before) ≡ true = sym said ∙ is in rw inside refl;
   held = dropped_held s before held;
   told = refl;
 }
 
-sei_is : (R : Readers) (before : List Reading) (u rbsp : List ℕ) (ms : List Message) (w : Bool) → w ≡ is_within (current before) → w ≡ false
+sei_is : (R : Readers) (before : List Reading) (u rbsp : List ℕ) (ms : List Message) (w : Bool) → w ≡ is_within_picture (current before) → w ≡ false
     → rbsp ≡ rbsp_of u → ms ≡ R.sei rbsp → reads_as R sei_unit before u ≡ gathers before ms
 sei_is R before u rbsp ms w said is spells read =
-    let outside : is_within (current before) ≡ false = sym said ∙ is in
+    let outside : is_within_picture (current before) ≡ false = sym said ∙ is in
     ap (λ b. cond b (Ok dropped) (gathers before (R.sei (rbsp_of u)))) outside
     ∙ ap (λ m. gathers before m) (sym (read ∙ ap R.sei spells))
 
@@ -46,7 +46,7 @@ gathers_by : (before : List Reading) (ms : List Message) (b : Bool) → nat_lt m
 gathers_by before ms true is = rw is refl
 gathers_by before ms false is = rw is refl
 
-pub sei_long : (R : Readers) (s : State) (before : List Reading) (u rbsp : List ℕ) (ms : List Message) (w : Bool) → w ≡ is_within (current before)
+pub sei_long : (R : Readers) (s : State) (before : List Reading) (u rbsp : List ℕ) (ms : List Message) (w : Bool) → w ≡ is_within_picture (current before)
     → w ≡ false → rbsp ≡ rbsp_of u → ms ≡ R.sei rbsp → IsHeld s before → IsInOrder s → message_limit < s.gathered_len + spelled_length ms
     → reads_as R sei_unit before u ≡ Err (Limit rules.LONG_MESSAGES)
 sei_long R s before u rbsp ms w said is spells read held order long =
@@ -54,7 +54,7 @@ sei_long R s before u rbsp ms w said is spells read held order long =
     let over : nat_lt message_limit (spelled_length (gathered before ++ ms)) ≡ true = grind (arith, nat_tests, e) in
     sei_is R before u rbsp ms w said is spells read ∙ gathers_by before ms true over
 
-pub took_sei : (R : Readers) (s new : State) (before : List Reading) (u rbsp : List ℕ) (ms : List Message) (w : Bool) → w ≡ is_within (current before)
+pub took_sei : (R : Readers) (s new : State) (before : List Reading) (u rbsp : List ℕ) (ms : List Message) (w : Bool) → w ≡ is_within_picture (current before)
     → w ≡ false → rbsp ≡ rbsp_of u → ms ≡ R.sei rbsp → IsHeld s before → IsInOrder s → new ≡ with_messages ms s → IsInOrder new
     → TookUnit (reads_as R sei_unit before u) before new accepted.Nothing
 took_sei R s new before u rbsp ms w said is spells read held order kept new_order =

@@ -12,7 +12,7 @@ use Rattle.vx_fields.specs.declared.ph.TheConstants as ph
 use Rattle.vx_pic.specs.Sets.{Slot, named, named_filters, filter_items, names_of, slice_qp, is_qp}
 use Rattle.vx_bits.specs.declared.rules.TheConstants as rules
 use Rattle.vx_pic.specs.Rules.{missing, structure}
-use Rattle.vx_pic.specs.Parts.{aps_at, AreThere, named_by, read_of}
+use Rattle.vx_pic.specs.Parts.{aps_at, AreThere, aps_named_by, read_of}
 use Rattle.vx_sh.specs.declared.header.SliceHeader.{SliceHeader as SliceValue}
 use Rattle.vx_assemble.specs.inner.Takes.{AreSmall}
 use Rattle.vx_assemble.specs.inner.Joining.{all_there, items_only, names_in, qp_in, qp_checked}
@@ -205,9 +205,9 @@ scaling_said sets p header slice y one two last =
 -- ---- in the words of a picture's parts
 
 pub named_there : (sets : List (Option Aps)) (p header : List Item) (h : SliceValue) → Ok tt ≡ all_there sets (names_in p header h.fields)
-    → AreThere sets (named_by p header h)
+    → AreThere sets (aps_named_by p header h)
 unfolding names_of
-named_there sets p header h there = are_there sets (named_by p header h) there
+named_there sets p header h there = are_there sets (aps_named_by p header h) there
 
 by_qp : (s : List Item) (qp : ℤ) (x : Unit {0}) (b : Bool) → is_qp s qp ≡ b → Ok x ≡ qp_checked s qp → is_qp s qp ≡ true
 by_qp s qp x true is fine = is

@@ -14,7 +14,7 @@ use Rattle.vx_sh.specs.declared.numbers.SliceNumbers.{SliceNumbers}
 use Rattle.vx_layout.specs.declared.numbers.Numbers.{Numbers}
 use Rattle.vx_bits.specs.declared.list.Item.{Item}
 use Rattle.vx_pic.specs.Sets.{address_of}
-use Rattle.vx_pic.specs.UnderSets.{at_sets}
+use Rattle.vx_sh.specs.InForce.{at_sets}
 use Rattle.vx_pic.specs.Readings.{Begun}
 use Rattle.vx_pic.specs.Parts.{IsReadAt, slice_header_of}
 use Rattle.vx_assemble.specs.declared.state.BegunPicture.{BegunPicture}

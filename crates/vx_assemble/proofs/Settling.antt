@@ -16,7 +16,7 @@ use Rattle.vx_pic.specs.Sets.{lsb_of}
 use Rattle.vx_pic.specs.Rules.{unit_size}
 use Rattle.vx_pic.specs.Parts.{stored_sets, header_unit_in, IsPlaced}
 use Rattle.vx_pic.specs.Readings.{Begun, Reading, first_slice, next_slice, stored_sps, stored_pps, is_ended, gathered, Picture, is_whole}
-use Rattle.vx_pic.specs.Readings.{going, with_slice as with_one, current, whole_part, pictures}
+use Rattle.vx_pic.specs.Readings.{going, with_slice as with_one, current, picture_if_whole, pictures}
 use Rattle.vx_pic.specs.Told.{done_or_not}
 use Rattle.vx_assemble.specs.declared.state.BegunPicture.{BegunPicture}
 use Rattle.vx_assemble.specs.declared.state.Stage.{Stage}
@@ -41,7 +41,7 @@ pub record IsUnsettled (s : State) (before : List Reading) (p : Picture) (earlie
   pub ended : s.ended ≡ is_ended before
   pub goes : IsGoing s.picture p
   pub now : current before ≡ going p
-  pub done : pictures before ≡ whole_part (going p) ++ earlier
+  pub done : pictures before ≡ picture_if_whole (going p) ++ earlier
   pub items : AreItems s.fields before
 
 -- ---- whole pictures
@@ -220,6 +220,6 @@ further_unsettled s before p k u r held is whole order begun =
         messages = goes.messages;
       };
       now = now;
-      done = ap (λ q. whole_part q ++ pictures before) now;
+      done = ap (λ q. picture_if_whole q ++ pictures before) now;
       items = tt;
     }

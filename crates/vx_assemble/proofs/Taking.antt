@@ -16,7 +16,7 @@ use Rattle.vx_pic.specs.declared.accepted.Accepted.TheVariants as accepted
 use Rattle.vx_pic.specs.Answers.{◌>>=◌, refuse_if}
 use Rattle.vx_pic.specs.Units.{rbsp_of, is_reserved, class_of, Class, other_unit, vps_unit, sps_unit, pps_unit, prefix_aps, suffix_aps, header_unit, end_unit}
 use Rattle.vx_pic.specs.Sets.{sps_id, pps_id}
-use Rattle.vx_pic.specs.Readings.{Reading, dropped, vps_read, sps_read, pps_read, aps_read, header_read, sequence_ended, current, is_open, is_within}
+use Rattle.vx_pic.specs.Readings.{Reading, dropped, vps_read, sps_read, pps_read, aps_read, header_read, sequence_ended, current, is_open, is_within_picture}
 use Rattle.vx_pic.specs.Rules.{Readers, structure, aps_reading, begins, reads_as, reads}
 use Rattle.vx_pic.specs.Parts.{slot_of}
 use Rattle.vx_pic.proofs.StoredSets.{set_stored}
@@ -64,43 +64,43 @@ failed_vps R new before u rbsp e spells bad =
 -- such a set, by what it is read as
 abbrev pub outside : {A : Type 0} → List Reading → Result A Refusal → (A → Reading) → Result Reading Refusal
 outside before read as_reading = do
-  _ ← refuse_if (is_within (current before)) (structure rules.SET_INSIDE_PICTURE)
+  _ ← refuse_if (is_within_picture (current before)) (structure rules.SET_INSIDE_PICTURE)
   v ← read
   Ok (as_reading v)
 
-pub outside_is : {A : Type 0} (before : List Reading) (read : Result A Refusal) (f : A → Reading) → is_within (current before) ≡ false
+pub outside_is : {A : Type 0} (before : List Reading) (read : Result A Refusal) (f : A → Reading) → is_within_picture (current before) ≡ false
     → outside before read f ≡ (read >>= λ v. Ok (f v))
 outside_is before read f closed = rw closed refl
 
 failed_outside : {A : Type 0} (before : List Reading) (new : State) (read : Result A Refusal) (f : A → Reading) (e : ReadError)
-    → is_within (current before) ≡ false → Gives read (Err e) → TakesUnit (outside before read f) before new (Err e)
+    → is_within_picture (current before) ≡ false → Gives read (Err e) → TakesUnit (outside before read f) before new (Err e)
 failed_outside before new read f e closed bad =
     takes_error (outside before read f) before new e
     (gives_same (outside before read f) (read >>= λ v. Ok (f v)) (Err e) (outside_is before read f closed) (gives_first read (λ v. Ok (f v)) e bad))
 
-pub sps_within : (R : Readers) (before : List Reading) (u : List ℕ) (w : Bool) → w ≡ is_within (current before) → w ≡ true
+pub sps_within : (R : Readers) (before : List Reading) (u : List ℕ) (w : Bool) → w ≡ is_within_picture (current before) → w ≡ true
     → reads_as R sps_unit before u ≡ Err (structure rules.SET_INSIDE_PICTURE)
-sps_within R before u w said is = let open_ : is_within (current before) ≡ true = sym said ∙ is in rw open_ refl
+sps_within R before u w said is = let open_ : is_within_picture (current before) ≡ true = sym said ∙ is in rw open_ refl
 
-pub pps_within : (R : Readers) (before : List Reading) (u : List ℕ) (w : Bool) → w ≡ is_within (current before) → w ≡ true
+pub pps_within : (R : Readers) (before : List Reading) (u : List ℕ) (w : Bool) → w ≡ is_within_picture (current before) → w ≡ true
     → reads_as R pps_unit before u ≡ Err (structure rules.SET_INSIDE_PICTURE)
-pps_within R before u w said is = let open_ : is_within (current before) ≡ true = sym said ∙ is in rw open_ refl
+pps_within R before u w said is = let open_ : is_within_picture (current before) ≡ true = sym said ∙ is in rw open_ refl
 
-pub aps_within : (R : Readers) (before : List Reading) (u : List ℕ) (w : Bool) → w ≡ is_within (current before) → w ≡ true
+pub aps_within : (R : Readers) (before : List Reading) (u : List ℕ) (w : Bool) → w ≡ is_within_picture (current before) → w ≡ true
     → reads_as R prefix_aps before u ≡ Err (structure rules.SET_INSIDE_PICTURE)
-aps_within R before u w said is = let open_ : is_within (current before) ≡ true = sym said ∙ is in rw open_ refl
+aps_within R before u w said is = let open_ : is_within_picture (current before) ≡ true = sym said ∙ is in rw open_ refl
 
-pub failed_sps : (R : Readers) (new : State) (before : List Reading) (u rbsp : List ℕ) (e : ReadError) (w : Bool) → w ≡ is_within (current before)
+pub failed_sps : (R : Readers) (new : State) (before : List Reading) (u rbsp : List ℕ) (e : ReadError) (w : Bool) → w ≡ is_within_picture (current before)
     → w ≡ false → rbsp ≡ rbsp_of u → Gives (R.sps rbsp) (Err e) → TakesUnit (reads_as R sps_unit before u) before new (Err e)
 failed_sps R new before u rbsp e w said is spells bad =
     failed_outside before new (R.sps (rbsp_of u)) sps_read e (sym said ∙ is) (subst (λ x. Gives (R.sps x) (Err e)) spells bad)
 
-pub failed_pps : (R : Readers) (new : State) (before : List Reading) (u rbsp : List ℕ) (e : ReadError) (w : Bool) → w ≡ is_within (current before)
+pub failed_pps : (R : Readers) (new : State) (before : List Reading) (u rbsp : List ℕ) (e : ReadError) (w : Bool) → w ≡ is_within_picture (current before)
     → w ≡ false → rbsp ≡ rbsp_of u → Gives (R.pps rbsp) (Err e) → TakesUnit (reads_as R pps_unit before u) before new (Err e)
 failed_pps R new before u rbsp e w said is spells bad =
     failed_outside before new (R.pps (rbsp_of u)) pps_read e (sym said ∙ is) (subst (λ x. Gives (R.pps x) (Err e)) spells bad)
 
-pub took_sps : (R : Readers) (s new : State) (before : List Reading) (u rbsp : List ℕ) (v : List Item) (id : ℕ) (w : Bool) → w ≡ is_within (current before)
+pub took_sps : (R : Readers) (s new : State) (before : List Reading) (u rbsp : List ℕ) (v : List Item) (id : ℕ) (w : Bool) → w ≡ is_within_picture (current before)
     → w ≡ false → rbsp ≡ rbsp_of u → R.sps rbsp ≡ Ok v → id ≡ sps_id v → id < length s.sps → IsHeld s before → new ≡ with_sps id v s
     → TookUnit (reads_as R sps_unit before u) before new (accepted.Sps id)
 took_sps R s new before u rbsp v id w said is spells read id_is low held kept = record {
@@ -110,7 +110,7 @@ took_sps R s new before u rbsp v id w said is spells read id_is low held kept = 
   told = ap accepted.Sps id_is;
 }
 
-pub took_pps : (R : Readers) (s new : State) (before : List Reading) (u rbsp : List ℕ) (v : List Item) (id : ℕ) (w : Bool) → w ≡ is_within (current before)
+pub took_pps : (R : Readers) (s new : State) (before : List Reading) (u rbsp : List ℕ) (v : List Item) (id : ℕ) (w : Bool) → w ≡ is_within_picture (current before)
     → w ≡ false → rbsp ≡ rbsp_of u → R.pps rbsp ≡ Ok v → id ≡ pps_id v → id < length s.pps → IsHeld s before → new ≡ with_pps id v s
     → TookUnit (reads_as R pps_unit before u) before new (accepted.Pps id)
 took_pps R s new before u rbsp v id w said is spells read id_is low held kept = record {
@@ -167,11 +167,11 @@ took_aps R s new before u rbsp a spells read valid held kept = record {
   told = refl;
 }
 
-prefix_is : (R : Readers) (before : List Reading) (u : List ℕ) → is_within (current before) ≡ false
+prefix_is : (R : Readers) (before : List Reading) (u : List ℕ) → is_within_picture (current before) ≡ false
     → reads_as R suffix_aps before u ≡ reads_as R prefix_aps before u
 prefix_is R before u closed = rw closed refl
 
-pub took_prefix : (R : Readers) (new : State) (before : List Reading) (u : List ℕ) (y : Result Accepted ReadError) (w : Bool) → w ≡ is_within (current before)
+pub took_prefix : (R : Readers) (new : State) (before : List Reading) (u : List ℕ) (y : Result Accepted ReadError) (w : Bool) → w ≡ is_within_picture (current before)
     → w ≡ false → TakesUnit (reads_as R suffix_aps before u) before new y → TakesUnit (reads_as R prefix_aps before u) before new y
 took_prefix R new before u y w said is takes = subst (λ x. TakesUnit x before new y) (prefix_is R before u (sym said ∙ is)) takes
 

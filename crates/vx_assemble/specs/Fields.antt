@@ -22,7 +22,7 @@ use Rattle.vx_pic.specs.Shown.{no_fields, fields_of}
 use Rattle.vx_pic.specs.Units.{is_reserved, rbsp_of, has_header_inside, Class, other_unit, vps_unit, sps_unit, pps_unit, prefix_aps}
 use Rattle.vx_pic.specs.Units.{suffix_aps, header_unit, slice_unit, end_unit, sei_unit, class_of}
 use Rattle.vx_pic.specs.Sets.{SliceHeader, referred_sps}
-use Rattle.vx_pic.specs.UnderSets.{slice_at}
+use Rattle.vx_pic.specs.UnderSets.{at_slice_of}
 use Rattle.vx_pic.specs.Readings.{Begun, Reading, stored_sps, stored_pps, is_whole, Current, nothing, headed, going, current}
 use Rattle.vx_pic.specs.Rules.{Readers, begins}
 use Rattle.vx_pic.specs.H266.{AnswersAt, header_place, form_in, IsReferredPps, IsSliceAnswer, AreOfH266}
@@ -46,7 +46,7 @@ items_to_id inside rbsp (Err r) refers = refers.1
 -- of a slice header, with those of the picture header inside
 abbrev pub items_of_slice : (nal_type : ℕ) (b : Begun) (u : List ℕ) (answer : Result SliceHeader Refusal) → IsSliceAnswer nal_type b u answer
     → List Item
-items_of_slice nal_type b u (Ok header) slice = items_along (slice_form (slice_at nal_type b)) (values_of slice.begins.fields)
+items_of_slice nal_type b u (Ok header) slice = items_along (slice_form (at_slice_of nal_type b)) (values_of slice.begins.fields)
 items_of_slice nal_type b u (Err r) refused = (refused.1.reads []).0
 
 -- sh_picture_header_in_slice_header_flag, where the picture header stands inside

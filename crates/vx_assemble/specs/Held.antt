@@ -9,7 +9,7 @@ use Rattle.vx_aps.specs.declared.aps.TheConstants.{ALF, LMCS, SCALING}
 use Rattle.vx_sei.specs.Sei.{spelled_length}
 use Rattle.vx_pic.specs.declared.accepted.Accepted.{Accepted}
 use Rattle.vx_pic.specs.declared.accepted.Accepted.TheVariants as accepted
-use Rattle.vx_pic.specs.Parts.{Parts, Shows, aps_at, id_count}
+use Rattle.vx_pic.specs.Parts.{Parts, ShowsPicture, aps_at, id_count}
 use Rattle.vx_pic.specs.Readings.{Reading, vps_read, sps_read, pps_read, aps_read, Picture}
 use Rattle.vx_pic.specs.Rules.{picture_limit, message_limit}
 use Rattle.vx_pic.specs.Streams.{lacks_slice}
@@ -93,7 +93,7 @@ items_of _ = None
 -- They are those of the latest of these pictures.
 abbrev pub ShowsLatest : Parts → List Picture → Type 0
 ShowsLatest parts [] = ⊥
-ShowsLatest parts (p ∷ earlier) = Shows parts p
+ShowsLatest parts (p ∷ earlier) = ShowsPicture parts p
 
 -- how many of these adaptation parameter sets are of a type
 abbrev pub count_of : ℕ → List (Option Aps) → ℕ

@@ -109,10 +109,6 @@ impl Assembler {
     }
 
     /// The fields that a unit spells, as framing gives it, behind those that were taken: all, or those before the first that is refused.
-    ///
-    /// # Errors
-    ///
-    /// Want of memory.
     pub fn unit_fields(&self, unit: &[u8]) -> Result<StructureFields, AllocError>
         requires { IsSound unit.now }
         ensures { IfOk result (λ f. (R : Readers) (h : AreOfH266 R) (before : List Reading) → Stands self.now before

@@ -1,6 +1,6 @@
 //! The picture that was begun last, as far as its slices came.
 ghost use Rattle.std.specs.Prelude.{◌≡◌, OnOk, OnErr};
-ghost use Rattle.vx_pic.specs.Readings.{Current, is_open, is_within};
+ghost use Rattle.vx_pic.specs.Readings.{Current, is_open, is_within_picture};
 ghost use Rattle.vx_assemble.specs.inner.Changes as changes;
 ghost use Rattle.vx_assemble.specs.inner.Held.{Keeps};
 ghost use Rattle.vx_assemble.specs.inner.Order.{IsOrdered, IsComplete};
@@ -36,7 +36,7 @@ impl CurrentPicture {
     /// Whether some of its slices came, and not all.
     pub(crate) fn is_within(&self) -> bool
         requires { IsOrdered self.now }
-        ensures { (c : Current) → Keeps self.now c → result ≡ is_within c }
+        ensures { (c : Current) → Keeps self.now c → result ≡ is_within_picture c }
     {
         match &self.stage {
             Stage::Nothing | Stage::Headed(_) => false,

@@ -7,7 +7,7 @@ ghost use Rattle.vx_table.specs.Reading.{Reads, at_front};
 ghost use Rattle.vx_sh.specs.Whole.{slice_form};
 ghost use Rattle.vx_pic.specs.Units as units;
 ghost use Rattle.vx_pic.specs.Units.{rbsp_of};
-ghost use Rattle.vx_pic.specs.UnderSets.{slice_at};
+ghost use Rattle.vx_pic.specs.UnderSets.{at_slice_of};
 ghost use Rattle.vx_pic.specs.Shown as shown;
 ghost use Rattle.vx_pic.specs.Readings.{Reading, current};
 ghost use Rattle.vx_pic.specs.Rules.{Readers, begins};
@@ -35,10 +35,6 @@ use vx_sh::read_sh_fields;
 use vx_sps::{Sps, read_sps_fields};
 
 /// Passes over a refusal: the fields end there.
-///
-/// # Errors
-///
-/// Want of memory.
 fn unless_memory(read: Result<(), ReadError>) -> Result<(), AllocError>
     ensures { OnOk result (HasAnswered read) }
 {
@@ -175,7 +171,7 @@ fn read_slice_fields(
 ) -> Result<(), ReadError>
     requires { IsHeader begun.now }
     ensures { (head : Option (List ℕ)) → (new : Place)
-        × Reads (slice_form (slice_at nal_type (begun_of begun.now head))) (at_front (rbsp_of unit.entry.bytes.now)) into.old result new into.new }
+        × Reads (slice_form (at_slice_of nal_type (begun_of begun.now head))) (at_front (rbsp_of unit.entry.bytes.now)) into.old result new into.new }
 {
     let numbers = numbers_under(nal_type, begun);
     read_sh_fields(unit.rbsp, &numbers, into)?;
@@ -384,10 +380,6 @@ impl State {
     }
 
     /// The fields that a unit spells behind those that were taken, up to the first that is refused.
-    ///
-    /// # Errors
-    ///
-    /// Want of memory.
     #[tactic(auto, unfolding(vx_pic::specs::Units::is_reserved))]
     pub(crate) fn unit_fields(
         &self,

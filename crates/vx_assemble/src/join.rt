@@ -206,7 +206,7 @@ fn check_limits(size: usize, more: usize, payload: usize) -> Result<(), Refusal>
 }
 
 /// Whether a slice that was read is the next one of a picture.
-#[tactic(auto, unfolding(vx_pic::specs::Sets::place_of, vx_pic::specs::Sets::address_of))]
+#[tactic(auto, unfolding(vx_pic::specs::Sets::slices_before, vx_pic::specs::Sets::address_of))]
 fn check_place(place: Place<'_>, read: &ReadSlice) -> Result<(), Refusal>
     requires { read.now.header.subpic < length place.begun.now.sets.layout.subpics }
     ensures { result ≡ next_slice place.entry.begun.now.sets.layout place.entry.count (header_read_as read.now) }

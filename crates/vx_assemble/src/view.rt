@@ -29,10 +29,6 @@ pub trait UnitView {
         ensures { self.new ≡ nothing };
 
     /// Sees a unit that the assembler is to take next.
-    ///
-    /// # Errors
-    ///
-    /// Want of memory.
     fn look(&mut self, assembler: &Assembler, unit: &[u8]) -> Result<(), AllocError>
         requires { IsSound unit.now }
         ensures { OnOk result ((R : Readers) (h : AreOfH266 R) (before : List Reading) → Stands assembler.now before

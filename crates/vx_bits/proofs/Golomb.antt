@@ -7,7 +7,7 @@ use Rattle.std.proofs.lemmas.Bool.Decides.{leb_tells}
 use lib.Count.{count_leading_zeros}
 use Rattle.vx_bits.specs.Codes.{number, fixed, magnitude, leading_zeros, exp_golomb, IsCodeNumber, BeginsWithCode, EndsWithinCode, BeginsTooLong, code_number}
 use Rattle.vx_bits.specs.inner.Zeros.{zeros_in_front}
-use Rattle.vx_bits.specs.Laws.{mapped}
+use Rattle.vx_bits.specs.laws.Codes.{mapped}
 use Rattle.vx_bits.specs.Place.{Place, Takes}
 use Rattle.vx_bits.proofs.Bits.{two_pow, pow_le, number-below, length-fixed, fixed-one, fixed_of, number-fixed, same_fronts}
 

@@ -1,6 +1,6 @@
 -- What the contracts of this crate cite.
 pub mod Codes
 pub mod Fields
-pub mod Laws
 pub mod Place
 pub mod inner
+pub mod laws

@@ -1,7 +1,7 @@
 //! Laws of the codes: functions that do nothing, each with a law as its contract.
 ghost use Rattle.std.specs.Prelude.{ℕ, ◌^◌, ◌<◌};
 ghost use Rattle.vx_bits.specs.Codes.{fixed, exp_golomb, signed_exp_golomb, IsCodeNumber, code_number};
-ghost use Rattle.vx_bits.specs.Laws.{TellsApart, IsBinary, IsParsed, IsMapped, BeginsInThreeWays, BeginsInOneWay};
+ghost use Rattle.vx_bits.specs.laws.Codes.{TellsApart, IsBinary, IsParsed, IsMapped, BeginsInThreeWays, BeginsInOneWay};
 
 /// u(n) is read back as its number, whatever follows, and no code of a width is a proper prefix of another.
 pub fn fixed_tells_apart()

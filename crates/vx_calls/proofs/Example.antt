@@ -9,7 +9,7 @@ use Rattle.vx_table.specs.Spelling.{items_along}
 use Rattle.vx_table.specs.Values.{Parted}
 use Rattle.vx_table.specs.Depends.{has, Agree, Alike, at_ends, both, Carries, IsLeft, Leaves}
 use Rattle.vx_table.specs.Shown.{shown_items}
-use Rattle.vx_table.specs.Again.{AlwaysShown}
+use Rattle.vx_table.specs.laws.Again.{AlwaysShown}
 use Rattle.vx_table.specs.Rewritten.{IsRewritten}
 use Rattle.vx_calls.specs.Composite.{one_share, shares, shares_of, composite, of_tables, CompositeIsRewritten}
 use Rattle.vx_table.proofs.Agreeing.{inside_itself, agree_itself}

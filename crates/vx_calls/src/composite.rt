@@ -4,7 +4,7 @@
 
 ghost use Rattle.std.specs.Prelude.{◌≡◌};
 ghost use Rattle.vx_table.specs.Walks.{Walks, leaving};
-ghost use Rattle.vx_table.specs.Reading.{Reads, Passes};
+ghost use Rattle.vx_table.specs.Reading.{Reads, PassesOver};
 ghost use Rattle.vx_table.specs.Writing.{Writes};
 ghost use Rattle.vx_table.specs.Kept.{Keeps};
 ghost use Rattle.vx_table.specs.Rewritten.{RewritesInto};
@@ -100,7 +100,7 @@ pub(crate) fn read(
 }
 
 pub(crate) fn pass(scope: &mut Scope, bits: &mut BitReader<'_>) -> Result<(), Refusal>
-    ensures { Passes (composite FRONT BEHIND scope.old) bits.old result bits.new }
+    ensures { PassesOver (composite FRONT BEHIND scope.old) bits.old result bits.new }
 {
     code_composite(scope, bits, &mut ())
 }

@@ -23,7 +23,7 @@ use Rattle.vx_table.proofs.Rewrites.{leaves_agree, sections_leave, sections_toge
 use Rattle.vx_sps.specs.declared.tables.TheConstants.{SUBPICTURES, SUBPIC_IDS}
 use Rattle.vx_sps.specs.Structure as structure
 use Rattle.vx_sps.specs.Structure.{sps_form, sps_sections}
-use Rattle.vx_sps.specs.Set.{IsItems}
+use Rattle.vx_sps.specs.Set.{AreSpsItems}
 use Rattle.vx_pic.proofs.Ids.{Lacks, lacks_both, other_row, sections_lack}
 
 -- a list that lacks a field has no item of it
@@ -71,7 +71,7 @@ pub record IsSubpictures (of : ℕ) : Type 0 where
   pub among : sections_pass (other_row of) places ≡ true
   pub back : sections_pass (other_row of) behind ≡ true
 
-pub undescribed : (of : ℕ) (items : List Item) → IsItems items → IsSubpictures of → is_set (number items described) ≡ false → with_field of items ≡ []
+pub undescribed : (of : ℕ) (items : List Item) → AreSpsItems items → IsSubpictures of → is_set (number items described) ≡ false → with_field of items ≡ []
 unfolding fresh sections_form hides_row hides_counter names_none
 undescribed of items set only undescribed_is =
     let p = cut before from_counts fresh set.follows in

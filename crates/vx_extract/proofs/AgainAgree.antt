@@ -22,7 +22,7 @@ use Rattle.vx_rpl.specs.Resolved.{table_of}
 use Rattle.vx_sps.specs.declared.shape.SubpicPlan.TheVariants.{Absent, One}
 use Rattle.vx_sps.specs.declared.tables.TheConstants.{TAKEN}
 use Rattle.vx_sps.specs.Set.{extra_ph_bits_of, extra_sh_bits_of, is_weighted, set_flags}
-use Rattle.vx_sps.specs.Reread.{Signals, described_in, id_len_in}
+use Rattle.vx_sps.specs.laws.Reread.{Signals, described_in, id_len_in}
 use Rattle.vx_sps.proofs.Stated.{below}
 use Rattle.vx_table.proofs.With.{no_number, with_field}
 use Rattle.vx_pps.specs.declared.shape.TheConstants.{TAKEN as TAKEN_OF_PPS}

@@ -10,10 +10,10 @@ use Rattle.vx_table.specs.Loaded.{number}
 use Rattle.vx_table.specs.Scope.{fresh}
 use Rattle.vx_layout.proofs.Parts.{Each-append}
 use Rattle.vx_pic.specs.Sets.{Slot, names_of}
-use Rattle.vx_pic.specs.Parts.{AreThere, Parts, SlicePart, aps_at, id_count, named_by, slot_of}
+use Rattle.vx_pic.specs.Parts.{AreThere, Parts, SlicePart, aps_at, id_count, aps_named_by, slot_of}
 use Rattle.vx_pic.specs.Written.{Plan, Set, an_aps}
 use Rattle.vx_pic.specs.Resident.{HasSet, HaveNamed}
-use Rattle.vx_extract.specs.Written.{IsExtracted, all_slots, aps_of_slot, is_named, named_in, needed_aps, parts_in, same_slot, set_of_slot, slice_alone, slots_of}
+use Rattle.vx_extract.specs.Written.{IsExtracted, all_slots, aps_of_slot, is_named, named_in, needed_aps, parts_in, same_type_and_id, set_of_slot, slice_alone, slots_of}
 use Rattle.vx_write.specs.Again.{HasItsBodies, HasReadableSets, IsReadable}
 use Rattle.vx_write.proofs.OwnSets.{IsAmong, among_first, among_second, has_set, units_hold}
 use Rattle.vx_write.specs.InForce.{AreInForce}
@@ -39,13 +39,13 @@ has_all P [] s all is = absurd is
 has_all P (t ∷ slots) s all (inl same) = subst P same all.0
 has_all P (t ∷ slots) s all (inr more) = has_all P slots s all.1 more
 
-same_itself : (s : Slot) → same_slot s s ≡ true
+same_itself : (s : Slot) → same_type_and_id s s ≡ true
 same_itself s = rw (eq-eqb s.kind s.kind refl, eq-eqb s.id s.id refl) refl
 
-any_has : (slots : List Slot) (s : Slot) → Has slots s → list_any (same_slot s) slots ≡ true
+any_has : (slots : List Slot) (s : Slot) → Has slots s → list_any (same_type_and_id s) slots ≡ true
 any_has [] s is = absurd is
-any_has (t ∷ slots) s (inl same) = subst (λ u. list_any (same_slot s) (u ∷ slots) ≡ true) (sym same) (rw (same_itself s) refl)
-any_has (t ∷ slots) s (inr more) = elim (cases_Bool (same_slot s t)) [
+any_has (t ∷ slots) s (inl same) = subst (λ u. list_any (same_type_and_id s) (u ∷ slots) ≡ true) (sym same) (rw (same_itself s) refl)
+any_has (t ∷ slots) s (inr more) = elim (cases_Bool (same_type_and_id s t)) [
   | inl on ↦ rw on refl
   | inr off ↦ rw off (any_has slots s more)
 ]
@@ -119,7 +119,7 @@ is_there sets s some =
     ]
 
 module _ (target : ℕ) (level : Option ℕ) (q : Parts) (done : List Plan) (p : Plan) (are : AreInForce q) (valid : HasReadableSets q) (there : AreThere q.bodies (named_in q target)) (ex : IsExtracted target level q done p) where
-  names_same : (s : SlicePart) → names_of p.begun.pps p.begun.header (slice_alone s).header ≡ named_by q.pps q.header.fields s.header
+  names_same : (s : SlicePart) → names_of p.begun.pps p.begun.header (slice_alone s).header ≡ aps_named_by q.pps q.header.fields s.header
   unfolding names_of fresh
   names_same s =
       let flag : number p.begun.pps pps_fields.pps_alf_info_in_ph_flag ≡ number q.pps pps_fields.pps_alf_info_in_ph_flag =
@@ -144,13 +144,13 @@ module _ (target : ℕ) (level : Option ℕ) (q : Parts) (done : List Plan) (p :
   all_named (s ∷ slots) inside = (one_named s (inside s (inl refl)), all_named slots (λ t is. inside t (inr is)))
 
   abbrev names_all : List SlicePart → List Slot
-  names_all parts = flat_map (λ (s : SlicePart). named_by q.pps q.header.fields s.header) parts
+  names_all parts = flat_map (λ (s : SlicePart). aps_named_by q.pps q.header.fields s.header) parts
 
   each_named : (parts : List SlicePart) → ((s : Slot) → Has (names_all parts) s → Has (named_in q target) s) → AllByRecursion (λ s. HaveNamed ex.needed (names_of p.begun.pps p.begun.header s.header)) (map slice_alone parts)
   each_named [] inside = tt
   each_named (s ∷ parts) inside = (
-    subst (λ slots. HaveNamed ex.needed slots) (sym (names_same s)) (all_named (named_by q.pps q.header.fields s.header) (λ t is. inside t (has_first (named_by q.pps q.header.fields s.header) (names_all parts) t is))),
-    each_named parts (λ t is. inside t (has_second (named_by q.pps q.header.fields s.header) (names_all parts) t is)),
+    subst (λ slots. HaveNamed ex.needed slots) (sym (names_same s)) (all_named (aps_named_by q.pps q.header.fields s.header) (λ t is. inside t (has_first (aps_named_by q.pps q.header.fields s.header) (names_all parts) t is))),
+    each_named parts (λ t is. inside t (has_second (aps_named_by q.pps q.header.fields s.header) (names_all parts) t is)),
   )
 
   pub bodies_again : HasItsBodies ex.needed p

@@ -6,7 +6,7 @@ use Rattle.vx_bits.specs.declared.refusal.Refusal.{Refusal}
 use Rattle.vx_bits.specs.declared.refusal.ReadError.{ReadError}
 use Rattle.vx_bits.specs.Place.{Place}
 use Rattle.vx_fields.specs.declared.ph.TheConstants.{ph_rbsp_trailing_bits}
-use Rattle.vx_table.specs.Again.{AllShown, shows_row}
+use Rattle.vx_table.specs.laws.Again.{AllShown, shows_row}
 use Rattle.vx_table.specs.Claims.{behind_field, behind_rows, behind_table, depends, hides_row, knows_range, knows_width, table_depends}
 use Rattle.vx_table.specs.Depends.{Agree, Alike, Inside, at_ends, both, has, hidden_left, hidden_right, set_of, with_all}
 use Rattle.vx_table.specs.Forms.{Form, form_of, has_value}

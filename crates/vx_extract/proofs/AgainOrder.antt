@@ -8,20 +8,20 @@ use Rattle.std.proofs.lemmas.List.FromFn.{length-range_with_len}
 use Rattle.std.proofs.lemmas.List.Sums.{sum_by-cons}
 use Rattle.vx_layout.specs.Layouts.{slices_in, subpic_at}
 use Rattle.vx_layout.specs.Regions.{counted_from}
-use Rattle.vx_pic.specs.Sets.{SliceHeader, address_of, place_of}
+use Rattle.vx_pic.specs.Sets.{SliceHeader, address_of, slices_before}
 use Rattle.vx_pic.specs.Readings.{Begun, Picture, Slice}
 use Rattle.vx_pic.specs.Parts.{parts_of}
-use Rattle.vx_pic.specs.Rules.{picture_limit, size_of, unit_size}
+use Rattle.vx_pic.specs.Rules.{picture_limit, picture_size, unit_size}
 use Rattle.vx_pic.specs.Whole.{HasAllInOrder, subpic_slices}
-use Rattle.vx_pic.specs.Written.{AreInOrder, Plan, slices_of}
+use Rattle.vx_pic.specs.Written.{AreInOrder, Plan, planned_slices}
 use Rattle.vx_extract.specs.Written.{IsExtracted}
 use Rattle.vx_write.specs.Again.{IsWholePlan}
-use Rattle.vx_extract.specs.Again.{alone}
+use Rattle.vx_extract.specs.Again.{header_alone}
 use Rattle.vx_extract.proofs.AgainUnits.{short, slices_shown, those_of}
 
 -- of the one subpicture a slice's place is its address
-alone_at : (b : Begun) (h : SliceHeader) → place_of b.layout (alone h) ≡ address_of h
-unfolding place_of address_of
+alone_at : (b : Begun) (h : SliceHeader) → slices_before b.layout (header_alone h) ≡ address_of h
+unfolding slices_before address_of
 alone_at b h = omega arith
 
 head_of : ℕ → List ℕ → ℕ
@@ -50,15 +50,15 @@ fewer_bytes target (s ∷ slices) =
       | inr off ↦ rw off (omega (arith, rest, all))
     ]
 
-pub whole_again : (target : ℕ) (level : Option ℕ) (pic : Picture) (done : List Plan) (p : Plan) → HasAllInOrder pic → size_of pic ≤ picture_limit → target < length pic.begun.layout.subpics → IsExtracted target level (parts_of pic) done p
+pub whole_again : (target : ℕ) (level : Option ℕ) (pic : Picture) (done : List Plan) (p : Plan) → HasAllInOrder pic → picture_size pic ≤ picture_limit → target < length pic.begun.layout.subpics → IsExtracted target level (parts_of pic) done p
     → IsWholePlan p
 whole_again target level pic done p each size within ex =
-    let slices : slices_of p ≡ those_of target pic.slices = ex.slices ∙ slices_shown pic.begun target pic.slices in
+    let slices : planned_slices p ≡ those_of target pic.slices = ex.slices ∙ slices_shown pic.begun target pic.slices in
     let count : ℕ = length (slices_in pic.begun.layout target) in
     let rise : map (λ s. address_of s.header) (subpic_slices pic target) ≡ range_with_len 0 count = each target within in
-    let many : length (slices_of p) ≡ count =
+    let many : length (planned_slices p) ≡ count =
     ap (λ xs. length xs) slices ∙ length-map (subpic_slices pic target) short ∙ sym (length-map (subpic_slices pic target) (λ (s : Slice). address_of s.header)) ∙ ap (λ ns. length ns) rise ∙ length-range_with_len 0 count in
-    let bytes : sum_by (λ (s : Slice). length s.unit) (slices_of p) ≤ sum_by (λ (s : Slice). length s.unit) pic.slices =
+    let bytes : sum_by (λ (s : Slice). length s.unit) (planned_slices p) ≤ sum_by (λ (s : Slice). length s.unit) pic.slices =
     subst (λ xs. sum_by (λ (s : Slice). length s.unit) xs ≤ sum_by (λ (s : Slice). length s.unit) pic.slices) (sym slices) (fewer_bytes target pic.slices) in
     let header : unit_size p.begun.unit ≡ unit_size pic.begun.unit = ap unit_size ex.unit in
     record {

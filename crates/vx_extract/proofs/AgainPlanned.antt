@@ -4,7 +4,7 @@ use Rattle.std.specs.List.{AllByRecursion}
 use Rattle.std.proofs.lemmas.Bool.{eq-eqb, not-false}
 use Rattle.std.proofs.lemmas.Bool.Decides.{Decides-int_eq}
 use Rattle.vx_bits.specs.declared.list.Item.{Item}
-use Rattle.vx_pps.specs.Sets.{SetsTellPartitions}
+use Rattle.vx_pps.specs.laws.Sets.{SetsTellPartitions}
 use Rattle.vx_pic.specs.Sets.{names_of, same_items}
 use Rattle.vx_pic.specs.Readings.{Picture, Slice, is_whole, messages_of}
 use Rattle.vx_pic.specs.Alike.{AreAlike, IsNext}
@@ -12,9 +12,9 @@ use Rattle.vx_pic.specs.Counts.{is_changed}
 use Rattle.vx_pic.specs.Parts.{parts_of}
 use Rattle.vx_pic.specs.Rules.{Readers}
 use Rattle.vx_pic.specs.H266.{AreOfH266}
-use Rattle.vx_pic.specs.Finished.{AreFinished, IsSound}
-use Rattle.vx_pic.specs.Edited.{AreEdits, EditsArePlanned}
-use Rattle.vx_pic.specs.Written.{Plan, Says, SetUnit, slices_of}
+use Rattle.vx_pic.specs.Finished.{AreFinished, IsSoundPicture}
+use Rattle.vx_pic.specs.laws.Edited.{AreEdits, EditsArePlanned}
+use Rattle.vx_pic.specs.Written.{Plan, Says, SetUnit, planned_slices}
 use Rattle.vx_pic.specs.Resident.{AreAllPlanned, HaveNamed, IsPlanned, is_resident, planned_of, sent_before}
 use Rattle.vx_pic.proofs.Sent.{items_are}
 use Rattle.vx_pic.proofs.Sublayers.{low_tid}
@@ -36,7 +36,7 @@ module _ (R : Readers) (of : AreOfH266 R) (target : ℕ) (tells : SetsTellPartit
   all_say tid [] low can are = tt
   all_say tid (u ∷ units) low can are = (sets_read R tid u.set u.unit of low can.0 are.0, all_say tid units low can.1 are.1)
 
-  module _ (earlier : List Picture) (pic : Picture) (done : List Plan) (p : Plan) (sound : IsSound R earlier pic) (whole : is_whole pic ≡ true) (ready : IsReady target pic) (ex : IsExtracted target level (parts_of pic) done p) where
+  module _ (earlier : List Picture) (pic : Picture) (done : List Plan) (p : Plan) (sound : IsSoundPicture R earlier pic) (whole : is_whole pic ≡ true) (ready : IsReady target pic) (ex : IsExtracted target level (parts_of pic) done p) where
     planned_if : IsNext (planned_of done) p.begun p.kind → IsPlanned R done p
     planned_if next =
         let read = units_read R target level earlier pic done p of sound whole ready.in_force ready.has ex in
@@ -56,7 +56,7 @@ module _ (R : Readers) (of : AreOfH266 R) (target : ℕ) (tells : SetsTellPartit
           pps = sent.pps;
           sps = sent.sps;
           refers = read.refers;
-          bodies = subst (λ needed. AllByRecursion (λ (s : Slice). HaveNamed needed (names_of p.begun.pps p.begun.header s.header)) (slices_of p)) (sym sent.same) own.bodies;
+          bodies = subst (λ needed. AllByRecursion (λ (s : Slice). HaveNamed needed (names_of p.begun.pps p.begun.header s.header)) (planned_slices p)) (sym sent.same) own.bodies;
           sei = sei_reads R pic.kind.temporal_id (messages_of pic) p.sei of low ready.carried sound.messages ex.sei;
           head = read.head;
           slices = read.slices;

@@ -13,25 +13,26 @@ use Rattle.vx_table.proofs.With.{no_number}
 use Rattle.vx_layout.specs.declared.numbers.Numbers.{Numbers}
 use Rattle.vx_layout.specs.declared.rect.Rect.{Rect}
 use Rattle.vx_layout.specs.Faults.{IsLayout, height, width}
-use Rattle.vx_layout.specs.Laws.{RegionIsListable}
+use Rattle.vx_layout.specs.laws.Layouts.{RegionIsListable}
 use Rattle.vx_layout.specs.Layouts.{HasLayout, no_rect, subpic_at}
-use Rattle.vx_layout.specs.Rects.{IsPart, fits, holds, slices_of, whole_picture}
-use Rattle.vx_layout.specs.Regions.{counted_from, cut, region_of}
+use Rattle.vx_layout.specs.Rects.{IsPart, fits, holds, slices_of_subpicture, whole_picture}
+use Rattle.vx_layout.specs.Regions.{counted_from, cut_bounds, region_of}
 use Rattle.vx_layout.proofs.Counting.{slices_of-once}
 use Rattle.vx_layout.proofs.Holding.{fits_tells, holds_from}
 use Rattle.vx_layout.proofs.Nested.{same_numbers}
 use Rattle.vx_sps.specs.declared.shape.SubpicPlan.{SubpicPlan}
 use Rattle.vx_sps.specs.declared.shape.SubpicPlan.TheVariants.{Absent, One}
 use Rattle.vx_sps.specs.Set as sps
-use Rattle.vx_sps.specs.Subpictures.{id_of, numbers_of, rect_of, subpics_of}
-use Rattle.vx_sps.specs.Reread as reread
-use Rattle.vx_sps.specs.Reread.{ReshapedSays, Says, Signals, count_in, explicit_in, id_len_in, mapped_in, rect_in}
+use Rattle.vx_sps.specs.Subpictures.{sps_subpic_id_of, rect_of, subpics_of}
+use Rattle.vx_table.specs.Loaded.{numbers_of}
+use Rattle.vx_sps.specs.laws.Reread as reread
+use Rattle.vx_sps.specs.laws.Reread.{ReshapedSays, Says, Signals, count_in, explicit_in, id_len_in, mapped_in, rect_in}
 use Rattle.vx_sps.specs.Reshaped as sps_reshaped
 use Rattle.vx_sps.proofs.Bounded.{ctu_below}
 use Rattle.vx_pps.specs.Pps as pps
 use Rattle.vx_pps.specs.Reshaped as pps_reshaped
-use Rattle.vx_pps.specs.Reshaped.{ReshapedHasItsTiles, Tells}
-use Rattle.vx_pps.specs.Sets.{ReadSlicesAreListable, SetsTellPartitions}
+use Rattle.vx_pps.specs.Reshaped.{ReshapedHasItsTiles, TellsPpsShape}
+use Rattle.vx_pps.specs.laws.Sets.{ReadSlicesAreListable, SetsTellPartitions}
 use Rattle.vx_pps.proofs.Telling.{reshaped_tells}
 use Rattle.vx_pic.specs.Sets.{pps_id, referred_sps, same_size, sps_id}
 use Rattle.vx_pic.specs.Parts.{Parts}
@@ -50,7 +51,7 @@ use Rattle.vx_extract.proofs.AgainSps.{IsAlone, described, not_described, alone_
 -- ---- a picture of one tile
 
 -- the bounds of one tile, cut
-cut_one : (total from size : ℕ) → from + size ≤ total → cut (one_tile total) from size ≡ one_tile size
+cut_one : (total from size : ℕ) → from + size ≤ total → cut_bounds (one_tile total) from size ≡ one_tile size
 cut_one total from size inside =
     let first : (nat_lt from 0 && nat_lt 0 (from + size)) ≡ false = false_from_ne_true _ (λ h. absurd (omega (arith, ltb-true from 0 (and_parts (nat_lt from 0) (nat_lt 0 (from + size)) h).0))) in
     let last : (nat_lt from total && nat_lt total (from + size)) ≡ false = false_from_ne_true _ (λ h. absurd (omega (arith, inside, ltb-true total (from + size) (and_parts (nat_lt from total) (nat_lt total (from + size)) h).1))) in
@@ -66,13 +67,13 @@ whole_fits n k is one within =
     let across = part.across in
     let down = part.down in
     let here : holds s s.x s.y ≡ true = holds_from s s.x s.y (omega arith) (omega (arith, some)) (omega arith) (omega (arith, high)) in
-    let once : count_by (λ r. holds r s.x s.y) (slices_of n.slices s) ≡ 1 =
+    let once : count_by (λ r. holds r s.x s.y) (slices_of_subpicture n.slices s) ≡ 1 =
     slices_of-once n.slices n.subpics (width n) (height n) k no_rect s.x s.y is.split is.subpics.once is.slices within (omega (arith, some, across)) (omega (arith, high, down))
     ∙ ap (λ b. cond b 1 0) here in
     elim (cases_Bool (fits (whole_picture (width n) (height n)) s)) [
       | inl is_in ↦ is_in
       | inr out ↦
-          let none : slices_of n.slices s ≡ [] = ap (λ rs. slices_of rs s) one ∙ rw out refl in
+          let none : slices_of_subpicture n.slices s ≡ [] = ap (λ rs. slices_of_subpicture rs s) one ∙ rw out refl in
           absurd (omega (arith, sym once ∙ ap (λ rs. count_by (λ r. holds r s.x s.y) rs) none))
     ]
 
@@ -87,7 +88,7 @@ one_slice n k is one within =
     let across = part.across in
     let down = part.down in
     let fit = whole_fits n k is one within in
-    let slices : slices_of n.slices s ≡ whole_picture (width n) (height n) ∷ [] = ap (λ rs. slices_of rs s) one ∙ rw fit refl in
+    let slices : slices_of_subpicture n.slices s ≡ whole_picture (width n) (height n) ∷ [] = ap (λ rs. slices_of_subpicture rs s) one ∙ rw fit refl in
     elim (fits_tells (whole_picture (width n) (height n)) s fit) [
       | inl (inl e) ↦ absurd (omega (arith, e, wide, across))
       | inl (inr e) ↦ absurd (omega (arith, e, high, down))
@@ -142,7 +143,7 @@ module _ (tells : SetsTellPartitions) (reads : ReadSlicesAreListable) (listables
   pub pps_fits : pps_reshaped.IsShape q.pps (pps_shape q target)
   pps_fits = pps_is_shape tells reads listables regions q target are within
 
-  pps_tells : Tells q.pps (pps_shape q target) p
+  pps_tells : TellsPpsShape q.pps (pps_shape q target) p
   pps_tells = reshaped_tells q.pps p (pps_shape q target) are.pps pps_fits re.of_pps
 
   signals : Signals (sps_shape q target level) s
@@ -178,10 +179,10 @@ module _ (tells : SetsTellPartitions) (reads : ReadSlicesAreListable) (listables
   down : quotient (height_in q target) (sps.ctb_size_of q.sps) ≡ rect.h
   down = quotient_is (height_in q target) (sps.ctb_size_of q.sps) large ∙ sym sides.high.held
 
-  columns_are : sps.columns_of s ≡ rect.w
+  columns_are : sps.ctu_columns_of s ≡ rect.w
   columns_are = ap (λ n. quotient n (sps.ctb_size_of s)) said.width ∙ ap (λ n. quotient (width_in q target) n) said.ctb ∙ across
 
-  rows_are : sps.rows_of s ≡ rect.h
+  rows_are : sps.ctu_rows_of s ≡ rect.h
   rows_are = ap (λ n. quotient n (sps.ctb_size_of s)) said.height ∙ ap (λ n. quotient (height_in q target) n) said.ctb ∙ down
 
   -- ---- subpictures
@@ -218,14 +219,14 @@ module _ (tells : SetsTellPartitions) (reads : ReadSlicesAreListable) (listables
     pub whole : number q.pps pps_fields.pps_no_pic_partition_flag ≡ 0
     whole = partitioned (number q.pps pps_fields.pps_no_pic_partition_flag) is
 
-    its : (pps.columns_of p ≡ (region_of q.layout target).columns) × (pps.rows_of p ≡ (region_of q.layout target).rows) × (pps.slices_of p ≡ Some (region_of q.layout target).slices)
+    its : (pps.tile_columns_of p ≡ (region_of q.layout target).columns) × (pps.tile_rows_of p ≡ (region_of q.layout target).rows) × (pps.slice_list_of p ≡ Some (region_of q.layout target).slices)
     its = tiles q.pps p (pps_shape q target) are.pps pps_fits re.of_pps whole
 
     numbers_there : numbers_in s p ≡ region_of q.layout target
     numbers_there =
         let same : pps.is_partitioned p ≡ true = still ∙ is in
         same_numbers (numbers_in s p) (region_of q.layout target) (rw same its.0) (rw same its.1)
-        (ap (λ b. cond b (unwrap_or (pps.slices_of p) (subpictures_of s)) (whole_picture (sps.columns_of s) (sps.rows_of s) ∷ [])) same ∙ ap (λ o. unwrap_or o (subpictures_of s)) its.2)
+        (ap (λ b. cond b (unwrap_or (pps.slice_list_of p) (subpictures_of s)) (whole_picture (sps.ctu_columns_of s) (sps.ctu_rows_of s) ∷ [])) same ∙ ap (λ o. unwrap_or o (subpictures_of s)) its.2)
         (subpictures ∙ ap (λ r. whole_picture r.w r.h ∷ []) (sym corner))
 
     sizes_there : ctu_sizes_differ s p ≡ false
@@ -237,10 +238,10 @@ module _ (tells : SetsTellPartitions) (reads : ReadSlicesAreListable) (listables
         second_false (pps.is_partitioned p) (not (number p pps_fields.pps_log2_ctu_size_minus5 == number s sps_fields.sps_log2_ctu_size_minus5)) (rw (eq-eqb _ _ (of_pps ∙ sym of_sps)) refl)
 
   module _ (none : pps.is_partitioned q.pps ≡ false) where
-    old_columns : q.layout.columns ≡ one_tile (sps.columns_of q.sps)
+    old_columns : q.layout.columns ≡ one_tile (sps.ctu_columns_of q.sps)
     old_columns = ap (λ n. n.columns) are.numbers ∙ rw none refl
 
-    old_rows : q.layout.rows ≡ one_tile (sps.rows_of q.sps)
+    old_rows : q.layout.rows ≡ one_tile (sps.ctu_rows_of q.sps)
     old_rows = ap (λ n. n.rows) are.numbers ∙ rw none refl
 
     pub old_slices : q.layout.slices ≡ whole_picture (width q.layout) (height q.layout) ∷ []
@@ -248,20 +249,20 @@ module _ (tells : SetsTellPartitions) (reads : ReadSlicesAreListable) (listables
 
     pub new_columns : (region_of q.layout target).columns ≡ one_tile rect.w
     new_columns =
-        let fit : rect.x + rect.w ≤ sps.columns_of q.sps = rw old_columns at part.across in
-        ap (λ r. cut q.layout.columns r.x r.w) corner ∙ ap (λ c. cut c rect.x rect.w) old_columns ∙ cut_one (sps.columns_of q.sps) rect.x rect.w fit
+        let fit : rect.x + rect.w ≤ sps.ctu_columns_of q.sps = rw old_columns at part.across in
+        ap (λ r. cut_bounds q.layout.columns r.x r.w) corner ∙ ap (λ c. cut_bounds c rect.x rect.w) old_columns ∙ cut_one (sps.ctu_columns_of q.sps) rect.x rect.w fit
 
     pub new_rows : (region_of q.layout target).rows ≡ one_tile rect.h
     new_rows =
-        let fit : rect.y + rect.h ≤ sps.rows_of q.sps = rw old_rows at part.down in
-        ap (λ r. cut q.layout.rows r.y r.h) corner ∙ ap (λ c. cut c rect.y rect.h) old_rows ∙ cut_one (sps.rows_of q.sps) rect.y rect.h fit
+        let fit : rect.y + rect.h ≤ sps.ctu_rows_of q.sps = rw old_rows at part.down in
+        ap (λ r. cut_bounds q.layout.rows r.y r.h) corner ∙ ap (λ c. cut_bounds c rect.y rect.h) old_rows ∙ cut_one (sps.ctu_rows_of q.sps) rect.y rect.h fit
 
     numbers_here : numbers_in s p ≡ region_of q.layout target
     numbers_here =
         let same : pps.is_partitioned p ≡ false = still ∙ none in
         same_numbers (numbers_in s p) (region_of q.layout target) (rw same (ap one_tile columns_are ∙ sym new_columns)) (rw same (ap one_tile rows_are ∙ sym new_rows))
-        (ap (λ b. cond b (unwrap_or (pps.slices_of p) (subpictures_of s)) (whole_picture (sps.columns_of s) (sps.rows_of s) ∷ [])) same
-        ∙ ap (λ w. whole_picture w (sps.rows_of s) ∷ []) columns_are ∙ ap (λ h. whole_picture rect.w h ∷ []) rows_are
+        (ap (λ b. cond b (unwrap_or (pps.slice_list_of p) (subpictures_of s)) (whole_picture (sps.ctu_columns_of s) (sps.ctu_rows_of s) ∷ [])) same
+        ∙ ap (λ w. whole_picture w (sps.ctu_rows_of s) ∷ []) columns_are ∙ ap (λ h. whole_picture rect.w h ∷ []) rows_are
         ∙ sym (one_slice q.layout target are.layout.faultless old_slices here ∙ ap (λ r. whole_picture r.w r.h ∷ []) corner))
         (subpictures ∙ ap (λ r. whole_picture r.w r.h ∷ []) (sym corner))
 
@@ -292,9 +293,9 @@ module _ (tells : SetsTellPartitions) (reads : ReadSlicesAreListable) (listables
       second_false (is_set (number s sps_fields.sps_subpic_info_present_flag)) (nat_lt (2 ^ bits) (subpics_of s)) fits_in
 
   -- they stand in the SPS, or are indices
-  own_ids : are_in_pps s p ≡ false → ids_of s p ≡ reread.id_in (plan_of q target) 0 ∷ []
+  own_ids : are_in_pps s p ≡ false → ids_of s p ≡ reread.id_in_plan (plan_of q target) 0 ∷ []
   unfolding ids_of
-  own_ids none = rw none (ap (λ n. map (id_of s) (range_with_len 0 n)) alone ∙ ap (λ n. n ∷ []) (said.id 0 first_only))
+  own_ids none = rw none (ap (λ n. map (sps_subpic_id_of s) (range_with_len 0 n)) alone ∙ ap (λ n. n ∷ []) (said.id 0 first_only))
 
   module _ (told : is_set (number q.sps sps_fields.sps_subpic_info_present_flag) ≡ true) where
     planned : (o : Option ℕ) → id_in_sps q target ≡ o → plan_of q target ≡ One id_len o
@@ -327,7 +328,7 @@ module _ (tells : SetsTellPartitions) (reads : ReadSlicesAreListable) (listables
         record {
           same = rw (flagged, signalled, present) refl;
           unlike = λ e. absurd (true≢false (sym e ∙ ap is_set flagged));
-          ids = own_ids (rw (signalled, flagged) refl) ∙ ap (λ o. reread.id_in o 0 ∷ []) plan;
+          ids = own_ids (rw (signalled, flagged) refl) ∙ ap (λ o. reread.id_in_plan o 0 ∷ []) plan;
         }
 
   no_ids : is_set (number q.sps sps_fields.sps_subpic_info_present_flag) ≡ false → HaveId s p (id_in q target)
@@ -348,7 +349,7 @@ module _ (tells : SetsTellPartitions) (reads : ReadSlicesAreListable) (listables
       record {
         same = rw (flagged, signalled) refl;
         unlike = λ e. absurd (true≢false (sym e ∙ ap is_set flagged));
-        ids = own_ids (rw signalled refl) ∙ ap (λ o. reread.id_in o 0 ∷ []) plan ∙ ap (λ n. n ∷ []) (sym own);
+        ids = own_ids (rw signalled refl) ∙ ap (λ o. reread.id_in_plan o 0 ∷ []) plan ∙ ap (λ n. n ∷ []) (sym own);
       }
 
   have_id : HaveId s p (id_in q target)

@@ -16,10 +16,10 @@ use Rattle.vx_sps.specs.declared.shape.SubpicPlan.TheVariants.{Absent, One}
 use Rattle.vx_sps.specs.declared.tables.TheConstants.{TAKEN}
 use Rattle.vx_sps.specs.Structure.{sps_form}
 use Rattle.vx_sps.specs.Set as sps
-use Rattle.vx_sps.specs.Subpictures.{id_of, rect_of, subpics_of}
-use Rattle.vx_sps.specs.Reshaped.{IsReshaped, stated}
-use Rattle.vx_pps.specs.Items as pps_items
-use Rattle.vx_pps.specs.Sets.{SetsTellPartitions}
+use Rattle.vx_sps.specs.Subpictures.{sps_subpic_id_of, rect_of, subpics_of}
+use Rattle.vx_sps.specs.Reshaped.{IsReshapedSps, stated_sps_items}
+use Rattle.vx_table.specs.Loaded as loading
+use Rattle.vx_pps.specs.laws.Sets.{SetsTellPartitions}
 use Rattle.vx_pic.specs.Inputs.{luma_size}
 use Rattle.vx_pic.specs.Sets.{sps_id}
 use Rattle.vx_pic.specs.Parts.{Parts}
@@ -31,7 +31,7 @@ use Rattle.vx_write.proofs.Sizes.{has_size}
 
 -- what is written of the SPS alone, of pictures of the size that it says
 abbrev id_from : List Item → ℕ → Option ℕ
-id_from s target = cond (needs_ids s) None (Some (id_of s target))
+id_from s target = cond (needs_ids s) None (Some (sps_subpic_id_of s target))
 
 abbrev shape_from : List Item → ℕ → Option ℕ → SpsShape
 shape_from s target level = record {
@@ -44,12 +44,12 @@ shape_from s target level = record {
   subpics = cond (is_set (number s sps_fields.sps_subpic_info_present_flag)) (One (number s sps_fields.sps_subpic_id_len_minus1) (id_from s target)) Absent;
 }
 
-own_id : (q : Parts) (target : ℕ) → AreInForce q → target < subpics_of q.sps → needs_ids q.sps ≡ false → id_in q target ≡ id_of q.sps target
+own_id : (q : Parts) (target : ℕ) → AreInForce q → target < subpics_of q.sps → needs_ids q.sps ≡ false → id_in q target ≡ sps_subpic_id_of q.sps target
 unfolding ids_of
 own_id q target are within none =
     let elsewhere = not_in_pps_elsewhere q.sps q.pps are.made.ids.placed none in
-    ap (λ xs. slice_index xs target) are.ids ∙ ap (λ b. slice_index (cond b (pps_items.numbers_of q.pps pps_fields.pps_subpic_id) (map (id_of q.sps) (range_with_len 0 (subpics_of q.sps)))) target) elsewhere
-    ∙ get_or-map-range_with_len (id_of q.sps) 0 (subpics_of q.sps) target target 0 within (omega arith)
+    ap (λ xs. slice_index xs target) are.ids ∙ ap (λ b. slice_index (cond b (loading.numbers_of q.pps pps_fields.pps_subpic_id) (map (sps_subpic_id_of q.sps) (range_with_len 0 (subpics_of q.sps)))) target) elsewhere
+    ∙ get_or-map-range_with_len (sps_subpic_id_of q.sps) 0 (subpics_of q.sps) target target 0 within (omega arith)
 
 same_id : (q : Parts) (target : ℕ) → AreInForce q → target < subpics_of q.sps → cond (needs_ids q.sps) None (Some (id_in q target)) ≡ id_from q.sps target
 same_id q target are within = elim (cases_Bool (needs_ids q.sps)) [
@@ -63,10 +63,10 @@ shape_is tells q target level are within =
     rw (size.width, size.height, same_id q target are within) refl
 
 pub same_again : SetsTellPartitions → (target : ℕ) (level : Option ℕ) (q r : Parts) (s t : List Item) → AreInForce q → AreInForce r → target < subpics_of q.sps → q.sps ≡ r.sps
-    → IsReshaped q.sps (sps_shape q target level) s → IsReshaped r.sps (sps_shape r target level) t → s ≡ t
+    → IsReshapedSps q.sps (sps_shape q target level) s → IsReshapedSps r.sps (sps_shape r target level) t → s ≡ t
 same_again tells target level q r s t are others within same one two =
     let inside : target < subpics_of r.sps = subst (λ x. target < subpics_of x) same within in
-    let first : IsReshaped q.sps (shape_from q.sps target level) s = subst (λ x. IsReshaped q.sps x s) (shape_is tells q target level are within) one in
-    let second : IsReshaped r.sps (shape_from r.sps target level) t = subst (λ x. IsReshaped r.sps x t) (shape_is tells r target level others inside) two in
-    let moved : IsReshaped r.sps (shape_from r.sps target level) s = subst (λ x. IsReshaped x (shape_from x target level) s) same first in
-    rewrites_one_way sps_form (set_of TAKEN) (shown_items (set_of TAKEN) r.sps) (stated r.sps (shape_from r.sps target level)) s t moved second
+    let first : IsReshapedSps q.sps (shape_from q.sps target level) s = subst (λ x. IsReshapedSps q.sps x s) (shape_is tells q target level are within) one in
+    let second : IsReshapedSps r.sps (shape_from r.sps target level) t = subst (λ x. IsReshapedSps r.sps x t) (shape_is tells r target level others inside) two in
+    let moved : IsReshapedSps r.sps (shape_from r.sps target level) s = subst (λ x. IsReshapedSps x (shape_from x target level) s) same first in
+    rewrites_one_way sps_form (set_of TAKEN) (shown_items (set_of TAKEN) r.sps) (stated_sps_items r.sps (shape_from r.sps target level)) s t moved second

@@ -12,7 +12,7 @@ use Rattle.vx_pic.specs.Alike.{AlikeForCounts}
 use Rattle.vx_pic.specs.Parts.{Parts, aps_at, parts_of}
 use Rattle.vx_pic.specs.Written.{Plan, Set, a_pps, an_aps, an_sps}
 use Rattle.vx_pic.specs.Resident.{is_resident, sent_before}
-use Rattle.vx_extract.specs.Written.{IsExtracted, all_slots, aps_of_slot, is_named, needed_sets, same_slot, set_of_slot}
+use Rattle.vx_extract.specs.Written.{IsExtracted, all_slots, aps_of_slot, is_named, needed_sets, same_type_and_id, set_of_slot}
 use Rattle.vx_write.specs.Again.{SendsItsSets}
 use Rattle.vx_write.proofs.OwnSets.{HaveOwn, IsAmong, Others, has_set, others_joined, own_units}
 use Rattle.vx_extract.proofs.AgainSps.{sps_taken}
@@ -21,7 +21,7 @@ use Rattle.vx_extract.proofs.AgainSps.{sps_taken}
 
 abbrev none_same : Slot → List Slot → Bool
 none_same s [] = true
-none_same s (t ∷ slots) = not (same_slot s t) && none_same s slots
+none_same s (t ∷ slots) = not (same_type_and_id s t) && none_same s slots
 
 abbrev are_apart : List Slot → Bool
 are_apart [] = true
@@ -33,7 +33,7 @@ all_apart = refl
 fewer_same : (p : Slot → Bool) (s : Slot) (slots : List Slot) → none_same s slots ≡ true → none_same s (filter p slots) ≡ true
 fewer_same p s [] none = refl
 fewer_same p s (t ∷ slots) none =
-    let parts = and_parts (not (same_slot s t)) (none_same s slots) none in
+    let parts = and_parts (not (same_type_and_id s t)) (none_same s slots) none in
     elim (cases_Bool (p t)) [
       | inl on ↦ rw on (rw parts.0 (fewer_same p s slots parts.1))
       | inr off ↦ rw off (fewer_same p s slots parts.1)
@@ -68,16 +68,16 @@ no_pps q items [] = tt
 no_pps q items (s ∷ slots) = others_joined (a_pps items) (aps_of_slot q s) (flat_map (aps_of_slot q) slots) (other_pps q items s (aps_at q.bodies s.kind s.id)) (no_pps q items slots)
 
 -- and of another type and id
-other_aps : (s t : Slot) (body : List ℕ) (found : Option Aps) → same_slot s t ≡ false → Others (an_aps (record { kind = s.kind; id = s.id; body = body })) (set_of_slot t found)
+other_aps : (s t : Slot) (body : List ℕ) (found : Option Aps) → same_type_and_id s t ≡ false → Others (an_aps (record { kind = s.kind; id = s.id; body = body })) (set_of_slot t found)
 other_aps s t body None other = tt
 other_aps s t body (Some a) other = (other, tt)
 
 no_aps : (q : Parts) (s : Slot) (body : List ℕ) (slots : List Slot) → none_same s slots ≡ true → Others (an_aps (record { kind = s.kind; id = s.id; body = body })) (flat_map (aps_of_slot q) slots)
 no_aps q s body [] none = tt
 no_aps q s body (t ∷ slots) none =
-    let parts = and_parts (not (same_slot s t)) (none_same s slots) none in
+    let parts = and_parts (not (same_type_and_id s t)) (none_same s slots) none in
     others_joined (an_aps (record { kind = s.kind; id = s.id; body = body })) (aps_of_slot q t) (flat_map (aps_of_slot q) slots)
-    (other_aps s t body (aps_at q.bodies t.kind t.id) (not-true (same_slot s t) parts.0)) (no_aps q s body slots parts.1)
+    (other_aps s t body (aps_at q.bodies t.kind t.id) (not-true (same_type_and_id s t) parts.0)) (no_aps q s body slots parts.1)
 
 one_more : (q : Parts) (s : Slot) (found : Option Aps) (more : List Set) → ((body : List ℕ) → Others (an_aps (record { kind = s.kind; id = s.id; body = body })) more) → HaveOwn more → HaveOwn (set_of_slot s found ++ more)
 one_more q s None more others own = own

@@ -11,10 +11,10 @@ use Rattle.vx_layout.specs.declared.numbers.Numbers.{Numbers}
 use Rattle.vx_layout.specs.declared.rect.Rect.{Rect}
 use Rattle.vx_layout.specs.Bounds.{last}
 use Rattle.vx_layout.specs.Faults.{height, width}
-use Rattle.vx_layout.specs.Laws.{CutsNest, RegionKeepsSlices}
+use Rattle.vx_layout.specs.laws.Layouts.{CutsNest, RegionKeepsSlices}
 use Rattle.vx_layout.specs.Layouts.{HasLayout, no_rect, slice_at, slices_in, subpic_at}
 use Rattle.vx_layout.specs.Rects.{IsPart, fits}
-use Rattle.vx_layout.specs.Regions.{counted_from, cut, inner, region_of}
+use Rattle.vx_layout.specs.Regions.{counted_from, cut_bounds, inner, region_of}
 use Rattle.vx_layout.specs.Scan.{entries}
 use Rattle.vx_layout.proofs.Entries.{entries-empty, entries-is, rows_met}
 use Rattle.vx_layout.proofs.Holding.{fits_tells}
@@ -24,34 +24,34 @@ use Rattle.vx_sps.specs.Subpictures.{subpics_of}
 use Rattle.vx_sh.specs.Elsewhere.{AgreeAt, HaveSubpicture, SliceReadElsewhere, given}
 use Rattle.vx_sh.specs.InForce.{SliceScopesAreWhole, slice_scope}
 use Rattle.vx_sh.specs.Value.{NumbersAreTold}
-use Rattle.vx_sh.specs.Whole.{At, index_of, points_at, slices_at}
+use Rattle.vx_sh.specs.Whole.{At, index_of, points_at, num_slices_in_subpic}
 use Rattle.vx_pic.specs.Sets.{SliceHeader}
 use Rattle.vx_pic.specs.Parts.{Parts}
 use Rattle.vx_pic.specs.Rules.{Readers}
-use Rattle.vx_pic.specs.UnderSets.{header_of}
+use Rattle.vx_pic.specs.UnderSets.{picture_header_of}
 use Rattle.vx_pic.specs.UnderSets as under
 use Rattle.vx_pic.specs.PictureLayout.{ids_of}
 use Rattle.vx_pic.specs.H266.{AreOfH266, IsSlice, IsSliceAnswer}
 use Rattle.vx_pic.specs.H266Laws.{HaveOneAnswer}
 use Rattle.vx_pic.proofs.Ids.{ids_count}
-use Rattle.vx_extract.specs.Again.{AgreeForHeaders, MakeRegion, alone, begun_alone, begun_in}
+use Rattle.vx_extract.specs.Again.{AgreeForHeaders, MakeRegion, header_alone, begun_alone, begun_in}
 use Rattle.vx_extract.specs.Shapes.{id_in}
 use Rattle.vx_write.specs.InForce.{AreInForce}
 use Rattle.vx_write.proofs.Sizes.{subpics_count}
 
 -- ---- entry points
 
-pub cut_length : (bounds : List ℕ) (from size : ℕ) → length (cut bounds from size) ≡ length (inner bounds from size) + 2
+pub cut_length : (bounds : List ℕ) (from size : ℕ) → length (cut_bounds bounds from size) ≡ length (inner bounds from size) + 2
 cut_length bounds from size = omega (arith, length-append (map (λ b. b - from) (inner bounds from size)) (size ∷ []), length-map (inner bounds from size) (λ b. b - from))
 
 -- as many bounds pass through a rectangle of a region
-inner_same : CutsNest → (bounds : List ℕ) (from size at wide : ℕ) → from ≤ at → at + wide ≤ from + size → length (inner (cut bounds from size) (at - from) wide) ≡ length (inner bounds at wide)
+inner_same : CutsNest → (bounds : List ℕ) (from size at wide : ℕ) → from ≤ at → at + wide ≤ from + size → length (inner (cut_bounds bounds from size) (at - from) wide) ≡ length (inner bounds at wide)
 inner_same nest bounds from size at wide behind inside =
     let there : from + (at - from) ≡ at = omega (arith, behind) in
-    let same : cut (cut bounds from size) (at - from) wide ≡ cut bounds at wide = nest bounds from size (at - from) wide (omega (arith, behind, inside)) ∙ ap (λ n. cut bounds n wide) there in
-    omega (arith, cut_length (cut bounds from size) (at - from) wide, cut_length bounds at wide, ap (λ xs. length xs) same)
+    let same : cut_bounds (cut_bounds bounds from size) (at - from) wide ≡ cut_bounds bounds at wide = nest bounds from size (at - from) wide (omega (arith, behind, inside)) ∙ ap (λ n. cut_bounds bounds n wide) there in
+    omega (arith, cut_length (cut_bounds bounds from size) (at - from) wide, cut_length bounds at wide, ap (λ xs. length xs) same)
 
-rows_same : CutsNest → (sync : Bool) (bounds : List ℕ) (from size at wide : ℕ) → from ≤ at → at + wide ≤ from + size → rows_met sync (cut bounds from size) (at - from) wide ≡ rows_met sync bounds at wide
+rows_same : CutsNest → (sync : Bool) (bounds : List ℕ) (from size at wide : ℕ) → from ≤ at → at + wide ≤ from + size → rows_met sync (cut_bounds bounds from size) (at - from) wide ≡ rows_met sync bounds at wide
 unfolding rows_met
 rows_same nest true bounds from size at wide behind inside = refl
 rows_same nest false bounds from size at wide behind inside = ap (λ n. n + 1) (inner_same nest bounds from size at wide behind inside)
@@ -93,11 +93,11 @@ module _ (nest : CutsNest) (keeps : RegionKeepsSlices) (regions : (n : Numbers) 
             | inr high ↦
                 let some : 0 < r.w = omega (arith, wide) in
                 let tall : 0 < r.h = omega (arith, high) in
-                let w_is : last (cut n.columns s.x s.w) ≡ s.w = last-cut n.columns s.x s.w in
-                let h_is : last (cut n.rows s.y s.h) ≡ s.h = last-cut n.rows s.y s.h in
+                let w_is : last (cut_bounds n.columns s.x s.w) ≡ s.w = last-cut n.columns s.x s.w in
+                let h_is : last (cut_bounds n.rows s.y s.h) ≡ s.h = last-cut n.rows s.y s.h in
                 entries-is n.columns n.rows r sync layout.columns layout.rows some tall (omega (arith, inside, across)) (omega (arith, inside, down))
                 ∙ ap (λ c. (c + 1) * rows_met sync n.rows r.y r.h - 1) (sym (inner_same nest n.columns s.x s.w r.x r.w inside.0 inside.1))
-                ∙ ap (λ t. (length (inner (cut n.columns s.x s.w) (r.x - s.x) r.w) + 1) * t - 1) (sym (rows_same nest sync n.rows s.y s.h r.y r.h inside.2 inside.3))
+                ∙ ap (λ t. (length (inner (cut_bounds n.columns s.x s.w) (r.x - s.x) r.w) + 1) * t - 1) (sym (rows_same nest sync n.rows s.y s.h r.y r.h inside.2 inside.3))
                 ∙ sym (to_slice ∙ entries-is (region_of n k).columns (region_of n k).rows (counted_from s r) sync region.columns region.rows some tall
                 (omega (arith, inside, w_is)) (omega (arith, inside, h_is)))
           ]
@@ -133,7 +133,7 @@ module _ (nest : CutsNest) (keeps : RegionKeepsSlices) (regions : (n : Numbers) 
   there : target < length q.layout.subpics
   there = let count = subpics_count q are in omega (arith, within, count)
 
-  slices_same : slices_at q.layout target ≡ slices_at (region_of q.layout target) 0
+  slices_same : num_slices_in_subpic q.layout target ≡ num_slices_in_subpic (region_of q.layout target) 0
   slices_same =
       let here : nat_lt target (length q.layout.subpics) ≡ true = lt-ltb target (length q.layout.subpics) there in
       ap (λ b. cond b (length (slices_in q.layout target)) 0) here ∙ sym (count_same again q.layout target)
@@ -141,12 +141,12 @@ module _ (nest : CutsNest) (keeps : RegionKeepsSlices) (regions : (n : Numbers) 
   points_at_same : (has_points sync : Bool) (address : ℕ) → points_at q.layout has_points sync target address ≡ points_at (region_of q.layout target) has_points sync 0 address
   unfolding points_at
   points_at_same has_points sync address =
-      choose_same has_points (nat_lt address (slices_at q.layout target)) (nat_lt address (slices_at (region_of q.layout target) 0))
+      choose_same has_points (nat_lt address (num_slices_in_subpic q.layout target)) (nat_lt address (num_slices_in_subpic (region_of q.layout target) 0))
       (entries q.layout.columns q.layout.rows (slice_at q.layout target address) sync)
       (entries (region_of q.layout target).columns (region_of q.layout target).rows (slice_at (region_of q.layout target) 0 address) sync)
       (ap (λ n. nat_lt address n) slices_same)
       (λ low.
-      let short : address < slices_at (region_of q.layout target) 0 = let less = ltb-true address (slices_at q.layout target) low in subst (λ n. address < n) slices_same less in
+      let short : address < num_slices_in_subpic (region_of q.layout target) 0 = let less = ltb-true address (num_slices_in_subpic q.layout target) low in subst (λ n. address < n) slices_same less in
       let count = count_same again q.layout target in
       points_same nest keeps regions q.layout target address sync are.layout there (omega (arith, short, count)))
 
@@ -165,38 +165,38 @@ module _ (nest : CutsNest) (keeps : RegionKeepsSlices) (regions : (n : Numbers) 
     index_there : index_of id (ids_of q.sps q.pps) ≡ target
     index_there = ap (λ xs. index_of id xs) (sym are.ids) ∙ index
 
-    subpicture : HaveSubpicture (under.slice_at nal_type (begun_in q)) (under.slice_at nal_type (begun_alone target q s p)) id
+    subpicture : HaveSubpicture (under.at_slice_of nal_type (begun_in q)) (under.at_slice_of nal_type (begun_alone target q s p)) id
     subpicture = record {
       known = let count = ap (λ xs. length xs) make.ids in omega (arith, first, count);
-      slices = ap (λ k. slices_at q.layout k) index_there ∙ slices_same ∙ ap (λ k. slices_at (region_of q.layout target) k) (sym first);
+      slices = ap (λ k. num_slices_in_subpic q.layout k) index_there ∙ slices_same ∙ ap (λ k. num_slices_in_subpic (region_of q.layout target) k) (sym first);
       points = λ has_points sync address. ap (λ k. points_at q.layout has_points sync k address) index_there ∙ points_at_same has_points sync address
           ∙ ap (λ k. points_at (region_of q.layout target) has_points sync k address) (sym first);
     }
 
-    headers_same : header_of (begun_in q) ≡ header_of (begun_alone target q s p)
+    headers_same : picture_header_of (begun_in q) ≡ picture_header_of (begun_alone target q s p)
     headers_same = ap (λ l. record { fields = q.header.fields; lists = l }) (sym (agree.lists q.header.fields))
 
-    agree_at : AgreeAt (under.slice_at nal_type (begun_in q)) (under.slice_at nal_type (begun_alone target q s p)) id
+    agree_at : AgreeAt (under.at_slice_of nal_type (begun_in q)) (under.at_slice_of nal_type (begun_alone target q s p)) id
     agree_at = record {
       table = sym agree.same_structures;
       sets = agree.sets;
-      slice = subst (λ h. Agree (set_of given) (slice_scope nal_type q.sps q.pps (header_of (begun_in q)) (in_force q.sps q.pps)) (slice_scope nal_type s p h (in_force s p))) headers_same
-          (agree.slices nal_type (header_of (begun_in q)));
+      slice = subst (λ h. Agree (set_of given) (slice_scope nal_type q.sps q.pps (picture_header_of (begun_in q)) (in_force q.sps q.pps)) (slice_scope nal_type s p h (in_force s p))) headers_same
+          (agree.slices nal_type (picture_header_of (begun_in q)));
       subpic = subpicture;
     }
 
   -- ---- a slice
 
   module _ (elsewhere : SliceReadElsewhere) (scopes : SliceScopesAreWhole) (told : NumbersAreTold) (nal_type : ℕ) (unit : List ℕ) (h : SliceHeader) where
-    slice_moved : h.subpic ≡ target → IsSlice nal_type (begun_in q) unit h → IsSlice nal_type (begun_alone target q s p) unit (alone h)
+    slice_moved : h.subpic ≡ target → IsSlice nal_type (begun_in q) unit h → IsSlice nal_type (begun_alone target q s p) unit (header_alone h)
     slice_moved mine is =
-        let n : At = under.slice_at nal_type (begun_in q) in
-        let size : length n.slice ≡ 1024 = scopes nal_type q.sps q.pps (header_of (begun_in q)) in
+        let n : At = under.at_slice_of nal_type (begun_in q) in
+        let size : length n.slice ≡ 1024 = scopes nal_type q.sps q.pps (picture_header_of (begun_in q)) in
         let numbers = told n is.value.fields is.begins.inside is.begins.fields size in
         let id : ℕ = number is.value.fields sh_subpic_id in
         let at : index_of id (ids_of q.sps q.pps) ≡ target = sym numbers.subpic ∙ sym is.begins.numbers.subpic ∙ sym is.subpic ∙ mine in
         let index : index_of id q.ids ≡ target = ap (λ xs. index_of id xs) are.ids ∙ at in
-        let moved = elsewhere n (under.slice_at nal_type (begun_alone target q s p)) _ is.value is.size size (agree_at nal_type id index) is.begins in
+        let moved = elsewhere n (under.at_slice_of nal_type (begun_alone target q s p)) _ is.value is.size size (agree_at nal_type id index) is.begins in
         record {
           value = moved.0;
           size = is.size;
@@ -206,7 +206,7 @@ module _ (nest : CutsNest) (keeps : RegionKeepsSlices) (regions : (n : Numbers) 
           payload = is.payload;
         }
 
-    pub slice_read : HaveOneAnswer → (R : Readers) → AreOfH266 R → h.subpic ≡ target → R.slice nal_type (begun_in q) unit ≡ Ok h → R.slice nal_type (begun_alone target q s p) unit ≡ Ok (alone h)
+    pub slice_read : HaveOneAnswer → (R : Readers) → AreOfH266 R → h.subpic ≡ target → R.slice nal_type (begun_in q) unit ≡ Ok h → R.slice nal_type (begun_alone target q s p) unit ≡ Ok (header_alone h)
     slice_read unique R of mine reads =
         let old : IsSliceAnswer nal_type (begun_in q) unit (Ok h) = subst (λ x. IsSliceAnswer nal_type (begun_in q) unit x) reads (of.slice nal_type (begun_in q) unit) in
-        unique.slice nal_type (begun_alone target q s p) unit (R.slice nal_type (begun_alone target q s p) unit) (Ok (alone h)) (of.slice nal_type (begun_alone target q s p) unit) (slice_moved mine old)
+        unique.slice nal_type (begun_alone target q s p) unit (R.slice nal_type (begun_alone target q s p) unit) (Ok (header_alone h)) (of.slice nal_type (begun_alone target q s p) unit) (slice_moved mine old)

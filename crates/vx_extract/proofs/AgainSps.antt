@@ -9,8 +9,8 @@ use Rattle.vx_table.proofs.Loading.{number_of_shown}
 use Rattle.vx_sps.specs.declared.shape.SubpicPlan.{SubpicPlan}
 use Rattle.vx_sps.specs.declared.shape.SubpicPlan.TheVariants.{Absent, One}
 use Rattle.vx_sps.specs.declared.tables.TheConstants.{TAKEN}
-use Rattle.vx_sps.specs.Reshaped.{IsReshaped}
-use Rattle.vx_sps.specs.Reread.{Signals, count_in, id_len_in}
+use Rattle.vx_sps.specs.Reshaped.{IsReshapedSps}
+use Rattle.vx_sps.specs.laws.Reread.{Signals, count_in, id_len_in}
 use Rattle.vx_sps.proofs.Signals.{reshaped_signals}
 use Rattle.vx_pic.specs.Parts.{Parts}
 use Rattle.vx_pic.specs.Sets.{sps_id}
@@ -35,7 +35,7 @@ pub alone_count : (plan : SubpicPlan) → IsAlone plan → count_in plan ≡ 1
 alone_count _ not_described = refl
 alone_count _ (described id_len id) = refl
 
-module _ (q : Parts) (target : ℕ) (level : Option ℕ) (items : List Item) (re : IsReshaped q.sps (sps_shape q target level) items) where
+module _ (q : Parts) (target : ℕ) (level : Option ℕ) (items : List Item) (re : IsReshapedSps q.sps (sps_shape q target level) items) where
   -- a field that is taken over
   pub sps_taken : (of : ℕ) → IsTrue (has (set_of TAKEN) of) → number items of ≡ number q.sps of
   sps_taken of is = number_of_shown (set_of TAKEN) of items is ∙ ap (λ xs. number xs of) re.shown_ones ∙ sym (number_of_shown (set_of TAKEN) of q.sps is)

@@ -19,10 +19,10 @@ use Rattle.vx_pic.specs.Sets.{SliceHeader, is_qp, signed, slice_qp}
 use Rattle.vx_pic.specs.Readings.{Begun, Picture, Slice, is_whole}
 use Rattle.vx_pic.specs.Parts.{SlicePart, parts_of, slice_part}
 use Rattle.vx_pic.specs.Rules.{Readers}
-use Rattle.vx_pic.specs.Finished.{IsSound}
-use Rattle.vx_pic.specs.Written.{HeadReads, HeaderReads, Plan, SliceReads, slices_of}
+use Rattle.vx_pic.specs.Finished.{IsSoundPicture}
+use Rattle.vx_pic.specs.Written.{HeadReads, HeaderReads, Plan, SliceReads, planned_slices}
 use Rattle.vx_extract.specs.Written.{IsExtracted, slice_alone}
-use Rattle.vx_extract.specs.Again.{AreRewritten, KeepIds, MakeRegion, ReadUnder, alone, begun_alone, begun_in}
+use Rattle.vx_extract.specs.Again.{AreRewritten, KeepIds, MakeRegion, ReadUnder, header_alone, begun_alone, begun_in}
 use Rattle.vx_write.specs.Again.{UnitsAreRead}
 use Rattle.vx_write.specs.InForce.{AreInForce}
 use Rattle.vx_extract.proofs.AgainAgree.{pps_taken, pps_with}
@@ -31,7 +31,7 @@ use Rattle.vx_extract.proofs.AgainSps.{sps_taken}
 -- ---- slices of the subpicture
 
 abbrev pub short : Slice → Slice
-short s = record { unit = s.unit; header = alone s.header }
+short s = record { unit = s.unit; header = header_alone s.header }
 
 abbrev pub those_of : ℕ → List Slice → List Slice
 those_of target slices = map short (filter (λ (s : Slice). s.header.subpic == target) slices)
@@ -94,7 +94,7 @@ same_signed of items others same =
 
 -- that of a slice is told by what is taken over
 module _ (target : ℕ) (level : Option ℕ) (pic : Picture) (done : List Plan) (p : Plan) (are : AreInForce (parts_of pic)) (ex : IsExtracted target level (parts_of pic) done p) where
-  pub qp_same : (h : SliceHeader) → slice_qp p.begun.pps p.begun.header (alone h) ≡ slice_qp pic.begun.pps pic.begun.header h
+  pub qp_same : (h : SliceHeader) → slice_qp p.begun.pps p.begun.header (header_alone h) ≡ slice_qp pic.begun.pps pic.begun.header h
   unfolding slice_qp fresh
   qp_same h =
       let re : AreRewritten target level (parts_of pic) p.begun.sps p.begun.pps = record { of_sps = ex.sps; of_pps = ex.pps } in
@@ -104,7 +104,7 @@ module _ (target : ℕ) (level : Option ℕ) (pic : Picture) (done : List Plan) 
       sym (pps_taken target level (parts_of pic) p.begun.sps p.begun.pps are re pps_fields.pps_qp_delta_info_in_ph_flag refl) in
       rw (init, flag, ex.header) refl
 
-module _ (R : Readers) (target : ℕ) (level : Option ℕ) (earlier : List Picture) (pic : Picture) (done : List Plan) (p : Plan) (sound : IsSound R earlier pic) (whole : is_whole pic ≡ true) (are : AreInForce (parts_of pic))
+module _ (R : Readers) (target : ℕ) (level : Option ℕ) (earlier : List Picture) (pic : Picture) (done : List Plan) (p : Plan) (sound : IsSoundPicture R earlier pic) (whole : is_whole pic ≡ true) (are : AreInForce (parts_of pic))
     (ex : IsExtracted target level (parts_of pic) done p) (make : MakeRegion target (parts_of pic) p.begun.sps p.begun.pps) (keep : KeepIds (parts_of pic) p.begun.sps p.begun.pps) (under : ReadUnder R target (parts_of pic) p.begun.sps p.begun.pps) where
   old_begun : begun_in (parts_of pic) ≡ pic.begun
   old_begun = ap (λ t. record { sps = pic.begun.sps; pps = pic.begun.pps; layout = pic.begun.layout; header = pic.begun.header; temporal_id = t; unit = pic.begun.unit }) sound.tid
@@ -119,12 +119,12 @@ module _ (R : Readers) (target : ℕ) (level : Option ℕ) (earlier : List Pictu
   tid_same : pic.begun.temporal_id ≡ p.begun.temporal_id
   tid_same = sym sound.tid ∙ sym ex.temporal_id
 
-  pub slices_are : slices_of p ≡ those_of target pic.slices
+  pub slices_are : planned_slices p ≡ those_of target pic.slices
   slices_are = ex.slices ∙ slices_shown pic.begun target pic.slices
 
   -- ---- slices
 
-  qp_fits : (h : SliceHeader) → is_qp pic.begun.sps (slice_qp pic.begun.pps pic.begun.header h) ≡ true → is_qp p.begun.sps (slice_qp p.begun.pps p.begun.header (alone h)) ≡ true
+  qp_fits : (h : SliceHeader) → is_qp pic.begun.sps (slice_qp pic.begun.pps pic.begun.header h) ≡ true → is_qp p.begun.sps (slice_qp p.begun.pps p.begun.header (header_alone h)) ≡ true
   unfolding is_qp fresh
   qp_fits h fits_in =
       let bits : number p.begun.sps sps_fields.sps_bitdepth_minus8 ≡ number pic.begun.sps sps_fields.sps_bitdepth_minus8 = sps_taken (parts_of pic) target level p.begun.sps ex.sps sps_fields.sps_bitdepth_minus8 refl in
@@ -142,7 +142,7 @@ module _ (R : Readers) (target : ℕ) (level : Option ℕ) (earlier : List Pictu
     payload = reads.payload;
   }
 
-  slices_again : AllByRecursion (SliceReads R p.begun p.kind.nal_type) (slices_of p)
+  slices_again : AllByRecursion (SliceReads R p.begun p.kind.nal_type) (planned_slices p)
   slices_again = subst (λ xs. AllByRecursion (SliceReads R p.begun p.kind.nal_type) xs) (sym slices_are) (each_of (SliceReads R pic.begun pic.kind.nal_type) (SliceReads R p.begun p.kind.nal_type) target slice_again pic.slices sound.each)
 
   -- ---- the header
@@ -159,7 +159,7 @@ module _ (R : Readers) (target : ℕ) (level : Option ℕ) (earlier : List Pictu
   abbrev IsOutside : Slice → Type 0
   IsOutside s = has_header_inside s.unit ≡ false
 
-  apart : AllByRecursion IsOutside pic.slices → AllByRecursion IsOutside (slices_of p)
+  apart : AllByRecursion IsOutside pic.slices → AllByRecursion IsOutside (planned_slices p)
   apart all = subst (λ xs. AllByRecursion IsOutside xs) (sym slices_are) (each_of IsOutside IsOutside target (λ s mine is. is) pic.slices all)
 
   -- where it stands inside, the slice is the only one

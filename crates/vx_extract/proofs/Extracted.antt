@@ -14,8 +14,8 @@ use Rattle.vx_write.specs.declared.fault.WriteError.{WriteError}
 use Rattle.vx_write.specs.declared.fault.WriteError.TheVariants as errors
 use Rattle.vx_write.specs.declared.fault.WriteFirst.{WriteFirst}
 use Rattle.vx_extract.specs.Rules.{is_kept, refusal_of}
-use Rattle.vx_extract.specs.Written.{slices_in, IsExtracted}
-use Rattle.vx_extract.specs.Extracting.{Extracting, HasSlice, WritesKept, Writes}
+use Rattle.vx_extract.specs.Written.{extracted_slices, IsExtracted}
+use Rattle.vx_extract.specs.Extracting.{Extracting, HasSlice, WritesKept, WritesPicture}
 use Rattle.vx_write.specs.Slots.{Sent, AreLastOf}
 use Rattle.vx_write.specs.Sending.{unsent}
 use Rattle.vx_extract.specs.inner.Sending.{IsMade}
@@ -40,7 +40,7 @@ record IsPlan (target : ℕ) (level : Option ℕ) (q : Parts) (done : List Plan)
   last : AreLastOf (history_of (plan ∷ done)) slots
 
 plan_of : (target : ℕ) (level : Option ℕ) (q : Parts) (done : List Plan) (sets : List (List ℕ)) (sei : Option (List ℕ)) (slots : List Sent)
-    → IsMade target level q done sets sei slots → (first : Slice) (more : List Slice) → slices_in q target ≡ first ∷ more
+    → IsMade target level q done sets sei slots → (first : Slice) (more : List Slice) → extracted_slices q target ≡ first ∷ more
     → IsPlan target level q done sets sei slots
 plan_of target level q done sets sei slots made first more are =
     let before = kept_for q.kind.nal_type (history_of done) in
@@ -80,9 +80,9 @@ plan_of target level q done sets sei slots made first more are =
 
 planned : (target : ℕ) (level : Option ℕ) (q : Parts) (done : List Plan) (sets : List (List ℕ)) (sei : Option (List ℕ)) (slots : List Sent)
     → IsMade target level q done sets sei slots → HasSlice target q → IsPlan target level q done sets sei slots
-planned target level q done sets sei slots made has = by (slices_in q target) refl has
+planned target level q done sets sei slots made has = by (extracted_slices q target) refl has
   where
-    by : (ss : List Slice) → slices_in q target ≡ ss → 0 < length ss → IsPlan target level q done sets sei slots
+    by : (ss : List Slice) → extracted_slices q target ≡ ss → 0 < length ss → IsPlan target level q done sets sei slots
     by [] are some = absurd (omega arith)
     by (first ∷ more) are some = plan_of target level q done sets sei slots made first more are
 
@@ -90,7 +90,7 @@ planned target level q done sets sei slots made has = by (slices_in q target) re
 pub writes_all : (target : ℕ) (level : Option ℕ) (tid : ℕ) (q : Parts) (done : List Plan) (sets : List (List ℕ)) (sei : Option (List ℕ)) (slots : List Sent)
     (a b : Option (List ℕ)) (k l : ℕ) → None ≡ refusal_of target tid q → true ≡ is_kept tid q
     → IsMade target level q done sets sei slots → Takes a b k l (units_with q target sets sei) (Ok tt)
-    → Writes q done (asked target level tid slots None) a b k l (Ok tt)
+    → WritesPicture q done (asked target level tid slots None) a b k l (Ok tt)
 writes_all target level tid q done sets sei slots a b k l sound kept made took =
     let P : Bool → Type 0 = λ t. WritesKept t q done (asked target level tid slots None) a b in
     let answer : P true = λ has.
@@ -102,7 +102,7 @@ writes_all target level tid q done sets sei slots a b k l sound kept made took =
 pub writes_front : (target : ℕ) (level : Option ℕ) (tid : ℕ) (q : Parts) (done : List Plan) (sets : List (List ℕ)) (sei : Option (List ℕ)) (slots : List Sent)
     (a b : Option (List ℕ)) (k l : ℕ) (e : SinkFailed) → None ≡ refusal_of target tid q → true ≡ is_kept tid q
     → IsMade target level q done sets sei slots → Takes a b k l (units_with q target sets sei) (Err e)
-    → Writes q done (asked target level tid slots None) a b k l (Err errors.SinkFailed)
+    → WritesPicture q done (asked target level tid slots None) a b k l (Err errors.SinkFailed)
 writes_front target level tid q done sets sei slots a b k l e sound kept made took = (
   sym sound,
   sym kept,
@@ -115,7 +115,7 @@ writes_front target level tid q done sets sei slots a b k l e sound kept made to
 -- it is left out
 pub writes_none : {A : Type 0} (bytes : A → Option (List ℕ)) (faults : A → ℕ) (x y : A) (target : ℕ) (level : Option ℕ) (tid : ℕ) (q : Parts) (done : List Plan)
     (slots : List Sent) → y ≡ x → None ≡ refusal_of target tid q → false ≡ is_kept tid q → AreLastOf (history_of done) slots
-    → Writes q done (asked target level tid slots None) (bytes x) (bytes y) (faults x) (faults y) (Ok tt)
+    → WritesPicture q done (asked target level tid slots None) (bytes x) (bytes y) (faults x) (faults y) (Ok tt)
 writes_none bytes faults x y target level tid q done slots same sound left last =
     let P : Bool → Type 0 = λ t. WritesKept t q done (asked target level tid slots None) (bytes x) (bytes y) in
     let answer : P false = (ap bytes same, record { slots = last; going = refl }) in
@@ -123,7 +123,7 @@ writes_none bytes faults x y target level tid q done slots same sound left last 
 
 -- after an error what was sent doesn't matter
 pub writes_stopped : (q : Parts) (done : List Plan) (x y : Extracting) (a b : Option (List ℕ)) (k l : ℕ) (e : WriteError)
-    → y.target ≡ x.target → y.level ≡ x.level → y.tid ≡ x.tid → Writes q done x a b k l (Err e) → Writes q done y a b k l (Err e)
+    → y.target ≡ x.target → y.level ≡ x.level → y.tid ≡ x.tid → WritesPicture q done x a b k l (Err e) → WritesPicture q done y a b k l (Err e)
 writes_stopped q done x y a b k l errors.Memory target level tid is = rw (target, tid) is
 writes_stopped q done x y a b k l errors.SinkFailed target level tid is = rw (target, level, tid) is
 writes_stopped q done x y a b k l (errors.Refused r) target level tid is = rw (target, tid) is

@@ -8,7 +8,7 @@ use Rattle.vx_pic.specs.Readings.{Picture, Reading, stored_aps}
 use Rattle.vx_pic.specs.Parts.{aps_at, id_count, parts_of, stored_sets}
 use Rattle.vx_pic.specs.Inputs.{body_of}
 use Rattle.vx_pic.specs.Written.{Plan, Set, SetUnit, planned}
-use Rattle.vx_pic.specs.Resident.{HasSet, IsBodyOf, NeededIsBody, read_of}
+use Rattle.vx_pic.specs.Resident.{HasSet, IsBodyOf, NeededIsBody, readings_of_plans}
 use Rattle.vx_extract.specs.Written.{IsExtracted, named_in}
 use Rattle.vx_extract.specs.Again.{ExtractedSendsItsSets, IsReady}
 use Rattle.vx_extract.proofs.AgainBodies.{Has, body_needed, set_at, there_of}
@@ -56,7 +56,7 @@ each_named P (s ∷ slots) each = (each s (inl refl), each_named P slots (λ t i
 
 module _ (needs : NeededIsBody) (sends : ExtractedSendsItsSets) (target : ℕ) (level : Option ℕ) (pic : Picture) (done : List Plan) (p : Plan) (ready : IsReady target pic) (ex : IsExtracted target level (parts_of pic) done p) where
   abbrev again : Picture
-  again = planned (read_of done) p
+  again = planned (readings_of_plans done) p
 
   all_bodies : AllByRecursion (λ (x : SetUnit). IsBodyOf again x.set) ex.needed
   all_bodies =

@@ -18,13 +18,13 @@ use Rattle.vx_pic.specs.declared.kind.Kind.{Kind}
 use Rattle.vx_pic.specs.declared.place.Place.{Place}
 use Rattle.vx_pic.specs.Sets.{Slot, address_of, filter_items, named, named_filters, names_of, slice_qp}
 use Rattle.vx_pic.specs.Readings.{Picture, Slice}
-use Rattle.vx_pic.specs.Parts.{Parts, SlicePart, named_by, parts_of, slice_header_of, slice_part}
+use Rattle.vx_pic.specs.Parts.{Parts, SlicePart, aps_named_by, parts_of, slice_header_of, slice_part}
 use Rattle.vx_pic.specs.Parts as parts
 use Rattle.vx_pic.specs.Inputs.{Alf, Input, alf_of, bodies_of, body_of, header_fields, input_of, inputs_of, is_used, lists_in_force, lmcs_of, named_body, place_in, scaling_of}
 use Rattle.vx_pic.specs.Written.{Plan, planned}
-use Rattle.vx_pic.specs.Resident.{read_of}
+use Rattle.vx_pic.specs.Resident.{readings_of_plans}
 use Rattle.vx_extract.specs.Written.{IsExtracted, named_in}
-use Rattle.vx_extract.specs.Again.{AgreeForHeaders, AreRewritten, IsReady, KeepFields, RewrittenAgree, RewrittenKeepFields, alone}
+use Rattle.vx_extract.specs.Again.{AgreeForHeaders, AreRewritten, IsReady, KeepFields, RewrittenAgree, RewrittenKeepFields, header_alone}
 use Rattle.vx_extract.specs.Kept.{ExtractedKeepsBodies, RewrittenKeepPlaces}
 use Rattle.vx_write.specs.InForce.{AreInForce}
 use Rattle.vx_extract.proofs.AgainAgree.{pps_taken}
@@ -123,7 +123,7 @@ module _ (agrees : RewrittenAgree) (keeps : RewrittenKeepFields) (bodies : Extra
   q = parts_of pic
 
   abbrev again : Picture
-  again = planned (read_of done) p
+  again = planned (readings_of_plans done) p
 
   abbrev r : Parts
   r = parts_of again
@@ -161,12 +161,12 @@ module _ (agrees : RewrittenAgree) (keeps : RewrittenKeepFields) (bodies : Extra
   header_lists : r.header.lists ≡ q.header.lists
   header_lists = ap (λ h. lists_of (structures p.begun.sps) (in_force p.begun.sps p.begun.pps) h) ex.header ∙ agree.lists pic.begun.header
 
-  module _ (s : Slice) (mine : s.header.subpic ≡ target) (named_here : Alike r q (named_by q.pps q.header.fields (slice_header_of pic.begun s.header))) where
+  module _ (s : Slice) (mine : s.header.subpic ≡ target) (named_here : Alike r q (aps_named_by q.pps q.header.fields (slice_header_of pic.begun s.header))) where
     abbrev old : SliceValue
     old = slice_header_of pic.begun s.header
 
     abbrev new : SliceValue
-    new = slice_header_of p.begun (alone s.header)
+    new = slice_header_of p.begun (header_alone s.header)
 
     same_filters : filter_items r.pps r.header.fields (parts.read_of new) ≡ filter_items q.pps q.header.fields (parts.read_of old)
     same_filters =
@@ -232,14 +232,14 @@ module _ (agrees : RewrittenAgree) (keeps : RewrittenKeepFields) (bodies : Extra
     })
 
   abbrev names_all : List SlicePart → List Slot
-  names_all slices = flat_map (λ (s : SlicePart). named_by q.pps q.header.fields s.header) slices
+  names_all slices = flat_map (λ (s : SlicePart). aps_named_by q.pps q.header.fields s.header) slices
 
   each_input : (slices : List Slice) → Alike r q (names_all (filter (λ (s : SlicePart). s.header.subpic == target) (map (slice_part pic.begun) slices)))
       → map (input_of again) (filter (λ (s : Slice). s.header.subpic == 0) (those_of target slices)) ≡ map (input_of pic) (filter (λ (s : Slice). s.header.subpic == target) slices)
   each_input [] all = refl
   each_input (s ∷ slices) all = elim (cases_Bool (s.header.subpic == target)) [
     | inl on ↦
-        let here : Alike r q (named_by q.pps q.header.fields (slice_header_of pic.begun s.header) ++ names_all (filter (λ (t : SlicePart). t.header.subpic == target) (map (slice_part pic.begun) slices))) = rw on at all in
+        let here : Alike r q (aps_named_by q.pps q.header.fields (slice_header_of pic.begun s.header) ++ names_all (filter (λ (t : SlicePart). t.header.subpic == target) (map (slice_part pic.begun) slices))) = rw on at all in
         let one = one_input s (eqb-true s.header.subpic target on) (front_alike r q _ _ here) in
         let more = each_input slices (rest_alike r q _ _ here) in
         rw on (ap (λ i. i ∷ map (input_of again) (filter (λ (t : Slice). t.header.subpic == 0) (those_of target slices))) one ∙ ap (λ is. input_of pic s ∷ is) more)

@@ -9,16 +9,16 @@ use Rattle.vx_table.specs.Loaded.{number}
 use Rattle.vx_table.specs.Scope.{is_set, one_if}
 use Rattle.vx_layout.specs.declared.numbers.Numbers.{Numbers}
 use Rattle.vx_layout.specs.declared.rect.Rect.{Rect}
-use Rattle.vx_layout.specs.Laws.{RegionIsListable}
+use Rattle.vx_layout.specs.laws.Layouts.{RegionIsListable}
 use Rattle.vx_layout.specs.Layouts.{HasLayout, subpic_at}
 use Rattle.vx_layout.specs.Rects.{whole_picture}
 use Rattle.vx_layout.specs.Regions.{region_of}
 use Rattle.vx_sps.specs.Set.{ctb_size_of}
 use Rattle.vx_sps.specs.Subpictures.{rect_of, subpics_of}
-use Rattle.vx_sps.specs.Reread.{ReshapedSays}
+use Rattle.vx_sps.specs.laws.Reread.{ReshapedSays}
 use Rattle.vx_pps.specs.Pps as pps
-use Rattle.vx_pps.specs.Reshaped.{IsShape, ReshapedHasItsTiles, Tells}
-use Rattle.vx_pps.specs.Sets.{ReadSlicesAreListable, SetsTellPartitions}
+use Rattle.vx_pps.specs.Reshaped.{IsShape, ReshapedHasItsTiles, TellsPpsShape}
+use Rattle.vx_pps.specs.laws.Sets.{ReadSlicesAreListable, SetsTellPartitions}
 use Rattle.vx_pps.proofs.Telling.{reshaped_tells}
 use Rattle.vx_pic.specs.declared.place.Place.{Place}
 use Rattle.vx_pic.specs.Inputs.{has_several_slices, has_several_tiles, luma_size, place_in}
@@ -82,7 +82,7 @@ module _ (tells : SetsTellPartitions) (reads : ReadSlicesAreListable) (listables
   fits_in : IsShape q.pps (pps_shape q target)
   fits_in = pps_fits tells reads listables regions says tiles target level q s p are within re
 
-  told_set : Tells q.pps (pps_shape q target) p
+  told_set : TellsPpsShape q.pps (pps_shape q target) p
   told_set = reshaped_tells q.pps p (pps_shape q target) are.pps fits_in re.of_pps
 
   its_rect : rect_of s 0 ≡ whole_picture rect.w rect.h

@@ -21,9 +21,9 @@ use Rattle.vx_aps.specs.declared.aps.Aps.{Aps}
 use Rattle.vx_aps.specs.declared.aps.TheConstants as aps
 use Rattle.vx_sh.specs.declared.header.SliceHeader.{SliceHeader}
 use Rattle.vx_pic.specs.Sets.{Slot, named, named_filters, names_of}
-use Rattle.vx_pic.specs.Parts.{Parts, SlicePart, AreThere, aps_at, id_count, slot_of, named_by}
+use Rattle.vx_pic.specs.Parts.{Parts, SlicePart, AreThere, aps_at, id_count, slot_of, aps_named_by}
 use Rattle.vx_pic.specs.Written.{an_aps}
-use Rattle.vx_extract.specs.Written.{same_slot, aps_of_slot, all_slots, parts_in, named_in, is_named}
+use Rattle.vx_extract.specs.Written.{same_type_and_id, aps_of_slot, all_slots, parts_in, named_in, is_named}
 use Rattle.vx_extract.specs.inner.Needed.{slot_count, slot_at, NamesOf, needed_to, marked, all_marked, own_names, header_filters, header_names, parts_to, some_part, WalkedTo}
 
 -- ---- marks, item by item
@@ -122,7 +122,7 @@ header_marked old a b new p items first second third =
     ∙ sym (marked_behind old filters (lmcs ++ scaling))
 
 one_slice : (p : Slot → Bool) (set header : List Item) (h : SliceHeader)
-    → list_any p (named_by set header h) ≡ (list_any p (own_names set h.fields) || list_any p (header_names set header))
+    → list_any p (aps_named_by set header h) ≡ (list_any p (own_names set h.fields) || list_any p (header_names set header))
 unfolding own_names header_filters header_names names_of
 one_slice p set header h =
     let rest = named aps.LMCS ph.ph_lmcs_aps_id header ++ named aps.SCALING ph.ph_scaling_list_aps_id header in
@@ -155,11 +155,11 @@ one_behind : (f : SlicePart → List Slot) (parts : List SlicePart) (s : SlicePa
 one_behind f parts s = flat_map-append f parts (s ∷ []) ∙ ap (λ x. flat_map f parts ++ x) (append-nil (f s))
 
 pub walk_on : (q : Parts) (target : ℕ) (none flags new : List Bool) (found : Bool) (i : ℕ) (s : SlicePart) → slice_get q.slices i ≡ Some s → s.header.subpic ≡ target
-    → WalkedTo q target none flags found i → new ≡ all_marked flags (own_names q.pps s.header.fields) → AreThere q.bodies (named_by q.pps q.header.fields s.header)
+    → WalkedTo q target none flags found i → new ≡ all_marked flags (own_names q.pps s.header.fields) → AreThere q.bodies (aps_named_by q.pps q.header.fields s.header)
     → WalkedTo q target none new true (i + 1)
 walk_on q target none flags new found i s at is far gains there =
     let own : SlicePart → List Slot = λ x. own_names q.pps x.header.fields in
-    let all : SlicePart → List Slot = λ x. named_by q.pps q.header.fields x.header in
+    let all : SlicePart → List Slot = λ x. aps_named_by q.pps q.header.fields x.header in
     let parts : List SlicePart = parts_to q target i in
     let more : parts_to q target (i + 1) ≡ parts ++ s ∷ []
     = parts_more q target i s at ∙ ap (λ b. parts ++ cond b (s ∷ []) []) (eq-eqb s.header.subpic target is) in
@@ -174,7 +174,7 @@ pub walk_off : (q : Parts) (target : ℕ) (none flags : List Bool) (found : Bool
     → WalkedTo q target none flags found i → WalkedTo q target none flags found (i + 1)
 walk_off q target none flags found i s at other far =
     let own : SlicePart → List Slot = λ x. own_names q.pps x.header.fields in
-    let all : SlicePart → List Slot = λ x. named_by q.pps q.header.fields x.header in
+    let all : SlicePart → List Slot = λ x. aps_named_by q.pps q.header.fields x.header in
     let parts : List SlicePart = parts_to q target i in
     let same : parts_to q target (i + 1) ≡ parts
     = parts_more q target i s at ∙ ap (λ b. parts ++ cond b (s ∷ []) []) (ne_eqb s.header.subpic target other) ∙ append-nil parts in
@@ -187,7 +187,7 @@ walk_off q target none flags found i s at other far =
 -- ---- flags
 
 -- a set with the type and id of a place
-same_tells : (i : ℕ) (s : Slot) → same_slot (slot_at i) s ≡ true → (i / id_count ≡ s.kind) × (i % id_count ≡ s.id)
+same_tells : (i : ℕ) (s : Slot) → same_type_and_id (slot_at i) s ≡ true → (i / id_count ≡ s.kind) × (i % id_count ≡ s.id)
 same_tells i s same =
     let parts = and_parts (i / id_count == s.kind) (i % id_count == s.id) same in
     (eqb-true (i / id_count) s.kind parts.0, eqb-true (i % id_count) s.id parts.1)
@@ -201,7 +201,7 @@ marked_here flags s i size within kind id =
     let place : slot_of s.kind s.id ≡ i = omega arith in
     rw (type, known, place) (get_or-set_same flags i true false (omega arith))
 
-marked_elsewhere : (flags : List Bool) (s : Slot) (i : ℕ) → same_slot (slot_at i) s ≡ false → get_or (marked flags s) i false ≡ get_or flags i false
+marked_elsewhere : (flags : List Bool) (s : Slot) (i : ℕ) → same_type_and_id (slot_at i) s ≡ false → get_or (marked flags s) i false ≡ get_or flags i false
 unfolding marked
 marked_elsewhere flags s i other =
     elim (cases_Bool (nat_lt s.kind (aps.SCALING + 1) && nat_lt s.id id_count)) [
@@ -210,16 +210,16 @@ marked_elsewhere flags s i other =
           let apart : i ≢ slot_of s.kind s.id = λ e.
           let kind : i / id_count ≡ s.kind = omega (arith, e, id) in
           let rest : i % id_count ≡ s.id = omega (arith, e, id) in
-          let same : same_slot (slot_at i) s ≡ true = rw (eq-eqb (i / id_count) s.kind kind, eq-eqb (i % id_count) s.id rest) refl in
+          let same : same_type_and_id (slot_at i) s ≡ true = rw (eq-eqb (i / id_count) s.kind kind, eq-eqb (i % id_count) s.id rest) refl in
           absurd (let no : true ≡ false = sym same ∙ other in cc) in
           rw is (get_or-set_other flags (slot_of s.kind s.id) i true false apart)
       | inr none ↦ rw none refl
     ]
 
 one_marked : (flags : List Bool) (s : Slot) (i : ℕ) → length flags ≡ slot_count → i < slot_count
-    → get_or (marked flags s) i false ≡ (get_or flags i false || same_slot (slot_at i) s)
+    → get_or (marked flags s) i false ≡ (get_or flags i false || same_type_and_id (slot_at i) s)
 one_marked flags s i size within =
-    elim (cases_Bool (same_slot (slot_at i) s)) [
+    elim (cases_Bool (same_type_and_id (slot_at i) s)) [
       | inl same ↦
           let told = same_tells i s same in
           marked_here flags s i size within told.0 told.1 ∙ sym (ap (λ b. get_or flags i false || b) same ∙ or-true (get_or flags i false))
@@ -235,13 +235,13 @@ keeps_size flags s =
     ]
 
 marked_at : (flags : List Bool) (names : List Slot) (i : ℕ) → length flags ≡ slot_count → i < slot_count
-    → get_or (all_marked flags names) i false ≡ (get_or flags i false || list_any (same_slot (slot_at i)) names)
+    → get_or (all_marked flags names) i false ≡ (get_or flags i false || list_any (same_type_and_id (slot_at i)) names)
 unfolding all_marked
 marked_at flags [] i size within = sym (or-false (get_or flags i false))
 marked_at flags (s ∷ names) i size within =
     marked_at (marked flags s) names i (keeps_size flags s ∙ size) within
-    ∙ ap (λ b. b || list_any (same_slot (slot_at i)) names) (one_marked flags s i size within)
-    ∙ or_assoc (get_or flags i false) (same_slot (slot_at i) s) (list_any (same_slot (slot_at i)) names)
+    ∙ ap (λ b. b || list_any (same_type_and_id (slot_at i)) names) (one_marked flags s i size within)
+    ∙ or_assoc (get_or flags i false) (same_type_and_id (slot_at i) s) (list_any (same_type_and_id (slot_at i)) names)
 
 -- ---- all that is named
 
@@ -253,7 +253,7 @@ shuffled false more false false = refl
 
 names_alike : (p : Slot → Bool) (set header : List Item) (parts : List SlicePart)
     → (list_any p (flat_map (λ s. own_names set s.header.fields) parts) || (some_part parts && list_any p (header_names set header)))
-    ≡ list_any p (flat_map (λ s. named_by set header s.header) parts)
+    ≡ list_any p (flat_map (λ s. aps_named_by set header s.header) parts)
 names_alike p set header [] = refl
 names_alike p set header (s ∷ parts) =
     let own : Bool = list_any p (own_names set s.header.fields) in
@@ -262,8 +262,8 @@ names_alike p set header (s ∷ parts) =
     ap (λ b. b || head) (list_any-append p (own_names set s.header.fields) (flat_map (λ s. own_names set s.header.fields) parts))
     ∙ shuffled own more head (some_part parts)
     ∙ ap (λ b. b || (more || (some_part parts && head))) (sym (one_slice p set header s.header))
-    ∙ ap (λ b. list_any p (named_by set header s.header) || b) (names_alike p set header parts)
-    ∙ sym (list_any-append p (named_by set header s.header) (flat_map (λ s. named_by set header s.header) parts))
+    ∙ ap (λ b. list_any p (aps_named_by set header s.header) || b) (names_alike p set header parts)
+    ∙ sym (list_any-append p (aps_named_by set header s.header) (flat_map (λ s. aps_named_by set header s.header) parts))
 
 no_flag : (i : ℕ) → i < slot_count → get_or (replicate 24 false) i false ≡ false
 no_flag i within = get_or-replicate 24 i false false within
@@ -280,14 +280,14 @@ names_none q target flags some i past is far =
     let all : parts ≡ parts_in q target = all_parts q target i past in
     record {
       at = λ k within.
-          let p : Slot → Bool = same_slot (slot_at k) in
+          let p : Slot → Bool = same_type_and_id (slot_at k) in
           ap (λ f. get_or f k false) far.marks ∙ marked_at (replicate 24 false) (own parts) k refl within
           ∙ ap (λ b. b || list_any p (own parts)) (no_flag k within)
           ∙ sym (or-false (list_any p (own parts)))
           ∙ ap (λ b. list_any p (own parts) || (b && list_any p (header_names q.pps q.header.fields))) (sym is ∙ far.found)
           ∙ names_alike p q.pps q.header.fields parts
-          ∙ ap (λ l. list_any p (flat_map (λ s. named_by q.pps q.header.fields s.header) l)) all;
-      there = subst (λ l. AreThere q.bodies (flat_map (λ s. named_by q.pps q.header.fields s.header) l)) all far.there;
+          ∙ ap (λ l. list_any p (flat_map (λ s. aps_named_by q.pps q.header.fields s.header) l)) all;
+      there = subst (λ l. AreThere q.bodies (flat_map (λ s. aps_named_by q.pps q.header.fields s.header) l)) all far.there;
     }
 
 pub names_some : (q : Parts) (target : ℕ) (flags new : List Bool) (some : Bool) (i : ℕ) → length q.slices ≤ i → some ≡ true → WalkedTo q target (replicate 24 false) flags some i
@@ -301,14 +301,14 @@ names_some q target flags new some i past is far gains =
     = gains ∙ ap (λ f. all_marked f header) far.marks ∙ sym (marked_behind (replicate 24 false) (own parts) header) in
     record {
       at = λ k within.
-          let p : Slot → Bool = same_slot (slot_at k) in
+          let p : Slot → Bool = same_type_and_id (slot_at k) in
           ap (λ f. get_or f k false) whole ∙ marked_at (replicate 24 false) (own parts ++ header) k refl within
           ∙ ap (λ b. b || list_any p (own parts ++ header)) (no_flag k within)
           ∙ list_any-append p (own parts) header
           ∙ ap (λ b. list_any p (own parts) || (b && list_any p header)) (sym is ∙ far.found)
           ∙ names_alike p q.pps q.header.fields parts
-          ∙ ap (λ l. list_any p (flat_map (λ s. named_by q.pps q.header.fields s.header) l)) all;
-      there = subst (λ l. AreThere q.bodies (flat_map (λ s. named_by q.pps q.header.fields s.header) l)) all far.there;
+          ∙ ap (λ l. list_any p (flat_map (λ s. aps_named_by q.pps q.header.fields s.header) l)) all;
+      there = subst (λ l. AreThere q.bodies (flat_map (λ s. aps_named_by q.pps q.header.fields s.header) l)) all far.there;
     }
 
 -- ---- place by place
@@ -327,11 +327,11 @@ needed_more q target i within =
     ap (flat_map (aps_of_slot q)) found ∙ flat_map-append (aps_of_slot q) (filter is (take i all_slots)) (cond (is (slot_at i)) (slot_at i ∷ []) [])
 
 -- a set that is named is there
-named_there : (sets : List (Option Aps)) (kind id : ℕ) (names : List Slot) → AreThere sets names → list_any (same_slot (record { kind = kind; id = id })) names ≡ true
+named_there : (sets : List (Option Aps)) (kind id : ℕ) (names : List Slot) → AreThere sets names → list_any (same_type_and_id (record { kind = kind; id = id })) names ≡ true
     → is_none (aps_at sets kind id) ≡ false
 named_there sets kind id [] there is = absurd (let no : false ≡ true = is in cc)
 named_there sets kind id (s ∷ names) there is =
-    elim (cases_Bool (same_slot (record { kind = kind; id = id }) s)) [
+    elim (cases_Bool (same_type_and_id (record { kind = kind; id = id }) s)) [
       | inl same ↦
           let parts = and_parts (kind == s.kind) (id == s.id) same in
           rw (eqb-true kind s.kind parts.0, eqb-true id s.id parts.1) (there.0)

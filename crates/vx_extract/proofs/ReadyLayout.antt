@@ -15,15 +15,15 @@ use Rattle.vx_table.proofs.Spelled.{is_value}
 use Rattle.vx_sps.specs.Set as sps
 use Rattle.vx_sps.specs.Structure.{sps_form}
 use Rattle.vx_pps.specs.Pps as pps
-use Rattle.vx_pps.specs.Sets.{SetsTellPartitions}
+use Rattle.vx_pps.specs.laws.Sets.{SetsTellPartitions}
 use Rattle.vx_pic.specs.Sets.{same_size}
 use Rattle.vx_pic.specs.Readings.{Begun, Picture, Slice}
-use Rattle.vx_pic.specs.PictureLayout.{IsLayoutAnswer, columns_of, rows_of}
+use Rattle.vx_pic.specs.PictureLayout.{IsLayoutAnswer, columns_in_picture, rows_in_picture}
 use Rattle.vx_pic.specs.Parts.{parts_of}
 use Rattle.vx_pic.specs.Rules.{Readers}
 use Rattle.vx_pic.specs.H266.{AreOfH266}
 use Rattle.vx_pic.specs.Written.{HeadReads}
-use Rattle.vx_pic.specs.Finished.{AreFinished, IsSound, PicturesAreFinished}
+use Rattle.vx_pic.specs.Finished.{AreFinished, IsSoundPicture, PicturesAreFinished}
 use Rattle.vx_pic.specs.Streams.{pictures_of}
 use Rattle.vx_pic.specs.Whole.{HasSets, PicturesHaveSets}
 use Rattle.vx_pic.proofs.Answering.{limits_of}
@@ -37,7 +37,7 @@ ends : {A : Type 0} {total : ℕ} {form : Form A} {v : List ℤ} {left rest : Li
 ends (at_end {a}) = (a, to_end)
 ends (behind begins more) = let on = ends more in (on.0, through (is_value begins) on.1)
 
-sps_items : (rbsp : List ℕ) (r : Result (List Item) Refusal) (s : List Item) → ReadsValue sps_form rbsp (as_read r) → r ≡ Ok s → sps.IsItems s
+sps_items : (rbsp : List ℕ) (r : Result (List Item) Refusal) (s : List Item) → ReadsValue sps_form rbsp (as_read r) → r ≡ Ok s → sps.AreSpsItems s
 sps_items rbsp r s reads is =
     let P : Result (List Item) Refusal → Type 0 = λ x. ReadsValue sps_form rbsp (as_read x) in
     let read = subst P is reads in
@@ -45,7 +45,7 @@ sps_items rbsp r s reads is =
     let on = ends found.spelled in
     record { values = found.values; end = on.0; follows = on.1; all = found.gained }
 
-pps_items : (rbsp : List ℕ) (r : Result (List Item) Refusal) (s : List Item) → ReadsValue pps.pps_form rbsp (as_read r) → r ≡ Ok s → pps.IsItems s
+pps_items : (rbsp : List ℕ) (r : Result (List Item) Refusal) (s : List Item) → ReadsValue pps.pps_form rbsp (as_read r) → r ≡ Ok s → pps.ArePpsItems s
 pps_items rbsp r s reads is =
     let P : Result (List Item) Refusal → Type 0 = λ x. ReadsValue pps.pps_form rbsp (as_read x) in
     let read = subst P is reads in
@@ -55,16 +55,16 @@ pps_items rbsp r s reads is =
 
 -- ---- the layout
 
-columns_rise : SetsTellPartitions → (s p : List Item) → sps.IsItems s → pps.IsItems p → Rises (columns_of s p)
+columns_rise : SetsTellPartitions → (s p : List Item) → sps.AreSpsItems s → pps.ArePpsItems p → Rises (columns_in_picture s p)
 columns_rise tells s p set other = elim (cases_Bool (pps.is_partitioned p)) [
   | inl is ↦ rw is ((tells p other).columns is).rises
-  | inr none ↦ rw none (one_tile_rises (sps.columns_of s) (has_ctus s set).columns.0)
+  | inr none ↦ rw none (one_tile_rises (sps.ctu_columns_of s) (has_ctus s set).columns.0)
 ]
 
-rows_rise : SetsTellPartitions → (s p : List Item) → sps.IsItems s → pps.IsItems p → Rises (rows_of s p)
+rows_rise : SetsTellPartitions → (s p : List Item) → sps.AreSpsItems s → pps.ArePpsItems p → Rises (rows_in_picture s p)
 rows_rise tells s p set other = elim (cases_Bool (pps.is_partitioned p)) [
   | inl is ↦ rw is ((tells p other).rows is).rises
-  | inr none ↦ rw none (one_tile_rises (sps.rows_of s) (has_ctus s set).rows.0)
+  | inr none ↦ rw none (one_tile_rises (sps.ctu_rows_of s) (has_ctus s set).rows.0)
 ]
 
 -- what was read with the header
@@ -77,7 +77,7 @@ head_says R None b first head = record { size = head.0.size; layout = head.0.lay
 head_says R (Some u) b first head = record { size = head.1.size; layout = head.1.layout }
 
 module _ (tells : SetsTellPartitions) (R : Readers) (of : AreOfH266 R) where
-  one_in_force : (earlier : List Picture) (p : Picture) → IsSound R earlier p → HasSets R p.begun → AreInForce (parts_of p)
+  one_in_force : (earlier : List Picture) (p : Picture) → IsSoundPicture R earlier p → HasSets R p.begun → AreInForce (parts_of p)
   one_in_force earlier p sound has =
       let b : Begun = p.begun in
       let head = head_says R b.unit b sound.first sound.head in

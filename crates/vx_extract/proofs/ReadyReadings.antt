@@ -16,13 +16,13 @@ use Rattle.vx_sei.specs.declared.message.Message.{Message}
 use Rattle.vx_sei.specs.Sei.{Carries, carried, is_carried, spelled_length}
 use Rattle.vx_pic.specs.Units.{Class, class_of, end_unit, has_header_inside, header_unit, is_reserved, other_unit, pps_unit, prefix_aps, rbsp_of, sei_unit, slice_unit, sps_unit, suffix_aps, vps_unit}
 use Rattle.vx_pic.specs.Sets.{Slot, names_of}
-use Rattle.vx_pic.specs.Readings.{Current, Picture, Reading, Slice, aps_in, aps_read, current, dropped, first_slice, gathered, going, header_read, headed, is_open, is_slice, is_whole, is_within, latest, messages_read, next_slice, nothing, pictures, pps_read, sequence_ended, sps_read, stored_aps, vps_read, whole_part, with_slice}
+use Rattle.vx_pic.specs.Readings.{Current, Picture, Reading, Slice, aps_in, aps_read, current, dropped, first_slice, gathered, going, header_read, headed, is_open, is_slice, is_whole, is_within_picture, latest_given, messages_read, next_slice, nothing, pictures, pps_read, sequence_ended, sps_read, stored_aps, vps_read, picture_if_whole, with_slice}
 use Rattle.vx_pic.specs.Rules.{Readers, alone, aps_reading, begins, follows, gathers, joins, message_limit, opened, opens, reads, reads_as}
-use Rattle.vx_pic.specs.Streams.{Outcome, one_more, pictures_of, read_on}
+use Rattle.vx_pic.specs.Streams.{StreamReading, one_more, pictures_of, read_on}
 use Rattle.vx_pic.specs.H266.{AreOfH266}
-use Rattle.vx_pic.specs.Parts.{AreThere, SlicePart, aps_at, id_count, named_by, slice_header_of, slice_part, slot_of, stored_sets}
+use Rattle.vx_pic.specs.Parts.{AreThere, SlicePart, aps_at, id_count, aps_named_by, slice_header_of, slice_part, slot_of, stored_sets}
 use Rattle.vx_pic.specs.Written.{AreInForce}
-use Rattle.vx_pic.specs.Finished.{AreFinished, IsSound, PicturesAreFinished}
+use Rattle.vx_pic.specs.Finished.{AreFinished, IsSoundPicture, PicturesAreFinished}
 use Rattle.vx_pic.proofs.Finishing.{answered, by_layer, chosen, first_or, passed, test_told, then_told}
 use Rattle.vx_extract.specs.Ready.{HasItsReadings, PicturesHaveTheirReadings}
 use Rattle.vx_extract.proofs.KeptBodies.{at_place}
@@ -93,7 +93,7 @@ aps_is_of Q kind id sequence_ended a fit is = absurd (cc)
 stored_is_of : (Q : Aps → Type 0) (kind id : ℕ) (before : List Reading) → SetsHold Q before → (a : Aps) → stored_aps kind id before ≡ Some a → IsOf Q kind id a
 stored_is_of Q kind id [] all a is = absurd (cc)
 stored_is_of Q kind id (r ∷ before) all a is =
-    first_or (aps_in kind id r) (latest (aps_in kind id) before) a (IsOf Q kind id) (λ b. aps_is_of Q kind id r b all.0) (stored_is_of Q kind id before all.1 a) is
+    first_or (aps_in kind id r) (latest_given (aps_in kind id) before) a (IsOf Q kind id) (λ b. aps_is_of Q kind id r b all.0) (stored_is_of Q kind id before all.1 a) is
 
 -- ---- the picture that was begun last
 
@@ -167,15 +167,15 @@ module _ (R : Readers) (of : AreOfH266 R) where
       let t = then_told (R.vps (rbsp_of u)) _ r is in
       fit_is (vps_read t.0) r t.2 tt
   class_fits before u r sps_unit is =
-      let p = passed (is_within (current before)) _ _ r is in
+      let p = passed (is_within_picture (current before)) _ _ r is in
       let t = then_told (R.sps (rbsp_of u)) _ r p.1 in
       fit_is (sps_read t.0) r t.2 tt
   class_fits before u r pps_unit is =
-      let p = passed (is_within (current before)) _ _ r is in
+      let p = passed (is_within_picture (current before)) _ _ r is in
       let t = then_told (R.pps (rbsp_of u)) _ r p.1 in
       fit_is (pps_read t.0) r t.2 tt
   class_fits before u r prefix_aps is =
-      let p = passed (is_within (current before)) _ _ r is in
+      let p = passed (is_within_picture (current before)) _ _ r is in
       let t = then_told (R.aps (rbsp_of u)) _ r p.1 in
       fit_is (aps_reading t.0) r t.2 (aps_answer (rbsp_of u) t.0 t.1)
   class_fits before u r suffix_aps is =
@@ -194,7 +194,7 @@ module _ (R : Readers) (of : AreOfH266 R) where
       let p = passed (is_open (current before)) _ _ r is in
       fit_is sequence_ended r p.1 tt
   class_fits before u r sei_unit is =
-      elim (chosen (is_within (current before)) (Ok dropped) (gathers before (R.sei (rbsp_of u))) r is) [
+      elim (chosen (is_within_picture (current before)) (Ok dropped) (gathers before (R.sei (rbsp_of u))) r is) [
         | inl h ↦ fit_is dropped r h.1 tt
         | inr h ↦
             let p = passed (nat_lt message_limit (spelled_length (gathered before ++ R.sei (rbsp_of u)))) _ _ r h.1 in
@@ -208,7 +208,7 @@ module _ (R : Readers) (of : AreOfH266 R) where
         | inr h ↦ class_fits before u r (class_of (nal_unit_type u)) h.2
       ]
 
-  one_fits : (before : List Reading) (x : Result Reading Refusal) (f : List Reading → Outcome) → ((r : Reading) → x ≡ Ok r → IsFit r)
+  one_fits : (before : List Reading) (x : Result Reading Refusal) (f : List Reading → StreamReading) → ((r : Reading) → x ≡ Ok r → IsFit r)
       → ((a : List Reading) → AreFit a → AreFit (f a).before) → AreFit before → AreFit (one_more x before f).before
   one_fits before (Ok r) f step on all = on (r ∷ before) (step r refl, all)
   one_fits before (Err q) f step on all = all
@@ -223,7 +223,7 @@ module _ (R : Readers) (of : AreOfH266 R) where
 abbrev AllFit : List Picture → Type 0
 AllFit ps = AllByRecursion (λ p. AreFit p.before) ps
 
-whole_fits : (c : Current) → CurrentFits c → AllFit (whole_part c)
+whole_fits : (c : Current) → CurrentFits c → AllFit (picture_if_whole c)
 whole_fits nothing fit = tt
 whole_fits (headed b) fit = tt
 whole_fits (going p) fit = elim (is_whole p) as (λ b. AllFit (cond b (p ∷ []) [])) [ true ↦ (fit, tt) | false ↦ tt ]
@@ -232,9 +232,9 @@ pictures_fit : (before : List Reading) → AreFit before → AllFit (pictures be
 pictures_fit [] all = tt
 pictures_fit (r ∷ before) all =
     let c : Current = current (r ∷ before) in
-    let here : AllFit (cond (is_slice r) (whole_part c) [])
-    = elim (is_slice r) as (λ b. AllFit (cond b (whole_part c) [])) [ true ↦ whole_fits c (current_fits (r ∷ before) all) | false ↦ tt ] in
-    Each-append (λ p. AreFit p.before) (cond (is_slice r) (whole_part c) []) (pictures before) here (pictures_fit before all.1)
+    let here : AllFit (cond (is_slice r) (picture_if_whole c) [])
+    = elim (is_slice r) as (λ b. AllFit (cond b (picture_if_whole c) [])) [ true ↦ whole_fits c (current_fits (r ∷ before) all) | false ↦ tt ] in
+    Each-append (λ p. AreFit p.before) (cond (is_slice r) (picture_if_whole c) []) (pictures before) here (pictures_fit before all.1)
 
 -- ---- what callers see
 
@@ -274,27 +274,27 @@ module _ (p : Picture) (fit : AreFit p.before) where
   all_there [] all = tt
   all_there (slot ∷ slots) all = (there_at slot (stored_aps slot.kind slot.id p.before) refl all.0, all_there slots all.1)
 
-  names_same : (s : Slice) → named_by p.begun.pps p.begun.header (slice_header_of p.begun s.header) ≡ names_of p.begun.pps p.begun.header s.header
+  names_same : (s : Slice) → aps_named_by p.begun.pps p.begun.header (slice_header_of p.begun s.header) ≡ names_of p.begun.pps p.begun.header s.header
   unfolding names_of
   names_same s = refl
 
   abbrev names_in : ℕ → List Slice → List Slot
-  names_in target slices = flat_map (λ (s : SlicePart). named_by p.begun.pps p.begun.header s.header) (filter (λ (s : SlicePart). s.header.subpic == target) (map (slice_part p.begun) slices))
+  names_in target slices = flat_map (λ (s : SlicePart). aps_named_by p.begun.pps p.begun.header s.header) (filter (λ (s : SlicePart). s.header.subpic == target) (map (slice_part p.begun) slices))
 
   named_there : (target : ℕ) (slices : List Slice) → AllByRecursion (λ (s : Slice). AreInForce p.before (names_of p.begun.pps p.begun.header s.header)) slices → AreThere (stored_sets p.before) (names_in target slices)
   named_there target [] all = tt
   named_there target (s ∷ slices) all =
-      let here : AreThere (stored_sets p.before) (named_by p.begun.pps p.begun.header (slice_header_of p.begun s.header)) =
+      let here : AreThere (stored_sets p.before) (aps_named_by p.begun.pps p.begun.header (slice_header_of p.begun s.header)) =
       subst (λ slots. AreThere (stored_sets p.before) slots) (sym (names_same s)) (all_there (names_of p.begun.pps p.begun.header s.header) all.0) in
       let more = named_there target slices all.1 in
       elim (cases_Bool (s.header.subpic == target)) [
         | inl on ↦
-            let both = Each-append (λ (slot : Slot). is_none (aps_at (stored_sets p.before) slot.kind slot.id) ≡ false) (named_by p.begun.pps p.begun.header (slice_header_of p.begun s.header)) (names_in target slices) here more in
+            let both = Each-append (λ (slot : Slot). is_none (aps_at (stored_sets p.before) slot.kind slot.id) ≡ false) (aps_named_by p.begun.pps p.begun.header (slice_header_of p.begun s.header)) (names_in target slices) here more in
             rw on both
         | inr off ↦ rw off more
       ]
 
-one_has : (R : Readers) (earlier : List Picture) (p : Picture) → IsSound R earlier p → AreFit p.before → HasItsReadings p
+one_has : (R : Readers) (earlier : List Picture) (p : Picture) → IsSoundPicture R earlier p → AreFit p.before → HasItsReadings p
 one_has R earlier p sound fit = record {
   readable = λ slot a is. readable_at p fit slot a is;
   there = λ target. named_there p fit target p.slices sound.bodies;

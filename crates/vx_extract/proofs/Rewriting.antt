@@ -40,8 +40,8 @@ moved target level q p made is sps pps layout ids =
     is.layout ∙ ap (λ s. numbers_in s q.pps) sps ∙ ap (λ x. numbers_in p.sps x) pps ∙ sym layout in
     let names : q.ids ≡ p.ids =
     is.ids ∙ ap (λ s. ids_of s q.pps) sps ∙ ap (λ x. ids_of p.sps x) pps ∙ sym ids in
-    let P : List Item → SpsShape → Type 0 = λ s shape. sps_reshaped.IsReshaped s shape made.sps in
-    let Q : List Item → PpsShape → Type 0 = λ s shape. pps_reshaped.IsReshaped s shape made.pps in
+    let P : List Item → SpsShape → Type 0 = λ s shape. sps_reshaped.IsReshapedSps s shape made.sps in
+    let Q : List Item → PpsShape → Type 0 = λ s shape. pps_reshaped.IsReshapedPps s shape made.pps in
     record {
       source_sps = is.source_sps ∙ sps;
       source_pps = is.source_pps ∙ pps;

@@ -14,20 +14,20 @@ use Rattle.vx_pic.specs.Written.{Set, an_sps, a_pps, an_aps}
 use Rattle.vx_write.specs.Sending.{AreOthers}
 use Rattle.vx_write.proofs.Held.{both}
 use Rattle.vx_write.proofs.SetBySet.{append_others}
-use Rattle.vx_extract.specs.Written.{same_slot, is_named, set_of_slot, aps_of_slot, all_slots, needed_sets}
+use Rattle.vx_extract.specs.Written.{same_type_and_id, is_named, set_of_slot, aps_of_slot, all_slots, needed_sets}
 use Rattle.vx_extract.specs.inner.Sending.{sets_to}
 use Rattle.vx_extract.specs.inner.Needed.{slot_at, slot_count, needed_to}
 use Rattle.vx_extract.proofs.Naming.{needed_more}
 
 -- ---- adaptation parameter sets
 
-aps_others : (slot : Slot) (body : List ℕ) (x : Slot) (o : Option Aps) → same_slot x slot ≡ false
+aps_others : (slot : Slot) (body : List ℕ) (x : Slot) (o : Option Aps) → same_type_and_id x slot ≡ false
     → AreOthers (an_aps (record { kind = slot.kind; id = slot.id; body = body })) (set_of_slot x o)
 aps_others slot body x None other = tt
 aps_others slot body x (Some a) other = (other, tt)
 
 abbrev AreOtherSlots : Slot → List Slot → Type 0
-AreOtherSlots slot slots = AllByRecursion (λ x. same_slot x slot ≡ false) slots
+AreOtherSlots slot slots = AllByRecursion (λ x. same_type_and_id x slot ≡ false) slots
 
 one_named : (q : Parts) (s : Set) (x : Slot) (slots : List Slot) (b : Bool) → AreOthers s (set_of_slot x (aps_at q.bodies x.kind x.id))
     → AreOthers s (flat_map (aps_of_slot q) slots) → AreOthers s (flat_map (aps_of_slot q) (cond b (x ∷ slots) slots))
@@ -43,9 +43,9 @@ named_others q test slot body (x ∷ slots) others =
     (named_others q test slot body slots others.1)
 
 -- places are of other types or ids
-other_place : (i k : ℕ) → i < k → same_slot (slot_at i) (slot_at k) ≡ false
+other_place : (i k : ℕ) → i < k → same_type_and_id (slot_at i) (slot_at k) ≡ false
 other_place i k less =
-    elim (cases_Bool (same_slot (slot_at i) (slot_at k))) [
+    elim (cases_Bool (same_type_and_id (slot_at i) (slot_at k))) [
       | inl same ↦
           let parts = both (i / 8 == k / 8) (i % 8 == k % 8) same in
           let kind = eqb-true (i / 8) (k / 8) parts.0 in

@@ -7,20 +7,20 @@ use Rattle.vx_fields.specs.declared.sps.TheConstants as sps_fields
 use Rattle.vx_fields.specs.declared.pps.TheConstants as pps_fields
 use Rattle.vx_layout.specs.declared.numbers.Numbers.{Numbers}
 use Rattle.vx_layout.specs.Bounds.{last}
-use Rattle.vx_layout.specs.Laws.{RegionIsListable}
+use Rattle.vx_layout.specs.laws.Layouts.{RegionIsListable}
 use Rattle.vx_layout.specs.Layouts.{HasLayout, subpic_at}
 use Rattle.vx_layout.specs.Rects.{whole_picture}
-use Rattle.vx_layout.specs.Regions.{cut, region_of}
+use Rattle.vx_layout.specs.Regions.{cut_bounds, region_of}
 use Rattle.vx_layout.proofs.Moving.{last-cut}
 use Rattle.vx_layout.proofs.Nested.{same_numbers}
 use Rattle.vx_table.specs.Loaded.{number}
 use Rattle.vx_table.specs.Scope.{is_set}
 use Rattle.vx_sps.specs.Subpictures.{subpics_of}
 use Rattle.vx_sps.proofs.Bounded.{ctu_below}
-use Rattle.vx_pps.specs.Laws.{picture_of}
+use Rattle.vx_pps.specs.Reshaped.{picture_of}
 use Rattle.vx_pps.specs.Pps as pps
 use Rattle.vx_pps.specs.Reshaped.{CanBeDivided, IsShape, IsSize}
-use Rattle.vx_pps.specs.Sets.{ReadSlicesAreListable, SetsTellPartitions}
+use Rattle.vx_pps.specs.laws.Sets.{ReadSlicesAreListable, SetsTellPartitions}
 use Rattle.vx_pic.specs.Parts.{Parts}
 use Rattle.vx_pic.specs.PictureLayout.{needs_ids}
 use Rattle.vx_pic.specs.Sets.{pps_id, referred_sps}
@@ -47,7 +47,7 @@ id_fits q k are within = elim (cases_Bool (needs_ids q.sps)) [
 -- the region as a picture of its own
 region_is : (n : Numbers) (k : ℕ) → picture_of (record { columns = (region_of n k).columns; rows = (region_of n k).rows }) (region_of n k).slices ≡ region_of n k
 region_is n k = same_numbers _ (region_of n k) refl refl refl
-    (ap (λ w. whole_picture w (last (cut n.rows (subpic_at n k).y (subpic_at n k).h)) ∷ []) (last-cut n.columns (subpic_at n k).x (subpic_at n k).w)
+    (ap (λ w. whole_picture w (last (cut_bounds n.rows (subpic_at n k).y (subpic_at n k).h)) ∷ []) (last-cut n.columns (subpic_at n k).x (subpic_at n k).w)
     ∙ ap (λ h. whole_picture (subpic_at n k).w h ∷ []) (last-cut n.rows (subpic_at n k).y (subpic_at n k).h))
 
 can_be_divided : SetsTellPartitions → ReadSlicesAreListable → RegionIsListable → ((n : Numbers) (k : ℕ) → HasLayout n → k < length n.subpics → HasLayout (region_of n k))
@@ -61,7 +61,7 @@ can_be_divided tells reads listables regions q k are within is =
       columns = last-cut q.layout.columns (subpic_at q.layout k).x (subpic_at q.layout k).w ∙ ap (λ r. r.w) rect ∙ sides.wide.held;
       rows = last-cut q.layout.rows (subpic_at q.layout k).y (subpic_at q.layout k).h ∙ ap (λ r. r.h) rect ∙ sides.high.held;
       layout = subst HasLayout (sym (region_is q.layout k)) (regions q.layout k are.layout here);
-      listable = listable reads listables q k are here is (pps.slices_of q.pps) refl;
+      listable = listable reads listables q k are here is (pps.slice_list_of q.pps) refl;
     }
 
 partitioned : (n : ℕ) → n ≡ 0 → not (is_set n) ≡ true

@@ -6,7 +6,7 @@ use Rattle.vx_table.specs.Loaded.{number}
 use Rattle.vx_sps.specs.Set as sps
 use Rattle.vx_sps.specs.Subpictures.{rect_of, subpics_of}
 use Rattle.vx_sps.proofs.Bounded.{ctu_below}
-use Rattle.vx_pps.specs.Sets.{SetsTellPartitions}
+use Rattle.vx_pps.specs.laws.Sets.{SetsTellPartitions}
 use Rattle.vx_pic.specs.Parts.{Parts}
 use Rattle.vx_pic.proofs.PictureSizes.{small_sides}
 use Rattle.vx_pic.proofs.Sizes.{has_sides}

@@ -15,7 +15,7 @@ use Rattle.vx_sps.specs.Set as sps
 use Rattle.vx_sps.specs.Subpictures.{rect_of, subpics_of}
 use Rattle.vx_sps.specs.Reshaped.{IsPlan, IsShape, IsSize}
 use Rattle.vx_sps.proofs.Exists.{golomb_row}
-use Rattle.vx_pps.specs.Sets.{SetsTellPartitions}
+use Rattle.vx_pps.specs.laws.Sets.{SetsTellPartitions}
 use Rattle.vx_pic.specs.Parts.{Parts}
 use Rattle.vx_pic.specs.PictureLayout.{needs_ids}
 use Rattle.vx_pic.specs.Sets.{sps_id}
@@ -37,20 +37,20 @@ offset_coded source false of is = omega arith
 three : (a b c : ℕ) → IsCodeNumber a → IsCodeNumber b → IsCodeNumber c → All IsCodeNumber (a ∷ b ∷ c ∷ [])
 three a b c p q r = All-cons IsCodeNumber a (b ∷ c ∷ []) p (All-cons IsCodeNumber b (c ∷ []) q (All-cons IsCodeNumber c [] r (All-nil IsCodeNumber)))
 
-window_coded : (source : List Item) (r : Rect) → sps.IsItems source → All IsCodeNumber (window_of source r)
+window_coded : (source : List Item) (r : Rect) → sps.AreSpsItems source → All IsCodeNumber (window_of source r)
 unfolding has_value golomb_row
 window_coded source r set =
     let left : ℕ = offset source (r.x == 0) sps_fields.sps_conf_win_left_offset in
-    let right : ℕ = offset source (r.x + r.w == sps.columns_of source) sps_fields.sps_conf_win_right_offset in
+    let right : ℕ = offset source (r.x + r.w == sps.ctu_columns_of source) sps_fields.sps_conf_win_right_offset in
     let top : ℕ = offset source (r.y == 0) sps_fields.sps_conf_win_top_offset in
-    let bottom : ℕ = offset source (r.y + r.h == sps.rows_of source) sps_fields.sps_conf_win_bottom_offset in
+    let bottom : ℕ = offset source (r.y + r.h == sps.ctu_rows_of source) sps_fields.sps_conf_win_bottom_offset in
     let coded_left = offset_coded source (r.x == 0) sps_fields.sps_conf_win_left_offset (coded sps_fields.sps_conf_win_left_offset source set refl) in
-    let coded_right = offset_coded source (r.x + r.w == sps.columns_of source) sps_fields.sps_conf_win_right_offset (coded sps_fields.sps_conf_win_right_offset source set refl) in
+    let coded_right = offset_coded source (r.x + r.w == sps.ctu_columns_of source) sps_fields.sps_conf_win_right_offset (coded sps_fields.sps_conf_win_right_offset source set refl) in
     let coded_top = offset_coded source (r.y == 0) sps_fields.sps_conf_win_top_offset (coded sps_fields.sps_conf_win_top_offset source set refl) in
-    let coded_bottom = offset_coded source (r.y + r.h == sps.rows_of source) sps_fields.sps_conf_win_bottom_offset (coded sps_fields.sps_conf_win_bottom_offset source set refl) in
+    let coded_bottom = offset_coded source (r.y + r.h == sps.ctu_rows_of source) sps_fields.sps_conf_win_bottom_offset (coded sps_fields.sps_conf_win_bottom_offset source set refl) in
     All-cons IsCodeNumber left (right ∷ top ∷ bottom ∷ []) coded_left (three right top bottom coded_right coded_top coded_bottom)
 
-dpb_coded : (source : List Item) → sps.IsItems source → All IsCodeNumber (dpb_of source)
+dpb_coded : (source : List Item) → sps.AreSpsItems source → All IsCodeNumber (dpb_of source)
 unfolding has_value golomb_row
 dpb_coded source set =
     three (number source dpb.dpb_max_dec_pic_buffering_minus1) (number source dpb.dpb_max_num_reorder_pics) (number source dpb.dpb_max_latency_increase_plus1)

@@ -10,7 +10,7 @@ use Rattle.vx_annexb.specs.Laws.{CanStand, EscapedIsUnique, EscapedSplits, writt
 use Rattle.vx_aps.specs.Aps.{spelled}
 use Rattle.vx_layout.proofs.Parts.{Each-append}
 use Rattle.vx_sps.specs.Set as sps
-use Rattle.vx_pps.specs.Sets as pps
+use Rattle.vx_pps.specs.laws.Sets as pps
 use Rattle.vx_sei.specs.declared.message.Message.{Message}
 use Rattle.vx_sei.specs.Sei.{IsSei, sei_messages, spelled_length}
 use Rattle.vx_pic.specs.declared.unit_types.TheConstants as types
@@ -18,12 +18,12 @@ use Rattle.vx_pic.specs.Readings.{Begun, Picture, Slice, messages_of}
 use Rattle.vx_pic.specs.Parts.{SlicePart, parts_of, slice_part}
 use Rattle.vx_pic.specs.Rules.{Readers, message_limit}
 use Rattle.vx_pic.specs.Units.{rbsp_of}
-use Rattle.vx_pic.specs.Streams.{Outcome, ending_of, pictures_of, read_on}
+use Rattle.vx_pic.specs.Streams.{StreamReading, ending_of, pictures_of, read_on}
 use Rattle.vx_pic.specs.Bytes.{ArePictures, ending_by}
-use Rattle.vx_pic.specs.Finished.{AreFinished, IsSound, PicturesAreFinished}
+use Rattle.vx_pic.specs.Finished.{AreFinished, IsSoundPicture, PicturesAreFinished}
 use Rattle.vx_pic.specs.Sublayers.{KeptAreFinished, at_most}
-use Rattle.vx_pic.specs.Laws.{WrittenHasPictures}
-use Rattle.vx_pic.specs.Written.{Plan, SeiUnit, Set, SetUnit, a_pps, an_aps, an_sps, eos_units, sei_units, slices_of, units_of}
+use Rattle.vx_pic.specs.laws.Pictures.{WrittenHasPictures}
+use Rattle.vx_pic.specs.Written.{Plan, SeiUnit, Set, SetUnit, a_pps, an_aps, an_sps, eos_units, sei_units, planned_slices, units_of}
 use Rattle.vx_pic.specs.Resident.{is_resident, sent_before, units_written}
 use Rattle.vx_pic.proofs.Sublayers.{low_tid}
 use Rattle.vx_write.specs.Units.{IsSeiUnit, IsSetUnit, IsUnitOf}
@@ -110,7 +110,7 @@ slices_stand b target (s ∷ slices) stand = elim (cases_Bool (s.header.subpic =
 ]
 
 module _ (splits : EscapedSplits) (unique : EscapedIsUnique) (few_sps : sps.SpellingIsShort) (few_pps : pps.SpellingIsShort) (R : Readers) (target : ℕ) (level : Option ℕ) where
-  module _ (earlier : List Picture) (pic : Picture) (done : List Plan) (p : Plan) (sound : IsSound R earlier pic) (ex : IsExtracted target level (parts_of pic) done p)
+  module _ (earlier : List Picture) (pic : Picture) (done : List Plan) (p : Plan) (sound : IsSoundPicture R earlier pic) (ex : IsExtracted target level (parts_of pic) done p)
       (stand : OfPicture CanStand pic) where
     abbrev are_sent : SetUnit → Bool
     are_sent x = not (is_resident pic.kind.temporal_id (sent_before done p) x)
@@ -129,7 +129,7 @@ module _ (splits : EscapedSplits) (unique : EscapedIsUnique) (few_sps : sps.Spel
         let sets : List (List ℕ) = map (λ (x : SetUnit). x.unit) p.sent in
         let sei : List (List ℕ) = sei_units p.sei in
         let header : List (List ℕ) = option_to_list p.begun.unit in
-        let slices : List (List ℕ) = map (λ (s : Slice). s.unit) (slices_of p) in
+        let slices : List (List ℕ) = map (λ (s : Slice). s.unit) (planned_slices p) in
         let low = low_tid R earlier pic sound in
         let own_sets = sets_stand splits unique few_sps few_pps pic.kind.temporal_id p.sent low (sent_hold (λ (x : SetUnit). IsSetUnit pic.kind.temporal_id x.set x.unit) ex.units) (sent_hold (λ (x : SetUnit). HasSource x.set) each_source) in
         let own_sei = sei_stands pic.kind.temporal_id (messages_of pic) p.sei low sound.messages ex.sei in
@@ -150,7 +150,7 @@ module _ (splits : EscapedSplits) (unique : EscapedIsUnique) (few_sps : sps.Spel
   all_stand (pic ∷ pics) (p ∷ done) (sound, whole, finished) (one, stand) (ex, were) =
       Each-append CanStand (units_written done) (units_of p) (all_stand pics done finished stand were) (picture_stands pics pic done p sound ex one)
 
-ends_well : (o : Outcome) → ending_of o ≡ None → ending_by true None o ≡ None
+ends_well : (o : StreamReading) → ending_of o ≡ None → ending_by true None o ≡ None
 ends_well o none = ap (λ r. option_map (λ x. record { units = length o.before; refusal = x }) r) none
 
 pub reads_again : EscapedSplits → EscapedIsUnique → PicturesAreFinished → KeptAreFinished → WrittenHasPictures → ExtractedUnitsReadAgain → sps.SpellingIsShort → pps.SpellingIsShort → ExtractionReadsAgain

@@ -12,10 +12,10 @@ use Rattle.vx_aps.specs.Aps.{IsAnswer, spelled}
 use Rattle.vx_layout.proofs.Parts.{Each-append}
 use Rattle.vx_sei.specs.Sei.{spelled_length}
 use Rattle.vx_pic.specs.Units.{Class, class_of, end_unit, has_header_inside, header_unit, is_reserved, other_unit, pps_unit, prefix_aps, rbsp_of, sei_unit, slice_unit, sps_unit, suffix_aps, temporal_id, vps_unit}
-use Rattle.vx_pic.specs.Sets.{SliceHeader, Slot, is_qp, names_of, place_of, slice_qp}
-use Rattle.vx_pic.specs.Readings.{Current, Picture, Reading, Slice, aps_read, current, dropped, first_slice, gathered, going, header_read, headed, is_open, is_slice, is_whole, is_within, messages_read, next_slice, nothing, pictures, pps_read, sequence_ended, sps_read, vps_read, whole_part, with_slice}
-use Rattle.vx_pic.specs.Rules.{Readers, alone, aps_reading, are_stored, begins, follows, gathers, joins, message_limit, opened, opens, picture_limit, reads, reads_as, size_of}
-use Rattle.vx_pic.specs.Streams.{Outcome, one_more, pictures_of, read_on}
+use Rattle.vx_pic.specs.Sets.{SliceHeader, Slot, is_qp, names_of, slices_before, slice_qp}
+use Rattle.vx_pic.specs.Readings.{Current, Picture, Reading, Slice, aps_read, current, dropped, first_slice, gathered, going, header_read, headed, is_open, is_slice, is_whole, is_within_picture, messages_read, next_slice, nothing, pictures, pps_read, sequence_ended, sps_read, vps_read, picture_if_whole, with_slice}
+use Rattle.vx_pic.specs.Rules.{Readers, alone, aps_reading, are_stored, begins, follows, gathers, joins, message_limit, opened, opens, picture_limit, reads, reads_as, picture_size}
+use Rattle.vx_pic.specs.Streams.{StreamReading, one_more, pictures_of, read_on}
 use Rattle.vx_pic.specs.H266.{AreOfH266}
 use Rattle.vx_pic.specs.Parts.{aps_at, stored_sets}
 use Rattle.vx_pic.proofs.Finishing.{answered, by_layer, chosen, header_begun, passed, then_told}
@@ -92,11 +92,11 @@ module _ (P : List ℕ → Type 0) where
         let type = passed (not (nal_unit_type u == p.kind.nal_type)) _ _ s tid.1 in
         let header = then_told (R.slice p.kind.nal_type p.begun u) _ s type.1 in
         let h : SliceHeader = header.0 in
-        let place = passed (not (place_of p.begun.layout h == length p.slices)) _ _ s header.2 in
+        let place = passed (not (slices_before p.begun.layout h == length p.slices)) _ _ s header.2 in
         let bodies = then_told (are_stored p.before (names_of p.begun.pps p.begun.header h)) _ s place.1 in
         let qp = passed (not (is_qp p.begun.sps (slice_qp p.begun.pps p.begun.header h))) _ _ s bodies.2 in
         let payload = passed (nat_le (length u) h.payload) _ _ s qp.1 in
-        let size = passed (nat_lt picture_limit (size_of p + length u)) _ _ s payload.1 in
+        let size = passed (nat_lt picture_limit (picture_size p + length u)) _ _ s payload.1 in
         let told : Slice = record { unit = u; header = h } in
         let same : told ≡ s = let e = size.1 in cc in
         sym (ap (λ (t : Slice). t.unit) same)
@@ -132,15 +132,15 @@ module _ (P : List ℕ → Type 0) where
           let t = then_told (R.vps (rbsp_of u)) _ r is in
           reading_is (vps_read t.0) r t.2 tt
       class_has sps_unit is =
-          let p = passed (is_within (current before)) _ _ r is in
+          let p = passed (is_within_picture (current before)) _ _ r is in
           let t = then_told (R.sps (rbsp_of u)) _ r p.1 in
           reading_is (sps_read t.0) r t.2 tt
       class_has pps_unit is =
-          let p = passed (is_within (current before)) _ _ r is in
+          let p = passed (is_within_picture (current before)) _ _ r is in
           let t = then_told (R.pps (rbsp_of u)) _ r p.1 in
           reading_is (pps_read t.0) r t.2 tt
       class_has prefix_aps is =
-          let p = passed (is_within (current before)) _ _ r is in
+          let p = passed (is_within_picture (current before)) _ _ r is in
           let t = then_told (R.aps (rbsp_of u)) _ r p.1 in
           reading_is (aps_reading t.0) r t.2 (aps_has u t.0 has (subst (λ x. IsAnswer (rbsp_of u) x) t.1 (of.aps (rbsp_of u))))
       class_has suffix_aps is =
@@ -160,7 +160,7 @@ module _ (P : List ℕ → Type 0) where
           let p = passed (is_open (current before)) _ _ r is in
           reading_is sequence_ended r p.1 tt
       class_has sei_unit is =
-          elim (chosen (is_within (current before)) (Ok dropped) (gathers before (R.sei (rbsp_of u))) r is) [
+          elim (chosen (is_within_picture (current before)) (Ok dropped) (gathers before (R.sei (rbsp_of u))) r is) [
             | inl h ↦ reading_is dropped r h.1 tt
             | inr h ↦
                 let p = passed (nat_lt message_limit (spelled_length (gathered before ++ R.sei (rbsp_of u)))) _ _ r h.1 in
@@ -174,7 +174,7 @@ module _ (P : List ℕ → Type 0) where
             | inr h ↦ class_has (class_of (nal_unit_type u)) h.2
           ]
 
-    one_has : (before : List Reading) (x : Result Reading Refusal) (f : List Reading → Outcome) → ((r : Reading) → x ≡ Ok r → OfReading r)
+    one_has : (before : List Reading) (x : Result Reading Refusal) (f : List Reading → StreamReading) → ((r : Reading) → x ≡ Ok r → OfReading r)
         → ((a : List Reading) → OfReadings a → OfReadings (f a).before) → OfReadings before → OfReadings (one_more x before f).before
     one_has before (Ok r) f step on all = on (r ∷ before) (step r refl, all)
     one_has before (Err q) f step on all = all
@@ -189,7 +189,7 @@ module _ (P : List ℕ → Type 0) where
   abbrev OfPictures : List Picture → Type 0
   OfPictures ps = AllByRecursion OfPicture ps
 
-  whole_has : (c : Current) → OfCurrent c → OfPictures (whole_part c)
+  whole_has : (c : Current) → OfCurrent c → OfPictures (picture_if_whole c)
   whole_has nothing held = tt
   whole_has (headed b) held = tt
   whole_has (going p) held = elim (is_whole p) as (λ b. OfPictures (cond b (p ∷ []) [])) [ true ↦ (held, tt) | false ↦ tt ]
@@ -198,9 +198,9 @@ module _ (P : List ℕ → Type 0) where
   pictures_have [] all = tt
   pictures_have (r ∷ before) all =
       let c : Current = current (r ∷ before) in
-      let here : OfPictures (cond (is_slice r) (whole_part c) [])
-      = elim (is_slice r) as (λ b. OfPictures (cond b (whole_part c) [])) [ true ↦ whole_has c (current_has (r ∷ before) all) | false ↦ tt ] in
-      Each-append OfPicture (cond (is_slice r) (whole_part c) []) (pictures before) here (pictures_have before all.1)
+      let here : OfPictures (cond (is_slice r) (picture_if_whole c) [])
+      = elim (is_slice r) as (λ b. OfPictures (cond b (picture_if_whole c) [])) [ true ↦ whole_has c (current_has (r ∷ before) all) | false ↦ tt ] in
+      Each-append OfPicture (cond (is_slice r) (picture_if_whole c) []) (pictures before) here (pictures_have before all.1)
 
   pub have_units : (R : Readers) (units : List (List ℕ)) → AreOfH266 R → AllByRecursion P units → AllByRecursion OfPicture (pictures_of R units)
   have_units R units of has = pictures_have (read_on R [] units).before (units_have R of [] units has tt)

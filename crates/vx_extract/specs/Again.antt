@@ -20,11 +20,11 @@ use Rattle.vx_pic.specs.Sets.{SliceHeader, sps_id, pps_id, referred_sps, same_si
 use Rattle.vx_pic.specs.PictureLayout.{MakeLayout, ids_of, numbers_in}
 use Rattle.vx_pic.specs.Parts.{AreThere, Parts, parts_of}
 use Rattle.vx_pic.specs.Readings.{Begun, Picture, is_whole, messages_of}
-use Rattle.vx_pic.specs.Finished.{AreFinished, IsSound}
+use Rattle.vx_pic.specs.Finished.{AreFinished, IsSoundPicture}
 use Rattle.vx_pic.specs.Alike.{AlikeForCounts, AreAlike}
 use Rattle.vx_pic.specs.Resident.{AllReadAgain, AreAllPlanned, planned_of}
 use Rattle.vx_pic.specs.Written.{Plan}
-use Rattle.vx_pic.specs.Rules.{Readers, picture_limit, size_of}
+use Rattle.vx_pic.specs.Rules.{Readers, picture_limit, picture_size}
 use Rattle.vx_pic.specs.Whole.{HasAllInOrder}
 use Rattle.vx_pic.specs.H266.{AreOfH266}
 use Rattle.vx_extract.specs.Written.{AreExtracted, IsExtracted, named_in}
@@ -36,8 +36,8 @@ use Rattle.vx_write.specs.InForce.{AreInForce}
 
 -- The sets that are rewritten for a subpicture of a picture, at a level or at its own.
 pub record AreRewritten (target : ℕ) (level : Option ℕ) (q : Parts) (sps pps : List Item) : Type 0 where
-  pub of_sps : sps_reshaped.IsReshaped q.sps (sps_shape q target level) sps
-  pub of_pps : pps_reshaped.IsReshaped q.pps (pps_shape q target) pps
+  pub of_sps : sps_reshaped.IsReshapedSps q.sps (sps_shape q target level) sps
+  pub of_pps : pps_reshaped.IsReshapedPps q.pps (pps_shape q target) pps
 
 -- They make up a picture that is the region of the subpicture: its one subpicture has the id, is treated as a picture, and isn't
 -- filtered across.
@@ -70,8 +70,8 @@ RewrittenKeepIds =
 
 -- Their kept fields are the source's.
 pub record KeepFields (q : Parts) (sps pps : List Item) : Type 0 where
-  pub of_sps : sps_kept.kept_of sps ≡ sps_kept.kept_of q.sps
-  pub of_pps : pps_kept.kept_of pps ≡ pps_kept.kept_of q.pps
+  pub of_sps : sps_kept.kept_sps_items sps ≡ sps_kept.kept_sps_items q.sps
+  pub of_pps : pps_kept.kept_pps_items pps ≡ pps_kept.kept_pps_items q.pps
 
 abbrev pub RewrittenKeepFields : Type 0
 RewrittenKeepFields =
@@ -117,8 +117,8 @@ begun_alone target q sps pps = record {
 }
 
 -- a slice header of the one subpicture
-abbrev pub alone : SliceHeader → SliceHeader
-alone h = record { fields = h.fields; subpic = 0; payload = h.payload }
+abbrev pub header_alone : SliceHeader → SliceHeader
+header_alone h = record { fields = h.fields; subpic = 0; payload = h.payload }
 
 -- The same units are read under the sets: the layout is the region; picture headers are read alike, or refused alike; and each slice of
 -- the subpicture is read with the same fields, at the same place.
@@ -126,7 +126,7 @@ pub record ReadUnder (R : Readers) (target : ℕ) (q : Parts) (sps pps : List It
   pub layout : R.layout sps pps ≡ Ok (region_of q.layout target)
   pub header : (inside : Bool) (rbsp : List ℕ) → R.header inside sps pps rbsp ≡ R.header inside q.sps q.pps rbsp
   pub slice : (nal_type : ℕ) (unit : List ℕ) (h : SliceHeader) → h.subpic ≡ target
-      → R.slice nal_type (begun_in q) unit ≡ Ok h → R.slice nal_type (begun_alone target q sps pps) unit ≡ Ok (alone h)
+      → R.slice nal_type (begun_in q) unit ≡ Ok h → R.slice nal_type (begun_alone target q sps pps) unit ≡ Ok (header_alone h)
 
 abbrev pub RewrittenReadAlike : Type 0
 RewrittenReadAlike =
@@ -139,14 +139,14 @@ RewrittenReadAlike =
 abbrev pub ExtractedUnitsAreRead : Type 0
 ExtractedUnitsAreRead =
     (R : Readers) (target : ℕ) (level : Option ℕ) (earlier : List Picture) (picture : Picture) (done : List Plan) (p : Plan)
-    → AreOfH266 R → IsSound R earlier picture → is_whole picture ≡ true → AreInForce (parts_of picture)
+    → AreOfH266 R → IsSoundPicture R earlier picture → is_whole picture ≡ true → AreInForce (parts_of picture)
     → target < subpics_of picture.begun.sps → IsExtracted target level (parts_of picture) done p → UnitsAreRead R p
 
 -- They are all of a picture where that has all slices of its subpictures.
 abbrev pub ExtractedIsWhole : Type 0
 ExtractedIsWhole =
     (target : ℕ) (level : Option ℕ) (picture : Picture) (done : List Plan) (p : Plan) → HasAllInOrder picture
-    → size_of picture ≤ picture_limit → target < length picture.begun.layout.subpics
+    → picture_size picture ≤ picture_limit → target < length picture.begun.layout.subpics
     → IsExtracted target level (parts_of picture) done p → IsWholePlan p
 
 -- Of the sets that it needs those are sent that aren't resident.

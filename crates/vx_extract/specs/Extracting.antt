@@ -11,7 +11,7 @@ use Rattle.vx_write.specs.declared.fault.WriteError.{WriteError}
 use Rattle.vx_write.specs.declared.fault.WriteError.TheVariants as errors
 use Rattle.vx_write.specs.declared.fault.WriteFirst.{WriteFirst}
 use Rattle.vx_extract.specs.Rules.{is_kept, refusal_of}
-use Rattle.vx_extract.specs.Written.{slices_in, IsExtracted}
+use Rattle.vx_extract.specs.Written.{extracted_slices, IsExtracted}
 use Rattle.vx_write.specs.Slots.{Sent, held_serves}
 
 -- an extractor: the subpicture, the level that is asked for, the highest TemporalId that is kept, the sets that were sent since the last
@@ -36,7 +36,7 @@ pub record SameTask (old new : Extracting) : Type 0 where
 
 -- the picture has a slice of the subpicture, as each picture of a stream has of each of its subpictures
 abbrev pub HasSlice : ℕ → Parts → Type 0
-HasSlice target q = 0 < length (slices_in q target)
+HasSlice target q = 0 < length (extracted_slices q target)
 
 -- A sink with these bytes and this count of faults, before and after a picture was written to it, or left out.
 abbrev pub WritesKept : Bool → Parts → List Plan → Extracting → Option (List ℕ) → Option (List ℕ) → Type 0
@@ -46,17 +46,17 @@ WritesKept false q done new bytes bytes' = (bytes' ≡ bytes) × Stands new done
 
 -- The answer for a picture behind these: it breaks no rule, and was written or left out; it breaks a rule; memory ran out before a byte
 -- was written; or a write failed, and a front of it is written.
-abbrev pub Writes : Parts → List Plan → Extracting → Option (List ℕ) → Option (List ℕ) → ℕ → ℕ → Result (Unit {0}) WriteError → Type 0
-Writes q done new bytes bytes' faults faults' (Ok _) =
+abbrev pub WritesPicture : Parts → List Plan → Extracting → Option (List ℕ) → Option (List ℕ) → ℕ → ℕ → Result (Unit {0}) WriteError → Type 0
+WritesPicture q done new bytes bytes' faults faults' (Ok _) =
     (refusal_of new.target new.tid q ≡ None) × (faults' ≡ faults) × WritesKept (is_kept new.tid q) q done new bytes bytes'
-Writes q done new bytes bytes' faults faults' (Err (errors.Refused r)) =
+WritesPicture q done new bytes bytes' faults faults' (Err (errors.Refused r)) =
     (refusal_of new.target new.tid q ≡ Some r) × (bytes' ≡ bytes) × (faults' ≡ faults)
-Writes q done new bytes bytes' faults faults' (Err errors.Memory) =
+WritesPicture q done new bytes bytes' faults faults' (Err errors.Memory) =
     (refusal_of new.target new.tid q ≡ None) × (is_kept new.tid q ≡ true) × (bytes' ≡ bytes) × (faults' ≡ faults)
-Writes q done new bytes bytes' faults faults' (Err errors.SinkFailed) =
+WritesPicture q done new bytes bytes' faults faults' (Err errors.SinkFailed) =
     (refusal_of new.target new.tid q ≡ None) × (is_kept new.tid q ≡ true) × Rose faults faults'
     × (HasSlice new.target q → (p : Plan) × IsExtracted new.target new.level q done p × AppendsFront bytes bytes' (written (units_of p)))
-Writes q done new bytes bytes' faults faults' (Err (errors.Stopped f)) = ⊥
+WritesPicture q done new bytes bytes' faults faults' (Err (errors.Stopped f)) = ⊥
 
 -- Whatever was written before, it is refused exactly for the first rule that the picture breaks.
 abbrev pub JudgesSo : Parts → Extracting → Result (Unit {0}) WriteError → Type 0
@@ -67,7 +67,7 @@ JudgesSo q x (Err errors.SinkFailed) = refusal_of x.target x.tid q ≡ None
 JudgesSo q x (Err (errors.Stopped f)) = ⊥
 
 -- The same verdict without a byte written.
-abbrev pub Checks : Parts → Extracting → Result (Unit {0}) WriteError → Type 0
-Checks q x (Ok _) = refusal_of x.target x.tid q ≡ None
-Checks q x (Err (errors.Refused r)) = refusal_of x.target x.tid q ≡ Some r
-Checks q x (Err _) = ⊥
+abbrev pub ChecksPicture : Parts → Extracting → Result (Unit {0}) WriteError → Type 0
+ChecksPicture q x (Ok _) = refusal_of x.target x.tid q ≡ None
+ChecksPicture q x (Err (errors.Refused r)) = refusal_of x.target x.tid q ≡ Some r
+ChecksPicture q x (Err _) = ⊥

@@ -8,7 +8,7 @@ use Rattle.vx_pic.specs.Readings.{Picture, messages_of}
 use Rattle.vx_pic.specs.Parts.{Parts, parts_of}
 use Rattle.vx_pic.specs.Inputs.{body_of, inputs_of, place_in}
 use Rattle.vx_pic.specs.Written.{Plan, Rests, planned}
-use Rattle.vx_pic.specs.Resident.{planned_of, read_of}
+use Rattle.vx_pic.specs.Resident.{planned_of, readings_of_plans}
 use Rattle.vx_pic.specs.Rules.{Readers}
 use Rattle.vx_pic.specs.Finished.{AreFinished}
 use Rattle.vx_pic.specs.H266.{AreOfH266}
@@ -35,7 +35,7 @@ abbrev pub ExtractedKeepsBodies : Type 0
 ExtractedKeepsBodies =
     (target : ℕ) (level : Option ℕ) (picture : Picture) (done : List Plan) (p : Plan) → IsReady target picture
     → IsExtracted target level (parts_of picture) done p
-    → AllByRecursion (λ slot. body_of (parts_of (planned (read_of done) p)) slot.kind slot.id ≡ body_of (parts_of picture) slot.kind slot.id)
+    → AllByRecursion (λ slot. body_of (parts_of (planned (readings_of_plans done) p)) slot.kind slot.id ≡ body_of (parts_of picture) slot.kind slot.id)
     (named_in (parts_of picture) target)
 
 -- ---- pictures
@@ -44,13 +44,13 @@ ExtractedKeepsBodies =
 abbrev pub ExtractedKeepsInputs : Type 0
 ExtractedKeepsInputs =
     (target : ℕ) (level : Option ℕ) (picture : Picture) (done : List Plan) (p : Plan) → IsReady target picture
-    → IsExtracted target level (parts_of picture) done p → inputs_of (planned (read_of done) p) 0 ≡ inputs_of picture target
+    → IsExtracted target level (parts_of picture) done p → inputs_of (planned (readings_of_plans done) p) 0 ≡ inputs_of picture target
 
 -- and it has the picture's messages.
 abbrev pub ExtractedKeepsMessages : Type 0
 ExtractedKeepsMessages =
-    (target : ℕ) (level : Option ℕ) (picture : Picture) (done : List Plan) (p : Plan) → Rests (read_of done)
-    → IsExtracted target level (parts_of picture) done p → messages_of (planned (read_of done) p) ≡ messages_of picture
+    (target : ℕ) (level : Option ℕ) (picture : Picture) (done : List Plan) (p : Plan) → Rests (readings_of_plans done)
+    → IsExtracted target level (parts_of picture) done p → messages_of (planned (readings_of_plans done) p) ≡ messages_of picture
 
 -- So it is with all pictures of a stream.
 abbrev pub AllKeepInputs : Type 0

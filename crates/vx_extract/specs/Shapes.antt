@@ -12,7 +12,7 @@ use Rattle.vx_layout.specs.Regions.{region_of}
 use Rattle.vx_sps.specs.declared.shape.SpsShape.{SpsShape}
 use Rattle.vx_sps.specs.declared.shape.SubpicPlan.{SubpicPlan}
 use Rattle.vx_sps.specs.declared.shape.SubpicPlan.TheVariants.{Absent, One}
-use Rattle.vx_sps.specs.Set.{columns_of, rows_of, ctb_size_of}
+use Rattle.vx_sps.specs.Set.{ctu_columns_of, ctu_rows_of, ctb_size_of}
 use Rattle.vx_sps.specs.Subpictures.{rect_of}
 use Rattle.vx_pps.specs.declared.shape.PpsShape.{PpsShape}
 use Rattle.vx_pic.specs.Sets.{sps_id, pps_id, referred_sps}
@@ -45,9 +45,9 @@ offset source touches of = cond touches (number source of) 0
 abbrev pub window_of : List Item → Rect → List ℕ
 window_of source r =
     offset source (r.x == 0) sps.sps_conf_win_left_offset
-    ∷ offset source (r.x + r.w == columns_of source) sps.sps_conf_win_right_offset
+    ∷ offset source (r.x + r.w == ctu_columns_of source) sps.sps_conf_win_right_offset
     ∷ offset source (r.y == 0) sps.sps_conf_win_top_offset
-    ∷ offset source (r.y + r.h == rows_of source) sps.sps_conf_win_bottom_offset ∷ []
+    ∷ offset source (r.y + r.h == ctu_rows_of source) sps.sps_conf_win_bottom_offset ∷ []
 
 -- the DPB parameters of the source's highest sublayer, which come last
 abbrev pub dpb_of : List Item → List ℕ

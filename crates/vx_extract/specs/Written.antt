@@ -10,8 +10,8 @@ use Rattle.vx_pps.specs.Reshaped as pps_reshaped
 use Rattle.vx_layout.specs.Regions.{region_of}
 use Rattle.vx_pic.specs.Sets.{Slot}
 use Rattle.vx_pic.specs.Readings.{Slice}
-use Rattle.vx_pic.specs.Parts.{Parts, SlicePart, aps_at, id_count, named_by}
-use Rattle.vx_pic.specs.Written.{Set, an_sps, a_pps, an_aps, SetUnit, Plan, slices_of}
+use Rattle.vx_pic.specs.Parts.{Parts, SlicePart, aps_at, id_count, aps_named_by}
+use Rattle.vx_pic.specs.Written.{Set, an_sps, a_pps, an_aps, SetUnit, Plan, planned_slices}
 use Rattle.vx_pic.specs.Resident.{is_resident, sent_before, units_written}
 use Rattle.vx_write.specs.Units.{IsSetUnit, IsSeiUnit}
 use Rattle.vx_extract.specs.Shapes.{sps_shape, pps_shape}
@@ -26,8 +26,8 @@ parts_in q target = filter (λ s. s.header.subpic == target) q.slices
 abbrev pub slice_alone : SlicePart → Slice
 slice_alone s = record { unit = s.unit; header = record { fields = s.header.fields; subpic = 0; payload = s.payload } }
 
-abbrev pub slices_in : Parts → ℕ → List Slice
-slices_in q target = map slice_alone (parts_in q target)
+abbrev pub extracted_slices : Parts → ℕ → List Slice
+extracted_slices q target = map slice_alone (parts_in q target)
 
 -- ---- sets
 
@@ -38,15 +38,15 @@ slots_of kind = map (λ id. record { kind = kind; id = id }) (range_with_len 0 i
 abbrev pub all_slots : List Slot
 all_slots = slots_of ALF ++ (slots_of LMCS ++ slots_of SCALING)
 
-abbrev pub same_slot : Slot → Slot → Bool
-same_slot a b = (a.kind == b.kind) && (a.id == b.id)
+abbrev pub same_type_and_id : Slot → Slot → Bool
+same_type_and_id a b = (a.kind == b.kind) && (a.id == b.id)
 
 -- what the slices of the subpicture name: filters, and what the picture header names
 abbrev pub named_in : Parts → ℕ → List Slot
-named_in q target = flat_map (λ s. named_by q.pps q.header.fields s.header) (parts_in q target)
+named_in q target = flat_map (λ s. aps_named_by q.pps q.header.fields s.header) (parts_in q target)
 
 abbrev pub is_named : Parts → ℕ → Slot → Bool
-is_named q target slot = list_any (same_slot slot) (named_in q target)
+is_named q target slot = list_any (same_type_and_id slot) (named_in q target)
 
 -- the picture's set of a type and an id, where it has one
 abbrev pub set_of_slot : Slot → Option Aps → List Set
@@ -69,14 +69,14 @@ needed_sets q target sps pps = an_sps sps ∷ a_pps pps ∷ needed_aps q target
 -- A picture is written so behind others: rewritten sets, of which those are sent that aren't resident; its messages; its header and
 -- the slices of the subpicture as they stand, of which there is one at least.
 pub record IsExtracted (target : ℕ) (level : Option ℕ) (q : Parts) (done : List Plan) (p : Plan) : Type 0 where
-  pub sps : sps_reshaped.IsReshaped q.sps (sps_shape q target level) p.begun.sps
-  pub pps : pps_reshaped.IsReshaped q.pps (pps_shape q target) p.begun.pps
+  pub sps : sps_reshaped.IsReshapedSps q.sps (sps_shape q target level) p.begun.sps
+  pub pps : pps_reshaped.IsReshapedPps q.pps (pps_shape q target) p.begun.pps
   pub layout : p.begun.layout ≡ region_of q.layout target
   pub header : p.begun.header ≡ q.header.fields
   pub temporal_id : p.begun.temporal_id ≡ q.kind.temporal_id
   pub unit : p.begun.unit ≡ q.unit
   pub kind : p.kind ≡ q.kind
-  pub slices : slices_of p ≡ slices_in q target
+  pub slices : planned_slices p ≡ extracted_slices q target
   pub needed : List SetUnit
   pub sets : map (λ x. x.set) needed ≡ needed_sets q target p.begun.sps p.begun.pps
   pub units : AllByRecursion (λ x. IsSetUnit q.kind.temporal_id x.set x.unit) needed

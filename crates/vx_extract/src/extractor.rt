@@ -42,7 +42,7 @@ impl Extractor {
     ghost use Rattle.vx_write.specs.declared.fault.WriteFirst.{WriteFirst as First};
     ghost use Rattle.vx_write.specs.declared.fault.WriteError.TheVariants.{Stopped};
     ghost use Rattle.vx_write.specs.Faults as faults;
-    ghost use Rattle.vx_extract.specs.Extracting.{Stands, Writes, Checks, JudgesSo, SameTask};
+    ghost use Rattle.vx_extract.specs.Extracting.{Stands, WritesPicture, ChecksPicture, JudgesSo, SameTask};
 
     /// An extractor of the subpicture of this index, with a level of its own or the source's, of all sublayers.
     pub fn new(alloc: Global, target: u32, level: Option<u8>) -> Extractor
@@ -75,7 +75,7 @@ impl Extractor {
     /// is then written. All later pictures are answered with the first of these.
     pub fn picture<K: Sink>(&mut self, picture: &Picture<'_>, out: &mut K) -> Result<(), WriteError>
         ensures answer { (done : List Plan) → Stands self.old done
-            → Writes picture.now done self.new (K.bytes_taken out.old) (K.bytes_taken out.new) (K.write_faults out.old) (K.write_faults out.new) result }
+            → WritesPicture picture.now done self.new (K.bytes_taken out.old) (K.bytes_taken out.new) (K.write_faults out.old) (K.write_faults out.new) result }
         ensures verdict { self.old.first ≡ None → JudgesSo picture.now self.new result }
         ensures task { SameTask self.old self.new }
         ensures first { IfErr result (λ e. self.new.first ≡ Some (faults.first_of e)) }
@@ -101,7 +101,7 @@ impl Extractor {
     ///
     /// The rule that the picture breaks. All later pictures are answered with the first one.
     pub fn check(&mut self, picture: &Picture<'_>) -> Result<(), WriteError>
-        ensures answer { self.old.first ≡ None → Checks picture.now self.old result }
+        ensures answer { self.old.first ≡ None → ChecksPicture picture.now self.old result }
         ensures task { SameTask self.old self.new }
         ensures first { IfErr result (λ e. self.new.first ≡ Some (faults.first_of e)) }
         ensures stopped { (f : First) → self.old.first ≡ Some f → (result ≡ Err (Stopped f)) × (self.new ≡ self.old) }

@@ -36,10 +36,6 @@ fn sets_tell(picture: &Picture<'_>)
 }
 
 /// The sets that are sent for a picture.
-///
-/// # Errors
-///
-/// Want of memory.
 fn rewritten_for(
     alloc: Global,
     picture: &Picture<'_>,
@@ -76,10 +72,6 @@ fn is_of(kept: &Rewritten, picture: &Picture<'_>) -> bool
 }
 
 /// The sets that are sent for a picture: the kept ones, where the picture has the same two sets.
-///
-/// # Errors
-///
-/// Want of memory.
 pub(crate) fn rewrite(
     alloc: Global,
     kept: Option<Rewritten>,

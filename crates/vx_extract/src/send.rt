@@ -40,10 +40,6 @@ impl Made {
 }
 
 /// Makes the unit of the adaptation parameter set at a place, where the subpicture names it.
-///
-/// # Errors
-///
-/// Want of memory.
 fn send_aps(
     alloc: Global,
     slots: &mut Slots,
@@ -67,10 +63,6 @@ fn send_aps(
 }
 
 /// Makes the units of the adaptation parameter sets that the subpicture names, by rising type and id.
-///
-/// # Errors
-///
-/// Want of memory.
 fn send_named(
     alloc: Global,
     slots: &mut Slots,
@@ -92,10 +84,6 @@ fn send_named(
 }
 
 /// Makes the units of the sets that the subpicture needs, of those that aren't resident.
-///
-/// # Errors
-///
-/// Want of memory.
 fn send_needed(
     alloc: Global,
     slots: &mut Slots,
@@ -105,8 +93,8 @@ fn send_needed(
     pps: &Pps,
 ) -> Result<Vec<Vec<u8>>, AllocError>
     requires tid { picture.now.kind.temporal_id < 7 }
-    requires sps { sps_set.IsItems sps.now }
-    requires pps { pps_set.IsItems pps.now }
+    requires sps { sps_set.AreSpsItems sps.now }
+    requires pps { pps_set.ArePpsItems pps.now }
     ensures { (before : List SetUnit) → AreLastOf before slots.old
         → IfOk result (λ units. AreSent picture.now.kind.temporal_id before (needed_sets picture.now target sps.now pps.now)
         slots.new (map (λ unit. unit.items) units.items)) }
@@ -120,10 +108,6 @@ fn send_needed(
 }
 
 /// Makes what is written of a picture beside its own units. The rewritten sets are kept for the next picture.
-///
-/// # Errors
-///
-/// Want of memory.
 pub(crate) fn make(
     alloc: Global,
     slots: &mut Slots,

@@ -182,10 +182,6 @@ fn sps_shape(picture: &Picture<'_>, target: u32, level: Option<u8>) -> SpsShape
 }
 
 /// The SPS for a subpicture of a picture, at a level, or at its own.
-///
-/// # Errors
-///
-/// Want of memory.
 pub(crate) fn rewritten_sps(
     alloc: Global,
     picture: &Picture<'_>,
@@ -193,7 +189,7 @@ pub(crate) fn rewritten_sps(
     level: Option<u8>,
 ) -> Result<Sps, AllocError>
     requires { target < subpics_of picture.now.sps }
-    ensures { IfOk result (λ sps. sps_reshaped.IsReshaped picture.now.sps (spec.sps_shape picture.now target level) sps) }
+    ensures { IfOk result (λ sps. sps_reshaped.IsReshapedSps picture.now.sps (spec.sps_shape picture.now target level) sps) }
 {
     let shape = sps_shape(picture, target, level);
     reshape_sps(alloc, picture.sps(), &shape)
@@ -216,10 +212,6 @@ fn id_in_pps(picture: &Picture<'_>, target: u32) -> Option<(u32, u32)>
 }
 
 /// What the PPS says.
-///
-/// # Errors
-///
-/// Want of memory.
 fn pps_shape(alloc: Global, picture: &Picture<'_>, target: u32) -> Result<PpsShape, AllocError>
     requires { target < subpics_of picture.now.sps }
     ensures value { IfOk result (λ shape. shape ≡ spec.pps_shape picture.now target) }
@@ -252,17 +244,13 @@ fn pps_shape(alloc: Global, picture: &Picture<'_>, target: u32) -> Result<PpsSha
 }
 
 /// The PPS for a subpicture of a picture.
-///
-/// # Errors
-///
-/// Want of memory.
 pub(crate) fn rewritten_pps(
     alloc: Global,
     picture: &Picture<'_>,
     target: u32,
 ) -> Result<Pps, AllocError>
     requires { target < subpics_of picture.now.sps }
-    ensures { IfOk result (λ pps. pps_reshaped.IsReshaped picture.now.pps (spec.pps_shape picture.now target) pps) }
+    ensures { IfOk result (λ pps. pps_reshaped.IsReshapedPps picture.now.pps (spec.pps_shape picture.now target) pps) }
 {
     let shape = pps_shape(alloc, picture, target)?;
     reshape_pps(alloc, picture.pps(), &shape)

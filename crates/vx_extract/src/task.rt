@@ -2,7 +2,7 @@
 ghost use Rattle.std.specs.Prelude.{◌≡◌, ◌≤◌, List, None, IfSome};
 ghost use Rattle.vx_pic.specs.Written.{Plan};
 ghost use Rattle.vx_pic.specs.Resident.{history_of};
-ghost use Rattle.vx_extract.specs.Extracting.{JudgesSo, Writes};
+ghost use Rattle.vx_extract.specs.Extracting.{JudgesSo, WritesPicture};
 ghost use Rattle.vx_extract.specs.inner.Rewritings.{IsRewriting};
 ghost use Rattle.vx_write.specs.Slots.{AreLastOf};
 
@@ -40,7 +40,7 @@ pub(crate) fn write<K: Sink>(
     ensures kept { IfSome kept.new (IsRewriting task.target task.level) }
     ensures verdict { JudgesSo picture.now (record { target = task.target; level = task.level; tid = task.tid; slots = slots.new; first = None }) result }
     ensures answer { (done : List Plan) → AreLastOf (history_of done) slots.old
-        → Writes picture.now done (record { target = task.target; level = task.level; tid = task.tid; slots = slots.new; first = None })
+        → WritesPicture picture.now done (record { target = task.target; level = task.level; tid = task.tid; slots = slots.new; first = None })
         (K.bytes_taken out.old) (K.bytes_taken out.new) (K.write_faults out.old) (K.write_faults out.new) result }
 {
     if let Some(refusal) = refusal_of(picture, task.target, task.tid) {

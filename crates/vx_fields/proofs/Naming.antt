@@ -7,8 +7,8 @@ use Rattle.std.proofs.lemmas.Bool.{and_parts, cases_order, leb-true, ltb-true, l
 use Rattle.std.proofs.lemmas.List.{length-take, length-drop, length-map, get_or-map, get_or_default}
 use Rattle.std.proofs.lemmas.List.Elements.{All-cons, All-nil}
 use Rattle.std.proofs.lemmas.List.Kept.{AllPairs-cons}
-use Rattle.vx_fields.specs.Names.{named, place_of, name_of, FieldsHaveNames, NamesAreDistinct}
-use Rattle.vx_fields.specs.Numbers.{fields}
+use Rattle.vx_fields.specs.Names.{name_if_any, place_of_name, name_of, FieldsHaveNames, NamesAreDistinct}
+use Rattle.vx_fields.specs.laws.Numbers.{numbered_fields}
 use Rattle.vx_fields.specs.declared.text.TheConstants.{TEXT, PLACES}
 
 -- ---- places that don't fall, and stay within a bound
@@ -43,39 +43,39 @@ places_climb : climbs (length TEXT) PLACES ≡ true
 unfolding climbs
 places_climb = refl
 
-pub place_climbs : (n : ℕ) → place_of n ≤ place_of (n + 1)
+pub place_climbs : (n : ℕ) → place_of_name n ≤ place_of_name (n + 1)
 place_climbs n = let next : n + 1 ≡ suc n = omega arith in rw next (climbs_on (length TEXT) PLACES n places_climb)
 
-pub place_within : (n : ℕ) → place_of n ≤ length TEXT
+pub place_within : (n : ℕ) → place_of_name n ≤ length TEXT
 place_within n = climbs_within (length TEXT) PLACES n places_climb
 
 -- ---- the part of the text between two places
 
 part : ℕ → List ℕ
-part n = slice_range TEXT (place_of n) (place_of (n + 1))
+part n = slice_range TEXT (place_of_name n) (place_of_name (n + 1))
 
-part_length : (n : ℕ) → length (part n) ≡ place_of (n + 1) - place_of n
+part_length : (n : ℕ) → length (part n) ≡ place_of_name (n + 1) - place_of_name n
 unfolding part
 part_length n =
-    let taken = length-take (place_of (n + 1) - place_of n) (drop (place_of n) TEXT) in
-    let dropped = length-drop (place_of n) TEXT in
+    let taken = length-take (place_of_name (n + 1) - place_of_name n) (drop (place_of_name n) TEXT) in
+    let dropped = length-drop (place_of_name n) TEXT in
     omega (arith, taken, dropped, place_within (n + 1))
 
-some_named : (l : List ℕ) → 0 < length l → IsSome (named l)
+some_named : (l : List ℕ) → 0 < length l → IsSome (name_if_any l)
 some_named [] long = absurd (omega (arith, long))
 some_named (c ∷ cs) long = refl
 
-named_long : (l : List ℕ) → IsSome (named l) → 0 < length l
+named_long : (l : List ℕ) → IsSome (name_if_any l) → 0 < length l
 named_long [] is = absurd (false≢true is)
 named_long (c ∷ cs) is = omega arith
 
-named_is : (l name : List ℕ) → named l ≡ Some name → l ≡ name
+named_is : (l name : List ℕ) → name_if_any l ≡ Some name → l ≡ name
 named_is [] name is = absurd (cc)
 named_is (c ∷ cs) name is = (cc)
 
 -- ---- what is given of a part, by whether it is empty
 
-if_long : (l : List ℕ) (empty : Bool) → empty ≡ nat_eq (length l) 0 → cond (not empty) (Some l) None ≡ named l
+if_long : (l : List ℕ) (empty : Bool) → empty ≡ nat_eq (length l) 0 → cond (not empty) (Some l) None ≡ name_if_any l
 if_long [] true is = refl
 if_long [] false is = absurd (false≢true is)
 if_long (c ∷ cs) true is = absurd (omega (arith, eqb-true (length (c ∷ cs)) 0 (sym is)))
@@ -85,11 +85,11 @@ copied : (b : Bool) (l : Bor (List ℕ)) → option_copied (then_some b l) ≡ c
 copied true l = refl
 copied false l = refl
 
-pub given_name : (n p q : ℕ) (l : Bor (List ℕ)) (empty : Bool) → p ≡ place_of n → q ≡ place_of (n + 1) → l.now ≡ slice_range TEXT p q → empty ≡ nat_eq (length l.now) 0
+pub given_name : (n p q : ℕ) (l : Bor (List ℕ)) (empty : Bool) → p ≡ place_of_name n → q ≡ place_of_name (n + 1) → l.now ≡ slice_range TEXT p q → empty ≡ nat_eq (length l.now) 0
     → option_copied (then_some (not empty) l) ≡ name_of n
 unfolding name_of
 given_name n p q l empty from end is long =
-    copied (not empty) l ∙ if_long l.now empty long ∙ ap named (is ∙ ap₂ (slice_range TEXT) from end)
+    copied (not empty) l ∙ if_long l.now empty long ∙ ap name_if_any (is ∙ ap₂ (slice_range TEXT) from end)
 
 -- ---- which numbers have one
 
@@ -123,7 +123,7 @@ has_begun from bound [] m (k, within, is) = absurd (omega (arith, within))
 has_begun from bound (p ∷ ps) m has = first_or_later from bound p ps m (nat_lt p (get_or ps 0 bound)) refl (has_begun (suc from) bound ps m) has
 
 -- as computed
-fields_begun : begun 0 (length TEXT) PLACES ≡ fields
+fields_begun : begun 0 (length TEXT) PLACES ≡ numbered_fields
 unfolding begun
 fields_begun = refl
 
@@ -133,12 +133,12 @@ fields_named n =
     let next : n + 1 ≡ suc n = omega arith in (
       λ is.
           let long = named_long (part n) is in
-          let rises : place_of n < place_of (suc n) = subst (λ k. place_of n < place_of k) next (omega (arith, long, part_length n)) in
-          subst (λ m. Contains fields m) (zero-add n) (subst (λ fs. Contains fs (0 + n)) fields_begun (begun_has 0 (length TEXT) PLACES n rises)),
+          let rises : place_of_name n < place_of_name (suc n) = subst (λ k. place_of_name n < place_of_name k) next (omega (arith, long, part_length n)) in
+          subst (λ m. Contains numbered_fields m) (zero-add n) (subst (λ fs. Contains fs (0 + n)) fields_begun (begun_has 0 (length TEXT) PLACES n rises)),
       λ has.
           let found = has_begun 0 (length TEXT) PLACES n (subst (λ fs. Contains fs n) (sym fields_begun) has) in
-          let rises : place_of n < place_of (suc n) = subst (λ k. place_of k < place_of (suc k)) (sym (found.1 ∙ zero-add found.0)) found.2 in
-          some_named (part n) (omega (arith, part_length n, subst (λ k. place_of n < place_of k) (sym next) rises)),
+          let rises : place_of_name n < place_of_name (suc n) = subst (λ k. place_of_name k < place_of_name (suc k)) (sym (found.1 ∙ zero-add found.0)) found.2 in
+          some_named (part n) (omega (arith, part_length n, subst (λ k. place_of_name n < place_of_name k) (sym next) rises)),
     )
 
 -- ---- no name is given twice
@@ -157,7 +157,7 @@ differ [] = true
 differ (k ∷ ks) = absent k ks && differ ks
 
 -- as computed
-keys_differ : differ (map (λ n. key (part n)) fields) ≡ true
+keys_differ : differ (map (λ n. key (part n)) numbered_fields) ≡ true
 unfolding differ absent key part
 keys_differ = refl
 
@@ -174,11 +174,11 @@ differ_are [] h = λ i j d before within. omega (arith, within)
 differ_are (k ∷ ks) h = let parts = and_parts (absent k ks) (differ ks) h in AllPairs-cons (λ m n. m ≢ n) k ks (absent_is k ks parts.0) (differ_are ks parts.1)
 
 -- the keys of two fields at different places
-keys_apart : (m n : ℕ) (has : Contains fields m) (then : Contains fields n) → has.0 < then.0 → key (part m) ≢ key (part n)
+keys_apart : (m n : ℕ) (has : Contains numbered_fields m) (then : Contains numbered_fields n) → has.0 < then.0 → key (part m) ≢ key (part n)
 keys_apart m n (i, within, is) (j, within', is') before same =
-    let at = get_or-map (λ n. key (part n)) fields i m 0 within ∙ ap (λ n. key (part n)) is in
-    let at' = get_or-map (λ n. key (part n)) fields j n 0 within' ∙ ap (λ n. key (part n)) is' in
-    differ_are (map (λ n. key (part n)) fields) keys_differ i j 0 before (subst (λ k. j < k) (sym (length-map fields (λ n. key (part n)))) within') (at ∙ same ∙ sym at')
+    let at = get_or-map (λ n. key (part n)) numbered_fields i m 0 within ∙ ap (λ n. key (part n)) is in
+    let at' = get_or-map (λ n. key (part n)) numbered_fields j n 0 within' ∙ ap (λ n. key (part n)) is' in
+    differ_are (map (λ n. key (part n)) numbered_fields) keys_differ i j 0 before (subst (λ k. j < k) (sym (length-map numbered_fields (λ n. key (part n)))) within') (at ∙ same ∙ sym at')
 
 pub names_differ : NamesAreDistinct
 unfolding name_of part
@@ -186,6 +186,6 @@ names_differ m n name is is' =
     let has = (fields_named m).0 (rw is refl) in
     let has' = (fields_named n).0 (rw is' refl) in
     let same : key (part m) ≡ key (part n) = ap key (named_is (part m) name is ∙ sym (named_is (part n) name is')) in
-    ⊎_elim (λ at. sym has.2 ∙ ap (λ k. get_or fields k m) at ∙ get_or_default fields has'.0 m n has'.1 ∙ has'.2)
+    ⊎_elim (λ at. sym has.2 ∙ ap (λ k. get_or numbered_fields k m) at ∙ get_or_default numbered_fields has'.0 m n has'.1 ∙ has'.2)
     (⊎_elim (λ before. absurd (keys_apart m n has has' before same)) (λ before. absurd (keys_apart n m has' has before (sym same))))
     (cases_order has.0 has'.0)

@@ -1,3 +1,3 @@
 -- The numbers of fields and names.
 pub mod Names
-pub mod Numbers
+pub mod laws

@@ -1,24 +1,24 @@
 -- The names of fields as text.
 use Rattle.std.specs.Prelude.{◌≡◌, ℕ, ◌+◌, List, [], ◌∷◌, length, get_or, slice_range, Contains, Option, Some, None, IsSome, ◌↔◌}
 use Rattle.vx_fields.specs.declared.text.TheConstants.{TEXT, PLACES}
-use Rattle.vx_fields.specs.Numbers.{fields}
+use Rattle.vx_fields.specs.laws.Numbers.{numbered_fields}
 
 -- where the name of a number begins in the text with all names; of a number above all fields, where the text ends
-abbrev pub place_of : ℕ → ℕ
-place_of n = get_or PLACES n (length TEXT)
+abbrev pub place_of_name : ℕ → ℕ
+place_of_name n = get_or PLACES n (length TEXT)
 
 -- a name has a character
-abbrev pub named : List ℕ → Option (List ℕ)
-named [] = None
-named (c ∷ cs) = Some (c ∷ cs)
+abbrev pub name_if_any : List ℕ → Option (List ℕ)
+name_if_any [] = None
+name_if_any (c ∷ cs) = Some (c ∷ cs)
 
 -- the name of the field with this number: the text from its place up to that of the next number
 unfoldable pub name_of : ℕ → Option (List ℕ)
-name_of n = named (slice_range TEXT (place_of n) (place_of (n + 1)))
+name_of n = name_if_any (slice_range TEXT (place_of_name n) (place_of_name (n + 1)))
 
 -- Each field has a name, and no other number has one.
 abbrev pub FieldsHaveNames : Type 0
-FieldsHaveNames = (n : ℕ) → IsSome (name_of n) ↔ Contains fields n
+FieldsHaveNames = (n : ℕ) → IsSome (name_of n) ↔ Contains numbered_fields n
 
 -- No two numbers have one name.
 abbrev pub NamesAreDistinct : Type 0

@@ -1,6 +1,6 @@
 //! Laws of the numbers: functions that do nothing, each with a law as its contract.
 ghost use Rattle.vx_fields.specs.Names.{FieldsHaveNames, NamesAreDistinct};
-ghost use Rattle.vx_fields.specs.Numbers.{NumbersAreDistinct, NumbersFitAScope};
+ghost use Rattle.vx_fields.specs.laws.Numbers.{NumbersAreDistinct, NumbersFitAScope};
 
 /// No number is given to two fields or names.
 pub fn numbers_are_distinct()

@@ -17,8 +17,8 @@ pub fn name_of(field: u16) -> Option<&'static [u8]>
 
 /// Where the name of this number begins in the text.
 fn place_of(number: usize) -> usize
-    ensures place { result ≡ names.place_of number }
-    ensures climbs { result ≤ names.place_of (number + 1) }
+    ensures place { result ≡ names.place_of_name number }
+    ensures climbs { result ≤ names.place_of_name (number + 1) }
     ensures within { result ≤ length ALL_NAMES }
 {
     match PLACES.get(number) {

@@ -6,7 +6,7 @@ use Rattle.std.proofs.lemmas.Grind.{div_ceil_times}
 use Rattle.std.proofs.lemmas.List.{get_or_default}
 use Rattle.std.specs.Int.{div_ceil}
 use Rattle.vx_fit.specs.declared.placed.Placed.{Placed}
-use Rattle.vx_fit.specs.FitLaws.{AreItsSamples, BorderIsRegions}
+use Rattle.vx_fit.specs.laws.Fitting.{AreItsSamples, BorderIsRegions}
 use Rattle.vx_fit.specs.Placing.{FitTogether, IsCovered, IsOnGrid, covers, frame_height, frame_width}
 use Rattle.vx_fit.proofs.Overlapping.{covers_from, covers_tells}
 use Rattle.vx_fit.proofs.Positions.{on_grid}

@@ -4,7 +4,7 @@ use Rattle.std.proofs.lemmas.Bool.{cases_eq}
 use Rattle.std.specs.List.{All, AllPairs}
 use Rattle.vx_fit.specs.declared.placed.FitFault.TheVariants.{TooLarge, Geometry, Order}
 use Rattle.vx_fit.specs.FitFaults.{ComesTooEarly, IsOffGrid, OverlapsLower}
-use Rattle.vx_fit.specs.FitLaws.{FaultlessFits}
+use Rattle.vx_fit.specs.laws.Fitting.{FaultlessFits}
 use Rattle.vx_fit.specs.Lowest.{IsLowest}
 use Rattle.vx_fit.specs.Placing.{IsFilled, IsOnGrid, Overlap, frame_height, frame_width}
 use Rattle.vx_fit.specs.inner.Searches.{areas}

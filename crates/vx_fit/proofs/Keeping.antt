@@ -8,7 +8,7 @@ use Rattle.vx_layout.specs.declared.rect.Rect.{Rect}
 use Rattle.vx_layout.specs.Borders.{SplitsAtLines}
 use Rattle.vx_layout.specs.Bounds.{Rises, last}
 use Rattle.vx_layout.specs.Faults.{NoneBetween}
-use Rattle.vx_layout.specs.FrameLaws.{BeginsOrFollows, StandInRuns}
+use Rattle.vx_layout.specs.laws.Frames.{BeginsOrFollows, StandInRuns}
 use Rattle.vx_layout.specs.Frames.{IsPlaced}
 use Rattle.vx_layout.specs.Layouts.{no_rect}
 use Rattle.vx_layout.proofs.FrameSlices.{AllZip-at, AllZip-from, AllZip-long}

@@ -6,7 +6,7 @@ use Rattle.vx_layout.specs.declared.numbers.Numbers.{Numbers}
 use Rattle.vx_layout.specs.declared.rect.Rect.{Rect}
 use Rattle.vx_layout.specs.Bounds.{last}
 use Rattle.vx_layout.specs.Faults.{SubpicsCover}
-use Rattle.vx_layout.specs.FrameLaws.{TilesHoldRuns}
+use Rattle.vx_layout.specs.laws.Frames.{TilesHoldRuns}
 use Rattle.vx_layout.specs.Frames.{IsPlaced, frame_of}
 use Rattle.vx_layout.specs.Shapes.{AreListable}
 use Rattle.vx_layout.proofs.Corners.{first-begins, last-ends}
@@ -15,7 +15,7 @@ use Rattle.vx_layout.proofs.FrameSlices.{AllZip-long}
 use Rattle.vx_layout.proofs.FrameWhole.{frame-alone, frame-layout, frame-region}
 use Rattle.vx_layout.proofs.TileRuns.{runs-fill}
 use Rattle.vx_fit.specs.declared.placed.Placed.{Placed}
-use Rattle.vx_fit.specs.FitLaws.{IsMergedLayout}
+use Rattle.vx_fit.specs.laws.Fitting.{IsMergedLayout}
 use Rattle.vx_fit.specs.FrameLines.{HaveLines, no_numbers}
 use Rattle.vx_fit.specs.Placing.{FitTogether, in_ctus}
 use Rattle.vx_fit.specs.Sources.{IsSource}

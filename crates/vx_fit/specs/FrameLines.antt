@@ -26,8 +26,8 @@ part_at parts k = slice_index_or parts k no_numbers
 abbrev pub OfSome : List Rect → List Numbers → (Rect → Numbers → Type 0) → Type 0
 OfSome corners parts P = (k : ℕ) × (k < length corners) × P (corner_at corners k) (part_at parts k)
 
-abbrev pub OfEach : List Rect → List Numbers → (Rect → Numbers → Type 0) → Type 0
-OfEach corners parts P = (k : ℕ) → k < length corners → P (corner_at corners k) (part_at parts k)
+abbrev pub OfEachRegion : List Rect → List Numbers → (Rect → Numbers → Type 0) → Type 0
+OfEachRegion corners parts P = (k : ℕ) → k < length corners → P (corner_at corners k) (part_at parts k)
 
 -- n is a bound of a picture that stands at `from`
 abbrev pub HasBound : ℕ → List ℕ → ℕ → Type 0
@@ -65,8 +65,8 @@ HasOneTile p = (length p.columns ≡ 2) × (length p.rows ≡ 2)
 pub record IsDropped (corners : List Rect) (parts : List Numbers) (n : ℕ) : Type 0 where
   pub full : IsFull corners parts n
   pub crosses : OfSome corners parts (λ s p. Crosses s p n)
-  pub inner : OfEach corners parts (λ s p. ¬ IsInner s p n)
-  pub single : OfEach corners parts (λ s p. IsBorder s n → HasOneTile p)
+  pub inner : OfEachRegion corners parts (λ s p. ¬ IsInner s p n)
+  pub single : OfEachRegion corners parts (λ s p. IsBorder s n → HasOneTile p)
 
 -- the horizontal lines: the full ones without those that are left out
 abbrev pub IsHorizontal : List Rect → List Numbers → ℕ → Type 0
@@ -82,8 +82,8 @@ abbrev pub StandsOn : Rect → Rect → Type 0
 StandsOn r s = SameSides r s × (r.y + r.h ≡ s.y)
 
 -- where the upper border of region k is left out, the region before it in the list stands upon it
-abbrev pub Follows : List Rect → List Numbers → ℕ → Type 0
-Follows corners parts k =
+abbrev pub FollowsAcrossDropped : List Rect → List Numbers → ℕ → Type 0
+FollowsAcrossDropped corners parts k =
     IsDropped corners parts (corner_at corners k).y → (j : ℕ) × (j + 1 ≡ k) × StandsOn (corner_at corners j) (corner_at corners k)
 
 -- strictly inside what begins at `from` the lines are the bounds of a picture that stands there
@@ -95,7 +95,7 @@ LinesAreOwn IsLine from size own = (n : ℕ) → PassesInside from size n → Is
 pub record KeepsLines (corners : List Rect) (parts : List Numbers) (k : ℕ) : Type 0 where
   pub columns : LinesAreOwn (IsVertical corners parts) (corner_at corners k).x (corner_at corners k).w (part_at parts k).columns
   pub rows : LinesAreOwn (IsHorizontal corners parts) (corner_at corners k).y (corner_at corners k).h (part_at parts k).rows
-  pub above : Follows corners parts k
+  pub above : FollowsAcrossDropped corners parts k
 
 -- columns and rows that are exactly the frame's lines, where each region keeps its own
 pub record HaveLines (columns rows : List ℕ) (corners : List Rect) (parts : List Numbers) : Type 0 where

@@ -1,8 +1,8 @@
 -- Definitions that the contracts of this crate cite.
 pub mod FitFaults
-pub mod FitLaws
 pub mod FrameLines
 pub mod Lowest
 pub mod Placing
 pub mod Sources
 pub mod inner
+pub mod laws

@@ -12,16 +12,16 @@ unfoldable pub covers : Placed → ℕ → ℕ → Bool
 covers p x y = (nat_le p.x x && nat_lt x (p.x + p.w)) && (nat_le p.y y && nat_lt y (p.y + p.h))
 
 -- the greatest number that f gives of the regions, and 0 where there are none
-abbrev pub greatest : (Placed → ℕ) → List Placed → ℕ
-greatest f [] = 0
-greatest f (p ∷ ps) = max (f p) (greatest f ps)
+abbrev pub greatest_by : (Placed → ℕ) → List Placed → ℕ
+greatest_by f [] = 0
+greatest_by f (p ∷ ps) = max (f p) (greatest_by f ps)
 
 -- the frame's size in luma samples: it reaches as far right and as far down as a region does
 abbrev pub frame_width : List Placed → ℕ
-frame_width placed = greatest (λ p. p.x + p.w) placed
+frame_width placed = greatest_by (λ p. p.x + p.w) placed
 
 abbrev pub frame_height : List Placed → ℕ
-frame_height placed = greatest (λ p. p.y + p.h) placed
+frame_height placed = greatest_by (λ p. p.y + p.h) placed
 
 -- the greatest width and height of a frame
 abbrev pub greatest_size : ℕ

@@ -1,5 +1,5 @@
 //! Laws on regions and their lines: functions that do nothing, each with laws as its contract.
-ghost use Rattle.vx_fit.specs.FitLaws.{BorderIsRegions, FaultlessFits, FitFaultIsOne, FittingHasNoFault, FrameOfRegions, KeepingHasNoFault, LinesAreOne, LinesFaultIsOne};
+ghost use Rattle.vx_fit.specs.laws.Fitting.{BorderIsRegions, FaultlessFits, FitFaultIsOne, FittingHasNoFault, FrameOfRegions, KeepingHasNoFault, LinesAreOne, LinesFaultIsOne};
 
 /// Regions have one fault at most, and none where they fit together.
 pub fn fit_fault_is_one()

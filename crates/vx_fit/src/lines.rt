@@ -3,7 +3,7 @@ ghost use Rattle.std.specs.Prelude.{◌≡◌, ℕ, ◌+◌, ◌<◌, ◌≤◌,
 ghost use Rattle.std.specs.Bool.{OnTrue, OnFalse};
 ghost use Rattle.std.specs.List.{AllZip};
 ghost use Rattle.vx_layout.specs.Bounds.{Rises};
-ghost use Rattle.vx_fit.specs.FrameLines.{AreBounds, Crosses, Follows, HasBound, HasOneTile, HaveLines, IfLines, IsBorder, IsDropped, IsFull, IsHorizontal, IsInner, IsLinesFault, IsVertical, KeepsLines, OfEach, OfSome, PassesInside, StandsOn};
+ghost use Rattle.vx_fit.specs.FrameLines.{AreBounds, Crosses, FollowsAcrossDropped, HasBound, HasOneTile, HaveLines, IfLines, IsBorder, IsDropped, IsFull, IsHorizontal, IsInner, IsLinesFault, IsVertical, KeepsLines, OfEachRegion, OfSome, PassesInside, StandsOn};
 ghost use Rattle.vx_fit.specs.Sources.{IsFitted, IsSized};
 ghost use Rattle.vx_fit.specs.Placing.{greatest_size};
 ghost use Rattle.vx_fit.specs.inner.Passing.{AreFramed, AreOwn, IsLinesAnswer, LetsDrop};
@@ -193,8 +193,8 @@ fn crosses_some(corners: &[Rect], parts: &[Numbers], n: u32) -> bool
 /// Whether each region lets a horizontal line be left out.
 fn all_let_drop(corners: &[Rect], parts: &[Numbers], n: u32) -> bool
     requires { length corners.now ≡ length parts.now }
-    ensures all { OnTrue result (OfEach corners.now parts.now (λ s p. LetsDrop s p n)) }
-    ensures not_all { OnFalse result (¬ OfEach corners.now parts.now (λ s p. LetsDrop s p n)) }
+    ensures all { OnTrue result (OfEachRegion corners.now parts.now (λ s p. LetsDrop s p n)) }
+    ensures not_all { OnFalse result (¬ OfEachRegion corners.now parts.now (λ s p. LetsDrop s p n)) }
 {
     for k in 0..corners.len() {
         if !lets_drop(corners[k], &parts[k], n) {
@@ -332,8 +332,8 @@ fn are_own(bounds: &Bounds, from: u32, size: u32, own: &Bounds) -> bool
 fn follows(corners: &[Rect], parts: &[Numbers], k: usize) -> bool
     requires place { k < length corners.now }
     requires same { length corners.now ≡ length parts.now }
-    ensures follows { OnTrue result (Follows corners.now parts.now k) }
-    ensures alone { OnFalse result (¬ Follows corners.now parts.now k) }
+    ensures follows { OnTrue result (FollowsAcrossDropped corners.now parts.now k) }
+    ensures alone { OnFalse result (¬ FollowsAcrossDropped corners.now parts.now k) }
 {
     if !is_dropped(corners, parts, corners[k].y) {
         return true;

@@ -22,28 +22,28 @@ use Rattle.vx_table.proofs.Loading.{number_of_shown}
 use Rattle.vx_table.proofs.Numbers.{powers_least}
 use Rattle.vx_sps.specs.declared.shape.SpsShape.{SpsShape}
 use Rattle.vx_sps.specs.declared.tables.TheConstants.{TAKEN}
-use Rattle.vx_sps.specs.Reread.{ReshapedSignals}
+use Rattle.vx_sps.specs.laws.Reread.{ReshapedSignals}
 use Rattle.vx_sps.specs.Set.{extra_ph_bits_of, extra_sh_bits_of, set_flags}
-use Rattle.vx_sps.specs.Subpictures.{id_of, subpics_of}
+use Rattle.vx_sps.specs.Subpictures.{sps_subpic_id_of, subpics_of}
 use Rattle.vx_sps.proofs.Stated.{below}
 use Rattle.vx_pps.specs.Pps.{default_active}
 use Rattle.vx_pps.specs.Reshaped.{taken}
 use Rattle.vx_pps.proofs.Fields.{same_with}
 use Rattle.vx_ph.specs.declared.header.PictureHeader.{PictureHeader}
 use Rattle.vx_sh.specs.declared.numbers.SliceNumbers.{SliceNumbers}
-use Rattle.vx_sh.specs.Sizes.{AskLittle}
+use Rattle.vx_sh.specs.laws.Sizes.{AskLittle}
 use Rattle.vx_sh.specs.Whole.{points_at}
 use Rattle.vx_pic.specs.declared.kind.Kind.{Kind}
 use Rattle.vx_pic.specs.Parts.{Parts}
 use Rattle.vx_pic.specs.PictureLayout.{are_in_pps, ids_of}
-use Rattle.vx_pic.specs.UnderSets.{header_of}
+use Rattle.vx_pic.specs.UnderSets.{picture_header_of}
 use Rattle.vx_pic.specs.Written.{Plan}
 use Rattle.vx_merge.specs.Headers.{AreNumbers}
 use Rattle.vx_merge.specs.Regions.{corners_in, layout_of, placed_in}
 use Rattle.vx_merge.specs.Rounds.{picture_at}
-use Rattle.vx_merge.specs.Shapes.{pps_shape, sps_shape}
+use Rattle.vx_merge.specs.Shapes.{frame_pps_shape, frame_sps_shape}
 use Rattle.vx_merge.specs.Written.{IsMerged}
-use Rattle.vx_gen.specs.Pictures.{kind, nal_type, pps_items, sps_items}
+use Rattle.vx_gen.specs.Pictures.{kind, nal_type, generated_pps, generated_sps}
 use Rattle.vx_gen.specs.Rounds.{corners, round}
 use Rattle.vx_gen.specs.Shown.{no_lists}
 use Rattle.vx_gen.proofs.SideBySide.{rects_long}
@@ -86,26 +86,26 @@ module _ (signals : ReshapedSignals) (seed pictures n p : ℕ) (some : 1 ≤ n) 
 
   -- ---- its SPS
 
-  sps_taken : shown_items (set_of TAKEN) q.begun.sps ≡ shown_items (set_of TAKEN) sps_items
+  sps_taken : shown_items (set_of TAKEN) q.begun.sps ≡ shown_items (set_of TAKEN) generated_sps
   sps_taken = is.sps.shown_ones ∙ ap (λ (x : Parts). shown_items (set_of TAKEN) x.sps) first
 
   pub no_ph_bits : extra_ph_bits_of q.begun.sps ≡ 0
   unfolding fresh natural
-  no_ph_bits = same_flags sps_fields.sps_extra_ph_bit_present_flag (set_of TAKEN) q.begun.sps sps_items refl sps_taken
+  no_ph_bits = same_flags sps_fields.sps_extra_ph_bit_present_flag (set_of TAKEN) q.begun.sps generated_sps refl sps_taken
 
   no_sh_bits : extra_sh_bits_of q.begun.sps ≡ 0
   unfolding fresh natural
-  no_sh_bits = same_flags sps_fields.sps_extra_sh_bit_present_flag (set_of TAKEN) q.begun.sps sps_items refl sps_taken
+  no_sh_bits = same_flags sps_fields.sps_extra_sh_bit_present_flag (set_of TAKEN) q.begun.sps generated_sps refl sps_taken
 
   no_points : number q.begun.sps sps_fields.sps_entry_point_offsets_present_flag ≡ 0
   unfolding fresh natural
   no_points =
       let of : ℕ = sps_fields.sps_entry_point_offsets_present_flag in
-      number_of_shown (set_of TAKEN) of q.begun.sps refl ∙ ap (λ xs. number xs of) sps_taken ∙ sym (number_of_shown (set_of TAKEN) of sps_items refl)
+      number_of_shown (set_of TAKEN) of q.begun.sps refl ∙ ap (λ xs. number xs of) sps_taken ∙ sym (number_of_shown (set_of TAKEN) of generated_sps refl)
 
   -- its ids are indices
   abbrev shape : SpsShape
-  shape = sps_shape (corners n) all None
+  shape = frame_sps_shape (corners n) all None
 
   regions_long : length (corners_in (corners n) all) ≡ n
   regions_long =
@@ -128,7 +128,7 @@ module _ (signals : ReshapedSignals) (seed pictures n p : ℕ) (some : 1 ≤ n) 
   unfolding ids_of
   ids_few =
       let own : are_in_pps q.begun.sps q.begun.pps ≡ false = rw explicit refl in
-      let long = length-map-range_with_len (id_of q.begun.sps) 0 (subpics_of q.begun.sps) in
+      let long = length-map-range_with_len (sps_subpic_id_of q.begun.sps) 0 (subpics_of q.begun.sps) in
       let low = subpics_low in
       rw own (omega (arith, long, low))
 
@@ -137,16 +137,16 @@ module _ (signals : ReshapedSignals) (seed pictures n p : ℕ) (some : 1 ≤ n) 
   active : (list : ℕ) → default_active q.begun.pps list ≤ 14
   unfolding fresh natural
   active list =
-      let names : List ℕ = taken (pps_shape (corners n) all q.begun.layout is.ids.pps) in
+      let names : List ℕ = taken (frame_pps_shape (corners n) all q.begun.layout is.ids.pps) in
       let of : ℕ = pps_fields.pps_num_ref_idx_default_active_minus1 in
-      let shown : shown_items names q.begun.pps ≡ shown_items names (pps_items 0) = is.pps.rewritten.shown_ones ∙ ap (λ (x : Parts). shown_items names x.pps) first in
-      let same = ap (λ xs. slice_index (map (λ (x : Item). natural x.value) xs) list) (same_with names of q.begun.pps (pps_items 0) refl shown) in
+      let shown : shown_items names q.begun.pps ≡ shown_items names (generated_pps 0) = is.pps.rewritten.shown_ones ∙ ap (λ (x : Parts). shown_items names x.pps) first in
+      let same = ap (λ xs. slice_index (map (λ (x : Item). natural x.value) xs) list) (same_with names of q.begun.pps (generated_pps 0) refl shown) in
       let low = zeros_low list in
       omega (arith, same, low)
 
   -- ---- its header and its layout
 
-  none_listed : (header_of q.begun).lists ≡ no_lists
+  none_listed : (picture_header_of q.begun).lists ≡ no_lists
   none_listed = is.header.says.lists ∙ ap (λ (x : Parts). x.header.lists) first
 
   one_each : (regions : List Rect) (a m : ℕ)

@@ -7,18 +7,18 @@ use Rattle.vx_table.specs.Forms.{Form, after, coding_at, form_of, has_value, lim
 use Rattle.vx_table.specs.Parts.{sections_form}
 use Rattle.vx_table.specs.Scope.{fresh, natural, powers_below, value}
 use Rattle.vx_table.specs.Spelling.{code_of, fault_of, item_of, items_along}
-use Rattle.vx_table.specs.Trailing.{is_trailing}
+use Rattle.vx_table.specs.laws.Trailing.{is_trailing}
 use Rattle.vx_table.specs.Values.{bits_along}
 use Rattle.vx_rpl.specs.Resolved.{table_of}
-use Rattle.vx_ph.specs.Header.{before_weights, header_form}
+use Rattle.vx_ph.specs.Header.{ph_before_weights, header_form}
 use Rattle.vx_ph.specs.InForce.{both_sets, in_force, structures}
-use Rattle.vx_gen.specs.Pictures.{idr_header, pps_items, sps_items, trailing_header}
+use Rattle.vx_gen.specs.Pictures.{idr_header, generated_pps, generated_sps, trailing_header}
 use Rattle.vx_gen.proofs.Below.{below_16}
 use Rattle.vx_gen.proofs.Testing.{are_open, are_values}
 
 -- the form of a picture header under the sets
 abbrev pub header_at : ℕ → Form (List ℕ)
-header_at k = header_form (structures sps_items) (in_force sps_items (pps_items k))
+header_at k = header_form (structures generated_sps) (in_force generated_sps (generated_pps k))
 
 -- the bits of a slice's front behind the first
 abbrev pub behind_first : List ℕ → List Bool
@@ -36,7 +36,7 @@ abbrev pub idr_front : List ℕ
 idr_front = 196 ∷ 24 ∷ []
 
 pub idr_begins : (k : ℕ) → Begins (header_at k) idr_header (behind_first idr_front)
-unfolding fresh natural powers_below value after coding_at form_of has_value limits_at one_field part present turns sections_form fault_of item_of code_of is_trailing exp_golomb fixed leading_zeros magnitude table_of before_weights header_form both_sets in_force
+unfolding fresh natural powers_below value after coding_at form_of has_value limits_at one_field part present turns sections_form fault_of item_of code_of is_trailing exp_golomb fixed leading_zeros magnitude table_of ph_before_weights header_form both_sets in_force
 idr_begins k = record { goes = refl; all = refl; bits = refl }
 
 -- up to the id
@@ -52,7 +52,7 @@ Goes : ℕ → Type 0
 Goes l = (k : ℕ) → Begins (header_at k) (trailing_header l) (behind_first (trailing_front l))
 
 pub trailing_begins : (l : ℕ) → l < 16 → (k : ℕ) → Begins (header_at k) (trailing_header l) (behind_first (trailing_front l))
-unfolding Goes fresh natural powers_below value after coding_at form_of has_value limits_at one_field part present turns sections_form fault_of item_of code_of is_trailing exp_golomb fixed leading_zeros magnitude table_of before_weights header_form both_sets in_force
+unfolding Goes fresh natural powers_below value after coding_at form_of has_value limits_at one_field part present turns sections_form fault_of item_of code_of is_trailing exp_golomb fixed leading_zeros magnitude table_of ph_before_weights header_form both_sets in_force
 trailing_begins =
     below_16 Goes
     (λ k. record { goes = refl; all = refl; bits = refl })

@@ -11,7 +11,7 @@ use Rattle.vx_merge.specs.declared.corner.Corner.{Corner}
 use Rattle.vx_merge.specs.Merging.{IsCorner}
 use Rattle.vx_gen.specs.Pictures.{plans}
 use Rattle.vx_gen.specs.Rounds.{CornersAreThere, PlannedAreSoMany, PlannedMakeRounds, corners, planned}
-use Rattle.vx_gen.specs.Shown.{parts, shown}
+use Rattle.vx_gen.specs.Shown.{generated_parts, shown}
 use Rattle.vx_gen.proofs.Seen.{are_shown}
 
 map_reverse : {A B : Type 0} (f : A → B) (xs : List A) → map f (reverse xs) ≡ reverse (map f xs)
@@ -27,27 +27,27 @@ at_place f n k low =
 
 -- ---- pictures
 
-shown_in_order : (seed n k m : ℕ) → reverse (shown seed n k m) ≡ map (λ p. parts seed (n + 5 * p) k p) (range_with_len 0 m)
+shown_in_order : (seed n k m : ℕ) → reverse (shown seed n k m) ≡ map (λ p. generated_parts seed (n + 5 * p) k p) (range_with_len 0 m)
 shown_in_order seed n k zero = refl
 shown_in_order seed n k (suc m) =
-    let part : ℕ → Parts = λ p. parts seed (n + 5 * p) k p in
+    let part : ℕ → Parts = λ p. generated_parts seed (n + 5 * p) k p in
     reverse-append (part m ∷ []) (shown seed n k m) ∙ ap (λ qs. qs ++ part m ∷ []) (shown_in_order seed n k m)
     ∙ sym (map-range_with_len_more part 0 m m (omega arith)) ∙ ap (λ (c : ℕ). map part (range_with_len 0 c)) (add-one m)
 
 -- picture p of source k
 pub picture_in : (seed pictures k p : ℕ) → p < pictures
-    → option_map parts_of (slice_get (reverse (planned seed pictures k)) p) ≡ Some (parts seed (5 * (k * pictures) + 5 * p) k p)
+    → option_map parts_of (slice_get (reverse (planned seed pictures k)) p) ≡ Some (generated_parts seed (5 * (k * pictures) + 5 * p) k p)
 picture_in seed pictures k p low =
     let n : ℕ = 5 * (k * pictures) in
     sym (slice_get-map parts_of (reverse (planned seed pictures k)) p)
     ∙ ap (λ qs. slice_get qs p) (map_reverse parts_of (planned seed pictures k) ∙ ap reverse (are_shown seed n k pictures) ∙ shown_in_order seed n k pictures)
-    ∙ at_place (λ i. parts seed (n + 5 * i) k i) pictures p low
+    ∙ at_place (λ i. generated_parts seed (n + 5 * i) k i) pictures p low
 
 pub make_rounds : PlannedMakeRounds
 make_rounds seed pictures sources p low = from 0 sources
   where
     from : (a m : ℕ) → map (λ k. option_map parts_of (slice_get (reverse (planned seed pictures k)) p)) (range_with_len a m)
-        ≡ map (λ q. Some q) (map (λ k. parts seed (5 * (k * pictures) + 5 * p) k p) (range_with_len a m))
+        ≡ map (λ q. Some q) (map (λ k. generated_parts seed (5 * (k * pictures) + 5 * p) k p) (range_with_len a m))
     from a zero = refl
     from a (suc m) = λ j. picture_in seed pictures a p low j ∷ from (a + 1) m j
 

@@ -10,7 +10,7 @@ use Rattle.vx_layout.proofs.Counting.{count_by-cons}
 use Rattle.vx_layout.proofs.Holding.{holds_from}
 use Rattle.vx_table.specs.Scope.{fresh, natural}
 use Rattle.vx_pic.specs.PictureLayout.{AreDistinct, IsLayoutAnswer, MakeLayout, ctu_sizes_differ, ids_misplaced, ids_of}
-use Rattle.vx_gen.specs.Pictures.{layout, pps_items, sps_items}
+use Rattle.vx_gen.specs.Pictures.{layout, generated_pps, generated_sps}
 
 abbrev whole : Rect
 whole = whole_picture 2 2
@@ -29,14 +29,14 @@ is_layout =
     layout-alone layout (refl, (omega arith, tt)) (refl, (omega arith, tt)) (omega arith) (omega arith) covers
     (All-cons (λ r. fits r whole ≡ true) whole [] refl (All-nil (λ r. fits r whole ≡ true))) (alone Precedes)
 
-distinct : (k : ℕ) → AreDistinct (ids_of sps_items (pps_items k))
+distinct : (k : ℕ) → AreDistinct (ids_of generated_sps (generated_pps k))
 unfolding ids_of fresh natural
 distinct k i j d before within = absurd (omega (arith, before, within))
 
-make : (k : ℕ) → MakeLayout sps_items (pps_items k)
+make : (k : ℕ) → MakeLayout generated_sps (generated_pps k)
 unfolding ctu_sizes_differ ids_misplaced fresh natural
 make k = record { ctus = refl; ids = record { placed = refl; distinct = distinct k }; layout = is_layout }
 
-pub laid : (k : ℕ) → IsLayoutAnswer sps_items (pps_items k) (Ok layout)
+pub laid : (k : ℕ) → IsLayoutAnswer generated_sps (generated_pps k) (Ok layout)
 unfolding fresh natural
 laid k = (make k, refl)

@@ -9,26 +9,26 @@ use Rattle.std.proofs.lemmas.Option.{none-some}
 use Rattle.vx_annexb.specs.ByteStream.{source_limit, unit_limit}
 use Rattle.vx_annexb.specs.Laws.{EscapedIsShort, written}
 use Rattle.vx_aps.specs.declared.aps.TheConstants as aps
-use Rattle.vx_sps.specs.Reread.{ReshapedSignals}
+use Rattle.vx_sps.specs.laws.Reread.{ReshapedSignals}
 use Rattle.vx_sps.specs.Set as sps_set
-use Rattle.vx_pps.specs.Sets as pps_set
+use Rattle.vx_pps.specs.laws.Sets as pps_set
 use Rattle.vx_ph.specs.InForce.{in_force, structures}
-use Rattle.vx_ph.specs.Sizes as ph
+use Rattle.vx_ph.specs.laws.Sizes as ph
 use Rattle.vx_sh.specs.InForce.{in_force_at}
-use Rattle.vx_sh.specs.Sizes as sh
+use Rattle.vx_sh.specs.laws.Sizes as sh
 use Rattle.vx_pic.specs.declared.kind.Kind.{Kind}
 use Rattle.vx_pic.specs.declared.unit_types.TheConstants as types
 use Rattle.vx_pic.specs.Parts.{Parts, SlicePart}
 use Rattle.vx_pic.specs.Readings.{Slice}
 use Rattle.vx_pic.specs.Resident.{is_resident, sent_before, units_written}
 use Rattle.vx_pic.specs.Rules.{picture_limit, unit_size}
-use Rattle.vx_pic.specs.UnderSets.{header_of}
-use Rattle.vx_pic.specs.Written.{Plan, Set, SetUnit, a_pps, an_aps, an_sps, eos_units, sei_units, slices_of, units_of}
+use Rattle.vx_pic.specs.UnderSets.{picture_header_of}
+use Rattle.vx_pic.specs.Written.{Plan, Set, SetUnit, a_pps, an_aps, an_sps, eos_units, sei_units, planned_slices, units_of}
 use Rattle.vx_write.specs.Units.{IsSeiUnit, IsSetUnit, IsUnitOf}
 use Rattle.vx_write.proofs.OwnSets.{units_hold}
 use Rattle.vx_merge.specs.Bodies.{has_lmcs, has_scaling, lmcs_body, once, scaling_body}
-use Rattle.vx_merge.specs.Headers.{IsFront, IsSlice, sourced}
-use Rattle.vx_merge.specs.Needed.{alf_bodies, by_ids, lmcs_bodies, needed_sets, scaling_bodies}
+use Rattle.vx_merge.specs.Headers.{IsFront, IsMergedSlice, sourced}
+use Rattle.vx_merge.specs.Needed.{alf_bodies, by_ids, lmcs_bodies, sets_of_round, scaling_bodies}
 use Rattle.vx_merge.specs.Rules.{VerdictIsOne, rules_of}
 use Rattle.vx_merge.specs.Shapes.{of_lowest}
 use Rattle.vx_merge.specs.Slots.{alf_slots, lmcs_slots, scaling_slots}
@@ -120,7 +120,7 @@ module _ (laws : Laws) (seed pictures n p : ℕ) (some : 1 ≤ n) (low : n ≤ 1
   none_scaling : scaling_bodies all ≡ []
   none_scaling = ap option_to_list (none_has has_scaling scaling_body None (λ k. no_scaling seed (5 * (k * pictures) + 5 * p) k p) 0 n)
 
-  two_sets : needed_sets all is.ids q.begun.sps q.begun.pps ≡ an_sps q.begun.sps ∷ a_pps q.begun.pps ∷ []
+  two_sets : sets_of_round all is.ids q.begun.sps q.begun.pps ≡ an_sps q.begun.sps ∷ a_pps q.begun.pps ∷ []
   two_sets = λ j.
       an_sps q.begun.sps ∷ a_pps q.begun.pps
       ∷ (by_ids aps.ALF alf_slots (none_alf j) is.ids.alf
@@ -143,7 +143,7 @@ module _ (laws : Laws) (seed pictures n p : ℕ) (some : 1 ≤ n) (low : n ≤ 1
   header_short =
       let none = no_ph_bits laws.signals seed pictures n p some low done q is in
       let bounded = laws.bounded q.begun.sps q.begun.pps (omega (arith, none)) in
-      let few = laws.header (structures q.begun.sps) (in_force q.begun.sps q.begun.pps) (header_of q.begun) is.header.rbsp bounded is.header.spelled in
+      let few = laws.header (structures q.begun.sps) (in_force q.begun.sps q.begun.pps) (picture_header_of q.begun) is.header.rbsp bounded is.header.spelled in
       unit_short laws.escaped types.PH_NUT q.begun.temporal_id is.header.rbsp is.header.unit is.header.made (omega (arith, few))
 
   header_few : AreFew 1 (option_to_list q.begun.unit)
@@ -159,7 +159,7 @@ module _ (laws : Laws) (seed pictures n p : ℕ) (some : 1 ≤ n) (low : n ≤ 1
       let few = laws.slice (in_force_at f.numbers) f.header.fields q.begun.header f.bytes (laws.numbers f.numbers little) f.spelled in
       unit_short laws.escaped q.kind.nal_type q.begun.temporal_id f.bytes front f.made few
 
-  slices_few : (k a m : ℕ) (ws : List Slice) → AllZip (λ x w. IsSlice all is.ids q.kind.nal_type q.begun x.0 x.1 w) (sourced k (map part (range_with_len a m))) ws
+  slices_few : (k a m : ℕ) (ws : List Slice) → AllZip (λ x w. IsMergedSlice all is.ids q.kind.nal_type q.begun x.0 x.1 w) (sourced k (map part (range_with_len a m))) ws
       → AreFew m (map (λ (w : Slice). w.unit) ws)
   slices_few k a zero [] are = few_none
   slices_few k a zero (w ∷ ws) are = absurd are
@@ -171,8 +171,8 @@ module _ (laws : Laws) (seed pictures n p : ℕ) (some : 1 ≤ n) (low : n ≤ 1
       let payload = payload_long seed draws p in
       few_more m w.unit (map (λ (x : Slice). x.unit) ws) (omega (arith, long, payload, front)) (slices_few (k + 1) (a + 1) m ws are)
 
-  own_slices : AreFew n (map (λ (s : Slice). s.unit) (slices_of q))
-  own_slices = slices_few 0 0 n (slices_of q) is.slices
+  own_slices : AreFew n (map (λ (s : Slice). s.unit) (planned_slices q))
+  own_slices = slices_few 0 0 n (planned_slices q) is.slices
 
   -- ---- all of it
 
@@ -186,7 +186,7 @@ module _ (laws : Laws) (seed pictures n p : ℕ) (some : 1 ≤ n) (low : n ≤ 1
   units_few =
       let sets : List (List ℕ) = map (λ (x : SetUnit). x.unit) q.sent in
       let header : List (List ℕ) = option_to_list q.begun.unit in
-      let slices : List (List ℕ) = map (λ (s : Slice). s.unit) (slices_of q) in
+      let slices : List (List ℕ) = map (λ (s : Slice). s.unit) (planned_slices q) in
       let eos : AreFew 0 (eos_units q.kind.after_eos) = subst (AreFew 0) (sym none_ended) few_none in
       let sei : AreFew 0 (sei_units q.sei) = subst (AreFew 0) (sym none_told) few_none in
       few_weaker (0 + (2 + (0 + (1 + n)))) 19 (units_of q) (omega (arith, low))
@@ -195,12 +195,12 @@ module _ (laws : Laws) (seed pictures n p : ℕ) (some : 1 ≤ n) (low : n ≤ 1
       (few_joined 0 (1 + n) (sei_units q.sei) (header ++ slices) sei
       (few_joined 1 n header slices header_few own_slices))))
 
-  picture_short : unit_size q.begun.unit + sum_by (λ (s : Slice). length s.unit) (slices_of q) ≤ 17 * 800004
+  picture_short : unit_size q.begun.unit + sum_by (λ (s : Slice). length s.unit) (planned_slices q) ≤ 17 * 800004
   picture_short =
       let one = ap unit_size is.header.is in
       let short = header_short in
-      let within = slices_within (slices_of q) in
-      let bytes = few_bytes n (map (λ (s : Slice). s.unit) (slices_of q)) own_slices in
+      let within = slices_within (planned_slices q) in
+      let bytes = few_bytes n (map (λ (s : Slice). s.unit) (planned_slices q)) own_slices in
       omega (arith, one, short, within, bytes, low)
 
 -- ---- all rounds

@@ -10,7 +10,7 @@ use Rattle.vx_pic.specs.Bytes.{AreSourcePictures, units_at}
 use Rattle.vx_pic.specs.H266.{AreOfH266}
 use Rattle.vx_pic.specs.Parts.{parts_of}
 use Rattle.vx_pic.specs.Readings.{Picture}
-use Rattle.vx_pic.specs.Resident.{planned_of, read_of}
+use Rattle.vx_pic.specs.Resident.{planned_of, readings_of_plans}
 use Rattle.vx_pic.specs.Rules.{Readers}
 use Rattle.vx_pic.specs.Written.{Plan, planned as planned_picture}
 use Rattle.vx_merge.specs.Merging.{Passes}
@@ -21,7 +21,7 @@ use Rattle.vx_gen.specs.Laws.{GeneratedAreRead}
 use Rattle.vx_gen.specs.Merges.{GeneratedAreMerged}
 use Rattle.vx_gen.specs.Pictures.{plan, plans}
 use Rattle.vx_gen.specs.Rounds.{AreGeneratedRounds, corners, planned}
-use Rattle.vx_gen.specs.Shown.{parts}
+use Rattle.vx_gen.specs.Shown.{generated_parts}
 use Rattle.vx_gen.specs.Streams.{stream}
 use Rattle.vx_gen.proofs.InOrder.{corners_there}
 use Rattle.vx_gen.proofs.Seen.{one_shown}
@@ -34,7 +34,7 @@ module _ (seed pictures : ℕ) where
   upto m k = planned_of (plans seed (5 * (k * pictures)) k m)
 
   abbrev behind : (m k : ℕ) → Picture
-  behind m k = planned_picture (read_of (plans seed (5 * (k * pictures)) k m)) (plan seed (5 * (k * pictures) + 5 * m) k m)
+  behind m k = planned_picture (readings_of_plans (plans seed (5 * (k * pictures)) k m)) (plan seed (5 * (k * pictures) + 5 * m) k m)
 
   none_first : (a n : ℕ) → AllByRecursion (λ ps. ps ≡ []) (map (upto 0) (range_with_len a n))
   none_first a zero = tt
@@ -48,7 +48,7 @@ module _ (seed pictures : ℕ) where
   earlier_are m a zero = refl
   earlier_are m a (suc n) = ap (λ qs. upto m a ∷ qs) (earlier_are m (a + 1) n)
 
-  parts_are : (m a n : ℕ) → map parts_of (map (behind m) (range_with_len a n)) ≡ map (λ k. parts seed (5 * (k * pictures) + 5 * m) k m) (range_with_len a n)
+  parts_are : (m a n : ℕ) → map parts_of (map (behind m) (range_with_len a n)) ≡ map (λ k. generated_parts seed (5 * (k * pictures) + 5 * m) k m) (range_with_len a n)
   parts_are m a zero = refl
   parts_are m a (suc n) = λ j. one_shown seed (5 * (a * pictures)) a m j ∷ parts_are m (a + 1) n j
 

@@ -6,10 +6,10 @@ use Rattle.std.proofs.lemmas.Bool.{cases_lt}
 use Rattle.std.proofs.lemmas.Bool.Decides.{nat_tests}
 use Rattle.vx_table.specs.Scope.{fresh, natural}
 use Rattle.vx_pic.specs.Alike.{IsNext}
-use Rattle.vx_pic.specs.Counts.{Previous, count, counted, fits_count, nearest_msb, previous}
+use Rattle.vx_pic.specs.Counts.{Previous, count, pic_order_count, fits_count, nearest_msb, previous}
 use Rattle.vx_pic.specs.Resident.{planned_of}
 use Rattle.vx_pic.specs.Sets.{is_non_ref, lsb_of, max_lsb, msb_cycle}
-use Rattle.vx_gen.specs.Pictures.{begun, header_items, kind, plans, sps_items}
+use Rattle.vx_gen.specs.Pictures.{generated_begun, generated_header, kind, plans, generated_sps}
 
 -- the count behind a picture whose count is q, from the low bits of both
 goes_up : (q a l : ℕ) → a ≡ q % 16 → l ≡ suc q % 16 → nearest_msb 16 l (record { lsb = a; msb = pos q -ℤ pos a }) +ℤ pos l ≡ pos (suc q)
@@ -24,21 +24,21 @@ goes_up q a l is_a is_l = elim (cases_lt a 15) [
 ]
 
 -- prevTid0Pic is the picture before
-pub before : (seed n k q : ℕ) → previous (planned_of (plans seed n k (suc q))) ≡ record { lsb = lsb_of (header_items q); msb = pos q -ℤ pos (lsb_of (header_items q)) }
+pub before : (seed n k q : ℕ) → previous (planned_of (plans seed n k (suc q))) ≡ record { lsb = lsb_of (generated_header q); msb = pos q -ℤ pos (lsb_of (generated_header q)) }
 unfolding is_non_ref fresh natural
 before seed n k zero = refl
 before seed n k (suc q) = refl
 
-low_is : (q : ℕ) → lsb_of (header_items q) ≡ q % 16
+low_is : (q : ℕ) → lsb_of (generated_header q) ≡ q % 16
 unfolding lsb_of fresh natural
 low_is zero = refl
 low_is (suc q) = let few : suc q % 16 ≤ 4294967295 = omega arith in omega (arith, few)
 
-max_is : max_lsb sps_items ≡ 16
+max_is : max_lsb generated_sps ≡ 16
 unfolding max_lsb fresh natural
 max_is = refl
 
-no_cycle : (p : ℕ) → msb_cycle (header_items p) ≡ None
+no_cycle : (p : ℕ) → msb_cycle (generated_header p) ≡ None
 unfolding msb_cycle fresh natural
 no_cycle zero = refl
 no_cycle (suc p) = refl
@@ -46,15 +46,15 @@ no_cycle (suc p) = refl
 fits : (p : ℕ) → p ≤ 1000 → fits_count (pos p) ≡ true
 fits p few = grind (arith, nat_tests)
 
-counted_is : (c : Option ℕ) (m l : ℕ) (a : Previous) (q : ℕ) → c ≡ None → m ≡ 16 → l ≡ suc q % 16 → a ≡ record { lsb = q % 16; msb = pos q -ℤ pos (q % 16) } → counted c false m l a ≡ pos (suc q)
+counted_is : (c : Option ℕ) (m l : ℕ) (a : Previous) (q : ℕ) → c ≡ None → m ≡ 16 → l ≡ suc q % 16 → a ≡ record { lsb = q % 16; msb = pos q -ℤ pos (q % 16) } → pic_order_count c false m l a ≡ pos (suc q)
 counted_is c m l a q none max low is = rw (none, max, is) (goes_up q (q % 16) l refl low)
 
-count_is : (seed n k q : ℕ) → count (planned_of (plans seed n k (suc q))) (begun k (suc q)) false ≡ pos (suc q)
+count_is : (seed n k q : ℕ) → count (planned_of (plans seed n k (suc q))) (generated_begun k (suc q)) false ≡ pos (suc q)
 count_is seed n k q =
-    counted_is (msb_cycle (header_items (suc q))) (max_lsb sps_items) (lsb_of (header_items (suc q))) (previous (planned_of (plans seed n k (suc q)))) q (no_cycle (suc q)) max_is (low_is (suc q))
+    counted_is (msb_cycle (generated_header (suc q))) (max_lsb generated_sps) (lsb_of (generated_header (suc q))) (previous (planned_of (plans seed n k (suc q)))) q (no_cycle (suc q)) max_is (low_is (suc q))
     (before seed n k q ∙ ap (λ a. record { lsb = a; msb = pos q -ℤ pos a }) (low_is q))
 
-pub next : (seed n k p : ℕ) → p ≤ 1000 → IsNext (planned_of (plans seed n k p)) (begun k p) (kind p)
+pub next : (seed n k p : ℕ) → p ≤ 1000 → IsNext (planned_of (plans seed n k p)) (generated_begun k p) (kind p)
 unfolding max_lsb lsb_of msb_cycle fresh natural
 next seed n k zero few = record { ends = λ h. absurd (cc); kind = refl; begins = λ h. refl; same = λ h. refl; fits = fits 0 few }
 next seed n k (suc q) few = record {

@@ -11,12 +11,12 @@ use Rattle.vx_table.specs.Scope.{fresh, natural, powers_below, value}
 use Rattle.vx_table.specs.Spelling.{code_of, fault_of, item_of, items_along}
 use Rattle.vx_table.specs.Values.{bits_along}
 use Rattle.vx_gen.specs.Units as units
-use Rattle.vx_gen.specs.Pictures.{pps_items}
+use Rattle.vx_gen.specs.Pictures.{generated_pps}
 use Rattle.vx_gen.proofs.Below.{below_16}
 use Rattle.vx_gen.proofs.Testing.{are_values, they_follow}
 
 abbrev pps_values : ℕ → List ℤ
-pps_values k = values_in pps_form (pps_items k)
+pps_values k = values_in pps_form (generated_pps k)
 
 Goes : ℕ → Type 0
 Goes k = are_values pps_form (pps_values k) ≡ true
@@ -32,11 +32,11 @@ spells : (k : ℕ) → k < 16 → Spells k
 unfolding Spells fresh natural powers_below value after coding_at form_of has_value limits_at one_field part present turns sections_form code_of exp_golomb fixed leading_zeros magnitude pps_form partition
 spells = below_16 Spells refl refl refl refl refl refl refl refl refl refl refl refl refl refl refl refl
 
-are : (k : ℕ) → items_along pps_form (pps_values k) ≡ pps_items k
+are : (k : ℕ) → items_along pps_form (pps_values k) ≡ generated_pps k
 unfolding fresh natural powers_below value after coding_at form_of has_value limits_at one_field part present turns sections_form item_of pps_form partition
 are k = refl
 
-pub pps_spelled : (k : ℕ) → k < 16 → pps_set.IsSpelling (pps_items k) (drop 2 (units.pps k))
+pub pps_spelled : (k : ℕ) → k < 16 → pps_set.IsPpsSpelling (generated_pps k) (drop 2 (units.pps k))
 unfolding Goes Spells
 pps_spelled k low =
     let on = they_follow pps_form (pps_values k) (goes k low) in

@@ -14,12 +14,12 @@ use Rattle.vx_table.specs.Forms.{Form, after, coding_at, form_of, has_value, lim
 use Rattle.vx_table.specs.Parts.{sections_form}
 use Rattle.vx_table.specs.Scope.{fresh, natural, powers_below, value}
 use Rattle.vx_table.specs.Spelling.{Spells, code_of, fault_of, item_of}
-use Rattle.vx_table.specs.Trailing.{is_trailing}
+use Rattle.vx_table.specs.laws.Trailing.{is_trailing}
 use Rattle.vx_table.specs.Values.{bits_along}
 use Rattle.vx_table.proofs.Spelled.{reads_back}
 use Rattle.vx_table.specs.Loaded.{number}
 use Rattle.vx_fields.specs.declared.ph.TheConstants.{ph_pic_parameter_set_id}
-use Rattle.vx_ph.specs.Id.{id_form}
+use Rattle.vx_ph.specs.Id.{pps_id_form}
 use Rattle.vx_ph.proofs.Opening.{spelled_is_read}
 use Rattle.vx_sh.specs.Value.{BeginsSlice, SpellingBegins}
 use Rattle.vx_sh.proofs.Scopes.{slice_scopes_are_whole}
@@ -28,13 +28,13 @@ use Rattle.vx_pic.specs.H266Laws.{HaveOneAnswer}
 use Rattle.vx_pic.specs.PictureLayout.{IsLayoutAnswer}
 use Rattle.vx_pic.specs.Rules.{Readers}
 use Rattle.vx_pic.specs.Sets.{is_qp, pps_id, same_size, slice_qp}
-use Rattle.vx_pic.specs.UnderSets.{header_of, slice_at}
+use Rattle.vx_pic.specs.UnderSets.{picture_header_of, at_slice_of}
 use Rattle.vx_pic.specs.Units.{class_of, has_header_inside, is_reserved, rbsp_of, slice_unit, temporal_id}
 use Rattle.vx_annexb.specs.NalUnit.{nal_unit_type}
 use Rattle.vx_pic.specs.Written.{HeadReads, HeaderReads, IsPlain, SliceReads}
 use Rattle.vx_gen.specs.Draws.{payload}
 use Rattle.vx_gen.specs.Units.{lsb, slice, slice_front}
-use Rattle.vx_gen.specs.Pictures.{begun, header_items, idr_header, layout, nal_type, pps_items, slice_header, slice_items, sps_items, trailing_header}
+use Rattle.vx_gen.specs.Pictures.{generated_begun, generated_header, idr_header, layout, nal_type, generated_pps, slice_header, generated_slice, generated_sps, trailing_header}
 use Rattle.vx_gen.proofs.Below.{below_16}
 use Rattle.vx_gen.proofs.Clear.{escaped_itself, last_nonzero}
 use Rattle.vx_gen.proofs.Headers.{Begins, behind_first, header_at, idr_begins, idr_front, trailing_begins, trailing_front}
@@ -83,7 +83,7 @@ front_some : (p : ℕ) → 1 ≤ length (front_of p)
 front_some zero = omega arith
 front_some (suc p) = omega arith
 
-header_begins : (k p : ℕ) → Begins (header_at k) (header_items p) (behind_first (front_of p))
+header_begins : (k p : ℕ) → Begins (header_at k) (generated_header p) (behind_first (front_of p))
 header_begins k zero = idr_begins k
 header_begins k (suc p) = trailing_begins (lsb (suc p)) (low_bits (suc p)) k
 
@@ -93,10 +93,10 @@ to_id zero = take 5 idr_header
 to_id (suc p) = take 4 (trailing_header 0)
 
 IdBegins : ℕ → Type 0
-IdBegins l = Begins id_form (take 4 (trailing_header 0)) (behind_first (trailing_front l))
+IdBegins l = Begins pps_id_form (take 4 (trailing_header 0)) (behind_first (trailing_front l))
 
 trailing_id : (l : ℕ) → l < 16 → IdBegins l
-unfolding IdBegins fresh natural powers_below value after coding_at form_of has_value limits_at one_field part present turns sections_form fault_of item_of code_of is_trailing exp_golomb fixed leading_zeros magnitude id_form
+unfolding IdBegins fresh natural powers_below value after coding_at form_of has_value limits_at one_field part present turns sections_form fault_of item_of code_of is_trailing exp_golomb fixed leading_zeros magnitude pps_id_form
 trailing_id =
     below_16 IdBegins
     (record { goes = refl; all = refl; bits = refl }) (record { goes = refl; all = refl; bits = refl })
@@ -108,28 +108,28 @@ trailing_id =
     (record { goes = refl; all = refl; bits = refl }) (record { goes = refl; all = refl; bits = refl })
     (record { goes = refl; all = refl; bits = refl }) (record { goes = refl; all = refl; bits = refl })
 
-id_begins : (p : ℕ) → Begins id_form (to_id p) (behind_first (front_of p))
-unfolding IdBegins fresh natural powers_below value after coding_at form_of has_value limits_at one_field part present turns sections_form fault_of item_of code_of is_trailing exp_golomb fixed leading_zeros magnitude id_form
+id_begins : (p : ℕ) → Begins pps_id_form (to_id p) (behind_first (front_of p))
+unfolding IdBegins fresh natural powers_below value after coding_at form_of has_value limits_at one_field part present turns sections_form fault_of item_of code_of is_trailing exp_golomb fixed leading_zeros magnitude pps_id_form
 id_begins zero = record { goes = refl; all = refl; bits = refl }
 id_begins (suc p) = trailing_id (lsb (suc p)) (low_bits (suc p))
 
-id_is : (k p : ℕ) → pps_id (pps_items k) ≡ number (to_id p) ph_pic_parameter_set_id
+id_is : (k p : ℕ) → pps_id (generated_pps k) ≡ number (to_id p) ph_pic_parameter_set_id
 unfolding pps_id fresh
 id_is k zero = refl
 id_is k (suc p) = refl
 
-same_sizes : (k : ℕ) → same_size sps_items (pps_items k) ≡ true
+same_sizes : (k : ℕ) → same_size generated_sps (generated_pps k) ≡ true
 unfolding same_size fresh natural
 same_sizes k = refl
 
 -- ---- the slice
 
-slice_begins : SpellingBegins → (k p : ℕ) (more : List ℕ) → BeginsSlice (slice_at (nal_type p) (begun k p)) (front_of p ++ more) (header_value k (slice_items p)) 2
+slice_begins : SpellingBegins → (k p : ℕ) (more : List ℕ) → BeginsSlice (at_slice_of (nal_type p) (generated_begun k p)) (front_of p ++ more) (header_value k (generated_slice p)) 2
 slice_begins begins k zero more =
-    begins (slice_at 8 (begun k 0)) (header_value k (slice_items 0)) idr_header idr_front more (slice_scopes_are_whole 8 sps_items (pps_items k) (header_of (begun k 0))) (idr_tells k) (idr_spelled k)
+    begins (at_slice_of 8 (generated_begun k 0)) (header_value k (generated_slice 0)) idr_header idr_front more (slice_scopes_are_whole 8 generated_sps (generated_pps k) (picture_header_of (generated_begun k 0))) (idr_tells k) (idr_spelled k)
 slice_begins begins k (suc p) more =
-    begins (slice_at 0 (begun k (suc p))) (header_value k (slice_items (suc p))) (trailing_header (lsb (suc p))) (trailing_front (lsb (suc p))) more
-    (slice_scopes_are_whole 0 sps_items (pps_items k) (header_of (begun k (suc p)))) (trailing_tells k (lsb (suc p))) (trailing_spelled k (lsb (suc p)) (low_bits (suc p)))
+    begins (at_slice_of 0 (generated_begun k (suc p))) (header_value k (generated_slice (suc p))) (trailing_header (lsb (suc p))) (trailing_front (lsb (suc p))) more
+    (slice_scopes_are_whole 0 generated_sps (generated_pps k) (picture_header_of (generated_begun k (suc p)))) (trailing_tells k (lsb (suc p))) (trailing_spelled k (lsb (suc p)) (low_bits (suc p)))
 
 trailing_ends : (a b : ℕ) → EndsInNoZero (0 ∷ 1 ∷ a ∷ (120 + b) ∷ [])
 trailing_ends a b n size none = let three : n ≡ 3 = omega (arith, size) in let last = rw three at none in absurd (omega (arith, last))
@@ -143,10 +143,10 @@ data_place joins seed n (suc p) =
     (joins (slice_front (suc p)) (slice_front (suc p)) (payload seed n) ends (escaped_itself (slice_front (suc p)) refl ends)).1
 
 Fits : ℕ → Type 0
-Fits k = is_qp sps_items (slice_qp (pps_items k) idr_header (slice_header 0)) ≡ true
+Fits k = is_qp generated_sps (slice_qp (generated_pps k) idr_header (slice_header 0)) ≡ true
 
 Fits' : ℕ → Type 0
-Fits' k = is_qp sps_items (slice_qp (pps_items k) idr_header (slice_header 1)) ≡ true
+Fits' k = is_qp generated_sps (slice_qp (generated_pps k) idr_header (slice_header 1)) ≡ true
 
 idr_fits : (k : ℕ) → k < 16 → Fits k
 unfolding Fits is_qp slice_qp fresh natural
@@ -156,7 +156,7 @@ trailing_fits : (k : ℕ) → k < 16 → Fits' k
 unfolding Fits' is_qp slice_qp fresh natural
 trailing_fits = below_16 Fits' refl refl refl refl refl refl refl refl refl refl refl refl refl refl refl refl
 
-qp_fits : (k p : ℕ) → k < 16 → is_qp sps_items (slice_qp (pps_items k) (header_items p) (slice_header p)) ≡ true
+qp_fits : (k p : ℕ) → k < 16 → is_qp generated_sps (slice_qp (generated_pps k) (generated_header p) (slice_header p)) ≡ true
 unfolding Fits Fits' slice_qp fresh natural
 qp_fits k zero low = idr_fits k low
 qp_fits k (suc p) low = trailing_fits k low
@@ -183,7 +183,7 @@ plain seed n (suc p) = record { reserved = refl; layer = refl; class = refl }
 -- ---- answers
 
 module _ (R : Readers) (of : AreOfH266 R) (unique : HaveOneAnswer) (begins : SpellingBegins) (joins : UnescapedJoins) (k : ℕ) (low : k < 16)
-    (laid : IsLayoutAnswer sps_items (pps_items k) (Ok layout)) (seed n p : ℕ) where
+    (laid : IsLayoutAnswer generated_sps (generated_pps k) (Ok layout)) (seed n p : ℕ) where
   rbsp : rbsp_of (slice seed n p) ≡ front_of p ++ payload seed n
   rbsp = slice_rbsp seed n p ∙ fronts seed n p
 
@@ -194,33 +194,33 @@ module _ (R : Readers) (of : AreOfH266 R) (unique : HaveOneAnswer) (begins : Spe
   tid : temporal_id (slice seed n p) ≡ 0
   tid = tid_of seed n p
 
-  header_reads : HeaderReads R true (slice seed n p) (begun k p)
+  header_reads : HeaderReads R true (slice seed n p) (generated_begun k p)
   header_reads =
       let bytes : List ℕ = front_of p ++ payload seed n in
-      let id = read_of_front id_form (to_id p) (front_of p) (payload seed n) (front_some p) (id_begins p) in
-      let header = read_of_front (header_at k) (header_items p) (front_of p) (payload seed n) (front_some p) (header_begins k p) in
+      let id = read_of_front pps_id_form (to_id p) (front_of p) (payload seed n) (front_some p) (id_begins p) in
+      let header = read_of_front (header_at k) (generated_header p) (front_of p) (payload seed n) (front_some p) (header_begins k p) in
       record {
-        referred = ap (λ xs. R.referred_pps true xs) rbsp ∙ unique.referred_pps true bytes (R.referred_pps true bytes) (Ok (pps_id (pps_items k))) (of.referred_pps true bytes) (to_id p, id, id_is k p);
+        referred = ap (λ xs. R.referred_pps true xs) rbsp ∙ unique.referred_pps true bytes (R.referred_pps true bytes) (Ok (pps_id (generated_pps k))) (of.referred_pps true bytes) (to_id p, id, id_is k p);
         size = same_sizes k;
-        layout = unique.layout sps_items (pps_items k) (R.layout sps_items (pps_items k)) (Ok layout) (of.layout sps_items (pps_items k)) laid;
-        header = ap (λ xs. R.header true sps_items (pps_items k) xs) rbsp ∙ unique.header true sps_items (pps_items k) bytes (R.header true sps_items (pps_items k) bytes) (Ok (header_items p)) (of.header true sps_items (pps_items k) bytes) header;
+        layout = unique.layout generated_sps (generated_pps k) (R.layout generated_sps (generated_pps k)) (Ok layout) (of.layout generated_sps (generated_pps k)) laid;
+        header = ap (λ xs. R.header true generated_sps (generated_pps k) xs) rbsp ∙ unique.header true generated_sps (generated_pps k) bytes (R.header true generated_sps (generated_pps k) bytes) (Ok (generated_header p)) (of.header true generated_sps (generated_pps k) bytes) header;
         tid = tid;
       }
 
-  pub head_reads : HeadReads R None (begun k p) (record { unit = slice seed n p; header = slice_header p })
+  pub head_reads : HeadReads R None (generated_begun k p) (record { unit = slice seed n p; header = slice_header p })
   head_reads = (header_reads, has_inside, omega arith)
 
-  answer : IsSlice (nal_type p) (begun k p) (slice seed n p) (slice_header p)
+  answer : IsSlice (nal_type p) (generated_begun k p) (slice seed n p) (slice_header p)
   answer = record {
-    value = header_value k (slice_items p);
+    value = header_value k (generated_slice p);
     size = 2;
-    begins = subst (λ xs. BeginsSlice (slice_at (nal_type p) (begun k p)) xs (header_value k (slice_items p)) 2) (sym rbsp) (slice_begins begins k p (payload seed n));
+    begins = subst (λ xs. BeginsSlice (at_slice_of (nal_type p) (generated_begun k p)) xs (header_value k (generated_slice p)) 2) (sym rbsp) (slice_begins begins k p (payload seed n));
     fields = refl;
     subpic = refl;
     payload = data_place joins seed n p;
   }
 
-  pub slice_reads : SliceReads R (begun k p) (nal_type p) (record { unit = slice seed n p; header = slice_header p })
+  pub slice_reads : SliceReads R (generated_begun k p) (nal_type p) (record { unit = slice seed n p; header = slice_header p })
   slice_reads =
       let unit : List ℕ = slice seed n p in
       let long = slice_long seed n p in
@@ -228,7 +228,7 @@ module _ (R : Readers) (of : AreOfH266 R) (unique : HaveOneAnswer) (begins : Spe
         plain = plain seed n p;
         tid = tid;
         type = type_of seed n p;
-        header = unique.slice (nal_type p) (begun k p) unit (R.slice (nal_type p) (begun k p) unit) (Ok (slice_header p)) (of.slice (nal_type p) (begun k p) unit) answer;
+        header = unique.slice (nal_type p) (generated_begun k p) unit (R.slice (nal_type p) (generated_begun k p) unit) (Ok (slice_header p)) (of.slice (nal_type p) (generated_begun k p) unit) answer;
         qp = qp_fits k p low;
         payload = omega (arith, long);
       }

@@ -11,7 +11,7 @@ use Rattle.vx_pic.specs.Written.{Says, SetUnit, a_pps, an_sps}
 use Rattle.vx_pic.specs.Resident.{HasSet, HaveOwnSlots, Sends, history_of, is_resident, sent_before}
 use Rattle.vx_write.specs.Again.{SetUnitsAreRead}
 use Rattle.vx_gen.specs.Units as units
-use Rattle.vx_gen.specs.Pictures.{plan, plans, pps_items, sent, sets, sps_items}
+use Rattle.vx_gen.specs.Pictures.{plan, plans, generated_pps, sent, sets, generated_sps}
 use Rattle.vx_gen.proofs.Below.{below_16}
 use Rattle.vx_gen.proofs.Pps.{pps_spelled}
 use Rattle.vx_gen.proofs.Sets.{sps_spelled}
@@ -52,24 +52,24 @@ unfolding sends
 needed_is seed n k zero low = refl
 needed_is seed n k (suc p) low = refl
 
-pub has_sps : (seed n k p : ℕ) (low : k < 16) → HasSet (sends seed n k p low).needed (an_sps sps_items)
+pub has_sps : (seed n k p : ℕ) (low : k < 16) → HasSet (sends seed n k p low).needed (an_sps generated_sps)
 unfolding sends
 has_sps seed n k zero low = inl refl
 has_sps seed n k (suc p) low = inl refl
 
-pub has_pps : (seed n k p : ℕ) (low : k < 16) → HasSet (sends seed n k p low).needed (a_pps (pps_items k))
+pub has_pps : (seed n k p : ℕ) (low : k < 16) → HasSet (sends seed n k p low).needed (a_pps (generated_pps k))
 unfolding sends
 has_pps seed n k zero low = inr (inl refl)
 has_pps seed n k (suc p) low = inr (inl refl)
 
-pub refers : (k : ℕ) → referred_sps (pps_items k) ≡ sps_id sps_items
+pub refers : (k : ℕ) → referred_sps (generated_pps k) ≡ sps_id generated_sps
 unfolding referred_sps sps_id fresh natural
 refers k = refl
 
 -- what is sent is read as it
 pub sent_read : SetUnitsAreRead → (R : Readers) → AreOfH266 R → (k p : ℕ) → k < 16 → AllByRecursion (λ (x : SetUnit). Says R x.unit x.set) (sent k p)
 sent_read read R of k zero low = (
-  read R 0 (an_sps sps_items) units.sps of (omega arith) tt (_, sps_spelled, sps_is),
-  (read R 0 (a_pps (pps_items k)) (units.pps k) of (omega arith) tt (_, pps_spelled k low, pps_is k low), tt),
+  read R 0 (an_sps generated_sps) units.sps of (omega arith) tt (_, sps_spelled, sps_is),
+  (read R 0 (a_pps (generated_pps k)) (units.pps k) of (omega arith) tt (_, pps_spelled k low, pps_is k low), tt),
 )
 sent_read read R of k (suc p) low = tt

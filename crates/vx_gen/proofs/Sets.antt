@@ -10,17 +10,17 @@ use Rattle.vx_table.specs.Scope.{fresh, natural, powers_below, value}
 use Rattle.vx_table.specs.Spelling.{code_of, fault_of, item_of, items_along}
 use Rattle.vx_table.specs.Values.{bits_along}
 use Rattle.vx_gen.specs.Units as units
-use Rattle.vx_gen.specs.Pictures.{sps_items}
+use Rattle.vx_gen.specs.Pictures.{generated_sps}
 use Rattle.vx_gen.proofs.Testing.{are_values, they_follow}
 
 abbrev sps_values : List ℤ
-sps_values = values_in sps_form sps_items
+sps_values = values_in sps_form generated_sps
 
 sps_goes : are_values sps_form sps_values ≡ true
 unfolding fresh natural powers_below value after coding_at form_of has_value limits_at one_field part present turns sections_form fault_of
 sps_goes = refl
 
-sps_are : sps_items ≡ items_along sps_form sps_values
+sps_are : generated_sps ≡ items_along sps_form sps_values
 unfolding fresh natural powers_below value after coding_at form_of has_value limits_at one_field part present turns sections_form item_of
 sps_are = refl
 
@@ -28,7 +28,7 @@ sps_bits : bits_of (drop 2 units.sps) ≡ bits_along sps_form 0 sps_values
 unfolding fresh natural powers_below value after coding_at form_of has_value limits_at one_field part present turns sections_form code_of exp_golomb fixed leading_zeros magnitude
 sps_bits = refl
 
-pub sps_spelled : sps_set.IsSpelling sps_items (drop 2 units.sps)
+pub sps_spelled : sps_set.IsSpsSpelling generated_sps (drop 2 units.sps)
 sps_spelled =
     let on = they_follow sps_form sps_values sps_goes in
     record { set = record { values = sps_values; end = on.0; follows = on.1; all = sps_are }; bits = sps_bits }

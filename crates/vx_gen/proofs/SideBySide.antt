@@ -9,7 +9,7 @@ use Rattle.vx_layout.specs.Rects.{Precedes}
 use Rattle.vx_layout.proofs.Holding.{holds_tells}
 use Rattle.vx_fit.specs.declared.placed.Placed.{Placed}
 use Rattle.vx_fit.specs.FrameLines.{HasBound, IsHorizontal, IsLinesFault, IsVertical, KeepsLines, PassesInside, corner_at, part_at}
-use Rattle.vx_fit.specs.Placing.{FitTogether, IsCovered, IsOnGrid, IsTooLarge, Overlap, frame_height, frame_width, greatest, in_ctus}
+use Rattle.vx_fit.specs.Placing.{FitTogether, IsCovered, IsOnGrid, IsTooLarge, Overlap, frame_height, frame_width, greatest_by, in_ctus}
 use Rattle.vx_fit.proofs.Overlapping.{covers_from, covers_tells}
 
 abbrev pub place : ℕ → Placed
@@ -26,11 +26,11 @@ long n = length-map-range_with_len place 0 n
 
 -- ---- the frame
 
-reach : (a n : ℕ) → greatest (λ p. p.x + p.w) (map place (range_with_len a n)) ≤ 128 * (a + n)
+reach : (a n : ℕ) → greatest_by (λ p. p.x + p.w) (map place (range_with_len a n)) ≤ 128 * (a + n)
 reach a zero = omega arith
 reach a (suc n) = let more = reach (a + 1) n in omega (arith, more)
 
-depth : (a n : ℕ) → greatest (λ p. p.y + p.h) (map place (range_with_len a n)) ≤ 128
+depth : (a n : ℕ) → greatest_by (λ p. p.y + p.h) (map place (range_with_len a n)) ≤ 128
 depth a zero = omega arith
 depth a (suc n) = let more = depth (a + 1) n in omega (arith, more)
 

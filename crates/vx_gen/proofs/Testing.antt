@@ -9,7 +9,7 @@ use Rattle.vx_table.specs.declared.rows.Fault.{Fault}
 use Rattle.vx_table.specs.declared.rows.Cell.{Cell}
 use Rattle.vx_table.specs.Forms.{Form, done, field}
 use Rattle.vx_table.specs.Spelling.{HasCode, MayEnd, code_of, fault_of}
-use Rattle.vx_table.specs.Trailing.{is_trailing}
+use Rattle.vx_table.specs.laws.Trailing.{is_trailing}
 use Rattle.vx_table.specs.Values.{IsValueOf, Follows, to_end, through, bits_along, Closes}
 
 abbrev pub is_zero : ℤ → Bool

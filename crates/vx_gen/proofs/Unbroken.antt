@@ -32,44 +32,44 @@ use Rattle.vx_merge.specs.Regions.{corners_in, ctb_of, layout_of, layouts_in, pl
 use Rattle.vx_merge.specs.Rounds.{UnlikeFirst, UnlikeLowest, no_picture, picture_at}
 use Rattle.vx_merge.specs.Rules.{crosses_slices, crosses_tiles, first_lists, has_slices, has_tiles, kept_header, kept_pps, kept_sps, outputs_of, profile_of, rules_of, shared_kind}
 use Rattle.vx_merge.specs.Verdict.{IsVerdict}
-use Rattle.vx_gen.specs.Pictures.{layout, slice_items}
+use Rattle.vx_gen.specs.Pictures.{layout, generated_slice}
 use Rattle.vx_gen.specs.Rounds.{GeneratedBreakNoRule, corners, round}
-use Rattle.vx_gen.specs.Shown.{parts}
+use Rattle.vx_gen.specs.Shown.{generated_parts}
 use Rattle.vx_gen.proofs.SideBySide.{AreTiles, no_lines_fault, place, row, they_fit}
 
 -- ---- what all have in common
 
-same_pps : (seed n k p : ℕ) → kept_pps (parts seed n k p) ≡ kept_pps (parts seed 0 0 p)
+same_pps : (seed n k p : ℕ) → kept_pps (generated_parts seed n k p) ≡ kept_pps (generated_parts seed 0 0 p)
 unfolding fresh natural powers_below value after coding_at form_of has_value limits_at one_field part present turns sections_form item_of pps_form partition stands_for_field
 same_pps seed n k p = refl
 
-same_lists : (seed n k p : ℕ) → first_lists (parts seed n k p) ≡ record { first = []; second = [] } ∷ []
+same_lists : (seed n k p : ℕ) → first_lists (generated_parts seed n k p) ≡ record { first = []; second = [] } ∷ []
 unfolding fresh natural
 same_lists seed n k p = refl
 
-pub no_lmcs : (seed n k p : ℕ) → has_lmcs (parts seed n k p) ≡ false
+pub no_lmcs : (seed n k p : ℕ) → has_lmcs (generated_parts seed n k p) ≡ false
 unfolding fresh natural
 no_lmcs seed n k zero = refl
 no_lmcs seed n k (suc p) = refl
 
-pub no_scaling : (seed n k p : ℕ) → has_scaling (parts seed n k p) ≡ false
+pub no_scaling : (seed n k p : ℕ) → has_scaling (generated_parts seed n k p) ≡ false
 unfolding fresh natural
 no_scaling seed n k zero = refl
 no_scaling seed n k (suc p) = refl
 
-no_tiles : (seed n k p : ℕ) → has_tiles (parts seed n k p) ≡ false
+no_tiles : (seed n k p : ℕ) → has_tiles (generated_parts seed n k p) ≡ false
 no_tiles seed n k p = refl
 
-no_slices : (seed n k p : ℕ) → has_slices (parts seed n k p) ≡ false
+no_slices : (seed n k p : ℕ) → has_slices (generated_parts seed n k p) ≡ false
 unfolding fits
 no_slices seed n k p = refl
 
-no_filters : (seed n k p : ℕ) → filters_in (parts seed n k p) ≡ []
+no_filters : (seed n k p : ℕ) → filters_in (generated_parts seed n k p) ≡ []
 unfolding fresh natural
 no_filters seed n k zero = refl
 no_filters seed n k (suc p) = refl
 
-none_collocated : (seed n k p : ℕ) → collocated (parts seed n k p) ≡ []
+none_collocated : (seed n k p : ℕ) → collocated (generated_parts seed n k p) ≡ []
 unfolding fresh natural
 none_collocated seed n k zero = refl
 none_collocated seed n k (suc p) = refl
@@ -79,7 +79,7 @@ none_collocated seed n k (suc p) = refl
 module _ (seed pictures n p : ℕ) (some : 1 ≤ n) (few : n ≤ 16) where
   -- the picture of source k
   abbrev pub part_of : ℕ → Parts
-  part_of k = parts seed (5 * (k * pictures) + 5 * p) k p
+  part_of k = generated_parts seed (5 * (k * pictures) + 5 * p) k p
 
   abbrev all : List Parts
   all = round seed pictures n p
@@ -147,7 +147,7 @@ module _ (seed pictures n p : ℕ) (some : 1 ≤ n) (few : n ≤ 16) where
   no_filter_to k low = ap (λ qs. flat_map filters_in qs) (take-map-range_with_len part_of 0 n (k + 1) (omega (arith, low))) ∙ no_filter_from 0 (k + 1)
 
   output : Option ℤ
-  output = first_value (slice_items p) sh_no_output_of_prior_pics_flag
+  output = first_value (generated_slice p) sh_no_output_of_prior_pics_flag
 
   first_from : (m : ℕ) → 1 ≤ m → slice_get (flat_map outputs_of (map part_of (range_with_len 0 m))) 0 ≡ Some output
   unfolding output
@@ -178,7 +178,7 @@ module _ (seed pictures n p : ℕ) (some : 1 ≤ n) (few : n ≤ 16) where
                     inl (
                       λ k low kind. alike shared_kind (shared_kind (part_of 0)) (λ j. refl) k low kind,
                       inl (
-                        λ k low tools. alike kept_pps (kept_pps (parts seed 0 0 p)) (λ j. same_pps seed (5 * (j * pictures) + 5 * p) j p) k low tools,
+                        λ k low tools. alike kept_pps (kept_pps (generated_parts seed 0 0 p)) (λ j. same_pps seed (5 * (j * pictures) + 5 * p) j p) k low tools,
                         inl (
                           λ k low header. elim header [
                             | inl kept ↦ alike kept_header (kept_header (part_of 0)) (λ j. refl) k low kept

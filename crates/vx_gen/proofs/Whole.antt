@@ -15,16 +15,16 @@ use Rattle.vx_sh.specs.Value.{SpellingBegins}
 use Rattle.vx_pic.specs.Bytes.{ArePictures, AreSourcePictures, Ending, ending_by}
 use Rattle.vx_pic.specs.H266.{AreOfH266}
 use Rattle.vx_pic.specs.H266Laws.{HaveOneAnswer}
-use Rattle.vx_pic.specs.Laws.{WrittenHasPictures}
+use Rattle.vx_pic.specs.laws.Pictures.{WrittenHasPictures}
 use Rattle.vx_pic.specs.Readings.{Picture, pictures}
-use Rattle.vx_pic.specs.Resident.{AllReadAgain, AreAllPlanned, HaveNamed, IsPlanned, WrittenReadsAgain, planned_of, read_of, units_written}
+use Rattle.vx_pic.specs.Resident.{AllReadAgain, AreAllPlanned, HaveNamed, IsPlanned, WrittenReadsAgain, planned_of, readings_of_plans, units_written}
 use Rattle.vx_pic.specs.Rules.{Readers, picture_limit, structure}
-use Rattle.vx_pic.specs.Sets.{address_of, names_of, place_of}
-use Rattle.vx_pic.specs.Streams.{Outcome, read_on}
+use Rattle.vx_pic.specs.Sets.{address_of, names_of, slices_before}
+use Rattle.vx_pic.specs.Streams.{StreamReading, read_on}
 use Rattle.vx_pic.specs.Written.{Plan}
 use Rattle.vx_write.specs.Again.{SetUnitsAreRead, UnitsStand}
 use Rattle.vx_gen.specs.Laws.{GeneratedAreRead}
-use Rattle.vx_gen.specs.Pictures.{header_items, layout, plan, plans, pps_items, slice_header}
+use Rattle.vx_gen.specs.Pictures.{generated_header, layout, plan, plans, generated_pps, slice_header}
 use Rattle.vx_gen.specs.Streams.{stream, units}
 use Rattle.vx_gen.specs.Units.{pps, slice, sps}
 use Rattle.vx_gen.proofs.Laid.{laid}
@@ -36,13 +36,13 @@ use Rattle.vx_gen.proofs.Standing.{pps_short, pps_stands, slice_long, slice_stan
 
 -- ---- what is asked of its plans
 
-names_none : (k p : ℕ) → names_of (pps_items k) (header_items p) (slice_header p) ≡ []
+names_none : (k p : ℕ) → names_of (generated_pps k) (generated_header p) (slice_header p) ≡ []
 unfolding names_of fresh natural
 names_none k zero = refl
 names_none k (suc p) = refl
 
-place_is : (p : ℕ) → place_of layout (slice_header p) ≡ 0
-unfolding place_of address_of fresh natural
+place_is : (p : ℕ) → slices_before layout (slice_header p) ≡ 0
+unfolding slices_before address_of fresh natural
 place_is zero = refl
 place_is (suc p) = refl
 
@@ -130,8 +130,8 @@ few_bytes size p short few = omega (arith, short, few)
 
 well : (R : Readers) (done : List Plan) → AllReadAgain R done → ending_by true None (read_on R [] (units_written done)) ≡ None
 well R done again =
-    ap (λ (o : Outcome). ending_by true None o) again.read
-    ∙ ap (λ (lacks : Bool). option_map (λ r. record { units = length (read_of done); refusal = r }) (cond lacks (Some (structure SLICE_MISSING)) None)) again.rests.closed
+    ap (λ (o : StreamReading). ending_by true None o) again.read
+    ∙ ap (λ (lacks : Bool). option_map (λ r. record { units = length (readings_of_plans done); refusal = r }) (cond lacks (Some (structure SLICE_MISSING)) None)) again.rests.closed
 
 pub are_read : Laws → GeneratedAreRead
 are_read laws R seed zero k of low some few = absurd (omega (arith, some))
@@ -142,7 +142,7 @@ are_read laws R seed (suc q) k of low some few =
     let again : AllReadAgain R done = laws.again R done (all_planned laws R of seed n k low (suc q) few) in
     let stand = all_stand laws.stand seed n k (suc q) low in
     let have = laws.has_pictures R (units_written done) (All-from_recursion CanStand (units_written done) (subst (AllByRecursion CanStand) (sym same) stand)) in
-    let are = subst (λ ps. ArePictures R (written (units_written done)) true ps (ending_by true None (read_on R [] (units_written done)))) (ap (λ (o : Outcome). pictures o.before) again.read ∙ again.planned) have in
+    let are = subst (λ ps. ArePictures R (written (units_written done)) true ps (ending_by true None (read_on R [] (units_written done)))) (ap (λ (o : StreamReading). pictures o.before) again.read ∙ again.planned) have in
     let end = subst (λ e. ArePictures R (written (units_written done)) true (planned_of done) e) (well R done again) are in
     let bytes = subst (λ us. ArePictures R (written us) true (planned_of done) None) same end in
     of_source R (stream seed (suc q) k) (planned_of done) None (few_bytes (length (written (units seed n k (suc q)))) (suc q) (short seed n k (suc q) low) few) bytes

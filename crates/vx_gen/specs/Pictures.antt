@@ -18,30 +18,30 @@ use Rattle.vx_pic.specs.Written.{Plan, SetUnit, a_pps, an_sps}
 use Rattle.vx_gen.specs.Units as units
 use Rattle.vx_gen.specs.Units.{lsb}
 
-abbrev pub item : ℕ → ℤ → Item
-item of v = record { field = of; value = v }
+abbrev pub generated_item : ℕ → ℤ → Item
+generated_item of v = record { field = of; value = v }
 
 -- fields that are 0
 abbrev pub zeros : List ℕ → List Item
-zeros fields = map (λ of. item of (pos 0)) fields
+zeros fields = map (λ of. generated_item of (pos 0)) fields
 
 -- ---- sets
 
 -- the SPS (7.3.2.4): CTUs of 64, profile 1, level 51, pictures of 128 times 128 samples, no chroma, eight bits, four low bits of counts,
 -- no tools, and no reference picture list structures
-abbrev pub sps_items : List Item
-sps_items =
+abbrev pub generated_sps : List Item
+generated_sps =
     zeros (sps.sps_seq_parameter_set_id ∷ sps.sps_video_parameter_set_id ∷ sps.sps_max_sublayers_minus1 ∷ sps.sps_chroma_format_idc ∷ [])
-    ++ item sps.sps_log2_ctu_size_minus5 (pos 1)
-    ∷ item sps.sps_ptl_dpb_hrd_params_present_flag (pos 1)
-    ∷ item ptl.general_profile_idc (pos 1)
-    ∷ item ptl.general_tier_flag (pos 0)
-    ∷ item ptl.general_level_idc (pos 51)
-    ∷ item ptl.ptl_frame_only_constraint_flag (pos 1)
+    ++ generated_item sps.sps_log2_ctu_size_minus5 (pos 1)
+    ∷ generated_item sps.sps_ptl_dpb_hrd_params_present_flag (pos 1)
+    ∷ generated_item ptl.general_profile_idc (pos 1)
+    ∷ generated_item ptl.general_tier_flag (pos 0)
+    ∷ generated_item ptl.general_level_idc (pos 51)
+    ∷ generated_item ptl.ptl_frame_only_constraint_flag (pos 1)
     ∷ zeros (ptl.ptl_multilayer_enabled_flag ∷ ptl.gci_present_flag ∷ ptl.ptl_num_sub_profiles
     ∷ sps.sps_gdr_enabled_flag ∷ sps.sps_ref_pic_resampling_enabled_flag ∷ [])
-    ++ item sps.sps_pic_width_max_in_luma_samples (pos 128)
-    ∷ item sps.sps_pic_height_max_in_luma_samples (pos 128)
+    ++ generated_item sps.sps_pic_width_max_in_luma_samples (pos 128)
+    ∷ generated_item sps.sps_pic_height_max_in_luma_samples (pos 128)
     ∷ zeros (sps.sps_conformance_window_flag ∷ sps.sps_subpic_info_present_flag
     ∷ sps.sps_bitdepth_minus8 ∷ sps.sps_entropy_coding_sync_enabled_flag ∷ sps.sps_entry_point_offsets_present_flag
     ∷ sps.sps_log2_max_pic_order_cnt_lsb_minus4 ∷ sps.sps_poc_msb_cycle_flag ∷ sps.sps_num_extra_ph_bytes ∷ sps.sps_num_extra_sh_bytes
@@ -52,11 +52,11 @@ sps_items =
     ∷ sps.sps_max_luma_transform_size_64_flag ∷ sps.sps_transform_skip_enabled_flag ∷ sps.sps_mts_enabled_flag ∷ sps.sps_lfnst_enabled_flag
     ∷ sps.sps_sao_enabled_flag ∷ sps.sps_alf_enabled_flag ∷ sps.sps_lmcs_enabled_flag
     ∷ sps.sps_weighted_pred_flag ∷ sps.sps_weighted_bipred_flag ∷ sps.sps_long_term_ref_pics_flag ∷ sps.sps_idr_rpl_present_flag ∷ [])
-    ++ item sps.sps_rpl1_same_as_rpl0_flag (pos 1)
+    ++ generated_item sps.sps_rpl1_same_as_rpl0_flag (pos 1)
     ∷ zeros (sps.sps_num_ref_pic_lists
     ∷ sps.sps_ref_wraparound_enabled_flag ∷ sps.sps_temporal_mvp_enabled_flag ∷ sps.sps_amvr_enabled_flag ∷ sps.sps_bdof_enabled_flag
     ∷ sps.sps_smvd_enabled_flag ∷ sps.sps_dmvr_enabled_flag ∷ sps.sps_mmvd_enabled_flag ∷ [])
-    ++ item sps.sps_six_minus_max_num_merge_cand (pos 5)
+    ++ generated_item sps.sps_six_minus_max_num_merge_cand (pos 5)
     ∷ zeros (sps.sps_sbt_enabled_flag ∷ sps.sps_affine_enabled_flag ∷ sps.sps_bcw_enabled_flag ∷ sps.sps_ciip_enabled_flag
     ∷ sps.sps_log2_parallel_merge_level_minus2
     ∷ sps.sps_isp_enabled_flag ∷ sps.sps_mrl_enabled_flag ∷ sps.sps_mip_enabled_flag ∷ sps.sps_palette_enabled_flag
@@ -66,23 +66,23 @@ sps_items =
     ∷ sps.sps_field_seq_flag ∷ sps.sps_vui_parameters_present_flag ∷ sps.sps_extension_flag ∷ [])
 
 -- source k's PPS (7.3.2.5): pictures of that size that aren't partitioned, and a QP of 26 − k
-abbrev pub pps_items : ℕ → List Item
-pps_items k =
+abbrev pub generated_pps : ℕ → List Item
+generated_pps k =
     zeros (pps.pps_pic_parameter_set_id ∷ pps.pps_seq_parameter_set_id ∷ pps.pps_mixed_nalu_types_in_pic_flag ∷ [])
-    ++ item pps.pps_pic_width_in_luma_samples (pos 128)
-    ∷ item pps.pps_pic_height_in_luma_samples (pos 128)
+    ++ generated_item pps.pps_pic_width_in_luma_samples (pos 128)
+    ∷ generated_item pps.pps_pic_height_in_luma_samples (pos 128)
     ∷ zeros (pps.pps_conformance_window_flag ∷ pps.pps_scaling_window_explicit_signalling_flag ∷ pps.pps_output_flag_present_flag ∷ [])
-    ++ item pps.pps_no_pic_partition_flag (pos 1)
+    ++ generated_item pps.pps_no_pic_partition_flag (pos 1)
     ∷ zeros (pps.pps_subpic_id_mapping_present_flag ∷ pps.pps_cabac_init_present_flag
     ∷ pps.pps_num_ref_idx_default_active_minus1 ∷ pps.pps_num_ref_idx_default_active_minus1 ∷ pps.pps_rpl1_idx_present_flag
     ∷ pps.pps_weighted_pred_flag ∷ pps.pps_weighted_bipred_flag ∷ pps.pps_ref_wraparound_enabled_flag ∷ [])
-    ++ item pps.pps_init_qp_minus26 (neg_ℤ (pos k))
+    ++ generated_item pps.pps_init_qp_minus26 (neg_ℤ (pos k))
     ∷ zeros (pps.pps_cu_qp_delta_enabled_flag ∷ pps.pps_chroma_tool_offsets_present_flag ∷ pps.pps_deblocking_filter_control_present_flag
     ∷ pps.pps_picture_header_extension_present_flag ∷ pps.pps_slice_header_extension_present_flag ∷ pps.pps_extension_flag ∷ [])
 
 -- both, with their units
 abbrev pub sets : ℕ → List SetUnit
-sets k = record { unit = units.sps; set = an_sps sps_items } ∷ record { unit = units.pps k; set = a_pps (pps_items k) } ∷ []
+sets k = record { unit = units.sps; set = an_sps generated_sps } ∷ record { unit = units.pps k; set = a_pps (generated_pps k) } ∷ []
 
 -- one tile, one slice and one subpicture of two times two CTUs (6.5.1)
 abbrev pub layout : Numbers
@@ -92,34 +92,34 @@ layout = record { columns = 0 ∷ 2 ∷ []; rows = 0 ∷ 2 ∷ []; slices = whol
 
 -- the header of picture p (7.3.2.8): of an IDR picture, or of a trailing picture, without inter slices
 abbrev pub idr_header : List Item
-idr_header = item ph.ph_gdr_or_irap_pic_flag (pos 1)
+idr_header = generated_item ph.ph_gdr_or_irap_pic_flag (pos 1)
     ∷ zeros (ph.ph_non_ref_pic_flag ∷ ph.ph_gdr_pic_flag ∷ ph.ph_inter_slice_allowed_flag ∷ ph.ph_pic_parameter_set_id
     ∷ ph.ph_pic_order_cnt_lsb ∷ [])
 
 abbrev pub trailing_header : ℕ → List Item
 trailing_header l =
     zeros (ph.ph_gdr_or_irap_pic_flag ∷ ph.ph_non_ref_pic_flag ∷ ph.ph_inter_slice_allowed_flag ∷ ph.ph_pic_parameter_set_id ∷ [])
-    ++ item ph.ph_pic_order_cnt_lsb (pos l) ∷ []
+    ++ generated_item ph.ph_pic_order_cnt_lsb (pos l) ∷ []
 
-abbrev pub header_items : ℕ → List Item
-header_items zero = idr_header
-header_items (suc p) = trailing_header (lsb (suc p))
+abbrev pub generated_header : ℕ → List Item
+generated_header zero = idr_header
+generated_header (suc p) = trailing_header (lsb (suc p))
 
 -- its slice's (7.3.7), inside of which it stands: two empty reference picture lists, but of an IDR picture, and no QP delta
 abbrev pub idr_slice : List Item
-idr_slice = item sh.sh_picture_header_in_slice_header_flag (pos 1) ∷ zeros (sh.sh_no_output_of_prior_pics_flag ∷ sh.sh_qp_delta ∷ [])
+idr_slice = generated_item sh.sh_picture_header_in_slice_header_flag (pos 1) ∷ zeros (sh.sh_no_output_of_prior_pics_flag ∷ sh.sh_qp_delta ∷ [])
 
 abbrev pub trailing_slice : List Item
-trailing_slice = item sh.sh_picture_header_in_slice_header_flag (pos 1)
+trailing_slice = generated_item sh.sh_picture_header_in_slice_header_flag (pos 1)
     ∷ zeros (rpl.num_ref_entries ∷ rpl.num_ref_entries ∷ sh.sh_qp_delta ∷ [])
 
-abbrev pub slice_items : ℕ → List Item
-slice_items zero = idr_slice
-slice_items (suc p) = trailing_slice
+abbrev pub generated_slice : ℕ → List Item
+generated_slice zero = idr_slice
+generated_slice (suc p) = trailing_slice
 
 -- four bytes of the unit come before its data
 abbrev pub slice_header : ℕ → SliceHeader
-slice_header p = record { fields = slice_items p; subpic = 0; payload = 4 }
+slice_header p = record { fields = generated_slice p; subpic = 0; payload = 4 }
 
 -- ---- pictures
 
@@ -136,8 +136,8 @@ is_first (suc p) = false
 abbrev pub kind : ℕ → Kind
 kind p = record { nal_type = nal_type p; temporal_id = 0; clvss = is_first p; after_eos = false; poc = pos p }
 
-abbrev pub begun : ℕ → ℕ → Begun
-begun k p = record { sps = sps_items; pps = pps_items k; layout = layout; header = header_items p; temporal_id = 0; unit = None }
+abbrev pub generated_begun : ℕ → ℕ → Begun
+generated_begun k p = record { sps = generated_sps; pps = generated_pps k; layout = layout; header = generated_header p; temporal_id = 0; unit = None }
 
 -- the first one is sent with its sets
 abbrev pub sent : ℕ → ℕ → List SetUnit
@@ -149,7 +149,7 @@ abbrev pub plan : (seed n k p : ℕ) → Plan
 plan seed n k p = record {
   sent = sent k p;
   sei = None;
-  begun = begun k p;
+  begun = generated_begun k p;
   kind = kind p;
   first = record { unit = units.slice seed n p; header = slice_header p };
   more = [];

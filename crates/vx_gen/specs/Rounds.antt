@@ -11,7 +11,7 @@ use Rattle.vx_merge.specs.Merging.{AreCorners, IsBarred, Passes}
 use Rattle.vx_merge.specs.Rules.{rules_of}
 use Rattle.vx_merge.specs.Verdict.{IsVerdict}
 use Rattle.vx_gen.specs.Pictures.{plans}
-use Rattle.vx_gen.specs.Shown.{parts}
+use Rattle.vx_gen.specs.Shown.{generated_parts}
 
 -- the corners of so many sources, in luma samples
 abbrev pub corners : ℕ → List Corner
@@ -19,7 +19,7 @@ corners sources = map (λ k. record { x = 128 * k; y = 0 }) (range_with_len 0 so
 
 -- picture p of each source, of so many pictures each
 abbrev pub round : (seed pictures sources p : ℕ) → List Parts
-round seed pictures sources p = map (λ k. parts seed (5 * (k * pictures) + 5 * p) k p) (range_with_len 0 sources)
+round seed pictures sources p = map (λ k. generated_parts seed (5 * (k * pictures) + 5 * p) k p) (range_with_len 0 sources)
 
 -- the pictures of source k, so many, as they are read of its stream: the latest one first
 abbrev pub planned : (seed pictures k : ℕ) → List Picture

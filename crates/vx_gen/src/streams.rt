@@ -52,10 +52,6 @@ fn stream(alloc: Global, draws: &mut Draws, k: u32, pictures: u32) -> Result<Byt
 }
 
 /// The streams of so many sources, each of so many pictures, from a seed.
-///
-/// # Errors
-///
-/// Want of memory.
 pub fn generate(
     alloc: Global,
     seed: u32,

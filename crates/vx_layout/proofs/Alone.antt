@@ -9,7 +9,7 @@ use Rattle.vx_layout.specs.Borders.{SplitsAtLines}
 use Rattle.vx_layout.specs.Bounds.{Rises}
 use Rattle.vx_layout.specs.Faults.{IsLayout, SplitsWell, height, width}
 use Rattle.vx_layout.specs.Frames.{with_one_subpic}
-use Rattle.vx_layout.specs.Rects.{CoversOnce, IsPart, Precedes, fits, holds, in_order, slices_of, whole_picture}
+use Rattle.vx_layout.specs.Rects.{CoversOnce, IsPart, Precedes, fits, holds, in_order, slices_of_subpicture, whole_picture}
 use Rattle.vx_layout.proofs.Counting.{count_by-cons, slices_all}
 use Rattle.vx_layout.proofs.Holding.{holds_from}
 use Rattle.vx_layout.proofs.Rising.{Contains-first, Contains-last}
@@ -28,7 +28,7 @@ pub layout-alone : (n : Numbers) → Rises n.columns → Rises n.rows → 0 < wi
 layout-alone n columns_rise rows_rise wide high cover fit order =
     let all : Rect = whole_picture (width n) (height n) in
     let P : Rect → Type 0 = IsPart (width n) (height n) in
-    let same : in_order n.slices (all ∷ []) ≡ n.slices = append-nil (slices_of n.slices all) ∙ slices_all n.slices all fit in
+    let same : in_order n.slices (all ∷ []) ≡ n.slices = append-nil (slices_of_subpicture n.slices all) ∙ slices_all n.slices all fit in
     record {
       subpics = record {
         parts = All-cons P all [] (record { wide = wide; high = high; across = omega arith; down = omega arith }) (All-nil P);

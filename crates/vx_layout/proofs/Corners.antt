@@ -10,7 +10,7 @@ use Rattle.vx_layout.specs.declared.rect.Rect.{Rect}
 use Rattle.vx_layout.specs.Borders.{Begins, Ends}
 use Rattle.vx_layout.specs.Faults.{IsLayout, height, width}
 use Rattle.vx_layout.specs.Layouts.{HasLayout, no_rect, ordered_at, slice_at, slices_in, subpic_at}
-use Rattle.vx_layout.specs.Rects.{CoversOnce, IsPart, Precedes, holds, in_order, slices_of}
+use Rattle.vx_layout.specs.Rects.{CoversOnce, IsPart, Precedes, holds, in_order, slices_of_subpicture}
 use Rattle.vx_layout.specs.Regions.{counted_from}
 use Rattle.vx_layout.specs.Shapes.{HasCtu}
 use Rattle.vx_layout.proofs.Counting.{count_by-cons, in_order-once, same_place}
@@ -137,8 +137,8 @@ slice-begins n layout some =
     let l = layout.faultless in
     let short : 0 < length n.subpics = omega (arith, layout.limits.subpics) in
     let low : 0 < length (slices_in n 0) = some_slice n 0 layout short in
-    let is : get_or all 0 no_rect ≡ slice_at n 0 0 = get_or-flat_map (slices_of n.slices) n.subpics 0 0 no_rect no_rect short low in
-    let upto = length-flat_map-take (slices_of n.slices) n.subpics 0 no_rect short in
+    let is : get_or all 0 no_rect ≡ slice_at n 0 0 = get_or-flat_map (slices_of_subpicture n.slices) n.subpics 0 0 no_rect no_rect short low in
+    let upto = length-flat_map-take (slices_of_subpicture n.slices) n.subpics 0 no_rect short in
     let part : IsPart (width n) (height n) (slice_at n 0 0) = slice_within n 0 0 layout short low some.0 some.1 in
     subst Begins is
     (first-begins all (width n) (height n) no_rect (in_order-once n.slices n.subpics (width n) (height n) l.split l.subpics.once l.slices) l.order (omega (arith, upto, low))
@@ -146,7 +146,7 @@ slice-begins n layout some =
 
 pub slice-ends : (n : Numbers) (k m : ℕ) → HasLayout n → k + 1 ≡ length n.subpics → m + 1 ≡ length (slices_in n k) → HasCtu (slice_at n k m) → Ends (width n) (height n) (slice_at n k m)
 slice-ends n k m layout last_k last_m some =
-    let f : Rect → List Rect = slices_of n.slices in
+    let f : Rect → List Rect = slices_of_subpicture n.slices in
     let all : List Rect = in_order n.slices n.subpics in
     let before : List Rect = flat_map f (take k n.subpics) in
     let l = layout.faultless in

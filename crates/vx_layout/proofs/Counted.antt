@@ -8,7 +8,7 @@ use Rattle.vx_layout.specs.declared.rect.Rect.{Rect}
 use Rattle.vx_layout.specs.Bounds.{Rises, RisesAbove, last, last_after}
 use Rattle.vx_layout.specs.Layouts.{HasLayout, no_rect, slice_at, slices_in, subpic_at}
 use Rattle.vx_layout.specs.Rects.{IsPart, fits}
-use Rattle.vx_layout.specs.Regions.{counted_from, cut, moved, region_of}
+use Rattle.vx_layout.specs.Regions.{counted_from, cut_bounds, moved, region_of}
 use Rattle.vx_layout.specs.Scan.{ctus, raster, runs, runs_after}
 use Rattle.vx_layout.proofs.Entries.{ctus-none, ctus-runs}
 use Rattle.vx_layout.proofs.Holding.{fits_tells}
@@ -171,7 +171,7 @@ scan-moved a b XS YS US VS e f =
 
 -- the runs along one axis
 axis_moved : (bounds : List ℕ) (from size lo len : ℕ) → Rises bounds → 0 < size → from ≤ lo → lo + len ≤ from + size → from + size ≤ last bounds →
-    strip (map (filter (is_in lo (lo + len))) (runs bounds)) ≡ map (map (λ x. x + from)) (strip (map (filter (is_in (lo - from) (lo - from + len))) (runs (cut bounds from size))))
+    strip (map (filter (is_in lo (lo + len))) (runs bounds)) ≡ map (map (λ x. x + from)) (strip (map (filter (is_in (lo - from) (lo - from + len))) (runs (cut_bounds bounds from size))))
 axis_moved [] from size lo len rises some f h upto = absurd (omega arith)
 axis_moved (a ∷ bs) from size lo len rises some f h upto =
     let first : a ≡ 0 = rises.0 in
@@ -184,16 +184,16 @@ axis_moved (a ∷ bs) from size lo len rises some f h upto =
 
 -- the CTUs of a slice in a subpicture s
 pub ctus-counted : (columns rows : List ℕ) (s r : Rect) → Rises columns → Rises rows → IsPart (last columns) (last rows) s → fits r s ≡ true →
-    ctus columns rows r ≡ map (moved s.x s.y) (ctus (cut columns s.x s.w) (cut rows s.y s.h) (counted_from s r))
+    ctus columns rows r ≡ map (moved s.x s.y) (ctus (cut_bounds columns s.x s.w) (cut_bounds rows s.y s.h) (counted_from s r))
 ctus-counted columns rows s r rises_c rises_r part f =
     elim (fits_tells r s f) [
-      | inl empty ↦ ctus-none columns rows r empty ∙ ap (λ t. map (moved s.x s.y) t) (sym (ctus-none (cut columns s.x s.w) (cut rows s.y s.h) (counted_from s r) empty))
+      | inl empty ↦ ctus-none columns rows r empty ∙ ap (λ t. map (moved s.x s.y) t) (sym (ctus-none (cut_bounds columns s.x s.w) (cut_bounds rows s.y s.h) (counted_from s r) empty))
       | inr q ↦
           ctus-runs columns rows r
           ∙ (scan-moved s.x s.y (map (filter (is_in r.x (r.x + r.w))) (runs columns)) (map (filter (is_in r.y (r.y + r.h))) (runs rows))
-          (map (filter (is_in (r.x - s.x) (r.x - s.x + r.w))) (runs (cut columns s.x s.w))) (map (filter (is_in (r.y - s.y) (r.y - s.y + r.h))) (runs (cut rows s.y s.h)))
+          (map (filter (is_in (r.x - s.x) (r.x - s.x + r.w))) (runs (cut_bounds columns s.x s.w))) (map (filter (is_in (r.y - s.y) (r.y - s.y + r.h))) (runs (cut_bounds rows s.y s.h)))
           (axis_moved columns s.x s.w r.x r.w rises_c part.wide q.0 q.1 part.across) (axis_moved rows s.y s.h r.y r.h rises_r part.high q.2 q.3 part.down)
-          ∙ ap (λ t. map (moved s.x s.y) t) (sym (ctus-runs (cut columns s.x s.w) (cut rows s.y s.h) (counted_from s r))))
+          ∙ ap (λ t. map (moved s.x s.y) t) (sym (ctus-runs (cut_bounds columns s.x s.w) (cut_bounds rows s.y s.h) (counted_from s r))))
     ]
 
 -- slice m of the region is slice m of the subpicture, counted from its corner

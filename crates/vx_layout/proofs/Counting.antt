@@ -6,7 +6,7 @@ use Rattle.std.proofs.lemmas.List.Elements.{All-cons, All-head, All-tail}
 use Rattle.std.proofs.lemmas.List.Sums.{sum_by-cons, sum_by-append, length-filter, count_by-le-length}
 use Rattle.std.specs.List.{All, Any, flat_map}
 use Rattle.vx_layout.specs.declared.rect.Rect.{Rect}
-use Rattle.vx_layout.specs.Rects.{holds, fits, CoversOnce, slices_of, in_order}
+use Rattle.vx_layout.specs.Rects.{holds, fits, CoversOnce, slices_of_subpicture, in_order}
 use Rattle.vx_layout.proofs.Holding.{holds_tells, holds_from, fits_tells}
 
 pub count_by-cons : {X : Type 0} (p : X → Bool) (x : X) (xs : List X) → count_by p (x ∷ xs) ≡ cond (p x) 1 0 + count_by p xs
@@ -68,14 +68,14 @@ holds-fits r s x y f h =
     ]
 
 -- the slices of a subpicture hold none of the CTUs outside it
-pub slices_of-outside : (slices : List Rect) (s : Rect) (x y : ℕ) → holds s x y ≡ false → count_by (λ r. holds r x y) (slices_of slices s) ≡ 0
+pub slices_of-outside : (slices : List Rect) (s : Rect) (x y : ℕ) → holds s x y ≡ false → count_by (λ r. holds r x y) (slices_of_subpicture slices s) ≡ 0
 slices_of-outside slices s x y off =
     count_by-filter_none (λ r. holds r x y) (λ r. fits r s) slices
     (λ r f. elim (cases_Bool (holds r x y)) [ inl on ↦ absurd (both_ways _ off (holds-fits r s x y f on)) | inr none ↦ none ])
 
 -- and all of those in it
 pub slices_of-inside : (slices subpics : List Rect) (i : ℕ) (d : Rect) (x y : ℕ) → All (λ r. Any (λ s. fits r s ≡ true) subpics) slices → count_by (λ s. holds s x y) subpics ≡ 1 → i < length subpics → holds (get_or subpics i d) x y ≡ true →
-    count_by (λ r. holds r x y) (slices_of slices (get_or subpics i d)) ≡ count_by (λ r. holds r x y) slices
+    count_by (λ r. holds r x y) (slices_of_subpicture slices (get_or subpics i d)) ≡ count_by (λ r. holds r x y) slices
 slices_of-inside slices subpics i d x y fit once short here =
     count_by-filter_all (λ r. holds r x y) (λ r. fits r (get_or subpics i d)) slices
     (λ k e low on.
@@ -90,7 +90,7 @@ slices_of-inside slices subpics i d x y fit once short here =
 
 -- each CTU of a picture lies in its subpicture's slices once, and in no other subpicture's
 pub slices_of-once : (slices subpics : List Rect) (w h i : ℕ) (d : Rect) (x y : ℕ) → All (λ r. Any (λ s. fits r s ≡ true) subpics) slices → CoversOnce subpics w h → CoversOnce slices w h → i < length subpics → x < w → y < h →
-    count_by (λ r. holds r x y) (slices_of slices (get_or subpics i d)) ≡ cond (holds (get_or subpics i d) x y) 1 0
+    count_by (λ r. holds r x y) (slices_of_subpicture slices (get_or subpics i d)) ≡ cond (holds (get_or subpics i d) x y) 1 0
 slices_of-once slices subpics w h i d x y fit cover_subpics cover_slices short v u =
     elim (cases_Bool (holds (get_or subpics i d) x y)) [
       | inl on ↦ rw on (slices_of-inside slices subpics i d x y fit (cover_subpics x y v u) short on ∙ cover_slices x y v u)
@@ -108,25 +108,25 @@ count_by-flat_map {X} p q f (x ∷ xs) each =
 
 pub in_order-once : (slices subpics : List Rect) (w h : ℕ) → All (λ r. Any (λ s. fits r s ≡ true) subpics) slices → CoversOnce subpics w h → CoversOnce slices w h → CoversOnce (in_order slices subpics) w h
 in_order-once slices subpics w h fit cover_subpics cover_slices = λ x y v u.
-    count_by-flat_map (λ r. holds r x y) (λ s. holds s x y) (slices_of slices) subpics
+    count_by-flat_map (λ r. holds r x y) (λ s. holds s x y) (slices_of_subpicture slices) subpics
     (λ i d short. slices_of-once slices subpics w h i d x y fit cover_subpics cover_slices short v u)
     ∙ cover_subpics x y v u
 
 -- where all slices lie in s, they are its slices
-pub slices_all : (slices : List Rect) (s : Rect) → All (λ r. fits r s ≡ true) slices → slices_of slices s ≡ slices
+pub slices_all : (slices : List Rect) (s : Rect) → All (λ r. fits r s ≡ true) slices → slices_of_subpicture slices s ≡ slices
 slices_all [] s fit = refl
 slices_all (r ∷ rs) s fit =
     let P : Rect → Type 0 = λ r. fits r s ≡ true in
     rw (All-head P r rs fit) (ap (λ t. r ∷ t) (slices_all rs s (All-tail P r rs fit)))
 
 -- what holds of each slice that lies in the subpicture holds of each of its slices
-pub All-slices_of : (slices : List Rect) (s : Rect) (P : Rect → Type 0) → ((r : Rect) → fits r s ≡ true → P r) → All P (slices_of slices s)
+pub All-slices_of : (slices : List Rect) (s : Rect) (P : Rect → Type 0) → ((r : Rect) → fits r s ≡ true → P r) → All P (slices_of_subpicture slices s)
 All-slices_of [] s P each = λ k d short. absurd (omega arith)
 All-slices_of (r ∷ rs) s P each =
     elim (cases_Bool (fits r s)) [
-      | inl on ↦ rw on (All-cons P r (slices_of rs s) (each r on) (All-slices_of rs s P each))
+      | inl on ↦ rw on (All-cons P r (slices_of_subpicture rs s) (each r on) (All-slices_of rs s P each))
       | inr off ↦ rw off (All-slices_of rs s P each)
     ]
 
-pub length-slices_of-le : (slices : List Rect) (s : Rect) → length (slices_of slices s) ≤ length slices
+pub length-slices_of-le : (slices : List Rect) (s : Rect) → length (slices_of_subpicture slices s) ≤ length slices
 length-slices_of-le slices s = omega (arith, length-filter (λ r. fits r s) slices, count_by-le-length (λ r. fits r s) slices)

@@ -4,7 +4,7 @@ use Rattle.std.proofs.lemmas.Bool.{ltb-true, and_parts}
 use Rattle.std.proofs.lemmas.List.{map-append, take_all}
 use Rattle.std.proofs.lemmas.List.Elements.{filter_more}
 use Rattle.vx_layout.specs.Bounds.{Rises, last}
-use Rattle.vx_layout.specs.Regions.{inner, cut}
+use Rattle.vx_layout.specs.Regions.{inner, cut_bounds}
 use Rattle.vx_layout.proofs.Rising.{Rises-apart}
 use Rattle.vx_layout.proofs.Tiling.{Rises-push, last_after-push}
 
@@ -69,7 +69,7 @@ CutSoFar-cases bounds from size out i b false test rises is short c =
 pub CutSoFar-more : (bounds : List ℕ) (from size : ℕ) (out new : List ℕ) (i b : ℕ) → Rises bounds → b ≡ get_or bounds i 0 → i < length bounds → new ≡ out ++ cond (ltb from b && ltb b (from + size)) ((b - from) ∷ []) [] → CutSoFar bounds from size out i → CutSoFar bounds from size new (i + 1)
 CutSoFar-more bounds from size out new i b rises is short e c = rw e (CutSoFar-cases bounds from size out i b (ltb from b && ltb b (from + size)) refl rises is short c)
 
-pub cut-all : (bounds : List ℕ) (from size : ℕ) (out : List ℕ) (i : ℕ) → length bounds ≤ i → CutSoFar bounds from size out i → out ++ size ∷ [] ≡ cut bounds from size
+pub cut-all : (bounds : List ℕ) (from size : ℕ) (out : List ℕ) (i : ℕ) → length bounds ≤ i → CutSoFar bounds from size out i → out ++ size ∷ [] ≡ cut_bounds bounds from size
 cut-all bounds from size out i all c =
     ap (λ t. t ++ size ∷ []) c.cut_are ∙ ap (λ t. 0 ∷ (map (λ b. b - from) (inner t from size) ++ size ∷ [])) (take_all i bounds all)
 

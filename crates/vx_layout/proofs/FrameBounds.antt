@@ -6,7 +6,7 @@ use Rattle.std.proofs.lemmas.List.Elements.{All-contains, All-contains_itself, A
 use Rattle.std.specs.List.{Contains}
 use Rattle.vx_layout.specs.Borders.{SameInside}
 use Rattle.vx_layout.specs.Bounds.{Rises, last}
-use Rattle.vx_layout.specs.Regions.{cut, inner}
+use Rattle.vx_layout.specs.Regions.{cut_bounds, inner}
 use Rattle.vx_layout.proofs.Members.{Rises-members}
 use Rattle.vx_layout.proofs.Moving.{Rises-cut, cut_first, cut_last}
 use Rattle.vx_layout.proofs.Rising.{Contains-first, Contains-last, Contains-le-last}
@@ -50,7 +50,7 @@ inner_from bounds from size n inside some below =
     (Contains-kept (λ b. ltb from b && ltb b (from + size)) bounds (from + n) inside (and_from _ _ (lt-ltb _ _ above) (lt-ltb _ _ under))))
 
 -- what the cut bounds are: the first, the last, and those inside
-pub cut_tells : (bounds : List ℕ) (from size n : ℕ) → Contains (cut bounds from size) n → (0 ≡ n) ⊎ ((size ≡ n) ⊎ (Contains bounds (from + n) × (0 < n) × (n < size)))
+pub cut_tells : (bounds : List ℕ) (from size n : ℕ) → Contains (cut_bounds bounds from size) n → (0 ≡ n) ⊎ ((size ≡ n) ⊎ (Contains bounds (from + n) × (0 < n) × (n < size)))
 cut_tells bounds from size n inside =
     let between : List ℕ = map (λ b. b - from) (inner bounds from size) in
     elim (Contains-cases 0 (between ++ size ∷ []) n inside) [
@@ -62,16 +62,16 @@ cut_tells bounds from size n inside =
           ]
     ]
 
-pub cut_inner : (bounds : List ℕ) (from size n : ℕ) → Contains bounds (from + n) → 0 < n → n < size → Contains (cut bounds from size) n
+pub cut_inner : (bounds : List ℕ) (from size n : ℕ) → Contains bounds (from + n) → 0 < n → n < size → Contains (cut_bounds bounds from size) n
 cut_inner bounds from size n inside above below =
     let between : List ℕ = map (λ b. b - from) (inner bounds from size) in
     Contains-cons 0 (between ++ size ∷ []) n (Contains-append_left between (size ∷ []) n (inner_from bounds from size n inside above below))
 
 -- where the bounds inside a region are its own, so are the cut bounds
-pub cut-own : (bounds own : List ℕ) (from : ℕ) → Rises bounds → Rises own → 0 < last own → SameInside bounds from own → cut bounds from (last own) ≡ own
+pub cut-own : (bounds own : List ℕ) (from : ℕ) → Rises bounds → Rises own → 0 < last own → SameInside bounds from own → cut_bounds bounds from (last own) ≡ own
 cut-own bounds own from rises own_rises some same =
     let size : ℕ = last own in
-    Rises-members (cut bounds from size) own (Rises-cut bounds from size rises some) own_rises
+    Rises-members (cut_bounds bounds from size) own (Rises-cut bounds from size rises some) own_rises
     (λ n. (
       λ cut_has.
           elim (cut_tells bounds from size n cut_has) [
@@ -82,11 +82,11 @@ cut-own bounds own from rises own_rises some same =
       λ own_has.
           let upto : n ≤ size = Contains-le-last own n own_rises own_has in
           elim (cases_lt 0 n) [
-            | inr none ↦ let first : 0 ≡ n = omega arith in subst (λ m. Contains (cut bounds from size) m) first (cut_first bounds from size)
+            | inr none ↦ let first : 0 ≡ n = omega arith in subst (λ m. Contains (cut_bounds bounds from size) m) first (cut_first bounds from size)
             | inl above ↦
                 elim (cases_lt n size) [
                   | inl below ↦ cut_inner bounds from size n ((same n above below).1 own_has) above below
-                  | inr past ↦ let end : size ≡ n = omega arith in subst (λ m. Contains (cut bounds from size) m) end (cut_last bounds from size)
+                  | inr past ↦ let end : size ≡ n = omega arith in subst (λ m. Contains (cut_bounds bounds from size) m) end (cut_last bounds from size)
                 ]
           ],
     ))

@@ -8,7 +8,7 @@ use Rattle.vx_layout.specs.declared.numbers.Numbers.{Numbers}
 use Rattle.vx_layout.specs.declared.rect.Rect.{Rect}
 use Rattle.vx_layout.specs.Bounds.{Rises, last}
 use Rattle.vx_layout.specs.Faults.{IsTile, SubpicsCover}
-use Rattle.vx_layout.specs.FrameLaws.{TilesHoldRuns}
+use Rattle.vx_layout.specs.laws.Frames.{TilesHoldRuns}
 use Rattle.vx_layout.specs.Frames.{Fills, IsPlaced, frame_of, frame_slices}
 use Rattle.vx_layout.specs.Rects.{IsPart, fits}
 use Rattle.vx_layout.specs.Regions.{counted_from, moved_to}

@@ -7,7 +7,7 @@ use Rattle.std.proofs.lemmas.List.Kept.{AllPairs-cons}
 use Rattle.std.specs.List.{All, AllPairs, AllZip, Any}
 use Rattle.vx_layout.specs.declared.rect.Rect.{Rect}
 use Rattle.vx_layout.specs.Frames.{Fills, frame_slices}
-use Rattle.vx_layout.specs.Rects.{CoversOnce, IsPart, Precedes, fits, holds, in_order, slices_of}
+use Rattle.vx_layout.specs.Rects.{CoversOnce, IsPart, Precedes, fits, holds, in_order, slices_of_subpicture}
 use Rattle.vx_layout.specs.Regions.{counted_from, moved_to}
 use Rattle.vx_layout.proofs.Counting.{count_by-append, count_by-cons, holds-fits, same_place, slices_all}
 use Rattle.vx_layout.proofs.Holding.{fits_from, holds_from, holds_tells}
@@ -203,59 +203,59 @@ not_in r s t inside apart =
     let here : holds r r.x r.y ≡ true = corner_held r inside.wide inside.high in
     false_from_ne_true _ (λ f. apart r.x r.y (holds-fits r t r.x r.y f here) (holds-fits r s r.x r.y inside.fit here))
 
-slices_none : (rects : List Rect) (s : Rect) → All (λ r. fits r s ≡ false) rects → slices_of rects s ≡ []
+slices_none : (rects : List Rect) (s : Rect) → All (λ r. fits r s ≡ false) rects → slices_of_subpicture rects s ≡ []
 slices_none [] s off = refl
 slices_none (r ∷ rs) s off =
     let P : Rect → Type 0 = λ r. fits r s ≡ false in
     rw (All-head P r rs off) (slices_none rs s (All-tail P r rs off))
 
 -- the slices of each region are its picture's, behind slices that lie in no region
-frame-slices_after : (front regions : List Rect) (pictures : List (List Rect)) → All (λ s. slices_of front s ≡ []) regions → AllPairs Apart regions → AllZip Fills regions pictures →
-    AllZip (λ s p. slices_of (front ++ frame_slices regions pictures) s ≡ map (moved_to s) p) regions pictures
+frame-slices_after : (front regions : List Rect) (pictures : List (List Rect)) → All (λ s. slices_of_subpicture front s ≡ []) regions → AllPairs Apart regions → AllZip Fills regions pictures →
+    AllZip (λ s p. slices_of_subpicture (front ++ frame_slices regions pictures) s ≡ map (moved_to s) p) regions pictures
 frame-slices_after front [] [] clear apart fill = tt
 frame-slices_after front [] (p ∷ ps) clear apart fill = absurd fill
 frame-slices_after front (s ∷ ss) [] clear apart fill = absurd fill
 frame-slices_after front (s ∷ ss) (p ∷ ps) clear apart fill =
-    let Clear : Rect → Type 0 = λ t. slices_of front t ≡ [] in
+    let Clear : Rect → Type 0 = λ t. slices_of_subpicture front t ≡ [] in
     let mine : List Rect = map (moved_to s) p in
     let rest : List Rect = frame_slices ss ps in
     let mine_in : All (IsIn s) mine = AreIn-moved s p fill.0.parts in
-    let rest_out : slices_of rest s ≡ [] =
+    let rest_out : slices_of_subpicture rest s ≡ [] =
     slices_none rest s
     (λ j e short.
     let some = frame-in ss ps fill.1 j e short in
     not_in _ some.1 s some.4 (subst (λ t. Apart s t) some.3 (apart 0 (suc some.0) some.1 (omega arith) (omega (arith, some.2)))))
     in
-    let here : slices_of (front ++ (mine ++ rest)) s ≡ mine =
+    let here : slices_of_subpicture (front ++ (mine ++ rest)) s ≡ mine =
     filter-append (λ r. fits r s) front (mine ++ rest)
-    ∙ (ap (λ t. t ++ slices_of (mine ++ rest) s) (All-head Clear s ss clear)
-    ∙ (filter-append (λ r. fits r s) mine rest ∙ (ap (λ t. t ++ slices_of rest s) (slices_all mine s (λ i e short. (mine_in i e short).fit)) ∙ (ap (λ t. mine ++ t) rest_out ∙ append-nil mine))))
+    ∙ (ap (λ t. t ++ slices_of_subpicture (mine ++ rest) s) (All-head Clear s ss clear)
+    ∙ (filter-append (λ r. fits r s) mine rest ∙ (ap (λ t. t ++ slices_of_subpicture rest s) (slices_all mine s (λ i e short. (mine_in i e short).fit)) ∙ (ap (λ t. mine ++ t) rest_out ∙ append-nil mine))))
     in
-    let clear_more : All (λ t. slices_of (front ++ mine) t ≡ []) ss = λ k d low.
+    let clear_more : All (λ t. slices_of_subpicture (front ++ mine) t ≡ []) ss = λ k d low.
     let t : Rect = get_or ss k d in
     filter-append (λ r. fits r t) front mine
-    ∙ (ap (λ u. u ++ slices_of mine t) (All-tail Clear s ss clear k d low)
+    ∙ (ap (λ u. u ++ slices_of_subpicture mine t) (All-tail Clear s ss clear k d low)
     ∙ slices_none mine t (λ i e short. not_in _ s t (mine_in i e short) (λ x y on_t on_s. apart 0 (suc k) d (omega arith) (omega arith) x y on_s on_t)))
     in
     let there = frame-slices_after (front ++ mine) ss ps clear_more (λ i j d less low. apart (suc i) (suc j) d (omega arith) (omega arith)) fill.1 in
-    (here, subst (λ u. AllZip (λ t q. slices_of u t ≡ map (moved_to t) q) ss ps) (append_assoc front mine rest) there)
+    (here, subst (λ u. AllZip (λ t q. slices_of_subpicture u t ≡ map (moved_to t) q) ss ps) (append_assoc front mine rest) there)
 
 frame-slices_zip : (regions : List Rect) (pictures : List (List Rect)) (w h : ℕ) → All (IsPart w h) regions → CoversOnce regions w h → AllZip Fills regions pictures →
-    AllZip (λ s p. slices_of (frame_slices regions pictures) s ≡ map (moved_to s) p) regions pictures
+    AllZip (λ s p. slices_of_subpicture (frame_slices regions pictures) s ≡ map (moved_to s) p) regions pictures
 frame-slices_zip regions pictures w h parts cover fill = frame-slices_after [] regions pictures (λ k d low. refl) (apart_regions regions w h parts cover) fill
 
 pub frame-slices_of : (regions : List Rect) (pictures : List (List Rect)) (w h k : ℕ) (d : Rect) (e : List Rect) → All (IsPart w h) regions → CoversOnce regions w h → AllZip Fills regions pictures → k < length regions →
-    slices_of (frame_slices regions pictures) (get_or regions k d) ≡ map (moved_to (get_or regions k d)) (get_or pictures k e)
+    slices_of_subpicture (frame_slices regions pictures) (get_or regions k d) ≡ map (moved_to (get_or regions k d)) (get_or pictures k e)
 frame-slices_of regions pictures w h k d e parts cover fill short =
-    AllZip-at (λ s p. slices_of (frame_slices regions pictures) s ≡ map (moved_to s) p) regions pictures k d e (frame-slices_zip regions pictures w h parts cover fill) short
+    AllZip-at (λ s p. slices_of_subpicture (frame_slices regions pictures) s ≡ map (moved_to s) p) regions pictures k d e (frame-slices_zip regions pictures w h parts cover fill) short
 
 pub frame-counted : (regions : List Rect) (pictures : List (List Rect)) (w h k : ℕ) (d : Rect) (e : List Rect) → All (IsPart w h) regions → CoversOnce regions w h → AllZip Fills regions pictures → k < length regions →
-    map (counted_from (get_or regions k d)) (slices_of (frame_slices regions pictures) (get_or regions k d)) ≡ get_or pictures k e
+    map (counted_from (get_or regions k d)) (slices_of_subpicture (frame_slices regions pictures) (get_or regions k d)) ≡ get_or pictures k e
 frame-counted regions pictures w h k d e parts cover fill short =
     ap (λ t. map (counted_from (get_or regions k d)) t) (frame-slices_of regions pictures w h k d e parts cover fill short) ∙ counted-moved_all (get_or regions k d) (get_or pictures k e)
 
 -- region by region, the frame's slices are its slices
-joined : (slices regions : List Rect) (pictures : List (List Rect)) → AllZip (λ s p. slices_of slices s ≡ map (moved_to s) p) regions pictures → in_order slices regions ≡ frame_slices regions pictures
+joined : (slices regions : List Rect) (pictures : List (List Rect)) → AllZip (λ s p. slices_of_subpicture slices s ≡ map (moved_to s) p) regions pictures → in_order slices regions ≡ frame_slices regions pictures
 joined slices [] [] same = refl
 joined slices [] (p ∷ ps) same = absurd same
 joined slices (s ∷ ss) [] same = absurd same

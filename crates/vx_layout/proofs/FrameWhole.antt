@@ -10,8 +10,8 @@ use Rattle.vx_layout.specs.Bounds.{Rises, last}
 use Rattle.vx_layout.specs.Faults.{IsLayout, SplitsWell, SubpicsCover, height, width}
 use Rattle.vx_layout.specs.Frames.{Fills, IsPlaced, frame_of, frame_slices, with_one_subpic}
 use Rattle.vx_layout.specs.Layouts.{no_rect}
-use Rattle.vx_layout.specs.Rects.{CoversOnce, IsPart, Precedes, fits, holds, in_order, slices_of, whole_picture}
-use Rattle.vx_layout.specs.Regions.{cut, region_of}
+use Rattle.vx_layout.specs.Rects.{CoversOnce, IsPart, Precedes, fits, holds, in_order, slices_of_subpicture, whole_picture}
+use Rattle.vx_layout.specs.Regions.{cut_bounds, region_of}
 use Rattle.vx_layout.proofs.Alone.{layout-alone}
 use Rattle.vx_layout.proofs.Counting.{count_by-cons, slices_all}
 use Rattle.vx_layout.proofs.FrameBounds.{cut-own}
@@ -74,7 +74,7 @@ slices_ordered columns rows s n placed =
     let part = fill.parts k d low in
     fits_from (get_or n.slices k d) all (omega arith) (omega (arith, part.across, placed.wide)) (omega arith) (omega (arith, part.down, placed.high))
     in
-    let same : in_order n.slices n.subpics ≡ n.slices = ap (λ t. in_order n.slices t) lone ∙ (append-nil (slices_of n.slices all) ∙ slices_all n.slices all fit) in
+    let same : in_order n.slices n.subpics ≡ n.slices = ap (λ t. in_order n.slices t) lone ∙ (append-nil (slices_of_subpicture n.slices all) ∙ slices_all n.slices all fit) in
     subst (AllPairs Precedes) same l.order
 
 pub fill_each : (columns rows : List ℕ) (regions : List Rect) (pictures : List Numbers) → AllZip (IsPlaced columns rows) regions pictures → AllZip Fills regions (map (λ p. p.slices) pictures)
@@ -122,8 +122,8 @@ frame-region columns rows regions pictures k d columns_rise rows_rise cover all_
     let lone : n.subpics ≡ whole_picture (width n) (height n) ∷ [] = lone_is n.subpics (width n) (height n) l.subpics.parts l.subpics.once placed.lone in
     let sized : whole_picture (width n) (height n) ≡ whole_picture s.w s.h = ap (λ w. whole_picture w (height n)) placed.wide ∙ ap (λ h. whole_picture s.w h) placed.high in
     same_numbers (region_of (frame_of columns rows regions pictures) k) n
-    (subst (λ m. cut columns s.x m ≡ n.columns) placed.wide (cut-own columns n.columns s.x columns_rise placed.layout.columns (omega (arith, placed.wide, part.wide)) placed.across))
-    (subst (λ m. cut rows s.y m ≡ n.rows) placed.high (cut-own rows n.rows s.y rows_rise placed.layout.rows (omega (arith, placed.high, part.high)) placed.down))
+    (subst (λ m. cut_bounds columns s.x m ≡ n.columns) placed.wide (cut-own columns n.columns s.x columns_rise placed.layout.columns (omega (arith, placed.wide, part.wide)) placed.across))
+    (subst (λ m. cut_bounds rows s.y m ≡ n.rows) placed.high (cut-own rows n.rows s.y rows_rise placed.layout.rows (omega (arith, placed.high, part.high)) placed.down))
     (frame-counted regions slices (last columns) (last rows) k no_rect [] cover.parts cover.once fill short ∙ get_or-map (λ p. p.slices) pictures k d [] (omega (arith, AllZip-long (IsPlaced columns rows) regions pictures all_placed)))
     (sym (lone ∙ ap (λ t. t ∷ []) sized))
 

@@ -13,8 +13,8 @@ use Rattle.vx_layout.specs.Bounds.{Rises, last}
 use Rattle.vx_layout.specs.Faults.{IsLayout, width, height}
 use Rattle.vx_layout.specs.Frames.{with_one_subpic}
 use Rattle.vx_layout.specs.Layouts.{HasLayout, no_rect, slices_in, subpic_at}
-use Rattle.vx_layout.specs.Rects.{CoversOnce, IsPart, Precedes, fits, holds, in_order, slices_of, whole_picture}
-use Rattle.vx_layout.specs.Regions.{counted_from, cut, inner, region_of}
+use Rattle.vx_layout.specs.Rects.{CoversOnce, IsPart, Precedes, fits, holds, in_order, slices_of_subpicture, whole_picture}
+use Rattle.vx_layout.specs.Regions.{counted_from, cut_bounds, inner, region_of}
 use Rattle.vx_layout.proofs.Alone.{layout-alone}
 use Rattle.vx_layout.proofs.Counting.{All-slices_of, count_by-cons, length-slices_of-le, slices_all, slices_of-once}
 use Rattle.vx_layout.proofs.Cutting.{CutSoFar, CutSoFar-more, CutSoFar-start, cut-all, cut-may}
@@ -32,19 +32,19 @@ so_far bounds from size (suc i) rises some upto =
     let out : List ℕ = before.0 ++ cond (ltb from b && ltb b (from + size)) ((b - from) ∷ []) [] in
     (out, subst (λ n. CutSoFar bounds from size out n) next (CutSoFar-more bounds from size before.0 out i b rises refl (omega arith) refl before.1))
 
-pub Rises-cut : (bounds : List ℕ) (from size : ℕ) → Rises bounds → 0 < size → Rises (cut bounds from size)
+pub Rises-cut : (bounds : List ℕ) (from size : ℕ) → Rises bounds → 0 < size → Rises (cut_bounds bounds from size)
 Rises-cut bounds from size rises some =
     let all = so_far bounds from size (length bounds) rises some (omega arith) in
     subst Rises (cut-all bounds from size all.0 (length bounds) (omega arith) all.1) (cut-may bounds from size all.0 (length bounds) all.1)
 
-pub last-cut : (bounds : List ℕ) (from size : ℕ) → last (cut bounds from size) ≡ size
+pub last-cut : (bounds : List ℕ) (from size : ℕ) → last (cut_bounds bounds from size) ≡ size
 last-cut bounds from size = last_after-push 0 (map (λ b. b - from) (inner bounds from size)) size
 
 -- cut bounds begin at 0 and end at the size
-pub cut_first : (bounds : List ℕ) (from size : ℕ) → Contains (cut bounds from size) 0
+pub cut_first : (bounds : List ℕ) (from size : ℕ) → Contains (cut_bounds bounds from size) 0
 cut_first bounds from size = (0, omega arith, refl)
 
-pub cut_last : (bounds : List ℕ) (from size : ℕ) → Contains (cut bounds from size) size
+pub cut_last : (bounds : List ℕ) (from size : ℕ) → Contains (cut_bounds bounds from size) size
 cut_last bounds from size =
     let between : List ℕ = map (λ b. b - from) (inner bounds from size) in
     Contains-cons 0 (between ++ size ∷ []) size (Contains-append_right between (size ∷ []) size (0, omega arith, refl))
@@ -102,13 +102,13 @@ Precedes-counted s r t f g order = λ x y on.
     )
 
 -- the slices of one subpicture stand together among the slices in order
-AllPairs-slices_in : (slices subpics : List Rect) (k : ℕ) (d : Rect) → k < length subpics → AllPairs Precedes (in_order slices subpics) → AllPairs Precedes (slices_of slices (get_or subpics k d))
+AllPairs-slices_in : (slices subpics : List Rect) (k : ℕ) (d : Rect) → k < length subpics → AllPairs Precedes (in_order slices subpics) → AllPairs Precedes (slices_of_subpicture slices (get_or subpics k d))
 AllPairs-slices_in slices subpics k d short pairs = λ i j e less low.
     let before : ℕ = length (in_order slices (take k subpics)) in
-    let fit : before + length (slices_of slices (get_or subpics k d)) ≤ length (in_order slices subpics) = length-flat_map-take (slices_of slices) subpics k d short in
-    let at_i : get_or (in_order slices subpics) (before + i) e ≡ get_or (slices_of slices (get_or subpics k d)) i e = get_or-flat_map (slices_of slices) subpics k i d e short (omega arith) in
-    let at_j : get_or (in_order slices subpics) (before + j) e ≡ get_or (slices_of slices (get_or subpics k d)) j e = get_or-flat_map (slices_of slices) subpics k j d e short low in
-    subst (λ t. Precedes t (get_or (slices_of slices (get_or subpics k d)) j e)) at_i (subst (λ t. Precedes (get_or (in_order slices subpics) (before + i) e) t) at_j (pairs (before + i) (before + j) e (omega arith) (omega arith)))
+    let fit : before + length (slices_of_subpicture slices (get_or subpics k d)) ≤ length (in_order slices subpics) = length-flat_map-take (slices_of_subpicture slices) subpics k d short in
+    let at_i : get_or (in_order slices subpics) (before + i) e ≡ get_or (slices_of_subpicture slices (get_or subpics k d)) i e = get_or-flat_map (slices_of_subpicture slices) subpics k i d e short (omega arith) in
+    let at_j : get_or (in_order slices subpics) (before + j) e ≡ get_or (slices_of_subpicture slices (get_or subpics k d)) j e = get_or-flat_map (slices_of_subpicture slices) subpics k j d e short low in
+    subst (λ t. Precedes t (get_or (slices_of_subpicture slices (get_or subpics k d)) j e)) at_i (subst (λ t. Precedes (get_or (in_order slices subpics) (before + i) e) t) at_j (pairs (before + i) (before + j) e (omega arith) (omega arith)))
 
 pub all_fit : (n : Numbers) (k : ℕ) → All (λ r. fits r (subpic_at n k) ≡ true) (slices_in n k)
 all_fit n k = All-slices_of n.slices (subpic_at n k) (λ r. fits r (subpic_at n k) ≡ true) (λ r f. f)

@@ -8,7 +8,7 @@ use Rattle.vx_layout.specs.declared.numbers.Numbers.{Numbers}
 use Rattle.vx_layout.specs.declared.rect.Rect.{Rect}
 use Rattle.vx_layout.specs.Layouts.{slices_in, subpic_at}
 use Rattle.vx_layout.specs.Rects.{whole_picture}
-use Rattle.vx_layout.specs.Regions.{counted_from, cut, inner, region_of}
+use Rattle.vx_layout.specs.Regions.{counted_from, cut_bounds, inner, region_of}
 use Rattle.vx_layout.proofs.Moving.{slices_in-region}
 
 -- the bounds within the inner columns, counted from their first one: by way of the outer columns or not
@@ -50,12 +50,12 @@ inner-end bounds n from size low =
     let out : test n ≡ false = false_from_ne_true _ (λ on. let d = and_parts _ _ on in let under : n < from + size = ltb-true _ _ d.1 in absurd (omega arith)) in
     filter-append test bounds (n ∷ []) ∙ rw out (append-nil (filter test bounds))
 
-pub cut_nested : (bounds : List ℕ) (from size inner_from inner_size : ℕ) → inner_from + inner_size ≤ size → cut (cut bounds from size) inner_from inner_size ≡ cut bounds (from + inner_from) inner_size
+pub cut_nested : (bounds : List ℕ) (from size inner_from inner_size : ℕ) → inner_from + inner_size ≤ size → cut_bounds (cut_bounds bounds from size) inner_from inner_size ≡ cut_bounds bounds (from + inner_from) inner_size
 cut_nested bounds f s g t low =
     let first : (ltb g 0 && ltb 0 (g + t)) ≡ false =
     false_from_ne_true _ (λ on. let d = and_parts _ _ on in let under : g < 0 = ltb-true _ _ d.0 in absurd (omega arith))
     in
-    let between : inner (cut bounds f s) g t ≡ inner (map (λ b. b - f) (inner bounds f s)) g t = rw first (inner-end (map (λ b. b - f) (inner bounds f s)) s g t low) in
+    let between : inner (cut_bounds bounds f s) g t ≡ inner (map (λ b. b - f) (inner bounds f s)) g t = rw first (inner-end (map (λ b. b - f) (inner bounds f s)) s g t low) in
     ap (λ l. 0 ∷ (map (λ b. b - g) l ++ t ∷ [])) between ∙ ap (λ l. 0 ∷ (l ++ t ∷ [])) (inner_nested bounds f s g t low)
 
 -- numbers are the same where their parts are
@@ -81,8 +81,8 @@ region_of-region n k =
     let own : List Rect = map (counted_from s) (slices_in n k) in
     let left : s.x + 0 ≡ s.x = omega arith in
     let top : s.y + 0 ≡ s.y = omega arith in
-    let columns : cut (cut n.columns s.x s.w) 0 s.w ≡ cut n.columns s.x s.w = cut_nested n.columns s.x s.w 0 s.w (omega arith) ∙ ap (λ a. cut n.columns a s.w) left in
-    let rows : cut (cut n.rows s.y s.h) 0 s.h ≡ cut n.rows s.y s.h = cut_nested n.rows s.y s.h 0 s.h (omega arith) ∙ ap (λ a. cut n.rows a s.h) top in
+    let columns : cut_bounds (cut_bounds n.columns s.x s.w) 0 s.w ≡ cut_bounds n.columns s.x s.w = cut_nested n.columns s.x s.w 0 s.w (omega arith) ∙ ap (λ a. cut_bounds n.columns a s.w) left in
+    let rows : cut_bounds (cut_bounds n.rows s.y s.h) 0 s.h ≡ cut_bounds n.rows s.y s.h = cut_nested n.rows s.y s.h 0 s.h (omega arith) ∙ ap (λ a. cut_bounds n.rows a s.h) top in
     let whole : Rect = whole_picture s.w s.h in
     let slices : map (counted_from whole) (slices_in (region_of n k) 0) ≡ own =
     ap (λ t. map (counted_from whole) t) (slices_in-region n k) ∙ map_fixed (counted_from whole) own (λ i d low. counted-whole s.w s.h (get_or own i d))

@@ -13,7 +13,7 @@ use Rattle.vx_layout.specs.declared.numbers.Numbers.{Numbers}
 use Rattle.vx_layout.specs.Faults.{width, height}
 use Rattle.vx_layout.specs.Layouts.{HasLayout, no_rect, slice_at, slices_in, subpic_at}
 use Rattle.vx_layout.specs.inner.Marks.{IsMapOf, IsMark, IsRising, mark_at}
-use Rattle.vx_layout.specs.Rects.{holds, fits, IsPart, Precedes, slices_of, in_order}
+use Rattle.vx_layout.specs.Rects.{holds, fits, IsPart, Precedes, slices_of_subpicture, in_order}
 use Rattle.vx_layout.proofs.Holding.{fits_tells, holds_tells}
 use Rattle.vx_layout.proofs.Counting.{All-slices_of, holds-fits, same_place}
 
@@ -83,16 +83,16 @@ AreWithin-in_order slices [] w h parts = All-nil (λ r. (x y : ℕ) → holds r 
 AreWithin-in_order slices (s ∷ ss) w h parts =
     let In : Rect → Type 0 = λ r. (x y : ℕ) → holds r x y ≡ true → (x < w) × (y < h) in
     let part : IsPart w h s = All-head (IsPart w h) s ss parts in
-    All-append In (slices_of slices s) (in_order slices ss)
+    All-append In (slices_of_subpicture slices s) (in_order slices ss)
     (All-slices_of slices s In (λ r f x y on. let p = holds_tells s x y (holds-fits r s x y f on) in (omega (arith, p, part.across), omega (arith, p, part.down))))
     (AreWithin-in_order slices ss w h (All-tail (IsPart w h) s ss parts))
 
 -- there are at most so many of them
 pub length-in_order-le : (slices subpics : List Rect) (m n : ℕ) → length slices ≤ m → length subpics ≤ n → length (in_order slices subpics) ≤ n * m
 length-in_order-le slices subpics m n a b =
-    let each : All (λ s. length (slices_of slices s) ≤ m) subpics = λ i d short. omega (arith, length-filter (λ r. fits r (get_or subpics i d)) slices, count_by-le-length (λ r. fits r (get_or subpics i d)) slices) in
-    let whole = sum_by-le (λ s. length (slices_of slices s)) m subpics each in
-    omega (arith, length-flat_map (slices_of slices) subpics, whole, mul-le-mul_right m b)
+    let each : All (λ s. length (slices_of_subpicture slices s) ≤ m) subpics = λ i d short. omega (arith, length-filter (λ r. fits r (get_or subpics i d)) slices, count_by-le-length (λ r. fits r (get_or subpics i d)) slices) in
+    let whole = sum_by-le (λ s. length (slices_of_subpicture slices s)) m subpics each in
+    omega (arith, length-flat_map (slices_of_subpicture slices) subpics, whole, mul-le-mul_right m b)
 
 -- a slice of a subpicture lies in the picture, where it has a CTU
 pub slice_within : (n : Numbers) (k m : ℕ) → HasLayout n → k < length n.subpics → m < length (slices_in n k) → 0 < (slice_at n k m).w → 0 < (slice_at n k m).h → IsPart (width n) (height n) (slice_at n k m)

@@ -10,7 +10,7 @@ use Rattle.vx_layout.specs.declared.grid.Grid.{Grid}
 use Rattle.vx_layout.specs.declared.rect.Rect.{Rect}
 use Rattle.vx_layout.specs.inner.Groups.{AreGroups, Adds, IsOwner}
 use Rattle.vx_layout.specs.inner.Marks.{IsMapOf, IsMark, mark_at}
-use Rattle.vx_layout.specs.Rects.{holds, fits, IsPart, slices_of, in_order}
+use Rattle.vx_layout.specs.Rects.{holds, fits, IsPart, slices_of_subpicture, in_order}
 use Rattle.vx_layout.proofs.Holding.{holds_tells, holds_from, fits_empty}
 use Rattle.vx_layout.proofs.Counting.{holds-fits, same_place}
 
@@ -85,21 +85,21 @@ AreGroups-more before after slices subpics k r short is groups adds = record {
   long = adds.long ∙ groups.long;
   each = λ i d e low.
       let s : Rect = get_or subpics i d in
-      let more : slices_of (take (k + 1) slices) s ≡ slices_of (take k slices) s ++ cond (fits (get_or slices k r) s) (get_or slices k r ∷ []) [] =
+      let more : slices_of_subpicture (take (k + 1) slices) s ≡ slices_of_subpicture (take k slices) s ++ cond (fits (get_or slices k r) s) (get_or slices k r ∷ []) [] =
       filter_more (λ t. fits t s) slices k r short
       in
       let same : cond (fits (get_or slices k r) s) (get_or slices k r ∷ []) [] ≡ cond (fits r s) (r ∷ []) [] = ap (λ t. cond (fits t s) (t ∷ []) []) (sym is) in
-      adds.each i d e (omega (arith, groups.long)) ∙ (ap (λ t. t ++ cond (fits r s) (r ∷ []) []) (groups.each i d e low) ∙ (ap (λ t. slices_of (take k slices) s ++ t) (sym same) ∙ sym more));
+      adds.each i d e (omega (arith, groups.long)) ∙ (ap (λ t. t ++ cond (fits r s) (r ∷ []) []) (groups.each i d e low) ∙ (ap (λ t. slices_of_subpicture (take k slices) s ++ t) (sym same) ∙ sym more));
 }
 
 -- the groups one after another are the slices in order
 pub in_order-groups : (groups : List (List Rect)) (slices subpics : List Rect) → AreGroups groups slices subpics → flat_map (λ g. g) groups ≡ in_order slices subpics
 in_order-groups groups slices subpics g =
     let none : Rect = record { x = 0; y = 0; w = 0; h = 0 } in
-    let same : groups ≡ map (slices_of slices) subpics =
-    same_lists groups (map (slices_of slices) subpics) (g.long ∙ sym (length-map subpics (slices_of slices)))
+    let same : groups ≡ map (slices_of_subpicture slices) subpics =
+    same_lists groups (map (slices_of_subpicture slices) subpics) (g.long ∙ sym (length-map subpics (slices_of_subpicture slices)))
     (λ k e short.
     let low : k < length subpics = omega (arith, g.long) in
-    g.each k none e low ∙ sym (get_or-map (slices_of slices) subpics k none e low))
+    g.each k none e low ∙ sym (get_or-map (slices_of_subpicture slices) subpics k none e low))
     in
-    ap (λ t. flat_map (λ x. x) t) same ∙ flat_map-map (λ x. x) (slices_of slices) subpics
+    ap (λ t. flat_map (λ x. x) t) same ∙ flat_map-map (λ x. x) (slices_of_subpicture slices) subpics

@@ -11,7 +11,7 @@ use Rattle.vx_layout.specs.Borders.{SplitsAtLines}
 use Rattle.vx_layout.specs.Faults.{IsSpan, IsTile, NoneBetween, SplitsWell, height, width}
 use Rattle.vx_layout.specs.Layouts.{HasLayout, no_rect, slices_in, subpic_at}
 use Rattle.vx_layout.specs.Rects.{IsPart, fits, whole_picture}
-use Rattle.vx_layout.specs.Regions.{counted_from, cut, moved_to, region_of}
+use Rattle.vx_layout.specs.Regions.{counted_from, cut_bounds, moved_to, region_of}
 use Rattle.vx_layout.specs.Shapes.{AreListable, AreTilesOrRows, HasCtu, StandTogether}
 use Rattle.vx_layout.proofs.FrameBounds.{cut_inner, cut_tells}
 use Rattle.vx_layout.proofs.FrameLines.{Within, tile_from}
@@ -24,13 +24,13 @@ use Rattle.vx_layout.proofs.Owners.{corner_held}
 use Rattle.vx_layout.proofs.Splitting.{SplitsAtLines-from}
 
 -- a bound from the first to behind the last column is one of the cut bounds
-cut_has : (bounds : List ℕ) (from size c : ℕ) → Contains bounds c → from ≤ c → c ≤ from + size → Contains (cut bounds from size) (c - from)
+cut_has : (bounds : List ℕ) (from size c : ℕ) → Contains bounds c → from ≤ c → c ≤ from + size → Contains (cut_bounds bounds from size) (c - from)
 cut_has bounds from size c inside low high =
     elim (cases_lt from c) [
-      | inr same ↦ let e : 0 ≡ c - from = omega arith in subst (λ m. Contains (cut bounds from size) m) e (cut_first bounds from size)
+      | inr same ↦ let e : 0 ≡ c - from = omega arith in subst (λ m. Contains (cut_bounds bounds from size) m) e (cut_first bounds from size)
       | inl above ↦
           elim (cases_lt c (from + size)) [
-            | inr end ↦ let e : size ≡ c - from = omega arith in subst (λ m. Contains (cut bounds from size) m) e (cut_last bounds from size)
+            | inr end ↦ let e : size ≡ c - from = omega arith in subst (λ m. Contains (cut_bounds bounds from size) m) e (cut_last bounds from size)
             | inl below ↦
                 let back : c ≡ from + (c - from) = omega arith in
                 cut_inner bounds from size (c - from) (subst (λ m. Contains bounds m) back inside) (omega arith) (omega arith)
@@ -38,7 +38,7 @@ cut_has bounds from size c inside low high =
     ]
 
 -- a tile column within the cut is one of the cut's
-span_cut : (bounds : List ℕ) (from size a b : ℕ) → from ≤ a → b ≤ from + size → IsSpan bounds a b → IsSpan (cut bounds from size) (a - from) (b - from)
+span_cut : (bounds : List ℕ) (from size a b : ℕ) → from ≤ a → b ≤ from + size → IsSpan bounds a b → IsSpan (cut_bounds bounds from size) (a - from) (b - from)
 span_cut bounds from size a b low high span =
     let up = span.rises in
     record {
@@ -54,7 +54,7 @@ span_cut bounds from size a b low high span =
     }
 
 -- and where no bound passes through, the cut has one tile column
-span_whole : (bounds : List ℕ) (from size : ℕ) → 0 < size → NoneBetween bounds from (from + size) → IsSpan (cut bounds from size) 0 size
+span_whole : (bounds : List ℕ) (from size : ℕ) → 0 < size → NoneBetween bounds from (from + size) → IsSpan (cut_bounds bounds from size) 0 size
 span_whole bounds from size some none = record {
   begins = cut_first bounds from size;
   ends = cut_last bounds from size;
@@ -68,7 +68,7 @@ span_whole bounds from size some none = record {
 }
 
 -- a tile column of the cut is one of the bounds', where both ends of the cut are bounds
-bound_uncut : (bounds : List ℕ) (from size c : ℕ) → Contains bounds from → Contains bounds (from + size) → Contains (cut bounds from size) c → Contains bounds (from + c) × (c ≤ size)
+bound_uncut : (bounds : List ℕ) (from size c : ℕ) → Contains bounds from → Contains bounds (from + size) → Contains (cut_bounds bounds from size) c → Contains bounds (from + c) × (c ≤ size)
 bound_uncut bounds from size c begins ends inside =
     elim (cut_tells bounds from size c inside) [
       | inl first ↦ let e : from ≡ from + c = omega arith in (subst (λ m. Contains bounds m) e begins, omega arith)
@@ -76,7 +76,7 @@ bound_uncut bounds from size c begins ends inside =
       | inr (inr is) ↦ (is.0, omega (arith, is))
     ]
 
-span_uncut : (bounds : List ℕ) (from size a b : ℕ) → Contains bounds from → Contains bounds (from + size) → IsSpan (cut bounds from size) a b → IsSpan bounds (from + a) (from + b) × (b ≤ size)
+span_uncut : (bounds : List ℕ) (from size a b : ℕ) → Contains bounds from → Contains bounds (from + size) → IsSpan (cut_bounds bounds from size) a b → IsSpan bounds (from + a) (from + b) × (b ≤ size)
 span_uncut bounds from size a b begins ends span =
     let up = span.rises in
     let first = bound_uncut bounds from size a begins ends span.begins in
@@ -99,10 +99,10 @@ span_uncut bounds from size a b begins ends span =
     )
 
 -- the one tile column of a cut through which no bound passes
-span_alone : (bounds : List ℕ) (from size a b : ℕ) → NoneBetween bounds from (from + size) → IsSpan (cut bounds from size) a b → (a ≡ 0) × (b ≡ size)
+span_alone : (bounds : List ℕ) (from size a b : ℕ) → NoneBetween bounds from (from + size) → IsSpan (cut_bounds bounds from size) a b → (a ≡ 0) × (b ≡ size)
 span_alone bounds from size a b none span =
     let up = span.rises in
-    let only : (c : ℕ) → Contains (cut bounds from size) c → (0 ≡ c) ⊎ (size ≡ c) = λ c inside.
+    let only : (c : ℕ) → Contains (cut_bounds bounds from size) c → (0 ≡ c) ⊎ (size ≡ c) = λ c inside.
     elim (cut_tells bounds from size c inside) [
       | inl first ↦ inl first
       | inr (inl end) ↦ inr end
@@ -128,27 +128,27 @@ fits_counted : (s r t : Rect) → Within s r → Within s t → Within t r → f
 fits_counted s r t r_in t_in within = fits_from (counted_from s r) (counted_from s t) (omega arith) (omega arith) (omega arith) (omega arith)
 
 -- a tile's borders, counted
-tile_cut : (columns rows : List ℕ) (s t : Rect) → Within s t → IsTile columns rows t → IsTile (cut columns s.x s.w) (cut rows s.y s.h) (counted_from s t)
+tile_cut : (columns rows : List ℕ) (s t : Rect) → Within s t → IsTile columns rows t → IsTile (cut_bounds columns s.x s.w) (cut_bounds rows s.y s.h) (counted_from s t)
 tile_cut columns rows s t within tile =
     let right : t.x + t.w - s.x ≡ t.x - s.x + t.w = omega arith in
     let bottom : t.y + t.h - s.y ≡ t.y - s.y + t.h = omega arith in
     record {
-      across = subst (λ m. IsSpan (cut columns s.x s.w) (t.x - s.x) m) right (span_cut columns s.x s.w t.x (t.x + t.w) within.left within.right tile.across);
-      down = subst (λ m. IsSpan (cut rows s.y s.h) (t.y - s.y) m) bottom (span_cut rows s.y s.h t.y (t.y + t.h) within.top within.bottom tile.down);
+      across = subst (λ m. IsSpan (cut_bounds columns s.x s.w) (t.x - s.x) m) right (span_cut columns s.x s.w t.x (t.x + t.w) within.left within.right tile.across);
+      down = subst (λ m. IsSpan (cut_bounds rows s.y s.h) (t.y - s.y) m) bottom (span_cut rows s.y s.h t.y (t.y + t.h) within.top within.bottom tile.down);
     }
 
 -- the shape of a slice, counted from its subpicture's corner
 shape_counted : (columns rows : List ℕ) (s r : Rect) → 0 < s.w → 0 < s.h → SplitsWell columns rows s → fits r s ≡ true → 0 < r.w → 0 < r.h → AreTilesOrRows columns rows r →
-    AreTilesOrRows (cut columns s.x s.w) (cut rows s.y s.h) (counted_from s r)
+    AreTilesOrRows (cut_bounds columns s.x s.w) (cut_bounds rows s.y s.h) (counted_from s r)
 shape_counted columns rows s r some_w some_h well f wide high (inl tiles) =
     let within = within_from s r f wide high in
     let right : r.x + r.w - s.x ≡ r.x - s.x + r.w = omega arith in
     let bottom : r.y + r.h - s.y ≡ r.y - s.y + r.h = omega arith in
     inl (record {
       left = cut_has columns s.x s.w r.x tiles.left within.left (omega arith);
-      right = subst (λ m. Contains (cut columns s.x s.w) m) right (cut_has columns s.x s.w (r.x + r.w) tiles.right (omega arith) within.right);
+      right = subst (λ m. Contains (cut_bounds columns s.x s.w) m) right (cut_has columns s.x s.w (r.x + r.w) tiles.right (omega arith) within.right);
       top = cut_has rows s.y s.h r.y tiles.top within.top (omega arith);
-      bottom = subst (λ m. Contains (cut rows s.y s.h) m) bottom (cut_has rows s.y s.h (r.y + r.h) tiles.bottom (omega arith) within.bottom);
+      bottom = subst (λ m. Contains (cut_bounds rows s.y s.h) m) bottom (cut_has rows s.y s.h (r.y + r.h) tiles.bottom (omega arith) within.bottom);
     })
 shape_counted columns rows s r some_w some_h well f wide high (inr (t, rows_of)) =
     let within = within_from s r f wide high in
@@ -175,8 +175,8 @@ shape_counted columns rows s r some_w some_h well f wide high (inr (t, rows_of))
             whole_picture s.w s.h,
             record {
               tile = record {
-                across = subst (λ m. IsSpan (cut columns s.x s.w) 0 m) (sym (zero-add s.w)) (span_whole columns s.x s.w some_w none_x);
-                down = subst (λ m. IsSpan (cut rows s.y s.h) 0 m) (sym (zero-add s.h)) (span_whole rows s.y s.h some_h none_y);
+                across = subst (λ m. IsSpan (cut_bounds columns s.x s.w) 0 m) (sym (zero-add s.w)) (span_whole columns s.x s.w some_w none_x);
+                down = subst (λ m. IsSpan (cut_bounds rows s.y s.h) 0 m) (sym (zero-add s.h)) (span_whole rows s.y s.h some_h none_y);
               };
               sides = (omega arith, omega arith);
               inside = fits_from (counted_from s r) (whole_picture s.w s.h) (omega arith) (omega arith) (omega arith) (omega arith);
@@ -219,7 +219,7 @@ together_counted s t rects within together = λ i j k d a b low f g.
     subst (λ r. fits r t ≡ true) (sym (at j low_j)) (fits_unmoved s (get_or rects j d) t (within j d low_j) (together i j k d a b low_k first third))
 
 -- the slices in a tile of the region stand together
-tile_together : (columns rows : List ℕ) (s t : Rect) (slices : List Rect) → SplitsAtLines columns rows s → All (Within s) slices → ((u : Rect) → IsTile columns rows u → StandTogether slices u) → IsTile (cut columns s.x s.w) (cut rows s.y s.h) t →
+tile_together : (columns rows : List ℕ) (s t : Rect) (slices : List Rect) → SplitsAtLines columns rows s → All (Within s) slices → ((u : Rect) → IsTile columns rows u → StandTogether slices u) → IsTile (cut_bounds columns s.x s.w) (cut_bounds rows s.y s.h) t →
     StandTogether (map (counted_from s) slices) t
 tile_together columns rows s t slices lines within together tile =
     elim lines.ends [

@@ -6,7 +6,7 @@ use Rattle.vx_layout.specs.declared.rect.Rect.{Rect}
 use Rattle.vx_layout.specs.Borders.{SplitsAtLines}
 use Rattle.vx_layout.specs.Bounds.{last}
 use Rattle.vx_layout.specs.Faults.{IsTile, SameSides}
-use Rattle.vx_layout.specs.FrameLaws.{StandInRuns, TilesHoldRuns}
+use Rattle.vx_layout.specs.laws.Frames.{StandInRuns, TilesHoldRuns}
 use Rattle.vx_layout.specs.Rects.{CoversOnce, IsPart, Precedes, fits}
 use Rattle.vx_layout.proofs.Corners.{IsOrdered, no_later}
 use Rattle.vx_layout.proofs.FrameLines.{Within}

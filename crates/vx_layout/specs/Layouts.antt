@@ -5,7 +5,7 @@ use Rattle.vx_layout.specs.declared.numbers.Numbers.{Numbers}
 use Rattle.vx_layout.specs.declared.rect.Rect.{Rect}
 use Rattle.vx_layout.specs.Bounds.{Rises}
 use Rattle.vx_layout.specs.Faults.{IsInLimits, IsLayout}
-use Rattle.vx_layout.specs.Rects.{in_order, slices_of}
+use Rattle.vx_layout.specs.Rects.{in_order, slices_of_subpicture}
 
 -- no rectangle: what stands past the end of a list
 abbrev pub no_rect : Rect
@@ -17,7 +17,7 @@ subpic_at n k = slice_index_or n.subpics k no_rect
 
 -- its slices, in the order of their addresses
 abbrev pub slices_in : Numbers → ℕ → List Rect
-slices_in n k = slices_of n.slices (subpic_at n k)
+slices_in n k = slices_of_subpicture n.slices (subpic_at n k)
 
 -- its slice of address m
 abbrev pub slice_at : Numbers → ℕ → ℕ → Rect

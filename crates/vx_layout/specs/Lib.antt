@@ -2,10 +2,8 @@
 pub mod Borders
 pub mod Bounds
 pub mod Faults
-pub mod FrameLaws
 pub mod Frames
 pub mod Heights
-pub mod Laws
 pub mod Layouts
 pub mod Rects
 pub mod Regions
@@ -13,3 +11,4 @@ pub mod Scan
 pub mod Shapes
 pub mod TileErrors
 pub mod inner
+pub mod laws

@@ -19,12 +19,12 @@ abbrev pub CoversOnce : List Rect → ℕ → ℕ → Type 0
 CoversOnce rects w h = (x y : ℕ) → x < w → y < h → count_by (λ r. holds r x y) rects ≡ 1
 
 -- the slices of a subpicture, in the order of the slice list: slice m of them has the slice address m (H.266 7.4.8, sh_slice_address)
-abbrev pub slices_of : List Rect → Rect → List Rect
-slices_of slices subpic = filter (λ r. fits r subpic) slices
+abbrev pub slices_of_subpicture : List Rect → Rect → List Rect
+slices_of_subpicture slices subpic = filter (λ r. fits r subpic) slices
 
 -- all slices, by rising subpicture index and then by their place in the slice list
 abbrev pub in_order : List Rect → List Rect → List Rect
-in_order slices subpics = flat_map (slices_of slices) subpics
+in_order slices subpics = flat_map (slices_of_subpicture slices) subpics
 
 -- no CTU of r has its left or its upper neighbour in s
 abbrev pub Precedes : Rect → Rect → Type 0

@@ -10,8 +10,8 @@ abbrev pub inner : List ℕ → ℕ → ℕ → List ℕ
 inner bounds from size = filter (λ b. nat_lt from b && nat_lt b (from + size)) bounds
 
 -- the bounds cut to these columns or rows, and counted from the first of them
-abbrev pub cut : List ℕ → ℕ → ℕ → List ℕ
-cut bounds from size = 0 ∷ (map (λ b. b - from) (inner bounds from size) ++ size ∷ [])
+abbrev pub cut_bounds : List ℕ → ℕ → ℕ → List ℕ
+cut_bounds bounds from size = 0 ∷ (map (λ b. b - from) (inner bounds from size) ++ size ∷ [])
 
 -- a rectangle counted from the corner of another
 abbrev pub counted_from : Rect → Rect → Rect
@@ -24,8 +24,8 @@ moved_to corner r = record { x = r.x + corner.x; y = r.y + corner.y; w = r.w; h 
 -- the layout of subpicture k: its tile bounds, its slices by their addresses, and one subpicture that is all of it
 abbrev pub region_of : Numbers → ℕ → Numbers
 region_of n k = record {
-  columns = cut n.columns (subpic_at n k).x (subpic_at n k).w;
-  rows = cut n.rows (subpic_at n k).y (subpic_at n k).h;
+  columns = cut_bounds n.columns (subpic_at n k).x (subpic_at n k).w;
+  rows = cut_bounds n.rows (subpic_at n k).y (subpic_at n k).h;
   slices = map (counted_from (subpic_at n k)) (slices_in n k);
   subpics = whole_picture (subpic_at n k).w (subpic_at n k).h ∷ [];
 }

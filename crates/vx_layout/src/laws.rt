@@ -3,7 +3,7 @@ ghost use Rattle.std.specs.Prelude.{◌≡◌, ℕ, ◌-◌, ◌<◌, ◌≤◌,
 ghost use Rattle.vx_layout.specs.Bounds.{Rises, last, sizes_between, sums_after};
 ghost use Rattle.vx_layout.specs.Faults.{LiesIn};
 ghost use Rattle.vx_layout.specs.Heights.{written_heights};
-ghost use Rattle.vx_layout.specs.Laws.{BoundsByMembers, BoundsReachTotal, CutsNest, FirstSliceBegins, HeightsAreReadBack, InOrderCoversOnce, LastSliceEnds, LayoutHasNoFault, ListedAreSizes, ListedGiveSums, LowestFaultIsOne, RegionIsListable, RegionKeepsCtus, RegionKeepsSlices, BoundsBySizes, SlicesCoverSubpicture, SlicesLieInPicture, SlicesRunRightAndDown};
+ghost use Rattle.vx_layout.specs.laws.Layouts.{BoundsByMembers, BoundsReachTotal, CutsNest, FirstSliceBegins, HeightsAreReadBack, InOrderCoversOnce, LastSliceEnds, LayoutHasNoFault, ListedAreSizes, ListedGiveSums, LowestFaultIsOne, RegionIsListable, RegionKeepsCtus, RegionKeepsSlices, BoundsBySizes, SlicesCoverSubpicture, SlicesLieInPicture, SlicesRunRightAndDown};
 ghost use Rattle.vx_layout.specs.Layouts.{HasLayout};
 ghost use Rattle.vx_layout.specs.Rects.{fits};
 ghost use Rattle.vx_layout.specs.Regions.{region_of};

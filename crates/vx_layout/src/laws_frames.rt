@@ -1,6 +1,6 @@
 //! Laws on a frame that is put together of several pictures: functions that do nothing, each with laws as its contract.
 ghost use Rattle.std.specs.Prelude.{◌≡◌};
-ghost use Rattle.vx_layout.specs.FrameLaws.{CutBoundsAreOwn, FillsByIndex, FirstBegins, FrameAloneIsLayout, FrameHasPictures, FrameIsLayout, FrameIsListable, FrameSlicesAreInOrder, FrameSlicesCoverOnce, FrameSlicesFit, FrameSlicesGrow, FrameSlicesOfRegion, FrameSlicesOfRegionCounted, FrameSlicesStandInOrder, LastEnds, MovingUndoesCounting, PlacedByIndex, PlacedFills, RunsFillTiles, SplitByBorders};
+ghost use Rattle.vx_layout.specs.laws.Frames.{CutBoundsAreOwn, FillsByIndex, FirstBegins, FrameAloneIsLayout, FrameHasPictures, FrameIsLayout, FrameIsListable, FrameSlicesAreInOrder, FrameSlicesCoverOnce, FrameSlicesFit, FrameSlicesGrow, FrameSlicesOfRegion, FrameSlicesOfRegionCounted, FrameSlicesStandInOrder, LastEnds, MovingUndoesCounting, PlacedByIndex, PlacedFills, RunsFillTiles, SplitByBorders};
 ghost use Rattle.vx_layout.specs.Regions.{counted_from, moved_to};
 ghost use Rattle.vx_layout.specs.declared.rect.Rect.{Rect};
 

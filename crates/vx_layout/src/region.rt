@@ -1,7 +1,7 @@
 //! What of a layout lies in a subpicture, counted from the subpicture's corner.
 ghost use Rattle.std.specs.Prelude.{◌≡◌, ◌+◌, ◌-◌, ◌<◌, ◌&&◌, nat_lt, cond, [], ◌∷◌, ◌++◌, map, OnOk, IfOk};
 ghost use Rattle.vx_layout.specs.Bounds.{Rises};
-ghost use Rattle.vx_layout.specs.Regions.{counted_from, cut};
+ghost use Rattle.vx_layout.specs.Regions.{counted_from, cut_bounds};
 
 use crate::bounds::Bounds;
 use crate::rect::{Rect, RectList};
@@ -10,7 +10,7 @@ use std::alloc::{AllocError, Global};
 /// The bounds of the `size` columns or rows from `from` on, counted from there.
 pub fn cut(alloc: Global, bounds: &Bounds, from: u32, size: u32) -> Result<Bounds, AllocError>
     requires { 0 < size }
-    ensures { IfOk result (λ inner. inner ≡ cut bounds.now from size) }
+    ensures { IfOk result (λ inner. inner ≡ cut_bounds bounds.now from size) }
 {
     let mut inner = Bounds::new(alloc);
     inner.push(0)?;

@@ -9,7 +9,7 @@ use Rattle.vx_pic.specs.Resident.{same_slot}
 use Rattle.vx_pic.specs.Written.{Set, an_sps, a_pps, an_aps, SetUnit}
 use Rattle.vx_write.specs.Slots.{AreLastOf, Sent, is_vacant}
 use Rattle.vx_write.proofs.Vacant.{none_sent_there, vacant_there}
-use Rattle.vx_merge.specs.Needed.{aps_at}
+use Rattle.vx_merge.specs.Needed.{aps_of_body}
 use Rattle.vx_merge.specs.Slots.{Holds, IsFresh, IsHeld, IsTaken, TakeSlots, TakesFree}
 use Rattle.vx_merge.specs.inner.Taking.{AreHeld, AreIds, HasRoom, IsNextId, an_aps_of, IsHeldBy, IsOpen, TakesOpen, is_id, is_taken}
 
@@ -210,7 +210,7 @@ vacant_as (x ∷ slots) kind i body = rw (slot_as x.set kind i body, vacant_as s
 module _ (slots : List Sent) (t kind count : ℕ) (bodies : List (List ℕ)) (held : List (Option ℕ)) (ids : List ℕ) (sent : List SetUnit)
     (last : AreLastOf sent slots) (are : AreHeld slots t kind count bodies held) (found : AreIds slots kind count held ids) (size : length ids ≡ length held) where
   abbrev at : ℕ → ℕ → Set
-  at = aps_at kind bodies
+  at = aps_of_body kind bodies
 
   holds : (k i : ℕ) → IsHeldBy slots t kind (slice_index_or bodies k []) i → Holds count (length bodies) t sent at k i
   holds k i is = sym (last t (at k i)) ∙ is

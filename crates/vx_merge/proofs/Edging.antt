@@ -8,7 +8,7 @@ use Rattle.std.proofs.lemmas.Slice.Zip.{get_or-zip, length-zip}
 use Rattle.vx_fit.specs.declared.placed.Placed.{Placed}
 use Rattle.vx_table.specs.Loaded.{number}
 use Rattle.vx_pic.specs.Parts.{Parts}
-use Rattle.vx_merge.specs.Shapes.{greatest, least, numbers_in, offsets_at}
+use Rattle.vx_merge.specs.Shapes.{greatest, least, numbers_in_round, offsets_at}
 use Rattle.vx_merge.specs.inner.Edges.{least_of, lesser, with_offset}
 
 -- ---- the least
@@ -79,17 +79,17 @@ greatest_more [] y = refl
 greatest_more (x ∷ xs) y = ap (λ m. max x m) (greatest_more xs y) ∙ max_max x y (greatest xs)
 
 numbers_more : (round : List Parts) (of k : ℕ) (q : Parts) → k < length round → q ≡ get_or round k q
-    → numbers_in (take (k + 1) round) of ≡ numbers_in (take k round) of ++ number q.sps of ∷ []
+    → numbers_in_round (take (k + 1) round) of ≡ numbers_in_round (take k round) of ++ number q.sps of ∷ []
 numbers_more round of k q within at =
     let f : Parts → ℕ = λ q. number q.sps of in
     ap (map f) (take_more round k q within ∙ ap (λ x. take k round ++ x ∷ []) (sym at)) ∙ map-append f (take k round) (q ∷ [])
 
 greatest_next : (round : List Parts) (of k : ℕ) (q : Parts) → k < length round → q ≡ get_or round k q
-    → greatest (numbers_in (take (k + 1) round) of) ≡ max (number q.sps of) (greatest (numbers_in (take k round) of))
-greatest_next round of k q within at = ap greatest (numbers_more round of k q within at) ∙ greatest_more (numbers_in (take k round) of) (number q.sps of)
+    → greatest (numbers_in_round (take (k + 1) round) of) ≡ max (number q.sps of) (greatest (numbers_in_round (take k round) of))
+greatest_next round of k q within at = ap greatest (numbers_more round of k q within at) ∙ greatest_more (numbers_in_round (take k round) of) (number q.sps of)
 
 pub greatest_step : (round : List Parts) (of k : ℕ) (q : Parts) (n old new : ℕ) → k < length round → q ≡ get_or round k q → n ≡ number q.sps of → new ≡ max n old
-    → old ≡ greatest (numbers_in (take k round) of) → new ≡ greatest (numbers_in (take (k + 1) round) of)
+    → old ≡ greatest (numbers_in_round (take k round) of) → new ≡ greatest (numbers_in_round (take (k + 1) round) of)
 greatest_step round of k q n old new within at is step before =
     step ∙ ap (λ m. max m old) is ∙ ap (λ m. max (number q.sps of) m) before ∙ sym (greatest_next round of k q within at)
 
@@ -108,7 +108,7 @@ any_more test (x ∷ xs) y = ap (λ b. test x || b) (any_more test xs y) ∙ ass
     assoc false b c = refl
 
 pub zero_step : (round : List Parts) (of k : ℕ) (q : Parts) (n : ℕ) (old new : Bool) → k < length round → q ≡ get_or round k q → n ≡ number q.sps of → new ≡ (old || n == 0)
-    → old ≡ list_any (λ n. n == 0) (numbers_in (take k round) of) → new ≡ list_any (λ n. n == 0) (numbers_in (take (k + 1) round) of)
+    → old ≡ list_any (λ n. n == 0) (numbers_in_round (take k round) of) → new ≡ list_any (λ n. n == 0) (numbers_in_round (take (k + 1) round) of)
 zero_step round of k q n old new within at is step before =
-    step ∙ ap (λ b. b || n == 0) before ∙ ap (λ m. list_any (λ n. n == 0) (numbers_in (take k round) of) || m == 0) is
-    ∙ sym (any_more (λ n. n == 0) (numbers_in (take k round) of) (number q.sps of)) ∙ ap (list_any (λ n. n == 0)) (sym (numbers_more round of k q within at))
+    step ∙ ap (λ b. b || n == 0) before ∙ ap (λ m. list_any (λ n. n == 0) (numbers_in_round (take k round) of) || m == 0) is
+    ∙ sym (any_more (λ n. n == 0) (numbers_in_round (take k round) of) (number q.sps of)) ∙ ap (list_any (λ n. n == 0)) (sym (numbers_more round of k q within at))

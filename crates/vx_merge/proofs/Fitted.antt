@@ -8,7 +8,7 @@ use Rattle.vx_layout.specs.declared.numbers.Numbers.{Numbers}
 use Rattle.vx_layout.specs.declared.rect.Rect.{Rect}
 use Rattle.vx_fit.specs.declared.lines.LineError.{LineError}
 use Rattle.vx_fit.specs.declared.lines.LineError.TheVariants.{Memory, Lines}
-use Rattle.vx_fit.specs.FitLaws.{FitFaultIsOne, FittingHasNoFault, LinesFaultIsOne}
+use Rattle.vx_fit.specs.laws.Fitting.{FitFaultIsOne, FittingHasNoFault, LinesFaultIsOne}
 use Rattle.vx_fit.specs.FrameLines.{IfLines, IsLinesFault}
 use Rattle.vx_fit.specs.Lowest.{IsLowest, IsLowestAnswer}
 use Rattle.vx_fit.specs.FitFaults.{IsFitFault}

@@ -20,7 +20,7 @@ use Rattle.vx_layout.specs.Shapes.{AreListable}
 use Rattle.vx_layout.proofs.FrameSlices.{AllZip-long}
 use Rattle.vx_layout.specs.Layouts.{HasLayout, no_rect}
 use Rattle.vx_fit.specs.declared.placed.Placed.{Placed}
-use Rattle.vx_fit.specs.FitLaws.{FrameOfRegions, IsMergedLayout}
+use Rattle.vx_fit.specs.laws.Fitting.{FrameOfRegions, IsMergedLayout}
 use Rattle.vx_fit.specs.Placing.{IsOnGrid, IsTooLarge, frame_height, frame_width}
 use Rattle.vx_fit.specs.Placing as placing
 use Rattle.vx_fit.specs.Sources.{IsSource}
@@ -39,7 +39,7 @@ use Rattle.vx_write.proofs.Ids.{coded}
 use Rattle.vx_merge.specs.declared.corner.Corner.{Corner}
 use Rattle.vx_merge.specs.Regions.{corners_in, ctb_of, layouts_in, placed_in}
 use Rattle.vx_merge.specs.Rounds.{picture_at}
-use Rattle.vx_merge.specs.Shapes.{dpb_of, greatest, latency_of, least, numbers_in, offsets_at, pps_shape, sps_shape, window_of}
+use Rattle.vx_merge.specs.Shapes.{frame_dpb, greatest, latency_of, least, numbers_in_round, offsets_at, frame_pps_shape, frame_sps_shape, frame_window}
 use Rattle.vx_merge.specs.inner.Joined.{HasShapes, MakeFrame}
 use Rattle.vx_merge.proofs.InitQp.{init_qp_is}
 
@@ -55,11 +55,11 @@ of_eight (suc (suc (suc log2))) x w few grid whole = absurd (omega (arith, few))
 max_eight : (a b : ℕ) → a % 8 ≡ 0 → b % 8 ≡ 0 → max a b % 8 ≡ 0
 max_eight a b p q = omega (arith, p, q)
 
-greatest_eight : (f : Placed → ℕ) (ps : List Placed) → AllByRecursion (λ p. f p % 8 ≡ 0) ps → placing.greatest f ps % 8 ≡ 0
+greatest_eight : (f : Placed → ℕ) (ps : List Placed) → AllByRecursion (λ p. f p % 8 ≡ 0) ps → placing.greatest_by f ps % 8 ≡ 0
 greatest_eight f [] all = refl
-greatest_eight f (p ∷ ps) all = max_eight (f p) (placing.greatest f ps) all.0 (greatest_eight f ps all.1)
+greatest_eight f (p ∷ ps) all = max_eight (f p) (placing.greatest_by f ps) all.0 (greatest_eight f ps all.1)
 
-greatest_some : (f : Placed → ℕ) (ps : List Placed) → 0 < length ps → AllByRecursion (λ p. 0 < f p) ps → 0 < placing.greatest f ps
+greatest_some : (f : Placed → ℕ) (ps : List Placed) → 0 < length ps → AllByRecursion (λ p. 0 < f p) ps → 0 < placing.greatest_by f ps
 greatest_some f [] some all = absurd (omega (arith, some))
 greatest_some f (p ∷ ps) some all = let one = all.0 in omega (arith, one)
 
@@ -151,7 +151,7 @@ latency_coded xs all = by (list_any (λ n. n == 0) xs) (greatest_coded xs all)
 abbrev Codes : ℕ → Parts → Type 0
 Codes of q = IsCodeNumber (number q.sps of)
 
-numbers_coded : (of : ℕ) (round : List Parts) → AllByRecursion (Codes of) round → AllByRecursion IsCodeNumber (numbers_in round of)
+numbers_coded : (of : ℕ) (round : List Parts) → AllByRecursion (Codes of) round → AllByRecursion IsCodeNumber (numbers_in_round round of)
 numbers_coded of [] all = tt
 numbers_coded of (q ∷ round) all = (all.0, numbers_coded of round all.1)
 
@@ -197,7 +197,7 @@ three a b c p q r = All-cons IsCodeNumber a (b ∷ c ∷ []) p (All-cons IsCodeN
 four : (a b c d : ℕ) → IsCodeNumber a → IsCodeNumber b → IsCodeNumber c → IsCodeNumber d → All IsCodeNumber (a ∷ b ∷ c ∷ d ∷ [])
 four a b c d p q r s = All-cons IsCodeNumber a (b ∷ c ∷ d ∷ []) p (three b c d q r s)
 
-window_coded : (placed : List Placed) (round : List Parts) → AllByRecursion AreInForce round → All IsCodeNumber (window_of placed round)
+window_coded : (placed : List Placed) (round : List Parts) → AllByRecursion AreInForce round → All IsCodeNumber (frame_window placed round)
 window_coded placed round are =
     let all = all_weaker AreInForce AreCoded round are_coded are in
     four _ _ _ _
@@ -206,7 +206,7 @@ window_coded placed round are =
     (least_coded _ (offsets_coded _ sps_fields.sps_conf_win_top_offset placed round (all_weaker AreCoded (Codes sps_fields.sps_conf_win_top_offset) round (λ q is. is.top) all)))
     (least_coded _ (offsets_coded _ sps_fields.sps_conf_win_bottom_offset placed round (all_weaker AreCoded (Codes sps_fields.sps_conf_win_bottom_offset) round (λ q is. is.bottom) all)))
 
-dpb_coded : (round : List Parts) → AllByRecursion AreInForce round → All IsCodeNumber (dpb_of round)
+dpb_coded : (round : List Parts) → AllByRecursion AreInForce round → All IsCodeNumber (frame_dpb round)
 dpb_coded round are =
     let all = all_weaker AreInForce AreCoded round are_coded are in
     three _ _ _
@@ -292,7 +292,7 @@ module _ (frames : FrameOfRegions) (corners : List Corner) (round : List Parts) 
     ends = merged.ends no_rect;
   }
 
-  pub sps_is_shape : (level : Option ℕ) → sps_reshaped.IsShape (ctb_of round) (sps_shape corners round level)
+  pub sps_is_shape : (level : Option ℕ) → sps_reshaped.IsShape (ctb_of round) (frame_sps_shape corners round level)
   sps_is_shape level = record {
     id = omega arith;
     width = record { some = sides.some_wide; small = sides.small_wide; whole = sides.whole_wide };
@@ -335,7 +335,7 @@ module _ (frames : FrameOfRegions) (corners : List Corner) (round : List Parts) 
     rows = facts.is.lines.horizontal.rises;
   }
 
-  pub pps_is_shape : (source : List Item) (id : ℕ) → id < 64 → pps_reshaped.IsShape source (pps_shape corners round frame id)
+  pub pps_is_shape : (source : List Item) (id : ℕ) → id < 64 → pps_reshaped.IsShape source (frame_pps_shape corners round frame id)
   pps_is_shape source id small = record {
     id = small;
     sps_id = omega arith;

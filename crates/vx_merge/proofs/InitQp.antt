@@ -22,7 +22,7 @@ use Rattle.vx_table.specs.Spelling.{fault_of, item_of, items_along}
 use Rattle.vx_table.specs.Values.{Follows, to_end, through}
 use Rattle.vx_table.proofs.Bounds.{unbroken}
 use Rattle.vx_table.proofs.EachField.{each_of_sections, each_then}
-use Rattle.vx_pps.specs.Pps.{IsItems, front, partition_at, pps_form, tools}
+use Rattle.vx_pps.specs.Pps.{ArePpsItems, before_tiles, partition_at, pps_form, after_slices}
 use Rattle.vx_pps.proofs.Cutting.{each_weaker}
 use Rattle.vx_pps.proofs.Division.{IsDividing, each_division}
 use Rattle.vx_pic.specs.Sets.{signed}
@@ -60,11 +60,11 @@ row_gives c s test = λ same v none. range_gives c.limits s v (rw (eq-eqb c.fiel
 
 each : EachField KeepsQp pps_form
 unfolding pps_form row_qp limits_qp
-each = each_then KeepsQp (sections_form front fresh) (λ s. partition_at s >>= λ p. sections_form tools s >>= λ t. done p)
-    (each_of_sections KeepsQp row_qp row_gives front fresh refl)
-    (λ s. each_then KeepsQp (partition_at s) (λ p. sections_form tools s >>= λ t. done p)
+each = each_then KeepsQp (sections_form before_tiles fresh) (λ s. partition_at s >>= λ p. sections_form after_slices s >>= λ t. done p)
+    (each_of_sections KeepsQp row_qp row_gives before_tiles fresh refl)
+    (λ s. each_then KeepsQp (partition_at s) (λ p. sections_form after_slices s >>= λ t. done p)
     (each_weaker IsDividing KeepsQp (partition_at s) (λ cell is same v none. absurd (let high = is.1 in omega (arith, high, same))) (each_division _ _ _))
-    (λ p. each_then KeepsQp (sections_form tools s) (λ t. done p) (each_of_sections KeepsQp row_qp row_gives tools s refl) (λ t. tt)))
+    (λ p. each_then KeepsQp (sections_form after_slices s) (λ t. done p) (each_of_sections KeepsQp row_qp row_gives after_slices s refl) (λ t. tt)))
 
 -- the first value of the field
 found : {A : Type 0} {f : Form A} {w : List ℤ} {a : A} → EachField KeepsQp f → Follows f w a → IsQp (unwrap_or (first_value (items_along f w) pps_fields.pps_init_qp_minus26) (pos 0))
@@ -78,5 +78,5 @@ found all (through {cell} {goes} {v} {w} value on) = elim (cases_Bool (has_value
   | inr none ↦ rw none (found (all.1 v) on)
 ]
 
-pub init_qp_is : (items : List Item) → IsItems items → IsQp (signed items pps_fields.pps_init_qp_minus26)
+pub init_qp_is : (items : List Item) → ArePpsItems items → IsQp (signed items pps_fields.pps_init_qp_minus26)
 init_qp_is items set = subst (λ xs. IsQp (unwrap_or (first_value xs pps_fields.pps_init_qp_minus26) (pos 0))) set.set.given (found each set.set.follows)

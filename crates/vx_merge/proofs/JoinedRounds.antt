@@ -6,29 +6,29 @@ use Rattle.vx_pic.specs.Written.{Plan}
 use Rattle.vx_write.specs.declared.fault.WriteError.{WriteError}
 use Rattle.vx_write.specs.declared.fault.WriteError.TheVariants as errors
 use Rattle.vx_merge.specs.declared.corner.Corner.{Corner}
-use Rattle.vx_merge.specs.Joins.{IsBarredWhere, StartsAt, WritesJoined, join_start}
-use Rattle.vx_merge.specs.Merging.{Merging, Writes}
+use Rattle.vx_merge.specs.Joins.{IsBarredWhere, JudgesJoin, WritesJoined, join_start}
+use Rattle.vx_merge.specs.Merging.{Merging, WritesOneRound}
 use Rattle.vx_merge.specs.Verdict.{IsVerdict}
 use Rattle.vx_merge.specs.inner.Found.{Finds}
 use Rattle.vx_merge.proofs.Writing.{writes_stopped}
 
 -- the verdict that was found
 pub starts : (corners : List Corner) (round : List Parts) (found answer : Option Refusal) → length corners ≡ length round → found ≡ answer
-    → Finds (length round) (join_start round ∷ []) found → StartsAt true corners round answer
+    → Finds (length round) (join_start round ∷ []) found → JudgesJoin true corners round answer
 starts corners round found answer same is finds =
-    subst (λ a. StartsAt true corners round a) is (subst (λ n. IsVerdict n (join_start round ∷ []) found) (sym same) finds.verdict)
+    subst (λ a. JudgesJoin true corners round a) is (subst (λ n. IsVerdict n (join_start round ∷ []) found) (sym same) finds.verdict)
 
 -- where its pictures may begin, it is written as any round
 pub joined_writes : (round : List Parts) (done : List Plan) (x : Merging) (a b : Option (List ℕ)) (k l : ℕ) (answer : Result (Unit {0}) WriteError)
-    → StartsAt true x.corners round None → Writes round done x a b k l answer → WritesJoined round done x a b k l answer
+    → JudgesJoin true x.corners round None → WritesOneRound round done x a b k l answer → WritesJoined round done x a b k l answer
 joined_writes round done x a b k l (Ok tt) starts is = (starts, is)
 joined_writes round done x a b k l (Err (errors.Refused r)) starts is = (is.0, is.1, inr (starts, is.2))
 joined_writes round done x a b k l (Err errors.Memory) starts is = is
 joined_writes round done x a b k l (Err errors.SinkFailed) starts is = (starts, is)
 joined_writes round done x a b k l (Err (errors.Stopped first)) starts is = is
 
-other_starts : (round : List Parts) (x y : Merging) (answer : Option Refusal) → y.corners ≡ x.corners → StartsAt true x.corners round answer → StartsAt true y.corners round answer
-other_starts round x y answer corners is = subst (λ cs. StartsAt true cs round answer) (sym corners) is
+other_starts : (round : List Parts) (x y : Merging) (answer : Option Refusal) → y.corners ≡ x.corners → JudgesJoin true x.corners round answer → JudgesJoin true y.corners round answer
+other_starts round x y answer corners is = subst (λ cs. JudgesJoin true cs round answer) (sym corners) is
 
 other_barred : (round : List Parts) (done : List Plan) (x y : Merging) (r : Refusal) → y.corners ≡ x.corners → y.level ≡ x.level
     → IsBarredWhere true x.corners x.level round done r → IsBarredWhere true y.corners y.level round done r

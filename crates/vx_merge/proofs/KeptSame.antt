@@ -13,7 +13,7 @@ use Rattle.vx_write.specs.InForce.{AreInForce}
 use Rattle.vx_write.proofs.Spelled.{pps_items, sps_items}
 use Rattle.vx_merge.specs.declared.needed.RoundSets.{RoundSets}
 use Rattle.vx_merge.specs.Rounds.{picture_at}
-use Rattle.vx_merge.specs.Shapes.{pps_shape, sps_shape}
+use Rattle.vx_merge.specs.Shapes.{frame_pps_shape, frame_sps_shape}
 use Rattle.vx_merge.specs.inner.Ready.{IsReady}
 use Rattle.vx_merge.proofs.Apart.{frame_apart}
 use Rattle.vx_merge.proofs.Passing.{pps_alike, sps_alike}
@@ -33,12 +33,12 @@ module _ (level : Option ℕ) (round : List Parts) (frame : Numbers) (sent : Lis
   in_force k short = in_force_at round k short ready.made.are
 
   -- what source 0's sets keep
-  sps_sent : sps_set.kept_of n.sps.now ≡ sps_set.kept_of (picture_at round 0).sps
-  sps_sent = reshaped_keeps (picture_at round 0).sps n.sps.now (sps_shape ready.corners round level) ready.needed.sps
+  sps_sent : sps_set.kept_sps_items n.sps.now ≡ sps_set.kept_sps_items (picture_at round 0).sps
+  sps_sent = reshaped_keeps (picture_at round 0).sps n.sps.now (frame_sps_shape ready.corners round level) ready.needed.sps
 
-  pps_sent : pps_set.kept_of n.pps.now ≡ pps_set.kept_of (picture_at round 0).pps
+  pps_sent : pps_set.kept_pps_items n.pps.now ≡ pps_set.kept_pps_items (picture_at round 0).pps
   pps_sent =
-      let shape = pps_shape ready.corners round frame n.pps_id in
+      let shape = frame_pps_shape ready.corners round frame n.pps_id in
       frame_keeps (picture_at round 0).pps n.pps.now shape (in_force 0 some_picture).pps ready.needed.pps refl
 
   pub kept_same : (k : ℕ) → k < length round → HaveSameKept (picture_at round k).sps (picture_at round k).pps n.sps.now n.pps.now
@@ -46,11 +46,11 @@ module _ (level : Option ℕ) (round : List Parts) (frame : Numbers) (sent : Lis
     of_sps = sps_sent ∙ sym (sps_alike ready.corners round ready.same ready.passes k short);
     of_pps = pps_sent ∙ sym (pps_alike ready.corners round ready.same ready.passes k short);
     is_sps = (in_force k short).sps;
-    is_other_sps = sps_items (picture_at round 0).sps (sps_shape ready.corners round level) n.sps.now ready.needed.sps;
+    is_other_sps = sps_items (picture_at round 0).sps (frame_sps_shape ready.corners round level) n.sps.now ready.needed.sps;
     is_pps = (in_force k short).pps;
-    is_other_pps = pps_items (picture_at round 0).pps (pps_shape ready.corners round frame n.pps_id) n.pps.now ready.needed.pps;
+    is_other_pps = pps_items (picture_at round 0).pps (frame_pps_shape ready.corners round frame n.pps_id) n.pps.now ready.needed.pps;
   }
 
   -- the filter and the QP stand in slice headers
   pub apart : IsApart n.pps.now
-  apart = frame_apart (picture_at round 0).pps n.pps.now (pps_shape ready.corners round frame n.pps_id) ready.needed.pps refl
+  apart = frame_apart (picture_at round 0).pps n.pps.now (frame_pps_shape ready.corners round frame n.pps_id) ready.needed.pps refl

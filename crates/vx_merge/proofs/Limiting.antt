@@ -18,7 +18,7 @@ use Rattle.vx_pic.specs.Written.{eos_units}
 use Rattle.vx_merge.specs.declared.output.Made.{Made}
 use Rattle.vx_merge.specs.Verdict.{IsVerdict}
 use Rattle.vx_bits.specs.Codes.{AreBytes}
-use Rattle.vx_merge.specs.inner.Making.{HasPayloads, capped, is_long, joined, limits_by, size_of, slice_units}
+use Rattle.vx_merge.specs.inner.Making.{HasPayloads, capped, is_long, with_payloads, limits_by, size_of, slice_units}
 
 neither : (a b : Bool) → (a || b) ≡ false → (a ≡ false) × (b ≡ false)
 neither true b is = absurd (cc)
@@ -46,13 +46,13 @@ eos_bytes false = tt
 
 -- ---- slices
 
-pub joined_count : (fronts payloads : List (List ℕ)) → length fronts ≡ length payloads → length (joined fronts payloads) ≡ length fronts
+pub joined_count : (fronts payloads : List (List ℕ)) → length fronts ≡ length payloads → length (with_payloads fronts payloads) ≡ length fronts
 joined_count [] payloads same = refl
 joined_count (f ∷ fronts) [] same = absurd (omega (arith, same))
 joined_count (f ∷ fronts) (p ∷ payloads) same = ap suc (joined_count fronts payloads (omega (arith, same)))
 
 pub joined_at : (fronts payloads : List (List ℕ)) (i : ℕ) (front payload : List ℕ) → slice_get fronts i ≡ Some front → slice_get payloads i ≡ Some payload
-    → slice_get (joined fronts payloads) i ≡ Some (front ++ payload)
+    → slice_get (with_payloads fronts payloads) i ≡ Some (front ++ payload)
 joined_at [] payloads i front payload at there = absurd (cc)
 joined_at (f ∷ fronts) [] i front payload at there = absurd (cc)
 joined_at (f ∷ fronts) (p ∷ payloads) zero front payload at there = cc

@@ -6,7 +6,7 @@ use Rattle.std.proofs.lemmas.Bool.{cases_lt}
 use Rattle.vx_bits.specs.Codes.{EndsInNoZero}
 use Rattle.vx_layout.specs.declared.numbers.Numbers.{Numbers}
 use Rattle.vx_table.specs.Forms.{form_of}
-use Rattle.vx_table.specs.Trailing.{EndsInStop, EndsWithStop, ends_in_stop, is_stop}
+use Rattle.vx_table.specs.laws.Trailing.{EndsInStop, EndsWithStop, ends_in_stop, is_stop}
 use Rattle.vx_table.proofs.Stopped.{last_byte, stops_behind, tables_stop}
 use Rattle.vx_rpl.specs.declared.entry.RplTable.{RplTable}
 use Rattle.vx_rpl.specs.HeaderLists.{lists_of}
@@ -14,16 +14,16 @@ use Rattle.vx_ph.specs.declared.header.PictureHeader.{PictureHeader}
 use Rattle.vx_ph.specs.declared.tables.TheConstants.{TRAILING}
 use Rattle.vx_ph.specs.Header.{header_form}
 use Rattle.vx_ph.specs.InForce.{in_force, structures}
-use Rattle.vx_ph.specs.Picture.{IsHeader, IsUnit, unit_form}
-use Rattle.vx_ph.specs.Reshaped.{GoesUnder, IsReshaped, IsShape}
+use Rattle.vx_ph.specs.Picture.{IsHeader, IsPictureHeaderUnit, unit_form}
+use Rattle.vx_ph.specs.Reshaped.{GoesUnder, IsReshapedPictureHeader, IsShape}
 use Rattle.vx_pic.specs.declared.unit_types.TheConstants.{PH_NUT}
 use Rattle.vx_pic.specs.Parts.{Parts}
 use Rattle.vx_pic.specs.Readings.{Begun}
-use Rattle.vx_pic.specs.UnderSets.{header_of}
+use Rattle.vx_pic.specs.UnderSets.{picture_header_of}
 use Rattle.vx_pic.specs.Written.{Set, SetUnit}
 use Rattle.vx_write.specs.Units.{IsUnitOf}
 use Rattle.vx_merge.specs.declared.needed.RoundSets.{RoundSets}
-use Rattle.vx_merge.specs.Headers.{HasHeader, lmcs_shape, ph_shape}
+use Rattle.vx_merge.specs.Headers.{HasMergedHeader, lmcs_shape, ph_shape}
 use Rattle.vx_merge.specs.Needed.{Ids}
 use Rattle.vx_merge.specs.Rounds.{picture_at}
 use Rattle.vx_merge.specs.Slots.{IsHeld, TakeSlots, TakesFree}
@@ -89,7 +89,7 @@ unfolding unit_form ends_in_stop is_stop
 unit_stops table s = stops_behind (header_form table s) (form_of TRAILING) (λ end. tables_stop TRAILING end refl)
 
 -- it ends in rbsp_trailing_bits( ), so that its last byte isn't 00
-pub unit_ends : (table : RplTable) (s : List ℕ) (header : PictureHeader) (bytes : List ℕ) → IsUnit table s header bytes → EndsInNoZero bytes
+pub unit_ends : (table : RplTable) (s : List ℕ) (header : PictureHeader) (bytes : List ℕ) → IsPictureHeaderUnit table s header bytes → EndsInNoZero bytes
 unit_ends table s header bytes is =
     last_byte bytes (subst (EndsWithStop 0) (sym is.bits) ((unit_stops table s).at 0 is.values is.end is.follows))
 
@@ -98,7 +98,7 @@ unit_ends table s header bytes is =
 module _ (b : Begun) (header : PictureHeader) (fields : b.header ≡ header.fields)
     (is : IsHeader (structures b.sps) (in_force b.sps b.pps) header) where
   -- its lists are those that its items come to
-  pub header_is : header ≡ header_of b
+  pub header_is : header ≡ picture_header_of b
   header_is =
       let items = sym fields in
       let of = lists_of (structures b.sps) (in_force b.sps b.pps) in
@@ -106,14 +106,14 @@ module _ (b : Begun) (header : PictureHeader) (fields : b.header ≡ header.fiel
       λ j. record { fields = items j; lists = lists j }
 
   pub has_header : (round : List Parts) (ids : Ids) (unit rbsp : List ℕ) → b.unit ≡ Some unit
-      → IsReshaped (picture_at round 0).header (ph_shape round ids) b.sps b.pps header
-      → IsUnit (structures b.sps) (in_force b.sps b.pps) header rbsp
-      → IsUnitOf PH_NUT b.temporal_id rbsp unit → HasHeader round ids b
+      → IsReshapedPictureHeader (picture_at round 0).header (ph_shape round ids) b.sps b.pps header
+      → IsPictureHeaderUnit (structures b.sps) (in_force b.sps b.pps) header rbsp
+      → IsUnitOf PH_NUT b.temporal_id rbsp unit → HasMergedHeader round ids b
   has_header round ids unit rbsp there says spelled made = record {
-    says = subst (IsReshaped (picture_at round 0).header (ph_shape round ids) b.sps b.pps) header_is says;
+    says = subst (IsReshapedPictureHeader (picture_at round 0).header (ph_shape round ids) b.sps b.pps) header_is says;
     unit = unit;
     is = there;
     rbsp = rbsp;
-    spelled = subst (λ h. IsUnit (structures b.sps) (in_force b.sps b.pps) h rbsp) header_is spelled;
+    spelled = subst (λ h. IsPictureHeaderUnit (structures b.sps) (in_force b.sps b.pps) h rbsp) header_is spelled;
     made = made;
   }

@@ -16,23 +16,23 @@ use Rattle.vx_pps.specs.Reshaped as pps_reshaped
 use Rattle.vx_ph.specs.Depends as ph_kept
 use Rattle.vx_ph.specs.Header.{header_form}
 use Rattle.vx_ph.specs.InForce.{in_force, structures}
-use Rattle.vx_ph.specs.Picture.{IsUnit, unit_form}
+use Rattle.vx_ph.specs.Picture.{IsPictureHeaderUnit, unit_form}
 use Rattle.vx_ph.specs.Reshaped as ph_reshaped
 use Rattle.vx_pic.specs.declared.kind.Kind.{Kind}
 use Rattle.vx_pic.specs.declared.unit_types.TheConstants.{PH_NUT}
 use Rattle.vx_pic.specs.Parts.{Parts}
 use Rattle.vx_pic.specs.Readings.{Begun}
 use Rattle.vx_pic.specs.Resident.{history_of, is_resident, kept_for, last_of, sent_before, serves}
-use Rattle.vx_pic.specs.UnderSets.{header_of}
-use Rattle.vx_pic.specs.Written.{Plan, SetUnit, eos_units, sei_units, slices_of}
+use Rattle.vx_pic.specs.UnderSets.{picture_header_of}
+use Rattle.vx_pic.specs.Written.{Plan, SetUnit, eos_units, sei_units, planned_slices}
 use Rattle.vx_write.specs.Sending.{unsent}
 use Rattle.vx_write.specs.Units.{IsSeiUnit, IsSetUnit, IsUnitOf}
 use Rattle.vx_merge.specs.declared.corner.Corner.{Corner}
-use Rattle.vx_merge.specs.Headers.{HasHeader, IsSlice, ph_shape, sourced}
-use Rattle.vx_merge.specs.Needed.{Ids, TakeIds, needed_sets}
+use Rattle.vx_merge.specs.Headers.{HasMergedHeader, IsMergedSlice, ph_shape, sourced}
+use Rattle.vx_merge.specs.Needed.{Ids, TakeIds, sets_of_round}
 use Rattle.vx_merge.specs.Regions.{corners_in, layouts_in}
 use Rattle.vx_merge.specs.Rounds.{picture_at}
-use Rattle.vx_merge.specs.Shapes.{pps_shape, sps_shape}
+use Rattle.vx_merge.specs.Shapes.{frame_pps_shape, frame_sps_shape}
 use Rattle.vx_bits.specs.Codes.{AreBytes}
 use Rattle.vx_merge.specs.Written.{IsMerged, MergedIsOne}
 use Rattle.vx_merge.proofs.Gathered.{all_back, all_front}
@@ -86,19 +86,19 @@ module _ (t : ℕ) (history : List SetUnit) where
 
 -- ---- the picture header
 
-module _ (round : List Parts) (ids : Ids) (b c : Begun) (x : HasHeader round ids b) (y : HasHeader round ids c) (sps : b.sps ≡ c.sps) (pps : b.pps ≡ c.pps) where
+module _ (round : List Parts) (ids : Ids) (b c : Begun) (x : HasMergedHeader round ids b) (y : HasMergedHeader round ids c) (sps : b.sps ≡ c.sps) (pps : b.pps ≡ c.pps) where
   header_one : b.header ≡ c.header
   header_one =
       let source : List Item = (picture_at round 0).header.fields in
       let shape = ph_shape round ids in
-      rewritten_one (header_form (structures b.sps) (in_force b.sps b.pps)) (set_of ph_kept.kept) (shown_items (set_of ph_kept.kept) source) (ph_reshaped.stated b.sps shape) b.header c.header x.says.fields
-      (subst (λ s. ph_reshaped.AreReshaped source shape s b.pps c.header) (sym sps) (subst (λ p. ph_reshaped.AreReshaped source shape c.sps p c.header) (sym pps) y.says.fields))
+      rewritten_one (header_form (structures b.sps) (in_force b.sps b.pps)) (set_of ph_kept.kept_ph_fields) (shown_items (set_of ph_kept.kept_ph_fields) source) (ph_reshaped.stated_ph_items b.sps shape) b.header c.header x.says.fields
+      (subst (λ s. ph_reshaped.AreReshapedInPictureHeader source shape s b.pps c.header) (sym sps) (subst (λ p. ph_reshaped.AreReshapedInPictureHeader source shape c.sps p c.header) (sym pps) y.says.fields))
 
   header_unit_one : b.temporal_id ≡ c.temporal_id → AllByRecursion AreBytes (option_to_list b.unit) → AllByRecursion AreBytes (option_to_list c.unit) → b.unit ≡ c.unit
   header_unit_one tid bytes others =
       let form = unit_form (structures b.sps) (in_force b.sps b.pps) in
-      let spelled : IsUnit (structures b.sps) (in_force b.sps b.pps) (header_of c) y.rbsp
-      = subst (λ s. IsUnit (structures s) (in_force s b.pps) (header_of c) y.rbsp) (sym sps) (subst (λ p. IsUnit (structures c.sps) (in_force c.sps p) (header_of c) y.rbsp) (sym pps) y.spelled) in
+      let spelled : IsPictureHeaderUnit (structures b.sps) (in_force b.sps b.pps) (picture_header_of c) y.rbsp
+      = subst (λ s. IsPictureHeaderUnit (structures s) (in_force s b.pps) (picture_header_of c) y.rbsp) (sym sps) (subst (λ p. IsPictureHeaderUnit (structures c.sps) (in_force c.sps p) (picture_header_of c) y.rbsp) (sym pps) y.spelled) in
       let values = values_one form x.spelled.follows spelled.follows (sym x.spelled.all ∙ (header_one ∙ spelled.all)) in
       let here = (subst (λ o. AllByRecursion AreBytes (option_to_list o)) x.is bytes).0 in
       let there = (subst (λ o. AllByRecursion AreBytes (option_to_list o)) y.is others).0 in
@@ -114,7 +114,7 @@ module _ (corners : List Corner) (level : Option ℕ) (round : List Parts) (done
 
   -- the units of a plan are bytes, kind by kind
   module _ (p : Plan) (is : IsMerged corners level round done p) where
-    after_sent : AllByRecursion AreBytes (sei_units p.sei ++ (option_to_list p.begun.unit ++ map (λ s. s.unit) (slices_of p)))
+    after_sent : AllByRecursion AreBytes (sei_units p.sei ++ (option_to_list p.begun.unit ++ map (λ s. s.unit) (planned_slices p)))
     after_sent = all_back AreBytes (map (λ x. x.unit) p.sent) _ (all_back AreBytes (eos_units p.kind.after_eos) _ is.bytes)
 
     sent_bytes : AreAllBytes p.sent
@@ -123,7 +123,7 @@ module _ (corners : List Corner) (level : Option ℕ) (round : List Parts) (done
     header_bytes : AllByRecursion AreBytes (option_to_list p.begun.unit)
     header_bytes = all_front AreBytes (option_to_list p.begun.unit) _ (all_back AreBytes (sei_units p.sei) _ after_sent)
 
-    slice_bytes : AllByRecursion AreBytes (map (λ s. s.unit) (slices_of p))
+    slice_bytes : AllByRecursion AreBytes (map (λ s. s.unit) (planned_slices p))
     slice_bytes = all_back AreBytes (option_to_list p.begun.unit) _ (all_back AreBytes (sei_units p.sei) _ after_sent)
 
   module _ (p q : Plan) (is : IsMerged corners level round done p) (of : IsMerged corners level round done q) where
@@ -141,11 +141,11 @@ module _ (corners : List Corner) (level : Option ℕ) (round : List Parts) (done
         is.frame.pictures ∙ ((λ j. frame_of (columns j) (rows j) (corners_in corners round) (layouts_in round)) ∙ sym of.frame.pictures)
 
     sps_one : p.begun.sps ≡ q.begun.sps
-    sps_one = rewritten_one sps_form (set_of TAKEN) (shown_items (set_of TAKEN) own.sps) (sps_reshaped.stated own.sps (sps_shape corners round level)) p.begun.sps q.begun.sps is.sps of.sps
+    sps_one = rewritten_one sps_form (set_of TAKEN) (shown_items (set_of TAKEN) own.sps) (sps_reshaped.stated_sps_items own.sps (frame_sps_shape corners round level)) p.begun.sps q.begun.sps is.sps of.sps
 
     plain_one : is.plain ≡ of.plain
     plain_one = frame_pps_one corners round p.begun.layout 0 own.pps is.plain of.plain is.frame.lines.vertical.rises is.frame.lines.horizontal.rises is.plain_is
-        (subst (λ l. pps_reshaped.IsReshaped own.pps (pps_shape corners round l 0) of.plain) (sym layout_one) of.plain_is)
+        (subst (λ l. pps_reshaped.IsReshapedPps own.pps (frame_pps_shape corners round l 0) of.plain) (sym layout_one) of.plain_is)
 
     same_ids : is.ids ≡ of.ids
     same_ids = ids_one round p.kind.temporal_id (sent_before done p) is.plain is.ids of.ids is.taken
@@ -154,8 +154,8 @@ module _ (corners : List Corner) (level : Option ℕ) (round : List Parts) (done
 
     pps_one : p.begun.pps ≡ q.begun.pps
     pps_one = frame_pps_one corners round p.begun.layout is.ids.pps own.pps p.begun.pps q.begun.pps is.frame.lines.vertical.rises is.frame.lines.horizontal.rises is.pps
-        (subst (λ l. pps_reshaped.IsReshaped own.pps (pps_shape corners round l is.ids.pps) q.begun.pps) (sym layout_one)
-        (subst (λ (i : Ids). pps_reshaped.IsReshaped own.pps (pps_shape corners round q.begun.layout i.pps) q.begun.pps) (sym same_ids) of.pps))
+        (subst (λ l. pps_reshaped.IsReshapedPps own.pps (frame_pps_shape corners round l is.ids.pps) q.begun.pps) (sym layout_one)
+        (subst (λ (i : Ids). pps_reshaped.IsReshapedPps own.pps (frame_pps_shape corners round q.begun.layout i.pps) q.begun.pps) (sym same_ids) of.pps))
 
     begun_one : p.begun ≡ q.begun
     begun_one =
@@ -163,16 +163,16 @@ module _ (corners : List Corner) (level : Option ℕ) (round : List Parts) (done
         let pps = pps_one in
         let layout = layout_one in
         let tid = tid_one in
-        let there = subst (λ i. HasHeader round i q.begun) (sym same_ids) of.header in
+        let there = subst (λ i. HasMergedHeader round i q.begun) (sym same_ids) of.header in
         let header = header_one round is.ids p.begun q.begun is.header there sps pps in
         let unit = header_unit_one round is.ids p.begun q.begun is.header there sps pps tid (header_bytes p is) (header_bytes q of) in
         λ j. record { sps = sps j; pps = pps j; layout = layout j; header = header j; temporal_id = tid j; unit = unit j }
 
-    same_slices : slices_of p ≡ slices_of q
-    same_slices = slices_one round is.ids p.kind.nal_type p.begun (sourced 0 round) (slices_of p) (slices_of q) is.slices
-        (subst (λ b. AllZip (λ x w. IsSlice round is.ids p.kind.nal_type b x.0 x.1 w) (sourced 0 round) (slices_of q)) (sym begun_one)
-        (subst (λ i. AllZip (λ x w. IsSlice round i p.kind.nal_type q.begun x.0 x.1 w) (sourced 0 round) (slices_of q)) (sym same_ids)
-        (subst (λ (k : Kind). AllZip (λ x w. IsSlice round of.ids k.nal_type q.begun x.0 x.1 w) (sourced 0 round) (slices_of q)) (sym kind_one) of.slices)))
+    same_slices : planned_slices p ≡ planned_slices q
+    same_slices = slices_one round is.ids p.kind.nal_type p.begun (sourced 0 round) (planned_slices p) (planned_slices q) is.slices
+        (subst (λ b. AllZip (λ x w. IsMergedSlice round is.ids p.kind.nal_type b x.0 x.1 w) (sourced 0 round) (planned_slices q)) (sym begun_one)
+        (subst (λ i. AllZip (λ x w. IsMergedSlice round i p.kind.nal_type q.begun x.0 x.1 w) (sourced 0 round) (planned_slices q)) (sym same_ids)
+        (subst (λ (k : Kind). AllZip (λ x w. IsMergedSlice round of.ids k.nal_type q.begun x.0 x.1 w) (sourced 0 round) (planned_slices q)) (sym kind_one) of.slices)))
         (slice_bytes p is) (slice_bytes q of)
 
     same_sent : p.sent ≡ q.sent
@@ -180,7 +180,7 @@ module _ (corners : List Corner) (level : Option ℕ) (round : List Parts) (done
         let ids = same_ids in
         let sps = sps_one in
         let pps = pps_one in
-        let sets = is.sets ∙ ((λ j. needed_sets round (ids j) (sps j) (pps j)) ∙ sym of.sets) in
+        let sets = is.sets ∙ ((λ j. sets_of_round round (ids j) (sps j) (pps j)) ∙ sym of.sets) in
         let units = subst (λ (k : Kind). AllByRecursion (λ x. IsSetUnit k.temporal_id x.set x.unit) of.needed) (sym kind_one) of.units in
         let there : q.sent ≡ unsent p.kind.temporal_id (sent_before done p) of.needed
         = of.sent ∙ ap (λ (k : Kind). unsent k.temporal_id (kept_for k.nal_type (history_of done)) of.needed) (sym kind_one) in

@@ -17,13 +17,13 @@ use Rattle.vx_sh.specs.declared.shape.ShShape.{ShShape}
 use Rattle.vx_sh.specs.declared.tables.TheConstants.{HEADER_INSIDE}
 use Rattle.vx_sh.specs.Depends.{kept_fields}
 use Rattle.vx_sh.specs.InForce.{at_sets, in_force_at}
-use Rattle.vx_sh.specs.Reshaped.{filter_items, id_items, qp_items, stated, use_items}
-use Rattle.vx_sh.specs.Value.{AreFields, IsSpelling, values_of}
+use Rattle.vx_sh.specs.Reshaped.{stated_filter_items, sh_subpic_id_items, qp_items, stated_sh_items, use_items}
+use Rattle.vx_sh.specs.Value.{AreFields, IsSliceHeaderSpelling, values_of}
 use Rattle.vx_sh.specs.Whole.{At, behind_header, header_inside, index_of, slice_form}
 use Rattle.vx_pic.specs.Parts.{Parts, SlicePart}
 use Rattle.vx_pic.specs.Readings.{Begun, Slice}
-use Rattle.vx_pic.specs.UnderSets.{slice_at}
-use Rattle.vx_merge.specs.Headers.{AreNumbers, IsFront, IsSlice, SaysSlice}
+use Rattle.vx_pic.specs.UnderSets.{at_slice_of}
+use Rattle.vx_merge.specs.Headers.{AreNumbers, IsFront, IsMergedSlice, SaysSlice}
 use Rattle.vx_merge.specs.Needed.{Ids}
 use Rattle.vx_bits.specs.Codes.{AreBytes}
 use Rattle.vx_merge.proofs.Gathered.{all_front}
@@ -46,7 +46,7 @@ module _ (n : At) where
   }
 
   -- its items, and those of the picture header where it stands inside, tell its bits
-  bits_one : (fields header : List Item) (a b : List ℕ) → IsSpelling n fields header a → IsSpelling n fields header b → bits_of a ≡ bits_of b
+  bits_one : (fields header : List Item) (a b : List ℕ) → IsSliceHeaderSpelling n fields header a → IsSliceHeaderSpelling n fields header b → bits_of a ≡ bits_of b
   bits_one fields header a b is of =
       let f = is.is.slice in
       let h = of.is.slice in
@@ -65,7 +65,7 @@ module _ (n : At) where
 -- ---- a slice
 
 module _ (round : List Parts) (ids : Ids) (nal_type : ℕ) (b : Begun) (k : ℕ) (s : SlicePart) where
-  place_is : (n : SliceNumbers) → AreNumbers nal_type b n → in_force_at n ≡ slice_at nal_type b
+  place_is : (n : SliceNumbers) → AreNumbers nal_type b n → in_force_at n ≡ at_slice_of nal_type b
   place_is n at =
       let type = at.type in
       let sps = at.sps in
@@ -75,7 +75,7 @@ module _ (round : List Parts) (ids : Ids) (nal_type : ℕ) (b : Begun) (k : ℕ)
       let layout = at.layout in
       λ j. at_sets (type j) (sps j) (pps j) (header j) (ids j) (layout j)
 
-  stated_one : (n m : SliceNumbers) (x y : ShShape) → AreNumbers nal_type b n → AreNumbers nal_type b m → SaysSlice round ids k s x → SaysSlice round ids k s y → stated n x ≡ stated m y
+  stated_one : (n m : SliceNumbers) (x y : ShShape) → AreNumbers nal_type b n → AreNumbers nal_type b m → SaysSlice round ids k s x → SaysSlice round ids k s y → stated_sh_items n x ≡ stated_sh_items m y
   stated_one n m x y at on is of =
       let sps = at.sps ∙ sym on.sps in
       let header = at.header ∙ sym on.header in
@@ -85,7 +85,7 @@ module _ (round : List Parts) (ids : Ids) (nal_type : ℕ) (b : Begun) (k : ℕ)
       let scaling = is.scaling ∙ sym of.scaling in
       let sums = is.qp ∙ sym of.qp in
       let qp : x.qp_delta ≡ y.qp_delta = omega (arith, ints, sums) in
-      λ j. id_items (sps j) (id j) ++ ((filter_items (sps j) (filter j) ++ use_items ((header j).fields) (lmcs j) (scaling j)) ++ qp_items (qp j))
+      λ j. sh_subpic_id_items (sps j) (id j) ++ ((stated_filter_items (sps j) (filter j) ++ use_items ((header j).fields) (lmcs j) (scaling j)) ++ qp_items (qp j))
 
   front_one : (u v : List ℕ) (x : IsFront round ids nal_type b k s u) (y : IsFront round ids nal_type b k s v) → AreBytes u → AreBytes v
       → (x.header.fields ≡ y.header.fields) × (x.header.subpic ≡ y.header.subpic) × (u ≡ v)
@@ -96,17 +96,17 @@ module _ (round : List Parts) (ids : Ids) (nal_type : ℕ) (b : Begun) (k : ℕ)
       let first = x.reshaped.fields in
       let second = y.reshaped.fields in
       let fields : x.header.fields ≡ y.header.fields
-      = rewritten_one _ names (shown_items names s.header.fields) (stated x.numbers x.shape) x.header.fields y.header.fields
+      = rewritten_one _ names (shown_items names s.header.fields) (stated_sh_items x.numbers x.shape) x.header.fields y.header.fields
       (made_of (in_force_at x.numbers) names _ _ x.header.fields first.fields first.kept first.others)
       (made_of (in_force_at x.numbers) names _ _ y.header.fields (subst (λ n. AreFields n y.header.fields []) place second.fields) second.kept (second.others ∙ sym says)) in
       let id = x.says.subpic ∙ sym y.says.subpic in
       let listed = x.at.ids ∙ sym y.at.ids in
       let index : index_of x.shape.subpic_id x.numbers.ids.now ≡ index_of y.shape.subpic_id y.numbers.ids.now = λ j. index_of (id j) (listed j) in
-      let spelled = subst (λ n. IsSpelling n y.header.fields b.header y.bytes) place y.spelled in
-      let bits = bits_one (in_force_at x.numbers) x.header.fields b.header x.bytes y.bytes x.spelled (subst (λ fs. IsSpelling (in_force_at x.numbers) fs b.header y.bytes) (sym fields) spelled) in
+      let spelled = subst (λ n. IsSliceHeaderSpelling n y.header.fields b.header y.bytes) place y.spelled in
+      let bits = bits_one (in_force_at x.numbers) x.header.fields b.header x.bytes y.bytes x.spelled (subst (λ fs. IsSliceHeaderSpelling (in_force_at x.numbers) fs b.header y.bytes) (sym fields) spelled) in
       (fields, x.reshaped.subpic ∙ (index ∙ sym y.reshaped.subpic), unit_one nal_type b.temporal_id x.bytes y.bytes u v bytes others bits x.made y.made)
 
-  slice_one : (v w : Slice) → IsSlice round ids nal_type b k s v → IsSlice round ids nal_type b k s w → AreBytes v.unit → AreBytes w.unit → v ≡ w
+  slice_one : (v w : Slice) → IsMergedSlice round ids nal_type b k s v → IsMergedSlice round ids nal_type b k s w → AreBytes v.unit → AreBytes w.unit → v ≡ w
   slice_one v w x y bytes others =
       let payload : List ℕ = drop s.payload s.unit in
       let one = front_one x.front y.front x.is y.is (all_front (λ n. n < 256) x.front payload (subst AreBytes x.unit bytes)) (all_front (λ n. n < 256) y.front payload (subst AreBytes y.unit others)) in
@@ -120,7 +120,7 @@ module _ (round : List Parts) (ids : Ids) (nal_type : ℕ) (b : Begun) (k : ℕ)
 -- ---- all of them
 
 pub slices_one : (round : List Parts) (ids : Ids) (nal_type : ℕ) (b : Begun) (xs : List (ℕ × SlicePart)) (vs ws : List Slice)
-    → AllZip (λ x w. IsSlice round ids nal_type b x.0 x.1 w) xs vs → AllZip (λ x w. IsSlice round ids nal_type b x.0 x.1 w) xs ws
+    → AllZip (λ x w. IsMergedSlice round ids nal_type b x.0 x.1 w) xs vs → AllZip (λ x w. IsMergedSlice round ids nal_type b x.0 x.1 w) xs ws
     → AllByRecursion AreBytes (map (λ s. s.unit) vs) → AllByRecursion AreBytes (map (λ s. s.unit) ws) → vs ≡ ws
 slices_one round ids nal_type b [] [] [] is of bytes others = refl
 slices_one round ids nal_type b [] [] (w ∷ ws) is of bytes others = absurd of

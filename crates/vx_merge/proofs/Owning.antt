@@ -13,7 +13,7 @@ use Rattle.vx_write.proofs.Vacant.{itself_bytes, last_alike}
 use Rattle.vx_merge.specs.declared.corner.Corner.{Corner}
 use Rattle.vx_merge.specs.declared.needed.RoundSets.{RoundSets}
 use Rattle.vx_merge.specs.Bodies.{filters_in, has_lmcs, has_scaling, is_among, lmcs_body, once, scaling_body, with_bodies}
-use Rattle.vx_merge.specs.Needed.{alf_bodies, aps_at, lmcs_bodies, scaling_bodies}
+use Rattle.vx_merge.specs.Needed.{alf_bodies, aps_of_body, lmcs_bodies, scaling_bodies}
 use Rattle.vx_merge.specs.Rounds.{picture_at}
 use Rattle.vx_merge.specs.Shapes.{of_lowest}
 use Rattle.vx_merge.specs.Slots.{IsHeld, IsTaken, TakeSlots, TakesFree, alf_slots, lmcs_slots, scaling_slots}
@@ -132,28 +132,28 @@ found_below test (suc n) = elim (cases_Bool (test n)) [
       | inr last ↦ let same : i ≡ n = omega (arith, less, last) in true≢false (sym is ∙ (ap test same ∙ not))
     ]
 
-module _ (kind count t : ℕ) (bodies : List (List ℕ)) (sent : List SetUnit) (ids : List ℕ) (takes : TakeSlots count (length bodies) t sent (aps_at kind bodies) ids) (own : AreOnce bodies) where
-  held_or_not : (k : ℕ) → IsHeld count (length bodies) t sent (aps_at kind bodies) k ⊎ (¬ IsHeld count (length bodies) t sent (aps_at kind bodies) k)
-  held_or_not k = elim (found_below (λ i. serves t (aps_at kind bodies k i) (last_of (aps_at kind bodies k i) sent)) count) [
+module _ (kind count t : ℕ) (bodies : List (List ℕ)) (sent : List SetUnit) (ids : List ℕ) (takes : TakeSlots count (length bodies) t sent (aps_of_body kind bodies) ids) (own : AreOnce bodies) where
+  held_or_not : (k : ℕ) → IsHeld count (length bodies) t sent (aps_of_body kind bodies) k ⊎ (¬ IsHeld count (length bodies) t sent (aps_of_body kind bodies) k)
+  held_or_not k = elim (found_below (λ i. serves t (aps_of_body kind bodies k i) (last_of (aps_of_body kind bodies k i) sent)) count) [
     | inl found ↦ inl found
     | inr none ↦ inr (λ is. none is.0 is.1 is.2)
   ]
 
-  free : (k : ℕ) → TakesFree count (length bodies) t sent (aps_at kind bodies) ids k (slice_index ids k) → ¬ IsTaken count (length bodies) t sent (aps_at kind bodies) ids k (slice_index ids k)
+  free : (k : ℕ) → TakesFree count (length bodies) t sent (aps_of_body kind bodies) ids k (slice_index ids k) → ¬ IsTaken count (length bodies) t sent (aps_of_body kind bodies) ids k (slice_index ids k)
   free k (inl fresh) = fresh.breaks.1
   free k (inr (none, low)) = low.breaks
 
   -- one slot doesn't hold two bodies
-  not_both : (j k : ℕ) → j < k → k < length bodies → slice_index ids j ≡ slice_index ids k → IsHeld count (length bodies) t sent (aps_at kind bodies) j
-      → IsHeld count (length bodies) t sent (aps_at kind bodies) k → ⊥
+  not_both : (j k : ℕ) → j < k → k < length bodies → slice_index ids j ≡ slice_index ids k → IsHeld count (length bodies) t sent (aps_of_body kind bodies) j
+      → IsHeld count (length bodies) t sent (aps_of_body kind bodies) k → ⊥
   not_both j k less within same first second =
       let id : ℕ = slice_index ids k in
       let at_j = (takes.held j (omega (arith, less, within)) first).breaks in
       let at_k = (takes.held k within second).breaks in
-      let here : serves t (aps_at kind bodies j id) (last_of (aps_at kind bodies j id) sent) ≡ true = subst (λ i. serves t (aps_at kind bodies j i) (last_of (aps_at kind bodies j i) sent) ≡ true) same at_j in
-      let alike : last_of (aps_at kind bodies j id) sent ≡ last_of (aps_at kind bodies k id) sent =
-      last_alike (aps_at kind bodies j id) (aps_at kind bodies k id) sent (rw (eq-eqb kind kind refl, eq-eqb id id refl) refl) in
-      own j k less within (one_body t kind id (slice_index_or bodies j []) (slice_index_or bodies k []) (last_of (aps_at kind bodies k id) sent) (ap (serves t (aps_at kind bodies j id)) (sym alike) ∙ here) at_k)
+      let here : serves t (aps_of_body kind bodies j id) (last_of (aps_of_body kind bodies j id) sent) ≡ true = subst (λ i. serves t (aps_of_body kind bodies j i) (last_of (aps_of_body kind bodies j i) sent) ≡ true) same at_j in
+      let alike : last_of (aps_of_body kind bodies j id) sent ≡ last_of (aps_of_body kind bodies k id) sent =
+      last_alike (aps_of_body kind bodies j id) (aps_of_body kind bodies k id) sent (rw (eq-eqb kind kind refl, eq-eqb id id refl) refl) in
+      own j k less within (one_body t kind id (slice_index_or bodies j []) (slice_index_or bodies k []) (last_of (aps_of_body kind bodies k id) sent) (ap (serves t (aps_of_body kind bodies j id)) (sym alike) ∙ here) at_k)
 
   pub own_ids : AreApart ids
   own_ids j k less within same =

@@ -21,13 +21,13 @@ use Rattle.vx_write.specs.Units.{IsSeiUnit}
 use Rattle.vx_merge.specs.declared.corner.Corner.{Corner}
 use Rattle.vx_merge.specs.declared.needed.RoundSets.{RoundSets}
 use Rattle.vx_merge.specs.declared.output.Made.{Made}
-use Rattle.vx_merge.specs.Headers.{IsFront, IsSlice, sourced}
-use Rattle.vx_merge.specs.Needed.{Ids, TakeIds, needed_sets}
+use Rattle.vx_merge.specs.Headers.{IsFront, IsMergedSlice, sourced}
+use Rattle.vx_merge.specs.Needed.{Ids, TakeIds, sets_of_round}
 use Rattle.vx_merge.specs.Rounds.{picture_at}
-use Rattle.vx_merge.specs.Shapes.{IsFrame, pps_shape, sps_shape}
+use Rattle.vx_merge.specs.Shapes.{IsFrame, frame_pps_shape, frame_sps_shape}
 use Rattle.vx_bits.specs.Codes.{AreBytes}
 use Rattle.vx_merge.specs.Written.{IsMerged}
-use Rattle.vx_merge.specs.inner.Making.{AreHeaders, IsMade, joined, payload_of, payloads_in, size_of, slice_units, units_made}
+use Rattle.vx_merge.specs.inner.Making.{AreHeaders, IsMade, with_payloads, payload_of, payloads_in, size_of, slice_units, units_made}
 use Rattle.vx_merge.specs.inner.Ready.{AreNeeded, IsReadyAt, ids_in}
 use Rattle.vx_merge.proofs.Limiting.{next_item}
 
@@ -57,8 +57,8 @@ own_payload x = payload_of x.1
 -- slices with these fronts
 pub record HaveFronts (round : List Parts) (ids : Ids) (nal_type : ℕ) (b : Begun) (xs : List (ℕ × SlicePart)) (fronts : List (List ℕ)) : Type 0 where
   pub slices : List Slice
-  pub each : AllZip (λ x w. IsSlice round ids nal_type b x.0 x.1 w) xs slices
-  pub units : map (λ s. s.unit) slices ≡ joined fronts (map own_payload xs)
+  pub each : AllZip (λ x w. IsMergedSlice round ids nal_type b x.0 x.1 w) xs slices
+  pub units : map (λ s. s.unit) slices ≡ with_payloads fronts (map own_payload xs)
 
 slices_made : (round : List Parts) (ids : Ids) (nal_type : ℕ) (b : Begun) (xs : List (ℕ × SlicePart)) (fronts : List (List ℕ))
     → AllZip (λ x front. IsFront round ids nal_type b x.0 x.1 front) xs fronts → HaveFronts round ids nal_type b xs fronts
@@ -72,7 +72,7 @@ slices_made round ids nal_type b (x ∷ xs) (f ∷ fronts) fronts_are =
       unit = f ++ payload_of x.1;
       header = record { fields = is.header.fields; subpic = is.header.subpic; payload = length f };
     } in
-    let one : IsSlice round ids nal_type b x.0 x.1 w = record { front = f; is = is; read = refl; unit = refl } in
+    let one : IsMergedSlice round ids nal_type b x.0 x.1 w = record { front = f; is = is; read = refl; unit = refl } in
     record { slices = w ∷ more.slices; each = (one, more.each); units = ap (λ us. (f ++ payload_of x.1) ∷ us) more.units }
 
 -- the payload of one slice more
@@ -143,7 +143,7 @@ pub record IsDone (corners : List Corner) (level : Option ℕ) (round : List Par
   pub needed : AreNeeded corners level round frame (kept_for (picture_at round 0).kind.nal_type history) n
   pub eos : m.after_eos ≡ (picture_at round 0).kind.after_eos
   pub headers : AreHeaders round n frame m.header.items (map (λ u. u.items) m.fronts.items)
-  pub sent : AreSent (picture_at round 0).kind.temporal_id (kept_for (picture_at round 0).kind.nal_type history) (needed_sets round (ids_in n) n.sps.now n.pps.now) slots
+  pub sent : AreSent (picture_at round 0).kind.temporal_id (kept_for (picture_at round 0).kind.nal_type history) (sets_of_round round (ids_in n) n.sps.now n.pps.now) slots
       (map (λ u. u.items) m.sets.items)
   pub sei : IsSeiUnit (picture_at round 0).kind.temporal_id (picture_at round 0).messages (option_map (λ u. record { unit = u.items; messages = (picture_at round 0).messages }) m.sei)
   pub payloads : map (λ b. b.now) m.payloads ≡ flat_map payloads_in round
@@ -166,7 +166,7 @@ module _ (corners : List Corner) (level : Option ℕ) (round : List Parts) (hist
     more = more;
   }
 
-  is_merged : (first : Slice) (more : List Slice) → AllZip (λ x w. IsSlice round (ids_in n) own.kind.nal_type made.headers.begun x.0 x.1 w) (sourced 0 round) (first ∷ more)
+  is_merged : (first : Slice) (more : List Slice) → AllZip (λ x w. IsMergedSlice round (ids_in n) own.kind.nal_type made.headers.begun x.0 x.1 w) (sourced 0 round) (first ∷ more)
       → (done : List Plan) → history_of done ≡ history → AllByRecursion AreBytes (units_of (plan first more)) → IsMerged corners level round done (plan first more)
   is_merged first more each done same bytes =
       let b = made.headers.begun in
@@ -176,17 +176,17 @@ module _ (corners : List Corner) (level : Option ℕ) (round : List Parts) (hist
         kind = refl;
         temporal_id = made.headers.temporal_id;
         frame = subst (IsFrame corners round) layout made.frame_is;
-        sps = subst (sps_reshaped.IsReshaped own.sps (sps_shape corners round level)) (sym made.headers.sps) made.needed.sps;
+        sps = subst (sps_reshaped.IsReshapedSps own.sps (frame_sps_shape corners round level)) (sym made.headers.sps) made.needed.sps;
         ids = ids_in n;
         plain = made.needed.plain;
-        plain_is = subst (λ l. pps_reshaped.IsReshaped own.pps (pps_shape corners round l 0) made.needed.plain) layout made.needed.plain_is;
+        plain_is = subst (λ l. pps_reshaped.IsReshapedPps own.pps (frame_pps_shape corners round l 0) made.needed.plain) layout made.needed.plain_is;
         taken = subst (λ h. TakeIds round own.kind.temporal_id h made.needed.plain (ids_in n)) back made.needed.taken;
-        pps = subst (pps_reshaped.IsReshaped own.pps (pps_shape corners round b.layout n.pps_id)) (sym made.headers.pps)
-            (subst (λ l. pps_reshaped.IsReshaped own.pps (pps_shape corners round l n.pps_id) n.pps.now) layout made.needed.pps);
+        pps = subst (pps_reshaped.IsReshapedPps own.pps (frame_pps_shape corners round b.layout n.pps_id)) (sym made.headers.pps)
+            (subst (λ l. pps_reshaped.IsReshapedPps own.pps (frame_pps_shape corners round l n.pps_id) n.pps.now) layout made.needed.pps);
         header = made.headers.header;
         slices = each;
         needed = made.sent.needed;
-        sets = made.sent.of ∙ (ap (λ s. needed_sets round (ids_in n) s n.pps.now) (sym made.headers.sps) ∙ ap (needed_sets round (ids_in n) b.sps) (sym made.headers.pps));
+        sets = made.sent.of ∙ (ap (λ s. sets_of_round round (ids_in n) s n.pps.now) (sym made.headers.sps) ∙ ap (sets_of_round round (ids_in n) b.sps) (sym made.headers.pps));
         units = made.sent.spelled;
         sent = ap (λ h. filter (λ x. not (is_resident own.kind.temporal_id h x)) made.sent.needed) back;
         sei = made.sei;
@@ -197,7 +197,7 @@ module _ (corners : List Corner) (level : Option ℕ) (round : List Parts) (hist
   have = slices_made round (ids_in n) own.kind.nal_type made.headers.begun (sourced 0 round) (map (λ u. u.items) m.fronts.items) made.headers.slices
 
   units_are : map (λ s. s.unit) have.slices ≡ slice_units m
-  units_are = have.units ∙ ap (joined (map (λ u. u.items) m.fronts.items)) (all_payloads 0 round ∙ sym made.payloads)
+  units_are = have.units ∙ ap (with_payloads (map (λ u. u.items) m.fronts.items)) (all_payloads 0 round ∙ sym made.payloads)
 
   units_made_of : (first : Slice) (more : List Slice) → map (λ s. s.unit) (first ∷ more) ≡ slice_units m → units_of (plan first more) ≡ units_made m
   units_made_of first more are =
@@ -207,7 +207,7 @@ module _ (corners : List Corner) (level : Option ℕ) (round : List Parts) (hist
       ∙ (ap (λ o. eos_units m.after_eos ++ (map (λ u. u.items) m.sets.items ++ (option_to_list (option_map (λ u. u.items) m.sei) ++ (option_to_list o ++ map (λ s. s.unit) (first ∷ more))))) made.headers.unit
       ∙ ap (λ us. eos_units m.after_eos ++ (map (λ u. u.items) m.sets.items ++ (option_to_list (option_map (λ u. u.items) m.sei) ++ (m.header.items ∷ us)))) are)))
 
-  plan_made : (first : Slice) (more : List Slice) → AllZip (λ x w. IsSlice round (ids_in n) own.kind.nal_type made.headers.begun x.0 x.1 w) (sourced 0 round) (first ∷ more)
+  plan_made : (first : Slice) (more : List Slice) → AllZip (λ x w. IsMergedSlice round (ids_in n) own.kind.nal_type made.headers.begun x.0 x.1 w) (sourced 0 round) (first ∷ more)
       → map (λ s. s.unit) (first ∷ more) ≡ slice_units m → IsMade corners level round history m slots
   plan_made first more each are = record {
     plan = plan first more;
@@ -219,11 +219,11 @@ module _ (corners : List Corner) (level : Option ℕ) (round : List Parts) (hist
     last = made.sent.held;
   }
 
-  by_slices : (slices : List Slice) → AllZip (λ x w. IsSlice round (ids_in n) own.kind.nal_type made.headers.begun x.0 x.1 w) (sourced 0 round) slices
+  by_slices : (slices : List Slice) → AllZip (λ x w. IsMergedSlice round (ids_in n) own.kind.nal_type made.headers.begun x.0 x.1 w) (sourced 0 round) slices
       → map (λ s. s.unit) slices ≡ slice_units m → IsMade corners level round history m slots
   by_slices [] each are =
       let some = some_sourced round made.some made.first in
-      let none = AllZip-long (λ x w. IsSlice round (ids_in n) own.kind.nal_type made.headers.begun x.0 x.1 w) (sourced 0 round) [] each in
+      let none = AllZip-long (λ x w. IsMergedSlice round (ids_in n) own.kind.nal_type made.headers.begun x.0 x.1 w) (sourced 0 round) [] each in
       absurd (omega (arith, some, none))
   by_slices (first ∷ more) each are = plan_made first more each are
 

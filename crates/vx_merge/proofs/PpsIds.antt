@@ -3,7 +3,7 @@ use Rattle.std.proofs.Common.{◌≡◌, ℕ, ◌<◌, List, [], ◌∷◌, slic
 use Rattle.std.specs.Prelude.{unwrap_or}
 use Rattle.vx_bits.specs.declared.list.Item.{Item}
 use Rattle.vx_fit.specs.Lowest.{IsLowest, IsLowestAnswer}
-use Rattle.vx_pps.specs.Pps.{IsItems}
+use Rattle.vx_pps.specs.Pps.{ArePpsItems}
 use Rattle.vx_pic.specs.Resident.{last_of}
 use Rattle.vx_pic.specs.Written.{Set, a_pps, SetUnit}
 use Rattle.vx_write.specs.Slots.{AreLastOf, Sent, a_pps_of, is_vacant, pps_with_id}
@@ -12,7 +12,7 @@ use Rattle.vx_write.proofs.Vacant.{none_sent_there, vacant_alike, vacant_there}
 use Rattle.vx_merge.specs.Slots.{Holds, IsHeld, IsTaken, TakeSlots, TakesFree, pps_slots}
 use Rattle.vx_merge.specs.inner.Taking.{IsEmptyPps, IsHeldAs}
 
-module _ (slots : List Sent) (t : ℕ) (pps : List Item) (is : IsItems pps) (sent : List SetUnit) (last : AreLastOf sent slots) where
+module _ (slots : List Sent) (t : ℕ) (pps : List Item) (is : ArePpsItems pps) (sent : List SetUnit) (last : AreLastOf sent slots) where
   abbrev at : ℕ → ℕ → Set
   at = λ k id. a_pps (pps_with_id id pps)
 

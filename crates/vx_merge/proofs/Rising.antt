@@ -9,14 +9,14 @@ use Rattle.vx_pic.specs.Resident.{same_slot}
 use Rattle.vx_pic.specs.Written.{Set, an_aps}
 use Rattle.vx_write.specs.Sending.{AreOthers}
 use Rattle.vx_write.proofs.SetBySet.{append_others}
-use Rattle.vx_merge.specs.Needed.{by_ids, with_id}
+use Rattle.vx_merge.specs.Needed.{by_ids, sets_with_id}
 use Rattle.vx_merge.specs.inner.Sending.{AreApart, AreOfOthers, CanEnd}
 use Rattle.vx_merge.specs.inner.Taking.{an_aps_of}
 use Rattle.vx_merge.proofs.Assigning.{slot_as}
 
 -- ---- of one id
 
-pub with_none : (kind : ℕ) (bodies : List (List ℕ)) (ids : List ℕ) (id : ℕ) → ((k : ℕ) → k < length ids → slice_index ids k ≢ id) → with_id kind bodies ids id ≡ []
+pub with_none : (kind : ℕ) (bodies : List (List ℕ)) (ids : List ℕ) (id : ℕ) → ((k : ℕ) → k < length ids → slice_index ids k ≢ id) → sets_with_id kind bodies ids id ≡ []
 with_none kind [] ids id none = refl
 with_none kind (b ∷ bodies) [] id none = refl
 with_none kind (b ∷ bodies) (i ∷ ids) id none =
@@ -24,12 +24,12 @@ with_none kind (b ∷ bodies) (i ∷ ids) id none =
     rw other (with_none kind bodies ids id (λ k less. none (suc k) (omega (arith, less))))
 
 pub with_one : (kind : ℕ) (bodies : List (List ℕ)) (ids : List ℕ) (id k : ℕ) → length ids ≡ length bodies → k < length ids → slice_index ids k ≡ id → AreApart ids
-    → with_id kind bodies ids id ≡ an_aps (record { kind = kind; id = id; body = slice_index_or bodies k [] }) ∷ []
+    → sets_with_id kind bodies ids id ≡ an_aps (record { kind = kind; id = id; body = slice_index_or bodies k [] }) ∷ []
 with_one kind bodies [] id k same within is apart = absurd (omega (arith, within))
 with_one kind [] (i ∷ ids) id k same within is apart = absurd (omega (arith, same))
 with_one kind (b ∷ bodies) (i ∷ ids) id zero same within is apart =
     let here : (i == id) ≡ true = eq-eqb i id is in
-    let rest : with_id kind bodies ids id ≡ [] = with_none kind bodies ids id (λ k less at. apart 0 (suc k) (omega arith) (omega (arith, less)) (is ∙ sym at)) in
+    let rest : sets_with_id kind bodies ids id ≡ [] = with_none kind bodies ids id (λ k less at. apart 0 (suc k) (omega arith) (omega (arith, less)) (is ∙ sym at)) in
     rw here (ap (λ xs. an_aps (record { kind = kind; id = id; body = b }) ∷ xs) rest)
 with_one kind (b ∷ bodies) (i ∷ ids) id (suc k) same within is apart =
     let other : (i == id) ≡ false = ne_eqb i id (λ at. apart 0 (suc k) (omega arith) within (at ∙ sym is)) in
@@ -45,7 +45,7 @@ others_as kind id body (x ∷ sets) others = (slot_as x kind id body ∙ others.
 apart_slots : (kind other i id : ℕ) (body : List ℕ) → ((kind == other) && (i == id)) ≡ false → same_slot (an_aps (record { kind = kind; id = i; body = body })) (an_aps_of other id) ≡ false
 apart_slots kind other i id body is = is
 
-with_others : (kind other i id : ℕ) (bodies : List (List ℕ)) (ids : List ℕ) → ((kind == other) && (i == id)) ≡ false → AreOthers (an_aps_of other id) (with_id kind bodies ids i)
+with_others : (kind other i id : ℕ) (bodies : List (List ℕ)) (ids : List ℕ) → ((kind == other) && (i == id)) ≡ false → AreOthers (an_aps_of other id) (sets_with_id kind bodies ids i)
 with_others kind other i id [] ids is = tt
 with_others kind other i id (b ∷ bodies) [] is = tt
 with_others kind other i id (b ∷ bodies) (x ∷ ids) is = elim (cases_Bool (x == i)) [
@@ -54,10 +54,10 @@ with_others kind other i id (b ∷ bodies) (x ∷ ids) is = elim (cases_Bool (x 
 ]
 
 pub rise_others : (kind other id : ℕ) (bodies : List (List ℕ)) (ids : List ℕ) (a n : ℕ) → ((i : ℕ) → i < a + n → ((kind == other) && (i == id)) ≡ false)
-    → AreOthers (an_aps_of other id) (flat_map (with_id kind bodies ids) (range_with_len a n))
+    → AreOthers (an_aps_of other id) (flat_map (sets_with_id kind bodies ids) (range_with_len a n))
 rise_others kind other id bodies ids a zero apart = tt
 rise_others kind other id bodies ids a (suc n) apart =
-    append_others (an_aps_of other id) (with_id kind bodies ids a) (flat_map (with_id kind bodies ids) (range_with_len (a + 1) n))
+    append_others (an_aps_of other id) (sets_with_id kind bodies ids a) (flat_map (sets_with_id kind bodies ids) (range_with_len (a + 1) n))
     (with_others kind other a id bodies ids (apart a (omega arith)))
     (rise_others kind other id bodies ids (a + 1) n (λ i less. apart i (omega (arith, less))))
 
@@ -66,7 +66,7 @@ and_false true = refl
 and_false false = refl
 
 -- those of lower ids
-pub lower_others : (kind id : ℕ) (bodies : List (List ℕ)) (ids : List ℕ) → AreOthers (an_aps_of kind id) (flat_map (with_id kind bodies ids) (range_with_len 0 id))
+pub lower_others : (kind id : ℕ) (bodies : List (List ℕ)) (ids : List ℕ) → AreOthers (an_aps_of kind id) (flat_map (sets_with_id kind bodies ids) (range_with_len 0 id))
 lower_others kind id bodies ids = rise_others kind kind id bodies ids 0 id (λ i less.
     let other : (i == id) ≡ false = ne_eqb i id (λ same. omega (arith, less, same)) in
     ap (λ b. (kind == kind) && b) other ∙ and_false (kind == kind))

@@ -47,7 +47,7 @@ use Rattle.vx_merge.specs.Regions.{corners_in, ctb_of, layout_of, layouts_in, pl
 use Rattle.vx_merge.specs.Rounds.{no_picture, picture_at}
 use Rattle.vx_merge.specs.Rules.{crosses_slices, crosses_tiles, differing_number, filter_flags, has_slices, has_tiles, kept_pps, kept_sps, of_field, of_source, pps_tools, profile_fields, profile_of, rules_of, rules_of_fit, rules_of_frame, rules_of_sets, several_subpictures, sps_tools, tile_lines, too_many_slices}
 use Rattle.vx_merge.specs.Shapes as shapes
-use Rattle.vx_merge.specs.Shapes.{IsFrame, dpb_of, greatest, latency_of, least, level_of, of_lowest, offsets_at, pps_shape, sps_shape, window_of}
+use Rattle.vx_merge.specs.Shapes.{IsFrame, frame_dpb, greatest, latency_of, least, frame_level, of_lowest, offsets_at, frame_pps_shape, frame_sps_shape, frame_window}
 use Rattle.vx_merge.specs.Verdict.{IsVerdict, Rule}
 use Rattle.vx_merge.specs.inner.Found.{Finds}
 use Rattle.vx_merge.specs.inner.Joined.{CanBeJoined, HasShapes, IsFrameOf}
@@ -73,7 +73,7 @@ layouts_sets : (round : List Parts) → layouts_in (map sets_of round) ≡ layou
 layouts_sets [] = refl
 layouts_sets (q ∷ round) = ap (λ ls. layout_of q ∷ ls) (layouts_sets round)
 
-numbers_sets : (of : ℕ) (round : List Parts) → shapes.numbers_in (map sets_of round) of ≡ shapes.numbers_in round of
+numbers_sets : (of : ℕ) (round : List Parts) → shapes.numbers_in_round (map sets_of round) of ≡ shapes.numbers_in_round round of
 numbers_sets of [] = refl
 numbers_sets of (q ∷ round) = ap (λ ns. number q.sps of ∷ ns) (numbers_sets of round)
 
@@ -99,7 +99,7 @@ lowest_sets has f none same_has same_f (q ∷ round) =
     ∙ (ap (λ x. cond (has q) x (of_lowest has f none (map sets_of round))) (same_f q)
     ∙ ap (λ x. cond (has q) (f q) x) (lowest_sets has f none same_has same_f round))
 
-window_sets : (placed : List Placed) (round : List Parts) → window_of placed (map sets_of round) ≡ window_of placed round
+window_sets : (placed : List Placed) (round : List Parts) → frame_window placed (map sets_of round) ≡ frame_window placed round
 window_sets placed round =
     let left = offsets_sets (λ p. p.x == 0) sps.sps_conf_win_left_offset placed round in
     let right = offsets_sets (λ p. p.x + p.w == frame_width placed) sps.sps_conf_win_right_offset placed round in
@@ -107,12 +107,12 @@ window_sets placed round =
     let bottom = offsets_sets (λ p. p.y + p.h == frame_height placed) sps.sps_conf_win_bottom_offset placed round in
     ap₂ (λ (a : ℕ) (b : List ℕ). a ∷ b) (ap least left) (ap₂ (λ (a : ℕ) (b : List ℕ). a ∷ b) (ap least right) (ap₂ (λ (a b : List ℕ). least a ∷ least b ∷ []) top bottom))
 
-dpb_sets : (round : List Parts) → dpb_of (map sets_of round) ≡ dpb_of round
+dpb_sets : (round : List Parts) → frame_dpb (map sets_of round) ≡ frame_dpb round
 dpb_sets round =
     ap₂ (λ (a b : List ℕ). greatest a ∷ b) (numbers_sets dpb.dpb_max_dec_pic_buffering_minus1 round)
     (ap₂ (λ (a b : List ℕ). greatest a ∷ latency_of b ∷ []) (numbers_sets dpb.dpb_max_num_reorder_pics round) (numbers_sets dpb.dpb_max_latency_increase_plus1 round))
 
-level_sets : (level : Option ℕ) (round : List Parts) → level_of (map sets_of round) level ≡ level_of round level
+level_sets : (level : Option ℕ) (round : List Parts) → frame_level (map sets_of round) level ≡ frame_level round level
 level_sets level round = ap (λ ns. unwrap_or level (greatest ns)) (numbers_sets general_level_idc round)
 
 -- ---- of sets that are kept
@@ -150,8 +150,8 @@ module _ (kept round : List Parts) (same : HaveSameSets kept round) where
   regions : (corners : List Corner) → corners_in corners kept ≡ corners_in corners round
   regions corners = ap₂ (λ (size : ℕ) (ps : List Placed). map (in_ctus size) ps) ctb (placed corners)
 
-  window : (corners : List Corner) → window_of (placed_in corners kept) kept ≡ window_of (placed_in corners round) round
-  window corners = ap (λ ps. window_of ps kept) (placed corners) ∙ told (window_of (placed_in corners round)) (window_sets (placed_in corners round))
+  window : (corners : List Corner) → frame_window (placed_in corners kept) kept ≡ frame_window (placed_in corners round) round
+  window corners = ap (λ ps. frame_window ps kept) (placed corners) ∙ told (frame_window (placed_in corners round)) (window_sets (placed_in corners round))
 
   -- ---- shapes
 
@@ -159,13 +159,13 @@ module _ (kept round : List Parts) (same : HaveSameSets kept round) where
   sps_by ps edges level numbers areas =
       record { id = 0; width = frame_width ps; height = frame_height ps; window = edges; level = level; dpb = numbers; subpics = Many areas }
 
-  sps_same : (corners : List Corner) (level : Option ℕ) → sps_shape corners kept level ≡ sps_shape corners round level
+  sps_same : (corners : List Corner) (level : Option ℕ) → frame_sps_shape corners kept level ≡ frame_sps_shape corners round level
   sps_same corners level =
-      ap (λ ps. sps_by ps (window_of (placed_in corners kept) kept) (level_of kept level) (dpb_of kept) (corners_in corners kept)) (placed corners)
-      ∙ (ap (λ w. sps_by (placed_in corners round) w (level_of kept level) (dpb_of kept) (corners_in corners kept)) (window corners)
-      ∙ (ap (λ l. sps_by (placed_in corners round) (window_of (placed_in corners round) round) l (dpb_of kept) (corners_in corners kept)) (told (λ r. level_of r level) (level_sets level))
-      ∙ (ap (λ d. sps_by (placed_in corners round) (window_of (placed_in corners round) round) (level_of round level) d (corners_in corners kept)) (told dpb_of dpb_sets)
-      ∙ ap (λ s. sps_by (placed_in corners round) (window_of (placed_in corners round) round) (level_of round level) (dpb_of round) s) (regions corners))))
+      ap (λ ps. sps_by ps (frame_window (placed_in corners kept) kept) (frame_level kept level) (frame_dpb kept) (corners_in corners kept)) (placed corners)
+      ∙ (ap (λ w. sps_by (placed_in corners round) w (frame_level kept level) (frame_dpb kept) (corners_in corners kept)) (window corners)
+      ∙ (ap (λ l. sps_by (placed_in corners round) (frame_window (placed_in corners round) round) l (frame_dpb kept) (corners_in corners kept)) (told (λ r. frame_level r level) (level_sets level))
+      ∙ (ap (λ d. sps_by (placed_in corners round) (frame_window (placed_in corners round) round) (frame_level round level) d (corners_in corners kept)) (told frame_dpb dpb_sets)
+      ∙ ap (λ s. sps_by (placed_in corners round) (frame_window (placed_in corners round) round) (frame_level round level) (frame_dpb round) s) (regions corners))))
 
   abbrev pps_by : Numbers → ℕ → List Placed → ℕ → Bool → Bool → Parts → PpsShape
   pps_by frame id ps size tiles slices q = record {
@@ -183,7 +183,7 @@ module _ (kept round : List Parts) (same : HaveSameSets kept round) where
     merged = true;
   }
 
-  pps_same : (corners : List Corner) (frame : Numbers) (id : ℕ) → pps_shape corners kept frame id ≡ pps_shape corners round frame id
+  pps_same : (corners : List Corner) (frame : Numbers) (id : ℕ) → frame_pps_shape corners kept frame id ≡ frame_pps_shape corners round frame id
   pps_same corners frame id =
       let tiles : List Parts → Bool = of_lowest has_tiles crosses_tiles false in
       let slices : List Parts → Bool = of_lowest has_slices crosses_slices false in
@@ -215,9 +215,9 @@ module _ (kept round : List Parts) (same : HaveSameSets kept round) where
 
   shapes_too : (corners : List Corner) (frame : Numbers) → HasShapes corners kept frame → HasShapes corners round frame
   shapes_too corners frame has = record {
-    sps = λ level. subst (λ s. sps_reshaped.IsShape (ctb_of round) s) (sps_same corners level) (subst (λ n. sps_reshaped.IsShape n (sps_shape corners kept level)) ctb (has.sps level));
+    sps = λ level. subst (λ s. sps_reshaped.IsShape (ctb_of round) s) (sps_same corners level) (subst (λ n. sps_reshaped.IsShape n (frame_sps_shape corners kept level)) ctb (has.sps level));
     pps = λ id low. subst (λ s. pps_reshaped.IsShape (picture_at round 0).pps s) (pps_same corners frame id)
-        (subst (λ p. pps_reshaped.IsShape p (pps_shape corners kept frame id)) first_pps (has.pps id low));
+        (subst (λ p. pps_reshaped.IsShape p (frame_pps_shape corners kept frame id)) first_pps (has.pps id low));
     layout = has.layout;
     limits = has.limits;
   }
@@ -242,8 +242,8 @@ module _ (kept round : List Parts) (same : HaveSameSets kept round) where
 
   pps_too : (corners : List Corner) (frame : Numbers) (id : ℕ) (items : List Item) → IsPpsFor corners kept frame id items → IsPpsFor corners round frame id items
   pps_too corners frame id items is =
-      subst (λ shape. pps_reshaped.IsReshaped (picture_at round 0).pps shape items) (pps_same corners frame id)
-      (subst (λ first. pps_reshaped.IsReshaped first (pps_shape corners kept frame id) items) first_pps is)
+      subst (λ shape. pps_reshaped.IsReshapedPps (picture_at round 0).pps shape items) (pps_same corners frame id)
+      (subst (λ first. pps_reshaped.IsReshapedPps first (frame_pps_shape corners kept frame id) items) first_pps is)
 
   renamed_too : (corners : List Corner) (frame : Numbers) (renamed : Option RenamedPps) → IfSome renamed (λ r. IsPpsFor corners kept frame r.id r.pps)
       → IfSome renamed (λ r. IsPpsFor corners round frame r.id r.pps)
@@ -256,8 +256,8 @@ module _ (kept round : List Parts) (same : HaveSameSets kept round) where
     frame = framed_too corners s.frame is.frame;
     made = record { can = can; fit = fit_too corners is.made.fit; is = frame_too corners s.frame.numbers is.made.is; are = are };
     layout = is.layout;
-    sps = subst (λ shape. sps_reshaped.IsReshaped (picture_at round 0).sps shape s.sps) (sps_same corners level)
-        (subst (λ items. sps_reshaped.IsReshaped items (sps_shape corners kept level) s.sps) first_sps is.sps);
+    sps = subst (λ shape. sps_reshaped.IsReshapedSps (picture_at round 0).sps shape s.sps) (sps_same corners level)
+        (subst (λ items. sps_reshaped.IsReshapedSps items (frame_sps_shape corners kept level) s.sps) first_sps is.sps);
     plain = pps_too corners s.frame.numbers 0 s.plain is.plain;
     renamed = renamed_too corners s.frame.numbers s.renamed is.renamed;
   }

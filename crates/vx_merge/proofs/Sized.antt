@@ -22,7 +22,7 @@ use Rattle.vx_fit.specs.Sources.{IsSized}
 use Rattle.vx_sps.specs.Depends as sps_kept
 use Rattle.vx_sps.specs.Set.{ctb_size_of}
 use Rattle.vx_sps.specs.Subpictures.{subpics_of}
-use Rattle.vx_pps.specs.Sets.{SetsTellPartitions}
+use Rattle.vx_pps.specs.laws.Sets.{SetsTellPartitions}
 use Rattle.vx_pic.specs.Parts.{Parts}
 use Rattle.vx_pic.proofs.PictureSizes.{both_sizes, small_sides}
 use Rattle.vx_pic.proofs.Sizes.{has_sides}
@@ -48,12 +48,12 @@ in_range corner q is are =
     }
 
 -- the CTU size is a kept field
-pub same_ctb : (s t : List Item) → sps_kept.kept_of s ≡ sps_kept.kept_of t → ctb_size_of s ≡ ctb_size_of t
+pub same_ctb : (s t : List Item) → sps_kept.kept_sps_items s ≡ sps_kept.kept_sps_items t → ctb_size_of s ≡ ctb_size_of t
 unfolding fresh
 same_ctb s t same =
     let one : number s sps_log2_ctu_size_minus5 ≡ number t sps_log2_ctu_size_minus5 =
-    number_of_shown (set_of sps_kept.kept) sps_log2_ctu_size_minus5 s refl
-    ∙ (ap (λ items. number items sps_log2_ctu_size_minus5) same ∙ sym (number_of_shown (set_of sps_kept.kept) sps_log2_ctu_size_minus5 t refl)) in
+    number_of_shown (set_of sps_kept.kept_sps_fields) sps_log2_ctu_size_minus5 s refl
+    ∙ (ap (λ items. number items sps_log2_ctu_size_minus5) same ∙ sym (number_of_shown (set_of sps_kept.kept_sps_fields) sps_log2_ctu_size_minus5 t refl)) in
     ap (λ n. 2 ^ (n + 5)) one
 
 -- the one subpicture of a picture is all of it

@@ -24,49 +24,49 @@ use Rattle.vx_ph.proofs.Renaming.{filter_goes_again}
 use Rattle.vx_ph.proofs.Same.{same_kept_agree}
 use Rattle.vx_ph.proofs.Sets.{in_force_length, of_pps, of_sps}
 use Rattle.vx_sh.specs.declared.header.SliceHeader.{SliceHeader as SliceValue}
-use Rattle.vx_sh.specs.Filter.{SliceHasFilter}
+use Rattle.vx_sh.specs.laws.Filter.{SliceHasFilter}
 use Rattle.vx_sh.proofs.SameScopes.{pps_told, sps_told}
 use Rattle.vx_sh.proofs.Scopes.{slice_scopes_are_whole}
 use Rattle.vx_pic.specs.Parts.{IsReadAt, Parts, read_of}
 use Rattle.vx_pic.specs.Resident.{same_bytes}
 use Rattle.vx_pic.specs.Sets.{filter_items}
-use Rattle.vx_pic.specs.UnderSets.{at_sets}
+use Rattle.vx_sh.specs.InForce.{at_sets}
 use Rattle.vx_pic.specs.Written.{Set, SetUnit}
-use Rattle.vx_merge.specs.Needed.{id_of}
+use Rattle.vx_merge.specs.Needed.{id_of_body}
 use Rattle.vx_merge.specs.Slots.{IsHeld, TakeSlots}
 
 -- ---- the id of a body
 
 id_at : (bodies : List (List ℕ)) (ids : List ℕ) (body : List ℕ) (i : ℕ) (b : List ℕ) → slice_get bodies i ≡ Some b → i < length ids
-    → id_of (drop i bodies) (drop i ids) body ≡ cond (same_bytes b body) (slice_index ids i)
-    (id_of (drop (suc i) bodies) (drop (suc i) ids) body)
+    → id_of_body (drop i bodies) (drop i ids) body ≡ cond (same_bytes b body) (slice_index ids i)
+    (id_of_body (drop (suc i) bodies) (drop (suc i) ids) body)
 id_at [] ids body i b at short = absurd (none-some b at)
 id_at (x ∷ bodies) [] body i b at short = absurd (omega (arith, short))
-id_at (x ∷ bodies) (n ∷ ids) body zero b at short = ap (λ z. cond (same_bytes z body) n (id_of bodies ids body))
+id_at (x ∷ bodies) (n ∷ ids) body zero b at short = ap (λ z. cond (same_bytes z body) n (id_of_body bodies ids body))
     (ap (λ o. unwrap_or o x) at)
 id_at (x ∷ bodies) (n ∷ ids) body (suc i) b at short = id_at bodies ids body i b at (omega (arith, short))
 
 pub id_found : (bodies : List (List ℕ)) (ids : List ℕ) (body : List ℕ) (i : ℕ) (b : List ℕ) → slice_get bodies i ≡ Some b
     → i < length ids → same_bytes b body ≡ true
-    → id_of (drop i bodies) (drop i ids) body ≡ id_of bodies ids body → slice_index ids i ≡ id_of bodies ids body
+    → id_of_body (drop i bodies) (drop i ids) body ≡ id_of_body bodies ids body → slice_index ids i ≡ id_of_body bodies ids body
 id_found bodies ids body i b at short same is =
     sym (sym is ∙ (id_at bodies ids body i b at short ∙ ap (λ t. cond t (slice_index ids i)
-    (id_of (drop (suc i) bodies) (drop (suc i) ids) body)) same))
+    (id_of_body (drop (suc i) bodies) (drop (suc i) ids) body)) same))
 
 pub id_passed : (bodies : List (List ℕ)) (ids : List ℕ) (body : List ℕ) (i : ℕ) (b : List ℕ) → slice_get bodies i ≡ Some b
     → i < length ids → same_bytes b body ≡ false
-    → id_of (drop i bodies) (drop i ids) body ≡ id_of bodies ids body → id_of (drop (i + 1) bodies) (drop (i + 1) ids) body ≡ id_of
+    → id_of_body (drop i bodies) (drop i ids) body ≡ id_of_body bodies ids body → id_of_body (drop (i + 1) bodies) (drop (i + 1) ids) body ≡ id_of_body
     bodies ids body
 id_passed bodies ids body i b at short other is =
     let next : suc i ≡ i + 1 = omega arith in
-    let here : id_of (drop (suc i) bodies) (drop (suc i) ids) body ≡ id_of bodies ids body =
-    sym (ap (λ t. cond t (slice_index ids i) (id_of (drop (suc i) bodies) (drop (suc i) ids) body)) other)
+    let here : id_of_body (drop (suc i) bodies) (drop (suc i) ids) body ≡ id_of_body bodies ids body =
+    sym (ap (λ t. cond t (slice_index ids i) (id_of_body (drop (suc i) bodies) (drop (suc i) ids) body)) other)
     ∙ (sym (id_at bodies ids body i b at short) ∙ is) in
-    subst (λ n. id_of (drop n bodies) (drop n ids) body ≡ id_of bodies ids body) next here
+    subst (λ n. id_of_body (drop n bodies) (drop n ids) body ≡ id_of_body bodies ids body) next here
 
 pub id_none : (bodies : List (List ℕ)) (ids : List ℕ) (body : List ℕ) (i : ℕ) → length bodies ≤ i
-    → id_of (drop i bodies) (drop i ids) body ≡ id_of bodies ids body → 0 ≡ id_of bodies ids body
-id_none bodies ids body i past is = sym (ap (λ bs. id_of bs (drop i ids) body) (drop_all i bodies past)) ∙ is
+    → id_of_body (drop i bodies) (drop i ids) body ≡ id_of_body bodies ids body → 0 ≡ id_of_body bodies ids body
+id_none bodies ids body i past is = sym (ap (λ bs. id_of_body bs (drop i ids) body) (drop_all i bodies past)) ∙ is
 
 -- ---- it is below the number of ids
 
@@ -87,7 +87,7 @@ slots_low count n t sent at slots taken k short =
     ]
 
 pub id_low : (bodies : List (List ℕ)) (ids : List ℕ) (body : List ℕ) (count : ℕ) → 0 < count → ((k : ℕ) → k < length ids
-    → slice_index ids k < count) → id_of bodies ids body < count
+    → slice_index ids k < count) → id_of_body bodies ids body < count
 id_low [] ids body count some low = some
 id_low (b ∷ bodies) [] body count some low = some
 id_low (b ∷ bodies) (id ∷ ids) body count some low = elim (cases_Bool (same_bytes b body)) [

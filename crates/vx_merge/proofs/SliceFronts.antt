@@ -26,11 +26,11 @@ use Rattle.vx_ph.proofs.Same.{same_kept_agree}
 use Rattle.vx_sh.specs.declared.header.SliceHeader.{SliceHeader as SliceValue}
 use Rattle.vx_sh.specs.declared.numbers.SliceNumbers.{SliceNumbers}
 use Rattle.vx_sh.specs.declared.shape.ShShape.{ShShape}
-use Rattle.vx_sh.specs.Filter.{SliceHasFilter}
+use Rattle.vx_sh.specs.laws.Filter.{SliceHasFilter}
 use Rattle.vx_sh.specs.InForce.{in_force_at}
 use Rattle.vx_sh.specs.Reshaped as sh_reshaped
 use Rattle.vx_sh.specs.Reshaped.{AreSameForSlices, GoesAt, HaveSameSlices, IsSent, IsShape}
-use Rattle.vx_sh.specs.Value.{IsSpelling}
+use Rattle.vx_sh.specs.Value.{IsSliceHeaderSpelling}
 use Rattle.vx_sh.specs.Whole.{index_of}
 use Rattle.vx_pic.specs.declared.kind.Kind.{Kind}
 use Rattle.vx_pic.specs.Inputs.{body_of, is_used}
@@ -38,17 +38,17 @@ use Rattle.vx_pic.specs.Parts.{IsReadAt, Parts, SlicePart, read_of}
 use Rattle.vx_pic.specs.PictureLayout.{ids_of}
 use Rattle.vx_pic.specs.Readings.{Begun}
 use Rattle.vx_pic.specs.Sets.{filter_items, slice_qp}
-use Rattle.vx_pic.specs.UnderSets.{at_sets}
+use Rattle.vx_sh.specs.InForce.{at_sets}
 use Rattle.vx_write.specs.InForce.{AreInForce}
 use Rattle.vx_write.specs.Units.{IsUnitOf}
 use Rattle.vx_write.proofs.Sizes.{subpics_count}
 use Rattle.vx_merge.specs.declared.needed.RoundSets.{RoundSets}
 use Rattle.vx_merge.specs.Headers.{IsFront, SaysSlice, id_for, sourced}
-use Rattle.vx_merge.specs.Needed.{alf_bodies, id_of}
+use Rattle.vx_merge.specs.Needed.{alf_bodies, id_of_body}
 use Rattle.vx_merge.specs.Regions.{corners_in, layout_of}
 use Rattle.vx_merge.specs.Rounds.{no_picture, picture_at}
 use Rattle.vx_merge.specs.Rules.{kept_header, shared_kind}
-use Rattle.vx_merge.specs.Shapes.{sps_shape}
+use Rattle.vx_merge.specs.Shapes.{frame_sps_shape}
 use Rattle.vx_merge.specs.Slots.{alf_slots}
 use Rattle.vx_merge.specs.inner.Fronts.{HasShape, IsBegun, IsInForce, new_filter, new_id}
 use Rattle.vx_merge.specs.inner.Ready.{IsReady, ids_in}
@@ -170,7 +170,7 @@ module _ (round : List Parts) (n : RoundSets) (m : SliceNumbers) (are : IsInForc
       let count = regions_count in
       let few = few_round in
       subst (HaveIndices n.sps.now n.pps.now) regions_count
-      (have_indices (picture_at round 0).sps n.sps.now n.pps.now (sps_shape ready.corners round are.ready.0) (corners_in ready.corners round)
+      (have_indices (picture_at round 0).sps n.sps.now n.pps.now (frame_sps_shape ready.corners round are.ready.0) (corners_in ready.corners round)
       (picture_all AreInForce round 0 some_round ready.made.are).sps (ready.shapes.sps are.ready.0) ready.needed.sps refl
       (omega (arith, count, few)))
 
@@ -197,7 +197,7 @@ module _ (round : List Parts) (n : RoundSets) (m : SliceNumbers) (are : IsInForc
   filter_of_header q h = with_ids (id_for round (ids_in n) q) (filter_of (filter_items q.pps q.header.fields (read_of h)))
 
   new_is : (q : Parts) (h : SliceValue) → new_filter n.alf q h ≡ filter_of_header q h
-  new_is q h = ap (λ bs. with_ids (λ id. id_of bs n.alf.ids.items (unwrap_or (body_of q aps.ALF id) []))
+  new_is q h = ap (λ bs. with_ids (λ id. id_of_body bs n.alf.ids.items (unwrap_or (body_of q aps.ALF id) []))
       (filter_of (filter_items q.pps q.header.fields (read_of h)))) ready.needed.alf
 
   -- ---- a slice
@@ -219,12 +219,12 @@ module _ (round : List Parts) (n : RoundSets) (m : SliceNumbers) (are : IsInForc
     is_header = subst (λ s. IsHeader (structures s) (in_force s m.pps.now) m.header.now) (sym are.sps)
         (subst (λ p. IsHeader (structures n.sps.now) (in_force n.sps.now p) m.header.now) (sym are.pps) are.is)
 
-    fields_same : shown_items (set_of ph_kept.kept) m.header.now.fields ≡ shown_items (set_of ph_kept.kept) q.header.fields
+    fields_same : shown_items (set_of ph_kept.kept_ph_fields) m.header.now.fields ≡ shown_items (set_of ph_kept.kept_ph_fields) q.header.fields
     fields_same = are.says.fields.shown_ones ∙ sym alike_here.header
 
     lists_same : q.header.lists ≡ m.header.now.lists
     unfolding fresh
-    lists_same = header.lists ∙ (same_kept_agree q.sps q.pps m.sps.now m.pps.now kept).lists (set_of ph_kept.kept) q.header.fields
+    lists_same = header.lists ∙ (same_kept_agree q.sps q.pps m.sps.now m.pps.now kept).lists (set_of ph_kept.kept_ph_fields) q.header.fields
         m.header.now.fields refl (sym fields_same) ∙ sym is_header.lists
 
     same_header : AreSameForSlices q.header m.header.now
@@ -319,9 +319,9 @@ module _ (round : List Parts) (n : RoundSets) (m : SliceNumbers) (are : IsInForc
         shape = shape;
         says = says_slice s is;
         header = written.header;
-        reshaped = subst (λ x. sh_reshaped.IsReshaped x shape m written.header) (sym is) written.reshaped;
+        reshaped = subst (λ x. sh_reshaped.IsReshapedSliceHeader x shape m written.header) (sym is) written.reshaped;
         bytes = bytes;
-        spelled = subst (λ xs. IsSpelling (in_force_at m) written.header.fields xs bytes) (ap (λ x. x.fields) (sym begun.header))
+        spelled = subst (λ xs. IsSliceHeaderSpelling (in_force_at m) written.header.fields xs bytes) (ap (λ x. x.fields) (sym begun.header))
             written.spelled;
         made = subst (λ t. IsUnitOf (picture_at round 0).kind.nal_type t bytes front) (sym begun.temporal_id)
             (subst (λ (x : Kind). IsUnitOf x.nal_type x.temporal_id bytes front) kind_is made);

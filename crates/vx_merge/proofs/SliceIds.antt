@@ -12,10 +12,10 @@ use Rattle.vx_table.specs.Scope.{powers_below}
 use Rattle.vx_table.proofs.Numbers.{powers_least}
 use Rattle.vx_sps.specs.declared.shape.SpsShape.{SpsShape}
 use Rattle.vx_sps.specs.declared.shape.SubpicPlan.TheVariants.{Many}
-use Rattle.vx_sps.specs.Set.{IsItems, ctb_size_of}
-use Rattle.vx_sps.specs.Subpictures.{id_of, subpics_of}
-use Rattle.vx_sps.specs.Reread.{Says, Signals, count_in, described_in, explicit_in, id_in, id_len_in}
-use Rattle.vx_sps.specs.Reshaped.{IsReshaped, IsShape, id_bits}
+use Rattle.vx_sps.specs.Set.{AreSpsItems, ctb_size_of}
+use Rattle.vx_sps.specs.Subpictures.{sps_subpic_id_of, subpics_of}
+use Rattle.vx_sps.specs.laws.Reread.{Says, Signals, count_in, described_in, explicit_in, id_in_plan, id_len_in}
+use Rattle.vx_sps.specs.Reshaped.{IsReshapedSps, IsShape, id_bits}
 use Rattle.vx_sps.proofs.Says.{reshaped_says}
 use Rattle.vx_sps.proofs.Signals.{reshaped_signals}
 use Rattle.vx_sh.specs.Whole.{index_of}
@@ -61,8 +61,8 @@ pub record HaveIndices (sps pps : List Item) (n : ℕ) : Type 0 where
   pub index : (k : ℕ) → k < n → index_of k (ids_of sps pps) ≡ k
   pub bits : (k : ℕ) → k < n → k < 2 ^ (number sps fields.sps_subpic_id_len_minus1 + 1)
 
-module _ (source items pps : List Item) (shape : SpsShape) (rects : List Rect) (set : IsItems source)
-    (fits : IsShape (ctb_size_of source) shape) (is : IsReshaped source shape items)
+module _ (source items pps : List Item) (shape : SpsShape) (rects : List Rect) (set : AreSpsItems source)
+    (fits : IsShape (ctb_size_of source) shape) (is : IsReshapedSps source shape items)
     (plan : shape.subpics ≡ Many rects) (few : length rects ≤ 64) where
   pub signals : Signals shape items
   signals =
@@ -76,23 +76,23 @@ module _ (source items pps : List Item) (shape : SpsShape) (rects : List Rect) (
   counted : subpics_of items ≡ length rects
   counted = says.subpics ∙ ap (λ p. count_in p) plan
 
-  pub ids_are : ids_of items pps ≡ map (id_of items) (range_with_len 0 (length rects))
+  pub ids_are : ids_of items pps ≡ map (sps_subpic_id_of items) (range_with_len 0 (length rects))
   unfolding ids_of
   ids_are =
       let apart : are_in_pps items pps ≡ false = rw (signals.explicit ∙ ap (λ p. explicit_in p) plan) refl in
-      rw apart (ap (λ n. map (id_of items) (range_with_len 0 n)) counted)
+      rw apart (ap (λ n. map (sps_subpic_id_of items) (range_with_len 0 n)) counted)
 
-  pub own_id : (i : ℕ) → i < length rects → id_of items i ≡ i
-  own_id i short = says.id i (subst (λ p. i < count_in p) (sym plan) short) ∙ ap (λ p. id_in p i) plan
+  pub own_id : (i : ℕ) → i < length rects → sps_subpic_id_of items i ≡ i
+  own_id i short = says.id i (subst (λ p. i < count_in p) (sym plan) short) ∙ ap (λ p. id_in_plan p i) plan
 
   pub have_indices : HaveIndices items pps (length rects)
   have_indices = record {
     described = signals.described ∙ ap (λ p. described_in p) plan;
-    count = ap (λ xs. length xs) ids_are ∙ length-map-range_with_len (id_of items) 0 (length rects);
+    count = ap (λ xs. length xs) ids_are ∙ length-map-range_with_len (sps_subpic_id_of items) 0 (length rects);
     index = λ k short.
         let here : 0 + k ≡ k = omega arith in
-        ap (λ xs. index_of k xs) ids_are ∙ ap (λ j. index_of j (map (id_of items) (range_with_len 0 (length rects)))) (sym here)
-        ∙ index_at (id_of items) 0 (length rects) k short (λ i less. let same : 0 + i ≡ i = omega arith in rw same (own_id i less));
+        ap (λ xs. index_of k xs) ids_are ∙ ap (λ j. index_of j (map (sps_subpic_id_of items) (range_with_len 0 (length rects)))) (sym here)
+        ∙ index_at (sps_subpic_id_of items) 0 (length rects) k short (λ i less. let same : 0 + i ≡ i = omega arith in rw same (own_id i less));
     bits = λ k short.
         let some : 0 < id_bits (length rects) = omega arith in
         let more : number items fields.sps_subpic_id_len_minus1 ≡ id_bits (length rects) - 1 = signals.id_len ∙ ap (λ p. id_len_in p) plan in

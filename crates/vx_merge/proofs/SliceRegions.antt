@@ -9,7 +9,7 @@ use Rattle.vx_layout.specs.Bounds.{last}
 use Rattle.vx_layout.specs.Faults.{height, width}
 use Rattle.vx_layout.specs.Layouts.{HasLayout, no_rect, slice_at, slices_in, subpic_at}
 use Rattle.vx_layout.specs.Rects.{IsPart, fits}
-use Rattle.vx_layout.specs.Regions.{counted_from, cut, inner, region_of}
+use Rattle.vx_layout.specs.Regions.{counted_from, cut_bounds, inner, region_of}
 use Rattle.vx_layout.specs.Scan.{entries}
 use Rattle.vx_layout.proofs.Counted.{slice_at-region}
 use Rattle.vx_layout.proofs.Entries.{entries-empty, entries-is, rows_met}
@@ -18,7 +18,7 @@ use Rattle.vx_layout.proofs.Moving.{HasLayout-region, last-cut}
 use Rattle.vx_layout.proofs.Nested.{cut_nested, region_of-region}
 use Rattle.vx_fit.proofs.Merged.{frame-merged}
 use Rattle.vx_sh.specs.Reshaped.{HaveSameSlices}
-use Rattle.vx_sh.specs.Whole.{points_at, slices_at}
+use Rattle.vx_sh.specs.Whole.{points_at, num_slices_in_subpic}
 use Rattle.vx_pic.specs.Parts.{Parts}
 use Rattle.vx_merge.specs.declared.corner.Corner.{Corner}
 use Rattle.vx_merge.specs.Regions.{layout_of}
@@ -29,7 +29,7 @@ use Rattle.vx_merge.proofs.Joining.{corners_count}
 
 -- ---- entry points
 
-cut_length : (bounds : List ℕ) (from size : ℕ) → length (cut bounds from size) ≡ length (inner bounds from size) + 2
+cut_length : (bounds : List ℕ) (from size : ℕ) → length (cut_bounds bounds from size) ≡ length (inner bounds from size) + 2
 cut_length bounds from size = omega (
   arith,
   length-append (map (λ b. b - from) (inner bounds from size)) (size ∷ []),
@@ -39,15 +39,15 @@ cut_length bounds from size = omega (
 
 -- as many bounds pass through a rectangle of a region
 inner_same : (bounds : List ℕ) (from size at wide : ℕ) → from ≤ at → at + wide ≤ from + size
-    → length (inner (cut bounds from size) (at - from) wide) ≡ length (inner bounds at wide)
+    → length (inner (cut_bounds bounds from size) (at - from) wide) ≡ length (inner bounds at wide)
 inner_same bounds from size at wide behind inside =
     let there : from + (at - from) ≡ at = omega (arith, behind) in
-    let same : cut (cut bounds from size) (at - from) wide ≡ cut bounds at wide = cut_nested bounds from size (at - from) wide
-    (omega (arith, behind, inside)) ∙ ap (λ n. cut bounds n wide) there in
-    omega (arith, cut_length (cut bounds from size) (at - from) wide, cut_length bounds at wide, ap (λ xs. length xs) same)
+    let same : cut_bounds (cut_bounds bounds from size) (at - from) wide ≡ cut_bounds bounds at wide = cut_nested bounds from size (at - from) wide
+    (omega (arith, behind, inside)) ∙ ap (λ n. cut_bounds bounds n wide) there in
+    omega (arith, cut_length (cut_bounds bounds from size) (at - from) wide, cut_length bounds at wide, ap (λ xs. length xs) same)
 
 rows_same : (sync : Bool) (bounds : List ℕ) (from size at wide : ℕ) → from ≤ at → at + wide ≤ from + size
-    → rows_met sync (cut bounds from size) (at - from) wide ≡ rows_met sync bounds at wide
+    → rows_met sync (cut_bounds bounds from size) (at - from) wide ≡ rows_met sync bounds at wide
 unfolding rows_met
 rows_same true bounds from size at wide behind inside = refl
 rows_same false bounds from size at wide behind inside = ap (λ n. n + 1) (inner_same bounds from size at wide behind inside)
@@ -93,12 +93,12 @@ points_same n k m sync layout within short =
           | inr high ↦
               let some : 0 < r.w = omega (arith, wide) in
               let tall : 0 < r.h = omega (arith, high) in
-              let w_is : last (cut n.columns s.x s.w) ≡ s.w = last-cut n.columns s.x s.w in
-              let h_is : last (cut n.rows s.y s.h) ≡ s.h = last-cut n.rows s.y s.h in
+              let w_is : last (cut_bounds n.columns s.x s.w) ≡ s.w = last-cut n.columns s.x s.w in
+              let h_is : last (cut_bounds n.rows s.y s.h) ≡ s.h = last-cut n.rows s.y s.h in
               entries-is n.columns n.rows r sync layout.columns layout.rows some tall (omega (arith, inside, across))
               (omega (arith, inside, down))
               ∙ ap (λ c. (c + 1) * rows_met sync n.rows r.y r.h - 1) (sym (inner_same n.columns s.x s.w r.x r.w inside.0 inside.1))
-              ∙ ap (λ t. (length (inner (cut n.columns s.x s.w) (r.x - s.x) r.w) + 1) * t - 1)
+              ∙ ap (λ t. (length (inner (cut_bounds n.columns s.x s.w) (r.x - s.x) r.w) + 1) * t - 1)
               (sym (rows_same sync n.rows s.y s.h r.y r.h inside.2 inside.3))
               ∙ sym (to_slice ∙ entries-is (region_of n k).columns (region_of n k).rows (counted_from s r) sync region.columns
               region.rows some tall
@@ -123,7 +123,7 @@ choose_same true false true x y same then = absurd (true≢false (sym same))
 choose_same false a b x y same then = refl
 
 module _ (n : Numbers) (k : ℕ) (layout : HasLayout n) (within : k < length n.subpics) where
-  slices_same : slices_at n k ≡ slices_at (region_of n k) 0
+  slices_same : num_slices_in_subpic n k ≡ num_slices_in_subpic (region_of n k) 0
   slices_same =
       let here : nat_lt k (length n.subpics) ≡ true = lt-ltb k (length n.subpics) within in
       ap (λ b. cond b (length (slices_in n k)) 0) here ∙ sym (count_same n k)
@@ -132,12 +132,12 @@ module _ (n : Numbers) (k : ℕ) (layout : HasLayout n) (within : k < length n.s
       sync 0 address
   unfolding points_at
   points_at_same has_points sync address =
-      choose_same has_points (nat_lt address (slices_at n k)) (nat_lt address (slices_at (region_of n k) 0))
+      choose_same has_points (nat_lt address (num_slices_in_subpic n k)) (nat_lt address (num_slices_in_subpic (region_of n k) 0))
       (entries n.columns n.rows (slice_at n k address) sync)
       (entries (region_of n k).columns (region_of n k).rows (slice_at (region_of n k) 0 address) sync)
       (ap (λ m. nat_lt address m) slices_same)
       (λ low.
-      let short : address < slices_at (region_of n k) 0 = let less = ltb-true address (slices_at n k) low in subst (λ m. address < m)
+      let short : address < num_slices_in_subpic (region_of n k) 0 = let less = ltb-true address (num_slices_in_subpic n k) low in subst (λ m. address < m)
       slices_same less in
       let count = count_same n k in
       points_same n k address sync layout within (omega (arith, short, count)))
@@ -147,7 +147,7 @@ pub same_slices : (n m : Numbers) (j k : ℕ) → HasLayout n → HasLayout m �
     → region_of n j ≡ region_of m k
     → HaveSameSlices n j m k
 same_slices n m j k layout other within short same = record {
-  slices = slices_same n j layout within ∙ ap (λ r. slices_at r 0) same ∙ sym (slices_same m k other short);
+  slices = slices_same n j layout within ∙ ap (λ r. num_slices_in_subpic r 0) same ∙ sym (slices_same m k other short);
   points = λ has_points sync address. points_at_same n j layout within has_points sync address
       ∙ ap (λ r. points_at r has_points sync 0 address) same
       ∙ sym (points_at_same m k other short has_points sync address);

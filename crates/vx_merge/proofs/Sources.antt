@@ -11,9 +11,9 @@ use Rattle.vx_layout.specs.declared.numbers.Numbers.{Numbers}
 use Rattle.vx_layout.specs.declared.rect.Rect.{Rect}
 use Rattle.vx_layout.specs.Bounds.{last}
 use Rattle.vx_layout.specs.Faults.{height, width}
-use Rattle.vx_layout.specs.Laws.{RegionIsListable}
+use Rattle.vx_layout.specs.laws.Layouts.{RegionIsListable}
 use Rattle.vx_layout.specs.Layouts.{HasLayout, no_rect, subpic_at}
-use Rattle.vx_layout.specs.Rects.{IsPart, slices_of, whole_picture}
+use Rattle.vx_layout.specs.Rects.{IsPart, slices_of_subpicture, whole_picture}
 use Rattle.vx_layout.specs.Regions.{counted_from, region_of}
 use Rattle.vx_layout.specs.Shapes.{AreListable}
 use Rattle.vx_layout.proofs.Counting.{length-slices_of-le}
@@ -21,13 +21,13 @@ use Rattle.vx_layout.proofs.Holding.{same_rect}
 use Rattle.vx_layout.proofs.Moving.{last-cut}
 use Rattle.vx_fit.specs.declared.placed.FitFault.{FitFault}
 use Rattle.vx_fit.specs.FitFaults.{IsFitFault}
-use Rattle.vx_fit.specs.FitLaws.{FitFaultIsOne}
+use Rattle.vx_fit.specs.laws.Fitting.{FitFaultIsOne}
 use Rattle.vx_fit.specs.Placing.{in_ctus}
 use Rattle.vx_fit.specs.Sources.{IsSized, IsSource}
 use Rattle.vx_sps.specs.Set as sps
 use Rattle.vx_sps.specs.Subpictures.{subpics_of}
 use Rattle.vx_pps.specs.Pps as pps
-use Rattle.vx_pps.specs.Sets.{ReadSlicesAreListable, SetsTellPartitions}
+use Rattle.vx_pps.specs.laws.Sets.{ReadSlicesAreListable, SetsTellPartitions}
 use Rattle.vx_pic.specs.Parts.{Parts}
 use Rattle.vx_pic.specs.PictureLayout.{one_tile, subpictures_of}
 use Rattle.vx_write.specs.InForce.{AreInForce}
@@ -79,22 +79,22 @@ module _ (tells : SetsTellPartitions) (q : Parts) (are : AreInForce q) (one : su
   -- and where it isn't partitioned its one slice
   unparted : pps.is_partitioned q.pps ≡ false → q.layout.slices ≡ q.layout.subpics
   unparted none =
-      let all : Rect = whole_picture (sps.columns_of q.sps) (sps.rows_of q.sps) in
+      let all : Rect = whole_picture (sps.ctu_columns_of q.sps) (sps.ctu_rows_of q.sps) in
       let slices : q.layout.slices ≡ all ∷ [] =
-      ap (λ n. n.slices) are.numbers ∙ ap (λ b. cond b (unwrap_or (pps.slices_of q.pps) (subpictures_of q.sps)) (all ∷ [])) none in
-      let wide : width q.layout ≡ sps.columns_of q.sps =
-      ap (λ n. width n) are.numbers ∙ ap (λ b. last (cond b (pps.columns_of q.pps) (one_tile (sps.columns_of q.sps)))) none in
-      let high : height q.layout ≡ sps.rows_of q.sps =
-      ap (λ n. height n) are.numbers ∙ ap (λ b. last (cond b (pps.rows_of q.pps) (one_tile (sps.rows_of q.sps)))) none in
+      ap (λ n. n.slices) are.numbers ∙ ap (λ b. cond b (unwrap_or (pps.slice_list_of q.pps) (subpictures_of q.sps)) (all ∷ [])) none in
+      let wide : width q.layout ≡ sps.ctu_columns_of q.sps =
+      ap (λ n. width n) are.numbers ∙ ap (λ b. last (cond b (pps.tile_columns_of q.pps) (one_tile (sps.ctu_columns_of q.sps)))) none in
+      let high : height q.layout ≡ sps.ctu_rows_of q.sps =
+      ap (λ n. height n) are.numbers ∙ ap (λ b. last (cond b (pps.tile_rows_of q.pps) (one_tile (sps.ctu_rows_of q.sps)))) none in
       let whole : whole_picture (width q.layout) (height q.layout) ≡ all =
-      ap (λ w. whole_picture w (height q.layout)) wide ∙ ap (λ h. whole_picture (sps.columns_of q.sps) h) high in
+      ap (λ w. whole_picture w (height q.layout)) wide ∙ ap (λ h. whole_picture (sps.ctu_columns_of q.sps) h) high in
       let subpics : q.layout.subpics ≡ all ∷ [] = lone_item q.layout.subpics no_rect count ∙ ap (λ r. r ∷ []) (subpic_is ∙ whole) in
       slices ∙ sym subpics
 
   lone_listable : ReadSlicesAreListable → RegionIsListable → AreListable (layout_of q).columns (layout_of q).rows (layout_of q).slices
   lone_listable reads regions =
       elim (cases_Bool (pps.is_partitioned q.pps)) [
-        | inl is ↦ listable reads regions q 0 are (omega (arith, count)) is (pps.slices_of q.pps) refl
+        | inl is ↦ listable reads regions q 0 are (omega (arith, count)) is (pps.slice_list_of q.pps) refl
         | inr none ↦ subpics_listable q.layout 0 are.layout (unparted none) (omega (arith, count))
       ]
 
@@ -121,8 +121,8 @@ few_slices : (round : List Parts) → AllByRecursion IsKnown round
 few_slices [] known = omega arith
 few_slices (q ∷ round) known =
     let s : Rect = subpic_at q.layout 0 in
-    let own : length (layout_of q).slices ≡ length (slices_of q.layout.slices s) =
-    length-map (slices_of q.layout.slices s) (counted_from s) in
+    let own : length (layout_of q).slices ≡ length (slices_of_subpicture q.layout.slices s) =
+    length-map (slices_of_subpicture q.layout.slices s) (counted_from s) in
     let most = length-slices_of-le q.layout.slices s in
     let whole = known.0.whole in
     let more = few_slices round known.1 in

@@ -12,14 +12,14 @@ use Rattle.vx_annexb.specs.Laws.{written}
 use Rattle.vx_pic.specs.Parts.{Parts}
 use Rattle.vx_pic.specs.Resident.{history_of, units_written}
 use Rattle.vx_pic.specs.Rules.{unit_size}
-use Rattle.vx_pic.specs.Written.{Plan, slices_of, units_of}
+use Rattle.vx_pic.specs.Written.{Plan, planned_slices, units_of}
 use Rattle.vx_write.specs.Slots.{Sent}
 use Rattle.vx_write.specs.Writing.{Takes}
 use Rattle.vx_write.specs.declared.fault.WriteError.{WriteError}
 use Rattle.vx_write.specs.declared.fault.WriteError.TheVariants as errors
 use Rattle.vx_merge.specs.declared.corner.Corner.{Corner}
 use Rattle.vx_merge.specs.declared.output.Made.{Made}
-use Rattle.vx_merge.specs.Merging.{Checks, IsBarred, Merging, Passes, Writes}
+use Rattle.vx_merge.specs.Merging.{ChecksRound, IsBarred, Merging, Passes, WritesOneRound}
 use Rattle.vx_merge.specs.Rules.{rules_of}
 use Rattle.vx_merge.specs.Verdict.{IsVerdict}
 use Rattle.vx_bits.specs.Codes.{AreBytes}
@@ -53,7 +53,7 @@ module _ (corners : List Corner) (level : Option ℕ) (round : List Parts) (done
   limits : (answer : Option Refusal) → AreLimits m bytes answer → IsVerdict (length corners) (limits_of done made.plan) answer
   limits answer are =
       let n = length corners in
-      let size : ℕ = unit_size made.plan.begun.unit + sum_by (λ s. length s.unit) (slices_of made.plan) in
+      let size : ℕ = unit_size made.plan.begun.unit + sum_by (λ s. length s.unit) (planned_slices made.plan) in
       let total : ℕ = length (written (units_written (made.plan ∷ done))) in
       subst (λ us. IsVerdict n (limits_by us size total) answer) (sym made.units)
       (subst (λ k. IsVerdict n (limits_by (units_made m) k total) answer) (sym made.size)
@@ -81,30 +81,30 @@ module _ (corners : List Corner) (level : Option ℕ) (round : List Parts) (done
 
 -- ---- of what counts as written
 
-pub checks_counted : (round : List Parts) (done : List Plan) (x : Merging) (m : Made) → Counts round done x (Ok m) → Checks round done x (Ok tt)
+pub checks_counted : (round : List Parts) (done : List Plan) (x : Merging) (m : Made) → Counts round done x (Ok m) → ChecksRound round done x (Ok tt)
 checks_counted round done x m is = (is.0, is.1, is.2)
 
 pub writes_counted : (round : List Parts) (done : List Plan) (x : Merging) (m : Made) (a b : Option (List ℕ)) (k l : ℕ) → Counts round done x (Ok m)
-    → Takes a b k l (units_made m) (Ok tt) → Writes round done x a b k l (Ok tt)
+    → Takes a b k l (units_made m) (Ok tt) → WritesOneRound round done x a b k l (Ok tt)
 writes_counted round done x m a b k l is took =
     (took.faults, (is.0, is.1, subst (λ us. Appends a b (written us)) (sym is.3) took.ok, is.2))
 
 pub writes_front : (round : List Parts) (done : List Plan) (x : Merging) (m : Made) (a b : Option (List ℕ)) (k l : ℕ) (e : SinkFailed)
-    → Counts round done x (Ok m) → Takes a b k l (units_made m) (Err e) → Writes round done x a b k l (Err errors.SinkFailed)
+    → Counts round done x (Ok m) → Takes a b k l (units_made m) (Err e) → WritesOneRound round done x a b k l (Err errors.SinkFailed)
 writes_front round done x m a b k l e is took =
     (took.faults, (is.0, is.1, subst (λ us. AppendsFront a b (written us)) (sym is.3) took.err))
 
 -- nothing is written where it is refused
-unwritten : (round : List Parts) (done : List Plan) (x : Merging) (a : Option (List ℕ)) (k : ℕ) (e : WriteError) → Checks round done x (Err e)
-    → Writes round done x a a k k (Err e)
+unwritten : (round : List Parts) (done : List Plan) (x : Merging) (a : Option (List ℕ)) (k : ℕ) (e : WriteError) → ChecksRound round done x (Err e)
+    → WritesOneRound round done x a a k k (Err e)
 unwritten round done x a k errors.Memory is = (refl, refl)
 unwritten round done x a k errors.SinkFailed is = absurd is
 unwritten round done x a k (errors.Refused r) is = (refl, refl, is)
 unwritten round done x a k (errors.Stopped f) is = is
 
-pub writes_none : (round made : List Parts) (done : List Plan) (x : Merging) (a : Option (List ℕ)) (k : ℕ) (e : WriteError) → made ≡ round → Checks made done x (Err e)
-    → Writes round done x a a k k (Err e)
-writes_none round made done x a k e same is = unwritten round done x a k e (subst (λ r. Checks r done x (Err e)) same is)
+pub writes_none : (round made : List Parts) (done : List Plan) (x : Merging) (a : Option (List ℕ)) (k : ℕ) (e : WriteError) → made ≡ round → ChecksRound made done x (Err e)
+    → WritesOneRound round done x a a k k (Err e)
+writes_none round made done x a k e same is = unwritten round done x a k e (subst (λ r. ChecksRound r done x (Err e)) same is)
 
 -- ---- by what was asked for alone
 
@@ -120,7 +120,7 @@ other_refused round done x y r corners level is =
 
 -- after an error what counts as sent doesn't matter, nor how many bytes count as written
 pub writes_stopped : (round : List Parts) (done : List Plan) (x y : Merging) (a b : Option (List ℕ)) (k l : ℕ) (e : WriteError)
-    → y.corners ≡ x.corners → y.level ≡ x.level → Writes round done x a b k l (Err e) → Writes round done y a b k l (Err e)
+    → y.corners ≡ x.corners → y.level ≡ x.level → WritesOneRound round done x a b k l (Err e) → WritesOneRound round done y a b k l (Err e)
 writes_stopped round done x y a b k l errors.Memory corners level is = is
 writes_stopped round done x y a b k l errors.SinkFailed corners level is =
     let p = is.1.1 in
@@ -129,7 +129,7 @@ writes_stopped round done x y a b k l (errors.Refused r) corners level is = (is.
 writes_stopped round done x y a b k l (errors.Stopped f) corners level is = is
 
 pub checks_stopped : (round : List Parts) (done : List Plan) (x y : Merging) (e : WriteError) → y.corners ≡ x.corners → y.level ≡ x.level
-    → Checks round done x (Err e) → Checks round done y (Err e)
+    → ChecksRound round done x (Err e) → ChecksRound round done y (Err e)
 checks_stopped round done x y errors.Memory corners level is = is
 checks_stopped round done x y errors.SinkFailed corners level is = is
 checks_stopped round done x y (errors.Refused r) corners level is = other_refused round done x y r corners level is

@@ -66,17 +66,17 @@ abbrev pub names_one : SliceHeader → Bool
 names_one h = not (number_or 2 h.fields sh.sh_slice_type == 2)
 
 -- it stands in list 0 unless sh_collocated_from_l0_flag is 0, at sh_collocated_ref_idx
-abbrev pub list_of : Parts → SliceHeader → List RefEntry
-list_of q h =
+abbrev pub collocated_list : Parts → SliceHeader → List RefEntry
+collocated_list q h =
     cond (is_set (number_or 1 h.fields sh.sh_collocated_from_l0_flag)) (lists_in_force q h).first (lists_in_force q h).second
 
 abbrev pub collocated_of : Parts → SliceHeader → Collocated
-collocated_of q h = told_at (list_of q h) (number_or 0 h.fields sh.sh_collocated_ref_idx)
+collocated_of q h = told_at (collocated_list q h) (number_or 0 h.fields sh.sh_collocated_ref_idx)
 
 -- what a slice names, where it does
-abbrev pub named_by : Parts → SlicePart → List Collocated
-named_by q s = cond (may_name q && names_one s.header) (collocated_of q s.header ∷ []) []
+abbrev pub collocated_by : Parts → SlicePart → List Collocated
+collocated_by q s = cond (may_name q && names_one s.header) (collocated_of q s.header ∷ []) []
 
 -- those that slices of a picture name, in order
 abbrev pub collocated : Parts → List Collocated
-collocated q = flat_map (named_by q) q.slices
+collocated q = flat_map (collocated_by q) q.slices

@@ -9,24 +9,24 @@ use Rattle.vx_ph.specs.declared.shape.LmcsShape.{LmcsShape}
 use Rattle.vx_ph.specs.declared.shape.PhShape.{PhShape}
 use Rattle.vx_ph.specs.Filter.{filter_of, with_ids}
 use Rattle.vx_ph.specs.InForce.{in_force, structures}
-use Rattle.vx_ph.specs.Picture.{IsUnit}
+use Rattle.vx_ph.specs.Picture.{IsPictureHeaderUnit}
 use Rattle.vx_ph.specs.Reshaped as ph_reshaped
 use Rattle.vx_sh.specs.declared.header.SliceHeader.{SliceHeader as SliceValue}
 use Rattle.vx_sh.specs.declared.numbers.SliceNumbers.{SliceNumbers}
 use Rattle.vx_sh.specs.declared.shape.ShShape.{ShShape}
 use Rattle.vx_sh.specs.InForce.{in_force_at}
 use Rattle.vx_sh.specs.Reshaped as sh_reshaped
-use Rattle.vx_sh.specs.Value.{IsSpelling}
+use Rattle.vx_sh.specs.Value.{IsSliceHeaderSpelling}
 use Rattle.vx_pic.specs.declared.unit_types.TheConstants.{PH_NUT}
 use Rattle.vx_pic.specs.Inputs.{body_of, is_used}
 use Rattle.vx_pic.specs.Parts.{Parts, SlicePart, read_of}
 use Rattle.vx_pic.specs.PictureLayout.{ids_of}
 use Rattle.vx_pic.specs.Readings.{Begun, Slice}
 use Rattle.vx_pic.specs.Sets.{filter_items, signed, slice_qp}
-use Rattle.vx_pic.specs.UnderSets.{header_of}
+use Rattle.vx_pic.specs.UnderSets.{picture_header_of}
 use Rattle.vx_write.specs.Units.{IsUnitOf}
 use Rattle.vx_merge.specs.Bodies.{has_lmcs, is_chroma_scaled}
-use Rattle.vx_merge.specs.Needed.{Ids, alf_bodies, id_of}
+use Rattle.vx_merge.specs.Needed.{Ids, alf_bodies, id_of_body}
 use Rattle.vx_merge.specs.Rounds.{picture_at}
 use Rattle.vx_merge.specs.Shapes.{of_lowest}
 
@@ -45,19 +45,19 @@ ph_shape round ids = record {
 }
 
 -- The picture header says that, and all else as source 0's. It has a unit of its own.
-pub record HasHeader (round : List Parts) (ids : Ids) (b : Begun) : Type 0 where
-  pub says : ph_reshaped.IsReshaped (picture_at round 0).header (ph_shape round ids) b.sps b.pps (header_of b)
+pub record HasMergedHeader (round : List Parts) (ids : Ids) (b : Begun) : Type 0 where
+  pub says : ph_reshaped.IsReshapedPictureHeader (picture_at round 0).header (ph_shape round ids) b.sps b.pps (picture_header_of b)
   pub unit : List ℕ
   pub is : b.unit ≡ Some unit
   pub rbsp : List ℕ
-  pub spelled : IsUnit (structures b.sps) (in_force b.sps b.pps) (header_of b) rbsp
+  pub spelled : IsPictureHeaderUnit (structures b.sps) (in_force b.sps b.pps) (picture_header_of b) rbsp
   pub made : IsUnitOf PH_NUT b.temporal_id rbsp unit
 
 -- ---- slices
 
 -- the id that the set has in the written picture which a picture has as this one
 abbrev pub id_for : List Parts → Ids → Parts → ℕ → ℕ
-id_for round ids q id = id_of (alf_bodies round) ids.alf (unwrap_or (body_of q aps.ALF id) [])
+id_for round ids q id = id_of_body (alf_bodies round) ids.alf (unwrap_or (body_of q aps.ALF id) [])
 
 -- the adaptive loop filter in force in a slice, with these ids
 abbrev pub filter_in : List Parts → Ids → Parts → SlicePart → List Item
@@ -79,7 +79,7 @@ pub record AreNumbers (nal_type : ℕ) (b : Begun) (n : SliceNumbers) : Type 0 w
   pub type : n.nal_type ≡ nal_type
   pub sps : n.sps.now ≡ b.sps
   pub pps : n.pps.now ≡ b.pps
-  pub header : n.header.now ≡ header_of b
+  pub header : n.header.now ≡ picture_header_of b
   pub layout : n.layout.now ≡ b.layout
   pub ids : n.ids.now ≡ ids_of b.sps b.pps
 
@@ -90,13 +90,13 @@ pub record IsFront (round : List Parts) (ids : Ids) (nal_type : ℕ) (b : Begun)
   pub shape : ShShape
   pub says : SaysSlice round ids k s shape
   pub header : SliceValue
-  pub reshaped : sh_reshaped.IsReshaped s.header shape numbers header
+  pub reshaped : sh_reshaped.IsReshapedSliceHeader s.header shape numbers header
   pub bytes : List ℕ
-  pub spelled : IsSpelling (in_force_at numbers) header.fields b.header bytes
+  pub spelled : IsSliceHeaderSpelling (in_force_at numbers) header.fields b.header bytes
   pub made : IsUnitOf nal_type b.temporal_id bytes front
 
 -- And whole, with its payload as it stands.
-pub record IsSlice (round : List Parts) (ids : Ids) (nal_type : ℕ) (b : Begun) (k : ℕ) (s : SlicePart) (w : Slice) : Type 0 where
+pub record IsMergedSlice (round : List Parts) (ids : Ids) (nal_type : ℕ) (b : Begun) (k : ℕ) (s : SlicePart) (w : Slice) : Type 0 where
   pub front : List ℕ
   pub is : IsFront round ids nal_type b k s front
   pub read : w.header ≡ record { fields = is.header.fields; subpic = is.header.subpic; payload = length front }

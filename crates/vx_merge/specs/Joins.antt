@@ -8,14 +8,14 @@ use Rattle.vx_pic.specs.Written.{Plan}
 use Rattle.vx_write.specs.declared.fault.WriteError.{WriteError}
 use Rattle.vx_write.specs.declared.fault.WriteError.TheVariants as errors
 use Rattle.vx_merge.specs.declared.corner.Corner.{Corner}
-use Rattle.vx_merge.specs.Merging.{IsBarred, Merging, Writes}
+use Rattle.vx_merge.specs.Merging.{IsBarred, Merging, WritesOneRound}
 use Rattle.vx_merge.specs.Rounds.{picture_at}
 use Rattle.vx_merge.specs.Rules.{of_source}
 use Rattle.vx_merge.specs.Verdict.{Rule, IsVerdict}
 
 -- the same picture behind an end of sequence
-abbrev pub joined : Parts → Parts
-joined q = record q { kind = record q.kind { after_eos = true } }
+abbrev pub after_end_of_sequence : Parts → Parts
+after_end_of_sequence q = record q { kind = record q.kind { after_eos = true } }
 
 -- A picture that may come first behind a join: it starts a coded layer video sequence, at TemporalId 0, and later counts can go back to it
 -- (7.4.2.4.3, 8.3.1).
@@ -29,22 +29,22 @@ abbrev pub join_start : List Parts → Rule
 join_start round = of_source rules.JOIN_START (λ k. ¬ CanStart (picture_at round k))
 
 -- the verdict on a round that may be joined
-abbrev pub StartsAt : Bool → List Corner → List Parts → Option Refusal → Type 0
-StartsAt joins corners round verdict = IsVerdict (length corners) (cond joins (join_start round ∷ []) []) verdict
+abbrev pub JudgesJoin : Bool → List Corner → List Parts → Option Refusal → Type 0
+JudgesJoin joins corners round verdict = IsVerdict (length corners) (cond joins (join_start round ∷ []) []) verdict
 
 -- it can't be written behind others: its pictures can't begin there, or, where they can, for a rule or a limit
 abbrev pub IsBarredWhere : Bool → List Corner → Option ℕ → List Parts → List Plan → Refusal → Type 0
 IsBarredWhere joins corners level round done r =
-    StartsAt joins corners round (Some r) ⊎ (StartsAt joins corners round None × IsBarred corners level round done r)
+    JudgesJoin joins corners round (Some r) ⊎ (JudgesJoin joins corners round None × IsBarred corners level round done r)
 
 -- What is answered of a round that is joined behind others, its pictures being marked so, with the bytes and the count of faults of a sink
 -- before and after: as of any round, but that its pictures may begin there wherever something is written.
 abbrev pub WritesJoined : List Parts → List Plan → Merging → Option (List ℕ) → Option (List ℕ) → ℕ → ℕ → Result (Unit {0}) WriteError → Type 0
 WritesJoined round done new bytes bytes' faults faults' (Ok _) =
-    StartsAt true new.corners round None × Writes round done new bytes bytes' faults faults' (Ok tt)
+    JudgesJoin true new.corners round None × WritesOneRound round done new bytes bytes' faults faults' (Ok tt)
 WritesJoined round done new bytes bytes' faults faults' (Err (errors.Refused r)) =
     (bytes' ≡ bytes) × (faults' ≡ faults) × IsBarredWhere true new.corners new.level round done r
 WritesJoined round done new bytes bytes' faults faults' (Err errors.Memory) = (bytes' ≡ bytes) × (faults' ≡ faults)
 WritesJoined round done new bytes bytes' faults faults' (Err errors.SinkFailed) =
-    StartsAt true new.corners round None × Writes round done new bytes bytes' faults faults' (Err errors.SinkFailed)
+    JudgesJoin true new.corners round None × WritesOneRound round done new bytes bytes' faults faults' (Err errors.SinkFailed)
 WritesJoined round done new bytes bytes' faults faults' (Err (errors.Stopped first)) = ⊥

@@ -76,22 +76,22 @@ IsBarred corners level round done r = Judges corners round (Some r) ⊎ IsTooLon
 
 -- What is answered of a round behind others, which count as written: it passes, and counts so too; or a rule or a limit is broken; or memory
 -- ran out.
-abbrev pub Checks : List Parts → List Plan → Merging → Result (Unit {0}) WriteError → Type 0
-Checks round done new (Ok _) = (p : Plan) × Passes new.corners new.level round done p × Stands new (p ∷ done)
-Checks round done new (Err (errors.Refused r)) = IsBarred new.corners new.level round done r
-Checks round done new (Err errors.Memory) = Unit {0}
-Checks round done new (Err errors.SinkFailed) = ⊥
-Checks round done new (Err (errors.Stopped f)) = ⊥
+abbrev pub ChecksRound : List Parts → List Plan → Merging → Result (Unit {0}) WriteError → Type 0
+ChecksRound round done new (Ok _) = (p : Plan) × Passes new.corners new.level round done p × Stands new (p ∷ done)
+ChecksRound round done new (Err (errors.Refused r)) = IsBarred new.corners new.level round done r
+ChecksRound round done new (Err errors.Memory) = Unit {0}
+ChecksRound round done new (Err errors.SinkFailed) = ⊥
+ChecksRound round done new (Err (errors.Stopped f)) = ⊥
 
 -- What is answered of a round behind others, with the bytes and the count of faults of a sink before and after: it was written; or a rule
 -- or a limit is broken, and nothing was; or memory ran out before a byte was written; or a write failed, and a front of it is written.
-abbrev pub Writes : List Parts → List Plan → Merging → Option (List ℕ) → Option (List ℕ) → ℕ → ℕ → Result (Unit {0}) WriteError → Type 0
-Writes round done new bytes bytes' faults faults' (Ok _) =
+abbrev pub WritesOneRound : List Parts → List Plan → Merging → Option (List ℕ) → Option (List ℕ) → ℕ → ℕ → Result (Unit {0}) WriteError → Type 0
+WritesOneRound round done new bytes bytes' faults faults' (Ok _) =
     (faults' ≡ faults)
     × ((p : Plan) × Passes new.corners new.level round done p × Appends bytes bytes' (written (units_of p)) × Stands new (p ∷ done))
-Writes round done new bytes bytes' faults faults' (Err (errors.Refused r)) =
+WritesOneRound round done new bytes bytes' faults faults' (Err (errors.Refused r)) =
     (bytes' ≡ bytes) × (faults' ≡ faults) × IsBarred new.corners new.level round done r
-Writes round done new bytes bytes' faults faults' (Err errors.Memory) = (bytes' ≡ bytes) × (faults' ≡ faults)
-Writes round done new bytes bytes' faults faults' (Err errors.SinkFailed) =
+WritesOneRound round done new bytes bytes' faults faults' (Err errors.Memory) = (bytes' ≡ bytes) × (faults' ≡ faults)
+WritesOneRound round done new bytes bytes' faults faults' (Err errors.SinkFailed) =
     Rose faults faults' × ((p : Plan) × Passes new.corners new.level round done p × AppendsFront bytes bytes' (written (units_of p)))
-Writes round done new bytes bytes' faults faults' (Err (errors.Stopped f)) = ⊥
+WritesOneRound round done new bytes bytes' faults faults' (Err (errors.Stopped f)) = ⊥

@@ -25,8 +25,8 @@ abbrev pub scaling_bodies : List Parts → List (List ℕ)
 scaling_bodies round = option_to_list (of_lowest has_scaling scaling_body None round)
 
 -- the set of a type with this id, of the k-th body
-abbrev pub aps_at : ℕ → List (List ℕ) → ℕ → ℕ → Set
-aps_at kind bodies k id = an_aps (record { kind = kind; id = id; body = slice_index_or bodies k [] })
+abbrev pub aps_of_body : ℕ → List (List ℕ) → ℕ → ℕ → Set
+aps_of_body kind bodies k id = an_aps (record { kind = kind; id = id; body = slice_index_or bodies k [] })
 
 -- ---- ids
 
@@ -41,27 +41,27 @@ pub record Ids : Type 0 where
 -- each id.
 pub record TakeIds (round : List Parts) (t : ℕ) (sent : List SetUnit) (pps : List Item) (ids : Ids) : Type 0 where
   pub of_pps : TakeSlots pps_slots 1 t sent (λ k id. a_pps (pps_with_id id pps)) (ids.pps ∷ [])
-  pub of_alf : TakeSlots alf_slots (length (alf_bodies round)) t sent (aps_at aps.ALF (alf_bodies round)) ids.alf
-  pub of_lmcs : TakeSlots lmcs_slots (length (lmcs_bodies round)) t sent (aps_at aps.LMCS (lmcs_bodies round)) ids.lmcs
-  pub of_scaling : TakeSlots scaling_slots (length (scaling_bodies round)) t sent (aps_at aps.SCALING (scaling_bodies round)) ids.scaling
+  pub of_alf : TakeSlots alf_slots (length (alf_bodies round)) t sent (aps_of_body aps.ALF (alf_bodies round)) ids.alf
+  pub of_lmcs : TakeSlots lmcs_slots (length (lmcs_bodies round)) t sent (aps_of_body aps.LMCS (lmcs_bodies round)) ids.lmcs
+  pub of_scaling : TakeSlots scaling_slots (length (scaling_bodies round)) t sent (aps_of_body aps.SCALING (scaling_bodies round)) ids.scaling
 
 -- the id of a body among these
-abbrev pub id_of : List (List ℕ) → List ℕ → List ℕ → ℕ
-id_of (b ∷ bodies) (id ∷ ids) body = cond (same_bytes b body) id (id_of bodies ids body)
-id_of _ _ body = 0
+abbrev pub id_of_body : List (List ℕ) → List ℕ → List ℕ → ℕ
+id_of_body (b ∷ bodies) (id ∷ ids) body = cond (same_bytes b body) id (id_of_body bodies ids body)
+id_of_body _ _ body = 0
 
 -- ---- the sets
 
 -- those of a type, by rising id
-abbrev pub with_id : ℕ → List (List ℕ) → List ℕ → ℕ → List Set
-with_id kind bodies ids id = map (λ p. an_aps (record { kind = kind; id = id; body = p.0 })) (filter (λ p. p.1 == id) (zip bodies ids))
+abbrev pub sets_with_id : ℕ → List (List ℕ) → List ℕ → ℕ → List Set
+sets_with_id kind bodies ids id = map (λ p. an_aps (record { kind = kind; id = id; body = p.0 })) (filter (λ p. p.1 == id) (zip bodies ids))
 
 abbrev pub by_ids : ℕ → ℕ → List (List ℕ) → List ℕ → List Set
-by_ids kind count bodies ids = flat_map (with_id kind bodies ids) (range_with_len 0 count)
+by_ids kind count bodies ids = flat_map (sets_with_id kind bodies ids) (range_with_len 0 count)
 
 -- all: the SPS, the PPS, and adaptation parameter sets by rising type and id
-abbrev pub needed_sets : List Parts → Ids → (sps pps : List Item) → List Set
-needed_sets round ids sps pps =
+abbrev pub sets_of_round : List Parts → Ids → (sps pps : List Item) → List Set
+sets_of_round round ids sps pps =
     an_sps sps ∷ a_pps pps
     ∷ (by_ids aps.ALF alf_slots (alf_bodies round) ids.alf
     ++ (by_ids aps.LMCS lmcs_slots (lmcs_bodies round) ids.lmcs ++ by_ids aps.SCALING scaling_slots (scaling_bodies round) ids.scaling))

@@ -39,8 +39,8 @@ of_lowest has f none [] = none
 of_lowest has f none (q ∷ round) = cond (has q) (f q) (of_lowest has f none round)
 
 -- the numbers that their SPSs give a field
-abbrev pub numbers_in : List Parts → ℕ → List ℕ
-numbers_in round of = map (λ q. number q.sps of) round
+abbrev pub numbers_in_round : List Parts → ℕ → List ℕ
+numbers_in_round round of = map (λ q. number q.sps of) round
 
 -- ---- the SPS
 
@@ -49,8 +49,8 @@ abbrev pub offsets_at : (Placed → Bool) → ℕ → List Placed → List Parts
 offsets_at touches of placed round = map (λ r. number r.1.sps of) (filter (λ r. touches r.0) (zip placed round))
 
 -- left, right, top and bottom: the least of these
-abbrev pub window_of : List Placed → List Parts → List ℕ
-window_of placed round =
+abbrev pub frame_window : List Placed → List Parts → List ℕ
+frame_window placed round =
     least (offsets_at (λ p. p.x == 0) sps.sps_conf_win_left_offset placed round)
     ∷ least (offsets_at (λ p. p.x + p.w == frame_width placed) sps.sps_conf_win_right_offset placed round)
     ∷ least (offsets_at (λ p. p.y == 0) sps.sps_conf_win_top_offset placed round)
@@ -61,24 +61,24 @@ window_of placed round =
 abbrev pub latency_of : List ℕ → ℕ
 latency_of latencies = cond (list_any (λ n. n == 0) latencies) 0 (greatest latencies)
 
-abbrev pub dpb_of : List Parts → List ℕ
-dpb_of round =
-    greatest (numbers_in round dpb.dpb_max_dec_pic_buffering_minus1) ∷ greatest (numbers_in round dpb.dpb_max_num_reorder_pics)
-    ∷ latency_of (numbers_in round dpb.dpb_max_latency_increase_plus1) ∷ []
+abbrev pub frame_dpb : List Parts → List ℕ
+frame_dpb round =
+    greatest (numbers_in_round round dpb.dpb_max_dec_pic_buffering_minus1) ∷ greatest (numbers_in_round round dpb.dpb_max_num_reorder_pics)
+    ∷ latency_of (numbers_in_round round dpb.dpb_max_latency_increase_plus1) ∷ []
 
 -- the level that is asked for, or else the highest
-abbrev pub level_of : List Parts → Option ℕ → ℕ
-level_of round level = unwrap_or level (greatest (numbers_in round general_level_idc))
+abbrev pub frame_level : List Parts → Option ℕ → ℕ
+frame_level round level = unwrap_or level (greatest (numbers_in_round round general_level_idc))
 
 -- its id is 0; each region is a subpicture
-abbrev pub sps_shape : List Corner → List Parts → Option ℕ → SpsShape
-sps_shape corners round level = record {
+abbrev pub frame_sps_shape : List Corner → List Parts → Option ℕ → SpsShape
+frame_sps_shape corners round level = record {
   id = 0;
   width = frame_width (placed_in corners round);
   height = frame_height (placed_in corners round);
-  window = window_of (placed_in corners round) round;
-  level = level_of round level;
-  dpb = dpb_of round;
+  window = frame_window (placed_in corners round) round;
+  level = frame_level round level;
+  dpb = frame_dpb round;
   subpics = Many (corners_in corners round);
 }
 
@@ -90,8 +90,8 @@ pub record IsFrame (corners : List Corner) (round : List Parts) (frame : Numbers
   pub pictures : frame ≡ frame_of frame.columns frame.rows (corners_in corners round) (layouts_in round)
 
 -- of this id: loop filters cross the borders of tiles, and of slices, as in the lowest picture with several; the QP is source 0's
-abbrev pub pps_shape : List Corner → List Parts → Numbers → ℕ → PpsShape
-pps_shape corners round frame id = record {
+abbrev pub frame_pps_shape : List Corner → List Parts → Numbers → ℕ → PpsShape
+frame_pps_shape corners round frame id = record {
   id = id;
   sps_id = 0;
   width = frame_width (placed_in corners round);

@@ -11,14 +11,14 @@ use Rattle.vx_pps.specs.Reshaped as pps_reshaped
 use Rattle.vx_pic.specs.Parts.{Parts}
 use Rattle.vx_pic.specs.Resident.{is_resident, sent_before, units_written}
 use Rattle.vx_pic.specs.Rules.{picture_limit, unit_size}
-use Rattle.vx_pic.specs.Written.{Plan, SetUnit, slices_of, units_of}
+use Rattle.vx_pic.specs.Written.{Plan, SetUnit, planned_slices, units_of}
 use Rattle.vx_write.specs.Units.{IsSeiUnit, IsSetUnit}
 use Rattle.vx_merge.specs.declared.corner.Corner.{Corner}
-use Rattle.vx_merge.specs.Headers.{HasHeader, IsSlice, sourced}
-use Rattle.vx_merge.specs.Needed.{Ids, TakeIds, needed_sets}
+use Rattle.vx_merge.specs.Headers.{HasMergedHeader, IsMergedSlice, sourced}
+use Rattle.vx_merge.specs.Needed.{Ids, TakeIds, sets_of_round}
 use Rattle.vx_merge.specs.Rounds.{picture_at}
 use Rattle.vx_merge.specs.Rules.{of_limit}
-use Rattle.vx_merge.specs.Shapes.{IsFrame, pps_shape, sps_shape}
+use Rattle.vx_merge.specs.Shapes.{IsFrame, frame_pps_shape, frame_sps_shape}
 use Rattle.vx_merge.specs.Verdict.{Rule}
 
 -- ---- pictures
@@ -30,16 +30,16 @@ pub record IsMerged (corners : List Corner) (level : Option ℕ) (round : List P
   pub kind : p.kind ≡ (picture_at round 0).kind
   pub temporal_id : p.begun.temporal_id ≡ p.kind.temporal_id
   pub frame : IsFrame corners round p.begun.layout
-  pub sps : sps_reshaped.IsReshaped (picture_at round 0).sps (sps_shape corners round level) p.begun.sps
+  pub sps : sps_reshaped.IsReshapedSps (picture_at round 0).sps (frame_sps_shape corners round level) p.begun.sps
   pub ids : Ids
   pub plain : List Item
-  pub plain_is : pps_reshaped.IsReshaped (picture_at round 0).pps (pps_shape corners round p.begun.layout 0) plain
+  pub plain_is : pps_reshaped.IsReshapedPps (picture_at round 0).pps (frame_pps_shape corners round p.begun.layout 0) plain
   pub taken : TakeIds round p.kind.temporal_id (sent_before done p) plain ids
-  pub pps : pps_reshaped.IsReshaped (picture_at round 0).pps (pps_shape corners round p.begun.layout ids.pps) p.begun.pps
-  pub header : HasHeader round ids p.begun
-  pub slices : AllZip (λ x w. IsSlice round ids p.kind.nal_type p.begun x.0 x.1 w) (sourced 0 round) (slices_of p)
+  pub pps : pps_reshaped.IsReshapedPps (picture_at round 0).pps (frame_pps_shape corners round p.begun.layout ids.pps) p.begun.pps
+  pub header : HasMergedHeader round ids p.begun
+  pub slices : AllZip (λ x w. IsMergedSlice round ids p.kind.nal_type p.begun x.0 x.1 w) (sourced 0 round) (planned_slices p)
   pub needed : List SetUnit
-  pub sets : map (λ x. x.set) needed ≡ needed_sets round ids p.begun.sps p.begun.pps
+  pub sets : map (λ x. x.set) needed ≡ sets_of_round round ids p.begun.sps p.begun.pps
   pub units : AllByRecursion (λ x. IsSetUnit p.kind.temporal_id x.set x.unit) needed
   pub sent : p.sent ≡ filter (λ x. not (is_resident p.kind.temporal_id (sent_before done p) x)) needed
   pub sei : IsSeiUnit p.kind.temporal_id (picture_at round 0).messages p.sei
@@ -58,7 +58,7 @@ long_unit p = of_limit rules.LONG_UNIT (¬ AllByRecursion (λ u. length u ≤ un
 
 -- L2: its picture header and its slices have too many bytes.
 abbrev pub long_picture : Plan → Rule
-long_picture p = of_limit rules.LONG_PICTURE (picture_limit < unit_size p.begun.unit + sum_by (λ s. length s.unit) (slices_of p))
+long_picture p = of_limit rules.LONG_PICTURE (picture_limit < unit_size p.begun.unit + sum_by (λ s. length s.unit) (planned_slices p))
 
 -- L3: with it too many bytes are written in all.
 abbrev pub long_stream : List Plan → Plan → Rule

@@ -19,10 +19,6 @@ pub(crate) struct RoundBodies<'a> {
 }
 
 /// What the pictures of a round have of adaptation parameter sets.
-///
-/// # Errors
-///
-/// Want of memory.
 pub(crate) fn round_bodies<'a>(
     alloc: Global,
     round: &[Picture<'a>],

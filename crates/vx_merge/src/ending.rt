@@ -2,14 +2,14 @@
 ghost use Rattle.std.specs.Prelude.{ℕ, ◌<◌, ◌≤◌, length};
 ghost use Rattle.std.specs.Bool.{OnTrue, OnFalse};
 ghost use Rattle.vx_fit.specs.Lowest.{IsLowestAnswer};
-ghost use Rattle.vx_merge.specs.Ends.{GoesOn, HasEnded, IsLengths};
+ghost use Rattle.vx_merge.specs.Ends.{IsMarkedGoing, IsMarkedEnded, IsLengths};
 
 use crate::ended::Lengths;
 
 /// The lowest source that has ended.
 fn lowest_ended(ended: &[bool]) -> Option<u16>
     requires { length ended.now ≤ 65536 }
-    ensures { IsLowestAnswer (length ended.now) (HasEnded ended.now) result }
+    ensures { IsLowestAnswer (length ended.now) (IsMarkedEnded ended.now) result }
 {
     for k in 0..ended.len() {
         if ended[k] {
@@ -21,8 +21,8 @@ fn lowest_ended(ended: &[bool]) -> Option<u16>
 
 /// Whether a source goes on.
 fn some_goes_on(ended: &[bool]) -> bool
-    ensures some { OnTrue result ((j : ℕ) × ((j < length ended.now) × GoesOn ended.now j)) }
-    ensures none { OnFalse result ((k : ℕ) → k < length ended.now → HasEnded ended.now k) }
+    ensures some { OnTrue result ((j : ℕ) × ((j < length ended.now) × IsMarkedGoing ended.now j)) }
+    ensures none { OnFalse result ((k : ℕ) → k < length ended.now → IsMarkedEnded ended.now k) }
 {
     for k in 0..ended.len() {
         if !ended[k] {

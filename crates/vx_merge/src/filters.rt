@@ -117,10 +117,6 @@ fn are_too_many(bodies: &BodyList<'_>) -> bool
 }
 
 /// The bodies of the adaptive loop filters in force in the slices of a round.
-///
-/// # Errors
-///
-/// Want of memory.
 pub(crate) fn round_filters<'a>(
     alloc: Global,
     round: &[Picture<'a>],

@@ -54,10 +54,6 @@ fn placed_at(corner: Corner, picture: &Picture<'_>) -> Placed
 }
 
 /// The regions of the pictures at their corners.
-///
-/// # Errors
-///
-/// Want of memory.
 pub(crate) fn placed(
     alloc: Global,
     corners: &[Corner],
@@ -110,10 +106,6 @@ pub(crate) fn misfit(placed: &[Placed], ctb: u32) -> Option<Refusal>
 }
 
 /// The regions in CTUs.
-///
-/// # Errors
-///
-/// Want of memory.
 pub(crate) fn in_ctus(alloc: Global, placed: &[Placed], ctb: u32) -> Result<Vec<Rect>, AllocError>
     requires { 1 ≤ ctb }
     ensures { IfOk result (λ corners. corners.items ≡ map (placing.in_ctus ctb) placed.now) }
@@ -124,10 +116,6 @@ pub(crate) fn in_ctus(alloc: Global, placed: &[Placed], ctb: u32) -> Result<Vec<
 // ---- tile lines
 
 /// The layout of a picture's first subpicture.
-///
-/// # Errors
-///
-/// Want of memory.
 fn layout_of(alloc: Global, picture: &Picture<'_>) -> Result<Numbers, AllocError>
     ensures layout { IfOk result (λ layout. layout ≡ regions.layout_of picture.now) }
     ensures sets { AreInForce picture.now }
@@ -137,10 +125,6 @@ fn layout_of(alloc: Global, picture: &Picture<'_>) -> Result<Numbers, AllocError
 }
 
 /// The layouts of the pictures.
-///
-/// # Errors
-///
-/// Want of memory.
 pub(crate) fn layouts(alloc: Global, round: &[Picture<'_>]) -> Result<Vec<Numbers>, AllocError>
     ensures layouts { IfOk result (λ layouts. layouts.items ≡ regions.layouts_in round.now) }
     ensures sets { OnOk result (All AreInForce round.now) }
@@ -164,10 +148,6 @@ fn named_region(error: LineError) -> Result<Option<u16>, AllocError>
 }
 
 /// The lowest region through which tile lines don't pass as they should.
-///
-/// # Errors
-///
-/// Want of memory.
 fn lowest_crossed(
     alloc: Global,
     corners: &[Rect],
@@ -186,10 +166,6 @@ fn lowest_crossed(
 }
 
 /// Whether tile lines of the frame don't pass through a region as its own do.
-///
-/// # Errors
-///
-/// Want of memory.
 pub(crate) fn tile_lines(
     alloc: Global,
     placed: &[Placed],

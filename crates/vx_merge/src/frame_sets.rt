@@ -36,10 +36,6 @@ fn copied_bounds(alloc: Global, bounds: &Bounds) -> Result<Bounds, AllocError>
 }
 
 /// The numbers of a frame once more.
-///
-/// # Errors
-///
-/// Want of memory.
 pub(crate) fn copied_numbers(alloc: Global, numbers: &Numbers) -> Result<Numbers, AllocError>
     ensures { IfOk result (λ copy. copy ≡ numbers.now) }
 {
@@ -56,10 +52,6 @@ pub(crate) fn copied_numbers(alloc: Global, numbers: &Numbers) -> Result<Numbers
 }
 
 /// What the SPS says.
-///
-/// # Errors
-///
-/// Want of memory.
 fn sps_shape(
     alloc: Global,
     round: &[Picture<'_>],
@@ -67,7 +59,7 @@ fn sps_shape(
     level: Option<u8>,
 ) -> Result<SpsShape, AllocError>
     requires { IsSomeFrame round.now frame.now }
-    ensures { IfOk result (λ shape. OfFrame round.now frame.now (λ corners. shape ≡ spec.sps_shape corners round.now level)) }
+    ensures { IfOk result (λ shape. OfFrame round.now frame.now (λ corners. shape ≡ spec.frame_sps_shape corners round.now level)) }
 {
     let placed = frame.placed.as_slice();
     let regions = copied(alloc, &frame.numbers.subpics)?;
@@ -83,10 +75,6 @@ fn sps_shape(
 }
 
 /// The SPS for a frame, at a level, or at the highest of its pictures.
-///
-/// # Errors
-///
-/// Want of memory.
 pub(crate) fn frame_sps(
     alloc: Global,
     round: &[Picture<'_>],
@@ -94,17 +82,13 @@ pub(crate) fn frame_sps(
     level: Option<u8>,
 ) -> Result<Sps, AllocError>
     requires { IsSomeFrame round.now frame.now }
-    ensures { IfOk result (λ sps. OfFrame round.now frame.now (λ corners. sps_reshaped.IsReshaped (picture_at round.now 0).sps (spec.sps_shape corners round.now level) sps)) }
+    ensures { IfOk result (λ sps. OfFrame round.now frame.now (λ corners. sps_reshaped.IsReshapedSps (picture_at round.now 0).sps (spec.frame_sps_shape corners round.now level) sps)) }
 {
     let shape = sps_shape(alloc, round, frame, level)?;
     reshape_sps(alloc, round[0].sps(), &shape)
 }
 
 /// What the PPS of an id says.
-///
-/// # Errors
-///
-/// Want of memory.
 fn pps_shape(
     alloc: Global,
     round: &[Picture<'_>],
@@ -112,7 +96,7 @@ fn pps_shape(
     id: u8,
 ) -> Result<PpsShape, AllocError>
     requires { IsSomeFrame round.now frame.now }
-    ensures { IfOk result (λ shape. OfFrame round.now frame.now (λ corners. shape ≡ spec.pps_shape corners round.now frame.now.numbers id)) }
+    ensures { IfOk result (λ shape. OfFrame round.now frame.now (λ corners. shape ≡ spec.frame_pps_shape corners round.now frame.now.numbers id)) }
 {
     let layouts = frame.layouts.as_slice();
     let columns = copied_bounds(alloc, &frame.numbers.columns)?;
@@ -135,10 +119,6 @@ fn pps_shape(
 }
 
 /// The PPS of an id for a frame.
-///
-/// # Errors
-///
-/// Want of memory.
 pub(crate) fn frame_pps(
     alloc: Global,
     round: &[Picture<'_>],
@@ -147,7 +127,7 @@ pub(crate) fn frame_pps(
 ) -> Result<Pps, AllocError>
     requires frame { IsSomeFrame round.now frame.now }
     requires id { id < 64 }
-    ensures { IfOk result (λ pps. OfFrame round.now frame.now (λ corners. pps_reshaped.IsReshaped (picture_at round.now 0).pps (spec.pps_shape corners round.now frame.now.numbers id) pps)) }
+    ensures { IfOk result (λ pps. OfFrame round.now frame.now (λ corners. pps_reshaped.IsReshapedPps (picture_at round.now 0).pps (spec.frame_pps_shape corners round.now frame.now.numbers id) pps)) }
 {
     let shape = pps_shape(alloc, round, frame, id)?;
     reshape_pps(alloc, round[0].pps(), &shape)

@@ -89,10 +89,6 @@ fn fronts_at(
 }
 
 /// The units of the slices of all pictures up to their payloads, by source and then by address.
-///
-/// # Errors
-///
-/// Want of memory.
 pub(crate) fn slice_fronts(
     alloc: Global,
     round: &[Picture<'_>],
@@ -102,7 +98,7 @@ pub(crate) fn slice_fronts(
     ids: &IdList,
 ) -> Result<Vec<Vec<u8>>, AllocError>
     requires ready { IsReadyAt round.now needed.now layout.now }
-    requires says { ph_reshaped.IsReshaped (picture_at round.now 0).header (ph_shape round.now (ids_in needed.now)) needed.now.sps.now needed.now.pps.now header.now }
+    requires says { ph_reshaped.IsReshapedPictureHeader (picture_at round.now 0).header (ph_shape round.now (ids_in needed.now)) needed.now.sps.now needed.now.pps.now header.now }
     requires is { IsHeader (structures needed.now.sps.now) (in_force needed.now.sps.now needed.now.pps.now) header.now }
     requires ids { ids.now ≡ ids_of needed.now.sps.now needed.now.pps.now }
     ensures { (b : Begun) → IsBegun round.now needed.now header.now layout.now b

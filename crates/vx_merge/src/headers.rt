@@ -201,7 +201,7 @@ fn has_other_scaling(round: &[Picture<'_>], lowest: Option<u16>, k: usize) -> bo
 
 /// The kept fields of a picture's header, which are of these.
 fn kept_header(alloc: Global, picture: &Picture<'_>, fields: &Scope) -> Result<Kept, AllocError>
-    requires { fields.now ≡ set_of header_kept.kept }
+    requires { fields.now ≡ set_of header_kept.kept_ph_fields }
     ensures { IfOk result (λ kept. kept ≡ rules.kept_header picture.now) }
 {
     let kept = kept_among(alloc, &picture.header().fields, fields)?;
@@ -215,7 +215,7 @@ fn kept_header_field(
     fields: &Scope,
     first: &Kept,
 ) -> Result<Option<u16>, AllocError>
-    requires { fields.now ≡ set_of header_kept.kept }
+    requires { fields.now ≡ set_of header_kept.kept_ph_fields }
     ensures { IfOk result (λ field. field ≡ differing (rules.kept_header picture.now) first.now) }
 {
     let own = kept_header(alloc, picture, fields)?;
@@ -232,7 +232,7 @@ fn header_field(
     k: usize,
 ) -> Result<Option<u16>, AllocError>
     requires k { k < length round.now }
-    requires fields { fields.now ≡ set_of header_kept.kept }
+    requires fields { fields.now ≡ set_of header_kept.kept_ph_fields }
     requires first { first.now ≡ rules.kept_header (picture_at round.now 0) }
     requires lowest { IsLowestWith bodies.has_lmcs round.now lowest }
     ensures { IfOk result (TellsField (rules.picture_header round.now).breaks (rules.header_field round.now) k) }
@@ -289,10 +289,6 @@ fn lowest_other_header(
 }
 
 /// Whether a source has another header.
-///
-/// # Errors
-///
-/// Want of memory.
 pub(crate) fn picture_header(
     alloc: Global,
     round: &[Picture<'_>],

@@ -5,7 +5,7 @@ ghost use Rattle.vx_fit.specs.Lowest.{IsLowestAnswer};
 ghost use Rattle.vx_pic.specs.Written.{SetUnit};
 ghost use Rattle.vx_write.specs.Slots as sent_sets;
 ghost use Rattle.vx_write.specs.Slots.{AreLastOf};
-ghost use Rattle.vx_merge.specs.Needed.{aps_at};
+ghost use Rattle.vx_merge.specs.Needed.{aps_of_body};
 ghost use Rattle.vx_merge.specs.Slots.{TakeSlots};
 ghost use Rattle.vx_merge.specs.inner.Taking as taking;
 ghost use Rattle.vx_merge.specs.inner.Taking.{IsHeldBy, AreHeld, an_aps_of};
@@ -166,10 +166,6 @@ fn next_id(slots: &Slots, search: Search, held: &[Option<u8>], ids: &[u8], k: us
 }
 
 /// The ids of bodies of one type, in their order.
-///
-/// # Errors
-///
-/// Want of memory.
 pub(crate) fn take_ids(
     alloc: Global,
     slots: &Slots,
@@ -179,7 +175,7 @@ pub(crate) fn take_ids(
     requires { length bodies.now ≤ search.count }
     ensures number { IfOk result (λ ids. length ids.items ≡ length bodies.now) }
     ensures taken { (sent : List SetUnit) → AreLastOf sent slots.now
-        → IfOk result (λ ids. TakeSlots search.count (length (map (λ b. b.now) bodies.now)) search.temporal_id sent (aps_at search.kind (map (λ b. b.now) bodies.now)) ids.items) }
+        → IfOk result (λ ids. TakeSlots search.count (length (map (λ b. b.now) bodies.now)) search.temporal_id sent (aps_of_body search.kind (map (λ b. b.now) bodies.now)) ids.items) }
 {
     let held = held_ids(alloc, slots, search, bodies)?;
     let mut ids = Vec::new(alloc);

@@ -140,10 +140,6 @@ fn numbers_of(
 }
 
 /// The frame of pictures with these layouts, whose regions fit together, and whose tile lines do.
-///
-/// # Errors
-///
-/// Want of memory.
 pub(crate) fn join(
     alloc: Global,
     corners: &[Corner],

@@ -3,7 +3,7 @@ ghost use Rattle.std.specs.Prelude.{◌≡◌, All, List, length, map, IfOk, OnO
 ghost use Rattle.vx_pic.specs.Written.{Plan};
 ghost use Rattle.vx_merge.specs.Joins as words;
 ghost use Rattle.vx_merge.specs.Joins.{WritesJoined};
-ghost use Rattle.vx_merge.specs.Merging.{AreCorners, Checks, Stands, Writes};
+ghost use Rattle.vx_merge.specs.Merging.{AreCorners, ChecksRound, Stands, WritesOneRound};
 ghost use Rattle.vx_merge.specs.inner.Progress.{IsProgress, merging_of};
 
 use crate::corner::Corner;
@@ -43,13 +43,9 @@ impl Model for Merger {
 }
 
 /// The pictures that are lent, each behind an end of sequence.
-///
-/// # Errors
-///
-/// Want of memory.
 fn joined<L: Lender>(alloc: Global, lenders: &[L]) -> Result<Vec<Picture<'_>>, AllocError>
     requires { All L.holds lenders.now }
-    ensures { IfOk result (λ round. round.items ≡ map words.joined (map L.lent lenders.now)) }
+    ensures { IfOk result (λ round. round.items ≡ map words.after_end_of_sequence (map L.lent lenders.now)) }
 {
     let mut round = Vec::new(alloc);
     for lender in lenders {
@@ -72,7 +68,7 @@ fn check_lent<L: Lender>(
     requires progress { IsProgress corners.now level progress.old }
     ensures progress { OnOk result (IsProgress corners.now level progress.new) }
     ensures answer { (done : List Plan) → Stands (merging_of corners.now level progress.old) done
-        → Checks (map L.lent lenders.now) done (merging_of corners.now level progress.new) result }
+        → ChecksRound (map L.lent lenders.now) done (merging_of corners.now level progress.new) result }
 {
     let round = lent(alloc, lenders)?;
     let _made = counted(alloc, corners, level, progress, round.as_slice())?;
@@ -93,7 +89,7 @@ fn write_round<K: Sink>(
     requires progress { IsProgress corners.now level progress.old }
     ensures progress { OnOk result (IsProgress corners.now level progress.new) }
     ensures answer { (done : List Plan) → Stands (merging_of corners.now level progress.old) done
-        → Writes round.now done (merging_of corners.now level progress.new)
+        → WritesOneRound round.now done (merging_of corners.now level progress.new)
         (K.bytes_taken out.old) (K.bytes_taken out.new) (K.write_faults out.old) (K.write_faults out.new) result }
 {
     let made = counted(alloc, corners, level, progress, round)?;
@@ -116,7 +112,7 @@ fn write_lent<L: Lender, K: Sink>(
     requires progress { IsProgress corners.now level progress.old }
     ensures progress { OnOk result (IsProgress corners.now level progress.new) }
     ensures answer { (done : List Plan) → Stands (merging_of corners.now level progress.old) done
-        → Writes (map L.lent lenders.now) done (merging_of corners.now level progress.new)
+        → WritesOneRound (map L.lent lenders.now) done (merging_of corners.now level progress.new)
         (K.bytes_taken out.old) (K.bytes_taken out.new) (K.write_faults out.old) (K.write_faults out.new) result }
 {
     let round = lent(alloc, lenders)?;
@@ -138,7 +134,7 @@ fn write_joined<L: Lender, K: Sink>(
     requires progress { IsProgress corners.now level progress.old }
     ensures progress { OnOk result (IsProgress corners.now level progress.new) }
     ensures answer { (done : List Plan) → Stands (merging_of corners.now level progress.old) done
-        → WritesJoined (map words.joined (map L.lent lenders.now)) done (merging_of corners.now level progress.new)
+        → WritesJoined (map words.after_end_of_sequence (map L.lent lenders.now)) done (merging_of corners.now level progress.new)
         (K.bytes_taken out.old) (K.bytes_taken out.new) (K.write_faults out.old) (K.write_faults out.new) result }
 {
     let round = joined(alloc, lenders)?;
@@ -156,13 +152,9 @@ impl Merger {
     ghost use Rattle.vx_write.specs.declared.fault.WriteError.TheVariants.{Stopped};
     ghost use Rattle.vx_merge.specs.Joins as words;
     ghost use Rattle.vx_merge.specs.Joins.{WritesJoined};
-    ghost use Rattle.vx_merge.specs.Merging.{AreCorners, Checks, SameTask, Stands, Writes};
+    ghost use Rattle.vx_merge.specs.Merging.{AreCorners, ChecksRound, SameTask, Stands, WritesOneRound};
 
     /// A merger of regions with these upper left corners, in luma samples, with a level of its own or the sources' highest.
-    ///
-    /// # Errors
-    ///
-    /// Want of memory.
     pub fn new(alloc: Global, corners: &[Corner], level: Option<u8>) -> Result<Merger, AllocError>
         requires { AreCorners corners.now }
         ensures task { IfOk result (λ m. (m.corners ≡ corners.now) × (m.level ≡ level)) }
@@ -193,7 +185,7 @@ impl Merger {
     pub fn check<L: Lender>(&mut self, lenders: &[L]) -> Result<(), WriteError>
         requires count { length lenders.now ≡ length self.old.corners }
         requires holds { All L.holds lenders.now }
-        ensures answer { (done : List Plan) → Stands self.old done → Checks (map L.lent lenders.now) done self.new result }
+        ensures answer { (done : List Plan) → Stands self.old done → ChecksRound (map L.lent lenders.now) done self.new result }
         ensures task { SameTask self.old self.new }
         ensures first { IfErr result (λ e. self.new.first ≡ Some (faults.first_of e)) }
         ensures stopped { (f : First) → self.old.first ≡ Some f → (result ≡ Err (Stopped f)) × (self.new ≡ self.old) }
@@ -227,7 +219,7 @@ impl Merger {
         requires count { length lenders.now ≡ length self.old.corners }
         requires holds { All L.holds lenders.now }
         ensures answer { (done : List Plan) → Stands self.old done
-            → Writes (map L.lent lenders.now) done self.new (K.bytes_taken out.old) (K.bytes_taken out.new) (K.write_faults out.old) (K.write_faults out.new) result }
+            → WritesOneRound (map L.lent lenders.now) done self.new (K.bytes_taken out.old) (K.bytes_taken out.new) (K.write_faults out.old) (K.write_faults out.new) result }
         ensures task { SameTask self.old self.new }
         ensures first { IfErr result (λ e. self.new.first ≡ Some (faults.first_of e)) }
         ensures stopped { (f : First) → self.old.first ≡ Some f → (result ≡ Err (Stopped f)) × (self.new ≡ self.old) × (out.new ≡ out.old) }
@@ -260,7 +252,7 @@ impl Merger {
         requires count { length lenders.now ≡ length self.old.corners }
         requires holds { All L.holds lenders.now }
         ensures answer { (done : List Plan) → Stands self.old done
-            → WritesJoined (map words.joined (map L.lent lenders.now)) done self.new (K.bytes_taken out.old) (K.bytes_taken out.new) (K.write_faults out.old) (K.write_faults out.new) result }
+            → WritesJoined (map words.after_end_of_sequence (map L.lent lenders.now)) done self.new (K.bytes_taken out.old) (K.bytes_taken out.new) (K.write_faults out.old) (K.write_faults out.new) result }
         ensures task { SameTask self.old self.new }
         ensures first { IfErr result (λ e. self.new.first ≡ Some (faults.first_of e)) }
         ensures stopped { (f : First) → self.old.first ≡ Some f → (result ≡ Err (Stopped f)) × (self.new ≡ self.old) × (out.new ≡ out.old) }

@@ -4,7 +4,7 @@ ghost use Rattle.std.specs.Bool.{OnTrue};
 ghost use Rattle.std.specs.List.{AllByRecursion};
 ghost use Rattle.vx_aps.specs.declared.aps.TheConstants as types;
 ghost use Rattle.vx_fit.specs.Lowest.{IsLowestAnswer};
-ghost use Rattle.vx_pps.specs.Pps.{IsItems};
+ghost use Rattle.vx_pps.specs.Pps.{ArePpsItems};
 ghost use Rattle.vx_pic.specs.Written.{SetUnit, a_pps};
 ghost use Rattle.vx_write.specs.Slots.{AreLastOf, pps_with_id};
 ghost use Rattle.vx_merge.specs.Bodies as words;
@@ -274,10 +274,6 @@ pub(crate) fn taken_pps_id(slots: &Slots, temporal_id: u8, pps: &Pps) -> u8
 // ---- all
 
 /// The sets that a round with these bodies needs, with the ids that they take behind the sets that were sent.
-///
-/// # Errors
-///
-/// Want of memory.
 pub(crate) fn needed<'s, 'a>(
     alloc: Global,
     round: &[Picture<'a>],

@@ -1,8 +1,8 @@
 //! The picture header that is sent for a round.
 ghost use Rattle.std.specs.Prelude.{◌≡◌, ℕ, ◌<◌, List, false, slice_get, option_map, IfOk};
 ghost use Rattle.vx_ph.specs.InForce.{in_force, structures};
-ghost use Rattle.vx_ph.specs.Picture.{IsHeader, IsUnit};
-ghost use Rattle.vx_ph.specs.Reshaped.{IsReshaped};
+ghost use Rattle.vx_ph.specs.Picture.{IsHeader, IsPictureHeaderUnit};
+ghost use Rattle.vx_ph.specs.Reshaped.{IsReshapedPictureHeader};
 ghost use Rattle.vx_pic.specs.declared.unit_types.TheConstants as types;
 ghost use Rattle.vx_write.specs.Units.{IsUnitOf};
 ghost use Rattle.vx_merge.specs.Bodies as bodies;
@@ -50,17 +50,13 @@ fn shape_of(round: &[Picture<'_>], needed: &RoundSets<'_, '_>) -> PhShape
 }
 
 /// The picture header of a round, under the sets that are sent for it.
-///
-/// # Errors
-///
-/// Want of memory.
 pub(crate) fn picture_header(
     alloc: Global,
     round: &[Picture<'_>],
     needed: &RoundSets<'_, '_>,
 ) -> Result<PictureHeader, AllocError>
     requires ready { IsSomeReady round.now needed.now }
-    ensures says { IfOk result (λ header. IsReshaped (picture_at round.now 0).header (spec.ph_shape round.now (ids_in needed.now)) needed.now.sps.now needed.now.pps.now header) }
+    ensures says { IfOk result (λ header. IsReshapedPictureHeader (picture_at round.now 0).header (spec.ph_shape round.now (ids_in needed.now)) needed.now.sps.now needed.now.pps.now header) }
     ensures is { IfOk result (λ header. IsHeader (structures needed.now.sps.now) (in_force needed.now.sps.now needed.now.pps.now) header) }
 {
     let shape = shape_of(round, needed);
@@ -68,10 +64,6 @@ pub(crate) fn picture_header(
 }
 
 /// The unit of a picture header (H.266 7.3.2.7).
-///
-/// # Errors
-///
-/// Want of memory.
 pub(crate) fn header_unit(
     alloc: Global,
     header: &PictureHeader,
@@ -80,7 +72,7 @@ pub(crate) fn header_unit(
 ) -> Result<Vec<u8>, AllocError>
     requires tid { temporal_id < 7 }
     requires is { IsHeader (structures needed.now.sps.now) (in_force needed.now.sps.now needed.now.pps.now) header.now }
-    ensures { IfOk result (λ unit. (rbsp : List ℕ) × IsUnit (structures needed.now.sps.now) (in_force needed.now.sps.now needed.now.pps.now) header.now rbsp × IsUnitOf types.PH_NUT temporal_id rbsp unit.items) }
+    ensures { IfOk result (λ unit. (rbsp : List ℕ) × IsPictureHeaderUnit (structures needed.now.sps.now) (in_force needed.now.sps.now needed.now.pps.now) header.now rbsp × IsUnitOf types.PH_NUT temporal_id rbsp unit.items) }
 {
     let rbsp = write_ph(alloc, header, needed.sps, needed.pps)?;
     let unit = plain_unit(alloc, PH_NUT, temporal_id, &rbsp)?;

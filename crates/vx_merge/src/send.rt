@@ -7,7 +7,7 @@ ghost use Rattle.vx_pic.specs.Written.{Set, SetUnit};
 ghost use Rattle.vx_write.specs.Sending.{AreOthers, AreSent};
 ghost use Rattle.vx_write.specs.Slots.{AreLastOf};
 ghost use Rattle.vx_merge.specs.declared.corner.Corner.{Corner};
-ghost use Rattle.vx_merge.specs.Needed.{by_ids, needed_sets, with_id};
+ghost use Rattle.vx_merge.specs.Needed.{by_ids, sets_of_round, sets_with_id};
 ghost use Rattle.vx_merge.specs.inner.Ready.{AreNeeded, ids_in};
 ghost use Rattle.vx_merge.specs.inner.Sending.{AreAllApart, AreApart, AreOfOthers, CanBeNamed, CanBeSent, bodies_sent};
 ghost use Rattle.vx_merge.specs.inner.Taking.{an_aps_of};
@@ -44,7 +44,7 @@ fn send_with(
     requires can { CanBeNamed named.now }
     ensures { (before : List SetUnit) (sets : List Set) → AreApart named.now.ids.items
         → AreSent search.temporal_id before sets slots.old (map (λ u. u.items) units.old.items) → AreOthers (an_aps_of search.kind id) sets
-        → IfOk result (λ _. AreSent search.temporal_id before (sets ++ with_id search.kind (map (λ b. b.now) named.now.bodies) named.now.ids.items id)
+        → IfOk result (λ _. AreSent search.temporal_id before (sets ++ sets_with_id search.kind (map (λ b. b.now) named.now.bodies) named.now.ids.items id)
         slots.new (map (λ u. u.items) units.new.items)) }
 {
     let kind = search.kind;
@@ -82,10 +82,6 @@ fn send_named(
 }
 
 /// Makes the units of the adaptation parameter sets that a round needs, of those that aren't resident, by rising type and id.
-///
-/// # Errors
-///
-/// Want of memory.
 fn send_bodies(
     alloc: Global,
     slots: &mut Slots,
@@ -107,10 +103,6 @@ fn send_bodies(
 
 /// Makes the units of the sets that a round needs, of those that aren't resident: of the SPS, of the PPS, and of adaptation parameter sets
 /// by rising type and id. They count as sent then.
-///
-/// # Errors
-///
-/// Want of memory.
 pub(crate) fn send_needed(
     alloc: Global,
     slots: &mut Slots,
@@ -121,7 +113,7 @@ pub(crate) fn send_needed(
     requires can { CanBeSent needed.now }
     ensures { (corners : List Corner) (level : Option ℕ) (round : List Parts) (frame : NumberLists) (sent : List SetUnit) → AreLastOf sent slots.old
         → AreNeeded corners level round frame sent needed.now
-        → IfOk result (λ units. AreSent temporal_id sent (needed_sets round (ids_in needed.now) needed.now.sps.now needed.now.pps.now)
+        → IfOk result (λ units. AreSent temporal_id sent (sets_of_round round (ids_in needed.now) needed.now.sps.now needed.now.pps.now)
         slots.new (map (λ u. u.items) units.items)) }
 {
     let mut units = Vec::new(alloc);

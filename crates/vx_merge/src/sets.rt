@@ -207,10 +207,6 @@ fn lowest_other(
 }
 
 /// Whether a source has other tools of sequences than source 0.
-///
-/// # Errors
-///
-/// Want of memory.
 pub(crate) fn sps_tools(alloc: Global, round: &[Picture<'_>]) -> Result<Option<Refusal>, AllocError>
     requires { (0 < length round.now) × (length round.now ≤ 64) }
     ensures { IfOk result (Finds (length round.now) (rules.sps_tools round.now ∷ [])) }
@@ -220,10 +216,6 @@ pub(crate) fn sps_tools(alloc: Global, round: &[Picture<'_>]) -> Result<Option<R
 }
 
 /// Whether a source has other tools of pictures than source 0.
-///
-/// # Errors
-///
-/// Want of memory.
 pub(crate) fn pps_tools(alloc: Global, round: &[Picture<'_>]) -> Result<Option<Refusal>, AllocError>
     requires { (0 < length round.now) × (length round.now ≤ 64) }
     ensures { IfOk result (Finds (length round.now) (rules.pps_tools round.now ∷ [])) }

@@ -131,10 +131,6 @@ fn is_kept(settled: &Option<Settled>, round: &[Picture<'_>]) -> bool
 }
 
 /// The layouts of the pictures of a round, unless something is kept that was made of the same sets.
-///
-/// # Errors
-///
-/// Want of memory.
 pub(crate) fn round_layouts(
     alloc: Global,
     settled: &Option<Settled>,
@@ -233,10 +229,6 @@ fn settle_anew(
 }
 
 /// Keeps what is made of the sets of a round that breaks no rule, unless it is kept.
-///
-/// # Errors
-///
-/// Want of memory.
 pub(crate) fn settle(
     alloc: Global,
     corners: &[Corner],
@@ -293,10 +285,6 @@ fn rename_pps(
 }
 
 /// Has its PPS under an id, made anew unless it is there.
-///
-/// # Errors
-///
-/// Want of memory.
 pub(crate) fn have_pps(
     alloc: Global,
     own: &mut Settled,

@@ -89,7 +89,7 @@ pub(crate) fn window(placed: &[Placed], round: &[Picture<'_>], width: u32, heigh
     requires range { All IsInRange placed.now }
     requires wide { width ≡ frame_width placed.now }
     requires high { height ≡ frame_height placed.now }
-    ensures { result ≡ spec.window_of placed.now round.now }
+    ensures { result ≡ spec.frame_window placed.now round.now }
 {
     [
         least_offset(Edge::Left, sps_conf_win_left_offset, placed, round),
@@ -108,7 +108,7 @@ pub(crate) fn window(placed: &[Placed], round: &[Picture<'_>], width: u32, heigh
 
 /// The greatest number that the SPSs give a field.
 fn greatest(round: &[Picture<'_>], field: u16) -> u32
-    ensures { result ≡ spec.greatest (spec.numbers_in round.now field) }
+    ensures { result ≡ spec.greatest (spec.numbers_in_round round.now field) }
 {
     let mut greatest = 0;
     for k in 0..round.len() {
@@ -126,7 +126,7 @@ fn either(a: bool, b: bool) -> bool
 
 /// Whether an SPS gives a field the number 0.
 fn has_zero(round: &[Picture<'_>], field: u16) -> bool
-    ensures { result ≡ list_any (λ n. n == 0) (spec.numbers_in round.now field) }
+    ensures { result ≡ list_any (λ n. n == 0) (spec.numbers_in_round round.now field) }
 {
     let mut found = false;
     for k in 0..round.len() {
@@ -137,7 +137,7 @@ fn has_zero(round: &[Picture<'_>], field: u16) -> bool
 
 /// The latency of the highest sublayer.
 fn latency(round: &[Picture<'_>]) -> u32
-    ensures { result ≡ spec.latency_of (spec.numbers_in round.now dpb_fields.dpb_max_latency_increase_plus1) }
+    ensures { result ≡ spec.latency_of (spec.numbers_in_round round.now dpb_fields.dpb_max_latency_increase_plus1) }
 {
     if has_zero(round, dpb_max_latency_increase_plus1) {
         return 0;
@@ -147,7 +147,7 @@ fn latency(round: &[Picture<'_>]) -> u32
 
 /// The DPB parameters of the highest sublayer.
 pub(crate) fn dpb(round: &[Picture<'_>]) -> [u32; 3]
-    ensures { result ≡ spec.dpb_of round.now }
+    ensures { result ≡ spec.frame_dpb round.now }
 {
     [
         greatest(round, dpb_max_dec_pic_buffering_minus1),
@@ -158,7 +158,7 @@ pub(crate) fn dpb(round: &[Picture<'_>]) -> [u32; 3]
 
 /// The highest level of the pictures.
 fn highest_level(round: &[Picture<'_>]) -> u8
-    ensures { result ≡ spec.greatest (spec.numbers_in round.now ptl_fields.general_level_idc) }
+    ensures { result ≡ spec.greatest (spec.numbers_in_round round.now ptl_fields.general_level_idc) }
 {
     let mut highest = 0;
     for k in 0..round.len() {
@@ -169,7 +169,7 @@ fn highest_level(round: &[Picture<'_>]) -> u8
 
 /// The level that is asked for, or else the highest.
 pub(crate) fn level_of(round: &[Picture<'_>], level: Option<u8>) -> u8
-    ensures { result ≡ spec.level_of round.now level }
+    ensures { result ≡ spec.frame_level round.now level }
 {
     level.unwrap_or(highest_level(round))
 }

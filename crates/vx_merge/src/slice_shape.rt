@@ -64,7 +64,7 @@ fn names_set(field: u16) -> bool
 /// The id that a body takes, and 0 where it is none of these.
 fn id_of(named: &NamedBodies<'_>, body: &[u8]) -> u8
     requires { length named.now.ids.items ≡ length named.now.bodies }
-    ensures { result ≡ words.id_of (map (λ b. b.now) named.now.bodies) named.now.ids.items body.now }
+    ensures { result ≡ words.id_of_body (map (λ b. b.now) named.now.bodies) named.now.ids.items body.now }
 {
     let ids = named.ids.as_slice();
     for i in 0..named.bodies.len() {
@@ -131,10 +131,6 @@ fn renamed_filter(
 }
 
 /// The filter in force of a slice, the picture header's or its own, with the ids that its bodies take.
-///
-/// # Errors
-///
-/// Want of memory.
 pub(crate) fn filter_in(
     alloc: Global,
     named: &NamedBodies<'_>,

@@ -102,7 +102,7 @@ fn named_in<'a>(picture: &Picture<'a>, header: &'a SliceHeader) -> Option<Colloc
 fn named_at(picture: &Picture<'_>, may: bool, i: u32) -> Option<Collocated>
     requires i { i < length picture.now.slices }
     requires may { may ≡ words.may_name picture.now }
-    ensures { piece_at (words.named_by picture.now) picture.now.slices i ≡ option_to_list result }
+    ensures { piece_at (words.collocated_by picture.now) picture.now.slices i ≡ option_to_list result }
 {
     let slice = picture.slice(i);
     if may {

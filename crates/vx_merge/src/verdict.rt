@@ -24,10 +24,6 @@ use vx_pic::Picture;
 use vx_pps::sets_tell_partitions;
 
 /// The verdict by the rules on regions and tile lines, where all pictures have one subpicture each, and CTUs of one size.
-///
-/// # Errors
-///
-/// Want of memory.
 fn verdict_of_frame(
     alloc: Global,
     corners: &[Corner],
@@ -54,10 +50,6 @@ fn verdict_of_frame(
 }
 
 /// The verdict by the rules on sets that may be new, and on what they tell of slices and tiles.
-///
-/// # Errors
-///
-/// Want of memory.
 #[cold]
 #[inline(never)]
 fn verdict_of_new(
@@ -87,10 +79,6 @@ fn verdict_of_new(
 }
 
 /// The verdict by the rules on sets, and on what they tell of slices and tiles. Sets of which something is kept have passed.
-///
-/// # Errors
-///
-/// Want of memory.
 fn verdict_of_sets(
     alloc: Global,
     corners: &[Corner],
@@ -109,10 +97,6 @@ fn verdict_of_sets(
 }
 
 /// The verdict by the rule on PPSs. Those of which something is kept have passed.
-///
-/// # Errors
-///
-/// Want of memory.
 fn verdict_of_pps(
     alloc: Global,
     round: &[Picture<'_>],
@@ -141,10 +125,6 @@ fn verdict_of_flags(round: &[Picture<'_>], layouts: &RoundLayouts) -> Option<Ref
 }
 
 /// The verdict by the rules on pictures.
-///
-/// # Errors
-///
-/// Want of memory.
 fn verdict_of_pictures(
     alloc: Global,
     round: &[Picture<'_>],
@@ -197,10 +177,6 @@ fn verdict_of_slices(
 }
 
 /// The verdict on a round. Sets of which something is kept have passed.
-///
-/// # Errors
-///
-/// Want of memory.
 pub(crate) fn verdict(
     alloc: Global,
     corners: &[Corner],

@@ -9,7 +9,7 @@ use Rattle.vx_table.specs.Spelling.{item_of, items_along}
 use Rattle.vx_table.specs.Values.{Follows, to_end, through}
 use Rattle.vx_table.specs.Depends.{Agree, Alike, at_ends, both, hidden_left, hidden_right, IsLeft, Leaves}
 use Rattle.vx_table.specs.Shown.{shown_items}
-use Rattle.vx_table.specs.Again.{AllShown, AlwaysShown}
+use Rattle.vx_table.specs.laws.Again.{AllShown, AlwaysShown}
 use Rattle.vx_table.specs.Rewritten.{other_items}
 use Rattle.vx_table.specs.Rewrites.{Takes, Admits, no_more, at_shown, at_other}
 use Rattle.vx_table.proofs.Agreeing.{agree_on}

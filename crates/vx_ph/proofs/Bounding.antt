@@ -8,7 +8,7 @@ use Rattle.vx_table.specs.EachField.{rows_pass}
 use Rattle.vx_table.specs.Forms.{form_of}
 use Rattle.vx_table.specs.Parts.{Section, sections_form}
 use Rattle.vx_table.specs.Scope.{most}
-use Rattle.vx_table.specs.Sizes.{Bound, IsShort, IsWithin, row_keeps, sections_bits, sections_keep, table_bits}
+use Rattle.vx_table.specs.laws.Sizes.{Bound, IsShort, IsWithin, row_keeps, sections_bits, sections_keep, table_bits}
 use Rattle.vx_table.proofs.Sizes.{sections_are_short, spelling_weaker, tables_are_short}
 
 abbrev pub bound_by : ℕ → ℕ → Bound

@@ -5,11 +5,11 @@ use Rattle.std.proofs.lemmas.Bool.{and_parts, cases_eq, leb-true, ltb-true}
 use Rattle.std.proofs.lemmas.Grind.{get_or-set_at}
 use Rattle.std.proofs.lemmas.List.{get_or-set_other, length-replicate, length-set}
 use Rattle.std.proofs.lemmas.List.Elements.{All-cons, All-head, All-nil, All-tail}
-use Rattle.vx_table.specs.Again.{AlwaysShown}
+use Rattle.vx_table.specs.laws.Again.{AlwaysShown}
 use Rattle.vx_table.specs.Depends.{Agree, DependsOnlyOn, set_of, with_all}
 use Rattle.vx_table.specs.Forms.{Form}
 use Rattle.vx_table.specs.Scope.{fresh}
-use Rattle.vx_table.specs.Sizes.{Bound, EachSpelling, IsShort, IsWithin, greatest}
+use Rattle.vx_table.specs.laws.Sizes.{Bound, EachSpelling, IsShort, IsWithin, greatest}
 use Rattle.vx_table.proofs.Again.{follows_again}
 use Rattle.vx_table.proofs.Sizes.{fresh_within, within_set}
 use Rattle.vx_pps.proofs.Fields.{all_pass, named, passes}

@@ -10,7 +10,7 @@ use Rattle.vx_table.specs.declared.rows.Presence.{Presence}
 use Rattle.vx_table.specs.declared.rows.Presence.TheVariants.{When}
 use Rattle.vx_table.specs.declared.rows.Row.{Row}
 use Rattle.vx_table.specs.declared.rows.Row.TheVariants.{Block, Name}
-use Rattle.vx_table.specs.Absence.{AreZero, AreHidden, IsAbsent, is_zero, never_comes, rows_hide, table_hides}
+use Rattle.vx_table.specs.laws.Absence.{AreZero, AreHidden, IsAbsent, is_zero, never_comes, rows_hide, table_hides}
 use Rattle.vx_table.specs.Claims.{hides, hides_counter, hides_row, sections_hide}
 use Rattle.vx_table.specs.Depends.{has, set_of, Leaves}
 use Rattle.vx_table.specs.Forms.{Form, done, ◌>>=◌, form_of, present}
@@ -36,8 +36,8 @@ use Rattle.vx_rpl.proofs.Passing.{lists_leave}
 use Rattle.vx_pps.proofs.Fields.{named}
 use Rattle.vx_ph.specs.declared.header.PictureHeader.{PictureHeader}
 use Rattle.vx_ph.specs.declared.tables.TheConstants.{ALF, LMCS_AND_SCALING, ORDER_COUNT, OUTPUT, PICTURE, PPS_ID}
-use Rattle.vx_ph.specs.Enabled.{NoLmcs, NoScaling, NoChromaScaling, NoFilter}
-use Rattle.vx_ph.specs.Header.{back, before_weights, front, header_form, lists_if_present, middle, weights_if_present}
+use Rattle.vx_ph.specs.laws.Enabled.{NoLmcs, NoScaling, NoChromaScaling, NoFilter}
+use Rattle.vx_ph.specs.Header.{back, ph_before_weights, ph_before_lists, header_form, lists_if_present, middle, weights_if_present}
 use Rattle.vx_ph.specs.InForce.{in_force, structures}
 use Rattle.vx_ph.specs.Picture.{IsHeader}
 use Rattle.vx_ph.proofs.Rewriting.{filter_section}
@@ -94,7 +94,7 @@ record IsElsewhere (names : List ℕ) : Type 0 where
 
 header_hides : (names zeros : List ℕ) (table : RplTable) → IsElsewhere names → IsElsewhere zeros → AreHidden names zeros (section_form filter_section)
     → AreHidden names zeros (section_form (always LMCS_AND_SCALING)) → AreHidden names zeros (header_form table)
-unfolding header_form before_weights
+unfolding header_form ph_before_weights
 header_hides names zeros table named left filter maps =
     let one : Formula = Plain (Number 1) in
     let lists : AreHidden names zeros (lists_if_present table) = left_hide names zeros (lists_if_present table)
@@ -103,14 +103,14 @@ header_hides names zeros table named left filter maps =
     (leaves_present names (Plain (Latest HAS_WEIGHTS)) weights_form named.weights) (leaves_present zeros (Plain (Latest HAS_WEIGHTS)) weights_form left.weights) in
     let output = section_first names zeros (always OUTPUT) [] (left_table names zeros one OUTPUT named.output left.output) (left_sections names zeros [] refl refl) in
     let behind = section_first names zeros filter_section (always LMCS_AND_SCALING ∷ always OUTPUT ∷ []) filter (section_first names zeros (always LMCS_AND_SCALING) (always OUTPUT ∷ []) maps output) in
-    let at_front : AreHidden names zeros (sections_form front) =
-    section_first names zeros (always PICTURE) (drop 1 front) (left_table names zeros one PICTURE named.picture left.picture)
-    (section_first names zeros (always PPS_ID) (drop 2 front) (left_table names zeros one PPS_ID named.id left.id)
-    (section_first names zeros (always ORDER_COUNT) (drop 3 front) (left_table names zeros one ORDER_COUNT named.count left.count) behind)) in
-    hidden_together names zeros (λ s. before_weights table s >>= weights_if_present) (sections_form back)
-    (hidden_together names zeros (before_weights table) weights_if_present
-    (hidden_together names zeros (λ s. sections_form front s >>= lists_if_present table) (sections_form middle)
-    (hidden_together names zeros (sections_form front) (lists_if_present table) at_front lists)
+    let at_front : AreHidden names zeros (sections_form ph_before_lists) =
+    section_first names zeros (always PICTURE) (drop 1 ph_before_lists) (left_table names zeros one PICTURE named.picture left.picture)
+    (section_first names zeros (always PPS_ID) (drop 2 ph_before_lists) (left_table names zeros one PPS_ID named.id left.id)
+    (section_first names zeros (always ORDER_COUNT) (drop 3 ph_before_lists) (left_table names zeros one ORDER_COUNT named.count left.count) behind)) in
+    hidden_together names zeros (λ s. ph_before_weights table s >>= weights_if_present) (sections_form back)
+    (hidden_together names zeros (ph_before_weights table) weights_if_present
+    (hidden_together names zeros (λ s. sections_form ph_before_lists s >>= lists_if_present table) (sections_form middle)
+    (hidden_together names zeros (sections_form ph_before_lists) (lists_if_present table) at_front lists)
     (left_sections names zeros middle named.middle left.middle)) weighted)
     (left_sections names zeros back named.back left.back)
 

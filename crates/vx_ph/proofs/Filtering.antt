@@ -11,7 +11,7 @@ use Rattle.vx_table.specs.Claims.{hides_counter, hides_row}
 use Rattle.vx_table.specs.Depends.{has, set_of}
 use Rattle.vx_table.specs.EachField.{EachField}
 use Rattle.vx_table.specs.Forms.{Form, ◌>>=◌, form_of, present}
-use Rattle.vx_table.specs.Again.{AllShown, shows_row}
+use Rattle.vx_table.specs.laws.Again.{AllShown, shows_row}
 use Rattle.vx_table.specs.Parts.{Section, always, sections_form}
 use Rattle.vx_table.specs.Rewrites.{Takes}
 use Rattle.vx_table.specs.Scope.{fresh, is_set, value}
@@ -35,7 +35,7 @@ use Rattle.vx_pps.proofs.Cutting.{cut_items, none_shown}
 use Rattle.vx_pps.proofs.Framing.{unshown_behind, unshown_first}
 use Rattle.vx_ph.specs.declared.tables.TheConstants.{ALF, LMCS_AND_SCALING, ORDER_COUNT, OUTPUT, PICTURE, PPS_ID}
 use Rattle.vx_ph.specs.Filter.{HeaderHasFilter, filter_of}
-use Rattle.vx_ph.specs.Header.{back, before_weights, front, header_form, lists_if_present, middle, weights_if_present}
+use Rattle.vx_ph.specs.Header.{back, ph_before_weights, ph_before_lists, header_form, lists_if_present, middle, weights_if_present}
 use Rattle.vx_ph.proofs.Renaming.{filter_again}
 use Rattle.vx_ph.proofs.Rewriting.{filter_if, filter_section}
 
@@ -113,8 +113,8 @@ none_back : (s : List ℕ) → EachField HasNone (sections_form back s)
 unfolding fresh hides_row hides_counter
 none_back s = each_of_sections HasNone (hides_row of_filter) none_row back s refl
 
-in_front : (s : List ℕ) (values : List ℤ) (end : List ℕ) → is_set (slice_index s sps_alf_enabled_flag) ≡ true → is_set (slice_index s pps_alf_info_in_ph_flag) ≡ true → Follows (sections_form front s) values end
-    → Takes (form_of ALF s) (filter_of (items_along (sections_form front s) values))
+in_front : (s : List ℕ) (values : List ℤ) (end : List ℕ) → is_set (slice_index s sps_alf_enabled_flag) ≡ true → is_set (slice_index s pps_alf_info_in_ph_flag) ≡ true → Follows (sections_form ph_before_lists s) values end
+    → Takes (form_of ALF s) (filter_of (items_along (sections_form ph_before_lists s) values))
 unfolding sections_form filter_if fresh hides_row hides_counter
 in_front s values end has_it here on =
     let more = sections_form (filter_section ∷ behind_filter) in
@@ -123,21 +123,21 @@ in_front s values end has_it here on =
     let q = parted (filter_if p.mid) (sections_form behind_filter) p.second in
     let there = is_there p.mid (ap is_set (sym (left.same sps_alf_enabled_flag refl)) ∙ has_it) (ap is_set (sym (left.same pps_alf_info_in_ph_flag refl)) ∙ here) in
     let follows : Follows (form_of ALF p.mid) q.front q.mid = subst (λ f. Follows f q.front q.mid) there q.first in
-    let items : filter_of (items_along (sections_form front s) values) ≡ items_along (form_of ALF p.mid) q.front
-    = ap (λ w. filter_of (items_along (sections_form front s) w)) p.all ∙ ap (λ xs. filter_of xs) (cut_items before_filter (filter_section ∷ behind_filter) s p.others p.first)
+    let items : filter_of (items_along (sections_form ph_before_lists s) values) ≡ items_along (form_of ALF p.mid) q.front
+    = ap (λ w. filter_of (items_along (sections_form ph_before_lists s) w)) p.all ∙ ap (λ xs. filter_of xs) (cut_items before_filter (filter_section ∷ behind_filter) s p.others p.first)
     ∙ unshown_first of_filter (items_along (sections_form before_filter s) p.front) (items_along (more p.mid) p.others) (none_shown of_filter (none_before s) p.first)
     ∙ of_first (sections_form behind_filter) q (none_behind q.mid) ∙ ap (λ f. filter_of (items_along f q.front)) there ∙ all_of_it p.mid follows in
     filter_again p.mid s _ (sym left.size) (sym (left.same sps_chroma_format_idc refl)) (sym (left.same sps_ccalf_enabled_flag refl))
     (record { values = q.front; end = q.mid; follows = follows; all = sym items })
 
 pub header_has_filter : HeaderHasFilter
-unfolding header_form before_weights
+unfolding header_form ph_before_weights
 header_has_filter table s items f has_it here =
-    let a = parted (before_weights table s >>= weights_if_present) (sections_form back) f.follows in
-    let b = parted (before_weights table s) weights_if_present a.first in
-    let c = parted (sections_form front s >>= lists_if_present table) (sections_form middle) b.first in
-    let d = parted (sections_form front s) (lists_if_present table) c.first in
-    let same : filter_of items ≡ filter_of (items_along (sections_form front s) d.front)
+    let a = parted (ph_before_weights table s >>= weights_if_present) (sections_form back) f.follows in
+    let b = parted (ph_before_weights table s) weights_if_present a.first in
+    let c = parted (sections_form ph_before_lists s >>= lists_if_present table) (sections_form middle) b.first in
+    let d = parted (sections_form ph_before_lists s) (lists_if_present table) c.first in
+    let same : filter_of items ≡ filter_of (items_along (sections_form ph_before_lists s) d.front)
     = ap (λ xs. filter_of xs) f.all ∙ of_first (sections_form back) a (none_back a.mid) ∙ of_first weights_if_present b (none_weights b.mid) ∙ of_first (sections_form middle) c (none_middle c.mid)
     ∙ of_first (lists_if_present table) d (none_lists table d.mid) in
     subst (λ xs. Takes (form_of ALF s) xs) (sym same) (in_front s d.front d.mid has_it here d.first)

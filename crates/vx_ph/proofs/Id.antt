@@ -19,8 +19,8 @@ use Rattle.vx_table.specs.Depends.{has, with_all, set_of, Agree, IsLeft, Leaves}
 use Rattle.vx_table.specs.Claims.{knows_formula, knows_width, knows_range, knows_presence, hides_counter, hides_row, behind_field, within_block, depends, behind_rows, table_depends, behind_table, comes_always}
 use Rattle.vx_table.specs.Named.{named_by_all}
 use Rattle.vx_table.specs.Shown.{shown_items}
-use Rattle.vx_table.specs.Again.{shows_row}
-use Rattle.vx_table.specs.Reading.{Passes, LeadsTo}
+use Rattle.vx_table.specs.laws.Again.{shows_row}
+use Rattle.vx_table.specs.Reading.{PassesOver, LeadsTo}
 use Rattle.vx_table.specs.Loaded.{number, names_none, code_below, range_below, row_below}
 use Rattle.vx_table.proofs.Chains.{structure_depends_only_on}
 use Rattle.vx_table.proofs.Again.{follows_again, reads_again, sections_show}
@@ -38,21 +38,21 @@ use Rattle.vx_rpl.proofs.Passing.{lists_leave}
 use Rattle.vx_ph.proofs.Sets.{no_name}
 use Rattle.vx_ph.proofs.Opening.{spelled_is_read, unit_spells}
 use Rattle.vx_ph.proofs.Spelling.{spells_follow}
-use Rattle.vx_ph.specs.Header.{front, lists_if_present, middle, weights_if_present, back, before_weights, header_form}
-use Rattle.vx_ph.specs.Id.{to_id, id_form, HeaderHasId, UnitHasId}
+use Rattle.vx_ph.specs.Header.{ph_before_lists, lists_if_present, middle, weights_if_present, back, ph_before_weights, header_form}
+use Rattle.vx_ph.specs.Id.{to_id, pps_id_form, HeaderHasId, UnitHasId}
 use Rattle.vx_ph.specs.Picture.{unit_form}
 use Rattle.vx_ph.specs.declared.tables.TheConstants.{TRAILING}
 
 -- ---- what is read up to the id
 
 -- its number is the scope's behind it, and below 64
-pub id_at_end : (values : List ℤ) (end : List ℕ) → Follows id_form values end
-    → (number (items_along id_form values) ph_pic_parameter_set_id ≡ slice_index end ph_pic_parameter_set_id)
-    × (number (items_along id_form values) ph_pic_parameter_set_id < 64)
-unfolding id_form fresh names_none hides_counter has_value code_below range_below row_below
+pub id_at_end : (values : List ℤ) (end : List ℕ) → Follows pps_id_form values end
+    → (number (items_along pps_id_form values) ph_pic_parameter_set_id ≡ slice_index end ph_pic_parameter_set_id)
+    × (number (items_along pps_id_form values) ph_pic_parameter_set_id < 64)
+unfolding pps_id_form fresh names_none hides_counter has_value code_below range_below row_below
 id_at_end values end follows = (
   ((sections_load (set_of (ph_pic_parameter_set_id ∷ [])) to_id refl).at fresh values end follows).same ph_pic_parameter_set_id refl,
-  number_below ph_pic_parameter_set_id 64 id_form values end (omega arith) (sections_stay_below ph_pic_parameter_set_id 64 to_id fresh (omega arith) refl) follows,
+  number_below ph_pic_parameter_set_id 64 pps_id_form values end (omega arith) (sections_stay_below ph_pic_parameter_set_id 64 to_id fresh (omega arith) refl) follows,
 )
 
 -- ---- the id of a header
@@ -95,17 +95,17 @@ first_part total left items f next leaves b =
 
 -- a header's front up to the id
 behind_id : List Section
-behind_id = drop 2 front
+behind_id = drop 2 ph_before_lists
 
 begins_id : (table : RplTable) (s : List ℕ) (total : ℕ) (left : List Bool) (items : List Item) → Begins total left items (header_form table s)
     → Begins total left items (sections_form to_id s)
-unfolding header_form before_weights the_id behind_id fresh hides_counter hides_row
+unfolding header_form ph_before_weights the_id behind_id fresh hides_counter hides_row
 begins_id table s total left items b =
-    let weighted = first_part total left items (before_weights table s >>= weights_if_present) (sections_form back) (sections_leave the_id back refl) b in
-    let between = first_part total left items (before_weights table s) weights_if_present
+    let weighted = first_part total left items (ph_before_weights table s >>= weights_if_present) (sections_form back) (sections_leave the_id back refl) b in
+    let between = first_part total left items (ph_before_weights table s) weights_if_present
     (leaves_present the_id (Plain (Latest HAS_WEIGHTS)) weights_form (sections_leave the_id weights refl)) weighted in
-    let listed = first_part total left items (sections_form front s >>= lists_if_present table) (sections_form middle) (sections_leave the_id middle refl) between in
-    let fronted = first_part total left items (sections_form front s) (lists_if_present table)
+    let listed = first_part total left items (sections_form ph_before_lists s >>= lists_if_present table) (sections_form middle) (sections_leave the_id middle refl) between in
+    let fronted = first_part total left items (sections_form ph_before_lists s) (lists_if_present table)
     (leaves_present the_id (Plain (Latest pps_rpl_info_in_ph_flag)) (lists_form table) (lists_leave table the_id refl refl)) listed in
     first_part total left items (sections_form to_id s) (sections_form behind_id) (sections_leave the_id behind_id refl)
     (subst (Begins total left items) (sections_together to_id behind_id s) fronted)
@@ -114,12 +114,12 @@ begins_id table s total left items b =
 record HasIdBefore (total : ℕ) (left : List Bool) (items : List Item) : Type 0 where
   values : List ℤ
   rest : List Bool
-  spelled : Spells total id_form values left rest
-  same : number items ph_pic_parameter_set_id ≡ number (items_along id_form values) ph_pic_parameter_set_id
+  spelled : Spells total pps_id_form values left rest
+  same : number items ph_pic_parameter_set_id ≡ number (items_along pps_id_form values) ph_pic_parameter_set_id
 
 has_id_before : (table : RplTable) (s : List ℕ) (total : ℕ) (left : List Bool) (items : List Item) → length s ≡ 1024 → Begins total left items (header_form table s)
     → HasIdBefore total left items
-unfolding id_form the_id fresh has_value knows_formula knows_width knows_range knows_presence hides_counter hides_row behind_field within_block depends behind_rows table_depends behind_table comes_always shows_row
+unfolding pps_id_form the_id fresh has_value knows_formula knows_width knows_range knows_presence hides_counter hides_row behind_field within_block depends behind_rows table_depends behind_table comes_always shows_row
 has_id_before table s total left items long begins =
     let b = begins_id table s total left items begins in
     let shown = with_all (set_of []) (named_by_all to_id) in
@@ -133,7 +133,7 @@ has_id_before table s total left items long begins =
       spelled = reads_again shown (set_of []) (sections_form to_id s) (sections_form to_id fresh) total b.values left b.rest alike (all.at s) (all.at fresh) b.spelled;
       same = number_of_shown the_id ph_pic_parameter_set_id items refl
           ∙ ap (λ some. number some ph_pic_parameter_set_id) (b.same ∙ ap (shown_items the_id) (sym again.items))
-          ∙ sym (number_of_shown the_id ph_pic_parameter_set_id (items_along id_form b.values) refl);
+          ∙ sym (number_of_shown the_id ph_pic_parameter_set_id (items_along pps_id_form b.values) refl);
     }
 
 pub header_has_id : HeaderHasId
@@ -152,17 +152,17 @@ unit_has_id table s header bytes long u =
     record { values = u.values; end = u.end; rest = []; follows = u.follows; spelled = unit_spells table s header bytes u; same = ap (shown_items the_id) u.all } in
     let b = has_id_before table s total (bits_of bytes) header.fields long
     (first_part total (bits_of bytes) header.fields (header_form table s) (form_of TRAILING) (tables_leave the_id TRAILING refl) unit) in
-    (items_along id_form b.values, (record { total = total; left = b.rest }, spelled_is_read tt id_form total b.spelled refl), b.same)
+    (items_along pps_id_form b.values, (record { total = total; left = b.rest }, spelled_is_read tt pps_id_form total b.spelled refl), b.same)
 
 -- ---- the reader of the id
 
-pub passes_ok : {A B C : Type 0} {form : Form A} {old new : Place} (b : B) (c : C) → Passes form old (Ok b) new → Passes form old (Ok c) new
+pub passes_ok : {A B C : Type 0} {form : Form A} {old new : Place} (b : B) (c : C) → PassesOver form old (Ok b) new → PassesOver form old (Ok c) new
 passes_ok b c p = record { reads = λ items. let r = p.reads items in (r.0, record { is = r.1.is; only = r.1.only; refusal = r.1.refusal }) }
 
-pub passes_err : {A B C : Type 0} {form : Form A} {old new : Place} (r : Refusal) → Passes {B = B} form old (Err r) new → Passes {B = C} form old (Err r) new
+pub passes_err : {A B C : Type 0} {form : Form A} {old new : Place} (r : Refusal) → PassesOver {B = B} form old (Err r) new → PassesOver {B = C} form old (Err r) new
 passes_err r p = record { reads = λ items. let read = p.reads items in (read.0, reads_error (Refused r) read.1) }
 
-pub id_fits : (old new : Place) (end : List ℕ) → Passes {B = Unit {0}} id_form old (Ok tt) new → LeadsTo id_form old end
+pub id_fits : (old new : Place) (end : List ℕ) → PassesOver {B = Unit {0}} pps_id_form old (Ok tt) new → LeadsTo pps_id_form old end
     → slice_index end ph_pic_parameter_set_id < 64
 id_fits old new end p leads =
     let found = (p.reads []).1.is in

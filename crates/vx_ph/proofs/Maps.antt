@@ -9,7 +9,7 @@ use Rattle.vx_table.specs.Values.{to_end, through}
 use Rattle.vx_table.specs.Depends.{Agree, set_of, with_all}
 use Rattle.vx_table.specs.Claims.{behind_field, behind_rows, behind_table, depends, hides_counter, hides_row, knows_formula, knows_presence, knows_range, knows_width, table_depends, within_block}
 use Rattle.vx_table.specs.Named.{named_by}
-use Rattle.vx_table.specs.Again.{shows_row}
+use Rattle.vx_table.specs.laws.Again.{shows_row}
 use Rattle.vx_table.specs.Rewrites.{Takes}
 use Rattle.vx_table.proofs.Again.{tables_show}
 use Rattle.vx_table.proofs.Chains.{table_carries}
@@ -17,7 +17,7 @@ use Rattle.vx_table.proofs.Dependence.{inside_with_all}
 use Rattle.vx_table.proofs.Groups.{agree_given}
 use Rattle.vx_table.proofs.Rewrites.{takes_again}
 use Rattle.vx_fields.specs.declared.sps.TheConstants.{sps_chroma_format_idc, sps_explicit_scaling_list_enabled_flag, sps_lmcs_enabled_flag}
-use Rattle.vx_sps.specs.Reshaped.{where_so}
+use Rattle.vx_table.specs.Rewritten.{where_so}
 use Rattle.vx_ph.specs.declared.shape.LmcsShape.{LmcsShape}
 use Rattle.vx_ph.specs.declared.tables.TheConstants.{LMCS_AND_SCALING}
 use Rattle.vx_ph.specs.Reshaped.{lmcs_said, scaling_said}

@@ -16,14 +16,14 @@ use Rattle.vx_table.specs.Reading.{Reads}
 use Rattle.vx_table.specs.Spelling.{MayEnd, Spells, code_of, items_along}
 use Rattle.vx_table.specs.Values.{bits_along, Closes}
 use Rattle.vx_table.specs.EachField.{EachField}
-use Rattle.vx_table.specs.Trailing.{is_trailing}
+use Rattle.vx_table.specs.laws.Trailing.{is_trailing}
 use Rattle.vx_table.proofs.Apart.{reads_one_way, answers_one_way}
 use Rattle.vx_table.proofs.Spelled.{reads_back}
 use Rattle.vx_rpl.specs.declared.entry.RplTable.{RplTable}
 use Rattle.vx_ph.specs.declared.tables.TheConstants.{TRAILING}
 use Rattle.vx_ph.specs.declared.header.PictureHeader.{PictureHeader}
 use Rattle.vx_ph.specs.Header.{header_form}
-use Rattle.vx_ph.specs.Picture.{unit_form, IsUnit, UnitIsRead}
+use Rattle.vx_ph.specs.Picture.{unit_form, IsPictureHeaderUnit, UnitIsRead}
 use Rattle.vx_ph.proofs.Passing.{header_each}
 
 -- ---- anything may follow
@@ -70,7 +70,7 @@ unfolding form_of part one_field coding_at limits_at after has_value MayEnd
 trailing_closes s place [] = tt
 trailing_closes s place (v ∷ w) = (refl, tt)
 
-pub unit_spells : (table : RplTable) (s : List ℕ) (header : PictureHeader) (bytes : List ℕ) (u : IsUnit table s header bytes)
+pub unit_spells : (table : RplTable) (s : List ℕ) (header : PictureHeader) (bytes : List ℕ) (u : IsPictureHeaderUnit table s header bytes)
     → Spells (8 * length bytes) (unit_form table s) u.values (bits_of bytes) []
 unfolding unit_form
 unit_spells table s header bytes u =

@@ -14,7 +14,7 @@ use Rattle.vx_table.specs.EachField.{EachField, sections_pass}
 use Rattle.vx_table.specs.Kept.{stands_for_field}
 use Rattle.vx_table.specs.Depends.{with_all, set_of}
 use Rattle.vx_table.specs.Shown.{star_tells}
-use Rattle.vx_table.specs.Again.{shows_row}
+use Rattle.vx_table.specs.laws.Again.{shows_row}
 use Rattle.vx_table.proofs.EachField.{each_then, each_present, each_of_sections}
 use Rattle.vx_table.proofs.Starred.{starred}
 use Rattle.vx_table.proofs.Again.{answers_again}
@@ -24,8 +24,8 @@ use Rattle.vx_rpl.specs.declared.entry.RplTable.{RplTable}
 use Rattle.vx_rpl.specs.Lists.{lists_form, weights, weights_form}
 use Rattle.vx_rpl.specs.Depends.{lists_pass}
 use Rattle.vx_rpl.proofs.Passing.{lists_each}
-use Rattle.vx_ph.specs.Header.{front, lists_if_present, middle, weights_if_present, back, before_weights, header_form}
-use Rattle.vx_ph.specs.Depends.{of_header, kept, kept_of_sets, all_of_sets, KeepsKept, ShowsAll, HeaderReadAgain}
+use Rattle.vx_ph.specs.Header.{ph_before_lists, lists_if_present, middle, weights_if_present, back, ph_before_weights, header_form}
+use Rattle.vx_ph.specs.Depends.{of_header, kept_ph_fields, kept_of_sets, all_of_sets, KeepsKept, ShowsAll, HeaderReadAgain}
 use Rattle.vx_ph.proofs.Carrying.{all_depend}
 
 -- a test of all rows
@@ -38,16 +38,16 @@ pub record Pass (test : Row → Bool) : Type 0 where
 
 pub header_each : (P : Cell ℕ → Type 0) (test : Row → Bool) (sound : (c : Cell Formula) (s : List ℕ) → test (Field c) ≡ true → P (cell_at s c)) (table : RplTable) (s : List ℕ)
     → Pass test → EachField P (header_form table s)
-unfolding header_form before_weights
+unfolding header_form ph_before_weights
 header_each P test sound table s pass =
     let lists : (t : List ℕ) → EachField P (lists_if_present table t) = λ t.
     each_present P (When (Plain (Latest pps_rpl_info_in_ph_flag))) (lists_form table) t (λ u. lists_each P test sound table u pass.lists) in
     let weighted : (t : List ℕ) → EachField P (weights_if_present t) = λ t.
     each_present P (When (Plain (Latest HAS_WEIGHTS))) weights_form t (λ u. each_of_sections P test sound weights u pass.weights) in
-    each_then P (before_weights table s >>= weights_if_present) (sections_form back)
-    (each_then P (before_weights table s) weights_if_present
-    (each_then P (sections_form front s >>= lists_if_present table) (sections_form middle)
-    (each_then P (sections_form front s) (lists_if_present table) (each_of_sections P test sound front s pass.front) lists)
+    each_then P (ph_before_weights table s >>= weights_if_present) (sections_form back)
+    (each_then P (ph_before_weights table s) weights_if_present
+    (each_then P (sections_form ph_before_lists s >>= lists_if_present table) (sections_form middle)
+    (each_then P (sections_form ph_before_lists s) (lists_if_present table) (each_of_sections P test sound ph_before_lists s pass.front) lists)
     (λ t. each_of_sections P test sound middle t pass.middle))
     weighted)
     (λ t. each_of_sections P test sound back t pass.back)
@@ -62,7 +62,7 @@ shows_all table = record {
 pub keeps_kept : KeepsKept
 unfolding fresh has_value star_tells stands_for_field
 keeps_kept table = record {
-  keeps = λ s. header_each _ (star_tells (with_all (set_of kept_of_sets) kept)) (λ c t h. starred (with_all (set_of kept_of_sets) kept) c t h) table s
+  keeps = λ s. header_each _ (star_tells (with_all (set_of kept_of_sets) kept_ph_fields)) (λ c t h. starred (with_all (set_of kept_of_sets) kept_ph_fields) c t h) table s
       (record { front = refl; lists = refl; middle = refl; weights = refl; back = refl });
 }
 

@@ -21,7 +21,7 @@ use Rattle.vx_table.specs.Depends.{Agree, has, set_of, with_all}
 use Rattle.vx_table.specs.EachField.{EachField, rows_pass}
 use Rattle.vx_table.specs.Forms.{Form, done, field, ◌>>=◌, after, cell_at, coding_at, form_of, has_value, limits_at, one_field, part, present, turns}
 use Rattle.vx_table.specs.Named.{named_by}
-use Rattle.vx_table.specs.Again.{shows_row}
+use Rattle.vx_table.specs.laws.Again.{shows_row}
 use Rattle.vx_table.specs.Rewrites.{Takes}
 use Rattle.vx_table.specs.Scope.{fresh, natural, value}
 use Rattle.vx_table.specs.Spelling.{HasCode, fault_of, item_of, items_along}

@@ -17,7 +17,7 @@ use Rattle.vx_table.specs.Values.{to_end, through}
 use Rattle.vx_table.specs.Depends.{has, with_all, set_of, Agree, Leaves}
 use Rattle.vx_table.specs.Claims.{knows_formula, knows_width, knows_range, knows_presence, hides_counter, hides_row, hides, behind_field, within_block, depends, behind_rows, table_depends, behind_table}
 use Rattle.vx_table.specs.Named.{named_by}
-use Rattle.vx_table.specs.Again.{shows_row}
+use Rattle.vx_table.specs.laws.Again.{shows_row}
 use Rattle.vx_table.specs.Rewrites.{Takes}
 use Rattle.vx_table.proofs.Agreeing.{agree_itself, agree_less}
 use Rattle.vx_table.proofs.Dependence.{inside_with_all}
@@ -33,15 +33,15 @@ use Rattle.vx_rpl.specs.declared.entry.RplTable.{RplTable}
 use Rattle.vx_rpl.specs.Lists.{lists_form, weights, weights_form}
 use Rattle.vx_rpl.proofs.Passing.{lists_show, lists_leave}
 use Rattle.vx_ph.specs.declared.tables.TheConstants.{PICTURE, PPS_ID, ORDER_COUNT, ALF, LMCS_AND_SCALING, OUTPUT, QP, FILTERS}
-use Rattle.vx_ph.specs.Header.{front, lists_if_present, middle, weights_if_present, back, before_weights, header_form}
-use Rattle.vx_ph.specs.Depends.{kept, kept_of_sets, starred_of_sets, HeaderRewrites}
+use Rattle.vx_ph.specs.Header.{ph_before_lists, lists_if_present, middle, weights_if_present, back, ph_before_weights, header_form}
+use Rattle.vx_ph.specs.Depends.{kept_ph_fields, kept_of_sets, starred_of_sets, HeaderRewrites}
 use Rattle.vx_ph.proofs.Admitting.{Adds, adds_none, adds_all, adds_then, adds_before, refilled}
 use Rattle.vx_ph.proofs.Carrying.{kept_depend}
 use Rattle.vx_ph.proofs.Telling.{given_is_kept, not_given_is_not_kept}
 
 -- what is taken over, with what that depends on; and what the others read
 names : List ℕ
-names = with_all (set_of kept_of_sets) kept
+names = with_all (set_of kept_of_sets) kept_ph_fields
 
 abbrev of_maps : List ℕ
 of_maps = sps_chroma_format_idc ∷ sps_lmcs_enabled_flag ∷ sps_explicit_scaling_list_enabled_flag ∷ []
@@ -127,7 +127,7 @@ maps_add t maps takes = adds_all (once LMCS_AND_SCALING) maps (once_leaves names
     (λ u agree. takes_maps t u maps takes (read_maps t u agree))
 
 front_adds : (t : List ℕ) (id : ℕ) (maps : List Item) → id ≤ 63 → Takes (form_of LMCS_AND_SCALING t) maps → slice_index t pps_alf_info_in_ph_flag ≡ 0
-    → Adds names read t (sections_form front) (id_item id ∷ (maps ++ []))
+    → Adds names read t (sections_form ph_before_lists) (id_item id ∷ (maps ++ []))
 unfolding sections_form once filter_if names read fresh hides_counter hides_row shows_row
 front_adds t id maps small takes apart =
     let last = adds_none (sections_form (always OUTPUT ∷ [])) (sections_show names (always OUTPUT ∷ []) refl) (sections_leave read (always OUTPUT ∷ []) refl) in
@@ -174,13 +174,13 @@ back_adds t apart =
 
 header_adds : (t : List ℕ) (table : RplTable) (id : ℕ) (maps : List Item) → id ≤ 63 → Takes (form_of LMCS_AND_SCALING t) maps → slice_index t pps_alf_info_in_ph_flag ≡ 0
     → slice_index t pps_qp_delta_info_in_ph_flag ≡ 0 → Adds names read t (header_form table) (id_item id ∷ (maps ++ []))
-unfolding before_weights header_form
+unfolding ph_before_weights header_form
 header_adds t table id maps small takes filter_apart qp_apart =
     let all : List Item = id_item id ∷ (maps ++ []) in
-    let first = adds_before (sections_form front) (lists_if_present table) all (front_adds t id maps small takes filter_apart) (lists_add t table) in
-    let before : Adds names read t (before_weights table) all = adds_before (λ s. sections_form front s >>= lists_if_present table) (sections_form middle) all first (middle_adds t) in
-    let weighted = adds_before (before_weights table) weights_if_present all before (weights_add t) in
-    adds_before (λ s. before_weights table s >>= weights_if_present) (sections_form back) all weighted (back_adds t qp_apart)
+    let first = adds_before (sections_form ph_before_lists) (lists_if_present table) all (front_adds t id maps small takes filter_apart) (lists_add t table) in
+    let before : Adds names read t (ph_before_weights table) all = adds_before (λ s. sections_form ph_before_lists s >>= lists_if_present table) (sections_form middle) all first (middle_adds t) in
+    let weighted = adds_before (ph_before_weights table) weights_if_present all before (weights_add t) in
+    adds_before (λ s. ph_before_weights table s >>= weights_if_present) (sections_form back) all weighted (back_adds t qp_apart)
 
 pub header_rewrites : HeaderRewrites
 unfolding names id_item

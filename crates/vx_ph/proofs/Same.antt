@@ -17,7 +17,7 @@ use Rattle.vx_rpl.proofs.Following.{lists_follow_items, tables_follow_items}
 use Rattle.vx_sps.specs.Depends as sps_set
 use Rattle.vx_sps.specs.Set.{extra_ph_bits_of, extra_sh_bits_of, is_weighted, set_flags}
 use Rattle.vx_pps.specs.Pps.{default_active}
-use Rattle.vx_pps.specs.Sets as pps_set
+use Rattle.vx_pps.specs.laws.Sets as pps_set
 use Rattle.vx_pps.proofs.Fields.{all_pass, passes, same_with, with_field}
 use Rattle.vx_pps.proofs.Numbered.{kept_tells_numbers}
 use Rattle.vx_ph.specs.Depends.{kept_for_starred}
@@ -44,10 +44,10 @@ same_flags of items others same = flags_with of items ∙ ap (λ xs. set_flags o
 
 -- kept fields of an SPS, and what is none of one; kept fields of a PPS, and what is none of one
 abbrev pub of_sps : ℕ → Bool
-of_sps n = nat_le 400 n || has (set_of sps_set.kept) n
+of_sps n = nat_le 400 n || has (set_of sps_set.kept_sps_fields) n
 
 abbrev pub of_pps : ℕ → Bool
-of_pps n = (nat_lt n 400 || nat_le 600 n) || has (set_of pps_set.kept) n
+of_pps n = (nat_lt n 400 || nat_le 600 n) || has (set_of pps_set.kept_pps_fields) n
 
 -- and the one that isn't a field
 abbrev of_headers : ℕ → Bool
@@ -58,14 +58,14 @@ unfolding fresh
 all_are = (refl, refl)
 
 module _ (sps pps other_sps other_pps : List Item) (same : HaveSameKept sps pps other_sps other_pps) where
-  same_sps : sps_set.kept_of sps ≡ sps_set.kept_of other_sps
+  same_sps : sps_set.kept_sps_items sps ≡ sps_set.kept_sps_items other_sps
   same_sps = sym same.of_sps
 
-  pub sps_number : (n : ℕ) → IsTrue (has (set_of sps_set.kept) n) → number sps n ≡ number other_sps n
-  sps_number n is = number_of_shown (set_of sps_set.kept) n sps is ∙ ap (λ xs. number xs n) same_sps ∙ sym (number_of_shown (set_of sps_set.kept) n other_sps is)
+  pub sps_number : (n : ℕ) → IsTrue (has (set_of sps_set.kept_sps_fields) n) → number sps n ≡ number other_sps n
+  sps_number n is = number_of_shown (set_of sps_set.kept_sps_fields) n sps is ∙ ap (λ xs. number xs n) same_sps ∙ sym (number_of_shown (set_of sps_set.kept_sps_fields) n other_sps is)
 
   pub sps_numbers : (n : ℕ) → of_sps n ≡ true → n < 400 → number sps n ≡ number other_sps n
-  sps_numbers n pass low = elim (or_cases (nat_le 400 n) (has (set_of sps_set.kept) n) pass) [
+  sps_numbers n pass low = elim (or_cases (nat_le 400 n) (has (set_of sps_set.kept_sps_fields) n) pass) [
     | inl high ↦ absurd (omega (arith, low, leb-true 400 n high))
     | inr is ↦ sps_number n is
   ]
@@ -74,7 +74,7 @@ module _ (sps pps other_sps other_pps : List Item) (same : HaveSameKept sps pps 
   gives = kept_tells_numbers pps other_pps same.is_pps same.is_other_pps (sym same.of_pps)
 
   pub pps_numbers : (n : ℕ) → of_pps n ≡ true → 400 ≤ n → n < 600 → number pps n ≡ number other_pps n
-  pps_numbers n pass from upto = elim (or_cases (nat_lt n 400 || nat_le 600 n) (has (set_of pps_set.kept) n) pass) [
+  pps_numbers n pass from upto = elim (or_cases (nat_lt n 400 || nat_le 600 n) (has (set_of pps_set.kept_pps_fields) n) pass) [
     | inl out ↦ elim (or_cases (nat_lt n 400) (nat_le 600 n) out) [
       | inl low ↦ absurd (omega (arith, from, ltb-true n 400 low))
       | inr high ↦ absurd (omega (arith, upto, leb-true 600 n high))
@@ -87,11 +87,11 @@ module _ (sps pps other_sps other_pps : List Item) (same : HaveSameKept sps pps 
 
   extra_ph : extra_ph_bits_of sps ≡ extra_ph_bits_of other_sps
   unfolding fresh
-  extra_ph = same_flags sps_fields.sps_extra_ph_bit_present_flag sps other_sps (same_with (set_of sps_set.kept) sps_fields.sps_extra_ph_bit_present_flag sps other_sps refl same_sps)
+  extra_ph = same_flags sps_fields.sps_extra_ph_bit_present_flag sps other_sps (same_with (set_of sps_set.kept_sps_fields) sps_fields.sps_extra_ph_bit_present_flag sps other_sps refl same_sps)
 
   pub extra_sh : extra_sh_bits_of sps ≡ extra_sh_bits_of other_sps
   unfolding fresh
-  extra_sh = same_flags sps_fields.sps_extra_sh_bit_present_flag sps other_sps (same_with (set_of sps_set.kept) sps_fields.sps_extra_sh_bit_present_flag sps other_sps refl same_sps)
+  extra_sh = same_flags sps_fields.sps_extra_sh_bit_present_flag sps other_sps (same_with (set_of sps_set.kept_sps_fields) sps_fields.sps_extra_sh_bit_present_flag sps other_sps refl same_sps)
 
   weighted : is_weighted sps ≡ is_weighted other_sps
   unfolding fresh
@@ -102,7 +102,7 @@ module _ (sps pps other_sps other_pps : List Item) (same : HaveSameKept sps pps 
 
   same_tables : structures sps ≡ structures other_sps
   unfolding fresh
-  same_tables = ap (λ b. table_of b sps) weighted ∙ tables_follow_items (is_weighted other_sps) (set_of sps_set.kept) sps other_sps refl refl same_sps
+  same_tables = ap (λ b. table_of b sps) weighted ∙ tables_follow_items (is_weighted other_sps) (set_of sps_set.kept_sps_fields) sps other_sps refl refl same_sps
 
   numbers_agree : Agree (set_of kept_for_starred) (in_force sps pps) (in_force other_sps other_pps)
   numbers_agree = sets_agree kept_for_starred sps other_sps pps other_pps

@@ -12,7 +12,7 @@ use Rattle.vx_table.specs.declared.rows.Term.TheVariants.{Latest}
 use Rattle.vx_table.specs.Forms.{◌>>=◌, after, coding_at, form_of, has_value, limits_at, one_field, part}
 use Rattle.vx_table.specs.Parts.{sections_form}
 use Rattle.vx_table.specs.Scope.{fresh, loaded, most, natural}
-use Rattle.vx_table.specs.Sizes.{EachSpelling, IsShort, IsWithin, code_bits, greatest_coded, greatest_ranged, greatest_value, most_turns, part_bits, presence_keeps, row_keeps, table_bits}
+use Rattle.vx_table.specs.laws.Sizes.{EachSpelling, IsShort, IsWithin, code_bits, greatest_coded, greatest_ranged, greatest_value, most_turns, part_bits, presence_keeps, row_keeps, table_bits}
 use Rattle.vx_table.specs.Values.{Follows, bits_along, through, to_end}
 use Rattle.vx_table.specs.Spelling.{code_of}
 use Rattle.vx_table.specs.Loaded.{number}
@@ -30,9 +30,9 @@ use Rattle.vx_rpl.specs.Lists.{lists_form, weights, weights_form}
 use Rattle.vx_sps.specs.Set.{is_weighted}
 use Rattle.vx_ph.specs.declared.tables.TheConstants.{TRAILING}
 use Rattle.vx_ph.specs.Depends.{all_of_sets, of_header}
-use Rattle.vx_ph.specs.Header.{back, before_weights, front, header_form, lists_if_present, middle, weights_if_present}
+use Rattle.vx_ph.specs.Header.{back, ph_before_weights, ph_before_lists, header_form, lists_if_present, middle, weights_if_present}
 use Rattle.vx_ph.specs.Picture.{unit_form}
-use Rattle.vx_ph.specs.Sizes.{AreFew, IsBounded, SetsAreBounded, SpellingIsShort}
+use Rattle.vx_ph.specs.laws.Sizes.{AreFew, IsBounded, SetsAreBounded, SpellingIsShort}
 use Rattle.vx_ph.proofs.Carrying.{all_depend}
 use Rattle.vx_ph.proofs.Bounding.{bound_by, sections_few, within_none, within_one}
 use Rattle.vx_ph.proofs.Copied.{few_by_given}
@@ -42,9 +42,9 @@ use Rattle.vx_ph.proofs.ShortLists.{bounds, lists_few}
 
 -- ---- a header at a scope whose numbers keep the bounds
 
-front_few : (s : List ℕ) → IsWithin bounds s → IsShort bounds 3000 (sections_form front s)
+front_few : (s : List ℕ) → IsWithin bounds s → IsShort bounds 3000 (sections_form ph_before_lists s)
 unfolding table_bits part_bits most_turns code_bits row_keeps presence_keeps greatest_coded greatest_ranged greatest_value has_value
-front_few s within = sections_few bounds 3000 front s refl (omega arith) within
+front_few s within = sections_few bounds 3000 ph_before_lists s refl (omega arith) within
 
 middle_few : (s : List ℕ) → IsWithin bounds s → IsShort bounds 3000 (sections_form middle s)
 unfolding table_bits part_bits most_turns code_bits row_keeps presence_keeps greatest_coded greatest_ranged greatest_value has_value
@@ -59,12 +59,12 @@ unfolding table_bits part_bits most_turns code_bits row_keeps presence_keeps gre
 weights_few s within = sections_few bounds 20000 weights s refl (omega arith) within
 
 header_few : (table : RplTable) (s : List ℕ) → AreFew table.first → AreFew table.second → IsWithin bounds s → IsShort bounds 46200 (header_form table s)
-unfolding header_form before_weights presence_keeps most_turns
+unfolding header_form ph_before_weights presence_keeps most_turns
 header_few table s first second within =
-    short_then bounds (before_weights table s >>= weights_if_present) (sections_form back) 42200 4000
-    (short_then bounds (before_weights table s) weights_if_present 22200 20000
-    (short_then bounds (sections_form front s >>= lists_if_present table) (sections_form middle) 19200 3000
-    (short_then bounds (sections_form front s) (lists_if_present table) 3000 16200 (front_few s within)
+    short_then bounds (ph_before_weights table s >>= weights_if_present) (sections_form back) 42200 4000
+    (short_then bounds (ph_before_weights table s) weights_if_present 22200 20000
+    (short_then bounds (sections_form ph_before_lists s >>= lists_if_present table) (sections_form middle) 19200 3000
+    (short_then bounds (sections_form ph_before_lists s) (lists_if_present table) 3000 16200 (front_few s within)
     (λ t there. short_present bounds (When (Plain (Latest pps_rpl_info_in_ph_flag))) (lists_form table) 16200 t refl there (λ u at. lists_few table u first second at)))
     middle_few)
     (λ t there. short_present bounds (When (Plain (Latest HAS_WEIGHTS))) weights_form 20000 t refl there weights_few))

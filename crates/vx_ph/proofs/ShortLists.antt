@@ -14,7 +14,7 @@ use Rattle.vx_table.specs.EachField.{rows_pass}
 use Rattle.vx_table.specs.Forms.{Form, ◌>>=◌, form_of, has_value, present, turns}
 use Rattle.vx_table.specs.Parts.{always, sections_form}
 use Rattle.vx_table.specs.Scope.{fresh, one_if, value}
-use Rattle.vx_table.specs.Sizes.{Bound, EachSpelling, IsShort, IsWithin, code_bits, greatest_coded, greatest_ranged, greatest_value, most_turns, part_bits, presence_keeps, row_keeps, table_bits}
+use Rattle.vx_table.specs.laws.Sizes.{Bound, EachSpelling, IsShort, IsWithin, code_bits, greatest_coded, greatest_ranged, greatest_value, most_turns, part_bits, presence_keeps, row_keeps, table_bits}
 use Rattle.vx_table.proofs.Blocks.{form-block-whole, form-field, form-name}
 use Rattle.vx_table.proofs.Loading.{set_below}
 use Rattle.vx_table.proofs.Rewrites.{left_end, leaves_present, tables_leave}
@@ -31,7 +31,7 @@ use Rattle.vx_fields.specs.declared.weights.TheConstants.{num_l0_weights, num_l1
 use Rattle.vx_rpl.specs.declared.entry.RplTable.{RplTable}
 use Rattle.vx_rpl.specs.declared.entry.Structure.{Structure}
 use Rattle.vx_rpl.specs.declared.tables.TheConstants.{BEFORE_LIST_0, BEHIND_LIST_0, BEHIND_LIST_1, CHOICE, LONG_TERM, REF_PIC_LIST_STRUCT}
-use Rattle.vx_ph.specs.Sizes.{AreFew}
+use Rattle.vx_ph.specs.laws.Sizes.{AreFew}
 use Rattle.vx_ph.proofs.Bounding.{bound_by, set_here, table_few}
 use Rattle.vx_rpl.specs.Lists.{behind_structure, begun, choice_form, chosen_form, first_form, is_long, list_form, lists_form, own_and_long_term, picked, second_form}
 

@@ -10,13 +10,13 @@ use Rattle.vx_table.specs.Spelling.{Spells, at_end, behind, HasCode, fault_of, i
 use Rattle.vx_table.specs.Values.{Follows, to_end, through, bits_along}
 use Rattle.vx_table.specs.Writing.{Writes}
 use Rattle.vx_table.specs.declared.writer.SpellError.TheVariants.{NoValue}
-use Rattle.vx_table.specs.Trailing.{is_stop, ends_in_stop, EndsInStop}
+use Rattle.vx_table.specs.laws.Trailing.{is_stop, ends_in_stop, EndsInStop}
 use Rattle.vx_table.proofs.Stopped.{at_boundary, stops_behind, tables_stop}
 use Rattle.vx_table.proofs.Joined.{parted, joined, items_joined}
 use Rattle.vx_rpl.specs.declared.entry.RplTable.{RplTable}
 use Rattle.vx_ph.specs.declared.tables.TheConstants.{TRAILING}
 use Rattle.vx_ph.specs.Header.{header_form}
-use Rattle.vx_ph.specs.Picture.{AreFields, unit_form}
+use Rattle.vx_ph.specs.Picture.{ArePictureHeaderFields, unit_form}
 
 -- ---- what is read
 
@@ -26,7 +26,7 @@ spells_follow (at_end {a}) = (a, to_end)
 spells_follow (behind stands more) = let on = spells_follow more in (on.0, through (is_value stands) on.1)
 
 pub read_is : {B : Type 0} (table : RplTable) (s : List ℕ) (old new : Place) (items : List Item) (b : B)
-    → Reads (header_form table s) old [] (Ok b) new items → AreFields table s items
+    → Reads (header_form table s) old [] (Ok b) new items → ArePictureHeaderFields table s items
 read_is table s old new items b reads =
     let found = reads.is in
     let on = spells_follow found.spelled in
@@ -67,7 +67,7 @@ pub record AreUnit (table : RplTable) (s : List ℕ) (items : List Item) : Type 
   pub follows : Follows (unit_form table s) values end
   pub all : items ≡ items_along (unit_form table s) values
 
-pub unit_of : (table : RplTable) (s : List ℕ) (items : List Item) → AreFields table s items → AreUnit table s items
+pub unit_of : (table : RplTable) (s : List ℕ) (items : List Item) → ArePictureHeaderFields table s items → AreUnit table s items
 unfolding unit_form
 unit_of table s items fields = record {
   values = fields.values ++ (pos 0 ∷ []);
@@ -83,7 +83,7 @@ ends_bare : (s : List ℕ) (values : List ℤ) (end : List ℕ) → Follows (for
 unfolding form_of part one_field coding_at limits_at after has_value item_of
 ends_bare s values end (through value to_end) = refl
 
-pub of_unit : (table : RplTable) (s : List ℕ) (items : List Item) → AreUnit table s items → AreFields table s items
+pub of_unit : (table : RplTable) (s : List ℕ) (items : List Item) → AreUnit table s items → ArePictureHeaderFields table s items
 unfolding unit_form
 of_unit table s items u =
     let p = parted (header_form table s) (form_of TRAILING) u.follows in
@@ -97,7 +97,7 @@ of_unit table s items u =
     }
 
 pub read_unit_is : {B : Type 0} (table : RplTable) (s : List ℕ) (old new : Place) (items : List Item) (b : B)
-    → Reads (unit_form table s) old [] (Ok b) new items → AreFields table s items
+    → Reads (unit_form table s) old [] (Ok b) new items → ArePictureHeaderFields table s items
 read_unit_is table s old new items b reads =
     let found = reads.is in
     let on = spells_follow found.spelled in

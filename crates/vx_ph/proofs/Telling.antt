@@ -16,7 +16,7 @@ use Rattle.vx_table.specs.Values.{Follows, to_end, through}
 use Rattle.vx_rpl.specs.declared.entry.RplTable.{RplTable}
 use Rattle.vx_ph.specs.declared.tables.TheConstants.{STARRED}
 use Rattle.vx_ph.specs.Header.{header_form}
-use Rattle.vx_ph.specs.Depends.{kept, kept_of_sets}
+use Rattle.vx_ph.specs.Depends.{kept_ph_fields, kept_of_sets}
 use Rattle.vx_ph.proofs.Passing.{Pass, header_each}
 
 -- the items of fields that pass a test
@@ -59,10 +59,10 @@ header_alike p q pass table s on = alike_items p q (header_each (Alike p q) (tel
 -- ---- sets of a header's fields
 
 abbrev in_kept : ℕ → Bool
-in_kept n = has (set_of kept) n
+in_kept n = has (set_of kept_ph_fields) n
 
 abbrev in_given : ℕ → Bool
-in_given n = has (with_all (set_of kept_of_sets) kept) n
+in_given n = has (with_all (set_of kept_of_sets) kept_ph_fields) n
 
 abbrev in_starred : ℕ → Bool
 in_starred n = has (set_of STARRED) n

@@ -10,7 +10,7 @@ use Rattle.vx_table.specs.Reading.{Reads}
 use Rattle.vx_table.specs.Depends.{has, with_all, set_of, Agree, DependsOnlyOn}
 use Rattle.vx_table.specs.Named.{named_by_all, CodedOnce}
 use Rattle.vx_table.specs.Shown.{shown_items, KeepsOnly}
-use Rattle.vx_table.specs.Again.{AlwaysShown}
+use Rattle.vx_table.specs.laws.Again.{AlwaysShown}
 use Rattle.vx_table.specs.Rewritten.{IsRewritten}
 use Rattle.vx_table.specs.Rewrites.{Takes}
 use Rattle.vx_fields.specs.declared.sps.TheConstants as sps
@@ -19,24 +19,24 @@ use Rattle.vx_fields.specs.declared.ph.TheConstants as ph
 use Rattle.vx_fields.specs.declared.names.ph.TheConstants.{EXTRA_PH_BITS, FILTER_SET}
 use Rattle.vx_rpl.specs.declared.entry.RplTable.{RplTable}
 use Rattle.vx_rpl.specs.Lists.{weights}
-use Rattle.vx_rpl.specs.Depends.{of_lists}
+use Rattle.vx_rpl.specs.Depends.{fields_behind_lists}
 use Rattle.vx_ph.specs.declared.tables.TheConstants.{PICTURE, PPS_ID, ORDER_COUNT, ALF, LMCS_AND_SCALING, OUTPUT, INTRA, INTER, QP, FILTERS}
 use Rattle.vx_ph.specs.declared.tables.TheConstants.{STARRED}
-use Rattle.vx_ph.specs.Header.{front, middle, back, header_form}
+use Rattle.vx_ph.specs.Header.{ph_before_lists, middle, back, header_form}
 
 -- ---- fields
 
 -- all that a header has, and what its rows name besides
 abbrev pub of_header : List ℕ
-of_header = named_by_all front ++ (named_by_all middle ++ (named_by_all back ++ (of_lists ++ named_by_all weights)))
+of_header = named_by_all ph_before_lists ++ (named_by_all middle ++ (named_by_all back ++ (fields_behind_lists ++ named_by_all weights)))
 
 -- the fields with a star, and what is named for them alone
 abbrev pub starred : List ℕ
 starred = FILTER_SET ∷ STARRED
 
 -- all others are kept
-abbrev pub kept : List ℕ
-kept = filter (λ n. not (has (set_of starred) n)) of_header
+abbrev pub kept_ph_fields : List ℕ
+kept_ph_fields = filter (λ n. not (has (set_of starred) n)) of_header
 
 -- ---- what they depend on
 
@@ -67,7 +67,7 @@ all_of_sets = starred_of_sets ++ kept_for_starred
 
 -- The presence, coding and range of each kept field depend on kept fields of the sets, and kept fields before it in the header, alone.
 abbrev pub KeptDepend : Type 0
-KeptDepend = (table : RplTable) → DependsOnlyOn kept_of_sets kept (header_form table)
+KeptDepend = (table : RplTable) → DependsOnlyOn kept_of_sets kept_ph_fields (header_form table)
 
 -- Those of each field depend besides on the two fields, and any field before it in the header.
 abbrev pub AllDepend : Type 0
@@ -75,7 +75,7 @@ AllDepend = (table : RplTable) → DependsOnlyOn all_of_sets of_header (header_f
 
 -- The header keeps exactly the kept fields, and all its fields are named above.
 abbrev pub KeepsKept : Type 0
-KeepsKept = (table : RplTable) → KeepsOnly kept_of_sets kept (header_form table)
+KeepsKept = (table : RplTable) → KeepsOnly kept_of_sets kept_ph_fields (header_form table)
 
 abbrev pub ShowsAll : Type 0
 ShowsAll = (table : RplTable) → AlwaysShown (with_all (set_of all_of_sets) of_header) (header_form table)
@@ -102,5 +102,5 @@ HeaderRewrites = (table : RplTable) (s t : List ℕ) (values : List ℤ) (end : 
     → Agree (set_of kept_of_sets) s t → slice_index t pps.pps_alf_info_in_ph_flag ≡ 0 → slice_index t pps.pps_qp_delta_info_in_ph_flag ≡ 0
     → Follows (header_form table s) values end → id ≤ 63 → Takes (form_of LMCS_AND_SCALING t) maps
     → (items : List Item)
-    × IsRewritten (header_form table t) (set_of kept) (shown_items (set_of kept) (items_along (header_form table s) values))
+    × IsRewritten (header_form table t) (set_of kept_ph_fields) (shown_items (set_of kept_ph_fields) (items_along (header_form table s) values))
     (record { field = ph.ph_pic_parameter_set_id; value = pos id } ∷ maps) items

@@ -11,7 +11,7 @@ use Rattle.vx_fields.specs.declared.pps.TheConstants.{pps_alf_info_in_ph_flag}
 use Rattle.vx_fields.specs.declared.sps.TheConstants.{sps_alf_enabled_flag, sps_ccalf_enabled_flag, sps_chroma_format_idc}
 use Rattle.vx_rpl.specs.declared.entry.RplTable.{RplTable}
 use Rattle.vx_ph.specs.declared.tables.TheConstants.{ALF}
-use Rattle.vx_ph.specs.Picture.{AreFields}
+use Rattle.vx_ph.specs.Picture.{ArePictureHeaderFields}
 
 -- the fields that name a set
 abbrev pub set_ids : List ℕ
@@ -35,7 +35,7 @@ FilterGoesAgain = (ids : ℕ → ℕ) (s t : List ℕ) (items : List Item) → (
 
 -- That of a picture header goes through under its sets, where it stands there.
 abbrev pub HeaderHasFilter : Type 0
-HeaderHasFilter = (table : RplTable) (s : List ℕ) (items : List Item) → AreFields table s items
+HeaderHasFilter = (table : RplTable) (s : List ℕ) (items : List Item) → ArePictureHeaderFields table s items
     → is_set (slice_index s sps_alf_enabled_flag) ≡ true → is_set (slice_index s pps_alf_info_in_ph_flag) ≡ true
     → Takes (form_of ALF s) (filter_of items)
 

@@ -14,8 +14,8 @@ use Rattle.vx_ph.specs.declared.tables.TheConstants.{PICTURE, PPS_ID, ORDER_COUN
 use Rattle.vx_ph.specs.declared.tables.TheConstants.{INTRA, INTER, QP, FILTERS}
 
 -- before the lists: the filter where the SPS has it and the PPS says that it stands here
-abbrev pub front : List Section
-front = always PICTURE ∷ always PPS_ID ∷ always ORDER_COUNT
+abbrev pub ph_before_lists : List Section
+ph_before_lists = always PICTURE ∷ always PPS_ID ∷ always ORDER_COUNT
     ∷ provided (Both (Latest sps_alf_enabled_flag) (Latest pps_alf_info_in_ph_flag)) ALF ∷ always LMCS_AND_SCALING ∷ always OUTPUT ∷ []
 
 -- the lists, where the PPS says that they stand here
@@ -34,9 +34,9 @@ weights_if_present = present (When (Plain (Latest HAS_WEIGHTS))) weights_form
 abbrev pub back : List Section
 back = always QP ∷ always FILTERS ∷ []
 
-unfoldable pub before_weights : RplTable → List ℕ → Form (List ℕ)
-before_weights table s = (sections_form front s >>= lists_if_present table) >>= sections_form middle
+unfoldable pub ph_before_weights : RplTable → List ℕ → Form (List ℕ)
+ph_before_weights table s = (sections_form ph_before_lists s >>= lists_if_present table) >>= sections_form middle
 
 -- picture_header_structure( ), with the SPS's structures of lists, at a scope that has the numbers of the sets in force
 unfoldable pub header_form : RplTable → List ℕ → Form (List ℕ)
-header_form table s = (before_weights table s >>= weights_if_present) >>= sections_form back
+header_form table s = (ph_before_weights table s >>= weights_if_present) >>= sections_form back

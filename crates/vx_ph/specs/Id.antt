@@ -13,19 +13,19 @@ use Rattle.vx_rpl.specs.declared.entry.RplTable.{RplTable}
 use Rattle.vx_ph.specs.declared.header.PictureHeader.{PictureHeader}
 use Rattle.vx_ph.specs.declared.tables.TheConstants.{PICTURE, PPS_ID}
 use Rattle.vx_ph.specs.Header.{header_form}
-use Rattle.vx_ph.specs.Picture.{IsUnit}
+use Rattle.vx_ph.specs.Picture.{IsPictureHeaderUnit}
 
 -- a header up to the id
 abbrev pub to_id : List Section
 to_id = always PICTURE ∷ always PPS_ID ∷ []
 
-unfoldable pub id_form : Form (List ℕ)
-id_form = sections_form to_id fresh
+unfoldable pub pps_id_form : Form (List ℕ)
+pps_id_form = sections_form to_id fresh
 
 -- This is the id in what the bits begin with the spelling of.
 abbrev pub IsId : Place → ℕ → Type 0
-IsId place id = (values : List ℤ) (rest : List Bool) → Spells place.total id_form values place.left rest
-    → number (items_along id_form values) ph_pic_parameter_set_id ≡ id
+IsId place id = (values : List ℤ) (rest : List Bool) → Spells place.total pps_id_form values place.left rest
+    → number (items_along pps_id_form values) ph_pic_parameter_set_id ≡ id
 
 -- It is the id of each header that they begin with, whatever the sets.
 abbrev pub HeaderHasId : Type 0
@@ -35,6 +35,6 @@ HeaderHasId = (table : RplTable) (s : List ℕ) (place : Place) (id : ℕ) (valu
 
 -- A unit begins with items up to the id that a reader answers, whatever the sets, and its header's id is theirs.
 abbrev pub UnitHasId : Type 0
-UnitHasId = (table : RplTable) (s : List ℕ) (header : PictureHeader) (bytes : List ℕ) → length s ≡ 1024 → IsUnit table s header bytes
-    → (items : List Item) × ((new : Place) × Reads {B = Unit {0}} id_form (at_front bytes) [] (Ok tt) new items)
+UnitHasId = (table : RplTable) (s : List ℕ) (header : PictureHeader) (bytes : List ℕ) → length s ≡ 1024 → IsPictureHeaderUnit table s header bytes
+    → (items : List Item) × ((new : Place) × Reads {B = Unit {0}} pps_id_form (at_front bytes) [] (Ok tt) new items)
     × (number header.fields ph_pic_parameter_set_id ≡ number items ph_pic_parameter_set_id)

@@ -6,6 +6,5 @@ pub mod Depends
 pub mod Picture
 pub mod Reshaped
 pub mod Filter
-pub mod Enabled
-pub mod Sizes
 pub mod inner
+pub mod laws

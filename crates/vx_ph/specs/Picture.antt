@@ -17,7 +17,7 @@ use Rattle.vx_ph.specs.declared.tables.TheConstants.{TRAILING}
 use Rattle.vx_ph.specs.Header.{header_form}
 
 -- The items are those of a header: of values that go through its form to this end.
-pub record AreFields (table : RplTable) (s : List ℕ) (items : List Item) : Type 0 where
+pub record ArePictureHeaderFields (table : RplTable) (s : List ℕ) (items : List Item) : Type 0 where
   pub values : List ℤ
   pub end : List ℕ
   pub follows : Follows (header_form table s) values end
@@ -25,7 +25,7 @@ pub record AreFields (table : RplTable) (s : List ℕ) (items : List Item) : Typ
 
 -- A header has such fields, and the lists that these come to.
 pub record IsHeader (table : RplTable) (s : List ℕ) (header : PictureHeader) : Type 0 where
-  pub fields : AreFields table s header.fields
+  pub fields : ArePictureHeaderFields table s header.fields
   pub lists : header.lists ≡ lists_of table s header.fields
 
 -- What a reader answers of a header.
@@ -35,13 +35,13 @@ ReadsHeader table s old (Ok header) new =
 ReadsHeader table s old (Err e) new = (items : List Item) × Reads {B = Unit {0}} (header_form table s) old [] (Err e) new items
 
 -- What was gained is the spelling of the header,
-pub record IsSpelling (table : RplTable) (s : List ℕ) (header : PictureHeader) (old new : List Bool) : Type 0 where
-  pub fields : AreFields table s header.fields
+pub record IsPictureHeaderSpelling (table : RplTable) (s : List ℕ) (header : PictureHeader) (old new : List Bool) : Type 0 where
+  pub fields : ArePictureHeaderFields table s header.fields
   pub gained : new ≡ old ++ bits_along (header_form table s) (length old) fields.values
 
 -- or of a front of it.
-abbrev pub IsFront : RplTable → List ℕ → PictureHeader → List Bool → List Bool → Type 0
-IsFront table s header old new =
+abbrev pub IsPictureHeaderFront : RplTable → List ℕ → PictureHeader → List Bool → List Bool → Type 0
+IsPictureHeaderFront table s header old new =
     (cell : Cell ℕ) × ((left : List Item)
     × HaltsAt (header_form table s) (bits_along (header_form table s) (length old)) old header.fields new left cell)
 
@@ -57,7 +57,7 @@ ReadsUnit table s rbsp (Err e) =
     (new : Place) × ((items : List Item) × Reads {B = Unit {0}} (unit_form table s) (at_front rbsp) [] (Err e) new items)
 
 -- The bytes are the unit's.
-pub record IsUnit (table : RplTable) (s : List ℕ) (header : PictureHeader) (bytes : List ℕ) : Type 0 where
+pub record IsPictureHeaderUnit (table : RplTable) (s : List ℕ) (header : PictureHeader) (bytes : List ℕ) : Type 0 where
   pub values : List ℤ
   pub end : List ℕ
   pub follows : Follows (unit_form table s) values end
@@ -67,4 +67,4 @@ pub record IsUnit (table : RplTable) (s : List ℕ) (header : PictureHeader) (by
 -- The bytes of a unit are read as its header.
 abbrev pub UnitIsRead : Type 0
 UnitIsRead = (table : RplTable) (s : List ℕ) (header : PictureHeader) (bytes : List ℕ) → IsHeader table s header
-    → IsUnit table s header bytes → ReadsUnit table s bytes (Ok header)
+    → IsPictureHeaderUnit table s header bytes → ReadsUnit table s bytes (Ok header)

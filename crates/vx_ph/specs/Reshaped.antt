@@ -14,14 +14,15 @@ use Rattle.vx_rpl.specs.Depends.{has_run}
 use Rattle.vx_rpl.specs.HeaderLists.{lists_of}
 use Rattle.vx_sps.specs.Depends as sps_set
 use Rattle.vx_sps.specs.Set as sps_items
-use Rattle.vx_sps.specs.Reshaped.{item, where_so}
+use Rattle.vx_sps.specs.Reshaped.{item}
+use Rattle.vx_table.specs.Rewritten.{where_so}
 use Rattle.vx_pps.specs.Pps as pps_set
 use Rattle.vx_ph.specs.declared.header.PictureHeader.{PictureHeader}
 use Rattle.vx_ph.specs.declared.shape.LmcsShape.{LmcsShape}
 use Rattle.vx_ph.specs.declared.shape.PhShape.{PhShape}
 use Rattle.vx_ph.specs.Header.{header_form}
 use Rattle.vx_ph.specs.InForce.{in_force, structures}
-use Rattle.vx_ph.specs.Depends.{kept, kept_for_starred}
+use Rattle.vx_ph.specs.Depends.{kept_ph_fields, kept_for_starred}
 use Rattle.vx_ph.specs.Picture.{IsHeader}
 
 -- ---- what is stated, in the order of the syntax
@@ -45,8 +46,8 @@ map_items sps shape =
     ++ where_so (is_set (number sps sps_fields.sps_explicit_scaling_list_enabled_flag)) (scaling_said shape.scaling)
 
 -- all that is stated: the PPS, and these; neither filter nor QP, which stand in slice headers
-abbrev pub stated : List Item → PhShape → List Item
-stated sps shape = item ph.ph_pic_parameter_set_id shape.pps_id ∷ map_items sps shape
+abbrev pub stated_ph_items : List Item → PhShape → List Item
+stated_ph_items sps shape = item ph.ph_pic_parameter_set_id shape.pps_id ∷ map_items sps shape
 
 -- numbers that a header can have
 pub record IsShape (shape : PhShape) : Type 0 where
@@ -58,12 +59,12 @@ pub record IsShape (shape : PhShape) : Type 0 where
 
 -- Two pairs of an SPS and a PPS with the same kept fields.
 pub record HaveSameKept (sps pps other_sps other_pps : List Item) : Type 0 where
-  pub of_sps : sps_set.kept_of other_sps ≡ sps_set.kept_of sps
-  pub of_pps : pps_set.kept_of other_pps ≡ pps_set.kept_of pps
-  pub is_sps : sps_items.IsItems sps
-  pub is_other_sps : sps_items.IsItems other_sps
-  pub is_pps : pps_set.IsItems pps
-  pub is_other_pps : pps_set.IsItems other_pps
+  pub of_sps : sps_set.kept_sps_items other_sps ≡ sps_set.kept_sps_items sps
+  pub of_pps : pps_set.kept_pps_items other_pps ≡ pps_set.kept_pps_items pps
+  pub is_sps : sps_items.AreSpsItems sps
+  pub is_other_sps : sps_items.AreSpsItems other_sps
+  pub is_pps : pps_set.ArePpsItems pps
+  pub is_other_pps : pps_set.ArePpsItems other_pps
 
 -- A PPS that has the filter and the QP in slice headers.
 pub record IsApart (pps : List Item) : Type 0 where
@@ -81,13 +82,13 @@ pub record GoesUnder (source : PictureHeader) (sps pps : List Item) : Type 0 whe
 -- ---- the rewritten header
 
 -- The items are those of a header under the sets. Those of kept fields are the source's, and the others are exactly what is stated.
-abbrev pub AreReshaped : List Item → PhShape → List Item → List Item → List Item → Type 0
-AreReshaped source shape sps pps items = IsRewritten (header_form (structures sps) (in_force sps pps)) (set_of kept)
-    (shown_items (set_of kept) source) (stated sps shape) items
+abbrev pub AreReshapedInPictureHeader : List Item → PhShape → List Item → List Item → List Item → Type 0
+AreReshapedInPictureHeader source shape sps pps items = IsRewritten (header_form (structures sps) (in_force sps pps)) (set_of kept_ph_fields)
+    (shown_items (set_of kept_ph_fields) source) (stated_ph_items sps shape) items
 
 -- And its reference picture lists are the source's.
-pub record IsReshaped (source : PictureHeader) (shape : PhShape) (sps pps : List Item) (written : PictureHeader) : Type 0 where
-  pub fields : AreReshaped source.fields shape sps pps written.fields
+pub record IsReshapedPictureHeader (source : PictureHeader) (shape : PhShape) (sps pps : List Item) (written : PictureHeader) : Type 0 where
+  pub fields : AreReshapedInPictureHeader source.fields shape sps pps written.fields
   pub lists : written.lists ≡ source.lists
 
 -- ---- sets with the same kept fields

@@ -1,12 +1,12 @@
 //! Laws of picture headers: functions that do nothing, each with a law as its contract.
 ghost use Rattle.vx_ph.specs.Depends.{KeptDepend, AllDepend, KeepsKept, ShowsAll, FieldsAreCodedOnce, HeaderReadAgain, HeaderRewrites};
-ghost use Rattle.vx_ph.specs.Enabled.{NoLmcs, NoScaling, NoChromaScaling, NoFilter};
+ghost use Rattle.vx_ph.specs.laws.Enabled.{NoLmcs, NoScaling, NoChromaScaling, NoFilter};
 ghost use Rattle.vx_ph.specs.Filter.{FilterGoesAgain, FilterNamesOnce, HeaderHasFilter};
 ghost use Rattle.vx_ph.specs.Id.{HeaderHasId, UnitHasId};
 ghost use Rattle.vx_ph.specs.InForce.{SetsAgree};
 ghost use Rattle.vx_ph.specs.Picture.{UnitIsRead};
 ghost use Rattle.vx_ph.specs.Reshaped.{SameKeptAgree};
-ghost use Rattle.vx_ph.specs.Sizes.{SetsAreBounded, SpellingIsShort};
+ghost use Rattle.vx_ph.specs.laws.Sizes.{SetsAreBounded, SpellingIsShort};
 
 /// Sets that give some fields the same numbers give scopes that agree on these.
 pub fn sets_agree()

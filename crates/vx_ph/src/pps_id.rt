@@ -1,7 +1,7 @@
 //! The id of the PPS that a picture header refers to.
 ghost use Rattle.std.specs.Prelude.{◌≡◌, IfOk};
-ghost use Rattle.vx_table.specs.Reading.{Passes, Reads};
-ghost use Rattle.vx_ph.specs.Id.{id_form, IsId};
+ghost use Rattle.vx_table.specs.Reading.{PassesOver, Reads};
+ghost use Rattle.vx_ph.specs.Id.{pps_id_form, IsId};
 
 use crate::tables::{PICTURE, PPS_ID};
 use vx_bits::{BitReader, Fields, ReadError, Refusal};
@@ -15,7 +15,7 @@ use vx_table::{Scope, parts, pass_parts, read_parts};
 ///
 /// The first refusal among these fields; `bits` then stands at its field.
 pub fn read_pps_id(bits: &mut BitReader<'_>) -> Result<u8, Refusal>
-    ensures answer { Passes id_form bits.old result bits.new }
+    ensures answer { PassesOver pps_id_form bits.old result bits.new }
     ensures id { IfOk result (λ id. IsId bits.old id) }
 {
     let mut scope = Scope::new();
@@ -30,7 +30,7 @@ pub fn read_pps_id(bits: &mut BitReader<'_>) -> Result<u8, Refusal>
 /// The first refusal, or want of memory. `into` has then gained the fields read before, and `bits` stands at the field that comes
 /// next.
 pub fn read_pps_id_fields(bits: &mut BitReader<'_>, into: &mut Fields) -> Result<(), ReadError>
-    ensures { Reads id_form bits.old into.old result bits.new into.new }
+    ensures { Reads pps_id_form bits.old into.old result bits.new into.new }
 {
     let mut scope = Scope::new();
     read_parts(&parts![PICTURE, PPS_ID], &mut scope, bits, into)

@@ -4,12 +4,12 @@ ghost use Rattle.vx_table.specs.Depends as sets;
 ghost use Rattle.vx_table.specs.Loaded as loading;
 ghost use Rattle.vx_table.specs.Rewritten.{other_items};
 ghost use Rattle.vx_sps.specs.Reshaped as reshaped;
-ghost use Rattle.vx_sps.specs.Reshaped.{where_so};
+ghost use Rattle.vx_table.specs.Rewritten.{where_so};
 ghost use Rattle.vx_ph.specs.declared.tables.TheConstants as tables;
 ghost use Rattle.vx_ph.specs.Header.{header_form};
 ghost use Rattle.vx_ph.specs.InForce.{in_force, structures};
 ghost use Rattle.vx_ph.specs.Picture.{IsHeader};
-ghost use Rattle.vx_ph.specs.Reshaped.{lmcs_said, scaling_said, map_items, stated, IsShape, GoesUnder, AreReshaped, IsReshaped};
+ghost use Rattle.vx_ph.specs.Reshaped.{lmcs_said, scaling_said, map_items, stated_ph_items, IsShape, GoesUnder, AreReshapedInPictureHeader, IsReshapedPictureHeader};
 ghost use Rattle.vx_ph.specs.inner.Makes.{Makes};
 
 use crate::header::PictureHeader;
@@ -124,7 +124,7 @@ fn push_maps(sps: &Sps, shape: &PhShape, into: &mut Fields) -> Result<(), AllocE
 
 /// All that is stated, in order.
 fn stated_items(alloc: Global, sps: &Sps, shape: &PhShape) -> Result<Fields, AllocError>
-    ensures { IfOk result (λ items. items ≡ stated sps.now shape.now) }
+    ensures { IfOk result (λ items. items ≡ stated_ph_items sps.now shape.now) }
 {
     let mut into = Fields::new(alloc);
     into.push(item(ph_pic_parameter_set_id, u32::from(shape.pps_id)))?;
@@ -165,7 +165,7 @@ fn reshaped_items(
 ) -> Result<Fields, AllocError>
     requires shape { IsShape shape.now }
     requires source { GoesUnder source.now sps.now pps.now }
-    ensures { IfOk result (λ items. AreReshaped source.now.fields shape.now sps.now pps.now items) }
+    ensures { IfOk result (λ items. AreReshapedInPictureHeader source.now.fields shape.now sps.now pps.now items) }
 {
     let kept = others_of(alloc, &source.fields, &set_of(&STARRED))?;
     let stated = stated_items(alloc, sps, shape)?;
@@ -192,7 +192,7 @@ pub fn reshape_ph(
 ) -> Result<PictureHeader, AllocError>
     requires shape { IsShape shape.now }
     requires source { GoesUnder source.now sps.now pps.now }
-    ensures reshaped { IfOk result (λ header. IsReshaped source.now shape.now sps.now pps.now header) }
+    ensures reshaped { IfOk result (λ header. IsReshapedPictureHeader source.now shape.now sps.now pps.now header) }
     // It is a header under the sets, which can be written.
     ensures header { IfOk result (λ header. IsHeader (structures sps.now) (in_force sps.now pps.now) header) }
 {

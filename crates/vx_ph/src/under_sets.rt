@@ -4,7 +4,7 @@ ghost use Rattle.vx_bits.specs.Place.{Place};
 ghost use Rattle.vx_table.specs.Reading.{Reads, at_front};
 ghost use Rattle.vx_ph.specs.Header.{header_form};
 ghost use Rattle.vx_ph.specs.InForce.{in_force, structures};
-ghost use Rattle.vx_ph.specs.Picture.{IsHeader, ReadsHeader, ReadsUnit, IsSpelling, IsFront, IsUnit, unit_form};
+ghost use Rattle.vx_ph.specs.Picture.{IsHeader, ReadsHeader, ReadsUnit, IsPictureHeaderSpelling, IsPictureHeaderFront, IsPictureHeaderUnit, unit_form};
 
 use crate::header::PictureHeader;
 use crate::read::{read_fields, read_header_at};
@@ -101,8 +101,8 @@ pub fn write_header(
     pps: &Pps,
 ) -> Result<(), AllocError>
     requires { IsHeader (structures sps.now) (in_force sps.now pps.now) header.now }
-    ensures ok { OnOk result (IsSpelling (structures sps.now) (in_force sps.now pps.now) header.now bits.old bits.new) }
-    ensures err { OnErr result (IsFront (structures sps.now) (in_force sps.now pps.now) header.now bits.old bits.new) }
+    ensures ok { OnOk result (IsPictureHeaderSpelling (structures sps.now) (in_force sps.now pps.now) header.now bits.old bits.new) }
+    ensures err { OnErr result (IsPictureHeaderFront (structures sps.now) (in_force sps.now pps.now) header.now bits.old bits.new) }
 {
     write_header_at(bits, header, sps.table(), &in_force(sps, pps))
 }
@@ -115,7 +115,7 @@ pub fn write_ph(
     pps: &Pps,
 ) -> Result<Vec<u8>, AllocError>
     requires { IsHeader (structures sps.now) (in_force sps.now pps.now) header.now }
-    ensures { IfOk result (λ bytes. IsUnit (structures sps.now) (in_force sps.now pps.now) header.now bytes.items) }
+    ensures { IfOk result (λ bytes. IsPictureHeaderUnit (structures sps.now) (in_force sps.now pps.now) header.now bytes.items) }
 {
     write_unit_at(alloc, header, sps.table(), &in_force(sps, pps))
 }

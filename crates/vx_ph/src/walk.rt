@@ -2,7 +2,7 @@
 ghost use Rattle.std.specs.Prelude.{◌≡◌};
 ghost use Rattle.vx_table.specs.Walks.{Walks, leaving};
 ghost use Rattle.vx_table.specs.Parts.{sections_form};
-ghost use Rattle.vx_ph.specs.Header.{front, lists_if_present, middle, weights_if_present, back, before_weights, header_form};
+ghost use Rattle.vx_ph.specs.Header.{ph_before_lists, lists_if_present, middle, weights_if_present, back, ph_before_weights, header_form};
 ghost use Rattle.vx_ph.specs.Picture.{unit_form};
 
 use crate::tables::{
@@ -21,7 +21,7 @@ fn code_front<I, C: Coder<I>>(
     coder: &mut C,
     items: &mut I,
 ) -> Result<(), C::Fault>
-    ensures { Walks C.step (sections_form front scope.old) coder.old items.old (leaving scope.new result) coder.new items.new }
+    ensures { Walks C.step (sections_form ph_before_lists scope.old) coder.old items.old (leaving scope.new result) coder.new items.new }
 {
     code_parts(
         &parts![
@@ -89,14 +89,14 @@ fn code_back<I, C: Coder<I>>(
 }
 
 /// Codes what stands before prediction weights.
-#[tactic(auto, unfolding(crate::specs::Header::before_weights), using(vx_table::proofs::Steps::then, vx_table::proofs::Steps::stop))]
+#[tactic(auto, unfolding(crate::specs::Header::ph_before_weights), using(vx_table::proofs::Steps::then, vx_table::proofs::Steps::stop))]
 fn code_before_weights<I, C: Coder<I>>(
     table: &RplTable,
     scope: &mut Scope,
     coder: &mut C,
     items: &mut I,
 ) -> Result<(), C::Fault>
-    ensures { Walks C.step (before_weights table.now scope.old) coder.old items.old (leaving scope.new result) coder.new items.new }
+    ensures { Walks C.step (ph_before_weights table.now scope.old) coder.old items.old (leaving scope.new result) coder.new items.new }
 {
     code_front(scope, coder, items)?;
     code_lists_if_present(table, scope, coder, items)?;

@@ -2,7 +2,7 @@
 ghost use Rattle.std.specs.Prelude.{◌≡◌, [], ◌++◌, IfOk, OnOk, OnErr};
 ghost use Rattle.vx_table.specs.Writing.{Writes};
 ghost use Rattle.vx_ph.specs.Header.{header_form};
-ghost use Rattle.vx_ph.specs.Picture.{IsHeader, IsSpelling, IsFront, IsUnit, unit_form};
+ghost use Rattle.vx_ph.specs.Picture.{IsHeader, IsPictureHeaderSpelling, IsPictureHeaderFront, IsPictureHeaderUnit, unit_form};
 
 use crate::header::PictureHeader;
 use crate::walk::{code_header, code_unit};
@@ -35,8 +35,8 @@ pub fn write_header_at(
     scope: &Scope,
 ) -> Result<(), AllocError>
     requires { IsHeader table.now scope.now header.now }
-    ensures ok { OnOk result (IsSpelling table.now scope.now header.now bits.old bits.new) }
-    ensures err { OnErr result (IsFront table.now scope.now header.now bits.old bits.new) }
+    ensures ok { OnOk result (IsPictureHeaderSpelling table.now scope.now header.now bits.old bits.new) }
+    ensures err { OnErr result (IsPictureHeaderFront table.now scope.now header.now bits.old bits.new) }
 {
     let fields = &header.fields;
     let mut items = Unwritten::new(fields, 0, fields.len());
@@ -67,7 +67,7 @@ pub fn write_unit_at(
     scope: &Scope,
 ) -> Result<Vec<u8>, AllocError>
     requires { IsHeader table.now scope.now header.now }
-    ensures { IfOk result (λ bytes. IsUnit table.now scope.now header.now bytes.items) }
+    ensures { IfOk result (λ bytes. IsPictureHeaderUnit table.now scope.now header.now bytes.items) }
 {
     let fields = &header.fields;
     let mut bits = BitWriter::new(alloc);

@@ -14,18 +14,18 @@ use Rattle.vx_pic.specs.declared.kind.Kind.{Kind}
 use Rattle.vx_pic.specs.Answers.{◌>>=◌}
 use Rattle.vx_pic.specs.Units.{is_reserved, temporal_id, has_header_inside, is_irap_or_gdr, Class, sps_unit, pps_unit, prefix_aps}
 use Rattle.vx_pic.specs.Units.{header_unit, slice_unit, sei_unit, end_unit, class_of}
-use Rattle.vx_pic.specs.Sets.{Slot, pps_id, referred_sps, place_of, names_of}
+use Rattle.vx_pic.specs.Sets.{Slot, pps_id, referred_sps, slices_before, names_of}
 use Rattle.vx_pic.specs.Readings.{Begun, Slice, Reading, messages_read, header_read, first_slice, next_slice, sequence_ended}
 use Rattle.vx_pic.specs.Readings.{stored_sps, stored_pps, is_ended, gathered, Picture, is_whole, Current, nothing, headed, going}
-use Rattle.vx_pic.specs.Readings.{with_slice, current, is_open, is_within, whole_part, pictures}
+use Rattle.vx_pic.specs.Readings.{with_slice, current, is_open, is_within_picture, picture_if_whole, pictures}
 use Rattle.vx_pic.specs.Counts.{fits_count, begins_anew, kind_of, is_changed}
-use Rattle.vx_pic.specs.Rules.{Readers, are_stored, unit_size, size_of, picture_limit, message_limit, kind_at, starts_elsewhere}
+use Rattle.vx_pic.specs.Rules.{Readers, are_stored, unit_size, picture_size, picture_limit, message_limit, kind_at, starts_elsewhere}
 use Rattle.vx_pic.specs.Rules.{opened_as, opens, opened, begins, joins, first, follows, alone, reads_as, reads}
 use Rattle.vx_pic.specs.Streams.{all_read, one_more, read_on, unless_refused}
 use Rattle.vx_pic.specs.Alike.{IsNext}
-use Rattle.vx_pic.specs.Written.{Set, an_sps, a_pps, an_aps, set_reading, SetUnit, SeiUnit, Plan, slices_of, sei_messages, eos_unit}
+use Rattle.vx_pic.specs.Written.{Set, an_sps, a_pps, an_aps, set_reading, SetUnit, SeiUnit, Plan, planned_slices, messages_sent, eos_unit}
 use Rattle.vx_pic.specs.Written.{eos_units, sei_units, eos_readings, set_readings, sei_readings, header_readings, slice_readings}
-use Rattle.vx_pic.specs.Written.{readings_of, after, before_slices, planned, Rests, IsPlain, AreInOrder, AreInForce, Says, HeaderReads}
+use Rattle.vx_pic.specs.Written.{readings_of, readings_after, before_slices, planned, Rests, IsPlain, AreInOrder, AreInForce, Says, HeaderReads}
 use Rattle.vx_pic.specs.Written.{HeadReads, SliceReads, SeiReads, PlanReadsAgain}
 use Rattle.vx_pic.proofs.Going.{goes_on}
 
@@ -46,16 +46,16 @@ both false b h = refl
 
 -- ---- readings behind others
 
-pub after_append : (before rs ss : List Reading) → after before (rs ++ ss) ≡ after (after before rs) ss
+pub after_append : (before rs ss : List Reading) → readings_after before (rs ++ ss) ≡ readings_after (readings_after before rs) ss
 after_append before [] ss = refl
 after_append before (r ∷ rs) ss = after_append (r ∷ before) rs ss
 
 -- units are read as this
 abbrev AreRead : Readers → List Reading → List (List ℕ) → List Reading → Type 0
-AreRead R before units readings = read_on R before units ≡ all_read (after before readings)
+AreRead R before units readings = read_on R before units ≡ all_read (readings_after before readings)
 
 read_append : (R : Readers) (before : List Reading) (units more : List (List ℕ)) (rs ss : List Reading) → AreRead R before units rs
-    → AreRead R (after before rs) more ss → AreRead R before (units ++ more) (rs ++ ss)
+    → AreRead R (readings_after before rs) more ss → AreRead R before (units ++ more) (rs ++ ss)
 read_append R before units more rs ss read then =
     goes_on R before units more
     ∙ ap (λ o. unless_refused o.refusal o.before (λ b. read_on R b more)) read
@@ -79,7 +79,7 @@ one_set (an_sps s) before = record { current = refl; pictures = refl; ended = re
 one_set (a_pps p) before = record { current = refl; pictures = refl; ended = refl; gathered = refl }
 one_set (an_aps a) before = record { current = refl; pictures = refl; ended = refl; gathered = refl }
 
-sets_keep : (before : List Reading) (sent : List SetUnit) → Same (after before (set_readings sent)) before
+sets_keep : (before : List Reading) (sent : List SetUnit) → Same (readings_after before (set_readings sent)) before
 sets_keep before [] = record { current = refl; pictures = refl; ended = refl; gathered = refl }
 sets_keep before (x ∷ sent) =
     let one = one_set x.set before in
@@ -91,7 +91,7 @@ sets_keep before (x ∷ sent) =
       gathered = more.gathered ∙ one.gathered;
     }
 
-closed_within : (c : Current) → is_open c ≡ false → is_within c ≡ false
+closed_within : (c : Current) → is_open c ≡ false → is_within_picture c ≡ false
 closed_within nothing h = refl
 closed_within (headed b) h = refl
 closed_within (going p) h = h
@@ -102,23 +102,23 @@ closed_within (going p) h = h
 plain : (R : Readers) (before : List Reading) (u : List ℕ) (c : Class) → IsPlain u c → reads R before u ≡ reads_as R c before u
 plain R before u c is = rw (is.reserved, differ (nuh_layer_id u) 0 is.layer, is.class) refl
 
-set_read : (R : Readers) (before : List Reading) (x : SetUnit) → is_within (current before) ≡ false → Says R x.unit x.set
+set_read : (R : Readers) (before : List Reading) (x : SetUnit) → is_within_picture (current before) ≡ false → Says R x.unit x.set
     → reads R before x.unit ≡ Ok (set_reading x.set)
 set_read R before x closed says = one x.unit x.set closed says
   where
-    one : (u : List ℕ) (s : Set) → is_within (current before) ≡ false → Says R u s → reads R before u ≡ Ok (set_reading s)
+    one : (u : List ℕ) (s : Set) → is_within_picture (current before) ≡ false → Says R u s → reads R before u ≡ Ok (set_reading s)
     one u (an_sps s) closed says = plain R before u sps_unit says.0 ∙ rw (closed, says.1) refl
     one u (a_pps p) closed says = plain R before u pps_unit says.0 ∙ rw (closed, says.1) refl
     one u (an_aps a) closed says = plain R before u prefix_aps says.0 ∙ rw (closed, says.1) refl
 
-sets_read : (R : Readers) (before : List Reading) (sent : List SetUnit) → is_within (current before) ≡ false
+sets_read : (R : Readers) (before : List Reading) (sent : List SetUnit) → is_within_picture (current before) ≡ false
     → AllByRecursion (λ x. Says R x.unit x.set) sent → AreRead R before (map (λ x. x.unit) sent) (set_readings sent)
 sets_read R before [] closed says = refl
 sets_read R before (x ∷ sent) closed says =
     read_one R before x.unit (map (λ y. y.unit) sent) (set_reading x.set) (set_readings sent) (set_read R before x closed says.0)
-    (sets_read R (set_reading x.set ∷ before) sent (ap is_within (one_set x.set before).current ∙ closed) says.1)
+    (sets_read R (set_reading x.set ∷ before) sent (ap is_within_picture (one_set x.set before).current ∙ closed) says.1)
 
-sei_read : (R : Readers) (before : List Reading) (sei : Option SeiUnit) → is_within (current before) ≡ false → gathered before ≡ [] → SeiReads R sei
+sei_read : (R : Readers) (before : List Reading) (sei : Option SeiUnit) → is_within_picture (current before) ≡ false → gathered before ≡ [] → SeiReads R sei
     → AreRead R before (sei_units sei) (sei_readings sei)
 sei_read R before None closed none is = refl
 sei_read R before (Some s) closed none is =
@@ -151,18 +151,18 @@ stored_all : (before : List Reading) (slots : List Slot) → AreInForce before s
 stored_all before [] is = refl
 stored_all before (slot ∷ slots) is = rw is.0 (stored_all before slots is.1)
 
-slice_joins : (R : Readers) (p : Picture) (s : Slice) → SliceReads R p.begun p.kind.nal_type s → place_of p.begun.layout s.header ≡ length p.slices
-    → AreInForce p.before (names_of p.begun.pps p.begun.header s.header) → size_of p + length s.unit ≤ picture_limit → joins R p s.unit ≡ Ok s
+slice_joins : (R : Readers) (p : Picture) (s : Slice) → SliceReads R p.begun p.kind.nal_type s → slices_before p.begun.layout s.header ≡ length p.slices
+    → AreInForce p.before (names_of p.begun.pps p.begun.header s.header) → picture_size p + length s.unit ≤ picture_limit → joins R p s.unit ≡ Ok s
 slice_joins R p s is order bodies size =
     rw (
       differ (temporal_id s.unit) p.begun.temporal_id is.tid,
       differ (nal_unit_type s.unit) p.kind.nal_type is.type,
       is.header,
-      differ (place_of p.begun.layout s.header) (length p.slices) order,
+      differ (slices_before p.begun.layout s.header) (length p.slices) order,
       stored_all p.before (names_of p.begun.pps p.begun.header s.header) bodies,
       ap not is.qp,
       reaches (length s.unit) s.header.payload is.payload,
-      over picture_limit (size_of p + length s.unit) size,
+      over picture_limit (picture_size p + length s.unit) size,
     ) refl
 
 -- ---- the kind
@@ -229,26 +229,26 @@ unequal a b h = grind (arith, nat_tests)
 -- These units were read as this, and the picture is q so far.
 record Grown (R : Readers) (before : List Reading) (units : List (List ℕ)) (rs : List Reading) (q : Picture) (earlier : List Picture) : Type 0 where
   read : AreRead R before units rs
-  cur : current (after before rs) ≡ going q
-  pics : pictures (after before rs) ≡ whole_part (going q) ++ earlier
-  ended : is_ended (after before rs) ≡ false
-  none : gathered (after before rs) ≡ []
+  cur : current (readings_after before rs) ≡ going q
+  pics : pictures (readings_after before rs) ≡ picture_if_whole (going q) ++ earlier
+  ended : is_ended (readings_after before rs) ≡ false
+  none : gathered (readings_after before rs) ≡ []
 
 abbrev Bodies : Picture → List Slice → Type 0
 Bodies p more = AllByRecursion (λ s. AreInForce p.before (names_of p.begun.pps p.begun.header s.header)) more
 
 slices_read : (R : Readers) (before : List Reading) (p q : Picture) (more : List Slice) (earlier : List Picture) → current before ≡ going p
-    → pictures before ≡ whole_part (going p) ++ earlier → is_ended before ≡ false → gathered before ≡ []
+    → pictures before ≡ picture_if_whole (going p) ++ earlier → is_ended before ≡ false → gathered before ≡ []
     → AllByRecursion (SliceReads R p.begun p.kind.nal_type) more → AllByRecursion (λ s. has_header_inside s.unit ≡ false) more
     → AreInOrder p.begun (length p.slices) more → Bodies p more → length p.slices + length more ≡ length p.begun.layout.slices
-    → size_of p + sum_by (λ s. length s.unit) more ≤ picture_limit → q ≡ record p { slices = p.slices ++ more }
+    → picture_size p + sum_by (λ s. length s.unit) more ≤ picture_limit → q ≡ record p { slices = p.slices ++ more }
     → Grown R before (map (λ s. s.unit) more) (map next_slice more) q earlier
 slices_read R before p q [] earlier cur pics ended none each outside order bodies all size is =
     let same : q ≡ p = is ∙ ap (λ ss. record p { slices = ss }) (append-nil p.slices) in
     record {
       read = refl;
       cur = cur ∙ ap going (sym same);
-      pics = pics ∙ ap (λ x. whole_part (going x) ++ earlier) (sym same);
+      pics = pics ∙ ap (λ x. picture_if_whole (going x) ++ earlier) (sym same);
       ended = ended;
       none = none;
     }
@@ -263,8 +263,8 @@ slices_read R before p q (s ∷ more) earlier cur pics ended none each outside o
     let P : ℕ → Type 0 = λ n. AreInOrder p.begun n more in
     let rest = slices_read R (next_slice s ∷ before) grown q more earlier
     (ap (with_slice s) cur)
-    (ap (λ c. whole_part (with_slice s c) ++ pictures before) cur
-    ∙ ap (λ ps. whole_part (going grown) ++ ps) (pics ∙ ap (λ b. cond b (p ∷ []) [] ++ earlier) part))
+    (ap (λ c. picture_if_whole (with_slice s c) ++ pictures before) cur
+    ∙ ap (λ ps. picture_if_whole (going grown) ++ ps) (pics ∙ ap (λ b. cond b (p ∷ []) [] ++ earlier) part))
     refl refl each.1 outside.1 (subst P (sym longer) order.1) bodies.1
     (omega (arith, longer, all))
     (omega (arith, size, sizes, pushed))
@@ -284,27 +284,27 @@ record Ready (b : List Reading) (earlier : List Picture) (p : Plan) : Type 0 whe
   closed : is_open (current b) ≡ false
   pics : pictures b ≡ earlier
   ended : is_ended b ≡ p.kind.after_eos
-  messages : gathered b ≡ sei_messages p.sei
+  messages : gathered b ≡ messages_sent p.sei
 
 -- one picture more
 abbrev done : List Reading → Plan → Picture
-done b p = record { begun = p.begun; kind = p.kind; before = b; slices = slices_of p }
+done b p = record { begun = p.begun; kind = p.kind; before = b; slices = planned_slices p }
 
-whole : (b : List Reading) (p : Plan) → length (slices_of p) ≡ length p.begun.layout.slices → is_whole (done b p) ≡ true
-whole b p all = elim (eqb_tells (length (slices_of p)) (length p.begun.layout.slices)) [ inl same ↦ same.0 | inr other ↦ absurd (other.1 all) ]
+whole : (b : List Reading) (p : Plan) → length (planned_slices p) ≡ length p.begun.layout.slices → is_whole (done b p) ≡ true
+whole b p all = elim (eqb_tells (length (planned_slices p)) (length p.begun.layout.slices)) [ inl same ↦ same.0 | inr other ↦ absurd (other.1 all) ]
 
 -- the slices, behind the readings `b`, where the first one is read
 tail_read : (R : Readers) (b : List Reading) (p : Plan) (earlier : List Picture) → pictures b ≡ earlier
     → reads R b p.first.unit ≡ Ok (first_slice p.begun p.kind p.first)
-    → AllByRecursion (SliceReads R p.begun p.kind.nal_type) (slices_of p) → AllByRecursion (λ s. has_header_inside s.unit ≡ false) p.more
-    → AreInOrder p.begun 0 (slices_of p) → AllByRecursion (λ s. AreInForce b (names_of p.begun.pps p.begun.header s.header)) (slices_of p)
-    → length (slices_of p) ≡ length p.begun.layout.slices → unit_size p.begun.unit + sum_by (λ s. length s.unit) (slices_of p) ≤ picture_limit
-    → Grown R b (map (λ s. s.unit) (slices_of p)) (slice_readings p) (done b p) earlier
+    → AllByRecursion (SliceReads R p.begun p.kind.nal_type) (planned_slices p) → AllByRecursion (λ s. has_header_inside s.unit ≡ false) p.more
+    → AreInOrder p.begun 0 (planned_slices p) → AllByRecursion (λ s. AreInForce b (names_of p.begun.pps p.begun.header s.header)) (planned_slices p)
+    → length (planned_slices p) ≡ length p.begun.layout.slices → unit_size p.begun.unit + sum_by (λ s. length s.unit) (planned_slices p) ≤ picture_limit
+    → Grown R b (map (λ s. s.unit) (planned_slices p)) (slice_readings p) (done b p) earlier
 tail_read R b p earlier pics read each outside order bodies all size =
     let one : Picture = record { begun = p.begun; kind = p.kind; before = b; slices = p.first ∷ [] } in
     let sizes = sum_by-cons (λ (t : Slice). length t.unit) p.first p.more in
     let rest = slices_read R (first_slice p.begun p.kind p.first ∷ b) one (done b p) p.more earlier refl
-    (ap (λ ps. whole_part (going one) ++ ps) pics)
+    (ap (λ ps. picture_if_whole (going one) ++ ps) pics)
     refl refl each.1 outside order.1 bodies.1 (omega (arith, all)) (omega (arith, size, sizes)) refl in
     record {
       read = read_one R b p.first.unit (map (λ t. t.unit) p.more) (first_slice p.begun p.kind p.first) (map next_slice p.more) read rest.read;
@@ -318,12 +318,12 @@ tail_read R b p earlier pics read each outside order bodies all size =
 head_read : (R : Readers) (b : List Reading) (p : Plan) (earlier : List Picture) (unit : Option (List ℕ)) → p.begun.unit ≡ unit → Ready b earlier p
     → stored_pps (pps_id p.begun.pps) b ≡ Some p.begun.pps → stored_sps (referred_sps p.begun.pps) b ≡ Some p.begun.sps
     → HeadReads R unit p.begun p.first
-    → AllByRecursion (SliceReads R p.begun p.kind.nal_type) (slices_of p) → AllByRecursion (λ s. has_header_inside s.unit ≡ false) p.more
-    → AreInOrder p.begun 0 (slices_of p) → AllByRecursion (λ s. AreInForce b (names_of p.begun.pps p.begun.header s.header)) (slices_of p)
-    → length (slices_of p) ≡ length p.begun.layout.slices → unit_size p.begun.unit + sum_by (λ s. length s.unit) (slices_of p) ≤ picture_limit
+    → AllByRecursion (SliceReads R p.begun p.kind.nal_type) (planned_slices p) → AllByRecursion (λ s. has_header_inside s.unit ≡ false) p.more
+    → AreInOrder p.begun 0 (planned_slices p) → AllByRecursion (λ s. AreInForce b (names_of p.begun.pps p.begun.header s.header)) (planned_slices p)
+    → length (planned_slices p) ≡ length p.begun.layout.slices → unit_size p.begun.unit + sum_by (λ s. length s.unit) (planned_slices p) ≤ picture_limit
     → p.kind.temporal_id ≡ p.begun.temporal_id → IsNext earlier p.begun p.kind
-    → Grown R b (option_to_list unit ++ map (λ s. s.unit) (slices_of p)) (header_readings unit p.begun ++ slice_readings p)
-    (done (after b (header_readings unit p.begun)) p) earlier
+    → Grown R b (option_to_list unit ++ map (λ s. s.unit) (planned_slices p)) (header_readings unit p.begun ++ slice_readings p)
+    (done (readings_after b (header_readings unit p.begun)) p) earlier
 head_read R b p earlier None is ready pps sps head each outside order bodies all size tid next =
     let opens_it = picture_opens b earlier p.begun p.first.unit p.kind ready.pics ready.ended each.0.type (each.0.tid ∙ sym tid) next in
     let sizes = sum_by-cons (λ (t : Slice). length t.unit) p.first p.more in
@@ -343,34 +343,34 @@ head_read R b p earlier (Some u) is ready pps sps head each outside order bodies
     (first_read R h p.begun p.kind p.first opens_it joins_it) in
     let rest = tail_read R h p earlier ready.pics read each outside order bodies all size in
     record {
-      read = read_one R b u (map (λ t. t.unit) (slices_of p)) (header_read p.begun) (slice_readings p) header rest.read;
+      read = read_one R b u (map (λ t. t.unit) (planned_slices p)) (header_read p.begun) (slice_readings p) header rest.read;
       cur = rest.cur;
       pics = rest.pics;
       ended = rest.ended;
       none = rest.none;
     }
 
-eos_ready : (before : List Reading) (e : Bool) → Rests before → (is_open (current (after before (eos_readings e))) ≡ false)
-    × (pictures (after before (eos_readings e)) ≡ pictures before) × (is_ended (after before (eos_readings e)) ≡ e)
-    × (gathered (after before (eos_readings e)) ≡ [])
+eos_ready : (before : List Reading) (e : Bool) → Rests before → (is_open (current (readings_after before (eos_readings e))) ≡ false)
+    × (pictures (readings_after before (eos_readings e)) ≡ pictures before) × (is_ended (readings_after before (eos_readings e)) ≡ e)
+    × (gathered (readings_after before (eos_readings e)) ≡ [])
 eos_ready before true rests = (rests.closed, refl, refl, rests.none)
 eos_ready before false rests = (rests.closed, refl, rests.goes_on, rests.none)
 
-sei_ready : (b : List Reading) (sei : Option SeiUnit) → gathered b ≡ [] → (is_open (current (after b (sei_readings sei))) ≡ is_open (current b))
-    × (pictures (after b (sei_readings sei)) ≡ pictures b) × (is_ended (after b (sei_readings sei)) ≡ is_ended b)
-    × (gathered (after b (sei_readings sei)) ≡ sei_messages sei)
+sei_ready : (b : List Reading) (sei : Option SeiUnit) → gathered b ≡ [] → (is_open (current (readings_after b (sei_readings sei))) ≡ is_open (current b))
+    × (pictures (readings_after b (sei_readings sei)) ≡ pictures b) × (is_ended (readings_after b (sei_readings sei)) ≡ is_ended b)
+    × (gathered (readings_after b (sei_readings sei)) ≡ messages_sent sei)
 sei_ready b None none = (refl, refl, refl, none)
 sei_ready b (Some s) none = (refl, refl, refl, ap (λ ms. ms ++ s.messages) none)
 
-header_keeps : (b : List Reading) (unit : Option (List ℕ)) (begun : Begun) → gathered (after b (header_readings unit begun)) ≡ gathered b
+header_keeps : (b : List Reading) (unit : Option (List ℕ)) (begun : Begun) → gathered (readings_after b (header_readings unit begun)) ≡ gathered b
 header_keeps b None begun = refl
 header_keeps b (Some u) begun = refl
 
 pub plan_reads_again : (R : Readers) → PlanReadsAgain R
 plan_reads_again R before p rests is =
-    let b1 = after before (eos_readings p.kind.after_eos) in
-    let b2 = after b1 (set_readings p.sent) in
-    let b3 = after b2 (sei_readings p.sei) in
+    let b1 = readings_after before (eos_readings p.kind.after_eos) in
+    let b2 = readings_after b1 (set_readings p.sent) in
+    let b3 = readings_after b2 (sei_readings p.sei) in
     let eos = eos_ready before p.kind.after_eos rests in
     let sets = sets_keep b1 p.sent in
     let closed : is_open (current b2) ≡ false = ap is_open sets.current ∙ eos.0 in
@@ -387,16 +387,16 @@ plan_reads_again R before p rests is =
     let eos_units_read = eos_read R before p.kind.after_eos rests.closed in
     let sets_units_read = sets_read R b1 p.sent (closed_within (current b1) eos.0) is.sets in
     let sei_units_read = sei_read R b2 p.sei (closed_within (current b2) closed) none is.sei in
-    let behind_sei = read_append R b2 (sei_units p.sei) (option_to_list p.begun.unit ++ map (λ s. s.unit) (slices_of p))
+    let behind_sei = read_append R b2 (sei_units p.sei) (option_to_list p.begun.unit ++ map (λ s. s.unit) (planned_slices p))
     (sei_readings p.sei) (header_readings p.begun.unit p.begun ++ slice_readings p) sei_units_read head.read in
-    let behind_sets = read_append R b1 (map (λ x. x.unit) p.sent) (sei_units p.sei ++ (option_to_list p.begun.unit ++ map (λ s. s.unit) (slices_of p)))
+    let behind_sets = read_append R b1 (map (λ x. x.unit) p.sent) (sei_units p.sei ++ (option_to_list p.begun.unit ++ map (λ s. s.unit) (planned_slices p)))
     (set_readings p.sent) (sei_readings p.sei ++ (header_readings p.begun.unit p.begun ++ slice_readings p)) sets_units_read behind_sei in
     let read = read_append R before (eos_units p.kind.after_eos)
-    (map (λ x. x.unit) p.sent ++ (sei_units p.sei ++ (option_to_list p.begun.unit ++ map (λ s. s.unit) (slices_of p))))
+    (map (λ x. x.unit) p.sent ++ (sei_units p.sei ++ (option_to_list p.begun.unit ++ map (λ s. s.unit) (planned_slices p))))
     (eos_readings p.kind.after_eos) (set_readings p.sent ++ (sei_readings p.sei ++ (header_readings p.begun.unit p.begun ++ slice_readings p)))
     eos_units_read behind_sets in
     let tail = header_readings p.begun.unit p.begun ++ slice_readings p in
-    let at : after before (readings_of p) ≡ after b3 tail =
+    let at : readings_after before (readings_of p) ≡ readings_after b3 tail =
     after_append before (eos_readings p.kind.after_eos) (set_readings p.sent ++ (sei_readings p.sei ++ tail))
     ∙ after_append b1 (set_readings p.sent) (sei_readings p.sei ++ tail)
     ∙ after_append b2 (sei_readings p.sei) tail in

@@ -23,18 +23,18 @@ use Rattle.vx_table.proofs.Spelled.{is_value}
 use Rattle.vx_sps.specs.Set as sps
 use Rattle.vx_sps.specs.Structure.{sps_form}
 use Rattle.vx_pps.specs.Pps as pps
-use Rattle.vx_pps.specs.Sets.{AreSlices, SetsTellPartitions}
-use Rattle.vx_sh.specs.Addresses.{AddressesAreBelow}
+use Rattle.vx_pps.specs.laws.Sets.{AreSlices, SetsTellPartitions}
+use Rattle.vx_sh.specs.laws.Addresses.{AddressesAreBelow}
 use Rattle.vx_sh.specs.InForce.{SliceScopesAreWhole}
 use Rattle.vx_sh.specs.Whole as sh
-use Rattle.vx_pic.specs.Sets.{SliceHeader, address_of, place_of}
+use Rattle.vx_pic.specs.Sets.{SliceHeader, address_of, slices_before}
 use Rattle.vx_pic.specs.Readings.{Begun, Slice, Picture, is_whole}
-use Rattle.vx_pic.specs.PictureLayout.{IsLayoutAnswer, numbers_in, slices_of, subpictures_of}
-use Rattle.vx_pic.specs.UnderSets.{header_of, slice_at}
+use Rattle.vx_pic.specs.PictureLayout.{IsLayoutAnswer, numbers_in, slices_in_picture, subpictures_of}
+use Rattle.vx_pic.specs.UnderSets.{picture_header_of, at_slice_of}
 use Rattle.vx_pic.specs.Rules.{Readers}
 use Rattle.vx_pic.specs.Streams.{pictures_of}
 use Rattle.vx_pic.specs.Written.{AreInOrder, HeadReads, SliceReads}
-use Rattle.vx_pic.specs.Finished.{IsSound, AreFinished}
+use Rattle.vx_pic.specs.Finished.{IsSoundPicture, AreFinished}
 use Rattle.vx_pic.specs.H266.{AreOfH266, IsSlice, IsSliceAnswer}
 use Rattle.vx_pic.specs.Parts.{Parts, SlicePart, parts_of, slice_part}
 use Rattle.vx_pic.specs.Inputs.{InputsAreShown, input_in}
@@ -88,21 +88,21 @@ numbers_pass p f lo hi n (x ∷ xs) stand =
 
 -- the address is one of those of its subpicture's slices, where it has any
 abbrev HasBound : Numbers → SliceHeader → Type 0
-HasBound n h = (address_of h ≡ 0) ⊎ (address_of h < sh.slices_at n h.subpic)
+HasBound n h = (address_of h ≡ 0) ⊎ (address_of h < sh.num_slices_in_subpic n h.subpic)
 
 record IsInside (n : Numbers) (h : SliceHeader) : Type 0 where
   subpic : h.subpic < length n.subpics
   address : address_of h < length (slices_in n h.subpic)
 
-placed : (n : Numbers) (h : SliceHeader) → place_of n h ≡ before n h.subpic + address_of h
-unfolding place_of
+placed : (n : Numbers) (h : SliceHeader) → slices_before n h ≡ before n h.subpic + address_of h
+unfolding slices_before
 placed n h = refl
 
-is_inside : (n : Numbers) (h : SliceHeader) → IsLayout n → HasBound n h → place_of n h < length (in_order n.slices n.subpics) → IsInside n h
+is_inside : (n : Numbers) (h : SliceHeader) → IsLayout n → HasBound n h → slices_before n h < length (in_order n.slices n.subpics) → IsInside n h
 is_inside n h layout bound few = elim (cases_lt h.subpic (length n.subpics)) [
   | inl low ↦
       let some = some_slice n h.subpic layout low in
-      let many : sh.slices_at n h.subpic ≡ length (slices_in n h.subpic) = ap (λ b. cond b (length (slices_in n h.subpic)) 0) (lt-ltb h.subpic (length n.subpics) low) in
+      let many : sh.num_slices_in_subpic n h.subpic ≡ length (slices_in n h.subpic) = ap (λ b. cond b (length (slices_in n h.subpic)) 0) (lt-ltb h.subpic (length n.subpics) low) in
       record { subpic = low; address = elim bound [ inl none ↦ omega (arith, some, none) | inr below ↦ omega (arith, below, many) ] }
   | inr past ↦
       let all : before n h.subpic ≡ length (in_order n.slices n.subpics) = ap (λ s. length (in_order n.slices s)) (take_all h.subpic n.subpics past) in
@@ -115,7 +115,7 @@ is_of k s = s.header.subpic == k
 abbrev address : Slice → ℕ
 address s = address_of s.header
 
-stands : (n : Numbers) (k place : ℕ) (s : Slice) → k < length n.subpics → IsInside n s.header → place_of n s.header ≡ place
+stands : (n : Numbers) (k place : ℕ) (s : Slice) → k < length n.subpics → IsInside n s.header → slices_before n s.header ≡ place
     → Passes (is_of k) address (before n k) (before n (suc k)) place s ⊎ Fails (is_of k) (before n k) (before n (suc k)) place s
 stands n k place s low inside is =
     let own : ℕ = s.header.subpic in
@@ -177,7 +177,7 @@ ends : {A : Type 0} {total : ℕ} {form : Form A} {v : List ℤ} {left rest : Li
 ends (at_end {a}) = (a, to_end)
 ends (behind begins more) = let on = ends more in (on.0, through (is_value begins) on.1)
 
-sps_items : (rbsp : List ℕ) (r : Result (List Item) Refusal) (s : List Item) → ReadsValue sps_form rbsp (as_read r) → r ≡ Ok s → sps.IsItems s
+sps_items : (rbsp : List ℕ) (r : Result (List Item) Refusal) (s : List Item) → ReadsValue sps_form rbsp (as_read r) → r ≡ Ok s → sps.AreSpsItems s
 sps_items rbsp r s reads is =
     let P : Result (List Item) Refusal → Type 0 = λ x. ReadsValue sps_form rbsp (as_read x) in
     let read = subst P is reads in
@@ -185,7 +185,7 @@ sps_items rbsp r s reads is =
     let on = ends found.spelled in
     record { values = found.values; end = on.0; follows = on.1; all = found.gained }
 
-pps_items : (rbsp : List ℕ) (r : Result (List Item) Refusal) (s : List Item) → ReadsValue pps.pps_form rbsp (as_read r) → r ≡ Ok s → pps.IsItems s
+pps_items : (rbsp : List ℕ) (r : Result (List Item) Refusal) (s : List Item) → ReadsValue pps.pps_form rbsp (as_read r) → r ≡ Ok s → pps.ArePpsItems s
 pps_items rbsp r s reads is =
     let P : Result (List Item) Refusal → Type 0 = λ x. ReadsValue pps.pps_form rbsp (as_read x) in
     let read = subst P is reads in
@@ -198,12 +198,12 @@ listed_some : (listed : Option (List Rect)) (subpics : List Rect) → IfSome lis
 listed_some None subpics are some = some
 listed_some (Some rects) subpics are some = are.each
 
-slices_some : SetsTellPartitions → (s p : List Item) → sps.IsItems s → pps.IsItems p → IsLayout (numbers_in s p) → All HasCtu (slices_of s p)
+slices_some : SetsTellPartitions → (s p : List Item) → sps.AreSpsItems s → pps.ArePpsItems p → IsLayout (numbers_in s p) → All HasCtu (slices_in_picture s p)
 slices_some tells s p set other layout =
     let n : Numbers = numbers_in s p in
     let subpics : All HasCtu (subpictures_of s) = All-weaker (IsPart (width n) (height n)) HasCtu (λ r part. (part.wide, part.high)) (subpictures_of s) layout.subpics.parts in
     elim (cases_Bool (pps.is_partitioned p)) [
-      | inl is ↦ rw is (listed_some (pps.slices_of p) (subpictures_of s) (tells p other).slices subpics)
+      | inl is ↦ rw is (listed_some (pps.slice_list_of p) (subpictures_of s) (tells p other).slices subpics)
       | inr none ↦ rw none (All-cons HasCtu _ [] ((has_ctus s set).columns.0, (has_ctus s set).rows.0) (All-nil HasCtu))
     ]
 
@@ -219,7 +219,7 @@ unfolding address_of
 slice_bound below whole t b unit h is =
     let begins = is.begins in
     let subpic : h.subpic ≡ slice_index begins.fields.end SUBPIC = is.subpic ∙ begins.numbers.subpic in
-    rw (is.fields, subpic) (below (slice_at t b) is.value.fields begins.inside begins.fields (whole t b.sps b.pps (header_of b)))
+    rw (is.fields, subpic) (below (at_slice_of t b) is.value.fields begins.inside begins.fields (whole t b.sps b.pps (picture_header_of b)))
 
 slices_bound : AddressesAreBelow → SliceScopesAreWhole → (R : Readers) → AreOfH266 R → (b : Begun) (t : ℕ) (xs : List Slice) → AllByRecursion (SliceReads R b t) xs
     → AllByRecursion (λ s. HasBound b.layout s.header) xs
@@ -235,7 +235,7 @@ record Laws : Type 0 where
   pub below : AddressesAreBelow
   pub whole : SliceScopesAreWhole
 
-full : Laws → (R : Readers) → AreOfH266 R → (earlier : List Picture) (p : Picture) → IsSound R earlier p → is_whole p ≡ true → HasSets R p.begun → IsFull p
+full : Laws → (R : Readers) → AreOfH266 R → (earlier : List Picture) (p : Picture) → IsSoundPicture R earlier p → is_whole p ≡ true → HasSets R p.begun → IsFull p
 full laws R of earlier p sound whole has =
     let b : Begun = p.begun in
     let answer = made R of b (layout_read R b.unit b sound.first sound.head) in

@@ -5,7 +5,7 @@ use Rattle.std.proofs.lemmas.List.{append-nil}
 use Rattle.std.proofs.lemmas.Grind.{reverse_onto, flat_map-append}
 use Rattle.std.proofs.lemmas.Option.{none-some}
 use Rattle.vx_pic.specs.Readings.{Slice, Reading, dropped, vps_read, sps_read, pps_read, aps_read, messages_read, header_read, first_slice, next_slice, sequence_ended, gathered, Picture, Current, nothing, headed, going, with_slice, is_slice, current}
-use Rattle.vx_pic.specs.Laws.{IsSinceSlice, messages_in, further_in, GatheredByPlaces, is_start, IsPictureAt, CurrentByPlaces}
+use Rattle.vx_pic.specs.laws.Pictures.{IsSinceSlice, messages_in, further_in, GatheredByPlaces, is_start, IsPictureAt, CurrentByPlaces}
 
 below : (n k : ℕ) → suc k < suc n → k < n
 below n k h = omega arith

@@ -8,7 +8,7 @@ use Rattle.vx_bits.specs.Codes.{bits_of}
 use Rattle.vx_bits.specs.Place.{Place}
 use Rattle.vx_annexb.specs.Places.{IsFirstFrom}
 use Rattle.vx_annexb.specs.Emulation.{unescaped_to}
-use Rattle.vx_aps.specs.Laws.{OneAnswer}
+use Rattle.vx_aps.specs.laws.Answers.{OneAnswer}
 use Rattle.vx_fields.specs.declared.ph.TheConstants.{ph_pic_parameter_set_id}
 use Rattle.vx_fields.specs.declared.names.sh.TheConstants.{SUBPIC}
 use Rattle.vx_layout.specs.declared.numbers.Numbers.{Numbers}
@@ -30,8 +30,8 @@ use Rattle.vx_sh.proofs.Sized.{all_follow}
 use Rattle.vx_pic.specs.Units.{rbsp_of}
 use Rattle.vx_pic.specs.Sets.{SliceHeader}
 use Rattle.vx_pic.specs.Readings.{Begun}
-use Rattle.vx_pic.specs.PictureLayout.{IsFault, ctu_sizes, ids, numbers, IsLayoutAnswer, layout_refusal, MakeLayout}
-use Rattle.vx_pic.specs.UnderSets.{slice_at}
+use Rattle.vx_pic.specs.PictureLayout.{IsFault, ctu_sizes, ids_differ, numbers, IsLayoutAnswer, layout_refusal, MakeLayout}
+use Rattle.vx_pic.specs.UnderSets.{at_slice_of}
 use Rattle.vx_pic.specs.H266.{AnswersAt, IsReferredPps, IsSlice, IsSliceAnswer}
 use Rattle.vx_pic.specs.H266Laws.{AtMostOne, HaveOneAnswer}
 
@@ -88,18 +88,18 @@ one_carried rbsp ms ns (inr one) (inr two) = one.1 ∙ sym two.1
 
 not_both : (s p : List Item) {k : ℕ} → MakeLayout s p → IsFault s p k → ⊥
 not_both s p make (ctu_sizes differ) = let same = make.ctus in cc
-not_both s p make (ids same disagree) = disagree make.ids
+not_both s p make (ids_differ same disagree) = disagree make.ids
 not_both s p make (numbers same agree lowest) = layout-faultless _ _ make.layout lowest
 
 one_fault : (s p : List Item) {j k : ℕ} → IsFault s p j → IsFault s p k → j ≡ k
 one_fault s p (ctu_sizes one) (ctu_sizes two) = refl
-one_fault s p (ctu_sizes one) (ids two disagree) = absurd (cc)
+one_fault s p (ctu_sizes one) (ids_differ two disagree) = absurd (cc)
 one_fault s p (ctu_sizes one) (numbers two agree lowest) = absurd (cc)
-one_fault s p (ids one disagree) (ctu_sizes two) = absurd (cc)
-one_fault s p (ids one disagree) (ids two other) = refl
-one_fault s p (ids one disagree) (numbers two agree lowest) = absurd (disagree agree)
+one_fault s p (ids_differ one disagree) (ctu_sizes two) = absurd (cc)
+one_fault s p (ids_differ one disagree) (ids_differ two other) = refl
+one_fault s p (ids_differ one disagree) (numbers two agree lowest) = absurd (disagree agree)
 one_fault s p (numbers one agree lowest) (ctu_sizes two) = absurd (cc)
-one_fault s p (numbers one agree lowest) (ids two disagree) = absurd (disagree agree)
+one_fault s p (numbers one agree lowest) (ids_differ two disagree) = absurd (disagree agree)
 one_fault s p (numbers one agree lowest) (numbers two other lower) = lowest-one _ _ _ lowest lower
 
 pub one_layout : (s p : List Item) → AtMostOne (IsLayoutAnswer s p)
@@ -170,7 +170,7 @@ same_header x y fields subpic payload =
 
 same_read : (nal_type : ℕ) (b : Begun) (unit : List ℕ) (x y : SliceHeader) → IsSlice nal_type b unit x → IsSlice nal_type b unit y → x ≡ y
 same_read nal_type b unit x y one two =
-    let same = same_slice (slice_at nal_type b) (rbsp_of unit) one.value two.value one.size two.size one.begins two.begins in
+    let same = same_slice (at_slice_of nal_type b) (rbsp_of unit) one.value two.value one.size two.size one.begins two.begins in
     let first = subst (λ n. IsFirstFrom (λ place. length (unescaped_to unit place) ≡ 2 + n) 0 x.payload) same.size one.payload in
     same_header x y (one.fields ∙ same.fields ∙ sym two.fields) (one.subpic ∙ same.subpic ∙ sym two.subpic)
     (one_first (λ place. length (unescaped_to unit place) ≡ 2 + two.size) x.payload y.payload first two.payload)
@@ -181,8 +181,8 @@ not_slice n rbsp x size r begins refused =
 
 pub one_slice : (nal_type : ℕ) (b : Begun) (unit : List ℕ) → AtMostOne (IsSliceAnswer nal_type b unit)
 one_slice nal_type b unit (Ok x) (Ok y) one two = ap (λ (h : SliceHeader). let r : Result SliceHeader Refusal = Ok h in r) (same_read nal_type b unit x y one two)
-one_slice nal_type b unit (Ok x) (Err r) one two = absurd (not_slice (slice_at nal_type b) (rbsp_of unit) one.value one.size r one.begins two)
-one_slice nal_type b unit (Err r) (Ok x) one two = absurd (not_slice (slice_at nal_type b) (rbsp_of unit) two.value two.size r two.begins one)
+one_slice nal_type b unit (Ok x) (Err r) one two = absurd (not_slice (at_slice_of nal_type b) (rbsp_of unit) one.value one.size r one.begins two)
+one_slice nal_type b unit (Err r) (Ok x) one two = absurd (not_slice (at_slice_of nal_type b) (rbsp_of unit) two.value two.size r two.begins one)
 one_slice nal_type b unit (Err q) (Err r) one two =
     ap (λ (x : Refusal). let e : Result SliceHeader Refusal = Err x in e) (same_refusal (one.1.reads []).1 (two.1.reads []).1)
 

@@ -3,7 +3,7 @@ use Rattle.std.proofs.Common.{[], ◌∷◌, subst}
 use Rattle.vx_pic.specs.declared.kind.Kind.{Kind}
 use Rattle.vx_pic.specs.Alike.{IsNext}
 use Rattle.vx_pic.specs.Resident.{planned_of}
-use Rattle.vx_pic.specs.Edited.{EditsArePlanned}
+use Rattle.vx_pic.specs.laws.Edited.{EditsArePlanned}
 use Rattle.vx_pic.proofs.Counting.{alike_is_next}
 
 pub edits_are_planned : EditsArePlanned

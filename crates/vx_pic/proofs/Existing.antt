@@ -20,7 +20,7 @@ use Rattle.vx_fields.specs.declared.sh.TheConstants.{sh_picture_header_in_slice_
 use Rattle.vx_fields.specs.declared.names.sh.TheConstants.{SUBPIC}
 use Rattle.vx_layout.specs.declared.numbers.Numbers.{Numbers}
 use Rattle.vx_ph.specs.Header.{header_form}
-use Rattle.vx_ph.specs.Id.{id_form}
+use Rattle.vx_ph.specs.Id.{pps_id_form}
 use Rattle.vx_ph.specs.InForce.{in_force, structures}
 use Rattle.vx_pps.specs.Partition.{undivided}
 use Rattle.vx_pps.specs.Pps.{pps_form}
@@ -44,7 +44,7 @@ use Rattle.vx_table.specs.Forms.{Form, done, field, ◌>>=◌, form_of, present}
 use Rattle.vx_table.specs.Loaded.{number}
 use Rattle.vx_table.specs.Reading.{ReadsField, ReadsValue, as_read}
 use Rattle.vx_table.specs.Scope.{is_set, value}
-use Rattle.vx_table.specs.Spelling.{Spells, at_end, behind, Reaches, here, later, IsRefused, item_of, items_along}
+use Rattle.vx_table.specs.Spelling.{Spells, at_end, behind, Reaches, here, later, IsRefusedField, item_of, items_along}
 use Rattle.vx_table.specs.Values.{Follows, to_end, through}
 use Rattle.vx_table.specs.Walks.{Walks, ended, coded, refused}
 use Rattle.vx_table.proofs.Every.{answers_always}
@@ -56,8 +56,8 @@ use Rattle.vx_pic.specs.Units.{rbsp_of}
 use Rattle.vx_pic.specs.Sets.{SliceHeader}
 use Rattle.vx_pic.specs.Readings.{Begun}
 use Rattle.vx_pic.specs.Rules.{Readers}
-use Rattle.vx_pic.specs.PictureLayout.{ctu_sizes_differ, ids_misplaced, ids_of, IdsAgree, ctu_sizes, ids, numbers, ctu_size_fault, ids_fault, numbers_in, IsLayoutAnswer, layout_refusal}
-use Rattle.vx_pic.specs.UnderSets.{slice_at}
+use Rattle.vx_pic.specs.PictureLayout.{ctu_sizes_differ, ids_misplaced, ids_of, IdsAgree, ctu_sizes, ids_differ, numbers, ctu_size_fault, ids_fault, numbers_in, IsLayoutAnswer, layout_refusal}
+use Rattle.vx_pic.specs.UnderSets.{at_slice_of}
 use Rattle.vx_pic.specs.H266.{AnswersAt, header_place, form_in, IsReferredPps, IsSliceAnswer}
 use Rattle.vx_pic.specs.H266Laws.{ThereAreReaders}
 use Rattle.vx_pic.proofs.Deciding.{layouts_are_decided}
@@ -80,7 +80,7 @@ spelled_walk {total} {left} {rest} items (behind {cell} {goes} {v} {w} {mid} beg
 
 -- and stops where a field is refused
 refused_walk : {total : ℕ} {A : Type 0} {form : Form A} {w : List ℤ} {left rest : List Bool} {cell : Cell ℕ} {r : Refusal} (items : List Item) → Reaches total form w left cell rest
-    → IsRefused cell total rest r → Walks {A = A} ReadsField form (at_bits total left) items (Err (Refused r)) (at_bits total rest) (items ++ items_along form w)
+    → IsRefusedField cell total rest r → Walks {A = A} ReadsField form (at_bits total left) items (Err (Refused r)) (at_bits total rest) (items ++ items_along form w)
 refused_walk items here out = refused (out, refl, append-nil items)
 refused_walk {total} {A} {left} {rest} {r} items (later {cell} {goes} {v} {w} {mid} begins more) out =
     let on = refused_walk (items ++ item_of cell v) more out in
@@ -125,12 +125,12 @@ place_answer a form place = elim (walked form place.total place.left) [
   | inr (r, items, new, walk) ↦ (Err r, (new, items, reads {B = Unit {0}} a (Err (Refused r)) walk))
 ]
 
-id_of_items : (inside : Bool) (rbsp : List ℕ) (x : Result (List Item) Refusal) → AnswersAt id_form (header_place inside rbsp) x → (y : Result ℕ Refusal) × IsReferredPps inside rbsp y
+id_of_items : (inside : Bool) (rbsp : List ℕ) (x : Result (List Item) Refusal) → AnswersAt pps_id_form (header_place inside rbsp) x → (y : Result ℕ Refusal) × IsReferredPps inside rbsp y
 id_of_items inside rbsp (Ok items) answer = (Ok (number items ph_pic_parameter_set_id), (items, answer, refl))
 id_of_items inside rbsp (Err r) answer = (Err r, answer)
 
 id_answer : (inside : Bool) (rbsp : List ℕ) → (y : Result ℕ Refusal) × IsReferredPps inside rbsp y
-id_answer inside rbsp = let read = place_answer [] id_form (header_place inside rbsp) in id_of_items inside rbsp read.0 read.1
+id_answer inside rbsp = let read = place_answer [] pps_id_form (header_place inside rbsp) in id_of_items inside rbsp read.0 read.1
 
 -- ---- adaptation parameter sets
 
@@ -140,10 +140,10 @@ last_or_not bytes k size = elim (cases_eq (slice_index bytes k) 0) [
   | inr other ↦ inl (λ j long. let same : j ≡ k = omega (arith, long, size) in rw same other)
 ]
 
-aps_valid : (kind id : ℕ) (body : List ℕ) → kind ≤ SCALING → id < aps.ids kind → 0 < length body → EndsInNoZero body → aps.IsValid (record { kind = kind; id = id; body = body })
+aps_valid : (kind id : ℕ) (body : List ℕ) → kind ≤ SCALING → id < aps.ids_of_type kind → 0 < length body → EndsInNoZero body → aps.IsValid (record { kind = kind; id = id; body = body })
 aps_valid kind id body is few some ends = record { kind = is; id = few; some = some; ends = ends }
 
-aps_body : (kind id : ℕ) (body rbsp : List ℕ) → rbsp ≡ aps.spelled kind id body → kind ≤ SCALING → id < aps.ids kind → (x : Result (Option Aps) Refusal) × aps.IsAnswer rbsp x
+aps_body : (kind id : ℕ) (body rbsp : List ℕ) → rbsp ≡ aps.spelled kind id body → kind ≤ SCALING → id < aps.ids_of_type kind → (x : Result (Option Aps) Refusal) × aps.IsAnswer rbsp x
 aps_body kind id [] rbsp is known few = (Err _, aps.no_body kind id is known few)
 aps_body kind id (byte ∷ body) rbsp is known few = elim (last_or_not (byte ∷ body) (length body) (omega arith)) [
   | inl ends ↦ (Ok (Some (record { kind = kind; id = id; body = byte ∷ body })), record { valid = aps_valid kind id (byte ∷ body) known few (omega arith) ends; bytes = is })
@@ -159,7 +159,7 @@ aps_answer (byte ∷ body) =
     let is : byte ∷ body ≡ aps.spelled kind id body = ap (λ n. n ∷ body) same in
     elim (cases_lt SCALING kind) [
       | inl reserved ↦ (Ok None, record { kind = kind; id = id; body = body; bytes = is; five_bits = omega arith; reserved = reserved })
-      | inr known ↦ elim (cases_lt id (aps.ids kind)) [
+      | inr known ↦ elim (cases_lt id (aps.ids_of_type kind)) [
         | inl few ↦ aps_body kind id body (byte ∷ body) is known few
         | inr many ↦ (Err _, aps.no_such_id kind id body is known (omega arith) many)
       ]
@@ -293,10 +293,10 @@ layout_answer : (s p : List Item) → (x : Result Numbers Refusal) × IsLayoutAn
 layout_answer s p = elim (cases_Bool (ctu_sizes_differ s p)) [
   | inl differ ↦ (Err (layout_refusal ctu_size_fault), (ctu_size_fault, ctu_sizes differ, refl))
   | inr same ↦ elim (cases_Bool (ids_misplaced s p)) [
-    | inl misplaced ↦ (Err (layout_refusal ids_fault), (ids_fault, ids same (λ agree. let placed = agree.placed in cc), refl))
+    | inl misplaced ↦ (Err (layout_refusal ids_fault), (ids_fault, ids_differ same (λ agree. let placed = agree.placed in cc), refl))
     | inr placed ↦ elim (distinct_or_not (ids_of s p)) [
       | inl distinct ↦ numbers_answer s p same (record { placed = placed; distinct = distinct })
-      | inr doubled ↦ (Err (layout_refusal ids_fault), (ids_fault, ids same (λ agree. doubled agree.distinct), refl))
+      | inr doubled ↦ (Err (layout_refusal ids_fault), (ids_fault, ids_differ same (λ agree. doubled agree.distinct), refl))
     ]
   ]
 ]
@@ -426,7 +426,7 @@ fits_unit n unit value size begins = omega (arith, some_bytes n (drop 2 (unescap
 
 slice_answer : (nal_type : ℕ) (b : Begun) (unit : List ℕ) → (x : Result SliceHeader Refusal) × IsSliceAnswer nal_type b unit x
 slice_answer nal_type b unit =
-    let n : At = slice_at nal_type b in
+    let n : At = at_slice_of nal_type b in
     elim (answers_always (slice_form n) (8 * length (rbsp_of unit)) (bits_of (rbsp_of unit))) [
       | inl (values, rest, spelled) ↦
           let begun = slice_begun n (rbsp_of unit) values rest spelled in

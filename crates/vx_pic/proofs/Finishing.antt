@@ -19,14 +19,14 @@ use Rattle.vx_pic.specs.declared.kind.Kind.{Kind}
 use Rattle.vx_pic.specs.declared.sets.TheConstants as sets
 use Rattle.vx_pic.specs.Answers.{◌>>=◌, refuse_if}
 use Rattle.vx_pic.specs.Units.{is_reserved, temporal_id, rbsp_of, has_header_inside, is_irap_or_gdr, is_idr, is_cra_or_gdr, Class, other_unit, vps_unit, sps_unit, pps_unit, prefix_aps, suffix_aps, header_unit, slice_unit, end_unit, sei_unit, class_of}
-use Rattle.vx_pic.specs.Sets.{SliceHeader, Slot, sps_id, pps_id, referred_sps, same_size, place_of, names_of, slice_qp, is_qp}
-use Rattle.vx_pic.specs.Readings.{Begun, Slice, Reading, dropped, vps_read, sps_read, pps_read, aps_read, messages_read, header_read, first_slice, next_slice, sequence_ended, latest, sps_in, pps_in, stored_sps, stored_pps, stored_aps, is_ended, gathered, Picture, is_whole, Current, nothing, headed, going, with_slice, current, is_open, is_within, whole_part, pictures}
+use Rattle.vx_pic.specs.Sets.{SliceHeader, Slot, sps_id, pps_id, referred_sps, same_size, slices_before, names_of, slice_qp, is_qp}
+use Rattle.vx_pic.specs.Readings.{Begun, Slice, Reading, dropped, vps_read, sps_read, pps_read, aps_read, messages_read, header_read, first_slice, next_slice, sequence_ended, latest_given, sps_in, pps_in, stored_sps, stored_pps, stored_aps, is_ended, gathered, Picture, is_whole, Current, nothing, headed, going, with_slice, current, is_open, is_within_picture, picture_if_whole, pictures}
 use Rattle.vx_pic.specs.Counts.{fits_count, count, is_empty, begins_anew, kind_of, is_changed}
-use Rattle.vx_pic.specs.Rules.{Readers, missing, are_stored, size_of, picture_limit, message_limit, aps_reading, kind_at, starts_elsewhere, opens, opened, gathers, begins, joins, follows, alone, reads_as, reads}
-use Rattle.vx_pic.specs.Streams.{Outcome, one_more, read_on}
+use Rattle.vx_pic.specs.Rules.{Readers, missing, are_stored, picture_size, picture_limit, message_limit, aps_reading, kind_at, starts_elsewhere, opens, opened, gathers, begins, joins, follows, alone, reads_as, reads}
+use Rattle.vx_pic.specs.Streams.{StreamReading, one_more, read_on}
 use Rattle.vx_pic.specs.Alike.{IsNext}
 use Rattle.vx_pic.specs.Written.{IsPlain, AreInOrder, AreInForce, HeaderReads, HeadReads, SliceReads}
-use Rattle.vx_pic.specs.Finished.{IsSound, AreFinished, PicturesAreFinished}
+use Rattle.vx_pic.specs.Finished.{IsSoundPicture, AreFinished, PicturesAreFinished}
 
 -- ---- what an answer tells of the steps
 
@@ -72,11 +72,11 @@ record Joined (R : Readers) (p : Picture) (u : List ℕ) (s : Slice) : Type 0 wh
   tid : temporal_id s.unit ≡ p.begun.temporal_id
   type : nal_unit_type s.unit ≡ p.kind.nal_type
   header : R.slice p.kind.nal_type p.begun s.unit ≡ Ok s.header
-  place : place_of p.begun.layout s.header ≡ length p.slices
+  place : slices_before p.begun.layout s.header ≡ length p.slices
   bodies : AreInForce p.before (names_of p.begun.pps p.begun.header s.header)
   qp : is_qp p.begun.sps (slice_qp p.begun.pps p.begun.header s.header) ≡ true
   payload : s.header.payload < length s.unit
-  size : size_of p + length s.unit ≤ picture_limit
+  size : picture_size p + length s.unit ≤ picture_limit
 
 joined : (R : Readers) (p : Picture) (u : List ℕ) (s : Slice) → joins R p u ≡ Ok s → Joined R p u s
 joined R p u s is =
@@ -84,11 +84,11 @@ joined R p u s is =
     let type = passed (not (nal_unit_type u == p.kind.nal_type)) _ _ s tid.1 in
     let header = then_told (R.slice p.kind.nal_type p.begun u) _ s type.1 in
     let h : SliceHeader = header.0 in
-    let place = passed (not (place_of p.begun.layout h == length p.slices)) _ _ s header.2 in
+    let place = passed (not (slices_before p.begun.layout h == length p.slices)) _ _ s header.2 in
     let bodies = then_told (are_stored p.before (names_of p.begun.pps p.begun.header h)) _ s place.1 in
     let qp = passed (not (is_qp p.begun.sps (slice_qp p.begun.pps p.begun.header h))) _ _ s bodies.2 in
     let payload = passed (nat_le (length u) h.payload) _ _ s qp.1 in
-    let size = passed (nat_lt picture_limit (size_of p + length u)) _ _ s payload.1 in
+    let size = passed (nat_lt picture_limit (picture_size p + length u)) _ _ s payload.1 in
     let told : Slice = record { unit = u; header = h } in
     let same : told ≡ s = let e = size.1 in cc in
     let P : Slice → Type 0 = Joined R p u in
@@ -97,11 +97,11 @@ joined R p u s is =
       tid = equal (temporal_id u) p.begun.temporal_id tid.0;
       type = equal (nal_unit_type u) p.kind.nal_type type.0;
       header = header.1;
-      place = equal (place_of p.begun.layout h) (length p.slices) place.0;
+      place = equal (slices_before p.begun.layout h) (length p.slices) place.0;
       bodies = all_stored p.before (names_of p.begun.pps p.begun.header h) bodies.1;
       qp = is_true (is_qp p.begun.sps (slice_qp p.begun.pps p.begun.header h)) qp.0;
       payload = below (length u) h.payload payload.0;
-      size = at_most picture_limit (size_of p + length u) size.0;
+      size = at_most picture_limit (picture_size p + length u) size.0;
     })
 
 -- ---- a picture that opens
@@ -184,10 +184,10 @@ first_or None y a P here later is = later is
 first_or (Some b) y a P here later is = here a is
 
 given_by : {A : Type 0} (gives : Reading → Option A) (P : A → Type 0) → ((r : Reading) (a : A) → gives r ≡ Some a → P a)
-    → (before : List Reading) (a : A) → latest gives before ≡ Some a → P a
+    → (before : List Reading) (a : A) → latest_given gives before ≡ Some a → P a
 given_by gives P each [] a is = absurd (cc)
 given_by gives P each (r ∷ before) a is =
-    first_or (gives r) (latest gives before) a P (each r) (given_by gives P each before a) is
+    first_or (gives r) (latest_given gives before) a P (each r) (given_by gives P each before a) is
 
 sps_given : (id : ℕ) (r : Reading) (s : List Item) → sps_in id r ≡ Some s → id ≡ sps_id s
 sps_given id (sps_read t) s is =
@@ -261,7 +261,7 @@ snoc : {A : Type 0} (P : A → Type 0) (xs : List A) (x : A) → AllByRecursion 
 snoc P [] x all one = (one, tt)
 snoc P (y ∷ xs) x all one = (all.0, snoc P xs x all.1 one)
 
-order_snoc : (b : Begun) (n : ℕ) (xs : List Slice) (x : Slice) → AreInOrder b n xs → place_of b.layout x.header ≡ n + length xs
+order_snoc : (b : Begun) (n : ℕ) (xs : List Slice) (x : Slice) → AreInOrder b n xs → slices_before b.layout x.header ≡ n + length xs
     → AreInOrder b n (xs ++ x ∷ [])
 order_snoc b n [] x order place = (place ∙ omega arith, tt)
 order_snoc b n (y ∷ xs) x order place = (order.0, order_snoc b (n + 1) xs x order.1 (place ∙ omega arith))
@@ -274,7 +274,7 @@ slice_was_read R p u s plain j =
 
 first_sound : (R : Readers) (before : List Reading) (earlier : List Picture) (b : Begun) (k : Kind) (u : List ℕ) (s : Slice) → pictures before ≡ earlier
     → IsPlain u slice_unit → HeadReads R b.unit b s → referred_sps b.pps ≡ sps_id b.sps → Opened before b u k → Joined R (opened before b k) u s
-    → spelled_length (gathered before) ≤ message_limit → IsSound R earlier (record { begun = b; kind = k; before = before; slices = s ∷ [] })
+    → spelled_length (gathered before) ≤ message_limit → IsSoundPicture R earlier (record { begun = b; kind = k; before = before; slices = s ∷ [] })
 first_sound R before earlier b k u s pics plain head refers o j few =
     let P : List Picture → Type 0 = λ ps. IsNext ps b k in
     record {
@@ -293,8 +293,8 @@ first_sound R before earlier b k u s pics plain head refers o j few =
       next = subst P pics o.next;
     }
 
-further_sound : (R : Readers) (earlier : List Picture) (p : Picture) (u : List ℕ) (s : Slice) → IsSound R earlier p → IsPlain u slice_unit
-    → has_header_inside u ≡ false → Joined R p u s → IsSound R earlier (record p { slices = p.slices ++ s ∷ [] })
+further_sound : (R : Readers) (earlier : List Picture) (p : Picture) (u : List ℕ) (s : Slice) → IsSoundPicture R earlier p → IsPlain u slice_unit
+    → has_header_inside u ≡ false → Joined R p u s → IsSoundPicture R earlier (record p { slices = p.slices ++ s ∷ [] })
 further_sound R earlier p u s is plain outside j =
     let pushed = sum_by_push (λ (t : Slice). length t.unit) p.slices s in
     record {
@@ -325,16 +325,16 @@ record Headed (R : Readers) (b : Begun) : Type 0 where
 abbrev Here : Readers → List Picture → Current → Type 0
 Here R earlier nothing = Unit {0}
 Here R earlier (headed b) = Headed R b
-Here R earlier (going p) = IsSound R earlier p
+Here R earlier (going p) = IsSoundPicture R earlier p
 
 record Known (R : Readers) (before : List Reading) : Type 0 where
   earlier : List Picture
   all : AreFinished R earlier
-  pics : pictures before ≡ whole_part (current before) ++ earlier
+  pics : pictures before ≡ picture_if_whole (current before) ++ earlier
   here : Here R earlier (current before)
   few : spelled_length (gathered before) ≤ message_limit
 
-all_of : (R : Readers) (earlier : List Picture) (c : Current) → Here R earlier c → AreFinished R earlier → AreFinished R (whole_part c ++ earlier)
+all_of : (R : Readers) (earlier : List Picture) (c : Current) → Here R earlier c → AreFinished R earlier → AreFinished R (picture_if_whole c ++ earlier)
 all_of R earlier nothing here all = all
 all_of R earlier (headed b) here all = all
 all_of R earlier (going p) here all =
@@ -371,7 +371,7 @@ messages_known R before ms k few = record { earlier = k.earlier; all = k.all; pi
 header_known : (R : Readers) (before : List Reading) (u : List ℕ) (b : Begun) → Known R before → IsPlain u header_unit → HeaderBegun R before u (Some u) b
     → Known R (header_read b ∷ before)
 header_known R before u b k plain h = record {
-  earlier = whole_part (current before) ++ k.earlier;
+  earlier = picture_if_whole (current before) ++ k.earlier;
   all = all_of R k.earlier (current before) k.here k.all;
   pics = k.pics;
   here = record { unit = u; unit_is = h.unit_is; plain = plain; reads = h.reads; refers = h.refers };
@@ -388,10 +388,10 @@ first_known : (R : Readers) (before : List Reading) (b : Begun) (kind : Kind) (u
 first_known R before b kind u s k plain head refers o j =
     let one : Picture = record { begun = b; kind = kind; before = before; slices = s ∷ [] } in
     record {
-      earlier = whole_part (current before) ++ k.earlier;
+      earlier = picture_if_whole (current before) ++ k.earlier;
       all = all_of R k.earlier (current before) k.here k.all;
-      pics = ap (λ ps. whole_part (going one) ++ ps) k.pics;
-      here = first_sound R before (whole_part (current before) ++ k.earlier) b kind u s k.pics plain head refers o j k.few;
+      pics = ap (λ ps. picture_if_whole (going one) ++ ps) k.pics;
+      here = first_sound R before (picture_if_whole (current before) ++ k.earlier) b kind u s k.pics plain head refers o j k.few;
       few = no_messages;
     }
 
@@ -404,9 +404,9 @@ further_known R before p u s k cur part plain outside j =
       earlier = k.earlier;
       all = k.all;
       pics =
-          ap (λ c. whole_part (with_slice s c) ++ pictures before) cur
-          ∙ ap (λ ps. whole_part (going grown) ++ ps) (k.pics ∙ ap (λ c. whole_part c ++ k.earlier) cur ∙ ap (λ b. cond b (p ∷ []) [] ++ k.earlier) part)
-          ∙ ap (λ c. whole_part (with_slice s c) ++ k.earlier) (sym cur);
+          ap (λ c. picture_if_whole (with_slice s c) ++ pictures before) cur
+          ∙ ap (λ ps. picture_if_whole (going grown) ++ ps) (k.pics ∙ ap (λ c. picture_if_whole c ++ k.earlier) cur ∙ ap (λ b. cond b (p ∷ []) [] ++ k.earlier) part)
+          ∙ ap (λ c. picture_if_whole (with_slice s c) ++ k.earlier) (sym cur);
       here = subst P (sym (ap (with_slice s) cur)) (further_sound R k.earlier p u s (subst P cur k.here) plain outside j);
       few = no_messages;
     }
@@ -481,15 +481,15 @@ class_known R before u r vps_unit k plain is =
     let t = then_told (R.vps (rbsp_of u)) _ r is in
     read_as {R = R} {before = before} (vps_read t.0) r t.2 (vps_stays t.0 R before k)
 class_known R before u r sps_unit k plain is =
-    let p = passed (is_within (current before)) _ _ r is in
+    let p = passed (is_within_picture (current before)) _ _ r is in
     let t = then_told (R.sps (rbsp_of u)) _ r p.1 in
     read_as {R = R} {before = before} (sps_read t.0) r t.2 (sps_stays t.0 R before k)
 class_known R before u r pps_unit k plain is =
-    let p = passed (is_within (current before)) _ _ r is in
+    let p = passed (is_within_picture (current before)) _ _ r is in
     let t = then_told (R.pps (rbsp_of u)) _ r p.1 in
     read_as {R = R} {before = before} (pps_read t.0) r t.2 (pps_stays t.0 R before k)
 class_known R before u r prefix_aps k plain is =
-    let p = passed (is_within (current before)) _ _ r is in
+    let p = passed (is_within_picture (current before)) _ _ r is in
     let t = then_told (R.aps (rbsp_of u)) _ r p.1 in
     read_as {R = R} {before = before} (aps_reading t.0) r t.2 (aps_stays t.0 R before k)
 class_known R before u r suffix_aps k plain is =
@@ -508,7 +508,7 @@ class_known R before u r end_unit k plain is =
     let p = passed (is_open (current before)) _ _ r is in
     read_as {R = R} {before = before} sequence_ended r p.1 (ended_stays R before k)
 class_known R before u r sei_unit k plain is =
-    elim (chosen (is_within (current before)) (Ok dropped) (gathers before (R.sei (rbsp_of u))) r is) [
+    elim (chosen (is_within_picture (current before)) (Ok dropped) (gathers before (R.sei (rbsp_of u))) r is) [
       | inl h ↦ read_as {R = R} {before = before} dropped r h.1 (dropped_stays R before k)
       | inr h ↦
           let ms : List Message = R.sei (rbsp_of u) in
@@ -531,7 +531,7 @@ unit_known R before u r k is =
           (record { reserved = h.0; layer = equal (nuh_layer_id u) 0 h.1; class = refl }) h.2
     ]
 
-one_known : (R : Readers) (before : List Reading) (x : Result Reading Refusal) (f : List Reading → Outcome)
+one_known : (R : Readers) (before : List Reading) (x : Result Reading Refusal) (f : List Reading → StreamReading)
     → ((r : Reading) → x ≡ Ok r → Known R (r ∷ before)) → ((a : List Reading) → Known R a → Known R (f a).before) → Known R before
     → Known R (one_more x before f).before
 one_known R before (Ok r) f step on k = on (r ∷ before) (step r refl)

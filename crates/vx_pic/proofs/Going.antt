@@ -4,11 +4,11 @@ use Rattle.std.proofs.lemmas.List.{append_assoc}
 use Rattle.vx_bits.specs.declared.refusal.Refusal.{Refusal}
 use Rattle.vx_pic.specs.Readings.{Reading, Picture, completed, pictures}
 use Rattle.vx_pic.specs.Rules.{Readers, reads}
-use Rattle.vx_pic.specs.Streams.{Outcome, one_more, read_on, unless_refused}
-use Rattle.vx_pic.specs.Laws.{ReadingGoesOn, PicturesStay}
+use Rattle.vx_pic.specs.Streams.{StreamReading, one_more, read_on, unless_refused}
+use Rattle.vx_pic.specs.laws.Pictures.{ReadingGoesOn, PicturesStay}
 
 -- what follows a unit that is read, or not
-one_goes_on : (x : Result Reading Refusal) (before : List Reading) (f g h : List Reading → Outcome)
+one_goes_on : (x : Result Reading Refusal) (before : List Reading) (f g h : List Reading → StreamReading)
     → ((after : List Reading) → g after ≡ unless_refused (f after).refusal (f after).before h)
     → one_more x before g ≡ unless_refused (one_more x before f).refusal (one_more x before f).before h
 one_goes_on (Ok r) before f g h is = is (r ∷ before)
@@ -24,7 +24,7 @@ goes_on R before (u ∷ units) more =
 abbrev Adds : List Picture → List Reading → Type 0
 Adds ps before = (later : List Picture) × (ps ≡ later ++ pictures before)
 
-one_adds : (x : Result Reading Refusal) (before : List Reading) (f : List Reading → Outcome)
+one_adds : (x : Result Reading Refusal) (before : List Reading) (f : List Reading → StreamReading)
     → ((after : List Reading) → Adds (pictures (f after).before) after) → Adds (pictures (one_more x before f).before) before
 one_adds (Ok r) before f is =
     let more = is (r ∷ before) in
@@ -36,7 +36,7 @@ pub adds : (R : Readers) (before : List Reading) (units : List (List ℕ)) → A
 adds R before [] = ([], refl)
 adds R before (u ∷ units) = one_adds (reads R before u) before (λ after. read_on R after units) (λ after. adds R after units)
 
-unless_adds : (x : Option Refusal) (before : List Reading) (f : List Reading → Outcome)
+unless_adds : (x : Option Refusal) (before : List Reading) (f : List Reading → StreamReading)
     → ((after : List Reading) → Adds (pictures (f after).before) after) → Adds (pictures (unless_refused x before f).before) before
 unless_adds None before f is = is before
 unless_adds (Some r) before f is = ([], refl)

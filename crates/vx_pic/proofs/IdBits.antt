@@ -27,8 +27,9 @@ use Rattle.vx_table.proofs.Rewrites.{leaves_agree, sections_leave, sections_toge
 use Rattle.vx_sps.specs.declared.tables.TheConstants.{SUBPIC_IDS}
 use Rattle.vx_sps.specs.Structure as structure
 use Rattle.vx_sps.specs.Structure.{sps_form}
-use Rattle.vx_sps.specs.Set.{IsItems}
-use Rattle.vx_sps.specs.Subpictures.{id_of, numbers_of, subpics_of}
+use Rattle.vx_sps.specs.Set.{AreSpsItems}
+use Rattle.vx_sps.specs.Subpictures.{sps_subpic_id_of, subpics_of}
+use Rattle.vx_table.specs.Loaded.{numbers_of}
 use Rattle.vx_pic.specs.PictureLayout.{are_in_pps, ids_of, ids_misplaced, ids_unlike, ids_too_short, needs_ids, same_flag}
 use Rattle.vx_pic.proofs.Ids.{Lacks, LengthAndLow, Low, and_set, at_end_nothing, bind_nothing, fresh_size, items_lack, lacks_both, low_told, low_turns, numbers_none, or_false, other_row, other_sound, sections_lack}
 
@@ -125,7 +126,7 @@ behind = structure.counts ++ (structure.dpb ++ (structure.tools ++ (structure.ti
 abbrev from_table : List Section
 from_table = structure.with_subpictures SUBPIC_IDS ∷ behind
 
-low_ids_of_sps : (items : List Item) → IsItems items → Low (number items length_of_ids + 1) (numbers_of items sps.sps_subpic_id)
+low_ids_of_sps : (items : List Item) → AreSpsItems items → Low (number items length_of_ids + 1) (numbers_of items sps.sps_subpic_id)
 unfolding fresh sections_form hides_row hides_counter other_row
 low_ids_of_sps items set =
     let p = cut before from_table fresh set.follows in
@@ -151,7 +152,7 @@ low_ids_of_sps items set =
     ]
 
 -- ids that stand in the SPS, and indices in place of them, have as many bits
-pub ids_low_in_sps : (s p : List Item) (i : ℕ) → IsItems s → ids_misplaced s p ≡ false → are_in_pps s p ≡ false → is_set (number s sps.sps_subpic_info_present_flag) ≡ true → i < subpics_of s
+pub ids_low_in_sps : (s p : List Item) (i : ℕ) → AreSpsItems s → ids_misplaced s p ≡ false → are_in_pps s p ≡ false → is_set (number s sps.sps_subpic_info_present_flag) ≡ true → i < subpics_of s
     → slice_index (ids_of s p) i < 2 ^ (number s length_of_ids + 1)
 unfolding ids_of ids_misplaced
 ids_low_in_sps s p i set agree none described within =
@@ -160,7 +161,7 @@ ids_low_in_sps s p i set agree none described within =
     let others = or_false (not (same_flag has_ids (needs_ids s))) ((has_ids && ids_unlike s p) || ids_too_short s) agree in
     let short : ids_too_short s ≡ false = (or_false (has_ids && ids_unlike s p) (ids_too_short s) others.1).1 in
     let fit : subpics_of s ≤ bound = ltb-false bound (subpics_of s) (and_set (is_set (number s sps.sps_subpic_info_present_flag)) (nat_lt bound (subpics_of s)) described short) in
-    let at : slice_index (map (id_of s) (range_with_len 0 (subpics_of s))) i ≡ id_of s i = get_or-map-range_with_len (id_of s) 0 (subpics_of s) i i 0 within (omega arith) in
+    let at : slice_index (map (sps_subpic_id_of s) (range_with_len 0 (subpics_of s))) i ≡ sps_subpic_id_of s i = get_or-map-range_with_len (sps_subpic_id_of s) 0 (subpics_of s) i i 0 within (omega arith) in
     let ids : List ℕ = numbers_of s sps.sps_subpic_id in
     rw (none, at) (elim (cases_lt i (length ids)) [
       | inl there ↦ low_ids_of_sps s set i i there

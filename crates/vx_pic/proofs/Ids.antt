@@ -34,11 +34,11 @@ use Rattle.vx_table.proofs.Joined.{items_joined}
 use Rattle.vx_table.proofs.Loading.{number_of_last, number_of_none}
 use Rattle.vx_table.specs.Claims.{hides_counter, hides_row}
 use Rattle.vx_table.proofs.Rewrites.{leaves_agree, sections_leave, sections_together}
-use Rattle.vx_sps.specs.Subpictures.{id_of, subpics_of}
+use Rattle.vx_sps.specs.Subpictures.{sps_subpic_id_of, subpics_of}
 use Rattle.vx_pps.specs.declared.partition.Partition.{Partition}
 use Rattle.vx_pps.specs.declared.tables.TheConstants as tables
-use Rattle.vx_pps.specs.Items.{numbers_of}
-use Rattle.vx_pps.specs.Pps.{IsItems, front, partition_at, tools}
+use Rattle.vx_table.specs.Loaded.{numbers_of}
+use Rattle.vx_pps.specs.Pps.{ArePpsItems, before_tiles, partition_at, after_slices}
 use Rattle.vx_pps.proofs.Cutting.{Parts, cut_parts, each_weaker}
 use Rattle.vx_pps.proofs.Division.{IsDividing, each_division}
 use Rattle.vx_pic.specs.PictureLayout.{are_in_pps, ids_of, ids_misplaced, ids_unlike, ids_too_short, needs_ids, same_flag}
@@ -370,7 +370,7 @@ last_section : (s : List ℕ) → sections_form (always tables.SUBPIC_IDS ∷ []
 unfolding sections_form present value
 last_section s = bind_nothing (form_of tables.SUBPIC_IDS s) (λ t. done t) (λ t. refl)
 
-front_parts : (items : List Item) (values : List ℤ) (end : List ℕ) → Follows (sections_form front fresh) values end → items_along (sections_form front fresh) values ≡ items → FrontParts items
+front_parts : (items : List Item) (values : List ℤ) (end : List ℕ) → Follows (sections_form before_tiles fresh) values end → items_along (sections_form before_tiles fresh) values ≡ items → FrontParts items
 unfolding fresh hides_row hides_counter
 front_parts items values end follows given =
     let p = cut before_ids (always tables.SUBPIC_IDS ∷ []) fresh follows in
@@ -386,7 +386,7 @@ front_parts items values end follows given =
       table = p.others;
       end = end;
       second = subst (λ f. Follows f p.others end) (last_section p.mid) p.second;
-      all = sym given ∙ ap (λ w. items_along (sections_form front fresh) w) p.all
+      all = sym given ∙ ap (λ w. items_along (sections_form before_tiles fresh) w) p.all
           ∙ ap (λ f. items_along f (p.front ++ p.others)) (sections_together before_ids (always tables.SUBPIC_IDS ∷ []) fresh)
           ∙ joined ∙ ap (λ f. items_along (sections_form before_ids fresh) p.front ++ items_along f p.others) (last_section p.mid);
     }
@@ -396,12 +396,12 @@ divided_lacks : (of : ℕ) (s : List ℕ) {w : List ℤ} {end : Partition} → o
 divided_lacks of s below follows =
     items_lack of (each_weaker IsDividing (λ cell. (cell.field == of) ≡ false) (partition_at s) (λ cell is. let high = is.0 in ne_eqb cell.field of (λ same. omega (arith, high, same, below))) (each_division _ _ _)) follows
 
-behind_lacks : (of : ℕ) (items : List Item) (end : Partition) (p : Parts items end) → of < 417 → sections_pass (other_row of) tools ≡ true → Lacks of (p.division ++ p.tool_items)
+behind_lacks : (of : ℕ) (items : List Item) (end : Partition) (p : Parts items end) → of < 417 → sections_pass (other_row of) after_slices ≡ true → Lacks of (p.division ++ p.tool_items)
 behind_lacks of items end p below test =
     lacks_both of p.division p.tool_items (subst (λ xs. Lacks of xs) p.second.given (divided_lacks of p.scope below p.second.follows))
-    (subst (λ xs. Lacks of xs) p.third.given (sections_lack of tools p.scope test p.third.follows))
+    (subst (λ xs. Lacks of xs) p.third.given (sections_lack of after_slices p.scope test p.third.follows))
 
-ids_of_pps : (items : List Item) → IsItems items → is_set (number items flag_of_ids) ≡ true → length (numbers_of items pps.pps_subpic_id) ≡ number items count_of_ids + 1
+ids_of_pps : (items : List Item) → ArePpsItems items → is_set (number items flag_of_ids) ≡ true → length (numbers_of items pps.pps_subpic_id) ≡ number items count_of_ids + 1
 unfolding other_row
 ids_of_pps items set flagged =
     let p = cut_parts items set.end set.set in
@@ -414,7 +414,7 @@ ids_of_pps items set flagged =
     rw all (ids_told a b t (table_ids f.mid f.size f.second) (sections_lack count_of_ids before_ids fresh refl f.first) (sections_lack pps.pps_subpic_id before_ids fresh refl f.first)
     (behind_lacks flag_of_ids items set.end p (omega arith) refl) (behind_lacks count_of_ids items set.end p (omega arith) refl) (behind_lacks pps.pps_subpic_id items set.end p (omega arith) refl) flag)
 
-low_ids_of_pps : (items : List Item) → IsItems items → is_set (number items flag_of_ids) ≡ true → Low (number items length_of_ids + 1) (numbers_of items pps.pps_subpic_id)
+low_ids_of_pps : (items : List Item) → ArePpsItems items → is_set (number items flag_of_ids) ≡ true → Low (number items length_of_ids + 1) (numbers_of items pps.pps_subpic_id)
 unfolding other_row
 low_ids_of_pps items set flagged =
     let p = cut_parts items set.end set.set in
@@ -445,7 +445,7 @@ pub not_false : (b : Bool) → not b ≡ false → b ≡ true
 not_false true e = refl
 not_false false e = absurd (true≢false e)
 
-pub ids_count : (s p : List Item) → IsItems p → ids_misplaced s p ≡ false → length (ids_of s p) ≡ subpics_of s
+pub ids_count : (s p : List Item) → ArePpsItems p → ids_misplaced s p ≡ false → length (ids_of s p) ≡ subpics_of s
 unfolding ids_of ids_misplaced
 ids_count s p set agree = elim (cases_Bool (are_in_pps s p)) [
   | inl here ↦
@@ -456,11 +456,11 @@ ids_count s p set agree = elim (cases_Bool (are_in_pps s p)) [
       (and_set (is_set (number p flag_of_ids)) (ids_unlike s p) flagged alike.0) in
       let count = eqb-true (number p count_of_ids) (number s sps_fields.sps_num_subpics_minus1) (not_false (number p count_of_ids == number s sps_fields.sps_num_subpics_minus1) same.0) in
       rw here (ids_of_pps p set flagged ∙ ap (λ n. n + 1) count)
-  | inr none ↦ rw none (length-map-range_with_len (id_of s) 0 (subpics_of s))
+  | inr none ↦ rw none (length-map-range_with_len (sps_subpic_id_of s) 0 (subpics_of s))
 ]
 
 -- ids that stand in the PPS have as many bits as the SPS says
-pub ids_low_in_pps : (s p : List Item) → IsItems p → ids_misplaced s p ≡ false → are_in_pps s p ≡ true → Low (number s sps_fields.sps_subpic_id_len_minus1 + 1) (ids_of s p)
+pub ids_low_in_pps : (s p : List Item) → ArePpsItems p → ids_misplaced s p ≡ false → are_in_pps s p ≡ true → Low (number s sps_fields.sps_subpic_id_len_minus1 + 1) (ids_of s p)
 unfolding ids_of ids_misplaced
 ids_low_in_pps s p set agree here =
     let flagged : is_set (number p flag_of_ids) ≡ true = both_true (is_set (number s sps_fields.sps_subpic_id_mapping_explicitly_signalled_flag)) (is_set (number p flag_of_ids)) here in

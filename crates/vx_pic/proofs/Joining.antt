@@ -10,10 +10,10 @@ use Rattle.vx_pic.specs.declared.unit_types.TheConstants as types
 use Rattle.vx_pic.specs.Units.{is_cra_or_gdr, is_idr, is_irap_or_gdr}
 use Rattle.vx_pic.specs.Sets.{lsb_of, max_lsb, msb_cycle}
 use Rattle.vx_pic.specs.Readings.{Begun, Picture, is_whole}
-use Rattle.vx_pic.specs.Counts.{Previous, begins_anew, count_by, counted, counts_or_none, is_changed, is_clvss, is_empty, is_tid0_picture, kind_of, previous}
+use Rattle.vx_pic.specs.Counts.{Previous, begins_anew, count_by, pic_order_count, counts_or_none, is_changed, is_clvss, is_empty, is_tid0_picture, kind_of, previous}
 use Rattle.vx_pic.specs.Rules.{Readers}
 use Rattle.vx_pic.specs.Alike.{IsNext}
-use Rattle.vx_pic.specs.Finished.{AreFinished, IsSound}
+use Rattle.vx_pic.specs.Finished.{AreFinished, IsSoundPicture}
 use Rattle.vx_pic.specs.Joined.{BeginsWhereFirst, JoinedAreFinished, PlayedAreFinished, StartWhere, Starts, after_end, begins_file, one_behind_another, played}
 
 -- ---- lists that tell the same of what comes behind them
@@ -37,7 +37,7 @@ next_behind xs ys same b k next = record {
   fits = next.fits;
 }
 
-sound_behind : (R : Readers) (xs ys : List Picture) → TellSame xs ys → (p : Picture) → IsSound R xs p → IsSound R ys p
+sound_behind : (R : Readers) (xs ys : List Picture) → TellSame xs ys → (p : Picture) → IsSoundPicture R xs p → IsSoundPicture R ys p
 sound_behind R xs ys same p sound = record {
   first = sound.first;
   more = sound.more;
@@ -82,7 +82,7 @@ starts_anew false true anew is = refl
 starts_anew false false anew is = is
 
 -- its count reads nothing of those before it
-own_count : (cycle : Option ℕ) (max lsb : ℕ) (a c : Previous) → counted cycle true max lsb a ≡ counted cycle true max lsb c
+own_count : (cycle : Option ℕ) (max lsb : ℕ) (a c : Previous) → pic_order_count cycle true max lsb a ≡ pic_order_count cycle true max lsb c
 own_count (Some cycle) max lsb a c = refl
 own_count None max lsb a c = refl
 
@@ -122,7 +122,7 @@ module _ (b : Begun) (k : Kind) (clvss : k.clvss ≡ true) where
       }
 
 joined_sound : (R : Readers) (earlier others : List Picture) (p : Picture) → p.kind.clvss ≡ true → is_empty others ≡ false
-    → IsSound R earlier p → IsSound R others (after_end p)
+    → IsSoundPicture R earlier p → IsSoundPicture R others (after_end p)
 joined_sound R earlier others p clvss some sound = record {
   first = sound.first;
   more = sound.more;
@@ -189,12 +189,12 @@ abbrev marked : Bool → Picture → Picture
 marked j p = cond j (after_end p) p
 
 record GoesOn (R : Readers) (own others : List Picture) (p q : Picture) : Type 0 where
-  sound : IsSound R others q
+  sound : IsSoundPicture R others q
   whole : is_whole q ≡ true
   same : TellSame (p ∷ own) (q ∷ others)
 
 one_played : (R : Readers) (own others : List Picture) (p : Picture) (j : Bool) → (j ≡ false → TellSame own others) → (j ≡ true → Starts p)
-    → (j ≡ true → is_empty others ≡ false) → IsSound R own p → is_whole p ≡ true → GoesOn R own others p (marked j p)
+    → (j ≡ true → is_empty others ≡ false) → IsSoundPicture R own p → is_whole p ≡ true → GoesOn R own others p (marked j p)
 one_played R own others p true same starts some sound whole = record {
   sound = joined_sound R own others p (starts refl).clvss (some refl) sound;
   whole = whole;

@@ -3,9 +3,9 @@ use Rattle.std.proofs.Common.{◌≡◌, ℕ, zero, suc, ◌<◌, false, cond, L
 use Rattle.std.specs.Prelude.{◌⊎◌, Option, Some, None, slice_get}
 use Rattle.std.specs.Option.{option_or}
 use Rattle.std.proofs.lemmas.Option.{none-some}
-use Rattle.vx_pic.specs.Readings.{Reading, latest, sps_in, pps_in, aps_in, Picture}
+use Rattle.vx_pic.specs.Readings.{Reading, latest_given, sps_in, pps_in, aps_in, Picture}
 use Rattle.vx_pic.specs.Counts.{is_tid0_picture, counts_or_none}
-use Rattle.vx_pic.specs.Laws.{IsLatestAt, IsByPlaces, StoredByPlaces, IsPrevTid0At, PreviousByPlaces}
+use Rattle.vx_pic.specs.laws.Pictures.{IsLatestAt, IsByPlaces, StoredByPlaces, IsPrevTid0At, PreviousByPlaces}
 
 -- an option, by what it is
 is_of : {A : Type 0} (x : Option A) → (x ≡ None) ⊎ ((a : A) × (x ≡ Some a))
@@ -21,11 +21,11 @@ past : {A : Type 0} (gives : Reading → Option A) (r : Reading) (before : List 
 past gives r before n none more zero s lt is = cc
 past gives r before n none more (suc k) s lt is = more k s (below n k lt) is
 
-found_at : {A : Type 0} (gives : Reading → Option A) (before : List Reading) (a : A) → latest gives before ≡ Some a → (n : ℕ) × IsLatestAt gives before n a
+found_at : {A : Type 0} (gives : Reading → Option A) (before : List Reading) (a : A) → latest_given gives before ≡ Some a → (n : ℕ) × IsLatestAt gives before n a
 found_at gives [] a is = absurd (none-some a is)
 found_at {A} gives (r ∷ before) a is = elim (is_of (gives r)) [
   | inl none ↦
-      let later = found_at gives before a (ap (λ x. option_or x (latest gives before)) (sym none) ∙ is) in (
+      let later = found_at gives before a (ap (λ x. option_or x (latest_given gives before)) (sym none) ∙ is) in (
         suc later.0,
         record {
           reading = later.1.reading;
@@ -39,18 +39,18 @@ found_at {A} gives (r ∷ before) a is = elim (is_of (gives r)) [
     record {
       reading = r;
       here = refl;
-      given = some.1 ∙ (ap (λ x. option_or x (latest gives before)) (sym some.1) ∙ is);
+      given = some.1 ∙ (ap (λ x. option_or x (latest_given gives before)) (sym some.1) ∙ is);
       later = λ k s lt. absurd (omega arith);
     },
   )
 ]
 
-at_found : {A : Type 0} (gives : Reading → Option A) (before : List Reading) (a : A) (n : ℕ) → IsLatestAt gives before n a → latest gives before ≡ Some a
+at_found : {A : Type 0} (gives : Reading → Option A) (before : List Reading) (a : A) (n : ℕ) → IsLatestAt gives before n a → latest_given gives before ≡ Some a
 at_found gives [] a n at = absurd (none-some at.reading at.here)
 at_found gives (r ∷ before) a zero at =
     let h = at.here in let g = at.given in
     let is : gives r ≡ Some a = cc in
-    ap (λ x. option_or x (latest gives before)) is
+    ap (λ x. option_or x (latest_given gives before)) is
 at_found gives (r ∷ before) a (suc n) at =
     let none : gives r ≡ None = at.later 0 r (omega arith) refl in
     let more = at_found gives before a n (record {
@@ -59,7 +59,7 @@ at_found gives (r ∷ before) a (suc n) at =
       given = at.given;
       later = λ k s lt is. at.later (suc k) s (omega (arith, lt)) is;
     }) in
-    ap (λ x. option_or x (latest gives before)) none ∙ more
+    ap (λ x. option_or x (latest_given gives before)) none ∙ more
 
 by_places : {A : Type 0} (gives : Reading → Option A) → IsByPlaces gives
 by_places gives before a = (found_at gives before a, at_found gives before a)

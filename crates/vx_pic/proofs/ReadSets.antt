@@ -12,9 +12,9 @@ use Rattle.vx_layout.proofs.Parts.{Each-append}
 use Rattle.vx_sei.specs.Sei.{spelled_length}
 use Rattle.vx_pic.specs.Units.{is_reserved, rbsp_of, has_header_inside, Class, other_unit, vps_unit, sps_unit, pps_unit, prefix_aps, suffix_aps, header_unit, slice_unit, end_unit, sei_unit, class_of}
 use Rattle.vx_pic.specs.Sets.{sps_id, pps_id, referred_sps}
-use Rattle.vx_pic.specs.Readings.{Begun, Slice, Reading, dropped, vps_read, sps_read, pps_read, aps_read, messages_read, header_read, first_slice, next_slice, sequence_ended, latest, sps_in, pps_in, gathered, Picture, is_whole, Current, nothing, headed, going, with_slice, current, is_open, is_within, whole_part, is_slice, pictures}
+use Rattle.vx_pic.specs.Readings.{Begun, Slice, Reading, dropped, vps_read, sps_read, pps_read, aps_read, messages_read, header_read, first_slice, next_slice, sequence_ended, latest_given, sps_in, pps_in, gathered, Picture, is_whole, Current, nothing, headed, going, with_slice, current, is_open, is_within_picture, picture_if_whole, is_slice, pictures}
 use Rattle.vx_pic.specs.Rules.{Readers, message_limit, aps_reading, opens, opened, gathers, begins, joins, follows, alone, reads_as, reads}
-use Rattle.vx_pic.specs.Streams.{Outcome, one_more, read_on}
+use Rattle.vx_pic.specs.Streams.{StreamReading, one_more, read_on}
 use Rattle.vx_pic.specs.Whole.{HasSets, PicturesHaveSets}
 use Rattle.vx_pic.proofs.Finishing.{then_told, passed, test_told, first_or, header_begun, chosen, answered, by_layer}
 
@@ -32,9 +32,9 @@ WereRead R before = AllByRecursion (WasRead R) before
 -- ---- sets in force
 
 given : {A : Type 0} (gives : Reading → Option A) (Q : Reading → Type 0) (P : A → Type 0) → ((r : Reading) (a : A) → Q r → gives r ≡ Some a → P a)
-    → (before : List Reading) → AllByRecursion Q before → (a : A) → latest gives before ≡ Some a → P a
+    → (before : List Reading) → AllByRecursion Q before → (a : A) → latest_given gives before ≡ Some a → P a
 given gives Q P each [] all a is = absurd (cc)
-given gives Q P each (r ∷ before) all a is = first_or (gives r) (latest gives before) a P (λ b. each r b all.0) (given gives Q P each before all.1 a) is
+given gives Q P each (r ∷ before) all a is = first_or (gives r) (latest_given gives before) a P (λ b. each r b all.0) (given gives Q P each before all.1 a) is
 
 sps_was_read : (R : Readers) (id : ℕ) (r : Reading) (s : List Item) → WasRead R r → sps_in id r ≡ Some s → (rbsp : List ℕ) × (R.sps rbsp ≡ Ok s)
 sps_was_read R id (sps_read t) s was is =
@@ -134,15 +134,15 @@ class_was_read R before u r vps_unit all is =
     let t = then_told (R.vps (rbsp_of u)) _ r is in
     read_is R (vps_read t.0) r t.2 tt
 class_was_read R before u r sps_unit all is =
-    let p = passed (is_within (current before)) _ _ r is in
+    let p = passed (is_within_picture (current before)) _ _ r is in
     let t = then_told (R.sps (rbsp_of u)) _ r p.1 in
     read_is R (sps_read t.0) r t.2 (rbsp_of u, t.1)
 class_was_read R before u r pps_unit all is =
-    let p = passed (is_within (current before)) _ _ r is in
+    let p = passed (is_within_picture (current before)) _ _ r is in
     let t = then_told (R.pps (rbsp_of u)) _ r p.1 in
     read_is R (pps_read t.0) r t.2 (rbsp_of u, t.1)
 class_was_read R before u r prefix_aps all is =
-    let p = passed (is_within (current before)) _ _ r is in
+    let p = passed (is_within_picture (current before)) _ _ r is in
     let t = then_told (R.aps (rbsp_of u)) _ r p.1 in
     read_is R (aps_reading t.0) r t.2 (aps_was_read R t.0)
 class_was_read R before u r suffix_aps all is =
@@ -161,7 +161,7 @@ class_was_read R before u r end_unit all is =
     let p = passed (is_open (current before)) _ _ r is in
     read_is R sequence_ended r p.1 tt
 class_was_read R before u r sei_unit all is =
-    elim (chosen (is_within (current before)) (Ok dropped) (gathers before (R.sei (rbsp_of u))) r is) [
+    elim (chosen (is_within_picture (current before)) (Ok dropped) (gathers before (R.sei (rbsp_of u))) r is) [
       | inl h ↦ read_is R dropped r h.1 tt
       | inr h ↦
           let p = passed (nat_lt message_limit (spelled_length (gathered before ++ R.sei (rbsp_of u)))) _ _ r h.1 in
@@ -175,7 +175,7 @@ unit_was_read R before u r all is =
       | inr h ↦ class_was_read R before u r (class_of (nal_unit_type u)) all h.2
     ]
 
-one_was_read : (R : Readers) (before : List Reading) (x : Result Reading Refusal) (f : List Reading → Outcome)
+one_was_read : (R : Readers) (before : List Reading) (x : Result Reading Refusal) (f : List Reading → StreamReading)
     → ((r : Reading) → x ≡ Ok r → WasRead R r) → ((a : List Reading) → WereRead R a → WereRead R (f a).before) → WereRead R before
     → WereRead R (one_more x before f).before
 one_was_read R before (Ok r) f step on all = on (r ∷ before) (step r refl, all)
@@ -191,7 +191,7 @@ units_were_read R before (u ∷ units) all =
 abbrev AllHave : Readers → List Picture → Type 0
 AllHave R ps = AllByRecursion (λ p. HasSets R p.begun) ps
 
-whole_has : (R : Readers) (c : Current) → CurrentHas R c → AllHave R (whole_part c)
+whole_has : (R : Readers) (c : Current) → CurrentHas R c → AllHave R (picture_if_whole c)
 whole_has R nothing has = tt
 whole_has R (headed b) has = tt
 whole_has R (going p) has = elim (is_whole p) as (λ b. AllHave R (cond b (p ∷ []) [])) [ true ↦ (has, tt) | false ↦ tt ]
@@ -200,9 +200,9 @@ pictures_have : (R : Readers) (before : List Reading) → WereRead R before → 
 pictures_have R [] all = tt
 pictures_have R (r ∷ before) all =
     let c : Current = current (r ∷ before) in
-    let here : AllHave R (cond (is_slice r) (whole_part c) [])
-    = elim (is_slice r) as (λ b. AllHave R (cond b (whole_part c) [])) [ true ↦ whole_has R c (current_has R (r ∷ before) all) | false ↦ tt ] in
-    Each-append (λ p. HasSets R p.begun) (cond (is_slice r) (whole_part c) []) (pictures before) here (pictures_have R before all.1)
+    let here : AllHave R (cond (is_slice r) (picture_if_whole c) [])
+    = elim (is_slice r) as (λ b. AllHave R (cond b (picture_if_whole c) [])) [ true ↦ whole_has R c (current_has R (r ∷ before) all) | false ↦ tt ] in
+    Each-append (λ p. HasSets R p.begun) (cond (is_slice r) (picture_if_whole c) []) (pictures before) here (pictures_have R before all.1)
 
 pub pictures_have_sets : PicturesHaveSets
 pictures_have_sets R units = pictures_have R (read_on R [] units).before (units_were_read R [] units tt)

@@ -14,15 +14,15 @@ use Rattle.vx_aps.specs.declared.aps.Aps.{Aps}
 use Rattle.vx_pic.specs.Sets.{Slot, sps_id, pps_id, same_item, same_items, names_of}
 use Rattle.vx_pic.specs.Units.{temporal_id, is_irap_or_gdr}
 use Rattle.vx_pic.specs.Readings.{Reading, dropped, vps_read, sps_read, pps_read, aps_read, messages_read, header_read, first_slice}
-use Rattle.vx_pic.specs.Readings.{next_slice, sequence_ended, Begun, Slice, Picture, latest, sps_in, pps_in, aps_in, stored_sps}
+use Rattle.vx_pic.specs.Readings.{next_slice, sequence_ended, Begun, Slice, Picture, latest_given, sps_in, pps_in, aps_in, stored_sps}
 use Rattle.vx_pic.specs.Readings.{stored_pps, stored_aps, pictures}
 use Rattle.vx_pic.specs.Rules.{Readers}
 use Rattle.vx_pic.specs.Streams.{read_on, unless_refused}
 use Rattle.vx_pic.specs.Alike.{IsNext}
-use Rattle.vx_pic.specs.Written.{Set, an_sps, a_pps, an_aps, set_reading, IsStored, SetUnit, SeiUnit, Plan, slices_of, units_of}
-use Rattle.vx_pic.specs.Written.{eos_readings, set_readings, sei_readings, header_readings, slice_readings, readings_of, after}
+use Rattle.vx_pic.specs.Written.{Set, an_sps, a_pps, an_aps, set_reading, IsStored, SetUnit, SeiUnit, Plan, planned_slices, units_of}
+use Rattle.vx_pic.specs.Written.{eos_readings, set_readings, sei_readings, header_readings, slice_readings, readings_of, readings_after}
 use Rattle.vx_pic.specs.Written.{before_header, planned, AreInForce, IsWritten}
-use Rattle.vx_pic.specs.Resident.{read_of, units_written, planned_of, same_slot, kept_for, history_of, HaveOwnSlots, NeededIsStored}
+use Rattle.vx_pic.specs.Resident.{readings_of_plans, units_written, planned_of, same_slot, kept_for, history_of, HaveOwnSlots, NeededIsStored}
 use Rattle.vx_pic.specs.Resident.{same_bytes, same_set, last_of, serves, is_resident, sent_before}
 use Rattle.vx_pic.specs.Resident.{HasSet, HaveNamed, IsPlanned, WrittenReadsAgain, IsBodyOf, NeededIsBody}
 use Rattle.vx_pic.proofs.Going.{goes_on}
@@ -76,7 +76,7 @@ other b (an_aps s) (an_aps t) differ is = ap (λ x. option_or (cond x (Some t) N
 abbrev AreOthers : Set → List SetUnit → Type 0
 AreOthers s xs = AllByRecursion (λ y. same_slot s y.set ≡ false) xs
 
-past_others : (b : List Reading) (s : Set) (xs : List SetUnit) → AreOthers s xs → IsStored b s → IsStored (after b (set_readings xs)) s
+past_others : (b : List Reading) (s : Set) (xs : List SetUnit) → AreOthers s xs → IsStored b s → IsStored (readings_after b (set_readings xs)) s
 past_others b s [] others is = is
 past_others b s (x ∷ xs) others is =
     past_others (set_reading x.set ∷ b) s xs others.1 (other b s x.set (slots_flipped x.set s ∙ others.0) is)
@@ -102,17 +102,17 @@ abbrev unsent : (SetUnit → Bool) → List SetUnit → List SetUnit
 unsent resident xs = filter (λ x. not (resident x)) xs
 
 sent_stored : (resident : SetUnit → Bool) (b : List Reading) (needed : List SetUnit) → HaveOwnSlots needed → AreKnown resident b needed
-    → AllByRecursion (λ x. IsStored (after b (set_readings (unsent resident needed))) x.set) needed
+    → AllByRecursion (λ x. IsStored (readings_after b (set_readings (unsent resident needed))) x.set) needed
 sent_stored resident b [] slots known = tt
 sent_stored resident b (x ∷ more) slots known = elim (cases_Bool (resident x)) [
   | inl yes_it ↦
-      let P : Bool → Type 0 = λ t. AllByRecursion (λ y. IsStored (after b (set_readings (cond (not t) (x ∷ unsent resident more) (unsent resident more)))) y.set) (x ∷ more) in
+      let P : Bool → Type 0 = λ t. AllByRecursion (λ y. IsStored (readings_after b (set_readings (cond (not t) (x ∷ unsent resident more) (unsent resident more)))) y.set) (x ∷ more) in
       subst P (sym yes_it) (
         past_others b x.set (unsent resident more) (filtered (λ y. not (resident y)) x.set more slots.0) (known.0 yes_it),
         sent_stored resident b more slots.1 known.1,
       )
   | inr no_it ↦
-      let P : Bool → Type 0 = λ t. AllByRecursion (λ y. IsStored (after b (set_readings (cond (not t) (x ∷ unsent resident more) (unsent resident more)))) y.set) (x ∷ more) in
+      let P : Bool → Type 0 = λ t. AllByRecursion (λ y. IsStored (readings_after b (set_readings (cond (not t) (x ∷ unsent resident more) (unsent resident more)))) y.set) (x ∷ more) in
       subst P (sym no_it) (
         past_others (set_reading x.set ∷ b) x.set (unsent resident more) (filtered (λ y. not (resident y)) x.set more slots.0) (own b x.set),
         sent_stored resident (set_reading x.set ∷ b) more slots.1 (still_known resident b x.set more slots.0 known.1),
@@ -181,7 +181,7 @@ none_alike s (x ∷ more) is = by (none_alike s more) (last_of s more) refl is
     by rest None at e = (slots_flipped s x.set ∙ differs (same_slot x.set s) e, rest at)
 
 last_stored : (s : Set) (b : List Reading) (xs : List SetUnit) (x : SetUnit) → last_of s xs ≡ Some x → x.set ≡ s
-    → IsStored (after b (set_readings xs)) s
+    → IsStored (readings_after b (set_readings xs)) s
 last_stored s b [] x is same = absurd (none-some x is)
 last_stored s b (y ∷ more) x is same = by (λ at. last_stored s (set_reading y.set ∷ b) more x at same) (last_of s more) refl is
   where
@@ -189,19 +189,19 @@ last_stored s b (y ∷ more) x is same = by (λ at. last_stored s (set_reading y
     here true e = (cc)
     here false e = absurd (none-some x e)
 
-    by : (last_of s more ≡ Some x → IsStored (after (set_reading y.set ∷ b) (set_readings more)) s) → (o : Option SetUnit)
+    by : (last_of s more ≡ Some x → IsStored (readings_after (set_reading y.set ∷ b) (set_readings more)) s) → (o : Option SetUnit)
         → last_of s more ≡ o → option_or o (cond (same_slot y.set s) (Some y) None) ≡ Some x
-        → IsStored (after (set_reading y.set ∷ b) (set_readings more)) s
+        → IsStored (readings_after (set_reading y.set ∷ b) (set_readings more)) s
     by rest (Some z) at e = rest (at ∙ e)
     by rest None at e =
         let is_it : y.set ≡ s = ap (λ u. u.set) (here (same_slot y.set s) e) ∙ same in
         past_others (set_reading y.set ∷ b) s more (none_alike s more at)
         (subst (λ t. IsStored (set_reading y.set ∷ b) t) is_it (own b y.set))
 
-resident_is : (t : ℕ) (history : List SetUnit) (s : Set) → serves t s (last_of s history) ≡ true → IsStored (after [] (set_readings history)) s
+resident_is : (t : ℕ) (history : List SetUnit) (s : Set) → serves t s (last_of s history) ≡ true → IsStored (readings_after [] (set_readings history)) s
 resident_is t history s is = by (last_of s history) refl is
   where
-    by : (o : Option SetUnit) → last_of s history ≡ o → serves t s o ≡ true → IsStored (after [] (set_readings history)) s
+    by : (o : Option SetUnit) → last_of s history ≡ o → serves t s o ≡ true → IsStored (readings_after [] (set_readings history)) s
     by None at e = absurd (cc)
     by (Some x) at e = last_stored s [] history x at (set_is x.set s (both (same_set x.set s) (nat_le (temporal_id x.unit) t) e).0)
 
@@ -224,16 +224,16 @@ or_none : {A : Type 0} (x : Option A) → option_or x None ≡ x
 or_none None = refl
 or_none (Some a) = refl
 
-split : {A : Type 0} (f : Reading → Option A) (b rs : List Reading) → latest f (after b rs) ≡ option_or (latest f (after [] rs)) (latest f b)
+split : {A : Type 0} (f : Reading → Option A) (b rs : List Reading) → latest_given f (readings_after b rs) ≡ option_or (latest_given f (readings_after [] rs)) (latest_given f b)
 split f b [] = refl
 split f b (r ∷ rs) =
     split f (r ∷ b) rs
-    ∙ assoc (latest f (after [] rs)) (f r) (latest f b)
-    ∙ ap (λ x. option_or x (latest f b)) (sym (split f (r ∷ []) rs ∙ ap (option_or (latest f (after [] rs))) (or_none (f r))))
+    ∙ assoc (latest_given f (readings_after [] rs)) (f r) (latest_given f b)
+    ∙ ap (λ x. option_or x (latest_given f b)) (sym (split f (r ∷ []) rs ∙ ap (option_or (latest_given f (readings_after [] rs))) (or_none (f r))))
 
-neutral : {A : Type 0} (f : Reading → Option A) (b rs : List Reading) → AllByRecursion (λ r. f r ≡ None) rs → latest f (after b rs) ≡ latest f b
+neutral : {A : Type 0} (f : Reading → Option A) (b rs : List Reading) → AllByRecursion (λ r. f r ≡ None) rs → latest_given f (readings_after b rs) ≡ latest_given f b
 neutral f b [] none = refl
-neutral f b (r ∷ rs) none = neutral f (r ∷ b) rs none.1 ∙ ap (λ x. option_or x (latest f b)) none.0
+neutral f b (r ∷ rs) none = neutral f (r ∷ b) rs none.1 ∙ ap (λ x. option_or x (latest_given f b)) none.0
 
 none_of_eos : {A : Type 0} (f : Reading → Option A) → LooksAtSets f → (e : Bool) → AllByRecursion (λ r. f r ≡ None) (eos_readings e)
 none_of_eos f sets true = (sets sequence_ended refl, tt)
@@ -253,29 +253,29 @@ none_of_more f sets (s ∷ more) = (sets (next_slice s) refl, none_of_more f set
 
 -- of a plan it sees the sets that are sent, and behind them what it saw before
 behind_sets : {A : Type 0} (f : Reading → Option A) → LooksAtSets f → (b : List Reading) (p : Plan)
-    → latest f (before_header b p) ≡ latest f (after (after b (eos_readings p.kind.after_eos)) (set_readings p.sent))
-behind_sets f sets b p = neutral f (after (after b (eos_readings p.kind.after_eos)) (set_readings p.sent)) (sei_readings p.sei) (none_of_sei f sets p.sei)
+    → latest_given f (before_header b p) ≡ latest_given f (readings_after (readings_after b (eos_readings p.kind.after_eos)) (set_readings p.sent))
+behind_sets f sets b p = neutral f (readings_after (readings_after b (eos_readings p.kind.after_eos)) (set_readings p.sent)) (sei_readings p.sei) (none_of_sei f sets p.sei)
 
 before_sets : {A : Type 0} (f : Reading → Option A) → LooksAtSets f → (b : List Reading) (p : Plan)
-    → latest f (after (after b (eos_readings p.kind.after_eos)) (set_readings p.sent)) ≡ option_or (latest f (after [] (set_readings p.sent))) (latest f b)
+    → latest_given f (readings_after (readings_after b (eos_readings p.kind.after_eos)) (set_readings p.sent)) ≡ option_or (latest_given f (readings_after [] (set_readings p.sent))) (latest_given f b)
 before_sets f sets b p =
-    split f (after b (eos_readings p.kind.after_eos)) (set_readings p.sent)
-    ∙ ap (option_or (latest f (after [] (set_readings p.sent)))) (neutral f b (eos_readings p.kind.after_eos) (none_of_eos f sets p.kind.after_eos))
+    split f (readings_after b (eos_readings p.kind.after_eos)) (set_readings p.sent)
+    ∙ ap (option_or (latest_given f (readings_after [] (set_readings p.sent)))) (neutral f b (eos_readings p.kind.after_eos) (none_of_eos f sets p.kind.after_eos))
 
 past_plan : {A : Type 0} (f : Reading → Option A) → LooksAtSets f → (b : List Reading) (p : Plan)
-    → latest f (after b (readings_of p)) ≡ option_or (latest f (after [] (set_readings p.sent))) (latest f b)
+    → latest_given f (readings_after b (readings_of p)) ≡ option_or (latest_given f (readings_after [] (set_readings p.sent))) (latest_given f b)
 past_plan f sets b p =
     let tail = header_readings p.begun.unit p.begun ++ slice_readings p in
-    let b1 = after b (eos_readings p.kind.after_eos) in
-    let b2 = after b1 (set_readings p.sent) in
-    let b3 = after b2 (sei_readings p.sei) in
-    let at : after b (readings_of p) ≡ after (after b3 (header_readings p.begun.unit p.begun)) (slice_readings p) =
+    let b1 = readings_after b (eos_readings p.kind.after_eos) in
+    let b2 = readings_after b1 (set_readings p.sent) in
+    let b3 = readings_after b2 (sei_readings p.sei) in
+    let at : readings_after b (readings_of p) ≡ readings_after (readings_after b3 (header_readings p.begun.unit p.begun)) (slice_readings p) =
     after_append b (eos_readings p.kind.after_eos) (set_readings p.sent ++ (sei_readings p.sei ++ tail))
     ∙ after_append b1 (set_readings p.sent) (sei_readings p.sei ++ tail)
     ∙ after_append b2 (sei_readings p.sei) tail
     ∙ after_append b3 (header_readings p.begun.unit p.begun) (slice_readings p) in
-    ap (latest f) at
-    ∙ neutral f (after b3 (header_readings p.begun.unit p.begun)) (slice_readings p) (sets (first_slice p.begun p.kind p.first) refl, none_of_more f sets p.more)
+    ap (latest_given f) at
+    ∙ neutral f (readings_after b3 (header_readings p.begun.unit p.begun)) (slice_readings p) (sets (first_slice p.begun p.kind p.first) refl, none_of_more f sets p.more)
     ∙ neutral f b3 (header_readings p.begun.unit p.begun) (none_of_header f sets p.begun.unit p.begun)
     ∙ behind_sets f sets b p
     ∙ before_sets f sets b p
@@ -289,24 +289,24 @@ either a None y z more is = more is
 either a (Some v) y z more is = is
 
 from_kept : {A : Type 0} (f : Reading → Option A) (done : List Plan) (a : A) (t : Bool)
-    → (latest f (after [] (set_readings (history_of done))) ≡ Some a → latest f (read_of done) ≡ Some a)
-    → latest f (after [] (set_readings (cond t [] (history_of done)))) ≡ Some a → latest f (read_of done) ≡ Some a
+    → (latest_given f (readings_after [] (set_readings (history_of done))) ≡ Some a → latest_given f (readings_of_plans done) ≡ Some a)
+    → latest_given f (readings_after [] (set_readings (cond t [] (history_of done)))) ≡ Some a → latest_given f (readings_of_plans done) ≡ Some a
 from_kept f done a true known is = absurd (none-some a is)
 from_kept f done a false known is = known is
 
 -- what counts as sent is stored
 held : {A : Type 0} (f : Reading → Option A) → LooksAtSets f → (done : List Plan) (a : A)
-    → latest f (after [] (set_readings (history_of done))) ≡ Some a → latest f (read_of done) ≡ Some a
+    → latest_given f (readings_after [] (set_readings (history_of done))) ≡ Some a → latest_given f (readings_of_plans done) ≡ Some a
 held f sets [] a is = is
 held {A} f sets (p ∷ done) a is =
     let kept = kept_for p.kind.nal_type (history_of done) in
-    let parts : option_or (latest f (after [] (set_readings p.sent))) (latest f (after [] (set_readings kept))) ≡ Some a =
-    sym (split f (after [] (set_readings kept)) (set_readings p.sent))
-    ∙ ap (latest f) (sym (after_append [] (set_readings kept) (set_readings p.sent)))
-    ∙ ap (λ rs. latest f (after [] rs)) (sym (set_readings_append kept p.sent))
+    let parts : option_or (latest_given f (readings_after [] (set_readings p.sent))) (latest_given f (readings_after [] (set_readings kept))) ≡ Some a =
+    sym (split f (readings_after [] (set_readings kept)) (set_readings p.sent))
+    ∙ ap (latest_given f) (sym (after_append [] (set_readings kept) (set_readings p.sent)))
+    ∙ ap (λ rs. latest_given f (readings_after [] rs)) (sym (set_readings_append kept p.sent))
     ∙ is in
-    past_plan f sets (read_of done) p
-    ∙ either a (latest f (after [] (set_readings p.sent))) (latest f (after [] (set_readings kept))) (latest f (read_of done))
+    past_plan f sets (readings_of_plans done) p
+    ∙ either a (latest_given f (readings_after [] (set_readings p.sent))) (latest_given f (readings_after [] (set_readings kept))) (latest_given f (readings_of_plans done))
     (λ h. from_kept f done a (is_irap_or_gdr p.kind.nal_type) (λ k. held f sets done a k) h) parts
 
 sps_sets : (id : ℕ) → LooksAtSets (sps_in id)
@@ -346,32 +346,32 @@ aps_sets kind id (next_slice s) h = refl
 aps_sets kind id sequence_ended h = refl
 
 -- a resident set is stored before the sets of the plan
-resident_stored : (done : List Plan) (e : Bool) (t : ℕ) (s : Set) → IsStored (after [] (set_readings (kept_for t (history_of done)))) s
-    → IsStored (after (read_of done) (eos_readings e)) s
+resident_stored : (done : List Plan) (e : Bool) (t : ℕ) (s : Set) → IsStored (readings_after [] (set_readings (kept_for t (history_of done)))) s
+    → IsStored (readings_after (readings_of_plans done) (eos_readings e)) s
 resident_stored done e t s is = by (is_irap_or_gdr t) s is
   where
-    known : (s : Set) → IsStored (after [] (set_readings (history_of done))) s → IsStored (after (read_of done) (eos_readings e)) s
+    known : (s : Set) → IsStored (readings_after [] (set_readings (history_of done))) s → IsStored (readings_after (readings_of_plans done) (eos_readings e)) s
     known (an_sps s) is =
-        neutral (sps_in (sps_id s)) (read_of done) (eos_readings e) (none_of_eos (sps_in (sps_id s)) (sps_sets (sps_id s)) e)
+        neutral (sps_in (sps_id s)) (readings_of_plans done) (eos_readings e) (none_of_eos (sps_in (sps_id s)) (sps_sets (sps_id s)) e)
         ∙ held (sps_in (sps_id s)) (sps_sets (sps_id s)) done s is
     known (a_pps s) is =
-        neutral (pps_in (pps_id s)) (read_of done) (eos_readings e) (none_of_eos (pps_in (pps_id s)) (pps_sets (pps_id s)) e)
+        neutral (pps_in (pps_id s)) (readings_of_plans done) (eos_readings e) (none_of_eos (pps_in (pps_id s)) (pps_sets (pps_id s)) e)
         ∙ held (pps_in (pps_id s)) (pps_sets (pps_id s)) done s is
     known (an_aps a) is =
-        neutral (aps_in a.kind a.id) (read_of done) (eos_readings e) (none_of_eos (aps_in a.kind a.id) (aps_sets a.kind a.id) e)
+        neutral (aps_in a.kind a.id) (readings_of_plans done) (eos_readings e) (none_of_eos (aps_in a.kind a.id) (aps_sets a.kind a.id) e)
         ∙ held (aps_in a.kind a.id) (aps_sets a.kind a.id) done a is
 
-    nothing_stored : (s : Set) → IsStored [] s → IsStored (after (read_of done) (eos_readings e)) s
+    nothing_stored : (s : Set) → IsStored [] s → IsStored (readings_after (readings_of_plans done) (eos_readings e)) s
     nothing_stored (an_sps s) is = absurd (none-some s is)
     nothing_stored (a_pps s) is = absurd (none-some s is)
     nothing_stored (an_aps s) is = absurd (none-some s is)
 
-    by : (t : Bool) (s : Set) → IsStored (after [] (set_readings (cond t [] (history_of done)))) s → IsStored (after (read_of done) (eos_readings e)) s
+    by : (t : Bool) (s : Set) → IsStored (readings_after [] (set_readings (cond t [] (history_of done)))) s → IsStored (readings_after (readings_of_plans done) (eos_readings e)) s
     by true s is = nothing_stored s is
     by false s is = known s is
 
 -- messages change nothing of it
-behind_sei : (b : List Reading) (sei : Option SeiUnit) (s : Set) → IsStored b s → IsStored (after b (sei_readings sei)) s
+behind_sei : (b : List Reading) (sei : Option SeiUnit) (s : Set) → IsStored b s → IsStored (readings_after b (sei_readings sei)) s
 behind_sei b None s is = is
 behind_sei b (Some m) (an_sps s) is = is
 behind_sei b (Some m) (a_pps s) is = is
@@ -387,13 +387,13 @@ every step (x ∷ xs) = (step x, every step xs)
 
 pub needed_is_stored : NeededIsStored
 needed_is_stored done p s =
-    let b1 = after (read_of done) (eos_readings p.kind.after_eos) in
+    let b1 = readings_after (readings_of_plans done) (eos_readings p.kind.after_eos) in
     let resident = is_resident p.kind.temporal_id (sent_before done p) in
     let known = every {Q = λ x. resident x ≡ true → IsStored b1 x.set}
     (λ x h. resident_stored done p.kind.after_eos p.kind.nal_type x.set (resident_is p.kind.temporal_id (sent_before done p) x.set h)) s.needed in
     let stored = sent_stored resident b1 s.needed s.slots known in
-    let P : List SetUnit → Type 0 = λ xs. AllByRecursion (λ x. IsStored (after b1 (set_readings xs)) x.set) s.needed in
-    each {Q = λ x. IsStored (before_header (read_of done) p) x.set} (λ x is. behind_sei (after b1 (set_readings p.sent)) p.sei x.set is) s.needed
+    let P : List SetUnit → Type 0 = λ xs. AllByRecursion (λ x. IsStored (readings_after b1 (set_readings xs)) x.set) s.needed in
+    each {Q = λ x. IsStored (before_header (readings_of_plans done) p) x.set} (λ x is. behind_sei (readings_after b1 (set_readings p.sent)) p.sei x.set is) s.needed
     (subst P (sym s.sent) stored)
 
 -- ---- all plans
@@ -424,11 +424,11 @@ all_bodies b needed p [] stored have = tt
 all_bodies b needed p (s ∷ slices) stored have =
     (bodies_there b needed (names_of p.begun.pps p.begun.header s.header) stored have.0, all_bodies b needed p slices stored have.1)
 
-planned_is_written : (R : Readers) (done : List Plan) (p : Plan) → IsPlanned R done p → pictures (read_of done) ≡ planned_of done
-    → IsWritten R (read_of done) p
+planned_is_written : (R : Readers) (done : List Plan) (p : Plan) → IsPlanned R done p → pictures (readings_of_plans done) ≡ planned_of done
+    → IsWritten R (readings_of_plans done) p
 planned_is_written R done p is same =
     let stored = needed_is_stored done p is.sends in
-    let b = before_header (read_of done) p in
+    let b = before_header (readings_of_plans done) p in
     let P : List Picture → Type 0 = λ ps. IsNext ps p.begun p.kind in
     record {
       sets = is.sets;
@@ -439,7 +439,7 @@ planned_is_written R done p is same =
       slices = is.slices;
       outside = is.outside;
       order = is.order;
-      bodies = all_bodies b is.sends.needed p (slices_of p) stored is.bodies;
+      bodies = all_bodies b is.sends.needed p (planned_slices p) stored is.bodies;
       all = is.all;
       size = is.size;
       tid = is.tid;
@@ -450,28 +450,28 @@ pub written_reads_again : WrittenReadsAgain
 written_reads_again R [] is = record { read = refl; planned = refl; rests = record { closed = refl; goes_on = refl; none = refl } }
 written_reads_again R (p ∷ done) is =
     let front = written_reads_again R done is.1 in
-    let more = plan_reads_again R (read_of done) p front.rests (planned_is_written R done p is.0 front.planned) in
+    let more = plan_reads_again R (readings_of_plans done) p front.rests (planned_is_written R done p is.0 front.planned) in
     record {
       read =
           goes_on R [] (units_written done) (units_of p)
           ∙ ap (λ o. unless_refused o.refusal o.before (λ b. read_on R b (units_of p))) front.read
           ∙ more.read;
-      planned = more.one_more ∙ ap (λ ps. planned (read_of done) p ∷ ps) front.planned;
+      planned = more.one_more ∙ ap (λ ps. planned (readings_of_plans done) p ∷ ps) front.planned;
       rests = more.rests;
     }
 
-header_keeps_body : (done : List Plan) (p : Plan) (u : Option (List ℕ)) (s : Set) → IsStored (before_header (read_of done) p) s
-    → (a : Aps) → s ≡ an_aps a → stored_aps a.kind a.id (after (before_header (read_of done) p) (header_readings u p.begun)) ≡ Some a
+header_keeps_body : (done : List Plan) (p : Plan) (u : Option (List ℕ)) (s : Set) → IsStored (before_header (readings_of_plans done) p) s
+    → (a : Aps) → s ≡ an_aps a → stored_aps a.kind a.id (readings_after (before_header (readings_of_plans done) p) (header_readings u p.begun)) ≡ Some a
 header_keeps_body done p u s is a same =
-    let P : Set → Type 0 = IsStored (before_header (read_of done) p) in
-    neutral (aps_in a.kind a.id) (before_header (read_of done) p) (header_readings u p.begun) (none_of_header (aps_in a.kind a.id) (aps_sets a.kind a.id) u p.begun)
+    let P : Set → Type 0 = IsStored (before_header (readings_of_plans done) p) in
+    neutral (aps_in a.kind a.id) (before_header (readings_of_plans done) p) (header_readings u p.begun) (none_of_header (aps_in a.kind a.id) (aps_sets a.kind a.id) u p.begun)
     ∙ subst P same is
 
-is_body : (done : List Plan) (p : Plan) (s : Set) → IsStored (before_header (read_of done) p) s → IsBodyOf (planned (read_of done) p) s
+is_body : (done : List Plan) (p : Plan) (s : Set) → IsStored (before_header (readings_of_plans done) p) s → IsBodyOf (planned (readings_of_plans done) p) s
 is_body done p (an_sps s) is = tt
 is_body done p (a_pps s) is = tt
 is_body done p (an_aps a) is = header_keeps_body done p p.begun.unit (an_aps a) is a refl
 
 pub needed_is_body : NeededIsBody
 needed_is_body done p s =
-    each {Q = λ x. IsBodyOf (planned (read_of done) p) x.set} (λ x is. is_body done p x.set is) s.needed (needed_is_stored done p s)
+    each {Q = λ x. IsBodyOf (planned (readings_of_plans done) p) x.set} (λ x is. is_body done p x.set is) s.needed (needed_is_stored done p s)

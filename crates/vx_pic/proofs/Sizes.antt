@@ -32,10 +32,10 @@ use Rattle.vx_layout.specs.Bounds.{Rises}
 use Rattle.vx_sps.specs.declared.tables.TheConstants.{SIZE}
 use Rattle.vx_sps.specs.Structure as structure
 use Rattle.vx_sps.specs.Structure.{sps_sections, sps_form}
-use Rattle.vx_sps.specs.Set.{IsItems, width_of, height_of, ctb_size_of, columns_of, rows_of}
+use Rattle.vx_sps.specs.Set.{AreSpsItems, width_of, height_of, ctb_size_of, ctu_columns_of, ctu_rows_of}
 
 -- ids have 16 bits at most
-pub id_length_below : (items : List Item) → IsItems items → number items sps.sps_subpic_id_len_minus1 < 16
+pub id_length_below : (items : List Item) → AreSpsItems items → number items sps.sps_subpic_id_len_minus1 < 16
 unfolding has_value code_below range_below row_below
 id_length_below items set = subst (λ x. number x sps.sps_subpic_id_len_minus1 < 16) (sym set.all)
     (number_below sps.sps_subpic_id_len_minus1 16 sps_form set.values set.end (omega arith) (sections_stay_below sps.sps_subpic_id_len_minus1 16 sps_sections fresh (omega arith) refl) set.follows)
@@ -129,7 +129,7 @@ pub record HasSides (items : List Item) : Type 0 where
   pub wide_whole : width_of items % 8 ≡ 0
   pub high_whole : height_of items % 8 ≡ 0
 
-pub has_sides : (items : List Item) → IsItems items → HasSides items
+pub has_sides : (items : List Item) → AreSpsItems items → HasSides items
 unfolding fresh names_none hides_counter
 has_sides items set =
     let size = form_sizes set.follows in
@@ -165,15 +165,15 @@ quotient_is n (suc unit) large = let other = ne_eqb (suc unit) 0 (omega arith) i
 
 -- so pictures have one to 512 columns and rows
 pub record HasCtus (items : List Item) : Type 0 where
-  pub columns : (0 < columns_of items) × (columns_of items ≤ 512)
-  pub rows : (0 < rows_of items) × (rows_of items ≤ 512)
+  pub columns : (0 < ctu_columns_of items) × (ctu_columns_of items ≤ 512)
+  pub rows : (0 < ctu_rows_of items) × (ctu_rows_of items ≤ 512)
 
 -- a number of at most 16,384
-pub side_below : (of : ℕ) (items : List Item) (set : IsItems items) → sections_pass (row_below of 16385) sps_sections ≡ true → number items of < 16385
+pub side_below : (of : ℕ) (items : List Item) (set : AreSpsItems items) → sections_pass (row_below of 16385) sps_sections ≡ true → number items of < 16385
 side_below of items set test = subst (λ x. number x of < 16385) (sym set.all)
     (number_below of 16385 sps_form set.values set.end (omega arith) (sections_stay_below of 16385 sps_sections fresh (omega arith) test) set.follows)
 
-pub has_ctus : (items : List Item) → IsItems items → HasCtus items
+pub has_ctus : (items : List Item) → AreSpsItems items → HasCtus items
 unfolding has_value code_below range_below row_below
 has_ctus items set =
     let sides = has_sides items set in

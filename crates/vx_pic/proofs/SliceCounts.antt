@@ -8,7 +8,7 @@ use Rattle.vx_layout.specs.declared.numbers.Numbers.{Numbers}
 use Rattle.vx_layout.specs.declared.rect.Rect.{Rect}
 use Rattle.vx_layout.specs.Faults.{IsLayout, height, width}
 use Rattle.vx_layout.specs.Layouts.{no_rect, slices_in, subpic_at}
-use Rattle.vx_layout.specs.Rects.{CoversOnce, IsPart, fits, holds, in_order, slices_of}
+use Rattle.vx_layout.specs.Rects.{CoversOnce, IsPart, fits, holds, in_order, slices_of_subpicture}
 use Rattle.vx_layout.specs.Shapes.{HasCtu}
 use Rattle.vx_layout.proofs.Counting.{count_by-cons, count_by-some, holds-fits, slices_of-once}
 use Rattle.vx_layout.proofs.Holding.{holds_tells}
@@ -66,8 +66,8 @@ one_slice_more r rs (s ∷ ss) =
       length-filter (λ t. fits t s) rs,
       count_by-cons (λ t. fits t s) r rs,
       count_by-cons (λ t. fits r t) s ss,
-      length-append (slices_of (r ∷ rs) s) (in_order (r ∷ rs) ss),
-      length-append (slices_of rs s) (in_order rs ss),
+      length-append (slices_of_subpicture (r ∷ rs) s) (in_order (r ∷ rs) ss),
+      length-append (slices_of_subpicture rs s) (in_order rs ss),
     )
 
 no_slice : (subpics : List Rect) → length (in_order [] subpics) ≡ 0
@@ -92,11 +92,11 @@ abbrev pub before : Numbers → ℕ → ℕ
 before n k = length (in_order n.slices (take k n.subpics))
 
 next_in : (slices subpics : List Rect) (k : ℕ) (d : Rect) → k < length subpics
-    → length (in_order slices (take (suc k) subpics)) ≡ length (in_order slices (take k subpics)) + length (slices_of slices (get_or subpics k d))
+    → length (in_order slices (take (suc k) subpics)) ≡ length (in_order slices (take k subpics)) + length (slices_of_subpicture slices (get_or subpics k d))
 next_in slices [] k d low = absurd (omega arith)
-next_in slices (s ∷ ss) zero d low = omega (arith, length-append (slices_of slices s) [])
+next_in slices (s ∷ ss) zero d low = omega (arith, length-append (slices_of_subpicture slices s) [])
 next_in slices (s ∷ ss) (suc k) d low =
-    omega (arith, next_in slices ss k d (omega arith), length-append (slices_of slices s) (in_order slices (take (suc k) ss)), length-append (slices_of slices s) (in_order slices (take k ss)))
+    omega (arith, next_in slices ss k d (omega arith), length-append (slices_of_subpicture slices s) (in_order slices (take (suc k) ss)), length-append (slices_of_subpicture slices s) (in_order slices (take k ss)))
 
 pub before_next : (n : Numbers) (k : ℕ) → k < length n.subpics → before n (suc k) ≡ before n k + length (slices_in n k)
 before_next n k low = next_in n.slices n.subpics k no_rect low
@@ -107,7 +107,7 @@ grows_in slices [] (suc i) j up = omega arith
 grows_in slices (s ∷ ss) zero j up = omega arith
 grows_in slices (s ∷ ss) (suc i) zero up = absurd (omega arith)
 grows_in slices (s ∷ ss) (suc i) (suc j) up =
-    omega (arith, grows_in slices ss i j (omega arith), length-append (slices_of slices s) (in_order slices (take i ss)), length-append (slices_of slices s) (in_order slices (take j ss)))
+    omega (arith, grows_in slices ss i j (omega arith), length-append (slices_of_subpicture slices s) (in_order slices (take i ss)), length-append (slices_of_subpicture slices s) (in_order slices (take j ss)))
 
 pub before_grows : (n : Numbers) (i j : ℕ) → i ≤ j → before n i ≤ before n j
 before_grows n i j up = grows_in n.slices n.subpics i j up

@@ -10,7 +10,7 @@ use Rattle.vx_annexb.proofs.Written.{written_is_stream}
 use Rattle.vx_pic.specs.Readings.{pictures}
 use Rattle.vx_pic.specs.Streams.{read_on, pictures_of}
 use Rattle.vx_pic.specs.Bytes.{ending_by, units_at}
-use Rattle.vx_pic.specs.Laws.{PicturesAreUnique, PicturesExist, SeenPicturesStay, WrittenHasPictures}
+use Rattle.vx_pic.specs.laws.Pictures.{PicturesAreUnique, PicturesExist, SeenPicturesStay, WrittenHasPictures}
 use Rattle.vx_pic.proofs.Going.{pictures_stay}
 
 pub pictures_unique : PicturesAreUnique

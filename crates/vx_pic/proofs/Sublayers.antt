@@ -13,7 +13,7 @@ use Rattle.vx_pic.specs.Counts.{begins_anew, counts_or_none, is_changed, is_empt
 use Rattle.vx_pic.specs.Rules.{Readers}
 use Rattle.vx_pic.specs.Alike.{IsNext}
 use Rattle.vx_pic.specs.Written.{SliceReads}
-use Rattle.vx_pic.specs.Finished.{AreFinished, IsSound}
+use Rattle.vx_pic.specs.Finished.{AreFinished, IsSoundPicture}
 use Rattle.vx_pic.specs.Sublayers.{AllAreKept, KeepsStarts, KeptAreFinished, at_most}
 use Rattle.vx_pic.proofs.Sent.{items_are}
 
@@ -103,7 +103,7 @@ module _ (tid : ℕ) where
         fits = next.fits;
       }
 
-      kept_sound : (p : Picture) → IsSound R earlier p → IsSound R (at_most tid earlier) p
+      kept_sound : (p : Picture) → IsSoundPicture R earlier p → IsSoundPicture R (at_most tid earlier) p
       kept_sound p sound = record {
         first = sound.first;
         more = sound.more;
@@ -135,7 +135,7 @@ kept_are_finished R tid ps finished starts = all_finished tid R ps finished star
 -- ---- all pictures
 
 -- TemporalId of a picture that was read
-pub low_tid : (R : Readers) (earlier : List Picture) (p : Picture) → IsSound R earlier p → p.kind.temporal_id < 7
+pub low_tid : (R : Readers) (earlier : List Picture) (p : Picture) → IsSoundPicture R earlier p → p.kind.temporal_id < 7
 low_tid R earlier p sound =
     let each = subst (λ xs. AllByRecursion (SliceReads R p.begun p.kind.nal_type) xs) sound.slices sound.each in
     let at = each.0.tid in

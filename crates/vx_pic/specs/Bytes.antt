@@ -7,7 +7,7 @@ use Rattle.vx_bits.specs.declared.rules.TheConstants.{LONG_SOURCE}
 use Rattle.vx_annexb.specs.ByteStream.{UnitPlace, unit_bytes, IsStream, source_limit}
 use Rattle.vx_pic.specs.Readings.{Reading, Picture, pictures}
 use Rattle.vx_pic.specs.Rules.{Readers}
-use Rattle.vx_pic.specs.Streams.{Outcome, read_on, lacks_slice}
+use Rattle.vx_pic.specs.Streams.{StreamReading, read_on, lacks_slice}
 
 -- The first rule that is broken, and how many units come before.
 pub record Ending : Type 0 where
@@ -20,10 +20,10 @@ end_refusal true before = lacks_slice before
 end_refusal false before = Some (Limit LONG_SOURCE)
 
 -- a refused unit comes before what the bytes behind it are refused for, and that before their end
-abbrev pub first_refusal : Bool → Option Refusal → Outcome → Option Refusal
+abbrev pub first_refusal : Bool → Option Refusal → StreamReading → Option Refusal
 first_refusal all framing o = option_or o.refusal (option_or framing (end_refusal all o.before))
 
-abbrev pub ending_by : Bool → Option Refusal → Outcome → Option Ending
+abbrev pub ending_by : Bool → Option Refusal → StreamReading → Option Ending
 ending_by all framing o = option_map (λ r. record { units = length o.before; refusal = r }) (first_refusal all framing o)
 
 -- the bytes of the units at these places

@@ -52,12 +52,12 @@ msb_by None true max lsb a = pos 0
 msb_by None false max lsb a = nearest_msb max lsb a
 
 -- PicOrderCntVal
-abbrev pub counted : Option ℕ → Bool → ℕ → ℕ → Previous → ℤ
-counted cycle clvss max lsb a = msb_by cycle clvss max lsb a +ℤ pos lsb
+abbrev pub pic_order_count : Option ℕ → Bool → ℕ → ℕ → Previous → ℤ
+pic_order_count cycle clvss max lsb a = msb_by cycle clvss max lsb a +ℤ pos lsb
 
 -- from what the SPS and the header tell
 abbrev pub count_by : List Item → List Item → Bool → Previous → ℤ
-count_by sps header clvss a = counted (msb_cycle header) clvss (max_lsb sps) (lsb_of header) a
+count_by sps header clvss a = pic_order_count (msb_cycle header) clvss (max_lsb sps) (lsb_of header) a
 
 -- that of a picture behind these
 abbrev pub count : List Picture → Begun → Bool → ℤ

@@ -5,14 +5,14 @@ use Rattle.vx_sei.specs.Sei.{spelled_length}
 use Rattle.vx_pic.specs.Units.{has_header_inside}
 use Rattle.vx_pic.specs.Sets.{sps_id, referred_sps, names_of}
 use Rattle.vx_pic.specs.Readings.{Slice, Picture, messages_of, is_whole}
-use Rattle.vx_pic.specs.Rules.{Readers, size_of, picture_limit, message_limit}
+use Rattle.vx_pic.specs.Rules.{Readers, picture_size, picture_limit, message_limit}
 use Rattle.vx_pic.specs.Streams.{pictures_of}
 use Rattle.vx_pic.specs.Alike.{IsNext}
 use Rattle.vx_pic.specs.Written.{AreInOrder, AreInForce, HeadReads, SliceReads}
 
 module _ (R : Readers) where
   -- A picture behind these, the latest first, as far as its slices came.
-  pub record IsSound (earlier : List Picture) (p : Picture) : Type 0 where
+  pub record IsSoundPicture (earlier : List Picture) (p : Picture) : Type 0 where
     pub first : Slice
     pub more : List Slice
     pub slices : p.slices ≡ first ∷ more
@@ -24,7 +24,7 @@ module _ (R : Readers) where
     pub each : AllByRecursion (SliceReads R p.begun p.kind.nal_type) p.slices
     pub order : AreInOrder p.begun 0 p.slices
     pub bodies : AllByRecursion (λ s. AreInForce p.before (names_of p.begun.pps p.begun.header s.header)) p.slices
-    pub size : size_of p ≤ picture_limit
+    pub size : picture_size p ≤ picture_limit
     pub messages : spelled_length (messages_of p) ≤ message_limit
     pub tid : p.kind.temporal_id ≡ p.begun.temporal_id
     pub next : IsNext earlier p.begun p.kind
@@ -32,7 +32,7 @@ module _ (R : Readers) where
   -- whole pictures, the latest first
   abbrev pub AreFinished : List Picture → Type 0
   AreFinished [] = Unit {0}
-  AreFinished (p ∷ earlier) = IsSound earlier p × (is_whole p ≡ true) × AreFinished earlier
+  AreFinished (p ∷ earlier) = IsSoundPicture earlier p × (is_whole p ≡ true) × AreFinished earlier
 
 -- All pictures of units are so.
 abbrev pub PicturesAreFinished : Type 0

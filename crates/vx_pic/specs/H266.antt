@@ -18,7 +18,7 @@ use Rattle.vx_aps.specs.Aps as aps
 use Rattle.vx_sei.specs.Sei.{Carries}
 use Rattle.vx_rpl.specs.declared.entry.RplTable.{RplTable}
 use Rattle.vx_ph.specs.Header.{header_form}
-use Rattle.vx_ph.specs.Id.{id_form}
+use Rattle.vx_ph.specs.Id.{pps_id_form}
 use Rattle.vx_ph.specs.InForce.{in_force, structures}
 use Rattle.vx_ph.specs.Picture.{unit_form}
 use Rattle.vx_sh.specs.declared.header.SliceHeader.{SliceHeader as SliceValue}
@@ -28,7 +28,7 @@ use Rattle.vx_pic.specs.Sets.{SliceHeader}
 use Rattle.vx_pic.specs.Readings.{Begun}
 use Rattle.vx_pic.specs.Rules.{Readers}
 use Rattle.vx_pic.specs.PictureLayout.{IsLayoutAnswer}
-use Rattle.vx_pic.specs.UnderSets.{slice_at}
+use Rattle.vx_pic.specs.UnderSets.{at_slice_of}
 
 -- the items of a form that bits begin with, from a place on, or the first refusal
 abbrev pub AnswersAt : {A : Type 0} → Form A → Place → Result (List Item) Refusal → Type 0
@@ -50,8 +50,8 @@ form_in false = unit_form
 -- ph_pic_parameter_set_id
 abbrev pub IsReferredPps : Bool → List ℕ → Result ℕ Refusal → Type 0
 IsReferredPps inside rbsp (Ok id) =
-    (items : List Item) × AnswersAt id_form (header_place inside rbsp) (Ok items) × (id ≡ number items ph_pic_parameter_set_id)
-IsReferredPps inside rbsp (Err r) = AnswersAt id_form (header_place inside rbsp) (Err r)
+    (items : List Item) × AnswersAt pps_id_form (header_place inside rbsp) (Ok items) × (id ≡ number items ph_pic_parameter_set_id)
+IsReferredPps inside rbsp (Err r) = AnswersAt pps_id_form (header_place inside rbsp) (Err r)
 
 -- ---- slice headers
 
@@ -59,14 +59,14 @@ IsReferredPps inside rbsp (Err r) = AnswersAt id_form (header_place inside rbsp)
 pub record IsSlice (nal_type : ℕ) (b : Begun) (unit : List ℕ) (h : SliceHeader) : Type 0 where
   pub value : SliceValue
   pub size : ℕ
-  pub begins : BeginsSlice (slice_at nal_type b) (rbsp_of unit) value size
+  pub begins : BeginsSlice (at_slice_of nal_type b) (rbsp_of unit) value size
   pub fields : h.fields ≡ value.fields
   pub subpic : h.subpic ≡ value.subpic
   pub payload : IsFirstFrom (λ place. length (unescaped_to unit place) ≡ 2 + size) 0 h.payload
 
 abbrev pub IsSliceAnswer : ℕ → Begun → List ℕ → Result SliceHeader Refusal → Type 0
 IsSliceAnswer nal_type b unit (Ok h) = IsSlice nal_type b unit h
-IsSliceAnswer nal_type b unit (Err r) = ReadsSlice (slice_at nal_type b) (rbsp_of unit) (Err (Refused r))
+IsSliceAnswer nal_type b unit (Err r) = ReadsSlice (at_slice_of nal_type b) (rbsp_of unit) (Err (Refused r))
 
 -- ---- all of them
 

@@ -34,16 +34,16 @@ use Rattle.vx_pic.specs.Parts.{SlicePart, Parts, aps_at, read_of, parts_of, slic
 -- ---- kept fields: those without a star, which a stream that is written has as its source
 
 abbrev pub sps_fields : List Item → List Item
-sps_fields items = sps_kept.kept_of items
+sps_fields items = sps_kept.kept_sps_items items
 
 abbrev pub pps_fields : List Item → List Item
-pps_fields items = pps_kept.kept_of items
+pps_fields items = pps_kept.kept_pps_items items
 
 abbrev pub header_fields : List Item → List Item
-header_fields items = shown_items (set_of header_kept.kept) items
+header_fields items = shown_items (set_of header_kept.kept_ph_fields) items
 
-abbrev pub slice_fields : List Item → List Item
-slice_fields items = shown_items (set_of slice_kept.kept_fields) items
+abbrev pub kept_slice_items : List Item → List Item
+kept_slice_items items = shown_items (set_of slice_kept.kept_fields) items
 
 -- ---- adaptation parameter sets in force, by their bodies (7.4.3.6)
 
@@ -158,7 +158,7 @@ input_in p s = record {
   sps = sps_fields p.sps;
   pps = pps_fields p.pps;
   header = header_fields p.header.fields;
-  slice = slice_fields s.header.fields;
+  slice = kept_slice_items s.header.fields;
   alf = alf_of p (filter_items p.pps p.header.fields (read_of s.header));
   lmcs = lmcs_of p s.header;
   scaling = scaling_of p s.header;

@@ -12,10 +12,8 @@ pub mod Alike
 pub mod Written
 pub mod Resident
 pub mod Finished
-pub mod Edited
 pub mod Sublayers
 pub mod Joined
-pub mod Laws
 pub mod PictureLayout
 pub mod UnderSets
 pub mod Parts
@@ -28,3 +26,4 @@ pub mod Whole
 pub mod Told
 pub mod Shown
 pub mod inner
+pub mod laws

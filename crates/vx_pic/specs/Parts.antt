@@ -24,7 +24,8 @@ use Rattle.vx_pic.specs.declared.picture.SliceView.{SliceView}
 use Rattle.vx_pic.specs.Sets.{SliceHeader, Slot, same_size, address_of, names_of, slice_qp, is_qp}
 use Rattle.vx_pic.specs.Readings.{Reading, Begun, Slice, Picture, stored_aps, messages_of}
 use Rattle.vx_pic.specs.PictureLayout.{ids_of, numbers_in, MakeLayout}
-use Rattle.vx_pic.specs.UnderSets.{at_sets, header_of}
+use Rattle.vx_pic.specs.UnderSets.{picture_header_of}
+use Rattle.vx_sh.specs.InForce.{at_sets}
 
 -- ---- adaptation parameter sets
 
@@ -108,8 +109,8 @@ abbrev pub read_of : SliceValue → SliceHeader
 read_of h = record { fields = h.fields; subpic = h.subpic; payload = 0 }
 
 -- what it names of adaptation parameter sets, of a picture with this PPS and header
-abbrev pub named_by : List Item → List Item → SliceValue → List Slot
-named_by pps header h = names_of pps header (read_of h)
+abbrev pub aps_named_by : List Item → List Item → SliceValue → List Slot
+aps_named_by pps header h = names_of pps header (read_of h)
 
 -- each of these is there
 abbrev pub AreThere : List (Option Aps) → List Slot → Type 0
@@ -146,7 +147,7 @@ pub record MakePicture (p : PictureParts) : Type 0 where
   -- each slice's subpicture is one of the layout's (a slice that is read)
   pub subpics : AllByRecursion (λ s. s.header.subpic < length p.layout.now.subpics) p.slices.now
   -- each adaptation parameter set that a slice or the picture header names is there (a picture whose slices joined it)
-  pub bodies : AllByRecursion (λ s. AreThere p.bodies.now (named_by p.pps.now p.header.now.fields s.header)) p.slices.now
+  pub bodies : AllByRecursion (λ s. AreThere p.bodies.now (aps_named_by p.pps.now p.header.now.fields s.header)) p.slices.now
   -- its QP is in range (a picture whose slices joined it)
   pub qps : AllByRecursion (λ s. is_qp p.sps.now (slice_qp p.pps.now p.header.now.fields (read_of s.header)) ≡ true) p.slices.now
 
@@ -172,7 +173,7 @@ parts_of p = record {
   sps = p.begun.sps;
   pps = p.begun.pps;
   layout = p.begun.layout;
-  header = header_of p.begun;
+  header = picture_header_of p.begun;
   ids = ids_of p.begun.sps p.begun.pps;
   unit = p.begun.unit;
   slices = map (slice_part p.begun) p.slices;
@@ -181,5 +182,5 @@ parts_of p = record {
 }
 
 -- These are its parts.
-abbrev pub Shows : Parts → Picture → Type 0
-Shows parts p = parts ≡ parts_of p
+abbrev pub ShowsPicture : Parts → Picture → Type 0
+ShowsPicture parts p = parts ≡ parts_of p

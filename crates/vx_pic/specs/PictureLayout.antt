@@ -17,8 +17,8 @@ use Rattle.vx_layout.specs.declared.rect.Rect.{Rect}
 use Rattle.vx_layout.specs.Rects.{whole_picture}
 use Rattle.vx_layout.specs.Faults.{IsLayout, IsLowestFault}
 use Rattle.vx_sps.specs.Set as sps
-use Rattle.vx_sps.specs.Subpictures.{subpics_of, rect_of, id_of}
-use Rattle.vx_pps.specs.Items.{numbers_of}
+use Rattle.vx_sps.specs.Subpictures.{subpics_of, rect_of, sps_subpic_id_of}
+use Rattle.vx_table.specs.Loaded.{numbers_of}
 use Rattle.vx_pps.specs.Pps as pps
 
 -- ---- tiles, slices and subpictures
@@ -27,23 +27,23 @@ use Rattle.vx_pps.specs.Pps as pps
 abbrev pub one_tile : ℕ → List ℕ
 one_tile size = 0 ∷ size ∷ []
 
-abbrev pub columns_of : List Item → List Item → List ℕ
-columns_of s p = cond (pps.is_partitioned p) (pps.columns_of p) (one_tile (sps.columns_of s))
+abbrev pub columns_in_picture : List Item → List Item → List ℕ
+columns_in_picture s p = cond (pps.is_partitioned p) (pps.tile_columns_of p) (one_tile (sps.ctu_columns_of s))
 
-abbrev pub rows_of : List Item → List Item → List ℕ
-rows_of s p = cond (pps.is_partitioned p) (pps.rows_of p) (one_tile (sps.rows_of s))
+abbrev pub rows_in_picture : List Item → List Item → List ℕ
+rows_in_picture s p = cond (pps.is_partitioned p) (pps.tile_rows_of p) (one_tile (sps.ctu_rows_of s))
 
 -- the subpictures, by their index
 abbrev pub subpictures_of : List Item → List Rect
 subpictures_of s = map (rect_of s) (range_with_len 0 (subpics_of s))
 
 -- the slices: of the slice list, or each subpicture; a picture that isn't partitioned is one slice
-abbrev pub slices_of : List Item → List Item → List Rect
-slices_of s p =
-    cond (pps.is_partitioned p) (unwrap_or (pps.slices_of p) (subpictures_of s)) (whole_picture (sps.columns_of s) (sps.rows_of s) ∷ [])
+abbrev pub slices_in_picture : List Item → List Item → List Rect
+slices_in_picture s p =
+    cond (pps.is_partitioned p) (unwrap_or (pps.slice_list_of p) (subpictures_of s)) (whole_picture (sps.ctu_columns_of s) (sps.ctu_rows_of s) ∷ [])
 
 abbrev pub numbers_in : List Item → List Item → Numbers
-numbers_in s p = record { columns = columns_of s p; rows = rows_of s p; slices = slices_of s p; subpics = subpictures_of s }
+numbers_in s p = record { columns = columns_in_picture s p; rows = rows_in_picture s p; slices = slices_in_picture s p; subpics = subpictures_of s }
 
 -- ---- ids of subpictures
 
@@ -54,7 +54,7 @@ are_in_pps s p =
     && is_set (number p pps_fields.pps_subpic_id_mapping_present_flag)
 
 unfoldable pub ids_of : List Item → List Item → List ℕ
-ids_of s p = cond (are_in_pps s p) (numbers_of p pps_fields.pps_subpic_id) (map (id_of s) (range_with_len 0 (subpics_of s)))
+ids_of s p = cond (are_in_pps s p) (numbers_of p pps_fields.pps_subpic_id) (map (sps_subpic_id_of s) (range_with_len 0 (subpics_of s)))
 
 -- ---- what both sets have to agree on, beside the size of pictures
 
@@ -118,7 +118,7 @@ pub record MakeLayout (s p : List Item) : Type 0 where
 -- or have a lowest fault.
 pub data IsFault (s p : List Item) : ℕ → Type 0 where
   ctu_sizes : ctu_sizes_differ s p ≡ true → IsFault s p ctu_size_fault
-  ids : ctu_sizes_differ s p ≡ false → ¬ IdsAgree s p → IsFault s p ids_fault
+  ids_differ : ctu_sizes_differ s p ≡ false → ¬ IdsAgree s p → IsFault s p ids_fault
   numbers : {k : ℕ} → ctu_sizes_differ s p ≡ false → IdsAgree s p → IsLowestFault (numbers_in s p) k → IsFault s p k
 
 -- What the two sets give: the layout, or the refusal that names its lowest fault.

@@ -45,9 +45,9 @@ pub data Reading : Type 0 where
 -- ---- sets in force
 
 -- the latest reading that gives something
-abbrev pub latest : {A : Type 0} → (Reading → Option A) → List Reading → Option A
-latest gives [] = None
-latest gives (r ∷ before) = option_or (gives r) (latest gives before)
+abbrev pub latest_given : {A : Type 0} → (Reading → Option A) → List Reading → Option A
+latest_given gives [] = None
+latest_given gives (r ∷ before) = option_or (gives r) (latest_given gives before)
 
 -- the set of an id, where the unit is one
 abbrev pub sps_in : ℕ → Reading → Option (List Item)
@@ -65,13 +65,13 @@ aps_in kind id _ = None
 -- those in force: of the last units of their ids, and of APSs of their types and ids (7.4.2.4.2, and 7.4.3.4 to 7.4.3.6 on the
 -- content of sets)
 abbrev pub stored_sps : ℕ → List Reading → Option (List Item)
-stored_sps id before = latest (sps_in id) before
+stored_sps id before = latest_given (sps_in id) before
 
 abbrev pub stored_pps : ℕ → List Reading → Option (List Item)
-stored_pps id before = latest (pps_in id) before
+stored_pps id before = latest_given (pps_in id) before
 
 abbrev pub stored_aps : ℕ → ℕ → List Reading → Option Aps
-stored_aps kind id before = latest (aps_in kind id) before
+stored_aps kind id before = latest_given (aps_in kind id) before
 
 -- ---- what came since the last slice
 
@@ -137,16 +137,16 @@ is_open (headed b) = true
 is_open (going p) = not (is_whole p)
 
 -- some of its slices came, and not all
-abbrev pub is_within : Current → Bool
-is_within nothing = false
-is_within (headed b) = false
-is_within (going p) = not (is_whole p)
+abbrev pub is_within_picture : Current → Bool
+is_within_picture nothing = false
+is_within_picture (headed b) = false
+is_within_picture (going p) = not (is_whole p)
 
 -- the picture, where it is whole
-abbrev pub whole_part : Current → List Picture
-whole_part nothing = []
-whole_part (headed b) = []
-whole_part (going p) = cond (is_whole p) (p ∷ []) []
+abbrev pub picture_if_whole : Current → List Picture
+picture_if_whole nothing = []
+picture_if_whole (headed b) = []
+picture_if_whole (going p) = cond (is_whole p) (p ∷ []) []
 
 abbrev pub is_slice : Reading → Bool
 is_slice (first_slice b k s) = true
@@ -155,7 +155,7 @@ is_slice _ = false
 
 -- the picture that this reading completes
 abbrev pub completed : Reading → List Reading → List Picture
-completed r before = cond (is_slice r) (whole_part (current (r ∷ before))) []
+completed r before = cond (is_slice r) (picture_if_whole (current (r ∷ before))) []
 
 -- the whole pictures, the latest first: a picture is done with its last slice
 abbrev pub pictures : List Reading → List Picture

@@ -10,15 +10,15 @@ use Rattle.vx_pic.specs.Readings.{Reading, Picture, aps_of, pictures}
 use Rattle.vx_pic.specs.Rules.{Readers, unit_size, picture_limit}
 use Rattle.vx_pic.specs.Streams.{all_read, read_on}
 use Rattle.vx_pic.specs.Alike.{IsNext}
-use Rattle.vx_pic.specs.Written.{Set, an_sps, a_pps, an_aps, IsStored, SetUnit, Plan, slices_of, units_of, readings_of}
-use Rattle.vx_pic.specs.Written.{after, before_header, planned, Rests, AreInOrder, Says, HeadReads, SliceReads, SeiReads}
+use Rattle.vx_pic.specs.Written.{Set, an_sps, a_pps, an_aps, IsStored, SetUnit, Plan, planned_slices, units_of, readings_of}
+use Rattle.vx_pic.specs.Written.{readings_after, before_header, planned, Rests, AreInOrder, Says, HeadReads, SliceReads, SeiReads}
 
 -- ---- plans one behind another, the last one first
 
 -- what their units are read as
-abbrev pub read_of : List Plan → List Reading
-read_of [] = []
-read_of (p ∷ done) = after (read_of done) (readings_of p)
+abbrev pub readings_of_plans : List Plan → List Reading
+readings_of_plans [] = []
+readings_of_plans (p ∷ done) = readings_after (readings_of_plans done) (readings_of p)
 
 abbrev pub units_written : List Plan → List (List ℕ)
 units_written [] = []
@@ -27,7 +27,7 @@ units_written (p ∷ done) = units_written done ++ units_of p
 -- the pictures
 abbrev pub planned_of : List Plan → List Picture
 planned_of [] = []
-planned_of (p ∷ done) = planned (read_of done) p ∷ planned_of done
+planned_of (p ∷ done) = planned (readings_of_plans done) p ∷ planned_of done
 
 -- ---- sets that are sent
 
@@ -93,7 +93,7 @@ pub record Sends (done : List Plan) (p : Plan) : Type 0 where
 -- Each set that a picture needs is in force for its header.
 abbrev pub NeededIsStored : Type 0
 NeededIsStored = (done : List Plan) (p : Plan) (s : Sends done p)
-    → AllByRecursion (λ x. IsStored (before_header (read_of done) p) x.set) s.needed
+    → AllByRecursion (λ x. IsStored (before_header (readings_of_plans done) p) x.set) s.needed
 
 -- ---- all plans
 
@@ -114,14 +114,14 @@ module _ (R : Readers) where
     pub pps : HasSet sends.needed (a_pps p.begun.pps)
     pub sps : HasSet sends.needed (an_sps p.begun.sps)
     pub refers : referred_sps p.begun.pps ≡ sps_id p.begun.sps
-    pub bodies : AllByRecursion (λ s. HaveNamed sends.needed (names_of p.begun.pps p.begun.header s.header)) (slices_of p)
+    pub bodies : AllByRecursion (λ s. HaveNamed sends.needed (names_of p.begun.pps p.begun.header s.header)) (planned_slices p)
     pub sei : SeiReads R p.sei
     pub head : HeadReads R p.begun.unit p.begun p.first
-    pub slices : AllByRecursion (SliceReads R p.begun p.kind.nal_type) (slices_of p)
+    pub slices : AllByRecursion (SliceReads R p.begun p.kind.nal_type) (planned_slices p)
     pub outside : AllByRecursion (λ s. has_header_inside s.unit ≡ false) p.more
-    pub order : AreInOrder p.begun 0 (slices_of p)
-    pub all : length (slices_of p) ≡ length p.begun.layout.slices
-    pub size : unit_size p.begun.unit + sum_by (λ s. length s.unit) (slices_of p) ≤ picture_limit
+    pub order : AreInOrder p.begun 0 (planned_slices p)
+    pub all : length (planned_slices p) ≡ length p.begun.layout.slices
+    pub size : unit_size p.begun.unit + sum_by (λ s. length s.unit) (planned_slices p) ≤ picture_limit
     pub tid : p.kind.temporal_id ≡ p.begun.temporal_id
     pub next : IsNext (planned_of done) p.begun p.kind
 
@@ -131,9 +131,9 @@ module _ (R : Readers) where
 
   -- Their units are read, and the pictures are the planned ones, all whole.
   pub record AllReadAgain (done : List Plan) : Type 0 where
-    pub read : read_on R [] (units_written done) ≡ all_read (read_of done)
-    pub planned : pictures (read_of done) ≡ planned_of done
-    pub rests : Rests (read_of done)
+    pub read : read_on R [] (units_written done) ≡ all_read (readings_of_plans done)
+    pub planned : pictures (readings_of_plans done) ≡ planned_of done
+    pub rests : Rests (readings_of_plans done)
 
 -- Plans that are written are read again.
 abbrev pub WrittenReadsAgain : Type 0
@@ -147,4 +147,4 @@ IsBodyOf p (an_aps a) = aps_of p a.kind a.id ≡ Some a
 
 -- Each one that a picture needs is one of the picture that is read again.
 abbrev pub NeededIsBody : Type 0
-NeededIsBody = (done : List Plan) (p : Plan) (s : Sends done p) → AllByRecursion (λ x. IsBodyOf (planned (read_of done) p) x.set) s.needed
+NeededIsBody = (done : List Plan) (p : Plan) (s : Sends done p) → AllByRecursion (λ x. IsBodyOf (planned (readings_of_plans done) p) x.set) s.needed

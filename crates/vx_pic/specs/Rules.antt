@@ -15,10 +15,10 @@ use Rattle.vx_pic.specs.declared.sets.TheConstants as sets
 use Rattle.vx_pic.specs.Answers.{◌>>=◌, refuse_if}
 use Rattle.vx_pic.specs.Units.{is_reserved, temporal_id, rbsp_of, has_header_inside, is_irap_or_gdr, Class, other_unit, vps_unit}
 use Rattle.vx_pic.specs.Units.{sps_unit, pps_unit, prefix_aps, suffix_aps, header_unit, slice_unit, end_unit, sei_unit, class_of}
-use Rattle.vx_pic.specs.Sets.{SliceHeader, Slot, referred_sps, same_size, place_of, names_of, slice_qp, is_qp}
+use Rattle.vx_pic.specs.Sets.{SliceHeader, Slot, referred_sps, same_size, slices_before, names_of, slice_qp, is_qp}
 use Rattle.vx_pic.specs.Readings.{Begun, Slice, Reading, dropped, vps_read, sps_read, pps_read, aps_read, messages_read, header_read}
 use Rattle.vx_pic.specs.Readings.{first_slice, next_slice, sequence_ended, stored_sps, stored_pps, stored_aps, is_ended, gathered}
-use Rattle.vx_pic.specs.Readings.{Picture, is_whole, Current, nothing, headed, going, current, is_open, is_within, pictures}
+use Rattle.vx_pic.specs.Readings.{Picture, is_whole, Current, nothing, headed, going, current, is_open, is_within_picture, pictures}
 use Rattle.vx_pic.specs.Counts.{fits_count, begins_anew, kind_of, is_changed}
 
 -- What RBSPs and units are read as: structures, or the first refusal in them.
@@ -60,8 +60,8 @@ abbrev pub unit_size : Option (List ℕ) → ℕ
 unit_size None = 0
 unit_size (Some unit) = length unit
 
-abbrev pub size_of : Picture → ℕ
-size_of p = unit_size p.begun.unit + sum_by (λ s. length s.unit) p.slices
+abbrev pub picture_size : Picture → ℕ
+picture_size p = unit_size p.begun.unit + sum_by (λ s. length s.unit) p.slices
 
 unfoldable pub picture_limit : ℕ
 picture_limit = 2 ^ 25
@@ -124,11 +124,11 @@ module _ (R : Readers) where
     _ ← refuse_if (not (temporal_id u == p.begun.temporal_id)) (structure rules.TEMPORAL_ID_DIFFERS)
     _ ← refuse_if (not (nal_unit_type u == p.kind.nal_type)) (structure rules.TYPES_DIFFER)
     header ← R.slice p.kind.nal_type p.begun u
-    _ ← refuse_if (not (place_of p.begun.layout header == length p.slices)) (structure rules.SLICE_MISSING)
+    _ ← refuse_if (not (slices_before p.begun.layout header == length p.slices)) (structure rules.SLICE_MISSING)
     _ ← are_stored p.before (names_of p.begun.pps p.begun.header header)
     _ ← refuse_if (not (is_qp p.begun.sps (slice_qp p.begun.pps p.begun.header header))) (structure rules.QP_RANGE)
     _ ← refuse_if (nat_le (length u) header.payload) (structure rules.EMPTY_PAYLOAD)
-    _ ← refuse_if (nat_lt picture_limit (size_of p + length u)) (Limit rules.LONG_PICTURE)
+    _ ← refuse_if (nat_lt picture_limit (picture_size p + length u)) (Limit rules.LONG_PICTURE)
     Ok (record { unit = u; header = header })
 
   -- the first slice, and a further one
@@ -166,15 +166,15 @@ module _ (R : Readers) where
     v ← R.vps (rbsp_of u)
     Ok (vps_read v)
   reads_as sps_unit before u = do
-    _ ← refuse_if (is_within (current before)) (structure rules.SET_INSIDE_PICTURE)
+    _ ← refuse_if (is_within_picture (current before)) (structure rules.SET_INSIDE_PICTURE)
     s ← R.sps (rbsp_of u)
     Ok (sps_read s)
   reads_as pps_unit before u = do
-    _ ← refuse_if (is_within (current before)) (structure rules.SET_INSIDE_PICTURE)
+    _ ← refuse_if (is_within_picture (current before)) (structure rules.SET_INSIDE_PICTURE)
     p ← R.pps (rbsp_of u)
     Ok (pps_read p)
   reads_as prefix_aps before u = do
-    _ ← refuse_if (is_within (current before)) (structure rules.SET_INSIDE_PICTURE)
+    _ ← refuse_if (is_within_picture (current before)) (structure rules.SET_INSIDE_PICTURE)
     a ← R.aps (rbsp_of u)
     Ok (aps_reading a)
   reads_as suffix_aps before u = do
@@ -188,7 +188,7 @@ module _ (R : Readers) where
   reads_as end_unit before u = do
     _ ← refuse_if (is_open (current before)) (structure rules.SLICE_MISSING)
     Ok sequence_ended
-  reads_as sei_unit before u = cond (is_within (current before)) (Ok dropped) (gathers before (R.sei (rbsp_of u)))
+  reads_as sei_unit before u = cond (is_within_picture (current before)) (Ok dropped) (gathers before (R.sei (rbsp_of u)))
 
   -- a unit: of the base layer, unless its reserved bit is 1
   abbrev pub reads : List Reading → List ℕ → Result Reading Refusal

@@ -75,8 +75,8 @@ unfoldable pub address_of : SliceHeader → ℕ
 address_of h = number h.fields sh.sh_slice_address
 
 -- how many slices of the picture come before it: those of the subpictures before its own, and as many as its address (7.4.8)
-unfoldable pub place_of : Numbers → SliceHeader → ℕ
-place_of layout h = length (in_order layout.slices (take h.subpic layout.subpics)) + address_of h
+unfoldable pub slices_before : Numbers → SliceHeader → ℕ
+slices_before layout h = length (in_order layout.slices (take h.subpic layout.subpics)) + address_of h
 
 -- ---- adaptation parameter sets
 

@@ -7,29 +7,29 @@ use Rattle.vx_pic.specs.Readings.{Reading, Picture, current, is_open, pictures}
 use Rattle.vx_pic.specs.Rules.{Readers, structure, reads}
 
 -- What units are read as up to the first that is refused: the readings, the latest first, and its refusal.
-pub record Outcome : Type 0 where
+pub record StreamReading : Type 0 where
   pub before : List Reading
   pub refusal : Option Refusal
 
 -- units that were read as these, and no refusal
-abbrev pub all_read : List Reading → Outcome
+abbrev pub all_read : List Reading → StreamReading
 all_read before = record { before = before; refusal = None }
 
-abbrev pub stopped : List Reading → Refusal → Outcome
+abbrev pub stopped : List Reading → Refusal → StreamReading
 stopped before r = record { before = before; refusal = Some r }
 
 -- a unit behind these, and what follows where it is read
-abbrev pub one_more : Result Reading Refusal → List Reading → (List Reading → Outcome) → Outcome
+abbrev pub one_more : Result Reading Refusal → List Reading → (List Reading → StreamReading) → StreamReading
 one_more (Ok r) before rest = rest (r ∷ before)
 one_more (Err r) before rest = stopped before r
 
 -- units one behind another, each behind those before it
-abbrev pub read_on : Readers → List Reading → List (List ℕ) → Outcome
+abbrev pub read_on : Readers → List Reading → List (List ℕ) → StreamReading
 read_on R before [] = all_read before
 read_on R before (u ∷ units) = one_more (reads R before u) before (λ after. read_on R after units)
 
 -- what follows where none is refused
-abbrev pub unless_refused : Option Refusal → List Reading → (List Reading → Outcome) → Outcome
+abbrev pub unless_refused : Option Refusal → List Reading → (List Reading → StreamReading) → StreamReading
 unless_refused None before rest = rest before
 unless_refused (Some r) before rest = stopped before r
 
@@ -42,5 +42,5 @@ abbrev pub lacks_slice : List Reading → Option Refusal
 lacks_slice before = cond (is_open (current before)) (Some (structure SLICE_MISSING)) None
 
 -- how units end that are all there are: at the first that is refused, or there
-abbrev pub ending_of : Outcome → Option Refusal
+abbrev pub ending_of : StreamReading → Option Refusal
 ending_of o = option_or o.refusal (lacks_slice o.before)

@@ -7,7 +7,7 @@ use Rattle.vx_pic.specs.Readings.{Begun, Slice, Picture}
 use Rattle.vx_pic.specs.Rules.{Readers}
 use Rattle.vx_pic.specs.Streams.{pictures_of}
 use Rattle.vx_pic.specs.H266.{AreOfH266}
-use Rattle.vx_pic.specs.Parts.{Parts, Shows, slice_part}
+use Rattle.vx_pic.specs.Parts.{Parts, ShowsPicture, slice_part}
 
 -- ---- sets
 
@@ -46,5 +46,5 @@ SubpicturesAreWhole = (R : Readers) (units : List (List ℕ)) → AreOfH266 R �
 
 -- Of what callers see of a picture, the slices of subpicture k are those.
 abbrev pub SlicesAreShown : Type 0
-SlicesAreShown = (parts : Parts) (p : Picture) (k : ℕ) → Shows parts p
+SlicesAreShown = (parts : Parts) (p : Picture) (k : ℕ) → ShowsPicture parts p
     → filter (λ s. s.header.subpic == k) parts.slices ≡ map (slice_part p.begun) (subpic_slices p k)

@@ -10,7 +10,7 @@ use Rattle.vx_sei.specs.Sei.{spelled_length}
 use Rattle.vx_pic.specs.declared.kind.Kind.{Kind}
 use Rattle.vx_pic.specs.Units.{is_reserved, temporal_id, rbsp_of, has_header_inside, Class, sps_unit, pps_unit, prefix_aps, header_unit}
 use Rattle.vx_pic.specs.Units.{slice_unit, sei_unit, class_of}
-use Rattle.vx_pic.specs.Sets.{Slot, sps_id, pps_id, referred_sps, same_size, place_of, names_of, slice_qp, is_qp}
+use Rattle.vx_pic.specs.Sets.{Slot, sps_id, pps_id, referred_sps, same_size, slices_before, names_of, slice_qp, is_qp}
 use Rattle.vx_pic.specs.Readings.{Begun, Slice, Reading, sps_read, pps_read, aps_read, messages_read, header_read, first_slice}
 use Rattle.vx_pic.specs.Readings.{next_slice, sequence_ended, stored_sps, stored_pps, stored_aps, is_ended, gathered, Picture}
 use Rattle.vx_pic.specs.Readings.{messages_of, current, is_open, pictures}
@@ -60,12 +60,12 @@ pub record Plan : Type 0 where
   pub first : Slice
   pub more : List Slice
 
-abbrev pub slices_of : Plan → List Slice
-slices_of p = p.first ∷ p.more
+abbrev pub planned_slices : Plan → List Slice
+planned_slices p = p.first ∷ p.more
 
-abbrev pub sei_messages : Option SeiUnit → List Message
-sei_messages None = []
-sei_messages (Some s) = s.messages
+abbrev pub messages_sent : Option SeiUnit → List Message
+messages_sent None = []
+messages_sent (Some s) = s.messages
 
 -- end_of_seq_rbsp( ) is empty (7.3.2.11): the unit is its header, of type EOS_NUT and TemporalId 0
 abbrev pub eos_unit : List ℕ
@@ -84,7 +84,7 @@ units_of p =
     eos_units p.kind.after_eos
     ++ (map (λ x. x.unit) p.sent
     ++ (sei_units p.sei
-    ++ (option_to_list p.begun.unit ++ map (λ s. s.unit) (slices_of p))))
+    ++ (option_to_list p.begun.unit ++ map (λ s. s.unit) (planned_slices p))))
 
 -- what these are read as
 abbrev pub eos_readings : Bool → List Reading
@@ -112,20 +112,20 @@ readings_of p =
     ++ (header_readings p.begun.unit p.begun ++ slice_readings p)))
 
 -- readings behind others; `before` has the latest first
-abbrev pub after : List Reading → List Reading → List Reading
-after before [] = before
-after before (r ∷ readings) = after (r ∷ before) readings
+abbrev pub readings_after : List Reading → List Reading → List Reading
+readings_after before [] = before
+readings_after before (r ∷ readings) = readings_after (r ∷ before) readings
 
 -- what comes before its header, and before its first slice
 abbrev pub before_header : List Reading → Plan → List Reading
-before_header before p = after (after (after before (eos_readings p.kind.after_eos)) (set_readings p.sent)) (sei_readings p.sei)
+before_header before p = readings_after (readings_after (readings_after before (eos_readings p.kind.after_eos)) (set_readings p.sent)) (sei_readings p.sei)
 
 abbrev pub before_slices : List Reading → Plan → List Reading
-before_slices before p = after (before_header before p) (header_readings p.begun.unit p.begun)
+before_slices before p = readings_after (before_header before p) (header_readings p.begun.unit p.begun)
 
 -- the picture
 abbrev pub planned : List Reading → Plan → Picture
-planned before p = record { begun = p.begun; kind = p.kind; before = before_slices before p; slices = slices_of p }
+planned before p = record { begun = p.begun; kind = p.kind; before = before_slices before p; slices = planned_slices p }
 
 -- ---- what is asked of a plan
 
@@ -144,7 +144,7 @@ pub record IsPlain (u : List ℕ) (c : Class) : Type 0 where
 -- the slices stand in the picture's order, from this place on
 abbrev pub AreInOrder : Begun → ℕ → List Slice → Type 0
 AreInOrder b n [] = Unit {0}
-AreInOrder b n (s ∷ more) = (place_of b.layout s.header ≡ n) × AreInOrder b (n + 1) more
+AreInOrder b n (s ∷ more) = (slices_before b.layout s.header ≡ n) × AreInOrder b (n + 1) more
 
 -- each of these sets is in force
 abbrev pub AreInForce : List Reading → List Slot → Type 0
@@ -191,21 +191,21 @@ module _ (R : Readers) where
     pub pps : stored_pps (pps_id p.begun.pps) (before_header before p) ≡ Some p.begun.pps
     pub sps : stored_sps (referred_sps p.begun.pps) (before_header before p) ≡ Some p.begun.sps
     pub head : HeadReads p.begun.unit p.begun p.first
-    pub slices : AllByRecursion (SliceReads p.begun p.kind.nal_type) (slices_of p)
+    pub slices : AllByRecursion (SliceReads p.begun p.kind.nal_type) (planned_slices p)
     pub outside : AllByRecursion (λ s. has_header_inside s.unit ≡ false) p.more
-    pub order : AreInOrder p.begun 0 (slices_of p)
-    pub bodies : AllByRecursion (λ s. AreInForce (before_header before p) (names_of p.begun.pps p.begun.header s.header)) (slices_of p)
-    pub all : length (slices_of p) ≡ length p.begun.layout.slices
-    pub size : unit_size p.begun.unit + sum_by (λ s. length s.unit) (slices_of p) ≤ picture_limit
+    pub order : AreInOrder p.begun 0 (planned_slices p)
+    pub bodies : AllByRecursion (λ s. AreInForce (before_header before p) (names_of p.begun.pps p.begun.header s.header)) (planned_slices p)
+    pub all : length (planned_slices p) ≡ length p.begun.layout.slices
+    pub size : unit_size p.begun.unit + sum_by (λ s. length s.unit) (planned_slices p) ≤ picture_limit
     pub tid : p.kind.temporal_id ≡ p.begun.temporal_id
     pub next : IsNext (pictures before) p.begun p.kind
 
   -- They are read so: the pictures are one more, the planned one, and it has the messages.
   pub record ReadsAgain (before : List Reading) (p : Plan) : Type 0 where
-    pub read : read_on R before (units_of p) ≡ all_read (after before (readings_of p))
-    pub one_more : pictures (after before (readings_of p)) ≡ planned before p ∷ pictures before
-    pub messages : messages_of (planned before p) ≡ sei_messages p.sei
-    pub rests : Rests (after before (readings_of p))
+    pub read : read_on R before (units_of p) ≡ all_read (readings_after before (readings_of p))
+    pub one_more : pictures (readings_after before (readings_of p)) ≡ planned before p ∷ pictures before
+    pub messages : messages_of (planned before p) ≡ messages_sent p.sei
+    pub rests : Rests (readings_after before (readings_of p))
 
   -- A plan that is written where a stream can go on is read again.
   abbrev pub PlanReadsAgain : Type 0

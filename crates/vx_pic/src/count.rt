@@ -1,6 +1,6 @@
 //! Picture order count (H.266 8.3.1).
 ghost use Rattle.std.specs.Prelude.{◌≡◌, ◌≤◌, ◌^◌, pos, neg_ℤ, ◌≤ℤ◌};
-ghost use Rattle.vx_pic.specs.Counts.{nearest_msb, msb_by, counted};
+ghost use Rattle.vx_pic.specs.Counts.{nearest_msb, msb_by, pic_order_count};
 ghost use Rattle.vx_pic.specs.Counted.{previous_of, checked};
 
 use vx_bits::Refusal;
@@ -84,7 +84,7 @@ pub fn picture_order_count(
     previous: PrevTid0,
 ) -> Result<i32, Refusal>
     requires { fields.now.lsb_bits ≤ 16 }
-    ensures { result ≡ checked (counted fields.now.msb_cycle clvss (2 ^ fields.now.lsb_bits) fields.now.lsb (previous_of previous)) }
+    ensures { result ≡ checked (pic_order_count fields.now.msb_cycle clvss (2 ^ fields.now.lsb_bits) fields.now.lsb (previous_of previous)) }
 {
     let max = 1_u32 << fields.lsb_bits;
     let count = picture_msb(max, fields, clvss, previous) + i64::from(fields.lsb);

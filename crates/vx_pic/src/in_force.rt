@@ -123,10 +123,6 @@ fn alf_in<'a>(
 }
 
 /// The adaptive loop filter of a slice: the picture header's or its own.
-///
-/// # Errors
-///
-/// Want of memory.
 pub fn alf_in_force<'a>(
     alloc: Global,
     picture: &Picture<'a>,
@@ -193,10 +189,6 @@ fn copied(alloc: Global, list: &RefList) -> Result<RefList, AllocError>
 }
 
 /// Both reference picture lists of a slice: the picture header's or its own.
-///
-/// # Errors
-///
-/// Want of memory.
 pub(crate) fn lists_of_slice(
     alloc: Global,
     picture: &Picture<'_>,

@@ -1,8 +1,8 @@
 //! The decoding input of a slice.
 ghost use Rattle.std.specs.Prelude.{◌≡◌, ◌<◌, Some, length, slice_get, IfOk, IfSome};
 ghost use Rattle.vx_pic.specs.Readings as stream;
-ghost use Rattle.vx_pic.specs.Parts.{Shows};
-ghost use Rattle.vx_pic.specs.Inputs.{header_fields, input_in, input_of, pps_fields, slice_fields, sps_fields};
+ghost use Rattle.vx_pic.specs.Parts.{ShowsPicture};
+ghost use Rattle.vx_pic.specs.Inputs.{header_fields, input_in, input_of, pps_fields, kept_slice_items, sps_fields};
 ghost use Rattle.vx_pic.specs.Seen.{input_seen};
 
 use crate::in_force::{
@@ -65,7 +65,7 @@ fn kept_parts(
     ensures sps { IfOk result (λ kept. kept.sps ≡ sps_fields picture.now.sps) }
     ensures pps { IfOk result (λ kept. kept.pps ≡ pps_fields picture.now.pps) }
     ensures header { IfOk result (λ kept. kept.header ≡ header_fields picture.now.header.fields) }
-    ensures slice { IfOk result (λ kept. kept.slice ≡ slice_fields header.now.fields) }
+    ensures slice { IfOk result (λ kept. kept.slice ≡ kept_slice_items header.now.fields) }
 {
     Ok(KeptParts {
         sps: kept_of_sps(alloc, picture.sps())?,
@@ -103,10 +103,6 @@ fn input_at<'a>(
 }
 
 /// The decoding input of a slice of a picture, counted from 0 in the order of the picture. Bodies and payload are borrowed.
-///
-/// # Errors
-///
-/// Want of memory.
 pub fn decoding_input<'a>(
     alloc: Global,
     picture: &Picture<'a>,
@@ -114,7 +110,7 @@ pub fn decoding_input<'a>(
 ) -> Result<DecodingInput<'a>, AllocError>
     requires { i < length picture.now.slices }
     ensures parts { IfOk result (λ input. IfSome (slice_get picture.now.slices i) (λ s. input_seen input ≡ input_in picture.now s)) }
-    ensures stream { (p : stream.Picture) (s : stream.Slice) → Shows picture.now p → slice_get p.slices i ≡ Some s → IfOk result (λ input. input_seen input ≡ input_of p s) }
+    ensures stream { (p : stream.Picture) (s : stream.Slice) → ShowsPicture picture.now p → slice_get p.slices i ≡ Some s → IfOk result (λ input. input_seen input ≡ input_of p s) }
 {
     let input = input_at(alloc, picture, i)?;
     Ok(input)

@@ -72,7 +72,7 @@ fn mark_but(scope: &mut Scope, fields: &[u16], others: &Scope)
 /// The fields of a picture header that are kept: those without a star, which a header that is rewritten has as its source. Marking them
 /// costs more than [`kept_among`]: to be done once where several headers are told by what they keep.
 pub fn header_fields() -> Scope
-    ensures { result ≡ set_of header.kept }
+    ensures { result ≡ set_of header.kept_ph_fields }
 {
     let (mut kept, mut others) = (Scope::new(), Scope::new());
     mark(&mut others, &NOT_OF_HEADER);
@@ -100,10 +100,6 @@ fn slice_fields() -> Scope
 }
 
 /// The items of these fields, in order.
-///
-/// # Errors
-///
-/// Want of memory.
 pub fn kept_among(alloc: Global, items: &Fields, fields: &Scope) -> Result<Kept, AllocError>
     ensures { IfOk result (λ kept. kept ≡ shown_items fields.now items.now) }
 {
@@ -143,10 +139,6 @@ pub(crate) fn kept_of_pps(alloc: Global, pps: &Pps) -> Result<Kept, AllocError>
 }
 
 /// The kept fields of a picture header, in order: [`kept_among`] its items with [`header_fields`].
-///
-/// # Errors
-///
-/// Want of memory.
 pub fn kept_of_header(alloc: Global, items: &Fields) -> Result<Kept, AllocError>
     ensures { IfOk result (λ kept. kept ≡ inputs.header_fields items.now) }
 {
@@ -155,7 +147,7 @@ pub fn kept_of_header(alloc: Global, items: &Fields) -> Result<Kept, AllocError>
 
 /// The kept fields of a slice header.
 pub(crate) fn kept_of_slice(alloc: Global, items: &Fields) -> Result<Kept, AllocError>
-    ensures { IfOk result (λ kept. kept ≡ inputs.slice_fields items.now) }
+    ensures { IfOk result (λ kept. kept ≡ inputs.kept_slice_items items.now) }
 {
     kept_among(alloc, items, &slice_fields())
 }

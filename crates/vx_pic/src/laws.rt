@@ -1,12 +1,12 @@
 //! Laws of the pictures of a stream: functions that do nothing, each with a law as its contract. They hold whatever sets and
 //! headers are read as.
 ghost use Rattle.vx_pic.specs.Alike.{AlikeIsNext};
-ghost use Rattle.vx_pic.specs.Edited.{EditsArePlanned};
+ghost use Rattle.vx_pic.specs.laws.Edited.{EditsArePlanned};
 ghost use Rattle.vx_pic.specs.Finished.{PicturesAreFinished};
 ghost use Rattle.vx_pic.specs.Resident.{NeededIsStored, NeededIsBody, WrittenReadsAgain};
-ghost use Rattle.vx_pic.specs.Laws.{ReadingGoesOn, PicturesStay, PicturesAreUnique, PicturesExist, SeenPicturesStay};
-ghost use Rattle.vx_pic.specs.Laws.{StoredByPlaces, GatheredByPlaces, CurrentByPlaces, PreviousByPlaces};
-ghost use Rattle.vx_pic.specs.Laws.{PlansReadAgain, WrittenHasPictures};
+ghost use Rattle.vx_pic.specs.laws.Pictures.{ReadingGoesOn, PicturesStay, PicturesAreUnique, PicturesExist, SeenPicturesStay};
+ghost use Rattle.vx_pic.specs.laws.Pictures.{StoredByPlaces, GatheredByPlaces, CurrentByPlaces, PreviousByPlaces};
+ghost use Rattle.vx_pic.specs.laws.Pictures.{PlansReadAgain, WrittenHasPictures};
 
 /// More units are read behind those before them, unless one of these is refused.
 pub fn reading_goes_on()

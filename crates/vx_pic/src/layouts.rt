@@ -11,8 +11,8 @@ ghost use Rattle.vx_fields.specs.declared.pps.TheConstants as pps_fields;
 ghost use Rattle.vx_bits.specs.declared.refusal.ReadError.TheVariants.{Refused};
 ghost use Rattle.vx_layout.specs.Faults.{IsInLimits};
 ghost use Rattle.vx_sps.specs.Set as set;
-ghost use Rattle.vx_sps.specs.Subpictures.{subpics_of, id_of};
-ghost use Rattle.vx_pps.specs.Items.{numbers_of};
+ghost use Rattle.vx_sps.specs.Subpictures.{subpics_of, sps_subpic_id_of};
+ghost use Rattle.vx_table.specs.Loaded.{numbers_of};
 ghost use Rattle.vx_pic.specs.inner.Layout.{IsLayoutOf};
 ghost use Rattle.vx_pic.specs.PictureLayout as spec;
 
@@ -76,7 +76,7 @@ fn ids_in(alloc: Global, fields: &Fields) -> Result<IdList, AllocError>
 /// The ids that the SPS gives.
 #[tactic(auto, using(crate::proofs::Listed::one_more_of))]
 fn ids_by_index(alloc: Global, sps: &Sps) -> Result<IdList, AllocError>
-    ensures { IfOk result (λ ids. ids ≡ map (id_of sps.now) (range_with_len 0 (subpics_of sps.now))) }
+    ensures { IfOk result (λ ids. ids ≡ map (sps_subpic_id_of sps.now) (range_with_len 0 (subpics_of sps.now))) }
 {
     let mut ids = IdList::new(alloc);
     for i in 0..sps.subpics() {
@@ -98,10 +98,6 @@ fn ids_under(alloc: Global, sps: &Sps, pps: &Pps) -> Result<IdList, AllocError>
 }
 
 /// The ids of the subpictures of a picture with these sets in force, by their index: SubpicIdVal (H.266 7.4.3.5).
-///
-/// # Errors
-///
-/// Want of memory.
 pub fn picture_ids(alloc: Global, sps: &Sps, pps: &Pps) -> Result<IdList, AllocError>
     ensures ids { IfOk result (λ ids. ids ≡ spec.ids_of sps.now pps.now) }
     ensures one_each { spec.ids_misplaced sps.now pps.now ≡ false → IfOk result (λ ids. length ids ≡ subpics_of sps.now) }
@@ -215,8 +211,8 @@ fn copied(alloc: Global, bounds: &Bounds) -> Result<Bounds, AllocError>
 /// The columns and rows of CTUs.
 #[tactic(auto, using(crate::proofs::Sizes::has_ctus))]
 fn size_in_ctus(sps: &Sps) -> (u32, u32)
-    ensures columns { result.0 ≡ set.columns_of sps.now }
-    ensures rows { result.1 ≡ set.rows_of sps.now }
+    ensures columns { result.0 ≡ set.ctu_columns_of sps.now }
+    ensures rows { result.1 ≡ set.ctu_rows_of sps.now }
     ensures wide { 0 < result.0 }
     ensures high { 0 < result.1 }
 {
@@ -239,8 +235,8 @@ fn subpictures(alloc: Global, sps: &Sps) -> Result<RectList, AllocError>
 
 /// The bounds of the tile columns and rows.
 fn tile_bounds(alloc: Global, sps: &Sps, pps: &Pps) -> Result<(Bounds, Bounds), AllocError>
-    ensures columns { IfOk result (λ bounds. bounds.0 ≡ spec.columns_of sps.now pps.now) }
-    ensures rows { IfOk result (λ bounds. bounds.1 ≡ spec.rows_of sps.now pps.now) }
+    ensures columns { IfOk result (λ bounds. bounds.0 ≡ spec.columns_in_picture sps.now pps.now) }
+    ensures rows { IfOk result (λ bounds. bounds.1 ≡ spec.rows_in_picture sps.now pps.now) }
 {
     if pps.partitioned() {
         return Ok((copied(alloc, pps.columns())?, copied(alloc, pps.rows())?));
@@ -252,7 +248,7 @@ fn tile_bounds(alloc: Global, sps: &Sps, pps: &Pps) -> Result<(Bounds, Bounds), 
 /// The slices, where these are the subpictures.
 fn slices(alloc: Global, sps: &Sps, pps: &Pps, subpics: &RectList) -> Result<RectList, AllocError>
     requires { subpics.now ≡ spec.subpictures_of sps.now }
-    ensures { IfOk result (λ rects. rects ≡ spec.slices_of sps.now pps.now) }
+    ensures { IfOk result (λ rects. rects ≡ spec.slices_in_picture sps.now pps.now) }
 {
     let mut rects = RectList::new(alloc);
     if pps.partitioned() {

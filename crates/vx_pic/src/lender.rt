@@ -22,10 +22,6 @@ pub trait Lender {
 }
 
 /// The pictures that are lent.
-///
-/// # Errors
-///
-/// Want of memory.
 pub fn lent<L: Lender>(alloc: Global, lenders: &[L]) -> Result<Vec<Picture<'_>>, AllocError>
     requires { All L.holds lenders.now }
     ensures { IfOk result (λ round. round.items ≡ map L.lent lenders.now) }

@@ -85,15 +85,15 @@ impl<'a> Model for Picture<'a> {
 
 impl<'a> Picture<'a> {
     ghost use Rattle.std.specs.Prelude.{◌≡◌, ◌<◌, ◌≤◌, true, Some, length, drop, slice_get, option_copied, option_map, IfSome};
-    ghost use Rattle.vx_sps.specs.Set.{IsItems};
+    ghost use Rattle.vx_sps.specs.Set.{AreSpsItems};
     ghost use Rattle.vx_sps.specs.Subpictures.{rect_of};
     ghost use Rattle.vx_bits.specs.Codes.{EndsInNoZero};
     ghost use Rattle.vx_pic.specs.Sets.{is_qp, same_size, slice_qp};
     ghost use Rattle.vx_pic.specs.PictureLayout.{MakeLayout, ids_of, numbers_in};
     ghost use Rattle.vx_ph.specs.InForce.{in_force, structures};
     ghost use Rattle.vx_ph.specs.Picture.{IsHeader};
-    ghost use Rattle.vx_pic.specs.UnderSets.{at_sets};
-    ghost use Rattle.vx_pic.specs.Parts.{seen, MakePicture, IsReadAt, aps_at, part_of, AreThere, named_by, read_of};
+    ghost use Rattle.vx_sh.specs.InForce.{at_sets};
+    ghost use Rattle.vx_pic.specs.Parts.{seen, MakePicture, IsReadAt, aps_at, part_of, AreThere, aps_named_by, read_of};
     ghost use Rattle.vx_pic.specs.Inputs.{body_of};
 
     /// The picture that these parts make up.
@@ -195,7 +195,7 @@ impl<'a> Picture<'a> {
         ensures suffix { result.payload.now ≡ drop (part_of result).payload result.unit.now }
         ensures some { 0 < length result.payload.now }
         ensures subpic { result.header.now.subpic < length self.now.layout.subpics }
-        ensures bodies { AreThere self.now.bodies (named_by self.now.pps self.now.header.fields result.header.now) }
+        ensures bodies { AreThere self.now.bodies (aps_named_by self.now.pps self.now.header.fields result.header.now) }
         ensures qp { is_qp self.now.sps (slice_qp self.now.pps self.now.header.fields (read_of result.header.now)) ≡ true }
         ensures read { IsReadAt (at_sets self.now.kind.nal_type self.now.sps self.now.pps self.now.header self.now.ids self.now.layout) result.header.now }
     {
@@ -232,7 +232,7 @@ impl<'a> Picture<'a> {
     /// The items of its SPS.
     pub(crate) fn sps_fields(&self) -> &'a Fields
         ensures items { result.now ≡ self.now.sps }
-        ensures set { IsItems result.now }
+        ensures set { AreSpsItems result.now }
     {
         self.parts.sps.fields()
     }

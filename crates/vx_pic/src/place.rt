@@ -58,10 +58,6 @@ fn crosses(several: bool, flag: u32) -> bool
 }
 
 /// The place of the slice at an address of a subpicture.
-///
-/// # Errors
-///
-/// Want of memory.
 pub(crate) fn place_of(
     alloc: Global,
     picture: &Picture<'_>,

@@ -6,7 +6,7 @@ use Rattle.std.proofs.lemmas.Bool.{false≢true}
 use Rattle.std.proofs.lemmas.Option.{slice_get_within}
 use Rattle.std.proofs.lemmas.List.Sums.{length-filter, count_by-le-length}
 use Rattle.std.proofs.lemmas.List.FromFn.{length-range_with_len}
-use Rattle.vx_play.specs.Scheduled.{Scheduled, current}
+use Rattle.vx_play.specs.Scheduled.{Scheduled, file_being_read}
 
 -- ---- the numbers from i on that pass, below n
 
@@ -40,7 +40,7 @@ ended test n i left past =
 
 -- ---- fewer files of a region have ended than there are in all
 
-pub few_gone : (s : Scheduled) (region file : ℕ) → current s region ≡ Some file → slice_index s.gone region < length s.regions
+pub few_gone : (s : Scheduled) (region file : ℕ) → file_being_read s region ≡ Some file → slice_index s.gone region < length s.regions
 few_gone s region file is =
     let test : ℕ → Bool = λ j. slice_index s.regions j == region in
     let files : List ℕ = range_with_len 0 (length s.regions) in

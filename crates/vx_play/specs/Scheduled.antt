@@ -10,17 +10,17 @@ pub record Scheduled : Type 0 where
   pub last : Option (List ℕ)
 
 -- how many regions files have: one more than the highest
-abbrev pub count_of : List ℕ → ℕ
-count_of [] = 0
-count_of (region ∷ regions) = max (region + 1) (count_of regions)
+abbrev pub regions_counted : List ℕ → ℕ
+regions_counted [] = 0
+regions_counted (region ∷ regions) = max (region + 1) (regions_counted regions)
 
 -- the files of a region, in order
-abbrev pub files_of : List ℕ → ℕ → List ℕ
-files_of regions region = filter (λ file. slice_index regions file == region) (range_with_len 0 (length regions))
+abbrev pub files_of_region : List ℕ → ℕ → List ℕ
+files_of_region regions region = filter (λ file. slice_index regions file == region) (range_with_len 0 (length regions))
 
 -- the one that is read: the first that hasn't ended
-abbrev pub current : Scheduled → ℕ → Option ℕ
-current s region = slice_get (files_of s.regions region) (slice_index s.gone region)
+abbrev pub file_being_read : Scheduled → ℕ → Option ℕ
+file_being_read s region = slice_get (files_of_region s.regions region) (slice_index s.gone region)
 
 -- since it was asked last another file of some region is read, or of none
 abbrev pub HasMoved : Scheduled → Type 0

@@ -28,7 +28,7 @@ impl Model for Schedule {
 
 /// How many regions there are, where these are those of the files: one more than the highest.
 fn region_count(regions: &[u32]) -> usize
-    ensures { result ≡ words.count_of regions.now }
+    ensures { result ≡ words.regions_counted regions.now }
 {
     let mut count = 0_usize;
     for region in regions {
@@ -40,7 +40,7 @@ fn region_count(regions: &[u32]) -> usize
 /// The file of a region behind so many others of it.
 fn file_behind(regions: &[u32], region: u32, gone: u32) -> Option<u32>
     requires { length regions.now < 2 ^ 32 }
-    ensures { result ≡ slice_get (words.files_of regions.now region) gone }
+    ensures { result ≡ slice_get (words.files_of_region regions.now region) gone }
 {
     let mut left = gone;
     for file in 0..regions.len() {
@@ -60,13 +60,9 @@ impl Schedule {
     ghost use Rattle.vx_play.specs.Scheduled as words;
 
     /// A schedule of as many files as entries, each entry being the region of a file. No file has ended.
-    ///
-    /// # Errors
-    ///
-    /// Want of memory.
     pub fn new(alloc: Global, regions: &[u32]) -> Result<Schedule, AllocError>
         requires { length regions.now < 2 ^ 32 }
-        ensures { IfOk result (λ s. s ≡ record { regions = regions.now; gone = replicate (words.count_of regions.now) 0; last = None }) }
+        ensures { IfOk result (λ s. s ≡ record { regions = regions.now; gone = replicate (words.regions_counted regions.now) 0; last = None }) }
     {
         let count = region_count(regions);
         let mut own = Vec::new(alloc);
@@ -82,7 +78,7 @@ impl Schedule {
     /// The file of a region that is read: the first one that hasn't ended. None where all have.
     pub fn current(&self, region: u32) -> Option<u32>
         requires { region < length self.now.gone }
-        ensures { result ≡ words.current self.now region }
+        ensures { result ≡ words.file_being_read self.now region }
     {
         file_behind(&self.regions, region, self.gone[region as usize])
     }
@@ -90,7 +86,7 @@ impl Schedule {
     /// The file of a region that is read has ended, so its next one is read from now on.
     pub fn ended(&mut self, region: u32)
         requires region { region < length self.old.gone }
-        requires file { IsSome (words.current self.old region) }
+        requires file { IsSome (words.file_being_read self.old region) }
         ensures { self.new ≡ record self.old { gone = slice_set self.old.gone region (slice_index self.old.gone region + 1) } }
     {
         self.gone[region as usize] += 1;

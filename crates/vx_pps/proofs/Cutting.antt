@@ -30,7 +30,7 @@ use Rattle.vx_table.proofs.Rewriting.{no_other_here, other_here}
 use Rattle.vx_table.proofs.Rewrites.{leaves_agree, sections_leave, sections_together}
 use Rattle.vx_table.proofs.Shown.{hidden_here, scopes_follow_items}
 use Rattle.vx_pps.specs.declared.partition.Partition.{Partition}
-use Rattle.vx_pps.specs.Pps.{front, partition_at, pps_form, tools}
+use Rattle.vx_pps.specs.Pps.{before_tiles, partition_at, pps_form, after_slices}
 use Rattle.vx_pps.specs.Written.{Gives}
 use Rattle.vx_pps.proofs.Division.{IsDividing, each_division}
 use Rattle.vx_pps.proofs.Giving.{gives_end, gives_then}
@@ -46,9 +46,9 @@ pub record Parts (items : List Item) (end : Partition) : Type 0 where
   pub front_items : List Item
   pub division : List Item
   pub tool_items : List Item
-  pub first : Gives (sections_form front fresh) front_items scope
+  pub first : Gives (sections_form before_tiles fresh) front_items scope
   pub second : Gives (partition_at scope) division end
-  pub third : Gives (sections_form tools scope) tool_items last
+  pub third : Gives (sections_form after_slices scope) tool_items last
   pub all : items ≡ front_items ++ (division ++ tool_items)
 
 -- items of values of one form behind another
@@ -83,9 +83,9 @@ gives_back form b {items} {end} gives =
 pub cut_parts : (items : List Item) (end : Partition) → Gives pps_form items end → Parts items end
 unfolding pps_form
 cut_parts items end gives =
-    let one = gives_parts (sections_form front fresh) (λ s. partition_at s >>= λ p. sections_form tools s >>= λ t. done p) gives in
-    let two = gives_parts (partition_at one.0) (λ p. sections_form tools one.0 >>= λ t. done p) one.4 in
-    let three = gives_back (sections_form tools one.0) two.0 two.4 in
+    let one = gives_parts (sections_form before_tiles fresh) (λ s. partition_at s >>= λ p. sections_form after_slices s >>= λ t. done p) gives in
+    let two = gives_parts (partition_at one.0) (λ p. sections_form after_slices one.0 >>= λ t. done p) one.4 in
+    let three = gives_back (sections_form after_slices one.0) two.0 two.4 in
     record {
       scope = one.0;
       last = three.0;
@@ -98,11 +98,11 @@ cut_parts items end gives =
       all = one.5 ∙ ap (λ xs. one.1 ++ xs) two.5;
     }
 
-pub put_parts : {xs ys zs : List Item} {s t : List ℕ} {end : Partition} → Gives (sections_form front fresh) xs s → Gives (partition_at s) ys end → Gives (sections_form tools s) zs t → Gives pps_form (xs ++ (ys ++ zs)) end
+pub put_parts : {xs ys zs : List Item} {s t : List ℕ} {end : Partition} → Gives (sections_form before_tiles fresh) xs s → Gives (partition_at s) ys end → Gives (sections_form after_slices s) zs t → Gives pps_form (xs ++ (ys ++ zs)) end
 unfolding pps_form
 put_parts {s} {end} first second third =
-    gives_then (λ u. partition_at u >>= λ p. sections_form tools u >>= λ t. done p) first
-    (gives_then (λ p. sections_form tools s >>= λ t. done p) second (gives_end (λ t. end) third))
+    gives_then (λ u. partition_at u >>= λ p. sections_form after_slices u >>= λ t. done p) first
+    (gives_then (λ p. sections_form after_slices s >>= λ t. done p) second (gives_end (λ t. end) third))
 
 -- ---- the fields of tiles and slices
 
@@ -231,36 +231,36 @@ module _ {items : List Item} {end : Partition} (p : Parts items end) where
   loaded_all = ap (λ xs. loaded fresh xs) p.all ∙ loaded_then fresh p.front_items (p.division ++ p.tool_items) ∙ loaded_then (loaded fresh p.front_items) p.division p.tool_items
 
   pub front_loads : Agree numbered (loaded fresh p.front_items) p.scope
-  front_loads = subst (λ xs. Agree numbered (loaded fresh xs) p.scope) p.first.given ((sections_load numbered front front_numbered).at fresh p.first.values p.scope p.first.follows)
+  front_loads = subst (λ xs. Agree numbered (loaded fresh xs) p.scope) p.first.given ((sections_load numbered before_tiles front_numbered).at fresh p.first.values p.scope p.first.follows)
 
   pub numbers_told : (n : ℕ) → IsTrue (has numbered n) → slice_index p.last n ≡ number items n
   numbers_told n is =
       let unshown = (division_unshown numbered p.scope numbered_clear p.second).0 in
       let mid : Agree numbered (loaded (loaded fresh p.front_items) p.division) p.scope = agree_on (agree_back (unloaded numbered (loaded fresh p.front_items) p.division unshown)) front_loads in
-      let rest : Agree numbered (loaded p.scope p.tool_items) p.last = subst (λ xs. Agree numbered (loaded p.scope xs) p.last) p.third.given ((sections_load numbered tools tools_numbered).at p.scope p.third.values p.last p.third.follows) in
+      let rest : Agree numbered (loaded p.scope p.tool_items) p.last = subst (λ xs. Agree numbered (loaded p.scope xs) p.last) p.third.given ((sections_load numbered after_slices tools_numbered).at p.scope p.third.values p.last p.third.follows) in
       let all : Agree numbered (loaded fresh items) p.last = subst (λ t. Agree numbered t p.last) (sym loaded_all)
       (agree_on (scopes_follow_items numbered (loaded (loaded fresh p.front_items) p.division) p.scope p.tool_items p.tool_items mid refl) rest) in
       sym (all.same n is)
 
   -- and of that before the tools
   pub numbers_before : (n : ℕ) → IsTrue (has numbered n) → IsTrue (has early n) → slice_index p.scope n ≡ number items n
-  numbers_before n is is_early = (leaves_agree early (sections_form tools) p.scope p.third.values p.last (sections_leave early tools tools_early) p.third.follows).same n is_early ∙ numbers_told n is
+  numbers_before n is is_early = (leaves_agree early (sections_form after_slices) p.scope p.third.values p.last (sections_leave early after_slices tools_early) p.third.follows).same n is_early ∙ numbers_told n is
 
   -- ---- flags
 
   scopes : Form (List ℕ)
-  scopes = sections_form front fresh >>= λ s. (partition_at s >>= λ d. done s) >>= λ t. sections_form tools t
+  scopes = sections_form before_tiles fresh >>= λ s. (partition_at s >>= λ d. done s) >>= λ t. sections_form after_slices t
 
-  pub number_low : (of bound : ℕ) → 0 < bound → sections_pass (row_below of bound) front ≡ true → sections_pass (row_below of bound) tools ≡ true → (417 ≤ of → of ≤ 432 → ⊥) → number items of < bound
+  pub number_low : (of bound : ℕ) → 0 < bound → sections_pass (row_below of bound) before_tiles ≡ true → sections_pass (row_below of bound) after_slices ≡ true → (417 ≤ of → of ≤ 432 → ⊥) → number items of < bound
   unfolding scopes
   number_low of bound some in_front in_tools outside =
-      let given = gives_then (λ s. (partition_at s >>= λ d. done s) >>= λ t. sections_form tools t) p.first (gives_then (λ t. sections_form tools t) (gives_end (λ d. p.scope) p.second) p.third) in
+      let given = gives_then (λ s. (partition_at s >>= λ d. done s) >>= λ t. sections_form after_slices t) p.first (gives_then (λ t. sections_form after_slices t) (gives_end (λ d. p.scope) p.second) p.third) in
       let each : EachField (StaysBelow of bound) scopes =
-      each_then (StaysBelow of bound) (sections_form front fresh) (λ s. (partition_at s >>= λ d. done s) >>= λ t. sections_form tools t) (sections_stay_below of bound front fresh some in_front)
-      (λ s. each_then (StaysBelow of bound) (partition_at s >>= λ d. done s) (λ t. sections_form tools t)
+      each_then (StaysBelow of bound) (sections_form before_tiles fresh) (λ s. (partition_at s >>= λ d. done s) >>= λ t. sections_form after_slices t) (sections_stay_below of bound before_tiles fresh some in_front)
+      (λ s. each_then (StaysBelow of bound) (partition_at s >>= λ d. done s) (λ t. sections_form after_slices t)
       (each_then (StaysBelow of bound) (partition_at s) (λ d. done s)
       (each_weaker IsDividing (StaysBelow of bound) (partition_at s) (λ cell is has_one same v value. absurd (outside (subst (λ n. 417 ≤ n) same is.0) (subst (λ n. n ≤ 432) same is.1))) (each_division _ _ _)) (λ d. tt))
-      (λ t. sections_stay_below of bound tools t some in_tools)) in
+      (λ t. sections_stay_below of bound after_slices t some in_tools)) in
       subst (λ xs. number xs of < bound) (given.given ∙ sym p.all) (number_below of bound scopes given.values p.last some each given.follows)
 
   pub flag_below : (of : ℕ) → IsFlag of → (417 ≤ of → of ≤ 432 → ⊥) → number items of < 2
@@ -278,15 +278,15 @@ module _ {items : List Item} {end : Partition} (p : Parts items end) where
       let ps : List Item = items_along (sections_form before_control p.scope) one.front in
       let cs : List Item = items_along (form_of tables.DBF_CONTROL one.mid) two.front in
       let rs : List Item = items_along (sections_form from_dbf two.mid) two.others in
-      let tools_are : p.tool_items ≡ ps ++ (cs ++ rs) = sym p.third.given ∙ ap (λ w. items_along (sections_form tools p.scope) w) one.all
+      let tools_are : p.tool_items ≡ ps ++ (cs ++ rs) = sym p.third.given ∙ ap (λ w. items_along (sections_form after_slices p.scope) w) one.all
       ∙ cut_items before_control (dbf_control ++ from_dbf) p.scope one.others one.first
       ∙ ap (λ xs. ps ++ xs) (ap (λ w. items_along (sections_form (dbf_control ++ from_dbf) one.mid) w) two.all ∙ cut_items dbf_control from_dbf one.mid two.others two.first ∙ ap (λ xs. xs ++ rs) table.1) in
-      let from_fresh = leaves_agree override (sections_form front) fresh p.first.values p.scope (sections_leave override front override_stands.0) p.first.follows in
+      let from_fresh = leaves_agree override (sections_form before_tiles) fresh p.first.values p.scope (sections_leave override before_tiles override_stands.0) p.first.follows in
       let from_scope = leaves_agree override (sections_form before_control) p.scope one.front one.mid (sections_leave override before_control override_stands.1) one.first in
       let empty : Agree override fresh one.mid = agree_on from_fresh from_scope in
       let none : slice_index one.mid of ≡ 0 = sym (empty.same of refl) in
       let behind = leaves_agree override (sections_form from_dbf) two.mid two.others p.last (sections_leave override from_dbf override_stands.2) two.second in
-      let no_front : shown_items override p.front_items ≡ [] = ap (λ xs. shown_items override xs) (sym p.first.given) ∙ none_shown override (sections_unshown override front fresh override_unshown.0) p.first.follows in
+      let no_front : shown_items override p.front_items ≡ [] = ap (λ xs. shown_items override xs) (sym p.first.given) ∙ none_shown override (sections_unshown override before_tiles fresh override_unshown.0) p.first.follows in
       let no_division = (division_unshown override p.scope override_clear p.second).0 in
       let no_ps : shown_items override ps ≡ [] = none_shown override (sections_unshown override before_control p.scope override_unshown.1) one.first in
       let no_rs : shown_items override rs ≡ [] = none_shown override (sections_unshown override from_dbf two.mid override_unshown.2) two.second in

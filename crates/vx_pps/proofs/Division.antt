@@ -15,7 +15,7 @@ use Rattle.vx_table.specs.EachField.{EachField}
 use Rattle.vx_table.specs.Forms.{Form, done, field, ◌>>=◌, has_value}
 use Rattle.vx_table.specs.Scope.{is_set, natural, one_if, powers_below}
 use Rattle.vx_table.specs.Spelling.{HasCode, fault_of, item_of}
-use Rattle.vx_table.specs.Trailing.{is_trailing}
+use Rattle.vx_table.specs.laws.Trailing.{is_trailing}
 use Rattle.vx_table.specs.Values.{Follows, to_end, through}
 use Rattle.vx_table.proofs.EachField.{each_then}
 use Rattle.vx_bits.specs.declared.rules.TheConstants.{TOO_MANY_SLICES, RASTER_SCAN_SLICES}
@@ -24,10 +24,11 @@ use Rattle.vx_pps.specs.declared.shape.PpsShape.{PpsShape}
 use Rattle.vx_pps.specs.declared.tiles.Tiles.{Tiles}
 use Rattle.vx_pps.specs.Tiles.{IsGrid, across, block, column, down, row, tile, tile_behind}
 use Rattle.vx_pps.specs.Groups.{InGroups, IsList, spells_height}
-use Rattle.vx_pps.specs.Partition.{across_flag, counted, ctu_size, ctus, deltas_flag, divided, fixed, flag, impossible_flag, last_slice, listed_slices, partition, sizes_of, slices_among, subpicture_slices, tile_flags, tiles_among, undivided}
-use Rattle.vx_pps.specs.Reshaped.{CanBeDivided, Divides, divided_items, has_deltas, slice_items, tile_flag_items, tile_items, where_so}
-use Rattle.vx_pps.specs.Slices.{all_slices, below, delta, goes_on, height_in_tiles, list_from, may_be_cut, none_listed, number, sizes_from, slices_at, slices_in_tile, spells_delta, strips_from, tile_after, turn, turns_from, width_in_tiles}
-use Rattle.vx_pps.specs.Written.{Gives, item, list_items, size_items}
+use Rattle.vx_pps.specs.Partition.{across_flag, golomb_below, ctu_size, ctus_across, deltas_flag, divided, fixed_form, flag, impossible_flag, last_slice, listed_slices, partition, sizes_of, slices_among, subpicture_slices, tile_flags, tiles_among, undivided}
+use Rattle.vx_pps.specs.Reshaped.{CanBeDivided, Divides, divided_items, has_deltas, slice_list_items, tile_flag_items, tile_items}
+use Rattle.vx_table.specs.Rewritten.{where_so}
+use Rattle.vx_pps.specs.Slices.{all_slices, below, delta, goes_on, height_in_tiles, list_from, may_be_cut, none_listed, golomb_form, sizes_from, slices_from_tile, slices_in_tile, spells_delta, strips_from, tile_after, turn, turns_from, width_in_tiles}
+use Rattle.vx_pps.specs.Written.{Gives, only_item, list_items, tile_size_items}
 use Rattle.vx_pps.proofs.Few.{few_fall}
 use Rattle.vx_pps.proofs.Giving.{below_allows, bounds_read, gives_done, gives_end, gives_number, gives_then, natural_is}
 use Rattle.vx_pps.proofs.Grouping.{lists_fall}
@@ -45,12 +46,12 @@ abbrev pub IsDividing : Cell ℕ → Type 0
 IsDividing cell = IsBetween 417 432 cell
 
 module _ (low high : ℕ) where
-  each_number : (of : ℕ) (limits : Limits ℕ) → low ≤ of → of ≤ high → EachField (IsBetween low high) (number of limits)
+  each_number : (of : ℕ) (limits : Limits ℕ) → low ≤ of → of ≤ high → EachField (IsBetween low high) (golomb_form of limits)
   unfolding is_trailing
   each_number of limits from upto = ((from, upto, refl, refl), λ v. tt)
 
-  each_fixed : (of bits : ℕ) (limits : Limits ℕ) → low ≤ of → of ≤ high → EachField (IsBetween low high) (fixed of bits limits)
-  unfolding fixed is_trailing
+  each_fixed : (of bits : ℕ) (limits : Limits ℕ) → low ≤ of → of ≤ high → EachField (IsBetween low high) (fixed_form of bits limits)
+  unfolding fixed_form is_trailing
   each_fixed of bits limits from upto = ((from, upto, refl, refl), λ v. tt)
 
   each_cond : {A : Type 0} (b : Bool) (f g : Form A) → EachField (IsBetween low high) f → EachField (IsBetween low high) g → EachField (IsBetween low high) (cond b f g)
@@ -62,8 +63,8 @@ module _ (low high : ℕ) where
   each_sizes of zero left sizes from upto = tt
   each_sizes of (suc more) left sizes from upto = ((from, upto, refl, refl), λ v. each_sizes of more (left - (natural v + 1)) (sizes ++ (natural v + 1) ∷ []) from upto)
 
-  each_counted : (of bound : ℕ) → low ≤ of → of ≤ high → EachField (IsBetween low high) (counted of bound)
-  unfolding counted
+  each_counted : (of bound : ℕ) → low ≤ of → of ≤ high → EachField (IsBetween low high) (golomb_below of bound)
+  unfolding golomb_below
   each_counted of bound from upto = each_number of (below bound) from upto
 
   each_sizes_of : (of count total : ℕ) → low ≤ of → of ≤ high → EachField (IsBetween low high) (sizes_of of count total)
@@ -86,7 +87,7 @@ each_tiles columns rows =
 pub each_tile_flags : (g : Tiles) → EachField (IsBetween 422 423) (tile_flags g)
 unfolding tile_flags
 each_tile_flags g =
-    each_cond 422 423 (ltb 1 (across g * down g)) (flag pps.pps_loop_filter_across_tiles_enabled_flag >>= λ v. fixed pps.pps_rect_slice_flag 1 (Within (pos 1) 1 (Profile RASTER_SCAN_SLICES))) (done 1)
+    each_cond 422 423 (ltb 1 (across g * down g)) (flag pps.pps_loop_filter_across_tiles_enabled_flag >>= λ v. fixed_form pps.pps_rect_slice_flag 1 (Within (pos 1) 1 (Profile RASTER_SCAN_SLICES))) (done 1)
     (each_then _ _ _ (each_fixed 422 423 pps.pps_loop_filter_across_tiles_enabled_flag 1 (below 2) (omega arith) (omega arith))
     (λ v. each_fixed 422 423 pps.pps_rect_slice_flag 1 (Within (pos 1) 1 (Profile RASTER_SCAN_SLICES)) (omega arith) (omega arith)))
     tt
@@ -94,12 +95,12 @@ each_tile_flags g =
 each_width : (g : Tiles) (t : ℕ) → EachField (IsBetween 425 432) (width_in_tiles g t)
 each_width g t =
     let limits : Limits ℕ = below (across g - column g t) in
-    each_cond 425 432 (eqb (column g t + 1) (across g)) (done 0) (number pps.pps_slice_width_in_tiles_minus1 limits) tt (each_number 425 432 pps.pps_slice_width_in_tiles_minus1 limits (omega arith) (omega arith))
+    each_cond 425 432 (eqb (column g t + 1) (across g)) (done 0) (golomb_form pps.pps_slice_width_in_tiles_minus1 limits) tt (each_number 425 432 pps.pps_slice_width_in_tiles_minus1 limits (omega arith) (omega arith))
 
 each_height : (g : Tiles) (deltas : Bool) (t before : ℕ) → EachField (IsBetween 425 432) (height_in_tiles g deltas t before)
 each_height g deltas t before =
     let limits : Limits ℕ = below (down g - row g t) in
-    let spelled : Form ℕ = number pps.pps_slice_height_in_tiles_minus1 limits in
+    let spelled : Form ℕ = golomb_form pps.pps_slice_height_in_tiles_minus1 limits in
     each_cond 425 432 (eqb (row g t + 1) (down g)) (done 0) (cond (spells_height g deltas t) spelled (done before)) tt
     (each_cond 425 432 (spells_height g deltas t) spelled (done before) (each_number 425 432 pps.pps_slice_height_in_tiles_minus1 limits (omega arith) (omega arith)) tt)
 
@@ -113,7 +114,7 @@ unfolding is_trailing
 each_in_tile t last_one slices =
     ((omega arith, omega arith, refl, refl), λ v. each_cond 425 432 (eqb (natural v) 0) (done (slices ++ t ∷ [])) (strips_from t last_one (natural v) t.y 0 slices) tt (each_strips t last_one (natural v) t.y 0 slices))
 
-each_slices_at : (g : Tiles) (last t width height : ℕ) (slices : List Rect) → EachField (IsBetween 425 432) (slices_at g last t width height slices)
+each_slices_at : (g : Tiles) (last t width height : ℕ) (slices : List Rect) → EachField (IsBetween 425 432) (slices_from_tile g last t width height slices)
 each_slices_at g last_one t width height slices =
     each_cond 425 432 (may_be_cut width height (tile g t)) (slices_in_tile (tile g t) last_one slices) (done (slices ++ block g t (width + 1) (height + 1) ∷ [])) (each_in_tile (tile g t) last_one slices) tt
 
@@ -171,7 +172,7 @@ each_divided : (width height : ℕ) → EachField IsDividing (divided width heig
 unfolding divided
 each_divided width height =
     each_then _ _ _ (each_fixed 417 432 pps.pps_log2_ctu_size_minus5 2 (below 3) (omega arith) (omega arith))
-    (λ log2. each_then _ _ _ (each_wider 417 432 418 421 (tiles_among (ctus width log2) (ctus height log2)) (omega arith) (omega arith) (each_tiles (ctus width log2) (ctus height log2)))
+    (λ log2. each_then _ _ _ (each_wider 417 432 418 421 (tiles_among (ctus_across width log2) (ctus_across height log2)) (omega arith) (omega arith) (each_tiles (ctus_across width log2) (ctus_across height log2)))
     (λ g. each_then _ _ _ (each_wider 417 432 422 423 (tile_flags g) (omega arith) (omega arith) (each_tile_flags g))
     (λ r. each_then _ _ _ (each_fixed 417 432 pps.pps_single_slice_per_subpic_flag 1 (below 2) (omega arith) (omega arith))
     (λ single. each_then _ _ _ (each_wider 417 432 425 432 (slices_among g single) (omega arith) (omega arith) (each_among g single)) (λ slices. tt)))))
@@ -182,33 +183,33 @@ each_division whole width height = each_cond 417 432 (is_set whole) (done undivi
 
 -- ---- what is stated goes through
 
-gives_fixed : (of bits n : ℕ) (limits : Limits ℕ) → n < 2 ^ bits → n + 1 < 2 ^ 32 → fault_of limits (pos n) ≡ None → Gives (fixed of bits limits) (item of (pos n)) n
-unfolding fixed HasCode item_of has_value
+gives_fixed : (of bits n : ℕ) (limits : Limits ℕ) → n < 2 ^ bits → n + 1 < 2 ^ 32 → fault_of limits (pos n) ≡ None → Gives (fixed_form of bits limits) (only_item of (pos n)) n
+unfolding fixed_form HasCode item_of has_value
 gives_fixed of bits n limits fits short range = record {
   values = pos n ∷ [];
-  follows = subst (λ m. Follows (fixed of bits limits) (pos n ∷ []) m) (natural_is n (omega arith)) (through (record { code = fits; range = range }) to_end);
+  follows = subst (λ m. Follows (fixed_form of bits limits) (pos n ∷ []) m) (natural_is n (omega arith)) (through (record { code = fits; range = range }) to_end);
   given = refl;
 }
 
-gives_flag : (of : ℕ) (b : Bool) → Gives (flag of) (item of (pos (one_if b))) (one_if b)
+gives_flag : (of : ℕ) (b : Bool) → Gives (flag of) (only_item of (pos (one_if b))) (one_if b)
 gives_flag of true = gives_fixed of 1 1 (below 2) (omega arith) (omega arith) (below_allows 1 2 (omega arith))
 gives_flag of false = gives_fixed of 1 0 (below 2) (omega arith) (omega arith) (below_allows 0 2 (omega arith))
 
-gives_counted : (of n bound : ℕ) → n < bound → bound < 2 ^ 31 → Gives (counted of bound) (item of (pos n)) n
-unfolding counted
+gives_counted : (of n bound : ℕ) → n < bound → bound < 2 ^ 31 → Gives (golomb_below of bound) (only_item of (pos n)) n
+unfolding golomb_below
 gives_counted of n bound less low = gives_number of n (below bound) (omega arith) (below_allows n bound less)
 
 -- sizes of bounds
-gives_bounds : (of : ℕ) (bounds : List ℕ) → Rises bounds → 2 ≤ length bounds → last bounds ≤ 512 → Gives (sizes_of of (length bounds - 1 - 1 + 1) (last bounds)) (size_items of (sizes_between bounds)) (sizes_between bounds)
+gives_bounds : (of : ℕ) (bounds : List ℕ) → Rises bounds → 2 ≤ length bounds → last bounds ≤ 512 → Gives (sizes_of of (length bounds - 1 - 1 + 1) (last bounds)) (tile_size_items of (sizes_between bounds)) (sizes_between bounds)
 unfolding sizes_of
 gives_bounds of bounds rises several low =
     let back : length bounds - 1 ≡ length bounds - 1 - 1 + 1 = omega arith in
-    subst (λ n. Gives (sizes_from of n (last bounds) []) (size_items of (sizes_between bounds)) (sizes_between bounds)) back (bounds_read of bounds rises several (omega arith)).0
+    subst (λ n. Gives (sizes_from of n (last bounds) []) (tile_size_items of (sizes_between bounds)) (sizes_between bounds)) back (bounds_read of bounds rises several (omega arith)).0
 
 gives_tiles : (g : Tiles) → Rises g.columns → Rises g.rows → 2 ≤ length g.columns → 2 ≤ length g.rows → last g.columns ≤ 512 → last g.rows ≤ 512
     → Gives (tiles_among (last g.columns) (last g.rows))
-    (item pps.pps_num_exp_tile_columns_minus1 (pos (across g - 1)) ++ (item pps.pps_num_exp_tile_rows_minus1 (pos (down g - 1))
-    ++ (size_items pps.pps_tile_column_width_minus1 (sizes_between g.columns) ++ size_items pps.pps_tile_row_height_minus1 (sizes_between g.rows)))) g
+    (only_item pps.pps_num_exp_tile_columns_minus1 (pos (across g - 1)) ++ (only_item pps.pps_num_exp_tile_rows_minus1 (pos (down g - 1))
+    ++ (tile_size_items pps.pps_tile_column_width_minus1 (sizes_between g.columns) ++ tile_size_items pps.pps_tile_row_height_minus1 (sizes_between g.rows)))) g
 unfolding tiles_among
 gives_tiles g rises_columns rises_rows wide high low_columns low_rows =
     let same_columns = (bounds_read pps.pps_tile_column_width_minus1 g.columns rises_columns wide (omega arith)).1 in
@@ -219,7 +220,7 @@ gives_tiles g rises_columns rises_rows wide high low_columns low_rows =
     (gives_then _ (gives_counted pps.pps_num_exp_tile_rows_minus1 (down g - 1) (last g.rows) (omega (arith, length-le-last g.rows rises_rows)) (omega arith))
     (gives_then _ (gives_bounds pps.pps_tile_column_width_minus1 g.columns rises_columns wide low_columns)
     (subst (λ end. Gives (sizes_of pps.pps_tile_row_height_minus1 (down g - 1 + 1) (last g.rows) >>= λ heights. done (record { columns = bounds_of (sizes_between g.columns) (last g.columns); rows = bounds_of heights (last g.rows) }))
-    (size_items pps.pps_tile_row_height_minus1 (sizes_between g.rows)) end) same_tiles
+    (tile_size_items pps.pps_tile_row_height_minus1 (sizes_between g.rows)) end) same_tiles
     (gives_end (λ heights. record { columns = bounds_of (sizes_between g.columns) (last g.columns); rows = bounds_of heights (last g.rows) }) (gives_bounds pps.pps_tile_row_height_minus1 g.rows rises_rows high low_rows)))))
 
 gives_tile_flags : (shape : PpsShape) → Gives (tile_flags shape.tiles) (tile_flag_items shape) 1
@@ -251,7 +252,7 @@ limit_allows n less =
     let upto : ltb n 1000 ≡ true = lt-ltb n 1000 less in
     rw (from_zero, upto) refl
 
-ctus_are : (samples log2 ctb end : ℕ) → ctb ≡ 2 ^ (log2 + 5) → end ≡ div_ceil samples ctb → end ≤ 512 → ctus samples log2 ≡ end
+ctus_are : (samples log2 ctb end : ℕ) → ctb ≡ 2 ^ (log2 + 5) → end ≡ div_ceil samples ctb → end ≤ 512 → ctus_across samples log2 ≡ end
 ctus_are samples log2 ctb end size is low =
     let e : div_ceil samples (2 ^ (log2 + 5)) ≡ end = ap (λ n. div_ceil samples n) (sym size) ∙ sym is in
     rw e (omega arith)
@@ -263,7 +264,7 @@ groups_for g slices is some = elim (cases_Bool (ltb 2 (length slices))) [
   | inr few ↦ rw few (few_fall g slices is some (few_of (length slices) few))
 ]
 
-gives_deltas : (n : ℕ) → 0 < n → Gives (deltas_flag (n - 1)) (where_so (ltb 2 n) (item pps.pps_tile_idx_delta_present_flag (pos 1))) (one_if (ltb 2 n))
+gives_deltas : (n : ℕ) → 0 < n → Gives (deltas_flag (n - 1)) (where_so (ltb 2 n) (only_item pps.pps_tile_idx_delta_present_flag (pos 1))) (one_if (ltb 2 n))
 unfolding deltas_flag
 gives_deltas n some = elim (cases_Bool (ltb 2 n)) [
   | inl several ↦
@@ -278,7 +279,7 @@ set_is : (b : Bool) → is_set (one_if b) ≡ b
 set_is true = refl
 set_is false = refl
 
-gives_across : (n : ℕ) (b : Bool) → 0 < n → Gives (across_flag (n - 1) true) (where_so (ltb 1 n) (item pps.pps_loop_filter_across_slices_enabled_flag (pos (one_if b)))) (cond (ltb 1 n) (one_if b) 0)
+gives_across : (n : ℕ) (b : Bool) → 0 < n → Gives (across_flag (n - 1) true) (where_so (ltb 1 n) (only_item pps.pps_loop_filter_across_slices_enabled_flag (pos (one_if b)))) (cond (ltb 1 n) (one_if b) 0)
 unfolding across_flag
 gives_across n b some = elim (cases_Bool (ltb 1 n)) [
   | inl several ↦
@@ -290,12 +291,12 @@ gives_across n b some = elim (cases_Bool (ltb 1 n)) [
       rw (one, none) (gives_done 0)
 ]
 
-gives_last : (n : ℕ) → n < 1000 → Gives last_slice (item pps.pps_num_slices_in_pic_minus1 (pos n)) n
+gives_last : (n : ℕ) → n < 1000 → Gives last_slice (only_item pps.pps_num_slices_in_pic_minus1 (pos n)) n
 unfolding last_slice
 gives_last n few = gives_number pps.pps_num_slices_in_pic_minus1 n (Below 1000 (Limit TOO_MANY_SLICES)) (omega arith) (limit_allows n few)
 
 gives_listed : (shape : PpsShape) → IsList shape.tiles shape.slices → 0 < length shape.slices → length shape.slices ≤ 1000 → (groups : InGroups shape.tiles (has_deltas shape) shape.slices)
-    → Gives (listed_slices shape.tiles) (slice_items shape (groups.group ∷ groups.groups)) (Some shape.slices)
+    → Gives (listed_slices shape.tiles) (slice_list_items shape (groups.group ∷ groups.groups)) (Some shape.slices)
 unfolding listed_slices
 gives_listed shape is some few groups =
     let last_one : ℕ = length shape.slices - 1 in
@@ -314,7 +315,7 @@ log2_of (suc zero) low = refl
 log2_of (suc (suc zero)) low = refl
 log2_of (suc (suc (suc n))) low = absurd (omega arith)
 
-gives_ctu : (log2 : ℕ) → log2 < 3 → Gives ctu_size (item pps.pps_log2_ctu_size_minus5 (pos log2)) log2
+gives_ctu : (log2 : ℕ) → log2 < 3 → Gives ctu_size (only_item pps.pps_log2_ctu_size_minus5 (pos log2)) log2
 gives_ctu log2 low = gives_fixed pps.pps_log2_ctu_size_minus5 2 log2 (below 3) (omega arith) (omega arith) (below_allows log2 3 low)
 
 pub grid_of : (shape : PpsShape) → CanBeDivided shape → IsGrid shape.tiles
@@ -333,14 +334,14 @@ division_gives shape items can d =
     let is = layouts_are shape.tiles shape.slices can.layout can.listable in
     let limits = can.layout.limits in
     let log2 : ℕ = can.ctb.0 in
-    let columns_are : ctus shape.width log2 ≡ last shape.tiles.columns = ctus_are shape.width log2 shape.ctb (last shape.tiles.columns) can.ctb.2 can.columns limits.columns.1 in
-    let rows_are : ctus shape.height log2 ≡ last shape.tiles.rows = ctus_are shape.height log2 shape.ctb (last shape.tiles.rows) can.ctb.2 can.rows limits.rows.1 in
+    let columns_are : ctus_across shape.width log2 ≡ last shape.tiles.columns = ctus_are shape.width log2 shape.ctb (last shape.tiles.columns) can.ctb.2 can.columns limits.columns.1 in
+    let rows_are : ctus_across shape.height log2 ≡ last shape.tiles.rows = ctus_are shape.height log2 shape.ctb (last shape.tiles.rows) can.ctb.2 can.rows limits.rows.1 in
     let log2_is : powers_below 32 shape.ctb - 5 ≡ log2 = ap (λ n. powers_below 32 n - 5) can.ctb.2 ∙ log2_of log2 can.ctb.1 in
     let tiles = gives_tiles shape.tiles can.layout.columns can.layout.rows limits.columns.0 limits.rows.0 limits.columns.1 limits.rows.1 in
     let listed = gives_listed shape is (omega (arith, limits.slices.0)) limits.slices.1 d.groups in
     let all : Gives (divided shape.width shape.height) (divided_items shape (d.groups.group ∷ d.groups.groups)) (record { tiles = shape.tiles; slices = Some shape.slices })
-    = gives_then _ (subst (λ n. Gives ctu_size (item pps.pps_log2_ctu_size_minus5 (pos n)) log2) (sym log2_is) (gives_ctu log2 can.ctb.1))
-    (gives_then _ (subst (λ c. Gives (tiles_among c (ctus shape.height log2)) (tile_items shape) shape.tiles) (sym columns_are) (subst (λ r. Gives (tiles_among (last shape.tiles.columns) r) (tile_items shape) shape.tiles) (sym rows_are) tiles))
+    = gives_then _ (subst (λ n. Gives ctu_size (only_item pps.pps_log2_ctu_size_minus5 (pos n)) log2) (sym log2_is) (gives_ctu log2 can.ctb.1))
+    (gives_then _ (subst (λ c. Gives (tiles_among c (ctus_across shape.height log2)) (tile_items shape) shape.tiles) (sym columns_are) (subst (λ r. Gives (tiles_among (last shape.tiles.columns) r) (tile_items shape) shape.tiles) (sym rows_are) tiles))
     (gives_then _ (gives_tile_flags shape)
     (gives_then _ (gives_fixed pps.pps_single_slice_per_subpic_flag 1 0 (below 2) (omega arith) (omega arith) (below_allows 0 2 (omega arith)))
     (gives_end (λ slices. record { tiles = shape.tiles; slices = slices }) listed)))) in

@@ -21,7 +21,7 @@ use Rattle.vx_pps.specs.declared.list.Listed.{Listed}
 use Rattle.vx_pps.specs.declared.tiles.Tiles.{Tiles}
 use Rattle.vx_pps.specs.Tiles.{IsGrid, across, block, column, down, row, tile, tile_behind}
 use Rattle.vx_pps.specs.Groups.{spells_height, strips}
-use Rattle.vx_pps.specs.Slices.{all_slices, below, goes_on, height_in_tiles, height_limits, list_from, may_be_cut, none_listed, number, slices_at, slices_in_tile, spells_delta, strips_from, tile_after, turn, turns_from, width_in_tiles}
+use Rattle.vx_pps.specs.Slices.{all_slices, below, goes_on, height_in_tiles, height_limits, list_from, may_be_cut, none_listed, golomb_form, slices_from_tile, slices_in_tile, spells_delta, strips_from, tile_after, turn, turns_from, width_in_tiles}
 use Rattle.vx_pps.proofs.Blocks.{place_in_grid, row_inside}
 use Rattle.vx_pps.proofs.Few.{strips_length}
 use Rattle.vx_pps.proofs.Ranges.{below_bound, golomb_range, height_fits, height_suffices}
@@ -142,7 +142,7 @@ pub column_inside : (g : Tiles) (t : ℕ) → IsGrid g → column g t < across g
 column_inside g t grid = omega (arith, grid.columns)
 
 -- the width and the height, less 1, stay in the picture
-number_end : (of bound : ℕ) {w : List ℤ} {n : ℕ} → Follows (number of (below bound)) w n → n < bound
+number_end : (of bound : ℕ) {w : List ℤ} {n : ℕ} → Follows (golomb_form of (below bound)) w n → n < bound
 number_end of bound (through {v} is to_end) = below_bound bound (natural v) (golomb_range (below bound) v is.code is.range)
 
 pub width_end : (g : Tiles) (t : ℕ) {w : List ℤ} {width : ℕ} → IsGrid g → Follows (width_in_tiles g t) w width → column g t + width < across g
@@ -167,7 +167,7 @@ height_end g deltas t before inside level follows =
     ]
 
 slices_end : (g : Tiles) (last t width height : ℕ) (slices : List Rect) {w : List ℤ} {all : List Rect} → IsGrid g → Rises g.columns → Rises g.rows → column g t + width < across g → row g t + height < down g
-    → Stood last slices → length slices ≤ last → Follows (slices_at g last t width height slices) w all → Stood last all
+    → Stood last slices → length slices ≤ last → Follows (slices_from_tile g last t width height slices) w all → Stood last all
 slices_end g last t width height slices grid rises_columns rises_rows in_columns in_rows stood room follows =
     elim (cases_Bool (may_be_cut width height (tile g t))) [
       | inl cut ↦ tile_end (tile g t) last slices (rw cut at follows) (block_some g t 1 1 grid rises_columns rises_rows (omega arith) (omega arith) (omega (arith, in_columns)) (omega (arith, in_rows))) stood room
@@ -215,7 +215,7 @@ turn_end g last deltas at {next} grid rises_columns rises_rows goes is follows =
     let more = and_parts (ltb (length at.slices) last) (ltb at.next (across g * down g)) goes in
     let one = parted (width_in_tiles g at.next) _ follows in
     let two = parted (height_in_tiles g deltas at.next at.before) _ one.second in
-    let three = parted (slices_at g last at.next one.mid two.mid at.slices) _ two.second in
+    let three = parted (slices_from_tile g last at.next one.mid two.mid at.slices) _ two.second in
     let four = parted (tile_after g (spells_delta deltas three.mid last) at.next one.mid two.mid) _ three.second in
     let in_columns = width_end g at.next grid one.first in
     let in_rows = height_end g deltas at.next at.before (ltb-true _ _ more.1) is.level two.first in

@@ -10,8 +10,8 @@ use Rattle.vx_layout.proofs.Corners.{first-begins, holder}
 use Rattle.vx_layout.proofs.Holding.{holds_from, holds_tells}
 use Rattle.vx_pps.specs.declared.tiles.Tiles.{Tiles}
 use Rattle.vx_pps.specs.Tiles.{across, block, column, down, row, tile, tile_behind}
-use Rattle.vx_pps.specs.Groups.{Ends, Follow, Group, IsList, Lies, Stands, cut, high_of, slices_of, slices_of_all, spells_height, start, strips, whole}
-use Rattle.vx_pps.specs.Laws.{FewFallIntoGroups}
+use Rattle.vx_pps.specs.Groups.{Ends, Follow, Group, IsList, Lies, GroupStands, cut, high_of, slices_of_group, slices_of_all, spells_height, first_tile_of, strips, whole}
+use Rattle.vx_pps.specs.laws.Lists.{FewFallIntoGroups}
 use Rattle.vx_pps.proofs.Blocks.{row_inside, same_index}
 use Rattle.vx_pps.proofs.Grouping.{first_bound, last_index, lists_fall}
 use Rattle.vx_pps.proofs.Runs.{corner_on, nth, ordered, part_of, same_slice}
@@ -102,7 +102,7 @@ two_follow g slices wide high u wider higher l same inside lies inside_u lies_u 
     let in_row : row g u < down g = row_inside g u inside_u in
     let zero_column : column g 0 ≡ 0 = mod-eq_of_lt (omega (arith, grid.columns)) in
     let zero_row : row g 0 ≡ 0 = div-eq_of_lt (omega (arith, grid.columns)) in
-    let first : Stands g false 0 (whole 0 wide high) = record { inside = inside; lies = lies; height = spelled_first g 0 0 high zero_column } in
+    let first : GroupStands g false 0 (whole 0 wide high) = record { inside = inside; lies = lies; height = spelled_first g 0 0 high zero_column } in
     let left : get_or g.columns (column g u) 0 ≡ (nth slices 1).x = ap (λ (r : Rect). r.x) is_s in
     let top : get_or g.rows (row g u) 0 ≡ (nth slices 1).y = ap (λ (r : Rect). r.y) is_s in
     let zero_left : get_or g.columns (column g 0) 0 ≡ 0 = ap (λ i. get_or g.columns i 0) zero_column ∙ first_bound g.columns l.columns in
@@ -138,11 +138,11 @@ strips_length t y [] = refl
 strips_length t y (height ∷ heights) = ap suc (strips_length t (y + height) heights)
 
 -- a group has a slice at least, and where it is cut two
-pub group_some : (g : Tiles) (group : Group) → Lies g group → 1 ≤ length (slices_of g group)
+pub group_some : (g : Tiles) (group : Group) → Lies g group → 1 ≤ length (slices_of_group g group)
 group_some g (whole t wide high) lies = omega arith
 group_some g (cut t heights) lies = omega (arith, strips_length (tile g t) (tile g t).y heights, lies.0)
 
-rest_some : (g : Tiles) (before : ℕ) (group : Group) (groups : List Group) → Follow g true before (group ∷ groups) → 1 ≤ length (slices_of g group)
+rest_some : (g : Tiles) (before : ℕ) (group : Group) (groups : List Group) → Follow g true before (group ∷ groups) → 1 ≤ length (slices_of_group g group)
 rest_some g before group [] follow = group_some g group follow.0.lies
 rest_some g before group (next ∷ more) follow = group_some g group follow.0.lies
 
@@ -151,22 +151,22 @@ cut_several g before t heights [] follow = follow.0.lies.0
 cut_several g before t heights (next ∷ more) follow = follow.0.lies.0
 
 -- the first group stands without tile indices too
-first_stands : (g : Tiles) (slices : List Rect) (group : Group) → IsList g slices → start group ≡ 0 → Stands g true 0 group → Stands g false 0 group
+first_stands : (g : Tiles) (slices : List Rect) (group : Group) → IsList g slices → first_tile_of group ≡ 0 → GroupStands g true 0 group → GroupStands g false 0 group
 first_stands g slices group l first s =
-    let zero_column : column g (start group) ≡ 0 = ap (column g) first ∙ mod-eq_of_lt (omega (arith, l.grid.columns)) in
-    record { inside = s.inside; lies = s.lies; height = spelled_first g (start group) 0 (high_of group) zero_column }
+    let zero_column : column g (first_tile_of group) ≡ 0 = ap (column g) first ∙ mod-eq_of_lt (omega (arith, l.grid.columns)) in
+    record { inside = s.inside; lies = s.lies; height = spelled_first g (first_tile_of group) 0 (high_of group) zero_column }
 
 -- groups that can be listed with tile indices, where their slices are one or two
-few_follow : (g : Tiles) (slices : List Rect) (group : Group) (groups : List Group) → IsList g slices → slices_of_all g (group ∷ groups) ≡ slices → length slices ≤ 2 → start group ≡ 0 → Follow g true 0 (group ∷ groups) → Follow g false 0 (group ∷ groups)
+few_follow : (g : Tiles) (slices : List Rect) (group : Group) (groups : List Group) → IsList g slices → slices_of_all g (group ∷ groups) ≡ slices → length slices ≤ 2 → first_tile_of group ≡ 0 → Follow g true 0 (group ∷ groups) → Follow g false 0 (group ∷ groups)
 few_follow g slices group [] l same few first follow = (first_stands g slices group l first follow.0, follow.1)
 few_follow g slices (cut t heights) (next ∷ more) l same few first follow =
-    absurd (omega (arith, ap length same, length-append (strips (tile g t) (tile g t).y heights) (slices_of_all g (next ∷ more)), strips_length (tile g t) (tile g t).y heights, follow.0.lies.0, length-append (slices_of g next) (slices_of_all g more), rest_some g 0 next more follow.2))
+    absurd (omega (arith, ap length same, length-append (strips (tile g t) (tile g t).y heights) (slices_of_all g (next ∷ more)), strips_length (tile g t) (tile g t).y heights, follow.0.lies.0, length-append (slices_of_group g next) (slices_of_all g more), rest_some g 0 next more follow.2))
 few_follow g slices (whole t wide high) (cut u heights ∷ more) l same few first follow =
     absurd (omega (arith, ap length same, length-append (strips (tile g u) (tile g u).y heights) (slices_of_all g more), strips_length (tile g u) (tile g u).y heights, cut_several g (high - 1) u heights more follow.2))
 few_follow g slices (whole t wide high) (whole u wider higher ∷ []) l same few first follow =
     rw first (two_follow g slices wide high u wider higher l (subst (λ k. block g k wide high ∷ block g u wider higher ∷ [] ≡ slices) first same) (subst (λ k. k < across g * down g) first follow.0.inside) (subst (λ k. Lies g (whole k wide high)) first follow.0.lies) follow.2.0.inside follow.2.0.lies follow.2.1)
 few_follow g slices (whole t wide high) (whole u wider higher ∷ (third ∷ more)) l same few first follow =
-    absurd (omega (arith, ap length same, length-append (slices_of g third) (slices_of_all g more), rest_some g (higher - 1) third more follow.2.2))
+    absurd (omega (arith, ap length same, length-append (slices_of_group g third) (slices_of_all g more), rest_some g (higher - 1) third more follow.2.2))
 
 pub few_fall : FewFallIntoGroups
 few_fall g slices l some few =

@@ -11,7 +11,7 @@ use Rattle.vx_layout.specs.Bounds.{Rises, last}
 use Rattle.vx_layout.proofs.Rising.{Contains-le-last, Rises-level, bound_at, bound_from}
 use Rattle.vx_pps.specs.declared.tiles.Tiles.{Tiles}
 use Rattle.vx_pps.specs.Tiles.{IsGrid, across, column, row, tile}
-use Rattle.vx_pps.specs.Groups.{Group, cut, high_of, slices_of, start, strips, whole, wide_of}
+use Rattle.vx_pps.specs.Groups.{Group, cut, high_of, slices_of_group, first_tile_of, strips, whole, wide_of}
 use Rattle.vx_pps.specs.inner.Found.{LiesInside}
 use Rattle.vx_pps.proofs.Blocks.{before_index, row_inside}
 use Rattle.vx_pps.proofs.Few.{group_some, strips_length}
@@ -30,8 +30,8 @@ between bs i b rises short above under inside =
 
 -- the tiles of a group lie in the picture
 pub record InPicture (g : Tiles) (group : Group) : Type 0 where
-  pub columns_in : column g (start group) + wide_of group < length g.columns
-  pub rows_in : row g (start group) + high_of group < length g.rows
+  pub columns_in : column g (first_tile_of group) + wide_of group < length g.columns
+  pub rows_in : row g (first_tile_of group) + high_of group < length g.rows
 
 pub in_picture : (g : Tiles) (group : Group) → IsGrid g → LiesInside g group → InPicture g group
 in_picture g (whole t wide high) grid is = record { columns_in = omega (arith, is.lies.2, grid.columns); rows_in = omega (arith, is.lies.3, grid.rows) }
@@ -43,11 +43,11 @@ in_picture g (cut t heights) grid is = record {
 -- ---- where a group begins
 
 pub record Begins (g : Tiles) (group : Group) (r : Rect) : Type 0 where
-  pub left : get_or g.columns (column g (start group)) 0 ≡ r.x
-  pub right : get_or g.columns (column g (start group) + wide_of group) 0 ≡ r.x + r.w
-  pub top : get_or g.rows (row g (start group)) 0 ≡ r.y
+  pub left : get_or g.columns (column g (first_tile_of group)) 0 ≡ r.x
+  pub right : get_or g.columns (column g (first_tile_of group) + wide_of group) 0 ≡ r.x + r.w
+  pub top : get_or g.rows (row g (first_tile_of group)) 0 ≡ r.y
 
-pub begins : (g : Tiles) (group : Group) (d : Rect) → IsGrid g → Rises g.columns → LiesInside g group → Begins g group (get_or (slices_of g group) 0 d)
+pub begins : (g : Tiles) (group : Group) (d : Rect) → IsGrid g → Rises g.columns → LiesInside g group → Begins g group (get_or (slices_of_group g group) 0 d)
 begins g (whole t wide high) d grid rises is =
     let level = Rises-level g.columns (column g t) (column g t + wide) rises (omega arith) ((in_picture g (whole t wide high) grid is).columns_in) in
     record { left = refl; right = omega (arith, level); top = refl }
@@ -99,11 +99,11 @@ strip_ends t y (h ∷ heights) (suc k) d short some =
 
 -- slice k of a group: the last one ends at a bound, and none before it
 pub record EndsGroup (g : Tiles) (group : Group) (k : ℕ) (r : Rect) : Type 0 where
-  pub inner : k + 1 < length (slices_of g group) → Contains g.rows (below r) → ⊥
-  pub outer : k + 1 ≡ length (slices_of g group) → below r ≡ get_or g.rows (row g (start group) + high_of group) 0
+  pub inner : k + 1 < length (slices_of_group g group) → Contains g.rows (below r) → ⊥
+  pub outer : k + 1 ≡ length (slices_of_group g group) → below r ≡ get_or g.rows (row g (first_tile_of group) + high_of group) 0
   pub low : below r < 2 ^ 32
 
-pub ends_group : (g : Tiles) (group : Group) (k : ℕ) (d : Rect) → IsGrid g → Rises g.rows → LiesInside g group → k < length (slices_of g group) → EndsGroup g group k (get_or (slices_of g group) k d)
+pub ends_group : (g : Tiles) (group : Group) (k : ℕ) (d : Rect) → IsGrid g → Rises g.rows → LiesInside g group → k < length (slices_of_group g group) → EndsGroup g group k (get_or (slices_of_group g group) k d)
 ends_group g (whole t wide high) zero d grid rises is short =
     let level = Rises-level g.rows (row g t) (row g t + high) rises (omega arith) ((in_picture g (whole t wide high) grid is).rows_in) in
     record { inner = λ more. absurd (omega (arith, more)); outer = λ end. omega (arith, level); low = omega (arith, level, grid.low (row g t + high)) }
@@ -133,38 +133,38 @@ pub none_yet : (g : Tiles) (slices : List Rect) → NoneEnds g slices 0
 none_yet g slices = record { before = λ k d low. absurd (omega arith) }
 
 -- not all slices of a group end elsewhere
-ended : (g : Tiles) (slices : List Rect) (i : ℕ) (r : Rect) (group : Group) (behind : List Rect) → IsGrid g → Rises g.rows → LiesInside g group → ((k : ℕ) (d : Rect) → k < length (slices_of g group) → get_or slices k d ≡ get_or (slices_of g group) k d) → NoneEnds g slices i → length (slices_of g group) - 1 < i → ⊥
+ended : (g : Tiles) (slices : List Rect) (i : ℕ) (r : Rect) (group : Group) (behind : List Rect) → IsGrid g → Rises g.rows → LiesInside g group → ((k : ℕ) (d : Rect) → k < length (slices_of_group g group) → get_or slices k d ≡ get_or (slices_of_group g group) k d) → NoneEnds g slices i → length (slices_of_group g group) - 1 < i → ⊥
 ended g slices i r group behind grid rises is own none over =
     let some = group_some g group is.lies in
-    let last_k : ℕ = length (slices_of g group) - 1 in
+    let last_k : ℕ = length (slices_of_group g group) - 1 in
     let e = ends_group g group last_k r grid rises is (omega (arith, some)) in
     let here = own last_k r (omega (arith, some)) in
     let inside = (in_picture g group grid is).rows_in in
     none.before last_k r over (subst (λ q. below q < 2 ^ 32) (sym here) e.low)
-    (bound_from g.rows (row g (start group) + high_of group) (below (get_or slices last_k r)) inside (ap below here ∙ e.outer (omega (arith, some))))
+    (bound_from g.rows (row g (first_tile_of group) + high_of group) (below (get_or slices last_k r)) inside (ap below here ∙ e.outer (omega (arith, some))))
 
 -- the first to end there is the last of a group that stands in front
-pub group_found : (g : Tiles) (slices : List Rect) (i : ℕ) (r : Rect) (group : Group) (behind : List Rect) → IsGrid g → Rises g.rows → LiesInside g group → slices ≡ slices_of g group ++ behind → NoneEnds g slices i → i < length slices → r ≡ get_or slices i r → (below r < 2 ^ 32 → Contains g.rows (below r))
-    → i + 1 ≡ length (slices_of g group)
+pub group_found : (g : Tiles) (slices : List Rect) (i : ℕ) (r : Rect) (group : Group) (behind : List Rect) → IsGrid g → Rises g.rows → LiesInside g group → slices ≡ slices_of_group g group ++ behind → NoneEnds g slices i → i < length slices → r ≡ get_or slices i r → (below r < 2 ^ 32 → Contains g.rows (below r))
+    → i + 1 ≡ length (slices_of_group g group)
 group_found g slices i r group behind grid rises is same none short at ends =
     let some = group_some g group is.lies in
-    let own : (k : ℕ) (d : Rect) → k < length (slices_of g group) → get_or slices k d ≡ get_or (slices_of g group) k d = λ k d low. ap (λ rs. get_or rs k d) same ∙ get_or_append_left (slices_of g group) behind d k low in
-    elim (cases_lt (i + 1) (length (slices_of g group))) [
+    let own : (k : ℕ) (d : Rect) → k < length (slices_of_group g group) → get_or slices k d ≡ get_or (slices_of_group g group) k d = λ k d low. ap (λ rs. get_or rs k d) same ∙ get_or_append_left (slices_of_group g group) behind d k low in
+    elim (cases_lt (i + 1) (length (slices_of_group g group))) [
       | inl more ↦
           let e = ends_group g group i r grid rises is (omega arith) in
-          let here : get_or (slices_of g group) i r ≡ r = sym (own i r (omega arith)) ∙ sym at in
+          let here : get_or (slices_of_group g group) i r ≡ r = sym (own i r (omega arith)) ∙ sym at in
           absurd (e.inner more (subst (λ q. Contains g.rows (below q)) (sym here) (ends (subst (λ q. below q < 2 ^ 32) here e.low))))
-      | inr past ↦ elim (cases_lt (length (slices_of g group)) (i + 1)) [
+      | inr past ↦ elim (cases_lt (length (slices_of_group g group)) (i + 1)) [
         | inr level ↦ omega arith
         | inl over ↦ absurd (ended g slices i r group behind grid rises is own none (omega (arith, some)))
       ]
     ]
 
-pub group_fits : (g : Tiles) (slices : List Rect) (r : Rect) (group : Group) (behind : List Rect) → IsGrid g → Rises g.rows → LiesInside g group → slices ≡ slices_of g group ++ behind → NoneEnds g slices (length slices) → ⊥
+pub group_fits : (g : Tiles) (slices : List Rect) (r : Rect) (group : Group) (behind : List Rect) → IsGrid g → Rises g.rows → LiesInside g group → slices ≡ slices_of_group g group ++ behind → NoneEnds g slices (length slices) → ⊥
 group_fits g slices r group behind grid rises is same none =
     let some = group_some g group is.lies in
-    let own : (k : ℕ) (d : Rect) → k < length (slices_of g group) → get_or slices k d ≡ get_or (slices_of g group) k d = λ k d low. ap (λ rs. get_or rs k d) same ∙ get_or_append_left (slices_of g group) behind d k low in
-    ended g slices (length slices) r group behind grid rises is own none (omega (arith, some, ap length same, length-append (slices_of g group) behind))
+    let own : (k : ℕ) (d : Rect) → k < length (slices_of_group g group) → get_or slices k d ≡ get_or (slices_of_group g group) k d = λ k d low. ap (λ rs. get_or rs k d) same ∙ get_or_append_left (slices_of_group g group) behind d k low in
+    ended g slices (length slices) r group behind grid rises is own none (omega (arith, some, ap length same, length-append (slices_of_group g group) behind))
 
 pub none_more : (g : Tiles) (slices : List Rect) (i : ℕ) (r : Rect) → r ≡ get_or slices i r → i < length slices → NoneEnds g slices i → (below r < 2 ^ 32 → Contains g.rows (below r) → ⊥) → NoneEnds g slices (i + 1)
 none_more g slices i r at short none here = record {
@@ -180,10 +180,10 @@ none_more g slices i r at short none here = record {
 -- ---- its tiles
 
 -- the slices of a group by their first and their last one
-pub group_edges : (g : Tiles) (group : Group) (slices : List Rect) (d : Rect) → IsGrid g → Rises g.columns → Rises g.rows → LiesInside g group → slices_of g group ≡ slices
-    → Begins g group (get_or slices 0 d) × (below (get_or slices (length slices - 1) d) ≡ get_or g.rows (row g (start group) + high_of group) 0) × (below (get_or slices (length slices - 1) d) < 2 ^ 32)
+pub group_edges : (g : Tiles) (group : Group) (slices : List Rect) (d : Rect) → IsGrid g → Rises g.columns → Rises g.rows → LiesInside g group → slices_of_group g group ≡ slices
+    → Begins g group (get_or slices 0 d) × (below (get_or slices (length slices - 1) d) ≡ get_or g.rows (row g (first_tile_of group) + high_of group) 0) × (below (get_or slices (length slices - 1) d) < 2 ^ 32)
 group_edges g group slices d grid rises_columns rises_rows is same =
     let some = group_some g group is.lies in
-    let end = ends_group g group (length (slices_of g group) - 1) d grid rises_rows is (omega (arith, some)) in
-    subst (λ rs. Begins g group (get_or rs 0 d) × (below (get_or rs (length rs - 1) d) ≡ get_or g.rows (row g (start group) + high_of group) 0) × (below (get_or rs (length rs - 1) d) < 2 ^ 32)) same
+    let end = ends_group g group (length (slices_of_group g group) - 1) d grid rises_rows is (omega (arith, some)) in
+    subst (λ rs. Begins g group (get_or rs 0 d) × (below (get_or rs (length rs - 1) d) ≡ get_or g.rows (row g (first_tile_of group) + high_of group) 0) × (below (get_or rs (length rs - 1) d) < 2 ^ 32)) same
     (begins g group d grid rises_columns is, end.outer (omega (arith, some)), end.low)

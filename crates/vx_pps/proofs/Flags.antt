@@ -16,7 +16,7 @@ use Rattle.vx_table.specs.Values.{Follows, to_end, through}
 use Rattle.vx_table.proofs.Again.{follows_again, sections_show}
 use Rattle.vx_table.proofs.Chains.{structure_depends_only_on}
 use Rattle.vx_table.proofs.Groups.{agree_given}
-use Rattle.vx_pps.specs.Written.{item}
+use Rattle.vx_pps.specs.Written.{only_item}
 use Rattle.vx_pps.proofs.Alike.{kept_alike}
 use Rattle.vx_pps.proofs.Testing.{ReadsOnly, dbf_given, dbf_info, dbf_info_read, header_info, header_info_read, info_given}
 
@@ -29,7 +29,7 @@ flag_is (negsuc n) code = absurd code
 
 -- whether the deblocking filter's parameters stand in picture headers: where it can't be overridden they don't
 pub record DbfKept (n : ℕ) (items kept : List Item) : Type 0 where
-  pub kept_is : kept ≡ item pps.pps_dbf_info_in_ph_flag (pos (number items pps.pps_dbf_info_in_ph_flag))
+  pub kept_is : kept ≡ only_item pps.pps_dbf_info_in_ph_flag (pos (number items pps.pps_dbf_info_in_ph_flag))
   pub none : n ≡ 0 → number items pps.pps_dbf_info_in_ph_flag ≡ 0
 
 dbf_at : ℕ → ℕ → List ℕ
@@ -38,17 +38,17 @@ dbf_at p n = slice_set (slice_set fresh pps.pps_no_pic_partition_flag p) pps.pps
 dbf_here : (p n : ℕ) {w : List ℤ} {last : List ℕ} → p < 2 → n < 2 → Follows (sections_form dbf_info (dbf_at p n)) w last
     → DbfKept n (items_along (sections_form dbf_info (dbf_at p n)) w) (kept_along (sections_form dbf_info (dbf_at p n)) w)
 unfolding dbf_at fresh sections_form form_of part one_field after present turns value natural coding_at limits_at has_value HasCode stands_for_field item_of
-dbf_here zero zero low few (through {v} is to_end) = record { kept_is = ap (item pps.pps_dbf_info_in_ph_flag) is.code; none = λ e. refl }
-dbf_here zero (suc zero) low few (through {v} is to_end) = record { kept_is = ap (item pps.pps_dbf_info_in_ph_flag) (sym (flag_is v is.code)); none = λ e. absurd (omega (arith, e)) }
-dbf_here (suc zero) zero low few (through {v} is to_end) = record { kept_is = ap (item pps.pps_dbf_info_in_ph_flag) is.code; none = λ e. refl }
-dbf_here (suc zero) (suc zero) low few (through {v} is to_end) = record { kept_is = ap (item pps.pps_dbf_info_in_ph_flag) is.code; none = λ e. refl }
+dbf_here zero zero low few (through {v} is to_end) = record { kept_is = ap (only_item pps.pps_dbf_info_in_ph_flag) is.code; none = λ e. refl }
+dbf_here zero (suc zero) low few (through {v} is to_end) = record { kept_is = ap (only_item pps.pps_dbf_info_in_ph_flag) (sym (flag_is v is.code)); none = λ e. absurd (omega (arith, e)) }
+dbf_here (suc zero) zero low few (through {v} is to_end) = record { kept_is = ap (only_item pps.pps_dbf_info_in_ph_flag) is.code; none = λ e. refl }
+dbf_here (suc zero) (suc zero) low few (through {v} is to_end) = record { kept_is = ap (only_item pps.pps_dbf_info_in_ph_flag) is.code; none = λ e. refl }
 dbf_here (suc (suc p)) n low few on = absurd (omega (arith, low))
 dbf_here zero (suc (suc n)) low few on = absurd (omega (arith, few))
 dbf_here (suc zero) (suc (suc n)) low few on = absurd (omega (arith, few))
 
 -- what else stands there: weights where there are some, and lists stand there
 abbrev pub flag_items : ℕ → ℕ → ℕ → List Item
-flag_items lists sao weights = item pps.pps_rpl_info_in_ph_flag (pos lists) ++ (item pps.pps_sao_info_in_ph_flag (pos sao) ++ item pps.pps_wp_info_in_ph_flag (pos weights))
+flag_items lists sao weights = only_item pps.pps_rpl_info_in_ph_flag (pos lists) ++ (only_item pps.pps_sao_info_in_ph_flag (pos sao) ++ only_item pps.pps_wp_info_in_ph_flag (pos weights))
 
 pub record InfoKept (a b : ℕ) (items kept : List Item) : Type 0 where
   pub kept_is : kept ≡ flag_items (number items pps.pps_rpl_info_in_ph_flag) (number items pps.pps_sao_info_in_ph_flag) (number items pps.pps_wp_info_in_ph_flag)
@@ -58,11 +58,11 @@ info_at : ℕ → ℕ → ℕ → List ℕ
 info_at p a b = slice_set (slice_set (slice_set fresh pps.pps_no_pic_partition_flag p) pps.pps_weighted_pred_flag a) pps.pps_weighted_bipred_flag b
 
 three : (u v w x y z : ℤ) → u ≡ x → v ≡ y → w ≡ z
-    → item pps.pps_rpl_info_in_ph_flag u ++ (item pps.pps_sao_info_in_ph_flag v ++ item pps.pps_wp_info_in_ph_flag w) ≡ item pps.pps_rpl_info_in_ph_flag x ++ (item pps.pps_sao_info_in_ph_flag y ++ item pps.pps_wp_info_in_ph_flag z)
+    → only_item pps.pps_rpl_info_in_ph_flag u ++ (only_item pps.pps_sao_info_in_ph_flag v ++ only_item pps.pps_wp_info_in_ph_flag w) ≡ only_item pps.pps_rpl_info_in_ph_flag x ++ (only_item pps.pps_sao_info_in_ph_flag y ++ only_item pps.pps_wp_info_in_ph_flag z)
 three u v w x y z e f g =
-    ap (λ n. item pps.pps_rpl_info_in_ph_flag n ++ (item pps.pps_sao_info_in_ph_flag v ++ item pps.pps_wp_info_in_ph_flag w)) e
-    ∙ ap (λ n. item pps.pps_rpl_info_in_ph_flag x ++ (item pps.pps_sao_info_in_ph_flag n ++ item pps.pps_wp_info_in_ph_flag w)) f
-    ∙ ap (λ n. item pps.pps_rpl_info_in_ph_flag x ++ (item pps.pps_sao_info_in_ph_flag y ++ item pps.pps_wp_info_in_ph_flag n)) g
+    ap (λ n. only_item pps.pps_rpl_info_in_ph_flag n ++ (only_item pps.pps_sao_info_in_ph_flag v ++ only_item pps.pps_wp_info_in_ph_flag w)) e
+    ∙ ap (λ n. only_item pps.pps_rpl_info_in_ph_flag x ++ (only_item pps.pps_sao_info_in_ph_flag n ++ only_item pps.pps_wp_info_in_ph_flag w)) f
+    ∙ ap (λ n. only_item pps.pps_rpl_info_in_ph_flag x ++ (only_item pps.pps_sao_info_in_ph_flag y ++ only_item pps.pps_wp_info_in_ph_flag n)) g
 
 info_here : (p a b : ℕ) {w : List ℤ} {last : List ℕ} → p < 2 → a < 2 → b < 2 → Follows (sections_form header_info (info_at p a b)) w last
     → InfoKept a b (items_along (sections_form header_info (info_at p a b)) w) (kept_along (sections_form header_info (info_at p a b)) w)

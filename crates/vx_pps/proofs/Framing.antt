@@ -25,9 +25,10 @@ use Rattle.vx_table.proofs.Rewrites.{leaves_agree, sections_leave}
 use Rattle.vx_table.proofs.Starred.{structure_keeps_only}
 use Rattle.vx_pps.specs.declared.partition.Partition.{Partition}
 use Rattle.vx_pps.specs.declared.shape.PpsShape.{PpsShape}
-use Rattle.vx_pps.specs.Pps.{front, kept_of, tools}
-use Rattle.vx_pps.specs.Reshaped.{FrameKeeps, frame_tool_items, front_items, has_weights, where_so, whole_flag}
-use Rattle.vx_pps.specs.Written.{item}
+use Rattle.vx_pps.specs.Pps.{before_tiles, kept_pps_items, after_slices}
+use Rattle.vx_pps.specs.Reshaped.{FrameKeeps, frame_tool_items, front_items, has_weights, whole_flag}
+use Rattle.vx_table.specs.Rewritten.{where_so}
+use Rattle.vx_pps.specs.Written.{only_item}
 use Rattle.vx_pps.proofs.Cutting.{Clear, Parts, clear_from, cut_items, cut_parts, division_unshown, flag_below, none_shown, number_by_others, numbers_told, override_told, sections_unshown}
 use Rattle.vx_pps.proofs.Flags.{flag_items, dbf_kept, info_kept}
 use Rattle.vx_pps.proofs.Giving.{natural_is}
@@ -84,16 +85,16 @@ flags_clear : Clear dbf_flag × Clear info_flags
 flags_clear = (clear_from (pps.pps_dbf_info_in_ph_flag ∷ []) refl, clear_from (pps.pps_rpl_info_in_ph_flag ∷ pps.pps_sao_info_in_ph_flag ∷ pps.pps_wp_info_in_ph_flag ∷ []) refl)
 
 module _ {items : List Item} {end_ : Partition} (p : Parts items end_) where
-  pub from_front : (set : List ℕ) → Clear set → sections_pass (hides_row set) tools ≡ true → shown_items set items ≡ shown_items set (items_along (sections_form front fresh) p.first.values)
+  pub from_front : (set : List ℕ) → Clear set → sections_pass (hides_row set) after_slices ≡ true → shown_items set items ≡ shown_items set (items_along (sections_form before_tiles fresh) p.first.values)
   from_front set clear hides =
       let none_division = (division_unshown set p.scope clear p.second).0 in
-      let none_tools : shown_items set p.tool_items ≡ [] = ap (shown_items set) (sym p.third.given) ∙ none_shown set (sections_unshown set tools p.scope hides) p.third.follows in
+      let none_tools : shown_items set p.tool_items ≡ [] = ap (shown_items set) (sym p.third.given) ∙ none_shown set (sections_unshown set after_slices p.scope hides) p.third.follows in
       ap (shown_items set) p.all ∙ unshown_behind set p.front_items (p.division ++ p.tool_items) (unshown_first set p.division p.tool_items none_division ∙ none_tools) ∙ ap (shown_items set) (sym p.first.given)
 
-  from_tools : (set : List ℕ) → Clear set → sections_pass (hides_row set) front ≡ true → shown_items set items ≡ shown_items set (items_along (sections_form tools p.scope) p.third.values)
+  from_tools : (set : List ℕ) → Clear set → sections_pass (hides_row set) before_tiles ≡ true → shown_items set items ≡ shown_items set (items_along (sections_form after_slices p.scope) p.third.values)
   from_tools set clear hides =
       let none_division = (division_unshown set p.scope clear p.second).0 in
-      let none_front : shown_items set p.front_items ≡ [] = ap (shown_items set) (sym p.first.given) ∙ none_shown set (sections_unshown set front fresh hides) p.first.follows in
+      let none_front : shown_items set p.front_items ≡ [] = ap (shown_items set) (sym p.first.given) ∙ none_shown set (sections_unshown set before_tiles fresh hides) p.first.follows in
       ap (shown_items set) p.all ∙ unshown_first set p.front_items (p.division ++ p.tool_items) none_front ∙ unshown_first set p.division p.tool_items none_division ∙ ap (shown_items set) (sym p.third.given)
 
   -- the tools cut before and behind each of the two tables
@@ -109,7 +110,7 @@ module _ {items : List Item} {end_ : Partition} (p : Parts items end_) where
   pub at_end : Parted (sections_form header_info at_info.mid) (sections_form end) at_info.others p.last
   at_end = cut header_info end at_info.mid at_info.second
 
-  pub kept_runs : kept_along (sections_form tools p.scope) p.third.values
+  pub kept_runs : kept_along (sections_form after_slices p.scope) p.third.values
       ≡ kept_along (sections_form before_dbf p.scope) at_dbf.front ++ (kept_along (sections_form dbf_info at_dbf.mid) at_offsets.front ++ (kept_along (sections_form dbf_offsets at_offsets.mid) at_info.front
       ++ (kept_along (sections_form header_info at_info.mid) at_end.front ++ kept_along (sections_form end at_end.mid) at_end.others)))
   kept_runs =
@@ -119,17 +120,17 @@ module _ {items : List Item} {end_ : Partition} (p : Parts items end_) where
       ∙ ap (λ k. kept_along (sections_form dbf_offsets at_offsets.mid) at_info.front ++ k) (both_kept header_info end at_info.mid at_end)))
 
   -- a set's shown items, by the run that has them
-  pub from_early : (set : List ℕ) → Clear set → IsAside set front → IsAside set from_dbf → shown_items set items ≡ shown_items set (items_along (sections_form before_dbf p.scope) at_dbf.front)
+  pub from_early : (set : List ℕ) → Clear set → IsAside set before_tiles → IsAside set from_dbf → shown_items set items ≡ shown_items set (items_along (sections_form before_dbf p.scope) at_dbf.front)
   from_early set clear a b = from_tools set clear a ∙ shows_first before_dbf from_dbf p.scope at_dbf set b
 
-  from_table : (set : List ℕ) → Clear set → IsAside set front → IsAside set before_dbf → shown_items set items ≡ shown_items set (items_along (sections_form from_dbf at_dbf.mid) at_dbf.others)
+  from_table : (set : List ℕ) → Clear set → IsAside set before_tiles → IsAside set before_dbf → shown_items set items ≡ shown_items set (items_along (sections_form from_dbf at_dbf.mid) at_dbf.others)
   from_table set clear a b = from_tools set clear a ∙ shows_more before_dbf from_dbf p.scope at_dbf set b
 
-  pub from_rest : (set : List ℕ) → Clear set → IsAside set front → IsAside set before_dbf → IsAside set dbf_info
+  pub from_rest : (set : List ℕ) → Clear set → IsAside set before_tiles → IsAside set before_dbf → IsAside set dbf_info
       → shown_items set items ≡ shown_items set (items_along (sections_form (dbf_offsets ++ from_info) at_offsets.mid) at_offsets.others)
   from_rest set clear a b c = from_table set clear a b ∙ shows_more dbf_info (dbf_offsets ++ from_info) at_dbf.mid at_offsets set c
 
-  pub from_headers : (set : List ℕ) → Clear set → IsAside set front → IsAside set before_dbf → IsAside set dbf_info → IsAside set dbf_offsets
+  pub from_headers : (set : List ℕ) → Clear set → IsAside set before_tiles → IsAside set before_dbf → IsAside set dbf_info → IsAside set dbf_offsets
       → shown_items set items ≡ shown_items set (items_along (sections_form from_info at_info.mid) at_info.others)
   from_headers set clear a b c d = from_rest set clear a b c ∙ shows_more dbf_offsets from_info at_offsets.mid at_info set d
 
@@ -153,8 +154,8 @@ module _ {items : List Item} {end_ : Partition} (p : Parts items end_) where
   -- ---- and the scopes that the tables read
 
   all_long : length fresh ≡ length p.last
-  all_long = (leaves_agree override (sections_form front) fresh p.first.values p.scope (sections_leave override front override_stands.0) p.first.follows).size
-      ∙ (leaves_agree early (sections_form tools) p.scope p.third.values p.last (sections_leave early tools tools_early) p.third.follows).size
+  all_long = (leaves_agree override (sections_form before_tiles) fresh p.first.values p.scope (sections_leave override before_tiles override_stands.0) p.first.follows).size
+      ∙ (leaves_agree early (sections_form after_slices) p.scope p.third.values p.last (sections_leave early after_slices tools_early) p.third.follows).size
 
   dbf_scope : Agree numbered at_dbf.mid p.last
   dbf_scope = leaves_agree numbered (sections_form from_dbf) at_dbf.mid at_dbf.others p.last (sections_leave numbered from_dbf dbf_stands) at_dbf.second
@@ -162,7 +163,7 @@ module _ {items : List Item} {end_ : Partition} (p : Parts items end_) where
   info_scope : Agree numbered at_info.mid p.last
   info_scope = leaves_agree numbered (sections_form from_info) at_info.mid at_info.others p.last (sections_leave numbered from_info info_stands) at_info.second
 
-  pub dbf_keeps : (kept_along (sections_form dbf_info at_dbf.mid) at_offsets.front ≡ item pps.pps_dbf_info_in_ph_flag (pos (number items pps.pps_dbf_info_in_ph_flag)))
+  pub dbf_keeps : (kept_along (sections_form dbf_info at_dbf.mid) at_offsets.front ≡ only_item pps.pps_dbf_info_in_ph_flag (pos (number items pps.pps_dbf_info_in_ph_flag)))
       × (number items pps.pps_deblocking_filter_override_enabled_flag ≡ 0 → number items pps.pps_dbf_info_in_ph_flag ≡ 0)
   unfolding fresh
   dbf_keeps =
@@ -171,7 +172,7 @@ module _ {items : List Item} {end_ : Partition} (p : Parts items end_) where
       (leaves_agree override (sections_form from_dbf) at_dbf.mid at_dbf.others p.last (sections_leave override from_dbf override_stands.2) at_dbf.second).same pps.pps_deblocking_filter_override_enabled_flag refl ∙ override_told p in
       let k = dbf_kept at_dbf.mid (all_long ∙ sym dbf_scope.size) (subst (λ n. n < 2) (sym whole_is) (flag_below p pps.pps_no_pic_partition_flag flags_are.0 (λ low high. omega (arith, low))))
       (subst (λ n. n < 2) (sym over) (flag_below p pps.pps_deblocking_filter_override_enabled_flag flags_are.3 (λ low high. omega (arith, high)))) at_offsets.first in
-      (k.kept_is ∙ ap (λ n. item pps.pps_dbf_info_in_ph_flag (pos n)) (sym dbf_number), λ none. dbf_number ∙ k.none (over ∙ none))
+      (k.kept_is ∙ ap (λ n. only_item pps.pps_dbf_info_in_ph_flag (pos n)) (sym dbf_number), λ none. dbf_number ∙ k.none (over ∙ none))
 
   pub info_keeps : (kept_along (sections_form header_info at_info.mid) at_end.front ≡ flag_items (number items pps.pps_rpl_info_in_ph_flag) (number items pps.pps_sao_info_in_ph_flag) (number items pps.pps_wp_info_in_ph_flag))
       × (has_weights items ≡ false → number items pps.pps_wp_info_in_ph_flag ≡ 0)
@@ -214,10 +215,10 @@ module _ {xs ys : List Item} {c d : Partition} (p : Parts xs c) (q : Parts ys d)
       let inside : Inside (set_of fields) (names true) = inside_all fresh (names true) fields (inside_nothing (names true)) is in
       sym (shown_of_shown (set_of fields) (names true) xs inside) ∙ ap (shown_items (set_of fields)) same ∙ shown_of_shown (set_of fields) (names true) ys inside
 
-  front_same : kept_along (sections_form front fresh) p.first.values ≡ kept_along (sections_form front fresh) q.first.values
+  front_same : kept_along (sections_form before_tiles fresh) p.first.values ≡ kept_along (sections_form before_tiles fresh) q.first.values
   front_same =
       let set : List ℕ = set_of front_fields in
-      run_keeps front_fields front fresh fresh front_run p.first.follows q.first.follows (sym (from_front p set runs_clear.0 front_aside) ∙ less front_fields front_run.0 ∙ from_front q set runs_clear.0 front_aside)
+      run_keeps front_fields before_tiles fresh fresh front_run p.first.follows q.first.follows (sym (from_front p set runs_clear.0 front_aside) ∙ less front_fields front_run.0 ∙ from_front q set runs_clear.0 front_aside)
 
   early_same : kept_along (sections_form before_dbf p.scope) (at_dbf p).front ≡ kept_along (sections_form before_dbf q.scope) (at_dbf q).front
   early_same =
@@ -243,16 +244,16 @@ module _ {xs ys : List Item} {c d : Partition} (p : Parts xs c) (q : Parts ys d)
 
   -- sets with what a frame takes over, and the four flags, keep the same
   same_kept : number xs pps.pps_dbf_info_in_ph_flag ≡ number ys pps.pps_dbf_info_in_ph_flag → number xs pps.pps_rpl_info_in_ph_flag ≡ number ys pps.pps_rpl_info_in_ph_flag
-      → number xs pps.pps_sao_info_in_ph_flag ≡ number ys pps.pps_sao_info_in_ph_flag → number xs pps.pps_wp_info_in_ph_flag ≡ number ys pps.pps_wp_info_in_ph_flag → kept_of xs ≡ kept_of ys
+      → number xs pps.pps_sao_info_in_ph_flag ≡ number ys pps.pps_sao_info_in_ph_flag → number xs pps.pps_wp_info_in_ph_flag ≡ number ys pps.pps_wp_info_in_ph_flag → kept_pps_items xs ≡ kept_pps_items ys
   same_kept dbf lists sao weights =
       let a = early_same in
       let b : kept_along (sections_form dbf_info (at_dbf p).mid) (at_offsets p).front ≡ kept_along (sections_form dbf_info (at_dbf q).mid) (at_offsets q).front =
-      (dbf_keeps p).0 ∙ ap (λ n. item pps.pps_dbf_info_in_ph_flag (pos n)) dbf ∙ sym (dbf_keeps q).0 in
+      (dbf_keeps p).0 ∙ ap (λ n. only_item pps.pps_dbf_info_in_ph_flag (pos n)) dbf ∙ sym (dbf_keeps q).0 in
       let e : kept_along (sections_form header_info (at_info p).mid) (at_end p).front ≡ kept_along (sections_form header_info (at_info q).mid) (at_end q).front =
       (info_keeps p).0 ∙ ap (λ n. flag_items n (number xs pps.pps_sao_info_in_ph_flag) (number xs pps.pps_wp_info_in_ph_flag)) lists
       ∙ ap (λ n. flag_items (number ys pps.pps_rpl_info_in_ph_flag) n (number xs pps.pps_wp_info_in_ph_flag)) sao
       ∙ ap (λ n. flag_items (number ys pps.pps_rpl_info_in_ph_flag) (number ys pps.pps_sao_info_in_ph_flag) n) weights ∙ sym (info_keeps q).0 in
-      let kept_tools : kept_along (sections_form tools p.scope) p.third.values ≡ kept_along (sections_form tools q.scope) q.third.values =
+      let kept_tools : kept_along (sections_form after_slices p.scope) p.third.values ≡ kept_along (sections_form after_slices q.scope) q.third.values =
       kept_runs p
       ∙ ap (λ k. k ++ (kept_along (sections_form dbf_info (at_dbf p).mid) (at_offsets p).front ++ (kept_along (sections_form dbf_offsets (at_offsets p).mid) (at_info p).front
       ++ (kept_along (sections_form header_info (at_info p).mid) (at_end p).front ++ kept_along (sections_form end (at_end p).mid) (at_end p).others)))) a
@@ -264,8 +265,8 @@ module _ {xs ys : List Item} {c d : Partition} (p : Parts xs c) (q : Parts ys d)
       ∙ ap (λ k. kept_along (sections_form dbf_offsets (at_offsets q).mid) (at_info q).front ++ k)
       (ap (λ k. k ++ kept_along (sections_form end (at_end p).mid) (at_end p).others) e ∙ ap (λ k. kept_along (sections_form header_info (at_info q).mid) (at_end q).front ++ k) end_same)))
       ∙ sym (kept_runs q) in
-      ap kept_of p.all ∙ kept_put p.first p.second p.third ∙ ap (λ k. k ++ kept_along (sections_form tools p.scope) p.third.values) front_same
-      ∙ ap (λ k. kept_along (sections_form front fresh) q.first.values ++ k) kept_tools ∙ sym (ap kept_of q.all ∙ kept_put q.first q.second q.third)
+      ap kept_pps_items p.all ∙ kept_put p.first p.second p.third ∙ ap (λ k. k ++ kept_along (sections_form after_slices p.scope) p.third.values) front_same
+      ∙ ap (λ k. kept_along (sections_form before_tiles fresh) q.first.values ++ k) kept_tools ∙ sym (ap kept_pps_items q.all ∙ kept_put q.first q.second q.third)
 
 -- ---- the numbers that a frame's set states
 
@@ -273,25 +274,25 @@ moved : (of : ℕ) (x a b : List Item) → number (x ++ (a ++ b)) of ≡ number 
 moved of x a b = ap (λ xs. number xs of) (sym (append_assoc x a b))
 
 -- the items behind one of them are of later fields
-none_weights : (of : ℕ) (weighted : Bool) (weights : ℤ) → of < 465 → NoneOf of (where_so weighted (item pps.pps_wp_info_in_ph_flag weights) ++ item pps.pps_qp_delta_info_in_ph_flag (pos 0))
+none_weights : (of : ℕ) (weighted : Bool) (weights : ℤ) → of < 465 → NoneOf of (where_so weighted (only_item pps.pps_wp_info_in_ph_flag weights) ++ only_item pps.pps_qp_delta_info_in_ph_flag (pos 0))
 none_weights of weighted weights low =
-    none_where of pps.pps_wp_info_in_ph_flag weights weighted (item pps.pps_qp_delta_info_in_ph_flag (pos 0)) low (no_item of pps.pps_qp_delta_info_in_ph_flag (pos 0) [] (omega (arith, low)) (no_more of))
+    none_where of pps.pps_wp_info_in_ph_flag weights weighted (only_item pps.pps_qp_delta_info_in_ph_flag (pos 0)) low (no_item of pps.pps_qp_delta_info_in_ph_flag (pos 0) [] (omega (arith, low)) (no_more of))
 
 abbrev behind_sao : Bool → ℤ → List Item
-behind_sao weighted weights = item pps.pps_alf_info_in_ph_flag (pos 0) ++ (where_so weighted (item pps.pps_wp_info_in_ph_flag weights) ++ item pps.pps_qp_delta_info_in_ph_flag (pos 0))
+behind_sao weighted weights = only_item pps.pps_alf_info_in_ph_flag (pos 0) ++ (where_so weighted (only_item pps.pps_wp_info_in_ph_flag weights) ++ only_item pps.pps_qp_delta_info_in_ph_flag (pos 0))
 
 none_alf : (of : ℕ) (weighted : Bool) (weights : ℤ) → of < 464 → NoneOf of (behind_sao weighted weights)
 none_alf of weighted weights low =
-    no_item of pps.pps_alf_info_in_ph_flag (pos 0) (where_so weighted (item pps.pps_wp_info_in_ph_flag weights) ++ item pps.pps_qp_delta_info_in_ph_flag (pos 0)) low (none_weights of weighted weights (omega (arith, low)))
+    no_item of pps.pps_alf_info_in_ph_flag (pos 0) (where_so weighted (only_item pps.pps_wp_info_in_ph_flag weights) ++ only_item pps.pps_qp_delta_info_in_ph_flag (pos 0)) low (none_weights of weighted weights (omega (arith, low)))
 
 abbrev behind_lists : Bool → ℤ → ℤ → List Item
-behind_lists weighted sao weights = item pps.pps_sao_info_in_ph_flag sao ++ behind_sao weighted weights
+behind_lists weighted sao weights = only_item pps.pps_sao_info_in_ph_flag sao ++ behind_sao weighted weights
 
 none_sao : (of : ℕ) (weighted : Bool) (sao weights : ℤ) → of < 463 → NoneOf of (behind_lists weighted sao weights)
 none_sao of weighted sao weights low = no_item of pps.pps_sao_info_in_ph_flag sao (behind_sao weighted weights) low (none_alf of weighted weights (omega (arith, low)))
 
 abbrev all_info : Bool → ℤ → ℤ → ℤ → List Item
-all_info weighted lists sao weights = item pps.pps_rpl_info_in_ph_flag lists ++ behind_lists weighted sao weights
+all_info weighted lists sao weights = only_item pps.pps_rpl_info_in_ph_flag lists ++ behind_lists weighted sao weights
 
 none_lists : (of : ℕ) (weighted : Bool) (lists sao weights : ℤ) → of < 462 → NoneOf of (all_info weighted lists sao weights)
 none_lists of weighted lists sao weights low = no_item of pps.pps_rpl_info_in_ph_flag lists (behind_lists weighted sao weights) low (none_sao of weighted sao weights (omega (arith, low)))
@@ -304,17 +305,17 @@ module _ (x : List Item) (weighted : Bool) (lists sao weights : ℤ) where
   sao_stated : number (x ++ all_info weighted lists sao weights) pps.pps_sao_info_in_ph_flag ≡ natural sao
   sao_stated =
       let of : ℕ = pps.pps_sao_info_in_ph_flag in
-      let y : List Item = x ++ item pps.pps_rpl_info_in_ph_flag lists in
-      moved of x (item pps.pps_rpl_info_in_ph_flag lists) (behind_lists weighted sao weights) ∙ number_of_last of sao y (behind_sao weighted weights) (omega arith) (none_alf of weighted weights (omega arith))
+      let y : List Item = x ++ only_item pps.pps_rpl_info_in_ph_flag lists in
+      moved of x (only_item pps.pps_rpl_info_in_ph_flag lists) (behind_lists weighted sao weights) ∙ number_of_last of sao y (behind_sao weighted weights) (omega arith) (none_alf of weighted weights (omega arith))
 
 weights_stated : (x : List Item) (lists sao weights : ℤ) → number (x ++ all_info true lists sao weights) pps.pps_wp_info_in_ph_flag ≡ natural weights
 weights_stated x lists sao weights =
     let of : ℕ = pps.pps_wp_info_in_ph_flag in
-    let a : List Item = item pps.pps_rpl_info_in_ph_flag lists in
-    let b : List Item = item pps.pps_sao_info_in_ph_flag sao in
-    let e : List Item = item pps.pps_alf_info_in_ph_flag (pos 0) in
-    let behind : List Item = item pps.pps_qp_delta_info_in_ph_flag (pos 0) in
-    moved of x a (behind_lists true sao weights) ∙ moved of (x ++ a) b (behind_sao true weights) ∙ moved of ((x ++ a) ++ b) e (item of weights ++ behind)
+    let a : List Item = only_item pps.pps_rpl_info_in_ph_flag lists in
+    let b : List Item = only_item pps.pps_sao_info_in_ph_flag sao in
+    let e : List Item = only_item pps.pps_alf_info_in_ph_flag (pos 0) in
+    let behind : List Item = only_item pps.pps_qp_delta_info_in_ph_flag (pos 0) in
+    moved of x a (behind_lists true sao weights) ∙ moved of (x ++ a) b (behind_sao true weights) ∙ moved of ((x ++ a) ++ b) e (only_item of weights ++ behind)
     ∙ number_of_last of weights (((x ++ a) ++ b) ++ e) behind (omega arith) (no_item of pps.pps_qp_delta_info_in_ph_flag (pos 0) [] (omega arith) (no_more of))
 
 -- all that is stated of a frame's tools, behind whatever
@@ -322,19 +323,19 @@ abbrev is_overridden : List Item → Bool
 is_overridden source = is_set (number source pps.pps_deblocking_filter_override_enabled_flag)
 
 abbrev stated_tools : ℤ → Bool → ℤ → Bool → ℤ → ℤ → ℤ → List Item
-stated_tools qp over dbf weighted lists sao weights = item pps.pps_init_qp_minus26 qp ++ (where_so over (item pps.pps_dbf_info_in_ph_flag dbf) ++ all_info weighted lists sao weights)
+stated_tools qp over dbf weighted lists sao weights = only_item pps.pps_init_qp_minus26 qp ++ (where_so over (only_item pps.pps_dbf_info_in_ph_flag dbf) ++ all_info weighted lists sao weights)
 
 module _ (x : List Item) (qp : ℤ) (over : Bool) (dbf : ℤ) (weighted : Bool) (lists sao weights : ℤ) where
   info_behind : (of : ℕ) → number (x ++ stated_tools qp over dbf weighted lists sao weights) of
-      ≡ number (((x ++ item pps.pps_init_qp_minus26 qp) ++ where_so over (item pps.pps_dbf_info_in_ph_flag dbf)) ++ all_info weighted lists sao weights) of
-  info_behind of = moved of x (item pps.pps_init_qp_minus26 qp) (where_so over (item pps.pps_dbf_info_in_ph_flag dbf) ++ all_info weighted lists sao weights)
-      ∙ moved of (x ++ item pps.pps_init_qp_minus26 qp) (where_so over (item pps.pps_dbf_info_in_ph_flag dbf)) (all_info weighted lists sao weights)
+      ≡ number (((x ++ only_item pps.pps_init_qp_minus26 qp) ++ where_so over (only_item pps.pps_dbf_info_in_ph_flag dbf)) ++ all_info weighted lists sao weights) of
+  info_behind of = moved of x (only_item pps.pps_init_qp_minus26 qp) (where_so over (only_item pps.pps_dbf_info_in_ph_flag dbf) ++ all_info weighted lists sao weights)
+      ∙ moved of (x ++ only_item pps.pps_init_qp_minus26 qp) (where_so over (only_item pps.pps_dbf_info_in_ph_flag dbf)) (all_info weighted lists sao weights)
 
 dbf_stated : (x : List Item) (qp dbf : ℤ) (weighted : Bool) (lists sao weights : ℤ) → number (x ++ stated_tools qp true dbf weighted lists sao weights) pps.pps_dbf_info_in_ph_flag ≡ natural dbf
 dbf_stated x qp dbf weighted lists sao weights =
     let of : ℕ = pps.pps_dbf_info_in_ph_flag in
-    moved of x (item pps.pps_init_qp_minus26 qp) (item of dbf ++ all_info weighted lists sao weights)
-    ∙ number_of_last of dbf (x ++ item pps.pps_init_qp_minus26 qp) (all_info weighted lists sao weights) (omega arith) (none_lists of weighted lists sao weights (omega arith))
+    moved of x (only_item pps.pps_init_qp_minus26 qp) (only_item of dbf ++ all_info weighted lists sao weights)
+    ∙ number_of_last of dbf (x ++ only_item pps.pps_init_qp_minus26 qp) (all_info weighted lists sao weights) (omega arith) (none_lists of weighted lists sao weights (omega arith))
 
 -- ---- the set for a frame
 
@@ -354,7 +355,7 @@ module _ {items source : List Item} {c d : Partition} (p : Parts items c) (q : P
       let flags = flags_of q in
       told_by_others of refl refl
       ∙ info_behind front_ shape.init_qp (is_overridden source) (pos (number source pps.pps_dbf_info_in_ph_flag)) (has_weights source) (pos (number source of)) (pos (number source pps.pps_sao_info_in_ph_flag)) (pos (number source pps.pps_wp_info_in_ph_flag)) of
-      ∙ lists_stated ((front_ ++ item pps.pps_init_qp_minus26 shape.init_qp) ++ where_so (is_overridden source) (item pps.pps_dbf_info_in_ph_flag (pos (number source pps.pps_dbf_info_in_ph_flag)))) (has_weights source) (pos (number source of)) (pos (number source pps.pps_sao_info_in_ph_flag)) (pos (number source pps.pps_wp_info_in_ph_flag)) ∙ natural_is (number source of) (omega (arith, flags.lists))
+      ∙ lists_stated ((front_ ++ only_item pps.pps_init_qp_minus26 shape.init_qp) ++ where_so (is_overridden source) (only_item pps.pps_dbf_info_in_ph_flag (pos (number source pps.pps_dbf_info_in_ph_flag)))) (has_weights source) (pos (number source of)) (pos (number source pps.pps_sao_info_in_ph_flag)) (pos (number source pps.pps_wp_info_in_ph_flag)) ∙ natural_is (number source of) (omega (arith, flags.lists))
 
   sao_same : number items pps.pps_sao_info_in_ph_flag ≡ number source pps.pps_sao_info_in_ph_flag
   unfolding fresh
@@ -363,7 +364,7 @@ module _ {items source : List Item} {c d : Partition} (p : Parts items c) (q : P
       let flags = flags_of q in
       told_by_others of refl refl
       ∙ info_behind front_ shape.init_qp (is_overridden source) (pos (number source pps.pps_dbf_info_in_ph_flag)) (has_weights source) (pos (number source pps.pps_rpl_info_in_ph_flag)) (pos (number source of)) (pos (number source pps.pps_wp_info_in_ph_flag)) of
-      ∙ sao_stated ((front_ ++ item pps.pps_init_qp_minus26 shape.init_qp) ++ where_so (is_overridden source) (item pps.pps_dbf_info_in_ph_flag (pos (number source pps.pps_dbf_info_in_ph_flag)))) (has_weights source) (pos (number source pps.pps_rpl_info_in_ph_flag)) (pos (number source of)) (pos (number source pps.pps_wp_info_in_ph_flag)) ∙ natural_is (number source of) (omega (arith, flags.sao))
+      ∙ sao_stated ((front_ ++ only_item pps.pps_init_qp_minus26 shape.init_qp) ++ where_so (is_overridden source) (only_item pps.pps_dbf_info_in_ph_flag (pos (number source pps.pps_dbf_info_in_ph_flag)))) (has_weights source) (pos (number source pps.pps_rpl_info_in_ph_flag)) (pos (number source of)) (pos (number source pps.pps_wp_info_in_ph_flag)) ∙ natural_is (number source of) (omega (arith, flags.sao))
 
   dbf_same : number items pps.pps_dbf_info_in_ph_flag ≡ number source pps.pps_dbf_info_in_ph_flag
   unfolding fresh
@@ -398,10 +399,10 @@ module _ {items source : List Item} {c d : Partition} (p : Parts items c) (q : P
             told_by_others of refl refl
             ∙ ap (λ b. number (front_ ++ stated_tools shape.init_qp (is_overridden source) (pos (number source pps.pps_dbf_info_in_ph_flag)) b (pos (number source pps.pps_rpl_info_in_ph_flag)) (pos (number source pps.pps_sao_info_in_ph_flag)) (pos (number source of))) of) some
             ∙ info_behind front_ shape.init_qp (is_overridden source) (pos (number source pps.pps_dbf_info_in_ph_flag)) true (pos (number source pps.pps_rpl_info_in_ph_flag)) (pos (number source pps.pps_sao_info_in_ph_flag)) (pos (number source of)) of
-            ∙ weights_stated ((front_ ++ item pps.pps_init_qp_minus26 shape.init_qp) ++ where_so (is_overridden source) (item pps.pps_dbf_info_in_ph_flag (pos (number source pps.pps_dbf_info_in_ph_flag)))) (pos (number source pps.pps_rpl_info_in_ph_flag)) (pos (number source pps.pps_sao_info_in_ph_flag)) (pos (number source of)) ∙ natural_is (number source of) (omega (arith, flags.weights))
+            ∙ weights_stated ((front_ ++ only_item pps.pps_init_qp_minus26 shape.init_qp) ++ where_so (is_overridden source) (only_item pps.pps_dbf_info_in_ph_flag (pos (number source pps.pps_dbf_info_in_ph_flag)))) (pos (number source pps.pps_rpl_info_in_ph_flag)) (pos (number source pps.pps_sao_info_in_ph_flag)) (pos (number source of)) ∙ natural_is (number source of) (omega (arith, flags.weights))
       ]
 
-  keeps_all : kept_of items ≡ kept_of source
+  keeps_all : kept_pps_items items ≡ kept_pps_items source
   keeps_all = same_kept p q same dbf_same lists_same sao_same weights_same
 
 pub frame_keeps : FrameKeeps

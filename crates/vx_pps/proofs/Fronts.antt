@@ -15,14 +15,14 @@ use Rattle.vx_table.proofs.Agreeing.{agree_itself, inside_itself}
 use Rattle.vx_table.proofs.Groups.{Onward, agree_given, copied_first, replaced_first, replaced_group, takes_at}
 use Rattle.vx_table.proofs.Rewrites.{values_take}
 use Rattle.vx_pps.specs.declared.shape.PpsShape.{PpsShape}
-use Rattle.vx_pps.specs.Pps.{front}
-use Rattle.vx_pps.specs.Reshaped.{IsSize, front_items, id_items}
-use Rattle.vx_pps.specs.Written.{item}
+use Rattle.vx_pps.specs.Pps.{before_tiles}
+use Rattle.vx_pps.specs.Reshaped.{IsSize, front_items, pps_subpic_id_items}
+use Rattle.vx_pps.specs.Written.{only_item}
 use Rattle.vx_pps.proofs.Testing.{ids, ids_read, ids_replaced, nal_types, nal_types_taken, names, output, output_taken, size, size_read, size_replaced, subpic_ids, subpic_ids_read, subpic_ids_replaced}
 
 -- ---- ids and size
 
-ids_at : (id sps_id : ℕ) → id < 64 → sps_id < 16 → Takes (sections_form ids fresh) (item pps.pps_pic_parameter_set_id (pos id) ++ item pps.pps_seq_parameter_set_id (pos sps_id))
+ids_at : (id sps_id : ℕ) → id < 64 → sps_id < 16 → Takes (sections_form ids fresh) (only_item pps.pps_pic_parameter_set_id (pos id) ++ only_item pps.pps_seq_parameter_set_id (pos sps_id))
 unfolding fresh sections_form form_of part one_field after present turns value natural coding_at limits_at has_value HasCode fault_of item_of
 ids_at id sps_id low few = values_take (sections_form ids fresh) (pos id ∷ pos sps_id ∷ []) _ (record { code = low; range = refl }, (record { code = few; range = refl }, tt)) refl
 
@@ -36,7 +36,7 @@ unfolding fault_of
 any_range v = refl
 
 size_at : (width height : ℕ) → IsSize width → IsSize height
-    → Takes (sections_form size fresh) (item pps.pps_pic_width_in_luma_samples (pos width) ++ (item pps.pps_pic_height_in_luma_samples (pos height) ++ item pps.pps_conformance_window_flag (pos 0)))
+    → Takes (sections_form size fresh) (only_item pps.pps_pic_width_in_luma_samples (pos width) ++ (only_item pps.pps_pic_height_in_luma_samples (pos height) ++ only_item pps.pps_conformance_window_flag (pos 0)))
 unfolding fresh sections_form form_of part one_field after present turns value natural coding_at limits_at has_value HasCode item_of
 size_at width height wide high =
     values_take (sections_form size fresh) (pos width ∷ pos height ∷ pos 0 ∷ []) _
@@ -55,7 +55,7 @@ id_fits bits id few fits = let e : min (capped (capped bits + 1)) 32 ≡ bits + 
 abbrev pub IsId : ℕ × ℕ → Type 0
 IsId (bits, id) = (bits ≤ 15) × (id < 2 ^ (bits + 1))
 
-subpics_at : (whole : ℕ) (id : Option (ℕ × ℕ)) → whole < 2 → IfSome id IsId → Takes (sections_form subpic_ids fresh) (item pps.pps_no_pic_partition_flag (pos whole) ++ id_items whole id)
+subpics_at : (whole : ℕ) (id : Option (ℕ × ℕ)) → whole < 2 → IfSome id IsId → Takes (sections_form subpic_ids fresh) (only_item pps.pps_no_pic_partition_flag (pos whole) ++ pps_subpic_id_items whole id)
 unfolding fresh sections_form form_of part one_field after present turns value natural coding_at limits_at has_value HasCode fault_of item_of
 subpics_at zero None low is =
     values_take (sections_form subpic_ids fresh) (pos 0 ∷ pos 0 ∷ []) _ (record { code = omega arith; range = refl }, (record { code = omega arith; range = refl }, tt)) refl
@@ -94,26 +94,26 @@ pub record HasFront (whole : ℕ) (shape : PpsShape) : Type 0 where
   pub subpic_id : IfSome shape.subpic_id IsId
 
 module _ (merged : Bool) (whole : ℕ) (shape : PpsShape) (has : HasFront whole shape) where
-  from_ids : (last : List ℕ) → Onward (names merged) fresh subpic_ids last (item pps.pps_no_pic_partition_flag (pos whole) ++ id_items whole shape.subpic_id)
+  from_ids : (last : List ℕ) → Onward (names merged) fresh subpic_ids last (only_item pps.pps_no_pic_partition_flag (pos whole) ++ pps_subpic_id_items whole shape.subpic_id)
   from_ids last s values follows =
       replaced_group (names merged) fresh subpic_ids (subpic_ids_replaced merged).0 follows
       (λ t agree empty. takes_at [] subpic_ids fresh t subpic_ids_read.0 subpic_ids_read.1 (agree_given [] empty.size tt) (subpics_at whole shape.subpic_id has.whole_is has.subpic_id))
 
   from_size : (last : List ℕ) → Onward (names merged) fresh (size ++ (output ++ subpic_ids)) last
-      ((item pps.pps_pic_width_in_luma_samples (pos shape.width) ++ (item pps.pps_pic_height_in_luma_samples (pos shape.height) ++ item pps.pps_conformance_window_flag (pos 0)))
-      ++ (item pps.pps_no_pic_partition_flag (pos whole) ++ id_items whole shape.subpic_id))
+      ((only_item pps.pps_pic_width_in_luma_samples (pos shape.width) ++ (only_item pps.pps_pic_height_in_luma_samples (pos shape.height) ++ only_item pps.pps_conformance_window_flag (pos 0)))
+      ++ (only_item pps.pps_no_pic_partition_flag (pos whole) ++ pps_subpic_id_items whole shape.subpic_id))
   from_size last =
       replaced_first (names merged) fresh fresh size (output ++ subpic_ids) (inside_itself fresh) (size_replaced merged).0 (size_replaced merged).1
       (λ s t w ends agree empty. takes_at [] size fresh t size_read.0 size_read.1 (agree_given [] empty.size tt) (size_at shape.width shape.height has.width has.height))
       (copied_first (names merged) fresh output subpic_ids (output_taken merged).0 (output_taken merged).1 (output_taken merged).2 (from_ids last))
 
-  from_first : (last : List ℕ) → Onward (names merged) fresh front last (front_items whole shape)
+  from_first : (last : List ℕ) → Onward (names merged) fresh before_tiles last (front_items whole shape)
   from_first last =
       replaced_first (names merged) fresh fresh ids (nal_types ++ (size ++ (output ++ subpic_ids))) (inside_itself fresh) (ids_replaced merged).0 (ids_replaced merged).1
       (λ s t w ends agree empty. takes_at [] ids fresh t ids_read.0 ids_read.1 (agree_given [] empty.size tt) (ids_at shape.id shape.sps_id has.id has.sps_id))
       (copied_first (names merged) fresh nal_types (size ++ (output ++ subpic_ids)) (nal_types_taken merged).0 (nal_types_taken merged).1 (nal_types_taken merged).2 (from_size last))
 
   -- it goes, with what is stated in place of the source's
-  pub front_goes : {values : List ℤ} {last : List ℕ} → Follows (sections_form front fresh) values last
-      → Goes (names merged) last (shown_items (names merged) (items_along (sections_form front fresh) values)) (front_items whole shape) (sections_form front fresh)
+  pub front_goes : {values : List ℤ} {last : List ℕ} → Follows (sections_form before_tiles fresh) values last
+      → Goes (names merged) last (shown_items (names merged) (items_along (sections_form before_tiles fresh) values)) (front_items whole shape) (sections_form before_tiles fresh)
   front_goes {values} {last} follows = (from_first last fresh values follows).at fresh (agree_itself (names merged) fresh) (agree_itself fresh fresh)

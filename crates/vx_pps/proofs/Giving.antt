@@ -22,9 +22,9 @@ use Rattle.vx_layout.proofs.ReadBack.{bounds_of-sizes, length-sizes_between, siz
 use Rattle.vx_pps.specs.declared.tiles.Tiles.{Tiles}
 use Rattle.vx_pps.specs.Tiles.{IsGrid, across, column, down, row}
 use Rattle.vx_pps.specs.Groups.{spells_height, strips}
-use Rattle.vx_pps.specs.Laws.{BoundsAreReadBack}
-use Rattle.vx_pps.specs.Slices.{below, height_in_tiles, height_limits, number, size_of, sizes_from, strip_height, strips_from, width_in_tiles}
-use Rattle.vx_pps.specs.Written.{Gives, height_items, item, size_items, strip_items, width_items}
+use Rattle.vx_pps.specs.laws.Lists.{BoundsAreReadBack}
+use Rattle.vx_pps.specs.Slices.{below, height_in_tiles, height_limits, golomb_form, tile_size_form, sizes_from, strip_height, strips_from, width_in_tiles}
+use Rattle.vx_pps.specs.Written.{Gives, height_items, only_item, tile_size_items, strip_items, width_items}
 
 pub gives_done : {A : Type 0} (a : A) → Gives (done a) [] a
 gives_done a = record { values = []; follows = to_end; given = refl }
@@ -50,36 +50,36 @@ below_allows n bound less =
     let upto : ltb n bound ≡ true = lt-ltb n bound less in
     rw (from_zero, upto) refl
 
-pub gives_number : (of n : ℕ) (limits : Limits ℕ) → n + 1 < 2 ^ 32 → fault_of limits (pos n) ≡ None → Gives (number of limits) (item of (pos n)) n
+pub gives_number : (of n : ℕ) (limits : Limits ℕ) → n + 1 < 2 ^ 32 → fault_of limits (pos n) ≡ None → Gives (golomb_form of limits) (only_item of (pos n)) n
 unfolding HasCode item_of has_value
 gives_number of n limits short range = record {
   values = pos n ∷ [];
-  follows = subst (λ m. Follows (number of limits) (pos n ∷ []) m) (natural_is n (omega arith)) (through (record { code = short; range = range }) to_end);
+  follows = subst (λ m. Follows (golomb_form of limits) (pos n ∷ []) m) (natural_is n (omega arith)) (through (record { code = short; range = range }) to_end);
   given = refl;
 }
 
 -- ---- tile sizes
 
-pub gives_size : (of left size : ℕ) → 1 ≤ size → size ≤ left → left < 2 ^ 20 → Gives (size_of of left) (item of (pos (size - 1))) size
+pub gives_size : (of left size : ℕ) → 1 ≤ size → size ≤ left → left < 2 ^ 20 → Gives (tile_size_form of left) (only_item of (pos (size - 1))) size
 gives_size of left size some fits low =
     let back : size - 1 + 1 ≡ size = omega arith in
-    subst (λ end. Gives (size_of of left) (item of (pos (size - 1))) end) back
+    subst (λ end. Gives (tile_size_form of left) (only_item of (pos (size - 1))) end) back
     (gives_end (λ (v : ℕ). v + 1) (gives_number of (size - 1) (below left) (omega arith) (below_allows (size - 1) left (omega arith))))
 
-pub gives_sizes : (of left : ℕ) (sizes taken : List ℕ) → All (λ s. 1 ≤ s) sizes → sum sizes ≤ left → left < 2 ^ 20 → Gives (sizes_from of (length sizes) left taken) (size_items of sizes) (taken ++ sizes)
+pub gives_sizes : (of left : ℕ) (sizes taken : List ℕ) → All (λ s. 1 ≤ s) sizes → sum sizes ≤ left → left < 2 ^ 20 → Gives (sizes_from of (length sizes) left taken) (tile_size_items of sizes) (taken ++ sizes)
 gives_sizes of left [] taken some fits low = subst (λ end. Gives (done taken) [] end) (sym (append-nil taken)) (gives_done taken)
 gives_sizes of left (size ∷ sizes) taken some fits low =
     let first : 1 ≤ size = All-head (λ s. 1 ≤ s) size sizes some in
     let whole : sum (size ∷ sizes) ≡ size + sum sizes = sum_by-cons (λ n. n) size sizes in
     let rest = gives_sizes of (left - size) sizes (taken ++ size ∷ []) (All-tail (λ s. 1 ≤ s) size sizes some) (omega arith) (omega arith) in
-    subst (λ end. Gives (sizes_from of (length (size ∷ sizes)) left taken) (size_items of (size ∷ sizes)) end) (append_assoc taken (size ∷ []) sizes)
+    subst (λ end. Gives (sizes_from of (length (size ∷ sizes)) left taken) (tile_size_items of (size ∷ sizes)) end) (append_assoc taken (size ∷ []) sizes)
     (gives_then (λ s. sizes_from of (length sizes) (left - s) (taken ++ s ∷ [])) (gives_size of left size first (omega arith) low) rest)
 
 pub bounds_read : BoundsAreReadBack
 bounds_read of bounds rises several low =
     let sizes : List ℕ = sizes_between bounds in
     let all = gives_sizes of (last bounds) sizes [] (sizes_between-some bounds rises) (omega (arith, sum-sizes_between bounds rises)) low in
-    (subst (λ n. Gives (sizes_from of n (last bounds) []) (size_items of sizes) sizes) (length-sizes_between bounds) all, bounds_of-sizes bounds rises several)
+    (subst (λ n. Gives (sizes_from of n (last bounds) []) (tile_size_items of sizes) sizes) (length-sizes_between bounds) all, bounds_of-sizes bounds rises several)
 
 -- ---- a slice's tiles across and down
 
@@ -134,10 +134,10 @@ height_allows true left room high some fits has covers =
     rw left_some (rw (from, upto) refl)
 
 pub gives_strip : (t : Rect) (last more y high : ℕ) (slices : List Rect) → 1 ≤ high → high ≤ t.y + t.h - y → 1 ≤ last + 1 - length slices → (more ≡ 0 → t.y + t.h - y ≤ (last + 1 - length slices) * high) → t.y + t.h < 2 ^ 21
-    → Gives (strip_height t last more y slices) (item pps.pps_exp_slice_height_in_ctus_minus1 (pos (high - 1))) high
+    → Gives (strip_height t last more y slices) (only_item pps.pps_exp_slice_height_in_ctus_minus1 (pos (high - 1))) high
 gives_strip t last more y high slices some fits room covers low =
     let back : high - 1 + 1 ≡ high = omega arith in
-    subst (λ end. Gives (strip_height t last more y slices) (item pps.pps_exp_slice_height_in_ctus_minus1 (pos (high - 1))) end) back
+    subst (λ end. Gives (strip_height t last more y slices) (only_item pps.pps_exp_slice_height_in_ctus_minus1 (pos (high - 1))) end) back
     (gives_end (λ (v : ℕ). v + 1) (gives_number pps.pps_exp_slice_height_in_ctus_minus1 (high - 1) (height_limits (eqb more 0) (t.y + t.h - y) (last + 1 - length slices)) (omega arith)
     (height_allows (eqb more 0) (t.y + t.h - y) (last + 1 - length slices) high some fits room (λ is. covers (eqb-true _ _ is)))))
 

@@ -15,8 +15,8 @@ use Rattle.vx_layout.proofs.Holding.{holds_from, holds_tells}
 use Rattle.vx_layout.proofs.Tiling.{last-get_or}
 use Rattle.vx_pps.specs.declared.tiles.Tiles.{Tiles}
 use Rattle.vx_pps.specs.Tiles.{across, column, down, row, tile}
-use Rattle.vx_pps.specs.Groups.{Ends, Follow, Group, IsList, Lies, Stands, cut, high_of, slices_of, slices_of_all, start, strips, whole}
-use Rattle.vx_pps.specs.Laws.{ListsFallIntoGroups}
+use Rattle.vx_pps.specs.Groups.{Ends, Follow, Group, IsList, Lies, GroupStands, cut, high_of, slices_of_group, slices_of_all, first_tile_of, strips, whole}
+use Rattle.vx_pps.specs.laws.Lists.{ListsFallIntoGroups}
 use Rattle.vx_pps.proofs.Blocks.{IsBlock, block_is, row_inside, same_index, tile_block, tiles_block}
 use Rattle.vx_pps.proofs.Runs.{InTile, Run, column_on, corner_on, in_tile, nth, ordered, part_of, rows_in, run, run_later, same_slice, tile_same, tiles_have}
 
@@ -90,12 +90,12 @@ pub record Step (g : Tiles) (slices : List Rect) (i : ℕ) : Type 0 where
   pub after : ℕ
   pub more : i < after
   pub upto : after ≤ length slices
-  pub same : slices_of g group ++ drop after slices ≡ drop i slices
-  pub inside : start group < across g * down g
+  pub same : slices_of_group g group ++ drop after slices ≡ drop i slices
+  pub inside : first_tile_of group < across g * down g
   pub lies : Lies g group
   pub ends : after ≡ length slices → Ends g group
-  pub left : (tile g (start group)).x ≡ (nth slices i).x
-  pub top : (tile g (start group)).y ≡ (nth slices i).y
+  pub left : (tile g (first_tile_of group)).x ≡ (nth slices i).x
+  pub top : (tile g (first_tile_of group)).y ≡ (nth slices i).y
   pub fresh : Fresh g slices after
 
 -- the last bound has the last index
@@ -173,12 +173,12 @@ pub record From (g : Tiles) (slices : List Rect) (i : ℕ) : Type 0 where
   pub group : Group
   pub groups : List Group
   pub same : slices_of_all g (group ∷ groups) ≡ drop i slices
-  pub left : (tile g (start group)).x ≡ (nth slices i).x
-  pub top : (tile g (start group)).y ≡ (nth slices i).y
-  pub inside : start group < across g * down g
+  pub left : (tile g (first_tile_of group)).x ≡ (nth slices i).x
+  pub top : (tile g (first_tile_of group)).y ≡ (nth slices i).y
+  pub inside : first_tile_of group < across g * down g
   pub follow : (before : ℕ) → Follow g true before (group ∷ groups)
 
-stands : (g : Tiles) (before : ℕ) (group : Group) → start group < across g * down g → Lies g group → Stands g true before group
+stands : (g : Tiles) (before : ℕ) (group : Group) → first_tile_of group < across g * down g → Lies g group → GroupStands g true before group
 stands g before group inside lies = record { inside = inside; lies = lies; height = λ e. absurd (true≢false e) }
 
 joined : (xs ys zs all : List Rect) → xs ++ ys ≡ all → zs ≡ ys → xs ++ zs ≡ all
@@ -194,7 +194,7 @@ grouped g slices (suc n) i l enough short fresh =
           record {
             group = s.group;
             groups = rest.group ∷ rest.groups;
-            same = joined (slices_of g s.group) (drop s.after slices) (slices_of_all g (rest.group ∷ rest.groups)) (drop i slices) s.same rest.same;
+            same = joined (slices_of_group g s.group) (drop s.after slices) (slices_of_all g (rest.group ∷ rest.groups)) (drop i slices) s.same rest.same;
             left = s.left;
             top = s.top;
             inside = s.inside;
@@ -206,7 +206,7 @@ grouped g slices (suc n) i l enough short fresh =
           record {
             group = s.group;
             groups = [];
-            same = joined (slices_of g s.group) (drop s.after slices) [] (drop i slices) s.same (sym empty);
+            same = joined (slices_of_group g s.group) (drop s.after slices) [] (drop i slices) s.same (sym empty);
             left = s.left;
             top = s.top;
             inside = s.inside;
@@ -235,6 +235,6 @@ lists_fall g slices l some =
       group = all.group;
       groups = all.groups;
       same = all.same;
-      first = first_tile g (start all.group) l.columns l.rows l.grid.columns.0 l.grid.rows.0 all.inside (all.left ∙ begin.left) (all.top ∙ begin.top);
+      first = first_tile g (first_tile_of all.group) l.columns l.rows l.grid.columns.0 l.grid.rows.0 all.inside (all.left ∙ begin.left) (all.top ∙ begin.top);
       follow = all.follow 0;
     }

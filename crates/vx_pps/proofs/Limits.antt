@@ -31,12 +31,12 @@ use Rattle.vx_table.proofs.Joined.{parted}
 use Rattle.vx_table.proofs.Loading.{number_of_last, number_of_shown}
 use Rattle.vx_pps.specs.declared.partition.Partition.{Partition}
 use Rattle.vx_pps.specs.declared.tiles.Tiles.{Tiles}
-use Rattle.vx_pps.specs.Partition.{across_flag, counted, ctu_size, ctus, deltas_flag, divided, fixed, flag, impossible_flag, last_slice, listed_slices, partition, sizes_of, slices_among, subpicture_slices, tile_flags, tiles_among, tiles_of, undivided}
-use Rattle.vx_pps.specs.Pps.{IsPps, columns_of, front, is_partitioned, partition_of, rows_of, slices_of, tools}
-use Rattle.vx_pps.specs.Sets.{AreBounds, AreSlices, AreTilesInLimits, IsWide, ReadSlicesAreListable, SetsTellPartitions, TellsPartition, TilesAreInLimits, is_single}
+use Rattle.vx_pps.specs.Partition.{across_flag, golomb_below, ctu_size, ctus_across, deltas_flag, divided, fixed_form, flag, impossible_flag, last_slice, listed_slices, partition, sizes_of, slices_among, subpicture_slices, tile_flags, tiles_among, tiles_of, undivided}
+use Rattle.vx_pps.specs.Pps.{IsPps, tile_columns_of, before_tiles, is_partitioned, partition_of, tile_rows_of, slice_list_of, after_slices}
+use Rattle.vx_pps.specs.laws.Sets.{AreTileBounds, AreSlices, AreTilesInLimits, IsWide, ReadSlicesAreListable, SetsTellPartitions, TellsPartition, TilesAreInLimits, is_single}
 use Rattle.vx_pps.specs.Slices.{below, list_from, sizes_from}
 use Rattle.vx_pps.specs.Tiles.{IsGrid}
-use Rattle.vx_pps.specs.Written.{Gives, item}
+use Rattle.vx_pps.specs.Written.{Gives, only_item}
 use Rattle.vx_pps.proofs.Cutting.{Parts, at_done, cut_parts, each_weaker, gives_parts, none_shown, number_low, front_loads, numbers_before, one_has, only_middle, sections_unshown}
 use Rattle.vx_pps.proofs.Division.{IsBetween, each_among, each_tile_flags, each_tiles}
 use Rattle.vx_pps.proofs.Ended.{list_end, one_inside}
@@ -50,8 +50,8 @@ use Rattle.vx_pps.proofs.Wide.{front_wide}
 
 -- ---- tiles
 
-counted_end : (of bound : ℕ) {w : List ℤ} {n : ℕ} → Follows (counted of bound) w n → n < bound
-unfolding counted
+counted_end : (of bound : ℕ) {w : List ℤ} {n : ℕ} → Follows (golomb_below of bound) w n → n < bound
+unfolding golomb_below
 counted_end of bound (through {v} is to_end) = below_bound bound (natural v) (golomb_range (below bound) v is.code is.range)
 
 -- explicit sizes that were spelled, behind others
@@ -111,8 +111,8 @@ at_end to_end = refl
 tiles_end : (columns rows : ℕ) {w : List ℤ} {g : Tiles} → columns ≤ 512 → rows ≤ 512 → Follows (tiles_among columns rows) w g → TilesReach columns rows g
 unfolding tiles_among
 tiles_end columns rows {g} most_columns most_rows follows =
-    let one = parted (counted pps.pps_num_exp_tile_columns_minus1 columns) _ follows in
-    let two = parted (counted pps.pps_num_exp_tile_rows_minus1 rows) _ one.second in
+    let one = parted (golomb_below pps.pps_num_exp_tile_columns_minus1 columns) _ follows in
+    let two = parted (golomb_below pps.pps_num_exp_tile_rows_minus1 rows) _ one.second in
     let three = parted (sizes_of pps.pps_tile_column_width_minus1 (one.mid + 1) columns) _ two.second in
     let four = parted (sizes_of pps.pps_tile_row_height_minus1 (two.mid + 1) rows) _ three.second in
     let column = counted_end pps.pps_num_exp_tile_columns_minus1 columns one.first in
@@ -122,13 +122,13 @@ tiles_end columns rows {g} most_columns most_rows follows =
     subst (TilesReach columns rows) (at_end four.second)
     (tiles_reach three.mid four.mid columns rows (omega (arith, widths.0)) widths.1 widths.2 (omega (arith, column)) most_columns (omega (arith, heights.0)) heights.1 heights.2 (omega (arith, row)) most_rows)
 
-fixed_along : (of bits : ℕ) (limits : Limits ℕ) {w : List ℤ} {items : List Item} {n : ℕ} → Follows (fixed of bits limits) w n → items_along (fixed of bits limits) w ≡ items → (v : ℤ) × (items ≡ item of v) × (natural v ≡ n) × IsValueOf (record { field = of; kept = false; coding = Fixed bits; limits = limits }) v
-unfolding fixed item_of has_value
+fixed_along : (of bits : ℕ) (limits : Limits ℕ) {w : List ℤ} {items : List Item} {n : ℕ} → Follows (fixed_form of bits limits) w n → items_along (fixed_form of bits limits) w ≡ items → (v : ℤ) × (items ≡ only_item of v) × (natural v ≡ n) × IsValueOf (record { field = of; kept = false; coding = Fixed bits; limits = limits }) v
+unfolding fixed_form item_of has_value
 fixed_along of bits limits (through {v} is to_end) given = (v, sym given, refl, is)
 
 -- the item of a number of u(n), and its number
-fixed_item : (of bits : ℕ) (limits : Limits ℕ) {items : List Item} {n : ℕ} → Gives (fixed of bits limits) items n → (v : ℤ) × (items ≡ item of v) × (natural v ≡ n) × IsValueOf (record { field = of; kept = false; coding = Fixed bits; limits = limits }) v
-unfolding fixed
+fixed_item : (of bits : ℕ) (limits : Limits ℕ) {items : List Item} {n : ℕ} → Gives (fixed_form of bits limits) items n → (v : ℤ) × (items ≡ only_item of v) × (natural v ≡ n) × IsValueOf (record { field = of; kept = false; coding = Fixed bits; limits = limits }) v
+unfolding fixed_form
 fixed_item of bits limits gives = fixed_along of bits limits gives.follows gives.given
 
 last_end : {w : List ℤ} {n : ℕ} → Follows last_slice w n → n < 1000
@@ -140,7 +140,7 @@ cases_option None = inl refl
 cases_option (Some a) = inr (a, refl)
 
 no_flag : (of : ℕ) {w : List ℤ} {n : ℕ} → Follows (impossible_flag of) w n → ⊥
-unfolding fixed
+unfolding fixed_form
 no_flag of (through {v} is to_end) = let none = below_bound 0 (natural v) (fixed_range 1 (below 0) v (omega arith) is.code is.range) in omega (arith, none)
 
 -- a list that leads out of the tiles has no end
@@ -199,17 +199,17 @@ none_of of low high form outside each gives =
     ap (λ xs. shown_items (set_of (of ∷ [])) xs) (sym gives.given)
     ∙ none_shown (set_of (of ∷ [])) (each_weaker (IsBetween low high) (λ cell. IsFalse (has (set_of (of ∷ [])) cell.field)) form (λ cell is. not_between of low high cell outside is) each) gives.follows
 
-shown_item : (names : List ℕ) (of : ℕ) (v : ℤ) → has names of ≡ true → shown_items names (item of v) ≡ item of v
+shown_item : (names : List ℕ) (of : ℕ) (v : ℤ) → has names of ≡ true → shown_items names (only_item of v) ≡ only_item of v
 shown_item names of v is = rw is refl
 
 -- its number, where it is shown once among the items of tiles and slices, and not beside them
-told : {items : List Item} {end : Partition} (p : Parts items end) (of : ℕ) (v : ℤ) → of < 1024 → has (set_of (of ∷ [])) of ≡ true → sections_pass (hides_row (set_of (of ∷ []))) front ≡ true
-    → sections_pass (hides_row (set_of (of ∷ []))) tools ≡ true → shown_items (set_of (of ∷ [])) p.division ≡ item of v → loading.number items of ≡ natural v
+told : {items : List Item} {end : Partition} (p : Parts items end) (of : ℕ) (v : ℤ) → of < 1024 → has (set_of (of ∷ [])) of ≡ true → sections_pass (hides_row (set_of (of ∷ []))) before_tiles ≡ true
+    → sections_pass (hides_row (set_of (of ∷ []))) after_slices ≡ true → shown_items (set_of (of ∷ [])) p.division ≡ only_item of v → loading.number items of ≡ natural v
 told {items} p of v low is in_front in_tools shown =
     let names : List ℕ = set_of (of ∷ []) in
-    let no_front : shown_items names p.front_items ≡ [] = ap (λ xs. shown_items names xs) (sym p.first.given) ∙ none_shown names (sections_unshown names front fresh in_front) p.first.follows in
-    let no_tools : shown_items names p.tool_items ≡ [] = ap (λ xs. shown_items names xs) (sym p.third.given) ∙ none_shown names (sections_unshown names tools p.scope in_tools) p.third.follows in
-    let only : shown_items names items ≡ item of v = ap (λ xs. shown_items names xs) p.all ∙ only_middle names p.front_items [] [] p.division p.tool_items no_front refl refl no_tools ∙ shown in
+    let no_front : shown_items names p.front_items ≡ [] = ap (λ xs. shown_items names xs) (sym p.first.given) ∙ none_shown names (sections_unshown names before_tiles fresh in_front) p.first.follows in
+    let no_tools : shown_items names p.tool_items ≡ [] = ap (λ xs. shown_items names xs) (sym p.third.given) ∙ none_shown names (sections_unshown names after_slices p.scope in_tools) p.third.follows in
+    let only : shown_items names items ≡ only_item of v = ap (λ xs. shown_items names xs) p.all ∙ only_middle names p.front_items [] [] p.division p.tool_items no_front refl refl no_tools ∙ shown in
     number_of_shown names of items is ∙ ap (λ xs. loading.number xs of) only ∙ number_of_last of v [] [] low (All-nil (λ item. (item.field == of) ≡ false))
 
 -- ---- all of it
@@ -219,16 +219,16 @@ record Divided (width height : ℕ) (items : List Item) (end : Partition) : Type
   pub log2 : ℤ
   pub single : ℤ
   pub low : natural log2 < 3
-  pub tiles : TilesReach (ctus width (natural log2)) (ctus height (natural log2)) end.tiles
+  pub tiles : TilesReach (ctus_across width (natural log2)) (ctus_across height (natural log2)) end.tiles
   pub slices : SlicesAre end.tiles (natural single) end.slices
-  pub ctb_shown : shown_items ctb_size items ≡ item pps.pps_log2_ctu_size_minus5 log2
-  pub single_shown : shown_items single_slices items ≡ item pps.pps_single_slice_per_subpic_flag single
+  pub ctb_shown : shown_items ctb_size items ≡ only_item pps.pps_log2_ctu_size_minus5 log2
+  pub single_shown : shown_items single_slices items ≡ only_item pps.pps_single_slice_per_subpic_flag single
 
 divided_parts : (width height : ℕ) {items : List Item} {end : Partition} → Gives (divided width height) items end → Divided width height items end
 unfolding divided SlicesAre fresh
 divided_parts width height {items} {end} gives =
     let one = gives_parts ctu_size _ gives in
-    let two = gives_parts (tiles_among (ctus width one.0) (ctus height one.0)) _ one.4 in
+    let two = gives_parts (tiles_among (ctus_across width one.0) (ctus_across height one.0)) _ one.4 in
     let three = gives_parts (tile_flags two.0) _ two.4 in
     let four = gives_parts (flag pps.pps_single_slice_per_subpic_flag) _ three.4 in
     let five = gives_parts (slices_among two.0 four.0) _ four.4 in
@@ -236,7 +236,7 @@ divided_parts width height {items} {end} gives =
     let log2 = fixed_item pps.pps_log2_ctu_size_minus5 2 (below 3) one.3 in
     let single_is = fixed_item pps.pps_single_slice_per_subpic_flag 1 (below 2) four.3 in
     let low : one.0 < 3 = subst (λ n. n < 3) log2.2 (below_bound 3 (natural log2.0) (fixed_range 2 (below 3) log2.0 (omega arith) log2.3.code log2.3.range)) in
-    let tiles = tiles_end (ctus width one.0) (ctus height one.0) (omega arith) (omega arith) two.3.follows in
+    let tiles = tiles_end (ctus_across width one.0) (ctus_across height one.0) (omega arith) (omega arith) two.3.follows in
     let slices = slices_are two.0 four.0 tiles.limits five.3.follows in
     let all : items ≡ one.1 ++ (two.1 ++ (three.1 ++ (four.1 ++ four.2))) = one.5 ∙ ap (λ xs. one.1 ++ xs) (two.5 ∙ ap (λ xs. two.1 ++ xs) (three.5 ∙ ap (λ xs. three.1 ++ xs) four.5)) in
     let last_items : four.2 ≡ five.1 = five.5 ∙ ap (λ xs. five.1 ++ xs) behind.0 ∙ append-nil five.1 in
@@ -245,35 +245,35 @@ divided_parts width height {items} {end} gives =
     let no_ctb : shown_items ctb_size four.2 ≡ [] = ap (λ xs. shown_items ctb_size xs) last_items ∙ none_of pps.pps_log2_ctu_size_minus5 425 432 (slices_among two.0 four.0) (λ a b. omega (arith, a, b)) among five.3 in
     let rest_ctb : shown_items ctb_size (two.1 ++ (three.1 ++ (four.1 ++ four.2))) ≡ [] =
     only_middle ctb_size two.1 three.1 [] four.1 four.2
-    (none_of pps.pps_log2_ctu_size_minus5 418 421 (tiles_among (ctus width one.0) (ctus height one.0)) (λ a b. omega (arith, a, b)) (each_tiles _ _) two.3)
+    (none_of pps.pps_log2_ctu_size_minus5 418 421 (tiles_among (ctus_across width one.0) (ctus_across height one.0)) (λ a b. omega (arith, a, b)) (each_tiles _ _) two.3)
     (none_of pps.pps_log2_ctu_size_minus5 422 423 (tile_flags two.0) (λ a b. omega (arith, a, b)) (each_tile_flags two.0) three.3) refl no_ctb
     ∙ ap (λ xs. shown_items ctb_size xs) single_is.1 in
     let last_end : record { tiles = two.0; slices = five.0 } ≡ end = behind.1 in
     let log2_is : one.0 ≡ natural log2.0 = sym log2.2 in
-    let at : (n : ℕ) → one.0 ≡ n → TilesReach (ctus width n) (ctus height n) two.0 = λ n e. subst (λ m. TilesReach (ctus width m) (ctus height m) two.0) e tiles in
+    let at : (n : ℕ) → one.0 ≡ n → TilesReach (ctus_across width n) (ctus_across height n) two.0 = λ n e. subst (λ m. TilesReach (ctus_across width m) (ctus_across height m) two.0) e tiles in
     record {
       log2 = log2.0;
       single = single_is.0;
       low = subst (λ n. n < 3) log2_is low;
-      tiles = subst (λ (q : Partition). TilesReach (ctus width (natural log2.0)) (ctus height (natural log2.0)) q.tiles) last_end (at (natural log2.0) log2_is);
+      tiles = subst (λ (q : Partition). TilesReach (ctus_across width (natural log2.0)) (ctus_across height (natural log2.0)) q.tiles) last_end (at (natural log2.0) log2_is);
       slices = subst (λ (q : Partition). SlicesAre q.tiles (natural single_is.0) q.slices) last_end (subst (λ n. SlicesAre two.0 n five.0) (sym single_is.2) slices);
       ctb_shown = ap (λ xs. shown_items ctb_size xs) all ∙ only_middle ctb_size [] [] [] one.1 (two.1 ++ (three.1 ++ (four.1 ++ four.2))) refl refl refl rest_ctb ∙ ap (λ xs. shown_items ctb_size xs) log2.1 ∙ shown_item ctb_size pps.pps_log2_ctu_size_minus5 log2.0 refl;
       single_shown = ap (λ xs. shown_items single_slices xs) all ∙ only_middle single_slices one.1 two.1 three.1 four.1 four.2
           (ap (λ xs. shown_items single_slices xs) log2.1)
-          (none_of pps.pps_single_slice_per_subpic_flag 418 421 (tiles_among (ctus width one.0) (ctus height one.0)) (λ a b. omega (arith, a, b)) (each_tiles _ _) two.3)
+          (none_of pps.pps_single_slice_per_subpic_flag 418 421 (tiles_among (ctus_across width one.0) (ctus_across height one.0)) (λ a b. omega (arith, a, b)) (each_tiles _ _) two.3)
           (none_of pps.pps_single_slice_per_subpic_flag 422 423 (tile_flags two.0) (λ a b. omega (arith, a, b)) (each_tile_flags two.0) three.3)
           no_single
           ∙ ap (λ xs. shown_items single_slices xs) single_is.1 ∙ shown_item single_slices pps.pps_single_slice_per_subpic_flag single_is.0 refl;
     }
 
 -- a picture has no more CTUs than its size has samples for
-ctus_low : (samples log2 : ℕ) → samples < 16385 → log2 < 3 → ctus samples log2 ≡ div_ceil samples (2 ^ (log2 + 5))
+ctus_low : (samples log2 : ℕ) → samples < 16385 → log2 < 3 → ctus_across samples log2 ≡ div_ceil samples (2 ^ (log2 + 5))
 ctus_low samples zero low less = omega (arith, low)
 ctus_low samples (suc zero) low less = omega (arith, low)
 ctus_low samples (suc (suc zero)) low less = omega (arith, low)
 ctus_low samples (suc (suc (suc n))) low less = absurd (omega (arith, less))
 
-reach_bounds : (bounds : List ℕ) (n : ℕ) → 2 ≤ length bounds → Rises bounds → last bounds ≤ 512 → last bounds ≡ n → AreBounds bounds n
+reach_bounds : (bounds : List ℕ) (n : ℕ) → 2 ≤ length bounds → Rises bounds → last bounds ≤ 512 → last bounds ≡ n → AreTileBounds bounds n
 reach_bounds bounds n several rises low all = record { several = several; rises = rises; all = all; low = omega (arith, low, all) }
 
 partitioned : (items : List Item) (end : Partition) → IsPps items end → is_partitioned items ≡ true
@@ -307,9 +307,9 @@ unfolding fresh
 wide items end is =
     let p = cut_parts items end is in
     let sizes = front_wide p.first.follows in
-    let width : slice_index (loaded fresh (items_along (sections_form front fresh) p.first.values)) pps.pps_pic_width_in_luma_samples ≡ loading.number items pps.pps_pic_width_in_luma_samples =
+    let width : slice_index (loaded fresh (items_along (sections_form before_tiles fresh) p.first.values)) pps.pps_pic_width_in_luma_samples ≡ loading.number items pps.pps_pic_width_in_luma_samples =
     ap (λ xs. slice_index (loaded fresh xs) pps.pps_pic_width_in_luma_samples) p.first.given ∙ (front_loads p).same pps.pps_pic_width_in_luma_samples refl ∙ numbers_before p pps.pps_pic_width_in_luma_samples refl refl in
-    let height : slice_index (loaded fresh (items_along (sections_form front fresh) p.first.values)) pps.pps_pic_height_in_luma_samples ≡ loading.number items pps.pps_pic_height_in_luma_samples =
+    let height : slice_index (loaded fresh (items_along (sections_form before_tiles fresh) p.first.values)) pps.pps_pic_height_in_luma_samples ≡ loading.number items pps.pps_pic_height_in_luma_samples =
     ap (λ xs. slice_index (loaded fresh xs) pps.pps_pic_height_in_luma_samples) p.first.given ∙ (front_loads p).same pps.pps_pic_height_in_luma_samples refl ∙ numbers_before p pps.pps_pic_height_in_luma_samples refl refl in
     (subst IsWide width sizes.0, subst IsWide height sizes.1)
 
@@ -326,18 +326,18 @@ tells_parts items end is same whole =
     let columns = ctus_low (loading.number items pps.pps_pic_width_in_luma_samples) (natural d.log2) width d.low in
     let rows = ctus_low (loading.number items pps.pps_pic_height_in_luma_samples) (natural d.log2) height d.low in
     let limits = d.tiles.limits in
-    let across : AreBounds end.tiles.columns (div_ceil (loading.number items pps.pps_pic_width_in_luma_samples) (2 ^ (natural d.log2 + 5))) =
+    let across : AreTileBounds end.tiles.columns (div_ceil (loading.number items pps.pps_pic_width_in_luma_samples) (2 ^ (natural d.log2 + 5))) =
     reach_bounds end.tiles.columns _ limits.grid.columns.0 limits.columns.0 limits.columns.1 (d.tiles.across ∙ columns) in
-    let down : AreBounds end.tiles.rows (div_ceil (loading.number items pps.pps_pic_height_in_luma_samples) (2 ^ (natural d.log2 + 5))) =
+    let down : AreTileBounds end.tiles.rows (div_ceil (loading.number items pps.pps_pic_height_in_luma_samples) (2 ^ (natural d.log2 + 5))) =
     reach_bounds end.tiles.rows _ limits.grid.rows.0 limits.rows.0 limits.rows.1 (d.tiles.down ∙ rows) in
     record {
       width = (wide items end is).0;
       height = (wide items end is).1;
       ctb = λ _. subst (λ n. n < 3) (sym ctb) d.low;
-      columns = λ _. subst (λ n. AreBounds (columns_of items) (div_ceil (loading.number items pps.pps_pic_width_in_luma_samples) (2 ^ (n + 5)))) (sym ctb)
-          (subst (λ (q : Partition). AreBounds q.tiles.columns (div_ceil (loading.number items pps.pps_pic_width_in_luma_samples) (2 ^ (natural d.log2 + 5)))) (sym same) across);
-      rows = λ _. subst (λ n. AreBounds (rows_of items) (div_ceil (loading.number items pps.pps_pic_height_in_luma_samples) (2 ^ (n + 5)))) (sym ctb)
-          (subst (λ (q : Partition). AreBounds q.tiles.rows (div_ceil (loading.number items pps.pps_pic_height_in_luma_samples) (2 ^ (natural d.log2 + 5)))) (sym same) down);
+      columns = λ _. subst (λ n. AreTileBounds (tile_columns_of items) (div_ceil (loading.number items pps.pps_pic_width_in_luma_samples) (2 ^ (n + 5)))) (sym ctb)
+          (subst (λ (q : Partition). AreTileBounds q.tiles.columns (div_ceil (loading.number items pps.pps_pic_width_in_luma_samples) (2 ^ (natural d.log2 + 5)))) (sym same) across);
+      rows = λ _. subst (λ n. AreTileBounds (tile_rows_of items) (div_ceil (loading.number items pps.pps_pic_height_in_luma_samples) (2 ^ (n + 5)))) (sym ctb)
+          (subst (λ (q : Partition). AreTileBounds q.tiles.rows (div_ceil (loading.number items pps.pps_pic_height_in_luma_samples) (2 ^ (natural d.log2 + 5)))) (sym same) down);
       no_tiles = λ not_whole. absurd (true≢false (sym whole ∙ not_whole));
       named = subst (λ (q : Partition). is_some q.slices ≡ (is_partitioned items && not (is_single items))) (sym same)
           (d.slices.0 ∙ ap (λ n. not (is_set n)) (sym each) ∙ ap (λ b. b && not (is_single items)) (sym whole));
@@ -368,7 +368,7 @@ tells_partitions items is =
 
 -- ---- slices that a list named
 
-none_listed : (items : List Item) (slices : List Rect) → TellsPartition items → is_partitioned items ≡ false → slices_of items ≡ Some slices → ⊥
+none_listed : (items : List Item) (slices : List Rect) → TellsPartition items → is_partitioned items ≡ false → slice_list_of items ≡ Some slices → ⊥
 none_listed items slices told_ none is =
     true≢false (ap is_some (sym is) ∙ told_.named ∙ ap (λ b. b && not (is_single items)) none)
 
@@ -382,6 +382,6 @@ listable items slices is named once =
       | inl whole ↦
           let d = (partitioned items is.end is.set whole).1 in
           let limits : AreTilesInLimits (partition_of items).tiles = subst (λ (q : Partition). AreTilesInLimits q.tiles) (sym same) d.tiles.limits in
-          let groups : IfSome (slices_of items) (Named (partition_of items).tiles) = subst (λ (q : Partition). IfSome q.slices (Named q.tiles)) (sym same) d.slices.2 in
+          let groups : IfSome (slice_list_of items) (Named (partition_of items).tiles) = subst (λ (q : Partition). IfSome q.slices (Named q.tiles)) (sym same) d.slices.2 in
           named_listable (partition_of items).tiles slices (record { grid = limits.grid; columns = limits.columns.0; rows = limits.rows.0 }) (rw named at groups) (rw named at tells.slices).each once
     ]

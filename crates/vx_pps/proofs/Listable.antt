@@ -16,7 +16,7 @@ use Rattle.vx_layout.proofs.Owners.{corner_held}
 use Rattle.vx_layout.proofs.Rising.{Contains-le-last, Rises-apart, Rises-level, bound_from}
 use Rattle.vx_pps.specs.declared.tiles.Tiles.{Tiles}
 use Rattle.vx_pps.specs.Tiles.{IsGrid, block, column, row, tile}
-use Rattle.vx_pps.specs.Groups.{Group, cut, slices_of, slices_of_all, strips, whole}
+use Rattle.vx_pps.specs.Groups.{Group, cut, slices_of_group, slices_of_all, strips, whole}
 use Rattle.vx_pps.specs.inner.Found.{LiesInside}
 use Rattle.vx_pps.proofs.Finding.{between, in_picture}
 use Rattle.vx_pps.proofs.Named.{Named}
@@ -69,13 +69,13 @@ strips_rows columns rows t y (h ∷ hs) is from to =
     (record { tile = is; sides = (refl, refl); inside = fits_from r t (omega arith) (omega arith) from (omega (arith, first, to)) })
     (strips_rows columns rows t (y + h) hs is (omega (arith, from)) (omega (arith, first, to)))
 
-cut_rows : (g : Tiles) (t : ℕ) (heights : List ℕ) → AreRising g → LiesInside g (cut t heights) → IsTile g.columns g.rows (tile g t) × All (λ r. AreRowsOf g.columns g.rows r (tile g t)) (slices_of g (cut t heights))
+cut_rows : (g : Tiles) (t : ℕ) (heights : List ℕ) → AreRising g → LiesInside g (cut t heights) → IsTile g.columns g.rows (tile g t) × All (λ r. AreRowsOf g.columns g.rows r (tile g t)) (slices_of_group g (cut t heights))
 cut_rows g t heights rising inside =
     let within = in_picture g (cut t heights) rising.grid inside in
     let is = tile_is g t rising within.columns_in within.rows_in in
     (is, strips_rows g.columns g.rows (tile g t) (tile g t).y heights is (omega arith) (omega (arith, inside.lies.2)))
 
-group_shapes : (g : Tiles) (group : Group) → AreRising g → LiesInside g group → All (AreTilesOrRows g.columns g.rows) (slices_of g group)
+group_shapes : (g : Tiles) (group : Group) → AreRising g → LiesInside g group → All (AreTilesOrRows g.columns g.rows) (slices_of_group g group)
 group_shapes g (whole t wide high) rising inside =
     let within = in_picture g (whole t wide high) rising.grid inside in
     All-cons (AreTilesOrRows g.columns g.rows) (block g t wide high) [] (inl (block_tiles g t wide high rising within.columns_in within.rows_in)) (All-nil (AreTilesOrRows g.columns g.rows))
@@ -84,7 +84,7 @@ group_shapes g (cut t heights) rising inside = λ k d short. inr (tile g t, (cut
 shapes : (g : Tiles) (groups : List Group) → AreRising g → All (LiesInside g) groups → All (AreTilesOrRows g.columns g.rows) (slices_of_all g groups)
 shapes g [] rising inside = All-nil (AreTilesOrRows g.columns g.rows)
 shapes g (group ∷ groups) rising inside =
-    All-append (AreTilesOrRows g.columns g.rows) (slices_of g group) (slices_of_all g groups) (group_shapes g group rising (All-head (LiesInside g) group groups inside)) (shapes g groups rising (All-tail (LiesInside g) group groups inside))
+    All-append (AreTilesOrRows g.columns g.rows) (slices_of_group g group) (slices_of_all g groups) (group_shapes g group rising (All-head (LiesInside g) group groups inside)) (shapes g groups rising (All-tail (LiesInside g) group groups inside))
 
 -- ---- those in one tile
 
@@ -116,7 +116,7 @@ block_fills g r t tiles is some inside =
     }
 
 -- a group one of whose slices lies in a tile fills it
-group_fills : (g : Tiles) (group : Group) (t : Rect) (k : ℕ) (d : Rect) → AreRising g → LiesInside g group → IsTile g.columns g.rows t → k < length (slices_of g group) → HasCtu (get_or (slices_of g group) k d) → fits (get_or (slices_of g group) k d) t ≡ true → Fill (slices_of g group) t
+group_fills : (g : Tiles) (group : Group) (t : Rect) (k : ℕ) (d : Rect) → AreRising g → LiesInside g group → IsTile g.columns g.rows t → k < length (slices_of_group g group) → HasCtu (get_or (slices_of_group g group) k d) → fits (get_or (slices_of_group g group) k d) t ≡ true → Fill (slices_of_group g group) t
 group_fills g (whole t wide high) u zero d rising inside is short some fit =
     let within = in_picture g (whole t wide high) rising.grid inside in
     block_fills g (block g t wide high) u (block_tiles g t wide high rising within.columns_in within.rows_in) is some fit
@@ -158,7 +158,7 @@ some_behind (r ∷ here) behind some = some_behind here behind (All-tail HasCtu 
 together : (g : Tiles) (groups : List Group) (t : Rect) → AreRising g → All (LiesInside g) groups → IsTile g.columns g.rows t → All HasCtu (slices_of_all g groups) → AtMostOnce g (slices_of_all g groups) → StandTogether (slices_of_all g groups) t
 together g [] t rising inside is some once i j k d before behind short fit_i fit_k = absurd (omega (arith, short))
 together g (group ∷ groups) t rising inside is some once i j k d before behind short fit_i fit_k =
-    let here : List Rect = slices_of g group in
+    let here : List Rect = slices_of_group g group in
     let rest : List Rect = slices_of_all g groups in
     let n : ℕ = length here in
     let long = length-append here rest in

@@ -23,11 +23,11 @@ use Rattle.vx_table.specs.Spelling.{HasCode, fault_of, item_of}
 use Rattle.vx_table.specs.Values.{Follows, IsValueOf, to_end, through}
 use Rattle.vx_pps.specs.declared.tiles.Tiles.{Tiles}
 use Rattle.vx_pps.specs.Tiles.{IsGrid, across, block, column, down, row, tile, tile_behind}
-use Rattle.vx_pps.specs.Groups.{Ends, Follow, Group, InGroups, Lies, Stands, cut, high_of, slices_of, slices_of_all, start, strips, whole, wide_of}
-use Rattle.vx_pps.specs.Laws.{FewAreReadBack, ListGivesSlices, SlicesAreReadBack}
+use Rattle.vx_pps.specs.Groups.{Ends, Follow, Group, InGroups, Lies, GroupStands, cut, high_of, slices_of_group, slices_of_all, first_tile_of, strips, whole, wide_of}
+use Rattle.vx_pps.specs.laws.Lists.{FewAreReadBack, ListGivesSlices, SlicesAreReadBack}
 use Rattle.vx_pps.specs.declared.list.Listed.{Listed}
-use Rattle.vx_pps.specs.Slices.{all_slices, below, delta, delta_cell, height_in_tiles, list_from, may_be_cut, none_listed, slices_at, slices_in_tile, spells_delta, strips_from, tile_after, turn, turns_from}
-use Rattle.vx_pps.specs.Written.{Gives, delta_items, heights_items, item, last_items, list_items, strip_items, turn_items}
+use Rattle.vx_pps.specs.Slices.{all_slices, below, delta, delta_cell, height_in_tiles, list_from, may_be_cut, none_listed, slices_from_tile, slices_in_tile, spells_delta, strips_from, tile_after, turn, turns_from}
+use Rattle.vx_pps.specs.Written.{Gives, delta_items, heights_items, only_item, last_items, list_items, strip_items, turn_items}
 use Rattle.vx_pps.proofs.Blocks.{row_inside}
 use Rattle.vx_pps.proofs.Few.{few_fall, group_some, strips_length}
 use Rattle.vx_pps.proofs.Grouping.{lists_fall}
@@ -82,7 +82,7 @@ abbrev on_explicit : Rect → ℕ → List Rect → ℕ → Form (List Rect)
 on_explicit r last slices explicit = cond (explicit == 0) (done (slices ++ r ∷ [])) (strips_from r last explicit r.y 0 slices)
 
 gives_cut : (g : Tiles) (last : ℕ) (t : ℕ) (heights : List ℕ) (slices : List Rect) → IsGrid g → last < 1000 → Lies g (cut t heights) → length slices + length heights ≤ last + 1
-    → Gives (slices_in_tile (tile g t) last slices) (heights_items g (cut t heights)) (slices ++ slices_of g (cut t heights))
+    → Gives (slices_in_tile (tile g t) last slices) (heights_items g (cut t heights)) (slices ++ slices_of_group g (cut t heights))
 gives_cut g last_one t heights slices grid few lies room =
     let r : Rect = tile g t in
     let written : List ℕ = written_heights heights in
@@ -100,7 +100,7 @@ gives_cut g last_one t heights slices grid few lies room =
 -- ---- one slice of whole tiles, or those of a tile
 
 gives_whole : (g : Tiles) (last : ℕ) (t wide high : ℕ) (slices : List Rect) → last < 1000 → 1 ≤ wide → 1 ≤ high → length slices + 1 ≤ last + 1
-    → Gives (slices_at g last t (wide - 1) (high - 1) slices) (heights_items g (whole t wide high)) (slices ++ block g t wide high ∷ [])
+    → Gives (slices_from_tile g last t (wide - 1) (high - 1) slices) (heights_items g (whole t wide high)) (slices ++ block g t wide high ∷ [])
 gives_whole g last_one t wide high slices few wide_some high_some room =
     let back_wide : wide - 1 + 1 ≡ wide = omega arith in
     let back_high : high - 1 + 1 ≡ high = omega arith in
@@ -111,7 +111,7 @@ gives_whole g last_one t wide high slices few wide_some high_some room =
           let one_high : 1 ≡ high = omega (arith, eqb-true (high - 1) 0 both.1) in
           let is : block g t 1 1 ≡ block g t wide high = ap (λ n. block g t n 1) one_wide ∙ ap (λ n. block g t wide n) one_high in
           let first = gives_number pps.pps_num_exp_slices_in_tile 0 (below (last_one + 2 - length slices)) (omega arith) (below_allows 0 (last_one + 2 - length slices) (omega (arith, room))) in
-          rw may (subst (λ b. Gives (slices_in_tile (tile g t) last_one slices) (item pps.pps_num_exp_slices_in_tile (pos 0)) (slices ++ b ∷ [])) is (gives_then (on_explicit (tile g t) last_one slices) first (gives_done (slices ++ tile g t ∷ []))))
+          rw may (subst (λ b. Gives (slices_in_tile (tile g t) last_one slices) (only_item pps.pps_num_exp_slices_in_tile (pos 0)) (slices ++ b ∷ [])) is (gives_then (on_explicit (tile g t) last_one slices) first (gives_done (slices ++ tile g t ∷ []))))
       | inr not_cut ↦
           let is : block g t (wide - 1 + 1) (high - 1 + 1) ≡ block g t wide high = ap (λ n. block g t n (high - 1 + 1)) back_wide ∙ ap (λ n. block g t wide n) back_high in
           rw not_cut (subst (λ b. Gives (done (slices ++ block g t (wide - 1 + 1) (high - 1 + 1) ∷ [])) [] (slices ++ b ∷ [])) is (gives_done (slices ++ block g t (wide - 1 + 1) (high - 1 + 1) ∷ [])))
@@ -122,8 +122,8 @@ sum_some : (heights : List ℕ) → All (λ h. 1 ≤ h) heights → length heigh
 sum_some [] some = omega arith
 sum_some (h ∷ hs) some = omega (arith, sum_by-cons (λ n. n) h hs, All-head (λ h. 1 ≤ h) h hs some, sum_some hs (All-tail (λ h. 1 ≤ h) h hs some))
 
-gives_slices : (g : Tiles) (last : ℕ) (group : Group) (slices : List Rect) → IsGrid g → last < 1000 → Lies g group → length slices + length (slices_of g group) ≤ last + 1
-    → Gives (slices_at g last (start group) (wide_of group - 1) (high_of group - 1) slices) (heights_items g group) (slices ++ slices_of g group)
+gives_slices : (g : Tiles) (last : ℕ) (group : Group) (slices : List Rect) → IsGrid g → last < 1000 → Lies g group → length slices + length (slices_of_group g group) ≤ last + 1
+    → Gives (slices_from_tile g last (first_tile_of group) (wide_of group - 1) (high_of group - 1) slices) (heights_items g group) (slices ++ slices_of_group g group)
 gives_slices g last_one (whole t wide high) slices grid few lies room = gives_whole g last_one t wide high slices few lies.0 lies.1 room
 gives_slices g last_one (cut t heights) slices grid few lies room =
     let may : ltb 1 (tile g t).h ≡ true = lt-ltb 1 (tile g t).h (omega (arith, sum_some heights lies.1, lies.0, lies.2)) in
@@ -184,7 +184,7 @@ delta_value g t next grid inside in_next =
           (record { code = code_down (t - next - 1) (omega arith); range = range_down (next + (t - next - 1)) (t - next - 1) (across g * down g - 1 - suc (next + (t - next - 1))) (omega arith) }))
     ]
 
-gives_delta : (g : Tiles) (t next : ℕ) → IsGrid g → t < across g * down g → next < across g * down g → Gives (delta g t) (item pps.pps_tile_idx_delta_val (moved t next)) next
+gives_delta : (g : Tiles) (t next : ℕ) → IsGrid g → t < across g * down g → next < across g * down g → Gives (delta g t) (only_item pps.pps_tile_idx_delta_val (moved t next)) next
 unfolding item_of has_value
 gives_delta g t next grid inside in_next =
     let end : natural (pos t +ℤ moved t next) ≡ next = ap natural (moved_back t next) ∙ natural_is next (omega (arith, count_low g grid, in_next)) in
@@ -205,7 +205,7 @@ abbrev on_slices : Tiles → ℕ → Bool → Listed → ℕ → ℕ → List Re
 on_slices g last deltas at width height slices = tile_after g (spells_delta deltas slices last) at.next width height >>= λ next. done (record { slices = slices; next = next; before = height })
 
 abbrev on_height : Tiles → ℕ → Bool → Listed → ℕ → ℕ → Form Listed
-on_height g last deltas at width height = slices_at g last at.next width height at.slices >>= on_slices g last deltas at width height
+on_height g last deltas at width height = slices_from_tile g last at.next width height at.slices >>= on_slices g last deltas at width height
 
 abbrev on_width : Tiles → ℕ → Bool → Listed → ℕ → Form Listed
 on_width g last deltas at width = height_in_tiles g deltas at.next at.before >>= on_height g last deltas at width
@@ -214,31 +214,31 @@ on_width g last deltas at width = height_in_tiles g deltas at.next at.before >>=
 pub record Takes (g : Tiles) (group : Group) : Type 0 where
   pub wide : 1 ≤ wide_of group
   pub high : 1 ≤ high_of group
-  pub across : column g (start group) + wide_of group ≤ across g
-  pub down : row g (start group) + high_of group ≤ down g
+  pub across : column g (first_tile_of group) + wide_of group ≤ across g
+  pub down : row g (first_tile_of group) + high_of group ≤ down g
 
-takes : (g : Tiles) (group : Group) → IsGrid g → start group < across g * down g → Lies g group → Takes g group
+takes : (g : Tiles) (group : Group) → IsGrid g → first_tile_of group < across g * down g → Lies g group → Takes g group
 takes g (whole t wide high) grid inside lies = record { wide = lies.0; high = lies.1; across = lies.2; down = lies.3 }
 takes g (cut t heights) grid inside lies =
     let in_row = row_inside g t inside in
     record { wide = omega arith; high = omega arith; across = omega (arith, grid.columns); down = omega (arith, in_row) }
 
-gives_turn : (g : Tiles) (last : ℕ) (deltas spelled : Bool) (group : Group) (before next : ℕ) (slices : List Rect) → IsGrid g → last < 1000 → Stands g deltas before group → length slices + length (slices_of g group) ≤ last + 1
-    → spells_delta deltas (slices ++ slices_of g group) last ≡ spelled → (spelled ≡ true → next < across g * down g) → (spelled ≡ false → next ≡ tile_behind g (start group) (wide_of group - 1) (high_of group - 1))
-    → Gives (turn g last deltas (record { slices = slices; next = start group; before = before })) (turn_items g deltas spelled group next) (record { slices = slices ++ slices_of g group; next = next; before = high_of group - 1 })
+gives_turn : (g : Tiles) (last : ℕ) (deltas spelled : Bool) (group : Group) (before next : ℕ) (slices : List Rect) → IsGrid g → last < 1000 → GroupStands g deltas before group → length slices + length (slices_of_group g group) ≤ last + 1
+    → spells_delta deltas (slices ++ slices_of_group g group) last ≡ spelled → (spelled ≡ true → next < across g * down g) → (spelled ≡ false → next ≡ tile_behind g (first_tile_of group) (wide_of group - 1) (high_of group - 1))
+    → Gives (turn g last deltas (record { slices = slices; next = first_tile_of group; before = before })) (turn_items g deltas spelled group next) (record { slices = slices ++ slices_of_group g group; next = next; before = high_of group - 1 })
 gives_turn g last_one deltas spelled group before next slices grid few s room spells there behind =
-    let at : Listed = record { slices = slices; next = start group; before = before } in
-    let all : List Rect = slices ++ slices_of g group in
+    let at : Listed = record { slices = slices; next = first_tile_of group; before = before } in
+    let all : List Rect = slices ++ slices_of_group g group in
     let t = takes g group grid s.inside s.lies in
     let width : ℕ = wide_of group - 1 in
     let height : ℕ = high_of group - 1 in
-    let step : Gives (tile_after g (spells_delta deltas all last_one) (start group) width height) (delta_items spelled (start group) next) next =
-    subst (λ b. Gives (tile_after g b (start group) width height) (delta_items spelled (start group) next) next) (sym spells) (gives_next g spelled (start group) width height next grid s.inside there behind)
+    let step : Gives (tile_after g (spells_delta deltas all last_one) (first_tile_of group) width height) (delta_items spelled (first_tile_of group) next) next =
+    subst (λ b. Gives (tile_after g b (first_tile_of group) width height) (delta_items spelled (first_tile_of group) next) next) (sym spells) (gives_next g spelled (first_tile_of group) width height next grid s.inside there behind)
     in
-    let ended : Gives (on_slices g last_one deltas at width height all) (delta_items spelled (start group) next) (record { slices = all; next = next; before = height }) = gives_end (λ (n : ℕ). let r : Listed = record { slices = all; next = n; before = height } in r) step in
+    let ended : Gives (on_slices g last_one deltas at width height all) (delta_items spelled (first_tile_of group) next) (record { slices = all; next = next; before = height }) = gives_end (λ (n : ℕ). let r : Listed = record { slices = all; next = n; before = height } in r) step in
     let third = gives_then (on_slices g last_one deltas at width height) (gives_slices g last_one group slices grid few s.lies room) ended in
-    let second = gives_then (on_height g last_one deltas at width) (gives_height g deltas (start group) before (high_of group) grid t.high t.down s.height) third in
-    gives_then (on_width g last_one deltas at) (gives_width g (start group) (wide_of group) grid t.wide t.across) second
+    let second = gives_then (on_height g last_one deltas at width) (gives_height g deltas (first_tile_of group) before (high_of group) grid t.high t.down s.height) third in
+    gives_then (on_width g last_one deltas at) (gives_width g (first_tile_of group) (wide_of group) grid t.wide t.across) second
 
 -- ---- the list
 
@@ -283,15 +283,15 @@ lists_whole g last_one deltas more t wide high before slices full inside ends =
 one_less : (last done_ more : ℕ) → last ≤ done_ + more → done_ < last → more ≡ suc (more - 1)
 one_less last done_ more enough less = omega arith
 
-lists_cut : (g : Tiles) (last : ℕ) (deltas : Bool) (more t before : ℕ) (heights : List ℕ) (slices : List Rect) → IsGrid g → last < 1000 → length slices + length heights ≡ last + 1 → last ≤ length slices + more → Stands g deltas before (cut t heights)
-    → Lists g last deltas more (record { slices = slices; next = t; before = before }) (turn_items g deltas false (cut t heights) 0) (slices ++ slices_of g (cut t heights))
+lists_cut : (g : Tiles) (last : ℕ) (deltas : Bool) (more t before : ℕ) (heights : List ℕ) (slices : List Rect) → IsGrid g → last < 1000 → length slices + length heights ≡ last + 1 → last ≤ length slices + more → GroupStands g deltas before (cut t heights)
+    → Lists g last deltas more (record { slices = slices; next = t; before = before }) (turn_items g deltas false (cut t heights) 0) (slices ++ slices_of_group g (cut t heights))
 lists_cut g last_one deltas more t before heights slices grid few size enough s =
     let group : Group = cut t heights in
     let next : ℕ = tile_behind g t 0 0 in
-    let all : List Rect = slices ++ slices_of g group in
+    let all : List Rect = slices ++ slices_of_group g group in
     let at : Listed = record { slices = slices; next = t; before = before } in
     let end : Listed = record { slices = all; next = next; before = 0 } in
-    let long : length all ≡ last_one + 1 = length-append slices (slices_of g group) ∙ omega (arith, size, strips_length (tile g t) (tile g t).y heights) in
+    let long : length all ≡ last_one + 1 = length-append slices (slices_of_group g group) ∙ omega (arith, size, strips_length (tile g t) (tile g t).y heights) in
     let full : leb (length all) last_one ≡ false = false_from_ne_true (leb (length all) last_one) (λ e. let le : length all ≤ last_one = leb-true _ _ e in omega (arith, long, le)) in
     let spells : spells_delta deltas all last_one ≡ false = both_false deltas (leb (length all) last_one) full in
     let first = gives_turn g last_one deltas false group before next slices grid few s (omega (arith, size, strips_length (tile g t) (tile g t).y heights)) spells (λ e. absurd (cc)) (λ _. refl) in
@@ -305,43 +305,43 @@ lists_cut g last_one deltas more t before heights slices grid few size enough s 
       all_are = rw kept refl;
     }
 
-lists_last : (g : Tiles) (last : ℕ) (deltas : Bool) (more before : ℕ) (group : Group) (slices : List Rect) → IsGrid g → last < 1000 → length slices + length (slices_of g group) ≡ last + 1 → last ≤ length slices + more → Stands g deltas before group → Ends g group
-    → Lists g last deltas more (record { slices = slices; next = start group; before = before }) (last_items g deltas group) (slices ++ slices_of g group)
+lists_last : (g : Tiles) (last : ℕ) (deltas : Bool) (more before : ℕ) (group : Group) (slices : List Rect) → IsGrid g → last < 1000 → length slices + length (slices_of_group g group) ≡ last + 1 → last ≤ length slices + more → GroupStands g deltas before group → Ends g group
+    → Lists g last deltas more (record { slices = slices; next = first_tile_of group; before = before }) (last_items g deltas group) (slices ++ slices_of_group g group)
 lists_last g last_one deltas more before (whole t wide high) slices grid few size enough s ends = lists_whole g last_one deltas more t wide high before slices (omega arith) s.inside ends
 lists_last g last_one deltas more before (cut t heights) slices grid few size enough s ends = lists_cut g last_one deltas more t before heights slices grid few (omega (arith, size, strips_length (tile g t) (tile g t).y heights)) enough s
 
 -- what groups say of the first of them
-first_of : (g : Tiles) (deltas : Bool) (before : ℕ) (group : Group) (groups : List Group) → Follow g deltas before (group ∷ groups) → Stands g deltas before group
+first_of : (g : Tiles) (deltas : Bool) (before : ℕ) (group : Group) (groups : List Group) → Follow g deltas before (group ∷ groups) → GroupStands g deltas before group
 first_of g deltas before group [] follow = follow.0
 first_of g deltas before group (next ∷ more) follow = follow.0
 
 lists : (g : Tiles) (last : ℕ) (deltas : Bool) (groups : List Group) (more before : ℕ) (group : Group) (slices : List Rect) → IsGrid g → last < 1000 → length slices + length (slices_of_all g (group ∷ groups)) ≡ last + 1 → last ≤ length slices + more → Follow g deltas before (group ∷ groups)
-    → Lists g last deltas more (record { slices = slices; next = start group; before = before }) (list_items g deltas (group ∷ groups)) (slices ++ slices_of_all g (group ∷ groups))
+    → Lists g last deltas more (record { slices = slices; next = first_tile_of group; before = before }) (list_items g deltas (group ∷ groups)) (slices ++ slices_of_all g (group ∷ groups))
 lists g last_one deltas [] more before group slices grid few size enough follow =
-    let none = append-nil (slices_of g group) in
-    subst (λ xs. Lists g last_one deltas more (record { slices = slices; next = start group; before = before }) (last_items g deltas group) (slices ++ xs)) (sym none)
+    let none = append-nil (slices_of_group g group) in
+    subst (λ xs. Lists g last_one deltas more (record { slices = slices; next = first_tile_of group; before = before }) (last_items g deltas group) (slices ++ xs)) (sym none)
     (lists_last g last_one deltas more before group slices grid few (subst (λ xs. length slices + length xs ≡ last_one + 1) none size) enough follow.0 follow.1)
 lists g last_one deltas (next ∷ groups) more before group slices grid few size enough follow =
-    let s : Stands g deltas before group = follow.0 in
+    let s : GroupStands g deltas before group = follow.0 in
     let n = first_of g deltas (high_of group - 1) next groups follow.2 in
-    let at : Listed = record { slices = slices; next = start group; before = before } in
-    let mid : List Rect = slices ++ slices_of g group in
-    let here = length-append (slices_of g group) (slices_of_all g (next ∷ groups)) in
-    let there = length-append (slices_of g next) (slices_of_all g groups) in
+    let at : Listed = record { slices = slices; next = first_tile_of group; before = before } in
+    let mid : List Rect = slices ++ slices_of_group g group in
+    let here = length-append (slices_of_group g group) (slices_of_all g (next ∷ groups)) in
+    let there = length-append (slices_of_group g next) (slices_of_all g groups) in
     let some_next = group_some g next n.lies in
     let some_here = group_some g group s.lies in
-    let long : length mid ≡ length slices + length (slices_of g group) = length-append slices (slices_of g group) in
+    let long : length mid ≡ length slices + length (slices_of_group g group) = length-append slices (slices_of_group g group) in
     let left : length mid ≤ last_one = omega (arith, long, size, here, there, some_next) in
     let spells : spells_delta deltas mid last_one ≡ deltas = and_one deltas (leb (length mid) last_one) (le-leb _ _ left) in
-    let first = gives_turn g last_one deltas deltas group before (start next) slices grid few s (omega (arith, long, left)) spells (λ _. n.inside) (λ e. follow.1 e) in
+    let first = gives_turn g last_one deltas deltas group before (first_tile_of next) slices grid few s (omega (arith, long, left)) spells (λ _. n.inside) (λ e. follow.1 e) in
     let less : length slices < last_one = omega (arith, long, left, some_here) in
     let one = one_less last_one (length slices) more enough less in
     let rest = lists g last_one deltas groups (more - 1) (high_of group - 1) next mid grid few (omega (arith, long, size, here)) (omega (arith, long, some_here, enough, less)) follow.2 in
-    let walked = gives_more g last_one deltas (more - 1) at (record { slices = mid; next = start next; before = high_of group - 1 }) rest.end (turn_items g deltas deltas group (start next)) (list_items g deltas (next ∷ groups)) less s.inside first rest.gives in
+    let walked = gives_more g last_one deltas (more - 1) at (record { slices = mid; next = first_tile_of next; before = high_of group - 1 }) rest.end (turn_items g deltas deltas group (first_tile_of next)) (list_items g deltas (next ∷ groups)) less s.inside first rest.gives in
     record {
       end = rest.end;
       gives = subst (λ k. Gives (turns_from g last_one deltas k at) (list_items g deltas (group ∷ next ∷ groups)) rest.end) (sym one) walked;
-      all_are = rest.all_are ∙ ap Some (append_assoc slices (slices_of g group) (slices_of_all g (next ∷ groups)));
+      all_are = rest.all_are ∙ ap Some (append_assoc slices (slices_of_group g group) (slices_of_all g (next ∷ groups)));
     }
 
 pub list_gives : ListGivesSlices

@@ -16,8 +16,8 @@ use Rattle.vx_table.proofs.Joined.{parted}
 use Rattle.vx_pps.specs.declared.list.Listed.{Listed}
 use Rattle.vx_pps.specs.declared.tiles.Tiles.{Tiles}
 use Rattle.vx_pps.specs.Tiles.{IsGrid, across, column, down, row, tile}
-use Rattle.vx_pps.specs.Groups.{Group, cut, slices_of, slices_of_all, strips, whole}
-use Rattle.vx_pps.specs.Slices.{all_slices, goes_on, height_in_tiles, height_limits, list_from, may_be_cut, none_listed, slices_at, slices_in_tile, spells_delta, strips_from, tile_after, turn, turns_from, width_in_tiles}
+use Rattle.vx_pps.specs.Groups.{Group, cut, slices_of_group, slices_of_all, strips, whole}
+use Rattle.vx_pps.specs.Slices.{all_slices, goes_on, height_in_tiles, height_limits, list_from, may_be_cut, none_listed, slices_from_tile, slices_in_tile, spells_delta, strips_from, tile_after, turn, turns_from, width_in_tiles}
 use Rattle.vx_pps.specs.inner.Found.{AreGroups, LiesInside}
 use Rattle.vx_pps.proofs.Blocks.{row_inside}
 use Rattle.vx_pps.proofs.Ended.{Listing, at_done, column_inside, height_end, none_listing, repeated_some, turn_end, width_end}
@@ -31,13 +31,13 @@ pub record Named (g : Tiles) (slices : List Rect) : Type 0 where
 
 slices-append : (g : Tiles) (xs ys : List Group) → slices_of_all g (xs ++ ys) ≡ slices_of_all g xs ++ slices_of_all g ys
 slices-append g [] ys = refl
-slices-append g (x ∷ xs) ys = ap (λ rs. slices_of g x ++ rs) (slices-append g xs ys) ∙ sym (append_assoc (slices_of g x) (slices_of_all g xs) (slices_of_all g ys))
+slices-append g (x ∷ xs) ys = ap (λ rs. slices_of_group g x ++ rs) (slices-append g xs ys) ∙ sym (append_assoc (slices_of_group g x) (slices_of_all g xs) (slices_of_all g ys))
 
-one_more : (g : Tiles) (slices : List Rect) (group : Group) → Named g slices → LiesInside g group → Named g (slices ++ slices_of g group)
+one_more : (g : Tiles) (slices : List Rect) (group : Group) → Named g slices → LiesInside g group → Named g (slices ++ slices_of_group g group)
 one_more g slices group named inside = record {
   groups = named.groups ++ group ∷ [];
   are = record {
-    same = slices-append g named.groups (group ∷ []) ∙ ap (λ rs. rs ++ slices_of_all g (group ∷ [])) named.are.same ∙ ap (λ rs. slices ++ rs) (append-nil (slices_of g group));
+    same = slices-append g named.groups (group ∷ []) ∙ ap (λ rs. rs ++ slices_of_all g (group ∷ [])) named.are.same ∙ ap (λ rs. slices ++ rs) (append-nil (slices_of_group g group));
     inside = All-append (LiesInside g) named.groups (group ∷ []) named.are.inside (All-cons (LiesInside g) group [] inside (All-nil (LiesInside g)));
   };
 }
@@ -98,7 +98,7 @@ tile_named g t last slices {w} {all} (through {v} is rest) inside high named = e
       cut_named g t c.heights slices all inside high c.each (omega (arith, c.whole)) c.same named
 ]
 
-slices_named : (g : Tiles) (last t width height : ℕ) (slices : List Rect) {w : List ℤ} {all : List Rect} → t < across g * down g → column g t + width < across g → row g t + height < down g → Named g slices → Follows (slices_at g last t width height slices) w all → Named g all
+slices_named : (g : Tiles) (last t width height : ℕ) (slices : List Rect) {w : List ℤ} {all : List Rect} → t < across g * down g → column g t + width < across g → row g t + height < down g → Named g slices → Follows (slices_from_tile g last t width height slices) w all → Named g all
 slices_named g last t width height slices inside in_columns in_rows named follows = elim (cases_Bool (may_be_cut width height (tile g t))) [
   | inl one ↦
       let high : 1 < (tile g t).h = ltb-true 1 (tile g t).h (and_parts (eqb width 0 && eqb height 0) (ltb 1 (tile g t).h) one).1 in
@@ -114,7 +114,7 @@ turn_named g last deltas at grid goes is named follows =
     let inside = ltb-true _ _ (and_parts (ltb (length at.slices) last) (ltb at.next (across g * down g)) goes).1 in
     let one = parted (width_in_tiles g at.next) _ follows in
     let two = parted (height_in_tiles g deltas at.next at.before) _ one.second in
-    let three = parted (slices_at g last at.next one.mid two.mid at.slices) _ two.second in
+    let three = parted (slices_from_tile g last at.next one.mid two.mid at.slices) _ two.second in
     let four = parted (tile_after g (spells_delta deltas three.mid last) at.next one.mid two.mid) _ three.second in
     let in_columns = width_end g at.next grid one.first in
     let in_rows = height_end g deltas at.next at.before inside is.level two.first in
@@ -143,8 +143,8 @@ all_named g last at all grid named e = elim (cases_Bool (ltb last (length at.sli
         let in_row : row g t < down g = row_inside g t low in
         let in_column : column g t < across g = column_inside g t grid in
         let group : Group = whole t (across g - column g t) (down g - row g t) in
-        let whole_list : Some (at.slices ++ slices_of g group) ≡ Some all = rw (room, inside) at e in
-        let same : at.slices ++ slices_of g group ≡ all = cc in
+        let whole_list : Some (at.slices ++ slices_of_group g group) ≡ Some all = rw (room, inside) at e in
+        let same : at.slices ++ slices_of_group g group ≡ all = cc in
         subst (Named g) same (one_more g at.slices group named (record { inside = low; lies = (omega (arith, in_column), omega (arith, in_row), omega (arith, in_column), omega (arith, in_row)) }))
   ]
 ]

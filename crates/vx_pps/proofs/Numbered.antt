@@ -18,9 +18,9 @@ use Rattle.vx_table.proofs.Agreeing.{inside_itself}
 use Rattle.vx_table.proofs.Loading.{number_of_shown}
 use Rattle.vx_table.proofs.Starred.{structure_keeps_only}
 use Rattle.vx_pps.specs.declared.partition.Partition.{Partition}
-use Rattle.vx_pps.specs.Pps.{front, kept_of}
-use Rattle.vx_pps.specs.Sets.{GiveSame, KeptTellsNumbers, kept}
-use Rattle.vx_pps.specs.Written.{item}
+use Rattle.vx_pps.specs.Pps.{before_tiles, kept_pps_items}
+use Rattle.vx_pps.specs.laws.Sets.{GiveSame, KeptTellsNumbers, kept_pps_fields}
+use Rattle.vx_pps.specs.Written.{only_item}
 use Rattle.vx_pps.proofs.Cutting.{Parts, cut_parts}
 use Rattle.vx_pps.proofs.Fields.{all_pass, apart, named, passes, same_with}
 use Rattle.vx_pps.proofs.Flags.{flag_items}
@@ -38,7 +38,7 @@ abbrev in_runs : List ℕ → List Item → List Item
 in_runs fields items = shown_items (set_of fields) items
 
 abbrev dbf_flags : List Item → List Item
-dbf_flags items = item pps.pps_dbf_info_in_ph_flag (pos (number items pps.pps_dbf_info_in_ph_flag))
+dbf_flags items = only_item pps.pps_dbf_info_in_ph_flag (pos (number items pps.pps_dbf_info_in_ph_flag))
 
 abbrev header_flags : List Item → List Item
 header_flags items = flag_items (number items pps.pps_rpl_info_in_ph_flag) (number items pps.pps_sao_info_in_ph_flag) (number items pps.pps_wp_info_in_ph_flag)
@@ -46,9 +46,9 @@ header_flags items = flag_items (number items pps.pps_rpl_info_in_ph_flag) (numb
 abbrev all_kept : List Item → List Item
 all_kept items = in_runs front_fields items ++ (in_runs early_fields items ++ (dbf_flags items ++ (in_runs offsets_fields items ++ (header_flags items ++ in_runs end_fields items))))
 
-kept_is : {items : List Item} {e : Partition} → Parts items e → kept_of items ≡ all_kept items
+kept_is : {items : List Item} {e : Partition} → Parts items e → kept_pps_items items ≡ all_kept items
 kept_is {items} p =
-    let first = run_shows front_fields front fresh front_run p.first.follows ∙ sym (from_front p (set_of front_fields) runs_clear.0 front_aside) in
+    let first = run_shows front_fields before_tiles fresh front_run p.first.follows ∙ sym (from_front p (set_of front_fields) runs_clear.0 front_aside) in
     let early = run_shows early_fields before_dbf p.scope early_run (at_dbf p).first ∙ sym (from_early p (set_of early_fields) runs_clear.1 early_aside.0 early_aside.1) in
     let t = offsets_aside in
     let offsets = run_shows offsets_fields dbf_offsets (at_offsets p).mid offsets_run (at_info p).first
@@ -56,7 +56,7 @@ kept_is {items} p =
     let u = end_aside in
     let last = run_shows end_fields end (at_end p).mid end_run (at_end p).second
     ∙ sym (from_headers p (set_of end_fields) runs_clear.3 u.0 u.1 u.2 u.3 ∙ shows_more header_info end (at_info p).mid (at_end p) (set_of end_fields) u.4) in
-    ap kept_of p.all ∙ kept_put p.first p.second p.third ∙ rw (first, kept_runs p, early, (dbf_keeps p).0, offsets, (info_keeps p).0, last) refl
+    ap kept_pps_items p.all ∙ kept_put p.first p.second p.third ∙ rw (first, kept_runs p, early, (dbf_keeps p).0, offsets, (info_keeps p).0, last) refl
 
 -- ---- parts of it
 
@@ -133,11 +133,11 @@ abbrev is_kept : ℕ → Bool
 is_kept n = (has (set_of front_fields) n || has (set_of early_fields) n) || ((has (set_of offsets_fields) n || has (set_of end_fields) n)
     || ((n == pps.pps_dbf_info_in_ph_flag || n == pps.pps_rpl_info_in_ph_flag) || (n == pps.pps_sao_info_in_ph_flag || n == pps.pps_wp_info_in_ph_flag)))
 
-all_are_kept : passes is_kept kept ≡ true
+all_are_kept : passes is_kept kept_pps_fields ≡ true
 unfolding fresh
 all_are_kept = refl
 
-module _ {xs ys : List Item} {c d : Partition} (p : Parts xs c) (q : Parts ys d) (same : kept_of xs ≡ kept_of ys) where
+module _ {xs ys : List Item} {c d : Partition} (p : Parts xs c) (q : Parts ys d) (same : kept_pps_items xs ≡ kept_pps_items ys) where
   all_same : all_kept xs ≡ all_kept ys
   all_same = sym (kept_is p) ∙ same ∙ kept_is q
 
@@ -197,7 +197,7 @@ module _ {xs ys : List Item} {c d : Partition} (p : Parts xs c) (q : Parts ys d)
   gives_same : GiveSame xs ys
   unfolding fresh
   gives_same = record {
-    numbers = λ n is. named (λ m. number xs m ≡ number ys m) kept n (all_pass is_kept (λ m. number xs m ≡ number ys m) each kept all_are_kept) is;
+    numbers = λ n is. named (λ m. number xs m ≡ number ys m) kept_pps_fields n (all_pass is_kept (λ m. number xs m ≡ number ys m) each kept_pps_fields all_are_kept) is;
     active = λ list. ap (λ l. slice_index (map (λ (x : Item). natural x.value) l) list) (same_with (set_of early_fields) pps.pps_num_ref_idx_default_active_minus1 xs ys refl early_same);
   }
 

@@ -12,7 +12,7 @@ use Rattle.vx_layout.specs.Layouts.{no_rect}
 use Rattle.vx_layout.proofs.Rising.{Rises-level}
 use Rattle.vx_pps.specs.declared.shape.PpsShape.{PpsShape}
 use Rattle.vx_pps.specs.declared.tiles.Tiles.{Tiles}
-use Rattle.vx_pps.specs.Groups.{Follow, Group, cut, high_of, slices_of, slices_of_all, strips, whole}
+use Rattle.vx_pps.specs.Groups.{Follow, Group, cut, high_of, slices_of_group, slices_of_all, strips, whole}
 use Rattle.vx_pps.specs.Reshaped.{Divides, divided_items}
 use Rattle.vx_pps.specs.Tiles.{across, block, column, down, row, tile}
 use Rattle.vx_pps.specs.inner.Found.{LiesInside}
@@ -94,10 +94,10 @@ module _ (g : Tiles) (columns : Rises g.columns) (rows : Rises g.rows) where
       (λ j. whole (start j) (wide_is j) (high_is j), ap behind same)
 
   cuts_one : (t h u k : ℕ) (hs ks : List ℕ) (xs ys : List Rect) → LiesInside g (cut t (h ∷ hs)) → LiesInside g (cut u (k ∷ ks))
-      → slices_of g (cut t (h ∷ hs)) ++ xs ≡ slices_of g (cut u (k ∷ ks)) ++ ys → (cut t (h ∷ hs) ≡ cut u (k ∷ ks)) × (xs ≡ ys)
+      → slices_of_group g (cut t (h ∷ hs)) ++ xs ≡ slices_of_group g (cut u (k ∷ ks)) ++ ys → (cut t (h ∷ hs) ≡ cut u (k ∷ ks)) × (xs ≡ ys)
   cuts_one t h u k hs ks xs ys is of same =
       let start = same_start t u is.inside of.inside (ap (λ (rs : List Rect). (slice_index_or rs 0 no_rect).x) same) (ap (λ (rs : List Rect). (slice_index_or rs 0 no_rect).y) same) in
-      let back : slices_of g (cut u (k ∷ ks)) ++ ys ≡ slices_of g (cut t (k ∷ ks)) ++ ys = ap (λ n. slices_of g (cut n (k ∷ ks)) ++ ys) (sym start) in
+      let back : slices_of_group g (cut u (k ∷ ks)) ++ ys ≡ slices_of_group g (cut t (k ∷ ks)) ++ ys = ap (λ n. slices_of_group g (cut n (k ∷ ks)) ++ ys) (sym start) in
       let total : sum (h ∷ hs) ≡ sum (k ∷ ks) = is.lies.2 ∙ (ap (λ n. (tile g n).h) start ∙ sym of.lies.2) in
       let on = strips_one (tile g t) (tile g t).y (h ∷ hs) (k ∷ ks) xs ys is.lies.1 of.lies.1 total (same ∙ back) in
       let heights = on.0 in
@@ -105,7 +105,7 @@ module _ (g : Tiles) (columns : Rises g.columns) (rows : Rises g.rows) where
 
   -- the first slice of a tile is lower than whole tiles
   no_cut : (t wide high u : ℕ) (heights : List ℕ) (xs ys : List Rect) → LiesInside g (whole t wide high) → LiesInside g (cut u heights)
-      → slices_of g (whole t wide high) ++ xs ≡ slices_of g (cut u heights) ++ ys → ⊥
+      → slices_of_group g (whole t wide high) ++ xs ≡ slices_of_group g (cut u heights) ++ ys → ⊥
   no_cut t wide high u [] xs ys is of same = omega (arith, of.lies.0)
   no_cut t wide high u (h ∷ []) xs ys is of same = omega (arith, of.lies.0)
   no_cut t wide high u (h ∷ k ∷ hs) xs ys is of same =
@@ -125,7 +125,7 @@ module _ (g : Tiles) (columns : Rises g.columns) (rows : Rises g.rows) where
         sum_by-cons (λ n. n) k hs,
       )
 
-  group_one : (a b : Group) (xs ys : List Rect) → LiesInside g a → LiesInside g b → slices_of g a ++ xs ≡ slices_of g b ++ ys → (a ≡ b) × (xs ≡ ys)
+  group_one : (a b : Group) (xs ys : List Rect) → LiesInside g a → LiesInside g b → slices_of_group g a ++ xs ≡ slices_of_group g b ++ ys → (a ≡ b) × (xs ≡ ys)
   group_one (whole t wide high) (whole u broad tall) xs ys is of same = wholes_one t wide high u broad tall xs ys is of same
   group_one (whole t wide high) (cut u heights) xs ys is of same = absurd (no_cut t wide high u heights xs ys is of same)
   group_one (cut t heights) (whole u broad tall) xs ys is of same = absurd (no_cut u broad tall t heights ys xs of is (sym same))
@@ -136,7 +136,7 @@ module _ (g : Tiles) (columns : Rises g.columns) (rows : Rises g.rows) where
   -- ---- groups
 
   some_slices : (a : Group) (groups : List Group) → LiesInside g a → slices_of_all g (a ∷ groups) ≡ [] → ⊥
-  some_slices a groups is none = let some = group_some g a is.lies in omega (arith, some, ap length none, length-append (slices_of g a) (slices_of_all g groups))
+  some_slices a groups is none = let some = group_some g a is.lies in omega (arith, some, ap length none, length-append (slices_of_group g a) (slices_of_all g groups))
 
   groups_one : (groups others : List Group) → AllByRecursion (LiesInside g) groups → AllByRecursion (LiesInside g) others → slices_of_all g groups ≡ slices_of_all g others → groups ≡ others
   groups_one [] [] is of same = refl

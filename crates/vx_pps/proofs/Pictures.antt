@@ -5,12 +5,12 @@ use Rattle.std.proofs.lemmas.Bool.{cases_lt}
 use Rattle.std.specs.List.{All, AllPairs, Any}
 use Rattle.vx_layout.specs.declared.rect.Rect.{Rect}
 use Rattle.vx_layout.specs.Bounds.{Rises, last}
-use Rattle.vx_layout.specs.Rects.{IsPart, Precedes, fits, in_order, slices_of, whole_picture}
+use Rattle.vx_layout.specs.Rects.{IsPart, Precedes, fits, in_order, slices_of_subpicture, whole_picture}
 use Rattle.vx_layout.specs.Shapes.{HasCtu}
 use Rattle.vx_layout.proofs.Counting.{slices_all}
 use Rattle.vx_layout.proofs.Holding.{fits_tells}
 use Rattle.vx_layout.proofs.Rising.{Contains-le-last, bound_from, length-le-last}
-use Rattle.vx_pps.specs.Laws.{LayoutsAreLists}
+use Rattle.vx_pps.specs.laws.Lists.{LayoutsAreLists}
 
 -- some of one is that one
 any_one : (r s : Rect) → Any (λ t. fits r t ≡ true) (s ∷ []) → fits r s ≡ true
@@ -40,7 +40,7 @@ pub layouts_are : LayoutsAreLists
 layouts_are g slices layout listable =
     let all : Rect = whole_picture (last g.columns) (last g.rows) in
     let fit : All (λ r. fits r all ≡ true) slices = λ i d short. any_one (get_or slices i d) all (layout.faultless.split i d short) in
-    let same : in_order slices (all ∷ []) ≡ slices = append-nil (slices_of slices all) ∙ slices_all slices all fit in
+    let same : in_order slices (all ∷ []) ≡ slices = append-nil (slices_of_subpicture slices all) ∙ slices_all slices all fit in
     record {
       grid = record {
         columns = (layout.limits.columns.0, omega (arith, layout.limits.columns, length-le-last g.columns layout.columns));

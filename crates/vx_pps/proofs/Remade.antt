@@ -15,8 +15,8 @@ use Rattle.vx_pps.specs.declared.halt.Halt.TheVariants.{Refused}
 use Rattle.vx_pps.specs.declared.partition.Partition.{Partition}
 use Rattle.vx_pps.specs.declared.shape.PpsShape.{PpsShape}
 use Rattle.vx_pps.specs.Partition.{undivided}
-use Rattle.vx_pps.specs.Pps.{IsItems, IsPps, pps_form}
-use Rattle.vx_pps.specs.Reshaped.{IsReshaped, IsShape, taken}
+use Rattle.vx_pps.specs.Pps.{ArePpsItems, IsPps, pps_form}
+use Rattle.vx_pps.specs.Reshaped.{IsReshapedPps, IsShape, taken}
 use Rattle.vx_pps.specs.inner.Stated.{PutsTogether, StatesAll}
 use Rattle.vx_pps.specs.inner.Walked.{Walked, coded, ended}
 use Rattle.vx_pps.proofs.Reshaping.{division_of, reshapes, stated as stated_items}
@@ -62,8 +62,8 @@ whole_sources names shown others a b n m r is is_a is_b size long =
     is ∙ ap (λ xs. record { names = names; shown = xs; others = b }) all_a ∙ ap (λ xs. record { names = names; shown = shown; others = xs }) all_b
 
 -- the rewritten set is put together
-pub remade : (source : List Item) (shape : PpsShape) (others : List Item) (set : Option (List Item)) → IsItems source → IsShape source shape → StatesAll source shape others
-    → PutsTogether (taken shape) (shown_items (taken shape) source) others set → (items : List Item) × IsReshaped source shape items × (set ≡ Some items)
+pub remade : (source : List Item) (shape : PpsShape) (others : List Item) (set : Option (List Item)) → ArePpsItems source → IsShape source shape → StatesAll source shape others
+    → PutsTogether (taken shape) (shown_items (taken shape) source) others set → (items : List Item) × IsReshapedPps source shape items × (set ≡ Some items)
 remade source shape others set is_set is stated puts_ =
     let d = division_of source shape is in
     let r = reshapes source is_set.end shape d.0 is_set.set is d.1 in
@@ -71,15 +71,15 @@ remade source shape others set is_set is stated puts_ =
     let rewritten : IsRewritten pps_form (taken shape) (shown_items (taken shape) source) others r.items = subst (λ xs. IsRewritten pps_form (taken shape) (shown_items (taken shape) source) xs r.items) same r.rewritten in
     (r.items, record { others = others; stated = record { division = d.0; divides = d.1; all = sym same }; rewritten = rewritten }, there set r.items rewritten puts_)
 
-pub remade_from : (source fields : List Item) (shape : PpsShape) (names : List ℕ) (shown others : List Item) (set : Option (List Item)) → IsItems fields → fields ≡ source → IsShape source shape → names ≡ taken shape → shown ≡ shown_items names fields
-    → StatesAll source shape others → PutsTogether names shown others set → (items : List Item) × IsReshaped source shape items × (set ≡ Some items)
+pub remade_from : (source fields : List Item) (shape : PpsShape) (names : List ℕ) (shown others : List Item) (set : Option (List Item)) → ArePpsItems fields → fields ≡ source → IsShape source shape → names ≡ taken shape → shown ≡ shown_items names fields
+    → StatesAll source shape others → PutsTogether names shown others set → (items : List Item) × IsReshapedPps source shape items × (set ≡ Some items)
 remade_from source fields shape names shown others set is_set same is names_are shown_are stated puts_ =
-    let items : IsItems source = subst IsItems same is_set in
+    let items : ArePpsItems source = subst ArePpsItems same is_set in
     let shown_same : shown ≡ shown_items (taken shape) source = shown_are ∙ ap (λ n. shown_items n fields) names_are ∙ ap (λ xs. shown_items (taken shape) xs) same in
     remade source shape others set items is stated (subst (λ xs. PutsTogether (taken shape) xs others set) shown_same (subst (λ n. PutsTogether n shown others set) names_are puts_))
 
-pub reshaped_some : (source : List Item) (shape : PpsShape) (set : List Item) (option : Option (List Item)) → option ≡ Some set → (items : List Item) × IsReshaped source shape items × (option ≡ Some items) → IsReshaped source shape set
-reshaped_some source shape set option is (items, reshaped, same) = let e : items ≡ set = cc in subst (λ xs. IsReshaped source shape xs) e reshaped
+pub reshaped_some : (source : List Item) (shape : PpsShape) (set : List Item) (option : Option (List Item)) → option ≡ Some set → (items : List Item) × IsReshapedPps source shape items × (option ≡ Some items) → IsReshapedPps source shape set
+reshaped_some source shape set option is (items, reshaped, same) = let e : items ≡ set = cc in subst (λ xs. IsReshapedPps source shape xs) e reshaped
 
-pub reshaped_none : (source : List Item) (shape : PpsShape) (option : Option (List Item)) → option ≡ None → (items : List Item) × IsReshaped source shape items × (option ≡ Some items) → ⊥
+pub reshaped_none : (source : List Item) (shape : PpsShape) (option : Option (List Item)) → option ≡ None → (items : List Item) × IsReshapedPps source shape items × (option ≡ Some items) → ⊥
 reshaped_none source shape option is (items, reshaped, same) = absurd (cc)

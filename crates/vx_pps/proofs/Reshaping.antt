@@ -25,9 +25,10 @@ use Rattle.vx_pps.specs.declared.partition.Partition.{Partition}
 use Rattle.vx_pps.specs.declared.shape.PpsShape.{PpsShape}
 use Rattle.vx_pps.specs.declared.shape.TheConstants.{TAKEN, TAKEN_FOR_FRAME}
 use Rattle.vx_pps.specs.Partition.{partition, undivided}
-use Rattle.vx_pps.specs.Pps.{front, kept_of, partition_at, partition_of, pps_form, tools}
-use Rattle.vx_pps.specs.Reshaped.{CanBeDivided, IsDivision, IsReshaped, IsShape, IsSize, RegionKeeps, ReshapedHasItsTiles, frame_tool_items, front_items, id_items, taken, tool_items, where_so, whole_flag}
-use Rattle.vx_pps.specs.Written.{Gives, item}
+use Rattle.vx_pps.specs.Pps.{before_tiles, kept_pps_items, partition_at, partition_of, pps_form, after_slices}
+use Rattle.vx_pps.specs.Reshaped.{CanBeDivided, IsDivision, IsReshapedPps, IsShape, IsSize, RegionKeeps, ReshapedHasItsTiles, frame_tool_items, front_items, pps_subpic_id_items, taken, tool_items, whole_flag}
+use Rattle.vx_table.specs.Rewritten.{where_so}
+use Rattle.vx_pps.specs.Written.{Gives, only_item}
 use Rattle.vx_pps.proofs.Cutting.{Clear, Parts, clear_from, cut_parts, division_unshown, flag_below, none_other, number_by_others, numbers_before, numbers_told, override_told, put_parts}
 use Rattle.vx_pps.proofs.Division.{a_division, division_gives}
 use Rattle.vx_pps.proofs.Fronts.{HasFront, front_goes}
@@ -44,49 +45,49 @@ use Rattle.vx_pps.proofs.Tooled.{HasFlags, frame_tools, tools_again, tools_keep}
 abbrev pub NoneOf : ℕ → List Item → Type 0
 NoneOf of items = All (λ item. (item.field == of) ≡ false) items
 
-pub no_item : (of n : ℕ) (v : ℤ) (items : List Item) → of < n → NoneOf of items → NoneOf of (item n v ++ items)
+pub no_item : (of n : ℕ) (v : ℤ) (items : List Item) → of < n → NoneOf of items → NoneOf of (only_item n v ++ items)
 no_item of n v items less none = All-cons (λ item. (item.field == of) ≡ false) (record { field = n; value = v }) items (ne_eqb n of (λ e. omega (arith, e, less))) none
 
-pub none_where : (of n : ℕ) (v : ℤ) (b : Bool) (items : List Item) → of < n → NoneOf of items → NoneOf of (where_so b (item n v) ++ items)
+pub none_where : (of n : ℕ) (v : ℤ) (b : Bool) (items : List Item) → of < n → NoneOf of items → NoneOf of (where_so b (only_item n v) ++ items)
 none_where of n v true items less none = no_item of n v items less none
 none_where of n v false items less none = none
 
 pub no_more : (of : ℕ) → NoneOf of []
 no_more of = All-nil (λ item. (item.field == of) ≡ false)
 
-none_ids : (of whole_ : ℕ) (id : Option (ℕ × ℕ)) → of < 413 → NoneOf of (id_items whole_ id)
+none_ids : (of whole_ : ℕ) (id : Option (ℕ × ℕ)) → of < 413 → NoneOf of (pps_subpic_id_items whole_ id)
 none_ids of whole_ None low = no_item of pps.pps_subpic_id_mapping_present_flag (pos 0) [] low (no_more of)
 none_ids of whole_ (Some (bits, id)) low =
     no_item of pps.pps_subpic_id_mapping_present_flag (pos 1)
-    (where_so (eqb whole_ 0) (item pps.pps_num_subpics_minus1 (pos 0)) ++ (item pps.pps_subpic_id_len_minus1 (pos bits) ++ item pps.pps_subpic_id (pos id))) low
-    (none_where of pps.pps_num_subpics_minus1 (pos 0) (eqb whole_ 0) (item pps.pps_subpic_id_len_minus1 (pos bits) ++ item pps.pps_subpic_id (pos id)) (omega (arith, low))
-    (no_item of pps.pps_subpic_id_len_minus1 (pos bits) (item pps.pps_subpic_id (pos id)) (omega (arith, low)) (no_item of pps.pps_subpic_id (pos id) [] (omega (arith, low)) (no_more of))))
+    (where_so (eqb whole_ 0) (only_item pps.pps_num_subpics_minus1 (pos 0)) ++ (only_item pps.pps_subpic_id_len_minus1 (pos bits) ++ only_item pps.pps_subpic_id (pos id))) low
+    (none_where of pps.pps_num_subpics_minus1 (pos 0) (eqb whole_ 0) (only_item pps.pps_subpic_id_len_minus1 (pos bits) ++ only_item pps.pps_subpic_id (pos id)) (omega (arith, low))
+    (no_item of pps.pps_subpic_id_len_minus1 (pos bits) (only_item pps.pps_subpic_id (pos id)) (omega (arith, low)) (no_item of pps.pps_subpic_id (pos id) [] (omega (arith, low)) (no_more of))))
 
 stated_whole : (whole_ : ℕ) (shape : PpsShape) → whole_ < 2 → number (front_items whole_ shape) pps.pps_no_pic_partition_flag ≡ whole_
 stated_whole whole_ shape low =
     number_of_last pps.pps_no_pic_partition_flag (pos whole_)
-    (item pps.pps_pic_parameter_set_id (pos shape.id) ++ (item pps.pps_seq_parameter_set_id (pos shape.sps_id) ++ (item pps.pps_pic_width_in_luma_samples (pos shape.width)
-    ++ (item pps.pps_pic_height_in_luma_samples (pos shape.height) ++ item pps.pps_conformance_window_flag (pos 0)))))
-    (id_items whole_ shape.subpic_id) (omega arith) (none_ids pps.pps_no_pic_partition_flag whole_ shape.subpic_id (omega arith))
+    (only_item pps.pps_pic_parameter_set_id (pos shape.id) ++ (only_item pps.pps_seq_parameter_set_id (pos shape.sps_id) ++ (only_item pps.pps_pic_width_in_luma_samples (pos shape.width)
+    ++ (only_item pps.pps_pic_height_in_luma_samples (pos shape.height) ++ only_item pps.pps_conformance_window_flag (pos 0)))))
+    (pps_subpic_id_items whole_ shape.subpic_id) (omega arith) (none_ids pps.pps_no_pic_partition_flag whole_ shape.subpic_id (omega arith))
     ∙ natural_is whole_ (omega arith)
 
 stated_height : (whole_ : ℕ) (shape : PpsShape) → IsSize shape.height → number (front_items whole_ shape) pps.pps_pic_height_in_luma_samples ≡ shape.height
 stated_height whole_ shape is =
     number_of_last pps.pps_pic_height_in_luma_samples (pos shape.height)
-    (item pps.pps_pic_parameter_set_id (pos shape.id) ++ (item pps.pps_seq_parameter_set_id (pos shape.sps_id) ++ item pps.pps_pic_width_in_luma_samples (pos shape.width)))
-    (item pps.pps_conformance_window_flag (pos 0) ++ (item pps.pps_no_pic_partition_flag (pos whole_) ++ id_items whole_ shape.subpic_id)) (omega arith)
-    (no_item pps.pps_pic_height_in_luma_samples pps.pps_conformance_window_flag (pos 0) (item pps.pps_no_pic_partition_flag (pos whole_) ++ id_items whole_ shape.subpic_id) (omega arith)
-    (no_item pps.pps_pic_height_in_luma_samples pps.pps_no_pic_partition_flag (pos whole_) (id_items whole_ shape.subpic_id) (omega arith) (none_ids pps.pps_pic_height_in_luma_samples whole_ shape.subpic_id (omega arith))))
+    (only_item pps.pps_pic_parameter_set_id (pos shape.id) ++ (only_item pps.pps_seq_parameter_set_id (pos shape.sps_id) ++ only_item pps.pps_pic_width_in_luma_samples (pos shape.width)))
+    (only_item pps.pps_conformance_window_flag (pos 0) ++ (only_item pps.pps_no_pic_partition_flag (pos whole_) ++ pps_subpic_id_items whole_ shape.subpic_id)) (omega arith)
+    (no_item pps.pps_pic_height_in_luma_samples pps.pps_conformance_window_flag (pos 0) (only_item pps.pps_no_pic_partition_flag (pos whole_) ++ pps_subpic_id_items whole_ shape.subpic_id) (omega arith)
+    (no_item pps.pps_pic_height_in_luma_samples pps.pps_no_pic_partition_flag (pos whole_) (pps_subpic_id_items whole_ shape.subpic_id) (omega arith) (none_ids pps.pps_pic_height_in_luma_samples whole_ shape.subpic_id (omega arith))))
     ∙ natural_is shape.height (omega (arith, is.small))
 
 stated_width : (whole_ : ℕ) (shape : PpsShape) → IsSize shape.width → number (front_items whole_ shape) pps.pps_pic_width_in_luma_samples ≡ shape.width
 stated_width whole_ shape is =
     number_of_last pps.pps_pic_width_in_luma_samples (pos shape.width)
-    (item pps.pps_pic_parameter_set_id (pos shape.id) ++ item pps.pps_seq_parameter_set_id (pos shape.sps_id))
-    (item pps.pps_pic_height_in_luma_samples (pos shape.height) ++ (item pps.pps_conformance_window_flag (pos 0) ++ (item pps.pps_no_pic_partition_flag (pos whole_) ++ id_items whole_ shape.subpic_id))) (omega arith)
-    (no_item pps.pps_pic_width_in_luma_samples pps.pps_pic_height_in_luma_samples (pos shape.height) (item pps.pps_conformance_window_flag (pos 0) ++ (item pps.pps_no_pic_partition_flag (pos whole_) ++ id_items whole_ shape.subpic_id)) (omega arith)
-    (no_item pps.pps_pic_width_in_luma_samples pps.pps_conformance_window_flag (pos 0) (item pps.pps_no_pic_partition_flag (pos whole_) ++ id_items whole_ shape.subpic_id) (omega arith)
-    (no_item pps.pps_pic_width_in_luma_samples pps.pps_no_pic_partition_flag (pos whole_) (id_items whole_ shape.subpic_id) (omega arith) (none_ids pps.pps_pic_width_in_luma_samples whole_ shape.subpic_id (omega arith)))))
+    (only_item pps.pps_pic_parameter_set_id (pos shape.id) ++ only_item pps.pps_seq_parameter_set_id (pos shape.sps_id))
+    (only_item pps.pps_pic_height_in_luma_samples (pos shape.height) ++ (only_item pps.pps_conformance_window_flag (pos 0) ++ (only_item pps.pps_no_pic_partition_flag (pos whole_) ++ pps_subpic_id_items whole_ shape.subpic_id))) (omega arith)
+    (no_item pps.pps_pic_width_in_luma_samples pps.pps_pic_height_in_luma_samples (pos shape.height) (only_item pps.pps_conformance_window_flag (pos 0) ++ (only_item pps.pps_no_pic_partition_flag (pos whole_) ++ pps_subpic_id_items whole_ shape.subpic_id)) (omega arith)
+    (no_item pps.pps_pic_width_in_luma_samples pps.pps_conformance_window_flag (pos 0) (only_item pps.pps_no_pic_partition_flag (pos whole_) ++ pps_subpic_id_items whole_ shape.subpic_id) (omega arith)
+    (no_item pps.pps_pic_width_in_luma_samples pps.pps_no_pic_partition_flag (pos whole_) (pps_subpic_id_items whole_ shape.subpic_id) (omega arith) (none_ids pps.pps_pic_width_in_luma_samples whole_ shape.subpic_id (omega arith)))))
     ∙ natural_is shape.width (omega (arith, is.small))
 
 -- ---- sets
@@ -112,7 +113,7 @@ ones = (refl, refl, refl, refl, refl, refl)
 pub record FrontGone (merged : Bool) (whole_ : ℕ) (shape : PpsShape) (scope : List ℕ) (source : List Item) : Type 0 where
   pub items : List Item
   pub last : List ℕ
-  pub gives : Gives (sections_form front fresh) items last
+  pub gives : Gives (sections_form before_tiles fresh) items last
   pub agree : Agree (names merged) scope last
   pub shown : shown_items (names merged) items ≡ shown_items (names merged) source
   pub others : other_items (names merged) items ≡ front_items whole_ shape
@@ -121,11 +122,11 @@ pub record FrontGone (merged : Bool) (whole_ : ℕ) (shape : PpsShape) (scope : 
   pub height_is : slice_index last pps.pps_pic_height_in_luma_samples ≡ shape.height
   pub long : length fresh ≡ length last
 
-front_gone : (merged : Bool) (whole_ : ℕ) (shape : PpsShape) {source : List Item} {scope : List ℕ} → HasFront whole_ shape → Gives (sections_form front fresh) source scope → FrontGone merged whole_ shape scope source
+front_gone : (merged : Bool) (whole_ : ℕ) (shape : PpsShape) {source : List Item} {scope : List ℕ} → HasFront whole_ shape → Gives (sections_form before_tiles fresh) source scope → FrontGone merged whole_ shape scope source
 front_gone merged whole_ shape {source} {scope} has_ gives =
     let goes = front_goes merged whole_ shape has_ gives.follows in
-    let items : List Item = items_along (sections_form front fresh) goes.values in
-    let loads = (sections_load numbered front front_numbered).at fresh goes.values goes.last goes.follows in
+    let items : List Item = items_along (sections_form before_tiles fresh) goes.values in
+    let loads = (sections_load numbered before_tiles front_numbered).at fresh goes.values goes.last goes.follows in
     let same : (of : ℕ) → has numbered of ≡ true → has (set_of (of ∷ [])) of ≡ true → IsFalse (has (names merged) of) → slice_index goes.last of ≡ number (front_items whole_ shape) of
     = λ of is one out. sym (loads.same of is) ∙ number_by_others (names merged) of items one out ∙ ap (λ xs. number xs of) goes.other_ones in
     record {
@@ -138,7 +139,7 @@ front_gone merged whole_ shape {source} {scope} has_ gives =
       whole_is = same pps.pps_no_pic_partition_flag ones.3 ones.0 (front_untaken merged).0 ∙ stated_whole whole_ shape has_.whole_is;
       width_is = same pps.pps_pic_width_in_luma_samples ones.4 ones.1 (front_untaken merged).1 ∙ stated_width whole_ shape has_.width;
       height_is = same pps.pps_pic_height_in_luma_samples ones.5 ones.2 (front_untaken merged).2 ∙ stated_height whole_ shape has_.height;
-      long = (leaves_agree override (sections_form front) fresh goes.values goes.last (sections_leave override front override_stands.0) goes.follows).size;
+      long = (leaves_agree override (sections_form before_tiles) fresh goes.values goes.last (sections_leave override before_tiles override_stands.0) goes.follows).size;
     }
 
 -- ---- tiles and slices
@@ -165,10 +166,10 @@ some_division (suc n) shape can =
 pub record ToolsGone (merged : Bool) (source : List Item) (qp : ℤ) (t : List ℕ) (tool_items_ kept : List Item) : Type 0 where
   pub items : List Item
   pub last : List ℕ
-  pub gives : Gives (sections_form tools t) items last
+  pub gives : Gives (sections_form after_slices t) items last
   pub shown : shown_items (names merged) items ≡ shown_items (names merged) tool_items_
   pub others : other_items (names merged) items ≡ where_so merged (frame_tool_items source qp)
-  pub keeps : merged ≡ false → kept_along (sections_form tools t) gives.values ≡ kept
+  pub keeps : merged ≡ false → kept_along (sections_form after_slices t) gives.values ≡ kept
 
 pub flags_of : {source : List Item} {end : Partition} → Parts source end → HasFlags source
 flags_of p = record {
@@ -182,13 +183,13 @@ flags_of p = record {
 }
 
 tools_gone : (merged : Bool) {source : List Item} {end : Partition} (p : Parts source end) (qp : ℤ) (t : List ℕ) → neg_ℤ (pos 38) ≤ℤ qp → qp ≤ℤ pos 37 → Agree (names merged) p.scope t → length fresh ≡ length t
-    → slice_index t pps.pps_no_pic_partition_flag ≡ cond merged 0 (number source pps.pps_no_pic_partition_flag) → ToolsGone merged source qp t p.tool_items (kept_along (sections_form tools p.scope) p.third.values)
+    → slice_index t pps.pps_no_pic_partition_flag ≡ cond merged 0 (number source pps.pps_no_pic_partition_flag) → ToolsGone merged source qp t p.tool_items (kept_along (sections_form after_slices p.scope) p.third.values)
 unfolding fresh
 tools_gone true {source} p qp t low high agree long whole_is =
     let empty : Agree whole fresh t = agree_given (pps.pps_no_pic_partition_flag ∷ []) long (sym whole_is, tt) in
     let goes = (frame_tools source qp low high (flags_of p) {last = p.last} (numbers_told p) (override_told p) p.scope p.third.values p.third.follows).at t agree empty in
     record {
-      items = items_along (sections_form tools t) goes.values;
+      items = items_along (sections_form after_slices t) goes.values;
       last = goes.last;
       gives = record { values = goes.values; follows = goes.follows; given = refl };
       shown = goes.shown_ones ∙ ap (λ xs. shown_items (names true) xs) p.third.given;
@@ -199,11 +200,11 @@ tools_gone false {source} p qp t low high agree long whole_is =
     let same : Agree whole p.scope t = agree_given (pps.pps_no_pic_partition_flag ∷ []) agree.size (numbers_before p pps.pps_no_pic_partition_flag refl refl ∙ sym whole_is, tt) in
     let again = tools_again same p.third.follows in
     record {
-      items = items_along (sections_form tools t) p.third.values;
+      items = items_along (sections_form after_slices t) p.third.values;
       last = again.last;
       gives = record { values = p.third.values; follows = again.follows; given = refl };
       shown = ap (λ xs. shown_items (names false) xs) (again.items ∙ p.third.given);
-      others = none_other (names false) ((sections_show (names false) tools tools_read.2).at t) again.follows;
+      others = none_other (names false) ((sections_show (names false) after_slices tools_read.2).at t) again.follows;
       keeps = λ e. sym (tools_keep same p.third.follows again.follows);
     }
 
@@ -220,20 +221,20 @@ stated source shape division = front_items (whole_flag source shape) shape ++ (d
 pub record Reshapes (source : List Item) (shape : PpsShape) (division : List Item) : Type 0 where
   pub items : List Item
   pub rewritten : IsRewritten pps_form (taken shape) (shown_items (taken shape) source) (stated source shape division) items
-  pub keeps : shape.merged ≡ false → kept_of items ≡ kept_of source
+  pub keeps : shape.merged ≡ false → kept_pps_items items ≡ kept_pps_items source
   pub divided_as : whole_flag source shape ≡ 0 → rewritten.end ≡ record { tiles = shape.tiles; slices = Some shape.slices }
 
 -- the front keeps those of its fields that are taken over
-front_keeps_shown : (merged : Bool) → KeepsShown (names merged) (sections_form front fresh)
-front_keeps_shown true = (structure_keeps_only [] TAKEN_FOR_FRAME front (front_starred true)).keeps fresh
-front_keeps_shown false = (structure_keeps_only [] TAKEN front (front_starred false)).keeps fresh
+front_keeps_shown : (merged : Bool) → KeepsShown (names merged) (sections_form before_tiles fresh)
+front_keeps_shown true = (structure_keeps_only [] TAKEN_FOR_FRAME before_tiles (front_starred true)).keeps fresh
+front_keeps_shown false = (structure_keeps_only [] TAKEN before_tiles (front_starred false)).keeps fresh
 
-front_keeps : (merged : Bool) {xs ys : List Item} {s t : List ℕ} (f : Gives (sections_form front fresh) xs s) (g : Gives (sections_form front fresh) ys t) → shown_items (names merged) xs ≡ shown_items (names merged) ys
-    → kept_along (sections_form front fresh) f.values ≡ kept_along (sections_form front fresh) g.values
+front_keeps : (merged : Bool) {xs ys : List Item} {s t : List ℕ} (f : Gives (sections_form before_tiles fresh) xs s) (g : Gives (sections_form before_tiles fresh) ys t) → shown_items (names merged) xs ≡ shown_items (names merged) ys
+    → kept_along (sections_form before_tiles fresh) f.values ≡ kept_along (sections_form before_tiles fresh) g.values
 front_keeps merged {xs} {ys} {s} {t} f g same =
     let keeps = front_keeps_shown merged in
-    let fills = sections_fill_none front fresh front_fills in
-    let form : Form (List ℕ) = sections_form front fresh in
+    let fills = sections_fill_none before_tiles fresh front_fills in
+    let form : Form (List ℕ) = sections_form before_tiles fresh in
     let shown : shown_items (names merged) (items_along form f.values) ≡ shown_items (names merged) (items_along form g.values) = ap (λ x. shown_items (names merged) x) f.given ∙ same ∙ ap (λ x. shown_items (names merged) x) (sym g.given) in
     rewritten_keeps (names merged) (names merged) form form f.values g.values s t (inside_itself (names merged)) keeps keeps fills fills f.follows g.follows shown
 
@@ -276,9 +277,9 @@ reshapes source end shape division gives is divides =
             ∙ ap (λ xs. front_items whole_ shape ++ (division ++ xs)) t.others;
       };
       keeps = λ region. kept_put f.gives there t.gives
-          ∙ ap (λ xs. xs ++ kept_along (sections_form tools f.last) t.gives.values) (front_keeps shape.merged f.gives p.first f.shown)
-          ∙ ap (λ xs. kept_along (sections_form front fresh) p.first.values ++ xs) (t.keeps region)
-          ∙ sym (ap kept_of p.all ∙ kept_put p.first p.second p.third);
+          ∙ ap (λ xs. xs ++ kept_along (sections_form after_slices f.last) t.gives.values) (front_keeps shape.merged f.gives p.first f.shown)
+          ∙ ap (λ xs. kept_along (sections_form before_tiles fresh) p.first.values ++ xs) (t.keeps region)
+          ∙ sym (ap kept_pps_items p.all ∙ kept_put p.first p.second p.third);
       divided_as = d.end_is;
     }
 
@@ -287,7 +288,7 @@ pub division_of : (source : List Item) (shape : PpsShape) → IsShape source sha
 division_of source shape is = some_division (whole_flag source shape) shape is.divided
 
 -- and no other
-same_set : (source items : List Item) (shape : PpsShape) (re : IsReshaped source shape items) → (r : Reshapes source shape re.stated.division) → r.items ≡ items
+same_set : (source items : List Item) (shape : PpsShape) (re : IsReshapedPps source shape items) → (r : Reshapes source shape re.stated.division) → r.items ≡ items
 same_set source items shape re r =
     let a = re.rewritten in
     let b = r.rewritten in
@@ -309,4 +310,4 @@ has_its_tiles source items shape set is re partitioned =
 pub region_keeps : RegionKeeps
 region_keeps source items shape set is re region =
     let r = reshapes source set.end shape re.stated.division set.set is re.stated.divides in
-    ap kept_of (sym (same_set source items shape re r)) ∙ r.keeps region
+    ap kept_pps_items (sym (same_set source items shape re r)) ∙ r.keeps region

@@ -12,7 +12,7 @@ use Rattle.vx_table.specs.Parts.{sections_form}
 use Rattle.vx_table.specs.Reading.{Reads, ReadsField, ReadsValue, at_front}
 use Rattle.vx_table.specs.Scope.{fresh}
 use Rattle.vx_table.specs.Spelling.{at_end, here, items_along}
-use Rattle.vx_table.specs.Trailing.{EndsInStop, ends_in_stop, is_stop, sections_end_in_stop}
+use Rattle.vx_table.specs.laws.Trailing.{EndsInStop, ends_in_stop, is_stop, sections_end_in_stop}
 use Rattle.vx_table.specs.Values.{Follows, bits_along}
 use Rattle.vx_table.specs.Writing.{AreItemsOf, WritesField}
 use Rattle.vx_table.specs.declared.writer.SpellError.{SpellError}
@@ -25,7 +25,7 @@ use Rattle.vx_pps.specs.declared.halt.Halt.{Halt}
 use Rattle.vx_pps.specs.declared.halt.Halt.TheVariants.{Refused}
 use Rattle.vx_pps.specs.declared.partition.Partition.{Partition}
 use Rattle.vx_pps.specs.Partition.{undivided}
-use Rattle.vx_pps.specs.Pps.{IsItems, IsPps, ReadsFields, front, kept_of, partition_at, pps_form, tools}
+use Rattle.vx_pps.specs.Pps.{ArePpsItems, IsPps, ReadsFields, before_tiles, kept_pps_items, partition_at, pps_form, after_slices}
 use Rattle.vx_pps.specs.Items.{values_in}
 use Rattle.vx_pps.specs.inner.Walked.{Walked}
 use Rattle.vx_pps.proofs.Told.{values_back}
@@ -67,16 +67,16 @@ read_is bytes end new items walked =
 
 -- ---- what is written
 
-tools_stop : (s : List ℕ) → EndsInStop (sections_form tools s)
+tools_stop : (s : List ℕ) → EndsInStop (sections_form after_slices s)
 unfolding is_stop ends_in_stop sections_end_in_stop comes_always
-tools_stop s = sections_stop tools s refl
+tools_stop s = sections_stop after_slices s refl
 
 -- a set ends in rbsp_trailing_bits( )
 pub pps_stops : EndsInStop pps_form
 unfolding pps_form
 pps_stops =
-    stops_behind (sections_form front fresh) (λ s. partition_at s >>= λ p. sections_form tools s >>= λ t. done p)
-    (λ s. stops_behind (partition_at s) (λ p. sections_form tools s >>= λ t. done p) (λ p. stops_end (sections_form tools s) (λ t. p) (tools_stop s)))
+    stops_behind (sections_form before_tiles fresh) (λ s. partition_at s >>= λ p. sections_form after_slices s >>= λ t. done p)
+    (λ s. stops_behind (partition_at s) (λ p. sections_form after_slices s >>= λ t. done p) (λ p. stops_end (sections_form after_slices s) (λ t. p) (tools_stop s)))
 
 -- so it ends at a byte boundary
 ends_aligned : (values : List ℤ) (end : Partition) → Follows pps_form values end → length (bits_along pps_form 0 values) % 8 ≡ 0
@@ -86,7 +86,7 @@ ends_aligned values end follows =
     omega (arith, whole, aligned)
 
 -- the items of a set, as its values have them
-items_of_set : (items : List Item) (is : IsItems items) → AreItemsOf pps_form items is.set.values is.end []
+items_of_set : (items : List Item) (is : ArePpsItems items) → AreItemsOf pps_form items is.set.values is.end []
 items_of_set items is = record { follows = is.set.follows; given = sym is.set.given ∙ sym (append-nil (items_along pps_form is.set.values)) }
 
 -- a writer that begins with no bits, and with all items
@@ -96,14 +96,14 @@ from_all {result} {old} {bits} {fields} {items} {left} {n} none size all walked 
     let whole : take (n - 0) fields ≡ fields = take_all (n - 0) fields (omega (arith, size)) in
     subst (λ f. Walked WritesField pps_form [] f result bits left) (all ∙ whole) (subst (λ b. Walked WritesField pps_form b items result bits left) none walked)
 
-pub spelled : (items left : List Item) (bits : List Bool) (end : Partition) (is : IsItems items) → Walked WritesField pps_form [] items (Ok end) bits left
+pub spelled : (items left : List Item) (bits : List Bool) (end : Partition) (is : ArePpsItems items) → Walked WritesField pps_form [] items (Ok end) bits left
     → bits ≡ bits_along pps_form 0 is.set.values
 spelled items left bits end is walked = ((writings.writes {B = Partition} end (Ok end) (to_end walked)).only is.set.values is.end [] (items_of_set items is)).0
 
-pub is_aligned : (items left : List Item) (bits : List Bool) (end : Partition) → IsItems items → Walked WritesField pps_form [] items (Ok end) bits left → length bits % 8 ≡ 0
+pub is_aligned : (items left : List Item) (bits : List Bool) (end : Partition) → ArePpsItems items → Walked WritesField pps_form [] items (Ok end) bits left → length bits % 8 ≡ 0
 is_aligned items left bits end is walked = rw (spelled items left bits end is walked) (ends_aligned is.set.values is.end is.set.follows)
 
-pub never_unspelled : (items left : List Item) (bits : List Bool) → IsItems items → Walked {A = Partition} WritesField pps_form [] items (Err (Refused spellings.NoValue)) bits left → ⊥
+pub never_unspelled : (items left : List Item) (bits : List Bool) → ArePpsItems items → Walked {A = Partition} WritesField pps_form [] items (Err (Refused spellings.NoValue)) bits left → ⊥
 never_unspelled items left bits is walked = (writings.writes {B = Partition} undivided (Err spellings.NoValue) (to_refusal walked)).only is.set.values is.end [] (items_of_set items is)
 
 -- ---- what is kept
@@ -114,10 +114,10 @@ from_each {result} {fields} {items} {left} {into} {new} {n} none size all walked
     let whole : take (n - 0) fields ≡ fields = take_all (n - 0) fields (omega (arith, size)) in
     subst (λ f. Walked KeepsField pps_form f [] result left new) (all ∙ whole) (subst (λ k. Walked KeepsField pps_form items k result left new) none walked)
 
-pub kept : (items left new : List Item) (end : Partition) → IsItems items → Walked KeepsField pps_form items [] (Ok end) left new → new ≡ kept_of items
+pub kept : (items left new : List Item) (end : Partition) → ArePpsItems items → Walked KeepsField pps_form items [] (Ok end) left new → new ≡ kept_pps_items items
 kept items left new end is walked =
     let values : values_in pps_form items ≡ is.set.values = ap (values_in pps_form) (sym is.set.given) ∙ values_back is.set.follows in
     ((keeps {B = Partition} end (Ok end) (to_end walked)).only is.set.values is.end [] (items_of_set items is)).0 ∙ ap (kept_along pps_form) (sym values)
 
-pub never_unkept : (items left new : List Item) → IsItems items → Walked {A = Partition} KeepsField pps_form items [] (Err (Refused spellings.NoValue)) left new → ⊥
+pub never_unkept : (items left new : List Item) → ArePpsItems items → Walked {A = Partition} KeepsField pps_form items [] (Err (Refused spellings.NoValue)) left new → ⊥
 never_unkept items left new is walked = (keeps {B = Partition} undivided (Err spellings.NoValue) (to_refusal walked)).only is.set.values is.end [] (items_of_set items is)

@@ -15,16 +15,16 @@ use Rattle.vx_table.specs.declared.rows.Limits.TheVariants.{Below}
 use Rattle.vx_table.specs.Forms.{Form, done, field, ◌>>=◌, has_value}
 use Rattle.vx_table.specs.Parts.{sections_form}
 use Rattle.vx_table.specs.Scope.{fresh, is_set, natural}
-use Rattle.vx_table.specs.Sizes.{EachSpelling, Bound, IsWithin, greatest_value, greatest_coded, greatest_ranged, presence_keeps, row_keeps, code_bits, most_turns, part_bits, table_bits, sections_bits}
+use Rattle.vx_table.specs.laws.Sizes.{EachSpelling, Bound, IsWithin, greatest_value, greatest_coded, greatest_ranged, presence_keeps, row_keeps, code_bits, most_turns, part_bits, table_bits, sections_bits}
 use Rattle.vx_table.specs.Values.{IsValueOf}
 use Rattle.vx_table.proofs.Sizes.{spelling_done, spelling_field, spelling_then, spelling_weaker, coded_bits, coded_most, fresh_within, sections_are_short}
 use Rattle.vx_pps.specs.declared.list.Listed.{Listed}
 use Rattle.vx_pps.specs.declared.tiles.Tiles.{Tiles}
 use Rattle.vx_pps.specs.Groups.{spells_height, strips}
-use Rattle.vx_pps.specs.Partition.{across_flag, counted, ctu_size, ctus, deltas_flag, divided, fixed, flag, impossible_flag, last_slice, listed_slices, partition, sizes_of, slices_among, subpicture_slices, tile_flags, tiles_among, tiles_of, undivided}
-use Rattle.vx_pps.specs.Pps.{front, partition_at, pps_form, tools}
-use Rattle.vx_pps.specs.Sets.{SpellingIsShort}
-use Rattle.vx_pps.specs.Slices.{all_slices, below, delta, delta_cell, goes_on, height_in_tiles, list_from, may_be_cut, none_listed, number, size_of, sizes_from, slices_at, slices_in_tile, spells_delta, strip_height, strips_from, tile_after, turn, turns_from, width_in_tiles}
+use Rattle.vx_pps.specs.Partition.{across_flag, golomb_below, ctu_size, ctus_across, deltas_flag, divided, fixed_form, flag, impossible_flag, last_slice, listed_slices, partition, sizes_of, slices_among, subpicture_slices, tile_flags, tiles_among, tiles_of, undivided}
+use Rattle.vx_pps.specs.Pps.{before_tiles, partition_at, pps_form, after_slices}
+use Rattle.vx_pps.specs.laws.Sets.{SpellingIsShort}
+use Rattle.vx_pps.specs.Slices.{all_slices, below, delta, delta_cell, goes_on, height_in_tiles, list_from, may_be_cut, none_listed, golomb_form, tile_size_form, sizes_from, slices_from_tile, slices_in_tile, spells_delta, strip_height, strips_from, tile_after, turn, turns_from, width_in_tiles}
 use Rattle.vx_pps.specs.Tiles.{across, block, column, down, row, tile, tile_behind}
 use Rattle.vx_pps.proofs.Ranges.{below_bound, golomb_range, limited_bound}
 
@@ -58,14 +58,14 @@ one_field cell end W w =
     spelling_field cell (λ v. done (end v)) (λ size a. (size ≤ coded_bits cell.coding) × W a)
     (λ place v is. spelling_done (end v) _ (let few = coded_most cell.coding place v in omega (arith, few), w v is))
 
-number_few : (of : ℕ) (limits : Limits ℕ) → Few 63 Any (number of limits)
+number_few : (of : ℕ) (limits : Limits ℕ) → Few 63 Any (golomb_form of limits)
 number_few of limits = one_field _ _ Any (λ v is. tt)
 
-number_below : (of bound : ℕ) → Few 63 (λ n. n < bound) (number of (below bound))
+number_below : (of bound : ℕ) → Few 63 (λ n. n < bound) (golomb_form of (below bound))
 number_below of bound = one_field _ _ (λ n. n < bound) (λ v is. below_bound bound (natural v) (golomb_range (below bound) v is.code is.range))
 
-fixed_few : (of bits : ℕ) (limits : Limits ℕ) → Few bits Any (fixed of bits limits)
-unfolding fixed
+fixed_few : (of bits : ℕ) (limits : Limits ℕ) → Few bits Any (fixed_form of bits limits)
+unfolding fixed_form
 fixed_few of bits limits = one_field _ _ Any (λ v is. tt)
 
 -- ---- tiles
@@ -74,9 +74,9 @@ sizes_few : (of count left : ℕ) (sizes : List ℕ) → Few (count * 63) Any (s
 sizes_few of zero left sizes = few_done sizes 0 Any tt
 sizes_few of (suc more) left sizes =
     let all : suc more * 63 ≡ more * 63 + 63 = suc-mul more 63 in
-    let size : Few 63 Any (size_of of left) = few_then (number of (below left)) (λ v. done (v + 1)) 63 0 Any Any (number_few of (below left)) (λ v at. few_done (v + 1) 0 Any tt) in
+    let size : Few 63 Any (tile_size_form of left) = few_then (golomb_form of (below left)) (λ v. done (v + 1)) 63 0 Any Any (number_few of (below left)) (λ v at. few_done (v + 1) 0 Any tt) in
     fewer (sizes_from of (suc more) left sizes) (63 + more * 63) (suc more * 63) Any Any (omega (arith, all)) (λ a at. tt)
-    (few_then (size_of of left) (λ size. sizes_from of more (left - size) (sizes ++ size ∷ [])) 63 (more * 63) Any Any size (λ n at. sizes_few of more (left - n) (sizes ++ n ∷ [])))
+    (few_then (tile_size_form of left) (λ size. sizes_from of more (left - size) (sizes ++ size ∷ [])) 63 (more * 63) Any Any size (λ n at. sizes_few of more (left - n) (sizes ++ n ∷ [])))
 
 some_sizes : (of count total : ℕ) → count ≤ 512 → Few 32256 Any (sizes_of of count total)
 unfolding sizes_of
@@ -85,11 +85,11 @@ some_sizes of count total few =
     fewer (sizes_from of count total []) (count * 63) 32256 Any Any all (λ a at. tt) (sizes_few of count total [])
 
 tiles_few : (columns rows : ℕ) → columns ≤ 512 → rows ≤ 512 → Few 70000 Any (tiles_among columns rows)
-unfolding tiles_among counted
+unfolding tiles_among golomb_below
 tiles_few columns rows across down =
     fewer (tiles_among columns rows) (63 + (63 + (32256 + (32256 + 0)))) 70000 Any Any (omega arith) (λ a at. tt)
-    (few_then (counted pps.pps_num_exp_tile_columns_minus1 columns) _ 63 (63 + (32256 + (32256 + 0))) (λ n. n < columns) Any (number_below pps.pps_num_exp_tile_columns_minus1 columns) (λ last_column wide.
-    few_then (counted pps.pps_num_exp_tile_rows_minus1 rows) _ 63 (32256 + (32256 + 0)) (λ n. n < rows) Any (number_below pps.pps_num_exp_tile_rows_minus1 rows) (λ last_row high.
+    (few_then (golomb_below pps.pps_num_exp_tile_columns_minus1 columns) _ 63 (63 + (32256 + (32256 + 0))) (λ n. n < columns) Any (number_below pps.pps_num_exp_tile_columns_minus1 columns) (λ last_column wide.
+    few_then (golomb_below pps.pps_num_exp_tile_rows_minus1 rows) _ 63 (32256 + (32256 + 0)) (λ n. n < rows) Any (number_below pps.pps_num_exp_tile_rows_minus1 rows) (λ last_row high.
     few_then (sizes_of pps.pps_tile_column_width_minus1 (last_column + 1) columns) _ 32256 (32256 + 0) Any Any (some_sizes pps.pps_tile_column_width_minus1 (last_column + 1) columns (omega (arith, wide, across))) (λ widths at.
     few_then (sizes_of pps.pps_tile_row_height_minus1 (last_row + 1) rows) _ 32256 0 Any Any (some_sizes pps.pps_tile_row_height_minus1 (last_row + 1) rows (omega (arith, high, down))) (λ heights at.
     few_done (tiles_of widths columns heights rows) 0 Any tt)))))
@@ -114,7 +114,7 @@ strips_take t last zero y size slices =
     few_done (slices ++ strips t y (repeated_sizes size (t.y + t.h - y))) 0 (λ all. length slices + 0 ≤ length all) (omega (arith, length-append slices (strips t y (repeated_sizes size (t.y + t.h - y)))))
 strips_take t last (suc more) y size slices =
     let all : suc more * 63 ≡ more * 63 + 63 = suc-mul more 63 in
-    let height : Few 63 Any (strip_height t last more y slices) = few_then (number pps.pps_exp_slice_height_in_ctus_minus1 _) (λ v. done (v + 1)) 63 0 Any Any (number_few pps.pps_exp_slice_height_in_ctus_minus1 _) (λ v at. few_done (v + 1) 0 Any tt) in
+    let height : Few 63 Any (strip_height t last more y slices) = few_then (golomb_form pps.pps_exp_slice_height_in_ctus_minus1 _) (λ v. done (v + 1)) 63 0 Any Any (number_few pps.pps_exp_slice_height_in_ctus_minus1 _) (λ v at. few_done (v + 1) 0 Any tt) in
     fewer (strips_from t last (suc more) y size slices) (63 + more * 63) (suc more * 63) (λ all. length slices + suc more ≤ length all) (λ all. length slices + suc more ≤ length all) (omega (arith, all)) (λ a at. at)
     (few_then (strip_height t last more y slices) (λ height. strips_from t last more (y + height) height (slices ++ strips t y (height ∷ []))) 63 (more * 63) Any (λ all. length slices + suc more ≤ length all) height (λ h at.
     let now : List Rect = slices ++ strips t y (h ∷ []) in
@@ -123,7 +123,7 @@ strips_take t last (suc more) y size slices =
 
 tile_takes : (t : Rect) (last : ℕ) (slices : List Rect) → Takes 63 last slices (slices_in_tile t last slices)
 tile_takes t last slices =
-    spelling_then (number pps.pps_num_exp_slices_in_tile (below (last + 2 - length slices))) _ (λ size n. (size ≤ 63) × (n < last + 2 - length slices)) (λ size all. size + 63 * room last all ≤ 63 + 63 * room last slices)
+    spelling_then (golomb_form pps.pps_num_exp_slices_in_tile (below (last + 2 - length slices))) _ (λ size n. (size ≤ 63) × (n < last + 2 - length slices)) (λ size all. size + 63 * room last all ≤ 63 + 63 * room last slices)
     (number_below pps.pps_num_exp_slices_in_tile (last + 2 - length slices))
     (λ size explicit is.
     let few = is.0 in
@@ -133,7 +133,7 @@ tile_takes t last slices =
     (spelling_weaker (strips_from t last explicit t.y 0 slices) (λ k all. (k ≤ explicit * 63) × (length slices + explicit ≤ length all)) (λ k all. size + k + 63 * room last all ≤ 63 + 63 * room last slices)
     (strips_take t last explicit t.y 0 slices) (λ k all more. let bits = more.0 in let long = more.1 in omega (arith, few, left, bits, long))))
 
-slices_take : (g : Tiles) (last t width height : ℕ) (slices : List Rect) → Takes 63 last slices (slices_at g last t width height slices)
+slices_take : (g : Tiles) (last t width height : ℕ) (slices : List Rect) → Takes 63 last slices (slices_from_tile g last t width height slices)
 slices_take g last t width height slices =
     either (may_be_cut width height (tile g t)) (slices_in_tile (tile g t) last slices) (done (slices ++ block g t (width + 1) (height + 1) ∷ [])) (λ size all. size + 63 * room last all ≤ 63 + 63 * room last slices)
     (tile_takes (tile g t) last slices)
@@ -156,7 +156,7 @@ turn_takes g last deltas at =
     let Q : ℕ → Listed → Type 0 = λ size new. size + 63 * room last new.slices ≤ 252 + 63 * room last at.slices in
     spelling_then (width_in_tiles g at.next) _ (λ size n. (size ≤ 63) × Any n) Q (width_few g at.next) (λ a width few_a.
     spelling_then (height_in_tiles g deltas at.next at.before) _ (λ size n. (size ≤ 63) × Any n) (λ size new. Q (a + size) new) (height_few g deltas at.next at.before) (λ b height few_b.
-    spelling_then (slices_at g last at.next width height at.slices) _ (λ size all. size + 63 * room last all ≤ 63 + 63 * room last at.slices) (λ size new. Q (a + (b + size)) new) (slices_take g last at.next width height at.slices) (λ c slices few_c.
+    spelling_then (slices_from_tile g last at.next width height at.slices) _ (λ size all. size + 63 * room last all ≤ 63 + 63 * room last at.slices) (λ size new. Q (a + (b + size)) new) (slices_take g last at.next width height at.slices) (λ c slices few_c.
     spelling_then (tile_after g (spells_delta deltas slices last) at.next width height) _ (λ size n. (size ≤ 63) × Any n) (λ size new. Q (a + (b + (c + size))) new) (next_few g (spells_delta deltas slices last) at.next width height) (λ d next few_d.
     spelling_done (record { slices = slices; next = next; before = height }) (λ size new. Q (a + (b + (c + (d + size)))) new)
     (let one = few_a.0 in let two = few_b.0 in let four = few_d.0 in omega (arith, one, two, few_c, four))))))
@@ -216,7 +216,7 @@ unfolding divided
 divided_few width height =
     fewer (divided width height) (2 + (70000 + (2 + (1 + (330000 + 0))))) 410000 Any Any (omega arith) (λ a at. tt)
     (few_then ctu_size _ 2 (70000 + (2 + (1 + (330000 + 0)))) Any Any (fixed_few pps.pps_log2_ctu_size_minus5 2 (below 3)) (λ log2 at.
-    few_then (tiles_among (ctus width log2) (ctus height log2)) _ 70000 (2 + (1 + (330000 + 0))) Any Any (tiles_few (ctus width log2) (ctus height log2) (omega arith) (omega arith)) (λ tiles at.
+    few_then (tiles_among (ctus_across width log2) (ctus_across height log2)) _ 70000 (2 + (1 + (330000 + 0))) Any Any (tiles_few (ctus_across width log2) (ctus_across height log2) (omega arith) (omega arith)) (λ tiles at.
     few_then (tile_flags tiles) _ 2 (1 + (330000 + 0)) Any Any (flags_few tiles) (λ rectangles at.
     few_then (flag pps.pps_single_slice_per_subpic_flag) _ 1 (330000 + 0) Any Any (fixed_few pps.pps_single_slice_per_subpic_flag 1 (below 2)) (λ single at.
     few_then (slices_among tiles single) _ 330000 0 Any Any (slices_few tiles single) (λ slices at. few_done (record { tiles = tiles; slices = slices }) 0 Any tt))))))
@@ -234,20 +234,20 @@ bound_by of most = record { of = of; greatest = most }
 abbrev bounds : List Bound
 bounds = bound_by pps.pps_num_subpics_minus1 1000 ∷ bound_by pps.pps_chroma_qp_offset_list_len_minus1 5 ∷ []
 
-front_short : Few 100000 (IsWithin bounds) (sections_form front fresh)
+front_short : Few 100000 (IsWithin bounds) (sections_form before_tiles fresh)
 unfolding has_value row_keeps presence_keeps greatest_coded greatest_ranged greatest_value most_turns table_bits part_bits code_bits
-front_short = fewer (sections_form front fresh) (sections_bits bounds front) 100000 (IsWithin bounds) (IsWithin bounds) (omega arith) (λ s at. at) (sections_are_short bounds front fresh refl (fresh_within bounds))
+front_short = fewer (sections_form before_tiles fresh) (sections_bits bounds before_tiles) 100000 (IsWithin bounds) (IsWithin bounds) (omega arith) (λ s at. at) (sections_are_short bounds before_tiles fresh refl (fresh_within bounds))
 
-tools_short : (s : List ℕ) → IsWithin bounds s → Few 10000 (IsWithin bounds) (sections_form tools s)
+tools_short : (s : List ℕ) → IsWithin bounds s → Few 10000 (IsWithin bounds) (sections_form after_slices s)
 unfolding has_value row_keeps presence_keeps greatest_coded greatest_ranged greatest_value most_turns table_bits part_bits code_bits
-tools_short s within = fewer (sections_form tools s) (sections_bits bounds tools) 10000 (IsWithin bounds) (IsWithin bounds) (omega arith) (λ t at. at) (sections_are_short bounds tools s refl within)
+tools_short s within = fewer (sections_form after_slices s) (sections_bits bounds after_slices) 10000 (IsWithin bounds) (IsWithin bounds) (omega arith) (λ t at. at) (sections_are_short bounds after_slices s refl within)
 
 pps_short : Few 520000 Any pps_form
 unfolding pps_form
 pps_short =
-    few_then (sections_form front fresh) _ 100000 420000 (IsWithin bounds) Any front_short (λ s within.
+    few_then (sections_form before_tiles fresh) _ 100000 420000 (IsWithin bounds) Any front_short (λ s within.
     few_then (partition_at s) _ 410000 10000 Any Any (partition_few _ _ _) (λ p at.
-    few_then (sections_form tools s) _ 10000 0 (IsWithin bounds) Any (tools_short s within) (λ t at. few_done p 0 Any tt)))
+    few_then (sections_form after_slices s) _ 10000 0 (IsWithin bounds) Any (tools_short s within) (λ t at. few_done p 0 Any tt)))
 
 pub spelling_is_short : SpellingIsShort
 spelling_is_short items bytes is =

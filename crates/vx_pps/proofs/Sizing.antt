@@ -9,7 +9,7 @@ use Rattle.vx_table.specs.Walks.{Step}
 use Rattle.vx_pps.specs.declared.halt.Halt.{Halt}
 use Rattle.vx_pps.specs.inner.Walked.{Walked}
 use Rattle.vx_pps.specs.Partition.{sizes_of, tiles_of}
-use Rattle.vx_pps.specs.Slices.{size_of, sizes_from}
+use Rattle.vx_pps.specs.Slices.{tile_size_form, sizes_from}
 use Rattle.vx_pps.specs.Tiles.{IsGrid}
 use Rattle.vx_pps.proofs.Pictures.{upto_last}
 use Rattle.vx_pps.proofs.Walking.{Leads, leads, leads-then, leads-stop, leads-end}
@@ -28,7 +28,7 @@ module _ {C I E : Type 0} {step : Step C I E} where
       record { walk = rw whole (leads step (sizes_from of count total []) c i); so_many = refl; some = All-nil (λ size. 1 ≤ size) }
 
   pub sizes-more : (of count total turn left size : ℕ) (sizes : List ℕ) {first c d : C} {first_items i j : I} → turn < count
-      → Sizing step of count total first first_items turn left sizes c i → Walked step (size_of of left) c i (Ok size) d j → 1 ≤ size
+      → Sizing step of count total first first_items turn left sizes c i → Walked step (tile_size_form of left) c i (Ok size) d j → 1 ≤ size
       → Sizing step of count total first first_items (turn + 1) (left - size) (sizes ++ size ∷ []) d j
   sizes-more of count total turn left size sizes more before walked some =
       let one : count - turn ≡ suc (count - (turn + 1)) = omega arith in
@@ -39,7 +39,7 @@ module _ {C I E : Type 0} {step : Step C I E} where
       }
 
   pub sizes-stop : (of count total turn left : ℕ) (sizes : List ℕ) {e : Halt E} {first c d : C} {first_items i j : I} → turn < count
-      → Sizing step of count total first first_items turn left sizes c i → Walked step (size_of of left) c i (Err e) d j
+      → Sizing step of count total first first_items turn left sizes c i → Walked step (tile_size_form of left) c i (Err e) d j
       → Walked step (sizes_of of count total) first first_items (Err e) d j
   sizes-stop of count total turn left sizes more before walked =
       let one : count - turn ≡ suc (count - (turn + 1)) = omega arith in

@@ -10,12 +10,12 @@ use Rattle.vx_table.specs.Forms.{Form, done, field, ◌>>=◌}
 use Rattle.vx_table.specs.Parts.{Section, sections_form}
 use Rattle.vx_table.specs.Scope.{fresh}
 use Rattle.vx_table.specs.Spelling.{Spells, items_along}
-use Rattle.vx_table.specs.Trailing.{has_trailing, is_trailing, parts_have_trailing, parts_trail_last, trails_last}
+use Rattle.vx_table.specs.laws.Trailing.{has_trailing, is_trailing, parts_have_trailing, parts_trail_last, trails_last}
 use Rattle.vx_table.specs.Values.{Closes, bits_along}
 use Rattle.vx_table.proofs.Closing.{ComesLast, IsOpen, before, closes_end, last, last_parts, open_parts, over_too, sequence_last}
 use Rattle.vx_table.proofs.Spelled.{apart_at, spelled_at}
-use Rattle.vx_pps.specs.Pps.{IsSpelling, front, partition_at, pps_form, tools}
-use Rattle.vx_pps.specs.Sets.{NoProperPrefix, WrittenIsRead}
+use Rattle.vx_pps.specs.Pps.{IsPpsSpelling, before_tiles, partition_at, pps_form, after_slices}
+use Rattle.vx_pps.specs.laws.Sets.{NoProperPrefix, WrittenIsRead}
 use Rattle.vx_pps.proofs.Cutting.{each_weaker}
 use Rattle.vx_pps.proofs.Division.{each_division}
 
@@ -34,27 +34,27 @@ parts_of : List Section → List Part
 parts_of [] = []
 parts_of (section ∷ sections) = part_of section ∷ parts_of sections
 
-front_open : (s : List ℕ) → IsOpen (sections_form front s)
+front_open : (s : List ℕ) → IsOpen (sections_form before_tiles s)
 unfolding is_trailing has_trailing parts_have_trailing parts_of part_of
-front_open s = open_parts (parts_of front) s refl
+front_open s = open_parts (parts_of before_tiles) s refl
 
 division_open : (s : List ℕ) → IsOpen (partition_at s)
 division_open s = each_weaker _ _ (partition_at s) (λ cell is. is.3) (each_division _ _ _)
 
-tools_last : (s : List ℕ) → ComesLast (sections_form tools s)
+tools_last : (s : List ℕ) → ComesLast (sections_form after_slices s)
 unfolding is_trailing has_trailing trails_last parts_trail_last parts_of part_of
-tools_last s = last_parts (parts_of tools) s refl
+tools_last s = last_parts (parts_of after_slices) s refl
 
 set_closes : (values : List ℤ) → Closes pps_form 0 values []
 unfolding pps_form
 set_closes values =
     closes_end pps_form 0 values
-    (sequence_last (sections_form front fresh) (λ s. partition_at s >>= λ p. sections_form tools s >>= λ t. done p) (front_open fresh)
-    (λ s. sequence_last (partition_at s) (λ p. sections_form tools s >>= λ t. done p) (division_open s) (λ p. ends_last (sections_form tools s) (λ t. p) (tools_last s))))
+    (sequence_last (sections_form before_tiles fresh) (λ s. partition_at s >>= λ p. sections_form after_slices s >>= λ t. done p) (front_open fresh)
+    (λ s. sequence_last (partition_at s) (λ p. sections_form after_slices s >>= λ t. done p) (division_open s) (λ p. ends_last (sections_form after_slices s) (λ t. p) (tools_last s))))
 
 -- ---- what is written is read again
 
-spells : (items : List Item) (bytes : List ℕ) (spelling : IsSpelling items bytes) → Spells (8 * length bytes) pps_form spelling.is.set.values (bits_of bytes) []
+spells : (items : List Item) (bytes : List ℕ) (spelling : IsPpsSpelling items bytes) → Spells (8 * length bytes) pps_form spelling.is.set.values (bits_of bytes) []
 spells items bytes spelling =
     let values = spelling.is.set.values in
     let bits : bits_along pps_form 0 values ++ [] ≡ bits_of bytes = append-nil (bits_along pps_form 0 values) ∙ sym spelling.bits in

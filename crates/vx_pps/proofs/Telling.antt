@@ -12,9 +12,10 @@ use Rattle.vx_table.proofs.With.{Passing, lacks, no_number, number_with, one_num
 use Rattle.vx_pps.specs.declared.shape.PpsShape.{PpsShape}
 use Rattle.vx_pps.specs.Tiles.{across, down}
 use Rattle.vx_pps.specs.Groups.{Group}
-use Rattle.vx_pps.specs.Pps.{IsItems}
-use Rattle.vx_pps.specs.Reshaped.{Divides, IsDivision, IsReshaped, IsShape, MapsId, ReshapedTells, Tells, TellsDivision, divided_items, frame_tool_items, front_items, has_weights, id_items, info_items, same, taken, tool_items, where_so, whole_flag}
-use Rattle.vx_pps.specs.Written.{item}
+use Rattle.vx_pps.specs.Pps.{ArePpsItems}
+use Rattle.vx_pps.specs.Reshaped.{Divides, IsDivision, IsReshapedPps, IsShape, MapsId, ReshapedTells, TellsPpsShape, TellsDivision, divided_items, frame_tool_items, front_items, has_weights, pps_subpic_id_items, info_items, items_of_source, taken, tool_items, whole_flag}
+use Rattle.vx_table.specs.Rewritten.{where_so}
+use Rattle.vx_pps.specs.Written.{only_item}
 use Rattle.vx_pps.proofs.Crossing.{ctb_with, division_without, is_dividing, slice_flag, tile_flag}
 use Rattle.vx_pps.proofs.Cutting.{cut_parts, flag_below}
 use Rattle.vx_pps.proofs.Giving.{natural_is}
@@ -22,61 +23,61 @@ use Rattle.vx_pps.proofs.Testing.{flags_are, names}
 
 -- ---- the front
 
-ids_pass : (test : ℕ → Bool) → test 413 ≡ true → test 414 ≡ true → test 415 ≡ true → test 416 ≡ true → (whole : ℕ) (id : Option (ℕ × ℕ)) → Passing test (id_items whole id)
+ids_pass : (test : ℕ → Bool) → test 413 ≡ true → test 414 ≡ true → test 415 ≡ true → test 416 ≡ true → (whole : ℕ) (id : Option (ℕ × ℕ)) → Passing test (pps_subpic_id_items whole id)
 ids_pass test a b c d whole None = (a, tt)
-ids_pass test a b c d whole (Some (bits, id)) = (a, passing_append test (where_so (whole == 0) (item 414 (pos 0))) (item 415 (pos bits) ++ item 416 (pos id)) (passing_where test (whole == 0) (item 414 (pos 0)) (b, tt)) (c, (d, tt)))
+ids_pass test a b c d whole (Some (bits, id)) = (a, passing_append test (where_so (whole == 0) (only_item 414 (pos 0))) (only_item 415 (pos bits) ++ only_item 416 (pos id)) (passing_where test (whole == 0) (only_item 414 (pos 0)) (b, tt)) (c, (d, tt)))
 
-no_ids : (of whole : ℕ) (id : Option (ℕ × ℕ)) → nat_lt 412 of ≡ false → with_field of (id_items whole id) ≡ []
-no_ids of whole id before = lacks (λ f. nat_lt 412 f) of (id_items whole id) before (ids_pass (λ f. nat_lt 412 f) refl refl refl refl whole id)
+no_ids : (of whole : ℕ) (id : Option (ℕ × ℕ)) → nat_lt 412 of ≡ false → with_field of (pps_subpic_id_items whole id) ≡ []
+no_ids of whole id before = lacks (λ f. nat_lt 412 f) of (pps_subpic_id_items whole id) before (ids_pass (λ f. nat_lt 412 f) refl refl refl refl whole id)
 
 module _ (whole : ℕ) (shape : PpsShape) where
-  own_id : with_field 400 (front_items whole shape) ≡ item 400 (pos shape.id)
-  own_id = ap (λ xs. item 400 (pos shape.id) ++ xs) (no_ids 400 whole shape.subpic_id refl)
+  own_id : with_field 400 (front_items whole shape) ≡ only_item 400 (pos shape.id)
+  own_id = ap (λ xs. only_item 400 (pos shape.id) ++ xs) (no_ids 400 whole shape.subpic_id refl)
 
-  sps_id : with_field 401 (front_items whole shape) ≡ item 401 (pos shape.sps_id)
-  sps_id = ap (λ xs. item 401 (pos shape.sps_id) ++ xs) (no_ids 401 whole shape.subpic_id refl)
+  sps_id : with_field 401 (front_items whole shape) ≡ only_item 401 (pos shape.sps_id)
+  sps_id = ap (λ xs. only_item 401 (pos shape.sps_id) ++ xs) (no_ids 401 whole shape.subpic_id refl)
 
-  width : with_field 403 (front_items whole shape) ≡ item 403 (pos shape.width)
-  width = ap (λ xs. item 403 (pos shape.width) ++ xs) (no_ids 403 whole shape.subpic_id refl)
+  width : with_field 403 (front_items whole shape) ≡ only_item 403 (pos shape.width)
+  width = ap (λ xs. only_item 403 (pos shape.width) ++ xs) (no_ids 403 whole shape.subpic_id refl)
 
-  height : with_field 404 (front_items whole shape) ≡ item 404 (pos shape.height)
-  height = ap (λ xs. item 404 (pos shape.height) ++ xs) (no_ids 404 whole shape.subpic_id refl)
+  height : with_field 404 (front_items whole shape) ≡ only_item 404 (pos shape.height)
+  height = ap (λ xs. only_item 404 (pos shape.height) ++ xs) (no_ids 404 whole shape.subpic_id refl)
 
-  flag_of_whole : with_field 412 (front_items whole shape) ≡ item 412 (pos whole)
-  flag_of_whole = ap (λ xs. item 412 (pos whole) ++ xs) (no_ids 412 whole shape.subpic_id refl)
+  flag_of_whole : with_field 412 (front_items whole shape) ≡ only_item 412 (pos whole)
+  flag_of_whole = ap (λ xs. only_item 412 (pos whole) ++ xs) (no_ids 412 whole shape.subpic_id refl)
 
   -- ids where it has none, and where it has one
-  no_mapping : shape.subpic_id ≡ None → with_field 413 (front_items whole shape) ≡ item 413 (pos 0)
-  no_mapping none = ap (λ o. with_field 413 (id_items whole o)) none
+  no_mapping : shape.subpic_id ≡ None → with_field 413 (front_items whole shape) ≡ only_item 413 (pos 0)
+  no_mapping none = ap (λ o. with_field 413 (pps_subpic_id_items whole o)) none
 
   module _ (bits id : ℕ) (some : shape.subpic_id ≡ Some (bits, id)) where
-    mapping : with_field 413 (front_items whole shape) ≡ item 413 (pos 1)
-    mapping = ap (λ o. with_field 413 (id_items whole o)) some
-        ∙ ap (λ xs. item 413 (pos 1) ++ xs) (lacks (λ f. nat_lt 413 f) 413 (where_so (whole == 0) (item 414 (pos 0)) ++ (item 415 (pos bits) ++ item 416 (pos id))) refl
-        (passing_append (λ f. nat_lt 413 f) (where_so (whole == 0) (item 414 (pos 0))) (item 415 (pos bits) ++ item 416 (pos id)) (passing_where (λ f. nat_lt 413 f) (whole == 0) (item 414 (pos 0)) (refl, tt)) (refl, (refl, tt))))
+    mapping : with_field 413 (front_items whole shape) ≡ only_item 413 (pos 1)
+    mapping = ap (λ o. with_field 413 (pps_subpic_id_items whole o)) some
+        ∙ ap (λ xs. only_item 413 (pos 1) ++ xs) (lacks (λ f. nat_lt 413 f) 413 (where_so (whole == 0) (only_item 414 (pos 0)) ++ (only_item 415 (pos bits) ++ only_item 416 (pos id))) refl
+        (passing_append (λ f. nat_lt 413 f) (where_so (whole == 0) (only_item 414 (pos 0))) (only_item 415 (pos bits) ++ only_item 416 (pos id)) (passing_where (λ f. nat_lt 413 f) (whole == 0) (only_item 414 (pos 0)) (refl, tt)) (refl, (refl, tt))))
 
-    id_length : with_field 415 (front_items whole shape) ≡ item 415 (pos bits)
-    id_length = ap (λ o. with_field 415 (id_items whole o)) some
-        ∙ with_second 415 (where_so (whole == 0) (item 414 (pos 0))) (item 415 (pos bits) ++ item 416 (pos id)) (lacks (λ f. nat_lt f 415) 415 (where_so (whole == 0) (item 414 (pos 0))) refl (passing_where (λ f. nat_lt f 415) (whole == 0) (item 414 (pos 0)) (refl, tt)))
+    id_length : with_field 415 (front_items whole shape) ≡ only_item 415 (pos bits)
+    id_length = ap (λ o. with_field 415 (pps_subpic_id_items whole o)) some
+        ∙ with_second 415 (where_so (whole == 0) (only_item 414 (pos 0))) (only_item 415 (pos bits) ++ only_item 416 (pos id)) (lacks (λ f. nat_lt f 415) 415 (where_so (whole == 0) (only_item 414 (pos 0))) refl (passing_where (λ f. nat_lt f 415) (whole == 0) (only_item 414 (pos 0)) (refl, tt)))
 
-    the_id : with_field 416 (front_items whole shape) ≡ item 416 (pos id)
-    the_id = ap (λ o. with_field 416 (id_items whole o)) some
-        ∙ with_second 416 (where_so (whole == 0) (item 414 (pos 0))) (item 415 (pos bits) ++ item 416 (pos id)) (lacks (λ f. nat_lt f 415) 416 (where_so (whole == 0) (item 414 (pos 0))) refl (passing_where (λ f. nat_lt f 415) (whole == 0) (item 414 (pos 0)) (refl, tt)))
+    the_id : with_field 416 (front_items whole shape) ≡ only_item 416 (pos id)
+    the_id = ap (λ o. with_field 416 (pps_subpic_id_items whole o)) some
+        ∙ with_second 416 (where_so (whole == 0) (only_item 414 (pos 0))) (only_item 415 (pos bits) ++ only_item 416 (pos id)) (lacks (λ f. nat_lt f 415) 416 (where_so (whole == 0) (only_item 414 (pos 0))) refl (passing_where (λ f. nat_lt f 415) (whole == 0) (only_item 414 (pos 0)) (refl, tt)))
 
   -- it counts no more than one
   count : number (with_field 414 (front_items whole shape)) 414 ≡ 0
   count = counted shape.subpic_id refl
     where
-      spelled : (b : Bool) → number (with_field 414 (where_so b (item 414 (pos 0)) ++ (item 415 (pos 0) ++ []))) 414 ≡ 0
-      spelled true = one_number 414 0 (item 414 (pos 0)) (omega arith) (omega arith) refl
+      spelled : (b : Bool) → number (with_field 414 (where_so b (only_item 414 (pos 0)) ++ (only_item 415 (pos 0) ++ []))) 414 ≡ 0
+      spelled true = one_number 414 0 (only_item 414 (pos 0)) (omega arith) (omega arith) refl
       spelled false = no_number 414 [] refl
 
       counted : (o : Option (ℕ × ℕ)) → shape.subpic_id ≡ o → number (with_field 414 (front_items whole shape)) 414 ≡ 0
-      counted None e = ap (λ o. number (with_field 414 (id_items whole o)) 414) e ∙ no_number 414 [] refl
-      counted (Some (bits, id)) e = ap (λ o. number (with_field 414 (id_items whole o)) 414) e ∙ both (whole == 0) bits id
+      counted None e = ap (λ o. number (with_field 414 (pps_subpic_id_items whole o)) 414) e ∙ no_number 414 [] refl
+      counted (Some (bits, id)) e = ap (λ o. number (with_field 414 (pps_subpic_id_items whole o)) 414) e ∙ both (whole == 0) bits id
         where
-          both : (b : Bool) (bits id : ℕ) → number (with_field 414 (where_so b (item 414 (pos 0)) ++ (item 415 (pos bits) ++ item 416 (pos id)))) 414 ≡ 0
-          both true bits id = one_number 414 0 (item 414 (pos 0)) (omega arith) (omega arith) refl
+          both : (b : Bool) (bits id : ℕ) → number (with_field 414 (where_so b (only_item 414 (pos 0)) ++ (only_item 415 (pos bits) ++ only_item 416 (pos id)))) 414 ≡ 0
+          both true bits id = one_number 414 0 (only_item 414 (pos 0)) (omega arith) (omega arith) refl
           both false bits id = no_number 414 [] refl
 
 -- ---- the tools of a frame
@@ -92,26 +93,26 @@ info_pass test a b c d e source = (
     b,
     (
       c,
-      passing_append test (where_so (has_weights source) (same source fields.pps_wp_info_in_ph_flag)) (item fields.pps_qp_delta_info_in_ph_flag (pos 0))
-          (passing_where test (has_weights source) (same source fields.pps_wp_info_in_ph_flag) (d, tt)) (e, tt),
+      passing_append test (where_so (has_weights source) (items_of_source source fields.pps_wp_info_in_ph_flag)) (only_item fields.pps_qp_delta_info_in_ph_flag (pos 0))
+          (passing_where test (has_weights source) (items_of_source source fields.pps_wp_info_in_ph_flag) (d, tt)) (e, tt),
     ),
   ),
 )
 
 behind_qp : (test : ℕ → Bool) → test 455 ≡ true → test 462 ≡ true → test 463 ≡ true → test 464 ≡ true → test 465 ≡ true → test 466 ≡ true → (source : List Item)
-    → Passing test (where_so (is_set (number source fields.pps_deblocking_filter_override_enabled_flag)) (same source fields.pps_dbf_info_in_ph_flag) ++ info_items source)
+    → Passing test (where_so (is_set (number source fields.pps_deblocking_filter_override_enabled_flag)) (items_of_source source fields.pps_dbf_info_in_ph_flag) ++ info_items source)
 behind_qp test a b c d e f source =
-    passing_append test (where_so (is_set (number source fields.pps_deblocking_filter_override_enabled_flag)) (same source fields.pps_dbf_info_in_ph_flag)) (info_items source)
-    (passing_where test (is_set (number source fields.pps_deblocking_filter_override_enabled_flag)) (same source fields.pps_dbf_info_in_ph_flag) (a, tt)) (info_pass test b c d e f source)
+    passing_append test (where_so (is_set (number source fields.pps_deblocking_filter_override_enabled_flag)) (items_of_source source fields.pps_dbf_info_in_ph_flag)) (info_items source)
+    (passing_where test (is_set (number source fields.pps_deblocking_filter_override_enabled_flag)) (items_of_source source fields.pps_dbf_info_in_ph_flag) (a, tt)) (info_pass test b c d e f source)
 
 tools_pass : (source : List Item) (shape : PpsShape) → Passing is_tool (tool_items source shape)
 tools_pass source shape = passing_where is_tool shape.merged _ (refl, behind_qp is_tool refl refl refl refl refl refl source)
 
-qp_with : (source : List Item) (shape : PpsShape) → shape.merged ≡ true → with_field 439 (tool_items source shape) ≡ item 439 shape.init_qp
+qp_with : (source : List Item) (shape : PpsShape) → shape.merged ≡ true → with_field 439 (tool_items source shape) ≡ only_item 439 shape.init_qp
 qp_with source shape merged =
     ap (λ b. with_field 439 (where_so b (frame_tool_items source shape.init_qp))) merged
-    ∙ ap (λ xs. item 439 shape.init_qp ++ xs)
-    (lacks (λ f. nat_lt 439 f) 439 (where_so (is_set (number source fields.pps_deblocking_filter_override_enabled_flag)) (same source fields.pps_dbf_info_in_ph_flag) ++ info_items source) refl
+    ∙ ap (λ xs. only_item 439 shape.init_qp ++ xs)
+    (lacks (λ f. nat_lt 439 f) 439 (where_so (is_set (number source fields.pps_deblocking_filter_override_enabled_flag)) (items_of_source source fields.pps_dbf_info_in_ph_flag) ++ info_items source) refl
     (behind_qp (λ f. nat_lt 439 f) refl refl refl refl refl refl source))
 
 -- ---- the fields that neither is taken over for a region nor for a frame
@@ -137,7 +138,7 @@ whole_small : (merged : Bool) (n : ℕ) → n < 2 → cond merged 0 n < 2
 whole_small true n low = omega arith
 whole_small false n low = low
 
-module _ (source : List Item) (shape : PpsShape) (items : List Item) (set : IsItems source) (is : IsShape source shape) (re : IsReshaped source shape items) where
+module _ (source : List Item) (shape : PpsShape) (items : List Item) (set : ArePpsItems source) (is : IsShape source shape) (re : IsReshapedPps source shape items) where
   abbrev whole_of : ℕ
   whole_of = whole_flag source shape
 
@@ -191,7 +192,7 @@ module _ (source : List Item) (shape : PpsShape) (items : List Item) (set : IsIt
     tells_division = record {
       ctb = λ log2 low ctb.
           let back : powers_below 32 shape.ctb - 5 ≡ log2 = ap (λ n. powers_below 32 n - 5) ctb ∙ log2_back log2 low in
-          one_number 417 log2 items (omega arith) (omega (arith, low)) (divided_with 417 refl refl refl refl ∙ ctb_with shape groups ∙ ap (λ n. item 417 (pos n)) back);
+          one_number 417 log2 items (omega arith) (omega (arith, low)) (divided_with 417 refl refl refl refl ∙ ctb_with shape groups ∙ ap (λ n. only_item 417 (pos n)) back);
       across_tiles = λ several.
           one_number 422 (one_if shape.across_tiles) items (omega arith) (flag_small shape.across_tiles) (divided_with 422 refl refl refl refl ∙ tile_flag shape groups (lt-ltb 1 (across shape.tiles * down shape.tiles) several));
       across_slices = λ several.
@@ -206,7 +207,7 @@ module _ (source : List Item) (shape : PpsShape) (items : List Item) (set : IsIt
     ids = ap (λ xs. map (λ (y : Item). natural y.value) xs) (front_with 416 refl refl refl refl ∙ the_id whole_of shape bits id some) ∙ ap (λ v. v ∷ []) (natural_is id low.1);
   }
 
-  tells : Tells source shape items
+  tells : TellsPpsShape source shape items
   unfolding fresh
   tells = record {
     id = one_number 400 shape.id items (omega arith) (omega (arith, is.id)) (front_with 400 refl refl refl refl ∙ own_id whole_of shape);
@@ -220,7 +221,7 @@ module _ (source : List Item) (shape : PpsShape) (items : List Item) (set : IsIt
     division = tells_division;
     init_qp = λ merged.
         same_first 439 items (tool_items source shape) (tool_with 439 (subst (λ b. IsFalse (has (names b) 439)) (sym merged) refl) refl refl)
-        ∙ same_first 439 (tool_items source shape) (item 439 shape.init_qp) (qp_with source shape merged ∙ refl);
+        ∙ same_first 439 (tool_items source shape) (only_item 439 shape.init_qp) (qp_with source shape merged ∙ refl);
   }
     where
       id_small : (bits id : ℕ) → shape.subpic_id ≡ Some (bits, id) → (bits < 16) × (id < 2 ^ 32)

@@ -8,9 +8,9 @@ use Rattle.std.specs.Prelude.{drop, filter, nat_lt}
 use Rattle.vx_table.specs.declared.rows.Row.{Row}
 use Rattle.vx_table.specs.EachField.{rows_pass, sections_pass}
 use Rattle.vx_table.specs.Depends.{has, set_of, with_all}
-use Rattle.vx_table.specs.Bounds.{tells_range}
+use Rattle.vx_table.specs.laws.Bounds.{tells_range}
 use Rattle.vx_table.specs.Claims.{knows_formula, knows_width, knows_range, knows_presence, hides_counter, hides_row, behind_field, within_block, depends, behind_rows, table_depends, behind_table, comes_always, sections_chain, sections_hide, sections_depend_only_on}
-use Rattle.vx_table.specs.Again.{shows_row}
+use Rattle.vx_table.specs.laws.Again.{shows_row}
 use Rattle.vx_table.specs.Loaded.{names_none, row_below, code_below, range_below, sections_name_none}
 use Rattle.vx_table.specs.Kept.{stands_for_field}
 use Rattle.vx_table.specs.Rewritten.{fills_none}
@@ -18,7 +18,7 @@ use Rattle.vx_table.specs.Shown.{sections_stars_tell, star_tells}
 use Rattle.vx_table.specs.Named.{named_by_all}
 use Rattle.vx_pps.specs.declared.shape.TheConstants.{TAKEN, TAKEN_FOR_FRAME}
 use Rattle.vx_pps.specs.declared.tables.TheConstants as tables
-use Rattle.vx_pps.specs.Pps.{front, tools}
+use Rattle.vx_pps.specs.Pps.{before_tiles, after_slices}
 
 -- what is taken over, for a frame or for a region
 abbrev pub names : Bool → List ℕ
@@ -178,12 +178,12 @@ header_info_read = (refl, refl)
 -- ---- the tools of a region's set: all are taken over, and they read pps_no_pic_partition_flag alone
 
 abbrev pub tool_names : List ℕ
-tool_names = named_by_all tools
+tool_names = named_by_all after_slices
 
 abbrev pub tools_shown : List ℕ
 tools_shown = with_all (set_of (pps.pps_no_pic_partition_flag ∷ [])) (tool_names ++ TAKEN)
 
-pub tools_read : (sections_depend_only_on (pps.pps_no_pic_partition_flag ∷ []) (tool_names ++ TAKEN) tools ≡ true) × (sections_pass (shows_row tools_shown) tools ≡ true) × (sections_pass (shows_row (names false)) tools ≡ true)
+pub tools_read : (sections_depend_only_on (pps.pps_no_pic_partition_flag ∷ []) (tool_names ++ TAKEN) after_slices ≡ true) × (sections_pass (shows_row tools_shown) after_slices ≡ true) × (sections_pass (shows_row (names false)) after_slices ≡ true)
 unfolding fresh has_value knows_formula knows_width knows_range knows_presence hides_counter hides_row behind_field within_block depends behind_rows table_depends behind_table comes_always shows_row
 tools_read = (refl, refl, refl)
 
@@ -194,7 +194,7 @@ abbrev pub numbered : List ℕ
 numbered = set_of (pps.pps_pic_width_in_luma_samples ∷ pps.pps_pic_height_in_luma_samples ∷ pps.pps_no_pic_partition_flag ∷ pps.pps_weighted_pred_flag
     ∷ pps.pps_weighted_bipred_flag ∷ [])
 
-pub front_numbered : sections_name_none numbered front ≡ true
+pub front_numbered : sections_name_none numbered before_tiles ≡ true
 unfolding fresh hides_counter names_none
 front_numbered = refl
 
@@ -202,7 +202,7 @@ front_numbered = refl
 abbrev pub early : List ℕ
 early = set_of (pps.pps_pic_width_in_luma_samples ∷ pps.pps_pic_height_in_luma_samples ∷ pps.pps_no_pic_partition_flag ∷ [])
 
-pub tools_early : sections_hide early tools ≡ true
+pub tools_early : sections_hide early after_slices ≡ true
 unfolding fresh hides_counter hides_row
 tools_early = refl
 
@@ -224,11 +224,11 @@ override = set_of (pps.pps_deblocking_filter_override_enabled_flag ∷ [])
 abbrev pub before_control : List Section
 before_control = prediction ++ (init_qp ++ qp_offsets)
 
-pub override_stands : (sections_hide override front ≡ true) × (sections_hide override before_control ≡ true) × (sections_hide override from_dbf ≡ true)
+pub override_stands : (sections_hide override before_tiles ≡ true) × (sections_hide override before_control ≡ true) × (sections_hide override from_dbf ≡ true)
 unfolding fresh hides_counter hides_row
 override_stands = (refl, refl, refl)
 
-pub override_unshown : (sections_pass (hides_row override) front ≡ true) × (sections_pass (hides_row override) before_control ≡ true) × (sections_pass (hides_row override) from_dbf ≡ true)
+pub override_unshown : (sections_pass (hides_row override) before_tiles ≡ true) × (sections_pass (hides_row override) before_control ≡ true) × (sections_pass (hides_row override) from_dbf ≡ true)
 unfolding fresh hides_counter hides_row
 override_unshown = (refl, refl, refl)
 
@@ -240,13 +240,13 @@ pub block_loads : rows_pass (names_none override) control_block ≡ true
 unfolding fresh hides_counter names_none
 block_loads = refl
 
-pub tools_numbered : sections_name_none numbered tools ≡ true
+pub tools_numbered : sections_name_none numbered after_slices ≡ true
 unfolding fresh hides_counter names_none
 tools_numbered = refl
 
 -- flags
 abbrev pub IsFlag : ℕ → Type 0
-IsFlag of = (sections_pass (row_below of 2) front ≡ true) × (sections_pass (row_below of 2) tools ≡ true)
+IsFlag of = (sections_pass (row_below of 2) before_tiles ≡ true) × (sections_pass (row_below of 2) after_slices ≡ true)
 
 pub flags_are : IsFlag pps.pps_no_pic_partition_flag × IsFlag pps.pps_weighted_pred_flag × IsFlag pps.pps_weighted_bipred_flag × IsFlag pps.pps_deblocking_filter_override_enabled_flag × IsFlag pps.pps_dbf_info_in_ph_flag
     × IsFlag pps.pps_rpl_info_in_ph_flag × IsFlag pps.pps_sao_info_in_ph_flag × IsFlag pps.pps_wp_info_in_ph_flag
@@ -260,33 +260,33 @@ ctb_size = set_of (pps.pps_log2_ctu_size_minus5 ∷ [])
 abbrev pub single_slices : List ℕ
 single_slices = set_of (pps.pps_single_slice_per_subpic_flag ∷ [])
 
-pub ctb_size_unshown : (sections_pass (hides_row ctb_size) front ≡ true) × (sections_pass (hides_row ctb_size) tools ≡ true)
+pub ctb_size_unshown : (sections_pass (hides_row ctb_size) before_tiles ≡ true) × (sections_pass (hides_row ctb_size) after_slices ≡ true)
 unfolding fresh hides_counter hides_row
 ctb_size_unshown = (refl, refl)
 
-pub single_slices_unshown : (sections_pass (hides_row single_slices) front ≡ true) × (sections_pass (hides_row single_slices) tools ≡ true)
+pub single_slices_unshown : (sections_pass (hides_row single_slices) before_tiles ≡ true) × (sections_pass (hides_row single_slices) after_slices ≡ true)
 unfolding fresh hides_counter hides_row
 single_slices_unshown = (refl, refl)
 
 -- no size is greater, and none is 0
 abbrev pub IsLow : ℕ → Type 0
-IsLow of = (sections_pass (row_below of 16385) front ≡ true) × (sections_pass (row_below of 16385) tools ≡ true)
+IsLow of = (sections_pass (row_below of 16385) before_tiles ≡ true) × (sections_pass (row_below of 16385) after_slices ≡ true)
 
 pub sizes_are : IsLow pps.pps_pic_width_in_luma_samples × IsLow pps.pps_pic_height_in_luma_samples
 unfolding has_value row_below code_below range_below
 sizes_are = ((refl, refl), (refl, refl))
 
-pub widths_lie : (sections_pass (tells_range pps.pps_pic_width_in_luma_samples 1 16384) front ≡ true) × (sections_pass (tells_range pps.pps_pic_height_in_luma_samples 1 16384) front ≡ true)
+pub widths_lie : (sections_pass (tells_range pps.pps_pic_width_in_luma_samples 1 16384) before_tiles ≡ true) × (sections_pass (tells_range pps.pps_pic_height_in_luma_samples 1 16384) before_tiles ≡ true)
 unfolding has_value
 widths_lie = (refl, refl)
 
 -- the front keeps what is taken over, and fills in nothing
-pub front_starred : (merged : Bool) → sections_stars_tell (names merged) front ≡ true
+pub front_starred : (merged : Bool) → sections_stars_tell (names merged) before_tiles ≡ true
 unfolding fresh star_tells stands_for_field
 front_starred true = refl
 front_starred false = refl
 
-pub front_fills : sections_pass fills_none front ≡ true
+pub front_fills : sections_pass fills_none before_tiles ≡ true
 unfolding fills_none stands_for_field has_value
 front_fills = refl
 
@@ -327,7 +327,7 @@ dbf_flag = set_of (pps.pps_dbf_info_in_ph_flag ∷ [])
 abbrev pub info_flags : List ℕ
 info_flags = set_of (pps.pps_rpl_info_in_ph_flag ∷ pps.pps_sao_info_in_ph_flag ∷ pps.pps_wp_info_in_ph_flag ∷ [])
 
-pub front_run : IsRun front_fields front
+pub front_run : IsRun front_fields before_tiles
 unfolding fresh star_tells stands_for_field fills_none has_value
 front_run = (refl, refl, refl)
 
@@ -343,27 +343,27 @@ pub end_run : IsRun end_fields end
 unfolding fresh star_tells stands_for_field fills_none has_value
 end_run = (refl, refl, refl)
 
-pub front_aside : IsAside (set_of front_fields) tools
+pub front_aside : IsAside (set_of front_fields) after_slices
 unfolding fresh hides_counter hides_row
 front_aside = refl
 
-pub early_aside : IsAside (set_of early_fields) front × IsAside (set_of early_fields) from_dbf
+pub early_aside : IsAside (set_of early_fields) before_tiles × IsAside (set_of early_fields) from_dbf
 unfolding fresh hides_counter hides_row
 early_aside = (refl, refl)
 
-pub offsets_aside : IsAside (set_of offsets_fields) front × IsAside (set_of offsets_fields) before_dbf × IsAside (set_of offsets_fields) dbf_info × IsAside (set_of offsets_fields) from_info
+pub offsets_aside : IsAside (set_of offsets_fields) before_tiles × IsAside (set_of offsets_fields) before_dbf × IsAside (set_of offsets_fields) dbf_info × IsAside (set_of offsets_fields) from_info
 unfolding fresh hides_counter hides_row
 offsets_aside = (refl, refl, refl, refl)
 
-pub end_aside : IsAside (set_of end_fields) front × IsAside (set_of end_fields) before_dbf × IsAside (set_of end_fields) dbf_info × IsAside (set_of end_fields) dbf_offsets × IsAside (set_of end_fields) header_info
+pub end_aside : IsAside (set_of end_fields) before_tiles × IsAside (set_of end_fields) before_dbf × IsAside (set_of end_fields) dbf_info × IsAside (set_of end_fields) dbf_offsets × IsAside (set_of end_fields) header_info
 unfolding fresh hides_counter hides_row
 end_aside = (refl, refl, refl, refl, refl)
 
-pub dbf_aside : IsAside dbf_flag front × IsAside dbf_flag before_dbf × IsAside dbf_flag (dbf_offsets ++ from_info)
+pub dbf_aside : IsAside dbf_flag before_tiles × IsAside dbf_flag before_dbf × IsAside dbf_flag (dbf_offsets ++ from_info)
 unfolding fresh hides_counter hides_row
 dbf_aside = (refl, refl, refl)
 
-pub info_aside : IsAside info_flags front × IsAside info_flags before_dbf × IsAside info_flags dbf_info × IsAside info_flags dbf_offsets × IsAside info_flags end
+pub info_aside : IsAside info_flags before_tiles × IsAside info_flags before_dbf × IsAside info_flags dbf_info × IsAside info_flags dbf_offsets × IsAside info_flags end
 unfolding fresh hides_counter hides_row
 info_aside = (refl, refl, refl, refl, refl)
 

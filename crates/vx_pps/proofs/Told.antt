@@ -9,7 +9,8 @@ use Rattle.vx_table.specs.Spelling.{item_of, items_along}
 use Rattle.vx_table.specs.Values.{Follows, to_end, through}
 use Rattle.vx_table.proofs.Items.{gap_value}
 use Rattle.vx_pps.specs.declared.partition.Partition.{Partition}
-use Rattle.vx_pps.specs.Items.{end_along, numbers_of, values_in}
+use Rattle.vx_pps.specs.Items.{end_along, values_in}
+use Rattle.vx_table.specs.Loaded.{numbers_of}
 use Rattle.vx_pps.specs.Pps.{IsPps, or_none, partition_of, pps_form}
 
 -- the values that their items give

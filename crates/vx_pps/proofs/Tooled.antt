@@ -8,7 +8,7 @@ use Rattle.vx_bits.specs.declared.list.Item.{Item}
 use Rattle.vx_fields.specs.declared.pps.TheConstants as pps
 use Rattle.vx_table.specs.declared.rows.Fault.TheVariants.{OutOfRange}
 use Rattle.vx_table.specs.declared.rows.Limits.TheVariants.{Within}
-use Rattle.vx_table.specs.Again.{GoesToo}
+use Rattle.vx_table.specs.laws.Again.{GoesToo}
 use Rattle.vx_table.specs.Claims.{sections_hide}
 use Rattle.vx_table.specs.Scope.{fresh, is_set, loaded, natural, value}
 use Rattle.vx_table.specs.Forms.{after, coding_at, form_of, has_value, limits_at, one_field, part, present, turns}
@@ -26,9 +26,10 @@ use Rattle.vx_table.proofs.Groups.{Onward, agree_given, copied_first, copied_gro
 use Rattle.vx_table.proofs.Loading.{tables_load}
 use Rattle.vx_table.proofs.Shown.{scopes_follow_items}
 use Rattle.vx_table.proofs.Rewrites.{leaves_agree, sections_leave, values_take}
-use Rattle.vx_pps.specs.Pps.{tools}
-use Rattle.vx_pps.specs.Reshaped.{frame_tool_items, info_items, same, where_so}
-use Rattle.vx_pps.specs.Written.{item}
+use Rattle.vx_pps.specs.Pps.{after_slices}
+use Rattle.vx_pps.specs.Reshaped.{frame_tool_items, info_items, items_of_source}
+use Rattle.vx_table.specs.Rewritten.{where_so}
+use Rattle.vx_pps.specs.Written.{only_item}
 use Rattle.vx_pps.proofs.Alike.{kept_alike}
 use Rattle.vx_pps.proofs.Testing.{block_loads, control_block, dbf_given, dbf_control, dbf_control_taken, dbf_info, dbf_info_read, dbf_info_replaced, dbf_offsets, dbf_offsets_taken, end, end_taken, header_info, header_info_read, header_info_replaced, info_given, init_qp, init_qp_read, init_qp_replaced, names, numbered, prediction, prediction_taken, qp_offsets, qp_offsets_taken, tool_names, tools_read, tools_shown, override, override_stands, from_dbf, from_info, info_stands, whole}
 use Rattle.vx_pps.specs.declared.shape.TheConstants.{TAKEN}
@@ -37,18 +38,18 @@ use Rattle.vx_pps.specs.declared.tables.TheConstants as tables
 -- ---- of a region
 
 -- they go again where the picture is as before partitioned or not
-pub tools_again : {s t : List ℕ} {values : List ℤ} {last : List ℕ} → Agree whole s t → Follows (sections_form tools s) values last → GoesToo whole (sections_form tools s) (sections_form tools t) values last
+pub tools_again : {s t : List ℕ} {values : List ℤ} {last : List ℕ} → Agree whole s t → Follows (sections_form after_slices s) values last → GoesToo whole (sections_form after_slices s) (sections_form after_slices t) values last
 tools_again {s} {t} {values} {last} agree follows =
-    let alike = (structure_depends_only_on (pps.pps_no_pic_partition_flag ∷ []) (tool_names ++ TAKEN) tools tools_read.0).alike s t agree in
-    let all = sections_show tools_shown tools tools_read.1 in
-    follows_again tools_shown whole (sections_form tools s) (sections_form tools t) values last alike (all.at s) (all.at t) follows
+    let alike = (structure_depends_only_on (pps.pps_no_pic_partition_flag ∷ []) (tool_names ++ TAKEN) after_slices tools_read.0).alike s t agree in
+    let all = sections_show tools_shown after_slices tools_read.1 in
+    follows_again tools_shown whole (sections_form after_slices s) (sections_form after_slices t) values last alike (all.at s) (all.at t) follows
 
 -- and they keep the same
-pub tools_keep : {s t : List ℕ} {values : List ℤ} {last other : List ℕ} → Agree whole s t → Follows (sections_form tools s) values last → Follows (sections_form tools t) values other
-    → kept_along (sections_form tools s) values ≡ kept_along (sections_form tools t) values
+pub tools_keep : {s t : List ℕ} {values : List ℤ} {last other : List ℕ} → Agree whole s t → Follows (sections_form after_slices s) values last → Follows (sections_form after_slices t) values other
+    → kept_along (sections_form after_slices s) values ≡ kept_along (sections_form after_slices t) values
 tools_keep {s} {t} {values} {last} {other} agree follows again =
-    let alike = (structure_depends_only_on (pps.pps_no_pic_partition_flag ∷ []) (tool_names ++ TAKEN) tools tools_read.0).alike s t agree in
-    let all = sections_show tools_shown tools tools_read.1 in
+    let alike = (structure_depends_only_on (pps.pps_no_pic_partition_flag ∷ []) (tool_names ++ TAKEN) after_slices tools_read.0).alike s t agree in
+    let all = sections_show tools_shown after_slices tools_read.1 in
     kept_alike alike (all.at s) (all.at t) follows again
 
 -- ---- of a frame: what stands in place of its fields
@@ -74,11 +75,11 @@ qp_range (negsuc n) low high =
     let upto : leb n 37 ≡ true = le-leb n 37 (le_neg n 37 low) in
     rw upto refl
 
-qp_at : (v : ℤ) → neg_ℤ (pos 38) ≤ℤ v → v ≤ℤ pos 37 → Takes (sections_form init_qp fresh) (item pps.pps_init_qp_minus26 v)
+qp_at : (v : ℤ) → neg_ℤ (pos 38) ≤ℤ v → v ≤ℤ pos 37 → Takes (sections_form init_qp fresh) (only_item pps.pps_init_qp_minus26 v)
 unfolding fresh sections_form form_of part one_field after present turns value natural coding_at limits_at has_value HasCode fault_of item_of
 qp_at v low high = values_take (sections_form init_qp fresh) (v ∷ []) _ (record { code = qp_code v low high; range = qp_range v low high }, tt) refl
 
-dbf_at : (n v : ℕ) → n < 2 → v < 2 → Takes (sections_form dbf_info (slice_set fresh pps.pps_deblocking_filter_override_enabled_flag n)) (where_so (is_set n) (item pps.pps_dbf_info_in_ph_flag (pos v)))
+dbf_at : (n v : ℕ) → n < 2 → v < 2 → Takes (sections_form dbf_info (slice_set fresh pps.pps_deblocking_filter_override_enabled_flag n)) (where_so (is_set n) (only_item pps.pps_dbf_info_in_ph_flag (pos v)))
 unfolding fresh sections_form form_of part one_field after present turns value natural coding_at limits_at has_value HasCode fault_of item_of
 dbf_at zero v few low = values_take (sections_form dbf_info (slice_set fresh pps.pps_deblocking_filter_override_enabled_flag 0)) (pos 0 ∷ []) _ (record { code = refl; range = refl }, tt) refl
 dbf_at (suc zero) v few low = values_take (sections_form dbf_info (slice_set fresh pps.pps_deblocking_filter_override_enabled_flag 1)) (pos v ∷ []) _ (record { code = low; range = refl }, tt) refl
@@ -90,11 +91,11 @@ weights_at a b = slice_set (slice_set fresh pps.pps_weighted_pred_flag a) pps.pp
 -- with a field for weights, and without
 abbrev pub info_stated : Bool → ℕ → ℕ → ℕ → List Item
 info_stated weighted lists sao weights =
-    item pps.pps_rpl_info_in_ph_flag (pos lists)
-    ++ (item pps.pps_sao_info_in_ph_flag (pos sao)
-    ++ (item pps.pps_alf_info_in_ph_flag (pos 0)
-    ++ (where_so weighted (item pps.pps_wp_info_in_ph_flag (pos weights))
-    ++ item pps.pps_qp_delta_info_in_ph_flag (pos 0))))
+    only_item pps.pps_rpl_info_in_ph_flag (pos lists)
+    ++ (only_item pps.pps_sao_info_in_ph_flag (pos sao)
+    ++ (only_item pps.pps_alf_info_in_ph_flag (pos 0)
+    ++ (where_so weighted (only_item pps.pps_wp_info_in_ph_flag (pos weights))
+    ++ only_item pps.pps_qp_delta_info_in_ph_flag (pos 0))))
 
 info_at : (a b lists sao weights : ℕ) → a < 2 → b < 2 → lists < 2 → sao < 2 → weights < 2
     → Takes (sections_form header_info (weights_at a b)) (info_stated ((is_set a || is_set b) && is_set lists) lists sao weights)
@@ -180,7 +181,7 @@ module _ (source : List Item) (qp : ℤ) (low : neg_ℤ (pos 38) ≤ℤ qp) (hig
       (replaced_first (names true) whole whole header_info end (inside_itself whole) header_info_replaced.0 header_info_replaced.1 info_goes from_end)
 
   dbf_goes : (s t : List ℕ) (w : List ℤ) → Follows (sections_form from_dbf s) w last → Agree (names true) s t → Agree whole fresh t
-      → Takes (sections_form dbf_info t) (where_so (is_set (number source pps.pps_deblocking_filter_override_enabled_flag)) (same source pps.pps_dbf_info_in_ph_flag))
+      → Takes (sections_form dbf_info t) (where_so (is_set (number source pps.pps_deblocking_filter_override_enabled_flag)) (items_of_source source pps.pps_dbf_info_in_ph_flag))
   unfolding fresh
   dbf_goes s t w follows agree empty =
       let n : ℕ = number source pps.pps_deblocking_filter_override_enabled_flag in
@@ -188,12 +189,12 @@ module _ (source : List Item) (qp : ℤ) (low : neg_ℤ (pos 38) ≤ℤ qp) (hig
       (agree_given dbf_given empty.size (zero_is empty, (override_reads follows agree, tt)))
       (dbf_at n (number source pps.pps_dbf_info_in_ph_flag) flags.override flags.dbf)
 
-  from_deblocking : Onward (names true) whole from_dbf last (where_so (is_set (number source pps.pps_deblocking_filter_override_enabled_flag)) (same source pps.pps_dbf_info_in_ph_flag) ++ info_items source)
+  from_deblocking : Onward (names true) whole from_dbf last (where_so (is_set (number source pps.pps_deblocking_filter_override_enabled_flag)) (items_of_source source pps.pps_dbf_info_in_ph_flag) ++ info_items source)
   from_deblocking =
       replaced_first (names true) whole whole dbf_info (dbf_offsets ++ from_info) (inside_itself whole) dbf_info_replaced.0 dbf_info_replaced.1 dbf_goes
       (copied_first (names true) whole dbf_offsets from_info dbf_offsets_taken.0 dbf_offsets_taken.1 dbf_offsets_taken.3 from_headers)
 
-  pub frame_tools : Onward (names true) whole tools last (frame_tool_items source qp)
+  pub frame_tools : Onward (names true) whole after_slices last (frame_tool_items source qp)
   frame_tools =
       copied_first (names true) whole prediction (init_qp ++ (qp_offsets ++ (dbf_control ++ from_dbf))) prediction_taken.0 prediction_taken.1 prediction_taken.3
       (replaced_first (names true) whole whole init_qp (qp_offsets ++ (dbf_control ++ from_dbf)) (inside_itself whole) init_qp_replaced.0 init_qp_replaced.1

@@ -13,8 +13,8 @@ use Rattle.vx_pps.specs.declared.list.Listed.{Listed}
 use Rattle.vx_pps.specs.declared.tiles.Tiles.{Tiles}
 use Rattle.vx_pps.specs.inner.Walked.{Walked, ended}
 use Rattle.vx_pps.specs.Groups.{spells_height, strips}
-use Rattle.vx_pps.specs.Partition.{counted}
-use Rattle.vx_pps.specs.Slices.{may_be_cut, goes_on, height_in_tiles, slices_at, slices_in_tile, strip_height, strips_from, turn, turns_from, width_in_tiles}
+use Rattle.vx_pps.specs.Partition.{golomb_below}
+use Rattle.vx_pps.specs.Slices.{may_be_cut, goes_on, height_in_tiles, slices_from_tile, slices_in_tile, strip_height, strips_from, turn, turns_from, width_in_tiles}
 use Rattle.vx_pps.specs.Tiles.{IsGrid, across, block, column, down, row, tile}
 use Rattle.vx_pps.proofs.Walking.{Leads, leads, leads-then, leads-stop, leads-end, then, stop}
 
@@ -87,8 +87,8 @@ module _ {C I E : Type 0} {step : Step C I E} where
   width-last g t end = let is : (column g t + 1 == across g) ≡ true = eq-eqb _ _ end in rw is ended
 
   pub width-spelled : (g : Tiles) (t : ℕ) {r : Result ℕ (Halt E)} {c d : C} {i j : I} → (column g t + 1 ≡ across g → ⊥)
-      → Walked step (counted pps.pps_slice_width_in_tiles_minus1 (across g - column g t)) c i r d j → Walked step (width_in_tiles g t) c i r d j
-  unfolding counted
+      → Walked step (golomb_below pps.pps_slice_width_in_tiles_minus1 (across g - column g t)) c i r d j → Walked step (width_in_tiles g t) c i r d j
+  unfolding golomb_below
   width-spelled g t more walk = let is : (column g t + 1 == across g) ≡ false = ne_eqb _ _ more in rw is walk
 
   -- ---- its height
@@ -101,28 +101,28 @@ module _ {C I E : Type 0} {step : Step C I E} where
   height-taken g deltas t before more taken = let is : (row g t + 1 == down g) ≡ false = ne_eqb _ _ more in rw (is, taken) ended
 
   pub height-spelled : (g : Tiles) (deltas : Bool) (t before : ℕ) {r : Result ℕ (Halt E)} {c d : C} {i j : I} → (row g t + 1 ≡ down g → ⊥) → spells_height g deltas t ≡ true
-      → Walked step (counted pps.pps_slice_height_in_tiles_minus1 (down g - row g t)) c i r d j → Walked step (height_in_tiles g deltas t before) c i r d j
-  unfolding counted
+      → Walked step (golomb_below pps.pps_slice_height_in_tiles_minus1 (down g - row g t)) c i r d j → Walked step (height_in_tiles g deltas t before) c i r d j
+  unfolding golomb_below
   height-spelled g deltas t before more spelled walk = let is : (row g t + 1 == down g) ≡ false = ne_eqb _ _ more in rw (is, spelled) walk
 
   -- ---- the slices of a tile
 
   pub tile-whole : (t : Rect) (last explicit : ℕ) (slices : List Rect) {c d : C} {i j : I} → explicit ≡ 0
-      → Walked step (counted pps.pps_num_exp_slices_in_tile (last + 2 - length slices)) c i (Ok explicit) d j → Walked step (slices_in_tile t last slices) c i (Ok (slices ++ t ∷ [])) d j
-  unfolding counted
+      → Walked step (golomb_below pps.pps_num_exp_slices_in_tile (last + 2 - length slices)) c i (Ok explicit) d j → Walked step (slices_in_tile t last slices) c i (Ok (slices ++ t ∷ [])) d j
+  unfolding golomb_below
   tile-whole t last explicit slices none walk =
       then (λ n. cond (n == 0) (done (slices ++ t ∷ [])) (strips_from t last n t.y 0 slices)) walk (let is : (explicit == 0) ≡ true = eq-eqb _ _ none in rw is ended)
 
   pub tile-cut : (t : Rect) (last explicit : ℕ) (slices : List Rect) {r : Result (List Rect) (Halt E)} {c d e : C} {i j k : I} → (explicit ≡ 0 → ⊥)
-      → Walked step (counted pps.pps_num_exp_slices_in_tile (last + 2 - length slices)) c i (Ok explicit) d j → Walked step (strips_from t last explicit t.y 0 slices) d j r e k
+      → Walked step (golomb_below pps.pps_num_exp_slices_in_tile (last + 2 - length slices)) c i (Ok explicit) d j → Walked step (strips_from t last explicit t.y 0 slices) d j r e k
       → Walked step (slices_in_tile t last slices) c i r e k
-  unfolding counted
+  unfolding golomb_below
   tile-cut t last explicit slices some walk behind =
       then (λ n. cond (n == 0) (done (slices ++ t ∷ [])) (strips_from t last n t.y 0 slices)) walk (let is : (explicit == 0) ≡ false = ne_eqb _ _ some in rw is behind)
 
   pub tile-stop : (t : Rect) (last : ℕ) (slices : List Rect) {e : Halt E} {c d : C} {i j : I}
-      → Walked step (counted pps.pps_num_exp_slices_in_tile (last + 2 - length slices)) c i (Err e) d j → Walked step (slices_in_tile t last slices) c i (Err e) d j
-  unfolding counted
+      → Walked step (golomb_below pps.pps_num_exp_slices_in_tile (last + 2 - length slices)) c i (Err e) d j → Walked step (slices_in_tile t last slices) c i (Err e) d j
+  unfolding golomb_below
   tile-stop t last slices walk = stop (λ n. cond (n == 0) (done (slices ++ t ∷ [])) (strips_from t last n t.y 0 slices)) walk
 
 -- so many explicit slices of a tile were coded, down to CTU row y
@@ -174,11 +174,11 @@ module _ {C I E : Type 0} {step : Step C I E} where
   -- ---- the slices of a turn
 
   pub slices-cut : (g : Tiles) (last t width height : ℕ) (slices : List Rect) {r : Result (List Rect) (Halt E)} {c d : C} {i j : I} → may_be_cut width height (tile g t) ≡ true
-      → Walked step (slices_in_tile (tile g t) last slices) c i r d j → Walked step (slices_at g last t width height slices) c i r d j
+      → Walked step (slices_in_tile (tile g t) last slices) c i r d j → Walked step (slices_from_tile g last t width height slices) c i r d j
   slices-cut g last t width height slices cut walk = rw cut walk
 
   pub slices-whole : (g : Tiles) (last t width height : ℕ) (slices : List Rect) {c : C} {i : I} → may_be_cut width height (tile g t) ≡ false
-      → Walked step (slices_at g last t width height slices) c i (Ok (slices ++ block g t (width + 1) (height + 1) ∷ [])) c i
+      → Walked step (slices_from_tile g last t width height slices) c i (Ok (slices ++ block g t (width + 1) (height + 1) ∷ [])) c i
   slices-whole g last t width height slices cut = rw cut ended
 
   -- ---- turns

@@ -15,9 +15,9 @@ pub data Group : Type 0 where
   cut : ℕ → List ℕ → Group
 
 -- its first tile, and its tiles across and down
-abbrev pub start : Group → ℕ
-start (whole t wide high) = t
-start (cut t heights) = t
+abbrev pub first_tile_of : Group → ℕ
+first_tile_of (whole t wide high) = t
+first_tile_of (cut t heights) = t
 
 abbrev pub wide_of : Group → ℕ
 wide_of (whole t wide high) = wide
@@ -33,14 +33,14 @@ strips t y [] = []
 strips t y (height ∷ heights) = record { x = t.x; y = y; w = t.w; h = height } ∷ strips t (y + height) heights
 
 -- the slices of a group
-abbrev pub slices_of : Tiles → Group → List Rect
-slices_of g (whole t wide high) = block g t wide high ∷ []
-slices_of g (cut t heights) = strips (tile g t) (tile g t).y heights
+abbrev pub slices_of_group : Tiles → Group → List Rect
+slices_of_group g (whole t wide high) = block g t wide high ∷ []
+slices_of_group g (cut t heights) = strips (tile g t) (tile g t).y heights
 
 -- the slices of groups, one group behind another
 abbrev pub slices_of_all : Tiles → List Group → List Rect
 slices_of_all g [] = []
-slices_of_all g (group ∷ groups) = slices_of g group ++ slices_of_all g groups
+slices_of_all g (group ∷ groups) = slices_of_group g group ++ slices_of_all g groups
 
 -- the group lies in the picture, and the slices of a tile, two or more, fill it
 abbrev pub Lies : Tiles → Group → Type 0
@@ -54,10 +54,10 @@ spells_height g deltas t = deltas || column g t == 0
 
 -- the group begins at a tile and lies in the picture; where its height isn't spelled, it has the one before's, less 1,
 -- but in the last row
-pub record Stands (g : Tiles) (deltas : Bool) (before : ℕ) (group : Group) : Type 0 where
-  pub inside : start group < across g * down g
+pub record GroupStands (g : Tiles) (deltas : Bool) (before : ℕ) (group : Group) : Type 0 where
+  pub inside : first_tile_of group < across g * down g
   pub lies : Lies g group
-  pub height : spells_height g deltas (start group) ≡ false → row g (start group) + 1 < down g → before ≡ high_of group - 1
+  pub height : spells_height g deltas (first_tile_of group) ≡ false → row g (first_tile_of group) + 1 < down g → before ≡ high_of group - 1
 
 -- a slice of whole tiles reaches to the last column and row
 abbrev pub Ends : Tiles → Group → Type 0
@@ -68,10 +68,10 @@ Ends g (cut t heights) = Unit {0}
 -- ends the picture
 abbrev pub Follow : Tiles → Bool → ℕ → List Group → Type 0
 Follow g deltas before [] = ⊥
-Follow g deltas before (group ∷ []) = Stands g deltas before group × Ends g group
+Follow g deltas before (group ∷ []) = GroupStands g deltas before group × Ends g group
 Follow g deltas before (group ∷ next ∷ more) =
-    Stands g deltas before group
-    × (deltas ≡ false → start next ≡ tile_behind g (start group) (wide_of group - 1) (high_of group - 1))
+    GroupStands g deltas before group
+    × (deltas ≡ false → first_tile_of next ≡ tile_behind g (first_tile_of group) (wide_of group - 1) (high_of group - 1))
     × Follow g deltas (high_of group - 1) (next ∷ more)
 
 -- slices that cover a picture of these tiles in order, and that a slice list can name
@@ -89,5 +89,5 @@ pub record InGroups (g : Tiles) (deltas : Bool) (slices : List Rect) : Type 0 wh
   pub group : Group
   pub groups : List Group
   pub same : slices_of_all g (group ∷ groups) ≡ slices
-  pub first : start group ≡ 0
+  pub first : first_tile_of group ≡ 0
   pub follow : Follow g deltas 0 (group ∷ groups)

@@ -1,8 +1,7 @@
 -- What items are to a form: the values that they give its fields, and where these lead.
-use Rattle.std.specs.Prelude.{ℕ, ℤ, pos, Bool, true, false, List, [], ◌∷◌, Option, Some, None, ◌==◌, map, filter}
+use Rattle.std.specs.Prelude.{ℤ, pos, Bool, true, false, List, [], ◌∷◌, Option, Some, None, ◌==◌}
 use Rattle.vx_bits.specs.declared.list.Item.{Item}
 use Rattle.vx_table.specs.Forms.{Form, done, field, has_value}
-use Rattle.vx_table.specs.Scope.{natural}
 
 -- a field takes the next item, and goes on with its value; a gap takes none, and its value is 0
 abbrev pub with_next : Bool → (ℤ → List Item → List ℤ) → List Item → List ℤ
@@ -20,7 +19,3 @@ abbrev pub end_along : {A : Type 0} → Form A → List ℤ → Option A
 end_along (done a) values = Some a
 end_along (field cell goes) [] = None
 end_along (field cell goes) (v ∷ values) = end_along (goes v) values
-
--- the numbers of a field's items, in order
-abbrev pub numbers_of : List Item → ℕ → List ℕ
-numbers_of items of = map (λ item. natural item.value) (filter (λ item. item.field == of) items)

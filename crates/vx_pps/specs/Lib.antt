@@ -6,7 +6,6 @@ pub mod Written
 pub mod Partition
 pub mod Items
 pub mod Pps
-pub mod Sets
-pub mod Laws
 pub mod Reshaped
 pub mod inner
+pub mod laws

@@ -14,36 +14,36 @@ use Rattle.vx_table.specs.Scope.{is_set, natural}
 use Rattle.vx_pps.specs.declared.partition.Partition.{Partition}
 use Rattle.vx_pps.specs.declared.tiles.Tiles.{Tiles}
 use Rattle.vx_pps.specs.Tiles.{across, down}
-use Rattle.vx_pps.specs.Slices.{below, list_from, number, sizes_from}
+use Rattle.vx_pps.specs.Slices.{below, list_from, golomb_form, sizes_from}
 
 -- a number of ue(v) below a bound
-unfoldable pub counted : ℕ → ℕ → Form ℕ
-counted of bound = number of (below bound)
+unfoldable pub golomb_below : ℕ → ℕ → Form ℕ
+golomb_below of bound = golomb_form of (below bound)
 
 -- a number of u(n), in these limits
-unfoldable pub fixed : ℕ → ℕ → Limits ℕ → Form ℕ
-fixed of bits limits = field (record { field = of; kept = false; coding = Fixed bits; limits = limits }) (λ v. done (natural v))
+unfoldable pub fixed_form : ℕ → ℕ → Limits ℕ → Form ℕ
+fixed_form of bits limits = field (record { field = of; kept = false; coding = Fixed bits; limits = limits }) (λ v. done (natural v))
 
 -- a flag, which may have no value
 abbrev pub flag : ℕ → Form ℕ
-flag of = fixed of 1 (below 2)
+flag of = fixed_form of 1 (below 2)
 
 abbrev pub impossible_flag : ℕ → Form ℕ
-impossible_flag of = fixed of 1 (below 0)
+impossible_flag of = fixed_form of 1 (below 0)
 
 -- ---- tiles
 
 -- pps_log2_ctu_size_minus5
 abbrev pub ctu_size : Form ℕ
-ctu_size = fixed pps.pps_log2_ctu_size_minus5 2 (below 3)
+ctu_size = fixed_form pps.pps_log2_ctu_size_minus5 2 (below 3)
 
 -- no picture has more CTUs across or down: 16,384 samples in CTUs of 32
 abbrev pub most_ctus : ℕ
 most_ctus = 512
 
 -- the CTUs across or down, of so many samples (PicWidthInCtbsY, PicHeightInCtbsY)
-abbrev pub ctus : ℕ → ℕ → ℕ
-ctus samples log2 = min (div_ceil samples (2 ^ (log2 + 5))) most_ctus
+abbrev pub ctus_across : ℕ → ℕ → ℕ
+ctus_across samples log2 = min (div_ceil samples (2 ^ (log2 + 5))) most_ctus
 
 -- the explicit sizes of tile columns or rows, so many, where there are so many CTUs
 unfoldable pub sizes_of : ℕ → ℕ → ℕ → Form (List ℕ)
@@ -55,8 +55,8 @@ tiles_of widths columns heights rows = record { columns = bounds_of widths colum
 
 unfoldable pub tiles_among : ℕ → ℕ → Form Tiles
 tiles_among columns rows = do
-  last_column ← counted pps.pps_num_exp_tile_columns_minus1 columns
-  last_row ← counted pps.pps_num_exp_tile_rows_minus1 rows
+  last_column ← golomb_below pps.pps_num_exp_tile_columns_minus1 columns
+  last_row ← golomb_below pps.pps_num_exp_tile_rows_minus1 rows
   widths ← sizes_of pps.pps_tile_column_width_minus1 (last_column + 1) columns
   heights ← sizes_of pps.pps_tile_row_height_minus1 (last_row + 1) rows
   done (tiles_of widths columns heights rows)
@@ -65,14 +65,14 @@ tiles_among columns rows = do
 unfoldable pub tile_flags : Tiles → Form ℕ
 tile_flags g =
     cond (nat_lt 1 (across g * down g))
-    (flag pps.pps_loop_filter_across_tiles_enabled_flag >>= λ v. fixed pps.pps_rect_slice_flag 1 (Within (pos 1) 1 (Profile RASTER_SCAN_SLICES)))
+    (flag pps.pps_loop_filter_across_tiles_enabled_flag >>= λ v. fixed_form pps.pps_rect_slice_flag 1 (Within (pos 1) 1 (Profile RASTER_SCAN_SLICES)))
     (done 1)
 
 -- ---- slices
 
 -- pps_num_slices_in_pic_minus1
 unfoldable pub last_slice : Form ℕ
-last_slice = number pps.pps_num_slices_in_pic_minus1 (Below 1000 (Limit TOO_MANY_SLICES))
+last_slice = golomb_form pps.pps_num_slices_in_pic_minus1 (Below 1000 (Limit TOO_MANY_SLICES))
 
 -- pps_tile_idx_delta_present_flag
 unfoldable pub deltas_flag : ℕ → Form ℕ
@@ -107,7 +107,7 @@ slices_among g single = cond (is_set single) subpicture_slices (listed_slices g)
 unfoldable pub divided : ℕ → ℕ → Form Partition
 divided width height = do
   log2 ← ctu_size
-  tiles ← tiles_among (ctus width log2) (ctus height log2)
+  tiles ← tiles_among (ctus_across width log2) (ctus_across height log2)
   rectangles ← tile_flags tiles
   single ← flag pps.pps_single_slice_per_subpic_flag
   slices ← slices_among tiles single

@@ -16,19 +16,20 @@ use Rattle.vx_table.specs.Scope.{fresh, is_set}
 use Rattle.vx_table.specs.Values.{bits_along}
 use Rattle.vx_pps.specs.declared.partition.Partition.{Partition}
 use Rattle.vx_pps.specs.declared.tables.TheConstants as tables
-use Rattle.vx_pps.specs.Items.{end_along, numbers_of, values_in}
+use Rattle.vx_pps.specs.Items.{end_along, values_in}
+use Rattle.vx_table.specs.Loaded.{numbers_of}
 use Rattle.vx_pps.specs.Partition.{partition, undivided}
 use Rattle.vx_pps.specs.Written.{Gives}
 
 -- ---- the form
 
 -- before tiles and slices
-abbrev pub front : List Section
-front = always tables.IDS ∷ always tables.NAL_TYPES ∷ always tables.SIZE ∷ always tables.OUTPUT ∷ always tables.SUBPIC_IDS ∷ []
+abbrev pub before_tiles : List Section
+before_tiles = always tables.IDS ∷ always tables.NAL_TYPES ∷ always tables.SIZE ∷ always tables.OUTPUT ∷ always tables.SUBPIC_IDS ∷ []
 
 -- behind them: the tools of slices, what stands in picture headers, and the end
-abbrev pub tools : List Section
-tools = always tables.PREDICTION ∷ always tables.INIT_QP ∷ always tables.QP_OFFSETS ∷ always tables.DBF_CONTROL
+abbrev pub after_slices : List Section
+after_slices = always tables.PREDICTION ∷ always tables.INIT_QP ∷ always tables.QP_OFFSETS ∷ always tables.DBF_CONTROL
     ∷ always tables.DBF_INFO ∷ always tables.DBF_OFFSETS ∷ always tables.HEADER_INFO ∷ always tables.END ∷ []
 
 -- the tiles and slices of a picture of that size
@@ -40,9 +41,9 @@ partition_at s =
 -- pic_parameter_set_rbsp(), at whose end stand its tiles and slices
 unfoldable pub pps_form : Form Partition
 pps_form = do
-  s ← sections_form front fresh
+  s ← sections_form before_tiles fresh
   p ← partition_at s
-  t ← sections_form tools s
+  t ← sections_form after_slices s
   done p
 
 -- What a reader of its fields answers that appends their items to these. Nothing is said of them where memory runs out.
@@ -58,7 +59,7 @@ ReadsFields rbsp items (Err (errors.Refused r)) after =
 abbrev pub IsPps : List Item → Partition → Type 0
 IsPps items end = Gives pps_form items end
 
-pub record IsItems (items : List Item) : Type 0 where
+pub record ArePpsItems (items : List Item) : Type 0 where
   pub end : Partition
   pub set : IsPps items end
 
@@ -75,27 +76,27 @@ abbrev pub is_partitioned : List Item → Bool
 is_partitioned items = not (is_set (loading.number items pps.pps_no_pic_partition_flag))
 
 -- the bounds of the tile columns and rows of such a picture, in CTUs
-abbrev pub columns_of : List Item → List ℕ
-columns_of items = (partition_of items).tiles.columns
+abbrev pub tile_columns_of : List Item → List ℕ
+tile_columns_of items = (partition_of items).tiles.columns
 
-abbrev pub rows_of : List Item → List ℕ
-rows_of items = (partition_of items).tiles.rows
+abbrev pub tile_rows_of : List Item → List ℕ
+tile_rows_of items = (partition_of items).tiles.rows
 
 -- its slices, unless each subpicture is one
-abbrev pub slices_of : List Item → Option (List Rect)
-slices_of items = (partition_of items).slices
+abbrev pub slice_list_of : List Item → Option (List Rect)
+slice_list_of items = (partition_of items).slices
 
 -- the active entries of list 0 and of list 1 where a slice says nothing, less 1
 abbrev pub default_active : List Item → ℕ → ℕ
 default_active items list = slice_index (numbers_of items pps.pps_num_ref_idx_default_active_minus1) list
 
 -- the items of its kept fields; those that say what stands in picture headers, also where they are absent, as 0
-abbrev pub kept_of : List Item → List Item
-kept_of items = kept_along pps_form (values_in pps_form items)
+abbrev pub kept_pps_items : List Item → List Item
+kept_pps_items items = kept_along pps_form (values_in pps_form items)
 
 -- ---- how it is spelled
 
 -- The bytes are the spelling of the values whose items these are.
-pub record IsSpelling (items : List Item) (bytes : List ℕ) : Type 0 where
-  pub is : IsItems items
+pub record IsPpsSpelling (items : List Item) (bytes : List ℕ) : Type 0 where
+  pub is : ArePpsItems items
   pub bits : bits_of bytes ≡ bits_along pps_form 0 is.set.values

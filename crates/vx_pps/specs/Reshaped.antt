@@ -6,7 +6,10 @@ use Rattle.vx_bits.specs.declared.list.Item.{Item}
 use Rattle.vx_bits.specs.Fields.{first_value}
 use Rattle.vx_fields.specs.declared.pps.TheConstants as pps
 use Rattle.vx_layout.specs.Bounds.{last, sizes_between}
+use Rattle.vx_layout.specs.declared.numbers.Numbers.{Numbers}
+use Rattle.vx_layout.specs.declared.rect.Rect.{Rect}
 use Rattle.vx_layout.specs.Layouts.{HasLayout}
+use Rattle.vx_layout.specs.Rects.{whole_picture}
 use Rattle.vx_layout.specs.Shapes.{AreListable}
 use Rattle.vx_table.specs.Depends.{set_of}
 use Rattle.vx_table.specs.Loaded.{number}
@@ -15,79 +18,76 @@ use Rattle.vx_table.specs.Scope.{is_set, one_if, powers_below}
 use Rattle.vx_table.specs.Shown.{shown_items}
 use Rattle.vx_pps.specs.declared.shape.PpsShape.{PpsShape}
 use Rattle.vx_pps.specs.declared.shape.TheConstants.{TAKEN, TAKEN_FOR_FRAME}
+use Rattle.vx_pps.specs.declared.tiles.Tiles.{Tiles}
 use Rattle.vx_pps.specs.Tiles.{across, down}
 use Rattle.vx_pps.specs.Groups.{Group, InGroups}
-use Rattle.vx_pps.specs.Laws.{picture_of}
-use Rattle.vx_pps.specs.Items.{numbers_of}
-use Rattle.vx_pps.specs.Pps.{IsItems, columns_of, kept_of, pps_form, rows_of, slices_of}
-use Rattle.vx_pps.specs.Written.{item, list_items, size_items}
+use Rattle.vx_table.specs.Loaded.{numbers_of}
+use Rattle.vx_pps.specs.Pps.{ArePpsItems, tile_columns_of, kept_pps_items, pps_form, tile_rows_of, slice_list_of}
+use Rattle.vx_pps.specs.Written.{only_item, list_items, tile_size_items}
+use Rattle.vx_table.specs.Rewritten.{where_so}
 
 -- ---- what is stated, in the order of the syntax
 
--- items that stand only where something holds
-abbrev pub where_so : Bool → List Item → List Item
-where_so holds items = cond holds items []
-
 -- an item with the number that the source's last one gives the field: 0 where it has none
-abbrev pub same : List Item → ℕ → List Item
-same source of = item of (pos (number source of))
+abbrev pub items_of_source : List Item → ℕ → List Item
+items_of_source source of = only_item of (pos (number source of))
 
 -- pps_no_pic_partition_flag: a frame is partitioned, and a region where its source is
 abbrev pub whole_flag : List Item → PpsShape → ℕ
 whole_flag source shape = cond shape.merged 0 (number source pps.pps_no_pic_partition_flag)
 
 -- the id of the one subpicture, where this set has it
-abbrev pub id_items : ℕ → Option (ℕ × ℕ) → List Item
-id_items whole None = item pps.pps_subpic_id_mapping_present_flag (pos 0)
-id_items whole (Some (bits, id)) =
-    item pps.pps_subpic_id_mapping_present_flag (pos 1)
-    ++ (where_so (whole == 0) (item pps.pps_num_subpics_minus1 (pos 0))
-    ++ (item pps.pps_subpic_id_len_minus1 (pos bits) ++ item pps.pps_subpic_id (pos id)))
+abbrev pub pps_subpic_id_items : ℕ → Option (ℕ × ℕ) → List Item
+pps_subpic_id_items whole None = only_item pps.pps_subpic_id_mapping_present_flag (pos 0)
+pps_subpic_id_items whole (Some (bits, id)) =
+    only_item pps.pps_subpic_id_mapping_present_flag (pos 1)
+    ++ (where_so (whole == 0) (only_item pps.pps_num_subpics_minus1 (pos 0))
+    ++ (only_item pps.pps_subpic_id_len_minus1 (pos bits) ++ only_item pps.pps_subpic_id (pos id)))
 
 -- ids, size, no conformance window, whether it is partitioned
 abbrev pub front_items : ℕ → PpsShape → List Item
 front_items whole shape =
-    item pps.pps_pic_parameter_set_id (pos shape.id)
-    ++ (item pps.pps_seq_parameter_set_id (pos shape.sps_id)
-    ++ (item pps.pps_pic_width_in_luma_samples (pos shape.width)
-    ++ (item pps.pps_pic_height_in_luma_samples (pos shape.height)
-    ++ (item pps.pps_conformance_window_flag (pos 0)
-    ++ (item pps.pps_no_pic_partition_flag (pos whole)
-    ++ id_items whole shape.subpic_id)))))
+    only_item pps.pps_pic_parameter_set_id (pos shape.id)
+    ++ (only_item pps.pps_seq_parameter_set_id (pos shape.sps_id)
+    ++ (only_item pps.pps_pic_width_in_luma_samples (pos shape.width)
+    ++ (only_item pps.pps_pic_height_in_luma_samples (pos shape.height)
+    ++ (only_item pps.pps_conformance_window_flag (pos 0)
+    ++ (only_item pps.pps_no_pic_partition_flag (pos whole)
+    ++ pps_subpic_id_items whole shape.subpic_id)))))
 
 -- the flags of several tiles
 abbrev pub tile_flag_items : PpsShape → List Item
 tile_flag_items shape = where_so (nat_lt 1 (across shape.tiles * down shape.tiles))
-    (item pps.pps_loop_filter_across_tiles_enabled_flag (pos (one_if shape.across_tiles)) ++ item pps.pps_rect_slice_flag (pos 1))
+    (only_item pps.pps_loop_filter_across_tiles_enabled_flag (pos (one_if shape.across_tiles)) ++ only_item pps.pps_rect_slice_flag (pos 1))
 
 -- tile indices are spelled of three slices and more
 abbrev pub has_deltas : PpsShape → Bool
 has_deltas shape = nat_lt 2 (length shape.slices)
 
 -- the number of the slices, their list, tile by tile, and whether loop filters cross their borders
-abbrev pub slice_items : PpsShape → List Group → List Item
-slice_items shape groups =
-    item pps.pps_num_slices_in_pic_minus1 (pos (length shape.slices - 1))
-    ++ (where_so (has_deltas shape) (item pps.pps_tile_idx_delta_present_flag (pos 1))
+abbrev pub slice_list_items : PpsShape → List Group → List Item
+slice_list_items shape groups =
+    only_item pps.pps_num_slices_in_pic_minus1 (pos (length shape.slices - 1))
+    ++ (where_so (has_deltas shape) (only_item pps.pps_tile_idx_delta_present_flag (pos 1))
     ++ (list_items shape.tiles (has_deltas shape) groups
-    ++ where_so (nat_lt 1 (length shape.slices)) (item pps.pps_loop_filter_across_slices_enabled_flag (pos (one_if shape.across_slices)))))
+    ++ where_so (nat_lt 1 (length shape.slices)) (only_item pps.pps_loop_filter_across_slices_enabled_flag (pos (one_if shape.across_slices)))))
 
 -- all tile columns and rows, each with its size
 abbrev pub tile_items : PpsShape → List Item
 tile_items shape =
-    item pps.pps_num_exp_tile_columns_minus1 (pos (across shape.tiles - 1))
-    ++ (item pps.pps_num_exp_tile_rows_minus1 (pos (down shape.tiles - 1))
-    ++ (size_items pps.pps_tile_column_width_minus1 (sizes_between shape.tiles.columns)
-    ++ size_items pps.pps_tile_row_height_minus1 (sizes_between shape.tiles.rows)))
+    only_item pps.pps_num_exp_tile_columns_minus1 (pos (across shape.tiles - 1))
+    ++ (only_item pps.pps_num_exp_tile_rows_minus1 (pos (down shape.tiles - 1))
+    ++ (tile_size_items pps.pps_tile_column_width_minus1 (sizes_between shape.tiles.columns)
+    ++ tile_size_items pps.pps_tile_row_height_minus1 (sizes_between shape.tiles.rows)))
 
 -- the CTU size, the tiles, and the slices in these groups
 abbrev pub divided_items : PpsShape → List Group → List Item
 divided_items shape groups =
-    item pps.pps_log2_ctu_size_minus5 (pos (powers_below 32 shape.ctb - 5))
+    only_item pps.pps_log2_ctu_size_minus5 (pos (powers_below 32 shape.ctb - 5))
     ++ (tile_items shape
     ++ (tile_flag_items shape
-    ++ (item pps.pps_single_slice_per_subpic_flag (pos 0)
-    ++ slice_items shape groups)))
+    ++ (only_item pps.pps_single_slice_per_subpic_flag (pos 0)
+    ++ slice_list_items shape groups)))
 
 -- what is said of tiles and slices: each group has slices of whole tiles, or the slices of one tile
 pub record Divides (shape : PpsShape) (items : List Item) : Type 0 where
@@ -108,16 +108,16 @@ has_weights source =
 
 abbrev pub info_items : List Item → List Item
 info_items source =
-    same source pps.pps_rpl_info_in_ph_flag
-    ++ (same source pps.pps_sao_info_in_ph_flag
-    ++ (item pps.pps_alf_info_in_ph_flag (pos 0)
-    ++ (where_so (has_weights source) (same source pps.pps_wp_info_in_ph_flag)
-    ++ item pps.pps_qp_delta_info_in_ph_flag (pos 0))))
+    items_of_source source pps.pps_rpl_info_in_ph_flag
+    ++ (items_of_source source pps.pps_sao_info_in_ph_flag
+    ++ (only_item pps.pps_alf_info_in_ph_flag (pos 0)
+    ++ (where_so (has_weights source) (items_of_source source pps.pps_wp_info_in_ph_flag)
+    ++ only_item pps.pps_qp_delta_info_in_ph_flag (pos 0))))
 
 abbrev pub frame_tool_items : List Item → ℤ → List Item
 frame_tool_items source init_qp =
-    item pps.pps_init_qp_minus26 init_qp
-    ++ (where_so (is_set (number source pps.pps_deblocking_filter_override_enabled_flag)) (same source pps.pps_dbf_info_in_ph_flag)
+    only_item pps.pps_init_qp_minus26 init_qp
+    ++ (where_so (is_set (number source pps.pps_deblocking_filter_override_enabled_flag)) (items_of_source source pps.pps_dbf_info_in_ph_flag)
     ++ info_items source)
 
 abbrev pub tool_items : List Item → PpsShape → List Item
@@ -136,6 +136,15 @@ pub record IsSize (n : ℕ) : Type 0 where
   pub some : 0 < n
   pub small : n ≤ 16384
   pub whole : n % 8 ≡ 0
+
+-- a picture of these tiles and slices, as one subpicture
+abbrev pub picture_of : Tiles → List Rect → Numbers
+picture_of g slices = record {
+  columns = g.columns;
+  rows = g.rows;
+  slices = slices;
+  subpics = whole_picture (last g.columns) (last g.rows) ∷ [];
+}
 
 -- tiles and slices of a picture of that size: they have a layout as one subpicture, and a slice list can name the slices
 pub record CanBeDivided (shape : PpsShape) : Type 0 where
@@ -163,7 +172,7 @@ taken shape = set_of (cond shape.merged TAKEN_FOR_FRAME TAKEN)
 
 -- The items are those of a set. Those of the fields that are taken over are the source's, and the others are exactly what is
 -- stated.
-pub record IsReshaped (source : List Item) (shape : PpsShape) (items : List Item) : Type 0 where
+pub record IsReshapedPps (source : List Item) (shape : PpsShape) (items : List Item) : Type 0 where
   pub others : List Item
   pub stated : IsStated source shape others
   pub rewritten : IsRewritten pps_form (taken shape) (shown_items (taken shape) source) others items
@@ -171,21 +180,21 @@ pub record IsReshaped (source : List Item) (shape : PpsShape) (items : List Item
 -- Of a rewritten set that is partitioned the tile columns, the tile rows and the slices are exactly the shape's.
 abbrev pub ReshapedHasItsTiles : Type 0
 ReshapedHasItsTiles =
-    (source items : List Item) (shape : PpsShape) → IsItems source → IsShape source shape → IsReshaped source shape items
+    (source items : List Item) (shape : PpsShape) → ArePpsItems source → IsShape source shape → IsReshapedPps source shape items
     → whole_flag source shape ≡ 0
-    → (columns_of items ≡ shape.tiles.columns) × (rows_of items ≡ shape.tiles.rows) × (slices_of items ≡ Some shape.slices)
+    → (tile_columns_of items ≡ shape.tiles.columns) × (tile_rows_of items ≡ shape.tiles.rows) × (slice_list_of items ≡ Some shape.slices)
 
 -- The set for a region keeps what its source keeps, in the place of absent fields too.
 abbrev pub RegionKeeps : Type 0
 RegionKeeps =
-    (source items : List Item) (shape : PpsShape) → IsItems source → IsShape source shape → IsReshaped source shape items
-    → shape.merged ≡ false → kept_of items ≡ kept_of source
+    (source items : List Item) (shape : PpsShape) → ArePpsItems source → IsShape source shape → IsReshapedPps source shape items
+    → shape.merged ≡ false → kept_pps_items items ≡ kept_pps_items source
 
 -- So does the set for a frame.
 abbrev pub FrameKeeps : Type 0
 FrameKeeps =
-    (source items : List Item) (shape : PpsShape) → IsItems source → IsReshaped source shape items → shape.merged ≡ true
-    → kept_of items ≡ kept_of source
+    (source items : List Item) (shape : PpsShape) → ArePpsItems source → IsReshapedPps source shape items → shape.merged ≡ true
+    → kept_pps_items items ≡ kept_pps_items source
 
 -- ---- what it says
 
@@ -206,7 +215,7 @@ pub record TellsDivision (shape : PpsShape) (items : List Item) : Type 0 where
 
 -- It says what the shape says: its ids, its size, whether it is partitioned, the id of its one subpicture where that stands here, and
 -- the QP of a frame.
-pub record Tells (source : List Item) (shape : PpsShape) (items : List Item) : Type 0 where
+pub record TellsPpsShape (source : List Item) (shape : PpsShape) (items : List Item) : Type 0 where
   pub id : number items pps.pps_pic_parameter_set_id ≡ shape.id
   pub sps_id : number items pps.pps_seq_parameter_set_id ≡ shape.sps_id
   pub width : number items pps.pps_pic_width_in_luma_samples ≡ shape.width
@@ -220,5 +229,5 @@ pub record Tells (source : List Item) (shape : PpsShape) (items : List Item) : T
 
 abbrev pub ReshapedTells : Type 0
 ReshapedTells =
-    (source items : List Item) (shape : PpsShape) → IsItems source → IsShape source shape → IsReshaped source shape items
-    → Tells source shape items
+    (source items : List Item) (shape : PpsShape) → ArePpsItems source → IsShape source shape → IsReshapedPps source shape items
+    → TellsPpsShape source shape items

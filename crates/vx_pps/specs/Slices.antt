@@ -19,8 +19,8 @@ use Rattle.vx_pps.specs.Tiles.{across, block, column, down, row, tile, tile_behi
 use Rattle.vx_pps.specs.Groups.{spells_height, strips}
 
 -- a number of ue(v), in these limits
-abbrev pub number : ℕ → Limits ℕ → Form ℕ
-number of limits = field (record { field = of; kept = false; coding = Golomb; limits = limits }) (λ v. done (natural v))
+abbrev pub golomb_form : ℕ → Limits ℕ → Form ℕ
+golomb_form of limits = field (record { field = of; kept = false; coding = Golomb; limits = limits }) (λ v. done (natural v))
 
 abbrev pub below : ℕ → Limits ℕ
 below bound = Below bound OutOfRange
@@ -28,27 +28,27 @@ below bound = Below bound OutOfRange
 -- ---- the tile columns and rows
 
 -- pps_tile_column_width_minus1 + 1 or pps_tile_row_height_minus1 + 1, where so many CTUs are left
-abbrev pub size_of : ℕ → ℕ → Form ℕ
-size_of of left = number of (below left) >>= λ v. done (v + 1)
+abbrev pub tile_size_form : ℕ → ℕ → Form ℕ
+tile_size_form of left = golomb_form of (below left) >>= λ v. done (v + 1)
 
 -- so many of them, behind others
 abbrev pub sizes_from : ℕ → ℕ → ℕ → List ℕ → Form (List ℕ)
 sizes_from of zero left sizes = done sizes
-sizes_from of (suc more) left sizes = size_of of left >>= λ size. sizes_from of more (left - size) (sizes ++ size ∷ [])
+sizes_from of (suc more) left sizes = tile_size_form of left >>= λ size. sizes_from of more (left - size) (sizes ++ size ∷ [])
 
 -- ---- the fields of one slice, or of the slices of one tile
 
 -- pps_slice_width_in_tiles_minus1, of a slice that begins at tile t: it isn't there in the last column
 abbrev pub width_in_tiles : Tiles → ℕ → Form ℕ
 width_in_tiles g t =
-    cond (column g t + 1 == across g) (done 0) (number pps.pps_slice_width_in_tiles_minus1 (below (across g - column g t)))
+    cond (column g t + 1 == across g) (done 0) (golomb_form pps.pps_slice_width_in_tiles_minus1 (below (across g - column g t)))
 
 -- pps_slice_height_in_tiles_minus1: it isn't there in the last row, which gives 0, nor where tile indices aren't spelled and
 -- the slice stands beside the one before, whose height it takes
 abbrev pub height_in_tiles : Tiles → Bool → ℕ → ℕ → Form ℕ
 height_in_tiles g deltas t before =
     cond (row g t + 1 == down g) (done 0)
-    (cond (spells_height g deltas t) (number pps.pps_slice_height_in_tiles_minus1 (below (down g - row g t))) (done before))
+    (cond (spells_height g deltas t) (golomb_form pps.pps_slice_height_in_tiles_minus1 (below (down g - row g t))) (done before))
 
 -- the heights, less 1, that the explicit slice of a tile may have which comes next, where `left` CTU rows of the tile are
 -- left and `room` slices of the picture, it among them: it stays in the tile, and the last explicit one is so high that the
@@ -61,7 +61,7 @@ height_limits is_last left room =
 -- come; the picture has `last` + 1 slices
 abbrev pub strip_height : Rect → ℕ → ℕ → ℕ → List Rect → Form ℕ
 strip_height t last more y slices =
-    number pps.pps_exp_slice_height_in_ctus_minus1 (height_limits (more == 0) (t.y + t.h - y) (last + 1 - length slices))
+    golomb_form pps.pps_exp_slice_height_in_ctus_minus1 (height_limits (more == 0) (t.y + t.h - y) (last + 1 - length slices))
     >>= λ v. done (v + 1)
 
 -- so many explicit slices of the tile, from CTU row y on; then the last height again while it fits, and the rest where one
@@ -74,7 +74,7 @@ strips_from t last (suc more) y size slices =
 -- pps_num_exp_slices_in_tile, and the slices of the tile: it is one slice where the number is 0
 abbrev pub slices_in_tile : Rect → ℕ → List Rect → Form (List Rect)
 slices_in_tile t last slices = do
-  explicit ← number pps.pps_num_exp_slices_in_tile (below (last + 2 - length slices))
+  explicit ← golomb_form pps.pps_num_exp_slices_in_tile (below (last + 2 - length slices))
   cond (explicit == 0) (done (slices ++ t ∷ [])) (strips_from t last explicit t.y 0 slices)
 
 -- a slice of so many tiles across and down, less 1 each, is one tile of several CTU rows
@@ -82,8 +82,8 @@ abbrev pub may_be_cut : ℕ → ℕ → Rect → Bool
 may_be_cut width height t = (width == 0 && height == 0) && nat_lt 1 t.h
 
 -- the slices that it adds
-abbrev pub slices_at : Tiles → ℕ → ℕ → ℕ → ℕ → List Rect → Form (List Rect)
-slices_at g last t width height slices =
+abbrev pub slices_from_tile : Tiles → ℕ → ℕ → ℕ → ℕ → List Rect → Form (List Rect)
+slices_from_tile g last t width height slices =
     cond (may_be_cut width height (tile g t)) (slices_in_tile (tile g t) last slices)
     (done (slices ++ block g t (width + 1) (height + 1) ∷ []))
 
@@ -114,7 +114,7 @@ abbrev pub turn : Tiles → ℕ → Bool → Listed → Form Listed
 turn g last deltas at = do
   width ← width_in_tiles g at.next
   height ← height_in_tiles g deltas at.next at.before
-  slices ← slices_at g last at.next width height at.slices
+  slices ← slices_from_tile g last at.next width height at.slices
   next ← tile_after g (spells_delta deltas slices last) at.next width height
   done (record { slices = slices; next = next; before = height })
 

@@ -1,7 +1,7 @@
 //! The tiles of a picture parameter set, clause 7.3.2.5, for every coder.
 ghost use Rattle.std.specs.Prelude.{◌≡◌, ◌+◌, ◌≤◌, ◌<◌, length, sum, All, IfOk, IfSome};
-ghost use Rattle.vx_pps.specs.Partition.{ctus, sizes_of, tiles_among, tiles_of};
-ghost use Rattle.vx_pps.specs.Slices.{size_of};
+ghost use Rattle.vx_pps.specs.Partition.{ctus_across, sizes_of, tiles_among, tiles_of};
+ghost use Rattle.vx_pps.specs.Slices.{tile_size_form};
 ghost use Rattle.vx_pps.specs.Tiles.{IsGrid};
 ghost use Rattle.vx_pps.specs.inner.Walked.{Walked};
 
@@ -20,7 +20,7 @@ use vx_table::Coder;
 /// The CTUs across or down of so many samples, of a CTU size's binary logarithm less 5.
 pub(crate) fn ctus(samples: u32, log2: u32) -> u32
     requires { log2 < 3 }
-    ensures count { result ≡ ctus samples log2 }
+    ensures count { result ≡ ctus_across samples log2 }
     ensures most { result ≤ 512 }
 {
     samples.div_ceil(32 << log2).min(512)
@@ -33,7 +33,7 @@ fn code_size<I, C: Coder<I>>(
     coder: &mut C,
     items: &mut I,
 ) -> Result<u32, Halt<C::Fault>>
-    ensures walk { Walked C.step (size_of field left) coder.old items.old result coder.new items.new }
+    ensures walk { Walked C.step (tile_size_form field left) coder.old items.old result coder.new items.new }
     ensures fits { IfOk result (λ size. (1 ≤ size) × (size ≤ left)) }
 {
     let size = code_below(field, left, coder, items)?;

@@ -2,7 +2,7 @@
 ghost use Rattle.std.specs.Prelude.{◌≡◌, ℕ, ◌+◌, ◌*◌, ◌^◌, ◌<◌, ◌≤◌, List, ◌++◌, length, slice_index};
 ghost use Rattle.vx_layout.specs.declared.rect.Rect.{Rect};
 ghost use Rattle.vx_layout.specs.Bounds.{Rises, last};
-ghost use Rattle.vx_pps.specs.Groups.{Group, slices_of};
+ghost use Rattle.vx_pps.specs.Groups.{Group, slices_of_group};
 ghost use Rattle.vx_pps.specs.Tiles.{IsGrid, across, column, down, row};
 ghost use Rattle.vx_pps.specs.inner.Found.{IsSpan, LiesInside};
 
@@ -62,7 +62,7 @@ pub(crate) fn span_of(tiles: &Tiles, slices: &[Rect]) -> Span
     requires grid { IsGrid tiles.now }
     requires columns { last tiles.now.columns < 2 ^ 32 }
     requires some { 0 < length slices.now }
-    ensures { (group : Group) → LiesInside tiles.now group → slices_of tiles.now group ≡ slices.now → IsSpan result group }
+    ensures { (group : Group) → LiesInside tiles.now group → slices_of_group tiles.now group ≡ slices.now → IsSpan result group }
 {
     let (first, last) = (slices[0], slices[slices.len() - 1]);
     let left = index_of(&tiles.columns, first.x);
@@ -79,7 +79,7 @@ pub(crate) fn group_len(tiles: &Tiles, slices: &[Rect]) -> usize
     requires grid { IsGrid tiles.now }
     requires some { 0 < length slices.now }
     ensures within { (1 ≤ result) × (result ≤ length slices.now) }
-    ensures group { (group : Group) (behind : List Rect) → LiesInside tiles.now group → slices.now ≡ slices_of tiles.now group ++ behind → result ≡ length (slices_of tiles.now group) }
+    ensures group { (group : Group) (behind : List Rect) → LiesInside tiles.now group → slices.now ≡ slices_of_group tiles.now group ++ behind → result ≡ length (slices_of_group tiles.now group) }
 {
     for (i, slice) in slices.iter().enumerate() {
         if tiles.rows.has(bottom(*slice)) {

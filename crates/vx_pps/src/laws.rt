@@ -1,5 +1,5 @@
 //! Laws of slices that a slice list can name: functions that do nothing, each with a law as its contract.
-ghost use Rattle.vx_pps.specs.Laws.{ListsFallIntoGroups, FewFallIntoGroups, LayoutsAreLists, ListGivesSlices, SlicesAreReadBack, FewAreReadBack, BoundsAreReadBack};
+ghost use Rattle.vx_pps.specs.laws.Lists.{ListsFallIntoGroups, FewFallIntoGroups, LayoutsAreLists, ListGivesSlices, SlicesAreReadBack, FewAreReadBack, BoundsAreReadBack};
 
 /// Slices that cover a picture in order, and that a slice list can name, fall into groups that can be listed with tile
 /// indices (H.266 7.3.2.5).

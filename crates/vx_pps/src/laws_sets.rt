@@ -1,5 +1,5 @@
 //! Laws of picture parameter sets: functions that do nothing, each with a law as its contract.
-ghost use Rattle.vx_pps.specs.Sets.{WrittenIsRead, NoProperPrefix, SpellingIsShort, StarsTellKept, KeptDependsOnKept, KeptAndOthersTell, KeptTellsNumbers, TilesAreInLimits, SetsTellPartitions, ReadSlicesAreListable};
+ghost use Rattle.vx_pps.specs.laws.Sets.{WrittenIsRead, NoProperPrefix, SpellingIsShort, StarsTellKept, KeptDependsOnKept, KeptAndOthersTell, KeptTellsNumbers, TilesAreInLimits, SetsTellPartitions, ReadSlicesAreListable};
 
 /// What is written of a set is read as it.
 pub fn written_is_read()

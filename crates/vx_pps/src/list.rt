@@ -6,7 +6,7 @@ ghost use Rattle.vx_layout.specs.Bounds.{repeated_sizes};
 ghost use Rattle.vx_pps.specs.Groups.{strips};
 ghost use Rattle.vx_pps.specs.Groups as words;
 ghost use Rattle.vx_pps.specs.Slices as list;
-ghost use Rattle.vx_pps.specs.Slices.{delta, height_in_tiles, list_from, none_listed, slices_at, slices_in_tile, strip_height, strips_from, tile_after, turn, turns_from, width_in_tiles};
+ghost use Rattle.vx_pps.specs.Slices.{delta, height_in_tiles, list_from, none_listed, slices_from_tile, slices_in_tile, strip_height, strips_from, tile_after, turn, turns_from, width_in_tiles};
 ghost use Rattle.vx_pps.specs.Tiles.{IsGrid, across, column, down, row};
 ghost use Rattle.vx_pps.specs.inner.Walked.{Walked};
 
@@ -244,7 +244,7 @@ fn code_slices<I, C: Coder<I>>(
     requires last { last < 1000 }
     requires room { length slices.old < last }
     requires low { (size.0 < 512) × (size.1 < 512) }
-    ensures { Walked C.step (slices_at tiles.now last tile size.0 size.1 slices.old) coder.old items.old (leaving slices.new result) coder.new items.new }
+    ensures { Walked C.step (slices_from_tile tiles.now last tile size.0 size.1 slices.old) coder.old items.old (leaving slices.new result) coder.new items.new }
 {
     let rect = tiles.block(tile, size.0 + 1, size.1 + 1);
     if may_be_cut(size, rect) {

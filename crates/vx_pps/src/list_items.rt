@@ -4,9 +4,9 @@ ghost use Rattle.vx_layout.specs.declared.rect.Rect.{Rect};
 ghost use Rattle.vx_layout.specs.Bounds.{last, sizes_between};
 ghost use Rattle.vx_layout.specs.Heights.{written_heights};
 ghost use Rattle.vx_pps.specs.declared.tiles.Tiles.{Tiles};
-ghost use Rattle.vx_pps.specs.Groups.{Group, slices_of};
+ghost use Rattle.vx_pps.specs.Groups.{Group, slices_of_group};
 ghost use Rattle.vx_pps.specs.Tiles.{IsGrid};
-ghost use Rattle.vx_pps.specs.Written.{height_items, heights_items, item, list_items, size_items, strip_items, width_items};
+ghost use Rattle.vx_pps.specs.Written.{height_items, heights_items, only_item, list_items, tile_size_items, strip_items, width_items};
 ghost use Rattle.vx_pps.specs.inner.Found.{AreGroups, IsSpan, LiesInside, Stand, delta_behind, group_items};
 
 use crate::groups::{Span, group_len, span_of, tile_of};
@@ -18,14 +18,14 @@ use vx_layout::{Bounds, Rect};
 
 /// Appends the item of a field.
 pub(crate) fn push_value(items: &mut Fields, field: u16, value: i64) -> Result<(), AllocError>
-    ensures { OnOk result (items.new ≡ items.old ++ item field value) }
+    ensures { OnOk result (items.new ≡ items.old ++ only_item field value) }
 {
     items.push(Item { field, value })
 }
 
 /// Appends the item of a field whose value is a number.
 pub(crate) fn push(items: &mut Fields, field: u16, number: u32) -> Result<(), AllocError>
-    ensures { OnOk result (items.new ≡ items.old ++ item field (pos number)) }
+    ensures { OnOk result (items.new ≡ items.old ++ only_item field (pos number)) }
 {
     push_value(items, field, i64::from(number))
 }
@@ -37,7 +37,7 @@ pub(crate) fn push_if(
     field: u16,
     number: u32,
 ) -> Result<(), AllocError>
-    ensures { OnOk result (items.new ≡ items.old ++ cond holds (item field (pos number)) []) }
+    ensures { OnOk result (items.new ≡ items.old ++ cond holds (only_item field (pos number)) []) }
 {
     if holds {
         push(items, field, number)?;
@@ -47,7 +47,7 @@ pub(crate) fn push_if(
 
 /// Appends all sizes of tile columns or rows.
 pub(crate) fn push_sizes(items: &mut Fields, field: u16, bounds: &Bounds) -> Result<(), AllocError>
-    ensures { OnOk result (items.new ≡ items.old ++ size_items field (sizes_between bounds.now)) }
+    ensures { OnOk result (items.new ≡ items.old ++ tile_size_items field (sizes_between bounds.now)) }
 {
     for i in 1..bounds.len() {
         let size = bounds.item(i).saturating_sub(bounds.item(i - 1));
@@ -154,7 +154,7 @@ fn may_be_cut(span: Span, slice: Rect) -> bool
 /// Appends the slices of one tile, or that a tile which might have several is one.
 fn push_slices(items: &mut Fields, span: Span, slices: &[Rect]) -> Result<(), AllocError>
     requires some { 0 < length slices.now }
-    ensures { OnOk result ((g : Tiles) (group : Group) → LiesInside g group → IsSpan span group → slices_of g group ≡ slices.now → items.new ≡ items.old ++ heights_items g group) }
+    ensures { OnOk result ((g : Tiles) (group : Group) → LiesInside g group → IsSpan span group → slices_of_group g group ≡ slices.now → items.new ≡ items.old ++ heights_items g group) }
 {
     if slices.len() > 1 {
         return push_heights(items, slices);
@@ -183,7 +183,7 @@ fn written(slices: &[Rect]) -> &[Rect]
 /// Appends the number of the heights that are written of the slices of a tile, and these heights.
 fn push_heights(items: &mut Fields, slices: &[Rect]) -> Result<(), AllocError>
     requires { 2 ≤ length slices.now }
-    ensures { OnOk result (let heights = written_heights (map (λ (r : Rect). r.h) slices.now) in items.new ≡ items.old ++ (item pps_num_exp_slices_in_tile (pos (length heights)) ++ strip_items heights)) }
+    ensures { OnOk result (let heights = written_heights (map (λ (r : Rect). r.h) slices.now) in items.new ≡ items.old ++ (only_item pps_num_exp_slices_in_tile (pos (length heights)) ++ strip_items heights)) }
 {
     let written = written(slices);
     push_value(items, pps_num_exp_slices_in_tile, written.len() as i64)?;
@@ -219,7 +219,7 @@ fn push_next(
 
 /// Appends how far on a tile is from another.
 fn push_step(items: &mut Fields, from: u32, to: u32) -> Result<(), AllocError>
-    ensures { OnOk result (items.new ≡ items.old ++ item pps_tile_idx_delta_val (pos to +ℤ neg_ℤ (pos from))) }
+    ensures { OnOk result (items.new ≡ items.old ++ only_item pps_tile_idx_delta_val (pos to +ℤ neg_ℤ (pos from))) }
 {
     push_value(
         items,

@@ -4,8 +4,8 @@ ghost use Rattle.vx_table.specs.Forms.{form_of};
 ghost use Rattle.vx_table.specs.Parts.{parts_form};
 ghost use Rattle.vx_table.specs.Spelling as spelling;
 ghost use Rattle.vx_table.specs.Walks.{leaving};
-ghost use Rattle.vx_pps.specs.Slices.{below, number};
-ghost use Rattle.vx_pps.specs.Partition.{counted, fixed};
+ghost use Rattle.vx_pps.specs.Slices.{below, golomb_form};
+ghost use Rattle.vx_pps.specs.Partition.{golomb_below, fixed_form};
 ghost use Rattle.vx_pps.specs.inner.Walked.{Walked};
 
 use crate::halt::Halt;
@@ -28,7 +28,7 @@ pub(crate) fn code_number<I, C: Coder<I>>(
     coder: &mut C,
     items: &mut I,
 ) -> Result<u32, Halt<C::Fault>>
-    ensures walk { Walked C.step (number field limits) coder.old items.old result coder.new items.new }
+    ensures walk { Walked C.step (golomb_form field limits) coder.old items.old result coder.new items.new }
     ensures range { IfOk result (λ n. spelling.fault_of limits (pos n) ≡ None) }
 {
     let cell = Cell {
@@ -44,14 +44,14 @@ pub(crate) fn code_number<I, C: Coder<I>>(
 }
 
 /// Codes a number of ue(v), below a bound.
-#[tactic(auto, unfolding(crate::specs::Partition::counted))]
+#[tactic(auto, unfolding(crate::specs::Partition::golomb_below))]
 pub(crate) fn code_below<I, C: Coder<I>>(
     field: u16,
     bound: u32,
     coder: &mut C,
     items: &mut I,
 ) -> Result<u32, Halt<C::Fault>>
-    ensures walk { Walked C.step (counted field bound) coder.old items.old result coder.new items.new }
+    ensures walk { Walked C.step (golomb_below field bound) coder.old items.old result coder.new items.new }
     ensures range { IfOk result (λ n. n < bound) }
 {
     code_number(field, below(bound), coder, items)
@@ -66,7 +66,7 @@ pub(crate) fn code_fixed<I, C: Coder<I>>(
     items: &mut I,
 ) -> Result<u32, Halt<C::Fault>>
     requires { bits ≤ 32 }
-    ensures walk { Walked C.step (fixed field bits limits) coder.old items.old result coder.new items.new }
+    ensures walk { Walked C.step (fixed_form field bits limits) coder.old items.old result coder.new items.new }
     ensures range { IfOk result (λ n. spelling.fault_of limits (pos n) ≡ None) }
 {
     let cell = Cell {

@@ -1,6 +1,6 @@
 //! The tiles and slices of a picture parameter set, clause 7.3.2.5, for every coder.
 ghost use Rattle.std.specs.Prelude.{◌≡◌, ◌<◌, ◌≤◌, IfOk};
-ghost use Rattle.vx_pps.specs.Partition.{across_flag, ctu_size, deltas_flag, divided, fixed, last_slice, listed_slices, partition, slices_among, subpicture_slices, tile_flags};
+ghost use Rattle.vx_pps.specs.Partition.{across_flag, ctu_size, deltas_flag, divided, fixed_form, last_slice, listed_slices, partition, slices_among, subpicture_slices, tile_flags};
 ghost use Rattle.vx_pps.specs.Slices.{below};
 ghost use Rattle.vx_pps.specs.Tiles.{IsGrid};
 ghost use Rattle.vx_pps.specs.inner.Walked.{Walked};
@@ -36,7 +36,7 @@ fn code_flag<I, C: Coder<I>>(
     coder: &mut C,
     items: &mut I,
 ) -> Result<u32, Halt<C::Fault>>
-    ensures { Walked C.step (fixed field 1 (below bound)) coder.old items.old result coder.new items.new }
+    ensures { Walked C.step (fixed_form field 1 (below bound)) coder.old items.old result coder.new items.new }
 {
     code_fixed(field, 1, below(bound), coder, items)
 }

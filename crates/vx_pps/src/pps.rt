@@ -1,6 +1,6 @@
 //! A picture parameter set, and what is asked of it.
 ghost use Rattle.std.specs.Prelude.{◌≡◌, slice_index};
-ghost use Rattle.vx_pps.specs.Items as told;
+ghost use Rattle.vx_table.specs.Loaded as loading;
 
 use crate::partition::Partition;
 use std::marker::Model;
@@ -39,7 +39,7 @@ impl Model for Pps {
 
 /// The number of a field's item, counted from 0 among those of this field; 0 where there are fewer.
 fn number_at(fields: &Fields, field: u16, index: usize) -> u32
-    ensures { result ≡ slice_index (told.numbers_of fields.now field) index }
+    ensures { result ≡ slice_index (loading.numbers_of fields.now field) index }
 {
     let mut before = 0;
     for i in 0..fields.len() {
@@ -84,7 +84,7 @@ impl Pps {
     /// Its items, as H.266 orders them.
     pub fn fields(&self) -> &Fields
         ensures items { result.now ≡ self.now }
-        ensures set { set.IsItems result.now }
+        ensures set { set.ArePpsItems result.now }
     {
         &self.fields
     }
@@ -119,14 +119,14 @@ impl Pps {
 
     /// The bounds of the tile columns in CTUs (H.266 6.5.1); none where the picture isn't partitioned.
     pub fn columns(&self) -> &Bounds
-        ensures { result.now ≡ set.columns_of self.now }
+        ensures { result.now ≡ set.tile_columns_of self.now }
     {
         &self.partition.tiles.columns
     }
 
     /// The bounds of the tile rows in CTUs (H.266 6.5.1); none where the picture isn't partitioned.
     pub fn rows(&self) -> &Bounds
-        ensures { result.now ≡ set.rows_of self.now }
+        ensures { result.now ≡ set.tile_rows_of self.now }
     {
         &self.partition.tiles.rows
     }
@@ -134,7 +134,7 @@ impl Pps {
     /// The slices as rectangles of CTUs (H.266 6.5.1), in the order of the slice list; `None` where the picture isn't
     /// partitioned, or each subpicture is a slice.
     pub fn slices(&self) -> Option<&RectList>
-        ensures { option_copied result ≡ set.slices_of self.now }
+        ensures { option_copied result ≡ set.slice_list_of self.now }
     {
         self.partition.slices.as_ref()
     }

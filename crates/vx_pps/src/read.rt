@@ -1,7 +1,7 @@
 //! Reading, writing and sifting a picture parameter set.
 ghost use Rattle.std.specs.Prelude.{◌≡◌, ◌≤◌, ◌^◌, length, IfOk};
 ghost use Rattle.vx_table.specs.Reading.{ReadsValue};
-ghost use Rattle.vx_pps.specs.Pps.{IsSpelling, ReadsFields, kept_of, pps_form};
+ghost use Rattle.vx_pps.specs.Pps.{IsPpsSpelling, ReadsFields, kept_pps_items, pps_form};
 
 use crate::halt::Halt;
 use crate::pps::Pps;
@@ -47,12 +47,8 @@ pub fn read_pps_fields(alloc: Global, rbsp: &[u8], into: &mut Fields) -> Result<
 }
 
 /// Writes a picture parameter set: its RBSP.
-///
-/// # Errors
-///
-/// Want of memory.
 pub fn write_pps(alloc: Global, pps: &Pps) -> Result<Vec<u8>, AllocError>
-    ensures { IfOk result (λ bytes. IsSpelling pps.now bytes.items) }
+    ensures { IfOk result (λ bytes. IsPpsSpelling pps.now bytes.items) }
 {
     let fields = pps.fields();
     let mut bits = BitWriter::new(alloc);
@@ -66,12 +62,8 @@ pub fn write_pps(alloc: Global, pps: &Pps) -> Result<Vec<u8>, AllocError>
 
 /// The items of a set's kept fields. Those that say what stands in picture headers are among them also where they are
 /// absent, as 0.
-///
-/// # Errors
-///
-/// Want of memory.
 pub fn keep_pps(alloc: Global, pps: &Pps) -> Result<Fields, AllocError>
-    ensures { IfOk result (λ kept. kept ≡ kept_of pps.now) }
+    ensures { IfOk result (λ kept. kept ≡ kept_pps_items pps.now) }
 {
     let fields = pps.fields();
     let mut kept = Fields::new(alloc);

@@ -7,7 +7,7 @@ ghost use Rattle.vx_table.specs.Shown.{shown_items};
 ghost use Rattle.vx_pps.specs.Groups.{Group};
 ghost use Rattle.vx_pps.specs.Reshaped as reshaped;
 ghost use Rattle.vx_pps.specs.Written as written;
-ghost use Rattle.vx_pps.specs.Reshaped.{CanBeDivided, Divides, IsReshaped, IsShape, frame_tool_items, front_items, id_items, info_items, slice_items, tile_flag_items, tile_items, tool_items};
+ghost use Rattle.vx_pps.specs.Reshaped.{CanBeDivided, Divides, IsReshapedPps, IsShape, frame_tool_items, front_items, pps_subpic_id_items, info_items, slice_list_items, tile_flag_items, tile_items, tool_items};
 ghost use Rattle.vx_pps.specs.inner.Found.{AreGroups};
 ghost use Rattle.vx_pps.specs.inner.Stated.{PutsTogether, StatesAll};
 
@@ -72,7 +72,7 @@ fn whole_flag(source: &Pps, shape: &PpsShape) -> u32
 
 /// The id of the one subpicture.
 fn push_id(items: &mut Fields, whole: u32, id: Option<(u32, u32)>) -> Result<(), AllocError>
-    ensures { OnOk result (items.new ≡ items.old ++ id_items whole id) }
+    ensures { OnOk result (items.new ≡ items.old ++ pps_subpic_id_items whole id) }
 {
     let Some((bits, id)) = id else {
         return push(items, pps_subpic_id_mapping_present_flag, 0);
@@ -132,7 +132,7 @@ fn push_tile_flags(items: &mut Fields, shape: &PpsShape) -> Result<(), AllocErro
 /// The number of the slices, their list, and whether loop filters cross their borders.
 fn push_slices(items: &mut Fields, shape: &PpsShape) -> Result<(), AllocError>
     requires { CanBeDivided shape.now }
-    ensures { OnOk result ((groups : List Group) → AreGroups shape.now.tiles groups shape.now.slices → items.new ≡ items.old ++ slice_items shape.now groups) }
+    ensures { OnOk result ((groups : List Group) → AreGroups shape.now.tiles groups shape.now.slices → items.new ≡ items.old ++ slice_list_items shape.now groups) }
 {
     let count = shape.slices.len() as u32;
     let deltas = count > 2;
@@ -194,7 +194,7 @@ fn push_info(items: &mut Fields, source: &Pps) -> Result<(), AllocError>
 
 /// The QP from which slices differ.
 fn push_qp(items: &mut Fields, shape: &PpsShape) -> Result<(), AllocError>
-    ensures { OnOk result (items.new ≡ items.old ++ written.item pps_init_qp_minus26 shape.now.init_qp) }
+    ensures { OnOk result (items.new ≡ items.old ++ written.only_item pps_init_qp_minus26 shape.now.init_qp) }
 {
     push_value(items, pps_init_qp_minus26, i64::from(shape.init_qp))
 }
@@ -268,13 +268,9 @@ fn unmade(halt: Halt<SpellError>) -> Result<Option<Pps>, AllocError>
 }
 
 /// The set that is sent for a region of its source's pictures, or for a frame of several sources.
-///
-/// # Errors
-///
-/// Want of memory.
 pub fn reshape_pps(alloc: Global, pps: &Pps, shape: &PpsShape) -> Result<Pps, AllocError>
     requires { IsShape pps.now shape.now }
-    ensures { IfOk result (λ set. IsReshaped pps.now shape.now set) }
+    ensures { IfOk result (λ set. IsReshapedPps pps.now shape.now set) }
 {
     let names = taken(shape.merged);
     let fields = pps.fields();

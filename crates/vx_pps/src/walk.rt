@@ -2,7 +2,7 @@
 ghost use Rattle.std.specs.Prelude.{◌≡◌};
 ghost use Rattle.vx_table.specs.Parts.{sections_form};
 ghost use Rattle.vx_table.specs.Walks.{leaving};
-ghost use Rattle.vx_pps.specs.Pps.{front, pps_form, tools};
+ghost use Rattle.vx_pps.specs.Pps.{before_tiles, pps_form, after_slices};
 ghost use Rattle.vx_pps.specs.inner.Walked.{Walked};
 
 use crate::halt::Halt;
@@ -24,7 +24,7 @@ fn code_front<I, C: Coder<I>>(
     coder: &mut C,
     items: &mut I,
 ) -> Result<(), Halt<C::Fault>>
-    ensures { Walked C.step (sections_form front scope.old) coder.old items.old (leaving scope.new result) coder.new items.new }
+    ensures { Walked C.step (sections_form before_tiles scope.old) coder.old items.old (leaving scope.new result) coder.new items.new }
 {
     code_sections(
         &parts![IDS, NAL_TYPES, SIZE, OUTPUT, SUBPIC_IDS],
@@ -40,7 +40,7 @@ fn code_tools<I, C: Coder<I>>(
     coder: &mut C,
     items: &mut I,
 ) -> Result<(), Halt<C::Fault>>
-    ensures { Walked C.step (sections_form tools scope.old) coder.old items.old (leaving scope.new result) coder.new items.new }
+    ensures { Walked C.step (sections_form after_slices scope.old) coder.old items.old (leaving scope.new result) coder.new items.new }
 {
     code_sections(
         &parts![

@@ -2,4 +2,4 @@
 pub mod Run
 pub mod Spelling
 pub mod Structures
-pub mod Depends
+pub mod laws

@@ -20,12 +20,12 @@ abbrev pub ptl : ℕ → Form (List ℕ)
 ptl max = form_of PTL (slice_set fresh sps_max_sublayers_minus1 max)
 
 -- DPB parameters (clause 7.3.4)
-abbrev pub dpb : ℕ → Bool → Form (List ℕ)
-dpb max each = form_of DPB (sublayers fresh max sps_sublayer_dpb_params_flag each)
+abbrev pub dpb_form : ℕ → Bool → Form (List ℕ)
+dpb_form max each = form_of DPB (sublayers fresh max sps_sublayer_dpb_params_flag each)
 
 -- general timing (clause 7.3.5.1)
-abbrev pub timing : ℕ → Bool → Form (List ℕ)
-timing max each = form_of TIMING (sublayers fresh max sps_sublayer_cpb_params_present_flag each)
+abbrev pub timing_form : ℕ → Bool → Form (List ℕ)
+timing_form max each = form_of TIMING (sublayers fresh max sps_sublayer_cpb_params_present_flag each)
 
 -- sublayer timing, behind the items of the general timing (clauses 7.3.5.2 and 7.3.5.3)
 abbrev pub sublayer_timing : List Item → ℕ → Bool → Form (List ℕ)

@@ -1,5 +1,5 @@
 //! Laws of what the structures read: functions that do nothing, each with a law as its contract.
-ghost use Rattle.vx_ptl.specs.Depends.{PtlDepends, DpbDepends, TimingDepends, SublayerTimingDepends, TimingIfPresentDepends, FieldsAreCodedOnce};
+ghost use Rattle.vx_ptl.specs.laws.Depends.{PtlDepends, DpbDepends, TimingDepends, SublayerTimingDepends, TimingIfPresentDepends, FieldsAreCodedOnce};
 
 /// Profile, tier and level read the highest sublayer alone.
 pub fn ptl_depends()

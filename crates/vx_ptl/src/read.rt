@@ -3,7 +3,7 @@
 ghost use Rattle.std.specs.Prelude.{◌≡◌, ◌≤◌, ◌^◌, length, slice_set};
 ghost use Rattle.vx_bits.specs.Place.{Place};
 ghost use Rattle.vx_table.specs.Reading.{Reads, ReadsValue, at_front};
-ghost use Rattle.vx_ptl.specs.Structures.{sublayers, vps, ptl, dpb, timing, sublayer_timing};
+ghost use Rattle.vx_ptl.specs.Structures.{sublayers, vps, ptl, dpb_form, timing_form, sublayer_timing};
 
 use crate::tables::{DPB, PTL, SUBLAYER_TIMING, TIMING, VPS};
 use std::alloc::Global;
@@ -74,7 +74,7 @@ pub fn read_dpb(
     into: &mut Fields,
 ) -> Result<(), ReadError>
     requires { max ≤ 6 }
-    ensures { Reads (dpb max each) bits.old into.old result bits.new into.new }
+    ensures { Reads (dpb_form max each) bits.old into.old result bits.new into.new }
 {
     let mut scope = at_sublayers(Scope::new(), max, sps_sublayer_dpb_params_flag, each);
     read_table(&DPB, &mut scope, bits, into)
@@ -92,7 +92,7 @@ pub fn read_timing(
     into: &mut Fields,
 ) -> Result<(), ReadError>
     requires { max ≤ 6 }
-    ensures { Reads (timing max each) bits.old into.old result bits.new into.new }
+    ensures { Reads (timing_form max each) bits.old into.old result bits.new into.new }
 {
     let mut scope = at_sublayers(
         Scope::new(),

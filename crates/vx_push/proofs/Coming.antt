@@ -14,7 +14,7 @@ use Rattle.vx_pic.specs.Streams.{read_on}
 use Rattle.vx_pic.specs.Bytes.{Ending, ending_by, ArePictures, AreSeenPictures}
 use Rattle.vx_assemble.specs.Feed.{Feeding, HasFed, seen_of}
 use Rattle.vx_assemble.specs.Held.{ShowsLatest, lent_by}
-use Rattle.vx_run.specs.Extract.{BeginsWith}
+use Rattle.vx_run.specs.Extract.{BeginsWithPictures}
 use Rattle.vx_run.proofs.Told.{IsGiven, refused_at}
 use Rattle.vx_run.proofs.Taking.{begins_with, all_of_given, refused_behind, follows_front}
 use Rattle.vx_run.proofs.Showing.{is_end, has_ended, is_long}
@@ -98,9 +98,9 @@ module _ (R : Readers) (h : Handed) (f : Feeding) (g owed : List ℕ) (flushed e
   }
 
   -- and its pictures are the first ones,
-  pub begins : (ps : List Picture) → HasTaken R f g ps → OfEachStream R h (λ qs ending. BeginsWith qs ps)
+  pub begins : (ps : List Picture) → HasTaken R f g ps → OfEachStream R h (λ qs ending. BeginsWithPictures qs ps)
   begins ps t b qs ending o are =
-      subst (λ (l : List Picture). BeginsWith qs l) t.done (begins_with R b g t.places t.before qs ending are (is_all f.reader.splitter) (is_given b o t.places t.fed.read) t.fed.read.stands.given t.fed.readings)
+      subst (λ (l : List Picture). BeginsWithPictures qs l) t.done (begins_with R b g t.places t.before qs ending are (is_all f.reader.splitter) (is_given b o t.places t.fed.read) t.fed.read.stands.given t.fed.readings)
 
   -- or all, where it ends,
   ends : (ps : List Picture) (us : List UnitPlace) → HasRead f.reader g us → f.reader.closed ≡ Some closed.End → ArePictures R (seen_of g) true ps None
@@ -123,7 +123,7 @@ module _ (R : Readers) (h : Handed) (f : Feeding) (g owed : List ℕ) (flushed e
   goes s ps t = record { given = g; owed = owed; taken = t; bytes = bytes; owes = owes; all = all }
 
   -- what it came to behind pictures that are the first ones
-  pub steps : (ps : List Picture) (s : State) → OfEachStream R h (λ qs ending. BeginsWith qs ps) → SeeksTo R g ps f s → StepsBehind R (intaking f s flushed ended) h ps s
+  pub steps : (ps : List Picture) (s : State) → OfEachStream R h (λ qs ending. BeginsWithPictures qs ps) → SeeksTo R g ps f s → StepsBehind R (intaking f s flushed ended) h ps s
   steps ps states.Waits first to = (goes states.Waits ps to.0, to.1)
   steps ps states.Picture first to = (to.0, goes states.Picture (to.0 ∷ ps) to.1, to.2)
   steps ps states.Ended first to = (ends ps to.0.places to.0.fed.read to.2 to.1, all ∙ (none_owed f.reader.closed flushed ended owed to.2 owes).1)
@@ -131,7 +131,7 @@ module _ (R : Readers) (h : Handed) (f : Feeding) (g owed : List ℕ) (flushed e
   steps ps states.NoMemory first to = first
 
 -- those of one that goes on
-pub first_of_going : (R : Readers) (f : Feeding) (s : State) (flushed ended : Bool) (h : Handed) (ps : List Picture) → IsGoing R (intaking f s flushed ended) h ps → OfEachStream R h (λ qs ending. BeginsWith qs ps)
+pub first_of_going : (R : Readers) (f : Feeding) (s : State) (flushed ended : Bool) (h : Handed) (ps : List Picture) → IsGoing R (intaking f s flushed ended) h ps → OfEachStream R h (λ qs ending. BeginsWithPictures qs ps)
 first_of_going R f s flushed ended h ps g = begins R h f g.given g.owed flushed ended g.bytes g.owes g.all ps g.taken
 
 -- what holds of the streams that begin so holds of those that begin with more
@@ -181,7 +181,7 @@ steps_piece R f f1 s0 s h ps g piece open_ unended to =
     let owed : g.owed ≡ [] = zeros_owed f.reader.closed false false g.owed open_ g.owes in
     let given : h.bytes ≡ g.given = g.bytes ∙ ap (λ l. g.given ++ l) owed ∙ append-nil g.given in
     let bytes : h.bytes ++ piece ≡ (g.given ++ piece) ++ [] = ap (λ l. l ++ piece) given ∙ sym (append-nil (g.given ++ piece)) in
-    let first = of_later R h piece (λ qs ending. BeginsWith qs ps) g.all (first_of_going R f s0 false false h ps g) in
+    let first = of_later R h piece (λ qs ending. BeginsWithPictures qs ps) g.all (first_of_going R f s0 false false h ps g) in
     steps R (with_more h piece) f1 (g.given ++ piece) [] false false bytes (owes_none f1.reader.closed false [] unended (λ going. refl)) g.all ps s first to
 
 -- ---- at rest
@@ -300,7 +300,7 @@ module _ (R : Readers) (f : Feeding) (s0 : State) (flushed ended : Bool) (h : Ha
         let w = waiting R f s0 flushed ended h ps is ready come in
         let g = w.3 in
         record {
-          told = of_later R h piece (λ qs ending. BeginsWith qs ps) g.all (first_of_going R f states.Waits false false h ps g);
+          told = of_later R h piece (λ qs ending. BeginsWithPictures qs ps) g.all (first_of_going R f states.Waits false false h ps g);
           lends = λ e. absurd (cc);
           fed = tt;
         }

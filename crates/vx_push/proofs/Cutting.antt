@@ -11,7 +11,7 @@ use Rattle.vx_pic.specs.declared.kind.Kind.{Kind}
 use Rattle.vx_pic.specs.Readings.{Picture, pictures}
 use Rattle.vx_pic.specs.Rules.{Readers}
 use Rattle.vx_pic.specs.H266.{AreOfH266}
-use Rattle.vx_pic.specs.Streams.{Outcome, pictures_of}
+use Rattle.vx_pic.specs.Streams.{StreamReading, pictures_of}
 use Rattle.vx_pic.specs.Bytes.{Ending, units_at}
 use Rattle.vx_pic.specs.Parts.{Parts, parts_of}
 use Rattle.vx_pic.specs.Sublayers.{at_most}
@@ -23,13 +23,13 @@ use Rattle.vx_assemble.proofs.InMemory.{few_seen}
 use Rattle.vx_sps.specs.Subpictures.{subpics_of}
 use Rattle.vx_write.specs.declared.fault.WriteError.{WriteError}
 use Rattle.vx_write.specs.declared.fault.WriteError.TheVariants as errors
-use Rattle.vx_extract.specs.Extracting.{Extracting, Stands, SameTask, HasSlice, Writes, WritesKept}
+use Rattle.vx_extract.specs.Extracting.{Extracting, Stands, SameTask, HasSlice, WritesPicture, WritesKept}
 use Rattle.vx_extract.specs.Rules.{is_kept, refusal_of}
 use Rattle.vx_extract.specs.Written.{AreExtracted, IsExtracted}
 use Rattle.vx_run.specs.declared.extract.Task.{Task}
 use Rattle.vx_run.specs.declared.stop.Stop.{Stop}
 use Rattle.vx_run.specs.declared.stop.Stop.TheVariants.{NotUnderstood, Refused, Mismatched, ReadFault, WriteFault, NoMemory}
-use Rattle.vx_run.specs.Extract.{BreakNoRule, BreaksBehind, BeginsWith, IsExtractable, at_picture}
+use Rattle.vx_run.specs.Extract.{BreakNoRule, BreaksBehind, BeginsWithPictures, IsExtractable, at_picture}
 use Rattle.vx_run.specs.inner.Extracting.{HaveSlices}
 use Rattle.vx_run.proofs.Extracting.{no_pictures, shown_is}
 use Rattle.vx_run.proofs.Lined.{all_length, few_pictures}
@@ -40,7 +40,7 @@ use Rattle.vx_push.specs.declared.cutter.Cut.{Cut}
 use Rattle.vx_push.specs.declared.cutter.Cut.TheVariants.{Picture as ToPicture, Waits as ToWait, Ended as ToEnd, Stopped as ToStop}
 use Rattle.vx_push.specs.Handed.{with_more, with_end, zeros, nothing, Handed, OfEachStream}
 use Rattle.vx_push.specs.Comes.{Intaking, HasCome, ComesTo, ComesNext, IsFedBy}
-use Rattle.vx_push.specs.Cutting.{Cutting, IsRefused, by_stream, by_picture, without, HasEndedBy, IsBehind, HasComeBehind, Holds, HasCut, IsAwaited, Answers, flushed_by, ended_by}
+use Rattle.vx_push.specs.Cutting.{Cutting, IsRefusedCut, by_ending_told, by_picture, without, HasEndedBy, IsBehindPictures, HasComeBehind, HoldsPicture, HasCut, IsAwaited, Answers, flushed_by, ended_by}
 use Rattle.vx_push.specs.inner.Comes.{HasTaken, IsGoing}
 use Rattle.vx_push.specs.inner.Cutting.{EndsBehind, HaltsBy, stop_by, CutsKept, Cuts, end_by, StepsTo, StillCuts, units_by}
 use Rattle.vx_push.proofs.Coming.{of_later}
@@ -51,10 +51,10 @@ use Rattle.vx_push.proofs.Few.{few_units}
 -- where it holds a picture, that is the latest that it came to; else it came to those that were passed
 holds_one : (R : Readers) (i : Intaking) (h : Handed) (ps : List Picture) → i.state ≡ states.Picture → (c : HasComeBehind R i h ps) → (p : Picture) × HasCome R i h (p ∷ ps)
 holds_one R i h ps is c =
-    let one : IsBehind states.Picture ps c.seen = subst (λ (s : State). IsBehind s ps c.seen) is c.behind in
+    let one : IsBehindPictures states.Picture ps c.seen = subst (λ (s : State). IsBehindPictures s ps c.seen) is c.behind in
     (one.0, subst (λ (l : List Picture). HasCome R i h l) one.1 c.come)
 
-behind_at : (s : State) (ps seen : List Picture) → (s ≡ states.Picture → ⊥) → IsBehind s ps seen → seen ≡ ps
+behind_at : (s : State) (ps seen : List Picture) → (s ≡ states.Picture → ⊥) → IsBehindPictures s ps seen → seen ≡ ps
 behind_at states.Waits ps seen other is = is
 behind_at states.Picture ps seen other is = absurd (other refl)
 behind_at states.Ended ps seen other is = is
@@ -66,11 +66,11 @@ holds_none R i h ps other c = subst (λ (l : List Picture). HasCome R i h l) (be
 
 -- it came to what is next
 come_next : (R : Readers) (i : Intaking) (h : Handed) (ps : List Picture) (s : State) → i.state ≡ s → ComesNext R i h ps s → HasComeBehind R i h ps
-come_next R i h ps states.Waits is next = record { seen = ps; come = next; behind = subst (λ (x : State). IsBehind x ps ps) (sym is) refl }
-come_next R i h ps states.Picture is next = record { seen = next.0 ∷ ps; come = next.1; behind = subst (λ (x : State). IsBehind x ps (next.0 ∷ ps)) (sym is) (next.0, refl) }
-come_next R i h ps states.Ended is next = record { seen = ps; come = next; behind = subst (λ (x : State). IsBehind x ps ps) (sym is) refl }
-come_next R i h ps (states.Refused r n) is next = record { seen = ps; come = next; behind = subst (λ (x : State). IsBehind x ps ps) (sym is) refl }
-come_next R i h ps states.NoMemory is next = record { seen = ps; come = next; behind = subst (λ (x : State). IsBehind x ps ps) (sym is) refl }
+come_next R i h ps states.Waits is next = record { seen = ps; come = next; behind = subst (λ (x : State). IsBehindPictures x ps ps) (sym is) refl }
+come_next R i h ps states.Picture is next = record { seen = next.0 ∷ ps; come = next.1; behind = subst (λ (x : State). IsBehindPictures x ps (next.0 ∷ ps)) (sym is) (next.0, refl) }
+come_next R i h ps states.Ended is next = record { seen = ps; come = next; behind = subst (λ (x : State). IsBehindPictures x ps ps) (sym is) refl }
+come_next R i h ps (states.Refused r n) is next = record { seen = ps; come = next; behind = subst (λ (x : State). IsBehindPictures x ps ps) (sym is) refl }
+come_next R i h ps states.NoMemory is next = record { seen = ps; come = next; behind = subst (λ (x : State). IsBehindPictures x ps ps) (sym is) refl }
 
 -- no more pictures than a count can tell
 few_going : (R : Readers) (i : Intaking) (h : Handed) (ps : List Picture) → IsGoing R i h ps → length ps ≤ 1099511627776
@@ -105,8 +105,8 @@ ended_on : (R : Readers) (t : Task) (h h' : Handed) (ps : List Picture) (end : C
 ended_on R t h h' ps ToPicture carries by = absurd by
 ended_on R t h h' ps ToWait carries by = absurd by
 ended_on R t h h' ps ToEnd carries by = carries (λ qs ending. (qs ≡ ps) × IsExtractable t qs ending) by
-ended_on R t h h' ps (ToStop (Refused r place)) carries by = carries (λ qs ending. IsRefused t qs ending ps r place) by
-ended_on R t h h' ps (ToStop NoMemory) carries by = carries (λ qs ending. BeginsWith qs ps) by
+ended_on R t h h' ps (ToStop (Refused r place)) carries by = carries (λ qs ending. IsRefusedCut t qs ending ps r place) by
+ended_on R t h h' ps (ToStop NoMemory) carries by = carries (λ qs ending. BeginsWithPictures qs ps) by
 ended_on R t h h' ps (ToStop NotUnderstood) carries by = absurd by
 ended_on R t h h' ps (ToStop (Mismatched m n)) carries by = absurd by
 ended_on R t h h' ps (ToStop (ReadFault k)) carries by = absurd by
@@ -226,7 +226,7 @@ halts R t c h ps done cut states.Ended (ToStop stop) is by =
 halts R t c h ps done cut (states.Refused r n) answer is by =
     let come = holds_none R c.intake h ps (λ e. let f = is in absurd (cc)) cut.come in
     let told = subst (λ (s : State). ComesTo R h ps s) is come.told in
-    rw by (ends R t c h ps done (ToStop (Refused r _)) cut (λ b qs ending o are. let all = told b qs ending o are in by_stream n all.0 all.1 refl))
+    rw by (ends R t c h ps done (ToStop (Refused r _)) cut (λ b qs ending o are. let all = told b qs ending o are in by_ending_told n all.0 all.1 refl))
 halts R t c h ps done cut states.NoMemory answer is by =
     let come = holds_none R c.intake h ps (λ e. let f = is in absurd (cc)) cut.come in
     let told = subst (λ (s : State). ComesTo R h ps s) is come.told in
@@ -239,11 +239,11 @@ slice_of_held : (R : Readers) → HaveSlices R → (i : Intaking) (h : Handed) (
 slice_of_held R have i h ps p going k within =
     let tk = going.taken in
     let units = units_at (seen_of going.given) tk.places in
-    let are : pictures_of R units ≡ p ∷ ps = ap (λ (o : Outcome). pictures o.before) tk.fed.readings ∙ tk.done in
+    let are : pictures_of R units ≡ p ∷ ps = ap (λ (o : StreamReading). pictures o.before) tk.fed.readings ∙ tk.done in
     (subst (λ (l : List Picture). AllByRecursion (λ q. (j : ℕ) → j < subpics_of q.begun.sps → HasSlice j (parts_of q)) l) are (have units)).0 k within
 
 -- its answer
-pub cuts_kept : (q : Parts) (done : List Plan) (x : Extracting) (bytes : List ℕ) (tid : ℕ) → tid ≡ x.tid → (n : ℕ) (faults : ℕ) → Writes q done x (Some []) (Some bytes) 0 faults (Ok tt)
+pub cuts_kept : (q : Parts) (done : List Plan) (x : Extracting) (bytes : List ℕ) (tid : ℕ) → tid ≡ x.tid → (n : ℕ) (faults : ℕ) → WritesPicture q done x (Some []) (Some bytes) 0 faults (Ok tt)
     → Cuts q done x bytes n (Ok (cond (nat_le q.kind.temporal_id tid) (Some q.kind) None))
 cuts_kept q done x bytes tid same n faults wrote = (wrote.0, subst (λ (k : ℕ). CutsKept (is_kept x.tid q) q done x bytes (cond (nat_le q.kind.temporal_id k) (Some q.kind) None)) (sym same) (by_kept (is_kept x.tid q) wrote.2))
   where
@@ -251,7 +251,7 @@ cuts_kept q done x bytes tid same n faults wrote = (wrote.0, subst (λ (k : ℕ)
     by_kept true wrote = (refl, λ slice. let p = wrote slice in (p.0, p.1, p.2, p.3))
     by_kept false wrote = (refl, wrote.1)
 
-pub cuts_not : (q : Parts) (done : List Plan) (x : Extracting) (bytes : List ℕ) (n faults : ℕ) (error : WriteError) → Writes q done x (Some []) (Some bytes) 0 faults (Err error) → Cuts q done x bytes n (Err (ToStop (stop_by error n)))
+pub cuts_not : (q : Parts) (done : List Plan) (x : Extracting) (bytes : List ℕ) (n faults : ℕ) (error : WriteError) → WritesPicture q done x (Some []) (Some bytes) 0 faults (Err error) → Cuts q done x bytes n (Err (ToStop (stop_by error n)))
 cuts_not q done x bytes n faults (errors.Refused r) by = (by.0, refl)
 cuts_not q done x bytes n faults errors.SinkFailed by = tt
 cuts_not q done x bytes n faults errors.Memory by = tt
@@ -284,7 +284,7 @@ module _ (R : Readers) (t : Task) (c : Cutting) (h : Handed) (ps : List Picture)
   kept_is : is_kept x.tid q ≡ is_kept t.tid (parts_of one.0)
   kept_is = ap₂ (λ a w. is_kept a w) tid_is is_latest
 
-  first : OfEachStream R h (λ qs ending. BeginsWith qs (one.0 ∷ ps))
+  first : OfEachStream R h (λ qs ending. BeginsWithPictures qs (one.0 ∷ ps))
   first = (subst (λ (s : State). ComesTo R h (one.0 ∷ ps) s) holds one.1.told).0
 
   stopped : (end : Cut) → HasEndedBy R t h ps end → HasCut R t (record c { extractor = x; cut = bytes; end = Some end }) h ps done × HasEndedBy R t h ps end
@@ -326,7 +326,7 @@ module _ (R : Readers) (t : Task) (c : Cutting) (h : Handed) (ps : List Picture)
 
     -- it was, or was left out
     went : (held : Option Kind) (later : List Plan) → refusal_of t.target t.tid (parts_of one.0) ≡ None → AreExtracted t.target t.level (map parts_of (at_most t.tid (one.0 ∷ ps))) later → Stands x later
-        → ((kind : Kind) → held ≡ Some kind → (p : Plan) × (before : List Plan) × (later ≡ p ∷ before) × Holds (record new { held = held }) p) → HasCut R t (record new { held = held }) h (one.0 ∷ ps) later
+        → ((kind : Kind) → held ≡ Some kind → (p : Plan) × (before : List Plan) × (later ≡ p ∷ before) × HoldsPicture (record new { held = held }) p) → HasCut R t (record new { held = held }) h (one.0 ∷ ps) later
     went held later fine plans stands holding = record {
       target = target_is;
       level = level_is;
@@ -350,7 +350,7 @@ module _ (R : Readers) (t : Task) (c : Cutting) (h : Handed) (ps : List Picture)
         let extracted : IsExtracted t.target t.level (parts_of one.0) done p = subst (λ (w : Parts). IsExtracted t.target t.level w done p) is_latest
         (subst (λ (l : Option ℕ). IsExtracted t.target l q done p) level_is (subst (λ (k : ℕ). IsExtracted k x.level q done p) target_is plan.1)) in
         let plans : AreExtracted t.target t.level (map parts_of (at_most t.tid (one.0 ∷ ps))) (p ∷ done) = rw on (extracted, cut.plans) in
-        let holding : Holds (record new { held = Some q.kind }) p = record { bytes = plan.2; kind = ap (λ (k : Kind). Some k) (sym plan.1.kind) } in
+        let holding : HoldsPicture (record new { held = Some q.kind }) p = record { bytes = plan.2; kind = ap (λ (k : Kind). Some k) (sym plan.1.kind) } in
         subst (λ (k : Option Kind). StepsTo R t new h ps done (Ok k)) (sym wrote.0) (one.0, p, went (Some q.kind) (p ∷ done) fine plans plan.3 (λ kind is. (p, done, refl, holding)), holding)
     by_kept false on fine kept wrote =
         let plans : AreExtracted t.target t.level (map parts_of (at_most t.tid (one.0 ∷ ps))) done = rw on cut.plans in
@@ -419,7 +419,7 @@ cut_none R t i x come waits target level tid stands = record {
   target = target;
   level = level;
   tid = tid;
-  come = record { seen = []; come = come; behind = subst (λ (s : State). IsBehind s [] []) (sym waits) refl };
+  come = record { seen = []; come = come; behind = subst (λ (s : State). IsBehindPictures s [] []) (sym waits) refl };
   count = refl;
   rules = tt;
   plans = tt;

@@ -11,7 +11,7 @@ use Rattle.vx_push.specs.declared.intake.State.{State}
 use Rattle.vx_push.specs.declared.intake.State.TheVariants.{Picture as AtPicture}
 use Rattle.vx_push.specs.Comes.{Intaking, Handed, IsFedBy}
 use Rattle.vx_push.specs.inner.Comes.{IsGoing}
-use Rattle.vx_push.specs.Mixing.{IsBehind, HasComeBehind}
+use Rattle.vx_push.specs.Mixing.{IsBehindRounds, HasComeBehind}
 
 -- units take bytes, each of its own
 pub few_units : (b : List ℕ) (all : Bool) (p : ℕ) (us : List UnitPlace) → FollowsFrom b all p us → length us ≤ length b - p
@@ -24,7 +24,7 @@ few_units b all p (u ∷ us) f =
 pub few_behind : (R : Readers) (i : Intaking) (h : Handed) (n : ℕ) → i.state ≡ AtPicture → HasComeBehind R i h n → n + 1 ≤ 1099511627776
 few_behind R i h n is c =
     let going : IsGoing R i h c.pictures = subst (λ (s : State). IsFedBy R i h c.pictures s) is c.come.fed in
-    let many : length c.pictures ≡ n + 1 = subst (λ (s : State). IsBehind s n (length c.pictures)) is c.count in
+    let many : length c.pictures ≡ n + 1 = subst (λ (s : State). IsBehindRounds s n (length c.pictures)) is c.count in
     let taken = going.taken in
     let seen = seen_of going.given in
     omega (

@@ -21,15 +21,15 @@ use Rattle.vx_run.specs.declared.stop.Stop.{Stop}
 use Rattle.vx_run.specs.declared.stop.Stop.TheVariants.{NotUnderstood, Refused, Mismatched, ReadFault, WriteFault, NoMemory}
 use Rattle.vx_run.specs.Conclusion.{Outcome}
 use Rattle.vx_run.specs.Rounds.{Stream, picture_in, GoesOn, HasEnded, IsRound, NoneRefused, Telling, StopsIn, by_stream, by_length, by_round, AllEnded, stream_refused, behind_units, in_round}
-use Rattle.vx_run.specs.Merge.{AreWritten, EndsWritten, EndsOnce, length_refused, merge_telling}
+use Rattle.vx_run.specs.Merge.{AreRoundsWritten, EndsWritten, EndsOnce, length_refused, merge_telling}
 use Rattle.vx_run.proofs.Indexed.{some_at, same_lists, mapped_at, any_default, set_there, set_other, get_set_there, get_set_other, earlier_stay, latest_at, where_is}
 use Rattle.vx_push.specs.declared.intake.State.{State}
 use Rattle.vx_push.specs.declared.intake.State.TheVariants.{Waits as AtWait, Picture as AtPicture, Ended as AtEnd, Refused as AtRefusal, NoMemory as AtNoMemory}
 use Rattle.vx_push.specs.declared.mixer.Mixed.{Mixed}
 use Rattle.vx_push.specs.declared.mixer.Mixed.TheVariants.{Picture as ToPicture, Waits as ToWait, Ended as ToEnd, Stopped as ToStop}
 use Rattle.vx_push.specs.Comes.{Intaking, Handed, nothing, with_more, with_end, zeros, IsOpenedBy, ComesTo, HasCome, ComesNext, IsFedBy}
-use Rattle.vx_push.specs.Mixing.{Mixing, AreOpenedBy, AreMerged, EndsMerged, IsBehind, HasComeBehind, HasEndedBy, Holds, HasMixed, IsAwaited, Answers, HandsIn, with_zeros, flushed_by, outcome_of, MixedIsMerged}
-use Rattle.vx_push.specs.inner.Mixing.{IsSo, mark_of, AreMarked, HaltsBy, EndsSo, AreSeen, Looks, round_of, Merges, end_by, IsMore, AreMore, AreNew, HasPassed, ArePassing, HavePassed}
+use Rattle.vx_push.specs.Mixing.{Mixing, AreOpenedBy, AreMergedAsHanded, EndsMerged, IsBehindRounds, HasComeBehind, HasEndedBy, HoldsRound, HasMixed, IsAwaited, Answers, HandsIn, with_zeros, flushed_by, outcome_of, MixedIsMerged}
+use Rattle.vx_push.specs.inner.Mixing.{IsSo, mark_of, AreMarked, HaltsBy, EndsSo, AreSeen, Looks, round_of, MergesHanded, end_by, IsMore, AreMore, AreNew, HasPassed, ArePassing, HavePassed}
 
 -- ---- one source
 
@@ -41,7 +41,7 @@ longer later ps p =
 
 -- what it tells
 so_at : (R : Readers) (i : Intaking) (h : Handed) (n : ℕ) (c : HasComeBehind R i h n) (b : List ℕ) (s : Stream) → IsOpenedBy h b → AreSourcePictures R b s.pictures s.ending
-    → (state : State) → ComesTo R h c.pictures state → (state ≡ AtPicture → ShowsLatest (lent_by i.feed.assembler) c.pictures) → IsBehind state n (length c.pictures) → IsSo state i n s
+    → (state : State) → ComesTo R h c.pictures state → (state ≡ AtPicture → ShowsLatest (lent_by i.feed.assembler) c.pictures) → IsBehindRounds state n (length c.pictures) → IsSo state i n s
 so_at R i h n c b s opened are AtWait comes lends count = tt
 so_at R i h n c b s opened are AtPicture comes lends count =
     let begins = comes.0 b s.pictures s.ending opened are in
@@ -201,9 +201,9 @@ record Follows (m later : Merging) (given more : List Handed) : Type 0 where
   level : later.level ≡ m.level
 
 module _ (R : Readers) (m later : Merging) (given more : List Handed) (f : Follows m later given more) (done : List Plan) where
-  merged_follows : AreMerged R m given done → AreMerged R later more done
+  merged_follows : AreMergedAsHanded R m given done → AreMergedAsHanded R later more done
   merged_follows merged ss opened =
-      subst (λ (l : Option ℕ). AreWritten later.corners l ss done) (sym f.level) (subst (λ (c : List Corner). AreWritten c m.level ss done) (sym f.corners) (merged ss (opened_before R given more f.grown ss opened)))
+      subst (λ (l : Option ℕ). AreRoundsWritten later.corners l ss done) (sym f.level) (subst (λ (c : List Corner). AreRoundsWritten c m.level ss done) (sym f.corners) (merged ss (opened_before R given more f.grown ss opened)))
 
   ends_follows : (end : Outcome) → EndsMerged R m given done end → EndsMerged R later more done end
   ends_follows end ends ss opened =
@@ -331,7 +331,7 @@ module _ (R : Readers) (m : Mixing) (given : List Handed) (done : List Plan) (h 
           let g = some_at given x.k within in
           let c = h.come x.k x.intake g.0 x.at g.1 in
           let comes : ComesTo R g.0 c.pictures AtWait = subst (λ (s : State). ComesTo R g.0 c.pictures s) is c.come.told in
-          let many : length c.pictures ≡ m.rounds = subst (λ (s : State). IsBehind s m.rounds (length c.pictures)) is c.count in (
+          let many : length c.pictures ≡ m.rounds = subst (λ (s : State). IsBehindRounds s m.rounds (length c.pictures)) is c.count in (
             h,
             subst (λ (i : ℕ). IsAwaited R given (length done) i) same
                 (record { handed = g.0; at = g.1; pictures = c.pictures; seen = comes.1; count = many ∙ sym h.rounds; open_ = comes.2 }),
@@ -381,11 +381,11 @@ module _ (R : Readers) (m : Mixing) (given : List Handed) (done : List Plan) (h 
     round_here : (ss : List Stream) → AreOpenedBy R given ss → IsRound ss (length done) (round_of m.intakes)
     round_here ss can = subst (λ (n : ℕ). IsRound ss n (round_of m.intakes)) (sym h.rounds) (is_round R m.intakes given m.rounds h.sources h.come ss can marks seen go)
 
-    merged_here : AreMerged R later.merger given done
+    merged_here : AreMergedAsHanded R later.merger given done
     merged_here = merged_follows R m.merger later.merger given given f done h.merged
 
     -- it is barred, or there was no memory
-    barred : (s : Stop) → Merges (round_of m.intakes) done later.merger later.merged m.rounds (Err s) → HasEndedBy R later.merger given done (ToStop s)
+    barred : (s : Stop) → MergesHanded (round_of m.intakes) done later.merger later.merged m.rounds (Err s) → HasEndedBy R later.merger given done (ToStop s)
     barred (Refused r place) by = λ ss can. (
       merged_here ss can,
       by_round (round_of m.intakes) (round_here ss can) (r, by.0, ap (λ (w : Where). Refused r w) (by.1 ∙ ap in_round (sym h.rounds))),
@@ -396,7 +396,7 @@ module _ (R : Readers) (m : Mixing) (given : List Handed) (done : List Plan) (h 
     barred (Mismatched x y) by = absurd by
     barred WriteFault by = absurd by
 
-    pub answers_barred : later.intakes ≡ m.intakes → later.rounds ≡ m.rounds → later.held ≡ None → (stop : Stop) → later.end ≡ Some (ToStop stop) → Merges (round_of m.intakes) done later.merger later.merged m.rounds (Err stop) → Answers R later given done (ToStop stop)
+    pub answers_barred : later.intakes ≡ m.intakes → later.rounds ≡ m.rounds → later.held ≡ None → (stop : Stop) → later.end ≡ Some (ToStop stop) → MergesHanded (round_of m.intakes) done later.merger later.merged m.rounds (Err stop) → Answers R later given done (ToStop stop)
     answers_barred same rounds held stop end by = (
       record {
         sources = h.sources ∙ ap (λ (l : List Intaking). length l) (sym same);
@@ -412,7 +412,7 @@ module _ (R : Readers) (m : Mixing) (given : List Handed) (done : List Plan) (h 
     )
 
     -- or it is merged
-    pub answers_merged : AreOfH266 R → HavePassed m.intakes later.intakes → later.rounds ≡ m.rounds + 1 → (kind : Kind) → later.held ≡ Some kind → later.end ≡ None → Merges (round_of m.intakes) done later.merger later.merged m.rounds (Ok kind) → Answers R later given done ToPicture
+    pub answers_merged : AreOfH266 R → HavePassed m.intakes later.intakes → later.rounds ≡ m.rounds + 1 → (kind : Kind) → later.held ≡ Some kind → later.end ≡ None → MergesHanded (round_of m.intakes) done later.merger later.merged m.rounds (Ok kind) → Answers R later given done ToPicture
     answers_merged of passed rounds kind held end by = (
       p,
       record {
@@ -430,7 +430,7 @@ module _ (R : Readers) (m : Mixing) (given : List Handed) (done : List Plan) (h 
         p : Plan
         p = by.0
 
-        holds : Holds later p
+        holds : HoldsRound later p
         holds = record { bytes = by.2; kind = held ∙ ap (λ (k : Kind). let o : Option Kind = Some k in o) by.4 }
 
         come_later : (k : ℕ) (j : Intaking) (g : Handed) → slice_get later.intakes k ≡ Some j → slice_get given k ≡ Some g → HasComeBehind R j g later.rounds
@@ -448,27 +448,27 @@ pub next_behind : (R : Readers) (i : Intaking) (h : Handed) (n : ℕ) (ps : List
 next_behind R i h n ps many next = by_state i.state refl next
   where
     by_state : (state : State) → i.state ≡ state → ComesNext R i h ps state → HasComeBehind R i h n
-    by_state AtPicture is c = record { pictures = c.0 ∷ ps; come = c.1; count = subst (λ (s : State). IsBehind s n (length (c.0 ∷ ps))) (sym is) (omega (arith, many)) }
-    by_state AtWait is c = record { pictures = ps; come = c; count = subst (λ (s : State). IsBehind s n (length ps)) (sym is) many }
-    by_state AtEnd is c = record { pictures = ps; come = c; count = subst (λ (s : State). IsBehind s n (length ps)) (sym is) many }
-    by_state (AtRefusal r units) is c = record { pictures = ps; come = c; count = subst (λ (s : State). IsBehind s n (length ps)) (sym is) many }
-    by_state AtNoMemory is c = record { pictures = ps; come = c; count = subst (λ (s : State). IsBehind s n (length ps)) (sym is) many }
+    by_state AtPicture is c = record { pictures = c.0 ∷ ps; come = c.1; count = subst (λ (s : State). IsBehindRounds s n (length (c.0 ∷ ps))) (sym is) (omega (arith, many)) }
+    by_state AtWait is c = record { pictures = ps; come = c; count = subst (λ (s : State). IsBehindRounds s n (length ps)) (sym is) many }
+    by_state AtEnd is c = record { pictures = ps; come = c; count = subst (λ (s : State). IsBehindRounds s n (length ps)) (sym is) many }
+    by_state (AtRefusal r units) is c = record { pictures = ps; come = c; count = subst (λ (s : State). IsBehindRounds s n (length ps)) (sym is) many }
+    by_state AtNoMemory is c = record { pictures = ps; come = c; count = subst (λ (s : State). IsBehindRounds s n (length ps)) (sym is) many }
 
 -- behind the picture that it held
 pub passed_behind : (R : Readers) (i later : Intaking) (h : Handed) (n : ℕ) → i.state ≡ AtPicture → ((ps : List StreamPicture) → HasCome R i h ps → ComesNext R later h ps later.state) → HasComeBehind R i h n → HasComeBehind R later h (n + 1)
 passed_behind R i later h n is next c =
-    let many : length c.pictures ≡ n + 1 = subst (λ (s : State). IsBehind s n (length c.pictures)) is c.count in
+    let many : length c.pictures ≡ n + 1 = subst (λ (s : State). IsBehindRounds s n (length c.pictures)) is c.count in
     next_behind R later h (n + 1) c.pictures many (next c.pictures c.come)
 
 -- where it waited
 pub waited_behind : (R : Readers) (i later : Intaking) (h more : Handed) (n : ℕ) → i.state ≡ AtWait → ((ps : List StreamPicture) → HasCome R i h ps → ComesNext R later more ps later.state) → HasComeBehind R i h n → HasComeBehind R later more n
 waited_behind R i later h more n is next c =
-    let many : length c.pictures ≡ n = subst (λ (s : State). IsBehind s n (length c.pictures)) is c.count in
+    let many : length c.pictures ≡ n = subst (λ (s : State). IsBehindRounds s n (length c.pictures)) is c.count in
     next_behind R later more n c.pictures many (next c.pictures c.come)
 
 -- where it holds its picture still
 pub held_behind : (R : Readers) (i later : Intaking) (h more : Handed) (n : ℕ) → later.state ≡ i.state → ((ps : List StreamPicture) → HasCome R i h ps → HasCome R later more ps) → HasComeBehind R i h n → HasComeBehind R later more n
-held_behind R i later h more n same come c = record { pictures = c.pictures; come = come c.pictures c.come; count = subst (λ (s : State). IsBehind s n (length c.pictures)) (sym same) c.count }
+held_behind R i later h more n same come c = record { pictures = c.pictures; come = come c.pictures c.come; count = subst (λ (s : State). IsBehindRounds s n (length c.pictures)) (sym same) c.count }
 
 -- nothing more is the same
 pub none_more : (h : Handed) → with_more h [] ≡ h
@@ -531,7 +531,7 @@ new_mixed R m corners count new rounds held end stands = record {
   come = λ k i h at there.
       let x = new k i at in
       subst (λ (g : Handed). HasComeBehind R i g m.rounds) (sym (new_given corners k h there))
-      (record { pictures = []; come = x.1 R; count = subst (λ (s : State). IsBehind s m.rounds 0) (sym x.0) (sym rounds) });
+      (record { pictures = []; come = x.1 R; count = subst (λ (s : State). IsBehindRounds s m.rounds 0) (sym x.0) (sym rounds) });
   holds = λ kind is. let no = sym held ∙ is in absurd (cc);
   ended = λ other is. let no = sym end ∙ is in absurd (cc);
 }

@@ -8,7 +8,7 @@ use Rattle.vx_pic.specs.Bytes.{AreSeenPictures}
 use Rattle.vx_assemble.specs.Held.{ShowsLatest, lent_by}
 use Rattle.vx_assemble.specs.Feed.{seen_of}
 use Rattle.vx_assemble.specs.Feed as feed
-use Rattle.vx_run.specs.Extract.{BeginsWith}
+use Rattle.vx_run.specs.Extract.{BeginsWithPictures}
 use Rattle.vx_push.specs.declared.intake.State.{State}
 use Rattle.vx_push.specs.declared.intake.State.TheVariants as states
 pub use Rattle.vx_push.specs.Handed.{Handed, nothing, with_more, with_end, zeros, IsOpenedBy, OfEachStream}
@@ -18,12 +18,12 @@ pub use Rattle.vx_push.specs.inner.Comes.{Intaking, IsFedBy}
 -- that are seen in what was handed in; or they are all, behind which the stream ends or is refused.
 abbrev pub ComesTo : Readers → Handed → List Picture → State → Type 0
 ComesTo R h ps states.Waits =
-    OfEachStream R h (λ qs ending. BeginsWith qs ps) × AreSeenPictures R (seen_of h.bytes) ps × (h.all ≡ false)
-ComesTo R h ps states.Picture = OfEachStream R h (λ qs ending. BeginsWith qs ps) × (0 < length ps)
+    OfEachStream R h (λ qs ending. BeginsWithPictures qs ps) × AreSeenPictures R (seen_of h.bytes) ps × (h.all ≡ false)
+ComesTo R h ps states.Picture = OfEachStream R h (λ qs ending. BeginsWithPictures qs ps) × (0 < length ps)
 ComesTo R h ps states.Ended = OfEachStream R h (λ qs ending. (qs ≡ ps) × (ending ≡ None)) × (h.all ≡ true)
 ComesTo R h ps (states.Refused r n) =
     OfEachStream R h (λ qs ending. (qs ≡ ps) × (ending ≡ Some (record { units = n; refusal = r })))
-ComesTo R h ps states.NoMemory = OfEachStream R h (λ qs ending. BeginsWith qs ps)
+ComesTo R h ps states.NoMemory = OfEachStream R h (λ qs ending. BeginsWithPictures qs ps)
 
 -- This was handed in to it, and it came to these pictures. Where it holds a picture, that is the latest one.
 pub record HasCome (R : Readers) (i : Intaking) (h : Handed) (ps : List Picture) : Type 0 where

@@ -19,7 +19,7 @@ use Rattle.vx_extract.specs.Extracting.{Extracting, Stands}
 use Rattle.vx_extract.specs.Written.{AreExtracted}
 use Rattle.vx_run.specs.declared.extract.Task.{Task}
 use Rattle.vx_run.specs.declared.stop.Stop.TheVariants.{Refused, NoMemory}
-use Rattle.vx_run.specs.Extract.{BreakNoRule, BreaksBehind, BeginsWith, IsExtractable, at_picture}
+use Rattle.vx_run.specs.Extract.{BreakNoRule, BreaksBehind, BeginsWithPictures, IsExtractable, at_picture}
 use Rattle.vx_run.specs.Rounds.{behind_units}
 use Rattle.vx_push.specs.declared.intake.State.{State}
 use Rattle.vx_push.specs.declared.intake.State.TheVariants.{Picture as AtPicture, Waits as AtWait}
@@ -41,32 +41,32 @@ pub record Cutting : Type 0 where
 
 -- What is refused of pictures with this ending, behind the first of them, and at which place: what ends them; a picture that breaks a
 -- rule; or that there is none.
-pub data IsRefused (t : Task) (qs : List Picture) (ending : Option Ending) (ps : List Picture) (r : Refusal) (place : Where) : Type 0 where
-  by_stream : (n : ℕ) → qs ≡ ps → ending ≡ Some (record { units = n; refusal = r }) → place ≡ behind_units 0 n → IsRefused t qs ending ps r place
-  by_picture : BreaksBehind t qs ps r → place ≡ at_picture (length ps) → IsRefused t qs ending ps r place
-  without : qs ≡ [] → ps ≡ [] → ending ≡ None → r ≡ Extract NO_PICTURE → place ≡ at_picture 0 → IsRefused t qs ending ps r place
+pub data IsRefusedCut (t : Task) (qs : List Picture) (ending : Option Ending) (ps : List Picture) (r : Refusal) (place : Where) : Type 0 where
+  by_ending_told : (n : ℕ) → qs ≡ ps → ending ≡ Some (record { units = n; refusal = r }) → place ≡ behind_units 0 n → IsRefusedCut t qs ending ps r place
+  by_picture : BreaksBehind t qs ps r → place ≡ at_picture (length ps) → IsRefusedCut t qs ending ps r place
+  without : qs ≡ [] → ps ≡ [] → ending ≡ None → r ≡ Extract NO_PICTURE → place ≡ at_picture 0 → IsRefusedCut t qs ending ps r place
 
 -- What a cutter came to is the end of the extraction behind these pictures, of each stream that begins so; or it had no memory.
 abbrev pub HasEndedBy : Readers → Task → Handed → List Picture → Cut → Type 0
 HasEndedBy R t h ps ToEnd = OfEachStream R h (λ qs ending. (qs ≡ ps) × IsExtractable t qs ending)
-HasEndedBy R t h ps (ToStop (Refused r place)) = OfEachStream R h (λ qs ending. IsRefused t qs ending ps r place)
-HasEndedBy R t h ps (ToStop NoMemory) = OfEachStream R h (λ qs ending. BeginsWith qs ps)
+HasEndedBy R t h ps (ToStop (Refused r place)) = OfEachStream R h (λ qs ending. IsRefusedCut t qs ending ps r place)
+HasEndedBy R t h ps (ToStop NoMemory) = OfEachStream R h (λ qs ending. BeginsWithPictures qs ps)
 HasEndedBy R t h ps _ = ⊥
 
 -- ---- the relation
 
 -- its intake came to these pictures, and where it holds one, to one more
-abbrev pub IsBehind : State → List Picture → List Picture → Type 0
-IsBehind AtPicture ps seen = (p : Picture) × (seen ≡ p ∷ ps)
-IsBehind state ps seen = seen ≡ ps
+abbrev pub IsBehindPictures : State → List Picture → List Picture → Type 0
+IsBehindPictures AtPicture ps seen = (p : Picture) × (seen ≡ p ∷ ps)
+IsBehindPictures state ps seen = seen ≡ ps
 
 pub record HasComeBehind (R : Readers) (i : Intaking) (h : Handed) (ps : List Picture) : Type 0 where
   pub seen : List Picture
   pub come : HasCome R i h seen
-  pub behind : IsBehind i.state ps seen
+  pub behind : IsBehindPictures i.state ps seen
 
 -- it holds what is written of this picture
-pub record Holds (c : Cutting) (p : Plan) : Type 0 where
+pub record HoldsPicture (c : Cutting) (p : Plan) : Type 0 where
   pub bytes : c.cut ≡ written (units_of p)
   pub kind : c.held ≡ Some p.kind
 
@@ -81,7 +81,7 @@ pub record HasCut (R : Readers) (t : Task) (c : Cutting) (h : Handed) (ps : List
   pub rules : BreakNoRule t ps
   pub plans : AreExtracted t.target t.level (map parts_of (at_most t.tid ps)) done
   pub stands : c.end ≡ None → Stands c.extractor done
-  pub holds : (kind : Kind) → c.held ≡ Some kind → (p : Plan) × (before : List Plan) × (done ≡ p ∷ before) × Holds c p
+  pub holds : (kind : Kind) → c.held ≡ Some kind → (p : Plan) × (before : List Plan) × (done ≡ p ∷ before) × HoldsPicture c p
   pub ended : (end : Cut) → c.end ≡ Some end → HasEndedBy R t h ps end
 
 -- ---- what is answered
@@ -94,7 +94,7 @@ pub record IsAwaited (R : Readers) (h : Handed) (ps : List Picture) : Type 0 whe
 -- What is answered behind these pictures: one more is written, and held, maybe behind others that are left out; the stream is awaited; or
 -- the extraction has ended.
 abbrev pub Answers : Readers → Task → Cutting → Handed → List Picture → List Plan → Cut → Type 0
-Answers R t c h ps done ToPicture = (later : List Picture) × (p : Plan) × HasCut R t c h (later ++ ps) (p ∷ done) × Holds c p
+Answers R t c h ps done ToPicture = (later : List Picture) × (p : Plan) × HasCut R t c h (later ++ ps) (p ∷ done) × HoldsPicture c p
 Answers R t c h ps done ToWait = (later : List Picture) × HasCut R t c h (later ++ ps) done × IsAwaited R h (later ++ ps)
 Answers R t c h ps done end = (later : List Picture) × HasCut R t c h (later ++ ps) done × HasEndedBy R t h (later ++ ps) end × (c.end ≡ Some end)
 

@@ -13,12 +13,12 @@ use Rattle.vx_merge.specs.Merging.{Merging, Stands}
 use Rattle.vx_run.specs.declared.stop.Stop.TheVariants.{Refused, NoMemory}
 use Rattle.vx_run.specs.Conclusion.{Outcome}
 use Rattle.vx_run.specs.Rounds.{Stream, NoneRefused}
-use Rattle.vx_run.specs.Merge.{AreWritten, EndsWritten}
+use Rattle.vx_run.specs.Merge.{AreRoundsWritten, EndsWritten}
 use Rattle.vx_push.specs.declared.intake.State.{State}
-use Rattle.vx_push.specs.declared.intake.State.TheVariants.{Waits as AtWait, Picture as AtPicture, Ended as AtEnd, Refused as AtRefusal, NoMemory as AtNoMemory}
+use Rattle.vx_push.specs.declared.intake.State.TheVariants.{Waits as AtWait, Picture as AtPicture, NoMemory as AtNoMemory}
 use Rattle.vx_push.specs.declared.mixer.Mixed.{Mixed}
 use Rattle.vx_push.specs.declared.mixer.Mixed.TheVariants.{Picture as ToPicture, Waits as ToWait, Ended as ToEnd, Stopped as ToStop}
-use Rattle.vx_push.specs.Comes.{Intaking, Handed, with_more, with_end, zeros, taken_at_once, IsOpenedBy, HasCome}
+use Rattle.vx_push.specs.Comes.{Intaking, Handed, with_more, zeros, taken_at_once, IsOpenedBy, HasCome}
 
 -- A mixer: an intake for each source; its merger; how many rounds it merged; the bytes of the last of them and what it is, until they are
 -- taken; and what it came to in the end.
@@ -43,8 +43,8 @@ abbrev pub Whatever : Readers → List Handed → (List Stream → Type 0) → T
 Whatever R given P = (ss : List Stream) → AreOpenedBy R given ss → P ss
 
 -- the first rounds are merged so,
-abbrev pub AreMerged : Readers → Merging → List Handed → List Plan → Type 0
-AreMerged R m given done = Whatever R given (λ ss. AreWritten m.corners m.level ss done)
+abbrev pub AreMergedAsHanded : Readers → Merging → List Handed → List Plan → Type 0
+AreMergedAsHanded R m given done = Whatever R given (λ ss. AreRoundsWritten m.corners m.level ss done)
 
 -- and behind them the merge comes to this end
 abbrev pub EndsMerged : Readers → Merging → List Handed → List Plan → Outcome → Type 0
@@ -57,24 +57,24 @@ GoOnFirst R given done k = Whatever R given (λ ss. NoneRefused k ss (length don
 -- ---- the relation
 
 -- An intake that came to so many pictures behind n that were merged: it holds one more, or none.
-abbrev pub IsBehind : State → ℕ → ℕ → Type 0
-IsBehind AtPicture n count = count ≡ n + 1
-IsBehind state n count = count ≡ n
+abbrev pub IsBehindRounds : State → ℕ → ℕ → Type 0
+IsBehindRounds AtPicture n count = count ≡ n + 1
+IsBehindRounds state n count = count ≡ n
 
 pub record HasComeBehind (R : Readers) (i : Intaking) (h : Handed) (n : ℕ) : Type 0 where
   pub pictures : List StreamPicture
   pub come : HasCome R i h pictures
-  pub count : IsBehind i.state n (length pictures)
+  pub count : IsBehindRounds i.state n (length pictures)
 
 -- What a mixer came to is the end of the merge behind these rounds; or it had no memory, and these rounds are merged.
 abbrev pub HasEndedBy : Readers → Merging → List Handed → List Plan → Mixed → Type 0
 HasEndedBy R m given done ToEnd = EndsMerged R m given done (Ok tt)
 HasEndedBy R m given done (ToStop (Refused r place)) = EndsMerged R m given done (Err (Refused r place))
-HasEndedBy R m given done (ToStop NoMemory) = AreMerged R m given done
+HasEndedBy R m given done (ToStop NoMemory) = AreMergedAsHanded R m given done
 HasEndedBy R m given done _ = ⊥
 
 -- it holds what is written of this round
-pub record Holds (m : Mixing) (p : Plan) : Type 0 where
+pub record HoldsRound (m : Mixing) (p : Plan) : Type 0 where
   pub bytes : m.merged ≡ written (units_of p)
   pub kind : m.held ≡ Some p.kind
 
@@ -82,10 +82,10 @@ pub record Holds (m : Mixing) (p : Plan) : Type 0 where
 pub record HasMixed (R : Readers) (m : Mixing) (given : List Handed) (done : List Plan) : Type 0 where
   pub sources : length given ≡ length m.intakes
   pub rounds : length done ≡ m.rounds
-  pub merged : AreMerged R m.merger given done
+  pub merged : AreMergedAsHanded R m.merger given done
   pub stands : m.end ≡ None → Stands m.merger done
   pub come : (k : ℕ) (i : Intaking) (h : Handed) → slice_get m.intakes k ≡ Some i → slice_get given k ≡ Some h → HasComeBehind R i h m.rounds
-  pub holds : (kind : Kind) → m.held ≡ Some kind → (p : Plan) × (before : List Plan) × (done ≡ p ∷ before) × Holds m p
+  pub holds : (kind : Kind) → m.held ≡ Some kind → (p : Plan) × (before : List Plan) × (done ≡ p ∷ before) × HoldsRound m p
   pub ended : (end : Mixed) → m.end ≡ Some end → HasEndedBy R m.merger given done end
 
 -- ---- what is answered
@@ -102,7 +102,7 @@ pub record IsAwaited (R : Readers) (given : List Handed) (n k : ℕ) : Type 0 wh
 -- What is answered behind these rounds: one more is merged, and held; source k is awaited, and none before it is refused in the next round;
 -- or the merge has ended.
 abbrev pub Answers : Readers → Mixing → List Handed → List Plan → Mixed → Type 0
-Answers R m given done ToPicture = (p : Plan) × HasMixed R m given (p ∷ done) × Holds m p
+Answers R m given done ToPicture = (p : Plan) × HasMixed R m given (p ∷ done) × HoldsRound m p
 Answers R m given done (ToWait k) = HasMixed R m given done × IsAwaited R given (length done) k × GoOnFirst R given done k
 Answers R m given done end = HasMixed R m given done × HasEndedBy R m.merger given done end × (m.end ≡ Some end)
 

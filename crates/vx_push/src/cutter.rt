@@ -161,10 +161,6 @@ impl Cutter {
     ghost use Rattle.vx_push.specs.inner.Cutting.{StepsTo, units_left};
 
     /// A cutter that does this task.
-    ///
-    /// # Errors
-    ///
-    /// Want of memory.
     pub fn new(alloc: Global, task: Task) -> Result<Cutter, AllocError>
         requires { task.tid ≤ 6 }
         ensures cut { IfOk result (λ c. (R : Readers) → HasCut R task c nothing [] []) }

@@ -7,10 +7,6 @@ use vx_report::refusal_line;
 use vx_run::Stop;
 
 /// The line that the program tells where a mixer or a cutter is stopped.
-///
-/// # Errors
-///
-/// Want of memory.
 pub fn stop_line(alloc: Global, stop: Stop) -> Result<Vec<u8>, AllocError>
     ensures { IfOk result (λ line. IsLineOf stop line.items) }
 {

@@ -7,7 +7,7 @@ ghost use Rattle.vx_merge.specs.Merging.{AreCorners, SameTask, Stands};
 ghost use Rattle.vx_push.specs.Comes.{Handed, HasCome, nothing};
 ghost use Rattle.vx_push.specs.declared.intake.State.TheVariants.{Picture as AtPicture};
 ghost use Rattle.vx_push.specs.Mixing.{MixedIsMerged};
-ghost use Rattle.vx_push.specs.inner.Mixing.{AreNew, stop_by, mark_of, AreSeen, HaltsBy, HaltsFirst, Looks, Merges, HavePassed, end_by, round_of};
+ghost use Rattle.vx_push.specs.inner.Mixing.{AreNew, stop_by, mark_of, AreSeen, HaltsBy, HaltsFirst, Looks, MergesHanded, HavePassed, end_by, round_of};
 
 use crate::intake::{Intake, State};
 use std::alloc::{AllocError, Global};
@@ -157,7 +157,7 @@ fn merge_round(
     requires count { length intakes.now ≡ length merger.old.corners }
     requires hold { All (λ i. i.state ≡ AtPicture) intakes.now }
     ensures merges { (done : List Plan) → Stands merger.old done
-        → Merges (round_of intakes.now) done merger.new merged.new.taken rounds result }
+        → MergesHanded (round_of intakes.now) done merger.new merged.new.taken rounds result }
     ensures task { SameTask merger.old merger.new }
 {
     *merged = GrowSink::new(alloc);
@@ -201,10 +201,6 @@ impl Mixer {
 
     /// A mixer of a source for each of these upper left corners, in luma samples, of the region that its pictures are; with a level of its own
     /// or the sources' highest.
-    ///
-    /// # Errors
-    ///
-    /// Want of memory.
     pub fn new(alloc: Global, corners: &[Corner], level: Option<u8>) -> Result<Mixer, AllocError>
         requires { AreCorners corners.now }
         ensures task { IfOk result (λ m. (m.merger.corners ≡ corners.now) × (m.merger.level ≡ level)) }

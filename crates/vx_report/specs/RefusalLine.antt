@@ -70,8 +70,8 @@ abbrev pub written_limit_text : ℕ → Where → List ℕ
 written_limit_text code place = concat (codes "L" ∷ decimal code ∷ codes " picture " ∷ decimal place.picture ∷ codes "\n" ∷ [])
 
 -- `P4 source 0 unit 3`, and with other letters `L1 source 0 unit 3`, `S4 source 0 unit 3`
-abbrev pub unit_text : List ℕ → ℕ → Where → List ℕ
-unit_text letter code place = concat
+abbrev pub refused_unit_text : List ℕ → ℕ → Where → List ℕ
+refused_unit_text letter code place = concat
     (letter ∷ decimal code
     ∷ codes " source " ∷ decimal place.source
     ∷ codes " unit " ∷ decimal place.unit ∷ codes "\n" ∷ [])
@@ -115,7 +115,7 @@ round_field_text code source of place = concat
 -- ---- the line of a refusal
 
 abbrev pub source_or_unit_text : ℕ → Where → List ℕ
-source_or_unit_text code place = cond (code == LONG_SOURCE) (source_limit_text code place) (unit_text (codes "L") code place)
+source_or_unit_text code place = cond (code == LONG_SOURCE) (source_limit_text code place) (refused_unit_text (codes "L") code place)
 
 -- the limits on what the words name
 abbrev pub is_of_words : ℕ → Bool
@@ -130,7 +130,7 @@ limit_text code place =
 abbrev pub structure_text : ℕ → ℕ → ℕ → Where → List ℕ
 structure_text code kind id place =
     cond (code == SET_MISSING) (missing_text kind id place)
-    (cond (code == LAYOUT) (layout_text id place) (unit_text (codes "S") code place))
+    (cond (code == LAYOUT) (layout_text id place) (refused_unit_text (codes "S") code place))
 
 -- the rules of a merge that compare fields
 abbrev pub names_field : ℕ → Bool
@@ -142,7 +142,7 @@ merge_text code source of place = cond (names_field code) (round_field_text code
 abbrev pub refusal_text : Refusal → Where → List ℕ
 refusal_text (Framing code byte) place = framing_text code byte place
 refusal_text (Syntax field bit cause) place = syntax_text field bit cause place
-refusal_text (Profile code) place = unit_text (codes "P") code place
+refusal_text (Profile code) place = refused_unit_text (codes "P") code place
 refusal_text (Limit code) place = limit_text code place
 refusal_text (Structure code kind id) place = structure_text code kind id place
 refusal_text (Extract code) place = extract_text code place

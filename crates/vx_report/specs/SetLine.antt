@@ -34,11 +34,11 @@ abbrev pub tile_rows : List Item → ℕ
 tile_rows p = cond (is_partitioned p) (down (partition_of p).tiles) 1
 
 -- the slices of a picture, 0 where each subpicture is one (7.4.3.5, pps_single_slice_per_subpic_flag)
-abbrev pub listed_slices : List Item → ℕ
-listed_slices p = cond (is_set (number p pps.pps_single_slice_per_subpic_flag)) 0 (number p pps.pps_num_slices_in_pic_minus1 + 1)
+abbrev pub listed_slice_count : List Item → ℕ
+listed_slice_count p = cond (is_set (number p pps.pps_single_slice_per_subpic_flag)) 0 (number p pps.pps_num_slices_in_pic_minus1 + 1)
 
 abbrev pub pps_numbers : List Item → SetNumbers
-pps_numbers p = Pps (pps_id p) (referred_sps p) (tile_columns p) (tile_rows p) (listed_slices p)
+pps_numbers p = Pps (pps_id p) (referred_sps p) (tile_columns p) (tile_rows p) (listed_slice_count p)
 
 -- a member of a JSON object
 abbrev pub with_number : List ℕ → ℕ → Members → Members

@@ -88,7 +88,7 @@ fn cause_word(cause: BitCause) -> &'static str
 }
 
 fn profile_line(alloc: Global, code: u8, place: Where) -> Result<String, AllocError>
-    ensures { IfOk result (λ text. string_bytes text ≡ line.unit_text (codes "P") code place) }
+    ensures { IfOk result (λ text. string_bytes text ≡ line.refused_unit_text (codes "P") code place) }
 {
     format!(in alloc; "P{code} source {} unit {}\n", place.source, place.unit)
 }
@@ -134,7 +134,7 @@ fn source_limit_line(alloc: Global, code: u8, place: Where) -> Result<String, Al
 }
 
 fn unit_limit_line(alloc: Global, code: u8, place: Where) -> Result<String, AllocError>
-    ensures { IfOk result (λ text. string_bytes text ≡ line.unit_text (codes "L") code place) }
+    ensures { IfOk result (λ text. string_bytes text ≡ line.refused_unit_text (codes "L") code place) }
 {
     format!(in alloc; "L{code} source {} unit {}\n", place.source, place.unit)
 }
@@ -157,7 +157,7 @@ fn structure_line(
 
 /// The line of a rule on how units follow one another.
 fn order_line(alloc: Global, code: u8, place: Where) -> Result<String, AllocError>
-    ensures { IfOk result (λ text. string_bytes text ≡ line.unit_text (codes "S") code place) }
+    ensures { IfOk result (λ text. string_bytes text ≡ line.refused_unit_text (codes "S") code place) }
 {
     format!(in alloc; "S{code} source {} unit {}\n", place.source, place.unit)
 }

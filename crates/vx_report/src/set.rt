@@ -121,7 +121,7 @@ fn tile_rows(pps: &Pps) -> u64
 
 /// The slices of a picture, 0 where each subpicture is one.
 fn listed_slices(pps: &Pps) -> u64
-    ensures { result ≡ line.listed_slices pps.now }
+    ensures { result ≡ line.listed_slice_count pps.now }
 {
     let scope = pps.scope();
     if scope.latest(pps_single_slice_per_subpic_flag) != 0 {

@@ -16,7 +16,7 @@ use Rattle.vx_table.specs.Values.{IsValueOf, Follows, to_end, through}
 use Rattle.vx_table.specs.Depends.{has, with_all, set_of, Agree}
 use Rattle.vx_table.specs.Claims.{knows_formula, knows_width, knows_range, knows_presence, hides_counter, hides_row, behind_field, within_block, depends, table_depends, behind_table}
 use Rattle.vx_table.specs.Named.{named_by}
-use Rattle.vx_table.specs.Again.{shows_row}
+use Rattle.vx_table.specs.laws.Again.{shows_row}
 use Rattle.vx_table.proofs.Agreeing.{agree_back, agree_on, agree_outside}
 use Rattle.vx_table.proofs.Again.{follows_again, tables_show}
 use Rattle.vx_table.proofs.Chains.{table_carries}

@@ -31,7 +31,7 @@ use Rattle.vx_fields.specs.declared.names.rpl.TheConstants.{ENTRY, LONG_ENTRIES,
 use Rattle.vx_fields.specs.declared.rpl.TheConstants.{num_ref_entries, ltrp_in_header_flag}
 use Rattle.vx_fields.specs.declared.sps.TheConstants.{sps_weighted_pred_flag, sps_weighted_bipred_flag, sps_long_term_ref_pics_flag}
 use Rattle.vx_rpl.specs.declared.tables.TheConstants.{REF_PIC_LIST_STRUCT}
-use Rattle.vx_rpl.specs.Lengths.{entries_spelled, EntriesAreCounted}
+use Rattle.vx_rpl.specs.laws.Lengths.{entries_spelled, EntriesAreCounted}
 use Rattle.vx_rpl.specs.Lists.{is_long}
 use Rattle.vx_rpl.specs.Resolved.{entries_from}
 use Rattle.vx_rpl.proofs.Turns.{There, opened, ended, entry_rows, front_alone, AreEntries, turns_are}

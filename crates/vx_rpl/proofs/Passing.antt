@@ -13,7 +13,7 @@ use Rattle.vx_table.specs.EachField.{EachField, rows_pass, sections_pass}
 use Rattle.vx_table.specs.Depends.{has, Agree, Leaves}
 use Rattle.vx_table.specs.Claims.{hides, sections_hide}
 use Rattle.vx_table.specs.Shown.{IsKeptWhereShown, star_tells}
-use Rattle.vx_table.specs.Again.{shows_row}
+use Rattle.vx_table.specs.laws.Again.{shows_row}
 use Rattle.vx_table.proofs.EachField.{each_then, each_of_rows, each_of_sections}
 use Rattle.vx_table.proofs.Starred.{starred}
 use Rattle.vx_table.proofs.Agreeing.{agree_itself, agree_on, agree_outside}

@@ -20,7 +20,7 @@ use Rattle.vx_table.specs.Values.{IsValueOf, Follows, to_end, through}
 use Rattle.vx_table.specs.Depends.{has, with_all, set_of, Agree}
 use Rattle.vx_table.specs.Claims.{knows_formula, knows_width, knows_range, knows_presence, hides_counter, hides_row, hides, behind_field, within_block, depends, behind_rows, table_depends, behind_table}
 use Rattle.vx_table.specs.Named.{named_by}
-use Rattle.vx_table.specs.Again.{GoesToo, shows_row}
+use Rattle.vx_table.specs.laws.Again.{GoesToo, shows_row}
 use Rattle.vx_table.proofs.Again.{follows_again, tables_show}
 use Rattle.vx_table.proofs.Agreeing.{agree_outside}
 use Rattle.vx_table.proofs.Chains.{table_carries}
@@ -36,7 +36,7 @@ use Rattle.vx_rpl.specs.declared.entry.RefEntry.TheVariants.{Short, Long}
 use Rattle.vx_rpl.specs.declared.tables.TheConstants.{REF_PIC_LIST_STRUCT, LONG_TERM}
 use Rattle.vx_rpl.specs.Lists.{is_long}
 use Rattle.vx_rpl.specs.Resolved.{is_of_structure, entry_of, entries_from}
-use Rattle.vx_rpl.specs.HeaderLists.{behind, behind_entries, behind_entry, behind_told}
+use Rattle.vx_rpl.specs.HeaderLists.{behind_next, behind_entries, behind_entry, behind_told}
 use Rattle.vx_rpl.proofs.Entries.{entries_stop}
 
 -- ---- at scopes that are written out
@@ -84,7 +84,7 @@ abbrev pub begins : ℕ → List Item → Bool
 begins of [] = false
 begins of (item ∷ items) = item.field == of
 
-pub behind_other : (of : ℕ) (items : List Item) → begins of items ≡ false → behind of items ≡ items
+pub behind_other : (of : ℕ) (items : List Item) → begins of items ≡ false → behind_next of items ≡ items
 behind_other of [] none = refl
 behind_other of (item ∷ items) none = rw none refl
 
@@ -104,8 +104,8 @@ TakesLong items = (lsb : ℕ) (msb : Option ℕ) (rest : List Item) → begins d
 
 -- those of the cycle
 record TakesCycle (items : List Item) : Type 0 where
-  taken : (rest : List Item) → begins delta_poc_msb_cycle_lt rest ≡ false → behind delta_poc_msb_cycle_lt (behind delta_poc_msb_cycle_present_flag (items ++ rest)) ≡ rest
-  no_low : (rest : List Item) → behind poc_lsb_lt (items ++ rest) ≡ items ++ rest
+  taken : (rest : List Item) → begins delta_poc_msb_cycle_lt rest ≡ false → behind_next delta_poc_msb_cycle_lt (behind_next delta_poc_msb_cycle_present_flag (items ++ rest)) ≡ rest
+  no_low : (rest : List Item) → behind_next poc_lsb_lt (items ++ rest) ≡ items ++ rest
   no_cycle : (rest : List Item) → begins delta_poc_msb_cycle_lt (items ++ rest) ≡ false
 
 abbrev cycle_rows : List Row
@@ -129,7 +129,7 @@ long_takes b h w end on = elim (optional (Plain (Latest ltrp_in_header_flag)) (l
   | inl q ↦
       let cycle = cycle_takes b h 0 w end q.1 in
       subst TakesLong (sym q.2) (λ lsb msb rest none. (
-        ap (λ x. behind delta_poc_msb_cycle_lt (behind delta_poc_msb_cycle_present_flag x)) (cycle.no_low rest) ∙ cycle.taken rest none,
+        ap (λ x. behind_next delta_poc_msb_cycle_lt (behind_next delta_poc_msb_cycle_present_flag x)) (cycle.no_low rest) ∙ cycle.taken rest none,
         cycle.no_cycle rest,
       ))
   | inr q ↦

@@ -7,7 +7,7 @@ use Rattle.vx_table.specs.Depends.{has, Agree, DependsOnlyOn, Carries, Leaves}
 use Rattle.vx_table.specs.Claims.{hides, grown, table_depends, behind_table, sections_chain, behind_sections, sections_hide}
 use Rattle.vx_table.specs.Named.{named_by, named_by_all, ReadsOnly, SectionsReadOnly, CodedOnce}
 use Rattle.vx_table.specs.Shown.{shown_items, KeepsShown, star_tells}
-use Rattle.vx_table.specs.Again.{AlwaysShown, shows_row}
+use Rattle.vx_table.specs.laws.Again.{AlwaysShown, shows_row}
 use Rattle.vx_fields.specs.declared.names.rpl.TheConstants.{NUM_STRUCTURES, STRUCTURE, IS_LIST_0, LONG_ENTRIES}
 use Rattle.vx_fields.specs.declared.names.rpl.TheConstants.{ENTRIES_0, ENTRIES_1, ACTIVE_0, ACTIVE_1}
 use Rattle.vx_fields.specs.declared.rpl.TheConstants.{num_ref_entries, ltrp_in_header_flag, rpl_sps_flag, rpl_idx}
@@ -25,15 +25,15 @@ use Rattle.vx_rpl.specs.HeaderLists.{lists_of}
 -- ---- what is read
 
 -- lists: five numbers of the parameter sets, whatever structures the SPS has
-abbrev pub of_lists : List ℕ
-of_lists = IS_LIST_0 ∷ NUM_STRUCTURES ∷ (named_by BEFORE_LIST_0 ++ named_by CHOICE ++ named_by_all own_and_long_term
+abbrev pub fields_behind_lists : List ℕ
+fields_behind_lists = IS_LIST_0 ∷ NUM_STRUCTURES ∷ (named_by BEFORE_LIST_0 ++ named_by CHOICE ++ named_by_all own_and_long_term
     ++ named_by BEHIND_LIST_0 ++ named_by BEHIND_LIST_1)
 
 abbrev pub ListsDepend : Type 0
 ListsDepend = (table : RplTable) → DependsOnlyOn
     (sps_log2_max_pic_order_cnt_lsb_minus4 ∷ sps_weighted_pred_flag ∷ sps_weighted_bipred_flag ∷ sps_long_term_ref_pics_flag
     ∷ pps_rpl1_idx_present_flag ∷ [])
-    of_lists (lists_form table)
+    fields_behind_lists (lists_form table)
 
 -- a structure: four of the SPS, and which of how many it is
 abbrev pub StructureDepends : Type 0
@@ -66,28 +66,28 @@ list_chains shown known = table_depends shown (at_choice shown known) CHOICE
     && ((has (at_structure shown known) rpl_sps_flag && has (at_structure shown known) rpl_idx)
     && sections_chain shown (at_structure shown known) own_and_long_term)
 
-unfoldable pub behind_list : List ℕ → List ℕ → List ℕ
-behind_list shown known = behind_sections shown (at_structure shown known) own_and_long_term
+unfoldable pub known_behind_list : List ℕ → List ℕ → List ℕ
+known_behind_list shown known = behind_sections shown (at_structure shown known) own_and_long_term
 
 unfoldable pub first_chains : List ℕ → List ℕ → Bool
 first_chains shown known = table_depends shown known BEFORE_LIST_0
     && (list_chains shown (behind_table shown known BEFORE_LIST_0)
-    && table_depends shown (behind_list shown (behind_table shown known BEFORE_LIST_0)) BEHIND_LIST_0)
+    && table_depends shown (known_behind_list shown (behind_table shown known BEFORE_LIST_0)) BEHIND_LIST_0)
 
 unfoldable pub behind_first : List ℕ → List ℕ → List ℕ
-behind_first shown known = behind_table shown (behind_list shown (behind_table shown known BEFORE_LIST_0)) BEHIND_LIST_0
+behind_first shown known = behind_table shown (known_behind_list shown (behind_table shown known BEFORE_LIST_0)) BEHIND_LIST_0
 
 unfoldable pub second_chains : List ℕ → List ℕ → Bool
-second_chains shown known = list_chains shown known && table_depends shown (behind_list shown known) BEHIND_LIST_1
+second_chains shown known = list_chains shown known && table_depends shown (known_behind_list shown known) BEHIND_LIST_1
 
-unfoldable pub behind_second : List ℕ → List ℕ → List ℕ
-behind_second shown known = behind_table shown (behind_list shown known) BEHIND_LIST_1
+unfoldable pub known_behind_second : List ℕ → List ℕ → List ℕ
+known_behind_second shown known = behind_table shown (known_behind_list shown known) BEHIND_LIST_1
 
 unfoldable pub lists_chain : List ℕ → List ℕ → Bool
 lists_chain shown known = first_chains shown known && second_chains shown (behind_first shown known)
 
 unfoldable pub behind_lists : List ℕ → List ℕ → List ℕ
-behind_lists shown known = behind_second shown (behind_first shown known)
+behind_lists shown known = known_behind_second shown (behind_first shown known)
 
 abbrev pub ListsCarry : Type 0
 ListsCarry = (table : RplTable) (shown known : List ℕ) → lists_chain shown known ≡ true

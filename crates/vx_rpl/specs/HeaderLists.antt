@@ -16,9 +16,9 @@ use Rattle.vx_rpl.specs.declared.lists.Choice.{Choice}
 use Rattle.vx_rpl.specs.Resolved.{next_number, is_of_structure, entries_from}
 
 -- what follows the number that stands next, where it is one of this field
-abbrev pub behind : ℕ → List Item → List Item
-behind of [] = []
-behind of (item ∷ items) = cond (item.field == of) items (item ∷ items)
+abbrev pub behind_next : ℕ → List Item → List Item
+behind_next of [] = []
+behind_next of (item ∷ items) = cond (item.field == of) items (item ∷ items)
 
 -- ---- where the structure of a list is
 
@@ -27,19 +27,19 @@ abbrev pub is_from_sps : Bool → ℕ → Choice → List Item → Bool
 is_from_sps is_spelled count taken items = nat_lt 0 count && cond is_spelled (is_set (next_number rpl_sps_flag items)) taken.from_sps
 
 -- rpl_idx: where it isn't spelled, that of list 0, and 0 where the SPS has one structure for the list
-abbrev pub index_of : Bool → ℕ → Choice → List Item → ℕ
-index_of is_spelled count taken items =
-    cond (nat_lt 1 count) (cond is_spelled (next_number rpl_idx (behind rpl_sps_flag items)) taken.index) 0
+abbrev pub rpl_index : Bool → ℕ → Choice → List Item → ℕ
+rpl_index is_spelled count taken items =
+    cond (nat_lt 1 count) (cond is_spelled (next_number rpl_idx (behind_next rpl_sps_flag items)) taken.index) 0
 
 -- both, of a list of whose structures the SPS has so many, where list 0 has this choice
 abbrev pub choice_of : Bool → ℕ → Choice → List Item → Choice
 choice_of is_spelled count taken items = record {
   from_sps = is_from_sps is_spelled count taken items;
-  index = index_of is_spelled count taken items;
+  index = rpl_index is_spelled count taken items;
 }
 
 abbrev pub behind_choice : List Item → List Item
-behind_choice items = behind rpl_idx (behind rpl_sps_flag items)
+behind_choice items = behind_next rpl_idx (behind_next rpl_sps_flag items)
 
 -- ---- the structure
 
@@ -55,7 +55,7 @@ own_structure weighted long_term items = record { entries = take 29 (entries_fro
 abbrev pub structure_of_list : Bool → Bool → List Structure → Choice → List Item → Structure
 structure_of_list weighted long_term structures choice items =
     cond choice.from_sps (structure_found (slice_get structures choice.index))
-    (own_structure weighted long_term (behind num_ref_entries items))
+    (own_structure weighted long_term (behind_next num_ref_entries items))
 
 -- what follows a structure's items
 abbrev pub behind_entries : List Item → List Item
@@ -63,23 +63,23 @@ behind_entries [] = []
 behind_entries (item ∷ items) = cond (is_of_structure item) (behind_entries items) (item ∷ items)
 
 abbrev pub behind_own : Choice → List Item → List Item
-behind_own choice items = cond choice.from_sps items (behind_entries (behind num_ref_entries items))
+behind_own choice items = cond choice.from_sps items (behind_entries (behind_next num_ref_entries items))
 
 -- ---- what the header tells of long-term entries
 
 -- delta_poc_msb_cycle_lt, where it is present
 abbrev pub cycle_of : List Item → Option ℕ
 cycle_of items = cond (next_number delta_poc_msb_cycle_present_flag items == 0) None
-    (Some (next_number delta_poc_msb_cycle_lt (behind delta_poc_msb_cycle_present_flag items)))
+    (Some (next_number delta_poc_msb_cycle_lt (behind_next delta_poc_msb_cycle_present_flag items)))
 
 -- an entry of which the next items tell: the low bits are poc_lsb_lt where they stand in the header, else rpls_poc_lsb_lt
 abbrev pub entry_told : Bool → RefEntry → List Item → RefEntry
 entry_told in_header (Short abs sign) items = Short abs sign
-entry_told in_header (Long lsb msb) items = Long (cond in_header (next_number poc_lsb_lt items) lsb) (cycle_of (behind poc_lsb_lt items))
+entry_told in_header (Long lsb msb) items = Long (cond in_header (next_number poc_lsb_lt items) lsb) (cycle_of (behind_next poc_lsb_lt items))
 
 abbrev pub behind_entry : RefEntry → List Item → List Item
 behind_entry (Short abs sign) items = items
-behind_entry (Long lsb msb) items = behind delta_poc_msb_cycle_lt (behind delta_poc_msb_cycle_present_flag (behind poc_lsb_lt items))
+behind_entry (Long lsb msb) items = behind_next delta_poc_msb_cycle_lt (behind_next delta_poc_msb_cycle_present_flag (behind_next poc_lsb_lt items))
 
 -- entries of which the next items tell, in order
 abbrev pub entries_told : Bool → List RefEntry → List Item → List RefEntry
@@ -97,8 +97,8 @@ told structure items = entries_told structure.in_header structure.entries items
 -- ---- the lists
 
 -- slices may have weights
-abbrev pub is_weighted : List ℕ → Bool
-is_weighted s = is_set (slice_index s sps_weighted_pred_flag) || is_set (slice_index s sps_weighted_bipred_flag)
+abbrev pub may_have_weights : List ℕ → Bool
+may_have_weights s = is_set (slice_index s sps_weighted_pred_flag) || is_set (slice_index s sps_weighted_bipred_flag)
 
 abbrev pub has_long_term : List ℕ → Bool
 has_long_term s = is_set (slice_index s sps_long_term_ref_pics_flag)
@@ -106,7 +106,7 @@ has_long_term s = is_set (slice_index s sps_long_term_ref_pics_flag)
 -- a list at the sets in force, with this choice; the items behind that come first
 unfoldable pub list_of : List ℕ → List Structure → Choice → List Item → List RefEntry
 list_of s structures choice items =
-    told (structure_of_list (is_weighted s) (has_long_term s) structures choice items) (behind_own choice items)
+    told (structure_of_list (may_have_weights s) (has_long_term s) structures choice items) (behind_own choice items)
 
 -- what follows a list's items
 abbrev pub behind_list : Choice → List RefEntry → List Item → List Item

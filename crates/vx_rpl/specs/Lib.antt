@@ -5,4 +5,4 @@ pub mod Numbers
 pub mod HeaderLists
 pub mod Depends
 pub mod Written
-pub mod Lengths
+pub mod laws

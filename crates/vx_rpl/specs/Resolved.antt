@@ -72,8 +72,8 @@ structures_behind weighted None = []
 structures_behind weighted (Some items) = take 64 (structures_from weighted items)
 
 -- list 0's structures stand behind the first sps_num_ref_pic_lists, at most 64
-abbrev pub first_of : Bool → List Item → List Structure
-first_of weighted items = structures_behind weighted (past sps_num_ref_pic_lists items)
+abbrev pub list_0_structures : Bool → List Item → List Structure
+list_0_structures weighted items = structures_behind weighted (past sps_num_ref_pic_lists items)
 
 abbrev pub behind_second : Option (List Item) → Option (List Item)
 behind_second None = None
@@ -81,14 +81,14 @@ behind_second (Some items) = past sps_num_ref_pic_lists items
 
 -- list 1's stand behind the second; where there is none, they are list 0's
 abbrev pub second_or_first : Bool → List Item → Option (List Item) → List Structure
-second_or_first weighted items None = first_of weighted items
+second_or_first weighted items None = list_0_structures weighted items
 second_or_first weighted items (Some others) = structures_behind weighted (Some others)
 
 abbrev pub second_of : Bool → List Item → List Structure
 second_of weighted items = second_or_first weighted items (behind_second (past sps_num_ref_pic_lists items))
 
 abbrev pub both_of : Bool → List Item → RplTable
-both_of weighted items = record { first = first_of weighted items; second = second_of weighted items }
+both_of weighted items = record { first = list_0_structures weighted items; second = second_of weighted items }
 
 -- They are told by the items of structures and of their numbers, whatever others stand beside them.
 abbrev pub is_of_table : Item → Bool

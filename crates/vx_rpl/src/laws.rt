@@ -1,6 +1,6 @@
 //! Laws of lists, structures and weights: functions that do nothing, each with a law as its contract.
 ghost use Rattle.vx_rpl.specs.Depends.{ListsDepend, StructureDepends, WeightsDepend, FieldsAreCodedOnce, ListsCarry, ListsShow, ListsKeep, ListsLeave, ListsFollowItems, TablesFollowItems};
-ghost use Rattle.vx_rpl.specs.Lengths.{EntriesAreCounted};
+ghost use Rattle.vx_rpl.specs.laws.Lengths.{EntriesAreCounted};
 ghost use Rattle.vx_rpl.specs.Written.{StructuresWrittenAlike};
 
 /// Whatever structures the SPS has, lists read five numbers of the parameter sets.

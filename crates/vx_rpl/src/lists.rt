@@ -34,7 +34,7 @@ const NO_CHOICE: Choice = Choice {
 
 /// What follows the number that stands next, where it is one of this field.
 fn behind(field: u16, items: &[Item]) -> &[Item]
-    ensures { result.now ≡ spec.behind field items.now }
+    ensures { result.now ≡ spec.behind_next field items.now }
 {
     match items.split_first() {
         Some((item, rest)) if item.field == field => rest,
@@ -58,7 +58,7 @@ fn is_from_sps(is_spelled: bool, count: usize, taken: Choice, items: &[Item]) ->
 
 /// Which structure of the SPS it is, where it is one.
 fn index(is_spelled: bool, count: usize, taken: Choice, items: &[Item]) -> u32
-    ensures { result ≡ spec.index_of is_spelled count taken items.now }
+    ensures { result ≡ spec.rpl_index is_spelled count taken items.now }
 {
     if count < 2 {
         return 0;
@@ -158,10 +158,6 @@ fn behind_entry(entry: RefEntry, items: &[Item]) -> &[Item]
 }
 
 /// The entries of a structure with what the next items of the header tell of them.
-///
-/// # Errors
-///
-/// Want of memory.
 #[tactic(auto, using(crate::proofs::Told::told_more, crate::proofs::Told::told_end))]
 fn told(alloc: Global, structure: &Structure, items: &[Item]) -> Result<RefList, AllocError>
     ensures { IfOk result (λ list. list ≡ spec.told structure.now items.now) }
@@ -197,7 +193,7 @@ struct Kinds {
 
 /// What the sets in force say.
 fn kinds_at(scope: &Scope) -> Kinds
-    ensures weighted { result.weighted ≡ spec.is_weighted scope.now }
+    ensures weighted { result.weighted ≡ spec.may_have_weights scope.now }
     ensures long_term { result.long_term ≡ spec.has_long_term scope.now }
 {
     Kinds {
@@ -208,12 +204,8 @@ fn kinds_at(scope: &Scope) -> Kinds
 }
 
 /// A list that has its own structure.
-///
-/// # Errors
-///
-/// Want of memory.
 fn own_list(alloc: Global, kinds: Kinds, items: &[Item]) -> Result<RefList, AllocError>
-    ensures { let spelled = spec.behind num_ref_entries items.now in IfOk result (λ list. list ≡ spec.told (spec.own_structure kinds.weighted kinds.long_term spelled) (spec.behind_entries spelled)) }
+    ensures { let spelled = spec.behind_next num_ref_entries items.now in IfOk result (λ list. list ≡ spec.told (spec.own_structure kinds.weighted kinds.long_term spelled) (spec.behind_entries spelled)) }
 {
     let spelled = behind(num_ref_entries, items);
     let structure = Structure {
@@ -224,10 +216,6 @@ fn own_list(alloc: Global, kinds: Kinds, items: &[Item]) -> Result<RefList, Allo
 }
 
 /// A list, whose items behind its choice come first.
-///
-/// # Errors
-///
-/// Want of memory.
 #[tactic(auto, unfolding(crate::specs::HeaderLists::list_of))]
 fn list(
     alloc: Global,
@@ -262,10 +250,6 @@ fn is_of_lists(item: Item) -> bool
 }
 
 /// The items of the lists of a header.
-///
-/// # Errors
-///
-/// Want of memory.
 fn items_of_lists(alloc: Global, items: &[Item]) -> Result<Vec<Item>, AllocError>
     ensures { IfOk result (λ own. own.items ≡ filter spec.is_of_lists items.now) }
 {
@@ -277,10 +261,6 @@ fn items_of_lists(alloc: Global, items: &[Item]) -> Result<Vec<Item>, AllocError
 }
 
 /// The two lists that items of lists alone come to.
-///
-/// # Errors
-///
-/// Want of memory.
 #[tactic(auto, unfolding(crate::specs::HeaderLists::list_0, crate::specs::HeaderLists::behind_list_0, crate::specs::HeaderLists::list_1))]
 fn lists(
     alloc: Global,
@@ -304,10 +284,6 @@ fn lists(
 ///
 /// Of the scope it reads sps_long_term_ref_pics_flag, sps_weighted_pred_flag, sps_weighted_bipred_flag and
 /// pps_rpl1_idx_present_flag.
-///
-/// # Errors
-///
-/// Want of memory.
 #[tactic(auto, unfolding(crate::specs::HeaderLists::lists_of))]
 pub fn resolve_lists(
     alloc: Global,

@@ -103,10 +103,6 @@ pub fn read_weights(
 impl RplTable {
     /// The structures that an SPS's items from one place up to another spell: those from sps_rpl1_same_as_rpl0_flag to
     /// the last structure.
-    ///
-    /// # Errors
-    ///
-    /// Want of memory.
     pub fn new(
         alloc: Global,
         numbers: &RplNumbers,

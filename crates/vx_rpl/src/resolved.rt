@@ -66,10 +66,6 @@ fn entry_of(weighted: bool, i: usize, item: Item, rest: &[Item]) -> RefEntry
 }
 
 /// The entries of a structure whose items behind its number of entries come first.
-///
-/// # Errors
-///
-/// Want of memory.
 #[tactic(auto, using(crate::proofs::Entries::entries_stop, crate::proofs::Entries::entries_pushed, crate::proofs::Entries::entries_passed))]
 pub(crate) fn entries(alloc: Global, weighted: bool, items: &[Item]) -> Result<RefList, AllocError>
     ensures { IfOk result (λ list. list ≡ take 29 (spec.entries_from weighted 0 items.now)) }
@@ -146,10 +142,6 @@ fn is_of_table(item: Item) -> bool
 }
 
 /// These items.
-///
-/// # Errors
-///
-/// Want of memory.
 fn items_of_table(alloc: Global, items: &[Item]) -> Result<Vec<Item>, AllocError>
     ensures { IfOk result (λ own. own.items ≡ filter spec.is_of_table items.now) }
 {
@@ -161,10 +153,6 @@ fn items_of_table(alloc: Global, items: &[Item]) -> Result<Vec<Item>, AllocError
 }
 
 /// The structures of an SPS, for each list, which its items spell.
-///
-/// # Errors
-///
-/// Want of memory.
 #[tactic(auto, unfolding(crate::specs::Resolved::table_of))]
 pub(crate) fn table(alloc: Global, weighted: bool, items: &[Item]) -> Result<RplTable, AllocError>
     ensures { IfOk result (λ table. table ≡ spec.table_of weighted items.now) }
@@ -174,10 +162,6 @@ pub(crate) fn table(alloc: Global, weighted: bool, items: &[Item]) -> Result<Rpl
 }
 
 /// The structures that items of them alone spell.
-///
-/// # Errors
-///
-/// Want of memory.
 fn both(alloc: Global, weighted: bool, items: &[Item]) -> Result<RplTable, AllocError>
     ensures { IfOk result (λ table. table ≡ spec.both_of weighted items.now) }
 {
@@ -192,7 +176,7 @@ fn first_structures(
     weighted: bool,
     items: &[Item],
 ) -> Result<StructureList, AllocError>
-    ensures { IfOk result (λ list. list ≡ spec.first_of weighted items.now) }
+    ensures { IfOk result (λ list. list ≡ spec.list_0_structures weighted items.now) }
 {
     match past(sps_num_ref_pic_lists, items) {
         None => Ok(StructureList::new(alloc)),

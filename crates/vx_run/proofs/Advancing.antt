@@ -22,8 +22,8 @@ use Rattle.vx_merge.specs.Ends.{IsLengths}
 use Rattle.vx_run.specs.declared.stop.Stop.{Stop}
 use Rattle.vx_run.specs.declared.stop.Stop.TheVariants.{NotUnderstood, Mismatched, Refused, ReadFault, WriteFault, NoMemory}
 use Rattle.vx_run.specs.Change.{Change, Sources, sources_change, source_at}
-use Rattle.vx_run.specs.Extract.{WhereTold, BeginsWith}
-use Rattle.vx_run.specs.Rounds.{Stream, GoesOn, HasEnded, IsRound, NoneRefused, Telling, StopsIn, by_stream, by_length, stream_refused, AllEnded, AreTold, OfEach, Sees}
+use Rattle.vx_run.specs.Extract.{WhereTold, BeginsWithPictures}
+use Rattle.vx_run.specs.Rounds.{Stream, GoesOn, HasEnded, IsRound, NoneRefused, Telling, StopsIn, by_stream, by_length, stream_refused, AllEnded, AreTold, OfEachSource, Sees}
 use Rattle.vx_run.specs.Rounds.{IsRead, IsReadOut, IsReadFor, IsReadInRound, OthersAreRead}
 use Rattle.vx_run.specs.inner.Advancing.{OfAll, IsUnfed, LendsLatest, Waits, TakesOne, Came, AreWaiting, AreAdvancing, AdvancesOf, AllTake, AllEnd, GoesBy, Begin, IsFirstRefused, EndsFirst, HaltsAtSource, AdvancesAll}
 use Rattle.vx_run.proofs.Taking.{taken_below}
@@ -47,13 +47,13 @@ module _ {A : Type 0} (bytes : A → Option (List ℕ)) (faults : A → ℕ) (R 
   pub counted : (l : List A) (ss : List Stream) (taken : List (List Picture)) → AreTold R (Src l) ss → length taken ≡ length first → length ss ≡ length taken
   counted l ss taken are count = are.count ∙ sym count
 
-  pub begin_told : (l : List A) (taken : List (List Picture)) → OfAll (λ k ps. WhereTold R (At l k) (λ qs e. BeginsWith qs ps)) taken → (ss : List Stream) → AreTold R (Src l) ss → Begin ss taken
-  begin_told l taken each ss are k s ps at there = told_of bytes faults R first l ss k s (λ qs e. BeginsWith qs ps) are at (each k ps there)
+  pub begin_told : (l : List A) (taken : List (List Picture)) → OfAll (λ k ps. WhereTold R (At l k) (λ qs e. BeginsWithPictures qs ps)) taken → (ss : List Stream) → AreTold R (Src l) ss → Begin ss taken
+  begin_told l taken each ss are k s ps at there = told_of bytes faults R first l ss k s (λ qs e. BeginsWithPictures qs ps) are at (each k ps there)
 
   -- ---- all have ended
 
   module _ (l : List A) (taken : List (List Picture)) (n : ℕ) (all : AllEnd R (Src l) taken n) where
-    pub all_out : OfEach (Src l) IsReadOut
+    pub all_out : OfEachSource (Src l) IsReadOut
     all_out k within =
         let fits : k < length taken = omega (arith, within, all.taken_count) in
         let ps = some_at taken k fits in
@@ -83,16 +83,16 @@ module _ {A : Type 0} (bytes : A → Option (List ℕ)) (faults : A → ℕ) (R 
     pub take_begin : (ss : List Stream) → AreTold R (Src l) ss → Begin ss taken
     take_begin = begin_told l taken taken_begin
       where
-        taken_begin : OfAll (λ k ps. WhereTold R (At l k) (λ qs e. BeginsWith qs ps)) taken
+        taken_begin : OfAll (λ k ps. WhereTold R (At l k) (λ qs e. BeginsWithPictures qs ps)) taken
         taken_begin k ps there =
             let fits : k < length feeds = omega (arith, slice_get_within taken k ps there, all.feeds_count, all.taken_count) in
             let f = some_at feeds k fits in
             came_begin bytes faults R first l k f.0 ps false (all.each k f.0 ps f.1 there)
 
-    pub take_read : OfEach (Src l) IsRead
+    pub take_read : OfEachSource (Src l) IsRead
     take_read k within = let t = taker k within in takes_read bytes faults R first l k t.0 t.1 t.2
 
-    pub take_for : OfEach (Src l) (IsReadFor R (n + 1))
+    pub take_for : OfEachSource (Src l) (IsReadFor R (n + 1))
     take_for k within = let t = taker k within in takes_for bytes faults R first l k n t.0 t.1 t.3 t.2
 
     -- the round of the pictures that are lent is that of the streams
@@ -141,7 +141,7 @@ module _ {A : Type 0} (bytes : A → Option (List ℕ)) (faults : A → ℕ) (R 
         let ps = some_at taken k fitting in
         (f.0, ps.0, ps.1, came_at k f.0 ps.0 f.1 ps.1)
 
-    come_begin : OfAll (λ k ps. WhereTold R (At l k) (λ qs e. BeginsWith qs ps)) taken
+    come_begin : OfAll (λ k ps. WhereTold R (At l k) (λ qs e. BeginsWithPictures qs ps)) taken
     come_begin k ps there =
         let within : k < length first = omega (arith, slice_get_within taken k ps there, adv.taken_count) in
         let fits : k < length feeds = omega (arith, within, adv.feeds_count) in
@@ -175,7 +175,7 @@ module _ {A : Type 0} (bytes : A → Option (List ℕ)) (faults : A → ℕ) (R 
     flag_cases true = inl refl
     flag_cases false = inr refl
 
-    all_in : OfEach (Src l) (IsReadInRound R n)
+    all_in : OfEachSource (Src l) (IsReadInRound R n)
     all_in j within = let c = comer j within in came_in bytes faults R first l j n c.0 c.1 (get_or ended j false) (adv.rounds j c.1 c.2) c.3
 
     -- the lowest that has ended, where another one hasn't
@@ -206,7 +206,7 @@ module _ {A : Type 0} (bytes : A → Option (List ℕ)) (faults : A → ℕ) (R 
   -- ---- all sources
 
   -- none was read yet
-  pub unread : OfEach (Src first) IsRead
+  pub unread : OfEachSource (Src first) IsRead
   unread k within = untouched_read (At first k) refl
 
   -- none was taken yet
@@ -325,7 +325,7 @@ module _ {A : Type 0} (bytes : A → Option (List ℕ)) (faults : A → ℕ) (R 
       read : IsRead (At l' j)
       before_k : j < k → IsReadInRound R n (At l' j)
       behind_k : k < j → IsReadFor R n (At l' j)
-      begin : (qs : List Picture) → slice_get taken j ≡ Some qs → WhereTold R (At l' j) (λ ws e. BeginsWith ws qs)
+      begin : (qs : List Picture) → slice_get taken j ≡ Some qs → WhereTold R (At l' j) (λ ws e. BeginsWithPictures ws qs)
       keeps : j < k → WhereTold R (At l' j) (λ ws e. let s : Stream = record { pictures = ws; ending = e } in GoesOn n s ⊎ HasEnded n s)
 
     other_at : (j : ℕ) → j < length first → j ≢ k → IsOther j
@@ -342,7 +342,7 @@ module _ {A : Type 0} (bytes : A → Option (List ℕ)) (faults : A → ℕ) (R 
                 read = came_read bytes faults R first l' j g.0 qs.0 (get_or ended j false) came;
                 before_k = λ before. came_in bytes faults R first l' j n g.0 qs.0 (get_or ended j false) (adv.rounds j qs.0 qs.1) came;
                 behind_k = λ behind. absurd (omega (arith, behind, earlier));
-                begin = λ ws was b xs e told are. subst (λ (x : List Picture). BeginsWith xs x) (once ws was) (came_begin bytes faults R first l' j g.0 qs.0 (get_or ended j false) came b xs e told are);
+                begin = λ ws was b xs e told are. subst (λ (x : List Picture). BeginsWithPictures xs x) (once ws was) (came_begin bytes faults R first l' j g.0 qs.0 (get_or ended j false) came b xs e told are);
                 keeps = λ before b xs e told are.
                     subst (λ (m : ℕ). let s : Stream = record { pictures = xs; ending = e } in GoesOn m s ⊎ HasEnded m s) (adv.rounds j qs.0 qs.1) (came_kept bytes faults R first l' j g.0 qs.0 (get_or ended j false) came b xs e told are);
               }
@@ -353,7 +353,7 @@ module _ {A : Type 0} (bytes : A → Option (List ℕ)) (faults : A → ℕ) (R 
                 read = waits_read bytes faults R first l' j g.0 qs.0 waits;
                 before_k = λ before. absurd (omega (arith, before, later));
                 behind_k = λ behind. waits_for bytes faults R first l' j n g.0 qs.0 (adv.rounds j qs.0 qs.1) waits;
-                begin = λ ws was b xs e told are. subst (λ (x : List Picture). BeginsWith xs x) (once ws was) (waits_begin bytes faults R first l' j g.0 qs.0 waits b xs e told are);
+                begin = λ ws was b xs e told are. subst (λ (x : List Picture). BeginsWithPictures xs x) (once ws was) (waits_begin bytes faults R first l' j g.0 qs.0 waits b xs e told are);
                 keeps = λ before. absurd (omega (arith, before, later));
               }
         ]
@@ -371,15 +371,15 @@ module _ {A : Type 0} (bytes : A → Option (List ℕ)) (faults : A → ℕ) (R 
       λ behind. (other_at j within (λ same. omega (arith, same, behind))).behind_k behind,
     )
 
-    begins_all : OfAll (λ j qs. WhereTold R (At l' j) (λ ws e. BeginsWith ws qs)) taken
+    begins_all : OfAll (λ j qs. WhereTold R (At l' j) (λ ws e. BeginsWithPictures ws qs)) taken
     begins_all j qs was =
         let within : j < length first = omega (arith, slice_get_within taken j qs was, adv.taken_count) in
         elim (where_is j k) [
           | inl earlier ↦ (other_at j within (λ same. omega (arith, same, earlier))).begin qs was
           | inr (inl same) ↦
               let was_ : slice_get taken k ≡ Some qs = subst (λ (i : ℕ). slice_get taken i ≡ Some qs) same was in
-              let here : WhereTold R (At l' k) (λ ws e. BeginsWith ws qs) = λ b xs e told are. subst (λ (x : List Picture). BeginsWith xs x) (same_Some ps qs (sym there ∙ was_)) (waits_begin bytes faults R first l k f ps waits_here b xs e told are) in
-              subst (λ (i : ℕ). WhereTold R (At l' i) (λ ws e. BeginsWith ws qs)) (sym same) here
+              let here : WhereTold R (At l' k) (λ ws e. BeginsWithPictures ws qs) = λ b xs e told are. subst (λ (x : List Picture). BeginsWithPictures xs x) (same_Some ps qs (sym there ∙ was_)) (waits_begin bytes faults R first l k f ps waits_here b xs e told are) in
+              subst (λ (i : ℕ). WhereTold R (At l' i) (λ ws e. BeginsWithPictures ws qs)) (sym same) here
           | inr (inr later) ↦ (other_at j within (λ same. omega (arith, same, later))).begin qs was
         ]
 

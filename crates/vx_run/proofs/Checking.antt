@@ -18,9 +18,10 @@ use Rattle.vx_run.specs.declared.extract.Task.{Task}
 use Rattle.vx_run.specs.declared.stop.Stop.{Stop}
 use Rattle.vx_run.specs.declared.stop.Stop.TheVariants.{NotUnderstood, Mismatched, Refused, ReadFault, WriteFault, NoMemory}
 use Rattle.vx_run.specs.Change.{Change, change, HasNoFault, HasFault, GivesFront, Gains, GainsFront}
-use Rattle.vx_run.specs.Show.{behind_unit, seen_of}
+use Rattle.vx_run.specs.Show.{behind_unit}
+use Rattle.vx_assemble.specs.Feed.{seen_of}
 use Rattle.vx_pic.specs.Sublayers.{at_most}
-use Rattle.vx_run.specs.Extract.{BreakNoRule, at_picture, by_stream, by_picture, without, WhereTold, BeginsWith, ok_text, ChecksBy}
+use Rattle.vx_run.specs.Extract.{BreakNoRule, at_picture, by_ending, by_picture, without, WhereTold, BeginsWithPictures, ok_text, ChecksBy}
 use Rattle.vx_run.specs.inner.Extracting.{HasTaken, HasTakenOne, IsTask, HasChecked, AdvancesOn, ChecksOne, CountsBy}
 use Rattle.vx_run.proofs.Extracting.{no_pictures, refusal_so}
 use Rattle.vx_run.proofs.Showing.{told_at}
@@ -107,7 +108,7 @@ module _ {A : Type 0} (left : A → Option (List ℕ)) (reads : A → ℕ) (R : 
       end.1,
       λ b qs ending told are.
           let is = end.2 b qs ending told are in
-          (e.ps, by_stream (sym is.0) (subst (λ (l : List Picture). BreakNoRule t l) (sym is.0) e.rules) (told_at ending f'.units r is.1)),
+          (e.ps, by_ending (sym is.0) (subst (λ (l : List Picture). BreakNoRule t l) (sym is.0) e.rules) (told_at ending f'.units r is.1)),
     )
 
     -- a read failed
@@ -115,7 +116,7 @@ module _ {A : Type 0} (left : A → Option (List ℕ)) (reads : A → ℕ) (R : 
     Counts-unread end = (end.0, refl, (e.ps, record { given = end.1.0; gave = end.1.1; seen = end.1.2; rules = e.rules }))
 
     -- there was no memory to go on
-    pub Counts-no_room : HasNoFault (Source s s'') × GivesFront (Source s s'') × WhereTold R (Source s s'') (λ qs ending. BeginsWith qs e.ps) → CountsBy R t (Source s s'') (Err NoMemory)
+    pub Counts-no_room : HasNoFault (Source s s'') × GivesFront (Source s s'') × WhereTold R (Source s s'') (λ qs ending. BeginsWithPictures qs e.ps) → CountsBy R t (Source s s'') (Err NoMemory)
     Counts-no_room end = (end.0, end.1)
 
 -- ---- a turn of the loop

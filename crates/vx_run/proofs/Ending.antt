@@ -10,7 +10,7 @@ use Rattle.vx_run.specs.Change.{Change, Sources, source_at, HasFault}
 use Rattle.vx_run.specs.About.{help_text, version_text, Writes}
 use Rattle.vx_run.specs.Conclusion.{Outcome, Concludes, IsOfCommand, IsMade, status_of}
 use Rattle.vx_run.specs.declared.extract.Task.{Task}
-use Rattle.vx_run.specs.Extract.{BreakNoRule, Refuses, by_stream, by_picture, without, IsExtractable, IsStatus, WhereTold, ExtractsBy, ChecksBy, task_of}
+use Rattle.vx_run.specs.Extract.{BreakNoRule, RefusesExtraction, by_ending, by_picture, without, IsExtractable, IsStatus, WhereTold, ExtractsBy, ChecksBy, task_of}
 use Rattle.vx_run.specs.Grammar.{Command, Placing, show, extract, check_extract, merge, play, check_merge, verify, trial, help, version, explain, AskFor, IsUnderstood}
 use Rattle.vx_run.specs.Trial.{EndsTrial}
 use Rattle.vx_run.specs.Run.{Does, Performs, placings_in, task_in}
@@ -22,7 +22,7 @@ use Rattle.std.proofs.lemmas.Option.{same_Some}
 use Rattle.vx_merge.specs.declared.corner.Corner.{Corner}
 use Rattle.vx_run.specs.Rounds.{Stream, WhereAllTold, most_sources, too_many, in_round}
 use Rattle.vx_run.specs.Merge.{EndsWritten, EndsOnce, IsWritable, IsMergeStatus, ChecksMergeBy, MergesBy, corner_of, corners_of}
-use Rattle.vx_run.specs.Play.{EndsPlayed, IsPlayable, IsPlayStatus, PlayEndsOnce, PlaysBy, file_regions, most_files, region_corners, region_of, too_many_files}
+use Rattle.vx_run.specs.Play.{EndsPlayed, IsPlayable, IsPlayStatus, PlayEndsOnce, PlaysBy, file_regions, most_files, region_corners, region_at_corner, too_many_files}
 use Rattle.vx_verify.specs.declared.spot.Spot.{Spot}
 use Rattle.vx_run.specs.Verify.{EndsVerified, VerifyEndsOnce, IsVerifiedMerge, IsVerifyStatus, VerifiesBy, spot_of, spots_of}
 use Rattle.vx_pic.specs.Readings.{Picture}
@@ -63,8 +63,8 @@ no_rule_of t [] before p none = none.0
 no_rule_of t (q ∷ later) before p none = no_rule_of t later before p none.1
 
 -- what is refused can't be extracted
-refuses-not : {A : Type 0} (R : Readers) (t : Task) (source : Change A) (ps : List Picture) (ending : Option Ending) (before : List Picture) (r : Refusal) (place : Where) → Refuses R t source ps ending before r place → IsExtractable t ps ending → ⊥
-refuses-not R t source ps ending before r place (by_stream all rules told) fine = let none = sym told.is ∙ fine.whole in absurd (cc)
+refuses-not : {A : Type 0} (R : Readers) (t : Task) (source : Change A) (ps : List Picture) (ending : Option Ending) (before : List Picture) (r : Refusal) (place : Where) → RefusesExtraction R t source ps ending before r place → IsExtractable t ps ending → ⊥
+refuses-not R t source ps ending before r place (by_ending all rules told) fine = let none = sym told.is ∙ fine.whole in absurd (cc)
 refuses-not R t source ps ending before r place (by_picture broken stops at) fine =
     let none = no_rule_of t broken.later before broken.picture (subst (λ (l : List Picture). BreakNoRule t l) broken.place fine.rules) in
     let some = broken.broken in
@@ -294,7 +294,7 @@ module _ {A K E : Type 0} (once : PlayEndsOnce) (R : Readers) (corners : List Co
   play-stopped (Mismatched x y) status does ends read write fits files are = absurd does
 
 many_regions : (placings : List Placing) → length (file_regions placings) ≡ length placings
-many_regions placings = length-map (corners_of placings) (region_of (region_corners placings)) ∙ length-map placings corner_of
+many_regions placings = length-map (corners_of placings) (region_at_corner (region_corners placings)) ∙ length-map placings corner_of
 
 module _ {A K : Type 0} (words : List (List ℕ)) (sources : Sources A) (out : Change K) (level : Option ℕ) (placings : List Placing) (spelled : AskFor words (play level placings)) where
   module _ (regions_few : length (region_corners placings) ≤ most_sources) (few : length placings ≤ most_files) where

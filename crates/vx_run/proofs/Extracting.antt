@@ -20,7 +20,7 @@ use Rattle.vx_pic.specs.Written.{Plan, units_of}
 use Rattle.vx_pic.specs.Resident.{units_written}
 use Rattle.vx_assemble.specs.Feed.{Feeding, EndsAtEnd, HasFed}
 use Rattle.vx_assemble.specs.Held.{HasPicture, ShowsLatest}
-use Rattle.vx_extract.specs.Extracting.{Extracting, Stands, HasSlice, Writes, WritesKept, Checks as ExtractorChecks}
+use Rattle.vx_extract.specs.Extracting.{Extracting, Stands, HasSlice, WritesPicture, WritesKept, ChecksPicture}
 use Rattle.vx_write.specs.declared.fault.WriteError.{WriteError}
 use Rattle.vx_write.specs.declared.fault.WriteError.TheVariants as errors
 use Rattle.vx_extract.specs.Rules.{is_kept, refusal_of}
@@ -30,9 +30,10 @@ use Rattle.vx_run.specs.declared.stop.Stop.{Stop}
 use Rattle.vx_run.specs.declared.stop.Stop.TheVariants.{NotUnderstood, Mismatched, Refused, ReadFault, WriteFault, NoMemory}
 use Rattle.vx_run.specs.Conclusion.{Outcome}
 use Rattle.vx_run.specs.Change.{Change, change, HasNoFault, HasFault, GivesFront, Gains}
-use Rattle.vx_run.specs.Show.{behind_unit, seen_of}
+use Rattle.vx_run.specs.Show.{behind_unit}
+use Rattle.vx_assemble.specs.Feed.{seen_of}
 use Rattle.vx_pic.specs.Sublayers.{at_most}
-use Rattle.vx_run.specs.Extract.{BreakNoRule, at_picture, by_stream, by_picture, without, WhereTold, BeginsWith, GainsExtraction, BreaksOff, ExtractsBy}
+use Rattle.vx_run.specs.Extract.{BreakNoRule, at_picture, by_ending, by_picture, without, WhereTold, BeginsWithPictures, GainsExtraction, BreaksOff, ExtractsBy}
 use Rattle.vx_run.specs.ReadAgain.{IsReadAgain}
 use Rattle.vx_run.specs.inner.Extracting.{stop_at, ChecksOne, HaveSlices, HasTaken, HasTakenOne, IsTask, TakenIsReadAgain, HasExtracted, AdvancesOn, ExtractsOne}
 use Rattle.vx_run.proofs.Gained.{Gains-nothing, Gains-then}
@@ -157,7 +158,7 @@ module _ {A K : Type 0} (left : A → Option (List ℕ)) (reads : A → ℕ) (ta
       q = parts_of one.picture
 
       -- it is written, or left out
-      pub HasExtracted-more : TakenIsReadAgain R t → Writes q e.done x' (taken o') (taken o'') (writes o') (writes o'') (Ok tt) → HasExtracted R t (Source s s'') (Sink o o'') f' x' (n + 1)
+      pub HasExtracted-more : TakenIsReadAgain R t → WritesPicture q e.done x' (taken o') (taken o'') (writes o') (writes o'') (Ok tt) → HasExtracted R t (Source s s'') (Sink o o'') f' x' (n + 1)
       HasExtracted-more reads_again wrote =
           let fine : refusal_of t.target t.tid q ≡ None = sym (refusal_so t x' q task) ∙ wrote.0 in
           let kept = subst (λ (k : ℕ). WritesKept (is_kept k q) q e.done x' (taken o') (taken o'')) task.tid wrote.2 in
@@ -175,7 +176,7 @@ module _ {A K : Type 0} (left : A → Option (List ℕ)) (reads : A → ℕ) (ta
           }
 
       -- it breaks a rule
-      pub Extracts-broken : (r : Refusal) → Writes q e.done x' (taken o') (taken o'') (writes o') (writes o'') (Err (errors.Refused r)) → ExtractsBy R t (Source s s'') (Sink o o'') (Err (Refused r (at_picture n)))
+      pub Extracts-broken : (r : Refusal) → WritesPicture q e.done x' (taken o') (taken o'') (writes o') (writes o'') (Err (errors.Refused r)) → ExtractsBy R t (Source s s'') (Sink o o'') (Err (Refused r (at_picture n)))
       Extracts-broken r wrote =
           let broken : refusal_of t.target t.tid q ≡ Some r = sym (refusal_so t x' q task) ∙ wrote.0 in
           let gained : Gains (Sink o o'') (written (units_written e.done)) = record { kept = wrote.2 ∙ e.gained.kept; gained = subst (λ (b : Option (List ℕ)). Appends (taken o) b (written (units_written e.done))) (sym wrote.1) e.gained.gained } in (
@@ -191,7 +192,7 @@ module _ {A K : Type 0} (left : A → Option (List ℕ)) (reads : A → ℕ) (ta
           )
 
       -- there was no memory for it
-      pub Extracts-unheld : Writes q e.done x' (taken o') (taken o'') (writes o') (writes o'') (Err errors.Memory) → ExtractsBy R t (Source s s'') (Sink o o'') (Err NoMemory)
+      pub Extracts-unheld : WritesPicture q e.done x' (taken o') (taken o'') (writes o') (writes o'') (Err errors.Memory) → ExtractsBy R t (Source s s'') (Sink o o'') (Err NoMemory)
       Extracts-unheld wrote =
           let gained : Gains (Sink o o'') (written (units_written e.done)) = record { kept = wrote.3 ∙ e.gained.kept; gained = subst (λ (b : Option (List ℕ)). Appends (taken o) b (written (units_written e.done))) (sym wrote.2) e.gained.gained } in (
             one.taken.kept,
@@ -207,7 +208,7 @@ module _ {A K : Type 0} (left : A → Option (List ℕ)) (reads : A → ℕ) (ta
           )
 
       -- a write failed
-      pub Extracts-cut : Writes q e.done x' (taken o') (taken o'') (writes o') (writes o'') (Err errors.SinkFailed) → ExtractsBy R t (Source s s'') (Sink o o'') (Err WriteFault)
+      pub Extracts-cut : WritesPicture q e.done x' (taken o') (taken o'') (writes o') (writes o'') (Err errors.SinkFailed) → ExtractsBy R t (Source s s'') (Sink o o'') (Err WriteFault)
       Extracts-cut wrote =
           let fine : refusal_of t.target t.tid q ≡ None = sym (refusal_so t x' q task) ∙ wrote.0 in
           let kept : is_kept t.tid q ≡ true = subst (λ (k : ℕ). is_kept k q ≡ true) task.tid wrote.1 in
@@ -262,7 +263,7 @@ module _ {A K : Type 0} (left : A → Option (List ℕ)) (reads : A → ℕ) (ta
       end.1,
       λ b qs ending told are.
           let is = end.2 b qs ending told are in
-          (e.ps, by_stream (sym is.0) (subst (λ (l : List Picture). BreakNoRule t l) (sym is.0) e.rules) (told_at ending f'.units r is.1), gains_so_far),
+          (e.ps, by_ending (sym is.0) (subst (λ (l : List Picture). BreakNoRule t l) (sym is.0) e.rules) (told_at ending f'.units r is.1), gains_so_far),
     )
 
     -- a read failed
@@ -274,7 +275,7 @@ module _ {A K : Type 0} (left : A → Option (List ℕ)) (reads : A → ℕ) (ta
     )
 
     -- there was no memory to go on
-    pub Extracts-no_room : HasNoFault (Source s s'') × GivesFront (Source s s'') × WhereTold R (Source s s'') (λ qs ending. BeginsWith qs e.ps) → ExtractsBy R t (Source s s'') (Sink o o') (Err NoMemory)
+    pub Extracts-no_room : HasNoFault (Source s s'') × GivesFront (Source s s'') × WhereTold R (Source s s'') (λ qs ending. BeginsWithPictures qs e.ps) → ExtractsBy R t (Source s s'') (Sink o o') (Err NoMemory)
     Extracts-no_room end = (end.0, e.gained.kept, end.1, λ b qs ending told are. (e.ps, end.2 b qs ending told are, e.rules, gains_so_far))
 
 -- ---- what an answer comes to
@@ -283,13 +284,13 @@ pub shown_is : (q : Parts) (l : List Picture) (p : Picture) (ps : List Picture) 
 shown_is q l p ps shows is = subst (λ (x : List Picture). ShowsLatest q x) is shows
 
 pub extracted_by : (p : Picture) (done : List Plan) (x : Extracting) (l l' : Option (List ℕ)) (k k' n : ℕ) (error : WriteError)
-    → Writes (parts_of p) done x l l' k k' (Err error) → ExtractsOne p done x l l' k k' n (Err (stop_at error n))
+    → WritesPicture (parts_of p) done x l l' k k' (Err error) → ExtractsOne p done x l l' k k' n (Err (stop_at error n))
 extracted_by p done x l l' k k' n (errors.Refused r) by = (by, refl)
 extracted_by p done x l l' k k' n errors.SinkFailed by = by
 extracted_by p done x l l' k k' n errors.Memory by = by
 extracted_by p done x l l' k k' n (errors.Stopped f) by = absurd by
 
-pub checked_by : (q : Parts) (x : Extracting) (n : ℕ) (error : WriteError) → ExtractorChecks q x (Err error) → ChecksOne q x n (Err (stop_at error n))
+pub checked_by : (q : Parts) (x : Extracting) (n : ℕ) (error : WriteError) → ChecksPicture q x (Err error) → ChecksOne q x n (Err (stop_at error n))
 checked_by q x n (errors.Refused r) by = (by, refl)
 checked_by q x n errors.SinkFailed by = absurd by
 checked_by q x n errors.Memory by = absurd by

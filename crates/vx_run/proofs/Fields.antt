@@ -16,7 +16,8 @@ use Rattle.vx_assemble.specs.declared.feed.FeedFault.{FeedFault}
 use Rattle.vx_assemble.specs.declared.feed.FeedFault.TheVariants as faults
 use Rattle.vx_assemble.specs.Feed.{Feeding, HasFed, Gives, GivesSeen, SeesRefused, at_bytes, at_unit, sees_at_end, IsRefusedFor, by_bytes, by_unit, at_end}
 use Rattle.vx_report.specs.FieldsLine.{fields_text}
-use Rattle.vx_run.specs.Show.{seen_of, teller, refused_field, field_of, unit_lines, told_lines}
+use Rattle.vx_run.specs.Show.{teller, refused_field, field_of, unit_lines, told_lines}
+use Rattle.vx_assemble.specs.Feed.{seen_of}
 use Rattle.vx_run.specs.inner.Showing.{seen_by, told_refused}
 use Rattle.vx_run.proofs.Lined.{all_length, read_one}
 use Rattle.vx_run.proofs.Gathering.{later_read}

@@ -12,7 +12,8 @@ use Rattle.vx_assemble.specs.Feed.{Feeding, HasFed, IsRefusedFor, by_bytes, by_u
 use Rattle.vx_run.specs.declared.stop.Stop.{Stop}
 use Rattle.vx_run.specs.declared.stop.Stop.TheVariants.{NotUnderstood, Mismatched, Refused, ReadFault, WriteFault, NoMemory}
 use Rattle.vx_run.specs.Change.{Change, Gains, GainsFront}
-use Rattle.vx_run.specs.Show.{Teller, seen_of, lines_behind, told_lines}
+use Rattle.vx_run.specs.Show.{Teller, lines_behind, told_lines}
+use Rattle.vx_assemble.specs.Feed.{seen_of}
 use Rattle.vx_run.specs.inner.Showing.{told_refused, EndsGathering, GathersNext, Gathers, HasGathered, TellsLast, WritesLines, ShowsLater}
 use Rattle.vx_run.proofs.Lined.{read_behind, read_one, units_more, lines_more, lines_one}
 

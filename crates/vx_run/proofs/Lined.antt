@@ -3,9 +3,9 @@ use Rattle.std.proofs.Common.{◌≡◌, ℕ, ◌+◌, ◌-◌, ◌≤◌, List,
 use Rattle.std.proofs.lemmas.List.{drop-append-le, length-drop, take-append-le, map-append}
 use Rattle.vx_bits.specs.declared.refusal.Refusal.{Refusal}
 use Rattle.vx_annexb.specs.ByteStream.{UnitPlace, unit_bytes, IsUnit, FollowsFrom}
-use Rattle.vx_pic.specs.Readings.{Reading, completed, pictures, current, whole_part, Current, nothing, headed, going, is_slice, Picture, is_whole}
+use Rattle.vx_pic.specs.Readings.{Reading, completed, pictures, current, picture_if_whole, Current, nothing, headed, going, is_slice, Picture, is_whole}
 use Rattle.vx_pic.specs.Rules.{Readers, reads}
-use Rattle.vx_pic.specs.Streams.{Outcome, read_on, all_read, one_more, unless_refused}
+use Rattle.vx_pic.specs.Streams.{StreamReading, read_on, all_read, one_more, unless_refused}
 use Rattle.vx_pic.specs.Bytes.{units_at}
 use Rattle.vx_pic.proofs.Going.{goes_on}
 use Rattle.vx_run.specs.Show.{Teller, shown_line, set_lines, picture_lines, told_lines, where_read, lines_behind}
@@ -19,29 +19,29 @@ head_of other (r ∷ before) = r
 -- behind units that were read so, others are read
 pub read_behind : (R : Readers) (us vs : List (List ℕ)) (before : List Reading) → read_on R [] us ≡ all_read before → read_on R [] (us ++ vs) ≡ read_on R before vs
 read_behind R us vs before is =
-    goes_on R [] us vs ∙ ap (λ (o : Outcome). unless_refused o.refusal o.before (λ after. read_on R after vs)) is
+    goes_on R [] us vs ∙ ap (λ (o : StreamReading). unless_refused o.refusal o.before (λ after. read_on R after vs)) is
 
 -- a unit that is read, and all behind it
-all_of : (x : Result Reading Refusal) (before after : List Reading) (f : List Reading → Outcome) → one_more x before f ≡ all_read after → (r : Reading) × (x ≡ Ok r) × (f (r ∷ before) ≡ all_read after)
+all_of : (x : Result Reading Refusal) (before after : List Reading) (f : List Reading → StreamReading) → one_more x before f ≡ all_read after → (r : Reading) × (x ≡ Ok r) × (f (r ∷ before) ≡ all_read after)
 all_of (Ok r) before after f is = (r, refl, is)
-all_of (Err e) before after f is = let no : Some e ≡ None = ap (λ (o : Outcome). o.refusal) is in absurd (cc)
+all_of (Err e) before after f is = let no : Some e ≡ None = ap (λ (o : StreamReading). o.refusal) is in absurd (cc)
 
 -- one more unit
 pub read_one : (R : Readers) (before : List Reading) (r : Reading) (u : List ℕ) → read_on R before (u ∷ []) ≡ all_read (r ∷ before) → reads R before u ≡ Ok r
 read_one R before r u is =
     let one = all_of (reads R before u) before (r ∷ before) (λ after. all_read after) is in
-    let same : one.0 ≡ r = ap (λ (o : Outcome). head_of r o.before) one.2 in
+    let same : one.0 ≡ r = ap (λ (o : StreamReading). head_of r o.before) one.2 in
     one.1 ∙ ap (λ (x : Reading). let y : Result Reading Refusal = Ok x in y) same
 
 -- as many readings as units
-counts : (x : Result Reading Refusal) (before after : List Reading) (f : List Reading → Outcome) (n : ℕ) → one_more x before f ≡ all_read after
+counts : (x : Result Reading Refusal) (before after : List Reading) (f : List Reading → StreamReading) (n : ℕ) → one_more x before f ≡ all_read after
     → ((b : List Reading) → f b ≡ all_read after → length after ≡ length b + n) → length after ≡ length before + (1 + n)
 counts x before after f n is rest =
     let one = all_of x before after f is in
     omega (arith, rest (one.0 ∷ before) one.2)
 
 pub read_length : (R : Readers) (before after : List Reading) (us : List (List ℕ)) → read_on R before us ≡ all_read after → length after ≡ length before + length us
-read_length R before after [] is = omega (arith, ap (λ (o : Outcome). length o.before) is)
+read_length R before after [] is = omega (arith, ap (λ (o : StreamReading). length o.before) is)
 read_length R before after (u ∷ us) is = omega (arith, counts (reads R before u) before after (λ b. read_on R b us) (length us) is (λ b same. read_length R b after us same))
 
 units_length : (b : List ℕ) (us : List UnitPlace) → length (units_at b us) ≡ length us
@@ -62,12 +62,12 @@ few_whole : (p : Picture) (w : Bool) → length (cond w (p ∷ []) []) ≤ 1
 few_whole p true = omega arith
 few_whole p false = omega arith
 
-few_parts : (c : Current) → length (whole_part c) ≤ 1
+few_parts : (c : Current) → length (picture_if_whole c) ≤ 1
 few_parts nothing = omega arith
 few_parts (headed b) = omega arith
 few_parts (going p) = few_whole p (is_whole p)
 
-few_completed : (s : Bool) (c : Current) → length (cond s (whole_part c) []) ≤ 1
+few_completed : (s : Bool) (c : Current) → length (cond s (picture_if_whole c) []) ≤ 1
 few_completed true c = few_parts c
 few_completed false c = omega arith
 
@@ -79,15 +79,15 @@ few_pictures (r ∷ before) =
 
 -- ---- lines, as the units go on
 
-more_lines : (x : Result Reading Refusal) (before after : List Reading) (f : List Reading → Outcome) (line : Reading → List ℕ) (g h : List Reading → List ℕ) (rest told : List ℕ) → one_more x before f ≡ all_read after
+more_lines : (x : Result Reading Refusal) (before after : List Reading) (f : List Reading → StreamReading) (line : Reading → List ℕ) (g h : List Reading → List ℕ) (rest told : List ℕ) → one_more x before f ≡ all_read after
     → ((b : List Reading) → f b ≡ all_read after → h b ≡ g b ++ rest) → where_read x (λ r. line r ++ h (r ∷ before)) told ≡ where_read x (λ r. line r ++ g (r ∷ before)) told ++ rest
 more_lines (Ok r) before after f line g h rest told is more = ap (λ l. line r ++ l) (more (r ∷ before) is) ∙ sym (append_assoc (line r) (g (r ∷ before)) rest)
-more_lines (Err e) before after f line g h rest told is more = let no : Some e ≡ None = ap (λ (o : Outcome). o.refusal) is in absurd (cc)
+more_lines (Err e) before after f line g h rest told is more = let no : Some e ≡ None = ap (λ (o : StreamReading). o.refusal) is in absurd (cc)
 
 -- the lines of units, and those of others behind them
 pub lines_more : (R : Readers) (T : Teller) (b : List ℕ) (before after : List Reading) (us vs : List UnitPlace) → read_on R before (units_at b us) ≡ all_read after
     → lines_behind R T b before (us ++ vs) ≡ lines_behind R T b before us ++ lines_behind R T b after vs
-lines_more R T b before after [] vs is = ap (λ (o : Outcome). lines_behind R T b o.before vs) is
+lines_more R T b before after [] vs is = ap (λ (o : StreamReading). lines_behind R T b o.before vs) is
 lines_more R T b before after (u ∷ us) vs is =
     more_lines (reads R before (unit_bytes b u)) before after (λ a. read_on R a (units_at b us)) (λ r. told_lines T b u r before)
     (λ a. lines_behind R T b a us) (λ a. lines_behind R T b a (us ++ vs)) (lines_behind R T b after vs) (T before (unit_bytes b u)) is

@@ -12,7 +12,7 @@ use Rattle.vx_pic.specs.declared.accepted.Accepted.{Accepted}
 use Rattle.vx_pic.specs.declared.accepted.Accepted.TheVariants as accepted
 use Rattle.vx_pic.specs.Sets.{sps_id, pps_id}
 use Rattle.vx_pic.specs.Readings.{Reading, dropped, vps_read, sps_read, pps_read, aps_read, messages_read, header_read, first_slice, next_slice, sequence_ended}
-use Rattle.vx_pic.specs.Readings.{stored_sps, stored_pps, Picture, Current, nothing, headed, going, current, is_whole, whole_part, completed, pictures}
+use Rattle.vx_pic.specs.Readings.{stored_sps, stored_pps, Picture, Current, nothing, headed, going, current, is_whole, picture_if_whole, completed, pictures}
 use Rattle.vx_pic.specs.Parts.{Parts, slice_part, parts_of}
 use Rattle.vx_pic.specs.Rules.{Readers}
 use Rattle.vx_pic.specs.Told.{told_of, done_or_not}
@@ -25,7 +25,8 @@ use Rattle.vx_report.specs.PictureLine.{picture_text, picture_numbers}
 use Rattle.vx_assemble.specs.declared.feed.Taken.TheVariants.{Nal}
 use Rattle.vx_assemble.specs.Held.{items_of, ShowsLatest}
 use Rattle.vx_assemble.specs.Feed.{Feeding, HasFed, IsTold, Gives}
-use Rattle.vx_run.specs.Show.{Teller, seen_of, shown_line, set_lines, picture_lines, unit_lines, told_lines, numbers_of}
+use Rattle.vx_run.specs.Show.{Teller, shown_line, set_lines, picture_lines, unit_lines, told_lines, numbers_shown}
+use Rattle.vx_assemble.specs.Feed.{seen_of}
 use Rattle.vx_run.specs.inner.Showing.{GathersOne}
 use Rattle.vx_run.proofs.Lined.{all_length, few_pictures}
 
@@ -47,15 +48,15 @@ set_line_of_aps : (a : Aps) → set_lines (aps_read a) ≡ set_text (numbers.Aps
 unfolding set_lines
 set_line_of_aps a = refl
 
-line_of_pictures : (r : Reading) (before : List Reading) (ps : List Picture) → completed r before ≡ ps → picture_lines r before ≡ flat_map (λ p. picture_text (numbers_of (length (pictures before)) p)) ps
+line_of_pictures : (r : Reading) (before : List Reading) (ps : List Picture) → completed r before ≡ ps → picture_lines r before ≡ flat_map (λ p. picture_text (numbers_shown (length (pictures before)) p)) ps
 unfolding picture_lines
-line_of_pictures r before ps is = ap (flat_map (λ p. picture_text (numbers_of (length (pictures before)) p))) is
+line_of_pictures r before ps is = ap (flat_map (λ p. picture_text (numbers_shown (length (pictures before)) p))) is
 
 pub no_picture : (r : Reading) (before : List Reading) → completed r before ≡ [] → picture_lines r before ≡ []
 no_picture r before is = line_of_pictures r before [] is
 
-pub one_picture : (r : Reading) (before : List Reading) (p : Picture) → completed r before ≡ p ∷ [] → picture_lines r before ≡ picture_text (numbers_of (length (pictures before)) p)
-one_picture r before p is = line_of_pictures r before (p ∷ []) is ∙ append-nil (picture_text (numbers_of (length (pictures before)) p))
+pub one_picture : (r : Reading) (before : List Reading) (p : Picture) → completed r before ≡ p ∷ [] → picture_lines r before ≡ picture_text (numbers_shown (length (pictures before)) p)
+one_picture r before p is = line_of_pictures r before (p ∷ []) is ∙ append-nil (picture_text (numbers_shown (length (pictures before)) p))
 
 -- ---- a set, by what is told of it
 
@@ -106,7 +107,7 @@ done_of_slice : (p : Picture) (w : Bool) → Completes (cond w accepted.PictureD
 done_of_slice p true = (p, refl)
 done_of_slice p false = refl
 
-done_of_current : (c : Current) → Completes (done_or_not c) (whole_part c)
+done_of_current : (c : Current) → Completes (done_or_not c) (picture_if_whole c)
 done_of_current nothing = refl
 done_of_current (headed b) = refl
 done_of_current (going p) = done_of_slice p (is_whole p)
@@ -206,12 +207,12 @@ module _ (r : Reading) (before : List Reading) where
 
   -- of a picture, from its parts
   pub numbers_same : (p : Picture) (n : ℕ) (parts : Parts) → n ≡ length (pictures before) → completed r before ≡ p ∷ [] → ShowsLatest parts (pictures (r ∷ before))
-      → picture_numbers n parts ≡ numbers_of (length (pictures before)) p
+      → picture_numbers n parts ≡ numbers_shown (length (pictures before)) p
   numbers_same p n parts count done shows =
       let is : parts ≡ parts_of p = subst (λ (ps : List Picture). ShowsLatest parts (ps ++ pictures before)) done shows in
       rw (count, is, length-map p.slices (slice_part p.begun)) refl
 
-  pub picture_shown : (n : PictureNumbers) → accepted.PictureDone ≡ told_of r before → ((p : Picture) → completed r before ≡ p ∷ [] → n ≡ numbers_of (length (pictures before)) p) → picture_text n ≡ picture_lines r before
+  pub picture_shown : (n : PictureNumbers) → accepted.PictureDone ≡ told_of r before → ((p : Picture) → completed r before ≡ p ∷ [] → n ≡ numbers_shown (length (pictures before)) p) → picture_text n ≡ picture_lines r before
   picture_shown n told is =
       let done = completes accepted.PictureDone r before told in
       ap picture_text (is done.0 done.1) ∙ sym (one_picture r before done.0 done.1)

@@ -26,8 +26,8 @@ use Rattle.vx_run.specs.declared.stop.Stop.{Stop}
 use Rattle.vx_run.specs.declared.stop.Stop.TheVariants.{NotUnderstood, Mismatched, Refused, ReadFault, WriteFault, NoMemory}
 use Rattle.vx_run.specs.Change.{Change, Sources}
 use Rattle.vx_run.specs.Grammar.{texts}
-use Rattle.vx_run.specs.Merge.{AreWritten, EndsWritten, MergesBy, WrittenIsReadAgain, bytes_of, corners_of}
-use Rattle.vx_run.specs.MergeAgain.{IsMergedAgain, IsToldBy, first_of}
+use Rattle.vx_run.specs.Merge.{AreRoundsWritten, EndsWritten, MergesBy, WrittenIsReadAgain, bytes_of, corners_of}
+use Rattle.vx_run.specs.MergeAgain.{IsMergedAgain, IsToldBy, first_pictures}
 use Rattle.vx_run.specs.Rounds.{AllEnded, AreTold, IsRound, Stream, most_sources, picture_in}
 use Rattle.vx_run.specs.inner.Merging.{TakesRounds, outcome_of}
 use Rattle.vx_run.specs.inner.Placings.{IsPlacingWord, placing_in}
@@ -37,7 +37,7 @@ use Rattle.vx_run.proofs.ReadAgain.{of_source, units_stand}
 -- ---- the first pictures of a stream
 
 -- one more of them
-pub first_more : (n : ℕ) (s : Stream) (p : Picture) → picture_in n s ≡ Some p → first_of (suc n) s ≡ p ∷ first_of n s
+pub first_more : (n : ℕ) (s : Stream) (p : Picture) → picture_in n s ≡ Some p → first_pictures (suc n) s ≡ p ∷ first_pictures n s
 first_more n s p at =
     let ps : List Picture = reverse s.pictures in
     let more : take (suc n) ps ≡ take n ps ++ p ∷ [] =
@@ -45,22 +45,22 @@ first_more n s p at =
     ap (λ (l : List Picture). reverse l) more ∙ reverse-append (take n ps) (p ∷ [])
 
 -- all of them
-first_all : (n : ℕ) (s : Stream) → length s.pictures ≡ n → first_of n s ≡ s.pictures
+first_all : (n : ℕ) (s : Stream) → length s.pictures ≡ n → first_pictures n s ≡ s.pictures
 first_all n s many =
     let short : length (reverse s.pictures) ≤ n = omega (arith, many, length-reverse s.pictures) in
     ap (λ (l : List Picture). reverse l) (take_all n (reverse s.pictures) short) ∙ reverse-reverse s.pictures
 
 -- and those behind them
-pub first_front : (n : ℕ) (s : Stream) → reverse (drop n (reverse s.pictures)) ++ first_of n s ≡ s.pictures
+pub first_front : (n : ℕ) (s : Stream) → reverse (drop n (reverse s.pictures)) ++ first_pictures n s ≡ s.pictures
 first_front n s =
     let ps : List Picture = reverse s.pictures in
     sym (reverse-append (take n ps) (drop n ps)) ∙ ap (λ (l : List Picture). reverse l) (take-append-drop n ps) ∙ reverse-reverse s.pictures
 
 -- of streams that have all ended behind n rounds
-pub all_first : (n : ℕ) (ss : List Stream) → AllEnded ss n → map (first_of n) ss ≡ map (λ (s : Stream). s.pictures) ss
+pub all_first : (n : ℕ) (ss : List Stream) → AllEnded ss n → map (first_pictures n) ss ≡ map (λ (s : Stream). s.pictures) ss
 all_first n [] ended = refl
 all_first n (s ∷ ss) ended =
-    ap (λ (l : List Picture). l ∷ map (first_of n) ss) (first_all n s (ended zero s (omega arith) refl).0)
+    ap (λ (l : List Picture). l ∷ map (first_pictures n) ss) (first_all n s (ended zero s (omega arith) refl).0)
     ∙ ap (λ (l : List (List Picture)). s.pictures ∷ l) (all_first n ss (λ k t within. ended (suc k) t (omega (arith, within))))
 
 -- ---- rounds
@@ -69,8 +69,8 @@ all_first n (s ∷ ss) ended =
 pub record IsOfFirst (ss : List Stream) (n : ℕ) (round : List Parts) : Type 0 where
   pub pictures : List Picture
   pub parts : map parts_of pictures ≡ round
-  pub last : lasts (map (first_of (suc n)) ss) ≡ map (λ (q : Picture). let o : Option Picture = Some q in o) pictures
-  pub before : earlier (map (first_of (suc n)) ss) ≡ map (first_of n) ss
+  pub last : lasts (map (first_pictures (suc n)) ss) ≡ map (λ (q : Picture). let o : Option Picture = Some q in o) pictures
+  pub before : earlier (map (first_pictures (suc n)) ss) ≡ map (first_pictures n) ss
 
 picture_of : (o : Option Picture) (q : Parts) → option_map parts_of o ≡ Some q → (p : Picture) × (o ≡ Some p) × (parts_of p ≡ q)
 picture_of None q is = absurd (cc)
@@ -80,14 +80,14 @@ picture_of (Some p) q is = (p, refl, same_Some (parts_of p) q is)
 round_more : (s : Stream) (ss : List Stream) (n : ℕ) (p : Picture) (q : Parts) (round : List Parts)
     → picture_in n s ≡ Some p → parts_of p ≡ q → IsOfFirst ss n round → IsOfFirst (s ∷ ss) n (q ∷ round)
 round_more s ss n p q round at is others =
-    let more : first_of (suc n) s ≡ p ∷ first_of n s = first_more n s p at in
-    let last_ : List Picture → List (Option Picture) = λ l. slice_get l 0 ∷ lasts (map (first_of (suc n)) ss) in
-    let before_ : List Picture → List (List Picture) = λ l. drop 1 l ∷ earlier (map (first_of (suc n)) ss) in
+    let more : first_pictures (suc n) s ≡ p ∷ first_pictures n s = first_more n s p at in
+    let last_ : List Picture → List (Option Picture) = λ l. slice_get l 0 ∷ lasts (map (first_pictures (suc n)) ss) in
+    let before_ : List Picture → List (List Picture) = λ l. drop 1 l ∷ earlier (map (first_pictures (suc n)) ss) in
     record {
       pictures = p ∷ others.pictures;
       parts = ap (λ (x : Parts). x ∷ map parts_of others.pictures) is ∙ ap (λ (l : List Parts). q ∷ l) others.parts;
       last = ap last_ more ∙ ap (λ (l : List (Option Picture)). Some p ∷ l) others.last;
-      before = ap before_ more ∙ ap (λ (l : List (List Picture)). first_of n s ∷ l) others.before;
+      before = ap before_ more ∙ ap (λ (l : List (List Picture)). first_pictures n s ∷ l) others.before;
     }
 
 -- and of all
@@ -102,13 +102,13 @@ round_of (s ∷ ss) n (q ∷ round) is =
     round_more s ss n p.0 q round p.1 p.2 (round_of ss n round rest)
 
 -- before the first round there are none
-none_first : (ss : List Stream) → AllByRecursion (λ (ps : List Picture). ps ≡ []) (map (first_of 0) ss)
+none_first : (ss : List Stream) → AllByRecursion (λ (ps : List Picture). ps ≡ []) (map (first_pictures 0) ss)
 none_first [] = tt
 none_first (s ∷ ss) = (refl, none_first ss)
 
 -- rounds that are written are those of the first pictures
 merged_of : (corners : List Corner) (level : Option ℕ) (ss : List Stream) (done : List Plan)
-    → AreWritten corners level ss done → AreMerged corners level (map (first_of (length done)) ss) done
+    → AreRoundsWritten corners level ss done → AreMerged corners level (map (first_pictures (length done)) ss) done
 merged_of corners level ss [] plans = none_first ss
 merged_of corners level ss (p ∷ done) plans =
     let of = round_of ss (length done) plans.0.0 plans.0.1 in (
@@ -127,10 +127,10 @@ module _ (R : Readers) where
         let stand = units_stand units b (nat_le (length told.0) source_limit) told.1.places told.1.stream.follow in
         subst (CanBeMerged R) (sym told.1.done) (law R (units_at b told.1.places) of stand)
 
-    first_can : (n : ℕ) (ss : List Stream) → AllByRecursion (IsToldBy R) ss → AllByRecursion (CanBeMerged R) (map (first_of n) ss)
+    first_can : (n : ℕ) (ss : List Stream) → AllByRecursion (IsToldBy R) ss → AllByRecursion (CanBeMerged R) (map (first_pictures n) ss)
     first_can n [] told = tt
     first_can n (s ∷ ss) told = (
-      can_before R (reverse (drop n (reverse s.pictures))) (first_of n s) (subst (CanBeMerged R) (sym (first_front n s)) (told_can s told.0)),
+      can_before R (reverse (drop n (reverse s.pictures))) (first_pictures n s) (subst (CanBeMerged R) (sym (first_front n s)) (told_can s told.0)),
       first_can n ss told.1,
     )
 
@@ -138,10 +138,10 @@ module _ (R : Readers) where
 
 pub written_again : UnitsCanStand → PicturesCanBeMerged → MergeIsReadAgain → WrittenIsReadAgain
 written_again units can law R corners level ss done of are same told plans =
-    let sources : List (List Picture) = map (first_of (length done)) ss in
+    let sources : List (List Picture) = map (first_pictures (length done)) ss in
     let merge = law R corners level sources done of (record {
       are = are;
-      same = omega (arith, same, length-map ss (first_of (length done)));
+      same = omega (arith, same, length-map ss (first_pictures (length done)));
       can = first_can R units can of (length done) ss told;
       merged = merged_of corners level ss done plans;
     }) in
@@ -164,8 +164,8 @@ module _ (law : WrittenIsReadAgain) (R : Readers) (of : AreOfH266 R) {Z : Type 0
   abbrev corners : List Corner
   corners = corners_of (map placing_in (texts words))
 
-  again : (ss : List Stream) (done : List Plan) → AreTold R sources ss → AreWritten corners level ss done
-      → IsMergedAgain R corners (map (first_of (length done)) ss) (bytes_of done)
+  again : (ss : List Stream) (done : List Plan) → AreTold R sources ss → AreRoundsWritten corners level ss done
+      → IsMergedAgain R corners (map (first_pictures (length done)) ss) (bytes_of done)
   again ss done told plans =
       law R corners level ss done of (are_corners words spell some few) (omega (arith, many_corners words, count, told.count)) (all_told R sources ss told) plans
 

@@ -9,7 +9,7 @@ use Rattle.vx_run.specs.Conclusion.{Outcome}
 use Rattle.vx_pic.specs.Rules.{Readers}
 use Rattle.vx_run.specs.Show.{Teller, teller, Shows, ShowsBy}
 use Rattle.vx_run.specs.declared.extract.Task.{Task}
-use Rattle.vx_run.specs.Extract.{StopsBehind, Refuses, by_stream, by_picture, without, Extracts, ExtractsBy, Checks, ChecksBy}
+use Rattle.vx_run.specs.Extract.{StopsBehind, RefusesExtraction, by_ending, by_picture, without, Extracts, ExtractsBy, Checks, ChecksBy}
 use Rattle.vx_bits.specs.declared.refusal.Refusal.{Refusal}
 use Rattle.vx_pic.specs.Readings.{Picture}
 use Rattle.vx_pic.specs.Bytes.{Ending}
@@ -69,8 +69,8 @@ stops-moved R bytes faults k s s' l l' p before old new stops = record {
 }
 
 refuses-moved : {S : Type 0} (R : Readers) (bytes : S → Option (List ℕ)) (faults : S → ℕ) (k : ℕ) (t : Task) (s s' : S) (l l' : List S) (ps : List Picture) (ending : Option Ending) (before : List Picture) (r : Refusal) (place : Where)
-    → slice_get l k ≡ Some s → slice_get l' k ≡ Some s' → Refuses R t (change bytes faults s s') ps ending before r place → Refuses R t (source_at (sources_change bytes faults l l') k) ps ending before r place
-refuses-moved R bytes faults k t s s' l l' ps ending before r place old new (by_stream all rules told) = by_stream all rules told
+    → slice_get l k ≡ Some s → slice_get l' k ≡ Some s' → RefusesExtraction R t (change bytes faults s s') ps ending before r place → RefusesExtraction R t (source_at (sources_change bytes faults l l') k) ps ending before r place
+refuses-moved R bytes faults k t s s' l l' ps ending before r place old new (by_ending all rules told) = by_ending all rules told
 refuses-moved R bytes faults k t s s' l l' ps ending before r place old new (by_picture b stops at) = by_picture b (stops-moved R bytes faults k s s' l l' b.picture before old new stops) at
 refuses-moved R bytes faults k t s s' l l' ps ending before r place old new (without all empty whole end is at) = without all empty whole (rw new end) is at
 

@@ -18,8 +18,8 @@ use Rattle.vx_merge.proofs.Verdicts.{verdict_one}
 use Rattle.vx_run.specs.declared.stop.Stop.{Stop}
 use Rattle.vx_run.specs.declared.stop.Stop.TheVariants.{Refused}
 use Rattle.vx_run.specs.Conclusion.{Outcome}
-use Rattle.vx_run.specs.Rounds.{Stream, picture_in, GoesOn, HasEnded, IsRefused, OfStream, IsRound, NoneRefused, Telling, StopsIn, by_stream, by_length, by_round, EndsIn, in_round, AllEnded}
-use Rattle.vx_run.specs.Merge.{AreWritten, merge_telling, EndsOnce}
+use Rattle.vx_run.specs.Rounds.{Stream, picture_in, GoesOn, HasEnded, IsRefusedStream, OfStream, IsRound, NoneRefused, Telling, StopsIn, by_stream, by_length, by_round, EndsIn, in_round, AllEnded}
+use Rattle.vx_run.specs.Merge.{AreRoundsWritten, merge_telling, EndsOnce}
 use Rattle.vx_run.proofs.Indexed.{some_at}
 
 -- ---- lists
@@ -38,13 +38,13 @@ some_once {A = A} (x ∷ xs) (y ∷ ys) same =
 goes_or_ends : (n : ℕ) (s : Stream) → GoesOn n s → HasEnded n s → ⊥
 goes_or_ends n s goes ends = omega (arith, goes, ends.0)
 
-goes_or_refused : (n : ℕ) (e : Ending) (s : Stream) → GoesOn n s → IsRefused n e s → ⊥
+goes_or_refused : (n : ℕ) (e : Ending) (s : Stream) → GoesOn n s → IsRefusedStream n e s → ⊥
 goes_or_refused n e s goes refused = omega (arith, goes, refused.0)
 
-ends_or_refused : (n : ℕ) (e : Ending) (s : Stream) → HasEnded n s → IsRefused n e s → ⊥
+ends_or_refused : (n : ℕ) (e : Ending) (s : Stream) → HasEnded n s → IsRefusedStream n e s → ⊥
 ends_or_refused n e s ends refused = let no = sym ends.1 ∙ refused.1 in absurd (cc)
 
-kept_or_refused : (n : ℕ) (e : Ending) (s : Stream) → GoesOn n s ⊎ HasEnded n s → IsRefused n e s → ⊥
+kept_or_refused : (n : ℕ) (e : Ending) (s : Stream) → GoesOn n s ⊎ HasEnded n s → IsRefusedStream n e s → ⊥
 kept_or_refused n e s (inl goes) refused = goes_or_refused n e s goes refused
 kept_or_refused n e s (inr ends) refused = ends_or_refused n e s ends refused
 
@@ -99,10 +99,10 @@ module _ (t : Telling) (ss : List Stream) (some : 0 < length ss) where
   done_or_stopped n stop all (by_round round is told) = let s = some_at ss 0 some in goes_or_ends n s.0 (round_there ss n round 0 s.0 is s.1) (all 0 s.0 some s.1)
 
   -- the first stream that is refused is one
-  stream_first : (n j k : ℕ) (e : Ending) → NoneRefused k ss n → OfStream ss j (IsRefused n e) → j < k → ⊥
+  stream_first : (n j k : ℕ) (e : Ending) → NoneRefused k ss n → OfStream ss j (IsRefusedStream n e) → j < k → ⊥
   stream_first n j k e none of before = kept_or_refused n e of.0 (none j of.0 before of.1) of.2
 
-  same_ending : (n j k : ℕ) (e d : Ending) → OfStream ss j (IsRefused n e) → OfStream ss k (IsRefused n d) → j ≡ k → e ≡ d
+  same_ending : (n j k : ℕ) (e d : Ending) → OfStream ss j (IsRefusedStream n e) → OfStream ss k (IsRefusedStream n d) → j ≡ k → e ≡ d
   same_ending n j k e d of other same =
       let s = same_stream ss k of.0 other.0 (subst (λ (i : ℕ). slice_get ss i ≡ Some of.0) same of.1) other.1 in
       same_Some e d (sym of.2.1 ∙ ap (λ (s_ : Stream). s_.ending) s ∙ other.2.1)
@@ -230,7 +230,7 @@ module _ (one : MergedIsOne) (corners : List Corner) (level : Option ℕ) where
 
 pub ends_once : MergedIsOne → EndsOnce
 ends_once one corners level ss done other a b some p q =
-    ends_at_one ss some (λ n. Passes corners level) (AreWritten corners level ss) (λ x rest are. are)
+    ends_at_one ss some (λ n. Passes corners level) (AreRoundsWritten corners level ss) (λ x rest are. are)
     (λ n round rest x y passes others. same_plan one corners level round rest x y passes.is others.is)
     (merge_telling corners level) (λ rest. told_none one corners level rest (length rest)) (λ rest. told_once one corners level rest (length rest))
     done other a b p q

@@ -15,10 +15,10 @@ use Rattle.vx_pic.specs.Resident.{planned_of}
 use Rattle.vx_pic.specs.Rules.{Readers}
 use Rattle.vx_pic.specs.Written.{Plan}
 use Rattle.vx_merge.specs.declared.corner.Corner.{Corner}
-use Rattle.vx_merge.specs.Joins.{CanStart, StartsAt, joined}
+use Rattle.vx_merge.specs.Joins.{CanStart, JudgesJoin, after_end_of_sequence}
 use Rattle.vx_merge.specs.Merging.{AreCorners, Passes}
 use Rattle.vx_merge.specs.Rounds.{no_picture, picture_at}
-use Rattle.vx_play.specs.Scheduled.{files_of}
+use Rattle.vx_play.specs.Scheduled.{files_of_region}
 use Rattle.vx_again.specs.Played.{PlayedCanBeMerged}
 use Rattle.vx_again.specs.Sources.{CanBeMerged, PicturesCanBeMerged}
 use Rattle.vx_again.specs.Streams.{AreMerged, earlier, lasts}
@@ -27,7 +27,7 @@ use Rattle.vx_run.specs.declared.stop.Stop.TheVariants.{NotUnderstood, Mismatche
 use Rattle.vx_run.specs.Change.{Change, Sources}
 use Rattle.vx_run.specs.Conclusion.{Outcome}
 use Rattle.vx_run.specs.Merge.{bytes_of}
-use Rattle.vx_run.specs.MergeAgain.{IsMergedAgain, IsToldBy, first_of}
+use Rattle.vx_run.specs.MergeAgain.{IsMergedAgain, IsToldBy, first_pictures}
 use Rattle.vx_run.specs.Play.{ArePlayed, ArePlayedOf, EndsPlayed, PlayedIsReadAgain, PlaysBy, begins_in, file_in, is_join, marked, pictures_in, played_first, played_whole, region_stream, region_streams}
 use Rattle.vx_run.specs.Rounds.{AreTold, GoesOn, IsRound, Stream, picture_in}
 use Rattle.vx_run.specs.inner.Playing.{PlaysRounds}
@@ -44,12 +44,12 @@ as_played b p = cond b (after_end p) p
 
 marked_parts : (b : Bool) (ps : List Picture) → map parts_of (map (as_played b) ps) ≡ marked b (map parts_of ps)
 marked_parts true [] = refl
-marked_parts true (p ∷ ps) = ap (λ (l : List Parts). joined (parts_of p) ∷ l) (marked_parts true ps)
+marked_parts true (p ∷ ps) = ap (λ (l : List Parts). after_end_of_sequence (parts_of p) ∷ l) (marked_parts true ps)
 marked_parts false [] = refl
 marked_parts false (p ∷ ps) = ap (λ (l : List Parts). parts_of p ∷ l) (marked_parts false ps)
 
 -- the first ones of a stream that goes on with another one
-first_many : (n : ℕ) (s : Stream) → n ≤ length s.pictures → length (first_of n s) ≡ n
+first_many : (n : ℕ) (s : Stream) → n ≤ length s.pictures → length (first_pictures n s) ≡ n
 first_many n s within =
     let ps : List Picture = reverse s.pictures in
     omega (arith, within, length-reverse s.pictures, length-reverse (take n ps), length-take-le n ps (omega (arith, within, length-reverse s.pictures)))
@@ -88,29 +88,29 @@ module _ (joins : ℕ → Bool) where
       ∙ ap (λ (l : List (Option Picture)). Some (as_played (joins n) q) ∷ l) (played_last n sources round many.1 rest)
 
   -- before the first round there are none
-  none_played : (ss : List Stream) → AllByRecursion (λ (ps : List Picture). ps ≡ []) (map (played joins) (map (first_of 0) ss))
+  none_played : (ss : List Stream) → AllByRecursion (λ (ps : List Picture). ps ≡ []) (map (played joins) (map (first_pictures 0) ss))
   none_played [] = tt
   none_played (s ∷ ss) = (refl, none_played ss)
 
   -- in a round each stream has a picture
-  goes_on : (ss : List Stream) (n : ℕ) (round : List Parts) → IsRound ss n round → AllByRecursion (λ (ps : List Picture). length ps ≡ suc n) (map (first_of (suc n)) ss)
+  goes_on : (ss : List Stream) (n : ℕ) (round : List Parts) → IsRound ss n round → AllByRecursion (λ (ps : List Picture). length ps ≡ suc n) (map (first_pictures (suc n)) ss)
   goes_on ss n round is = firsts ss (λ k s at. round_there ss n round k s is at)
     where
-      firsts : (ts : List Stream) → ((k : ℕ) (s : Stream) → slice_get ts k ≡ Some s → GoesOn n s) → AllByRecursion (λ (ps : List Picture). length ps ≡ suc n) (map (first_of (suc n)) ts)
+      firsts : (ts : List Stream) → ((k : ℕ) (s : Stream) → slice_get ts k ≡ Some s → GoesOn n s) → AllByRecursion (λ (ps : List Picture). length ps ≡ suc n) (map (first_pictures (suc n)) ts)
       firsts [] each = tt
       firsts (t ∷ ts) each = (first_many (suc n) t (omega (arith, each zero t refl)), firsts ts (λ k. each (suc k)))
 
   -- rounds that are played are those of the first pictures
   played_of : (corners : List Corner) (level : Option ℕ) (ss : List Stream) (done : List Plan) → ArePlayed corners level joins ss done
-      → AreMerged corners level (map (played joins) (map (first_of (length done)) ss)) done
+      → AreMerged corners level (map (played joins) (map (first_pictures (length done)) ss)) done
   played_of corners level ss [] plans = none_played ss
   played_of corners level ss (p ∷ done) plans =
       let n = length done in
       let of = round_of ss n plans.0.0 plans.0.1 in
-      let sources : List (List Picture) = map (first_of (suc n)) ss in
+      let sources : List (List Picture) = map (first_pictures (suc n)) ss in
       let parts : marked (joins n) plans.0.0 ≡ map parts_of (map (as_played (joins n)) of.pictures)
       = ap (marked (joins n)) (sym of.parts) ∙ sym (marked_parts (joins n) of.pictures) in
-      let before : earlier (map (played joins) sources) ≡ map (played joins) (map (first_of n) ss)
+      let before : earlier (map (played joins) sources) ≡ map (played joins) (map (first_pictures n) ss)
       = played_before sources ∙ ap (λ (l : List (List Picture)). map (played joins) l) of.before in (
         (
           map (as_played (joins n)) of.pictures,
@@ -142,7 +142,7 @@ can_start q never = record {
   ref = stays_false _ (λ isnt. never (λ can. isnt can.ref));
 }
 
-each_starts : (corners : List Corner) (round : List Parts) → StartsAt true corners round None → (k : ℕ) → k < length corners → CanStart (picture_at round k)
+each_starts : (corners : List Corner) (round : List Parts) → JudgesJoin true corners round None → (k : ℕ) → k < length corners → CanStart (picture_at round k)
 each_starts corners round (inl none) k within = can_start (picture_at round k) (none.0 k within)
 each_starts corners round (inr first) k within = absurd (cc)
 
@@ -164,29 +164,29 @@ round_picture (t ∷ ss) n (q ∷ round) (suc k) s is at =
 
 module _ (corners : List Corner) (level : Option ℕ) (joins : ℕ → Bool) (ss : List Stream) (count : length ss ≡ length corners) where
   -- the first pictures of a stream may come there
-  starts_there : (done : List Plan) → ArePlayed corners level joins ss done → (k : ℕ) (s : Stream) → slice_get ss k ≡ Some s → StartWhere joins (first_of (length done) s)
+  starts_there : (done : List Plan) → ArePlayed corners level joins ss done → (k : ℕ) (s : Stream) → slice_get ss k ≡ Some s → StartWhere joins (first_pictures (length done) s)
   starts_there [] plans k s at = tt
   starts_there (p ∷ done) plans k s at =
       let n = length done in
       let pic = round_picture ss n plans.0.0 k s plans.0.1 at in
-      let long : length (first_of n s) ≡ n = let goes = round_there ss n plans.0.0 k s plans.0.1 at in first_many n s (omega (arith, goes)) in
+      let long : length (first_pictures n s) ≡ n = let goes = round_there ss n plans.0.0 k s plans.0.1 at in first_many n s (omega (arith, goes)) in
       subst (StartWhere joins) (sym (first_more n s pic.0 pic.1)) (
         λ is. start n plans.0.0 k pic.0 (omega (arith, count, slice_get_within ss k s at)) (ap joins (sym long) ∙ is) plans.0.2.starts pic.2,
         starts_there done plans.1 k s at,
       )
     where
-      start : (n : ℕ) (round : List Parts) (k : ℕ) (p : Picture) → k < length corners → joins n ≡ true → StartsAt (joins n) corners (marked (joins n) round) None
+      start : (n : ℕ) (round : List Parts) (k : ℕ) (p : Picture) → k < length corners → joins n ≡ true → JudgesJoin (joins n) corners (marked (joins n) round) None
           → slice_get round k ≡ Some (parts_of p) → Starts p
       start n round k p within is starts there =
-          let by : StartsAt true corners (map joined round) None = subst (λ (b : Bool). StartsAt b corners (marked b round) None) is starts in
-          let at_ : slice_get (map joined round) k ≡ Some (joined (parts_of p)) = slice_get-map joined round k ∙ ap (option_map joined) there in
-          let can : CanStart (joined (parts_of p))
-          = subst CanStart (get_or_from_slice_get (map joined round) k (joined (parts_of p)) no_picture at_) (each_starts corners (map joined round) by k within) in
+          let by : JudgesJoin true corners (map after_end_of_sequence round) None = subst (λ (b : Bool). JudgesJoin b corners (marked b round) None) is starts in
+          let at_ : slice_get (map after_end_of_sequence round) k ≡ Some (after_end_of_sequence (parts_of p)) = slice_get-map after_end_of_sequence round k ∙ ap (option_map after_end_of_sequence) there in
+          let can : CanStart (after_end_of_sequence (parts_of p))
+          = subst CanStart (get_or_from_slice_get (map after_end_of_sequence round) k (after_end_of_sequence (parts_of p)) no_picture at_) (each_starts corners (map after_end_of_sequence round) by k within) in
           record { clvss = can.clvss; tid = can.tid; ref = can.ref }
 
 -- a round in which a file of a region begins is one
 module _ (count : ℕ) (regions : List ℕ) (files : List Stream) where
-  region_joined : (k : ℕ) → k < count → AreJoined (is_join count regions files) (pictures_in files (files_of regions k))
+  region_joined : (k : ℕ) → k < count → AreJoined (is_join count regions files) (pictures_in files (files_of_region regions k))
   region_joined k within = record {
     first = refl;
     begun = λ n some begins.
@@ -222,19 +222,19 @@ module _ (R : Readers) (units : UnitsCanStand) (pictures : PicturesCanBeMerged) 
     abbrev ss : List Stream
     ss = region_streams (length corners) regions files
 
-    first_can : (k : ℕ) (s : Stream) → slice_get ss k ≡ Some s → CanBeMerged R (played joins (first_of (length done) s))
-    first_can k s at = of_each (length corners) regions files (λ (t : Stream). StartWhere joins (first_of (length done) t) → CanBeMerged R (played joins (first_of (length done) t))) k s at
+    first_can : (k : ℕ) (s : Stream) → slice_get ss k ≡ Some s → CanBeMerged R (played joins (first_pictures (length done) s))
+    first_can k s at = of_each (length corners) regions files (λ (t : Stream). StartWhere joins (first_pictures (length done) t) → CanBeMerged R (played joins (first_pictures (length done) t))) k s at
         (λ within starts.
         let n = length done in
-        let js = files_of regions k in
+        let js = files_of_region regions k in
         let t = region_stream files js in
-        law R joins (pictures_in files js) (reverse (drop n (reverse t.pictures))) (first_of n t) (region_joined (length corners) regions files k within) (region_can js) (sym (first_front n t)) starts)
+        law R joins (pictures_in files js) (reverse (drop n (reverse t.pictures))) (first_pictures n t) (region_joined (length corners) regions files k within) (region_can js) (sym (first_front n t)) starts)
         (starts_there corners level joins ss (many_streams (length corners) regions files) done plans k s at)
 
     all_can : AllByRecursion (CanBeMerged R) (played_first (length corners) regions files (length done))
     all_can = each ss first_can
       where
-        each : (ts : List Stream) → ((k : ℕ) (s : Stream) → slice_get ts k ≡ Some s → CanBeMerged R (played joins (first_of (length done) s))) → AllByRecursion (CanBeMerged R) (map (played joins) (map (first_of (length done)) ts))
+        each : (ts : List Stream) → ((k : ℕ) (s : Stream) → slice_get ts k ≡ Some s → CanBeMerged R (played joins (first_pictures (length done) s))) → AllByRecursion (CanBeMerged R) (map (played joins) (map (first_pictures (length done)) ts))
         each [] can = tt
         each (t ∷ ts) can = (can zero t refl, each ts (λ k. can (suc k)))
 
@@ -246,7 +246,7 @@ played_again units pictures can law R corners level regions files done of are to
     let ss : List Stream = region_streams (length corners) regions files in
     let merge = law R corners level (played_first (length corners) regions files (length done)) done of (record {
       are = are;
-      same = omega (arith, many_streams (length corners) regions files, length-map ss (first_of (length done)), length-map (map (first_of (length done)) ss) (played joins));
+      same = omega (arith, many_streams (length corners) regions files, length-map ss (first_pictures (length done)), length-map (map (first_pictures (length done)) ss) (played joins));
       can = all_can R units pictures can of files told corners level regions done plans;
       merged = played_of joins corners level ss done plans;
     }) in

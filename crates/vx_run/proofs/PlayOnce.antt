@@ -11,7 +11,7 @@ use Rattle.vx_merge.specs.Written.{MergedIsOne}
 use Rattle.vx_run.specs.declared.stop.Stop.{Stop}
 use Rattle.vx_run.specs.declared.stop.Stop.TheVariants.{Refused}
 use Rattle.vx_run.specs.Play.{ArePlayedOf, PassesWhere, PlayEndsOnce, is_join, marked, play_telling, refused_file, region_streams}
-use Rattle.vx_play.specs.Scheduled.{files_of}
+use Rattle.vx_play.specs.Scheduled.{files_of_region}
 use Rattle.vx_run.specs.Rounds.{in_round}
 use Rattle.vx_merge.proofs.Verdicts.{verdict_one}
 use Rattle.vx_run.proofs.Once.{barred_once, ends_at_one, passes_or_barred, same_plan}
@@ -52,7 +52,7 @@ module _ (one : MergedIsOne) (corners : List Corner) (level : Option ℕ) (joins
 pub play_once : MergedIsOne → PlayEndsOnce
 play_once one corners level regions files done other a b some p q =
     let joins : ℕ → Bool = is_join (length corners) regions files in
-    let refused : ℕ → ℕ = λ k. refused_file files (files_of regions k) in
+    let refused : ℕ → ℕ = λ k. refused_file files (files_of_region regions k) in
     ends_at_one (region_streams (length corners) regions files) (omega (arith, some, many_streams (length corners) regions files))
     (λ n round rest x. PassesWhere (joins n) corners level (marked (joins n) round) rest x) (ArePlayedOf corners level regions files) (λ x rest are. are)
     (λ n round rest x y passes others. same_plan one corners level (marked (joins n) round) rest x y passes.passes.is others.passes.is)

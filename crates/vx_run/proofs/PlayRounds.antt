@@ -15,7 +15,7 @@ use Rattle.vx_write.specs.declared.fault.WriteError.{WriteError}
 use Rattle.vx_write.specs.declared.fault.WriteError.TheVariants as errors
 use Rattle.vx_merge.specs.declared.corner.Corner.{Corner}
 use Rattle.vx_merge.specs.Merging.{Merging, Stands}
-use Rattle.vx_play.specs.Scheduled.{Scheduled, HasMoved, HasStayed, files_of, count_of as regions_in}
+use Rattle.vx_play.specs.Scheduled.{Scheduled, HasMoved, HasStayed, files_of_region, regions_counted}
 use Rattle.vx_run.specs.declared.stop.Stop.{Stop}
 use Rattle.vx_run.specs.Change.{Change, Sources, change, sources_change}
 use Rattle.vx_run.specs.declared.stop.Stop.TheVariants.{NotUnderstood, Mismatched, Refused, ReadFault, WriteFault, NoMemory}
@@ -71,12 +71,12 @@ module _ {A : Type 0} (bytes : A → Option (List ℕ)) (faults : A → ℕ) (R 
   -- a region that was at its place goes on from there
   pub goes_from : (l l' : List A) (s s' : Scheduled) (k at : ℕ) (f f' : Feeding) (passed : List (List Picture)) (own : List Picture) (result : Result Bool Stop) → s'.regions ≡ s.regions → slice_index s'.gone k ≡ slice_index s.gone k
       → IsPlaced R (Src l) s k f passed own
-      → (IsAt R (Src l) (files_of s'.regions k) f passed own → AreFew passed own → length passed ≡ slice_index s'.gone k → GoesOn R (Src l') (files_of s'.regions k) (slice_index s'.gone k) at f' passed own result)
-      → GoesOn R (Src l') (files_of s.regions k) (slice_index s.gone k) at f' passed own result
+      → (IsAt R (Src l) (files_of_region s'.regions k) f passed own → AreFew passed own → length passed ≡ slice_index s'.gone k → GoesOn R (Src l') (files_of_region s'.regions k) (slice_index s'.gone k) at f' passed own result)
+      → GoesOn R (Src l') (files_of_region s.regions k) (slice_index s.gone k) at f' passed own result
   goes_from l l' s s' k at f f' passed own result regions gone placed goes =
-      subst (λ (n : ℕ). GoesOn R (Src l') (files_of s.regions k) n at f' passed own result) gone
-      (subst (λ (r : List ℕ). GoesOn R (Src l') (files_of r k) (slice_index s'.gone k) at f' passed own result) regions
-      (goes (subst (λ (r : List ℕ). IsAt R (Src l) (files_of r k) f passed own) (sym regions) placed.0) placed.1 (placed.2 ∙ sym gone)))
+      subst (λ (n : ℕ). GoesOn R (Src l') (files_of_region s.regions k) n at f' passed own result) gone
+      (subst (λ (r : List ℕ). GoesOn R (Src l') (files_of_region r k) (slice_index s'.gone k) at f' passed own result) regions
+      (goes (subst (λ (r : List ℕ). IsAt R (Src l) (files_of_region r k) f passed own) (sym regions) placed.0) placed.1 (placed.2 ∙ sym gone)))
 
 -- ---- all regions
 
@@ -112,18 +112,18 @@ module _ {A K : Type 0} (bytes : A → Option (List ℕ)) (faults : A → ℕ) (
   plays_so regions files l o' outcome same plays = subst (λ (r : List ℕ). PlaysRounds R corners level r (sources_change bytes faults first l) (change taken_ writes o o') outcome) same plays
 
   -- a schedule before the first round
-  pub play_begins : (files : List ℕ) (s : Scheduled) → s ≡ record { regions = files; gone = replicate (regions_in files) 0; last = None } → length files ≡ length first → regions_in files ≡ length corners
+  pub play_begins : (files : List ℕ) (s : Scheduled) → s ≡ record { regions = files; gone = replicate (regions_counted files) 0; last = None } → length files ≡ length first → regions_counted files ≡ length corners
       → (feeds : List Feeding) (m : Merging) → length feeds ≡ length corners → OfAll (λ k f. IsUnfed f) feeds → Stands m [] → HasPlayed R corners level (sources_change bytes faults first first) (change taken_ writes o o) s feeds m 0
   play_begins files s is many enough feeds m count unfed stands =
       subst (λ (x : Scheduled). HasPlayed R corners level (sources_change bytes faults first first) (change taken_ writes o o) x feeds m 0) (sym is)
       (played_none bytes faults taken_ writes R first o corners level begun many enough feeds m count (λ k f there. (
-        at_first bytes faults R first (files_of files k) f (unfed k f there),
+        at_first bytes faults R first (files_of_region files k) f (unfed k f there),
         record { own_few = omega arith; passed_few = omega arith },
-        sym (get_or-replicate (regions_in files) k 0 0 (omega (arith, slice_get_within feeds k f there, count, enough))),
+        sym (get_or-replicate (regions_counted files) k 0 0 (omega (arith, slice_get_within feeds k f there, count, enough))),
       )) stands)
     where
       begun : Scheduled
-      begun = record { regions = files; gone = replicate (regions_in files) 0; last = None }
+      begun = record { regions = files; gone = replicate (regions_counted files) 0; last = None }
 
 -- and their corners are these
 pub plays_of : {A K : Type 0} (R : Readers) (sources : Sources A) (out : Change K) (corners own : List Corner) (level : Option ℕ) (regions files : List ℕ) (outcome : Outcome) → corners ≡ own → regions ≡ files → PlaysRounds R corners level regions sources out outcome

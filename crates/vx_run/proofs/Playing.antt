@@ -24,17 +24,17 @@ use Rattle.vx_merge.specs.declared.corner.Corner.{Corner}
 use Rattle.vx_merge.specs.declared.ended.Lengths.TheVariants as lengths
 use Rattle.vx_merge.specs.declared.ended.Lengths.TheVariants.{AllGo, Differ}
 use Rattle.vx_merge.specs.Ends.{IsLengths}
-use Rattle.vx_merge.specs.Joins.{joined, IsBarredWhere}
+use Rattle.vx_merge.specs.Joins.{after_end_of_sequence, IsBarredWhere}
 use Rattle.vx_merge.specs.Merging.{Merging, SameTask, Stands}
-use Rattle.vx_play.specs.Scheduled.{Scheduled, files_of, count_of as regions_in}
+use Rattle.vx_play.specs.Scheduled.{Scheduled, files_of_region, regions_counted}
 use Rattle.vx_run.specs.declared.merge.Work.TheVariants.{Write}
 use Rattle.vx_run.specs.declared.stop.Stop.{Stop}
 use Rattle.vx_run.specs.declared.stop.Stop.TheVariants.{NotUnderstood, Mismatched, Refused, ReadFault, WriteFault, NoMemory}
 use Rattle.vx_run.specs.Change.{Change, Sources, change, sources_change, source_at, Gains}
 use Rattle.vx_run.specs.Conclusion.{Outcome}
 use Rattle.vx_run.specs.Merge.{bytes_of, length_refused, GainsInto}
-use Rattle.vx_run.specs.Play.{ArePlayedFor, ArePlayedInRound, ArePlayedOf, ComesAt, EndsPlayed, IsBehind, OthersArePlayed, PassesWhere, at_file, at_round, begins_in, count_of, is_join, marked, pictures_in, play_telling, region_stream, region_streams, refused_file}
-use Rattle.vx_run.specs.Rounds.{Stream, picture_in, AllEnded, AreTold, GoesOn, HasEnded, IsRead, IsReadOut, IsRound, NoneRefused, OfEach, StopsIn, by_round, by_stream, behind_units, in_round}
+use Rattle.vx_run.specs.Play.{ArePlayedFor, ArePlayedInRound, ArePlayedOf, ComesAt, EndsPlayed, IsBehind, OthersArePlayed, PassesWhere, at_file, at_played_round, begins_in, count_of, is_join, marked, pictures_in, play_telling, region_stream, region_streams, refused_file}
+use Rattle.vx_run.specs.Rounds.{Stream, picture_in, AllEnded, AreTold, GoesOn, HasEnded, IsRead, IsReadOut, IsRound, NoneRefused, OfEachSource, StopsIn, by_round, by_stream, behind_units, in_round}
 use Rattle.vx_run.specs.inner.Playing.{AdvancesRegions, AllRead, HasPlayed, HasTakenSo, IsPlaced, PlaysRound, PlaysRounds, StopsAt, Takes, Went, WentOn, WritesRound}
 use Rattle.vx_run.proofs.Advancing.{each_holds, length_stops, unread}
 use Rattle.vx_run.proofs.Gained.{Gains-nothing}
@@ -53,7 +53,7 @@ module _ {K : Type 0} (taken : K → Option (List ℕ)) (writes : K → ℕ) (o 
   -- it was written behind the others
   wrote_one : (joins : Bool) → Wrote joins (Ok tt) → (p : Plan) × PassesWhere joins m.corners m.level (marked joins round) done p × Stands m (p ∷ done) × Gains (change taken writes o o'') (bytes_of (p ∷ done))
   wrote_one true did =
-      let one = did_one taken writes o o' o'' m (map joined round) done Write gained did.1 in
+      let one = did_one taken writes o o' o'' m (map after_end_of_sequence round) done Write gained did.1 in
       (one.0, record { starts = did.0; passes = one.1 }, one.2, one.3)
   wrote_one false did =
       let one = did_one taken writes o o' o'' m round done Write gained did in
@@ -61,18 +61,18 @@ module _ {K : Type 0} (taken : K → Option (List ℕ)) (writes : K → ℕ) (o 
 
   -- nothing was, for a rule or a limit
   wrote_barred : (joins : Bool) (r : Refusal) → Wrote joins (Err (errors.Refused r)) → Gains (change taken writes o o'') (bytes_of done) × IsBarredWhere joins m.corners m.level (marked joins round) done r
-  wrote_barred true r did = (did_nothing taken writes o o' o'' m (map joined round) done Write gained (did.0, did.1), did.2)
+  wrote_barred true r did = (did_nothing taken writes o o' o'' m (map after_end_of_sequence round) done Write gained (did.0, did.1), did.2)
   wrote_barred false r did = (did_nothing taken writes o o' o'' m round done Write gained (did.0, did.1), inr (refl, did.2))
 
   -- or for want of memory
   wrote_nothing : (joins : Bool) → Wrote joins (Err errors.Memory) → Gains (change taken writes o o'') (bytes_of done)
-  wrote_nothing true did = did_nothing taken writes o o' o'' m (map joined round) done Write gained did
+  wrote_nothing true did = did_nothing taken writes o o' o'' m (map after_end_of_sequence round) done Write gained did
   wrote_nothing false did = did_nothing taken writes o o' o'' m round done Write gained did
 
   -- or a front of it was
   wrote_front : (joins : Bool) → Wrote joins (Err errors.SinkFailed) → (p : Plan) × PassesWhere joins m.corners m.level (marked joins round) done p × GainsInto (change taken writes o o'') (bytes_of done) (written (units_of p))
   wrote_front true did =
-      let one = (did_front taken writes o o' o'' m (map joined round) done Write gained did.1).1 in
+      let one = (did_front taken writes o o' o'' m (map after_end_of_sequence round) done Write gained did.1).1 in
       (one.0, record { starts = did.0; passes = one.1 }, one.2)
   wrote_front false did =
       let one = (did_front taken writes o o' o'' m round done Write gained did).1 in
@@ -99,10 +99,10 @@ none_there [] is = refl
 none_there (x ∷ xs) is = let no : false ≡ true = is in absurd (cc)
 
 -- the region of each file is one of them
-region_below : (regions : List ℕ) (j : ℕ) → j < length regions → slice_index regions j < regions_in regions
+region_below : (regions : List ℕ) (j : ℕ) → j < length regions → slice_index regions j < regions_counted regions
 region_below [] j within = absurd (omega (arith, within))
-region_below (r ∷ regions) zero within = omega (arith, le-max_left (r + 1) (regions_in regions))
-region_below (r ∷ regions) (suc j) within = omega (arith, region_below regions j (omega (arith, within)), le-max_right (r + 1) (regions_in regions))
+region_below (r ∷ regions) zero within = omega (arith, le-max_left (r + 1) (regions_counted regions))
+region_below (r ∷ regions) (suc j) within = omega (arith, region_below regions j (omega (arith, within)), le-max_right (r + 1) (regions_counted regions))
 
 -- ---- round by round
 
@@ -112,7 +112,7 @@ pub play_unmade : {A K : Type 0} (bytes : A → Option (List ℕ)) (faults : A �
 play_unmade bytes faults taken_ writes R first o corners level regions = (unread bytes faults R first, refl, λ files are. ([], tt, Gains-nothing taken_ writes o o refl))
 
 module _ {A K : Type 0} (bytes : A → Option (List ℕ)) (faults : A → ℕ) (taken_ : K → Option (List ℕ)) (writes : K → ℕ) (R : Readers) (first : List A) (o : K) (corners : List Corner) (level : Option ℕ)
-    (s : Scheduled) (many : length s.regions ≡ length first) (enough : regions_in s.regions ≡ length corners) where
+    (s : Scheduled) (many : length s.regions ≡ length first) (enough : regions_counted s.regions ≡ length corners) where
   abbrev Src : List A → Sources A
   Src l = sources_change bytes faults first l
 
@@ -126,7 +126,7 @@ module _ {A K : Type 0} (bytes : A → Option (List ℕ)) (faults : A → ℕ) (
   Comes l o' outcome = PlaysRounds R corners level s.regions (Src l) (Out o') outcome
 
   abbrev Js : ℕ → List ℕ
-  Js k = files_of s.regions k
+  Js k = files_of_region s.regions k
 
   abbrev Streams : List Stream → List Stream
   Streams files = region_streams (length corners) s.regions files
@@ -216,7 +216,7 @@ module _ {A K : Type 0} (bytes : A → Option (List ℕ)) (faults : A → ℕ) (
         others = others_so;
       }
 
-      all_read : AllRead (Src l) (Js at.k) → OfEach (Src l) IsRead
+      all_read : AllRead (Src l) (Js at.k) → OfEachSource (Src l) IsRead
       all_read here = each_source (λ j. IsRead (At l j)) (λ i within.
           let inside : i < length feeds = omega (arith, within, fits) in
           let f = some_at feeds i inside in
@@ -292,7 +292,7 @@ module _ {A K : Type 0} (bytes : A → Option (List ℕ)) (faults : A → ℕ) (
       pub play_uneven : (k : ℕ) → IsLengths ended (Differ k) → Comes l o' (Err (length_refused n k))
       play_uneven k lowest = (
         n,
-        at_round refl all_in,
+        at_played_round refl all_in,
         gained.kept,
         λ files are.
             let first_ended = flags_first (Streams files) n ended (many_flags files) (region_goes files are) (region_ends files are) k lowest in (
@@ -445,7 +445,7 @@ module _ {A K : Type 0} (bytes : A → Option (List ℕ)) (faults : A → ℕ) (
                 let f = some_at feeds k inside in
                 takes_in bytes faults R first l s.regions k (of k) (passed k) (own k) n (so k inside).0 (slice_index s.gone k) (slice_index s'.gone k) f.0 (takes_at k f.0 f.1)
 
-            all_taken : OfEach (Src l) IsRead
+            all_taken : OfEachSource (Src l) IsRead
             all_taken = each_source (λ j. IsRead (At l j)) (λ k within.
                 let inside : k < length feeds = omega (arith, within, fits) in
                 let f = some_at feeds k inside in
@@ -456,7 +456,7 @@ module _ {A K : Type 0} (bytes : A → Option (List ℕ)) (faults : A → ℕ) (
                 let none = wrote_barred taken_ writes o o' o'' m' round done gained b r did.0 in
                 let barred = barred_so m' corners level (task.corners ∙ corners_same) (task.level ∙ level_same) b (marked b round) done r none.1 in
                 subst (λ (p : Where). Comes l o'' (Err (Refused r p))) (sym did.1)
-                (n, at_round refl (λ k within. inl (for_it k within)), none.0.kept, λ files are. (done, count, barred_there r barred files are, none.0))
+                (n, at_played_round refl (λ k within. inl (for_it k within)), none.0.kept, λ files are. (done, count, barred_there r barred files are, none.0))
             play_stopped WriteFault did =
                 let part = wrote_front taken_ writes o o' o'' m' round done gained b did in
                 let p = part.0 in
@@ -481,8 +481,8 @@ module _ {A K : Type 0} (bytes : A → Option (List ℕ)) (faults : A → ℕ) (
               next_at k f there =
                   let t = takes_at k f there in
                   let inside : k < length feeds = slice_get_within feeds k f there in
-                  let js : files_of s''.regions k ≡ Js k = ap (λ (x : List ℕ). files_of x k) regions_same in
-                  let behind : IsBehind R (Src l) t.j (files_of s''.regions k) t.more = subst (λ (x : List ℕ). IsBehind R (Src l) t.j x t.more) (sym js) t.behind in
+                  let js : files_of_region s''.regions k ≡ Js k = ap (λ (x : List ℕ). files_of_region x k) regions_same in
+                  let behind : IsBehind R (Src l) t.j (files_of_region s''.regions k) t.more = subst (λ (x : List ℕ). IsBehind R (Src l) t.j x t.more) (sym js) t.behind in
                   let held = behind_count bytes faults R first l s.regions k (of k) (passed k) (own k) n (so k inside).0 t.others t.more t.same in (
                     (t.more, t.takes.one.picture ∷ t.others),
                     (
@@ -524,7 +524,7 @@ module _ {A K : Type 0} (bytes : A → Option (List ℕ)) (faults : A → ℕ) (
 -- ---- what was answered of all regions
 
 module _ {A K : Type 0} (bytes : A → Option (List ℕ)) (faults : A → ℕ) (taken_ : K → Option (List ℕ)) (writes : K → ℕ) (R : Readers) (first : List A) (o : K) (corners : List Corner) (level : Option ℕ)
-    (s : Scheduled) (many : length s.regions ≡ length first) (enough : regions_in s.regions ≡ length corners) (l l' : List A) (s' : Scheduled) (feeds fs : List Feeding) (ended : List Bool) (fits : length fs ≡ length corners)
+    (s : Scheduled) (many : length s.regions ≡ length first) (enough : regions_counted s.regions ≡ length corners) (l l' : List A) (s' : Scheduled) (feeds fs : List Feeding) (ended : List Bool) (fits : length fs ≡ length corners)
     (alike : length fs ≡ length feeds) (flags : length ended ≡ length fs) (n : ℕ) (o' : K) (m : Merging) (h : HasPlayed R corners level (sources_change bytes faults first l) (change taken_ writes o o') s feeds m n) where
   abbrev Own : Sources A
   Own = sources_change bytes faults first l'

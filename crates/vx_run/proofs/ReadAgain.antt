@@ -12,7 +12,7 @@ use Rattle.vx_sps.specs.Subpictures.{subpics_of}
 use Rattle.vx_pic.specs.Units.{is_irap_or_gdr}
 use Rattle.vx_pic.specs.Readings.{Picture, pictures}
 use Rattle.vx_pic.specs.Rules.{Readers}
-use Rattle.vx_pic.specs.Streams.{Outcome, pictures_of}
+use Rattle.vx_pic.specs.Streams.{StreamReading, pictures_of}
 use Rattle.vx_pic.specs.Bytes.{ArePictures, AreSourcePictures, units_at}
 use Rattle.vx_pic.specs.Sublayers.{KeepsStarts, at_most}
 use Rattle.vx_pic.specs.H266.{AreOfH266}
@@ -98,5 +98,5 @@ module _ (law : ExtractionReadsAgain) (R : Readers) (of : AreOfH266 R) (t : Task
   taken_again can g units readings f fed =
       let all : Bool = is_all f.reader.splitter in
       let stand = units_stand can (seen_of g) all units fed.read.stands.given in
-      let are : pictures_of R (units_at (seen_of g) units) ≡ pictures readings = ap (λ (o : Outcome). pictures o.before) fed.readings in
+      let are : pictures_of R (units_at (seen_of g) units) ≡ pictures readings = ap (λ (o : StreamReading). pictures o.before) fed.readings in
       subst Again are (of_units (units_at (seen_of g) units) stand)

@@ -8,7 +8,7 @@ use Rattle.vx_io.specs.Listed.{bytes_at}
 use Rattle.vx_pic.specs.Readings.{Picture, Reading}
 use Rattle.vx_pic.specs.Rules.{Readers}
 use Rattle.vx_assemble.specs.Feed.{Feeding, EndsAtEnd, HasFed}
-use Rattle.vx_play.specs.Scheduled.{Scheduled, files_of}
+use Rattle.vx_play.specs.Scheduled.{Scheduled, files_of_region}
 use Rattle.vx_run.specs.declared.stop.Stop.{Stop}
 use Rattle.vx_run.specs.declared.stop.Stop.TheVariants.{NoMemory}
 use Rattle.vx_run.specs.Change.{source_at, sources_change}
@@ -36,9 +36,9 @@ module _ (s s' s'' : Scheduled) (k : ℕ) (but : SameBut k s s') (is : s'' ≡ r
 
 -- ---- the file that it is at
 
-module _ (s s' : Scheduled) (k file : ℕ) (but : SameBut k s s') (is : slice_get (files_of s'.regions k) (slice_index s'.gone k) ≡ Some file) where
-  pub current_here : slice_get (files_of s.regions k) (slice_index s'.gone k) ≡ Some file
-  current_here = subst (λ (r : List ℕ). slice_get (files_of r k) (slice_index s'.gone k) ≡ Some file) but.regions is
+module _ (s s' : Scheduled) (k file : ℕ) (but : SameBut k s s') (is : slice_get (files_of_region s'.regions k) (slice_index s'.gone k) ≡ Some file) where
+  pub current_here : slice_get (files_of_region s.regions k) (slice_index s'.gone k) ≡ Some file
+  current_here = subst (λ (r : List ℕ). slice_get (files_of_region r k) (slice_index s'.gone k) ≡ Some file) but.regions is
 
   pub current_within : file < length s.regions
   current_within = (current_file s.regions k (slice_index s'.gone k) file current_here).0
@@ -49,12 +49,12 @@ module _ (s s' : Scheduled) (k file : ℕ) (but : SameBut k s s') (is : slice_ge
 
   module _ {A : Type 0} (bytes : A → Option (List ℕ)) (faults : A → ℕ) (R : Readers) (first l : List A) (src src' : A) (within : file < length l) (at : src ≡ get_or l file src) (f f' : Feeding)
       (ends : EndsAtEnd f (bytes src) → EndsAtEnd f' (bytes src')) (passed : List (List Picture)) (own : List Picture)
-      (on : IsOn R (sources_change bytes faults first l) (files_of s.regions k) (slice_index s.gone k) (slice_index s'.gone k) f passed own) where
+      (on : IsOn R (sources_change bytes faults first l) (files_of_region s.regions k) (slice_index s.gone k) (slice_index s'.gone k) f passed own) where
     abbrev After : List A
     After = slice_set l file src'
 
     abbrev Js : List ℕ
-    Js = files_of s.regions k
+    Js = files_of_region s.regions k
 
     abbrev Goes : Result Bool Stop → Type 0
     Goes result = GoesOn R (sources_change bytes faults first After) Js (slice_index s.gone k) (slice_index s'.gone k) f' passed own result

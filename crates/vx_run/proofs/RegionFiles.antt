@@ -7,7 +7,7 @@ use Rattle.std.proofs.lemmas.Option.{same_Some}
 use Rattle.vx_pic.specs.Readings.{Picture}
 use Rattle.vx_pic.specs.Rules.{Readers}
 use Rattle.vx_assemble.specs.Feed.{Feeding}
-use Rattle.vx_play.specs.Scheduled.{files_of}
+use Rattle.vx_play.specs.Scheduled.{files_of_region}
 use Rattle.vx_run.specs.Change.{Change, Sources, sources_change, source_at, IsUntouched}
 use Rattle.vx_run.specs.Play.{AreOut, AreUnread, IsBehind, IsOut}
 use Rattle.vx_run.specs.Rounds.{IsRead, IsReadOut}
@@ -39,7 +39,7 @@ module _ (regions : List ℕ) (k : ℕ) where
   from_range n a zero is = tt
   from_range n a (suc m) is = sifted n a m (Test a) refl (omega (arith, is)) (from_range n (a + 1) m (omega (arith, is)))
 
-  pub files_are : AreOfRegion regions k (length regions) 0 (files_of regions k)
+  pub files_are : AreOfRegion regions k (length regions) 0 (files_of_region regions k)
   files_are = from_range (length regions) 0 (length regions) (omega arith)
 
   -- what holds of each of them does of each file of the region
@@ -60,7 +60,7 @@ module _ (regions : List ℕ) (k : ℕ) where
           let test : Test x ≡ true = ap Test same ∙ passes in
           subst P same (subst (λ (b : Bool). AllByRecursion P (cond b (x ∷ filter Test (range_with_len (a + 1) m)) (filter Test (range_with_len (a + 1) m)))) test all_).0
 
-  pub file_has : (P : ℕ → Type 0) (j : ℕ) → j < length regions → slice_index regions j ≡ k → AllByRecursion P (files_of regions k) → P j
+  pub file_has : (P : ℕ → Type 0) (j : ℕ) → j < length regions → slice_index regions j ≡ k → AllByRecursion P (files_of_region regions k) → P j
   file_has P j within is all = one_of P 0 (length regions) j (omega arith) (omega (arith, within)) (eq-eqb (slice_index regions j) k is) all
 
 -- the i-th of them
@@ -69,8 +69,8 @@ file_at regions k n a [] i j of at = absurd (cc)
 file_at regions k n a (h ∷ js) zero j of at = subst (λ (x : ℕ). (x < n) × (slice_index regions x ≡ k)) (same_Some h j at) (of.1, of.2)
 file_at regions k n a (h ∷ js) (suc i) j of at = file_at regions k n (h + 1) js i j of.3 at
 
-pub current_file : (regions : List ℕ) (k i j : ℕ) → slice_get (files_of regions k) i ≡ Some j → (j < length regions) × (slice_index regions j ≡ k)
-current_file regions k i j at = file_at regions k (length regions) 0 (files_of regions k) i j (files_are regions k) at
+pub current_file : (regions : List ℕ) (k i j : ℕ) → slice_get (files_of_region regions k) i ≡ Some j → (j < length regions) × (slice_index regions j ≡ k)
+current_file regions k i j at = file_at regions k (length regions) 0 (files_of_region regions k) i j (files_are regions k) at
 
 -- there are no more than numbers
 pub few_files : (regions : List ℕ) (k n a : ℕ) (js : List ℕ) → AreOfRegion regions k n a js → a ≤ n → length js + a ≤ n

@@ -15,11 +15,11 @@ use Rattle.vx_assemble.specs.Feed.{Feeding}
 use Rattle.vx_merge.specs.declared.ended.Lengths.TheVariants as lengths
 use Rattle.vx_merge.specs.declared.ended.Lengths.TheVariants.{Differ}
 use Rattle.vx_merge.specs.Ends.{IsLengths}
-use Rattle.vx_play.specs.Scheduled.{files_of}
+use Rattle.vx_play.specs.Scheduled.{files_of_region}
 use Rattle.vx_run.specs.Change.{Change, Sources, sources_change, source_at, IsUntouched}
-use Rattle.vx_run.specs.Extract.{WhereTold, BeginsWith}
+use Rattle.vx_run.specs.Extract.{WhereTold, BeginsWithPictures}
 use Rattle.vx_run.specs.Play.{ArePlayedFor, ArePlayedInRound, AreOut, AreUnread, IsBehind, count_of, no_stream, pictures_in, region_stream, region_streams, refused_file}
-use Rattle.vx_run.specs.Rounds.{Stream, picture_in, AllEnded, AreTold, GoesOn, HasEnded, IsRefused}
+use Rattle.vx_run.specs.Rounds.{Stream, picture_in, AllEnded, AreTold, GoesOn, HasEnded, IsRefusedStream}
 use Rattle.vx_run.specs.inner.Advancing.{EndsFirst}
 use Rattle.vx_run.specs.inner.Playing.{Ends, IsAt, HasTakenSo, Takes}
 use Rattle.vx_run.proofs.Indexed.{any_default, earlier_stay, latest_at, some_at, where_is}
@@ -29,28 +29,28 @@ use Rattle.vx_run.proofs.Sources.{takes_begin, takes_for, waits_for}
 
 -- ---- the stream of each region
 
-pub stream_at : (count : ℕ) (regions : List ℕ) (files : List Stream) (k : ℕ) → k < count → slice_get (region_streams count regions files) k ≡ Some (region_stream files (files_of regions k))
+pub stream_at : (count : ℕ) (regions : List ℕ) (files : List Stream) (k : ℕ) → k < count → slice_get (region_streams count regions files) k ≡ Some (region_stream files (files_of_region regions k))
 stream_at count regions files k within =
-    let f : ℕ → Stream = λ i. region_stream files (files_of regions i) in
+    let f : ℕ → Stream = λ i. region_stream files (files_of_region regions i) in
     let fits : k < length (region_streams count regions files) = omega (arith, within, length-map-range_with_len f 0 count) in
     slice_get-get_or (region_streams count regions files) k no_stream fits ∙ ap (λ (s : Stream). Some s) (get_or-map-range_with_len f 0 count k k no_stream within (omega arith))
 
 pub many_streams : (count : ℕ) (regions : List ℕ) (files : List Stream) → length (region_streams count regions files) ≡ count
-many_streams count regions files = length-map-range_with_len (λ (i : ℕ). region_stream files (files_of regions i)) 0 count
+many_streams count regions files = length-map-range_with_len (λ (i : ℕ). region_stream files (files_of_region regions i)) 0 count
 
 -- what holds of each region's stream does of each stream
-pub of_each : (count : ℕ) (regions : List ℕ) (files : List Stream) (P : Stream → Type 0) (k : ℕ) (s : Stream) → slice_get (region_streams count regions files) k ≡ Some s → (k < count → P (region_stream files (files_of regions k))) → P s
+pub of_each : (count : ℕ) (regions : List ℕ) (files : List Stream) (P : Stream → Type 0) (k : ℕ) (s : Stream) → slice_get (region_streams count regions files) k ≡ Some s → (k < count → P (region_stream files (files_of_region regions k))) → P s
 of_each count regions files P k s at holds =
     let within : k < count = omega (arith, slice_get_within (region_streams count regions files) k s at, many_streams count regions files) in
-    subst P (same_Some (region_stream files (files_of regions k)) s (sym (stream_at count regions files k within) ∙ at)) (holds within)
+    subst P (same_Some (region_stream files (files_of_region regions k)) s (sym (stream_at count regions files k within) ∙ at)) (holds within)
 
 -- ---- picture n of pictures that begin so
 
-pub picture_there : (pictures xs : List Picture) (p : Picture) (n : ℕ) → BeginsWith pictures (p ∷ xs) → length xs ≡ n → slice_get (reverse pictures) n ≡ Some p
+pub picture_there : (pictures xs : List Picture) (p : Picture) (n : ℕ) → BeginsWithPictures pictures (p ∷ xs) → length xs ≡ n → slice_get (reverse pictures) n ≡ Some p
 picture_there pictures xs p n begins count =
     ap (λ (l : List Picture). slice_get (reverse l) n) begins.1 ∙ earlier_stay begins.0 (p ∷ xs) n (omega (arith, count)) ∙ latest_at p xs n count
 
-pub goes_there : (pictures xs : List Picture) (p : Picture) → BeginsWith pictures (p ∷ xs) → length xs < length pictures
+pub goes_there : (pictures xs : List Picture) (p : Picture) → BeginsWithPictures pictures (p ∷ xs) → length xs < length pictures
 goes_there pictures xs p begins = omega (arith, ap (λ (l : List Picture). length l) begins.1, length-append begins.0 (p ∷ xs))
 
 -- ---- what is told of one region
@@ -62,9 +62,9 @@ module _ {A : Type 0} (bytes : A → Option (List ℕ)) (faults : A → ℕ) (R 
   abbrev At : ℕ → Change (Option A)
   At k = source_at S k
 
-  module _ (regions : List ℕ) (k : ℕ) (of : AreOfRegion regions k (length first) 0 (files_of regions k)) (passed : List (List Picture)) (own : List Picture) (n : ℕ) (taken : length own + count_of passed ≡ n) where
+  module _ (regions : List ℕ) (k : ℕ) (of : AreOfRegion regions k (length first) 0 (files_of_region regions k)) (passed : List (List Picture)) (own : List Picture) (n : ℕ) (taken : length own + count_of passed ≡ n) where
     abbrev Js : List ℕ
-    Js = files_of regions k
+    Js = files_of_region regions k
 
     so_many : (xs : List Picture) → xs ≡ own ++ one_behind_another [] passed → length xs ≡ n
     so_many xs same = ap (λ (x : List Picture). length x) same ∙ length-append own (one_behind_another [] passed) ∙ taken
@@ -113,7 +113,7 @@ module _ {A : Type 0} (bytes : A → Option (List ℕ)) (faults : A → ℕ) (R 
     -- a file is refused
     pub cut_told : (others : List Picture) (more : List (List Picture)) (j : ℕ) (e : Ending) → IsBehind R S j Js more → others ++ one_behind_another [] more ≡ own ++ one_behind_another [] passed
         → WhereTold R (At j) (λ qs end. (qs ≡ others) × (end ≡ Some e)) → (files : List Stream) → AreTold R S files
-        → IsRefused n e (region_stream files Js) × (refused_file files Js ≡ j)
+        → IsRefusedStream n e (region_stream files Js) × (refused_file files Js ≡ j)
     cut_told others more j e behind same where_ files are =
         let told = told_cut bytes faults R first l files are regions k 0 Js more j of behind others e where_ in
         ((ap (λ (x : List Picture). length x) told.0 ∙ so_many (others ++ one_behind_another [] more) same, told.1), told.2)

@@ -10,7 +10,7 @@ use Rattle.vx_pic.specs.Readings.{Picture}
 use Rattle.vx_pic.specs.Rules.{Readers}
 use Rattle.vx_pic.proofs.Joining.{begins_where_first}
 use Rattle.vx_run.specs.Change.{Change, Sources, sources_change, source_at}
-use Rattle.vx_run.specs.Extract.{WhereTold, BeginsWith}
+use Rattle.vx_run.specs.Extract.{WhereTold, BeginsWithPictures}
 use Rattle.vx_run.specs.Play.{AreOut, IsBehind, IsOut, count_of, file_in, no_stream, pictures_in, refused_in, region_stream, refused_file}
 use Rattle.vx_run.specs.Rounds.{Stream, AreTold}
 use Rattle.vx_run.proofs.RegionFiles.{AreOfRegion, behind_of}
@@ -34,7 +34,7 @@ in_order before [] ps more = refl
 in_order before (qs ∷ passed) ps more = in_order (qs ++ before) passed ps more
 
 -- behind files and a part of the next one
-pub begins_there : (passed : List (List Picture)) (later own : List Picture) (more : List (List Picture)) → BeginsWith (one_behind_another [] (passed ++ (later ++ own) ∷ more)) (own ++ one_behind_another [] passed)
+pub begins_there : (passed : List (List Picture)) (later own : List Picture) (more : List (List Picture)) → BeginsWithPictures (one_behind_another [] (passed ++ (later ++ own) ∷ more)) (own ++ one_behind_another [] passed)
 begins_there passed later own more =
     let rest = begins_so ((later ++ own) ++ one_behind_another [] passed) more in (
       rest.0 ++ later,
@@ -88,16 +88,16 @@ module _ {A : Type 0} (bytes : A → Option (List ℕ)) (faults : A → ℕ) (R 
 
     module _ (a : ℕ) (js : List ℕ) (passed : List (List Picture)) (j : ℕ) (of : AreOfRegion regions k (length first) a js) (behind : IsBehind R S j js passed) where
       -- one more picture was taken of it: so the region's begin, and the file begins there where it is its first
-      pub told_takes : (p : Picture) (others : List Picture) → WhereTold R (At j) (λ qs e. BeginsWith qs (p ∷ others))
-          → BeginsWith (region_stream files js).pictures (p ∷ (others ++ one_behind_another [] passed))
+      pub told_takes : (p : Picture) (others : List Picture) → WhereTold R (At j) (λ qs e. BeginsWithPictures qs (p ∷ others))
+          → BeginsWithPictures (region_stream files js).pictures (p ∷ (others ++ one_behind_another [] passed))
           × (begins_file 0 (pictures_in files js) (length (others ++ one_behind_another [] passed)) ≡ is_empty others)
       told_takes p others where_ =
           let within = (behind_of bytes faults R first regions k (length first) a l js passed j of behind).1 in
-          let b = told_file j (λ qs e. BeginsWith qs (p ∷ others)) within where_ in
+          let b = told_file j (λ qs e. BeginsWithPictures qs (p ∷ others)) within where_ in
           let t = told_behind a js passed j of behind in
           let tail : List (List Picture) = cond (is_none (file_in files j).ending) (pictures_in files t.0) [] in
           let whole : pictures_in files js ≡ passed ++ (b.0 ++ p ∷ others) ∷ tail = t.1 ∙ ap (λ (x : List Picture). passed ++ x ∷ tail) b.1 in (
-            subst (λ (x : List (List Picture)). BeginsWith (one_behind_another [] x) (p ∷ (others ++ one_behind_another [] passed))) (sym whole) (begins_there passed b.0 (p ∷ others) tail),
+            subst (λ (x : List (List Picture)). BeginsWithPictures (one_behind_another [] x) (p ∷ (others ++ one_behind_another [] passed))) (sym whole) (begins_there passed b.0 (p ∷ others) tail),
             ap (λ (x : List (List Picture)). begins_file 0 x (length (others ++ one_behind_another [] passed))) whole
                 ∙ ap (λ (x : List Picture). begins_file 0 (passed ++ (b.0 ++ p ∷ others) ∷ tail) (length x)) (sym (one_more [] passed others))
                 ∙ begins_where_first passed others p b.0 tail,

@@ -4,7 +4,7 @@ use Rattle.std.specs.Prelude.{slice_index}
 use Rattle.vx_pic.specs.Readings.{Picture}
 use Rattle.vx_pic.specs.Rules.{Readers}
 use Rattle.vx_assemble.specs.Feed.{Feeding}
-use Rattle.vx_play.specs.Scheduled.{Scheduled, files_of}
+use Rattle.vx_play.specs.Scheduled.{Scheduled, files_of_region}
 use Rattle.vx_run.specs.Change.{Sources, sources_change}
 use Rattle.vx_run.specs.inner.Playing.{ArePlaced, GoesOn, IsPlaced, SameBut, Takes, Went, WentOn}
 use Rattle.vx_run.proofs.Indexed.{get_set_there, set_other, set_there, where_is}
@@ -18,15 +18,15 @@ module _ {A : Type 0} (bytes : A → Option (List ℕ)) (faults : A → ℕ) (R 
   -- ---- where another region's files were read
 
   module _ (l l' : List A) (regions : List ℕ) (k : ℕ) (stay : (i : ℕ) → slice_index regions i ≡ k → slice_get l' i ≡ slice_get l i) where
-    takes_stay : (was at : ℕ) (f : Feeding) (passed : List (List Picture)) (own : List Picture) → Takes R (Src l) (files_of regions k) was at f passed own → Takes R (Src l') (files_of regions k) was at f passed own
+    takes_stay : (was at : ℕ) (f : Feeding) (passed : List (List Picture)) (own : List Picture) → Takes R (Src l) (files_of_region regions k) was at f passed own → Takes R (Src l') (files_of_region regions k) was at f passed own
     takes_stay was at f passed own t =
         let of = files_are regions k in
-        let mine = (behind_of bytes faults R first regions k (length regions) 0 l (files_of regions k) t.more t.j of t.behind).2 in
+        let mine = (behind_of bytes faults R first regions k (length regions) 0 l (files_of_region regions k) t.more t.j of t.behind).2 in
         record {
           more = t.more;
           others = t.others;
           j = t.j;
-          behind = behind_stay bytes faults R first l l' regions k (length regions) 0 (files_of regions k) t.more t.j of (λ i other. stay i) t.behind;
+          behind = behind_stay bytes faults R first l l' regions k (length regions) 0 (files_of_region regions k) t.more t.j of (λ i other. stay i) t.behind;
           takes = came_still bytes faults R first l l' t.j (stay t.j mine) f t.others false t.takes;
           few = t.few;
           below = t.below;
@@ -35,11 +35,11 @@ module _ {A : Type 0} (bytes : A → Option (List ℕ)) (faults : A → ℕ) (R 
           stays = t.stays;
         }
 
-    goes_stay : (go : Bool) (was at : ℕ) (f : Feeding) (passed : List (List Picture)) (own : List Picture) → GoesOn R (Src l) (files_of regions k) was at f passed own (Ok go) → GoesOn R (Src l') (files_of regions k) was at f passed own (Ok go)
+    goes_stay : (go : Bool) (was at : ℕ) (f : Feeding) (passed : List (List Picture)) (own : List Picture) → GoesOn R (Src l) (files_of_region regions k) was at f passed own (Ok go) → GoesOn R (Src l') (files_of_region regions k) was at f passed own (Ok go)
     goes_stay true was at f passed own t = takes_stay was at f passed own t
     goes_stay false was at f passed own e = record {
       more = e.more;
-      out = out_stay bytes faults R first l l' regions k (length regions) 0 (files_of regions k) e.more (files_are regions k) stay e.out;
+      out = out_stay bytes faults R first l l' regions k (length regions) 0 (files_of_region regions k) e.more (files_are regions k) stay e.out;
       same = e.same;
     }
 
@@ -64,14 +64,14 @@ module _ {A : Type 0} (bytes : A → Option (List ℕ)) (faults : A → ℕ) (R 
           let other : i ≢ k = λ same. omega (arith, same, before) in
           let was = on.went i g before (sym (set_other feeds i k f' other) ∙ there) in
           subst (λ (b : Bool). Went R (Src l') s s'' i g passed own (Ok (not b))) (sym (alike i other))
-          (subst (λ (at : ℕ). GoesOn R (Src l') (files_of s.regions i) (slice_index s.gone i) at g (passed i) (own i) (Ok (not (get_or ended i false)))) (sym (but.others i other))
+          (subst (λ (at : ℕ). GoesOn R (Src l') (files_of_region s.regions i) (slice_index s.gone i) at g (passed i) (own i) (Ok (not (get_or ended i false)))) (sym (but.others i other))
           (goes_stay l l' s.regions i (stay_at i other) (not (get_or ended i false)) (slice_index s.gone i) (slice_index s'.gone i) g (passed i) (own i) was))
 
       stays_still : (i : ℕ) (g : Feeding) → k + 1 ≤ i → slice_get (slice_set feeds k f') i ≡ Some g → IsPlaced R (Src l') s i g (passed i) (own i)
       stays_still i g behind there =
           let other : i ≢ k = λ same. omega (arith, same, behind) in
           let was = on.stays i g (omega (arith, behind)) (sym (set_other feeds i k f' other) ∙ there) in
-          (at_stay bytes faults R first l l' s.regions i (length s.regions) 0 (files_of s.regions i) g (passed i) (own i) (files_are s.regions i) (stay_at i other) was.0, was.1, was.2)
+          (at_stay bytes faults R first l l' s.regions i (length s.regions) 0 (files_of_region s.regions i) g (passed i) (own i) (files_are s.regions i) (stay_at i other) was.0, was.1, was.2)
 
       pub went_before : WentOn R (Src l') s s'' (slice_set feeds k f') flags passed own k (k + 1)
       went_before = record { went = went_still; stays = stays_still }

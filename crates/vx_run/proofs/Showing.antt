@@ -21,7 +21,8 @@ use Rattle.vx_assemble.specs.Feed.{Feeding, HasFed, IsOpen, Gives, UnitIsRefused
 use Rattle.vx_run.specs.declared.stop.Stop.{Stop}
 use Rattle.vx_run.specs.declared.stop.Stop.TheVariants.{NotUnderstood, Mismatched, Refused, ReadFault, WriteFault, NoMemory}
 use Rattle.vx_run.specs.Change.{Change, change, Gains, GainsFront}
-use Rattle.vx_run.specs.Show.{Teller, seen_of, shown_lines, lines_behind, read_len, behind_unit, IsShown, IsToldAt, ShowsFront, ShowsBy}
+use Rattle.vx_run.specs.Show.{Teller, shown_lines, lines_behind, read_len, behind_unit, IsShown, IsToldAt, ShowsFront, ShowsBy}
+use Rattle.vx_assemble.specs.Feed.{seen_of}
 use Rattle.vx_run.specs.inner.Showing.{EndsBy, SeesNone, ReadsOn, TellsLast, told_refused, WritesLines, ShowsLater, HasShown, HasReached, left_to_read}
 use Rattle.vx_run.proofs.Gained.{Gains-nothing, Gains-then, GainsFront-then, GainsFront-append}
 use Rattle.vx_run.proofs.Lined.{lines_more, lines_refused}

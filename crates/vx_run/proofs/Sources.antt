@@ -20,7 +20,7 @@ use Rattle.vx_assemble.specs.Feed.{Feeding, EndsAtEnd, HasFed}
 use Rattle.vx_run.specs.declared.stop.Stop.{Stop}
 use Rattle.vx_run.specs.declared.stop.Stop.TheVariants.{Refused, ReadFault, NoMemory}
 use Rattle.vx_run.specs.Change.{Change, Sources, change, sources_change, source_at, IsUntouched, HasNoFault, HasFault}
-use Rattle.vx_run.specs.Extract.{WhereTold, BeginsWith}
+use Rattle.vx_run.specs.Extract.{WhereTold, BeginsWithPictures}
 use Rattle.vx_run.specs.Rounds.{Stream, picture_in, GoesOn, HasEnded, IsRound, behind_units, AreTold, IsRead, IsReadFor, IsReadInRound, Sees}
 use Rattle.vx_run.specs.inner.Extracting.{HasTaken, HasTakenOne}
 use Rattle.vx_run.specs.inner.Advancing.{OfAll, Begin, IsUnfed, AdvancesOf, LendsLatest, Waits, TakesOne, EndsBehind, Came, AreWaiting, AllTake, so_far}
@@ -37,7 +37,7 @@ abbrev pub stream_of : List Picture → Stream
 stream_of ps = record { pictures = ps; ending = None }
 
 -- their first rounds are the same
-part_stays : (r : ℕ) (s : Stream) (ps : List Picture) → r < length ps → BeginsWith s.pictures ps → part_in r s ≡ part_in r (stream_of ps)
+part_stays : (r : ℕ) (s : Stream) (ps : List Picture) → r < length ps → BeginsWithPictures s.pictures ps → part_in r s ≡ part_in r (stream_of ps)
 part_stays r s ps within begins =
     ap (λ (l : List Picture). option_map parts_of (slice_get (reverse l) r)) begins.1 ∙ ap (option_map parts_of) (earlier_stay begins.0 ps r within)
 
@@ -116,7 +116,7 @@ module _ {A : Type 0} (bytes : A → Option (List ℕ)) (faults : A → ℕ) (R 
     waits_for n f [] many w = (waits_read f [] w, inl (sym many, w.1))
     waits_for n f (p ∷ ps) many w = one_for n f ps (omega (arith, many)) w.0
 
-    pub waits_begin : (f : Feeding) (ps : List Picture) → Waits R (At l k) f ps → WhereTold R (At l k) (λ qs e. BeginsWith qs ps)
+    pub waits_begin : (f : Feeding) (ps : List Picture) → Waits R (At l k) f ps → WhereTold R (At l k) (λ qs e. BeginsWithPictures qs ps)
     waits_begin f ps w = taken_first Left Count R (slice_get first k) (slice_get l k) f ps (waits_taken f ps w)
 
     pub takes_read : (f : Feeding) (ps : List Picture) → TakesOne R (At l k) f ps → IsRead (At l k)
@@ -125,7 +125,7 @@ module _ {A : Type 0} (bytes : A → Option (List ℕ)) (faults : A → ℕ) (R 
     pub takes_for : (n : ℕ) (f : Feeding) (ps : List Picture) → length ps ≡ n → TakesOne R (At l k) f ps → IsReadFor R (n + 1) (At l k)
     takes_for n f ps many t = one_for (n + 1) f ps (omega (arith, many)) t.one
 
-    pub takes_begin : (f : Feeding) (ps : List Picture) (t : TakesOne R (At l k) f ps) → WhereTold R (At l k) (λ qs e. BeginsWith qs (t.one.picture ∷ ps))
+    pub takes_begin : (f : Feeding) (ps : List Picture) (t : TakesOne R (At l k) f ps) → WhereTold R (At l k) (λ qs e. BeginsWithPictures qs (t.one.picture ∷ ps))
     takes_begin f ps t = taken_first Left Count R (slice_get first k) (slice_get l k) f (t.one.picture ∷ ps) t.one.taken
 
     pub came_read : (f : Feeding) (ps : List Picture) (ended : Bool) → Came R (At l k) f ps ended → IsRead (At l k)
@@ -133,22 +133,22 @@ module _ {A : Type 0} (bytes : A → Option (List ℕ)) (faults : A → ℕ) (R 
     came_read f ps true came = (came.read.0, came.read.1)
 
     -- it begins with those that were taken before
-    begin_less : (qs ps : List Picture) (p : Picture) → BeginsWith qs (p ∷ ps) → BeginsWith qs ps
+    begin_less : (qs ps : List Picture) (p : Picture) → BeginsWithPictures qs (p ∷ ps) → BeginsWithPictures qs ps
     begin_less qs ps p begins = (begins.0 ++ p ∷ [], begins.1 ∙ shifted begins.0)
       where
         shifted : (later : List Picture) → later ++ p ∷ ps ≡ (later ++ p ∷ []) ++ ps
         shifted [] = refl
         shifted (q ∷ later) = ap (λ (x : List Picture). q ∷ x) (shifted later)
 
-    begin_whole : (qs ps : List Picture) → qs ≡ ps → BeginsWith qs ps
+    begin_whole : (qs ps : List Picture) → qs ≡ ps → BeginsWithPictures qs ps
     begin_whole qs ps same = ([], same)
 
-    pub came_begin : (f : Feeding) (ps : List Picture) (ended : Bool) → Came R (At l k) f ps ended → WhereTold R (At l k) (λ qs e. BeginsWith qs ps)
+    pub came_begin : (f : Feeding) (ps : List Picture) (ended : Bool) → Came R (At l k) f ps ended → WhereTold R (At l k) (λ qs e. BeginsWithPictures qs ps)
     came_begin f ps false came b qs e told are = begin_less qs ps came.one.picture (takes_begin f ps came b qs e told are)
     came_begin f ps true came b qs e told are = begin_whole qs ps (came.told b qs e told are).0
 
     -- behind them it goes on with another one, or has ended
-    longer : (qs ps : List Picture) (p : Picture) → BeginsWith qs (p ∷ ps) → length ps < length qs
+    longer : (qs ps : List Picture) (p : Picture) → BeginsWithPictures qs (p ∷ ps) → length ps < length qs
     longer qs ps p begins = omega (arith, ap (λ (x : List Picture). length x) begins.1, length_more begins.0)
       where
         length_more : (later : List Picture) → length ps < length (later ++ p ∷ ps)
@@ -214,7 +214,7 @@ module _ {A : Type 0} (bytes : A → Option (List ℕ)) (faults : A → ℕ) (R 
         let end = takes_unread Left Count R (slice_get first k) (slice_get l k) (slice_get l' k) f f' ps was at.0 in
         (end.0, record { given = end.1.0; pictures = ps; gave = end.1.1; seen = end.1.2; count = refl }, at.1)
 
-    pub step_none : Advanced (Err NoMemory) → IsRead (At l' k) × WhereTold R (At l' k) (λ qs e. BeginsWith qs ps)
+    pub step_none : Advanced (Err NoMemory) → IsRead (At l' k) × WhereTold R (At l' k) (λ qs e. BeginsWithPictures qs ps)
     step_none advanced =
         let end = takes_none Left Count R (slice_get first k) (slice_get l k) (slice_get l' k) f f' ps was (went (Err NoMemory) advanced) in
         ((end.0, end.1), end.2)
@@ -230,7 +230,7 @@ module _ {A : Type 0} (bytes : A → Option (List ℕ)) (faults : A → ℕ) (R 
     pub next : List (List Picture)
     pub waiting : AreWaiting R (Src l) feeds next (n + 1)
     pub begin : Begin (so_far next) taken
-    pub ahead : (k : ℕ) (ps : List Picture) → slice_get next k ≡ Some ps → WhereTold R (At l k) (λ qs e. BeginsWith qs ps)
+    pub ahead : (k : ℕ) (ps : List Picture) → slice_get next k ≡ Some ps → WhereTold R (At l k) (λ qs e. BeginsWithPictures qs ps)
     pub round : IsRound (so_far next) n (map (λ (f : Feeding). lent_by f.assembler) feeds)
 
   module _ (l : List A) (feeds : List Feeding) (taken : List (List Picture)) (n : ℕ) (all : AllTake R (Src l) feeds taken n) where
@@ -272,10 +272,10 @@ module _ {A : Type 0} (bytes : A → Option (List ℕ)) (faults : A → ℕ) (R 
         let same : x.before ≡ ps = same_Some x.before ps (sym x.was_ ∙ was__) in
         (x.takes.one.picture ∷ [], ap (λ (t : Stream). t.pictures) (sym m.2) ∙ x.is ∙ ap (λ (qs : List Picture). x.takes.one.picture ∷ qs) same)
 
-    next_ahead : (k : ℕ) (ps : List Picture) → slice_get picked.0 k ≡ Some ps → WhereTold R (At l k) (λ qs e. BeginsWith qs ps)
+    next_ahead : (k : ℕ) (ps : List Picture) → slice_get picked.0 k ≡ Some ps → WhereTold R (At l k) (λ qs e. BeginsWithPictures qs ps)
     next_ahead k ps there b qs e told are =
         let x = picked.2 k ps there in
-        subst (λ (x_ : List Picture). BeginsWith qs x_) (sym x.is) (takes_begin l k x.feed x.before x.takes b qs e told are)
+        subst (λ (x_ : List Picture). BeginsWithPictures qs x_) (sym x.is) (takes_begin l k x.feed x.before x.takes b qs e told are)
 
     next_part : (k : ℕ) (x y : Option Parts) → slice_get (map (part_in n) (so_far picked.0)) k ≡ Some x → slice_get (map (λ (q : Parts). let o : Option Parts = Some q in o) (map (λ (f : Feeding). lent_by f.assembler) feeds)) k ≡ Some y → x ≡ y
     next_part k x y at there =

@@ -12,10 +12,10 @@ use Rattle.vx_annexb.specs.declared.unit_reader.ReadFault.{ReadFault}
 use Rattle.vx_pic.specs.declared.accepted.Accepted.TheVariants as accepted
 use Rattle.vx_pic.specs.Readings.{Begun, Slice, Reading, Picture, pictures}
 use Rattle.vx_pic.specs.Rules.{Readers}
-use Rattle.vx_pic.specs.Streams.{Outcome, read_on, all_read, pictures_of}
+use Rattle.vx_pic.specs.Streams.{StreamReading, read_on, all_read, pictures_of}
 use Rattle.vx_pic.specs.Bytes.{Ending, units_at, ArePictures, AreSourcePictures, AreSeenPictures}
 use Rattle.vx_pic.specs.H266.{AreOfH266}
-use Rattle.vx_pic.specs.Finished.{IsSound, AreFinished}
+use Rattle.vx_pic.specs.Finished.{IsSoundPicture, AreFinished}
 use Rattle.vx_pic.specs.Written.{HeadReads}
 use Rattle.vx_pic.specs.Whole.{HasEach, subpic_slices, SubpicturesHaveSlices, SlicesAreShown}
 use Rattle.vx_pic.specs.PictureLayout.{IsLayoutAnswer}
@@ -38,8 +38,9 @@ use Rattle.vx_assemble.specs.Feed.{Feeding, EndsAtEnd, HasFed, IsRefusedFor, by_
 use Rattle.vx_assemble.specs.Held.{HasPicture, last_told}
 use Rattle.vx_assemble.proofs.Advancing.{unit_done}
 use Rattle.vx_run.specs.Change.{Change, change, HasNoFault, HasFault, GivesFront}
-use Rattle.vx_run.specs.Show.{seen_of, IsShown}
-use Rattle.vx_run.specs.Extract.{StopsBehind, WhereTold, BeginsWith}
+use Rattle.vx_run.specs.Show.{IsShown}
+use Rattle.vx_assemble.specs.Feed.{seen_of}
+use Rattle.vx_run.specs.Extract.{StopsBehind, WhereTold, BeginsWithPictures}
 use Rattle.vx_run.specs.inner.Extracting.{stop_by, AdvancesOn, HaveSlices, HasTaken, HasTakenOne}
 use Rattle.vx_run.proofs.Lined.{all_length, few_pictures, units_more}
 use Rattle.vx_run.proofs.Told.{IsGiven, all_given, first_of_given, units_of_given, refused_at, ends_by_framing, ends_by_length, ends_lacking, ends_by_unit}
@@ -54,10 +55,10 @@ follows_front b all p (u ∷ us) vs f = (f.0, f.1, follows_front b all u.end us 
 
 module _ (R : Readers) (b given : List ℕ) (us : List UnitPlace) (readings : List Reading) (qs : List Picture) (ending : Option Ending) (are : AreSourcePictures R b qs ending) where
   -- those of the units that are seen in it are the first
-  pub begins_with : (all : Bool) → IsGiven b given all → FollowsFrom (seen_of given) all 0 us → read_on R [] (units_at (seen_of given) us) ≡ all_read readings → BeginsWith qs (pictures readings)
+  pub begins_with : (all : Bool) → IsGiven b given all → FollowsFrom (seen_of given) all 0 us → read_on R [] (units_at (seen_of given) us) ≡ all_read readings → BeginsWithPictures qs (pictures readings)
   begins_with all is follow read =
       let first = first_of_given b given all us are.places are.framing is follow are.stream in
-      let here : pictures_of R (units_at (seen_of b) us) ≡ pictures readings = ap (pictures_of R) (units_of_given b given all us is follow) ∙ ap (λ (o : Outcome). pictures o.before) read in
+      let here : pictures_of R (units_at (seen_of b) us) ≡ pictures readings = ap (pictures_of R) (units_of_given b given all us is follow) ∙ ap (λ (o : StreamReading). pictures o.before) read in
       let stay = pictures_stay R (units_at (seen_of b) us) (units_at (seen_of b) first.0) in
       (stay.0, are.done ∙ ap (λ vs. pictures_of R (units_at (seen_of b) vs)) first.1 ∙ ap (pictures_of R) (units_more (seen_of b) us first.0) ∙ stay.1 ∙ ap (λ ps. stay.0 ++ ps) here)
 
@@ -74,7 +75,7 @@ module _ (R : Readers) (b given : List ℕ) (us : List UnitPlace) (readings : Li
   -- where there are no further units
   same_units : (all : Bool) → IsGiven b given all → FollowsFrom (seen_of given) all 0 us → read_on R [] (units_at (seen_of given) us) ≡ all_read readings → are.places ≡ us → qs ≡ pictures readings
   same_units all is follow read same =
-      are.done ∙ ap (λ vs. pictures_of R (units_at (seen_of b) vs)) same ∙ ap (pictures_of R) (units_of_given b given all us is follow) ∙ ap (λ (o : Outcome). pictures o.before) read
+      are.done ∙ ap (λ vs. pictures_of R (units_at (seen_of b) vs)) same ∙ ap (pictures_of R) (units_of_given b given all us is follow) ∙ ap (λ (o : StreamReading). pictures o.before) read
 
   -- up to a refusal
   pub refused_behind : (f : ReaderState) (r : Refusal) (all : Bool) → is_all f.splitter ≡ all → (f.closed ≡ Some End → all ≡ true) → (f.closed ≡ Some TooLong → (all ≡ false) × (length given ≡ source_limit + 1))
@@ -89,7 +90,7 @@ module _ (R : Readers) (b given : List ℕ) (us : List UnitPlace) (readings : Li
       (same_units all is follow read one.0, one.1)
   refused_behind f r all same end long is follow read (by_unit u) =
       let one = ends_by_unit R b given us are.places readings ending shown all u.unit r is (subst (λ (a : Bool). FollowsFrom (seen_of given) a 0 (us ++ u.unit ∷ [])) same u.follows) follow read u.refused in
-      (are.done ∙ ap (λ (o : Outcome). pictures o.before) one.2, one.0)
+      (are.done ∙ ap (λ (o : StreamReading). pictures o.before) one.2, one.0)
   refused_behind f r all same end long is follow read (at_end e) =
       let one = ends_lacking R b given us are.places readings ending shown r e.lacks (subst (λ (a : Bool). IsGiven b given a) (end e.ended) is) read e.stream in
       (same_units all is follow read one.0, one.1)
@@ -101,14 +102,14 @@ head_layout R (Some u) b first head = head.1.layout
 head_layout R None b first head = head.0.layout
 
 -- as many subpictures as the SPS says
-as_many : (R : Readers) → AreOfH266 R → (earlier : List Picture) (p : Picture) → IsSound R earlier p → length p.begun.layout.subpics ≡ subpics_of p.begun.sps
+as_many : (R : Readers) → AreOfH266 R → (earlier : List Picture) (p : Picture) → IsSoundPicture R earlier p → length p.begun.layout.subpics ≡ subpics_of p.begun.sps
 as_many R of earlier p sound =
     let s = p.begun.sps in
     let answer = subst (λ (x : Result Numbers Refusal). IsLayoutAnswer s p.begun.pps x) (head_layout R p.begun.unit p.begun sound.first sound.head) (of.layout s p.begun.pps) in
     ap (λ (n : Numbers). length n.subpics) answer.1 ∙ length-map-range_with_len (rect_of s) 0 (subpics_of s)
 
 module _ (law : SubpicturesHaveSlices) (shown : SlicesAreShown) (R : Readers) (of : AreOfH266 R) where
-  has_slice : (earlier : List Picture) (p : Picture) → IsSound R earlier p → HasEach p → (k : ℕ) → k < subpics_of p.begun.sps → HasSlice k (parts_of p)
+  has_slice : (earlier : List Picture) (p : Picture) → IsSoundPicture R earlier p → HasEach p → (k : ℕ) → k < subpics_of p.begun.sps → HasSlice k (parts_of p)
   has_slice earlier p sound each k within =
       let some = each k (omega (arith, within, as_many R of earlier p sound)) in
       let here = ap (λ (l : List SlicePart). length l) (shown (parts_of p) p k refl) in
@@ -174,10 +175,10 @@ module _ {A : Type 0} (left : A → Option (List ℕ)) (reads : A → ℕ) (R : 
   }
 
   -- those that were taken are the first ones
-  pub taken_first : (s s' : A) (f : Feeding) (ps : List Picture) → HasTaken R (Source s s') f ps → WhereTold R (Source s s') (λ qs e. BeginsWith qs ps)
+  pub taken_first : (s s' : A) (f : Feeding) (ps : List Picture) → HasTaken R (Source s s') f ps → WhereTold R (Source s s') (λ qs e. BeginsWithPictures qs ps)
   taken_first s s' f ps t b qs e told are =
       let given = is_given b t.given t.units f.reader (left s) (left s') told t.gave t.fed.read t.ended in
-      subst (λ (l : List Picture). BeginsWith qs l) t.done (begins_with R b t.given t.units t.readings qs e are (is_all f.reader.splitter) given t.fed.read.stands.given t.fed.readings)
+      subst (λ (l : List Picture). BeginsWithPictures qs l) t.done (begins_with R b t.given t.units t.readings qs e are (is_all f.reader.splitter) given t.fed.read.stands.given t.fed.readings)
 
   -- the last unit completed the last one
   pub taken_stops : (s s' : A) (f : Feeding) (ps : List Picture) (one : HasTakenOne R (Source s s') f ps) → StopsBehind R (Source s s') one.picture ps
@@ -210,7 +211,7 @@ module _ {A : Type 0} (left : A → Option (List ℕ)) (reads : A → ℕ) (R : 
   taken_slice s s' f ps one have k within =
       let t = one.taken in
       let units = units_at (seen_of t.given) t.units in
-      let are : pictures_of R units ≡ one.picture ∷ ps = ap (λ (o : Outcome). pictures o.before) t.fed.readings ∙ t.done in
+      let are : pictures_of R units ≡ one.picture ∷ ps = ap (λ (o : StreamReading). pictures o.before) t.fed.readings ∙ t.done in
       (subst (λ (l : List Picture). AllByRecursion (λ p. (j : ℕ) → j < subpics_of p.begun.sps → HasSlice j (parts_of p)) l) are (have units)).0 k within
 
   module _ (s s' s'' : A) (f f' : Feeding) (ps : List Picture) (t : HasTaken R (Source s s') f ps) where
@@ -292,7 +293,7 @@ module _ {A : Type 0} (left : A → Option (List ℕ)) (reads : A → ℕ) (R : 
 
     -- there was no memory
     pub takes_none : Advances R t.given t.units t.readings f' (left s') (left s'') (reads s') (reads s'') (Err faults.Memory)
-        → HasNoFault (Source s s'') × GivesFront (Source s s'') × WhereTold R (Source s s'') (λ qs e. BeginsWith qs ps)
+        → HasNoFault (Source s s'') × GivesFront (Source s s'') × WhereTold R (Source s s'') (λ qs e. BeginsWithPictures qs ps)
     takes_none step = (
       step.behind ∙ t.kept,
       (t.given ++ step.piece, Consumes-trans (left s) (left s') (left s'') t.given step.piece t.gave step.consumed),

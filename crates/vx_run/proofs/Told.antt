@@ -15,7 +15,8 @@ use Rattle.vx_pic.specs.Readings.{Reading}
 use Rattle.vx_pic.specs.Rules.{Readers, reads}
 use Rattle.vx_pic.specs.Streams.{read_on, all_read, stopped, one_more, lacks_slice}
 use Rattle.vx_pic.specs.Bytes.{Ending, units_at, ending_by}
-use Rattle.vx_run.specs.Show.{Teller, read_len, shown_by, seen_of, is_within, shown_lines, lines_behind, IsShown}
+use Rattle.vx_run.specs.Show.{Teller, read_len, shown_by, is_within_limit, shown_lines, lines_behind, IsShown}
+use Rattle.vx_assemble.specs.Feed.{seen_of}
 use Rattle.vx_run.proofs.Lined.{read_behind, all_length, units_more, lines_more, lines_refused, unit_within, units_on, lines_on}
 
 -- ---- bytes that go on
@@ -77,7 +78,7 @@ seen_goes_on b given all is =
     (on.0, ap seen_of is.front ∙ on.1)
 
 -- all that there is
-pub all_given : (b given : List ℕ) → IsGiven b given true → (b ≡ given) × (is_within b ≡ true)
+pub all_given : (b given : List ℕ) → IsGiven b given true → (b ≡ given) × (is_within_limit b ≡ true)
 all_given b given is =
     let whole = is.whole refl in
     let same : b ≡ given = is.front ∙ ap (λ l. given ++ l) whole.0 ∙ append-nil given in
@@ -96,20 +97,20 @@ units_of_given b given all us is f =
 
 -- Of a source whose units these are, with this ending by framing.
 abbrev pub IsOf : List ℕ → List UnitPlace → Option Refusal → Type 0
-IsOf b vs framing = IsStream (seen_of b) (is_within b) vs framing
+IsOf b vs framing = IsStream (seen_of b) (is_within_limit b) vs framing
 
 -- the units seen in what was given are the first ones
 pub first_of_given : (b given : List ℕ) (all : Bool) (us vs : List UnitPlace) (t : Option Refusal) → IsGiven b given all → FollowsFrom (seen_of given) all 0 us → IsOf b vs t → (more : List UnitPlace) × (vs ≡ us ++ more)
 first_of_given b given true us vs t is f whole =
     let same = all_given b given is in
     let follow = subst (λ (w : Bool). FollowsFrom (seen_of b) w 0 us) (sym same.1) (subst (λ (l : List ℕ). FollowsFrom (seen_of l) true 0 us) (sym same.0) f) in
-    follow_front (seen_of b) (is_within b) 0 us vs t follow whole.follow whole.behind
+    follow_front (seen_of b) (is_within_limit b) 0 us vs t follow whole.follow whole.behind
 first_of_given b given false us vs t is f whole =
     let on = seen_goes_on b given false is in
     let there = stream_exists (seen_of given) false in
     let front = follow_front (seen_of given) false 0 us there.0 there.1 f there.2.follow there.2.behind in
-    let stream = subst (λ (l : List ℕ). IsStream l (is_within b) vs t) on.1 whole in
-    let later = (stream_goes_on (seen_of given) on.0 (is_within b) there.0 vs there.1 t there.2 stream).0 in
+    let stream = subst (λ (l : List ℕ). IsStream l (is_within_limit b) vs t) on.1 whole in
+    let later = (stream_goes_on (seen_of given) on.0 (is_within_limit b) there.0 vs there.1 t there.2 stream).0 in
     (front.0 ++ later.0, later.1 ∙ ap (λ l. l ++ later.0) front.1 ∙ append_assoc us front.0 later.0)
 
 -- a refusal by framing in what was given is that of the whole
@@ -117,29 +118,29 @@ pub refused_of_given : (b given : List ℕ) (all : Bool) (us vs : List UnitPlace
 refused_of_given b given true us vs r t is stream whole =
     let same = all_given b given is in
     let here = subst (λ (w : Bool). IsStream (seen_of b) w us (Some r)) (sym same.1) (subst (λ (l : List ℕ). IsStream (seen_of l) true us (Some r)) (sym same.0) stream) in
-    let one = stream_unique (seen_of b) (is_within b) us vs (Some r) t here whole in
+    let one = stream_unique (seen_of b) (is_within_limit b) us vs (Some r) t here whole in
     (sym one.0, sym one.1)
 refused_of_given b given false us vs r t is stream whole =
     let on = seen_goes_on b given false is in
-    let here = subst (λ (l : List ℕ). IsStream l (is_within b) vs t) on.1 whole in
-    (stream_goes_on (seen_of given) on.0 (is_within b) us vs (Some r) t stream here).1 r refl
+    let here = subst (λ (l : List ℕ). IsStream l (is_within_limit b) vs t) on.1 whole in
+    (stream_goes_on (seen_of given) on.0 (is_within_limit b) us vs (Some r) t stream here).1 r refl
 
 -- all was given, and framing refuses nothing
 pub whole_of_given : (b given : List ℕ) (us vs : List UnitPlace) (t : Option Refusal) → IsGiven b given true → IsStream (seen_of given) true us None → IsOf b vs t → (vs ≡ us) × (t ≡ None)
 whole_of_given b given us vs t is stream whole =
     let same = all_given b given is in
     let here = subst (λ (w : Bool). IsStream (seen_of b) w us None) (sym same.1) (subst (λ (l : List ℕ). IsStream (seen_of l) true us None) (sym same.0) stream) in
-    let one = stream_unique (seen_of b) (is_within b) us vs None t here whole in
+    let one = stream_unique (seen_of b) (is_within_limit b) us vs None t here whole in
     (sym one.0, sym one.1)
 
 -- more was given than the limit, and framing refuses nothing before it
-pub long_of_given : (b given : List ℕ) (us vs : List UnitPlace) (t : Option Refusal) → IsGiven b given false → length given ≡ source_limit + 1 → IsStream (seen_of given) false us None → IsOf b vs t → (vs ≡ us) × (t ≡ None) × (is_within b ≡ false)
+pub long_of_given : (b given : List ℕ) (us vs : List UnitPlace) (t : Option Refusal) → IsGiven b given false → length given ≡ source_limit + 1 → IsStream (seen_of given) false us None → IsOf b vs t → (vs ≡ us) × (t ≡ None) × (is_within_limit b ≡ false)
 long_of_given b given us vs t is long stream whole =
     let same : seen_of b ≡ seen_of given = ap seen_of is.front ∙ take-append-le source_limit given is.rest (omega arith) in
     let len : length b ≡ length given + length is.rest = ap length is.front ∙ length-append given is.rest in
-    let beyond : is_within b ≡ false = lt-leb (length b) source_limit (omega (arith, len, long)) in
+    let beyond : is_within_limit b ≡ false = lt-leb (length b) source_limit (omega (arith, len, long)) in
     let here = subst (λ (w : Bool). IsStream (seen_of b) w us None) (sym beyond) (subst (λ (l : List ℕ). IsStream l false us None) (sym same) stream) in
-    let one = stream_unique (seen_of b) (is_within b) us vs None t here whole in
+    let one = stream_unique (seen_of b) (is_within_limit b) us vs None t here whole in
     (sym one.0, sym one.1, beyond)
 
 -- ---- the ending
@@ -173,8 +174,8 @@ module _ (R : Readers) (b given : List ℕ) (us vs : List UnitPlace) (before : L
       let whole : read_on R [] (units_at (seen_of b) vs) ≡ all_read before = ap (λ l. read_on R [] (units_at (seen_of b) l)) one.0 ∙ ap (λ l. read_on R [] l) (units_of_given b given all us is stream.follow) ∙ read in (
         one.0,
         shown.ends
-            ∙ ap (λ o. ending_by (is_within b) shown.framing o) whole
-            ∙ ap (λ t. ending_by (is_within b) t (all_read before)) one.1
+            ∙ ap (λ o. ending_by (is_within_limit b) shown.framing o) whole
+            ∙ ap (λ t. ending_by (is_within_limit b) t (all_read before)) one.1
             ∙ ap (λ n. refused_at n r) (all_length R (seen_of given) us before read),
       )
 
@@ -186,8 +187,8 @@ module _ (R : Readers) (b given : List ℕ) (us vs : List UnitPlace) (before : L
       let whole : read_on R [] (units_at (seen_of b) vs) ≡ all_read before = ap (λ l. read_on R [] (units_at (seen_of b) l)) one.0 ∙ ap (λ l. read_on R [] l) (units_of_given b given false us is stream.follow) ∙ read in (
         one.0,
         shown.ends
-            ∙ ap (λ o. ending_by (is_within b) shown.framing o) whole
-            ∙ ap (λ t. ending_by (is_within b) t (all_read before)) one.1
+            ∙ ap (λ o. ending_by (is_within_limit b) shown.framing o) whole
+            ∙ ap (λ t. ending_by (is_within_limit b) t (all_read before)) one.1
             ∙ ap (λ w. ending_by w None (all_read before)) one.2
             ∙ ap (λ n. refused_at n (Limit LONG_SOURCE)) (all_length R (seen_of given) us before read)
             ∙ ap (λ x. refused_at (length us) x) (sym limit),
@@ -201,8 +202,8 @@ module _ (R : Readers) (b given : List ℕ) (us vs : List UnitPlace) (before : L
       let whole : read_on R [] (units_at (seen_of b) vs) ≡ all_read before = ap (λ l. read_on R [] (units_at (seen_of b) l)) one.0 ∙ ap (λ l. read_on R [] l) (units_of_given b given true us is stream.follow) ∙ read in (
         one.0,
         shown.ends
-            ∙ ap (λ o. ending_by (is_within b) shown.framing o) whole
-            ∙ ap (λ t. ending_by (is_within b) t (all_read before)) one.1
+            ∙ ap (λ o. ending_by (is_within_limit b) shown.framing o) whole
+            ∙ ap (λ t. ending_by (is_within_limit b) t (all_read before)) one.1
             ∙ ap (λ w. ending_by w None (all_read before)) (all_given b given is).1,
       )
 
@@ -236,7 +237,7 @@ module _ (R : Readers) (b given : List ℕ) (us vs : List UnitPlace) (before : L
       ∙ read_behind R (units_at (seen_of b) us) (units_at (seen_of b) (u ∷ first.0)) before here
       ∙ ap (λ x. one_more x before (λ after. read_on R after (units_at (seen_of b) first.0))) answer in (
         shown.ends
-            ∙ ap (λ o. ending_by (is_within b) shown.framing o) whole
+            ∙ ap (λ o. ending_by (is_within_limit b) shown.framing o) whole
             ∙ ap (λ n. refused_at n r) (all_length R (seen_of given) us before read),
         λ T. ap (shown_lines R T b) split
             ∙ lines_more R T (seen_of b) [] before us (u ∷ first.0) here

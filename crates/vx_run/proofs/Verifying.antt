@@ -19,7 +19,7 @@ use Rattle.vx_run.specs.declared.stop.Stop.{Stop}
 use Rattle.vx_run.specs.declared.stop.Stop.TheVariants.{NotUnderstood, Mismatched, Refused, ReadFault, WriteFault, NoMemory}
 use Rattle.vx_run.specs.Change.{Sources, change, sources_change, Gains, GainsFront}
 use Rattle.vx_run.specs.Conclusion.{Outcome}
-use Rattle.vx_run.specs.Rounds.{Stream, by_round, AreTold, OfEach, IsReadInRound, IsRound}
+use Rattle.vx_run.specs.Rounds.{Stream, by_round, AreTold, OfEachSource, IsReadInRound, IsRound}
 use Rattle.vx_run.specs.Verify.{OfRound, AreVerified, length_differs, verify_telling, VerifiesBy, yes_text}
 use Rattle.vx_run.specs.inner.Advancing.{OfAll, Begin, IsUnfed, AllTake, AllEnd, so_far, EndsFirst, HaltsAtSource, HaltsByLength}
 use Rattle.vx_run.specs.inner.Verifying.{VerifiesRound, VerifiesRounds, HasVerified, stop_in}
@@ -92,7 +92,7 @@ module _ {A : Type 0} (bytes : A → Option (List ℕ)) (faults : A → ℕ) (R 
     halted WriteFault halts = absurd halts
 
     -- or for their lengths
-    uneven : (k : ℕ) → OfEach (Src l) (IsReadInRound R n) → ((ss : List Stream) → AreTold R (Src l) ss → Begin ss taken × EndsFirst ss n k) → Comes l (Err (length_differs n k))
+    uneven : (k : ℕ) → OfEachSource (Src l) (IsReadInRound R n) → ((ss : List Stream) → AreTold R (Src l) ss → Begin ss taken × EndsFirst ss n k) → Comes l (Err (length_differs n k))
     uneven k read ends = (read, λ ss are. let h = ends ss are in (told ss are h.0, length_stops (verify_telling spots) ss n k (length_differs n k) refl h.1))
 
     pub verify_halted : (stop : Stop) → HaltsAtSource R (Src l) taken n stop ⊎ HaltsByLength length_differs R (Src l) taken n stop → Comes l (Err stop)

@@ -24,8 +24,8 @@ use Rattle.vx_run.specs.declared.stop.Stop.TheVariants.{NotUnderstood, Mismatche
 use Rattle.vx_run.specs.Change.{Change, Sources, change, sources_change, Gains, GainsFront}
 use Rattle.vx_run.specs.Conclusion.{Outcome}
 use Rattle.vx_run.specs.Extract.{ok_text}
-use Rattle.vx_run.specs.Rounds.{Stream, AllEnded, StopsIn, by_round, AreTold, OfEach, IsReadInRound, at_source, at_round}
-use Rattle.vx_run.specs.Merge.{AreWritten, bytes_of, length_refused, merge_telling, EndsWritten, GainsInto, ChecksMergeBy}
+use Rattle.vx_run.specs.Rounds.{Stream, AllEnded, StopsIn, by_round, AreTold, OfEachSource, IsReadInRound, at_source, at_round}
+use Rattle.vx_run.specs.Merge.{AreRoundsWritten, bytes_of, length_refused, merge_telling, EndsWritten, GainsInto, ChecksMergeBy}
 use Rattle.vx_run.specs.inner.Advancing.{OfAll, Begin, AreWaiting, AllTake, AllEnd, so_far, EndsFirst, HaltsAtSource, HaltsByLength}
 use Rattle.vx_run.specs.inner.Merging.{stop_in, Leaves, Keeps, TakesRounds, DoesRound, TakesRound, HasWritten, HasDone}
 use Rattle.vx_run.proofs.Extracting.{written_more}
@@ -73,7 +73,7 @@ did_in Check round done m out n (errors.Stopped f) by = absurd by.1
 did_in Write round done m out n (errors.Stopped f) by = absurd by
 
 -- what is told behind rounds that are as many as plans
-told_behind : (corners : List Corner) (level : Option ℕ) (ss : List Stream) (done : List Plan) (n : ℕ) (stop : Stop) → length done ≡ n → AreWritten corners level ss done → StopsIn (merge_telling corners level done) ss n stop → EndsWritten corners level ss done (Err stop)
+told_behind : (corners : List Corner) (level : Option ℕ) (ss : List Stream) (done : List Plan) (n : ℕ) (stop : Stop) → length done ≡ n → AreRoundsWritten corners level ss done → StopsIn (merge_telling corners level done) ss n stop → EndsWritten corners level ss done (Err stop)
 told_behind corners level ss done n stop same plans stops = (plans, subst (λ (k : ℕ). StopsIn (merge_telling corners level done) ss k stop) (sym same) stops)
 
 -- ---- one round
@@ -146,7 +146,7 @@ module _ {A K : Type 0} (bytes : A → Option (List ℕ)) (faults : A → ℕ) (
 
   module _ (l : List A) (taken : List (List Picture)) (n : ℕ) (count : length taken ≡ length first) (rounds : OfAll (λ k ps. length ps ≡ n) taken) (o' : K) (m : Merging) (work : Work)
       (w : HasWritten work corners level (Out o') m taken n) where
-    plans_told : (ss : List Stream) → AreTold R (Src l) ss → Begin ss taken → AreWritten corners level ss w.done
+    plans_told : (ss : List Stream) → AreTold R (Src l) ss → Begin ss taken → AreRoundsWritten corners level ss w.done
     plans_told = written_told bytes faults R first corners level l taken n count rounds w.done w.count w.plans
 
     kept : Keeps work (Out o')
@@ -174,7 +174,7 @@ module _ {A K : Type 0} (bytes : A → Option (List ℕ)) (faults : A → ℕ) (
     halted WriteFault halts = absurd halts
 
     -- or for their lengths
-    uneven : (k : ℕ) → OfEach (Src l) (IsReadInRound R n) → ((ss : List Stream) → AreTold R (Src l) ss → Begin ss taken × EndsFirst ss n k) → Comes work l o' (Err (length_refused n k))
+    uneven : (k : ℕ) → OfEachSource (Src l) (IsReadInRound R n) → ((ss : List Stream) → AreTold R (Src l) ss → Begin ss taken × EndsFirst ss n k) → Comes work l o' (Err (length_refused n k))
     uneven k read told = (
       n,
       at_round refl read,
@@ -217,16 +217,16 @@ module _ {A K : Type 0} (bytes : A → Option (List ℕ)) (faults : A → ℕ) (
     has : HasRound bytes faults R first l feeds taken n
     has = has_round bytes faults R first l feeds taken n all
 
-    told : (ss : List Stream) → AreTold R (Src l) ss → AreWritten corners level ss w.done
+    told : (ss : List Stream) → AreTold R (Src l) ss → AreRoundsWritten corners level ss w.done
     told ss are = plans_told l taken n all.taken_count all.rounds o' m work w ss are (take_begin bytes faults R first l feeds taken n all ss are)
 
     own_passes : SameTask m m' → (p : Plan) → Passes m'.corners m'.level round w.done p → Passes corners level round w.done p
     own_passes task = passes_so m' corners level (task.corners ∙ corners_same) (task.level ∙ level_same) round w.done
 
-    more_plans : (p : Plan) → Passes corners level round w.done p → AreWritten corners level (so_far has.next) (p ∷ w.done)
+    more_plans : (p : Plan) → Passes corners level round w.done p → AreRoundsWritten corners level (so_far has.next) (p ∷ w.done)
     more_plans p = more_written bytes faults R first l feeds taken n all corners level has w.done p w.count w.plans
 
-    told_more : (p : Plan) → Passes corners level round w.done p → (ss : List Stream) → AreTold R (Src l) ss → AreWritten corners level ss (p ∷ w.done)
+    told_more : (p : Plan) → Passes corners level round w.done p → (ss : List Stream) → AreTold R (Src l) ss → AreRoundsWritten corners level ss (p ∷ w.done)
     told_more p passes ss are =
         written_told bytes faults R first corners level l has.next (n + 1) has.waiting.taken_count has.waiting.rounds (p ∷ w.done) (omega (arith, w.count)) (more_plans p passes) ss are
         (begin_told bytes faults R first l has.next has.ahead ss are)

@@ -75,13 +75,13 @@ pub record StopsBehind {A : Type 0} (R : Readers) (source : Change A) (picture :
 
 -- What is refused behind these pictures, and at which place: what ends the stream; a picture that breaks a rule, the last that was taken;
 -- or that there is none.
-pub data Refuses {A : Type 0} (R : Readers) (t : Task) (source : Change A) (ps : List Picture) (ending : Option Ending)
+pub data RefusesExtraction {A : Type 0} (R : Readers) (t : Task) (source : Change A) (ps : List Picture) (ending : Option Ending)
     (before : List Picture) (r : Refusal) (place : Where) : Type 0 where
-  by_stream : before ≡ ps → BreakNoRule t ps → IsToldAt ending r place → Refuses R t source ps ending before r place
+  by_ending : before ≡ ps → BreakNoRule t ps → IsToldAt ending r place → RefusesExtraction R t source ps ending before r place
   by_picture : (broken : BreaksBehind t ps before r) → StopsBehind R source broken.picture before → place ≡ at_picture (length before)
-      → Refuses R t source ps ending before r place
+      → RefusesExtraction R t source ps ending before r place
   without : before ≡ ps → ps ≡ [] → ending ≡ None → IsAtEnd (source.bytes source.new) → r ≡ Extract NO_PICTURE → place ≡ at_picture 0
-      → Refuses R t source ps ending before r place
+      → RefusesExtraction R t source ps ending before r place
 
 -- of the bytes that a source tells, their pictures and their ending
 abbrev pub WhereTold : {A : Type 0} → Readers → Change A → (List Picture → Option Ending → Type 0) → Type 0
@@ -90,8 +90,8 @@ WhereTold R source P =
     → source.bytes source.old ≡ Some b → AreSourcePictures R b ps ending → P ps ending
 
 -- these are the first of them
-abbrev pub BeginsWith : List Picture → List Picture → Type 0
-BeginsWith ps first = (later : List Picture) × (ps ≡ later ++ first)
+abbrev pub BeginsWithPictures : List Picture → List Picture → Type 0
+BeginsWithPictures ps first = (later : List Picture) × (ps ≡ later ++ first)
 
 -- A read failed: these are the pictures that are seen in what the source has given, however that goes on, and none breaks a rule.
 pub record HasSeen {A : Type 0} (R : Readers) (t : Task) (source : Change A) (ps : List Picture) : Type 0 where
@@ -108,12 +108,12 @@ pub record IsStatus (t : Task) (ps : List Picture) (ending : Option Ending) (sta
 -- ---- `extract`
 
 -- what is written of these pictures
-abbrev pub AreWritten : Task → List Picture → List ℕ → Type 0
-AreWritten t ps bytes = IsExtraction t.target t.level (map parts_of (at_most t.tid ps)) bytes
+abbrev pub AreExtractedInto : Task → List Picture → List ℕ → Type 0
+AreExtractedInto t ps bytes = IsExtraction t.target t.level (map parts_of (at_most t.tid ps)) bytes
 
 -- `out` gained it, and it is read again as the subpicture of these pictures
 abbrev pub GainsExtraction : {K : Type 0} → Readers → Task → List Picture → Change K → Type 0
-GainsExtraction R t ps out = (bytes : List ℕ) × AreWritten t ps bytes × Gains out bytes × IsReadAgain R t ps bytes
+GainsExtraction R t ps out = (bytes : List ℕ) × AreExtractedInto t ps bytes × Gains out bytes × IsReadAgain R t ps bytes
 
 -- A write of a picture failed: `out` gained all that is written of the pictures before it, which is read again as above, and behind that a
 -- front of what is written of it, and not all of that.
@@ -135,7 +135,7 @@ pub record ExtractsFront {A K : Type 0} (R : Readers) (t : Task) (source : Chang
   pub before : List Picture
   pub stops : StopsBehind R source picture before
   pub rules : BreakNoRule t (picture ∷ before)
-  pub first : WhereTold R source (λ ps ending. BeginsWith ps (picture ∷ before))
+  pub first : WhereTold R source (λ ps ending. BeginsWithPictures ps (picture ∷ before))
   pub breaks : BreaksOff R t picture before out
 
 -- What `extract` did to its source and to `out`, by what came of it. Where it was done or refused, `out` gained what is written of the
@@ -146,13 +146,13 @@ ExtractsBy R t source out (Ok _) =
     × WhereTold R source (λ ps ending. IsExtractable t ps ending × GainsExtraction R t ps out)
 ExtractsBy R t source out (Err (Refused r place)) =
     HasNoFault source × HasNoFault out × GivesFront source
-    × WhereTold R source (λ ps ending. (before : List Picture) × Refuses R t source ps ending before r place × GainsExtraction R t before out)
+    × WhereTold R source (λ ps ending. (before : List Picture) × RefusesExtraction R t source ps ending before r place × GainsExtraction R t before out)
 ExtractsBy R t source out (Err (ReadFault k)) =
     HasFault source × (k ≡ 0) × ((ps : List Picture) × HasSeen R t source ps × GainsExtraction R t ps out)
 ExtractsBy R t source out (Err WriteFault) = HasNoFault source × HasFault out × ExtractsFront R t source out
 ExtractsBy R t source out (Err NoMemory) =
     HasNoFault source × HasNoFault out × GivesFront source
-    × WhereTold R source (λ ps ending. (first : List Picture) × BeginsWith ps first × BreakNoRule t first × GainsExtraction R t first out)
+    × WhereTold R source (λ ps ending. (first : List Picture) × BeginsWithPictures ps first × BreakNoRule t first × GainsExtraction R t first out)
 ExtractsBy R t source out (Err _) = ⊥
 
 -- that is so by the readers of H.266; and the words were understood
@@ -176,7 +176,7 @@ ChecksBy R t source out (Ok _) =
     × WhereTold R source (λ ps ending. IsExtractable t ps ending × Gains out (ok_line t ps))
 ChecksBy R t source out (Err (Refused r place)) =
     HasNoFault source × IsUntouched out × GivesFront source
-    × WhereTold R source (λ ps ending. (before : List Picture) × Refuses R t source ps ending before r place)
+    × WhereTold R source (λ ps ending. (before : List Picture) × RefusesExtraction R t source ps ending before r place)
 ChecksBy R t source out (Err (ReadFault k)) =
     HasFault source × (k ≡ 0) × IsUntouched out × ((ps : List Picture) × HasSeen R t source ps)
 ChecksBy R t source out (Err WriteFault) =

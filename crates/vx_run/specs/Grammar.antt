@@ -78,8 +78,8 @@ abbrev pub IsPlacing : Placing → Type 0
 IsPlacing p = (p.x ≤ 16383) × (p.y ≤ 16383) × (p.file ≢ [])
 
 -- a number that streams are made from, how many there are of them, and of pictures in each
-abbrev pub IsTrial : (seed sources pictures : ℕ) → Type 0
-IsTrial seed sources pictures = (seed < 2 ^ 32) × ((1 ≤ sources) × (sources ≤ 16)) × ((1 ≤ pictures) × (pictures ≤ 1000))
+abbrev pub IsTrialInRange : (seed sources pictures : ℕ) → Type 0
+IsTrialInRange seed sources pictures = (seed < 2 ^ 32) × ((1 ≤ sources) × (sources ≤ 16)) × ((1 ≤ pictures) × (pictures ≤ 1000))
 
 -- a rule, as `M8`, or the number of a field, as `606`
 unfoldable pub IsRuleOrField : List ℕ → Type 0
@@ -94,7 +94,7 @@ IsWellNamed (merge level placings) = IsLevel level × (placings ≢ []) × AllBy
 IsWellNamed (play level placings) = IsLevel level × (placings ≢ []) × AllByRecursion IsPlacing placings
 IsWellNamed (check_merge placings) = (placings ≢ []) × AllByRecursion IsPlacing placings
 IsWellNamed (verify finished placings) = (finished ≢ []) × (placings ≢ []) × AllByRecursion IsPlacing placings
-IsWellNamed (trial seed sources pictures) = IsTrial seed sources pictures
+IsWellNamed (trial seed sources pictures) = IsTrialInRange seed sources pictures
 IsWellNamed help = Unit {0}
 IsWellNamed version = Unit {0}
 IsWellNamed (explain word) = IsRuleOrField word

@@ -1,6 +1,5 @@
 -- What the contracts of this crate cite.
 pub mod About
-pub mod Asked
 pub mod Change
 pub mod Conclusion
 pub mod Extract

@@ -21,8 +21,8 @@ use Rattle.vx_run.specs.Change.{Change, Sources, source_at, IsUntouched, HasNoFa
 use Rattle.vx_run.specs.Conclusion.{Outcome}
 use Rattle.vx_run.specs.Extract.{ok_text}
 use Rattle.vx_run.specs.Grammar.{Placing}
-use Rattle.vx_run.specs.MergeAgain.{IsMergedAgain, IsToldBy, first_of}
-use Rattle.vx_run.specs.Rounds.{Stream, IsRound, NoneRefused, Telling, EndsIn, in_round, stream_refused, WhereAllTold, OfEach, OfAtMost}
+use Rattle.vx_run.specs.MergeAgain.{IsMergedAgain, IsToldBy, first_pictures}
+use Rattle.vx_run.specs.Rounds.{Stream, IsRound, NoneRefused, Telling, EndsIn, in_round, stream_refused, WhereAllTold, OfEachSource, OfAtMost}
 use Rattle.vx_run.specs.Rounds.{IsRead, IsReadOut, IsReadFor, OthersAreRead, AreReadTo, Sees}
 
 -- the corners of the regions that words place files in
@@ -35,10 +35,10 @@ corners_of placings = map corner_of placings
 -- ---- rounds that are written
 
 -- The first rounds, as many as plans, are there, break no rule, and are written so within all limits; the latest plan comes first.
-abbrev pub AreWritten : List Corner → Option ℕ → List Stream → List Plan → Type 0
-AreWritten corners level ss [] = Unit {0}
-AreWritten corners level ss (p ∷ done) =
-    ((round : List Parts) × IsRound ss (length done) round × Passes corners level round done p) × AreWritten corners level ss done
+abbrev pub AreRoundsWritten : List Corner → Option ℕ → List Stream → List Plan → Type 0
+AreRoundsWritten corners level ss [] = Unit {0}
+AreRoundsWritten corners level ss (p ∷ done) =
+    ((round : List Parts) × IsRound ss (length done) round × Passes corners level round done p) × AreRoundsWritten corners level ss done
 
 -- their bytes
 abbrev pub bytes_of : List Plan → List ℕ
@@ -48,8 +48,8 @@ bytes_of done = written (units_written done)
 abbrev pub WrittenIsReadAgain : Type 0
 WrittenIsReadAgain =
     (R : Readers) (corners : List Corner) (level : Option ℕ) (ss : List Stream) (done : List Plan) → AreOfH266 R → AreCorners corners
-    → length corners ≡ length ss → AllByRecursion (IsToldBy R) ss → AreWritten corners level ss done
-    → IsMergedAgain R corners (map (first_of (length done)) ss) (bytes_of done)
+    → length corners ≡ length ss → AllByRecursion (IsToldBy R) ss → AreRoundsWritten corners level ss done
+    → IsMergedAgain R corners (map (first_pictures (length done)) ss) (bytes_of done)
 
 -- ---- how a merge ends
 
@@ -68,7 +68,7 @@ merge_telling corners level done = record {
 
 -- It ends so behind those rounds.
 abbrev pub EndsWritten : List Corner → Option ℕ → List Stream → List Plan → Outcome → Type 0
-EndsWritten corners level ss done end = AreWritten corners level ss done × EndsIn (merge_telling corners level done) ss (length done) end
+EndsWritten corners level ss done end = AreRoundsWritten corners level ss done × EndsIn (merge_telling corners level done) ss (length done) end
 
 -- It ends once: behind the same rounds, which are written in one way.
 abbrev pub EndsOnce : Type 0
@@ -90,7 +90,7 @@ pub record IsMergeStatus (corners : List Corner) (level : Option ℕ) (ss : List
 -- read of source k ends it: round n isn't whole, where n pictures of that source are seen, and those before could be written.
 abbrev pub ChecksMergeBy : {A K : Type 0} → Readers → List Corner → Sources A → Change K → Outcome → Type 0
 ChecksMergeBy R corners sources out (Ok _) =
-    OfEach sources IsReadOut × HasNoFault out
+    OfEachSource sources IsReadOut × HasNoFault out
     × WhereAllTold R sources (λ ss. (done : List Plan) × EndsWritten corners None ss done (Ok tt) × Gains out (ok_text (length done)))
 ChecksMergeBy R corners sources out (Err (Refused r place)) =
     (n : ℕ) × AreReadTo R n place sources × IsUntouched out
@@ -98,11 +98,11 @@ ChecksMergeBy R corners sources out (Err (Refused r place)) =
 ChecksMergeBy R corners sources out (Err (ReadFault k)) =
     (k < length sources.old) × HasFault (source_at sources k) × IsUntouched out
     × ((n : ℕ) × Sees R (source_at sources k) n × OthersAreRead R n k sources
-    × WhereAllTold R sources (λ ss. (done : List Plan) × (length done ≡ n) × AreWritten corners None ss done × NoneRefused k ss n))
+    × WhereAllTold R sources (λ ss. (done : List Plan) × (length done ≡ n) × AreRoundsWritten corners None ss done × NoneRefused k ss n))
 ChecksMergeBy R corners sources out (Err WriteFault) =
-    OfEach sources IsReadOut × HasFault out
+    OfEachSource sources IsReadOut × HasFault out
     × WhereAllTold R sources (λ ss. (done : List Plan) × EndsWritten corners None ss done (Ok tt) × GainsFront out (ok_text (length done)))
-ChecksMergeBy R corners sources out (Err NoMemory) = OfEach sources IsRead × IsUntouched out
+ChecksMergeBy R corners sources out (Err NoMemory) = OfEachSource sources IsRead × IsUntouched out
 ChecksMergeBy R corners sources out (Err _) = ⊥
 
 -- ---- `merge`
@@ -124,27 +124,27 @@ GainsMerge R corners sources done out = Gains out (bytes_of done) × IsMergedAga
 -- source are seen; behind a failed write those before a round, and a front of that; for want of memory the first ones.
 abbrev pub MergesBy : {A K : Type 0} → Readers → List Corner → Option ℕ → Sources A → Change K → Outcome → Type 0
 MergesBy R corners level sources out (Ok _) =
-    OfEach sources IsReadOut × HasNoFault out
+    OfEachSource sources IsReadOut × HasNoFault out
     × WhereAllTold R sources (λ ss. (done : List Plan) × EndsWritten corners level ss done (Ok tt)
     × GainsMerge R corners (map (λ s. s.pictures) ss) done out)
 MergesBy R corners level sources out (Err (Refused r place)) =
     (n : ℕ) × AreReadTo R n place sources × HasNoFault out
     × WhereAllTold R sources (λ ss. (done : List Plan) × (length done ≡ n) × EndsWritten corners level ss done (Err (Refused r place))
-    × GainsMerge R corners (map (first_of (length done)) ss) done out)
+    × GainsMerge R corners (map (first_pictures (length done)) ss) done out)
 MergesBy R corners level sources out (Err (ReadFault k)) =
     (k < length sources.old) × HasFault (source_at sources k) × HasNoFault out
     × ((n : ℕ) × Sees R (source_at sources k) n × OthersAreRead R n k sources
-    × WhereAllTold R sources (λ ss. (done : List Plan) × (length done ≡ n) × AreWritten corners level ss done × NoneRefused k ss n
-    × GainsMerge R corners (map (first_of (length done)) ss) done out))
+    × WhereAllTold R sources (λ ss. (done : List Plan) × (length done ≡ n) × AreRoundsWritten corners level ss done × NoneRefused k ss n
+    × GainsMerge R corners (map (first_pictures (length done)) ss) done out))
 MergesBy R corners level sources out (Err WriteFault) =
-    (n : ℕ) × OfEach sources (IsReadFor R (n + 1)) × HasFault out
-    × WhereAllTold R sources (λ ss. (done : List Plan) × (p : Plan) × (length done ≡ n) × AreWritten corners level ss (p ∷ done)
+    (n : ℕ) × OfEachSource sources (IsReadFor R (n + 1)) × HasFault out
+    × WhereAllTold R sources (λ ss. (done : List Plan) × (p : Plan) × (length done ≡ n) × AreRoundsWritten corners level ss (p ∷ done)
     × GainsInto out (bytes_of done) (written (units_of p))
-    × IsMergedAgain R corners (map (first_of (length done)) ss) (bytes_of done))
+    × IsMergedAgain R corners (map (first_pictures (length done)) ss) (bytes_of done))
 MergesBy R corners level sources out (Err NoMemory) =
-    OfEach sources IsRead × HasNoFault out
-    × WhereAllTold R sources (λ ss. (done : List Plan) × AreWritten corners level ss done
-    × GainsMerge R corners (map (first_of (length done)) ss) done out)
+    OfEachSource sources IsRead × HasNoFault out
+    × WhereAllTold R sources (λ ss. (done : List Plan) × AreRoundsWritten corners level ss done
+    × GainsMerge R corners (map (first_pictures (length done)) ss) done out)
 MergesBy R corners level sources out (Err _) = ⊥
 
 -- ---- both

@@ -12,8 +12,8 @@ abbrev pub IsToldBy : Readers → Stream → Type 0
 IsToldBy R s = (b : List ℕ) × AreSourcePictures R b s.pictures s.ending
 
 -- its first n pictures, the latest first
-abbrev pub first_of : ℕ → Stream → List Picture
-first_of n s = reverse (take n (reverse s.pictures))
+abbrev pub first_pictures : ℕ → Stream → List Picture
+first_pictures n s = reverse (take n (reverse s.pictures))
 
 -- The bytes have exactly the pictures of the merge of those of several sources, in regions with these corners: one for each round, in
 -- order, of the kind and count that all pictures of the round have, and with the messages of source 0's. Subpicture k stands at corner k,

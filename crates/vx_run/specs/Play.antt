@@ -16,17 +16,17 @@ use Rattle.vx_pic.specs.Parts.{Parts}
 use Rattle.vx_pic.specs.Written.{Plan, units_of}
 use Rattle.vx_report.specs.declared.refusal.Where.{Where}
 use Rattle.vx_merge.specs.declared.corner.Corner.{Corner}
-use Rattle.vx_merge.specs.Joins.{joined, StartsAt, IsBarredWhere}
+use Rattle.vx_merge.specs.Joins.{after_end_of_sequence, JudgesJoin, IsBarredWhere}
 use Rattle.vx_merge.specs.Merging.{AreCorners, Passes}
-use Rattle.vx_play.specs.Scheduled.{files_of}
+use Rattle.vx_play.specs.Scheduled.{files_of_region}
 use Rattle.vx_run.specs.declared.stop.Stop.TheVariants.{Refused, ReadFault, WriteFault, NoMemory}
 use Rattle.vx_run.specs.Change.{Change, Sources, source_at, IsUntouched, AreUntouched, HasNoFault, HasFault}
 use Rattle.vx_run.specs.Conclusion.{Outcome, IsOfCommand}
 use Rattle.vx_run.specs.Extract.{WhereTold}
 use Rattle.vx_run.specs.Grammar.{Placing}
 use Rattle.vx_run.specs.Merge.{bytes_of, corners_of, length_refused, GainsInto, GainsMerge}
-use Rattle.vx_run.specs.MergeAgain.{IsMergedAgain, IsToldBy, first_of}
-use Rattle.vx_run.specs.Rounds.{Stream, IsRound, NoneRefused, Telling, EndsIn, behind_units, in_round, WhereAllTold, OfEach}
+use Rattle.vx_run.specs.MergeAgain.{IsMergedAgain, IsToldBy, first_pictures}
+use Rattle.vx_run.specs.Rounds.{Stream, IsRound, NoneRefused, Telling, EndsIn, behind_units, in_round, WhereAllTold, OfEachSource}
 use Rattle.vx_run.specs.Rounds.{IsRead, IsReadOut, IsReadFor, Sees, most_sources, too_many}
 
 -- ---- regions
@@ -35,12 +35,12 @@ abbrev pub is_corner : Corner → Corner → Bool
 is_corner c d = (c.x == d.x) && (c.y == d.y)
 
 -- the place of a corner among others, or how many there are
-abbrev pub region_of : List Corner → Corner → ℕ
-region_of corners c = position_or_len (is_corner c) corners
+abbrev pub region_at_corner : List Corner → Corner → ℕ
+region_at_corner corners c = position_or_len (is_corner c) corners
 
 -- each corner once, in the order in which they come first
 abbrev pub with_corner : List Corner → Corner → List Corner
-with_corner corners c = cond (region_of corners c == length corners) (corners ++ c ∷ []) corners
+with_corner corners c = cond (region_at_corner corners c == length corners) (corners ++ c ∷ []) corners
 
 abbrev pub with_corners : List Corner → List Corner → List Corner
 with_corners corners [] = corners
@@ -51,7 +51,7 @@ abbrev pub region_corners : List Placing → List Corner
 region_corners placings = with_corners [] (corners_of placings)
 
 abbrev pub file_regions : List Placing → List ℕ
-file_regions placings = map (region_of (region_corners placings)) (corners_of placings)
+file_regions placings = map (region_at_corner (region_corners placings)) (corners_of placings)
 
 -- ---- the pictures of a region
 
@@ -80,24 +80,24 @@ refused_file files js = unwrap_or (option_map (λ x. x.0) (refused_in files js))
 
 -- those of so many regions
 abbrev pub region_streams : ℕ → List ℕ → List Stream → List Stream
-region_streams count regions files = map (λ k. region_stream files (files_of regions k)) (range_with_len 0 count)
+region_streams count regions files = map (λ k. region_stream files (files_of_region regions k)) (range_with_len 0 count)
 
 -- ---- rounds that are played
 
 -- Round n is joined behind others: it isn't the first one, and some region's picture is the first of its file.
 abbrev pub begins_in : List ℕ → List Stream → ℕ → ℕ → Bool
-begins_in regions files n k = begins_file 0 (pictures_in files (files_of regions k)) n
+begins_in regions files n k = begins_file 0 (pictures_in files (files_of_region regions k)) n
 
 abbrev pub is_join : ℕ → List ℕ → List Stream → ℕ → Bool
 is_join count regions files n = nat_lt 0 n && list_any (begins_in regions files n) (range_with_len 0 count)
 
 -- the pictures of a round that is joined are behind an end of sequence
 abbrev pub marked : Bool → List Parts → List Parts
-marked joins round = cond joins (map joined round) round
+marked joins round = cond joins (map after_end_of_sequence round) round
 
 -- its pictures may begin there if it is joined, it breaks no rule, and it is written so behind others, within the limits
 pub record PassesWhere (joins : Bool) (corners : List Corner) (level : Option ℕ) (round : List Parts) (done : List Plan) (p : Plan) : Type 0 where
-  pub starts : StartsAt joins corners round None
+  pub starts : JudgesJoin joins corners round None
   pub passes : Passes corners level round done p
 
 -- The first rounds, as many as plans, are there, pass, and are written so; the latest plan comes first.
@@ -125,7 +125,7 @@ ArePlayedOf corners level regions files done =
 abbrev pub EndsPlayed : List Corner → Option ℕ → List ℕ → List Stream → List Plan → Outcome → Type 0
 EndsPlayed corners level regions files done end =
     ArePlayedOf corners level regions files done
-    × EndsIn (play_telling corners level (is_join (length corners) regions files) (λ k. refused_file files (files_of regions k)) done)
+    × EndsIn (play_telling corners level (is_join (length corners) regions files) (λ k. refused_file files (files_of_region regions k)) done)
     (region_streams (length corners) regions files) (length done) end
 
 -- It ends once: behind the same rounds, which are written in one way.
@@ -146,7 +146,7 @@ pub record IsPlayStatus (corners : List Corner) (level : Option ℕ) (regions : 
 
 -- The first n pictures of each region as they are played, the latest first: behind an end of sequence where their round is joined; and all.
 abbrev pub played_first : ℕ → List ℕ → List Stream → ℕ → List (List Picture)
-played_first count regions files n = map (played (is_join count regions files)) (map (first_of n) (region_streams count regions files))
+played_first count regions files n = map (played (is_join count regions files)) (map (first_pictures n) (region_streams count regions files))
 
 abbrev pub played_whole : ℕ → List ℕ → List Stream → List (List Picture)
 played_whole count regions files = map (played (is_join count regions files)) (map (λ s. s.pictures) (region_streams count regions files))
@@ -208,13 +208,13 @@ ArePlayedInRound R sources n js =
 abbrev pub OthersArePlayed : {A : Type 0} → Readers → Sources A → ℕ → List ℕ → ℕ → ℕ → Type 0
 OthersArePlayed R sources count regions n k =
     (i : ℕ) → i < count
-    → (i < k → ArePlayedInRound R sources n (files_of regions i)) × (k < i → ArePlayedFor R sources n (files_of regions i))
+    → (i < k → ArePlayedInRound R sources n (files_of_region regions i)) × (k < i → ArePlayedFor R sources n (files_of_region regions i))
 
 -- File j of region k does: it comes behind others, with so many pictures of it before round n.
 pub record ComesAt {A : Type 0} (R : Readers) (sources : Sources A) (count : ℕ) (regions : List ℕ) (n k j m : ℕ) : Type 0 where
   pub within : k < count
   pub passed : List (List Picture)
-  pub behind : IsBehind R sources j (files_of regions k) passed
+  pub behind : IsBehind R sources j (files_of_region regions k) passed
   pub so_far : n ≡ count_of passed + m
   pub others : OthersArePlayed R sources count regions n k
 
@@ -222,7 +222,7 @@ pub record ComesAt {A : Type 0} (R : Readers) (sources : Sources A) (count : ℕ
 pub data ArePlayedTo {A : Type 0} (R : Readers) (sources : Sources A) (count : ℕ) (regions : List ℕ) (n : ℕ) (place : Where) : Type 0 where
   at_file : (k j m units : ℕ) → ComesAt R sources count regions n k j m → IsRead (source_at sources j) → place ≡ behind_units j units
       → ArePlayedTo R sources count regions n place
-  at_round : place ≡ in_round n → ((k : ℕ) → k < count → ArePlayedInRound R sources n (files_of regions k)) → ArePlayedTo R sources count regions n place
+  at_played_round : place ≡ in_round n → ((k : ℕ) → k < count → ArePlayedInRound R sources n (files_of_region regions k)) → ArePlayedTo R sources count regions n place
 
 -- ---- what it did
 
@@ -232,7 +232,7 @@ pub data ArePlayedTo {A : Type 0} (R : Readers) (sources : Sources A) (count : �
 -- that; for want of memory the first ones.
 abbrev pub PlaysBy : {A K : Type 0} → Readers → List Corner → Option ℕ → List ℕ → Sources A → Change K → Outcome → Type 0
 PlaysBy R corners level regions sources out (Ok _) =
-    OfEach sources IsReadOut × HasNoFault out
+    OfEachSource sources IsReadOut × HasNoFault out
     × WhereAllTold R sources (λ files. (done : List Plan) × EndsPlayed corners level regions files done (Ok tt)
     × GainsMerge R corners (played_whole (length corners) regions files) done out)
 PlaysBy R corners level regions sources out (Err (Refused r place)) =
@@ -246,12 +246,12 @@ PlaysBy R corners level regions sources out (Err (ReadFault j)) =
     × NoneRefused k (region_streams (length corners) regions files) n
     × GainsMerge R corners (played_first (length corners) regions files (length done)) done out))
 PlaysBy R corners level regions sources out (Err WriteFault) =
-    (n : ℕ) × ((k : ℕ) → k < length corners → ArePlayedFor R sources (n + 1) (files_of regions k)) × HasFault out
+    (n : ℕ) × ((k : ℕ) → k < length corners → ArePlayedFor R sources (n + 1) (files_of_region regions k)) × HasFault out
     × WhereAllTold R sources (λ files. (done : List Plan) × (p : Plan) × (length done ≡ n) × ArePlayedOf corners level regions files (p ∷ done)
     × GainsInto out (bytes_of done) (written (units_of p))
     × IsMergedAgain R corners (played_first (length corners) regions files (length done)) (bytes_of done))
 PlaysBy R corners level regions sources out (Err NoMemory) =
-    OfEach sources IsRead × HasNoFault out
+    OfEachSource sources IsRead × HasNoFault out
     × WhereAllTold R sources (λ files. (done : List Plan) × ArePlayedOf corners level regions files done
     × GainsMerge R corners (played_first (length corners) regions files (length done)) done out)
 PlaysBy R corners level regions sources out (Err _) = ⊥

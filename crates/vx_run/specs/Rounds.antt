@@ -37,8 +37,8 @@ GoesOn n s = n < length s.pictures
 abbrev pub HasEnded : ℕ → Stream → Type 0
 HasEnded n s = (length s.pictures ≡ n) × (s.ending ≡ None)
 
-abbrev pub IsRefused : ℕ → Ending → Stream → Type 0
-IsRefused n e s = (length s.pictures ≡ n) × (s.ending ≡ Some e)
+abbrev pub IsRefusedStream : ℕ → Ending → Stream → Type 0
+IsRefusedStream n e s = (length s.pictures ≡ n) × (s.ending ≡ Some e)
 
 -- this holds of stream k, or of each of the first ones
 abbrev pub OfStream : List Stream → ℕ → (Stream → Type 0) → Type 0
@@ -80,7 +80,7 @@ pub record Telling : Type 1 where
 -- What stops it in round n: the first stream that is refused there, for what ends it; else, where one goes on, that the lowest of those
 -- that have ended has; else the round.
 pub data StopsIn (t : Telling) (ss : List Stream) (n : ℕ) (stop : Stop) : Type 0 where
-  by_stream : (k : ℕ) (e : Ending) → OfStream ss k (IsRefused n e) → NoneRefused k ss n → stop ≡ t.of_stream k e → StopsIn t ss n stop
+  by_stream : (k : ℕ) (e : Ending) → OfStream ss k (IsRefusedStream n e) → NoneRefused k ss n → stop ≡ t.of_stream k e → StopsIn t ss n stop
   by_length : (k : ℕ) → NoneRefused (length ss) ss n → IsLowest (length ss) (λ j. OfStream ss j (HasEnded n)) k
       → ((j : ℕ) × OfStream ss j (GoesOn n)) → stop ≡ t.of_length n k → StopsIn t ss n stop
   by_round : (round : List Parts) → IsRound ss n round → t.of_round n round stop → StopsIn t ss n stop
@@ -107,8 +107,8 @@ abbrev pub WhereAllTold : {A : Type 0} → Readers → Sources A → (List Strea
 WhereAllTold R sources P = (ss : List Stream) → AreTold R sources ss → P ss
 
 -- of each source
-abbrev pub OfEach : {A : Type 0} → Sources A → (Change (Option A) → Type 0) → Type 0
-OfEach sources P = (k : ℕ) → k < length sources.old → P (source_at sources k)
+abbrev pub OfEachSource : {A : Type 0} → Sources A → (Change (Option A) → Type 0) → Type 0
+OfEachSource sources P = (k : ℕ) → k < length sources.old → P (source_at sources k)
 
 -- no read failed, and a front of its bytes was given
 abbrev pub IsRead : {A : Type 0} → Change A → Type 0
@@ -148,7 +148,7 @@ pub record AreReadToSource {A : Type 0} (R : Readers) (n : ℕ) (place : Where) 
 -- and where this place is: it is one of a source; or it is the round, and all were read for that.
 pub data AreReadTo {A : Type 0} (R : Readers) (n : ℕ) (place : Where) (sources : Sources A) : Type 0 where
   at_source : AreReadToSource R n place sources → AreReadTo R n place sources
-  at_round : place ≡ in_round n → OfEach sources (IsReadInRound R n) → AreReadTo R n place sources
+  at_round : place ≡ in_round n → OfEachSource sources (IsReadInRound R n) → AreReadTo R n place sources
 
 -- n pictures are seen in what it has given, however that goes on
 pub record Sees {A : Type 0} (R : Readers) (c : Change A) (n : ℕ) : Type 0 where

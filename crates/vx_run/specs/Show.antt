@@ -24,13 +24,11 @@ use Rattle.vx_report.specs.PictureLine.{picture_text}
 use Rattle.vx_run.specs.declared.stop.Stop.TheVariants.{Refused, ReadFault, WriteFault, NoMemory}
 use Rattle.vx_run.specs.Change.{Change, HasNoFault, HasFault, GivesFront, Gains, GainsFront}
 use Rattle.vx_run.specs.Conclusion.{Outcome, IsOfCommand}
+use Rattle.vx_assemble.specs.Feed.{seen_of}
 
--- the bytes of a source that are looked at, and whether they are all
-abbrev pub seen_of : List ℕ → List ℕ
-seen_of b = take source_limit b
-
-abbrev pub is_within : List ℕ → Bool
-is_within b = nat_le (length b) source_limit
+-- the bytes of a source that are looked at are all
+abbrev pub is_within_limit : List ℕ → Bool
+is_within_limit b = nat_le (length b) source_limit
 
 -- the line of a unit whose first byte stands at this place
 unfoldable pub shown_line : List ℕ → ℕ → List ℕ
@@ -51,8 +49,8 @@ set_lines (aps_read a) = set_text (Aps a.kind a.id)
 set_lines _ = []
 
 -- what is shown of the n-th picture, from 0
-abbrev pub numbers_of : ℕ → Picture → PictureNumbers
-numbers_of n p = record {
+abbrev pub numbers_shown : ℕ → Picture → PictureNumbers
+numbers_shown n p = record {
   picture = n;
   clvss = p.kind.clvss;
   poc = p.kind.poc;
@@ -62,7 +60,7 @@ numbers_of n p = record {
 
 -- the line of the picture that this reading completes behind those before it, the latest first
 unfoldable pub picture_lines : Reading → List Reading → List ℕ
-picture_lines r before = flat_map (λ p. picture_text (numbers_of (length (pictures before)) p)) (completed r before)
+picture_lines r before = flat_map (λ p. picture_text (numbers_shown (length (pictures before)) p)) (completed r before)
 
 -- that of the unit, of the set that it is, and of the picture that it completes
 abbrev pub unit_lines : List ℕ → UnitPlace → Reading → List Reading → List ℕ
@@ -122,8 +120,8 @@ shown_lines R T b units = lines_behind R T (seen_of b) [] units
 -- source that has more bytes than the limit the units are those whose end is seen in that many.
 pub record IsShown (R : Readers) (b : List ℕ) (units : List UnitPlace) (ending : Option Ending) : Type 0 where
   pub framing : Option Refusal
-  pub stream : IsStream (seen_of b) (is_within b) units framing
-  pub ends : ending ≡ ending_by (is_within b) framing (read_on R [] (units_at (seen_of b) units))
+  pub stream : IsStream (seen_of b) (is_within_limit b) units framing
+  pub ends : ending ≡ ending_by (is_within_limit b) framing (read_on R [] (units_at (seen_of b) units))
 
 -- 0 where nothing is refused, else 1
 abbrev pub status_at : Option Ending → ℕ

@@ -12,7 +12,7 @@ use Rattle.vx_run.specs.declared.stop.Stop.TheVariants.{NotUnderstood, Refused, 
 use Rattle.vx_run.specs.Change.{Change, Sources, source_at, IsUntouched, HasNoFault, HasFault, Gains, GainsFront}
 use Rattle.vx_run.specs.Conclusion.{Outcome}
 use Rattle.vx_run.specs.Grammar.{Placing}
-use Rattle.vx_run.specs.Rounds.{Stream, IsRound, NoneRefused, Telling, EndsIn, stream_refused, WhereAllTold, OfEach, OfAtMost}
+use Rattle.vx_run.specs.Rounds.{Stream, IsRound, NoneRefused, Telling, EndsIn, stream_refused, WhereAllTold, OfEachSource, OfAtMost}
 use Rattle.vx_run.specs.Rounds.{IsRead, IsReadOut, IsReadInRound, OthersAreRead, AreReadToSource, Sees}
 
 -- the places of the regions that words place files in
@@ -71,10 +71,10 @@ yes_text n = concat (codes "yes pictures " ∷ decimal n ∷ codes "\n" ∷ [])
 -- where n pictures of that file are seen, and those before are verified.
 abbrev pub VerifiesBy : {A K : Type 0} → Readers → List Spot → Sources A → Change K → Outcome → Type 0
 VerifiesBy R spots sources out (Ok _) =
-    OfEach sources IsReadOut × HasNoFault out
+    OfEachSource sources IsReadOut × HasNoFault out
     × WhereAllTold R sources (λ ss. (n : ℕ) × EndsVerified spots ss n (Ok tt) × Gains out (yes_text n))
 VerifiesBy R spots sources out (Err (Mismatched m n)) =
-    OfEach sources (IsReadInRound R n) × IsUntouched out × WhereAllTold R sources (λ ss. EndsVerified spots ss n (Err (Mismatched m n)))
+    OfEachSource sources (IsReadInRound R n) × IsUntouched out × WhereAllTold R sources (λ ss. EndsVerified spots ss n (Err (Mismatched m n)))
 VerifiesBy R spots sources out (Err (Refused r place)) =
     (n : ℕ) × AreReadToSource R n place sources × IsUntouched out
     × WhereAllTold R sources (λ ss. EndsVerified spots ss n (Err (Refused r place)))
@@ -83,9 +83,9 @@ VerifiesBy R spots sources out (Err (ReadFault k)) =
     × ((n : ℕ) × Sees R (source_at sources k) n × OthersAreRead R n k sources
     × WhereAllTold R sources (λ ss. AreVerified spots ss n × NoneRefused k ss n))
 VerifiesBy R spots sources out (Err WriteFault) =
-    OfEach sources IsReadOut × HasFault out
+    OfEachSource sources IsReadOut × HasFault out
     × WhereAllTold R sources (λ ss. (n : ℕ) × EndsVerified spots ss n (Ok tt) × GainsFront out (yes_text n))
-VerifiesBy R spots sources out (Err NoMemory) = OfEach sources IsRead × IsUntouched out
+VerifiesBy R spots sources out (Err NoMemory) = OfEachSource sources IsRead × IsUntouched out
 VerifiesBy R spots sources out (Err NotUnderstood) = ⊥
 
 -- of as many sources as there may be, the finished stream aside

@@ -7,3 +7,4 @@ pub mod Playing
 pub mod Showing
 pub mod Verifying
 pub mod Words
+pub mod Asked

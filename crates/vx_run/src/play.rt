@@ -8,12 +8,12 @@ ghost use Rattle.vx_pic.specs.H266.{AreOfH266};
 ghost use Rattle.vx_pic.specs.Written.{Plan};
 ghost use Rattle.vx_assemble.specs.Held.{HasPicture, lent_by};
 ghost use Rattle.vx_merge.specs.Merging.{AreCorners, SameTask, Stands};
-ghost use Rattle.vx_play.specs.Scheduled.{count_of as region_count, files_of};
+ghost use Rattle.vx_play.specs.Scheduled.{regions_counted, files_of_region};
 ghost use Rattle.vx_run.specs.Change.{change, sources_change};
 ghost use Rattle.vx_run.specs.Conclusion.{IsOfCommand};
 ghost use Rattle.vx_run.specs.Grammar.{Placing as PlacingAsked, play as for_play, AskFor, texts};
 ghost use Rattle.vx_run.specs.Merge.{corner_of as corner_by, corners_of as corners_by};
-ghost use Rattle.vx_run.specs.Play.{Plays, PlayedIsReadAgain, PlayEndsOnce, file_regions, most_files, region_corners, region_of as region_by, with_corner, with_corners, too_many_files as too_many_of_files};
+ghost use Rattle.vx_run.specs.Play.{Plays, PlayedIsReadAgain, PlayEndsOnce, file_regions, most_files, region_corners, region_at_corner, with_corner, with_corners, too_many_files as too_many_of_files};
 ghost use Rattle.vx_run.specs.Rounds.{most_sources};
 ghost use Rattle.vx_run.specs.inner.Placings.{IsPlacingWord, placing_in};
 ghost use Rattle.vx_run.specs.inner.Playing.{AdvancesEach, AdvancesRegions, AreFew, ArePlaced, GoesOn, HasFound, IsAt, PlaysRound, PlaysRounds, SameBut, SameFiles, WritesRound};
@@ -115,7 +115,7 @@ fn regions_of(alloc: Global, placings: &[String]) -> Result<Option<Regions>, All
 
 /// The region with this corner: a new one where none of these has it.
 fn placed(corners: &mut Vec<Corner>, corner: Corner) -> Result<usize, AllocError>
-    ensures region { IfOk result (λ r. r ≡ region_by corners.old.items corner) }
+    ensures region { IfOk result (λ r. r ≡ region_at_corner corners.old.items corner) }
     ensures within { IfOk result (λ r. r ≤ vec_len corners.old) }
     ensures corners { OnOk result (corners.new.items ≡ with_corner corners.old.items corner) }
 {
@@ -129,7 +129,7 @@ fn placed(corners: &mut Vec<Corner>, corner: Corner) -> Result<usize, AllocError
 
 /// The place of a corner among these, or how many there are.
 fn region_of(corners: &[Corner], corner: Corner) -> usize
-    ensures place { result ≡ region_by corners.now corner }
+    ensures place { result ≡ region_at_corner corners.now corner }
     ensures within { result ≤ length corners.now }
 {
     for k in 0..corners.len() {
@@ -151,7 +151,7 @@ fn play_rounds<K: Sink>(
 ) -> Result<(), Stop>
     requires corners { AreCorners corners.now }
     requires few { length files.now ≤ most_files }
-    requires regions { region_count files.now ≡ length corners.now }
+    requires regions { regions_counted files.now ≡ length corners.now }
     requires count { vec_len sources.old ≡ length files.now }
     ensures plays { (R : Readers) → AreOfH266 R → PlaysRounds R corners.now level files.now
         (sources_change bytes_left read_faults sources.old.items sources.new.items)
@@ -182,9 +182,9 @@ fn play_by<K: Sink>(
 ) -> Result<(), Stop>
     requires corners { AreCorners merger.old.corners }
     requires stands { Stands merger.old [] }
-    requires begins { schedule.old ≡ record { regions = schedule.old.regions; gone = replicate (region_count schedule.old.regions) 0; last = None } }
+    requires begins { schedule.old ≡ record { regions = schedule.old.regions; gone = replicate (regions_counted schedule.old.regions) 0; last = None } }
     requires few { length schedule.old.regions ≤ most_files }
-    requires regions { region_count schedule.old.regions ≡ length merger.old.corners }
+    requires regions { regions_counted schedule.old.regions ≡ length merger.old.corners }
     requires count { count ≡ length merger.old.corners }
     requires sources { vec_len sources.old ≡ length schedule.old.regions }
     ensures plays { (R : Readers) → AreOfH266 R → PlaysRounds R merger.old.corners merger.old.level schedule.old.regions
@@ -272,9 +272,9 @@ fn advance_region(
     requires files { length schedule.old.regions ≡ vec_len sources.old }
     requires sources { vec_len sources.old ≤ most_files }
     ensures answer { (R : Readers) → AreOfH266 R → (first : List _) (passed : List (List StreamPicture)) (own : List StreamPicture)
-        → IsAt R (sources_change bytes_left read_faults first sources.old.items) (files_of schedule.old.regions k) feed.old passed own
+        → IsAt R (sources_change bytes_left read_faults first sources.old.items) (files_of_region schedule.old.regions k) feed.old passed own
         → AreFew passed own → length passed ≡ slice_index schedule.old.gone k
-        → GoesOn R (sources_change bytes_left read_faults first sources.new.items) (files_of schedule.old.regions k)
+        → GoesOn R (sources_change bytes_left read_faults first sources.new.items) (files_of_region schedule.old.regions k)
         (slice_index schedule.old.gone k) (slice_index schedule.new.gone k) feed.new passed own result }
     ensures rest { (j : ℕ) → slice_index schedule.old.regions j ≢ k → slice_get sources.new.items j ≡ slice_get sources.old.items j }
     ensures schedule { SameBut k schedule.old schedule.new }
@@ -374,7 +374,7 @@ fn first_like(placings: &[String], k: usize) -> usize
     requires words { AllByRecursion IsPlacingWord (texts placings.now) }
     requires within { k < length placings.now }
     ensures first { let corners = corners_by (map placing_in (texts placings.now)) in
-        IfSome (slice_get corners k) (λ corner. result ≡ region_by corners corner) }
+        IfSome (slice_get corners k) (λ corner. result ≡ region_at_corner corners corner) }
     ensures within { result ≤ k }
 {
     let corner = corner_in(placings[k].as_str());

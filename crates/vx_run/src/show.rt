@@ -17,7 +17,8 @@ ghost use Rattle.vx_pic.specs.Shown.{no_fields};
 ghost use Rattle.vx_report.specs.FieldsLine.{fields_text};
 ghost use Rattle.vx_run.specs.Change.{change};
 ghost use Rattle.vx_run.specs.Conclusion.{IsOfCommand};
-ghost use Rattle.vx_run.specs.Show.{ShowsBy, teller, refused_field, seen_of, set_lines, picture_lines, unit_lines, behind_unit as place_behind};
+ghost use Rattle.vx_run.specs.Show.{ShowsBy, teller, refused_field, set_lines, picture_lines, unit_lines, behind_unit as place_behind};
+ghost use Rattle.vx_assemble.specs.Feed.{seen_of};
 ghost use Rattle.vx_run.specs.inner.Showing.{seen_by, ReadsOn, GathersNext, Gathers, ShowsLater};
 
 use crate::stop::Stop;

@@ -2,7 +2,7 @@
 
 ghost use Rattle.std.specs.Prelude.{◌≡◌, IfOk};
 ghost use Rattle.vx_run.specs.Change.{change};
-ghost use Rattle.vx_run.specs.Grammar.{IsTrial};
+ghost use Rattle.vx_run.specs.Grammar.{IsTrialInRange};
 ghost use Rattle.vx_run.specs.Trial.{Trials, trial_text};
 
 use crate::stop::Stop;
@@ -18,7 +18,7 @@ pub(crate) fn trial<K: Sink>(
     pictures: u32,
     out: &mut K,
 ) -> Result<(), Stop>
-    requires { IsTrial seed sources pictures }
+    requires { IsTrialInRange seed sources pictures }
     ensures trials { Trials seed sources pictures (change K.bytes_taken K.write_faults out.old out.new) result }
 {
     let tally = vx_trial::trial(alloc, seed, sources, pictures)?;

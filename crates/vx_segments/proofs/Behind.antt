@@ -4,7 +4,7 @@ use Rattle.std.specs.Option.{option_or}
 use Rattle.std.specs.List.{AllZip}
 use Rattle.vx_bits.specs.declared.list.Item.{Item}
 use Rattle.vx_aps.specs.declared.aps.Aps.{Aps}
-use Rattle.vx_pic.specs.Readings.{Begun, Current, Picture, Reading, Slice, aps_in, aps_read, current, dropped, first_slice, gathered, going, header_read, headed, is_ended, is_open, is_whole, latest, messages_read, next_slice, nothing, pictures, pps_in, pps_read, sequence_ended, sps_in, sps_read, stored_aps, stored_pps, stored_sps, vps_read, whole_part, with_slice}
+use Rattle.vx_pic.specs.Readings.{Begun, Current, Picture, Reading, Slice, aps_in, aps_read, current, dropped, first_slice, gathered, going, header_read, headed, is_ended, is_open, is_whole, latest_given, messages_read, next_slice, nothing, pictures, pps_in, pps_read, sequence_ended, sps_in, sps_read, stored_aps, stored_pps, stored_sps, vps_read, picture_if_whole, with_slice}
 use Rattle.vx_pic.specs.Written.{Rests}
 
 -- ---- one reading
@@ -40,16 +40,16 @@ or_assoc None b c = refl
 or_assoc (Some a) b c = refl
 
 module _ {A : Type 0} (gives : Reading → Option A) (blind : (clvss : Bool) (poc : ℤ) (r : Reading) → gives (again clvss poc r) ≡ gives r) where
-  latest_behind : (before xs ys : List Reading) → Behind before xs ys → latest gives ys ≡ option_or (latest gives xs) (latest gives before)
-  latest_behind before [] ys behind = ap (latest gives) behind
+  latest_behind : (before xs ys : List Reading) → Behind before xs ys → latest_given gives ys ≡ option_or (latest_given gives xs) (latest_given gives before)
+  latest_behind before [] ys behind = ap (latest_given gives) behind
   latest_behind before (x ∷ xs) [] behind = absurd behind
   latest_behind before (x ∷ xs) (y ∷ ys) behind =
       let here : gives y ≡ gives x = ap gives behind.0.same ∙ blind behind.0.clvss behind.0.poc x in
-      ap (λ o. option_or o (latest gives ys)) here
-      ∙ (ap (option_or (gives x)) (latest_behind before xs ys behind.1) ∙ or_assoc (gives x) (latest gives xs) (latest gives before))
+      ap (λ o. option_or o (latest_given gives ys)) here
+      ∙ (ap (option_or (gives x)) (latest_behind before xs ys behind.1) ∙ or_assoc (gives x) (latest_given gives xs) (latest_given gives before))
 
-  latest_kept : (before xs ys : List Reading) (a : A) → Behind before xs ys → latest gives xs ≡ Some a → latest gives ys ≡ Some a
-  latest_kept before xs ys a behind is = latest_behind before xs ys behind ∙ ap (λ o. option_or o (latest gives before)) is
+  latest_kept : (before xs ys : List Reading) (a : A) → Behind before xs ys → latest_given gives xs ≡ Some a → latest_given gives ys ≡ Some a
+  latest_kept before xs ys a behind is = latest_behind before xs ys behind ∙ ap (λ o. option_or o (latest_given gives before)) is
 
 blind_sps : (id : ℕ) (clvss : Bool) (poc : ℤ) (r : Reading) → sps_in id (again clvss poc r) ≡ sps_in id r
 blind_sps id clvss poc dropped = refl
@@ -217,14 +217,14 @@ whole_one before true p q ps others is all = record { qs = q ∷ all.qs; are = a
 whole_one before false p q ps others is all = all
 
 added : (before : List Reading) (c d : Current) (p : Picture) (ps others : List Picture) → c ≡ going p → CurrentAgain before c d → PicturesAgain before ps others
-    → PicturesAgain before (whole_part c ++ ps) (whole_part d ++ others)
+    → PicturesAgain before (picture_if_whole c ++ ps) (picture_if_whole d ++ others)
 added before nothing d p ps others is same all = absurd (cc)
 added before (headed b) d p ps others is same all = absurd (cc)
 added before (going o) d p ps others is same all =
     let q = same.0 in
     let whole = whole_again before o q same.2 in
-    subst (λ (e : Current). PicturesAgain before (whole_part (going o) ++ ps) (whole_part e ++ others)) (sym same.1)
-    (subst (λ w. PicturesAgain before (whole_part (going o) ++ ps) (cond w (q ∷ []) [] ++ others)) (sym whole)
+    subst (λ (e : Current). PicturesAgain before (picture_if_whole (going o) ++ ps) (picture_if_whole e ++ others)) (sym same.1)
+    (subst (λ w. PicturesAgain before (picture_if_whole (going o) ++ ps) (cond w (q ∷ []) [] ++ others)) (sym whole)
     (whole_one before (is_whole o) o q ps others same.2 all))
 
 going_with : (s : Slice) (c : Current) (p : Picture) → c ≡ going p → (o : Picture) × (with_slice s c ≡ going o)

@@ -8,7 +8,7 @@ use Rattle.vx_annexb.specs.Laws.{StreamIsUnique}
 use Rattle.vx_pic.specs.Bytes.{ArePictures, units_at}
 use Rattle.vx_pic.specs.Readings.{Picture, Reading, pictures}
 use Rattle.vx_pic.specs.Rules.{Readers}
-use Rattle.vx_pic.specs.Streams.{Outcome, all_read, lacks_slice, read_on}
+use Rattle.vx_pic.specs.Streams.{StreamReading, all_read, lacks_slice, read_on}
 use Rattle.vx_pic.specs.Written.{Rests}
 use Rattle.vx_segments.specs.Streams.{BytesJoin, CutIsJoined, PicturesAlike, SegmentIsReadAlike}
 
@@ -32,14 +32,14 @@ record EndsWell (R : Readers) (b : List ℕ) (ps : List Picture) : Type 0 where
 
 ends_well : (R : Readers) (b : List ℕ) (ps : List Picture) → ArePictures R b true ps None → EndsWell R b ps
 ends_well R b ps are =
-    let o : Outcome = read_on R [] (units_at b are.places) in
+    let o : StreamReading = read_on R [] (units_at b are.places) in
     let none = neither o.refusal (option_or are.framing (lacks_slice o.before)) (not_mapped _ _ (sym are.ends)) in
     let framing = neither are.framing (lacks_slice o.before) none.1 in
     record {
       places = are.places;
       stream = subst (λ (f : Option Refusal). IsStream b true are.places f) framing.0 are.stream;
       before = o.before;
-      read = ap (λ (r : Option Refusal). let x : Outcome = record { before = o.before; refusal = r } in x) none.0;
+      read = ap (λ (r : Option Refusal). let x : StreamReading = record { before = o.before; refusal = r } in x) none.0;
       done = are.done;
     }
 
@@ -51,7 +51,7 @@ cut_is_joined unique join alike R b c s cut =
     let j = join b c x.places y.places x.stream y.stream in
     let same : j.0 ≡ z.places = (unique (b ++ c) true j.0 z.places None None j.1 z.stream).0 in
     let units : units_at (b ++ c) z.places ≡ units_at b x.places ++ units_at c y.places = ap (units_at (b ++ c)) (sym same) ∙ j.2 in
-    let rests = subst (λ (o : Outcome). Rests o.before) x.read (cut.rests x.places x.stream) in
+    let rests = subst (λ (o : StreamReading). Rests o.before) x.read (cut.rests x.places x.stream) in
     let all = ap (read_on R []) (sym units) ∙ z.read in
     let is = alike R (units_at b x.places) (units_at c y.places) x.before y.before z.before x.read rests (cut.goes_on y.places y.stream) y.read all in (
       is.0,

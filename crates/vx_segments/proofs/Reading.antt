@@ -15,11 +15,11 @@ use Rattle.vx_pic.specs.Units.{Class, class_of, end_unit, has_header_inside, hea
 use Rattle.vx_layout.specs.declared.numbers.Numbers.{Numbers}
 use Rattle.vx_sei.specs.Sei.{spelled_length}
 use Rattle.vx_pic.specs.declared.sets.TheConstants as sets
-use Rattle.vx_pic.specs.Sets.{SliceHeader, is_qp, names_of, place_of, referred_sps, same_size, slice_qp}
+use Rattle.vx_pic.specs.Sets.{SliceHeader, is_qp, names_of, slices_before, referred_sps, same_size, slice_qp}
 use Rattle.vx_pic.specs.Counts.{fits_count, is_changed, is_empty}
-use Rattle.vx_pic.specs.Readings.{Begun, Current, Picture, Reading, Slice, current, dropped, first_slice, gathered, going, header_read, headed, is_ended, is_open, is_whole, is_within, messages_read, next_slice, nothing, pictures, pps_read, sequence_ended, sps_read, stored_pps, stored_sps, vps_read}
-use Rattle.vx_pic.specs.Rules.{Readers, alone, aps_reading, are_stored, begins, first, follows, further, gathers, joins, kind_at, message_limit, missing, opened, opens, picture_limit, reads, reads_as, size_of, starts_elsewhere}
-use Rattle.vx_pic.specs.Streams.{Outcome, all_read, one_more, read_on}
+use Rattle.vx_pic.specs.Readings.{Begun, Current, Picture, Reading, Slice, current, dropped, first_slice, gathered, going, header_read, headed, is_ended, is_open, is_whole, is_within_picture, messages_read, next_slice, nothing, pictures, pps_read, sequence_ended, sps_read, stored_pps, stored_sps, vps_read}
+use Rattle.vx_pic.specs.Rules.{Readers, alone, aps_reading, are_stored, begins, first, follows, further, gathers, joins, kind_at, message_limit, missing, opened, opens, picture_limit, reads, reads_as, picture_size, starts_elsewhere}
+use Rattle.vx_pic.specs.Streams.{StreamReading, all_read, one_more, read_on}
 use Rattle.vx_pic.proofs.Finishing.{passed, then_told}
 use Rattle.vx_segments.specs.Streams.{HaveNoEnd}
 use Rattle.vx_segments.proofs.Behind.{CurrentAgain, Fits, IsAgain, PictureAgain, Stands, again, pps_kept, sps_kept, stands_one, whole_again}
@@ -88,11 +88,11 @@ module _ (R : Readers) where
       let type = passed (not (nal_unit_type u == p.kind.nal_type)) _ _ s tid.1 in
       let header = then_told (R.slice p.kind.nal_type p.begun u) _ s type.1 in
       let h : SliceHeader = header.0 in
-      let place = passed (not (place_of p.begun.layout h == length p.slices)) _ _ s header.2 in
+      let place = passed (not (slices_before p.begun.layout h == length p.slices)) _ _ s header.2 in
       let bodies = then_told (are_stored p.before (names_of p.begun.pps p.begun.header h)) _ s place.1 in
       let qp = passed (not (is_qp p.begun.sps (slice_qp p.begun.pps p.begun.header h))) _ _ s bodies.2 in
       let payload = passed (nat_le (length u) h.payload) _ _ s qp.1 in
-      let size = passed (nat_lt picture_limit (size_of p + length u)) _ _ s payload.1 in
+      let size = passed (nat_lt picture_limit (picture_size p + length u)) _ _ s payload.1 in
       record { h = h; header = header.1; told = same_ok _ s size.1 }
 
 module _ (R : Readers) (before xs ys : List Reading) (stands : Stands before xs ys) where
@@ -212,15 +212,15 @@ module _ (R : Readers) (before xs ys : List Reading) (stands : Stands before xs 
 
   -- ---- a unit
 
-  within_same : (c d : Current) → CurrentAgain before c d → is_within c ≡ is_within d
+  within_same : (c d : Current) → CurrentAgain before c d → is_within_picture c ≡ is_within_picture d
   within_same nothing d same = sym (closed d same)
     where
-      closed : (d : Current) → is_open d ≡ false → is_within d ≡ false
+      closed : (d : Current) → is_open d ≡ false → is_within_picture d ≡ false
       closed nothing is = refl
       closed (headed b) is = refl
       closed (going p) is = is
-  within_same (headed b) d same = ap is_within (sym same)
-  within_same (going p) d same = ap not (sym (whole_again before p same.0 same.2)) ∙ ap is_within (sym same.1)
+  within_same (headed b) d same = ap is_within_picture (sym same)
+  within_same (going p) d same = ap not (sym (whole_again before p same.0 same.2)) ∙ ap is_within_picture (sym same.1)
 
   gathers_told : (zs : List Reading) (m : List Message) (x : Reading) → gathers zs m ≡ Ok x → messages_read m ≡ x
   gathers_told zs m x is = same_ok _ x (passed (nat_lt message_limit (spelled_length (gathered zs ++ m))) _ _ x is).1
@@ -248,16 +248,16 @@ module _ (R : Readers) (before xs ys : List Reading) (stands : Stands before xs 
       let w = then_told (R.vps (rbsp_of u)) _ y are in
       alike (vps_read v.0) x y tt (λ e. absurd (cc)) refl (same_ok _ x v.2) (ap (λ z. vps_read z) (one_of _ v.0 w.0 v.1 w.1) ∙ same_ok _ y w.2)
   class_again sps_unit u x y other is are =
-      let v = then_told (R.sps (rbsp_of u)) _ x (passed (is_within (current xs)) _ _ x is).1 in
-      let w = then_told (R.sps (rbsp_of u)) _ y (passed (is_within (current ys)) _ _ y are).1 in
+      let v = then_told (R.sps (rbsp_of u)) _ x (passed (is_within_picture (current xs)) _ _ x is).1 in
+      let w = then_told (R.sps (rbsp_of u)) _ y (passed (is_within_picture (current ys)) _ _ y are).1 in
       alike (sps_read v.0) x y tt (λ e. absurd (cc)) refl (same_ok _ x v.2) (ap (λ z. sps_read z) (one_of _ v.0 w.0 v.1 w.1) ∙ same_ok _ y w.2)
   class_again pps_unit u x y other is are =
-      let v = then_told (R.pps (rbsp_of u)) _ x (passed (is_within (current xs)) _ _ x is).1 in
-      let w = then_told (R.pps (rbsp_of u)) _ y (passed (is_within (current ys)) _ _ y are).1 in
+      let v = then_told (R.pps (rbsp_of u)) _ x (passed (is_within_picture (current xs)) _ _ x is).1 in
+      let w = then_told (R.pps (rbsp_of u)) _ y (passed (is_within_picture (current ys)) _ _ y are).1 in
       alike (pps_read v.0) x y tt (λ e. absurd (cc)) refl (same_ok _ x v.2) (ap (λ z. pps_read z) (one_of _ v.0 w.0 v.1 w.1) ∙ same_ok _ y w.2)
   class_again prefix_aps u x y other is are =
-      let v = then_told (R.aps (rbsp_of u)) _ x (passed (is_within (current xs)) _ _ x is).1 in
-      let w = then_told (R.aps (rbsp_of u)) _ y (passed (is_within (current ys)) _ _ y are).1 in
+      let v = then_told (R.aps (rbsp_of u)) _ x (passed (is_within_picture (current xs)) _ _ x is).1 in
+      let w = then_told (R.aps (rbsp_of u)) _ y (passed (is_within_picture (current ys)) _ _ y are).1 in
       alike (aps_reading v.0) x y (aps_fits v.0 (current xs)) (aps_goes v.0) (aps_again v.0) (same_ok _ x v.2) (ap aps_reading (one_of _ v.0 w.0 v.1 w.1) ∙ same_ok _ y w.2)
   class_again suffix_aps u x y other is are =
       let v = then_told (R.aps (rbsp_of u)) _ x is in
@@ -280,7 +280,7 @@ module _ (R : Readers) (before xs ys : List Reading) (stands : Stands before xs 
   class_again sei_unit u x y other is are =
       let within = within_same (current xs) (current ys) stands.current in
       let there = subst (λ b. cond b (Ok dropped) (gathers ys (R.sei (rbsp_of u))) ≡ Ok y) (sym within) are in
-      elim (cases_Bool (is_within (current xs))) [
+      elim (cases_Bool (is_within_picture (current xs))) [
         | inl inside ↦
             let one = subst (λ b. cond b (Ok dropped) (gathers xs (R.sei (rbsp_of u))) ≡ Ok x) inside is in
             let two = subst (λ b. cond b (Ok dropped) (gathers ys (R.sei (rbsp_of u))) ≡ Ok y) inside there in
@@ -317,16 +317,16 @@ module _ (R : Readers) (before xs ys : List Reading) (stands : Stands before xs 
 
 -- ---- all units
 
-one_told : (r : Result Reading Refusal) (before : List Reading) (rest : List Reading → Outcome) (all : List Reading) → one_more r before rest ≡ all_read all
+one_told : (r : Result Reading Refusal) (before : List Reading) (rest : List Reading → StreamReading) (all : List Reading) → one_more r before rest ≡ all_read all
     → (x : Reading) × (r ≡ Ok x) × (rest (x ∷ before) ≡ all_read all)
 one_told (Ok x) before rest all is = (x, refl, is)
-one_told (Err r) before rest all is = let wrong : Some r ≡ None = ap (λ (o : Outcome). o.refusal) is in absurd (cc)
+one_told (Err r) before rest all is = let wrong : Some r ≡ None = ap (λ (o : StreamReading). o.refusal) is in absurd (cc)
 
 pub units_again : (R : Readers) (before : List Reading) (units : List (List ℕ)) (xs ys own all : List Reading) → Stands before xs ys → HaveNoEnd units
     → read_on R xs units ≡ all_read own → read_on R ys units ≡ all_read all → Stands before own all
 units_again R before [] xs ys own all stands none is are =
-    let one : xs ≡ own = ap (λ (o : Outcome). o.before) is in
-    let two : ys ≡ all = ap (λ (o : Outcome). o.before) are in
+    let one : xs ≡ own = ap (λ (o : StreamReading). o.before) is in
+    let two : ys ≡ all = ap (λ (o : StreamReading). o.before) are in
     subst (λ l. Stands before l all) one (subst (λ l. Stands before xs l) two stands)
 units_again R before (u ∷ units) xs ys own all stands none is are =
     let one = one_told (reads R xs u) xs (λ after. read_on R after units) own is in

@@ -36,18 +36,18 @@ use Rattle.vx_pic.specs.Parts.{Parts, SlicePart, read_of}
 use Rattle.vx_pic.specs.Readings.{Begun, Slice}
 use Rattle.vx_pic.specs.Resident.{history_of, is_resident, kept_for, sent_before, units_written}
 use Rattle.vx_pic.specs.Sets.{filter_items, signed, slice_qp}
-use Rattle.vx_pic.specs.UnderSets.{header_of}
+use Rattle.vx_pic.specs.UnderSets.{picture_header_of}
 use Rattle.vx_pic.specs.Written.{Plan, Set, SetUnit, a_pps, an_sps, units_of}
 use Rattle.vx_write.specs.Units.{IsSeiUnit}
 use Rattle.vx_merge.specs.declared.corner.Corner.{Corner}
 use Rattle.vx_merge.specs.Bodies.{filters_in, has_lmcs, has_scaling, is_chroma_scaled, lmcs_body, once, scaling_body}
-use Rattle.vx_merge.specs.Headers.{HasHeader, IsSlice, SaysSlice, filter_in, id_for, ph_shape, sourced}
+use Rattle.vx_merge.specs.Headers.{HasMergedHeader, IsMergedSlice, SaysSlice, filter_in, id_for, ph_shape, sourced}
 use Rattle.vx_merge.specs.Merging.{IsBarred, Passes}
-use Rattle.vx_merge.specs.Needed.{Ids, TakeIds, alf_bodies, aps_at, by_ids, id_of, lmcs_bodies, needed_sets, scaling_bodies}
+use Rattle.vx_merge.specs.Needed.{Ids, TakeIds, alf_bodies, aps_of_body, by_ids, id_of_body, lmcs_bodies, sets_of_round, scaling_bodies}
 use Rattle.vx_merge.specs.Regions.{corners_in, ctb_of, layouts_in, placed_in}
 use Rattle.vx_merge.specs.Rounds.{picture_at}
 use Rattle.vx_merge.specs.Rules.{crosses_slices, crosses_tiles, has_slices, has_tiles, of_limit}
-use Rattle.vx_merge.specs.Shapes.{IsFrame, dpb_of, greatest, latency_of, least, level_of, numbers_in, of_lowest, offsets_at, pps_shape, sps_shape, window_of}
+use Rattle.vx_merge.specs.Shapes.{IsFrame, frame_dpb, greatest, latency_of, least, frame_level, numbers_in_round, of_lowest, offsets_at, frame_pps_shape, frame_sps_shape, frame_window}
 use Rattle.vx_merge.specs.Slots.{TakeSlots, alf_slots, lmcs_slots, scaling_slots}
 use Rattle.vx_merge.specs.Verdict.{IsVerdict}
 use Rattle.vx_merge.specs.Written.{IsMerged, limits_of, long_picture, long_unit}
@@ -157,17 +157,17 @@ abbrev pub reads_as : Plan → List Parts → Plan
 reads_as p other = record p { kind = record p.kind { clvss = (picture_at other 0).kind.clvss; poc = (picture_at other 0).kind.poc } }
 
 module _ (corners : List Corner) (level : Option ℕ) (round other : List Parts) (alike : AreAlike round other) where
-  numbers_same : (of : ℕ) → numbers_in round of ≡ numbers_in other of
+  numbers_same : (of : ℕ) → numbers_in_round round of ≡ numbers_in_round other of
   numbers_same of = maps (λ q. number q.sps of) (plainly _ (λ p clvss poc bodies. refl)) round other alike
 
-  window_same : window_of (placed_in corners round) round ≡ window_of (placed_in corners other) other
+  window_same : frame_window (placed_in corners round) round ≡ frame_window (placed_in corners other) other
   window_same =
       let ps = placed_in corners other in
       let left = offsets_same (λ p. p.x == 0) sps.sps_conf_win_left_offset ps round other alike in
       let right = offsets_same (λ p. p.x + p.w == frame_width ps) sps.sps_conf_win_right_offset ps round other alike in
       let top = offsets_same (λ p. p.y == 0) sps.sps_conf_win_top_offset ps round other alike in
       let bottom = offsets_same (λ p. p.y + p.h == frame_height ps) sps.sps_conf_win_bottom_offset ps round other alike in
-      ap (λ l. window_of l round) (placed corners round other alike)
+      ap (λ l. frame_window l round) (placed corners round other alike)
       ∙ (ap (λ l. window_by l (offsets_at (λ p. p.x + p.w == frame_width ps) sps.sps_conf_win_right_offset ps round)
       (offsets_at (λ p. p.y == 0) sps.sps_conf_win_top_offset ps round)
       (offsets_at (λ p. p.y + p.h == frame_height ps) sps.sps_conf_win_bottom_offset ps round)) left
@@ -181,28 +181,28 @@ module _ (corners : List Corner) (level : Option ℕ) (round other : List Parts)
       (offsets_at (λ p. p.x + p.w == frame_width ps) sps.sps_conf_win_right_offset ps other)
       (offsets_at (λ p. p.y == 0) sps.sps_conf_win_top_offset ps other) l) bottom)))
 
-  dpb_same : dpb_of round ≡ dpb_of other
+  dpb_same : frame_dpb round ≡ frame_dpb other
   dpb_same =
       let a = numbers_same dpb.dpb_max_dec_pic_buffering_minus1 in
       let b = numbers_same dpb.dpb_max_num_reorder_pics in
       let c = numbers_same dpb.dpb_max_latency_increase_plus1 in
-      ap (λ l. dpb_by l (numbers_in round dpb.dpb_max_num_reorder_pics) (numbers_in round dpb.dpb_max_latency_increase_plus1)) a
-      ∙ (ap (λ l. dpb_by (numbers_in other dpb.dpb_max_dec_pic_buffering_minus1) l (numbers_in round dpb.dpb_max_latency_increase_plus1)) b
-      ∙ ap (λ l. dpb_by (numbers_in other dpb.dpb_max_dec_pic_buffering_minus1) (numbers_in other dpb.dpb_max_num_reorder_pics) l) c)
+      ap (λ l. dpb_by l (numbers_in_round round dpb.dpb_max_num_reorder_pics) (numbers_in_round round dpb.dpb_max_latency_increase_plus1)) a
+      ∙ (ap (λ l. dpb_by (numbers_in_round other dpb.dpb_max_dec_pic_buffering_minus1) l (numbers_in_round round dpb.dpb_max_latency_increase_plus1)) b
+      ∙ ap (λ l. dpb_by (numbers_in_round other dpb.dpb_max_dec_pic_buffering_minus1) (numbers_in_round other dpb.dpb_max_num_reorder_pics) l) c)
 
-  sps_same : sps_shape corners round level ≡ sps_shape corners other level
+  sps_same : frame_sps_shape corners round level ≡ frame_sps_shape corners other level
   sps_same =
       let ps = placed_in corners round in
       let qs = placed_in corners other in
-      let window = window_of ps round in
-      let own = window_of qs other in
-      ap (λ l. sps_by l window (level_of round level) (dpb_of round) (corners_in corners round)) (placed corners round other alike)
-      ∙ (ap (λ l. sps_by qs l (level_of round level) (dpb_of round) (corners_in corners round)) window_same
-      ∙ (ap (λ l. sps_by qs own (unwrap_or level (greatest l)) (dpb_of round) (corners_in corners round)) (numbers_same general_level_idc)
-      ∙ (ap (λ l. sps_by qs own (level_of other level) l (corners_in corners round)) dpb_same
-      ∙ ap (λ l. sps_by qs own (level_of other level) (dpb_of other) l) (corners_same corners round other alike))))
+      let window = frame_window ps round in
+      let own = frame_window qs other in
+      ap (λ l. sps_by l window (frame_level round level) (frame_dpb round) (corners_in corners round)) (placed corners round other alike)
+      ∙ (ap (λ l. sps_by qs l (frame_level round level) (frame_dpb round) (corners_in corners round)) window_same
+      ∙ (ap (λ l. sps_by qs own (unwrap_or level (greatest l)) (frame_dpb round) (corners_in corners round)) (numbers_same general_level_idc)
+      ∙ (ap (λ l. sps_by qs own (frame_level other level) l (corners_in corners round)) dpb_same
+      ∙ ap (λ l. sps_by qs own (frame_level other level) (frame_dpb other) l) (corners_same corners round other alike))))
 
-  pps_same : (frame : Numbers) (id : ℕ) → pps_shape corners round frame id ≡ pps_shape corners other frame id
+  pps_same : (frame : Numbers) (id : ℕ) → frame_pps_shape corners round frame id ≡ frame_pps_shape corners other frame id
   pps_same frame id =
       let qs = placed_in corners other in
       let tiles : Bool = of_lowest has_tiles crosses_tiles false other in
@@ -238,9 +238,9 @@ module _ (corners : List Corner) (level : Option ℕ) (round other : List Parts)
   ids_taken : (t : ℕ) (sent : List SetUnit) (plain : List Item) (ids : Ids) → TakeIds round t sent plain ids → TakeIds other t sent plain ids
   ids_taken t sent plain ids is = record {
     of_pps = is.of_pps;
-    of_alf = subst (λ b. TakeSlots alf_slots (length b) t sent (aps_at aps.ALF b) ids.alf) alf_same is.of_alf;
-    of_lmcs = subst (λ b. TakeSlots lmcs_slots (length b) t sent (aps_at aps.LMCS b) ids.lmcs) lmcs_same is.of_lmcs;
-    of_scaling = subst (λ b. TakeSlots scaling_slots (length b) t sent (aps_at aps.SCALING b) ids.scaling) scaling_same is.of_scaling;
+    of_alf = subst (λ b. TakeSlots alf_slots (length b) t sent (aps_of_body aps.ALF b) ids.alf) alf_same is.of_alf;
+    of_lmcs = subst (λ b. TakeSlots lmcs_slots (length b) t sent (aps_of_body aps.LMCS b) ids.lmcs) lmcs_same is.of_lmcs;
+    of_scaling = subst (λ b. TakeSlots scaling_slots (length b) t sent (aps_of_body aps.SCALING b) ids.scaling) scaling_same is.of_scaling;
   }
 
   abbrev sets_by : Ids → List Item → List Item → List (List ℕ) → List (List ℕ) → List (List ℕ) → List Set
@@ -248,7 +248,7 @@ module _ (corners : List Corner) (level : Option ℕ) (round other : List Parts)
       an_sps s ∷ a_pps p
       ∷ (by_ids aps.ALF alf_slots a ids.alf ++ (by_ids aps.LMCS lmcs_slots b ids.lmcs ++ by_ids aps.SCALING scaling_slots c ids.scaling))
 
-  sets_same : (ids : Ids) (s p : List Item) → needed_sets round ids s p ≡ needed_sets other ids s p
+  sets_same : (ids : Ids) (s p : List Item) → sets_of_round round ids s p ≡ sets_of_round other ids s p
   sets_same ids s p =
       ap (λ l. sets_by ids s p l (lmcs_bodies round) (scaling_bodies round)) alf_same
       ∙ (ap (λ l. sets_by ids s p (alf_bodies other) l (scaling_bodies round)) lmcs_same
@@ -256,11 +256,11 @@ module _ (corners : List Corner) (level : Option ℕ) (round other : List Parts)
 
   -- ---- headers
 
-  header_same : (ids : Ids) (b : Begun) → HasHeader round ids b → HasHeader other ids b
+  header_same : (ids : Ids) (b : Begun) → HasMergedHeader round ids b → HasMergedHeader other ids b
   header_same ids b is = record {
-    says = subst (λ h. ph_reshaped.IsReshaped h (ph_shape other ids) b.sps b.pps (header_of b))
+    says = subst (λ h. ph_reshaped.IsReshapedPictureHeader h (ph_shape other ids) b.sps b.pps (picture_header_of b))
         (at_same (λ q. q.header) (plainly _ (λ p clvss poc bodies. refl)) round other alike 0)
-        (subst (λ s. ph_reshaped.IsReshaped (picture_at round 0).header s b.sps b.pps (header_of b)) (ph_same ids) is.says);
+        (subst (λ s. ph_reshaped.IsReshapedPictureHeader (picture_at round 0).header s b.sps b.pps (picture_header_of b)) (ph_same ids) is.says);
     unit = is.unit;
     is = is.is;
     rbsp = is.rbsp;
@@ -276,7 +276,7 @@ module _ (corners : List Corner) (level : Option ℕ) (round other : List Parts)
       let here = at round other alike k in
       let e = elsewhere p q.kind.clvss q.kind.poc q.bodies in
       let told = λ (id : ℕ) (is : body_of p aps.ALF id ≡ body_of e aps.ALF id).
-      ap (λ o. id_of (alf_bodies round) ids.alf (unwrap_or o [])) is ∙ ap (λ b. id_of b ids.alf (unwrap_or (body_of e aps.ALF id) [])) alf_same in
+      ap (λ o. id_of_body (alf_bodies round) ids.alf (unwrap_or o [])) is ∙ ap (λ b. id_of_body b ids.alf (unwrap_or (body_of e aps.ALF id) [])) alf_same in
       ids_same p e (id_for round ids p) (id_for other ids e) told (filter_items p.pps p.header.fields (read_of s.header)) same
       ∙ ap (λ x. filter_in other ids x s) (sym here.same)
 
@@ -297,7 +297,7 @@ module _ (corners : List Corner) (level : Option ℕ) (round other : List Parts)
       }
 
   slice_same : (ids : Ids) (t : ℕ) (b : Begun) (k : ℕ) (s : SlicePart) (w : Slice)
-      → HaveAlike (picture_at round k) (picture_at other k) (slice_names (picture_at round k) s) → IsSlice round ids t b k s w → IsSlice other ids t b k s w
+      → HaveAlike (picture_at round k) (picture_at other k) (slice_names (picture_at round k) s) → IsMergedSlice round ids t b k s w → IsMergedSlice other ids t b k s w
   slice_same ids t b k s w same is = record {
     front = is.front;
     is = record {
@@ -323,11 +323,11 @@ module _ (corners : List Corner) (level : Option ℕ) (round other : List Parts)
       each_sourced SameNames 0 round
       (λ i. let here : i ≡ 0 + i = omega arith in subst (λ n. AllByRecursion (SameNames n) (picture_at round i).slices) here (at round other alike i).slices)
 
-  slices_same : (ids : Ids) (t : ℕ) (b : Begun) (ws : List Slice) → AllZip (λ x w. IsSlice round ids t b x.0 x.1 w) (sourced 0 round) ws
-      → AllZip (λ x w. IsSlice other ids t b x.0 x.1 w) (sourced 0 other) ws
+  slices_same : (ids : Ids) (t : ℕ) (b : Begun) (ws : List Slice) → AllZip (λ x w. IsMergedSlice round ids t b x.0 x.1 w) (sourced 0 round) ws
+      → AllZip (λ x w. IsMergedSlice other ids t b x.0 x.1 w) (sourced 0 other) ws
   slices_same ids t b ws zipped =
-      subst (λ l. AllZip (λ (x : ℕ × SlicePart) w. IsSlice other ids t b x.0 x.1 w) l ws) (sourced_same 0 round other alike)
-      (zip_each (λ (x : ℕ × SlicePart). SameNames x.0 x.1) (λ x w. IsSlice round ids t b x.0 x.1 w) (λ x w. IsSlice other ids t b x.0 x.1 w)
+      subst (λ l. AllZip (λ (x : ℕ × SlicePart) w. IsMergedSlice other ids t b x.0 x.1 w) l ws) (sourced_same 0 round other alike)
+      (zip_each (λ (x : ℕ × SlicePart). SameNames x.0 x.1) (λ x w. IsMergedSlice round ids t b x.0 x.1 w) (λ x w. IsMergedSlice other ids t b x.0 x.1 w)
       (λ x w same is. slice_same ids t b x.0 x.1 w same is) (sourced 0 round) ws all_names zipped)
 
   -- ---- what is written
@@ -352,17 +352,17 @@ module _ (corners : List Corner) (level : Option ℕ) (round other : List Parts)
         kind = ap (λ (k : Kind). let o : Kind = record k { clvss = (picture_at other 0).kind.clvss; poc = (picture_at other 0).kind.poc } in o) is.kind ∙ sym (ap (λ (q : Parts). q.kind) first.same);
         temporal_id = is.temporal_id;
         frame = frame_same p.begun.layout is.frame;
-        sps = subst (λ l. sps_reshaped.IsReshaped l (sps_shape corners other level) p.begun.sps)
+        sps = subst (λ l. sps_reshaped.IsReshapedSps l (frame_sps_shape corners other level) p.begun.sps)
             (at_same (λ q. q.sps) (plainly _ (λ p clvss poc bodies. refl)) round other alike 0)
-            (subst (λ s. sps_reshaped.IsReshaped (picture_at round 0).sps s p.begun.sps) sps_same is.sps);
+            (subst (λ s. sps_reshaped.IsReshapedSps (picture_at round 0).sps s p.begun.sps) sps_same is.sps);
         ids = is.ids;
         plain = is.plain;
-        plain_is = subst (λ l. pps_reshaped.IsReshaped l (pps_shape corners other p.begun.layout 0) is.plain) of_pps
-            (subst (λ s. pps_reshaped.IsReshaped (picture_at round 0).pps s is.plain) (pps_same p.begun.layout 0) is.plain_is);
+        plain_is = subst (λ l. pps_reshaped.IsReshapedPps l (frame_pps_shape corners other p.begun.layout 0) is.plain) of_pps
+            (subst (λ s. pps_reshaped.IsReshapedPps (picture_at round 0).pps s is.plain) (pps_same p.begun.layout 0) is.plain_is);
         taken = subst (λ s. TakeIds other p.kind.temporal_id s is.plain is.ids) sent
             (ids_taken p.kind.temporal_id (sent_before done p) is.plain is.ids is.taken);
-        pps = subst (λ l. pps_reshaped.IsReshaped l (pps_shape corners other p.begun.layout is.ids.pps) p.begun.pps) of_pps
-            (subst (λ s. pps_reshaped.IsReshaped (picture_at round 0).pps s p.begun.pps) (pps_same p.begun.layout is.ids.pps) is.pps);
+        pps = subst (λ l. pps_reshaped.IsReshapedPps l (frame_pps_shape corners other p.begun.layout is.ids.pps) p.begun.pps) of_pps
+            (subst (λ s. pps_reshaped.IsReshapedPps (picture_at round 0).pps s p.begun.pps) (pps_same p.begun.layout is.ids.pps) is.pps);
         header = header_same is.ids p.begun is.header;
         slices = slices_same is.ids p.kind.nal_type p.begun _ is.slices;
         needed = is.needed;

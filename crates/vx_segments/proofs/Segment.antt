@@ -7,14 +7,14 @@ use Rattle.vx_aps.specs.declared.aps.Aps.{Aps}
 use Rattle.vx_aps.specs.declared.aps.TheConstants.{SCALING}
 use Rattle.vx_sei.specs.declared.message.Message.{Message}
 use Rattle.vx_pic.specs.declared.kind.Kind.{Kind}
-use Rattle.vx_pic.specs.Finished.{AreFinished, IsSound, PicturesAreFinished}
+use Rattle.vx_pic.specs.Finished.{AreFinished, IsSoundPicture, PicturesAreFinished}
 use Rattle.vx_pic.specs.Parts.{Parts, aps_at, id_count, parts_of, slice_part, stored_sets}
 use Rattle.vx_pic.specs.PictureLayout.{ids_of}
 use Rattle.vx_pic.specs.Readings.{Begun, Current, Picture, Reading, Slice, current, gathered, going, headed, is_open, nothing, pictures, stored_aps}
 use Rattle.vx_pic.specs.Rules.{Readers}
 use Rattle.vx_pic.specs.Sets.{Slot, filter_items, named_filters, names_of}
-use Rattle.vx_pic.specs.Streams.{Outcome, all_read, read_on, unless_refused}
-use Rattle.vx_pic.specs.UnderSets.{header_of}
+use Rattle.vx_pic.specs.Streams.{StreamReading, all_read, read_on, unless_refused}
+use Rattle.vx_pic.specs.UnderSets.{picture_header_of}
 use Rattle.vx_pic.specs.Written.{AreInForce, Rests}
 use Rattle.vx_pic.proofs.Going.{goes_on}
 use Rattle.vx_extract.proofs.KeptBodies.{at_place}
@@ -38,7 +38,7 @@ parts_by k b slices bodies messages = record {
   sps = b.sps;
   pps = b.pps;
   layout = b.layout;
-  header = header_of b;
+  header = picture_header_of b;
   ids = ids_of b.sps b.pps;
   unit = b.unit;
   slices = map (slice_part b) slices;
@@ -100,7 +100,7 @@ module _ (before : List Reading) (p q : Picture) (is : PictureAgain before p q) 
       ∙ (ap (λ m. parts_by q.kind p.begun p.slices sets m) (gathered_behind before p.before q.before none is.behind)
       ∙ ap (λ k. parts_by k p.begun p.slices sets (gathered p.before)) (own_kind q.kind p.kind is.clvss is.poc is.kind)))
 
-  picture_alike : (R : Readers) (earlier : List Picture) → gathered before ≡ [] → IsSound R earlier p → IsReadAlike (parts_of p) (parts_of q)
+  picture_alike : (R : Readers) (earlier : List Picture) → gathered before ≡ [] → IsSoundPicture R earlier p → IsReadAlike (parts_of p) (parts_of q)
   picture_alike R earlier none sound =
       let names = subst (AllByRecursion Names) sound.slices sound.bodies in
       record { same = parts_same none; header = header_alike sound.first names.0; slices = slices_alike p.slices sound.bodies }
@@ -120,7 +120,7 @@ module _ (R : Readers) (first later : List (List ℕ)) (before own all : List Re
   stands : Stands before own all
   stands =
       let on : read_on R [] (first ++ later) ≡ read_on R before later
-      = goes_on R [] first later ∙ ap (λ (o : Outcome). unless_refused o.refusal o.before (λ after. read_on R after later)) one in
+      = goes_on R [] first later ∙ ap (λ (o : StreamReading). unless_refused o.refusal o.before (λ after. read_on R after later)) one in
       units_again R before later [] before own all (nothing_read before rests) none is (sym on ∙ are)
 
 closed_again : (before : List Reading) (c d : Current) → CurrentAgain before c d → is_open c ≡ false → is_open d ≡ false
@@ -140,5 +140,5 @@ joined_rests R first later before own all one rests none is are rest =
 pub segment_is_read_alike : PicturesAreFinished → SegmentIsReadAlike
 segment_is_read_alike finished R first later before own all one rests none is are =
     let it = stands R first later before own all one rests none is are in
-    let sound : AreFinished R (pictures own) = subst (λ (o : Outcome). AreFinished R (pictures o.before)) is (finished R later) in
+    let sound : AreFinished R (pictures own) = subst (λ (o : StreamReading). AreFinished R (pictures o.before)) is (finished R later) in
     (it.pictures.qs, it.pictures.are, pictures_alike R before (pictures own) it.pictures.qs rests.none sound it.pictures.each)

@@ -6,7 +6,7 @@ use Rattle.std.proofs.lemmas.Bool.{cases_Bool}
 use Rattle.std.proofs.lemmas.Grind.{flat_map-append}
 use Rattle.std.proofs.lemmas.List.Elements.{filter-append, All-head, All-tail}
 use Rattle.std.specs.Prelude.{All, IsTrue}
-use Rattle.vx_sei.specs.Laws.{WrittenIsRead, CarriedIsShorter}
+use Rattle.vx_sei.specs.laws.Messages.{WrittenIsRead, CarriedIsShorter}
 use Rattle.std.proofs.lemmas.List.Concat.{flat_map-cons}
 use Rattle.vx_sei.specs.declared.message.Message.{Message}
 use Rattle.vx_sei.specs.Sei.{ff_coded, sei_message, sei_messages, IsSei, is_carried, carried}

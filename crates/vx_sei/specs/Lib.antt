@@ -1,4 +1,4 @@
 -- What the contracts of this crate cite.
 pub mod Sei
-pub mod Laws
 pub mod inner
+pub mod laws

@@ -1,5 +1,5 @@
 //! Laws of SEI RBSPs: functions that do nothing, each with a law as its contract.
-ghost use Rattle.vx_sei.specs.Laws.{SeiIsUnique, WrittenIsRead, SeiEndsIn80, CarriedIsShorter};
+ghost use Rattle.vx_sei.specs.laws.Messages.{SeiIsUnique, WrittenIsRead, SeiEndsIn80, CarriedIsShorter};
 
 /// An RBSP is that of one list of messages at most.
 pub fn sei_is_unique()

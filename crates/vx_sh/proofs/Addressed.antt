@@ -20,8 +20,8 @@ use Rattle.vx_fields.specs.declared.sh.TheConstants.{sh_subpic_id, sh_slice_addr
 use Rattle.vx_fields.specs.declared.names.sh.TheConstants.{NUM_SUBPICS, SUBPIC, NUM_SLICES}
 use Rattle.vx_layout.specs.declared.numbers.Numbers.{Numbers}
 use Rattle.vx_sh.specs.declared.tables.TheConstants.{SUBPIC_ID, KNOWN_SUBPIC, ADDRESS}
-use Rattle.vx_sh.specs.Whole.{index_of, slices_at, located, id_form, subpic_form, points_of, there, behind_header}
-use Rattle.vx_sh.specs.Addresses.{AddressesAreBelow}
+use Rattle.vx_sh.specs.Whole.{index_of, num_slices_in_subpic, located, subpic_id_form, subpic_form, points_of, there, behind_header}
+use Rattle.vx_sh.specs.laws.Addresses.{AddressesAreBelow}
 use Rattle.vx_sh.proofs.Told.{done_is, id_is, id_size, inside_size, rest_peeled, numbers_are_told}
 
 -- ---- the field
@@ -62,37 +62,37 @@ address_below s w e size follows =
 
 -- ---- the number of slices
 
-slices_are : (ids : List ℕ) (layout : Numbers) (s : List ℕ) → length s ≡ 1024 → slice_index (located ids layout s) NUM_SLICES ≡ slices_at layout (index_of (slice_index s sh_subpic_id) ids)
+slices_are : (ids : List ℕ) (layout : Numbers) (s : List ℕ) → length s ≡ 1024 → slice_index (located ids layout s) NUM_SLICES ≡ num_slices_in_subpic layout (index_of (slice_index s sh_subpic_id) ids)
 unfolding located
 slices_are ids layout s size =
     let i = index_of (slice_index s sh_subpic_id) ids in
     let first = slice_set s NUM_SUBPICS (length ids) in
     let second = slice_set first SUBPIC i in
     let within : NUM_SLICES < length second = omega (arith, length-set first SUBPIC i, length-set s NUM_SUBPICS (length ids), size) in
-    get_or-set_at second NUM_SLICES NUM_SLICES (slices_at layout i) 0 refl within
+    get_or-set_at second NUM_SLICES NUM_SLICES (num_slices_in_subpic layout i) 0 refl within
 
 located_size : (ids : List ℕ) (layout : Numbers) (s : List ℕ) → length (located ids layout s) ≡ length s
 unfolding located
 located_size ids layout s =
     let i = index_of (slice_index s sh_subpic_id) ids in
     let first = slice_set s NUM_SUBPICS (length ids) in
-    length-set (slice_set first SUBPIC i) NUM_SLICES (slices_at layout i) ∙ length-set first SUBPIC i ∙ length-set s NUM_SUBPICS (length ids)
+    length-set (slice_set first SUBPIC i) NUM_SLICES (num_slices_in_subpic layout i) ∙ length-set first SUBPIC i ∙ length-set s NUM_SUBPICS (length ids)
 
 -- ---- the whole
 
 pub addresses_are_below : AddressesAreBelow
-unfolding fresh behind_header subpic_form id_form hides_row hides_counter
+unfolding fresh behind_header subpic_form subpic_id_form hides_row hides_counter
 addresses_are_below n fields inside f size =
     let b = parted (subpic_form n.ids n.layout f.at) (there n.table n.layout) f.ends in
-    let k = parted (id_form n.ids n.layout f.at) (form_of KNOWN_SUBPIC) b.first in
+    let k = parted (subpic_id_form n.ids n.layout f.at) (form_of KNOWN_SUBPIC) b.first in
     let i = parted (form_of SUBPIC_ID f.at) (λ t. done (located n.ids n.layout t)) k.first in
     let told = numbers_are_told n fields inside f size in
     let id_whole : length i.mid ≡ 1024 = sym (id_size f.at i.front i.mid i.first) ∙ sym (inside_size n.slice f.first f.at f.begins) ∙ size in
     let still = left_end ((tables_leave (set_of (NUM_SLICES ∷ [])) KNOWN_SUBPIC refl).at k.mid) k.second in
     let whole : length b.mid ≡ 1024 = sym still.size ∙ ap length (sym (done_is i.second)) ∙ located_size n.ids n.layout i.mid ∙ id_whole in
     let index : index_of (slice_index i.mid sh_subpic_id) n.ids ≡ slice_index f.end SUBPIC = ap (λ id. index_of id n.ids) (id_is n fields inside f size b k i) ∙ sym told.subpic in
-    let slices : slice_index b.mid NUM_SLICES ≡ slices_at n.layout (slice_index f.end SUBPIC)
-    = sym (still.same NUM_SLICES refl) ∙ ap (λ s. slice_index s NUM_SLICES) (sym (done_is i.second)) ∙ slices_are n.ids n.layout i.mid id_whole ∙ ap (slices_at n.layout) index in
+    let slices : slice_index b.mid NUM_SLICES ≡ num_slices_in_subpic n.layout (slice_index f.end SUBPIC)
+    = sym (still.same NUM_SLICES refl) ∙ ap (λ s. slice_index s NUM_SLICES) (sym (done_is i.second)) ∙ slices_are n.ids n.layout i.mid id_whole ∙ ap (num_slices_in_subpic n.layout) index in
     let p = rest_peeled n.table (points_of n.layout b.mid) b.mid b.others f.end b.second in
     let address : slice_index p.mid sh_slice_address ≡ number fields sh_slice_address = p.agree.same sh_slice_address refl ∙ told.address in
     elim (address_below b.mid p.front p.mid whole p.follows) [

@@ -12,7 +12,7 @@ use Rattle.vx_table.specs.Forms.{Form, done, field, ◌>>=◌, form_of}
 use Rattle.vx_table.specs.Spelling.{Spells, code_of, items_along}
 use Rattle.vx_table.specs.Values.{Follows, to_end, through, bits_along, Closes}
 use Rattle.vx_table.specs.EachField.{EachField}
-use Rattle.vx_table.specs.Trailing.{is_trailing}
+use Rattle.vx_table.specs.laws.Trailing.{is_trailing}
 use Rattle.vx_table.proofs.Apart.{reads_one_way}
 use Rattle.vx_table.proofs.EachField.{each_then, each_present, each_of_rows}
 use Rattle.vx_table.proofs.Joined.{joined}
@@ -28,7 +28,7 @@ use Rattle.vx_sh.specs.Whole.{At, behind_header, header_inside, index_of, slice_
 use Rattle.vx_sh.specs.declared.header.SliceHeader.{SliceHeader}
 use Rattle.vx_sh.specs.InForce.{in_force_at}
 use Rattle.vx_sh.specs.Reshaped.{ReshapedIsReadAgain}
-use Rattle.vx_sh.specs.Value.{AreFields, values_of, BeginsSlice, IsSpelling, NoProperPrefix, SpellingIsRead, SpellingBegins, TellsNumbers}
+use Rattle.vx_sh.specs.Value.{AreFields, values_of, BeginsSlice, IsSliceHeaderSpelling, NoProperPrefix, SpellingIsRead, SpellingBegins, TellsNumbers}
 use Rattle.vx_sh.proofs.Depending.{Pass, behind_each}
 use Rattle.vx_sh.proofs.Sized.{all_follow}
 use Rattle.vx_sh.proofs.Told.{numbers_are_told}
@@ -59,7 +59,7 @@ slice_opens n =
 -- ---- read again
 
 -- the bytes begin the slice header, whatever payload follows
-spelled_again : (n : At) (fields header : List Item) (bytes payload : List ℕ) (is : IsSpelling n fields header bytes)
+spelled_again : (n : At) (fields header : List Item) (bytes payload : List ℕ) (is : IsSliceHeaderSpelling n fields header bytes)
     → Spells (8 * length (bytes ++ payload)) (slice_form n) (values_of is.is.slice) (bits_of (bytes ++ payload)) (bits_of payload)
 spelled_again n fields header bytes payload is =
     let f = is.is.slice in
@@ -135,7 +135,7 @@ same_header a b inside fields subpic address lists = rw (inside, fields, subpic,
 
 -- what is read of the spelling of a header whose numbers its items tell is that header
 read_as_written : (n : At) (written read : SliceHeader) (others : List Item) (bytes payload : List ℕ) (size : ℕ) → length n.slice ≡ 1024
-    → TellsNumbers n written → IsSpelling n written.fields others bytes → BeginsSlice n (bytes ++ payload) read size
+    → TellsNumbers n written → IsSliceHeaderSpelling n written.fields others bytes → BeginsSlice n (bytes ++ payload) read size
     → (read ≡ written) × (size ≡ length bytes)
 read_as_written n written read others bytes payload size whole tells is begins =
     let one = spelling_is_read n written.fields others bytes payload read size is begins in

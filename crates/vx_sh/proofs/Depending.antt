@@ -24,8 +24,8 @@ use Rattle.vx_rpl.specs.Lists.{lists_form, weights, weights_form}
 use Rattle.vx_rpl.specs.Depends.{lists_pass}
 use Rattle.vx_rpl.proofs.Passing.{lists_each}
 use Rattle.vx_sh.specs.declared.tables.TheConstants.{SUBPIC_ID, KNOWN_SUBPIC, ADDRESS}
-use Rattle.vx_sh.specs.Slice.{with_entry_points, address_form, before_lists, lists_here, between, weights_here, behind_weights, front_form, before_weights, rest_form}
-use Rattle.vx_sh.specs.Whole.{located, id_form, subpic_form, points_of, there, behind_header}
+use Rattle.vx_sh.specs.Slice.{with_entry_points, address_form, before_lists, lists_here, between, weights_here, behind_weights, front_form, sh_before_weights, rest_form}
+use Rattle.vx_sh.specs.Whole.{located, subpic_id_form, subpic_form, points_of, there, behind_header}
 
 -- where the address is known, so is the number of entry points
 pub points_carry : (points : ℕ → ℕ) (shown known : List ℕ) → IsTrue (has known sh_slice_address)
@@ -48,7 +48,7 @@ pub rest_carries : (table : RplTable) (points : ℕ → ℕ) (shown a b c d behi
     → knows_formula e (Plain (Latest HAS_WEIGHTS)) ≡ true → sections_chain shown e weights ≡ true
     → sections_chain shown e behind_weights ≡ true → behind_sections shown e behind_weights ≡ f
     → Carries shown a f (rest_form table points)
-unfolding address_form front_form before_weights rest_form knows_presence within_block
+unfolding address_form front_form sh_before_weights rest_form knows_presence within_block
 rest_carries table points shown a b c d behind_lists e f test_a is_b at is_c test_c is_d knows_d lists test_d is_e knows_e weights_test test_e is_f =
     let first : Carries shown a b (form_of ADDRESS) = rw (sym is_b) (table_carries shown a ADDRESS test_a) in
     let counted : Carries shown b c (λ t. done (with_entry_points points t)) = rw (sym is_c) (points_carry points shown b at) in
@@ -58,27 +58,27 @@ rest_carries table points shown a b c d behind_lists e f test_a is_b at is_c tes
     let with_lists = carries_together shown a d d (front_form points) (lists_here table) front
     (carries_present shown d behind_lists (When (Plain (Latest HAS_LISTS))) (lists_form table) knows_d lists) in
     let third : Carries shown d e (sections_form between) = rw (sym is_e) (sections_carry shown d between test_d) in
-    let before : Carries shown a e (before_weights table points)
+    let before : Carries shown a e (sh_before_weights table points)
     = carries_together shown a d e (λ s. front_form points s >>= lists_here table) (sections_form between) with_lists third in
-    let with_weights = carries_together shown a e e (before_weights table points) weights_here before
+    let with_weights = carries_together shown a e e (sh_before_weights table points) weights_here before
     (carries_present shown e (behind_sections shown e weights) (When (Plain (Latest HAS_WEIGHTS))) weights_form knows_e (sections_carry shown e weights weights_test)) in
     let last : Carries shown e f (sections_form behind_weights) = rw (sym is_f) (sections_carry shown e behind_weights test_e) in
-    carries_together shown a e f (λ s. before_weights table points s >>= weights_here) (sections_form behind_weights) with_weights last
+    carries_together shown a e f (λ s. sh_before_weights table points s >>= weights_here) (sections_form behind_weights) with_weights last
 
 -- what holds of each field of the parts holds of each field
 pub rest_each : (P : Cell ℕ → Type 0) (table : RplTable) (points : ℕ → ℕ) → ((s : List ℕ) → EachField P (form_of ADDRESS s)) → ((s : List ℕ) → EachField P (sections_form before_lists s))
     → ((s : List ℕ) → EachField P (lists_form table s)) → ((s : List ℕ) → EachField P (sections_form between s)) → ((s : List ℕ) → EachField P (weights_form s))
     → ((s : List ℕ) → EachField P (sections_form behind_weights s)) → (s : List ℕ) → EachField P (rest_form table points s)
-unfolding address_form front_form before_weights rest_form
+unfolding address_form front_form sh_before_weights rest_form
 rest_each P table points address second lists third weights_each last s =
     let in_address : EachField P (address_form points s) = each_then P (form_of ADDRESS s) (λ t. done (with_entry_points points t)) (address s) (λ t. tt) in
     let in_front : EachField P (front_form points s) = each_then P (address_form points s) (sections_form before_lists) in_address second in
     let in_lists : EachField P (front_form points s >>= lists_here table)
     = each_then P (front_form points s) (lists_here table) in_front (λ t. each_present P (When (Plain (Latest HAS_LISTS))) (lists_form table) t lists) in
-    let in_before : EachField P (before_weights table points s) = each_then P (front_form points s >>= lists_here table) (sections_form between) in_lists third in
-    let in_weights : EachField P (before_weights table points s >>= weights_here)
-    = each_then P (before_weights table points s) weights_here in_before (λ t. each_present P (When (Plain (Latest HAS_WEIGHTS))) weights_form t weights_each) in
-    each_then P (before_weights table points s >>= weights_here) (sections_form behind_weights) in_weights last
+    let in_before : EachField P (sh_before_weights table points s) = each_then P (front_form points s >>= lists_here table) (sections_form between) in_lists third in
+    let in_weights : EachField P (sh_before_weights table points s >>= weights_here)
+    = each_then P (sh_before_weights table points s) weights_here in_before (λ t. each_present P (When (Plain (Latest HAS_WEIGHTS))) weights_form t weights_each) in
+    each_then P (sh_before_weights table points s >>= weights_here) (sections_form behind_weights) in_weights last
 
 -- a test of all rows behind a picture header
 pub record Pass (test : Row → Bool) : Type 0 where
@@ -110,9 +110,9 @@ rest_passes P test sound table points s pass =
 -- of the id
 pub subpic_passes : (P : Cell ℕ → Type 0) (test : Row → Bool) (sound : (c : Cell Formula) (s : List ℕ) → test (Field c) ≡ true → P (cell_at s c)) (ids : List ℕ) (layout : Numbers) (s : List ℕ)
     → rows_pass test SUBPIC_ID ≡ true → rows_pass test KNOWN_SUBPIC ≡ true → EachField P (subpic_form ids layout s)
-unfolding subpic_form id_form
+unfolding subpic_form subpic_id_form
 subpic_passes P test sound ids layout s id known =
-    each_then P (id_form ids layout s) (form_of KNOWN_SUBPIC)
+    each_then P (subpic_id_form ids layout s) (form_of KNOWN_SUBPIC)
     (each_then P (form_of SUBPIC_ID s) (λ u. done (located ids layout u)) (each_of_rows P test sound SUBPIC_ID s id) (λ u. tt)) (λ u. each_of_rows P test sound KNOWN_SUBPIC u known)
 
 pub behind_each : (P : Cell ℕ → Type 0) (test : Row → Bool) (sound : (c : Cell Formula) (s : List ℕ) → test (Field c) ≡ true → P (cell_at s c)) (table : RplTable) (ids : List ℕ) (layout : Numbers) (s : List ℕ)

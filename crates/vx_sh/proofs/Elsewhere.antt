@@ -11,7 +11,7 @@ use Rattle.vx_table.specs.Spelling.{Spells, items_along}
 use Rattle.vx_table.specs.Values.{Follows, Parted}
 use Rattle.vx_table.specs.Depends.{with_all, set_of, Inside, Agree, Alike, at_ends}
 use Rattle.vx_table.specs.Claims.{knows_formula, knows_width, knows_range, knows_presence, hides_counter, hides_row, behind_field, within_block, depends, table_depends, behind_rows, behind_table}
-use Rattle.vx_table.specs.Again.{AllShown, shows_row}
+use Rattle.vx_table.specs.laws.Again.{AllShown, shows_row}
 use Rattle.vx_table.specs.Loaded.{number}
 use Rattle.vx_table.proofs.Agreeing.{agree_back, agree_on, agree_less, agree_set, agree_outside}
 use Rattle.vx_table.proofs.Again.{follows_again, reads_again, tables_show, all_shown_then}
@@ -34,8 +34,8 @@ use Rattle.vx_ph.proofs.Passing as ph_passing
 use Rattle.vx_sh.specs.declared.header.SliceHeader.{SliceHeader}
 use Rattle.vx_sh.specs.declared.tables.TheConstants.{HEADER_INSIDE, SUBPIC_ID, KNOWN_SUBPIC, ADDRESS}
 use Rattle.vx_sh.specs.Depends.{all_given}
-use Rattle.vx_sh.specs.Slice.{with_entry_points, address_form, before_lists, lists_here, between, weights_here, behind_weights, front_form, before_weights, rest_form}
-use Rattle.vx_sh.specs.Whole.{At, index_of, slices_at, located, id_form, subpic_form, points_of, there, behind_header, header_inside, slice_form}
+use Rattle.vx_sh.specs.Slice.{with_entry_points, address_form, before_lists, lists_here, between, weights_here, behind_weights, front_form, sh_before_weights, rest_form}
+use Rattle.vx_sh.specs.Whole.{At, index_of, num_slices_in_subpic, located, subpic_id_form, subpic_form, points_of, there, behind_header, header_inside, slice_form}
 use Rattle.vx_sh.specs.Value.{AreFields, values_of, BeginsSlice}
 use Rattle.vx_sh.specs.Elsewhere.{given, HaveSubpicture, IsSameSlice, SliceReadElsewhere}
 use Rattle.vx_sh.proofs.Kept.{all_depend, all_are_shown}
@@ -131,7 +131,7 @@ goes_same {values} goes same = record {
 
 -- entry points that are the same at each address
 rest_same : (table : RplTable) (points other : ℕ → ℕ) (s : List ℕ) → ((a : ℕ) → points a ≡ other a) → GoSame (rest_form table points s) (rest_form table other s)
-unfolding with_entry_points address_form front_form before_weights rest_form
+unfolding with_entry_points address_form front_form sh_before_weights rest_form
 rest_same table points other s same =
     same_before (sections_form behind_weights)
     (same_before weights_here
@@ -200,7 +200,7 @@ inside_ends table sets s values end on = elim (cases_Bool (flag s == 0)) [
 
 -- the subpicture
 located_agree : (ids others : List ℕ) (layout other : Numbers) (s t : List ℕ) → Agree known_2 s t
-    → slices_at layout (index_of (slice_index s sh_subpic_id) ids) ≡ slices_at other (index_of (slice_index t sh_subpic_id) others)
+    → num_slices_in_subpic layout (index_of (slice_index s sh_subpic_id) ids) ≡ num_slices_in_subpic other (index_of (slice_index t sh_subpic_id) others)
     → Agree known_3 (located ids layout s) (located others other t)
 unfolding fresh known_1 known_2 known_3 located
 located_agree ids others layout other s t agree same =
@@ -208,10 +208,10 @@ located_agree ids others layout other s t agree same =
     let j = index_of (slice_index t sh_subpic_id) others in
     let here = agree_on (agree_outside known_2 s NUM_SUBPICS (length ids) refl) (agree_outside known_2 (slice_set s NUM_SUBPICS (length ids)) SUBPIC i refl) in
     let there = agree_on (agree_outside known_2 t NUM_SUBPICS (length others) refl) (agree_outside known_2 (slice_set t NUM_SUBPICS (length others)) SUBPIC j refl) in
-    rw same (agree_set NUM_SLICES (slices_at other j) (λ m is_not h. ap is_set (sym (get_or-set_other known_2 NUM_SLICES m 1 0 is_not)) ∙ h) (agree_on (agree_back here) (agree_on agree there)))
+    rw same (agree_set NUM_SLICES (num_slices_in_subpic other j) (λ m is_not h. ap is_set (sym (get_or-set_other known_2 NUM_SLICES m 1 0 is_not)) ∙ h) (agree_on (agree_back here) (agree_on agree there)))
 
 goes_located : (ids others : List ℕ) (layout other : Numbers) (s t : List ℕ) (values : List ℤ) (end : List ℕ) → Agree known_2 s t
-    → slices_at layout (index_of (slice_index s sh_subpic_id) ids) ≡ slices_at other (index_of (slice_index t sh_subpic_id) others)
+    → num_slices_in_subpic layout (index_of (slice_index s sh_subpic_id) ids) ≡ num_slices_in_subpic other (index_of (slice_index t sh_subpic_id) others)
     → Follows (done (located ids layout s)) values end → GoesOn known_3 (done (located ids layout s)) (done (located others other t)) values end
 goes_located ids others layout other s t values end agree same on = alike_goes {shown = known_3} (at_ends (located_agree ids others layout other s t agree same)) tt tt on
 
@@ -264,21 +264,21 @@ record IsThere (n m : At) (fields : List Item) (inside : List ℤ) (f : AreField
 is_there : (n : At) (sets slice ids : List ℕ) (layout : Numbers) (fields : List Item) (inside : List ℤ) (f : AreFields n fields inside) → length n.slice ≡ 1024
     → Agree (set_of ph.all_of_sets) n.sets sets → Agree (set_of given) n.slice slice → HaveSubpicture n (at_place n sets slice ids layout) (number fields sh_subpic_id)
     → IsThere n (at_place n sets slice ids layout) fields inside f
-unfolding goes_together at_place fresh known_1 known_2 known_3 behind_header subpic_form id_form slice_form
+unfolding goes_together at_place fresh known_1 known_2 known_3 behind_header subpic_form subpic_id_form slice_form
 is_there n sets slice ids layout fields inside f size agree_sets agree have =
     let id = number fields sh_subpic_id in
     let first = goes_first n.slice slice f.first f.at agree f.begins in
     let header = goes_inside n.table n.sets sets f.at first.last inside f.at agree_sets first.agree f.goes_on in
     let at : header.last ≡ first.last = sym (inside_ends n.table sets first.last inside header.last header.follows) in
     let b = parted (subpic_form n.ids n.layout f.at) (there n.table n.layout) f.ends in
-    let k = parted (id_form n.ids n.layout f.at) (form_of KNOWN_SUBPIC) b.first in
+    let k = parted (subpic_id_form n.ids n.layout f.at) (form_of KNOWN_SUBPIC) b.first in
     let i = parted (form_of SUBPIC_ID f.at) (λ t. done (located n.ids n.layout t)) k.first in
     let named = goes_id f.at first.last i.front i.mid first.agree i.first in
     let here : slice_index i.mid sh_subpic_id ≡ id = id_is n fields inside f size b k i in
     let there_id : slice_index named.last sh_subpic_id ≡ id = sym (named.agree.same sh_subpic_id refl) ∙ here in
     let here_size : length i.mid ≡ 1024 = sym (id_size f.at i.front i.mid i.first) ∙ sym (inside_size n.slice f.first f.at f.begins) ∙ size in
     let there_size : length named.last ≡ 1024 = sym named.agree.size ∙ here_size in
-    let slices : slices_at n.layout (index_of (slice_index i.mid sh_subpic_id) n.ids) ≡ slices_at layout (index_of (slice_index named.last sh_subpic_id) ids)
+    let slices : num_slices_in_subpic n.layout (index_of (slice_index i.mid sh_subpic_id) n.ids) ≡ num_slices_in_subpic layout (index_of (slice_index named.last sh_subpic_id) ids)
     = rw (here, there_id) have.slices in
     let located_there = goes_located n.ids ids n.layout layout i.mid named.last i.others k.mid named.agree slices i.second in
     let at_id = goes_together (λ t. done (located n.ids n.layout t)) (λ t. done (located ids layout t)) i named located_there in

@@ -3,7 +3,7 @@ use Rattle.std.proofs.Common.{◌≡◌, ℕ, false, List, slice_index, refl, ap
 use Rattle.std.proofs.lemmas.List.Elements.{filter-append}
 use Rattle.vx_table.specs.declared.rows.Formula.TheVariants.{Plain}
 use Rattle.vx_table.specs.declared.rows.Term.TheVariants.{Latest}
-use Rattle.vx_table.specs.Absence.{AreZero, AreHidden, is_zero, never_comes, rows_hide, zeros_behind, table_hides, behind_zeros}
+use Rattle.vx_table.specs.laws.Absence.{AreZero, AreHidden, is_zero, never_comes, rows_hide, zeros_behind, table_hides, behind_zeros}
 use Rattle.vx_table.specs.Claims.{comes_always, hides_counter, hides_row}
 use Rattle.vx_table.specs.Depends.{has, Leaves}
 use Rattle.vx_table.specs.Forms.{done, ◌>>=◌, form_of}
@@ -25,9 +25,9 @@ use Rattle.vx_ph.specs.Filter.{filter_of}
 use Rattle.vx_ph.proofs.Filtering.{of_filter}
 use Rattle.vx_ph.proofs.Enabled.{only, zero_alone}
 use Rattle.vx_sh.specs.declared.tables.TheConstants.{ADDRESS, HEADER_INSIDE, KNOWN_SUBPIC, SUBPIC_ID}
-use Rattle.vx_sh.specs.Enabled.{NoSliceFilter}
+use Rattle.vx_sh.specs.laws.Enabled.{NoSliceFilter}
 use Rattle.vx_sh.specs.InForce.{at_sets}
-use Rattle.vx_sh.specs.Slice.{address_form, before_lists, before_weights, behind_weights, between, front_form, lists_here, rest_form, weights_here, with_entry_points}
+use Rattle.vx_sh.specs.Slice.{address_form, before_lists, sh_before_weights, behind_weights, between, front_form, lists_here, rest_form, weights_here, with_entry_points}
 use Rattle.vx_sh.specs.Whole.{behind_header, subpic_form, there}
 use Rattle.vx_sh.proofs.Reshaping.{subpic_leaves}
 use Rattle.vx_sh.proofs.SameScopes.{sps_told}
@@ -57,10 +57,10 @@ weights_hide = left_hide of_filter off weights_here
     (leaves_present off (Plain (Latest HAS_WEIGHTS)) weights_form (sections_leave off weights refl))
 
 rest_hides : (table : RplTable) (points : ℕ → ℕ) → AreHidden of_filter off (rest_form table points)
-unfolding rest_form before_weights front_form fresh is_zero never_comes rows_hide zeros_behind table_hides behind_zeros comes_always hides_counter hides_row
+unfolding rest_form sh_before_weights front_form fresh is_zero never_comes rows_hide zeros_behind table_hides behind_zeros comes_always hides_counter hides_row
 rest_hides table points =
-    hidden_together of_filter off (λ s. before_weights table points s >>= weights_here) (sections_form behind_weights)
-    (hidden_together of_filter off (before_weights table points) weights_here
+    hidden_together of_filter off (λ s. sh_before_weights table points s >>= weights_here) (sections_form behind_weights)
+    (hidden_together of_filter off (sh_before_weights table points) weights_here
     (hidden_together of_filter off (λ s. front_form points s >>= lists_here table) (sections_form between)
     (hidden_together of_filter off (front_form points) (lists_here table)
     (hidden_together of_filter off (address_form points) (sections_form before_lists) (address_hides points) (sections_hide of_filter off before_lists refl))

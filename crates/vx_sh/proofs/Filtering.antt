@@ -34,8 +34,8 @@ use Rattle.vx_ph.specs.Filter.{filter_of}
 use Rattle.vx_ph.proofs.Filtering.{HasNone, all_of_it, none_row, of_filter, of_first, of_second}
 use Rattle.vx_ph.proofs.Renaming.{filter_again}
 use Rattle.vx_sh.specs.declared.tables.TheConstants.{ADDRESS, FILTER_HERE, HEADER_INSIDE, KNOWN_SUBPIC, LMCS_AND_SCALING, LISTS_HERE, SUBPIC_ID, TYPE}
-use Rattle.vx_sh.specs.Filter.{SliceHasFilter}
-use Rattle.vx_sh.specs.Slice.{address_form, before_lists, before_weights, behind_weights, between, front_form, lists_here, rest_form, weights_here, with_entry_points}
+use Rattle.vx_sh.specs.laws.Filter.{SliceHasFilter}
+use Rattle.vx_sh.specs.Slice.{address_form, before_lists, sh_before_weights, behind_weights, between, front_form, lists_here, rest_form, weights_here, with_entry_points}
 use Rattle.vx_sh.specs.Whole.{behind_header, subpic_form, there}
 use Rattle.vx_sh.proofs.Depending.{subpic_passes}
 use Rattle.vx_sh.proofs.Reshaping.{subpic_leaves}
@@ -144,10 +144,10 @@ none_last s = each_of_sections HasNone (hides_row of_filter) none_row behind_wei
 
 rest_has : (table : RplTable) (points : ℕ → ℕ) (s : List ℕ) {w : List ℤ} {end : List ℕ} → length s ≡ 1024 → is_set (slice_index s sps_alf_enabled_flag) ≡ true → slice_index s pps_alf_info_in_ph_flag ≡ 0
     → Follows (rest_form table points s) w end → Takes (form_of ALF s) (filter_of (items_along (rest_form table points s) w))
-unfolding rest_form before_weights front_form fresh
+unfolding rest_form sh_before_weights front_form fresh
 rest_has table points s {w} {end} size has_it apart on =
-    let a = parted (before_weights table points s >>= weights_here) (sections_form behind_weights) on in
-    let b = parted (before_weights table points s) weights_here a.first in
+    let a = parted (sh_before_weights table points s >>= weights_here) (sections_form behind_weights) on in
+    let b = parted (sh_before_weights table points s) weights_here a.first in
     let c = parted (front_form points s >>= lists_here table) (sections_form between) b.first in
     let d = parted (front_form points s) (lists_here table) c.first in
     let e = parted (address_form points s) (sections_form before_lists) d.first in

@@ -6,12 +6,12 @@ use Rattle.vx_table.specs.Kept.{stands_for_field}
 use Rattle.vx_table.specs.Depends.{has, with_all, set_of}
 use Rattle.vx_table.specs.Claims.{knows_formula, knows_width, knows_range, knows_presence, hides_counter, hides_row, behind_field, within_block, depends, table_depends, behind_rows, behind_table, comes_always}
 use Rattle.vx_table.specs.Shown.{IsKeptWhereShown, star_tells}
-use Rattle.vx_table.specs.Again.{shows_row}
+use Rattle.vx_table.specs.laws.Again.{shows_row}
 use Rattle.vx_table.proofs.Again.{tables_show, sections_show}
 use Rattle.vx_table.proofs.Chains.{chains_depend}
 use Rattle.vx_table.proofs.Starred.{table_keeps_only, structure_keeps_only}
 use Rattle.vx_rpl.specs.Lists.{weights}
-use Rattle.vx_rpl.specs.Depends.{list_chains, behind_list, first_chains, behind_first, second_chains, behind_second, lists_chain, behind_lists}
+use Rattle.vx_rpl.specs.Depends.{list_chains, known_behind_list, first_chains, behind_first, second_chains, known_behind_second, lists_chain, behind_lists}
 use Rattle.vx_rpl.proofs.Carrying.{lists_carry}
 use Rattle.vx_rpl.proofs.Passing.{lists_show, lists_keep}
 use Rattle.vx_sh.specs.declared.tables.TheConstants.{ADDRESS}
@@ -20,14 +20,14 @@ use Rattle.vx_sh.specs.Depends.{kept_given, kept_fields, all_given, all_fields, 
 use Rattle.vx_sh.proofs.Depending.{rest_carries, rest_each}
 
 pub kept_depend : KeptDepend
-unfolding fresh has_value knows_formula knows_width knows_range knows_presence hides_counter hides_row behind_field within_block depends table_depends behind_rows behind_table comes_always list_chains behind_list first_chains behind_first second_chains behind_second lists_chain behind_lists
+unfolding fresh has_value knows_formula knows_width knows_range knows_presence hides_counter hides_row behind_field within_block depends table_depends behind_rows behind_table comes_always list_chains known_behind_list first_chains behind_first second_chains known_behind_second lists_chain behind_lists
 kept_depend table points =
     let kept : List ℕ = with_all (set_of kept_given) kept_fields in
     chains_depend kept_given kept_fields _ (rest_form table points)
     (rest_carries table points kept (set_of kept_given) _ _ _ _ _ _ refl refl refl refl refl refl refl (lists_carry table kept _ refl) refl refl refl refl refl refl)
 
 pub all_depend : AllDepend
-unfolding fresh has_value knows_formula knows_width knows_range knows_presence hides_counter hides_row behind_field within_block depends table_depends behind_rows behind_table comes_always list_chains behind_list first_chains behind_first second_chains behind_second lists_chain behind_lists
+unfolding fresh has_value knows_formula knows_width knows_range knows_presence hides_counter hides_row behind_field within_block depends table_depends behind_rows behind_table comes_always list_chains known_behind_list first_chains behind_first second_chains known_behind_second lists_chain behind_lists
 all_depend table points =
     let all : List ℕ = with_all (set_of all_given) all_fields in
     chains_depend all_given all_fields _ (rest_form table points)

@@ -36,7 +36,7 @@ use Rattle.vx_sh.specs.declared.shape.ShShape.{ShShape}
 use Rattle.vx_sh.specs.declared.tables.TheConstants.{STARRED}
 use Rattle.vx_sh.specs.Depends.{kept_fields}
 use Rattle.vx_sh.specs.InForce.{at_sets, in_force_at, slice_scope}
-use Rattle.vx_sh.specs.Reshaped.{AreReshaped, GoesAt, HaveSameSlices, IsReshaped, IsShape, stated}
+use Rattle.vx_sh.specs.Reshaped.{AreReshapedInSliceHeader, GoesAt, HaveSameSlices, IsReshapedSliceHeader, IsShape, stated_sh_items}
 use Rattle.vx_sh.specs.Value.{IsSliceOf, TellsNumbers, values_of}
 use Rattle.vx_sh.specs.Whole.{apart_form, behind_header, header_inside, index_of}
 use Rattle.vx_sh.proofs.Reshaping as core
@@ -88,7 +88,7 @@ module _ (source : SliceHeader) (shape : ShShape) (n : SliceNumbers) (is : IsSha
   narrow = rw (of_set sps_subpic_id_len_minus1 (omega arith))
       (subst (λ xs. number xs sps_subpic_id_len_minus1 < 16) (sym goes.same.is_other_sps.all) (below sps_subpic_id_len_minus1 16 (omega arith) refl goes.same.is_other_sps.follows))
 
-  stated_is : core.said_at (in_force_at n).slice shape.subpic_id shape.filter.now shape.uses_lmcs shape.uses_scaling shape.qp_delta ≡ stated n shape
+  stated_is : core.said_at (in_force_at n).slice shape.subpic_id shape.filter.now shape.uses_lmcs shape.uses_scaling shape.qp_delta ≡ stated_sh_items n shape
   stated_is = rw (of_set sps_subpic_info_present_flag (omega arith), of_set sps_alf_enabled_flag (omega arith), of_header ph_lmcs_enabled_flag (omega arith) (omega arith), of_header ph_explicit_scaling_list_enabled_flag (omega arith) (omega arith)) refl
 
   there : (items : List Item) × core.Made (in_force_at n) source.fields shape.subpic_id (core.said_at (in_force_at n).slice shape.subpic_id shape.filter.now shape.uses_lmcs shape.uses_scaling shape.qp_delta) items
@@ -110,14 +110,14 @@ module _ (source : SliceHeader) (shape : ShShape) (n : SliceNumbers) (is : IsSha
       shape.filter.now (λ e. is.filter (ap is_set (sym alf) ∙ e)) shape.uses_lmcs shape.uses_scaling shape.qp_delta is.qp
 
   -- there is one
-  pub reshaped_is : (items : List Item) × AreReshaped source.fields shape n items
+  pub reshaped_is : (items : List Item) × AreReshapedInSliceHeader source.fields shape n items
   reshaped_is =
       let m = there.1 in
       (there.0, record { fields = m.fields; apart = m.apart; id = m.id_told; kept = m.kept_ones; others = m.other_ones ∙ stated_is })
 
   -- its items by their stars
-  pub starred_ones : (items : List Item) → AreReshaped source.fields shape n items
-      → IsRewritten (apart_form (in_force_at n).table (in_force_at n).ids (in_force_at n).layout (in_force_at n).slice) (set_of STARRED) (stated n shape) (other_items (set_of STARRED) source.fields) items
+  pub starred_ones : (items : List Item) → AreReshapedInSliceHeader source.fields shape n items
+      → IsRewritten (apart_form (in_force_at n).table (in_force_at n).ids (in_force_at n).layout (in_force_at n).slice) (set_of STARRED) (stated_sh_items n shape) (other_items (set_of STARRED) source.fields) items
   unfolding apart_form
   starred_ones items re =
       let m = in_force_at n in
@@ -132,34 +132,34 @@ module _ (source : SliceHeader) (shape : ShShape) (n : SliceNumbers) (is : IsSha
         other_ones = sym (core.kept_has_no_star m items [] f) ∙ re.kept ∙ core.kept_has_no_star (at_sets n.nal_type goes.sps goes.pps goes.header goes.ids goes.layout) source.fields goes.inside goes.fields;
       }
 
-  pub starred_values : (items : List Item) (re : AreReshaped source.fields shape n items) → (starred_ones items re).values ≡ re.fields.first ++ re.fields.behind
+  pub starred_values : (items : List Item) (re : AreReshapedInSliceHeader source.fields shape n items) → (starred_ones items re).values ≡ re.fields.first ++ re.fields.behind
   unfolding starred_ones
   starred_values items re = refl
 
   pub reshapes : {others stated_ones : List Item} {table : RplTable} {ids : List ℕ} {layout : Numbers} {slice : List ℕ} (after : List Item) (result : Result (Unit {0}) SpellError) → others ≡ other_items (set_of STARRED) source.fields
-      → stated_ones ≡ stated n shape → table ≡ structures n.sps.now → slice ≡ slice_scope n.nal_type n.sps.now n.pps.now n.header.now (in_force n.sps.now n.pps.now) → ids ≡ n.ids.now → layout ≡ n.layout.now
-      → Makes (apart_form table ids layout slice) STARRED stated_ones others result after → IsWritten result (AreReshaped source.fields shape n after)
+      → stated_ones ≡ stated_sh_items n shape → table ≡ structures n.sps.now → slice ≡ slice_scope n.nal_type n.sps.now n.pps.now n.header.now (in_force n.sps.now n.pps.now) → ids ≡ n.ids.now → layout ≡ n.layout.now
+      → Makes (apart_form table ids layout slice) STARRED stated_ones others result after → IsWritten result (AreReshapedInSliceHeader source.fields shape n after)
   reshapes after result kept_are stated_are at_table at_slice at_ids at_layout make =
       let one = reshaped_is in
-      made (AreReshaped source.fields shape n) result after one.0 one.1 (make one.0 (rw (kept_are, stated_are, at_table, at_slice, at_ids, at_layout) (starred_ones one.0 one.1)))
+      made (AreReshapedInSliceHeader source.fields shape n) result after one.0 one.1 (make one.0 (rw (kept_are, stated_are, at_table, at_slice, at_ids, at_layout) (starred_ones one.0 one.1)))
 
   -- its numbers
-  lists_are : (items : List Item) → AreReshaped source.fields shape n items → lists_of (structures n.sps.now) (in_force n.sps.now n.pps.now) items ≡ source.lists
+  lists_are : (items : List Item) → AreReshapedInSliceHeader source.fields shape n items → lists_of (structures n.sps.now) (in_force n.sps.now n.pps.now) items ≡ source.lists
   unfolding fresh
   lists_are items re =
       sym ((agree_on_kept goes.sps goes.pps n.sps.now n.pps.now goes.same).lists (set_of kept_fields) source.fields items refl (sym re.kept)) ∙ sym goes.numbers.lists
 
-  address_is : (items : List Item) → AreReshaped source.fields shape n items → source.address ≡ number items sh_slice_address
+  address_is : (items : List Item) → AreReshapedInSliceHeader source.fields shape n items → source.address ≡ number items sh_slice_address
   unfolding fresh
   address_is items re =
       goes.numbers.address ∙ (numbers_are_told (at_sets n.nal_type goes.sps goes.pps goes.header goes.ids goes.layout) source.fields goes.inside goes.fields whole).address
       ∙ number_of_shown (set_of kept_fields) sh_slice_address source.fields refl ∙ ap (λ xs. number xs sh_slice_address) (sym re.kept) ∙ sym (number_of_shown (set_of kept_fields) sh_slice_address items refl)
 
-  pub is_reshaped : (h : SliceHeader) → AreReshaped source.fields shape n h.fields → h.inside ≡ false → h.subpic ≡ index_of shape.subpic_id n.ids.now → h.address ≡ source.address
-      → h.lists ≡ lists_of (structures n.sps.now) (in_force n.sps.now n.pps.now) h.fields → IsReshaped source shape n h
+  pub is_reshaped : (h : SliceHeader) → AreReshapedInSliceHeader source.fields shape n h.fields → h.inside ≡ false → h.subpic ≡ index_of shape.subpic_id n.ids.now → h.address ≡ source.address
+      → h.lists ≡ lists_of (structures n.sps.now) (in_force n.sps.now n.pps.now) h.fields → IsReshapedSliceHeader source shape n h
   is_reshaped h re inside subpic address lists = record { fields = re; inside = inside; subpic = subpic; address = address; lists = lists ∙ lists_are h.fields re }
 
-  pub tells_numbers : (h : SliceHeader) → AreReshaped source.fields shape n h.fields → h.inside ≡ false → h.subpic ≡ index_of shape.subpic_id n.ids.now → h.address ≡ source.address
+  pub tells_numbers : (h : SliceHeader) → AreReshapedInSliceHeader source.fields shape n h.fields → h.inside ≡ false → h.subpic ≡ index_of shape.subpic_id n.ids.now → h.address ≡ source.address
       → h.lists ≡ lists_of (structures n.sps.now) (in_force n.sps.now n.pps.now) h.fields → TellsNumbers (in_force_at n) h
   tells_numbers h re inside subpic address lists = record {
     inside = inside ∙ ap is_set (sym re.apart);
@@ -169,7 +169,7 @@ module _ (source : SliceHeader) (shape : ShShape) (n : SliceNumbers) (is : IsSha
   }
 
 -- it can be written
-pub can_be_written : (source : List Item) (shape : ShShape) (n : SliceNumbers) (items : List Item) → AreReshaped source shape n items → IsSliceOf (in_force_at n) items n.header.now.fields
+pub can_be_written : (source : List Item) (shape : ShShape) (n : SliceNumbers) (items : List Item) → AreReshapedInSliceHeader source shape n items → IsSliceOf (in_force_at n) items n.header.now.fields
 can_be_written source shape n items re = record {
   inside = [];
   slice = re.fields;
@@ -177,6 +177,6 @@ can_be_written source shape n items re = record {
   given = sym (ap (λ xs. xs ++ n.header.now.fields) (no_items (header_inside (in_force_at n).table (in_force_at n).sets re.fields.at)));
 }
 
-pub written_values : (source : List Item) (shape : ShShape) (n : SliceNumbers) (items : List Item) (re : AreReshaped source shape n items) → values_of (can_be_written source shape n items re).slice ≡ values_of re.fields
+pub written_values : (source : List Item) (shape : ShShape) (n : SliceNumbers) (items : List Item) (re : AreReshapedInSliceHeader source shape n items) → values_of (can_be_written source shape n items re).slice ≡ values_of re.fields
 unfolding can_be_written
 written_values source shape n items re = refl

@@ -34,17 +34,18 @@ use Rattle.vx_fields.specs.declared.sh.TheConstants.{sh_explicit_scaling_list_us
 use Rattle.vx_fields.specs.declared.names.sh.TheConstants.{NUM_SLICES, NUM_SUBPICS, SUBPIC}
 use Rattle.vx_layout.specs.declared.numbers.Numbers.{Numbers}
 use Rattle.vx_rpl.specs.declared.entry.RplTable.{RplTable}
-use Rattle.vx_sps.specs.Reshaped.{item, where_so}
+use Rattle.vx_sps.specs.Reshaped.{item}
+use Rattle.vx_table.specs.Rewritten.{where_so}
 use Rattle.vx_pps.proofs.Cutting.{none_shown}
 use Rattle.vx_pps.proofs.Fields.{all_pass, named, passes}
 use Rattle.vx_ph.specs.declared.tables.TheConstants.{ALF}
 use Rattle.vx_ph.proofs.Telling.{Alike, alike_items, of_fields, tells, told}
 use Rattle.vx_sh.specs.declared.tables.TheConstants.{HEADER_INSIDE, KNOWN_SUBPIC, STARRED, SUBPIC_ID}
 use Rattle.vx_sh.specs.Slice.{own, qp, rest_form}
-use Rattle.vx_sh.specs.Whole.{At, behind_header, header_inside, id_form, index_of, located, points_at, points_of, slices_at, subpic_form, there}
+use Rattle.vx_sh.specs.Whole.{At, behind_header, header_inside, subpic_id_form, index_of, located, points_at, points_of, num_slices_in_subpic, subpic_form, there}
 use Rattle.vx_sh.specs.Value.{AreFields}
 use Rattle.vx_sh.specs.Depends.{kept_fields, kept_given}
-use Rattle.vx_sh.specs.Again.{kept}
+use Rattle.vx_sh.specs.laws.Again.{kept}
 use Rattle.vx_sh.specs.Reshaped.{HaveSameSlices, kept_in_force, qp_items}
 use Rattle.vx_sh.proofs.Depending.{Pass, RestPass, behind_each, rest_passes, subpic_passes}
 use Rattle.vx_sh.proofs.Rewritten.{slices_rewrite}
@@ -110,8 +111,8 @@ first_leaves = tables_leave kept_there HEADER_INSIDE refl
 
 pub subpic_leaves : (names : List ℕ) (ids : List ℕ) (layout : Numbers) → Leaves names (form_of SUBPIC_ID) → Leaves names (form_of KNOWN_SUBPIC) → IsFalse (has names NUM_SUBPICS) → IsFalse (has names SUBPIC)
     → IsFalse (has names NUM_SLICES) → Leaves names (subpic_form ids layout)
-unfolding id_form subpic_form
-subpic_leaves names ids layout id known a b c = leaves_together names (id_form ids layout) (form_of KNOWN_SUBPIC)
+unfolding subpic_id_form subpic_form
+subpic_leaves names ids layout id known a b c = leaves_together names (subpic_id_form ids layout) (form_of KNOWN_SUBPIC)
     (leaves_together names (form_of SUBPIC_ID) (λ t. done (located ids layout t)) id (located_leaves names ids layout a b c)) known
 
 in_force_left : (ids : List ℕ) (layout : Numbers) → Leaves kept_there (subpic_form ids layout)
@@ -138,13 +139,13 @@ unfolding fresh hides_counter hides_row
 first_left ids layout = subpic_leaves only_inside ids layout (tables_leave only_inside SUBPIC_ID refl) (tables_leave only_inside KNOWN_SUBPIC refl) refl refl refl
 
 -- the slices of the subpicture, where it is known
-slices_is : (ids : List ℕ) (layout : Numbers) (s : List ℕ) → length s ≡ 1024 → slice_index (located ids layout s) NUM_SLICES ≡ slices_at layout (index_of (slice_index s sh_subpic_id) ids)
+slices_is : (ids : List ℕ) (layout : Numbers) (s : List ℕ) → length s ≡ 1024 → slice_index (located ids layout s) NUM_SLICES ≡ num_slices_in_subpic layout (index_of (slice_index s sh_subpic_id) ids)
 unfolding located
 slices_is ids layout s size =
     let i = index_of (slice_index s sh_subpic_id) ids in
     let first = slice_set s NUM_SUBPICS (length ids) in
     let second = slice_set first SUBPIC i in
-    get_or-set_at second NUM_SLICES NUM_SLICES (slices_at layout i) 0 refl (omega (arith, length-set first SUBPIC i, length-set s NUM_SUBPICS (length ids), size))
+    get_or-set_at second NUM_SLICES NUM_SLICES (num_slices_in_subpic layout i) 0 refl (omega (arith, length-set first SUBPIC i, length-set s NUM_SUBPICS (length ids), size))
 
 abbrev two : List ℕ
 two = set_of (SUBPIC ∷ NUM_SLICES ∷ [])
@@ -179,15 +180,15 @@ record Source (p : At) (fields : List Item) : Type 0 where
   follows : Follows (there p.table p.layout mid) values end
   agree : Agree kept_there p.slice mid
   subpic : slice_index mid SUBPIC ≡ index_of (number fields sh_subpic_id) p.ids
-  slices : slice_index mid NUM_SLICES ≡ slices_at p.layout (index_of (number fields sh_subpic_id) p.ids)
+  slices : slice_index mid NUM_SLICES ≡ num_slices_in_subpic p.layout (index_of (number fields sh_subpic_id) p.ids)
   kept_ones : shown_items (set_of kept_fields) fields ≡ shown_items (set_of kept_fields) (items_along (there p.table p.layout mid) values)
 
 source_of : (p : At) (fields : List Item) (inside : List ℤ) (f : AreFields p fields inside) → length p.slice ≡ 1024 → Source p fields
-unfolding behind_header subpic_form id_form fresh hides_row hides_counter
+unfolding behind_header subpic_form subpic_id_form fresh hides_row hides_counter
 source_of p fields inside f size =
     let form = there p.table p.layout in
     let b = parted (subpic_form p.ids p.layout f.at) form f.ends in
-    let k = parted (id_form p.ids p.layout f.at) (form_of KNOWN_SUBPIC) b.first in
+    let k = parted (subpic_id_form p.ids p.layout f.at) (form_of KNOWN_SUBPIC) b.first in
     let i = parted (form_of SUBPIC_ID f.at) (λ t. done (located p.ids p.layout t)) k.first in
     let left = leaves_agree two (form_of KNOWN_SUBPIC) k.mid k.others b.mid known_leaves_two k.second in
     let at_size : length f.at ≡ 1024 = sym (inside_size p.slice f.first f.at f.begins) ∙ size in
@@ -206,7 +207,7 @@ source_of p fields inside f size =
       follows = b.second;
       agree = agree_on (leaves_agree kept_there (form_of HEADER_INSIDE) p.slice f.first f.at first_leaves f.begins) (leaves_agree kept_there (subpic_form p.ids p.layout) f.at b.front b.mid (in_force_left p.ids p.layout) b.first);
       subpic = sym (left.same SUBPIC refl) ∙ ap (λ s. slice_index s SUBPIC) (sym same) ∙ located_is p.ids p.layout i.mid mid_size ∙ ap (λ n. index_of n p.ids) id;
-      slices = sym (left.same NUM_SLICES refl) ∙ ap (λ s. slice_index s NUM_SLICES) (sym same) ∙ slices_is p.ids p.layout i.mid mid_size ∙ ap (λ n. slices_at p.layout (index_of n p.ids)) id;
+      slices = sym (left.same NUM_SLICES refl) ∙ ap (λ s. slice_index s NUM_SLICES) (sym same) ∙ slices_is p.ids p.layout i.mid mid_size ∙ ap (λ n. num_slices_in_subpic p.layout (index_of n p.ids)) id;
       kept_ones = ap (λ xs. shown_items set xs) f.all ∙ filter-append (λ item. has set item.field) a (items_along (behind_header p.table p.ids p.layout f.at) f.behind)
           ∙ rw (first_hidden set p.slice refl f.begins) (ap (λ xs. shown_items set xs) all ∙ filter-append (λ item. has set item.field) c d ∙ rw (subpic_hidden set p.ids p.layout f.at refl refl b.first) refl);
     }
@@ -225,13 +226,13 @@ record Target (n : At) (id : ℕ) : Type 0 where
   starred : Agree starred_read n.slice mid
   apart : slice_index mid sh_picture_header_in_slice_header_flag ≡ 0
   subpic : slice_index mid SUBPIC ≡ index_of id n.ids
-  slices : slice_index mid NUM_SLICES ≡ slices_at n.layout (index_of id n.ids)
+  slices : slice_index mid NUM_SLICES ≡ num_slices_in_subpic n.layout (index_of id n.ids)
   size : length mid ≡ 1024
 
 target_of : (n : At) (id : ℕ) → length n.slice ≡ 1024 → slice_index n.slice sps_subpic_id_len_minus1 < 16
     → (is_set (slice_index n.slice sps_subpic_info_present_flag) ≡ true → id < 2 ^ (slice_index n.slice sps_subpic_id_len_minus1 + 1))
     → (is_set (slice_index n.slice sps_subpic_info_present_flag) ≡ false → id ≡ 0) → index_of id n.ids < length n.ids → Target n id
-unfolding subpic_form id_form fresh starred_read
+unfolding subpic_form subpic_id_form fresh starred_read
 target_of n id size narrow spelled unspelled known =
     let t = at_first n in
     let first = sh_picture_header_in_slice_header_flag in
@@ -246,7 +247,7 @@ target_of n id size narrow spelled unspelled known =
     let at : slice_index v SUBPIC ≡ index_of id n.ids = located_is n.ids n.layout u long_u ∙ ap (λ k. index_of k n.ids) d.told in
     let below : slice_index v SUBPIC < slice_index v NUM_SUBPICS = omega (arith, at, count_is n.ids n.layout u long_u, known) in
     let step : List ℕ → Form (List ℕ) = λ s. done (located n.ids n.layout s) in
-    let one : Follows (id_form n.ids n.layout t) (d.values ++ []) v = joined step d.follows to_end in
+    let one : Follows (subpic_id_form n.ids n.layout t) (d.values ++ []) v = joined step d.follows to_end in
     let both : Follows (subpic_form n.ids n.layout t) ((d.values ++ []) ++ []) v = joined (form_of KNOWN_SUBPIC) one (known_there v below) in
     let still_v = leaves_agree starred_read (subpic_form n.ids n.layout) t ((d.values ++ []) ++ []) v (starred_left n.ids n.layout) both in
     let left_v = leaves_agree only_inside (subpic_form n.ids n.layout) t ((d.values ++ []) ++ []) v (first_left n.ids n.layout) both in
@@ -254,13 +255,13 @@ target_of n id size narrow spelled unspelled known =
       mid = v;
       front = (d.values ++ []) ++ [];
       follows = both;
-      items = items_joined (form_of KNOWN_SUBPIC) [] one ∙ ap (λ xs. items_along (id_form n.ids n.layout t) (d.values ++ []) ++ xs) (no_items (form_of KNOWN_SUBPIC v)) ∙ append-nil (items_along (id_form n.ids n.layout t) (d.values ++ []))
+      items = items_joined (form_of KNOWN_SUBPIC) [] one ∙ ap (λ xs. items_along (subpic_id_form n.ids n.layout t) (d.values ++ []) ++ xs) (no_items (form_of KNOWN_SUBPIC v)) ∙ append-nil (items_along (subpic_id_form n.ids n.layout t) (d.values ++ []))
           ∙ items_joined step [] d.follows ∙ append-nil (items_along (form_of SUBPIC_ID t) d.values) ∙ d.items ∙ ap (λ k. where_so (is_set k) (item sh_subpic_id id ∷ [])) (sym info);
       agree = agree_on (leaves_agree kept_there (form_of HEADER_INSIDE) n.slice (pos 0 ∷ []) t first_leaves (apart_there n.slice)) (leaves_agree kept_there (subpic_form n.ids n.layout) t ((d.values ++ []) ++ []) v (in_force_left n.ids n.layout) both);
       starred = agree_on still still_v;
       apart = sym (left_v.same first refl) ∙ get_or-set_at n.slice first first 0 0 refl (omega (arith, size));
       subpic = at;
-      slices = slices_is n.ids n.layout u long_u ∙ ap (λ k. slices_at n.layout (index_of k n.ids)) d.told;
+      slices = slices_is n.ids n.layout u long_u ∙ ap (λ k. num_slices_in_subpic n.layout (index_of k n.ids)) d.told;
       size = sym still_v.size ∙ long;
     }
 

@@ -11,7 +11,7 @@ use Rattle.vx_table.specs.Parts.{Section, always, sections_form}
 use Rattle.vx_table.specs.Spelling.{items_along}
 use Rattle.vx_table.specs.Depends.{has, with_all, set_of}
 use Rattle.vx_table.specs.Claims.{knows_formula, knows_width, knows_range, knows_presence, hides_counter, hides_row, behind_field, within_block, depends, table_depends, behind_rows, behind_table, comes_always, behind_sections}
-use Rattle.vx_table.specs.Again.{shows_row}
+use Rattle.vx_table.specs.laws.Again.{shows_row}
 use Rattle.vx_table.specs.Rewrites.{Takes}
 use Rattle.vx_table.proofs.Again.{tables_show, sections_show, all_shown_then, answers_again}
 use Rattle.vx_table.proofs.Agreeing.{agree_itself, agree_outside}
@@ -26,9 +26,9 @@ use Rattle.vx_rpl.specs.declared.entry.RplTable.{RplTable}
 use Rattle.vx_rpl.specs.Lists.{lists_form, weights, weights_form}
 use Rattle.vx_rpl.proofs.Passing.{lists_show, lists_leave}
 use Rattle.vx_sh.specs.declared.tables.TheConstants.{ADDRESS, TYPE, LISTS_HERE, CHROMA_QP_AND_FILTERS, END, ALIGNMENT}
-use Rattle.vx_sh.specs.Slice.{with_entry_points, address_form, own, before_lists, lists_here, between, weights_here, qp, behind_weights, front_form, before_weights, rest_form}
+use Rattle.vx_sh.specs.Slice.{with_entry_points, address_form, own, before_lists, lists_here, between, weights_here, qp, behind_weights, front_form, sh_before_weights, rest_form}
 use Rattle.vx_sh.specs.Depends.{starred_given, starred_fields}
-use Rattle.vx_sh.specs.Again.{kept, SlicesReadAgain, SlicesRewrite}
+use Rattle.vx_sh.specs.laws.Again.{kept, SlicesReadAgain, SlicesRewrite}
 use Rattle.vx_sh.proofs.Kept.{kept_depend, all_depend, all_are_shown}
 use Rattle.vx_ph.proofs.Admitting.{Adds, adds_none, adds_all, adds_then, adds_before, adds_sections, refilled}
 
@@ -103,15 +103,15 @@ behind_weights_adds t delta takes =
 
 rest_adds : (table : RplTable) (points : ℕ → ℕ) (t : List ℕ) (uses delta : List Item) → Takes (sections_form own t) uses → Takes (sections_form qp t) delta
     → Adds kept uses_read t (rest_form table points) (uses ++ delta)
-unfolding front_form before_weights rest_form
+unfolding front_form sh_before_weights rest_form
 rest_adds table points t uses delta takes_uses takes_delta =
     let front : Adds kept uses_read t (front_form points) uses
     = adds_then (address_form points) (sections_form before_lists) [] uses (address_adds points t) (before_lists_adds t uses takes_uses) in
     let with_lists = adds_before (front_form points) (lists_here table) uses front (lists_add table t) in
-    let before : Adds kept uses_read t (before_weights table points) uses
+    let before : Adds kept uses_read t (sh_before_weights table points) uses
     = adds_before (λ s. front_form points s >>= lists_here table) (sections_form between) uses with_lists (between_adds t) in
-    let with_weights = adds_before (before_weights table points) weights_here uses before (weights_add t) in
-    adds_then (λ s. before_weights table points s >>= weights_here) (sections_form behind_weights) uses delta with_weights (behind_weights_adds t delta takes_delta)
+    let with_weights = adds_before (sh_before_weights table points) weights_here uses before (weights_add t) in
+    adds_then (λ s. sh_before_weights table points s >>= weights_here) (sections_form behind_weights) uses delta with_weights (behind_weights_adds t delta takes_delta)
 
 pub slices_rewrite : SlicesRewrite
 slices_rewrite table points s t values end uses delta agree follows takes_uses takes_delta =

@@ -23,7 +23,7 @@ use Rattle.vx_sh.proofs.Scopes.{header_from_header, header_from_pps, header_from
 
 -- kept fields of a picture header, what stands beside, and what is neither
 abbrev of_header : ℕ → Bool
-of_header n = nat_lt n 600 || (has (set_of beside) n || has (set_of ph.kept) n)
+of_header n = nat_lt n 600 || (has (set_of beside) n || has (set_of ph.kept_ph_fields) n)
 
 all_are : (passes of_sps kept_in_force ≡ true) × (passes of_pps kept_in_force ≡ true) × (passes of_header kept_in_force ≡ true)
 unfolding fresh
@@ -31,11 +31,11 @@ all_are = (refl, refl, refl)
 
 header_number : (header other : PictureHeader) → AreSameForSlices header other → (n : ℕ) → of_header n ≡ true → 600 ≤ n → IsFalse (has (set_of beside) n)
     → number header.fields n ≡ number other.fields n
-header_number header other same n pass from out = elim (or_cases (nat_lt n 600) (has (set_of beside) n || has (set_of ph.kept) n) pass) [
+header_number header other same n pass from out = elim (or_cases (nat_lt n 600) (has (set_of beside) n || has (set_of ph.kept_ph_fields) n) pass) [
   | inl low ↦ absurd (omega (arith, from, ltb-true n 600 low))
-  | inr some ↦ elim (or_cases (has (set_of beside) n) (has (set_of ph.kept) n) some) [
+  | inr some ↦ elim (or_cases (has (set_of beside) n) (has (set_of ph.kept_ph_fields) n) some) [
     | inl is_beside ↦ absurd (both_ways _ out is_beside)
-    | inr is ↦ number_of_shown (set_of ph.kept) n header.fields is ∙ ap (λ xs. number xs n) (sym same.fields) ∙ sym (number_of_shown (set_of ph.kept) n other.fields is)
+    | inr is ↦ number_of_shown (set_of ph.kept_ph_fields) n header.fields is ∙ ap (λ xs. number xs n) (sym same.fields) ∙ sym (number_of_shown (set_of ph.kept_ph_fields) n other.fields is)
   ]
 ]
 

@@ -6,7 +6,7 @@ use Rattle.vx_bits.specs.declared.list.Item.{Item}
 use Rattle.vx_table.specs.declared.writer.SpellError.{SpellError}
 use Rattle.vx_table.specs.declared.writer.SpellError.TheVariants as errors
 use Rattle.vx_table.specs.Forms.{Form, done, field, form_of}
-use Rattle.vx_table.specs.Trailing.{EndsWithStop}
+use Rattle.vx_table.specs.laws.Trailing.{EndsWithStop}
 use Rattle.vx_table.specs.Depends.{set_of}
 use Rattle.vx_table.specs.Rewritten.{other_items, Sources}
 use Rattle.vx_table.specs.Sent.{SendsField}
@@ -24,7 +24,7 @@ use Rattle.vx_sh.specs.declared.numbers.SliceNumbers.{SliceNumbers}
 use Rattle.vx_sh.specs.declared.shape.ShShape.{ShShape}
 use Rattle.vx_sh.specs.declared.tables.TheConstants.{HEADER_INSIDE, STARRED}
 use Rattle.vx_sh.specs.InForce.{in_force_at, slice_scope}
-use Rattle.vx_sh.specs.Reshaped.{AreReshaped, GoesAt, IsSent, IsShape, stated}
+use Rattle.vx_sh.specs.Reshaped.{AreReshapedInSliceHeader, GoesAt, IsSent, IsShape, stated_sh_items}
 use Rattle.vx_sh.specs.Value.{AreFields, values_of}
 use Rattle.vx_sh.specs.Whole.{At, apart_form, behind_header, header_inside, index_of, slice_form}
 use Rattle.vx_sh.specs.inner.Sending.{AreScopes, SendsApart}
@@ -78,11 +78,11 @@ weaker (Err errors.NoValue) f p = p
 -- the bits of a rewritten slice header
 pub record Says (source : List Item) (shape : ShShape) (n : SliceNumbers) (bits : List Bool) : Type 0 where
   pub items : List Item
-  pub are : AreReshaped source shape n items
+  pub are : AreReshapedInSliceHeader source shape n items
   pub bits_are : bits ≡ bits_along (slice_form (in_force_at n)) 0 (values_of are.fields)
 
 module _ (source : SliceHeader) (shape : ShShape) (n : SliceNumbers) (is : IsShape n shape) (goes : GoesAt source shape.subpic_id n) where
-  pub sends : (stated_ones : List Item) (bits : List Bool) (result : Result (Unit {0}) SpellError) → stated_ones ≡ stated n shape → SendsApart (in_force_at n) stated_ones source.fields result bits
+  pub sends : (stated_ones : List Item) (bits : List Bool) (result : Result (Unit {0}) SpellError) → stated_ones ≡ stated_sh_items n shape → SendsApart (in_force_at n) stated_ones source.fields result bits
       → IsWritten result (Says source.fields shape n bits)
   sends stated_ones bits result stated_are make =
       let at = in_force_at n in

@@ -12,7 +12,7 @@ use Rattle.vx_table.specs.Depends.{Agree, IsLeft, set_of}
 use Rattle.vx_table.specs.Forms.{Form, done, ◌>>=◌, form_of, has_value}
 use Rattle.vx_table.specs.Parts.{sections_form}
 use Rattle.vx_table.specs.Scope.{fresh, loaded, most}
-use Rattle.vx_table.specs.Sizes.{Bound, EachSpelling, IsShort, IsWithin, code_bits, greatest_coded, greatest_ranged, greatest_value, most_turns, part_bits, presence_keeps, row_keeps, table_bits}
+use Rattle.vx_table.specs.laws.Sizes.{Bound, EachSpelling, IsShort, IsWithin, code_bits, greatest_coded, greatest_ranged, greatest_value, most_turns, part_bits, presence_keeps, row_keeps, table_bits}
 use Rattle.vx_table.proofs.Agreeing.{agree_on}
 use Rattle.vx_table.proofs.Loading.{set_below}
 use Rattle.vx_table.proofs.Rewrites.{left_end, tables_leave}
@@ -32,8 +32,8 @@ use Rattle.vx_sps.specs.Set.{extra_sh_bits_of}
 use Rattle.vx_pps.specs.Pps.{default_active}
 use Rattle.vx_ph.specs.Header.{header_form}
 use Rattle.vx_ph.specs.InForce.{in_force}
-use Rattle.vx_ph.specs.Sizes as ph
-use Rattle.vx_ph.specs.Sizes.{AreFew}
+use Rattle.vx_ph.specs.laws.Sizes as ph
+use Rattle.vx_ph.specs.laws.Sizes.{AreFew}
 use Rattle.vx_ph.proofs.Bounding.{bound_by, sections_few, set_here, table_few, within_none, within_one}
 use Rattle.vx_ph.proofs.Copied.{few_by_given}
 use Rattle.vx_ph.proofs.Short.{bounded_few, number_low, sets_are_bounded, weights_few}
@@ -41,10 +41,10 @@ use Rattle.vx_ph.proofs.ShortLists.{bounds, lists_few}
 use Rattle.vx_ph.proofs.Sets.{in_force_length, joined_below}
 use Rattle.vx_sh.specs.declared.tables.TheConstants.{ADDRESS, HEADER_INSIDE, KNOWN_SUBPIC, SUBPIC_ID}
 use Rattle.vx_sh.specs.Depends.{all_fields, all_given}
-use Rattle.vx_sh.specs.Sizes.{IsBounded, NumbersAreBounded, SpellingIsShort, points_limit}
-use Rattle.vx_sh.specs.Slice.{address_form, before_lists, before_weights, behind_weights, between, front_form, lists_here, rest_form, weights_here, with_entry_points}
+use Rattle.vx_sh.specs.laws.Sizes.{IsBounded, NumbersAreBounded, SpellingIsShort, points_limit}
+use Rattle.vx_sh.specs.Slice.{address_form, before_lists, sh_before_weights, behind_weights, between, front_form, lists_here, rest_form, weights_here, with_entry_points}
 use Rattle.vx_sh.specs.Value.{values_of}
-use Rattle.vx_sh.specs.Whole.{At, behind_header, header_inside, id_form, index_of, located, points_of, slice_form, slices_at, subpic_form, there}
+use Rattle.vx_sh.specs.Whole.{At, behind_header, header_inside, subpic_id_form, index_of, located, points_of, slice_form, num_slices_in_subpic, subpic_form, there}
 use Rattle.vx_sh.proofs.Kept.{all_are_shown, all_depend}
 use Rattle.vx_sh.proofs.Reshaping.{subpic_leaves}
 use Rattle.vx_sh.proofs.SameScopes.{sps_told}
@@ -74,10 +74,10 @@ address_few points few s within =
 
 rest_few : (table : RplTable) (points : ℕ → ℕ) → AreFew table.first → AreFew table.second → ((a : ℕ) → points a ≤ points_limit) → (s : List ℕ) → IsWithin bounds s
     → IsShort bounds 2140000 (rest_form table points s)
-unfolding rest_form before_weights front_form presence_keeps most_turns
+unfolding rest_form sh_before_weights front_form presence_keeps most_turns
 rest_few table points first second few s within =
-    short_then bounds (before_weights table points s >>= weights_here) (sections_form behind_weights) 38000 2102000
-    (short_then bounds (before_weights table points s) weights_here 18000 20000
+    short_then bounds (sh_before_weights table points s >>= weights_here) (sections_form behind_weights) 38000 2102000
+    (short_then bounds (sh_before_weights table points s) weights_here 18000 20000
     (short_then bounds (front_form points s >>= lists_here table) (sections_form between) 17700 300
     (short_then bounds (front_form points s) (lists_here table) 1500 16200
     (short_then bounds (address_form points s) (sections_form before_lists) 32 1468 (address_few points few s within) before_lists_few)
@@ -133,10 +133,10 @@ index_most id (n ∷ more) = elim (n == id) as (λ b. cond b 0 (index_of id more
   | false ↦ let less = index_most id more in omega (arith, less)
 ]
 
-id_few : (ids : List ℕ) (layout : Numbers) (s : List ℕ) → length ids ≤ most → ((k : ℕ) → slices_at layout k ≤ most) → IsWithin given_bounds s → IsShort given_bounds 32 (subpic_form ids layout s)
-unfolding subpic_form id_form located table_bits part_bits most_turns code_bits row_keeps presence_keeps greatest_coded greatest_ranged greatest_value has_value
+id_few : (ids : List ℕ) (layout : Numbers) (s : List ℕ) → length ids ≤ most → ((k : ℕ) → num_slices_in_subpic layout k ≤ most) → IsWithin given_bounds s → IsShort given_bounds 32 (subpic_form ids layout s)
+unfolding subpic_form subpic_id_form located table_bits part_bits most_turns code_bits row_keeps presence_keeps greatest_coded greatest_ranged greatest_value has_value
 id_few ids layout s few slices within =
-    short_then given_bounds (id_form ids layout s) (form_of KNOWN_SUBPIC) 32 0
+    short_then given_bounds (subpic_id_form ids layout s) (form_of KNOWN_SUBPIC) 32 0
     (short_then given_bounds (form_of SUBPIC_ID s) (λ t. done (located ids layout t)) 32 0 (table_few given_bounds 32 SUBPIC_ID s refl (omega arith) within)
     (λ t at.
     let k : ℕ = index_of (slice_index t sh_subpic_id) ids in
@@ -144,10 +144,10 @@ id_few ids layout s few slices within =
     let first = within_set given_bounds t NUM_SUBPICS (length ids) at few in
     let second = within_set given_bounds (slice_set t NUM_SUBPICS (length ids)) SUBPIC k first (omega (arith, low, few)) in
     spelling_done (located ids layout t) (λ size u. (size ≤ 0) × IsWithin given_bounds u)
-    (omega arith, within_set given_bounds (slice_set (slice_set t NUM_SUBPICS (length ids)) SUBPIC k) NUM_SLICES (slices_at layout k) second (slices k))))
+    (omega arith, within_set given_bounds (slice_set (slice_set t NUM_SUBPICS (length ids)) SUBPIC k) NUM_SLICES (num_slices_in_subpic layout k) second (slices k))))
     (λ t at. table_few given_bounds 0 KNOWN_SUBPIC t refl (omega arith) at)
 
-id_goes : (ids : List ℕ) (layout : Numbers) (s : List ℕ) → length ids ≤ most → ((k : ℕ) → slices_at layout k ≤ most) → IsWithin given_bounds s
+id_goes : (ids : List ℕ) (layout : Numbers) (s : List ℕ) → length ids ≤ most → ((k : ℕ) → num_slices_in_subpic layout k ≤ most) → IsWithin given_bounds s
     → EachSpelling (subpic_form ids layout s) (λ size t. (size ≤ 32) × Goes s t)
 unfolding fresh hides_counter hides_row
 id_goes ids layout s few slices within =
@@ -195,7 +195,7 @@ spelling_is_short n fields others bytes few is =
 
 -- ---- what sets, a picture header and a layout come to
 
-slices_few : (layout : Numbers) (k : ℕ) → length layout.slices ≤ most → slices_at layout k ≤ most
+slices_few : (layout : Numbers) (k : ℕ) → length layout.slices ≤ most → num_slices_in_subpic layout k ≤ most
 slices_few layout k few =
     let test : Rect → Bool = λ r. fits r (subpic_at layout k) in
     elim (nat_lt k (length layout.subpics)) as (λ b. cond b (length (slices_in layout k)) 0 ≤ most) [

@@ -10,7 +10,7 @@ use Rattle.vx_table.specs.Values.{Follows, bits_along}
 use Rattle.vx_table.proofs.Joined.{joined}
 use Rattle.vx_table.proofs.Spelled.{both_ways}
 use Rattle.vx_table.proofs.Stopped.{at_boundary, last_byte}
-use Rattle.vx_table.specs.Trailing.{EndsWithStop}
+use Rattle.vx_table.specs.laws.Trailing.{EndsWithStop}
 use Rattle.vx_sh.specs.Whole.{At, behind_header, header_inside, slice_form}
 use Rattle.vx_sh.specs.Value.{AreFields, values_of}
 use Rattle.vx_sh.proofs.Stopped.{slice_ends}

@@ -29,7 +29,7 @@ row_stays of c s test = (tables_stay_below of 8 (Field c ∷ []) s (omega arith)
 
 -- ---- picture headers
 
-in_header : (of : ℕ) → header.Pass (row_below of 8) → (table : RplTable) (s : List ℕ) (items : List Item) → picture.AreFields table s items → All (IsBelow of 8) items
+in_header : (of : ℕ) → header.Pass (row_below of 8) → (table : RplTable) (s : List ℕ) (items : List Item) → picture.ArePictureHeaderFields table s items → All (IsBelow of 8) items
 in_header of pass table s items f =
     subst (λ x. All (IsBelow of 8) x) (sym f.all) (below of 8 (header.header_each (StaysBelow of 8) (row_below of 8) (row_stays of) table s pass) f.follows)
 
@@ -42,7 +42,7 @@ pub record NamesSmall (items : List Item) : Type 0 where
   pub lmcs : All (IsBelow ph.ph_lmcs_aps_id 8) items
   pub scaling : All (IsBelow ph.ph_scaling_list_aps_id 8) items
 
-pub header_names : (table : RplTable) (s : List ℕ) (items : List Item) → picture.AreFields table s items → NamesSmall items
+pub header_names : (table : RplTable) (s : List ℕ) (items : List Item) → picture.ArePictureHeaderFields table s items → NamesSmall items
 unfolding has_value code_below range_below row_below
 header_names table s items f = record {
   luma = in_header alf.alf_aps_id_luma (record { front = refl; lists = refl; middle = refl; weights = refl; back = refl }) table s items f;

@@ -7,7 +7,7 @@ use Rattle.vx_fields.specs.declared.sh.TheConstants.{sh_qp_delta}
 use Rattle.vx_sh.specs.declared.numbers.SliceNumbers.{SliceNumbers}
 use Rattle.vx_sh.specs.declared.shape.ShShape.{ShShape}
 use Rattle.vx_sh.specs.InForce.{in_force_at}
-use Rattle.vx_sh.specs.Reshaped.{filter_items, id_items, qp_items, stated, use_items}
+use Rattle.vx_sh.specs.Reshaped.{stated_filter_items, sh_subpic_id_items, qp_items, stated_sh_items, use_items}
 use Rattle.vx_sh.specs.inner.Sending.{uses_at}
 use Rattle.vx_sh.proofs.SameScopes.{header_told}
 
@@ -16,12 +16,12 @@ uses_are : (n : SliceNumbers) (slice : List ℕ) (lmcs scaling : Bool) → slice
 uses_are n slice lmcs scaling is =
     rw (is, header_told n.nal_type n.sps.now n.pps.now n.header.now ph_lmcs_enabled_flag (omega arith) (omega arith), header_told n.nal_type n.sps.now n.pps.now n.header.now ph_explicit_scaling_list_enabled_flag (omega arith) (omega arith)) refl
 
-pub all_stated : (n : SliceNumbers) (slice : List ℕ) (shape : ShShape) {a b c d e : List Item} {delta : ℤ} → slice ≡ (in_force_at n).slice → a ≡ [] → b ≡ a ++ id_items n.sps.now shape.subpic_id
-    → c ≡ b ++ filter_items n.sps.now shape.filter.now → d ≡ c ++ uses_at slice shape.uses_lmcs shape.uses_scaling → e ≡ d ++ record { field = sh_qp_delta; value = delta } ∷ [] → delta ≡ shape.qp_delta
-    → e ≡ stated n shape
+pub all_stated : (n : SliceNumbers) (slice : List ℕ) (shape : ShShape) {a b c d e : List Item} {delta : ℤ} → slice ≡ (in_force_at n).slice → a ≡ [] → b ≡ a ++ sh_subpic_id_items n.sps.now shape.subpic_id
+    → c ≡ b ++ stated_filter_items n.sps.now shape.filter.now → d ≡ c ++ uses_at slice shape.uses_lmcs shape.uses_scaling → e ≡ d ++ record { field = sh_qp_delta; value = delta } ∷ [] → delta ≡ shape.qp_delta
+    → e ≡ stated_sh_items n shape
 all_stated n slice shape {d} is none first second third fourth qp =
-    let id = id_items n.sps.now shape.subpic_id in
-    let filter = filter_items n.sps.now shape.filter.now in
+    let id = sh_subpic_id_items n.sps.now shape.subpic_id in
+    let filter = stated_filter_items n.sps.now shape.filter.now in
     let uses = use_items n.header.now.fields shape.uses_lmcs shape.uses_scaling in
     let two = second ∙ ap (λ xs. xs ++ filter) (first ∙ ap (λ xs. xs ++ id) none) in
     let three = third ∙ ap (λ xs. xs ++ uses_at slice shape.uses_lmcs shape.uses_scaling) two ∙ ap (λ xs. (id ++ filter) ++ xs) (uses_are n slice shape.uses_lmcs shape.uses_scaling is) ∙ append_assoc id filter uses in

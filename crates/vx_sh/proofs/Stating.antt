@@ -18,7 +18,7 @@ use Rattle.vx_table.specs.Values.{Follows, to_end, through}
 use Rattle.vx_table.specs.Depends.{Agree, Leaves, set_of, with_all}
 use Rattle.vx_table.specs.Claims.{behind_field, behind_rows, behind_table, depends, hides_counter, hides_row, knows_formula, knows_presence, knows_range, knows_width, table_depends, within_block}
 use Rattle.vx_table.specs.Named.{named_by}
-use Rattle.vx_table.specs.Again.{shows_row}
+use Rattle.vx_table.specs.laws.Again.{shows_row}
 use Rattle.vx_table.specs.Rewrites.{Takes}
 use Rattle.vx_table.proofs.Again.{tables_show}
 use Rattle.vx_table.proofs.Chains.{table_carries}
@@ -30,7 +30,8 @@ use Rattle.vx_fields.specs.declared.pps.TheConstants.{pps_alf_info_in_ph_flag, p
 use Rattle.vx_fields.specs.declared.ph.TheConstants.{ph_explicit_scaling_list_enabled_flag, ph_lmcs_enabled_flag}
 use Rattle.vx_fields.specs.declared.sh.TheConstants.{sh_explicit_scaling_list_used_flag, sh_lmcs_used_flag, sh_picture_header_in_slice_header_flag, sh_subpic_id}
 use Rattle.vx_fields.specs.declared.names.sh.TheConstants.{HAS_ALF, NUM_SUBPICS, SUBPIC}
-use Rattle.vx_sps.specs.Reshaped.{item, where_so}
+use Rattle.vx_sps.specs.Reshaped.{item}
+use Rattle.vx_table.specs.Rewritten.{where_so}
 use Rattle.vx_ph.specs.declared.tables.TheConstants.{ALF}
 use Rattle.vx_ph.proofs.Renaming.{filter_again}
 use Rattle.vx_sh.specs.declared.tables.TheConstants.{FILTER_HERE, HEADER_INSIDE, KNOWN_SUBPIC, LMCS_AND_SCALING, SUBPIC_ID}

@@ -3,12 +3,12 @@ use Rattle.std.proofs.Common.{◌≡◌, Bool, ℕ, ℤ, ◌%◌, List, length, 
 use Rattle.vx_table.specs.Claims.{comes_always}
 use Rattle.vx_table.specs.Forms.{◌>>=◌, form_of}
 use Rattle.vx_table.specs.Parts.{sections_form}
-use Rattle.vx_table.specs.Trailing.{EndsWithStop, EndsInStop, is_stop, ends_in_stop, sections_end_in_stop}
+use Rattle.vx_table.specs.laws.Trailing.{EndsWithStop, EndsInStop, is_stop, ends_in_stop, sections_end_in_stop}
 use Rattle.vx_table.specs.Values.{Follows, bits_along}
 use Rattle.vx_table.proofs.Stopped.{at_boundary, sections_stop, stops_behind}
 use Rattle.vx_sh.specs.declared.tables.TheConstants.{HEADER_INSIDE}
 use Rattle.vx_rpl.specs.declared.entry.RplTable.{RplTable}
-use Rattle.vx_sh.specs.Slice.{behind_weights, weights_here, before_weights, rest_form}
+use Rattle.vx_sh.specs.Slice.{behind_weights, weights_here, sh_before_weights, rest_form}
 use Rattle.vx_sh.specs.Whole.{At, subpic_form, there, behind_header, header_inside, slice_form}
 
 behind_weights_stops : (s : List ℕ) → EndsInStop (sections_form behind_weights s)
@@ -17,7 +17,7 @@ behind_weights_stops s = sections_stop behind_weights s refl
 
 rest_stops : (table : RplTable) (points : ℕ → ℕ) (s : List ℕ) → EndsInStop (rest_form table points s)
 unfolding rest_form
-rest_stops table points s = stops_behind (before_weights table points s >>= weights_here) (sections_form behind_weights) behind_weights_stops
+rest_stops table points s = stops_behind (sh_before_weights table points s >>= weights_here) (sections_form behind_weights) behind_weights_stops
 
 slice_stops : (n : At) → EndsInStop (slice_form n)
 unfolding slice_form behind_header

@@ -38,8 +38,8 @@ use Rattle.vx_rpl.specs.declared.entry.RplTable.{RplTable}
 use Rattle.vx_rpl.specs.Lists.{lists_form, weights, weights_form}
 use Rattle.vx_rpl.proofs.Passing.{lists_leave}
 use Rattle.vx_sh.specs.declared.tables.TheConstants.{HEADER_INSIDE, SUBPIC_ID, KNOWN_SUBPIC, ADDRESS}
-use Rattle.vx_sh.specs.Slice.{with_entry_points, address_form, before_lists, lists_here, between, weights_here, behind_weights, front_form, before_weights, rest_form}
-use Rattle.vx_sh.specs.Whole.{At, index_of, slices_at, located, id_form, subpic_form, points_of, there, behind_header}
+use Rattle.vx_sh.specs.Slice.{with_entry_points, address_form, before_lists, lists_here, between, weights_here, behind_weights, front_form, sh_before_weights, rest_form}
+use Rattle.vx_sh.specs.Whole.{At, index_of, num_slices_in_subpic, located, subpic_id_form, subpic_form, points_of, there, behind_header}
 use Rattle.vx_sh.specs.Value.{AreFields, NumbersAreTold}
 
 -- ---- items of one part
@@ -166,7 +166,7 @@ behind_weights_leave_four = sections_leave four behind_weights refl
 -- the address's items are all that tell of these names
 pub rest_peeled : (table : RplTable) (points : ℕ → ℕ) (s : List ℕ) (values : List ℤ) (end : List ℕ) → Follows (rest_form table points s) values end
     → Peeled four (form_of ADDRESS s) (items_along (rest_form table points s) values) end
-unfolding address_form front_form before_weights rest_form
+unfolding address_form front_form sh_before_weights rest_form
 rest_peeled table points s values end follows =
     peel_on (λ t. done (with_entry_points points t)) (points_leave points)
     (peel_on (sections_form before_lists) before_lists_leave_four
@@ -182,10 +182,10 @@ address_leaves points = leaves_together three (form_of ADDRESS) (λ t. done (wit
     record { at = λ t. agree_outside three t NUM_ENTRY_POINTS (points (slice_index t sh_slice_address)) refl }
 
 pub rest_leaves : (table : RplTable) (points : ℕ → ℕ) → Leaves three (rest_form table points)
-unfolding fresh hides_row hides_counter front_form before_weights rest_form
+unfolding fresh hides_row hides_counter front_form sh_before_weights rest_form
 rest_leaves table points =
-    leaves_together three (λ s. before_weights table points s >>= weights_here) (sections_form behind_weights)
-    (leaves_together three (before_weights table points) weights_here
+    leaves_together three (λ s. sh_before_weights table points s >>= weights_here) (sections_form behind_weights)
+    (leaves_together three (sh_before_weights table points) weights_here
     (leaves_together three (λ s. front_form points s >>= lists_here table) (sections_form between)
     (leaves_together three (front_form points) (lists_here table)
     (leaves_together three (address_form points) (sections_form before_lists) (address_leaves points) (sections_leave three before_lists refl))
@@ -235,7 +235,7 @@ located_is ids layout s size =
     let i = index_of (slice_index s sh_subpic_id) ids in
     let first = slice_set s NUM_SUBPICS (length ids) in
     let within : SUBPIC < length first = omega (arith, length-set s NUM_SUBPICS (length ids), size) in
-    get_or-set_other (slice_set first SUBPIC i) NUM_SLICES SUBPIC (slices_at layout i) 0 (λ is. absurd (omega (arith, is))) ∙ get_or-set_at first SUBPIC SUBPIC i 0 refl within
+    get_or-set_other (slice_set first SUBPIC i) NUM_SLICES SUBPIC (num_slices_in_subpic layout i) 0 (λ is. absurd (omega (arith, is))) ∙ get_or-set_at first SUBPIC SUBPIC i 0 refl within
 
 -- how many there are
 pub count_is : (ids : List ℕ) (layout : Numbers) (s : List ℕ) → length s ≡ 1024 → slice_index (located ids layout s) NUM_SUBPICS ≡ length ids
@@ -243,7 +243,7 @@ unfolding located
 count_is ids layout s size =
     let i = index_of (slice_index s sh_subpic_id) ids in
     let first = slice_set s NUM_SUBPICS (length ids) in
-    get_or-set_other (slice_set first SUBPIC i) NUM_SLICES NUM_SUBPICS (slices_at layout i) 0 (λ is. absurd (omega (arith, is)))
+    get_or-set_other (slice_set first SUBPIC i) NUM_SLICES NUM_SUBPICS (num_slices_in_subpic layout i) 0 (λ is. absurd (omega (arith, is)))
     ∙ get_or-set_other first SUBPIC NUM_SUBPICS i 0 (λ is. absurd (omega (arith, is))) ∙ get_or-set_at s NUM_SUBPICS NUM_SUBPICS (length ids) 0 refl (omega (arith, size))
 
 -- it is refused where it is none of them
@@ -289,17 +289,17 @@ located_leaves names ids layout subpics subpic slices = record {
   at = λ t.
       let i = index_of (slice_index t sh_subpic_id) ids in
       let first = slice_set t NUM_SUBPICS (length ids) in
-      agree_on (agree_outside names t NUM_SUBPICS (length ids) subpics) (agree_on (agree_outside names first SUBPIC i subpic) (agree_outside names (slice_set first SUBPIC i) NUM_SLICES (slices_at layout i) slices));
+      agree_on (agree_outside names t NUM_SUBPICS (length ids) subpics) (agree_on (agree_outside names first SUBPIC i subpic) (agree_outside names (slice_set first SUBPIC i) NUM_SLICES (num_slices_in_subpic layout i) slices));
 }
 
 id_leaves_address : (ids : List ℕ) (layout : Numbers) → Leaves only_address (subpic_form ids layout)
-unfolding fresh hides_row hides_counter id_form subpic_form
-id_leaves_address ids layout = leaves_together only_address (id_form ids layout) (form_of KNOWN_SUBPIC)
+unfolding fresh hides_row hides_counter subpic_id_form subpic_form
+id_leaves_address ids layout = leaves_together only_address (subpic_id_form ids layout) (form_of KNOWN_SUBPIC)
     (leaves_together only_address (form_of SUBPIC_ID) (λ t. done (located ids layout t)) (tables_leave only_address SUBPIC_ID refl) (located_leaves only_address ids layout refl refl refl)) (tables_leave only_address KNOWN_SUBPIC refl)
 
 id_leaves_inside : (ids : List ℕ) (layout : Numbers) → Leaves only_inside (subpic_form ids layout)
-unfolding fresh hides_row hides_counter id_form subpic_form
-id_leaves_inside ids layout = leaves_together only_inside (id_form ids layout) (form_of KNOWN_SUBPIC)
+unfolding fresh hides_row hides_counter subpic_id_form subpic_form
+id_leaves_inside ids layout = leaves_together only_inside (subpic_id_form ids layout) (form_of KNOWN_SUBPIC)
     (leaves_together only_inside (form_of SUBPIC_ID) (λ t. done (located ids layout t)) (tables_leave only_inside SUBPIC_ID refl) (located_leaves only_inside ids layout refl refl refl)) (tables_leave only_inside KNOWN_SUBPIC refl)
 
 -- names of a smaller set
@@ -330,10 +330,10 @@ inside_told s values end size (through {v} is to_end) =
 -- the id in the part behind the picture header is the one that the items tell
 pub id_is : (n : At) (fields : List Item) (inside : List ℤ) (f : AreFields n fields inside) → length n.slice ≡ 1024
     → (b : Parted (subpic_form n.ids n.layout f.at) (there n.table n.layout) f.behind f.end)
-    → (k : Parted (id_form n.ids n.layout f.at) (form_of KNOWN_SUBPIC) b.front b.mid)
+    → (k : Parted (subpic_id_form n.ids n.layout f.at) (form_of KNOWN_SUBPIC) b.front b.mid)
     → (i : Parted (form_of SUBPIC_ID f.at) (λ t. done (located n.ids n.layout t)) k.front k.mid)
     → slice_index i.mid sh_subpic_id ≡ number fields sh_subpic_id
-unfolding fresh behind_header subpic_form id_form hides_row hides_counter
+unfolding fresh behind_header subpic_form subpic_id_form hides_row hides_counter
 id_is n fields inside f size b k i =
     let behind = behind_header n.table n.ids n.layout in
     let first = items_along (form_of HEADER_INSIDE n.slice) f.first in
@@ -345,21 +345,21 @@ id_is n fields inside f size b k i =
     = ap (λ w. number (items_along (behind f.at) w) sh_subpic_id) b.all ∙ ap (λ x. number x sh_subpic_id) (items_joined (there n.table n.layout) b.others b.first)
     ∙ in_first three sh_subpic_id (items_along (subpic_form n.ids n.layout f.at) b.front) (items_along (there n.table n.layout b.mid) b.others) refl
     (none_shown three b.mid ((there_leaves n.table n.layout).at b.mid) b.second) in
-    let known : number (items_along (subpic_form n.ids n.layout f.at) b.front) sh_subpic_id ≡ number (items_along (id_form n.ids n.layout f.at) k.front) sh_subpic_id
+    let known : number (items_along (subpic_form n.ids n.layout f.at) b.front) sh_subpic_id ≡ number (items_along (subpic_id_form n.ids n.layout f.at) k.front) sh_subpic_id
     = ap (λ w. number (items_along (subpic_form n.ids n.layout f.at) w) sh_subpic_id) k.all
-    ∙ ap (λ x. number x sh_subpic_id) (items_joined (form_of KNOWN_SUBPIC) k.others k.first ∙ ap (λ x. items_along (id_form n.ids n.layout f.at) k.front ++ x) (known_items k.mid k.others)
-    ∙ append-nil (items_along (id_form n.ids n.layout f.at) k.front)) in
-    let here : number (items_along (id_form n.ids n.layout f.at) k.front) sh_subpic_id ≡ number (items_along (form_of SUBPIC_ID f.at) i.front) sh_subpic_id
-    = ap (λ w. number (items_along (id_form n.ids n.layout f.at) w) sh_subpic_id) i.all
+    ∙ ap (λ x. number x sh_subpic_id) (items_joined (form_of KNOWN_SUBPIC) k.others k.first ∙ ap (λ x. items_along (subpic_id_form n.ids n.layout f.at) k.front ++ x) (known_items k.mid k.others)
+    ∙ append-nil (items_along (subpic_id_form n.ids n.layout f.at) k.front)) in
+    let here : number (items_along (subpic_id_form n.ids n.layout f.at) k.front) sh_subpic_id ≡ number (items_along (form_of SUBPIC_ID f.at) i.front) sh_subpic_id
+    = ap (λ w. number (items_along (subpic_id_form n.ids n.layout f.at) w) sh_subpic_id) i.all
     ∙ ap (λ x. number x sh_subpic_id) (items_joined (λ t. done (located n.ids n.layout t)) i.others i.first ∙ append-nil (items_along (form_of SUBPIC_ID f.at) i.front)) in
     id_told f.at i.front i.mid at_size i.first ∙ sym here ∙ sym known ∙ sym subpic ∙ sym before
 
 subpic_told : (n : At) (fields : List Item) (inside : List ℤ) (f : AreFields n fields inside) → length n.slice ≡ 1024
     → slice_index f.end SUBPIC ≡ index_of (number fields sh_subpic_id) n.ids
-unfolding fresh behind_header subpic_form id_form hides_row hides_counter only_subpic
+unfolding fresh behind_header subpic_form subpic_id_form hides_row hides_counter only_subpic
 subpic_told n fields inside f size =
     let b = parted (subpic_form n.ids n.layout f.at) (there n.table n.layout) f.ends in
-    let k = parted (id_form n.ids n.layout f.at) (form_of KNOWN_SUBPIC) b.first in
+    let k = parted (subpic_id_form n.ids n.layout f.at) (form_of KNOWN_SUBPIC) b.first in
     let i = parted (form_of SUBPIC_ID f.at) (λ t. done (located n.ids n.layout t)) k.first in
     let still = left_end (known_leaves.at k.mid) k.second in
     let left = left_end ((there_leaves n.table n.layout).at b.mid) b.second in
@@ -369,10 +369,10 @@ subpic_told n fields inside f size =
     ∙ ap (λ id. index_of id n.ids) (id_is n fields inside f size b k i)
 
 subpic_known : (n : At) (fields : List Item) (inside : List ℤ) (f : AreFields n fields inside) → length n.slice ≡ 1024 → slice_index f.end SUBPIC < length n.ids
-unfolding fresh behind_header subpic_form id_form hides_row hides_counter only_subpic
+unfolding fresh behind_header subpic_form subpic_id_form hides_row hides_counter only_subpic
 subpic_known n fields inside f size =
     let b = parted (subpic_form n.ids n.layout f.at) (there n.table n.layout) f.ends in
-    let k = parted (id_form n.ids n.layout f.at) (form_of KNOWN_SUBPIC) b.first in
+    let k = parted (subpic_id_form n.ids n.layout f.at) (form_of KNOWN_SUBPIC) b.first in
     let i = parted (form_of SUBPIC_ID f.at) (λ t. done (located n.ids n.layout t)) k.first in
     let still = left_end (known_leaves.at k.mid) k.second in
     let left = left_end ((there_leaves n.table n.layout).at b.mid) b.second in

@@ -1,7 +1,7 @@
 -- What the fields of a slice header behind the id of its subpicture depend on.
 use Rattle.std.specs.Prelude.{ℕ, not, List, [], ◌∷◌, ◌++◌, filter}
 use Rattle.vx_table.specs.Depends.{has, with_all, set_of, DependsOnlyOn}
-use Rattle.vx_table.specs.Again.{AlwaysShown}
+use Rattle.vx_table.specs.laws.Again.{AlwaysShown}
 use Rattle.vx_table.specs.Shown.{KeepsOnly}
 use Rattle.vx_fields.specs.declared.names.rpl.TheConstants as names_rpl
 use Rattle.vx_fields.specs.declared.names.rpl.TheConstants.{ENTRIES_0, ENTRIES_1}
@@ -37,16 +37,16 @@ of_pps = pps.pps_cabac_init_present_flag ∷ pps.pps_rpl1_idx_present_flag ∷ p
     ∷ pps.pps_sao_info_in_ph_flag ∷ pps.pps_wp_info_in_ph_flag ∷ pps.pps_slice_header_extension_present_flag ∷ []
 
 -- kept fields of the picture header
-abbrev pub of_header : List ℕ
-of_header = ph.ph_inter_slice_allowed_flag ∷ ph.ph_temporal_mvp_enabled_flag ∷ []
+abbrev pub kept_of_ph : List ℕ
+kept_of_ph = ph.ph_inter_slice_allowed_flag ∷ ph.ph_temporal_mvp_enabled_flag ∷ []
 
 -- numbers beside these: the type of the NAL unit, the slices of the subpicture, how many extra bits the SPS asks for, the two
 -- pps_num_ref_idx_default_active_minus1, and the lengths of the picture header's lists
-abbrev pub numbers : List ℕ
-numbers = NAL_TYPE ∷ NUM_SLICES ∷ EXTRA_SH_BITS ∷ DEFAULT_ACTIVE_0 ∷ DEFAULT_ACTIVE_1 ∷ ENTRIES_0 ∷ ENTRIES_1 ∷ []
+abbrev pub numbers_beside : List ℕ
+numbers_beside = NAL_TYPE ∷ NUM_SLICES ∷ EXTRA_SH_BITS ∷ DEFAULT_ACTIVE_0 ∷ DEFAULT_ACTIVE_1 ∷ ENTRIES_0 ∷ ENTRIES_1 ∷ []
 
 abbrev pub kept_given : List ℕ
-kept_given = of_sps ++ (of_pps ++ (of_header ++ numbers))
+kept_given = of_sps ++ (of_pps ++ (kept_of_ph ++ numbers_beside))
 
 -- and fields with a star: where the filter and the QP stand, what the picture uses of adaptation sets, and whether its header
 -- stands inside

@@ -10,7 +10,7 @@ use Rattle.vx_fields.specs.declared.sps.TheConstants.{sps_entropy_coding_sync_en
 use Rattle.vx_ph.specs.Depends.{all_of_sets}
 use Rattle.vx_sh.specs.declared.header.SliceHeader.{SliceHeader}
 use Rattle.vx_sh.specs.Depends.{all_given}
-use Rattle.vx_sh.specs.Whole.{At, index_of, slices_at, points_at}
+use Rattle.vx_sh.specs.Whole.{At, index_of, num_slices_in_subpic, points_at}
 use Rattle.vx_sh.specs.Value.{BeginsSlice}
 
 -- what all fields behind the id depend on, but for what the slice header itself tells before them,
@@ -25,7 +25,7 @@ given = sps_subpic_info_present_flag ∷ sps_subpic_id_len_minus1 ∷ sps_entrop
 -- Both have a subpicture with the id, of as many slices, with the same entry points by address.
 pub record HaveSubpicture (n m : At) (id : ℕ) : Type 0 where
   pub known : index_of id m.ids < length m.ids
-  pub slices : slices_at n.layout (index_of id n.ids) ≡ slices_at m.layout (index_of id m.ids)
+  pub slices : num_slices_in_subpic n.layout (index_of id n.ids) ≡ num_slices_in_subpic m.layout (index_of id m.ids)
   pub points : (has_points sync : Bool) (address : ℕ)
       → points_at n.layout has_points sync (index_of id n.ids) address ≡ points_at m.layout has_points sync (index_of id m.ids) address
 

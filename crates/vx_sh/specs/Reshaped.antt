@@ -14,7 +14,8 @@ use Rattle.vx_fields.specs.declared.ph.TheConstants as ph
 use Rattle.vx_fields.specs.declared.sh.TheConstants as sh
 use Rattle.vx_fields.specs.declared.names.sh.TheConstants.{NUM_SLICES}
 use Rattle.vx_layout.specs.declared.numbers.Numbers.{Numbers}
-use Rattle.vx_sps.specs.Reshaped.{item, where_so}
+use Rattle.vx_sps.specs.Reshaped.{item}
+use Rattle.vx_table.specs.Rewritten.{where_so}
 use Rattle.vx_ph.specs.declared.header.PictureHeader.{PictureHeader}
 use Rattle.vx_ph.specs.declared.tables.TheConstants.{ALF}
 use Rattle.vx_ph.specs.Depends as ph_kept
@@ -26,20 +27,20 @@ use Rattle.vx_sh.specs.declared.numbers.SliceNumbers.{SliceNumbers}
 use Rattle.vx_sh.specs.declared.shape.ShShape.{ShShape}
 use Rattle.vx_sh.specs.Depends.{kept_fields, kept_given}
 use Rattle.vx_sh.specs.InForce.{at_sets, in_force_at, slice_scope}
-use Rattle.vx_sh.specs.Value.{AreFields, BeginsSlice, HasNumbers, IsSpelling, TellsNumbers}
-use Rattle.vx_sh.specs.Whole.{At, index_of, points_at, slices_at}
+use Rattle.vx_sh.specs.Value.{AreFields, BeginsSlice, HasNumbers, IsSliceHeaderSpelling, TellsNumbers}
+use Rattle.vx_sh.specs.Whole.{At, index_of, points_at, num_slices_in_subpic}
 
 -- ---- what is stated, in the order of the syntax
 
 -- the picture header stands apart; the id of the subpicture, where the SPS describes subpictures
-abbrev pub id_items : List Item → ℕ → List Item
-id_items sps id =
+abbrev pub sh_subpic_id_items : List Item → ℕ → List Item
+sh_subpic_id_items sps id =
     item sh.sh_picture_header_in_slice_header_flag 0
     ∷ where_so (is_set (number sps sps_fields.sps_subpic_info_present_flag)) (item sh.sh_subpic_id id ∷ [])
 
 -- the filter, where the SPS has it
-abbrev pub filter_items : List Item → List Item → List Item
-filter_items sps filter = where_so (is_set (number sps sps_fields.sps_alf_enabled_flag)) filter
+abbrev pub stated_filter_items : List Item → List Item → List Item
+stated_filter_items sps filter = where_so (is_set (number sps sps_fields.sps_alf_enabled_flag)) filter
 
 -- what is used of LMCS and scaling lists, where the picture header has them on
 abbrev pub use_items : List Item → (uses_lmcs uses_scaling : Bool) → List Item
@@ -53,10 +54,10 @@ abbrev pub qp_items : ℤ → List Item
 qp_items delta = record { field = sh.sh_qp_delta; value = delta } ∷ []
 
 -- all that is stated
-abbrev pub stated : SliceNumbers → ShShape → List Item
-stated n shape =
-    id_items n.sps.now shape.subpic_id
-    ++ ((filter_items n.sps.now shape.filter.now ++ use_items n.header.now.fields shape.uses_lmcs shape.uses_scaling)
+abbrev pub stated_sh_items : SliceNumbers → ShShape → List Item
+stated_sh_items n shape =
+    sh_subpic_id_items n.sps.now shape.subpic_id
+    ++ ((stated_filter_items n.sps.now shape.filter.now ++ use_items n.header.now.fields shape.uses_lmcs shape.uses_scaling)
     ++ qp_items shape.qp_delta)
 
 -- Numbers that a header can have there: the id is that of a subpicture, and 0 where it isn't spelled; the filter goes through under the
@@ -74,12 +75,12 @@ pub record IsShape (n : SliceNumbers) (shape : ShShape) : Type 0 where
 
 -- Subpictures k and m of two layouts have as many slices, with the same entry points by address.
 pub record HaveSameSlices (layout : Numbers) (k : ℕ) (other : Numbers) (m : ℕ) : Type 0 where
-  pub slices : slices_at layout k ≡ slices_at other m
+  pub slices : num_slices_in_subpic layout k ≡ num_slices_in_subpic other m
   pub points : (has_points sync : Bool) (address : ℕ) → points_at layout has_points sync k address ≡ points_at other has_points sync m address
 
 -- Two picture headers have the same kept fields, and lists of the same lengths.
 pub record AreSameForSlices (header other : PictureHeader) : Type 0 where
-  pub fields : shown_items (set_of ph_kept.kept) other.fields ≡ shown_items (set_of ph_kept.kept) header.fields
+  pub fields : shown_items (set_of ph_kept.kept_ph_fields) other.fields ≡ shown_items (set_of ph_kept.kept_ph_fields) header.fields
   pub first : length other.lists.first ≡ length header.lists.first
   pub second : length other.lists.second ≡ length header.lists.second
 
@@ -105,16 +106,16 @@ pub record GoesAt (source : SliceHeader) (id : ℕ) (n : SliceNumbers) : Type 0 
 
 -- The items are those of a slice header there that has the picture header apart, with the stated id. Those of kept fields are the
 -- source's, and the others are exactly what is stated.
-pub record AreReshaped (source : List Item) (shape : ShShape) (n : SliceNumbers) (items : List Item) : Type 0 where
+pub record AreReshapedInSliceHeader (source : List Item) (shape : ShShape) (n : SliceNumbers) (items : List Item) : Type 0 where
   pub fields : AreFields (in_force_at n) items []
   pub apart : number items sh.sh_picture_header_in_slice_header_flag ≡ 0
   pub id : number items sh.sh_subpic_id ≡ shape.subpic_id
   pub kept : shown_items (set_of kept_fields) items ≡ shown_items (set_of kept_fields) source
-  pub others : other_items (set_of kept_fields) items ≡ stated n shape
+  pub others : other_items (set_of kept_fields) items ≡ stated_sh_items n shape
 
 -- Its subpicture has the stated id, its address and its lists are the source's.
-pub record IsReshaped (source : SliceHeader) (shape : ShShape) (n : SliceNumbers) (written : SliceHeader) : Type 0 where
-  pub fields : AreReshaped source.fields shape n written.fields
+pub record IsReshapedSliceHeader (source : SliceHeader) (shape : ShShape) (n : SliceNumbers) (written : SliceHeader) : Type 0 where
+  pub fields : AreReshapedInSliceHeader source.fields shape n written.fields
   pub inside : written.inside ≡ false
   pub subpic : written.subpic ≡ index_of shape.subpic_id n.ids.now
   pub address : written.address ≡ source.address
@@ -123,22 +124,22 @@ pub record IsReshaped (source : SliceHeader) (shape : ShShape) (n : SliceNumbers
 -- The bytes spell a rewritten slice header, whose numbers are those that its items tell.
 pub record IsSent (source : SliceHeader) (shape : ShShape) (n : SliceNumbers) (bytes : List ℕ) : Type 0 where
   pub header : SliceHeader
-  pub reshaped : IsReshaped source shape n header
+  pub reshaped : IsReshapedSliceHeader source shape n header
   pub told : TellsNumbers (in_force_at n) header
-  pub spelled : IsSpelling (in_force_at n) header.fields n.header.now.fields bytes
+  pub spelled : IsSliceHeaderSpelling (in_force_at n) header.fields n.header.now.fields bytes
 
 -- What is written of it begins an RBSP, whatever payload follows, and is read as nothing but it, of the same bytes; and its kept fields
 -- are the source's.
-pub record IsReadAgain (source written : SliceHeader) (n : At) (bytes payload : List ℕ) : Type 0 where
+pub record IsSliceReadAgain (source written : SliceHeader) (n : At) (bytes payload : List ℕ) : Type 0 where
   pub begins : BeginsSlice n (bytes ++ payload) written (length bytes)
   pub only : (read : SliceHeader) (size : ℕ) → BeginsSlice n (bytes ++ payload) read size → (read ≡ written) × (size ≡ length bytes)
   pub kept : shown_items (set_of kept_fields) written.fields ≡ shown_items (set_of kept_fields) source.fields
 
 abbrev pub ReshapedIsReadAgain : Type 0
 ReshapedIsReadAgain = (source written : SliceHeader) (shape : ShShape) (n : SliceNumbers) (bytes payload : List ℕ)
-    → IsReshaped source shape n written → TellsNumbers (in_force_at n) written
-    → IsSpelling (in_force_at n) written.fields n.header.now.fields bytes
-    → IsReadAgain source written (in_force_at n) bytes payload
+    → IsReshapedSliceHeader source shape n written → TellsNumbers (in_force_at n) written
+    → IsSliceHeaderSpelling (in_force_at n) written.fields n.header.now.fields bytes
+    → IsSliceReadAgain source written (in_force_at n) bytes payload
 
 -- ---- sets and picture headers with the same kept fields
 

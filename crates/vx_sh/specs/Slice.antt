@@ -52,10 +52,10 @@ behind_weights = qp ++ (always CHROMA_QP_AND_FILTERS ∷ always END ∷ always A
 unfoldable pub front_form : (ℕ → ℕ) → List ℕ → Form (List ℕ)
 front_form points s = address_form points s >>= sections_form before_lists
 
-unfoldable pub before_weights : RplTable → (ℕ → ℕ) → List ℕ → Form (List ℕ)
-before_weights table points s = (front_form points s >>= lists_here table) >>= sections_form between
+unfoldable pub sh_before_weights : RplTable → (ℕ → ℕ) → List ℕ → Form (List ℕ)
+sh_before_weights table points s = (front_form points s >>= lists_here table) >>= sections_form between
 
 -- slice_header( ) behind sh_subpic_id, with its alignment, with the SPS's structures of lists, and so many entry points at each
 -- address, at a scope that has the numbers of the sets and the picture header in force
 unfoldable pub rest_form : RplTable → (ℕ → ℕ) → List ℕ → Form (List ℕ)
-rest_form table points s = (before_weights table points s >>= weights_here) >>= sections_form behind_weights
+rest_form table points s = (sh_before_weights table points s >>= weights_here) >>= sections_form behind_weights

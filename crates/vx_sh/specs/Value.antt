@@ -9,7 +9,7 @@ use Rattle.vx_table.specs.Scope.{is_set}
 use Rattle.vx_table.specs.Forms.{form_of}
 use Rattle.vx_table.specs.Spelling.{Spells, items_along}
 use Rattle.vx_table.specs.Values.{Follows, bits_along}
-use Rattle.vx_table.specs.Reading.{at_front, Passes}
+use Rattle.vx_table.specs.Reading.{at_front, PassesOver}
 use Rattle.vx_fields.specs.declared.sh.TheConstants.{sh_picture_header_in_slice_header_flag, sh_subpic_id, sh_slice_address}
 use Rattle.vx_fields.specs.declared.names.sh.TheConstants.{SUBPIC}
 use Rattle.vx_rpl.specs.HeaderLists.{lists_of}
@@ -59,7 +59,7 @@ pub record BeginsSlice (n : At) (rbsp : List ℕ) (header : SliceHeader) (bytes 
 abbrev pub ReadsSlice : At → List ℕ → Result (SliceHeader × ℕ) ReadError → Type 0
 ReadsSlice n rbsp (Ok (header, size)) = BeginsSlice n rbsp header size
 ReadsSlice n rbsp (Err errors.Memory) = Unit {0}
-ReadsSlice n rbsp (Err (errors.Refused r)) = (new : Place) × Passes {B = Unit {0}} (slice_form n) (at_front rbsp) (Err r) new
+ReadsSlice n rbsp (Err (errors.Refused r)) = (new : Place) × PassesOver {B = Unit {0}} (slice_form n) (at_front rbsp) (Err r) new
 
 -- The items are those of a slice header inside of which, where a picture header stands there, the one of these items stands.
 pub record IsSliceOf (n : At) (fields header : List Item) : Type 0 where
@@ -69,7 +69,7 @@ pub record IsSliceOf (n : At) (fields header : List Item) : Type 0 where
   pub given : header ≡ items_along (header_inside n.table n.sets slice.at) inside ++ others
 
 -- The bytes are its spelling, and the last of them isn't 00.
-pub record IsSpelling (n : At) (fields header : List Item) (bytes : List ℕ) : Type 0 where
+pub record IsSliceHeaderSpelling (n : At) (fields header : List Item) (bytes : List ℕ) : Type 0 where
   pub is : IsSliceOf n fields header
   pub bits : bits_of bytes ≡ bits_along (slice_form n) 0 (values_of is.slice)
   pub last : EndsInNoZero bytes
@@ -77,11 +77,11 @@ pub record IsSpelling (n : At) (fields header : List Item) (bytes : List ℕ) : 
 -- What is written is read as it, whatever payload follows: the same items, of the same length.
 abbrev pub SpellingIsRead : Type 0
 SpellingIsRead = (n : At) (fields header : List Item) (bytes payload : List ℕ) (read : SliceHeader) (size : ℕ)
-    → IsSpelling n fields header bytes → BeginsSlice n (bytes ++ payload) read size → (read.fields ≡ fields) × (size ≡ length bytes)
+    → IsSliceHeaderSpelling n fields header bytes → BeginsSlice n (bytes ++ payload) read size → (read.fields ≡ fields) × (size ≡ length bytes)
 
 -- The scope at the end of a slice header has the numbers that its items tell: whether the picture header stands inside, the index of
 -- the id, which is one of those of the subpictures, and the address.
-pub record AreTold (n : At) (fields : List Item) (end : List ℕ) : Type 0 where
+pub record AreToldBySlice (n : At) (fields : List Item) (end : List ℕ) : Type 0 where
   pub inside : slice_index end sh_picture_header_in_slice_header_flag ≡ number fields sh_picture_header_in_slice_header_flag
   pub subpic : slice_index end SUBPIC ≡ index_of (number fields sh_subpic_id) n.ids
   pub known : slice_index end SUBPIC < length n.ids
@@ -89,7 +89,7 @@ pub record AreTold (n : At) (fields : List Item) (end : List ℕ) : Type 0 where
 
 abbrev pub NumbersAreTold : Type 0
 NumbersAreTold = (n : At) (fields : List Item) (inside : List ℤ) (f : AreFields n fields inside) → length n.slice ≡ 1024
-    → AreTold n fields f.end
+    → AreToldBySlice n fields f.end
 
 -- The numbers beside the items are those that these tell.
 pub record TellsNumbers (n : At) (header : SliceHeader) : Type 0 where
@@ -101,7 +101,7 @@ pub record TellsNumbers (n : At) (header : SliceHeader) : Type 0 where
 -- What is written of such a slice header begins an RBSP, whatever payload follows.
 abbrev pub SpellingBegins : Type 0
 SpellingBegins = (n : At) (header : SliceHeader) (others : List Item) (bytes payload : List ℕ) → length n.slice ≡ 1024
-    → TellsNumbers n header → IsSpelling n header.fields others bytes → BeginsSlice n (bytes ++ payload) header (length bytes)
+    → TellsNumbers n header → IsSliceHeaderSpelling n header.fields others bytes → BeginsSlice n (bytes ++ payload) header (length bytes)
 
 -- What was read can be written: with any picture header where none stands inside, else with the one that the bits behind the first
 -- spell.
@@ -117,7 +117,7 @@ ReadCanBeWritten = (n : At) (rbsp : List ℕ) (header : SliceHeader) (size : ℕ
 -- No spelling of a slice header is a proper prefix of another's.
 abbrev pub NoProperPrefix : Type 0
 NoProperPrefix = (n : At) (fields others header other : List Item) (bytes more : List ℕ)
-    → IsSpelling n fields header bytes → IsSpelling n others other (bytes ++ more) → (fields ≡ others) × (more ≡ [])
+    → IsSliceHeaderSpelling n fields header bytes → IsSliceHeaderSpelling n others other (bytes ++ more) → (fields ≡ others) × (more ≡ [])
 
 -- The first bit of the RBSP says whether the picture header stands inside.
 abbrev pub FirstBitIsInside : Type 0

@@ -26,30 +26,30 @@ index_of id [] = 0
 index_of id (n ∷ more) = cond (n == id) 0 (index_of id more + 1)
 
 -- the slices of subpicture k
-abbrev pub slices_at : Numbers → ℕ → ℕ
-slices_at layout k = cond (nat_lt k (length layout.subpics)) (length (slices_in layout k)) 0
+abbrev pub num_slices_in_subpic : Numbers → ℕ → ℕ
+num_slices_in_subpic layout k = cond (nat_lt k (length layout.subpics)) (length (slices_in layout k)) 0
 
 -- the subpicture that has the id, and how many slices it has (7.4.8, CurrSubpicIdx)
 unfoldable pub located : List ℕ → Numbers → List ℕ → List ℕ
 located ids layout s =
     slice_set
     (slice_set (slice_set s NUM_SUBPICS (length ids)) SUBPIC (index_of (slice_index s sh_subpic_id) ids))
-    NUM_SLICES (slices_at layout (index_of (slice_index s sh_subpic_id) ids))
+    NUM_SLICES (num_slices_in_subpic layout (index_of (slice_index s sh_subpic_id) ids))
 
 -- the id, with which the subpicture is known
-unfoldable pub id_form : List ℕ → Numbers → List ℕ → Form (List ℕ)
-id_form ids layout s = form_of SUBPIC_ID s >>= λ t. done (located ids layout t)
+unfoldable pub subpic_id_form : List ℕ → Numbers → List ℕ → Form (List ℕ)
+subpic_id_form ids layout s = form_of SUBPIC_ID s >>= λ t. done (located ids layout t)
 
 -- it is refused where no subpicture has it
 unfoldable pub subpic_form : List ℕ → Numbers → List ℕ → Form (List ℕ)
-subpic_form ids layout s = id_form ids layout s >>= form_of KNOWN_SUBPIC
+subpic_form ids layout s = subpic_id_form ids layout s >>= form_of KNOWN_SUBPIC
 
 -- ---- entry points
 
 -- of slice m of subpicture k (7.4.8, NumEntryPoints): none where the SPS says that slice headers don't name them
 unfoldable pub points_at : Numbers → (has_points sync : Bool) → ℕ → ℕ → ℕ
 points_at layout has_points sync k m =
-    cond (has_points && nat_lt m (slices_at layout k)) (entries layout.columns layout.rows (slice_at layout k m) sync) 0
+    cond (has_points && nat_lt m (num_slices_in_subpic layout k)) (entries layout.columns layout.rows (slice_at layout k m) sync) 0
 
 -- those of the subpicture and the SPS of a scope, by address
 abbrev pub points_of : Numbers → List ℕ → ℕ → ℕ

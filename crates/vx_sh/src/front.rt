@@ -18,7 +18,7 @@ use vx_table::{Coder, Scope, code_table};
 /// The slices of a subpicture, of so many.
 fn slices_at(layout: &Layout, subpics: u32, subpic: u32) -> u32
     requires { subpics ≡ length layout.now.subpics }
-    ensures { result ≡ whole.slices_at layout.now subpic }
+    ensures { result ≡ whole.num_slices_in_subpic layout.now subpic }
 {
     if subpic < subpics {
         layout.slice_count(subpic)
@@ -91,7 +91,7 @@ fn code_id<I, C: Coder<I>>(
     coder: &mut C,
     items: &mut I,
 ) -> Result<(), C::Fault>
-    ensures { Walks C.step (whole.id_form n.now.ids.now n.now.layout.now scope.old) coder.old items.old (leaving scope.new result) coder.new items.new }
+    ensures { Walks C.step (whole.subpic_id_form n.now.ids.now n.now.layout.now scope.old) coder.old items.old (leaving scope.new result) coder.new items.new }
 {
     code_table(&SUBPIC_ID, scope, coder, items)?;
     locate(n, scope);

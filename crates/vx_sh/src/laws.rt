@@ -1,13 +1,13 @@
 //! Laws of slice headers: functions that do nothing, each with a law as its contract.
-ghost use Rattle.vx_sh.specs.Addresses.{AddressesAreBelow};
+ghost use Rattle.vx_sh.specs.laws.Addresses.{AddressesAreBelow};
 ghost use Rattle.vx_sh.specs.Depends.{KeptDepend, AllDepend, AllAreShown, KeptAreShown};
-ghost use Rattle.vx_sh.specs.Again.{SlicesReadAgain, SlicesRewrite};
+ghost use Rattle.vx_sh.specs.laws.Again.{SlicesReadAgain, SlicesRewrite};
 ghost use Rattle.vx_sh.specs.Elsewhere.{SliceReadElsewhere};
-ghost use Rattle.vx_sh.specs.Enabled.{NoSliceFilter};
-ghost use Rattle.vx_sh.specs.Filter.{SliceHasFilter};
+ghost use Rattle.vx_sh.specs.laws.Enabled.{NoSliceFilter};
+ghost use Rattle.vx_sh.specs.laws.Filter.{SliceHasFilter};
 ghost use Rattle.vx_sh.specs.InForce.{SliceScopesAgree, SliceScopesAreWhole};
 ghost use Rattle.vx_sh.specs.Reshaped.{ReshapedIsReadAgain, SlicesAgreeOnKept};
-ghost use Rattle.vx_sh.specs.Sizes.{NumbersAreBounded, SpellingIsShort};
+ghost use Rattle.vx_sh.specs.laws.Sizes.{NumbersAreBounded, SpellingIsShort};
 ghost use Rattle.vx_sh.specs.Value.{FirstBitIsInside, NoProperPrefix, NumbersAreTold, ReadCanBeWritten, SpellingBegins, SpellingIsRead};
 
 /// The kept fields of a slice header behind the id of its subpicture depend on kept fields alone, and the other fields on a

@@ -4,7 +4,7 @@ ghost use Rattle.vx_bits.specs.Place.{Place};
 ghost use Rattle.vx_table.specs.Reading.{Reads, at_front};
 ghost use Rattle.vx_ph.specs.InForce as ph;
 ghost use Rattle.vx_sh.specs.Whole.{slice_form};
-ghost use Rattle.vx_sh.specs.Value.{ReadsSlice, IsSliceOf, IsSpelling};
+ghost use Rattle.vx_sh.specs.Value.{ReadsSlice, IsSliceOf, IsSliceHeaderSpelling};
 ghost use Rattle.vx_sh.specs.InForce as scopes;
 ghost use Rattle.vx_sh.specs.InForce.{in_force_at};
 
@@ -165,7 +165,7 @@ pub fn write_sh(
     requires slice { IsSliceOf (in_force_at numbers.now) header.now.fields numbers.now.header.now.fields }
     requires few { length numbers.now.ids.now ≤ 1000 }
     requires one_each { length numbers.now.ids.now ≡ length numbers.now.layout.now.subpics }
-    ensures { IfOk result (λ bytes. IsSpelling (in_force_at numbers.now) header.now.fields numbers.now.header.now.fields bytes.items) }
+    ensures { IfOk result (λ bytes. IsSliceHeaderSpelling (in_force_at numbers.now) header.now.fields numbers.now.header.now.fields bytes.items) }
 {
     let (sps, pps) = (numbers.sps, numbers.pps);
     let sets = in_force(sps, pps);

@@ -2,12 +2,12 @@
 ghost use Rattle.std.specs.Prelude.{◌≡◌, ◌≤◌, [], ◌∷◌, ◌++◌, length, OnOk, IfOk};
 ghost use Rattle.vx_table.specs.Loaded as loading;
 ghost use Rattle.vx_sps.specs.Reshaped as reshaped;
-ghost use Rattle.vx_sps.specs.Reshaped.{where_so};
+ghost use Rattle.vx_table.specs.Rewritten.{where_so};
 ghost use Rattle.vx_ph.specs.InForce.{in_force};
 ghost use Rattle.vx_ph.specs.inner.Makes.{Makes};
 ghost use Rattle.vx_sh.specs.declared.tables.TheConstants as tables;
 ghost use Rattle.vx_sh.specs.InForce.{in_force_at};
-ghost use Rattle.vx_sh.specs.Reshaped.{id_items, filter_items, qp_items, stated, IsShape, GoesAt, AreReshaped, IsReshaped};
+ghost use Rattle.vx_sh.specs.Reshaped.{sh_subpic_id_items, stated_filter_items, qp_items, stated_sh_items, IsShape, GoesAt, AreReshapedInSliceHeader, IsReshapedSliceHeader};
 ghost use Rattle.vx_sh.specs.Value.{IsSliceOf, TellsNumbers};
 ghost use Rattle.vx_sh.specs.Whole.{apart_form};
 ghost use Rattle.vx_sh.specs.inner.Sending.{uses_at};
@@ -57,7 +57,7 @@ fn push_where(holds: bool, item: Item, into: &mut Fields) -> Result<(), AllocErr
 
 /// That the picture header stands apart, and the id of the subpicture.
 fn push_id(sps: &Sps, id: u32, into: &mut Fields) -> Result<(), AllocError>
-    ensures { OnOk result (into.new ≡ into.old ++ id_items sps.now id) }
+    ensures { OnOk result (into.new ≡ into.old ++ sh_subpic_id_items sps.now id) }
 {
     into.push(item(sh_picture_header_in_slice_header_flag, 0))?;
     let described = number(sps, sps_subpic_info_present_flag) != 0;
@@ -66,7 +66,7 @@ fn push_id(sps: &Sps, id: u32, into: &mut Fields) -> Result<(), AllocError>
 
 /// The filter, where the SPS has it.
 fn push_filter(sps: &Sps, filter: &Fields, into: &mut Fields) -> Result<(), AllocError>
-    ensures { OnOk result (into.new ≡ into.old ++ filter_items sps.now filter.now) }
+    ensures { OnOk result (into.new ≡ into.old ++ stated_filter_items sps.now filter.now) }
 {
     if number(sps, sps_alf_enabled_flag) == 0 {
         return Ok(());
@@ -103,7 +103,7 @@ pub(crate) fn stated_items(
     shape: &ShShape<'_>,
 ) -> Result<Fields, AllocError>
     requires { slice.now ≡ (in_force_at numbers.now).slice }
-    ensures { IfOk result (λ items. items ≡ stated numbers.now shape.now) }
+    ensures { IfOk result (λ items. items ≡ stated_sh_items numbers.now shape.now) }
 {
     let mut into = Fields::new(alloc);
     push_id(numbers.sps, shape.subpic_id, &mut into)?;
@@ -153,7 +153,7 @@ fn reshaped_items(
     requires sets { sets.now ≡ in_force numbers.now.sps.now numbers.now.pps.now }
     requires few { length numbers.now.ids.now ≤ 1000 }
     requires one_each { length numbers.now.ids.now ≡ length numbers.now.layout.now.subpics }
-    ensures { IfOk result (λ items. AreReshaped source.now.fields shape.now numbers.now items) }
+    ensures { IfOk result (λ items. AreReshapedInSliceHeader source.now.fields shape.now numbers.now items) }
 {
     let (sps, pps) = (numbers.sps, numbers.pps);
     let slice = slice_scope(numbers.nal_type, sps, pps, numbers.header, sets);
@@ -190,7 +190,7 @@ pub fn reshape_sh(
     requires source { GoesAt source.now shape.now.subpic_id numbers.now }
     requires few { length numbers.now.ids.now ≤ 1000 }
     requires one_each { length numbers.now.ids.now ≡ length numbers.now.layout.now.subpics }
-    ensures reshaped { IfOk result (λ header. IsReshaped source.now shape.now numbers.now header) }
+    ensures reshaped { IfOk result (λ header. IsReshapedSliceHeader source.now shape.now numbers.now header) }
     // It can be written, and its numbers are those that its items tell.
     ensures slice { IfOk result (λ header. IsSliceOf (in_force_at numbers.now) header.fields numbers.now.header.now.fields) }
     ensures told { IfOk result (λ header. TellsNumbers (in_force_at numbers.now) header) }

@@ -2,7 +2,7 @@
 ghost use Rattle.std.specs.Prelude.{◌≡◌, ℕ};
 ghost use Rattle.vx_table.specs.Walks.{Walks, leaving};
 ghost use Rattle.vx_table.specs.Parts.{sections_form};
-ghost use Rattle.vx_sh.specs.Slice.{with_entry_points, address_form, before_lists, lists_here, between, weights_here, behind_weights, front_form, before_weights, rest_form};
+ghost use Rattle.vx_sh.specs.Slice.{with_entry_points, address_form, before_lists, lists_here, between, weights_here, behind_weights, front_form, sh_before_weights, rest_form};
 
 use crate::tables::{
     ACTIVE, ADDRESS, ALIGNMENT, CHROMA_QP_AND_FILTERS, END, FILTER_HERE, INTER, LISTS_HERE,
@@ -135,7 +135,7 @@ fn code_front<I, C: Coder<I>, P: EntryPoints>(
 }
 
 /// Codes what stands before prediction weights.
-#[tactic(auto, unfolding(crate::specs::Slice::before_weights), using(vx_table::proofs::Steps::then, vx_table::proofs::Steps::stop))]
+#[tactic(auto, unfolding(crate::specs::Slice::sh_before_weights), using(vx_table::proofs::Steps::then, vx_table::proofs::Steps::stop))]
 fn code_before_weights<I, C: Coder<I>, P: EntryPoints>(
     table: &RplTable,
     points: &P,
@@ -143,7 +143,7 @@ fn code_before_weights<I, C: Coder<I>, P: EntryPoints>(
     coder: &mut C,
     items: &mut I,
 ) -> Result<(), C::Fault>
-    ensures { Walks C.step (before_weights table.now (P.points points.now) scope.old) coder.old items.old (leaving scope.new result) coder.new items.new }
+    ensures { Walks C.step (sh_before_weights table.now (P.points points.now) scope.old) coder.old items.old (leaving scope.new result) coder.new items.new }
 {
     code_front(points, scope, coder, items)?;
     code_lists_here(table, scope, coder, items)?;

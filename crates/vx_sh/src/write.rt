@@ -1,7 +1,7 @@
 //! Writing a slice header.
 ghost use Rattle.std.specs.Prelude.{◌≡◌, [], length, IfOk};
 ghost use Rattle.vx_sh.specs.Whole.{at_of};
-ghost use Rattle.vx_sh.specs.Value.{IsSliceOf, IsSpelling};
+ghost use Rattle.vx_sh.specs.Value.{IsSliceOf, IsSliceHeaderSpelling};
 ghost use Rattle.vx_sh.specs.inner.Writing.{WritesFields};
 
 use crate::context::Context;
@@ -46,7 +46,7 @@ pub(crate) fn write_slice_at(
     scope: &mut Scope,
 ) -> Result<Vec<u8>, AllocError>
     requires { IsSliceOf (at_of n.now scope.old) header.now.fields inside.now }
-    ensures { IfOk result (λ bytes. IsSpelling (at_of n.now scope.old) header.now.fields inside.now bytes.items) }
+    ensures { IfOk result (λ bytes. IsSliceHeaderSpelling (at_of n.now scope.old) header.now.fields inside.now bytes.items) }
 {
     let mut bits = BitWriter::new(alloc);
     match write_fields(n, scope, &header.fields, inside, &mut bits) {

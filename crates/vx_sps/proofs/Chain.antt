@@ -18,14 +18,14 @@ use Rattle.vx_table.proofs.Rewrites.{what_goes_is_rewritten}
 use Rattle.vx_sps.specs.declared.shape.SpsShape.{SpsShape}
 use Rattle.vx_sps.specs.declared.tables.TheConstants.{TAKEN}
 use Rattle.vx_sps.specs.Structure.{ids, start, profile, resampling, picture, counts, dpb, tools, timing, end, sps_sections, sps_form}
-use Rattle.vx_sps.specs.Reshaped.{id_items, profile_items, picture_items, dpb_items, timing_items, IsReshaped}
+use Rattle.vx_sps.specs.Reshaped.{sps_id_items, profile_items, picture_items, dpb_items, timing_items, IsReshapedSps}
 use Rattle.vx_table.proofs.Groups.{copied_group, inside_nothing, Onward, copied_first, replaced_first}
 use Rattle.vx_sps.proofs.Stages.{standing}
 use Rattle.vx_sps.proofs.Rows as tests
 
 -- What is stated goes through the replaced groups, at each scope that has the numbers which they read.
 pub record Replaces (source : List Item) (shape : SpsShape) : Type 0 where
-  pub ids : (t : List ℕ) → length fresh ≡ length t → Takes (sections_form ids t) (id_items shape.id)
+  pub ids : (t : List ℕ) → length fresh ≡ length t → Takes (sections_form ids t) (sps_id_items shape.id)
   pub profile : (t : List ℕ) → length fresh ≡ length t → slice_index t sps_max_sublayers_minus1 ≡ number source sps_max_sublayers_minus1
       → Takes (sections_form profile t) (profile_items source shape.level)
   pub picture : (t : List ℕ) → Agree tests.unset fresh t → slice_index t sps_log2_ctu_size_minus5 ≡ number source sps_log2_ctu_size_minus5
@@ -78,12 +78,12 @@ module _ {values : List ℤ} {last : List ℕ} (shape : SpsShape) (follows : Fol
       (λ s t w ends agree empty. there.profile t empty.size (reads tests.early_numbers tests.from_profile tests.early_load tests.profile_stands follows ends agree sps_max_sublayers_minus1 refl refl))
       (copied_first names tests.unset resampling tests.from_picture tests.resampling_taken.0 tests.resampling_taken.1 tests.resampling_taken.3 from_picture)
 
-  from_ids : Onward names tests.unset sps_sections last (id_items shape.id ++ (profile_items source shape.level ++ (picture_items source shape ++ (dpb_items source shape.dpb ++ (timing_items source ++ [])))))
+  from_ids : Onward names tests.unset sps_sections last (sps_id_items shape.id ++ (profile_items source shape.level ++ (picture_items source shape ++ (dpb_items source shape.dpb ++ (timing_items source ++ [])))))
   from_ids = replaced_first names tests.unset tests.unset ids tests.from_start (inside_itself tests.unset) tests.ids_replaced.0 tests.ids_unset
       (λ s t w ends agree empty. there.ids t empty.size) (copied_first names tests.unset start tests.from_profile tests.start_taken.0 tests.start_taken.1 tests.start_taken.3 from_profile)
 
-  pub set_rewrites : (items : List Item) × IsReshaped source shape items
+  pub set_rewrites : (items : List Item) × IsReshapedSps source shape items
   set_rewrites =
       let goes = (from_ids fresh values follows).at fresh (agree_itself names fresh) (agree_itself tests.unset fresh) in
       let is = what_goes_is_rewritten names last _ _ sps_form goes in
-      (is.0, subst (λ x. IsRewritten sps_form names (shown_items names source) (id_items shape.id ++ (profile_items source shape.level ++ (picture_items source shape ++ (dpb_items source shape.dpb ++ x)))) is.0) (append-nil (timing_items source)) is.1)
+      (is.0, subst (λ x. IsRewritten sps_form names (shown_items names source) (sps_id_items shape.id ++ (profile_items source shape.level ++ (picture_items source shape ++ (dpb_items source shape.dpb ++ x)))) is.0) (append-nil (timing_items source)) is.1)

@@ -8,7 +8,7 @@ use Rattle.std.proofs.lemmas.Option.{slice_get_within, get_or_from_slice_get}
 use Rattle.vx_bits.specs.declared.list.Item.{Item}
 use Rattle.vx_table.specs.Scope.{natural, capped, is_set}
 use Rattle.vx_sps.specs.Set.{set_flags}
-use Rattle.vx_sps.specs.Subpictures.{numbers_of}
+use Rattle.vx_table.specs.Loaded.{numbers_of}
 use Rattle.vx_sps.specs.declared.subpictures.Subpicture.{Subpicture}
 use Rattle.vx_sps.specs.inner.Kept.{subpicture_of, AreSubpictures}
 

@@ -38,9 +38,9 @@ use Rattle.vx_sps.specs.declared.shape.SpsShape.{SpsShape}
 use Rattle.vx_sps.specs.declared.shape.SubpicPlan.{SubpicPlan}
 use Rattle.vx_sps.specs.declared.shape.SubpicPlan.TheVariants.{Absent, One, Many}
 use Rattle.vx_sps.specs.declared.tables.TheConstants.{TAKEN}
-use Rattle.vx_sps.specs.Set.{IsItems, ctb_size_of}
+use Rattle.vx_sps.specs.Set.{AreSpsItems, ctb_size_of}
 use Rattle.vx_sps.specs.Structure.{picture, timing, sps_sections, sps_form}
-use Rattle.vx_sps.specs.Reshaped.{size_items, subpic_items, timing_items, stated, one_items, many_items, AreParts, IsSize, IsPlan, IsShape, IsReshaped}
+use Rattle.vx_sps.specs.Reshaped.{picture_size_items, subpic_items, timing_items, stated_sps_items, one_items, many_items, AreParts, IsSize, IsPlan, IsShape, IsReshapedSps}
 use Rattle.vx_sps.specs.inner.Makes.{MakesSet}
 use Rattle.vx_sps.proofs.Chain.{Replaces, set_rewrites}
 use Rattle.vx_sps.proofs.Stated.{below, ids_take, profile_take}
@@ -123,7 +123,7 @@ module _ {values : List ℤ} {last : List ℕ} (follows : Follows sps_form value
   -- the picture, as each plan has it
   plan_goes : (ctu width height : ℕ) (window : List ℕ) (plan : SubpicPlan) (t : List ℕ) → ctu < 3 → IsSize width → IsSize height → All IsCodeNumber window
       → IsPlan (quotient width (2 ^ (ctu + 5))) (quotient height (2 ^ (ctu + 5))) plan → Agree (set_of unset_names) fresh t → slice_index t sps.sps_log2_ctu_size_minus5 ≡ ctu
-      → Takes (sections_form picture t) (size_items width height window ++ subpic_items (quotient width (2 ^ (ctu + 5))) (quotient height (2 ^ (ctu + 5))) plan)
+      → Takes (sections_form picture t) (picture_size_items width height window ++ subpic_items (quotient width (2 ^ (ctu + 5))) (quotient height (2 ^ (ctu + 5))) plan)
   plan_goes ctu width height window Absent t small wide high are is empty same = picture_take ctu width height 0 window [] t small (omega arith) wide high are empty same (absent_at _ _)
   plan_goes ctu width height window (One id_len None) t small wide high are is empty same =
       picture_take ctu width height 1 window (one_items id_len None) t small (omega arith) wide high are empty same (unmapped_at _ _ id_len is.0)
@@ -144,10 +144,10 @@ module _ {values : List ℤ} {last : List ℕ} (follows : Follows sps_form value
   }
 
 -- so there is a rewritten set
-pub reshaped_is : (source : List Item) (shape : SpsShape) → IsItems source → IsShape (ctb_size_of source) shape → shape.level < 256 → (items : List Item) × IsReshaped source shape items
+pub reshaped_is : (source : List Item) (shape : SpsShape) → AreSpsItems source → IsShape (ctb_size_of source) shape → shape.level < 256 → (items : List Item) × IsReshapedSps source shape items
 reshaped_is source shape is fits level =
     let back : items_along sps_form is.values ≡ source = sym is.all in
-    subst (λ x. (items : List Item) × IsReshaped x shape items) back (set_rewrites shape is.follows (all_go is.follows shape (subst (λ x. IsShape (ctb_size_of x) shape) is.all fits) level))
+    subst (λ x. (items : List Item) × IsReshapedSps x shape items) back (set_rewrites shape is.follows (all_go is.follows shape (subst (λ x. IsShape (ctb_size_of x) shape) is.all fits) level))
 
 -- all items of a list
 all_of : (items : List Item) (n : ℕ) → n ≡ length items → take (n - 0) (drop 0 items) ≡ items
@@ -172,19 +172,19 @@ so_written (Ok u) f p = f p
 so_written (Err errors.Memory) f p = tt
 so_written (Err errors.NoValue) f p = p
 
-pub reshapes : {source fields taken others : List Item} (after : List Item) {shape : SpsShape} {names : List ℕ} (result : Result (Unit {0}) SpellError) → fields ≡ source → IsItems fields → IsShape (ctb_size_of source) shape
-    → shape.level < 256 → names ≡ set_of TAKEN → taken ≡ shown_items names fields → others ≡ stated source shape → MakesSet taken others result after → IsWritten result (IsReshaped source shape after)
+pub reshapes : {source fields taken others : List Item} (after : List Item) {shape : SpsShape} {names : List ℕ} (result : Result (Unit {0}) SpellError) → fields ≡ source → AreSpsItems fields → IsShape (ctb_size_of source) shape
+    → shape.level < 256 → names ≡ set_of TAKEN → taken ≡ shown_items names fields → others ≡ stated_sps_items source shape → MakesSet taken others result after → IsWritten result (IsReshapedSps source shape after)
 reshapes {source} {fields} {taken} {others} after {shape} result same is fits level set first second makes =
-    let there = reshaped_is source shape (subst IsItems same is) fits level in
+    let there = reshaped_is source shape (subst AreSpsItems same is) fits level in
     let wanted : IsRewritten sps_form (set_of TAKEN) taken others there.0 = rw (first, second, set, same) there.1 in
-    so_written result (λ e. subst (λ x. IsReshaped source shape x) (sym e) there.1) (makes there.0 wanted)
+    so_written result (λ e. subst (λ x. IsReshapedSps source shape x) (sym e) there.1) (makes there.0 wanted)
 
 -- a rewritten set is a set
-pub reshaped_set : (from items : List Item) (shape : SpsShape) → IsReshaped from shape items → IsItems items
+pub reshaped_set : (from items : List Item) (shape : SpsShape) → IsReshapedSps from shape items → AreSpsItems items
 reshaped_set from items shape is = record { values = is.values; end = is.end; follows = is.follows; all = is.all }
 
 -- and so is what is made of its items
-pub is_made : {E : Type 0} (from items : List Item) (shape : SpsShape) (result : Result (List Item) E) → IsReshaped from shape items → IfOk result (λ made. made ≡ items)
-    → IfOk result (λ made. IsReshaped from shape made)
-is_made from items shape (Ok made) is same = subst (λ x. IsReshaped from shape x) (sym same) is
+pub is_made : {E : Type 0} (from items : List Item) (shape : SpsShape) (result : Result (List Item) E) → IsReshapedSps from shape items → IfOk result (λ made. made ≡ items)
+    → IfOk result (λ made. IsReshapedSps from shape made)
+is_made from items shape (Ok made) is same = subst (λ x. IsReshapedSps from shape x) (sym same) is
 is_made from items shape (Err e) is same = tt

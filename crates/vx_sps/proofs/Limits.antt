@@ -14,10 +14,11 @@ use Rattle.vx_table.specs.Forms.{has_value, coding_at, limits_at, one_field, tur
 use Rattle.vx_table.specs.Parts.{always, sections_form}
 use Rattle.vx_table.specs.Spelling.{HasCode, fault_of, item_of}
 use Rattle.vx_table.specs.Claims.{knows_formula, knows_width, knows_range, knows_presence, hides_counter, hides_row, behind_field, within_block, depends, behind_rows, table_depends, behind_table, comes_always}
-use Rattle.vx_table.specs.Again.{shows_row}
+use Rattle.vx_table.specs.laws.Again.{shows_row}
 use Rattle.vx_table.specs.Rewrites.{Takes}
 use Rattle.vx_sps.specs.Structure.{dpb, timed, timing}
-use Rattle.vx_sps.specs.Reshaped.{item, where_so}
+use Rattle.vx_sps.specs.Reshaped.{item}
+use Rattle.vx_table.specs.Rewritten.{where_so}
 use Rattle.vx_sps.specs.declared.tables.TheConstants.{SUBLAYER_DPB, SUBLAYER_CPB}
 use Rattle.vx_ptl.specs.declared.tables.TheConstants.{DPB, NO_TIMING, TIMING, SUBLAYER_TIMING}
 use Rattle.vx_table.proofs.Groups.{agree_given, takes_at}

@@ -24,7 +24,7 @@ use Rattle.vx_table.specs.Spelling.{HasCode, fault_of, item_of}
 use Rattle.vx_table.specs.Depends.{set_of, with_all, Agree}
 use Rattle.vx_table.specs.Claims.{knows_formula, knows_width, knows_range, knows_presence, hides_counter, hides_row, behind_field, within_block, depends, behind_rows, table_depends, behind_table, comes_always}
 use Rattle.vx_table.specs.Named.{named_by}
-use Rattle.vx_table.specs.Again.{shows_row}
+use Rattle.vx_table.specs.laws.Again.{shows_row}
 use Rattle.vx_table.specs.Rewrites.{Takes, in_all_turns}
 use Rattle.vx_table.proofs.Agreeing.{agree_itself, same_value}
 use Rattle.vx_table.proofs.Dependence.{inside_with_all}
@@ -34,7 +34,8 @@ use Rattle.vx_table.proofs.Numbers.{powers_least}
 use Rattle.vx_table.proofs.Rewrites.{tables_leave, turns_take}
 use Rattle.vx_sps.specs.declared.tables.TheConstants.{SUBPICTURES, PLACE, SUBPIC_IDS}
 use Rattle.vx_sps.specs.Structure.{with_subpictures}
-use Rattle.vx_sps.specs.Reshaped.{item, where_so, place_items, many_items, id_bits}
+use Rattle.vx_sps.specs.Reshaped.{item, place_items, many_items, id_bits}
+use Rattle.vx_table.specs.Rewritten.{where_so}
 use Rattle.vx_table.proofs.Groups.{agree_given, takes_at}
 use Rattle.vx_sps.proofs.Stages.{TakesTo, Meets, groups_take_to, groups_beside, field_to, field_where, nowhere, then_to, there_to, absent_to, no_more_to}
 use Rattle.vx_sps.proofs.Testing.{Anywhere, owed, tested, all_tested, at_end, they_take, values_take_to}

@@ -16,11 +16,11 @@ use Rattle.vx_table.specs.Parts.{Section, always, in_turns, sections_form}
 use Rattle.vx_table.specs.Spelling.{HasCode, fault_of, item_of}
 use Rattle.vx_table.specs.Depends.{set_of, Agree}
 use Rattle.vx_table.specs.Claims.{knows_formula, knows_width, knows_range, knows_presence, hides_counter, hides_row, behind_field, within_block, depends, behind_rows, table_depends, behind_table, comes_always}
-use Rattle.vx_table.specs.Again.{shows_row}
+use Rattle.vx_table.specs.laws.Again.{shows_row}
 use Rattle.vx_table.specs.Rewrites.{Takes}
 use Rattle.vx_sps.specs.declared.tables.TheConstants.{SIZE, CTUS, SUBPICTURES, PLACE, SUBPIC_IDS}
 use Rattle.vx_sps.specs.Structure.{picture, with_subpictures}
-use Rattle.vx_sps.specs.Reshaped.{item, has_window, size_items, mapping_items, IsSize}
+use Rattle.vx_sps.specs.Reshaped.{item, has_window, picture_size_items, mapping_items, IsSize}
 use Rattle.vx_table.proofs.Groups.{agree_given, takes_at}
 use Rattle.vx_sps.proofs.Stages.{TakesTo, Meets, stage_at, groups_take_to}
 use Rattle.vx_sps.proofs.Testing.{owed, tested, all_tested, at_end, they_take, values_take_to}
@@ -89,7 +89,7 @@ window_size ctu width height left right top bottom a b wide high l r t d =
 small_size : (n : ℕ) → IsSize n → IsCodeNumber n
 small_size n is = omega (arith, is.small)
 
-size_at : (ctu width height : ℕ) (window : List ℕ) → IsSize width → IsSize height → All IsCodeNumber window → SizeAt ctu width height (size_items width height window)
+size_at : (ctu width height : ℕ) (window : List ℕ) → IsSize width → IsSize height → All IsCodeNumber window → SizeAt ctu width height (picture_size_items width height window)
 size_at ctu width height window wide high are = elim (cases_Bool (has_window window)) [
   | inl some ↦ rw some
       (window_size ctu width height (slice_index window 0) (slice_index window 1) (slice_index window 2) (slice_index window 3) (small_size width wide) (small_size height high) wide high
@@ -150,7 +150,7 @@ mapped_at columns rows id_len id few small =
 pub picture_take : (ctu width height info : ℕ) (window : List ℕ) (others : List Item) (t : List ℕ) → ctu < 3 → info < 2 → IsSize width → IsSize height → All IsCodeNumber window
     → Agree (set_of unset_names) fresh t → slice_index t sps.sps_log2_ctu_size_minus5 ≡ ctu
     → Takes (sections_form block (block_at info (quotient width (2 ^ (ctu + 5))) (quotient height (2 ^ (ctu + 5))))) others
-    → Takes (sections_form picture t) (size_items width height window ++ item sps.sps_subpic_info_present_flag info ∷ others)
+    → Takes (sections_form picture t) (picture_size_items width height window ++ item sps.sps_subpic_info_present_flag info ∷ others)
 unfolding fresh has_value knows_formula knows_width knows_range knows_presence hides_counter hides_row behind_field within_block depends behind_rows table_depends behind_table comes_always shows_row ctu_at sized_at
 picture_take ctu width height info window others t small few wide high are empty same takes =
     groups_take_to (always SIZE ∷ []) (always CTUS ∷ block) t

@@ -10,8 +10,10 @@ use Rattle.vx_layout.specs.Layouts.{no_rect}
 use Rattle.vx_layout.specs.Rects.{IsPart}
 use Rattle.vx_table.specs.Scope.{natural, is_set}
 use Rattle.vx_table.specs.Rewrites.{in_all_turns}
-use Rattle.vx_sps.specs.Subpictures.{numbers_of, corner_at, size_at}
-use Rattle.vx_sps.specs.Reshaped.{item, where_so, place_items, places_items, AreParts}
+use Rattle.vx_sps.specs.Subpictures.{ctu_top_left_at, size_at}
+use Rattle.vx_table.specs.Loaded.{numbers_of}
+use Rattle.vx_sps.specs.Reshaped.{item, place_items, places_items, AreParts}
+use Rattle.vx_table.specs.Rewritten.{where_so}
 use Rattle.vx_sps.proofs.Pushed.{turn_more}
 use Rattle.vx_table.proofs.With.{with_field, Passing, passing_append, passing_where, passing_turns, lacks, with_first, with_second}
 use Rattle.vx_sps.proofs.With.{where_has, values, length-values, values_at, numbers_turns, no_numbers}
@@ -60,7 +62,7 @@ one_of n border none i at long within fills = elim (cases_lt 1 n) [
 not_zero : (i : ℕ) → (suc i == 0) ≡ false
 not_zero i = elim (eqb_tells (suc i) 0) [ inl is ↦ absurd (omega (arith, is.1)) | inr other ↦ other.0 ]
 
-pub corner_back : (n border i : ℕ) (at long : ℕ → ℕ) → i < n → Fills n border at long → corner_at (corners n border at) i ≡ at i
+pub corner_back : (n border i : ℕ) (at long : ℕ → ℕ) → i < n → Fills n border at long → ctu_top_left_at (corners n border at) i ≡ at i
 corner_back n border zero at long within fills = sym fills.first
 corner_back n border (suc i) at long within fills =
     let back : suc i - 1 ≡ i = omega arith in

@@ -7,7 +7,7 @@ use Rattle.vx_table.specs.Parts.{Section}
 use Rattle.vx_table.specs.EachField.{sections_pass}
 use Rattle.vx_table.specs.Depends.{set_of}
 use Rattle.vx_table.specs.Claims.{knows_formula, knows_width, knows_range, knows_presence, hides_counter, hides_row, behind_field, within_block, depends, behind_rows, table_depends, behind_table, comes_always, sections_chain, sections_hide}
-use Rattle.vx_table.specs.Again.{shows_row}
+use Rattle.vx_table.specs.laws.Again.{shows_row}
 use Rattle.vx_table.specs.Loaded.{names_none, sections_name_none}
 use Rattle.vx_sps.specs.declared.tables.TheConstants.{TAKEN}
 use Rattle.vx_sps.specs.Structure.{ids, start, profile, resampling, picture, counts, dpb, tools, timing, end, sps_sections}

@@ -21,11 +21,13 @@ use Rattle.vx_sps.specs.declared.shape.SpsShape.{SpsShape}
 use Rattle.vx_sps.specs.declared.shape.SubpicPlan.{SubpicPlan}
 use Rattle.vx_sps.specs.declared.shape.SubpicPlan.TheVariants.{Absent, One, Many}
 use Rattle.vx_sps.specs.declared.tables.TheConstants.{TAKEN}
-use Rattle.vx_sps.specs.Set.{IsItems, width_of, height_of, ctb_size_of, columns_of, rows_of}
-use Rattle.vx_sps.specs.Subpictures.{numbers_of, corner_at, size_at, own_rect, on_grid, rect_of}
-use Rattle.vx_sps.specs.Depends.{kept}
-use Rattle.vx_sps.specs.Reshaped.{item, same, where_so, place_items, id_items, profile_items, size_items, window_items, has_window, places_items, id_bits, subpic_items, picture_items, dpb_items, rate_items, timing_items, stated, IsPlan, IsShape, IsReshaped}
-use Rattle.vx_sps.specs.Reread.{count_in, rect_in, id_in, Says, ReshapedSays, ReshapedKeeps}
+use Rattle.vx_sps.specs.Set.{AreSpsItems, width_of, height_of, ctb_size_of, ctu_columns_of, ctu_rows_of}
+use Rattle.vx_sps.specs.Subpictures.{ctu_top_left_at, size_at, own_rect, on_grid, rect_of}
+use Rattle.vx_table.specs.Loaded.{numbers_of}
+use Rattle.vx_sps.specs.Depends.{kept_sps_fields}
+use Rattle.vx_sps.specs.Reshaped.{item, item_of_source, place_items, sps_id_items, profile_items, picture_size_items, window_items, has_window, places_items, id_bits, subpic_items, picture_items, dpb_items, rate_items, timing_items, stated_sps_items, IsPlan, IsShape, IsReshapedSps}
+use Rattle.vx_table.specs.Rewritten.{where_so}
+use Rattle.vx_sps.specs.laws.Reread.{count_in, rect_in, id_in_plan, Says, ReshapedSays, ReshapedKeeps}
 use Rattle.vx_table.proofs.Groups.{inside_nothing}
 use Rattle.vx_sps.proofs.Stages.{knows_all}
 use Rattle.vx_sps.proofs.Stated.{below}
@@ -46,13 +48,13 @@ inside_all (n ∷ rest) {names} {more} inside knows =
       ];
     }) parts.1
 
-kept_inside : Inside (set_of kept) (set_of TAKEN)
+kept_inside : Inside (set_of kept_sps_fields) (set_of TAKEN)
 unfolding fresh
-kept_inside = inside_all kept (inside_nothing (set_of TAKEN)) refl
+kept_inside = inside_all kept_sps_fields (inside_nothing (set_of TAKEN)) refl
 
 pub reshaped_keeps : ReshapedKeeps
 reshaped_keeps source items shape is =
-    sym (shown_of_shown (set_of kept) (set_of TAKEN) items kept_inside) ∙ ap (λ x. shown_items (set_of kept) x) is.shown_ones ∙ shown_of_shown (set_of kept) (set_of TAKEN) source kept_inside
+    sym (shown_of_shown (set_of kept_sps_fields) (set_of TAKEN) items kept_inside) ∙ ap (λ x. shown_items (set_of kept_sps_fields) x) is.shown_ones ∙ shown_of_shown (set_of kept_sps_fields) (set_of TAKEN) source kept_inside
 
 -- ---- the picture among what is stated
 
@@ -72,7 +74,7 @@ rate_beside source =
     let general = is_set (number source timing.fixed_pic_rate_general_flag) in
     let within = is_set (number source timing.fixed_pic_rate_within_cvs_flag) in (
       refl,
-      passing_append beside (where_so (not general) (same source timing.fixed_pic_rate_within_cvs_flag ∷ [])) (where_so (general || within) (same source timing.elemental_duration_in_tc_minus1 ∷ []))
+      passing_append beside (where_so (not general) (item_of_source source timing.fixed_pic_rate_within_cvs_flag ∷ [])) (where_so (general || within) (item_of_source source timing.elemental_duration_in_tc_minus1 ∷ []))
           (passing_where beside (not general) _ (refl, tt)) (passing_where beside (general || within) _ (refl, tt)),
     )
 
@@ -85,10 +87,10 @@ timing_beside source =
 pub limits_beside : (source : List Item) (numbers : List ℕ) → Passing beside (dpb_items source numbers ++ timing_items source)
 limits_beside source numbers = passing_append beside (dpb_items source numbers) (timing_items source) (dpb_beside source numbers) (timing_beside source)
 
-picture_with : (of : ℕ) (source : List Item) (shape : SpsShape) → beside of ≡ false → nat_lt of 109 ≡ false → with_field of (stated source shape) ≡ with_field of (picture_items source shape)
+picture_with : (of : ℕ) (source : List Item) (shape : SpsShape) → beside of ≡ false → nat_lt of 109 ≡ false → with_field of (stated_sps_items source shape) ≡ with_field of (picture_items source shape)
 picture_with of source shape is past =
     let limits : List Item = dpb_items source shape.dpb ++ timing_items source in
-    with_second of (id_items shape.id) (profile_items source shape.level ++ (picture_items source shape ++ limits)) (lacks (λ f. nat_lt f 109) of (id_items shape.id) past (refl, (refl, tt)))
+    with_second of (sps_id_items shape.id) (profile_items source shape.level ++ (picture_items source shape ++ limits)) (lacks (λ f. nat_lt f 109) of (sps_id_items shape.id) past (refl, (refl, tt)))
     ∙ with_second of (profile_items source shape.level) (picture_items source shape ++ limits) (lacks beside of (profile_items source shape.level) is (profile_beside source shape.level))
     ∙ with_first of (picture_items source shape) limits (lacks beside of limits is (limits_beside source shape.dpb))
 
@@ -104,20 +106,20 @@ subpics_pass test a b c d e f g h k l m n columns rows (One id_len (Some id)) = 
 subpics_pass test a b c d e f g h k l m n columns rows (Many rects) = (a, (b, passing_append test (places_items columns rows rects) _ (places_pass test c d e f g h columns rows rects) (k, (l, tt))))
 
 subpics_with : (of width height columns rows : ℕ) (window : List ℕ) (plan : SubpicPlan) → nat_lt of 116 ≡ false
-    → with_field of (size_items width height window ++ subpic_items columns rows plan) ≡ with_field of (subpic_items columns rows plan)
+    → with_field of (picture_size_items width height window ++ subpic_items columns rows plan) ≡ with_field of (subpic_items columns rows plan)
 subpics_with of width height columns rows window plan past =
-    with_second of (size_items width height window) (subpic_items columns rows plan)
-    (lacks (λ f. nat_lt f 116) of (size_items width height window) past (refl, (refl, window_passes (λ f. nat_lt f 116) refl refl refl refl refl window)))
+    with_second of (picture_size_items width height window) (subpic_items columns rows plan)
+    (lacks (λ f. nat_lt f 116) of (picture_size_items width height window) past (refl, (refl, window_passes (λ f. nat_lt f 116) refl refl refl refl refl window)))
 
-width_with : (width height columns rows : ℕ) (window : List ℕ) (plan : SubpicPlan) → with_field 109 (size_items width height window ++ subpic_items columns rows plan) ≡ item 109 width ∷ []
+width_with : (width height columns rows : ℕ) (window : List ℕ) (plan : SubpicPlan) → with_field 109 (picture_size_items width height window ++ subpic_items columns rows plan) ≡ item 109 width ∷ []
 width_with width height columns rows window plan =
-    with_first 109 (size_items width height window) (subpic_items columns rows plan)
+    with_first 109 (picture_size_items width height window) (subpic_items columns rows plan)
     (lacks (λ f. nat_lt 109 f) 109 (subpic_items columns rows plan) refl (subpics_pass (λ f. nat_lt 109 f) refl refl refl refl refl refl refl refl refl refl refl refl columns rows plan))
     ∙ ap (λ xs. item 109 width ∷ xs) (lacks (λ f. nat_lt 109 f) 109 (item 110 height ∷ window_items window) refl (refl, window_passes (λ f. nat_lt 109 f) refl refl refl refl refl window))
 
-height_with : (width height columns rows : ℕ) (window : List ℕ) (plan : SubpicPlan) → with_field 110 (size_items width height window ++ subpic_items columns rows plan) ≡ item 110 height ∷ []
+height_with : (width height columns rows : ℕ) (window : List ℕ) (plan : SubpicPlan) → with_field 110 (picture_size_items width height window ++ subpic_items columns rows plan) ≡ item 110 height ∷ []
 height_with width height columns rows window plan =
-    with_first 110 (size_items width height window) (subpic_items columns rows plan)
+    with_first 110 (picture_size_items width height window) (subpic_items columns rows plan)
     (lacks (λ f. nat_lt 110 f) 110 (subpic_items columns rows plan) refl (subpics_pass (λ f. nat_lt 110 f) refl refl refl refl refl refl refl refl refl refl refl refl columns rows plan))
     ∙ ap (λ xs. item 110 height ∷ xs) (lacks (λ f. nat_lt 110 f) 110 (window_items window) refl (window_passes (λ f. nat_lt 110 f) refl refl refl refl refl window))
 
@@ -175,7 +177,7 @@ module _ (columns rows : ℕ) where
   no_flags of plan (inl is) = rw is (none_listed 124 (block plan) (lacks (λ f. not (f == 124)) 124 (block plan) refl (subpics_pass (λ f. not (f == 124)) refl refl refl refl refl refl refl refl refl refl refl refl columns rows plan)))
   no_flags of plan (inr is) = rw is (none_listed 125 (block plan) (lacks (λ f. not (f == 125)) 125 (block plan) refl (subpics_pass (λ f. not (f == 125)) refl refl refl refl refl refl refl refl refl refl refl refl columns rows plan)))
 
-  ids : (plan : SubpicPlan) → IsPlan columns rows plan → (i : ℕ) → i < count_in plan → slice_index_or (numbers_of (block plan) 129) i i ≡ id_in plan i
+  ids : (plan : SubpicPlan) → IsPlan columns rows plan → (i : ℕ) → i < count_in plan → slice_index_or (numbers_of (block plan) 129) i i ≡ id_in_plan plan i
   unfolding natural
   ids Absent is i within = refl
   ids (One id_len None) is i within = refl
@@ -192,7 +194,7 @@ module _ (columns rows : ℕ) where
   -- ---- rectangles
 
   abbrev own : List ℕ → List ℕ → List ℕ → List ℕ → ℕ → Rect
-  own xs ys ws hs i = record { x = corner_at xs i; y = corner_at ys i; w = size_at ws columns (corner_at xs i) i; h = size_at hs rows (corner_at ys i) i }
+  own xs ys ws hs i = record { x = ctu_top_left_at xs i; y = ctu_top_left_at ys i; w = size_at ws columns (ctu_top_left_at xs i) i; h = size_at hs rows (ctu_top_left_at ys i) i }
 
   whole : own [] [] [] [] 0 ≡ whole_picture columns rows
   whole = let a : columns - 0 ≡ columns = omega arith in let b : rows - 0 ≡ rows = omega arith in rw (a, b) refl
@@ -230,17 +232,17 @@ own_same i a b e f g h = rw (a, b, e, f, g, h) refl
 
 -- ---- the set
 
-items_with : (source items : List Item) (shape : SpsShape) → IsReshaped source shape items → (of : ℕ) → beside of ≡ false → nat_lt of 109 ≡ false → IsFalse (has (set_of TAKEN) of)
+items_with : (source items : List Item) (shape : SpsShape) → IsReshapedSps source shape items → (of : ℕ) → beside of ≡ false → nat_lt of 109 ≡ false → IsFalse (has (set_of TAKEN) of)
     → with_field of items ≡ with_field of (picture_items source shape)
 items_with source items shape is of fails past outside = sym (others_with (set_of TAKEN) of items outside) ∙ ap (λ x. with_field of x) is.other_ones ∙ picture_with of source shape fails past
 
-pub block_of : (source items : List Item) (shape : SpsShape) → IsReshaped source shape items → (of : ℕ) → beside of ≡ false → nat_lt of 109 ≡ false → IsFalse (has (set_of TAKEN) of) → nat_lt of 116 ≡ false
+pub block_of : (source items : List Item) (shape : SpsShape) → IsReshapedSps source shape items → (of : ℕ) → beside of ≡ false → nat_lt of 109 ≡ false → IsFalse (has (set_of TAKEN) of) → nat_lt of 116 ≡ false
     → with_field of items ≡ with_field of (subpic_items (quotient shape.width (ctb_size_of source)) (quotient shape.height (ctb_size_of source)) shape.subpics)
 block_of source items shape is of fails past outside later =
     items_with source items shape is of fails past outside
     ∙ subpics_with of shape.width shape.height (quotient shape.width (ctb_size_of source)) (quotient shape.height (ctb_size_of source)) shape.window shape.subpics later
 
-module _ (source items : List Item) (shape : SpsShape) (set : IsItems source) (fits : IsShape (ctb_size_of source) shape) (is : IsReshaped source shape items) where
+module _ (source items : List Item) (shape : SpsShape) (set : AreSpsItems source) (fits : IsShape (ctb_size_of source) shape) (is : IsReshapedSps source shape items) where
   abbrev across : ℕ
   across = quotient shape.width (ctb_size_of source)
 
@@ -278,9 +280,9 @@ module _ (source items : List Item) (shape : SpsShape) (set : IsItems source) (f
   unfolding fresh
   rect_is i within =
       let own_size : number items 119 ≡ 0 = same_number 119 items spelled (block_of source items shape is 119 refl refl refl refl) ∙ own_sizes across down shape.subpics in
-      let columns : columns_of items ≡ across = ap (λ n. quotient n (ctb_size_of items)) width_is ∙ ap (λ n. quotient shape.width n) ctb_is in
-      let rows : rows_of items ≡ down = ap (λ n. quotient n (ctb_size_of items)) height_is ∙ ap (λ n. quotient shape.height n) ctb_is in
-      ap (λ n. cond (is_set n) (on_grid (columns_of items) (own_rect items 0) i) (own_rect items i)) own_size
+      let columns : ctu_columns_of items ≡ across = ap (λ n. quotient n (ctb_size_of items)) width_is ∙ ap (λ n. quotient shape.width n) ctb_is in
+      let rows : ctu_rows_of items ≡ down = ap (λ n. quotient n (ctb_size_of items)) height_is ∙ ap (λ n. quotient shape.height n) ctb_is in
+      ap (λ n. cond (is_set n) (on_grid (ctu_columns_of items) (own_rect items 0) i) (own_rect items i)) own_size
       ∙ own_same i columns rows (listed 120 refl refl refl refl) (listed 121 refl refl refl refl) (listed 122 refl refl refl refl) (listed 123 refl refl refl refl)
       ∙ own_is across down shape.subpics fits.plan (few_units shape.width (number source sps.sps_log2_ctu_size_minus5) small_ctu fits.width)
       (few_units shape.height (number source sps.sps_log2_ctu_size_minus5) small_ctu fits.height) i within

@@ -18,7 +18,7 @@ use Rattle.vx_table.specs.Forms.{◌>>=◌, has_value, coding_at, cell_at, after
 use Rattle.vx_table.specs.Parts.{Section, always, sections_form}
 use Rattle.vx_table.specs.Spelling.{code_of}
 use Rattle.vx_table.specs.Claims.{comes_always}
-use Rattle.vx_table.specs.Sizes.{EachSpelling, Bound, IsWithin, greatest_value, greatest_coded, greatest_ranged, presence_keeps, row_keeps, sections_keep, code_bits, most_turns, part_bits, table_bits, sections_bits, IsShort}
+use Rattle.vx_table.specs.laws.Sizes.{EachSpelling, Bound, IsWithin, greatest_value, greatest_coded, greatest_ranged, presence_keeps, row_keeps, sections_keep, code_bits, most_turns, part_bits, table_bits, sections_bits, IsShort}
 use Rattle.vx_table.proofs.Blocks.{form-field, form-name, form-block-whole}
 use Rattle.vx_table.proofs.Chains.{there_always}
 use Rattle.vx_table.proofs.Loading.{set_below}

@@ -14,22 +14,22 @@ use Rattle.vx_table.specs.Shown.{star_tells, KeepsShown}
 use Rattle.vx_table.specs.Rewritten.{FillsNone, fills_none}
 use Rattle.vx_table.proofs.Keeping.{kept_are_shown, sections_fill_none}
 use Rattle.vx_table.proofs.Starred.{structure_keeps_only}
-use Rattle.vx_sps.specs.Depends.{kept, kept_of, KeptAreSifted}
-use Rattle.vx_sps.specs.Set.{IsItems}
+use Rattle.vx_sps.specs.Depends.{kept_sps_fields, kept_sps_items, KeptAreSifted}
+use Rattle.vx_sps.specs.Set.{AreSpsItems}
 use Rattle.vx_sps.specs.Structure.{sps_sections, sps_form}
 
 -- ---- those of a set
 
-keeps_shown : KeepsShown (set_of kept) sps_form
+keeps_shown : KeepsShown (set_of kept_sps_fields) sps_form
 unfolding fresh has_value stands_for_field star_tells
-keeps_shown = (structure_keeps_only [] kept sps_sections refl).keeps fresh
+keeps_shown = (structure_keeps_only [] kept_sps_fields sps_sections refl).keeps fresh
 
 fills : EachField FillsNone sps_form
 unfolding has_value stands_for_field fills_none
 fills = sections_fill_none sps_sections fresh refl
 
 pub kept_are_sifted : KeptAreSifted
-kept_are_sifted values end follows = kept_are_shown (set_of kept) keeps_shown fills follows
+kept_are_sifted values end follows = kept_are_shown (set_of kept_sps_fields) keeps_shown fills follows
 
 -- ---- what the sifter of a set's items has kept
 
@@ -40,11 +40,11 @@ from_all result old new fields items left n none size all sifted =
     let whole : take (n - 0) (drop 0 fields) ≡ fields = take_all (n - 0) fields (omega (arith, size)) in
     subst (λ f. Keeps sps_form [] f result new left) (all ∙ whole) (subst (λ k. Keeps sps_form k items result new left) none sifted)
 
-pub sifted : {B : Type 0} (items left new : List Item) (b : B) → IsItems items → Keeps sps_form [] items (Ok b) new left → new ≡ kept_of items
+pub sifted : {B : Type 0} (items left new : List Item) (b : B) → AreSpsItems items → Keeps sps_form [] items (Ok b) new left → new ≡ kept_sps_items items
 sifted items left new b set keeps =
     (keeps.only set.values set.end [] (record { follows = set.follows; given = set.all ∙ sym (append-nil (items_along sps_form set.values)) })).0
-    ∙ kept_are_sifted set.values set.end set.follows ∙ ap kept_of (sym set.all)
+    ∙ kept_are_sifted set.values set.end set.follows ∙ ap kept_sps_items (sym set.all)
 
 -- it isn't refused
-pub is_no_value : {B : Type 0} (items left new : List Item) → IsItems items → Keeps {B = B} sps_form [] items (Err spellings.NoValue) new left → ⊥
+pub is_no_value : {B : Type 0} (items left new : List Item) → AreSpsItems items → Keeps {B = B} sps_form [] items (Err spellings.NoValue) new left → ⊥
 is_no_value items left new set keeps = keeps.only set.values set.end [] (record { follows = set.follows; given = set.all ∙ sym (append-nil (items_along sps_form set.values)) })

@@ -12,8 +12,8 @@ use Rattle.vx_sps.specs.declared.shape.SubpicPlan.{SubpicPlan}
 use Rattle.vx_sps.specs.declared.shape.SubpicPlan.TheVariants.{Absent, One, Many}
 use Rattle.vx_sps.specs.declared.tables.TheConstants.{TAKEN}
 use Rattle.vx_sps.specs.Set.{ctb_size_of}
-use Rattle.vx_sps.specs.Reshaped.{dpb_items, id_bits, item, many_items, picture_items, places_items, profile_items, size_items, stated, subpic_items, timing_items}
-use Rattle.vx_sps.specs.Reread.{ReshapedSignals, described_in, explicit_in, id_len_in, mapped_in}
+use Rattle.vx_sps.specs.Reshaped.{dpb_items, id_bits, item, many_items, picture_items, places_items, profile_items, picture_size_items, stated_sps_items, subpic_items, timing_items}
+use Rattle.vx_sps.specs.laws.Reread.{ReshapedSignals, described_in, explicit_in, id_len_in, mapped_in}
 use Rattle.vx_sps.proofs.Places.{places_pass}
 use Rattle.vx_sps.proofs.Says.{beside, block_of, limits_beside, profile_beside, subpics_pass, window_passes}
 
@@ -63,14 +63,14 @@ module _ (columns rows : ℕ) where
 
 -- ---- its own id
 
-own_id : (source : List Item) (shape : SpsShape) → with_field 100 (stated source shape) ≡ item 100 shape.id ∷ []
+own_id : (source : List Item) (shape : SpsShape) → with_field 100 (stated_sps_items source shape) ≡ item 100 shape.id ∷ []
 own_id source shape =
     let across : ℕ = quotient shape.width (ctb_size_of source) in
     let down : ℕ = quotient shape.height (ctb_size_of source) in
     let limits : List Item = dpb_items source shape.dpb ++ timing_items source in
     let picture : with_field 100 (picture_items source shape) ≡ []
     = lacks (λ f. nat_lt 100 f) 100 (picture_items source shape) refl
-    (passing_append (λ f. nat_lt 100 f) (size_items shape.width shape.height shape.window) (subpic_items across down shape.subpics)
+    (passing_append (λ f. nat_lt 100 f) (picture_size_items shape.width shape.height shape.window) (subpic_items across down shape.subpics)
     (refl, (refl, window_passes (λ f. nat_lt 100 f) refl refl refl refl refl shape.window))
     (subpics_pass (λ f. nat_lt 100 f) refl refl refl refl refl refl refl refl refl refl refl refl across down shape.subpics)) in
     ap (λ xs. item 100 shape.id ∷ xs)

@@ -19,7 +19,7 @@ use Rattle.vx_table.specs.EachField.{sections_pass}
 use Rattle.vx_table.specs.Depends.{has, with_all, set_of, Agree}
 use Rattle.vx_table.specs.Claims.{knows_formula, knows_cell, sections_chain, behind_sections, sections_depend_only_on, sections_hide}
 use Rattle.vx_table.specs.Named.{named_by_all}
-use Rattle.vx_table.specs.Again.{shows_row}
+use Rattle.vx_table.specs.laws.Again.{shows_row}
 use Rattle.vx_table.specs.Loaded.{number, sections_name_none}
 use Rattle.vx_table.specs.Rewrites.{Takes}
 use Rattle.vx_table.proofs.Agreeing.{agree_outside, same_value, same_cell}
@@ -29,7 +29,7 @@ use Rattle.vx_table.proofs.Again.{follows_again, sections_show}
 use Rattle.vx_table.proofs.Joined.{joined, items_joined}
 use Rattle.vx_table.proofs.Loading.{sections_load}
 use Rattle.vx_table.proofs.Groups.{AgreeOn, agree_given, takes_at, groups_take}
-use Rattle.vx_sps.specs.Reshaped.{where_so}
+use Rattle.vx_table.specs.Rewritten.{where_so}
 use Rattle.vx_table.proofs.Rewrites.{leaves_agree, sections_leave}
 
 -- ---- numbers of the source

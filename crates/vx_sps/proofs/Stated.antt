@@ -11,13 +11,13 @@ use Rattle.vx_table.specs.EachField.{sections_pass}
 use Rattle.vx_table.specs.Spelling.{HasCode, fault_of, item_of, items_along}
 use Rattle.vx_table.specs.Values.{Follows}
 use Rattle.vx_table.specs.Claims.{knows_formula, knows_width, knows_range, knows_presence, hides_counter, hides_row, behind_field, within_block, depends, behind_rows, table_depends, behind_table, comes_always}
-use Rattle.vx_table.specs.Again.{shows_row}
+use Rattle.vx_table.specs.laws.Again.{shows_row}
 use Rattle.vx_table.specs.Loaded.{number, row_below, code_below, range_below}
 use Rattle.vx_table.specs.Rewrites.{Takes}
 use Rattle.vx_table.proofs.Loading.{number_below, sections_stay_below}
 use Rattle.vx_table.proofs.Rewrites.{values_take}
 use Rattle.vx_sps.specs.Structure.{ids, profile, sps_sections, sps_form}
-use Rattle.vx_sps.specs.Reshaped.{item, id_items, profile_items}
+use Rattle.vx_sps.specs.Reshaped.{item, sps_id_items, profile_items}
 use Rattle.vx_table.proofs.Groups.{agree_given, takes_at}
 use Rattle.vx_sps.proofs.Testing.{owed, all_tested, they_take}
 
@@ -32,9 +32,9 @@ below of bound {values} {last} some test follows = number_below of bound sps_for
 
 -- ---- ids
 
-pub ids_take : (id : ℕ) (t : List ℕ) → id < 16 → Takes (sections_form ids t) (id_items id)
+pub ids_take : (id : ℕ) (t : List ℕ) → id < 16 → Takes (sections_form ids t) (sps_id_items id)
 unfolding sections_form form_of part one_field after present has_value coding_at limits_at value HasCode fault_of item_of natural
-ids_take id t small = values_take (sections_form ids t) (pos id ∷ pos 0 ∷ []) (id_items id) (record { code = small; range = refl }, (record { code = omega arith; range = refl }, tt)) refl
+ids_take id t small = values_take (sections_form ids t) (pos id ∷ pos 0 ∷ []) (sps_id_items id) (record { code = small; range = refl }, (record { code = omega arith; range = refl }, tt)) refl
 
 -- ---- profile, tier and level
 

@@ -8,8 +8,9 @@ use Rattle.vx_bits.specs.declared.list.Item.{Item}
 use Rattle.vx_table.specs.Scope.{natural}
 use Rattle.vx_table.specs.Rewrites.{in_all_turns}
 use Rattle.vx_table.proofs.With.{with_field, with_second}
-use Rattle.vx_sps.specs.Subpictures.{numbers_of}
-use Rattle.vx_sps.specs.Reshaped.{item, where_so}
+use Rattle.vx_table.specs.Loaded.{numbers_of}
+use Rattle.vx_sps.specs.Reshaped.{item}
+use Rattle.vx_table.specs.Rewritten.{where_so}
 
 pub where_has : (of v : ℕ) (b : Bool) → with_field of (where_so b (item of v ∷ [])) ≡ where_so b (item of v ∷ [])
 where_has of v true = let is = eq-eqb of of refl in rw is refl

@@ -14,17 +14,17 @@ use Rattle.vx_table.specs.Spelling.{Spells, items_along}
 use Rattle.vx_table.specs.Values.{Follows, bits_along, Closes}
 use Rattle.vx_table.specs.Reading.{ReadsValue}
 use Rattle.vx_table.specs.Writing.{Writes}
-use Rattle.vx_table.specs.Trailing.{is_stop, is_trailing, has_trailing, trails_last, ends_in_stop, sections_end_in_stop, parts_trail_last, EndsInStop}
+use Rattle.vx_table.specs.laws.Trailing.{is_stop, is_trailing, has_trailing, trails_last, ends_in_stop, sections_end_in_stop, parts_trail_last, EndsInStop}
 use Rattle.vx_table.specs.Claims.{comes_always}
 use Rattle.vx_table.proofs.Closing.{parts_close_at_the_end}
 use Rattle.vx_table.proofs.Stopped.{sections_stop, at_boundary}
 use Rattle.vx_table.proofs.Spelled.{both_ways, reads_back, spells_apart}
 use Rattle.vx_sps.specs.Structure.{sps_sections, sps_form}
-use Rattle.vx_sps.specs.Set.{IsItems, IsSpelling, WrittenIsRead, NoProperPrefix}
+use Rattle.vx_sps.specs.Set.{AreSpsItems, IsSpsSpelling, WrittenIsRead, NoProperPrefix}
 
 -- ---- what is read
 
-pub read_is_set : (bytes : List ℕ) (items : List Item) → ReadsValue sps_form bytes (Ok items) → IsItems items
+pub read_is_set : (bytes : List ℕ) (items : List Item) → ReadsValue sps_form bytes (Ok items) → AreSpsItems items
 read_is_set bytes items (place, reading) =
     let found = reading.is in
     let within : length (bits_of bytes) ≤ 8 * length bytes = omega (arith, length-bits_of bytes) in
@@ -46,11 +46,11 @@ ends_aligned values end follows =
     omega (arith, whole, aligned)
 
 -- what the writer of a set's items has written
-pub spelled : {B : Type 0} (items left : List Item) (b : B) (bits : List Bool) (set : IsItems items) → Writes sps_form [] items (Ok b) bits left
+pub spelled : {B : Type 0} (items left : List Item) (b : B) (bits : List Bool) (set : AreSpsItems items) → Writes sps_form [] items (Ok b) bits left
     → bits ≡ bits_along sps_form 0 set.values
 spelled items left b bits set written = (written.only set.values set.end [] (record { follows = set.follows; given = set.all ∙ sym (append-nil (items_along sps_form set.values)) })).0
 
-pub is_aligned : {B : Type 0} (items left : List Item) (b : B) (bits : List Bool) → IsItems items → Writes sps_form [] items (Ok b) bits left → length bits % 8 ≡ 0
+pub is_aligned : {B : Type 0} (items left : List Item) (b : B) (bits : List Bool) → AreSpsItems items → Writes sps_form [] items (Ok b) bits left → length bits % 8 ≡ 0
 is_aligned items left b bits set written = rw (spelled items left b bits set written) (ends_aligned set.values set.end set.follows)
 
 -- a writer that begins with no bits, and with all items
@@ -61,7 +61,7 @@ from_all result old bits fields items left n none size all written =
     subst (λ f. Writes sps_form [] f result bits left) (all ∙ whole) (subst (λ b. Writes sps_form b items result bits left) none written)
 
 -- it isn't refused
-pub is_no_value : {B : Type 0} (items left : List Item) (bits : List Bool) → IsItems items → Writes {B = B} sps_form [] items (Err spellings.NoValue) bits left → ⊥
+pub is_no_value : {B : Type 0} (items left : List Item) (bits : List Bool) → AreSpsItems items → Writes {B = B} sps_form [] items (Err spellings.NoValue) bits left → ⊥
 is_no_value items left bits set written = written.only set.values set.end [] (record { follows = set.follows; given = set.all ∙ sym (append-nil (items_along sps_form set.values)) })
 
 -- ---- what is written is read again
@@ -77,7 +77,7 @@ closes : (values : List ℤ) → Closes sps_form 0 values []
 unfolding is_trailing has_trailing trails_last parts_trail_last parts_of part_of
 closes values = parts_close_at_the_end (parts_of sps_sections) fresh 0 values refl
 
-spells : (items : List Item) (bytes : List ℕ) (is : IsSpelling items bytes) → Spells (8 * length bytes) sps_form is.set.values (bits_of bytes) []
+spells : (items : List Item) (bytes : List ℕ) (is : IsSpsSpelling items bytes) → Spells (8 * length bytes) sps_form is.set.values (bits_of bytes) []
 spells items bytes is =
     let values = is.set.values in
     let bits : bits_along sps_form 0 values ++ [] ≡ bits_of bytes = append-nil (bits_along sps_form 0 values) ∙ sym is.bits in

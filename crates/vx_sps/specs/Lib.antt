@@ -4,5 +4,5 @@ pub mod Set
 pub mod Subpictures
 pub mod Depends
 pub mod Reshaped
-pub mod Reread
 pub mod inner
+pub mod laws

@@ -1,5 +1,5 @@
 -- The rewritten sequence parameter set: what it takes over from its source, and what it states (H.266 clause 7.3.2.4).
-use Rattle.std.specs.Prelude.{◌≡◌, ℕ, pos, ◌+◌, ◌-◌, ◌^◌, ◌<◌, ◌≤◌, ◌%◌, max, Bool, cond, not, ◌&&◌, ◌||◌, nat_lt, All}
+use Rattle.std.specs.Prelude.{◌≡◌, ℕ, pos, ◌+◌, ◌-◌, ◌^◌, ◌<◌, ◌≤◌, ◌%◌, max, Bool, not, ◌&&◌, ◌||◌, nat_lt, All}
 use Rattle.std.specs.Prelude.{List, [], ◌∷◌, ◌++◌, length, replicate, slice_index, slice_index_or, Option, Some, None, IfSome}
 use Rattle.vx_bits.specs.Codes.{IsCodeNumber}
 use Rattle.vx_bits.specs.declared.list.Item.{Item}
@@ -23,6 +23,7 @@ use Rattle.vx_sps.specs.declared.shape.SubpicPlan.TheVariants.{Absent, One, Many
 use Rattle.vx_sps.specs.declared.tables.TheConstants.{TAKEN}
 use Rattle.vx_sps.specs.Set.{ctb_size_of}
 use Rattle.vx_sps.specs.Structure.{sps_form}
+use Rattle.vx_table.specs.Rewritten.{where_so}
 
 -- ---- what is stated, in the order of the syntax
 
@@ -30,22 +31,19 @@ use Rattle.vx_sps.specs.Structure.{sps_form}
 abbrev pub item : ℕ → ℕ → Item
 item of n = record { field = of; value = pos n }
 
-abbrev pub where_so : Bool → List Item → List Item
-where_so holds items = cond holds items []
-
 -- an item that the source's last one gives its number
-abbrev pub same : List Item → ℕ → Item
-same source of = item of (number source of)
+abbrev pub item_of_source : List Item → ℕ → Item
+item_of_source source of = item of (number source of)
 
 -- ids: the shape's, of no VPS
-abbrev pub id_items : ℕ → List Item
-id_items id = item sps.sps_seq_parameter_set_id id ∷ item sps.sps_video_parameter_set_id 0 ∷ []
+abbrev pub sps_id_items : ℕ → List Item
+sps_id_items id = item sps.sps_seq_parameter_set_id id ∷ item sps.sps_video_parameter_set_id 0 ∷ []
 
 -- profile and tier of the source at a level (clause 7.3.3.1), without constraints, levels of sublayers and sub-profiles
 abbrev pub profile_items : List Item → ℕ → List Item
 profile_items source level =
-    same source ptl.general_profile_idc ∷ same source ptl.general_tier_flag ∷ item ptl.general_level_idc level
-    ∷ same source ptl.ptl_frame_only_constraint_flag ∷ same source ptl.ptl_multilayer_enabled_flag ∷ item ptl.gci_present_flag 0
+    item_of_source source ptl.general_profile_idc ∷ item_of_source source ptl.general_tier_flag ∷ item ptl.general_level_idc level
+    ∷ item_of_source source ptl.ptl_frame_only_constraint_flag ∷ item_of_source source ptl.ptl_multilayer_enabled_flag ∷ item ptl.gci_present_flag 0
     ∷ (replicate (number source sps.sps_max_sublayers_minus1) (item ptl.ptl_sublayer_level_present_flag 0)
     ++ item ptl.ptl_num_sub_profiles 0 ∷ [])
 
@@ -62,8 +60,8 @@ window_items window =
     ∷ item sps.sps_conf_win_top_offset (slice_index window 2) ∷ item sps.sps_conf_win_bottom_offset (slice_index window 3) ∷ [])
 
 -- width and height, and the window
-abbrev pub size_items : ℕ → ℕ → List ℕ → List Item
-size_items width height window =
+abbrev pub picture_size_items : ℕ → ℕ → List ℕ → List Item
+picture_size_items width height window =
     item sps.sps_pic_width_max_in_luma_samples width ∷ item sps.sps_pic_height_max_in_luma_samples height ∷ window_items window
 
 -- the place of subpicture i: its corner, but of the first, and its size, but of the last, both in columns and rows where the
@@ -124,14 +122,14 @@ abbrev pub rate_items : List Item → List Item
 rate_items source =
     let general = is_set (number source timing.fixed_pic_rate_general_flag) in
     let within = is_set (number source timing.fixed_pic_rate_within_cvs_flag) in
-    same source timing.fixed_pic_rate_general_flag
-    ∷ (where_so (not general) (same source timing.fixed_pic_rate_within_cvs_flag ∷ [])
-    ++ where_so (general || within) (same source timing.elemental_duration_in_tc_minus1 ∷ []))
+    item_of_source source timing.fixed_pic_rate_general_flag
+    ∷ (where_so (not general) (item_of_source source timing.fixed_pic_rate_within_cvs_flag ∷ [])
+    ++ where_so (general || within) (item_of_source source timing.elemental_duration_in_tc_minus1 ∷ []))
 
 -- timing where the source has it (clauses 7.3.5.1 and 7.3.5.2): its ticks, no HRD parameters, and that rate
 abbrev pub timing_items : List Item → List Item
 timing_items source = where_so (is_set (number source sps.sps_timing_hrd_params_present_flag))
-    (same source timing.num_units_in_tick ∷ same source timing.time_scale ∷ item timing.general_nal_hrd_params_present_flag 0
+    (item_of_source source timing.num_units_in_tick ∷ item_of_source source timing.time_scale ∷ item timing.general_nal_hrd_params_present_flag 0
     ∷ item timing.general_vcl_hrd_params_present_flag 0
     ∷ (where_so (is_set (number source sps.sps_max_sublayers_minus1)) (item sps.sps_sublayer_cpb_params_present_flag 0 ∷ [])
     ++ rate_items source))
@@ -139,13 +137,13 @@ timing_items source = where_so (is_set (number source sps.sps_timing_hrd_params_
 -- the picture: its size, and the subpictures
 abbrev pub picture_items : List Item → SpsShape → List Item
 picture_items source shape =
-    size_items shape.width shape.height shape.window
+    picture_size_items shape.width shape.height shape.window
     ++ subpic_items (quotient shape.width (ctb_size_of source)) (quotient shape.height (ctb_size_of source)) shape.subpics
 
 -- all that is stated
-abbrev pub stated : List Item → SpsShape → List Item
-stated source shape =
-    id_items shape.id
+abbrev pub stated_sps_items : List Item → SpsShape → List Item
+stated_sps_items source shape =
+    sps_id_items shape.id
     ++ (profile_items source shape.level ++ (picture_items source shape ++ (dpb_items source shape.dpb ++ timing_items source)))
 
 -- ---- shapes
@@ -181,6 +179,6 @@ pub record IsShape (ctb_size : ℕ) (shape : SpsShape) : Type 0 where
 -- ---- the rewritten set
 
 -- The items are those of a set. Those of the fields that are taken over are the source's, and the others are exactly what is stated.
-abbrev pub IsReshaped : List Item → SpsShape → List Item → Type 0
-IsReshaped source shape items =
-    IsRewritten sps_form (set_of TAKEN) (shown_items (set_of TAKEN) source) (stated source shape) items
+abbrev pub IsReshapedSps : List Item → SpsShape → List Item → Type 0
+IsReshapedSps source shape items =
+    IsRewritten sps_form (set_of TAKEN) (shown_items (set_of TAKEN) source) (stated_sps_items source shape) items

@@ -14,7 +14,7 @@ use Rattle.vx_table.specs.Reading.{ReadsValue}
 use Rattle.vx_sps.specs.Structure.{sps_form}
 
 -- The items are those of a set: of values that go through its form to this end.
-pub record IsItems (items : List Item) : Type 0 where
+pub record AreSpsItems (items : List Item) : Type 0 where
   pub values : List ℤ
   pub end : List ℕ
   pub follows : Follows sps_form values end
@@ -34,11 +34,11 @@ abbrev pub ctb_size_of : List Item → ℕ
 ctb_size_of items = 2 ^ (number items sps.sps_log2_ctu_size_minus5 + 5)
 
 -- the columns and rows of CTUs
-abbrev pub columns_of : List Item → ℕ
-columns_of items = quotient (width_of items) (ctb_size_of items)
+abbrev pub ctu_columns_of : List Item → ℕ
+ctu_columns_of items = quotient (width_of items) (ctb_size_of items)
 
-abbrev pub rows_of : List Item → ℕ
-rows_of items = quotient (height_of items) (ctb_size_of items)
+abbrev pub ctu_rows_of : List Item → ℕ
+ctu_rows_of items = quotient (height_of items) (ctb_size_of items)
 
 -- ---- headers
 
@@ -60,18 +60,18 @@ is_weighted items = is_set (number items sps.sps_weighted_pred_flag) || is_set (
 -- ---- how a set is spelled
 
 -- The bytes are the spelling of the values whose items these are.
-pub record IsSpelling (items : List Item) (bytes : List ℕ) : Type 0 where
-  pub set : IsItems items
+pub record IsSpsSpelling (items : List Item) (bytes : List ℕ) : Type 0 where
+  pub set : AreSpsItems items
   pub bits : bits_of bytes ≡ bits_along sps_form 0 set.values
 
 -- What is written of a set is read as it, unless memory runs out.
 abbrev pub WrittenIsRead : Type 0
-WrittenIsRead = (items : List Item) (bytes : List ℕ) (result : Result (List Item) ReadError) → IsSpelling items bytes
+WrittenIsRead = (items : List Item) (bytes : List ℕ) (result : Result (List Item) ReadError) → IsSpsSpelling items bytes
     → ReadsValue sps_form bytes result → (result ≡ Ok items) ⊎ (result ≡ Err errors.Memory)
 
 -- No spelling of a set is a proper prefix of another's.
 abbrev pub NoProperPrefix : Type 0
-NoProperPrefix = (items others : List Item) (bytes more : List ℕ) → IsSpelling items bytes → IsSpelling others (bytes ++ more)
+NoProperPrefix = (items others : List Item) (bytes more : List ℕ) → IsSpsSpelling items bytes → IsSpsSpelling others (bytes ++ more)
     → (items ≡ others) × (more ≡ [])
 
 -- No set is long: its spelling has at most this many bytes.
@@ -79,4 +79,4 @@ abbrev pub sps_limit : ℕ
 sps_limit = 2 ^ 17
 
 abbrev pub SpellingIsShort : Type 0
-SpellingIsShort = (items : List Item) (bytes : List ℕ) → IsSpelling items bytes → length bytes ≤ sps_limit
+SpellingIsShort = (items : List Item) (bytes : List ℕ) → IsSpsSpelling items bytes → length bytes ≤ sps_limit

@@ -40,12 +40,12 @@ counts = always tables.COUNTS ∷ []
 abbrev pub dpb : List Section
 dpb = always tables.SUBLAYER_DPB ∷ always DPB ∷ []
 
-abbrev pub structures : Section
-structures = in_turns STRUCTURE (Plain (Latest NUM_STRUCTURES)) REF_PIC_LIST_STRUCT
+abbrev pub rpl_structures : Section
+rpl_structures = in_turns STRUCTURE (Plain (Latest NUM_STRUCTURES)) REF_PIC_LIST_STRUCT
 
 abbrev pub tools : List Section
 tools = always tables.PARTITIONS ∷ always tables.TRANSFORMS ∷ always tables.CHROMA_QP ∷ always tables.FILTERS
-    ∷ always tables.REFERENCES ∷ structures ∷ always tables.LIST_1 ∷ structures
+    ∷ always tables.REFERENCES ∷ rpl_structures ∷ always tables.LIST_1 ∷ rpl_structures
     ∷ always tables.INTER ∷ always tables.INTRA ∷ always tables.SCALING ∷ always tables.TIMED ∷ []
 
 abbrev pub timed : List Row → Section

@@ -1,26 +1,23 @@
 -- The subpictures of a set's pictures (H.266 7.4.3.4), from its items.
 use Rattle.std.specs.Prelude.{ℕ, ◌+◌, ◌-◌, ◌*◌, ◌/◌, ◌%◌, max, Bool, cond, ◌==◌, nat_lt}
-use Rattle.std.specs.Prelude.{List, length, map, filter, slice_index, slice_index_or}
+use Rattle.std.specs.Prelude.{List, length, slice_index, slice_index_or}
 use Rattle.vx_bits.specs.declared.list.Item.{Item}
 use Rattle.vx_fields.specs.declared.sps.TheConstants as sps
 use Rattle.vx_layout.specs.declared.rect.Rect.{Rect}
-use Rattle.vx_table.specs.Scope.{natural, capped, is_set}
+use Rattle.vx_table.specs.Scope.{capped, is_set}
 use Rattle.vx_table.specs.Loaded.{number}
-use Rattle.vx_sps.specs.Set.{columns_of, rows_of}
+use Rattle.vx_sps.specs.Set.{ctu_columns_of, ctu_rows_of}
+use Rattle.vx_table.specs.Loaded.{numbers_of}
 
 -- how many there are
 abbrev pub subpics_of : List Item → ℕ
 subpics_of items = number items sps.sps_num_subpics_minus1 + 1
 
--- the numbers of a field's items, in order
-abbrev pub numbers_of : List Item → ℕ → List ℕ
-numbers_of items of = map (λ item. natural item.value) (filter (λ item. item.field == of) items)
-
 -- ---- rectangles, in CTUs
 
 -- sps_subpic_ctu_top_left_x or _y of subpicture i, which the first one lacks; 0 where it is absent
-abbrev pub corner_at : List ℕ → ℕ → ℕ
-corner_at corners i = cond (i == 0) 0 (slice_index corners (i - 1))
+abbrev pub ctu_top_left_at : List ℕ → ℕ → ℕ
+ctu_top_left_at corners i = cond (i == 0) 0 (slice_index corners (i - 1))
 
 -- sps_subpic_width_minus1 or _height_minus1 of it, and 1 more; where it is absent the subpicture reaches to the border
 abbrev pub size_at : List ℕ → ℕ → ℕ → ℕ → ℕ
@@ -29,24 +26,24 @@ size_at sizes border corner i = cond (nat_lt i (length sizes)) (capped (slice_in
 -- a rectangle that is spelled by itself
 abbrev pub own_rect : List Item → ℕ → Rect
 own_rect items i =
-    let x = corner_at (numbers_of items sps.sps_subpic_ctu_top_left_x) i in
-    let y = corner_at (numbers_of items sps.sps_subpic_ctu_top_left_y) i in
+    let x = ctu_top_left_at (numbers_of items sps.sps_subpic_ctu_top_left_x) i in
+    let y = ctu_top_left_at (numbers_of items sps.sps_subpic_ctu_top_left_y) i in
     record {
       x = x;
       y = y;
-      w = size_at (numbers_of items sps.sps_subpic_width_minus1) (columns_of items) x i;
-      h = size_at (numbers_of items sps.sps_subpic_height_minus1) (rows_of items) y i;
+      w = size_at (numbers_of items sps.sps_subpic_width_minus1) (ctu_columns_of items) x i;
+      h = size_at (numbers_of items sps.sps_subpic_height_minus1) (ctu_rows_of items) y i;
     }
 
 -- how many of a width stand beside one another: numSubpicCols, at least 1
-abbrev pub across : ℕ → ℕ → ℕ
-across columns w = cond (w == 0) 1 (max (columns / w) 1)
+abbrev pub subpic_columns : ℕ → ℕ → ℕ
+subpic_columns columns w = cond (w == 0) 1 (max (columns / w) 1)
 
 -- rectangle i of those that stand on the grid of the first one's size
 abbrev pub on_grid : ℕ → Rect → ℕ → Rect
 on_grid columns first i = record {
-  x = capped ((i % across columns first.w) * first.w);
-  y = capped ((i / across columns first.w) * first.h);
+  x = capped ((i % subpic_columns columns first.w) * first.w);
+  y = capped ((i / subpic_columns columns first.w) * first.h);
   w = first.w;
   h = first.h;
 }
@@ -54,7 +51,7 @@ on_grid columns first i = record {
 -- the rectangle of subpicture i
 abbrev pub rect_of : List Item → ℕ → Rect
 rect_of items i =
-    cond (is_set (number items sps.sps_subpic_same_size_flag)) (on_grid (columns_of items) (own_rect items 0) i) (own_rect items i)
+    cond (is_set (number items sps.sps_subpic_same_size_flag)) (on_grid (ctu_columns_of items) (own_rect items 0) i) (own_rect items i)
 
 -- ---- flags and ids
 
@@ -67,5 +64,5 @@ abbrev pub is_filtered : List Item → ℕ → Bool
 is_filtered items i = is_set (slice_index_or (numbers_of items sps.sps_loop_filter_across_subpic_enabled_flag) i 0)
 
 -- its id where no PPS says another: sps_subpic_id, or i where that is absent
-abbrev pub id_of : List Item → ℕ → ℕ
-id_of items i = slice_index_or (numbers_of items sps.sps_subpic_id) i i
+abbrev pub sps_subpic_id_of : List Item → ℕ → ℕ
+sps_subpic_id_of items i = slice_index_or (numbers_of items sps.sps_subpic_id) i i

@@ -1,5 +1,5 @@
 //! Laws of rewritten sets: functions that do nothing, each with a law as its contract.
-ghost use Rattle.vx_sps.specs.Reread.{ReshapedSays, ReshapedSignals, ReshapedKeeps};
+ghost use Rattle.vx_sps.specs.laws.Reread.{ReshapedSays, ReshapedSignals, ReshapedKeeps};
 
 /// A rewritten set says what its shape says: width, height, rectangles, flags and ids. So does what is read of it again,
 /// since that is the set ([`crate::written_is_read`]).

@@ -6,8 +6,8 @@ ghost use Rattle.vx_bits.specs.Place.{Place};
 ghost use Rattle.vx_table.specs.Reading.{Reads, ReadsValue, at_front};
 ghost use Rattle.vx_table.specs.Writing.{Writes};
 ghost use Rattle.vx_sps.specs.Structure.{sps_form};
-ghost use Rattle.vx_sps.specs.Set.{IsSpelling};
-ghost use Rattle.vx_sps.specs.Depends.{kept_of};
+ghost use Rattle.vx_sps.specs.Set.{IsSpsSpelling};
+ghost use Rattle.vx_sps.specs.Depends.{kept_sps_items};
 
 use crate::sps::Sps;
 use crate::walk::code_sps;
@@ -77,12 +77,8 @@ pub fn read_sps(alloc: Global, rbsp: &[u8]) -> Result<Sps, ReadError>
 }
 
 /// Writes a sequence parameter set: its RBSP.
-///
-/// # Errors
-///
-/// Want of memory.
 pub fn write_sps(alloc: Global, sps: &Sps) -> Result<Vec<u8>, AllocError>
-    ensures { IfOk result (λ bytes. IsSpelling sps.now bytes.items) }
+    ensures { IfOk result (λ bytes. IsSpsSpelling sps.now bytes.items) }
 {
     let fields = sps.fields();
     let mut bits = BitWriter::new(alloc);
@@ -95,12 +91,8 @@ pub fn write_sps(alloc: Global, sps: &Sps) -> Result<Vec<u8>, AllocError>
 }
 
 /// The items of a set's kept fields, in order: those that a set rewritten from it has too, whatever its shape.
-///
-/// # Errors
-///
-/// Want of memory.
 pub fn keep_sps(alloc: Global, sps: &Sps) -> Result<Fields, AllocError>
-    ensures { IfOk result (λ kept. kept ≡ kept_of sps.now) }
+    ensures { IfOk result (λ kept. kept ≡ kept_sps_items sps.now) }
 {
     let fields = sps.fields();
     let mut kept = Fields::new(alloc);

@@ -7,7 +7,8 @@ ghost use Rattle.vx_table.specs.Shown.{shown_items};
 ghost use Rattle.vx_sps.specs.Set.{ctb_size_of};
 ghost use Rattle.vx_sps.specs.inner.Makes.{MakesSet};
 ghost use Rattle.vx_sps.specs.Reshaped as reshaped;
-ghost use Rattle.vx_sps.specs.Reshaped.{where_so, id_items, profile_items, window_items, size_items, place_items, places_items, one_items, many_items, subpic_items, dpb_items, rate_items, timing_items, stated, IsPlan, IsShape, IsReshaped};
+ghost use Rattle.vx_sps.specs.Reshaped.{sps_id_items, profile_items, window_items, picture_size_items, place_items, places_items, one_items, many_items, subpic_items, dpb_items, rate_items, timing_items, stated_sps_items, IsPlan, IsShape, IsReshapedSps};
+ghost use Rattle.vx_table.specs.Rewritten.{where_so};
 
 use crate::shape::{SpsShape, SubpicPlan};
 use crate::sps::Sps;
@@ -63,7 +64,7 @@ fn number(source: &Sps, field: u16) -> u32
 
 /// An item of a field with the number that the source gives it.
 fn same(source: &Sps, field: u16) -> Item
-    ensures { result ≡ reshaped.same source.now field }
+    ensures { result ≡ reshaped.item_of_source source.now field }
 {
     item(field, number(source, field))
 }
@@ -76,7 +77,7 @@ fn push_where(holds: bool, item: Item, into: &mut Fields) -> Result<(), AllocErr
 }
 
 fn push_ids(id: u8, into: &mut Fields) -> Result<(), AllocError>
-    ensures { OnOk result (into.new ≡ into.old ++ id_items id) }
+    ensures { OnOk result (into.new ≡ into.old ++ sps_id_items id) }
 {
     into.extend_from_slice(&[
         item(sps_seq_parameter_set_id, u32::from(id)),
@@ -121,7 +122,7 @@ fn has_window(window: [u32; 4]) -> bool
 
 /// Width, height and window.
 fn push_size(shape: &SpsShape, into: &mut Fields) -> Result<(), AllocError>
-    ensures { OnOk result (into.new ≡ into.old ++ size_items shape.now.width shape.now.height shape.now.window) }
+    ensures { OnOk result (into.new ≡ into.old ++ picture_size_items shape.now.width shape.now.height shape.now.window) }
 {
     into.extend_from_slice(&[
         item(sps_pic_width_max_in_luma_samples, shape.width),
@@ -307,7 +308,7 @@ fn push_timing(source: &Sps, into: &mut Fields) -> Result<(), AllocError>
 /// All that is stated, in order.
 fn stated_items(alloc: Global, source: &Sps, shape: &SpsShape) -> Result<Fields, AllocError>
     requires { IsShape (ctb_size_of source.now) shape.now }
-    ensures items { IfOk result (λ items. items ≡ stated source.now shape.now) }
+    ensures items { IfOk result (λ items. items ≡ stated_sps_items source.now shape.now) }
     // A level that was read is one of its type.
     ensures level { OnOk result (shape.now.level < 256) }
 {
@@ -347,7 +348,7 @@ fn rewrite(taken: &Fields, stated: &Fields, into: &mut Fields) -> Result<(), Spe
 /// Where memory runs out.
 pub fn reshape_sps(alloc: Global, sps: &Sps, shape: &SpsShape) -> Result<Sps, AllocError>
     requires { IsShape (ctb_size_of sps.now) shape.now }
-    ensures { IfOk result (λ reshaped. IsReshaped sps.now shape.now reshaped) }
+    ensures { IfOk result (λ reshaped. IsReshapedSps sps.now shape.now reshaped) }
 {
     let taken = items_of(alloc, sps.fields(), &set_of(&TAKEN))?;
     let stated = stated_items(alloc, sps, shape)?;

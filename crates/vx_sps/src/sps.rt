@@ -70,10 +70,6 @@ fn ctb_size(scope: &Scope) -> u32
 }
 
 /// The reference picture list structures of a set.
-///
-/// # Errors
-///
-/// Want of memory.
 fn structures(alloc: Global, fields: &Fields, scope: &Scope) -> Result<RplTable, AllocError>
     requires { scope.now ≡ loaded fresh fields.now }
     ensures { IfOk result (λ table. table ≡ table_of (set.is_weighted fields.now) fields.now) }
@@ -102,12 +98,8 @@ impl Sps {
     ghost use Rattle.vx_sps.specs.Subpictures.{subpics_of};
 
     /// The set of these items.
-    ///
-    /// # Errors
-    ///
-    /// Want of memory.
     pub(crate) fn new(alloc: Global, fields: Fields) -> Result<Sps, AllocError>
-        requires { set.IsItems fields }
+        requires { set.AreSpsItems fields }
         ensures { IfOk result (λ made. made ≡ fields) }
     {
         let mut scope = Scope::new();
@@ -132,7 +124,7 @@ impl Sps {
     /// Its items, as H.266 orders them.
     pub fn fields(&self) -> &Fields
         ensures items { result.now ≡ self.now }
-        ensures set { set.IsItems result.now }
+        ensures set { set.AreSpsItems result.now }
     {
         &self.fields
     }
@@ -209,7 +201,7 @@ impl Sps {
     /// The id of a subpicture, where no PPS says another: sps_subpic_id, or where that is absent, its index.
     pub fn id(&self, i: u32) -> u32
         requires { i < subpics_of self.now }
-        ensures { result ≡ pictures.id_of self.now i }
+        ensures { result ≡ pictures.sps_subpic_id_of self.now i }
     {
         self.subpicture(i).id
     }

@@ -2,6 +2,7 @@
 
 ghost use Rattle.std.specs.Prelude.{◌≡◌, ◌+◌, ◌-◌, ◌<◌, ◌≤◌, length, slice_index, slice_index_or, IfOk};
 ghost use Rattle.vx_table.specs.Loaded.{number};
+ghost use Rattle.vx_table.specs.Loaded as loading;
 ghost use Rattle.vx_sps.specs.Subpictures as spec;
 ghost use Rattle.vx_table.specs.Scope.{fresh, loaded};
 ghost use Rattle.vx_fields.specs.declared.sps.TheConstants as sps;
@@ -33,13 +34,9 @@ pub(crate) struct Subpicture {
 }
 
 /// The numbers of a field's items, in order.
-///
-/// # Errors
-///
-/// Want of memory.
 #[tactic(auto, using(crate::proofs::Counted::number_more, crate::proofs::Counted::number_passed))]
 fn numbers_of(alloc: Global, fields: &Fields, field: u16) -> Result<IdList, AllocError>
-    ensures { IfOk result (λ list. list ≡ spec.numbers_of fields.now field) }
+    ensures { IfOk result (λ list. list ≡ loading.numbers_of fields.now field) }
 {
     let mut numbers = IdList::new(alloc);
     for i in 0..fields.len() {
@@ -67,7 +64,7 @@ fn number_or(numbers: &IdList, i: u32, other: u32) -> u32
 
 /// The column, or the row, at which subpicture `i` begins.
 fn corner_at(corners: &IdList, i: u32) -> u32
-    ensures { result ≡ spec.corner_at corners.now i }
+    ensures { result ≡ spec.ctu_top_left_at corners.now i }
 {
     if i == 0 { 0 } else { number_at(corners, i - 1) }
 }
@@ -85,7 +82,7 @@ fn size_at(sizes: &IdList, border: u32, corner: u32, i: u32) -> u32
 
 /// How many of a width stand beside one another.
 fn across(columns: u32, w: u32) -> u32
-    ensures count { result ≡ spec.across columns w }
+    ensures count { result ≡ spec.subpic_columns columns w }
     ensures some { 1 ≤ result }
 {
     if w == 0 { 1 } else { (columns / w).max(1) }
@@ -176,10 +173,6 @@ impl<'a> Told<'a> {
     }
 
     /// The first `n` subpictures.
-    ///
-    /// # Errors
-    ///
-    /// Want of memory.
     #[tactic(auto, using(crate::proofs::Counted::subpicture_more))]
     fn subpictures(&self, alloc: Global, n: u32) -> Result<CopyList<Subpicture>, AllocError>
         ensures { IfOk result (λ list. AreSubpictures self.now n list) }
@@ -193,10 +186,6 @@ impl<'a> Told<'a> {
 }
 
 /// The subpictures of a set whose numbers the scope has; its pictures have so many columns and rows of CTUs.
-///
-/// # Errors
-///
-/// Want of memory.
 pub(crate) fn subpictures(
     alloc: Global,
     fields: &Fields,
@@ -206,8 +195,8 @@ pub(crate) fn subpictures(
 ) -> Result<CopyList<Subpicture>, AllocError>
     requires scope { scope.now ≡ loaded fresh fields.now }
     requires most { number fields.now sps.sps_num_subpics_minus1 < 1000 }
-    requires columns { columns ≡ set.columns_of fields.now }
-    requires rows { rows ≡ set.rows_of fields.now }
+    requires columns { columns ≡ set.ctu_columns_of fields.now }
+    requires rows { rows ≡ set.ctu_rows_of fields.now }
     ensures { IfOk result (λ list. AreSubpictures fields.now (spec.subpics_of fields.now) list) }
 {
     let told = Told {

@@ -20,7 +20,7 @@ use Rattle.vx_table.specs.Values.{Follows, to_end, through}
 use Rattle.vx_table.specs.Depends.{has, Inside, IsLeft}
 use Rattle.vx_table.specs.Claims.{comes_always, hides_counter}
 use Rattle.vx_table.specs.Shown.{shown_items}
-use Rattle.vx_table.specs.Absence.{IsAbsent, AreZero, HiddenHaveNoItems, is_zero_term, is_zero, never_comes, block_hides, name_hides, with_name, rows_hide, zeros_behind, table_hides, behind_zeros, section_hides, behind_there, sections_hide_where, TablesHide, SectionsHide, HiddenTogether, HiddenPresent, SetsHide, LeftHide}
+use Rattle.vx_table.specs.laws.Absence.{IsAbsent, AreZero, HiddenHaveNoItems, is_zero_term, is_zero, never_comes, block_hides, name_hides, with_name, rows_hide, zeros_behind, table_hides, behind_zeros, section_hides, behind_there, sections_hide_where, TablesHide, SectionsHide, HiddenTogether, HiddenPresent, SetsHide, LeftHide}
 use Rattle.vx_table.proofs.Agreeing.{inside_itself, inside_on, with_one}
 use Rattle.vx_table.proofs.Chains.{there_always}
 use Rattle.vx_table.proofs.Shown.{hidden_here}

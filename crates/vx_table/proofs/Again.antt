@@ -11,9 +11,9 @@ use Rattle.vx_table.specs.declared.rows.Row.TheVariants.{Field}
 use Rattle.vx_table.specs.Forms.{Form, done, field, ◌>>=◌, cell_at}
 use Rattle.vx_table.specs.Spelling.{Spells, at_end, behind, Reaches, here, later, code_of, item_of, items_along}
 use Rattle.vx_table.specs.Values.{Follows, to_end, through}
-use Rattle.vx_table.specs.Reading.{IsFound, StopsAt, IsRead, IsAnswered, IsRefusedWith, Reads}
+use Rattle.vx_table.specs.Reading.{IsFound, StopsAt, IsReadingAnswer, IsAnswered, IsRefusedWith, Reads}
 use Rattle.vx_table.specs.Depends.{has, Inside, Alike, at_ends, both, hidden_left, hidden_right}
-use Rattle.vx_table.specs.Again.{AllShown, GoesToo, FollowsAgain, ReadsAgain, StopsAgain, AnswersAgain, shows_row, TablesShow, SectionsShow}
+use Rattle.vx_table.specs.laws.Again.{AllShown, GoesToo, FollowsAgain, ReadsAgain, StopsAgain, AnswersAgain, shows_row, TablesShow, SectionsShow}
 use Rattle.vx_table.proofs.Agreeing.{agree_back}
 use Rattle.vx_table.proofs.EachField.{each_then, each_of_rows, each_of_sections}
 
@@ -86,7 +86,7 @@ module _ {shown known : List ℕ} {f g : Form (List ℕ)} (alike : Alike shown k
     gained = is.gained ∙ ap (λ x. items ++ x) (same_items alike all others is.values);
   }
 
-  answers : {B : Type 0} (old new : Place) (items after : List Item) (result : Result B ReadError) → IsRead f old items result new after → IsRead g old items result new after
+  answers : {B : Type 0} (old new : Place) (items after : List Item) (result : Result B ReadError) → IsReadingAnswer f old items result new after → IsReadingAnswer g old items result new after
   answers old new items after (Ok b) is = found is
   answers old new items after (Err errors.Memory) (inl is) = inl (is.0, stops is.1)
   answers old new items after (Err errors.Memory) (inr is) = inr (found is)

@@ -17,7 +17,7 @@ use Rattle.vx_table.specs.Forms.{Form, cell_at, limits_at, has_value}
 use Rattle.vx_table.specs.Spelling.{fault_of, is_multiple, item_of, items_along}
 use Rattle.vx_table.specs.Values.{Follows, to_end, through}
 use Rattle.vx_table.specs.EachField.{EachField}
-use Rattle.vx_table.specs.Bounds.{lies, LiesIn, KeepsRange, is_range, tells_range, LieInRange, PartsLieInRange}
+use Rattle.vx_table.specs.laws.Bounds.{lies, LiesIn, KeepsRange, is_range, tells_range, LieInRange, PartsLieInRange}
 use Rattle.vx_table.proofs.Agreeing.{valued}
 use Rattle.vx_table.proofs.EachField.{each_of_rows, each_of_sections}
 

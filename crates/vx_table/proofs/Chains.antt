@@ -10,7 +10,7 @@ use Rattle.vx_table.specs.Forms.{Form, done, present, form_of}
 use Rattle.vx_table.specs.Parts.{Section, sections_form}
 use Rattle.vx_table.specs.Depends.{at_ends, with_all, set_of, DependsOnlyOn, Carries}
 use Rattle.vx_table.specs.Claims.{hides, comes_always, table_depends, section_depends, behind_section, sections_chain, behind_sections, sections_depend_only_on}
-use Rattle.vx_table.specs.Chains.{TablesCarry, SectionsCarry, SetsCarry, StepsCarry, CarriesTogether, CarriesPresent, ChainsDepend}
+use Rattle.vx_table.specs.laws.Chains.{TablesCarry, SectionsCarry, SetsCarry, StepsCarry, CarriesTogether, CarriesPresent, ChainsDepend}
 use Rattle.vx_table.proofs.Agreeing.{inside_itself, inside_on, inside_grown, grows}
 use Rattle.vx_table.proofs.Dependence.{alike_less, alike_then, alike_present, alike_block, alike_table, left_table, table_grows, table_inside, inside_block, block_grows, agree_grown, inside_with_all}
 

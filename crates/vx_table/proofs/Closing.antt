@@ -19,7 +19,7 @@ use Rattle.vx_table.specs.declared.parts.Part.{Part}
 use Rattle.vx_table.specs.Parts.{sections_form, parts_form}
 use Rattle.vx_table.specs.EachField.{EachField}
 use Rattle.vx_table.proofs.EachField.{each_then, each_present}
-use Rattle.vx_table.specs.Trailing.{is_trailing, has_trailing, trails_last, comes_once, parts_have_trailing, parts_trail_last, ClosesWithoutTrailing, ClosesAtTheEnd, PartsCloseWithoutTrailing, PartsCloseAtTheEnd}
+use Rattle.vx_table.specs.laws.Trailing.{is_trailing, has_trailing, trails_last, comes_once, parts_have_trailing, parts_trail_last, ClosesWithoutTrailing, ClosesAtTheEnd, PartsCloseWithoutTrailing, PartsCloseAtTheEnd}
 
 -- No field of the form is a trailing.
 abbrev pub IsNoTrailing : Cell ℕ → Type 0

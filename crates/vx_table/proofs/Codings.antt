@@ -10,7 +10,7 @@ use Rattle.vx_bits.specs.declared.refusal.BitCause.TheVariants as causes
 use Rattle.vx_bits.specs.declared.refusal.Refusal.{Refusal}
 use Rattle.vx_bits.specs.declared.refusal.Refusal.TheVariants as refusals
 use Rattle.vx_table.specs.declared.rows.Cell.{Cell}
-use Rattle.vx_table.specs.Spelling.{HasCode, code_of, MayEnd, BeginsCode, Misses, BeginsField, IsRefused, missed, broken, reported}
+use Rattle.vx_table.specs.Spelling.{HasCode, code_of, MayEnd, BeginsCode, Misses, BeginsField, IsRefusedField, missed, broken, reported}
 use Rattle.std.proofs.lemmas.List.{length-append, append-nil}
 
 -- codes of the same kind at the same place tell their values and what follows
@@ -76,7 +76,7 @@ missed_once Refused place left causes.OutOfRange causes.OutOfRange m n = refl
 missed_once coding place left a b m n = absurd (assumption (m, n))
 
 -- A field that the bits begin with isn't refused.
-pub begins_field_not_refused : {cell : Cell ℕ} {total : ℕ} {v : ℤ} {left mid : List Bool} {r : Refusal} → BeginsField cell total v left mid → IsRefused cell total left r → ⊥
+pub begins_field_not_refused : {cell : Cell ℕ} {total : ℕ} {v : ℤ} {left mid : List Bool} {r : Refusal} → BeginsField cell total v left mid → IsRefusedField cell total left r → ⊥
 begins_field_not_refused {cell} {total} {v} {left} {mid} s (missed {cause} m) = not_missed cell.coding (total - length left) v left mid cause s.code.value s.code.bits s.code.end m
 begins_field_not_refused {cell} s (broken {v} {behind} {fault} begins out) =
     let same = (begins_code_apart s.code begins).0 in
@@ -84,7 +84,7 @@ begins_field_not_refused {cell} s (broken {v} {behind} {fault} begins out) =
     cc
 
 -- A field is refused in one way.
-pub refused_once : {cell : Cell ℕ} {total : ℕ} {left : List Bool} {r q : Refusal} → IsRefused cell total left r → IsRefused cell total left q → r ≡ q
+pub refused_once : {cell : Cell ℕ} {total : ℕ} {left : List Bool} {r q : Refusal} → IsRefusedField cell total left r → IsRefusedField cell total left q → r ≡ q
 refused_once {cell} {total} {left} (missed {cause = a} m) (missed {cause = b} n) = ap (refusals.Syntax cell.field (total - length left)) (missed_once cell.coding (total - length left) left a b m n)
 refused_once {cell} {total} {left} (missed {cause} m) (broken {v} {behind} {fault} b out) = absurd (not_missed cell.coding (total - length left) v left behind cause b.value b.bits b.end m)
 refused_once {cell} {total} {left} (broken {v} {behind} {fault} b out) (missed {cause} m) = absurd (not_missed cell.coding (total - length left) v left behind cause b.value b.bits b.end m)

@@ -13,8 +13,8 @@ use Rattle.vx_table.specs.declared.rows.Coding.TheVariants.{Fixed, Golomb, Signe
 use Rattle.vx_table.specs.declared.rows.Fault.{Fault}
 use Rattle.vx_table.specs.declared.rows.Cell.{Cell}
 use Rattle.vx_table.specs.Forms.{Form, done, field}
-use Rattle.vx_table.specs.Spelling.{HasCode, code_of, MayEnd, BeginsCode, Misses, BeginsField, fault_of, Spells, at_end, behind, Reaches, here, later, IsRefused, missed, broken}
-use Rattle.vx_table.specs.Laws.{AnswersAlways}
+use Rattle.vx_table.specs.Spelling.{HasCode, code_of, MayEnd, BeginsCode, Misses, BeginsField, fault_of, Spells, at_end, behind, Reaches, here, later, IsRefusedField, missed, broken}
+use Rattle.vx_table.specs.laws.Spelling.{AnswersAlways}
 
 -- a code begins at the bits, or there is a cause why none does
 abbrev CodeOrCause : Coding ℕ → ℕ → List Bool → Type 0
@@ -133,7 +133,7 @@ some_or_none (Some f) = inr (f, refl)
 
 -- bits begin with a field or it is refused
 field_answers : (cell : Cell ℕ) (total : ℕ) (left : List Bool)
-    → ((v : ℤ) × (rest : List Bool) × BeginsField cell total v left rest) ⊎ ((r : Refusal) × IsRefused cell total left r)
+    → ((v : ℤ) × (rest : List Bool) × BeginsField cell total v left rest) ⊎ ((r : Refusal) × IsRefusedField cell total left r)
 field_answers cell total left =
     elim (code_begins cell.coding total left) [
       | inl (v, rest, code) ↦
@@ -146,7 +146,7 @@ field_answers cell total left =
 
 abbrev Answer : {A : Type 0} → Form A → ℕ → List Bool → Type 0
 Answer form total left = ((values : List ℤ) × (rest : List Bool) × Spells total form values left rest)
-    ⊎ ((values : List ℤ) × (cell : Cell ℕ) × (rest : List Bool) × (refusal : Refusal) × Reaches total form values left cell rest × IsRefused cell total rest refusal)
+    ⊎ ((values : List ℤ) × (cell : Cell ℕ) × (rest : List Bool) × (refusal : Refusal) × Reaches total form values left cell rest × IsRefusedField cell total rest refusal)
 
 -- behind a field that they begin with
 answer_behind : {A : Type 0} {cell : Cell ℕ} {goes : ℤ → Form A} {total : ℕ} {v : ℤ} {left mid : List Bool} → BeginsField cell total v left mid → Answer (goes v) total mid → Answer (field cell goes) total left

@@ -13,7 +13,7 @@ use Rattle.vx_table.specs.EachField.{sections_pass}
 use Rattle.vx_table.specs.Depends.{has, Inside, with_all, set_of, Agree}
 use Rattle.vx_table.specs.Claims.{sections_chain, behind_sections, sections_depend_only_on, sections_hide}
 use Rattle.vx_table.specs.Named.{named_by_all}
-use Rattle.vx_table.specs.Again.{shows_row}
+use Rattle.vx_table.specs.laws.Again.{shows_row}
 use Rattle.vx_table.specs.Rewrites.{Takes, Rewrites}
 use Rattle.vx_table.proofs.Agreeing.{inside_itself}
 use Rattle.vx_table.proofs.Chains.{sections_carry, structure_depends_only_on}

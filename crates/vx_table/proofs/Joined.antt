@@ -4,7 +4,7 @@ use Rattle.std.proofs.lemmas.List.{append_assoc, length-append}
 use Rattle.vx_table.specs.Forms.{Form, done, field, ◌>>=◌}
 use Rattle.vx_table.specs.Spelling.{Spells, at_end, behind, code_of, item_of, items_along}
 use Rattle.vx_table.specs.Values.{Follows, to_end, through, Parted, bits_along}
-use Rattle.vx_table.specs.Laws.{FollowsTogether, ItemsTogether, BitsTogether, SpellsTogether}
+use Rattle.vx_table.specs.laws.Spelling.{FollowsTogether, ItemsTogether, BitsTogether, SpellsTogether}
 
 pub parted : {A B : Type 0} (f : Form A) (next : A → Form B) {values : List ℤ} {end : B} → Follows (f >>= next) values end → Parted f next values end
 parted (done a) next {values} follows = record { front = []; others = values; mid = a; all = refl; first = to_end; second = follows }

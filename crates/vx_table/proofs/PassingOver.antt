@@ -7,7 +7,7 @@ use Rattle.vx_bits.specs.Place.{Place}
 use Rattle.vx_table.specs.Forms.{Form}
 use Rattle.vx_table.specs.Walks.{Walks, ended, coded, refused, leaving}
 use Rattle.vx_table.specs.Spelling.{item_of}
-use Rattle.vx_table.specs.Reading.{ReadsField, PassesField, as_read, Passes, LeadsTo}
+use Rattle.vx_table.specs.Reading.{ReadsField, PassesField, as_read, PassesOver, LeadsTo}
 use Rattle.vx_table.proofs.Readings.{reads, leads}
 
 passed : {A : Type 0} {form : Form A} {old new : Place} {i j : Unit {0}} {result : Result A Refusal} → Walks PassesField form old i result new j → (items : List Item)
@@ -23,7 +23,7 @@ passed_leaving : {A B : Type 0} {form : Form A} {old new : Place} {i j : Unit {0
 passed_leaving a (Ok b) walk items = passed walk items
 passed_leaving a (Err r) walk items = passed walk items
 
-pub passes : {A B : Type 0} {form : Form A} {old new : Place} {i j : Unit {0}} (a : A) (result : Result B Refusal) → Walks PassesField form old i (leaving a result) new j → Passes form old result new
+pub passes : {A B : Type 0} {form : Form A} {old new : Place} {i j : Unit {0}} (a : A) (result : Result B Refusal) → Walks PassesField form old i (leaving a result) new j → PassesOver form old result new
 passes a result walk = record {
   reads = λ items. let read = passed_leaving a result walk items in (read.0, reads a (as_read result) read.1);
 }

@@ -11,7 +11,7 @@ use Rattle.vx_bits.specs.Place.{Place}
 use Rattle.vx_table.specs.declared.rows.Cell.{Cell}
 use Rattle.vx_table.specs.Forms.{Form, done, field}
 use Rattle.vx_table.specs.Walks.{Walks, ended, coded, refused, leaving}
-use Rattle.vx_table.specs.Spelling.{BeginsField, Spells, at_end, behind, Reaches, here, later, IsRefused, item_of, items_along}
+use Rattle.vx_table.specs.Spelling.{BeginsField, Spells, at_end, behind, Reaches, here, later, IsRefusedField, item_of, items_along}
 use Rattle.vx_table.specs.Values.{Follows, to_end, through}
 use Rattle.vx_table.specs.Reading.{at_front, ReadsField, IsFound, StopsAt, IsFirstRefusal, IsAnswered, IsRefusedWith, Reads, LeadsTo}
 use Rattle.vx_table.proofs.Codings.{begins_code_apart, begins_field_not_refused, refused_once}
@@ -24,8 +24,8 @@ spells_at {f} {w} {left} {rest} s t e h = subst (λ x. Spells x f w left rest) e
 reaches_at : {A : Type 0} {f : Form A} {w : List ℤ} {left rest : List Bool} {cell : Cell ℕ} (s t : ℕ) → s ≡ t → Reaches s f w left cell rest → Reaches t f w left cell rest
 reaches_at {f} {w} {left} {rest} {cell} s t e h = subst (λ x. Reaches x f w left cell rest) e h
 
-refused_at : {cell : Cell ℕ} {rest : List Bool} {r : Refusal} (s t : ℕ) → s ≡ t → IsRefused cell s rest r → IsRefused cell t rest r
-refused_at {cell} {rest} {r} s t e h = subst (λ x. IsRefused cell x rest r) e h
+refused_at : {cell : Cell ℕ} {rest : List Bool} {r : Refusal} (s t : ℕ) → s ≡ t → IsRefusedField cell s rest r → IsRefusedField cell t rest r
+refused_at {cell} {rest} {r} s t e h = subst (λ x. IsRefusedField cell x rest r) e h
 
 -- the items of values behind one more
 one_more : {A : Type 0} (cell : Cell ℕ) (goes : ℤ → Form A) (items between after : List Item) (v : ℤ) (w : List ℤ)
@@ -69,7 +69,7 @@ stopped : {A : Type 0} {form : Form A} {old new : Place} {items after : List Ite
     → Walks {A = A} ReadsField form old items (Err (errors.Refused r)) new after → IsFirstRefusal form old items new after r
 stopped {form = done a} r walk = elim walk [ ]
 stopped {form = field cell goes} {old} r (refused s) =
-    record { cell = cell; stops = at_once s.1 s.2; refused = subst (λ (p : Place). IsRefused cell old.total p.left r) (sym s.1) s.0 }
+    record { cell = cell; stops = at_once s.1 s.2; refused = subst (λ (p : Place). IsRefusedField cell old.total p.left r) (sym s.1) s.0 }
 stopped {form = field cell goes} {old} r (coded {d} s walk) =
     let more = stopped r walk in
     record { cell = more.cell; stops = longer s.0 s.1 s.2 more.stops; refused = refused_at d.total old.total s.1 more.refused }
@@ -110,13 +110,13 @@ only {form = field cell goes} {old} {new} {items} {after} {result} {rest} (coded
 
 -- where a field is refused, that is the answer
 refusal : {A : Type 0} {form : Form A} {old new : Place} {items after : List Item} {result : Result A ReadError} {w : List ℤ} {left rest : List Bool} {cell : Cell ℕ} {r : Refusal}
-    → Walks ReadsField form old items result new after → Reaches old.total form w left cell rest → left ≡ old.left → IsRefused cell old.total rest r
+    → Walks ReadsField form old items result new after → Reaches old.total form w left cell rest → left ≡ old.left → IsRefusedField cell old.total rest r
     → IsRefusedWith result r ((new.left ≡ rest) × (after ≡ items ++ items_along form w))
 refusal ended reach same out = elim reach [ ]
 refusal (refused {e = errors.Memory} s) here same out = tt
 refusal {old} {items} {cell} {r} (refused {e = errors.Refused q} s) here same out =
-    (refused_once s.0 (subst (λ x. IsRefused cell old.total x r) same out), (ap (λ (p : Place). p.left) s.1 ∙ sym same, s.2 ∙ sym (append-nil items)))
-refusal {old} {cell} {r} (coded s walk) here same out = absurd (begins_field_not_refused s.0 (subst (λ x. IsRefused cell old.total x r) same out))
+    (refused_once s.0 (subst (λ x. IsRefusedField cell old.total x r) same out), (ap (λ (p : Place). p.left) s.1 ∙ sym same, s.2 ∙ sym (append-nil items)))
+refusal {old} {cell} {r} (coded s walk) here same out = absurd (begins_field_not_refused s.0 (subst (λ x. IsRefusedField cell old.total x r) same out))
 refusal (refused {e = errors.Memory} s) (later begins more) same out = tt
 refusal {form = field cell goes} {old} (refused {e = errors.Refused q} s) (later {v} {mid} begins more) same out =
     absurd (begins_field_not_refused (subst (λ x. BeginsField cell old.total v x mid) same begins) s.0)

@@ -18,7 +18,7 @@ use Rattle.vx_table.specs.EachField.{EachField}
 use Rattle.vx_table.specs.Depends.{has, Inside, Agree, Alike, at_ends, both, hidden_left, hidden_right, Carries, IsLeft, Leaves}
 use Rattle.vx_table.specs.Claims.{hides_counter, hides, hides_section, sections_hide, knows_formula}
 use Rattle.vx_table.specs.Shown.{shown_items}
-use Rattle.vx_table.specs.Again.{AllShown, AlwaysShown}
+use Rattle.vx_table.specs.laws.Again.{AllShown, AlwaysShown}
 use Rattle.vx_table.specs.Rewritten.{other_items}
 use Rattle.vx_table.specs.Rewrites.{Takes, Goes, WhatGoesIsRewritten, CopiedRewrites, ReplacedRewrites, Admits, no_more, at_shown, at_other, MixedRewrites, MayHaveGiven, GivenGoes, RewritesTogether, AbsentRewrites, PresentRewrites, NothingRewrites, AreValues, ValuesTake, TakesAgain, TakesTogether, in_all_turns, TurnsTake, RewrittenIsRead, TablesLeave, SectionsLeave, LeavesTogether, LeavesPresent, LeavesAgree, SectionsTogether}
 use Rattle.vx_table.proofs.Agreeing.{inside_itself, agree_itself, agree_back, agree_on, agree_less, agree_set, agree_outside, same_value}

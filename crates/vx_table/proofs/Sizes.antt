@@ -27,7 +27,7 @@ use Rattle.vx_table.specs.Parts.{sections_form}
 use Rattle.vx_table.specs.EachField.{rows_pass}
 use Rattle.vx_table.specs.Spelling.{HasCode, fault_of, is_multiple, code_of}
 use Rattle.vx_table.specs.Values.{IsValueOf, Follows, to_end, through, bits_along}
-use Rattle.vx_table.specs.Sizes.{EachSpelling, Bound, greatest, IsWithin, greatest_term, greatest_value, greatest_coded, greatest_ranged, presence_keeps, row_keeps, sections_keep, code_bits, most_turns, part_bits, table_bits, sections_bits, IsShort, TablesAreShort, SectionsAreShort}
+use Rattle.vx_table.specs.laws.Sizes.{EachSpelling, Bound, greatest, IsWithin, greatest_term, greatest_value, greatest_coded, greatest_ranged, presence_keeps, row_keeps, sections_keep, code_bits, most_turns, part_bits, table_bits, sections_bits, IsShort, TablesAreShort, SectionsAreShort}
 use Rattle.vx_table.proofs.Joined.{parted, bits_joined}
 use Rattle.vx_table.proofs.Agreeing.{valued}
 use Rattle.vx_table.proofs.Bounds.{unbroken, unbroken_multiple}

@@ -5,7 +5,7 @@ use Rattle.vx_table.specs.declared.rows.Cell.{Cell}
 use Rattle.vx_table.specs.Forms.{Form, field}
 use Rattle.vx_table.specs.Spelling.{BeginsField, Spells, at_end, behind, Reaches, here, later, MayEnd, code_of}
 use Rattle.vx_table.specs.Values.{IsValueOf, Follows, to_end, through, ComesTo, at_field, past, bits_along, Closes}
-use Rattle.vx_table.specs.Laws.{SpellsBothWays, ReachesBothWays, ReadsBack, SpellsApart}
+use Rattle.vx_table.specs.laws.Spelling.{SpellsBothWays, ReachesBothWays, ReadsBack, SpellsApart}
 use Rattle.vx_table.proofs.Codings.{code_apart}
 
 -- a field that the bits begin with has a value that it may have

@@ -18,7 +18,7 @@ use Rattle.vx_table.specs.Parts.{Section, sections_form}
 use Rattle.vx_table.specs.Spelling.{code_of}
 use Rattle.vx_table.specs.Values.{Follows, through, bits_along}
 use Rattle.vx_table.specs.Claims.{comes_always}
-use Rattle.vx_table.specs.Trailing.{EndsWithStop, EndsInStop, is_stop, ends_in_stop, TablesStop, sections_end_in_stop, SectionsStop, StopsTogether, StopsAtBoundary, StopsInNoZero}
+use Rattle.vx_table.specs.laws.Trailing.{EndsWithStop, EndsInStop, is_stop, ends_in_stop, TablesStop, sections_end_in_stop, SectionsStop, StopsTogether, StopsAtBoundary, StopsInNoZero}
 use Rattle.vx_table.proofs.Chains.{there_always}
 use Rattle.vx_table.proofs.Joined.{parted, bits_joined}
 

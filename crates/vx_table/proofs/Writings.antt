@@ -10,7 +10,7 @@ use Rattle.vx_table.specs.Forms.{Form, done, field}
 use Rattle.vx_table.specs.Walks.{Walks, ended, coded, refused, leaving}
 use Rattle.vx_table.specs.Spelling.{code_of, item_of, items_along}
 use Rattle.vx_table.specs.Values.{IsValueOf, Follows, to_end, through, ComesTo, at_field, past, bits_along}
-use Rattle.vx_table.specs.Laws.{ItemsApart}
+use Rattle.vx_table.specs.laws.Spelling.{ItemsApart}
 use Rattle.vx_table.specs.Writing.{WritesField, TellsNoValue, IsSpelled, HaltsAt, HasWritten, AreItemsOf, WritesAs, Writes, ItemsLeadTo}
 use Rattle.vx_table.proofs.Items.{item_apart}
 

@@ -2,6 +2,7 @@
 use Rattle.std.specs.Prelude.{◌≡◌, ℕ, ℤ, ◌<◌, ◌^◌, min, Bool, true, false, not, ◌&&◌, ◌||◌, ◌==◌, nat_lt, nat_le, IsTrue, List, [], ◌∷◌}
 use Rattle.std.specs.Prelude.{◌++◌}
 use Rattle.std.specs.Prelude.{All, slice_index}
+use Rattle.std.specs.Prelude.{map, filter}
 use Rattle.vx_bits.specs.declared.list.Item.{Item}
 use Rattle.vx_table.specs.declared.rows.Term.TheVariants.{Number}
 use Rattle.vx_table.specs.declared.rows.Formula.{Formula}
@@ -109,3 +110,7 @@ TablesStayBelow = (of bound : ℕ) (rows : List Row) (s : List ℕ) → 0 < boun
 abbrev pub SectionsStayBelow : Type 0
 SectionsStayBelow = (of bound : ℕ) (sections : List Section) (s : List ℕ) → 0 < bound → sections_pass (row_below of bound) sections ≡ true
     → EachField (StaysBelow of bound) (sections_form sections s)
+
+-- the numbers of a field's items, in order
+abbrev pub numbers_of : List Item → ℕ → List ℕ
+numbers_of items of = map (λ item. natural item.value) (filter (λ item. item.field == of) items)

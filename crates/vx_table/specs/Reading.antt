@@ -11,7 +11,7 @@ use Rattle.vx_table.specs.declared.rows.Coding.{Coding}
 use Rattle.vx_table.specs.declared.rows.Cell.{Cell}
 use Rattle.vx_table.specs.Forms.{Form}
 use Rattle.vx_table.specs.Values.{Follows}
-use Rattle.vx_table.specs.Spelling.{BeginsCode, Misses, BeginsField, Spells, Reaches, IsRefused, item_of, items_along}
+use Rattle.vx_table.specs.Spelling.{BeginsCode, Misses, BeginsField, Spells, Reaches, IsRefusedField, item_of, items_along}
 
 -- What taking the code of one field answers.
 abbrev pub TakesCode : Coding ℕ → Place → Result ℤ BitCause → Place → Type 0
@@ -21,14 +21,14 @@ TakesCode coding old (Err cause) new = Misses coding (taken old) old.left cause 
 -- What taking a field answers: its value, or its refusal, where all is as it was.
 abbrev pub TakesField : Cell ℕ → Place → Result ℤ Refusal → Place → Type 0
 TakesField cell old (Ok v) new = BeginsField cell old.total v old.left new.left × (new.total ≡ old.total)
-TakesField cell old (Err r) new = IsRefused cell old.total old.left r × (new ≡ old)
+TakesField cell old (Err r) new = IsRefusedField cell old.total old.left r × (new ≡ old)
 
 -- What a reader does at one field: where it answers an error, it stands there still.
 abbrev pub ReadsField : Place → List Item → Cell ℕ → Result ℤ ReadError → Place → List Item → Type 0
 ReadsField old items cell (Ok v) new after = BeginsField cell old.total v old.left new.left × (new.total ≡ old.total)
     × (after ≡ items ++ item_of cell v)
 ReadsField old items cell (Err errors.Memory) new after = (new ≡ old) × (after ≡ items)
-ReadsField old items cell (Err (errors.Refused r)) new after = IsRefused cell old.total old.left r × (new ≡ old) × (after ≡ items)
+ReadsField old items cell (Err (errors.Refused r)) new after = IsRefusedField cell old.total old.left r × (new ≡ old) × (after ≡ items)
 
 -- The bits between the two places are the spelling of values of the form, and their items were gained.
 pub record IsFound {A : Type 0} (form : Form A) (old : Place) (items : List Item) (new : Place) (after : List Item) : Type 0 where
@@ -50,7 +50,7 @@ pub record IsFirstRefusal {A : Type 0} (form : Form A) (old : Place) (items : Li
     (r : Refusal) : Type 0 where
   pub cell : Cell ℕ
   pub stops : StopsAt form old items new after cell
-  pub refused : IsRefused cell old.total new.left r
+  pub refused : IsRefusedField cell old.total new.left r
 
 -- What a reader has read where memory runs out: a front up to a field that comes next, or all of it, where it takes memory behind
 -- the last field.
@@ -58,10 +58,10 @@ abbrev pub IsCutShort : {A : Type 0} → Form A → Place → List Item → Plac
 IsCutShort form old items new after = ((cell : Cell ℕ) × StopsAt form old items new after cell) ⊎ IsFound form old items new after
 
 -- What a reader of a form answers, and where it and the items are then.
-abbrev pub IsRead : {A B : Type 0} → Form A → Place → List Item → Result B ReadError → Place → List Item → Type 0
-IsRead form old items (Ok b) new after = IsFound form old items new after
-IsRead form old items (Err errors.Memory) new after = IsCutShort form old items new after
-IsRead form old items (Err (errors.Refused r)) new after = IsFirstRefusal form old items new after r
+abbrev pub IsReadingAnswer : {A B : Type 0} → Form A → Place → List Item → Result B ReadError → Place → List Item → Type 0
+IsReadingAnswer form old items (Ok b) new after = IsFound form old items new after
+IsReadingAnswer form old items (Err errors.Memory) new after = IsCutShort form old items new after
+IsReadingAnswer form old items (Err (errors.Refused r)) new after = IsFirstRefusal form old items new after r
 
 -- What a reader answers for values that the bits spell.
 abbrev pub IsAnswered : {B : Type 0} → Result B ReadError → Type 0 → Type 0
@@ -79,13 +79,13 @@ IsRefusedWith (Err (errors.Refused q)) r P = (q ≡ r) × P
 pub record Reads {A B : Type 0} (form : Form A) (old : Place) (items : List Item) (result : Result B ReadError) (new : Place)
     (after : List Item) : Type 0 where
   -- what it answers is so;
-  pub is : IsRead form old items result new after
+  pub is : IsReadingAnswer form old items result new after
   -- whatever the bits begin with the spelling of is answered, and exactly that is taken;
   pub only : (values : List ℤ) (rest : List Bool) → Spells old.total form values old.left rest
       → IsAnswered result ((new.left ≡ rest) × (after ≡ items ++ items_along form values))
   -- where the next field behind a front is refused, that is the refusal, and the reader stands at that field.
   pub refusal : (values : List ℤ) (cell : Cell ℕ) (rest : List Bool) (r : Refusal) → Reaches old.total form values old.left cell rest
-      → IsRefused cell old.total rest r → IsRefusedWith result r ((new.left ≡ rest) × (after ≡ items ++ items_along form values))
+      → IsRefusedField cell old.total rest r → IsRefusedWith result r ((new.left ≡ rest) × (after ≡ items ++ items_along form values))
 
 -- The values that the bits begin with the spelling of go through the form to this end.
 abbrev pub LeadsTo : {A : Type 0} → Form A → Place → A → Type 0
@@ -110,5 +110,5 @@ as_read (Ok b) = Ok b
 as_read (Err r) = Err (errors.Refused r)
 
 -- The answer, whole, of what passes over a form: a reader's, whatever items it has, which takes no memory.
-pub record Passes {A B : Type 0} (form : Form A) (old : Place) (result : Result B Refusal) (new : Place) : Type 0 where
+pub record PassesOver {A B : Type 0} (form : Form A) (old : Place) (result : Result B Refusal) (new : Place) : Type 0 where
   pub reads : (items : List Item) → (after : List Item) × Reads form old items (as_read result) new after

@@ -15,7 +15,7 @@ use Rattle.vx_table.specs.EachField.{EachField}
 use Rattle.vx_table.specs.Depends.{has, Inside, Agree, Alike, Carries, Leaves}
 use Rattle.vx_table.specs.Claims.{knows_formula, hides, sections_hide}
 use Rattle.vx_table.specs.Shown.{shown_items}
-use Rattle.vx_table.specs.Again.{AllShown, AlwaysShown}
+use Rattle.vx_table.specs.laws.Again.{AllShown, AlwaysShown}
 use Rattle.vx_table.specs.Rewritten.{other_items, IsRewritten}
 
 -- These are the items of values that go through the form.

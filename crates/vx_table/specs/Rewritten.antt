@@ -1,5 +1,6 @@
 -- A structure rewritten: some fields as another value of it has them, the others as stated; and what makes it.
 use Rattle.std.specs.Prelude.{◌≡◌, ℕ, ℤ, Bool, true, not, ◌&&◌, ◌||◌, IsTrue, List, [], ◌++◌, filter, Option, Some, None, Result, Ok, Err}
+use Rattle.std.specs.Prelude.{cond}
 use Rattle.vx_bits.specs.declared.list.Item.{Item}
 use Rattle.vx_table.specs.declared.rows.Cell.{Cell}
 use Rattle.vx_table.specs.declared.writer.SpellError.{SpellError}
@@ -118,3 +119,7 @@ abbrev pub MadeIsRewritten : Type 0
 MadeIsRewritten = (form : Form (List ℕ)) (old new : Sources) (after : List Item)
     → RewritesInto {B = Unit {0}} form old [] (Ok tt) new after → new.shown ≡ [] → new.others ≡ []
     → IsRewritten form old.names old.shown old.others after
+
+-- items that stand only where something holds
+abbrev pub where_so : Bool → List Item → List Item
+where_so holds items = cond holds items []

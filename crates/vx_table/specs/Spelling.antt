@@ -112,11 +112,11 @@ reported (faults.Limit code) of bit = refusals.Limit code
 reported (faults.Structure code) of bit = refusals.Structure code 0 0
 
 -- The field is refused where the rest begins: no code begins, or that of a value which breaks the range.
-pub data IsRefused (cell : Cell ℕ) (total : ℕ) (rest : List Bool) : Refusal → Type 0 where
+pub data IsRefusedField (cell : Cell ℕ) (total : ℕ) (rest : List Bool) : Refusal → Type 0 where
   missed : {cause : BitCause} → Misses cell.coding (total - length rest) rest cause
-      → IsRefused cell total rest (refusals.Syntax cell.field (total - length rest) cause)
+      → IsRefusedField cell total rest (refusals.Syntax cell.field (total - length rest) cause)
   broken : {v : ℤ} {behind : List Bool} {fault : Fault} → BeginsCode cell.coding total v rest behind → fault_of cell.limits v ≡ Some fault
-      → IsRefused cell total rest (reported fault cell.field (total - length rest))
+      → IsRefusedField cell total rest (reported fault cell.field (total - length rest))
 
 -- a value as an item; a gap has none
 abbrev pub one_item : ℕ → Coding ℕ → ℤ → List Item

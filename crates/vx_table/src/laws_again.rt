@@ -1,5 +1,5 @@
 //! Laws of the same bits again: functions that do nothing, each with a law as its contract.
-ghost use Rattle.vx_table.specs.Again.{FollowsAgain, ReadsAgain, StopsAgain, AnswersAgain, TablesShow, SectionsShow};
+ghost use Rattle.vx_table.specs.laws.Again.{FollowsAgain, ReadsAgain, StopsAgain, AnswersAgain, TablesShow, SectionsShow};
 
 /// Values that follow one of two alike forms, all of whose fields are shown, follow the other, with the same items and
 /// bits, to an end that agrees.

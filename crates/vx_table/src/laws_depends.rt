@@ -1,5 +1,5 @@
 //! Laws of what fields depend on: functions that do nothing, each with a law as its contract.
-ghost use Rattle.vx_table.specs.Chains.{TablesCarry, SectionsCarry, SetsCarry, StepsCarry, CarriesTogether, CarriesPresent, ChainsDepend};
+ghost use Rattle.vx_table.specs.laws.Chains.{TablesCarry, SectionsCarry, SetsCarry, StepsCarry, CarriesTogether, CarriesPresent, ChainsDepend};
 ghost use Rattle.vx_table.specs.Shown.{CellsFollowItems, CellsFollowKept, KeptTellsKept, ScopesFollowItems, AlikeTogether};
 
 /// Two values of alike forms with the same items of shown fields have the same shown fields, each with the same

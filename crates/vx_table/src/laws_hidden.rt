@@ -1,5 +1,5 @@
 //! Laws of fields that numbers hide: functions that do nothing, each with laws as its contract.
-ghost use Rattle.vx_table.specs.Absence.{TablesHide, SectionsHide, HiddenTogether, HiddenPresent, SetsHide, LeftHide, HiddenHaveNoItems};
+ghost use Rattle.vx_table.specs.laws.Absence.{TablesHide, SectionsHide, HiddenTogether, HiddenPresent, SetsHide, LeftHide, HiddenHaveNoItems};
 
 /// Where some numbers are 0, a table has no field that stands under conditions which are then 0, and so has a structure.
 pub fn fields_hidden()

@@ -1,5 +1,5 @@
 //! Laws of what a table means, row by row: functions that do nothing, each with a law as its contract.
-ghost use Rattle.vx_table.specs.Rows.{EndsWithoutRows, BeginsWithField, BeginsWithBlock, BeginsWithName};
+ghost use Rattle.vx_table.specs.laws.Rows.{EndsWithoutRows, BeginsWithField, BeginsWithBlock, BeginsWithName};
 
 /// A table is its first row and then the rest: a field, a block with the rows behind it, or a name.
 pub fn first_row_first()

@@ -1,7 +1,7 @@
 //! Laws of spelling, which hold of all tables: functions that do nothing, each with a law as its contract.
-ghost use Rattle.vx_table.specs.Laws.{ReadsOneWay, AnswersOneWay, AnswersAlways, SpellsBothWays, ReachesBothWays, ReadsBack, SpellsApart, ItemsApart, FollowsTogether, ItemsTogether, BitsTogether, SpellsTogether};
-ghost use Rattle.vx_table.specs.Bounds.{LieInRange, PartsLieInRange};
-ghost use Rattle.vx_table.specs.Trailing.{ClosesWithoutTrailing, ClosesAtTheEnd, PartsCloseWithoutTrailing, PartsCloseAtTheEnd, TablesStop, SectionsStop, StopsTogether, StopsAtBoundary, StopsInNoZero};
+ghost use Rattle.vx_table.specs.laws.Spelling.{ReadsOneWay, AnswersOneWay, AnswersAlways, SpellsBothWays, ReachesBothWays, ReadsBack, SpellsApart, ItemsApart, FollowsTogether, ItemsTogether, BitsTogether, SpellsTogether};
+ghost use Rattle.vx_table.specs.laws.Bounds.{LieInRange, PartsLieInRange};
+ghost use Rattle.vx_table.specs.laws.Trailing.{ClosesWithoutTrailing, ClosesAtTheEnd, PartsCloseWithoutTrailing, PartsCloseAtTheEnd, TablesStop, SectionsStop, StopsTogether, StopsAtBoundary, StopsInNoZero};
 
 /// Bits that begin with a spelling tell the values and what follows.
 pub fn one_reading()

@@ -3,7 +3,7 @@
 ghost use Rattle.std.specs.Prelude.{OnOk};
 ghost use Rattle.vx_table.specs.Forms.{form_of};
 ghost use Rattle.vx_table.specs.Parts.{parts_form};
-ghost use Rattle.vx_table.specs.Reading.{PassesField, Passes, LeadsTo};
+ghost use Rattle.vx_table.specs.Reading.{PassesField, PassesOver, LeadsTo};
 
 use crate::parts::{Part, code_parts};
 use crate::reader::take_field;
@@ -29,7 +29,7 @@ impl<'a> Coder<()> for BitReader<'a> {
 ///
 /// The first refusal; `bits` then stands at its field, and nothing is said of `scope`.
 pub fn pass_table(table: &[Row], scope: &mut Scope, bits: &mut BitReader<'_>) -> Result<(), Refusal>
-    ensures answer { Passes (form_of table.now scope.old) bits.old result bits.new }
+    ensures answer { PassesOver (form_of table.now scope.old) bits.old result bits.new }
     ensures scope { OnOk result (LeadsTo (form_of table.now scope.old) bits.old scope.new) }
 {
     code_table(table, scope, bits, &mut ())
@@ -45,7 +45,7 @@ pub fn pass_parts(
     scope: &mut Scope,
     bits: &mut BitReader<'_>,
 ) -> Result<(), Refusal>
-    ensures answer { Passes (parts_form parts.now scope.old) bits.old result bits.new }
+    ensures answer { PassesOver (parts_form parts.now scope.old) bits.old result bits.new }
     ensures scope { OnOk result (LeadsTo (parts_form parts.now scope.old) bits.old scope.new) }
 {
     code_parts(parts, scope, bits, &mut ())

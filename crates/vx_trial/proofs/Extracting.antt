@@ -15,7 +15,7 @@ use Rattle.vx_pic.specs.Written.{Plan, units_of}
 use Rattle.vx_assemble.specs.Feed.{Feeding}
 use Rattle.vx_write.specs.declared.fault.WriteError.{WriteError}
 use Rattle.vx_write.specs.declared.fault.WriteError.TheVariants as errors
-use Rattle.vx_extract.specs.Extracting.{Extracting, HasSlice, SameTask, Stands, Writes, WritesKept}
+use Rattle.vx_extract.specs.Extracting.{Extracting, HasSlice, SameTask, Stands, WritesPicture, WritesKept}
 use Rattle.vx_extract.specs.Rules.{is_kept, refusal_of}
 use Rattle.vx_extract.specs.Written.{AreExtracted, IsExtracted, IsExtraction}
 use Rattle.vx_gen.proofs.Making.{written_on}
@@ -32,14 +32,14 @@ module _ (q : Parts) (done : List Plan) (x x' : Extracting) (task : SameTask x x
   none_refused : (r : Refusal) → refusal_of x'.target x'.tid q ≡ Some r → ⊥
   none_refused r is = none-some r (sym has.rules ∙ (sym of_task ∙ is))
 
-  pub is_unbarred : (b b' : Option (List ℕ)) (n n' : ℕ) (result : Result (Unit {0}) WriteError) → Writes q done x' b b' n n' result → IsUnbarred result
+  pub is_unbarred : (b b' : Option (List ℕ)) (n n' : ℕ) (result : Result (Unit {0}) WriteError) → WritesPicture q done x' b b' n n' result → IsUnbarred result
   is_unbarred b b' n n' (Ok _) wrote = tt
   is_unbarred b b' n n' (Err errors.Memory) wrote = tt
   is_unbarred b b' n n' (Err errors.SinkFailed) wrote = tt
   is_unbarred b b' n n' (Err (errors.Refused r)) wrote = absurd (none_refused r wrote.0)
   is_unbarred b b' n n' (Err (errors.Stopped f)) wrote = absurd wrote
 
-  pub is_extracted : (bytes bytes' : List ℕ) (n n' : ℕ) → Writes q done x' (Some bytes) (Some bytes') n n' (Ok tt) → IsExtractedOn q done x x' bytes bytes'
+  pub is_extracted : (bytes bytes' : List ℕ) (n n' : ℕ) → WritesPicture q done x' (Some bytes) (Some bytes') n n' (Ok tt) → IsExtractedOn q done x x' bytes bytes'
   is_extracted bytes bytes' n n' wrote =
       let kept : is_kept x'.tid q ≡ true = ap (λ (t : ℕ). is_kept t q) (task.tid ∙ tid) ∙ has.kept in
       let some : HasSlice x'.target q = subst (λ (k : ℕ). HasSlice k q) (sym task.target) has.slice in

@@ -7,7 +7,7 @@ use Rattle.std.proofs.lemmas.Option.{none-some, same_Some}
 use Rattle.vx_pic.specs.Bytes.{AreSourcePictures}
 use Rattle.vx_pic.specs.Parts.{Parts, parts_of}
 use Rattle.vx_pic.specs.Readings.{Picture}
-use Rattle.vx_pic.specs.Resident.{planned_of, read_of}
+use Rattle.vx_pic.specs.Resident.{planned_of, readings_of_plans}
 use Rattle.vx_pic.specs.Written.{Plan, planned as planned_picture}
 use Rattle.vx_merge.specs.Merging.{IsBarred, Passes}
 use Rattle.vx_again.specs.Streams.{AreMerged, earlier, lasts}
@@ -16,7 +16,7 @@ use Rattle.vx_gen.specs.Laws.{GeneratedAreRead}
 use Rattle.vx_gen.specs.Pictures.{plan, plans}
 use Rattle.vx_gen.specs.Rounds.{AreGeneratedRounds, GeneratedAreNotBarred, corners, planned}
 use Rattle.vx_gen.specs.Rounds as generated
-use Rattle.vx_gen.specs.Shown.{parts}
+use Rattle.vx_gen.specs.Shown.{generated_parts}
 use Rattle.vx_gen.specs.Streams.{stream}
 use Rattle.vx_gen.proofs.InOrder.{corners_there, so_many}
 use Rattle.vx_gen.proofs.Seen.{one_shown}
@@ -40,7 +40,7 @@ module _ (seed n k : ℕ) where
   abbrev first : ℕ → List Picture
   first p = planned_of (plans seed n k p)
 
-  one_slice : (p : ℕ) → HasSlices (planned_picture (read_of (plans seed n k p)) (plan seed (n + 5 * p) k p))
+  one_slice : (p : ℕ) → HasSlices (planned_picture (readings_of_plans (plans seed n k p)) (plan seed (n + 5 * p) k p))
   one_slice p = record { tid = omega arith; some = omega arith }
 
   pub have_slices : (p : ℕ) → AllByRecursion HasSlices (first p)
@@ -79,15 +79,15 @@ module _ (seed pictures : ℕ) where
 
   -- round p
   is_round : (p : ℕ) (ks : List ℕ) (round : List Picture) → lasts (firsts (suc p) ks) ≡ map (λ q. Some q) round
-      → map parts_of round ≡ map (λ k. parts seed (start k + 5 * p) k p) ks
+      → map parts_of round ≡ map (λ k. generated_parts seed (start k + 5 * p) k p) ks
   is_round p [] [] is = refl
   is_round p [] (q ∷ round) is = absurd (omega (arith, ap (λ (l : List (Option Picture)). length l) is))
   is_round p (k ∷ ks) [] is = absurd (omega (arith, ap (λ (l : List (Option Picture)). length l) is))
   is_round p (k ∷ ks) (q ∷ round) is =
-      let here : Picture = planned_picture (read_of (plans seed (start k) k p)) (plan seed (start k + 5 * p) k p) in
+      let here : Picture = planned_picture (readings_of_plans (plans seed (start k) k p)) (plan seed (start k + 5 * p) k p) in
       let both = cons_parts (Some here) (Some q) (lasts (firsts (suc p) ks)) (map (λ x. Some x) round) is in
-      let one : parts_of q ≡ parts seed (start k + 5 * p) k p = sym (ap parts_of (same_Some here q both.0)) ∙ one_shown seed (start k) k p in
-      ap (λ (x : Parts). x ∷ map parts_of round) one ∙ ap (λ (l : List Parts). parts seed (start k + 5 * p) k p ∷ l) (is_round p ks round both.1)
+      let one : parts_of q ≡ generated_parts seed (start k + 5 * p) k p = sym (ap parts_of (same_Some here q both.0)) ∙ one_shown seed (start k) k p in
+      ap (λ (x : Parts). x ∷ map parts_of round) one ∙ ap (λ (l : List Parts). generated_parts seed (start k + 5 * p) k p ∷ l) (is_round p ks round both.1)
 
   module _ (n : ℕ) where
     abbrev ks : List ℕ

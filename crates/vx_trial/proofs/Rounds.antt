@@ -16,7 +16,7 @@ use Rattle.vx_assemble.specs.Held.{HasPicture, lent_by}
 use Rattle.vx_write.specs.declared.fault.WriteError.{WriteError}
 use Rattle.vx_write.specs.declared.fault.WriteError.TheVariants as errors
 use Rattle.vx_merge.specs.declared.corner.Corner.{Corner}
-use Rattle.vx_merge.specs.Merging.{IsBarred, Merging, Passes, SameTask, Stands, Writes}
+use Rattle.vx_merge.specs.Merging.{IsBarred, Merging, Passes, SameTask, Stands, WritesOneRound}
 use Rattle.vx_again.specs.Streams.{AreMerged, earlier, lasts}
 use Rattle.vx_gen.proofs.Making.{written_on}
 use Rattle.vx_trial.specs.inner.Feeds.{IsUnbarred, Lends, Waits}
@@ -93,7 +93,7 @@ passes_so round done x x' p task is =
 
 -- of a round that isn't barred
 pub is_unbarred : (round : List Parts) (done : List Plan) (x x' : Merging) (b b' : Option (List ℕ)) (n n' : ℕ) → SameTask x x'
-    → ((r : Refusal) → ¬ IsBarred x.corners x.level round done r) → (result : Result (Unit {0}) WriteError) → Writes round done x' b b' n n' result
+    → ((r : Refusal) → ¬ IsBarred x.corners x.level round done r) → (result : Result (Unit {0}) WriteError) → WritesOneRound round done x' b b' n n' result
     → IsUnbarred result
 is_unbarred round done x x' b b' n n' task none (Ok _) wrote = tt
 is_unbarred round done x x' b b' n n' task none (Err errors.Memory) wrote = tt
@@ -103,7 +103,7 @@ is_unbarred round done x x' b b' n n' task none (Err (errors.Stopped f)) wrote =
 
 -- and one that is written
 pub is_written : (round : List Parts) (done : List Plan) (x x' : Merging) (bytes bytes' : List ℕ) (n n' : ℕ) → SameTask x x'
-    → Writes round done x' (Some bytes) (Some bytes') n n' (Ok tt) → IsWrittenOn round done x x' bytes bytes'
+    → WritesOneRound round done x' (Some bytes) (Some bytes') n n' (Ok tt) → IsWrittenOn round done x x' bytes bytes'
 is_written round done x x' bytes bytes' n n' task wrote = record {
   plan = wrote.1.0;
   passes = passes_so round done x x' wrote.1.0 task wrote.1.1;

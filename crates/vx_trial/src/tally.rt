@@ -37,10 +37,6 @@ pub struct Tally {
 }
 
 /// Makes so many streams from a number, of so many pictures each, merges them side by side, extracts each region of the merge, and counts.
-///
-/// # Errors
-///
-/// Want of memory.
 pub fn trial(alloc: Global, seed: u32, sources: u32, pictures: u32) -> Result<Tally, AllocError>
     requires sources { (1 ≤ sources) × (sources ≤ 16) }
     requires pictures { (1 ≤ pictures) × (pictures ≤ 1000) }

@@ -5,10 +5,10 @@ use Rattle.vx_bits.specs.declared.list.Item.{Item}
 use Rattle.vx_layout.specs.declared.numbers.Numbers.{Numbers}
 use Rattle.vx_layout.specs.declared.rect.Rect.{Rect}
 use Rattle.vx_layout.specs.Bounds.{last}
-use Rattle.vx_layout.specs.Laws.{RegionIsListable}
+use Rattle.vx_layout.specs.laws.Layouts.{RegionIsListable}
 use Rattle.vx_layout.specs.Layouts.{HasLayout, subpic_at}
 use Rattle.vx_layout.specs.Rects.{CoversOnce, whole_picture}
-use Rattle.vx_layout.specs.Regions.{cut, region_of}
+use Rattle.vx_layout.specs.Regions.{cut_bounds, region_of}
 use Rattle.vx_layout.specs.Shapes.{AreListable}
 use Rattle.vx_layout.proofs.Moving.{last-cut}
 use Rattle.vx_layout.proofs.Nested.{same_numbers}
@@ -16,17 +16,17 @@ use Rattle.vx_fields.specs.declared.pps.TheConstants as pps_fields
 use Rattle.vx_table.specs.Loaded.{number}
 use Rattle.vx_table.specs.Scope.{is_set}
 use Rattle.vx_sps.specs.Set as sps
-use Rattle.vx_pps.specs.Laws.{picture_of}
+use Rattle.vx_pps.specs.Reshaped.{picture_of}
 use Rattle.vx_pps.specs.Pps as pps
 use Rattle.vx_pps.specs.declared.shape.PpsShape.{PpsShape}
 use Rattle.vx_pps.specs.Reshaped.{CanBeDivided, whole_flag}
-use Rattle.vx_pps.specs.Sets.{ReadSlicesAreListable}
+use Rattle.vx_pps.specs.laws.Sets.{ReadSlicesAreListable}
 use Rattle.vx_pic.specs.PictureLayout.{AnswersLayout, numbers_in, subpictures_of}
 
 -- the region as a picture of its own
 region_is : (n : Numbers) (k : ℕ) → picture_of (record { columns = (region_of n k).columns; rows = (region_of n k).rows }) (region_of n k).slices ≡ region_of n k
 region_is n k = same_numbers _ (region_of n k) refl refl refl
-    (ap (λ w. whole_picture w (last (cut n.rows (subpic_at n k).y (subpic_at n k).h)) ∷ []) (last-cut n.columns (subpic_at n k).x (subpic_at n k).w)
+    (ap (λ w. whole_picture w (last (cut_bounds n.rows (subpic_at n k).y (subpic_at n k).h)) ∷ []) (last-cut n.columns (subpic_at n k).x (subpic_at n k).w)
     ∙ ap (λ h. whole_picture (subpic_at n k).w h ∷ []) (last-cut n.rows (subpic_at n k).y (subpic_at n k).h))
 
 -- has a layout
@@ -37,16 +37,16 @@ has_layout regions n region has is some =
     (subst HasLayout (sym (region_is n 0)) (regions n 0 has some))
 
 -- and its slices can be listed
-pub is_listable : ReadSlicesAreListable → RegionIsListable → (s p : List Item) (n region : Numbers) (rects : List Rect) → pps.IsItems p → HasLayout n → n ≡ numbers_in s p
-    → pps.is_partitioned p ≡ true → pps.slices_of p ≡ Some rects → region ≡ region_of n 0 → 0 < length n.subpics → AreListable region.columns region.rows region.slices
+pub is_listable : ReadSlicesAreListable → RegionIsListable → (s p : List Item) (n region : Numbers) (rects : List Rect) → pps.ArePpsItems p → HasLayout n → n ≡ numbers_in s p
+    → pps.is_partitioned p ≡ true → pps.slice_list_of p ≡ Some rects → region ≡ region_of n 0 → 0 < length n.subpics → AreListable region.columns region.rows region.slices
 is_listable reads listables s p n region rects items has made is listed is_region some =
-    let columns : n.columns ≡ pps.columns_of p = ap (λ (m : Numbers). m.columns) made ∙ rw is refl in
-    let rows : n.rows ≡ pps.rows_of p = ap (λ (m : Numbers). m.rows) made ∙ rw is refl in
+    let columns : n.columns ≡ pps.tile_columns_of p = ap (λ (m : Numbers). m.columns) made ∙ rw is refl in
+    let rows : n.rows ≡ pps.tile_rows_of p = ap (λ (m : Numbers). m.rows) made ∙ rw is refl in
     let slices : n.slices ≡ rects =
-    ap (λ (m : Numbers). m.slices) made ∙ ap (λ b. cond b (unwrap_or (pps.slices_of p) (subpictures_of s)) (whole_picture (sps.columns_of s) (sps.rows_of s) ∷ [])) is
+    ap (λ (m : Numbers). m.slices) made ∙ ap (λ b. cond b (unwrap_or (pps.slice_list_of p) (subpictures_of s)) (whole_picture (sps.ctu_columns_of s) (sps.ctu_rows_of s) ∷ [])) is
     ∙ ap (λ o. unwrap_or o (subpictures_of s)) listed
     in
-    let cover : CoversOnce rects (last (pps.columns_of p)) (last (pps.rows_of p)) = rw (← slices, ← columns, ← rows) has.faultless.slices in
+    let cover : CoversOnce rects (last (pps.tile_columns_of p)) (last (pps.tile_rows_of p)) = rw (← slices, ← columns, ← rows) has.faultless.slices in
     let all = reads p rects items listed cover in
     subst (λ (r : Numbers). AreListable r.columns r.rows r.slices) (sym is_region) (listables n 0 has some (rw (columns, rows, slices) all))
 

@@ -48,8 +48,8 @@ fn are_same(a: &Fields, b: &Fields) -> bool
 
 /// The items of sets are those of sets.
 fn are_sets(sets: &Sets)
-    ensures sps { sps_set.IsItems sets.now.sps }
-    ensures pps { pps_set.IsItems sets.now.pps }
+    ensures sps { sps_set.AreSpsItems sets.now.sps }
+    ensures pps { pps_set.ArePpsItems sets.now.pps }
 {
     let _ = sets.sps.fields();
     let _ = sets.pps.fields();

@@ -6,7 +6,7 @@ ghost use Rattle.vx_layout.specs.Bounds.{last};
 ghost use Rattle.vx_layout.specs.Layouts.{HasLayout};
 ghost use Rattle.vx_layout.specs.Shapes.{AreListable};
 ghost use Rattle.vx_pic.specs.PictureLayout.{AnswersLayout};
-ghost use Rattle.vx_pps.specs.Laws.{picture_of};
+ghost use Rattle.vx_pps.specs.Reshaped.{picture_of};
 ghost use Rattle.vx_pps.specs.Reshaped.{CanBeDivided, IsSize};
 
 use crate::fault::LineFault;

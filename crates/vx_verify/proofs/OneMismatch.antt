@@ -9,7 +9,7 @@ use Rattle.vx_pic.specs.Inputs.{Input, inputs_in}
 use Rattle.vx_pic.specs.Parts.{Parts}
 use Rattle.vx_verify.specs.declared.mismatch.Mismatch.{Mismatch}
 use Rattle.vx_verify.specs.declared.mismatch.Mismatch.TheVariants as mismatches
-use Rattle.vx_verify.specs.Verified.{Check, IsFirst, DiffersAt, TellsInput, counts, corners, slices, inputs, MismatchIsOne}
+use Rattle.vx_verify.specs.Verified.{Check, IsFirst, DiffersAt, TellsInput, count_check, corner_check, slice_check, input_check, MismatchIsOne}
 
 -- ---- the first check that a file fails
 
@@ -103,5 +103,5 @@ input_one finished round (suc k) m other p q =
 
 pub mismatch_one : MismatchIsOne
 mismatch_one spots finished round m other p q =
-    first_one (suc (length round)) (counts finished round ∷ corners spots finished ∷ slices finished round ∷ inputs finished round ∷ [])
+    first_one (suc (length round)) (count_check finished round ∷ corner_check spots finished ∷ slice_check finished round ∷ input_check finished round ∷ [])
     (λ k a b x y. x ∙ sym y, (λ k a b x y. x ∙ sym y, (λ k a b x y. x ∙ sym y, (input_one finished round, tt)))) m other p q

@@ -58,19 +58,19 @@ IsFirst n (c ∷ checks) m =
 abbrev pub IsAlone : ℕ → Parts → Type 0
 IsAlone k q = subpics_of q.sps ≡ 1
 
-abbrev pub counts : Parts → List Parts → Check
-counts finished round = record {
+abbrev pub count_check : Parts → List Parts → Check
+count_check finished round = record {
   fails = Fails (subpics_of finished.sps ≢ length round) round IsAlone;
   tells = λ file m. m ≡ mismatches.Count file;
 }
 
 -- C2: subpicture k doesn't stand at the place of source k.
-abbrev pub StandsAt : Parts → ℕ → Spot → Type 0
-StandsAt finished k spot = corner_in finished k ≡ spot
+abbrev pub StandsAtSpot : Parts → ℕ → Spot → Type 0
+StandsAtSpot finished k spot = corner_in finished k ≡ spot
 
-abbrev pub corners : List Spot → Parts → Check
-corners spots finished = record {
-  fails = Fails ⊥ spots (StandsAt finished);
+abbrev pub corner_check : List Spot → Parts → Check
+corner_check spots finished = record {
+  fails = Fails ⊥ spots (StandsAtSpot finished);
   tells = λ file m. m ≡ mismatches.Rect file;
 }
 
@@ -78,8 +78,8 @@ corners spots finished = record {
 abbrev pub HasAsMany : Parts → ℕ → Parts → Type 0
 HasAsMany finished k q = length (inputs_in finished k) ≡ length (inputs_in q 0)
 
-abbrev pub slices : Parts → List Parts → Check
-slices finished round = record {
+abbrev pub slice_check : Parts → List Parts → Check
+slice_check finished round = record {
   fails = Fails ⊥ round (HasAsMany finished);
   tells = λ file m. m ≡ mismatches.Slices file;
 }
@@ -102,8 +102,8 @@ TellsInput finished round zero m = ⊥
 TellsInput finished round (suc k) m = OfEntry round k
     (λ q. (i : ℕ) × (d : Difference) × DiffersAt (inputs_in finished k) (inputs_in q 0) i d × (m ≡ mismatches.Input (suc k) i d))
 
-abbrev pub inputs : Parts → List Parts → Check
-inputs finished round = record {
+abbrev pub input_check : Parts → List Parts → Check
+input_check finished round = record {
   fails = Fails ⊥ round (HasInputs finished);
   tells = TellsInput finished round;
 }
@@ -113,7 +113,7 @@ inputs finished round = record {
 -- The first check that a file fails, by its code, and the lowest such file.
 abbrev pub IsMismatch : List Spot → Parts → List Parts → Mismatch → Type 0
 IsMismatch spots finished round m =
-    IsFirst (suc (length round)) (counts finished round ∷ corners spots finished ∷ slices finished round ∷ inputs finished round ∷ []) m
+    IsFirst (suc (length round)) (count_check finished round ∷ corner_check spots finished ∷ slice_check finished round ∷ input_check finished round ∷ []) m
 
 -- A round that is verified has none.
 abbrev pub VerifiedHasNone : Type 0

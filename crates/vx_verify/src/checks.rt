@@ -15,7 +15,7 @@ use vx_pic::Picture;
 /// C1: the lowest file whose picture has another number of subpictures than it should.
 fn lowest_count(finished: &Picture<'_>, round: &[Picture<'_>]) -> Option<u16>
     requires { length round.now ≤ 64 }
-    ensures { IsLowestFile (suc (length round.now)) (words.counts finished.now round.now).fails
+    ensures { IsLowestFile (suc (length round.now)) (words.count_check finished.now round.now).fails
         ((subpics_of finished.now.sps ≡ length round.now) × AllOf round.now words.IsAlone) result }
 {
     if finished.sps().subpics() as usize != round.len() {
@@ -32,8 +32,8 @@ fn lowest_count(finished: &Picture<'_>, round: &[Picture<'_>]) -> Option<u16>
 /// Whether a subpicture stands at a place.
 fn stands_at(picture: &Picture<'_>, k: u32, spot: Spot) -> bool
     requires { k < subpics_of picture.now.sps }
-    ensures there { OnTrue result (words.StandsAt picture.now k spot) }
-    ensures elsewhere { OnFalse result (¬ words.StandsAt picture.now k spot) }
+    ensures there { OnTrue result (words.StandsAtSpot picture.now k spot) }
+    ensures elsewhere { OnFalse result (¬ words.StandsAtSpot picture.now k spot) }
 {
     let sps = picture.sps();
     let (rect, ctb) = (sps.rect(k), u64::from(sps.ctb()));
@@ -47,7 +47,7 @@ fn stands_at(picture: &Picture<'_>, k: u32, spot: Spot) -> bool
 fn lowest_moved(spots: &[Spot], finished: &Picture<'_>) -> Option<u16>
     requires few { length spots.now ≤ 64 }
     requires count { subpics_of finished.now.sps ≡ length spots.now }
-    ensures { IsLowestFile (suc (length spots.now)) (words.corners spots.now finished.now).fails (AllOf spots.now (words.StandsAt finished.now)) result }
+    ensures { IsLowestFile (suc (length spots.now)) (words.corner_check spots.now finished.now).fails (AllOf spots.now (words.StandsAtSpot finished.now)) result }
 {
     for k in 0..spots.len() {
         if !stands_at(finished, k as u32, spots[k]) {
@@ -58,10 +58,6 @@ fn lowest_moved(spots: &[Spot], finished: &Picture<'_>) -> Option<u16>
 }
 
 /// Whether a subpicture has as many slices as a source's picture.
-///
-/// # Errors
-///
-/// Want of memory.
 fn has_as_many(
     alloc: Global,
     finished: &Picture<'_>,
@@ -77,17 +73,13 @@ fn has_as_many(
 }
 
 /// C3: the lowest file whose picture has another number of slices than its subpicture.
-///
-/// # Errors
-///
-/// Want of memory.
 fn lowest_uneven(
     alloc: Global,
     finished: &Picture<'_>,
     round: &[Picture<'_>],
 ) -> Result<Option<u16>, AllocError>
     requires { length round.now ≤ 64 }
-    ensures { IfOk result (IsLowestFile (suc (length round.now)) (words.slices finished.now round.now).fails (AllOf round.now (words.HasAsMany finished.now))) }
+    ensures { IfOk result (IsLowestFile (suc (length round.now)) (words.slice_check finished.now round.now).fails (AllOf round.now (words.HasAsMany finished.now))) }
 {
     for k in 0..round.len() {
         let same = has_as_many(alloc, finished, k as u32, &round[k])?;
@@ -99,10 +91,6 @@ fn lowest_uneven(
 }
 
 /// What differs first in a round, or nothing, where it is verified.
-///
-/// # Errors
-///
-/// Want of memory.
 pub(crate) fn mismatch(
     alloc: Global,
     spots: &[Spot],

@@ -21,10 +21,6 @@ pub(crate) struct Differing {
 }
 
 /// Where the decoding inputs of two slices differ first.
-///
-/// # Errors
-///
-/// Want of memory.
 fn difference_at(
     alloc: Global,
     finished: &Picture<'_>,
@@ -43,10 +39,6 @@ fn difference_at(
 }
 
 /// The first slice at which subpicture `k` and a source's picture have other decoding inputs.
-///
-/// # Errors
-///
-/// Want of memory.
 fn differing_slice(
     alloc: Global,
     finished: &Picture<'_>,
@@ -71,10 +63,6 @@ fn differing_slice(
 }
 
 /// C4: the lowest source of which the decoding inputs of a slice differ, and the first such slice.
-///
-/// # Errors
-///
-/// Want of memory.
 pub(crate) fn input_mismatch(
     alloc: Global,
     finished: &Picture<'_>,

@@ -9,10 +9,6 @@ use vx_pic::Difference;
 
 /// The line of what differs in a picture, counted from 0, with its line feed: `C2 picture 5 source 1`, and of a slice
 /// `C4 picture 5 source 1 slice 0 part 10 field 0`. The source is the number of the file.
-///
-/// # Errors
-///
-/// Want of memory.
 pub fn mismatch_line(alloc: Global, mismatch: Mismatch, picture: u64) -> Result<Vec<u8>, AllocError>
     ensures { IfOk result (λ line. line.items ≡ mismatch_text mismatch picture) }
 {

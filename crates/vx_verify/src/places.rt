@@ -6,10 +6,6 @@ use std::alloc::{AllocError, Global};
 use vx_pic::Picture;
 
 /// The places of the slices of subpicture `k` of a picture, in their order.
-///
-/// # Errors
-///
-/// Want of memory.
 pub(crate) fn places(alloc: Global, picture: &Picture<'_>, k: u32) -> Result<Vec<u32>, AllocError>
     ensures places { IfOk result (λ places. ArePlaces picture.now k places.items) }
     ensures few { IfOk result (λ places. vec_len places ≤ 1000) }

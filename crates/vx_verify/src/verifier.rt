@@ -58,10 +58,6 @@ impl Verifier {
     ghost use Rattle.vx_verify.specs.declared.mismatch.VerifyFirst.{VerifyFirst as First};
 
     /// A verifier of sources that are to stand at these places, at most 64 of them, each of at most 16,383 luma samples across and down.
-    ///
-    /// # Errors
-    ///
-    /// Want of memory.
     pub fn new(alloc: Global, spots: &[Spot]) -> Result<Verifier, AllocError>
         requires { length spots.now ≤ 64 }
         ensures { IfOk result (λ v. v ≡ record { spots = spots.now; first = None }) }

@@ -2,7 +2,7 @@
 use Rattle.std.proofs.Common.{ℕ, zero, suc, ◌<◌, List, [], ◌∷◌, length, Some, refl, sym, subst, arith}
 use Rattle.vx_bits.specs.Codes.{EndsInNoZero}
 use Rattle.vx_bits.specs.declared.list.Item.{Item}
-use Rattle.vx_table.specs.Trailing.{EndsWithStop}
+use Rattle.vx_table.specs.laws.Trailing.{EndsWithStop}
 use Rattle.vx_table.proofs.Stopped.{last_byte}
 use Rattle.vx_sps.specs.Set as sps_set
 use Rattle.vx_sps.proofs.Written.{sps_stops}
@@ -15,10 +15,10 @@ use Rattle.vx_write.specs.Units.{IsUnitOf, IsSeiUnit}
 
 -- ---- sets
 
-pub sps_ends : (items : List Item) (bytes : List ℕ) → sps_set.IsSpelling items bytes → EndsInNoZero bytes
+pub sps_ends : (items : List Item) (bytes : List ℕ) → sps_set.IsSpsSpelling items bytes → EndsInNoZero bytes
 sps_ends items bytes is = last_byte bytes (subst (EndsWithStop 0) (sym is.bits) (sps_stops.at 0 is.set.values is.set.end is.set.follows))
 
-pub pps_ends : (items : List Item) (bytes : List ℕ) → pps.IsSpelling items bytes → EndsInNoZero bytes
+pub pps_ends : (items : List Item) (bytes : List ℕ) → pps.IsPpsSpelling items bytes → EndsInNoZero bytes
 pps_ends items bytes is = last_byte bytes (subst (EndsWithStop 0) (sym is.bits) (pps_stops.at 0 is.is.set.values is.is.end is.is.set.follows))
 
 -- ---- units

@@ -14,7 +14,7 @@ use Rattle.vx_table.proofs.EachField.{each_of_sections}
 use Rattle.vx_table.proofs.Loading.{number_of_last}
 use Rattle.vx_pps.specs.declared.partition.Partition.{Partition}
 use Rattle.vx_pps.specs.declared.tables.TheConstants as tables
-use Rattle.vx_pps.specs.Pps.{IsItems, front, partition_at, tools}
+use Rattle.vx_pps.specs.Pps.{ArePpsItems, before_tiles, partition_at, after_slices}
 use Rattle.vx_pps.proofs.Cutting.{cut_parts, each_weaker}
 use Rattle.vx_pps.proofs.Division.{IsDividing, each_division}
 use Rattle.vx_pic.specs.Sets.{pps_id}
@@ -33,8 +33,8 @@ abbrev behind : List Section
 behind = always tables.NAL_TYPES ∷ always tables.SIZE ∷ always tables.OUTPUT ∷ always tables.SUBPIC_IDS ∷ []
 
 -- the first field of the front, behind which it doesn't come again
-front_headed : (s : List ℕ) {w : List ℤ} {e : List ℕ} → Follows (sections_form front s) w e
-    → (v : ℤ) × (more : List Item) × (items_along (sections_form front s) w ≡ record { field = pps_pic_parameter_set_id; value = v } ∷ more) × Lacks pps_pic_parameter_set_id more
+front_headed : (s : List ℕ) {w : List ℤ} {e : List ℕ} → Follows (sections_form before_tiles s) w e
+    → (v : ℤ) × (more : List Item) × (items_along (sections_form before_tiles s) w ≡ record { field = pps_pic_parameter_set_id; value = v } ∷ more) × Lacks pps_pic_parameter_set_id more
 unfolding sections_form present form_of part one_field after value coding_at limits_at has_value item_of other_row
 front_headed s (through {cell} {goes} {v} {w} is more) = (
   v,
@@ -52,18 +52,18 @@ division_lacks of s below follows =
     items_lack of (each_weaker IsDividing (λ cell. (cell.field == of) ≡ false) (partition_at s) (λ cell is. let high = is.0 in ne_eqb cell.field of (λ same. omega (arith, high, same, below))) (each_division _ _ _)) follows
 
 -- the first item is the id, and no other
-headed : (items : List Item) → IsItems items → (v : ℤ) × (more : List Item) × (items ≡ record { field = pps_pic_parameter_set_id; value = v } ∷ more) × Lacks pps_pic_parameter_set_id more
+headed : (items : List Item) → ArePpsItems items → (v : ℤ) × (more : List Item) × (items ≡ record { field = pps_pic_parameter_set_id; value = v } ∷ more) × Lacks pps_pic_parameter_set_id more
 unfolding other_row
 headed items set =
     let p = cut_parts items set.end set.set in
     let f = front_headed fresh p.first.follows in
     let rest : List Item = p.division ++ p.tool_items in
     let division = subst (Lacks pps_pic_parameter_set_id) p.second.given (division_lacks pps_pic_parameter_set_id p.scope (omega arith) p.second.follows) in
-    let tool = subst (Lacks pps_pic_parameter_set_id) p.third.given (sections_lack pps_pic_parameter_set_id tools p.scope refl p.third.follows) in
+    let tool = subst (Lacks pps_pic_parameter_set_id) p.third.given (sections_lack pps_pic_parameter_set_id after_slices p.scope refl p.third.follows) in
     let lacking = λ (xs ys : List Item). All-append (λ (item : Item). (item.field == pps_pic_parameter_set_id) ≡ false) xs ys in
     (f.0, f.1 ++ rest, p.all ∙ ap (λ xs. xs ++ rest) (sym p.first.given ∙ f.2), lacking f.1 rest f.3 (lacking p.division p.tool_items division tool))
 
-pub with_id_is : (id : ℕ) (items : List Item) → id < 2 ^ 32 → IsItems items → pps_id (pps_with_id id items) ≡ id
+pub with_id_is : (id : ℕ) (items : List Item) → id < 2 ^ 32 → ArePpsItems items → pps_id (pps_with_id id items) ≡ id
 unfolding pps_id natural
 with_id_is id items small set =
     let h = headed items set in
@@ -74,7 +74,7 @@ with_id_is id items small set =
 -- ---- its slot
 
 -- with that id it is of the slot of all PPSs of the id
-pub with_id_slot : (id : ℕ) (items : List Item) → id < 2 ^ 32 → IsItems items → same_slot (a_pps_of id) (a_pps (pps_with_id id items)) ≡ true
+pub with_id_slot : (id : ℕ) (items : List Item) → id < 2 ^ 32 → ArePpsItems items → same_slot (a_pps_of id) (a_pps (pps_with_id id items)) ≡ true
 with_id_slot id items small set =
     eq-eqb (pps_id (record { field = pps_pic_parameter_set_id; value = pos id } ∷ [])) (pps_id (pps_with_id id items)) (pps_id_of id small ∙ sym (with_id_is id items small set))
 

@@ -17,26 +17,26 @@ use Rattle.vx_pps.specs.Pps as pps
 use Rattle.vx_pps.proofs.Cutting.{cut_parts, number_low}
 
 -- a number of an SPS below what its rows say
-below : (of bound : ℕ) (items : List Item) → sps.IsItems items → 0 < bound → sections_pass (row_below of bound) sps_sections ≡ true → number items of < bound
+below : (of bound : ℕ) (items : List Item) → sps.AreSpsItems items → 0 < bound → sections_pass (row_below of bound) sps_sections ≡ true → number items of < bound
 below of bound items set some test = subst (λ x. number x of < bound) (sym set.all)
     (number_below of bound sps_form set.values set.end some (sections_stay_below of bound sps_sections fresh some test) set.follows)
 
-pub sps_id_below : (items : List Item) → sps.IsItems items → number items sps_seq_parameter_set_id < 16
+pub sps_id_below : (items : List Item) → sps.AreSpsItems items → number items sps_seq_parameter_set_id < 16
 unfolding has_value code_below range_below row_below
 sps_id_below items set = below sps_seq_parameter_set_id 16 items set (omega arith) refl
 
-pub level_below : (items : List Item) → sps.IsItems items → number items general_level_idc < 256
+pub level_below : (items : List Item) → sps.AreSpsItems items → number items general_level_idc < 256
 unfolding has_value code_below range_below row_below
 level_below items set = below general_level_idc 256 items set (omega arith) refl
 
-pub pps_id_below : (items : List Item) → pps.IsItems items → number items pps_pic_parameter_set_id < 64
+pub pps_id_below : (items : List Item) → pps.ArePpsItems items → number items pps_pic_parameter_set_id < 64
 unfolding has_value code_below range_below row_below
 pps_id_below items set = number_low (cut_parts items set.end set.set) pps_pic_parameter_set_id 64 (omega arith) refl refl (λ low high. omega arith)
 
-pub referred_below : (items : List Item) → pps.IsItems items → number items pps_seq_parameter_set_id < 16
+pub referred_below : (items : List Item) → pps.ArePpsItems items → number items pps_seq_parameter_set_id < 16
 unfolding has_value code_below range_below row_below
 referred_below items set = number_low (cut_parts items set.end set.set) pps_seq_parameter_set_id 16 (omega arith) refl refl (λ low high. omega arith)
 
 -- a number that an SPS codes by ue(v)
-pub coded : (of : ℕ) (items : List Item) → sps.IsItems items → sections_pass (golomb_row of) sps_sections ≡ true → IsCodeNumber (number items of)
+pub coded : (of : ℕ) (items : List Item) → sps.AreSpsItems items → sections_pass (golomb_row of) sps_sections ≡ true → IsCodeNumber (number items of)
 coded of items set test = subst (λ x. IsCodeNumber (number x of)) (sym set.all) (coded_number of test set.follows)

@@ -8,8 +8,8 @@ use Rattle.vx_layout.specs.declared.rect.Rect.{Rect}
 use Rattle.vx_layout.specs.Faults.{height, width}
 use Rattle.vx_layout.specs.Frames.{Fills, frame_slices}
 use Rattle.vx_layout.specs.Layouts.{HasLayout, no_rect, subpic_at}
-use Rattle.vx_layout.specs.Rects.{CoversOnce, IsPart, holds, slices_of, whole_picture}
-use Rattle.vx_layout.specs.Regions.{counted_from, cut, moved_to, region_of}
+use Rattle.vx_layout.specs.Rects.{CoversOnce, IsPart, holds, slices_of_subpicture, whole_picture}
+use Rattle.vx_layout.specs.Regions.{counted_from, cut_bounds, moved_to, region_of}
 use Rattle.vx_layout.specs.Shapes.{AreListable, AreTilesOrRows, HasCtu}
 use Rattle.vx_layout.proofs.Counting.{count_by-cons}
 use Rattle.vx_layout.proofs.FrameSlices.{frame-counted}
@@ -40,9 +40,9 @@ slices_are (r ∷ rects) = ap (λ s. s ∷ frame_slices rects (map one_slice rec
 
 -- of rectangles that cover a picture once each is the only one that lies in it
 pub only_one : (rects : List Rect) (w h k : ℕ) → All (IsPart w h) rects → CoversOnce rects w h → k < length rects
-    → map (counted_from (get_or rects k no_rect)) (slices_of rects (get_or rects k no_rect)) ≡ one_slice (get_or rects k no_rect)
+    → map (counted_from (get_or rects k no_rect)) (slices_of_subpicture rects (get_or rects k no_rect)) ≡ one_slice (get_or rects k no_rect)
 only_one rects w h k parts cover short =
-    subst (λ rs. map (counted_from (get_or rects k no_rect)) (slices_of rs (get_or rects k no_rect)) ≡ get_or (map one_slice rects) k []) (slices_are rects)
+    subst (λ rs. map (counted_from (get_or rects k no_rect)) (slices_of_subpicture rs (get_or rects k no_rect)) ≡ get_or (map one_slice rects) k []) (slices_are rects)
     (frame-counted rects (map one_slice rects) w h k no_rect [] parts cover (fill_all w h rects parts) short)
     ∙ get_or-map one_slice rects k no_rect [] short
 
@@ -63,6 +63,6 @@ subpics_listable n k layout same short =
     let cover = layout.faultless.subpics in
     let part : IsPart (width n) (height n) s = cover.parts k no_rect short in
     let slices : (region_of n k).slices ≡ one_slice s
-    = ap (λ rs. map (counted_from s) (slices_of rs s)) same ∙ only_one n.subpics (width n) (height n) k cover.parts cover.once short in
-    rw slices (whole_listable (cut n.columns s.x s.w) (cut n.rows s.y s.h) s.w s.h part.wide part.high
+    = ap (λ rs. map (counted_from s) (slices_of_subpicture rs s)) same ∙ only_one n.subpics (width n) (height n) k cover.parts cover.once short in
+    rw slices (whole_listable (cut_bounds n.columns s.x s.w) (cut_bounds n.rows s.y s.h) s.w s.h part.wide part.high
     (cut_first n.columns s.x s.w) (cut_last n.columns s.x s.w) (cut_first n.rows s.y s.h) (cut_last n.rows s.y s.h))

@@ -10,7 +10,7 @@ use Rattle.vx_layout.specs.Layouts.{no_rect, subpic_at}
 use Rattle.vx_layout.specs.Rects.{IsPart}
 use Rattle.vx_sps.specs.Set as sps
 use Rattle.vx_sps.specs.Subpictures.{rect_of, subpics_of}
-use Rattle.vx_pps.specs.Sets.{SetsTellPartitions}
+use Rattle.vx_pps.specs.laws.Sets.{SetsTellPartitions}
 use Rattle.vx_pic.specs.Inputs.{luma_size}
 use Rattle.vx_pic.specs.Parts.{Parts}
 use Rattle.vx_pic.proofs.PictureSizes.{across, both_sizes, down}

@@ -5,7 +5,7 @@ use Rattle.vx_bits.specs.declared.list.Item.{Item}
 use Rattle.vx_bits.specs.Codes.{number, bits_of, to_boundary, one_from, EndsInNoZero}
 use Rattle.vx_bits.proofs.Bits.{fixed_of}
 use Rattle.vx_table.specs.Values.{bits_along}
-use Rattle.vx_table.specs.Trailing.{EndsWithStop}
+use Rattle.vx_table.specs.laws.Trailing.{EndsWithStop}
 use Rattle.vx_annexb.proofs.EscapedBytes.{escaped_exists}
 use Rattle.vx_sps.specs.declared.shape.SpsShape.{SpsShape}
 use Rattle.vx_sps.specs.Structure.{sps_form}
@@ -57,19 +57,19 @@ unit_of nal t rbsp ends =
 pub has_unit : (t : ℕ) (s : Set) → CanBeWritten s → (unit : List ℕ) × IsSetUnit t s unit
 has_unit t (an_sps items) is =
     let rbsp = in_bytes (bits_along sps_form 0 is.values) (sps_stops.at 0 is.values is.end is.follows) in
-    let spelling : sps_set.IsSpelling items rbsp.0 = record { set = is; bits = rbsp.1 } in
+    let spelling : sps_set.IsSpsSpelling items rbsp.0 = record { set = is; bits = rbsp.1 } in
     let unit = unit_of types.SPS_NUT 0 rbsp.0 (sps_ends items rbsp.0 spelling) in
     (unit.0, (rbsp.0, spelling, unit.1))
 has_unit t (a_pps items) is =
     let rbsp = in_bytes (bits_along pps_set.pps_form 0 is.set.values) (pps_stops.at 0 is.set.values is.end is.set.follows) in
-    let spelling : pps_set.IsSpelling items rbsp.0 = record { is = is; bits = rbsp.1 } in
+    let spelling : pps_set.IsPpsSpelling items rbsp.0 = record { is = is; bits = rbsp.1 } in
     let unit = unit_of types.PPS_NUT t rbsp.0 (pps_ends items rbsp.0 spelling) in
     (unit.0, (rbsp.0, spelling, unit.1))
 has_unit t (an_aps a) is = unit_of types.PREFIX_APS_NUT t (spelled a.kind a.id a.body) (body_ends (32 * a.kind + a.id) a.body is.2 is.3)
 
 -- rewritten items are those of a set
-pub sps_items : (source : List Item) (shape : SpsShape) (items : List Item) → sps_reshaped.IsReshaped source shape items → sps_set.IsItems items
+pub sps_items : (source : List Item) (shape : SpsShape) (items : List Item) → sps_reshaped.IsReshapedSps source shape items → sps_set.AreSpsItems items
 sps_items source shape items is = record { values = is.values; end = is.end; follows = is.follows; all = is.all }
 
-pub pps_items : (source : List Item) (shape : PpsShape) (items : List Item) → pps_reshaped.IsReshaped source shape items → pps_set.IsItems items
+pub pps_items : (source : List Item) (shape : PpsShape) (items : List Item) → pps_reshaped.IsReshapedPps source shape items → pps_set.ArePpsItems items
 pps_items source shape items is = record { end = is.rewritten.end; set = record { values = is.rewritten.values; follows = is.rewritten.follows; given = sym is.rewritten.all } }

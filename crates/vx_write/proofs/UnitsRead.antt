@@ -8,13 +8,13 @@ use Rattle.vx_bits.specs.declared.refusal.ReadError.TheVariants as errors
 use Rattle.vx_annexb.specs.Emulation.{IsEscaped, is_emulation, unescaped_to}
 use Rattle.vx_annexb.specs.NalUnit.{nal_unit_type}
 use Rattle.vx_aps.specs.Aps.{spelled}
-use Rattle.vx_aps.specs.Laws.{SpelledIsAps}
+use Rattle.vx_aps.specs.laws.Answers.{SpelledIsAps}
 use Rattle.vx_sei.specs.declared.message.Message.{Message}
 use Rattle.vx_sei.specs.Sei.{IsSei, is_carried, spelled_length}
-use Rattle.vx_sei.specs.Laws as sei
+use Rattle.vx_sei.specs.laws.Messages as sei
 use Rattle.vx_table.specs.Reading.{as_read}
 use Rattle.vx_sps.specs.Set as sps_set
-use Rattle.vx_pps.specs.Sets as pps_set
+use Rattle.vx_pps.specs.laws.Sets as pps_set
 use Rattle.vx_pic.specs.declared.unit_types.TheConstants as types
 use Rattle.vx_pic.specs.Units.{Class, class_of, is_reserved, pps_unit, prefix_aps, rbsp_of, sei_unit, sps_unit}
 use Rattle.vx_pic.specs.Rules.{Readers, message_limit}

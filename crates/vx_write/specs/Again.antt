@@ -11,7 +11,7 @@ use Rattle.vx_pic.specs.Units.{has_header_inside}
 use Rattle.vx_pic.specs.Sets.{Slot, names_of, referred_sps, sps_id}
 use Rattle.vx_pic.specs.Parts.{Parts, aps_at}
 use Rattle.vx_pic.specs.Rules.{Readers, message_limit, picture_limit, unit_size}
-use Rattle.vx_pic.specs.Written.{AreInOrder, HeadReads, Plan, Says, SeiReads, SeiUnit, Set, SetUnit, SliceReads, a_pps, an_aps, an_sps, eos_unit, slices_of}
+use Rattle.vx_pic.specs.Written.{AreInOrder, HeadReads, Plan, Says, SeiReads, SeiUnit, Set, SetUnit, SliceReads, a_pps, an_aps, an_sps, eos_unit, planned_slices}
 use Rattle.vx_pic.specs.Resident.{HasSet, HaveNamed, Sends}
 use Rattle.vx_pic.specs.H266.{AreOfH266}
 use Rattle.vx_write.specs.Units.{IsSeiUnit, IsSetUnit, IsUnitOf}
@@ -51,16 +51,16 @@ EndStands = CanStand eos_unit
 -- The header of a plan, and its slices, are read as it says: under its sets, of which the one refers to the other.
 pub record UnitsAreRead (R : Readers) (p : Plan) : Type 0 where
   pub head : HeadReads R p.begun.unit p.begun p.first
-  pub slices : AllByRecursion (SliceReads R p.begun p.kind.nal_type) (slices_of p)
+  pub slices : AllByRecursion (SliceReads R p.begun p.kind.nal_type) (planned_slices p)
   pub outside : AllByRecursion (λ s. has_header_inside s.unit ≡ false) p.more
   pub refers : referred_sps p.begun.pps ≡ sps_id p.begun.sps
   pub tid : p.kind.temporal_id ≡ p.begun.temporal_id
 
 -- Its slices are those of its layout, in order, and all units have no more bytes than a picture may have.
 pub record IsWholePlan (p : Plan) : Type 0 where
-  pub order : AreInOrder p.begun 0 (slices_of p)
-  pub all : length (slices_of p) ≡ length p.begun.layout.slices
-  pub size : unit_size p.begun.unit + sum_by (λ s. length s.unit) (slices_of p) ≤ picture_limit
+  pub order : AreInOrder p.begun 0 (planned_slices p)
+  pub all : length (planned_slices p) ≡ length p.begun.layout.slices
+  pub size : unit_size p.begun.unit + sum_by (λ s. length s.unit) (planned_slices p) ≤ picture_limit
 
 -- Of the sets that it needs, each of a type and an id of its own, among them its SPS and its PPS, those are sent that aren't resident.
 pub record SendsItsSets (needed : List SetUnit) (done : List Plan) (p : Plan) : Type 0 where
@@ -77,4 +77,4 @@ HasReadableSets q = (slot : Slot) (a : Aps) → aps_at q.bodies slot.kind slot.i
 -- The sets that are needed can be read again, and among them are all that the slices name.
 pub record HasItsBodies (needed : List SetUnit) (p : Plan) : Type 0 where
   pub readable : AllByRecursion (λ x. IsReadable x.set) needed
-  pub bodies : AllByRecursion (λ s. HaveNamed needed (names_of p.begun.pps p.begun.header s.header)) (slices_of p)
+  pub bodies : AllByRecursion (λ s. HaveNamed needed (names_of p.begun.pps p.begun.header s.header)) (planned_slices p)

@@ -8,8 +8,8 @@ use Rattle.vx_pic.specs.PictureLayout.{MakeLayout, ids_of, numbers_in}
 use Rattle.vx_pic.specs.Parts.{Parts}
 
 pub record AreInForce (q : Parts) : Type 0 where
-  pub sps : sps.IsItems q.sps
-  pub pps : pps.IsItems q.pps
+  pub sps : sps.AreSpsItems q.sps
+  pub pps : pps.ArePpsItems q.pps
   pub size : same_size q.sps q.pps ≡ true
   pub made : MakeLayout q.sps q.pps
   pub ids : q.ids ≡ ids_of q.sps q.pps

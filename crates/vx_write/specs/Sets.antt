@@ -29,6 +29,6 @@ unit_tid t (an_aps a) = t
 -- it can be written: the items are those of a set; an adaptation parameter set has a type and an id that fit, and a body that can
 -- end a unit
 abbrev pub CanBeWritten : Set → Type 0
-CanBeWritten (an_sps items) = sps_set.IsItems items
-CanBeWritten (a_pps items) = pps_set.IsItems items
+CanBeWritten (an_sps items) = sps_set.AreSpsItems items
+CanBeWritten (a_pps items) = pps_set.ArePpsItems items
 CanBeWritten (an_aps a) = (a.kind < 8) × (a.id < 32) × (0 < length a.body) × EndsInNoZero a.body

@@ -19,8 +19,8 @@ IsUnitOf nal_type temporal_id rbsp unit = IsEscaped (header_bytes nal_type tempo
 
 -- the unit of a set for a picture of this TemporalId: an SPS has TemporalId 0 (7.4.2.2)
 abbrev pub IsSetUnit : ℕ → Set → List ℕ → Type 0
-IsSetUnit tid (an_sps items) unit = (rbsp : List ℕ) × sps_set.IsSpelling items rbsp × IsUnitOf types.SPS_NUT 0 rbsp unit
-IsSetUnit tid (a_pps items) unit = (rbsp : List ℕ) × pps_set.IsSpelling items rbsp × IsUnitOf types.PPS_NUT tid rbsp unit
+IsSetUnit tid (an_sps items) unit = (rbsp : List ℕ) × sps_set.IsSpsSpelling items rbsp × IsUnitOf types.SPS_NUT 0 rbsp unit
+IsSetUnit tid (a_pps items) unit = (rbsp : List ℕ) × pps_set.IsPpsSpelling items rbsp × IsUnitOf types.PPS_NUT tid rbsp unit
 IsSetUnit tid (an_aps a) unit = IsUnitOf types.PREFIX_APS_NUT tid (spelled a.kind a.id a.body) unit
 
 -- one SEI unit with the messages, where there are any

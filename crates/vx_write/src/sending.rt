@@ -21,10 +21,6 @@ pub fn is_irap_or_gdr(nal_type: u8) -> bool
 }
 
 /// Makes the unit of a set, unless the set is resident.
-///
-/// # Errors
-///
-/// Want of memory.
 pub fn send(
     alloc: Global,
     slots: &mut Slots,

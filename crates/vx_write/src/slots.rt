@@ -192,10 +192,6 @@ impl Slots {
     }
 
     /// Puts a set, sent in a unit of this TemporalId, into the place of the one of its type and id.
-    ///
-    /// # Errors
-    ///
-    /// Want of memory.
     pub fn put(
         &mut self,
         alloc: Global,

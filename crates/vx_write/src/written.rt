@@ -65,10 +65,6 @@ fn same_bytes(a: &[u8], b: &[u8]) -> bool
 }
 
 /// Items once more.
-///
-/// # Errors
-///
-/// Want of memory.
 pub fn copied(alloc: Global, items: &Fields) -> Result<Fields, AllocError>
     ensures { IfOk result (λ copy. copy ≡ items.now) }
 {
@@ -87,10 +83,6 @@ fn aps_of(alloc: Global, kind: u8, id: u8, bytes: &[u8]) -> Result<Aps, AllocErr
 }
 
 /// A set to keep.
-///
-/// # Errors
-///
-/// Want of memory.
 pub(crate) fn kept(alloc: Global, set: NeededSet<'_>) -> Result<WrittenSet, AllocError>
     ensures { IfOk result (λ kept. set_kept kept ≡ set_lent set.entry) }
 {
@@ -199,10 +191,6 @@ pub fn tid_of_unit(set: NeededSet<'_>, temporal_id: u8) -> u8
 }
 
 /// The unit of a set, for a picture of this TemporalId.
-///
-/// # Errors
-///
-/// Want of memory.
 pub fn unit_of(alloc: Global, set: NeededSet<'_>, temporal_id: u8) -> Result<Vec<u8>, AllocError>
     requires tid { temporal_id < 7 }
     requires set { CanBeWritten (set_lent set) }

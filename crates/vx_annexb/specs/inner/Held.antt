@@ -2,7 +2,7 @@
 use Rattle.std.specs.Prelude.{◌≡◌, ℕ, ◌+◌, ◌<◌, ◌≤◌, Bool, List, Option, Some, None, length, drop, slice_range}
 use Rattle.vx_bits.specs.declared.refusal.Refusal.{Refusal}
 use Rattle.vx_annexb.specs.Places.{AreZeros, IsMark}
-use Rattle.vx_annexb.specs.ByteStream.{StartsAt, UnitPlace, RefusesUnit, Refuses, FollowsFrom, end_of}
+use Rattle.vx_annexb.specs.ByteStream.{StartsAt, UnitPlace, RefusesUnit, RefusesNext, FollowsFrom, end_of}
 
 -- a splitter's parts
 pub record Held : Type 0 where
@@ -37,7 +37,7 @@ IsDoomedBy g m s (Some r) = RefusesUnit (slice_range g s m) s r
 
 -- what has been sought of what comes next
 abbrev pub HasSought : Held → List ℕ → Option ℕ → Option Refusal → Type 0
-HasSought h g start (Some r) = Refuses g h.all h.from r
+HasSought h g start (Some r) = RefusesNext g h.all h.from r
 HasSought h g None None = AreZeros g h.from h.sought
 HasSought h g (Some s) None =
     StartsAt g h.from s × ((k : ℕ) → s ≤ k → k < h.sought → ¬ IsMark 1 g k) × IsDoomedBy g (h.base + 3) s h.doomed

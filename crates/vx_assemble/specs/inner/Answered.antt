@@ -5,7 +5,7 @@ use Rattle.vx_sh.specs.declared.numbers.SliceNumbers.{SliceNumbers}
 use Rattle.vx_pic.specs.Sets.{SliceHeader}
 use Rattle.vx_pic.specs.Readings.{Begun}
 use Rattle.vx_pic.specs.PictureLayout.{ids_of}
-use Rattle.vx_pic.specs.UnderSets.{header_of}
+use Rattle.vx_pic.specs.UnderSets.{picture_header_of}
 
 -- a slice header, and the place in its unit behind it, as they are read
 abbrev pub slice_seen : SliceValue × ℕ → SliceHeader
@@ -16,5 +16,5 @@ pub record AreOfBegun (n : SliceNumbers) (b : Begun) : Type 0 where
   pub sps : n.sps.now ≡ b.sps
   pub pps : n.pps.now ≡ b.pps
   pub layout : n.layout.now ≡ b.layout
-  pub header : n.header.now ≡ header_of b
+  pub header : n.header.now ≡ picture_header_of b
   pub ids : n.ids.now ≡ ids_of b.sps b.pps

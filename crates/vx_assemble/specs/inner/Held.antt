@@ -13,7 +13,7 @@ use Rattle.vx_pic.specs.Parts.{header_unit_in, stored_sets}
 use Rattle.vx_pic.specs.Readings.{Begun, Slice, Reading, vps_read, aps_read}
 use Rattle.vx_pic.specs.Readings.{stored_sps, stored_pps, is_ended, gathered}
 use Rattle.vx_pic.specs.Readings.{Picture, messages_of, Current, nothing, headed, going, current, pictures}
-use Rattle.vx_pic.specs.Rules.{unit_size, size_of}
+use Rattle.vx_pic.specs.Rules.{unit_size, picture_size}
 use Rattle.vx_assemble.specs.declared.fault.First.{First}
 use Rattle.vx_assemble.specs.declared.state.BegunPicture.{BegunPicture}
 use Rattle.vx_assemble.specs.declared.state.CurrentPicture.{CurrentPicture}
@@ -73,7 +73,7 @@ pub record IsGoing (s : CurrentPicture) (p : Picture) : Type 0 where
   pub begun : begun_in s ≡ Some p.begun
   pub kind : kind_at s.stage ≡ Some p.kind
   pub slices : map (slice_of s.bytes) s.slices ≡ p.slices
-  pub size : length s.bytes ≡ size_of p
+  pub size : length s.bytes ≡ picture_size p
   pub bodies : s.bodies ≡ stored_sets p.before
   pub messages : s.messages ≡ messages_of p
 

@@ -7,10 +7,10 @@ use Rattle.vx_bits.specs.declared.rules.TheConstants as rules
 use Rattle.vx_layout.specs.declared.numbers.Numbers.{Numbers}
 use Rattle.vx_aps.specs.declared.aps.Aps.{Aps}
 use Rattle.vx_pic.specs.Answers.{◌>>=◌, refuse_if}
-use Rattle.vx_pic.specs.Sets.{SliceHeader, Slot, place_of, names_of, slice_qp, is_qp}
+use Rattle.vx_pic.specs.Sets.{SliceHeader, Slot, slices_before, names_of, slice_qp, is_qp}
 use Rattle.vx_pic.specs.Readings.{Begun, Slice, Picture}
-use Rattle.vx_pic.specs.Rules.{Readers, structure, missing, size_of, picture_limit}
-use Rattle.vx_pic.specs.Parts.{IsReadAt, aps_at, stored_sets, slice_header_of, named_by, read_of, AreThere}
+use Rattle.vx_pic.specs.Rules.{Readers, structure, missing, picture_size, picture_limit}
+use Rattle.vx_pic.specs.Parts.{IsReadAt, aps_at, stored_sets, slice_header_of, aps_named_by, read_of, AreThere}
 use Rattle.vx_assemble.specs.declared.readers.ReadSlice.{ReadSlice}
 use Rattle.vx_assemble.specs.declared.state.BegunPicture.{BegunPicture}
 use Rattle.vx_assemble.specs.inner.Held.{begun_of}
@@ -30,7 +30,7 @@ all_there sets (slot ∷ slots) =
 
 -- the one at this place is the next one behind so many
 abbrev pub next_slice : Numbers → ℕ → SliceHeader → Result (Unit {0}) Refusal
-next_slice layout count h = refuse_if (not (place_of layout h == count)) (structure rules.SLICE_MISSING)
+next_slice layout count h = refuse_if (not (slices_before layout h == count)) (structure rules.SLICE_MISSING)
 
 -- what a slice of these items names, and its quantization parameter
 abbrev pub items_only : List Item → SliceHeader
@@ -65,7 +65,7 @@ abbrev pub joins_in_steps : Readers → Picture → List ℕ → ℕ → ℕ →
 joins_in_steps R p u t tid = do
   _ ← same_picture p.begun.temporal_id p.kind.nal_type t tid
   h ← R.slice p.kind.nal_type p.begun u
-  _ ← checked p.begun (stored_sets p.before) (length p.slices) (size_of p) (length u) h
+  _ ← checked p.begun (stored_sets p.before) (length p.slices) (picture_size p) (length u) h
   Ok (record { unit = u; header = h })
 
 -- what is known of a slice that has joined a picture of this type
@@ -74,5 +74,5 @@ pub record IsJoined (b : BegunPicture) (t : ℕ) (sets : List (Option Aps)) (siz
   pub subpic : r.header.subpic < length b.sets.layout.subpics
   pub header : r.header ≡ slice_header_of (begun_of b None) (header_read_as r)
   pub payload : r.payload < size
-  pub bodies : AreThere sets (named_by b.sets.pps b.header.fields r.header)
+  pub bodies : AreThere sets (aps_named_by b.sets.pps b.header.fields r.header)
   pub qp : is_qp b.sets.sps (slice_qp b.sets.pps b.header.fields (read_of r.header)) ≡ true

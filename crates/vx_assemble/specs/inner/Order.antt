@@ -12,8 +12,8 @@ use Rattle.vx_pic.specs.declared.accepted.Accepted.TheVariants as accepted
 use Rattle.vx_pic.specs.declared.picture.SliceSlot.{SliceSlot}
 use Rattle.vx_pic.specs.Sets.{same_size, slice_qp, is_qp, referred_sps}
 use Rattle.vx_pic.specs.PictureLayout.{numbers_in, ids_of, MakeLayout}
-use Rattle.vx_pic.specs.UnderSets.{header_of}
-use Rattle.vx_pic.specs.Parts.{IsPlaced, IsReadAt, AreThere, named_by, read_of, slice_header_of}
+use Rattle.vx_pic.specs.UnderSets.{picture_header_of}
+use Rattle.vx_pic.specs.Parts.{IsPlaced, IsReadAt, AreThere, aps_named_by, read_of, slice_header_of}
 use Rattle.vx_pic.specs.Rules.{picture_limit, message_limit}
 use Rattle.vx_assemble.specs.declared.in_force.InForce.{InForce}
 use Rattle.vx_assemble.specs.declared.state.BegunPicture.{BegunPicture}
@@ -51,7 +51,7 @@ AreKept sps pps (Some m) = AreStored sps pps m
 -- a picture header, with the lists that its items come to, and ids that there are
 pub record IsHeader (b : BegunPicture) : Type 0 where
   pub sets : AreMade b.sets
-  pub header : b.header ≡ header_of (begun_of b None)
+  pub header : b.header ≡ picture_header_of (begun_of b None)
   pub read : picture.IsHeader (structures b.sets.sps) (in_force b.sets.sps b.sets.pps) b.header
   pub small : NamesSmall b.header.fields
 
@@ -59,7 +59,7 @@ pub record IsHeader (b : BegunPicture) : Type 0 where
 pub record IsSlot (b : BegunPicture) (bytes : List ℕ) (sets : List (Option Aps)) (slot : SliceSlot) : Type 0 where
   pub placed : IsPlaced bytes slot
   pub subpic : slot.header.subpic < length b.sets.layout.subpics
-  pub bodies : AreThere sets (named_by b.sets.pps b.header.fields slot.header)
+  pub bodies : AreThere sets (aps_named_by b.sets.pps b.header.fields slot.header)
   pub qp : is_qp b.sets.sps (slice_qp b.sets.pps b.header.fields (read_of slot.header)) ≡ true
   pub header : slot.header ≡ slice_header_of (begun_of b None) (slice_of bytes slot).header
 

@@ -11,7 +11,7 @@ use Rattle.vx_fields.specs.declared.ph.TheConstants as ph
 use Rattle.vx_pic.specs.Sets.{SliceHeader, Slot, named, named_filters, names_of}
 use Rattle.vx_pic.specs.Readings.{Slice, Reading}
 use Rattle.vx_sh.specs.Whole.{At}
-use Rattle.vx_pic.specs.UnderSets.{at_sets}
+use Rattle.vx_sh.specs.InForce.{at_sets}
 use Rattle.vx_pic.specs.Parts.{IsReadAt, id_count, slice_header_of}
 use Rattle.vx_pic.specs.Told.{told_of}
 use Rattle.vx_assemble.specs.declared.readers.ReadSlice.{ReadSlice}

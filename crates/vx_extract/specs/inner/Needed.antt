@@ -8,7 +8,7 @@ use Rattle.vx_fields.specs.declared.ph.TheConstants as ph
 use Rattle.vx_fields.specs.declared.pps.TheConstants as pps
 use Rattle.vx_aps.specs.declared.aps.TheConstants as aps
 use Rattle.vx_pic.specs.Sets.{Slot, named, named_filters}
-use Rattle.vx_pic.specs.Parts.{Parts, SlicePart, AreThere, id_count, slot_of, named_by}
+use Rattle.vx_pic.specs.Parts.{Parts, SlicePart, AreThere, id_count, slot_of, aps_named_by}
 use Rattle.vx_pic.specs.Written.{Set, an_aps}
 use Rattle.vx_write.specs.declared.written.NeededAps.{NeededAps}
 use Rattle.vx_extract.specs.Written.{aps_of_slot, all_slots, is_named, named_in}
@@ -71,4 +71,4 @@ some_part (s ∷ more) = true
 pub record WalkedTo (q : Parts) (target : ℕ) (none flags : List Bool) (some : Bool) (i : ℕ) : Type 0 where
   pub marks : flags ≡ all_marked none (flat_map (λ s. own_names q.pps s.header.fields) (parts_to q target i))
   pub found : some ≡ some_part (parts_to q target i)
-  pub there : AreThere q.bodies (flat_map (λ s. named_by q.pps q.header.fields s.header) (parts_to q target i))
+  pub there : AreThere q.bodies (flat_map (λ s. aps_named_by q.pps q.header.fields s.header) (parts_to q target i))

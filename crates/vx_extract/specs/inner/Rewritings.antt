@@ -13,8 +13,8 @@ pub record IsRewritingOf (target : ℕ) (level : Option ℕ) (q : Parts) (made :
   pub source_pps : made.source_pps ≡ q.pps
   pub layout : q.layout ≡ numbers_in q.sps q.pps
   pub ids : q.ids ≡ ids_of q.sps q.pps
-  pub sps : sps_reshaped.IsReshaped q.sps (sps_shape q target level) made.sps
-  pub pps : pps_reshaped.IsReshaped q.pps (pps_shape q target) made.pps
+  pub sps : sps_reshaped.IsReshapedSps q.sps (sps_shape q target level) made.sps
+  pub pps : pps_reshaped.IsReshapedPps q.pps (pps_shape q target) made.pps
 
 -- they are those of some picture
 pub record IsRewriting (target : ℕ) (level : Option ℕ) (made : Rewritten) : Type 0 where

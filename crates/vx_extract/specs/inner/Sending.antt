@@ -21,7 +21,7 @@ sets_to q target sps pps place = an_sps sps ∷ a_pps pps ∷ needed_to q target
 pub record IsMade (target : ℕ) (level : Option ℕ) (q : Parts) (done : List Plan) (sets : List (List ℕ)) (sei : Option (List ℕ)) (slots : List Sent) : Type 0 where
   pub sps : List Item
   pub pps : List Item
-  pub sps_is : sps_reshaped.IsReshaped q.sps (sps_shape q target level) sps
-  pub pps_is : pps_reshaped.IsReshaped q.pps (pps_shape q target) pps
+  pub sps_is : sps_reshaped.IsReshapedSps q.sps (sps_shape q target level) sps
+  pub pps_is : pps_reshaped.IsReshapedPps q.pps (pps_shape q target) pps
   pub sent : AreSent q.kind.temporal_id (kept_for q.kind.nal_type (history_of done)) (needed_sets q target sps pps) slots sets
   pub sei_is : IsSeiUnit q.kind.temporal_id q.messages (option_map (λ unit. record { unit = unit; messages = q.messages }) sei)

@@ -2,11 +2,11 @@
 use Rattle.std.specs.Prelude.{ℕ, ◌==◌, List, ◌++◌, map, filter, slice_get, Option, option_to_list}
 use Rattle.vx_pic.specs.Parts.{Parts, SlicePart}
 use Rattle.vx_pic.specs.Written.{eos_units}
-use Rattle.vx_extract.specs.Written.{slices_in}
+use Rattle.vx_extract.specs.Written.{extracted_slices}
 
 -- the units of a picture's slices of the subpicture
 abbrev pub slice_units : Parts → ℕ → List (List ℕ)
-slice_units q target = map (λ s. s.unit) (slices_in q target)
+slice_units q target = map (λ s. s.unit) (extracted_slices q target)
 
 -- all units of a picture, where these are those of its sets and messages
 abbrev pub units_with : Parts → ℕ → List (List ℕ) → Option (List ℕ) → List (List ℕ)

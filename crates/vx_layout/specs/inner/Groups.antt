@@ -4,13 +4,13 @@ use Rattle.std.specs.List.{slice_index_or}
 use Rattle.vx_layout.specs.declared.rect.Rect.{Rect}
 use Rattle.vx_layout.specs.declared.numbers.Numbers.{Numbers}
 use Rattle.vx_layout.specs.Layouts.{HasLayout}
-use Rattle.vx_layout.specs.Rects.{fits, slices_of}
+use Rattle.vx_layout.specs.Rects.{fits, slices_of_subpicture}
 
 -- group i has the slices of subpicture i
 pub record AreGroups (groups : List (List Rect)) (slices subpics : List Rect) : Type 0 where
   pub long : length groups ≡ length subpics
   pub each : (i : ℕ) (d : Rect) (e : List Rect) → i < length subpics
-      → slice_index_or groups i e ≡ slices_of slices (slice_index_or subpics i d)
+      → slice_index_or groups i e ≡ slices_of_subpicture slices (slice_index_or subpics i d)
 
 -- the slice r was added to each group where it lies in the subpicture
 pub record Adds (before after : List (List Rect)) (r : Rect) (subpics : List Rect) : Type 0 where

@@ -22,11 +22,11 @@ use Rattle.vx_pic.specs.Parts.{Parts, SlicePart, read_of}
 use Rattle.vx_pic.specs.PictureLayout.{ids_of}
 use Rattle.vx_pic.specs.Readings.{Begun}
 use Rattle.vx_pic.specs.Sets.{filter_items, signed, slice_qp}
-use Rattle.vx_pic.specs.UnderSets.{header_of}
+use Rattle.vx_pic.specs.UnderSets.{picture_header_of}
 use Rattle.vx_merge.specs.declared.needed.NamedBodies.{NamedBodies}
 use Rattle.vx_merge.specs.declared.needed.RoundSets.{RoundSets}
 use Rattle.vx_merge.specs.Headers.{IsFront, ph_shape}
-use Rattle.vx_merge.specs.Needed.{id_of}
+use Rattle.vx_merge.specs.Needed.{id_of_body}
 use Rattle.vx_merge.specs.Rounds.{picture_at}
 use Rattle.vx_merge.specs.inner.Ready.{IsReadyAt, ids_in}
 
@@ -34,7 +34,7 @@ use Rattle.vx_merge.specs.inner.Ready.{IsReadyAt, ids_in}
 
 -- the id that the body takes which a picture has with this id
 abbrev pub new_id : NamedBodies → Parts → ℕ → ℕ
-new_id named q id = id_of (map (λ b. b.now) named.bodies) named.ids.items (unwrap_or (body_of q aps.ALF id) [])
+new_id named q id = id_of_body (map (λ b. b.now) named.bodies) named.ids.items (unwrap_or (body_of q aps.ALF id) [])
 
 -- an item with it, where its field names a set
 abbrev pub renamed : NamedBodies → Parts → Item → Item
@@ -65,7 +65,7 @@ pub record IsInForce (round : List Parts) (n : RoundSets) (numbers : SliceNumber
   pub type : numbers.nal_type ≡ (picture_at round 0).kind.nal_type
   pub sps : numbers.sps.now ≡ n.sps.now
   pub pps : numbers.pps.now ≡ n.pps.now
-  pub says : ph_reshaped.IsReshaped (picture_at round 0).header (ph_shape round (ids_in n)) n.sps.now n.pps.now numbers.header.now
+  pub says : ph_reshaped.IsReshapedPictureHeader (picture_at round 0).header (ph_shape round (ids_in n)) n.sps.now n.pps.now numbers.header.now
   pub is : IsHeader (structures n.sps.now) (in_force n.sps.now n.pps.now) numbers.header.now
   pub ids : numbers.ids.now ≡ ids_of n.sps.now n.pps.now
 
@@ -73,7 +73,7 @@ pub record IsInForce (round : List Parts) (n : RoundSets) (numbers : SliceNumber
 pub record IsBegun (round : List Parts) (n : RoundSets) (said : PictureHeader) (frame : Numbers) (b : Begun) : Type 0 where
   pub sps : b.sps ≡ n.sps.now
   pub pps : b.pps ≡ n.pps.now
-  pub header : header_of b ≡ said
+  pub header : picture_header_of b ≡ said
   pub layout : b.layout ≡ frame
   pub temporal_id : b.temporal_id ≡ (picture_at round 0).kind.temporal_id
 

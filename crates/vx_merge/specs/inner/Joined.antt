@@ -18,7 +18,7 @@ use Rattle.vx_merge.specs.Merging.{AreCorners}
 use Rattle.vx_merge.specs.Regions.{corners_in, ctb_of, layouts_in, placed_in}
 use Rattle.vx_merge.specs.Rounds.{picture_at}
 use Rattle.vx_merge.specs.Rules.{most_slices}
-use Rattle.vx_merge.specs.Shapes.{IsFrame, pps_shape, sps_shape}
+use Rattle.vx_merge.specs.Shapes.{IsFrame, frame_pps_shape, frame_sps_shape}
 use Rattle.vx_merge.specs.Slots.{pps_slots}
 
 -- What is known of a round that breaks no rule, from which its frame is shown to be there: regions and tile lines have no fault, each
@@ -40,8 +40,8 @@ pub record MakeFrame (corners : List Corner) (round : List Parts) (frame : Numbe
 
 -- Its sets can say what they are to say, and it is a layout.
 pub record HasShapes (corners : List Corner) (round : List Parts) (frame : Numbers) : Type 0 where
-  pub sps : (level : Option ℕ) → sps_reshaped.IsShape (ctb_of round) (sps_shape corners round level)
-  pub pps : (id : ℕ) → id < pps_slots → pps_reshaped.IsShape (picture_at round 0).pps (pps_shape corners round frame id)
+  pub sps : (level : Option ℕ) → sps_reshaped.IsShape (ctb_of round) (frame_sps_shape corners round level)
+  pub pps : (id : ℕ) → id < pps_slots → pps_reshaped.IsShape (picture_at round 0).pps (frame_pps_shape corners round frame id)
   pub layout : IsLayout frame
   pub limits : IsInLimits frame
 

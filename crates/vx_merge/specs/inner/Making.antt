@@ -9,12 +9,12 @@ use Rattle.vx_pic.specs.Parts.{Parts, SlicePart}
 use Rattle.vx_pic.specs.Readings.{Begun}
 use Rattle.vx_pic.specs.Resident.{history_of, kept_for}
 use Rattle.vx_pic.specs.Rules.{picture_limit, unit_size}
-use Rattle.vx_pic.specs.Written.{Plan, SetUnit, eos_units, slices_of, units_of}
+use Rattle.vx_pic.specs.Written.{Plan, SetUnit, eos_units, planned_slices, units_of}
 use Rattle.vx_write.specs.Slots.{AreLastOf, Sent}
 use Rattle.vx_merge.specs.declared.corner.Corner.{Corner}
 use Rattle.vx_merge.specs.declared.needed.RoundSets.{RoundSets}
 use Rattle.vx_merge.specs.declared.output.Made.{Made}
-use Rattle.vx_merge.specs.Headers.{HasHeader, IsFront, sourced}
+use Rattle.vx_merge.specs.Headers.{HasMergedHeader, IsFront, sourced}
 use Rattle.vx_merge.specs.Rounds.{picture_at}
 use Rattle.vx_merge.specs.Rules.{of_limit}
 use Rattle.vx_merge.specs.Verdict.{IsVerdict, Rule}
@@ -25,13 +25,13 @@ use Rattle.vx_merge.specs.inner.Ready.{ids_in}
 -- ---- units
 
 -- units of slices, each a front and a payload
-abbrev pub joined : (fronts payloads : List (List ℕ)) → List (List ℕ)
-joined [] payloads = []
-joined (front ∷ fronts) [] = []
-joined (front ∷ fronts) (payload ∷ payloads) = (front ++ payload) ∷ joined fronts payloads
+abbrev pub with_payloads : (fronts payloads : List (List ℕ)) → List (List ℕ)
+with_payloads [] payloads = []
+with_payloads (front ∷ fronts) [] = []
+with_payloads (front ∷ fronts) (payload ∷ payloads) = (front ++ payload) ∷ with_payloads fronts payloads
 
 abbrev pub slice_units : Made → List (List ℕ)
-slice_units m = joined (map (λ u. u.items) m.fronts.items) (map (λ b. b.now) m.payloads)
+slice_units m = with_payloads (map (λ u. u.items) m.fronts.items) (map (λ b. b.now) m.payloads)
 
 -- as many fronts as payloads
 abbrev pub HasPayloads : Made → Type 0
@@ -92,7 +92,7 @@ pub record AreHeaders (round : List Parts) (n : RoundSets) (frame : Numbers) (he
   pub layout : begun.layout ≡ frame
   pub temporal_id : begun.temporal_id ≡ (picture_at round 0).kind.temporal_id
   pub unit : begun.unit ≡ Some header_unit
-  pub header : HasHeader round (ids_in n) begun
+  pub header : HasMergedHeader round (ids_in n) begun
   pub slices : AllZip (λ x front. IsFront round (ids_in n) (picture_at round 0).kind.nal_type begun x.0 x.1 front) (sourced 0 round) fronts
 
 -- What is made of a round behind sets that were sent: a picture as it is to be written, and its units. These are the last sets then.
@@ -100,5 +100,5 @@ pub record IsMade (corners : List Corner) (level : Option ℕ) (round : List Par
   pub plan : Plan
   pub is : (done : List Plan) → history_of done ≡ history → AllByRecursion AreBytes (units_made m) → IsMerged corners level round done plan
   pub units : units_of plan ≡ units_made m
-  pub size : unit_size plan.begun.unit + sum_by (λ s. length s.unit) (slices_of plan) ≡ length m.header.items + size_of 0 (slice_units m)
+  pub size : unit_size plan.begun.unit + sum_by (λ s. length s.unit) (planned_slices plan) ≡ length m.header.items + size_of 0 (slice_units m)
   pub last : AreLastOf (kept_for plan.kind.nal_type history ++ plan.sent) slots

@@ -12,7 +12,7 @@ use Rattle.vx_merge.specs.Bodies.{has_lmcs, is_chroma_scaled}
 use Rattle.vx_merge.specs.Needed.{Ids, TakeIds, alf_bodies, lmcs_bodies, scaling_bodies}
 use Rattle.vx_merge.specs.Rounds.{picture_at}
 use Rattle.vx_merge.specs.Rules.{rules_of}
-use Rattle.vx_merge.specs.Shapes.{of_lowest, pps_shape, sps_shape}
+use Rattle.vx_merge.specs.Shapes.{of_lowest, frame_pps_shape, frame_sps_shape}
 use Rattle.vx_merge.specs.Slots.{pps_slots}
 use Rattle.vx_merge.specs.Verdict.{IsVerdict}
 use Rattle.vx_merge.specs.inner.Joined.{HasShapes, MakeFrame}
@@ -23,10 +23,10 @@ ids_in n = record { pps = n.pps_id; alf = n.alf.ids.items; lmcs = n.lmcs.ids.ite
 
 -- These are the sets that a round needs behind sets that count as sent, with the ids that they take.
 pub record AreNeeded (corners : List Corner) (level : Option ℕ) (round : List Parts) (frame : Numbers) (sent : List SetUnit) (n : RoundSets) : Type 0 where
-  pub sps : sps_reshaped.IsReshaped (picture_at round 0).sps (sps_shape corners round level) n.sps.now
+  pub sps : sps_reshaped.IsReshapedSps (picture_at round 0).sps (frame_sps_shape corners round level) n.sps.now
   pub plain : List Item
-  pub plain_is : pps_reshaped.IsReshaped (picture_at round 0).pps (pps_shape corners round frame 0) plain
-  pub pps : pps_reshaped.IsReshaped (picture_at round 0).pps (pps_shape corners round frame n.pps_id) n.pps.now
+  pub plain_is : pps_reshaped.IsReshapedPps (picture_at round 0).pps (frame_pps_shape corners round frame 0) plain
+  pub pps : pps_reshaped.IsReshapedPps (picture_at round 0).pps (frame_pps_shape corners round frame n.pps_id) n.pps.now
   pub pps_id : n.pps_id < pps_slots
   pub alf : map (λ b. b.now) n.alf.bodies ≡ alf_bodies round
   pub lmcs : map (λ b. b.now) n.lmcs.bodies ≡ lmcs_bodies round

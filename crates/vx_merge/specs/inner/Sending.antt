@@ -12,7 +12,7 @@ use Rattle.vx_write.specs.Sending.{AreOthers}
 use Rattle.vx_write.specs.Slots.{AreLastOf, Sent}
 use Rattle.vx_merge.specs.declared.needed.NamedBodies.{NamedBodies}
 use Rattle.vx_merge.specs.declared.needed.RoundSets.{RoundSets}
-use Rattle.vx_merge.specs.Needed.{alf_bodies, aps_at, by_ids, lmcs_bodies, scaling_bodies}
+use Rattle.vx_merge.specs.Needed.{alf_bodies, aps_of_body, by_ids, lmcs_bodies, scaling_bodies}
 use Rattle.vx_merge.specs.Slots.{TakeSlots, alf_slots, lmcs_slots, scaling_slots}
 use Rattle.vx_merge.specs.inner.Taking.{an_aps_of}
 
@@ -42,7 +42,7 @@ AreApart ids = (j k : ℕ) → j < k → k < length ids → slice_index ids j �
 pub record AreNamed (kind count t : ℕ) (slots : List Sent) (bodies : List (List ℕ)) (n : NamedBodies) : Type 0 where
   pub are : map (λ b. b.now) n.bodies ≡ bodies
   pub one_each : length n.ids.items ≡ length n.bodies
-  pub taken : (sent : List SetUnit) → AreLastOf sent slots → TakeSlots count (length bodies) t sent (aps_at kind bodies) n.ids.items
+  pub taken : (sent : List SetUnit) → AreLastOf sent slots → TakeSlots count (length bodies) t sent (aps_of_body kind bodies) n.ids.items
 
 -- ---- sending
 
@@ -53,8 +53,8 @@ pub record CanBeNamed (n : NamedBodies) : Type 0 where
 
 -- the sets can be written
 pub record CanBeSent (n : RoundSets) : Type 0 where
-  pub sps : sps_set.IsItems n.sps.now
-  pub pps : pps_set.IsItems n.pps.now
+  pub sps : sps_set.AreSpsItems n.sps.now
+  pub pps : pps_set.ArePpsItems n.pps.now
   pub alf : CanBeNamed n.alf
   pub lmcs : CanBeNamed n.lmcs
   pub scaling : CanBeNamed n.scaling

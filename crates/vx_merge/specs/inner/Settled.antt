@@ -17,7 +17,7 @@ use Rattle.vx_merge.specs.Merging.{AreCorners}
 use Rattle.vx_merge.specs.Regions.{layouts_in}
 use Rattle.vx_merge.specs.Rounds.{no_picture, picture_at}
 use Rattle.vx_merge.specs.Rules.{rules_of}
-use Rattle.vx_merge.specs.Shapes.{pps_shape, sps_shape}
+use Rattle.vx_merge.specs.Shapes.{frame_pps_shape, frame_sps_shape}
 use Rattle.vx_merge.specs.Verdict.{IsVerdict}
 use Rattle.vx_merge.specs.inner.Joined.{IsFrameOf, MakeFrame}
 
@@ -46,11 +46,11 @@ HasSetsOf round s = AreSetsOf round s.sources.items
 
 -- an SPS for the frame of a round, at a level or at the highest of its pictures
 abbrev pub IsSpsFor : List Corner → List Parts → Option ℕ → List Item → Type 0
-IsSpsFor corners round level items = sps_reshaped.IsReshaped (picture_at round 0).sps (sps_shape corners round level) items
+IsSpsFor corners round level items = sps_reshaped.IsReshapedSps (picture_at round 0).sps (frame_sps_shape corners round level) items
 
 -- a PPS with an id for it
 abbrev pub IsPpsFor : List Corner → List Parts → Numbers → ℕ → List Item → Type 0
-IsPpsFor corners round frame id items = pps_reshaped.IsReshaped (picture_at round 0).pps (pps_shape corners round frame id) items
+IsPpsFor corners round frame id items = pps_reshaped.IsReshapedPps (picture_at round 0).pps (frame_pps_shape corners round frame id) items
 
 -- The frame, its layout, its SPS, its PPS with the id 0, and the one with another id, where there is one, are those of a round.
 pub record IsSettledFor (corners : List Corner) (level : Option ℕ) (round : List Parts) (s : Settled) : Type 0 where

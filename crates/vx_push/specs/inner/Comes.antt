@@ -1,6 +1,6 @@
 -- What an intake keeps to, and its steps. Lists of pictures have the latest first.
 use Rattle.std.specs.Prelude.{◌≡◌, ℕ, ◌+◌, ◌^◌, ◌≤◌, cond, Bool, true, false, List, [], ◌∷◌, ◌++◌, length, Option, Some, None}
-use Rattle.vx_annexb.specs.ByteStream.{UnitPlace, IsStream}
+use Rattle.vx_annexb.specs.ByteStream.{UnitPlace}
 use Rattle.vx_annexb.specs.Held.{IsSought}
 use Rattle.vx_annexb.specs.Reading.{HasRead}
 use Rattle.vx_annexb.specs.declared.unit_reader.Closed.{Closed}
@@ -18,7 +18,7 @@ use Rattle.vx_assemble.specs.declared.feed.FeedFault.{FeedFault}
 use Rattle.vx_assemble.specs.declared.feed.FeedFault.TheVariants as faults
 use Rattle.vx_assemble.specs.Held.{HasPicture, ShowsLatest, lent_by}
 use Rattle.vx_assemble.specs.Feed.{Feeding, HasFed, IsOpen, IsRefusedFor, bytes_held, seen_of}
-use Rattle.vx_run.specs.Extract.{BeginsWith}
+use Rattle.vx_run.specs.Extract.{BeginsWithPictures}
 use Rattle.vx_push.specs.Handed.{Handed, OfEachStream, zeros}
 use Rattle.vx_push.specs.declared.intake.State.{State}
 use Rattle.vx_push.specs.declared.intake.State.TheVariants as states
@@ -95,7 +95,7 @@ StepsBehind R i h ps states.Picture = (p : Picture) × IsGoing R i h (p ∷ ps) 
 StepsBehind R i h ps states.Ended = OfEachStream R h (λ qs ending. (qs ≡ ps) × (ending ≡ None)) × (h.all ≡ true)
 StepsBehind R i h ps (states.Refused r n) =
     OfEachStream R h (λ qs ending. (qs ≡ ps) × (ending ≡ Some (record { units = n; refusal = r })))
-StepsBehind R i h ps states.NoMemory = OfEachStream R h (λ qs ending. BeginsWith qs ps)
+StepsBehind R i h ps states.NoMemory = OfEachStream R h (λ qs ending. BeginsWithPictures qs ps)
 
 -- ---- what a feed comes to in the bytes that it was given
 

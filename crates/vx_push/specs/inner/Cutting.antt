@@ -25,7 +25,7 @@ use Rattle.vx_push.specs.declared.intake.State.TheVariants as states
 use Rattle.vx_push.specs.declared.cutter.Cut.{Cut}
 use Rattle.vx_push.specs.declared.cutter.Cut.TheVariants.{Picture as ToPicture, Waits as ToWait, Ended as ToEnd, Stopped as ToStop}
 use Rattle.vx_push.specs.Comes.{Intaking, Handed}
-use Rattle.vx_push.specs.Cutting.{Cutting, HasCut, Holds, IsAwaited, HasEndedBy}
+use Rattle.vx_push.specs.Cutting.{Cutting, HasCut, HoldsPicture, IsAwaited, HasEndedBy}
 
 -- where a source has ended behind n pictures: there has to be one
 abbrev pub EndsBehind : ℕ → Cut → Type 0
@@ -72,7 +72,7 @@ end_by (ToStop stop) = Some (ToStop stop)
 abbrev pub StepsTo : Readers → Task → Cutting → Handed → List Picture → List Plan → Result (Option Kind) Cut → Type 0
 StepsTo R t c h ps done (Ok None) = (q : Picture) × HasCut R t c h (q ∷ ps) done
 StepsTo R t c h ps done (Ok (Some kind)) =
-    (q : Picture) × (p : Plan) × HasCut R t (record c { held = Some kind }) h (q ∷ ps) (p ∷ done) × Holds (record c { held = Some kind }) p
+    (q : Picture) × (p : Plan) × HasCut R t (record c { held = Some kind }) h (q ∷ ps) (p ∷ done) × HoldsPicture (record c { held = Some kind }) p
 StepsTo R t c h ps done (Err ToWait) = HasCut R t c h ps done × IsAwaited R h ps
 StepsTo R t c h ps done (Err ToPicture) = ⊥
 StepsTo R t c h ps done (Err end) = HasCut R t (record c { end = Some end }) h ps done × HasEndedBy R t h ps end

@@ -13,7 +13,7 @@ use Rattle.vx_merge.specs.Ends.{IsLengths}
 use Rattle.vx_merge.specs.Merging.{Merging, Stands, Passes, IsBarred}
 use Rattle.vx_run.specs.declared.stop.Stop.{Stop}
 use Rattle.vx_run.specs.declared.stop.Stop.TheVariants.{Refused, NoMemory}
-use Rattle.vx_run.specs.Rounds.{Stream, picture_in, HasEnded, IsRefused, behind_units, in_round}
+use Rattle.vx_run.specs.Rounds.{Stream, picture_in, HasEnded, IsRefusedStream, behind_units, in_round}
 use Rattle.vx_run.specs.Merge.{length_refused}
 use Rattle.vx_run.specs.inner.Merging.{stop_in}
 use Rattle.vx_write.specs.declared.fault.WriteError.{WriteError}
@@ -21,7 +21,7 @@ use Rattle.vx_write.specs.declared.fault.WriteError.TheVariants.{SinkFailed}
 use Rattle.vx_push.specs.declared.intake.State.{State}
 use Rattle.vx_push.specs.declared.intake.State.TheVariants.{Waits as AtWait, Picture as AtPicture, Ended as AtEnd, Refused as AtRefusal, NoMemory as AtNoMemory}
 use Rattle.vx_push.specs.declared.mixer.Mixed.{Mixed}
-use Rattle.vx_push.specs.declared.mixer.Mixed.TheVariants.{Picture as ToPicture, Waits as ToWait, Ended as ToEnd, Stopped as ToStop}
+use Rattle.vx_push.specs.declared.mixer.Mixed.TheVariants.{Waits as ToWait, Ended as ToEnd, Stopped as ToStop}
 use Rattle.vx_push.specs.Comes.{Intaking, Handed, HasCome, nothing}
 use Rattle.vx_push.specs.Mixing.{HasComeBehind}
 
@@ -32,7 +32,7 @@ abbrev pub IsSo : State → Intaking → ℕ → Stream → Type 0
 IsSo AtWait i n s = Unit {0}
 IsSo AtPicture i n s = (p : StreamPicture) × (picture_in n s ≡ Some p) × (lent_by i.feed.assembler ≡ parts_of p)
 IsSo AtEnd i n s = HasEnded n s
-IsSo (AtRefusal r units) i n s = IsRefused n (record { units = units; refusal = r }) s
+IsSo (AtRefusal r units) i n s = IsRefusedStream n (record { units = units; refusal = r }) s
 IsSo AtNoMemory i n s = Unit {0}
 
 -- ---- all sources, in order
@@ -94,12 +94,12 @@ stop_by SinkFailed n = NoMemory
 stop_by error n = stop_in error n
 
 -- What came of round n of these pictures, behind others: it is merged so, as a picture of this kind; or barred; or there was no memory.
-abbrev pub Merges : List Parts → List Plan → Merging → List ℕ → ℕ → Result Kind Stop → Type 0
-Merges round done m bytes n (Ok kind) =
+abbrev pub MergesHanded : List Parts → List Plan → Merging → List ℕ → ℕ → Result Kind Stop → Type 0
+MergesHanded round done m bytes n (Ok kind) =
     (p : Plan) × Passes m.corners m.level round done p × (bytes ≡ written (units_of p)) × Stands m (p ∷ done) × (kind ≡ p.kind)
-Merges round done m bytes n (Err (Refused r place)) = IsBarred m.corners m.level round done r × (place ≡ in_round n)
-Merges round done m bytes n (Err NoMemory) = Unit {0}
-Merges round done m bytes n (Err _) = ⊥
+MergesHanded round done m bytes n (Err (Refused r place)) = IsBarred m.corners m.level round done r × (place ≡ in_round n)
+MergesHanded round done m bytes n (Err NoMemory) = Unit {0}
+MergesHanded round done m bytes n (Err _) = ⊥
 
 -- what it came to is kept where it is an end
 abbrev pub end_by : Mixed → Option Mixed

@@ -20,8 +20,8 @@ use Rattle.vx_run.specs.declared.stop.Stop.{Stop}
 use Rattle.vx_run.specs.declared.stop.Stop.TheVariants.{Refused, ReadFault, NoMemory}
 use Rattle.vx_run.specs.Change.{Change, Sources, source_at, IsUntouched, HasFault}
 use Rattle.vx_run.specs.Conclusion.{Outcome}
-use Rattle.vx_run.specs.Extract.{WhereTold, BeginsWith}
-use Rattle.vx_run.specs.Rounds.{Stream, GoesOn, HasEnded, OfStream, IsRefused, NoneRefused, behind_units, stream_refused, WhereAllTold, OfEach}
+use Rattle.vx_run.specs.Extract.{WhereTold, BeginsWithPictures}
+use Rattle.vx_run.specs.Rounds.{Stream, GoesOn, HasEnded, OfStream, IsRefusedStream, NoneRefused, behind_units, stream_refused, WhereAllTold, OfEachSource}
 use Rattle.vx_run.specs.Rounds.{IsRead, IsReadOut, IsReadInRound, OthersAreRead, AreReadToSource, Sees}
 use Rattle.vx_run.specs.inner.Extracting.{HasTaken, HasTakenOne}
 
@@ -113,7 +113,7 @@ so_far taken = map (λ ps. record { pictures = ps; ending = None }) taken
 
 -- each stream begins with these pictures
 abbrev pub Begin : List Stream → List (List Picture) → Type 0
-Begin ss taken = (k : ℕ) (s : Stream) (ps : List Picture) → slice_get ss k ≡ Some s → slice_get taken k ≡ Some ps → BeginsWith s.pictures ps
+Begin ss taken = (k : ℕ) (s : Stream) (ps : List Picture) → slice_get ss k ≡ Some s → slice_get taken k ≡ Some ps → BeginsWithPictures s.pictures ps
 
 -- one more picture of each was taken
 pub record AllTake {A : Type 0} (R : Readers) (sources : Sources A) (feeds : List Feeding) (taken : List (List Picture)) (n : ℕ) : Type 0 where
@@ -134,7 +134,7 @@ pub record AllEnd {A : Type 0} (R : Readers) (sources : Sources A) (taken : List
 pub record IsFirstRefused (ss : List Stream) (n : ℕ) (stop : Stop) : Type 0 where
   pub k : ℕ
   pub ending : Ending
-  pub of : OfStream ss k (IsRefused n ending)
+  pub of : OfStream ss k (IsRefusedStream n ending)
   pub none : NoneRefused k ss n
   pub is : stop ≡ stream_refused k ending
 
@@ -145,7 +145,7 @@ HaltsAtSource R sources taken n (Refused r place) =
 HaltsAtSource R sources taken n (ReadFault k) =
     (k < length sources.old) × HasFault (source_at sources k) × Sees R (source_at sources k) n × OthersAreRead R n k sources
     × WhereAllTold R sources (λ ss. Begin ss taken × NoneRefused k ss n)
-HaltsAtSource R sources taken n NoMemory = OfEach sources IsRead × WhereAllTold R sources (λ ss. Begin ss taken)
+HaltsAtSource R sources taken n NoMemory = OfEachSource sources IsRead × WhereAllTold R sources (λ ss. Begin ss taken)
 HaltsAtSource R sources taken n _ = ⊥
 
 -- stream k is the lowest that has ended behind n pictures, and another one goes on
@@ -159,7 +159,7 @@ pub record HaltsByLength {A : Type 0} (of_length : ℕ → ℕ → Stop) (R : Re
     (stop : Stop) : Type 0 where
   pub k : ℕ
   pub is : stop ≡ of_length n k
-  pub read : OfEach sources (IsReadInRound R n)
+  pub read : OfEachSource sources (IsReadInRound R n)
   pub told : WhereAllTold R sources (λ ss. Begin ss taken × EndsFirst ss n k)
 
 -- each source was gone on with behind n rounds, and these have ended; or the command is stopped

@@ -21,7 +21,7 @@ use Rattle.vx_assemble.specs.declared.feed.Step.TheVariants as steps
 use Rattle.vx_assemble.specs.Feed.{Feeding, EndsAtEnd, HasFed, IsNearEnd, Advances}
 use Rattle.vx_write.specs.declared.fault.WriteError.{WriteError}
 use Rattle.vx_write.specs.declared.fault.WriteError.TheVariants as errors
-use Rattle.vx_extract.specs.Extracting.{Extracting, Stands, HasSlice, Writes}
+use Rattle.vx_extract.specs.Extracting.{Extracting, Stands, HasSlice, WritesPicture}
 use Rattle.vx_extract.specs.Rules.{refusal_of}
 use Rattle.vx_extract.specs.Written.{AreExtracted}
 use Rattle.vx_run.specs.declared.extract.Task.{Task}
@@ -31,7 +31,7 @@ use Rattle.vx_run.specs.Change.{Change, HasNoFault, HasFault, GivesFront, Gains}
 use Rattle.vx_run.specs.Conclusion.{Outcome}
 use Rattle.vx_run.specs.Show.{behind_unit}
 use Rattle.vx_run.specs.ReadAgain.{IsReadAgain}
-use Rattle.vx_run.specs.Extract.{BreakNoRule, ExtractsBy, IsExtractable, Refuses, HasSeen, WhereTold, at_picture}
+use Rattle.vx_run.specs.Extract.{BreakNoRule, ExtractsBy, IsExtractable, RefusesExtraction, HasSeen, WhereTold, at_picture}
 
 -- these pictures of a source were taken, the latest first
 pub record HasTaken {A : Type 0} (R : Readers) (source : Change A) (f : Feeding) (ps : List Picture) : Type 0 where
@@ -95,11 +95,11 @@ AdvancesOn R g units readings f left left' faults faults' (Err _) = ⊥
 
 -- What became of a picture behind those that are written so, and behind n pictures in all, of a sink with these bytes and this count.
 abbrev pub ExtractsOne : Picture → List Plan → Extracting → Option (List ℕ) → Option (List ℕ) → ℕ → ℕ → ℕ → Outcome → Type 0
-ExtractsOne p done x bytes bytes' faults faults' n (Ok _) = Writes (parts_of p) done x bytes bytes' faults faults' (Ok tt)
+ExtractsOne p done x bytes bytes' faults faults' n (Ok _) = WritesPicture (parts_of p) done x bytes bytes' faults faults' (Ok tt)
 ExtractsOne p done x bytes bytes' faults faults' n (Err (Refused r place)) =
-    Writes (parts_of p) done x bytes bytes' faults faults' (Err (errors.Refused r)) × (place ≡ at_picture n)
-ExtractsOne p done x bytes bytes' faults faults' n (Err WriteFault) = Writes (parts_of p) done x bytes bytes' faults faults' (Err errors.SinkFailed)
-ExtractsOne p done x bytes bytes' faults faults' n (Err NoMemory) = Writes (parts_of p) done x bytes bytes' faults faults' (Err errors.Memory)
+    WritesPicture (parts_of p) done x bytes bytes' faults faults' (Err (errors.Refused r)) × (place ≡ at_picture n)
+ExtractsOne p done x bytes bytes' faults faults' n (Err WriteFault) = WritesPicture (parts_of p) done x bytes bytes' faults faults' (Err errors.SinkFailed)
+ExtractsOne p done x bytes bytes' faults faults' n (Err NoMemory) = WritesPicture (parts_of p) done x bytes bytes' faults faults' (Err errors.Memory)
 ExtractsOne p done x bytes bytes' faults faults' n (Err _) = ⊥
 
 abbrev pub ChecksOne : Parts → Extracting → ℕ → Outcome → Type 0
@@ -164,7 +164,7 @@ CountsBy R t source (Ok k) =
     × WhereTold R source (λ ps ending. IsExtractable t ps ending × (k ≡ length (at_most t.tid ps)))
 CountsBy R t source (Err (Refused r place)) =
     HasNoFault source × GivesFront source
-    × WhereTold R source (λ ps ending. (before : List Picture) × Refuses R t source ps ending before r place)
+    × WhereTold R source (λ ps ending. (before : List Picture) × RefusesExtraction R t source ps ending before r place)
 CountsBy R t source (Err (ReadFault k)) = HasFault source × (k ≡ 0) × ((ps : List Picture) × HasSeen R t source ps)
 CountsBy R t source (Err NoMemory) = HasNoFault source × GivesFront source
 CountsBy R t source (Err _) = ⊥

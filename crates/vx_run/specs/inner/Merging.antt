@@ -10,15 +10,15 @@ use Rattle.vx_assemble.specs.Feed.{Feeding}
 use Rattle.vx_write.specs.declared.fault.WriteError.{WriteError}
 use Rattle.vx_write.specs.declared.fault.WriteError.TheVariants as errors
 use Rattle.vx_merge.specs.declared.corner.Corner.{Corner}
-use Rattle.vx_merge.specs.Merging.{Merging, Stands, Checks, Writes}
+use Rattle.vx_merge.specs.Merging.{Merging, Stands, ChecksRound, WritesOneRound}
 use Rattle.vx_run.specs.declared.merge.Work.{Work}
 use Rattle.vx_run.specs.declared.merge.Work.TheVariants.{Check, Write}
 use Rattle.vx_run.specs.declared.stop.Stop.{Stop}
 use Rattle.vx_run.specs.declared.stop.Stop.TheVariants.{Refused, ReadFault, WriteFault, NoMemory}
 use Rattle.vx_run.specs.Change.{Change, Sources, source_at, IsUntouched, HasNoFault, HasFault, Gains}
 use Rattle.vx_run.specs.Conclusion.{Outcome}
-use Rattle.vx_run.specs.Rounds.{NoneRefused, in_round, OfEach, IsRead, IsReadOut, IsReadFor, OthersAreRead, AreReadTo, Sees, WhereAllTold}
-use Rattle.vx_run.specs.Merge.{AreWritten, bytes_of, EndsWritten, GainsInto}
+use Rattle.vx_run.specs.Rounds.{NoneRefused, in_round, OfEachSource, IsRead, IsReadOut, IsReadFor, OthersAreRead, AreReadTo, Sees, WhereAllTold}
+use Rattle.vx_run.specs.Merge.{AreRoundsWritten, bytes_of, EndsWritten, GainsInto}
 use Rattle.vx_run.specs.inner.Advancing.{AreWaiting, so_far}
 
 -- where round n isn't put together
@@ -43,7 +43,7 @@ Keeps Write out = HasNoFault out
 -- How many rounds were checked or written, or what stopped that, and what it did to the sources and to `out`.
 abbrev pub TakesRounds : {A K : Type 0} → Readers → Work → List Corner → Option ℕ → Sources A → Change K → Result ℕ Stop → Type 0
 TakesRounds R work corners level sources out (Ok n) =
-    OfEach sources IsReadOut × Keeps work out
+    OfEachSource sources IsReadOut × Keeps work out
     × WhereAllTold R sources (λ ss. (done : List Plan) × (length done ≡ n) × EndsWritten corners level ss done (Ok tt) × Leaves work out done)
 TakesRounds R work corners level sources out (Err (Refused r place)) =
     (n : ℕ) × AreReadTo R n place sources × Keeps work out
@@ -52,16 +52,16 @@ TakesRounds R work corners level sources out (Err (Refused r place)) =
 TakesRounds R work corners level sources out (Err (ReadFault k)) =
     (k < length sources.old) × HasFault (source_at sources k) × Keeps work out
     × ((n : ℕ) × Sees R (source_at sources k) n × OthersAreRead R n k sources
-    × WhereAllTold R sources (λ ss. (done : List Plan) × (length done ≡ n) × AreWritten corners level ss done × NoneRefused k ss n
+    × WhereAllTold R sources (λ ss. (done : List Plan) × (length done ≡ n) × AreRoundsWritten corners level ss done × NoneRefused k ss n
     × Leaves work out done))
 TakesRounds R work corners level sources out (Err WriteFault) =
     (work ≡ Write)
-    × ((n : ℕ) × OfEach sources (IsReadFor R (n + 1)) × HasFault out
-    × WhereAllTold R sources (λ ss. (done : List Plan) × (p : Plan) × (length done ≡ n) × AreWritten corners level ss (p ∷ done)
+    × ((n : ℕ) × OfEachSource sources (IsReadFor R (n + 1)) × HasFault out
+    × WhereAllTold R sources (λ ss. (done : List Plan) × (p : Plan) × (length done ≡ n) × AreRoundsWritten corners level ss (p ∷ done)
     × GainsInto out (bytes_of done) (written (units_of p))))
 TakesRounds R work corners level sources out (Err NoMemory) =
-    OfEach sources IsRead × Keeps work out
-    × WhereAllTold R sources (λ ss. (done : List Plan) × AreWritten corners level ss done × Leaves work out done)
+    OfEachSource sources IsRead × Keeps work out
+    × WhereAllTold R sources (λ ss. (done : List Plan) × AreRoundsWritten corners level ss done × Leaves work out done)
 TakesRounds R work corners level sources out (Err _) = ⊥
 
 -- what came of a command whose rounds were taken so
@@ -71,9 +71,9 @@ outcome_of (Err stop) = Err stop
 
 -- a round of these pictures was checked or written, behind those that were
 abbrev pub DoesRound : {K : Type 0} → Work → List Parts → List Plan → Merging → Change K → Result (Unit {0}) WriteError → Type 0
-DoesRound Check round done m out answer = IsUntouched out × Checks round done m answer
+DoesRound Check round done m out answer = IsUntouched out × ChecksRound round done m answer
 DoesRound Write round done m out answer =
-    Writes round done m (out.bytes out.old) (out.bytes out.new) (out.faults out.old) (out.faults out.new) answer
+    WritesOneRound round done m (out.bytes out.old) (out.bytes out.new) (out.faults out.old) (out.faults out.new) answer
 
 -- round n was, and what came of it
 abbrev pub TakesRound : {K : Type 0} → Work → List Parts → List Plan → Merging → Change K → ℕ → Outcome → Type 0
@@ -89,7 +89,7 @@ pub record HasWritten {K : Type 0} (work : Work) (corners : List Corner) (level 
   pub done : List Plan
   pub count : length done ≡ n
   pub stands : Stands m done
-  pub plans : AreWritten corners level (so_far taken) done
+  pub plans : AreRoundsWritten corners level (so_far taken) done
   pub leaves : Leaves work out done
 
 pub record HasDone {A K : Type 0} (R : Readers) (work : Work) (corners : List Corner) (level : Option ℕ) (sources : Sources A) (out : Change K)

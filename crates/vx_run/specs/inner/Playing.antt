@@ -14,17 +14,17 @@ use Rattle.vx_assemble.specs.Feed.{Feeding}
 use Rattle.vx_write.specs.declared.fault.WriteError.{WriteError}
 use Rattle.vx_write.specs.declared.fault.WriteError.TheVariants as errors
 use Rattle.vx_merge.specs.declared.corner.Corner.{Corner}
-use Rattle.vx_merge.specs.Joins.{WritesJoined, joined}
-use Rattle.vx_merge.specs.Merging.{Merging, Stands, Writes}
-use Rattle.vx_play.specs.Scheduled.{Scheduled, files_of, count_of as regions_of}
+use Rattle.vx_merge.specs.Joins.{WritesJoined, after_end_of_sequence}
+use Rattle.vx_merge.specs.Merging.{Merging, Stands, WritesOneRound}
+use Rattle.vx_play.specs.Scheduled.{Scheduled, files_of_region, regions_counted}
 use Rattle.vx_run.specs.declared.stop.Stop.{Stop}
 use Rattle.vx_run.specs.declared.stop.Stop.TheVariants.{Refused, ReadFault, WriteFault, NoMemory}
 use Rattle.vx_run.specs.Change.{Change, Sources, source_at, HasNoFault, HasFault, Gains}
 use Rattle.vx_run.specs.Conclusion.{Outcome}
 use Rattle.vx_run.specs.Extract.{WhereTold}
 use Rattle.vx_run.specs.Merge.{bytes_of, length_refused, GainsInto}
-use Rattle.vx_run.specs.Rounds.{IsRead, IsReadOut, NoneRefused, OfEach, Sees, WhereAllTold, behind_units, in_round}
-use Rattle.vx_run.specs.Play.{AreOut, IsBehind, ArePlayedFor, ArePlayedOf, ArePlayedTo, ComesAt, EndsPlayed, count_of, region_of, region_streams, with_corners}
+use Rattle.vx_run.specs.Rounds.{IsRead, IsReadOut, NoneRefused, OfEachSource, Sees, WhereAllTold, behind_units, in_round}
+use Rattle.vx_run.specs.Play.{AreOut, IsBehind, ArePlayedFor, ArePlayedOf, ArePlayedTo, ComesAt, EndsPlayed, count_of, region_at_corner, region_streams, with_corners}
 use Rattle.vx_run.specs.inner.Advancing.{TakesOne, Waits, GoesBy}
 
 -- ---- regions
@@ -32,9 +32,9 @@ use Rattle.vx_run.specs.inner.Advancing.{TakesOne, Waits, GoesBy}
 -- These are the corners of regions, each once, and these the regions of files with those corners; the last region has a file.
 pub record HasFound (all corners : List Corner) (regions : List ℕ) : Type 0 where
   pub once : corners ≡ with_corners [] all
-  pub each : regions ≡ map (region_of corners) all
-  pub known : AllByRecursion (λ c. region_of corners c < length corners) all
-  pub count : regions_of regions ≡ length corners
+  pub each : regions ≡ map (region_at_corner corners) all
+  pub known : AllByRecursion (λ c. region_at_corner corners c < length corners) all
+  pub count : regions_counted regions ≡ length corners
 
 -- ---- one region
 
@@ -133,7 +133,7 @@ pub record SameBut (k : ℕ) (s s' : Scheduled) : Type 0 where
 
 abbrev pub IsPlaced : {A : Type 0} → Readers → Sources A → Scheduled → ℕ → Feeding → List (List Picture) → List Picture → Type 0
 IsPlaced R sources s k f passed own =
-    IsAt R sources (files_of s.regions k) f passed own × AreFew passed own × (length passed ≡ slice_index s.gone k)
+    IsAt R sources (files_of_region s.regions k) f passed own × AreFew passed own × (length passed ≡ slice_index s.gone k)
 
 -- each region is at some place
 abbrev pub ArePlaced : {A : Type 0} → Readers → Sources A → Scheduled → List Feeding → (ℕ → List (List Picture)) → (ℕ → List Picture) → Type 0
@@ -142,7 +142,7 @@ ArePlaced R sources s feeds passed own = (k : ℕ) (f : Feeding) → slice_get f
 abbrev pub Went : {A : Type 0} → Readers → Sources A → (s s' : Scheduled) → ℕ → Feeding → (ℕ → List (List Picture)) → (ℕ → List Picture)
     → Result Bool Stop → Type 0
 Went R sources s s' k f passed own result =
-    GoesOn R sources (files_of s.regions k) (slice_index s.gone k) (slice_index s'.gone k) f (passed k) (own k) result
+    GoesOn R sources (files_of_region s.regions k) (slice_index s.gone k) (slice_index s'.gone k) f (passed k) (own k) result
 
 -- the first m of them were gone on with, and these have ended; the others are where they were
 pub record WentOn {A : Type 0} (R : Readers) (sources : Sources A) (s s' : Scheduled) (feeds : List Feeding) (ended : List Bool)
@@ -184,8 +184,8 @@ pub record SameFiles (s s' : Scheduled) : Type 0 where
 -- what is answered of a round that may be joined
 abbrev pub WritesRound : Bool → List Parts → List Plan → Merging → Option (List ℕ) → Option (List ℕ) → ℕ → ℕ
     → Result (Unit {0}) WriteError → Type 0
-WritesRound true round done m bytes bytes' faults faults' answer = WritesJoined (map joined round) done m bytes bytes' faults faults' answer
-WritesRound false round done m bytes bytes' faults faults' answer = Writes round done m bytes bytes' faults faults' answer
+WritesRound true round done m bytes bytes' faults faults' answer = WritesJoined (map after_end_of_sequence round) done m bytes bytes' faults faults' answer
+WritesRound false round done m bytes bytes' faults faults' answer = WritesOneRound round done m bytes bytes' faults faults' answer
 
 -- what came of round n
 abbrev pub PlaysRound : {K : Type 0} → Bool → List Parts → List Plan → Merging → Change K → ℕ → Outcome → Type 0
@@ -224,7 +224,7 @@ pub record HasPlayed {A K : Type 0} (R : Readers) (corners : List Corner) (level
 -- what all rounds did to the files and to `out`, by what came of them
 abbrev pub PlaysRounds : {A K : Type 0} → Readers → List Corner → Option ℕ → List ℕ → Sources A → Change K → Outcome → Type 0
 PlaysRounds R corners level regions sources out (Ok _) =
-    OfEach sources IsReadOut × HasNoFault out
+    OfEachSource sources IsReadOut × HasNoFault out
     × WhereAllTold R sources (λ files. (done : List Plan) × EndsPlayed corners level regions files done (Ok tt) × Gains out (bytes_of done))
 PlaysRounds R corners level regions sources out (Err (Refused r place)) =
     (n : ℕ) × ArePlayedTo R sources (length corners) regions n place × HasNoFault out
@@ -236,10 +236,10 @@ PlaysRounds R corners level regions sources out (Err (ReadFault j)) =
     × WhereAllTold R sources (λ files. (done : List Plan) × (length done ≡ n) × ArePlayedOf corners level regions files done
     × NoneRefused k (region_streams (length corners) regions files) n × Gains out (bytes_of done)))
 PlaysRounds R corners level regions sources out (Err WriteFault) =
-    (n : ℕ) × ((k : ℕ) → k < length corners → ArePlayedFor R sources (n + 1) (files_of regions k)) × HasFault out
+    (n : ℕ) × ((k : ℕ) → k < length corners → ArePlayedFor R sources (n + 1) (files_of_region regions k)) × HasFault out
     × WhereAllTold R sources (λ files. (done : List Plan) × (p : Plan) × (length done ≡ n) × ArePlayedOf corners level regions files (p ∷ done)
     × GainsInto out (bytes_of done) (written (units_of p)))
 PlaysRounds R corners level regions sources out (Err NoMemory) =
-    OfEach sources IsRead × HasNoFault out
+    OfEachSource sources IsRead × HasNoFault out
     × WhereAllTold R sources (λ files. (done : List Plan) × ArePlayedOf corners level regions files done × Gains out (bytes_of done))
 PlaysRounds R corners level regions sources out (Err _) = ⊥

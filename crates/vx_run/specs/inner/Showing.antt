@@ -24,7 +24,8 @@ use Rattle.vx_run.specs.declared.stop.Stop.{Stop}
 use Rattle.vx_run.specs.declared.stop.Stop.TheVariants.{Refused, ReadFault, WriteFault, NoMemory}
 use Rattle.vx_run.specs.Change.{Change, HasNoFault, Gains, GainsFront}
 use Rattle.vx_run.specs.Conclusion.{Outcome}
-use Rattle.vx_run.specs.Show.{Teller, seen_of, lines_behind, shown_lines, told_lines, behind_unit, shown_by, read_len}
+use Rattle.vx_run.specs.Show.{Teller, lines_behind, shown_lines, told_lines, behind_unit, shown_by, read_len}
+use Rattle.vx_assemble.specs.Feed.{seen_of}
 
 -- what is seen of the fields of a unit: those that it spells, where they are asked for
 abbrev pub seen_by : (fields : Bool) → (R : Readers) → AreOfH266 R → List Reading → List ℕ → StructureFields

@@ -12,7 +12,7 @@ use Rattle.vx_run.specs.declared.stop.Stop.{Stop}
 use Rattle.vx_run.specs.declared.stop.Stop.TheVariants.{NotUnderstood, Refused, Mismatched, ReadFault, WriteFault, NoMemory}
 use Rattle.vx_run.specs.Change.{Sources, source_at, HasFault}
 use Rattle.vx_run.specs.Conclusion.{Outcome}
-use Rattle.vx_run.specs.Rounds.{NoneRefused, OfEach, IsRead, IsReadOut, IsReadInRound, OthersAreRead, AreReadToSource, Sees, WhereAllTold}
+use Rattle.vx_run.specs.Rounds.{NoneRefused, OfEachSource, IsRead, IsReadOut, IsReadInRound, OthersAreRead, AreReadToSource, Sees, WhereAllTold}
 use Rattle.vx_run.specs.Verify.{OfRound, AreVerified, EndsVerified}
 use Rattle.vx_run.specs.inner.Advancing.{AreWaiting, so_far}
 
@@ -31,9 +31,9 @@ VerifiesRound spots round n (Err _) = ⊥
 
 -- how many rounds were verified, or what stopped that
 abbrev pub VerifiesRounds : {A : Type 0} → Readers → List Spot → Sources A → Result ℕ Stop → Type 0
-VerifiesRounds R spots sources (Ok n) = OfEach sources IsReadOut × WhereAllTold R sources (λ ss. EndsVerified spots ss n (Ok tt))
+VerifiesRounds R spots sources (Ok n) = OfEachSource sources IsReadOut × WhereAllTold R sources (λ ss. EndsVerified spots ss n (Ok tt))
 VerifiesRounds R spots sources (Err (Mismatched m n)) =
-    OfEach sources (IsReadInRound R n) × WhereAllTold R sources (λ ss. EndsVerified spots ss n (Err (Mismatched m n)))
+    OfEachSource sources (IsReadInRound R n) × WhereAllTold R sources (λ ss. EndsVerified spots ss n (Err (Mismatched m n)))
 VerifiesRounds R spots sources (Err (Refused r place)) =
     (n : ℕ) × AreReadToSource R n place sources × WhereAllTold R sources (λ ss. EndsVerified spots ss n (Err (Refused r place)))
 VerifiesRounds R spots sources (Err (ReadFault k)) =
@@ -41,7 +41,7 @@ VerifiesRounds R spots sources (Err (ReadFault k)) =
     × ((n : ℕ) × Sees R (source_at sources k) n × OthersAreRead R n k sources
     × WhereAllTold R sources (λ ss. AreVerified spots ss n × NoneRefused k ss n))
 VerifiesRounds R spots sources (Err WriteFault) = ⊥
-VerifiesRounds R spots sources (Err NoMemory) = OfEach sources IsRead
+VerifiesRounds R spots sources (Err NoMemory) = OfEachSource sources IsRead
 VerifiesRounds R spots sources (Err NotUnderstood) = ⊥
 
 -- n rounds were verified

@@ -7,7 +7,7 @@ use Rattle.vx_bits.specs.Place.{Place}
 use Rattle.vx_table.specs.Forms.{Form}
 use Rattle.vx_table.specs.Walks.{Walks}
 use Rattle.vx_table.specs.Spelling.{Spells}
-use Rattle.vx_table.specs.Reading.{PassesField, Passes}
+use Rattle.vx_table.specs.Reading.{PassesField, PassesOver}
 use Rattle.vx_sh.specs.Whole.{At, slice_form}
 use Rattle.vx_sh.specs.Value.{AreFields, values_of}
 
@@ -26,4 +26,4 @@ pub record FieldsRead (n : At) (old : Place) (end : List ℕ) (new : Place) (ite
 abbrev pub ReadsFields : At → Place → Result (List ℕ) ReadError → Place → List Item → Type 0
 ReadsFields n old (Ok end) new items = FieldsRead n old end new items
 ReadsFields n old (Err errors.Memory) new items = Unit {0}
-ReadsFields n old (Err (errors.Refused r)) new items = Passes {B = Unit {0}} (slice_form n) old (Err r) new
+ReadsFields n old (Err (errors.Refused r)) new items = PassesOver {B = Unit {0}} (slice_form n) old (Err r) new

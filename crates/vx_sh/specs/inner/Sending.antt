@@ -9,7 +9,8 @@ use Rattle.vx_table.specs.Values.{bits_along}
 use Rattle.vx_table.specs.Writing.{IsWritten}
 use Rattle.vx_fields.specs.declared.ph.TheConstants.{ph_explicit_scaling_list_enabled_flag, ph_lmcs_enabled_flag}
 use Rattle.vx_fields.specs.declared.sh.TheConstants.{sh_explicit_scaling_list_used_flag, sh_lmcs_used_flag}
-use Rattle.vx_sps.specs.Reshaped.{item, where_so}
+use Rattle.vx_sps.specs.Reshaped.{item}
+use Rattle.vx_table.specs.Rewritten.{where_so}
 use Rattle.vx_ph.specs.InForce.{in_force}
 use Rattle.vx_sh.specs.declared.numbers.SliceNumbers.{SliceNumbers}
 use Rattle.vx_sh.specs.declared.tables.TheConstants.{STARRED}

@@ -7,14 +7,15 @@ use Rattle.vx_rpl.specs.Resolved.{table_of}
 use Rattle.vx_table.specs.Loaded.{number}
 use Rattle.vx_table.specs.Scope.{fresh, loaded, is_set}
 use Rattle.vx_sps.specs.declared.subpictures.Subpicture.{Subpicture}
-use Rattle.vx_sps.specs.Set.{IsItems, columns_of, rows_of, is_weighted, extra_ph_bits_of, extra_sh_bits_of}
-use Rattle.vx_sps.specs.Subpictures.{subpics_of, numbers_of, rect_of, is_treated, is_filtered, id_of}
+use Rattle.vx_sps.specs.Set.{AreSpsItems, ctu_columns_of, ctu_rows_of, is_weighted, extra_ph_bits_of, extra_sh_bits_of}
+use Rattle.vx_sps.specs.Subpictures.{subpics_of, rect_of, is_treated, is_filtered, sps_subpic_id_of}
+use Rattle.vx_table.specs.Loaded.{numbers_of}
 
 -- The numbers are what the items tell of the subpictures, field by field, in a picture of so many columns and rows.
 pub record IsTold (items : List Item) (across down : ℕ) (same : Bool) (xs ys ws hs treated_ones filtered_ones all_ids : List ℕ)
     : Type 0 where
-  pub columns : across ≡ columns_of items
-  pub rows : down ≡ rows_of items
+  pub columns : across ≡ ctu_columns_of items
+  pub rows : down ≡ ctu_rows_of items
   pub same_size : same ≡ is_set (number items sps.sps_subpic_same_size_flag)
   pub x : xs ≡ numbers_of items sps.sps_subpic_ctu_top_left_x
   pub y : ys ≡ numbers_of items sps.sps_subpic_ctu_top_left_y
@@ -30,7 +31,7 @@ subpicture_of items i = record {
   rect = rect_of items i;
   treated = is_treated items i;
   filtered = is_filtered items i;
-  id = id_of items i;
+  id = sps_subpic_id_of items i;
 }
 
 -- The list is that of the first so many subpictures.
@@ -40,7 +41,7 @@ pub record AreSubpictures (items : List Item) (n : ℕ) (list : List Subpicture)
 
 -- All that is kept is what the items of a set tell.
 pub record IsKept (items : List Item) (scope : List ℕ) (list : List Subpicture) (structures : RplTable) (in_ph in_sh : ℕ) : Type 0 where
-  pub set : IsItems items
+  pub set : AreSpsItems items
   pub numbers : scope ≡ loaded fresh items
   pub subpictures : AreSubpictures items (subpics_of items) list
   pub table : structures ≡ table_of (is_weighted items) items

@@ -6,7 +6,7 @@ use Rattle.vx_pic.specs.Inputs.{Input}
 use Rattle.vx_verify.specs.declared.spot.Spot.{Spot}
 use Rattle.vx_verify.specs.declared.mismatch.Mismatch.{Mismatch}
 use Rattle.vx_verify.specs.declared.inputs.Differing.{Differing}
-use Rattle.vx_verify.specs.Verified.{DiffersAt, HasInputs, IsMismatch, IsVerified, inputs}
+use Rattle.vx_verify.specs.Verified.{DiffersAt, HasInputs, IsMismatch, IsVerified, input_check}
 
 -- this holds of each entry of a list
 abbrev pub AllOf : {A : Type 0} → List A → (ℕ → A → Type 0) → Type 0
@@ -29,7 +29,7 @@ TellsSlice xs ys (Some d) = DiffersAt xs ys d.slice d.difference
 -- the lowest source whose inputs differ, and what is told of it
 abbrev pub FindsInput : Parts → List Parts → Option Mismatch → Type 0
 FindsInput finished round None = AllOf round (HasInputs finished)
-FindsInput finished round (Some m) = (file : ℕ) × IsLowest (suc (length round)) (inputs finished round).fails file × (inputs finished round).tells file m
+FindsInput finished round (Some m) = (file : ℕ) × IsLowest (suc (length round)) (input_check finished round).fails file × (input_check finished round).tells file m
 
 -- that a round is verified, or what is told of it
 abbrev pub Finds : List Spot → Parts → List Parts → Option Mismatch → Type 0

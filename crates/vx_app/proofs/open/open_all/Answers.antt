@@ -1,6 +1,6 @@
 use Rattle.std.proofs.Common.{◌≡◌, ap, arith, option_copied, rules, sym}
 use Rattle.vx_run.specs.Grammar.{files_of}
-use Rattle.vx_app.specs.Opened.{file_in}
+use Rattle.vx_app.specs.Opened.{opened_file}
 use Rattle.vx_app.proofs.Opening.{stand-more, word_found, all_opened}
 use Rattle.vx_app.proofs.open.open_all.Goals as goal
 
@@ -13,7 +13,7 @@ unreachable-requires g c = word_found _ _ _ (option_copied c.file_word.result) c
 pub loop-k-preserved : goal.loop-k-preserved
 loop-k-preserved g c =
     let opens = g.O.Opener.opens c.args.opener.now in
-    let is : opens c.in-Some.name.now (file_in c.new.result) = rw c.new.ensures.file c.in_ok-open.ensures in (
+    let is : opens c.in-Some.name.now (opened_file c.new.result) = rw c.new.ensures.file c.in_ok-open.ensures in (
       search rules,
       λ command asked. rw c.in_ok-push.ensures.items
           (stand-more opens (files_of command) c.loop-k.files.items c.loop-k.k c.in-Some.name.now c.new.result (c.loop-k.invariant.1 command asked) _ (omega arith) (sym (c.in-Some.ensures.files command asked)) is),

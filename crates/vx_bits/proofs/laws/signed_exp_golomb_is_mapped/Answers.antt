@@ -1,6 +1,6 @@
 use Rattle.std.proofs.Common.{◌∙◌, ap}
 use Rattle.vx_bits.specs.Codes.{code_number}
-use Rattle.vx_bits.specs.Laws.{mapped}
+use Rattle.vx_bits.specs.laws.Codes.{mapped}
 use Rattle.vx_bits.proofs.Golomb.{mapped_code, code_mapped}
 use Rattle.vx_bits.proofs.laws.signed_exp_golomb_is_mapped.Goals as goal
 

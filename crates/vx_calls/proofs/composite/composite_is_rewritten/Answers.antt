@@ -3,7 +3,7 @@ use Rattle.vx_calls.specs.declared.composite.TheConstants.{FRONT, BEHIND}
 use Rattle.vx_table.specs.Scope.{fresh}
 use Rattle.vx_table.specs.Forms.{has_value}
 use Rattle.vx_table.specs.Claims.{knows_formula, knows_width, knows_range, knows_presence, hides_counter, hides_row, behind_field, within_block, depends, table_depends, behind_rows, behind_table}
-use Rattle.vx_table.specs.Again.{shows_row}
+use Rattle.vx_table.specs.laws.Again.{shows_row}
 use Rattle.vx_calls.specs.Composite.{of_tables}
 use Rattle.vx_table.proofs.Again.{tables_show}
 use Rattle.vx_table.proofs.Chains.{table_carries}

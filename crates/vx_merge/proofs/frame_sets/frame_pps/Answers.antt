@@ -1,8 +1,8 @@
 use Rattle.std.proofs.Common.{◌≡◌, ap, sym, ◌∙◌, subst}
 use Rattle.std.proofs.lemmas.Result.{IfOk-weaker}
-use Rattle.vx_pps.specs.Reshaped.{IsReshaped, IsShape}
+use Rattle.vx_pps.specs.Reshaped.{IsReshapedPps, IsShape}
 use Rattle.vx_merge.specs.Rounds.{picture_at}
-use Rattle.vx_merge.specs.Shapes.{pps_shape}
+use Rattle.vx_merge.specs.Shapes.{frame_pps_shape}
 use Rattle.vx_merge.specs.inner.Joined.{OfFrame}
 use Rattle.vx_merge.proofs.Reading.{picture_read}
 use Rattle.vx_merge.proofs.frame_sets.frame_pps.Goals as goal
@@ -16,17 +16,17 @@ reshape_pps-requires c =
     let round = c.args.round.now in
     let is = c.requires.frame.1 in
     let pps_is : c.pps.result.now ≡ (picture_at round 0).pps = c.pps.ensures ∙ ap (λ q. q.pps) (picture_read round 0 c.index-round-0.result is.some c.index-round-0.is) in
-    let shape_is : c.in_ok-shape.shape ≡ pps_shape corners round c.args.frame.now.numbers c.args.id = c.in_ok-shape.ensures corners is in
+    let shape_is : c.in_ok-shape.shape ≡ frame_pps_shape corners round c.args.frame.now.numbers c.args.id = c.in_ok-shape.ensures corners is in
     subst (λ s. IsShape s c.in_ok-shape.shape) (sym pps_is) (subst (IsShape (picture_at round 0).pps) (sym shape_is) (is.shapes.pps c.args.id c.requires.id))
 
 pub returns : goal.returns
 returns c =
     let round = c.args.round.now in
     let frame = c.args.frame.now in
-    IfOk-weaker c.reshape_pps.result (IsReshaped c.pps.result.now c.in_ok-shape.shape)
-    (λ pps. OfFrame round frame (λ corners. IsReshaped (picture_at round 0).pps (pps_shape corners round frame.numbers c.args.id) pps))
+    IfOk-weaker c.reshape_pps.result (IsReshapedPps c.pps.result.now c.in_ok-shape.shape)
+    (λ pps. OfFrame round frame (λ corners. IsReshapedPps (picture_at round 0).pps (frame_pps_shape corners round frame.numbers c.args.id) pps))
     (λ pps made corners is.
     let pps_is : c.pps.result.now ≡ (picture_at round 0).pps = c.pps.ensures ∙ ap (λ q. q.pps) (picture_read round 0 c.index-round-0.result is.some c.index-round-0.is) in
-    let shape_is : c.in_ok-shape.shape ≡ pps_shape corners round frame.numbers c.args.id = c.in_ok-shape.ensures corners is in
-    subst (λ s. IsReshaped s (pps_shape corners round frame.numbers c.args.id) pps) pps_is (subst (λ s. IsReshaped c.pps.result.now s pps) shape_is made))
+    let shape_is : c.in_ok-shape.shape ≡ frame_pps_shape corners round frame.numbers c.args.id = c.in_ok-shape.ensures corners is in
+    subst (λ s. IsReshapedPps s (frame_pps_shape corners round frame.numbers c.args.id) pps) pps_is (subst (λ s. IsReshapedPps c.pps.result.now s pps) shape_is made))
     c.reshape_pps.ensures

@@ -1,10 +1,10 @@
 use Rattle.std.proofs.Common.{◌≡◌, ap, sym, ◌∙◌, subst}
 use Rattle.std.proofs.lemmas.Result.{IfOk-weaker}
 use Rattle.vx_sps.specs.Set.{ctb_size_of}
-use Rattle.vx_sps.specs.Reshaped.{IsReshaped, IsShape}
+use Rattle.vx_sps.specs.Reshaped.{IsReshapedSps, IsShape}
 use Rattle.vx_merge.specs.Regions.{ctb_of}
 use Rattle.vx_merge.specs.Rounds.{picture_at}
-use Rattle.vx_merge.specs.Shapes.{sps_shape}
+use Rattle.vx_merge.specs.Shapes.{frame_sps_shape}
 use Rattle.vx_merge.specs.inner.Joined.{OfFrame}
 use Rattle.vx_merge.proofs.Reading.{picture_read}
 use Rattle.vx_merge.proofs.frame_sets.frame_sps.Goals as goal
@@ -18,16 +18,16 @@ reshape_sps-requires c =
     let round = c.args.round.now in
     let is = c.requires.1 in
     let sps_is : c.sps.result.now ≡ (picture_at round 0).sps = c.sps.ensures ∙ ap (λ q. q.sps) (picture_read round 0 c.index-round-0.result is.some c.index-round-0.is) in
-    let shape_is : c.in_ok-shape.shape ≡ sps_shape corners round c.args.level = c.in_ok-shape.ensures corners is in
+    let shape_is : c.in_ok-shape.shape ≡ frame_sps_shape corners round c.args.level = c.in_ok-shape.ensures corners is in
     subst (λ s. IsShape (ctb_size_of s) c.in_ok-shape.shape) (sym sps_is) (subst (IsShape (ctb_of round)) (sym shape_is) (is.shapes.sps c.args.level))
 
 pub returns : goal.returns
 returns c =
     let round = c.args.round.now in
-    IfOk-weaker c.reshape_sps.result (IsReshaped c.sps.result.now c.in_ok-shape.shape)
-    (λ sps. OfFrame round c.args.frame.now (λ corners. IsReshaped (picture_at round 0).sps (sps_shape corners round c.args.level) sps))
+    IfOk-weaker c.reshape_sps.result (IsReshapedSps c.sps.result.now c.in_ok-shape.shape)
+    (λ sps. OfFrame round c.args.frame.now (λ corners. IsReshapedSps (picture_at round 0).sps (frame_sps_shape corners round c.args.level) sps))
     (λ sps made corners is.
     let sps_is : c.sps.result.now ≡ (picture_at round 0).sps = c.sps.ensures ∙ ap (λ q. q.sps) (picture_read round 0 c.index-round-0.result is.some c.index-round-0.is) in
-    let shape_is : c.in_ok-shape.shape ≡ sps_shape corners round c.args.level = c.in_ok-shape.ensures corners is in
-    subst (λ s. IsReshaped s (sps_shape corners round c.args.level) sps) sps_is (subst (λ s. IsReshaped c.sps.result.now s sps) shape_is made))
+    let shape_is : c.in_ok-shape.shape ≡ frame_sps_shape corners round c.args.level = c.in_ok-shape.ensures corners is in
+    subst (λ s. IsReshapedSps s (frame_sps_shape corners round c.args.level) sps) sps_is (subst (λ s. IsReshapedSps c.sps.result.now s sps) shape_is made))
     c.reshape_sps.ensures

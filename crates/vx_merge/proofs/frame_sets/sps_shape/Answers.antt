@@ -3,7 +3,7 @@ use Rattle.std.specs.Prelude.{All}
 use Rattle.vx_sps.specs.declared.shape.SubpicPlan.TheVariants.{Many}
 use Rattle.vx_fit.specs.Placing.{IsInRange, frame_height, frame_width}
 use Rattle.vx_merge.specs.Regions.{corners_in, placed_in}
-use Rattle.vx_merge.specs.Shapes.{dpb_of, level_of, window_of}
+use Rattle.vx_merge.specs.Shapes.{frame_dpb, frame_level, frame_window}
 use Rattle.vx_merge.proofs.FrameShaping.{placed_count}
 use Rattle.vx_merge.proofs.frame_sets.sps_shape.Goals as goal
 
@@ -24,9 +24,9 @@ window-requires-clause-high c = let is = c.requires.1 in is.height ∙ ap frame_
 pub returns : goal.returns
 returns c = λ corners is.
     let round = c.args.round.now in
-    let window_is : c.window.result ≡ window_of (placed_in corners round) round = c.window.ensures ∙ ap (λ p. window_of p round) (c.as_slice-placed.ensures.value ∙ is.placed) in
-    let level_is : c.level_of.result ≡ level_of round c.args.level = c.level_of.ensures in
-    let dpb_is : c.dpb.result ≡ dpb_of round = c.dpb.ensures in
+    let window_is : c.window.result ≡ frame_window (placed_in corners round) round = c.window.ensures ∙ ap (λ p. frame_window p round) (c.as_slice-placed.ensures.value ∙ is.placed) in
+    let level_is : c.level_of.result ≡ frame_level round c.args.level = c.level_of.ensures in
+    let dpb_is : c.dpb.result ≡ frame_dpb round = c.dpb.ensures in
     let regions_is : c.in_ok-regions.regions ≡ corners_in corners round = c.in_ok-regions.ensures ∙ ap (λ n. n.subpics) is.is.pictures in
     λ j. record {
       id = 0;

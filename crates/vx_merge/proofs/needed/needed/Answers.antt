@@ -4,7 +4,7 @@ use Rattle.std.proofs.lemmas.List.{length-map}
 use Rattle.vx_write.proofs.Spelled.{pps_items, sps_items}
 use Rattle.vx_merge.specs.Needed.{Ids, TakeIds}
 use Rattle.vx_merge.specs.Rounds.{picture_at}
-use Rattle.vx_merge.specs.Shapes.{pps_shape, sps_shape}
+use Rattle.vx_merge.specs.Shapes.{frame_pps_shape, frame_sps_shape}
 use Rattle.vx_merge.specs.inner.Sending.{CanEnd}
 use Rattle.vx_merge.proofs.Passing.{filters_are, filters_few, not_too_many}
 use Rattle.vx_merge.proofs.Reading.{picture_read}
@@ -69,8 +69,8 @@ returns-clause-can c =
     let of_alf = filters_are corners round used.count used.passes c.args.bodies.filters c.requires.bodies.filters in
     let alf = rw (of_alf, c.of_alf.ensures) at c.in_ok-alf.ensures in
     record {
-      sps = sps_items first.sps (sps_shape corners round level) settled.sps used.is.sps;
-      pps = pps_items first.pps (pps_shape corners round settled.frame.numbers c.args.pps_id) c.pps_under.result.now (rw c.pps_under.ensures (c.requires.pps corners level used));
+      sps = sps_items first.sps (frame_sps_shape corners round level) settled.sps used.is.sps;
+      pps = pps_items first.pps (frame_pps_shape corners round settled.frame.numbers c.args.pps_id) c.pps_under.result.now (rw c.pps_under.ensures (c.requires.pps corners level used));
       alf = record { one_each = alf.one_each; ends = subst ends (sym alf.are) c.bodies_end.ensures.alf };
       lmcs = record { one_each = c.in_ok-lmcs.ensures.one_each; ends = subst ends (sym c.in_ok-lmcs.ensures.are) c.bodies_end.ensures.lmcs };
       scaling = record { one_each = c.in_ok-scaling.ensures.one_each; ends = subst ends (sym c.in_ok-scaling.ensures.are) c.bodies_end.ensures.scaling };

@@ -1,5 +1,5 @@
 use Rattle.std.proofs.Common.{subst}
-use Rattle.vx_pps.specs.Pps.{IsItems}
+use Rattle.vx_pps.specs.Pps.{ArePpsItems}
 use Rattle.vx_merge.proofs.PpsIds.{free_taken, held_taken, low_answer}
 use Rattle.vx_merge.proofs.needed.taken_pps_id.Goals as goal
 
@@ -8,7 +8,7 @@ returns-in-Some-clause-low c = c.in-Some.ensures.in_range
 
 pub returns-in-Some-clause-taken : goal.returns-in-Some-clause-taken
 returns-in-Some-clause-taken c = λ sent last.
-    let is = subst IsItems c.fields-items.ensures.items c.fields-items.ensures.set in
+    let is = subst ArePpsItems c.fields-items.ensures.items c.fields-items.ensures.set in
     held_taken c.args.slots.now c.args.temporal_id c.args.pps.now is sent last c.in-Some.id c.in-Some.ensures
 
 pub returns-in-None-clause-low : goal.returns-in-None-clause-low
@@ -16,5 +16,5 @@ returns-in-None-clause-low c = rw c.unwrap_or.ensures (low_answer c.args.slots.n
 
 pub returns-in-None-clause-taken : goal.returns-in-None-clause-taken
 returns-in-None-clause-taken c = λ sent last.
-    let is = subst IsItems c.fields-items.ensures.items c.fields-items.ensures.set in
+    let is = subst ArePpsItems c.fields-items.ensures.items c.fields-items.ensures.set in
     rw c.unwrap_or.ensures (free_taken c.args.slots.now c.args.temporal_id c.args.pps.now is sent last c.in-None.ensures c.empty_pps_id.result c.empty_pps_id.ensures)

@@ -1,6 +1,6 @@
 use Rattle.std.proofs.Common.{◌≡◌, ap, sym, ◌∙◌, subst}
 use Rattle.std.proofs.lemmas.Result.{IfOk-weaker}
-use Rattle.vx_ph.specs.Reshaped.{GoesUnder, IsReshaped, IsShape}
+use Rattle.vx_ph.specs.Reshaped.{GoesUnder, IsReshapedPictureHeader, IsShape}
 use Rattle.vx_merge.specs.Headers.{ph_shape}
 use Rattle.vx_merge.specs.Rounds.{picture_at}
 use Rattle.vx_merge.specs.inner.Ready.{ids_in}
@@ -40,6 +40,6 @@ returns-clause-says c =
     let source : c.header.result.now ≡ (picture_at round 0).header = c.header.ensures.value ∙ ap (λ x. x.header) first in
     IfOk-weaker c.reshape_ph.result _ _
     (λ header says.
-    let shaped = subst (λ s. IsReshaped c.header.result.now s needed.sps.now needed.pps.now header) c.shape_of-shape.ensures says in
-    subst (λ s. IsReshaped s (ph_shape round (ids_in needed)) needed.sps.now needed.pps.now header) source shaped)
+    let shaped = subst (λ s. IsReshapedPictureHeader c.header.result.now s needed.sps.now needed.pps.now header) c.shape_of-shape.ensures says in
+    subst (λ s. IsReshapedPictureHeader s (ph_shape round (ids_in needed)) needed.sps.now needed.pps.now header) source shaped)
     c.reshape_ph.ensures.reshaped

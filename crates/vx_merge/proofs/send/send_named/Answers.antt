@@ -4,7 +4,7 @@ use Rattle.std.specs.Prelude.{flat_map}
 use Rattle.std.specs.List.{range_with_len}
 use Rattle.vx_write.specs.Sending.{AreSent}
 use Rattle.vx_write.proofs.SetBySet.{append_others}
-use Rattle.vx_merge.specs.Needed.{with_id}
+use Rattle.vx_merge.specs.Needed.{sets_with_id}
 use Rattle.vx_merge.specs.inner.Taking.{an_aps_of}
 use Rattle.vx_merge.proofs.Rising.{lower_others, rise_more}
 use Rattle.vx_merge.proofs.send.send_named.Goals as goal
@@ -17,7 +17,7 @@ loop-id-preserved c before sets apart sent others =
     let kind = c.args.search.kind in
     let bodies = map (λ b. b.now) c.args.named.now.bodies in
     let ids = c.args.named.now.ids.items in
-    let of = with_id kind bodies ids in
+    let of = sets_with_id kind bodies ids in
     let lower = flat_map of (range_with_len 0 c.loop-id.id) in
     let apart_from = append_others (an_aps_of kind c.loop-id.id) sets lower (others c.loop-id.id) (lower_others kind c.loop-id.id bodies ids) in
     let next = c.in_ok-send_with.ensures before (sets ++ lower) apart (c.loop-id.invariant before sets apart sent others) apart_from in

@@ -1,7 +1,7 @@
 use Rattle.std.proofs.Common.{◌≡◌, [], ◌∷◌, map, length, ap, sym, ◌∙◌, arith, Bor, ℕ, List}
 use Rattle.std.proofs.lemmas.List.{append-nil, length-map}
 use Rattle.vx_pic.specs.Written.{an_aps}
-use Rattle.vx_merge.specs.Needed.{with_id}
+use Rattle.vx_merge.specs.Needed.{sets_with_id}
 use Rattle.vx_merge.proofs.Rising.{end_at, lent_at, others_as, with_none, with_one}
 use Rattle.vx_merge.proofs.send.send_with.Goals as goal
 
@@ -22,7 +22,7 @@ returns-in-Some c before sets apart sent others =
     let place = rw c.deref.ensures.value at c.in-Some.ensures in
     let one = with_one kind bodies ids c.args.id c.in-Some.k size place.in_range place.breaks apart in
     let own = lent_at c.args.named.now.bodies c.in-Some.k c.item-body.result c.item-body.ensures.value in
-    let more : with_id kind bodies ids c.args.id ≡ an_aps (record { kind = kind; id = c.args.id; body = c.item-body.result.now }) ∷ [] =
+    let more : sets_with_id kind bodies ids c.args.id ≡ an_aps (record { kind = kind; id = c.args.id; body = c.item-body.result.now }) ∷ [] =
     one ∙ ap (λ b. an_aps (record { kind = kind; id = c.args.id; body = b }) ∷ []) own in
     rw more (c.send.ensures.sent before sets sent (others_as kind c.args.id c.item-body.result.now sets others))
 

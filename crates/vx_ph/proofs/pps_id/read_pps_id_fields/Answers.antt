@@ -1,6 +1,6 @@
-use Rattle.vx_ph.specs.Id.{id_form}
+use Rattle.vx_ph.specs.Id.{pps_id_form}
 use Rattle.vx_ph.proofs.pps_id.read_pps_id_fields.Goals as goal
 
 pub returns : goal.returns
-unfolding id_form
+unfolding pps_id_form
 returns c = rw c.new-scope.ensures at c.read_parts.ensures.answer

@@ -6,6 +6,6 @@ use Rattle.vx_pic.proofs.layouts.numbers_in.Goals as goal
 
 pub returns-clause-limits : goal.returns-clause-limits
 returns-clause-limits c =
-    let one : set.IsItems c.args.sps.now = rw c.fields-sps.ensures.items at c.fields-sps.ensures.set in
-    let two : pps.IsItems c.args.pps.now = rw c.fields-pps.ensures.items at c.fields-pps.ensures.set in
+    let one : set.AreSpsItems c.args.sps.now = rw c.fields-sps.ensures.items at c.fields-sps.ensures.set in
+    let two : pps.ArePpsItems c.args.pps.now = rw c.fields-pps.ensures.items at c.fields-pps.ensures.set in
     limits_of c.sets_tell_partitions.ensures c.args.sps.now c.args.pps.now _ one two (search rules)

@@ -1,5 +1,5 @@
 use Rattle.std.proofs.Common.{◌≡◌, ◌-◌, ◌≤◌, drop, get_or}
-use Rattle.vx_pps.specs.Items.{numbers_of}
+use Rattle.vx_table.specs.Loaded.{numbers_of}
 use Rattle.vx_pps.proofs.pps.number_at.Given as goal
 
 -- the number is one from here on

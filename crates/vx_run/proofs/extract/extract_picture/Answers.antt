@@ -1,7 +1,7 @@
 use Rattle.std.proofs.Common.{Err, subst}
 use Rattle.vx_pic.specs.Readings.{pictures}
 use Rattle.vx_pic.specs.Parts.{Parts}
-use Rattle.vx_extract.specs.Extracting.{Writes}
+use Rattle.vx_extract.specs.Extracting.{WritesPicture}
 use Rattle.vx_run.proofs.Extracting.{shown_is, extracted_by}
 use Rattle.vx_run.proofs.extract.extract_picture.Goals as goal
 
@@ -17,5 +17,5 @@ returns-in-Err-clause-answer g c R b units readings p ps done fed are stands =
     let l' = g.K.Sink.bytes_taken c.picture-2.new.out in
     let k = g.K.Sink.write_faults c.args.out.now in
     let k' = g.K.Sink.write_faults c.picture-2.new.out in
-    let wrote = subst (λ (q : Parts). Writes q done c.picture-2.new.self l l' k k' (Err c.in-Err.error)) same (c.in-Err.ensures.answer done stands) in
+    let wrote = subst (λ (q : Parts). WritesPicture q done c.picture-2.new.self l l' k k' (Err c.in-Err.error)) same (c.in-Err.ensures.answer done stands) in
     rw c.stop_of_picture.ensures (extracted_by p done c.picture-2.new.self l l' k k' c.args.pictures c.in-Err.error wrote)

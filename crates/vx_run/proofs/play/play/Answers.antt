@@ -6,7 +6,7 @@ use Rattle.vx_run.specs.declared.stop.Stop.TheVariants.{NoMemory}
 use Rattle.vx_run.specs.Change.{change, sources_change}
 use Rattle.vx_run.specs.Grammar.{texts}
 use Rattle.vx_run.specs.Merge.{corners_of}
-use Rattle.vx_run.specs.Play.{file_regions, most_files, region_corners, region_of}
+use Rattle.vx_run.specs.Play.{file_regions, most_files, region_corners, region_at_corner}
 use Rattle.vx_run.specs.Rounds.{most_sources}
 use Rattle.vx_run.specs.inner.Placings.{placing_in}
 use Rattle.vx_run.proofs.Corners.{many_corners, too_many_stop}
@@ -62,7 +62,7 @@ play_rounds-requires g c =
     let corners = c.in-Some.regions.corners.items in
     let placed = many_corners c.args.placings.now in
     let few : length corners ≤ most_sources = omega (arith, found.1) in
-    let each = ap (λ (l : List ℕ). length l) found.0.each ∙ length-map (corners_of (map placing_in (texts c.args.placings.now))) (region_of corners) in
+    let each = ap (λ (l : List ℕ). length l) found.0.each ∙ length-map (corners_of (map placing_in (texts c.args.placings.now))) (region_at_corner corners) in
     record {
       corners = rw c.deref-2.ensures.value (found_corners c.args.placings.now corners c.requires.words c.requires.some found.0.once few);
       few = rw c.deref.ensures.value (omega (arith, c.if-len-gt-MOST_FILES.false, c.len.ensures));

@@ -6,7 +6,7 @@ use Rattle.vx_assemble.specs.Feed.{Feeding}
 use Rattle.vx_assemble.specs.Held.{HasPicture}
 use Rattle.vx_merge.specs.declared.corner.Corner.{Corner}
 use Rattle.vx_pic.proofs.Existing.{there_are_readers}
-use Rattle.vx_play.specs.Scheduled.{Scheduled, count_of as regions_in}
+use Rattle.vx_play.specs.Scheduled.{Scheduled, regions_counted}
 use Rattle.vx_run.proofs.Playing.{advance_below, advance_done, advance_holds, advance_stops, play_unmade, round_goes, round_stops}
 use Rattle.vx_run.proofs.PlayRounds.{has_asked, moved_since, play_begins, played_same, plays_so, stayed_since}
 use Rattle.vx_run.proofs.play.play_by.Goals as goal
@@ -19,7 +19,7 @@ loop-ended-init g c =
     let fits : length feeds ≡ length c.args.merger.now.corners = omega (arith, c.in_ok-feeds.ensures.count, c.requires.count) in (
       (refl, refl),
       (c.requires.sources, omega (arith, fits), omega (arith, c.in_ok-ended.ensures, c.requires.count)),
-      (refl, ap (λ (x : Scheduled). length x.gone) is ∙ length-replicate (regions_in s.regions) 0 ∙ c.requires.regions, inl (refl, ap (λ (x : Scheduled). x.last) is)),
+      (refl, ap (λ (x : Scheduled). length x.gone) is ∙ length-replicate (regions_counted s.regions) 0 ∙ c.requires.regions, inl (refl, ap (λ (x : Scheduled). x.last) is)),
       λ R of. play_begins _ _ g.K.Sink.bytes_taken g.K.Sink.write_faults R c.args.sources.now.items c.args.out.now c.args.merger.now.corners c.args.merger.now.level s.regions s is (omega (arith, c.requires.sources)) c.requires.regions feeds c.args.merger.now fits c.in_ok-feeds.ensures.unfed c.requires.stands,
     )
 
@@ -54,7 +54,7 @@ returns-in_err-advance_regions-clause-plays g c R of =
     let s = c.loop-ended.schedule in
     let own : s.regions ≡ c.args.schedule.now.regions = c.loop-ended.invariant.2.0 in
     let many : length s.regions ≡ length first = omega (arith, ap (λ (x : List ℕ). length x) own, c.requires.sources) in
-    let enough : regions_in s.regions ≡ length c.args.merger.now.corners = ap regions_in own ∙ c.requires.regions in
+    let enough : regions_counted s.regions ≡ length c.args.merger.now.corners = ap regions_counted own ∙ c.requires.regions in
     let l' = c.advance_regions.new.sources.items in
     let s' = c.advance_regions.new.schedule in
     let fs = c.advance_regions.new.feeds.items in
@@ -73,7 +73,7 @@ play_round-requires g c =
     let s = c.loop-ended.schedule in
     let own : s.regions ≡ c.args.schedule.now.regions = c.loop-ended.invariant.2.0 in
     let many : length s.regions ≡ length first = omega (arith, ap (λ (x : List ℕ). length x) own, c.requires.sources) in
-    let enough : regions_in s.regions ≡ length c.args.merger.now.corners = ap regions_in own ∙ c.requires.regions in
+    let enough : regions_counted s.regions ≡ length c.args.merger.now.corners = ap regions_counted own ∙ c.requires.regions in
     let l' = c.advance_regions.new.sources.items in
     let s' = c.advance_regions.new.schedule in
     let fs = c.advance_regions.new.feeds.items in
@@ -96,7 +96,7 @@ returns-in_err-play_round-clause-plays g c R of =
     let s = c.loop-ended.schedule in
     let own : s.regions ≡ c.args.schedule.now.regions = c.loop-ended.invariant.2.0 in
     let many : length s.regions ≡ length first = omega (arith, ap (λ (x : List ℕ). length x) own, c.requires.sources) in
-    let enough : regions_in s.regions ≡ length c.args.merger.now.corners = ap regions_in own ∙ c.requires.regions in
+    let enough : regions_counted s.regions ≡ length c.args.merger.now.corners = ap regions_counted own ∙ c.requires.regions in
     let l' = c.advance_regions.new.sources.items in
     let s' = c.advance_regions.new.schedule in
     let fs = c.advance_regions.new.feeds.items in
@@ -119,7 +119,7 @@ loop-ended-preserved g c =
     let s = c.loop-ended.schedule in
     let own : s.regions ≡ c.args.schedule.now.regions = c.loop-ended.invariant.2.0 in
     let many : length s.regions ≡ length first = omega (arith, ap (λ (x : List ℕ). length x) own, c.requires.sources) in
-    let enough : regions_in s.regions ≡ length c.args.merger.now.corners = ap regions_in own ∙ c.requires.regions in
+    let enough : regions_counted s.regions ≡ length c.args.merger.now.corners = ap regions_counted own ∙ c.requires.regions in
     let l' = c.advance_regions.new.sources.items in
     let s' = c.advance_regions.new.schedule in
     let fs = c.advance_regions.new.feeds.items in
@@ -158,7 +158,7 @@ loop-ended-smaller g c =
     let s = c.loop-ended.schedule in
     let own : s.regions ≡ c.args.schedule.now.regions = c.loop-ended.invariant.2.0 in
     let many : length s.regions ≡ length first = omega (arith, ap (λ (x : List ℕ). length x) own, c.requires.sources) in
-    let enough : regions_in s.regions ≡ length c.args.merger.now.corners = ap regions_in own ∙ c.requires.regions in
+    let enough : regions_counted s.regions ≡ length c.args.merger.now.corners = ap regions_counted own ∙ c.requires.regions in
     let l' = c.advance_regions.new.sources.items in
     let s' = c.advance_regions.new.schedule in
     let fs = c.advance_regions.new.feeds.items in
@@ -180,7 +180,7 @@ returns-clause-plays g c R of =
     let s = c.loop-ended.schedule in
     let own : s.regions ≡ c.args.schedule.now.regions = c.loop-ended.invariant.2.0 in
     let many : length s.regions ≡ length first = omega (arith, ap (λ (x : List ℕ). length x) own, c.requires.sources) in
-    let enough : regions_in s.regions ≡ length c.args.merger.now.corners = ap regions_in own ∙ c.requires.regions in
+    let enough : regions_counted s.regions ≡ length c.args.merger.now.corners = ap regions_counted own ∙ c.requires.regions in
     let l' = c.advance_regions.new.sources.items in
     let s' = c.advance_regions.new.schedule in
     let fs = c.advance_regions.new.feeds.items in

@@ -3,7 +3,7 @@ use Rattle.std.specs.Prelude.{replicate}
 use Rattle.std.proofs.lemmas.Result.{err_from_is_err_and}
 use Rattle.vx_merge.specs.declared.corner.Corner.{Corner}
 use Rattle.vx_merge.specs.Merging.{AreCorners}
-use Rattle.vx_play.specs.Scheduled.{Scheduled, count_of as regions_in}
+use Rattle.vx_play.specs.Scheduled.{Scheduled, regions_counted}
 use Rattle.vx_run.specs.Change.{change, sources_change}
 use Rattle.vx_run.specs.inner.Playing.{PlaysRounds}
 use Rattle.vx_run.proofs.Playing.{play_unmade}
@@ -30,9 +30,9 @@ play_by-requires g c =
     record {
       corners = subst AreCorners same c.requires.corners;
       stands = c.in_ok-merger.ensures.stands;
-      begins = subst (λ (x : Scheduled). x ≡ record { regions = x.regions; gone = replicate (regions_in x.regions) 0; last = None }) (sym is) refl;
+      begins = subst (λ (x : Scheduled). x ≡ record { regions = x.regions; gone = replicate (regions_counted x.regions) 0; last = None }) (sym is) refl;
       few = omega (arith, own, c.requires.few);
-      regions = ap (λ (x : Scheduled). regions_in x.regions) is ∙ c.requires.regions ∙ many;
+      regions = ap (λ (x : Scheduled). regions_counted x.regions) is ∙ c.requires.regions ∙ many;
       count = many;
       sources = omega (arith, c.requires.count, own);
     }

@@ -3,7 +3,7 @@ use Rattle.vx_sh.specs.Whole.{at_of}
 use Rattle.vx_sh.proofs.Sized.{all_follow}
 use Rattle.vx_sh.proofs.Stopped.{slice_ends, whole_bytes}
 use Rattle.vx_table.proofs.Stopped.{last_byte}
-use Rattle.vx_table.specs.Trailing.{EndsWithStop}
+use Rattle.vx_table.specs.laws.Trailing.{EndsWithStop}
 use Rattle.vx_sh.proofs.write.write_slice_at.Goals as goal
 
 pub into_bytes-requires : goal.into_bytes-requires

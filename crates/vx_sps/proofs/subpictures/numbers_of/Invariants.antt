@@ -1,7 +1,7 @@
 use Rattle.std.proofs.Common.{◌≡◌, take}
-use Rattle.vx_sps.specs.Subpictures as spec
+use Rattle.vx_table.specs.Loaded as loading
 use Rattle.vx_sps.proofs.subpictures.numbers_of.Given as goal
 
 -- the numbers of the items seen so far
 abbrev pub invariant-loop-i : goal.invariant-loop-i
-invariant-loop-i l = l.numbers ≡ spec.numbers_of (take l.i l.fields) l.field
+invariant-loop-i l = l.numbers ≡ loading.numbers_of (take l.i l.fields) l.field

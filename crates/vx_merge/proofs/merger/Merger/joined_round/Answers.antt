@@ -1,5 +1,5 @@
 use Rattle.std.proofs.Common.{Some, map, refl, sym, ap, subst, length, ◌∙◌}
-use Rattle.vx_merge.specs.Joins.{joined}
+use Rattle.vx_merge.specs.Joins.{after_end_of_sequence}
 use Rattle.vx_merge.specs.Merging.{AreCorners, Merging, Stands}
 use Rattle.vx_merge.specs.inner.Progress.{IsProgress, merging_of}
 use Rattle.vx_merge.proofs.JoinedRounds.{joined_stopped}
@@ -32,4 +32,4 @@ returns-in-Err-clause-answer g c done stands =
     let before : Stands (merging_of c.deref.result.now c.self.inside.level c.self.inside.progress) done = record { slots = stood.slots; bytes = stood.bytes; going = refl } in
     let x = merging_of c.deref.result.now c.self.inside.level c.write_joined.new.progress in
     let y : Merging = record x { corners = c.self.inside.corners.items; first = Some c.first_of.result } in
-    joined_stopped (map joined (map g.L.Lender.lent c.args.lenders.now)) done x y _ _ _ _ c.in-Err.failure (sym c.deref.ensures.value) refl (c.in-Err.ensures.answer done before)
+    joined_stopped (map after_end_of_sequence (map g.L.Lender.lent c.args.lenders.now)) done x y _ _ _ _ c.in-Err.failure (sym c.deref.ensures.value) refl (c.in-Err.ensures.answer done before)

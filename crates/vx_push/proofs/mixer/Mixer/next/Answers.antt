@@ -9,7 +9,7 @@ use Rattle.vx_push.specs.declared.intake.State.TheVariants.{Picture as AtPicture
 use Rattle.vx_push.specs.declared.mixer.Mixed.{Mixed}
 use Rattle.vx_push.specs.Comes.{Intaking}
 use Rattle.vx_push.specs.Mixing.{Mixing}
-use Rattle.vx_push.specs.inner.Mixing.{AreSeen, Looks, Merges, HavePassed, round_of}
+use Rattle.vx_push.specs.inner.Mixing.{AreSeen, Looks, MergesHanded, HavePassed, round_of}
 use Rattle.vx_push.proofs.Few.{few_behind}
 use Rattle.vx_push.proofs.Mixing.{ready_all, answers_looked, answers_barred, answers_merged}
 use Rattle.vx_push.proofs.mixer.Mixer.next.Goals as goal
@@ -34,7 +34,7 @@ returns-in-Ok-clause-answer c held end R of given done mixed =
     let h = rw (← c.self.view_is) at mixed in
     let none = rw (← c.self.view_is) at end in
     let looks = subst (λ (l : List Intaking). Looks l c.self.inside.rounds (Ok tt)) c.deref.ensures.value c.in_default-look.ensures.looks in
-    let merges = subst (λ (l : List Intaking). Merges (round_of l) done c.merge_round.new.merger c.merge_round.new.merged.taken c.self.inside.rounds (Ok c.in-Ok.kind)) c.deref-2.ensures.value (c.in-Ok.ensures.merges done (h.stands none)) in
+    let merges = subst (λ (l : List Intaking). MergesHanded (round_of l) done c.merge_round.new.merger c.merge_round.new.merged.taken c.self.inside.rounds (Ok c.in-Ok.kind)) c.deref-2.ensures.value (c.in-Ok.ensures.merges done (h.stands none)) in
     let intakes = c.self.inside.intakes.items in
     let some : 0 < length intakes = omega (arith, c.self.invariant.0.some, c.self.invariant.1) in
     let first = some_at intakes 0 some in
@@ -51,5 +51,5 @@ returns-in-Err-merge_round-clause-answer c held end R of given done mixed =
     let none = rw (← c.self.view_is) at end in
     let empty = rw (← c.self.view_is) at held in
     let looks = subst (λ (l : List Intaking). Looks l c.self.inside.rounds (Ok tt)) c.deref.ensures.value c.in_default-look.ensures.looks in
-    let merges = subst (λ (l : List Intaking). Merges (round_of l) done c.merge_round.new.merger c.merge_round.new.merged.taken c.self.inside.rounds (Err c.in-Err-merge_round.stop)) c.deref-2.ensures.value (c.in-Err-merge_round.ensures.merges done (h.stands none)) in
+    let merges = subst (λ (l : List Intaking). MergesHanded (round_of l) done c.merge_round.new.merger c.merge_round.new.merged.taken c.self.inside.rounds (Err c.in-Err-merge_round.stop)) c.deref-2.ensures.value (c.in-Err-merge_round.ensures.merges done (h.stands none)) in
     answers_barred R _ given done h _ looks.0 looks.1 looks.2 c.in-Err-merge_round.ensures.task.corners c.in-Err-merge_round.ensures.task.level refl refl empty c.in-Err-merge_round.stop refl merges

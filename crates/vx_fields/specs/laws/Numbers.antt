@@ -21,8 +21,8 @@ use Rattle.vx_fields.specs.declared.names.ph.TheConstants as names_ph
 use Rattle.vx_fields.specs.declared.names.sh.TheConstants as names_sh
 
 -- fields, in the order of their numbers
-abbrev pub fields : List ℕ
-fields = vps.ALL ++ (ptl.ALL ++ (dpb.ALL ++ (timing.ALL ++ (sps.ALL ++ (rpl.ALL ++ (weights.ALL
+abbrev pub numbered_fields : List ℕ
+numbered_fields = vps.ALL ++ (ptl.ALL ++ (dpb.ALL ++ (timing.ALL ++ (sps.ALL ++ (rpl.ALL ++ (weights.ALL
     ++ (pps.ALL ++ (aps.ALL ++ (ph.ALL ++ (alf.ALL ++ sh.ALL))))))))))
 
 -- names for numbers that tables compute
@@ -31,8 +31,8 @@ names = names_ptl.ALL ++ (names_rpl.ALL ++ (names_sps.ALL ++ (names_pps.ALL ++ (
 
 -- No number is given twice.
 abbrev pub NumbersAreDistinct : Type 0
-NumbersAreDistinct = AllPairs (λ m n. m ≢ n) (fields ++ names)
+NumbersAreDistinct = AllPairs (λ m n. m ≢ n) (numbered_fields ++ names)
 
 -- Each is below the size of a scope.
 abbrev pub NumbersFitAScope : Type 0
-NumbersFitAScope = All (λ n. n < 1024) (fields ++ names)
+NumbersFitAScope = All (λ n. n < 1024) (numbered_fields ++ names)

@@ -8,8 +8,8 @@ use Rattle.vx_layout.specs.Borders.{Begins, Ends, SameInside, SplitsAtLines}
 use Rattle.vx_layout.specs.Bounds.{Rises, last}
 use Rattle.vx_layout.specs.Faults.{IsLayout, IsTile, SameSides, SplitsWell, SubpicsCover}
 use Rattle.vx_layout.specs.Frames.{Fills, IsPlaced, frame_of, frame_slices, with_one_subpic}
-use Rattle.vx_layout.specs.Rects.{CoversOnce, IsPart, Precedes, fits, in_order, slices_of}
-use Rattle.vx_layout.specs.Regions.{counted_from, cut, moved_to, region_of}
+use Rattle.vx_layout.specs.Rects.{CoversOnce, IsPart, Precedes, fits, in_order, slices_of_subpicture}
+use Rattle.vx_layout.specs.Regions.{counted_from, cut_bounds, moved_to, region_of}
 use Rattle.vx_layout.specs.Shapes.{AreListable, StandTogether}
 
 -- the regions that lie in one tile stand next to one another in the list
@@ -46,7 +46,7 @@ SplitByBorders =
 abbrev pub CutBoundsAreOwn : Type 0
 CutBoundsAreOwn =
     (bounds own : List ℕ) (from : ℕ) → Rises bounds → Rises own → 0 < last own → SameInside bounds from own
-    → cut bounds from (last own) ≡ own
+    → cut_bounds bounds from (last own) ≡ own
 
 -- the first of rectangles that cover a picture once and stand in order begins it, where it is a part of it
 abbrev pub FirstBegins : Type 0
@@ -106,7 +106,7 @@ abbrev pub FrameSlicesOfRegion : Type 0
 FrameSlicesOfRegion =
     (regions : List Rect) (pictures : List (List Rect)) (w h k : ℕ) (d : Rect) (e : List Rect) → All (IsPart w h) regions
     → CoversOnce regions w h → AllZip Fills regions pictures → k < length regions
-    → slices_of (frame_slices regions pictures) (slice_index_or regions k d)
+    → slices_of_subpicture (frame_slices regions pictures) (slice_index_or regions k d)
     ≡ map (moved_to (slice_index_or regions k d)) (slice_index_or pictures k e)
 
 -- counted from the corner they are the picture's own
@@ -114,7 +114,7 @@ abbrev pub FrameSlicesOfRegionCounted : Type 0
 FrameSlicesOfRegionCounted =
     (regions : List Rect) (pictures : List (List Rect)) (w h k : ℕ) (d : Rect) (e : List Rect) → All (IsPart w h) regions
     → CoversOnce regions w h → AllZip Fills regions pictures → k < length regions
-    → map (counted_from (slice_index_or regions k d)) (slices_of (frame_slices regions pictures) (slice_index_or regions k d))
+    → map (counted_from (slice_index_or regions k d)) (slices_of_subpicture (frame_slices regions pictures) (slice_index_or regions k d))
     ≡ slice_index_or pictures k e
 
 -- each slice of the frame lies in a region

@@ -2,7 +2,7 @@
 use Rattle.std.specs.Prelude.{◌≡◌, ℕ, suc, ◌<◌, ◌≤◌, Bool, true, false, List, [], ◌∷◌, ◌++◌, length, take, drop, reverse, flat_map, All}
 use Rattle.std.specs.Prelude.{slice_get, Option, Some, None}
 use Rattle.vx_sei.specs.declared.message.Message.{Message}
-use Rattle.vx_pic.specs.Readings.{Slice, Reading, messages_read, header_read, first_slice, next_slice, latest, sps_in, pps_in, aps_in}
+use Rattle.vx_pic.specs.Readings.{Slice, Reading, messages_read, header_read, first_slice, next_slice, latest_given, sps_in, pps_in, aps_in}
 use Rattle.vx_pic.specs.Readings.{gathered, Picture, is_slice, going, current}
 use Rattle.vx_pic.specs.Counts.{is_tid0_picture, counts_of, no_counts, previous}
 use Rattle.vx_pic.specs.Rules.{Readers}
@@ -61,8 +61,8 @@ pub record IsLatestAt {A : Type 0} (gives : Reading → Option A) (before : List
 -- what is in force is given by the last reading that gives it, and by no other
 abbrev pub IsByPlaces : {A : Type 0} → (Reading → Option A) → Type 0
 IsByPlaces {A} gives = (before : List Reading) (a : A)
-    → (latest gives before ≡ Some a → (n : ℕ) × IsLatestAt gives before n a)
-    × ((n : ℕ) → IsLatestAt gives before n a → latest gives before ≡ Some a)
+    → (latest_given gives before ≡ Some a → (n : ℕ) × IsLatestAt gives before n a)
+    × ((n : ℕ) → IsLatestAt gives before n a → latest_given gives before ≡ Some a)
 
 -- The SPS, the PPS and the adaptation parameter sets in force are those of the last units of their ids.
 abbrev pub StoredByPlaces : Type 0

@@ -9,13 +9,13 @@ use Rattle.vx_fields.specs.declared.names.rpl.TheConstants.{LONG_ENTRIES}
 use Rattle.vx_fields.specs.declared.rpl.TheConstants.{num_ref_entries}
 use Rattle.vx_rpl.specs.declared.entry.RefEntry.{RefEntry}
 use Rattle.vx_rpl.specs.declared.tables.TheConstants.{REF_PIC_LIST_STRUCT}
-use Rattle.vx_rpl.specs.HeaderLists.{behind}
+use Rattle.vx_rpl.specs.HeaderLists.{behind_next}
 use Rattle.vx_rpl.specs.Lists.{is_long}
 use Rattle.vx_rpl.specs.Resolved.{structure_of}
 
 -- the entries that a structure's items come to
 abbrev pub entries_spelled : Bool → List Item → List RefEntry
-entries_spelled weighted items = (structure_of weighted (behind num_ref_entries items)).entries
+entries_spelled weighted items = (structure_of weighted (behind_next num_ref_entries items)).entries
 
 -- They are as many as num_ref_entries says, and so many of them are long-term ones as a walk counts.
 abbrev pub EntriesAreCounted : Type 0

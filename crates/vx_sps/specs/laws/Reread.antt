@@ -10,10 +10,10 @@ use Rattle.vx_table.specs.Scope.{quotient}
 use Rattle.vx_sps.specs.declared.shape.SpsShape.{SpsShape}
 use Rattle.vx_sps.specs.declared.shape.SubpicPlan.{SubpicPlan}
 use Rattle.vx_sps.specs.declared.shape.SubpicPlan.TheVariants.{Absent, One, Many}
-use Rattle.vx_sps.specs.Set.{IsItems, width_of, height_of, ctb_size_of}
-use Rattle.vx_sps.specs.Subpictures.{subpics_of, rect_of, is_treated, is_filtered, id_of}
-use Rattle.vx_sps.specs.Depends.{kept_of}
-use Rattle.vx_sps.specs.Reshaped.{IsShape, IsReshaped, id_bits}
+use Rattle.vx_sps.specs.Set.{AreSpsItems, width_of, height_of, ctb_size_of}
+use Rattle.vx_sps.specs.Subpictures.{subpics_of, rect_of, is_treated, is_filtered, sps_subpic_id_of}
+use Rattle.vx_sps.specs.Depends.{kept_sps_items}
+use Rattle.vx_sps.specs.Reshaped.{IsShape, IsReshapedSps, id_bits}
 
 -- ---- the subpictures of a plan
 
@@ -30,11 +30,11 @@ rect_in columns rows (One id_len id) i = whole_picture columns rows
 rect_in columns rows (Many rects) i = slice_index_or rects i no_rect
 
 -- id i, where no PPS says another
-abbrev pub id_in : SubpicPlan → ℕ → ℕ
-id_in Absent i = i
-id_in (One id_len None) i = i
-id_in (One id_len (Some id)) i = id
-id_in (Many rects) i = i
+abbrev pub id_in_plan : SubpicPlan → ℕ → ℕ
+id_in_plan Absent i = i
+id_in_plan (One id_len None) i = i
+id_in_plan (One id_len (Some id)) i = id
+id_in_plan (Many rects) i = i
 
 -- ---- the set
 
@@ -49,11 +49,11 @@ pub record Says (source : List Item) (shape : SpsShape) (items : List Item) : Ty
       → rect_of items i ≡ rect_in (quotient shape.width (ctb_size_of source)) (quotient shape.height (ctb_size_of source)) shape.subpics i
   pub treated : (i : ℕ) → is_treated items i ≡ true
   pub filtered : (i : ℕ) → is_filtered items i ≡ false
-  pub id : (i : ℕ) → i < count_in shape.subpics → id_of items i ≡ id_in shape.subpics i
+  pub id : (i : ℕ) → i < count_in shape.subpics → sps_subpic_id_of items i ≡ id_in_plan shape.subpics i
 
 abbrev pub ReshapedSays : Type 0
-ReshapedSays = (source items : List Item) (shape : SpsShape) → IsItems source → IsShape (ctb_size_of source) shape
-    → IsReshaped source shape items → Says source shape items
+ReshapedSays = (source items : List Item) (shape : SpsShape) → AreSpsItems source → IsShape (ctb_size_of source) shape
+    → IsReshapedSps source shape items → Says source shape items
 
 -- Of itself it signals its id, and of its subpictures whether it describes them, the bits of their ids, whether these are mapped by
 -- either set, and whether by this one: of none that are described all is absent.
@@ -85,8 +85,8 @@ pub record Signals (shape : SpsShape) (items : List Item) : Type 0 where
 
 abbrev pub ReshapedSignals : Type 0
 ReshapedSignals = (source items : List Item) (shape : SpsShape) → shape.id < 16 → id_len_in shape.subpics < 16
-    → IsReshaped source shape items → Signals shape items
+    → IsReshapedSps source shape items → Signals shape items
 
 -- Its kept fields are the source's.
 abbrev pub ReshapedKeeps : Type 0
-ReshapedKeeps = (source items : List Item) (shape : SpsShape) → IsReshaped source shape items → kept_of items ≡ kept_of source
+ReshapedKeeps = (source items : List Item) (shape : SpsShape) → IsReshapedSps source shape items → kept_sps_items items ≡ kept_sps_items source

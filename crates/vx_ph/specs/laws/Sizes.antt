@@ -8,7 +8,7 @@ use Rattle.vx_rpl.specs.declared.entry.Structure.{Structure}
 use Rattle.vx_sps.specs.Set.{extra_ph_bits_of}
 use Rattle.vx_ph.specs.declared.header.PictureHeader.{PictureHeader}
 use Rattle.vx_ph.specs.InForce.{in_force, structures}
-use Rattle.vx_ph.specs.Picture.{IsUnit}
+use Rattle.vx_ph.specs.Picture.{IsPictureHeaderUnit}
 
 -- structures of an SPS for one list: 64 at most, of 29 entries at most
 pub record AreFew (structures : List Structure) : Type 0 where
@@ -28,7 +28,7 @@ abbrev pub header_limit : ℕ
 header_limit = 131072
 
 abbrev pub SpellingIsShort : Type 0
-SpellingIsShort = (table : RplTable) (s : List ℕ) (header : PictureHeader) (bytes : List ℕ) → IsBounded table s → IsUnit table s header bytes
+SpellingIsShort = (table : RplTable) (s : List ℕ) (header : PictureHeader) (bytes : List ℕ) → IsBounded table s → IsPictureHeaderUnit table s header bytes
     → length bytes ≤ header_limit
 
 -- Sets are such, where the SPS asks for so few extra bits.

@@ -1,16 +1,15 @@
 -- What slices that a list can name come to.
 use Rattle.std.specs.Prelude.{◌≡◌, ℕ, ◌+◌, ◌-◌, ◌^◌, ◌<◌, ◌≤◌, Bool, true, false, List, ◌∷◌, [], length, Some}
-use Rattle.vx_layout.specs.declared.numbers.Numbers.{Numbers}
 use Rattle.vx_layout.specs.declared.rect.Rect.{Rect}
 use Rattle.vx_layout.specs.Bounds.{Rises, bounds_of, last, sizes_between}
 use Rattle.vx_layout.specs.Layouts.{HasLayout}
-use Rattle.vx_layout.specs.Rects.{whole_picture}
 use Rattle.vx_layout.specs.Shapes.{AreListable}
 use Rattle.vx_pps.specs.declared.tiles.Tiles.{Tiles}
 use Rattle.vx_pps.specs.Tiles.{IsGrid}
-use Rattle.vx_pps.specs.Groups.{Follow, Group, InGroups, IsList, slices_of_all, start}
+use Rattle.vx_pps.specs.Groups.{Follow, Group, InGroups, IsList, slices_of_all, first_tile_of}
 use Rattle.vx_pps.specs.Slices.{list_from, sizes_from}
-use Rattle.vx_pps.specs.Written.{Gives, list_items, size_items}
+use Rattle.vx_pps.specs.Reshaped.{picture_of}
+use Rattle.vx_pps.specs.Written.{Gives, list_items, tile_size_items}
 
 -- such slices fall into groups that can be listed with tile indices
 abbrev pub ListsFallIntoGroups : Type 0
@@ -20,15 +19,6 @@ ListsFallIntoGroups = (g : Tiles) (slices : List Rect) → IsList g slices → 0
 abbrev pub FewFallIntoGroups : Type 0
 FewFallIntoGroups = (g : Tiles) (slices : List Rect) → IsList g slices → 0 < length slices → length slices ≤ 2 → InGroups g false slices
 
--- a picture of these tiles and slices, as one subpicture
-abbrev pub picture_of : Tiles → List Rect → Numbers
-picture_of g slices = record {
-  columns = g.columns;
-  rows = g.rows;
-  slices = slices;
-  subpics = whole_picture (last g.columns) (last g.rows) ∷ [];
-}
-
 -- the slices of a layout of one subpicture are such slices, where a list can name them
 abbrev pub LayoutsAreLists : Type 0
 LayoutsAreLists =
@@ -37,7 +27,7 @@ LayoutsAreLists =
 -- what is written of groups that can be listed gives their slices, where they are so many, less 1
 abbrev pub ListGivesSlices : Type 0
 ListGivesSlices =
-    (g : Tiles) (last : ℕ) (deltas : Bool) (group : Group) (groups : List Group) → IsGrid g → last < 1000 → start group ≡ 0
+    (g : Tiles) (last : ℕ) (deltas : Bool) (group : Group) (groups : List Group) → IsGrid g → last < 1000 → first_tile_of group ≡ 0
     → length (slices_of_all g (group ∷ groups)) ≡ last + 1 → Follow g deltas 0 (group ∷ groups)
     → Gives (list_from g last deltas) (list_items g deltas (group ∷ groups)) (Some (slices_of_all g (group ∷ groups)))
 
@@ -59,5 +49,5 @@ FewAreReadBack =
 abbrev pub BoundsAreReadBack : Type 0
 BoundsAreReadBack =
     (of : ℕ) (bounds : List ℕ) → Rises bounds → 2 ≤ length bounds → last bounds < 2 ^ 20
-    → Gives (sizes_from of (length bounds - 1) (last bounds) []) (size_items of (sizes_between bounds)) (sizes_between bounds)
+    → Gives (sizes_from of (length bounds - 1) (last bounds) []) (tile_size_items of (sizes_between bounds)) (sizes_between bounds)
     × (bounds_of (sizes_between bounds) (last bounds) ≡ bounds)

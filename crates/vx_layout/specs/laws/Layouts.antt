@@ -7,7 +7,7 @@ use Rattle.vx_layout.specs.Faults.{IsLayout, IsLowestFault, height, width}
 use Rattle.vx_layout.specs.Heights.{written_heights}
 use Rattle.vx_layout.specs.Layouts.{HasLayout, ordered_at, slice_at, slices_in, subpic_at}
 use Rattle.vx_layout.specs.Rects.{CoversOnce, holds, in_order}
-use Rattle.vx_layout.specs.Regions.{counted_from, cut, moved, region_of}
+use Rattle.vx_layout.specs.Regions.{counted_from, cut_bounds, moved, region_of}
 use Rattle.vx_layout.specs.Scan.{ctus}
 use Rattle.vx_layout.specs.Shapes.{AreListable, HasCtu}
 
@@ -55,7 +55,7 @@ LastSliceEnds =
 abbrev pub CutsNest : Type 0
 CutsNest =
     (bounds : List ℕ) (from size inner_from inner_size : ℕ) → inner_from + inner_size ≤ size
-    → cut (cut bounds from size) inner_from inner_size ≡ cut bounds (from + inner_from) inner_size
+    → cut_bounds (cut_bounds bounds from size) inner_from inner_size ≡ cut_bounds bounds (from + inner_from) inner_size
 
 -- slice m of a region is slice m of the subpicture, counted from its corner
 abbrev pub RegionKeepsSlices : Type 0

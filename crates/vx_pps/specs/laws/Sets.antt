@@ -24,20 +24,20 @@ use Rattle.vx_pps.specs.declared.partition.Partition.{Partition}
 use Rattle.vx_pps.specs.declared.tiles.Tiles.{Tiles}
 use Rattle.vx_pps.specs.Tiles.{IsGrid}
 use Rattle.vx_pps.specs.Partition.{partition}
-use Rattle.vx_pps.specs.Pps.{IsItems, IsPps, IsSpelling, columns_of, default_active, front, is_partitioned, kept_of, pps_form, rows_of, slices_of, tools}
+use Rattle.vx_pps.specs.Pps.{ArePpsItems, IsPps, IsPpsSpelling, tile_columns_of, default_active, before_tiles, is_partitioned, kept_pps_items, pps_form, tile_rows_of, slice_list_of, after_slices}
 
 -- ---- spelling
 
 -- What is written of a set is read as it, unless memory runs out.
 abbrev pub WrittenIsRead : Type 0
 WrittenIsRead =
-    (items : List Item) (bytes : List ℕ) (result : Result (List Item) ReadError) → IsSpelling items bytes
+    (items : List Item) (bytes : List ℕ) (result : Result (List Item) ReadError) → IsPpsSpelling items bytes
     → ReadsValue pps_form bytes result → (result ≡ Ok items) ⊎ (result ≡ Err errors.Memory)
 
 -- No spelling of a set is a proper prefix of another's.
 abbrev pub NoProperPrefix : Type 0
 NoProperPrefix =
-    (items others : List Item) (bytes more : List ℕ) → IsSpelling items bytes → IsSpelling others (bytes ++ more)
+    (items others : List Item) (bytes more : List ℕ) → IsPpsSpelling items bytes → IsPpsSpelling others (bytes ++ more)
     → (items ≡ others) × (more ≡ [])
 
 -- No set is long: its spelling has at most this many bytes.
@@ -45,46 +45,46 @@ abbrev pub pps_limit : ℕ
 pps_limit = 2 ^ 16
 
 abbrev pub SpellingIsShort : Type 0
-SpellingIsShort = (items : List Item) (bytes : List ℕ) → IsSpelling items bytes → length bytes ≤ pps_limit
+SpellingIsShort = (items : List Item) (bytes : List ℕ) → IsPpsSpelling items bytes → length bytes ≤ pps_limit
 
 -- ---- kept fields
 
 -- those that a region's set takes over, but for the QP and what is written anew of picture headers
-abbrev pub starred : List ℕ
-starred = pps.pps_init_qp_minus26 ∷ pps.pps_alf_info_in_ph_flag ∷ pps.pps_qp_delta_info_in_ph_flag ∷ []
+abbrev pub starred_pps_fields : List ℕ
+starred_pps_fields = pps.pps_init_qp_minus26 ∷ pps.pps_alf_info_in_ph_flag ∷ pps.pps_qp_delta_info_in_ph_flag ∷ []
 
-abbrev pub kept : List ℕ
-kept = filter (λ n. not (has (set_of starred) n)) TAKEN
+abbrev pub kept_pps_fields : List ℕ
+kept_pps_fields = filter (λ n. not (has (set_of starred_pps_fields) n)) TAKEN
 
 -- They are those without a star.
 pub record StarsTellKept : Type 0 where
-  pub before : KeepsOnly [] kept (sections_form front)
+  pub before : KeepsOnly [] kept_pps_fields (sections_form before_tiles)
   pub division : (whole width height : ℕ) → EachField (λ cell. cell.kept ≡ false) (partition whole width height)
-  pub behind : KeepsOnly [] kept (sections_form tools)
+  pub behind : KeepsOnly [] kept_pps_fields (sections_form after_slices)
 
 -- They depend on one another, and on no other field but pps_no_pic_partition_flag: where it is 1, those that say what stands in
 -- picture headers are absent. All others depend on one another alone.
 pub record KeptDependsOnKept : Type 0 where
-  pub before : DependsOnlyOn [] kept (sections_form front)
+  pub before : DependsOnlyOn [] kept_pps_fields (sections_form before_tiles)
   pub behind : DependsOnlyOn (pps.pps_no_pic_partition_flag ∷ [])
-      (LIST ∷ OFFSET ∷ PARTITIONED ∷ HAS_DBF_INFO ∷ IS_WEIGHTED ∷ HAS_WP_INFO ∷ kept) (sections_form tools)
-  pub always : DependsOnlyOn [] (LIST ∷ OFFSET ∷ TAKEN_FOR_FRAME) (sections_form tools)
+      (LIST ∷ OFFSET ∷ PARTITIONED ∷ HAS_DBF_INFO ∷ IS_WEIGHTED ∷ HAS_WP_INFO ∷ kept_pps_fields) (sections_form after_slices)
+  pub always : DependsOnlyOn [] (LIST ∷ OFFSET ∷ TAKEN_FOR_FRAME) (sections_form after_slices)
 
 -- Sets with the same items of kept fields, and the same others, are the same.
 abbrev pub KeptAndOthersTell : Type 0
 KeptAndOthersTell =
-    (items others : List Item) → IsItems items → IsItems others → shown_items (set_of kept) items ≡ shown_items (set_of kept) others
-    → other_items (set_of kept) items ≡ other_items (set_of kept) others → items ≡ others
+    (items others : List Item) → ArePpsItems items → ArePpsItems others → shown_items (set_of kept_pps_fields) items ≡ shown_items (set_of kept_pps_fields) others
+    → other_items (set_of kept_pps_fields) items ≡ other_items (set_of kept_pps_fields) others → items ≡ others
 
 -- Two sets give each kept field the same number, and have the same numbers of active entries.
 pub record GiveSame (items others : List Item) : Type 0 where
-  pub numbers : (n : ℕ) → IsTrue (has (set_of kept) n) → number items n ≡ number others n
+  pub numbers : (n : ℕ) → IsTrue (has (set_of kept_pps_fields) n) → number items n ≡ number others n
   pub active : (list : ℕ) → default_active items list ≡ default_active others list
 
 -- So do sets with the same kept items, those among them that stand for absent fields.
 abbrev pub KeptTellsNumbers : Type 0
 KeptTellsNumbers =
-    (items others : List Item) → IsItems items → IsItems others → kept_of items ≡ kept_of others → GiveSame items others
+    (items others : List Item) → ArePpsItems items → ArePpsItems others → kept_pps_items items ≡ kept_pps_items others → GiveSame items others
 
 -- ---- tiles
 
@@ -102,7 +102,7 @@ TilesAreInLimits =
 -- ---- what a layout is made of
 
 -- bounds of so many CTUs, as a layout takes them: there are two at least, and not more CTUs than a picture has
-pub record AreBounds (bounds : List ℕ) (total : ℕ) : Type 0 where
+pub record AreTileBounds (bounds : List ℕ) (total : ℕ) : Type 0 where
   pub several : 2 ≤ length bounds
   pub rises : Rises bounds
   pub all : last bounds ≡ total
@@ -120,15 +120,15 @@ pub record IsWide (samples : ℕ) : Type 0 where
   pub most : samples ≤ 16384
 
 -- the size of a CTU in luma samples (CtbSizeY), where the picture is partitioned
-abbrev pub ctb_size_of : List Item → ℕ
-ctb_size_of items = 2 ^ (number items pps.pps_log2_ctu_size_minus5 + 5)
+abbrev pub pps_ctb_size : List Item → ℕ
+pps_ctb_size items = 2 ^ (number items pps.pps_log2_ctu_size_minus5 + 5)
 
 -- the CTUs across and down (PicWidthInCtbsY, PicHeightInCtbsY)
 abbrev pub columns_in : List Item → ℕ
-columns_in items = div_ceil (number items pps.pps_pic_width_in_luma_samples) (ctb_size_of items)
+columns_in items = div_ceil (number items pps.pps_pic_width_in_luma_samples) (pps_ctb_size items)
 
 abbrev pub rows_in : List Item → ℕ
-rows_in items = div_ceil (number items pps.pps_pic_height_in_luma_samples) (ctb_size_of items)
+rows_in items = div_ceil (number items pps.pps_pic_height_in_luma_samples) (pps_ctb_size items)
 
 -- pps_single_slice_per_subpic_flag is 1: each subpicture is a slice
 abbrev pub is_single : List Item → Bool
@@ -140,17 +140,17 @@ pub record TellsPartition (items : List Item) : Type 0 where
   pub width : IsWide (number items pps.pps_pic_width_in_luma_samples)
   pub height : IsWide (number items pps.pps_pic_height_in_luma_samples)
   pub ctb : is_partitioned items ≡ true → number items pps.pps_log2_ctu_size_minus5 < 3
-  pub columns : is_partitioned items ≡ true → AreBounds (columns_of items) (columns_in items)
-  pub rows : is_partitioned items ≡ true → AreBounds (rows_of items) (rows_in items)
-  pub no_tiles : is_partitioned items ≡ false → (columns_of items ≡ []) × (rows_of items ≡ [])
-  pub named : is_some (slices_of items) ≡ (is_partitioned items && not (is_single items))
-  pub slices : IfSome (slices_of items) AreSlices
+  pub columns : is_partitioned items ≡ true → AreTileBounds (tile_columns_of items) (columns_in items)
+  pub rows : is_partitioned items ≡ true → AreTileBounds (tile_rows_of items) (rows_in items)
+  pub no_tiles : is_partitioned items ≡ false → (tile_columns_of items ≡ []) × (tile_rows_of items ≡ [])
+  pub named : is_some (slice_list_of items) ≡ (is_partitioned items && not (is_single items))
+  pub slices : IfSome (slice_list_of items) AreSlices
 
 abbrev pub SetsTellPartitions : Type 0
-SetsTellPartitions = (items : List Item) → IsItems items → TellsPartition items
+SetsTellPartitions = (items : List Item) → ArePpsItems items → TellsPartition items
 
 -- The slices that a slice list names can be listed again, where they cover the picture once.
 abbrev pub ReadSlicesAreListable : Type 0
 ReadSlicesAreListable =
-    (items : List Item) (slices : List Rect) → IsItems items → slices_of items ≡ Some slices
-    → CoversOnce slices (last (columns_of items)) (last (rows_of items)) → AreListable (columns_of items) (rows_of items) slices
+    (items : List Item) (slices : List Rect) → ArePpsItems items → slice_list_of items ≡ Some slices
+    → CoversOnce slices (last (tile_columns_of items)) (last (tile_rows_of items)) → AreListable (tile_columns_of items) (tile_rows_of items) slices

@@ -7,11 +7,11 @@ use Rattle.vx_fields.specs.declared.sps.TheConstants.{sps_entropy_coding_sync_en
 use Rattle.vx_fields.specs.declared.names.sh.TheConstants.{EXTRA_SH_BITS, DEFAULT_ACTIVE_0, DEFAULT_ACTIVE_1}
 use Rattle.vx_sps.specs.Set.{extra_ph_bits_of, extra_sh_bits_of}
 use Rattle.vx_pps.specs.Pps.{default_active}
-use Rattle.vx_ph.specs.Sizes as ph
+use Rattle.vx_ph.specs.laws.Sizes as ph
 use Rattle.vx_sh.specs.declared.numbers.SliceNumbers.{SliceNumbers}
 use Rattle.vx_sh.specs.InForce.{in_force_at}
-use Rattle.vx_sh.specs.Value.{IsSpelling}
-use Rattle.vx_sh.specs.Whole.{At, points_at, slices_at}
+use Rattle.vx_sh.specs.Value.{IsSliceHeaderSpelling}
+use Rattle.vx_sh.specs.Whole.{At, points_at, num_slices_in_subpic}
 
 -- no slice has more entry points
 abbrev pub points_limit : ℕ
@@ -27,7 +27,7 @@ pub record IsBounded (n : At) : Type 0 where
   pub first : slice_index n.slice DEFAULT_ACTIVE_0 ≤ 14
   pub second : slice_index n.slice DEFAULT_ACTIVE_1 ≤ 14
   pub ids : length n.ids ≤ most
-  pub slices : (k : ℕ) → slices_at n.layout k ≤ most
+  pub slices : (k : ℕ) → num_slices_in_subpic n.layout k ≤ most
   pub points : (k m : ℕ) → points_at n.layout (is_set (slice_index n.slice sps_entry_point_offsets_present_flag))
       (is_set (slice_index n.slice sps_entropy_coding_sync_enabled_flag)) k m ≤ points_limit
 
@@ -36,7 +36,7 @@ abbrev pub header_limit : ℕ
 header_limit = 524288
 
 abbrev pub SpellingIsShort : Type 0
-SpellingIsShort = (n : At) (fields others : List Item) (bytes : List ℕ) → IsBounded n → IsSpelling n fields others bytes
+SpellingIsShort = (n : At) (fields others : List Item) (bytes : List ℕ) → IsBounded n → IsSliceHeaderSpelling n fields others bytes
     → length bytes ≤ header_limit
 
 -- Sets, a picture header and a layout that ask for so little: 32 extra bits, 15 active entries where none are counted, and so many

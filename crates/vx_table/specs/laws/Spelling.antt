@@ -4,7 +4,7 @@ use Rattle.vx_bits.specs.declared.list.Item.{Item}
 use Rattle.vx_bits.specs.declared.refusal.Refusal.{Refusal}
 use Rattle.vx_table.specs.declared.rows.Cell.{Cell}
 use Rattle.vx_table.specs.Forms.{Form, ◌>>=◌}
-use Rattle.vx_table.specs.Spelling.{Spells, Reaches, IsRefused, items_along}
+use Rattle.vx_table.specs.Spelling.{Spells, Reaches, IsRefusedField, items_along}
 use Rattle.vx_table.specs.Values.{Follows, Parted, ComesTo, bits_along, Closes}
 
 -- bits that begin with spellings of two values begin with one
@@ -15,9 +15,9 @@ ReadsOneWay = (form : Form (List ℕ)) (total : ℕ) (v w : List ℤ) (left r s 
 -- bits that are refused aren't spelled, and are refused at one field, behind one front, in one way
 abbrev pub AnswersOneWay : Type 0
 AnswersOneWay = (form : Form (List ℕ)) (total : ℕ) (v w : List ℤ) (left r s : List Bool) (cell : Cell ℕ) (refusal : Refusal)
-    → Reaches total form v left cell r → IsRefused cell total r refusal
+    → Reaches total form v left cell r → IsRefusedField cell total r refusal
     → (Spells total form w left s → ⊥)
-    × ((next : Cell ℕ) (other : Refusal) → Reaches total form w left next s → IsRefused next total s other
+    × ((next : Cell ℕ) (other : Refusal) → Reaches total form w left next s → IsRefusedField next total s other
     → (v ≡ w) × (r ≡ s) × (cell ≡ next) × (refusal ≡ other))
 
 -- whatever the bits, they begin with the spelling of some values, or the field behind a front of them is refused
@@ -25,7 +25,7 @@ abbrev pub AnswersAlways : Type 0
 AnswersAlways = (form : Form (List ℕ)) (total : ℕ) (left : List Bool)
     → ((values : List ℤ) × (rest : List Bool) × Spells total form values left rest)
     ⊎ ((values : List ℤ) × (cell : Cell ℕ) × (rest : List Bool) × (refusal : Refusal) × Reaches total form values left cell rest
-    × IsRefused cell total rest refusal)
+    × IsRefusedField cell total rest refusal)
 
 -- bits spell values exactly where the values follow the form and the bits are their codes, one behind another
 abbrev pub SpellsBothWays : Type 0

@@ -1,0 +1,3 @@
+-- Statements of laws, which are proved: nothing that a caller has to believe.
+pub mod Enabled
+pub mod Sizes
