@@ -43,8 +43,9 @@ PROMISES = (
     ("", "`run` and the last write of `main`", ("vx_run.specs.Whole.RunsWhole",)),
 )
 WORD = r"[^\W\d][\w']*"
-# A clause of H.266, as `7.4.3.4`, `C.6`, `clause 9` or `Annex B`.
-CLAUSE = re.compile(r"\b(?:(?:[1-9]|[A-D])(?:\.\d+)+|Annex [A-D]|[Cc]lause \d+(?:\.\d+)*)")
+# A clause of H.266, as `7.4.3.4`, `C.6`, `clause 9` or `Annex B`; and what says that something is the project's own.
+CLAUSE = re.compile(r"\b(?:(?:[3-9]|[A-D])(?:\.\d+)+|Annex [A-D]|[Cc]lause \d+(?:\.\d+)*)")
+OWN = re.compile(r"\b[Oo]ur own\b")
 RESERVED = {
     *"abbrev as axiom case data do else in infixl let module mod of pub record then unfoldable use where if".split(),
     *"Type Unit tt ℕ ℤ λ _".split(),
@@ -65,6 +66,7 @@ class Item:
     heading: str
     text: str
     size: int
+    told: tuple = ()
     axiom: bool = False
     parts: dict = field(default_factory=dict)
     uses: set = field(default_factory=set)
@@ -79,6 +81,21 @@ class Item:
     def path(self):
         """Its file, in the crate's folder."""
         return path_of(self.module)
+
+    @property
+    def source(self):
+        """Where it is told what it restates: the comment that it goes with, its heading, or the head of its file; or None."""
+        return next((text for text in self.told if CLAUSE.search(text) or OWN.search(text)), None)
+
+    @property
+    def cites(self):
+        """It cites a clause of H.266."""
+        return bool(self.source and CLAUSE.search(self.source))
+
+    @property
+    def is_own(self):
+        """It is said to be the project's own, and cites no clause."""
+        return bool(self.source and not CLAUSE.search(self.source))
 
     @property
     def inner(self):
@@ -164,14 +181,14 @@ def above(lines, at, mark):
 
 
 def head_of(lines, mark):
-    """The first sentence of the comment that a file begins with."""
+    """The comment that a file begins with."""
     found = []
     for line in lines:
         text = said(line, mark)
         if not text:
             break
         found.append(text)
-    return sentence(" ".join(found))
+    return " ".join(found)
 
 
 def sentence(text):
@@ -235,12 +252,16 @@ def spec_module(crate, path):
     headings = [(at, said(line, "--").strip("- ")) for at, line in enumerate(lines) if line.strip().startswith("-- ----")]
     starts = list(DEFINES.finditer(text))
     ends = [m.start() for m in starts[1:]] + [len(text)]
+    goes_with = ("", "")
     for m, end in zip(starts, ends):
         end = min([end, *(begin for begin, _, _ in blocks if m.start() < begin)])
         body = re.sub(r"^\s*infix.*$", "", text[m.start() : end], flags=re.M)
         line = text.count("\n", 0, m.start())
         heading = next((title for at, title in reversed(headings) if at < line), "")
         item = Item(module.name, m[4], "definition", line + 1, above(lines, line, "--"), heading, body, size_of(body))
+        if item.comment or heading != goes_with[1]:
+            goes_with = (item.comment, heading)
+        item.told = (*goes_with, module.head)
         item.axiom = bool(m[3])
         item.text = " ".join(parameters for begin, finish, parameters in blocks if begin < m.start() < finish) + body
         if m[2] == "data":
@@ -660,7 +681,7 @@ READING = """
 The promises are those of [PROMISE.md](PROMISE.md) and, of the other commands, of [PROVED.md](PROVED.md); `run` as a whole is `Performs`, `ExitsWith`, all clauses of `run`, and what it asks of sources and sinks. How the numbers come about:
 
 - A definition of `specs/` rests on what its text names: what stands in its file, and what the `use` lines of that file bring. That leads from the definitions that say a promise to all that it rests on. A record counts once with its fields, and what is given by cases once with its cases. Names that a definition binds for itself further in aren't told from those of its file, so something may be counted too much; nothing is left out. {axioms}
-- Lines are those with something, comments aside. A clause is cited where the comment right above a definition names one of H.266 (`7.4.3.4`, `C.6`); what is the project's own has none to cite.
+- Lines are those with something, comments aside. A definition cites a clause of H.266 (`7.4.3.4`, `C.6`), or is said to be our own, the project's, by the comment right above it, or above the one that it goes with; where that says neither, by the heading that it stands under, up to the next; and where that says neither, by the comment that its file begins with. What says both cites. Clauses are numbered as in the edition of 08/2020. Those of which neither is said are [counted](#what-neither-cites-nor-is-our-own) at the end.
 - Tables are constants of `src/tables.rt`, written by the macros of `vx_table` (`src/macros.rt`) in the look of H.266's syntax tables. Fields are the constants of `vx_fields` ([FIELDS.md](FIELDS.md)). Constants are all others: the numbers of rules ([REFUSALS.md](REFUSALS.md)), names for what tables compute, lists of fields. Types are structs and enums of `src/` that definitions speak of.
 - Words of the kit (`length`, `map`, `Appends`) aren't counted; they stand at the end.
 - Nothing in `specs/inner/` and `specs/laws/` is listed here, nor a statement of a law that no promise rests on, nor what a call of a library alone promises: the proofs need these, but what is promised doesn't.
@@ -700,7 +721,7 @@ def promise_row(letter, name, says, found):
     fields = [item for item in constants if item.crate == "vx_fields" and not item.module.startswith("vx_fields.src.names")]
     counts = (
         len(definitions), lines_of(definitions), len({item.module for item in definitions}),
-        sum(bool(CLAUSE.search(item.comment)) for item in definitions), len(tables), lines_of(tables),
+        sum(item.cites for item in definitions), sum(item.is_own for item in definitions), len(tables), lines_of(tables),
         len(fields), len(constants) - len(fields), len(of_kind(found, "type")),
     )  # fmt: skip
     says = ", ".join(f"`{path.rpartition('.')[2]}`" for path in says)
@@ -709,10 +730,10 @@ def promise_row(letter, name, says, found):
 
 def promise_table(all_found, found):
     """The table of promises."""
-    columns = "promise | | said by | definitions | lines | files | cite a clause | tables | their lines | fields | constants | types"
+    columns = "promise | | said by | definitions | lines | files | cite a clause | say that they are our own | tables | their lines | fields | constants | types"
     rows = [promise_row(letter, name, says, found[name]) for letter, name, says in PROMISES]
     whole = promise_row("", "**`run` as a whole**", ("run", "Performs", "ExitsWith"), all_found)
-    return f"| {columns} |\n|{'---|' * 3}{'--:|' * 9}\n{whole}{''.join(rows)}"
+    return f"| {columns} |\n|{'---|' * 3}{'--:|' * 10}\n{whole}{''.join(rows)}"
 
 
 def order_of(nodes, edges):
@@ -754,16 +775,24 @@ def ordered(letters):
     return "".join(dict.fromkeys(letter for letter, _, _ in PROMISES if letter in letters))
 
 
+def source_mark(text, shown):
+    """What a text cites, or that it says that something is our own, where that doesn't stand in what is shown of it."""
+    cited = [clause for clause in dict.fromkeys(CLAUSE.findall(text)) if clause not in shown]
+    own = ["our own"] if OWN.search(text) and not CLAUSE.search(text) and not OWN.search(shown) else []
+    return f" ({', '.join(cited or own)})" if cited or own else ""
+
+
 def definition_lines(module, found, letters):
     """The lines of a file's definitions."""
     own = {letters[item] for item in module.items.values() if item in found}
     for comment, items in groups_of(module, found):
         first = sentence(comment)
-        clauses = [clause for clause in dict.fromkeys(CLAUSE.findall(comment)) if clause not in first]
+        source = items[0].source
         names = ", ".join(f"`{item.name}`" for item in items)
         mark = ordered("".join(letters[item] for item in items))
         mark = f" ({mark or 'run'})" if len(own) > 1 else ""
-        yield f"- {names}{mark}" + (f": {first}" if first else "") + (f" ({', '.join(clauses)})" if clauses else "") + "\n"
+        told = source_mark(source, first) if source and source is not module.head else ""
+        yield f"- {names}{mark}" + (f": {first}" if first else "") + told + "\n"
 
 
 def file_text(module, found, letters):
@@ -771,7 +800,8 @@ def file_text(module, found, letters):
     own = {letters[item] for item in module.items.values() if item in found}
     mark = f" ({own.pop() or 'run'})" if len(own) == 1 else ""
     name = path_of(module.name).removeprefix("specs/")
-    return f"\n**{name}**{mark} {module.head}\n\n" + "".join(definition_lines(module, found, letters))
+    head = sentence(module.head) + source_mark(module.head, sentence(module.head))
+    return f"\n**{name}**{mark} {head}\n\n" + "".join(definition_lines(module, found, letters))
 
 
 def names_by_file(items):
@@ -858,6 +888,28 @@ Of {number(len(definitions))} definitions {number(rest)} are named by contracts 
 """
 
 
+def untold_text(found):
+    """The definitions that cite no clause and aren't said to be our own, by file."""
+    files, definitions = defaultdict(list), of_kind(found, "definition")
+    for item in sorted(definitions, key=lambda item: (item.module, item.line)):
+        if item.source is None:
+            files[f"{item.crate} {item.module.split('.', 2)[2]}"].append(item.name)
+    total = sum(map(len, files.values()))
+    cite = [item for item in definitions if item.cites]
+    by_comment = sum(item.source is item.comment for item in cite)
+    own = sum(item.is_own for item in definitions)
+
+    def told(names):
+        return ", ".join(f"`{name}`" for name in names[:8]) + (" .." if names[8:] else "")
+
+    lines = "".join(f"- {file}, {number(len(names))}: {told(names)}\n" for file, names in files.items())
+    return f"""
+## What neither cites nor is our own
+
+Of {many(len(definitions), 'definition')} that a promise rests on {number(len(cite))} cite a clause of H.266, {number(by_comment)} of them by a comment of their own, {number(own)} say that they are our own, and {number(total)} say neither{', by file:' if total else '.'}
+{chr(10) if total else ''}{lines}"""
+
+
 def kit_text(found):
     """The words of the kit."""
     modules = defaultdict(set)
@@ -892,7 +944,7 @@ def page(house):
     body = "".join(crate_text(house, crate, all_found, letters) for crate in order)
     axioms = [f"`{item.name}` ({item.crate})" for item in of_kind(all_found, "definition") if item.axiom]
     reading = READING.replace("{axioms}", f"Axioms, without a text: {', '.join(axioms)}." if axioms else "No definition is an axiom: each has its text.")
-    ends = twice_text(house, all_found) + dead_text(house, all_found, public, inner) + kit_text(all_found)
+    ends = untold_text(all_found) + twice_text(house, all_found) + dead_text(house, all_found, public, inner) + kit_text(all_found)
     return HEAD + promise_table(whole, found) + reading + body + ends
 
 

@@ -1,4 +1,4 @@
--- What is written for the rounds of several streams is read again, as one picture for each round.
+-- What is written for the rounds of several streams is read again, as one picture for each round. Our own.
 use Rattle.std.specs.List.{AllByRecursion}
 use Rattle.std.specs.Prelude.{◌≡◌, ℕ, List, [], ◌∷◌, drop, length, map, slice_get, Option, Some}
 use Rattle.vx_pic.specs.Alike.{AreAlike}

@@ -1,4 +1,4 @@
--- What is written for the rounds of several streams, as bytes, is read again as their merge, and each region can be extracted.
+-- What is written for the rounds of several streams, as bytes, is read again as their merge, and each region can be extracted. Our own.
 use Rattle.std.specs.List.{AllByRecursion}
 use Rattle.std.specs.Prelude.{◌≡◌, ℕ, ◌≤◌, true, List, length, map, slice_get, All, Option, Some, None}
 use Rattle.vx_annexb.specs.ByteStream.{source_limit}

@@ -18,16 +18,16 @@ pub record StartsAt (b : List ℕ) (p s : ℕ) : Type 0 where
   pub zeros : AreZeros b p (s - 1)
   pub one : slice_index b (s - 1) ≡ 1
 
--- a unit can't go on at place e: 00 00 00 or 00 00 01 stands there, or the last bytes are zeros from there on
+-- a unit can't go on at place e: 00 00 00 or 00 00 01 stands there, or the last bytes are zeros from there on (B.3)
 abbrev pub CanEnd : List ℕ → Bool → ℕ → Type 0
 CanEnd b all e = IsMark 1 b e ⊎ (IsTrue all × AreZeros b e (length b))
 
--- where a unit begins, and the place behind its last byte
+-- where a unit begins, and the place behind its last byte (our own)
 pub record UnitPlace : Type 0 where
   pub start : ℕ
   pub end : ℕ
 
--- the unit's bytes
+-- the unit's bytes (our own)
 abbrev pub unit_bytes : List ℕ → UnitPlace → List ℕ
 unit_bytes b u = slice_range b u.start u.end
 
@@ -36,61 +36,61 @@ pub record IsUnit (b : List ℕ) (all : Bool) (p : ℕ) (u : UnitPlace) : Type 0
   pub starts : StartsAt b p u.start
   pub ends : IsFirstFrom (CanEnd b all) u.start u.end
 
--- no unit's end and no stray byte is seen behind place p
+-- no unit's end and no stray byte is seen behind place p (B.2.1)
 abbrev pub SeesNoMore : List ℕ → Bool → ℕ → Type 0
 SeesNoMore b all p = AreZeros b p (length b) ⊎ ((s : ℕ) × StartsAt b p s × ((k : ℕ) → s ≤ k → ¬ CanEnd b all k))
 
--- behind place p the first byte that is no zero stands at place q, and is not the 01 of a start code
+-- behind place p the first byte that is no zero stands at place q, and is not the 01 of a start code (B.2.1)
 pub record IsStray (b : List ℕ) (p q : ℕ) : Type 0 where
   pub zeros : AreZeros b p q
   pub within : q < length b
   pub nonzero : slice_index b q ≢ 0
   pub no_code : slice_index b q ≡ 1 → q < p + 2
 
--- the most bytes that a source may have
+-- the most bytes that a source may have (our own limit)
 unfoldable pub source_limit : ℕ
 source_limit = 2 ^ 40
 
--- the most bytes that a unit may have
+-- the most bytes that a unit may have (our own limit)
 abbrev pub unit_limit : ℕ
 unit_limit = 2 ^ 23
 
--- a unit that no rule refuses
+-- a unit that no rule refuses (7.3.1, 7.4.2.1; the limit is our own)
 pub record IsSound (unit : List ℕ) : Type 0 where
   pub header : HasHeader unit
   pub emulation : (k : ℕ) → ¬ BreaksRule unit k
   pub size : length unit ≤ unit_limit
 
 -- r refuses the unit whose first byte stands at this place: its header can't be read,
--- else a byte breaks the rules of emulation prevention, else it is too long
+-- else a byte breaks the rules of emulation prevention, else it is too long (our own)
 abbrev pub RefusesUnit : List ℕ → ℕ → Refusal → Type 0
 RefusesUnit unit place r =
     ((¬ HasHeader unit) × (r ≡ Framing BAD_HEADER place))
     ⊎ ((HasHeader unit × ((k : ℕ) × IsFirstFrom (BreaksRule unit) 0 k × (r ≡ Framing BAD_EMULATION (place + k))))
     ⊎ (HasHeader unit × ((k : ℕ) → ¬ BreaksRule unit k) × (unit_limit < length unit) × (r ≡ Limit LONG_UNIT)))
 
--- r refuses what comes next behind place p: a byte that is no start code, or a unit
+-- r refuses what comes next behind place p: a byte that is no start code, or a unit (our own)
 abbrev pub RefusesNext : List ℕ → Bool → ℕ → Refusal → Type 0
 RefusesNext b all p r =
     ((q : ℕ) × IsStray b p q × (r ≡ Framing NOT_A_START_CODE q))
     ⊎ ((u : UnitPlace) × IsUnit b all p u × RefusesUnit (unit_bytes b u) u.start r)
 
--- these units follow one another from place p on, and no rule refuses them
+-- these units follow one another from place p on, and no rule refuses them (B.2.1)
 abbrev pub FollowsFrom : List ℕ → Bool → ℕ → List UnitPlace → Type 0
 FollowsFrom b all p [] = Unit {0}
 FollowsFrom b all p (u ∷ us) = IsUnit b all p u × IsSound (unit_bytes b u) × FollowsFrom b all u.end us
 
--- the place behind the last of these units
+-- the place behind the last of these units (our own)
 abbrev pub end_of : ℕ → List UnitPlace → ℕ
 end_of p [] = p
 end_of p (u ∷ us) = end_of u.end us
 
--- how the bytes end behind their units: nothing more is seen, or a refusal
+-- how the bytes end behind their units: nothing more is seen, or a refusal (our own)
 abbrev pub EndsWith : List ℕ → Bool → ℕ → Option Refusal → Type 0
 EndsWith b all p None = SeesNoMore b all p
 EndsWith b all p (Some r) = RefusesNext b all p r
 
--- the units of the bytes before the first refusal, and the ending behind them
+-- the units of the bytes before the first refusal, and the ending behind them (B.2.1)
 pub record IsStream (b : List ℕ) (all : Bool) (units : List UnitPlace) (ending : Option Refusal) : Type 0 where
   pub follow : FollowsFrom b all 0 units
   pub behind : EndsWith b all (end_of 0 units) ending

@@ -4,7 +4,7 @@ use Rattle.std.specs.Prelude.{nat_le, Bool, IsTrue, List, [], ◌∷◌, ◌++�
 use Rattle.vx_bits.specs.Codes.{EndsInNoZero}
 use Rattle.vx_annexb.specs.Places.{IsMark}
 
--- an emulation_prevention_three_byte stands at place k: 03 behind 00 00
+-- an emulation_prevention_three_byte stands at place k: 03 behind 00 00 (7.3.1.1)
 abbrev pub is_emulation : List ℕ → ℕ → Bool
 is_emulation n k = nat_le 2 k && (slice_index n (k - 2) == 0 && (slice_index n (k - 1) == 0 && slice_index n k == 3))
 
@@ -14,16 +14,16 @@ BreaksRule n k =
     ((2 ≤ k) × IsMark 2 n (k - 2))
     ⊎ ((1 ≤ k) × (k < length n) × IsTrue (is_emulation n (k - 1)) × (3 < slice_index n k))
 
--- the first k bytes of n without their emulation bytes
+-- the first k bytes of n without their emulation bytes (7.3.1.1)
 abbrev pub unescaped_to : List ℕ → ℕ → List ℕ
 unescaped_to n zero = []
 unescaped_to n (suc k) = if is_emulation n k then unescaped_to n k else unescaped_to n k ++ slice_index n k ∷ []
 
--- n without its emulation bytes
+-- n without its emulation bytes (7.3.1.1)
 abbrev pub unescaped : List ℕ → List ℕ
 unescaped n = unescaped_to n (length n)
 
--- n is r with its emulation bytes
+-- n is r with its emulation bytes (7.3.1.1, 7.4.2.1)
 pub record IsEscaped (r n : List ℕ) : Type 0 where
   pub rules : (k : ℕ) → ¬ BreaksRule n k
   pub last : EndsInNoZero n

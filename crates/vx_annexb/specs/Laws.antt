@@ -86,7 +86,7 @@ AnnexBIsStream =
     → IsStream (annex_b zeros parts) true (places_from zeros parts) None
     × (map (unit_bytes (annex_b zeros parts)) (places_from zeros parts) ≡ units_of parts)
 
--- units as `write_unit` writes them, one behind the other
+-- units as `write_unit` writes them, one behind the other (B.2.1)
 abbrev pub written : List (List ℕ) → List ℕ
 written units = flat_map (λ unit. long_start_code ++ unit) units
 

@@ -1,4 +1,4 @@
--- What stands at places of a list of bytes.
+-- What stands at places of a list of bytes. Our own.
 use Rattle.std.specs.Prelude.{◌≡◌, ℕ, ◌+◌, ◌<◌, ◌≤◌, List, length, slice_index}
 
 -- zeros stand from place i up to place j

@@ -11,27 +11,27 @@ use Rattle.vx_fields.specs.declared.aps.TheConstants.{aps_params_type, aps_body}
 use Rattle.vx_aps.specs.declared.aps.Aps.{Aps}
 use Rattle.vx_aps.specs.declared.aps.TheConstants.{LMCS, SCALING}
 
--- aps_params_type u(3), aps_adaptation_parameter_set_id u(5), and the body
+-- aps_params_type u(3), aps_adaptation_parameter_set_id u(5), and the body (7.3.2.6)
 abbrev pub spelled : ℕ → ℕ → List ℕ → List ℕ
 spelled kind id body = (32 * kind + id) ∷ body
 
--- how many ids a type has: 0 to 3 for LMCS, and 0 to 7 for the others
+-- how many ids a type has: 0 to 3 for LMCS, and 0 to 7 for the others (7.4.3.6)
 abbrev pub ids_of_type : ℕ → ℕ
 ids_of_type kind = cond (kind == LMCS) 4 8
 
--- a set of one of the three types, whose body can end a unit
+-- a set of one of the three types, whose body can end a unit (7.4.3.6)
 pub record IsValid (aps : Aps) : Type 0 where
   pub kind : aps.kind ≤ SCALING
   pub id : aps.id < ids_of_type aps.kind
   pub some : 0 < length aps.body
   pub ends : EndsInNoZero aps.body
 
--- the bytes are those of a set,
+-- the bytes are those of a set (7.3.2.6),
 pub record IsAps (rbsp : List ℕ) (aps : Aps) : Type 0 where
   pub valid : IsValid aps
   pub bytes : rbsp ≡ spelled aps.kind aps.id aps.body
 
--- or of a set of a reserved type,
+-- or of a set of a reserved type (7.4.3.6),
 pub record IsReserved (rbsp : List ℕ) : Type 0 where
   pub kind : ℕ
   pub id : ℕ
@@ -40,7 +40,8 @@ pub record IsReserved (rbsp : List ℕ) : Type 0 where
   pub five_bits : id < 32
   pub reserved : SCALING < kind
 
--- or are refused for the first that holds: no first byte, an id that its type lacks, no body, a body that can't end a unit.
+-- or are refused for the first that holds: no first byte, an id that its type lacks, no body, a body that can't end a unit
+-- (our own order).
 pub data IsRefusedAps (rbsp : List ℕ) : Refusal → Type 0 where
   no_type : rbsp ≡ [] → IsRefusedAps rbsp (Syntax aps_params_type 0 Short)
   no_such_id : (kind id : ℕ) (body : List ℕ) → rbsp ≡ spelled kind id body → kind ≤ SCALING → id < 32 → ids_of_type kind ≤ id
@@ -49,7 +50,7 @@ pub data IsRefusedAps (rbsp : List ℕ) : Refusal → Type 0 where
   bad_end : (kind id : ℕ) (body : List ℕ) → rbsp ≡ spelled kind id body → kind ≤ SCALING → id < ids_of_type kind → ¬ EndsInNoZero body
       → IsRefusedAps rbsp (Syntax aps_body 8 BadTrailing)
 
--- What bytes are.
+-- What bytes are (our own).
 abbrev pub IsAnswer : List ℕ → Result (Option Aps) Refusal → Type 0
 IsAnswer rbsp (Ok (Some aps)) = IsAps rbsp aps
 IsAnswer rbsp (Ok None) = IsReserved rbsp

@@ -1,6 +1,6 @@
 -- A feed, as its callers see it: by these words, and by the relation `HasFed` between it and the bytes that it took of a source, with
 -- the places of the units that it took and what these were read as, the latest first. That relation begins with none of them; `Gives`
--- and `ReadsOn` say what it is worth.
+-- and `ReadsOn` say what it is worth. Our own.
 use Rattle.std.specs.Prelude.{◌≡◌, ℕ, ◌+◌, ◌<◌, ◌≤◌, true, false, List, [], ◌∷◌, ◌++◌, length, take, Option, Some, None, Result, Ok, Err}
 use Rattle.std.specs.Io.KnownBytes.{Consumes, Keeps, IsAtEnd}
 use Rattle.vx_bits.specs.declared.refusal.Refusal.{Refusal}

@@ -1,5 +1,5 @@
 -- The fields that a unit spells behind those before it, in the order of the bits: all, or those before the first that is refused.
--- The structure is read wherever it stands: the rules on the order of units don't take its fields away.
+-- The structure is read wherever it stands: the rules on the order of units don't take its fields away. Our own.
 use Rattle.std.specs.Prelude.{ℕ, ◌==◌, not, pos, Bool, true, false, cond, List, [], ◌∷◌, Option, Some, None, Result, Ok, Err}
 use Rattle.vx_bits.specs.declared.list.Item.{Item}
 use Rattle.vx_bits.specs.declared.refusal.Refusal.{Refusal}

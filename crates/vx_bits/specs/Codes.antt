@@ -14,7 +14,7 @@ unfoldable pub fixed : ℕ → ℕ → List Bool
 fixed zero v = []
 fixed (suc n) v = if nat_le (2 ^ n) v then true ∷ fixed n (v - 2 ^ n) else false ∷ fixed n v
 
--- bytes, as numbers
+-- bytes, as numbers (our own)
 abbrev pub AreBytes : List ℕ → Type 0
 AreBytes bytes = AllByRecursion (λ b. b < 256) bytes
 
@@ -23,16 +23,16 @@ abbrev pub bits_of : List ℕ → List Bool
 bits_of [] = []
 bits_of (byte ∷ bytes) = fixed 8 byte ++ bits_of bytes
 
--- the greatest k up to the limit for which 2^k is at most n
+-- the greatest k up to the limit for which 2^k is at most n (our own)
 unfoldable pub magnitude : ℕ → ℕ → ℕ
 magnitude zero n = 0
 magnitude (suc k) n = if nat_le (2 ^ suc k) n then suc k else magnitude k n
 
--- the number of zeros before the first one of the code of v: 2^k ≤ v + 1 < 2^(k + 1), where v has a code
+-- the number of zeros before the first one of the code of v: 2^k ≤ v + 1 < 2^(k + 1), where v has a code (leadingZeroBits, clause 9.2)
 unfoldable pub leading_zeros : ℕ → ℕ
 leading_zeros v = magnitude 31 (v + 1)
 
--- the numbers that ue(v) spells: 0 to 2^32 - 2
+-- the numbers that ue(v) spells: 0 to 2^32 - 2 (clause 9.2)
 abbrev pub IsCodeNumber : ℕ → Type 0
 IsCodeNumber v = v + 1 < 2 ^ 32
 
@@ -54,7 +54,7 @@ signed_exp_golomb v = exp_golomb (code_number v)
 abbrev pub to_boundary : ℕ → ℕ
 to_boundary place = (8 - place % 8) % 8
 
--- zeros up to the byte boundary
+-- zeros up to the byte boundary (clause 7.2)
 abbrev pub zeros_from : ℕ → List Bool
 zeros_from place = replicate (to_boundary place) false
 
@@ -66,11 +66,11 @@ one_from place = true ∷ zeros_from (place + 1)
 abbrev pub EndsInNoZero : List ℕ → Type 0
 EndsInNoZero bytes = (k : ℕ) → length bytes ≡ k + 1 → slice_index bytes k ≢ 0
 
--- these bits begin with that code
+-- these bits begin with that code (our own)
 abbrev pub BeginsWith : List Bool → List Bool → Type 0
 BeginsWith bits code = (rest : List Bool) × (bits ≡ code ++ rest)
 
--- these bits end within that code: more of it would follow
+-- these bits end within that code: more of it would follow (our own)
 abbrev pub EndsWithin : List Bool → List Bool → Type 0
 EndsWithin bits code = (bit : Bool) × (more : List Bool) × (code ≡ bits ++ bit ∷ more)
 
@@ -78,10 +78,10 @@ EndsWithin bits code = (bit : Bool) × (more : List Bool) × (code ≡ bits ++ b
 abbrev pub BeginsWithCode : List Bool → Type 0
 BeginsWithCode bits = (v : ℕ) × IsCodeNumber v × BeginsWith bits (exp_golomb v)
 
--- these bits end within some code of ue(v)
+-- these bits end within some code of ue(v) (clause 9.2)
 abbrev pub EndsWithinCode : List Bool → Type 0
 EndsWithinCode bits = (v : ℕ) × IsCodeNumber v × EndsWithin bits (exp_golomb v)
 
--- 32 zeros come first, which no code begins with
+-- 32 zeros come first, which no code begins with (clause 9.2)
 abbrev pub BeginsTooLong : List Bool → Type 0
 BeginsTooLong bits = BeginsWith bits (replicate 32 false)

@@ -1,4 +1,4 @@
--- What is looked up in a list of fields.
+-- What is looked up in a list of fields. Our own.
 use Rattle.std.specs.Prelude.{ℕ, ℤ, ◌==◌, List, Option, option_map, find}
 use Rattle.vx_bits.specs.declared.list.Item.{Item}
 

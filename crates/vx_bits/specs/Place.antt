@@ -1,4 +1,4 @@
--- A place among bits: how many bits there are in all, and those that are left.
+-- A place among bits: how many bits there are in all, and those that are left. Our own.
 use Rattle.std.specs.Prelude.{◌≡◌, ℕ, ◌-◌, Bool, List, ◌++◌, length}
 
 -- bits that are read from front to back: their number in all, and those left

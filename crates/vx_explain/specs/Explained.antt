@@ -1,4 +1,4 @@
--- What there is to tell of a rule or of a field.
+-- What there is to tell of a rule or of a field. Our own.
 use Rattle.std.specs.Prelude.{ℕ, ◌==◌, List, [], ◌∷◌, ◌++◌, Contains, map, find, codes, decimal, Option, IsSome, ◌↔◌}
 use Rattle.std.specs.List.{slice_split, before_first, range_with_len}
 use Rattle.std.specs.Str.{bytes_eq}

@@ -1,7 +1,7 @@
 //! What there is to tell of rules and fields, as `scripts/explanations.py` makes it of docs/REFUSALS.md and docs/FIELDS.md.
 
 /// The parts, with a bar between two. Each begins with its word and a blank, and is what is told of this word.
-pub(crate) static TEXT: [u8; 69318] =
+pub(crate) static TEXT: [u8; 69368] =
     *b"F1 Outside a unit stands a byte that is no zero and no start code.
 The file is no Annex B byte stream, or was cut in its midst: take the stream
 out of its container (MP4, TS), or begin at a start code.
@@ -279,7 +279,8 @@ constraints, clause 7.3.3.2. Only `merge` compares it, among its sources (M2).
 |12 general_tier_flag: The tier: High where it is 1.
 A field of profile, tier and level, clause 7.3.3.1, and of its general
 constraints, clause 7.3.3.2. Only `merge` compares it, among its sources (M2).
-|13 general_level_idc: The level, in sixteenths.
+|13 general_level_idc: The level: 16 for each major number and 3 for each minor
+one, so 51 is 3.1.
 A field of profile, tier and level, clause 7.3.3.1, and of its general
 constraints, clause 7.3.3.2. It isn't compared between streams.
 |14 ptl_frame_only_constraint_flag: Whether all pictures are frames.

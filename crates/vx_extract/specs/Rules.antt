@@ -1,5 +1,5 @@
 -- The rules by which a picture's subpicture can't be extracted. The subpicture is named by its index, `target`; pictures whose TemporalId
--- is above `tid` are left out.
+-- is above `tid` are left out. Our own.
 use Rattle.std.specs.Prelude.{ℕ, not, nat_le, nat_lt, Bool, cond, Option, Some, None, option_map}
 use Rattle.vx_bits.specs.declared.refusal.Refusal.{Refusal}
 use Rattle.vx_bits.specs.declared.refusal.Refusal.TheVariants.{Extract}

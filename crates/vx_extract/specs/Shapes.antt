@@ -20,9 +20,9 @@ use Rattle.vx_pic.specs.PictureLayout.{needs_ids}
 use Rattle.vx_pic.specs.Inputs.{luma_size}
 use Rattle.vx_pic.specs.Parts.{Parts}
 
--- ---- the subpicture
+-- ---- the subpicture (C.7)
 
--- its size in luma samples
+-- its size in luma samples (C.7)
 abbrev pub width_in : Parts → ℕ → ℕ
 width_in q target =
     luma_size (rect_of q.sps target).x (rect_of q.sps target).w (ctb_size_of q.sps) (number q.pps pps.pps_pic_width_in_luma_samples)
@@ -31,17 +31,17 @@ abbrev pub height_in : Parts → ℕ → ℕ
 height_in q target =
     luma_size (rect_of q.sps target).y (rect_of q.sps target).h (ctb_size_of q.sps) (number q.pps pps.pps_pic_height_in_luma_samples)
 
--- its id
+-- its id (SubpicIdVal, 7.4.3.5)
 abbrev pub id_in : Parts → ℕ → ℕ
 id_in q target = slice_index q.ids target
 
--- ---- the SPS
+-- ---- the SPS (C.7)
 
--- an offset of the source's window, where the subpicture touches that edge of the picture
+-- an offset of the source's window, where the subpicture touches that edge of the picture (C.7)
 abbrev pub offset : List Item → Bool → ℕ → ℕ
 offset source touches of = cond touches (number source of) 0
 
--- left, right, top and bottom
+-- left, right, top and bottom (C.7)
 abbrev pub window_of : List Item → Rect → List ℕ
 window_of source r =
     offset source (r.x == 0) sps.sps_conf_win_left_offset
@@ -49,25 +49,26 @@ window_of source r =
     ∷ offset source (r.y == 0) sps.sps_conf_win_top_offset
     ∷ offset source (r.y + r.h == ctu_rows_of source) sps.sps_conf_win_bottom_offset ∷ []
 
--- the DPB parameters of the source's highest sublayer, which come last
+-- the DPB parameters of the source's highest sublayer, which come last (our own choice)
 abbrev pub dpb_of : List Item → List ℕ
 dpb_of source =
     number source dpb.dpb_max_dec_pic_buffering_minus1 ∷ number source dpb.dpb_max_num_reorder_pics
     ∷ number source dpb.dpb_max_latency_increase_plus1 ∷ []
 
--- the id of the subpicture stands in the SPS, unless the source's ids stand in the PPS
+-- the id of the subpicture stands in the SPS, unless the source's ids stand in the PPS (our own choice)
 abbrev pub id_in_sps : Parts → ℕ → Option ℕ
 id_in_sps q target = cond (needs_ids q.sps) None (Some (id_in q target))
 
--- one subpicture with the target's id, where the source speaks of subpictures
+-- one subpicture with the target's id, where the source speaks of subpictures (our own choice)
 abbrev pub plan_of : Parts → ℕ → SubpicPlan
 plan_of q target =
     cond (is_set (number q.sps sps.sps_subpic_info_present_flag)) (One (number q.sps sps.sps_subpic_id_len_minus1) (id_in_sps q target)) Absent
 
--- the level that is asked for, or else the source's
+-- the level that is asked for, or else the source's (our own choice)
 abbrev pub level_of : List Item → Option ℕ → ℕ
 level_of source level = unwrap_or level (number source general_level_idc)
 
+-- what the SPS says (C.7)
 abbrev pub sps_shape : Parts → ℕ → Option ℕ → SpsShape
 sps_shape q target level = record {
   id = sps_id q.sps;
@@ -79,13 +80,13 @@ sps_shape q target level = record {
   subpics = plan_of q target;
 }
 
--- ---- the PPS
+-- ---- the PPS (C.7)
 
--- the id of the subpicture stands there where the source's ids do: the bits of an id, less 1, and the id
+-- the id of the subpicture stands there where the source's ids do: the bits of an id, less 1, and the id (our own choice)
 abbrev pub id_in_pps : Parts → ℕ → Option (ℕ × ℕ)
 id_in_pps q target = cond (needs_ids q.sps) (Some (number q.sps sps.sps_subpic_id_len_minus1, id_in q target)) None
 
--- tiles and slices are the subpicture's, and whether loop filters cross their borders is the source's; where the source has
+-- tiles and slices are the subpicture's (C.7), and whether loop filters cross their borders is the source's; where the source has
 -- pps_no_pic_partition_flag 1 nothing is said of them, and the QP is said of a frame alone
 abbrev pub pps_shape : Parts → ℕ → PpsShape
 pps_shape q target = record {

@@ -1,4 +1,4 @@
--- What is written for a subpicture of a whole stream, or of its pictures up to a TemporalId, read again.
+-- What is written for a subpicture of a whole stream, or of its pictures up to a TemporalId, read again. Our own.
 use Rattle.std.specs.List.{AllByRecursion}
 use Rattle.std.specs.Prelude.{◌≡◌, ℕ, ◌<◌, true, List, [], map, All, Option, None}
 use Rattle.vx_annexb.specs.Laws.{CanStand}

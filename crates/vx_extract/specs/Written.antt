@@ -1,4 +1,4 @@
--- What is written for a subpicture of each picture of a stream.
+-- What is written for a subpicture of each picture of a stream. Our own.
 use Rattle.std.specs.Prelude.{◌≡◌, ℕ, ◌==◌, ◌&&◌, not, Bool, List, [], ◌∷◌, ◌++◌, filter, map, flat_map, Option, Some, None}
 use Rattle.std.specs.List.{AllByRecursion, list_any, range_with_len}
 use Rattle.vx_bits.specs.declared.list.Item.{Item}
@@ -18,7 +18,7 @@ use Rattle.vx_extract.specs.Shapes.{sps_shape, pps_shape}
 
 -- ---- slices
 
--- those of the subpicture, in order
+-- those of the subpicture, in order (C.7)
 abbrev pub parts_in : Parts → ℕ → List SlicePart
 parts_in q target = filter (λ s. s.header.subpic == target) q.slices
 
@@ -67,7 +67,7 @@ needed_sets q target sps pps = an_sps sps ∷ a_pps pps ∷ needed_aps q target
 -- ---- pictures
 
 -- A picture is written so behind others: rewritten sets, of which those are sent that aren't resident; its messages; its header and
--- the slices of the subpicture as they stand, of which there is one at least.
+-- the slices of the subpicture as they stand, of which there is one at least (C.7).
 pub record IsExtracted (target : ℕ) (level : Option ℕ) (q : Parts) (done : List Plan) (p : Plan) : Type 0 where
   pub sps : sps_reshaped.IsReshapedSps q.sps (sps_shape q target level) p.begun.sps
   pub pps : pps_reshaped.IsReshapedPps q.pps (pps_shape q target) p.begun.pps

@@ -4,7 +4,7 @@
 pub const general_profile_idc: u16 = 11;
 /// The tier: High where it is 1.
 pub const general_tier_flag: u16 = 12;
-/// The level, in sixteenths.
+/// The level: 16 for each major number and 3 for each minor one, so 51 is 3.1.
 pub const general_level_idc: u16 = 13;
 /// Whether all pictures are frames.
 pub const ptl_frame_only_constraint_flag: u16 = 14;

@@ -1,5 +1,5 @@
 -- Why regions don't fit together into a frame, and which region is named. A fault is looked for only where none of those
--- before it is there: the frame's size, the regions' geometry by three causes, their order.
+-- before it is there: the frame's size, the regions' geometry by three causes, their order. Our own.
 use Rattle.std.specs.Prelude.{◌≡◌, ℕ, ◌<◌, ◌⊎◌, List, All, length}
 use Rattle.std.specs.List.{AllPairs, slice_index_or}
 use Rattle.vx_fit.specs.declared.placed.FitFault.{FitFault}
@@ -17,15 +17,15 @@ nowhere = record { x = 0; y = 0; w = 0; h = 0 }
 abbrev pub region_at : List Placed → ℕ → Placed
 region_at placed k = slice_index_or placed k nowhere
 
--- region k has its corner off the grid
+-- region k has its corner off the grid (7.4.3.4)
 abbrev pub IsOffGrid : List Placed → ℕ → ℕ → Type 0
 IsOffGrid placed ctb k = ¬ IsOnGrid ctb (region_at placed k)
 
--- region k overlaps one before it
+-- region k overlaps one before it (6.3.1)
 abbrev pub OverlapsLower : List Placed → ℕ → Type 0
 OverlapsLower placed k = (j : ℕ) × (j < k) × Overlap (region_at placed j) (region_at placed k)
 
--- a position of the frame is in no region
+-- a position of the frame is in no region (6.3.1)
 pub record HasGap (placed : List Placed) : Type 0 where
   pub x : ℕ
   pub y : ℕ
@@ -33,7 +33,7 @@ pub record HasGap (placed : List Placed) : Type 0 where
   pub in_height : y < frame_height placed
   pub uncovered : ¬ IsCovered placed x y
 
--- a CTU of region k has its left or upper neighbour in a later region
+-- a CTU of region k has its left or upper neighbour in a later region (7.4.8, sh_slice_address)
 abbrev pub ComesTooEarly : List Placed → ℕ → ℕ → Type 0
 ComesTooEarly placed ctb k =
     (j : ℕ) × (k < j) × (j < length placed) × (¬ Precedes (in_ctus ctb (region_at placed k)) (in_ctus ctb (region_at placed j)))

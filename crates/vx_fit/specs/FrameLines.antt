@@ -11,6 +11,8 @@ use Rattle.vx_fit.specs.declared.lines.LineError.{LineError}
 use Rattle.vx_fit.specs.declared.lines.LineError.TheVariants.{Memory, Lines}
 use Rattle.vx_fit.specs.Lowest.{IsLowest}
 
+-- ---- lines and regions (our own)
+
 -- no picture: what stands past the end of a list
 abbrev pub no_numbers : Numbers
 no_numbers = record { columns = []; rows = []; slices = []; subpics = [] }

@@ -1,4 +1,4 @@
--- The lowest index at which something is broken.
+-- The lowest index at which something is broken. Our own.
 use Rattle.std.specs.Prelude.{ℕ, ◌<◌, Option, None, Some}
 
 -- k is the lowest of the indices below `count` that breaks the rule

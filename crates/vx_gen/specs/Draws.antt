@@ -1,4 +1,4 @@
--- Bytes that are drawn from a seed.
+-- Bytes that are drawn from a seed. Our own.
 use Rattle.std.specs.Prelude.{ℕ, zero, suc, ◌+◌, ◌*◌, ◌/◌, ◌%◌, ◌^◌, List, [], ◌∷◌, ◌++◌, map}
 use Rattle.std.specs.List.{range_with_len}
 

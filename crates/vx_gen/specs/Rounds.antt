@@ -1,4 +1,4 @@
--- Generated streams merged side by side.
+-- Generated streams merged side by side. Our own.
 use Rattle.std.specs.Prelude.{◌≡◌, ℕ, ◌+◌, ◌*◌, ◌<◌, ◌≤◌, List, [], ◌∷◌, length, map, option_map, reverse, slice_get, Some, None}
 use Rattle.std.specs.List.{range_with_len}
 use Rattle.vx_bits.specs.declared.refusal.Refusal.{Refusal}

@@ -1,4 +1,4 @@
--- Generated streams.
+-- Generated streams. Our own.
 use Rattle.std.specs.Prelude.{ℕ, ◌+◌, ◌*◌, List, ◌∷◌, map}
 use Rattle.std.specs.List.{range_with_len}
 use Rattle.vx_annexb.specs.Laws.{written}

@@ -1,4 +1,4 @@
--- The NAL units of generated streams. What they say is a law.
+-- The NAL units of generated streams. What they say is a law. Our own.
 use Rattle.std.specs.Prelude.{ℕ, zero, suc, ◌+◌, ◌*◌, ◌/◌, ◌%◌, List, [], ◌∷◌, ◌++◌, take}
 use Rattle.std.specs.List.{slice_index_or}
 use Rattle.vx_gen.specs.declared.units.TheConstants.{IDR_SLICE, PPS_ENDS, PPS_END_SIZES, PPS_FRONT, SPS}

@@ -1,4 +1,4 @@
--- Counts of faults: what a read or a write does to the count of its source or sink.
+-- Counts of faults: what a read or a write does to the count of its source or sink. Our own.
 use Rattle.std.specs.Prelude.{◌≡◌, ℕ, ◌+◌, ◌-◌, ◌^◌, ◌<◌, ◌⊎◌, min, MatchResult, Result}
 
 -- the last value of a count

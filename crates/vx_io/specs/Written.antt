@@ -1,4 +1,4 @@
--- What a sink gained of a piece that was not wholly written.
+-- What a sink gained of a piece that was not wholly written. Our own.
 use Rattle.std.specs.Prelude.{ℕ, ◌<◌, List, Option, length}
 use Rattle.std.specs.Io.{StartsWith}
 use Rattle.std.specs.Io.KnownBytes.{Appends}

@@ -2,6 +2,7 @@
 use Rattle.std.specs.Prelude.{ℕ, ◌-◌, nat_le, cond, List, length, take}
 use Rattle.vx_layout.specs.Bounds.{last}
 
+-- heights without the last (our own)
 abbrev pub all_but_last : List ℕ → List ℕ
 all_but_last heights = take (length heights - 1) heights
 

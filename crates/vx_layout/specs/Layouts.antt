@@ -1,4 +1,4 @@
--- A layout seen as its numbers, and the slices of its subpictures by their addresses.
+-- A layout seen as its numbers, and the slices of its subpictures by their addresses. Our own, but for addresses.
 use Rattle.std.specs.Prelude.{ℕ, List}
 use Rattle.std.specs.List.{slice_index_or}
 use Rattle.vx_layout.specs.declared.numbers.Numbers.{Numbers}
@@ -15,11 +15,11 @@ no_rect = record { x = 0; y = 0; w = 0; h = 0 }
 abbrev pub subpic_at : Numbers → ℕ → Rect
 subpic_at n k = slice_index_or n.subpics k no_rect
 
--- its slices, in the order of their addresses
+-- its slices, in the order of their addresses (7.4.8, sh_slice_address)
 abbrev pub slices_in : Numbers → ℕ → List Rect
 slices_in n k = slices_of_subpicture n.slices (subpic_at n k)
 
--- its slice of address m
+-- its slice of address m (7.4.8, sh_slice_address)
 abbrev pub slice_at : Numbers → ℕ → ℕ → Rect
 slice_at n k m = slice_index_or (slices_in n k) m no_rect
 

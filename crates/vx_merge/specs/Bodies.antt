@@ -1,4 +1,4 @@
--- The adaptation parameter sets that are in force in pictures, by their bodies.
+-- The adaptation parameter sets that are in force in pictures, by their bodies. Our own.
 use Rattle.std.specs.Prelude.{ℕ, Bool, false, ◌||◌, cond, List, [], ◌∷◌, ◌++◌, flat_map, Option, option_to_list}
 use Rattle.vx_fields.specs.declared.ph.TheConstants as ph
 use Rattle.vx_table.specs.Scope.{is_set}
@@ -39,20 +39,20 @@ once bodies = with_bodies [] bodies
 
 -- ---- luma mapping with chroma scaling, and scaling lists
 
--- the picture header has them: ph_lmcs_enabled_flag, ph_explicit_scaling_list_enabled_flag
+-- the picture header has them: ph_lmcs_enabled_flag, ph_explicit_scaling_list_enabled_flag (7.4.3.8)
 abbrev pub has_lmcs : Parts → Bool
 has_lmcs q = is_set (number q.header.fields ph.ph_lmcs_enabled_flag)
 
 abbrev pub has_scaling : Parts → Bool
 has_scaling q = is_set (number q.header.fields ph.ph_explicit_scaling_list_enabled_flag)
 
--- the bodies that it names
+-- the bodies that it names (ph_lmcs_aps_id and ph_scaling_list_aps_id, 7.4.3.8)
 abbrev pub lmcs_body : Parts → Option (List ℕ)
 lmcs_body q = named_body q aps.LMCS ph.ph_lmcs_aps_id q.header.fields
 
 abbrev pub scaling_body : Parts → Option (List ℕ)
 scaling_body q = named_body q aps.SCALING ph.ph_scaling_list_aps_id q.header.fields
 
--- ph_chroma_residual_scale_flag
+-- ph_chroma_residual_scale_flag (7.4.3.8)
 abbrev pub is_chroma_scaled : Parts → Bool
 is_chroma_scaled q = is_set (number q.header.fields ph.ph_chroma_residual_scale_flag)

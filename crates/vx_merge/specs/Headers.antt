@@ -30,7 +30,7 @@ use Rattle.vx_merge.specs.Needed.{Ids, alf_bodies, id_of_body}
 use Rattle.vx_merge.specs.Rounds.{picture_at}
 use Rattle.vx_merge.specs.Shapes.{of_lowest}
 
--- ---- the picture header
+-- ---- the picture header (our own)
 
 -- luma mapping with chroma scaling, where a source has it: the id of its set, and whether chroma residuals are scaled, as in the lowest
 -- source that has it
@@ -53,7 +53,7 @@ pub record HasMergedHeader (round : List Parts) (ids : Ids) (b : Begun) : Type 0
   pub spelled : IsPictureHeaderUnit (structures b.sps) (in_force b.sps b.pps) (picture_header_of b) rbsp
   pub made : IsUnitOf PH_NUT b.temporal_id rbsp unit
 
--- ---- slices
+-- ---- slices (our own)
 
 -- the id that the set has in the written picture which a picture has as this one
 abbrev pub id_for : List Parts → Ids → Parts → ℕ → ℕ

@@ -1,4 +1,4 @@
--- A round whose pictures are joined behind those before it: each starts a coded layer video sequence behind an end of sequence.
+-- A round whose pictures are joined behind those before it: each starts a coded layer video sequence behind an end of sequence. Our own.
 use Rattle.std.specs.Prelude.{◌≡◌, ◌⊎◌, ℕ, Bool, true, false, cond, List, [], ◌∷◌, length, Option, Some, None, Result, Ok, Err}
 use Rattle.vx_bits.specs.declared.refusal.Refusal.{Refusal}
 use Rattle.vx_bits.specs.declared.rules.TheConstants as rules
@@ -18,7 +18,7 @@ abbrev pub after_end_of_sequence : Parts → Parts
 after_end_of_sequence q = record q { kind = record q.kind { after_eos = true } }
 
 -- A picture that may come first behind a join: it starts a coded layer video sequence, at TemporalId 0, and later counts can go back to it
--- (7.4.2.4.3, 8.3.1).
+-- (7.4.2.4.2, 8.3.1).
 pub record CanStart (q : Parts) : Type 0 where
   pub clvss : q.kind.clvss ≡ true
   pub tid : q.kind.temporal_id ≡ 0

@@ -1,5 +1,5 @@
 -- A merger, as its callers see it: by these words, and by the relation `Stands` between it and the pictures that it has written, or that
--- have passed its checks: a merger either checks or writes.
+-- have passed its checks: a merger either checks or writes. Our own.
 use Rattle.std.specs.Prelude.{◌≡◌, ◌⊎◌, ℕ, ◌<◌, ◌≤◌, List, ◌∷◌, All, length, Option, Some, None, Result, Ok, Err}
 use Rattle.std.specs.Io.KnownBytes.{Appends}
 use Rattle.vx_bits.specs.declared.refusal.Refusal.{Refusal}

@@ -1,4 +1,4 @@
--- The sets that the picture of a round needs, with the ids that they take.
+-- The sets that the picture of a round needs, with the ids that they take. Our own.
 use Rattle.std.specs.Prelude.{ℕ, ◌==◌, cond, List, [], ◌∷◌, ◌++◌, map, flat_map, filter, length, None, option_to_list}
 use Rattle.std.specs.List.{range_with_len, slice_index_or, zip}
 use Rattle.vx_bits.specs.declared.list.Item.{Item}

@@ -1,4 +1,4 @@
--- The regions in which the pictures of a round are to stand, and the layouts in them.
+-- The regions in which the pictures of a round are to stand, and the layouts in them. Our own.
 use Rattle.std.specs.Prelude.{ℕ, List, [], ◌∷◌, map}
 use Rattle.vx_fields.specs.declared.pps.TheConstants as pps
 use Rattle.vx_table.specs.Loaded.{number}
@@ -26,7 +26,7 @@ abbrev pub placed_in : List Corner → List Parts → List Placed
 placed_in (corner ∷ corners) (q ∷ round) = placed_at corner q ∷ placed_in corners round
 placed_in _ _ = []
 
--- CtbSizeY, which all have where their kept fields are the same
+-- CtbSizeY, which all have where their kept fields are the same (7.4.3.4)
 abbrev pub ctb_of : List Parts → ℕ
 ctb_of round = ctb_size_of (picture_at round 0).sps
 

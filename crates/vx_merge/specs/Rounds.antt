@@ -1,4 +1,4 @@
--- A round: a picture of each source, in order. Each is to be a subpicture of one picture.
+-- A round: a picture of each source, in order. Each is to be a subpicture of one picture. Our own.
 use Rattle.std.specs.Prelude.{◌≡◌, ◌≢◌, ℕ, pos, Bool, false, IsTrue, List, [], length, flat_map, slice_get, Option, Some, None}
 use Rattle.std.specs.List.{AllByRecursion, slice_index_or}
 use Rattle.vx_fit.specs.FrameLines.{no_numbers}

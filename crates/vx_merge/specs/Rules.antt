@@ -1,5 +1,5 @@
 -- The rules by which the pictures of a round can't become one picture, with their corners in luma samples. Source 0 is the one that others
--- are compared with, unless said.
+-- are compared with, unless said. Which rules there are is our own.
 use Rattle.std.specs.Prelude.{◌≡◌, ◌⊎◌, ℕ, ℤ, ◌+◌, ◌<◌, ◌==◌, Bool, cond, List, [], ◌∷◌, ◌++◌, length, map, flat_map, take, sum_by, unwrap_or, Option, Some, None}
 use Rattle.std.specs.Option.{option_or}
 use Rattle.vx_bits.specs.declared.list.Item.{Item}
@@ -98,7 +98,8 @@ pps_tools round = of_field rules.PPS_TOOLS (UnlikeFirst kept_pps round) (pps_fie
 abbrev pub too_large : List Placed → ℕ → Rule
 too_large placed ctb = of_limit rules.TOO_LARGE (IsFitFault placed ctb TooLarge)
 
--- M3: a region is off the grid of CTUs, overlaps another, or leaves a gap. M4: a region comes too early.
+-- M3: a region is off the grid of CTUs, overlaps another, or leaves a gap. M4: a region comes too early
+-- (6.3.1; the order of slices, 7.4.8).
 abbrev pub geometry : List Placed → ℕ → Rule
 geometry placed ctb = of_source rules.GEOMETRY (λ k. IsFitFault placed ctb (Geometry k))
 
@@ -108,7 +109,7 @@ region_order placed ctb = of_source rules.REGION_ORDER (λ k. IsFitFault placed 
 abbrev pub rules_of_fit : List Placed → ℕ → List Rule
 rules_of_fit placed ctb = too_large placed ctb ∷ geometry placed ctb ∷ region_order placed ctb ∷ []
 
--- M5: tile lines of the frame don't pass through a region exactly as its own do; the regions are in CTUs.
+-- M5: tile lines of the frame don't pass through a region exactly as its own do; the regions are in CTUs (6.3.1).
 abbrev pub tile_lines : List Rect → List Numbers → Rule
 tile_lines regions layouts = of_source rules.TILE_LINES (IsLinesFault regions layouts)
 
@@ -121,7 +122,7 @@ too_many_slices round = of_limit rules.TOO_MANY_SLICES (most_slices < sum_by (λ
 
 -- ---- pictures
 
--- M6: its type, its TemporalId, or whether an end of sequence came before it.
+-- M6: its type, its TemporalId, or whether an end of sequence came before it (7.4.2.2).
 abbrev pub shared_kind : Parts → ℕ × (ℕ × Bool)
 shared_kind q = (q.kind.nal_type, (q.kind.temporal_id, q.kind.after_eos))
 
@@ -129,7 +130,7 @@ abbrev pub picture_kind : List Parts → Rule
 picture_kind round = of_source rules.PICTURE_KIND (UnlikeFirst shared_kind round)
 
 -- M8: the kept fields of its header are others; or it has LMCS, and chroma residuals are scaled in it and not in the lowest source that
--- has it, or the other way round.
+-- has it, or the other way round (7.4.3.8).
 abbrev pub kept_header : Parts → List Item
 kept_header q = inputs.header_fields q.header.fields
 
@@ -141,7 +142,7 @@ picture_header round = of_field rules.PICTURE_HEADER
     (λ k. UnlikeFirst kept_header round k ⊎ UnlikeLowest has_lmcs is_chroma_scaled round k)
     (header_field round)
 
--- M9: it has LMCS or scaling lists, and other ones than the lowest source that has them.
+-- M9: it has LMCS or scaling lists, and other ones than the lowest source that has them (7.4.3.8).
 abbrev pub shared_sets : List Parts → Rule
 shared_sets round = of_source rules.SHARED_SETS
     (λ k. UnlikeLowest has_lmcs lmcs_body round k ⊎ UnlikeLowest has_scaling scaling_body round k)
@@ -155,19 +156,20 @@ reference_lists round = of_source rules.REFERENCE_LISTS (UnlikeFirst first_lists
 
 -- ---- slices
 
--- M11: sh_no_output_of_prior_pics_flag of one of its slices is another than that of the first slice of all.
+-- M11: sh_no_output_of_prior_pics_flag of one of its slices is another than that of the first slice of all (7.4.8).
 abbrev pub outputs_of : Parts → List (Option ℤ)
 outputs_of q = map (λ s. first_value s.header.fields sh.sh_no_output_of_prior_pics_flag) q.slices
 
 abbrev pub output_of_prior : List Parts → Rule
 output_of_prior round = of_source rules.OUTPUT_OF_PRIOR (SomeUnlikeFirst outputs_of round)
 
--- M12: with it and those before it there are more bodies of adaptive loop filters than ids.
+-- M12: with it and those before it there are more bodies of adaptive loop filters than ids (ids of 7.4.3.6).
 abbrev pub too_many_filters : List Parts → Rule
 too_many_filters round =
     of_source rules.TOO_MANY_ALF (λ k. alf_slots < length (once (flat_map filters_in (take (k + 1) round))))
 
--- M13: it has several tiles, or several slices, and in-loop filters cross their borders otherwise than in the lowest source with several.
+-- M13: it has several tiles, or several slices, and in-loop filters cross their borders otherwise than in the lowest source with several
+-- (flags of the PPS, 7.4.3.5).
 abbrev pub has_tiles : Parts → Bool
 has_tiles q = has_several_tiles (layout_of q)
 

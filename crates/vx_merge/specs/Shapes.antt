@@ -21,7 +21,7 @@ use Rattle.vx_merge.specs.Regions.{corners_in, ctb_of, layouts_in, placed_in}
 use Rattle.vx_merge.specs.Rounds.{picture_at}
 use Rattle.vx_merge.specs.Rules.{crosses_slices, crosses_tiles, has_slices, has_tiles}
 
--- ---- of several pictures
+-- ---- of several pictures (our own)
 
 -- the least and the greatest of numbers; 0 of none
 abbrev pub least : List ℕ → ℕ
@@ -42,7 +42,7 @@ of_lowest has f none (q ∷ round) = cond (has q) (f q) (of_lowest has f none ro
 abbrev pub numbers_in_round : List Parts → ℕ → List ℕ
 numbers_in_round round of = map (λ q. number q.sps of) round
 
--- ---- the SPS
+-- ---- the SPS (our own choices)
 
 -- for an edge of the frame, the offsets of the windows of the regions that touch it
 abbrev pub offsets_at : (Placed → Bool) → ℕ → List Placed → List Parts → List ℕ
@@ -82,7 +82,7 @@ frame_sps_shape corners round level = record {
   subpics = Many (corners_in corners round);
 }
 
--- ---- the PPS
+-- ---- the PPS (our own choices)
 
 -- The frame of the pictures: its tile lines, and their slices, by source and then by address.
 pub record IsFrame (corners : List Corner) (round : List Parts) (frame : Numbers) : Type 0 where

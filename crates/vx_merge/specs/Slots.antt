@@ -1,4 +1,5 @@
--- The ids that the sets of a picture take (a rule of this program, not of H.266). Each type of sets has ids from 0 up to a count: slots, into which sets are sent.
+-- The ids that the sets of a picture take (our own rule, none of H.266). Each type of sets has ids from 0 up to a count: slots, into
+-- which sets are sent.
 use Rattle.std.specs.Prelude.{◌≡◌, ◌⊎◌, ℕ, ◌<◌, true, List, length, slice_index, None}
 use Rattle.vx_fit.specs.Lowest.{IsLowest}
 use Rattle.vx_pic.specs.Resident.{last_of, serves}

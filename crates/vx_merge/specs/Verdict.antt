@@ -1,4 +1,5 @@
 -- Rules that sources may break, and the verdict on them: the first rule in order that is broken, told of the lowest source that breaks it.
+-- Our own.
 use Rattle.std.specs.Prelude.{◌≡◌, ℕ, ◌<◌, ◌⊎◌, List, [], ◌∷◌, Option, Some, None}
 use Rattle.vx_bits.specs.declared.refusal.Refusal.{Refusal}
 use Rattle.vx_fit.specs.Lowest.{IsLowest}

@@ -1,4 +1,4 @@
--- What is written for the rounds of several sources.
+-- What is written for the rounds of several sources. Our own.
 use Rattle.std.specs.Prelude.{◌≡◌, ℕ, ◌+◌, ◌<◌, ◌≤◌, not, List, [], ◌∷◌, length, map, filter, sum_by, Option}
 use Rattle.std.specs.List.{AllByRecursion, AllZip}
 use Rattle.vx_bits.specs.Codes.{AreBytes}

@@ -30,7 +30,7 @@ use Rattle.vx_ph.proofs.Carrying.{all_depend}
 
 -- a test of all rows
 pub record Pass (test : Row → Bool) : Type 0 where
-  pub front : sections_pass test front ≡ true
+  pub front : sections_pass test ph_before_lists ≡ true
   pub lists : lists_pass test ≡ true
   pub middle : sections_pass test middle ≡ true
   pub weights : sections_pass test weights ≡ true

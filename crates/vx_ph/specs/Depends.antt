@@ -1,4 +1,4 @@
--- What a picture header depends on, which of its fields are kept, and that it is read again and rewritten.
+-- What a picture header depends on, which of its fields are kept, and that it is read again and rewritten. Our own.
 use Rattle.std.specs.Prelude.{◌≡◌, ◌≤◌, ℕ, ℤ, pos, not, List, [], ◌∷◌, ◌++◌, filter, slice_index, Result}
 use Rattle.vx_bits.specs.declared.list.Item.{Item}
 use Rattle.vx_bits.specs.declared.refusal.ReadError.{ReadError}

@@ -56,7 +56,7 @@ ReadsUnit table s rbsp (Ok header) = ((new : Place) × Reads {B = Unit {0}} (uni
 ReadsUnit table s rbsp (Err e) =
     (new : Place) × ((items : List Item) × Reads {B = Unit {0}} (unit_form table s) (at_front rbsp) [] (Err e) new items)
 
--- The bytes are the unit's.
+-- The bytes are the unit's (7.3.2.7).
 pub record IsPictureHeaderUnit (table : RplTable) (s : List ℕ) (header : PictureHeader) (bytes : List ℕ) : Type 0 where
   pub values : List ℤ
   pub end : List ℕ

@@ -30,32 +30,32 @@ use Rattle.vx_pic.specs.Rules.{Readers}
 use Rattle.vx_pic.specs.PictureLayout.{IsLayoutAnswer}
 use Rattle.vx_pic.specs.UnderSets.{at_slice_of}
 
--- the items of a form that bits begin with, from a place on, or the first refusal
+-- the items of a form that bits begin with, from a place on, or the first refusal (7.3)
 abbrev pub AnswersAt : {A : Type 0} → Form A → Place → Result (List Item) Refusal → Type 0
 AnswersAt form place (Ok items) = (new : Place) × Reads {B = Unit {0}} form place [] (Ok tt) new items
 AnswersAt form place (Err r) = (new : Place) × (items : List Item) × Reads {B = Unit {0}} form place [] (Err (Refused r)) new items
 
--- ---- picture headers
+-- ---- picture headers (7.3.2.8)
 
--- where it begins: in a PH unit at the first bit, in a slice behind sh_picture_header_in_slice_header_flag
+-- where it begins: in a PH unit at the first bit, in a slice behind sh_picture_header_in_slice_header_flag (7.3.2.7, 7.3.7)
 abbrev pub header_place : Bool → List ℕ → Place
 header_place true rbsp = record { total = 8 * length rbsp; left = drop 1 (bits_of rbsp) }
 header_place false rbsp = at_front rbsp
 
--- in a PH unit a trailing ends it
+-- in a PH unit a trailing ends it (7.3.2.7)
 abbrev pub form_in : Bool → RplTable → List ℕ → Form (List ℕ)
 form_in true = header_form
 form_in false = unit_form
 
--- ph_pic_parameter_set_id
+-- ph_pic_parameter_set_id (7.3.2.8)
 abbrev pub IsReferredPps : Bool → List ℕ → Result ℕ Refusal → Type 0
 IsReferredPps inside rbsp (Ok id) =
     (items : List Item) × AnswersAt pps_id_form (header_place inside rbsp) (Ok items) × (id ≡ number items ph_pic_parameter_set_id)
 IsReferredPps inside rbsp (Err r) = AnswersAt pps_id_form (header_place inside rbsp) (Err r)
 
--- ---- slice headers
+-- ---- slice headers (7.3.7)
 
--- the header that the unit's RBSP begins with, and the place in the unit behind it and behind the unit's two header bytes
+-- the header that the unit's RBSP begins with, and the place in the unit behind it and behind the unit's two header bytes (7.3.7)
 pub record IsSlice (nal_type : ℕ) (b : Begun) (unit : List ℕ) (h : SliceHeader) : Type 0 where
   pub value : SliceValue
   pub size : ℕ
@@ -68,9 +68,9 @@ abbrev pub IsSliceAnswer : ℕ → Begun → List ℕ → Result SliceHeader Ref
 IsSliceAnswer nal_type b unit (Ok h) = IsSlice nal_type b unit h
 IsSliceAnswer nal_type b unit (Err r) = ReadsSlice (at_slice_of nal_type b) (rbsp_of unit) (Err (Refused r))
 
--- ---- all of them
+-- ---- all of them (7.3.2)
 
--- The readers of H.266.
+-- The readers of H.266 (7.3.2).
 pub record AreOfH266 (R : Readers) : Type 0 where
   pub vps : (rbsp : List ℕ) → ReadsValue vps rbsp (as_read (R.vps rbsp))
   pub sps : (rbsp : List ℕ) → ReadsValue sps_form rbsp (as_read (R.sps rbsp))

@@ -1,7 +1,7 @@
 -- The decoding input of a slice: all that decoding it depends on but for the pictures that it refers to, told without ids and places in
 -- the frame. Left out is how a subpicture stands to those beside it (sps_subpic_treated_as_pic_flag and
 -- sps_loop_filter_across_subpic_enabled_flag): two slices whose inputs are equal decode alike where both subpictures are the whole picture,
--- or are treated as pictures and not filtered across.
+-- or are treated as pictures and not filtered across. H.266 has no such term: it is our own.
 use Rattle.std.specs.Prelude.{◌≡◌, ℕ, ℤ, ◌+◌, ◌-◌, ◌*◌, ◌==◌, ◌&&◌, ◌||◌, min, nat_lt, Bool, cond, List, [], ◌∷◌, ◌++◌, length, map, filter}
 use Rattle.std.specs.Prelude.{drop, Option, None, option_map, option_and_then, option_to_list}
 use Rattle.vx_bits.specs.declared.list.Item.{Item}
@@ -60,7 +60,7 @@ bodies_of p [] = []
 bodies_of p (slot ∷ slots) = option_to_list (body_of p slot.kind slot.id) ++ bodies_of p slots
 
 -- The adaptive loop filter: whether it is on, the bodies for luma, whether Cb and Cr are filtered, the body for chroma, and those with
--- which Cb and Cr are filtered by luma.
+-- which Cb and Cr are filtered by luma (7.4.3.8, 7.4.8).
 pub record Alf : Type 0 where
   pub enabled : Bool
   pub luma : List (List ℕ)
@@ -70,7 +70,7 @@ pub record Alf : Type 0 where
   pub cc_cb : Option (List ℕ)
   pub cc_cr : Option (List ℕ)
 
--- as the items of a header have it
+-- as the items of a header have it (7.4.3.8, 7.4.8)
 abbrev pub alf_of : Parts → List Item → Alf
 alf_of p items = record {
   enabled = is_set (number items alf.alf_enabled_flag);
@@ -89,7 +89,7 @@ is_used header h enabled used =
     is_set (number header enabled)
     && (is_set (number h.fields sh.sh_picture_header_in_slice_header_flag) || is_set (number h.fields used))
 
--- luma mapping with chroma scaling, with ph_chroma_residual_scale_flag, where the slice uses it
+-- luma mapping with chroma scaling, with ph_chroma_residual_scale_flag, where the slice uses it (7.4.3.8, 7.4.8)
 abbrev pub lmcs_of : Parts → SliceValue → Option (List ℕ × Bool)
 lmcs_of p h =
     cond (is_used p.header.fields h ph.ph_lmcs_enabled_flag sh.sh_lmcs_used_flag)
@@ -97,7 +97,7 @@ lmcs_of p h =
     (named_body p aps.LMCS ph.ph_lmcs_aps_id p.header.fields))
     None
 
--- scaling lists, where the slice uses them
+-- scaling lists, where the slice uses them (7.4.3.8, 7.4.8)
 abbrev pub scaling_of : Parts → SliceValue → Option (List ℕ)
 scaling_of p h =
     cond (is_used p.header.fields h ph.ph_explicit_scaling_list_enabled_flag sh.sh_explicit_scaling_list_used_flag)
@@ -115,6 +115,7 @@ lists_in_force p h = cond (is_set (number p.pps pps.pps_rpl_info_in_ph_flag)) p.
 abbrev pub luma_size : ℕ → ℕ → ℕ → ℕ → ℕ
 luma_size from size ctb total = min ((from + size) * ctb) total - from * ctb
 
+-- it has several tiles: the bounds of tile columns are one more than the columns, and so of rows (6.5.1); or several slices
 abbrev pub has_several_tiles : Numbers → Bool
 has_several_tiles n = nat_lt 2 (length n.columns) || nat_lt 2 (length n.rows)
 

@@ -1,4 +1,5 @@
 -- The pictures of several streams, one stream behind another, joined behind ends of sequence. Lists of pictures have the latest first.
+-- Our own.
 use Rattle.std.specs.Prelude.{◌≡◌, ℕ, ◌+◌, ◌<◌, ◌==◌, ◌&&◌, ◌||◌, not, Bool, true, false, cond, List, [], ◌∷◌, ◌++◌, length}
 use Rattle.std.specs.List.{AllByRecursion}
 use Rattle.vx_pic.specs.Sets.{is_non_ref}

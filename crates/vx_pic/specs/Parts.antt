@@ -1,4 +1,4 @@
--- What callers see of a picture, and which picture of a stream that is.
+-- What callers see of a picture, and which picture of a stream that is. Our own.
 use Rattle.std.specs.Prelude.{◌≡◌, ℕ, ℤ, ◌+◌, ◌-◌, ◌*◌, ◌<◌, ◌≤◌, ◌==◌, ◌&&◌, nat_lt, true, false, cond, List, ◌++◌, length, map, take}
 use Rattle.std.specs.Prelude.{Option, Some, None, is_none}
 use Rattle.std.specs.List.{AllByRecursion, range_with_len, slice_index_or, slice_range}

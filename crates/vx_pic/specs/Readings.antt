@@ -1,5 +1,5 @@
 -- What units are read as, and what that says at a place: `before` is the list of what the units before it were read as, the latest
--- first.
+-- first. Our own.
 use Rattle.std.specs.Prelude.{ℕ, ◌==◌, ◌&&◌, not, Bool, true, false, cond, List, [], ◌∷◌, ◌++◌, length, Option, Some, None}
 use Rattle.std.specs.Option.{option_or}
 use Rattle.vx_bits.specs.declared.list.Item.{Item}
@@ -62,8 +62,8 @@ abbrev pub aps_in : ℕ → ℕ → Reading → Option Aps
 aps_in kind id (aps_read a) = cond ((a.kind == kind) && (a.id == id)) (Some a) None
 aps_in kind id _ = None
 
--- those in force: of the last units of their ids, and of APSs of their types and ids (7.4.2.4.2, and 7.4.3.4 to 7.4.3.6 on the
--- content of sets)
+-- those in force: of the last units of their ids, and of APSs of their types and ids (7.4.3.4 to 7.4.3.6, on the content
+-- of sets)
 abbrev pub stored_sps : ℕ → List Reading → Option (List Item)
 stored_sps id before = latest_given (sps_in id) before
 

@@ -1,4 +1,4 @@
--- Pictures that are written one behind another: which sets are sent with each, and that all are read again.
+-- Pictures that are written one behind another: which sets are sent with each, and that all are read again. Our own.
 use Rattle.std.specs.Prelude.{◌≡◌, ◌⊎◌, ℕ, ◌+◌, ◌==◌, ◌&&◌, ◌≤◌, Bool, true, false, not, cond, List, [], ◌∷◌, ◌++◌, length, filter}
 use Rattle.std.specs.Prelude.{sum_by, nat_le, Option, Some, None}
 use Rattle.std.specs.Option.{option_or}

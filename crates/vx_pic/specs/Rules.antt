@@ -1,4 +1,5 @@
 -- How a unit is read behind those before it, rule by rule in the order in which they are tried, whatever sets and headers are read as.
+-- Our own in their order; each cites what it restates, and the others are our own.
 use Rattle.std.specs.Prelude.{ℕ, ◌+◌, ◌^◌, ◌==◌, ◌&&◌, not, nat_le, nat_lt, Bool, cond, List, [], ◌∷◌, ◌++◌, length, sum_by}
 use Rattle.std.specs.Prelude.{Option, Some, None, is_none, ok_or, Result, Ok, Err}
 use Rattle.vx_bits.specs.declared.list.Item.{Item}
@@ -43,11 +44,11 @@ pub record Readers : Type 0 where
 abbrev pub structure : ℕ → Refusal
 structure code = Structure code 0 0
 
--- a set that didn't come
+-- a set that didn't come (7.4.3.4 to 7.4.3.6)
 abbrev pub missing : ℕ → ℕ → Refusal
 missing kind id = Structure rules.SET_MISSING kind id
 
--- the first of these adaptation parameter sets that isn't stored is missing
+-- the first of these adaptation parameter sets that isn't stored is missing (7.4.3.6)
 abbrev pub are_stored : List Reading → List Slot → Result (Unit {0}) Refusal
 are_stored before [] = Ok tt
 are_stored before (slot ∷ slots) =
@@ -81,11 +82,11 @@ aps_reading None = dropped
 abbrev pub kind_at : List Reading → Begun → List ℕ → Kind
 kind_at before b u = kind_of (pictures before) (is_ended before) b (nal_unit_type u) (temporal_id u)
 
--- it begins anew with another picture than an IRAP or GDR picture (7.4.2.4.3)
+-- it begins anew with another picture than an IRAP or GDR picture (7.4.2.4.2)
 abbrev pub starts_elsewhere : List Reading → List ℕ → Bool
 starts_elsewhere before u = begins_anew (pictures before) (is_ended before) && not (is_irap_or_gdr (nal_unit_type u))
 
--- a picture begins: where a coded layer video sequence may, with the SPS of that sequence, and a count of 32 bits
+-- a picture begins: where a coded layer video sequence may, with the SPS of that sequence, and a count of 32 bits (7.4.2.4.2, 8.3.1)
 abbrev pub opened_as : Bool → Bool → Kind → Result Kind Refusal
 opened_as elsewhere changed k = do
   _ ← refuse_if elsewhere (structure rules.STARTS_ELSEWHERE)
@@ -107,7 +108,7 @@ gathers before messages = do
   Ok (messages_read messages)
 
 module _ (R : Readers) where
-  -- a picture header, in a PH unit or inside a slice, where there is none
+  -- a picture header, in a PH unit or inside a slice, where there is none (7.4.2.4, 7.4.3.8)
   abbrev pub begins : List Reading → List ℕ → Option (List ℕ) → Result Begun Refusal
   begins before u unit = do
     id ← R.referred_pps (is_none unit) (rbsp_of u)
@@ -118,7 +119,7 @@ module _ (R : Readers) where
     header ← R.header (is_none unit) sps pps (rbsp_of u)
     Ok (record { sps = sps; pps = pps; layout = layout; header = header; temporal_id = temporal_id u; unit = unit })
 
-  -- a slice of a picture, behind its other slices
+  -- a slice of a picture, behind its other slices (7.4.2.2, 7.4.8)
   abbrev pub joins : Picture → List ℕ → Result Slice Refusal
   joins p u = do
     _ ← refuse_if (not (temporal_id u == p.begun.temporal_id)) (structure rules.TEMPORAL_ID_DIFFERS)
@@ -131,7 +132,7 @@ module _ (R : Readers) where
     _ ← refuse_if (nat_lt picture_limit (picture_size p + length u)) (Limit rules.LONG_PICTURE)
     Ok (record { unit = u; header = header })
 
-  -- the first slice, and a further one
+  -- the first slice, and a further one (7.4.2.4)
   abbrev pub first : List Reading → Begun → List ℕ → Result Reading Refusal
   first before b u = do
     k ← opens before b u
@@ -143,7 +144,7 @@ module _ (R : Readers) where
     s ← joins p u
     Ok (next_slice s)
 
-  -- a slice whose picture header came before it
+  -- a slice whose picture header came before it (7.4.2.4)
   abbrev pub follows : List Reading → Current → List ℕ → Result Reading Refusal
   follows before nothing u = Err (structure rules.SLICE_WITHOUT_HEADER)
   follows before (headed b) u = first before b u
@@ -151,7 +152,7 @@ module _ (R : Readers) where
     _ ← refuse_if (is_whole p) (structure rules.SLICE_WITHOUT_HEADER)
     further p u
 
-  -- a slice with the picture header inside: it is the only one of its picture
+  -- a slice with the picture header inside: it is the only one of its picture (sh_picture_header_in_slice_header_flag, 7.4.8)
   abbrev pub alone : List Reading → List ℕ → Result Reading Refusal
   alone before u = do
     _ ← refuse_if (is_open (current before)) (structure rules.SLICE_MISSING)
@@ -159,7 +160,7 @@ module _ (R : Readers) where
     _ ← refuse_if (nat_lt 1 (length b.layout.slices)) (structure rules.HEADER_INSIDE_OF_SEVERAL)
     first before b u
 
-  -- a unit, by its type
+  -- a unit, by its type (7.4.2.2)
   abbrev pub reads_as : Class → List Reading → List ℕ → Result Reading Refusal
   reads_as other_unit before u = Ok dropped
   reads_as vps_unit before u = do
@@ -190,7 +191,7 @@ module _ (R : Readers) where
     Ok sequence_ended
   reads_as sei_unit before u = cond (is_within_picture (current before)) (Ok dropped) (gathers before (R.sei (rbsp_of u)))
 
-  -- a unit: of the base layer, unless its reserved bit is 1
+  -- a unit: of the base layer, unless its reserved bit is 1 (7.4.2.2)
   abbrev pub reads : List Reading → List ℕ → Result Reading Refusal
   reads before u =
       cond (is_reserved u) (Ok dropped)

@@ -15,9 +15,9 @@ use Rattle.vx_layout.specs.declared.numbers.Numbers.{Numbers}
 use Rattle.vx_layout.specs.Rects.{in_order}
 use Rattle.vx_aps.specs.declared.aps.TheConstants as aps
 
--- ---- sets
+-- ---- sets (7.4.3.4, 7.4.3.5)
 
--- sps_seq_parameter_set_id, pps_pic_parameter_set_id, and pps_seq_parameter_set_id: the SPS that the PPS refers to
+-- sps_seq_parameter_set_id, pps_pic_parameter_set_id, and pps_seq_parameter_set_id: the SPS that the PPS refers to (7.4.3.4, 7.4.3.5)
 unfoldable pub sps_id : List Item → ℕ
 sps_id s = number s sps.sps_seq_parameter_set_id
 
@@ -33,7 +33,7 @@ same_size s p =
     (number p pps.pps_pic_width_in_luma_samples == number s sps.sps_pic_width_max_in_luma_samples)
     && (number p pps.pps_pic_height_in_luma_samples == number s sps.sps_pic_height_max_in_luma_samples)
 
--- the same fields with the same values
+-- the same fields with the same values (our own)
 abbrev pub same_item : Item → Item → Bool
 same_item a b = (a.field == b.field) && int_eq a.value b.value
 
@@ -43,21 +43,21 @@ same_items (a ∷ items) (b ∷ others) = same_item a b && same_items items othe
 same_items [] (b ∷ others) = false
 same_items (a ∷ items) [] = false
 
--- ---- counts
+-- ---- counts (7.4.3.8)
 
 -- MaxPicOrderCntLsb (7.4.3.4)
 unfoldable pub max_lsb : List Item → ℕ
 max_lsb s = 2 ^ (number s sps.sps_log2_max_pic_order_cnt_lsb_minus4 + 4)
 
--- ph_pic_order_cnt_lsb
+-- ph_pic_order_cnt_lsb (7.4.3.8)
 unfoldable pub lsb_of : List Item → ℕ
 lsb_of header = number header ph.ph_pic_order_cnt_lsb
 
--- ph_poc_msb_cycle_val, where it is present
+-- ph_poc_msb_cycle_val, where it is present (7.4.3.8)
 unfoldable pub msb_cycle : List Item → Option ℕ
 msb_cycle header = cond (is_set (number header ph.ph_poc_msb_cycle_present_flag)) (Some (number header ph.ph_poc_msb_cycle_val)) None
 
--- ph_non_ref_pic_flag
+-- ph_non_ref_pic_flag (7.4.3.8)
 unfoldable pub is_non_ref : List Item → Bool
 is_non_ref header = is_set (number header ph.ph_non_ref_pic_flag)
 
@@ -70,7 +70,7 @@ pub record SliceHeader : Type 0 where
   pub subpic : ℕ
   pub payload : ℕ
 
--- sh_slice_address
+-- sh_slice_address (7.4.8)
 unfoldable pub address_of : SliceHeader → ℕ
 address_of h = number h.fields sh.sh_slice_address
 
@@ -80,12 +80,12 @@ slices_before layout h = length (in_order layout.slices (take h.subpic layout.su
 
 -- ---- adaptation parameter sets
 
--- a set of a type and an id that a header names
+-- a set of a type and an id that a header names (our own)
 pub record Slot : Type 0 where
   pub kind : ℕ
   pub id : ℕ
 
--- those that a field names, in order
+-- those that a field names, in order (our own)
 abbrev pub named : ℕ → ℕ → List Item → List Slot
 named kind of items = map (λ item. record { kind = kind; id = natural item.value }) (filter (λ item. item.field == of) items)
 
@@ -93,7 +93,7 @@ named kind of items = map (λ item. record { kind = kind; id = natural item.valu
 abbrev pub filter_items : List Item → List Item → SliceHeader → List Item
 filter_items p header h = cond (is_set (number p pps.pps_alf_info_in_ph_flag)) header h.fields
 
--- the filters of a slice: luma, chroma, Cb and Cr
+-- the filters of a slice: luma, chroma, Cb and Cr (7.4.8)
 abbrev pub named_filters : List Item → List Slot
 named_filters items =
     named aps.ALF alf.alf_aps_id_luma items
@@ -101,7 +101,7 @@ named_filters items =
     ++ (named aps.ALF alf.alf_cc_cb_aps_id items
     ++ named aps.ALF alf.alf_cc_cr_aps_id items))
 
--- what a slice names, of a picture with this PPS and header; LMCS and scaling lists whether it uses them or not
+-- what a slice names, of a picture with this PPS and header; LMCS and scaling lists whether it uses them or not (7.4.3.8, 7.4.8)
 unfoldable pub names_of : List Item → List Item → SliceHeader → List Slot
 names_of p header h =
     named_filters (filter_items p header h)
@@ -109,16 +109,16 @@ names_of p header h =
 
 -- ---- the quantization parameter of a slice (7.4.3.5, 7.4.3.8, 7.4.8)
 
--- the value of a field, and 0 where it is absent
+-- the value of a field, and 0 where it is absent (our own)
 abbrev pub signed : List Item → ℕ → ℤ
 signed items of = unwrap_or (first_value items of) (pos 0)
 
--- ph_qp_delta or sh_qp_delta, by pps_qp_delta_info_in_ph_flag
+-- ph_qp_delta or sh_qp_delta, by pps_qp_delta_info_in_ph_flag (7.4.3.5)
 abbrev pub qp_delta : List Item → List Item → SliceHeader → ℤ
 qp_delta p header h =
     cond (is_set (number p pps.pps_qp_delta_info_in_ph_flag)) (signed header ph.ph_qp_delta) (signed h.fields sh.sh_qp_delta)
 
--- SliceQpY: 26 + pps_init_qp_minus26 + the delta
+-- SliceQpY: 26 + pps_init_qp_minus26 + the delta (7.4.8)
 unfoldable pub slice_qp : List Item → List Item → SliceHeader → ℤ
 slice_qp p header h = (pos 26 +ℤ signed p pps.pps_init_qp_minus26) +ℤ qp_delta p header h
 

@@ -6,11 +6,11 @@ use Rattle.vx_pic.specs.Readings.{Picture}
 use Rattle.vx_pic.specs.Rules.{Readers}
 use Rattle.vx_pic.specs.Finished.{AreFinished}
 
--- those that are kept
+-- those that are kept (C.6)
 abbrev pub at_most : ℕ → List Picture → List Picture
 at_most tid ps = filter (λ p. nat_le p.kind.temporal_id tid) ps
 
--- no IRAP or GDR picture is left out
+-- no IRAP or GDR picture is left out (our own)
 abbrev pub KeepsStarts : ℕ → List Picture → Type 0
 KeepsStarts tid ps = AllByRecursion (λ p. nat_le p.kind.temporal_id tid ≡ false → is_irap_or_gdr p.kind.nal_type ≡ false) ps
 

@@ -1,4 +1,4 @@
--- What slices are read at, from the picture header and the sets in force.
+-- What slices are read at, from the picture header and the sets in force. Our own.
 use Rattle.std.specs.Prelude.{ℕ}
 use Rattle.vx_rpl.specs.HeaderLists.{lists_of}
 use Rattle.vx_ph.specs.declared.header.PictureHeader.{PictureHeader}

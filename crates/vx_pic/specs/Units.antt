@@ -8,7 +8,7 @@ use Rattle.vx_pic.specs.declared.unit_types.TheConstants as types
 unfoldable pub is_reserved : List ℕ → Bool
 is_reserved unit = nuh_reserved_zero_bit unit == 1
 
--- TemporalId
+-- TemporalId (7.4.2.2)
 abbrev pub temporal_id : List ℕ → ℕ
 temporal_id unit = nuh_temporal_id_plus1 unit - 1
 
@@ -28,11 +28,11 @@ is_idr t = t == types.IDR_W_RADL || t == types.IDR_N_LP
 abbrev pub is_cra_or_gdr : ℕ → Bool
 is_cra_or_gdr t = t == types.CRA_NUT || t == types.GDR_NUT
 
--- IRAP and GDR pictures
+-- IRAP and GDR pictures (7.4.2.2)
 abbrev pub is_irap_or_gdr : ℕ → Bool
 is_irap_or_gdr t = is_idr t || is_cra_or_gdr t
 
--- what a type is; those that are dropped, and reserved ones, are others
+-- what a type is; those that are dropped, and reserved ones, are others (7.4.2.2)
 pub data Class : Type 0 where
   other_unit vps_unit sps_unit pps_unit prefix_aps suffix_aps header_unit slice_unit end_unit sei_unit : Class
 

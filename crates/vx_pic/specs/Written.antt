@@ -1,4 +1,4 @@
--- A picture as units that are written, and what is asked of them so that they are read as that picture.
+-- A picture as units that are written, and what is asked of them so that they are read as that picture. Our own.
 use Rattle.std.specs.Prelude.{◌≡◌, ℕ, ◌+◌, ◌≤◌, ◌<◌, Bool, true, false, cond, List, [], ◌∷◌, ◌++◌, length, map, sum_by, option_to_list}
 use Rattle.std.specs.Prelude.{Option, Some, None, is_none, Ok}
 use Rattle.std.specs.List.{AllByRecursion}
@@ -71,9 +71,11 @@ messages_sent (Some s) = s.messages
 abbrev pub eos_unit : List ℕ
 eos_unit = 0 ∷ 169 ∷ []
 
+-- where one is marked (our own)
 abbrev pub eos_units : Bool → List (List ℕ)
 eos_units after_eos = cond after_eos (eos_unit ∷ []) []
 
+-- that of the messages (our own)
 abbrev pub sei_units : Option SeiUnit → List (List ℕ)
 sei_units None = []
 sei_units (Some s) = s.unit ∷ []

@@ -8,7 +8,7 @@ pub struct Kind {
     /// TemporalId.
     pub temporal_id: u8,
     /// Whether it starts a coded layer video sequence: an IDR picture, or a CRA or GDR picture that is the first, or the first
-    /// behind an end of sequence (H.266 7.4.2.4.3).
+    /// behind an end of sequence (H.266 7.4.2.4.2).
     pub clvss: bool,
     /// Whether an end of sequence stands between it and the picture before it.
     pub after_eos: bool,

@@ -1,4 +1,4 @@
--- Which file of each region is read, where the files of a region are read one behind another.
+-- Which file of each region is read, where the files of a region are read one behind another. Our own.
 use Rattle.std.specs.Prelude.{◌≡◌, ◌≢◌, ℕ, ◌+◌, ◌==◌, max, List, [], ◌∷◌, length, filter, slice_get, slice_index, Option, Some}
 use Rattle.std.specs.List.{range_with_len}
 

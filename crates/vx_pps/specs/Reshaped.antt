@@ -26,17 +26,17 @@ use Rattle.vx_pps.specs.Pps.{ArePpsItems, tile_columns_of, kept_pps_items, pps_f
 use Rattle.vx_pps.specs.Written.{only_item, list_items, tile_size_items}
 use Rattle.vx_table.specs.Rewritten.{where_so}
 
--- ---- what is stated, in the order of the syntax
+-- ---- what is stated, in the order of the syntax (7.3.2.5; what is stated is our own choice)
 
--- an item with the number that the source's last one gives the field: 0 where it has none
+-- an item with the number that the source's last one gives the field: 0 where it has none (our own)
 abbrev pub items_of_source : List Item → ℕ → List Item
 items_of_source source of = only_item of (pos (number source of))
 
--- pps_no_pic_partition_flag: a frame is partitioned, and a region where its source is
+-- pps_no_pic_partition_flag: a frame is partitioned, and a region where its source is (7.3.2.5)
 abbrev pub whole_flag : List Item → PpsShape → ℕ
 whole_flag source shape = cond shape.merged 0 (number source pps.pps_no_pic_partition_flag)
 
--- the id of the one subpicture, where this set has it
+-- the id of the one subpicture, where this set has it (7.3.2.5)
 abbrev pub pps_subpic_id_items : ℕ → Option (ℕ × ℕ) → List Item
 pps_subpic_id_items whole None = only_item pps.pps_subpic_id_mapping_present_flag (pos 0)
 pps_subpic_id_items whole (Some (bits, id)) =
@@ -44,7 +44,7 @@ pps_subpic_id_items whole (Some (bits, id)) =
     ++ (where_so (whole == 0) (only_item pps.pps_num_subpics_minus1 (pos 0))
     ++ (only_item pps.pps_subpic_id_len_minus1 (pos bits) ++ only_item pps.pps_subpic_id (pos id)))
 
--- ids, size, no conformance window, whether it is partitioned
+-- ids, size, no conformance window, whether it is partitioned (7.3.2.5)
 abbrev pub front_items : ℕ → PpsShape → List Item
 front_items whole shape =
     only_item pps.pps_pic_parameter_set_id (pos shape.id)
@@ -55,16 +55,16 @@ front_items whole shape =
     ++ (only_item pps.pps_no_pic_partition_flag (pos whole)
     ++ pps_subpic_id_items whole shape.subpic_id)))))
 
--- the flags of several tiles
+-- the flags of several tiles (7.3.2.5)
 abbrev pub tile_flag_items : PpsShape → List Item
 tile_flag_items shape = where_so (nat_lt 1 (across shape.tiles * down shape.tiles))
     (only_item pps.pps_loop_filter_across_tiles_enabled_flag (pos (one_if shape.across_tiles)) ++ only_item pps.pps_rect_slice_flag (pos 1))
 
--- tile indices are spelled of three slices and more
+-- tile indices are spelled of three slices and more (our own)
 abbrev pub has_deltas : PpsShape → Bool
 has_deltas shape = nat_lt 2 (length shape.slices)
 
--- the number of the slices, their list, tile by tile, and whether loop filters cross their borders
+-- the number of the slices, their list, tile by tile, and whether loop filters cross their borders (7.3.2.5)
 abbrev pub slice_list_items : PpsShape → List Group → List Item
 slice_list_items shape groups =
     only_item pps.pps_num_slices_in_pic_minus1 (pos (length shape.slices - 1))
@@ -72,7 +72,7 @@ slice_list_items shape groups =
     ++ (list_items shape.tiles (has_deltas shape) groups
     ++ where_so (nat_lt 1 (length shape.slices)) (only_item pps.pps_loop_filter_across_slices_enabled_flag (pos (one_if shape.across_slices)))))
 
--- all tile columns and rows, each with its size
+-- all tile columns and rows, each with its size (7.3.2.5)
 abbrev pub tile_items : PpsShape → List Item
 tile_items shape =
     only_item pps.pps_num_exp_tile_columns_minus1 (pos (across shape.tiles - 1))
@@ -80,7 +80,7 @@ tile_items shape =
     ++ (tile_size_items pps.pps_tile_column_width_minus1 (sizes_between shape.tiles.columns)
     ++ tile_size_items pps.pps_tile_row_height_minus1 (sizes_between shape.tiles.rows)))
 
--- the CTU size, the tiles, and the slices in these groups
+-- the CTU size, the tiles, and the slices in these groups (7.3.2.5)
 abbrev pub divided_items : PpsShape → List Group → List Item
 divided_items shape groups =
     only_item pps.pps_log2_ctu_size_minus5 (pos (powers_below 32 shape.ctb - 5))
@@ -100,7 +100,7 @@ IsDivision true shape items = items ≡ []
 IsDivision false shape items = Divides shape items
 
 -- of a frame's tools: the QP, and what stands in picture headers, as the source has it, but for the adaptive loop filter and the
--- QP, which stand in slice headers
+-- QP, which stand in slice headers (7.3.2.5)
 abbrev pub has_weights : List Item → Bool
 has_weights source =
     (is_set (number source pps.pps_weighted_pred_flag) || is_set (number source pps.pps_weighted_bipred_flag))
@@ -164,7 +164,7 @@ pub record IsShape (source : List Item) (shape : PpsShape) : Type 0 where
   pub init_qp : (neg_ℤ (pos 38) ≤ℤ shape.init_qp) × (shape.init_qp ≤ℤ pos 37)
   pub divided : whole_flag source shape ≡ 0 → CanBeDivided shape
 
--- ---- the rewritten set
+-- ---- the rewritten set (our own)
 
 -- the fields that are taken over
 abbrev pub taken : PpsShape → List ℕ

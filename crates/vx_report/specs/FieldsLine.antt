@@ -1,4 +1,5 @@
 -- The line of the fields of a set or header, as `{"bit":0,"fields":[["vps_video_parameter_set_id",1]],"structure":"VPS","unit":0}`.
+-- Our own.
 use Rattle.std.specs.Prelude.{ℕ, List, [], ◌∷◌, ◌++◌, codes, decimal, Option, Some, None, option_map, unwrap_or}
 use Rattle.std.specs.Fmt.{signed_decimal}
 use Rattle.std.specs.List.{concat, join_by}

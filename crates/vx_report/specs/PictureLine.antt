@@ -1,4 +1,4 @@
--- The line of a picture, as `{"clvss":true,"picture":0,"poc":0,"slices":1,"subpictures":1}`.
+-- The line of a picture, as `{"clvss":true,"picture":0,"poc":0,"slices":1,"subpictures":1}`. Our own.
 use Rattle.std.specs.Prelude.{ℕ, Bool, true, false, List, [], ◌∷◌, ◌++◌, length, codes, decimal}
 use Rattle.std.specs.Fmt.{signed_decimal}
 use Rattle.std.specs.List.{concat}

@@ -1,5 +1,5 @@
--- The lines of refusals: a word for each kind of line, by the letter of its rules.
-use Rattle.std.specs.Prelude.{◌≡◌, ℕ, ◌≤◌, ◌==◌, ◌||◌, Bool, cond, List, [], ◌∷◌, codes, decimal}
+-- The lines of refusals: a word for each kind of line, by the letter of its rules. Our own.
+use Rattle.std.specs.Prelude.{ℕ, ◌==◌, ◌||◌, Bool, cond, List, [], ◌∷◌, codes, decimal}
 use Rattle.std.specs.List.{concat}
 use Rattle.vx_bits.specs.declared.refusal.BitCause.{BitCause}
 use Rattle.vx_bits.specs.declared.refusal.BitCause.TheVariants.{Short, LongCode, BadTrailing, BadAlignment, OutOfRange}
@@ -9,16 +9,6 @@ use Rattle.vx_bits.specs.declared.rules.TheConstants.{LONG_SOURCE, TOO_MANY_FILE
 use Rattle.vx_aps.specs.declared.aps.TheConstants as aps
 use Rattle.vx_pic.specs.declared.sets.TheConstants as sets
 use Rattle.vx_report.specs.declared.refusal.Where.{Where}
-
--- a rule that a source breaks, or an extraction from one, or a merge of several; one on a missing set names a kind of sets
-abbrev pub HasLine : Refusal → Type 0
-HasLine (Framing code byte) = Unit {0}
-HasLine (Syntax field bit cause) = Unit {0}
-HasLine (Profile code) = Unit {0}
-HasLine (Limit code) = Unit {0}
-HasLine (Structure code kind id) = code ≡ SET_MISSING → kind ≤ sets.PPS
-HasLine (Extract code) = Unit {0}
-HasLine (Merge code source field) = Unit {0}
 
 -- ---- words
 

@@ -1,4 +1,4 @@
--- The line of a parameter set, and what it shows of the set.
+-- The line of a parameter set, and what it shows of the set. Our own.
 use Rattle.std.specs.Prelude.{ℕ, ◌+◌, cond, List, [], ◌∷◌, ◌++◌, codes, decimal}
 use Rattle.std.specs.List.{concat}
 use Rattle.serde_json.specs.Data.{Data, number as json_number, unsigned, object, Members, member, no_members}

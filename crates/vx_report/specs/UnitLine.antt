@@ -1,4 +1,4 @@
--- The line of a NAL unit, as `{"bytes":20,"offset":4,"tid":0,"type":15}`.
+-- The line of a NAL unit, as `{"bytes":20,"offset":4,"tid":0,"type":15}`. Our own.
 use Rattle.std.specs.Prelude.{ℕ, List, [], ◌∷◌, ◌++◌, codes, decimal}
 use Rattle.std.specs.List.{concat}
 use Rattle.serde_json.specs.Data.{Data, number, unsigned, object, member, no_members}

@@ -1,4 +1,4 @@
--- What lists, structures and weights read of the scope and leave in it, and which items tell the lists.
+-- What lists, structures and weights read of the scope and leave in it, and which items tell the lists. Our own.
 use Rattle.std.specs.Prelude.{◌≡◌, ℕ, zero, suc, ◌+◌, Bool, true, ◌&&◌, not, IsTrue, List, [], ◌∷◌, ◌++◌}
 use Rattle.vx_bits.specs.declared.list.Item.{Item}
 use Rattle.vx_table.specs.declared.rows.Row.{Row}

@@ -1,4 +1,4 @@
--- What `--help` and `--version` write: the text, byte for byte.
+-- What `--help` and `--version` write: the text, byte for byte. Our own.
 use Rattle.std.specs.Prelude.{ℕ, List, [], ◌∷◌, codes, Ok, Err}
 use Rattle.std.specs.List.{concat}
 use Rattle.vx_run.specs.declared.stop.Stop.TheVariants.{WriteFault}

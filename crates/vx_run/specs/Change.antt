@@ -1,4 +1,4 @@
--- What a call did to sources and sinks, as its caller sees it.
+-- What a call did to sources and sinks, as its caller sees it. Our own.
 use Rattle.std.specs.Prelude.{◌≡◌, ℕ, List, ◌⊎◌, Option, option_and_then, slice_get}
 use Rattle.std.specs.Option.{option_map_or}
 use Rattle.std.specs.Io.KnownBytes.{Appends, Consumes}

@@ -1,4 +1,4 @@
--- What came of a command, and how it ends the program: the status, and the line that tells why.
+-- What came of a command, and how it ends the program: the status, and the line that tells why. Our own.
 use Rattle.std.specs.Prelude.{◌≡◌, ◌<◌, ◌≤◌, ℕ, List, [], ◌∷◌, ◌⊎◌, Result, Ok, Err, codes, decimal}
 use Rattle.std.specs.List.{concat}
 use Rattle.vx_report.specs.RefusalLine.{refusal_text}

@@ -1,4 +1,5 @@
 -- What `extract` and `check extract` find in the pictures of a source, and what they write. Lists of pictures have the latest first.
+-- Our own.
 use Rattle.std.specs.Prelude.{◌≡◌, ◌↔◌, ℕ, ◌<◌, Bool, true, false, List, [], ◌∷◌, ◌++◌, length, map, codes, decimal}
 use Rattle.std.specs.Prelude.{Option, Some, None, unwrap_or, Ok, Err, IfErr}
 use Rattle.std.specs.List.{AllByRecursion, concat}

@@ -1,4 +1,4 @@
--- The grammar of the program's words. A word is the list of its bytes.
+-- The grammar of the program's words. A word is the list of its bytes. Our own.
 use Rattle.std.specs.Prelude.{◌≡◌, ◌≢◌, ℕ, ◌<◌, ◌≤◌, ◌^◌, Bool, true, false, List, [], ◌∷◌, ◌++◌, map, length, Contains, codes, decimal, Option, Some, None, IfSome, String, string_bytes}
 use Rattle.std.specs.List.{AllByRecursion}
 use Rattle.vx_explain.specs.Explained.{rules, fields}

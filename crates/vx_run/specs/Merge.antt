@@ -1,4 +1,4 @@
--- What `merge` and `check merge` find in the rounds of several sources, and what they write.
+-- What `merge` and `check merge` find in the rounds of several sources, and what they write. Our own.
 use Rattle.std.specs.Prelude.{◌≡◌, ◌↔◌, ℕ, ◌+◌, ◌<◌, List, [], ◌∷◌, ◌++◌, length, map, Option, None, Ok, Err}
 use Rattle.std.specs.List.{AllByRecursion}
 use Rattle.std.specs.Io.{StartsWith}

@@ -1,4 +1,4 @@
--- What `merge` has written, read as a source.
+-- What `merge` has written, read as a source. Our own.
 use Rattle.std.specs.Prelude.{ℕ, List, reverse, take, None}
 use Rattle.vx_pic.specs.Readings.{Picture}
 use Rattle.vx_pic.specs.Rules.{Readers}

@@ -1,4 +1,5 @@
 -- What `play` finds in the rounds of regions, and what it writes. The pictures of a region are those of its files, one file behind another.
+-- Our own.
 use Rattle.std.specs.Prelude.{◌≡◌, ◌↔◌, ◌⊎◌, ℕ, ◌+◌, ◌<◌, ◌≤◌, ◌==◌, ◌&&◌, nat_lt, Bool, cond, List, [], ◌∷◌, ◌++◌, length, map}
 use Rattle.std.specs.Prelude.{get_or, Option, None, is_none, option_map, unwrap_or, Ok, Err, IfErr}
 use Rattle.std.specs.Option.{option_or}

@@ -1,4 +1,4 @@
--- What `extract` has written, read as a source.
+-- What `extract` has written, read as a source. Our own.
 use Rattle.std.specs.Prelude.{ℕ, ◌≤◌, true, List, length, None}
 use Rattle.vx_annexb.specs.ByteStream.{source_limit}
 use Rattle.vx_pic.specs.Readings.{Picture}

@@ -1,5 +1,5 @@
 -- What commands over several sources find in their pictures, round by round. A round is one picture of each source. In a round the sources
--- are gone on with in order; where none is refused and none has ended, the pictures of the round are judged.
+-- are gone on with in order; where none is refused and none has ended, the pictures of the round are judged. Our own.
 use Rattle.std.specs.Prelude.{◌≡◌, ◌⊎◌, ℕ, ◌+◌, ◌<◌, ◌≤◌, List, length, map, reverse, slice_get}
 use Rattle.std.specs.Prelude.{true, false, Option, Some, None, option_map, Ok, Err, IfErr}
 use Rattle.std.specs.Io.KnownBytes.{Consumes, IsAtEnd}

@@ -1,4 +1,4 @@
--- What `run` does to its sources and to `out`, by the command that its words ask for.
+-- What `run` does to its sources and to `out`, by the command that its words ask for. Our own.
 use Rattle.std.specs.Prelude.{◌≡◌, ℕ, List, Option, Some, None, IsSomeAnd, Err}
 use Rattle.vx_explain.specs.Explained.{explanation}
 use Rattle.vx_run.specs.declared.stop.Stop.TheVariants.{NotUnderstood}

@@ -1,4 +1,4 @@
--- What `show` finds in the bytes of a source, and what it writes.
+-- What `show` finds in the bytes of a source, and what it writes. Our own.
 use Rattle.std.specs.Prelude.{◌≡◌, ℕ, ◌+◌, ◌<◌, nat_le, Bool, true, false, List, [], ◌∷◌, ◌++◌, length, take}
 use Rattle.std.specs.Prelude.{Option, Some, None, Result, Ok, Err, IfErr}
 use Rattle.std.specs.List.{flat_map}

@@ -1,4 +1,4 @@
--- What `trial` does: it makes streams from a number, merges them, extracts each region, and tells what it counted.
+-- What `trial` does: it makes streams from a number, merges them, extracts each region, and tells what it counted. Our own.
 use Rattle.std.specs.Prelude.{ℕ, List, [], ◌∷◌, codes, decimal, Ok, Err}
 use Rattle.std.specs.List.{concat}
 use Rattle.vx_pic.specs.H266.{AreOfH266}

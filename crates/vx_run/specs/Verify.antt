@@ -1,4 +1,5 @@
 -- What `verify merge` finds in the rounds of a finished stream and its sources. File 0 is the finished stream, and file k + 1 is source k.
+-- Our own.
 use Rattle.std.specs.Prelude.{◌≡◌, ◌↔◌, ℕ, ◌<◌, List, [], ◌∷◌, length, map, Ok, Err, codes, decimal}
 use Rattle.std.specs.List.{concat}
 use Rattle.vx_pic.specs.Rules.{Readers}

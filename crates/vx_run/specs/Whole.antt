@@ -1,4 +1,4 @@
--- What a whole run of the program did: the command, and the last write behind it.
+-- What a whole run of the program did: the command, and the last write behind it. Our own.
 use Rattle.std.specs.Prelude.{ℕ, List}
 use Rattle.std.specs.Io.KnownBytes.{Keeps}
 use Rattle.vx_run.specs.Change.{Change, Sources, change}

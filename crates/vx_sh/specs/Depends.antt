@@ -1,4 +1,4 @@
--- What the fields of a slice header behind the id of its subpicture depend on.
+-- What the fields of a slice header behind the id of its subpicture depend on. Our own.
 use Rattle.std.specs.Prelude.{ℕ, not, List, [], ◌∷◌, ◌++◌, filter}
 use Rattle.vx_table.specs.Depends.{has, with_all, set_of, DependsOnlyOn}
 use Rattle.vx_table.specs.laws.Again.{AlwaysShown}

@@ -1,4 +1,4 @@
--- What a slice header is read and written at, from the sets, the picture header, the layout and the NAL unit's type in force.
+-- What a slice header is read and written at, from the sets, the picture header, the layout and the NAL unit's type in force. Our own.
 use Rattle.std.specs.Prelude.{◌≡◌, ◌≤◌, ◌<◌, ℕ, IsFalse, List, [], ◌∷◌, All, length, slice_set}
 use Rattle.vx_bits.specs.declared.list.Item.{Item}
 use Rattle.vx_table.specs.Scope.{fresh, loaded, joined}

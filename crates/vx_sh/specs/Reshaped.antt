@@ -30,30 +30,30 @@ use Rattle.vx_sh.specs.InForce.{at_sets, in_force_at, slice_scope}
 use Rattle.vx_sh.specs.Value.{AreFields, BeginsSlice, HasNumbers, IsSliceHeaderSpelling, TellsNumbers}
 use Rattle.vx_sh.specs.Whole.{At, index_of, points_at, num_slices_in_subpic}
 
--- ---- what is stated, in the order of the syntax
+-- ---- what is stated, in the order of the syntax (7.3.7; what is stated is our own choice)
 
--- the picture header stands apart; the id of the subpicture, where the SPS describes subpictures
+-- the picture header stands apart; the id of the subpicture, where the SPS describes subpictures (7.3.7)
 abbrev pub sh_subpic_id_items : List Item → ℕ → List Item
 sh_subpic_id_items sps id =
     item sh.sh_picture_header_in_slice_header_flag 0
     ∷ where_so (is_set (number sps sps_fields.sps_subpic_info_present_flag)) (item sh.sh_subpic_id id ∷ [])
 
--- the filter, where the SPS has it
+-- the filter, where the SPS has it (7.3.7)
 abbrev pub stated_filter_items : List Item → List Item → List Item
 stated_filter_items sps filter = where_so (is_set (number sps sps_fields.sps_alf_enabled_flag)) filter
 
--- what is used of LMCS and scaling lists, where the picture header has them on
+-- what is used of LMCS and scaling lists, where the picture header has them on (7.3.7)
 abbrev pub use_items : List Item → (uses_lmcs uses_scaling : Bool) → List Item
 use_items header uses_lmcs uses_scaling =
     where_so (is_set (number header ph.ph_lmcs_enabled_flag)) (item sh.sh_lmcs_used_flag (one_if uses_lmcs) ∷ [])
     ++ where_so (is_set (number header ph.ph_explicit_scaling_list_enabled_flag))
     (item sh.sh_explicit_scaling_list_used_flag (one_if uses_scaling) ∷ [])
 
--- the QP
+-- the QP (7.3.7)
 abbrev pub qp_items : ℤ → List Item
 qp_items delta = record { field = sh.sh_qp_delta; value = delta } ∷ []
 
--- all that is stated
+-- all that is stated (7.3.7)
 abbrev pub stated_sh_items : SliceNumbers → ShShape → List Item
 stated_sh_items n shape =
     sh_subpic_id_items n.sps.now shape.subpic_id
@@ -102,7 +102,7 @@ pub record GoesAt (source : SliceHeader) (id : ℕ) (n : SliceNumbers) : Type 0 
   pub same_header : AreSameForSlices header n.header.now
   pub same_slices : HaveSameSlices layout source.subpic n.layout.now (index_of id n.ids.now)
 
--- ---- the rewritten slice header
+-- ---- the rewritten slice header (our own)
 
 -- The items are those of a slice header there that has the picture header apart, with the stated id. Those of kept fields are the
 -- source's, and the others are exactly what is stated.

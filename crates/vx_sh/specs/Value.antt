@@ -1,4 +1,4 @@
--- A slice header as a value: what is read and what is written of it.
+-- A slice header as a value: what is read and what is written of it. Our own.
 use Rattle.std.specs.Prelude.{◌≡◌, ℕ, ℤ, ◌+◌, ◌*◌, ◌<◌, Bool, true, false, List, [], ◌++◌, length, nat_le, take, drop, slice_index, Result, Ok, Err}
 use Rattle.vx_bits.specs.declared.list.Item.{Item}
 use Rattle.vx_bits.specs.declared.refusal.ReadError.{ReadError}
@@ -20,7 +20,7 @@ use Rattle.vx_table.specs.Loaded.{number}
 use Rattle.vx_sh.specs.Whole.{At, index_of, behind_header, header_inside, slice_form}
 
 -- The items are those of a slice header: of values that go through its form but for the picture header that stands inside, whose
--- values are these.
+-- values are these (7.3.7).
 pub record AreFields (n : At) (fields : List Item) (inside : List ℤ) : Type 0 where
   pub first : List ℤ
   pub behind : List ℤ
@@ -32,7 +32,7 @@ pub record AreFields (n : At) (fields : List Item) (inside : List ℤ) : Type 0 
   pub all : fields ≡ items_along (form_of HEADER_INSIDE n.slice) first
       ++ items_along (behind_header n.table n.ids n.layout at) behind
 
--- all values, in the order of the bits
+-- all values, in the order of the bits (our own)
 abbrev pub values_of : {n : At} {fields : List Item} {inside : List ℤ} → AreFields n fields inside → List ℤ
 values_of {inside} f = (f.first ++ inside) ++ f.behind
 
@@ -44,7 +44,7 @@ pub record HasNumbers (n : At) (header : SliceHeader) (end : List ℕ) : Type 0 
   pub address : header.address ≡ slice_index end sh_slice_address
   pub lists : header.lists ≡ lists_of n.table n.sets header.fields
 
--- An RBSP begins with the spelling of a slice header, which takes so many bytes. The last of these isn't 00.
+-- An RBSP begins with the spelling of a slice header, which takes so many bytes. The last of these isn't 00 (7.3.7).
 pub record BeginsSlice (n : At) (rbsp : List ℕ) (header : SliceHeader) (bytes : ℕ) : Type 0 where
   pub inside : List ℤ
   pub fields : AreFields n header.fields inside
@@ -61,14 +61,14 @@ ReadsSlice n rbsp (Ok (header, size)) = BeginsSlice n rbsp header size
 ReadsSlice n rbsp (Err errors.Memory) = Unit {0}
 ReadsSlice n rbsp (Err (errors.Refused r)) = (new : Place) × PassesOver {B = Unit {0}} (slice_form n) (at_front rbsp) (Err r) new
 
--- The items are those of a slice header inside of which, where a picture header stands there, the one of these items stands.
+-- The items are those of a slice header inside of which, where a picture header stands there, the one of these items stands (7.3.7).
 pub record IsSliceOf (n : At) (fields header : List Item) : Type 0 where
   pub inside : List ℤ
   pub slice : AreFields n fields inside
   pub others : List Item
   pub given : header ≡ items_along (header_inside n.table n.sets slice.at) inside ++ others
 
--- The bytes are its spelling, and the last of them isn't 00.
+-- The bytes are its spelling, and the last of them isn't 00 (7.3.7).
 pub record IsSliceHeaderSpelling (n : At) (fields header : List Item) (bytes : List ℕ) : Type 0 where
   pub is : IsSliceOf n fields header
   pub bits : bits_of bytes ≡ bits_along (slice_form n) 0 (values_of is.slice)

@@ -1,4 +1,4 @@
--- The kept fields of a set, and what they depend on.
+-- The kept fields of a set, and what they depend on. Our own.
 use Rattle.std.specs.Prelude.{◌≡◌, ℕ, ℤ, not, List, [], ◌∷◌, filter}
 use Rattle.vx_bits.specs.declared.list.Item.{Item}
 use Rattle.vx_fields.specs.declared.sps.TheConstants as sps

@@ -25,17 +25,17 @@ use Rattle.vx_sps.specs.Set.{ctb_size_of}
 use Rattle.vx_sps.specs.Structure.{sps_form}
 use Rattle.vx_table.specs.Rewritten.{where_so}
 
--- ---- what is stated, in the order of the syntax
+-- ---- what is stated, in the order of the syntax (7.3.2.4; what is stated is our own choice)
 
--- an item of a field; and items that stand only where something holds
+-- an item of a field; and items that stand only where something holds (our own)
 abbrev pub item : ℕ → ℕ → Item
 item of n = record { field = of; value = pos n }
 
--- an item that the source's last one gives its number
+-- an item that the source's last one gives its number (our own)
 abbrev pub item_of_source : List Item → ℕ → Item
 item_of_source source of = item of (number source of)
 
--- ids: the shape's, of no VPS
+-- ids: the shape's, of no VPS (7.3.2.4)
 abbrev pub sps_id_items : ℕ → List Item
 sps_id_items id = item sps.sps_seq_parameter_set_id id ∷ item sps.sps_video_parameter_set_id 0 ∷ []
 
@@ -47,11 +47,12 @@ profile_items source level =
     ∷ (replicate (number source sps.sps_max_sublayers_minus1) (item ptl.ptl_sublayer_level_present_flag 0)
     ++ item ptl.ptl_num_sub_profiles 0 ∷ [])
 
--- the window's offsets, left, right, top and bottom, where one isn't 0
+-- the window's offsets, left, right, top and bottom, where one isn't 0 (our own)
 abbrev pub has_window : List ℕ → Bool
 has_window window =
     (is_set (slice_index window 0) || is_set (slice_index window 1)) || (is_set (slice_index window 2) || is_set (slice_index window 3))
 
+-- the window: sps_conformance_window_flag, and the offsets where it is 1 (7.3.2.4)
 abbrev pub window_items : List ℕ → List Item
 window_items window =
     item sps.sps_conformance_window_flag (one_if (has_window window))
@@ -59,13 +60,13 @@ window_items window =
     (item sps.sps_conf_win_left_offset (slice_index window 0) ∷ item sps.sps_conf_win_right_offset (slice_index window 1)
     ∷ item sps.sps_conf_win_top_offset (slice_index window 2) ∷ item sps.sps_conf_win_bottom_offset (slice_index window 3) ∷ [])
 
--- width and height, and the window
+-- width and height, and the window (7.3.2.4)
 abbrev pub picture_size_items : ℕ → ℕ → List ℕ → List Item
 picture_size_items width height window =
     item sps.sps_pic_width_max_in_luma_samples width ∷ item sps.sps_pic_height_max_in_luma_samples height ∷ window_items window
 
 -- the place of subpicture i: its corner, but of the first, and its size, but of the last, both in columns and rows where the
--- picture has several of these
+-- picture has several of these (7.3.2.4)
 abbrev pub place_items : ℕ → ℕ → List Rect → ℕ → List Item
 place_items columns rows rects i =
     let rect = slice_index_or rects i no_rect in
@@ -76,35 +77,35 @@ place_items columns rows rects i =
     ++ (where_so (before_last && nat_lt 1 columns) (item sps.sps_subpic_width_minus1 (rect.w - 1) ∷ [])
     ++ where_so (before_last && nat_lt 1 rows) (item sps.sps_subpic_height_minus1 (rect.h - 1) ∷ [])))
 
--- several subpictures are independent, and each is placed by itself
+-- several subpictures are independent, and each is placed by itself (7.3.2.4)
 abbrev pub places_items : ℕ → ℕ → List Rect → List Item
 places_items columns rows rects = where_so (nat_lt 1 (length rects))
     (item sps.sps_independent_subpics_flag 1 ∷ item sps.sps_subpic_same_size_flag 0
     ∷ in_all_turns (place_items columns rows rects) 0 (length rects))
 
--- the id of the one subpicture, where the set has it
+-- the id of the one subpicture, where the set has it (7.3.2.4)
 abbrev pub mapping_items : Option ℕ → List Item
 mapping_items None = item sps.sps_subpic_id_mapping_present_flag 0 ∷ []
 mapping_items (Some id) = item sps.sps_subpic_id_mapping_present_flag 1 ∷ item sps.sps_subpic_id id ∷ []
 
--- the bits of the ids of n subpictures: Ceil(Log2(n)), and at least 1
+-- the bits of the ids of n subpictures: Ceil(Log2(n)), and at least 1 (our own)
 abbrev pub id_bits : ℕ → ℕ
 id_bits n = max (powers_below 32 n) 1
 
--- one subpicture, whose id is mapped
+-- one subpicture, whose id is mapped (7.3.2.4)
 abbrev pub one_items : ℕ → Option ℕ → List Item
 one_items id_len id =
     item sps.sps_num_subpics_minus1 0 ∷ item sps.sps_subpic_id_len_minus1 id_len
     ∷ item sps.sps_subpic_id_mapping_explicitly_signalled_flag 1 ∷ mapping_items id
 
--- subpictures whose ids are their indices
+-- subpictures whose ids are their indices (7.3.2.4)
 abbrev pub many_items : ℕ → ℕ → List Rect → List Item
 many_items columns rows rects =
     item sps.sps_num_subpics_minus1 (length rects - 1)
     ∷ (places_items columns rows rects
     ++ item sps.sps_subpic_id_len_minus1 (id_bits (length rects) - 1) ∷ item sps.sps_subpic_id_mapping_explicitly_signalled_flag 0 ∷ [])
 
--- the subpictures of a picture of so many columns and rows of CTUs
+-- the subpictures of a picture of so many columns and rows of CTUs (7.3.2.4)
 abbrev pub subpic_items : ℕ → ℕ → SubpicPlan → List Item
 subpic_items columns rows Absent = item sps.sps_subpic_info_present_flag 0 ∷ []
 subpic_items columns rows (One id_len id) = item sps.sps_subpic_info_present_flag 1 ∷ one_items id_len id
@@ -134,13 +135,13 @@ timing_items source = where_so (is_set (number source sps.sps_timing_hrd_params_
     ∷ (where_so (is_set (number source sps.sps_max_sublayers_minus1)) (item sps.sps_sublayer_cpb_params_present_flag 0 ∷ [])
     ++ rate_items source))
 
--- the picture: its size, and the subpictures
+-- the picture: its size, and the subpictures (7.3.2.4)
 abbrev pub picture_items : List Item → SpsShape → List Item
 picture_items source shape =
     picture_size_items shape.width shape.height shape.window
     ++ subpic_items (quotient shape.width (ctb_size_of source)) (quotient shape.height (ctb_size_of source)) shape.subpics
 
--- all that is stated
+-- all that is stated (7.3.2.4)
 abbrev pub stated_sps_items : List Item → SpsShape → List Item
 stated_sps_items source shape =
     sps_id_items shape.id
@@ -176,7 +177,7 @@ pub record IsShape (ctb_size : ℕ) (shape : SpsShape) : Type 0 where
   pub dpb : All IsCodeNumber shape.dpb
   pub plan : IsPlan (quotient shape.width ctb_size) (quotient shape.height ctb_size) shape.subpics
 
--- ---- the rewritten set
+-- ---- the rewritten set (our own)
 
 -- The items are those of a set. Those of the fields that are taken over are the source's, and the others are exactly what is stated.
 abbrev pub IsReshapedSps : List Item → SpsShape → List Item → Type 0

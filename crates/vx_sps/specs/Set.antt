@@ -13,7 +13,7 @@ use Rattle.vx_table.specs.Loaded.{number}
 use Rattle.vx_table.specs.Reading.{ReadsValue}
 use Rattle.vx_sps.specs.Structure.{sps_form}
 
--- The items are those of a set: of values that go through its form to this end.
+-- The items are those of a set: of values that go through its form to this end (7.3.2.4).
 pub record AreSpsItems (items : List Item) : Type 0 where
   pub values : List ℤ
   pub end : List ℕ
@@ -22,7 +22,7 @@ pub record AreSpsItems (items : List Item) : Type 0 where
 
 -- ---- the pictures
 
--- sps_pic_width_max_in_luma_samples and sps_pic_height_max_in_luma_samples
+-- sps_pic_width_max_in_luma_samples and sps_pic_height_max_in_luma_samples (7.4.3.4)
 abbrev pub width_of : List Item → ℕ
 width_of items = number items sps.sps_pic_width_max_in_luma_samples
 
@@ -33,7 +33,7 @@ height_of items = number items sps.sps_pic_height_max_in_luma_samples
 abbrev pub ctb_size_of : List Item → ℕ
 ctb_size_of items = 2 ^ (number items sps.sps_log2_ctu_size_minus5 + 5)
 
--- the columns and rows of CTUs
+-- the columns and rows of CTUs (7.4.3.4)
 abbrev pub ctu_columns_of : List Item → ℕ
 ctu_columns_of items = quotient (width_of items) (ctb_size_of items)
 
@@ -42,7 +42,7 @@ ctu_rows_of items = quotient (height_of items) (ctb_size_of items)
 
 -- ---- headers
 
--- how many flags of a field are 1
+-- how many flags of a field are 1 (our own)
 abbrev pub set_flags : ℕ → List Item → ℕ
 set_flags of items = capped (count_by (λ item. item.field == of && is_set (natural item.value)) items)
 
@@ -53,11 +53,11 @@ extra_ph_bits_of items = set_flags sps.sps_extra_ph_bit_present_flag items
 abbrev pub extra_sh_bits_of : List Item → ℕ
 extra_sh_bits_of items = set_flags sps.sps_extra_sh_bit_present_flag items
 
--- slices may have weights
+-- slices may have weights (7.4.3.4)
 abbrev pub is_weighted : List Item → Bool
 is_weighted items = is_set (number items sps.sps_weighted_pred_flag) || is_set (number items sps.sps_weighted_bipred_flag)
 
--- ---- how a set is spelled
+-- ---- how a set is spelled (7.3.2.4)
 
 -- The bytes are the spelling of the values whose items these are.
 pub record IsSpsSpelling (items : List Item) (bytes : List ℕ) : Type 0 where

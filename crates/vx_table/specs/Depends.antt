@@ -1,4 +1,4 @@
--- What a structure depends on: on which numbers of the scope that it is walked at, and on no others.
+-- What a structure depends on: on which numbers of the scope that it is walked at, and on no others. Our own.
 use Rattle.std.specs.Prelude.{◌≡◌, ℕ, ℤ, Bool, IsTrue, IsFalse, List, [], ◌∷◌, length, slice_index, slice_set}
 use Rattle.vx_table.specs.declared.rows.Cell.{Cell}
 use Rattle.vx_table.specs.Scope.{fresh, is_set}

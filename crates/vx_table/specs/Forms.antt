@@ -1,4 +1,4 @@
--- What a table means: the fields in order, each with its coding and range, and after each value how it goes on.
+-- What a table means: the fields in order, each with its coding and range, and after each value how it goes on (H.266 7.1, 7.2).
 use Rattle.std.specs.Prelude.{ℕ, ℤ, zero, suc, ◌+◌, ◌-◌, min, Bool, true, false, cond, ◌==◌, List, [], ◌∷◌, length, slice_set, Option}
 use Rattle.std.specs.Prelude.{Some, None, ◌&&◌}
 use Rattle.std.specs.Option.{option_or}
@@ -14,18 +14,18 @@ use Rattle.vx_table.specs.declared.rows.Presence.{Presence}
 use Rattle.vx_table.specs.declared.rows.Presence.TheVariants.{When, Repeat}
 use Rattle.vx_table.specs.Scope.{value, natural}
 
--- A structure: at its end, or at a field and how it goes on after each value of it.
+-- A structure: at its end, or at a field and how it goes on after each value of it (7.1, syntax in tabular form).
 pub data Form (A : Type 0) : Type 0 where
   done : A → Form A
   field : Cell ℕ → (ℤ → Form A) → Form A
 
--- One structure after another.
+-- One structure after another (7.1).
 infixl 10 ◌>>=◌
 abbrev pub ◌>>=◌ : {A B : Type 0} → Form A → (A → Form B) → Form B
 (done a) >>= next = next a
 (field cell goes) >>= next = field cell (λ v. goes v >>= next)
 
--- a field's coding and range at a scope; no field is wider than 32 bits
+-- a field's coding and range at a scope; no field is wider than 32 bits (descriptors, 7.2)
 unfoldable pub coding_at : List ℕ → Coding Formula → Coding ℕ
 coding_at s (Fixed width) = Fixed (min (value s width) 32)
 coding_at s Golomb = Golomb
@@ -36,16 +36,18 @@ coding_at s Trailing = Trailing
 coding_at s Absent = Absent
 coding_at s Refused = Refused
 
+-- its range (7.4)
 unfoldable pub limits_at : List ℕ → Limits Formula → Limits ℕ
 limits_at s Any = Any
 limits_at s (Within low high fault) = Within low (value s high) fault
 limits_at s (Below bound fault) = Below (value s bound) fault
 limits_at s (Multiple unit high fault) = Multiple unit high fault
 
+-- both (our own)
 abbrev pub cell_at : List ℕ → Cell Formula → Cell ℕ
 cell_at s c = record { field = c.field; kept = c.kept; coding = coding_at s c.coding; limits = limits_at s c.limits }
 
--- a field of the bits, and no gap
+-- a field of the bits, and no gap (our own)
 unfoldable pub has_value : {N : Type 0} → Coding N → Bool
 has_value (Fixed width) = true
 has_value Golomb = true
@@ -67,25 +69,25 @@ abbrev pub coding_of : List Row → ℕ → Option (Coding Formula)
 coding_of [] of = None
 coding_of (row ∷ rows) of = option_or (coding_in row of) (coding_of rows of)
 
--- the scope after a field's value
+-- the scope after a field's value (our own)
 unfoldable pub after : List ℕ → Cell ℕ → ℤ → List ℕ
 after s cell v = cond (has_value cell.coding) (slice_set s cell.field (natural v)) s
 
--- one field, and the scope after it
+-- one field, and the scope after it (7.1)
 unfoldable pub one_field : List ℕ → Cell Formula → Form (List ℕ)
 one_field s c = field (cell_at s c) (λ v. done (after s (cell_at s c) v))
 
--- from this turn on, so many turns of a block that reads the number of its turn
+-- from this turn on, so many turns of a block that reads the number of its turn (a "for" of 7.1)
 unfoldable pub turns : (List ℕ → Form (List ℕ)) → ℕ → ℕ → ℕ → List ℕ → Form (List ℕ)
 turns block counter turn zero s = done s
 turns block counter turn (suc more) s = block (slice_set s counter turn) >>= turns block counter (turn + 1) more
 
--- a block as often as it is there: once where the formula isn't 0, or in so many turns
+-- a block as often as it is there: once where the formula isn't 0, or in so many turns (an "if" or a "for" of 7.1)
 unfoldable pub present : Presence → (List ℕ → Form (List ℕ)) → List ℕ → Form (List ℕ)
 present (When holds) block s = cond (value s holds == 0) (done s) (block s)
 present (Repeat counter times) block s = turns block counter 0 (value s times) s
 
--- The form of len rows, those behind the first skip of them.
+-- The form of len rows, those behind the first skip of them (7.1).
 unfoldable pub part : ℕ → ℕ → List Row → List ℕ → Form (List ℕ)
 part skip len [] s = done s
 part (suc skip) len (row ∷ rows) s = part skip len rows s
@@ -95,6 +97,6 @@ part zero (suc len) (Block presence n ∷ rows) s =
     present presence (part zero (min n len) rows) s >>= part (min n len) (len - min n len) rows
 part zero (suc len) (Name name formula ∷ rows) s = part zero len rows (slice_set s name (value s formula))
 
--- The form of a table at a scope.
+-- The form of a table at a scope (7.1).
 unfoldable pub form_of : List Row → List ℕ → Form (List ℕ)
 form_of rows s = part 0 (length rows) rows s

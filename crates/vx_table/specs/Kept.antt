@@ -1,4 +1,4 @@
--- The kept items of a structure: those of the fields that stay as they are when it is rewritten.
+-- The kept items of a structure: those of the fields that stay as they are when it is rewritten. Our own.
 use Rattle.std.specs.Prelude.{◌≡◌, ℕ, ℤ, Bool, true, false, cond, ◌&&◌, List, [], ◌∷◌, ◌++◌, Result, Ok, Err}
 use Rattle.vx_bits.specs.declared.list.Item.{Item}
 use Rattle.vx_table.specs.declared.rows.Coding.{Coding}

@@ -1,5 +1,5 @@
 -- The fields and names that rows give numbers to: tables that read no number but those given to them and their own, and fields
--- that one row alone codes.
+-- that one row alone codes. Our own.
 use Rattle.std.specs.Prelude.{◌≢◌, ℕ, cond, List, [], ◌∷◌, ◌++◌}
 use Rattle.std.specs.List.{AllPairs}
 use Rattle.vx_table.specs.declared.rows.Presence.{Presence}

@@ -1,4 +1,4 @@
--- A structure of several tables.
+-- A structure of several tables. Our own.
 use Rattle.std.specs.Prelude.{ℕ, List, [], ◌∷◌}
 use Rattle.vx_table.specs.declared.parts.Part.{Part}
 use Rattle.vx_table.specs.declared.rows.Term.TheVariants.{Number}
@@ -14,7 +14,7 @@ pub record Section : Type 0 where
   pub presence : Presence
   pub rows : List Row
 
--- a table that is there where a formula isn't 0, one that is always there, and one that comes in so many turns under a counter
+-- a table that is there where a formula isn't 0, one that is always there, and one that comes in so many turns under a counter (7.1)
 abbrev pub provided : Formula → List Row → Section
 provided holds rows = record { presence = When holds; rows = rows }
 
@@ -27,7 +27,7 @@ in_turns counter times rows = record { presence = Repeat counter times; rows = r
 abbrev pub section_form : Section → List ℕ → Form (List ℕ)
 section_form section = present section.presence (form_of section.rows)
 
--- one table after another
+-- one table after another (7.1)
 unfoldable pub sections_form : List Section → List ℕ → Form (List ℕ)
 sections_form [] s = done s
 sections_form (section ∷ more) s = section_form section s >>= sections_form more

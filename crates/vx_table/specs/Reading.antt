@@ -1,4 +1,4 @@
--- What a reader answers for a form: the value that the bits spell, or the first refusal.
+-- What a reader answers for a form: the value that the bits spell, or the first refusal. Our own.
 use Rattle.std.specs.Prelude.{◌≡◌, ◌⊎◌, ℕ, ℤ, Bool, List, [], ◌*◌, ◌++◌, length, Result, Ok, Err}
 use Rattle.vx_bits.specs.declared.list.Item.{Item}
 use Rattle.vx_bits.specs.declared.refusal.Refusal.{Refusal}

@@ -1,4 +1,4 @@
--- A structure rewritten: some fields as another value of it has them, the others as stated; and what makes it.
+-- A structure rewritten: some fields as another value of it has them, the others as stated; and what makes it. Our own.
 use Rattle.std.specs.Prelude.{◌≡◌, ℕ, ℤ, Bool, true, not, ◌&&◌, ◌||◌, IsTrue, List, [], ◌++◌, filter, Option, Some, None, Result, Ok, Err}
 use Rattle.std.specs.Prelude.{cond}
 use Rattle.vx_bits.specs.declared.list.Item.{Item}

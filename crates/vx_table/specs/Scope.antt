@@ -1,4 +1,4 @@
--- The latest numbers of fields and names, and what a row's formulas are at them.
+-- The latest numbers of fields and names, and what a row's formulas are at them. Our own, but for what formulas mean.
 use Rattle.std.specs.Prelude.{◌↔◌, ◌≤◌, ℕ, ℤ, pos, negsuc, zero, suc, ◌+◌, ◌-◌, ◌*◌, ◌^◌, min, Bool, cond, not, ◌&&◌, ◌||◌, ◌==◌, nat_lt}
 use Rattle.std.specs.Prelude.{nat_le, List, slice_index, [], ◌∷◌, ◌++◌, take, drop, replicate, slice_set}
 use Rattle.vx_bits.specs.declared.list.Item.{Item}
@@ -22,7 +22,7 @@ one_if holds = cond holds 1 0
 abbrev pub is_set : ℕ → Bool
 is_set n = not (n == 0)
 
--- how many of the first k powers of two are below n; of 32 of them this is Ceil(Log2(n))
+-- how many of the first k powers of two are below n; of 32 of them this is Ceil(Log2(n)) (clause 5)
 unfoldable pub powers_below : ℕ → ℕ → ℕ
 powers_below zero n = 0
 powers_below (suc k) n = powers_below k n + one_if (nat_lt (2 ^ k) n)
@@ -31,7 +31,7 @@ powers_below (suc k) n = powers_below k n + one_if (nat_lt (2 ^ k) n)
 abbrev pub CeilLog2IsLeast : Type 0
 CeilLog2IsLeast = (n k : ℕ) → n ≤ 2 ^ 32 → n ≤ 2 ^ k ↔ powers_below 32 n ≤ k
 
--- the quotient, rounded up; 0 where the divisor is 0
+-- the quotient, rounded up; 0 where the divisor is 0 (Ceil, clause 5)
 abbrev pub quotient : ℕ → ℕ → ℕ
 quotient n d = cond (d == 0) 0 (div_ceil n d)
 
@@ -44,6 +44,7 @@ abbrev pub latest : List ℕ → Term → ℕ
 latest scope (Number n) = n
 latest scope (Latest of) = slice_index scope of
 
+-- the number that a formula comes to (clause 5)
 unfoldable pub value : List ℕ → Formula → ℕ
 value s (Plain a) = latest s a
 value s (Plus a b) = capped (latest s a + latest s b)

@@ -32,7 +32,7 @@ HasCode Trailing v = v ≡ pos 0
 HasCode Absent v = v ≡ pos 0
 HasCode Refused v = ⊥
 
--- the bits of a value at a place of the structure's bits
+-- the bits of a value at a place of the structure's bits (7.2, 9.2)
 unfoldable pub code_of : Coding ℕ → ℕ → ℤ → List Bool
 code_of (Fixed n) place v = fixed n (unsigned_abs v)
 code_of Golomb place v = exp_golomb (unsigned_abs v)
@@ -43,12 +43,12 @@ code_of Trailing place v = one_from place
 code_of Absent place v = []
 code_of Refused place v = []
 
--- behind a trailing nothing may follow
+-- behind a trailing nothing may follow (rbsp_trailing_bits( ), 7.3.2)
 unfoldable pub MayEnd : Coding ℕ → List Bool → Type 0
 MayEnd Trailing rest = rest ≡ []
 MayEnd coding rest = Unit {0}
 
--- The bits that are left, of so many in all, begin with the code of the value, and the rest is behind it.
+-- The bits that are left, of so many in all, begin with the code of the value, and the rest is behind it (7.2, 9.2).
 pub record BeginsCode (coding : Coding ℕ) (total : ℕ) (v : ℤ) (left rest : List Bool) : Type 0 where
   pub value : HasCode coding v
   pub bits : left ≡ code_of coding (total - length left) v ++ rest
@@ -59,37 +59,37 @@ abbrev pub IsCodable : Coding ℕ → Type 0
 IsCodable (Fixed n) = n ≤ 32
 IsCodable coding = Unit {0}
 
--- whether it is one of 1, 2, 3 .. times the unit
+-- whether it is one of 1, 2, 3 .. times the unit (our own)
 abbrev pub is_multiple : ℕ → ℤ → Bool
 is_multiple unit (pos zero) = false
 is_multiple unit (pos (suc v)) = suc v % unit == 0
 is_multiple unit (negsuc v) = false
 
--- the fault of a value, where it breaks the range
+-- the fault of a value, where it breaks the range (ranges, 7.4)
 unfoldable pub fault_of : Limits ℕ → ℤ → Option Fault
 fault_of Any v = None
 fault_of (Within low high fault) v = cond (int_le low v && int_le v (pos high)) None (Some fault)
 fault_of (Below bound fault) v = cond (int_le (pos 0) v && int_lt v (pos bound)) None (Some fault)
 fault_of (Multiple unit high fault) v = cond (int_le v (pos high)) (cond (is_multiple unit v) None (Some faults.OutOfRange)) (Some fault)
 
--- The bits begin with the field: with the code of a value in its range.
+-- The bits begin with the field: with the code of a value in its range (7.2, 7.4).
 pub record BeginsField (cell : Cell ℕ) (total : ℕ) (v : ℤ) (left rest : List Bool) : Type 0 where
   pub code : BeginsCode cell.coding total v left rest
   pub range : fault_of cell.limits v ≡ None
 
--- The bits that are left, up to the rest, spell these values, which go through the form to its end.
+-- The bits that are left, up to the rest, spell these values, which go through the form to its end (7.1, 7.2).
 pub data Spells {A : Type 0} (total : ℕ) : Form A → List ℤ → List Bool → List Bool → Type 0 where
   at_end : {a : A} {rest : List Bool} → Spells total (done a) [] rest rest
   behind : {cell : Cell ℕ} {goes : ℤ → Form A} {v : ℤ} {w : List ℤ} {left mid rest : List Bool}
       → BeginsField cell total v left mid → Spells total (goes v) w mid rest → Spells total (field cell goes) (v ∷ w) left rest
 
--- The bits spell these values up to a field that comes next, where the rest begins.
+-- The bits spell these values up to a field that comes next, where the rest begins (7.1, 7.2).
 pub data Reaches {A : Type 0} (total : ℕ) : Form A → List ℤ → List Bool → Cell ℕ → List Bool → Type 0 where
   here : {cell : Cell ℕ} {goes : ℤ → Form A} {rest : List Bool} → Reaches total (field cell goes) [] rest cell rest
   later : {cell next : Cell ℕ} {goes : ℤ → Form A} {v : ℤ} {w : List ℤ} {left mid rest : List Bool}
       → BeginsField cell total v left mid → Reaches total (goes v) w mid next rest → Reaches total (field cell goes) (v ∷ w) left next rest
 
--- no code of this kind begins here, for this cause
+-- no code of this kind begins here, for this cause (our own)
 unfoldable pub Misses : Coding ℕ → ℕ → List Bool → BitCause → Type 0
 Misses (Fixed n) place left causes.Short = length left < n
 Misses Golomb place left causes.Short = EndsWithinCode left
@@ -104,28 +104,29 @@ Misses Trailing place left causes.BadTrailing = (left ≢ []) × (left ≢ one_f
 Misses Refused place left causes.OutOfRange = Unit {0}
 Misses coding place left cause = ⊥
 
--- what a fault is reported as, at a field and a bit
+-- what a fault is reported as, at a field and a bit (our own)
 unfoldable pub reported : Fault → ℕ → ℕ → Refusal
 reported faults.OutOfRange of bit = refusals.Syntax of bit causes.OutOfRange
 reported (faults.Profile code) of bit = refusals.Profile code
 reported (faults.Limit code) of bit = refusals.Limit code
 reported (faults.Structure code) of bit = refusals.Structure code 0 0
 
--- The field is refused where the rest begins: no code begins, or that of a value which breaks the range.
+-- The field is refused where the rest begins: no code begins, or that of a value which breaks the range (our own).
 pub data IsRefusedField (cell : Cell ℕ) (total : ℕ) (rest : List Bool) : Refusal → Type 0 where
   missed : {cause : BitCause} → Misses cell.coding (total - length rest) rest cause
       → IsRefusedField cell total rest (refusals.Syntax cell.field (total - length rest) cause)
   broken : {v : ℤ} {behind : List Bool} {fault : Fault} → BeginsCode cell.coding total v rest behind → fault_of cell.limits v ≡ Some fault
       → IsRefusedField cell total rest (reported fault cell.field (total - length rest))
 
--- a value as an item; a gap has none
+-- a value as an item; a gap has none (our own)
 abbrev pub one_item : ℕ → Coding ℕ → ℤ → List Item
 one_item of coding v = cond (has_value coding) (record { field = of; value = v } ∷ []) []
 
+-- that of a field (our own)
 unfoldable pub item_of : Cell ℕ → ℤ → List Item
 item_of cell v = one_item cell.field cell.coding v
 
--- the items of values that go along a form
+-- the items of values that go along a form (our own)
 abbrev pub items_along : {A : Type 0} → Form A → List ℤ → List Item
 items_along (done a) w = []
 items_along (field cell goes) [] = []

@@ -1,4 +1,5 @@
 -- A trial: streams that are made from a number are merged side by side, and each region of the merge is extracted; and what is counted of it.
+-- Our own.
 use Rattle.std.specs.Prelude.{◌≡◌, ℕ, ◌+◌, ◌*◌, ◌%◌, ◌^◌, List, [], ◌∷◌, ◌++◌, length, map, None}
 use Rattle.std.specs.List.{AllZip, concat, range_with_len}
 use Rattle.vx_annexb.specs.Laws.{written}

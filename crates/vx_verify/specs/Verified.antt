@@ -1,5 +1,5 @@
 -- When a finished picture is its sources' pictures put together, and what is told where it isn't. Files are numbered: file 0 is the
--- finished stream, and file k + 1 is source k.
+-- finished stream, and file k + 1 is source k. Our own.
 use Rattle.std.specs.Prelude.{◌≡◌, ◌≢◌, ◌⊎◌, ℕ, zero, suc, ◌*◌, ◌<◌, List, [], ◌∷◌, length, take, slice_get, Some}
 use Rattle.vx_sps.specs.Set.{ctb_size_of}
 use Rattle.vx_sps.specs.Subpictures.{subpics_of, rect_of}

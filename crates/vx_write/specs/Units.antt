@@ -23,7 +23,7 @@ IsSetUnit tid (an_sps items) unit = (rbsp : List ℕ) × sps_set.IsSpsSpelling i
 IsSetUnit tid (a_pps items) unit = (rbsp : List ℕ) × pps_set.IsPpsSpelling items rbsp × IsUnitOf types.PPS_NUT tid rbsp unit
 IsSetUnit tid (an_aps a) unit = IsUnitOf types.PREFIX_APS_NUT tid (spelled a.kind a.id a.body) unit
 
--- one SEI unit with the messages, where there are any
+-- one SEI unit with the messages, where there are any (7.3.2.9)
 abbrev pub IsSeiUnit : ℕ → List Message → Option SeiUnit → Type 0
 IsSeiUnit tid [] sei = sei ≡ None
 IsSeiUnit tid (m ∷ more) None = ⊥
