@@ -1,28 +1,8 @@
--- Items that are gathered one by one.
-use Rattle.std.proofs.Common.{◌≡◌, ℕ, zero, suc, ◌+◌, true, false, cond, List, [], ◌∷◌, ◌++◌, take, replicate, slice_get, Some, arith, ap, sym, ◌∙◌}
+-- Items that are appended one by one.
+use Rattle.std.proofs.Common.{◌≡◌, ℕ, zero, suc, ◌+◌, List, [], ◌∷◌, ◌++◌, replicate, arith, ap, sym, ◌∙◌}
 use Rattle.std.proofs.lemmas.List.{append-nil, append_assoc, replicate-append-replicate}
-use Rattle.std.proofs.lemmas.List.Elements.{filter_more}
-use Rattle.std.proofs.lemmas.Option.{slice_get_within, get_or_from_slice_get}
 use Rattle.vx_bits.specs.declared.list.Item.{Item}
-use Rattle.vx_table.specs.Depends.{has}
 use Rattle.vx_table.specs.Rewrites.{in_all_turns}
-use Rattle.vx_table.specs.Shown.{shown_items}
-
-more : (names : List ℕ) (items : List Item) (i : ℕ) (item : Item) → slice_get items i ≡ Some item
-    → shown_items names (take (i + 1) items) ≡ shown_items names (take i items) ++ cond (has names item.field) (item ∷ []) []
-more names items i item at =
-    filter_more (λ (x : Item). has names x.field) items i item (slice_get_within items i item at)
-    ∙ ap (λ (x : Item). shown_items names (take i items) ++ cond (has names x.field) (x ∷ []) []) (get_or_from_slice_get items i item item at)
-
--- an item of the set more, or none
-pub shown_more : (names : List ℕ) (items : List Item) (i : ℕ) (item : Item) → slice_get items i ≡ Some item → has names item.field ≡ true
-    → shown_items names (take (i + 1) items) ≡ shown_items names (take i items) ++ item ∷ []
-shown_more names items i item at is = more names items i item at ∙ ap (λ b. shown_items names (take i items) ++ cond b (item ∷ []) []) is
-
-pub shown_passed : (names : List ℕ) (items : List Item) (i : ℕ) (item : Item) → slice_get items i ≡ Some item → has names item.field ≡ false
-    → shown_items names (take (i + 1) items) ≡ shown_items names (take i items)
-shown_passed names items i item at is =
-    more names items i item at ∙ ap (λ b. shown_items names (take i items) ++ cond b (item ∷ []) []) is ∙ append-nil (shown_items names (take i items))
 
 -- an equal item more
 pub equal_more : (item : Item) (n : ℕ) → replicate (n + 1) item ≡ replicate n item ++ item ∷ []

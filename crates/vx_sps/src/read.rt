@@ -13,7 +13,7 @@ use crate::sps::Sps;
 use crate::walk::code_sps;
 use std::alloc::{AllocError, Global};
 use vx_bits::{BitReader, BitWriter, Fields, ReadError};
-use vx_table::{Scope, SpellError, Unwritten};
+use vx_table::{Scope, SpellError, Unwritten, only_memory};
 
 /// Reads a set's items, and appends them.
 fn read_fields(bits: &mut BitReader<'_>, items: &mut Fields) -> Result<(), ReadError>
@@ -85,8 +85,7 @@ pub fn write_sps(alloc: Global, sps: &Sps) -> Result<Vec<u8>, AllocError>
     let mut items = Unwritten::new(fields, 0, fields.len());
     match write_fields(&mut bits, &mut items) {
         Ok(()) => Ok(bits.into_bytes()),
-        Err(SpellError::Memory) => Err(AllocError),
-        Err(SpellError::NoValue) => unreachable!(),
+        Err(error) => Err(only_memory(error)),
     }
 }
 
@@ -99,7 +98,6 @@ pub fn keep_sps(alloc: Global, sps: &Sps) -> Result<Fields, AllocError>
     let mut items = Unwritten::new(fields, 0, fields.len());
     match keep_fields(&mut items, &mut kept) {
         Ok(()) => Ok(kept),
-        Err(SpellError::Memory) => Err(AllocError),
-        Err(SpellError::NoValue) => unreachable!(),
+        Err(error) => Err(only_memory(error)),
     }
 }

@@ -1,14 +1,10 @@
 //! The sequence parameter set that is sent for a region or a frame, put together of its source's fields and stated ones.
 
-ghost use Rattle.std.specs.Prelude.{◌≡◌, ◌+◌, ◌<◌, ◌≤◌, [], ◌∷◌, ◌++◌, length, replicate, OnOk, IfOk};
-ghost use Rattle.vx_table.specs.Depends as sets;
-ghost use Rattle.vx_table.specs.Loaded as loading;
-ghost use Rattle.vx_table.specs.Shown.{shown_items};
+ghost use Rattle.std.specs.Prelude.{◌≡◌, ◌+◌, ◌<◌, ◌≤◌, [], ◌++◌, length, replicate, OnOk, IfOk};
 ghost use Rattle.vx_sps.specs.Set.{ctb_size_of};
 ghost use Rattle.vx_sps.specs.inner.Makes.{MakesSet};
 ghost use Rattle.vx_sps.specs.Reshaped as reshaped;
 ghost use Rattle.vx_sps.specs.Reshaped.{sps_id_items, profile_items, window_items, picture_size_items, place_items, places_items, one_items, many_items, subpic_items, dpb_items, rate_items, timing_items, stated_sps_items, IsPlan, IsShape, IsReshapedSps};
-ghost use Rattle.vx_table.specs.Rewritten.{where_so};
 
 use crate::shape::{SpsShape, SubpicPlan};
 use crate::sps::Sps;
@@ -21,59 +17,16 @@ use vx_fields::ptl::*;
 use vx_fields::sps::*;
 use vx_fields::timing::*;
 use vx_layout::RectList;
-use vx_table::{Rewriter, Scope, SpellError, Unwritten, ceil_log2, quotient, set_of};
-
-/// Whether a field is one of a set.
-fn has(names: &Scope, field: u16) -> bool
-    ensures { result ≡ sets.has names.now field }
-{
-    names.latest(field) != 0
-}
-
-/// The items of a set's fields, in order.
-#[tactic(auto, using(crate::proofs::Pushed::shown_more, crate::proofs::Pushed::shown_passed))]
-fn items_of(alloc: Global, items: &Fields, names: &Scope) -> Result<Fields, AllocError>
-    ensures { IfOk result (λ shown. shown ≡ shown_items names.now items.now) }
-{
-    let mut shown = Fields::new(alloc);
-    for i in 0..items.len() {
-        let item = items.item(i);
-        if has(names, item.field) {
-            shown.push(item)?;
-        }
-    }
-    Ok(shown)
-}
-
-/// An item of a field.
-fn item(field: u16, number: u32) -> Item
-    ensures { result ≡ reshaped.item field number }
-{
-    Item {
-        field,
-        value: i64::from(number),
-    }
-}
-
-/// The number that a set's last item of a field gives it.
-fn number(source: &Sps, field: u16) -> u32
-    ensures { result ≡ loading.number source.now field }
-{
-    source.scope().latest(field)
-}
+use vx_table::{
+    Rewriter, Scope, SpellError, Unwritten, ceil_log2, item, items_of, only_memory, push_where,
+    quotient, set_of,
+};
 
 /// An item of a field with the number that the source gives it.
 fn same(source: &Sps, field: u16) -> Item
     ensures { result ≡ reshaped.item_of_source source.now field }
 {
-    item(field, number(source, field))
-}
-
-/// Appends an item that stands only where something holds.
-fn push_where(holds: bool, item: Item, into: &mut Fields) -> Result<(), AllocError>
-    ensures { OnOk result (into.new ≡ into.old ++ where_so holds (item ∷ [])) }
-{
-    if holds { into.push(item) } else { Ok(()) }
+    item(field, source.number(field))
 }
 
 fn push_ids(id: u8, into: &mut Fields) -> Result<(), AllocError>
@@ -109,7 +62,7 @@ fn push_profile(source: &Sps, level: u8, into: &mut Fields) -> Result<(), AllocE
         item(gci_present_flag, 0),
     ])?;
     let no_level = item(ptl_sublayer_level_present_flag, 0);
-    push_times(no_level, number(source, sps_max_sublayers_minus1), into)?;
+    push_times(no_level, source.number(sps_max_sublayers_minus1), into)?;
     into.push(item(ptl_num_sub_profiles, 0))
 }
 
@@ -263,7 +216,7 @@ fn push_subpics(
 fn push_dpb(source: &Sps, numbers: [u32; 3], into: &mut Fields) -> Result<(), AllocError>
     ensures { OnOk result (into.new ≡ into.old ++ dpb_items source.now numbers) }
 {
-    let several = number(source, sps_max_sublayers_minus1) != 0;
+    let several = source.number(sps_max_sublayers_minus1) != 0;
     push_where(several, item(sps_sublayer_dpb_params_flag, 0), into)?;
     into.extend_from_slice(&[
         item(dpb_max_dec_pic_buffering_minus1, numbers[0]),
@@ -276,8 +229,8 @@ fn push_dpb(source: &Sps, numbers: [u32; 3], into: &mut Fields) -> Result<(), Al
 fn push_rate(source: &Sps, into: &mut Fields) -> Result<(), AllocError>
     ensures { OnOk result (into.new ≡ into.old ++ rate_items source.now) }
 {
-    let general = number(source, fixed_pic_rate_general_flag) != 0;
-    let within = number(source, fixed_pic_rate_within_cvs_flag) != 0;
+    let general = source.number(fixed_pic_rate_general_flag) != 0;
+    let within = source.number(fixed_pic_rate_within_cvs_flag) != 0;
     into.push(same(source, fixed_pic_rate_general_flag))?;
     push_where(!general, same(source, fixed_pic_rate_within_cvs_flag), into)?;
     push_where(
@@ -291,7 +244,7 @@ fn push_rate(source: &Sps, into: &mut Fields) -> Result<(), AllocError>
 fn push_timing(source: &Sps, into: &mut Fields) -> Result<(), AllocError>
     ensures { OnOk result (into.new ≡ into.old ++ timing_items source.now) }
 {
-    if number(source, sps_timing_hrd_params_present_flag) == 0 {
+    if source.number(sps_timing_hrd_params_present_flag) == 0 {
         return Ok(());
     }
     into.extend_from_slice(&[
@@ -300,7 +253,7 @@ fn push_timing(source: &Sps, into: &mut Fields) -> Result<(), AllocError>
         item(general_nal_hrd_params_present_flag, 0),
         item(general_vcl_hrd_params_present_flag, 0),
     ])?;
-    let several = number(source, sps_max_sublayers_minus1) != 0;
+    let several = source.number(sps_max_sublayers_minus1) != 0;
     push_where(several, item(sps_sublayer_cpb_params_present_flag, 0), into)?;
     push_rate(source, into)
 }
@@ -355,7 +308,6 @@ pub fn reshape_sps(alloc: Global, sps: &Sps, shape: &SpsShape) -> Result<Sps, Al
     let mut items = Fields::new(alloc);
     match rewrite(&taken, &stated, &mut items) {
         Ok(()) => Sps::new(alloc, items),
-        Err(SpellError::Memory) => Err(AllocError),
-        Err(SpellError::NoValue) => unreachable!(),
+        Err(error) => Err(only_memory(error)),
     }
 }

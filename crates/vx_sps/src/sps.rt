@@ -15,7 +15,7 @@ use vx_fields::sps::{
     sps_extra_ph_bit_present_flag, sps_extra_sh_bit_present_flag, sps_log2_ctu_size_minus5,
     sps_log2_max_pic_order_cnt_lsb_minus4, sps_long_term_ref_pics_flag, sps_num_subpics_minus1,
     sps_pic_height_max_in_luma_samples, sps_pic_width_max_in_luma_samples,
-    sps_weighted_bipred_flag, sps_weighted_pred_flag,
+    sps_seq_parameter_set_id, sps_weighted_bipred_flag, sps_weighted_pred_flag,
 };
 use vx_layout::Rect;
 use vx_rpl::{RplNumbers, RplTable};
@@ -90,7 +90,9 @@ fn structures(alloc: Global, fields: &Fields, scope: &Scope) -> Result<RplTable,
 
 impl Sps {
     ghost use Rattle.std.specs.Prelude.{◌≡◌, ◌<◌, ◌≤◌, IfOk};
+    ghost use Rattle.vx_fields.specs.declared.sps.TheConstants as sps;
     ghost use Rattle.vx_table.specs.Scope.{fresh, loaded};
+    ghost use Rattle.vx_table.specs.Loaded.{number};
     ghost use Rattle.vx_rpl.specs.Resolved.{table_of};
     ghost use Rattle.vx_sps.specs.Set as set;
     ghost use Rattle.vx_sps.specs.Subpictures as pictures;
@@ -134,6 +136,21 @@ impl Sps {
         ensures { result.now ≡ loaded fresh self.now }
     {
         &self.scope
+    }
+
+    /// The number that its last item of a field gives it; 0 where it has none.
+    pub fn number(&self, field: u16) -> u32
+        ensures { result ≡ number self.now field }
+    {
+        self.scope.latest(field)
+    }
+
+    /// Its id, by which PPSs refer to it: sps_seq_parameter_set_id.
+    pub fn sps_id(&self) -> u8
+        ensures value { result ≡ number self.now sps.sps_seq_parameter_set_id }
+        ensures low { result < 16 }
+    {
+        self.scope.latest(sps_seq_parameter_set_id) as u8
     }
 
     /// The width of the largest picture in luma samples: sps_pic_width_max_in_luma_samples.

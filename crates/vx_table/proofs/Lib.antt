@@ -5,6 +5,7 @@ pub mod Naming
 pub mod Bounds
 pub mod Starred
 pub mod Keepings
+pub mod Gathering
 pub mod Shown
 mod Testing
 pub mod Dependence

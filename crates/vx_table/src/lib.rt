@@ -13,6 +13,7 @@
 
 mod arithmetic;
 mod depends;
+mod gather;
 mod kept;
 mod laws_again;
 mod laws_depends;
@@ -38,6 +39,7 @@ mod writer;
 
 pub use arithmetic::{ceil_log2, natural, quotient};
 pub use depends::{depends_only_on, parts_depend_only_on};
+pub use gather::{item, items_of, others_of, push_where};
 pub use kept::{keep_parts, keep_table};
 pub use laws_again::{answers_again, follows_again, reads_again, tables_show};
 pub use laws_depends::{
@@ -67,4 +69,4 @@ pub use scope::Scope;
 pub use sender::Sender;
 pub use stars::{keeps_only, parts_keep_only};
 pub use walk::{Coder, code_table, coding_at, coding_of, has_value};
-pub use writer::{SpellError, Unwritten, take_value, write_code, write_table};
+pub use writer::{SpellError, Unwritten, only_memory, take_value, write_code, write_table};

@@ -23,6 +23,16 @@ pub enum SpellError {
     NoValue,
 }
 
+/// Why a value that there is isn't written: memory ran out.
+pub fn only_memory(error: SpellError) -> AllocError
+    requires { error ≡ SpellError.NoValue → ⊥ }
+{
+    match error {
+        SpellError::Memory => AllocError,
+        SpellError::NoValue => unreachable!(),
+    }
+}
+
 /// Items that are to be written, the next one first.
 ///
 /// It is seen as the list of these items.

@@ -7,10 +7,10 @@ into_bytes-requires c =
     let written = from_all c.write_fields.result _ _ _ _ _ c.len.result c.new-bits.ensures c.len.ensures c.new-items.ensures c.write_fields.ensures in
     is_aligned _ _ c.in-Ok.field-0 _ c.fields-fields.ensures.set (rw c.in-Ok.is at written)
 
-pub unreachable-requires : goal.unreachable-requires
-unreachable-requires c =
+pub only_memory-requires : goal.only_memory-requires
+only_memory-requires c = λ none.
     let written = from_all c.write_fields.result _ _ _ _ _ c.len.result c.new-bits.ensures c.len.ensures c.new-items.ensures c.write_fields.ensures in
-    is_no_value _ _ _ c.fields-fields.ensures.set (rw (c.in-Err-NoValue.is, c.in-Err-NoValue.field-0-is) at written)
+    is_no_value _ _ _ c.fields-fields.ensures.set (rw (c.in-Err.is, none) at written)
 
 pub returns-in-Ok : goal.returns-in-Ok
 returns-in-Ok c =

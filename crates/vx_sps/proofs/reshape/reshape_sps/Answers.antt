@@ -14,8 +14,8 @@ returns-in-Ok c =
     c.rewrite.ensures in
     is_made c.args.sps.now c.rewrite.new.into c.args.shape.now c.new.result (rw c.in-Ok.is at is) c.new.ensures
 
-pub unreachable-requires : goal.unreachable-requires
-unreachable-requires c =
+pub only_memory-requires : goal.only_memory-requires
+only_memory-requires c = λ none.
     let is = reshapes c.rewrite.new.into c.rewrite.result c.fields.ensures.items c.fields.ensures.set c.requires c.in_ok-stated.ensures.level c.set_of.ensures c.in_ok-taken.ensures c.in_ok-stated.ensures.items
     c.rewrite.ensures in
-    rw (c.in-Err-NoValue.is, c.in-Err-NoValue.field-0-is) at is
+    rw (c.in-Err.is, none) at is

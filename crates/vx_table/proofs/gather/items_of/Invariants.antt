@@ -1,6 +1,6 @@
 use Rattle.std.proofs.Common.{◌≡◌, take}
 use Rattle.vx_table.specs.Shown.{shown_items}
-use Rattle.vx_sps.proofs.reshape.items_of.Given as goal
+use Rattle.vx_table.proofs.gather.items_of.Given as goal
 
 -- those among the items seen so far
 abbrev pub invariant-loop-i : goal.invariant-loop-i
