@@ -27,6 +27,7 @@ use Rattle.vx_pic.specs.Sets.{pps_id}
 use Rattle.vx_pic.specs.UnderSets.{picture_header_of}
 use Rattle.vx_pic.specs.Units.{class_of, header_unit}
 use Rattle.vx_pic.specs.Written.{HeaderReads, IsPlain}
+use Rattle.vx_pic.proofs.AsRead.{begins_of}
 use Rattle.vx_merge.specs.Headers.{HasMergedHeader, ph_shape}
 use Rattle.vx_merge.specs.Needed.{Ids}
 use Rattle.vx_again.specs.Frames.{MakeTheFrame}
@@ -87,10 +88,10 @@ module _ (reads : UnitIsRead) (has_id : UnitHasId) (round : List Parts) (ids : I
       let told = has_id table s (picture_header_of b) h.rbsp (in_force_length b.sps b.pps) h.spelled in
       record {
         referred = ap (λ bytes. R.referred_pps false bytes) unit.behind
-            ∙ unique.referred_pps false h.rbsp (R.referred_pps false h.rbsp) (Ok (pps_id b.pps)) (of.referred_pps false h.rbsp) (told.0, told.1, make.pps_id_is ∙ sym id_is ∙ told.2);
+            ∙ unique.referred_pps false h.rbsp (R.referred_pps false h.rbsp) (Ok (pps_id b.pps)) (of.referred_pps false h.rbsp) (told.0, begins_of told.1.1, make.pps_id_is ∙ sym id_is ∙ told.2);
         size = make.size;
         layout = unique.layout b.sps b.pps (R.layout b.sps b.pps) (Ok b.layout) (of.layout b.sps b.pps) (make.made, sym make.numbers);
         header = ap (λ bytes. R.header false b.sps b.pps bytes) unit.behind
-            ∙ unique.header false b.sps b.pps h.rbsp (R.header false b.sps b.pps h.rbsp) (Ok b.header) (of.header false b.sps b.pps h.rbsp) (reads table s (picture_header_of b) h.rbsp is_header h.spelled).0;
+            ∙ unique.header false b.sps b.pps h.rbsp (R.header false b.sps b.pps h.rbsp) (Ok b.header) (of.header false b.sps b.pps h.rbsp) (begins_of (reads table s (picture_header_of b) h.rbsp is_header h.spelled).0.1);
         tid = unit.temporal;
       }

@@ -78,19 +78,19 @@ header_answer : (inside : Bool) (b : Begun) (rbsp : List ℕ)
     → AnswersAt (form_in inside (structures b.sps) (in_force b.sps b.pps)) (header_place inside rbsp) (Ok b.header)
     → ArePictureHeaderFields (structures b.sps) (in_force b.sps b.pps) b.header
 unfolding unit_form
-header_answer true b rbsp (new, reads) =
-    let on = spells_follow reads.is.spelled in
-    record { values = reads.is.values; end = on.0; follows = on.1; all = reads.is.gained }
-header_answer false b rbsp (new, reads) =
+header_answer true b rbsp begins =
+    let on = spells_follow begins.spelled in
+    record { values = begins.values; end = on.0; follows = on.1; all = begins.all }
+header_answer false b rbsp begins =
     let s : List ℕ = in_force b.sps b.pps in
     let header : List ℤ → List Item = items_along (header_form (structures b.sps) s) in
-    let on = spells_follow reads.is.spelled in
+    let on = spells_follow begins.spelled in
     let p = parted (header_form (structures b.sps) s) (form_of TRAILING) on.1 in
     record {
       values = p.front;
       end = p.mid;
       follows = p.first;
-      all = reads.is.gained ∙ ap (items_along (unit_form (structures b.sps) s)) p.all ∙ items_joined (form_of TRAILING) p.others p.first
+      all = begins.all ∙ ap (items_along (unit_form (structures b.sps) s)) p.all ∙ items_joined (form_of TRAILING) p.others p.first
           ∙ ap (λ more. header p.front ++ more) (ends_bare p.mid p.others on.0 p.second) ∙ append-nil (header p.front);
     }
 

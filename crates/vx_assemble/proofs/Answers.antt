@@ -34,8 +34,7 @@ use Rattle.vx_sh.specs.Value.{BeginsSlice, ReadsSlice}
 use Rattle.vx_sh.specs.Whole.{At}
 use Rattle.vx_table.specs.Forms.{Form}
 use Rattle.vx_table.specs.Loaded.{number}
-use Rattle.vx_table.specs.Reading.{IsFound, PassesOver, Reads, ReadsValue, as_read, at_front}
-use Rattle.vx_table.proofs.Readings.{reads_error}
+use Rattle.vx_table.specs.Reading.{IsFound, PassesOver, Reads, ReadsValue, at_front}
 use Rattle.vx_pic.specs.Units.{rbsp_of}
 use Rattle.vx_pic.specs.Sets.{SliceHeader}
 use Rattle.vx_pic.specs.Readings.{Begun}
@@ -43,18 +42,19 @@ use Rattle.vx_layout.specs.Faults.{IsInLimits}
 use Rattle.vx_pic.specs.PictureLayout.{AnswersLayout, MakeLayout, IsLayoutAnswer, numbers_in}
 use Rattle.vx_pic.specs.UnderSets.{at_slice_of}
 use Rattle.vx_pic.specs.H266.{AnswersAt, header_place, form_in, IsReferredPps, IsSliceAnswer}
-use Rattle.vx_pic.proofs.Determined.{one_at, one_carried, one_id, one_layout, one_slice, one_value}
+use Rattle.vx_pic.proofs.AsRead.{begins_of, refused_of}
+use Rattle.vx_pic.proofs.Determined.{one_at, one_carried, one_id, one_layout, one_slice}
 use Rattle.vx_pic.proofs.Existing.{fits_unit}
 use Rattle.vx_assemble.specs.inner.Answered.{slice_seen, AreOfBegun}
 use Rattle.vx_assemble.specs.inner.Takes.{Gives, answer_by}
 
 -- ---- sets and messages
 
-pub gives_value : {A : Type 0} (form : Form A) (bytes : List ℕ) (answer : Result (List Item) Refusal) (result : Result (List Item) ReadError) → ReadsValue form bytes (as_read answer) → ReadsValue form bytes result
+pub gives_value : {A : Type 0} (form : Form A) (bytes : List ℕ) (answer : Result (List Item) Refusal) (result : Result (List Item) ReadError) → AnswersAt form (at_front bytes) answer → ReadsValue form bytes result
     → Gives answer result
-gives_value form bytes answer (Ok items) is read = one_value form bytes answer (Ok items) is read
+gives_value form bytes answer (Ok items) is read = one_at form (at_front bytes) answer (Ok items) is (begins_of read.1)
 gives_value form bytes answer (Err Memory) is read = tt
-gives_value form bytes answer (Err (Refused r)) is read = one_value form bytes answer (Err r) is read
+gives_value form bytes answer (Err (Refused r)) is read = one_at form (at_front bytes) answer (Err r) is (refused_of read.2)
 
 pub gives_aps : OneAnswer → (rbsp : List ℕ) (answer : Result (Option Aps) Refusal) (result : Result (Option Aps) ReadError) → aps.IsAnswer rbsp answer → aps.AnswersAps rbsp result → Gives answer result
 gives_aps one rbsp answer (Ok a) is read = one rbsp answer (Ok a) is read
@@ -125,14 +125,10 @@ behind_bit rbsp p total left = place_is p (8 * length rbsp) (drop 1 (bits_of rbs
 pub at_first : (rbsp : List ℕ) (p : Place) → p.total ≡ 8 * length rbsp → p.left ≡ bits_of rbsp → p ≡ header_place false rbsp
 at_first rbsp p total left = place_is p (8 * length rbsp) (bits_of rbsp) total left
 
--- a reading is one whatever is answered with it
-other_answer : {A B C : Type 0} {form : Form A} {old new : Place} {items after : List Item} {b : B} (c : C) → Reads form old items (Ok b) new after → Reads form old items (Ok c) new after
-other_answer c r = record { is = r.is; only = r.only; refusal = r.refusal }
-
 id_read : (inside : Bool) (rbsp : List ℕ) (id : ℕ) (new : Place) (after : List Item) → Reads pps_id_form (header_place inside rbsp) [] (Ok id) new after → IsId (header_place inside rbsp) id → IsReferredPps inside rbsp (Ok id)
 id_read inside rbsp id new after read is =
     let found : IsFound pps_id_form (header_place inside rbsp) [] new after = read.is in
-    (after, (new, other_answer tt read), sym (ap (λ xs. number xs ph_pic_parameter_set_id) found.gained ∙ is found.values new.left found.spelled))
+    (after, begins_of read, sym (ap (λ xs. number xs ph_pic_parameter_set_id) found.gained ∙ is found.values new.left found.spelled))
 
 pub gives_id : (inside : Bool) (rbsp : List ℕ) (place new : Place) (answer : Result ℕ Refusal) (id : ℕ) → place ≡ header_place inside rbsp → IsReferredPps inside rbsp answer → PassesOver pps_id_form place (Ok id) new → IsId place id
     → answer ≡ Ok id
@@ -145,23 +141,25 @@ pub gives_no_id : (inside : Bool) (rbsp : List ℕ) (place new : Place) (answer 
     → answer ≡ Err r
 gives_no_id inside rbsp place new answer r at is passes =
     let read = passes.reads [] in
-    one_id inside rbsp answer (Err r) is (new, read.0, subst (λ p. Reads {B = Unit {0}} pps_id_form p [] (Err (Refused r)) new read.0) at (reads_error {B = ℕ} (Refused r) read.1))
+    one_id inside rbsp answer (Err r) is (refused_of (subst (λ p. Reads {B = ℕ} pps_id_form p [] (Err (Refused r)) new read.0) at read.1))
 
 pub gives_header : (s p : List Item) (rbsp : List ℕ) (place new : Place) (answer : Result (List Item) Refusal) (result : Result PictureHeader ReadError) → place ≡ header_place true rbsp
     → AnswersAt (form_in true (structures s) (in_force s p)) (header_place true rbsp) answer → ReadsHeader (structures s) (in_force s p) place result new
     → Gives answer (answer_by (λ (h : PictureHeader). h.fields) result)
 gives_header s p rbsp place new answer (Ok h) at is read =
-    one_at (header_form (structures s) (in_force s p)) (header_place true rbsp) answer (Ok h.fields) is (new, subst (λ q. Reads {B = Unit {0}} (header_form (structures s) (in_force s p)) q [] (Ok tt) new h.fields) at read.0)
+    one_at (header_form (structures s) (in_force s p)) (header_place true rbsp) answer (Ok h.fields) is
+    (begins_of (subst (λ q. Reads {B = Unit {0}} (header_form (structures s) (in_force s p)) q [] (Ok tt) new h.fields) at read.0))
 gives_header s p rbsp place new answer (Err Memory) at is read = tt
 gives_header s p rbsp place new answer (Err (Refused r)) at is read =
-    one_at (header_form (structures s) (in_force s p)) (header_place true rbsp) answer (Err r) is (new, read.0, subst (λ q. Reads {B = Unit {0}} (header_form (structures s) (in_force s p)) q [] (Err (Refused r)) new read.0) at read.1)
+    one_at (header_form (structures s) (in_force s p)) (header_place true rbsp) answer (Err r) is
+    (refused_of (subst (λ q. Reads {B = Unit {0}} (header_form (structures s) (in_force s p)) q [] (Err (Refused r)) new read.0) at read.1))
 
 pub gives_unit : (s p : List Item) (rbsp : List ℕ) (answer : Result (List Item) Refusal) (result : Result PictureHeader ReadError)
     → AnswersAt (form_in false (structures s) (in_force s p)) (header_place false rbsp) answer → ReadsUnit (structures s) (in_force s p) rbsp result
     → Gives answer (answer_by (λ (h : PictureHeader). h.fields) result)
-gives_unit s p rbsp answer (Ok h) is read = one_at (unit_form (structures s) (in_force s p)) (at_front rbsp) answer (Ok h.fields) is read.0
+gives_unit s p rbsp answer (Ok h) is read = one_at (unit_form (structures s) (in_force s p)) (at_front rbsp) answer (Ok h.fields) is (begins_of read.0.1)
 gives_unit s p rbsp answer (Err Memory) is read = tt
-gives_unit s p rbsp answer (Err (Refused r)) is read = one_at (unit_form (structures s) (in_force s p)) (at_front rbsp) answer (Err r) is (read.0, read.1.0, read.1.1)
+gives_unit s p rbsp answer (Err (Refused r)) is read = one_at (unit_form (structures s) (in_force s p)) (at_front rbsp) answer (Err r) is (refused_of read.1.1)
 
 -- ---- slices
 
@@ -178,7 +176,8 @@ gives_slice n b unit rbsp answer value size payload are spells is read first =
 pub gives_no_slice : (n : SliceNumbers) (b : Begun) (unit rbsp : List ℕ) (answer : Result SliceHeader Refusal) (r : Refusal) → AreOfBegun n b → rbsp ≡ rbsp_of unit → IsSliceAnswer n.nal_type b unit answer
     → ReadsSlice (in_force_at n) rbsp (Err (Refused r)) → answer ≡ Err r
 gives_no_slice n b unit rbsp answer r are spells is read =
-    one_slice n.nal_type b unit answer (Err r) is (subst (λ at. ReadsSlice at (rbsp_of unit) (Err (Refused r))) (same_place n b are) (subst (λ xs. ReadsSlice (in_force_at n) xs (Err (Refused r))) spells read))
+    let here = subst (λ at. ReadsSlice at (rbsp_of unit) (Err (Refused r))) (same_place n b are) (subst (λ xs. ReadsSlice (in_force_at n) xs (Err (Refused r))) spells read) in
+    one_slice n.nal_type b unit answer (Err r) is (refused_of (here.1.reads []).1)
 
 pub slice_fits : (at : At) (unit rbsp : List ℕ) (value : SliceValue) (size : ℕ) → rbsp ≡ rbsp_of unit → ReadsSlice at rbsp (Ok (value, size)) → 2 + size ≤ length (unescaped unit)
 slice_fits at unit rbsp value size spells read = fits_unit at unit value size (subst (λ xs. BeginsSlice at xs value size) spells read)

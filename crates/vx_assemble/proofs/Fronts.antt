@@ -27,7 +27,7 @@ use Rattle.vx_table.specs.Scope.{fresh}
 use Rattle.vx_table.specs.Forms.{Form, done, ◌>>=◌, coding_at, cell_at, form_of}
 use Rattle.vx_table.specs.Spelling.{MayEnd, BeginsField, Spells, at_end, behind, code_of}
 use Rattle.vx_table.specs.Loaded.{number}
-use Rattle.vx_table.specs.Reading.{IsFound, at_front}
+use Rattle.vx_table.specs.Reading.{at_front}
 use Rattle.vx_table.specs.laws.Trailing.{is_trailing}
 use Rattle.vx_table.proofs.Closing.{IsNoTrailing, IsOpen}
 use Rattle.vx_table.proofs.EachField.{each_then, each_present, each_of_rows, each_of_sections}
@@ -52,7 +52,7 @@ use Rattle.vx_pic.specs.Rules.{Readers, begins, missing, structure}
 use Rattle.vx_pic.specs.Units.{rbsp_of, temporal_id, has_header_inside}
 use Rattle.vx_pic.specs.UnderSets.{at_slice_of}
 use Rattle.vx_pic.specs.H266.{AnswersAt, header_place, IsReferredPps, IsSlice, IsSliceAnswer, AreOfH266}
-use Rattle.vx_pic.proofs.Determined.{one_slice}
+use Rattle.vx_pic.proofs.Determined.{one_at, one_slice}
 use Rattle.vx_assemble.specs.inner.Fronts.{IsFront}
 use Rattle.vx_assemble.proofs.Steps.{bind_on}
 
@@ -145,13 +145,12 @@ spelled_on form p q values rest longer is spelled = rw (longer.total, longer.lef
 
 answers_on : {A : Type 0} (form : Form A) (p q : Place) (answer : Result (List Item) Refusal) (items : List Item) → IsLonger p q → IsOpen form
     → AnswersAt form p (Ok items) → AnswersAt form q answer → answer ≡ Ok items
-answers_on form p q (Ok others) items longer is (new, reads) (next, read) =
-    let found : IsFound form p [] new items = reads.is in
-    let same = read.only found.values (new.left ++ longer.more) (spelled_on form p q found.values new.left longer is found.spelled) in
-    ap Ok (same.1 ∙ sym found.gained)
-answers_on form p q (Err r) items longer is (new, reads) (next, none, read) =
-    let found : IsFound form p [] new items = reads.is in
-    absurd (read.only found.values (new.left ++ longer.more) (spelled_on form p q found.values new.left longer is found.spelled))
+answers_on form p q answer items longer is here there = one_at form q answer (Ok items) there (record {
+  values = here.values;
+  rest = here.rest ++ longer.more;
+  spelled = spelled_on form p q here.values here.rest longer is here.spelled;
+  all = here.all;
+})
 
 -- behind the first bit of bytes of which there are some
 longer_inside : (rbsp more : List ℕ) → 0 < length rbsp → IsLonger (header_place true rbsp) (header_place true (rbsp ++ more))

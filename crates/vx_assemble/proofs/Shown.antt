@@ -10,8 +10,8 @@ use Rattle.vx_annexb.specs.NalUnit.{HasHeader}
 use Rattle.vx_table.specs.declared.rows.Cell.{Cell}
 use Rattle.vx_table.specs.Forms.{Form}
 use Rattle.vx_table.specs.Spelling.{Spells, Reaches, IsRefusedField, items_along}
-use Rattle.vx_table.specs.Reading.{IsFound, IsFirstRefusal, Reads, ReadsValue, as_read, at_front}
-use Rattle.vx_table.proofs.Apart.{reads_one_way}
+use Rattle.vx_table.specs.Reading.{IsFound, Reads, at_front}
+use Rattle.vx_table.proofs.Apart.{reads_one_way, answers_one_way}
 use Rattle.vx_pps.specs.Pps.{pps_form, ReadsFields}
 use Rattle.vx_ph.specs.Id.{pps_id_form}
 use Rattle.vx_sh.specs.Value.{values_of}
@@ -23,7 +23,7 @@ use Rattle.vx_pic.specs.Readings.{Begun}
 use Rattle.vx_pic.specs.Units.{rbsp_of}
 use Rattle.vx_pic.specs.UnderSets.{at_slice_of}
 use Rattle.vx_pic.specs.H266.{AnswersAt, header_place, IsReferredPps, IsSliceAnswer}
-use Rattle.vx_assemble.specs.Fields.{items_read, items_at, items_to_id, items_of_slice}
+use Rattle.vx_assemble.specs.Fields.{items_at, items_to_id, items_of_slice}
 use Rattle.vx_assemble.specs.inner.Fields.{HasAnswered}
 use Rattle.vx_assemble.specs.inner.Answered.{AreOfBegun}
 use Rattle.vx_assemble.specs.inner.Fronts.{IsFront}
@@ -48,26 +48,13 @@ of_front form place before values cell rest r (Err errors.Memory) new items answ
 of_front form place before values cell rest r (Err (errors.Refused q)) new items answered reads reached refused =
     (reads.refusal values cell rest r reached refused).1.1
 
--- of what another reading came to
-of_ok : {A B : Type 0} (form : Form A) (place : Place) (before others : List Item) (result : Result (Unit {0}) ReadError) (new next : Place) (items : List Item) (b : B)
-    → HasAnswered result → Reads form place before result new items → Reads form place [] (Ok b) next others → items ≡ before ++ others
-of_ok form place before others result new next items b answered reads other =
-    let found : IsFound form place [] next others = other.is in
-    of_value form place before found.values next.left result new items answered reads found.spelled ∙ ap (λ xs. before ++ xs) (sym found.gained)
-
-of_err : {A B : Type 0} (form : Form A) (place : Place) (before others : List Item) (result : Result (Unit {0}) ReadError) (new next : Place) (items : List Item) (r : Refusal)
-    → HasAnswered result → Reads form place before result new items → Reads {B = B} form place [] (Err (errors.Refused r)) next others → items ≡ before ++ others
-of_err form place before others result new next items r answered reads other =
-    let first : IsFirstRefusal form place [] next others r = other.is in
-    of_front form place before first.stops.values first.cell next.left r result new items answered reads first.stops.reached first.refused
-    ∙ ap (λ xs. before ++ xs) (sym first.stops.gained)
+pub same_at : {A : Type 0} (form : Form A) (place : Place) (before : List Item) (answer : Result (List Item) Refusal) (is : AnswersAt form place answer) (result : Result (Unit {0}) ReadError)
+    (new : Place) (items : List Item) → HasAnswered result → Reads form place before result new items → items ≡ before ++ items_at form place answer is
+same_at form place before (Ok others) is result new items answered reads =
+    of_value form place before is.values is.rest result new items answered reads is.spelled ∙ ap (λ xs. before ++ xs) (sym is.all)
+same_at form place before (Err r) is result new items answered reads = of_front form place before is.values is.cell is.rest r result new items answered reads is.reached is.refused
 
 -- ---- sets
-
-pub same_value : {A : Type 0} (form : Form A) (rbsp : List ℕ) (answer : Result (List Item) Refusal) (is : ReadsValue form rbsp (as_read answer)) (result : Result (Unit {0}) ReadError)
-    (new : Place) (items : List Item) → HasAnswered result → Reads form (at_front rbsp) [] result new items → items ≡ items_read form rbsp answer is
-same_value form rbsp (Ok others) is result new items answered reads = of_ok form (at_front rbsp) [] others result new is.0 items others answered reads is.1
-same_value form rbsp (Err r) is result new items answered reads = of_err form (at_front rbsp) [] is.1 result new is.0 items r answered reads is.2
 
 pub pps_read : (rbsp : List ℕ) (before : List Item) (result : Result (Unit {0}) ReadError) (after : List Item) → HasAnswered result → ReadsFields rbsp before result after
     → (new : Place) × Reads pps_form (at_front rbsp) before result new after
@@ -76,11 +63,6 @@ pps_read rbsp before (Err errors.Memory) after answered read = absurd answered
 pps_read rbsp before (Err (errors.Refused r)) after answered read = read
 
 -- ---- picture headers
-
-pub same_at : {A : Type 0} (form : Form A) (place : Place) (before : List Item) (answer : Result (List Item) Refusal) (is : AnswersAt form place answer) (result : Result (Unit {0}) ReadError)
-    (new : Place) (items : List Item) → HasAnswered result → Reads form place before result new items → items ≡ before ++ items_at form place answer is
-same_at form place before (Ok others) is result new items answered reads = of_ok form place before others result new is.0 items tt answered reads is.1
-same_at form place before (Err r) is result new items answered reads = of_err form place before is.1 result new is.0 items r answered reads is.2
 
 pub same_to_id : (inside : Bool) (rbsp : List ℕ) (before : List Item) (answer : Result ℕ Refusal) (is : IsReferredPps inside rbsp answer) (result : Result (Unit {0}) ReadError) (new : Place)
     (items : List Item) → HasAnswered result → Reads pps_id_form (header_place inside rbsp) before result new items → items ≡ before ++ items_to_id inside rbsp answer is
@@ -94,8 +76,7 @@ pub same_slice : (t : ℕ) (b : Begun) (u : List ℕ) (answer : Result SliceHead
 same_slice t b u (Ok header) is result new items answered reads =
     of_value (slice_form (at_slice_of t b)) (at_front (rbsp_of u)) [] (values_of is.begins.fields) is.begins.rest result new items answered reads is.begins.spelled
 same_slice t b u (Err r) is result new items answered reads =
-    let passed = is.1.reads [] in
-    of_err (slice_form (at_slice_of t b)) (at_front (rbsp_of u)) [] passed.0 result new is.0 items r answered reads passed.1
+    of_front (slice_form (at_slice_of t b)) (at_front (rbsp_of u)) [] is.values is.cell is.rest r result new items answered reads is.reached is.refused
 
 -- what the whole unit begins with the spelling of
 spelled_slice : (t : ℕ) (b : Begun) (u : List ℕ) (answer : Result SliceHeader Refusal) (is : IsSliceAnswer t b u answer) (values : List ℤ) (rest : List Bool)
@@ -103,7 +84,8 @@ spelled_slice : (t : ℕ) (b : Begun) (u : List ℕ) (answer : Result SliceHeade
 spelled_slice t b u (Ok header) is values rest spelled =
     let form = slice_form (at_slice_of t b) in
     ap (items_along form) (reads_one_way form (8 * length (rbsp_of u)) values (values_of is.begins.fields) (bits_of (rbsp_of u)) rest is.begins.rest spelled is.begins.spelled).0
-spelled_slice t b u (Err r) is values rest spelled = absurd ((is.1.reads []).1.only values rest spelled)
+spelled_slice t b u (Err r) is values rest spelled =
+    absurd ((answers_one_way (slice_form (at_slice_of t b)) (8 * length (rbsp_of u)) is.values values (bits_of (rbsp_of u)) is.rest rest is.cell r is.reached is.refused).0 spelled)
 
 -- the front of a unit, where the header ends in it
 front_by : (t : ℕ) (b : Begun) (f u : List ℕ) (answer : Result SliceHeader Refusal) (is : IsSliceAnswer t b u answer) (new : Place) (items : List Item) → IsPart f u → HasHeader f

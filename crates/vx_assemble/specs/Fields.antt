@@ -1,18 +1,19 @@
 -- The fields that a unit spells behind those before it, in the order of the bits: all, or those before the first that is refused.
 -- The structure is read wherever it stands: the rules on the order of units don't take its fields away. Our own.
-use Rattle.std.specs.Prelude.{ℕ, ◌==◌, not, pos, Bool, true, false, cond, List, [], ◌∷◌, Option, Some, None, Result, Ok, Err}
+use Rattle.std.specs.Prelude.{ℕ, ◌==◌, not, pos, Bool, true, false, cond, List, ◌∷◌, Option, Some, None, Result, Ok, Err}
 use Rattle.vx_bits.specs.declared.list.Item.{Item}
 use Rattle.vx_bits.specs.declared.refusal.Refusal.{Refusal}
 use Rattle.vx_bits.specs.Place.{Place}
 use Rattle.vx_fields.specs.declared.sh.TheConstants.{sh_picture_header_in_slice_header_flag}
 use Rattle.vx_table.specs.Forms.{Form}
-use Rattle.vx_table.specs.Reading.{ReadsValue, as_read}
+use Rattle.vx_table.specs.Reading.{at_front}
 use Rattle.vx_table.specs.Spelling.{items_along}
 use Rattle.vx_annexb.specs.NalUnit.{nal_unit_type, nuh_layer_id}
 use Rattle.vx_aps.specs.Fields as aps
 use Rattle.vx_ptl.specs.Structures.{vps}
 use Rattle.vx_sps.specs.Structure.{sps_form}
 use Rattle.vx_pps.specs.Pps.{pps_form}
+use Rattle.vx_ph.specs.Id.{pps_id_form}
 use Rattle.vx_ph.specs.InForce as in_sets
 use Rattle.vx_sh.specs.Whole.{slice_form}
 use Rattle.vx_sh.specs.Value.{values_of}
@@ -29,25 +30,20 @@ use Rattle.vx_pic.specs.H266.{AnswersAt, header_place, form_in, IsReferredPps, I
 
 -- ---- the items of an answer: those of the value, or those before the refusal
 
-abbrev pub items_read : {A : Type 0} (form : Form A) (rbsp : List ℕ) (answer : Result (List Item) Refusal) → ReadsValue form rbsp (as_read answer)
-    → List Item
-items_read form rbsp (Ok items) reads = items
-items_read form rbsp (Err r) reads = reads.1
-
 abbrev pub items_at : {A : Type 0} (form : Form A) (place : Place) (answer : Result (List Item) Refusal) → AnswersAt form place answer → List Item
 items_at form place (Ok items) answers = items
-items_at form place (Err r) answers = answers.1
+items_at form place (Err r) refused = items_along form refused.values
 
 -- up to ph_pic_parameter_set_id
 abbrev pub items_to_id : (inside : Bool) (rbsp : List ℕ) (answer : Result ℕ Refusal) → IsReferredPps inside rbsp answer → List Item
 items_to_id inside rbsp (Ok id) refers = refers.0
-items_to_id inside rbsp (Err r) refers = refers.1
+items_to_id inside rbsp (Err r) refused = items_along pps_id_form refused.values
 
 -- of a slice header, with those of the picture header inside
 abbrev pub items_of_slice : (nal_type : ℕ) (b : Begun) (u : List ℕ) (answer : Result SliceHeader Refusal) → IsSliceAnswer nal_type b u answer
     → List Item
 items_of_slice nal_type b u (Ok header) slice = items_along (slice_form (at_slice_of nal_type b)) (values_of slice.begins.fields)
-items_of_slice nal_type b u (Err r) refused = (refused.1.reads []).0
+items_of_slice nal_type b u (Err r) refused = items_along (slice_form (at_slice_of nal_type b)) refused.values
 
 -- sh_picture_header_in_slice_header_flag, where the picture header stands inside
 abbrev pub inside_item : Item
@@ -57,13 +53,13 @@ inside_item = record { field = sh_picture_header_in_slice_header_flag; value = p
 
 module _ (R : Readers) (h : AreOfH266 R) where
   abbrev pub vps_items : List ℕ → List Item
-  vps_items rbsp = items_read vps rbsp (R.vps rbsp) (h.vps rbsp)
+  vps_items rbsp = items_at vps (at_front rbsp) (R.vps rbsp) (h.vps rbsp)
 
   abbrev pub sps_items : List ℕ → List Item
-  sps_items rbsp = items_read sps_form rbsp (R.sps rbsp) (h.sps rbsp)
+  sps_items rbsp = items_at sps_form (at_front rbsp) (R.sps rbsp) (h.sps rbsp)
 
   abbrev pub pps_items : List ℕ → List Item
-  pps_items rbsp = items_read pps_form rbsp (R.pps rbsp) (h.pps rbsp)
+  pps_items rbsp = items_at pps_form (at_front rbsp) (R.pps rbsp) (h.pps rbsp)
 
   abbrev pub aps_fields : List ℕ → StructureFields
   aps_fields rbsp =

@@ -28,6 +28,8 @@ use Rattle.vx_pic.specs.Parts.{Parts}
 use Rattle.vx_pic.specs.Rules.{Readers}
 use Rattle.vx_pic.specs.H266.{AnswersAt, AreOfH266, form_in, header_place}
 use Rattle.vx_pic.specs.H266Laws.{HaveOneAnswer}
+use Rattle.vx_pic.specs.laws.AsRead.{AnswersAsRead}
+use Rattle.vx_pic.proofs.AsRead.{read_at, spelled_at}
 use Rattle.vx_extract.specs.Again.{AgreeForHeaders}
 
 -- ---- a PH unit
@@ -73,7 +75,7 @@ unit_read_again table s t old new items after result agree reads =
 
 -- ---- readers
 
-answers_move : (inside : Bool) (table : RplTable) (s t : List ℕ) (place : Place) → Agree (set_of all_of_sets) s t → (x : Result (List Item) Refusal) → AnswersAt (form_in inside table s) place x → AnswersAt (form_in inside table t) place x
+answers_move : (inside : Bool) (table : RplTable) (s t : List ℕ) (place : Place) → Agree (set_of all_of_sets) s t → (x : Result (List Item) Refusal) → AnswersAsRead (form_in inside table s) place x → AnswersAsRead (form_in inside table t) place x
 answers_move true table s t place agree (Ok items) (new, reads) = (new, header_read_again table s t place new [] items (Ok tt) agree reads)
 answers_move true table s t place agree (Err r) (new, items, reads) = (new, items, header_read_again table s t place new [] items _ agree reads)
 answers_move false table s t place agree (Ok items) (new, reads) = (new, unit_read_again table s t place new [] items (Ok tt) agree reads)
@@ -81,7 +83,10 @@ answers_move false table s t place agree (Err r) (new, items, reads) = (new, ite
 
 pub header_read : HaveOneAnswer → (R : Readers) → AreOfH266 R → (q : Parts) (s p : List Item) → AgreeForHeaders q s p → (inside : Bool) (rbsp : List ℕ) → R.header inside s p rbsp ≡ R.header inside q.sps q.pps rbsp
 header_read unique R are q s p agree inside rbsp =
-    let old = are.header inside q.sps q.pps rbsp in
-    let moved = answers_move inside (structures q.sps) (in_force q.sps q.pps) (in_force s p) (header_place inside rbsp) agree.sets (R.header inside q.sps q.pps rbsp) old in
+    let table = structures q.sps in
+    let place = header_place inside rbsp in
+    let answer = R.header inside q.sps q.pps rbsp in
+    let old = read_at (form_in inside table (in_force q.sps q.pps)) place answer (are.header inside q.sps q.pps rbsp) in
+    let moved = spelled_at (form_in inside table (in_force s p)) place answer (answers_move inside table (in_force q.sps q.pps) (in_force s p) place agree.sets answer old) in
     unique.header inside s p rbsp (R.header inside s p rbsp) (R.header inside q.sps q.pps rbsp) (are.header inside s p rbsp)
     (subst (λ t. AnswersAt (form_in inside t (in_force s p)) (header_place inside rbsp) (R.header inside q.sps q.pps rbsp)) (sym agree.same_structures) moved)

@@ -1,19 +1,12 @@
 -- The sets in force for the pictures of a stream make up their layouts.
-use Rattle.std.proofs.Common.{◌≡◌, ℕ, ℤ, Bool, true, List, [], ◌∷◌, Option, Some, None, Result, Ok, refl, sym, subst, inl, inr}
+use Rattle.std.proofs.Common.{◌≡◌, ℕ, true, List, [], ◌∷◌, Option, Some, None, Ok, refl, sym, subst, inl, inr}
 use Rattle.std.specs.List.{AllByRecursion}
 use Rattle.std.proofs.lemmas.Bool.{cases_Bool}
 use Rattle.vx_bits.specs.declared.list.Item.{Item}
-use Rattle.vx_bits.specs.declared.refusal.Refusal.{Refusal}
 use Rattle.vx_layout.specs.declared.numbers.Numbers.{Numbers}
 use Rattle.vx_layout.specs.Bounds.{Rises}
 use Rattle.vx_layout.specs.Faults.{IsLayout}
-use Rattle.vx_table.specs.Forms.{Form}
-use Rattle.vx_table.specs.Reading.{IsFound, ReadsValue, as_read, at_front}
-use Rattle.vx_table.specs.Spelling.{Spells, at_end, behind}
-use Rattle.vx_table.specs.Values.{Follows, through, to_end}
-use Rattle.vx_table.proofs.Spelled.{is_value}
 use Rattle.vx_sps.specs.Set as sps
-use Rattle.vx_sps.specs.Structure.{sps_form}
 use Rattle.vx_pps.specs.Pps as pps
 use Rattle.vx_pps.specs.laws.Sets.{SetsTellPartitions}
 use Rattle.vx_pic.specs.Sets.{same_size}
@@ -27,31 +20,10 @@ use Rattle.vx_pic.specs.Finished.{AreFinished, IsSoundPicture, PicturesAreFinish
 use Rattle.vx_pic.specs.Streams.{pictures_of}
 use Rattle.vx_pic.specs.Whole.{HasSets, PicturesHaveSets}
 use Rattle.vx_pic.proofs.Answering.{limits_of}
+use Rattle.vx_pic.proofs.ByAddress.{sps_items, pps_items}
 use Rattle.vx_pic.proofs.Sizes.{has_ctus, one_tile_rises}
 use Rattle.vx_extract.specs.Ready.{PicturesAreInForce}
 use Rattle.vx_write.specs.InForce.{AreInForce}
-
--- ---- sets that were read
-
-ends : {A : Type 0} {total : ℕ} {form : Form A} {v : List ℤ} {left rest : List Bool} → Spells total form v left rest → (end : A) × Follows form v end
-ends (at_end {a}) = (a, to_end)
-ends (behind begins more) = let on = ends more in (on.0, through (is_value begins) on.1)
-
-sps_items : (rbsp : List ℕ) (r : Result (List Item) Refusal) (s : List Item) → ReadsValue sps_form rbsp (as_read r) → r ≡ Ok s → sps.AreSpsItems s
-sps_items rbsp r s reads is =
-    let P : Result (List Item) Refusal → Type 0 = λ x. ReadsValue sps_form rbsp (as_read x) in
-    let read = subst P is reads in
-    let found : IsFound sps_form (at_front rbsp) [] read.0 s = read.1.is in
-    let on = ends found.spelled in
-    record { values = found.values; end = on.0; follows = on.1; all = found.gained }
-
-pps_items : (rbsp : List ℕ) (r : Result (List Item) Refusal) (s : List Item) → ReadsValue pps.pps_form rbsp (as_read r) → r ≡ Ok s → pps.ArePpsItems s
-pps_items rbsp r s reads is =
-    let P : Result (List Item) Refusal → Type 0 = λ x. ReadsValue pps.pps_form rbsp (as_read x) in
-    let read = subst P is reads in
-    let found : IsFound pps.pps_form (at_front rbsp) [] read.0 s = read.1.is in
-    let on = ends found.spelled in
-    record { end = on.0; set = record { values = found.values; follows = on.1; given = sym found.gained } }
 
 -- ---- the layout
 

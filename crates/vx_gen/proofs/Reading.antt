@@ -20,7 +20,6 @@ use Rattle.vx_table.proofs.Spelled.{reads_back}
 use Rattle.vx_table.specs.Loaded.{number}
 use Rattle.vx_fields.specs.declared.ph.TheConstants.{ph_pic_parameter_set_id}
 use Rattle.vx_ph.specs.Id.{pps_id_form}
-use Rattle.vx_ph.proofs.Opening.{spelled_is_read}
 use Rattle.vx_sh.specs.Value.{BeginsSlice, SpellingBegins}
 use Rattle.vx_sh.proofs.Scopes.{slice_scopes_are_whole}
 use Rattle.vx_pic.specs.H266.{AnswersAt, AreOfH266, IsSlice, header_place}
@@ -63,7 +62,7 @@ read_of_front form items front more some begins =
     let follows = they_follow form values goes.0 in
     let spelled : Spells (1 + length (bits ++ rest)) form values (bits ++ rest) rest = reads_back form 1 values follows.0 rest follows.1 (they_close form 1 values rest goes.1) in
     let here : Spells (8 * length (front ++ more)) form values all rest = subst (λ xs. Spells (8 * length (front ++ more)) form values xs rest) (sym whole) (subst (λ n. Spells n form values (bits ++ rest) rest) total spelled) in
-    (record { total = 8 * length (front ++ more); left = rest }, spelled_is_read tt form (8 * length (front ++ more)) here begins.all)
+    record { values = values; rest = rest; spelled = here; all = begins.all }
 
 -- ---- the headers of picture p
 

@@ -16,7 +16,7 @@ use Rattle.vx_layout.specs.Layouts.{slices_in}
 use Rattle.vx_layout.specs.Rects.{IsPart, in_order}
 use Rattle.vx_layout.specs.Shapes.{HasCtu}
 use Rattle.vx_table.specs.Forms.{Form}
-use Rattle.vx_table.specs.Reading.{ReadsValue, as_read, IsFound, at_front}
+use Rattle.vx_table.specs.Reading.{at_front}
 use Rattle.vx_table.specs.Spelling.{Spells, at_end, behind}
 use Rattle.vx_table.specs.Values.{Follows, to_end, through}
 use Rattle.vx_table.proofs.Spelled.{is_value}
@@ -35,7 +35,7 @@ use Rattle.vx_pic.specs.Rules.{Readers}
 use Rattle.vx_pic.specs.Streams.{pictures_of}
 use Rattle.vx_pic.specs.Written.{AreInOrder, HeadReads, SliceReads}
 use Rattle.vx_pic.specs.Finished.{IsSoundPicture, AreFinished}
-use Rattle.vx_pic.specs.H266.{AreOfH266, IsSlice, IsSliceAnswer}
+use Rattle.vx_pic.specs.H266.{BeginsItems, AnswersAt, AreOfH266, IsSlice, IsSliceAnswer}
 use Rattle.vx_pic.specs.Parts.{Parts, SlicePart, parts_of, slice_part}
 use Rattle.vx_pic.specs.Inputs.{InputsAreShown, input_in}
 use Rattle.vx_pic.specs.Whole.{HasSets, HasEach, HasAllInOrder, subpic_slices, SubpicturesHaveSlices, SubpicturesAreWhole, SlicesAreShown}
@@ -177,21 +177,17 @@ ends : {A : Type 0} {total : ℕ} {form : Form A} {v : List ℤ} {left rest : Li
 ends (at_end {a}) = (a, to_end)
 ends (behind begins more) = let on = ends more in (on.0, through (is_value begins) on.1)
 
-sps_items : (rbsp : List ℕ) (r : Result (List Item) Refusal) (s : List Item) → ReadsValue sps_form rbsp (as_read r) → r ≡ Ok s → sps.AreSpsItems s
-sps_items rbsp r s reads is =
-    let P : Result (List Item) Refusal → Type 0 = λ x. ReadsValue sps_form rbsp (as_read x) in
-    let read = subst P is reads in
-    let found : IsFound sps_form (at_front rbsp) [] read.0 s = read.1.is in
-    let on = ends found.spelled in
-    record { values = found.values; end = on.0; follows = on.1; all = found.gained }
+pub sps_items : (rbsp : List ℕ) (r : Result (List Item) Refusal) (s : List Item) → AnswersAt sps_form (at_front rbsp) r → r ≡ Ok s → sps.AreSpsItems s
+sps_items rbsp r s answer is =
+    let begins : BeginsItems sps_form (at_front rbsp) s = subst (λ x. AnswersAt sps_form (at_front rbsp) x) is answer in
+    let on = ends begins.spelled in
+    record { values = begins.values; end = on.0; follows = on.1; all = begins.all }
 
-pps_items : (rbsp : List ℕ) (r : Result (List Item) Refusal) (s : List Item) → ReadsValue pps.pps_form rbsp (as_read r) → r ≡ Ok s → pps.ArePpsItems s
-pps_items rbsp r s reads is =
-    let P : Result (List Item) Refusal → Type 0 = λ x. ReadsValue pps.pps_form rbsp (as_read x) in
-    let read = subst P is reads in
-    let found : IsFound pps.pps_form (at_front rbsp) [] read.0 s = read.1.is in
-    let on = ends found.spelled in
-    record { end = on.0; set = record { values = found.values; follows = on.1; given = sym found.gained } }
+pub pps_items : (rbsp : List ℕ) (r : Result (List Item) Refusal) (s : List Item) → AnswersAt pps.pps_form (at_front rbsp) r → r ≡ Ok s → pps.ArePpsItems s
+pps_items rbsp r s answer is =
+    let begins : BeginsItems pps.pps_form (at_front rbsp) s = subst (λ x. AnswersAt pps.pps_form (at_front rbsp) x) is answer in
+    let on = ends begins.spelled in
+    record { end = on.0; set = record { values = begins.values; follows = on.1; given = sym begins.all } }
 
 -- each slice of the layout of two sets holds a CTU
 listed_some : (listed : Option (List Rect)) (subpics : List Rect) → IfSome listed AreSlices → All HasCtu subpics → All HasCtu (unwrap_or listed subpics)

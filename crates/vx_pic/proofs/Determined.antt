@@ -3,7 +3,6 @@ use Rattle.std.proofs.Common.{◌≡◌, inl, inr, ℕ, ℤ, ◌+◌, ◌*◌, B
 use Rattle.std.proofs.lemmas.Bool.{cases_lt}
 use Rattle.vx_bits.specs.declared.list.Item.{Item}
 use Rattle.vx_bits.specs.declared.refusal.Refusal.{Refusal}
-use Rattle.vx_bits.specs.declared.refusal.ReadError.TheVariants.{Refused}
 use Rattle.vx_bits.specs.Codes.{bits_of}
 use Rattle.vx_bits.specs.Place.{Place}
 use Rattle.vx_annexb.specs.Places.{IsFirstFrom}
@@ -13,18 +12,19 @@ use Rattle.vx_fields.specs.declared.ph.TheConstants.{ph_pic_parameter_set_id}
 use Rattle.vx_fields.specs.declared.names.sh.TheConstants.{SUBPIC}
 use Rattle.vx_layout.specs.declared.numbers.Numbers.{Numbers}
 use Rattle.vx_layout.proofs.Lowest.{layout-faultless, lowest-one}
-use Rattle.vx_table.specs.Forms.{Form, field, form_of}
+use Rattle.vx_table.specs.declared.rows.Cell.{Cell}
+use Rattle.vx_table.specs.Forms.{Form, done, field, ◌>>=◌, form_of}
 use Rattle.vx_table.specs.Loaded.{number}
-use Rattle.vx_table.specs.Reading.{Reads, ReadsValue, as_read, IsFound, IsFirstRefusal}
-use Rattle.vx_table.specs.Spelling.{items_along}
+use Rattle.vx_table.specs.Reading.{at_front}
+use Rattle.vx_table.specs.Spelling.{Spells, at_end, behind, Reaches, here, later, items_along}
 use Rattle.vx_table.specs.Values.{Follows, to_end, through}
-use Rattle.vx_table.proofs.Apart.{reads_one_way}
+use Rattle.vx_table.proofs.Apart.{reads_one_way, answers_one_way}
 use Rattle.vx_table.proofs.Joined.{joined}
 use Rattle.vx_sei.specs.Sei.{Carries, carried}
 use Rattle.vx_sei.proofs.Messages.{sei_unique}
 use Rattle.vx_sh.specs.declared.header.SliceHeader.{SliceHeader as SliceValue}
 use Rattle.vx_sh.specs.declared.tables.TheConstants.{HEADER_INSIDE}
-use Rattle.vx_sh.specs.Value.{AreFields, BeginsSlice, ReadsSlice, values_of}
+use Rattle.vx_sh.specs.Value.{AreFields, BeginsSlice, values_of}
 use Rattle.vx_sh.specs.Whole.{At, behind_header, header_inside, slice_form}
 use Rattle.vx_sh.proofs.Sized.{all_follow}
 use Rattle.vx_pic.specs.Units.{rbsp_of}
@@ -32,49 +32,52 @@ use Rattle.vx_pic.specs.Sets.{SliceHeader}
 use Rattle.vx_pic.specs.Readings.{Begun}
 use Rattle.vx_pic.specs.PictureLayout.{IsFault, ctu_sizes, ids_differ, numbers, IsLayoutAnswer, layout_refusal, MakeLayout}
 use Rattle.vx_pic.specs.UnderSets.{at_slice_of}
-use Rattle.vx_pic.specs.H266.{AnswersAt, IsReferredPps, IsSlice, IsSliceAnswer}
+use Rattle.vx_pic.specs.H266.{BeginsItems, IsRefusedAt, AnswersAt, IsReferredPps, IsSlice, IsSliceAnswer}
 use Rattle.vx_pic.specs.H266Laws.{AtMostOne, HaveOneAnswer}
 
 -- ---- forms
 
--- two readings
-same_items : {A B C : Type 0} {form : Form A} {old new next : Place} {items others : List Item} {b : B} {c : C} → Reads form old [] (Ok b) new items → Reads form old [] (Ok c) next others → items ≡ others
-same_items {form} {new} one two =
-    let found : IsFound form _ [] new _ = one.is in
-    found.gained ∙ sym (two.only found.values new.left found.spelled).1
+-- a form without what is at its end, which changes nothing of how it is spelled
+abbrev pub bare : {A : Type 0} → Form A → Form (List ℕ)
+bare form = form >>= λ a. done []
 
--- a reading and a refusal
-not_refused : {A B C : Type 0} {form : Form A} {old new next : Place} {items others : List Item} {b : B} {r : Refusal} → Reads form old [] (Ok b) new items
-    → Reads {B = C} form old [] (Err (Refused r)) next others → ⊥
-not_refused {form} {new} one two =
-    let found : IsFound form _ [] new _ = one.is in
-    two.only found.values new.left found.spelled
+bare_spells : {total : ℕ} {A : Type 0} {form : Form A} {w : List ℤ} {left rest : List Bool} → Spells total form w left rest → Spells total (bare form) w left rest
+bare_spells at_end = at_end
+bare_spells (behind begins more) = behind begins (bare_spells more)
+
+bare_reaches : {total : ℕ} {A : Type 0} {form : Form A} {w : List ℤ} {left rest : List Bool} {cell : Cell ℕ} → Reaches total form w left cell rest → Reaches total (bare form) w left cell rest
+bare_reaches here = here
+bare_reaches (later begins more) = later begins (bare_reaches more)
+
+-- two values
+same_items : {A : Type 0} {form : Form A} {place : Place} {items others : List Item} → BeginsItems form place items → BeginsItems form place others → items ≡ others
+same_items {form} {place} one two =
+    let same = reads_one_way (bare form) place.total one.values two.values place.left one.rest two.rest (bare_spells one.spelled) (bare_spells two.spelled) in
+    one.all ∙ ap (λ v. items_along form v) same.0 ∙ sym two.all
+
+-- a value and a refusal
+not_refused : {A : Type 0} {form : Form A} {place : Place} {items : List Item} {r : Refusal} → BeginsItems form place items → IsRefusedAt form place r → ⊥
+not_refused {form} {place} {r} one two =
+    (answers_one_way (bare form) place.total two.values one.values place.left two.rest one.rest two.cell r (bare_reaches two.reached) two.refused).0 (bare_spells one.spelled)
 
 -- two refusals
-same_refusal : {A B C : Type 0} {form : Form A} {old new next : Place} {items others : List Item} {q r : Refusal} → Reads {B = B} form old [] (Err (Refused q)) new items
-    → Reads {B = C} form old [] (Err (Refused r)) next others → q ≡ r
-same_refusal {form} {new} {q} one two =
-    let first : IsFirstRefusal form _ [] new _ q = one.is in
-    sym (two.refusal first.stops.values first.cell new.left q first.stops.reached first.refused).0
-
-pub one_value : {A : Type 0} (form : Form A) (bytes : List ℕ) → AtMostOne (λ (x : Result (List Item) Refusal). ReadsValue form bytes (as_read x))
-one_value form bytes (Ok items) (Ok others) one two = ap (λ (xs : List Item). let r : Result (List Item) Refusal = Ok xs in r) (same_items one.1 two.1)
-one_value form bytes (Ok items) (Err r) one two = absurd (not_refused one.1 two.2)
-one_value form bytes (Err r) (Ok items) one two = absurd (not_refused two.1 one.2)
-one_value form bytes (Err q) (Err r) one two = ap (λ (p : Refusal). let e : Result (List Item) Refusal = Err p in e) (same_refusal one.2 two.2)
+same_refusal : {A : Type 0} {form : Form A} {place : Place} {q r : Refusal} → IsRefusedAt form place q → IsRefusedAt form place r → q ≡ r
+same_refusal {form} {place} {q} {r} one two =
+    let once = answers_one_way (bare form) place.total one.values two.values place.left one.rest two.rest one.cell q (bare_reaches one.reached) one.refused in
+    (once.1 two.cell r (bare_reaches two.reached) two.refused).3
 
 pub one_at : {A : Type 0} (form : Form A) (place : Place) → AtMostOne (AnswersAt form place)
-one_at form place (Ok items) (Ok others) one two = ap (λ (xs : List Item). let r : Result (List Item) Refusal = Ok xs in r) (same_items one.1 two.1)
-one_at form place (Ok items) (Err r) one two = absurd (not_refused one.1 two.2)
-one_at form place (Err r) (Ok items) one two = absurd (not_refused two.1 one.2)
-one_at form place (Err q) (Err r) one two = ap (λ (p : Refusal). let e : Result (List Item) Refusal = Err p in e) (same_refusal one.2 two.2)
+one_at form place (Ok items) (Ok others) one two = ap (λ (xs : List Item). let r : Result (List Item) Refusal = Ok xs in r) (same_items one two)
+one_at form place (Ok items) (Err r) one two = absurd (not_refused one two)
+one_at form place (Err r) (Ok items) one two = absurd (not_refused two one)
+one_at form place (Err q) (Err r) one two = ap (λ (p : Refusal). let e : Result (List Item) Refusal = Err p in e) (same_refusal one two)
 
 pub one_id : (inside : Bool) (rbsp : List ℕ) → AtMostOne (IsReferredPps inside rbsp)
 one_id inside rbsp (Ok id) (Ok other) one two =
-    ap (λ (n : ℕ). let r : Result ℕ Refusal = Ok n in r) (one.2 ∙ ap (λ (xs : List Item). number xs ph_pic_parameter_set_id) (same_items one.1.1 two.1.1) ∙ sym two.2)
-one_id inside rbsp (Ok id) (Err r) one two = absurd (not_refused one.1.1 two.2)
-one_id inside rbsp (Err r) (Ok id) one two = absurd (not_refused two.1.1 one.2)
-one_id inside rbsp (Err q) (Err r) one two = ap (λ (p : Refusal). let e : Result ℕ Refusal = Err p in e) (same_refusal one.2 two.2)
+    ap (λ (n : ℕ). let r : Result ℕ Refusal = Ok n in r) (one.2 ∙ ap (λ (xs : List Item). number xs ph_pic_parameter_set_id) (same_items one.1 two.1) ∙ sym two.2)
+one_id inside rbsp (Ok id) (Err r) one two = absurd (not_refused one.1 two)
+one_id inside rbsp (Err r) (Ok id) one two = absurd (not_refused two.1 one)
+one_id inside rbsp (Err q) (Err r) one two = ap (λ (p : Refusal). let e : Result ℕ Refusal = Err p in e) (same_refusal one two)
 
 -- ---- messages
 
@@ -175,22 +178,22 @@ same_read nal_type b unit x y one two =
     same_header x y (one.fields ∙ same.fields ∙ sym two.fields) (one.subpic ∙ same.subpic ∙ sym two.subpic)
     (one_first (λ place. length (unescaped_to unit place) ≡ 2 + two.size) x.payload y.payload first two.payload)
 
-not_slice : (n : At) (rbsp : List ℕ) (x : SliceValue) (size : ℕ) (r : Refusal) → BeginsSlice n rbsp x size → ReadsSlice n rbsp (Err (Refused r)) → ⊥
-not_slice n rbsp x size r begins refused =
-    (refused.1.reads []).1.only (values_of begins.fields) begins.rest begins.spelled
+-- what is spelled of one isn't refused
+slice_items : {n : At} {rbsp : List ℕ} {x : SliceValue} {size : ℕ} (begins : BeginsSlice n rbsp x size) → BeginsItems (slice_form n) (at_front rbsp) (items_along (slice_form n) (values_of begins.fields))
+slice_items begins = record { values = values_of begins.fields; rest = begins.rest; spelled = begins.spelled; all = refl }
 
 pub one_slice : (nal_type : ℕ) (b : Begun) (unit : List ℕ) → AtMostOne (IsSliceAnswer nal_type b unit)
 one_slice nal_type b unit (Ok x) (Ok y) one two = ap (λ (h : SliceHeader). let r : Result SliceHeader Refusal = Ok h in r) (same_read nal_type b unit x y one two)
-one_slice nal_type b unit (Ok x) (Err r) one two = absurd (not_slice (at_slice_of nal_type b) (rbsp_of unit) one.value one.size r one.begins two)
-one_slice nal_type b unit (Err r) (Ok x) one two = absurd (not_slice (at_slice_of nal_type b) (rbsp_of unit) two.value two.size r two.begins one)
+one_slice nal_type b unit (Ok x) (Err r) one two = absurd (not_refused (slice_items one.begins) two)
+one_slice nal_type b unit (Err r) (Ok x) one two = absurd (not_refused (slice_items two.begins) one)
 one_slice nal_type b unit (Err q) (Err r) one two =
-    ap (λ (x : Refusal). let e : Result SliceHeader Refusal = Err x in e) (same_refusal (one.1.reads []).1 (two.1.reads []).1)
+    ap (λ (x : Refusal). let e : Result SliceHeader Refusal = Err x in e) (same_refusal one two)
 
 pub have_one_answer : OneAnswer → HaveOneAnswer
 have_one_answer one_aps = record {
-  vps = λ rbsp. one_value _ rbsp;
-  sps = λ rbsp. one_value _ rbsp;
-  pps = λ rbsp. one_value _ rbsp;
+  vps = λ rbsp. one_at _ (at_front rbsp);
+  sps = λ rbsp. one_at _ (at_front rbsp);
+  pps = λ rbsp. one_at _ (at_front rbsp);
   aps = one_aps;
   sei = one_carried;
   layout = one_layout;

@@ -1,12 +1,11 @@
 -- There are readers of H.266: each list of bytes has an answer.
-use Rattle.std.proofs.Common.{◌≡◌, ◌⊎◌, inl, inr, ℕ, ℤ, zero, suc, ◌+◌, ◌-◌, ◌*◌, ◌/◌, ◌%◌, ◌<◌, ◌≤◌, Bool, true, false, List, [], ◌∷◌, ◌++◌, length, take, drop, replicate, slice_index, Option, Some, None, Result, Ok, Err, refl, ap, sym, subst, ◌∙◌, arith, append_assoc, length-append}
+use Rattle.std.proofs.Common.{◌≡◌, ◌⊎◌, inl, inr, ℕ, ℤ, zero, suc, ◌+◌, ◌-◌, ◌*◌, ◌/◌, ◌%◌, ◌<◌, ◌≤◌, Bool, true, false, List, [], ◌∷◌, ◌++◌, length, take, drop, replicate, slice_index, Option, Some, None, Result, Ok, Err, refl, ap, sym, subst, ◌∙◌, arith, length-append}
 use Rattle.std.proofs.Math.Nat.{div-add-mod}
 use Rattle.std.proofs.lemmas.Bool.{cases_Bool, cases_lt, cases_eq, ne_eqb}
 use Rattle.vx_table.specs.Values.{bits_along}
-use Rattle.std.proofs.lemmas.List.{append-nil, length-drop, take-append-drop, length-take-le}
+use Rattle.std.proofs.lemmas.List.{length-drop, take-append-drop, length-take-le}
 use Rattle.vx_bits.specs.declared.list.Item.{Item}
 use Rattle.vx_bits.specs.declared.refusal.Refusal.{Refusal}
-use Rattle.vx_bits.specs.declared.refusal.ReadError.TheVariants.{Refused}
 use Rattle.vx_bits.specs.Codes.{bits_of, one_from, EndsInNoZero}
 use Rattle.vx_bits.specs.Place.{Place}
 use Rattle.vx_bits.proofs.Bits.{length-bits_of}
@@ -22,7 +21,6 @@ use Rattle.vx_layout.specs.declared.numbers.Numbers.{Numbers}
 use Rattle.vx_ph.specs.Header.{header_form}
 use Rattle.vx_ph.specs.Id.{pps_id_form}
 use Rattle.vx_ph.specs.InForce.{in_force, structures}
-use Rattle.vx_pps.specs.Partition.{undivided}
 use Rattle.vx_pps.specs.Pps.{pps_form}
 use Rattle.vx_ptl.specs.Structures.{vps}
 use Rattle.vx_rpl.specs.declared.entry.RplTable.{RplTable}
@@ -35,22 +33,18 @@ use Rattle.vx_sh.specs.declared.header.SliceHeader.{SliceHeader as SliceValue}
 use Rattle.vx_sh.specs.declared.tables.TheConstants.{HEADER_INSIDE}
 use Rattle.vx_sh.specs.Value.{AreFields, BeginsSlice, values_of}
 use Rattle.vx_sh.specs.Whole.{At, behind_header, header_inside, slice_form}
-use Rattle.vx_sh.proofs.Passing.{walk_refused}
 use Rattle.vx_sh.proofs.Sized.{sized}
 use Rattle.vx_sh.proofs.Stopped.{slice_ends}
 use Rattle.vx_sps.specs.Structure.{sps_form}
 use Rattle.vx_table.specs.declared.rows.Cell.{Cell}
 use Rattle.vx_table.specs.Forms.{Form, done, field, ◌>>=◌, form_of, present}
 use Rattle.vx_table.specs.Loaded.{number}
-use Rattle.vx_table.specs.Reading.{ReadsField, ReadsValue, as_read}
+use Rattle.vx_table.specs.Reading.{at_front}
 use Rattle.vx_table.specs.Scope.{is_set, value}
-use Rattle.vx_table.specs.Spelling.{Spells, at_end, behind, Reaches, here, later, IsRefusedField, item_of, items_along}
+use Rattle.vx_table.specs.Spelling.{Spells, at_end, behind, Reaches, here, later, items_along}
 use Rattle.vx_table.specs.Values.{Follows, to_end, through}
-use Rattle.vx_table.specs.Walks.{Walks, ended, coded, refused}
 use Rattle.vx_table.proofs.Every.{answers_always}
 use Rattle.vx_table.proofs.Joined.{parted}
-use Rattle.vx_table.proofs.PassingOver.{passes}
-use Rattle.vx_table.proofs.Readings.{reads}
 use Rattle.vx_table.proofs.Spelled.{both_ways}
 use Rattle.vx_pic.specs.Units.{rbsp_of}
 use Rattle.vx_pic.specs.Sets.{SliceHeader}
@@ -60,69 +54,28 @@ use Rattle.vx_pic.specs.PictureLayout.{ctu_sizes_differ, ids_misplaced, ids_of, 
 use Rattle.vx_pic.specs.UnderSets.{at_slice_of}
 use Rattle.vx_pic.specs.H266.{AnswersAt, header_place, form_in, IsReferredPps, IsSliceAnswer}
 use Rattle.vx_pic.specs.H266Laws.{ThereAreReaders}
+use Rattle.vx_pic.proofs.Determined.{bare}
 use Rattle.vx_pic.proofs.Deciding.{layouts_are_decided}
 use Rattle.vx_pic.proofs.Distinct.{distinct_or_not}
 
 -- ---- forms
 
-abbrev at_bits : ℕ → List Bool → Place
-at_bits total left = record { total = total; left = left }
-
--- a reader takes what is spelled
-spelled_walk : {total : ℕ} {A : Type 0} {form : Form A} {w : List ℤ} {left rest : List Bool} (items : List Item) → Spells total form w left rest
-    → (a : A) × Walks ReadsField form (at_bits total left) items (Ok a) (at_bits total rest) (items ++ items_along form w)
-spelled_walk {total} items (at_end {a} {rest}) =
-    (a, subst (λ xs. Walks ReadsField (done a) (at_bits total rest) items (Ok a) (at_bits total rest) xs) (sym (append-nil items)) ended)
-spelled_walk {total} {left} {rest} items (behind {cell} {goes} {v} {w} {mid} begins more) =
-    let on = spelled_walk (items ++ item_of cell v) more in
-    let split : (items ++ item_of cell v) ++ items_along (goes v) w ≡ items ++ (item_of cell v ++ items_along (goes v) w) = append_assoc items (item_of cell v) (items_along (goes v) w) in
-    (on.0, subst (λ xs. Walks ReadsField (field cell goes) (at_bits total left) items (Ok on.0) (at_bits total rest) xs) split (coded {d = at_bits total mid} {j = items ++ item_of cell v} (begins, refl, refl) on.1))
-
--- and stops where a field is refused
-refused_walk : {total : ℕ} {A : Type 0} {form : Form A} {w : List ℤ} {left rest : List Bool} {cell : Cell ℕ} {r : Refusal} (items : List Item) → Reaches total form w left cell rest
-    → IsRefusedField cell total rest r → Walks {A = A} ReadsField form (at_bits total left) items (Err (Refused r)) (at_bits total rest) (items ++ items_along form w)
-refused_walk items here out = refused (out, refl, append-nil items)
-refused_walk {total} {A} {left} {rest} {r} items (later {cell} {goes} {v} {w} {mid} begins more) out =
-    let on = refused_walk (items ++ item_of cell v) more out in
-    let split : (items ++ item_of cell v) ++ items_along (goes v) w ≡ items ++ (item_of cell v ++ items_along (goes v) w) = append_assoc items (item_of cell v) (items_along (goes v) w) in
-    subst (λ xs. Walks {A = A} ReadsField (field cell goes) (at_bits total left) items (Err (Refused r)) (at_bits total rest) xs) split (coded {d = at_bits total mid} {j = items ++ item_of cell v} (begins, refl, refl) on)
-
--- what is at the end of a form changes nothing of how it is spelled
-ended_spells : {A : Type 0} (form : Form A) {total : ℕ} {w : List ℤ} {left rest : List Bool} → Spells {A = List ℕ} total (form >>= λ a. done []) w left rest → Spells total form w left rest
+ended_spells : {A : Type 0} (form : Form A) {total : ℕ} {w : List ℤ} {left rest : List Bool} → Spells total (bare form) w left rest → Spells total form w left rest
 ended_spells (done a) at_end = at_end
 ended_spells (field cell goes) (behind {v} begins more) = behind begins (ended_spells (goes v) more)
 
-ended_reaches : {A : Type 0} (form : Form A) {total : ℕ} {w : List ℤ} {left rest : List Bool} {cell : Cell ℕ} → Reaches {A = List ℕ} total (form >>= λ a. done []) w left cell rest
+ended_reaches : {A : Type 0} (form : Form A) {total : ℕ} {w : List ℤ} {left rest : List Bool} {cell : Cell ℕ} → Reaches total (bare form) w left cell rest
     → Reaches total form w left cell rest
 ended_reaches (done a) reach = elim reach [ ]
 ended_reaches (field cell goes) here = here
 ended_reaches (field cell goes) (later {v} begins more) = later begins (ended_reaches (goes v) more)
 
--- what a reader does at bits
-abbrev Walked : {A : Type 0} → Form A → Place → Type 0
-Walked {A} form place =
-    ((items : List Item) × (a : A) × (new : Place) × Walks ReadsField form place [] (Ok a) new items)
-    ⊎ ((r : Refusal) × (items : List Item) × (new : Place) × Walks {A = A} ReadsField form place [] (Err (Refused r)) new items)
-
-walked : {A : Type 0} (form : Form A) (total : ℕ) (left : List Bool) → Walked form (at_bits total left)
-walked form total left = elim (answers_always (form >>= λ a. done []) total left) [
+answer_at : {A : Type 0} (form : Form A) (place : Place) → (x : Result (List Item) Refusal) × AnswersAt form place x
+answer_at form place = elim (answers_always (bare form) place.total place.left) [
   | inl (values, rest, spelled) ↦
-      let walk = spelled_walk [] (ended_spells form spelled) in
-      inl (items_along form values, walk.0, at_bits total rest, walk.1)
+      (Ok (items_along form values), record { values = values; rest = rest; spelled = ended_spells form spelled; all = refl })
   | inr (values, cell, rest, r, reached, out) ↦
-      inr (r, items_along form values, at_bits total rest, refused_walk [] (ended_reaches form reached) out)
-]
-
-value_answer : {A : Type 0} (a : A) (form : Form A) (bytes : List ℕ) → (x : Result (List Item) Refusal) × ReadsValue form bytes (as_read x)
-value_answer a form bytes = elim (walked form (8 * length bytes) (bits_of bytes)) [
-  | inl (items, end, new, walk) ↦ (Ok items, (new, reads {B = List Item} end (Ok items) walk))
-  | inr (r, items, new, walk) ↦ (Err r, (new, items, reads {B = List Item} a (Err (Refused r)) walk))
-]
-
-place_answer : {A : Type 0} (a : A) (form : Form A) (place : Place) → (x : Result (List Item) Refusal) × AnswersAt form place x
-place_answer a form place = elim (walked form place.total place.left) [
-  | inl (items, end, new, walk) ↦ (Ok items, (new, reads {B = Unit {0}} end (Ok tt) walk))
-  | inr (r, items, new, walk) ↦ (Err r, (new, items, reads {B = Unit {0}} a (Err (Refused r)) walk))
+      (Err r, record { values = values; cell = cell; rest = rest; reached = ended_reaches form reached; refused = out })
 ]
 
 id_of_items : (inside : Bool) (rbsp : List ℕ) (x : Result (List Item) Refusal) → AnswersAt pps_id_form (header_place inside rbsp) x → (y : Result ℕ Refusal) × IsReferredPps inside rbsp y
@@ -130,7 +83,7 @@ id_of_items inside rbsp (Ok items) answer = (Ok (number items ph_pic_parameter_s
 id_of_items inside rbsp (Err r) answer = (Err r, answer)
 
 id_answer : (inside : Bool) (rbsp : List ℕ) → (y : Result ℕ Refusal) × IsReferredPps inside rbsp y
-id_answer inside rbsp = let read = place_answer [] pps_id_form (header_place inside rbsp) in id_of_items inside rbsp read.0 read.1
+id_answer inside rbsp = let read = answer_at pps_id_form (header_place inside rbsp) in id_of_items inside rbsp read.0 read.1
 
 -- ---- adaptation parameter sets
 
@@ -442,8 +395,7 @@ slice_answer nal_type b unit =
             },
           )
       | inr (values, cell, rest, r, reached, out) ↦
-          let walk = refused_walk {A = List ℕ} [] reached out in
-          (Err r, (at_bits (8 * length (rbsp_of unit)) rest, passes {B = Unit {0}} [] (Err r) (walk_refused walk)))
+          (Err r, record { values = values; cell = cell; rest = rest; reached = reached; refused = out })
     ]
 
 -- ---- all of them
@@ -451,26 +403,26 @@ slice_answer nal_type b unit =
 pub there_are_readers : ThereAreReaders
 there_are_readers =
     let R : Readers = record {
-      vps = λ rbsp. (value_answer [] vps rbsp).0;
-      sps = λ rbsp. (value_answer [] sps_form rbsp).0;
-      pps = λ rbsp. (value_answer undivided pps_form rbsp).0;
+      vps = λ rbsp. (answer_at vps (at_front rbsp)).0;
+      sps = λ rbsp. (answer_at sps_form (at_front rbsp)).0;
+      pps = λ rbsp. (answer_at pps_form (at_front rbsp)).0;
       aps = λ rbsp. (aps_answer rbsp).0;
       sei = λ rbsp. (sei_answer rbsp).0;
       layout = λ s p. (layout_answer s p).0;
       referred_pps = λ inside rbsp. (id_answer inside rbsp).0;
-      header = λ inside s p rbsp. (place_answer [] (form_in inside (structures s) (in_force s p)) (header_place inside rbsp)).0;
+      header = λ inside s p rbsp. (answer_at (form_in inside (structures s) (in_force s p)) (header_place inside rbsp)).0;
       slice = λ nal_type b unit. (slice_answer nal_type b unit).0;
     } in (
       R,
       record {
-        vps = λ rbsp. (value_answer [] vps rbsp).1;
-        sps = λ rbsp. (value_answer [] sps_form rbsp).1;
-        pps = λ rbsp. (value_answer undivided pps_form rbsp).1;
+        vps = λ rbsp. (answer_at vps (at_front rbsp)).1;
+        sps = λ rbsp. (answer_at sps_form (at_front rbsp)).1;
+        pps = λ rbsp. (answer_at pps_form (at_front rbsp)).1;
         aps = λ rbsp. (aps_answer rbsp).1;
         sei = λ rbsp. (sei_answer rbsp).1;
         layout = λ s p. (layout_answer s p).1;
         referred_pps = λ inside rbsp. (id_answer inside rbsp).1;
-        header = λ inside s p rbsp. (place_answer [] (form_in inside (structures s) (in_force s p)) (header_place inside rbsp)).1;
+        header = λ inside s p rbsp. (answer_at (form_in inside (structures s) (in_force s p)) (header_place inside rbsp)).1;
         slice = λ nal_type b unit. (slice_answer nal_type b unit).1;
       },
     )

@@ -18,6 +18,7 @@ pub mod Determined
 pub mod Deciding
 pub mod Distinct
 pub mod Existing
+pub mod AsRead
 pub mod ReadSets
 pub mod SliceCounts
 pub mod ByAddress

@@ -1,14 +1,13 @@
 -- What holds of the readers of H.266: their answers are determined, and there are such readers.
-use Rattle.std.specs.Prelude.{◌≡◌, ℕ, Bool, List, Result}
+use Rattle.std.specs.Prelude.{◌≡◌, ℕ, Bool, List}
 use Rattle.vx_bits.specs.declared.list.Item.{Item}
-use Rattle.vx_bits.specs.declared.refusal.Refusal.{Refusal}
 use Rattle.vx_aps.specs.Aps as aps
 use Rattle.vx_ph.specs.InForce.{in_force, structures}
 use Rattle.vx_pps.specs.Pps.{pps_form}
 use Rattle.vx_ptl.specs.Structures.{vps}
 use Rattle.vx_sei.specs.Sei.{Carries}
 use Rattle.vx_sps.specs.Structure.{sps_form}
-use Rattle.vx_table.specs.Reading.{ReadsValue, as_read}
+use Rattle.vx_table.specs.Reading.{at_front}
 use Rattle.vx_pic.specs.Readings.{Begun}
 use Rattle.vx_pic.specs.Rules.{Readers}
 use Rattle.vx_pic.specs.PictureLayout.{IsLayoutAnswer}
@@ -20,9 +19,9 @@ AtMostOne {A} P = (x y : A) → P x → P y → x ≡ y
 
 -- Bytes and sets have one answer at most.
 pub record HaveOneAnswer : Type 0 where
-  pub vps : (rbsp : List ℕ) → AtMostOne (λ (x : Result (List Item) Refusal). ReadsValue vps rbsp (as_read x))
-  pub sps : (rbsp : List ℕ) → AtMostOne (λ (x : Result (List Item) Refusal). ReadsValue sps_form rbsp (as_read x))
-  pub pps : (rbsp : List ℕ) → AtMostOne (λ (x : Result (List Item) Refusal). ReadsValue pps_form rbsp (as_read x))
+  pub vps : (rbsp : List ℕ) → AtMostOne (AnswersAt vps (at_front rbsp))
+  pub sps : (rbsp : List ℕ) → AtMostOne (AnswersAt sps_form (at_front rbsp))
+  pub pps : (rbsp : List ℕ) → AtMostOne (AnswersAt pps_form (at_front rbsp))
   pub aps : (rbsp : List ℕ) → AtMostOne (aps.IsAnswer rbsp)
   pub sei : (rbsp : List ℕ) → AtMostOne (Carries rbsp)
   pub layout : (s p : List Item) → AtMostOne (IsLayoutAnswer s p)

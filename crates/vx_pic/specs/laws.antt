@@ -1,3 +1,4 @@
 -- Statements of laws, which are proved: nothing that a caller has to believe.
 pub mod Edited
 pub mod Pictures
+pub mod AsRead

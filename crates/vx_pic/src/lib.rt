@@ -41,7 +41,7 @@ pub use laws::{
     written_has_pictures, written_reads_again,
 };
 pub use laws_joined::{begins_where_first, joined_are_finished, played_are_finished};
-pub use laws_readers::{readers_are_unique, readers_exist};
+pub use laws_readers::{readers_answer_as_programs, readers_are_unique, readers_exist};
 pub use laws_sublayers::{all_are_kept, kept_are_finished};
 pub use laws_whole::{inputs_are_shown, pictures_have_sets, subpictures_have_slices};
 pub use layouts::{CTU_SIZE_FAULT, IDS_FAULT, picture_ids, picture_layout};

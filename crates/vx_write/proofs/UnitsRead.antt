@@ -20,6 +20,8 @@ use Rattle.vx_pic.specs.Units.{Class, class_of, is_reserved, pps_unit, prefix_ap
 use Rattle.vx_pic.specs.Rules.{Readers, message_limit}
 use Rattle.vx_pic.specs.H266.{AreOfH266}
 use Rattle.vx_pic.specs.H266Laws.{HaveOneAnswer}
+use Rattle.vx_pic.specs.laws.AsRead.{AnswerAsReaders}
+use Rattle.vx_pic.proofs.AsRead.{readers_are_as_programs_read}
 use Rattle.vx_pic.specs.Written.{IsPlain, Says, SeiReads, SeiUnit, Set, a_pps, an_aps, an_sps}
 use Rattle.vx_write.specs.Again.{IsReadable}
 use Rattle.vx_write.specs.Units.{IsSeiUnit, IsSetUnit, IsUnitOf}
@@ -106,11 +108,14 @@ unfolding class_of
 is_sei = refl
 
 module _ (R : Readers) (of : AreOfH266 R) (tid : ℕ) (low : tid < 7) where
+  answers : AnswerAsReaders R
+  answers = (readers_are_as_programs_read R).0 of
+
   pub set_read : HaveOneAnswer → sps_set.WrittenIsRead → pps_set.WrittenIsRead → SpelledIsAps → (set : Set) (unit : List ℕ) → IsReadable set → IsSetUnit tid set unit → Says R unit set
   set_read unique sps_read pps_read aps_read (an_sps items) unit can (rbsp, spelling, is) =
-      (plain types.SPS_NUT 0 sps_unit rbsp unit (omega arith) is_sps is, ap R.sps (rbsp_is types.SPS_NUT 0 rbsp unit is) ∙ read_back (R.sps rbsp) items (sps_read items rbsp (as_read (R.sps rbsp)) spelling (of.sps rbsp)))
+      (plain types.SPS_NUT 0 sps_unit rbsp unit (omega arith) is_sps is, ap R.sps (rbsp_is types.SPS_NUT 0 rbsp unit is) ∙ read_back (R.sps rbsp) items (sps_read items rbsp (as_read (R.sps rbsp)) spelling (answers.sps rbsp)))
   set_read unique sps_read pps_read aps_read (a_pps items) unit can (rbsp, spelling, is) =
-      (plain types.PPS_NUT tid pps_unit rbsp unit low is_pps is, ap R.pps (rbsp_is types.PPS_NUT tid rbsp unit is) ∙ read_back (R.pps rbsp) items (pps_read items rbsp (as_read (R.pps rbsp)) spelling (of.pps rbsp)))
+      (plain types.PPS_NUT tid pps_unit rbsp unit low is_pps is, ap R.pps (rbsp_is types.PPS_NUT tid rbsp unit is) ∙ read_back (R.pps rbsp) items (pps_read items rbsp (as_read (R.pps rbsp)) spelling (answers.pps rbsp)))
   set_read unique sps_read pps_read aps_read (an_aps a) unit can is =
       let rbsp : List ℕ = spelled a.kind a.id a.body in
       (plain types.PREFIX_APS_NUT tid prefix_aps rbsp unit low is_aps is, ap R.aps (rbsp_is types.PREFIX_APS_NUT tid rbsp unit is) ∙ unique.aps rbsp (R.aps rbsp) (Ok (Some a)) (of.aps rbsp) (aps_read a a can).0)
