@@ -678,7 +678,7 @@ The proofs say that the code does what the definitions say. That the definitions
 
 """
 READING = """
-The promises are those of [PROMISE.md](PROMISE.md) and, of the other commands, of [PROVED.md](PROVED.md); `run` as a whole is `Performs`, `ExitsWith`, all clauses of `run`, and what it asks of sources and sinks. How the numbers come about:
+The promises are those of [PROMISE.md](PROMISE.md) and, of the other commands, of [PROVED.md](PROVED.md); `run` as a whole is `Runs`, all clauses of `run`, and what it asks of sources and sinks. How the numbers come about:
 
 - A definition of `specs/` rests on what its text names: what stands in its file, and what the `use` lines of that file bring. That leads from the definitions that say a promise to all that it rests on. A record counts once with its fields, and what is given by cases once with its cases. Names that a definition binds for itself further in aren't told from those of its file, so something may be counted too much; nothing is left out. {axioms}
 - Lines are those with something, comments aside. A definition cites a clause of H.266 (`7.4.3.4`, `C.6`), or is said to be our own, the project's, by the comment right above it, or above the one that it goes with; where that says neither, by the heading that it stands under, up to the next; and where that says neither, by the comment that its file begins with. What says both cites. Clauses are numbered as in the edition of 08/2020. Those of which neither is said are [counted](#what-neither-cites-nor-is-our-own) at the end.
@@ -732,7 +732,7 @@ def promise_table(all_found, found):
     """The table of promises."""
     columns = "promise | | said by | definitions | lines | files | cite a clause | say that they are our own | tables | their lines | fields | constants | types"
     rows = [promise_row(letter, name, says, found[name]) for letter, name, says in PROMISES]
-    whole = promise_row("", "**`run` as a whole**", ("run", "Performs", "ExitsWith"), all_found)
+    whole = promise_row("", "**`run` as a whole**", ("run", "Runs"), all_found)
     return f"| {columns} |\n|{'---|' * 3}{'--:|' * 10}\n{whole}{''.join(rows)}"
 
 

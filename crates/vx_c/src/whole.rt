@@ -10,7 +10,7 @@ use crate::memory::{put, sources_in, words_in};
 use crate::status::{MISUSED, NO_MEMORY};
 use std::alloc::{AllocError, Global};
 use vx_io::{MemorySink, Source};
-use vx_run::{file_count, run};
+use vx_run::{file_count, run, status_2_is_exact};
 
 /// What a run of the words answered and wrote.
 #[derive(Drop)]
@@ -58,6 +58,7 @@ fn run_in_memory(
     let mut out = sink(alloc, out_room)?;
     let mut err = sink(alloc, err_room)?;
     let status = run(alloc, &words, &mut sources, &mut out, &mut err);
+    status_2_is_exact::<Box<dyn Source>, MemorySink, MemorySink>();
     Ok(Some(Ran { status, out, err }))
 }
 

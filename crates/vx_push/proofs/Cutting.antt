@@ -16,7 +16,7 @@ use Rattle.vx_pic.specs.Bytes.{Ending, units_at}
 use Rattle.vx_pic.specs.Parts.{Parts, parts_of}
 use Rattle.vx_pic.specs.Sublayers.{at_most}
 use Rattle.vx_pic.specs.Written.{Plan, units_of}
-use Rattle.vx_report.specs.declared.refusal.Where.{Where}
+use Rattle.vx_run.specs.declared.stop.Place.TheVariants as places
 use Rattle.vx_assemble.specs.Held.{ShowsLatest, lent_by}
 use Rattle.vx_assemble.specs.Feed.{seen_of}
 use Rattle.vx_assemble.proofs.InMemory.{few_seen}
@@ -29,7 +29,7 @@ use Rattle.vx_extract.specs.Written.{AreExtracted, IsExtracted}
 use Rattle.vx_run.specs.declared.extract.Task.{Task}
 use Rattle.vx_run.specs.declared.stop.Stop.{Stop}
 use Rattle.vx_run.specs.declared.stop.Stop.TheVariants.{NotUnderstood, Refused, Mismatched, ReadFault, WriteFault, NoMemory}
-use Rattle.vx_run.specs.Extract.{BreakNoRule, BreaksBehind, BeginsWithPictures, IsExtractable, at_picture}
+use Rattle.vx_run.specs.Extract.{BreakNoRule, BreaksBehind, BeginsWithPictures, IsExtractable}
 use Rattle.vx_run.specs.inner.Extracting.{HaveSlices}
 use Rattle.vx_run.proofs.Extracting.{no_pictures, shown_is}
 use Rattle.vx_run.proofs.Lined.{all_length, few_pictures}
@@ -220,7 +220,7 @@ halts R t c h ps done cut states.Ended (ToStop stop) is by =
     let come = holds_none R c.intake h ps (λ e. let f = is in absurd (cc)) cut.come in
     let told = subst (λ (s : State). ComesTo R h ps s) is come.told in
     let empty : ps ≡ [] = no_pictures ps (omega (arith, by.0, cut.count)) in
-    rw by.1 (ends R t c h ps done (ToStop (Refused (Extract NO_PICTURE) (at_picture 0))) cut (λ b qs ending o are.
+    rw by.1 (ends R t c h ps done (ToStop (Refused (Extract NO_PICTURE) (places.Picture 0))) cut (λ b qs ending o are.
     let all = told.0 b qs ending o are in
     without (all.0 ∙ empty) empty all.1 refl refl))
 halts R t c h ps done cut (states.Refused r n) answer is by =
@@ -312,7 +312,7 @@ module _ (R : Readers) (t : Task) (c : Cutting) (h : Handed) (ps : List Picture)
   cut_not (ToStop NotUnderstood) by = absurd by
   cut_not (ToStop (Refused r place)) by = stopped (ToStop (Refused r place)) (λ b qs ending o are.
       let begins = first b qs ending o are in
-      by_picture (record { later = begins.0; picture = one.0; place = begins.1; kept = cut.rules; broken = sym refusal_is ∙ by.0 }) (by.1 ∙ ap at_picture cut.count))
+      by_picture (record { later = begins.0; picture = one.0; place = begins.1; kept = cut.rules; broken = sym refusal_is ∙ by.0 }) (by.1 ∙ ap places.Picture cut.count))
   cut_not (ToStop (Mismatched m n)) by = absurd by
   cut_not (ToStop (ReadFault k)) by = absurd by
   cut_not (ToStop WriteFault) by = absurd by

@@ -11,7 +11,8 @@ use Rattle.vx_pic.specs.Bytes.{Ending, AreSourcePictures}
 use Rattle.vx_pic.specs.H266.{AreOfH266}
 use Rattle.vx_pic.specs.Parts.{Parts, parts_of}
 use Rattle.vx_pic.specs.Written.{Plan}
-use Rattle.vx_report.specs.declared.refusal.Where.{Where}
+use Rattle.vx_run.specs.declared.stop.Place.{Place}
+use Rattle.vx_run.specs.declared.stop.Place.TheVariants as places
 use Rattle.vx_assemble.specs.Held.{ShowsLatest, lent_by}
 use Rattle.vx_merge.specs.declared.corner.Corner.{Corner}
 use Rattle.vx_merge.specs.declared.ended.Lengths.TheVariants.{AllGo, AllEnded as AllEnd, Differ}
@@ -20,7 +21,7 @@ use Rattle.vx_merge.specs.Merging.{Merging, Stands}
 use Rattle.vx_run.specs.declared.stop.Stop.{Stop}
 use Rattle.vx_run.specs.declared.stop.Stop.TheVariants.{NotUnderstood, Refused, Mismatched, ReadFault, WriteFault, NoMemory}
 use Rattle.vx_run.specs.Conclusion.{Outcome}
-use Rattle.vx_run.specs.Rounds.{Stream, picture_in, GoesOn, HasEnded, IsRound, NoneRefused, Telling, StopsIn, by_stream, by_length, by_round, AllEnded, stream_refused, behind_units, in_round}
+use Rattle.vx_run.specs.Rounds.{Stream, picture_in, GoesOn, HasEnded, IsRound, NoneRefused, Telling, StopsIn, by_stream, by_length, by_round, AllEnded, stream_refused}
 use Rattle.vx_run.specs.Merge.{AreRoundsWritten, EndsWritten, EndsOnce, length_refused, merge_telling}
 use Rattle.vx_run.proofs.Indexed.{some_at, same_lists, mapped_at, any_default, set_there, set_other, get_set_there, get_set_other, earlier_stay, latest_at, where_is}
 use Rattle.vx_push.specs.declared.intake.State.{State}
@@ -117,7 +118,7 @@ module _ (R : Readers) (intakes : List Intaking) (given : List Handed) (n : ℕ)
 
   -- it is refused
   pub halts_refused : (t : Telling) → ((j : ℕ) (e : Ending) → t.of_stream j e ≡ stream_refused j e) → (k : ℕ) (i : Intaking) → slice_get intakes k ≡ Some i → (r : Refusal) (units : ℕ) → i.state ≡ AtRefusal r units
-      → NoneRefused k ss n → StopsIn t ss n (Refused r (behind_units k units))
+      → NoneRefused k ss n → StopsIn t ss n (Refused r (places.Unit k units))
   halts_refused t of k i at r units is none =
       let within : k < length ss = omega (arith, slice_get_within intakes k i at, counted) in
       let s = some_at ss k within in
@@ -274,9 +275,9 @@ module _ (R : Readers) (m : Mixing) (given : List Handed) (done : List Plan) (h 
   behind stop stops ss can = (h.merged ss can, subst (λ (n : ℕ). StopsIn Telling_ ss n stop) (sym h.rounds) (stops ss can))
 
   -- a source keeps it from going on
-  halted : (k : ℕ) (i : Intaking) → slice_get m.intakes k ≡ Some i → (marks : List Bool) → AreMarked m.intakes marks k → (r : Refusal) (units : ℕ) → i.state ≡ AtRefusal r units → HasEndedBy R m.merger given done (ToStop (Refused r (behind_units k units)))
+  halted : (k : ℕ) (i : Intaking) → slice_get m.intakes k ≡ Some i → (marks : List Bool) → AreMarked m.intakes marks k → (r : Refusal) (units : ℕ) → i.state ≡ AtRefusal r units → HasEndedBy R m.merger given done (ToStop (Refused r (places.Unit k units)))
   halted k i at marks before r units is =
-      behind (Refused r (behind_units k units)) (λ ss can.
+      behind (Refused r (places.Unit k units)) (λ ss can.
       halts_refused R m.intakes given m.rounds h.sources h.come ss can Telling_ (λ j e. refl) k i at r units is
       (none_refused R m.intakes given m.rounds h.sources h.come ss can marks k before))
 
@@ -339,7 +340,7 @@ module _ (R : Readers) (m : Mixing) (given : List Handed) (done : List Plan) (h 
                 subst (λ (i : ℕ). NoneRefused i ss (length done)) same
                 (subst (λ (n : ℕ). NoneRefused x.k ss n) (sym h.rounds) (none_refused R m.intakes given m.rounds h.sources h.come ss can x.marks x.k x.before)),
           )
-      waits_by (AtRefusal r units) is = absurd (let no : ToWait k ≡ ToStop (Refused r (behind_units x.k units)) = told (AtRefusal r units) is in cc)
+      waits_by (AtRefusal r units) is = absurd (let no : ToWait k ≡ ToStop (Refused r (places.Unit x.k units)) = told (AtRefusal r units) is in cc)
       waits_by AtNoMemory is = absurd (let no : ToWait k ≡ ToStop NoMemory = told AtNoMemory is in cc)
       waits_by AtPicture is = absurd (told AtPicture is)
       waits_by AtEnd is = absurd (told AtEnd is)
@@ -367,7 +368,7 @@ module _ (R : Readers) (m : Mixing) (given : List Handed) (done : List Plan) (h 
     where
       halts_picture : (s : State) (k : ℕ) → HaltsBy s k ToPicture → ⊥
       halts_picture AtWait k is = let no : ToPicture ≡ ToWait k = is in cc
-      halts_picture (AtRefusal r units) k is = let no : ToPicture ≡ ToStop (Refused r (behind_units k units)) = is in cc
+      halts_picture (AtRefusal r units) k is = let no : ToPicture ≡ ToStop (Refused r (places.Unit k units)) = is in cc
       halts_picture AtNoMemory k is = let no : ToPicture ≡ ToStop NoMemory = is in cc
       halts_picture AtPicture k is = is
       halts_picture AtEnd k is = is
@@ -388,7 +389,7 @@ module _ (R : Readers) (m : Mixing) (given : List Handed) (done : List Plan) (h 
     barred : (s : Stop) → MergesHanded (round_of m.intakes) done later.merger later.merged m.rounds (Err s) → HasEndedBy R later.merger given done (ToStop s)
     barred (Refused r place) by = λ ss can. (
       merged_here ss can,
-      by_round (round_of m.intakes) (round_here ss can) (r, by.0, ap (λ (w : Where). Refused r w) (by.1 ∙ ap in_round (sym h.rounds))),
+      by_round (round_of m.intakes) (round_here ss can) (r, by.0, ap (λ (w : Place). Refused r w) (by.1 ∙ ap places.Picture (sym h.rounds))),
     )
     barred NoMemory by = merged_here
     barred NotUnderstood by = absurd by

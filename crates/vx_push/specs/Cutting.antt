@@ -13,14 +13,14 @@ use Rattle.vx_pic.specs.Bytes.{Ending, AreSeenPictures}
 use Rattle.vx_pic.specs.Parts.{parts_of}
 use Rattle.vx_pic.specs.Sublayers.{at_most}
 use Rattle.vx_pic.specs.Written.{Plan, units_of}
-use Rattle.vx_report.specs.declared.refusal.Where.{Where}
+use Rattle.vx_run.specs.declared.stop.Place.{Place}
+use Rattle.vx_run.specs.declared.stop.Place.TheVariants as places
 use Rattle.vx_assemble.specs.Feed.{seen_of}
 use Rattle.vx_extract.specs.Extracting.{Extracting, Stands}
 use Rattle.vx_extract.specs.Written.{AreExtracted}
 use Rattle.vx_run.specs.declared.extract.Task.{Task}
 use Rattle.vx_run.specs.declared.stop.Stop.TheVariants.{Refused, NoMemory}
-use Rattle.vx_run.specs.Extract.{BreakNoRule, BreaksBehind, BeginsWithPictures, IsExtractable, at_picture}
-use Rattle.vx_run.specs.Rounds.{behind_units}
+use Rattle.vx_run.specs.Extract.{BreakNoRule, BreaksBehind, BeginsWithPictures, IsExtractable}
 use Rattle.vx_push.specs.declared.intake.State.{State}
 use Rattle.vx_push.specs.declared.intake.State.TheVariants.{Picture as AtPicture, Waits as AtWait}
 use Rattle.vx_push.specs.declared.cutter.Cut.{Cut}
@@ -41,10 +41,10 @@ pub record Cutting : Type 0 where
 
 -- What is refused of pictures with this ending, behind the first of them, and at which place: what ends them; a picture that breaks a
 -- rule; or that there is none.
-pub data IsRefusedCut (t : Task) (qs : List Picture) (ending : Option Ending) (ps : List Picture) (r : Refusal) (place : Where) : Type 0 where
-  by_ending_told : (n : ℕ) → qs ≡ ps → ending ≡ Some (record { units = n; refusal = r }) → place ≡ behind_units 0 n → IsRefusedCut t qs ending ps r place
-  by_picture : BreaksBehind t qs ps r → place ≡ at_picture (length ps) → IsRefusedCut t qs ending ps r place
-  without : qs ≡ [] → ps ≡ [] → ending ≡ None → r ≡ Extract NO_PICTURE → place ≡ at_picture 0 → IsRefusedCut t qs ending ps r place
+pub data IsRefusedCut (t : Task) (qs : List Picture) (ending : Option Ending) (ps : List Picture) (r : Refusal) (place : Place) : Type 0 where
+  by_ending_told : (n : ℕ) → qs ≡ ps → ending ≡ Some (record { units = n; refusal = r }) → place ≡ places.Unit 0 n → IsRefusedCut t qs ending ps r place
+  by_picture : BreaksBehind t qs ps r → place ≡ places.Picture (length ps) → IsRefusedCut t qs ending ps r place
+  without : qs ≡ [] → ps ≡ [] → ending ≡ None → r ≡ Extract NO_PICTURE → place ≡ places.Picture 0 → IsRefusedCut t qs ending ps r place
 
 -- What a cutter came to is the end of the extraction behind these pictures, of each stream that begins so; or it had no memory.
 abbrev pub HasEndedBy : Readers → Task → Handed → List Picture → Cut → Type 0

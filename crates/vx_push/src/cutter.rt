@@ -11,7 +11,7 @@ use std::marker::Model;
 use vx_extract::{Extractor, WriteError};
 use vx_io::GrowSink;
 use vx_pic::{Kind, Picture};
-use vx_run::{Stop, Task, behind_units, pictures_have_slices, some_picture, stop_of_picture};
+use vx_run::{Place, Stop, Task, pictures_have_slices, some_picture};
 
 /// What a cutter has come to.
 #[derive(Clone, Copy, Debug, PartialEq, Eq)]
@@ -85,7 +85,10 @@ fn look(intake: &Intake, pictures: u64) -> Result<(), Cut>
         State::Waits => Err(Cut::Waits),
         State::Ended => Err(end_behind(pictures)),
         State::Refused { refusal, units } => {
-            let place = behind_units(0, units);
+            let place = Place::Unit {
+                source: 0,
+                unit: units,
+            };
             Err(Cut::Stopped(Stop::Refused { refusal, place }))
         }
         State::NoMemory => Err(Cut::Stopped(Stop::NoMemory)),
@@ -98,7 +101,7 @@ fn stop_of_cut(error: WriteError, n: u64) -> Stop
 {
     match error {
         WriteError::SinkFailed => Stop::NoMemory,
-        _ => stop_of_picture(error, n),
+        _ => Stop::of_write(error, n),
     }
 }
 

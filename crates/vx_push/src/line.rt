@@ -11,7 +11,7 @@ pub fn stop_line(alloc: Global, stop: Stop) -> Result<Vec<u8>, AllocError>
     ensures { IfOk result (λ line. IsLineOf stop line.items) }
 {
     match stop {
-        Stop::Refused { refusal, place } => refusal_line(alloc, refusal, place),
+        Stop::Refused { refusal, place } => refusal_line(alloc, refusal, place.told()),
         _ => Vec::from_slice(alloc, b"no memory\n"),
     }
 }

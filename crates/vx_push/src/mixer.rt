@@ -15,7 +15,7 @@ use std::marker::Model;
 use vx_io::GrowSink;
 use vx_merge::{Corner, Merger, WriteError};
 use vx_pic::{Kind, Lender};
-use vx_run::{Stop, all_go_on, behind_units, merge_ends_once, stop_of_round};
+use vx_run::{Place, Stop, all_go_on, merge_ends_once};
 
 /// What a mixer has come to.
 #[derive(Clone, Copy, Debug, PartialEq, Eq)]
@@ -98,7 +98,10 @@ fn has_ended(state: State, k: u16) -> Result<bool, Mixed>
         State::Ended => Ok(true),
         State::Waits => Err(Mixed::Waits(k)),
         State::Refused { refusal, units } => {
-            let place = behind_units(k, units);
+            let place = Place::Unit {
+                source: k,
+                unit: units,
+            };
             Err(Mixed::Stopped(Stop::Refused { refusal, place }))
         }
         State::NoMemory => Err(Mixed::Stopped(Stop::NoMemory)),
@@ -173,7 +176,7 @@ fn stop_of_merge(error: WriteError, n: u64) -> Stop
 {
     match error {
         WriteError::SinkFailed => Stop::NoMemory,
-        _ => stop_of_round(error, n),
+        _ => Stop::of_write(error, n),
     }
 }
 

@@ -13,7 +13,7 @@ use Rattle.vx_annexb.specs.Reading.{LastWasNeeded}
 use Rattle.vx_pic.specs.Readings.{Reading, Picture}
 use Rattle.vx_pic.specs.Rules.{Readers}
 use Rattle.vx_pic.specs.Bytes.{Ending}
-use Rattle.vx_report.specs.declared.refusal.Where.{Where}
+use Rattle.vx_run.specs.declared.stop.Place.{Place}
 use Rattle.vx_assemble.specs.Held.{HasPicture, lent_by}
 use Rattle.vx_assemble.specs.Feed.{Feeding, EndsAtEnd, HasFed}
 use Rattle.vx_merge.specs.declared.ended.Lengths.TheVariants as lengths
@@ -391,7 +391,7 @@ module _ {A : Type 0} (bytes : A → Option (List ℕ)) (faults : A → ℕ) (R 
     k_within : k < length first
     k_within = omega (arith, slice_get_within feeds k f at, adv.feeds_count)
 
-    stops_refused : EndsAtEnd f' (bytes_at bytes l' k) → (r : Refusal) (place : Where) → Advanced bytes faults R first l l' k f f' ps waits_here (Err (Refused r place)) → HaltsAtSource R (Src l') taken n (Refused r place)
+    stops_refused : EndsAtEnd f' (bytes_at bytes l' k) → (r : Refusal) (place : Place) → Advanced bytes faults R first l l' k f f' ps waits_here (Err (Refused r place)) → HaltsAtSource R (Src l') taken n (Refused r place)
     stops_refused end r place advanced =
         let stop = step_refused bytes faults R first l l' k f f' ps waits_here end r place advanced in (
           record { k = k; units = f'.units; is = stop.2; within = k_within; read = stop.0; others = others_read },
@@ -405,7 +405,7 @@ module _ {A : Type 0} (bytes : A → Option (List ℕ)) (faults : A → ℕ) (R 
                   ending = record { units = f'.units; refusal = r };
                   of = (s.0, s.1, (ap (λ (x : List Picture). length x) is.0 ∙ adv.rounds k ps there, is.1));
                   none = none_before ss are;
-                  is = ap (λ (x : Where). Refused r x) stop.2;
+                  is = ap (λ (x : Place). Refused r x) stop.2;
                 },
               ),
         )

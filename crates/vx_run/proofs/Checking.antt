@@ -14,15 +14,16 @@ use Rattle.vx_assemble.specs.Held.{HasPicture, ShowsLatest}
 use Rattle.vx_assemble.specs.Feed.{Feeding, EndsAtEnd, HasFed}
 use Rattle.vx_extract.specs.Extracting.{Extracting}
 use Rattle.vx_extract.specs.Rules.{refusal_of}
+use Rattle.vx_run.specs.declared.stop.Place.TheVariants as places
 use Rattle.vx_run.specs.declared.extract.Task.{Task}
 use Rattle.vx_run.specs.declared.stop.Stop.{Stop}
 use Rattle.vx_run.specs.declared.stop.Stop.TheVariants.{NotUnderstood, Mismatched, Refused, ReadFault, WriteFault, NoMemory}
 use Rattle.vx_run.specs.Change.{Change, change, HasNoFault, HasFault, GivesFront, Gains, GainsFront}
-use Rattle.vx_run.specs.Show.{behind_unit}
 use Rattle.vx_assemble.specs.Feed.{seen_of}
 use Rattle.vx_pic.specs.Sublayers.{at_most}
-use Rattle.vx_run.specs.Extract.{BreakNoRule, at_picture, by_ending, by_picture, without, WhereTold, BeginsWithPictures, ok_text, ChecksBy}
-use Rattle.vx_run.specs.inner.Extracting.{HasTaken, HasTakenOne, IsTask, HasChecked, AdvancesOn, ChecksOne, CountsBy}
+use Rattle.vx_run.specs.Extract.{BreakNoRule, by_ending, by_picture, without, WhereTold, BeginsWithPictures, ok_text, ChecksBy}
+use Rattle.vx_run.specs.inner.Advancing.{AdvancesOf}
+use Rattle.vx_run.specs.inner.Extracting.{HasTaken, HasTakenOne, IsTask, HasChecked, ChecksOne, CountsBy}
 use Rattle.vx_run.proofs.Extracting.{no_pictures, refusal_so}
 use Rattle.vx_run.proofs.Showing.{told_at}
 use Rattle.vx_run.proofs.Taking.{taken_first, taken_stops, taken_below, takes_one, takes_end, takes_refused, takes_unread, takes_none, takes_units}
@@ -64,13 +65,13 @@ module _ {A : Type 0} (left : A → Option (List ℕ)) (reads : A → ℕ) (R : 
       }
 
       -- or breaks one
-      pub Counts-broken : (r : Refusal) → refusal_of t.target t.tid (parts_of one.picture) ≡ Some r → CountsBy R t (Source s s'') (Err (Refused r (at_picture n)))
+      pub Counts-broken : (r : Refusal) → refusal_of t.target t.tid (parts_of one.picture) ≡ Some r → CountsBy R t (Source s s'') (Err (Refused r (places.Picture n)))
       Counts-broken r broken = (
         one.taken.kept,
         (one.taken.given, one.taken.gave),
         λ b qs ending told are.
             let first = taken_first left reads R s s'' f' (one.picture ∷ e.ps) one.taken b qs ending told are in
-            (e.ps, by_picture (record { later = first.0; picture = one.picture; place = first.1; kept = e.rules; broken = broken }) (taken_stops left reads R s s'' f' e.ps one) (ap at_picture e.count)),
+            (e.ps, by_picture (record { later = first.0; picture = one.picture; place = first.1; kept = e.rules; broken = broken }) (taken_stops left reads R s s'' f' e.ps one) (ap places.Picture e.count)),
       )
 
     -- ---- what ends it
@@ -90,7 +91,7 @@ module _ {A : Type 0} (left : A → Option (List ℕ)) (reads : A → ℕ) (R : 
 
     -- or none
     pub Counts-none : n ≡ 0 → HasNoFault (Source s s'') × GivesFront (Source s s'') × IsAtEnd (left s'') × WhereTold R (Source s s'') (λ qs ending. (qs ≡ e.ps) × (ending ≡ None))
-        → CountsBy R t (Source s s'') (Err (Refused (Extract NO_PICTURE) (at_picture 0)))
+        → CountsBy R t (Source s s'') (Err (Refused (Extract NO_PICTURE) (places.Picture 0)))
     Counts-none none end = (
       end.0,
       end.1,
@@ -102,7 +103,7 @@ module _ {A : Type 0} (left : A → Option (List ℕ)) (reads : A → ℕ) (R : 
 
     -- what follows is refused
     pub Counts-refused : (r : Refusal) → HasNoFault (Source s s'') × GivesFront (Source s s'') × WhereTold R (Source s s'') (λ qs ending. (qs ≡ e.ps) × (ending ≡ refused_at f'.units r))
-        → CountsBy R t (Source s s'') (Err (Refused r (behind_unit f'.units)))
+        → CountsBy R t (Source s s'') (Err (Refused r (places.Unit 0 f'.units)))
     Counts-refused r end = (
       end.0,
       end.1,
@@ -123,9 +124,9 @@ module _ {A : Type 0} (left : A → Option (List ℕ)) (reads : A → ℕ) (R : 
 
 module _ {A : Type 0} (left : A → Option (List ℕ)) (reads : A → ℕ) (R : Readers) (t : Task) (s s' s'' : A) (f f' : Feeding) (n k : ℕ) (e : HasChecked R t (change left reads s s') f n k) where
   abbrev Advanced : Result Bool Stop → Type 0
-  Advanced result = (g : List ℕ) (units : List UnitPlace) (readings : List Reading) → HasFed R f g units readings → LastWasNeeded g units → AdvancesOn R g units readings f' (left s') (left s'') (reads s') (reads s'') result
+  Advanced result = (g : List ℕ) (units : List UnitPlace) (readings : List Reading) → HasFed R f g units readings → LastWasNeeded g units → AdvancesOf 0 R g units readings f' (left s') (left s'') (reads s') (reads s'') result
 
-  came : (result : Result Bool Stop) → Advanced result → AdvancesOn R e.taken.given e.taken.units e.taken.readings f' (left s') (left s'') (reads s') (reads s'') result
+  came : (result : Result Bool Stop) → Advanced result → AdvancesOf 0 R e.taken.given e.taken.units e.taken.readings f' (left s') (left s'') (reads s') (reads s'') result
   came result advanced = advanced e.taken.given e.taken.units e.taken.readings e.taken.fed e.taken.needed
 
   -- the feed stopped
@@ -145,7 +146,7 @@ module _ {A : Type 0} (left : A → Option (List ℕ)) (reads : A → ℕ) (R : 
   pub count_done : EndsAtEnd f' (left s'') → Advanced (Ok false) → 0 < n → CountsBy R t (change left reads s s'') (Ok k)
   count_done ended advanced some = Counts-done left reads R t s s' s'' f f' n k e some (takes_end left reads R s s' s'' f f' e.ps e.taken ended (came (Ok false) advanced))
 
-  pub count_none : EndsAtEnd f' (left s'') → Advanced (Ok false) → n ≡ 0 → CountsBy R t (change left reads s s'') (Err (Refused (Extract NO_PICTURE) (at_picture 0)))
+  pub count_none : EndsAtEnd f' (left s'') → Advanced (Ok false) → n ≡ 0 → CountsBy R t (change left reads s s'') (Err (Refused (Extract NO_PICTURE) (places.Picture 0)))
   count_none ended advanced none = Counts-none left reads R t s s' s'' f f' n k e none (takes_end left reads R s s' s'' f f' e.ps e.taken ended (came (Ok false) advanced))
 
   -- or to a picture

@@ -12,6 +12,9 @@ use Rattle.vx_pic.specs.Rules.{Readers}
 use Rattle.vx_assemble.specs.declared.feed.FeedFault.{FeedFault}
 use Rattle.vx_assemble.specs.declared.feed.FeedFault.TheVariants as faults
 use Rattle.vx_assemble.specs.Feed.{Feeding, Advances}
+use Rattle.vx_write.specs.declared.fault.WriteError.{WriteError}
+use Rattle.vx_write.specs.declared.fault.WriteError.TheVariants as errors
+use Rattle.vx_write.specs.declared.fault.WriteFirst.{WriteFirst}
 use Rattle.vx_merge.specs.Merging.{IsCorner, AreCorners}
 use Rattle.vx_run.specs.declared.stop.Stop.{Stop}
 use Rattle.vx_run.specs.declared.stop.Stop.TheVariants.{NotUnderstood, Mismatched, Refused, ReadFault, WriteFault, NoMemory}
@@ -20,7 +23,8 @@ use Rattle.vx_run.specs.Conclusion.{Outcome, IsOfCommand}
 use Rattle.vx_run.specs.Grammar.{Placing, IsPlacing, texts}
 use Rattle.vx_run.specs.Rounds.{most_sources, too_many}
 use Rattle.vx_run.specs.Merge.{corner_of, corners_of}
-use Rattle.vx_run.specs.inner.Advancing.{AdvancesOf, stop_from}
+use Rattle.vx_run.specs.inner.Advancing.{AdvancesOf}
+use Rattle.vx_run.specs.inner.Stopping.{ComesOf, stop_of_feed, stop_of_write}
 use Rattle.vx_run.specs.inner.Placings.{placing_in, placed, Spells, IsPlacingWord}
 use Rattle.vx_run.proofs.Placings.{words_read, reads_one}
 
@@ -87,8 +91,14 @@ too_many_stop WriteFault is = tt
 too_many_stop NoMemory is = tt
 
 pub advanced_from : (k : ℕ) (R : Readers) (g : List ℕ) (units : List UnitPlace) (readings : List Reading) (f : Feeding) {l l' : Option (List ℕ)} {n n' : ℕ} (fault : FeedFault)
-    → Advances R g units readings f l l' n n' (Err fault) → AdvancesOf k R g units readings f l l' n n' (Err (stop_from k fault f.units))
+    → Advances R g units readings f l l' n n' (Err fault) → AdvancesOf k R g units readings f l l' n n' (Err (stop_of_feed fault k f.units))
 advanced_from k R g units readings f (faults.Refused r) by = (by, refl)
 advanced_from k R g units readings f faults.SourceFailed by = (by, refl)
 advanced_from k R g units readings f faults.Memory by = by
 advanced_from k R g units readings f (faults.Stopped first) by = absurd by.behind
+
+pub comes_of : (Answers : Result (Unit {0}) WriteError → Type 0) → ((f : WriteFirst) → Answers (Err (errors.Stopped f)) → ⊥) → (n : ℕ) (error : WriteError) → Answers (Err error) → ComesOf Answers n (Err (stop_of_write error n))
+comes_of Answers going n (errors.Refused r) by = (by, refl)
+comes_of Answers going n errors.SinkFailed by = by
+comes_of Answers going n errors.Memory by = by
+comes_of Answers going n (errors.Stopped f) by = absurd (going f by)

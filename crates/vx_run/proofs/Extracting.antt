@@ -25,17 +25,19 @@ use Rattle.vx_write.specs.declared.fault.WriteError.{WriteError}
 use Rattle.vx_write.specs.declared.fault.WriteError.TheVariants as errors
 use Rattle.vx_extract.specs.Rules.{is_kept, refusal_of}
 use Rattle.vx_extract.specs.Written.{AreExtracted, IsExtracted}
+use Rattle.vx_run.specs.declared.stop.Place.TheVariants as places
 use Rattle.vx_run.specs.declared.extract.Task.{Task}
 use Rattle.vx_run.specs.declared.stop.Stop.{Stop}
 use Rattle.vx_run.specs.declared.stop.Stop.TheVariants.{NotUnderstood, Mismatched, Refused, ReadFault, WriteFault, NoMemory}
 use Rattle.vx_run.specs.Conclusion.{Outcome}
 use Rattle.vx_run.specs.Change.{Change, change, HasNoFault, HasFault, GivesFront, Gains}
-use Rattle.vx_run.specs.Show.{behind_unit}
 use Rattle.vx_assemble.specs.Feed.{seen_of}
 use Rattle.vx_pic.specs.Sublayers.{at_most}
-use Rattle.vx_run.specs.Extract.{BreakNoRule, at_picture, by_ending, by_picture, without, WhereTold, BeginsWithPictures, GainsExtraction, BreaksOff, ExtractsBy}
+use Rattle.vx_run.specs.Extract.{BreakNoRule, by_ending, by_picture, without, WhereTold, BeginsWithPictures, GainsExtraction, BreaksOff, ExtractsBy}
 use Rattle.vx_run.specs.ReadAgain.{IsReadAgain}
-use Rattle.vx_run.specs.inner.Extracting.{stop_at, ChecksOne, HaveSlices, HasTaken, HasTakenOne, IsTask, TakenIsReadAgain, HasExtracted, AdvancesOn, ExtractsOne}
+use Rattle.vx_run.specs.inner.Advancing.{AdvancesOf}
+use Rattle.vx_run.specs.inner.Stopping.{stop_of_write}
+use Rattle.vx_run.specs.inner.Extracting.{ChecksOne, HaveSlices, HasTaken, HasTakenOne, IsTask, TakenIsReadAgain, HasExtracted, ExtractsOne}
 use Rattle.vx_run.proofs.Gained.{Gains-nothing, Gains-then}
 use Rattle.vx_run.proofs.ReadAgain.{has_subpicture}
 use Rattle.vx_run.proofs.Showing.{told_at}
@@ -176,7 +178,7 @@ module _ {A K : Type 0} (left : A → Option (List ℕ)) (reads : A → ℕ) (ta
           }
 
       -- it breaks a rule
-      pub Extracts-broken : (r : Refusal) → WritesPicture q e.done x' (taken o') (taken o'') (writes o') (writes o'') (Err (errors.Refused r)) → ExtractsBy R t (Source s s'') (Sink o o'') (Err (Refused r (at_picture n)))
+      pub Extracts-broken : (r : Refusal) → WritesPicture q e.done x' (taken o') (taken o'') (writes o') (writes o'') (Err (errors.Refused r)) → ExtractsBy R t (Source s s'') (Sink o o'') (Err (Refused r (places.Picture n)))
       Extracts-broken r wrote =
           let broken : refusal_of t.target t.tid q ≡ Some r = sym (refusal_so t x' q task) ∙ wrote.0 in
           let gained : Gains (Sink o o'') (written (units_written e.done)) = record { kept = wrote.2 ∙ e.gained.kept; gained = subst (λ (b : Option (List ℕ)). Appends (taken o) b (written (units_written e.done))) (sym wrote.1) e.gained.gained } in (
@@ -186,7 +188,7 @@ module _ {A K : Type 0} (left : A → Option (List ℕ)) (reads : A → ℕ) (ta
             λ b qs ending told are.
                 let first = taken_first left reads R s s'' f' (one.picture ∷ e.ps) one.taken b qs ending told are in (
                   e.ps,
-                  by_picture (record { later = first.0; picture = one.picture; place = first.1; kept = e.rules; broken = broken }) (taken_stops left reads R s s'' f' e.ps one) (ap at_picture e.count),
+                  by_picture (record { later = first.0; picture = one.picture; place = first.1; kept = e.rules; broken = broken }) (taken_stops left reads R s s'' f' e.ps one) (ap places.Picture e.count),
                   (written (units_written e.done), (e.done, e.plans, refl), gained, e.again),
                 ),
           )
@@ -243,7 +245,7 @@ module _ {A K : Type 0} (left : A → Option (List ℕ)) (reads : A → ℕ) (ta
 
     -- or none
     pub Extracts-none : n ≡ 0 → HasNoFault (Source s s'') × GivesFront (Source s s'') × IsAtEnd (left s'') × WhereTold R (Source s s'') (λ qs ending. (qs ≡ e.ps) × (ending ≡ None))
-        → ExtractsBy R t (Source s s'') (Sink o o') (Err (Refused (Extract NO_PICTURE) (at_picture 0)))
+        → ExtractsBy R t (Source s s'') (Sink o o') (Err (Refused (Extract NO_PICTURE) (places.Picture 0)))
     Extracts-none none end = (
       end.0,
       e.gained.kept,
@@ -256,7 +258,7 @@ module _ {A K : Type 0} (left : A → Option (List ℕ)) (reads : A → ℕ) (ta
 
     -- what follows is refused
     pub Extracts-refused : (r : Refusal) → HasNoFault (Source s s'') × GivesFront (Source s s'') × WhereTold R (Source s s'') (λ qs ending. (qs ≡ e.ps) × (ending ≡ refused_at f'.units r))
-        → ExtractsBy R t (Source s s'') (Sink o o') (Err (Refused r (behind_unit f'.units)))
+        → ExtractsBy R t (Source s s'') (Sink o o') (Err (Refused r (places.Unit 0 f'.units)))
     Extracts-refused r end = (
       end.0,
       e.gained.kept,
@@ -283,14 +285,7 @@ module _ {A K : Type 0} (left : A → Option (List ℕ)) (reads : A → ℕ) (ta
 pub shown_is : (q : Parts) (l : List Picture) (p : Picture) (ps : List Picture) → ShowsLatest q l → l ≡ p ∷ ps → q ≡ parts_of p
 shown_is q l p ps shows is = subst (λ (x : List Picture). ShowsLatest q x) is shows
 
-pub extracted_by : (p : Picture) (done : List Plan) (x : Extracting) (l l' : Option (List ℕ)) (k k' n : ℕ) (error : WriteError)
-    → WritesPicture (parts_of p) done x l l' k k' (Err error) → ExtractsOne p done x l l' k k' n (Err (stop_at error n))
-extracted_by p done x l l' k k' n (errors.Refused r) by = (by, refl)
-extracted_by p done x l l' k k' n errors.SinkFailed by = by
-extracted_by p done x l l' k k' n errors.Memory by = by
-extracted_by p done x l l' k k' n (errors.Stopped f) by = absurd by
-
-pub checked_by : (q : Parts) (x : Extracting) (n : ℕ) (error : WriteError) → ChecksPicture q x (Err error) → ChecksOne q x n (Err (stop_at error n))
+pub checked_by : (q : Parts) (x : Extracting) (n : ℕ) (error : WriteError) → ChecksPicture q x (Err error) → ChecksOne q x n (Err (stop_of_write error n))
 checked_by q x n (errors.Refused r) by = (by, refl)
 checked_by q x n errors.SinkFailed by = absurd by
 checked_by q x n errors.Memory by = absurd by
@@ -301,9 +296,9 @@ checked_by q x n (errors.Stopped f) by = absurd by
 module _ {A K : Type 0} (left : A → Option (List ℕ)) (reads : A → ℕ) (taken : K → Option (List ℕ)) (writes : K → ℕ) (R : Readers) (have : HaveSlices R) (t : Task) (s s' s'' : A) (o o' : K) (f f' : Feeding) (x : Extracting) (n : ℕ)
     (e : HasExtracted R t (change left reads s s') (change taken writes o o') f x n) where
   abbrev Advanced : Result Bool Stop → Type 0
-  Advanced result = (g : List ℕ) (units : List UnitPlace) (readings : List Reading) → HasFed R f g units readings → LastWasNeeded g units → AdvancesOn R g units readings f' (left s') (left s'') (reads s') (reads s'') result
+  Advanced result = (g : List ℕ) (units : List UnitPlace) (readings : List Reading) → HasFed R f g units readings → LastWasNeeded g units → AdvancesOf 0 R g units readings f' (left s') (left s'') (reads s') (reads s'') result
 
-  came : (result : Result Bool Stop) → Advanced result → AdvancesOn R e.taken.given e.taken.units e.taken.readings f' (left s') (left s'') (reads s') (reads s'') result
+  came : (result : Result Bool Stop) → Advanced result → AdvancesOf 0 R e.taken.given e.taken.units e.taken.readings f' (left s') (left s'') (reads s') (reads s'') result
   came result advanced = advanced e.taken.given e.taken.units e.taken.readings e.taken.fed e.taken.needed
 
   -- the feed stopped
@@ -323,10 +318,10 @@ module _ {A K : Type 0} (left : A → Option (List ℕ)) (reads : A → ℕ) (ta
   pub extract_done : EndsAtEnd f' (left s'') → Advanced (Ok false) → 0 < n → ExtractsBy R t (change left reads s s'') (change taken writes o o') (Ok tt)
   extract_done ended advanced some = Extracts-done left reads taken writes R t s s' s'' o o' f f' x n e some (takes_end left reads R s s' s'' f f' e.ps e.taken ended (came (Ok false) advanced))
 
-  pub extract_none : EndsAtEnd f' (left s'') → Advanced (Ok false) → n ≡ 0 → ExtractsBy R t (change left reads s s'') (change taken writes o o') (Err (Refused (Extract NO_PICTURE) (at_picture 0)))
+  pub extract_none : EndsAtEnd f' (left s'') → Advanced (Ok false) → n ≡ 0 → ExtractsBy R t (change left reads s s'') (change taken writes o o') (Err (Refused (Extract NO_PICTURE) (places.Picture 0)))
   extract_none ended advanced none = Extracts-none left reads taken writes R t s s' s'' o o' f f' x n e none (takes_end left reads R s s' s'' f f' e.ps e.taken ended (came (Ok false) advanced))
 
-  pub extract_end : EndsAtEnd f' (left s'') → Advanced (Ok false) → (result : Outcome) → OnOk result (0 < n) → IfErr result (λ stop. (n ≡ 0) × (stop ≡ Refused (Extract NO_PICTURE) (at_picture 0)))
+  pub extract_end : EndsAtEnd f' (left s'') → Advanced (Ok false) → (result : Outcome) → OnOk result (0 < n) → IfErr result (λ stop. (n ≡ 0) × (stop ≡ Refused (Extract NO_PICTURE) (places.Picture 0)))
       → ExtractsBy R t (change left reads s s'') (change taken writes o o') result
   extract_end ended advanced (Ok _) some none = extract_done ended advanced some
   extract_end ended advanced (Err stop) some none = rw none.1 (extract_none ended advanced none.0)

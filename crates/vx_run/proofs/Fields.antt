@@ -8,8 +8,6 @@ use Rattle.vx_pic.specs.Shown.{no_fields}
 use Rattle.vx_pic.specs.Readings.{Reading}
 use Rattle.vx_pic.specs.Rules.{Readers, reads}
 use Rattle.vx_pic.specs.H266.{AreOfH266}
-use Rattle.vx_pic.specs.Streams.{read_on, all_read}
-use Rattle.vx_pic.specs.Bytes.{units_at}
 use Rattle.vx_assemble.specs.declared.feed.Taken.{Taken}
 use Rattle.vx_assemble.specs.declared.feed.Taken.TheVariants.{Nal, End}
 use Rattle.vx_assemble.specs.declared.feed.FeedFault.{FeedFault}

@@ -1,5 +1,5 @@
 -- What is told of a unit, and the lines that it has.
-use Rattle.std.proofs.Common.{◌≡◌, ℕ, ◌+◌, ◌<◌, ◌≤◌, ◌==◌, List, [], ◌∷◌, ◌++◌, ◌∙◌, Option, Some, None, Ok, Bool, true, false, cond, length, sym, ap, ap₂, refl, subst, arith, length-append, append-nil, eq-eqb}
+use Rattle.std.proofs.Common.{◌≡◌, ℕ, ◌+◌, ◌<◌, ◌≤◌, ◌==◌, List, [], ◌∷◌, ◌++◌, ◌∙◌, Option, Some, None, Bool, true, false, cond, length, sym, ap, ap₂, refl, subst, arith, length-append, append-nil, eq-eqb}
 use Rattle.std.proofs.lemmas.List.{length-map}
 use Rattle.std.specs.Option.{option_or}
 use Rattle.std.specs.List.{flat_map}
@@ -22,9 +22,8 @@ use Rattle.vx_report.specs.declared.set.SetNumbers.TheVariants as numbers
 use Rattle.vx_report.specs.declared.picture.PictureNumbers.{PictureNumbers}
 use Rattle.vx_report.specs.SetLine.{set_text, vps_numbers, sps_numbers, pps_numbers}
 use Rattle.vx_report.specs.PictureLine.{picture_text, picture_numbers}
-use Rattle.vx_assemble.specs.declared.feed.Taken.TheVariants.{Nal}
 use Rattle.vx_assemble.specs.Held.{items_of, ShowsLatest}
-use Rattle.vx_assemble.specs.Feed.{Feeding, HasFed, IsTold, Gives}
+use Rattle.vx_assemble.specs.Feed.{Feeding, HasFed, IsTold}
 use Rattle.vx_run.specs.Show.{Teller, shown_line, set_lines, picture_lines, unit_lines, told_lines, numbers_shown}
 use Rattle.vx_assemble.specs.Feed.{seen_of}
 use Rattle.vx_run.specs.inner.Showing.{GathersOne}

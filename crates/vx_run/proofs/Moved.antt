@@ -13,7 +13,7 @@ use Rattle.vx_run.specs.Extract.{StopsBehind, RefusesExtraction, by_ending, by_p
 use Rattle.vx_bits.specs.declared.refusal.Refusal.{Refusal}
 use Rattle.vx_pic.specs.Readings.{Picture}
 use Rattle.vx_pic.specs.Bytes.{Ending}
-use Rattle.vx_report.specs.declared.refusal.Where.{Where}
+use Rattle.vx_run.specs.declared.stop.Place.{Place}
 
 -- the source at k of a list was shown
 shows-moved : {S K : Type 0} (R : Readers) (T : Teller) (bytes : S → Option (List ℕ)) (faults : S → ℕ) (k : ℕ) (s s' : S) (l l' : List S) (out : Change K) (outcome : Outcome) → slice_get l k ≡ Some s → slice_get l' k ≡ Some s'
@@ -68,7 +68,7 @@ stops-moved R bytes faults k s s' l l' p before old new stops = record {
   near = stops.near;
 }
 
-refuses-moved : {S : Type 0} (R : Readers) (bytes : S → Option (List ℕ)) (faults : S → ℕ) (k : ℕ) (t : Task) (s s' : S) (l l' : List S) (ps : List Picture) (ending : Option Ending) (before : List Picture) (r : Refusal) (place : Where)
+refuses-moved : {S : Type 0} (R : Readers) (bytes : S → Option (List ℕ)) (faults : S → ℕ) (k : ℕ) (t : Task) (s s' : S) (l l' : List S) (ps : List Picture) (ending : Option Ending) (before : List Picture) (r : Refusal) (place : Place)
     → slice_get l k ≡ Some s → slice_get l' k ≡ Some s' → RefusesExtraction R t (change bytes faults s s') ps ending before r place → RefusesExtraction R t (source_at (sources_change bytes faults l l') k) ps ending before r place
 refuses-moved R bytes faults k t s s' l l' ps ending before r place old new (by_ending all rules told) = by_ending all rules told
 refuses-moved R bytes faults k t s s' l l' ps ending before r place old new (by_picture b stops at) = by_picture b (stops-moved R bytes faults k s s' l l' b.picture before old new stops) at

@@ -15,10 +15,11 @@ use Rattle.vx_merge.specs.Rules.{rules_of}
 use Rattle.vx_merge.specs.Verdict.{IsVerdict}
 use Rattle.vx_merge.specs.Written.{IsMerged, MergedIsOne, limits_of}
 use Rattle.vx_merge.proofs.Verdicts.{verdict_one}
+use Rattle.vx_run.specs.declared.stop.Place.TheVariants as places
 use Rattle.vx_run.specs.declared.stop.Stop.{Stop}
 use Rattle.vx_run.specs.declared.stop.Stop.TheVariants.{Refused}
 use Rattle.vx_run.specs.Conclusion.{Outcome}
-use Rattle.vx_run.specs.Rounds.{Stream, picture_in, GoesOn, HasEnded, IsRefusedStream, OfStream, IsRound, NoneRefused, Telling, StopsIn, by_stream, by_length, by_round, EndsIn, in_round, AllEnded}
+use Rattle.vx_run.specs.Rounds.{Stream, picture_in, GoesOn, HasEnded, IsRefusedStream, OfStream, IsRound, NoneRefused, Telling, StopsIn, by_stream, by_length, by_round, EndsIn, AllEnded}
 use Rattle.vx_run.specs.Merge.{AreRoundsWritten, merge_telling, EndsOnce}
 use Rattle.vx_run.proofs.Indexed.{some_at}
 
@@ -223,7 +224,7 @@ module _ (one : MergedIsOne) (corners : List Corner) (level : Option ℕ) where
 
   -- one thing is told of each round, and nothing of one that is written
   told_once : (done : List Plan) (n : ℕ) (round : List Parts) (a b : Stop) → (merge_telling corners level done).of_round n round a → (merge_telling corners level done).of_round n round b → a ≡ b
-  told_once done n round a b told tells = told.2 ∙ ap (λ (r : Refusal). Refused r (in_round n)) (barred_once round done told.0 tells.0 told.1 tells.1) ∙ sym tells.2
+  told_once done n round a b told tells = told.2 ∙ ap (λ (r : Refusal). Refused r (places.Picture n)) (barred_once round done told.0 tells.0 told.1 tells.1) ∙ sym tells.2
 
   told_none : (done : List Plan) (n : ℕ) (round : List Parts) (p : Plan) → Passes corners level round done p → (stop : Stop) → (merge_telling corners level done).of_round n round stop → ⊥
   told_none done n round p passes stop told = passes_or_barred round done p told.0 passes told.1

@@ -8,11 +8,11 @@ use Rattle.vx_merge.specs.declared.corner.Corner.{Corner}
 use Rattle.vx_merge.specs.Joins.{IsBarredWhere, join_start}
 use Rattle.vx_merge.specs.Verdict.{Rule}
 use Rattle.vx_merge.specs.Written.{MergedIsOne}
+use Rattle.vx_run.specs.declared.stop.Place.TheVariants as places
 use Rattle.vx_run.specs.declared.stop.Stop.{Stop}
 use Rattle.vx_run.specs.declared.stop.Stop.TheVariants.{Refused}
 use Rattle.vx_run.specs.Play.{ArePlayedOf, PassesWhere, PlayEndsOnce, is_join, marked, play_telling, refused_file, region_streams}
 use Rattle.vx_play.specs.Scheduled.{files_of_region}
-use Rattle.vx_run.specs.Rounds.{in_round}
 use Rattle.vx_merge.proofs.Verdicts.{verdict_one}
 use Rattle.vx_run.proofs.Once.{barred_once, ends_at_one, passes_or_barred, same_plan}
 use Rattle.vx_run.proofs.RegionRounds.{many_streams}
@@ -47,7 +47,7 @@ module _ (one : MergedIsOne) (corners : List Corner) (level : Option ℕ) (joins
 
   told_once : (refused : ℕ → ℕ) (done : List Plan) (n : ℕ) (round : List Parts) (a b : Stop) → Tells refused done n round a → Tells refused done n round b → a ≡ b
   told_once refused done n round a b told tells =
-      told.2 ∙ ap (λ (r : Refusal). Refused r (in_round n)) (barred_by_one (joins n) (marked (joins n) round) done told.0 tells.0 told.1 tells.1) ∙ sym tells.2
+      told.2 ∙ ap (λ (r : Refusal). Refused r (places.Picture n)) (barred_by_one (joins n) (marked (joins n) round) done told.0 tells.0 told.1 tells.1) ∙ sym tells.2
 
 pub play_once : MergedIsOne → PlayEndsOnce
 play_once one corners level regions files done other a b some p q =

@@ -13,6 +13,7 @@ use Rattle.vx_assemble.specs.Feed.{Feeding}
 use Rattle.vx_assemble.specs.Held.{lent_by}
 use Rattle.vx_write.specs.declared.fault.WriteError.{WriteError}
 use Rattle.vx_write.specs.declared.fault.WriteError.TheVariants as errors
+use Rattle.vx_write.specs.declared.fault.WriteFirst.{WriteFirst}
 use Rattle.vx_merge.specs.declared.corner.Corner.{Corner}
 use Rattle.vx_merge.specs.Merging.{Merging, Stands}
 use Rattle.vx_play.specs.Scheduled.{Scheduled, HasMoved, HasStayed, files_of_region, regions_counted}
@@ -23,7 +24,8 @@ use Rattle.vx_run.specs.Conclusion.{Outcome, IsOfCommand}
 use Rattle.vx_run.specs.Merge.{length_refused}
 use Rattle.vx_run.specs.Play.{too_many_files}
 use Rattle.vx_run.specs.inner.Advancing.{GoesBy, IsUnfed, OfAll}
-use Rattle.vx_run.specs.inner.Merging.{stop_in}
+use Rattle.vx_run.specs.inner.Stopping.{stop_of_write}
+use Rattle.vx_run.proofs.Corners.{comes_of}
 use Rattle.vx_run.specs.inner.Playing.{AdvancesRegions, AreFew, GoesOn, HasAsked, HasPlayed, IsAt, IsPlaced, PlaysRound, PlaysRounds, SameBut, SameFiles, WentOn, WritesRound}
 use Rattle.vx_run.proofs.Playing.{played_none}
 use Rattle.vx_run.proofs.RegionFiles.{at_first}
@@ -90,13 +92,15 @@ goes_by_lengths R sources s s' feeds ended passed own n (Err stop) on by = inr (
 -- ---- round by round
 
 -- where a round isn't written
+not_stopped : (joins : Bool) (round : List Parts) (done : List Plan) (m : Merging) (l l' : Option (List ℕ)) (k k' : ℕ) (f : WriteFirst) → WritesRound joins round done m l l' k k' (Err (errors.Stopped f)) → ⊥
+not_stopped true round done m l l' k k' f by = by
+not_stopped false round done m l l' k k' f by = by
+
 pub plays_in : {K : Type 0} (joins : Bool) (round : List Parts) (done : List Plan) (m : Merging) (out : Change K) (n : ℕ) (error : WriteError) → WritesRound joins round done m (out.bytes out.old) (out.bytes out.new) (out.faults out.old) (out.faults out.new) (Err error)
-    → PlaysRound joins round done m out n (Err (stop_in error n))
-plays_in joins round done m out n (errors.Refused r) by = (by, refl)
-plays_in joins round done m out n errors.SinkFailed by = by
-plays_in joins round done m out n errors.Memory by = by
-plays_in true round done m out n (errors.Stopped f) by = absurd by
-plays_in false round done m out n (errors.Stopped f) by = absurd by
+    → PlaysRound joins round done m out n (Err (stop_of_write error n))
+plays_in joins round done m out n error by =
+    comes_of (WritesRound joins round done m (out.bytes out.old) (out.bytes out.new) (out.faults out.old) (out.faults out.new))
+    (not_stopped joins round done m (out.bytes out.old) (out.bytes out.new) (out.faults out.old) (out.faults out.new)) n error by
 
 -- a round is that of the feeds that lend it
 pub played_same : {K : Type 0} (taken_ : K → Option (List ℕ)) (writes : K → ℕ) (o o' : K) (b : Bool) (m m' : Merging) (n : ℕ) (outcome : Outcome) (fs gs : List Feeding) → fs ≡ gs

@@ -15,7 +15,8 @@ use Rattle.vx_pic.specs.Parts.{Parts, parts_of}
 use Rattle.vx_pic.specs.Readings.{Picture}
 use Rattle.vx_pic.specs.Rules.{Readers}
 use Rattle.vx_pic.specs.Written.{Plan, units_of}
-use Rattle.vx_report.specs.declared.refusal.Where.{Where}
+use Rattle.vx_run.specs.declared.stop.Place.{Place}
+use Rattle.vx_run.specs.declared.stop.Place.TheVariants as places
 use Rattle.vx_assemble.specs.Feed.{Feeding}
 use Rattle.vx_assemble.specs.Held.{HasPicture, lent_by}
 use Rattle.vx_write.specs.declared.fault.WriteError.{WriteError}
@@ -34,7 +35,7 @@ use Rattle.vx_run.specs.Change.{Change, Sources, change, sources_change, source_
 use Rattle.vx_run.specs.Conclusion.{Outcome}
 use Rattle.vx_run.specs.Merge.{bytes_of, length_refused, GainsInto}
 use Rattle.vx_run.specs.Play.{ArePlayedFor, ArePlayedInRound, ArePlayedOf, ComesAt, EndsPlayed, IsBehind, OthersArePlayed, PassesWhere, at_file, at_played_round, begins_in, count_of, is_join, marked, pictures_in, play_telling, region_stream, region_streams, refused_file}
-use Rattle.vx_run.specs.Rounds.{Stream, picture_in, AllEnded, AreTold, GoesOn, HasEnded, IsRead, IsReadOut, IsRound, NoneRefused, OfEachSource, StopsIn, by_round, by_stream, behind_units, in_round}
+use Rattle.vx_run.specs.Rounds.{Stream, picture_in, AllEnded, AreTold, GoesOn, HasEnded, IsRead, IsReadOut, IsRound, NoneRefused, OfEachSource, StopsIn, by_round, by_stream}
 use Rattle.vx_run.specs.inner.Playing.{AdvancesRegions, AllRead, HasPlayed, HasTakenSo, IsPlaced, PlaysRound, PlaysRounds, StopsAt, Takes, Went, WentOn, WritesRound}
 use Rattle.vx_run.proofs.Advancing.{each_holds, length_stops, unread}
 use Rattle.vx_run.proofs.Gained.{Gains-nothing}
@@ -226,7 +227,7 @@ module _ {A K : Type 0} (bytes : A → Option (List ℕ)) (faults : A → ℕ) (
             | inr (inr behind) ↦ at_read bytes faults R first l (Js i) f.0 (passed i) (own i) (at.others.stays i f.0 (omega (arith, behind)) f.1).0
           ])
 
-    cut_stops : (r : Refusal) (place : Where) (at : StopsAt R (Src l) s s' feeds ended passed own (Refused r place)) (files : List Stream) → AreTold R (Src l) files → EndsPlayed corners level s.regions files done (Err (Refused r place))
+    cut_stops : (r : Refusal) (place : Place) (at : StopsAt R (Src l) s s' feeds ended passed own (Refused r place)) (files : List Stream) → AreTold R (Src l) files → EndsPlayed corners level s.regions files done (Err (Refused r place))
     cut_stops r place at files are =
         let c = at.went in
         let stop : Stop = Refused r place in
@@ -234,7 +235,7 @@ module _ {A K : Type 0} (bytes : A → Option (List ℕ)) (faults : A → ℕ) (
         let inside = k_fits stop at in
         let told = cut_told bytes faults R first l s.regions at.k (of at.k) (passed at.k) (own at.k) n (so at.k inside).0 c.others c.more c.j e c.behind c.same c.told files are in
         let within : at.k < length corners = omega (arith, inside, fits) in
-        let is : stop ≡ Refused r (behind_units (refused_file files (Js at.k)) c.units) = ap (λ (p : Where). Refused r p) (c.is ∙ ap (λ (j : ℕ). behind_units j c.units) (sym told.1)) in
+        let is : stop ≡ Refused r (places.Unit (refused_file files (Js at.k)) c.units) = ap (λ (p : Place). Refused r p) (c.is ∙ ap (λ (j : ℕ). places.Unit j c.units) (sym told.1)) in
         ends_behind files are stop (by_stream at.k e (region_stream files (Js at.k), stream_at (length corners) s.regions files at.k within, told.0) (none_before stop at files are) is)
 
     pub play_halted : (stop : Stop) → StopsAt R (Src l) s s' feeds ended passed own stop → Comes l o' (Err stop)
@@ -434,10 +435,10 @@ module _ {A K : Type 0} (bytes : A → Option (List ℕ)) (faults : A → ℕ) (
                   plans files are,
                 )
 
-            barred_there : (r : Refusal) → IsBarredWhere b corners level (marked b round) done r → (files : List Stream) → AreTold R (Src l) files → EndsPlayed corners level s.regions files done (Err (Refused r (in_round n)))
+            barred_there : (r : Refusal) → IsBarredWhere b corners level (marked b round) done r → (files : List Stream) → AreTold R (Src l) files → EndsPlayed corners level s.regions files done (Err (Refused r (places.Picture n)))
             barred_there r barred files are =
                 let joins = join_there files are in
-                ends_behind files are (Refused r (in_round n)) (by_round round (round_there files are) (r, subst (λ (x : Bool). IsBarredWhere x corners level (marked x round) done r) (sym joins) barred, refl))
+                ends_behind files are (Refused r (places.Picture n)) (by_round round (round_there files are) (r, subst (λ (x : Bool). IsBarredWhere x corners level (marked x round) done r) (sym joins) barred, refl))
 
             for_it : (k : ℕ) → k < length corners → ArePlayedFor R (Src l) (n + 1) (Js k)
             for_it k within =
@@ -455,7 +456,7 @@ module _ {A K : Type 0} (bytes : A → Option (List ℕ)) (faults : A → ℕ) (
             play_stopped (Refused r place) did =
                 let none = wrote_barred taken_ writes o o' o'' m' round done gained b r did.0 in
                 let barred = barred_so m' corners level (task.corners ∙ corners_same) (task.level ∙ level_same) b (marked b round) done r none.1 in
-                subst (λ (p : Where). Comes l o'' (Err (Refused r p))) (sym did.1)
+                subst (λ (p : Place). Comes l o'' (Err (Refused r p))) (sym did.1)
                 (n, at_played_round refl (λ k within. inl (for_it k within)), none.0.kept, λ files are. (done, count, barred_there r barred files are, none.0))
             play_stopped WriteFault did =
                 let part = wrote_front taken_ writes o o' o'' m' round done gained b did in

@@ -9,7 +9,7 @@ use Rattle.vx_bits.specs.declared.refusal.Refusal.{Refusal}
 use Rattle.vx_pic.specs.Joined.{one_behind_another}
 use Rattle.vx_pic.specs.Readings.{Picture}
 use Rattle.vx_pic.specs.Rules.{Readers}
-use Rattle.vx_report.specs.declared.refusal.Where.{Where}
+use Rattle.vx_run.specs.declared.stop.Place.{Place}
 use Rattle.vx_assemble.specs.Feed.{Feeding, EndsAtEnd}
 use Rattle.vx_run.specs.declared.stop.Stop.{Stop}
 use Rattle.vx_run.specs.declared.stop.Stop.TheVariants.{NotUnderstood, Mismatched, Refused, ReadFault, WriteFault, NoMemory}
@@ -123,7 +123,7 @@ module _ {A : Type 0} (bytes : A → Option (List ℕ)) (faults : A → ℕ) (R 
           later (inr begins) = omega (arith, begins.0)
 
       -- or it is refused,
-      on_cut : (r : Refusal) (place : Where) → Advanced_ (Err (Refused r place)) → IsCut R (Src l') js passed own r place
+      on_cut : (r : Refusal) (place : Place) → Advanced_ (Err (Refused r place)) → IsCut R (Src l') js passed own r place
       on_cut r place advanced =
           let stop = step_refused bytes faults R first l l' file f f' on.others waits_there ended r place advanced in
           record { more = on.more; others = on.others; j = file; units = f'.units; behind = behind_it; same = on.same; read = stop.0; told = stop.1; is = stop.2 }

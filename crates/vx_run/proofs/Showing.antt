@@ -18,10 +18,11 @@ use Rattle.vx_pic.specs.Streams.{read_on, all_read, lacks_slice}
 use Rattle.vx_pic.specs.Bytes.{Ending, units_at}
 use Rattle.vx_assemble.specs.declared.feed.Taken.TheVariants.{End as Ended}
 use Rattle.vx_assemble.specs.Feed.{Feeding, HasFed, IsOpen, Gives, UnitIsRefused, IsRefusedFor, by_bytes, by_unit, at_end, ReadsOn as Reads}
+use Rattle.vx_run.specs.declared.stop.Place.TheVariants as places
 use Rattle.vx_run.specs.declared.stop.Stop.{Stop}
 use Rattle.vx_run.specs.declared.stop.Stop.TheVariants.{NotUnderstood, Mismatched, Refused, ReadFault, WriteFault, NoMemory}
 use Rattle.vx_run.specs.Change.{Change, change, Gains, GainsFront}
-use Rattle.vx_run.specs.Show.{Teller, shown_lines, lines_behind, read_len, behind_unit, IsShown, IsToldAt, ShowsFront, ShowsBy}
+use Rattle.vx_run.specs.Show.{Teller, shown_lines, lines_behind, read_len, IsShown, IsToldAt, ShowsFront, ShowsBy}
 use Rattle.vx_assemble.specs.Feed.{seen_of}
 use Rattle.vx_run.specs.inner.Showing.{EndsBy, SeesNone, ReadsOn, TellsLast, told_refused, WritesLines, ShowsLater, HasShown, HasReached, left_to_read}
 use Rattle.vx_run.proofs.Gained.{Gains-nothing, Gains-then, GainsFront-then, GainsFront-append}
@@ -116,7 +117,7 @@ reads_less None None taken taken' going within grows = omega (arith, grows refl,
 reads_less None (Some c) taken taken' going within grows = omega (arith, within)
 
 -- a refusal at its place
-pub told_at : (ending : Option Ending) (n : ℕ) (refusal : Refusal) → ending ≡ refused_at n refusal → IsToldAt ending refusal (behind_unit n)
+pub told_at : (ending : Option Ending) (n : ℕ) (refusal : Refusal) → ending ≡ refused_at n refusal → IsToldAt ending refusal (places.Unit 0 n)
 told_at ending n refusal is = record { first = record { units = n; refusal = refusal }; is = is; refusal = refl; place = refl }
 
 -- ---- the lines of the units of a source that tells its bytes
@@ -164,7 +165,7 @@ module _ {K : Type 0} (R : Readers) (T : Teller) (out : Change K) (b given : Lis
   -- a refusal and the lines before it
   refused_told : (f : ReaderState) (refusal : Refusal) (ending : Option Ending) (all : Bool) (told : List ℕ) → is_all f.splitter ≡ all → (f.closed ≡ Some End → all ≡ true) → (f.closed ≡ Some TooLong → (all ≡ false) × (length given ≡ source_limit + 1))
       → IsGiven b given all → FollowsFrom (seen_of given) all 0 us → read_on R [] (units_at (seen_of given) us) ≡ all_read before → IsShown R b vs ending → Gains out (shown_lines R T given us ++ told)
-      → (why : IsRefusedFor R f given us before refusal) → told ≡ told_refused T why → IsToldAt ending refusal (behind_unit (length us)) × Gains out (shown_lines R T b vs)
+      → (why : IsRefusedFor R f given us before refusal) → told ≡ told_refused T why → IsToldAt ending refusal (places.Unit 0 (length us)) × Gains out (shown_lines R T b vs)
   refused_told f refusal ending all told same end long is follow read shown gained (by_bytes (inl stream)) none =
       let one = ends_by_framing R b given us vs before ending shown all refusal is read (subst (λ (a : Bool). IsStream (seen_of given) a us (Some refusal)) same stream) in
       (told_at ending (length us) refusal one.1, gains_told all is follow one.0 (gains_alone told none gained))

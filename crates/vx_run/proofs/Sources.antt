@@ -14,14 +14,15 @@ use Rattle.vx_pic.specs.Readings.{Reading, Picture}
 use Rattle.vx_pic.specs.Rules.{Readers}
 use Rattle.vx_pic.specs.Bytes.{Ending}
 use Rattle.vx_pic.specs.Parts.{Parts, parts_of}
-use Rattle.vx_report.specs.declared.refusal.Where.{Where}
+use Rattle.vx_run.specs.declared.stop.Place.{Place}
+use Rattle.vx_run.specs.declared.stop.Place.TheVariants as places
 use Rattle.vx_assemble.specs.Held.{ShowsLatest, lent_by}
 use Rattle.vx_assemble.specs.Feed.{Feeding, EndsAtEnd, HasFed}
 use Rattle.vx_run.specs.declared.stop.Stop.{Stop}
 use Rattle.vx_run.specs.declared.stop.Stop.TheVariants.{Refused, ReadFault, NoMemory}
 use Rattle.vx_run.specs.Change.{Change, Sources, change, sources_change, source_at, IsUntouched, HasNoFault, HasFault}
 use Rattle.vx_run.specs.Extract.{WhereTold, BeginsWithPictures}
-use Rattle.vx_run.specs.Rounds.{Stream, picture_in, GoesOn, HasEnded, IsRound, behind_units, AreTold, IsRead, IsReadFor, IsReadInRound, Sees}
+use Rattle.vx_run.specs.Rounds.{Stream, picture_in, GoesOn, HasEnded, IsRound, AreTold, IsRead, IsReadFor, IsReadInRound, Sees}
 use Rattle.vx_run.specs.inner.Extracting.{HasTaken, HasTakenOne}
 use Rattle.vx_run.specs.inner.Advancing.{OfAll, Begin, IsUnfed, AdvancesOf, LendsLatest, Waits, TakesOne, EndsBehind, Came, AreWaiting, AllTake, so_far}
 use Rattle.vx_run.proofs.Indexed.{some_at, same_lists, mapped_at, choose, earlier_stay, latest_at}
@@ -201,8 +202,8 @@ module _ {A : Type 0} (bytes : A → Option (List ℕ)) (faults : A → ℕ) (R 
       step_came go flag goes lends is advanced =
           subst (λ (b : Bool). Came R (At l' k) f' ps b) (sym is) (step_takes lends (subst (λ (g : Bool). Advanced (Ok g)) goes advanced))
 
-      pub step_refused : (r : Refusal) (place : Where) → Advanced (Err (Refused r place))
-          → IsRead (At l' k) × WhereTold R (At l' k) (λ qs e. (qs ≡ ps) × (e ≡ refused_at f'.units r)) × (place ≡ behind_units k f'.units)
+      pub step_refused : (r : Refusal) (place : Place) → Advanced (Err (Refused r place))
+          → IsRead (At l' k) × WhereTold R (At l' k) (λ qs e. (qs ≡ ps) × (e ≡ refused_at f'.units r)) × (place ≡ places.Unit k f'.units)
       step_refused r place advanced =
           let at = went (Err (Refused r place)) advanced in
           let end = takes_refused Left Count R (slice_get first k) (slice_get l k) (slice_get l' k) f f' ps was ended r at.0 in

@@ -41,7 +41,7 @@ use Rattle.vx_run.specs.Change.{Change, change, HasNoFault, HasFault, GivesFront
 use Rattle.vx_run.specs.Show.{IsShown}
 use Rattle.vx_assemble.specs.Feed.{seen_of}
 use Rattle.vx_run.specs.Extract.{StopsBehind, WhereTold, BeginsWithPictures}
-use Rattle.vx_run.specs.inner.Extracting.{stop_by, AdvancesOn, HaveSlices, HasTaken, HasTakenOne}
+use Rattle.vx_run.specs.inner.Extracting.{HaveSlices, HasTaken, HasTakenOne}
 use Rattle.vx_run.proofs.Lined.{all_length, few_pictures, units_more}
 use Rattle.vx_run.proofs.Told.{IsGiven, all_given, first_of_given, units_of_given, refused_at, ends_by_framing, ends_by_length, ends_lacking, ends_by_unit}
 use Rattle.vx_run.proofs.Showing.{is_end, has_ended, is_long, is_given}
@@ -135,13 +135,6 @@ pub reads_at : (R : Readers) (g : List ℕ) (units : List UnitPlace) (readings :
     → ReadsOn R g units readings f l l' n n' result → l ≡ m → n ≡ k → ReadsOn R g units readings f m l' k n' result
 reads_at R g units readings f l' n' result {l = l} {k = k} h p q =
     subst (λ (x : Option (List ℕ)). ReadsOn R g units readings f x l' k n' result) p (subst (λ (y : ℕ). ReadsOn R g units readings f l l' y n' result) q h)
-
-pub advanced_by : (R : Readers) (g : List ℕ) (units : List UnitPlace) (readings : List Reading) (f : Feeding) {l l' : Option (List ℕ)} {n n' : ℕ} (fault : FeedFault)
-    → Advances R g units readings f l l' n n' (Err fault) → AdvancesOn R g units readings f l l' n n' (Err (stop_by fault f.units))
-advanced_by R g units readings f (faults.Refused r) by = (by, refl)
-advanced_by R g units readings f faults.SourceFailed by = (by, refl)
-advanced_by R g units readings f faults.Memory by = by
-advanced_by R g units readings f (faults.Stopped first) by = absurd by.behind
 
 -- ---- from picture to picture
 

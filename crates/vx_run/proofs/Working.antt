@@ -10,11 +10,12 @@ use Rattle.vx_pic.specs.Readings.{Picture}
 use Rattle.vx_pic.specs.Rules.{Readers}
 use Rattle.vx_pic.specs.Parts.{Parts}
 use Rattle.vx_pic.specs.Written.{Plan, units_of}
-use Rattle.vx_report.specs.declared.refusal.Where.{Where}
+use Rattle.vx_run.specs.declared.stop.Place.{Place}
 use Rattle.vx_assemble.specs.Held.{lent_by}
 use Rattle.vx_assemble.specs.Feed.{Feeding}
 use Rattle.vx_write.specs.declared.fault.WriteError.{WriteError}
 use Rattle.vx_write.specs.declared.fault.WriteError.TheVariants as errors
+use Rattle.vx_write.specs.declared.fault.WriteFirst.{WriteFirst}
 use Rattle.vx_merge.specs.declared.corner.Corner.{Corner}
 use Rattle.vx_merge.specs.Merging.{Merging, SameTask, Stands, Passes, IsBarred}
 use Rattle.vx_run.specs.declared.merge.Work.{Work}
@@ -27,7 +28,9 @@ use Rattle.vx_run.specs.Extract.{ok_text}
 use Rattle.vx_run.specs.Rounds.{Stream, AllEnded, StopsIn, by_round, AreTold, OfEachSource, IsReadInRound, at_source, at_round}
 use Rattle.vx_run.specs.Merge.{AreRoundsWritten, bytes_of, length_refused, merge_telling, EndsWritten, GainsInto, ChecksMergeBy}
 use Rattle.vx_run.specs.inner.Advancing.{OfAll, Begin, AreWaiting, AllTake, AllEnd, so_far, EndsFirst, HaltsAtSource, HaltsByLength}
-use Rattle.vx_run.specs.inner.Merging.{stop_in, Leaves, Keeps, TakesRounds, DoesRound, TakesRound, HasWritten, HasDone}
+use Rattle.vx_run.specs.inner.Stopping.{stop_of_write}
+use Rattle.vx_run.proofs.Corners.{comes_of}
+use Rattle.vx_run.specs.inner.Merging.{Leaves, Keeps, TakesRounds, DoesRound, TakesRound, HasWritten, HasDone}
 use Rattle.vx_run.proofs.Extracting.{written_more}
 use Rattle.vx_run.proofs.Gained.{Gains-nothing, Gains-then}
 use Rattle.vx_run.proofs.Merging.{more_written, written_told}
@@ -64,13 +67,13 @@ module _ (m : Merging) (corners : List Corner) (level : Option ℕ) (same : m.co
   barred_so r barred = subst (λ (l : List Corner). IsBarred l level round done r) same (subst (λ (n : Option ℕ). IsBarred m.corners n round done r) alike barred)
 
 -- where a round isn't checked or written
+not_stopped : {K : Type 0} (work : Work) (round : List Parts) (done : List Plan) (m : Merging) (out : Change K) (f : WriteFirst) → DoesRound work round done m out (Err (errors.Stopped f)) → ⊥
+not_stopped Check round done m out f by = by.1
+not_stopped Write round done m out f by = by
+
 pub did_in : {K : Type 0} (work : Work) (round : List Parts) (done : List Plan) (m : Merging) (out : Change K) (n : ℕ) (error : WriteError) → DoesRound work round done m out (Err error)
-    → TakesRound work round done m out n (Err (stop_in error n))
-did_in work round done m out n (errors.Refused r) by = (by, refl)
-did_in work round done m out n errors.SinkFailed by = by
-did_in work round done m out n errors.Memory by = by
-did_in Check round done m out n (errors.Stopped f) by = absurd by.1
-did_in Write round done m out n (errors.Stopped f) by = absurd by
+    → TakesRound work round done m out n (Err (stop_of_write error n))
+did_in work round done m out n error by = comes_of (DoesRound work round done m out) (not_stopped work round done m out) n error by
 
 -- what is told behind rounds that are as many as plans
 told_behind : (corners : List Corner) (level : Option ℕ) (ss : List Stream) (done : List Plan) (n : ℕ) (stop : Stop) → length done ≡ n → AreRoundsWritten corners level ss done → StopsIn (merge_telling corners level done) ss n stop → EndsWritten corners level ss done (Err stop)
@@ -241,7 +244,7 @@ module _ {A K : Type 0} (bytes : A → Option (List ℕ)) (faults : A → ℕ) (
           at_round takes.1 (λ k within. inl (take_for bytes faults R first l feeds taken n all k within)),
           keeps work (Out o'') w.done did.0,
           λ ss are.
-              let stops = by_round round (round_told bytes faults R first l feeds taken n all has ss are) (r, barred, ap (λ (p : Where). Refused r p) takes.1) in
+              let stops = by_round round (round_told bytes faults R first l feeds taken n all has ss are) (r, barred, ap (λ (p : Place). Refused r p) takes.1) in
               (w.done, w.count, told_behind corners level ss w.done n (Refused r place) w.count (told ss are) stops, did.0),
         )
     work_stopped WriteFault turns =

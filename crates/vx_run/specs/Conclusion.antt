@@ -1,9 +1,12 @@
 -- What came of a command, and how it ends the program: the status, and the line that tells why. Our own.
-use Rattle.std.specs.Prelude.{◌≡◌, ◌<◌, ◌≤◌, ℕ, List, [], ◌∷◌, ◌⊎◌, Result, Ok, Err, codes, decimal}
+use Rattle.std.specs.Prelude.{◌≡◌, ◌<◌, ◌≤◌, ℕ, true, false, List, [], ◌∷◌, ◌⊎◌, Result, Ok, Err, codes, decimal}
 use Rattle.std.specs.List.{concat}
+use Rattle.vx_report.specs.declared.refusal.Where.{Where}
 use Rattle.vx_report.specs.RefusalLine.{refusal_text}
 use Rattle.vx_verify.specs.Line.{mismatch_text}
 use Rattle.vx_run.specs.Change.{Change, HasFault, HasNoFault, IsUntouched, Tells}
+use Rattle.vx_run.specs.declared.stop.Place.{Place}
+use Rattle.vx_run.specs.declared.stop.Place.TheVariants as places
 use Rattle.vx_run.specs.declared.stop.Stop.{Stop}
 use Rattle.vx_run.specs.declared.stop.Stop.TheVariants.{NotUnderstood, Refused, Mismatched, ReadFault, WriteFault, NoMemory}
 
@@ -20,10 +23,16 @@ status_of (ReadFault source) = 3
 status_of WriteFault = 3
 status_of NoMemory = 4
 
+-- a place as the line of a refusal takes it: a limit at a picture is one on what was to be written
+abbrev pub where_told : Place → Where
+where_told (places.Unit k n) = record { source = k; unit = n; picture = 0; written = false }
+where_told (places.Picture n) = record { source = 0; unit = 0; picture = n; written = true }
+where_told places.Words = record { source = 0; unit = 0; picture = 0; written = false }
+
 -- the line, with its line feed
 abbrev pub line_of : Stop → List ℕ
 line_of NotUnderstood = codes "words not understood\n"
-line_of (Refused refusal place) = refusal_text refusal place
+line_of (Refused refusal place) = refusal_text refusal (where_told place)
 line_of (Mismatched mismatch picture) = mismatch_text mismatch picture
 line_of (ReadFault source) = concat (codes "read fault source " ∷ decimal source ∷ codes "\n" ∷ [])
 line_of WriteFault = codes "write fault\n"

@@ -1,6 +1,6 @@
 -- What `extract` and `check extract` find in the pictures of a source, and what they write. Lists of pictures have the latest first.
 -- Our own.
-use Rattle.std.specs.Prelude.{◌≡◌, ◌↔◌, ℕ, ◌<◌, Bool, true, false, List, [], ◌∷◌, ◌++◌, length, map, codes, decimal}
+use Rattle.std.specs.Prelude.{◌≡◌, ℕ, ◌<◌, Bool, true, List, [], ◌∷◌, ◌++◌, length, map, codes, decimal}
 use Rattle.std.specs.Prelude.{Option, Some, None, unwrap_or, Ok, Err, IfErr}
 use Rattle.std.specs.List.{AllByRecursion, concat}
 use Rattle.std.specs.Io.{StartsWith}
@@ -19,7 +19,8 @@ use Rattle.vx_pic.specs.H266.{AreOfH266}
 use Rattle.vx_pic.specs.Parts.{parts_of}
 use Rattle.vx_pic.specs.Written.{Plan, units_of}
 use Rattle.vx_pic.specs.Resident.{units_written}
-use Rattle.vx_report.specs.declared.refusal.Where.{Where}
+use Rattle.vx_run.specs.declared.stop.Place.{Place}
+use Rattle.vx_run.specs.declared.stop.Place.TheVariants as places
 use Rattle.vx_assemble.specs.Feed.{seen_of, IsNearEnd}
 use Rattle.vx_extract.specs.Rules.{is_kept, refusal_of}
 use Rattle.vx_extract.specs.Written.{AreExtracted, IsExtracted, IsExtraction}
@@ -54,10 +55,6 @@ pub record IsExtractable (t : Task) (ps : List Picture) (ending : Option Ending)
   pub some : 0 < length ps
   pub rules : BreakNoRule t ps
 
--- the n-th picture of the first source, from 0
-abbrev pub at_picture : ℕ → Where
-at_picture n = record { source = 0; unit = 0; picture = n; written = false }
-
 -- The last unit that was taken of a source completed this picture, behind these. The source has given fewer bytes past the place where
 -- the end of that unit is seen than a read asks for.
 pub record StopsBehind {A : Type 0} (R : Readers) (source : Change A) (picture : Picture) (before : List Picture) : Type 0 where
@@ -77,11 +74,11 @@ pub record StopsBehind {A : Type 0} (R : Readers) (source : Change A) (picture :
 -- What is refused behind these pictures, and at which place: what ends the stream; a picture that breaks a rule, the last that was taken;
 -- or that there is none.
 pub data RefusesExtraction {A : Type 0} (R : Readers) (t : Task) (source : Change A) (ps : List Picture) (ending : Option Ending)
-    (before : List Picture) (r : Refusal) (place : Where) : Type 0 where
+    (before : List Picture) (r : Refusal) (place : Place) : Type 0 where
   by_ending : before ≡ ps → BreakNoRule t ps → IsToldAt ending r place → RefusesExtraction R t source ps ending before r place
-  by_picture : (broken : BreaksBehind t ps before r) → StopsBehind R source broken.picture before → place ≡ at_picture (length before)
+  by_picture : (broken : BreaksBehind t ps before r) → StopsBehind R source broken.picture before → place ≡ places.Picture (length before)
       → RefusesExtraction R t source ps ending before r place
-  without : before ≡ ps → ps ≡ [] → ending ≡ None → IsAtEnd (source.bytes source.new) → r ≡ Extract NO_PICTURE → place ≡ at_picture 0
+  without : before ≡ ps → ps ≡ [] → ending ≡ None → IsAtEnd (source.bytes source.new) → r ≡ Extract NO_PICTURE → place ≡ places.Picture 0
       → RefusesExtraction R t source ps ending before r place
 
 -- of the bytes that a source tells, their pictures and their ending
@@ -100,11 +97,6 @@ pub record HasSeen {A : Type 0} (R : Readers) (t : Task) (source : Change A) (ps
   pub gave : Consumes (source.bytes source.old) (source.bytes source.new) given
   pub seen : AreSeenPictures R (seen_of given) ps
   pub rules : BreakNoRule t ps
-
--- 0 exactly where the subpicture can be extracted, and else 1
-pub record IsStatus (t : Task) (ps : List Picture) (ending : Option Ending) (status : ℕ) : Type 0 where
-  pub done : (status ≡ 0) ↔ IsExtractable t ps ending
-  pub refused : (status ≡ 1) ↔ ¬ IsExtractable t ps ending
 
 -- ---- `extract`
 

@@ -16,3 +16,4 @@ pub mod Trial
 pub mod Verify
 pub mod Whole
 pub mod inner
+pub mod laws

@@ -1,5 +1,5 @@
 -- What `merge` and `check merge` find in the rounds of several sources, and what they write. Our own.
-use Rattle.std.specs.Prelude.{◌≡◌, ◌↔◌, ℕ, ◌+◌, ◌<◌, List, [], ◌∷◌, ◌++◌, length, map, Option, None, Ok, Err}
+use Rattle.std.specs.Prelude.{◌≡◌, ℕ, ◌+◌, ◌<◌, List, [], ◌∷◌, ◌++◌, length, map, Option, None, Ok, Err}
 use Rattle.std.specs.List.{AllByRecursion}
 use Rattle.std.specs.Io.{StartsWith}
 use Rattle.std.specs.Io.KnownBytes.{Appends}
@@ -15,6 +15,7 @@ use Rattle.vx_pic.specs.Resident.{units_written}
 use Rattle.vx_pic.specs.Written.{Plan, units_of}
 use Rattle.vx_merge.specs.declared.corner.Corner.{Corner}
 use Rattle.vx_merge.specs.Merging.{AreCorners, Passes, IsBarred}
+use Rattle.vx_run.specs.declared.stop.Place.TheVariants as places
 use Rattle.vx_run.specs.declared.stop.Stop.{Stop}
 use Rattle.vx_run.specs.declared.stop.Stop.TheVariants.{Refused, ReadFault, WriteFault, NoMemory}
 use Rattle.vx_run.specs.Change.{Change, Sources, source_at, IsUntouched, HasNoFault, HasFault, Gains, GainsFront}
@@ -22,7 +23,7 @@ use Rattle.vx_run.specs.Conclusion.{Outcome}
 use Rattle.vx_run.specs.Extract.{ok_text}
 use Rattle.vx_run.specs.Grammar.{Placing}
 use Rattle.vx_run.specs.MergeAgain.{IsMergedAgain, IsToldBy, first_pictures}
-use Rattle.vx_run.specs.Rounds.{Stream, IsRound, NoneRefused, Telling, EndsIn, in_round, stream_refused, WhereAllTold, OfEachSource, OfAtMost}
+use Rattle.vx_run.specs.Rounds.{Stream, IsRound, NoneRefused, Telling, EndsIn, stream_refused, WhereAllTold, OfEachSource, OfAtMost}
 use Rattle.vx_run.specs.Rounds.{IsRead, IsReadOut, IsReadFor, OthersAreRead, AreReadTo, Sees}
 
 -- the corners of the regions that words place files in
@@ -55,7 +56,7 @@ WrittenIsReadAgain =
 
 -- that source k has ended behind n rounds, and another one hasn't
 abbrev pub length_refused : ℕ → ℕ → Stop
-length_refused n k = Refused (Merge LENGTH k 0) (in_round n)
+length_refused n k = Refused (Merge LENGTH k 0) (places.Picture n)
 
 -- What is told behind rounds that are written as these plans: what ends a stream; that it has ended; and of a round what bars it, by the
 -- rules and the limits of what is written.
@@ -63,7 +64,7 @@ abbrev pub merge_telling : List Corner → Option ℕ → List Plan → Telling
 merge_telling corners level done = record {
   of_stream = stream_refused;
   of_length = length_refused;
-  of_round = λ n round stop. (r : Refusal) × IsBarred corners level round done r × (stop ≡ Refused r (in_round n));
+  of_round = λ n round stop. (r : Refusal) × IsBarred corners level round done r × (stop ≡ Refused r (places.Picture n));
 }
 
 -- It ends so behind those rounds.
@@ -74,15 +75,6 @@ EndsWritten corners level ss done end = AreRoundsWritten corners level ss done �
 abbrev pub EndsOnce : Type 0
 EndsOnce = (corners : List Corner) (level : Option ℕ) (ss : List Stream) (done other : List Plan) (a b : Outcome)
     → 0 < length ss → EndsWritten corners level ss done a → EndsWritten corners level ss other b → (done ≡ other) × (a ≡ b)
-
--- all rounds can be written
-abbrev pub IsWritable : List Corner → Option ℕ → List Stream → Type 0
-IsWritable corners level ss = (done : List Plan) × EndsWritten corners level ss done (Ok tt)
-
--- 0 exactly where they can, and else 1
-pub record IsMergeStatus (corners : List Corner) (level : Option ℕ) (ss : List Stream) (status : ℕ) : Type 0 where
-  pub done : (status ≡ 0) ↔ IsWritable corners level ss
-  pub refused : (status ≡ 1) ↔ ¬ IsWritable corners level ss
 
 -- ---- `check merge`
 

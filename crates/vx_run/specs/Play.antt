@@ -1,6 +1,6 @@
 -- What `play` finds in the rounds of regions, and what it writes. The pictures of a region are those of its files, one file behind another.
 -- Our own.
-use Rattle.std.specs.Prelude.{◌≡◌, ◌↔◌, ◌⊎◌, ℕ, ◌+◌, ◌<◌, ◌≤◌, ◌==◌, ◌&&◌, nat_lt, Bool, cond, List, [], ◌∷◌, ◌++◌, length, map}
+use Rattle.std.specs.Prelude.{◌≡◌, ◌⊎◌, ℕ, ◌+◌, ◌<◌, ◌≤◌, ◌==◌, ◌&&◌, nat_lt, Bool, cond, List, [], ◌∷◌, ◌++◌, length, map}
 use Rattle.std.specs.Prelude.{get_or, Option, None, is_none, option_map, unwrap_or, Ok, Err, IfErr}
 use Rattle.std.specs.Option.{option_or}
 use Rattle.std.specs.List.{AllByRecursion, list_any, position_or_len, range_with_len}
@@ -15,7 +15,8 @@ use Rattle.vx_pic.specs.H266.{AreOfH266}
 use Rattle.vx_pic.specs.Joined.{begins_file, one_behind_another, played}
 use Rattle.vx_pic.specs.Parts.{Parts}
 use Rattle.vx_pic.specs.Written.{Plan, units_of}
-use Rattle.vx_report.specs.declared.refusal.Where.{Where}
+use Rattle.vx_run.specs.declared.stop.Place.{Place}
+use Rattle.vx_run.specs.declared.stop.Place.TheVariants as places
 use Rattle.vx_merge.specs.declared.corner.Corner.{Corner}
 use Rattle.vx_merge.specs.Joins.{after_end_of_sequence, JudgesJoin, IsBarredWhere}
 use Rattle.vx_merge.specs.Merging.{AreCorners, Passes}
@@ -27,7 +28,7 @@ use Rattle.vx_run.specs.Extract.{WhereTold}
 use Rattle.vx_run.specs.Grammar.{Placing}
 use Rattle.vx_run.specs.Merge.{bytes_of, corners_of, length_refused, GainsInto, GainsMerge}
 use Rattle.vx_run.specs.MergeAgain.{IsMergedAgain, IsToldBy, first_pictures}
-use Rattle.vx_run.specs.Rounds.{Stream, IsRound, NoneRefused, Telling, EndsIn, behind_units, in_round, WhereAllTold, OfEachSource}
+use Rattle.vx_run.specs.Rounds.{Stream, IsRound, NoneRefused, Telling, EndsIn, WhereAllTold, OfEachSource}
 use Rattle.vx_run.specs.Rounds.{IsRead, IsReadOut, IsReadFor, Sees, most_sources, too_many}
 
 -- ---- regions
@@ -112,9 +113,9 @@ ArePlayed corners level joins ss (p ∷ done) =
 -- What is told behind them: what ends a file; that a region has ended; and of a round what bars it.
 abbrev pub play_telling : List Corner → Option ℕ → (ℕ → Bool) → (ℕ → ℕ) → List Plan → Telling
 play_telling corners level joins refused done = record {
-  of_stream = λ k e. Refused e.refusal (behind_units (refused k) e.units);
+  of_stream = λ k e. Refused e.refusal (places.Unit (refused k) e.units);
   of_length = length_refused;
-  of_round = λ n round stop. (r : Refusal) × IsBarredWhere (joins n) corners level (marked (joins n) round) done r × (stop ≡ Refused r (in_round n));
+  of_round = λ n round stop. (r : Refusal) × IsBarredWhere (joins n) corners level (marked (joins n) round) done r × (stop ≡ Refused r (places.Picture n));
 }
 
 -- The rounds of the regions of these files are played so,
@@ -133,15 +134,6 @@ EndsPlayed corners level regions files done end =
 abbrev pub PlayEndsOnce : Type 0
 PlayEndsOnce = (corners : List Corner) (level : Option ℕ) (regions : List ℕ) (files : List Stream) (done other : List Plan) (a b : Outcome)
     → 0 < length corners → EndsPlayed corners level regions files done a → EndsPlayed corners level regions files other b → (done ≡ other) × (a ≡ b)
-
--- all rounds can be written
-abbrev pub IsPlayable : List Corner → Option ℕ → List ℕ → List Stream → Type 0
-IsPlayable corners level regions files = (done : List Plan) × EndsPlayed corners level regions files done (Ok tt)
-
--- 0 exactly where they can, and else 1
-pub record IsPlayStatus (corners : List Corner) (level : Option ℕ) (regions : List ℕ) (files : List Stream) (status : ℕ) : Type 0 where
-  pub done : (status ≡ 0) ↔ IsPlayable corners level regions files
-  pub refused : (status ≡ 1) ↔ ¬ IsPlayable corners level regions files
 
 -- ---- rounds that are read again
 
@@ -220,10 +212,10 @@ pub record ComesAt {A : Type 0} (R : Readers) (sources : Sources A) (count : ℕ
   pub others : OthersArePlayed R sources count regions n k
 
 -- How far files were read where this place is refused in round n: it is one of a file; or it is the round, and all were read for that.
-pub data ArePlayedTo {A : Type 0} (R : Readers) (sources : Sources A) (count : ℕ) (regions : List ℕ) (n : ℕ) (place : Where) : Type 0 where
-  at_file : (k j m units : ℕ) → ComesAt R sources count regions n k j m → IsRead (source_at sources j) → place ≡ behind_units j units
+pub data ArePlayedTo {A : Type 0} (R : Readers) (sources : Sources A) (count : ℕ) (regions : List ℕ) (n : ℕ) (place : Place) : Type 0 where
+  at_file : (k j m units : ℕ) → ComesAt R sources count regions n k j m → IsRead (source_at sources j) → place ≡ places.Unit j units
       → ArePlayedTo R sources count regions n place
-  at_played_round : place ≡ in_round n → ((k : ℕ) → k < count → ArePlayedInRound R sources n (files_of_region regions k)) → ArePlayedTo R sources count regions n place
+  at_played_round : place ≡ places.Picture n → ((k : ℕ) → k < count → ArePlayedInRound R sources n (files_of_region regions k)) → ArePlayedTo R sources count regions n place
 
 -- ---- what it did
 
@@ -264,7 +256,7 @@ abbrev pub most_files : ℕ
 most_files = 256
 
 abbrev pub too_many_files : Outcome
-too_many_files = Err (Refused (Limit TOO_MANY_FILES) (in_round 0))
+too_many_files = Err (Refused (Limit TOO_MANY_FILES) places.Words)
 
 -- it isn't done, for this or for want of memory, and nothing is read or written
 abbrev pub IsLeft : {A K : Type 0} → Sources A → Change K → Outcome → Outcome → Type 0

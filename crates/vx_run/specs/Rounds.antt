@@ -1,7 +1,7 @@
 -- What commands over several sources find in their pictures, round by round. A round is one picture of each source. In a round the sources
 -- are gone on with in order; where none is refused and none has ended, the pictures of the round are judged. Our own.
 use Rattle.std.specs.Prelude.{◌≡◌, ◌⊎◌, ℕ, ◌+◌, ◌<◌, ◌≤◌, List, length, map, reverse, slice_get}
-use Rattle.std.specs.Prelude.{true, false, Option, Some, None, option_map, Ok, Err, IfErr}
+use Rattle.std.specs.Prelude.{Option, Some, None, option_map, Ok, Err, IfErr}
 use Rattle.std.specs.Io.KnownBytes.{Consumes, IsAtEnd}
 use Rattle.vx_bits.specs.declared.refusal.Refusal.TheVariants.{Limit}
 use Rattle.vx_bits.specs.declared.rules.TheConstants.{TOO_MANY_SOURCES}
@@ -10,7 +10,8 @@ use Rattle.vx_pic.specs.Rules.{Readers}
 use Rattle.vx_pic.specs.Bytes.{Ending, AreSourcePictures, AreSeenPictures}
 use Rattle.vx_pic.specs.H266.{AreOfH266}
 use Rattle.vx_pic.specs.Parts.{Parts, parts_of}
-use Rattle.vx_report.specs.declared.refusal.Where.{Where}
+use Rattle.vx_run.specs.declared.stop.Place.{Place}
+use Rattle.vx_run.specs.declared.stop.Place.TheVariants as places
 use Rattle.vx_assemble.specs.Feed.{seen_of}
 use Rattle.vx_fit.specs.Lowest.{IsLowest}
 use Rattle.vx_run.specs.declared.stop.Stop.{Stop}
@@ -59,16 +60,9 @@ NoneRefused k ss n = OfFirst k ss (λ s. GoesOn n s ⊎ HasEnded n s)
 
 -- ---- how a command ends
 
--- behind the units of a source, and in a round
-abbrev pub behind_units : ℕ → ℕ → Where
-behind_units k n = record { source = k; unit = n; picture = 0; written = false }
-
-abbrev pub in_round : ℕ → Where
-in_round n = record { source = 0; unit = 0; picture = n; written = true }
-
 -- what is told of stream k where this ends it
 abbrev pub stream_refused : ℕ → Ending → Stop
-stream_refused k e = Refused e.refusal (behind_units k e.units)
+stream_refused k e = Refused e.refusal (places.Unit k e.units)
 
 -- What a command tells where it stops in round n: of stream k, for what ends that; of stream k, where it has ended and another one hasn't;
 -- and of a round.
@@ -137,18 +131,18 @@ OthersAreRead R n k sources =
     (j : ℕ) → j < length sources.old → (j < k → IsReadInRound R n (source_at sources j)) × (k < j → IsReadFor R n (source_at sources j))
 
 -- How far they were read where this place of source k is refused in round n,
-pub record AreReadToSource {A : Type 0} (R : Readers) (n : ℕ) (place : Where) (sources : Sources A) : Type 0 where
+pub record AreReadToSource {A : Type 0} (R : Readers) (n : ℕ) (place : Place) (sources : Sources A) : Type 0 where
   pub k : ℕ
   pub units : ℕ
-  pub is : place ≡ behind_units k units
+  pub is : place ≡ places.Unit k units
   pub within : k < length sources.old
   pub read : IsRead (source_at sources k)
   pub others : OthersAreRead R n k sources
 
 -- and where this place is: it is one of a source; or it is the round, and all were read for that.
-pub data AreReadTo {A : Type 0} (R : Readers) (n : ℕ) (place : Where) (sources : Sources A) : Type 0 where
+pub data AreReadTo {A : Type 0} (R : Readers) (n : ℕ) (place : Place) (sources : Sources A) : Type 0 where
   at_source : AreReadToSource R n place sources → AreReadTo R n place sources
-  at_round : place ≡ in_round n → OfEachSource sources (IsReadInRound R n) → AreReadTo R n place sources
+  at_round : place ≡ places.Picture n → OfEachSource sources (IsReadInRound R n) → AreReadTo R n place sources
 
 -- n pictures are seen in what it has given, however that goes on
 pub record Sees {A : Type 0} (R : Readers) (c : Change A) (n : ℕ) : Type 0 where
@@ -165,7 +159,7 @@ abbrev pub most_sources : ℕ
 most_sources = 64
 
 abbrev pub too_many : Outcome
-too_many = Err (Refused (Limit TOO_MANY_SOURCES) (in_round 0))
+too_many = Err (Refused (Limit TOO_MANY_SOURCES) places.Words)
 
 -- Nothing is then read or written. Else it is so by the readers of H.266; and the words were understood.
 pub record OfAtMost {A K : Type 0} (count : ℕ) (sources : Sources A) (out : Change K) (outcome : Outcome) (by : Readers → Type 0) : Type 0 where

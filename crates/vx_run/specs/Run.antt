@@ -1,13 +1,12 @@
--- What `run` does to its sources and to `out`, by the command that its words ask for. Our own.
-use Rattle.std.specs.Prelude.{◌≡◌, ℕ, List, Option, Some, None, IsSomeAnd, Err}
+-- What `run` does to its sources and to its sinks, by the command that its words ask for. Our own.
+use Rattle.std.specs.Prelude.{◌≡◌, ℕ, List, None, IsSomeAnd, Err}
 use Rattle.vx_explain.specs.Explained.{explanation}
 use Rattle.vx_run.specs.declared.stop.Stop.TheVariants.{NotUnderstood}
 use Rattle.vx_run.specs.About.{help_text, version_text, Writes}
 use Rattle.vx_run.specs.Change.{Change, Sources, source_at, IsUntouched, AreUntouched}
-use Rattle.vx_run.specs.Conclusion.{Outcome}
-use Rattle.vx_run.specs.declared.extract.Task.{Task}
+use Rattle.vx_run.specs.Conclusion.{Outcome, ExitsWith}
 use Rattle.vx_run.specs.Extract.{task_of, Extracts, Checks}
-use Rattle.vx_run.specs.Grammar.{Command, Placing, show, extract, check_extract, merge, play, check_merge, verify, trial, help, version, explain, AskFor, IsUnderstood}
+use Rattle.vx_run.specs.Grammar.{Command, show, extract, check_extract, merge, play, check_merge, verify, trial, help, version, explain, AskFor, IsUnderstood}
 use Rattle.vx_run.specs.Merge.{corners_of, ChecksMerge, Merges}
 use Rattle.vx_run.specs.Play.{Plays, file_regions, region_corners}
 use Rattle.vx_run.specs.Show.{Shows}
@@ -33,15 +32,6 @@ pub record Performs {A K : Type 0} (words : List (List ℕ)) (sources : Sources 
   pub command : (command : Command) → AskFor words command → Does command sources out outcome
   pub other : ¬ IsUnderstood words → (outcome ≡ Err NotUnderstood) × AreUntouched sources × IsUntouched out
 
--- what is asked of an extraction
-abbrev pub task_in : Command → Option Task
-task_in (extract tid level index file) = Some (task_of tid level index)
-task_in (check_extract tid index file) = Some (task_of tid None index)
-task_in _ = None
-
--- the sources of a merge, and where they are placed
-abbrev pub placings_in : Command → Option (List Placing)
-placings_in (merge level placings) = Some placings
-placings_in (check_merge placings) = Some placings
-placings_in (verify finished placings) = Some placings
-placings_in _ = None
+-- what came of the command: what it did to its sources and to `out`, and the status and the line on `err` that tell it
+abbrev pub Runs : {A K E : Type 0} → List (List ℕ) → Sources A → Change K → ℕ → Change E → Type 0
+Runs words sources out status err = (outcome : Outcome) × Performs words sources out outcome × ExitsWith outcome status err

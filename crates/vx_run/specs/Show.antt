@@ -13,7 +13,8 @@ use Rattle.vx_pic.specs.Streams.{read_on, all_read}
 use Rattle.vx_pic.specs.Bytes.{Ending, units_at, ending_by}
 use Rattle.vx_pic.specs.H266.{AreOfH266}
 use Rattle.vx_sps.specs.Subpictures.{subpics_of}
-use Rattle.vx_report.specs.declared.refusal.Where.{Where}
+use Rattle.vx_run.specs.declared.stop.Place.{Place}
+use Rattle.vx_run.specs.declared.stop.Place.TheVariants as places
 use Rattle.vx_report.specs.declared.picture.PictureNumbers.{PictureNumbers}
 use Rattle.vx_report.specs.declared.set.SetNumbers.TheVariants.{Aps}
 use Rattle.vx_report.specs.UnitLine.{unit_text}
@@ -123,21 +124,12 @@ pub record IsShown (R : Readers) (b : List ℕ) (units : List UnitPlace) (ending
   pub stream : IsStream (seen_of b) (is_within_limit b) units framing
   pub ends : ending ≡ ending_by (is_within_limit b) framing (read_on R [] (units_at (seen_of b) units))
 
--- 0 where nothing is refused, else 1
-abbrev pub status_at : Option Ending → ℕ
-status_at None = 0
-status_at (Some ending) = 1
-
--- the place in the first source behind its n-th unit
-abbrev pub behind_unit : ℕ → Where
-behind_unit n = record { source = 0; unit = n; picture = 0; written = false }
-
 -- a refusal is told at its place
-pub record IsToldAt (ending : Option Ending) (r : Refusal) (where_told : Where) : Type 0 where
+pub record IsToldAt (ending : Option Ending) (r : Refusal) (place_told : Place) : Type 0 where
   pub first : Ending
   pub is : ending ≡ Some first
   pub refusal : r ≡ first.refusal
-  pub place : where_told ≡ behind_unit first.units
+  pub place : place_told ≡ places.Unit 0 first.units
 
 -- of the bytes that a source tells, their units and their ending
 abbrev pub WhereKnown : {A : Type 0} → Readers → Change A → (List ℕ → List UnitPlace → Option Ending → Type 0) → Type 0

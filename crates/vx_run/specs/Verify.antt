@@ -1,6 +1,6 @@
 -- What `verify merge` finds in the rounds of a finished stream and its sources. File 0 is the finished stream, and file k + 1 is source k.
 -- Our own.
-use Rattle.std.specs.Prelude.{◌≡◌, ◌↔◌, ℕ, ◌<◌, List, [], ◌∷◌, length, map, Ok, Err, codes, decimal}
+use Rattle.std.specs.Prelude.{◌≡◌, ℕ, ◌<◌, List, [], ◌∷◌, length, map, Ok, Err, codes, decimal}
 use Rattle.std.specs.List.{concat}
 use Rattle.vx_pic.specs.Rules.{Readers}
 use Rattle.vx_pic.specs.Parts.{Parts}
@@ -52,16 +52,6 @@ EndsVerified spots ss n end = AreVerified spots ss n × EndsIn (verify_telling s
 abbrev pub VerifyEndsOnce : Type 0
 VerifyEndsOnce = (spots : List Spot) (ss : List Stream) (n m : ℕ) (a b : Outcome) → 0 < length ss
     → EndsVerified spots ss n a → EndsVerified spots ss m b → (n ≡ m) × (a ≡ b)
-
--- All streams end well with equally many pictures; in each round the finished picture has a subpicture for each source, at its place and with
--- the decoding inputs of the source's picture, which has one subpicture; and it has no other.
-abbrev pub IsVerifiedMerge : List Spot → List Stream → Type 0
-IsVerifiedMerge spots ss = (n : ℕ) × EndsVerified spots ss n (Ok tt)
-
--- 0 exactly where that is so, and else 1
-pub record IsVerifyStatus (spots : List Spot) (ss : List Stream) (status : ℕ) : Type 0 where
-  pub done : (status ≡ 0) ↔ IsVerifiedMerge spots ss
-  pub refused : (status ≡ 1) ↔ ¬ IsVerifiedMerge spots ss
 
 -- `yes pictures 2`
 abbrev pub yes_text : ℕ → List ℕ

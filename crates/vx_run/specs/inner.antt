@@ -5,6 +5,7 @@ pub mod Merging
 pub mod Placings
 pub mod Playing
 pub mod Showing
+pub mod Stopping
 pub mod Verifying
 pub mod Words
 pub mod Asked

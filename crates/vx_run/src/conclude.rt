@@ -26,7 +26,7 @@ pub(crate) fn conclude<E: Sink>(alloc: Global, stop: Stop, err: &mut E) -> u8
             tell(err, b"words not understood\n");
             2
         }
-        Stop::Refused { refusal, place } => end(err, refusal_line(alloc, refusal, place), 1),
+        Stop::Refused { refusal, place } => end(err, refusal_line(alloc, refusal, place.told()), 1),
         Stop::Mismatched { mismatch, picture } => {
             end(err, mismatch_line(alloc, mismatch, picture), 1)
         }

@@ -2,36 +2,33 @@
 
 ghost use Rattle.std.specs.Prelude.{◌≡◌, ◌+◌, ◌<◌, ◌≤◌, [], ◌∷◌, ◌^◌, List, ℕ, true, cond, Ok, None, IfOk, IfErr, OnOk};
 ghost use Rattle.vx_annexb.specs.ByteStream.{UnitPlace};
-ghost use Rattle.vx_annexb.specs.Reading.{LastWasNeeded};
 ghost use Rattle.vx_pic.specs.Readings.{Reading, Picture as StreamPicture, pictures as pictures_in};
 ghost use Rattle.vx_pic.specs.Rules.{Readers};
 ghost use Rattle.vx_pic.specs.H266.{AreOfH266};
 ghost use Rattle.vx_pic.specs.Written.{Plan};
 ghost use Rattle.vx_assemble.specs.Held.{HasPicture, ShowsLatest, lent_by};
-ghost use Rattle.vx_assemble.specs.Feed.{HasFed, EndsAtEnd, Advances};
-ghost use Rattle.vx_assemble.specs.declared.feed.Step.TheVariants as steps;
+ghost use Rattle.vx_assemble.specs.Feed.{HasFed};
 ghost use Rattle.vx_extract.specs.Extracting.{Stands, SameTask};
 ghost use Rattle.vx_run.specs.Change.{change};
 ghost use Rattle.vx_run.specs.Conclusion.{IsOfCommand};
-ghost use Rattle.vx_run.specs.Extract.{ExtractsBy, ChecksBy, at_picture as place_at, ok_text};
+ghost use Rattle.vx_run.specs.Extract.{ExtractsBy, ChecksBy, ok_text};
 ghost use Rattle.vx_bits.specs.declared.refusal.Refusal.TheVariants.{Extract};
 ghost use Rattle.vx_run.specs.ReadAgain.{IsReadAgain};
-ghost use Rattle.vx_run.specs.inner.Extracting.{AdvancesOn, ExtractsOne, ExtractsNext, ChecksOne, ChecksLatest, ChecksNext, CountsBy, HasChecked, HasExtracted, HaveSlices, IsTask, TakenIsReadAgain, stop_by, stop_at};
+ghost use Rattle.vx_run.specs.inner.Extracting.{ExtractsOne, ExtractsNext, ChecksOne, ChecksLatest, ChecksNext, CountsBy, HasChecked, HasExtracted, HaveSlices, IsTask, TakenIsReadAgain};
 ghost use Rattle.vx_run.specs.declared.extract.Task.{Task};
+ghost use Rattle.vx_run.specs.declared.stop.Place.TheVariants as places;
 ghost use Rattle.vx_run.specs.declared.stop.Stop.TheVariants as stops;
 
-use crate::rounds::{one_more, step};
-use crate::show::behind_unit;
-use crate::stop::Stop;
+use crate::rounds::{advance, one_more};
+use crate::stop::{Place, Stop};
 use std::alloc::{AllocError, Global};
 use vx_annexb::units_can_stand;
-use vx_assemble::{Feed, FeedFault, Step};
+use vx_assemble::Feed;
 use vx_bits::Refusal;
 use vx_bits::rules::NO_PICTURE;
-use vx_extract::{Extractor, WriteError, extraction_reads_again};
+use vx_extract::{Extractor, extraction_reads_again};
 use vx_io::{Sink, Source, write_all};
 use vx_pic::{Picture, subpictures_have_slices};
-use vx_report::Where;
 
 /// What is asked of an extraction.
 #[derive(Clone, Copy, Debug, PartialEq, Eq)]
@@ -98,7 +95,7 @@ fn extract_next<K: Sink>(
     ensures stop { IfErr result IsOfCommand }
 {
     pictures_have_slices();
-    if !advance(feed, source)? {
+    if !advance(feed, source, 0)? {
         return Ok(false);
     }
     extract_picture(feed, extractor, pictures, out)?;
@@ -156,7 +153,7 @@ fn check_next(
     ensures few { OnOk result (feed.new.units ≤ 2 ^ 40) }
     ensures stop { IfErr result IsOfCommand }
 {
-    if !advance(feed, source)? {
+    if !advance(feed, source, 0)? {
         return Ok(None);
     }
     let kept = check_latest(tid, feed, extractor, pictures)?;
@@ -182,37 +179,6 @@ fn check_latest(
     Ok(picture.kind().temporal_id <= tid)
 }
 
-/// Comes to the next picture of the first source, if there is one.
-fn advance(feed: &mut Feed, source: &mut Box<dyn Source>) -> Result<bool, Stop>
-    ensures answer { (R : Readers) → AreOfH266 R → (g : List ℕ) (units : List UnitPlace) (readings : List Reading)
-        → HasFed R feed.old g units readings → LastWasNeeded g units
-        → AdvancesOn R g units readings feed.new (bytes_left source.old) (bytes_left source.new) (read_faults source.old) (read_faults source.new) result }
-    ensures picture { result ≡ Ok true → HasPicture feed.new.assembler }
-    ensures end { EndsAtEnd feed.old (bytes_left source.old) → EndsAtEnd feed.new (bytes_left source.new) }
-    ensures few { OnOk result (feed.new.units ≤ 2 ^ 40) }
-    ensures stop { IfErr result IsOfCommand }
-{
-    match step(feed, source) {
-        Ok(Step::Picture) => Ok(true),
-        Ok(Step::End) => Ok(false),
-        Err(fault) => Err(stop_of(fault, feed.unit())),
-    }
-}
-
-/// What stops a command where a feed stops behind its n-th unit.
-fn stop_of(fault: FeedFault, n: u64) -> Stop
-    ensures { result ≡ stop_by fault n }
-{
-    match fault {
-        FeedFault::Refused(refusal) => Stop::Refused {
-            refusal,
-            place: behind_unit(n),
-        },
-        FeedFault::SourceFailed => Stop::ReadFault { source: 0 },
-        FeedFault::Memory | FeedFault::Stopped(_) => Stop::NoMemory,
-    }
-}
-
 /// Writes the subpicture of the picture that was done last, behind so many others, or leaves it out.
 fn extract_picture<K: Sink>(
     feed: &Feed,
@@ -230,7 +196,7 @@ fn extract_picture<K: Sink>(
 {
     match extractor.picture(&feed.picture(), out) {
         Ok(()) => Ok(()),
-        Err(error) => Err(stop_of_picture(error, pictures)),
+        Err(error) => Err(Stop::of_write(error, pictures)),
     }
 }
 
@@ -246,21 +212,7 @@ fn check_picture(
 {
     match extractor.check(picture) {
         Ok(()) => Ok(()),
-        Err(error) => Err(stop_of_picture(error, pictures)),
-    }
-}
-
-/// What stops a command where the n-th picture isn't written.
-pub fn stop_of_picture(error: WriteError, n: u64) -> Stop
-    ensures { result ≡ stop_at error n }
-{
-    match error {
-        WriteError::Refused(refusal) => Stop::Refused {
-            refusal,
-            place: at_picture(n),
-        },
-        WriteError::SinkFailed => Stop::WriteFault,
-        WriteError::Memory | WriteError::Stopped(_) => Stop::NoMemory,
+        Err(error) => Err(Stop::of_write(error, pictures)),
     }
 }
 
@@ -278,14 +230,14 @@ fn with_one(counted: bool, count: u64, most: u64) -> u64
 /// There has to be a picture.
 pub fn some_picture(pictures: u64) -> Result<(), Stop>
     ensures some { OnOk result (0 < pictures) }
-    ensures none { IfErr result (λ stop. (pictures ≡ 0) × (stop ≡ stops.Refused (Extract NO_PICTURE) (place_at 0))) }
+    ensures none { IfErr result (λ stop. (pictures ≡ 0) × (stop ≡ stops.Refused (Extract NO_PICTURE) (places.Picture 0))) }
 {
     if pictures > 0 {
         return Ok(());
     }
     Err(Stop::Refused {
         refusal: Refusal::Extract { code: NO_PICTURE },
-        place: at_picture(0),
+        place: Place::Picture(0),
     })
 }
 
@@ -294,16 +246,4 @@ pub(crate) fn ok_line(alloc: Global, kept: u64) -> Result<Vec<u8>, AllocError>
     ensures { IfOk result (λ line. line.items ≡ ok_text kept) }
 {
     Ok(format!(in alloc; "ok pictures {kept}\n")?.into_bytes())
-}
-
-/// The n-th picture of the first source.
-fn at_picture(n: u64) -> Where
-    ensures { result ≡ place_at n }
-{
-    Where {
-        source: 0,
-        unit: 0,
-        picture: n,
-        written: false,
-    }
 }

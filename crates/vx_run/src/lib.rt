@@ -7,6 +7,7 @@ mod about;
 mod conclude;
 mod extract;
 mod gather;
+mod laws;
 mod merge;
 mod play;
 mod program;
@@ -19,13 +20,15 @@ mod whole;
 mod words;
 
 pub use conclude::finish;
-pub use extract::{Task, pictures_have_slices, some_picture, stop_of_picture};
+pub use extract::{Task, pictures_have_slices, some_picture};
 pub use gather::GatherSink;
-pub use merge::{all_go_on, merge_ends_once, stop_of_round};
-pub use play::{play_ends_once, play_region};
+pub use laws::{
+    merge_ends_once, play_ends_once, status_2_is_exact, status_is_exact, too_many_are_refused,
+    verify_ends_once,
+};
+pub use merge::all_go_on;
+pub use play::play_region;
 pub use program::run;
-pub use rounds::behind_units;
-pub use stop::Stop;
-pub use verify::verify_ends_once;
+pub use stop::{Place, Stop};
 pub use whole::run_whole;
 pub use words::{file_count, file_word};

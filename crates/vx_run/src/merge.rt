@@ -11,15 +11,15 @@ ghost use Rattle.vx_merge.specs.Merging.{AreCorners, SameTask, Stands};
 ghost use Rattle.vx_run.specs.Change.{change, sources_change};
 ghost use Rattle.vx_run.specs.Conclusion.{IsOfCommand};
 ghost use Rattle.vx_run.specs.Grammar.{texts};
-ghost use Rattle.vx_run.specs.Merge.{ChecksMerge, ChecksMergeBy, Merges, MergesBy, EndsOnce, WrittenIsReadAgain, length_refused, corners_of as corners_by};
+ghost use Rattle.vx_run.specs.Merge.{ChecksMerge, ChecksMergeBy, Merges, MergesBy, WrittenIsReadAgain, length_refused, corners_of as corners_by};
 ghost use Rattle.vx_run.specs.Rounds.{most_sources};
 ghost use Rattle.vx_run.specs.inner.Advancing.{AdvancesAll, AreWaiting, GoesBy, OfAll};
-ghost use Rattle.vx_run.specs.inner.Merging.{DoesRound, TakesRound, TakesRounds, stop_in};
+ghost use Rattle.vx_run.specs.inner.Merging.{DoesRound, TakesRound, TakesRounds};
 ghost use Rattle.vx_run.specs.inner.Placings.{IsPlacingWord, placing_in};
 
 use crate::extract::ok_line;
-use crate::rounds::{MOST_SOURCES, advance_each, feeds_for, going, in_round, one_more, too_many};
-use crate::stop::Stop;
+use crate::rounds::{MOST_SOURCES, advance_each, feeds_for, going, one_more, too_many};
+use crate::stop::{Place, Stop};
 use crate::words::placing_of;
 use std::alloc::{AllocError, Global};
 use vx_again::{merge_is_read_again, pictures_can_be_merged};
@@ -243,7 +243,7 @@ pub fn all_go_on(ended: &[bool], rounds: u64) -> Result<bool, Stop>
                 source,
                 field: 0,
             },
-            place: in_round(rounds),
+            place: Place::Picture(rounds),
         }),
     }
 }
@@ -266,7 +266,7 @@ fn take_round<K: Sink>(
 {
     match do_round(work, merger, feeds, out) {
         Ok(()) => Ok(()),
-        Err(error) => Err(stop_of_round(error, rounds)),
+        Err(error) => Err(Stop::of_write(error, rounds)),
     }
 }
 
@@ -289,22 +289,3 @@ fn do_round<K: Sink>(
         Work::Write => merger.round(feeds, out),
     }
 }
-
-/// What stops the command where round `n` isn't put together.
-pub fn stop_of_round(error: WriteError, n: u64) -> Stop
-    ensures { result ≡ stop_in error n }
-{
-    match error {
-        WriteError::Refused(refusal) => Stop::Refused {
-            refusal,
-            place: in_round(n),
-        },
-        WriteError::SinkFailed => Stop::WriteFault,
-        WriteError::Memory | WriteError::Stopped(_) => Stop::NoMemory,
-    }
-}
-
-/// A merge ends once.
-pub fn merge_ends_once()
-    ensures { EndsOnce }
-{}

@@ -13,14 +13,14 @@ ghost use Rattle.vx_run.specs.Change.{change, sources_change};
 ghost use Rattle.vx_run.specs.Conclusion.{IsOfCommand};
 ghost use Rattle.vx_run.specs.Grammar.{Placing as PlacingAsked, play as for_play, AskFor, texts};
 ghost use Rattle.vx_run.specs.Merge.{corner_of as corner_by, corners_of as corners_by};
-ghost use Rattle.vx_run.specs.Play.{Plays, PlayedIsReadAgain, PlayEndsOnce, file_regions, most_files, region_corners, region_at_corner, with_corner, with_corners, too_many_files as too_many_of_files};
+ghost use Rattle.vx_run.specs.Play.{Plays, PlayedIsReadAgain, file_regions, most_files, region_corners, region_at_corner, with_corner, with_corners, too_many_files as too_many_of_files};
 ghost use Rattle.vx_run.specs.Rounds.{most_sources};
 ghost use Rattle.vx_run.specs.inner.Placings.{IsPlacingWord, placing_in};
 ghost use Rattle.vx_run.specs.inner.Playing.{AdvancesEach, AdvancesRegions, AreFew, ArePlaced, GoesOn, HasFound, IsAt, PlaysRound, PlaysRounds, SameBut, SameFiles, WritesRound};
 
-use crate::merge::{all_go_on, corners_of, stop_of_round};
-use crate::rounds::{MOST_SOURCES, advance, feeds_for, going, in_round, one_more, too_many};
-use crate::stop::Stop;
+use crate::merge::{all_go_on, corners_of};
+use crate::rounds::{MOST_SOURCES, advance, feeds_for, going, one_more, too_many};
+use crate::stop::{Place, Stop};
 use crate::words::{Command, command_of, placing_of};
 use std::alloc::{AllocError, Global};
 use vx_again::{merge_is_read_again, pictures_can_be_merged, played_can_be_merged};
@@ -90,7 +90,7 @@ fn too_many_files() -> Stop
         refusal: Refusal::Limit {
             code: TOO_MANY_FILES,
         },
-        place: in_round(0),
+        place: Place::Words,
     }
 }
 
@@ -309,7 +309,7 @@ fn play_round<K: Sink>(
 {
     match write_round(joins, merger, feeds, out) {
         Ok(()) => Ok(()),
-        Err(error) => Err(stop_of_round(error, rounds)),
+        Err(error) => Err(Stop::of_write(error, rounds)),
     }
 }
 
@@ -332,11 +332,6 @@ fn write_round<K: Sink>(
     }
     merger.round(feeds, out)
 }
-
-/// What is played ends once.
-pub fn play_ends_once()
-    ensures { PlayEndsOnce }
-{}
 
 /// The region of the `k`-th file that the words of `play` place, from 0: files with the same corner are one region's, and regions are
 /// numbered as they come first. None where the words are other ones, or place no such file.

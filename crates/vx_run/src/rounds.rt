@@ -11,16 +11,15 @@ ghost use Rattle.vx_assemble.specs.Feed.{HasFed, EndsAtEnd, Advances};
 ghost use Rattle.vx_assemble.specs.declared.feed.Step.TheVariants as steps;
 ghost use Rattle.vx_run.specs.Change.{sources_change};
 ghost use Rattle.vx_run.specs.Conclusion.{IsOfCommand};
-ghost use Rattle.vx_run.specs.Rounds.{in_round as place_in, behind_units as place_behind, too_many as too_many_sources};
-ghost use Rattle.vx_run.specs.inner.Advancing.{AdvancesEach, AdvancesOf, AreWaiting, OfAll, IsUnfed, LendsLatest, stop_from};
+ghost use Rattle.vx_run.specs.Rounds.{too_many as too_many_sources};
+ghost use Rattle.vx_run.specs.inner.Advancing.{AdvancesEach, AdvancesOf, AreWaiting, OfAll, IsUnfed, LendsLatest};
 
-use crate::stop::Stop;
+use crate::stop::{Place, Stop};
 use std::alloc::{AllocError, Global};
 use vx_assemble::{Feed, FeedFault, Step};
 use vx_bits::Refusal;
 use vx_bits::rules::TOO_MANY_SOURCES;
 use vx_io::Source;
-use vx_report::Where;
 
 /// How many sources there may be.
 pub(crate) const MOST_SOURCES: usize = 64;
@@ -33,7 +32,7 @@ pub(crate) fn too_many() -> Stop
         refusal: Refusal::Limit {
             code: TOO_MANY_SOURCES,
         },
-        place: in_round(0),
+        place: Place::Words,
     }
 }
 
@@ -103,7 +102,7 @@ pub(crate) fn advance(feed: &mut Feed, source: &mut Box<dyn Source>, k: u16) -> 
             Ok(true)
         }
         Ok(Step::End) => Ok(false),
-        Err(fault) => Err(stop_of(fault, k, feed.unit())),
+        Err(fault) => Err(Stop::of_feed(fault, k, feed.unit())),
     }
 }
 
@@ -115,22 +114,8 @@ fn lends_latest(feed: &Feed)
     let _picture = feed.picture();
 }
 
-/// What stops the command where the feed of source `k` stops behind its n-th unit.
-fn stop_of(fault: FeedFault, k: u16, n: u64) -> Stop
-    ensures { result ≡ stop_from k fault n }
-{
-    match fault {
-        FeedFault::Refused(refusal) => Stop::Refused {
-            refusal,
-            place: behind_units(k, n),
-        },
-        FeedFault::SourceFailed => Stop::ReadFault { source: k },
-        FeedFault::Memory | FeedFault::Stopped(_) => Stop::NoMemory,
-    }
-}
-
 /// Advances on the source.
-pub(crate) fn step(feed: &mut Feed, source: &mut Box<dyn Source>) -> Result<Step, FeedFault>
+fn step(feed: &mut Feed, source: &mut Box<dyn Source>) -> Result<Step, FeedFault>
     ensures answer { (R : Readers) → AreOfH266 R → (g : List ℕ) (units : List UnitPlace) (readings : List Reading)
         → HasFed R feed.old g units readings → LastWasNeeded g units
         → Advances R g units readings feed.new (bytes_left source.old) (bytes_left source.new) (read_faults source.old) (read_faults source.new) result }
@@ -146,28 +131,4 @@ pub(crate) fn one_more(count: u64, most: u64) -> u64
     ensures { count < most → result ≡ count + 1 }
 {
     most.min(count.saturating_add(1))
-}
-
-/// The place in source `k` behind its n-th unit.
-pub fn behind_units(k: u16, n: u64) -> Where
-    ensures { result ≡ place_behind k n }
-{
-    Where {
-        source: k,
-        unit: n,
-        picture: 0,
-        written: false,
-    }
-}
-
-/// Round `n`.
-pub(crate) fn in_round(n: u64) -> Where
-    ensures { result ≡ place_in n }
-{
-    Where {
-        source: 0,
-        unit: 0,
-        picture: n,
-        written: true,
-    }
 }

@@ -17,20 +17,18 @@ ghost use Rattle.vx_pic.specs.Shown.{no_fields};
 ghost use Rattle.vx_report.specs.FieldsLine.{fields_text};
 ghost use Rattle.vx_run.specs.Change.{change};
 ghost use Rattle.vx_run.specs.Conclusion.{IsOfCommand};
-ghost use Rattle.vx_run.specs.Show.{ShowsBy, teller, refused_field, set_lines, picture_lines, unit_lines, behind_unit as place_behind};
+ghost use Rattle.vx_run.specs.Show.{ShowsBy, teller, refused_field, set_lines, picture_lines, unit_lines};
 ghost use Rattle.vx_assemble.specs.Feed.{seen_of};
 ghost use Rattle.vx_run.specs.inner.Showing.{seen_by, ReadsOn, GathersNext, Gathers, ShowsLater};
 
-use crate::stop::Stop;
+use crate::stop::{Place, Stop};
 use std::alloc::{AllocError, Global};
 use vx_annexb::{NalHeader, ReadFault};
 use vx_assemble::{Accepted, Feed, FeedFault, Taken};
 use vx_bits::Refusal;
 use vx_io::{Sink, Source, write_all};
 use vx_pic::StructureFields;
-use vx_report::{
-    PictureNumbers, SetNumbers, Where, fields_line, picture_line, set_line, unit_line,
-};
+use vx_report::{PictureNumbers, SetNumbers, fields_line, picture_line, set_line, unit_line};
 
 /// Writes lines for each NAL unit of a source, in order: of the unit, of the set that
 /// it is, and of the picture that it completes; and of the fields that it spells, where
@@ -166,7 +164,7 @@ fn gather_next(
             tell_refused(alloc, unit, &seen, refusal, lines)?;
             Err(Stop::Refused {
                 refusal,
-                place: behind_unit(unit),
+                place: Place::Unit { source: 0, unit },
             })
         }
         Err(_) => Err(Stop::NoMemory),
@@ -303,16 +301,4 @@ fn count_with(what: Accepted, pictures: u64, units: u64) -> u64
         return units.min(pictures.saturating_add(1));
     }
     pictures
-}
-
-/// The place in the first source behind its n-th unit.
-pub(crate) fn behind_unit(n: u64) -> Where
-    ensures { result ≡ place_behind n }
-{
-    Where {
-        source: 0,
-        unit: n,
-        picture: 0,
-        written: false,
-    }
 }

@@ -1,13 +1,62 @@
 //! What stops a command before it is done.
 
 ghost use Rattle.std.specs.Prelude.{◌≡◌};
+ghost use Rattle.vx_run.specs.Conclusion.{where_told};
 ghost use Rattle.vx_run.specs.declared.stop.Stop.TheVariants.{WriteFault as StoppedByWrite, NoMemory as StoppedByMemory};
+ghost use Rattle.vx_run.specs.inner.Stopping.{stop_of_feed, stop_of_write};
 
 use std::alloc::AllocError;
+use vx_assemble::FeedFault;
 use vx_bits::Refusal;
 use vx_io::SinkFailed;
 use vx_report::Where;
 use vx_verify::Mismatch;
+use vx_write::WriteError;
+
+/// Where a rule was broken.
+#[derive(Clone, Copy, Debug, PartialEq, Eq)]
+pub enum Place {
+    /// A NAL unit of a source, both from 0; at the end of a source, how many it has.
+    Unit { source: u16, unit: u64 },
+    /// A picture, or a round of pictures, from 0.
+    Picture(u64),
+    /// What the words name.
+    Words,
+}
+
+impl Place {
+    /// The place as [`vx_report::refusal_line`] takes it.
+    pub fn told(self) -> Where
+        ensures { result ≡ where_told self }
+    {
+        match self {
+            Place::Unit { source, unit } => {
+                Where {
+                    source,
+                    unit,
+                    picture: 0,
+                    written: false,
+                }
+            }
+            Place::Picture(picture) => {
+                Where {
+                    source: 0,
+                    unit: 0,
+                    picture,
+                    written: true,
+                }
+            }
+            Place::Words => {
+                Where {
+                    source: 0,
+                    unit: 0,
+                    picture: 0,
+                    written: false,
+                }
+            }
+        }
+    }
+}
 
 /// Why a command is not done.
 #[derive(Clone, Copy, Debug, PartialEq, Eq)]
@@ -15,7 +64,7 @@ pub enum Stop {
     /// The words are no command.
     NotUnderstood,
     /// A rule was broken.
-    Refused { refusal: Refusal, place: Where },
+    Refused { refusal: Refusal, place: Place },
     /// A finished stream isn't its sources put together.
     Mismatched { mismatch: Mismatch, picture: u64 },
     /// A read of this source failed.
@@ -24,6 +73,36 @@ pub enum Stop {
     WriteFault,
     /// No memory was found.
     NoMemory,
+}
+
+impl Stop {
+    /// What stops a command where the feed of source `k` stops behind its n-th unit.
+    pub(crate) fn of_feed(fault: FeedFault, k: u16, n: u64) -> Stop
+        ensures { result ≡ stop_of_feed fault k n }
+    {
+        match fault {
+            FeedFault::Refused(refusal) => Stop::Refused {
+                refusal,
+                place: Place::Unit { source: k, unit: n },
+            },
+            FeedFault::SourceFailed => Stop::ReadFault { source: k },
+            FeedFault::Memory | FeedFault::Stopped(_) => Stop::NoMemory,
+        }
+    }
+
+    /// What stops a command where the n-th picture, or round, isn't written.
+    pub fn of_write(error: WriteError, n: u64) -> Stop
+        ensures { result ≡ stop_of_write error n }
+    {
+        match error {
+            WriteError::Refused(refusal) => Stop::Refused {
+                refusal,
+                place: Place::Picture(n),
+            },
+            WriteError::SinkFailed => Stop::WriteFault,
+            WriteError::Memory | WriteError::Stopped(_) => Stop::NoMemory,
+        }
+    }
 }
 
 impl From<AllocError> for Stop {

@@ -10,7 +10,7 @@ ghost use Rattle.vx_run.specs.Change.{change, sources_change};
 ghost use Rattle.vx_run.specs.Conclusion.{IsOfCommand};
 ghost use Rattle.vx_run.specs.Grammar.{texts};
 ghost use Rattle.vx_run.specs.Rounds.{most_sources};
-ghost use Rattle.vx_run.specs.Verify.{Verifies, VerifiesBy, VerifyEndsOnce, length_differs, spots_of as spots_by, yes_text};
+ghost use Rattle.vx_run.specs.Verify.{Verifies, VerifiesBy, length_differs, spots_of as spots_by, yes_text};
 ghost use Rattle.vx_run.specs.inner.Advancing.{AdvancesAll, AreWaiting, GoesBy, OfAll};
 ghost use Rattle.vx_run.specs.inner.Placings.{IsPlacingWord, placing_in};
 ghost use Rattle.vx_run.specs.inner.Verifying.{VerifiesRound, VerifiesRounds, stop_in};
@@ -180,8 +180,3 @@ fn yes_line(alloc: Global, rounds: u64) -> Result<Vec<u8>, AllocError>
 {
     Ok(format!(in alloc; "yes pictures {rounds}\n")?.into_bytes())
 }
-
-/// A verification ends once.
-pub fn verify_ends_once()
-    ensures { VerifyEndsOnce }
-{}

@@ -3,7 +3,7 @@
 ghost use Rattle.std.specs.Prelude.{◌≡◌, ◌≤◌, ◌∷◌, ◌↔◌, [], ℕ, Bool, List, Option as OptionOf, true, false, decimal, codes, None, IfSome, IfNone, IsTrue, MatchOption, map, slice_get, option_copied};
 ghost use Rattle.std.specs.List.{AllByRecursion};
 ghost use Rattle.vx_run.specs.inner.Asked.{asked};
-ghost use Rattle.vx_run.specs.Grammar.{Command as Asked, show, extract, check_extract, merge, play, check_merge, verify, trial, explain, Placing as PlacingAsked, spelling, IsRuleOrField, IsWellNamed, AskFor, IsUnderstood, NamesFiles, files_of, texts};
+ghost use Rattle.vx_run.specs.Grammar.{Command as Asked, show, extract, check_extract, merge, play, check_merge, verify, trial, explain, Placing as PlacingAsked, IsRuleOrField, AskFor, IsUnderstood, NamesFiles, files_of, texts};
 ghost use Rattle.vx_run.specs.inner.Placings.{IsPlacingWord, HasPlacings, NameLevelAndFiles, PlaceFiles, Spells, placed, placing_in};
 ghost use Rattle.vx_run.specs.inner.Words.{BeginsNot, NoneAlone, IsNumberFirst, IsOptionFirst, is_plain};
 

@@ -14,12 +14,11 @@ use Rattle.vx_write.specs.declared.fault.WriteError.TheVariants as errors
 use Rattle.vx_extract.specs.Extracting.{Extracting, Stands, HasSlice}
 use Rattle.vx_extract.specs.Rules.{is_kept, refusal_of}
 use Rattle.vx_extract.specs.Written.{IsExtracted}
+use Rattle.vx_run.specs.declared.stop.Place.TheVariants as places
 use Rattle.vx_run.specs.declared.extract.Task.{Task}
 use Rattle.vx_run.specs.declared.stop.Stop.{Stop}
 use Rattle.vx_run.specs.declared.stop.Stop.TheVariants.{Refused, NoMemory}
-use Rattle.vx_run.specs.Extract.{at_picture}
-use Rattle.vx_run.specs.Rounds.{behind_units}
-use Rattle.vx_run.specs.inner.Extracting.{stop_at}
+use Rattle.vx_run.specs.inner.Stopping.{stop_of_write}
 use Rattle.vx_push.specs.declared.intake.State.{State}
 use Rattle.vx_push.specs.declared.intake.State.TheVariants as states
 use Rattle.vx_push.specs.declared.cutter.Cut.{Cut}
@@ -30,7 +29,7 @@ use Rattle.vx_push.specs.Cutting.{Cutting, HasCut, HoldsPicture, IsAwaited, HasE
 -- where a source has ended behind n pictures: there has to be one
 abbrev pub EndsBehind : ℕ → Cut → Type 0
 EndsBehind n ToEnd = 0 < n
-EndsBehind n (ToStop stop) = (n ≡ 0) × (stop ≡ Refused (Extract NO_PICTURE) (at_picture 0))
+EndsBehind n (ToStop stop) = (n ≡ 0) × (stop ≡ Refused (Extract NO_PICTURE) (places.Picture 0))
 EndsBehind n _ = ⊥
 
 -- what an intake that has come to this, and holds no picture, keeps a cutter from, behind n pictures
@@ -38,12 +37,12 @@ abbrev pub HaltsBy : State → ℕ → Cut → Type 0
 HaltsBy states.Waits n cut = cut ≡ ToWait
 HaltsBy states.Picture n cut = ⊥
 HaltsBy states.Ended n cut = EndsBehind n cut
-HaltsBy (states.Refused r u) n cut = cut ≡ ToStop (Refused r (behind_units 0 u))
+HaltsBy (states.Refused r u) n cut = cut ≡ ToStop (Refused r (places.Unit 0 u))
 HaltsBy states.NoMemory n cut = cut ≡ ToStop NoMemory
 
 -- what stops it where the n-th picture isn't written; a sink in memory fails for want of it alone
 abbrev pub stop_by : WriteError → ℕ → Stop
-stop_by (errors.Refused r) n = stop_at (errors.Refused r) n
+stop_by (errors.Refused r) n = stop_of_write (errors.Refused r) n
 stop_by errors.SinkFailed n = NoMemory
 stop_by errors.Memory n = NoMemory
 stop_by (errors.Stopped first) n = NoMemory
@@ -57,7 +56,7 @@ CutsKept false q done x bytes kept = (kept ≡ None) × Stands x done
 
 abbrev pub Cuts : Parts → List Plan → Extracting → List ℕ → ℕ → Result (Option Kind) Cut → Type 0
 Cuts q done x bytes n (Ok kept) = (refusal_of x.target x.tid q ≡ None) × CutsKept (is_kept x.tid q) q done x bytes kept
-Cuts q done x bytes n (Err (ToStop (Refused r place))) = (refusal_of x.target x.tid q ≡ Some r) × (place ≡ at_picture n)
+Cuts q done x bytes n (Err (ToStop (Refused r place))) = (refusal_of x.target x.tid q ≡ Some r) × (place ≡ places.Picture n)
 Cuts q done x bytes n (Err (ToStop NoMemory)) = Unit {0}
 Cuts q done x bytes n (Err _) = ⊥
 

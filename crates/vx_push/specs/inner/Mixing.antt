@@ -11,11 +11,12 @@ use Rattle.vx_assemble.specs.Held.{lent_by}
 use Rattle.vx_merge.specs.declared.ended.Lengths.TheVariants.{AllGo, AllEnded as AllEnd, Differ}
 use Rattle.vx_merge.specs.Ends.{IsLengths}
 use Rattle.vx_merge.specs.Merging.{Merging, Stands, Passes, IsBarred}
+use Rattle.vx_run.specs.declared.stop.Place.TheVariants as places
 use Rattle.vx_run.specs.declared.stop.Stop.{Stop}
 use Rattle.vx_run.specs.declared.stop.Stop.TheVariants.{Refused, NoMemory}
-use Rattle.vx_run.specs.Rounds.{Stream, picture_in, HasEnded, IsRefusedStream, behind_units, in_round}
+use Rattle.vx_run.specs.Rounds.{Stream, picture_in, HasEnded, IsRefusedStream}
 use Rattle.vx_run.specs.Merge.{length_refused}
-use Rattle.vx_run.specs.inner.Merging.{stop_in}
+use Rattle.vx_run.specs.inner.Stopping.{stop_of_write}
 use Rattle.vx_write.specs.declared.fault.WriteError.{WriteError}
 use Rattle.vx_write.specs.declared.fault.WriteError.TheVariants.{SinkFailed}
 use Rattle.vx_push.specs.declared.intake.State.{State}
@@ -49,7 +50,7 @@ AreMarked intakes marks k = (j : ℕ) (i : Intaking) → j < k → slice_get int
 -- the k-th keeps a round from being merged: it waits, or is stopped
 abbrev pub HaltsBy : State → ℕ → Mixed → Type 0
 HaltsBy AtWait k answer = answer ≡ ToWait k
-HaltsBy (AtRefusal r units) k answer = answer ≡ ToStop (Refused r (behind_units k units))
+HaltsBy (AtRefusal r units) k answer = answer ≡ ToStop (Refused r (places.Unit k units))
 HaltsBy AtNoMemory k answer = answer ≡ ToStop NoMemory
 HaltsBy _ k answer = ⊥
 
@@ -91,13 +92,13 @@ AreNew intakes = (k : ℕ) (i : Intaking) → slice_get intakes k ≡ Some i →
 -- what stops a mixer where round n isn't merged: a sink in memory fails for want of it alone
 abbrev pub stop_by : WriteError → ℕ → Stop
 stop_by SinkFailed n = NoMemory
-stop_by error n = stop_in error n
+stop_by error n = stop_of_write error n
 
 -- What came of round n of these pictures, behind others: it is merged so, as a picture of this kind; or barred; or there was no memory.
 abbrev pub MergesHanded : List Parts → List Plan → Merging → List ℕ → ℕ → Result Kind Stop → Type 0
 MergesHanded round done m bytes n (Ok kind) =
     (p : Plan) × Passes m.corners m.level round done p × (bytes ≡ written (units_of p)) × Stands m (p ∷ done) × (kind ≡ p.kind)
-MergesHanded round done m bytes n (Err (Refused r place)) = IsBarred m.corners m.level round done r × (place ≡ in_round n)
+MergesHanded round done m bytes n (Err (Refused r place)) = IsBarred m.corners m.level round done r × (place ≡ places.Picture n)
 MergesHanded round done m bytes n (Err NoMemory) = Unit {0}
 MergesHanded round done m bytes n (Err _) = ⊥
 

@@ -7,7 +7,6 @@ use Rattle.vx_pic.specs.Readings.{Reading, Picture, pictures}
 use Rattle.vx_pic.specs.Rules.{Readers}
 use Rattle.vx_pic.specs.Bytes.{Ending}
 use Rattle.vx_pic.specs.Parts.{parts_of}
-use Rattle.vx_assemble.specs.declared.feed.FeedFault.{FeedFault}
 use Rattle.vx_assemble.specs.declared.feed.FeedFault.TheVariants as feed
 use Rattle.vx_assemble.specs.declared.feed.Step.TheVariants as steps
 use Rattle.vx_assemble.specs.Held.{HasPicture, ShowsLatest, lent_by}
@@ -16,12 +15,13 @@ use Rattle.vx_fit.specs.Lowest.{IsLowest}
 use Rattle.vx_merge.specs.declared.ended.Lengths.TheVariants as lengths
 use Rattle.vx_merge.specs.declared.ended.Lengths.TheVariants.{AllGo, Differ}
 use Rattle.vx_merge.specs.Ends.{IsLengths}
+use Rattle.vx_run.specs.declared.stop.Place.TheVariants as places
 use Rattle.vx_run.specs.declared.stop.Stop.{Stop}
 use Rattle.vx_run.specs.declared.stop.Stop.TheVariants.{Refused, ReadFault, NoMemory}
 use Rattle.vx_run.specs.Change.{Change, Sources, source_at, IsUntouched, HasFault}
 use Rattle.vx_run.specs.Conclusion.{Outcome}
 use Rattle.vx_run.specs.Extract.{WhereTold, BeginsWithPictures}
-use Rattle.vx_run.specs.Rounds.{Stream, GoesOn, HasEnded, OfStream, IsRefusedStream, NoneRefused, behind_units, stream_refused, WhereAllTold, OfEachSource}
+use Rattle.vx_run.specs.Rounds.{Stream, GoesOn, HasEnded, OfStream, IsRefusedStream, NoneRefused, stream_refused, WhereAllTold, OfEachSource}
 use Rattle.vx_run.specs.Rounds.{IsRead, IsReadOut, IsReadInRound, OthersAreRead, AreReadToSource, Sees}
 use Rattle.vx_run.specs.inner.Extracting.{HasTaken, HasTakenOne}
 
@@ -35,13 +35,6 @@ pub record IsUnfed (f : Feeding) : Type 0 where
   pub needed : LastWasNeeded [] []
   pub open_ : IsOpen f
 
--- where the feed of source k stops behind its n-th unit
-abbrev pub stop_from : ℕ → FeedFault → ℕ → Stop
-stop_from k (feed.Refused r) n = Refused r (behind_units k n)
-stop_from k feed.SourceFailed n = ReadFault k
-stop_from k feed.Memory n = NoMemory
-stop_from k (feed.Stopped first) n = NoMemory
-
 -- ---- one source
 
 -- The next picture of source k with these bytes left and this count of faults, before and after it, was come to, or the end; or the
@@ -51,7 +44,7 @@ abbrev pub AdvancesOf : ℕ → Readers → List ℕ → List UnitPlace → List
 AdvancesOf k R g units readings f left left' faults faults' (Ok true) = Advances R g units readings f left left' faults faults' (Ok steps.Picture)
 AdvancesOf k R g units readings f left left' faults faults' (Ok false) = Advances R g units readings f left left' faults faults' (Ok steps.End)
 AdvancesOf k R g units readings f left left' faults faults' (Err (Refused r place)) =
-    Advances R g units readings f left left' faults faults' (Err (feed.Refused r)) × (place ≡ behind_units k f.units)
+    Advances R g units readings f left left' faults faults' (Err (feed.Refused r)) × (place ≡ places.Unit k f.units)
 AdvancesOf k R g units readings f left left' faults faults' (Err (ReadFault j)) =
     Advances R g units readings f left left' faults faults' (Err feed.SourceFailed) × (j ≡ k)
 AdvancesOf k R g units readings f left left' faults faults' (Err NoMemory) =

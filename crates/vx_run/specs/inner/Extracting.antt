@@ -15,23 +15,19 @@ use Rattle.vx_pic.specs.Sublayers.{at_most}
 use Rattle.vx_pic.specs.Parts.{Parts, parts_of}
 use Rattle.vx_pic.specs.Written.{Plan}
 use Rattle.vx_pic.specs.Resident.{units_written}
-use Rattle.vx_assemble.specs.declared.feed.FeedFault.{FeedFault}
-use Rattle.vx_assemble.specs.declared.feed.FeedFault.TheVariants as feed
-use Rattle.vx_assemble.specs.declared.feed.Step.TheVariants as steps
-use Rattle.vx_assemble.specs.Feed.{Feeding, EndsAtEnd, HasFed, IsNearEnd, Advances}
-use Rattle.vx_write.specs.declared.fault.WriteError.{WriteError}
-use Rattle.vx_write.specs.declared.fault.WriteError.TheVariants as errors
+use Rattle.vx_assemble.specs.Feed.{Feeding, EndsAtEnd, HasFed, IsNearEnd}
 use Rattle.vx_extract.specs.Extracting.{Extracting, Stands, HasSlice, WritesPicture}
 use Rattle.vx_extract.specs.Rules.{refusal_of}
 use Rattle.vx_extract.specs.Written.{AreExtracted}
+use Rattle.vx_run.specs.declared.stop.Place.TheVariants as places
 use Rattle.vx_run.specs.declared.extract.Task.{Task}
 use Rattle.vx_run.specs.declared.stop.Stop.{Stop}
-use Rattle.vx_run.specs.declared.stop.Stop.TheVariants.{Refused, ReadFault, WriteFault, NoMemory}
+use Rattle.vx_run.specs.declared.stop.Stop.TheVariants.{Refused, ReadFault, NoMemory}
 use Rattle.vx_run.specs.Change.{Change, HasNoFault, HasFault, GivesFront, Gains}
 use Rattle.vx_run.specs.Conclusion.{Outcome}
-use Rattle.vx_run.specs.Show.{behind_unit}
 use Rattle.vx_run.specs.ReadAgain.{IsReadAgain}
-use Rattle.vx_run.specs.Extract.{BreakNoRule, ExtractsBy, IsExtractable, RefusesExtraction, HasSeen, WhereTold, at_picture}
+use Rattle.vx_run.specs.Extract.{BreakNoRule, ExtractsBy, IsExtractable, RefusesExtraction, HasSeen, WhereTold}
+use Rattle.vx_run.specs.inner.Stopping.{ComesOf}
 
 -- these pictures of a source were taken, the latest first
 pub record HasTaken {A : Type 0} (R : Readers) (source : Change A) (f : Feeding) (ps : List Picture) : Type 0 where
@@ -61,50 +57,15 @@ pub record IsTask (t : Task) (x : Extracting) : Type 0 where
   pub level : x.level ≡ t.level
   pub tid : x.tid ≡ t.tid
 
--- ---- what stops a command
-
--- where a feed stops behind its n-th unit
-abbrev pub stop_by : FeedFault → ℕ → Stop
-stop_by (feed.Refused r) n = Refused r (behind_unit n)
-stop_by feed.SourceFailed n = ReadFault 0
-stop_by feed.Memory n = NoMemory
-stop_by (feed.Stopped first) n = NoMemory
-
--- where the n-th picture isn't written
-abbrev pub stop_at : WriteError → ℕ → Stop
-stop_at (errors.Refused r) n = Refused r (at_picture n)
-stop_at errors.SinkFailed n = WriteFault
-stop_at errors.Memory n = NoMemory
-stop_at (errors.Stopped first) n = NoMemory
-
 -- ---- one step
-
--- The next picture of a source with these bytes left and this count of faults, before and after it, was come to, or the end; or the
--- command is stopped.
-abbrev pub AdvancesOn : Readers → List ℕ → List UnitPlace → List Reading → Feeding
-    → Option (List ℕ) → Option (List ℕ) → ℕ → ℕ → Result Bool Stop → Type 0
-AdvancesOn R g units readings f left left' faults faults' (Ok true) = Advances R g units readings f left left' faults faults' (Ok steps.Picture)
-AdvancesOn R g units readings f left left' faults faults' (Ok false) = Advances R g units readings f left left' faults faults' (Ok steps.End)
-AdvancesOn R g units readings f left left' faults faults' (Err (Refused r place)) =
-    Advances R g units readings f left left' faults faults' (Err (feed.Refused r)) × (place ≡ behind_unit f.units)
-AdvancesOn R g units readings f left left' faults faults' (Err (ReadFault k)) =
-    Advances R g units readings f left left' faults faults' (Err feed.SourceFailed) × (k ≡ 0)
-AdvancesOn R g units readings f left left' faults faults' (Err NoMemory) =
-    Advances R g units readings f left left' faults faults' (Err feed.Memory)
-AdvancesOn R g units readings f left left' faults faults' (Err _) = ⊥
 
 -- What became of a picture behind those that are written so, and behind n pictures in all, of a sink with these bytes and this count.
 abbrev pub ExtractsOne : Picture → List Plan → Extracting → Option (List ℕ) → Option (List ℕ) → ℕ → ℕ → ℕ → Outcome → Type 0
-ExtractsOne p done x bytes bytes' faults faults' n (Ok _) = WritesPicture (parts_of p) done x bytes bytes' faults faults' (Ok tt)
-ExtractsOne p done x bytes bytes' faults faults' n (Err (Refused r place)) =
-    WritesPicture (parts_of p) done x bytes bytes' faults faults' (Err (errors.Refused r)) × (place ≡ at_picture n)
-ExtractsOne p done x bytes bytes' faults faults' n (Err WriteFault) = WritesPicture (parts_of p) done x bytes bytes' faults faults' (Err errors.SinkFailed)
-ExtractsOne p done x bytes bytes' faults faults' n (Err NoMemory) = WritesPicture (parts_of p) done x bytes bytes' faults faults' (Err errors.Memory)
-ExtractsOne p done x bytes bytes' faults faults' n (Err _) = ⊥
+ExtractsOne p done x bytes bytes' faults faults' n outcome = ComesOf (WritesPicture (parts_of p) done x bytes bytes' faults faults') n outcome
 
 abbrev pub ChecksOne : Parts → Extracting → ℕ → Outcome → Type 0
 ChecksOne q x n (Ok _) = refusal_of x.target x.tid q ≡ None
-ChecksOne q x n (Err (Refused r place)) = (refusal_of x.target x.tid q ≡ Some r) × (place ≡ at_picture n)
+ChecksOne q x n (Err (Refused r place)) = (refusal_of x.target x.tid q ≡ Some r) × (place ≡ places.Picture n)
 ChecksOne q x n (Err _) = ⊥
 
 -- of the picture that was taken last, and whether it is kept
@@ -146,7 +107,7 @@ abbrev pub ExtractsNext : {A K : Type 0} → Readers → Task → Change A → C
     → Result Bool Stop → Type 0
 ExtractsNext R t source out f f' x n (Ok true) = HasExtracted R t source out f' x (n + 1) × (n < f'.units) × (f.units < f'.units)
 ExtractsNext R t source out f f' x n (Ok false) = (outcome : Outcome) → OnOk outcome (0 < n)
-    → IfErr outcome (λ stop. (n ≡ 0) × (stop ≡ Refused (Extract NO_PICTURE) (at_picture 0))) → ExtractsBy R t source out outcome
+    → IfErr outcome (λ stop. (n ≡ 0) × (stop ≡ Refused (Extract NO_PICTURE) (places.Picture 0))) → ExtractsBy R t source out outcome
 ExtractsNext R t source out f f' x n (Err stop) = ExtractsBy R t source out (Err stop)
 
 -- n pictures were taken, and k of them are kept
@@ -175,5 +136,5 @@ abbrev pub ChecksNext : {A : Type 0} → Readers → Task → Change A → Feedi
 ChecksNext R t source f f' n k (Ok (Some kept)) =
     HasChecked R t source f' (n + 1) (cond kept (k + 1) k) × (n < f'.units) × (k ≤ n) × (f.units < f'.units)
 ChecksNext R t source f f' n k (Ok None) =
-    (0 < n → CountsBy R t source (Ok k)) × (n ≡ 0 → CountsBy R t source (Err (Refused (Extract NO_PICTURE) (at_picture 0))))
+    (0 < n → CountsBy R t source (Ok k)) × (n ≡ 0 → CountsBy R t source (Err (Refused (Extract NO_PICTURE) (places.Picture 0))))
 ChecksNext R t source f f' n k (Err stop) = CountsBy R t source (Err stop)

@@ -8,7 +8,6 @@ use Rattle.vx_annexb.specs.Laws.{written}
 use Rattle.vx_pic.specs.Written.{Plan, units_of}
 use Rattle.vx_assemble.specs.Feed.{Feeding}
 use Rattle.vx_write.specs.declared.fault.WriteError.{WriteError}
-use Rattle.vx_write.specs.declared.fault.WriteError.TheVariants as errors
 use Rattle.vx_merge.specs.declared.corner.Corner.{Corner}
 use Rattle.vx_merge.specs.Merging.{Merging, Stands, ChecksRound, WritesOneRound}
 use Rattle.vx_run.specs.declared.merge.Work.{Work}
@@ -17,16 +16,10 @@ use Rattle.vx_run.specs.declared.stop.Stop.{Stop}
 use Rattle.vx_run.specs.declared.stop.Stop.TheVariants.{Refused, ReadFault, WriteFault, NoMemory}
 use Rattle.vx_run.specs.Change.{Change, Sources, source_at, IsUntouched, HasNoFault, HasFault, Gains}
 use Rattle.vx_run.specs.Conclusion.{Outcome}
-use Rattle.vx_run.specs.Rounds.{NoneRefused, in_round, OfEachSource, IsRead, IsReadOut, IsReadFor, OthersAreRead, AreReadTo, Sees, WhereAllTold}
+use Rattle.vx_run.specs.Rounds.{NoneRefused, OfEachSource, IsRead, IsReadOut, IsReadFor, OthersAreRead, AreReadTo, Sees, WhereAllTold}
 use Rattle.vx_run.specs.Merge.{AreRoundsWritten, bytes_of, EndsWritten, GainsInto}
 use Rattle.vx_run.specs.inner.Advancing.{AreWaiting, so_far}
-
--- where round n isn't put together
-abbrev pub stop_in : WriteError → ℕ → Stop
-stop_in (errors.Refused r) n = Refused r (in_round n)
-stop_in errors.SinkFailed n = WriteFault
-stop_in errors.Memory n = NoMemory
-stop_in (errors.Stopped first) n = NoMemory
+use Rattle.vx_run.specs.inner.Stopping.{ComesOf}
 
 -- ---- rounds
 
@@ -77,11 +70,7 @@ DoesRound Write round done m out answer =
 
 -- round n was, and what came of it
 abbrev pub TakesRound : {K : Type 0} → Work → List Parts → List Plan → Merging → Change K → ℕ → Outcome → Type 0
-TakesRound work round done m out n (Ok _) = DoesRound work round done m out (Ok tt)
-TakesRound work round done m out n (Err (Refused r place)) = DoesRound work round done m out (Err (errors.Refused r)) × (place ≡ in_round n)
-TakesRound work round done m out n (Err WriteFault) = DoesRound work round done m out (Err errors.SinkFailed)
-TakesRound work round done m out n (Err NoMemory) = DoesRound work round done m out (Err errors.Memory)
-TakesRound work round done m out n (Err _) = ⊥
+TakesRound work round done m out n outcome = ComesOf (DoesRound work round done m out) n outcome
 
 -- The merger has checked or written n rounds of these pictures.
 pub record HasWritten {K : Type 0} (work : Work) (corners : List Corner) (level : Option ℕ) (out : Change K) (m : Merging)

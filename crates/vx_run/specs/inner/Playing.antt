@@ -9,10 +9,10 @@ use Rattle.vx_pic.specs.Parts.{Parts}
 use Rattle.vx_pic.specs.Readings.{Picture}
 use Rattle.vx_pic.specs.Rules.{Readers}
 use Rattle.vx_pic.specs.Written.{Plan, units_of}
-use Rattle.vx_report.specs.declared.refusal.Where.{Where}
+use Rattle.vx_run.specs.declared.stop.Place.{Place}
+use Rattle.vx_run.specs.declared.stop.Place.TheVariants as places
 use Rattle.vx_assemble.specs.Feed.{Feeding}
 use Rattle.vx_write.specs.declared.fault.WriteError.{WriteError}
-use Rattle.vx_write.specs.declared.fault.WriteError.TheVariants as errors
 use Rattle.vx_merge.specs.declared.corner.Corner.{Corner}
 use Rattle.vx_merge.specs.Joins.{WritesJoined, after_end_of_sequence}
 use Rattle.vx_merge.specs.Merging.{Merging, Stands, WritesOneRound}
@@ -23,9 +23,10 @@ use Rattle.vx_run.specs.Change.{Change, Sources, source_at, HasNoFault, HasFault
 use Rattle.vx_run.specs.Conclusion.{Outcome}
 use Rattle.vx_run.specs.Extract.{WhereTold}
 use Rattle.vx_run.specs.Merge.{bytes_of, length_refused, GainsInto}
-use Rattle.vx_run.specs.Rounds.{IsRead, IsReadOut, NoneRefused, OfEachSource, Sees, WhereAllTold, behind_units, in_round}
+use Rattle.vx_run.specs.Rounds.{IsRead, IsReadOut, NoneRefused, OfEachSource, Sees, WhereAllTold}
 use Rattle.vx_run.specs.Play.{AreOut, IsBehind, ArePlayedFor, ArePlayedOf, ArePlayedTo, ComesAt, EndsPlayed, count_of, region_at_corner, region_streams, with_corners}
 use Rattle.vx_run.specs.inner.Advancing.{TakesOne, Waits, GoesBy}
+use Rattle.vx_run.specs.inner.Stopping.{ComesOf}
 
 -- ---- regions
 
@@ -89,7 +90,7 @@ pub record Ends {A : Type 0} (R : Readers) (sources : Sources A) (js : List ℕ)
 
 -- or file j is refused, behind these of its pictures,
 pub record IsCut {A : Type 0} (R : Readers) (sources : Sources A) (js : List ℕ) (passed : List (List Picture)) (own : List Picture) (r : Refusal)
-    (place : Where) : Type 0 where
+    (place : Place) : Type 0 where
   pub more : List (List Picture)
   pub others : List Picture
   pub j : ℕ
@@ -98,7 +99,7 @@ pub record IsCut {A : Type 0} (R : Readers) (sources : Sources A) (js : List ℕ
   pub same : SameIn passed own more others
   pub read : IsRead (source_at sources j)
   pub told : WhereTold R (source_at sources j) (λ qs e. (qs ≡ others) × (e ≡ Some (record { units = units; refusal = r })))
-  pub is : place ≡ behind_units j units
+  pub is : place ≡ places.Unit j units
 
 -- or a read of it failed.
 pub record IsLost {A : Type 0} (R : Readers) (sources : Sources A) (js : List ℕ) (passed : List (List Picture)) (own : List Picture) (j : ℕ)
@@ -189,16 +190,8 @@ WritesRound false round done m bytes bytes' faults faults' answer = WritesOneRou
 
 -- what came of round n
 abbrev pub PlaysRound : {K : Type 0} → Bool → List Parts → List Plan → Merging → Change K → ℕ → Outcome → Type 0
-PlaysRound joins round done m out n (Ok _) =
-    WritesRound joins round done m (out.bytes out.old) (out.bytes out.new) (out.faults out.old) (out.faults out.new) (Ok tt)
-PlaysRound joins round done m out n (Err (Refused r place)) =
-    WritesRound joins round done m (out.bytes out.old) (out.bytes out.new) (out.faults out.old) (out.faults out.new) (Err (errors.Refused r))
-    × (place ≡ in_round n)
-PlaysRound joins round done m out n (Err WriteFault) =
-    WritesRound joins round done m (out.bytes out.old) (out.bytes out.new) (out.faults out.old) (out.faults out.new) (Err errors.SinkFailed)
-PlaysRound joins round done m out n (Err NoMemory) =
-    WritesRound joins round done m (out.bytes out.old) (out.bytes out.new) (out.faults out.old) (out.faults out.new) (Err errors.Memory)
-PlaysRound joins round done m out n (Err _) = ⊥
+PlaysRound joins round done m out n outcome =
+    ComesOf (WritesRound joins round done m (out.bytes out.old) (out.bytes out.new) (out.faults out.old) (out.faults out.new)) n outcome
 
 -- region k has n pictures, and none where it is at its first file and took none
 abbrev pub HasTakenSo : ℕ → List (List Picture) → List Picture → Type 0

@@ -20,11 +20,12 @@ use Rattle.vx_pic.specs.Bytes.{units_at}
 use Rattle.vx_assemble.specs.Feed.{Feeding, HasFed, UnitIsRefused, IsRefusedFor, by_bytes, by_unit, at_end, ReadsOn as Reads}
 use Rattle.vx_annexb.specs.Reading.{Reading as ReaderState}
 use Rattle.vx_bits.specs.declared.refusal.Refusal.{Refusal}
+use Rattle.vx_run.specs.declared.stop.Place.TheVariants as places
 use Rattle.vx_run.specs.declared.stop.Stop.{Stop}
 use Rattle.vx_run.specs.declared.stop.Stop.TheVariants.{Refused, ReadFault, WriteFault, NoMemory}
 use Rattle.vx_run.specs.Change.{Change, HasNoFault, Gains, GainsFront}
 use Rattle.vx_run.specs.Conclusion.{Outcome}
-use Rattle.vx_run.specs.Show.{Teller, lines_behind, shown_lines, told_lines, behind_unit, shown_by, read_len}
+use Rattle.vx_run.specs.Show.{Teller, lines_behind, shown_lines, told_lines, shown_by, read_len}
 use Rattle.vx_assemble.specs.Feed.{seen_of}
 
 -- what is seen of the fields of a unit: those that it spells, where they are asked for
@@ -73,7 +74,7 @@ told_refused T (at_end e) = []
 abbrev pub EndsGathering : Readers → Teller → Feeding → List ℕ → List UnitPlace → List Reading → List ℕ → Result ℕ Stop → Type 0
 EndsGathering R T f g units before told (Ok n) = SeesNone R f g units before × (n ≡ length (pictures before)) × (told ≡ [])
 EndsGathering R T f g units before told (Err (Refused refusal place)) =
-    (why : IsRefusedFor R f.reader g units before refusal) × (place ≡ behind_unit (length units)) × (told ≡ told_refused T why)
+    (why : IsRefusedFor R f.reader g units before refusal) × (place ≡ places.Unit 0 (length units)) × (told ≡ told_refused T why)
 EndsGathering R T f g units before told (Err NoMemory) = told ≡ []
 EndsGathering R T f g units before told (Err _) = ⊥
 

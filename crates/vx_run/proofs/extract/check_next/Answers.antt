@@ -21,13 +21,13 @@ pub returns-in_err-kept-clause-answer : goal.returns-in_err-kept-clause-answer
 returns-in_err-kept-clause-answer g c going R of t task tid first kept e =
     let p = err_from_is_err_and c.from_residual-in_err-kept.result c.from_residual-in_err-kept.ensures.1 in
     rw (p.1, p.2) (count_cut _ _ R t first c.args.source.now c.advance.new.source c.args.feed.now c.advance.new.feed c.args.pictures kept e (c.advance.ensures.end e.taken.ended)
-    (c.in_ok-advance.ensures.picture (ap Ok c.if-not-branch.false)) (rw c.if-not-branch.false at c.in_ok-advance.ensures.answer R of) c.args.extractor.now (lent_by c.advance.new.feed.assembler) task (c.check_latest.ensures.shows R) _ (c.in_err-kept.ensures.answer going))
+    (c.in_ok-advance.ensures.lent (ap Ok c.if-not-branch.false)).holds (rw c.if-not-branch.false at c.in_ok-advance.ensures.answer R of) c.args.extractor.now (lent_by c.advance.new.feed.assembler) task (c.check_latest.ensures.shows R) _ (c.in_err-kept.ensures.answer going))
 
 pub returns-clause-answer : goal.returns-clause-answer
 returns-clause-answer g c going R of t task tid first kept e =
     let q = lent_by c.advance.new.feed.assembler in
     let ended = c.advance.ensures.end e.taken.ended in
-    let has = c.in_ok-advance.ensures.picture (ap Ok c.if-not-branch.false) in
+    let has = (c.in_ok-advance.ensures.lent (ap Ok c.if-not-branch.false)).holds in
     let came = rw c.if-not-branch.false at c.in_ok-advance.ensures.answer R of in
     let fine = c.in_ok-kept.ensures.answer going in
     let more = count_more _ _ R t first c.args.source.now c.advance.new.source c.args.feed.now c.advance.new.feed c.args.pictures kept e ended has came c.args.extractor.now q task (c.check_latest.ensures.shows R) fine.0 in (

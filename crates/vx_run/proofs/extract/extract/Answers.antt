@@ -4,15 +4,15 @@ use Rattle.std.proofs.lemmas.Result.{err_from_is_err_and}
 use Rattle.vx_pic.proofs.Existing.{there_are_readers}
 use Rattle.vx_bits.specs.declared.refusal.Refusal.TheVariants.{Extract}
 use Rattle.vx_bits.specs.declared.rules.TheConstants.{NO_PICTURE}
+use Rattle.vx_run.specs.declared.stop.Place.TheVariants as places
 use Rattle.vx_run.specs.declared.stop.Stop.TheVariants.{Refused}
 use Rattle.vx_run.specs.Conclusion.{Outcome, IsOfCommand}
-use Rattle.vx_run.specs.Extract.{at_picture}
 use Rattle.vx_run.proofs.Extracting.{HasExtracted-none, Extracts-unmade}
 use Rattle.vx_run.proofs.Taking.{taken_none}
 use Rattle.vx_run.proofs.extract.extract.Goals as goal
 
 -- want of a picture is of a command
-none_of_command : (outcome : Outcome) (n : ℕ) → IfErr outcome (λ stop. (n ≡ 0) × (stop ≡ Refused (Extract NO_PICTURE) (at_picture 0))) → IfErr outcome IsOfCommand
+none_of_command : (outcome : Outcome) (n : ℕ) → IfErr outcome (λ stop. (n ≡ 0) × (stop ≡ Refused (Extract NO_PICTURE) (places.Picture 0))) → IfErr outcome IsOfCommand
 none_of_command (Ok _) n none = tt
 none_of_command (Err stop) n none = rw none.1 tt
 

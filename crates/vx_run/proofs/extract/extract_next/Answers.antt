@@ -20,7 +20,7 @@ returns-in_err-extract_picture-clause-answer g c R of t task again first start e
     let same = c.extract_picture.ensures.task in
     let still : IsTask t c.extract_picture.new.extractor = record { target = same.target ∙ task.target; level = same.level ∙ task.level; tid = same.tid ∙ task.tid } in
     rw (p.1, p.2) (extract_cut _ _ _ _ R (c.pictures_have_slices.ensures R of) t first c.args.source.now c.advance.new.source start c.args.out.now c.args.feed.now c.advance.new.feed c.args.extractor.now c.args.pictures e (c.advance.ensures.end e.taken.ended)
-    (c.in_ok-advance.ensures.picture (ap Ok c.if-not-branch.false)) (rw c.if-not-branch.false at c.in_ok-advance.ensures.answer R of) c.extract_picture.new.extractor c.extract_picture.new.out still _ (c.in_err-extract_picture.ensures.answer R))
+    (c.in_ok-advance.ensures.lent (ap Ok c.if-not-branch.false)).holds (rw c.if-not-branch.false at c.in_ok-advance.ensures.answer R of) c.extract_picture.new.extractor c.extract_picture.new.out still _ (c.in_err-extract_picture.ensures.answer R))
 
 pub returns-clause-answer : goal.returns-clause-answer
 returns-clause-answer g c R of t task again first start e =
@@ -28,7 +28,7 @@ returns-clause-answer g c R of t task again first start e =
     let same = c.extract_picture.ensures.task in
     let still : IsTask t c.extract_picture.new.extractor = record { target = same.target ∙ task.target; level = same.level ∙ task.level; tid = same.tid ∙ task.tid } in
     let ended = c.advance.ensures.end e.taken.ended in
-    let has = c.in_ok-advance.ensures.picture (ap Ok c.if-not-branch.false) in
+    let has = (c.in_ok-advance.ensures.lent (ap Ok c.if-not-branch.false)).holds in
     let came = rw c.if-not-branch.false at c.in_ok-advance.ensures.answer R of in (
       extract_more _ _ _ _ R have t first c.args.source.now c.advance.new.source start c.args.out.now c.args.feed.now c.advance.new.feed c.args.extractor.now c.args.pictures e ended has came c.extract_picture.new.extractor c.extract_picture.new.out still again (c.in_ok-extract_picture.ensures.answer R),
       pictures_below _ _ _ _ R have t first c.args.source.now c.advance.new.source start c.args.out.now c.args.feed.now c.advance.new.feed c.args.extractor.now c.args.pictures e ended has came,

@@ -3,4 +3,4 @@ use Rattle.vx_run.proofs.merge.take_round.Goals as goal
 
 pub returns-in-Err-clause-takes : goal.returns-in-Err-clause-takes
 returns-in-Err-clause-takes g c done stands =
-    rw c.stop_of_round.ensures (did_in c.args.work _ done _ _ c.args.rounds c.in-Err.error (c.in-Err.ensures.does done stands))
+    rw c.of_write.ensures (did_in c.args.work _ done _ _ c.args.rounds c.in-Err.error (c.in-Err.ensures.does done stands))

@@ -11,4 +11,4 @@ returns-in-Ok-End-clause-answer g c R of b units readings fed needed =
 
 pub returns-in-Err-clause-answer : goal.returns-in-Err-clause-answer
 returns-in-Err-clause-answer g c R of b units readings fed needed =
-    rw (c.stop_of.ensures, c.unit.ensures) (advanced_from c.args.k R b units readings c.step.new.feed c.in-Err.fault (c.in-Err.ensures.answer R of b units readings fed needed))
+    rw (c.of_feed.ensures, c.unit.ensures) (advanced_from c.args.k R b units readings c.step.new.feed c.in-Err.fault (c.in-Err.ensures.answer R of b units readings fed needed))

@@ -2,7 +2,8 @@ use Rattle.std.proofs.Common.{rules, ◌≡◌, ◌++◌, ◌∷◌, [], refl, a
 use Rattle.std.proofs.lemmas.Result.{err_from_is_err_and}
 use Rattle.vx_assemble.specs.Feed.{IsOpen}
 use Rattle.vx_report.specs.FieldsLine.{fields_text}
-use Rattle.vx_run.specs.Show.{teller, refused_field, behind_unit}
+use Rattle.vx_run.specs.declared.stop.Place.TheVariants as places
+use Rattle.vx_run.specs.Show.{teller, refused_field}
 use Rattle.vx_run.proofs.Fields.{taken_fields, refused_told_of}
 use Rattle.vx_run.proofs.Made.{gathers_one}
 use Rattle.vx_run.proofs.Showing.{sees_end, sees_none}
@@ -31,7 +32,7 @@ pub returns-in-Err-Refused-clause-answer : goal.returns-in-Err-Refused-clause-an
 returns-in-Err-Refused-clause-answer c R of g units before fed count =
     let sees = rw c.in-Err-Refused.field-0-is at c.in-Err-Refused.ensures.seen R of g units before fed in
     let why = refused_told_of R of g units before c.args.feed.now c.take_next.new.feed fed c.unit-unit.result c.unit-unit.ensures c.args.fields c.in-Err-Refused.refusal c.take_next.new.seen sees in
-    (fields_text c.unit-unit.result c.take_next.new.seen (refused_field c.in-Err-Refused.refusal), (why.0, c.behind_unit.ensures ∙ ap behind_unit (c.unit-unit.ensures ∙ fed.count), why.1), search rules)
+    (fields_text c.unit-unit.result c.take_next.new.seen (refused_field c.in-Err-Refused.refusal), (why.0, ap (places.Unit 0) (c.unit-unit.ensures ∙ fed.count), why.1), search rules)
 
 pub returns-in_err-extend_from_slice-in-Ok-Some-Nal-clause-answer : goal.returns-in_err-extend_from_slice-in-Ok-Some-Nal-clause-answer
 returns-in_err-extend_from_slice-in-Ok-Some-Nal-clause-answer c R of g units before fed count =

@@ -1,0 +1,2 @@
+-- Statements of laws, which are proved: nothing that a caller has to believe.
+pub mod Status
