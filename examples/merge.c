@@ -1,8 +1,9 @@
 /*
- * Merges files: reads each in pieces as the merger asks for them, and writes the merged stream on standard output.
+ * Merges files: hands in pieces of each as the merger asks for them, and writes the merged stream on standard output. It ends with the
+ * program's statuses and tells its lines. C99, and C++ too.
  * Usage: merge X,Y=FILE ..
  *
- *     cc examples/merge.c -lgoosequince -o merge && ./merge 0,0=a.266 64,0=a.266 > m.266
+ *     cc -IDIR/include examples/merge.c -LDIR/lib -lgoosequince -o merge && ./merge 0,0=a.266 64,0=a.266 > m.266
  */
 #include <goosequince.h>
 #include <stdio.h>
@@ -10,62 +11,78 @@
 
 #define MOST 64
 
-/* Hands in the next piece of a file, or tells its end. What wasn't taken of the last piece goes first. */
+/* A file failed: the program's status for that. */
+#define FAULT 3
+
+/* A file, and what was read of it and isn't taken yet. */
 typedef struct source {
     FILE *file;
-    uint8_t piece[65536];
     size_t at, len;
+    uint8_t piece[65536];
 } source;
 
+/* Hands in what was read of a file, or the next piece of it, or tells its end. */
 static uint8_t hand_in(gq_merger *merger, size_t k, source *from) {
     size_t taken;
+    uint8_t status;
     if (from->at == from->len) {
         from->at = 0;
         from->len = fread(from->piece, 1, sizeof from->piece, from->file);
-        if (ferror(from->file)) {
-            fprintf(stderr, "read fault source %zu\n", k);
-            exit(3);
+        if (from->len == 0 && ferror(from->file)) {
+            fprintf(stderr, "read fault source %u\n", (unsigned) k);
+            return FAULT;
         }
+        if (from->len == 0) return gq_merger_end(merger, k);
     }
-    if (from->len == 0) return gq_merger_end(merger, k);
-    uint8_t status = gq_merger_push(merger, k, from->piece + from->at, from->len - from->at, &taken);
+    status = gq_merger_push(merger, k, from->piece + from->at, from->len - from->at, &taken);
     from->at += taken;
     return status;
 }
 
 /* Takes the picture that waits, and writes it. */
-static void write_picture(gq_merger *merger, const gq_picture *picture) {
-    uint8_t *bytes = malloc(picture->bytes);
-    if (!bytes || gq_merger_take(merger, bytes, picture->bytes) != GQ_DONE) exit(GQ_NO_MEMORY);
-    if (fwrite(bytes, 1, picture->bytes, stdout) != picture->bytes) exit(3);
+static uint8_t write_picture(gq_merger *merger, const gq_picture *picture) {
+    uint8_t *bytes = (uint8_t *) malloc(picture->bytes);
+    uint8_t status = GQ_NO_MEMORY;
+    if (bytes) status = gq_merger_take(merger, bytes, picture->bytes);
+    if (status == GQ_DONE && fwrite(bytes, 1, picture->bytes, stdout) != picture->bytes) status = FAULT;
     free(bytes);
+    return status;
+}
+
+/* Merges the sources, and answers the program's status. */
+static uint8_t merge(const gq_corner *corners, source *sources, size_t count) {
+    gq_merger merger = GQ_CLOSED;
+    gq_picture picture;
+    size_t k;
+    uint8_t line[GQ_LINE_ROOM];
+    uint8_t status = gq_merger_open(&merger, corners, count, 0);
+    while (status == GQ_DONE) {
+        status = gq_merger_next(&merger, &k, &picture);
+        if (status == GQ_DONE) status = write_picture(&merger, &picture);
+        else if (status == GQ_WAITS) status = hand_in(&merger, k, &sources[k]);
+    }
+    fwrite(line, 1, gq_merger_line(&merger, line, sizeof line), stderr);
+    gq_merger_close(&merger);
+    if (fflush(stdout) != 0) return FAULT;
+    return status == GQ_ENDED ? (uint8_t) GQ_DONE : status;
 }
 
 int main(int argc, char **argv) {
     static source sources[MOST];
     gq_corner corners[MOST];
-    gq_merger merger = {0};
-    gq_picture picture;
-    size_t count = (size_t) argc - 1, k;
-    uint8_t status, line[GQ_LINE_ROOM];
-    if (argc < 2 || count > MOST) return GQ_MISUSED;
+    int k, count = argc - 1;
+    if (count < 1 || count > MOST) return GQ_MISUSED;
     for (k = 0; k < count; k++) {
         unsigned x, y;
         int name = 0;
         if (sscanf(argv[k + 1], "%u,%u=%n", &x, &y, &name) != 2 || !name) return GQ_MISUSED;
-        corners[k] = (gq_corner) {x, y};
+        corners[k].x = x;
+        corners[k].y = y;
         sources[k].file = fopen(argv[k + 1] + name, "rb");
         if (!sources[k].file) {
             perror(argv[k + 1] + name);
-            return 3;
+            return FAULT;
         }
     }
-    if ((status = gq_merger_open(&merger, corners, count, 0)) != GQ_DONE) return status;
-    while ((status = gq_merger_next(&merger, &k, &picture)) == GQ_DONE || status == GQ_WAITS) {
-        if (status == GQ_DONE) write_picture(&merger, &picture);
-        else hand_in(&merger, k, &sources[k]);
-    }
-    fwrite(line, 1, gq_merger_line(&merger, line, sizeof line), stderr);
-    gq_merger_close(&merger);
-    return status == GQ_ENDED ? 0 : status;
+    return merge(corners, sources, (size_t) count);
 }

@@ -1,15 +1,22 @@
 #!/bin/bash
-# How much processor time a merge takes through the library in C, pushed in pieces of 1,500 and of 65,536 bytes, beside the program's on the
-# same files, and how much memory they have resident at most: of each family of streams, so many times one behind another. How long the call
-# takes that hands in the last byte of a picture until its merge is there. And the least stack that a merge needs.
+# How much processor time a merge takes through the library in C, pushed in pieces of 1,500 and of 65,536 bytes and by gq_run, beside the
+# program's on the same files, and how much memory they have resident at most: of each family of streams, so many times one behind another.
+# How long the call takes that hands in the last byte of a picture until its merge is there. And the least stack that a merge needs.
+# A line for each measurement as it is made, and then all of them in a summary. It takes a minute or two.
 # No test: times depend on the machine.
-# Usage: scripts/bench-c.sh DIR PROGRAM [REPEATS]   (DIR is what scripts/c-library.sh filled, PROGRAM the built program, or - for gq_run in its
-# place; 2,000 times if left out)
+# Usage: scripts/bench-c.sh DIR PROGRAM [REPEATS]   (DIR is what scripts/c-library.sh filled, PROGRAM the built program, or - for none; 2,000
+# times if left out)
 # With STREAMS=FOLDER the families of a folder (NAME_0.vvc .. beside MANIFEST.json) in place of the stored streams.
 set -euo pipefail
 [ $# -ge 2 ] || { echo "usage: scripts/bench-c.sh DIR PROGRAM [REPEATS]" >&2; exit 2; }
+for tool in "${CC:-cc}" python3; do
+  command -v "$tool" > /dev/null || { echo "scripts/bench-c.sh: $tool isn't there" >&2; exit 2; }
+done
+[ -f "$1/lib/libgoosequince.a" ] || { echo "scripts/bench-c.sh: $1 has no library; scripts/c-library.sh $1 makes it" >&2; exit 2; }
+[ "$2" = - ] || [ -x "$2" ] || { echo "scripts/bench-c.sh: $2 is no program" >&2; exit 2; }
 library=$(realpath "$1") program=$2 repeats=${3:-2000}
 [ "$program" = - ] || program=$(realpath "$program")
+[ -z "${STREAMS:-}" ] || STREAMS=$(realpath -e "$STREAMS") || exit 2
 scripts=$(realpath "$(dirname "$0")")
 cd "$scripts/.."
 work=$(mktemp -d)
@@ -39,6 +46,11 @@ repeated() {
   done
 }
 
+# Measures one way to merge a family: FAMILY WAY COMMAND ..
+timed() {
+  "$scripts/measure.py" "$1, $2" -- "${@:3}" | tee -a "$work/$2"
+}
+
 # The least stack of a thread, in KiB, that a merge doesn't run out of.
 least_stack() {
   local low=16 high=1024 mid
@@ -49,18 +61,31 @@ least_stack() {
   echo "$high"
 }
 
+# The measurements of one way: the times of all families, and between what the most memory lies.
+summed() {
+  [ ! -f "$work/$1" ] || awk -v way="$1" '
+    { match($0, /[0-9.]+ ms/); took = took (NR > 1 ? ", " : "") sprintf("%.0f", substr($0, RSTART) + 0)
+      match($0, /peak [0-9]+/); peak = (substr($0, RSTART + 5) + 0) * 1024 / 1e6
+      if (NR == 1 || peak < least) least = peak
+      if (peak > most) most = peak }
+    END { printf "  %s: %s ms, resident at most %.1f to %.1f MB\n", way, took, least, most }' "$work/$1"
+}
+
+names=() stacks=()
 while read -ra family; do
   name=$(basename "${family[0]#*=}")
+  names+=("${name%%[_.]*}")
   mapfile -t words < <(repeated "${family[@]}")
-  if [ "$program" = - ]; then
-    "$scripts/measure.py" "$name, gq_run" -- "$measure" whole "${words[@]}"
-  else
-    "$scripts/measure.py" "$name, the program" -- "$program" merge "${words[@]}"
+  if [ "$program" != - ]; then
+    timed "$name" "the program" "$program" merge "${words[@]}"
     "$program" merge "${words[@]}" | cmp - <("$measure" push 1500 "${words[@]}")
   fi
-  for piece in 1500 65536; do
-    "$scripts/measure.py" "$name, pieces of $piece" -- "$measure" push "$piece" "${words[@]}"
-  done
-  echo "$name: least stack $(least_stack "${family[@]}") KiB"
+  timed "$name" gq_run "$measure" whole "${words[@]}"
+  timed "$name" "pieces of 1,500" "$measure" push 1500 "${words[@]}"
+  timed "$name" "pieces of 65,536" "$measure" push 65536 "${words[@]}"
+  stacks+=("$(least_stack "${family[@]}")")
 done < <(families)
-echo "to a merge of 4, 16 and 64 sources: $("$measure" latency "$data/a.266")"
+echo "summary of ${names[*]}, $repeats times:"
+for way in "the program" gq_run "pieces of 1,500" "pieces of 65,536"; do summed "$way"; done
+echo "  least stack: ${stacks[*]} KiB"
+echo "  to a merge of 4, 16 and 64 sources: $("$measure" latency "$data/a.266")"

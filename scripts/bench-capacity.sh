@@ -6,6 +6,10 @@
 # Usage: scripts/bench-capacity.sh PROGRAM   (the built program)
 set -euo pipefail
 [ $# = 1 ] || { echo "usage: scripts/bench-capacity.sh PROGRAM" >&2; exit 2; }
+for tool in python3 awk; do
+  command -v "$tool" > /dev/null || { echo "scripts/bench-capacity.sh: $tool isn't there" >&2; exit 2; }
+done
+[ -x "$1" ] || { echo "scripts/bench-capacity.sh: $1 is no program" >&2; exit 2; }
 program=$(realpath "$1")
 scripts=$(realpath "$(dirname "$0")")
 work=$(mktemp -d)

@@ -7,14 +7,19 @@
 # built program's, on files with the same bytes.
 set -euo pipefail
 [ $# -ge 1 ] || { echo "usage: scripts/c-broken.sh DIR [COUNT]" >&2; exit 2; }
+for tool in "${CC:-cc}" python3; do
+  command -v "$tool" > /dev/null || { echo "scripts/c-broken.sh: $tool isn't there" >&2; exit 2; }
+done
+[ -f "$1/lib/libgoosequince.a" ] || { echo "scripts/c-broken.sh: $1 has no library; scripts/c-library.sh $1 makes it" >&2; exit 2; }
 library=$(realpath "$1") count=${2:-100000}
+[ -z "${STREAMS:-}" ] || STREAMS=$(realpath -e "$STREAMS") || exit 2
 cd "$(dirname "$0")/.."
 work=$(mktemp -d)
 trap 'rm -rf "$work"' EXIT
 data=crates/vx_app/data
 mkdir "$work/files"
 export FOLDER=$work/files
-[ -z "${PROGRAM:-}" ] || PROGRAM=$(realpath "$PROGRAM")
+[ -z "${PROGRAM:-}" ] || PROGRAM=$(realpath -e "$PROGRAM") || exit 2
 
 families() {
   echo "0,0=$data/a.266 64,0=$data/a.266"

@@ -1,19 +1,26 @@
 #!/bin/bash
 # Proves and builds the library in C, and puts it into a folder: lib/libgoosequince.a, include/goosequince.h and
 # lib/pkgconfig/goosequince.pc. Then it compiles and runs the programs of tests/c and examples over it: as they are, under
-# valgrind, and with the address and the undefined behaviour sanitizer, as far as these are there.
+# valgrind, and with the address and the undefined behaviour sanitizer. What isn't there of these, or of C++, it passes over and says so.
 # Usage: scripts/c-library.sh DIR [COUNT]
 # COUNT broken merges are tried of each family (2,000 if left out). With ARCHIVE=FILE it is this archive that is tried, and nothing
 # is proved or built; with STREAMS=FOLDER the families of a folder (NAME_0.vvc .. beside MANIFEST.json) are merged too.
-# Needs the Rattle kit's `rt` on the path, cc, ar and python3.
+# Needs the Rattle kit's `rt` on the path, cc (or CC=COMPILER), ar and python3.
 set -euo pipefail
 [ $# -ge 1 ] || { echo "usage: scripts/c-library.sh DIR [COUNT]" >&2; exit 2; }
+cc=${CC:-cc} cxx=${CXX:-c++} tools=("$cc" ar python3)
+[ -n "${ARCHIVE:-}" ] || tools+=(rt)
+for tool in "${tools[@]}"; do
+  command -v "$tool" > /dev/null || { echo "scripts/c-library.sh: $tool isn't there" >&2; exit 2; }
+done
+[ -z "${ARCHIVE:-}" ] || ARCHIVE=$(realpath -e "$ARCHIVE") || exit 2
+[ -z "${STREAMS:-}" ] || STREAMS=$(realpath -e "$STREAMS") || exit 2
 mkdir -p "$1"
 to=$(cd "$1" && pwd) count=${2:-2000}
 cd "$(dirname "$0")/.."
 work=$(mktemp -d)
 trap 'rm -rf "$work"' EXIT
-cc=${CC:-cc} data=$PWD/crates/vx_app/data
+data=$PWD/crates/vx_app/data
 strict=(-std=c99 -Wall -Wextra -pedantic -Werror -Wno-unused-function -O1 -g)
 
 # The archive of crate vx_c, and beside it the three functions through which it calls malloc, realloc and free.
@@ -48,41 +55,40 @@ compile() {
   "$cc" "${strict[@]}" "${@:3}" -I"$to/include" "$1" "$to/lib/libgoosequince.a" "${wraps[@]}" -pthread -o "$work/$2"
 }
 
-# Whether a sanitizer is there.
-has() {
-  echo 'int main(void) { return 0; }' > "$work/none.c"
-  "$cc" "$1" "$work/none.c" -o "$work/none" 2> /dev/null && "$work/none"
-}
+# What is there of that which isn't needed.
+echo 'int main(void) { return 0; }' > "$work/none.c"
+"$cc" -fsanitize=address,undefined "$work/none.c" -o "$work/none" 2> /dev/null && "$work/none" && sanitizers=1 || sanitizers=
+command -v valgrind > /dev/null && valgrind=1 || valgrind=
+command -v "$cxx" > /dev/null && plus=1 || plus=
+[ -n "$sanitizers" ] || echo "$cc has no sanitizers: nothing is run with them"
+[ -n "$valgrind" ] || echo "valgrind isn't there: nothing is run under it"
+[ -n "$plus" ] || echo "$cxx isn't there: nothing is compiled as C++"
 
 # Runs a program of tests/c as it is, under valgrind, and with sanitizers.
 run_each() {
   local name=$1; shift
   compile "tests/c/$name.c" "$name"
   "$work/$name" "$@"
-  if command -v valgrind > /dev/null && [ "$name" != broken ]; then
+  if [ -n "$valgrind" ] && [ "$name" != broken ]; then
     valgrind -q --error-exitcode=9 --leak-check=full --errors-for-leak-kinds=all "$work/$name" "$@" > /dev/null
   fi
-  if has -fsanitize=address,undefined; then
+  if [ -n "$sanitizers" ]; then
     compile "tests/c/$name.c" "$name-sanitized" -fsanitize=address,undefined -fno-sanitize-recover=all
     "$work/$name-sanitized" "$@" > /dev/null
   fi
   echo "$name: ok"
 }
 
-# The header as C++, and what the examples write beside what the tests did.
+# What the examples write, beside what the tests did; also as C++.
 try_examples() {
-  echo '#include "goosequince.h"
-int main() { gq_merger merger = {}; gq_merger_close(&merger); return gq_version() != GQ_VERSION; }' > "$work/plus.cc"
-  if command -v c++ > /dev/null; then
-    c++ -std=c++11 -Wall -Wextra -pedantic -Werror -I"$to/include" "$work/plus.cc" "$to/lib/libgoosequince.a" -o "$work/plus"
-    "$work/plus"
-  fi
   compile examples/merge.c merge-example
-  "$work/merge-example" "0,0=$data/a.266" "64,0=$data/a.266" > "$work/merged"
-  cmp "$work/merged" "$data/m.266"
+  "$work/merge-example" "0,0=$data/a.266" "64,0=$data/a.266" | cmp - "$data/m.266"
+  if [ -n "$plus" ]; then
+    "$cxx" -x c++ -std=c++11 -Wall -Wextra -pedantic -Werror -I"$to/include" examples/merge.c -x none "$to/lib/libgoosequince.a" -o "$work/merge-plus"
+    "$work/merge-plus" "0,0=$data/a.266" "64,0=$data/a.266" | cmp - "$data/m.266"
+  fi
   "$cc" -shared -o "$work/libgoosequince.so" -Wl,--whole-archive "$to/lib/libgoosequince.a" -Wl,--no-whole-archive
-  python3 examples/merge.py "$work/libgoosequince.so" "0,0=$data/a.266" "64,0=$data/a.266" > "$work/merged"
-  cmp "$work/merged" "$data/m.266"
+  python3 examples/merge.py "$work/libgoosequince.so" "0,0=$data/a.266" "64,0=$data/a.266" | cmp - "$data/m.266"
   echo "examples: ok"
 }
 

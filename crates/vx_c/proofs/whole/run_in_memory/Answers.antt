@@ -1,6 +1,7 @@
-use Rattle.std.proofs.Common.{rules, ◌≡◌, length, map, vec_len, arith}
-use Rattle.vx_run.specs.Grammar.{NamesFiles, texts}
+use Rattle.std.proofs.Common.{rules, ◌≡◌, ◌↔◌, length, map, vec_len, subst, arith}
+use Rattle.vx_run.specs.Grammar.{IsUnderstood, NamesFiles, texts}
 use Rattle.vx_c.specs.InMemory.{AreStreams}
+use Rattle.vx_c.specs.InMemory as caller
 use Rattle.vx_c.proofs.Streams.{counted}
 use Rattle.vx_c.proofs.whole.run_in_memory.Goals as goal
 
@@ -13,3 +14,9 @@ run-status-requires c =
     omega (arith, c.loop-stream.invariant, c.in-None.ensures.steps.0, c.into_iter-stream-iterator.ensures.into_iter_gives.1, size, as_many) in
     let names : NamesFiles (texts c.deref-2.result.now) (length c.args.lengths.now) = search rules in
     rw many names
+
+pub returns-clause-words : goal.returns-clause-words
+returns-clause-words c =
+    let exact = c.status_2_is_exact.ensures (texts c.deref-2.result.now) _ _ c.run-status.result _ c.run-status.ensures.ends in
+    let words : texts c.deref-2.result.now ≡ caller.words_in c.args.words.now = search rules in
+    subst (λ ws. (c.run-status.result ≡ 2) ↔ ¬ IsUnderstood ws) words exact
