@@ -1,6 +1,6 @@
 #!/bin/sh
-# Prints docs/FIELDS.md, the fields by their numbers, from the constants of vx_fields, with a star where the definitions of kept fields
-# lack one: what an SPS and a PPS take over but for what the specs except, and what headers don't state anew.
+# Prints docs/FIELDS.md, the fields by their numbers, from the constants of vx_fields, with a star where the tables have one, from which
+# the kept fields are defined.
 # With --check it says whether docs/FIELDS.md is what it prints.
 set -eu
 cd "$(dirname "$0")/.."
@@ -9,21 +9,11 @@ if [ "${1:-}" = --check ]; then
     exit
 fi
 
-# The names in the list of a constant of a .rt file, or of a definition of a .antt file, each in a line.
-constant() { sed -n "/^pub const $2: /,/^\];/p" "$1" | sed 1d | grep -o '[a-z][a-z0-9_]*'; }
-definition() { sed -n "/^$2 = /,/\[\]/p" "$1" | grep -o '\.[a-z][a-z0-9_]*' | cut -c2-; }
-# The fields of a structure, and what its rows name for gaps.
-fields() { sed -n 's/^pub const \([a-z][a-z0-9_]*\): u16.*/\1/p' "crates/vx_fields/src/$1.rt"; }
+# What rows name for gaps.
 gaps() { sed -n 's/.*\(trailing\|one_and_zeros\) \([a-z_]*\);.*/\2/p' crates/vx_*/src/tables.rt; }
-without() { grep -vxF -e "$1" || true; }
-
+# The fields of the rows without a star.
 kept() {
-    case $1 in
-        sps) constant crates/vx_sps/src/tables.rt TAKEN | without "$(definition crates/vx_sps/specs/Depends.antt taken_besides)" ;;
-        pps) constant crates/vx_pps/src/shape.rt TAKEN | without "$(definition crates/vx_pps/specs/laws/Sets.antt starred_pps_fields)" ;;
-        ph | sh) fields "$1" | without "$(constant "crates/vx_$1/src/tables.rt" STARRED)" ;;
-        rpl | weights) fields "$1" ;;
-    esac
+    cat crates/vx_*/src/tables.rt | tr '{}' '\n\n' | grep -oE '^ *[a-z][a-z0-9_]*(;|:| in | below )' | grep -oE '^ *[a-z][a-z0-9_]*' | tr -d ' ' | sort -u
 }
 
 cat <<'END'
@@ -31,12 +21,12 @@ cat <<'END'
 
 A refusal names a field by its number, as `field 171`. This page says which field of H.266 that is: its name, which is the standard's own (a field that two structures share has its name without their prefix; for a row of several fields, as the 71 bits of constraints and the bodies of bytes, the name is ours), and what it says. The structure is the heading. `scripts/list-fields.sh` prints the page from the constants of `crates/vx_fields`, where tables and definitions take the names from.
 
-A star stands at the fields that aren't compared between a source and what is written of it, or between the sources of a merge: decoding slices doesn't depend on them, or what they say is compared in another way, or (124 and 125, whether a subpicture is treated as a picture, and filtered across) the rules on extraction ask for it, and a merge writes it. The ids of adaptation parameter sets count by the bodies in force, QPs by that of each slice, sizes, tiles and slices by the place of each slice in its subpicture (`Input` in `crates/vx_pic/specs/Inputs.antt`). All others are equal where two decoding inputs are, field by field: they are the kept fields of that file, and the script takes them from the lists that define these. Profile, tier, ptl_frame_only_constraint_flag and ptl_multilayer_enabled_flag are compared by `merge` besides (M2).
+A star stands at the fields that aren't compared between a source and what is written of it, or between the sources of a merge: decoding slices doesn't depend on them, or what they say is compared in another way, or (124 and 125, whether a subpicture is treated as a picture, and filtered across) the rules on extraction ask for it, and a merge writes it. The ids of adaptation parameter sets count by the bodies in force, QPs by that of each slice, sizes, tiles and slices by the place of each slice in its subpicture (`Input` in `crates/vx_pic/specs/Inputs.antt`). All others are equal where two decoding inputs are, field by field: they are the kept fields of that file, and the script takes them from the tables' rows, as these do. Profile, tier, ptl_frame_only_constraint_flag and ptl_multilayer_enabled_flag are compared by `merge` besides (M2).
 
 A gap is reported under a number too: trailing bits and the alignment behind a slice header have numbers of their own (231, 470, 656, 735), and zeros up to a byte boundary are reported as the field that comes next behind them.
 END
 for structure in vps ptl dpb timing sps rpl weights pps aps ph alf sh; do
-    awk -v kept="$(kept $structure | tr '\n' ' ')" -v gaps="$(gaps | tr '\n' ' ')" '
+    awk -v kept="$(kept | tr '\n' ' ')" -v gaps="$(gaps | tr '\n' ' ')" '
         BEGIN { split(kept, names, " "); for (i in names) mark[names[i]] = " "; split(gaps, names, " "); for (i in names) mark[names[i]] = "gap" }
         /^\/\/! / { line = substr($0, 5); head = head == "" ? line : head " " line; next }
         /^\/\/\/ / { doc = substr($0, 5); next }

@@ -6,7 +6,8 @@ use Rattle.vx_bits.specs.declared.refusal.Refusal.TheVariants.{Framing, Limit}
 use Rattle.vx_bits.specs.declared.rules.TheConstants.{BAD_EMULATION, LONG_UNIT}
 use Rattle.vx_annexb.specs.Places.{IsFirstFrom}
 use Rattle.vx_annexb.specs.Emulation.{BreaksRule}
-use Rattle.vx_annexb.specs.ByteStream.{unit_limit, UnitPlace, IsSound, RefusesUnit}
+use Rattle.vx_bits.specs.Limits.{unit_limit}
+use Rattle.vx_annexb.specs.ByteStream.{UnitPlace, IsSound, RefusesUnit}
 use Rattle.vx_annexb.specs.inner.Held.{Held, fed, IsDoomedBy, HasSought, Stands}
 use Rattle.vx_annexb.specs.inner.Order.{IsKept, HasBegun, IsInOrder, cut_held, IsCut}
 use Rattle.vx_annexb.proofs.Places.{length-slice}

@@ -7,7 +7,8 @@ use Rattle.vx_bits.specs.declared.rules.TheConstants.{BAD_EMULATION, LONG_UNIT}
 use Rattle.vx_annexb.specs.NalUnit.{HasHeader}
 use Rattle.vx_annexb.specs.Places.{IsFirstFrom}
 use Rattle.vx_annexb.specs.Emulation.{BreaksRule}
-use Rattle.vx_annexb.specs.ByteStream.{unit_limit, RefusesUnit}
+use Rattle.vx_bits.specs.Limits.{unit_limit}
+use Rattle.vx_annexb.specs.ByteStream.{RefusesUnit}
 use Rattle.vx_annexb.proofs.Places.{index_on, mark_on, mark_stream, mark_kept}
 use Rattle.vx_annexb.proofs.EmulationBytes.{emulation_is, emulation_from, same_emulation, breaks_before}
 

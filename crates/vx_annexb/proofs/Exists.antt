@@ -6,7 +6,8 @@ use Rattle.vx_bits.specs.declared.refusal.Refusal.TheVariants.{Framing, Limit}
 use Rattle.vx_annexb.specs.NalUnit.{HasHeader}
 use Rattle.vx_annexb.specs.Places.{AreZeros, IsMark, IsFirstFrom}
 use Rattle.vx_annexb.specs.Emulation.{is_emulation, BreaksRule}
-use Rattle.vx_annexb.specs.ByteStream.{unit_limit, StartsAt, CanEnd, UnitPlace, unit_bytes, IsUnit, IsSound, RefusesUnit, FollowsFrom, end_of, EndsWith}
+use Rattle.vx_bits.specs.Limits.{unit_limit}
+use Rattle.vx_annexb.specs.ByteStream.{StartsAt, CanEnd, UnitPlace, unit_bytes, IsUnit, IsSound, RefusesUnit, FollowsFrom, end_of, EndsWith}
 use Rattle.vx_annexb.specs.Laws.{StreamExists}
 use Rattle.vx_annexb.proofs.Places.{zeros_join}
 

@@ -7,6 +7,7 @@ use Rattle.std.specs.Prelude.{IsTrue, List, [], ◌∷◌, Option, Some, None, l
 use Rattle.vx_bits.specs.declared.refusal.Refusal.{Refusal}
 use Rattle.vx_bits.specs.declared.refusal.Refusal.TheVariants.{Framing, Limit}
 use Rattle.vx_bits.specs.declared.rules.TheConstants.{NOT_A_START_CODE, BAD_EMULATION, BAD_HEADER, LONG_UNIT}
+use Rattle.vx_bits.specs.Limits.{unit_limit}
 use Rattle.vx_annexb.specs.NalUnit.{HasHeader}
 use Rattle.vx_annexb.specs.Places.{AreZeros, IsMark, IsFirstFrom}
 use Rattle.vx_annexb.specs.Emulation.{BreaksRule}
@@ -50,10 +51,6 @@ pub record IsStray (b : List ℕ) (p q : ℕ) : Type 0 where
 -- the most bytes that a source may have (our own limit)
 unfoldable pub source_limit : ℕ
 source_limit = 2 ^ 40
-
--- the most bytes that a unit may have (our own limit)
-abbrev pub unit_limit : ℕ
-unit_limit = 2 ^ 23
 
 -- a unit that no rule refuses (7.3.1, 7.4.2.1; the limit is our own)
 pub record IsSound (unit : List ℕ) : Type 0 where

@@ -7,6 +7,7 @@ use Rattle.vx_bits.specs.declared.refusal.Refusal.{Refusal}
 use Rattle.vx_bits.specs.declared.refusal.Refusal.TheVariants.{Limit}
 use Rattle.vx_bits.specs.declared.rules.TheConstants.{LONG_SOURCE}
 use Rattle.vx_io.specs.Faults.{Rose}
+use Rattle.vx_bits.specs.Limits.{unit_limit}
 use Rattle.vx_annexb.specs.declared.span.Span.{Span}
 use Rattle.vx_annexb.specs.declared.unit_reader.Closed.{Closed}
 use Rattle.vx_annexb.specs.declared.unit_reader.Closed.TheVariants.{End, TooLong, Failed}
@@ -29,7 +30,7 @@ IsOpen r = r.closed ≡ None
 
 -- the bytes that it holds, the room for a read aside
 abbrev pub HoldsFew : Reading → Type 0
-HoldsFew r = held r.splitter ≤ 2 ^ 23 + 2 + 65536
+HoldsFew r = held r.splitter ≤ unit_limit + 2 + 65536
 
 -- Why it reads no more, by the n bytes that it took: they are all there are; or one more than the limit, which is not
 -- looked at; or a read failed.

@@ -6,10 +6,8 @@ ghost use Rattle.vx_annexb.specs.ByteStream.{IsSound, RefusesUnit};
 use crate::emulation::fault_from;
 use crate::read_header;
 use vx_bits::Refusal;
+use vx_bits::limits::UNIT_LIMIT;
 use vx_bits::rules::{BAD_EMULATION, BAD_HEADER, LONG_UNIT};
-
-/// The most bytes that a unit may have.
-pub(crate) const UNIT_LIMIT: usize = 1 << 23;
 
 /// Why the unit that begins at `place` of the stream is refused, where no 00 00 and a byte of at most 03 begins
 /// among its first `clear` bytes.

@@ -3,11 +3,12 @@
 use crate::Span;
 use crate::emulation::{EMULATION, emulation_fault};
 use crate::queue::ByteQueue;
-use crate::rules::{UNIT_LIMIT, refusal_of};
+use crate::rules::refusal_of;
 use crate::search::{find_mark, pass_to_mark, skip_zeros, trim_zeros};
 use std::alloc::{AllocError, Global};
 use std::marker::Model;
 use vx_bits::Refusal;
+use vx_bits::limits::UNIT_LIMIT;
 use vx_bits::rules::{BAD_EMULATION, NOT_A_START_CODE};
 use vx_io::{Source, SourceFailed};
 
@@ -79,6 +80,7 @@ impl Splitter {
     ghost use Rattle.std.specs.Io.KnownBytes.{Keeps};
     ghost use Rattle.vx_io.specs.Faults.{CountsFault};
     ghost use Rattle.vx_bits.specs.declared.refusal.Refusal.{Refusal};
+    ghost use Rattle.vx_bits.specs.Limits.{unit_limit};
     ghost use Rattle.vx_annexb.specs.Places.{IsFirstFrom};
     ghost use Rattle.vx_annexb.specs.ByteStream.{UnitPlace, CanEnd, IsSound, RefusesUnit};
     ghost use Rattle.vx_annexb.specs.Held.{Stands, Answers, IsReadable, IsSought, Lends, fed, held, lent, room as has_room, is_all, first_refusal, ahead};
@@ -115,7 +117,7 @@ impl Splitter {
         ensures all { is_all self.new ≡ is_all self.old }
         ensures refused { first_refusal self.new ≡ first_refusal self.old }
         ensures sought { OnOk result (IsSought self.old → IsSought self.new) }
-        ensures held { OnOk result (IsSought self.old → held self.new ≤ 2 ^ 23 + 2) }
+        ensures held { OnOk result (IsSought self.old → held self.new ≤ unit_limit + 2) }
         ensures succeeds { n ≤ has_room self.old → IsOk result }
         ensures err { OnErr result (self.new ≡ self.old) }
     {
@@ -135,7 +137,7 @@ impl Splitter {
         ensures ahead { OnOk result (ahead self.new ≡ ahead self.old + length piece.now) }
         ensures all { is_all self.new ≡ false }
         ensures refused { first_refusal self.new ≡ first_refusal self.old }
-        ensures held { OnOk result (IsSought self.old → held self.new ≤ 2 ^ 23 + 2 + length piece.now) }
+        ensures held { OnOk result (IsSought self.old → held self.new ≤ unit_limit + 2 + length piece.now) }
         ensures room { length piece.now ≤ has_room self.old → IsOk result }
         ensures err { OnErr result (self.new ≡ self.old) }
     {
@@ -173,7 +175,7 @@ impl Splitter {
     /// From where on bytes are kept when room is made.
     fn cut(&self) -> Cut
         ensures cut { IsCut self.now result.base result.doomed }
-        ensures held { IsSought self.now → fed self.now ≤ result.base + (2 ^ 23 + 2) }
+        ensures held { IsSought self.now → fed self.now ≤ result.base + (unit_limit + 2) }
     {
         if self.base + self.kept.len() as u64 - self.sought > 2 {
             return Cut {

@@ -1,6 +1,7 @@
 //! The NAL units of a source, given one at a time while the source is read.
 ghost use Rattle.std.specs.Prelude.{◌≡◌, ◌+◌, ◌-◌, ◌^◌, ◌<◌, ◌≤◌, ℕ, List, take, min, false, length, IfOk, OnOk, OnErr, Some, None, Err};
 ghost use Rattle.std.specs.Io.KnownBytes.{IsAtEnd};
+ghost use Rattle.vx_bits.specs.Limits.{unit_limit};
 ghost use Rattle.vx_annexb.specs.ByteStream.{UnitPlace, source_limit};
 ghost use Rattle.vx_annexb.specs.Held.{Stands, IsSought, fed, held, is_all, ahead};
 ghost use Rattle.vx_annexb.specs.Reading.{ClosesAt};
@@ -14,14 +15,12 @@ use std::alloc::{AllocError, Global};
 use std::marker::Model;
 use thiserror::Error;
 use vx_bits::Refusal;
+use vx_bits::limits::SOURCE_LIMIT;
 use vx_bits::rules::LONG_SOURCE;
 use vx_io::Source;
 
 /// How many bytes a read asks for.
 const READ_LEN: usize = 65_536;
-
-/// The most bytes that a source may have.
-const SOURCE_LIMIT: u64 = 1 << 40;
 
 /// The refusal of a source that has more.
 const SOURCE_TOO_LONG: Refusal = Refusal::Limit { code: LONG_SOURCE };
@@ -154,14 +153,14 @@ fn read_piece(
     requires fed { fed splitter.old ≡ taken }
     requires within { taken ≤ SOURCE_LIMIT }
     requires sought { IsSought splitter.old }
-    requires held { held splitter.old ≤ 2 ^ 23 + 2 + 65536 }
+    requires held { held splitter.old ≤ unit_limit + 2 + 65536 }
     ensures answer { (g : List ℕ) (units : List UnitPlace) → length g ≡ taken → Stands splitter.old (take source_limit g) units
         → ReadsPiece g units splitter.new (bytes_left source.old) (bytes_left source.new) (read_faults source.old) (read_faults source.new) result }
     ensures count { IfOk result (λ came. came.count ≤ 65536) }
     ensures closes { IfOk result (λ came. ClosesAt came.closed splitter.new (taken + came.count)) }
     ensures fed { IfOk result (λ came. FedOf came.closed splitter.new (taken + came.count)) }
     ensures ahead { OnOk result (ahead splitter.new + fed splitter.old ≡ ahead splitter.old + fed splitter.new) }
-    ensures held { held splitter.new ≤ 2 ^ 23 + 2 + 65536 }
+    ensures held { held splitter.new ≤ unit_limit + 2 + 65536 }
     ensures some { IfOk result (λ came. came.closed ≡ None → 0 < came.count) }
     ensures unfailed { IfOk result (λ came. came.closed ≡ Some Failed → ⊥) }
     ensures end { IfOk result (λ came. came.closed ≡ Some End → IsAtEnd (bytes_left source.new)) }

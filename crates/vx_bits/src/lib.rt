@@ -8,6 +8,7 @@
 
 mod kept;
 mod laws;
+pub mod limits;
 mod list;
 mod reader;
 mod refusal;

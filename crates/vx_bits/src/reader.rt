@@ -4,6 +4,7 @@ ghost use Rattle.vx_bits.specs.Codes.{number, fixed, exp_golomb, signed_exp_golo
 ghost use Rattle.vx_bits.specs.Place.{Place, Takes, taken};
 ghost use Rattle.vx_bits.specs.inner.Window.{bits_ahead, IsWindow};
 ghost use Rattle.vx_bits.specs.inner.Zeros.{zeros_in_front};
+ghost use Rattle.vx_bits.specs.Limits.{unit_limit};
 
 use crate::refusal::BitCause;
 use crate::window::{Window, filled};
@@ -24,13 +25,13 @@ impl<'a> Model for BitReader<'a> {
 
     ghost view = { λ r. record { total = 8 * length r.bytes.now; left = bits_ahead r.bytes.now r.window } };
 
-    ghost invariant = { λ r. (length r.bytes.now ≤ 2 ^ 23) × IsWindow r.bytes.now r.window };
+    ghost invariant = { λ r. (length r.bytes.now ≤ unit_limit) × IsWindow r.bytes.now r.window };
 }
 
 impl<'a> BitReader<'a> {
     /// A reader of all bits of these bytes, of which there are at most 2^23.
     pub fn new(bytes: &'a [u8]) -> BitReader<'a>
-        requires { length bytes.now ≤ 2 ^ 23 }
+        requires { length bytes.now ≤ unit_limit }
         ensures total { result.total ≡ 8 * length bytes.now }
         ensures left { result.left ≡ bits_of bytes.now }
     {

@@ -1,7 +1,8 @@
 //! A window of bits over bytes, filled by whole bytes.
-ghost use Rattle.std.specs.Prelude.{◌≡◌, ◌+◌, ◌*◌, ◌^◌, ◌<◌, ◌≤◌, length, take, drop};
+ghost use Rattle.std.specs.Prelude.{◌≡◌, ◌+◌, ◌*◌, ◌<◌, ◌≤◌, length, take, drop};
 ghost use Rattle.vx_bits.specs.Codes.{number, bits_of};
 ghost use Rattle.vx_bits.specs.inner.Window.{bits_ahead, IsWindow};
+ghost use Rattle.vx_bits.specs.Limits.{unit_limit};
 
 /// The next `held` bits as a number, and the index of the first byte behind them.
 #[derive(Clone, Copy)]
@@ -15,7 +16,7 @@ pub(crate) struct Window {
 #[inline(always)]
 pub(crate) fn filled(bytes: &[u8], window: Window, count: u32) -> Window
     requires count { count ≤ 32 }
-    requires length { length bytes.now ≤ 2 ^ 23 }
+    requires length { length bytes.now ≤ unit_limit }
     requires sound { IsWindow bytes.now window }
     requires within { count ≤ length (bits_ahead bytes.now window) }
     ensures same { bits_ahead bytes.now result ≡ bits_ahead bytes.now window }
@@ -37,7 +38,7 @@ fn with_some_of(bytes: &[u8], window: Window, eight: u64) -> Window
     requires sound { IsWindow bytes.now window }
     requires room { window.held < 32 }
     requires within { window.next + 8 ≤ length bytes.now }
-    requires length { length bytes.now ≤ 2 ^ 23 }
+    requires length { length bytes.now ≤ unit_limit }
     requires eight { eight ≡ number (bits_of (take 8 (drop window.next bytes.now))) }
     ensures same { bits_ahead bytes.now result ≡ bits_ahead bytes.now window }
     ensures sound { IsWindow bytes.now result }
@@ -54,7 +55,7 @@ fn with_some_of(bytes: &[u8], window: Window, eight: u64) -> Window
 /// The window with as many further bytes as it takes to hold `count` bits.
 fn with_bytes(bytes: &[u8], window: Window, count: u32) -> Window
     requires count { count ≤ 32 }
-    requires length { length bytes.now ≤ 2 ^ 23 }
+    requires length { length bytes.now ≤ unit_limit }
     requires sound { IsWindow bytes.now window }
     requires within { count ≤ length (bits_ahead bytes.now window) }
     ensures same { bits_ahead bytes.now result ≡ bits_ahead bytes.now window }

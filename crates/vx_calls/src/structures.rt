@@ -1,5 +1,6 @@
 //! Structures that are coded by their tables, and what is claimed of these.
-ghost use Rattle.std.specs.Prelude.{◌≤◌, ◌^◌, length};
+ghost use Rattle.std.specs.Prelude.{◌≤◌, length};
+ghost use Rattle.vx_bits.specs.Limits.{unit_limit};
 
 use crate::bits::MOST_READ;
 use crate::claims::claimed;
@@ -96,7 +97,7 @@ fn rbsp_of(alloc: Global, word: &str) -> Result<Rbsp> {
 #[derive(Drop)]
 struct Rbsp {
     bytes: Vec<u8>,
-    ghost few: { length bytes.items ≤ 2 ^ 23 },
+    ghost few: { length bytes.items ≤ unit_limit },
 }
 
 /// Reads a structure.

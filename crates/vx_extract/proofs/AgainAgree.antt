@@ -20,12 +20,12 @@ use Rattle.vx_rpl.specs.Depends.{ListsFollowItems, TablesFollowItems}
 use Rattle.vx_rpl.specs.HeaderLists.{lists_of}
 use Rattle.vx_rpl.specs.Resolved.{table_of}
 use Rattle.vx_sps.specs.declared.shape.SubpicPlan.TheVariants.{Absent, One}
-use Rattle.vx_sps.specs.declared.tables.TheConstants.{TAKEN}
+use Rattle.vx_sps.specs.Depends.{taken_sps_fields}
 use Rattle.vx_sps.specs.Set.{extra_ph_bits_of, extra_sh_bits_of, is_weighted, set_flags}
 use Rattle.vx_sps.specs.laws.Reread.{Signals, described_in, id_len_in}
 use Rattle.vx_sps.proofs.Stated.{below}
 use Rattle.vx_table.proofs.With.{no_number, with_field}
-use Rattle.vx_pps.specs.declared.shape.TheConstants.{TAKEN as TAKEN_OF_PPS}
+use Rattle.vx_pps.specs.Reshaped.{taken_for_region}
 use Rattle.vx_pps.specs.Pps.{default_active}
 use Rattle.vx_ph.specs.declared.header.PictureHeader.{PictureHeader}
 use Rattle.vx_ph.specs.Depends.{all_of_sets}
@@ -84,11 +84,11 @@ all_of P each (n ∷ ns) = All-cons P n ns (each n) (all_of P each ns)
 
 -- fields of an SPS that are taken over, or say whether it describes subpictures and how long ids are; and what is no field of one
 abbrev of_sps : ℕ → Bool
-of_sps n = nat_le 400 n || (has (set_of TAKEN) n || (n == 116 || n == 126))
+of_sps n = nat_le 400 n || (has (set_of taken_sps_fields) n || (n == 116 || n == 126))
 
 -- fields of a PPS that are taken over; and what is none of one
 abbrev of_pps : ℕ → Bool
-of_pps n = (nat_lt n 400 || nat_le ph_fields.ph_gdr_or_irap_pic_flag n) || has (set_of TAKEN_OF_PPS) n
+of_pps n = (nat_lt n 400 || nat_le ph_fields.ph_gdr_or_irap_pic_flag n) || has (set_of taken_for_region) n
 
 sps_fields_pass : (passes of_sps all_of_sets ≡ true) × (passes of_sps given ≡ true)
 unfolding fresh
@@ -117,8 +117,8 @@ unset n is = eqb-true n 0 (not-false (n == 0) is)
 module _ (target : ℕ) (level : Option ℕ) (q : Parts) (s p : List Item) (are : AreInForce q) (re : AreRewritten target level q s p) where
   -- ---- the SPS
 
-  taken_with : (of : ℕ) → IsTrue (has (set_of TAKEN) of) → with_field of q.sps ≡ with_field of s
-  taken_with of is = same_with (set_of TAKEN) of q.sps s is (sym re.of_sps.shown_ones)
+  taken_with : (of : ℕ) → IsTrue (has (set_of taken_sps_fields) of) → with_field of q.sps ≡ with_field of s
+  taken_with of is = same_with (set_of taken_sps_fields) of q.sps s is (sym re.of_sps.shown_ones)
 
   info_low : number q.sps sps_fields.sps_subpic_info_present_flag < 2
   unfolding has_value row_below code_below range_below
@@ -147,9 +147,9 @@ module _ (target : ℕ) (level : Option ℕ) (q : Parts) (s p : List Item) (are 
   ]
 
   sps_number : (n : ℕ) → of_sps n ≡ true → n < 400 → number q.sps n ≡ number s n
-  sps_number n pass low = elim (or_cases (nat_le 400 n) (has (set_of TAKEN) n || (n == 116 || n == 126)) pass) [
+  sps_number n pass low = elim (or_cases (nat_le 400 n) (has (set_of taken_sps_fields) n || (n == 116 || n == 126)) pass) [
     | inl high ↦ absurd (omega (arith, low, leb-true 400 n high))
-    | inr some ↦ elim (or_cases (has (set_of TAKEN) n) (n == 116 || n == 126) some) [
+    | inr some ↦ elim (or_cases (has (set_of taken_sps_fields) n) (n == 116 || n == 126) some) [
       | inl is ↦ sym (sps_taken q target level s re.of_sps n is)
       | inr either ↦ elim (or_cases (n == 116) (n == 126) either) [
         | inl info ↦ subst (λ m. number q.sps m ≡ number s m) (sym (eqb-true n 116 info)) same_info
@@ -175,18 +175,18 @@ module _ (target : ℕ) (level : Option ℕ) (q : Parts) (s p : List Item) (are 
 
   tables : TablesFollowItems → structures s ≡ structures q.sps
   unfolding fresh
-  tables follow = ap (λ b. table_of b s) weighted ∙ follow (is_weighted q.sps) (set_of TAKEN) s q.sps refl refl re.of_sps.shown_ones
+  tables follow = ap (λ b. table_of b s) weighted ∙ follow (is_weighted q.sps) (set_of taken_sps_fields) s q.sps refl refl re.of_sps.shown_ones
 
   -- ---- the PPS
 
-  pub pps_with : (of : ℕ) → IsTrue (has (set_of TAKEN_OF_PPS) of) → with_field of q.pps ≡ with_field of p
-  pps_with of is = same_with (set_of TAKEN_OF_PPS) of q.pps p is (sym re.of_pps.rewritten.shown_ones)
+  pub pps_with : (of : ℕ) → IsTrue (has (set_of taken_for_region) of) → with_field of q.pps ≡ with_field of p
+  pps_with of is = same_with (set_of taken_for_region) of q.pps p is (sym re.of_pps.rewritten.shown_ones)
 
-  pub pps_taken : (of : ℕ) → IsTrue (has (set_of TAKEN_OF_PPS) of) → number q.pps of ≡ number p of
-  pps_taken of is = number_of_shown (set_of TAKEN_OF_PPS) of q.pps is ∙ ap (λ xs. number xs of) (sym re.of_pps.rewritten.shown_ones) ∙ sym (number_of_shown (set_of TAKEN_OF_PPS) of p is)
+  pub pps_taken : (of : ℕ) → IsTrue (has (set_of taken_for_region) of) → number q.pps of ≡ number p of
+  pps_taken of is = number_of_shown (set_of taken_for_region) of q.pps is ∙ ap (λ xs. number xs of) (sym re.of_pps.rewritten.shown_ones) ∙ sym (number_of_shown (set_of taken_for_region) of p is)
 
   pps_number : (n : ℕ) → of_pps n ≡ true → 400 ≤ n → n < ph_fields.ph_gdr_or_irap_pic_flag → number q.pps n ≡ number p n
-  pps_number n pass from upto = elim (or_cases (nat_lt n 400 || nat_le ph_fields.ph_gdr_or_irap_pic_flag n) (has (set_of TAKEN_OF_PPS) n) pass) [
+  pps_number n pass from upto = elim (or_cases (nat_lt n 400 || nat_le ph_fields.ph_gdr_or_irap_pic_flag n) (has (set_of taken_for_region) n) pass) [
     | inl out ↦ elim (or_cases (nat_lt n 400) (nat_le ph_fields.ph_gdr_or_irap_pic_flag n) out) [
       | inl low ↦ absurd (omega (arith, from, ltb-true n 400 low))
       | inr high ↦ absurd (omega (arith, upto, leb-true ph_fields.ph_gdr_or_irap_pic_flag n high))

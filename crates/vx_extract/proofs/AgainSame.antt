@@ -13,7 +13,7 @@ use Rattle.vx_table.specs.Shown.{shown_items}
 use Rattle.vx_table.proofs.Rewriting.{rewrites_one_way}
 use Rattle.vx_sps.specs.declared.shape.SpsShape.{SpsShape}
 use Rattle.vx_sps.specs.declared.shape.SubpicPlan.TheVariants.{Absent, One}
-use Rattle.vx_sps.specs.declared.tables.TheConstants.{TAKEN}
+use Rattle.vx_sps.specs.Depends.{taken_sps_fields}
 use Rattle.vx_sps.specs.Structure.{sps_form}
 use Rattle.vx_sps.specs.Set as sps
 use Rattle.vx_sps.specs.Subpictures.{sps_subpic_id_of, rect_of, subpics_of}
@@ -69,4 +69,4 @@ same_again tells target level q r s t are others within same one two =
     let first : IsReshapedSps q.sps (shape_from q.sps target level) s = subst (λ x. IsReshapedSps q.sps x s) (shape_is tells q target level are within) one in
     let second : IsReshapedSps r.sps (shape_from r.sps target level) t = subst (λ x. IsReshapedSps r.sps x t) (shape_is tells r target level others inside) two in
     let moved : IsReshapedSps r.sps (shape_from r.sps target level) s = subst (λ x. IsReshapedSps x (shape_from x target level) s) same first in
-    rewrites_one_way sps_form (set_of TAKEN) (shown_items (set_of TAKEN) r.sps) (stated_sps_items r.sps (shape_from r.sps target level)) s t moved second
+    rewrites_one_way sps_form (set_of taken_sps_fields) (shown_items (set_of taken_sps_fields) r.sps) (stated_sps_items r.sps (shape_from r.sps target level)) s t moved second

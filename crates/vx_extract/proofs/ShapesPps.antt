@@ -27,7 +27,7 @@ use Rattle.vx_pic.specs.Sets.{pps_id, referred_sps}
 use Rattle.vx_pic.proofs.Sizes.{id_length_below}
 use Rattle.vx_extract.specs.Shapes.{id_in_pps, pps_shape}
 use Rattle.vx_write.specs.InForce.{AreInForce}
-use Rattle.vx_write.proofs.Ids.{pps_id_below, referred_below}
+use Rattle.vx_pps.proofs.Ids.{id_below, sps_id_below}
 use Rattle.vx_extract.proofs.ShapesIdBits.{id_low_in_pps}
 use Rattle.vx_write.proofs.Listable.{listable}
 use Rattle.vx_write.proofs.Sizes.{IsSide, subpic_is, subpics_count}
@@ -73,8 +73,8 @@ unfolding pps_id referred_sps
 pps_is_shape tells reads listables regions q k are within =
     let sides = has_sides_in tells q k are within in
     record {
-      id = pps_id_below q.pps are.pps;
-      sps_id = referred_below q.pps are.pps;
+      id = id_below q.pps are.pps;
+      sps_id = sps_id_below q.pps are.pps;
       width = size_from _ _ _ sides.wide;
       height = size_from _ _ _ sides.high;
       subpic_id = id_fits q k are within;

@@ -22,7 +22,8 @@ use Rattle.vx_pic.specs.Sets.{sps_id}
 use Rattle.vx_pic.proofs.Sizes.{id_length_below}
 use Rattle.vx_extract.specs.Shapes.{dpb_of, offset, plan_of, sps_shape, window_of}
 use Rattle.vx_write.specs.InForce.{AreInForce}
-use Rattle.vx_write.proofs.Ids.{coded, sps_id_below}
+use Rattle.vx_sps.proofs.Bounded.{id_below}
+use Rattle.vx_write.proofs.Ids.{coded}
 use Rattle.vx_extract.proofs.ShapesIdBits.{id_low_in_sps}
 use Rattle.vx_write.proofs.Sizes.{IsSide}
 use Rattle.vx_extract.proofs.ShapesSizes.{has_sides_in}
@@ -72,7 +73,7 @@ unfolding sps_id
 sps_is_shape tells q k level are within =
     let sides = has_sides_in tells q k are within in
     record {
-      id = sps_id_below q.sps are.sps;
+      id = id_below q.sps are.sps;
       width = size_from _ _ _ sides.wide;
       height = size_from _ _ _ sides.high;
       window = window_coded q.sps (rect_of q.sps k) are.sps;

@@ -5,7 +5,7 @@ use Rattle.std.specs.List.{AllByRecursion}
 use Rattle.std.proofs.lemmas.Bool.{cases_Bool}
 use Rattle.std.proofs.lemmas.List.{length_push}
 use Rattle.std.proofs.lemmas.List.Elements.{All-from_recursion, recursion_from_All}
-use Rattle.vx_annexb.specs.ByteStream.{unit_limit}
+use Rattle.vx_bits.specs.Limits.{unit_limit}
 use Rattle.vx_annexb.specs.Laws.{CanStand, EscapedIsUnique, EscapedSplits, written}
 use Rattle.vx_aps.specs.Aps.{spelled}
 use Rattle.vx_layout.proofs.Parts.{Each-append}

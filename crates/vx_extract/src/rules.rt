@@ -4,8 +4,7 @@ ghost use Rattle.vx_extract.specs.Rules as rules;
 
 use vx_bits::Refusal;
 use vx_bits::rules::{FILTERED_ACROSS, IRAP_DROPPED, NO_SUCH_SUBPICTURE, NOT_TREATED_AS_PICTURE};
-use vx_pic::Picture;
-use vx_write::is_irap_or_gdr;
+use vx_pic::{Picture, is_irap_or_gdr};
 
 /// Whether a picture belongs to a sublayer that is kept.
 pub(crate) fn is_kept(picture: &Picture<'_>, tid: u8) -> bool

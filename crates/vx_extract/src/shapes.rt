@@ -5,7 +5,6 @@ ghost use Rattle.vx_sps.specs.Subpictures.{rect_of, subpics_of};
 ghost use Rattle.vx_sps.specs.Reshaped as sps_reshaped;
 ghost use Rattle.vx_pps.specs.Reshaped as pps_reshaped;
 ghost use Rattle.vx_pic.specs.PictureLayout as layout;
-ghost use Rattle.vx_pic.specs.Sets as sets;
 ghost use Rattle.vx_extract.specs.Shapes as spec;
 
 use std::alloc::{AllocError, Global};
@@ -14,11 +13,10 @@ use vx_fields::dpb::{
 };
 use vx_fields::pps::{
     pps_loop_filter_across_slices_enabled_flag, pps_loop_filter_across_tiles_enabled_flag,
-    pps_pic_parameter_set_id, pps_seq_parameter_set_id,
 };
 use vx_fields::sps::{
     sps_conf_win_bottom_offset, sps_conf_win_left_offset, sps_conf_win_right_offset,
-    sps_conf_win_top_offset, sps_seq_parameter_set_id, sps_subpic_id_len_minus1,
+    sps_conf_win_top_offset, sps_subpic_id_len_minus1,
     sps_subpic_id_mapping_explicitly_signalled_flag, sps_subpic_id_mapping_present_flag,
     sps_subpic_info_present_flag,
 };
@@ -28,38 +26,6 @@ use vx_pps::{Pps, PpsShape, Tiles, read_slices_are_listable, reshape_pps, sets_t
 use vx_sps::{Sps, SpsShape, SubpicPlan, reshape_sps};
 use vx_table::quotient;
 use vx_write::{in_pps, in_sps, own_level, sets_in_force};
-
-// ---- numbers of the sets
-
-/// The id of its SPS.
-#[tactic(auto, using(vx_write::proofs::Ids::sps_id_below), unfolding(vx_pic::specs::Sets::sps_id))]
-fn sps_id(picture: &Picture<'_>) -> u8
-    ensures value { result ≡ sets.sps_id picture.now.sps }
-    ensures low { result < 16 }
-{
-    let _set = picture.sps().fields();
-    in_sps(picture, sps_seq_parameter_set_id) as u8
-}
-
-/// The id of its PPS.
-#[tactic(auto, using(vx_write::proofs::Ids::pps_id_below), unfolding(vx_pic::specs::Sets::pps_id))]
-fn pps_id(picture: &Picture<'_>) -> u8
-    ensures value { result ≡ sets.pps_id picture.now.pps }
-    ensures low { result < 64 }
-{
-    let _set = picture.pps().fields();
-    in_pps(picture, pps_pic_parameter_set_id) as u8
-}
-
-/// The id of the SPS that its PPS refers to.
-#[tactic(auto, using(vx_write::proofs::Ids::referred_below), unfolding(vx_pic::specs::Sets::referred_sps))]
-fn referred_sps(picture: &Picture<'_>) -> u8
-    ensures value { result ≡ sets.referred_sps picture.now.pps }
-    ensures low { result < 16 }
-{
-    let _set = picture.pps().fields();
-    in_pps(picture, pps_seq_parameter_set_id) as u8
-}
 
 // ---- the subpicture
 
@@ -162,6 +128,7 @@ fn plan(picture: &Picture<'_>, target: u32) -> SubpicPlan
 }
 
 /// What the SPS says.
+#[tactic(auto, unfolding(vx_pic::specs::Sets::sps_id))]
 fn sps_shape(picture: &Picture<'_>, target: u32, level: Option<u8>) -> SpsShape
     requires { target < subpics_of picture.now.sps }
     ensures value { result ≡ spec.sps_shape picture.now target level }
@@ -171,7 +138,7 @@ fn sps_shape(picture: &Picture<'_>, target: u32, level: Option<u8>) -> SpsShape
     sets_tell_partitions();
     let (width, height) = size_of(picture, target);
     SpsShape {
-        id: sps_id(picture),
+        id: picture.sps().sps_id(),
         width,
         height,
         window: window(picture, target),
@@ -212,6 +179,7 @@ fn id_in_pps(picture: &Picture<'_>, target: u32) -> Option<(u32, u32)>
 }
 
 /// What the PPS says.
+#[tactic(auto, unfolding(vx_pic::specs::Sets::pps_id, vx_pic::specs::Sets::referred_sps))]
 fn pps_shape(alloc: Global, picture: &Picture<'_>, target: u32) -> Result<PpsShape, AllocError>
     requires { target < subpics_of picture.now.sps }
     ensures value { IfOk result (λ shape. shape ≡ spec.pps_shape picture.now target) }
@@ -225,8 +193,8 @@ fn pps_shape(alloc: Global, picture: &Picture<'_>, target: u32) -> Result<PpsSha
     let (width, height) = size_of(picture, target);
     let region = picture.layout().region(alloc, target)?;
     Ok(PpsShape {
-        id: pps_id(picture),
-        sps_id: referred_sps(picture),
+        id: picture.pps().pps_id(),
+        sps_id: picture.pps().sps_id(),
         width,
         height,
         ctb: picture.sps().ctb(),

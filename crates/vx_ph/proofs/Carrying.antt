@@ -16,7 +16,7 @@ use Rattle.vx_rpl.specs.Lists.{lists_form, weights, weights_form}
 use Rattle.vx_rpl.specs.Depends.{list_chains, known_behind_list, first_chains, behind_first, second_chains, known_behind_second, lists_chain, behind_lists}
 use Rattle.vx_rpl.proofs.Carrying.{lists_carry}
 use Rattle.vx_ph.specs.Header.{ph_before_lists, lists_if_present, middle, weights_if_present, back, ph_before_weights, header_form}
-use Rattle.vx_ph.specs.Depends.{of_header, kept_ph_fields, kept_of_sets, all_of_sets, KeptDepend, AllDepend}
+use Rattle.vx_ph.specs.Depends.{of_header, kept_with_names, kept_of_sets, all_of_sets, KeptDepend, AllDepend}
 
 -- Along a header it goes where the tests of its parts hold; a, b, c are what is known before it, before the lists and before the weights.
 pub header_carries : (table : RplTable) (shown a b c : List ℕ) → sections_chain shown a ph_before_lists ≡ true → behind_sections shown a ph_before_lists ≡ b
@@ -44,5 +44,5 @@ all_depend table = chains_depend all_of_sets of_header _ (header_form table)
 
 pub kept_depend : KeptDepend
 unfolding fresh has_value knows_formula knows_width knows_range knows_presence hides_counter hides_row behind_field within_block depends behind_rows table_depends behind_table comes_always list_chains known_behind_list first_chains behind_first second_chains known_behind_second lists_chain behind_lists
-kept_depend table = chains_depend kept_of_sets kept_ph_fields _ (header_form table)
-    (header_carries table (with_all (set_of kept_of_sets) kept_ph_fields) (set_of kept_of_sets) _ _ refl refl refl refl refl refl refl refl refl)
+kept_depend table = chains_depend kept_of_sets kept_with_names _ (header_form table)
+    (header_carries table (with_all (set_of kept_of_sets) kept_with_names) (set_of kept_of_sets) _ _ refl refl refl refl refl refl refl refl refl)

@@ -3,7 +3,6 @@ pub mod Carrying
 pub mod Passing
 mod Rewriting
 pub mod Admitting
-pub mod Gathering
 pub mod Telling
 pub mod Sets
 pub mod Same

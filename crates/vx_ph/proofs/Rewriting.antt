@@ -34,14 +34,14 @@ use Rattle.vx_rpl.specs.Lists.{lists_form, weights, weights_form}
 use Rattle.vx_rpl.proofs.Passing.{lists_show, lists_leave}
 use Rattle.vx_ph.specs.declared.tables.TheConstants.{PICTURE, PPS_ID, ORDER_COUNT, ALF, LMCS_AND_SCALING, OUTPUT, QP, FILTERS}
 use Rattle.vx_ph.specs.Header.{ph_before_lists, lists_if_present, middle, weights_if_present, back, ph_before_weights, header_form}
-use Rattle.vx_ph.specs.Depends.{kept_ph_fields, kept_of_sets, starred_of_sets, HeaderRewrites}
+use Rattle.vx_ph.specs.Depends.{kept_with_names, kept_of_sets, starred_of_sets, HeaderRewrites}
 use Rattle.vx_ph.proofs.Admitting.{Adds, adds_none, adds_all, adds_then, adds_before, refilled}
 use Rattle.vx_ph.proofs.Carrying.{kept_depend}
 use Rattle.vx_ph.proofs.Telling.{given_is_kept, not_given_is_not_kept}
 
 -- what is taken over, with what that depends on; and what the others read
 names : List ℕ
-names = with_all (set_of kept_of_sets) kept_ph_fields
+names = with_all (set_of kept_of_sets) kept_with_names
 
 abbrev of_maps : List ℕ
 of_maps = sps_chroma_format_idc ∷ sps_lmcs_enabled_flag ∷ sps_explicit_scaling_list_enabled_flag ∷ []

@@ -16,7 +16,7 @@ use Rattle.vx_rpl.specs.Resolved.{table_of}
 use Rattle.vx_rpl.proofs.Following.{lists_follow_items, tables_follow_items}
 use Rattle.vx_sps.specs.Depends as sps_set
 use Rattle.vx_sps.specs.Set.{extra_ph_bits_of, extra_sh_bits_of, is_weighted, set_flags}
-use Rattle.vx_pps.specs.Pps.{default_active}
+use Rattle.vx_pps.specs.Pps.{default_active, kept_pps_fields}
 use Rattle.vx_pps.specs.laws.Sets as pps_set
 use Rattle.vx_pps.proofs.Fields.{all_pass, passes, same_with, with_field}
 use Rattle.vx_pps.proofs.Numbered.{kept_tells_numbers}
@@ -47,7 +47,7 @@ abbrev pub of_sps : ℕ → Bool
 of_sps n = nat_le 400 n || has (set_of sps_set.kept_sps_fields) n
 
 abbrev pub of_pps : ℕ → Bool
-of_pps n = (nat_lt n 400 || nat_le 600 n) || has (set_of pps_set.kept_pps_fields) n
+of_pps n = (nat_lt n 400 || nat_le 600 n) || has (set_of kept_pps_fields) n
 
 -- and the one that isn't a field
 abbrev of_headers : ℕ → Bool
@@ -74,7 +74,7 @@ module _ (sps pps other_sps other_pps : List Item) (same : HaveSameKept sps pps 
   gives = kept_tells_numbers pps other_pps same.is_pps same.is_other_pps (sym same.of_pps)
 
   pub pps_numbers : (n : ℕ) → of_pps n ≡ true → 400 ≤ n → n < 600 → number pps n ≡ number other_pps n
-  pps_numbers n pass from upto = elim (or_cases (nat_lt n 400 || nat_le 600 n) (has (set_of pps_set.kept_pps_fields) n) pass) [
+  pps_numbers n pass from upto = elim (or_cases (nat_lt n 400 || nat_le 600 n) (has (set_of kept_pps_fields) n) pass) [
     | inl out ↦ elim (or_cases (nat_lt n 400) (nat_le 600 n) out) [
       | inl low ↦ absurd (omega (arith, from, ltb-true n 400 low))
       | inr high ↦ absurd (omega (arith, upto, leb-true 600 n high))

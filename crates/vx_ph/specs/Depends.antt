@@ -4,6 +4,8 @@ use Rattle.vx_bits.specs.declared.list.Item.{Item}
 use Rattle.vx_bits.specs.declared.refusal.ReadError.{ReadError}
 use Rattle.vx_bits.specs.Place.{Place}
 use Rattle.vx_table.specs.Forms.{form_of}
+use Rattle.vx_table.specs.Parts.{Section, always}
+use Rattle.vx_table.specs.Unstarred.{unstarred}
 use Rattle.vx_table.specs.Spelling.{items_along}
 use Rattle.vx_table.specs.Values.{Follows}
 use Rattle.vx_table.specs.Reading.{Reads}
@@ -18,13 +20,25 @@ use Rattle.vx_fields.specs.declared.pps.TheConstants as pps
 use Rattle.vx_fields.specs.declared.ph.TheConstants as ph
 use Rattle.vx_fields.specs.declared.names.ph.TheConstants.{EXTRA_PH_BITS, FILTER_SET}
 use Rattle.vx_rpl.specs.declared.entry.RplTable.{RplTable}
-use Rattle.vx_rpl.specs.Lists.{weights}
+use Rattle.vx_rpl.specs.declared.tables.TheConstants.{BEFORE_LIST_0, CHOICE, BEHIND_LIST_0, BEHIND_LIST_1}
+use Rattle.vx_rpl.specs.Lists.{own_and_long_term, weights}
 use Rattle.vx_rpl.specs.Depends.{fields_behind_lists}
 use Rattle.vx_ph.specs.declared.tables.TheConstants.{PICTURE, PPS_ID, ORDER_COUNT, ALF, LMCS_AND_SCALING, OUTPUT, INTRA, INTER, QP, FILTERS}
 use Rattle.vx_ph.specs.declared.tables.TheConstants.{STARRED}
 use Rattle.vx_ph.specs.Header.{ph_before_lists, middle, back, header_form}
 
 -- ---- fields
+
+-- the tables of reference picture lists, and all of a header
+abbrev pub lists_tables : List Section
+lists_tables = always BEFORE_LIST_0 ∷ always CHOICE ∷ (own_and_long_term ++ (always BEHIND_LIST_0 ∷ always BEHIND_LIST_1 ∷ []))
+
+abbrev pub ph_tables : List Section
+ph_tables = ph_before_lists ++ (lists_tables ++ (middle ++ (weights ++ back)))
+
+-- the kept fields: those without a star
+abbrev pub kept_ph_fields : List ℕ
+kept_ph_fields = unstarred ph_tables
 
 -- all that a header has, and what its rows name besides
 abbrev pub of_header : List ℕ
@@ -34,9 +48,9 @@ of_header = named_by_all ph_before_lists ++ (named_by_all middle ++ (named_by_al
 abbrev pub starred : List ℕ
 starred = FILTER_SET ∷ STARRED
 
--- all others are kept
-abbrev pub kept_ph_fields : List ℕ
-kept_ph_fields = filter (λ n. not (has (set_of starred) n)) of_header
+-- the others: the kept fields, with the names that their rows use
+abbrev pub kept_with_names : List ℕ
+kept_with_names = filter (λ n. not (has (set_of starred) n)) of_header
 
 -- ---- what they depend on
 
@@ -67,13 +81,13 @@ all_of_sets = starred_of_sets ++ kept_for_starred
 
 -- The presence, coding and range of each kept field depend on kept fields of the sets, and kept fields before it in the header, alone.
 abbrev pub KeptDepend : Type 0
-KeptDepend = (table : RplTable) → DependsOnlyOn kept_of_sets kept_ph_fields (header_form table)
+KeptDepend = (table : RplTable) → DependsOnlyOn kept_of_sets kept_with_names (header_form table)
 
 -- Those of each field depend besides on the two fields, and any field before it in the header.
 abbrev pub AllDepend : Type 0
 AllDepend = (table : RplTable) → DependsOnlyOn all_of_sets of_header (header_form table)
 
--- The header keeps exactly the kept fields, and all its fields are named above.
+-- A field has a star in each of its rows, or in none; and all fields are named above.
 abbrev pub KeepsKept : Type 0
 KeepsKept = (table : RplTable) → KeepsOnly kept_of_sets kept_ph_fields (header_form table)
 

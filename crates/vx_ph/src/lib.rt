@@ -22,7 +22,7 @@ pub use laws::{
 };
 pub use pps_id::{read_pps_id, read_pps_id_fields};
 pub use read::read_header_at;
-pub use reshape::{others_of, reshape_ph};
+pub use reshape::reshape_ph;
 pub use scope::{both_sets, in_force};
 pub use shape::{LmcsShape, PhShape};
 pub use tables::{

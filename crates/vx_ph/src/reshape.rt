@@ -1,10 +1,5 @@
 //! The picture header that is sent for a frame of several sources, put together of a source's fields and stated ones.
-ghost use Rattle.std.specs.Prelude.{◌≡◌, [], ◌∷◌, ◌++◌, OnOk, IfOk};
-ghost use Rattle.vx_table.specs.Depends as sets;
-ghost use Rattle.vx_table.specs.Loaded as loading;
-ghost use Rattle.vx_table.specs.Rewritten.{other_items};
-ghost use Rattle.vx_sps.specs.Reshaped as reshaped;
-ghost use Rattle.vx_table.specs.Rewritten.{where_so};
+ghost use Rattle.std.specs.Prelude.{◌≡◌, [], ◌++◌, OnOk, IfOk};
 ghost use Rattle.vx_ph.specs.declared.tables.TheConstants as tables;
 ghost use Rattle.vx_ph.specs.Header.{header_form};
 ghost use Rattle.vx_ph.specs.InForce.{in_force, structures};
@@ -18,7 +13,7 @@ use crate::shape::{LmcsShape, PhShape};
 use crate::tables::STARRED;
 use crate::walk::code_header;
 use std::alloc::{AllocError, Global};
-use vx_bits::{Fields, Item};
+use vx_bits::Fields;
 use vx_fields::ph::{
     ph_chroma_residual_scale_flag, ph_explicit_scaling_list_enabled_flag, ph_lmcs_aps_id,
     ph_lmcs_enabled_flag, ph_pic_parameter_set_id, ph_scaling_list_aps_id,
@@ -29,57 +24,9 @@ use vx_fields::sps::{
 use vx_pps::Pps;
 use vx_rpl::{RplTable, resolve_lists};
 use vx_sps::Sps;
-use vx_table::{Rewriter, Scope, SpellError, Unwritten, set_of};
-
-/// Whether a field is one of a set.
-fn has(names: &Scope, field: u16) -> bool
-    ensures { result ≡ sets.has names.now field }
-{
-    names.latest(field) != 0
-}
-
-/// The items of all fields but those of a set, in order.
-///
-/// # Errors
-///
-/// Where memory runs out.
-#[tactic(auto, using(crate::proofs::Gathering::other_more, crate::proofs::Gathering::other_passed))]
-pub fn others_of(alloc: Global, items: &Fields, names: &Scope) -> Result<Fields, AllocError>
-    ensures { IfOk result (λ others. others ≡ other_items names.now items.now) }
-{
-    let mut others = Fields::new(alloc);
-    for i in 0..items.len() {
-        let item = items.item(i);
-        if !has(names, item.field) {
-            others.push(item)?;
-        }
-    }
-    Ok(others)
-}
-
-/// An item of a field.
-fn item(field: u16, number: u32) -> Item
-    ensures { result ≡ reshaped.item field number }
-{
-    Item {
-        field,
-        value: i64::from(number),
-    }
-}
-
-/// The number that a set's last item of a field gives it.
-fn number(sps: &Sps, field: u16) -> u32
-    ensures { result ≡ loading.number sps.now field }
-{
-    sps.scope().latest(field)
-}
-
-/// Appends an item that stands only where something holds.
-fn push_where(holds: bool, item: Item, into: &mut Fields) -> Result<(), AllocError>
-    ensures { OnOk result (into.new ≡ into.old ++ where_so holds (item ∷ [])) }
-{
-    if holds { into.push(item) } else { Ok(()) }
-}
+use vx_table::{
+    Rewriter, Scope, SpellError, Unwritten, item, only_memory, others_of, push_where, set_of,
+};
 
 /// Luma mapping with chroma scaling.
 fn push_lmcs(chroma: u32, lmcs: Option<LmcsShape>, into: &mut Fields) -> Result<(), AllocError>
@@ -113,10 +60,10 @@ fn push_scaling(scaling: Option<u8>, into: &mut Fields) -> Result<(), AllocError
 fn push_maps(sps: &Sps, shape: &PhShape, into: &mut Fields) -> Result<(), AllocError>
     ensures { OnOk result (into.new ≡ into.old ++ map_items sps.now shape.now) }
 {
-    if number(sps, sps_lmcs_enabled_flag) != 0 {
-        push_lmcs(number(sps, sps_chroma_format_idc), shape.lmcs, into)?;
+    if sps.number(sps_lmcs_enabled_flag) != 0 {
+        push_lmcs(sps.number(sps_chroma_format_idc), shape.lmcs, into)?;
     }
-    if number(sps, sps_explicit_scaling_list_enabled_flag) != 0 {
+    if sps.number(sps_explicit_scaling_list_enabled_flag) != 0 {
         push_scaling(shape.scaling, into)?;
     }
     Ok(())
@@ -172,8 +119,7 @@ fn reshaped_items(
     let mut items = Fields::new(alloc);
     match put_together(&stated, &kept, sps.table(), in_force(sps, pps), &mut items) {
         Ok(()) => Ok(items),
-        Err(SpellError::Memory) => Err(AllocError),
-        Err(SpellError::NoValue) => unreachable!(),
+        Err(error) => Err(only_memory(error)),
     }
 }
 

@@ -1,6 +1,7 @@
 //! Picture headers under the sets in force.
-ghost use Rattle.std.specs.Prelude.{◌≤◌, ◌^◌, length, IfOk, OnOk, OnErr};
+ghost use Rattle.std.specs.Prelude.{◌≤◌, length, IfOk, OnOk, OnErr};
 ghost use Rattle.vx_bits.specs.Place.{Place};
+ghost use Rattle.vx_bits.specs.Limits.{unit_limit};
 ghost use Rattle.vx_table.specs.Reading.{Reads, at_front};
 ghost use Rattle.vx_ph.specs.Header.{header_form};
 ghost use Rattle.vx_ph.specs.InForce.{in_force, structures};
@@ -45,7 +46,7 @@ pub fn read_ph_unit(
     sps: &Sps,
     pps: &Pps,
 ) -> Result<PictureHeader, ReadError>
-    requires { length rbsp.now ≤ 2 ^ 23 }
+    requires { length rbsp.now ≤ unit_limit }
     ensures answer { ReadsUnit (structures sps.now) (in_force sps.now pps.now) rbsp.now result }
     ensures value { IfOk result (λ header. IsHeader (structures sps.now) (in_force sps.now pps.now) header) }
 {
@@ -81,7 +82,7 @@ pub fn read_ph_unit_fields(
     pps: &Pps,
     into: &mut Fields,
 ) -> Result<(), ReadError>
-    requires { length rbsp.now ≤ 2 ^ 23 }
+    requires { length rbsp.now ≤ unit_limit }
     ensures { (new : Place)
         × Reads (unit_form (structures sps.now) (in_force sps.now pps.now)) (at_front rbsp.now) into.old result new into.new }
 {

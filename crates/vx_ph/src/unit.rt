@@ -1,5 +1,6 @@
 //! Reading a picture header that is a unit of its own.
-ghost use Rattle.std.specs.Prelude.{◌≡◌, ◌≤◌, ◌^◌, length, IfOk};
+ghost use Rattle.std.specs.Prelude.{◌≡◌, ◌≤◌, length, IfOk};
+ghost use Rattle.vx_bits.specs.Limits.{unit_limit};
 ghost use Rattle.vx_table.specs.Reading.{Reads};
 ghost use Rattle.vx_ph.specs.Picture.{IsHeader, ReadsUnit, unit_form};
 
@@ -34,7 +35,7 @@ pub fn read_unit_at(
     table: &RplTable,
     scope: &Scope,
 ) -> Result<PictureHeader, ReadError>
-    requires { length rbsp.now ≤ 2 ^ 23 }
+    requires { length rbsp.now ≤ unit_limit }
     ensures answer { ReadsUnit table.now scope.now rbsp.now result }
     ensures value { IfOk result (λ header. IsHeader table.now scope.now header) }
 {

@@ -9,7 +9,7 @@ use crate::walk::{code_header, code_unit};
 use std::alloc::{AllocError, Global};
 use vx_bits::BitWriter;
 use vx_rpl::RplTable;
-use vx_table::{Scope, SpellError, Unwritten};
+use vx_table::{Scope, SpellError, Unwritten, only_memory};
 
 /// Writes the header whose items come next.
 fn write_fields(
@@ -42,8 +42,7 @@ pub fn write_header_at(
     let mut items = Unwritten::new(fields, 0, fields.len());
     match write_fields(bits, &mut items, table, *scope) {
         Ok(()) => Ok(()),
-        Err(SpellError::Memory) => Err(AllocError),
-        Err(SpellError::NoValue) => unreachable!(),
+        Err(error) => Err(only_memory(error)),
     }
 }
 
@@ -74,7 +73,6 @@ pub fn write_unit_at(
     let mut items = Unwritten::new(fields, 0, fields.len());
     match write_unit(&mut bits, &mut items, table, *scope) {
         Ok(()) => Ok(bits.into_bytes()),
-        Err(SpellError::Memory) => Err(AllocError),
-        Err(SpellError::NoValue) => unreachable!(),
+        Err(error) => Err(only_memory(error)),
     }
 }

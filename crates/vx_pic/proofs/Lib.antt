@@ -31,7 +31,6 @@ pub mod Spans
 pub mod Ranges
 pub mod Bodies
 pub mod FieldNumbers
-pub mod KeptFields
 pub mod Shown
 pub mod Comparing
 pub mod FieldByField

@@ -1,101 +1,100 @@
 //! The kept fields of sets and headers.
-ghost use Rattle.std.specs.Prelude.{◌≡◌, not, filter, IfOk};
-ghost use Rattle.vx_table.specs.Depends.{has, with_all, set_of};
+ghost use Rattle.std.specs.Prelude.{◌≡◌, IfOk};
+ghost use Rattle.vx_table.specs.Depends.{with_all, set_of};
 ghost use Rattle.vx_table.specs.Shown.{shown_items};
+ghost use Rattle.vx_table.specs.Unstarred.{unstarred};
+ghost use Rattle.vx_rpl.specs.Lists.{weights};
 ghost use Rattle.vx_pic.specs.Inputs as inputs;
+ghost use Rattle.vx_ph.specs.Header.{ph_before_lists};
 ghost use Rattle.vx_ph.specs.Depends as header;
+ghost use Rattle.vx_sh.specs.Slice.{before_lists};
 ghost use Rattle.vx_sh.specs.Depends as slice;
 
 use std::alloc::{AllocError, Global};
 use vx_bits::{Fields, Kept};
-use vx_fields::names::ph::{EXTRA_PH_BITS, FILTER_SET};
-use vx_fields::names::sh::HAS_ALF;
-use vx_fields::ph::{
-    ph_chroma_residual_scale_flag, ph_explicit_scaling_list_enabled_flag, ph_lmcs_aps_id,
-    ph_lmcs_enabled_flag, ph_pic_parameter_set_id, ph_qp_delta, ph_rbsp_trailing_bits,
-    ph_scaling_list_aps_id,
-};
-use vx_fields::sh::{
-    sh_explicit_scaling_list_used_flag, sh_lmcs_used_flag, sh_picture_header_in_slice_header_flag,
-    sh_qp_delta, sh_subpic_id,
-};
-use vx_fields::{alf, names, ph, rpl, sh, weights};
 use vx_pps::{Pps, keep_pps};
 use vx_sps::{Sps, keep_sps};
-use vx_table::Scope;
+use vx_table::{Scope, mark_unstarred};
 
-/// What isn't kept of a picture header: fields with a star, and what is no field of it.
-const NOT_OF_HEADER: [u16; 10] = [
-    ph_pic_parameter_set_id,
-    ph_lmcs_enabled_flag,
-    ph_lmcs_aps_id,
-    ph_chroma_residual_scale_flag,
-    ph_explicit_scaling_list_enabled_flag,
-    ph_scaling_list_aps_id,
-    ph_qp_delta,
-    ph_rbsp_trailing_bits,
-    EXTRA_PH_BITS,
-    FILTER_SET,
-];
-
-/// What isn't kept of a slice header: fields with a star, and what is named for them alone.
-const NOT_OF_SLICE: [u16; 7] = [
-    sh_picture_header_in_slice_header_flag,
-    sh_subpic_id,
-    sh_lmcs_used_flag,
-    sh_explicit_scaling_list_used_flag,
-    sh_qp_delta,
-    FILTER_SET,
-    HAS_ALF,
-];
-
-/// Gives each of these fields the number 1.
-fn mark(scope: &mut Scope, fields: &[u16])
-    ensures { scope.new ≡ with_all scope.old fields.now }
+/// Marks the fields without a star of reference picture lists.
+fn mark_lists(kept: &mut Scope)
+    ensures { kept.new ≡ with_all kept.old (unstarred header.lists_tables) }
 {
-    for i in 0..fields.len() {
-        scope.set(fields[i], 1);
-    }
+    mark_unstarred(kept, &vx_rpl::BEFORE_LIST_0);
+    mark_unstarred(kept, &vx_rpl::CHOICE);
+    mark_unstarred(kept, &vx_rpl::REF_PIC_LIST_STRUCT);
+    mark_unstarred(kept, &vx_rpl::LONG_TERM);
+    mark_unstarred(kept, &vx_rpl::BEHIND_LIST_0);
+    mark_unstarred(kept, &vx_rpl::BEHIND_LIST_1);
 }
 
-/// Gives each of these fields the number 1, but for those that `others` has.
-fn mark_but(scope: &mut Scope, fields: &[u16], others: &Scope)
-    ensures { scope.new ≡ with_all scope.old (filter (λ n. not (has others.now n)) fields.now) }
+/// Marks those of prediction weights.
+fn mark_weights(kept: &mut Scope)
+    ensures { kept.new ≡ with_all kept.old (unstarred weights) }
 {
-    for i in 0..fields.len() {
-        if others.latest(fields[i]) == 0 {
-            scope.set(fields[i], 1);
-        }
-    }
+    mark_unstarred(kept, &vx_rpl::WEIGHTS_0);
+    mark_unstarred(kept, &vx_rpl::WEIGHTS);
+    mark_unstarred(kept, &vx_rpl::WEIGHTS_1);
+    mark_unstarred(kept, &vx_rpl::WEIGHTS);
 }
 
-/// The fields of a picture header that are kept: those without a star, which a header that is rewritten has as its source. Marking them
-/// costs more than [`kept_among`]: to be done once where several headers are told by what they keep.
+/// Marks those of a picture header before its lists.
+fn mark_header_front(kept: &mut Scope)
+    ensures { kept.new ≡ with_all kept.old (unstarred ph_before_lists) }
+{
+    mark_unstarred(kept, &vx_ph::PICTURE);
+    mark_unstarred(kept, &vx_ph::PPS_ID);
+    mark_unstarred(kept, &vx_ph::ORDER_COUNT);
+    mark_unstarred(kept, &vx_ph::ALF);
+    mark_unstarred(kept, &vx_ph::LMCS_AND_SCALING);
+    mark_unstarred(kept, &vx_ph::OUTPUT);
+}
+
+/// The kept fields of a picture header: those without a star, which a header that is rewritten has as its source. Marking them costs more
+/// than [`kept_among`]: to be done once where several headers are told by what they keep.
 pub fn header_fields() -> Scope
     ensures { result ≡ set_of header.kept_ph_fields }
 {
-    let (mut kept, mut others) = (Scope::new(), Scope::new());
-    mark(&mut others, &NOT_OF_HEADER);
-    mark(&mut others, &alf::ALL);
-    mark_but(&mut kept, &ph::ALL, &others);
-    mark_but(&mut kept, &names::ph::ALL, &others);
-    mark(&mut kept, &rpl::ALL);
-    mark(&mut kept, &weights::ALL);
-    mark(&mut kept, &names::rpl::ALL);
+    let mut kept = Scope::new();
+    mark_header_front(&mut kept);
+    mark_lists(&mut kept);
+    mark_unstarred(&mut kept, &vx_ph::INTRA);
+    mark_unstarred(&mut kept, &vx_ph::INTER);
+    mark_weights(&mut kept);
+    mark_unstarred(&mut kept, &vx_ph::QP);
+    mark_unstarred(&mut kept, &vx_ph::FILTERS);
     kept
+}
+
+/// Marks the fields without a star of a slice header between its address and its lists.
+fn mark_slice_front(kept: &mut Scope)
+    ensures { kept.new ≡ with_all kept.old (unstarred before_lists) }
+{
+    mark_unstarred(kept, &vx_sh::TYPE);
+    mark_unstarred(kept, &vx_sh::FILTER_HERE);
+    mark_unstarred(kept, &vx_ph::ALF);
+    mark_unstarred(kept, &vx_sh::LMCS_AND_SCALING);
+    mark_unstarred(kept, &vx_sh::LISTS_HERE);
 }
 
 /// The kept fields of a slice header.
 fn slice_fields() -> Scope
     ensures { result ≡ set_of slice.kept_fields }
 {
-    let (mut kept, mut others) = (Scope::new(), Scope::new());
-    mark(&mut others, &NOT_OF_SLICE);
-    mark_but(&mut kept, &sh::ALL, &others);
-    mark_but(&mut kept, &names::sh::ALL, &others);
-    mark(&mut kept, &rpl::ALL);
-    mark(&mut kept, &weights::ALL);
-    mark(&mut kept, &names::rpl::ALL);
+    let mut kept = Scope::new();
+    mark_unstarred(&mut kept, &vx_sh::HEADER_INSIDE);
+    mark_unstarred(&mut kept, &vx_sh::SUBPIC_ID);
+    mark_unstarred(&mut kept, &vx_sh::KNOWN_SUBPIC);
+    mark_unstarred(&mut kept, &vx_sh::ADDRESS);
+    mark_slice_front(&mut kept);
+    mark_lists(&mut kept);
+    mark_unstarred(&mut kept, &vx_sh::ACTIVE);
+    mark_unstarred(&mut kept, &vx_sh::INTER);
+    mark_weights(&mut kept);
+    mark_unstarred(&mut kept, &vx_sh::QP);
+    mark_unstarred(&mut kept, &vx_sh::CHROMA_QP_AND_FILTERS);
+    mark_unstarred(&mut kept, &vx_sh::END);
+    mark_unstarred(&mut kept, &vx_sh::ALIGNMENT);
     kept
 }
 

@@ -54,4 +54,5 @@ pub use structure::{Structure, StructureFields};
 pub use unit_types::{
     CRA_NUT, EOB_NUT, EOS_NUT, GDR_NUT, IDR_N_LP, IDR_W_RADL, PH_NUT, PPS_NUT, PREFIX_APS_NUT,
     PREFIX_SEI_NUT, RADL_NUT, RASL_NUT, SPS_NUT, STSA_NUT, SUFFIX_APS_NUT, TRAIL_NUT, VPS_NUT,
+    is_cra_or_gdr, is_idr, is_irap_or_gdr,
 };

@@ -1,4 +1,6 @@
 //! The types of NAL units that are looked at (H.266 7.4.2.2, Table 5), by their names there.
+ghost use Rattle.std.specs.Prelude.{◌≡◌};
+ghost use Rattle.vx_pic.specs.Units as units;
 
 /// A slice of a trailing picture, and the first type of a slice; those up to [`RASL_NUT`] are slices too.
 pub const TRAIL_NUT: u8 = 0;
@@ -34,3 +36,24 @@ pub const EOS_NUT: u8 = 21;
 pub const EOB_NUT: u8 = 22;
 /// Supplemental enhancement information before the slices of a picture.
 pub const PREFIX_SEI_NUT: u8 = 23;
+
+/// Whether it is the type of an IDR picture.
+pub fn is_idr(nal_type: u8) -> bool
+    ensures { result ≡ units.is_idr nal_type }
+{
+    nal_type == IDR_W_RADL || nal_type == IDR_N_LP
+}
+
+/// Whether it is the type of a CRA or GDR picture.
+pub fn is_cra_or_gdr(nal_type: u8) -> bool
+    ensures { result ≡ units.is_cra_or_gdr nal_type }
+{
+    nal_type == CRA_NUT || nal_type == GDR_NUT
+}
+
+/// Whether it is the type of an IRAP or GDR picture.
+pub fn is_irap_or_gdr(nal_type: u8) -> bool
+    ensures { result ≡ units.is_irap_or_gdr nal_type }
+{
+    is_idr(nal_type) || is_cra_or_gdr(nal_type)
+}

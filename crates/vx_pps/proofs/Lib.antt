@@ -28,6 +28,7 @@ pub mod Alike
 pub mod Keeping
 pub mod Tooled
 pub mod Cutting
+pub mod Ids
 pub mod Reshaping
 pub mod Flags
 pub mod Framing

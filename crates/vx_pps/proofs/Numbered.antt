@@ -18,8 +18,8 @@ use Rattle.vx_table.proofs.Agreeing.{inside_itself}
 use Rattle.vx_table.proofs.Loading.{number_of_shown}
 use Rattle.vx_table.proofs.Starred.{structure_keeps_only}
 use Rattle.vx_pps.specs.declared.partition.Partition.{Partition}
-use Rattle.vx_pps.specs.Pps.{before_tiles, kept_pps_items}
-use Rattle.vx_pps.specs.laws.Sets.{GiveSame, KeptTellsNumbers, kept_pps_fields}
+use Rattle.vx_pps.specs.Pps.{before_tiles, kept_pps_fields, kept_pps_items}
+use Rattle.vx_pps.specs.laws.Sets.{GiveSame, KeptTellsNumbers}
 use Rattle.vx_pps.specs.Written.{only_item}
 use Rattle.vx_pps.proofs.Cutting.{Parts, cut_parts}
 use Rattle.vx_pps.proofs.Fields.{all_pass, apart, named, passes, same_with}

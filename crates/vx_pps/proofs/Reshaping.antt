@@ -23,10 +23,9 @@ use Rattle.vx_table.proofs.Loading.{number_of_last, sections_load}
 use Rattle.vx_table.proofs.Rewrites.{leaves_agree, sections_leave}
 use Rattle.vx_pps.specs.declared.partition.Partition.{Partition}
 use Rattle.vx_pps.specs.declared.shape.PpsShape.{PpsShape}
-use Rattle.vx_pps.specs.declared.shape.TheConstants.{TAKEN, TAKEN_FOR_FRAME}
+use Rattle.vx_pps.specs.Reshaped.{taken_for_region, taken_for_frame, CanBeDivided, IsDivision, IsReshapedPps, IsShape, IsSize, RegionKeeps, ReshapedHasItsTiles, frame_tool_items, front_items, pps_subpic_id_items, taken, tool_items, whole_flag}
 use Rattle.vx_pps.specs.Partition.{partition, undivided}
 use Rattle.vx_pps.specs.Pps.{before_tiles, kept_pps_items, partition_at, partition_of, pps_form, after_slices}
-use Rattle.vx_pps.specs.Reshaped.{CanBeDivided, IsDivision, IsReshapedPps, IsShape, IsSize, RegionKeeps, ReshapedHasItsTiles, frame_tool_items, front_items, pps_subpic_id_items, taken, tool_items, whole_flag}
 use Rattle.vx_table.specs.Rewritten.{where_so}
 use Rattle.vx_pps.specs.Written.{Gives, only_item}
 use Rattle.vx_pps.proofs.Cutting.{Clear, Parts, clear_from, cut_parts, division_unshown, flag_below, none_other, number_by_others, numbers_before, numbers_told, override_told, put_parts}
@@ -93,8 +92,8 @@ stated_width whole_ shape is =
 -- ---- sets
 
 names_clear : (merged : Bool) → Clear (names merged)
-names_clear true = clear_from TAKEN_FOR_FRAME refl
-names_clear false = clear_from TAKEN refl
+names_clear true = clear_from taken_for_frame refl
+names_clear false = clear_from taken_for_region refl
 
 front_untaken : (merged : Bool) → IsFalse (has (names merged) pps.pps_no_pic_partition_flag) × IsFalse (has (names merged) pps.pps_pic_width_in_luma_samples) × IsFalse (has (names merged) pps.pps_pic_height_in_luma_samples)
 unfolding fresh
@@ -226,8 +225,8 @@ pub record Reshapes (source : List Item) (shape : PpsShape) (division : List Ite
 
 -- the front keeps those of its fields that are taken over
 front_keeps_shown : (merged : Bool) → KeepsShown (names merged) (sections_form before_tiles fresh)
-front_keeps_shown true = (structure_keeps_only [] TAKEN_FOR_FRAME before_tiles (front_starred true)).keeps fresh
-front_keeps_shown false = (structure_keeps_only [] TAKEN before_tiles (front_starred false)).keeps fresh
+front_keeps_shown true = (structure_keeps_only [] taken_for_frame before_tiles (front_starred true)).keeps fresh
+front_keeps_shown false = (structure_keeps_only [] taken_for_region before_tiles (front_starred false)).keeps fresh
 
 front_keeps : (merged : Bool) {xs ys : List Item} {s t : List ℕ} (f : Gives (sections_form before_tiles fresh) xs s) (g : Gives (sections_form before_tiles fresh) ys t) → shown_items (names merged) xs ≡ shown_items (names merged) ys
     → kept_along (sections_form before_tiles fresh) f.values ≡ kept_along (sections_form before_tiles fresh) g.values

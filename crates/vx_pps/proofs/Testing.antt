@@ -16,13 +16,13 @@ use Rattle.vx_table.specs.Kept.{stands_for_field}
 use Rattle.vx_table.specs.Rewritten.{fills_none}
 use Rattle.vx_table.specs.Shown.{sections_stars_tell, star_tells}
 use Rattle.vx_table.specs.Named.{named_by_all}
-use Rattle.vx_pps.specs.declared.shape.TheConstants.{TAKEN, TAKEN_FOR_FRAME}
+use Rattle.vx_pps.specs.Reshaped.{taken_for_region, taken_for_frame}
 use Rattle.vx_pps.specs.declared.tables.TheConstants as tables
 use Rattle.vx_pps.specs.Pps.{before_tiles, after_slices}
 
 -- what is taken over, for a frame or for a region
 abbrev pub names : Bool → List ℕ
-names merged = set_of (cond merged TAKEN_FOR_FRAME TAKEN)
+names merged = set_of (cond merged taken_for_frame taken_for_region)
 
 -- ---- the groups of tables
 
@@ -181,9 +181,9 @@ abbrev pub tool_names : List ℕ
 tool_names = named_by_all after_slices
 
 abbrev pub tools_shown : List ℕ
-tools_shown = with_all (set_of (pps.pps_no_pic_partition_flag ∷ [])) (tool_names ++ TAKEN)
+tools_shown = with_all (set_of (pps.pps_no_pic_partition_flag ∷ [])) (tool_names ++ taken_for_region)
 
-pub tools_read : (sections_depend_only_on (pps.pps_no_pic_partition_flag ∷ []) (tool_names ++ TAKEN) after_slices ≡ true) × (sections_pass (shows_row tools_shown) after_slices ≡ true) × (sections_pass (shows_row (names false)) after_slices ≡ true)
+pub tools_read : (sections_depend_only_on (pps.pps_no_pic_partition_flag ∷ []) (tool_names ++ taken_for_region) after_slices ≡ true) × (sections_pass (shows_row tools_shown) after_slices ≡ true) × (sections_pass (shows_row (names false)) after_slices ≡ true)
 unfolding fresh has_value knows_formula knows_width knows_range knows_presence hides_counter hides_row behind_field within_block depends behind_rows table_depends behind_table comes_always shows_row
 tools_read = (refl, refl, refl)
 
@@ -309,16 +309,16 @@ abbrev pub before_dbf : List Section
 before_dbf = before_control ++ dbf_control
 
 abbrev pub front_fields : List ℕ
-front_fields = filter (λ n. nat_lt n 417) TAKEN_FOR_FRAME
+front_fields = filter (λ n. nat_lt n 417) taken_for_frame
 
 abbrev pub early_fields : List ℕ
-early_fields = filter (λ n. nat_lt 432 n && nat_lt n 455) TAKEN_FOR_FRAME
+early_fields = filter (λ n. nat_lt 432 n && nat_lt n 455) taken_for_frame
 
 abbrev pub offsets_fields : List ℕ
-offsets_fields = filter (λ n. nat_lt 455 n && nat_lt n 462) TAKEN_FOR_FRAME
+offsets_fields = filter (λ n. nat_lt 455 n && nat_lt n 462) taken_for_frame
 
 abbrev pub end_fields : List ℕ
-end_fields = filter (λ n. nat_lt 466 n) TAKEN_FOR_FRAME
+end_fields = filter (λ n. nat_lt 466 n) taken_for_frame
 
 -- the flags that stand in the place of absent ones too
 abbrev pub dbf_flag : List ℕ

@@ -27,12 +27,11 @@ use Rattle.vx_table.proofs.Loading.{tables_load}
 use Rattle.vx_table.proofs.Shown.{scopes_follow_items}
 use Rattle.vx_table.proofs.Rewrites.{leaves_agree, sections_leave, values_take}
 use Rattle.vx_pps.specs.Pps.{after_slices}
-use Rattle.vx_pps.specs.Reshaped.{frame_tool_items, info_items, items_of_source}
+use Rattle.vx_pps.specs.Reshaped.{frame_tool_items, info_items, items_of_source, taken_for_region}
 use Rattle.vx_table.specs.Rewritten.{where_so}
 use Rattle.vx_pps.specs.Written.{only_item}
 use Rattle.vx_pps.proofs.Alike.{kept_alike}
 use Rattle.vx_pps.proofs.Testing.{block_loads, control_block, dbf_given, dbf_control, dbf_control_taken, dbf_info, dbf_info_read, dbf_info_replaced, dbf_offsets, dbf_offsets_taken, end, end_taken, header_info, header_info_read, header_info_replaced, info_given, init_qp, init_qp_read, init_qp_replaced, names, numbered, prediction, prediction_taken, qp_offsets, qp_offsets_taken, tool_names, tools_read, tools_shown, override, override_stands, from_dbf, from_info, info_stands, whole}
-use Rattle.vx_pps.specs.declared.shape.TheConstants.{TAKEN}
 use Rattle.vx_pps.specs.declared.tables.TheConstants as tables
 
 -- ---- of a region
@@ -40,7 +39,7 @@ use Rattle.vx_pps.specs.declared.tables.TheConstants as tables
 -- they go again where the picture is as before partitioned or not
 pub tools_again : {s t : List ℕ} {values : List ℤ} {last : List ℕ} → Agree whole s t → Follows (sections_form after_slices s) values last → GoesToo whole (sections_form after_slices s) (sections_form after_slices t) values last
 tools_again {s} {t} {values} {last} agree follows =
-    let alike = (structure_depends_only_on (pps.pps_no_pic_partition_flag ∷ []) (tool_names ++ TAKEN) after_slices tools_read.0).alike s t agree in
+    let alike = (structure_depends_only_on (pps.pps_no_pic_partition_flag ∷ []) (tool_names ++ taken_for_region) after_slices tools_read.0).alike s t agree in
     let all = sections_show tools_shown after_slices tools_read.1 in
     follows_again tools_shown whole (sections_form after_slices s) (sections_form after_slices t) values last alike (all.at s) (all.at t) follows
 
@@ -48,7 +47,7 @@ tools_again {s} {t} {values} {last} agree follows =
 pub tools_keep : {s t : List ℕ} {values : List ℤ} {last other : List ℕ} → Agree whole s t → Follows (sections_form after_slices s) values last → Follows (sections_form after_slices t) values other
     → kept_along (sections_form after_slices s) values ≡ kept_along (sections_form after_slices t) values
 tools_keep {s} {t} {values} {last} {other} agree follows again =
-    let alike = (structure_depends_only_on (pps.pps_no_pic_partition_flag ∷ []) (tool_names ++ TAKEN) after_slices tools_read.0).alike s t agree in
+    let alike = (structure_depends_only_on (pps.pps_no_pic_partition_flag ∷ []) (tool_names ++ taken_for_region) after_slices tools_read.0).alike s t agree in
     let all = sections_show tools_shown after_slices tools_read.1 in
     kept_alike alike (all.at s) (all.at t) follows again
 

@@ -1,5 +1,5 @@
 -- A picture parameter set: its form, and what its items tell (H.266 7.3.2.5, 7.4.3.5).
-use Rattle.std.specs.Prelude.{◌≡◌, ℕ, not, Bool, List, [], ◌∷◌, Option, Some, None, Result, Ok, Err, slice_index}
+use Rattle.std.specs.Prelude.{◌≡◌, ℕ, not, Bool, List, [], ◌∷◌, ◌++◌, Option, Some, None, Result, Ok, Err, slice_index}
 use Rattle.vx_bits.specs.declared.list.Item.{Item}
 use Rattle.vx_bits.specs.declared.refusal.ReadError.{ReadError}
 use Rattle.vx_bits.specs.declared.refusal.ReadError.TheVariants as errors
@@ -13,6 +13,7 @@ use Rattle.vx_table.specs.Loaded as loading
 use Rattle.vx_table.specs.Parts.{Section, always, sections_form}
 use Rattle.vx_table.specs.Reading.{Reads, at_front}
 use Rattle.vx_table.specs.Scope.{fresh, is_set}
+use Rattle.vx_table.specs.Unstarred.{unstarred}
 use Rattle.vx_table.specs.Values.{bits_along}
 use Rattle.vx_pps.specs.declared.partition.Partition.{Partition}
 use Rattle.vx_pps.specs.declared.tables.TheConstants as tables
@@ -89,6 +90,10 @@ slice_list_of items = (partition_of items).slices
 -- the active entries of list 0 and of list 1 where a slice says nothing, less 1 (pps_num_ref_idx_default_active_minus1, 7.4.3.5)
 abbrev pub default_active : List Item → ℕ → ℕ
 default_active items list = slice_index (numbers_of items pps.pps_num_ref_idx_default_active_minus1) list
+
+-- the kept fields: those without a star; no field of the tiles and slices, which stand in no table, is one (our own)
+abbrev pub kept_pps_fields : List ℕ
+kept_pps_fields = unstarred (before_tiles ++ after_slices)
 
 -- the items of its kept fields; those that say what stands in picture headers, also where they are absent, as 0 (our own)
 abbrev pub kept_pps_items : List Item → List Item

@@ -13,16 +13,18 @@ use Rattle.vx_layout.specs.Rects.{whole_picture}
 use Rattle.vx_layout.specs.Shapes.{AreListable}
 use Rattle.vx_table.specs.Depends.{set_of}
 use Rattle.vx_table.specs.Loaded.{number}
+use Rattle.vx_table.specs.Parts.{Section, always}
 use Rattle.vx_table.specs.Rewritten.{IsRewritten}
 use Rattle.vx_table.specs.Scope.{is_set, one_if, powers_below}
 use Rattle.vx_table.specs.Shown.{shown_items}
+use Rattle.vx_table.specs.Unstarred.{unstarred}
 use Rattle.vx_pps.specs.declared.shape.PpsShape.{PpsShape}
-use Rattle.vx_pps.specs.declared.shape.TheConstants.{TAKEN, TAKEN_FOR_FRAME}
+use Rattle.vx_pps.specs.declared.tables.TheConstants as tables
 use Rattle.vx_pps.specs.declared.tiles.Tiles.{Tiles}
 use Rattle.vx_pps.specs.Tiles.{across, down}
 use Rattle.vx_pps.specs.Groups.{Group, InGroups}
 use Rattle.vx_table.specs.Loaded.{numbers_of}
-use Rattle.vx_pps.specs.Pps.{ArePpsItems, tile_columns_of, kept_pps_items, pps_form, tile_rows_of, slice_list_of}
+use Rattle.vx_pps.specs.Pps.{ArePpsItems, before_tiles, tile_columns_of, kept_pps_fields, kept_pps_items, pps_form, tile_rows_of, slice_list_of}
 use Rattle.vx_pps.specs.Written.{only_item, list_items, tile_size_items}
 use Rattle.vx_table.specs.Rewritten.{where_so}
 
@@ -166,9 +168,21 @@ pub record IsShape (source : List Item) (shape : PpsShape) : Type 0 where
 
 -- ---- the rewritten set (our own)
 
--- the fields that are taken over
+-- the fields that are taken over for a region: the kept fields, the QP, and where filter and QP stand; and the gap at the end
+abbrev pub taken_for_region : List ℕ
+taken_for_region = pps.pps_init_qp_minus26 ∷ pps.pps_alf_info_in_ph_flag ∷ pps.pps_qp_delta_info_in_ph_flag ∷ pps.pps_rbsp_trailing_bits
+    ∷ kept_pps_fields
+
+-- and for a frame: the kept fields, but for those that say what stands in picture headers; and this gap
+abbrev pub tools_for_frame : List Section
+tools_for_frame = always tables.PREDICTION ∷ always tables.QP_OFFSETS ∷ always tables.DBF_CONTROL ∷ always tables.DBF_OFFSETS
+    ∷ always tables.END ∷ []
+
+abbrev pub taken_for_frame : List ℕ
+taken_for_frame = pps.pps_rbsp_trailing_bits ∷ unstarred (before_tiles ++ tools_for_frame)
+
 abbrev pub taken : PpsShape → List ℕ
-taken shape = set_of (cond shape.merged TAKEN_FOR_FRAME TAKEN)
+taken shape = set_of (cond shape.merged taken_for_frame taken_for_region)
 
 -- The items are those of a set. Those of the fields that are taken over are the source's, and the others are exactly what is
 -- stated.

@@ -1,4 +1,8 @@
 //! Why a walk over a picture parameter set ends before its form does.
+ghost use Rattle.std.specs.Prelude.{◌≡◌};
+
+use std::alloc::AllocError;
+use vx_table::{SpellError, only_memory};
 
 /// Why a walk ends before its form does.
 pub enum Halt<E> {
@@ -6,4 +10,14 @@ pub enum Halt<E> {
     Memory,
     /// The coder refuses a field, for this cause.
     Refused(E),
+}
+
+/// Why the walk over a set that there is ends before: memory ran out.
+pub(crate) fn memory_of(halt: Halt<SpellError>) -> AllocError
+    requires { halt ≡ Halt.Refused SpellError.NoValue → ⊥ }
+{
+    match halt {
+        Halt::Memory => AllocError,
+        Halt::Refused(error) => only_memory(error),
+    }
 }

@@ -22,6 +22,7 @@ mod read;
 mod reshape;
 mod shape;
 mod tables;
+mod taken;
 mod tiles;
 mod walk;
 
@@ -40,7 +41,7 @@ pub use partition::Partition;
 pub use pps::Pps;
 pub use read::{keep_pps, read_pps, read_pps_fields, write_pps};
 pub use reshape::reshape_pps;
-pub use shape::{PpsShape, TAKEN, TAKEN_FOR_FRAME};
+pub use shape::PpsShape;
 pub use tables::{
     DBF_CONTROL, DBF_INFO, DBF_OFFSETS, END, HEADER_INFO, IDS, INIT_QP, NAL_TYPES, OUTPUT,
     PREDICTION, QP_OFFSETS, SIZE, SUBPIC_IDS,

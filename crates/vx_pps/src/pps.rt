@@ -7,7 +7,8 @@ use std::marker::Model;
 use vx_bits::Fields;
 use vx_fields::pps::{
     pps_no_pic_partition_flag, pps_num_ref_idx_default_active_minus1,
-    pps_pic_height_in_luma_samples, pps_pic_width_in_luma_samples,
+    pps_pic_height_in_luma_samples, pps_pic_parameter_set_id, pps_pic_width_in_luma_samples,
+    pps_seq_parameter_set_id,
 };
 use vx_layout::{Bounds, RectList};
 use vx_table::{Scope, natural};
@@ -55,7 +56,7 @@ fn number_at(fields: &Fields, field: u16, index: usize) -> u32
 }
 
 impl Pps {
-    ghost use Rattle.std.specs.Prelude.{◌≡◌, option_copied};
+    ghost use Rattle.std.specs.Prelude.{◌≡◌, ◌<◌, option_copied};
     ghost use Rattle.vx_table.specs.Loaded.{number};
     ghost use Rattle.vx_table.specs.Scope.{fresh, loaded};
     ghost use Rattle.vx_fields.specs.declared.pps.TheConstants as names;
@@ -94,6 +95,29 @@ impl Pps {
         ensures { result.now ≡ loaded fresh self.now }
     {
         &self.scope
+    }
+
+    /// The number that its last item of a field gives it; 0 where it has none.
+    pub fn number(&self, field: u16) -> u32
+        ensures { result ≡ number self.now field }
+    {
+        self.scope.latest(field)
+    }
+
+    /// Its id: pps_pic_parameter_set_id.
+    pub fn pps_id(&self) -> u8
+        ensures value { result ≡ number self.now names.pps_pic_parameter_set_id }
+        ensures low { result < 64 }
+    {
+        self.scope.latest(pps_pic_parameter_set_id) as u8
+    }
+
+    /// The id of the SPS that it refers to: pps_seq_parameter_set_id.
+    pub fn sps_id(&self) -> u8
+        ensures value { result ≡ number self.now names.pps_seq_parameter_set_id }
+        ensures low { result < 16 }
+    {
+        self.scope.latest(pps_seq_parameter_set_id) as u8
     }
 
     /// The width of a picture in luma samples.

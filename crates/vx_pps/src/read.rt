@@ -1,14 +1,15 @@
 //! Reading, writing and sifting a picture parameter set.
-ghost use Rattle.std.specs.Prelude.{◌≡◌, ◌≤◌, ◌^◌, length, IfOk};
+ghost use Rattle.std.specs.Prelude.{◌≡◌, ◌≤◌, length, IfOk};
+ghost use Rattle.vx_bits.specs.Limits.{unit_limit};
 ghost use Rattle.vx_table.specs.Reading.{ReadsValue};
 ghost use Rattle.vx_pps.specs.Pps.{IsPpsSpelling, ReadsFields, kept_pps_items, pps_form};
 
-use crate::halt::Halt;
+use crate::halt::{Halt, memory_of};
 use crate::pps::Pps;
 use crate::walk::code_pps;
 use std::alloc::{AllocError, Global};
 use vx_bits::{BitReader, BitWriter, Fields, ReadError};
-use vx_table::{SpellError, Unwritten};
+use vx_table::Unwritten;
 
 /// Reads a picture parameter set, `pic_parameter_set_rbsp()`, clause 7.3.2.5, from an RBSP of at most 2^23 bytes.
 ///
@@ -16,7 +17,7 @@ use vx_table::{SpellError, Unwritten};
 ///
 /// The first refusal, or want of memory.
 pub fn read_pps(alloc: Global, rbsp: &[u8]) -> Result<Pps, ReadError>
-    requires { length rbsp.now ≤ 2 ^ 23 }
+    requires { length rbsp.now ≤ unit_limit }
     ensures { ReadsValue pps_form rbsp.now result }
 {
     let mut bits = BitReader::new(rbsp);
@@ -35,7 +36,7 @@ pub fn read_pps(alloc: Global, rbsp: &[u8]) -> Result<Pps, ReadError>
 ///
 /// The first refusal, and `into` has then gained the fields read before; want of memory.
 pub fn read_pps_fields(alloc: Global, rbsp: &[u8], into: &mut Fields) -> Result<(), ReadError>
-    requires { length rbsp.now ≤ 2 ^ 23 }
+    requires { length rbsp.now ≤ unit_limit }
     ensures { ReadsFields rbsp.now into.old result into.new }
 {
     let mut bits = BitReader::new(rbsp);
@@ -55,8 +56,7 @@ pub fn write_pps(alloc: Global, pps: &Pps) -> Result<Vec<u8>, AllocError>
     let mut items = Unwritten::new(fields, 0, fields.len());
     match code_pps(alloc, &mut bits, &mut items) {
         Ok(_) => Ok(bits.into_bytes()),
-        Err(Halt::Refused(SpellError::NoValue)) => unreachable!(),
-        Err(Halt::Memory | Halt::Refused(SpellError::Memory)) => Err(AllocError),
+        Err(halt) => Err(memory_of(halt)),
     }
 }
 
@@ -70,7 +70,6 @@ pub fn keep_pps(alloc: Global, pps: &Pps) -> Result<Fields, AllocError>
     let mut items = Unwritten::new(fields, 0, fields.len());
     match code_pps(alloc, &mut items, &mut kept) {
         Ok(_) => Ok(kept),
-        Err(Halt::Refused(SpellError::NoValue)) => unreachable!(),
-        Err(Halt::Memory | Halt::Refused(SpellError::Memory)) => Err(AllocError),
+        Err(halt) => Err(memory_of(halt)),
     }
 }

@@ -1,9 +1,7 @@
 //! The picture parameter set that is sent for a region or a frame, put together of its source's fields and stated ones.
-ghost use Rattle.std.specs.Prelude.{◌≡◌, pos, cond, List, ◌++◌, OnOk, IfOk};
+ghost use Rattle.std.specs.Prelude.{◌≡◌, cond, List, ◌++◌, OnOk, IfOk};
 ghost use Rattle.vx_bits.specs.declared.list.Item.{Item};
 ghost use Rattle.vx_table.specs.Depends as sets;
-ghost use Rattle.vx_table.specs.Loaded as loading;
-ghost use Rattle.vx_table.specs.Shown.{shown_items};
 ghost use Rattle.vx_pps.specs.Groups.{Group};
 ghost use Rattle.vx_pps.specs.Reshaped as reshaped;
 ghost use Rattle.vx_pps.specs.Written as written;
@@ -14,50 +12,13 @@ ghost use Rattle.vx_pps.specs.inner.Stated.{PutsTogether, StatesAll};
 use crate::halt::Halt;
 use crate::list_items::{push, push_if, push_list, push_sizes, push_value};
 use crate::pps::Pps;
-use crate::shape::{PpsShape, TAKEN, TAKEN_FOR_FRAME};
+use crate::shape::PpsShape;
+use crate::taken::taken;
 use crate::walk::code_pps;
 use std::alloc::{AllocError, Global};
-use vx_bits::{Fields, Item};
+use vx_bits::Fields;
 use vx_fields::pps::*;
-use vx_table::{Rewriter, Scope, SpellError, Unwritten, ceil_log2, set_of};
-
-/// Whether a field is one of a set.
-fn has(names: &Scope, field: u16) -> bool
-    ensures { result ≡ sets.has names.now field }
-{
-    names.latest(field) != 0
-}
-
-/// The items of a set's fields, in order.
-fn items_of(alloc: Global, items: &Fields, names: &Scope) -> Result<Fields, AllocError>
-    ensures { IfOk result (λ shown. shown ≡ shown_items names.now items.now) }
-{
-    let mut shown = Fields::new(alloc);
-    for i in 0..items.len() {
-        let item = items.item(i);
-        if has(names, item.field) {
-            shown.push(item)?;
-        }
-    }
-    Ok(shown)
-}
-
-/// An item of a field.
-fn item(field: u16, number: u32) -> Item
-    ensures { result ≡ record { field = field; value = pos number } }
-{
-    Item {
-        field,
-        value: i64::from(number),
-    }
-}
-
-/// The number that the source's last item of a field gives it.
-fn number(source: &Pps, field: u16) -> u32
-    ensures { result ≡ loading.number source.now field }
-{
-    source.scope().latest(field)
-}
+use vx_table::{Rewriter, Scope, SpellError, Unwritten, ceil_log2, item, items_of};
 
 /// Whether the picture isn't partitioned.
 fn whole_flag(source: &Pps, shape: &PpsShape) -> u32
@@ -66,7 +27,7 @@ fn whole_flag(source: &Pps, shape: &PpsShape) -> u32
     if shape.merged {
         0
     } else {
-        number(source, pps_no_pic_partition_flag)
+        source.number(pps_no_pic_partition_flag)
     }
 }
 
@@ -167,9 +128,9 @@ fn push_division(items: &mut Fields, shape: &PpsShape) -> Result<(), AllocError>
 fn has_weights(source: &Pps) -> bool
     ensures { result ≡ reshaped.has_weights source.now }
 {
-    let weighted = number(source, pps_weighted_pred_flag) != 0
-        || number(source, pps_weighted_bipred_flag) != 0;
-    weighted && number(source, pps_rpl_info_in_ph_flag) != 0
+    let weighted = source.number(pps_weighted_pred_flag) != 0
+        || source.number(pps_weighted_bipred_flag) != 0;
+    weighted && source.number(pps_rpl_info_in_ph_flag) != 0
 }
 
 /// What stands in the picture headers of a frame.
@@ -179,15 +140,15 @@ fn push_info(items: &mut Fields, source: &Pps) -> Result<(), AllocError>
     items.extend_from_slice(&[
         item(
             pps_rpl_info_in_ph_flag,
-            number(source, pps_rpl_info_in_ph_flag),
+            source.number(pps_rpl_info_in_ph_flag),
         ),
         item(
             pps_sao_info_in_ph_flag,
-            number(source, pps_sao_info_in_ph_flag),
+            source.number(pps_sao_info_in_ph_flag),
         ),
         item(pps_alf_info_in_ph_flag, 0),
     ])?;
-    let weights = number(source, pps_wp_info_in_ph_flag);
+    let weights = source.number(pps_wp_info_in_ph_flag);
     push_if(has_weights(source), items, pps_wp_info_in_ph_flag, weights)?;
     push(items, pps_qp_delta_info_in_ph_flag, 0)
 }
@@ -204,8 +165,8 @@ fn push_tools(items: &mut Fields, source: &Pps, shape: &PpsShape) -> Result<(), 
     ensures { OnOk result (items.new ≡ items.old ++ frame_tool_items source.now shape.now.init_qp) }
 {
     push_qp(items, shape)?;
-    let is_overridden = number(source, pps_deblocking_filter_override_enabled_flag) != 0;
-    let info = number(source, pps_dbf_info_in_ph_flag);
+    let is_overridden = source.number(pps_deblocking_filter_override_enabled_flag) != 0;
+    let info = source.number(pps_dbf_info_in_ph_flag);
     push_if(is_overridden, items, pps_dbf_info_in_ph_flag, info)?;
     push_info(items, source)
 }
@@ -225,17 +186,6 @@ fn stated(alloc: Global, source: &Pps, shape: &PpsShape) -> Result<Fields, Alloc
         push_tools(&mut items, source, shape)?;
     }
     Ok(items)
-}
-
-/// The fields that are taken over.
-fn taken(merged: bool) -> Scope
-    ensures { result ≡ sets.set_of (cond merged TAKEN_FOR_FRAME TAKEN) }
-{
-    if merged {
-        set_of(&TAKEN_FOR_FRAME)
-    } else {
-        set_of(&TAKEN)
-    }
 }
 
 /// Puts a set together of the items of some fields and of those of all others, where there is one that has both.

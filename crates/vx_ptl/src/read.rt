@@ -1,7 +1,8 @@
 //! Reading the structures.
 
-ghost use Rattle.std.specs.Prelude.{◌≡◌, ◌≤◌, ◌^◌, length, slice_set};
+ghost use Rattle.std.specs.Prelude.{◌≡◌, ◌≤◌, length, slice_set};
 ghost use Rattle.vx_bits.specs.Place.{Place};
+ghost use Rattle.vx_bits.specs.Limits.{unit_limit};
 ghost use Rattle.vx_table.specs.Reading.{Reads, ReadsValue, at_front};
 ghost use Rattle.vx_ptl.specs.Structures.{sublayers, vps, ptl, dpb_form, timing_form, sublayer_timing};
 
@@ -28,7 +29,7 @@ fn at_sublayers(mut scope: Scope, max: u32, field: u16, each: bool) -> Scope
 ///
 /// The first refusal, or want of memory.
 pub fn read_vps(alloc: Global, rbsp: &[u8]) -> Result<Fields, ReadError>
-    requires { length rbsp.now ≤ 2 ^ 23 }
+    requires { length rbsp.now ≤ unit_limit }
     ensures { ReadsValue vps rbsp.now result }
 {
     read_value(alloc, &VPS, &mut Scope::new(), rbsp)
@@ -40,7 +41,7 @@ pub fn read_vps(alloc: Global, rbsp: &[u8]) -> Result<Fields, ReadError>
 ///
 /// The first refusal, or want of memory. `into` has then gained the fields read before.
 pub fn read_vps_fields(rbsp: &[u8], into: &mut Fields) -> Result<(), ReadError>
-    requires { length rbsp.now ≤ 2 ^ 23 }
+    requires { length rbsp.now ≤ unit_limit }
     ensures { (new : Place) × Reads vps (at_front rbsp.now) into.old result new into.new }
 {
     let mut bits = BitReader::new(rbsp);

@@ -16,14 +16,14 @@ use Rattle.vx_rpl.proofs.Carrying.{lists_carry}
 use Rattle.vx_rpl.proofs.Passing.{lists_show, lists_keep}
 use Rattle.vx_sh.specs.declared.tables.TheConstants.{ADDRESS}
 use Rattle.vx_sh.specs.Slice.{before_lists, between, behind_weights, rest_form}
-use Rattle.vx_sh.specs.Depends.{kept_given, kept_fields, all_given, all_fields, KeptDepend, AllDepend, AllAreShown, KeptAreShown}
+use Rattle.vx_sh.specs.Depends.{kept_given, kept_fields, kept_with_names, all_given, all_fields, KeptDepend, AllDepend, AllAreShown, KeptAreShown}
 use Rattle.vx_sh.proofs.Depending.{rest_carries, rest_each}
 
 pub kept_depend : KeptDepend
 unfolding fresh has_value knows_formula knows_width knows_range knows_presence hides_counter hides_row behind_field within_block depends table_depends behind_rows behind_table comes_always list_chains known_behind_list first_chains behind_first second_chains known_behind_second lists_chain behind_lists
 kept_depend table points =
-    let kept : List ℕ = with_all (set_of kept_given) kept_fields in
-    chains_depend kept_given kept_fields _ (rest_form table points)
+    let kept : List ℕ = with_all (set_of kept_given) kept_with_names in
+    chains_depend kept_given kept_with_names _ (rest_form table points)
     (rest_carries table points kept (set_of kept_given) _ _ _ _ _ _ refl refl refl refl refl refl refl (lists_carry table kept _ refl) refl refl refl refl refl refl)
 
 pub all_depend : AllDepend

@@ -1,32 +1,26 @@
 -- A slice header rewritten under what is in force.
-use Rattle.std.proofs.Common.{◌≡◌, ℕ, ◌<◌, ◌≤◌, true, false, List, [], ◌∷◌, ◌++◌, length, slice_index, Result, refl, ap, sym, subst, ◌∙◌, arith}
+use Rattle.std.proofs.Common.{◌≡◌, ℕ, ◌<◌, ◌≤◌, true, false, List, [], ◌∷◌, ◌++◌, length, slice_index, refl, ap, sym, subst, ◌∙◌, arith}
 use Rattle.vx_bits.specs.declared.list.Item.{Item}
 use Rattle.vx_table.specs.declared.rows.Cell.{Cell}
 use Rattle.vx_table.specs.declared.rows.Formula.{Formula}
 use Rattle.vx_table.specs.declared.rows.Row.TheVariants.{Field}
-use Rattle.vx_table.specs.declared.writer.SpellError.{SpellError}
 use Rattle.vx_table.specs.Scope.{fresh, is_set}
 use Rattle.vx_table.specs.Forms.{cell_at, has_value, one_field, part, form_of}
 use Rattle.vx_table.specs.Depends.{set_of}
 use Rattle.vx_table.specs.Loaded.{StaysBelow, code_below, number, range_below, row_below}
 use Rattle.vx_table.specs.Rewritten.{IsRewritten, other_items}
-use Rattle.vx_table.specs.Writing.{IsWritten}
 use Rattle.vx_table.proofs.Joined.{items_joined, joined}
 use Rattle.vx_table.proofs.Loading.{number_below, number_of_shown, tables_stay_below}
 use Rattle.vx_fields.specs.declared.sps.TheConstants.{sps_alf_enabled_flag, sps_ccalf_enabled_flag, sps_chroma_format_idc, sps_subpic_id_len_minus1, sps_subpic_info_present_flag}
 use Rattle.vx_fields.specs.declared.pps.TheConstants.{pps_alf_info_in_ph_flag, pps_qp_delta_info_in_ph_flag}
 use Rattle.vx_fields.specs.declared.ph.TheConstants.{ph_explicit_scaling_list_enabled_flag, ph_lmcs_enabled_flag}
 use Rattle.vx_fields.specs.declared.sh.TheConstants.{sh_slice_address, sh_subpic_id}
-use Rattle.vx_layout.specs.declared.numbers.Numbers.{Numbers}
-use Rattle.vx_rpl.specs.declared.entry.RplTable.{RplTable}
 use Rattle.vx_rpl.specs.HeaderLists.{lists_of}
 use Rattle.vx_sps.proofs.Stated.{below}
 use Rattle.vx_ph.specs.declared.header.PictureHeader.{PictureHeader}
 use Rattle.vx_ph.specs.Header.{header_form}
 use Rattle.vx_ph.specs.InForce.{in_force, structures}
 use Rattle.vx_ph.specs.Picture.{IsHeader}
-use Rattle.vx_ph.specs.inner.Makes.{Makes}
-use Rattle.vx_ph.proofs.Making.{made}
 use Rattle.vx_ph.proofs.Passing as header
 use Rattle.vx_ph.proofs.Same.{agree_on_kept}
 use Rattle.vx_ph.proofs.Sets.{in_force_length, of_sps}
@@ -35,7 +29,7 @@ use Rattle.vx_sh.specs.declared.numbers.SliceNumbers.{SliceNumbers}
 use Rattle.vx_sh.specs.declared.shape.ShShape.{ShShape}
 use Rattle.vx_sh.specs.declared.tables.TheConstants.{STARRED}
 use Rattle.vx_sh.specs.Depends.{kept_fields}
-use Rattle.vx_sh.specs.InForce.{at_sets, in_force_at, slice_scope}
+use Rattle.vx_sh.specs.InForce.{at_sets, in_force_at}
 use Rattle.vx_sh.specs.Reshaped.{AreReshapedInSliceHeader, GoesAt, HaveSameSlices, IsReshapedSliceHeader, IsShape, stated_sh_items}
 use Rattle.vx_sh.specs.Value.{IsSliceOf, TellsNumbers, values_of}
 use Rattle.vx_sh.specs.Whole.{apart_form, behind_header, header_inside, index_of}
@@ -135,13 +129,6 @@ module _ (source : SliceHeader) (shape : ShShape) (n : SliceNumbers) (is : IsSha
   pub starred_values : (items : List Item) (re : AreReshapedInSliceHeader source.fields shape n items) → (starred_ones items re).values ≡ re.fields.first ++ re.fields.behind
   unfolding starred_ones
   starred_values items re = refl
-
-  pub reshapes : {others stated_ones : List Item} {table : RplTable} {ids : List ℕ} {layout : Numbers} {slice : List ℕ} (after : List Item) (result : Result (Unit {0}) SpellError) → others ≡ other_items (set_of STARRED) source.fields
-      → stated_ones ≡ stated_sh_items n shape → table ≡ structures n.sps.now → slice ≡ slice_scope n.nal_type n.sps.now n.pps.now n.header.now (in_force n.sps.now n.pps.now) → ids ≡ n.ids.now → layout ≡ n.layout.now
-      → Makes (apart_form table ids layout slice) STARRED stated_ones others result after → IsWritten result (AreReshapedInSliceHeader source.fields shape n after)
-  reshapes after result kept_are stated_are at_table at_slice at_ids at_layout make =
-      let one = reshaped_is in
-      made (AreReshapedInSliceHeader source.fields shape n) result after one.0 one.1 (make one.0 (rw (kept_are, stated_are, at_table, at_slice, at_ids, at_layout) (starred_ones one.0 one.1)))
 
   -- its numbers
   lists_are : (items : List Item) → AreReshapedInSliceHeader source.fields shape n items → lists_of (structures n.sps.now) (in_force n.sps.now n.pps.now) items ≡ source.lists

@@ -12,7 +12,7 @@ use Rattle.vx_table.specs.declared.rows.Cell.{Cell}
 use Rattle.vx_table.specs.declared.rows.Formula.{Formula}
 use Rattle.vx_table.specs.declared.rows.Row.TheVariants.{Field}
 use Rattle.vx_table.specs.Scope.{fresh, is_set, natural, one_if}
-use Rattle.vx_table.specs.Forms.{Form, done, form_of}
+use Rattle.vx_table.specs.Forms.{Form, done, has_value, form_of}
 use Rattle.vx_table.specs.EachField.{rows_pass}
 use Rattle.vx_table.specs.Parts.{sections_form}
 use Rattle.vx_table.specs.Spelling.{items_along}
@@ -76,12 +76,12 @@ in_starred n = has (set_of STARRED) n
 module _ (n : At) (fields : List Item) (inside : List ℤ) (f : AreFields n fields inside) where
   -- kept are all but those with a star
   pub kept_has_no_star : of_fields in_kept fields ≡ of_fields (λ k. not (in_starred k)) fields
-  unfolding fresh tells
+  unfolding fresh has_value tells
   kept_has_no_star = fields_alike in_kept (λ k. not (in_starred k)) refl
       (record { id = refl; known = refl; address = refl; before_lists = refl; lists = refl; between = refl; weights = refl; behind_weights = refl }) n fields inside f
 
   pub not_kept_is_starred : of_fields (λ k. not (in_kept k)) fields ≡ of_fields in_starred fields
-  unfolding fresh tells
+  unfolding fresh has_value tells
   not_kept_is_starred = fields_alike (λ k. not (in_kept k)) in_starred refl
       (record { id = refl; known = refl; address = refl; before_lists = refl; lists = refl; between = refl; weights = refl; behind_weights = refl }) n fields inside f
 
@@ -92,11 +92,11 @@ rest_alike p q pass table points s on = alike_items p q (rest_passes (Alike p q)
 
 module _ (table : RplTable) (points : ℕ → ℕ) (s : List ℕ) {w : List ℤ} {a : List ℕ} (on : Follows (rest_form table points s) w a) where
   given_is_kept : of_fields in_given (items_along (rest_form table points s) w) ≡ of_fields in_kept (items_along (rest_form table points s) w)
-  unfolding fresh tells
+  unfolding fresh has_value tells
   given_is_kept = rest_alike in_given in_kept (record { address = refl; before_lists = refl; lists = refl; between = refl; weights = refl; behind_weights = refl }) table points s on
 
   not_given_is_not_kept : of_fields (λ k. not (in_given k)) (items_along (rest_form table points s) w) ≡ of_fields (λ k. not (in_kept k)) (items_along (rest_form table points s) w)
-  unfolding fresh tells
+  unfolding fresh has_value tells
   not_given_is_not_kept = rest_alike (λ k. not (in_given k)) (λ k. not (in_kept k))
       (record { address = refl; before_lists = refl; lists = refl; between = refl; weights = refl; behind_weights = refl }) table points s on
 

@@ -2,7 +2,9 @@
 use Rattle.std.specs.Prelude.{ℕ, not, List, [], ◌∷◌, ◌++◌, filter}
 use Rattle.vx_table.specs.Depends.{has, with_all, set_of, DependsOnlyOn}
 use Rattle.vx_table.specs.laws.Again.{AlwaysShown}
+use Rattle.vx_table.specs.Parts.{Section, always}
 use Rattle.vx_table.specs.Shown.{KeepsOnly}
+use Rattle.vx_table.specs.Unstarred.{unstarred}
 use Rattle.vx_fields.specs.declared.names.rpl.TheConstants as names_rpl
 use Rattle.vx_fields.specs.declared.names.rpl.TheConstants.{ENTRIES_0, ENTRIES_1}
 use Rattle.vx_fields.specs.declared.names.ph.TheConstants.{FILTER_SET}
@@ -16,8 +18,10 @@ use Rattle.vx_fields.specs.declared.sps.TheConstants as sps
 use Rattle.vx_fields.specs.declared.pps.TheConstants as pps
 use Rattle.vx_fields.specs.declared.ph.TheConstants as ph
 use Rattle.vx_rpl.specs.declared.entry.RplTable.{RplTable}
-use Rattle.vx_sh.specs.declared.tables.TheConstants.{STARRED}
-use Rattle.vx_sh.specs.Slice.{rest_form}
+use Rattle.vx_rpl.specs.Lists.{weights as weight_tables}
+use Rattle.vx_ph.specs.Depends.{lists_tables}
+use Rattle.vx_sh.specs.declared.tables.TheConstants.{HEADER_INSIDE, SUBPIC_ID, KNOWN_SUBPIC, ADDRESS, STARRED}
+use Rattle.vx_sh.specs.Slice.{before_lists, between, behind_weights, rest_form}
 
 -- ---- what is read of the sets, the picture header and the place of the slice
 
@@ -59,6 +63,15 @@ all_given = kept_given ++ starred_given
 
 -- ---- fields, and the names that rows give numbers to
 
+-- the tables of a slice header, without the picture header inside
+abbrev pub sh_tables : List Section
+sh_tables = always HEADER_INSIDE ∷ always SUBPIC_ID ∷ always KNOWN_SUBPIC ∷ always ADDRESS
+    ∷ (before_lists ++ (lists_tables ++ (between ++ (weight_tables ++ behind_weights))))
+
+-- the kept fields: those without a star
+abbrev pub kept_fields : List ℕ
+kept_fields = unstarred sh_tables
+
 -- those of reference picture lists and weights
 abbrev pub of_lists : List ℕ
 of_lists = rpl.ALL ++ (weights.ALL ++ names_rpl.ALL)
@@ -70,21 +83,22 @@ all_fields = of_lists ++ (FILTER_SET ∷ alf.ALL ++ (sh.ALL ++ names_sh.ALL))
 abbrev pub starred_fields : List ℕ
 starred_fields = FILTER_SET ∷ HAS_ALF ∷ STARRED
 
-abbrev pub kept_fields : List ℕ
-kept_fields = filter (λ n. not (has (set_of starred_fields) n)) all_fields
+-- the others: the kept fields, with the names that their rows use
+abbrev pub kept_with_names : List ℕ
+kept_with_names = filter (λ n. not (has (set_of starred_fields) n)) all_fields
 
 -- ---- the law
 
 -- The presence, coding and range of each kept field depend on kept fields alone: of the SPS, the PPS, the picture header and the
 -- slice header; and on the numbers beside these, and on the entry points by address.
 abbrev pub KeptDepend : Type 0
-KeptDepend = (table : RplTable) (points : ℕ → ℕ) → DependsOnlyOn kept_given kept_fields (rest_form table points)
+KeptDepend = (table : RplTable) (points : ℕ → ℕ) → DependsOnlyOn kept_given kept_with_names (rest_form table points)
 
 -- Those of all fields depend on these and on the fields with a star above.
 abbrev pub AllDepend : Type 0
 AllDepend = (table : RplTable) (points : ℕ → ℕ) → DependsOnlyOn all_given all_fields (rest_form table points)
 
--- These are all fields, and the kept ones are those without a star.
+-- These are all fields; and a field has a star in each of its rows, or in none.
 abbrev pub AllAreShown : Type 0
 AllAreShown = (table : RplTable) (points : ℕ → ℕ) → AlwaysShown (with_all (set_of all_given) all_fields) (rest_form table points)
 

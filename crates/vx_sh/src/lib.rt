@@ -22,7 +22,6 @@ pub use laws::{
     spelling_is_read, spelling_is_short,
 };
 pub use numbers::{SliceNumbers, read_sh, read_sh_at, read_sh_fields, write_sh};
-pub use reshape::reshape_sh;
 pub use send::SliceSender;
 pub use shape::ShShape;
 pub use tables::{

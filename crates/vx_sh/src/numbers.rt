@@ -1,6 +1,7 @@
 //! Slice headers by the sets, the picture header and the layout in force.
-ghost use Rattle.std.specs.Prelude.{◌≡◌, ◌^◌, ◌≤◌, length, IfOk};
+ghost use Rattle.std.specs.Prelude.{◌≡◌, ◌≤◌, length, IfOk};
 ghost use Rattle.vx_bits.specs.Place.{Place};
+ghost use Rattle.vx_bits.specs.Limits.{unit_limit};
 ghost use Rattle.vx_table.specs.Reading.{Reads, at_front};
 ghost use Rattle.vx_ph.specs.InForce as ph;
 ghost use Rattle.vx_sh.specs.Whole.{slice_form};
@@ -82,7 +83,7 @@ pub fn read_sh(
     rbsp: &[u8],
     numbers: &SliceNumbers<'_>,
 ) -> Result<(SliceHeader, usize), ReadError>
-    requires size { length rbsp.now ≤ 2 ^ 23 }
+    requires size { length rbsp.now ≤ unit_limit }
     requires few { length numbers.now.ids.now ≤ 1000 }
     requires one_each { length numbers.now.ids.now ≡ length numbers.now.layout.now.subpics }
     ensures { ReadsSlice (in_force_at numbers.now) rbsp.now result }
@@ -104,7 +105,7 @@ pub fn read_sh_at(
     numbers: &SliceNumbers<'_>,
     sets: &Scope,
 ) -> Result<(SliceHeader, usize), ReadError>
-    requires size { length rbsp.now ≤ 2 ^ 23 }
+    requires size { length rbsp.now ≤ unit_limit }
     requires few { length numbers.now.ids.now ≤ 1000 }
     requires one_each { length numbers.now.ids.now ≡ length numbers.now.layout.now.subpics }
     requires sets { sets.now ≡ ph.in_force numbers.now.sps.now numbers.now.pps.now }
@@ -134,7 +135,7 @@ pub fn read_sh_fields(
     numbers: &SliceNumbers<'_>,
     into: &mut Fields,
 ) -> Result<(), ReadError>
-    requires size { length rbsp.now ≤ 2 ^ 23 }
+    requires size { length rbsp.now ≤ unit_limit }
     requires few { length numbers.now.ids.now ≤ 1000 }
     requires one_each { length numbers.now.ids.now ≡ length numbers.now.layout.now.subpics }
     ensures { (new : Place) × Reads (slice_form (in_force_at numbers.now)) (at_front rbsp.now) into.old result new into.new }

@@ -1,6 +1,7 @@
 //! Reading a slice header.
-ghost use Rattle.std.specs.Prelude.{◌≡◌, ◌^◌, ◌≤◌, [], length};
+ghost use Rattle.std.specs.Prelude.{◌≡◌, ◌≤◌, [], length};
 ghost use Rattle.vx_bits.specs.Place.{Place};
+ghost use Rattle.vx_bits.specs.Limits.{unit_limit};
 ghost use Rattle.vx_table.specs.Reading.{Reads, at_front};
 ghost use Rattle.vx_table.specs.Walks.{leaving};
 ghost use Rattle.vx_sh.specs.Whole.{header_inside, at_of, slice_form};
@@ -70,7 +71,7 @@ pub(crate) fn read_fields_at(
     scope: &mut Scope,
     into: &mut Fields,
 ) -> Result<(), ReadError>
-    requires { length rbsp.now ≤ 2 ^ 23 }
+    requires { length rbsp.now ≤ unit_limit }
     ensures { (new : Place) × Reads (slice_form (at_of n.now scope.old)) (at_front rbsp.now) into.old result new into.new }
 {
     let mut bits = BitReader::new(rbsp);
@@ -90,7 +91,7 @@ pub(crate) fn read_slice_at(
     n: &Context<'_>,
     scope: &mut Scope,
 ) -> Result<(SliceHeader, usize), ReadError>
-    requires { length rbsp.now ≤ 2 ^ 23 }
+    requires { length rbsp.now ≤ unit_limit }
     ensures { ReadsSlice (at_of n.now scope.old) rbsp.now result }
 {
     let mut bits = BitReader::new(rbsp);

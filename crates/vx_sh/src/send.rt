@@ -16,7 +16,7 @@ use std::alloc::{AllocError, Global};
 use std::marker::Model;
 use vx_bits::{BitWriter, Fields};
 use vx_ph::in_force;
-use vx_table::{Scope, Sender, SpellError, Unwritten, set_of};
+use vx_table::{Scope, Sender, SpellError, Unwritten, only_memory, set_of};
 
 /// What the slice headers of a picture are sent at, whose units have one type: made once for all of them.
 ///
@@ -84,8 +84,9 @@ impl<'a> SliceSender<'a> {
         code_apart(&n, &mut scope, &mut sender, bits)
     }
 
-    /// The bytes of the slice header, `slice_header()`, clause 7.3.7, that says what `shape` says, and all else as its source: those
-    /// that [`crate::write_sh`] gives of what [`crate::reshape_sh`] makes.
+    /// The bytes of the slice header, `slice_header()`, clause 7.3.7, that says what `shape` says, and all else as its source: its kept
+    /// fields, its address and its lists are the source's. It is one under what is in force here, where the kept fields of the sets and of
+    /// the picture header are those under which the source was read, and its subpicture has the same slices.
     ///
     /// # Errors
     ///
@@ -104,8 +105,7 @@ impl<'a> SliceSender<'a> {
         let mut bits = BitWriter::new(alloc);
         match self.send_fields(&stated, &source.fields, &mut bits) {
             Ok(()) => Ok(bits.into_bytes()),
-            Err(SpellError::Memory) => Err(AllocError),
-            Err(SpellError::NoValue) => unreachable!(),
+            Err(error) => Err(only_memory(error)),
         }
     }
 }

@@ -10,7 +10,7 @@ use crate::header::SliceHeader;
 use crate::tables::HEADER_INSIDE;
 use std::alloc::{AllocError, Global};
 use vx_bits::{BitWriter, Fields};
-use vx_table::{Scope, SpellError, Unwritten, code_table};
+use vx_table::{Scope, SpellError, Unwritten, code_table, only_memory};
 
 /// Writes the fields, with those of the picture header where it stands inside.
 fn write_fields(
@@ -51,7 +51,6 @@ pub(crate) fn write_slice_at(
     let mut bits = BitWriter::new(alloc);
     match write_fields(n, scope, &header.fields, inside, &mut bits) {
         Ok(()) => Ok(bits.into_bytes()),
-        Err(SpellError::Memory) => Err(AllocError),
-        Err(SpellError::NoValue) => unreachable!(),
+        Err(error) => Err(only_memory(error)),
     }
 }

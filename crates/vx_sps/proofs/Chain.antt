@@ -16,7 +16,7 @@ use Rattle.vx_table.specs.Shown.{shown_items}
 use Rattle.vx_table.proofs.Agreeing.{agree_itself, inside_itself}
 use Rattle.vx_table.proofs.Rewrites.{what_goes_is_rewritten}
 use Rattle.vx_sps.specs.declared.shape.SpsShape.{SpsShape}
-use Rattle.vx_sps.specs.declared.tables.TheConstants.{TAKEN}
+use Rattle.vx_sps.specs.Depends.{taken_sps_fields}
 use Rattle.vx_sps.specs.Structure.{ids, start, profile, resampling, picture, counts, dpb, tools, timing, end, sps_sections, sps_form}
 use Rattle.vx_sps.specs.Reshaped.{sps_id_items, profile_items, picture_items, dpb_items, timing_items, IsReshapedSps}
 use Rattle.vx_table.proofs.Groups.{copied_group, inside_nothing, Onward, copied_first, replaced_first}
@@ -37,7 +37,7 @@ pub record Replaces (source : List Item) (shape : SpsShape) : Type 0 where
       → Takes (sections_form timing t) (timing_items source)
 
 abbrev names : List ℕ
-names = set_of TAKEN
+names = set_of taken_sps_fields
 
 -- a number that a replaced group reads
 reads : (given : List ℕ) (rest : List Section) {values others : List ℤ} {s last t : List ℕ} → sections_name_none (set_of given) sps_sections ≡ true → sections_hide (set_of given) rest ≡ true

@@ -9,7 +9,7 @@ use Rattle.vx_table.specs.Depends.{set_of}
 use Rattle.vx_table.specs.Claims.{knows_formula, knows_width, knows_range, knows_presence, hides_counter, hides_row, behind_field, within_block, depends, behind_rows, table_depends, behind_table, comes_always, sections_chain, sections_hide}
 use Rattle.vx_table.specs.laws.Again.{shows_row}
 use Rattle.vx_table.specs.Loaded.{names_none, sections_name_none}
-use Rattle.vx_sps.specs.declared.tables.TheConstants.{TAKEN}
+use Rattle.vx_sps.specs.Depends.{taken_sps_fields}
 use Rattle.vx_sps.specs.Structure.{ids, start, profile, resampling, picture, counts, dpb, tools, timing, end, sps_sections}
 
 -- ---- groups that are taken over: their fields depend on what is taken over alone, and all are taken over
@@ -19,7 +19,7 @@ abbrev pub unset : List ℕ
 unset = set_of (sps_num_subpics_minus1 ∷ sps_independent_subpics_flag ∷ sps_subpic_same_size_flag ∷ [])
 
 abbrev pub is_taken : List Section → Type 0
-is_taken group = (sections_chain (set_of TAKEN) (set_of TAKEN) group ≡ true) × (sections_pass (shows_row (set_of TAKEN)) group ≡ true) × (sections_hide fresh group ≡ true) × (sections_hide unset group ≡ true)
+is_taken group = (sections_chain (set_of taken_sps_fields) (set_of taken_sps_fields) group ≡ true) × (sections_pass (shows_row (set_of taken_sps_fields)) group ≡ true) × (sections_hide fresh group ≡ true) × (sections_hide unset group ≡ true)
 
 pub start_taken : is_taken start
 unfolding fresh has_value knows_formula knows_width knows_range knows_presence hides_counter hides_row behind_field within_block depends behind_rows table_depends behind_table comes_always shows_row
@@ -44,7 +44,7 @@ end_taken = (refl, refl, refl, refl)
 -- ---- groups that are replaced: none of their fields is taken over
 
 abbrev pub is_replaced : List Section → Type 0
-is_replaced group = (sections_hide (set_of TAKEN) group ≡ true) × (sections_hide fresh group ≡ true)
+is_replaced group = (sections_hide (set_of taken_sps_fields) group ≡ true) × (sections_hide fresh group ≡ true)
 
 pub ids_replaced : is_replaced ids
 unfolding fresh hides_counter hides_row

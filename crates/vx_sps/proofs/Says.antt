@@ -20,7 +20,7 @@ use Rattle.vx_table.proofs.Keeping.{shown_of_shown}
 use Rattle.vx_sps.specs.declared.shape.SpsShape.{SpsShape}
 use Rattle.vx_sps.specs.declared.shape.SubpicPlan.{SubpicPlan}
 use Rattle.vx_sps.specs.declared.shape.SubpicPlan.TheVariants.{Absent, One, Many}
-use Rattle.vx_sps.specs.declared.tables.TheConstants.{TAKEN}
+use Rattle.vx_sps.specs.Depends.{taken_sps_fields}
 use Rattle.vx_sps.specs.Set.{AreSpsItems, width_of, height_of, ctb_size_of, ctu_columns_of, ctu_rows_of}
 use Rattle.vx_sps.specs.Subpictures.{ctu_top_left_at, size_at, own_rect, on_grid, rect_of}
 use Rattle.vx_table.specs.Loaded.{numbers_of}
@@ -48,13 +48,13 @@ inside_all (n ∷ rest) {names} {more} inside knows =
       ];
     }) parts.1
 
-kept_inside : Inside (set_of kept_sps_fields) (set_of TAKEN)
+kept_inside : Inside (set_of kept_sps_fields) (set_of taken_sps_fields)
 unfolding fresh
-kept_inside = inside_all kept_sps_fields (inside_nothing (set_of TAKEN)) refl
+kept_inside = inside_all kept_sps_fields (inside_nothing (set_of taken_sps_fields)) refl
 
 pub reshaped_keeps : ReshapedKeeps
 reshaped_keeps source items shape is =
-    sym (shown_of_shown (set_of kept_sps_fields) (set_of TAKEN) items kept_inside) ∙ ap (λ x. shown_items (set_of kept_sps_fields) x) is.shown_ones ∙ shown_of_shown (set_of kept_sps_fields) (set_of TAKEN) source kept_inside
+    sym (shown_of_shown (set_of kept_sps_fields) (set_of taken_sps_fields) items kept_inside) ∙ ap (λ x. shown_items (set_of kept_sps_fields) x) is.shown_ones ∙ shown_of_shown (set_of kept_sps_fields) (set_of taken_sps_fields) source kept_inside
 
 -- ---- the picture among what is stated
 
@@ -232,11 +232,11 @@ own_same i a b e f g h = rw (a, b, e, f, g, h) refl
 
 -- ---- the set
 
-items_with : (source items : List Item) (shape : SpsShape) → IsReshapedSps source shape items → (of : ℕ) → beside of ≡ false → nat_lt of 109 ≡ false → IsFalse (has (set_of TAKEN) of)
+items_with : (source items : List Item) (shape : SpsShape) → IsReshapedSps source shape items → (of : ℕ) → beside of ≡ false → nat_lt of 109 ≡ false → IsFalse (has (set_of taken_sps_fields) of)
     → with_field of items ≡ with_field of (picture_items source shape)
-items_with source items shape is of fails past outside = sym (others_with (set_of TAKEN) of items outside) ∙ ap (λ x. with_field of x) is.other_ones ∙ picture_with of source shape fails past
+items_with source items shape is of fails past outside = sym (others_with (set_of taken_sps_fields) of items outside) ∙ ap (λ x. with_field of x) is.other_ones ∙ picture_with of source shape fails past
 
-pub block_of : (source items : List Item) (shape : SpsShape) → IsReshapedSps source shape items → (of : ℕ) → beside of ≡ false → nat_lt of 109 ≡ false → IsFalse (has (set_of TAKEN) of) → nat_lt of 116 ≡ false
+pub block_of : (source items : List Item) (shape : SpsShape) → IsReshapedSps source shape items → (of : ℕ) → beside of ≡ false → nat_lt of 109 ≡ false → IsFalse (has (set_of taken_sps_fields) of) → nat_lt of 116 ≡ false
     → with_field of items ≡ with_field of (subpic_items (quotient shape.width (ctb_size_of source)) (quotient shape.height (ctb_size_of source)) shape.subpics)
 block_of source items shape is of fails past outside later =
     items_with source items shape is of fails past outside
@@ -252,7 +252,7 @@ module _ (source items : List Item) (shape : SpsShape) (set : AreSpsItems source
   abbrev spelled : List Item
   spelled = subpic_items across down shape.subpics
 
-  listed : (of : ℕ) → beside of ≡ false → nat_lt of 109 ≡ false → IsFalse (has (set_of TAKEN) of) → nat_lt of 116 ≡ false → numbers_of items of ≡ numbers_of spelled of
+  listed : (of : ℕ) → beside of ≡ false → nat_lt of 109 ≡ false → IsFalse (has (set_of taken_sps_fields) of) → nat_lt of 116 ≡ false → numbers_of items of ≡ numbers_of spelled of
   listed of fails past outside later = ap (λ xs. map (λ item. natural item.value) xs) (block_of source items shape is of fails past outside later)
 
   width_is : width_of items ≡ shape.width
@@ -266,8 +266,8 @@ module _ (source items : List Item) (shape : SpsShape) (set : AreSpsItems source
   ctu_is : number items sps.sps_log2_ctu_size_minus5 ≡ number source sps.sps_log2_ctu_size_minus5
   unfolding fresh
   ctu_is =
-      number_of_shown (set_of TAKEN) sps.sps_log2_ctu_size_minus5 items refl ∙ ap (λ x. number x sps.sps_log2_ctu_size_minus5) is.shown_ones
-      ∙ sym (number_of_shown (set_of TAKEN) sps.sps_log2_ctu_size_minus5 source refl)
+      number_of_shown (set_of taken_sps_fields) sps.sps_log2_ctu_size_minus5 items refl ∙ ap (λ x. number x sps.sps_log2_ctu_size_minus5) is.shown_ones
+      ∙ sym (number_of_shown (set_of taken_sps_fields) sps.sps_log2_ctu_size_minus5 source refl)
 
   ctb_is : ctb_size_of items ≡ ctb_size_of source
   ctb_is = ap (λ n. 2 ^ (n + 5)) ctu_is

@@ -10,7 +10,7 @@ use Rattle.vx_table.proofs.With.{lacks, no_number, one_number, others_with, pass
 use Rattle.vx_sps.specs.declared.shape.SpsShape.{SpsShape}
 use Rattle.vx_sps.specs.declared.shape.SubpicPlan.{SubpicPlan}
 use Rattle.vx_sps.specs.declared.shape.SubpicPlan.TheVariants.{Absent, One, Many}
-use Rattle.vx_sps.specs.declared.tables.TheConstants.{TAKEN}
+use Rattle.vx_sps.specs.Depends.{taken_sps_fields}
 use Rattle.vx_sps.specs.Set.{ctb_size_of}
 use Rattle.vx_sps.specs.Reshaped.{dpb_items, id_bits, item, many_items, picture_items, places_items, profile_items, picture_size_items, stated_sps_items, subpic_items, timing_items}
 use Rattle.vx_sps.specs.laws.Reread.{ReshapedSignals, described_in, explicit_in, id_len_in, mapped_in}
@@ -86,7 +86,7 @@ reshaped_signals source items shape low few is =
     let across : ℕ = quotient shape.width (ctb_size_of source) in
     let down : ℕ = quotient shape.height (ctb_size_of source) in
     record {
-      id = one_number 100 shape.id items (omega arith) (omega (arith, low)) (sym (others_with (set_of TAKEN) 100 items refl) ∙ ap (λ xs. with_field 100 xs) is.other_ones ∙ own_id source shape);
+      id = one_number 100 shape.id items (omega arith) (omega (arith, low)) (sym (others_with (set_of taken_sps_fields) 100 items refl) ∙ ap (λ xs. with_field 100 xs) is.other_ones ∙ own_id source shape);
       described = same_number 116 items (subpic_items across down shape.subpics) (block_of source items shape is 116 refl refl refl refl) ∙ described across down shape.subpics;
       id_len = same_number 126 items (subpic_items across down shape.subpics) (block_of source items shape is 126 refl refl refl refl) ∙ id_len across down shape.subpics few;
       explicit = same_number 127 items (subpic_items across down shape.subpics) (block_of source items shape is 127 refl refl refl refl) ∙ explicit across down shape.subpics;

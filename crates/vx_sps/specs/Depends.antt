@@ -1,39 +1,51 @@
 -- The kept fields of a set, and what they depend on. Our own.
-use Rattle.std.specs.Prelude.{◌≡◌, ℕ, ℤ, not, List, [], ◌∷◌, filter}
+use Rattle.std.specs.Prelude.{◌≡◌, ℕ, ℤ, List, [], ◌∷◌, ◌++◌}
 use Rattle.vx_bits.specs.declared.list.Item.{Item}
+use Rattle.vx_fields.specs.declared.names.rpl.TheConstants.{NUM_STRUCTURES, STRUCTURE, IN_SPS, IN_HEADER, MAY_WEIGHT, ENTRY, MAY_BE_0}
+use Rattle.vx_fields.specs.declared.names.rpl.TheConstants.{HAS_SIGN, IS_LONG, LONG_ENTRIES}
+use Rattle.vx_fields.specs.declared.names.sps.TheConstants.{EXTRA_BIT, NUM_QP_TABLES, QP_TABLE, QP_POINT, INTERVAL, VUI_BYTE}
 use Rattle.vx_fields.specs.declared.sps.TheConstants as sps
-use Rattle.vx_fields.specs.declared.names.sps.TheConstants.{VUI_BYTE}
-use Rattle.vx_table.specs.Depends.{has, set_of, DependsOnlyOn}
+use Rattle.vx_table.specs.Depends.{set_of, DependsOnlyOn}
 use Rattle.vx_table.specs.Kept.{kept_along}
 use Rattle.vx_table.specs.Parts.{sections_form}
 use Rattle.vx_table.specs.Rewritten.{other_items}
 use Rattle.vx_table.specs.Shown.{shown_items, KeepsOnly}
 use Rattle.vx_table.specs.Spelling.{items_along}
+use Rattle.vx_table.specs.Unstarred.{unstarred}
 use Rattle.vx_table.specs.Values.{Follows}
 use Rattle.vx_sps.specs.Set.{AreSpsItems}
 use Rattle.vx_sps.specs.Structure.{sps_form, sps_sections}
-use Rattle.vx_sps.specs.declared.tables.TheConstants.{TAKEN}
 
--- what a rewritten set takes from its source though it isn't kept: whether there is timing, and usability information
-abbrev pub taken_besides : List ℕ
-taken_besides = sps.sps_timing_hrd_params_present_flag ∷ sps.sps_vui_parameters_present_flag ∷ sps.sps_vui_payload_size_minus1
-    ∷ sps.vui_payload_byte ∷ VUI_BYTE ∷ []
-
--- the kept fields, with the names that they use
+-- the kept fields: those without a star
 abbrev pub kept_sps_fields : List ℕ
-kept_sps_fields = filter (λ n. not (has (set_of taken_besides) n)) TAKEN
+kept_sps_fields = unstarred sps_sections
 
 -- the items of a set's kept fields, in order
 abbrev pub kept_sps_items : List Item → List Item
 kept_sps_items items = shown_items (set_of kept_sps_fields) items
 
--- They are those without a star,
+-- the names that their rows use
+abbrev pub names_of_kept : List ℕ
+names_of_kept = EXTRA_BIT ∷ NUM_QP_TABLES ∷ QP_TABLE ∷ QP_POINT ∷ NUM_STRUCTURES ∷ STRUCTURE ∷ IN_SPS ∷ IN_HEADER ∷ MAY_WEIGHT ∷ ENTRY
+    ∷ MAY_BE_0 ∷ HAS_SIGN ∷ IS_LONG ∷ LONG_ENTRIES ∷ INTERVAL ∷ []
+
+-- what a rewritten set has as its source besides: whether there is timing, and the usability information, with the name that its rows
+-- use; and the gap at the end
+abbrev pub taken_besides : List ℕ
+taken_besides = sps.sps_timing_hrd_params_present_flag ∷ sps.sps_vui_parameters_present_flag ∷ sps.sps_vui_payload_size_minus1
+    ∷ sps.vui_payload_byte ∷ VUI_BYTE ∷ sps.sps_rbsp_trailing_bits ∷ []
+
+-- all fields and names that it has as its source
+abbrev pub taken_sps_fields : List ℕ
+taken_sps_fields = names_of_kept ++ (taken_besides ++ kept_sps_fields)
+
+-- A field has a star in each of its rows, or in none.
 abbrev pub StarsTellKept : Type 0
 StarsTellKept = KeepsOnly [] kept_sps_fields (sections_form sps_sections)
 
--- and depend on one another alone: on no other field of the set, and on no number of the scope that it is read at.
+-- Kept fields depend on one another alone: on no other field of the set, and on no number of the scope that it is read at.
 abbrev pub KeptDependsOnKept : Type 0
-KeptDependsOnKept = DependsOnlyOn [] kept_sps_fields (sections_form sps_sections)
+KeptDependsOnKept = DependsOnlyOn [] (names_of_kept ++ kept_sps_fields) (sections_form sps_sections)
 
 -- Their items are all that sifting keeps: no absent field stands among them.
 abbrev pub KeptAreSifted : Type 0

@@ -20,7 +20,7 @@ use Rattle.vx_table.specs.Shown.{shown_items}
 use Rattle.vx_sps.specs.declared.shape.SpsShape.{SpsShape}
 use Rattle.vx_sps.specs.declared.shape.SubpicPlan.{SubpicPlan}
 use Rattle.vx_sps.specs.declared.shape.SubpicPlan.TheVariants.{Absent, One, Many}
-use Rattle.vx_sps.specs.declared.tables.TheConstants.{TAKEN}
+use Rattle.vx_sps.specs.Depends.{taken_sps_fields}
 use Rattle.vx_sps.specs.Set.{ctb_size_of}
 use Rattle.vx_sps.specs.Structure.{sps_form}
 use Rattle.vx_table.specs.Rewritten.{where_so}
@@ -182,4 +182,4 @@ pub record IsShape (ctb_size : ℕ) (shape : SpsShape) : Type 0 where
 -- The items are those of a set. Those of the fields that are taken over are the source's, and the others are exactly what is stated.
 abbrev pub IsReshapedSps : List Item → SpsShape → List Item → Type 0
 IsReshapedSps source shape items =
-    IsRewritten sps_form (set_of TAKEN) (shown_items (set_of TAKEN) source) (stated_sps_items source shape) items
+    IsRewritten sps_form (set_of taken_sps_fields) (shown_items (set_of taken_sps_fields) source) (stated_sps_items source shape) items

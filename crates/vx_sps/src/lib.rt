@@ -13,6 +13,7 @@ mod shape;
 mod sps;
 mod subpictures;
 mod tables;
+mod taken;
 mod walk;
 
 pub use laws::{
@@ -27,6 +28,6 @@ pub use sps::Sps;
 pub use tables::{
     CHROMA_QP, COUNTS, CTUS, END, FILTERS, IDS, INTER, INTRA, LIST_1, PARTITIONS, PLACE,
     REFERENCES, RESAMPLING, SCALING, SIZE, START, SUBLAYER_CPB, SUBLAYER_DPB, SUBPIC_IDS,
-    SUBPICTURES, TAKEN, TIMED, TRANSFORMS,
+    SUBPICTURES, TIMED, TRANSFORMS,
 };
 pub use walk::code_sps;

@@ -1,8 +1,9 @@
 //! Reading, writing and sifting a sequence parameter set.
 
-ghost use Rattle.std.specs.Prelude.{◌≡◌, ◌≤◌, ◌^◌, length, IfOk};
+ghost use Rattle.std.specs.Prelude.{◌≡◌, ◌≤◌, length, IfOk};
 ghost use Rattle.vx_table.specs.Kept.{Keeps};
 ghost use Rattle.vx_bits.specs.Place.{Place};
+ghost use Rattle.vx_bits.specs.Limits.{unit_limit};
 ghost use Rattle.vx_table.specs.Reading.{Reads, ReadsValue, at_front};
 ghost use Rattle.vx_table.specs.Writing.{Writes};
 ghost use Rattle.vx_sps.specs.Structure.{sps_form};
@@ -43,7 +44,7 @@ fn keep_fields(items: &mut Unwritten<'_>, kept: &mut Fields) -> Result<(), Spell
 ///
 /// The first refusal, or want of memory. `into` has then gained the fields read before.
 pub fn read_sps_fields(rbsp: &[u8], into: &mut Fields) -> Result<(), ReadError>
-    requires { length rbsp.now ≤ 2 ^ 23 }
+    requires { length rbsp.now ≤ unit_limit }
     ensures { (new : Place) × Reads sps_form (at_front rbsp.now) into.old result new into.new }
 {
     let mut bits = BitReader::new(rbsp);
@@ -52,7 +53,7 @@ pub fn read_sps_fields(rbsp: &[u8], into: &mut Fields) -> Result<(), ReadError>
 
 /// Reads the items of a set.
 fn read_items(alloc: Global, rbsp: &[u8]) -> Result<Fields, ReadError>
-    requires { length rbsp.now ≤ 2 ^ 23 }
+    requires { length rbsp.now ≤ unit_limit }
     ensures { ReadsValue sps_form rbsp.now result }
 {
     let mut items = Fields::new(alloc);
@@ -66,7 +67,7 @@ fn read_items(alloc: Global, rbsp: &[u8]) -> Result<Fields, ReadError>
 ///
 /// The first refusal, or want of memory.
 pub fn read_sps(alloc: Global, rbsp: &[u8]) -> Result<Sps, ReadError>
-    requires { length rbsp.now ≤ 2 ^ 23 }
+    requires { length rbsp.now ≤ unit_limit }
     ensures { ReadsValue sps_form rbsp.now result }
 {
     let items = read_items(alloc, rbsp)?;

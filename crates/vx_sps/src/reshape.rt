@@ -8,7 +8,7 @@ ghost use Rattle.vx_sps.specs.Reshaped.{sps_id_items, profile_items, window_item
 
 use crate::shape::{SpsShape, SubpicPlan};
 use crate::sps::Sps;
-use crate::tables::TAKEN;
+use crate::taken::taken_fields;
 use crate::walk::code_sps;
 use std::alloc::{AllocError, Global};
 use vx_bits::{Fields, Item};
@@ -19,7 +19,7 @@ use vx_fields::timing::*;
 use vx_layout::RectList;
 use vx_table::{
     Rewriter, Scope, SpellError, Unwritten, ceil_log2, item, items_of, only_memory, push_where,
-    quotient, set_of,
+    quotient,
 };
 
 /// An item of a field with the number that the source gives it.
@@ -287,14 +287,15 @@ fn rewrite(taken: &Fields, stated: &Fields, into: &mut Fields) -> Result<(), Spe
     ensures { MakesSet taken.now stated.now result into.new }
 {
     let mut rewriter = Rewriter::new(
-        set_of(&TAKEN),
+        taken_fields(),
         Unwritten::new(taken, 0, taken.len()),
         Unwritten::new(stated, 0, stated.len()),
     );
     code_sps(&mut Scope::new(), &mut rewriter, into)
 }
 
-/// The set that says what `shape` says, and all else as its source `sps`: the fields in [`TAKEN`] are the source's.
+/// The set that says what `shape` says, and all else as its source `sps`: its kept fields are the source's, whether
+/// there is timing, and the usability information.
 ///
 /// # Errors
 ///
@@ -303,7 +304,7 @@ pub fn reshape_sps(alloc: Global, sps: &Sps, shape: &SpsShape) -> Result<Sps, Al
     requires { IsShape (ctb_size_of sps.now) shape.now }
     ensures { IfOk result (λ reshaped. IsReshapedSps sps.now shape.now reshaped) }
 {
-    let taken = items_of(alloc, sps.fields(), &set_of(&TAKEN))?;
+    let taken = items_of(alloc, sps.fields(), &taken_fields())?;
     let stated = stated_items(alloc, sps, shape)?;
     let mut items = Fields::new(alloc);
     match rewrite(&taken, &stated, &mut items) {

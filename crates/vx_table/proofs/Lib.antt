@@ -16,6 +16,7 @@ pub mod Sending
 pub mod Keeping
 pub mod Rewrites
 pub mod Loading
+pub mod Marking
 pub mod With
 pub mod Agreeing
 pub mod Closing

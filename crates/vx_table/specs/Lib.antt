@@ -13,6 +13,7 @@ pub mod Values
 pub mod Writing
 pub mod Kept
 pub mod Shown
+pub mod Unstarred
 pub mod Rewritten
 pub mod Sent
 pub mod Rewrites

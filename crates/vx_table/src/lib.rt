@@ -67,6 +67,6 @@ pub use rewriter::{Rewriter, rewrite_parts, rewrite_table, set_of};
 pub use rows::{Cell, Coding, Fault, Formula, Limits, Presence, Row, Term};
 pub use scope::Scope;
 pub use sender::Sender;
-pub use stars::{keeps_only, parts_keep_only};
+pub use stars::{keeps_only, mark_unstarred, parts_keep_only};
 pub use walk::{Coder, code_table, coding_at, coding_of, has_value};
 pub use writer::{SpellError, Unwritten, only_memory, take_value, write_code, write_table};

@@ -1,7 +1,8 @@
 //! Reading by a table: bits to items.
 
-ghost use Rattle.std.specs.Prelude.{◌≡◌, ◌≤◌, ◌^◌, ◌++◌, length, OnOk, OnErr, IfErr};
+ghost use Rattle.std.specs.Prelude.{◌≡◌, ◌≤◌, ◌++◌, length, OnOk, OnErr, IfErr};
 ghost use Rattle.vx_bits.specs.Place.{taken};
+ghost use Rattle.vx_bits.specs.Limits.{unit_limit};
 ghost use Rattle.vx_table.specs.Forms.{form_of};
 ghost use Rattle.vx_table.specs.Spelling as spelling;
 ghost use Rattle.vx_table.specs.Spelling.{IsCodable};
@@ -154,7 +155,7 @@ pub fn read_value(
     scope: &mut Scope,
     rbsp: &[u8],
 ) -> Result<Fields, ReadError>
-    requires { length rbsp.now ≤ 2 ^ 23 }
+    requires { length rbsp.now ≤ unit_limit }
     ensures answer { ReadsValue (form_of table.now scope.old) rbsp.now result }
     ensures scope { OnOk result (LeadsTo (form_of table.now scope.old) (at_front rbsp.now) scope.new) }
 {

@@ -1,4 +1,4 @@
-//! The test that the stars of a table tell what is shown.
+//! The fields without a star, and the test that the stars of a table tell what is shown.
 
 ghost use Rattle.std.specs.Prelude.{◌≡◌, IsTrue};
 ghost use Rattle.vx_table.specs.Forms.{form_of};
@@ -6,12 +6,34 @@ ghost use Rattle.vx_table.specs.Parts.{sections_of, sections_form};
 ghost use Rattle.vx_table.specs.Depends as sets;
 ghost use Rattle.vx_table.specs.Shown as stars;
 ghost use Rattle.vx_table.specs.Shown.{KeepsOnly};
+ghost use Rattle.vx_table.specs.Unstarred.{unstarred_row, unstarred_rows};
 
 use crate::depends::{has, with_all};
 use crate::kept::stands_for_field;
 use crate::parts::Part;
 use crate::rows::Row;
 use crate::scope::Scope;
+
+/// Gives the field of a row, if it has no star, the number 1.
+fn mark_unstarred_row(names: &mut Scope, row: Row)
+    ensures { names.new ≡ sets.with_all names.old (unstarred_row row) }
+{
+    if let Row::Field(cell) = row {
+        if cell.kept {
+            names.set(cell.field, 1);
+        }
+    }
+}
+
+/// Gives the fields without a star of a table the number 1: from a fresh scope on, over all tables of a structure, it
+/// becomes the set of the structure's kept fields.
+pub fn mark_unstarred(names: &mut Scope, table: &[Row])
+    ensures { names.new ≡ sets.with_all names.old (unstarred_rows table.now) }
+{
+    for row in table {
+        mark_unstarred_row(names, *row);
+    }
+}
 
 /// Whether a row's field has a star exactly where it isn't shown.
 #[tactic(auto, unfolding(crate::specs::Shown::star_tells))]

@@ -1,5 +1,6 @@
 //! Answers to headers by themselves, under the sets of the PPS with the id 0, whatever ids they name.
-ghost use Rattle.std.specs.Prelude.{◌≡◌, ◌≤◌, ◌^◌, length};
+ghost use Rattle.std.specs.Prelude.{◌≡◌, ◌≤◌, length};
+ghost use Rattle.vx_bits.specs.Limits.{unit_limit};
 
 use crate::fault::LineFault;
 use crate::slices::slice_text;
@@ -29,7 +30,7 @@ pub(crate) fn answer_header_alone(
     stream: &Stream,
     rbsp: &[u8],
 ) -> Result<String, LineFault>
-    requires { length rbsp.now ≤ 2 ^ 23 }
+    requires { length rbsp.now ≤ unit_limit }
 {
     let (sps, pps) = stream.sets(0)?;
     let mut bits = BitReader::new(rbsp);
@@ -39,7 +40,7 @@ pub(crate) fn answer_header_alone(
 
 /// What is read of a slice header under these numbers.
 fn read_alone(alloc: Global, rbsp: &[u8], numbers: &SliceNumbers<'_>) -> Result<String, ReadError>
-    requires size { length rbsp.now ≤ 2 ^ 23 }
+    requires size { length rbsp.now ≤ unit_limit }
     requires few { length numbers.now.ids.now ≤ 1000 }
     requires one_each { length numbers.now.ids.now ≡ length numbers.now.layout.now.subpics }
 {
@@ -58,7 +59,7 @@ pub(crate) fn answer_slice_alone(
     nal_type: u8,
     rbsp: &[u8],
 ) -> Result<String, LineFault>
-    requires { length rbsp.now ≤ 2 ^ 23 }
+    requires { length rbsp.now ≤ unit_limit }
 {
     let frame = stream.frame(alloc, 0)?;
     let numbers = SliceNumbers {

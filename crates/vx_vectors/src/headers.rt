@@ -1,5 +1,6 @@
 //! Answers to picture headers that are units of their own.
-ghost use Rattle.std.specs.Prelude.{◌≤◌, ◌^◌, length};
+ghost use Rattle.std.specs.Prelude.{◌≤◌, length};
+ghost use Rattle.vx_bits.specs.Limits.{unit_limit};
 
 use crate::text::{write_items, write_same};
 use std::alloc::{AllocError, Global};
@@ -15,7 +16,7 @@ pub(crate) fn answer_header(
     sps: &Sps,
     pps: &Pps,
 ) -> Result<(String, PictureHeader), ReadError>
-    requires { length rbsp.now ≤ 2 ^ 23 }
+    requires { length rbsp.now ≤ unit_limit }
 {
     let header = read_ph_unit(alloc, rbsp, sps, pps)?;
     let written = write_ph(alloc, &header, sps, pps)?;

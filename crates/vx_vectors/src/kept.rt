@@ -1,5 +1,6 @@
 //! Kept items of sets, and the numbers of large ones.
-ghost use Rattle.std.specs.Prelude.{◌≤◌, ◌^◌, length};
+ghost use Rattle.std.specs.Prelude.{◌≤◌, length};
+ghost use Rattle.vx_bits.specs.Limits.{unit_limit};
 
 use crate::meaning::write_picture;
 use crate::sets::write_same_sps;
@@ -11,7 +12,7 @@ use vx_sps::{Sps, read_sps};
 
 /// The kept items of a PPS.
 pub(crate) fn answer_kept(alloc: Global, rbsp: &[u8]) -> Result<String, ReadError>
-    requires { length rbsp.now ≤ 2 ^ 23 }
+    requires { length rbsp.now ≤ unit_limit }
 {
     let pps = read_pps(alloc, rbsp)?;
     let kept = keep_pps(alloc, &pps)?;
@@ -49,7 +50,7 @@ fn numbers_text(alloc: Global, sps: &Sps, rbsp: &[u8]) -> Result<String, AllocEr
 
 /// How many items and structures an SPS has, its picture and its subpictures with their ids, and what is written of it.
 pub(crate) fn answer_numbers(alloc: Global, rbsp: &[u8]) -> Result<String, ReadError>
-    requires { length rbsp.now ≤ 2 ^ 23 }
+    requires { length rbsp.now ≤ unit_limit }
 {
     let sps = read_sps(alloc, rbsp)?;
     Ok(numbers_text(alloc, &sps, rbsp)?)

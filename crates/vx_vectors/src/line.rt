@@ -1,5 +1,6 @@
 //! The lines that are read.
-ghost use Rattle.std.specs.Prelude.{◌≤◌, ◌^◌, length};
+ghost use Rattle.std.specs.Prelude.{◌≤◌, length};
+ghost use Rattle.vx_bits.specs.Limits.{unit_limit};
 
 use crate::fault::LineFault;
 use crate::question::Question;
@@ -12,16 +13,17 @@ const MOST: usize = 1 << 23;
 #[derive(Drop)]
 pub(crate) struct LineBytes {
     bytes: Vec<u8>,
-    ghost few: { length bytes.items ≤ 2 ^ 23 },
+    ghost few: { length bytes.items ≤ unit_limit },
 }
 
 impl LineBytes {
-    ghost use Rattle.std.specs.Prelude.{◌≡◌, ◌<◌, ◌≤◌, ◌^◌, length, IfOk, IfErr};
+    ghost use Rattle.std.specs.Prelude.{◌≡◌, ◌<◌, ◌≤◌, length, IfOk, IfErr};
+    ghost use Rattle.vx_bits.specs.Limits.{unit_limit};
 
     /// These bytes, where they aren't too many.
     pub(crate) fn new(bytes: Vec<u8>) -> Result<LineBytes, LineFault>
         ensures bytes { IfOk result (λ line. line.bytes ≡ bytes) }
-        ensures many { IfErr result (λ _. 2 ^ 23 < length bytes.items) }
+        ensures many { IfErr result (λ _. unit_limit < length bytes.items) }
     {
         if bytes.len() > MOST {
             return Err(LineFault::Bytes);
@@ -43,7 +45,7 @@ impl LineBytes {
     /// The bytes.
     pub(crate) fn as_slice(&self) -> &[u8]
         ensures bytes { result.now ≡ self.now.bytes.items }
-        ensures few { length result.now ≤ 2 ^ 23 }
+        ensures few { length result.now ≤ unit_limit }
     {
         self.bytes.as_slice()
     }

@@ -1,6 +1,7 @@
 //! Picture headers that are rewritten so that they say what others say.
-ghost use Rattle.std.specs.Prelude.{◌≡◌, ◌≤◌, ◌^◌, IfOk, length};
+ghost use Rattle.std.specs.Prelude.{◌≡◌, ◌≤◌, IfOk, length};
 ghost use Rattle.std.specs.Bool.{OnTrue};
+ghost use Rattle.vx_bits.specs.Limits.{unit_limit};
 ghost use Rattle.vx_sps.specs.Set as sps_set;
 ghost use Rattle.vx_pps.specs.Pps as pps_set;
 ghost use Rattle.vx_ph.specs.Reshaped.{HaveSameKept, IsApart, IsShape};
@@ -29,8 +30,8 @@ pub(crate) struct Sets {
 impl Sets {
     /// Those of the RBSPs of an SPS and of a PPS.
     pub(crate) fn read(alloc: Global, sps: &[u8], pps: &[u8]) -> Result<Sets, ReadError>
-        requires sps { length sps.now ≤ 2 ^ 23 }
-        requires pps { length pps.now ≤ 2 ^ 23 }
+        requires sps { length sps.now ≤ unit_limit }
+        requires pps { length pps.now ≤ unit_limit }
     {
         Ok(Sets {
             sps: read_sps(alloc, sps)?,
@@ -147,7 +148,7 @@ pub(crate) fn answer_reshaped_ph(
     bits: &mut BitReader<'_>,
     like: &[u8],
 ) -> Result<String, LineFault>
-    requires { length like.now ≤ 2 ^ 23 }
+    requires { length like.now ≤ unit_limit }
 {
     let shape = shape_of(&read_ph_unit(alloc, like, &frame.sps, &frame.pps)?)?;
     if !is_shape(&shape) {

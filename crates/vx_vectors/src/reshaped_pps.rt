@@ -2,6 +2,7 @@
 ghost use Rattle.std.specs.Prelude.{◌≡◌, ℕ, ◌+◌, ◌<◌, ◌≤◌, ◌≤ℤ◌, ◌^◌, pos, neg_ℤ, IfOk, IfSome, Ok, length};
 ghost use Rattle.std.specs.Bool.{OnTrue};
 ghost use Rattle.std.specs.Int.{div_ceil};
+ghost use Rattle.vx_bits.specs.Limits.{unit_limit};
 ghost use Rattle.vx_layout.specs.Bounds.{last};
 ghost use Rattle.vx_layout.specs.Layouts.{HasLayout};
 ghost use Rattle.vx_layout.specs.Shapes.{AreListable};
@@ -240,7 +241,7 @@ fn rewritten(
     like: &Frame<'_>,
     merged: bool,
 ) -> Result<Vec<u8>, LineFault>
-    requires few { length source.now ≤ 2 ^ 23 }
+    requires few { length source.now ≤ unit_limit }
     requires layout { AnswersLayout like.now.sps.now like.now.pps.now (Ok like.now.layout) }
 {
     let source = read_pps(alloc, source)?;
@@ -255,7 +256,7 @@ fn rewritten_like(
     pps: &Pps,
     merged: bool,
 ) -> Result<Vec<u8>, LineFault>
-    requires { length source.now ≤ 2 ^ 23 }
+    requires { length source.now ≤ unit_limit }
 {
     let like = frame_of(alloc, sps, pps)?;
     rewritten(alloc, source, &like, merged)
@@ -273,9 +274,9 @@ pub(crate) fn answer_reshaped_pps(
     like: (&[u8], &[u8]),
     merged: bool,
 ) -> Result<String, LineFault>
-    requires source { length source.now ≤ 2 ^ 23 }
-    requires sps { length like.0.now ≤ 2 ^ 23 }
-    requires pps { length like.1.now ≤ 2 ^ 23 }
+    requires source { length source.now ≤ unit_limit }
+    requires sps { length like.0.now ≤ unit_limit }
+    requires pps { length like.1.now ≤ unit_limit }
 {
     let sps = read_sps(alloc, like.0)?;
     let pps = read_pps(alloc, like.1)?;

@@ -2,6 +2,7 @@
 ghost use Rattle.std.specs.Prelude.{◌+◌, ◌<◌, ◌≤◌, ◌^◌, All, length};
 ghost use Rattle.std.specs.Bool.{OnTrue};
 ghost use Rattle.vx_bits.specs.Codes.{IsCodeNumber};
+ghost use Rattle.vx_bits.specs.Limits.{unit_limit};
 ghost use Rattle.vx_layout.specs.Borders.{Begins, Ends};
 ghost use Rattle.vx_sps.specs.Reshaped.{AreParts, IsPlan, IsShape, IsSize};
 
@@ -165,7 +166,7 @@ fn written(alloc: Global, sps: &Sps, shape: &SpsShape) -> Result<Vec<u8>, LineFa
 
 /// The shape in which a set says what that of an RBSP says.
 fn like_of(alloc: Global, like: &[u8]) -> Result<SpsShape, LineFault>
-    requires { length like.now ≤ 2 ^ 23 }
+    requires { length like.now ≤ unit_limit }
 {
     let like = read_sps(alloc, like)?;
     shape_of(alloc, &like)
@@ -173,7 +174,7 @@ fn like_of(alloc: Global, like: &[u8]) -> Result<SpsShape, LineFault>
 
 /// What is written of the set of an RBSP that is rewritten for a shape.
 fn rewritten(alloc: Global, source: &[u8], shape: &SpsShape) -> Result<Vec<u8>, LineFault>
-    requires { length source.now ≤ 2 ^ 23 }
+    requires { length source.now ≤ unit_limit }
 {
     let source = read_sps(alloc, source)?;
     written(alloc, &source, shape)
@@ -189,8 +190,8 @@ pub(crate) fn answer_reshaped_sps(
     source: &[u8],
     like: &[u8],
 ) -> Result<String, LineFault>
-    requires source { length source.now ≤ 2 ^ 23 }
-    requires like { length like.now ≤ 2 ^ 23 }
+    requires source { length source.now ≤ unit_limit }
+    requires like { length like.now ≤ unit_limit }
 {
     let shape = like_of(alloc, like)?;
     let written = rewritten(alloc, source, &shape)?;

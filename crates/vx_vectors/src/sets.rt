@@ -1,5 +1,6 @@
 //! Answers to parameter sets by themselves.
-ghost use Rattle.std.specs.Prelude.{◌≤◌, ◌^◌, length};
+ghost use Rattle.std.specs.Prelude.{◌≤◌, length};
+ghost use Rattle.vx_bits.specs.Limits.{unit_limit};
 ghost use Rattle.vx_aps.specs.Aps.{IsValid};
 
 use crate::meaning::{write_pps_meaning, write_sps_meaning};
@@ -20,7 +21,7 @@ pub(crate) fn accepted(alloc: Global, fields: &Fields) -> Result<String, AllocEr
 
 /// What is read of a VPS.
 pub(crate) fn answer_vps(alloc: Global, rbsp: &[u8]) -> Result<String, ReadError>
-    requires { length rbsp.now ≤ 2 ^ 23 }
+    requires { length rbsp.now ≤ unit_limit }
 {
     let items = read_vps(alloc, rbsp)?;
     Ok(accepted(alloc, &items)?)
@@ -28,7 +29,7 @@ pub(crate) fn answer_vps(alloc: Global, rbsp: &[u8]) -> Result<String, ReadError
 
 /// What is read of an SPS, what it tells, and what is written of it.
 pub(crate) fn answer_sps(alloc: Global, rbsp: &[u8]) -> Result<String, ReadError>
-    requires { length rbsp.now ≤ 2 ^ 23 }
+    requires { length rbsp.now ≤ unit_limit }
 {
     let sps = read_sps(alloc, rbsp)?;
     Ok(sps_text(alloc, &sps, rbsp)?)
@@ -55,7 +56,7 @@ pub(crate) fn write_same_sps(
 
 /// What is read of a PPS, what it tells, and what is written of it.
 pub(crate) fn answer_pps(alloc: Global, rbsp: &[u8]) -> Result<String, ReadError>
-    requires { length rbsp.now ≤ 2 ^ 23 }
+    requires { length rbsp.now ≤ unit_limit }
 {
     let pps = read_pps(alloc, rbsp)?;
     Ok(pps_text(alloc, &pps, rbsp)?)

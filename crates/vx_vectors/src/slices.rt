@@ -1,6 +1,7 @@
 //! Answers to slice headers.
-ghost use Rattle.std.specs.Prelude.{◌≡◌, ◌*◌, ◌≤◌, ◌^◌, true, false, [], length, drop};
+ghost use Rattle.std.specs.Prelude.{◌≡◌, ◌*◌, ◌≤◌, true, false, [], length, drop};
 ghost use Rattle.vx_bits.specs.Codes.{bits_of};
+ghost use Rattle.vx_bits.specs.Limits.{unit_limit};
 ghost use Rattle.vx_table.specs.Reading.{IsFound};
 ghost use Rattle.vx_ph.specs.Header.{header_form};
 ghost use Rattle.vx_ph.specs.InForce.{in_force, structures};
@@ -89,7 +90,7 @@ fn written_inside(
 
 /// What is read of a slice header under these numbers, and what is written of it, where its picture header stands apart.
 fn apart_text(alloc: Global, rbsp: &[u8], numbers: &SliceNumbers<'_>) -> Result<String, LineFault>
-    requires size { length rbsp.now ≤ 2 ^ 23 }
+    requires size { length rbsp.now ≤ unit_limit }
     requires few { length numbers.now.ids.now ≤ 1000 }
     requires one_each { length numbers.now.ids.now ≡ length numbers.now.layout.now.subpics }
 {
@@ -114,7 +115,7 @@ pub(crate) fn answer_apart(
     frame: &Frame<'_>,
     header: &PictureHeader,
 ) -> Result<String, LineFault>
-    requires { length rbsp.now ≤ 2 ^ 23 }
+    requires { length rbsp.now ≤ unit_limit }
 {
     let numbers = SliceNumbers {
         nal_type,
@@ -129,7 +130,7 @@ pub(crate) fn answer_apart(
 
 /// The bits behind the first of bytes.
 pub(crate) fn behind_first(bytes: &[u8]) -> BitReader<'_>
-    requires few { length bytes.now ≤ 2 ^ 23 }
+    requires few { length bytes.now ≤ unit_limit }
     requires some { 1 ≤ length bytes.now }
     ensures total { result.total ≡ 8 * length bytes.now }
     ensures left { result.left ≡ drop 1 (bits_of bytes.now) }
@@ -147,7 +148,7 @@ fn inside_text(
     numbers: &SliceNumbers<'_>,
     end: &BitReader<'_>,
 ) -> Result<String, LineFault>
-    requires size { length rbsp.now ≤ 2 ^ 23 }
+    requires size { length rbsp.now ≤ unit_limit }
     requires header { IsFound (header_form (structures numbers.now.sps.now) (in_force numbers.now.sps.now numbers.now.pps.now)) (record { total = 8 * length rbsp.now; left = drop 1 (bits_of rbsp.now) }) [] end.now numbers.now.header.now.fields }
     requires few { length numbers.now.ids.now ≤ 1000 }
     requires one_each { length numbers.now.ids.now ≡ length numbers.now.layout.now.subpics }
@@ -173,7 +174,7 @@ pub(crate) fn answer_inside(
     rbsp: &[u8],
     frame: &Frame<'_>,
 ) -> Result<String, LineFault>
-    requires few { length rbsp.now ≤ 2 ^ 23 }
+    requires few { length rbsp.now ≤ unit_limit }
     requires some { 1 ≤ length rbsp.now }
 {
     let mut bits = behind_first(rbsp);

@@ -1,5 +1,6 @@
 //! A stream, unit by unit.
-ghost use Rattle.std.specs.Prelude.{◌≡◌, ◌≤◌, ◌^◌, length};
+ghost use Rattle.std.specs.Prelude.{◌≡◌, ◌≤◌, length};
+ghost use Rattle.vx_bits.specs.Limits.{unit_limit};
 
 use crate::fault::LineFault;
 use crate::frame::{Frame, frame_of};
@@ -84,7 +85,7 @@ impl Stream {
     ///
     /// Where it is refused, or no NAL unit, or refers to a set that hasn't come; want of memory.
     pub(crate) fn answer_unit(&mut self, alloc: Global, unit: &[u8]) -> Result<String, LineFault>
-        requires { length unit.now ≤ 2 ^ 23 }
+        requires { length unit.now ≤ unit_limit }
     {
         self.bytes.extend_from_slice(&[0, 0, 1])?;
         self.bytes.extend_from_slice(unit)?;
@@ -102,7 +103,7 @@ impl Stream {
 
     /// The answer to the RBSP of a unit of a type.
     fn answer_rbsp(&mut self, alloc: Global, nal_type: u8, rbsp: &[u8]) -> Result<String, LineFault>
-        requires { length rbsp.now ≤ 2 ^ 23 }
+        requires { length rbsp.now ≤ unit_limit }
     {
         match nal_type {
             VPS_NUT => as_unit(alloc, answer_vps(alloc, rbsp)),
@@ -117,7 +118,7 @@ impl Stream {
 
     /// The answer to an SPS, which is stored.
     fn answer_sps(&mut self, alloc: Global, rbsp: &[u8]) -> Result<String, LineFault>
-        requires { length rbsp.now ≤ 2 ^ 23 }
+        requires { length rbsp.now ≤ unit_limit }
     {
         let sps = read_sps(alloc, rbsp)?;
         let text = sps_text(alloc, &sps, rbsp)?;
@@ -128,7 +129,7 @@ impl Stream {
 
     /// The answer to a PPS, which is stored.
     fn answer_pps(&mut self, alloc: Global, rbsp: &[u8]) -> Result<String, LineFault>
-        requires { length rbsp.now ≤ 2 ^ 23 }
+        requires { length rbsp.now ≤ unit_limit }
     {
         let pps = read_pps(alloc, rbsp)?;
         let text = pps_text(alloc, &pps, rbsp)?;
@@ -158,7 +159,7 @@ impl Stream {
 
     /// The answer to a picture header that is a unit, which is stored.
     fn answer_header(&mut self, alloc: Global, rbsp: &[u8]) -> Result<String, LineFault>
-        requires { length rbsp.now ≤ 2 ^ 23 }
+        requires { length rbsp.now ≤ unit_limit }
     {
         let id = read_pps_id(&mut BitReader::new(rbsp))?;
         let (sps, pps) = self.sets(u32::from(id))?;
@@ -169,7 +170,7 @@ impl Stream {
 
     /// The answer to a slice.
     fn answer_slice(&self, alloc: Global, nal_type: u8, rbsp: &[u8]) -> Result<String, LineFault>
-        requires { length rbsp.now ≤ 2 ^ 23 }
+        requires { length rbsp.now ≤ unit_limit }
     {
         if rbsp.first().is_some_and(|byte| *byte >= 128) {
             let id = read_pps_id(&mut behind_first(rbsp))?;

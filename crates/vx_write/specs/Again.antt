@@ -1,7 +1,7 @@
 -- What is written is read again: the units of sets and messages, and what is known of a picture that is written.
 use Rattle.std.specs.List.{AllByRecursion}
 use Rattle.std.specs.Prelude.{◌≡◌, ℕ, ◌+◌, ◌<◌, ◌≤◌, false, IsTrue, List, length, sum_by, All, Option, Some}
-use Rattle.vx_annexb.specs.ByteStream.{unit_limit}
+use Rattle.vx_bits.specs.Limits.{unit_limit}
 use Rattle.vx_annexb.specs.Laws.{CanStand}
 use Rattle.vx_aps.specs.declared.aps.Aps.{Aps}
 use Rattle.vx_aps.specs.Aps.{IsValid}

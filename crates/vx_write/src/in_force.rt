@@ -21,14 +21,14 @@ pub fn sets_in_force(picture: &Picture<'_>)
 pub fn in_sps(picture: &Picture<'_>, field: u16) -> u32
     ensures { result ≡ number picture.now.sps field }
 {
-    picture.sps().scope().latest(field)
+    picture.sps().number(field)
 }
 
 /// The number that its PPS gives a field.
 pub fn in_pps(picture: &Picture<'_>, field: u16) -> u32
     ensures { result ≡ number picture.now.pps field }
 {
-    picture.pps().scope().latest(field)
+    picture.pps().number(field)
 }
 
 /// The level of its SPS.

@@ -15,7 +15,7 @@ pub use fault::{WriteError, WriteFirst, first_of};
 pub use in_force::{in_pps, in_sps, own_level, sets_in_force};
 pub use laws::{set_units_are_read, units_stand};
 pub use output::{write_all_of, write_end, write_one, write_some};
-pub use sending::{forget_before, is_irap_or_gdr, send};
+pub use sending::{forget_before, send};
 pub use slots::Slots;
 pub use units::{aps_unit, plain_unit, pps_unit, sei_unit, sps_unit};
 pub use written::{NeededAps, NeededSet, copied, same_items, tid_of_unit, unit_of};

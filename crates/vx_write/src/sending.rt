@@ -1,6 +1,5 @@
 //! Sets that are sent where a receiver doesn't have them.
 ghost use Rattle.std.specs.Prelude.{◌≡◌, ◌<◌, List, [], ◌∷◌, ◌++◌, map, IfOk, OnErr};
-ghost use Rattle.vx_pic.specs.Units as units;
 ghost use Rattle.vx_pic.specs.Written.{Set, SetUnit};
 ghost use Rattle.vx_pic.specs.Resident.{kept_for};
 ghost use Rattle.vx_write.specs.Sets.{set_lent, CanBeWritten};
@@ -10,15 +9,7 @@ ghost use Rattle.vx_write.specs.Sending.{AreSent, AreOthers};
 use crate::slots::Slots;
 use crate::written::{NeededSet, tid_of_unit, unit_of};
 use std::alloc::{AllocError, Global};
-use vx_pic::{CRA_NUT, GDR_NUT, IDR_N_LP, IDR_W_RADL};
-
-/// Whether it is the type of an IRAP or GDR picture.
-pub fn is_irap_or_gdr(nal_type: u8) -> bool
-    ensures { result ≡ units.is_irap_or_gdr nal_type }
-{
-    let is_idr = nal_type == IDR_W_RADL || nal_type == IDR_N_LP;
-    is_idr || nal_type == CRA_NUT || nal_type == GDR_NUT
-}
+use vx_pic::is_irap_or_gdr;
 
 /// Makes the unit of a set, unless the set is resident.
 pub fn send(

@@ -13,7 +13,6 @@ use std::alloc::{AllocError, Global};
 use vx_aps::Aps;
 use vx_bits::{Bytes, Fields, Item};
 use vx_fields::pps::pps_pic_parameter_set_id;
-use vx_fields::sps::sps_seq_parameter_set_id;
 use vx_pps::Pps;
 use vx_sps::Sps;
 
@@ -108,8 +107,8 @@ pub(crate) fn id_of_set(set: NeededSet<'_>) -> u32
     ensures { result ≡ id_of (set_lent set.entry) }
 {
     match set {
-        NeededSet::Sps(sps) => sps.scope().latest(sps_seq_parameter_set_id),
-        NeededSet::Pps(pps) => pps.scope().latest(pps_pic_parameter_set_id),
+        NeededSet::Sps(sps) => u32::from(sps.sps_id()),
+        NeededSet::Pps(pps) => u32::from(pps.pps_id()),
         NeededSet::Aps(aps) => u32::from(aps.id),
     }
 }

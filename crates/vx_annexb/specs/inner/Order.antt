@@ -2,7 +2,8 @@
 use Rattle.std.specs.Prelude.{◌≡◌, ℕ, ◌+◌, ◌-◌, ◌^◌, ◌<◌, ◌≤◌, List, Option, Some, None, Result, Ok, Err, drop, max}
 use Rattle.vx_bits.specs.declared.refusal.Refusal.{Refusal}
 use Rattle.vx_annexb.specs.Places.{IsMark}
-use Rattle.vx_annexb.specs.ByteStream.{UnitPlace, unit_limit, IsStream}
+use Rattle.vx_bits.specs.Limits.{unit_limit}
+use Rattle.vx_annexb.specs.ByteStream.{UnitPlace, IsStream}
 use Rattle.vx_annexb.specs.inner.Held.{Held, fed, HasSought, Stands}
 
 -- the unit that begins at place s is kept whole; or it is too long, and of it the last five bytes at most are kept

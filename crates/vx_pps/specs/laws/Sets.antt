@@ -1,5 +1,5 @@
 -- What holds of picture parameter sets: how they are spelled, and what their kept fields depend on.
-use Rattle.std.specs.Prelude.{◌≡◌, ◌⊎◌, ◌+◌, ◌^◌, ◌<◌, ◌≤◌, ◌&&◌, ℕ, Bool, not, true, false, List, [], ◌∷◌, ◌++◌, filter, length}
+use Rattle.std.specs.Prelude.{◌≡◌, ◌⊎◌, ◌+◌, ◌^◌, ◌<◌, ◌≤◌, ◌&&◌, ℕ, Bool, not, true, false, List, [], ◌∷◌, ◌++◌, length}
 use Rattle.std.specs.Prelude.{All, IfSome, is_some, IsTrue, Result, Ok, Err, Some}
 use Rattle.std.specs.Int.{div_ceil}
 use Rattle.vx_bits.specs.declared.list.Item.{Item}
@@ -15,7 +15,6 @@ use Rattle.vx_table.specs.Reading.{ReadsValue}
 use Rattle.vx_table.specs.Rewritten.{other_items}
 use Rattle.vx_table.specs.Scope.{is_set}
 use Rattle.vx_table.specs.Shown.{shown_items, KeepsOnly}
-use Rattle.vx_pps.specs.declared.shape.TheConstants.{TAKEN, TAKEN_FOR_FRAME}
 use Rattle.vx_layout.specs.declared.rect.Rect.{Rect}
 use Rattle.vx_layout.specs.Bounds.{Rises, last}
 use Rattle.vx_layout.specs.Rects.{CoversOnce}
@@ -24,7 +23,8 @@ use Rattle.vx_pps.specs.declared.partition.Partition.{Partition}
 use Rattle.vx_pps.specs.declared.tiles.Tiles.{Tiles}
 use Rattle.vx_pps.specs.Tiles.{IsGrid}
 use Rattle.vx_pps.specs.Partition.{partition}
-use Rattle.vx_pps.specs.Pps.{ArePpsItems, IsPps, IsPpsSpelling, tile_columns_of, default_active, before_tiles, is_partitioned, kept_pps_items, pps_form, tile_rows_of, slice_list_of, after_slices}
+use Rattle.vx_pps.specs.Reshaped.{taken_for_frame}
+use Rattle.vx_pps.specs.Pps.{ArePpsItems, IsPps, IsPpsSpelling, tile_columns_of, default_active, before_tiles, is_partitioned, kept_pps_fields, kept_pps_items, pps_form, tile_rows_of, slice_list_of, after_slices}
 
 -- ---- spelling
 
@@ -49,14 +49,7 @@ SpellingIsShort = (items : List Item) (bytes : List ℕ) → IsPpsSpelling items
 
 -- ---- kept fields
 
--- those that a region's set takes over, but for the QP and what is written anew of picture headers
-abbrev pub starred_pps_fields : List ℕ
-starred_pps_fields = pps.pps_init_qp_minus26 ∷ pps.pps_alf_info_in_ph_flag ∷ pps.pps_qp_delta_info_in_ph_flag ∷ []
-
-abbrev pub kept_pps_fields : List ℕ
-kept_pps_fields = filter (λ n. not (has (set_of starred_pps_fields) n)) TAKEN
-
--- They are those without a star.
+-- A field has a star in each of its rows, or in none; and all fields of the tiles and slices have one.
 pub record StarsTellKept : Type 0 where
   pub before : KeepsOnly [] kept_pps_fields (sections_form before_tiles)
   pub division : (whole width height : ℕ) → EachField (λ cell. cell.kept ≡ false) (partition whole width height)
@@ -68,7 +61,7 @@ pub record KeptDependsOnKept : Type 0 where
   pub before : DependsOnlyOn [] kept_pps_fields (sections_form before_tiles)
   pub behind : DependsOnlyOn (pps.pps_no_pic_partition_flag ∷ [])
       (LIST ∷ OFFSET ∷ PARTITIONED ∷ HAS_DBF_INFO ∷ IS_WEIGHTED ∷ HAS_WP_INFO ∷ kept_pps_fields) (sections_form after_slices)
-  pub always : DependsOnlyOn [] (LIST ∷ OFFSET ∷ TAKEN_FOR_FRAME) (sections_form after_slices)
+  pub always : DependsOnlyOn [] (LIST ∷ OFFSET ∷ taken_for_frame) (sections_form after_slices)
 
 -- Sets with the same items of kept fields, and the same others, are the same.
 abbrev pub KeptAndOthersTell : Type 0

@@ -13,7 +13,7 @@ use Rattle.vx_table.specs.Rewritten.{IsRewritten}
 use Rattle.vx_table.specs.Rewrites.{Takes}
 use Rattle.vx_rpl.specs.declared.entry.RplTable.{RplTable}
 use Rattle.vx_sh.specs.Slice.{own, qp, rest_form}
-use Rattle.vx_sh.specs.Depends.{kept_given, kept_fields, all_given}
+use Rattle.vx_sh.specs.Depends.{kept_given, kept_with_names, all_given}
 
 -- The same bits, read at scopes that agree on all numbers that are read, have the same answer: the same items and the same end, or
 -- the same refusal at the same bit.
@@ -23,9 +23,9 @@ SlicesReadAgain = (table : RplTable) (points : ℕ → ℕ) (s t : List ℕ) (ol
     → Agree (set_of all_given) s t → Reads (rest_form table points s) old items result new after
     → Reads (rest_form table points t) old items result new after
 
--- the kept fields, and what they depend on
+-- the kept fields with the names that their rows use, and what they depend on
 abbrev pub kept : List ℕ
-kept = with_all (set_of kept_given) kept_fields
+kept = with_all (set_of kept_given) kept_with_names
 
 -- A slice header can be rewritten at each scope that agrees on the numbers that kept fields depend on: with its kept fields, another
 -- filter, other uses of LMCS and scaling lists, and another QP, whatever the scope asks of these.

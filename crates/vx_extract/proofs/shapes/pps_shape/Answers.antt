@@ -1,5 +1,6 @@
 use Rattle.std.proofs.Common.{rules, ◌≡◌, arith, sym, subst}
 use Rattle.vx_pps.specs.Reshaped.{IsShape}
+use Rattle.vx_pic.specs.Sets.{pps_id, referred_sps}
 use Rattle.vx_extract.specs.Shapes.{pps_shape}
 use Rattle.vx_extract.proofs.ShapesPps.{pps_is_shape}
 use Rattle.vx_write.proofs.Sizes.{subpics_count}
@@ -11,6 +12,7 @@ region-requires c =
     rw c.layout.ensures.value (omega (arith, c.requires, count))
 
 pub returns-clause-shape : goal.returns-clause-shape
+unfolding pps_id referred_sps
 returns-clause-shape c =
     let made : _ ≡ pps_shape c.args.picture.now c.args.target = search rules in
     subst (IsShape c.args.picture.now.pps) (sym made)

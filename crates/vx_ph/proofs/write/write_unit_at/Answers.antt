@@ -9,11 +9,11 @@ into_bytes-requires c =
     is_aligned c.args.table.now c.args.scope.now u.values u.end _ u.follows
     (spelled _ u.values u.end _ _ _ _ c.in-Ok.field-0 u.follows u.all (rw (c.in-Ok.is, c.new-bits.ensures, items) at c.write_unit.ensures))
 
-pub unreachable-requires : goal.unreachable-requires
-unreachable-requires c =
+pub only_memory-requires : goal.only_memory-requires
+only_memory-requires c = λ none.
     let items = c.new-items.ensures ∙ from_all c.len.result c.args.header.now.fields c.len.ensures in
     let u = unit_of c.args.table.now c.args.scope.now c.args.header.now.fields c.requires.fields in
-    has_value_left _ u.values u.end _ _ _ _ u.follows u.all (rw (c.in-Err-NoValue.is, c.in-Err-NoValue.field-0-is, items) at c.write_unit.ensures)
+    has_value_left _ u.values u.end _ _ _ _ u.follows u.all (rw (c.in-Err.is, none, items) at c.write_unit.ensures)
 
 pub returns-in-Ok : goal.returns-in-Ok
 returns-in-Ok c =

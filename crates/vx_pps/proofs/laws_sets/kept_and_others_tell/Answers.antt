@@ -4,8 +4,7 @@ use Rattle.vx_table.specs.Rewritten.{other_items}
 use Rattle.vx_table.specs.Shown.{shown_items}
 use Rattle.vx_table.specs.Spelling.{items_along}
 use Rattle.vx_table.proofs.Rewriting.{apart}
-use Rattle.vx_pps.specs.Pps.{pps_form}
-use Rattle.vx_pps.specs.laws.Sets.{kept_pps_fields}
+use Rattle.vx_pps.specs.Pps.{kept_pps_fields, pps_form}
 use Rattle.vx_pps.proofs.laws_sets.kept_and_others_tell.Goals as goal
 
 pub returns : goal.returns

@@ -1,10 +1,10 @@
 use Rattle.vx_pps.proofs.Sets.{from_each, kept, never_unkept}
 use Rattle.vx_pps.proofs.read.keep_pps.Goals as goal
 
-pub unreachable-requires : goal.unreachable-requires
-unreachable-requires c =
+pub memory_of-requires : goal.memory_of-requires
+memory_of-requires c = λ none.
     let walked = from_each c.new-kept.ensures c.len.ensures c.new-items.ensures c.code_pps.ensures in
-    never_unkept _ _ _ c.fields-fields.ensures.set (rw (c.in-Err-Refused-NoValue.is, c.in-Err-Refused-NoValue.field-0-is, c.in-Err-Refused-NoValue.field-0-0-is) at walked)
+    never_unkept _ _ _ c.fields-fields.ensures.set (rw (c.in-Err.is, none) at walked)
 
 pub returns-in-Ok : goal.returns-in-Ok
 returns-in-Ok c =

@@ -7,10 +7,10 @@ into_bytes-requires c =
     let walked = from_all c.new-bits.ensures c.len.ensures c.new-items.ensures c.code_pps.ensures in
     is_aligned _ _ _ c.in-Ok.field-0 c.fields-fields.ensures.set (rw c.in-Ok.is at walked)
 
-pub unreachable-requires : goal.unreachable-requires
-unreachable-requires c =
+pub memory_of-requires : goal.memory_of-requires
+memory_of-requires c = λ none.
     let walked = from_all c.new-bits.ensures c.len.ensures c.new-items.ensures c.code_pps.ensures in
-    never_unspelled _ _ _ c.fields-fields.ensures.set (rw (c.in-Err-Refused-NoValue.is, c.in-Err-Refused-NoValue.field-0-is, c.in-Err-Refused-NoValue.field-0-0-is) at walked)
+    never_unspelled _ _ _ c.fields-fields.ensures.set (rw (c.in-Err.is, none) at walked)
 
 pub returns-in-Ok : goal.returns-in-Ok
 returns-in-Ok c =

@@ -12,6 +12,9 @@ into_bytes-requires c =
     let f = written.0.slice in
     rw (written.1) (whole_bytes _ (slice_ends (at_of c.args.n.now c.args.scope.now) _ f.end (all_follow (at_of c.args.n.now c.args.scope.now) _ _ f)))
 
+pub only_memory-requires : goal.only_memory-requires
+only_memory-requires c = λ none. rw (c.in-Err.is, none) at c.write_fields.ensures
+
 pub returns-in-Ok : goal.returns-in-Ok
 returns-in-Ok c =
     let written = rw c.in-Ok.is at c.write_fields.ensures in

@@ -16,7 +16,7 @@ returns-in-Ok c =
     let says = rw c.in-Ok.is at (sends c.args.source.now c.args.shape.now c.args.self.now c.requires.shape c.requires.source c.in_ok-stated.stated c.send_fields.new.bits c.send_fields.result stated_are c.send_fields.ensures) in
     is_sent c.args.source.now c.args.shape.now c.args.self.now c.requires.shape c.requires.source c.into_bytes.result.items c.send_fields.new.bits c.into_bytes.ensures says
 
-pub unreachable-requires : goal.unreachable-requires
-unreachable-requires c =
+pub only_memory-requires : goal.only_memory-requires
+only_memory-requires c = λ none.
     let stated_are = c.in_ok-stated.ensures ∙ ap (λ n. stated_sh_items n c.args.shape.now) c.self.view_is in
-    rw (c.in-Err-NoValue.is, c.in-Err-NoValue.field-0-is) at (sends c.args.source.now c.args.shape.now c.args.self.now c.requires.shape c.requires.source c.in_ok-stated.stated c.send_fields.new.bits c.send_fields.result stated_are c.send_fields.ensures)
+    rw (c.in-Err.is, none) at (sends c.args.source.now c.args.shape.now c.args.self.now c.requires.shape c.requires.source c.in_ok-stated.stated c.send_fields.new.bits c.send_fields.result stated_are c.send_fields.ensures)

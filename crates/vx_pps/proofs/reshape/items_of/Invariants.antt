@@ -1,7 +1,0 @@
-use Rattle.std.proofs.Common.{◌≡◌, take}
-use Rattle.vx_table.specs.Shown.{shown_items}
-use Rattle.vx_pps.proofs.reshape.items_of.Given as goal
-
--- those among the items seen so far
-abbrev pub invariant-loop-i : goal.invariant-loop-i
-invariant-loop-i l = l.shown ≡ shown_items l.names (take l.i l.items)
