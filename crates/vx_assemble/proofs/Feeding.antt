@@ -20,7 +20,7 @@ use Rattle.vx_annexb.proofs.Taking.{source_limit-is, seen_front}
 use Rattle.vx_annexb.proofs.Unseen.{seen_stays}
 use Rattle.vx_annexb.proofs.Unique.{follow_front}
 use Rattle.vx_pic.specs.Readings.{Reading, pictures}
-use Rattle.vx_pic.specs.Rules.{Readers, reads, picture_limit}
+use Rattle.vx_pic.specs.Rules.{Readers, reads}
 use Rattle.vx_pic.specs.Streams.{StreamReading, read_on, all_read, stopped, one_more, unless_refused}
 use Rattle.vx_pic.specs.Bytes.{units_at, ending_by, ArePictures}
 use Rattle.vx_pic.proofs.Going.{goes_on}
@@ -31,7 +31,7 @@ use Rattle.vx_assemble.specs.declared.fault.AssembleFault.{AssembleFault}
 use Rattle.vx_assemble.specs.declared.fault.AssembleFault.TheVariants as assembler
 use Rattle.vx_assemble.specs.declared.fault.First.{First}
 use Rattle.vx_assemble.specs.declared.feed.FeedFault.{FeedFault}
-use Rattle.vx_assemble.specs.Feed.{Feeding, seen_of, HasFed, UnitIsRefused, IsRefusedFor, by_bytes, by_unit, at_end, EndsThere, IsTold, Gives, SeesRefused, at_bytes, at_unit, sees_at_end, GivesSeen, ReadsOn}
+use Rattle.vx_assemble.specs.Feed.{Feeding, seen_of, HasFed, UnitIsRefused, IsRefusedFor, by_bytes, by_unit, at_end, EndsThere, IsTold, Gives, SeesRefused, at_bytes, at_unit, sees_at_end, GivesSeen, ReadsOn, most_held}
 use Rattle.vx_assemble.specs.inner.Feed.{Accepts, fault_of, feeding}
 use Rattle.vx_assemble.specs.declared.feed.FeedFault.TheVariants as faults
 use Rattle.vx_assemble.specs.declared.feed.Taken.{Taken}
@@ -352,6 +352,5 @@ unended old new SourceFailed open_ memory failed end = let is = failed refl in a
 
 -- ---- what it holds
 
-pub few_bytes : (r : reader.Reading) (h : Held) → reader.HoldsFew r → IsBounded h → held r.splitter + length h.state.picture.bytes ≤ 42008578
-unfolding picture_limit
+pub few_bytes : (r : reader.Reading) (h : Held) → reader.HoldsFew r → IsBounded h → held r.splitter + length h.state.picture.bytes ≤ most_held
 few_bytes r h few bounded = omega (arith, few, bounded.bytes)

@@ -1,27 +1,20 @@
 -- What is kept behind one unit more.
-use Rattle.std.proofs.Common.{◌≡◌, ℕ, ◌<◌, ◌≤◌, List, ◌∷◌, ◌++◌, length, get_or, set, refl, sym, ◌∙◌, ap, inl, inr, arith, cond, false}
+use Rattle.std.proofs.Common.{◌≡◌, ℕ, ◌≤◌, List, ◌∷◌, ◌++◌, length, refl, ◌∙◌, ap, arith, cond, false}
 use Rattle.std.specs.Prelude.{◌==◌, Option, Some, None}
+use Rattle.std.specs.List.{slice_index_or}
 use Rattle.std.specs.Option.{option_or}
-use Rattle.std.proofs.lemmas.Bool.Decides.{eqb_tells, nat_tests}
-use Rattle.std.proofs.lemmas.Grind.{get_or-set_at}
-use Rattle.std.proofs.lemmas.List.{get_or-set_other, take_all}
+use Rattle.std.proofs.lemmas.Bool.Decides.{nat_tests}
+use Rattle.std.proofs.lemmas.List.{take_all}
 use Rattle.vx_bits.specs.declared.list.Item.{Item}
 use Rattle.vx_sei.specs.declared.message.Message.{Message}
 use Rattle.vx_pic.specs.Sets.{sps_id, pps_id}
 use Rattle.vx_pic.specs.Parts.{header_unit_in}
 use Rattle.vx_pic.specs.Readings.{Reading, dropped, vps_read, sps_read, pps_read, messages_read, header_read, sequence_ended}
 use Rattle.vx_assemble.specs.declared.state.BegunPicture.{BegunPicture}
+use Rattle.vx_assemble.specs.declared.state.MadeSets.{MadeSets}
 use Rattle.vx_assemble.specs.declared.state.State.{State}
 use Rattle.vx_assemble.specs.inner.Held.{begun_of, IsHeld}
 use Rattle.vx_assemble.specs.inner.Changes.{with_items, with_sps, with_pps, with_messages, with_end, with_begun}
-
--- one of a table is replaced
-placed : {A : Type 0} (xs : List (Option A)) (at i : ℕ) (x : A) (old : Option A) → at < length xs → get_or xs i None ≡ old
-    → get_or (set xs at (Some x)) i None ≡ option_or (cond (at == i) (Some x) None) old
-placed xs at i x old within is = elim (eqb_tells at i) [
-  | inl same ↦ rw same.0 (get_or-set_at xs at i (Some x) None (sym same.1) within)
-  | inr other ↦ rw other.0 (get_or-set_other xs at i (Some x) None (λ e. other.1 (sym e)) ∙ is)
-]
 
 pub dropped_held : (s : State) (before : List Reading) → IsHeld s before → IsHeld s (dropped ∷ before)
 dropped_held s before h = record {
@@ -53,11 +46,12 @@ vps_held s before v h = record {
   items = refl;
 }
 
-pub sps_held : (s : State) (before : List Reading) (v : List Item) → IsHeld s before → sps_id v < length s.sps
-    → IsHeld (with_sps (sps_id v) v s) (sps_read v ∷ before)
-sps_held s before v h within = record {
+pub sps_held : (s : State) (sets : List (Option (List Item))) (made : Option MadeSets) (before : List Reading) (v : List Item) → IsHeld s before
+    → ((id : ℕ) → slice_index_or sets id None ≡ option_or (cond (sps_id v == id) (Some v) None) (slice_index_or s.sps id None))
+    → IsHeld (with_sps sets made s) (sps_read v ∷ before)
+sps_held s sets made before v h stands = record {
   apart = record {
-    sps = λ id. placed s.sps (sps_id v) id v _ within (h.apart.sps id);
+    sps = λ id. stands id ∙ ap (λ o. option_or (cond (sps_id v == id) (Some v) None) o) (h.apart.sps id);
     pps = h.apart.pps;
     aps = h.apart.aps;
     gathered = h.apart.gathered;
@@ -69,12 +63,13 @@ sps_held s before v h within = record {
   items = tt;
 }
 
-pub pps_held : (s : State) (before : List Reading) (v : List Item) → IsHeld s before → pps_id v < length s.pps
-    → IsHeld (with_pps (pps_id v) v s) (pps_read v ∷ before)
-pps_held s before v h within = record {
+pub pps_held : (s : State) (sets : List (Option (List Item))) (made : Option MadeSets) (before : List Reading) (v : List Item) → IsHeld s before
+    → ((id : ℕ) → slice_index_or sets id None ≡ option_or (cond (pps_id v == id) (Some v) None) (slice_index_or s.pps id None))
+    → IsHeld (with_pps sets made s) (pps_read v ∷ before)
+pps_held s sets made before v h stands = record {
   apart = record {
     sps = h.apart.sps;
-    pps = λ id. placed s.pps (pps_id v) id v _ within (h.apart.pps id);
+    pps = λ id. stands id ∙ ap (λ o. option_or (cond (pps_id v == id) (Some v) None) o) (h.apart.pps id);
     aps = h.apart.aps;
     gathered = h.apart.gathered;
     last = h.apart.last;

@@ -1,5 +1,5 @@
 -- A slice header that was read under a picture header.
-use Rattle.std.proofs.Common.{◌≡◌, ℕ, ◌<◌, List, length, refl, ◌∙◌, ap, subst}
+use Rattle.std.proofs.Common.{◌≡◌, ℕ, ◌<◌, List, length, refl, sym, ◌∙◌, ap, subst}
 use Rattle.std.specs.Prelude.{Option, None}
 use Rattle.vx_rpl.specs.HeaderLists.{lists_of}
 use Rattle.vx_ph.specs.InForce.{in_force, structures}
@@ -11,10 +11,8 @@ use Rattle.vx_sh.proofs.Told.{numbers_are_told}
 use Rattle.vx_sh.proofs.Scopes.{slice_scopes_are_whole}
 use Rattle.vx_sh.specs.declared.header.SliceHeader.{SliceHeader as SliceValue}
 use Rattle.vx_sh.specs.declared.numbers.SliceNumbers.{SliceNumbers}
-use Rattle.vx_layout.specs.declared.numbers.Numbers.{Numbers}
-use Rattle.vx_bits.specs.declared.list.Item.{Item}
 use Rattle.vx_pic.specs.Sets.{address_of}
-use Rattle.vx_sh.specs.InForce.{at_sets}
+use Rattle.vx_sh.specs.InForce.{in_force_at}
 use Rattle.vx_pic.specs.Readings.{Begun}
 use Rattle.vx_pic.specs.Parts.{IsReadAt, slice_header_of}
 use Rattle.vx_assemble.specs.declared.state.BegunPicture.{BegunPicture}
@@ -40,10 +38,10 @@ told_read n b h payload whole read lists =
     let address : h.address ≡ number h.fields sh_slice_address = read.numbers.address ∙ told.address in
     rw (← inside, ← address, ← lists) refl
 
-pub at_read : (t : ℕ) (sps pps : List Item) (ids : List ℕ) (layout : Numbers) (b : BegunPicture) (h : SliceValue) → sps ≡ b.sets.sps → pps ≡ b.sets.pps
-    → layout ≡ b.sets.layout → ids ≡ b.sets.ids → IsReadAt (at_sets t sps pps b.header ids layout) h → IsReadAt (at_begun t b) h
-at_read t sps pps ids layout b h of_sps of_pps of_layout of_ids read =
-    let same : at_sets t sps pps b.header ids layout ≡ at_begun t b = rw (of_sps, of_pps, of_layout, of_ids) refl in
+pub at_read : (t : ℕ) (n : SliceNumbers) (b : BegunPicture) (h : SliceValue) → IsHeader b → n.nal_type ≡ t → AreOfBegun n (begun_of b None)
+    → IsReadAt (in_force_at n) h → IsReadAt (at_begun t b) h
+at_read t n b h is kind of read =
+    let same : in_force_at n ≡ at_begun t b = rw (kind, of.sps, of.pps, of.layout, of.header ∙ sym is.header, of.ids ∙ sym is.sets.ids) refl in
     subst (λ n. IsReadAt n h) same read
 
 pub read_under : (b : BegunPicture) (t : ℕ) (h : SliceValue) (payload : ℕ) → IsHeader b → h.subpic < length b.sets.ids

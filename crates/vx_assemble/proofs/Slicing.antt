@@ -27,7 +27,7 @@ use Rattle.vx_assemble.specs.declared.state.Stage.TheVariants as stages
 use Rattle.vx_assemble.specs.declared.state.State.{State}
 use Rattle.vx_assemble.specs.inner.Held.{begun_of, header_at, kind_at, slice_of, IsHeaded, IsGoing, Keeps, IsApart, IsHeld}
 use Rattle.vx_assemble.specs.inner.Order.{IsOrdered}
-use Rattle.vx_assemble.specs.inner.Takes.{Gives, slice_read_as, TookUnit, TakesUnit}
+use Rattle.vx_assemble.specs.inner.Takes.{Gives, slice_read_as, TookUnit, TakesUnit, no_slice_missing}
 use Rattle.vx_assemble.specs.inner.Opening.{opened_in}
 use Rattle.vx_assemble.specs.inner.Places.{IsAt}
 use Rattle.vx_assemble.specs.inner.Changes.{with_slice, with_begun_picture, with_header, with_begun}
@@ -220,45 +220,47 @@ follows_first R s new before u y h held at takes =
 
 -- ---- a slice with the header inside
 
-pub alone_open : (R : Readers) (before : List Reading) (u : List ℕ) (w : Bool) → w ≡ is_open (current before) → w ≡ true
-    → alone R before u ≡ Err (structure rules.SLICE_MISSING)
-alone_open R before u w said is = let open_ : is_open (current before) ≡ true = sym said ∙ is in rw open_ refl
-
 -- behind its header
 only_slice : (R : Readers) (before : List Reading) (u : List ℕ) → Begun → Result Reading Refusal
 only_slice R before u b = do
   _ ← refuse_if (nat_lt 1 (length b.layout.slices)) (structure rules.HEADER_INSIDE_OF_SEVERAL)
   first R before b u
 
-alone_is : (R : Readers) (before : List Reading) (u : List ℕ) → is_open (current before) ≡ false
+alone_is : (R : Readers) (before : List Reading) (u : List ℕ) → no_slice_missing before ≡ Ok tt
     → alone R before u ≡ (begins R before u None >>= λ b. only_slice R before u b)
 unfolding only_slice
-alone_is R before u closed = rw closed refl
+alone_is R before u closed = ap (λ x. x >>= λ _. begins R before u None >>= λ b. only_slice R before u b) closed
 
-pub alone_fails : (R : Readers) (new : State) (before : List Reading) (u : List ℕ) (e : ReadError) (w : Bool) → w ≡ is_open (current before) → w ≡ false
+pub alone_open : (R : Readers) (new : State) (before : List Reading) (u : List ℕ) (e : ReadError) → Gives (no_slice_missing before) (Err e)
+    → TakesUnit (alone R before u) before new (Err e)
+unfolding only_slice
+alone_open R new before u e bad =
+    takes_error (alone R before u) before new e (gives_first (no_slice_missing before) (λ _. begins R before u None >>= λ b. only_slice R before u b) e bad)
+
+pub alone_fails : (R : Readers) (new : State) (before : List Reading) (u : List ℕ) (e : ReadError) → no_slice_missing before ≡ Ok tt
     → Gives (begins R before u None) (Err e) → TakesUnit (alone R before u) before new (Err e)
-alone_fails R new before u e w said is bad =
+alone_fails R new before u e closed bad =
     takes_error (alone R before u) before new e
-    (gives_same (alone R before u) _ (Err e) (alone_is R before u (sym said ∙ is)) (gives_first (begins R before u None) (λ b. only_slice R before u b) e bad))
+    (gives_same (alone R before u) _ (Err e) (alone_is R before u closed) (gives_first (begins R before u None) (λ b. only_slice R before u b) e bad))
 
-alone_begun : (R : Readers) (before : List Reading) (u : List ℕ) (b : Begun) (w : Bool) → w ≡ is_open (current before) → w ≡ false
+alone_begun : (R : Readers) (before : List Reading) (u : List ℕ) (b : Begun) → no_slice_missing before ≡ Ok tt
     → begins R before u None ≡ Ok b → alone R before u ≡ only_slice R before u b
-alone_begun R before u b w said is begun =
-    alone_is R before u (sym said ∙ is) ∙ ap (λ x. x >>= λ y. only_slice R before u y) begun
+alone_begun R before u b closed begun =
+    alone_is R before u closed ∙ ap (λ x. x >>= λ y. only_slice R before u y) begun
 
-pub alone_several : (R : Readers) (before : List Reading) (u : List ℕ) (b : Begun) (n : ℕ) (w : Bool) → w ≡ is_open (current before) → w ≡ false
+pub alone_several : (R : Readers) (before : List Reading) (u : List ℕ) (b : Begun) (n : ℕ) → no_slice_missing before ≡ Ok tt
     → begins R before u None ≡ Ok b → n ≡ length b.layout.slices → 1 < n → alone R before u ≡ Err (structure rules.HEADER_INSIDE_OF_SEVERAL)
 unfolding only_slice
-alone_several R before u b n w said is begun count several =
+alone_several R before u b n closed begun count several =
     let over : nat_lt 1 (length b.layout.slices) ≡ true = grind (arith, nat_tests, count) in
-    alone_begun R before u b w said is begun ∙ rw over refl
+    alone_begun R before u b closed begun ∙ rw over refl
 
-alone_first : (R : Readers) (before : List Reading) (u : List ℕ) (b : Begun) (n : ℕ) (w : Bool) → w ≡ is_open (current before) → w ≡ false
+alone_first : (R : Readers) (before : List Reading) (u : List ℕ) (b : Begun) (n : ℕ) → no_slice_missing before ≡ Ok tt
     → begins R before u None ≡ Ok b → n ≡ length b.layout.slices → n ≤ 1 → alone R before u ≡ first R before b u
 unfolding only_slice
-alone_first R before u b n w said is begun count few =
+alone_first R before u b n closed begun count few =
     let under : nat_lt 1 (length b.layout.slices) ≡ false = grind (arith, nat_tests, count) in
-    alone_begun R before u b w said is begun ∙ rw under refl
+    alone_begun R before u b closed begun ∙ rw under refl
 
 -- the state behind the header
 header_apart : (s : State) (before : List Reading) (k : BegunPicture) → IsApart s before → IsApart (with_begun k [] s) before
@@ -275,17 +277,17 @@ header_apart s before k held = record {
 header_headed : (c : CurrentPicture) (k : BegunPicture) → IsHeaded (with_header k [] c) (begun_of k None)
 header_headed c k = record { begun = refl; kind = refl; slices = refl; size = refl }
 
-pub took_alone : (R : Readers) (s mid new : State) (before : List Reading) (u : List ℕ) (k : BegunPicture) (n : ℕ) (y : Result Accepted ReadError) (w : Bool)
-    → IsHeld s before → w ≡ is_open (current before) → w ≡ false → begins R before u None ≡ Ok (begun_of k None)
+pub took_alone : (R : Readers) (s mid new : State) (before : List Reading) (u : List ℕ) (k : BegunPicture) (n : ℕ) (y : Result Accepted ReadError)
+    → IsHeld s before → no_slice_missing before ≡ Ok tt → begins R before u None ≡ Ok (begun_of k None)
     → n ≡ length k.sets.layout.slices → n ≤ 1 → mid ≡ with_begun k [] s
     → (IsApart mid before → (b : Begun) → IsHeaded mid.picture b → TakesUnit (first R before b u) before new y)
     → TakesUnit (alone R before u) before new y
-took_alone R s mid new before u k n y w held said is begun count few mid_is takes =
+took_alone R s mid new before u k n y held closed begun count few mid_is takes =
     let first_takes = takes
     (subst (λ m. IsApart m before) (sym mid_is) (header_apart s before k held.apart))
     (begun_of k None)
     (subst (λ m. IsHeaded m.picture (begun_of k None)) (sym mid_is) (header_headed s.picture k)) in
-    subst (λ x. TakesUnit x before new y) (sym (alone_first R before u (begun_of k None) n w said is begun count few)) first_takes
+    subst (λ x. TakesUnit x before new y) (sym (alone_first R before u (begun_of k None) n closed begun count few)) first_takes
 
 -- ---- slices
 

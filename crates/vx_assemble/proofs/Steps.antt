@@ -1,10 +1,10 @@
 -- Steps that answer a value or a refusal, and what of them is given.
-use Rattle.std.proofs.Common.{◌≡◌, refl, sym, ap, subst, Result, Ok, Err}
+use Rattle.std.proofs.Common.{◌≡◌, Bool, true, false, refl, sym, ◌∙◌, ap, subst, Result, Ok, Err}
 use Rattle.std.specs.Prelude.{Some}
 use Rattle.vx_bits.specs.declared.refusal.Refusal.{Refusal}
 use Rattle.vx_bits.specs.declared.refusal.ReadError.{ReadError}
 use Rattle.vx_bits.specs.declared.refusal.ReadError.TheVariants as errors
-use Rattle.vx_pic.specs.Answers.{◌>>=◌}
+use Rattle.vx_pic.specs.Answers.{◌>>=◌, refuse_if}
 use Rattle.vx_assemble.specs.inner.Takes.{Gives}
 
 pub bind_assoc : {A B C : Type 0} (m : Result A Refusal) (f : A → Result B Refusal) (k : B → Result C Refusal)
@@ -38,3 +38,10 @@ gives_then m f a y is then = subst (λ x. Gives (x >>= f) y) (sym is) then
 -- of two answers that are the same
 pub gives_same : {A : Type 0} (m n : Result A Refusal) (y : Result A ReadError) → m ≡ n → Gives n y → Gives m y
 gives_same m n y same is = subst (λ x. Gives x y) (sym same) is
+
+-- by a test
+pub refuses : (holds test : Bool) (r : Refusal) → test ≡ holds → test ≡ true → refuse_if holds r ≡ Err r
+refuses holds test r said is = ap (λ b. refuse_if b r) (sym said ∙ is)
+
+pub passes : (holds test : Bool) (r : Refusal) → test ≡ holds → test ≡ false → refuse_if holds r ≡ Ok tt
+passes holds test r said is = ap (λ b. refuse_if b r) (sym said ∙ is)

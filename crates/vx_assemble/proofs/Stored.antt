@@ -1,47 +1,45 @@
 -- The adaptation parameter sets in force, at their places.
-use Rattle.std.proofs.Common.{◌≡◌, ℕ, zero, suc, ◌<◌, ◌≤◌, List, [], ◌∷◌, ◌++◌, refl, sym, ◌∙◌, ap, arith, inl, inr, cond, Err}
-use Rattle.std.specs.Prelude.{◌==◌, is_none}
-use Rattle.std.specs.List.{AllByRecursion}
+use Rattle.std.proofs.Common.{◌≡◌, ℕ, zero, suc, ◌+◌, ◌<◌, ◌≤◌, List, [], ◌∷◌, ◌++◌, length, refl, sym, ◌∙◌, ap, arith, inl, inr, cond, true, Err}
+use Rattle.std.specs.Prelude.{◌==◌, None, is_none, nat_lt}
+use Rattle.std.specs.List.{AllByRecursion, slice_index_or}
 use Rattle.std.proofs.lemmas.Bool.{cases_Bool}
+use Rattle.std.proofs.lemmas.Bool.Decides.{nat_tests}
+use Rattle.std.proofs.lemmas.List.{get_or_append_left, get_or-append-add}
+use Rattle.std.proofs.lemmas.List.FromFn.{get_or-map-range_with_len}
 use Rattle.vx_bits.specs.declared.list.Item.{Item}
 use Rattle.vx_fields.specs.declared.alf.TheConstants as alf
 use Rattle.vx_fields.specs.declared.ph.TheConstants as ph
 use Rattle.vx_pic.specs.Sets.{Slot, SliceHeader, named, named_filters, filter_items, names_of}
 use Rattle.vx_pic.specs.Readings.{Reading, stored_aps}
 use Rattle.vx_pic.specs.Rules.{missing, are_stored}
-use Rattle.vx_pic.specs.Parts.{aps_at, stored_sets}
+use Rattle.vx_pic.specs.Parts.{aps_at, id_count, slot_of, stored_of, stored_sets}
 use Rattle.vx_assemble.specs.inner.Takes.{AreSmall}
 use Rattle.vx_assemble.specs.inner.Joining.{all_there}
 
-stored_at : (before : List Reading) (kind id : ℕ) → kind ≤ 2 → id < 8 → aps_at (stored_sets before) kind id ≡ stored_aps kind id before
-stored_at before zero zero few low = refl
-stored_at before zero (suc zero) few low = refl
-stored_at before zero (suc (suc zero)) few low = refl
-stored_at before zero (suc (suc (suc zero))) few low = refl
-stored_at before zero (suc (suc (suc (suc zero)))) few low = refl
-stored_at before zero (suc (suc (suc (suc (suc zero))))) few low = refl
-stored_at before zero (suc (suc (suc (suc (suc (suc zero)))))) few low = refl
-stored_at before zero (suc (suc (suc (suc (suc (suc (suc zero))))))) few low = refl
-stored_at before (suc zero) zero few low = refl
-stored_at before (suc zero) (suc zero) few low = refl
-stored_at before (suc zero) (suc (suc zero)) few low = refl
-stored_at before (suc zero) (suc (suc (suc zero))) few low = refl
-stored_at before (suc zero) (suc (suc (suc (suc zero)))) few low = refl
-stored_at before (suc zero) (suc (suc (suc (suc (suc zero))))) few low = refl
-stored_at before (suc zero) (suc (suc (suc (suc (suc (suc zero)))))) few low = refl
-stored_at before (suc zero) (suc (suc (suc (suc (suc (suc (suc zero))))))) few low = refl
-stored_at before (suc (suc zero)) zero few low = refl
-stored_at before (suc (suc zero)) (suc zero) few low = refl
-stored_at before (suc (suc zero)) (suc (suc zero)) few low = refl
-stored_at before (suc (suc zero)) (suc (suc (suc zero))) few low = refl
-stored_at before (suc (suc zero)) (suc (suc (suc (suc zero)))) few low = refl
-stored_at before (suc (suc zero)) (suc (suc (suc (suc (suc zero))))) few low = refl
-stored_at before (suc (suc zero)) (suc (suc (suc (suc (suc (suc zero)))))) few low = refl
-stored_at before (suc (suc zero)) (suc (suc (suc (suc (suc (suc (suc zero))))))) few low = refl
-stored_at before zero (suc (suc (suc (suc (suc (suc (suc (suc id)))))))) few low = absurd (omega arith)
-stored_at before (suc zero) (suc (suc (suc (suc (suc (suc (suc (suc id)))))))) few low = absurd (omega arith)
-stored_at before (suc (suc zero)) (suc (suc (suc (suc (suc (suc (suc (suc id)))))))) few low = absurd (omega arith)
-stored_at before (suc (suc (suc kind))) id few low = absurd (omega arith)
+of_type : (before : List Reading) (kind id : ℕ) → id < id_count → slice_index_or (stored_of kind before) id None ≡ stored_aps kind id before
+of_type before kind id low = get_or-map-range_with_len (λ i. stored_aps kind i before) 0 8 id id None low (omega arith)
+
+-- each type has its places behind those of the types before it
+at_slot : (before : List Reading) (kind id : ℕ) → kind ≤ 2 → id < id_count
+    → slice_index_or (stored_sets before) (slot_of kind id) None ≡ stored_aps kind id before
+at_slot before zero id few low =
+    let first : slot_of 0 id ≡ id = omega arith in
+    rw first (get_or_append_left (stored_of 0 before) (stored_of 1 before ++ stored_of 2 before) None id low ∙ of_type before 0 id low)
+at_slot before (suc zero) id few low =
+    get_or-append-add (stored_of 0 before) (stored_of 1 before ++ stored_of 2 before) id None
+    ∙ get_or_append_left (stored_of 1 before) (stored_of 2 before) None id low ∙ of_type before 1 id low
+at_slot before (suc (suc zero)) id few low =
+    let behind : slot_of 2 id ≡ length (stored_of 0 before) + (length (stored_of 1 before) + id) = omega arith in
+    rw behind
+    (get_or-append-add (stored_of 0 before) (stored_of 1 before ++ stored_of 2 before) (length (stored_of 1 before) + id) None
+    ∙ get_or-append-add (stored_of 1 before) (stored_of 2 before) id None ∙ of_type before 2 id low)
+at_slot before (suc (suc (suc kind))) id few low = absurd (omega arith)
+
+stored_at : (before : List Reading) (kind id : ℕ) → kind ≤ 2 → id < id_count → aps_at (stored_sets before) kind id ≡ stored_aps kind id before
+stored_at before kind id few low =
+    let type : nat_lt kind 3 ≡ true = grind (arith, nat_tests) in
+    let within : nat_lt id 8 ≡ true = grind (arith, nat_tests) in
+    rw (type, within) (at_slot before kind id few low)
 
 -- ---- their types
 

@@ -8,27 +8,26 @@ use Rattle.vx_bits.specs.declared.list.Item.{Item}
 use Rattle.vx_bits.specs.declared.refusal.Refusal.{Refusal}
 use Rattle.vx_bits.specs.declared.refusal.ReadError.{ReadError}
 use Rattle.vx_bits.specs.declared.refusal.ReadError.TheVariants as errors
-use Rattle.vx_bits.specs.declared.rules.TheConstants as rules
 use Rattle.vx_aps.specs.declared.aps.Aps.{Aps}
 use Rattle.vx_aps.specs.Aps.{IsValid}
 use Rattle.vx_pic.specs.declared.accepted.Accepted.{Accepted}
 use Rattle.vx_pic.specs.declared.accepted.Accepted.TheVariants as accepted
-use Rattle.vx_pic.specs.Answers.{◌>>=◌, refuse_if}
-use Rattle.vx_pic.specs.Units.{rbsp_of, is_reserved, class_of, Class, other_unit, vps_unit, sps_unit, pps_unit, prefix_aps, suffix_aps, header_unit, end_unit}
-use Rattle.vx_pic.specs.Sets.{sps_id, pps_id}
-use Rattle.vx_pic.specs.Readings.{Reading, dropped, vps_read, sps_read, pps_read, aps_read, header_read, sequence_ended, current, is_open, is_within_picture}
-use Rattle.vx_pic.specs.Rules.{Readers, structure, aps_reading, begins, reads_as, reads}
+use Rattle.vx_pic.specs.Answers.{◌>>=◌}
+use Rattle.vx_pic.specs.Units.{rbsp_of, is_reserved, class_of, Class, other_unit, vps_unit, prefix_aps, suffix_aps, header_unit, end_unit}
+use Rattle.vx_pic.specs.Readings.{Reading, dropped, vps_read, aps_read, header_read, sequence_ended}
+use Rattle.vx_pic.specs.Rules.{Readers, aps_reading, begins, reads_as, reads}
 use Rattle.vx_pic.specs.Parts.{slot_of}
+use Rattle.vx_pic.specs.Told.{told_of}
 use Rattle.vx_pic.proofs.StoredSets.{set_stored}
 use Rattle.vx_assemble.specs.declared.state.BegunPicture.{BegunPicture}
 use Rattle.vx_assemble.specs.declared.state.State.{State}
 use Rattle.vx_assemble.specs.inner.Held.{begun_of, IsHeld}
 use Rattle.vx_assemble.specs.declared.unit.UnitClass.{UnitClass}
 use Rattle.vx_assemble.specs.inner.Classes.{class_seen}
-use Rattle.vx_assemble.specs.inner.Takes.{Gives, TookUnit, TakesUnit}
-use Rattle.vx_assemble.specs.inner.Changes.{with_items, with_sps, with_pps, with_aps, with_end, with_begun}
+use Rattle.vx_assemble.specs.inner.Takes.{Gives, TookUnit, TakesUnit, outside_picture, no_slice_missing}
+use Rattle.vx_assemble.specs.inner.Changes.{with_items, with_aps, with_end, with_begun}
 use Rattle.vx_assemble.proofs.Steps.{gives_first, gives_same}
-use Rattle.vx_assemble.proofs.Holding.{dropped_held, vps_held, sps_held, pps_held, end_held, header_held}
+use Rattle.vx_assemble.proofs.Holding.{dropped_held, vps_held, end_held, header_held}
 
 -- an error of the rules is one of the unit
 pub takes_error : (answer : Result Reading Refusal) (before : List Reading) (new : State) (e : ReadError) → Gives answer (Err e)
@@ -64,60 +63,35 @@ failed_vps R new before u rbsp e spells bad =
 -- such a set, by what it is read as
 abbrev pub outside : {A : Type 0} → List Reading → Result A Refusal → (A → Reading) → Result Reading Refusal
 outside before read as_reading = do
-  _ ← refuse_if (is_within_picture (current before)) (structure rules.SET_INSIDE_PICTURE)
+  _ ← outside_picture before
   v ← read
   Ok (as_reading v)
 
-pub outside_is : {A : Type 0} (before : List Reading) (read : Result A Refusal) (f : A → Reading) → is_within_picture (current before) ≡ false
+outside_is : {A : Type 0} (before : List Reading) (read : Result A Refusal) (f : A → Reading) → outside_picture before ≡ Ok tt
     → outside before read f ≡ (read >>= λ v. Ok (f v))
-outside_is before read f closed = rw closed refl
+outside_is before read f is = ap (λ x. x >>= λ _. read >>= λ v. Ok (f v)) is
 
-failed_outside : {A : Type 0} (before : List Reading) (new : State) (read : Result A Refusal) (f : A → Reading) (e : ReadError)
-    → is_within_picture (current before) ≡ false → Gives read (Err e) → TakesUnit (outside before read f) before new (Err e)
-failed_outside before new read f e closed bad =
-    takes_error (outside before read f) before new e
-    (gives_same (outside before read f) (read >>= λ v. Ok (f v)) (Err e) (outside_is before read f closed) (gives_first read (λ v. Ok (f v)) e bad))
+pub refused_within : {A : Type 0} (before : List Reading) (new : State) (read : Result A Refusal) (f : A → Reading) (e : ReadError)
+    → Gives (outside_picture before) (Err e) → TakesUnit (outside before read f) before new (Err e)
+refused_within before new read f e bad =
+    takes_error (outside before read f) before new e (gives_first (outside_picture before) (λ _. read >>= λ v. Ok (f v)) e bad)
 
-pub sps_within : (R : Readers) (before : List Reading) (u : List ℕ) (w : Bool) → w ≡ is_within_picture (current before) → w ≡ true
-    → reads_as R sps_unit before u ≡ Err (structure rules.SET_INSIDE_PICTURE)
-sps_within R before u w said is = let open_ : is_within_picture (current before) ≡ true = sym said ∙ is in rw open_ refl
+pub failed_outside : {A : Type 0} (before : List Reading) (new : State) (read : List ℕ → Result A Refusal) (f : A → Reading) (u rbsp : List ℕ) (e : ReadError)
+    → outside_picture before ≡ Ok tt → rbsp ≡ rbsp_of u → Gives (read rbsp) (Err e) → TakesUnit (outside before (read (rbsp_of u)) f) before new (Err e)
+failed_outside before new read f u rbsp e is spells bad =
+    let m = read (rbsp_of u) in
+    takes_error (outside before m f) before new e
+    (gives_same (outside before m f) (m >>= λ v. Ok (f v)) (Err e) (outside_is before m f is)
+    (gives_first m (λ v. Ok (f v)) e (subst (λ x. Gives (read x) (Err e)) spells bad)))
 
-pub pps_within : (R : Readers) (before : List Reading) (u : List ℕ) (w : Bool) → w ≡ is_within_picture (current before) → w ≡ true
-    → reads_as R pps_unit before u ≡ Err (structure rules.SET_INSIDE_PICTURE)
-pps_within R before u w said is = let open_ : is_within_picture (current before) ≡ true = sym said ∙ is in rw open_ refl
-
-pub aps_within : (R : Readers) (before : List Reading) (u : List ℕ) (w : Bool) → w ≡ is_within_picture (current before) → w ≡ true
-    → reads_as R prefix_aps before u ≡ Err (structure rules.SET_INSIDE_PICTURE)
-aps_within R before u w said is = let open_ : is_within_picture (current before) ≡ true = sym said ∙ is in rw open_ refl
-
-pub failed_sps : (R : Readers) (new : State) (before : List Reading) (u rbsp : List ℕ) (e : ReadError) (w : Bool) → w ≡ is_within_picture (current before)
-    → w ≡ false → rbsp ≡ rbsp_of u → Gives (R.sps rbsp) (Err e) → TakesUnit (reads_as R sps_unit before u) before new (Err e)
-failed_sps R new before u rbsp e w said is spells bad =
-    failed_outside before new (R.sps (rbsp_of u)) sps_read e (sym said ∙ is) (subst (λ x. Gives (R.sps x) (Err e)) spells bad)
-
-pub failed_pps : (R : Readers) (new : State) (before : List Reading) (u rbsp : List ℕ) (e : ReadError) (w : Bool) → w ≡ is_within_picture (current before)
-    → w ≡ false → rbsp ≡ rbsp_of u → Gives (R.pps rbsp) (Err e) → TakesUnit (reads_as R pps_unit before u) before new (Err e)
-failed_pps R new before u rbsp e w said is spells bad =
-    failed_outside before new (R.pps (rbsp_of u)) pps_read e (sym said ∙ is) (subst (λ x. Gives (R.pps x) (Err e)) spells bad)
-
-pub took_sps : (R : Readers) (s new : State) (before : List Reading) (u rbsp : List ℕ) (v : List Item) (id : ℕ) (w : Bool) → w ≡ is_within_picture (current before)
-    → w ≡ false → rbsp ≡ rbsp_of u → R.sps rbsp ≡ Ok v → id ≡ sps_id v → id < length s.sps → IsHeld s before → new ≡ with_sps id v s
-    → TookUnit (reads_as R sps_unit before u) before new (accepted.Sps id)
-took_sps R s new before u rbsp v id w said is spells read id_is low held kept = record {
-  reading = sps_read v;
-  reads = outside_is before (R.sps (rbsp_of u)) sps_read (sym said ∙ is) ∙ ap (λ x. x >>= λ y. Ok (sps_read y)) (ap R.sps (sym spells) ∙ read);
-  held = rw (kept, id_is) (sps_held s before v held (rw (← id_is) low));
-  told = ap accepted.Sps id_is;
-}
-
-pub took_pps : (R : Readers) (s new : State) (before : List Reading) (u rbsp : List ℕ) (v : List Item) (id : ℕ) (w : Bool) → w ≡ is_within_picture (current before)
-    → w ≡ false → rbsp ≡ rbsp_of u → R.pps rbsp ≡ Ok v → id ≡ pps_id v → id < length s.pps → IsHeld s before → new ≡ with_pps id v s
-    → TookUnit (reads_as R pps_unit before u) before new (accepted.Pps id)
-took_pps R s new before u rbsp v id w said is spells read id_is low held kept = record {
-  reading = pps_read v;
-  reads = outside_is before (R.pps (rbsp_of u)) pps_read (sym said ∙ is) ∙ ap (λ x. x >>= λ y. Ok (pps_read y)) (ap R.pps (sym spells) ∙ read);
-  held = rw (kept, id_is) (pps_held s before v held (rw (← id_is) low));
-  told = ap accepted.Pps id_is;
+pub took_outside : {A : Type 0} (before : List Reading) (new : State) (read : List ℕ → Result A Refusal) (f : A → Reading) (u rbsp : List ℕ) (v : A) (what : Accepted)
+    → outside_picture before ≡ Ok tt → rbsp ≡ rbsp_of u → read rbsp ≡ Ok v → IsHeld new (f v ∷ before) → what ≡ told_of (f v) before
+    → TookUnit (outside before (read (rbsp_of u)) f) before new what
+took_outside before new read f u rbsp v what is spells got held told = record {
+  reading = f v;
+  reads = outside_is before (read (rbsp_of u)) f is ∙ ap (λ x. x >>= λ y. Ok (f y)) (ap read (sym spells) ∙ got);
+  held = held;
+  told = told;
 }
 
 -- ---- adaptation parameter sets
@@ -167,52 +141,55 @@ took_aps R s new before u rbsp a spells read valid held kept = record {
   told = refl;
 }
 
-prefix_is : (R : Readers) (before : List Reading) (u : List ℕ) → is_within_picture (current before) ≡ false
-    → reads_as R suffix_aps before u ≡ reads_as R prefix_aps before u
-prefix_is R before u closed = rw closed refl
+pub prefix_within : (R : Readers) (before : List Reading) (u : List ℕ) (new : State) (e : ReadError) → Gives (outside_picture before) (Err e)
+    → TakesUnit (reads_as R prefix_aps before u) before new (Err e)
+prefix_within R before u new e bad = refused_within before new (R.aps (rbsp_of u)) aps_reading e bad
 
-pub took_prefix : (R : Readers) (new : State) (before : List Reading) (u : List ℕ) (y : Result Accepted ReadError) (w : Bool) → w ≡ is_within_picture (current before)
-    → w ≡ false → TakesUnit (reads_as R suffix_aps before u) before new y → TakesUnit (reads_as R prefix_aps before u) before new y
-took_prefix R new before u y w said is takes = subst (λ x. TakesUnit x before new y) (prefix_is R before u (sym said ∙ is)) takes
+pub took_prefix : (R : Readers) (new : State) (before : List Reading) (u : List ℕ) (y : Result Accepted ReadError) → outside_picture before ≡ Ok tt
+    → TakesUnit (reads_as R suffix_aps before u) before new y → TakesUnit (reads_as R prefix_aps before u) before new y
+took_prefix R new before u y is takes = subst (λ x. TakesUnit x before new y) (sym (outside_is before (R.aps (rbsp_of u)) aps_reading is)) takes
 
 -- ---- the end of a sequence
 
-pub end_open : (R : Readers) (before : List Reading) (u : List ℕ) (w : Bool) → w ≡ is_open (current before) → w ≡ true
-    → reads_as R end_unit before u ≡ Err (structure rules.SLICE_MISSING)
-end_open R before u w said is = let open_ : is_open (current before) ≡ true = sym said ∙ is in rw open_ refl
+pub end_open : (R : Readers) (new : State) (before : List Reading) (u : List ℕ) (e : ReadError) → Gives (no_slice_missing before) (Err e)
+    → TakesUnit (reads_as R end_unit before u) before new (Err e)
+end_open R new before u e bad =
+    takes_error (reads_as R end_unit before u) before new e (gives_first (no_slice_missing before) (λ _. Ok sequence_ended) e bad)
 
-pub took_end : (R : Readers) (s new : State) (before : List Reading) (u : List ℕ) (w : Bool) → w ≡ is_open (current before) → w ≡ false → IsHeld s before
+pub took_end : (R : Readers) (s new : State) (before : List Reading) (u : List ℕ) → no_slice_missing before ≡ Ok tt → IsHeld s before
     → new ≡ with_end s → TookUnit (reads_as R end_unit before u) before new accepted.Nothing
-took_end R s new before u w said is held kept = record {
+took_end R s new before u closed held kept = record {
   reading = sequence_ended;
-  reads = let closed : is_open (current before) ≡ false = sym said ∙ is in rw closed refl;
+  reads = ap (λ x. x >>= λ _. Ok sequence_ended) closed;
   held = rw kept (end_held s before held);
   told = refl;
 }
 
 -- ---- picture headers
 
-pub header_open : (R : Readers) (before : List Reading) (u : List ℕ) (w : Bool) → w ≡ is_open (current before) → w ≡ true
-    → reads_as R header_unit before u ≡ Err (structure rules.SLICE_MISSING)
-header_open R before u w said is = let open_ : is_open (current before) ≡ true = sym said ∙ is in rw open_ refl
-
-header_reads : (R : Readers) (before : List Reading) (u : List ℕ) → is_open (current before) ≡ false
+header_reads : (R : Readers) (before : List Reading) (u : List ℕ) → no_slice_missing before ≡ Ok tt
     → reads_as R header_unit before u ≡ (begins R before u (Some u) >>= λ b. Ok (header_read b))
-header_reads R before u closed = rw closed refl
+header_reads R before u closed = ap (λ x. x >>= λ _. begins R before u (Some u) >>= λ b. Ok (header_read b)) closed
 
-pub failed_header : (R : Readers) (new : State) (before : List Reading) (u : List ℕ) (e : ReadError) (w : Bool) → w ≡ is_open (current before) → w ≡ false
+pub header_open : (R : Readers) (new : State) (before : List Reading) (u : List ℕ) (e : ReadError) → Gives (no_slice_missing before) (Err e)
+    → TakesUnit (reads_as R header_unit before u) before new (Err e)
+header_open R new before u e bad =
+    takes_error (reads_as R header_unit before u) before new e
+    (gives_first (no_slice_missing before) (λ _. begins R before u (Some u) >>= λ b. Ok (header_read b)) e bad)
+
+pub failed_header : (R : Readers) (new : State) (before : List Reading) (u : List ℕ) (e : ReadError) → no_slice_missing before ≡ Ok tt
     → Gives (begins R before u (Some u)) (Err e) → TakesUnit (reads_as R header_unit before u) before new (Err e)
-failed_header R new before u e w said is bad =
+failed_header R new before u e closed bad =
     takes_error (reads_as R header_unit before u) before new e
     (gives_same (reads_as R header_unit before u) (begins R before u (Some u) >>= λ b. Ok (header_read b)) (Err e)
-    (header_reads R before u (sym said ∙ is)) (gives_first (begins R before u (Some u)) (λ b. Ok (header_read b)) e bad))
+    (header_reads R before u closed) (gives_first (begins R before u (Some u)) (λ b. Ok (header_read b)) e bad))
 
-pub took_header : (R : Readers) (s new : State) (before : List Reading) (u : List ℕ) (b : BegunPicture) (w : Bool) → w ≡ is_open (current before)
-    → w ≡ false → begins R before u (Some u) ≡ Ok (begun_of b (Some u)) → 2 ≤ length u → IsHeld s before
+pub took_header : (R : Readers) (s new : State) (before : List Reading) (u : List ℕ) (b : BegunPicture) → no_slice_missing before ≡ Ok tt
+    → begins R before u (Some u) ≡ Ok (begun_of b (Some u)) → 2 ≤ length u → IsHeld s before
     → new ≡ with_begun b u s → TookUnit (reads_as R header_unit before u) before new accepted.Nothing
-took_header R s new before u b w said is begun some held kept = record {
+took_header R s new before u b closed begun some held kept = record {
   reading = header_read (begun_of b (Some u));
-  reads = header_reads R before u (sym said ∙ is) ∙ ap (λ x. x >>= λ y. Ok (header_read y)) begun;
+  reads = header_reads R before u closed ∙ ap (λ x. x >>= λ y. Ok (header_read y)) begun;
   held = rw kept (header_held s before b u held some);
   told = refl;
 }

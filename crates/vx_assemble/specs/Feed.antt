@@ -3,6 +3,7 @@
 -- and `ReadsOn` say what it is worth. Our own.
 use Rattle.std.specs.Prelude.{◌≡◌, ℕ, ◌+◌, ◌<◌, ◌≤◌, true, false, List, [], ◌∷◌, ◌++◌, length, take, Option, Some, None, Result, Ok, Err}
 use Rattle.std.specs.Io.KnownBytes.{Consumes, Keeps, IsAtEnd}
+use Rattle.vx_bits.specs.Limits.{unit_limit}
 use Rattle.vx_bits.specs.declared.refusal.Refusal.{Refusal}
 use Rattle.vx_io.specs.Faults.{Rose}
 use Rattle.vx_annexb.specs.NalUnit.{header_of}
@@ -15,7 +16,7 @@ use Rattle.vx_annexb.specs.declared.unit_reader.ReadFault.{ReadFault}
 use Rattle.vx_annexb.specs.declared.unit_reader.ReadFault.TheVariants as read_faults
 use Rattle.vx_pic.specs.declared.accepted.Accepted.{Accepted}
 use Rattle.vx_pic.specs.Readings.{Reading, Picture, pictures}
-use Rattle.vx_pic.specs.Rules.{Readers, reads}
+use Rattle.vx_pic.specs.Rules.{Readers, reads, picture_limit}
 use Rattle.vx_pic.specs.Streams.{read_on, all_read, lacks_slice}
 use Rattle.vx_pic.specs.Bytes.{units_at, ArePictures, AreSeenPictures}
 use Rattle.vx_pic.specs.Told.{told_of}
@@ -75,6 +76,10 @@ Lowers _ old new = new ≤ old
 -- how many bytes of its source it holds: those behind the last unit taken, and those of the picture that was begun last
 abbrev pub bytes_held : Feeding → ℕ
 bytes_held f = held f.reader.splitter + length f.assembler.state.picture.bytes
+
+-- the most bytes that a feed holds: a picture, a unit that isn't whole, and what a read appends to it (our own limits)
+abbrev pub most_held : ℕ
+most_held = picture_limit + unit_limit + 65538
 
 -- a unit that is taken is one more
 abbrev pub Counts : Taken → ℕ → ℕ → Type 0

@@ -76,6 +76,7 @@ impl Assembler {
             → Takes (reads R before unit.now) before self.new result }
         ensures told { IfOk result (λ what. told self.new ≡ what) }
         ensures none { IfErr result (λ _. ¬ HasPicture self.new) }
+        ensures nothing { IfErr result (λ _. told self.new ≡ Accepted.Nothing) }
         ensures bounded { IsBounded self.new }
         ensures fault { IfErr result (λ e. first_fault self.new ≡ Some (first_of e)) }
         ensures again { (f : First) → first_fault self.old ≡ Some f → result ≡ Err (AssembleFault.Stopped f) }
@@ -128,6 +129,7 @@ impl Assembler {
         ensures answer { (before : List Reading) → Stands self.old before → Ends before result }
         ensures same { OnOk result (self.new ≡ self.old) }
         ensures none { IfErr result (λ _. ¬ HasPicture self.new) }
+        ensures nothing { IfErr result (λ _. told self.new ≡ Accepted.Nothing) }
         ensures bounded { IsBounded self.new }
         ensures fault { IfErr result (λ e. first_fault self.new ≡ Some (first_of e)) }
         ensures again { (f : First) → first_fault self.old ≡ Some f → result ≡ Err (AssembleFault.Stopped f) }

@@ -1,6 +1,5 @@
 //! A picture header, with what is in force for it.
 ghost use Rattle.std.specs.Prelude.{◌≡◌, List, ℕ, Option, None, Err, IfOk, IfErr, IfSome, OnOk, OnErr};
-ghost use Rattle.vx_pic.specs.Sets.{referred_sps};
 ghost use Rattle.vx_pic.specs.Readings.{Reading};
 ghost use Rattle.vx_pic.specs.Rules.{Readers, begins};
 ghost use Rattle.vx_pic.specs.H266.{AreOfH266};
@@ -19,19 +18,9 @@ use crate::unit::{NalUnit, SliceUnit};
 use std::alloc::{AllocError, Global};
 use vx_annexb::unescape;
 use vx_bits::ReadError;
-use vx_fields::pps::pps_seq_parameter_set_id;
 use vx_pic::{PPS, SPS};
 use vx_pps::Pps;
 use vx_sps::Sps;
-
-/// The id of the SPS that a PPS refers to.
-#[tactic(auto, using(crate::proofs::Ids::referred_below), unfolding(vx_pic::specs::Sets::referred_sps))]
-pub(crate) fn referred_sps(pps: &Pps) -> u8
-    ensures { result ≡ referred_sps pps.now }
-{
-    let _fields = pps.fields();
-    pps.scope().latest(pps_seq_parameter_set_id) as u8
-}
 
 /// The two sets that a picture header refers to.
 #[derive(Drop)]
@@ -48,13 +37,14 @@ impl State {
     /// # Errors
     ///
     /// The first that isn't stored is missing; want of memory.
+    #[tactic(auto, unfolding(vx_pic::specs::Sets::referred_sps))]
     fn sets_of(&self, id: u8) -> Result<SetPair, ReadError>
         ensures { Gives (sets_kept self.now id) result }
     {
         let Some(pps) = self.pps_of(id) else {
             return Err(ReadError::Refused(missing(PPS, id)));
         };
-        let sps_id = referred_sps(pps.set().value());
+        let sps_id = pps.set().value().sps_id();
         let Some(sps) = self.sps_of(sps_id) else {
             return Err(ReadError::Refused(missing(SPS, sps_id)));
         };
@@ -88,16 +78,10 @@ impl State {
             let sets = sets.share()?;
             return Ok(sets);
         }
-        let pair = match self.sets_of(id) {
-            Ok(pair) => pair,
-            Err(error) => return Err(error),
-        };
-        let sets = match InForce::new(alloc, pair.sps, pair.pps) {
-            Ok(sets) => sets,
-            Err(error) => return Err(error),
-        };
-        let shared = Shared::new(alloc, sets)?;
-        Ok(shared)
+        let pair = self.sets_of(id)?;
+        let made = InForce::new(alloc, pair.sps, pair.pps)?;
+        let sets = Shared::new(alloc, made)?;
+        Ok(sets)
     }
 
     /// The picture header of a PH unit, or of a slice that has it inside, with what is in force for it.
@@ -117,22 +101,13 @@ impl State {
         ensures header { IfOk result IsHeader }
         ensures stored { IfOk result (λ b. AreInForce self.now b.pps_id b.sets) }
     {
-        let id = match referred_pps(inside, unit.rbsp) {
-            Ok(id) => id,
-            Err(error) => return Err(error),
-        };
-        let sets = match self.in_force(alloc, id) {
-            Ok(sets) => sets,
-            Err(error) => return Err(error),
-        };
+        let id = referred_pps(inside, unit.rbsp)?;
+        let sets = self.in_force(alloc, id)?;
         let made = sets.value();
         let sps = made.sps.value();
         let pps = made.pps.value();
         let scope = made.scope.value();
-        let header = match header_of(alloc, inside, sps, pps, scope, unit.rbsp) {
-            Ok(header) => header,
-            Err(error) => return Err(error),
-        };
+        let header = header_of(alloc, inside, sps, pps, scope, unit.rbsp)?;
         Ok(BegunPicture {
             pps_id: id,
             sets,

@@ -241,7 +241,7 @@ impl Feed {
     ghost use Rattle.vx_assemble.specs.declared.feed.Step.TheVariants as steps;
     ghost use Rattle.vx_pic.specs.Rules.{Readers};
     ghost use Rattle.vx_pic.specs.H266.{AreOfH266};
-    ghost use Rattle.vx_assemble.specs.Feed.{HasFed, IsOpen, EndsAtEnd, Gives, GivesSeen, ReadsOn, IsToldBy, Lowers, Counts, left_to_take, bytes_held, Takes, Advances, CompletesNone, first_of as first_by};
+    ghost use Rattle.vx_assemble.specs.Feed.{HasFed, IsOpen, EndsAtEnd, Gives, GivesSeen, ReadsOn, IsToldBy, Lowers, Counts, left_to_take, bytes_held, Takes, Advances, CompletesNone, first_of as first_by, most_held};
     ghost use Rattle.vx_assemble.specs.inner.Feed.{read_fault};
     ghost use Rattle.vx_assemble.specs.declared.fault.First.{First as FirstFault};
     ghost use Rattle.vx_assemble.specs.declared.feed.FeedFault.TheVariants.{Stopped};
@@ -287,7 +287,7 @@ impl Feed {
         ensures grows { self.old.units ≤ self.new.units }
         ensures few { OnOk result (self.new.units ≤ 2 ^ 40) }
         ensures held { reading.HoldsFew self.new.reader }
-        ensures bytes { bytes_held self.new ≤ 2 ^ 25 + 2 ^ 23 + 65538 }
+        ensures bytes { bytes_held self.new ≤ most_held }
         ensures bounded { IsBounded self.new.assembler }
         ensures all { is_all self.new.reader.splitter ≡ is_all self.old.reader.splitter }
         ensures ended { result ≡ Ok (Some End) → ¬ IsOpen self.new }
@@ -322,7 +322,7 @@ impl Feed {
         ensures grows { self.old.units ≤ self.new.units }
         ensures few { OnOk result (self.new.units ≤ 2 ^ 40) }
         ensures held { reading.HoldsFew self.new.reader }
-        ensures bytes { bytes_held self.new ≤ 2 ^ 25 + 2 ^ 23 + 65538 }
+        ensures bytes { bytes_held self.new ≤ most_held }
         ensures bounded { IsBounded self.new.assembler }
         ensures all { is_all self.new.reader.splitter ≡ is_all self.old.reader.splitter }
         ensures ended { result ≡ Ok (Some End) → ¬ IsOpen self.new }
@@ -372,7 +372,7 @@ impl Feed {
         ensures end { OnOk result (EndsAtEnd self.new (bytes_left source.new)) }
         ensures unended { OnErr result (self.new.reader.closed ≡ Some closed.End → ⊥) }
         ensures held { reading.HoldsFew self.new.reader }
-        ensures bytes { bytes_held self.new ≤ 2 ^ 25 + 2 ^ 23 + 65538 }
+        ensures bytes { bytes_held self.new ≤ most_held }
         ensures bounded { IsBounded self.new.assembler }
     {
         match self.reader.read(source) {
@@ -447,7 +447,7 @@ impl Feed {
         ensures told { IfOk result (λ taken. IsToldBy self.new.assembler (Some taken)) }
         ensures end { EndsAtEnd self.old (bytes_left source.old) → EndsAtEnd self.new (bytes_left source.new) }
         ensures held { reading.HoldsFew self.new.reader }
-        ensures bytes { bytes_held self.new ≤ 2 ^ 25 + 2 ^ 23 + 65538 }
+        ensures bytes { bytes_held self.new ≤ most_held }
         ensures bounded { IsBounded self.new.assembler }
     {
         loop {
@@ -479,7 +479,7 @@ impl Feed {
         ensures stopped { (f : FirstFault) → self.old.first ≡ Some f → (result ≡ Err (Stopped f)) × (self.new ≡ self.old)
             × (bytes_left source.new ≡ bytes_left source.old) × (read_faults source.new ≡ read_faults source.old) }
         ensures held { reading.HoldsFew self.new.reader }
-        ensures bytes { bytes_held self.new ≤ 2 ^ 25 + 2 ^ 23 + 65538 }
+        ensures bytes { bytes_held self.new ≤ most_held }
         ensures bounded { IsBounded self.new.assembler }
     {
         loop {
@@ -500,7 +500,7 @@ impl Feed {
     ghost use Rattle.vx_pic.specs.Readings.{Reading};
     ghost use Rattle.vx_pic.specs.Rules.{Readers};
     ghost use Rattle.vx_assemble.specs.Held.{IsBounded};
-    ghost use Rattle.vx_assemble.specs.Feed.{HasFed, IsOpen, bytes_held};
+    ghost use Rattle.vx_assemble.specs.Feed.{HasFed, IsOpen, bytes_held, most_held};
     ghost use Rattle.vx_assemble.specs.declared.fault.First.TheVariants as firsts;
 
     /// Takes bytes of the source in place of a read, where `next` answered none last: the first of a piece, at most as many as
@@ -524,7 +524,7 @@ impl Feed {
         ensures lends { self.new.assembler ≡ self.old.assembler }
         ensures within { fed self.new.reader.splitter ≤ 2 ^ 40 }
         ensures held { reading.HoldsFew self.new.reader }
-        ensures bytes { bytes_held self.new ≤ 2 ^ 25 + 2 ^ 23 + 65538 }
+        ensures bytes { bytes_held self.new ≤ most_held }
         ensures bounded { IsBounded self.new.assembler }
     {
         match self.reader.feed(piece) {
@@ -546,7 +546,7 @@ impl Feed {
         ensures units { self.new.units ≡ self.old.units }
         ensures lends { self.new.assembler ≡ self.old.assembler }
         ensures held { reading.HoldsFew self.new.reader }
-        ensures bytes { bytes_held self.new ≤ 2 ^ 25 + 2 ^ 23 + 65538 }
+        ensures bytes { bytes_held self.new ≤ most_held }
         ensures bounded { IsBounded self.new.assembler }
     {
         self.reader.finish();

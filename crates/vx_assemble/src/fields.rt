@@ -1,6 +1,7 @@
 //! The fields that a unit spells, up to the first that is refused.
-ghost use Rattle.std.specs.Prelude.{◌≡◌, ◌++◌, ◌≤◌, ◌^◌, length, true, List, Option, None, ℕ, IfOk, OnOk};
+ghost use Rattle.std.specs.Prelude.{◌≡◌, ◌++◌, ◌≤◌, length, true, List, Option, None, ℕ, IfOk, OnOk};
 ghost use Rattle.vx_bits.specs.Place.{Place};
+ghost use Rattle.vx_bits.specs.Limits.{unit_limit};
 ghost use Rattle.vx_annexb.specs.NalUnit.{header_of};
 ghost use Rattle.vx_annexb.specs.ByteStream.{IsSound};
 ghost use Rattle.vx_table.specs.Reading.{Reads, at_front};
@@ -18,10 +19,9 @@ ghost use Rattle.vx_assemble.specs.inner.Fields.{HasAnswered, head_items};
 ghost use Rattle.vx_assemble.specs.inner.Held.{begun_of, IsApart, IsHeld};
 ghost use Rattle.vx_assemble.specs.inner.Order.{IsHeader, IsInOrder};
 
-use crate::begin::referred_sps;
 use crate::readers::{header_bits, numbers_under, referred_pps};
 use crate::state::{BegunPicture, Stage, State};
-use crate::unit::{NalUnit, SliceUnit, UnitClass, behind_header, class_of, front_of, nal_header};
+use crate::unit::{NalUnit, SliceUnit, UnitClass, class_of, front_of, nal_header};
 use std::alloc::{AllocError, Global};
 use vx_annexb::{NalHeader, unescape};
 use vx_aps::read_aps_fields;
@@ -60,7 +60,7 @@ fn fields_of(structure: Structure, items: Fields) -> StructureFields
 
 /// The items of a VPS.
 fn vps_items(alloc: Global, rbsp: &[u8]) -> Result<Fields, AllocError>
-    requires { length rbsp.now ≤ 2 ^ 23 }
+    requires { length rbsp.now ≤ unit_limit }
     ensures { IfOk result (λ items. (R : Readers) (h : AreOfH266 R) → items ≡ fields.vps_items R h rbsp.now) }
 {
     let mut items = Fields::new(alloc);
@@ -70,7 +70,7 @@ fn vps_items(alloc: Global, rbsp: &[u8]) -> Result<Fields, AllocError>
 
 /// The items of an SPS.
 fn sps_items(alloc: Global, rbsp: &[u8]) -> Result<Fields, AllocError>
-    requires { length rbsp.now ≤ 2 ^ 23 }
+    requires { length rbsp.now ≤ unit_limit }
     ensures { IfOk result (λ items. (R : Readers) (h : AreOfH266 R) → items ≡ fields.sps_items R h rbsp.now) }
 {
     let mut items = Fields::new(alloc);
@@ -80,7 +80,7 @@ fn sps_items(alloc: Global, rbsp: &[u8]) -> Result<Fields, AllocError>
 
 /// The items of a PPS.
 fn pps_items(alloc: Global, rbsp: &[u8]) -> Result<Fields, AllocError>
-    requires { length rbsp.now ≤ 2 ^ 23 }
+    requires { length rbsp.now ≤ unit_limit }
     ensures { IfOk result (λ items. (R : Readers) (h : AreOfH266 R) → items ≡ fields.pps_items R h rbsp.now) }
 {
     let mut items = Fields::new(alloc);
@@ -118,7 +118,7 @@ fn items_before(alloc: Global, inside: bool) -> Result<Fields, AllocError>
 
 /// The items of a picture header up to the id of the PPS.
 fn items_to_id(alloc: Global, inside: bool, rbsp: &[u8]) -> Result<Fields, AllocError>
-    requires { length rbsp.now ≤ 2 ^ 23 }
+    requires { length rbsp.now ≤ unit_limit }
     ensures { IfOk result (λ items. (R : Readers) (h : AreOfH266 R) → items ≡ head_items inside ++ fields.id_items R h inside rbsp.now) }
 {
     let mut items = items_before(alloc, inside)?;
@@ -129,7 +129,7 @@ fn items_to_id(alloc: Global, inside: bool, rbsp: &[u8]) -> Result<Fields, Alloc
 
 /// The items of a picture header inside a slice, under its sets.
 fn items_inside(alloc: Global, sps: &Sps, pps: &Pps, rbsp: &[u8]) -> Result<Fields, AllocError>
-    requires { length rbsp.now ≤ 2 ^ 23 }
+    requires { length rbsp.now ≤ unit_limit }
     ensures { IfOk result (λ items. (R : Readers) (h : AreOfH266 R)
         → items ≡ head_items true ++ fields.header_items R h true rbsp.now sps.now pps.now) }
 {
@@ -147,7 +147,7 @@ fn header_items(
     pps: &Pps,
     rbsp: &[u8],
 ) -> Result<Fields, AllocError>
-    requires { length rbsp.now ≤ 2 ^ 23 }
+    requires { length rbsp.now ≤ unit_limit }
     ensures { IfOk result (λ items. (R : Readers) (h : AreOfH266 R)
         → items ≡ head_items inside ++ fields.header_items R h inside rbsp.now sps.now pps.now) }
 {
@@ -208,7 +208,7 @@ impl State {
         inside: bool,
         rbsp: &[u8],
     ) -> Result<Fields, AllocError>
-        requires { length rbsp.now ≤ 2 ^ 23 }
+        requires { length rbsp.now ≤ unit_limit }
         ensures { IfOk result (λ items. (R : Readers) (h : AreOfH266 R) (before : List Reading) → IsApart self.now before
             → items ≡ head_items inside ++ fields.picture_header_items R h inside rbsp.now before) }
     {
@@ -224,7 +224,7 @@ impl State {
             let items = items_to_id(alloc, inside, rbsp)?;
             return Ok(items);
         };
-        let Some(sps) = self.sps_of(referred_sps(pps.set().value())) else {
+        let Some(sps) = self.sps_of(pps.set().value().sps_id()) else {
             let items = items_to_id(alloc, inside, rbsp)?;
             return Ok(items);
         };
@@ -297,7 +297,6 @@ impl State {
     }
 
     /// The fields of a slice's unit, of which no bytes are passed behind its header.
-    #[tactic(auto, unfolding(vx_pic::specs::Units::rbsp_of))]
     fn slice_unit_fields(
         &self,
         alloc: Global,
@@ -312,16 +311,7 @@ impl State {
     {
         let front = front_of(unit);
         let bytes = unescape(alloc, front)?;
-        let first = NalUnit {
-            bytes: front,
-            header,
-            rbsp: behind_header(&bytes),
-        };
-        let slice = SliceUnit {
-            bytes: unit,
-            header,
-            front: first,
-        };
+        let slice = SliceUnit::new(unit, header, front, &bytes);
         let read = self.slice_fields(alloc, slice)?;
         Ok(read)
     }
@@ -355,7 +345,6 @@ impl State {
     }
 
     /// The fields of a unit of a class.
-    #[tactic(auto, unfolding(vx_pic::specs::Units::rbsp_of))]
     fn whole_unit_fields(
         &self,
         alloc: Global,
@@ -370,12 +359,8 @@ impl State {
             → f ≡ fields.fields_as R h (class_seen class) before unit.now) }
     {
         let bytes = unescape(alloc, unit)?;
-        let read = NalUnit {
-            bytes: unit,
-            header,
-            rbsp: behind_header(&bytes),
-        };
-        let given = self.class_fields(alloc, class, read)?;
+        let whole = NalUnit::new(unit, header, &bytes);
+        let given = self.class_fields(alloc, class, whole)?;
         Ok(given)
     }
 

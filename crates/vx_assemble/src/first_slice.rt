@@ -8,7 +8,6 @@ ghost use Rattle.vx_assemble.specs.inner.Changes as changes;
 use crate::items::same_items;
 use crate::refusals::structure;
 use crate::state::{BegunPicture, State};
-use crate::unit::{is_cra_or_gdr, is_idr, is_irap_or_gdr};
 use vx_annexb::NalHeader;
 use vx_bits::rules::{SPS_CHANGED, STARTS_ELSEWHERE};
 use vx_bits::{Fields, Refusal};
@@ -16,7 +15,10 @@ use vx_fields::ph::{
     ph_non_ref_pic_flag, ph_pic_order_cnt_lsb, ph_poc_msb_cycle_present_flag, ph_poc_msb_cycle_val,
 };
 use vx_fields::sps::sps_log2_max_pic_order_cnt_lsb_minus4;
-use vx_pic::{CountFields, Kind, PrevTid0, RADL_NUT, RASL_NUT, number_of, picture_order_count};
+use vx_pic::{
+    CountFields, Kind, PrevTid0, RADL_NUT, RASL_NUT, is_cra_or_gdr, is_idr, is_irap_or_gdr,
+    number_of, picture_order_count,
+};
 use vx_sps::Sps;
 
 /// ph_poc_msb_cycle_val, where it is present.
@@ -37,7 +39,7 @@ fn lsb_bits(sps: &Sps) -> u32
     ensures few { result ≤ 16 }
 {
     let _fields = sps.fields();
-    sps.scope().latest(sps_log2_max_pic_order_cnt_lsb_minus4) + 4
+    sps.number(sps_log2_max_pic_order_cnt_lsb_minus4) + 4
 }
 
 /// What a header tells of counts, and an SPS.

@@ -1,5 +1,6 @@
 //! A slice that joins a picture.
-ghost use Rattle.std.specs.Prelude.{◌≡◌, ◌+◌, ◌*◌, ◌^◌, ◌<◌, ◌≤◌, ◌∷◌, [], length, take, None, IfOk, OnOk};
+ghost use Rattle.std.specs.Prelude.{◌≡◌, ◌+◌, ◌*◌, ◌<◌, ◌≤◌, ◌∷◌, [], length, take, None, IfOk, OnOk};
+ghost use Rattle.vx_bits.specs.Limits.{unit_limit};
 ghost use Rattle.vx_layout.specs.Rects.{in_order};
 ghost use Rattle.vx_aps.specs.declared.aps.TheConstants.{SCALING};
 ghost use Rattle.vx_pic.specs.Sets as sets;
@@ -20,6 +21,7 @@ use crate::unit::SliceUnit;
 use std::alloc::Global;
 use vx_annexb::NalHeader;
 use vx_aps::{ALF, LMCS, SCALING};
+use vx_bits::limits::PICTURE_LIMIT;
 use vx_bits::rules::{
     EMPTY_PAYLOAD, LONG_PICTURE, QP_RANGE, SLICE_MISSING, TEMPORAL_ID_DIFFERS, TYPES_DIFFER,
 };
@@ -34,9 +36,6 @@ use vx_pic::{ApsList, Kind, number_of};
 use vx_pps::Pps;
 use vx_sps::Sps;
 use vx_table::natural;
-
-/// The most bytes of a picture.
-pub(crate) const PICTURE_LIMIT: usize = 1 << 25;
 
 /// Where a slice joins a picture.
 #[derive(Clone, Copy)]
@@ -126,7 +125,7 @@ fn check_filters(bodies: &ApsList, items: &Fields) -> Result<(), Refusal>
 fn filter_items<'a>(pps: &Pps, header: &'a Fields, slice: &'a Fields) -> &'a Fields
     ensures { result.now ≡ sets.filter_items pps.now header.now (items_only slice.now) }
 {
-    if pps.scope().latest(pps_alf_info_in_ph_flag) != 0 {
+    if pps.number(pps_alf_info_in_ph_flag) != 0 {
         header
     } else {
         slice
@@ -148,7 +147,7 @@ fn check_bodies(bodies: &ApsList, pps: &Pps, header: &Fields, slice: &Fields) ->
 fn qp_delta(pps: &Pps, header: &Fields, slice: &Fields) -> i64
     ensures { result ≡ sets.qp_delta pps.now header.now (items_only slice.now) }
 {
-    if pps.scope().latest(pps_qp_delta_info_in_ph_flag) != 0 {
+    if pps.number(pps_qp_delta_info_in_ph_flag) != 0 {
         signed(header, ph_qp_delta)
     } else {
         signed(slice, sh_qp_delta)
@@ -170,7 +169,7 @@ fn slice_qp(pps: &Pps, header: &Fields, slice: &Fields) -> i128
 fn check_qp(sps: &Sps, qp: i128) -> Result<(), Refusal>
     ensures { result ≡ qp_checked sps.now qp }
 {
-    let depth = sps.scope().latest(sps_bitdepth_minus8);
+    let depth = sps.number(sps_bitdepth_minus8);
     if qp < -6 * i128::from(depth) {
         return Err(structure(QP_RANGE));
     }
@@ -191,7 +190,7 @@ fn check_slice_qp(sps: &Sps, pps: &Pps, header: &Fields, slice: &Fields) -> Resu
 #[tactic(auto, unfolding(vx_pic::specs::Rules::picture_limit))]
 fn check_limits(size: usize, more: usize, payload: usize) -> Result<(), Refusal>
     requires old { size ≤ picture_limit }
-    requires more { more ≤ 2 ^ 23 }
+    requires more { more ≤ unit_limit }
     ensures answer { result ≡ in_limits size more payload }
     ensures payload { OnOk result (payload < more) }
     ensures size { OnOk result (size + more ≤ picture_limit) }
@@ -222,7 +221,7 @@ fn check_place(place: Place<'_>, read: &ReadSlice) -> Result<(), Refusal>
 /// Whether a slice that was read, of a unit of `more` bytes, joins a picture.
 fn check_slice(place: Place<'_>, read: &ReadSlice, more: usize) -> Result<(), Refusal>
     requires old { place.size ≤ picture_limit }
-    requires more { more ≤ 2 ^ 23 }
+    requires more { more ≤ unit_limit }
     requires read { IsReadUnder place.begun.now place.kind.nal_type read.now }
     ensures answer { result ≡ checked (begun_of place.entry.begun.now None) place.entry.bodies.now place.entry.count place.entry.size more (header_read_as read.now) }
     ensures joined { OnOk result (IsJoined place.entry.begun.now place.entry.kind.nal_type place.entry.bodies.now more read.now) }
@@ -257,10 +256,7 @@ pub(crate) fn join(
     if let Err(refusal) = check_kind(place, unit.header) {
         return Err(ReadError::Refused(refusal));
     }
-    let read = match slice_header_of(alloc, place.kind.nal_type, place.begun, unit) {
-        Ok(read) => read,
-        Err(error) => return Err(error),
-    };
+    let read = slice_header_of(alloc, place.kind.nal_type, place.begun, unit)?;
     if let Err(refusal) = check_slice(place, &read, unit.bytes.len()) {
         return Err(ReadError::Refused(refusal));
     }

@@ -19,11 +19,9 @@ use std::alloc::{AllocError, Global};
 use std::marker::Model;
 use vx_annexb::Splitter;
 use vx_bits::Refusal;
+use vx_bits::limits::SOURCE_LIMIT;
 use vx_bits::rules::LONG_SOURCE;
 use vx_pic::{Accepted, Lender, Picture};
-
-/// The most bytes that a source may have.
-const SOURCE_LIMIT: usize = 1 << 40;
 
 /// The refusal of a source that has more.
 const SOURCE_TOO_LONG: Refusal = Refusal::Limit { code: LONG_SOURCE };
@@ -83,7 +81,7 @@ fn seen(bytes: &[u8]) -> &[u8]
     ensures seen { result.now ≡ seen_of bytes.now }
     ensures few { length result.now ≤ 2 ^ 40 }
 {
-    &bytes[..bytes.len().min(SOURCE_LIMIT)]
+    &bytes[..bytes.len().min(SOURCE_LIMIT as usize)]
 }
 
 /// Feeds them to a splitter that was fed none, and answers how many bytes there are, up to one more than a source may have.
@@ -95,8 +93,8 @@ fn give(splitter: &mut Splitter, bytes: &[u8]) -> Result<u64, AllocError>
     ensures few { OnOk result (fed splitter.new ≤ 2 ^ 40) }
 {
     splitter.feed(seen(bytes))?;
-    if bytes.len() > SOURCE_LIMIT {
-        return Ok(SOURCE_LIMIT as u64 + 1);
+    if bytes.len() as u64 > SOURCE_LIMIT {
+        return Ok(SOURCE_LIMIT + 1);
     }
     splitter.finish();
     Ok(bytes.len() as u64)
@@ -127,7 +125,7 @@ fn take_unit(
         *units += 1;
         return Ok(Some(what));
     }
-    if given > SOURCE_LIMIT as u64 {
+    if given > SOURCE_LIMIT {
         return Err(AssembleFault::Refused(SOURCE_TOO_LONG));
     }
     assembler.finish()?;

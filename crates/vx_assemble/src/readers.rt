@@ -1,5 +1,6 @@
 //! Sets and headers read.
-ghost use Rattle.std.specs.Prelude.{◌≡◌, ◌+◌, ◌<◌, ◌≤◌, ◌^◌, drop, length, List, ℕ, Option, IfOk, IfSome, OnOk};
+ghost use Rattle.std.specs.Prelude.{◌≡◌, ◌+◌, ◌<◌, ◌≤◌, drop, length, List, ℕ, Option, IfOk, IfSome, OnOk};
+ghost use Rattle.vx_bits.specs.Limits.{unit_limit};
 ghost use Rattle.vx_rpl.specs.HeaderLists.{lists_of};
 ghost use Rattle.vx_ph.specs.InForce.{in_force, structures};
 ghost use Rattle.vx_ph.specs.Picture as picture;
@@ -45,7 +46,7 @@ pub(crate) struct ReadSlice {
 
 /// The items of a VPS.
 pub(crate) fn vps_of(alloc: Global, rbsp: &[u8]) -> Result<Fields, ReadError>
-    requires { length rbsp.now ≤ 2 ^ 23 }
+    requires { length rbsp.now ≤ unit_limit }
     ensures { (R : Readers) → AreOfH266 R → Gives (R.vps rbsp.now) result }
 {
     read_vps(alloc, rbsp)
@@ -53,7 +54,7 @@ pub(crate) fn vps_of(alloc: Global, rbsp: &[u8]) -> Result<Fields, ReadError>
 
 /// An SPS.
 pub(crate) fn sps_of(alloc: Global, rbsp: &[u8]) -> Result<Sps, ReadError>
-    requires { length rbsp.now ≤ 2 ^ 23 }
+    requires { length rbsp.now ≤ unit_limit }
     ensures { (R : Readers) → AreOfH266 R → Gives (R.sps rbsp.now) result }
 {
     read_sps(alloc, rbsp)
@@ -61,7 +62,7 @@ pub(crate) fn sps_of(alloc: Global, rbsp: &[u8]) -> Result<Sps, ReadError>
 
 /// A PPS.
 pub(crate) fn pps_of(alloc: Global, rbsp: &[u8]) -> Result<Pps, ReadError>
-    requires { length rbsp.now ≤ 2 ^ 23 }
+    requires { length rbsp.now ≤ unit_limit }
     ensures { (R : Readers) → AreOfH266 R → Gives (R.pps rbsp.now) result }
 {
     read_pps(alloc, rbsp)
@@ -69,7 +70,7 @@ pub(crate) fn pps_of(alloc: Global, rbsp: &[u8]) -> Result<Pps, ReadError>
 
 /// An APS, or none where it is of a type that is dropped.
 pub(crate) fn aps_of(alloc: Global, rbsp: &[u8]) -> Result<Option<Aps>, ReadError>
-    requires { length rbsp.now ≤ 2 ^ 23 }
+    requires { length rbsp.now ≤ unit_limit }
     ensures answer { (R : Readers) → AreOfH266 R → Gives (R.aps rbsp.now) result }
     ensures valid { IfOk result (λ aps. IfSome aps IsValid) }
 {
@@ -79,7 +80,7 @@ pub(crate) fn aps_of(alloc: Global, rbsp: &[u8]) -> Result<Option<Aps>, ReadErro
 
 /// The messages of an SEI RBSP that are carried.
 pub(crate) fn messages_of(alloc: Global, rbsp: &[u8]) -> Result<MessageList, AllocError>
-    requires { length rbsp.now ≤ 2 ^ 23 }
+    requires { length rbsp.now ≤ unit_limit }
     ensures { (R : Readers) → AreOfH266 R → IfOk result (λ messages. messages ≡ R.sei rbsp.now) }
 {
     let carried = read_sei(alloc, rbsp)?;
@@ -119,7 +120,7 @@ fn skip_bit(bits: &mut BitReader<'_>)
 /// The bits from a picture header on, which in a slice stands behind the first bit (H.266 7.3.7).
 #[tactic(auto, using(crate::proofs::Answers::behind_bit, crate::proofs::Answers::at_first))]
 pub(crate) fn header_bits(inside: bool, rbsp: &[u8]) -> BitReader<'_>
-    requires { length rbsp.now ≤ 2 ^ 23 }
+    requires { length rbsp.now ≤ unit_limit }
     ensures { result ≡ header_place inside rbsp.now }
 {
     let mut bits = BitReader::new(rbsp);
@@ -131,7 +132,7 @@ pub(crate) fn header_bits(inside: bool, rbsp: &[u8]) -> BitReader<'_>
 
 /// ph_pic_parameter_set_id of a picture header, which may stand inside a slice.
 pub(crate) fn referred_pps(inside: bool, rbsp: &[u8]) -> Result<u8, ReadError>
-    requires { length rbsp.now ≤ 2 ^ 23 }
+    requires { length rbsp.now ≤ unit_limit }
     ensures { (R : Readers) → AreOfH266 R → Gives (R.referred_pps inside rbsp.now) result }
 {
     let mut bits = header_bits(inside, rbsp);
@@ -151,7 +152,7 @@ pub(crate) fn header_of(
     scope: &Scope,
     rbsp: &[u8],
 ) -> Result<PictureHeader, ReadError>
-    requires size { length rbsp.now ≤ 2 ^ 23 }
+    requires size { length rbsp.now ≤ unit_limit }
     requires scope { scope.now ≡ in_force sps.now pps.now }
     ensures answer { (R : Readers) → AreOfH266 R
         → Gives (R.header inside sps.now pps.now rbsp.now) (answer_by (λ header. header.fields) result) }
@@ -175,7 +176,7 @@ pub(crate) fn read_slice(
     scope: &Scope,
 ) -> Result<(SliceHeader, usize), ReadError>
     requires spells { rbsp.now ≡ rbsp_of unit.now }
-    requires size { length rbsp.now ≤ 2 ^ 23 }
+    requires size { length rbsp.now ≤ unit_limit }
     requires few { length numbers.now.ids.now ≤ 1000 }
     requires one_each { length numbers.now.ids.now ≡ length numbers.now.layout.now.subpics }
     requires scope { scope.now ≡ in_force numbers.now.sps.now numbers.now.pps.now }
@@ -230,22 +231,9 @@ fn slice_of(
     ensures made { IfOk result (IsReadUnder begun.now nal_type) }
     ensures within { IfOk result (λ read. read.payload ≤ length unit.entry.bytes.now) }
 {
-    let sets = begun.sets.value();
-    let sps = sets.sps.value();
-    let pps = sets.pps.value();
-    let numbers = SliceNumbers {
-        nal_type,
-        sps,
-        pps,
-        header: &begun.header,
-        layout: &sets.layout,
-        ids: &sets.ids,
-    };
-    let scope = sets.scope.value();
-    let (header, payload) = match read_slice(alloc, unit.bytes, unit.rbsp, &numbers, scope) {
-        Ok((header, payload)) => (header, payload),
-        Err(error) => return Err(error),
-    };
+    let numbers = numbers_under(nal_type, begun);
+    let scope = begun.sets.value().scope.value();
+    let (header, payload) = read_slice(alloc, unit.bytes, unit.rbsp, &numbers, scope)?;
     Ok(ReadSlice { header, payload })
 }
 

@@ -1,8 +1,9 @@
 //! Parameter sets that are stored by their ids, each with the RBSP that it was read from. One that is sent again stays as it is, with all that
 //! was made of it.
-ghost use Rattle.std.specs.Prelude.{◌≡◌, ℕ, ◌<◌, ◌≤◌, ◌^◌, List, length, Some, None, Err, IfOk, IfErr, IfSome, IsTrue, OnErr, Result, option_copied};
+ghost use Rattle.std.specs.Prelude.{◌≡◌, ℕ, ◌<◌, ◌≤◌, List, length, Some, None, Err, IfOk, IfErr, IfSome, IsTrue, OnErr, Result, option_copied};
 ghost use Rattle.std.specs.List.{slice_index_or};
 ghost use Rattle.vx_bits.specs.declared.refusal.Refusal.{Refusal};
+ghost use Rattle.vx_bits.specs.Limits.{unit_limit};
 ghost use Rattle.vx_pic.specs.Sets as sets;
 ghost use Rattle.vx_pic.specs.Rules.{Readers};
 ghost use Rattle.vx_pic.specs.H266.{AreOfH266};
@@ -12,18 +13,18 @@ ghost use Rattle.vx_assemble.specs.inner.Stored.{IsReadAs, KeepsSet, IsSentAgain
 use crate::items::same_items;
 use crate::readers::{pps_of, sps_of};
 use crate::shared::Shared;
+use crate::state::MadeSets;
 use std::alloc::{AllocError, Global};
 use std::marker::Model;
 use vx_bits::{Bytes, ReadError};
-use vx_fields::pps::pps_pic_parameter_set_id;
-use vx_fields::sps::sps_seq_parameter_set_id;
 use vx_pps::Pps;
 use vx_sps::Sps;
 
 /// A parameter set that is stored by its id.
 pub(crate) trait ParameterSet: Drop + Sized {
-    ghost use Rattle.std.specs.Prelude.{◌≡◌, ℕ, ◌<◌, ◌≤◌, ◌^◌, List, length, Result, IsTrue};
+    ghost use Rattle.std.specs.Prelude.{◌≡◌, ℕ, ◌<◌, ◌≤◌, List, length, Result, IsTrue};
     ghost use Rattle.vx_bits.specs.declared.refusal.Refusal.{Refusal};
+    ghost use Rattle.vx_bits.specs.Limits.{unit_limit};
     ghost use Rattle.vx_pic.specs.Rules.{Readers};
     ghost use Rattle.vx_pic.specs.H266.{AreOfH266};
     ghost use Rattle.vx_assemble.specs.inner.Given.{Gives};
@@ -36,7 +37,7 @@ pub(crate) trait ParameterSet: Drop + Sized {
 
     /// The set of an RBSP.
     fn read(alloc: Global, rbsp: &[u8]) -> Result<Self, ReadError>
-        requires { length rbsp.now ≤ 2 ^ 23 }
+        requires { length rbsp.now ≤ unit_limit }
         ensures { (R : Readers) → AreOfH266 R → Gives (reads R rbsp.now) result };
 
     /// The id of a set whose RBSP begins with a byte.
@@ -67,10 +68,9 @@ impl ParameterSet for Sps {
         byte >> 4
     }
 
-    #[tactic(auto, using(crate::proofs::Ids::sps_below), unfolding(vx_pic::specs::Sets::sps_id))]
+    #[tactic(auto, unfolding(vx_pic::specs::Sets::sps_id))]
     fn id(&self) -> u8 {
-        let _fields = self.fields();
-        self.scope().latest(sps_seq_parameter_set_id) as u8
+        self.sps_id()
     }
 
     #[tactic(auto, using(crate::proofs::Again::same_sets))]
@@ -94,10 +94,9 @@ impl ParameterSet for Pps {
         byte >> 2
     }
 
-    #[tactic(auto, using(crate::proofs::Ids::pps_below), unfolding(vx_pic::specs::Sets::pps_id))]
+    #[tactic(auto, unfolding(vx_pic::specs::Sets::pps_id))]
     fn id(&self) -> u8 {
-        let _fields = self.fields();
-        self.scope().latest(pps_pic_parameter_set_id) as u8
+        self.pps_id()
     }
 
     #[tactic(auto, using(crate::proofs::Again::same_sets))]
@@ -213,43 +212,35 @@ fn is_stored<S: ParameterSet>(sets: &[Option<Stored<S>>], id: u8, set: &S) -> bo
     }
 }
 
-/// A set that was read, and is stored.
-#[derive(Clone, Copy)]
-pub(crate) struct Put {
-    /// Its id.
-    pub id: u8,
-    /// Whether it wasn't stored before.
-    pub is_new: bool,
-}
-
-/// Stores the set of an RBSP in the place of the one of its id, unless that is the same.
+/// Stores the set of an RBSP in the place of the one of its id, unless that is the same: its id. What sets made up is kept where none is new.
 ///
 /// # Errors
 ///
 /// The first refusal; want of memory. All is then as it was.
+#[tactic(auto, using(crate::proofs::Again::put_again, crate::proofs::Again::put_stored, crate::proofs::Again::put_new))]
 pub(crate) fn put_set<S: ParameterSet>(
     alloc: Global,
     sets: &mut [Option<Stored<S>>],
+    made: &mut Option<MadeSets>,
     rbsp: &[u8],
-) -> Result<Put, ReadError>
+) -> Result<u8, ReadError>
     requires places { length sets.old ≡ S.ids }
-    requires short { length rbsp.now ≤ 2 ^ 23 }
-    ensures put { IfOk result (IsPut S.reads S.id_of sets.old sets.new rbsp.now) }
+    requires short { length rbsp.now ≤ unit_limit }
+    ensures put { IfOk result (IsPut S.reads S.id_of sets.old sets.new made.old made.new rbsp.now) }
     ensures refused { (R : Readers) → AreOfH266 R → IfErr result (λ e. Gives (S.reads R rbsp.now) (Err e)) }
     ensures kept { OnErr result (sets.new ≡ sets.old) }
+    ensures made { OnErr result (made.new ≡ made.old) }
 {
     if let Some(id) = sent_again(sets, rbsp) {
-        return Ok(Put { id, is_new: false });
+        return Ok(id);
     }
-    let set = match S::read(alloc, rbsp) {
-        Ok(set) => set,
-        Err(error) => return Err(error),
-    };
+    let set = S::read(alloc, rbsp)?;
     let id = set.id();
     if is_stored(sets, id, &set) {
-        return Ok(Put { id, is_new: false });
+        return Ok(id);
     }
     let stored = Stored::new(alloc, set, rbsp)?;
     sets[id as usize] = Some(stored);
-    Ok(Put { id, is_new: true })
+    *made = None;
+    Ok(id)
 }

@@ -23,7 +23,7 @@ use crate::unit::SliceUnit;
 use std::alloc::{AllocError, Global};
 use std::mem::replace;
 use vx_bits::ReadError;
-use vx_bits::rules::{HEADER_INSIDE_OF_SEVERAL, SLICE_MISSING, SLICE_WITHOUT_HEADER};
+use vx_bits::rules::{HEADER_INSIDE_OF_SEVERAL, SLICE_WITHOUT_HEADER};
 use vx_pic::{Accepted, ApsList, Kind, PrevTid0, SliceSlot};
 use vx_sei::MessageList;
 
@@ -88,10 +88,7 @@ impl State {
             count: self.picture.slices.len(),
             size: self.picture.bytes.len(),
         };
-        let read = match join(alloc, unit, place) {
-            Ok(read) => read,
-            Err(error) => return Err(error),
-        };
+        let read = join(alloc, unit, place)?;
         Ok(Opened { kind, bodies, read })
     }
 
@@ -198,10 +195,7 @@ impl State {
         let Stage::Headed(begun) = &self.picture.stage else {
             return Err(ReadError::Refused(structure(SLICE_WITHOUT_HEADER)));
         };
-        let opened = match self.open_first(alloc, begun, unit) {
-            Ok(opened) => opened,
-            Err(error) => return Err(error),
-        };
+        let opened = self.open_first(alloc, begun, unit)?;
         self.put_first(alloc, unit.bytes, opened)?;
         Ok(self.settle()?)
     }
@@ -224,10 +218,7 @@ impl State {
             count: self.picture.slices.len(),
             size: self.picture.bytes.len(),
         };
-        let read = match join(alloc, unit, place) {
-            Ok(read) => read,
-            Err(error) => return Err(error),
-        };
+        let read = join(alloc, unit, place)?;
         self.put_slice(alloc, unit.bytes, read)?;
         Ok(self.settle()?)
     }
@@ -258,13 +249,8 @@ impl State {
         ensures order { IsInOrder self.new }
         ensures done { IfOk result (λ what. what ≡ PictureDone → IsComplete self.new.picture) }
     {
-        if self.picture.is_open() {
-            return Err(ReadError::Refused(structure(SLICE_MISSING)));
-        }
-        let begun = match self.begin_alone(alloc, unit) {
-            Ok(begun) => begun,
-            Err(error) => return Err(error),
-        };
+        self.check_closed()?;
+        let begun = self.begin_alone(alloc, unit)?;
         if begun.sets.value().slices > 1 {
             return Err(ReadError::Refused(structure(HEADER_INSIDE_OF_SEVERAL)));
         }

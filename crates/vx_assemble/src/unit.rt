@@ -1,5 +1,6 @@
 //! A NAL unit, as it is taken.
-ghost use Rattle.std.specs.Prelude.{◌≡◌, ◌+◌, ◌≤◌, ◌^◌, length, drop, IfOk};
+ghost use Rattle.std.specs.Prelude.{◌≡◌, ◌+◌, ◌≤◌, length, drop, IfOk};
+ghost use Rattle.vx_bits.specs.Limits.{unit_limit};
 ghost use Rattle.vx_annexb.specs.NalUnit.{header_of, nal_unit_type};
 ghost use Rattle.vx_annexb.specs.ByteStream.{IsSound};
 ghost use Rattle.vx_annexb.specs.Emulation.{unescaped};
@@ -11,8 +12,8 @@ ghost use Rattle.vx_assemble.specs.inner.Fronts.{IsFront};
 use std::alloc::{AllocError, Global};
 use vx_annexb::{NalHeader, read_header, unescape};
 use vx_pic::{
-    CRA_NUT, EOB_NUT, EOS_NUT, GDR_NUT, IDR_N_LP, IDR_W_RADL, PH_NUT, PPS_NUT, PREFIX_APS_NUT,
-    PREFIX_SEI_NUT, RASL_NUT, SPS_NUT, SUFFIX_APS_NUT, VPS_NUT,
+    EOB_NUT, EOS_NUT, PH_NUT, PPS_NUT, PREFIX_APS_NUT, PREFIX_SEI_NUT, RASL_NUT, SPS_NUT,
+    SUFFIX_APS_NUT, VPS_NUT, is_irap_or_gdr,
 };
 
 /// A NAL unit, as it is taken.
@@ -27,10 +28,26 @@ pub(crate) struct NalUnit<'a> {
     ghost sound: { IsSound bytes.now },
     ghost heads: { header ≡ header_of bytes.now },
     ghost spells: { rbsp.now ≡ rbsp_of bytes.now },
-    ghost short: { length rbsp.now ≤ 2 ^ 23 },
+    ghost short: { length rbsp.now ≤ unit_limit },
 }
 
 impl<'a> NalUnit<'a> {
+    /// The unit of this header, which has these bytes without its emulation bytes.
+    #[tactic(auto, unfolding(vx_pic::specs::Units::rbsp_of))]
+    pub(crate) fn new(bytes: &'a [u8], header: NalHeader, plain: &'a [u8]) -> NalUnit<'a>
+        requires sound { IsSound bytes.now }
+        requires header { header ≡ header_of bytes.now }
+        requires value { plain.now ≡ unescaped bytes.now }
+        requires size { length plain.now ≤ length bytes.now }
+        ensures { result.bytes.now ≡ bytes.now }
+    {
+        NalUnit {
+            bytes,
+            header,
+            rbsp: behind_header(plain),
+        }
+    }
+
     /// Whether the picture header stands inside, of a slice (H.266 7.3.7).
     #[tactic(auto, unfolding(vx_pic::specs::Units::has_header_inside))]
     fn has_header_inside(&self) -> bool
@@ -98,18 +115,37 @@ pub(crate) struct SliceUnit<'a> {
 }
 
 impl<'a> SliceUnit<'a> {
+    /// The unit whose front has these bytes without its emulation bytes.
+    pub(crate) fn new(
+        bytes: &'a [u8],
+        header: NalHeader,
+        front: &'a [u8],
+        plain: &'a [u8],
+    ) -> SliceUnit<'a>
+        requires sound { IsSound bytes.now }
+        requires header { header ≡ header_of bytes.now }
+        requires front { IsFront front.now bytes.now }
+        requires front_sound { IsSound front.now }
+        requires front_header { header ≡ header_of front.now }
+        requires value { plain.now ≡ unescaped front.now }
+        requires size { length plain.now ≤ length front.now }
+        ensures { result.bytes.now ≡ bytes.now }
+    {
+        let front = NalUnit::new(front, header, plain);
+        SliceUnit {
+            bytes,
+            header,
+            front,
+        }
+    }
+
     /// The whole unit, which has these bytes without its emulation bytes.
-    #[tactic(auto, unfolding(vx_pic::specs::Units::rbsp_of))]
-    pub(crate) fn whole(&self, bytes: &'a [u8]) -> NalUnit<'a>
-        requires value { bytes.now ≡ unescaped self.now.bytes.now }
-        requires size { length bytes.now ≤ length self.now.bytes.now }
+    pub(crate) fn whole(&self, plain: &'a [u8]) -> NalUnit<'a>
+        requires value { plain.now ≡ unescaped self.now.bytes.now }
+        requires size { length plain.now ≤ length self.now.bytes.now }
         ensures { result.bytes.now ≡ self.now.bytes.now }
     {
-        NalUnit {
-            bytes: self.bytes,
-            header: self.header,
-            rbsp: behind_header(bytes),
-        }
+        NalUnit::new(self.bytes, self.header, plain)
     }
 
     /// Whether the picture header stands inside (H.266 7.3.7).
@@ -143,27 +179,6 @@ pub(crate) enum UnitClass {
     End,
     /// Supplemental enhancement information before slices.
     Sei,
-}
-
-/// Whether it is that of an IDR picture.
-pub(crate) fn is_idr(nal_type: u8) -> bool
-    ensures { result ≡ units.is_idr nal_type }
-{
-    nal_type == IDR_W_RADL || nal_type == IDR_N_LP
-}
-
-/// Whether it is that of a CRA or GDR picture.
-pub(crate) fn is_cra_or_gdr(nal_type: u8) -> bool
-    ensures { result ≡ units.is_cra_or_gdr nal_type }
-{
-    nal_type == CRA_NUT || nal_type == GDR_NUT
-}
-
-/// Whether it is that of an IRAP or GDR picture.
-pub(crate) fn is_irap_or_gdr(nal_type: u8) -> bool
-    ensures { result ≡ units.is_irap_or_gdr nal_type }
-{
-    is_idr(nal_type) || is_cra_or_gdr(nal_type)
 }
 
 /// What the types behind those of sets and headers are.

@@ -10,14 +10,14 @@ ghost use Rattle.vx_pic.specs.H266.{AreOfH266};
 ghost use Rattle.vx_assemble.specs.inner.Held.{IsHeld};
 ghost use Rattle.vx_assemble.specs.inner.Held as held;
 ghost use Rattle.vx_assemble.specs.inner.Order.{IsInOrder, IsComplete};
-ghost use Rattle.vx_assemble.specs.inner.Takes.{TakesUnit};
+ghost use Rattle.vx_assemble.specs.inner.Takes.{Gives, TakesUnit, outside_picture, no_slice_missing};
 ghost use Rattle.vx_assemble.specs.inner.Classes.{class_seen};
 
 use crate::readers::{aps_of, messages_of, vps_of};
 use crate::refusals::structure;
 use crate::sets::put_set;
 use crate::state::State;
-use crate::unit::{NalUnit, SliceUnit, UnitClass, behind_header, class_of, front_of, nal_header};
+use crate::unit::{NalUnit, SliceUnit, UnitClass, class_of, front_of, nal_header};
 use std::alloc::{AllocError, Global};
 use std::sync::Arc;
 use vx_annexb::{NalHeader, unescape};
@@ -44,6 +44,36 @@ fn aps_items(alloc: Global, aps: &Aps) -> Result<Fields, AllocError>
 }
 
 impl State {
+    /// Whether no picture came in part: within one stands no set that slices refer to.
+    ///
+    /// # Errors
+    ///
+    /// SET_INSIDE_PICTURE.
+    fn check_outside(&self) -> Result<(), ReadError>
+        requires { IsInOrder self.now }
+        ensures { (before : List Reading) → IsHeld self.now before → Gives (outside_picture before) result }
+    {
+        if self.picture.is_within() {
+            return Err(ReadError::Refused(structure(SET_INSIDE_PICTURE)));
+        }
+        Ok(())
+    }
+
+    /// Whether all slices came of the picture that was begun last.
+    ///
+    /// # Errors
+    ///
+    /// SLICE_MISSING.
+    pub(crate) fn check_closed(&self) -> Result<(), ReadError>
+        requires { IsInOrder self.now }
+        ensures { (before : List Reading) → IsHeld self.now before → Gives (no_slice_missing before) result }
+    {
+        if self.picture.is_open() {
+            return Err(ReadError::Refused(structure(SLICE_MISSING)));
+        }
+        Ok(())
+    }
+
     /// Takes a VPS.
     #[tactic(auto, using(crate::proofs::Taking::took_vps, crate::proofs::Taking::failed_vps))]
     fn take_vps(&mut self, alloc: Global, unit: NalUnit<'_>) -> Result<Accepted, ReadError>
@@ -59,7 +89,6 @@ impl State {
     }
 
     /// Takes an SPS.
-    #[tactic(auto, using(crate::proofs::Taking::took_sps, crate::proofs::Taking::failed_sps, crate::proofs::Taking::sps_within))]
     fn take_sps(&mut self, alloc: Global, unit: NalUnit<'_>) -> Result<Accepted, ReadError>
         requires { IsInOrder self.old }
         ensures answer { (R : Readers) → AreOfH266 R → (before : List Reading) → IsHeld self.old before
@@ -67,22 +96,12 @@ impl State {
         ensures order { IsInOrder self.new }
         ensures quiet { IfOk result (λ what. what ≡ PictureDone → ⊥) }
     {
-        if self.picture.is_within() {
-            return Err(ReadError::Refused(structure(SET_INSIDE_PICTURE)));
-        }
-        let put = match put_set(alloc, &mut self.sps, unit.rbsp) {
-            Ok(put) => put,
-            Err(error) => return Err(error),
-        };
-        if !put.is_new {
-            return Ok(Accepted::Sps(put.id));
-        }
-        self.made = None;
-        Ok(Accepted::Sps(put.id))
+        self.check_outside()?;
+        let id = put_set(alloc, &mut self.sps, &mut self.made, unit.rbsp)?;
+        Ok(Accepted::Sps(id))
     }
 
     /// Takes a PPS.
-    #[tactic(auto, using(crate::proofs::Taking::took_pps, crate::proofs::Taking::failed_pps, crate::proofs::Taking::pps_within))]
     fn take_pps(&mut self, alloc: Global, unit: NalUnit<'_>) -> Result<Accepted, ReadError>
         requires { IsInOrder self.old }
         ensures answer { (R : Readers) → AreOfH266 R → (before : List Reading) → IsHeld self.old before
@@ -90,18 +109,9 @@ impl State {
         ensures order { IsInOrder self.new }
         ensures quiet { IfOk result (λ what. what ≡ PictureDone → ⊥) }
     {
-        if self.picture.is_within() {
-            return Err(ReadError::Refused(structure(SET_INSIDE_PICTURE)));
-        }
-        let put = match put_set(alloc, &mut self.pps, unit.rbsp) {
-            Ok(put) => put,
-            Err(error) => return Err(error),
-        };
-        if !put.is_new {
-            return Ok(Accepted::Pps(put.id));
-        }
-        self.made = None;
-        Ok(Accepted::Pps(put.id))
+        self.check_outside()?;
+        let id = put_set(alloc, &mut self.pps, &mut self.made, unit.rbsp)?;
+        Ok(Accepted::Pps(id))
     }
 
     /// Takes an APS, wherever it may stand.
@@ -126,7 +136,6 @@ impl State {
     }
 
     /// Takes an APS that has to stand before slices.
-    #[tactic(auto, using(crate::proofs::Taking::took_prefix, crate::proofs::Taking::aps_within))]
     fn take_prefix_aps(&mut self, alloc: Global, unit: NalUnit<'_>) -> Result<Accepted, ReadError>
         requires { IsInOrder self.old }
         ensures answer { (R : Readers) → AreOfH266 R → (before : List Reading) → IsHeld self.old before
@@ -134,14 +143,11 @@ impl State {
         ensures order { IsInOrder self.new }
         ensures quiet { IfOk result (λ what. what ≡ PictureDone → ⊥) }
     {
-        if self.picture.is_within() {
-            return Err(ReadError::Refused(structure(SET_INSIDE_PICTURE)));
-        }
+        self.check_outside()?;
         self.take_suffix_aps(alloc, unit)
     }
 
     /// Takes the end of a sequence, or of the bitstream.
-    #[tactic(auto, using(crate::proofs::Taking::took_end, crate::proofs::Taking::end_open))]
     fn take_end(&mut self) -> Result<Accepted, ReadError>
         requires { IsInOrder self.old }
         ensures answer { (R : Readers) (u : List ℕ) → AreOfH266 R → (before : List Reading) → IsHeld self.old before
@@ -149,15 +155,12 @@ impl State {
         ensures order { IsInOrder self.new }
         ensures quiet { IfOk result (λ what. what ≡ PictureDone → ⊥) }
     {
-        if self.picture.is_open() {
-            return Err(ReadError::Refused(structure(SLICE_MISSING)));
-        }
+        self.check_closed()?;
         self.keep_end();
         Ok(Accepted::Nothing)
     }
 
     /// Takes a PH unit.
-    #[tactic(auto, using(crate::proofs::Taking::took_header, crate::proofs::Taking::failed_header, crate::proofs::Taking::header_open))]
     fn take_header(&mut self, alloc: Global, unit: NalUnit<'_>) -> Result<Accepted, ReadError>
         requires { IsInOrder self.old }
         ensures answer { (R : Readers) → AreOfH266 R → (before : List Reading) → IsHeld self.old before
@@ -165,13 +168,8 @@ impl State {
         ensures order { IsInOrder self.new }
         ensures quiet { IfOk result (λ what. what ≡ PictureDone → ⊥) }
     {
-        if self.picture.is_open() {
-            return Err(ReadError::Refused(structure(SLICE_MISSING)));
-        }
-        let begun = match self.begin(alloc, unit, false) {
-            Ok(begun) => begun,
-            Err(error) => return Err(error),
-        };
+        self.check_closed()?;
+        let begun = self.begin(alloc, unit, false)?;
         self.start(alloc, begun, unit.bytes)?;
         Ok(Accepted::Nothing)
     }
@@ -225,7 +223,6 @@ impl State {
     }
 
     /// Takes a slice, of which the bytes are passed no further than its header goes.
-    #[tactic(auto, unfolding(vx_pic::specs::Units::rbsp_of))]
     fn take_slice_unit(
         &mut self,
         alloc: Global,
@@ -242,21 +239,11 @@ impl State {
     {
         let front = front_of(unit);
         let bytes = unescape(alloc, front)?;
-        let first = NalUnit {
-            bytes: front,
-            header,
-            rbsp: behind_header(&bytes),
-        };
-        let slice = SliceUnit {
-            bytes: unit,
-            header,
-            front: first,
-        };
+        let slice = SliceUnit::new(unit, header, front, &bytes);
         self.take_slice(alloc, slice)
     }
 
     /// Takes a unit of a class, of which all bytes are passed.
-    #[tactic(auto, unfolding(vx_pic::specs::Units::rbsp_of))]
     fn take_whole_unit(
         &mut self,
         alloc: Global,
@@ -273,12 +260,8 @@ impl State {
         ensures done { IfOk result (λ what. what ≡ PictureDone → IsComplete self.new.picture) }
     {
         let bytes = unescape(alloc, unit)?;
-        let read = NalUnit {
-            bytes: unit,
-            header,
-            rbsp: behind_header(&bytes),
-        };
-        self.take_class(alloc, class, read)
+        let whole = NalUnit::new(unit, header, &bytes);
+        self.take_class(alloc, class, whole)
     }
 
     /// Takes a unit.
@@ -286,7 +269,7 @@ impl State {
     /// # Errors
     ///
     /// The rule that it breaks behind those before it; want of memory.
-    #[tactic(auto, unfolding(vx_pic::specs::Units::rbsp_of, vx_pic::specs::Units::is_reserved))]
+    #[tactic(auto, unfolding(vx_pic::specs::Units::is_reserved))]
     pub(crate) fn take(&mut self, alloc: Global, unit: &[u8]) -> Result<Accepted, ReadError>
         requires order { IsInOrder self.old }
         requires sound { IsSound unit.now }

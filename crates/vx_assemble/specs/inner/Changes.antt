@@ -14,6 +14,7 @@ use Rattle.vx_pic.specs.Parts.{slot_of}
 use Rattle.vx_assemble.specs.declared.readers.ReadSlice.{ReadSlice}
 use Rattle.vx_assemble.specs.declared.state.BegunPicture.{BegunPicture}
 use Rattle.vx_assemble.specs.declared.state.CurrentPicture.{CurrentPicture}
+use Rattle.vx_assemble.specs.declared.state.MadeSets.{MadeSets}
 use Rattle.vx_assemble.specs.declared.state.Stage.{Stage}
 use Rattle.vx_assemble.specs.declared.state.Stage.TheVariants as stages
 use Rattle.vx_assemble.specs.declared.state.State.{State}
@@ -24,11 +25,11 @@ use Rattle.vx_assemble.specs.inner.Held.{begun_of, aps_items}
 abbrev pub with_items : List Item → State → State
 with_items items s = record s { fields = items }
 
-abbrev pub with_sps : ℕ → List Item → State → State
-with_sps id sps s = record s { sps = slice_set s.sps id (Some sps); made = None }
+abbrev pub with_sps : List (Option (List Item)) → Option MadeSets → State → State
+with_sps sets made s = record s { sps = sets; made = made }
 
-abbrev pub with_pps : ℕ → List Item → State → State
-with_pps id pps s = record s { pps = slice_set s.pps id (Some pps); made = None }
+abbrev pub with_pps : List (Option (List Item)) → Option MadeSets → State → State
+with_pps sets made s = record s { pps = sets; made = made }
 
 abbrev pub with_aps : Aps → State → State
 with_aps a s = record s { aps = slice_set s.aps (slot_of a.kind a.id) (Some a); fields = aps_items a }

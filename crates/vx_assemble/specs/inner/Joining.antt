@@ -8,9 +8,9 @@ use Rattle.vx_layout.specs.declared.numbers.Numbers.{Numbers}
 use Rattle.vx_aps.specs.declared.aps.Aps.{Aps}
 use Rattle.vx_pic.specs.Answers.{◌>>=◌, refuse_if}
 use Rattle.vx_pic.specs.Sets.{SliceHeader, Slot, slices_before, names_of, slice_qp, is_qp}
-use Rattle.vx_pic.specs.Readings.{Begun, Slice, Picture}
-use Rattle.vx_pic.specs.Rules.{Readers, structure, missing, picture_size, picture_limit}
-use Rattle.vx_pic.specs.Parts.{IsReadAt, aps_at, stored_sets, slice_header_of, aps_named_by, read_of, AreThere}
+use Rattle.vx_pic.specs.Readings.{Begun}
+use Rattle.vx_pic.specs.Rules.{structure, missing, picture_limit}
+use Rattle.vx_pic.specs.Parts.{IsReadAt, aps_at, slice_header_of, aps_named_by, read_of, AreThere}
 use Rattle.vx_assemble.specs.declared.readers.ReadSlice.{ReadSlice}
 use Rattle.vx_assemble.specs.declared.state.BegunPicture.{BegunPicture}
 use Rattle.vx_assemble.specs.inner.Held.{begun_of}
@@ -59,14 +59,6 @@ checked b sets count size more h = do
   _ ← all_there sets (names_in b.pps b.header h.fields)
   _ ← qp_checked b.sps (qp_in b.pps b.header h.fields)
   in_limits size more h.payload
-
--- all of it
-abbrev pub joins_in_steps : Readers → Picture → List ℕ → ℕ → ℕ → Result Slice Refusal
-joins_in_steps R p u t tid = do
-  _ ← same_picture p.begun.temporal_id p.kind.nal_type t tid
-  h ← R.slice p.kind.nal_type p.begun u
-  _ ← checked p.begun (stored_sets p.before) (length p.slices) (picture_size p) (length u) h
-  Ok (record { unit = u; header = h })
 
 -- what is known of a slice that has joined a picture of this type
 pub record IsJoined (b : BegunPicture) (t : ℕ) (sets : List (Option Aps)) (size : ℕ) (r : ReadSlice) : Type 0 where

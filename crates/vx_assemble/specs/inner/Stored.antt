@@ -1,10 +1,10 @@
 -- Parameter sets that are stored, each read from an RBSP as readers of H.266 do.
-use Rattle.std.specs.Prelude.{◌≡◌, ◌<◌, ℕ, List, length, Option, Some, None, Result, Ok, Bool, true, false, slice_set}
+use Rattle.std.specs.Prelude.{◌≡◌, ◌==◌, ℕ, cond, List, length, Option, Some, None, Result, Ok}
 use Rattle.std.specs.List.{slice_index_or}
+use Rattle.std.specs.Option.{option_or}
 use Rattle.vx_bits.specs.declared.refusal.Refusal.{Refusal}
 use Rattle.vx_pic.specs.Rules.{Readers}
 use Rattle.vx_pic.specs.H266.{AreOfH266}
-use Rattle.vx_assemble.specs.declared.sets.Put.{Put}
 
 -- the set is read from these bytes
 abbrev pub IsReadAs : {S : Type 0} → (Readers → List ℕ → Result S Refusal) → S → List ℕ → Type 0
@@ -23,15 +23,17 @@ pub record IsSentAgain {S : Type 0} (reads : Readers → List ℕ → Result S R
   pub own : id ≡ id_of set
   pub read : IsReadAs reads set rbsp
 
--- it is put under this id, or stands there
-abbrev pub Puts : {S : Type 0} → Bool → ℕ → S → List (Option S) → List (Option S) → Type 0
-Puts true id set old new = (id < length old) × (new ≡ slice_set old id (Some set))
-Puts false id set old new = (new ≡ old) × (slice_index_or old id None ≡ Some set)
+-- what sets made up is kept where they stand as they stood, or isn't kept
+abbrev pub KeepsMade : {S M : Type 0} → List (Option S) → List (Option S) → Option M → Option M → Type 0
+KeepsMade old new made None = Unit {0}
+KeepsMade old new made (Some m) = (new ≡ old) × (made ≡ Some m)
 
--- the set of these bytes is stored under its id
-pub record IsPut {S : Type 0} (reads : Readers → List ℕ → Result S Refusal) (id_of : S → ℕ) (old new : List (Option S)) (rbsp : List ℕ) (put : Put)
-    : Type 0 where
+-- the set of these bytes stands under its id, and each other one where it stood
+pub record IsPut {S M : Type 0} (reads : Readers → List ℕ → Result S Refusal) (id_of : S → ℕ) (old new : List (Option S)) (made made' : Option M)
+    (rbsp : List ℕ) (id : ℕ) : Type 0 where
   pub set : S
   pub read : IsReadAs reads set rbsp
-  pub own : put.id ≡ id_of set
-  pub stored : Puts put.is_new put.id set old new
+  pub own : id ≡ id_of set
+  pub stands : (n : ℕ) → slice_index_or new n None ≡ option_or (cond (id_of set == n) (Some set) None) (slice_index_or old n None)
+  pub places : length new ≡ length old
+  pub kept : KeepsMade old new made made'

@@ -5,11 +5,14 @@ use Rattle.vx_bits.specs.declared.list.Item.{Item}
 use Rattle.vx_bits.specs.declared.refusal.Refusal.{Refusal}
 use Rattle.vx_bits.specs.declared.refusal.ReadError.{ReadError}
 use Rattle.vx_bits.specs.declared.refusal.ReadError.TheVariants as errors
+use Rattle.vx_bits.specs.declared.rules.TheConstants as rules
 use Rattle.vx_pic.specs.declared.accepted.Accepted.{Accepted}
 use Rattle.vx_aps.specs.declared.aps.TheConstants as aps
 use Rattle.vx_fields.specs.declared.ph.TheConstants as ph
 use Rattle.vx_pic.specs.Sets.{SliceHeader, Slot, named, named_filters, names_of}
-use Rattle.vx_pic.specs.Readings.{Slice, Reading}
+use Rattle.vx_pic.specs.Answers.{refuse_if}
+use Rattle.vx_pic.specs.Readings.{Slice, Reading, current, is_open, is_within_picture}
+use Rattle.vx_pic.specs.Rules.{structure}
 use Rattle.vx_sh.specs.Whole.{At}
 use Rattle.vx_sh.specs.InForce.{at_sets}
 use Rattle.vx_pic.specs.Parts.{IsReadAt, id_count, slice_header_of}
@@ -56,6 +59,14 @@ pub record IsReadUnder (b : BegunPicture) (t : ℕ) (r : ReadSlice) : Type 0 whe
   pub small : AreSmall (names_of b.sets.pps b.header.fields (record { fields = r.header.fields; subpic = 0; payload = 0 }))
 
 -- ---- units
+
+-- a set that slices refer to is refused within a picture
+abbrev pub outside_picture : List Reading → Result (Unit {0}) Refusal
+outside_picture before = refuse_if (is_within_picture (current before)) (structure rules.SET_INSIDE_PICTURE)
+
+-- what ends a picture, or begins one, is refused where a slice of the last one is missing
+abbrev pub no_slice_missing : List Reading → Result (Unit {0}) Refusal
+no_slice_missing before = refuse_if (is_open (current before)) (structure rules.SLICE_MISSING)
 
 -- The unit was read so, and is held.
 pub record TookUnit (answer : Result Reading Refusal) (before : List Reading) (new : State) (what : Accepted) : Type 0 where

@@ -28,24 +28,24 @@ returns-in-Some-clause-answer c R of g places before fed =
     let new = feeding (given c.next.new.self c.args.given) c.accept.new.self (c.args.units.now + 1) in
     takes_unit R g places before _ new c.in-Some.span _ _ fed finds c.bytes.ensures (c.in_ok-what.ensures.answer R of before fed.stands) refl refl
 
-pub returns-then-given-clause-answer : goal.returns-then-given-clause-answer
-returns-then-given-clause-answer c R of g places before fed =
+pub returns-then-given-gt-SOURCE_LIMIT-clause-answer : goal.returns-then-given-gt-SOURCE_LIMIT-clause-answer
+returns-then-given-gt-SOURCE_LIMIT-clause-answer c R of g places before fed =
     let answer = rw c.in_default.is at c.in_ok-span.ensures.answer in
-    let finds = finds_long (given c.args.splitter.now c.args.given) c.next.new.self c.next.ensures.lends.all g places fed.read (answer _ places fed.read.stands) (is_long c.args.given c.if-given.true) in
+    let finds = finds_long (given c.args.splitter.now c.args.given) c.next.new.self c.next.ensures.lends.all g places fed.read (answer _ places fed.read.stands) (is_long c.args.given c.if-given-gt-SOURCE_LIMIT.true) in
     refused_by_bytes R g places before _ (feeding (given c.next.new.self c.args.given) c.args.assembler.now c.args.units.now) _ fed finds
 
 pub returns-in_err-finish-clause-answer : goal.returns-in_err-finish-clause-answer
 returns-in_err-finish-clause-answer c R of g places before fed =
     let p = err_from_is_err_and c.from_residual-in_err-finish.result c.from_residual-in_err-finish.ensures.1 in
     let answer = rw c.in_default.is at c.in_ok-span.ensures.answer in
-    let finds = finds_none (given c.args.splitter.now c.args.given) c.next.new.self c.next.ensures.lends.all g places fed.read (answer _ places fed.read.stands) (isnt_long c.args.given c.if-given.false) in
+    let finds = finds_none (given c.args.splitter.now c.args.given) c.next.new.self c.next.ensures.lends.all g places fed.read (answer _ places fed.read.stands) (isnt_long c.args.given c.if-given-gt-SOURCE_LIMIT.false) in
     let new = feeding (given c.next.new.self c.args.given) c.finish.new.self c.args.units.now in
-    rw (p.1, p.2) (refused_at_end R g places before _ new _ fed finds refl (isnt_failed c.args.given c.if-given.false) (c.in_err-finish.ensures.answer before fed.stands))
+    rw (p.1, p.2) (refused_at_end R g places before _ new _ fed finds refl (isnt_failed c.args.given c.if-given-gt-SOURCE_LIMIT.false) (c.in_err-finish.ensures.answer before fed.stands))
 
 pub returns-clause-answer : goal.returns-clause-answer
 returns-clause-answer c R of g places before fed =
     let answer = rw c.in_default.is at c.in_ok-span.ensures.answer in
-    let finds = finds_none (given c.args.splitter.now c.args.given) c.next.new.self c.next.ensures.lends.all g places fed.read (answer _ places fed.read.stands) (isnt_long c.args.given c.if-given.false) in
+    let finds = finds_none (given c.args.splitter.now c.args.given) c.next.new.self c.next.ensures.lends.all g places fed.read (answer _ places fed.read.stands) (isnt_long c.args.given c.if-given-gt-SOURCE_LIMIT.false) in
     let new = feeding (given c.next.new.self c.args.given) c.finish.new.self c.args.units.now in
-    gives_end R g places before _ new fed finds refl (isnt_failed c.args.given c.if-given.false) (c.in_ok-finish.ensures.answer before fed.stands)
+    gives_end R g places before _ new fed finds refl (isnt_failed c.args.given c.if-given-gt-SOURCE_LIMIT.false) (c.in_ok-finish.ensures.answer before fed.stands)
     (rw c.in_ok-finish.ensures.same fed.stands) refl refl

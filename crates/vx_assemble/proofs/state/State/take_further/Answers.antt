@@ -1,20 +1,22 @@
 use Rattle.std.proofs.Common.{ap, refl}
+use Rattle.std.proofs.lemmas.Result.{err_from_is_err_and}
 use Rattle.vx_assemble.specs.inner.Held.{header_at, kind_at}
 use Rattle.vx_assemble.proofs.Slicing.{going_at, going_kept, further_refused, took_further}
 use Rattle.vx_assemble.proofs.state.State.take_further.Goals as goal
 
-pub returns-in-Err-clause-answer : goal.returns-in-Err-clause-answer
-returns-in-Err-clause-answer c R h before held p is whole =
+pub returns-in_err-read-clause-answer : goal.returns-in_err-read-clause-answer
+returns-in_err-read-clause-answer c R h before held p is whole =
     let s = c.args.self.now in
-    further_refused R s before p c.args.unit.bytes.now c.in-Err.error
-    (c.in-Err.ensures.answer R h p
-    (going_at _ s.picture p (going_kept s before p held is) (ap header_at c.in-Going.is) (ap kind_at c.in-Going.is) refl c.len.ensures c.len-2.ensures))
+    let e = err_from_is_err_and c.from_residual.result c.from_residual.ensures.1 in
+    rw (e.1, e.2) (further_refused R s before p c.args.unit.bytes.now _
+    (c.in_err-read.ensures.answer R h p
+    (going_at _ s.picture p (going_kept s before p held is) (ap header_at c.in-Going.is) (ap kind_at c.in-Going.is) refl c.len.ensures c.len-2.ensures)))
 
 pub returns-clause-answer : goal.returns-clause-answer
 returns-clause-answer c R h before held p is whole =
     let s = c.args.self.now in
-    took_further R s c.put_slice.new.self c.settle.new.self before p c.in-Going.going.begun c.args.unit.bytes.now c.in-Ok.read c.in_ok-settle.field-0 held is whole
+    took_further R s c.put_slice.new.self c.settle.new.self before p c.in-Going.going.begun c.args.unit.bytes.now c.in_ok-read.read c.in_ok-settle.field-0 held is whole
     c.requires.picture (ap header_at c.in-Going.is)
-    (c.in-Ok.ensures.answer R h p
+    (c.in_ok-read.ensures.answer R h p
     (going_at _ s.picture p (going_kept s before p held is) (ap header_at c.in-Going.is) (ap kind_at c.in-Going.is) refl c.len.ensures c.len-2.ensures))
     c.in_ok-put_slice.ensures.ok c.in_ok-put_slice.ensures.order.picture c.in_ok-settle.ensures.ok

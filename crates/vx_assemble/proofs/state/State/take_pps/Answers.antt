@@ -1,36 +1,34 @@
-use Rattle.std.proofs.Common.{◌∙◌, sym, ap, Err, rules}
-use Rattle.vx_pic.specs.Readings.{current}
-use Rattle.vx_assemble.proofs.Again.{pps_stays, pps_stays_ordered, pps_comes, pps_comes_ordered}
-use Rattle.vx_assemble.proofs.Taking.{pps_within, failed_pps}
+use Rattle.std.proofs.Common.{ap}
+use Rattle.std.proofs.lemmas.Result.{err_from_is_err_and}
+use Rattle.vx_pic.specs.declared.accepted.Accepted.TheVariants.{Pps}
+use Rattle.vx_pic.specs.Readings.{pps_read}
+use Rattle.vx_assemble.specs.inner.Changes.{with_pps}
+use Rattle.vx_assemble.proofs.Holding.{pps_held}
+use Rattle.vx_assemble.proofs.Ordering.{pps_ordered}
+use Rattle.vx_assemble.proofs.Taking.{refused_within, failed_outside, took_outside}
 use Rattle.vx_assemble.proofs.state.State.take_pps.Goals as goal
 
-pub returns-then-is_within-clause-answer : goal.returns-then-is_within-clause-answer
-returns-then-is_within-clause-answer c R h before held =
-    pps_within R before c.args.unit.bytes.now c.is_within.result (c.is_within.ensures (current before) held.picture) c.if-is_within.true
-    ∙ ap Err (sym c.structure.ensures)
+pub returns-in_err-check_outside-clause-answer : goal.returns-in_err-check_outside-clause-answer
+returns-in_err-check_outside-clause-answer c R h before held =
+    let p = err_from_is_err_and c.from_residual.result c.from_residual.ensures.1 in
+    rw (p.1, p.2) (refused_within before c.args.self.now _ pps_read _ (c.in_err-check_outside.ensures before held))
 
-pub returns-in-Err-clause-answer : goal.returns-in-Err-clause-answer
-returns-in-Err-clause-answer c R h before held =
-    failed_pps R c.args.self.now before c.args.unit.bytes.now c.args.unit.rbsp.now c.in-Err.error c.is_within.result
-    (c.is_within.ensures (current before) held.picture) c.if-is_within.false c.args.unit.spells (c.in-Err.ensures.refused R h)
+pub returns-in_err-id-clause-answer : goal.returns-in_err-id-clause-answer
+returns-in_err-id-clause-answer c R h before held =
+    let p = err_from_is_err_and c.from_residual-in_err-id.result c.from_residual-in_err-id.ensures.1 in
+    rw (p.1, p.2) (failed_outside before (with_pps c.put_set.new.sets c.put_set.new.made c.args.self.now) R.pps pps_read c.args.unit.bytes.now c.args.unit.rbsp.now _ (c.in_ok-check_outside.ensures before held) c.args.unit.spells
+    (c.in_err-id.ensures.refused R h))
 
-pub returns-in-Err-clause-order : goal.returns-in-Err-clause-order
-returns-in-Err-clause-order c = rw c.in-Err.ensures.kept c.requires
-
-pub returns-then-not-put-clause-answer : goal.returns-then-not-put-clause-answer
-returns-then-not-put-clause-answer c R h before held =
-    pps_stays R c.args.self.now c.put_set.new.sets before c.args.unit.bytes.now c.args.unit.rbsp.now c.in-Ok.put c.is_within.result h
-    (c.is_within.ensures (current before) held.picture) c.if-is_within.false c.args.unit.spells c.in-Ok.ensures.put (search rules) held
-
-pub returns-then-not-put-clause-order : goal.returns-then-not-put-clause-order
-returns-then-not-put-clause-order c =
-    pps_stays_ordered c.args.self.now c.put_set.new.sets c.args.unit.rbsp.now c.in-Ok.put c.in-Ok.ensures.put (search rules) c.requires
+pub returns-in_err-id-clause-order : goal.returns-in_err-id-clause-order
+returns-in_err-id-clause-order c = rw (c.in_err-id.ensures.kept, c.in_err-id.ensures.made) c.requires
 
 pub returns-clause-answer : goal.returns-clause-answer
 returns-clause-answer c R h before held =
-    pps_comes R c.args.self.now c.put_set.new.sets before c.args.unit.bytes.now c.args.unit.rbsp.now c.in-Ok.put c.is_within.result h
-    (c.is_within.ensures (current before) held.picture) c.if-is_within.false c.args.unit.spells c.in-Ok.ensures.put (search rules) held
+    let put = c.in_ok-id.ensures.put in
+    took_outside before _ R.pps pps_read c.args.unit.bytes.now c.args.unit.rbsp.now put.set _ (c.in_ok-check_outside.ensures before held) c.args.unit.spells
+    (put.read R h) (pps_held c.args.self.now c.put_set.new.sets c.put_set.new.made before put.set held put.stands) (ap Pps put.own)
 
 pub returns-clause-order : goal.returns-clause-order
 returns-clause-order c =
-    pps_comes_ordered c.args.self.now c.put_set.new.sets c.args.unit.rbsp.now c.in-Ok.put c.in-Ok.ensures.put (search rules) c.requires
+    let put = c.in_ok-id.ensures.put in
+    pps_ordered c.args.self.now c.put_set.new.sets c.put_set.new.made c.requires put.places put.kept
